@@ -1,0 +1,4 @@
+pub mod Lists
+pub mod Scanning
+pub mod Taking
+pub mod Worlds

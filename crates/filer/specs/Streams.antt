@@ -1,0 +1,60 @@
+-- Whole streams: the calls and refusals that their records are, and the fault that ends them.
+use Rattle.std.specs.Prelude.{◌≡◌, ℕ, List, [], ◌∷◌, ◌++◌, map, Option, Some, None, Result, Ok, Err}
+use Rattle.rpc_record.specs.Scan.{State, Header, Next, Goes, Whole, Faults, after}
+use Rattle.nfs_model.specs.Tree.{Layout}
+use Rattle.nfs_model.specs.World.{Heard, Scanned, Codec, Setup}
+use Rattle.filer.specs.Codec.{heard, reply_record}
+
+pub record Reading : Type 0 where
+  pub records : List (List ℕ)
+  pub at : Option State
+
+abbrev pub came_to : List (List ℕ) → Next → Reading
+came_to records (Goes state) = record { records = records; at = Some state }
+came_to records (Whole made) = record { records = records ++ made ∷ []; at = Some (Header [] []) }
+came_to records Faults = record { records = records; at = None }
+
+abbrev pub read_byte : List (List ℕ) → Option State → ℕ → Reading
+read_byte records None b = record { records = records; at = None }
+read_byte records (Some state) b = came_to records (after state b)
+
+abbrev pub read_on : Reading → List ℕ → Reading
+read_on reading [] = reading
+read_on reading (b ∷ bytes) = read_on (read_byte reading.records reading.at b) bytes
+
+abbrev pub read_stream : List ℕ → Reading
+read_stream stream = read_on (record { records = []; at = Some (Header [] []) }) stream
+
+-- a header that brings a record above the limit
+abbrev pub fault_at : Option State → Option ℕ
+fault_at None = Some 11
+fault_at (Some state) = None
+
+-- the records before the first that is neither a call nor refused
+abbrev pub served_of : List (Result Heard ℕ) → Option ℕ → Scanned
+served_of [] fault = record { served = []; fault = fault }
+served_of (Ok h ∷ others) fault = record { served = h ∷ (served_of others fault).served; fault = (served_of others fault).fault }
+served_of (Err number ∷ others) fault = record { served = []; fault = Some number }
+
+abbrev pub scan_stream : List ℕ → Scanned
+scan_stream stream = served_of (map heard (read_stream stream).records) (fault_at (read_stream stream).at)
+
+-- these bytes, after a stream, complete nothing
+abbrev pub IsQuiet : List ℕ → List ℕ → Type 0
+IsQuiet stream [] = Unit {0}
+IsQuiet stream (b ∷ bytes) = (scan_stream (stream ++ b ∷ []) ≡ scan_stream stream) × IsQuiet (stream ++ b ∷ []) bytes
+
+-- the last of these bytes, and none before it, brings the stream to what was scanned
+pub record Completes (stream taken : List ℕ) (scanned : Scanned) : Type 0 where
+  pub front : List ℕ
+  pub last : ℕ
+  pub split : taken ≡ front ++ last ∷ []
+  pub quiet : IsQuiet stream front
+  pub complete : scan_stream (stream ++ taken) ≡ scanned
+
+abbrev pub codec : Codec
+codec = record { scan = scan_stream; reply_record = reply_record }
+
+-- an engine of one worker and one open connection
+abbrev pub setup_of : Layout → List ℕ → Setup
+setup_of layout verifier = record { codec = codec; layout = layout; verifier = verifier; workers = 1 }

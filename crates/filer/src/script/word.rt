@@ -1,0 +1,98 @@
+//! The words of a line: separated by one space each.
+
+use crate::script::line::Unread;
+use std::alloc::Global;
+
+/// The words of a line that are still to be read; `None` past the last.
+#[derive(Drop)]
+pub(crate) struct Words<'a> {
+    rest: Option<&'a [u8]>,
+}
+
+impl<'a> Words<'a> {
+    /// The words of a line, its line feed left off.
+    pub(crate) fn new(line: &'a [u8]) -> Words<'a> {
+        Words { rest: Some(line) }
+    }
+
+    /// The next word.
+    pub(crate) fn word(&mut self) -> Result<&'a [u8], Unread> {
+        let rest = self.rest.ok_or(Unread::Form)?;
+        let Some(end) = rest.iter().position(|b| *b == b' ') else {
+            self.rest = None;
+            return Ok(rest);
+        };
+        let (word, after) = rest.split_at(end);
+        self.rest = Some(&after[1..]);
+        Ok(word)
+    }
+
+    /// The next word, as a decimal number without leading zeros.
+    pub(crate) fn number(&mut self) -> Result<u32, Unread> {
+        decimal(self.word()?).ok_or(Unread::Form)
+    }
+
+    /// The next word, as bytes in lower-case hex; `-` stands for none.
+    pub(crate) fn bytes(&mut self, alloc: Global) -> Result<Vec<u8>, Unread> {
+        match self.word()? {
+            b"-" => Ok(Vec::new(alloc)),
+            word => hex_bytes(alloc, word),
+        }
+    }
+
+    /// The next word, as eight bytes in lower-case hex.
+    pub(crate) fn verifier(&mut self) -> Result<[u8; 8], Unread> {
+        let word = self.word()?;
+        if !is_lower_hex(word) {
+            return Err(Unread::Form);
+        }
+        let mut verifier = [0; 8];
+        match hex::decode_to_slice(word, &mut verifier) {
+            Ok(()) => Ok(verifier),
+            Err(_) => Err(Unread::Form),
+        }
+    }
+
+    /// That no word is left.
+    pub(crate) fn end(&self) -> Result<(), Unread> {
+        match self.rest {
+            None => Ok(()),
+            Some(_) => Err(Unread::Form),
+        }
+    }
+}
+
+/// The number that decimal digits stand for: no sign, no leading zero, below 2^32.
+fn decimal(digits: &[u8]) -> Option<u32> {
+    match digits {
+        [] => return None,
+        [b'0', _, ..] => return None,
+        _ => {}
+    }
+    let mut number = 0u32;
+    for digit in digits {
+        if !digit.is_ascii_digit() {
+            return None;
+        }
+        number = number
+            .checked_mul(10)?
+            .checked_add(u32::from(*digit - b'0'))?;
+    }
+    Some(number)
+}
+
+fn is_lower_hex(word: &[u8]) -> bool {
+    word.iter().all(|b| matches!(*b, b'0'..=b'9' | b'a'..=b'f'))
+}
+
+/// The bytes that hex digits stand for, of which there are some, and an even count.
+fn hex_bytes(alloc: Global, word: &[u8]) -> Result<Vec<u8>, Unread> {
+    if word.is_empty() || !is_lower_hex(word) {
+        return Err(Unread::Form);
+    }
+    match hex::decode(alloc, word) {
+        Ok(bytes) => Ok(bytes),
+        Err(hex::FromHexError::OutOfMemory) => Err(Unread::NoMemory),
+        Err(_) => Err(Unread::Form),
+    }
+}
