@@ -1,0 +1,4 @@
+pub mod Records
+pub mod Machine
+pub mod Stream
+pub mod Place

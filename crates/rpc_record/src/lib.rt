@@ -1,0 +1,6 @@
+//! Record marking: the records of a stream, however it is cut (RFC 5531, section 11).
+#![tactic(auto)]
+
+mod place;
+
+pub use place::RECORD_LIMIT;
