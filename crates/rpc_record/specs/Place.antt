@@ -1,10 +1,10 @@
 -- The code's place in a record, and the record's data, as a state.
-use Rattle.std.specs.Prelude.{◌≡◌, ℕ, ◌+◌, ◌-◌, ◌<◌, ◌≤◌, ◌==◌, List, [], ◌++◌, length, take, drop, min, if◌then◌else◌}
+use Rattle.std.specs.Prelude.{◌≡◌, ℕ, Bool, ◌+◌, ◌-◌, ◌<◌, ◌≤◌, ◌==◌, List, [], ◌++◌, length, take, drop, min, if◌then◌else◌}
 use Rattle.rpc_record.specs.declared.place.Place.{Place}
 use Rattle.rpc_record.specs.declared.place.Turn.{Turn}
 use Rattle.rpc_record.specs.declared.place.Turn.TheVariants as turns
 use Rattle.rpc_record.specs.Records.{limit}
-use Rattle.rpc_record.specs.Machine.{State, InHeader, InData, Next, Goes, Ends, Faults, Outcome, More, Made, Fault, go, scan}
+use Rattle.rpc_record.specs.Machine.{State, InHeader, InData, Next, Goes, Ends, Faults, Outcome, after_fragment, go, scan}
 
 -- the state with this data
 abbrev pub state : List ℕ → Place → State
@@ -20,6 +20,10 @@ abbrev pub next_of : Turn → List ℕ → Place → Next
 next_of turns.Goes joined new = Goes (state joined new)
 next_of turns.Ends joined new = Ends joined
 next_of turns.Faults joined new = Faults
+
+-- where data leads after which this much of its fragment is missing
+abbrev pub after_data : List ℕ → ℕ → Bool → Next
+after_data joined left last = if left == 0 then after_fragment joined last else Goes (InData joined left last)
 
 -- the data at the beginning of these bytes
 abbrev pub data_of : Place → List ℕ → List ℕ

@@ -1,6 +1,6 @@
-ghost use Rattle.std.specs.Prelude.{◌≡◌, ◌+◌, ◌<◌, ◌≤◌, List, ℕ, length};
+ghost use Rattle.std.specs.Prelude.{◌≡◌, ◌+◌, ◌-◌, ◌<◌, ◌≤◌, List, ℕ, length};
 ghost use Rattle.rpc_record.specs.Machine.{Next, after, after_fragment, after_header};
-ghost use Rattle.rpc_record.specs.Place.{state, next_of, IsSound, Turns, joined_by};
+ghost use Rattle.rpc_record.specs.Place.{state, next_of, IsSound, Turns, joined_by, after_data};
 
 use byteorder::{BigEndian, ByteOrder};
 
@@ -89,5 +89,39 @@ impl Place {
         }
         let number = BigEndian::read_u32(&self.header);
         self.end_header(number)
+    }
+
+    /// Data of the fragment, of which this much is missing at least.
+    fn take_data(&mut self, size: usize) -> Turn
+        requires within { size ≤ self.old.left }
+        requires sound { IsSound self.old }
+        ensures next { (joined : List ℕ) → next_of result joined self.new ≡ after_data joined (self.old.left - size) self.old.last }
+        ensures joined { self.new.joined ≡ self.old.joined + size }
+        ensures sound { IsSound self.new }
+    {
+        self.left -= size;
+        self.joined += size;
+        if self.left == 0 {
+            let last = self.last;
+            return self.end_fragment(last);
+        }
+        Turn::Goes
+    }
+
+    /// One byte of a header, or as much of a fragment's data as is there.
+    pub(crate) fn take(&mut self, bytes: &[u8]) -> (usize, Turn)
+        requires some { 0 < length bytes.now }
+        requires sound { IsSound self.old }
+        ensures some { 0 < result.0 }
+        ensures within { result.0 ≤ length bytes.now }
+        ensures turns { Turns self.old bytes.now result.0 result.1 self.new }
+        ensures joined { self.new.joined ≡ joined_by self.old bytes.now }
+        ensures sound { IsSound self.new }
+    {
+        if self.left == 0 {
+            return (1, self.take_header_byte(bytes[0]));
+        }
+        let size = self.left.min(bytes.len());
+        (size, self.take_data(size))
     }
 }
