@@ -4,7 +4,7 @@ use Rattle.rpc_record.specs.declared.place.Place.{Place}
 use Rattle.rpc_record.specs.declared.place.Turn.{Turn}
 use Rattle.rpc_record.specs.declared.place.Turn.TheVariants as turns
 use Rattle.rpc_record.specs.Records.{limit}
-use Rattle.rpc_record.specs.Machine.{State, InHeader, InData, Next, Goes, Ends, Faults, Outcome, after_fragment, go, scan}
+use Rattle.rpc_record.specs.Machine.{State, InHeader, InData, Next, Goes, Ends, Faults, Outcome, More, Made, Fault, after_fragment, go, scan}
 
 -- the state with this data
 abbrev pub state : List ℕ → Place → State
@@ -40,3 +40,15 @@ rest_of taken next bytes = go taken next (λ state. scan taken state bytes)
 -- The turn took these bytes, with any data of the place's size joined before.
 abbrev pub Turns : Place → List ℕ → ℕ → Turn → Place → Type 0
 Turns old bytes taken turn new = (joined : List ℕ) (before : ℕ) → length joined ≡ old.joined → scan before (state joined old) bytes ≡ rest_of (before + taken) (next_of turn (joined ++ data_of old bytes) new) (drop taken bytes)
+
+-- what bytes led to, of which this many were taken up to this turn
+abbrev pub outcome_of : ℕ → Turn → List ℕ → Place → Outcome
+outcome_of taken turns.Goes joined new = More (state joined new)
+outcome_of taken turns.Ends joined new = Made taken joined
+outcome_of taken turns.Faults joined new = Fault taken
+
+-- how many bytes are taken up to this outcome, and its last turn
+abbrev pub walk_to : List ℕ → Outcome → ℕ × Turn
+walk_to bytes (More _) = (length bytes, turns.Goes)
+walk_to bytes (Made taken _) = (taken, turns.Ends)
+walk_to bytes (Fault taken) = (taken, turns.Faults)

@@ -1,6 +1,6 @@
 ghost use Rattle.std.specs.Prelude.{◌≡◌, ◌+◌, ◌-◌, ◌<◌, ◌≤◌, List, ℕ, length};
-ghost use Rattle.rpc_record.specs.Machine.{Next, after, after_fragment, after_header};
-ghost use Rattle.rpc_record.specs.Place.{state, next_of, IsSound, Turns, joined_by, after_data};
+ghost use Rattle.rpc_record.specs.Machine.{Next, scan, after, after_fragment, after_header};
+ghost use Rattle.rpc_record.specs.Place.{state, next_of, IsSound, Turns, joined_by, after_data, walk_to};
 
 use byteorder::{BigEndian, ByteOrder};
 
@@ -123,5 +123,23 @@ impl Place {
         }
         let size = self.left.min(bytes.len());
         (size, self.take_data(size))
+    }
+
+    /// How many bytes go up to the end of a record or a fault, and which of these stands there.
+    pub(crate) fn walk(mut self, bytes: &[u8]) -> (usize, Turn)
+        requires { IsSound self }
+        ensures { (joined : List ℕ) → length joined ≡ self.joined → result ≡ walk_to bytes.now (scan 0 (state joined self) bytes.now) }
+    {
+        let mut taken = 0;
+        while taken < bytes.len() {
+            let (size, turn) = self.take(&bytes[taken..]);
+            taken += size;
+            match turn {
+                Turn::Goes => {}
+                Turn::Ends => return (taken, Turn::Ends),
+                Turn::Faults => return (taken, Turn::Faults),
+            }
+        }
+        (taken, Turn::Goes)
     }
 }
