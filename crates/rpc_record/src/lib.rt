@@ -1,6 +1,7 @@
 //! Record marking: the records of a stream, however it is cut (RFC 5531, section 11).
 #![tactic(auto)]
 
+mod join;
 mod place;
 
 pub use place::RECORD_LIMIT;
