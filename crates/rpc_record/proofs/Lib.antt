@@ -2,3 +2,5 @@ pub mod Runs
 pub mod Standing
 pub mod Chunks
 pub mod Walks
+pub mod Scans
+pub mod Streams

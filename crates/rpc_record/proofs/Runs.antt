@@ -6,7 +6,7 @@ use Rattle.std.specs.Int.{w32, to_be_bytes, from_be_bytes}
 use Rattle.std.proofs.lemmas.Bool.Decides.{nat_tests}
 use Rattle.std.proofs.lemmas.List.{append-nil}
 use Rattle.std.proofs.lemmas.Nat.{from_be_bytes-to_be_bytes_4}
-use Rattle.rpc_record.specs.Records.{limit, fragment, front, IsRecord, HasNoRecord}
+use Rattle.rpc_record.specs.Records.{limit, header, fragment, front, IsRecord, IsAtFault, HasNoRecord, HasNoFault}
 use Rattle.rpc_record.specs.Machine.{State, InHeader, InData, Next, Goes, Ends, Faults, Outcome, More, Made, Fault, after_fragment, after_header, after, go, scan}
 
 abbrev pub resume : ℕ → Next → List ℕ → Outcome
@@ -34,15 +34,15 @@ header_run number t joined rest lt =
     ap (λ (k : ℕ). resume (t + 1 + 1 + 1 + 1) (after_header joined k) rest) (from_be_bytes-to_be_bytes_4 number lt)
     ∙ same_at (t + 1 + 1 + 1 + 1) (t + 4) (after_header joined number) rest (omega arith)
 
-size_is : (n : ℕ) (last : Bool) → n ≤ limit → (n + cond last 2147483648 0) % 2147483648 ≡ n
+size_is : (n : ℕ) (last : Bool) → n < 2 ^ 31 → (n + cond last 2147483648 0) % 2147483648 ≡ n
 size_is n true h = omega arith
 size_is n false h = omega arith
 
-last_is : (n : ℕ) (last : Bool) → n ≤ limit → nat_le 2147483648 (n + cond last 2147483648 0) ≡ last
+last_is : (n : ℕ) (last : Bool) → n < 2 ^ 31 → nat_le 2147483648 (n + cond last 2147483648 0) ≡ last
 last_is n true h = grind (arith, nat_tests)
 last_is n false h = grind (arith, nat_tests)
 
-number_fits : (n : ℕ) (last : Bool) → n ≤ limit → n + cond last 2147483648 0 < 2 ^ 32
+number_fits : (n : ℕ) (last : Bool) → n < 2 ^ 31 → n + cond last 2147483648 0 < 2 ^ 32
 number_fits n true h = omega arith
 number_fits n false h = omega arith
 
@@ -96,4 +96,34 @@ none_yet bytes s e made spelled rest parts r =
     let f = found made spelled rest r in
     let g : scan 0 (InHeader [] []) (spelled ++ rest) ≡ More s = ap (scan 0 (InHeader [] [])) (sym parts) ∙ e in
     let both : Made (length spelled) made ≡ More s = sym f ∙ g in
+    absurd cc
+
+-- a header that brings the record above the limit
+above_limit : (joined : List ℕ) (n : ℕ) (last : Bool) → n < 2 ^ 31 → limit < length joined + n → after_header joined (n + cond last 2147483648 0) ≡ Faults
+above_limit joined n last fits h =
+    let big : ltb limit (length joined + n) ≡ true = grind (arith, nat_tests) in
+    rw (size_is n last fits, big) refl
+
+-- A header at fault is found, and no byte after it is taken.
+pub fault_found : (begun rest : List ℕ) → IsAtFault begun → scan 0 (InHeader [] []) (begun ++ rest) ≡ Fault (length begun)
+fault_found begun rest f =
+    let h = header f.last f.size in
+    let number = f.size + cond f.last 2147483648 0 in
+    ap (λ (s : List ℕ). scan 0 (InHeader [] []) (s ++ rest)) f.bytes_are
+    ∙ ap (scan 0 (InHeader [] [])) (append_assoc (front f.parts) h rest)
+    ∙ front_run f.parts (h ++ rest) 0 [] (omega (arith, f.before))
+    ∙ header_run number (0 + length (front f.parts)) (concat f.parts) rest (number_fits f.size f.last f.fits)
+    ∙ ap (λ (n : Next). resume (0 + length (front f.parts) + 4) n rest) (above_limit (concat f.parts) f.size f.last f.fits f.above)
+    ∙ ap (λ (k : ℕ). Fault k) (omega (arith, length-append (front f.parts) h, ap length f.bytes_are))
+
+-- Where the scan goes on, no header is at fault.
+pub no_fault_yet : (bytes : List ℕ) (s : State) → scan 0 (InHeader [] []) bytes ≡ More s → HasNoFault bytes
+no_fault_yet bytes s e begun after parts f =
+    let both : Fault (length begun) ≡ More s = sym (fault_found begun after f) ∙ ap (scan 0 (InHeader [] [])) (sym parts) ∙ e in
+    absurd cc
+
+-- Before a header at fault no record is whole, nor with what comes after it.
+pub no_record_at_fault : (bytes begun after : List ℕ) → bytes ≡ begun ++ after → IsAtFault begun → HasNoRecord bytes
+no_record_at_fault bytes begun after parts f made spelled others whole r =
+    let both : Fault (length begun) ≡ Made (length spelled) made = sym (fault_found begun after f) ∙ ap (scan 0 (InHeader [] [])) (sym parts ∙ whole) ∙ found made spelled others r in
     absurd cc
