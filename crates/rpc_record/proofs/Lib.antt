@@ -4,3 +4,4 @@ pub mod Chunks
 pub mod Walks
 pub mod Scans
 pub mod Streams
+pub mod Feeding

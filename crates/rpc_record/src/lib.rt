@@ -3,5 +3,7 @@
 
 mod join;
 mod place;
+mod reassembler;
 
 pub use place::RECORD_LIMIT;
+pub use reassembler::{Look, Reassembler, Step};
