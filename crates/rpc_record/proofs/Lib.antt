@@ -1,0 +1,7 @@
+pub mod Runs
+pub mod Standing
+pub mod Chunks
+pub mod Walks
+pub mod Scans
+pub mod Streams
+pub mod Feeding
