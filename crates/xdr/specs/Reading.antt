@@ -72,9 +72,9 @@ read (Array most element) bytes = length_at most bytes >>= λ n. items_at (λ re
 read (Case number arm others) bytes =
     number_at w32 bytes
     >>= λ n.
-        if n.0 == number then (read arm n.1 >>= λ x. Ok (inl x.0, x.1))
-        else if is_union others then (read others bytes >>= λ x. Ok (inr x.0, x.1))
-        else Err BadEnum
+    if n.0 == number then (read arm n.1 >>= λ x. Ok (inl x.0, x.1))
+    else if is_union others then (read others bytes >>= λ x. Ok (inr x.0, x.1))
+    else Err BadEnum
 read NoCase bytes = number_at w32 bytes >>= λ n. Err BadEnum
 read (Optional shape) bytes = boolean_at bytes >>= λ there. if there.0 then (read shape there.1 >>= λ x. Ok (Some x.0, x.1)) else Ok (None, there.1)
 read (Chain element) bytes = links_at (λ rest. read element rest) (length bytes) bytes

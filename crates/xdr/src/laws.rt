@@ -13,8 +13,7 @@ pub fn reading_is_exact()
     ensures again { (shape : Shape) (v : Value shape) (rest : List ℕ)
         → Fits shape v
         → read shape (spelling shape v ++ rest) ≡ Ok (v, rest) }
-{
-}
+{}
 
 /// No spelling of a type begins another of that type.
 pub fn one_spelling()
@@ -23,5 +22,4 @@ pub fn one_spelling()
         → Fits shape w
         → spelling shape v ++ x ≡ spelling shape w ++ y
         → (v ≡ w) × (x ≡ y) }
-{
-}
+{}
