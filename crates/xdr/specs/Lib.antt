@@ -1,0 +1,3 @@
+pub mod Fault
+pub mod Shape
+pub mod Reading
