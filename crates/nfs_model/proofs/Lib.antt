@@ -1,0 +1,5 @@
+pub mod Evaluate
+mod WorkedCalls
+mod WorkedEvents
+pub mod AtOnce
+pub mod Opening
