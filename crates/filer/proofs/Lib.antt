@@ -2,3 +2,5 @@ pub mod Lists
 pub mod Scanning
 pub mod Taking
 pub mod Worlds
+pub mod Arriving
+pub mod Connections

@@ -1,10 +1,11 @@
 -- Bytes that the machine scans, taken by a world.
 use Rattle.std.proofs.Common.{◌≡◌, ℕ, zero, suc, ◌+◌, ◌≤◌, ◌<◌, List, [], ◌∷◌, ◌++◌, length, take, Option, Some, None, Result, Ok, Err, refl, sym, ap, subst, ◌∙◌, append_assoc, arith}
 use Rattle.std.proofs.lemmas.List.{append-nil}
-use Rattle.rpc_record.specs.Scan.{State, Header, Next, Goes, Whole, Faults, Outcome, More, Made, Fault, after, go, scan}
+use Rattle.rpc_record.specs.Machine.{State, start, Next, Goes, Ends, Faults, Outcome, More, Made, Fault, after, go, scan}
+use Rattle.rpc_record.specs.Stream.{read_stream}
 use Rattle.nfs_model.specs.World.{Scanned}
 use Rattle.filer.specs.Codec.{heard}
-use Rattle.filer.specs.Streams.{read_stream, served_of, scan_stream, IsQuiet, Completes}
+use Rattle.filer.specs.Streams.{served_of, scan_stream, IsQuiet, Completes}
 use Rattle.filer.proofs.Scanning.{IsAt, joined, scan-goes, scan-whole, scan-faults}
 
 -- ---- the machine
@@ -30,7 +31,7 @@ GoesOn stream bytes to t = (next : State) → IsAt stream next → scan t next b
 scan-more_at : (stream bytes : List ℕ) (b : ℕ) (state to : State) (t : ℕ) (n : Next) → IsAt stream state → after state b ≡ n → GoesOn (stream ++ b ∷ []) bytes to (t + 1)
     → go (t + 1) n (λ next. scan (t + 1) next bytes) ≡ More to → IsQuietTo stream (b ∷ bytes) to
 scan-more_at stream bytes b state to t (Goes next) h a rest e = quiet_more stream bytes b state next to h a (rest next (scan-goes stream state next b h a).1 e)
-scan-more_at stream bytes b state to t (Whole made) h a rest e = absurd cc
+scan-more_at stream bytes b state to t (Ends made) h a rest e = absurd cc
 scan-more_at stream bytes b state to t Faults h a rest e = absurd cc
 
 pub scan-more : (stream bytes : List ℕ) (state to : State) (t : ℕ) → IsAt stream state → scan t state bytes ≡ More to → IsQuietTo stream bytes to
@@ -76,25 +77,25 @@ abbrev pub scanned_with : List ℕ → List ℕ → Scanned
 scanned_with stream made = joined (scan_stream stream).served (served_of (heard made ∷ []) None)
 
 abbrev pub MakesOn : List ℕ → List ℕ → List ℕ → ℕ → ℕ → Type 0
-MakesOn stream bytes made t n = (next : State) → IsAt stream next → scan t next bytes ≡ Made n made → EndsAt stream bytes t n (scanned_with stream made) (Some (Header [] []))
+MakesOn stream bytes made t n = (next : State) → IsAt stream next → scan t next bytes ≡ Made n made → EndsAt stream bytes t n (scanned_with stream made) (Some (start))
 
 same_scan : (stream longer made : List ℕ) → scan_stream longer ≡ scan_stream stream → scanned_with longer made ≡ scanned_with stream made
 same_scan stream longer made e = ap (λ (s : Scanned). joined s.served (served_of (heard made ∷ []) None)) e
 
 scan-made_at : (stream bytes made : List ℕ) (b : ℕ) (state : State) (t n : ℕ) (next : Next) → IsAt stream state → after state b ≡ next → MakesOn (stream ++ b ∷ []) bytes made (t + 1) n
-    → go (t + 1) next (λ s. scan (t + 1) s bytes) ≡ Made n made → EndsAt stream (b ∷ bytes) t n (scanned_with stream made) (Some (Header [] []))
+    → go (t + 1) next (λ s. scan (t + 1) s bytes) ≡ Made n made → EndsAt stream (b ∷ bytes) t n (scanned_with stream made) (Some (start))
 scan-made_at stream bytes made b state t n (Goes next) h a rest e =
     let g = scan-goes stream state next b h a in
-    ends_later stream bytes b t n (scanned_with stream made) (Some (Header [] [])) g.0
-    (subst (λ (s : Scanned). EndsAt (stream ++ b ∷ []) bytes (t + 1) n s (Some (Header [] []))) (same_scan stream (stream ++ b ∷ []) made g.0) (rest next g.1 e))
-scan-made_at stream bytes made b state t n (Whole m) h a rest e =
+    ends_later stream bytes b t n (scanned_with stream made) (Some (start)) g.0
+    (subst (λ (s : Scanned). EndsAt (stream ++ b ∷ []) bytes (t + 1) n s (Some (start))) (same_scan stream (stream ++ b ∷ []) made g.0) (rest next g.1 e))
+scan-made_at stream bytes made b state t n (Ends m) h a rest e =
     let same : m ≡ made = cc in
     let count : t + 1 ≡ n = cc in
     let w = scan-whole stream state b m h a in
-    ends_now stream bytes b t n (scanned_with stream made) (Some (Header [] [])) (sym count) (w.0 ∙ ap (scanned_with stream) same) w.1
+    ends_now stream bytes b t n (scanned_with stream made) (Some (start)) (sym count) (w.0 ∙ ap (scanned_with stream) same) w.1
 scan-made_at stream bytes made b state t n Faults h a rest e = absurd cc
 
-pub scan-made : (stream bytes made : List ℕ) (state : State) (t n : ℕ) → IsAt stream state → scan t state bytes ≡ Made n made → EndsAt stream bytes t n (scanned_with stream made) (Some (Header [] []))
+pub scan-made : (stream bytes made : List ℕ) (state : State) (t n : ℕ) → IsAt stream state → scan t state bytes ≡ Made n made → EndsAt stream bytes t n (scanned_with stream made) (Some (start))
 scan-made stream [] made state t n h e = absurd cc
 scan-made stream (b ∷ bytes) made state t n h e = scan-made_at stream bytes made b state t n (after state b) h refl (λ next k d. scan-made (stream ++ b ∷ []) bytes made next (t + 1) n k d) e
 
@@ -110,7 +111,7 @@ scan-fault_at stream bytes b state t n (Goes next) h a rest e =
     let g = scan-goes stream state next b h a in
     ends_later stream bytes b t n (faulted_at stream) None g.0
     (subst (λ (s : Scanned). EndsAt (stream ++ b ∷ []) bytes (t + 1) n s None) (ap (λ (s : Scanned). record { served = s.served; fault = Some 11 }) g.0) (rest next g.1 e))
-scan-fault_at stream bytes b state t n (Whole m) h a rest e = absurd cc
+scan-fault_at stream bytes b state t n (Ends m) h a rest e = absurd cc
 scan-fault_at stream bytes b state t n Faults h a rest e =
     let count : t + 1 ≡ n = cc in
     let w = scan-faults stream state b h a in

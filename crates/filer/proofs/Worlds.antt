@@ -80,9 +80,9 @@ takes-quiet layout verifier w c (b ∷ bytes) x e f q =
 front_and_last : (w : World) (c : ℕ) (taken front : List ℕ) (last : ℕ) → taken ≡ front ++ last ∷ [] → byte_taken (bytes_taken w c front) c last ≡ bytes_taken w c taken
 front_and_last w c taken front last e = bytes_taken-more w c front (last ∷ []) ∙ ap (bytes_taken w c) (sym e)
 
-quiet_scan : (stream front : List ℕ) → IsQuiet stream front → scan_stream (stream ++ front) ≡ scan_stream stream
-quiet_scan stream [] q = ap scan_stream (append-nil stream)
-quiet_scan stream (b ∷ front) q = ap scan_stream (sym (append_assoc stream (b ∷ []) front)) ∙ quiet_scan (stream ++ b ∷ []) front q.1 ∙ q.0
+pub quiet-scan : (stream front : List ℕ) → IsQuiet stream front → scan_stream (stream ++ front) ≡ scan_stream stream
+quiet-scan stream [] q = ap scan_stream (append-nil stream)
+quiet-scan stream (b ∷ front) q = ap scan_stream (sym (append_assoc stream (b ∷ []) front)) ∙ quiet-scan (stream ++ b ∷ []) front q.1 ∙ q.0
 
 -- a record, which is a call or refused
 pub takes-heard : (layout : Layout) (verifier : List ℕ) (w : World) (c : ℕ) (taken : List ℕ) (x : Connection) (h : Heard) → slice_get w.connections c ≡ Some x → (scan_stream x.stream).fault ≡ None → is_crowded w ≡ false
@@ -93,7 +93,7 @@ takes-heard layout verifier w c taken x h e f crowd k =
     let middle : World = bytes_taken w c k.front in
     let y : Connection = with_bytes k.front x in
     let there : slice_get middle.connections c ≡ Some y = connection-taken w c k.front x e in
-    let same : scan_stream y.stream ≡ scan_stream x.stream = quiet_scan x.stream k.front k.quiet in
+    let same : scan_stream y.stream ≡ scan_stream x.stream = quiet-scan x.stream k.front k.quiet in
     let served : length (scan_stream y.stream).served ≡ length (scan_stream x.stream).served = ap (λ (s : Scanned). length s.served) same in
     let whole : scan_stream (y.stream ++ k.last ∷ []) ≡ record { served = (scan_stream x.stream).served ++ h ∷ []; fault = None } =
         ap scan_stream (append_assoc x.stream k.front (k.last ∷ []) ∙ ap (λ (s : List ℕ). x.stream ++ s) (sym k.split)) ∙ k.complete in

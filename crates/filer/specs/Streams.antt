@@ -1,29 +1,10 @@
 -- Whole streams: the calls and refusals that their records are, and the fault that ends them.
 use Rattle.std.specs.Prelude.{◌≡◌, ℕ, List, [], ◌∷◌, ◌++◌, map, Option, Some, None, Result, Ok, Err}
-use Rattle.rpc_record.specs.Scan.{State, Header, Next, Goes, Whole, Faults, after}
+use Rattle.rpc_record.specs.Machine.{State}
+use Rattle.rpc_record.specs.Stream.{read_stream}
 use Rattle.nfs_model.specs.Tree.{Layout}
 use Rattle.nfs_model.specs.World.{Heard, Scanned, Codec, Setup}
 use Rattle.filer.specs.Codec.{heard, reply_record}
-
-pub record Reading : Type 0 where
-  pub records : List (List ℕ)
-  pub at : Option State
-
-abbrev pub came_to : List (List ℕ) → Next → Reading
-came_to records (Goes state) = record { records = records; at = Some state }
-came_to records (Whole made) = record { records = records ++ made ∷ []; at = Some (Header [] []) }
-came_to records Faults = record { records = records; at = None }
-
-abbrev pub read_byte : List (List ℕ) → Option State → ℕ → Reading
-read_byte records None b = record { records = records; at = None }
-read_byte records (Some state) b = came_to records (after state b)
-
-abbrev pub read_on : Reading → List ℕ → Reading
-read_on reading [] = reading
-read_on reading (b ∷ bytes) = read_on (read_byte reading.records reading.at b) bytes
-
-abbrev pub read_stream : List ℕ → Reading
-read_stream stream = read_on (record { records = []; at = Some (Header [] []) }) stream
 
 -- a header that brings a record above the limit
 abbrev pub fault_at : Option State → Option ℕ
@@ -57,4 +38,4 @@ codec = record { scan = scan_stream; reply_record = reply_record }
 
 -- an engine of one worker and one open connection
 abbrev pub setup_of : Layout → List ℕ → Setup
-setup_of layout verifier = record { codec = codec; layout = layout; verifier = verifier; workers = 1 }
+setup_of layout verifier = record { codec = codec; layout = layout; verifier = verifier; workers = 1; connections = 1 }

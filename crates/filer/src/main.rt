@@ -4,8 +4,10 @@
 #![tactic(auto)]
 
 mod choice;
+mod engine;
 mod fault;
 mod script;
+mod values;
 mod words;
 
 use std::io;

@@ -153,7 +153,7 @@ getattr_is_worked = (
   ),
 )
 
-getattr_is_finished : Events setup worked (Finish 0) (Ok (Written 0 (200 ∷ []))) (record opened {
+getattr_is_finished : Events setup worked (Finish 0) (Ok (Written 0 1)) (record opened {
   connections = record { stream = 200 ∷ []; closed = None; output = 200 ∷ [] } ∷ [];
   finished = record { connection = 0; number = 0; xid = 200; asked = asked_by 200; affinity = Some (Logical 0); moment = at 1; starved = false } ∷ [];
   stamps = 1;

@@ -28,7 +28,7 @@ pub data Done : Type 0 where
   HasReply : Done
   HasMove : (affinity : Affinity) → Done
   IsStarved : Done
-  Written : (connection : ℕ) (bytes : List ℕ) → Done
+  Written : (connection count : ℕ) → Done  -- so many bytes, none where the connection is closed
   IsBack : Done
   HandHas : (count : ℕ) → Done
   HasPut : (count : ℕ) → Done

@@ -60,8 +60,8 @@ bytes_if_open (Some x) bytes = bytes_unless x.closed bytes
 
 -- what Finish answers
 abbrev pub told_of : Setup → World → Running → Outcome → Done
-told_of setup w r (Replied reply) = Written r.message.connection (bytes_if_open (slice_get w.connections r.message.connection) (setup.codec.reply_record r.message.xid reply))
-told_of setup w r Starved = Written r.message.connection (bytes_if_open (slice_get w.connections r.message.connection) (setup.codec.reply_record r.message.xid SystemError))
+told_of setup w r (Replied reply) = Written r.message.connection (length (bytes_if_open (slice_get w.connections r.message.connection) (setup.codec.reply_record r.message.xid reply)))
+told_of setup w r Starved = Written r.message.connection (length (bytes_if_open (slice_get w.connections r.message.connection) (setup.codec.reply_record r.message.xid SystemError)))
 told_of setup w r (Moved a) = IsBack
 
 -- ---- inner calls

@@ -1,0 +1,11 @@
+-- What was read of a record.
+use Rattle.std.specs.Prelude.{ℕ, Result, Ok, Err}
+use Rattle.nfs_model.specs.World as worlds
+use Rattle.filer.specs.declared.engine.event.StreamFault.{StreamFault}
+use Rattle.filer.specs.declared.engine.message.Heard.{Heard}
+use Rattle.filer.specs.Numbers.{fault_number}
+use Rattle.filer.specs.Seen.{heard_of}
+
+abbrev pub read_of : Result Heard StreamFault → Result worlds.Heard ℕ
+read_of (Ok heard) = Ok (heard_of heard)
+read_of (Err fault) = Err (fault_number fault)

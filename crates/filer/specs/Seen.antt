@@ -1,0 +1,198 @@
+-- The engine's fields as a world, and its events and answers as the world's.
+use Rattle.std.specs.Prelude.{ℕ, ◌*◌, List, [], ◌∷◌, ◌++◌, map, Option, Some, None, Result, Ok, Err, option_map}
+use Rattle.std.specs.FinMap.{from_sorted}
+use Rattle.nfs_model.specs.Types as types
+use Rattle.nfs_model.specs.Tree as trees
+use Rattle.nfs_model.specs.Server as servers
+use Rattle.nfs_model.specs.Replay as replays
+use Rattle.nfs_model.specs.World as worlds
+use Rattle.nfs_model.specs.Headline.{opening_parts}
+use Rattle.nfs_model.specs.Events.Refusals as events
+use Rattle.filer.specs.declared.values.Moment.{Moment}
+use Rattle.filer.specs.declared.values.Credential.{Credential}
+use Rattle.filer.specs.declared.values.Call.{Call}
+use Rattle.filer.specs.declared.values.Call.TheVariants as calls
+use Rattle.filer.specs.declared.values.Status.{Status}
+use Rattle.filer.specs.declared.values.Status.TheVariants as statuses
+use Rattle.filer.specs.declared.values.FileKind.{FileKind}
+use Rattle.filer.specs.declared.values.FileKind.TheVariants as kinds
+use Rattle.filer.specs.declared.values.Attributes.{Attributes}
+use Rattle.filer.specs.declared.values.Reply.{Reply}
+use Rattle.filer.specs.declared.values.Reply.TheVariants as replies
+use Rattle.filer.specs.declared.engine.affinity.Affinity.{Affinity}
+use Rattle.filer.specs.declared.engine.affinity.Affinity.TheVariants.{VolumeLogical}
+use Rattle.filer.specs.declared.engine.connection.OpenConnection.{OpenConnection}
+use Rattle.filer.specs.declared.engine.connection.ClosedConnection.{ClosedConnection}
+use Rattle.filer.specs.declared.engine.event.Event.{Event}
+use Rattle.filer.specs.declared.engine.event.Event.TheVariants as happened
+use Rattle.filer.specs.declared.engine.event.Done.{Done}
+use Rattle.filer.specs.declared.engine.event.Done.TheVariants as dones
+use Rattle.filer.specs.declared.engine.event.Refusal.{Refusal}
+use Rattle.filer.specs.declared.engine.layout.Layout.{Layout}
+use Rattle.filer.specs.declared.engine.message.Request.{Request}
+use Rattle.filer.specs.declared.engine.message.Request.TheVariants as requests
+use Rattle.filer.specs.declared.engine.message.Heard.{Heard}
+use Rattle.filer.specs.declared.engine.message.Message.{Message}
+use Rattle.filer.specs.declared.engine.message.Running.{Running}
+use Rattle.filer.specs.declared.engine.message.Entry.{Entry}
+use Rattle.filer.specs.declared.engine.parcel.Kept.{Kept}
+use Rattle.filer.specs.declared.engine.parcel.VolumeLogical as parcels
+use Rattle.filer.specs.declared.engine.state.State.{State}
+use Rattle.filer.specs.Numbers.{stop_number, refusal_number}
+use Rattle.filer.specs.Streams.{setup_of}
+
+-- ---- values
+
+abbrev pub moment_of : Moment → types.Moment
+moment_of m = record { seconds = m.seconds; nanoseconds = m.nanoseconds }
+
+abbrev pub credential_of : Credential → types.Credential
+credential_of c = record { uid = c.uid; gid = c.gid }
+
+abbrev pub call_of : Call → types.Call
+call_of calls.Null = types.Null
+call_of (calls.GetAttributes object) = types.Getattr object.bytes.items
+
+abbrev pub status_of : Status → types.Status
+status_of statuses.BadHandle = types.BadHandle
+status_of statuses.Stale = types.Stale
+
+abbrev pub kind_of : FileKind → types.Kind
+kind_of kinds.Regular = types.Regular
+kind_of kinds.Directory = types.Folder
+
+abbrev pub shown_of : Attributes → types.Shown
+shown_of a = record {
+  kind = kind_of a.kind;
+  mode = a.mode;
+  links = a.links;
+  uid = a.uid;
+  gid = a.gid;
+  size = a.size;
+  used = a.used;
+  fsid = a.fsid;
+  fileid = a.fileid;
+  atime = moment_of a.atime;
+  mtime = moment_of a.mtime;
+  ctime = moment_of a.ctime;
+}
+
+abbrev pub reply_of : Reply → types.Reply
+reply_of replies.Null = types.Success types.NullDone
+reply_of (replies.Attributes a) = types.Success (types.GetattrDone (shown_of a))
+reply_of (replies.Failed s) = types.Success (types.Failed (status_of s) 0)
+
+-- ---- messages
+
+abbrev pub asked_of : Request → types.Asked
+asked_of (requests.Call call credential) = types.Ask (call_of call) (credential_of credential)
+asked_of (requests.Refused reply) = types.Refused (reply_of reply)
+
+abbrev pub heard_of : Heard → worlds.Heard
+heard_of h = record { xid = h.xid; asked = asked_of h.request }
+
+abbrev pub affinity_of : Affinity → trees.Affinity
+affinity_of (VolumeLogical volume) = trees.Logical volume
+
+abbrev pub message_of : Message → worlds.Message
+message_of m = record { connection = m.connection; number = m.number; xid = m.xid; asked = types.Ask (call_of m.call) (credential_of m.credential); affinity = trees.Logical 0 }
+
+abbrev pub outcome_of : Reply → worlds.Outcome
+outcome_of reply = worlds.Replied (reply_of reply)
+
+abbrev pub running_of : Running → worlds.Running
+running_of r = record { message = message_of r.message; moment = moment_of r.moment; outcome = option_map outcome_of r.reply }
+
+abbrev pub entry_of : Entry → replays.Entry
+entry_of e = record { connection = e.connection; number = e.number; xid = e.xid; asked = asked_of e.request; affinity = option_map affinity_of e.affinity; moment = moment_of e.moment; starved = e.starved }
+
+-- ---- connections
+
+abbrev pub open_of : OpenConnection → worlds.Connection
+open_of c = record { stream = c.stream.items; closed = None; output = c.output.items }
+
+abbrev pub closed_of : ClosedConnection → worlds.Connection
+closed_of c = record { stream = c.stream.items; closed = Some c.finished; output = c.output.items }
+
+abbrev pub last_of : Option OpenConnection → List worlds.Connection
+last_of None = []
+last_of (Some c) = open_of c ∷ []
+
+abbrev pub connections_of : List ClosedConnection → Option OpenConnection → List worlds.Connection
+connections_of past current = map closed_of past ++ last_of current
+
+-- ---- the server
+
+abbrev pub layout_of : Layout → trees.Layout
+layout_of l = record { spare = l.spare ∷ []; volumes = record { aggregate = 0; ranges = l.ranges; stripes = 8; mebibytes = 16 } ∷ [] }
+
+abbrev pub root_of : Kept → servers.Node
+root_of k = servers.Directory (record {
+  attributes = record { mode = k.mode; uid = k.uid; gid = k.gid; atime = moment_of k.atime; mtime = moment_of k.mtime; ctime = moment_of k.ctime };
+  parent = 1;
+  next = 3;
+  list = [];
+})
+
+abbrev pub volume_of : Layout → List ℕ → Kept → servers.Volume
+volume_of l verifier k = record {
+  number = 0;
+  aggregate = 0;
+  total = 1024 * l.ranges;
+  largest = 1048576 * 16;
+  stripes = 8;
+  verifier = verifier;
+  next = 2;
+  nodes = from_sorted ((1, root_of k) ∷ []);
+}
+
+-- the server of which the parcel is all that calls change
+abbrev pub server_of : Layout → List ℕ → Kept → servers.Server
+server_of l verifier k = record { spare = l.spare ∷ []; volumes = volume_of l verifier k ∷ [] }
+
+-- the parcel, at home or lent
+abbrev pub held_by : Option Running → Kept
+held_by None = record { mode = 0; uid = 0; gid = 0; atime = record { seconds = 0; nanoseconds = 0 }; mtime = record { seconds = 0; nanoseconds = 0 }; ctime = record { seconds = 0; nanoseconds = 0 } }
+held_by (Some r) = r.held.root
+
+abbrev pub kept_by : Option parcels.VolumeLogical → Option Running → Kept
+kept_by None running = held_by running
+kept_by (Some p) running = p.root
+
+-- ---- the world
+
+abbrev pub setup_in : State → worlds.Setup
+setup_in s = setup_of (layout_of s.layout) s.verifier
+
+abbrev pub world : State → worlds.World
+world s = record {
+  connections = connections_of s.past.items s.current;
+  waiting = map message_of s.waiting.items;
+  workers = record { running = option_map running_of s.running; hand = worlds.Empty } ∷ [];
+  finished = map entry_of s.finished.items;
+  server = server_of s.layout s.verifier (kept_by s.home s.running);
+  parts = map opening_parts (layout_of s.layout).volumes;
+  stamps = s.stamps;
+}
+
+-- ---- events
+
+abbrev pub event_of : Event → events.Event
+event_of happened.Open = events.Open
+event_of (happened.Feed connection bytes) = events.Feed connection bytes.now
+event_of (happened.Close connection) = events.Close connection
+event_of (happened.Begin worker place moment) = events.Begin worker place (moment_of moment)
+event_of (happened.Work worker) = events.Work worker
+event_of (happened.Finish worker) = events.Finish worker
+
+abbrev pub done_of : Done → events.Done
+done_of (dones.Opened connection) = events.Opened connection
+done_of (dones.Fed taken stop) = events.Fed taken (stop_number stop)
+done_of dones.Closed = events.IsClosed
+done_of (dones.Granted affinity) = events.Granted (affinity_of affinity)
+done_of dones.Replied = events.HasReply
+done_of (dones.Written connection count) = events.Written connection count
+
+abbrev pub answer_of : Result Done Refusal → Result events.Done ℕ
+answer_of (Ok done) = Ok (done_of done)
+answer_of (Err refusal) = Err (refusal_number refusal)

@@ -1,0 +1,53 @@
+-- What holds of an engine's fields beside what is seen of them: what was read is in step with the streams, and what is to come has its room.
+use Rattle.std.specs.Prelude.{◌≡◌, ℕ, ◌+◌, ◌*◌, ◌^◌, ◌≤◌, ◌<◌, List, [], ◌∷◌, ◌++◌, length, take, Option, Some, None, option_map, IfSome, vec_len, vec_capacity}
+use Rattle.rpc_record.specs.Stream.{read_stream}
+use Rattle.filer.specs.declared.engine.connection.OpenConnection.{OpenConnection}
+use Rattle.filer.specs.declared.engine.connection.Arrival.{Arrival}
+use Rattle.filer.specs.declared.engine.connection.Arrival.TheVariants as arrivals
+use Rattle.filer.specs.declared.engine.message.Running.{Running}
+use Rattle.filer.specs.declared.engine.parcel.VolumeLogical.{VolumeLogical}
+use Rattle.filer.specs.declared.engine.state.State.{State}
+use Rattle.filer.specs.Numbers.{fault_number}
+use Rattle.filer.specs.Seen.{heard_of}
+use Rattle.filer.specs.Streams.{scan_stream, IsQuiet, Completes}
+
+-- What was read of a connection is in step with its stream.
+pub record IsInStep (c : OpenConnection) : Type 0 where
+  pub reassembler : (read_stream c.stream.items).at ≡ c.reassembler
+  pub fault : (scan_stream c.stream.items).fault ≡ option_map fault_number c.fault
+  pub records : length (scan_stream c.stream.items).served ≡ c.records
+  pub few : c.records ≤ vec_len c.stream
+
+-- What bytes came to that a connection was given: so many of them were taken.
+abbrev pub Arrives : List ℕ → List ℕ → ℕ → Arrival → Type 0
+Arrives stream bytes taken arrivals.More = (taken ≡ length bytes) × IsQuiet stream bytes
+Arrives stream bytes taken (arrivals.Heard heard) = (0 < taken) × (taken ≤ length bytes) × Completes stream (take taken bytes) (record { served = (scan_stream stream).served ++ heard_of heard ∷ []; fault = None })
+Arrives stream bytes taken (arrivals.Fault fault) = (0 < taken) × (taken ≤ length bytes) × Completes stream (take taken bytes) (record { served = (scan_stream stream).served; fault = Some (fault_number fault) })
+Arrives stream bytes taken arrivals.NoMemory = taken ≡ 0
+
+abbrev pub count_of : Option Running → ℕ
+count_of None = 0
+count_of (Some r) = 1
+
+-- how many messages wait or run
+abbrev pub pending : State → ℕ
+pending s = vec_len s.waiting + count_of s.running
+
+-- The parcel is at home just where nothing runs.
+abbrev pub IsLent : Option VolumeLogical → Option Running → Type 0
+IsLent None None = ⊥
+IsLent None (Some r) = Unit {0}
+IsLent (Some p) None = Unit {0}
+IsLent (Some p) (Some r) = ⊥
+
+-- Each message that waits or runs has its room among the replies.
+pub record IsRoomy (pending : ℕ) (c : OpenConnection) : Type 0 where
+  pub in_step : IsInStep c
+  pub output : vec_len c.output + 116 * pending ≤ vec_capacity c.output
+
+pub record IsSound (s : State) : Type 0 where
+  pub current : IfSome s.current (λ c. IsRoomy (pending s) c × (vec_len s.past < vec_capacity s.past))
+  pub places : pending s ≤ 1024
+  pub finished : vec_len s.finished + pending s ≤ vec_capacity s.finished
+  pub lent : IsLent s.home s.running
+  pub stamps : s.stamps + count_of s.running ≤ 2 ^ 62

@@ -1,0 +1,57 @@
+//! Calls on their way: waiting, running and finished.
+
+use crate::engine::affinity::Affinity;
+use crate::engine::parcel::VolumeLogical;
+use crate::values::{Call, Credential, Moment, Reply};
+
+/// What a record asks.
+#[derive(Debug, Drop)]
+pub enum Request {
+    /// A call, by the owner of what it makes.
+    Call { call: Call, credential: Credential },
+    /// A call message that is refused before its arguments are read.
+    Refused(Reply),
+}
+
+/// What was read of a record.
+#[derive(Debug, Drop)]
+pub struct Heard {
+    pub xid: u32,
+    pub request: Request,
+}
+
+/// A call that waits or runs. Each tries the affinity Volume Logical.
+#[derive(Debug, Drop)]
+pub struct Message {
+    pub connection: usize,
+    /// The place of its record among those that the connection served, from 0.
+    pub number: usize,
+    pub xid: u32,
+    pub call: Call,
+    pub credential: Credential,
+}
+
+/// A message that a worker has begun, with the parcel that it was lent.
+#[derive(Debug, Drop)]
+pub struct Running {
+    pub message: Message,
+    pub moment: Moment,
+    pub(crate) held: VolumeLogical,
+    /// The reply, once the message is worked.
+    pub reply: Option<Reply>,
+}
+
+/// A finished call.
+#[derive(Debug, Drop)]
+pub struct Entry {
+    pub connection: usize,
+    /// The place of its record among those that the connection served, from 0.
+    pub number: usize,
+    pub xid: u32,
+    pub request: Request,
+    /// What it ran on; nothing where it was answered as its record was complete.
+    pub affinity: Option<Affinity>,
+    pub moment: Moment,
+    /// Whether memory ran out, so that it changed nothing and was answered so.
+    pub starved: bool,
+}
