@@ -5,3 +5,4 @@ pub mod Walks
 pub mod Scans
 pub mod Streams
 pub mod Feeding
+pub mod Fed
