@@ -14,10 +14,10 @@ use Rattle.rpc_record.proofs.Standing.{Stands, Leads, scan_says}
 use Rattle.rpc_record.proofs.Standing as standing
 use Rattle.rpc_record.proofs.Streams.{read_stream-append, ReadsTo, reads_to}
 
-pub feeds_more : (failed : Bool) (s new : State) (now : Option State) (bytes : List ℕ) (taken : ℕ) → failed ≡ false → cond failed None (Some s) ≡ now → scan 0 s bytes ≡ More new → taken ≡ length bytes
+pub feeds_more : (failed : Bool) (s new : State) (now : Option State) (bytes : List ℕ) (taken : ℕ) → IsSome now → cond failed None (Some s) ≡ now → scan 0 s bytes ≡ More new → taken ≡ length bytes
     → Feeds now bytes taken steps.More (cond failed None (Some new))
-feeds_more true s new now bytes taken f v e all = absurd cc
-feeds_more false s new now bytes taken f v e all = (all, (new, ap (λ (o : Option State). outcome o bytes) (sym v) ∙ e, refl))
+feeds_more true s new now bytes taken some v e all = let none : IsSome {T = State} None = subst (λ (o : Option State). IsSome o) (sym v) some in absurd cc
+feeds_more false s new now bytes taken some v e all = (all, (new, ap (λ (o : Option State). outcome o bytes) (sym v) ∙ e, refl))
 
 -- Bytes
 
@@ -62,14 +62,14 @@ come_fault came bytes s n h b e =
 pub feeds_say : (came bytes : List ℕ) (old new : Option State) (taken : ℕ) (step : Step) → ((i : ℕ) → get_or bytes i 0 < 256) → Feeds old bytes taken step new → HasCome came old → Says came bytes taken step new
 feeds_say came bytes None new taken step b f h = absurd h
 feeds_say came bytes (Some s) new taken (steps.Record made) b f h =
-    let m = come_made came bytes made.items s taken h (are_bytes bytes b) f.0 in
-    (m.0, m.1, f.1)
+    let m = come_made came bytes made.items s taken h (are_bytes bytes b) f.2 in
+    (m.0, m.1, f.3)
 feeds_say came bytes (Some s) new taken steps.More b f h =
     let more = come_more came bytes s f.1.0 h (are_bytes bytes b) f.1.1 in
     (f.0, none_yet (came ++ bytes) f.1.0 more.1, no_fault_yet (came ++ bytes) f.1.0 more.1, subst (HasCome (came ++ bytes)) (sym f.1.2) more)
 feeds_say came bytes (Some s) new taken steps.Fault b f h =
-    let m = come_fault came bytes s taken h (are_bytes bytes b) f.0 in
-    (m.0, m.1, f.1)
+    let m = come_fault came bytes s taken h (are_bytes bytes b) f.1 in
+    (m.0, m.1, f.2)
 feeds_say came bytes (Some s) new taken steps.NoMemory b f h = (f.0, subst (HasCome came) (sym f.2) h)
 
 -- Whole streams

@@ -6,3 +6,4 @@ pub mod Scans
 pub mod Streams
 pub mod Feeding
 pub mod Fed
+pub mod Unique

@@ -10,9 +10,9 @@ use Rattle.rpc_record.specs.Stream.{AreBytes, read_stream}
 
 -- Feeding these bytes takes so many of them, answers this, and leads from the old state to the new one.
 abbrev pub Feeds : Option State → List ℕ → ℕ → Step → Option State → Type 0
-Feeds old bytes taken (steps.Record made) new = (outcome old bytes ≡ Made taken made.items) × (new ≡ Some start)
+Feeds old bytes taken (steps.Record made) new = (0 < taken) × (taken ≤ length bytes) × (outcome old bytes ≡ Made taken made.items) × (new ≡ Some start)
 Feeds old bytes taken steps.More new = (taken ≡ length bytes) × ((state : State) × (outcome old bytes ≡ More state) × (new ≡ Some state))
-Feeds old bytes taken steps.Fault new = (outcome old bytes ≡ Fault taken) × (new ≡ None)
+Feeds old bytes taken steps.Fault new = (taken ≤ length bytes) × (outcome old bytes ≡ Fault taken) × (new ≡ None)
 Feeds old bytes taken steps.NoMemory new = (taken ≡ 0) × IsSome old × (new ≡ old)
 
 -- These bytes have come since the last record, and no fault was told.
