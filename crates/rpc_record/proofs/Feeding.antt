@@ -1,107 +1,94 @@
--- What joining bytes says of feeding them, and what feeding them says of whole streams.
-use Rattle.std.proofs.Common.{Bool, true, false, cond, ◌≡◌, ℕ, zero, suc, ◌+◌, ◌<◌, ◌≤◌, List, [], ◌∷◌, ◌++◌, length, get_or, take, refl, sym, ap, subst, ◌∙◌, arith, Option, Some, None, is_some, IsSome}
-use Rattle.std.proofs.lemmas.List.{append-nil, length-take-le}
+-- What feeding and looking say of a stream that the caller keeps.
+use Rattle.std.proofs.Common.{Bool, true, false, cond, ◌≡◌, ℕ, ◌+◌, ◌<◌, ◌≤◌, ◌⊎◌, inl, inr, List, [], ◌∷◌, ◌++◌, length, take, refl, sym, ap, subst, ◌∙◌, arith, Option, Some, None, IsSome}
+use Rattle.std.proofs.lemmas.List.{append-nil}
 use Rattle.std.proofs.Math.Seq.{take-length}
-use Rattle.rpc_record.specs.Records.{IsRecord, IsAtFault, HasNoRecord, HasNoFault}
-use Rattle.rpc_record.specs.Machine.{State, InHeader, start, Outcome, More, Made, Fault, scan, outcome}
-use Rattle.rpc_record.specs.Stream.{Reading, read_on, read_stream, AreBytes}
+use Rattle.rpc_record.specs.Machine.{State, start, Outcome, More, Made, Fault, scan, outcome}
+use Rattle.rpc_record.specs.Stream.{Reading, read_on, read_stream}
 use Rattle.rpc_record.specs.declared.reassembler.Step.{Step}
 use Rattle.rpc_record.specs.declared.reassembler.Step.TheVariants as steps
-use Rattle.rpc_record.specs.Feeds.{Feeds, HasCome, Says, given, look_at, Tells}
-use Rattle.rpc_record.proofs.Runs.{none_yet, no_fault_yet}
-use Rattle.rpc_record.proofs.Scans.{scan-append, more_any, IsBefore, scan-take}
-use Rattle.rpc_record.proofs.Standing.{Stands, Leads, scan_says}
-use Rattle.rpc_record.proofs.Standing as standing
-use Rattle.rpc_record.proofs.Streams.{read_stream-append, ReadsTo, reads_to}
+use Rattle.rpc_record.specs.declared.reassembler.Look.{Look}
+use Rattle.rpc_record.specs.declared.reassembler.Look.TheVariants as looks
+use Rattle.rpc_record.specs.Feeds.{Feeds, given, look_at, Tells, Foresees, GoesOn}
+use Rattle.rpc_record.proofs.Scans.{IsBefore}
+use Rattle.rpc_record.proofs.Streams.{more_read, made_read, fault_read, before_read}
 
 pub feeds_more : (failed : Bool) (s new : State) (now : Option State) (bytes : List ℕ) (taken : ℕ) → IsSome now → cond failed None (Some s) ≡ now → scan 0 s bytes ≡ More new → taken ≡ length bytes
     → Feeds now bytes taken steps.More (cond failed None (Some new))
 feeds_more true s new now bytes taken some v e all = let none : IsSome {T = State} None = subst (λ (o : Option State). IsSome o) (sym v) some in absurd cc
 feeds_more false s new now bytes taken some v e all = (all, (new, ap (λ (o : Option State). outcome o bytes) (sym v) ∙ e, refl))
 
--- Bytes
+fault_at : (n m : ℕ) → Fault n ≡ Fault m → n ≡ m
+fault_at n m e = cc
 
-pub are_bytes : (bytes : List ℕ) → ((i : ℕ) → get_or bytes i 0 < 256) → AreBytes bytes
-are_bytes [] h = tt
-are_bytes (b ∷ bytes) h = (h zero, are_bytes bytes (λ i. h (suc i)))
+none_taken : (stream bytes : List ℕ) (n : ℕ) → n ≡ 0 → stream ++ take n bytes ≡ stream
+none_taken stream bytes n e = ap (λ (k : ℕ). stream ++ take k bytes) e ∙ append-nil stream
 
-pub AreBytes-append : (xs ys : List ℕ) → AreBytes xs → AreBytes ys → AreBytes (xs ++ ys)
-AreBytes-append [] ys p q = q
-AreBytes-append (x ∷ xs) ys p q = (p.0, AreBytes-append xs ys p.1 q)
+-- nothing was taken
+still_read : (stream bytes : List ℕ) (n : ℕ) (old new : Option State) → (read_stream stream).at ≡ old → n ≡ 0 → new ≡ old → read_stream (stream ++ take n bytes) ≡ record { records = (read_stream stream).records ++ []; at = new }
+still_read stream bytes n old new at none same =
+    ap read_stream (none_taken stream bytes n none)
+    ∙ ap (λ (o : Option State). record { records = (read_stream stream).records; at = o }) (at ∙ sym same)
+    ∙ ap (λ (records : List (List ℕ)). record { records = records; at = new }) (sym (append-nil (read_stream stream).records))
 
-pub AreBytes-take : (n : ℕ) (xs : List ℕ) → AreBytes xs → AreBytes (take n xs)
-AreBytes-take zero xs h = tt
-AreBytes-take (suc n) [] h = tt
-AreBytes-take (suc n) (x ∷ xs) h = (h.0, AreBytes-take n xs h.1)
+with_none : (r : Reading) (records : List (List ℕ)) (new at : Option State) → r ≡ record { records = records; at = at } → new ≡ at → r ≡ record { records = records ++ []; at = new }
+with_none r records new at e same =
+    e ∙ ap (λ (o : Option State). record { records = records; at = o }) (sym same)
+    ∙ ap (λ (all : List (List ℕ)). record { records = all; at = new }) (sym (append-nil records))
 
--- What has come since the last record
+-- A feed reads on in the stream: the records are those before and the one given.
+pub feeds_read : (stream bytes : List ℕ) (old new : Option State) (taken : ℕ) (step : Step) → (read_stream stream).at ≡ old → Feeds old bytes taken step new
+    → read_stream (stream ++ take taken bytes) ≡ record { records = (read_stream stream).records ++ given step; at = new }
+feeds_read stream bytes None new taken (steps.Record made) at f = let e : Fault 0 ≡ Made taken made.items = f.2 in absurd cc
+feeds_read stream bytes None new taken steps.More at f = let e : Fault 0 ≡ More f.1.0 = f.1.1 in absurd cc
+feeds_read stream bytes None new taken steps.Fault at f = still_read stream bytes taken None new at (sym (fault_at 0 taken f.1)) f.2
+feeds_read stream bytes None new taken steps.NoMemory at f = still_read stream bytes taken None new at f.0 f.2
+feeds_read stream bytes (Some s) new taken (steps.Record made) at f =
+    (made_read stream bytes made.items s taken at f.2).2
+    ∙ ap (λ (o : Option State). record { records = (read_stream stream).records ++ made.items ∷ []; at = o }) (sym f.3)
+feeds_read stream bytes (Some s) new taken steps.More at f =
+    ap (λ (k : ℕ). read_stream (stream ++ take k bytes)) f.0
+    ∙ ap (λ (x : List ℕ). read_stream (stream ++ x)) (take-length bytes)
+    ∙ with_none (read_stream (stream ++ bytes)) (read_stream stream).records new (Some f.1.0) (more_read stream bytes s f.1.0 at f.1.1) f.1.2
+feeds_read stream bytes (Some s) new taken steps.Fault at f =
+    with_none (read_stream (stream ++ take taken bytes)) (read_stream stream).records new None (fault_read stream bytes s taken at f.1).2 f.2
+feeds_read stream bytes (Some s) new taken steps.NoMemory at f = still_read stream bytes taken (Some s) new at f.0 f.2
 
--- where what came stands
-pub come_stands : (came : List ℕ) (s : State) → HasCome came (Some s) → Stands came s
-come_stands came s h =
-    subst (standing.Says 0 [] came) h.1 (scan_says 0 [] start came h.0 (record { parts = []; joined_is = refl; came_is = refl; short = omega arith; bytes = tt; small = omega arith }))
+-- What comes before the last byte taken reads no record, and comes to no fault.
+pub feeds_before : (stream bytes : List ℕ) (old new : Option State) (taken n : ℕ) (step : Step) → (read_stream stream).at ≡ old → Feeds old bytes taken step new → n < taken → GoesOn stream (take n bytes)
+feeds_before stream bytes None new taken n (steps.Record made) at f h = let e : Fault 0 ≡ Made taken made.items = f.2 in absurd cc
+feeds_before stream bytes None new taken n steps.More at f h = let e : Fault 0 ≡ More f.1.0 = f.1.1 in absurd cc
+feeds_before stream bytes None new taken n steps.Fault at f h = absurd (omega (arith, h, fault_at 0 taken f.1))
+feeds_before stream bytes None new taken n steps.NoMemory at f h = absurd (omega (arith, h, f.0))
+feeds_before stream bytes (Some s) new taken n (steps.Record made) at f h = let b = before_read stream bytes s (Made taken made.items) n at f.2 h in (b.0, b.2)
+feeds_before stream bytes (Some s) new taken n steps.More at f h = let b = before_read stream bytes s (More f.1.0) n at f.1.1 tt in (b.0, b.2)
+feeds_before stream bytes (Some s) new taken n steps.Fault at f h = let b = before_read stream bytes s (Fault taken) n at f.1 h in (b.0, b.2)
+feeds_before stream bytes (Some s) new taken n steps.NoMemory at f h = absurd (omega (arith, h, f.0))
 
--- more bytes, without a record or a fault
-pub come_more : (came bytes : List ℕ) (s u : State) → HasCome came (Some s) → AreBytes bytes → scan 0 s bytes ≡ More u → HasCome (came ++ bytes) (Some u)
-come_more came bytes s u h b e =
-    (AreBytes-append came bytes h.0 b, scan-append 0 start came bytes s h.1 ∙ more_any 0 (0 + length came) s bytes u e)
+-- A look tells what a feed takes and answers.
+pub feeds_tell : (old new : Option State) (bytes : List ℕ) (taken : ℕ) (step : Step) → Feeds old bytes taken step new → Tells (look_at bytes (outcome old bytes)) taken step
+feeds_tell old new bytes taken (steps.Record made) f = ap (look_at bytes) f.2
+feeds_tell old new bytes taken steps.More f = ap (look_at bytes) f.1.1 ∙ ap (λ (k : ℕ). (k, looks.More)) (sym f.0)
+feeds_tell old new bytes taken steps.Fault f = ap (look_at bytes) f.1
+feeds_tell old new bytes taken steps.NoMemory f = tt
 
-come_made : (came bytes made : List ℕ) (s : State) (n : ℕ) → HasCome came (Some s) → AreBytes bytes → scan 0 s bytes ≡ Made n made → (n ≤ length bytes) × IsRecord made (came ++ take n bytes)
-come_made came bytes made s n h b e =
-    let says : standing.Says 0 came bytes (Made n made) = subst (standing.Says 0 came bytes) e (scan_says 0 came s bytes b (come_stands came s h)) in
-    let same : says.0 ≡ n = omega (arith, says.1) in
-    (omega (arith, says.2), subst (λ (k : ℕ). IsRecord made (came ++ take k bytes)) same says.3)
+scan_foreseen : (stream bytes : List ℕ) (s : State) (o : Outcome) → (read_stream stream).at ≡ Some s → scan 0 s bytes ≡ o → Foresees stream bytes (look_at bytes o).0 (look_at bytes o).1
+scan_foreseen stream bytes s (More u) at e = (refl, (u, more_read stream bytes s u at e))
+scan_foreseen stream bytes s (Made n made) at e = let r = made_read stream bytes made s n at e in (r.0, r.1, (made, r.2))
+scan_foreseen stream bytes s (Fault n) at e = let r = fault_read stream bytes s n at e in (r.1, r.2)
 
-come_fault : (came bytes : List ℕ) (s : State) (n : ℕ) → HasCome came (Some s) → AreBytes bytes → scan 0 s bytes ≡ Fault n → (n ≤ length bytes) × IsAtFault (came ++ take n bytes)
-come_fault came bytes s n h b e =
-    let says : standing.Says 0 came bytes (Fault n) = subst (standing.Says 0 came bytes) e (scan_says 0 came s bytes b (come_stands came s h)) in
-    let same : says.0 ≡ n = omega (arith, says.1) in
-    (omega (arith, says.2), subst (λ (k : ℕ). IsAtFault (came ++ take k bytes)) same says.3)
+-- what a look says of the stream
+pub look_foresees : (stream bytes : List ℕ) (old : Option State) → (read_stream stream).at ≡ old → Foresees stream bytes (look_at bytes (outcome old bytes)).0 (look_at bytes (outcome old bytes)).1
+look_foresees stream bytes None at = (omega arith, ap read_stream (none_taken stream bytes 0 refl) ∙ ap (λ (o : Option State). record { records = (read_stream stream).records; at = o }) at)
+look_foresees stream bytes (Some s) at = scan_foreseen stream bytes s (scan 0 s bytes) at refl
 
--- What a feed by the machine says in the words of whole streams.
-pub feeds_say : (came bytes : List ℕ) (old new : Option State) (taken : ℕ) (step : Step) → ((i : ℕ) → get_or bytes i 0 < 256) → Feeds old bytes taken step new → HasCome came old → Says came bytes taken step new
-feeds_say came bytes None new taken step b f h = absurd h
-feeds_say came bytes (Some s) new taken (steps.Record made) b f h =
-    let m = come_made came bytes made.items s taken h (are_bytes bytes b) f.2 in
-    (m.0, m.1, f.3)
-feeds_say came bytes (Some s) new taken steps.More b f h =
-    let more = come_more came bytes s f.1.0 h (are_bytes bytes b) f.1.1 in
-    (f.0, none_yet (came ++ bytes) f.1.0 more.1, no_fault_yet (came ++ bytes) f.1.0 more.1, subst (HasCome (came ++ bytes)) (sym f.1.2) more)
-feeds_say came bytes (Some s) new taken steps.Fault b f h =
-    let m = come_fault came bytes s taken h (are_bytes bytes b) f.1 in
-    (m.0, m.1, f.2)
-feeds_say came bytes (Some s) new taken steps.NoMemory b f h = (f.0, subst (HasCome came) (sym f.2) h)
-
--- Whole streams
-
-with_stream : (stream bytes : List ℕ) (s : State) → (read_stream stream).at ≡ Some s → read_stream (stream ++ bytes) ≡ read_on (record { records = (read_stream stream).records; at = Some s }) bytes
-with_stream stream bytes s e = read_stream-append stream bytes ∙ ap (λ (o : Option State). read_on (record { records = (read_stream stream).records; at = o }) bytes) e
-
--- a scan that goes on reads no record, and comes to no fault
-pub more_read : (stream bytes : List ℕ) (s u : State) → (read_stream stream).at ≡ Some s → scan 0 s bytes ≡ More u → read_stream (stream ++ bytes) ≡ record { records = (read_stream stream).records; at = Some u }
-more_read stream bytes s u at e =
-    let reads : ReadsTo 0 s bytes (More u) = subst (ReadsTo 0 s bytes) e (reads_to 0 s bytes) in
-    with_stream stream bytes s at ∙ reads (read_stream stream).records
-
--- a scan that makes a record reads it, and nothing else
-pub made_read : (stream bytes made : List ℕ) (s : State) (n : ℕ) → (read_stream stream).at ≡ Some s → scan 0 s bytes ≡ Made n made
-    → (0 < n) × (n ≤ length bytes) × (read_stream (stream ++ take n bytes) ≡ record { records = (read_stream stream).records ++ made ∷ []; at = Some start })
-made_read stream bytes made s n at e =
-    let reads : ReadsTo 0 s bytes (Made n made) = subst (ReadsTo 0 s bytes) e (reads_to 0 s bytes) in
-    let same : reads.0 ≡ n = omega (arith, reads.1) in
-    (omega (arith, reads.2), omega (arith, reads.3), ap (λ (k : ℕ). read_stream (stream ++ take k bytes)) (sym same) ∙ with_stream stream (take reads.0 bytes) s at ∙ reads.4 (read_stream stream).records)
-
--- a scan that faults reads no record
-pub fault_read : (stream bytes : List ℕ) (s : State) (n : ℕ) → (read_stream stream).at ≡ Some s → scan 0 s bytes ≡ Fault n
-    → (0 < n) × (n ≤ length bytes) × (read_stream (stream ++ take n bytes) ≡ record { records = (read_stream stream).records; at = None })
-fault_read stream bytes s n at e =
-    let reads : ReadsTo 0 s bytes (Fault n) = subst (ReadsTo 0 s bytes) e (reads_to 0 s bytes) in
-    let same : reads.0 ≡ n = omega (arith, reads.1) in
-    (omega (arith, reads.2), omega (arith, reads.3), ap (λ (k : ℕ). read_stream (stream ++ take k bytes)) (sym same) ∙ with_stream stream (take reads.0 bytes) s at ∙ reads.4 (read_stream stream).records)
-
--- fewer bytes than up to a record or a fault read no record, and come to no fault
-pub before_read : (stream bytes : List ℕ) (s : State) (o : Outcome) (n : ℕ) → (read_stream stream).at ≡ Some s → scan 0 s bytes ≡ o → IsBefore n o
+scan_before : (stream bytes : List ℕ) (s : State) (n : ℕ) (o : Outcome) → (read_stream stream).at ≡ Some s → scan 0 s bytes ≡ o → n < (look_at bytes o).0
     → (u : State) × (scan 0 s (take n bytes) ≡ More u) × (read_stream (stream ++ take n bytes) ≡ record { records = (read_stream stream).records; at = Some u })
-before_read stream bytes s o n at e h =
-    let fewer = scan-take 0 n s bytes o e (subst (λ (k : ℕ). IsBefore k o) (omega arith) h) in
-    (fewer.0, fewer.1, more_read stream (take n bytes) s fewer.0 at fewer.1)
+scan_before stream bytes s n (More u) at e h = before_read stream bytes s (More u) n at e tt
+scan_before stream bytes s n (Made k made) at e h = before_read stream bytes s (Made k made) n at e h
+scan_before stream bytes s n (Fault k) at e h = before_read stream bytes s (Fault k) n at e h
+
+-- Fewer bytes than a look tells lead to no record and no fault.
+pub look_before : (stream bytes : List ℕ) (old : Option State) (n : ℕ) → (read_stream stream).at ≡ old → n < (look_at bytes (outcome old bytes)).0
+    → (u : State) × (outcome old (take n bytes) ≡ More u) × (read_stream (stream ++ take n bytes) ≡ record { records = (read_stream stream).records; at = Some u })
+look_before stream bytes None n at h = absurd (omega (arith, h))
+look_before stream bytes (Some s) n at h = scan_before stream bytes s n (scan 0 s bytes) at refl h

@@ -9,7 +9,8 @@ use Rattle.rpc_record.specs.Feeds.{HasCome}
 use Rattle.rpc_record.proofs.Runs.{found, none_yet, no_fault_yet, no_record_at_fault}
 use Rattle.rpc_record.proofs.Scans.{scan-append}
 use Rattle.rpc_record.proofs.Standing.{Stands, Leads, leads}
-use Rattle.rpc_record.proofs.Feeding.{come_stands, AreBytes-append}
+use Rattle.rpc_record.proofs.Bytes.{AreBytes-append}
+use Rattle.rpc_record.proofs.Came.{come_stands}
 
 made_is : (n m : ℕ) (x y : List ℕ) → Made n x ≡ Made m y → (n ≡ m) × (x ≡ y)
 made_is n m x y e = (cc, cc)

@@ -1,6 +1,6 @@
 use Rattle.std.proofs.Common.{ℕ, ◌<◌, get_or, arith}
-use Rattle.rpc_record.proofs.Feeding.{feeds_say}
-use Rattle.rpc_record.proofs.Fed.{feeds_read, feeds_before}
+use Rattle.rpc_record.proofs.Came.{feeds_say}
+use Rattle.rpc_record.proofs.Feeding.{feeds_read, feeds_before}
 use Rattle.rpc_record.proofs.reassembler.Reassembler.feed.Goals as goal
 
 pub returns-clause-says : goal.returns-clause-says

@@ -2,7 +2,7 @@ use Rattle.std.proofs.Common.{◌≡◌, ℕ, List, ap, subst, sym, ◌<◌}
 use Rattle.rpc_record.specs.Machine.{outcome}
 use Rattle.rpc_record.specs.declared.reassembler.Look.{Look}
 use Rattle.rpc_record.specs.Feeds.{Feeds, Tells, Foresees, GoesOn, look_at}
-use Rattle.rpc_record.proofs.Fed.{feeds_tell, look_foresees, look_before}
+use Rattle.rpc_record.proofs.Feeding.{feeds_tell, look_foresees, look_before}
 use Rattle.rpc_record.proofs.reassembler.Reassembler.look.Goals as goal
 
 pub returns-clause-tells : goal.returns-clause-tells
