@@ -2,7 +2,6 @@
 use Rattle.std.proofs.Common.{◌≡◌, ℕ, zero, suc, ◌+◌, ◌<◌, ◌≤◌, List, [], ◌∷◌, ◌++◌, length, take, refl, sym, ap, subst, ◌∙◌, arith, Option, Some, None}
 use Rattle.rpc_record.specs.Machine.{State, start, Next, Goes, Ends, Faults, Outcome, More, Made, Fault, after, go, scan, outcome}
 use Rattle.rpc_record.specs.Stream.{Reading, opening, reading_at, byte_read, read_on, read_stream}
-use Rattle.rpc_record.proofs.Scans.{IsBefore, scan-take}
 
 pub read_on-append : (r : Reading) (xs ys : List ℕ) → read_on r (xs ++ ys) ≡ read_on (read_on r xs) ys
 read_on-append r [] ys = refl
@@ -74,10 +73,3 @@ fault_read stream bytes s n at e =
     let reads : ReadsTo 0 s bytes (Fault n) = subst (ReadsTo 0 s bytes) e (reads_to 0 s bytes) in
     let same : reads.0 ≡ n = omega (arith, reads.1) in
     (omega (arith, reads.2), omega (arith, reads.3), ap (λ (k : ℕ). read_stream (stream ++ take k bytes)) (sym same) ∙ with_stream stream (take reads.0 bytes) s at ∙ reads.4 (read_stream stream).records)
-
--- fewer bytes than up to a record or a fault read no record, and come to no fault
-pub before_read : (stream bytes : List ℕ) (s : State) (o : Outcome) (n : ℕ) → (read_stream stream).at ≡ Some s → scan 0 s bytes ≡ o → IsBefore n o
-    → (u : State) × (scan 0 s (take n bytes) ≡ More u) × (read_stream (stream ++ take n bytes) ≡ record { records = (read_stream stream).records; at = Some u })
-before_read stream bytes s o n at e h =
-    let fewer = scan-take 0 n s bytes o e (subst (λ (k : ℕ). IsBefore k o) (omega arith) h) in
-    (fewer.0, fewer.1, more_read stream (take n bytes) s fewer.0 at fewer.1)

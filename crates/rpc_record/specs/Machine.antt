@@ -1,5 +1,5 @@
 -- Record marking a byte at a time: what each byte of a stream leads to.
-use Rattle.std.specs.Prelude.{ℕ, ◌+◌, ◌-◌, ◌%◌, Bool, nat_lt, nat_le, ◌==◌, List, [], ◌∷◌, ◌++◌, length, if◌then◌else◌, Option, Some, None}
+use Rattle.std.specs.Prelude.{◌≡◌, ℕ, ◌+◌, ◌-◌, ◌%◌, Bool, nat_lt, nat_le, ◌==◌, List, [], ◌∷◌, ◌++◌, length, if◌then◌else◌, Option, Some, None}
 use Rattle.std.specs.Int.{w32, from_be_bytes}
 use Rattle.rpc_record.specs.Records.{limit}
 
@@ -59,3 +59,7 @@ scan taken state (b ∷ bytes) = go (taken + 1) (after state b) (λ next. scan (
 abbrev pub outcome : Option State → List ℕ → Outcome
 outcome None bytes = Fault 0
 outcome (Some state) bytes = scan 0 state bytes
+
+-- these bytes lead to no record and no fault
+abbrev pub IsMore : Outcome → Type 0
+IsMore o = (state : State) × (o ≡ More state)

@@ -1,5 +1,5 @@
 ghost use Rattle.std.specs.Prelude.{◌≡◌, ◌≤◌, ◌<◌, ◌++◌, List, ℕ, length, take, Option, Some, None, IsSome};
-ghost use Rattle.rpc_record.specs.Machine.{State, start, outcome};
+ghost use Rattle.rpc_record.specs.Machine.{State, start, outcome, IsMore};
 ghost use Rattle.rpc_record.specs.Stream.{read_stream};
 ghost use Rattle.rpc_record.specs.Feeds.{Feeds, GoesOn, Foresees, HasCome, Says, given, look_at, Tells};
 ghost use Rattle.rpc_record.specs.declared.reassembler.Step.{Step};
@@ -75,6 +75,7 @@ impl Reassembler {
     pub fn feed(&mut self, bytes: &[u8]) -> (usize, Step)
         ensures feeds { Feeds self.old bytes.now result.0 result.1 self.new }
         ensures within { result.0 ≤ length bytes.now }
+        ensures fewer { (n : ℕ) → n < result.0 → IsMore (outcome self.old (take n bytes.now)) }
         ensures failed { self.old ≡ None → (result ≡ (0, steps.Fault)) × (self.new ≡ None) }
 
         // Of what has come since the last record, in the words of whole streams.
@@ -83,7 +84,7 @@ impl Reassembler {
         // Of a whole stream that the caller keeps.
         ensures reads { (stream : List ℕ) → (read_stream stream).at ≡ self.old
             → read_stream (stream ++ take result.0 bytes.now) ≡ record { records = (read_stream stream).records ++ given result.1; at = self.new } }
-        ensures before { (stream : List ℕ) (n : ℕ) → (read_stream stream).at ≡ self.old → n < result.0 → GoesOn stream (take n bytes.now) }
+        ensures goes_on { (stream : List ℕ) (n : ℕ) → (read_stream stream).at ≡ self.old → n < result.0 → GoesOn stream (take n bytes.now) }
     {
         if self.failed {
             return (0, Step::Fault);
@@ -122,9 +123,13 @@ impl Reassembler {
     /// Tells what `feed` would take of these bytes, and what it would answer if memory is there.
     pub fn look(&self, bytes: &[u8]) -> (usize, Look)
         ensures looks { result ≡ look_at bytes.now (outcome self.now bytes.now) }
+        ensures within { result.0 ≤ length bytes.now }
+        ensures fewer { (n : ℕ) → n < result.0 → IsMore (outcome self.now (take n bytes.now)) }
         ensures tells { (taken : ℕ) (step : Step) (new : Option State) → Feeds self.now bytes.now taken step new → Tells result taken step }
+
+        // Of a whole stream that the caller keeps.
         ensures foresees { (stream : List ℕ) → (read_stream stream).at ≡ self.now → Foresees stream bytes.now result.0 result.1 }
-        ensures before { (stream : List ℕ) (n : ℕ) → (read_stream stream).at ≡ self.now → n < result.0 → GoesOn stream (take n bytes.now) }
+        ensures goes_on { (stream : List ℕ) (n : ℕ) → (read_stream stream).at ≡ self.now → n < result.0 → GoesOn stream (take n bytes.now) }
     {
         if self.failed {
             return (0, Look::Fault);

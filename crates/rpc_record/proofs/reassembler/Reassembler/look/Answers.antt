@@ -1,9 +1,15 @@
-use Rattle.std.proofs.Common.{◌≡◌, ℕ, List, ap, subst, sym, ◌<◌}
-use Rattle.rpc_record.specs.Machine.{outcome}
-use Rattle.rpc_record.specs.declared.reassembler.Look.{Look}
+use Rattle.std.proofs.Common.{◌≡◌, ℕ, List, ◌<◌, ◌≤◌, length, take}
+use Rattle.rpc_record.specs.Machine.{outcome, IsMore}
 use Rattle.rpc_record.specs.Feeds.{Feeds, Tells, Foresees, GoesOn, look_at}
-use Rattle.rpc_record.proofs.Feeding.{feeds_tell, look_foresees, look_before}
+use Rattle.rpc_record.proofs.Feeding.{look_within, look_fewer, feeds_tell, look_foresees, more_goes_on}
 use Rattle.rpc_record.proofs.reassembler.Reassembler.look.Goals as goal
+
+pub returns-clause-within : goal.returns-clause-within
+returns-clause-within c = rw c.look_ahead.ensures (look_within c.args.bytes.now c.args.self.now)
+
+pub returns-clause-fewer : goal.returns-clause-fewer
+returns-clause-fewer c = λ n less.
+    look_fewer c.args.bytes.now c.args.self.now n (rw c.look_ahead.ensures at less)
 
 pub returns-clause-tells : goal.returns-clause-tells
 returns-clause-tells c = λ taken step new fed.
@@ -13,7 +19,6 @@ pub returns-clause-foresees : goal.returns-clause-foresees
 returns-clause-foresees c = λ stream at.
     rw c.look_ahead.ensures (look_foresees stream c.args.bytes.now c.args.self.now at)
 
-pub returns-clause-before : goal.returns-clause-before
-returns-clause-before c = λ stream n at fewer.
-    let b = look_before stream c.args.bytes.now c.args.self.now n at (rw c.look_ahead.ensures at fewer) in
-    (b.0, b.2)
+pub returns-clause-goes_on : goal.returns-clause-goes_on
+returns-clause-goes_on c = λ stream n at less.
+    more_goes_on stream (take n c.args.bytes.now) c.args.self.now at (look_fewer c.args.bytes.now c.args.self.now n (rw c.look_ahead.ensures at less))
