@@ -1,7 +1,10 @@
+pub mod Bytes
 pub mod Runs
 pub mod Standing
-pub mod Chunks
-pub mod Walks
 pub mod Scans
 pub mod Streams
+pub mod Chunks
+pub mod Walks
+pub mod Came
 pub mod Feeding
+pub mod Unique

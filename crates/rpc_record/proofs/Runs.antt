@@ -6,64 +6,57 @@ use Rattle.std.specs.Int.{w32, to_be_bytes, from_be_bytes}
 use Rattle.std.proofs.lemmas.Bool.Decides.{nat_tests}
 use Rattle.std.proofs.lemmas.List.{append-nil}
 use Rattle.std.proofs.lemmas.Nat.{from_be_bytes-to_be_bytes_4}
-use Rattle.rpc_record.specs.Records.{limit, header, fragment, front, IsRecord, IsAtFault, HasNoRecord, HasNoFault}
+use Rattle.rpc_record.specs.Records.{limit, last_bit, header, fragment, front, IsRecord, IsAtFault, HasNoRecord, HasNoFault}
+use Rattle.rpc_record.specs.Place.{after_data, rest_of}
+use Rattle.rpc_record.proofs.Chunks.{data_run}
 use Rattle.rpc_record.specs.Machine.{State, InHeader, InData, Next, Goes, Ends, Faults, Outcome, More, Made, Fault, after_fragment, after_header, after, go, scan}
 
-abbrev pub resume : ℕ → Next → List ℕ → Outcome
-resume t n bytes = go t n (λ s. scan t s bytes)
+same_at : (t u : ℕ) (n : Next) (bytes : List ℕ) → t ≡ u → rest_of t n bytes ≡ rest_of u n bytes
+same_at t u n bytes e = ap (λ (k : ℕ). rest_of k n bytes) e
 
-same_at : (t u : ℕ) (n : Next) (bytes : List ℕ) → t ≡ u → resume t n bytes ≡ resume u n bytes
-same_at t u n bytes e = ap (λ (k : ℕ). resume k n bytes) e
+-- all of a fragment's data
+data_ends : (part rest joined : List ℕ) (t : ℕ) (last : Bool) → 0 < length part → scan t (InData joined (length part) last) (part ++ rest) ≡ rest_of (t + length part) (after_fragment (joined ++ part) last) rest
+data_ends part rest joined t last some =
+    let none_left : length part - length part ≡ 0 = omega arith in
+    data_run part rest joined t (length part) last some (omega arith)
+    ∙ ap (λ (left : ℕ). rest_of (t + length part) (after_data (joined ++ part) left last) rest) none_left
 
-not_one : (n : ℕ) → eqb (suc (suc n)) 1 ≡ false
-not_one n = grind (arith, nat_tests)
-
--- a fragment's bytes
-body_run : (p rest : List ℕ) (b t : ℕ) (joined : List ℕ) (last : Bool) → scan t (InData joined (suc (length p)) last) (b ∷ (p ++ rest)) ≡ resume (t + suc (length p)) (after_fragment (joined ++ b ∷ p) last) rest
-body_run [] rest b t joined last = refl
-body_run (c ∷ p) rest b t joined last =
-    let turn : after (InData joined (suc (suc (length p))) last) b ≡ Goes (InData (joined ++ b ∷ []) (suc (length p)) last) = rw (not_one (length p)) (ap (λ (k : ℕ). Goes (InData (joined ++ b ∷ []) k last)) (omega arith)) in
-    let first : scan t (InData joined (suc (suc (length p))) last) (b ∷ (c ∷ p ++ rest)) ≡ scan (t + 1) (InData (joined ++ b ∷ []) (suc (length p)) last) (c ∷ (p ++ rest)) = rw turn refl in
-    first ∙ body_run p rest c (t + 1) (joined ++ b ∷ []) last
-    ∙ ap (λ (j : List ℕ). resume (t + 1 + suc (length p)) (after_fragment j last) rest) (append_assoc joined (b ∷ []) (c ∷ p))
-    ∙ same_at (t + 1 + suc (length p)) (t + suc (suc (length p))) (after_fragment (joined ++ b ∷ c ∷ p) last) rest (omega arith)
-
--- a header
-header_run : (number t : ℕ) (joined rest : List ℕ) → number < 2 ^ 32 → scan t (InHeader joined []) (to_be_bytes w32 number ++ rest) ≡ resume (t + 4) (after_header joined number) rest
+-- a whole header
+header_run : (number t : ℕ) (joined rest : List ℕ) → number < 2 ^ 32 → scan t (InHeader joined []) (to_be_bytes w32 number ++ rest) ≡ rest_of (t + 4) (after_header joined number) rest
 header_run number t joined rest lt =
-    ap (λ (k : ℕ). resume (t + 1 + 1 + 1 + 1) (after_header joined k) rest) (from_be_bytes-to_be_bytes_4 number lt)
+    ap (λ (k : ℕ). rest_of (t + 1 + 1 + 1 + 1) (after_header joined k) rest) (from_be_bytes-to_be_bytes_4 number lt)
     ∙ same_at (t + 1 + 1 + 1 + 1) (t + 4) (after_header joined number) rest (omega arith)
 
-size_is : (n : ℕ) (last : Bool) → n < 2 ^ 31 → (n + cond last 2147483648 0) % 2147483648 ≡ n
+size_is : (n : ℕ) (last : Bool) → n < 2 ^ 31 → (n + cond last last_bit 0) % last_bit ≡ n
 size_is n true h = omega arith
 size_is n false h = omega arith
 
-last_is : (n : ℕ) (last : Bool) → n < 2 ^ 31 → nat_le 2147483648 (n + cond last 2147483648 0) ≡ last
+last_is : (n : ℕ) (last : Bool) → n < 2 ^ 31 → nat_le last_bit (n + cond last last_bit 0) ≡ last
 last_is n true h = grind (arith, nat_tests)
 last_is n false h = grind (arith, nat_tests)
 
-number_fits : (n : ℕ) (last : Bool) → n < 2 ^ 31 → n + cond last 2147483648 0 < 2 ^ 32
+number_fits : (n : ℕ) (last : Bool) → n < 2 ^ 31 → n + cond last last_bit 0 < 2 ^ 32
 number_fits n true h = omega arith
 number_fits n false h = omega arith
 
-entered : (joined : List ℕ) (n : ℕ) (last : Bool) → length joined + n ≤ limit → after_header joined (n + cond last 2147483648 0) ≡ cond (eqb n 0) (after_fragment joined last) (Goes (InData joined n last))
+entered : (joined : List ℕ) (n : ℕ) (last : Bool) → length joined + n ≤ limit → after_header joined (n + cond last last_bit 0) ≡ cond (eqb n 0) (after_fragment joined last) (Goes (InData joined n last))
 entered joined n last h =
     let small : ltb limit (length joined + n) ≡ false = grind (arith, nat_tests) in
     rw (size_is n last (omega arith), last_is n last (omega arith), small) refl
 
 -- a whole fragment
-fragment_run : (p rest : List ℕ) (t : ℕ) (joined : List ℕ) (last : Bool) → length joined + length p ≤ limit → scan t (InHeader joined []) (fragment last p ++ rest) ≡ resume (t + length (fragment last p)) (after_fragment (joined ++ p) last) rest
+fragment_run : (p rest : List ℕ) (t : ℕ) (joined : List ℕ) (last : Bool) → length joined + length p ≤ limit → scan t (InHeader joined []) (fragment last p ++ rest) ≡ rest_of (t + length (fragment last p)) (after_fragment (joined ++ p) last) rest
 fragment_run [] rest t joined last h =
-    header_run (0 + cond last 2147483648 0) t joined rest (number_fits 0 last (omega arith))
-    ∙ ap (λ (n : Next). resume (t + 4) n rest) (entered joined 0 last h)
-    ∙ ap (λ (j : List ℕ). resume (t + 4) (after_fragment j last) rest) (sym (append-nil joined))
+    header_run (0 + cond last last_bit 0) t joined rest (number_fits 0 last (omega arith))
+    ∙ ap (λ (n : Next). rest_of (t + 4) n rest) (entered joined 0 last h)
+    ∙ ap (λ (j : List ℕ). rest_of (t + 4) (after_fragment j last) rest) (sym (append-nil joined))
 fragment_run (b ∷ p) rest t joined last h =
-    let number = suc (length p) + cond last 2147483648 0 in
+    let number = suc (length p) + cond last last_bit 0 in
     let some : eqb (suc (length p)) 0 ≡ false = grind (arith, nat_tests) in
     let goes : after_header joined number ≡ Goes (InData joined (suc (length p)) last) = entered joined (suc (length p)) last h ∙ rw some refl in
     header_run number t joined (b ∷ (p ++ rest)) (number_fits (suc (length p)) last (omega arith))
-    ∙ ap (λ (n : Next). resume (t + 4) n (b ∷ (p ++ rest))) goes
-    ∙ body_run p rest b (t + 4) joined last
+    ∙ ap (λ (n : Next). rest_of (t + 4) n (b ∷ (p ++ rest))) goes
+    ∙ data_ends (b ∷ p) rest joined (t + 4) last (omega arith)
     ∙ same_at (t + 4 + suc (length p)) (t + length (fragment last (b ∷ p))) (after_fragment (joined ++ b ∷ p) last) rest (omega arith)
 
 -- fragments that are not the last
@@ -99,7 +92,7 @@ none_yet bytes s e made spelled rest parts r =
     absurd cc
 
 -- a header that brings the record above the limit
-above_limit : (joined : List ℕ) (n : ℕ) (last : Bool) → n < 2 ^ 31 → limit < length joined + n → after_header joined (n + cond last 2147483648 0) ≡ Faults
+above_limit : (joined : List ℕ) (n : ℕ) (last : Bool) → n < 2 ^ 31 → limit < length joined + n → after_header joined (n + cond last last_bit 0) ≡ Faults
 above_limit joined n last fits h =
     let big : ltb limit (length joined + n) ≡ true = grind (arith, nat_tests) in
     rw (size_is n last fits, big) refl
@@ -108,12 +101,12 @@ above_limit joined n last fits h =
 pub fault_found : (begun rest : List ℕ) → IsAtFault begun → scan 0 (InHeader [] []) (begun ++ rest) ≡ Fault (length begun)
 fault_found begun rest f =
     let h = header f.last f.size in
-    let number = f.size + cond f.last 2147483648 0 in
+    let number = f.size + cond f.last last_bit 0 in
     ap (λ (s : List ℕ). scan 0 (InHeader [] []) (s ++ rest)) f.bytes_are
     ∙ ap (scan 0 (InHeader [] [])) (append_assoc (front f.parts) h rest)
     ∙ front_run f.parts (h ++ rest) 0 [] (omega (arith, f.before))
     ∙ header_run number (0 + length (front f.parts)) (concat f.parts) rest (number_fits f.size f.last f.fits)
-    ∙ ap (λ (n : Next). resume (0 + length (front f.parts) + 4) n rest) (above_limit (concat f.parts) f.size f.last f.fits f.above)
+    ∙ ap (λ (n : Next). rest_of (0 + length (front f.parts) + 4) n rest) (above_limit (concat f.parts) f.size f.last f.fits f.above)
     ∙ ap (λ (k : ℕ). Fault k) (omega (arith, length-append (front f.parts) h, ap length f.bytes_are))
 
 -- Where the scan goes on, no header is at fault.

@@ -8,7 +8,7 @@ use Rattle.std.proofs.lemmas.Bool.{eqb-true, eqb-false, ltb-true, ltb-false, leb
 use Rattle.std.proofs.lemmas.List.{append-nil}
 use Rattle.std.proofs.lemmas.Nat.{be_bytes_4}
 use Rattle.rpc_record.specs.Stream.{AreBytes}
-use Rattle.rpc_record.specs.Records.{limit, fragment, front, IsRecord, IsAtFault, HasNoRecord}
+use Rattle.rpc_record.specs.Records.{limit, last_bit, fragment, front, IsRecord, IsAtFault, HasNoRecord}
 use Rattle.rpc_record.specs.Machine.{State, InHeader, InData, Next, Goes, Ends, Faults, Outcome, More, Made, Fault, after_fragment, after_header, after, go, scan}
 
 pub below : (bytes : List ℕ) → AreBytes bytes → (i : ℕ) → get_or bytes i 0 < 256
@@ -33,7 +33,7 @@ pub record DataStands (came joined : List ℕ) (left : ℕ) (last : Bool) : Type
   pub part : List ℕ
   pub size : ℕ
   pub joined_is : joined ≡ concat parts ++ part
-  pub came_is : came ≡ front parts ++ (to_be_bytes w32 (size + cond last 2147483648 0) ++ part)
+  pub came_is : came ≡ front parts ++ (to_be_bytes w32 (size + cond last last_bit 0) ++ part)
   pub size_is : length part + left ≡ size
   pub some : 0 < left
   pub small : length (concat parts) + size ≤ limit
@@ -71,24 +71,24 @@ cond_leads : (b : Bool) (x y : Next) (came : List ℕ) → (b ≡ true → Leads
 cond_leads true x y came p q = p refl
 cond_leads false x y came p q = q refl
 
-number_by : (b : Bool) (number : ℕ) → number < 2 ^ 32 → nat_le 2147483648 number ≡ b → number ≡ number % 2147483648 + cond b 2147483648 0
-number_by true number h e = omega (arith, leb-true 2147483648 number e)
-number_by false number h e = let lt : number < 2147483648 = grind (arith, nat_tests) in omega arith
+number_by : (b : Bool) (number : ℕ) → number < 2 ^ 32 → nat_le last_bit number ≡ b → number ≡ number % last_bit + cond b last_bit 0
+number_by true number h e = omega (arith, leb-true last_bit number e)
+number_by false number h e = let lt : number < last_bit = grind (arith, nat_tests) in omega arith
 
-number_is : (number : ℕ) → number < 2 ^ 32 → number ≡ number % 2147483648 + cond (nat_le 2147483648 number) 2147483648 0
-number_is number h = number_by (nat_le 2147483648 number) number h refl
+number_is : (number : ℕ) → number < 2 ^ 32 → number ≡ number % last_bit + cond (nat_le last_bit number) last_bit 0
+number_is number h = number_by (nat_le last_bit number) number h refl
 
 entered : (parts : List (List ℕ)) (came : List ℕ) (number : ℕ) → number < 2 ^ 32 → length (concat parts) ≤ limit → came ≡ front parts ++ to_be_bytes w32 number → Leads came (after_header (concat parts) number)
 entered parts came number fits small e =
-    let size = number % 2147483648 in
-    let last = nat_le 2147483648 number in
-    let split : number ≡ size + cond last 2147483648 0 = number_is number fits in
+    let size = number % last_bit in
+    let last = nat_le last_bit number in
+    let split : number ≡ size + cond last last_bit 0 = number_is number fits in
     cond_leads (ltb limit (length (concat parts) + size)) Faults (cond (eqb size 0) (after_fragment (concat parts) last) (Goes (InData (concat parts) size last))) came
     (λ big. record { parts = parts; last = last; size = size; fits = omega arith; before = small; above = ltb-true _ _ big; bytes_are = e ∙ ap (λ (n : ℕ). front parts ++ to_be_bytes w32 n) split })
     (λ room. cond_leads (eqb size 0) (after_fragment (concat parts) last) (Goes (InData (concat parts) size last)) came
     (λ none. let zero_size : size ≡ 0 = eqb-true _ _ none in
     subst (λ (j : List ℕ). Leads came (after_fragment j last)) (append-nil (concat parts))
-    (ended parts [] came last (omega arith) (e ∙ ap (λ (n : ℕ). front parts ++ to_be_bytes w32 n) (split ∙ ap (λ (k : ℕ). k + cond last 2147483648 0) zero_size) ∙ ap (λ (x : List ℕ). front parts ++ x) (sym (append-nil _)))))
+    (ended parts [] came last (omega arith) (e ∙ ap (λ (n : ℕ). front parts ++ to_be_bytes w32 n) (split ∙ ap (λ (k : ℕ). k + cond last last_bit 0) zero_size) ∙ ap (λ (x : List ℕ). front parts ++ x) (sym (append-nil _)))))
     (λ some. let positive : 0 < size = grind (arith, nat_tests) in
     record {
       parts = parts;
@@ -120,14 +120,14 @@ leads came (InHeader joined header) b lt h =
     record { parts = h.parts; joined_is = h.joined_is; came_is = now; short = omega (arith, length-append header (b ∷ []), h.short); bytes = AreBytes-push header b h.bytes lt; small = h.small })
 leads came (InData joined left last) b lt h =
     let part = h.part ++ b ∷ [] in
-    let head = to_be_bytes w32 (h.size + cond last 2147483648 0) in
+    let head = to_be_bytes w32 (h.size + cond last last_bit 0) in
     let now : came ++ b ∷ [] ≡ front h.parts ++ (head ++ part) = ap (λ (x : List ℕ). x ++ b ∷ []) h.came_is ∙ append_assoc (front h.parts) (head ++ h.part) (b ∷ []) ∙ ap (λ (x : List ℕ). front h.parts ++ x) (append_assoc head h.part (b ∷ [])) in
     let joins : joined ++ b ∷ [] ≡ concat h.parts ++ part = ap (λ (x : List ℕ). x ++ b ∷ []) h.joined_is ∙ append_assoc (concat h.parts) h.part (b ∷ []) in
     cond_leads (eqb left 1) (after_fragment (joined ++ b ∷ []) last) (Goes (InData (joined ++ b ∷ []) (left - 1) last)) (came ++ b ∷ [])
     (λ full.
     let len : h.size ≡ length part = omega (arith, length-append h.part (b ∷ []), eqb-true left 1 full, h.size_is) in
     subst (λ (j : List ℕ). Leads (came ++ b ∷ []) (after_fragment j last)) (sym joins)
-    (ended h.parts part (came ++ b ∷ []) last (omega (arith, h.small, len)) (now ∙ ap (λ (n : ℕ). front h.parts ++ (to_be_bytes w32 (n + cond last 2147483648 0) ++ part)) len)))
+    (ended h.parts part (came ++ b ∷ []) last (omega (arith, h.small, len)) (now ∙ ap (λ (n : ℕ). front h.parts ++ (to_be_bytes w32 (n + cond last last_bit 0) ++ part)) len)))
     (λ more.
     let less : left ≢ 1 = eqb-false left 1 more in
     record { parts = h.parts; part = part; size = h.size; joined_is = joins; came_is = now; size_is = omega (arith, length-append h.part (b ∷ []), h.size_is, h.some); some = omega (arith, h.some); small = h.small })

@@ -48,3 +48,28 @@ with_byte t s b bytes (Fault n) h = (suc h.0, h.1, omega arith, omega (arith, h.
 pub reads_to : (t : ℕ) (s : State) (bytes : List ℕ) → ReadsTo t s bytes (scan t s bytes)
 reads_to t s [] = λ records. refl
 reads_to t s (b ∷ bytes) = with_byte t s b bytes (scan t s (b ∷ bytes)) (past t (after s b) bytes (λ v. reads_to (t + 1) v bytes))
+
+with_stream : (stream bytes : List ℕ) (s : State) → (read_stream stream).at ≡ Some s → read_stream (stream ++ bytes) ≡ read_on (record { records = (read_stream stream).records; at = Some s }) bytes
+with_stream stream bytes s e = read_stream-append stream bytes ∙ ap (λ (o : Option State). read_on (record { records = (read_stream stream).records; at = o }) bytes) e
+
+-- a scan that goes on reads no record, and comes to no fault
+pub more_read : (stream bytes : List ℕ) (s u : State) → (read_stream stream).at ≡ Some s → scan 0 s bytes ≡ More u → read_stream (stream ++ bytes) ≡ record { records = (read_stream stream).records; at = Some u }
+more_read stream bytes s u at e =
+    let reads : ReadsTo 0 s bytes (More u) = subst (ReadsTo 0 s bytes) e (reads_to 0 s bytes) in
+    with_stream stream bytes s at ∙ reads (read_stream stream).records
+
+-- a scan that makes a record reads it, and nothing else
+pub made_read : (stream bytes made : List ℕ) (s : State) (n : ℕ) → (read_stream stream).at ≡ Some s → scan 0 s bytes ≡ Made n made
+    → (0 < n) × (n ≤ length bytes) × (read_stream (stream ++ take n bytes) ≡ record { records = (read_stream stream).records ++ made ∷ []; at = Some start })
+made_read stream bytes made s n at e =
+    let reads : ReadsTo 0 s bytes (Made n made) = subst (ReadsTo 0 s bytes) e (reads_to 0 s bytes) in
+    let same : reads.0 ≡ n = omega (arith, reads.1) in
+    (omega (arith, reads.2), omega (arith, reads.3), ap (λ (k : ℕ). read_stream (stream ++ take k bytes)) (sym same) ∙ with_stream stream (take reads.0 bytes) s at ∙ reads.4 (read_stream stream).records)
+
+-- a scan that faults reads no record
+pub fault_read : (stream bytes : List ℕ) (s : State) (n : ℕ) → (read_stream stream).at ≡ Some s → scan 0 s bytes ≡ Fault n
+    → (0 < n) × (n ≤ length bytes) × (read_stream (stream ++ take n bytes) ≡ record { records = (read_stream stream).records; at = None })
+fault_read stream bytes s n at e =
+    let reads : ReadsTo 0 s bytes (Fault n) = subst (ReadsTo 0 s bytes) e (reads_to 0 s bytes) in
+    let same : reads.0 ≡ n = omega (arith, reads.1) in
+    (omega (arith, reads.2), omega (arith, reads.3), ap (λ (k : ℕ). read_stream (stream ++ take k bytes)) (sym same) ∙ with_stream stream (take reads.0 bytes) s at ∙ reads.4 (read_stream stream).records)

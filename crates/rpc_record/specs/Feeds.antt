@@ -6,13 +6,13 @@ use Rattle.rpc_record.specs.declared.reassembler.Look.{Look}
 use Rattle.rpc_record.specs.declared.reassembler.Look.TheVariants as looks
 use Rattle.rpc_record.specs.Records.{IsRecord, HasNoRecord, IsAtFault, HasNoFault}
 use Rattle.rpc_record.specs.Machine.{State, start, Outcome, More, Made, Fault, scan, outcome}
-use Rattle.rpc_record.specs.Stream.{AreBytes}
+use Rattle.rpc_record.specs.Stream.{AreBytes, read_stream}
 
 -- Feeding these bytes takes so many of them, answers this, and leads from the old state to the new one.
 abbrev pub Feeds : Option State → List ℕ → ℕ → Step → Option State → Type 0
-Feeds old bytes taken (steps.Record made) new = (outcome old bytes ≡ Made taken made.items) × (new ≡ Some start)
+Feeds old bytes taken (steps.Record made) new = (0 < taken) × (taken ≤ length bytes) × (outcome old bytes ≡ Made taken made.items) × (new ≡ Some start)
 Feeds old bytes taken steps.More new = (taken ≡ length bytes) × ((state : State) × (outcome old bytes ≡ More state) × (new ≡ Some state))
-Feeds old bytes taken steps.Fault new = (outcome old bytes ≡ Fault taken) × (new ≡ None)
+Feeds old bytes taken steps.Fault new = (taken ≤ length bytes) × (outcome old bytes ≡ Fault taken) × (new ≡ None)
 Feeds old bytes taken steps.NoMemory new = (taken ≡ 0) × IsSome old × (new ≡ old)
 
 -- These bytes have come since the last record, and no fault was told.
@@ -46,3 +46,13 @@ Tells told taken (steps.Record _) = told ≡ (taken, looks.Record)
 Tells told taken steps.More = told ≡ (taken, looks.More)
 Tells told taken steps.Fault = told ≡ (taken, looks.Fault)
 Tells told taken steps.NoMemory = Unit {0}
+
+-- These bytes make no record of the stream, and no header in them is at fault.
+abbrev pub GoesOn : List ℕ → List ℕ → Type 0
+GoesOn stream bytes = (state : State) × (read_stream (stream ++ bytes) ≡ record { records = (read_stream stream).records; at = Some state })
+
+-- what a look says of a stream that goes on with these bytes
+abbrev pub Foresees : List ℕ → List ℕ → ℕ → Look → Type 0
+Foresees stream bytes taken looks.Record = (0 < taken) × (taken ≤ length bytes) × ((made : List ℕ) × (read_stream (stream ++ take taken bytes) ≡ record { records = (read_stream stream).records ++ made ∷ []; at = Some start }))
+Foresees stream bytes taken looks.More = (taken ≡ length bytes) × GoesOn stream bytes
+Foresees stream bytes taken looks.Fault = (taken ≤ length bytes) × (read_stream (stream ++ take taken bytes) ≡ record { records = (read_stream stream).records; at = None })

@@ -1,7 +1,7 @@
 -- Record marking a byte at a time: what each byte of a stream leads to.
-use Rattle.std.specs.Prelude.{ℕ, ◌+◌, ◌-◌, ◌%◌, Bool, nat_lt, nat_le, ◌==◌, List, [], ◌∷◌, ◌++◌, length, if◌then◌else◌, Option, Some, None}
+use Rattle.std.specs.Prelude.{◌≡◌, ℕ, ◌+◌, ◌-◌, ◌%◌, Bool, nat_lt, nat_le, ◌==◌, List, [], ◌∷◌, ◌++◌, length, if◌then◌else◌, Option, Some, None}
 use Rattle.std.specs.Int.{w32, from_be_bytes}
-use Rattle.rpc_record.specs.Records.{limit}
+use Rattle.rpc_record.specs.Records.{limit, last_bit}
 
 -- What has come since the last record: the joined data and fewer than four bytes of a header; or the joined data, how much of a fragment is missing, and whether it is the last.
 pub data State : Type 0 where
@@ -25,9 +25,9 @@ after_fragment joined last = if last then Ends joined else Goes (InHeader joined
 -- what a whole header leads to, read as a number
 abbrev pub after_header : List ℕ → ℕ → Next
 after_header joined number =
-    if nat_lt limit (length joined + number % 2147483648) then Faults
-    else if number % 2147483648 == 0 then after_fragment joined (nat_le 2147483648 number)
-    else Goes (InData joined (number % 2147483648) (nat_le 2147483648 number))
+    if nat_lt limit (length joined + number % last_bit) then Faults
+    else if number % last_bit == 0 then after_fragment joined (nat_le last_bit number)
+    else Goes (InData joined (number % last_bit) (nat_le last_bit number))
 
 -- what one more byte leads to
 abbrev pub after : State → ℕ → Next
@@ -59,3 +59,7 @@ scan taken state (b ∷ bytes) = go (taken + 1) (after state b) (λ next. scan (
 abbrev pub outcome : Option State → List ℕ → Outcome
 outcome None bytes = Fault 0
 outcome (Some state) bytes = scan 0 state bytes
+
+-- these bytes lead to no record and no fault
+abbrev pub IsMore : Outcome → Type 0
+IsMore o = (state : State) × (o ≡ More state)

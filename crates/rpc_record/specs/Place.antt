@@ -52,4 +52,3 @@ abbrev pub walk_to : List ℕ → Outcome → ℕ × Turn
 walk_to bytes (More _) = (length bytes, turns.Goes)
 walk_to bytes (Made taken _) = (taken, turns.Ends)
 walk_to bytes (Fault taken) = (taken, turns.Faults)
-

@@ -7,9 +7,13 @@ use Rattle.std.specs.Int.{w32, to_be_bytes}
 abbrev pub limit : ℕ
 limit = 131072
 
+-- the bit of a header that marks the last fragment (RFC 5531, section 11)
+abbrev pub last_bit : ℕ
+last_bit = 2147483648
+
 -- a fragment's header (RFC 5531, section 11): its size in the low 31 bits, and the top bit where it is the last
 abbrev pub header : Bool → ℕ → List ℕ
-header last size = to_be_bytes w32 (size + (if last then 2147483648 else 0))
+header last size = to_be_bytes w32 (size + (if last then last_bit else 0))
 
 -- a fragment (RFC 5531, section 11): its header, then its data
 abbrev pub fragment : Bool → List ℕ → List ℕ

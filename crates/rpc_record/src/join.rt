@@ -7,7 +7,11 @@ use crate::place::{Place, Turn};
 use std::alloc::AllocError;
 
 /// Joins the data up to the end of a record or a fault. At a refused growth the data that was there is kept, and more may stand after it.
-pub(crate) fn join(joined: &mut Vec<u8>, place: &mut Place, bytes: &[u8]) -> Result<(usize, Turn), AllocError>
+pub(crate) fn join(
+    joined: &mut Vec<u8>,
+    place: &mut Place,
+    bytes: &[u8],
+) -> Result<(usize, Turn), AllocError>
     requires sound { IsSound place.old }
     requires joined { vec_len joined.old ≡ place.old.joined }
     ensures scanned { IfOk result (λ r. scan 0 (state joined.old.items place.old) bytes.now ≡ outcome_of r.0 r.1 joined.new.items place.new) }

@@ -1,7 +1,7 @@
-ghost use Rattle.std.specs.Prelude.{◌≡◌, ◌≤◌, ◌<◌, ◌++◌, List, ℕ, length, take, Some, None};
-ghost use Rattle.rpc_record.specs.Machine.{State, start, outcome};
+ghost use Rattle.std.specs.Prelude.{◌≡◌, ◌≤◌, ◌<◌, ◌++◌, List, ℕ, length, take, Option, Some, None, IsSome};
+ghost use Rattle.rpc_record.specs.Machine.{State, start, outcome, IsMore};
 ghost use Rattle.rpc_record.specs.Stream.{read_stream};
-ghost use Rattle.rpc_record.specs.Feeds.{Feeds, HasCome, Says, given, look_at, Tells};
+ghost use Rattle.rpc_record.specs.Feeds.{Feeds, GoesOn, Foresees, HasCome, Says, given, look_at, Tells};
 ghost use Rattle.rpc_record.specs.declared.reassembler.Step.{Step};
 ghost use Rattle.rpc_record.specs.declared.reassembler.Step.TheVariants as steps;
 
@@ -70,13 +70,33 @@ impl Reassembler {
         }
     }
 
-    /// Takes bytes up to the end of at most one record.
+    /// Takes bytes up to the end of at most one record, or up to the first header at fault. Once
+    /// that was told, it takes nothing and tells it again.
     pub fn feed(&mut self, bytes: &[u8]) -> (usize, Step)
         ensures feeds { Feeds self.old bytes.now result.0 result.1 self.new }
+        ensures within { result.0 ≤ length bytes.now }
+        ensures fewer { (n : ℕ) → n < result.0 → IsMore (outcome self.old (take n bytes.now)) }
+        ensures failed { self.old ≡ None → (result ≡ (0, steps.Fault)) × (self.new ≡ None) }
+
+        // Of what has come since the last record, in the words of whole streams.
+        ensures says { (came : List ℕ) → HasCome came self.old → Says came bytes.now result.0 result.1 self.new }
+
+        // Of a whole stream that the caller keeps.
+        ensures reads { (stream : List ℕ) → (read_stream stream).at ≡ self.old
+            → read_stream (stream ++ take result.0 bytes.now) ≡ record { records = (read_stream stream).records ++ given result.1; at = self.new } }
+        ensures goes_on { (stream : List ℕ) (n : ℕ) → (read_stream stream).at ≡ self.old → n < result.0 → GoesOn stream (take n bytes.now) }
     {
         if self.failed {
             return (0, Step::Fault);
         }
+        self.advance(bytes)
+    }
+
+    /// Feeds bytes where no fault was told.
+    fn advance(&mut self, bytes: &[u8]) -> (usize, Step)
+        requires { IsSome self.old }
+        ensures { Feeds self.old bytes.now result.0 result.1 self.new }
+    {
         let size = self.joined.len();
         let place = self.place;
         let Ok((taken, turn)) = join(&mut self.joined, &mut self.place, bytes) else {
@@ -102,11 +122,26 @@ impl Reassembler {
 
     /// Tells what `feed` would take of these bytes, and what it would answer if memory is there.
     pub fn look(&self, bytes: &[u8]) -> (usize, Look)
-        ensures { result ≡ look_at bytes.now (outcome self.now bytes.now) }
+        ensures looks { result ≡ look_at bytes.now (outcome self.now bytes.now) }
+        ensures within { result.0 ≤ length bytes.now }
+        ensures fewer { (n : ℕ) → n < result.0 → IsMore (outcome self.now (take n bytes.now)) }
+        ensures tells { (taken : ℕ) (step : Step) (new : Option State) → Feeds self.now bytes.now taken step new → Tells result taken step }
+
+        // Of a whole stream that the caller keeps.
+        ensures foresees { (stream : List ℕ) → (read_stream stream).at ≡ self.now → Foresees stream bytes.now result.0 result.1 }
+        ensures goes_on { (stream : List ℕ) (n : ℕ) → (read_stream stream).at ≡ self.now → n < result.0 → GoesOn stream (take n bytes.now) }
     {
         if self.failed {
             return (0, Look::Fault);
         }
+        self.look_ahead(bytes)
+    }
+
+    /// Looks where no fault was told.
+    fn look_ahead(&self, bytes: &[u8]) -> (usize, Look)
+        requires { IsSome self.now }
+        ensures { result ≡ look_at bytes.now (outcome self.now bytes.now) }
+    {
         match self.place.walk(bytes) {
             (taken, Turn::Goes) => (taken, Look::More),
             (taken, Turn::Ends) => (taken, Look::Record),
