@@ -1,11 +1,10 @@
 -- What is read is the spelling, and a spelling is read, for every shape.
-use Rattle.std.proofs.Common.{◌≡◌, ℕ, ◌^◌, ◌<◌, ◌≤◌, Bool, true, false, if◌then◌else◌, List, ◌++◌, length, Some, None, Ok, Err, refl, sym, ap, subst, ◌∙◌, append_assoc, arith, inl, inr}
+use Rattle.std.proofs.Common.{◌≡◌, ℕ, ◌^◌, ◌<◌, Bool, true, false, if◌then◌else◌, List, ◌++◌, length, Some, None, Ok, refl, sym, ap, subst, ◌∙◌, append_assoc, arith, inl, inr}
 use Rattle.std.specs.List.{flat_map}
-use Rattle.std.specs.Int.{w32, w64}
+use Rattle.std.specs.Int.{w64}
 use Rattle.std.proofs.lemmas.List.{length-append}
-use Rattle.xdr.specs.declared.fault.Fault.TheVariants.{BadEnum}
 use Rattle.xdr.specs.Shape.{Shape, Void, Word, Hyper, Boolean, Choice, Fixed, Opaque, Pair, Array, Case, NoCase, Optional, Chain, Value, word, flag, linked, spelling, Fits}
-use Rattle.xdr.specs.Reading.{◌>>=◌, number_at, boolean_at, length_at, items_at, read}
+use Rattle.xdr.specs.Reading.{◌>>=◌, boolean_at, length_at, items_at, read}
 use Rattle.xdr.proofs.Steps.{bind_ok, chosen, ok_is}
 use Rattle.xdr.proofs.Items.{IsBytes, Splits, Splits-then, Found, Again, wide64, number_found, number_again, word_found, word_again, boolean_found, boolean_again, choice_found, choice_again, length_found, length_again}
 use Rattle.xdr.proofs.Bytes.{fixed_found, fixed_again, opaque_found, opaque_again}
