@@ -18,7 +18,7 @@ pub enum Procedure {
 }
 
 impl Procedure {
-    ghost use Rattle.nfs_values.specs.Procedure.{numbers_of};
+    ghost use Rattle.nfs_values.specs.Procedure.{failure_parts, numbers_of};
     ghost use Rattle.nfs_values.specs.declared.procedure.Procedure.{Procedure as Served};
 
     /// The procedure of this number in this program.
@@ -30,6 +30,15 @@ impl Procedure {
             (NFS_PROGRAM, 0) => Some(Procedure::Null),
             (NFS_PROGRAM, 1) => Some(Procedure::GetAttributes),
             _ => None,
+        }
+    }
+
+    /// How many optional parts the failure arm of the procedure's results has.
+    pub fn failure_parts(self) -> u32
+        ensures { result ≡ failure_parts self }
+    {
+        match self {
+            Procedure::Null | Procedure::GetAttributes => 0,
         }
     }
 }
