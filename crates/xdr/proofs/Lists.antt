@@ -1,11 +1,11 @@
 -- Items behind one another, with their count in front or a flag before each.
-use Rattle.std.proofs.Common.{◌≡◌, ℕ, zero, suc, ◌+◌, ◌<◌, Bool, true, false, if◌then◌else◌, List, [], ◌∷◌, ◌++◌, length, Ok, Err, refl, sym, ap, subst, ◌∙◌, append_assoc, arith, inl, inr}
+use Rattle.std.proofs.Common.{◌≡◌, ℕ, zero, suc, ◌<◌, Bool, true, false, if◌then◌else◌, List, [], ◌∷◌, ◌++◌, length, Ok, refl, ap, subst, ◌∙◌, append_assoc, arith, inl, inr}
 use Rattle.std.specs.List.{flat_map, AllByRecursion}
 use Rattle.std.proofs.lemmas.List.{length-append}
 use Rattle.xdr.specs.Shape.{word, flag, linked}
 use Rattle.xdr.specs.Reading.{◌>>=◌, Reads, boolean_at, items_at, links_at}
 use Rattle.xdr.proofs.Steps.{bind_ok, chosen, ok_is}
-use Rattle.xdr.proofs.Items.{IsBytes, Splits, Splits-then, Found, Again, boolean_found, boolean_again}
+use Rattle.xdr.proofs.Items.{Splits, Splits-then, Found, Again, boolean_found, boolean_again}
 
 pub items_found : {A : Type 0} (item : List ℕ → Reads A) (spell : A → List ℕ) (fits : A → Type 0) → Found item spell fits → (n : ℕ) → Found (items_at item n) (flat_map spell) (λ xs. AllByRecursion fits xs × (length xs ≡ n))
 items_found {A} item spell fits one zero bytes x b e =

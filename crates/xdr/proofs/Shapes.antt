@@ -1,11 +1,12 @@
 -- What is read is the spelling, and a spelling is read, for every shape.
-use Rattle.std.proofs.Common.{◌≡◌, ℕ, ◌^◌, ◌<◌, ◌≤◌, Bool, true, false, if◌then◌else◌, List, ◌++◌, length, Some, None, Ok, Err, refl, sym, ap, subst, ◌∙◌, append_assoc, arith, inl, inr}
+use Rattle.std.proofs.Common.{◌≡◌, ℕ, ◌^◌, ◌<◌, Bool, true, false, if◌then◌else◌, List, [], ◌∷◌, ◌++◌, length, Some, None, Ok, Err, eqb, suc, refl, sym, ap, subst, ◌∙◌, append_assoc, arith, inl, inr}
 use Rattle.std.specs.List.{flat_map}
-use Rattle.std.specs.Int.{w32, w64}
-use Rattle.std.proofs.lemmas.List.{length-append}
-use Rattle.xdr.specs.declared.fault.Fault.TheVariants.{BadEnum}
-use Rattle.xdr.specs.Shape.{Shape, Void, Word, Hyper, Boolean, Choice, Fixed, Opaque, Pair, Array, Case, NoCase, Optional, Chain, Value, word, flag, linked, spelling, Fits}
-use Rattle.xdr.specs.Reading.{◌>>=◌, number_at, boolean_at, length_at, items_at, read}
+use Rattle.std.specs.Int.{w64}
+use Rattle.std.proofs.lemmas.List.{length-append, append-nil}
+use Rattle.std.proofs.lemmas.Bool.{eqb-true}
+use Rattle.xdr.specs.declared.fault.Fault.TheVariants.{LeftOver}
+use Rattle.xdr.specs.Shape.{Shape, Void, Word, Hyper, Boolean, Choice, Fixed, Opaque, Pair, Array, Case, NoCase, Optional, Chain, Value, word, flag, linked, spelling, Fits, Spells}
+use Rattle.xdr.specs.Reading.{◌>>=◌, boolean_at, length_at, items_at, read, all_read, all_of}
 use Rattle.xdr.proofs.Steps.{bind_ok, chosen, ok_is}
 use Rattle.xdr.proofs.Items.{IsBytes, Splits, Splits-then, Found, Again, wide64, number_found, number_again, word_found, word_again, boolean_found, boolean_again, choice_found, choice_again, length_found, length_again}
 use Rattle.xdr.proofs.Bytes.{fixed_found, fixed_again, opaque_found, opaque_again}
@@ -79,6 +80,29 @@ again (Chain a) vs rest fits =
     let all = linked (λ v. spelling a v) vs in
     let enough : length vs < length (all ++ rest) = omega (arith, length-linked (λ v. spelling a v) vs, length-append all rest) in
     links_again (λ rest. read a rest) (λ v. spelling a v) (λ v. Fits a v) (λ v r h. again a v r h) (length (all ++ rest)) vs rest enough fits
+
+nothing_left : (rest : List ℕ) (u : Unit {0}) → all_read rest ≡ Ok u → rest ≡ []
+nothing_left [] u e = refl
+nothing_left (b ∷ bs) u e =
+    elim (chosen (eqb (length (b ∷ bs)) 0) (Ok tt) (Err LeftOver) (Ok u) e) [
+      | inl h ↦ let none : suc (length bs) ≡ 0 = eqb-true _ _ h.0 in absurd (omega arith)
+      | inr h ↦ absurd cc
+    ]
+
+-- all of the bytes
+pub all_found : (shape : Shape) (bytes : List ℕ) (v : Value shape) → IsBytes bytes → all_of shape bytes ≡ Ok v → Spells shape v bytes
+all_found shape bytes v fits e =
+    let p = bind_ok (read shape bytes) (λ x. all_read x.1 >>= λ _. Ok x.0) v e in
+    let q = bind_ok (all_read p.0.1) (λ _. Ok p.0.0) v p.2 in
+    let f = found shape bytes p.0 fits p.1 in
+    let none = nothing_left p.0.1 q.0 q.1 in
+    let whole : bytes ≡ spelling shape p.0.0 = f.0.parts ∙ ap (λ (t : List ℕ). spelling shape p.0.0 ++ t) none ∙ append-nil (spelling shape p.0.0) in
+    subst (λ (w : Value shape). Spells shape w bytes) (ok_is p.0.0 v q.2) (f.1, whole)
+
+pub all_again : (shape : Shape) (bytes : List ℕ) (v : Value shape) → Spells shape v bytes → all_of shape bytes ≡ Ok v
+all_again shape bytes v s =
+    let whole : bytes ≡ spelling shape v ++ [] = s.1 ∙ sym (append-nil (spelling shape v)) in
+    ap (all_of shape) whole ∙ rw (again shape v [] s.0) refl
 
 -- no spelling of a type begins another of that type
 pub one_value : (shape : Shape) (v w : Value shape) (x y : List ℕ) → Fits shape v → Fits shape w → spelling shape v ++ x ≡ spelling shape w ++ y → (v ≡ w) × (x ≡ y)

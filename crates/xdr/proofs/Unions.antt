@@ -1,5 +1,5 @@
 -- The number before a union's arm.
-use Rattle.std.proofs.Common.{◌≡◌, ◌≢◌, ℕ, ◌<◌, ◌^◌, Bool, true, false, if◌then◌else◌, eqb, List, ◌++◌, ◌⊎◌, Option, Some, None, Ok, Err, refl, sym, ap, subst, ◌∙◌, append_assoc, inl, inr}
+use Rattle.std.proofs.Common.{◌≡◌, ◌≢◌, ℕ, ◌<◌, ◌^◌, true, false, if◌then◌else◌, eqb, List, ◌++◌, ◌⊎◌, Option, Some, None, Ok, Err, refl, sym, ap, subst, ◌∙◌, append_assoc, inl, inr}
 use Rattle.std.specs.Option.{IsSomeAnd}
 use Rattle.std.specs.Int.{w32}
 use Rattle.std.proofs.lemmas.Bool.{eqb-true, eqb-false, eq-eqb, ne_eqb}
@@ -7,7 +7,7 @@ use Rattle.xdr.specs.declared.fault.Fault.TheVariants.{BadEnum}
 use Rattle.xdr.specs.Shape.{Shape, Case, NoCase, Value, word, spelling, discriminant, Fits}
 use Rattle.xdr.specs.Reading.{◌>>=◌, Reads, number_at, is_union, read}
 use Rattle.xdr.proofs.Steps.{bind_ok, chosen, ok_is}
-use Rattle.xdr.proofs.Items.{IsBytes, Splits, Splits-then, Found, Again, word_found, word_again}
+use Rattle.xdr.proofs.Items.{Splits, Splits-then, Found, Again, word_found, word_again}
 
 -- the value of an option of which a fact holds
 pub some_and : (o : Option ℕ) (P : ℕ → Type 0) → IsSomeAnd o P → (x : ℕ) × (o ≡ Some x) × P x

@@ -83,7 +83,21 @@ read (Chain element) bytes = links_at (λ rest. read element rest) (length bytes
 abbrev pub all_read : List ℕ → Result (Unit {0}) Fault
 all_read bytes = if length bytes == 0 then Ok tt else Err LeftOver
 
+-- the value that these bytes spell, with nothing left over
+abbrev pub all_of : (shape : Shape) → List ℕ → Result (Value shape) Fault
+all_of shape bytes = read shape bytes >>= λ x. all_read x.1 >>= λ _. Ok x.0
+
 -- What a call returned, seen by view, and what it left are what reading gives. At a fault nothing is taken.
 abbrev pub Takes : {X Y : Type 0} → (X → Y) → Result X Fault → Reads Y → List ℕ → List ℕ → Type 0
 Takes view (Ok x) reads old new = reads ≡ Ok (view x, new)
 Takes view (Err fault) reads old new = (reads ≡ Err fault) × (new ≡ old)
+
+-- The same, but at a fault some bytes may be taken.
+abbrev pub Gives : {X Y : Type 0} → (X → Y) → Result X Fault → Reads Y → List ℕ → Type 0
+Gives view (Ok x) reads new = reads ≡ Ok (view x, new)
+Gives view (Err fault) reads new = reads ≡ Err fault
+
+-- What a call returned, seen by view, is what reading all of the bytes gives.
+abbrev pub GivesAll : {X Y : Type 0} → (X → Y) → Result X Fault → Result Y Fault → Type 0
+GivesAll view (Ok x) reads = reads ≡ Ok (view x)
+GivesAll view (Err fault) reads = reads ≡ Err fault

@@ -1,6 +1,6 @@
 //! Reading items from the front of bytes.
 
-ghost use Rattle.std.specs.Prelude.{◌≡◌, ◌==◌};
+ghost use Rattle.std.specs.Prelude.{◌≡◌, ◌≤◌, ◌==◌, true, length, IfOk};
 ghost use Rattle.std.specs.List.{list_all, list_any};
 ghost use Rattle.xdr.specs.Shape.{Word, Hyper, Boolean, Choice, Fixed, Opaque};
 ghost use Rattle.xdr.specs.Reading.{Takes, all_read, length_at, read};
@@ -87,7 +87,8 @@ impl<'a> Cursor<'a> {
     /// A value of an enumeration (RFC 4506, section 4.3), one of `numbers`.
     #[tactic(auto, unfolding(crate::specs::Reading::choice_at))]
     pub fn choice(&mut self, numbers: &[u32]) -> Result<u32, Fault>
-        ensures { Takes (λ x. x) result (read (Choice numbers.now) self.old) self.old self.new }
+        ensures takes { Takes (λ x. x) result (read (Choice numbers.now) self.old) self.old self.new }
+        ensures among { IfOk result (λ n. list_any (λ m. m == n) numbers.now ≡ true) }
     {
         let before = self.rest;
         let number = self.u32()?;
@@ -101,7 +102,8 @@ impl<'a> Cursor<'a> {
     /// So many bytes, and their padding (RFC 4506, section 4.9).
     #[tactic(auto, unfolding(crate::specs::Reading::fixed_at))]
     pub fn fixed(&mut self, size: u32) -> Result<&'a [u8], Fault>
-        ensures { Takes (λ x. x.now) result (read (Fixed size) self.old) self.old self.new }
+        ensures takes { Takes (λ x. x.now) result (read (Fixed size) self.old) self.old self.new }
+        ensures size { IfOk result (λ x. length x.now ≡ size) }
     {
         let size = size as usize;
         let padding = padding_of(size);
@@ -120,7 +122,8 @@ impl<'a> Cursor<'a> {
     /// The length of what follows, at most `most`.
     #[tactic(auto, unfolding(crate::specs::Reading::length_at))]
     pub fn length(&mut self, most: u32) -> Result<u32, Fault>
-        ensures { Takes (λ x. x) result (length_at most self.old) self.old self.new }
+        ensures takes { Takes (λ x. x) result (length_at most self.old) self.old self.new }
+        ensures most { IfOk result (λ n. n ≤ most) }
     {
         let before = self.rest;
         let size = self.u32()?;
@@ -134,7 +137,8 @@ impl<'a> Cursor<'a> {
     /// A length of at most `most`, that many bytes, and their padding (RFC 4506, section 4.10).
     #[tactic(auto, unfolding(crate::specs::Reading::opaque_at))]
     pub fn opaque(&mut self, most: u32) -> Result<&'a [u8], Fault>
-        ensures { Takes (λ x. x.now) result (read (Opaque most) self.old) self.old self.new }
+        ensures takes { Takes (λ x. x.now) result (read (Opaque most) self.old) self.old self.new }
+        ensures most { IfOk result (λ x. length x.now ≤ most) }
     {
         let before = self.rest;
         let size = self.length(most)?;

@@ -8,5 +8,5 @@ mod put;
 
 pub use cursor::Cursor;
 pub use fault::Fault;
-pub use laws::{one_spelling, reading_is_exact};
+pub use laws::{one_spelling, reading_all_is_exact, reading_is_exact};
 pub use put::{put_bool, put_fixed, put_opaque, put_u32, put_u64};

@@ -1,0 +1,33 @@
+use Rattle.std.specs.Prelude.{ℕ}
+use Rattle.nfs_model.specs.Types as model
+use Rattle.nfs_values.specs.declared.attributes.FileKind.{FileKind}
+use Rattle.nfs_values.specs.declared.attributes.FileKind.TheVariants.{Regular, Directory}
+use Rattle.nfs_values.specs.declared.attributes.Attributes.{Attributes}
+use Rattle.nfs_values.specs.Moment.{moment_of}
+
+-- a kind, as the model has it
+abbrev pub kind_of : FileKind → model.Kind
+kind_of Regular = model.Regular
+kind_of Directory = model.Folder
+
+-- NF3REG and NF3DIR (RFC 1813 section 2.6)
+abbrev pub kind_word : model.Kind → ℕ
+kind_word model.Regular = 1
+kind_word model.Folder = 2
+
+-- attributes, as the model has them
+abbrev pub shown_of : Attributes → model.Shown
+shown_of a = record {
+  kind = kind_of a.kind;
+  mode = a.mode;
+  links = a.links;
+  uid = a.uid;
+  gid = a.gid;
+  size = a.size;
+  used = a.used;
+  fsid = a.fsid;
+  fileid = a.fileid;
+  atime = moment_of a.atime;
+  mtime = moment_of a.mtime;
+  ctime = moment_of a.ctime;
+}

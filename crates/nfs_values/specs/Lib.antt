@@ -1,0 +1,9 @@
+pub mod Moment
+pub mod Handle
+pub mod Credential
+pub mod Status
+pub mod Attributes
+pub mod Procedure
+pub mod Call
+pub mod Answer
+pub mod Reply

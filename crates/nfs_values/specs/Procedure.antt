@@ -1,0 +1,13 @@
+use Rattle.std.specs.Prelude.{ℕ}
+use Rattle.nfs_values.specs.declared.procedure.Procedure.{Procedure}
+use Rattle.nfs_values.specs.declared.procedure.Procedure.TheVariants.{Null, GetAttributes}
+
+-- program and procedure (RFC 1813 section 3)
+abbrev pub numbers_of : Procedure → ℕ × ℕ
+numbers_of Null = (100003, 0)
+numbers_of GetAttributes = (100003, 1)
+
+-- how many optional parts the failure arm of its results has (RFC 1813 section 3.3)
+abbrev pub failure_parts : Procedure → ℕ
+failure_parts Null = 0
+failure_parts GetAttributes = 0

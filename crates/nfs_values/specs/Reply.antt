@@ -1,0 +1,23 @@
+use Rattle.std.specs.Prelude.{ℕ}
+use Rattle.nfs_model.specs.Types as model
+use Rattle.nfs_values.specs.declared.reply.AuthFault.{AuthFault}
+use Rattle.nfs_values.specs.declared.reply.AuthFault.TheVariants.{BadCredential, RejectedCredential}
+use Rattle.nfs_values.specs.declared.reply.Reply.{Reply}
+use Rattle.nfs_values.specs.declared.reply.Reply.TheVariants.{Success, ProgramUnavailable, ProgramMismatch, ProcedureUnavailable, GarbageArguments, SystemError, RpcMismatch, AuthError}
+use Rattle.nfs_values.specs.Answer.{answer_of}
+
+-- AUTH_BADCRED and AUTH_REJECTEDCRED (RFC 5531 section 9)
+abbrev pub auth_number : AuthFault → ℕ
+auth_number BadCredential = 1
+auth_number RejectedCredential = 2
+
+-- a reply, as the model has it
+abbrev pub reply_of : Reply → model.Reply
+reply_of (Success answer) = model.Success (answer_of answer)
+reply_of ProgramUnavailable = model.ProgramUnavailable
+reply_of (ProgramMismatch low high) = model.ProgramMismatch low high
+reply_of ProcedureUnavailable = model.ProcedureUnavailable
+reply_of GarbageArguments = model.GarbageArguments
+reply_of SystemError = model.SystemError
+reply_of (RpcMismatch low high) = model.RpcMismatch low high
+reply_of (AuthError fault) = model.AuthError (auth_number fault)

@@ -1,0 +1,40 @@
+//! Attributes of files and directories.
+
+ghost use Rattle.std.specs.Prelude.{◌≡◌};
+
+use crate::moment::Moment;
+
+/// What a node is (ftype3, RFC 1813 section 2.6).
+#[derive(Clone, Copy, Debug, PartialEq, Eq)]
+pub enum FileKind {
+    Regular = 1,
+    Directory = 2,
+}
+
+impl FileKind {
+    ghost use Rattle.nfs_values.specs.Attributes.{kind_of, kind_word};
+
+    /// The number of a kind.
+    pub fn word(self) -> u32
+        ensures { result ≡ kind_word (kind_of self) }
+    {
+        self as u32
+    }
+}
+
+/// Attributes as replies show them (fattr3, RFC 1813 section 2.6); sizes are in bytes.
+#[derive(Clone, Copy, Debug, PartialEq, Eq)]
+pub struct Attributes {
+    pub kind: FileKind,
+    pub mode: u32,
+    pub links: u32,
+    pub uid: u32,
+    pub gid: u32,
+    pub size: u64,
+    pub used: u64,
+    pub fsid: u64,
+    pub fileid: u64,
+    pub atime: Moment,
+    pub mtime: Moment,
+    pub ctime: Moment,
+}

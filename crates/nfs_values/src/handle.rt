@@ -1,0 +1,60 @@
+//! File handles.
+
+ghost use Rattle.std.specs.Prelude.{◌≡◌, ◌-◌, ◌≤◌, ◌++◌, length, replicate};
+
+use std::marker::Model;
+
+/// A file handle (nfs_fh3, RFC 1813 section 2.6): at most 64 bytes, kept in place.
+#[derive(Clone, Copy, PartialEq, Eq)]
+pub struct FileHandle {
+    bytes: [u8; 64],
+    size: u8,
+}
+
+impl Model for FileHandle {
+    ghost use Rattle.std.specs.Prelude.{List, ℕ};
+
+    ghost Value = { List ℕ };
+
+    ghost use Rattle.nfs_values.specs.Handle.{handle_bytes, IsHandle, handle_from, handle_from_bytes};
+
+    ghost view = { handle_bytes };
+
+    ghost invariant = { IsHandle };
+
+    ghost inverse = { handle_from };
+
+    ghost inverse_ok = { handle_from_bytes };
+}
+
+#[tactic(auto, using(crate::proofs::Zeros::drop_zeros))]
+fn with_zeros(bytes: &[u8]) -> [u8; 64]
+    requires { length bytes.now ≤ 64 }
+    ensures { result ≡ bytes.now ++ replicate (64 - length bytes.now) 0 }
+{
+    let mut all = [0; 64];
+    all[..bytes.len()].copy_from_slice(bytes);
+    all
+}
+
+impl FileHandle {
+    /// A handle of these bytes.
+    #[tactic(auto, using(crate::proofs::Zeros::handle_with_zeros))]
+    pub fn new(bytes: &[u8]) -> FileHandle
+        requires { length bytes.now ≤ 64 }
+        ensures { result ≡ bytes.now }
+    {
+        FileHandle {
+            bytes: with_zeros(bytes),
+            size: bytes.len() as u8,
+        }
+    }
+
+    /// The bytes of a handle.
+    pub fn as_bytes(&self) -> &[u8]
+        ensures value { result.now ≡ self.now }
+        ensures most { length result.now ≤ 64 }
+    {
+        &self.bytes[..self.size as usize]
+    }
+}

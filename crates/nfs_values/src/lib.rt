@@ -1,0 +1,22 @@
+//! Values of NFS version 3 (RFC 1813) and RPC (RFC 5531): what calls ask and what replies tell.
+#![tactic(auto)]
+
+mod answer;
+mod attributes;
+mod call;
+mod credential;
+mod handle;
+mod moment;
+mod procedure;
+mod reply;
+mod status;
+
+pub use answer::Answer;
+pub use attributes::{Attributes, FileKind};
+pub use call::Call;
+pub use credential::Credential;
+pub use handle::FileHandle;
+pub use moment::Moment;
+pub use procedure::{ADMIN_PROGRAM, NFS_PROGRAM, Procedure};
+pub use reply::{AuthFault, Reply};
+pub use status::Status;

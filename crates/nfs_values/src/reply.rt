@@ -1,0 +1,36 @@
+//! Replies of RPC.
+
+ghost use Rattle.std.specs.Prelude.{◌≡◌};
+
+use crate::answer::Answer;
+
+/// Why a credential is refused (auth_stat, RFC 5531 section 9).
+#[derive(Clone, Copy, Debug, PartialEq, Eq)]
+pub enum AuthFault {
+    BadCredential = 1,
+    RejectedCredential = 2,
+}
+
+impl AuthFault {
+    ghost use Rattle.nfs_values.specs.Reply.{auth_number};
+
+    /// The number of a fault.
+    pub fn number(self) -> u32
+        ensures { result ≡ auth_number self }
+    {
+        self as u32
+    }
+}
+
+/// A reply (RFC 5531 section 9).
+#[derive(Drop)]
+pub enum Reply {
+    Success(Answer),
+    ProgramUnavailable,
+    ProgramMismatch { low: u32, high: u32 },
+    ProcedureUnavailable,
+    GarbageArguments,
+    SystemError,
+    RpcMismatch { low: u32, high: u32 },
+    AuthError(AuthFault),
+}
