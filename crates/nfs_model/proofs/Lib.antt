@@ -3,3 +3,8 @@ mod WorkedCalls
 mod WorkedEvents
 pub mod AtOnce
 pub mod Opening
+pub mod Lists
+pub mod Written
+pub mod Own
+pub mod Once
+pub mod Slots
