@@ -8,3 +8,4 @@ pub mod Written
 pub mod Own
 pub mod Once
 pub mod Slots
+pub mod Unchanged
