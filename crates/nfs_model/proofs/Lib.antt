@@ -9,3 +9,5 @@ pub mod Own
 pub mod Once
 pub mod Slots
 pub mod Unchanged
+pub mod KeptByConnections
+pub mod KeptByWorkers

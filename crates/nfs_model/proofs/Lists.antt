@@ -1,6 +1,6 @@
 -- Lists: what holds of each element, look-ups, and a change at one place.
 use Rattle.std.proofs.Common.{◌≡◌, ℕ, zero, suc, ◌+◌, ◌<◌, Bool, true, false, List, [], ◌∷◌, ◌++◌, length, take, drop, Option, Some, None, refl, sym, ap, subst, ◌∙◌, arith, inl, inr, ◌⊎◌}
-use Rattle.std.specs.Prelude.{slice_get, ◌==◌}
+use Rattle.std.specs.Prelude.{slice_get, is_none}
 use Rattle.std.specs.List.{AllByRecursion, remove}
 use Rattle.std.proofs.lemmas.List.{take-append-drop}
 use Rattle.nfs_model.specs.World.{changed_at}
@@ -65,6 +65,10 @@ slice_get_below (y ∷ xs) (suc i) x e = omega (arith, slice_get_below xs i x e)
 
 pub Some_same : {A : Type 0} (x y : A) → Some x ≡ Some y → x ≡ y
 Some_same x y e = cc
+
+pub none_is : {A : Type 0} (o : Option A) → is_none o ≡ true → o ≡ None
+none_is None e = refl
+none_is (Some x) e = absurd cc
 
 -- what holds at each place of a list and at one more holds at each place of the longer list
 pub pushed_all : {X : Type 0} (P : ℕ → X → Type 0) (xs : List X) (y : X) → ((c : ℕ) (x : X) → slice_get xs c ≡ Some x → P c x) → P (length xs) y

@@ -1,13 +1,14 @@
 -- Workers: what runs, where one worker begins or ends a call, and which affinities stay apart.
 use Rattle.std.proofs.Common.{◌≡◌, ℕ, zero, suc, ◌+◌, Bool, true, false, List, [], ◌∷◌, ◌++◌, map, Option, Some, None, refl, sym, ap, subst, ◌∙◌, arith, append_assoc}
 use Rattle.std.specs.Prelude.{slice_get, ◌||◌}
-use Rattle.std.specs.List.{list_any}
+use Rattle.std.specs.List.{AllByRecursion, list_any}
+use Rattle.std.proofs.lemmas.List.{map-append}
 use Rattle.std.proofs.Math.Bool.{or_comm}
 use Rattle.std.proofs.lemmas.List.Folds.{list_any-append}
 use Rattle.nfs_model.specs.Tree.{Affinity, Layout, excludes, begins, path}
 use Rattle.nfs_model.specs.Server.{Server}
-use Rattle.nfs_model.specs.World.{Running, Worker, Hand, with_held, all_running, hand_blocks, hands_blocks, with_running, changed_at}
-use Rattle.nfs_model.specs.Headline.{Apart, server_worked, worked_by}
+use Rattle.nfs_model.specs.World.{Message, Running, Worker, with_held, all_running, tried, hand_blocks, hands_blocks, with_running, changed_at}
+use Rattle.nfs_model.specs.Headline.{Apart, server_worked, worked_by, messages, tally_messages}
 use Rattle.nfs_model.proofs.Lists.{Some_same}
 
 -- ---- one worker among the others
@@ -42,6 +43,30 @@ slot (x ∷ workers) (suc i) k e =
       becomes = λ running. ap (λ (rs : List Running). with_held x.running rs) (rest.becomes running) ∙ with_held-append x.running rest.before (with_held running rest.after);
       hands = λ v running. ap (λ (bs : List ℕ). hand_blocks v x.hand ++ bs) (rest.hands v running);
     }
+
+-- ---- the messages that run
+
+pub messages-between : (xs ys : List Running) (r : Running) → messages (xs ++ r ∷ ys) ≡ messages xs ++ r.message ∷ messages ys
+messages-between xs ys r = map-append (λ q. q.message) xs (r ∷ ys)
+
+pub tried-append : (xs ys : List Running) → tried (xs ++ ys) ≡ tried xs ++ tried ys
+tried-append xs ys = map-append (λ q. q.message.affinity) xs ys
+
+pub tally-between : (c n : ℕ) (xs ys : List Running) (r : Running) → tally_messages c n (messages (xs ++ r ∷ ys)) ≡ tally_messages c n (messages (xs ++ ys)) + tally_messages c n (r.message ∷ [])
+tally-between c n [] ys r = omega arith
+tally-between c n (x ∷ xs) ys r = omega (arith, tally-between c n xs ys r)
+
+pub messages_between : (P : Message → Type 0) (xs ys : List Running) (r : Running) → P r.message → AllByRecursion P (messages (xs ++ ys)) → AllByRecursion P (messages (xs ++ r ∷ ys))
+messages_between P [] ys r h p = (h, p)
+messages_between P (x ∷ xs) ys r h p = (p.0, messages_between P xs ys r h p.1)
+
+pub messages_without : (P : Message → Type 0) (xs ys : List Running) (r : Running) → AllByRecursion P (messages (xs ++ r ∷ ys)) → AllByRecursion P (messages (xs ++ ys))
+messages_without P [] ys r p = p.1
+messages_without P (x ∷ xs) ys r p = (p.0, messages_without P xs ys r p.1)
+
+pub messages_there : (P : Message → Type 0) (xs ys : List Running) (r : Running) → AllByRecursion P (messages (xs ++ r ∷ ys)) → P r.message
+messages_there P [] ys r p = p.0
+messages_there P (x ∷ xs) ys r p = messages_there P xs ys r p.1
 
 -- ---- the server that is worked
 

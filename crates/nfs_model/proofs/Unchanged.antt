@@ -107,9 +107,9 @@ pub record IsWorked (setup : Setup) (w : World) (r : Running) (o : Outcome) (ser
   pub partition : (v : ℕ) (volume : servers.Volume) → slice_get server.volumes v ≡ Some volume → (p : Parts) × (slice_get parts v ≡ Some p) × IsPartition volume p (hands_blocks v w.workers)
 
 -- a call that is finished leaves the others' outcomes as they are
-pub record IsFinished (setup : Setup) (w : World) (r : Running) (before after : List Running) : Type 0 where
-  pub state : w.server ≡ server_worked (server_after (start setup) (w.finished ++ entry_of r false ∷ [])) (before ++ after)
-  pub outcomes : AllByRecursion (λ q. IsOutcome setup (server_after (start setup) (w.finished ++ entry_of r false ∷ [])) q q.outcome) (before ++ after)
+pub record IsFinished (setup : Setup) (w : World) (r : Running) (starved : Bool) (before after : List Running) : Type 0 where
+  pub state : w.server ≡ server_worked (server_after (start setup) (w.finished ++ entry_of r starved ∷ [])) (before ++ after)
+  pub outcomes : AllByRecursion (λ q. IsOutcome setup (server_after (start setup) (w.finished ++ entry_of r starved ∷ [])) q q.outcome) (before ++ after)
 
 slice_set_same : {X : Type 0} (xs : List X) (i : ℕ) (x : X) → slice_get xs i ≡ Some x → slice_set xs i x ≡ xs
 slice_set_same xs i x e = ap (λ y. slice_set xs i y) (sym (get_or_from_slice_get xs i x x e)) ∙ set-get_or xs i x
@@ -173,14 +173,14 @@ module _ (setup : Setup) (only : IsReadOnly setup) (w : World) (h : Headline set
         let found = h.partition v volume (subst (λ (s : Server). slice_get s.volumes v ≡ Some volume) same e) in
         (found.0, ap (λ (ps : List Parts). slice_get ps v) same_parts ∙ found.1, found.2)
 
-    pub worked : (o : Outcome) (server : Server) (parts : List Parts) → Works w r o server parts → IsWorked setup w r o server parts before after
-    worked (Moved a) server parts k = absurd (does_not_move w.server w.parts r.message.affinity a r.message.asked reads k.0)
-    worked Starved server parts k = record {
+    pub worked : (o : Outcome) (server : Server) (parts : List Parts) → r.outcome ≡ None → Works w r o server parts → IsWorked setup w r o server parts before after
+    worked (Moved a) server parts n k = absurd (does_not_move w.server w.parts r.message.affinity a r.message.asked reads k.0)
+    worked Starved server parts n k = record {
       outcome = subst (λ (s : Server). IsTrue (may_starve_later s r.message.asked r.moment)) (server_is ∙ sym done_is) k.0;
       state = k.1 ∙ server_is ∙ state_with Starved;
       partition = partition_with server parts k.1 k.2;
     }
-    worked (Replied reply) server parts k =
+    worked (Replied reply) server parts n k =
         let same : server ≡ w.server = k.2 ∙ serial_stays w.server r.message.asked r.moment false reads in
         record {
           outcome = k.1 ∙ ap (λ (s : Server). (serial s r.message.asked r.moment false).reply) (server_is ∙ sym done_is);
@@ -191,7 +191,7 @@ module _ (setup : Setup) (only : IsReadOnly setup) (w : World) (h : Headline set
     done_with : server_after (start setup) (w.finished ++ entry_of r false ∷ []) ≡ done setup w
     done_with = server_after-push (start setup) w.finished (entry_of r false) ∙ serial_stays (done setup w) r.message.asked r.moment false reads
 
-    pub finished : IsFinished setup w r before after
+    pub finished : IsFinished setup w r false before after
     finished = record {
       state = server_is ∙ sym (all_worked_stay (server_after (start setup) (w.finished ++ entry_of r false ∷ [])) (before ++ after) others_read ∙ done_with ∙ done_is);
       outcomes =
