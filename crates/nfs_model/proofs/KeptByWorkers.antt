@@ -11,7 +11,7 @@ use Rattle.nfs_model.specs.World.{Heard, Setup, World, Connection, Message, Outc
 use Rattle.nfs_model.specs.Events.Refusals.{is_busy}
 use Rattle.nfs_model.specs.Events.Work.{Works}
 use Rattle.nfs_model.specs.Events.Step.{with_outcome, entry_of, without_call, stamped, finished_by}
-use Rattle.nfs_model.specs.Headline.{Headline, start, served, messages, tally_messages, server_worked, worked_by, IsHeard, IsOwn, IsOwnEntry, IsOwnMessage, IsOutcome, IsTried, IsTriedAt, IsPartition, Apart}
+use Rattle.nfs_model.specs.Headline.{Headline, start, served, messages, tally_finished, tally_messages, server_worked, worked_by, IsHeard, IsOwn, IsOwnEntry, IsOwnMessage, IsOutcome, IsTried, IsTriedAt, IsPartition, Apart}
 use Rattle.nfs_model.specs.ReadOnly.{IsReadOnly}
 use Rattle.nfs_model.proofs.Lists.{All-get, All-remove, All-push, All-between, All-without, All-there, Some_same}
 use Rattle.nfs_model.proofs.Written.{AreLawful-push, server_after-push, replies_finish, until_finish, written_stream}
@@ -64,4 +64,98 @@ keeps_begin setup w i k place m moment there idle at free h =
       partition = partition_kept setup w i k s h (Some r);
       apart = subst (λ (ts : List Affinity). Apart setup.layout ts) (sym (ap (λ (rs : List Running). tried rs) now ∙ tried-append s.before (r ∷ s.after)))
           (Apart-between setup.layout (tried s.before) (tried s.after) m.affinity apart free_now);
+    }
+
+-- a count with these messages running
+abbrev total_of : World → ℕ → ℕ → List Message → ℕ
+total_of w c n ms = tally_finished c n w.finished + tally_messages c n w.waiting + tally_messages c n ms
+
+-- an outcome speaks of the message and the moment alone
+outcome_of : (setup : Setup) (s : Server) (r : Running) (o : Outcome) → IsOutcome setup s r (Some o) → IsOutcome setup s (record r { outcome = Some o }) (Some o)
+outcome_of setup s r (Replied reply) p = p
+outcome_of setup s r Starved p = p
+outcome_of setup s r (Moved a) p = p
+
+-- a begun message is worked
+pub keeps_work : (setup : Setup) (w : World) (i : ℕ) (k : Worker) (r : Running) (o : Outcome) (server : Server) (parts : List Parts)
+    → IsReadOnly setup → slice_get w.workers i ≡ Some k → k.running ≡ Some r → r.outcome ≡ None → Works w r o server parts → Headline setup w
+    → Headline setup (record (with_outcome r o w i) { server = server; parts = parts })
+keeps_work setup w i k r o server parts only there runs unworked works h =
+    let q : Running = record r { outcome = Some o } in
+    let s = slot w.workers i k there in
+    let was : all_running w.workers ≡ s.before ++ r ∷ s.after = s.was ∙ ap (λ (x : Option Running). s.before ++ with_held x s.after) runs in
+    let now : all_running (changed_at (with_running (Some q)) w.workers i) ≡ s.before ++ q ∷ s.after = s.becomes (Some q) in
+    let same_messages : messages (all_running (changed_at (with_running (Some q)) w.workers i)) ≡ messages (all_running w.workers) =
+        ap (λ (rs : List Running). messages rs) now ∙ messages-between s.before s.after q ∙ sym (ap (λ (rs : List Running). messages rs) was ∙ messages-between s.before s.after r) in
+    let same_tried : tried (all_running (changed_at (with_running (Some q)) w.workers i)) ≡ tried (all_running w.workers) =
+        ap (λ (rs : List Running). tried rs) now ∙ tried-append s.before (q ∷ s.after) ∙ sym (ap (λ (rs : List Running). tried rs) was ∙ tried-append s.before (r ∷ s.after)) in
+    let done_work : IsWorked setup w r o server parts s.before s.after = worked setup only w h s.before s.after r was o server parts unworked works in
+    record {
+      output = h.output;
+      each_once = λ c x e n. ap (λ (ms : List Message). total_of w c n ms) same_messages ∙ h.each_once c x e n;
+      own_finished = h.own_finished;
+      own_waiting = h.own_waiting;
+      own_running = subst (λ (ms : List Message). AllByRecursion (IsOwnMessage setup w) ms) (sym same_messages) h.own_running;
+      lawful = h.lawful;
+      state = done_work.state ∙ ap (λ (rs : List Running). server_worked (done setup w) rs) (sym now);
+      outcomes = subst (λ (rs : List Running). AllByRecursion (λ x. IsOutcome setup (done setup w) x x.outcome) rs) (sym now)
+          (All-between (λ x. IsOutcome setup (done setup w) x x.outcome) s.before s.after q (outcome_of setup (done setup w) r o done_work.outcome)
+          (All-without (λ x. IsOutcome setup (done setup w) x x.outcome) s.before s.after r
+          (subst (λ (rs : List Running). AllByRecursion (λ x. IsOutcome setup (done setup w) x x.outcome) rs) was h.outcomes)));
+      tried_waiting = h.tried_waiting;
+      tried_running = subst (λ (ms : List Message). AllByRecursion (IsTried setup) ms) (sym same_messages) h.tried_running;
+      until = h.until;
+      partition = λ v volume e.
+          let found = done_work.partition v volume e in
+          (found.0, found.1, subst (λ (blocks : List ℕ). IsPartition volume found.0 blocks) (sym (s.hands v (Some q))) found.2);
+      apart = subst (λ (ts : List Affinity). Apart setup.layout ts) (sym same_tried) h.apart;
+    }
+
+-- ---- finishing
+
+-- a message that is heard is of its record when it is finished
+own_of_heard : (setup : Setup) (w : World) (e : Entry) (asked : Asked) → IsScan setup.codec → IsHeard setup w e.connection e.number e.xid asked → IsOwn setup w e asked
+own_of_heard setup w e (Ask call credential) scan h = h
+own_of_heard setup w e (Refused reply) scan h = h
+own_of_heard setup w e Undecoded scan h = absurd (All-get (λ (x : Heard). IsDecoded x.asked) (served setup h.0) e.number (record { xid = e.xid; asked = Undecoded }) h.2 (scan.decoded h.0.stream))
+
+-- a call that runs is finished, with the reply that the serial server gives it now
+keeps_finished : (setup : Setup) (w : World) (i : ℕ) (k : Worker) (r : Running) (starved : Bool) (reply : Reply) (s : Slot w.workers i k)
+    → IsScan setup.codec → all_running w.workers ≡ s.before ++ r ∷ s.after → Headline setup w
+    → reply ≡ (step_of (done setup w) (entry_of r starved)).reply → IsLawful (done setup w) (entry_of r starved) starved → IsFinished setup w r starved s.before s.after
+    → Headline setup (finish setup (stamped (without_call w i)) (entry_of r starved) reply)
+keeps_finished setup w i k r starved reply s scan was h right lawful done_call =
+    let e : Entry = entry_of r starved in
+    let write : Connection → Connection = with_output (setup.codec.reply_record e.xid reply) in
+    let new : World = finish setup (stamped (without_call w i)) e reply in
+    let now : all_running (changed_at (with_running None) w.workers i) ≡ s.before ++ s.after = s.becomes None in
+    let keeps : (x : Connection) → served setup (write x) ≡ served setup x = λ x. ap (λ (bytes : List ℕ). (setup.codec.scan bytes).served) (written_stream (setup.codec.reply_record e.xid reply) x.closed x) in
+    let later = later_changed setup w.connections write e.connection (λ x at n y q. ap (λ (hs : List Heard). slice_get hs n) (keeps x) ∙ q) in
+    let own_running : AllByRecursion (IsOwnMessage setup w) (messages (s.before ++ r ∷ s.after)) = subst (λ (rs : List Running). AllByRecursion (IsOwnMessage setup w) (messages rs)) was h.own_running in
+    let own : IsOwnMessage setup w r.message = messages_there (IsOwnMessage setup w) s.before s.after r own_running in
+    record {
+      output = replies_finish setup w.connections w.finished e reply h.output h.until right;
+      each_once = once_changed setup w.connections (total_in w) (total_in new) write e.connection (λ x at. keeps x)
+          (λ c n.
+              let a = tally_finished-append c n w.finished (e ∷ []) in
+              let b = ap (λ (rs : List Running). tally_messages c n (messages rs)) was ∙ tally-between c n s.before s.after r in
+              let d = ap (λ (rs : List Running). tally_messages c n (messages rs)) now in
+              omega (arith, a, b, d))
+          h.each_once;
+      own_finished = All-push (IsOwnEntry setup new) w.finished e (entries_later setup w new later w.finished h.own_finished)
+          (own_of_heard setup new e r.message.asked scan (heard_later setup w new later r.message.connection r.message.number r.message.xid r.message.asked own));
+      own_waiting = messages_later setup w new later w.waiting h.own_waiting;
+      own_running = subst (λ (rs : List Running). AllByRecursion (IsOwnMessage setup new) (messages rs)) (sym now)
+          (messages_later setup w new later (messages (s.before ++ s.after)) (messages_without (IsOwnMessage setup w) s.before s.after r own_running));
+      lawful = AreLawful-push (start setup) w.finished e h.lawful lawful;
+      state = done_call.state ∙ ap (λ (rs : List Running). server_worked (server_after (start setup) (w.finished ++ e ∷ [])) rs) (sym now);
+      outcomes = subst (λ (rs : List Running). AllByRecursion (λ x. IsOutcome setup (server_after (start setup) (w.finished ++ e ∷ [])) x x.outcome) rs) (sym now) done_call.outcomes;
+      tried_waiting = h.tried_waiting;
+      tried_running = subst (λ (rs : List Running). AllByRecursion (IsTried setup) (messages rs)) (sym now)
+          (messages_without (IsTried setup) s.before s.after r (subst (λ (rs : List Running). AllByRecursion (IsTried setup) (messages rs)) was h.tried_running));
+      until = until_finish w.connections w.finished e (setup.codec.reply_record e.xid reply) e.connection h.until;
+      partition = partition_kept setup w i k s h None;
+      apart = subst (λ (ts : List Affinity). Apart setup.layout ts) (sym (ap (λ (rs : List Running). tried rs) now ∙ tried-append s.before s.after))
+          (Apart-without setup.layout (tried s.before) (tried s.after) r.message.affinity
+          (subst (λ (ts : List Affinity). Apart setup.layout ts) (ap (λ (rs : List Running). tried rs) was ∙ tried-append s.before (r ∷ s.after)) h.apart));
     }
