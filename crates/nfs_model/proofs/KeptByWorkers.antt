@@ -159,3 +159,72 @@ keeps_finished setup w i k r starved reply s scan was h right lawful done_call =
           (Apart-without setup.layout (tried s.before) (tried s.after) r.message.affinity
           (subst (λ (ts : List Affinity). Apart setup.layout ts) (ap (λ (rs : List Running). tried rs) was ∙ tried-append s.before (r ∷ s.after)) h.apart));
     }
+
+-- a message that moves waits again, at the end
+keeps_moved : (setup : Setup) (w : World) (i : ℕ) (k : Worker) (r : Running) (a : Affinity) (s : Slot w.workers i k)
+    → all_running w.workers ≡ s.before ++ r ∷ s.after → r.outcome ≡ Some (Moved a) → Headline setup w → Headline setup (finished_by setup w i r (Moved a))
+keeps_moved setup w i k r a s was moved h =
+    let m : Message = record r.message { affinity = a } in
+    let now : all_running (changed_at (with_running None) w.workers i) ≡ s.before ++ s.after = s.becomes None in
+    let own : IsOwnMessage setup w r.message = messages_there (IsOwnMessage setup w) s.before s.after r (subst (λ (rs : List Running). AllByRecursion (IsOwnMessage setup w) (messages rs)) was h.own_running) in
+    let outcomes : AllByRecursion (λ x. IsOutcome setup (done setup w) x x.outcome) (s.before ++ r ∷ s.after) = subst (λ (rs : List Running). AllByRecursion (λ x. IsOutcome setup (done setup w) x x.outcome) rs) was h.outcomes in
+    record {
+      output = h.output;
+      each_once = λ c x e n.
+          let b = ap (λ (rs : List Running). tally_messages c n (messages rs)) was ∙ tally-between c n s.before s.after r in
+          let d = ap (λ (rs : List Running). tally_messages c n (messages rs)) now in
+          omega (arith, tally_messages-append c n w.waiting (m ∷ []), b, d) ∙ h.each_once c x e n;
+      own_finished = h.own_finished;
+      own_waiting = All-push (IsOwnMessage setup w) w.waiting m h.own_waiting own;
+      own_running = subst (λ (rs : List Running). AllByRecursion (IsOwnMessage setup w) (messages rs)) (sym now)
+          (messages_without (IsOwnMessage setup w) s.before s.after r (subst (λ (rs : List Running). AllByRecursion (IsOwnMessage setup w) (messages rs)) was h.own_running));
+      lawful = h.lawful;
+      state = h.state ∙ ap (λ (rs : List Running). server_worked (done setup w) rs) was
+          ∙ server_worked-between (done setup w) s.before s.after r (λ t. ap (λ (o : Option Outcome). worked_by t r o) moved)
+          ∙ ap (λ (rs : List Running). server_worked (done setup w) rs) (sym now);
+      outcomes = subst (λ (rs : List Running). AllByRecursion (λ x. IsOutcome setup (done setup w) x x.outcome) rs) (sym now)
+          (All-without (λ x. IsOutcome setup (done setup w) x x.outcome) s.before s.after r outcomes);
+      tried_waiting = All-push (IsTried setup) w.waiting m h.tried_waiting
+          (subst (λ (o : Option Outcome). IsOutcome setup (done setup w) r o) moved (All-there (λ x. IsOutcome setup (done setup w) x x.outcome) s.before s.after r outcomes));
+      tried_running = subst (λ (rs : List Running). AllByRecursion (IsTried setup) (messages rs)) (sym now)
+          (messages_without (IsTried setup) s.before s.after r (subst (λ (rs : List Running). AllByRecursion (IsTried setup) (messages rs)) was h.tried_running));
+      until = h.until;
+      partition = partition_kept setup w i k s h None;
+      apart = subst (λ (ts : List Affinity). Apart setup.layout ts) (sym (ap (λ (rs : List Running). tried rs) now ∙ tried-append s.before s.after))
+          (Apart-without setup.layout (tried s.before) (tried s.after) r.message.affinity
+          (subst (λ (ts : List Affinity). Apart setup.layout ts) (ap (λ (rs : List Running). tried rs) was ∙ tried-append s.before (r ∷ s.after)) h.apart));
+    }
+
+-- a starved call changes nothing
+finished_starved : (setup : Setup) (w : World) (r : Running) (before after : List Running)
+    → all_running w.workers ≡ before ++ r ∷ after → r.outcome ≡ Some Starved → Headline setup w → IsFinished setup w r true before after
+finished_starved setup w r before after was starved h =
+    let same : server_after (start setup) (w.finished ++ entry_of r true ∷ []) ≡ done setup w = server_after-push (start setup) w.finished (entry_of r true) in
+    record {
+      state = h.state ∙ ap (λ (rs : List Running). server_worked (done setup w) rs) was
+          ∙ server_worked-between (done setup w) before after r (λ t. ap (λ (o : Option Outcome). worked_by t r o) starved)
+          ∙ ap (λ (t : Server). server_worked t (before ++ after)) (sym same);
+      outcomes = subst (λ (t : Server). AllByRecursion (λ x. IsOutcome setup t x x.outcome) (before ++ after)) (sym same)
+          (All-without (λ x. IsOutcome setup (done setup w) x x.outcome) before after r
+          (subst (λ (rs : List Running). AllByRecursion (λ x. IsOutcome setup (done setup w) x x.outcome) rs) was h.outcomes));
+    }
+
+-- by the outcome
+keeps_by : (setup : Setup) (w : World) (i : ℕ) (k : Worker) (r : Running) (o : Outcome) (s : Slot w.workers i k)
+    → IsReadOnly setup → IsScan setup.codec → all_running w.workers ≡ s.before ++ r ∷ s.after → r.outcome ≡ Some o → IsOutcome setup (done setup w) r (Some o) → Headline setup w
+    → Headline setup (finished_by setup w i r o)
+keeps_by setup w i k r (Replied reply) s only scan was is outcome h = keeps_finished setup w i k r false reply s scan was h outcome tt (finished setup only w h s.before s.after r was reply is)
+keeps_by setup w i k r Starved s only scan was is outcome h = keeps_finished setup w i k r true SystemError s scan was h refl outcome (finished_starved setup w r s.before s.after was is h)
+keeps_by setup w i k r (Moved a) s only scan was is outcome h = keeps_moved setup w i k r a s was is h
+
+-- a worked message is finished, or waits again
+pub keeps_finish : (setup : Setup) (w : World) (i : ℕ) (k : Worker) (r : Running) (o : Outcome)
+    → IsReadOnly setup → IsScan setup.codec → slice_get w.workers i ≡ Some k → k.running ≡ Some r → r.outcome ≡ Some o → Headline setup w
+    → Headline setup (finished_by setup w i r o)
+keeps_finish setup w i k r o only scan there runs is h =
+    let s = slot w.workers i k there in
+    let was : all_running w.workers ≡ s.before ++ r ∷ s.after = s.was ∙ ap (λ (x : Option Running). s.before ++ with_held x s.after) runs in
+    let outcome : IsOutcome setup (done setup w) r (Some o) =
+        subst (λ (x : Option Outcome). IsOutcome setup (done setup w) r x) is
+        (All-there (λ x. IsOutcome setup (done setup w) x x.outcome) s.before s.after r (subst (λ (rs : List Running). AllByRecursion (λ x. IsOutcome setup (done setup w) x x.outcome) rs) was h.outcomes)) in
+    keeps_by setup w i k r o s only scan was is outcome h

@@ -191,8 +191,8 @@ module _ (setup : Setup) (only : IsReadOnly setup) (w : World) (h : Headline set
     done_with : server_after (start setup) (w.finished ++ entry_of r false ∷ []) ≡ done setup w
     done_with = server_after-push (start setup) w.finished (entry_of r false) ∙ serial_stays (done setup w) r.message.asked r.moment false reads
 
-    pub finished : IsFinished setup w r false before after
-    finished = record {
+    pub finished : (reply : Reply) → r.outcome ≡ Some (Replied reply) → IsFinished setup w r false before after
+    finished reply is = record {
       state = server_is ∙ sym (all_worked_stay (server_after (start setup) (w.finished ++ entry_of r false ∷ [])) (before ++ after) others_read ∙ done_with ∙ done_is);
       outcomes =
           subst (λ (s : Server). AllByRecursion (λ q. IsOutcome setup s q q.outcome) (before ++ after)) (sym done_with)
