@@ -11,3 +11,4 @@ pub mod Slots
 pub mod Unchanged
 pub mod KeptByConnections
 pub mod KeptByWorkers
+pub mod KeptByFeed

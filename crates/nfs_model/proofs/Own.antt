@@ -43,7 +43,7 @@ module _ (setup : Setup) (old new : World) (later : IsLater setup old.connection
       let a = later c h.0 h.1 in
       (a.0, a.1, a.2 n (record { xid = xid; asked = asked }) h.2)
 
-  own_later : (e : Entry) (asked : Asked) → IsOwn setup old e asked → IsOwn setup new e asked
+  pub own_later : (e : Entry) (asked : Asked) → IsOwn setup old e asked → IsOwn setup new e asked
   own_later e (Ask call credential) h = heard_later e.connection e.number e.xid (Ask call credential) h
   own_later e (Refused reply) h = heard_later e.connection e.number e.xid (Refused reply) h
   own_later e Undecoded h = (h.0, heard_later e.connection e.number e.xid h.0 h.1, h.2, h.3, h.4)
