@@ -1,13 +1,12 @@
 -- Opening and closing a connection keep the headline.
-use Rattle.std.proofs.Common.{◌≡◌, ℕ, ◌+◌, ◌≤◌, true, List, [], ◌∷◌, ◌++◌, length, Option, Some, None, refl, sym, ap, subst, ◌∙◌, arith}
+use Rattle.std.proofs.Common.{◌≡◌, ℕ, ◌≤◌, true, List, [], ◌∷◌, ◌++◌, length, Option, Some, None, refl, sym, ap, subst, ◌∙◌, arith}
 use Rattle.std.specs.Prelude.{slice_get, IfSome}
-use Rattle.std.specs.List.{AllByRecursion}
 use Rattle.std.proofs.lemmas.List.{take_all}
 use Rattle.nfs_model.specs.Replay.{Entry}
 use Rattle.nfs_model.specs.World.{Setup, World, Connection, IsScan, all_running, changed_at}
 use Rattle.nfs_model.specs.Events.Refusals.{is_open}
 use Rattle.nfs_model.specs.Events.Step.{new_connection, with_closed}
-use Rattle.nfs_model.specs.Headline.{Headline, start, replies, up_to, served, messages}
+use Rattle.nfs_model.specs.Headline.{Headline, start, replies, up_to, messages}
 use Rattle.nfs_model.proofs.Lists.{pushed_all, changed_all, Some_same, none_is}
 use Rattle.nfs_model.proofs.Written.{replies_none}
 use Rattle.nfs_model.proofs.Own.{later_pushed, later_changed, entries_later, messages_later, entries_elsewhere, messages_elsewhere}
@@ -20,10 +19,10 @@ keeps_open setup w scan h =
     let later = later_pushed setup w.connections (new_connection ∷ []) in
     let new_count = length w.connections in
     let none : (n : ℕ) → total_in w new_count n ≡ 0 = λ n.
-        let a = tally_finished_none new_count n w.finished (entries_elsewhere setup w w.finished h.own_finished) in
-        let b = tally_messages_none new_count n w.waiting (messages_elsewhere setup w w.waiting h.own_waiting) in
-        let c = tally_messages_none new_count n (messages (all_running w.workers)) (messages_elsewhere setup w (messages (all_running w.workers)) h.own_running) in
-        omega (arith, a, b, c) in
+    let a = tally_finished_none new_count n w.finished (entries_elsewhere setup w w.finished h.own_finished) in
+    let b = tally_messages_none new_count n w.waiting (messages_elsewhere setup w w.waiting h.own_waiting) in
+    let c = tally_messages_none new_count n (messages (all_running w.workers)) (messages_elsewhere setup w (messages (all_running w.workers)) h.own_running) in
+    omega (arith, a, b, c) in
     record {
       output =
           pushed_all (λ c x. x.output ≡ replies setup.codec c (start setup) (up_to x.closed w.finished)) w.connections new_connection h.output
@@ -54,7 +53,7 @@ keeps_close setup w k open_there h =
           changed_all (λ c x. x.output ≡ replies setup.codec c (start setup) (up_to x.closed w.finished)) close w.connections k
           (λ c x at ne. h.output c x at)
           (λ x at. h.output k x at ∙ ap (λ (o : Option ℕ). replies setup.codec k (start setup) (up_to o w.finished)) (open_there x at)
-              ∙ ap (λ (es : List Entry). replies setup.codec k (start setup) es) (sym (take_all (length w.finished) w.finished (omega arith))));
+          ∙ ap (λ (es : List Entry). replies setup.codec k (start setup) es) (sym (take_all (length w.finished) w.finished (omega arith))));
       each_once = once_changed setup w.connections (total_in w) (total_in w) close k (λ x at. refl) (λ c n. refl) h.each_once;
       own_finished = entries_later setup w new later w.finished h.own_finished;
       own_waiting = messages_later setup w new later w.waiting h.own_waiting;

@@ -1,24 +1,23 @@
 -- A feed keeps the headline: one byte after another.
-use Rattle.std.proofs.Common.{◌≡◌, ℕ, zero, suc, ◌+◌, ◌≤◌, Bool, true, false, IsTrue, List, [], ◌∷◌, ◌++◌, length, Option, Some, None, refl, sym, ap, subst, ◌∙◌, arith, length-append, inl, inr}
+use Rattle.std.proofs.Common.{◌≡◌, ℕ, ◌+◌, ◌≤◌, Bool, true, false, List, [], ◌∷◌, ◌++◌, length, Option, Some, None, refl, sym, ap, subst, ◌∙◌, arith, inl, inr}
 use Rattle.std.specs.Prelude.{slice_get, IfSome, is_none, ◌==◌, ◌&&◌}
 use Rattle.std.specs.List.{AllByRecursion}
 use Rattle.std.proofs.lemmas.List.{append-nil}
 use Rattle.std.proofs.lemmas.Bool.{eq-eqb}
-use Rattle.nfs_model.specs.Types.{Asked, Ask, Refused, Undecoded, Reply, SystemError}
+use Rattle.nfs_model.specs.Types.{Reply, SystemError}
 use Rattle.nfs_model.specs.Tree.{Affinity, begins, path}
 use Rattle.nfs_model.specs.Server.{Server, start_of_times}
 use Rattle.nfs_model.specs.Serial.Step.{serial}
-use Rattle.nfs_model.specs.Serial.Starve.{may_starve_at_decoding}
 use Rattle.nfs_model.specs.Home.{home_of_asked}
 use Rattle.nfs_model.specs.Replay.{Entry, step_of, server_after, IsLawful}
-use Rattle.nfs_model.specs.World.{Heard, Scanned, Setup, World, Connection, Message, IsScan, IsDecoded, all_running, with_output, changed_at, finish}
+use Rattle.nfs_model.specs.World.{Heard, Setup, World, Connection, Message, IsScan, all_running, with_output, changed_at, finish}
 use Rattle.nfs_model.specs.Events.Refusals.{takes_input}
-use Rattle.nfs_model.specs.Events.Feed.{Reached, Further, Complete, Fault, reached_at, reached_by, stream_in, stream_of, served_count, reached, with_byte, byte_taken, entry_at_once, entry_undecoded, admit, heard_in, MayStarveIf, Takes, TakesFault, Stops, Feeds}
-use Rattle.nfs_model.specs.Headline.{Headline, start, served, messages, tally_finished, tally_messages, one_if, server_worked, IsHeard, IsOwn, IsOwnEntry, IsOwnMessage, IsOutcome, IsTried}
+use Rattle.nfs_model.specs.Events.Feed.{Reached, Further, Complete, Fault, reached_at, reached_by, stream_in, stream_of, served_count, reached, with_byte, byte_taken, entry_at_once, entry_undecoded, admit, heard_in, MayStarveIf, Takes, TakesFault, Feeds}
+use Rattle.nfs_model.specs.Headline.{Headline, start, served, messages, tally_finished, one_if, server_worked, IsHeard, IsOwnEntry, IsOwnMessage, IsOutcome, IsTried}
 use Rattle.nfs_model.specs.ReadOnly.{IsReadOnly, AsksReading}
 use Rattle.nfs_model.proofs.Lists.{All-get, All-push, Some_same, none_is, slice_get-append, slice_get_next, slice_get-changed_at}
 use Rattle.nfs_model.proofs.Written.{AreLawful-push, server_after-push, replies_finish, until_finish, replies_changed, until_changed, written_stream, written_closed}
-use Rattle.nfs_model.proofs.Own.{IsLater, later_changed, later_then, own_later, entries_later, messages_later, heard_later}
+use Rattle.nfs_model.proofs.Own.{IsLater, later_changed, later_then, own_later, own_of_heard, entries_later, messages_later}
 use Rattle.nfs_model.proofs.Once.{total_in, once_changed, once_heard, tally_finished-append, tally_messages-append}
 use Rattle.nfs_model.proofs.Unchanged.{done, IsAtOnce, at_once}
 
@@ -75,7 +74,7 @@ brings setup w c b t r scan is =
     let came : stream_of w c ≡ x.stream = ap (λ (o : Option Connection). stream_in o) t.there in
     let more = scan.further x.stream b t.sound in
     let here : reached_by (setup.codec.scan (x.stream ++ b ∷ [])) (length (served setup x)) ≡ r =
-        ap (λ (s : List ℕ). reached_by (setup.codec.scan (s ++ b ∷ [])) (length (setup.codec.scan s).served)) (sym came) ∙ is in
+    ap (λ (s : List ℕ). reached_by (setup.codec.scan (s ++ b ∷ [])) (length (setup.codec.scan s).served)) (sym came) ∙ is in
     brought (served setup x) r (setup.codec.scan (x.stream ++ b ∷ [])).fault (served setup (with_byte b x)) more.0 more.1 more.2 more.3
     (ap (λ (o : Option Heard). reached_at (setup.codec.scan (x.stream ++ b ∷ [])).fault o) (sym (at_next (served setup x) (served setup (with_byte b x)) more.0 more.1)) ∙ here)
 
@@ -87,9 +86,9 @@ byte_later : (setup : Setup) (w : World) (c b : ℕ) (t : IsTaking setup w c) (m
     → IsLater setup w.connections (changed_at (with_byte b) w.connections c)
 byte_later setup w c b t more longer =
     later_changed setup w.connections (with_byte b) c (λ y at n h q.
-        let same : t.connection ≡ y = is_that w c t.connection y t.there at in
-        subst (λ (z : Connection). slice_get (served setup (with_byte b z)) n ≡ Some h) same
-        (ap (λ (hs : List Heard). slice_get hs n) longer ∙ slice_get-append (served setup t.connection) more n h (subst (λ (z : Connection). slice_get (served setup z) n ≡ Some h) (sym same) q)))
+    let same : t.connection ≡ y = is_that w c t.connection y t.there at in
+    subst (λ (z : Connection). slice_get (served setup (with_byte b z)) n ≡ Some h) same
+    (ap (λ (hs : List Heard). slice_get hs n) longer ∙ slice_get-append (served setup t.connection) more n h (subst (λ (z : Connection). slice_get (served setup z) n ≡ Some h) (sym same) q)))
 
 -- ---- a byte that brings no record
 
@@ -194,8 +193,8 @@ answer_kept setup w c b number heard e reply now on_it of_it own right stays law
       each_once = once_changed setup middle.connections (total_in new) (total_in new) write e.connection (λ x at. keeps x) (λ i n. refl)
           (once_heard setup w.connections (total_in w) (total_in new) (with_byte b) c number heard (now_longer setup w c b number heard now)
           (λ i n.
-              let one : tally_finished i n (e ∷ []) ≡ one_if ((c == i) && (number == n)) + 0 = ap (λ (k : ℕ). one_if ((k == i) && (e.number == n)) + 0) on_it ∙ ap (λ (k : ℕ). one_if ((c == i) && (k == n)) + 0) of_it in
-              omega (arith, tally_finished-append i n w.finished (e ∷ []), one))
+          let one : tally_finished i n (e ∷ []) ≡ one_if ((c == i) && (number == n)) + 0 = ap (λ (k : ℕ). one_if ((k == i) && (e.number == n)) + 0) on_it ∙ ap (λ (k : ℕ). one_if ((c == i) && (k == n)) + 0) of_it in
+          omega (arith, tally_finished-append i n w.finished (e ∷ []), one))
           h.each_once);
       own_finished = All-push (IsOwnEntry setup new) w.finished e (entries_later setup w new later w.finished h.own_finished) (own_later setup middle new written e e.asked own);
       own_waiting = messages_later setup w new later w.waiting h.own_waiting;
@@ -218,19 +217,13 @@ heard_asks setup w c b number heard only now =
     let own = now_own setup w c b number heard now in
     All-get (λ (x : Heard). AsksReading x.asked) (served setup own.0) number heard own.2 (only own.0.stream)
 
--- an entry of a record that is heard is of it
-own_entry : (setup : Setup) (w : World) (e : Entry) (asked : Asked) → IsScan setup.codec → IsHeard setup w e.connection e.number e.xid asked → IsOwn setup w e asked
-own_entry setup w e (Ask call credential) scan h = h
-own_entry setup w e (Refused reply) scan h = h
-own_entry setup w e Undecoded scan h = absurd (All-get (λ (x : Heard). IsDecoded x.asked) (served setup h.0) e.number (record { xid = e.xid; asked = Undecoded }) h.2 (scan.decoded h.0.stream))
-
 admit_kept : (setup : Setup) (w : World) (c b number : ℕ) (heard : Heard) (o : Option Affinity) → IsReadOnly setup → IsScan setup.codec → IsHeardNow setup w c b number heard
     → home_of_asked setup.layout heard.asked ≡ o → Headline setup w → Headline setup (admit setup (byte_taken w c b) c number heard o)
 admit_kept setup w c b number heard None only scan now home h =
     let e : Entry = entry_at_once (byte_taken w c b) c number heard in
     let once : IsAtOnce setup w heard.asked = at_once setup only w h heard.asked (heard_asks setup w c b number heard only now) in
     answer_kept setup w c b number heard e (serial w.server heard.asked start_of_times false).reply now refl refl
-    (own_entry setup (byte_taken w c b) e heard.asked scan (now_own setup w c b number heard now))
+    (own_of_heard setup (byte_taken w c b) e heard.asked scan (now_own setup w c b number heard now))
     once.reply once.stays tt h
 admit_kept setup w c b number heard (Some a) only scan now home h = wait_kept setup w c b number heard a now home h
 

@@ -1,21 +1,21 @@
 -- Begin, Work and Finish keep the headline.
-use Rattle.std.proofs.Common.{◌≡◌, ℕ, ◌+◌, ◌≤◌, Bool, true, false, IsTrue, List, [], ◌∷◌, ◌++◌, length, Option, Some, None, refl, sym, ap, subst, ◌∙◌, arith}
-use Rattle.std.specs.Prelude.{slice_get, IfSome}
+use Rattle.std.proofs.Common.{◌≡◌, ℕ, ◌+◌, Bool, true, false, List, [], ◌∷◌, ◌++◌, Option, Some, None, refl, sym, ap, subst, ◌∙◌, arith}
+use Rattle.std.specs.Prelude.{slice_get}
 use Rattle.std.specs.List.{AllByRecursion, list_any, remove}
-use Rattle.nfs_model.specs.Types.{Asked, Ask, Refused, Undecoded, Moment, Reply, SystemError}
+use Rattle.nfs_model.specs.Types.{Moment, Reply, SystemError}
 use Rattle.nfs_model.specs.Tree.{Affinity, excludes}
 use Rattle.nfs_model.specs.Server as servers
 use Rattle.nfs_model.specs.Server.{Server}
 use Rattle.nfs_model.specs.Replay.{Entry, step_of, server_after, IsLawful}
-use Rattle.nfs_model.specs.World.{Heard, Setup, World, Connection, Message, Outcome, Replied, Starved, Moved, Running, Worker, Parts, IsScan, IsDecoded, all_running, with_held, tried, hands_blocks, with_running, with_output, changed_at, finish}
+use Rattle.nfs_model.specs.World.{Heard, Setup, World, Connection, Message, Outcome, Replied, Starved, Moved, Running, Worker, Parts, IsScan, all_running, with_held, tried, hands_blocks, with_running, with_output, changed_at, finish}
 use Rattle.nfs_model.specs.Events.Refusals.{is_busy}
 use Rattle.nfs_model.specs.Events.Work.{Works}
 use Rattle.nfs_model.specs.Events.Step.{with_outcome, entry_of, without_call, stamped, finished_by}
-use Rattle.nfs_model.specs.Headline.{Headline, start, served, messages, tally_finished, tally_messages, server_worked, worked_by, IsHeard, IsOwn, IsOwnEntry, IsOwnMessage, IsOutcome, IsTried, IsTriedAt, IsPartition, Apart}
+use Rattle.nfs_model.specs.Headline.{Headline, start, served, messages, tally_finished, tally_messages, server_worked, worked_by, IsOwnEntry, IsOwnMessage, IsOutcome, IsTried, IsPartition, Apart}
 use Rattle.nfs_model.specs.ReadOnly.{IsReadOnly}
-use Rattle.nfs_model.proofs.Lists.{All-get, All-remove, All-push, All-between, All-without, All-there, Some_same}
+use Rattle.nfs_model.proofs.Lists.{All-get, All-remove, All-push, All-between, All-without, All-there}
 use Rattle.nfs_model.proofs.Written.{AreLawful-push, server_after-push, replies_finish, until_finish, written_stream}
-use Rattle.nfs_model.proofs.Own.{later_changed, entries_later, messages_later, heard_later}
+use Rattle.nfs_model.proofs.Own.{later_changed, entries_later, messages_later, heard_later, own_of_heard}
 use Rattle.nfs_model.proofs.Once.{total_in, once_changed, tally_finished-append, tally_messages-append, tally_messages-remove}
 use Rattle.nfs_model.proofs.Slots.{Slot, slot, messages-between, tried-append, tally-between, messages_between, messages_without, messages_there, server_worked-between, Apart-between, Apart-without}
 use Rattle.nfs_model.proofs.Unchanged.{done, IsWorked, IsFinished, worked, finished}
@@ -86,9 +86,9 @@ keeps_work setup w i k r o server parts only there runs unworked works h =
     let was : all_running w.workers ≡ s.before ++ r ∷ s.after = s.was ∙ ap (λ (x : Option Running). s.before ++ with_held x s.after) runs in
     let now : all_running (changed_at (with_running (Some q)) w.workers i) ≡ s.before ++ q ∷ s.after = s.becomes (Some q) in
     let same_messages : messages (all_running (changed_at (with_running (Some q)) w.workers i)) ≡ messages (all_running w.workers) =
-        ap (λ (rs : List Running). messages rs) now ∙ messages-between s.before s.after q ∙ sym (ap (λ (rs : List Running). messages rs) was ∙ messages-between s.before s.after r) in
+    ap (λ (rs : List Running). messages rs) now ∙ messages-between s.before s.after q ∙ sym (ap (λ (rs : List Running). messages rs) was ∙ messages-between s.before s.after r) in
     let same_tried : tried (all_running (changed_at (with_running (Some q)) w.workers i)) ≡ tried (all_running w.workers) =
-        ap (λ (rs : List Running). tried rs) now ∙ tried-append s.before (q ∷ s.after) ∙ sym (ap (λ (rs : List Running). tried rs) was ∙ tried-append s.before (r ∷ s.after)) in
+    ap (λ (rs : List Running). tried rs) now ∙ tried-append s.before (q ∷ s.after) ∙ sym (ap (λ (rs : List Running). tried rs) was ∙ tried-append s.before (r ∷ s.after)) in
     let done_work : IsWorked setup w r o server parts s.before s.after = worked setup only w h s.before s.after r was o server parts unworked works in
     record {
       output = h.output;
@@ -113,12 +113,6 @@ keeps_work setup w i k r o server parts only there runs unworked works h =
 
 -- ---- finishing
 
--- a message that is heard is of its record when it is finished
-own_of_heard : (setup : Setup) (w : World) (e : Entry) (asked : Asked) → IsScan setup.codec → IsHeard setup w e.connection e.number e.xid asked → IsOwn setup w e asked
-own_of_heard setup w e (Ask call credential) scan h = h
-own_of_heard setup w e (Refused reply) scan h = h
-own_of_heard setup w e Undecoded scan h = absurd (All-get (λ (x : Heard). IsDecoded x.asked) (served setup h.0) e.number (record { xid = e.xid; asked = Undecoded }) h.2 (scan.decoded h.0.stream))
-
 -- a call that runs is finished, with the reply that the serial server gives it now
 keeps_finished : (setup : Setup) (w : World) (i : ℕ) (k : Worker) (r : Running) (starved : Bool) (reply : Reply) (s : Slot w.workers i k)
     → IsScan setup.codec → all_running w.workers ≡ s.before ++ r ∷ s.after → Headline setup w
@@ -137,10 +131,10 @@ keeps_finished setup w i k r starved reply s scan was h right lawful done_call =
       output = replies_finish setup w.connections w.finished e reply h.output h.until right;
       each_once = once_changed setup w.connections (total_in w) (total_in new) write e.connection (λ x at. keeps x)
           (λ c n.
-              let a = tally_finished-append c n w.finished (e ∷ []) in
-              let b = ap (λ (rs : List Running). tally_messages c n (messages rs)) was ∙ tally-between c n s.before s.after r in
-              let d = ap (λ (rs : List Running). tally_messages c n (messages rs)) now in
-              omega (arith, a, b, d))
+          let a = tally_finished-append c n w.finished (e ∷ []) in
+          let b = ap (λ (rs : List Running). tally_messages c n (messages rs)) was ∙ tally-between c n s.before s.after r in
+          let d = ap (λ (rs : List Running). tally_messages c n (messages rs)) now in
+          omega (arith, a, b, d))
           h.each_once;
       own_finished = All-push (IsOwnEntry setup new) w.finished e (entries_later setup w new later w.finished h.own_finished)
           (own_of_heard setup new e r.message.asked scan (heard_later setup w new later r.message.connection r.message.number r.message.xid r.message.asked own));
@@ -225,6 +219,6 @@ keeps_finish setup w i k r o only scan there runs is h =
     let s = slot w.workers i k there in
     let was : all_running w.workers ≡ s.before ++ r ∷ s.after = s.was ∙ ap (λ (x : Option Running). s.before ++ with_held x s.after) runs in
     let outcome : IsOutcome setup (done setup w) r (Some o) =
-        subst (λ (x : Option Outcome). IsOutcome setup (done setup w) r x) is
-        (All-there (λ x. IsOutcome setup (done setup w) x x.outcome) s.before s.after r (subst (λ (rs : List Running). AllByRecursion (λ x. IsOutcome setup (done setup w) x x.outcome) rs) was h.outcomes)) in
+    subst (λ (x : Option Outcome). IsOutcome setup (done setup w) r x) is
+    (All-there (λ x. IsOutcome setup (done setup w) x x.outcome) s.before s.after r (subst (λ (rs : List Running). AllByRecursion (λ x. IsOutcome setup (done setup w) x x.outcome) rs) was h.outcomes)) in
     keeps_by setup w i k r o s only scan was is outcome h

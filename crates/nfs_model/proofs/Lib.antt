@@ -11,4 +11,5 @@ pub mod Slots
 pub mod Unchanged
 pub mod KeptByConnections
 pub mod KeptByWorkers
+pub mod Kept
 pub mod KeptByFeed

@@ -1,11 +1,11 @@
 -- Each record served is finished, waiting or running, just once: how the count goes on.
-use Rattle.std.proofs.Common.{◌≡◌, ℕ, zero, suc, ◌+◌, Bool, true, false, List, [], ◌∷◌, ◌++◌, length, Option, Some, None, refl, sym, ap, subst, ◌∙◌, arith, length-append}
+use Rattle.std.proofs.Common.{◌≡◌, ℕ, zero, suc, ◌+◌, Bool, true, false, List, [], ◌∷◌, ◌++◌, length, Some, refl, sym, ap, subst, ◌∙◌, arith, length-append}
 use Rattle.std.specs.Prelude.{slice_get, ◌==◌, ◌&&◌, nat_lt, if◌then◌else◌}
 use Rattle.std.specs.List.{AllByRecursion, remove}
 use Rattle.std.proofs.lemmas.Bool.{ne_eqb, eq-eqb}
 use Rattle.std.proofs.lemmas.Bool.Decides.{nat_tests}
 use Rattle.nfs_model.specs.Replay.{Entry}
-use Rattle.nfs_model.specs.World.{Heard, Setup, World, Connection, Message, Running, Worker, all_running, changed_at}
+use Rattle.nfs_model.specs.World.{Heard, Setup, World, Connection, Message, all_running, changed_at}
 use Rattle.nfs_model.specs.Headline.{served, messages, one_if, tally_finished, tally_messages}
 use Rattle.nfs_model.proofs.Lists.{changed_all, pushed_all, Some_same}
 
@@ -76,11 +76,11 @@ once_heard setup connections old new f k number h longer more o =
     changed_all (λ c x. (n : ℕ) → new c n ≡ one_if (nat_lt n (length (served setup x)))) f connections k
     (λ c x at ne n. more c n ∙ none_more (k == c) (number == n) (old c n) (ne_eqb k c (λ q. ne (sym q))) ∙ o c x at n)
     (λ x at n.
-        let l = longer x at in
-        let counted : number ≡ length (served setup x) = l.1 in
-        let length_is : length (served setup (f x)) ≡ number + 1 = ap length l.0 ∙ length-append (served setup x) (h ∷ []) ∙ ap (λ (i : ℕ). i + 1) (sym counted) in
-        more k n ∙ here_more (k == k) number n (old k n) (eq-eqb k k refl) (o k x at n ∙ ap (λ (i : ℕ). one_if (nat_lt n i)) (sym counted))
-        ∙ ap (λ (i : ℕ). one_if (nat_lt n i)) (sym length_is))
+    let l = longer x at in
+    let counted : number ≡ length (served setup x) = l.1 in
+    let length_is : length (served setup (f x)) ≡ number + 1 = ap length l.0 ∙ length-append (served setup x) (h ∷ []) ∙ ap (λ (i : ℕ). i + 1) (sym counted) in
+    more k n ∙ here_more (k == k) number n (old k n) (eq-eqb k k refl) (o k x at n ∙ ap (λ (i : ℕ). one_if (nat_lt n i)) (sym counted))
+    ∙ ap (λ (i : ℕ). one_if (nat_lt n i)) (sym length_is))
 
 none_below : (n t : ℕ) → t ≡ 0 → t ≡ one_if (nat_lt n 0)
 none_below n t e = grind (arith, nat_tests)

@@ -1,13 +1,13 @@
 -- Entries and messages are of records of the streams, and stay so as the streams grow.
-use Rattle.std.proofs.Common.{◌≡◌, ℕ, ◌<◌, true, IsTrue, List, [], ◌∷◌, ◌++◌, length, Option, Some, None, refl, sym, ap, subst, ◌∙◌, arith, inl, inr}
+use Rattle.std.proofs.Common.{◌≡◌, ℕ, ◌<◌, List, ◌++◌, length, Some, sym, subst, ◌∙◌, arith, inl, inr}
 use Rattle.std.specs.Prelude.{slice_get}
 use Rattle.std.specs.List.{AllByRecursion}
 use Rattle.std.proofs.lemmas.Bool.Decides.{eqb_tells}
 use Rattle.nfs_model.specs.Types.{Asked, Ask, Refused, Undecoded}
 use Rattle.nfs_model.specs.Replay.{Entry}
-use Rattle.nfs_model.specs.World.{Heard, Setup, World, Connection, Message, changed_at}
+use Rattle.nfs_model.specs.World.{Heard, Setup, World, Connection, Message, IsScan, IsDecoded, changed_at}
 use Rattle.nfs_model.specs.Headline.{served, IsHeard, IsOwn, IsOwnEntry, IsOwnMessage}
-use Rattle.nfs_model.proofs.Lists.{All-weaker, slice_get-append, slice_get_below, slice_get-changed_at, slice_get-changed_elsewhere}
+use Rattle.nfs_model.proofs.Lists.{All-weaker, All-get, slice_get-append, slice_get_below, slice_get-changed_at, slice_get-changed_elsewhere}
 
 -- each connection is there still, with the records that it had
 abbrev pub IsLater : Setup → List Connection → List Connection → Type 0
@@ -53,6 +53,12 @@ module _ (setup : Setup) (old new : World) (later : IsLater setup old.connection
 
   pub messages_later : (ms : List Message) → AllByRecursion (IsOwnMessage setup old) ms → AllByRecursion (IsOwnMessage setup new) ms
   messages_later ms p = All-weaker (IsOwnMessage setup old) (IsOwnMessage setup new) (λ m h. heard_later m.connection m.number m.xid m.asked h) ms p
+
+-- an entry of a record that is heard is of it
+pub own_of_heard : (setup : Setup) (w : World) (e : Entry) (asked : Asked) → IsScan setup.codec → IsHeard setup w e.connection e.number e.xid asked → IsOwn setup w e asked
+own_of_heard setup w e (Ask call credential) scan h = h
+own_of_heard setup w e (Refused reply) scan h = h
+own_of_heard setup w e Undecoded scan h = absurd (All-get (λ (x : Heard). IsDecoded x.asked) (served setup h.0) e.number (record { xid = e.xid; asked = Undecoded }) h.2 (scan.decoded h.0.stream))
 
 -- ---- the connection of an entry is there
 

@@ -14,8 +14,8 @@ use Rattle.nfs_model.specs.Locate.{Served, told, on_node}
 use Rattle.nfs_model.specs.Serial.Getattr.{getattr}
 use Rattle.nfs_model.specs.Serial.Step.{placed, on_volume, on_handle, serve, serial}
 use Rattle.nfs_model.specs.Serial.Starve.{may_starve_later}
-use Rattle.nfs_model.specs.Replay.{Entry, step_of, server_after}
-use Rattle.nfs_model.specs.World.{Heard, Setup, World, Message, Running, Outcome, Replied, Starved, Moved, Parts, all_running, hands_blocks}
+use Rattle.nfs_model.specs.Replay.{Entry, server_after}
+use Rattle.nfs_model.specs.World.{Heard, Setup, World, Running, Outcome, Replied, Starved, Moved, Parts, all_running, hands_blocks}
 use Rattle.nfs_model.specs.Events.Work.{Works, PartsAt, PartsAfter, changed_volume, move_of}
 use Rattle.nfs_model.specs.Events.Step.{entry_of}
 use Rattle.nfs_model.specs.Headline.{Headline, start, served, messages, worked_by, server_worked, IsHeard, IsOwn, IsOwnEntry, IsOwnMessage, IsOutcome, IsPartition}

@@ -1,15 +1,15 @@
 -- The bytes written, where one more entry is finished.
-use Rattle.std.proofs.Common.{◌≡◌, ℕ, ◌≤◌, Bool, true, false, List, [], ◌∷◌, ◌++◌, length, take, Option, Some, None, refl, sym, ap, subst, ◌∙◌, arith, append_assoc, length-append}
+use Rattle.std.proofs.Common.{◌≡◌, ℕ, ◌≤◌, Bool, true, false, List, [], ◌∷◌, ◌++◌, length, Option, Some, None, refl, sym, ap, subst, ◌∙◌, arith, append_assoc, length-append}
 use Rattle.std.specs.Prelude.{IfSome, slice_get, ◌==◌, if◌then◌else◌}
 use Rattle.std.specs.List.{AllByRecursion}
 use Rattle.std.proofs.lemmas.Bool.{ne_eqb, eq-eqb}
-use Rattle.std.proofs.lemmas.List.{append-nil, take-append-le, take_all}
+use Rattle.std.proofs.lemmas.List.{append-nil, take-append-le}
 use Rattle.nfs_model.specs.Types.{Reply}
 use Rattle.nfs_model.specs.Server.{Server}
 use Rattle.nfs_model.specs.Replay.{Entry, step_of, server_after, IsLawful, AreLawful}
 use Rattle.nfs_model.specs.World.{Codec, Setup, Connection, changed_at, written_to, with_output}
 use Rattle.nfs_model.specs.Headline.{replies, up_to, start}
-use Rattle.nfs_model.proofs.Lists.{changed_all, pushed_all}
+use Rattle.nfs_model.proofs.Lists.{changed_all}
 
 -- ---- one more entry
 
@@ -82,7 +82,7 @@ replies_finish setup connections es e reply o u r =
     changed_all (λ c x. x.output ≡ replies setup.codec c (start setup) (up_to x.closed (es ++ e ∷ []))) (with_output (setup.codec.reply_record e.xid reply)) connections e.connection
     (λ c x at ne. replies_elsewhere setup.codec c (start setup) es e x.closed x.output (ne_eqb e.connection c (λ q. ne (sym q))) (u c x at) (o c x at))
     (λ x at. replies_here setup.codec (start setup) es e reply x x.closed refl (u e.connection x at) r (o e.connection x at)
-        ∙ ap (λ (k : Option ℕ). replies setup.codec e.connection (start setup) (up_to k (es ++ e ∷ []))) (sym (written_closed (setup.codec.reply_record e.xid reply) x.closed x)))
+    ∙ ap (λ (k : Option ℕ). replies setup.codec e.connection (start setup) (up_to k (es ++ e ∷ []))) (sym (written_closed (setup.codec.reply_record e.xid reply) x.closed x)))
 
 pub until_finish : (connections : List Connection) (es : List Entry) (e : Entry) (bytes : List ℕ) (k : ℕ)
     → AreUntil connections es → AreUntil (changed_at (with_output bytes) connections k) (es ++ e ∷ [])
