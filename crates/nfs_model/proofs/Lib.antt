@@ -1,4 +1,5 @@
 pub mod Evaluate
+mod Toy
 mod WorkedCalls
 mod WorkedEvents
 pub mod AtOnce
