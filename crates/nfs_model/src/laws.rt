@@ -6,7 +6,8 @@ ghost use Rattle.nfs_model.specs.Types.{Call, Credential, Moment};
 ghost use Rattle.nfs_model.specs.Tree.{Layout};
 ghost use Rattle.nfs_model.specs.Server.{Server};
 ghost use Rattle.nfs_model.specs.Home.{home};
-ghost use Rattle.nfs_model.specs.Serial.Step.{serve};
+ghost use Rattle.nfs_model.specs.Serial.Step.{serve, stay};
+ghost use Rattle.nfs_model.specs.Serial.AtOnce.{answer_without_home};
 ghost use Rattle.nfs_model.specs.World.{Setup, World, IsScan};
 ghost use Rattle.nfs_model.specs.Events.Refusals.{Event, Done};
 ghost use Rattle.nfs_model.specs.Events.Step.{Events, Runs};
@@ -18,12 +19,12 @@ pub fn opening_meets_headline()
     ensures { (setup : Setup) → Headline setup (opening_world setup) }
 {}
 
-/// A call without a home affinity changes nothing.
+/// A call without a home affinity reads no state and changes nothing.
 pub fn without_home_stays()
     ensures { (layout : Layout) (server : Server) (credential : Credential) (moment : Moment) (call : Call)
         → length layout.volumes ≡ length server.volumes
         → home layout call ≡ None
-        → (serve server call credential moment).server ≡ server }
+        → serve server call credential moment ≡ stay server (answer_without_home layout call) }
 {}
 
 /// In a run that serves only calls that change nothing, each event of connections and calls keeps
