@@ -6,7 +6,7 @@ use Rattle.nfs_model.specs.Home.{home}
 use Rattle.nfs_model.specs.Server.{Server, opening, opening_volume, handle_bytes}
 use Rattle.nfs_model.specs.Serial.Step.{serial}
 use Rattle.nfs_model.specs.Serial.Create.{no_attributes}
-use Rattle.nfs_model.specs.Serial.Starve.{may_starve_later}
+use Rattle.nfs_model.specs.Serial.Starve.{may_starve_at_decoding, may_starve_later}
 use Rattle.nfs_model.proofs.Evaluate.{evaluate}
 
 abbrev volume_layout : VolumeLayout
@@ -316,3 +316,9 @@ overwrite_may_not_starve = simp evaluate refl
 
 getattr_may_not_starve : may_starve_later start (Ask (Getattr root) nobody) (at 1) ≡ false
 getattr_may_not_starve = simp evaluate refl
+
+decoding_of_a_name_may_starve : may_starve_at_decoding (Ask (Lookup root file_a) nobody) ≡ true
+decoding_of_a_name_may_starve = refl
+
+decoding_of_a_handle_may_not_starve : may_starve_at_decoding (Ask (Getattr root) nobody) ≡ false
+decoding_of_a_handle_may_not_starve = refl

@@ -1,6 +1,6 @@
 -- Worked events, over a toy codec: a byte is a record, 255 a fault.
-use Rattle.std.proofs.Common.{◌≡◌, ℕ, false, List, [], ◌∷◌, replicate, Some, None, Ok, refl, inl, inr, ◌==◌, if◌then◌else◌}
-use Rattle.nfs_model.specs.Types.{Moment, Credential, Create, Unchecked, Write, Shown, Folder, GetattrDone, Null, Getattr, Lookup, Success, Asked, Ask}
+use Rattle.std.proofs.Common.{◌≡◌, ℕ, false, List, [], ◌∷◌, replicate, Some, None, Ok, refl, inl, inr}
+use Rattle.nfs_model.specs.Types.{Moment, Create, Unchecked, Write, Shown, Folder, GetattrDone, Null, Success, Asked, Ask}
 use Rattle.nfs_model.specs.Tree.{Layout, Logical, Stripe, Volume}
 use Rattle.nfs_model.specs.Server.{opening, opening_volume, handle_bytes, start_of_times}
 use Rattle.nfs_model.specs.Serial.Step.{serial}
@@ -9,28 +9,12 @@ use Rattle.nfs_model.specs.Events.Work.{move_of}
 use Rattle.std.specs.Ordering.{nat_cmp}
 use Rattle.std.specs.FinSet.{FinSet, empty, from_list}
 use Rattle.nfs_model.specs.Replay.{Entry}
-use Rattle.nfs_model.specs.World.{Scanned, Codec, Setup, World, Message, Replied, Worker, Empty, Parts}
+use Rattle.nfs_model.specs.World.{Setup, World, Message, Replied, Worker, Empty, Parts}
 use Rattle.nfs_model.specs.Events.Refusals.{Open, Feed, Begin, Work, Finish, Opened, Fed, Granted, HasReply, Written, refusal}
 use Rattle.nfs_model.specs.Events.Step.{Events, new_connection}
 use Rattle.nfs_model.specs.Headline.{opening_world, opening_parts}
 use Rattle.nfs_model.proofs.Evaluate.{evaluate}
-
-abbrev nobody : Credential
-nobody = record { uid = 65534; gid = 65534 }
-
--- 200 asks for the attributes of a root, 201 looks a name up, any other byte is NULL
-abbrev asked_by : ℕ → Asked
-asked_by b = if b == 200 then Ask (Getattr (handle_bytes 0 1)) nobody else if b == 201 then Ask (Lookup (handle_bytes 0 1) (97 ∷ [])) nobody else Ask Null nobody
-
-abbrev with_record : ℕ → Scanned → Scanned
-with_record b rest = if b == 255 then record { served = []; fault = Some 12 } else record { served = record { xid = b; asked = asked_by b } ∷ rest.served; fault = rest.fault }
-
-abbrev toy_scan : List ℕ → Scanned
-toy_scan [] = record { served = []; fault = None }
-toy_scan (b ∷ bs) = with_record b (toy_scan bs)
-
-abbrev toy : Codec
-toy = record { scan = toy_scan; reply_record = λ xid reply. xid ∷ [] }
+use Rattle.nfs_model.proofs.Toy.{nobody, asked_by, toy}
 
 abbrev layout : Layout
 layout = record { spare = 1 ∷ []; volumes = record { aggregate = 0; ranges = 1; stripes = 8; mebibytes = 16 } ∷ [] }
@@ -159,6 +143,17 @@ getattr_is_finished : Events setup worked (Finish 0) (Ok (Written 0 1)) (record 
   stamps = 1;
 })
 getattr_is_finished = (refl, (_, _, _, refl, refl, refl, refl, refl))
+
+-- its connection was closed before: it is finished, and nothing is written
+abbrev closed_worked : World
+closed_worked = record worked { connections = record { stream = 200 ∷ []; closed = Some 0; output = [] } ∷ [] }
+
+finish_after_close_writes_nothing : Events setup closed_worked (Finish 0) (Ok (Written 0 [])) (record opened {
+  connections = record { stream = 200 ∷ []; closed = Some 0; output = [] } ∷ [];
+  finished = record { connection = 0; number = 0; xid = 200; asked = asked_by 200; affinity = Some (Logical 0); moment = at 1; starved = false } ∷ [];
+  stamps = 1;
+})
+finish_after_close_writes_nothing = (refl, (_, _, _, refl, refl, refl, refl, refl))
 
 -- ---- moves of a WRITE of one byte into an empty file
 

@@ -15,4 +15,5 @@ pub mod Commit
 pub mod Census
 pub mod Grow
 pub mod Step
+pub mod AtOnce
 pub mod Starve

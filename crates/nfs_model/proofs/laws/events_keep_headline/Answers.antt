@@ -1,0 +1,5 @@
+use Rattle.nfs_model.proofs.Kept.{keeps}
+use Rattle.nfs_model.proofs.laws.events_keep_headline.Goals as goal
+
+pub returns : goal.returns
+returns c = λ setup old event answer new only scan h of e. keeps setup only scan old event answer new of e h
