@@ -1,7 +1,8 @@
 -- Lists of bytes.
-use Rattle.std.proofs.Common.{ℕ, zero, suc, ◌<◌, List, [], ◌∷◌, ◌++◌, get_or, take}
+use Rattle.std.proofs.Common.{ℕ, zero, suc, ◌<◌, arith, List, [], ◌∷◌, ◌++◌, get_or, take}
 use Rattle.rpc_record.specs.Stream.{AreBytes}
 
+-- bytes by index
 pub are_bytes : (bytes : List ℕ) → ((i : ℕ) → get_or bytes i 0 < 256) → AreBytes bytes
 are_bytes [] h = tt
 are_bytes (b ∷ bytes) h = (h zero, are_bytes bytes (λ i. h (suc i)))
@@ -14,3 +15,8 @@ pub AreBytes-take : (n : ℕ) (xs : List ℕ) → AreBytes xs → AreBytes (take
 AreBytes-take zero xs h = tt
 AreBytes-take (suc n) [] h = tt
 AreBytes-take (suc n) (x ∷ xs) h = (h.0, AreBytes-take n xs h.1)
+
+pub below : (bytes : List ℕ) → AreBytes bytes → (i : ℕ) → get_or bytes i 0 < 256
+below [] h i = omega arith
+below (b ∷ bytes) h zero = h.0
+below (b ∷ bytes) h (suc i) = below bytes h.1 i

@@ -8,18 +8,11 @@ use Rattle.std.proofs.lemmas.Bool.{eqb-true, eqb-false, ltb-true, ltb-false, leb
 use Rattle.std.proofs.lemmas.List.{append-nil}
 use Rattle.std.proofs.lemmas.Nat.{be_bytes_4}
 use Rattle.rpc_record.specs.Stream.{AreBytes}
-use Rattle.rpc_record.specs.Records.{limit, last_bit, fragment, front, IsRecord, IsAtFault, HasNoRecord}
+use Rattle.rpc_record.proofs.Bytes.{AreBytes-append, below}
+use Rattle.rpc_record.specs.Records.{limit, last_bit, header, fragment, front, IsRecord, IsAtFault, HasNoRecord}
 use Rattle.rpc_record.specs.Machine.{State, InHeader, InData, Next, Goes, Ends, Faults, Outcome, More, Made, Fault, after_fragment, after_header, after, go, scan}
 
-pub below : (bytes : List ℕ) → AreBytes bytes → (i : ℕ) → get_or bytes i 0 < 256
-below [] h i = omega arith
-below (b ∷ bytes) h zero = h.0
-below (b ∷ bytes) h (suc i) = below bytes h.1 i
-
-AreBytes-push : (bytes : List ℕ) (b : ℕ) → AreBytes bytes → b < 256 → AreBytes (bytes ++ b ∷ [])
-AreBytes-push [] b h lt = (lt, tt)
-AreBytes-push (c ∷ bytes) b h lt = (h.0, AreBytes-push bytes b h.1 lt)
-
+-- bytes that end in fewer than four of a header
 pub record HeaderStands (came joined header : List ℕ) : Type 0 where
   pub parts : List (List ℕ)
   pub joined_is : joined ≡ concat parts
@@ -28,20 +21,23 @@ pub record HeaderStands (came joined header : List ℕ) : Type 0 where
   pub bytes : AreBytes header
   pub small : length joined ≤ limit
 
+-- bytes that end in a beginning of a fragment's data
 pub record DataStands (came joined : List ℕ) (left : ℕ) (last : Bool) : Type 0 where
   pub parts : List (List ℕ)
   pub part : List ℕ
   pub size : ℕ
   pub joined_is : joined ≡ concat parts ++ part
-  pub came_is : came ≡ front parts ++ (to_be_bytes w32 (size + cond last last_bit 0) ++ part)
+  pub came_is : came ≡ front parts ++ (header last size ++ part)
   pub size_is : length part + left ≡ size
   pub some : 0 < left
   pub small : length (concat parts) + size ≤ limit
 
+-- the state after these bytes
 abbrev pub Stands : List ℕ → State → Type 0
 Stands came (InHeader joined header) = HeaderStands came joined header
 Stands came (InData joined left last) = DataStands came joined left last
 
+-- what one more byte led to, with it
 abbrev pub Leads : List ℕ → Next → Type 0
 Leads came (Goes s) = Stands came s
 Leads came (Ends made) = IsRecord made came
@@ -109,7 +105,7 @@ leads came (InHeader joined header) b lt h =
     cond_leads (eqb (length header) 3) (after_header joined (from_be_bytes w32 bytes)) (Goes (InHeader joined bytes)) (came ++ b ∷ [])
     (λ full.
     let len : length bytes ≡ 4 = omega (arith, length-append header (b ∷ []), eqb-true (length header) 3 full) in
-    let all : AreBytes bytes = AreBytes-push header b h.bytes lt in
+    let all : AreBytes bytes = AreBytes-append header (b ∷ []) h.bytes (lt, tt) in
     let number = from_be_bytes w32 bytes in
     let fits : number < 2 ^ 32 = omega (arith, below bytes all 0, below bytes all 1, below bytes all 2, below bytes all 3) in
     let spelled : to_be_bytes w32 number ≡ bytes = be_bytes_4 bytes number len (below bytes all) refl in
@@ -117,10 +113,10 @@ leads came (InHeader joined header) b lt h =
     (entered h.parts (came ++ b ∷ []) number fits (omega (arith, ap length h.joined_is, h.small)) (now ∙ ap (λ (x : List ℕ). front h.parts ++ x) (sym spelled))))
     (λ short.
     let less : length header ≢ 3 = eqb-false (length header) 3 short in
-    record { parts = h.parts; joined_is = h.joined_is; came_is = now; short = omega (arith, length-append header (b ∷ []), h.short); bytes = AreBytes-push header b h.bytes lt; small = h.small })
+    record { parts = h.parts; joined_is = h.joined_is; came_is = now; short = omega (arith, length-append header (b ∷ []), h.short); bytes = AreBytes-append header (b ∷ []) h.bytes (lt, tt); small = h.small })
 leads came (InData joined left last) b lt h =
     let part = h.part ++ b ∷ [] in
-    let head = to_be_bytes w32 (h.size + cond last last_bit 0) in
+    let head = header last h.size in
     let now : came ++ b ∷ [] ≡ front h.parts ++ (head ++ part) = ap (λ (x : List ℕ). x ++ b ∷ []) h.came_is ∙ append_assoc (front h.parts) (head ++ h.part) (b ∷ []) ∙ ap (λ (x : List ℕ). front h.parts ++ x) (append_assoc head h.part (b ∷ [])) in
     let joins : joined ++ b ∷ [] ≡ concat h.parts ++ part = ap (λ (x : List ℕ). x ++ b ∷ []) h.joined_is ∙ append_assoc (concat h.parts) h.part (b ∷ []) in
     cond_leads (eqb left 1) (after_fragment (joined ++ b ∷ []) last) (Goes (InData (joined ++ b ∷ []) (left - 1) last)) (came ++ b ∷ [])
