@@ -49,16 +49,16 @@ ended stream bytes taken scanned at e =
 
 pub took : (stream bytes : List ℕ) (taken : ℕ) (step : Step) (state : State) (new : Option State) → IsAt stream state → Feeds (Some state) bytes taken step new → TookTo stream bytes taken new × Took stream bytes taken step
 took stream bytes taken (steps.Record made) state new h f =
-    let e = ended stream bytes taken _ _ (scan-made stream bytes made.items state 0 taken h f.0) in
-    (record { within = e.0.within; to = e.0.to ∙ sym f.1 }, e.1)
+    let e = ended stream bytes taken _ _ (scan-made stream bytes made.items state 0 taken h f.2) in
+    (record { within = e.0.within; to = e.0.to ∙ sym f.3 }, e.1)
 took stream bytes taken steps.More state new h f =
     let q = scan-more stream bytes state f.1.0 0 h f.1.1 in
     let whole : stream ++ take taken bytes ≡ stream ++ bytes = ap (λ (s : List ℕ). stream ++ s) (take_all taken bytes (omega (arith, f.0))) in
     (record { within = omega (arith, f.0); to = ap (λ (s : List ℕ). (read_stream s).at) whole ∙ q.to.at ∙ sym f.1.2 },
      (f.0, q.quiet, ap scan_stream whole ∙ quiet-scan stream bytes q.quiet))
 took stream bytes taken steps.Fault state new h f =
-    let e = ended stream bytes taken _ _ (scan-fault stream bytes state 0 taken h f.0) in
-    (record { within = e.0.within; to = e.0.to ∙ sym f.1 }, e.1)
+    let e = ended stream bytes taken _ _ (scan-fault stream bytes state 0 taken h f.1) in
+    (record { within = e.0.within; to = e.0.to ∙ sym f.2 }, e.1)
 took stream bytes taken steps.NoMemory state new h f =
     let whole : stream ++ take taken bytes ≡ stream = ap (λ (n : ℕ). stream ++ take n bytes) f.0 ∙ append-nil stream in
     (record { within = omega (arith, f.0); to = ap (λ (s : List ℕ). (read_stream s).at) whole ∙ h.at ∙ sym f.2 },

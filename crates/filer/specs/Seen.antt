@@ -8,17 +8,12 @@ use Rattle.nfs_model.specs.Replay as replays
 use Rattle.nfs_model.specs.World as worlds
 use Rattle.nfs_model.specs.Headline.{opening_parts}
 use Rattle.nfs_model.specs.Events.Refusals as events
-use Rattle.filer.specs.declared.values.Moment.{Moment}
-use Rattle.filer.specs.declared.values.Credential.{Credential}
-use Rattle.filer.specs.declared.values.Call.{Call}
-use Rattle.filer.specs.declared.values.Call.TheVariants as calls
-use Rattle.filer.specs.declared.values.Status.{Status}
-use Rattle.filer.specs.declared.values.Status.TheVariants as statuses
-use Rattle.filer.specs.declared.values.FileKind.{FileKind}
-use Rattle.filer.specs.declared.values.FileKind.TheVariants as kinds
-use Rattle.filer.specs.declared.values.Attributes.{Attributes}
-use Rattle.filer.specs.declared.values.Reply.{Reply}
-use Rattle.filer.specs.declared.values.Reply.TheVariants as replies
+use Rattle.nfs_values.specs.declared.answer.Answer.{Answer}
+use Rattle.nfs_values.specs.Moment.{moment_of}
+use Rattle.nfs_values.specs.Credential.{credential_of}
+use Rattle.nfs_values.specs.Call.{call_of}
+use Rattle.nfs_values.specs.Answer as answers
+use Rattle.nfs_values.specs.Reply.{reply_of}
 use Rattle.filer.specs.declared.engine.affinity.Affinity.{Affinity}
 use Rattle.filer.specs.declared.engine.affinity.Affinity.TheVariants.{VolumeLogical}
 use Rattle.filer.specs.declared.engine.connection.OpenConnection.{OpenConnection}
@@ -41,47 +36,6 @@ use Rattle.filer.specs.declared.engine.state.State.{State}
 use Rattle.filer.specs.Numbers.{stop_number, refusal_number}
 use Rattle.filer.specs.Streams.{setup_of}
 
--- ---- values
-
-abbrev pub moment_of : Moment → types.Moment
-moment_of m = record { seconds = m.seconds; nanoseconds = m.nanoseconds }
-
-abbrev pub credential_of : Credential → types.Credential
-credential_of c = record { uid = c.uid; gid = c.gid }
-
-abbrev pub call_of : Call → types.Call
-call_of calls.Null = types.Null
-call_of (calls.GetAttributes object) = types.Getattr object.bytes.items
-
-abbrev pub status_of : Status → types.Status
-status_of statuses.BadHandle = types.BadHandle
-status_of statuses.Stale = types.Stale
-
-abbrev pub kind_of : FileKind → types.Kind
-kind_of kinds.Regular = types.Regular
-kind_of kinds.Directory = types.Folder
-
-abbrev pub shown_of : Attributes → types.Shown
-shown_of a = record {
-  kind = kind_of a.kind;
-  mode = a.mode;
-  links = a.links;
-  uid = a.uid;
-  gid = a.gid;
-  size = a.size;
-  used = a.used;
-  fsid = a.fsid;
-  fileid = a.fileid;
-  atime = moment_of a.atime;
-  mtime = moment_of a.mtime;
-  ctime = moment_of a.ctime;
-}
-
-abbrev pub reply_of : Reply → types.Reply
-reply_of replies.Null = types.Success types.NullDone
-reply_of (replies.Attributes a) = types.Success (types.GetattrDone (shown_of a))
-reply_of (replies.Failed s) = types.Success (types.Failed (status_of s) 0)
-
 -- ---- messages
 
 abbrev pub asked_of : Request → types.Asked
@@ -97,11 +51,11 @@ affinity_of (VolumeLogical volume) = trees.Logical volume
 abbrev pub message_of : Message → worlds.Message
 message_of m = record { connection = m.connection; number = m.number; xid = m.xid; asked = types.Ask (call_of m.call) (credential_of m.credential); affinity = trees.Logical 0 }
 
-abbrev pub outcome_of : Reply → worlds.Outcome
-outcome_of reply = worlds.Replied (reply_of reply)
+abbrev pub outcome_of : Answer → worlds.Outcome
+outcome_of answer = worlds.Replied (types.Success (answers.answer_of answer))
 
 abbrev pub running_of : Running → worlds.Running
-running_of r = record { message = message_of r.message; moment = moment_of r.moment; outcome = option_map outcome_of r.reply }
+running_of r = record { message = message_of r.message; moment = moment_of r.moment; outcome = option_map outcome_of r.answer }
 
 abbrev pub entry_of : Entry → replays.Entry
 entry_of e = record { connection = e.connection; number = e.number; xid = e.xid; asked = asked_of e.request; affinity = option_map affinity_of e.affinity; moment = moment_of e.moment; starved = e.starved }

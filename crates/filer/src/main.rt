@@ -7,7 +7,6 @@ mod choice;
 mod engine;
 mod fault;
 mod script;
-mod values;
 mod words;
 
 use std::io;

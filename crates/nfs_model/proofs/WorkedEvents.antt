@@ -148,7 +148,7 @@ getattr_is_finished = (refl, (_, _, _, refl, refl, refl, refl, refl))
 abbrev closed_worked : World
 closed_worked = record worked { connections = record { stream = 200 ∷ []; closed = Some 0; output = [] } ∷ [] }
 
-finish_after_close_writes_nothing : Events setup closed_worked (Finish 0) (Ok (Written 0 [])) (record opened {
+finish_after_close_writes_nothing : Events setup closed_worked (Finish 0) (Ok (Written 0 0)) (record opened {
   connections = record { stream = 200 ∷ []; closed = Some 0; output = [] } ∷ [];
   finished = record { connection = 0; number = 0; xid = 200; asked = asked_by 200; affinity = Some (Logical 0); moment = at 1; starved = false } ∷ [];
   stamps = 1;

@@ -28,7 +28,7 @@ pub(crate) struct ClosedConnection {
 }
 
 /// What bytes came to.
-#[derive(Debug, Drop)]
+#[derive(Drop)]
 pub(crate) enum Arrival {
     /// All were taken, and no record is whole.
     More,

@@ -3,7 +3,7 @@
 ghost use Rattle.std.specs.Prelude.{◌≡◌};
 
 use crate::engine::affinity::Affinity;
-use crate::values::Moment;
+use nfs_values::Moment;
 
 /// What may happen to an engine.
 #[derive(Clone, Copy, Debug)]

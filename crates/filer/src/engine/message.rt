@@ -2,10 +2,10 @@
 
 use crate::engine::affinity::Affinity;
 use crate::engine::parcel::VolumeLogical;
-use crate::values::{Call, Credential, Moment, Reply};
+use nfs_values::{Answer, Call, Credential, Moment, Reply};
 
 /// What a record asks.
-#[derive(Debug, Drop)]
+#[derive(Drop)]
 pub enum Request {
     /// A call, by the owner of what it makes.
     Call { call: Call, credential: Credential },
@@ -14,14 +14,14 @@ pub enum Request {
 }
 
 /// What was read of a record.
-#[derive(Debug, Drop)]
+#[derive(Drop)]
 pub struct Heard {
     pub xid: u32,
     pub request: Request,
 }
 
 /// A call that waits or runs. Each tries the affinity Volume Logical.
-#[derive(Debug, Drop)]
+#[derive(Drop)]
 pub struct Message {
     pub connection: usize,
     /// The place of its record among those that the connection served, from 0.
@@ -32,17 +32,17 @@ pub struct Message {
 }
 
 /// A message that a worker has begun, with the parcel that it was lent.
-#[derive(Debug, Drop)]
+#[derive(Drop)]
 pub struct Running {
     pub message: Message,
     pub moment: Moment,
     pub(crate) held: VolumeLogical,
-    /// The reply, once the message is worked.
-    pub reply: Option<Reply>,
+    /// What it is answered, once the message is worked.
+    pub answer: Option<Answer>,
 }
 
 /// A finished call.
-#[derive(Debug, Drop)]
+#[derive(Drop)]
 pub struct Entry {
     pub connection: usize,
     /// The place of its record among those that the connection served, from 0.

@@ -1,6 +1,6 @@
 //! The state of a volume that its calls run on.
 
-use crate::values::Moment;
+use nfs_values::Moment;
 
 /// The attributes that are kept of a node.
 #[derive(Clone, Copy, Debug, PartialEq, Eq)]
