@@ -4,3 +4,5 @@ pub mod Taking
 pub mod Worlds
 pub mod Arriving
 pub mod Connections
+pub mod Serving
+pub mod Calls

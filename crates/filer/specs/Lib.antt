@@ -4,4 +4,5 @@ pub mod Feeding
 pub mod Numbers
 pub mod Seen
 pub mod Records
+pub mod Served
 pub mod Sound

@@ -1,5 +1,5 @@
 -- The engine's fields as a world, and its events and answers as the world's.
-use Rattle.std.specs.Prelude.{ℕ, ◌*◌, List, [], ◌∷◌, ◌++◌, map, Option, Some, None, Result, Ok, Err, option_map}
+use Rattle.std.specs.Prelude.{ℕ, false, ◌*◌, List, [], ◌∷◌, ◌++◌, map, Option, Some, None, Result, Ok, Err, option_map}
 use Rattle.std.specs.FinMap.{from_sorted}
 use Rattle.nfs_model.specs.Types as types
 use Rattle.nfs_model.specs.Tree as trees
@@ -9,6 +9,7 @@ use Rattle.nfs_model.specs.World as worlds
 use Rattle.nfs_model.specs.Headline.{opening_parts}
 use Rattle.nfs_model.specs.Events.Refusals as events
 use Rattle.nfs_values.specs.declared.answer.Answer.{Answer}
+use Rattle.nfs_values.specs.declared.moment.Moment.{Moment}
 use Rattle.nfs_values.specs.Moment.{moment_of}
 use Rattle.nfs_values.specs.Credential.{credential_of}
 use Rattle.nfs_values.specs.Call.{call_of}
@@ -26,6 +27,7 @@ use Rattle.filer.specs.declared.engine.event.Refusal.{Refusal}
 use Rattle.filer.specs.declared.engine.layout.Layout.{Layout}
 use Rattle.filer.specs.declared.engine.message.Request.{Request}
 use Rattle.filer.specs.declared.engine.message.Request.TheVariants as requests
+use Rattle.filer.specs.declared.engine.message.Origin.{Origin}
 use Rattle.filer.specs.declared.engine.message.Heard.{Heard}
 use Rattle.filer.specs.declared.engine.message.Message.{Message}
 use Rattle.filer.specs.declared.engine.message.Running.{Running}
@@ -49,7 +51,7 @@ abbrev pub affinity_of : Affinity → trees.Affinity
 affinity_of (VolumeLogical volume) = trees.Logical volume
 
 abbrev pub message_of : Message → worlds.Message
-message_of m = record { connection = m.connection; number = m.number; xid = m.xid; asked = types.Ask (call_of m.call) (credential_of m.credential); affinity = trees.Logical 0 }
+message_of m = record { connection = m.origin.connection; number = m.origin.number; xid = m.origin.xid; asked = types.Ask (call_of m.call) (credential_of m.credential); affinity = trees.Logical 0 }
 
 abbrev pub outcome_of : Answer → worlds.Outcome
 outcome_of answer = worlds.Replied (types.Success (answers.answer_of answer))
@@ -58,7 +60,11 @@ abbrev pub running_of : Running → worlds.Running
 running_of r = record { message = message_of r.message; moment = moment_of r.moment; outcome = option_map outcome_of r.answer }
 
 abbrev pub entry_of : Entry → replays.Entry
-entry_of e = record { connection = e.connection; number = e.number; xid = e.xid; asked = asked_of e.request; affinity = option_map affinity_of e.affinity; moment = moment_of e.moment; starved = e.starved }
+entry_of e = record { connection = e.origin.connection; number = e.origin.number; xid = e.origin.xid; asked = asked_of e.request; affinity = option_map affinity_of e.affinity; moment = moment_of e.moment; starved = e.starved }
+
+-- a call that was not starved
+abbrev pub entry_by : Origin → Request → Option Affinity → Moment → replays.Entry
+entry_by origin request affinity moment = record { connection = origin.connection; number = origin.number; xid = origin.xid; asked = asked_of request; affinity = option_map affinity_of affinity; moment = moment_of moment; starved = false }
 
 -- ---- connections
 

@@ -51,3 +51,29 @@ pub record IsSound (s : State) : Type 0 where
   pub finished : vec_len s.finished + pending s ≤ vec_capacity s.finished
   pub lent : IsLent s.home s.running
   pub stamps : s.stamps + count_of s.running ≤ 2 ^ 62
+
+-- ---- what a finished call leaves
+
+-- a connection that was written to, at most 116 bytes
+pub record IsWrittenTo (old new : OpenConnection) : Type 0 where
+  pub same : new ≡ record old { output = new.output }
+  pub len : vec_len new.output ≤ vec_len old.output + 116
+  pub room : vec_capacity old.output ≤ vec_capacity new.output
+
+abbrev pub MayBeWrittenTo : Option OpenConnection → Option OpenConnection → Type 0
+MayBeWrittenTo None None = Unit {0}
+MayBeWrittenTo None (Some new) = ⊥
+MayBeWrittenTo (Some old) None = ⊥
+MayBeWrittenTo (Some old) (Some new) = IsWrittenTo old new
+
+-- one more finished call, and perhaps its reply; all else stays
+pub record FinishesOne (old new : State) : Type 0 where
+  pub same : new ≡ record old { finished = new.finished; current = new.current }
+  pub len : vec_len new.finished ≡ vec_len old.finished + 1
+  pub room : vec_capacity new.finished ≡ vec_capacity old.finished
+  pub current : MayBeWrittenTo old.current new.current
+
+-- room for one more finished call and its reply
+pub record HasRoomToFinish (s : State) : Type 0 where
+  pub finished : vec_len s.finished < vec_capacity s.finished
+  pub output : IfSome s.current (λ c. vec_len c.output + 116 ≤ vec_capacity c.output)

@@ -5,7 +5,7 @@ ghost use Rattle.std.specs.Prelude.{◌≡◌, ◌-◌, ◌≤◌, ◌++◌, len
 use std::marker::Model;
 
 /// A file handle (nfs_fh3, RFC 1813 section 2.6): at most 64 bytes, kept in place.
-#[derive(Clone, Copy, PartialEq, Eq)]
+#[derive(Drop)]
 pub struct FileHandle {
     bytes: [u8; 64],
     size: u8,
@@ -16,15 +16,11 @@ impl Model for FileHandle {
 
     ghost Value = { List ℕ };
 
-    ghost use Rattle.nfs_values.specs.Handle.{handle_bytes, IsHandle, handle_from, handle_from_bytes};
+    ghost use Rattle.nfs_values.specs.Handle.{handle_bytes, IsHandle};
 
     ghost view = { handle_bytes };
 
     ghost invariant = { IsHandle };
-
-    ghost inverse = { handle_from };
-
-    ghost inverse_ok = { handle_from_bytes };
 }
 
 #[tactic(auto, using(crate::proofs::Zeros::drop_zeros))]

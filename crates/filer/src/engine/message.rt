@@ -4,10 +4,19 @@ use crate::engine::affinity::Affinity;
 use crate::engine::parcel::VolumeLogical;
 use nfs_values::{Answer, Call, Credential, Moment, Reply};
 
+/// The record that a call came in.
+#[derive(Clone, Copy, Debug, PartialEq, Eq)]
+pub struct Origin {
+    pub connection: usize,
+    /// Its place among the records that the connection served, from 0.
+    pub number: usize,
+    pub xid: u32,
+}
+
 /// What a record asks.
 #[derive(Drop)]
 pub enum Request {
-    /// A call, by the owner of what it makes.
+    /// A call, and whom it acts for.
     Call { call: Call, credential: Credential },
     /// A call message that is refused before its arguments are read.
     Refused(Reply),
@@ -23,10 +32,7 @@ pub struct Heard {
 /// A call that waits or runs. Each tries the affinity Volume Logical.
 #[derive(Drop)]
 pub struct Message {
-    pub connection: usize,
-    /// The place of its record among those that the connection served, from 0.
-    pub number: usize,
-    pub xid: u32,
+    pub origin: Origin,
     pub call: Call,
     pub credential: Credential,
 }
@@ -44,10 +50,7 @@ pub struct Running {
 /// A finished call.
 #[derive(Drop)]
 pub struct Entry {
-    pub connection: usize,
-    /// The place of its record among those that the connection served, from 0.
-    pub number: usize,
-    pub xid: u32,
+    pub origin: Origin,
     pub request: Request,
     /// What it ran on; nothing where it was answered as its record was complete.
     pub affinity: Option<Affinity>,

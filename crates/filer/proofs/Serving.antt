@@ -1,0 +1,77 @@
+-- What the serial server answers a call on the root's parcel.
+use Rattle.std.proofs.Common.{◌≡◌, ℕ, zero, suc, ◌<◌, Bool, true, false, cond, List, [], ◌∷◌, length, Option, Some, None, refl, sym, ap, subst, ◌∙◌, arith}
+use Rattle.std.specs.Prelude.{slice_get, option_map, ◌&&◌, ◌==◌, nat_lt, if◌then◌else◌}
+use Rattle.std.specs.Ordering.{nat_cmp}
+use Rattle.std.specs.declared.cmp.Ordering.{Ordering}
+use Rattle.std.specs.declared.cmp.Ordering.TheVariants.{Less, Equal, Greater}
+use Rattle.std.specs.FinMap.{FinMap, get, from_sorted, find, nat_cmp-IsAntisymmetric}
+use Rattle.std.proofs.lemmas.Bool.Decides.{nat_tests}
+use Rattle.nfs_model.specs.Types as types
+use Rattle.nfs_model.specs.Server as servers
+use Rattle.nfs_model.specs.Server.{handle_of}
+use Rattle.nfs_model.specs.Shown.{shown}
+use Rattle.nfs_model.specs.Locate.{Served, on_node, told}
+use Rattle.nfs_model.specs.Serial.Getattr.{getattr}
+use Rattle.nfs_model.specs.Serial.Step.{Step, serve, stay, on_handle, on_volume, put_back}
+use Rattle.nfs_model.proofs.Evaluate.{get_entries, entries_sorted_list}
+use Rattle.filer.specs.declared.engine.layout.Layout.{Layout}
+use Rattle.filer.specs.declared.engine.parcel.Kept.{Kept}
+use Rattle.filer.specs.Seen.{root_of, volume_of, server_of}
+use Rattle.filer.specs.Served.{IsAnswer}
+
+-- ---- the only node
+
+found : {X : Type 0} (x : X) → find nat_cmp 1 ((1, x) ∷ []) ≡ Some x
+found x = refl
+
+other_at : {X : Type 0} (x : X) (q : ℕ) (o : Ordering) → nat_cmp q 1 ≡ o → (q ≡ 1 → ⊥) → find nat_cmp q ((1, x) ∷ []) ≡ None
+other_at x q Less e n = rw e refl
+other_at x q Equal e n = absurd (n (nat_cmp-IsAntisymmetric q 1 e))
+other_at x q Greater e n = rw e refl
+
+get_is : {X : Type 0} (x : X) (q : ℕ) → get (from_sorted {R = nat_cmp} ((1, x) ∷ [])) q ≡ find nat_cmp q ((1, x) ∷ [])
+get_is x q = get_entries (from_sorted ((1, x) ∷ [])) q ∙ ap (λ es. find nat_cmp q es) (entries_sorted_list ((1, x) ∷ []) refl)
+
+-- ---- the only volume
+
+in_cond : (b d : Bool) (v f : ℕ) (h : ℕ × ℕ) → (if b && d then Some (v, f) else None) ≡ Some h → (d ≡ true) × (v ≡ h.0)
+in_cond true true v f h e = (refl, ap (λ (o : Option (ℕ × ℕ)). elim o as (λ p. ℕ) [ None ↦ 0 | Some p ↦ p.0 ]) e)
+in_cond true false v f h e = absurd cc
+in_cond false d v f h e = absurd cc
+
+none_below_one : (v : ℕ) → nat_lt v 1 ≡ true → v ≡ 0
+none_below_one v e = grind (arith, nat_tests)
+
+pub first-volume : (bytes : List ℕ) (h : ℕ × ℕ) → handle_of 1 bytes ≡ Some h → h.0 ≡ 0
+first-volume bytes h e = let c = in_cond _ _ _ _ h e in sym c.1 ∙ none_below_one _ c.0
+
+-- ---- GETATTR
+
+on_first : (layout : Layout) (verifier : List ℕ) (root : Kept) (h : ℕ × ℕ) (s : Served) → h.0 ≡ 0 → getattr (volume_of layout verifier root) h.1 ≡ s
+    → on_handle (server_of layout verifier root) 0 (Some h) getattr ≡ put_back (server_of layout verifier root) h.0 s
+on_first layout verifier root h s e k =
+    rw e (ap (put_back (server_of layout verifier root) 0) k)
+
+abbrev pub on_getattr : Layout → List ℕ → Kept → Option (ℕ × ℕ) → Step
+on_getattr layout verifier root o = on_handle (server_of layout verifier root) 0 o getattr
+
+-- the root
+pub getattr-root : (root : Kept) (handle : List ℕ) (h : ℕ × ℕ) (attributes : types.Shown) → handle_of 1 handle ≡ Some h → h.1 ≡ 1
+    → ((layout : Layout) (verifier : List ℕ) → attributes ≡ shown (volume_of layout verifier root) 1 (root_of root)) → IsAnswer root (types.Getattr handle) (types.GetattrDone attributes)
+getattr-root root handle h attributes e f a layout verifier credential moment =
+    let volume = volume_of layout verifier root in
+    let there : get volume.nodes h.1 ≡ Some (root_of root) = ap (get volume.nodes) f ∙ get_is (root_of root) 1 ∙ found (root_of root) in
+    let served : getattr volume h.1 ≡ told (types.GetattrDone attributes) =
+        ap (λ (o : Option servers.Node). on_node 0 o (λ node. told (types.GetattrDone (shown volume h.1 node)))) there
+        ∙ ap (λ (n : ℕ). told (types.GetattrDone (shown volume n (root_of root)))) f
+        ∙ ap (λ (s : types.Shown). told (types.GetattrDone s)) (sym (a layout verifier)) in
+    ap (on_getattr layout verifier root) e ∙ on_first layout verifier root h _ (first-volume handle h e) served
+
+-- any other fileid
+pub getattr-stale : (root : Kept) (handle : List ℕ) (h : ℕ × ℕ) → handle_of 1 handle ≡ Some h → (h.1 ≡ 1 → ⊥) → IsAnswer root (types.Getattr handle) (types.Failed types.Stale 0)
+getattr-stale root handle h e f layout verifier credential moment =
+    let volume = volume_of layout verifier root in
+    let there : get volume.nodes h.1 ≡ None = get_is (root_of root) h.1 ∙ other_at (root_of root) h.1 (nat_cmp h.1 1) refl f in
+    let served : getattr volume h.1 ≡ told (types.Failed types.Stale 0) =
+        ap (λ (o : Option servers.Node). on_node 0 o (λ node. told (types.GetattrDone (shown volume h.1 node)))) there in
+    ap (on_getattr layout verifier root) e ∙ on_first layout verifier root h _ (first-volume handle h e) served

@@ -1,0 +1,105 @@
+//! Calls on the parcel.
+
+ghost use Rattle.std.specs.Prelude.{◌≡◌, List, ℕ, option_map, length};
+ghost use Rattle.nfs_model.specs.Types as types;
+ghost use Rattle.nfs_model.specs.Home.{home};
+ghost use Rattle.nfs_model.specs.Server.{handle_of};
+ghost use Rattle.nfs_model.specs.Serial.Step.{serve};
+ghost use Rattle.nfs_model.specs.Serial.AtOnce.{answer_without_home};
+ghost use Rattle.nfs_values.specs.Answer.{answer_of};
+ghost use Rattle.nfs_values.specs.Call.{call_of};
+ghost use Rattle.filer.specs.declared.engine.layout.Layout.{Layout};
+ghost use Rattle.filer.specs.Seen.{affinity_of, layout_of, server_of};
+ghost use Rattle.filer.specs.Served.{IsAnswer};
+
+use crate::engine::affinity::Affinity;
+use crate::engine::parcel::VolumeLogical;
+use byteorder::{BigEndian, ByteOrder};
+use nfs_values::{Answer, Attributes, Call, FileHandle, FileKind, Procedure, Status};
+
+/// The volume and the fileid of a good handle.
+fn named_by(handle: &FileHandle) -> Option<(u32, u64)>
+    ensures { result ≡ handle_of 1 handle.now }
+{
+    let bytes = handle.as_bytes();
+    if bytes.len() != 12 {
+        return None;
+    }
+    let volume = BigEndian::read_u32(&bytes[..4]);
+    if volume != 0 {
+        return None;
+    }
+    Some((volume, BigEndian::read_u64(&bytes[4..])))
+}
+
+/// The affinity that a call runs on; nothing where it is answered without.
+pub(crate) fn home_of(call: &Call) -> Option<Affinity>
+    ensures { (layout : Layout) → option_map affinity_of result ≡ home (layout_of layout) (call_of call.now) }
+{
+    match call {
+        Call::Null => None,
+        Call::GetAttributes { handle } => match named_by(handle) {
+            Some((volume, _)) => Some(Affinity::VolumeLogical(volume)),
+            None => None,
+        },
+    }
+}
+
+/// What a call without an affinity is answered.
+pub(crate) fn answer_at_once(call: &Call) -> Answer
+    ensures { (layout : Layout) → answer_of result ≡ answer_without_home (layout_of layout) (call_of call.now) }
+{
+    match call {
+        Call::Null => Answer::Null,
+        Call::GetAttributes { .. } => Answer::Failed {
+            procedure: Procedure::GetAttributes,
+            status: Status::BadHandle,
+        },
+    }
+}
+
+impl VolumeLogical {
+    ghost use Rattle.nfs_model.specs.Shown.{shown};
+    ghost use Rattle.nfs_values.specs.Attributes.{shown_of};
+    ghost use Rattle.filer.specs.Seen.{root_of, volume_of};
+
+    /// The attributes of the root directory, which is empty.
+    fn root_attributes(&self) -> Attributes
+        ensures { (layout : Layout) (verifier : List ℕ) → shown_of result ≡ shown (volume_of layout verifier self.now.root) 1 (root_of self.now.root) }
+    {
+        Attributes {
+            kind: FileKind::Directory,
+            mode: self.root.mode,
+            links: 2,
+            uid: self.root.uid,
+            gid: self.root.gid,
+            size: 4_096,
+            used: 0,
+            fsid: 0,
+            fileid: 1,
+            atime: self.root.atime,
+            mtime: self.root.mtime,
+            ctime: self.root.ctime,
+        }
+    }
+}
+
+/// What a call is answered by the server whose parcel this is.
+pub(crate) fn answer(held: &VolumeLogical, call: &Call) -> Answer
+    ensures { IsAnswer held.now.root (call_of call.now) (answer_of result) }
+{
+    match call {
+        Call::Null => Answer::Null,
+        Call::GetAttributes { handle } => match named_by(handle) {
+            Some((_, 1)) => Answer::GetAttributes(held.root_attributes()),
+            Some(_) => Answer::Failed {
+                procedure: Procedure::GetAttributes,
+                status: Status::Stale,
+            },
+            None => Answer::Failed {
+                procedure: Procedure::GetAttributes,
+                status: Status::BadHandle,
+            },
+        },
+    }
+}
