@@ -9,7 +9,7 @@ limit = 131072
 
 -- the bit of a header that marks the last fragment (RFC 5531, section 11)
 abbrev pub last_bit : ℕ
-last_bit = 2147483648
+last_bit = 2 ^ 31
 
 -- a fragment's header (RFC 5531, section 11): its size in the low 31 bits, and the top bit where it is the last
 abbrev pub header : Bool → ℕ → List ℕ

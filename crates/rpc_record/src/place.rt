@@ -8,7 +8,7 @@ use byteorder::{BigEndian, ByteOrder};
 pub const RECORD_LIMIT: usize = 131_072;
 
 /// The bit of a fragment's header that marks the record's last fragment (RFC 5531, section 11).
-pub(crate) const LAST_FRAGMENT: u32 = 2_147_483_648;
+pub(crate) const LAST_FRAGMENT: u32 = 0x8000_0000;
 
 /// Where in a record a stream stands, without the record's data.
 #[derive(Clone, Copy)]
