@@ -7,7 +7,7 @@ use Rattle.rpc_record.specs.Stream.{Reading, read_stream}
 use Rattle.rpc_record.specs.declared.reassembler.Step.{Step}
 use Rattle.rpc_record.specs.declared.reassembler.Step.TheVariants as steps
 use Rattle.rpc_record.specs.declared.reassembler.Look.TheVariants as looks
-use Rattle.rpc_record.specs.Feeds.{Feeds, given, look_at, Tells, Foresees, GoesOn}
+use Rattle.rpc_record.specs.Feeds.{Feeds, GivesNothing, given, look_at, Tells, Foresees, GoesOn}
 use Rattle.rpc_record.proofs.Scans.{IsBefore, scan-take}
 use Rattle.rpc_record.proofs.Streams.{ReadsTo, reads_to, more_read, made_read, fault_read}
 
@@ -23,6 +23,13 @@ more_answers bytes old new taken (steps.Record made) more f = let wrong : Made t
 more_answers bytes old new taken steps.More more f = inl (refl, f.0)
 more_answers bytes old new taken steps.Fault more f = let wrong : Fault taken ≡ More more.0 = sym f.1 ∙ more.1 in absurd cc
 more_answers bytes old new taken steps.NoMemory more f = inr (refl, f.0, f.2)
+
+-- the same, by the answer alone
+pub more_gives_nothing : (bytes : List ℕ) (old new : Option State) (taken : ℕ) (step : Step) → IsMore (outcome old bytes) → Feeds old bytes taken step new → GivesNothing step
+more_gives_nothing bytes old new taken (steps.Record made) more f = let wrong : Made taken made.items ≡ More more.0 = sym f.2 ∙ more.1 in absurd cc
+more_gives_nothing bytes old new taken steps.More more f = tt
+more_gives_nothing bytes old new taken steps.Fault more f = let wrong : Fault taken ≡ More more.0 = sym f.1 ∙ more.1 in absurd cc
+more_gives_nothing bytes old new taken steps.NoMemory more f = tt
 
 -- Fewer bytes
 

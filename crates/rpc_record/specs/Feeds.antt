@@ -37,6 +37,13 @@ Says came bytes taken steps.Fault new =
     (taken ≤ length bytes) × IsAtFault (came ++ take taken bytes) × (new ≡ None)
 Says came bytes taken steps.NoMemory new = (taken ≡ 0) × HasCome came new
 
+-- an answer that gives no record and tells no fault
+abbrev pub GivesNothing : Step → Type 0
+GivesNothing (steps.Record made) = ⊥
+GivesNothing steps.More = Unit {0}
+GivesNothing steps.Fault = ⊥
+GivesNothing steps.NoMemory = Unit {0}
+
 -- the records that an answer gives
 abbrev pub given : Step → List (List ℕ)
 given (steps.Record made) = made.items ∷ []

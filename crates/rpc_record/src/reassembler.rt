@@ -1,7 +1,7 @@
 ghost use Rattle.std.specs.Prelude.{◌≡◌, ◌≤◌, ◌<◌, ◌++◌, List, ℕ, length, take, Option, Some, None, IsSome};
 ghost use Rattle.rpc_record.specs.Machine.{State, start, outcome, IsMore};
 ghost use Rattle.rpc_record.specs.Stream.{read_stream};
-ghost use Rattle.rpc_record.specs.Feeds.{Feeds, GoesOn, Foresees, HasCome, Says, given, look_at, Tells};
+ghost use Rattle.rpc_record.specs.Feeds.{Feeds, GoesOn, Foresees, HasCome, Says, GivesNothing, given, look_at, Tells};
 ghost use Rattle.rpc_record.specs.declared.reassembler.Step.{Step};
 ghost use Rattle.rpc_record.specs.declared.reassembler.Step.TheVariants as steps;
 
@@ -77,6 +77,7 @@ impl Reassembler {
         ensures feeds { Feeds self.old bytes.now result.0 result.1 self.new }
         ensures within { result.0 ≤ length bytes.now }
         ensures fewer { (n : ℕ) → n < result.0 → IsMore (outcome self.old (take n bytes.now)) }
+        ensures nothing { IsMore (outcome self.old bytes.now) → GivesNothing result.1 }
         ensures failed { self.old ≡ None → (result ≡ (0, steps.Fault)) × (self.new ≡ None) }
 
         // Of what has come since the last record, in the standard's words.
