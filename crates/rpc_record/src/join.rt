@@ -1,6 +1,6 @@
-ghost use Rattle.std.specs.Prelude.{◌≡◌, ◌<◌, ◌≤◌, List, ℕ, length, take, vec_len, IfOk, OnErr};
+ghost use Rattle.std.specs.Prelude.{◌≡◌, ◌<◌, ◌≤◌, length, take, vec_len, IfOk};
 ghost use Rattle.rpc_record.specs.Machine.{scan};
-ghost use Rattle.rpc_record.specs.Place.{state, IsSound, Turns, data_of, joined_by, outcome_of};
+ghost use Rattle.rpc_record.specs.Place.{state, IsSound, outcome_of};
 ghost use Rattle.rpc_record.specs.declared.place.Turn.TheVariants as turns;
 
 use crate::place::{Place, Turn};

@@ -1,5 +1,5 @@
 ghost use Rattle.std.specs.Prelude.{◌≡◌, ◌+◌, ◌-◌, ◌<◌, ◌≤◌, List, ℕ, length};
-ghost use Rattle.rpc_record.specs.Machine.{Next, scan, after, after_fragment, after_header};
+ghost use Rattle.rpc_record.specs.Machine.{scan, after, after_fragment, after_header};
 ghost use Rattle.rpc_record.specs.Place.{state, next_of, IsSound, Turns, joined_by, after_data, walk_to};
 
 use byteorder::{BigEndian, ByteOrder};
