@@ -1,7 +1,7 @@
 -- What feeding says of all that has come since the last record.
-use Rattle.std.proofs.Common.{◌≡◌, ℕ, ◌+◌, ◌<◌, ◌≤◌, List, [], ◌∷◌, ◌++◌, length, get_or, take, refl, sym, subst, ◌∙◌, arith, Option, Some, None}
+use Rattle.std.proofs.Common.{◌≡◌, ℕ, ◌+◌, ◌<◌, ◌≤◌, List, [], ◌++◌, length, get_or, take, refl, sym, subst, ◌∙◌, arith, Option, Some, None}
 use Rattle.rpc_record.specs.Records.{IsRecord, IsAtFault}
-use Rattle.rpc_record.specs.Machine.{State, start, Outcome, More, Made, Fault, scan}
+use Rattle.rpc_record.specs.Machine.{State, start, More, Made, Fault, scan}
 use Rattle.rpc_record.specs.Stream.{AreBytes}
 use Rattle.rpc_record.specs.declared.reassembler.Step.{Step}
 use Rattle.rpc_record.specs.declared.reassembler.Step.TheVariants as steps
@@ -22,12 +22,14 @@ pub come_more : (came bytes : List ℕ) (s u : State) → HasCome came (Some s) 
 come_more came bytes s u h b e =
     (AreBytes-append came bytes h.0 b, scan-append 0 start came bytes s h.1 ∙ more_any 0 (0 + length came) s bytes u e)
 
+-- a record's end
 come_made : (came bytes made : List ℕ) (s : State) (n : ℕ) → HasCome came (Some s) → AreBytes bytes → scan 0 s bytes ≡ Made n made → (n ≤ length bytes) × IsRecord made (came ++ take n bytes)
 come_made came bytes made s n h b e =
     let says : standing.Says 0 came bytes (Made n made) = subst (standing.Says 0 came bytes) e (scan_says 0 came s bytes b (come_stands came s h)) in
     let same : says.0 ≡ n = omega (arith, says.1) in
     (omega (arith, says.2), subst (λ (k : ℕ). IsRecord made (came ++ take k bytes)) same says.3)
 
+-- a header at fault
 come_fault : (came bytes : List ℕ) (s : State) (n : ℕ) → HasCome came (Some s) → AreBytes bytes → scan 0 s bytes ≡ Fault n → (n ≤ length bytes) × IsAtFault (came ++ take n bytes)
 come_fault came bytes s n h b e =
     let says : standing.Says 0 came bytes (Fault n) = subst (standing.Says 0 came bytes) e (scan_says 0 came s bytes b (come_stands came s h)) in

@@ -1,15 +1,17 @@
 -- Bytes of one fragment's data, all at once.
-use Rattle.std.proofs.Common.{◌≡◌, ℕ, zero, suc, ◌+◌, ◌-◌, ◌<◌, ◌≤◌, Bool, true, false, cond, eqb, List, [], ◌∷◌, ◌++◌, length, get_or, take, drop, refl, sym, ap, subst, ◌∙◌, append_assoc, arith, length-append, length-take, min}
+use Rattle.std.proofs.Common.{◌≡◌, ℕ, suc, ◌+◌, ◌-◌, ◌<◌, ◌≤◌, Bool, false, cond, eqb, List, [], ◌∷◌, ◌++◌, length, take, drop, refl, sym, ap, ◌∙◌, append_assoc, arith, length-take, min}
 use Rattle.std.proofs.lemmas.Bool.Decides.{nat_tests}
-use Rattle.std.proofs.lemmas.List.{append-nil, take-append-drop}
-use Rattle.rpc_record.specs.Machine.{State, InHeader, InData, Next, Goes, Ends, Faults, Outcome, after_fragment, after, go, scan}
+use Rattle.std.proofs.lemmas.List.{take-append-drop}
+use Rattle.rpc_record.specs.Machine.{State, InData, Next, Goes, after_fragment, after, scan}
 use Rattle.rpc_record.specs.declared.place.Place.{Place}
 use Rattle.rpc_record.specs.declared.place.Turn.{Turn}
-use Rattle.rpc_record.specs.Place.{state, next_of, after_data, data_of, rest_of, Turns}
+use Rattle.rpc_record.specs.Place.{state, next_of, after_data, rest_of, Turns}
 
+-- where one byte is missing, none is after it
 one_left : (left : ℕ) → 1 ≤ left → eqb (left - 1) 0 ≡ eqb left 1
 one_left left h = grind (arith, nat_tests)
 
+-- where two bytes are missing, one byte doesn't end the fragment
 more_left : (left : ℕ) → 2 ≤ left → eqb left 1 ≡ false
 more_left left h = grind (arith, nat_tests)
 
@@ -33,11 +35,6 @@ data_taken bytes joined n t left last some h k =
     ap (scan t (InData joined left last)) (sym (take-append-drop n bytes))
     ∙ data_run (take n bytes) (drop n bytes) joined t left last (omega arith) (omega arith)
     ∙ ap (λ (k : ℕ). rest_of (t + k) (after_data (joined ++ take n bytes) (left - k) last) (drop n bytes)) len
-
--- one byte
-pub byte_taken : (bytes : List ℕ) (t : ℕ) (s : State) → 0 < length bytes → scan t s bytes ≡ rest_of (t + 1) (after s (get_or bytes 0 0)) (drop 1 bytes)
-byte_taken [] t s h = absurd (omega arith)
-byte_taken (b ∷ bytes) t s h = refl
 
 -- a turn over data
 pub turns_data : (old new : Place) (bytes : List ℕ) (n : ℕ) (turn : Turn) → eqb old.left 0 ≡ false → 0 < length bytes → n ≡ min old.left (length bytes)

@@ -1,14 +1,13 @@
 -- What feeding and looking say of a stream that the caller keeps.
-use Rattle.std.proofs.Common.{Bool, true, false, cond, ◌≡◌, ℕ, ◌+◌, ◌<◌, ◌≤◌, ◌⊎◌, inl, inr, List, [], ◌∷◌, ◌++◌, length, take, refl, sym, ap, subst, ◌∙◌, arith, Option, Some, None, IsSome}
+use Rattle.std.proofs.Common.{Bool, true, false, cond, ◌≡◌, ℕ, ◌<◌, ◌≤◌, ◌⊎◌, inl, inr, List, [], ◌∷◌, ◌++◌, length, take, refl, sym, ap, subst, ◌∙◌, arith, Option, Some, None, IsSome}
 use Rattle.std.proofs.lemmas.List.{append-nil}
 use Rattle.std.proofs.Math.Seq.{take-length}
-use Rattle.rpc_record.specs.Machine.{State, start, Outcome, More, Made, Fault, scan, outcome, IsMore}
-use Rattle.rpc_record.specs.Stream.{Reading, read_on, read_stream}
+use Rattle.rpc_record.specs.Machine.{State, Outcome, More, Made, Fault, scan, outcome, IsMore}
+use Rattle.rpc_record.specs.Stream.{Reading, read_stream}
 use Rattle.rpc_record.specs.declared.reassembler.Step.{Step}
 use Rattle.rpc_record.specs.declared.reassembler.Step.TheVariants as steps
-use Rattle.rpc_record.specs.declared.reassembler.Look.{Look}
 use Rattle.rpc_record.specs.declared.reassembler.Look.TheVariants as looks
-use Rattle.rpc_record.specs.Feeds.{Feeds, given, look_at, Tells, Foresees, GoesOn}
+use Rattle.rpc_record.specs.Feeds.{Feeds, GivesNothing, given, look_at, Tells, Foresees, GoesOn}
 use Rattle.rpc_record.proofs.Scans.{IsBefore, scan-take}
 use Rattle.rpc_record.proofs.Streams.{ReadsTo, reads_to, more_read, made_read, fault_read}
 
@@ -25,8 +24,16 @@ more_answers bytes old new taken steps.More more f = inl (refl, f.0)
 more_answers bytes old new taken steps.Fault more f = let wrong : Fault taken ≡ More more.0 = sym f.1 ∙ more.1 in absurd cc
 more_answers bytes old new taken steps.NoMemory more f = inr (refl, f.0, f.2)
 
+-- the same, by the answer alone
+pub more_gives_nothing : (bytes : List ℕ) (old new : Option State) (taken : ℕ) (step : Step) → IsMore (outcome old bytes) → Feeds old bytes taken step new → GivesNothing step
+more_gives_nothing bytes old new taken (steps.Record made) more f = let wrong : Made taken made.items ≡ More more.0 = sym f.2 ∙ more.1 in absurd cc
+more_gives_nothing bytes old new taken steps.More more f = tt
+more_gives_nothing bytes old new taken steps.Fault more f = let wrong : Fault taken ≡ More more.0 = sym f.1 ∙ more.1 in absurd cc
+more_gives_nothing bytes old new taken steps.NoMemory more f = tt
+
 -- Fewer bytes
 
+-- the count is in the outcome
 fault_at : (n m : ℕ) → Fault n ≡ Fault m → n ≡ m
 fault_at n m e = cc
 
@@ -45,6 +52,7 @@ feeds_fewer bytes (Some s) new taken n steps.More f h = fewer_scanned bytes s (M
 feeds_fewer bytes (Some s) new taken n steps.Fault f h = fewer_scanned bytes s (Fault taken) n f.1 h
 feeds_fewer bytes (Some s) new taken n steps.NoMemory f h = absurd (omega (arith, h, f.0))
 
+-- the same, by the look
 outcome_fewer : (bytes : List ℕ) (s : State) (n : ℕ) (o : Outcome) → scan 0 s bytes ≡ o → n < (look_at bytes o).0 → IsMore (scan 0 s (take n bytes))
 outcome_fewer bytes s n (More u) e h = fewer_scanned bytes s (More u) n e tt
 outcome_fewer bytes s n (Made k made) e h = fewer_scanned bytes s (Made k made) n e h
@@ -62,14 +70,17 @@ pub more_goes_on : (stream bytes : List ℕ) (old : Option State) → (read_stre
 more_goes_on stream bytes None at more = let wrong : Fault 0 ≡ More more.0 = more.1 in absurd cc
 more_goes_on stream bytes (Some s) at more = (more.0, more_read stream bytes s more.0 at more.1)
 
+-- where nothing was taken, the stream stays
 none_taken : (stream bytes : List ℕ) (n : ℕ) → n ≡ 0 → stream ++ take n bytes ≡ stream
 none_taken stream bytes n e = ap (λ (k : ℕ). stream ++ take k bytes) e ∙ append-nil stream
 
+-- no record more
 no_more_records : (r : Reading) (records : List (List ℕ)) (new at : Option State) → r ≡ record { records = records; at = at } → new ≡ at → r ≡ record { records = records ++ []; at = new }
 no_more_records r records new at e same =
     e ∙ ap (λ (o : Option State). record { records = records; at = o }) (sym same)
     ∙ ap (λ (all : List (List ℕ)). record { records = all; at = new }) (sym (append-nil records))
 
+-- where nothing was taken, nothing is read
 nothing_read : (stream bytes : List ℕ) (n : ℕ) (old new : Option State) → (read_stream stream).at ≡ old → n ≡ 0 → new ≡ old → read_stream (stream ++ take n bytes) ≡ record { records = (read_stream stream).records ++ []; at = new }
 nothing_read stream bytes n old new at none same =
     no_more_records (read_stream (stream ++ take n bytes)) (read_stream stream).records new old
@@ -95,11 +106,13 @@ feeds_read stream bytes (Some s) new taken steps.NoMemory at f = nothing_read st
 
 -- Looking
 
+-- no more is looked at than is there
 outcome_within : (bytes : List ℕ) (s : State) (o : Outcome) → ReadsTo 0 s bytes o → (look_at bytes o).0 ≤ length bytes
 outcome_within bytes s (More u) h = omega arith
 outcome_within bytes s (Made n made) h = omega (arith, h.1, h.3)
 outcome_within bytes s (Fault n) h = omega (arith, h.1, h.3)
 
+-- A look tells no more than is there.
 pub look_within : (bytes : List ℕ) (old : Option State) → (look_at bytes (outcome old bytes)).0 ≤ length bytes
 look_within bytes None = omega arith
 look_within bytes (Some s) = outcome_within bytes s (scan 0 s bytes) (reads_to 0 s bytes)
@@ -111,6 +124,7 @@ feeds_tell old new bytes taken steps.More f = ap (look_at bytes) f.1.1 ∙ ap (�
 feeds_tell old new bytes taken steps.Fault f = ap (look_at bytes) f.1
 feeds_tell old new bytes taken steps.NoMemory f = tt
 
+-- what an outcome says of the stream
 outcome_foreseen : (stream bytes : List ℕ) (s : State) (o : Outcome) → (read_stream stream).at ≡ Some s → scan 0 s bytes ≡ o → Foresees stream bytes (look_at bytes o).0 (look_at bytes o).1
 outcome_foreseen stream bytes s (More u) at e = (refl, (u, more_read stream bytes s u at e))
 outcome_foreseen stream bytes s (Made n made) at e = let r = made_read stream bytes made s n at e in (r.0, r.1, (made, r.2))

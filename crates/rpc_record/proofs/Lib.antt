@@ -4,7 +4,6 @@ pub mod Standing
 pub mod Scans
 pub mod Streams
 pub mod Chunks
-pub mod Walks
 pub mod Came
 pub mod Feeding
 pub mod Unique

@@ -1,16 +1,17 @@
 -- The scan finds the records that a stream spells, and no others.
-use Rattle.std.proofs.Common.{◌≡◌, ℕ, zero, suc, ◌+◌, ◌-◌, ◌%◌, ◌^◌, ◌<◌, ◌≤◌, Bool, true, false, cond, eqb, ltb, List, [], ◌∷◌, ◌++◌, length, take, drop, refl, sym, ap, subst, ◌∙◌, append_assoc, arith, length-append}
-use Rattle.std.specs.Prelude.{nat_le, nat_lt, if◌then◌else◌, ◌==◌}
-use Rattle.std.specs.List.{flat_map, concat}
-use Rattle.std.specs.Int.{w32, to_be_bytes, from_be_bytes}
+use Rattle.std.proofs.Common.{◌≡◌, ℕ, suc, ◌+◌, ◌-◌, ◌%◌, ◌^◌, ◌<◌, ◌≤◌, Bool, true, false, cond, eqb, ltb, List, [], ◌∷◌, ◌++◌, length, refl, sym, ap, ◌∙◌, append_assoc, arith, length-append}
+use Rattle.std.specs.Prelude.{nat_le}
+use Rattle.std.specs.List.{concat}
+use Rattle.std.specs.Int.{w32, to_be_bytes}
 use Rattle.std.proofs.lemmas.Bool.Decides.{nat_tests}
 use Rattle.std.proofs.lemmas.List.{append-nil}
 use Rattle.std.proofs.lemmas.Nat.{from_be_bytes-to_be_bytes_4}
 use Rattle.rpc_record.specs.Records.{limit, last_bit, header, fragment, front, IsRecord, IsAtFault, HasNoRecord, HasNoFault}
 use Rattle.rpc_record.specs.Place.{after_data, rest_of}
 use Rattle.rpc_record.proofs.Chunks.{data_run}
-use Rattle.rpc_record.specs.Machine.{State, InHeader, InData, Next, Goes, Ends, Faults, Outcome, More, Made, Fault, after_fragment, after_header, after, go, scan}
+use Rattle.rpc_record.specs.Machine.{State, InHeader, InData, Next, Goes, Faults, More, Made, Fault, after_fragment, after_header, after, scan}
 
+-- the same rest, counted from the same number
 same_at : (t u : ℕ) (n : Next) (bytes : List ℕ) → t ≡ u → rest_of t n bytes ≡ rest_of u n bytes
 same_at t u n bytes e = ap (λ (k : ℕ). rest_of k n bytes) e
 
@@ -27,18 +28,22 @@ header_run number t joined rest lt =
     ap (λ (k : ℕ). rest_of (t + 1 + 1 + 1 + 1) (after_header joined k) rest) (from_be_bytes-to_be_bytes_4 number lt)
     ∙ same_at (t + 1 + 1 + 1 + 1) (t + 4) (after_header joined number) rest (omega arith)
 
+-- the size that a header gives
 size_is : (n : ℕ) (last : Bool) → n < 2 ^ 31 → (n + cond last last_bit 0) % last_bit ≡ n
 size_is n true h = omega arith
 size_is n false h = omega arith
 
+-- whether a header marks the last fragment
 last_is : (n : ℕ) (last : Bool) → n < 2 ^ 31 → nat_le last_bit (n + cond last last_bit 0) ≡ last
 last_is n true h = grind (arith, nat_tests)
 last_is n false h = grind (arith, nat_tests)
 
+-- a header is a word
 number_fits : (n : ℕ) (last : Bool) → n < 2 ^ 31 → n + cond last last_bit 0 < 2 ^ 32
 number_fits n true h = omega arith
 number_fits n false h = omega arith
 
+-- a header within the limit
 entered : (joined : List ℕ) (n : ℕ) (last : Bool) → length joined + n ≤ limit → after_header joined (n + cond last last_bit 0) ≡ cond (eqb n 0) (after_fragment joined last) (Goes (InData joined n last))
 entered joined n last h =
     let small : ltb limit (length joined + n) ≡ false = grind (arith, nat_tests) in

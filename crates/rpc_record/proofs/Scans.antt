@@ -1,10 +1,12 @@
 -- Scans of more bytes, and of fewer.
-use Rattle.std.proofs.Common.{◌≡◌, ℕ, zero, suc, ◌+◌, ◌<◌, ◌≤◌, List, [], ◌∷◌, ◌++◌, length, take, refl, sym, ap, subst, ◌∙◌, arith}
+use Rattle.std.proofs.Common.{◌≡◌, ℕ, zero, suc, ◌+◌, ◌<◌, List, [], ◌∷◌, ◌++◌, length, take, refl, sym, ap, subst, ◌∙◌, arith}
 use Rattle.rpc_record.specs.Machine.{State, Next, Goes, Ends, Faults, Outcome, More, Made, Fault, after, go, scan}
 
+-- the state is in the outcome
 state_is : (s u : State) → More s ≡ More u → s ≡ u
 state_is s u e = cc
 
+-- past one byte
 more_next : (t : ℕ) (n : Next) (xs ys : List ℕ) (u : State) → ((v : State) → scan (t + 1) v xs ≡ More u → scan (t + 1) v (xs ++ ys) ≡ scan (t + 1 + length xs) u ys)
     → go (t + 1) n (λ v. scan (t + 1) v xs) ≡ More u → go (t + 1) n (λ v. scan (t + 1) v (xs ++ ys)) ≡ scan (t + suc (length xs)) u ys
 more_next t (Goes v) xs ys u f e = f v e ∙ ap (λ (k : ℕ). scan k u ys) (omega arith)
@@ -16,6 +18,7 @@ pub scan-append : (t : ℕ) (s : State) (xs ys : List ℕ) (u : State) → scan 
 scan-append t s [] ys u e = ap (λ (v : State). scan t v ys) (state_is s u e) ∙ ap (λ (k : ℕ). scan k u ys) (omega arith)
 scan-append t s (x ∷ xs) ys u e = more_next t (after s x) xs ys u (λ v p. scan-append (t + 1) v xs ys u p) e
 
+-- past one byte, however many were taken before
 more_any_next : (t k : ℕ) (n : Next) (xs : List ℕ) (u : State) → ((v : State) → scan (t + 1) v xs ≡ More u → scan (k + 1) v xs ≡ More u)
     → go (t + 1) n (λ v. scan (t + 1) v xs) ≡ More u → go (k + 1) n (λ v. scan (k + 1) v xs) ≡ More u
 more_any_next t k (Goes v) xs u f e = f v e
@@ -33,9 +36,11 @@ IsBefore n (More u) = Unit {0}
 IsBefore n (Made taken made) = n < taken
 IsBefore n (Fault taken) = n < taken
 
+-- the same count
 before_is : (n m : ℕ) (o : Outcome) → n ≡ m → IsBefore n o → IsBefore m o
 before_is n m o e h = subst (λ (k : ℕ). IsBefore k o) e h
 
+-- past one byte
 before_next : (t j : ℕ) (n : Next) (xs : List ℕ) (o : Outcome) → ((v : State) → scan (t + 1) v xs ≡ o → (u : State) × (scan (t + 1) v (take j xs) ≡ More u)) → go (t + 1) n (λ v. scan (t + 1) v xs) ≡ o → IsBefore (t + suc j) o
     → (u : State) × (go (t + 1) n (λ v. scan (t + 1) v (take j xs)) ≡ More u)
 before_next t j (Goes v) xs o f e h = f v e

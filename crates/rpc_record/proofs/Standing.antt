@@ -1,7 +1,7 @@
 -- What the scan finds is spelled so.
-use Rattle.std.proofs.Common.{◌≡◌, ℕ, zero, suc, ◌+◌, ◌-◌, ◌*◌, ◌/◌, ◌%◌, ◌^◌, ◌<◌, ◌≤◌, ◌⊎◌, ◌≢◌, inl, inr, Bool, true, false, cond, eqb, ltb, List, [], ◌∷◌, ◌++◌, length, get_or, take, drop, refl, sym, ap, subst, ◌∙◌, append_assoc, arith, length-append}
-use Rattle.std.specs.Prelude.{nat_le, nat_lt, if◌then◌else◌, ◌==◌}
-use Rattle.std.specs.List.{flat_map, concat}
+use Rattle.std.proofs.Common.{◌≡◌, ℕ, suc, ◌+◌, ◌-◌, ◌%◌, ◌^◌, ◌<◌, ◌≤◌, ◌≢◌, Bool, true, false, cond, eqb, ltb, List, [], ◌∷◌, ◌++◌, length, take, refl, sym, ap, subst, ◌∙◌, append_assoc, arith, length-append}
+use Rattle.std.specs.Prelude.{nat_le}
+use Rattle.std.specs.List.{concat}
 use Rattle.std.specs.Int.{w32, to_be_bytes, from_be_bytes}
 use Rattle.std.proofs.lemmas.Bool.Decides.{nat_tests}
 use Rattle.std.proofs.lemmas.Bool.{eqb-true, eqb-false, ltb-true, ltb-false, leb-true}
@@ -9,7 +9,7 @@ use Rattle.std.proofs.lemmas.List.{append-nil}
 use Rattle.std.proofs.lemmas.Nat.{be_bytes_4}
 use Rattle.rpc_record.specs.Stream.{AreBytes}
 use Rattle.rpc_record.proofs.Bytes.{AreBytes-append, below}
-use Rattle.rpc_record.specs.Records.{limit, last_bit, header, fragment, front, IsRecord, IsAtFault, HasNoRecord}
+use Rattle.rpc_record.specs.Records.{limit, last_bit, header, fragment, front, IsRecord, IsAtFault}
 use Rattle.rpc_record.specs.Machine.{State, InHeader, InData, Next, Goes, Ends, Faults, Outcome, More, Made, Fault, after_fragment, after_header, after, go, scan}
 
 -- bytes that end in fewer than four of a header
@@ -43,10 +43,12 @@ Leads came (Goes s) = Stands came s
 Leads came (Ends made) = IsRecord made came
 Leads came Faults = IsAtFault came
 
+-- one part more
 concat-push : (parts : List (List ℕ)) (p : List ℕ) → concat (parts ++ p ∷ []) ≡ concat parts ++ p
 concat-push [] p = append-nil p
 concat-push (q ∷ parts) p = ap (λ (x : List ℕ). q ++ x) (concat-push parts p) ∙ sym (append_assoc q (concat parts) p)
 
+-- one fragment more
 front-push : (parts : List (List ℕ)) (p : List ℕ) → front (parts ++ p ∷ []) ≡ front parts ++ fragment false p
 front-push [] p = append-nil _
 front-push (q ∷ parts) p = ap (λ (x : List ℕ). fragment false q ++ x) (front-push parts p) ∙ sym (append_assoc (fragment false q) (front parts) (fragment false p))
@@ -63,17 +65,21 @@ ended parts p came false h e = record {
   small = omega (arith, length-append (concat parts) p);
 }
 
+-- by a test
 cond_leads : (b : Bool) (x y : Next) (came : List ℕ) → (b ≡ true → Leads came x) → (b ≡ false → Leads came y) → Leads came (cond b x y)
 cond_leads true x y came p q = p refl
 cond_leads false x y came p q = q refl
 
+-- a header by its top bit
 number_by : (b : Bool) (number : ℕ) → number < 2 ^ 32 → nat_le last_bit number ≡ b → number ≡ number % last_bit + cond b last_bit 0
 number_by true number h e = omega (arith, leb-true last_bit number e)
 number_by false number h e = let lt : number < last_bit = grind (arith, nat_tests) in omega arith
 
+-- a header is its size and its top bit
 number_is : (number : ℕ) → number < 2 ^ 32 → number ≡ number % last_bit + cond (nat_le last_bit number) last_bit 0
 number_is number h = number_by (nat_le last_bit number) number h refl
 
+-- at a header's end
 entered : (parts : List (List ℕ)) (came : List ℕ) (number : ℕ) → number < 2 ^ 32 → length (concat parts) ≤ limit → came ≡ front parts ++ to_be_bytes w32 number → Leads came (after_header (concat parts) number)
 entered parts came number fits small e =
     let size = number % last_bit in
@@ -128,6 +134,7 @@ leads came (InData joined left last) b lt h =
     let less : left ≢ 1 = eqb-false left 1 more in
     record { parts = h.parts; part = part; size = h.size; joined_is = joins; came_is = now; size_is = omega (arith, length-append h.part (b ∷ []), h.size_is, h.some); some = omega (arith, h.some); small = h.small })
 
+-- the next byte is one that has come
 cons-front : (came : List ℕ) (b : ℕ) (bytes : List ℕ) → (came ++ b ∷ []) ++ bytes ≡ came ++ b ∷ bytes
 cons-front came b bytes = append_assoc came (b ∷ []) bytes
 
@@ -137,16 +144,19 @@ Says t came bytes (More s) = Stands (came ++ bytes) s
 Says t came bytes (Made n made) = (k : ℕ) × (n ≡ t + k) × (k ≤ length bytes) × IsRecord made (came ++ take k bytes)
 Says t came bytes (Fault n) = (k : ℕ) × (n ≡ t + k) × (k ≤ length bytes) × IsAtFault (came ++ take k bytes)
 
+-- the same, from a byte before
 says-cons : (t : ℕ) (came : List ℕ) (b : ℕ) (bytes : List ℕ) (o : Outcome) → Says (t + 1) (came ++ b ∷ []) bytes o → Says t came (b ∷ bytes) o
 says-cons t came b bytes (More s) h = subst (λ (x : List ℕ). Stands x s) (cons-front came b bytes) h
 says-cons t came b bytes (Made n made) h = (suc h.0, omega (arith, h.1), omega (arith, h.2), subst (IsRecord made) (cons-front came b (take h.0 bytes)) h.3)
 says-cons t came b bytes (Fault n) h = (suc h.0, omega (arith, h.1), omega (arith, h.2), subst IsAtFault (cons-front came b (take h.0 bytes)) h.3)
 
+-- past one byte
 next_says : (n : Next) (t : ℕ) (came bytes : List ℕ) → ((next : State) → Stands came next → Says t came bytes (scan t next bytes)) → Leads came n → Says t came bytes (go t n (λ next. scan t next bytes))
 next_says (Goes s) t came bytes f h = f s h
 next_says (Ends made) t came bytes f h = (0, omega arith, omega arith, subst (IsRecord made) (sym (append-nil came)) h)
 next_says Faults t came bytes f h = (0, omega arith, omega arith, subst IsAtFault (sym (append-nil came)) h)
 
+-- A scan says where the bytes stand, or that they end in a record or a fault.
 pub scan_says : (t : ℕ) (came : List ℕ) (s : State) (bytes : List ℕ) → AreBytes bytes → Stands came s → Says t came bytes (scan t s bytes)
 scan_says t came s [] f h = subst (λ (x : List ℕ). Stands x s) (sym (append-nil came)) h
 scan_says t came s (b ∷ bytes) f h =

@@ -3,7 +3,8 @@ use Rattle.std.specs.Prelude.{◌≡◌, ℕ, ◌+◌, ◌-◌, ◌%◌, Bool, n
 use Rattle.std.specs.Int.{w32, from_be_bytes}
 use Rattle.rpc_record.specs.Records.{limit, last_bit}
 
--- What has come since the last record: the joined data and fewer than four bytes of a header; or the joined data, how much of a fragment is missing, and whether it is the last.
+-- What has come since the last record: the joined data and fewer than four bytes of a header; or
+-- the joined data, how much of a fragment is missing, and whether it is the last.
 pub data State : Type 0 where
   InHeader : (joined header : List ℕ) → State
   InData : (joined : List ℕ) (left : ℕ) (last : Bool) → State

@@ -1,5 +1,5 @@
 -- The code's place in a record, and the record's data, as a state.
-use Rattle.std.specs.Prelude.{◌≡◌, ℕ, Bool, ◌+◌, ◌-◌, ◌<◌, ◌≤◌, ◌==◌, List, [], ◌++◌, length, take, drop, min, if◌then◌else◌}
+use Rattle.std.specs.Prelude.{◌≡◌, ℕ, Bool, ◌+◌, ◌≤◌, ◌==◌, List, ◌++◌, length, take, drop, min, if◌then◌else◌}
 use Rattle.rpc_record.specs.declared.place.Place.{Place}
 use Rattle.rpc_record.specs.declared.place.Turn.{Turn}
 use Rattle.rpc_record.specs.declared.place.Turn.TheVariants as turns
@@ -39,7 +39,10 @@ rest_of taken next bytes = go taken next (λ state. scan taken state bytes)
 
 -- The turn took these bytes, with any data of the place's size joined before.
 abbrev pub Turns : Place → List ℕ → ℕ → Turn → Place → Type 0
-Turns old bytes taken turn new = (joined : List ℕ) (before : ℕ) → length joined ≡ old.joined → scan before (state joined old) bytes ≡ rest_of (before + taken) (next_of turn (joined ++ data_of old bytes) new) (drop taken bytes)
+Turns old bytes taken turn new =
+    (joined : List ℕ) (before : ℕ) → length joined ≡ old.joined
+    → scan before (state joined old) bytes
+    ≡ rest_of (before + taken) (next_of turn (joined ++ data_of old bytes) new) (drop taken bytes)
 
 -- what bytes led to, of which this many were taken up to this turn
 abbrev pub outcome_of : ℕ → Turn → List ℕ → Place → Outcome

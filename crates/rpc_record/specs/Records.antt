@@ -9,9 +9,10 @@ limit = 131072
 
 -- the bit of a header that marks the last fragment (RFC 5531, section 11)
 abbrev pub last_bit : ℕ
-last_bit = 2147483648
+last_bit = 2 ^ 31
 
--- a fragment's header (RFC 5531, section 11): its size in the low 31 bits, and the top bit where it is the last
+-- a fragment's header (RFC 5531, section 11): its size in the low 31 bits, and the top bit where
+-- it is the last
 abbrev pub header : Bool → ℕ → List ℕ
 header last size = to_be_bytes w32 (size + (if last then last_bit else 0))
 
@@ -23,7 +24,8 @@ fragment last part = header last (length part) ++ part
 abbrev pub front : List (List ℕ) → List ℕ
 front parts = flat_map (fragment false) parts
 
--- The bytes spell the record (RFC 5531, section 11): fragments, of which just the final one is marked as the last, and whose joined data is the record.
+-- The bytes spell the record (RFC 5531, section 11): fragments, of which just the final one is
+-- marked as the last, and whose joined data is the record.
 pub record IsRecord (made bytes : List ℕ) : Type 0 where
   pub parts : List (List ℕ)
   pub last : List ℕ
@@ -35,7 +37,8 @@ pub record IsRecord (made bytes : List ℕ) : Type 0 where
 abbrev pub HasNoRecord : List ℕ → Type 0
 HasNoRecord bytes = (made spelled after : List ℕ) → bytes ≡ spelled ++ after → IsRecord made spelled → ⊥
 
--- The bytes are whole fragments, none the last, and one more header, which brings the record above the limit (our profile).
+-- The bytes are whole fragments, none the last, and one more header, which brings the record
+-- above the limit (our profile).
 pub record IsAtFault (bytes : List ℕ) : Type 0 where
   pub parts : List (List ℕ)
   pub last : Bool
@@ -56,9 +59,11 @@ HasNoFault bytes = (begun after : List ℕ) → bytes ≡ begun ++ after → IsA
 -- The bytes are spellings of the records, one after another.
 abbrev pub AreRecords : List (List ℕ) → List ℕ → Type 0
 AreRecords [] bytes = bytes ≡ []
-AreRecords (made ∷ others) bytes = (spelled : List ℕ) × (after : List ℕ) × (bytes ≡ spelled ++ after) × IsRecord made spelled × AreRecords others after
+AreRecords (made ∷ others) bytes =
+    (spelled : List ℕ) × (after : List ℕ) × (bytes ≡ spelled ++ after) × IsRecord made spelled × AreRecords others after
 
--- The stream is spellings of the records, one after another, and then rest, in which no record is whole.
+-- The stream is spellings of the records, one after another, and then rest, in which no record
+-- is whole.
 pub record Records (stream : List ℕ) (records : List (List ℕ)) (rest : List ℕ) : Type 0 where
   pub spelled : List ℕ
   pub stream_is : stream ≡ spelled ++ rest

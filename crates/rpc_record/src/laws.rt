@@ -4,7 +4,8 @@ ghost use Rattle.rpc_record.specs.Stream.{AreBytes, IsReading, opening, byte_rea
 
 /// A stream is records and a rest in one way.
 pub fn stream_has_one_reading()
-    ensures { (stream : List ℕ) (a b : List (List ℕ)) (x y : List ℕ) → Records stream a x → Records stream b y → (a ≡ b) × (x ≡ y) }
+    ensures { (stream : List ℕ) (a b : List (List ℕ)) (x y : List ℕ)
+        → Records stream a x → Records stream b y → (a ≡ b) × (x ≡ y) }
 {}
 
 /// Reading a stream by bytes finds its records, and stops just at a header at fault.
@@ -15,5 +16,6 @@ pub fn reading_is_exact()
 /// Reading goes from byte to byte.
 pub fn reading_goes_by_bytes()
     ensures none { read_stream [] ≡ opening }
-    ensures one { (stream : List ℕ) (b : ℕ) → read_stream (stream ++ b ∷ []) ≡ byte_read (read_stream stream).records (read_stream stream).at b }
+    ensures one { (stream : List ℕ) (b : ℕ) → read_stream (stream ++ b ∷ [])
+        ≡ byte_read (read_stream stream).records (read_stream stream).at b }
 {}

@@ -1,22 +1,23 @@
 ghost use Rattle.std.specs.Prelude.{◌≡◌, ◌+◌, ◌-◌, ◌<◌, ◌≤◌, List, ℕ, length};
-ghost use Rattle.rpc_record.specs.Machine.{Next, scan, after, after_fragment, after_header};
+ghost use Rattle.rpc_record.specs.Machine.{scan, after, after_fragment, after_header};
 ghost use Rattle.rpc_record.specs.Place.{state, next_of, IsSound, Turns, joined_by, after_data, walk_to};
 
 use byteorder::{BigEndian, ByteOrder};
 
-/// The most bytes of a record.
+/// The most bytes of a record: our profile, as RFC 5531 sets no limit.
 pub const RECORD_LIMIT: usize = 131_072;
 
-/// The bit of a fragment's header that marks the record's last fragment.
-pub(crate) const LAST_FRAGMENT: u32 = 2_147_483_648;
+/// The bit of a fragment's header that marks the record's last fragment (RFC 5531, section 11).
+pub(crate) const LAST_FRAGMENT: u32 = 0x8000_0000;
 
 /// Where in a record a stream stands, without the record's data.
 #[derive(Clone, Copy)]
 pub(crate) struct Place {
     /// How many bytes of data have been joined.
     pub(crate) joined: usize,
+    /// What has come of a header.
     pub(crate) header: [u8; 4],
-    /// How many bytes of a header have come.
+    /// How many bytes of it have come.
     pub(crate) count: usize,
     /// How many bytes of the fragment are missing: none in a header.
     pub(crate) left: usize,
@@ -27,8 +28,11 @@ pub(crate) struct Place {
 /// What bytes led to.
 #[derive(Clone, Copy)]
 pub(crate) enum Turn {
+    /// All were taken, and no record is whole.
     Goes,
+    /// They end a record.
     Ends,
+    /// They end in a header that brings the record above the limit.
     Faults,
 }
 
@@ -57,7 +61,8 @@ impl Place {
     /// A header's end.
     fn end_header(&mut self, number: u32) -> Turn
         requires { IsSound self.old }
-        ensures next { (joined : List ℕ) → length joined ≡ self.old.joined → next_of result joined self.new ≡ after_header joined number }
+        ensures next { (joined : List ℕ) → length joined ≡ self.old.joined
+            → next_of result joined self.new ≡ after_header joined number }
         ensures joined { self.new.joined ≡ self.old.joined }
         ensures sound { IsSound self.new }
     {
@@ -78,7 +83,8 @@ impl Place {
     fn take_header_byte(&mut self, byte: u8) -> Turn
         requires in_header { self.old.left ≡ 0 }
         requires sound { IsSound self.old }
-        ensures next { (joined : List ℕ) → length joined ≡ self.old.joined → next_of result joined self.new ≡ after (state joined self.old) byte }
+        ensures next { (joined : List ℕ) → length joined ≡ self.old.joined
+            → next_of result joined self.new ≡ after (state joined self.old) byte }
         ensures joined { self.new.joined ≡ self.old.joined }
         ensures sound { IsSound self.new }
     {
@@ -95,7 +101,8 @@ impl Place {
     fn take_data(&mut self, size: usize) -> Turn
         requires within { size ≤ self.old.left }
         requires sound { IsSound self.old }
-        ensures next { (joined : List ℕ) → next_of result joined self.new ≡ after_data joined (self.old.left - size) self.old.last }
+        ensures next { (joined : List ℕ) → next_of result joined self.new
+            ≡ after_data joined (self.old.left - size) self.old.last }
         ensures joined { self.new.joined ≡ self.old.joined + size }
         ensures sound { IsSound self.new }
     {
@@ -128,7 +135,8 @@ impl Place {
     /// How many bytes go up to the end of a record or a fault, and which of these stands there.
     pub(crate) fn walk(mut self, bytes: &[u8]) -> (usize, Turn)
         requires { IsSound self }
-        ensures { (joined : List ℕ) → length joined ≡ self.joined → result ≡ walk_to bytes.now (scan 0 (state joined self) bytes.now) }
+        ensures { (joined : List ℕ) → length joined ≡ self.joined
+            → result ≡ walk_to bytes.now (scan 0 (state joined self) bytes.now) }
     {
         let mut taken = 0;
         while taken < bytes.len() {

@@ -1,7 +1,7 @@
 ghost use Rattle.std.specs.Prelude.{◌≡◌, ◌≤◌, ◌<◌, ◌++◌, List, ℕ, length, take, Option, Some, None, IsSome};
 ghost use Rattle.rpc_record.specs.Machine.{State, start, outcome, IsMore};
 ghost use Rattle.rpc_record.specs.Stream.{read_stream};
-ghost use Rattle.rpc_record.specs.Feeds.{Feeds, GoesOn, Foresees, HasCome, Says, given, look_at, Tells};
+ghost use Rattle.rpc_record.specs.Feeds.{Feeds, GoesOn, Foresees, HasCome, Says, GivesNothing, given, look_at, Tells};
 ghost use Rattle.rpc_record.specs.declared.reassembler.Step.{Step};
 ghost use Rattle.rpc_record.specs.declared.reassembler.Step.TheVariants as steps;
 
@@ -12,7 +12,7 @@ use std::marker::Model;
 use std::mem;
 
 /// What bytes that were fed led to.
-#[derive(Drop)]
+#[derive(Debug, Drop)]
 pub enum Step {
     /// The bytes taken end a record, whose data this is.
     Record(Vec<u8>),
@@ -25,7 +25,7 @@ pub enum Step {
 }
 
 /// What bytes would lead to.
-#[derive(Clone, Copy)]
+#[derive(Clone, Copy, Debug, PartialEq, Eq)]
 pub enum Look {
     /// They would end a record.
     Record,
@@ -73,18 +73,23 @@ impl Reassembler {
     /// Takes bytes up to the end of at most one record, or up to the first header at fault. Once
     /// that was told, it takes nothing and tells it again.
     pub fn feed(&mut self, bytes: &[u8]) -> (usize, Step)
+        // By bytes, one after another.
         ensures feeds { Feeds self.old bytes.now result.0 result.1 self.new }
         ensures within { result.0 ≤ length bytes.now }
         ensures fewer { (n : ℕ) → n < result.0 → IsMore (outcome self.old (take n bytes.now)) }
+        ensures nothing { IsMore (outcome self.old bytes.now) → GivesNothing result.1 }
         ensures failed { self.old ≡ None → (result ≡ (0, steps.Fault)) × (self.new ≡ None) }
 
-        // Of what has come since the last record, in the words of whole streams.
-        ensures says { (came : List ℕ) → HasCome came self.old → Says came bytes.now result.0 result.1 self.new }
+        // Of what has come since the last record, in the standard's words.
+        ensures says { (came : List ℕ) → HasCome came self.old
+            → Says came bytes.now result.0 result.1 self.new }
 
         // Of a whole stream that the caller keeps.
         ensures reads { (stream : List ℕ) → (read_stream stream).at ≡ self.old
-            → read_stream (stream ++ take result.0 bytes.now) ≡ record { records = (read_stream stream).records ++ given result.1; at = self.new } }
-        ensures goes_on { (stream : List ℕ) (n : ℕ) → (read_stream stream).at ≡ self.old → n < result.0 → GoesOn stream (take n bytes.now) }
+            → read_stream (stream ++ take result.0 bytes.now)
+            ≡ record { records = (read_stream stream).records ++ given result.1; at = self.new } }
+        ensures goes_on { (stream : List ℕ) (n : ℕ) → (read_stream stream).at ≡ self.old
+            → n < result.0 → GoesOn stream (take n bytes.now) }
     {
         if self.failed {
             return (0, Step::Fault);
@@ -122,14 +127,20 @@ impl Reassembler {
 
     /// Tells what `feed` would take of these bytes, and what it would answer if memory is there.
     pub fn look(&self, bytes: &[u8]) -> (usize, Look)
+        // By bytes, one after another.
         ensures looks { result ≡ look_at bytes.now (outcome self.now bytes.now) }
         ensures within { result.0 ≤ length bytes.now }
         ensures fewer { (n : ℕ) → n < result.0 → IsMore (outcome self.now (take n bytes.now)) }
-        ensures tells { (taken : ℕ) (step : Step) (new : Option State) → Feeds self.now bytes.now taken step new → Tells result taken step }
+
+        // Of what `feed` takes of the same bytes and answers, want of memory aside.
+        ensures tells { (taken : ℕ) (step : Step) (new : Option State)
+            → Feeds self.now bytes.now taken step new → Tells result taken step }
 
         // Of a whole stream that the caller keeps.
-        ensures foresees { (stream : List ℕ) → (read_stream stream).at ≡ self.now → Foresees stream bytes.now result.0 result.1 }
-        ensures goes_on { (stream : List ℕ) (n : ℕ) → (read_stream stream).at ≡ self.now → n < result.0 → GoesOn stream (take n bytes.now) }
+        ensures foresees { (stream : List ℕ) → (read_stream stream).at ≡ self.now
+            → Foresees stream bytes.now result.0 result.1 }
+        ensures goes_on { (stream : List ℕ) (n : ℕ) → (read_stream stream).at ≡ self.now
+            → n < result.0 → GoesOn stream (take n bytes.now) }
     {
         if self.failed {
             return (0, Look::Fault);

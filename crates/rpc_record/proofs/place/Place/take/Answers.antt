@@ -1,4 +1,4 @@
-use Rattle.std.proofs.Common.{eqb, false, arith}
+use Rattle.std.proofs.Common.{arith}
 use Rattle.std.proofs.lemmas.Bool.Decides.{nat_tests}
 use Rattle.rpc_record.proofs.Chunks.{turns_data}
 use Rattle.rpc_record.proofs.place.Place.take.Goals as goal

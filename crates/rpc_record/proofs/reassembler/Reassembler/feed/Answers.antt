@@ -1,7 +1,11 @@
 use Rattle.std.proofs.Common.{ℕ, ◌<◌, get_or, take, arith}
 use Rattle.rpc_record.proofs.Came.{feeds_say}
-use Rattle.rpc_record.proofs.Feeding.{feeds_fewer, feeds_read, more_goes_on}
+use Rattle.rpc_record.proofs.Feeding.{more_gives_nothing, feeds_fewer, feeds_read, more_goes_on}
 use Rattle.rpc_record.proofs.reassembler.Reassembler.feed.Goals as goal
+
+pub returns-clause-nothing : goal.returns-clause-nothing
+returns-clause-nothing c = λ more.
+    more_gives_nothing c.args.bytes.now c.args.self.now c.advance.new.self c.advance.result.0 c.advance.result.1 more c.advance.ensures
 
 pub returns-clause-fewer : goal.returns-clause-fewer
 returns-clause-fewer c = λ n less.

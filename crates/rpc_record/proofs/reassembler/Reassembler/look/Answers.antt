@@ -1,6 +1,4 @@
-use Rattle.std.proofs.Common.{◌≡◌, ℕ, List, ◌<◌, ◌≤◌, length, take}
-use Rattle.rpc_record.specs.Machine.{outcome, IsMore}
-use Rattle.rpc_record.specs.Feeds.{Feeds, Tells, Foresees, GoesOn, look_at}
+use Rattle.std.proofs.Common.{take}
 use Rattle.rpc_record.proofs.Feeding.{look_within, look_fewer, feeds_tell, look_foresees, more_goes_on}
 use Rattle.rpc_record.proofs.reassembler.Reassembler.look.Goals as goal
 
