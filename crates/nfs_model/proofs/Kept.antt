@@ -53,7 +53,7 @@ worked_once w i k r there runs e =
 module _ (setup : Setup) (only : IsReadOnly setup) (scan : IsScan setup.codec) where
   happens_kept : (w : World) (event : Event) (done : Done) (new : World) → IsOfCalls event → refusal setup w event ≡ None → Happens setup w event done new → Headline setup w → Headline setup new
   happens_kept w Open done new of allowed p h = subst (λ (v : World). Headline setup v) (sym p.1) (keeps_open setup w scan h)
-  happens_kept w (Feed c bytes) done new of allowed p h = keeps_feed setup w c bytes p.0 p.1 new only scan (allowed_if (takes_input setup (slice_get w.connections c)) 36 None allowed).0 p.3 h
+  happens_kept w (Feed c bytes) done new of allowed p h = keeps_feed setup w c bytes p.0 p.1 new scan (allowed_if (takes_input setup (slice_get w.connections c)) 36 None allowed).0 p.3 h
   happens_kept w (Close c) done new of allowed p h =
       subst (λ (v : World). Headline setup v) (sym p.1) (keeps_close setup w c (open_is w c (allowed_if (is_open (slice_get w.connections c)) 36 None allowed).0) h)
   happens_kept w (Begin worker place moment) done new of allowed p h =

@@ -18,7 +18,8 @@ use Rattle.nfs_model.proofs.Written.{AreLawful-push, server_after-push, replies_
 use Rattle.nfs_model.proofs.Own.{later_changed, entries_later, messages_later, heard_later, own_of_heard}
 use Rattle.nfs_model.proofs.Once.{total_in, once_changed, tally_finished-append, tally_messages-append, tally_messages-remove}
 use Rattle.nfs_model.proofs.Slots.{Slot, slot, messages-between, tried-append, tally-between, messages_between, messages_without, messages_there, server_worked-between, Apart-between, Apart-without}
-use Rattle.nfs_model.proofs.Unchanged.{done, IsWorked, IsFinished, worked, finished}
+use Rattle.nfs_model.proofs.Needs.{done, IsWorked, IsFinished}
+use Rattle.nfs_model.proofs.Unchanged.{worked, finished}
 
 -- a worker's call changes, its hand doesn't
 module _ (setup : Setup) (w : World) (i : ℕ) (k : Worker) (s : Slot w.workers i k) where

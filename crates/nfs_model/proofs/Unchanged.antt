@@ -22,6 +22,7 @@ use Rattle.nfs_model.specs.Headline.{Headline, start, served, messages, worked_b
 use Rattle.nfs_model.specs.ReadOnly.{IsReading, AsksReading, IsReadOnly}
 use Rattle.nfs_model.proofs.Lists.{All-weaker, All-get, All-between, All-without, All-there}
 use Rattle.nfs_model.proofs.Written.{server_after-push}
+use Rattle.nfs_model.proofs.Needs.{done, IsWorked, IsFinished}
 
 -- ---- one call
 
@@ -91,26 +92,6 @@ module _ (setup : Setup) (only : IsReadOnly setup) (w : World) where
 
 -- ---- what the events need
 
--- the server after the finished calls
-abbrev pub done : Setup → World → Server
-done setup w = server_after (start setup) w.finished
-
--- a call without an affinity is answered on the server as it is, and changes nothing
-pub record IsAtOnce (setup : Setup) (w : World) (asked : Asked) : Type 0 where
-  pub reply : (serial w.server asked start_of_times false).reply ≡ (serial (done setup w) asked start_of_times false).reply
-  pub stays : (serial (done setup w) asked start_of_times false).server ≡ done setup w
-
--- a worked call's outcome is the one that finishing now would give, and the parts stay in order
-pub record IsWorked (setup : Setup) (w : World) (r : Running) (o : Outcome) (server : Server) (parts : List Parts) (before after : List Running) : Type 0 where
-  pub outcome : IsOutcome setup (done setup w) r (Some o)
-  pub state : server ≡ server_worked (done setup w) (before ++ record r { outcome = Some o } ∷ after)
-  pub partition : (v : ℕ) (volume : servers.Volume) → slice_get server.volumes v ≡ Some volume → (p : Parts) × (slice_get parts v ≡ Some p) × IsPartition volume p (hands_blocks v w.workers)
-
--- a call that is finished leaves the others' outcomes as they are
-pub record IsFinished (setup : Setup) (w : World) (r : Running) (starved : Bool) (before after : List Running) : Type 0 where
-  pub state : w.server ≡ server_worked (server_after (start setup) (w.finished ++ entry_of r starved ∷ [])) (before ++ after)
-  pub outcomes : AllByRecursion (λ q. IsOutcome setup (server_after (start setup) (w.finished ++ entry_of r starved ∷ [])) q q.outcome) (before ++ after)
-
 slice_set_same : {X : Type 0} (xs : List X) (i : ℕ) (x : X) → slice_get xs i ≡ Some x → slice_set xs i x ≡ xs
 slice_set_same xs i x e = ap (λ y. slice_set xs i y) (sym (get_or_from_slice_get xs i x x e)) ∙ set-get_or xs i x
 
@@ -148,12 +129,6 @@ module _ (setup : Setup) (only : IsReadOnly setup) (w : World) (h : Headline set
 
   server_is : w.server ≡ start setup
   server_is = h.state ∙ all_worked_stay (done setup w) (all_running w.workers) (running_read setup only w (all_running w.workers) h.own_running) ∙ done_is
-
-  pub at_once : (asked : Asked) → AsksReading asked → IsAtOnce setup w asked
-  at_once asked reads = record {
-    reply = ap (λ (s : Server). (serial s asked start_of_times false).reply) (server_is ∙ sym done_is);
-    stays = serial_stays (done setup w) asked start_of_times false reads;
-  }
 
   module _ (before after : List Running) (r : Running) (running : all_running w.workers ≡ before ++ r ∷ after) where
     all_read : AllByRecursion (λ q. AsksReading q.message.asked) (before ++ r ∷ after)
