@@ -1,4 +1,4 @@
--- Each event keeps the headline, and so does a whole run.
+-- Each event of connections and calls keeps the headline, where the calls that are served agree, and so does a whole run.
 use Rattle.std.proofs.Common.{◌≡◌, ℕ, Bool, true, false, List, [], ◌∷◌, ◌++◌, Option, Some, None, Result, Ok, Err, refl, sym, ap, subst, ◌∙◌}
 use Rattle.std.specs.Prelude.{slice_get, is_some, if◌then◌else◌}
 use Rattle.std.specs.List.{AllByRecursion}
@@ -6,8 +6,9 @@ use Rattle.nfs_model.specs.World.{Setup, World, Message, Running, Worker, Outcom
 use Rattle.nfs_model.specs.Events.Refusals.{Event, Open, Feed, Close, Begin, Work, Finish, Done, is_open, is_idle, is_busy, is_bad_moment, takes_input, begin_refusal, work_refusal, running_of, excluded, refusal}
 use Rattle.nfs_model.specs.Events.Step.{Happens, Events, Runs}
 use Rattle.nfs_model.specs.Headline.{Headline}
-use Rattle.nfs_model.specs.ReadOnly.{IsReadOnly, IsOfCalls}
+use Rattle.nfs_model.specs.ReadOnly.{IsOfCalls}
 use Rattle.nfs_model.proofs.Lists.{none_is}
+use Rattle.nfs_model.proofs.Needs.{IsAgreed}
 use Rattle.nfs_model.proofs.KeptByConnections.{keeps_open, keeps_close, open_is}
 use Rattle.nfs_model.proofs.KeptByFeed.{keeps_feed}
 use Rattle.nfs_model.proofs.KeptByWorkers.{keeps_begin, keeps_work, keeps_finish}
@@ -50,7 +51,7 @@ worked_once w i k r there runs e =
 
 -- ---- each event
 
-module _ (setup : Setup) (only : IsReadOnly setup) (scan : IsScan setup.codec) where
+module _ (setup : Setup) (agreed : IsAgreed setup) (scan : IsScan setup.codec) where
   happens_kept : (w : World) (event : Event) (done : Done) (new : World) → IsOfCalls event → refusal setup w event ≡ None → Happens setup w event done new → Headline setup w → Headline setup new
   happens_kept w Open done new of allowed p h = subst (λ (v : World). Headline setup v) (sym p.1) (keeps_open setup w scan h)
   happens_kept w (Feed c bytes) done new of allowed p h = keeps_feed setup w c bytes p.0 p.1 new scan (allowed_if (takes_input setup (slice_get w.connections c)) 36 None allowed).0 p.3 h
@@ -61,9 +62,9 @@ module _ (setup : Setup) (only : IsReadOnly setup) (scan : IsScan setup.codec) w
       let k = idle_at w worker (slice_get w.workers worker) refl free.0 in
       subst (λ (v : World). Headline setup v) (sym p.3) (keeps_begin setup w worker k.worker place p.0 moment k.there k.idle p.1 (begun_free setup w place p.0 moment p.1 free.1) h)
   happens_kept w (Work worker) done new of allowed p h =
-      subst (λ (v : World). Headline setup v) (sym p.9) (keeps_work setup w worker p.0 p.1 p.2 p.3 p.4 only p.5 p.6 (worked_once w worker p.0 p.1 p.5 p.6 allowed) p.7 h)
+      subst (λ (v : World). Headline setup v) (sym p.9) (keeps_work setup w worker p.0 p.1 p.2 p.3 p.4 agreed p.5 p.6 (worked_once w worker p.0 p.1 p.5 p.6 allowed) p.7 h)
   happens_kept w (Finish worker) done new of allowed p h =
-      subst (λ (v : World). Headline setup v) (sym p.7) (keeps_finish setup w worker p.0 p.1 p.2 only scan p.3 p.4 p.5 h)
+      subst (λ (v : World). Headline setup v) (sym p.7) (keeps_finish setup w worker p.0 p.1 p.2 agreed scan p.3 p.4 p.5 h)
   happens_kept w event done new of allowed p h = absurd of
 
   -- whatever an event is answered

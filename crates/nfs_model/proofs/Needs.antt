@@ -1,14 +1,15 @@
 -- What an event needs to know of the calls that are worked and finished meanwhile, and what is known of those without a home.
-use Rattle.std.proofs.Common.{◌≡◌, ℕ, Bool, false, List, [], ◌∷◌, ◌++◌, length, Option, Some, None, refl, sym, ap, ◌∙◌}
+use Rattle.std.proofs.Common.{◌≡◌, ℕ, Bool, false, List, [], ◌∷◌, ◌++◌, length, Some, None, sym, ap, ◌∙◌}
 use Rattle.std.specs.Prelude.{slice_get}
 use Rattle.std.specs.List.{AllByRecursion}
-use Rattle.nfs_model.specs.Types.{Asked}
+use Rattle.nfs_model.specs.Types.{Asked, Reply}
 use Rattle.nfs_model.specs.Server as servers
 use Rattle.nfs_model.specs.Server.{Server, start_of_times}
 use Rattle.nfs_model.specs.Serial.Step.{serial}
 use Rattle.nfs_model.specs.Home.{home_of_asked}
 use Rattle.nfs_model.specs.Replay.{server_after}
-use Rattle.nfs_model.specs.World.{Setup, World, Running, Outcome, Parts, all_running, hands_blocks}
+use Rattle.nfs_model.specs.World.{Setup, World, Running, Outcome, Replied, Parts, all_running, hands_blocks}
+use Rattle.nfs_model.specs.Events.Work.{Works}
 use Rattle.nfs_model.specs.Events.Step.{entry_of}
 use Rattle.nfs_model.specs.Headline.{Headline, start, server_worked, IsOutcome, IsPartition}
 use Rattle.nfs_model.proofs.Volumes.{volumes_in, start_counts, after_counts, all_worked_count, at_once_same, at_once_stays}
@@ -27,6 +28,15 @@ pub record IsWorked (setup : Setup) (w : World) (r : Running) (o : Outcome) (ser
 pub record IsFinished (setup : Setup) (w : World) (r : Running) (starved : Bool) (before after : List Running) : Type 0 where
   pub state : w.server ≡ server_worked (server_after (start setup) (w.finished ++ entry_of r starved ∷ [])) (before ++ after)
   pub outcomes : AllByRecursion (λ q. IsOutcome setup (server_after (start setup) (w.finished ++ entry_of r starved ∷ [])) q q.outcome) (before ++ after)
+
+-- what a stage has to show of the calls that it serves: those that run at one time don't disturb each other
+pub record IsAgreed (setup : Setup) : Type 0 where
+  pub worked : (w : World) (before after : List Running) (r : Running) (o : Outcome) (server : Server) (parts : List Parts)
+      → Headline setup w → all_running w.workers ≡ before ++ r ∷ after → r.outcome ≡ None → Works w r o server parts → IsWorked setup w r o server parts before after
+  pub finished : (w : World) (before after : List Running) (r : Running) (reply : Reply)
+      → Headline setup w → all_running w.workers ≡ before ++ r ∷ after → r.outcome ≡ Some (Replied reply) → IsFinished setup w r false before after
+
+-- ---- calls without a home
 
 -- a call without an affinity is answered on the server as it is, and changes nothing
 pub record IsAtOnce (setup : Setup) (w : World) (asked : Asked) : Type 0 where

@@ -22,7 +22,7 @@ use Rattle.nfs_model.specs.Headline.{Headline, start, served, messages, worked_b
 use Rattle.nfs_model.specs.ReadOnly.{IsReading, AsksReading, IsReadOnly}
 use Rattle.nfs_model.proofs.Lists.{All-weaker, All-get, All-between, All-without, All-there}
 use Rattle.nfs_model.proofs.Written.{server_after-push}
-use Rattle.nfs_model.proofs.Needs.{done, IsWorked, IsFinished}
+use Rattle.nfs_model.proofs.Needs.{done, IsWorked, IsFinished, IsAgreed}
 
 -- ---- one call
 
@@ -148,7 +148,7 @@ module _ (setup : Setup) (only : IsReadOnly setup) (w : World) (h : Headline set
         let found = h.partition v volume (subst (λ (s : Server). slice_get s.volumes v ≡ Some volume) same e) in
         (found.0, ap (λ (ps : List Parts). slice_get ps v) same_parts ∙ found.1, found.2)
 
-    pub worked : (o : Outcome) (server : Server) (parts : List Parts) → r.outcome ≡ None → Works w r o server parts → IsWorked setup w r o server parts before after
+    worked : (o : Outcome) (server : Server) (parts : List Parts) → r.outcome ≡ None → Works w r o server parts → IsWorked setup w r o server parts before after
     worked (Moved a) server parts n k = absurd (does_not_move w.server w.parts r.message.affinity a r.message.asked reads k.0)
     worked Starved server parts n k = record {
       outcome = subst (λ (s : Server). IsTrue (may_starve_later s r.message.asked r.moment)) (server_is ∙ sym done_is) k.0;
@@ -166,10 +166,17 @@ module _ (setup : Setup) (only : IsReadOnly setup) (w : World) (h : Headline set
     done_with : server_after (start setup) (w.finished ++ entry_of r false ∷ []) ≡ done setup w
     done_with = server_after-push (start setup) w.finished (entry_of r false) ∙ serial_stays (done setup w) r.message.asked r.moment false reads
 
-    pub finished : (reply : Reply) → r.outcome ≡ Some (Replied reply) → IsFinished setup w r false before after
+    finished : (reply : Reply) → r.outcome ≡ Some (Replied reply) → IsFinished setup w r false before after
     finished reply is = record {
       state = server_is ∙ sym (all_worked_stay (server_after (start setup) (w.finished ++ entry_of r false ∷ [])) (before ++ after) others_read ∙ done_with ∙ done_is);
       outcomes =
           subst (λ (s : Server). AllByRecursion (λ q. IsOutcome setup s q q.outcome) (before ++ after)) (sym done_with)
           (All-without (λ q. IsOutcome setup (done setup w) q q.outcome) before after r (subst (λ (rs : List Running). AllByRecursion (λ q. IsOutcome setup (done setup w) q q.outcome) rs) running h.outcomes));
     }
+
+-- calls that change nothing agree
+pub read_only_agrees : (setup : Setup) → IsReadOnly setup → IsAgreed setup
+read_only_agrees setup only = record {
+  worked = λ w before after r o server parts h was unworked works. worked setup only w h before after r was o server parts unworked works;
+  finished = λ w before after r reply h was is. finished setup only w h before after r was reply is;
+}

@@ -2,7 +2,7 @@
 use Rattle.std.proofs.Common.{◌≡◌, ℕ, suc, ◌+◌, ◌*◌, Bool, true, false, List, [], ◌∷◌, length, Option, Some, None, slice_get, refl, sym, ap, ◌∙◌, ◌==◌, if◌then◌else◌, nat_lt}
 use Rattle.std.specs.Prelude.{slice_index_or}
 use Rattle.std.proofs.lemmas.List.{length-set}
-use Rattle.nfs_model.specs.Types.{Moment, Credential, Call, Null, Getattr, Setattr, Lookup, Read, Write, Create, Mkdir, Remove, Rmdir, Rename, Readdir, Fsstat, Commit, Census, Grow, Asked, Ask, Refused, Undecoded, Answer, Reply, Failed, GrowDone, Invalid, TooBig, NoSpace}
+use Rattle.nfs_model.specs.Types.{Moment, Credential, Call, Null, Getattr, Setattr, Lookup, Read, Write, Create, Mkdir, Remove, Rmdir, Rename, Readdir, Fsstat, Commit, Census, Grow, Asked, Ask, Refused, Undecoded, Answer, Failed, GrowDone, Invalid, TooBig, NoSpace}
 use Rattle.nfs_model.specs.Tree.{Layout, VolumeLayout}
 use Rattle.nfs_model.specs.Server as servers
 use Rattle.nfs_model.specs.Server.{Server, handle_of, opening, opening_volumes}
@@ -10,7 +10,7 @@ use Rattle.nfs_model.specs.Locate.{Served}
 use Rattle.nfs_model.specs.Serial.Grow.{Grown, grown, grow_volume}
 use Rattle.nfs_model.specs.Serial.Rename.{rename}
 use Rattle.nfs_model.specs.Serial.Step.{Step, placed, stay, on_volume, on_handle, on_two, serve, serial}
-use Rattle.nfs_model.specs.Home.{home, home_of_asked}
+use Rattle.nfs_model.specs.Home.{home_of_asked}
 use Rattle.nfs_model.specs.Replay.{Entry, step_of, server_after}
 use Rattle.nfs_model.specs.World.{Setup, Running, Outcome, Replied, Starved, Moved}
 use Rattle.nfs_model.specs.Headline.{start, worked_by, server_worked}
