@@ -1,18 +1,16 @@
 -- Fetch, Cull, PutDown and Survey keep the headline: block numbers go between parts and hands.
-use Rattle.std.proofs.Common.{◌≡◌, ℕ, zero, suc, ◌+◌, ◌≤◌, Bool, true, false, List, [], ◌∷◌, ◌++◌, length, Option, Some, None, refl, sym, ap, subst, ◌∙◌, arith, inl, inr}
+use Rattle.std.proofs.Common.{◌≡◌, ℕ, zero, suc, ◌+◌, ◌≤◌, Bool, true, false, List, [], ◌∷◌, Some, refl, sym, ap, subst, ◌∙◌, arith, inl, inr}
 use Rattle.std.specs.Prelude.{slice_get, ◌==◌, nat_lt, if◌then◌else◌}
 use Rattle.std.specs.List.{AllByRecursion}
-use Rattle.std.specs.Ordering.{nat_cmp}
 use Rattle.std.specs.FinSet.{contains, len}
-use Rattle.std.proofs.lemmas.Bool.{ne_eqb, eq-eqb}
+use Rattle.std.proofs.lemmas.Bool.{eq-eqb}
 use Rattle.std.proofs.lemmas.Bool.Decides.{eqb_tells}
-use Rattle.nfs_model.specs.Tree.{Affinity}
 use Rattle.nfs_model.specs.Server as servers
 use Rattle.nfs_model.specs.World.{Setup, World, Running, Worker, Hand, Empty, Fresh, Dead, Parts, all_running, tried, hand_blocks, hands_blocks, with_held, with_hand, changed_at}
 use Rattle.nfs_model.specs.Events.Blocks.{batch, lowest_batch, fresh_hand, dead_hand, without_free, without_dead, with_stock, with_free}
-use Rattle.nfs_model.specs.Events.Refusals.{Done, has_empty_hand}
+use Rattle.nfs_model.specs.Events.Refusals.{Done}
 use Rattle.nfs_model.specs.Events.Step.{stamped, in_hand, Puts}
-use Rattle.nfs_model.specs.Headline.{Headline, start, messages, tally_finished, tally_messages, server_worked, IsOwnMessage, IsOutcome, IsTried, IsPartition, Apart, one_if, times_listed, places}
+use Rattle.nfs_model.specs.Headline.{Headline, messages, tally_finished, tally_messages, server_worked, IsOwnMessage, IsOutcome, IsTried, IsPartition, Apart, one_if, times_listed, places}
 use Rattle.nfs_model.proofs.Lists.{Some_same, slice_get-changed_at, slice_get-changed_elsewhere}
 use Rattle.nfs_model.proofs.Counting.{times_listed-append, batch_within, lowest_within, batch_leaves, batch_comes}
 use Rattle.nfs_model.proofs.Needs.{done}
@@ -31,8 +29,12 @@ hands_replaced u n hand (x ∷ workers) zero k e =
     let one : times_listed n (hand_blocks u x.hand) ≡ times_listed n (hand_blocks u k.hand) = ap (λ (y : Worker). times_listed n (hand_blocks u y.hand)) (Some_same x k e) in
     omega (arith, times_listed-append n (hand_blocks u hand) (hands_blocks u workers), times_listed-append n (hand_blocks u x.hand) (hands_blocks u workers), one)
 hands_replaced u n hand (x ∷ workers) (suc i) k e =
-    omega (arith, hands_replaced u n hand workers i k e,
-    times_listed-append n (hand_blocks u x.hand) (hands_blocks u (changed_at (with_hand hand) workers i)), times_listed-append n (hand_blocks u x.hand) (hands_blocks u workers))
+    omega (
+      arith,
+      hands_replaced u n hand workers i k e,
+      times_listed-append n (hand_blocks u x.hand) (hands_blocks u (changed_at (with_hand hand) workers i)),
+      times_listed-append n (hand_blocks u x.hand) (hands_blocks u workers),
+    )
 
 hand_among : (u n : ℕ) (workers : List Worker) (i : ℕ) (k : Worker) → slice_get workers i ≡ Some k → times_listed n (hand_blocks u k.hand) ≤ times_listed n (hands_blocks u workers)
 hand_among u n workers i k e = omega (arith, hands_replaced u n Empty workers i k e)
@@ -59,8 +61,7 @@ parts_in_order setup w i v k hand change there balanced h u volume e =
     let p : Parts = found.0 in
     elim (eqb_tells u v) [
       | inl same ↦
-          let at : slice_get w.parts v ≡ Some p = subst (λ (j : ℕ). slice_get w.parts j ≡ Some p) same.1 found.1 in
-          (
+          let at : slice_get w.parts v ≡ Some p = subst (λ (j : ℕ). slice_get w.parts j ≡ Some p) same.1 found.1 in (
             change p,
             subst (λ (j : ℕ). slice_get (changed_at change w.parts v) j ≡ Some (change p)) (sym same.1) (slice_get-changed_at change w.parts v p at),
             record {
@@ -68,19 +69,19 @@ parts_in_order setup w i v k hand change there balanced h u volume e =
                   let most : places n p (hands_blocks u w.workers) ≤ 1 = omega (arith, found.2.once n, one_if_most (nat_lt n volume.total)) in
                   let most_here : places n p (hands_blocks v w.workers) ≤ 1 = subst (λ (j : ℕ). places n p (hands_blocks j w.workers) ≤ 1) same.1 most in
                   let here : places n (change p) [] + times_listed n (hand_blocks u hand) ≡ places n p [] + times_listed n (hand_blocks u k.hand) =
-                      subst (λ (j : ℕ). places n (change p) [] + times_listed n (hand_blocks j hand) ≡ places n p [] + times_listed n (hand_blocks j k.hand)) (sym same.1) (balanced.here p at n most_here) in
+                  subst (λ (j : ℕ). places n (change p) [] + times_listed n (hand_blocks j hand) ≡ places n p [] + times_listed n (hand_blocks j k.hand)) (sym same.1) (balanced.here p at n most_here) in
                   omega (arith, here, hands_replaced u n hand w.workers i k there) ∙ found.2.once n;
               in_files = ap (λ s. len s) (balanced.files p) ∙ found.2.in_files;
             },
           )
       | inr other ↦ (
-          p,
-          slice_get-changed_elsewhere change w.parts v u other.1 ∙ found.1,
-          record {
-            once = λ n. omega (arith, hands_replaced u n hand w.workers i k there, balanced.elsewhere u n other.0) ∙ found.2.once n;
-            in_files = found.2.in_files;
-          },
-        )
+        p,
+        slice_get-changed_elsewhere change w.parts v u other.1 ∙ found.1,
+        record {
+          once = λ n. omega (arith, hands_replaced u n hand w.workers i k there, balanced.elsewhere u n other.0) ∙ found.2.once n;
+          in_files = found.2.in_files;
+        },
+      )
     ]
 
 hand_kept : (setup : Setup) (w : World) (i v : ℕ) (k : Worker) (hand : Hand) (change : Parts → Parts) → slice_get w.workers i ≡ Some k → IsBalanced w i v k hand change → Headline setup w → Headline setup (in_hand w i v hand change)

@@ -1,5 +1,5 @@
 -- How block numbers go from one part of a volume to another (our profile). How many is given; which ones is mostly free.
-use Rattle.std.specs.Prelude.{◌≡◌, ℕ, ◌-◌, ◌*◌, ◌/◌, min, ◌==◌, IsTrue, List, [], ◌∷◌, length, map, take}
+use Rattle.std.specs.Prelude.{◌≡◌, ℕ, ◌-◌, ◌*◌, min, IsTrue, List, [], ◌∷◌, length, map, take}
 use Rattle.std.specs.List.{range_with_len, filter}
 use Rattle.std.specs.Ordering.{nat_cmp}
 use Rattle.std.specs.FinSet.{FinSet, is_subset, difference, union, from_list, len, contains}
