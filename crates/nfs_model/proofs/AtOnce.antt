@@ -1,13 +1,13 @@
 -- A call without a home affinity is answered at once: it reads no state and changes nothing.
 use Rattle.std.proofs.Common.{◌≡◌, ℕ, zero, suc, Bool, true, false, List, [], ◌∷◌, length, Option, Some, None, is_some, slice_get, refl, sym, ap, ◌∙◌, subst, min, arith, ◌==◌, if◌then◌else◌}
-use Rattle.nfs_model.specs.Types.{Moment, Credential, Call, Null, Getattr, Setattr, Lookup, Read, Write, Create, Mkdir, Remove, Rmdir, Rename, Readdir, Fsstat, Commit, Census, Grow, Asked, Failed, CrossVolume, BadHandle, NoEntry, Success}
+use Rattle.nfs_model.specs.Types.{Moment, Credential, Call, Null, Getattr, Setattr, Lookup, Read, Write, Create, Mkdir, Remove, Rmdir, Rename, Readdir, Fsstat, Commit, Census, Grow, Failed, CrossVolume, BadHandle, NoEntry, Success}
 use Rattle.nfs_model.specs.Tree.{Layout, VolumeLayout, Affinity, Logical}
 use Rattle.nfs_model.specs.Server as servers
 use Rattle.nfs_model.specs.Server.{Server, handle_of, most_bytes}
 use Rattle.nfs_model.specs.Serial.Rename.{rename}
 use Rattle.nfs_model.specs.Home.{home, logical_of, volume_of, home_of_bytes, home_of_volume, logical_of_two}
 use Rattle.nfs_model.specs.Locate.{Served}
-use Rattle.nfs_model.specs.Serial.Step.{Step, serve, on_handle, on_two, on_volume, stay}
+use Rattle.nfs_model.specs.Serial.Step.{serve, on_handle, on_two, on_volume, stay}
 use Rattle.nfs_model.specs.Serial.AtOnce.{answer_of_two, answer_without_home}
 use Rattle.nfs_model.specs.Serial.Grow.{Grown, grow_volume}
 
@@ -69,7 +69,7 @@ module _ (layout : Layout) (server : Server) (credential : Credential) (moment :
   without_home_stays (Rmdir directory name) n e = logical_answered server _ _ _ (here logical_of directory n e)
   without_home_stays (Rename from from_name to to_name) n e =
       two_answered server (λ volume from_id to_id. rename volume from_id from_name to_id to_name moment) (handle_of (length server.volumes) from) (handle_of (length server.volumes) to)
-          (subst (λ k. logical_of_two (handle_of k from) (handle_of k to) ≡ None) n e)
+      (subst (λ k. logical_of_two (handle_of k from) (handle_of k to) ≡ None) n e)
       ∙ ap (λ k. stay server (answer_of_two (handle_of k from) (handle_of k to))) (sym n)
   without_home_stays (Readdir directory cookie verifier count) n e = logical_answered server _ _ _ (here logical_of directory n e)
   without_home_stays (Fsstat handle) n e = volume_answered server _ _ _ (here volume_of handle n e)

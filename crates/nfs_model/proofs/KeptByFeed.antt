@@ -14,12 +14,11 @@ use Rattle.nfs_model.specs.World.{Heard, Setup, World, Connection, Message, IsSc
 use Rattle.nfs_model.specs.Events.Refusals.{takes_input}
 use Rattle.nfs_model.specs.Events.Feed.{Reached, Further, Complete, Fault, reached_at, reached_by, stream_in, stream_of, served_count, reached, with_byte, byte_taken, entry_at_once, entry_undecoded, admit, heard_in, MayStarveIf, Takes, TakesFault, Feeds}
 use Rattle.nfs_model.specs.Headline.{Headline, start, served, messages, tally_finished, one_if, server_worked, IsHeard, IsOwnEntry, IsOwnMessage, IsOutcome, IsTried}
-use Rattle.nfs_model.specs.ReadOnly.{IsReadOnly, AsksReading}
-use Rattle.nfs_model.proofs.Lists.{All-get, All-push, Some_same, none_is, slice_get-append, slice_get_next, slice_get-changed_at}
+use Rattle.nfs_model.proofs.Lists.{All-push, Some_same, none_is, slice_get-append, slice_get_next, slice_get-changed_at}
 use Rattle.nfs_model.proofs.Written.{AreLawful-push, server_after-push, replies_finish, until_finish, replies_changed, until_changed, written_stream, written_closed}
 use Rattle.nfs_model.proofs.Own.{IsLater, later_changed, later_then, own_later, own_of_heard, entries_later, messages_later}
 use Rattle.nfs_model.proofs.Once.{total_in, once_changed, once_heard, tally_finished-append, tally_messages-append}
-use Rattle.nfs_model.proofs.Unchanged.{done, IsAtOnce, at_once}
+use Rattle.nfs_model.proofs.Needs.{done, IsAtOnce, at_once}
 
 -- ---- what one byte does to a stream
 
@@ -211,29 +210,23 @@ answer_kept setup w c b number heard e reply now on_it of_it own right stays law
 
 -- ---- a complete record
 
--- what the record asks is one that the codec gives
-heard_asks : (setup : Setup) (w : World) (c b number : ℕ) (heard : Heard) → IsReadOnly setup → IsHeardNow setup w c b number heard → AsksReading heard.asked
-heard_asks setup w c b number heard only now =
-    let own = now_own setup w c b number heard now in
-    All-get (λ (x : Heard). AsksReading x.asked) (served setup own.0) number heard own.2 (only own.0.stream)
-
-admit_kept : (setup : Setup) (w : World) (c b number : ℕ) (heard : Heard) (o : Option Affinity) → IsReadOnly setup → IsScan setup.codec → IsHeardNow setup w c b number heard
+admit_kept : (setup : Setup) (w : World) (c b number : ℕ) (heard : Heard) (o : Option Affinity) → IsScan setup.codec → IsHeardNow setup w c b number heard
     → home_of_asked setup.layout heard.asked ≡ o → Headline setup w → Headline setup (admit setup (byte_taken w c b) c number heard o)
-admit_kept setup w c b number heard None only scan now home h =
+admit_kept setup w c b number heard None scan now home h =
     let e : Entry = entry_at_once (byte_taken w c b) c number heard in
-    let once : IsAtOnce setup w heard.asked = at_once setup only w h heard.asked (heard_asks setup w c b number heard only now) in
+    let once : IsAtOnce setup w heard.asked = at_once setup w h heard.asked home in
     answer_kept setup w c b number heard e (serial w.server heard.asked start_of_times false).reply now refl refl
     (own_of_heard setup (byte_taken w c b) e heard.asked scan (now_own setup w c b number heard now))
     once.reply once.stays tt h
-admit_kept setup w c b number heard (Some a) only scan now home h = wait_kept setup w c b number heard a now home h
+admit_kept setup w c b number heard (Some a) scan now home h = wait_kept setup w c b number heard a now home h
 
-heard_kept : (setup : Setup) (w : World) (c b number : ℕ) (heard : Heard) (starved : Bool) → IsReadOnly setup → IsScan setup.codec → IsHeardNow setup w c b number heard
+heard_kept : (setup : Setup) (w : World) (c b number : ℕ) (heard : Heard) (starved : Bool) → IsScan setup.codec → IsHeardNow setup w c b number heard
     → MayStarveIf starved heard.asked → Headline setup w → Headline setup (heard_in setup (byte_taken w c b) c number heard starved)
-heard_kept setup w c b number heard true only scan now may h =
+heard_kept setup w c b number heard true scan now may h =
     answer_kept setup w c b number heard (entry_undecoded c number heard) SystemError now refl refl
     (heard.asked, now_own setup w c b number heard now, may, refl, refl)
     refl refl refl h
-heard_kept setup w c b number heard false only scan now may h = admit_kept setup w c b number heard (home_of_asked setup.layout heard.asked) only scan now refl h
+heard_kept setup w c b number heard false scan now may h = admit_kept setup w c b number heard (home_of_asked setup.layout heard.asked) scan now refl h
 
 -- ---- bytes one after another
 
@@ -281,19 +274,19 @@ record IsFeeding (setup : Setup) (w : World) (c : ℕ) : Type 0 where
 numbered_at : (setup : Setup) (w : World) (c : ℕ) (t : IsTaking setup w c) → served_count setup w c ≡ length (served setup t.connection)
 numbered_at setup w c t = ap (λ (o : Option Connection). length (setup.codec.scan (stream_in o)).served) t.there
 
-takes_kept : (setup : Setup) (w : World) (c b : ℕ) (r : Reached) (new : World) → IsReadOnly setup → IsScan setup.codec → IsFeeding setup w c → reached setup w c b ≡ r → Takes setup w c b r new → IsFeeding setup new c
-takes_kept setup w c b Further new only scan f is takes =
+takes_kept : (setup : Setup) (w : World) (c b : ℕ) (r : Reached) (new : World) → IsScan setup.codec → IsFeeding setup w c → reached setup w c b ≡ r → Takes setup w c b r new → IsFeeding setup new c
+takes_kept setup w c b Further new scan f is takes =
     let byte = brings setup w c b f.taking Further scan is in
     subst (λ (v : World). IsFeeding setup v c) (sym takes) (record { headline = byte_kept setup w c b f.taking byte.1 f.headline; taking = taking_byte setup w c b f.taking byte.0 })
-takes_kept setup w c b (Complete heard) new only scan f is takes =
+takes_kept setup w c b (Complete heard) new scan f is takes =
     let byte = brings setup w c b f.taking (Complete heard) scan is in
     let starved = takes.1.0 in
     let number = served_count setup w c in
     subst (λ (v : World). IsFeeding setup v c) (sym takes.1.2) (record {
-      headline = heard_kept setup w c b number heard starved only scan (record { taking = f.taking; longer = byte.1; numbered = numbered_at setup w c f.taking }) takes.1.1 f.headline;
+      headline = heard_kept setup w c b number heard starved scan (record { taking = f.taking; longer = byte.1; numbered = numbered_at setup w c f.taking }) takes.1.1 f.headline;
       taking = taking_heard setup w c b f.taking byte.0 number heard starved;
     })
-takes_kept setup w c b (Fault number) new only scan f is takes = absurd takes
+takes_kept setup w c b (Fault number) new scan f is takes = absurd takes
 
 fault_kept : (setup : Setup) (w : World) (c b : ℕ) (r : Reached) (taken stop : ℕ) (new : World) → IsScan setup.codec → IsFeeding setup w c → reached setup w c b ≡ r → TakesFault w c b r taken stop new → Headline setup new
 fault_kept setup w c b Further taken stop new scan f is takes = absurd takes
@@ -301,14 +294,14 @@ fault_kept setup w c b (Complete heard) taken stop new scan f is takes = absurd 
 fault_kept setup w c b (Fault number) taken stop new scan f is takes =
     subst (λ (v : World). Headline setup v) (sym takes.3) (byte_kept setup w c b f.taking (brings setup w c b f.taking (Fault number) scan is).1 f.headline)
 
-feeds_kept : (setup : Setup) (c : ℕ) (bytes : List ℕ) (w : World) (taken stop : ℕ) (new : World) → IsReadOnly setup → IsScan setup.codec → IsFeeding setup w c → Feeds setup c w bytes taken stop new → Headline setup new
-feeds_kept setup c [] w taken stop new only scan f feeds = subst (λ (v : World). Headline setup v) (sym feeds.2) f.headline
-feeds_kept setup c (b ∷ bytes) w taken stop new only scan f (inl stops) = subst (λ (v : World). Headline setup v) (sym stops.1) f.headline
-feeds_kept setup c (b ∷ bytes) w taken stop new only scan f (inr (inl fault)) = fault_kept setup w c b (reached setup w c b) taken stop new scan f refl fault
-feeds_kept setup c (b ∷ bytes) w taken stop new only scan f (inr (inr more)) =
-    feeds_kept setup c bytes more.0 more.1 stop new only scan (takes_kept setup w c b (reached setup w c b) more.0 only scan f refl more.3) more.4
+feeds_kept : (setup : Setup) (c : ℕ) (bytes : List ℕ) (w : World) (taken stop : ℕ) (new : World) → IsScan setup.codec → IsFeeding setup w c → Feeds setup c w bytes taken stop new → Headline setup new
+feeds_kept setup c [] w taken stop new scan f feeds = subst (λ (v : World). Headline setup v) (sym feeds.2) f.headline
+feeds_kept setup c (b ∷ bytes) w taken stop new scan f (inl stops) = subst (λ (v : World). Headline setup v) (sym stops.1) f.headline
+feeds_kept setup c (b ∷ bytes) w taken stop new scan f (inr (inl fault)) = fault_kept setup w c b (reached setup w c b) taken stop new scan f refl fault
+feeds_kept setup c (b ∷ bytes) w taken stop new scan f (inr (inr more)) =
+    feeds_kept setup c bytes more.0 more.1 stop new scan (takes_kept setup w c b (reached setup w c b) more.0 scan f refl more.3) more.4
 
 -- the bytes of a feed
 pub keeps_feed : (setup : Setup) (w : World) (c : ℕ) (bytes : List ℕ) (taken stop : ℕ) (new : World)
-    → IsReadOnly setup → IsScan setup.codec → takes_input setup (slice_get w.connections c) ≡ true → Feeds setup c w bytes taken stop new → Headline setup w → Headline setup new
-keeps_feed setup w c bytes taken stop new only scan takes feeds h = feeds_kept setup c bytes w taken stop new only scan (record { headline = h; taking = taking setup w c takes }) feeds
+    → IsScan setup.codec → takes_input setup (slice_get w.connections c) ≡ true → Feeds setup c w bytes taken stop new → Headline setup w → Headline setup new
+keeps_feed setup w c bytes taken stop new scan takes feeds h = feeds_kept setup c bytes w taken stop new scan (record { headline = h; taking = taking setup w c takes }) feeds

@@ -12,13 +12,12 @@ use Rattle.nfs_model.specs.Events.Refusals.{is_busy}
 use Rattle.nfs_model.specs.Events.Work.{Works}
 use Rattle.nfs_model.specs.Events.Step.{with_outcome, entry_of, without_call, stamped, finished_by}
 use Rattle.nfs_model.specs.Headline.{Headline, start, served, messages, tally_finished, tally_messages, server_worked, worked_by, IsOwnEntry, IsOwnMessage, IsOutcome, IsTried, IsPartition, Apart}
-use Rattle.nfs_model.specs.ReadOnly.{IsReadOnly}
 use Rattle.nfs_model.proofs.Lists.{All-get, All-remove, All-push, All-between, All-without, All-there}
 use Rattle.nfs_model.proofs.Written.{AreLawful-push, server_after-push, replies_finish, until_finish, written_stream}
 use Rattle.nfs_model.proofs.Own.{later_changed, entries_later, messages_later, heard_later, own_of_heard}
 use Rattle.nfs_model.proofs.Once.{total_in, once_changed, tally_finished-append, tally_messages-append, tally_messages-remove}
 use Rattle.nfs_model.proofs.Slots.{Slot, slot, messages-between, tried-append, tally-between, messages_between, messages_without, messages_there, server_worked-between, Apart-between, Apart-without}
-use Rattle.nfs_model.proofs.Unchanged.{done, IsWorked, IsFinished, worked, finished}
+use Rattle.nfs_model.proofs.Needs.{done, IsWorked, IsFinished, IsAgreed}
 
 -- a worker's call changes, its hand doesn't
 module _ (setup : Setup) (w : World) (i : ℕ) (k : Worker) (s : Slot w.workers i k) where
@@ -78,9 +77,9 @@ outcome_of setup s r (Moved a) p = p
 
 -- a begun message is worked
 pub keeps_work : (setup : Setup) (w : World) (i : ℕ) (k : Worker) (r : Running) (o : Outcome) (server : Server) (parts : List Parts)
-    → IsReadOnly setup → slice_get w.workers i ≡ Some k → k.running ≡ Some r → r.outcome ≡ None → Works w r o server parts → Headline setup w
+    → IsAgreed setup → slice_get w.workers i ≡ Some k → k.running ≡ Some r → r.outcome ≡ None → Works w r o server parts → Headline setup w
     → Headline setup (record (with_outcome r o w i) { server = server; parts = parts })
-keeps_work setup w i k r o server parts only there runs unworked works h =
+keeps_work setup w i k r o server parts agreed there runs unworked works h =
     let q : Running = record r { outcome = Some o } in
     let s = slot w.workers i k there in
     let was : all_running w.workers ≡ s.before ++ r ∷ s.after = s.was ∙ ap (λ (x : Option Running). s.before ++ with_held x s.after) runs in
@@ -89,7 +88,7 @@ keeps_work setup w i k r o server parts only there runs unworked works h =
     ap (λ (rs : List Running). messages rs) now ∙ messages-between s.before s.after q ∙ sym (ap (λ (rs : List Running). messages rs) was ∙ messages-between s.before s.after r) in
     let same_tried : tried (all_running (changed_at (with_running (Some q)) w.workers i)) ≡ tried (all_running w.workers) =
     ap (λ (rs : List Running). tried rs) now ∙ tried-append s.before (q ∷ s.after) ∙ sym (ap (λ (rs : List Running). tried rs) was ∙ tried-append s.before (r ∷ s.after)) in
-    let done_work : IsWorked setup w r o server parts s.before s.after = worked setup only w h s.before s.after r was o server parts unworked works in
+    let done_work : IsWorked setup w r o server parts s.before s.after = agreed.worked w s.before s.after r o server parts h was unworked works in
     record {
       output = h.output;
       each_once = λ c x e n. ap (λ (ms : List Message). total_of w c n ms) same_messages ∙ h.each_once c x e n;
@@ -205,20 +204,20 @@ finished_starved setup w r before after was starved h =
 
 -- by the outcome
 keeps_by : (setup : Setup) (w : World) (i : ℕ) (k : Worker) (r : Running) (o : Outcome) (s : Slot w.workers i k)
-    → IsReadOnly setup → IsScan setup.codec → all_running w.workers ≡ s.before ++ r ∷ s.after → r.outcome ≡ Some o → IsOutcome setup (done setup w) r (Some o) → Headline setup w
+    → IsAgreed setup → IsScan setup.codec → all_running w.workers ≡ s.before ++ r ∷ s.after → r.outcome ≡ Some o → IsOutcome setup (done setup w) r (Some o) → Headline setup w
     → Headline setup (finished_by setup w i r o)
-keeps_by setup w i k r (Replied reply) s only scan was is outcome h = keeps_finished setup w i k r false reply s scan was h outcome tt (finished setup only w h s.before s.after r was reply is)
-keeps_by setup w i k r Starved s only scan was is outcome h = keeps_finished setup w i k r true SystemError s scan was h refl outcome (finished_starved setup w r s.before s.after was is h)
-keeps_by setup w i k r (Moved a) s only scan was is outcome h = keeps_moved setup w i k r a s was is h
+keeps_by setup w i k r (Replied reply) s agreed scan was is outcome h = keeps_finished setup w i k r false reply s scan was h outcome tt (agreed.finished w s.before s.after r reply h was is)
+keeps_by setup w i k r Starved s agreed scan was is outcome h = keeps_finished setup w i k r true SystemError s scan was h refl outcome (finished_starved setup w r s.before s.after was is h)
+keeps_by setup w i k r (Moved a) s agreed scan was is outcome h = keeps_moved setup w i k r a s was is h
 
 -- a worked message is finished, or waits again
 pub keeps_finish : (setup : Setup) (w : World) (i : ℕ) (k : Worker) (r : Running) (o : Outcome)
-    → IsReadOnly setup → IsScan setup.codec → slice_get w.workers i ≡ Some k → k.running ≡ Some r → r.outcome ≡ Some o → Headline setup w
+    → IsAgreed setup → IsScan setup.codec → slice_get w.workers i ≡ Some k → k.running ≡ Some r → r.outcome ≡ Some o → Headline setup w
     → Headline setup (finished_by setup w i r o)
-keeps_finish setup w i k r o only scan there runs is h =
+keeps_finish setup w i k r o agreed scan there runs is h =
     let s = slot w.workers i k there in
     let was : all_running w.workers ≡ s.before ++ r ∷ s.after = s.was ∙ ap (λ (x : Option Running). s.before ++ with_held x s.after) runs in
     let outcome : IsOutcome setup (done setup w) r (Some o) =
     subst (λ (x : Option Outcome). IsOutcome setup (done setup w) r x) is
     (All-there (λ x. IsOutcome setup (done setup w) x x.outcome) s.before s.after r (subst (λ (rs : List Running). AllByRecursion (λ x. IsOutcome setup (done setup w) x x.outcome) rs) was h.outcomes)) in
-    keeps_by setup w i k r o s only scan was is outcome h
+    keeps_by setup w i k r o s agreed scan was is outcome h

@@ -22,6 +22,7 @@ use Rattle.nfs_model.specs.Headline.{Headline, start, served, messages, worked_b
 use Rattle.nfs_model.specs.ReadOnly.{IsReading, AsksReading, IsReadOnly}
 use Rattle.nfs_model.proofs.Lists.{All-weaker, All-get, All-between, All-without, All-there}
 use Rattle.nfs_model.proofs.Written.{server_after-push}
+use Rattle.nfs_model.proofs.Needs.{done, IsWorked, IsFinished, IsAgreed}
 
 -- ---- one call
 
@@ -91,26 +92,6 @@ module _ (setup : Setup) (only : IsReadOnly setup) (w : World) where
 
 -- ---- what the events need
 
--- the server after the finished calls
-abbrev pub done : Setup → World → Server
-done setup w = server_after (start setup) w.finished
-
--- a call without an affinity is answered on the server as it is, and changes nothing
-pub record IsAtOnce (setup : Setup) (w : World) (asked : Asked) : Type 0 where
-  pub reply : (serial w.server asked start_of_times false).reply ≡ (serial (done setup w) asked start_of_times false).reply
-  pub stays : (serial (done setup w) asked start_of_times false).server ≡ done setup w
-
--- a worked call's outcome is the one that finishing now would give, and the parts stay in order
-pub record IsWorked (setup : Setup) (w : World) (r : Running) (o : Outcome) (server : Server) (parts : List Parts) (before after : List Running) : Type 0 where
-  pub outcome : IsOutcome setup (done setup w) r (Some o)
-  pub state : server ≡ server_worked (done setup w) (before ++ record r { outcome = Some o } ∷ after)
-  pub partition : (v : ℕ) (volume : servers.Volume) → slice_get server.volumes v ≡ Some volume → (p : Parts) × (slice_get parts v ≡ Some p) × IsPartition volume p (hands_blocks v w.workers)
-
--- a call that is finished leaves the others' outcomes as they are
-pub record IsFinished (setup : Setup) (w : World) (r : Running) (starved : Bool) (before after : List Running) : Type 0 where
-  pub state : w.server ≡ server_worked (server_after (start setup) (w.finished ++ entry_of r starved ∷ [])) (before ++ after)
-  pub outcomes : AllByRecursion (λ q. IsOutcome setup (server_after (start setup) (w.finished ++ entry_of r starved ∷ [])) q q.outcome) (before ++ after)
-
 slice_set_same : {X : Type 0} (xs : List X) (i : ℕ) (x : X) → slice_get xs i ≡ Some x → slice_set xs i x ≡ xs
 slice_set_same xs i x e = ap (λ y. slice_set xs i y) (sym (get_or_from_slice_get xs i x x e)) ∙ set-get_or xs i x
 
@@ -149,12 +130,6 @@ module _ (setup : Setup) (only : IsReadOnly setup) (w : World) (h : Headline set
   server_is : w.server ≡ start setup
   server_is = h.state ∙ all_worked_stay (done setup w) (all_running w.workers) (running_read setup only w (all_running w.workers) h.own_running) ∙ done_is
 
-  pub at_once : (asked : Asked) → AsksReading asked → IsAtOnce setup w asked
-  at_once asked reads = record {
-    reply = ap (λ (s : Server). (serial s asked start_of_times false).reply) (server_is ∙ sym done_is);
-    stays = serial_stays (done setup w) asked start_of_times false reads;
-  }
-
   module _ (before after : List Running) (r : Running) (running : all_running w.workers ≡ before ++ r ∷ after) where
     all_read : AllByRecursion (λ q. AsksReading q.message.asked) (before ++ r ∷ after)
     all_read = subst (λ (rs : List Running). AllByRecursion (λ q. AsksReading q.message.asked) rs) running (running_read setup only w (all_running w.workers) h.own_running)
@@ -173,7 +148,7 @@ module _ (setup : Setup) (only : IsReadOnly setup) (w : World) (h : Headline set
         let found = h.partition v volume (subst (λ (s : Server). slice_get s.volumes v ≡ Some volume) same e) in
         (found.0, ap (λ (ps : List Parts). slice_get ps v) same_parts ∙ found.1, found.2)
 
-    pub worked : (o : Outcome) (server : Server) (parts : List Parts) → r.outcome ≡ None → Works w r o server parts → IsWorked setup w r o server parts before after
+    worked : (o : Outcome) (server : Server) (parts : List Parts) → r.outcome ≡ None → Works w r o server parts → IsWorked setup w r o server parts before after
     worked (Moved a) server parts n k = absurd (does_not_move w.server w.parts r.message.affinity a r.message.asked reads k.0)
     worked Starved server parts n k = record {
       outcome = subst (λ (s : Server). IsTrue (may_starve_later s r.message.asked r.moment)) (server_is ∙ sym done_is) k.0;
@@ -191,10 +166,17 @@ module _ (setup : Setup) (only : IsReadOnly setup) (w : World) (h : Headline set
     done_with : server_after (start setup) (w.finished ++ entry_of r false ∷ []) ≡ done setup w
     done_with = server_after-push (start setup) w.finished (entry_of r false) ∙ serial_stays (done setup w) r.message.asked r.moment false reads
 
-    pub finished : (reply : Reply) → r.outcome ≡ Some (Replied reply) → IsFinished setup w r false before after
+    finished : (reply : Reply) → r.outcome ≡ Some (Replied reply) → IsFinished setup w r false before after
     finished reply is = record {
       state = server_is ∙ sym (all_worked_stay (server_after (start setup) (w.finished ++ entry_of r false ∷ [])) (before ++ after) others_read ∙ done_with ∙ done_is);
       outcomes =
           subst (λ (s : Server). AllByRecursion (λ q. IsOutcome setup s q q.outcome) (before ++ after)) (sym done_with)
           (All-without (λ q. IsOutcome setup (done setup w) q q.outcome) before after r (subst (λ (rs : List Running). AllByRecursion (λ q. IsOutcome setup (done setup w) q q.outcome) rs) running h.outcomes));
     }
+
+-- calls that change nothing agree
+pub read_only_agrees : (setup : Setup) → IsReadOnly setup → IsAgreed setup
+read_only_agrees setup only = record {
+  worked = λ w before after r o server parts h was unworked works. worked setup only w h before after r was o server parts unworked works;
+  finished = λ w before after r reply h was is. finished setup only w h before after r was reply is;
+}
