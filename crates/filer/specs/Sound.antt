@@ -66,14 +66,13 @@ MayBeWrittenTo None (Some new) = ⊥
 MayBeWrittenTo (Some old) None = ⊥
 MayBeWrittenTo (Some old) (Some new) = IsWrittenTo old new
 
--- one more finished call, and perhaps its reply; all else stays
-pub record FinishesOne (old new : State) : Type 0 where
-  pub same : new ≡ record old { finished = new.finished; current = new.current }
-  pub len : vec_len new.finished ≡ vec_len old.finished + 1
-  pub room : vec_capacity new.finished ≡ vec_capacity old.finished
+-- a reply was written where its connection is open; all else stays
+pub record Responds (old new : State) : Type 0 where
+  pub same : new ≡ record old { current = new.current }
   pub current : MayBeWrittenTo old.current new.current
 
--- room for one more finished call and its reply
-pub record HasRoomToFinish (s : State) : Type 0 where
-  pub finished : vec_len s.finished < vec_capacity s.finished
-  pub output : IfSome s.current (λ c. vec_len c.output + 116 ≤ vec_capacity c.output)
+-- one more entry is kept; all else stays
+pub record KeepsEntry (old new : State) : Type 0 where
+  pub same : new ≡ record old { finished = new.finished }
+  pub len : vec_len new.finished ≡ vec_len old.finished + 1
+  pub room : vec_capacity new.finished ≡ vec_capacity old.finished

@@ -9,7 +9,7 @@ ghost use Rattle.filer.specs.Sound.{IsSound};
 
 use crate::engine::affinity::Affinity;
 use crate::engine::event::{Done, Refusal};
-use crate::engine::finishing::put_finished;
+use crate::engine::finishing::{keep_entry, respond};
 use crate::engine::message::{Request, Running};
 use crate::engine::state::{SECOND, STAMPS, State};
 use crate::engine::work;
@@ -103,7 +103,8 @@ pub(crate) fn finish(state: &mut State, worker: usize) -> Result<Done, Refusal>
         credential: message.credential,
     };
     let affinity = Some(Affinity::VolumeLogical(0));
-    let count = put_finished(state, origin, request, affinity, moment, &Reply::Success(answer));
+    let count = respond(state, origin, &Reply::Success(answer));
+    keep_entry(state, origin, request, affinity, moment);
     Ok(Done::Written {
         connection: origin.connection,
         count,

@@ -1,12 +1,12 @@
-//! Calls that are finished: their entries, and their replies.
+//! Calls that are finished: their replies, and their entries.
 
-ghost use Rattle.std.specs.Prelude.{◌≡◌, ◌+◌, ◌≤◌, ◌++◌, length, slice_get, vec_len, vec_capacity};
-ghost use Rattle.nfs_model.specs.World.{finish};
+ghost use Rattle.std.specs.Prelude.{◌≡◌, ◌+◌, ◌≤◌, ◌<◌, ◌++◌, ◌∷◌, [], length, slice_get, IfSome, vec_len, vec_capacity};
+ghost use Rattle.nfs_model.specs.World.{changed_at, with_output};
 ghost use Rattle.nfs_model.specs.Events.Step.{bytes_if_open};
 ghost use Rattle.nfs_values.specs.Reply.{reply_of};
 ghost use Rattle.filer.specs.Codec.{reply_record};
-ghost use Rattle.filer.specs.Seen.{setup_in, world, entry_by};
-ghost use Rattle.filer.specs.Sound.{IsWrittenTo, FinishesOne, HasRoomToFinish};
+ghost use Rattle.filer.specs.Seen.{world, entry_by};
+ghost use Rattle.filer.specs.Sound.{IsWrittenTo, Responds, KeepsEntry};
 
 use crate::engine::affinity::Affinity;
 use crate::engine::connection::OpenConnection;
@@ -27,20 +27,28 @@ fn write_to(last: &mut OpenConnection, xid: u32, reply: &Reply) -> usize
     last.output.len() - before
 }
 
-/// Finishes a call, and answers how many bytes of its reply were written: none where its
-/// connection is closed.
-pub(crate) fn put_finished(
-    state: &mut State,
-    origin: Origin,
-    request: Request,
-    affinity: Option<Affinity>,
-    moment: Moment,
-    reply: &Reply,
-) -> usize
-    requires { HasRoomToFinish state.old }
-    ensures finishes { world state.new ≡ finish (setup_in state.old) (world state.old) (entry_by origin request affinity moment) (reply_of reply.now) }
+/// Writes the reply to a record's call, and answers how many bytes it has: none where the
+/// record's connection is closed.
+pub(crate) fn respond(state: &mut State, origin: Origin, reply: &Reply) -> usize
+    requires { IfSome state.old.current (λ c. vec_len c.output + 116 ≤ vec_capacity c.output) }
+    ensures written { world state.new ≡ record (world state.old) { connections = changed_at (with_output (reply_record origin.xid (reply_of reply.now))) (world state.old).connections origin.connection } }
     ensures count { result ≡ length (bytes_if_open (slice_get (world state.old).connections origin.connection) (reply_record origin.xid (reply_of reply.now))) }
-    ensures one { FinishesOne state.old state.new }
+    ensures responds { Responds state.old state.new }
+{
+    if origin.connection != state.past.len() {
+        return 0;
+    }
+    match &mut state.current {
+        Some(last) => write_to(last, origin.xid, reply),
+        None => 0,
+    }
+}
+
+/// Keeps the entry of a finished call, for which there is room.
+pub(crate) fn keep_entry(state: &mut State, origin: Origin, request: Request, affinity: Option<Affinity>, moment: Moment)
+    requires { vec_len state.old.finished < vec_capacity state.old.finished }
+    ensures kept { world state.new ≡ record (world state.old) { finished = (world state.old).finished ++ entry_by origin request affinity moment ∷ [] } }
+    ensures keeps { KeepsEntry state.old state.new }
 {
     state.finished.push_reserved(Entry {
         origin,
@@ -49,11 +57,4 @@ pub(crate) fn put_finished(
         moment,
         starved: false,
     });
-    if origin.connection != state.past.len() {
-        return 0;
-    }
-    match &mut state.current {
-        Some(last) => write_to(last, origin.xid, reply),
-        None => 0,
-    }
 }

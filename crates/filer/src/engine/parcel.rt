@@ -2,6 +2,11 @@
 
 use nfs_values::Moment;
 
+const START: Moment = Moment {
+    seconds: 0,
+    nanoseconds: 0,
+};
+
 /// The attributes that are kept of a node.
 #[derive(Clone, Copy, Debug, PartialEq, Eq)]
 pub(crate) struct Kept {
@@ -14,7 +19,21 @@ pub(crate) struct Kept {
 }
 
 /// The parcel of the affinity Volume Logical: so far, its root directory.
-#[derive(Debug, Drop)]
+#[derive(Drop)]
 pub(crate) struct VolumeLogical {
     pub(crate) root: Kept,
+}
+
+impl VolumeLogical {
+    /// The root directory as a volume begins with it: mode 0755, of the superuser, at time 0.
+    pub(crate) const OPENING: VolumeLogical = VolumeLogical {
+        root: Kept {
+            mode: 0o755,
+            uid: 0,
+            gid: 0,
+            atime: START,
+            mtime: START,
+            ctime: START,
+        },
+    };
 }
