@@ -45,3 +45,6 @@ last-written bytes past old new current i e k w =
     ap (λ (x : worlds.Connection). map closed_of past ++ x ∷ []) w ∙ sym (last-changed (with_output bytes) past old)
     ∙ ap (λ (o : Option OpenConnection). changed_at (with_output bytes) (connections_of past o) (length past)) (sym e)
     ∙ ap (λ (n : ℕ). changed_at (with_output bytes) (connections_of past current) n) (sym k)
+
+pub written-is : (bytes : List ℕ) (old new : OpenConnection) → new ≡ record old { output = new.output } → new.output.items ≡ old.output.items ++ bytes → open_of new ≡ with_output bytes (open_of old)
+written-is bytes old new e d = ap open_of e ∙ ap (λ (out : List ℕ). record (open_of old) { output = out }) d

@@ -6,3 +6,4 @@ pub mod Arriving
 pub mod Connections
 pub mod Serving
 pub mod Calls
+pub mod Workers

@@ -1,6 +1,7 @@
 -- What the serial server answers a call on the root's parcel.
-use Rattle.std.proofs.Common.{◌≡◌, ℕ, zero, suc, ◌<◌, Bool, true, false, cond, List, [], ◌∷◌, length, Option, Some, None, refl, sym, ap, subst, ◌∙◌, arith}
-use Rattle.std.specs.Prelude.{slice_get, option_map, ◌&&◌, ◌==◌, nat_lt, if◌then◌else◌}
+use Rattle.std.proofs.Common.{◌≡◌, ℕ, zero, suc, ◌<◌, Bool, true, false, cond, List, [], ◌∷◌, length, take, drop, Option, Some, None, refl, sym, ap, subst, ◌∙◌, arith, inl, inr}
+use Rattle.std.specs.Prelude.{◌⊎◌, slice_get, option_map, ◌&&◌, ◌==◌, nat_lt, if◌then◌else◌}
+use Rattle.std.specs.Int.{w32, w64, from_be_bytes}
 use Rattle.std.specs.Ordering.{nat_cmp}
 use Rattle.std.specs.declared.cmp.Ordering.{Ordering}
 use Rattle.std.specs.declared.cmp.Ordering.TheVariants.{Less, Equal, Greater}
@@ -43,7 +44,7 @@ none_below_one : (v : ℕ) → nat_lt v 1 ≡ true → v ≡ 0
 none_below_one v e = grind (arith, nat_tests)
 
 pub first-volume : (bytes : List ℕ) (h : ℕ × ℕ) → handle_of 1 bytes ≡ Some h → h.0 ≡ 0
-first-volume bytes h e = let c = in_cond _ _ _ _ h e in sym c.1 ∙ none_below_one _ c.0
+first-volume bytes h e = let c = in_cond (length bytes == 12) (nat_lt (from_be_bytes w32 (take 4 bytes)) 1) (from_be_bytes w32 (take 4 bytes)) (from_be_bytes w64 (drop 4 bytes)) h e in sym c.1 ∙ none_below_one (from_be_bytes w32 (take 4 bytes)) c.0
 
 -- ---- GETATTR
 
@@ -56,22 +57,37 @@ abbrev pub on_getattr : Layout → List ℕ → Kept → Option (ℕ × ℕ) →
 on_getattr layout verifier root o = on_handle (server_of layout verifier root) 0 o getattr
 
 -- the root
-pub getattr-root : (root : Kept) (handle : List ℕ) (h : ℕ × ℕ) (attributes : types.Shown) → handle_of 1 handle ≡ Some h → h.1 ≡ 1
-    → ((layout : Layout) (verifier : List ℕ) → attributes ≡ shown (volume_of layout verifier root) 1 (root_of root)) → IsAnswer root (types.Getattr handle) (types.GetattrDone attributes)
-getattr-root root handle h attributes e f a layout verifier credential moment =
+pub getattr-root : (root : Kept) (handle : List ℕ) (h : ℕ × ℕ) (answer : types.Answer) → handle_of 1 handle ≡ Some h → h.1 ≡ 1
+    → ((layout : Layout) (verifier : List ℕ) → answer ≡ types.GetattrDone (shown (volume_of layout verifier root) 1 (root_of root))) → IsAnswer root (types.Getattr handle) answer
+getattr-root root handle h answer e f a layout verifier credential moment =
     let volume = volume_of layout verifier root in
     let there : get volume.nodes h.1 ≡ Some (root_of root) = ap (get volume.nodes) f ∙ get_is (root_of root) 1 ∙ found (root_of root) in
-    let served : getattr volume h.1 ≡ told (types.GetattrDone attributes) =
+    let served : getattr volume h.1 ≡ told answer =
         ap (λ (o : Option servers.Node). on_node 0 o (λ node. told (types.GetattrDone (shown volume h.1 node)))) there
         ∙ ap (λ (n : ℕ). told (types.GetattrDone (shown volume n (root_of root)))) f
-        ∙ ap (λ (s : types.Shown). told (types.GetattrDone s)) (sym (a layout verifier)) in
+        ∙ ap told (sym (a layout verifier)) in
     ap (on_getattr layout verifier root) e ∙ on_first layout verifier root h _ (first-volume handle h e) served
 
 -- any other fileid
-pub getattr-stale : (root : Kept) (handle : List ℕ) (h : ℕ × ℕ) → handle_of 1 handle ≡ Some h → (h.1 ≡ 1 → ⊥) → IsAnswer root (types.Getattr handle) (types.Failed types.Stale 0)
-getattr-stale root handle h e f layout verifier credential moment =
+pub getattr-stale : (root : Kept) (handle : List ℕ) (h : ℕ × ℕ) (answer : types.Answer) → handle_of 1 handle ≡ Some h → (h.1 ≡ 1 → ⊥) → answer ≡ types.Failed types.Stale 0 → IsAnswer root (types.Getattr handle) answer
+getattr-stale root handle h answer e f a layout verifier credential moment =
     let volume = volume_of layout verifier root in
     let there : get volume.nodes h.1 ≡ None = get_is (root_of root) h.1 ∙ other_at (root_of root) h.1 (nat_cmp h.1 1) refl f in
-    let served : getattr volume h.1 ≡ told (types.Failed types.Stale 0) =
-        ap (λ (o : Option servers.Node). on_node 0 o (λ node. told (types.GetattrDone (shown volume h.1 node)))) there in
+    let served : getattr volume h.1 ≡ told answer =
+        ap (λ (o : Option servers.Node). on_node 0 o (λ node. told (types.GetattrDone (shown volume h.1 node)))) there ∙ ap told (sym a) in
     ap (on_getattr layout verifier root) e ∙ on_first layout verifier root h _ (first-volume handle h e) served
+
+-- what is answered of each fileid
+pub record IsOfFileid (root : Kept) (fileid : ℕ) (answer : types.Answer) : Type 0 where
+  pub at_root : fileid ≡ 1 → (layout : Layout) (verifier : List ℕ) → answer ≡ types.GetattrDone (shown (volume_of layout verifier root) 1 (root_of root))
+  pub others : (fileid ≡ 1 → ⊥) → answer ≡ types.Failed types.Stale 0
+
+one_or_not : (n : ℕ) (b : Bool) → (n == 1) ≡ b → (n ≡ 1) ⊎ (n ≡ 1 → ⊥)
+one_or_not n true e = inl (grind (arith, nat_tests))
+one_or_not n false e = inr (λ k. grind (arith, nat_tests))
+
+pub getattr-answer : (root : Kept) (handle : List ℕ) (h : ℕ × ℕ) (answer : types.Answer) → handle_of 1 handle ≡ Some h → IsOfFileid root h.1 answer → IsAnswer root (types.Getattr handle) answer
+getattr-answer root handle h answer e a = elim (one_or_not h.1 (h.1 == 1) refl) [
+  | inl f ↦ getattr-root root handle h answer e f (a.at_root f)
+  | inr f ↦ getattr-stale root handle h answer e f (a.others f)
+]

@@ -76,3 +76,39 @@ pub record KeepsEntry (old new : State) : Type 0 where
   pub same : new ≡ record old { finished = new.finished }
   pub len : vec_len new.finished ≡ vec_len old.finished + 1
   pub room : vec_capacity new.finished ≡ vec_capacity old.finished
+
+-- ---- bytes that are taken
+
+-- room for one more message, its entry and its reply
+pub record HasRoomToAdmit (s : State) : Type 0 where
+  pub waiting : vec_len s.waiting < vec_capacity s.waiting
+  pub finished : vec_len s.finished + (pending s + 1) ≤ vec_capacity s.finished
+  pub output : IfSome s.current (λ c. vec_len c.output + 116 * (pending s + 1) ≤ vec_capacity c.output)
+
+-- a connection with perhaps more room for its output
+pub record IsRoomier (old new : OpenConnection) : Type 0 where
+  pub same : new ≡ record old { output = new.output }
+  pub items : new.output.items ≡ old.output.items
+  pub len : vec_len new.output ≡ vec_len old.output
+  pub room : vec_capacity old.output ≤ vec_capacity new.output
+
+abbrev pub MayBeRoomier : Option OpenConnection → Option OpenConnection → Type 0
+MayBeRoomier None None = Unit {0}
+MayBeRoomier None (Some new) = ⊥
+MayBeRoomier (Some old) None = ⊥
+MayBeRoomier (Some old) (Some new) = IsRoomier old new
+
+-- nothing that is seen changes, and perhaps there is more room
+pub record MakesRoom (old new : State) : Type 0 where
+  pub same : new ≡ record old { waiting = new.waiting; finished = new.finished; current = new.current }
+  pub waiting : new.waiting.items ≡ old.waiting.items
+  pub waiting_len : vec_len new.waiting ≡ vec_len old.waiting
+  pub finished : new.finished.items ≡ old.finished.items
+  pub finished_len : vec_len new.finished ≡ vec_len old.finished
+  pub finished_room : vec_capacity old.finished ≤ vec_capacity new.finished
+  pub current : MayBeRoomier old.current new.current
+
+-- a connection is open, at no fault, and has room for so many more bytes
+abbrev pub TakesIn : Option OpenConnection → ℕ → Type 0
+TakesIn None rest = ⊥
+TakesIn (Some c) rest = (c.fault ≡ None) × (vec_len c.stream + rest ≤ vec_capacity c.stream)

@@ -16,7 +16,6 @@ pub(crate) mod reply;
 pub(crate) mod state;
 pub(crate) mod work;
 
-use crate::engine::calls;
 use crate::engine::connecting::{close_connection, open_connection};
 use crate::engine::event::{Done, Event, Refusal};
 use crate::engine::feeding::feed;

@@ -1,10 +1,10 @@
 //! Bytes that an engine takes.
 
-ghost use Rattle.std.specs.Prelude.{◌≡◌, ◌+◌, ◌<◌, ◌≤◌, length};
+ghost use Rattle.std.specs.Prelude.{◌≡◌, ◌+◌, ◌*◌, ◌<◌, ◌≤◌, length, IfSome, OnOk, vec_len, vec_capacity};
 ghost use Rattle.nfs_model.specs.Events.Refusals as events;
 ghost use Rattle.nfs_model.specs.Events.Step.{Events};
 ghost use Rattle.filer.specs.Seen.{setup_in, world, answer_of};
-ghost use Rattle.filer.specs.Sound.{IsSound};
+ghost use Rattle.filer.specs.Sound.{IsSound, pending, MayBeRoomier, MakesRoom, HasRoomToAdmit};
 
 use crate::engine::arrival::take_bytes;
 use crate::engine::connection::{Arrival, OpenConnection};
@@ -23,15 +23,28 @@ const START: Moment = Moment {
     nanoseconds: 0,
 };
 
-/// Room for one more message, its entry and its reply.
-fn make_room(state: &mut State) -> Result<(), AllocError> {
-    let pending = state.pending() + 1;
-    state.waiting.try_reserve(1)?;
-    state.finished.try_reserve(pending)?;
-    if let Some(last) = &mut state.current {
-        last.output.try_reserve(REPLY_LIMIT * pending)?;
+/// Room for so many replies.
+fn make_room_for_replies(current: &mut Option<OpenConnection>, replies: usize) -> Result<(), AllocError>
+    requires { replies ≤ 1025 }
+    ensures same { MayBeRoomier current.old current.new }
+    ensures room { OnOk result (IfSome current.new (λ c. vec_len c.output + 116 * replies ≤ vec_capacity c.output)) }
+{
+    match current {
+        Some(last) => last.output.try_reserve(REPLY_LIMIT * replies),
+        None => Ok(()),
     }
-    Ok(())
+}
+
+/// Room for one more message, its entry and its reply.
+fn make_room(state: &mut State) -> Result<(), AllocError>
+    requires { pending state.old < 1024 }
+    ensures same { MakesRoom state.old state.new }
+    ensures room { OnOk result (HasRoomToAdmit state.new) }
+{
+    let replies = state.pending() + 1;
+    state.waiting.try_reserve(1)?;
+    state.finished.try_reserve(replies)?;
+    make_room_for_replies(&mut state.current, replies)
 }
 
 /// Lets the call of a record wait, or answers it where it needs no affinity.

@@ -6,16 +6,21 @@ ghost use Rattle.nfs_model.specs.Home.{home};
 ghost use Rattle.nfs_model.specs.Server.{handle_of};
 ghost use Rattle.nfs_model.specs.Serial.Step.{serve};
 ghost use Rattle.nfs_model.specs.Serial.AtOnce.{answer_without_home};
+ghost use Rattle.nfs_model.specs.Shown.{shown};
+ghost use Rattle.nfs_values.specs.Attributes.{shown_of};
 ghost use Rattle.nfs_values.specs.Answer.{answer_of};
 ghost use Rattle.nfs_values.specs.Call.{call_of};
 ghost use Rattle.filer.specs.declared.engine.layout.Layout.{Layout};
-ghost use Rattle.filer.specs.Seen.{affinity_of, layout_of, server_of};
+ghost use Rattle.filer.specs.Seen.{affinity_of, layout_of, root_of, volume_of};
 ghost use Rattle.filer.specs.Served.{IsAnswer};
 
 use crate::engine::affinity::Affinity;
 use crate::engine::parcel::VolumeLogical;
 use byteorder::{BigEndian, ByteOrder};
 use nfs_values::{Answer, Attributes, Call, FileHandle, FileKind, Procedure, Status};
+
+/// The fileid of the root directory.
+const ROOT: u64 = 1;
 
 /// The volume and the fileid of a good handle.
 fn named_by(handle: &FileHandle) -> Option<(u32, u64)>
@@ -59,10 +64,6 @@ pub(crate) fn answer_at_once(call: &Call) -> Answer
 }
 
 impl VolumeLogical {
-    ghost use Rattle.nfs_model.specs.Shown.{shown};
-    ghost use Rattle.nfs_values.specs.Attributes.{shown_of};
-    ghost use Rattle.filer.specs.Seen.{root_of, volume_of};
-
     /// The attributes of the root directory, which is empty.
     fn root_attributes(&self) -> Attributes
         ensures { (layout : Layout) (verifier : List ℕ) → shown_of result ≡ shown (volume_of layout verifier self.now.root) 1 (root_of self.now.root) }
@@ -76,11 +77,25 @@ impl VolumeLogical {
             size: 4_096,
             used: 0,
             fsid: 0,
-            fileid: 1,
+            fileid: ROOT,
             atime: self.root.atime,
             mtime: self.root.mtime,
             ctime: self.root.ctime,
         }
+    }
+}
+
+/// What a call on a fileid is answered by the server whose parcel this is.
+fn get_attributes(held: &VolumeLogical, fileid: u64) -> Answer
+    ensures root { fileid ≡ 1 → (layout : Layout) (verifier : List ℕ) → answer_of result ≡ types.GetattrDone (shown (volume_of layout verifier held.now.root) 1 (root_of held.now.root)) }
+    ensures others { (fileid ≡ 1 → ⊥) → answer_of result ≡ types.Failed types.Stale 0 }
+{
+    if fileid == ROOT {
+        return Answer::GetAttributes(held.root_attributes());
+    }
+    Answer::Failed {
+        procedure: Procedure::GetAttributes,
+        status: Status::Stale,
     }
 }
 
@@ -91,11 +106,7 @@ pub(crate) fn answer(held: &VolumeLogical, call: &Call) -> Answer
     match call {
         Call::Null => Answer::Null,
         Call::GetAttributes { handle } => match named_by(handle) {
-            Some((_, 1)) => Answer::GetAttributes(held.root_attributes()),
-            Some(_) => Answer::Failed {
-                procedure: Procedure::GetAttributes,
-                status: Status::Stale,
-            },
+            Some((_, fileid)) => get_attributes(held, fileid),
             None => Answer::Failed {
                 procedure: Procedure::GetAttributes,
                 status: Status::BadHandle,

@@ -1,20 +1,13 @@
-use Rattle.std.proofs.Common.{◌≡◌, sym, ap, ◌∙◌, refl}
-use Rattle.filer.proofs.Serving.{getattr-root, getattr-stale}
+use Rattle.std.proofs.Common.{sym, subst, ◌∙◌}
+use Rattle.nfs_values.specs.declared.call.Call.{Call}
+use Rattle.nfs_values.specs.Call.{call_of}
+use Rattle.nfs_values.specs.Answer.{answer_of}
+use Rattle.filer.specs.Served.{IsAnswer}
+use Rattle.filer.proofs.Serving.{getattr-answer}
 use Rattle.filer.proofs.engine.work.answer.Goals as goal
-
-pub returns-in-Some-default-eq1 : goal.returns-in-Some-default-eq1
-returns-in-Some-default-eq1 c =
-    let a = c.in-GetAttributes.is in
-    let b = c.named_by.ensures in
-    let d = c.in-Some-default-eq1.is in
-    let e = c.in-Some-default-eq1.field-0-1-is in
-    let g = c.root_attributes.ensures in
-    ?
 
 pub returns-in-Some : goal.returns-in-Some
 returns-in-Some c =
-    let a = c.in-GetAttributes.is in
-    let b = c.named_by.ensures in
-    let d = c.in-Some.is in
-    let e = c.in-Some.ensures in
-    ?
+    let root = c.args.held.now.root in
+    subst (λ (k : Call). IsAnswer root (call_of k) (answer_of c.get_attributes.result)) (sym c.in-GetAttributes.is)
+    (getattr-answer root c.in-GetAttributes.handle _ (answer_of c.get_attributes.result) (sym c.named_by.ensures ∙ c.in-Some.is) (record { at_root = c.get_attributes.ensures.root; others = c.get_attributes.ensures.others }))

@@ -1,0 +1,140 @@
+-- What a worker's events come to.
+use Rattle.std.proofs.Common.{◌≡◌, ℕ, zero, suc, ◌+◌, ◌<◌, ◌≤◌, ◌^◌, Bool, true, false, List, [], ◌∷◌, ◌++◌, length, Option, Some, None, refl, sym, ap, subst, ◌∙◌, arith, inl, inr}
+use Rattle.std.specs.Prelude.{map, slice_get, option_map, is_some, nat_le}
+use Rattle.std.specs.List.{remove}
+use Rattle.std.proofs.lemmas.Bool.Decides.{nat_tests}
+use Rattle.std.proofs.lemmas.Option.{slice_get-map, slice_get-get_or}
+use Rattle.nfs_model.specs.Types as types
+use Rattle.nfs_model.specs.Tree as trees
+use Rattle.nfs_model.specs.Server as servers
+use Rattle.nfs_model.specs.World as worlds
+use Rattle.nfs_model.specs.Serial.Step.{Step, serve, stay}
+use Rattle.nfs_model.specs.Events.Refusals as events
+use Rattle.nfs_model.specs.Events.Refusals.{begin_refusal, is_idle}
+use Rattle.nfs_model.specs.Events.Work.{Works, PartsAfter, move_of}
+use Rattle.nfs_model.specs.Events.Step.{stamped, without_call}
+use Rattle.nfs_model.specs.Replay as replays
+use Rattle.nfs_model.specs.Headline.{opening_parts}
+use Rattle.nfs_values.specs.declared.call.Call.{Call}
+use Rattle.nfs_values.specs.declared.call.Call.TheVariants as calls
+use Rattle.nfs_values.specs.declared.moment.Moment.{Moment}
+use Rattle.nfs_values.specs.declared.answer.Answer.{Answer}
+use Rattle.nfs_values.specs.Call.{call_of}
+use Rattle.nfs_values.specs.Credential.{credential_of}
+use Rattle.nfs_values.specs.Moment.{moment_of}
+use Rattle.filer.specs.declared.engine.message.Message.{Message}
+use Rattle.filer.specs.declared.engine.message.Running.{Running}
+use Rattle.filer.specs.declared.engine.state.State.{State}
+use Rattle.filer.specs.declared.engine.layout.Layout.{Layout}
+use Rattle.filer.specs.declared.engine.parcel.Kept.{Kept}
+use Rattle.filer.specs.declared.engine.parcel.VolumeLogical.{VolumeLogical}
+use Rattle.filer.specs.Seen.{message_of, running_of, held_by, kept_by, layout_of, volume_of, server_of, setup_in, world}
+use Rattle.filer.specs.Served.{IsAnswer}
+use Rattle.filer.specs.Sound.{IsLent}
+
+-- ---- the only worker
+
+abbrev pub worker_of : Option Running → worlds.Worker
+worker_of running = record { running = option_map running_of running; hand = worlds.Empty }
+
+pub map-remove : {A B : Type 0} (f : A → B) (xs : List A) (i : ℕ) → map f (remove xs i) ≡ remove (map f xs) i
+map-remove f [] zero = refl
+map-remove f [] (suc i) = refl
+map-remove f (x ∷ xs) zero = refl
+map-remove f (x ∷ xs) (suc i) = ap (λ ys. f x ∷ ys) (map-remove f xs i)
+
+pub message-there : (ms : List Message) (place : ℕ) (m : Message) → slice_get ms place ≡ Some m → slice_get (map message_of ms) place ≡ Some (message_of m)
+message-there ms place m e = slice_get-map message_of ms place ∙ ap (option_map message_of) e
+
+-- ---- Begin
+
+not_above : (n most : ℕ) → n < most → nat_le most n ≡ false
+not_above n most h = grind (arith, nat_tests)
+
+above : (n most : ℕ) → most ≤ n → nat_le most n ≡ true
+above n most h = grind (arith, nat_tests)
+
+pub may-begin : (s : State) (worker place : ℕ) (moment : types.Moment) (m : Message) → worker ≡ 0 → s.running ≡ None → slice_get s.waiting.items place ≡ Some m
+    → moment.nanoseconds < 1000000000 → s.stamps < 2 ^ 62 → events.refusal (setup_in s) (world s) (events.Begin worker place moment) ≡ None
+may-begin s worker place moment m e r g t n =
+    let there = message-there s.waiting.items place m g in
+    let good : nat_le 1000000000 moment.nanoseconds ≡ false = not_above _ _ t in
+    let fresh : nat_le (2 ^ 62) s.stamps ≡ false = not_above _ _ n in
+    rw (e, r, there, good, fresh) refl
+
+-- ---- worlds in which a worker's message changed
+
+abbrev pub changes : worlds.World → List worlds.Message → List worlds.Worker → servers.Server → worlds.World
+changes w messages workers server = record w { waiting = messages; workers = workers; server = server }
+
+pub changes-same : (w : worlds.World) (ms ns : List worlds.Message) (ks ls : List worlds.Worker) (a b : servers.Server) → ms ≡ ns → ks ≡ ls → a ≡ b → changes w ms ks a ≡ changes w ns ls b
+changes-same w ms ns ks ls a b e f g =
+    ap (λ (xs : List worlds.Message). changes w xs ks a) e ∙ ap (λ (xs : List worlds.Worker). changes w ns xs a) f ∙ ap (λ (x : servers.Server). changes w ns ls x) g
+
+pub only-changed : (old : Option Running) (new : Option worlds.Running) (worker : ℕ) → worker ≡ 0 → record { running = new; hand = worlds.Empty } ∷ [] ≡ worlds.changed_at (worlds.with_running new) (worker_of old ∷ []) worker
+only-changed old new worker e = sym (ap (λ (n : ℕ). worlds.changed_at (worlds.with_running new) (worker_of old ∷ []) n) e)
+
+pub only-there : (running : Option Running) (worker : ℕ) → worker ≡ 0 → slice_get (worker_of running ∷ []) worker ≡ Some (worker_of running)
+only-there running worker e = ap (λ (n : ℕ). slice_get (worker_of running ∷ []) n) e
+
+-- ---- the parcel
+
+pub lent-away : (home : Option VolumeLogical) (running : Option Running) (r : Running) → IsLent home running → running ≡ Some r → home ≡ None
+lent-away None running r h e = refl
+lent-away (Some p) None r h e = absurd cc
+lent-away (Some p) (Some q) r h e = absurd h
+
+pub kept-lent : (home : Option VolumeLogical) (running : Option Running) (r : Running) → IsLent home running → running ≡ Some r → kept_by home running ≡ r.held.root
+kept-lent home running r h e = ap (λ (o : Option VolumeLogical). kept_by o running) (lent-away home running r h e) ∙ ap held_by e
+
+-- ---- Work
+
+pub may-work : (s : State) (worker : ℕ) (r : Running) → worker ≡ 0 → s.running ≡ Some r → r.answer ≡ None → events.refusal (setup_in s) (world s) (events.Work worker) ≡ None
+may-work s worker r e f g = rw (e, f, g) refl
+
+abbrev first_parts : Layout → worlds.Parts
+first_parts layout = opening_parts (record { aggregate = 0; ranges = layout.ranges; stripes = 8; mebibytes = 16 })
+
+stays_there : (server : servers.Server) (parts : List worlds.Parts) (affinity : trees.Affinity) (call : Call) (credential : types.Credential) → move_of server parts affinity (types.Ask (call_of call) credential) ≡ None
+stays_there server parts affinity calls.Null credential = refl
+stays_there server parts affinity (calls.GetAttributes handle) credential = refl
+
+parts_stay : (layout : Layout) (verifier : List ℕ) (root : Kept) (call : Call) (credential : types.Credential)
+    → PartsAfter (types.Ask (call_of call) credential) (trees.Logical 0) (server_of layout verifier root) (server_of layout verifier root) (map opening_parts (layout_of layout).volumes) (map opening_parts (layout_of layout).volumes)
+parts_stay layout verifier root calls.Null credential =
+    record { volume = volume_of layout verifier root; new_volume = volume_of layout verifier root; parts = first_parts layout; new_parts = first_parts layout; volume_there = refl; new_volume_there = refl; parts_there = refl; change = refl; all = refl }
+parts_stay layout verifier root (calls.GetAttributes handle) credential =
+    record { volume = volume_of layout verifier root; new_volume = volume_of layout verifier root; parts = first_parts layout; new_parts = first_parts layout; volume_there = refl; new_volume_there = refl; parts_there = refl; change = refl; all = refl }
+
+pub works : (s : State) (r : Running) (answer : types.Answer) → s.running ≡ Some r → IsLent s.home s.running → IsAnswer r.held.root (call_of r.message.call) answer
+    → Works (world s) (running_of r) (worlds.Replied (types.Success answer)) (world s).server (world s).parts
+works s r answer e lent h =
+    let credential = credential_of r.message.credential in
+    let moment = moment_of r.moment in
+    let root = kept_by s.home s.running in
+    let same : root ≡ r.held.root = kept-lent s.home s.running r lent e in
+    let answered : serve (server_of s.layout s.verifier root) (call_of r.message.call) credential moment ≡ stay (server_of s.layout s.verifier root) answer =
+        subst (λ (k : Kept). serve (server_of s.layout s.verifier k) (call_of r.message.call) credential moment ≡ stay (server_of s.layout s.verifier k) answer) (sym same) (h s.layout s.verifier credential moment) in
+    (stays_there (world s).server (world s).parts (trees.Logical 0) r.message.call credential,
+     ap (λ (t : Step). t.reply) (sym answered),
+     ap (λ (t : Step). t.server) (sym answered),
+     subst (λ (sv : servers.Server). PartsAfter (types.Ask (call_of r.message.call) credential) (trees.Logical 0) (world s).server sv (world s).parts (world s).parts) refl (parts_stay s.layout s.verifier root r.message.call credential))
+
+-- ---- Finish
+
+pub may-finish : (s : State) (worker : ℕ) (r : Running) (answer : Answer) → worker ≡ 0 → s.running ≡ Some r → r.answer ≡ Some answer → events.refusal (setup_in s) (world s) (events.Finish worker) ≡ None
+may-finish s worker r answer e f g = rw (e, f, g) refl
+
+-- the world without the worker's message
+pub without-call : (s : State) (worker : ℕ) (r : Running) (running : Option Running) → worker ≡ 0 → s.running ≡ Some r → IsLent s.home s.running → running ≡ None
+    → changes (stamped (world s)) (world s).waiting (worker_of running ∷ []) (server_of s.layout s.verifier r.held.root) ≡ stamped (without_call (world s) worker)
+without-call s worker r running e some lent none =
+    changes-same (stamped (world s)) (world s).waiting (world s).waiting _ _ _ _ refl
+    (ap (λ (o : Option Running). worker_of o ∷ []) none ∙ only-changed s.running None worker e)
+    (ap (server_of s.layout s.verifier) (sym (kept-lent s.home s.running r lent some)))
+
+pub finished : (setup : worlds.Setup) (w before written kept : worlds.World) (e : replays.Entry) (reply : types.Reply)
+    → written ≡ record before { connections = worlds.changed_at (worlds.with_output (setup.codec.reply_record e.xid reply)) before.connections e.connection }
+    → kept ≡ record written { finished = written.finished ++ e ∷ [] } → before ≡ w → kept ≡ worlds.finish setup w e reply
+finished setup w before written kept e reply a b d =
+    b ∙ ap (λ (x : worlds.World). record x { finished = x.finished ++ e ∷ [] }) a ∙ ap (λ (x : worlds.World). worlds.finish setup x e reply) d

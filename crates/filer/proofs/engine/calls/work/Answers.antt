@@ -1,0 +1,27 @@
+use Rattle.std.proofs.Common.{◌≡◌, Option, Some, None, refl, sym, ap, ◌∙◌}
+use Rattle.std.specs.Prelude.{option_map}
+use Rattle.nfs_model.specs.Types as types
+use Rattle.nfs_model.specs.World as worlds
+use Rattle.nfs_values.specs.Answer.{answer_of}
+use Rattle.filer.specs.Seen.{world, running_of, server_of, kept_by}
+use Rattle.filer.specs.declared.engine.message.Running.{Running}
+use Rattle.filer.specs.declared.engine.parcel.VolumeLogical.{VolumeLogical}
+use Rattle.filer.proofs.Connections.{none-if}
+use Rattle.filer.proofs.Workers.{may-work, works, only-changed, only-there, changes-same, kept-lent, lent-away, worker_of}
+use Rattle.filer.proofs.engine.calls.work.Goals as goal
+
+pub returns-in-Some-clause-events : goal.returns-in-Some-clause-events
+returns-in-Some-clause-events c =
+    let s = c.args.state.now in
+    let r = c.in-Some.running in
+    let w = world s in
+    let answer = answer_of c.answer.result in
+    let some : s.running ≡ Some r = c.in-Some.is in
+    let none : r.answer ≡ None = none-if r.answer c.if-is_none.ensures in
+    let worked : Running = record { message = r.message; moment = r.moment; held = r.held; answer = Some c.answer.result } in
+    (may-work s c.args.worker r c.if-worker-ne0.false some none,
+     (worker_of s.running, running_of r, worlds.Replied (types.Success answer), w.server, w.parts,
+      only-there s.running c.args.worker c.if-worker-ne0.false, ap (option_map running_of) some, works s r answer some c.requires.lent c.answer.ensures, refl,
+      changes-same w w.waiting w.waiting _ _ _ _ refl
+      (only-changed s.running (Some (running_of worked)) c.args.worker c.if-worker-ne0.false)
+      (ap (server_of s.layout s.verifier) (ap (λ (o : Option VolumeLogical). kept_by o (Some worked)) (lent-away s.home s.running r c.requires.lent some) ∙ sym (kept-lent s.home s.running r c.requires.lent some)))))
