@@ -7,3 +7,5 @@ pub mod Connections
 pub mod Serving
 pub mod Calls
 pub mod Workers
+pub mod Admitting
+pub mod Feeding

@@ -1,7 +1,9 @@
 -- Bytes taken one after another, with more to come.
-use Rattle.std.specs.Prelude.{◌≡◌, ℕ, List, [], ◌∷◌, ◌++◌}
+use Rattle.std.specs.Prelude.{◌≡◌, ℕ, List, [], ◌∷◌, ◌++◌, take, Option, Some, None}
 use Rattle.nfs_model.specs.World.{Setup, World, Connection, changed_at}
-use Rattle.nfs_model.specs.Events.Feed.{reached, Takes}
+use Rattle.nfs_model.specs.Events.Feed.{reached, Takes, Feeds}
+use Rattle.filer.specs.declared.engine.event.Stop.{Stop}
+use Rattle.filer.specs.Numbers.{stop_number}
 
 -- all of these bytes are taken, and taking goes on
 abbrev pub TakesAll : Setup → ℕ → World → List ℕ → World → Type 0
@@ -14,3 +16,8 @@ with_bytes bytes x = record x { stream = x.stream ++ bytes }
 -- the stream of a connection has these bytes more
 abbrev pub bytes_taken : World → ℕ → List ℕ → World
 bytes_taken w c bytes = record w { connections = changed_at (with_bytes bytes) w.connections c }
+
+-- what part of a feed comes to: bytes are taken and more may follow, or taking stopped
+abbrev pub FeedsPart : Setup → ℕ → World → List ℕ → ℕ → Option Stop → World → Type 0
+FeedsPart setup c w bytes taken None new = TakesAll setup c w (take taken bytes) new
+FeedsPart setup c w bytes taken (Some stop) new = Feeds setup c w bytes taken (stop_number stop) new

@@ -4,6 +4,7 @@ use Rattle.rpc_record.specs.Stream.{read_stream}
 use Rattle.filer.specs.declared.engine.connection.OpenConnection.{OpenConnection}
 use Rattle.filer.specs.declared.engine.connection.Arrival.{Arrival}
 use Rattle.filer.specs.declared.engine.connection.Arrival.TheVariants as arrivals
+use Rattle.filer.specs.declared.engine.event.StreamFault.{StreamFault}
 use Rattle.filer.specs.declared.engine.message.Running.{Running}
 use Rattle.filer.specs.declared.engine.parcel.VolumeLogical.{VolumeLogical}
 use Rattle.filer.specs.declared.engine.state.State.{State}
@@ -112,3 +113,30 @@ pub record MakesRoom (old new : State) : Type 0 where
 abbrev pub TakesIn : Option OpenConnection → ℕ → Type 0
 TakesIn None rest = ⊥
 TakesIn (Some c) rest = (c.fault ≡ None) × (vec_len c.stream + rest ≤ vec_capacity c.stream)
+
+-- no fault was told
+abbrev pub IsFaultless : Arrival → Option StreamFault → Type 0
+IsFaultless arrivals.More fault = fault ≡ None
+IsFaultless (arrivals.Heard heard) fault = fault ≡ None
+IsFaultless (arrivals.Fault told) fault = Unit {0}
+IsFaultless arrivals.NoMemory fault = fault ≡ None
+
+-- bytes came on a connection, and so many of them were taken
+pub record TakesFrom (old new : OpenConnection) (bytes : List ℕ) (taken : ℕ) (arrival : Arrival) : Type 0 where
+  pub arrives : Arrives old.stream.items bytes taken arrival
+  pub stream : new.stream.items ≡ old.stream.items ++ take taken bytes
+  pub len : vec_len new.stream ≡ vec_len old.stream + taken
+  pub room : vec_capacity old.stream ≤ vec_capacity new.stream
+  pub output : new.output ≡ old.output
+  pub in_step : IsInStep new
+  pub faultless : IsFaultless arrival new.fault
+
+abbrev pub MayTakeFrom : Option OpenConnection → Option OpenConnection → List ℕ → ℕ → Arrival → Type 0
+MayTakeFrom (Some old) (Some new) bytes taken arrival = TakesFrom old new bytes taken arrival
+MayTakeFrom (Some old) None bytes taken arrival = ⊥
+MayTakeFrom None new bytes taken arrival = ⊥
+
+-- the records that the open connection served
+abbrev pub records_of : Option OpenConnection → ℕ
+records_of None = 0
+records_of (Some c) = c.records

@@ -1,7 +1,7 @@
 //! Bytes that come on a connection.
 
 ghost use Rattle.std.specs.Prelude.{◌≡◌, ◌+◌, ◌≤◌, ◌++◌, length, take, None, vec_len, vec_capacity};
-ghost use Rattle.filer.specs.Sound.{IsInStep, Arrives};
+ghost use Rattle.filer.specs.Sound.{IsInStep, Arrives, IsFaultless};
 
 use crate::engine::connection::{Arrival, OpenConnection};
 use crate::engine::event::StreamFault;
@@ -25,9 +25,12 @@ pub(crate) fn take_bytes(from: &mut OpenConnection, bytes: &[u8]) -> (usize, Arr
     requires room { vec_len from.old.stream + length bytes.now ≤ vec_capacity from.old.stream }
     ensures arrives { Arrives from.old.stream.items bytes.now result.0 result.1 }
     ensures stream { from.new.stream.items ≡ from.old.stream.items ++ take result.0 bytes.now }
+    ensures len { vec_len from.new.stream ≡ vec_len from.old.stream + result.0 }
     ensures room { vec_capacity from.old.stream ≤ vec_capacity from.new.stream }
     ensures output { from.new.output ≡ from.old.output }
     ensures in_step { IsInStep from.new }
+    ensures faultless { IsFaultless result.1 from.new.fault }
+    ensures within { result.0 ≤ length bytes.now }
 {
     let (taken, step) = from.reassembler.feed(bytes);
     keep(&mut from.stream, &bytes[..taken]);

@@ -1,10 +1,12 @@
 //! Bytes that an engine takes.
 
-ghost use Rattle.std.specs.Prelude.{◌≡◌, ◌+◌, ◌*◌, ◌<◌, ◌≤◌, length, IfSome, OnOk, vec_len, vec_capacity};
+ghost use Rattle.std.specs.Prelude.{false, ◌≡◌, ◌+◌, ◌-◌, ◌*◌, ◌<◌, ◌≤◌, length, take, None, IfSome, OnOk, vec_len, vec_capacity};
 ghost use Rattle.nfs_model.specs.Events.Refusals as events;
 ghost use Rattle.nfs_model.specs.Events.Step.{Events};
-ghost use Rattle.filer.specs.Seen.{setup_in, world, answer_of};
-ghost use Rattle.filer.specs.Sound.{IsSound, pending, MayBeRoomier, MakesRoom, HasRoomToAdmit};
+ghost use Rattle.nfs_model.specs.Events.Feed.{heard_in};
+ghost use Rattle.filer.specs.Seen.{setup_in, world, answer_of, heard_of};
+ghost use Rattle.filer.specs.Sound.{IsSound, pending, MayBeWrittenTo, MayBeRoomier, MakesRoom, HasRoomToAdmit, TakesIn, MayTakeFrom, records_of};
+ghost use Rattle.filer.specs.Feeding.{FeedsPart, bytes_taken};
 
 use crate::engine::arrival::take_bytes;
 use crate::engine::connection::{Arrival, OpenConnection};
@@ -37,9 +39,11 @@ fn make_room_for_replies(current: &mut Option<OpenConnection>, replies: usize) -
 
 /// Room for one more message, its entry and its reply.
 fn make_room(state: &mut State) -> Result<(), AllocError>
-    requires { pending state.old < 1024 }
+    requires sound { IsSound state.old }
+    requires places { pending state.old < 1024 }
     ensures same { MakesRoom state.old state.new }
     ensures room { OnOk result (HasRoomToAdmit state.new) }
+    ensures sound { IsSound state.new }
 {
     let replies = state.pending() + 1;
     state.waiting.try_reserve(1)?;
@@ -48,7 +52,16 @@ fn make_room(state: &mut State) -> Result<(), AllocError>
 }
 
 /// Lets the call of a record wait, or answers it where it needs no affinity.
-fn admit(state: &mut State, number: usize, heard: Heard) {
+fn admit(state: &mut State, number: usize, heard: Heard)
+    requires sound { IsSound state.old }
+    requires room { HasRoomToAdmit state.old }
+    requires places { pending state.old < 1024 }
+    ensures admitted { world state.new ≡ heard_in (setup_in state.old) (world state.old) (vec_len state.old.past) number (heard_of heard) false }
+    ensures setup { setup_in state.new ≡ setup_in state.old }
+    ensures past { state.new.past ≡ state.old.past }
+    ensures current { MayBeWrittenTo state.old.current state.new.current }
+    ensures sound { IsSound state.new }
+{
     let origin = Origin {
         connection: state.past.len(),
         number,
@@ -73,6 +86,61 @@ fn admit(state: &mut State, number: usize, heard: Heard) {
     }
 }
 
+/// Takes bytes on the open connection, up to the end of at most one record.
+fn take_in(state: &mut State, bytes: &[u8]) -> (usize, Arrival)
+    requires sound { IsSound state.old }
+    requires taking { TakesIn state.old.current (length bytes.now) }
+    ensures took { MayTakeFrom state.old.current state.new.current bytes.now result.0 result.1 }
+    ensures taken { world state.new ≡ bytes_taken (world state.old) (vec_len state.old.past) (take result.0 bytes.now) }
+    ensures same { state.new ≡ record state.old { current = state.new.current } }
+    ensures within { result.0 ≤ length bytes.now }
+    ensures sound { IsSound state.new }
+{
+    match &mut state.current {
+        Some(last) => take_bytes(last, bytes),
+        None => (0, Arrival::NoMemory),
+    }
+}
+
+/// How many records the open connection served.
+fn records(state: &State) -> usize
+    ensures { result ≡ records_of state.now.current }
+{
+    match &state.current {
+        Some(last) => last.records,
+        None => 0,
+    }
+}
+
+/// Takes bytes where there are places, up to the end of at most one record.
+fn take_and_admit(state: &mut State, bytes: &[u8]) -> (usize, Option<Stop>)
+    requires sound { IsSound state.old }
+    requires taking { TakesIn state.old.current (length bytes.now) }
+    requires some { 0 < length bytes.now }
+    requires places { pending state.old < 1024 }
+    ensures feeds { FeedsPart (setup_in state.old) (vec_len state.old.past) (world state.old) bytes.now result.0 result.1 (world state.new) }
+    ensures within { result.0 ≤ length bytes.now }
+    ensures goes_on { result.1 ≡ None → (0 < result.0) × TakesIn state.new.current (length bytes.now - result.0) }
+    ensures setup { setup_in state.new ≡ setup_in state.old }
+    ensures past { state.new.past ≡ state.old.past }
+    ensures sound { IsSound state.new }
+{
+    if make_room(state).is_err() {
+        return (0, Some(Stop::NoMemory));
+    }
+    let number = records(state);
+    let (taken, arrival) = take_in(state, bytes);
+    match arrival {
+        Arrival::NoMemory => (taken, Some(Stop::NoMemory)),
+        Arrival::Fault(fault) => (taken, Some(Stop::Fault(fault))),
+        Arrival::More => (taken, None),
+        Arrival::Heard(heard) => {
+            admit(state, number, heard);
+            (taken, None)
+        }
+    }
+}
+
 /// How many of the bytes complete no record: all, or those before the byte that would.
 fn before_record(last: &OpenConnection, bytes: &[u8]) -> usize {
     match last.reassembler.look(bytes) {
@@ -82,35 +150,24 @@ fn before_record(last: &OpenConnection, bytes: &[u8]) -> usize {
 }
 
 /// Takes bytes where the places are full: none that would complete a record.
-fn take_when_full(last: &mut OpenConnection, bytes: &[u8]) -> (usize, Option<Stop>) {
-    let free = before_record(last, bytes);
+fn take_when_full(state: &mut State, bytes: &[u8]) -> (usize, Option<Stop>) {
+    let free = match &state.current {
+        Some(last) => before_record(last, bytes),
+        None => 0,
+    };
     if free == 0 {
         return (0, Some(Stop::Full));
     }
-    match take_bytes(last, &bytes[..free]) {
-        (_, Arrival::NoMemory) => (0, Some(Stop::NoMemory)),
-        (taken, Arrival::Fault(fault)) => (taken, Some(Stop::Fault(fault))),
-        (taken, Arrival::More | Arrival::Heard(_)) if taken < bytes.len() => (taken, Some(Stop::Full)),
-        (taken, Arrival::More | Arrival::Heard(_)) => (taken, None),
-    }
-}
-
-/// Takes bytes where there are places, up to the end of at most one record.
-fn take_and_admit(state: &mut State, bytes: &[u8]) -> (usize, Option<Stop>) {
-    if make_room(state).is_err() {
-        return (0, Some(Stop::NoMemory));
-    }
-    let Some(last) = &mut state.current else {
-        return (0, Some(Stop::NoMemory));
-    };
-    let number = last.records;
-    match take_bytes(last, bytes) {
-        (_, Arrival::NoMemory) => (0, Some(Stop::NoMemory)),
-        (taken, Arrival::Fault(fault)) => (taken, Some(Stop::Fault(fault))),
-        (taken, Arrival::More) => (taken, None),
-        (taken, Arrival::Heard(heard)) => {
-            admit(state, number, heard);
-            (taken, None)
+    let (taken, arrival) = take_in(state, &bytes[..free]);
+    match arrival {
+        Arrival::NoMemory => (taken, Some(Stop::NoMemory)),
+        Arrival::Fault(fault) => (taken, Some(Stop::Fault(fault))),
+        Arrival::More | Arrival::Heard(_) => {
+            if taken < bytes.len() {
+                (taken, Some(Stop::Full))
+            } else {
+                (taken, None)
+            }
         }
     }
 }
@@ -118,11 +175,9 @@ fn take_and_admit(state: &mut State, bytes: &[u8]) -> (usize, Option<Stop>) {
 /// Takes bytes up to the end of at most one record.
 fn take_some(state: &mut State, bytes: &[u8]) -> (usize, Option<Stop>) {
     if state.pending() < PLACES {
-        return take_and_admit(state, bytes);
-    }
-    match &mut state.current {
-        Some(last) => take_when_full(last, bytes),
-        None => (0, Some(Stop::NoMemory)),
+        take_and_admit(state, bytes)
+    } else {
+        take_when_full(state, bytes)
     }
 }
 

@@ -1,6 +1,6 @@
 //! Calls on the parcel.
 
-ghost use Rattle.std.specs.Prelude.{◌≡◌, List, ℕ, option_map, length};
+ghost use Rattle.std.specs.Prelude.{◌≡◌, List, ℕ, option_map, IfSome};
 ghost use Rattle.nfs_model.specs.Types as types;
 ghost use Rattle.nfs_model.specs.Home.{home};
 ghost use Rattle.nfs_model.specs.Server.{handle_of};
@@ -24,7 +24,8 @@ const ROOT: u64 = 1;
 
 /// The volume and the fileid of a good handle.
 fn named_by(handle: &FileHandle) -> Option<(u32, u64)>
-    ensures { result ≡ handle_of 1 handle.now }
+    ensures named { result ≡ handle_of 1 handle.now }
+    ensures first { IfSome result (λ n. n.0 ≡ 0) }
 {
     let bytes = handle.as_bytes();
     if bytes.len() != 12 {
@@ -39,7 +40,8 @@ fn named_by(handle: &FileHandle) -> Option<(u32, u64)>
 
 /// The affinity that a call runs on; nothing where it is answered without.
 pub(crate) fn home_of(call: &Call) -> Option<Affinity>
-    ensures { (layout : Layout) → option_map affinity_of result ≡ home (layout_of layout) (call_of call.now) }
+    ensures home { (layout : Layout) → option_map affinity_of result ≡ home (layout_of layout) (call_of call.now) }
+    ensures logical { IfSome result (λ a. a ≡ Affinity.VolumeLogical 0) }
 {
     match call {
         Call::Null => None,
