@@ -3,7 +3,7 @@ use Rattle.std.proofs.Common.{◌≡◌, ℕ, zero, suc, ◌+◌, ◌<◌, ◌�
 use Rattle.std.specs.Prelude.{map, slice_get, option_map, IfSome, vec_len, vec_capacity, nat_le, ◌&&◌}
 use Rattle.std.proofs.lemmas.List.{take_all, take-append-drop, length-map}
 use Rattle.std.proofs.lemmas.Bool.Decides.{nat_tests}
-use Rattle.nfs_model.specs.Types.{Asked}
+use Rattle.rpc_record.specs.Stream.{read_stream}
 use Rattle.nfs_model.specs.World as worlds
 use Rattle.nfs_model.specs.World.{changed_at, is_crowded, all_running, Setup, World}
 use Rattle.nfs_model.specs.Replay as replays
@@ -44,6 +44,7 @@ pub record IsFed (w : World) (c : ℕ) (o : OpenConnection) : Type 0 where
   pub there : slice_get w.connections c ≡ Some (open_of o)
   pub sound : (scan_stream o.stream.items).fault ≡ None
   pub records : length (scan_stream o.stream.items).served ≡ o.records
+  pub stands : (read_stream o.stream.items).at ≡ o.reassembler
 
 fed_at : (s : State) (current : Option OpenConnection) (n : ℕ) → s.current ≡ current → IfSome current (λ c. IsRoomy (pending s) c × (vec_len s.past < vec_capacity s.past)) → TakesIn current n
     → (o : OpenConnection) × (current ≡ Some o) × IsFed (world s) (vec_len s.past) o
@@ -54,6 +55,7 @@ fed_at s (Some o) n e h t =
        there = ap (λ (k : ℕ). slice_get (connections_of s.past.items s.current) k) number ∙ ap (λ (k : Option OpenConnection). slice_get (connections_of s.past.items k) (length s.past.items)) e ∙ last-open s.past.items o;
        sound = h.0.in_step.fault ∙ ap (option_map fault_number) t.0;
        records = h.0.in_step.records;
+       stands = h.0.in_step.reassembler;
      })
 
 pub fed : (s : State) (n : ℕ) → IsSound s → TakesIn s.current n → (o : OpenConnection) × (s.current ≡ Some o) × IsFed (world s) (vec_len s.past) o

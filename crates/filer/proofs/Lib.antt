@@ -9,3 +9,5 @@ pub mod Calls
 pub mod Workers
 pub mod Admitting
 pub mod Feeding
+pub mod Records
+pub mod Full

@@ -53,10 +53,10 @@ pub reached-is : (layout : Layout) (verifier : List ℕ) (w : World) (c b : ℕ)
     → reached (setup_of layout verifier) w c b ≡ reached_by s (length (scan_stream x.stream).served)
 reached-is layout verifier w c b x s e k = ap (λ (stream : List ℕ). reached_from stream b) (stream-of w c x e) ∙ ap (λ (t : Scanned). reached_by t (length (scan_stream x.stream).served)) k
 
-reached-quiet : (s : Scanned) → s.fault ≡ None → reached_by s (length s.served) ≡ Further
+pub reached-quiet : (s : Scanned) → s.fault ≡ None → reached_by s (length s.served) ≡ Further
 reached-quiet s e = rw (e, slice_get-end s.served) refl
 
-reached-heard : (hs : List Heard) (h : Heard) → reached_by (record { served = hs ++ h ∷ []; fault = None }) (length hs) ≡ Complete h
+pub reached-heard : (hs : List Heard) (h : Heard) → reached_by (record { served = hs ++ h ∷ []; fault = None }) (length hs) ≡ Complete h
 reached-heard hs h = rw (slice_get-last hs h) refl
 
 -- ---- bytes that complete nothing

@@ -1,13 +1,15 @@
 -- What holds of an engine's fields beside what is seen of them: what was read is in step with the streams, and what is to come has its room.
 use Rattle.std.specs.Prelude.{◌≡◌, ℕ, ◌+◌, ◌*◌, ◌^◌, ◌≤◌, ◌<◌, List, [], ◌∷◌, ◌++◌, length, take, Option, Some, None, option_map, IfSome, vec_len, vec_capacity}
+use Rattle.rpc_record.specs.Machine.{State, Outcome, More, Made, Fault, outcome}
 use Rattle.rpc_record.specs.Stream.{read_stream}
+use Rattle.filer.specs.declared.engine.event.StreamFault.TheVariants.{RecordTooLong}
 use Rattle.filer.specs.declared.engine.connection.OpenConnection.{OpenConnection}
 use Rattle.filer.specs.declared.engine.connection.Arrival.{Arrival}
 use Rattle.filer.specs.declared.engine.connection.Arrival.TheVariants as arrivals
 use Rattle.filer.specs.declared.engine.event.StreamFault.{StreamFault}
 use Rattle.filer.specs.declared.engine.message.Running.{Running}
 use Rattle.filer.specs.declared.engine.parcel.VolumeLogical.{VolumeLogical}
-use Rattle.filer.specs.declared.engine.state.State.{State}
+use Rattle.filer.specs.declared.engine.state.State as states
 use Rattle.filer.specs.Numbers.{fault_number}
 use Rattle.filer.specs.Seen.{heard_of}
 use Rattle.filer.specs.Streams.{scan_stream, IsQuiet, Completes}
@@ -31,7 +33,7 @@ count_of None = 0
 count_of (Some r) = 1
 
 -- how many messages wait or run
-abbrev pub pending : State → ℕ
+abbrev pub pending : states.State → ℕ
 pending s = vec_len s.waiting + count_of s.running
 
 -- The parcel is at home just where nothing runs.
@@ -46,7 +48,7 @@ pub record IsRoomy (pending : ℕ) (c : OpenConnection) : Type 0 where
   pub in_step : IsInStep c
   pub output : vec_len c.output + 116 * pending ≤ vec_capacity c.output
 
-pub record IsSound (s : State) : Type 0 where
+pub record IsSound (s : states.State) : Type 0 where
   pub current : IfSome s.current (λ c. IsRoomy (pending s) c × (vec_len s.past < vec_capacity s.past))
   pub places : pending s ≤ 1024
   pub finished : vec_len s.finished + pending s ≤ vec_capacity s.finished
@@ -68,12 +70,12 @@ MayBeWrittenTo (Some old) None = ⊥
 MayBeWrittenTo (Some old) (Some new) = IsWrittenTo old new
 
 -- a reply was written where its connection is open; all else stays
-pub record Responds (old new : State) : Type 0 where
+pub record Responds (old new : states.State) : Type 0 where
   pub same : new ≡ record old { current = new.current }
   pub current : MayBeWrittenTo old.current new.current
 
 -- one more entry is kept; all else stays
-pub record KeepsEntry (old new : State) : Type 0 where
+pub record KeepsEntry (old new : states.State) : Type 0 where
   pub same : new ≡ record old { finished = new.finished }
   pub len : vec_len new.finished ≡ vec_len old.finished + 1
   pub room : vec_capacity new.finished ≡ vec_capacity old.finished
@@ -81,7 +83,7 @@ pub record KeepsEntry (old new : State) : Type 0 where
 -- ---- bytes that are taken
 
 -- room for one more message, its entry and its reply
-pub record HasRoomToAdmit (s : State) : Type 0 where
+pub record HasRoomToAdmit (s : states.State) : Type 0 where
   pub waiting : vec_len s.waiting < vec_capacity s.waiting
   pub finished : vec_len s.finished + (pending s + 1) ≤ vec_capacity s.finished
   pub output : IfSome s.current (λ c. vec_len c.output + 116 * (pending s + 1) ≤ vec_capacity c.output)
@@ -100,7 +102,7 @@ MayBeRoomier (Some old) None = ⊥
 MayBeRoomier (Some old) (Some new) = IsRoomier old new
 
 -- nothing that is seen changes, and perhaps there is more room
-pub record MakesRoom (old new : State) : Type 0 where
+pub record MakesRoom (old new : states.State) : Type 0 where
   pub same : new ≡ record old { waiting = new.waiting; finished = new.finished; current = new.current }
   pub waiting : new.waiting.items ≡ old.waiting.items
   pub waiting_len : vec_len new.waiting ≡ vec_len old.waiting
@@ -140,3 +142,27 @@ MayTakeFrom None new bytes taken arrival = ⊥
 abbrev pub records_of : Option OpenConnection → ℕ
 records_of None = 0
 records_of (Some c) = c.records
+
+-- ---- bytes that complete no record
+
+abbrev pub HasNoRecord : Outcome → Type 0
+HasNoRecord (More state) = Unit {0}
+HasNoRecord (Made taken made) = ⊥
+HasNoRecord (Fault taken) = Unit {0}
+
+abbrev pub AdmitsNone : Arrival → Type 0
+AdmitsNone arrivals.More = Unit {0}
+AdmitsNone (arrivals.Heard heard) = ⊥
+AdmitsNone (arrivals.Fault fault) = fault ≡ RecordTooLong
+AdmitsNone arrivals.NoMemory = Unit {0}
+
+-- where the reassembler of the open connection stands
+abbrev pub stands_at : Option OpenConnection → Option State
+stands_at None = None
+stands_at (Some c) = c.reassembler
+
+-- so many of the bytes complete no record, and one more would
+pub record IsFree (at : Option State) (bytes : List ℕ) (free : ℕ) : Type 0 where
+  pub within : free ≤ length bytes
+  pub none : HasNoRecord (outcome at (take free bytes))
+  pub next : free < length bytes → (made : List ℕ) × (outcome at bytes ≡ Made (free + 1) made)

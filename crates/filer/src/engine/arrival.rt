@@ -1,7 +1,8 @@
 //! Bytes that come on a connection.
 
 ghost use Rattle.std.specs.Prelude.{◌≡◌, ◌+◌, ◌≤◌, ◌++◌, length, take, None, vec_len, vec_capacity};
-ghost use Rattle.filer.specs.Sound.{IsInStep, Arrives, IsFaultless};
+ghost use Rattle.filer.specs.Sound.{IsInStep, Arrives, IsFaultless, HasNoRecord, AdmitsNone};
+ghost use Rattle.rpc_record.specs.Machine.{outcome};
 
 use crate::engine::connection::{Arrival, OpenConnection};
 use crate::engine::event::StreamFault;
@@ -31,6 +32,7 @@ pub(crate) fn take_bytes(from: &mut OpenConnection, bytes: &[u8]) -> (usize, Arr
     ensures in_step { IsInStep from.new }
     ensures faultless { IsFaultless result.1 from.new.fault }
     ensures within { result.0 ≤ length bytes.now }
+    ensures none { HasNoRecord (outcome from.old.reassembler bytes.now) → AdmitsNone result.1 }
 {
     let (taken, step) = from.reassembler.feed(bytes);
     keep(&mut from.stream, &bytes[..taken]);

@@ -5,7 +5,8 @@ ghost use Rattle.nfs_model.specs.Events.Refusals as events;
 ghost use Rattle.nfs_model.specs.Events.Step.{Events};
 ghost use Rattle.nfs_model.specs.Events.Feed.{heard_in};
 ghost use Rattle.filer.specs.Seen.{setup_in, world, answer_of, heard_of};
-ghost use Rattle.filer.specs.Sound.{IsSound, pending, MayBeWrittenTo, MayBeRoomier, MakesRoom, HasRoomToAdmit, TakesIn, MayTakeFrom, records_of};
+ghost use Rattle.filer.specs.Sound.{IsSound, pending, MayBeWrittenTo, MayBeRoomier, MakesRoom, HasRoomToAdmit, TakesIn, MayTakeFrom, records_of, HasNoRecord, AdmitsNone, stands_at, IsFree};
+ghost use Rattle.rpc_record.specs.Machine.{outcome};
 ghost use Rattle.filer.specs.Feeding.{FeedsPart, bytes_taken};
 
 use crate::engine::arrival::take_bytes;
@@ -94,6 +95,7 @@ fn take_in(state: &mut State, bytes: &[u8]) -> (usize, Arrival)
     ensures taken { world state.new ≡ bytes_taken (world state.old) (vec_len state.old.past) (take result.0 bytes.now) }
     ensures same { state.new ≡ record state.old { current = state.new.current } }
     ensures within { result.0 ≤ length bytes.now }
+    ensures none { HasNoRecord (outcome (stands_at state.old.current) bytes.now) → AdmitsNone result.1 }
     ensures sound { IsSound state.new }
 {
     match &mut state.current {
@@ -142,19 +144,41 @@ fn take_and_admit(state: &mut State, bytes: &[u8]) -> (usize, Option<Stop>)
 }
 
 /// How many of the bytes complete no record: all, or those before the byte that would.
-fn before_record(last: &OpenConnection, bytes: &[u8]) -> usize {
-    match last.reassembler.look(bytes) {
-        (taken, Look::Record) => taken - 1,
-        (_, Look::More | Look::Fault) => bytes.len(),
+fn before_record(last: &OpenConnection, bytes: &[u8]) -> usize
+    ensures { IsFree last.now.reassembler bytes.now result }
+{
+    let (taken, look) = last.reassembler.look(bytes);
+    match look {
+        Look::Record => taken - 1,
+        Look::More | Look::Fault => bytes.len(),
+    }
+}
+
+/// How many of the bytes complete no record on the open connection.
+fn free_bytes(state: &State, bytes: &[u8]) -> usize
+    requires { TakesIn state.now.current (length bytes.now) }
+    ensures { IsFree (stands_at state.now.current) bytes.now result }
+{
+    match &state.current {
+        Some(last) => before_record(last, bytes),
+        None => 0,
     }
 }
 
 /// Takes bytes where the places are full: none that would complete a record.
-fn take_when_full(state: &mut State, bytes: &[u8]) -> (usize, Option<Stop>) {
-    let free = match &state.current {
-        Some(last) => before_record(last, bytes),
-        None => 0,
-    };
+fn take_when_full(state: &mut State, bytes: &[u8]) -> (usize, Option<Stop>)
+    requires sound { IsSound state.old }
+    requires taking { TakesIn state.old.current (length bytes.now) }
+    requires some { 0 < length bytes.now }
+    requires full { pending state.old ≡ 1024 }
+    ensures feeds { FeedsPart (setup_in state.old) (vec_len state.old.past) (world state.old) bytes.now result.0 result.1 (world state.new) }
+    ensures within { result.0 ≤ length bytes.now }
+    ensures goes_on { result.1 ≡ None → (0 < result.0) × TakesIn state.new.current (length bytes.now - result.0) }
+    ensures setup { setup_in state.new ≡ setup_in state.old }
+    ensures past { state.new.past ≡ state.old.past }
+    ensures sound { IsSound state.new }
+{
+    let free = free_bytes(state, bytes);
     if free == 0 {
         return (0, Some(Stop::Full));
     }
@@ -162,8 +186,9 @@ fn take_when_full(state: &mut State, bytes: &[u8]) -> (usize, Option<Stop>) {
     match arrival {
         Arrival::NoMemory => (taken, Some(Stop::NoMemory)),
         Arrival::Fault(fault) => (taken, Some(Stop::Fault(fault))),
-        Arrival::More | Arrival::Heard(_) => {
-            if taken < bytes.len() {
+        Arrival::Heard(_) => unreachable!(),
+        Arrival::More => {
+            if free < bytes.len() {
                 (taken, Some(Stop::Full))
             } else {
                 (taken, None)
@@ -173,7 +198,17 @@ fn take_when_full(state: &mut State, bytes: &[u8]) -> (usize, Option<Stop>) {
 }
 
 /// Takes bytes up to the end of at most one record.
-fn take_some(state: &mut State, bytes: &[u8]) -> (usize, Option<Stop>) {
+fn take_some(state: &mut State, bytes: &[u8]) -> (usize, Option<Stop>)
+    requires sound { IsSound state.old }
+    requires taking { TakesIn state.old.current (length bytes.now) }
+    requires some { 0 < length bytes.now }
+    ensures feeds { FeedsPart (setup_in state.old) (vec_len state.old.past) (world state.old) bytes.now result.0 result.1 (world state.new) }
+    ensures within { result.0 ≤ length bytes.now }
+    ensures goes_on { result.1 ≡ None → (0 < result.0) × TakesIn state.new.current (length bytes.now - result.0) }
+    ensures setup { setup_in state.new ≡ setup_in state.old }
+    ensures past { state.new.past ≡ state.old.past }
+    ensures sound { IsSound state.new }
+{
     if state.pending() < PLACES {
         take_and_admit(state, bytes)
     } else {
