@@ -18,7 +18,7 @@ use Rattle.filer.specs.declared.engine.message.Running.{Running}
 use Rattle.filer.specs.declared.engine.state.State.{State}
 use Rattle.filer.specs.Numbers.{fault_number}
 use Rattle.filer.specs.Seen.{closed_of, open_of, connections_of, heard_of, message_of, running_of, entry_of, layout_of, setup_in, world}
-use Rattle.filer.specs.Sound.{IsInStep, Arrives, IsSound, IsRoomy, pending, count_of, MayBeRoomier, MakesRoom, TakesIn, TakesFrom, MayTakeFrom, records_of}
+use Rattle.filer.specs.Sound.{IsInStep, Arrives, IsSound, IsRoomy, pending, count_of, MayBeRoomier, MakesRoom, TakesIn, AtNoFault, MayBeStreamRoomier, TakesFrom, MayTakeFrom, records_of}
 use Rattle.filer.specs.Streams.{scan_stream, IsQuiet, Completes, setup_of}
 use Rattle.filer.specs.Feeding.{TakesAll, with_bytes, bytes_taken, FeedsPart}
 use Rattle.filer.proofs.Arriving.{length_taken}
@@ -46,20 +46,27 @@ pub record IsFed (w : World) (c : ℕ) (o : OpenConnection) : Type 0 where
   pub records : length (scan_stream o.stream.items).served ≡ o.records
   pub stands : (read_stream o.stream.items).at ≡ o.reassembler
 
-fed_at : (s : State) (current : Option OpenConnection) (n : ℕ) → s.current ≡ current → IfSome current (λ c. IsRoomy (pending s) c × (vec_len s.past < vec_capacity s.past)) → TakesIn current n
+fed_at : (s : State) (current : Option OpenConnection) → s.current ≡ current → IfSome current (λ c. IsRoomy (pending s) c × (vec_len s.past < vec_capacity s.past)) → AtNoFault current
     → (o : OpenConnection) × (current ≡ Some o) × IsFed (world s) (vec_len s.past) o
-fed_at s None n e h t = absurd t
-fed_at s (Some o) n e h t =
+fed_at s None e h t = absurd t
+fed_at s (Some o) e h t =
     let number : vec_len s.past ≡ length s.past.items = omega (arith, s.past.ok.0) in
     (o, refl, record {
        there = ap (λ (k : ℕ). slice_get (connections_of s.past.items s.current) k) number ∙ ap (λ (k : Option OpenConnection). slice_get (connections_of s.past.items k) (length s.past.items)) e ∙ last-open s.past.items o;
-       sound = h.0.in_step.fault ∙ ap (option_map fault_number) t.0;
+       sound = h.0.in_step.fault ∙ ap (option_map fault_number) t;
        records = h.0.in_step.records;
        stands = h.0.in_step.reassembler;
      })
 
+no-fault : (o : Option OpenConnection) (n : ℕ) → TakesIn o n → AtNoFault o
+no-fault None n t = absurd t
+no-fault (Some c) n t = t.0
+
 pub fed : (s : State) (n : ℕ) → IsSound s → TakesIn s.current n → (o : OpenConnection) × (s.current ≡ Some o) × IsFed (world s) (vec_len s.past) o
-fed s n h t = fed_at s s.current n refl h.current t
+fed s n h t = fed_at s s.current refl h.current (no-fault s.current n t)
+
+pub fed-open : (s : State) → IsSound s → AtNoFault s.current → (o : OpenConnection) × (s.current ≡ Some o) × IsFed (world s) (vec_len s.past) o
+fed-open s h t = fed_at s s.current refl h.current t
 
 took_from : (o : OpenConnection) (after : Option OpenConnection) (bytes : List ℕ) (taken : ℕ) (arrival : Arrival) → MayTakeFrom (Some o) after bytes taken arrival → (new : OpenConnection) × TakesFrom o new bytes taken arrival
 took_from o None bytes taken arrival t = absurd t
@@ -199,3 +206,15 @@ part old new n m h t room =
     let same : world new ≡ world old = room-unseen old new m in
     let past : vec_len new.past ≡ vec_len old.past = ap (λ (s : State). vec_len s.past) m.same in
     (f.0, f.1, record { fed = subst (λ (c : ℕ). IsFed (world new) c f.0) past f.2; same = same; room = ap is_crowded same ∙ not-crowded old room })
+
+-- ---- room for a stream
+
+stream_roomier : (past : List ClosedConnection) (old new : Option OpenConnection) → MayBeStreamRoomier old new → connections_of past new ≡ connections_of past old
+stream_roomier past None None r = refl
+stream_roomier past None (Some b) r = absurd r
+stream_roomier past (Some a) None r = absurd r
+stream_roomier past (Some a) (Some b) r =
+    ap (λ (x : worlds.Connection). map closed_of past ++ x ∷ []) (ap open_of r.same ∙ ap (λ (xs : List ℕ). record (open_of a) { stream = xs }) r.items)
+
+pub stream-room-unseen : (s : State) (current : Option OpenConnection) → MayBeStreamRoomier s.current current → record (world s) { connections = connections_of s.past.items current } ≡ world s
+stream-room-unseen s current r = ap (λ (cs : List worlds.Connection). record (world s) { connections = cs }) (stream_roomier s.past.items s.current current r)

@@ -11,3 +11,4 @@ pub mod Admitting
 pub mod Feeding
 pub mod Records
 pub mod Full
+pub mod Loops

@@ -1,5 +1,5 @@
 -- What holds of an engine's fields beside what is seen of them: what was read is in step with the streams, and what is to come has its room.
-use Rattle.std.specs.Prelude.{◌≡◌, ℕ, ◌+◌, ◌*◌, ◌^◌, ◌≤◌, ◌<◌, List, [], ◌∷◌, ◌++◌, length, take, Option, Some, None, option_map, IfSome, vec_len, vec_capacity}
+use Rattle.std.specs.Prelude.{Bool, false, is_none, ◌⊎◌, ◌≡◌, ℕ, ◌+◌, ◌*◌, ◌^◌, ◌≤◌, ◌<◌, List, [], ◌∷◌, ◌++◌, length, take, Option, Some, None, option_map, IfSome, vec_len, vec_capacity}
 use Rattle.rpc_record.specs.Machine.{State, Outcome, More, Made, Fault, outcome}
 use Rattle.rpc_record.specs.Stream.{read_stream}
 use Rattle.filer.specs.declared.engine.event.StreamFault.TheVariants.{RecordTooLong}
@@ -166,3 +166,28 @@ pub record IsFree (at : Option State) (bytes : List ℕ) (free : ℕ) : Type 0 w
   pub within : free ≤ length bytes
   pub none : HasNoRecord (outcome at (take free bytes))
   pub next : free < length bytes → (made : List ℕ) × (outcome at bytes ≡ Made (free + 1) made)
+
+-- a connection is open, and at no fault
+abbrev pub AtNoFault : Option OpenConnection → Type 0
+AtNoFault None = ⊥
+AtNoFault (Some c) = c.fault ≡ None
+
+abbrev pub at_no_fault : Option OpenConnection → Bool
+at_no_fault None = false
+at_no_fault (Some c) = is_none c.fault
+
+-- The next byte is not one that would complete a record in want of a place.
+abbrev pub MayGoOn : states.State → List ℕ → Type 0
+MayGoOn s bytes = (pending s < 1024) ⊎ ((free : ℕ) × (free ≡ 0 → ⊥) × HasNoRecord (outcome (stands_at s.current) (take free bytes)))
+
+-- a connection with perhaps more room for its stream
+pub record IsStreamRoomier (old new : OpenConnection) : Type 0 where
+  pub same : new ≡ record old { stream = new.stream }
+  pub items : new.stream.items ≡ old.stream.items
+  pub len : vec_len new.stream ≡ vec_len old.stream
+
+abbrev pub MayBeStreamRoomier : Option OpenConnection → Option OpenConnection → Type 0
+MayBeStreamRoomier None None = Unit {0}
+MayBeStreamRoomier None (Some new) = ⊥
+MayBeStreamRoomier (Some old) None = ⊥
+MayBeStreamRoomier (Some old) (Some new) = IsStreamRoomier old new

@@ -1,11 +1,12 @@
 //! Bytes that an engine takes.
 
-ghost use Rattle.std.specs.Prelude.{false, ◌≡◌, ◌+◌, ◌-◌, ◌*◌, ◌<◌, ◌≤◌, length, take, None, IfSome, OnOk, vec_len, vec_capacity};
+ghost use Rattle.std.specs.Prelude.{true, false, ◌≡◌, ◌+◌, ◌-◌, ◌*◌, ◌<◌, ◌≤◌, length, take, None, IfSome, OnOk, vec_len, vec_capacity};
 ghost use Rattle.nfs_model.specs.Events.Refusals as events;
 ghost use Rattle.nfs_model.specs.Events.Step.{Events};
-ghost use Rattle.nfs_model.specs.Events.Feed.{heard_in};
+ghost use Rattle.nfs_model.specs.Events.Feed.{Feeds, heard_in};
 ghost use Rattle.filer.specs.Seen.{setup_in, world, answer_of, heard_of};
-ghost use Rattle.filer.specs.Sound.{IsSound, pending, MayBeWrittenTo, MayBeRoomier, MakesRoom, HasRoomToAdmit, TakesIn, MayTakeFrom, records_of, HasNoRecord, AdmitsNone, stands_at, IsFree};
+ghost use Rattle.filer.specs.Sound.{IsSound, pending, MayBeWrittenTo, MayBeRoomier, MakesRoom, HasRoomToAdmit, TakesIn, MayTakeFrom, records_of, HasNoRecord, AdmitsNone, stands_at, IsFree, AtNoFault, at_no_fault, MayGoOn, MayBeStreamRoomier};
+ghost use Rattle.filer.specs.Numbers.{stop_number};
 ghost use Rattle.rpc_record.specs.Machine.{outcome};
 ghost use Rattle.filer.specs.Feeding.{FeedsPart, bytes_taken};
 
@@ -156,7 +157,7 @@ fn before_record(last: &OpenConnection, bytes: &[u8]) -> usize
 
 /// How many of the bytes complete no record on the open connection.
 fn free_bytes(state: &State, bytes: &[u8]) -> usize
-    requires { TakesIn state.now.current (length bytes.now) }
+    requires { AtNoFault state.now.current }
     ensures { IsFree (stands_at state.now.current) bytes.now result }
 {
     match &state.current {
@@ -216,8 +217,14 @@ fn take_some(state: &mut State, bytes: &[u8]) -> (usize, Option<Stop>)
     }
 }
 
-/// Takes bytes on a connection, for which its stream has room.
-fn take_all(state: &mut State, bytes: &[u8]) -> (usize, Stop) {
+/// Takes bytes on the open connection, whose stream has room for them.
+fn take_all(state: &mut State, bytes: &[u8]) -> (usize, Stop)
+    requires sound { IsSound state.old }
+    requires taking { TakesIn state.old.current (length bytes.now) }
+    ensures feeds { Feeds (setup_in state.old) (vec_len state.old.past) (world state.old) bytes.now result.0 (stop_number result.1) (world state.new) }
+    ensures setup { setup_in state.new ≡ setup_in state.old }
+    ensures sound { IsSound state.new }
+{
     let mut taken = 0;
     while taken < bytes.len() {
         let (count, stop) = take_some(state, &bytes[taken..]);
@@ -229,21 +236,74 @@ fn take_all(state: &mut State, bytes: &[u8]) -> (usize, Stop) {
     (taken, Stop::AllTaken)
 }
 
+/// Whether the places are full, and the first byte would complete a record.
+fn is_stopped(state: &State, bytes: &[u8]) -> bool
+    requires sound { IsSound state.now }
+    requires at { AtNoFault state.now.current }
+    ensures stopped { result ≡ true → (pending state.now ≡ 1024) × IsFree (stands_at state.now.current) bytes.now 0 }
+    ensures goes_on { result ≡ false → MayGoOn state.now bytes.now }
+{
+    if state.pending() < PLACES {
+        return false;
+    }
+    free_bytes(state, bytes) == 0
+}
+
+/// Room for so many bytes more of the open connection's stream.
+fn make_stream_room(current: &mut Option<OpenConnection>, size: usize) -> Result<(), AllocError>
+    requires { AtNoFault current.old }
+    ensures same { MayBeStreamRoomier current.old current.new }
+    ensures room { OnOk result (TakesIn current.new size) }
+{
+    match current {
+        Some(last) => last.stream.try_reserve(size),
+        None => Ok(()),
+    }
+}
+
+/// Takes bytes on the open connection, which is at no fault.
+fn feed_open(state: &mut State, bytes: &[u8]) -> (usize, Stop)
+    requires sound { IsSound state.old }
+    requires at { AtNoFault state.old.current }
+    ensures feeds { Feeds (setup_in state.old) (vec_len state.old.past) (world state.old) bytes.now result.0 (stop_number result.1) (world state.new) }
+    ensures setup { setup_in state.new ≡ setup_in state.old }
+    ensures sound { IsSound state.new }
+{
+    if bytes.is_empty() {
+        return (0, Stop::AllTaken);
+    }
+    if is_stopped(state, bytes) {
+        return (0, Stop::Full);
+    }
+    if make_stream_room(&mut state.current, bytes.len()).is_err() {
+        return (0, Stop::NoMemory);
+    }
+    take_all(state, bytes)
+}
+
+/// Whether a connection is open and at no fault.
+fn takes_input(current: &Option<OpenConnection>) -> bool
+    ensures { result ≡ at_no_fault current.now }
+{
+    match current {
+        Some(last) => last.fault.is_none(),
+        None => false,
+    }
+}
+
 /// Takes bytes on a connection that is open and at no fault.
-pub(crate) fn feed(state: &mut State, connection: usize, bytes: &[u8]) -> Result<Done, Refusal> {
+pub(crate) fn feed(state: &mut State, connection: usize, bytes: &[u8]) -> Result<Done, Refusal>
+    requires { IsSound state.old }
+    ensures events { Events (setup_in state.old) (world state.old) (events.Feed connection bytes.now) (answer_of result) (world state.new) }
+    ensures setup { setup_in state.new ≡ setup_in state.old }
+    ensures sound { IsSound state.new }
+{
     if connection != state.past.len() {
         return Err(Refusal::Closed);
     }
-    let room = match &mut state.current {
-        Some(last) if last.fault.is_none() => last.stream.try_reserve(bytes.len()),
-        _ => return Err(Refusal::Closed),
-    };
-    if room.is_err() {
-        return Ok(Done::Fed {
-            taken: 0,
-            stop: Stop::NoMemory,
-        });
+    if !takes_input(&state.current) {
+        return Err(Refusal::Closed);
     }
-    let (taken, stop) = take_all(state, bytes);
+    let (taken, stop) = feed_open(state, bytes);
     Ok(Done::Fed { taken, stop })
 }
