@@ -1,7 +1,6 @@
 -- Arguments are asked exactly where they are spelled.
 use Rattle.std.proofs.Common.{◌≡◌, ℕ, List, Ok, refl, sym, ap, ◌∙◌}
-use Rattle.xdr.specs.Shape.{Shape, Value, Spells}
-use Rattle.xdr.specs.Reading.{◌>>=◌, all_of}
+use Rattle.xdr.specs.Reading.{all_of}
 use Rattle.xdr.proofs.Steps.{bind_ok, ok_is}
 use Rattle.xdr.proofs.Items.{IsBytes}
 use Rattle.xdr.proofs.Shapes.{all_found, all_again}
