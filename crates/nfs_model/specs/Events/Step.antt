@@ -1,0 +1,121 @@
+-- Events one after another (our profile).
+use Rattle.std.specs.Prelude.{◌≡◌, ℕ, ◌+◌, ◌/◌, Bool, true, false, IsTrue, ◌⊎◌, List, [], ◌∷◌, ◌++◌, length, Option, Some, None, Result, Ok, Err, slice_get}
+use Rattle.std.specs.List.{remove}
+use Rattle.nfs_model.specs.Types.{SystemError}
+use Rattle.nfs_model.specs.Server as servers
+use Rattle.nfs_model.specs.Replay.{Entry}
+use Rattle.nfs_model.specs.World.{Setup, World, Connection, Message, Outcome, Replied, Starved, Moved, Running, Hand, Empty, Fresh, Dead, Worker, Parts, changed_at, with_running, with_hand, finish}
+use Rattle.nfs_model.specs.Events.Refusals.{Event, Open, Feed, Close, Begin, Work, Finish, Fetch, Cull, PutDown, Survey, Done, Opened, Fed, IsClosed, Granted, HasReply, HasMove, IsStarved, Written, IsBack, HandHas, HasPut, Surveyed, refusal, may_lack_memory}
+use Rattle.nfs_model.specs.Events.Feed.{Feeds}
+use Rattle.nfs_model.specs.Events.Work.{Works}
+use Rattle.nfs_model.specs.Events.Blocks.{batch, lowest_batch, fresh_hand, dead_hand, without_free, without_dead, with_stock, with_free, free_counts}
+
+-- a connection as it is opened
+abbrev pub new_connection : Connection
+new_connection = record { stream = []; closed = None; output = [] }
+
+-- a connection closed when so many calls were finished
+abbrev pub with_closed : ℕ → Connection → Connection
+with_closed count x = record x { closed = Some count }
+
+-- a worker whose message was worked
+abbrev pub with_outcome : Running → Outcome → World → ℕ → World
+with_outcome r o w worker = record w { workers = changed_at (with_running (Some (record r { outcome = Some o }))) w.workers worker }
+
+-- what Work answers
+abbrev pub done_of : Outcome → Done
+done_of (Replied reply) = HasReply
+done_of Starved = IsStarved
+done_of (Moved a) = HasMove a
+
+-- ---- finishing
+
+-- the entry of a running call
+abbrev pub entry_of : Running → Bool → Entry
+entry_of r starved = record { connection = r.message.connection; number = r.message.number; xid = r.message.xid; asked = r.message.asked; affinity = Some r.message.affinity; moment = r.moment; starved = starved }
+
+-- a worker that runs nothing more
+abbrev pub without_call : World → ℕ → World
+without_call w worker = record w { workers = changed_at (with_running None) w.workers worker }
+
+-- one more stamp
+abbrev pub stamped : World → World
+stamped w = record w { stamps = w.stamps + 1 }
+
+-- Finish, by the outcome: a moved message waits again, at the end; another is finished
+abbrev pub finished_by : Setup → World → ℕ → Running → Outcome → World
+finished_by setup w worker r (Replied reply) = finish setup (stamped (without_call w worker)) (entry_of r false) reply
+finished_by setup w worker r Starved = finish setup (stamped (without_call w worker)) (entry_of r true) SystemError
+finished_by setup w worker r (Moved a) = record (without_call w worker) { waiting = w.waiting ++ (record r.message { affinity = a }) ∷ [] }
+
+-- the bytes that a reply adds, where its connection is open
+abbrev pub bytes_unless : Option ℕ → List ℕ → List ℕ
+bytes_unless None bytes = bytes
+bytes_unless (Some n) bytes = []
+
+-- none where there is no connection
+abbrev pub bytes_if_open : Option Connection → List ℕ → List ℕ
+bytes_if_open None bytes = []
+bytes_if_open (Some x) bytes = bytes_unless x.closed bytes
+
+-- what Finish answers
+abbrev pub told_of : Setup → World → Running → Outcome → Done
+told_of setup w r (Replied reply) = Written r.message.connection (bytes_if_open (slice_get w.connections r.message.connection) (setup.codec.reply_record r.message.xid reply))
+told_of setup w r Starved = Written r.message.connection (bytes_if_open (slice_get w.connections r.message.connection) (setup.codec.reply_record r.message.xid SystemError))
+told_of setup w r (Moved a) = IsBack
+
+-- ---- inner calls
+
+-- an inner call: a hand and the parts of a volume change, under one stamp
+abbrev pub in_hand : World → ℕ → ℕ → Hand → (Parts → Parts) → World
+in_hand w worker volume hand change = record (stamped w) { workers = changed_at (with_hand hand) w.workers worker; parts = changed_at change w.parts volume }
+
+-- a batch put down: fresh blocks to the stock, dead ones to the bitmaps
+abbrev pub Puts : World → ℕ → Hand → Done → World → Type 0
+Puts w worker Empty done new = ⊥
+Puts w worker (Fresh volume blocks) done new = (done ≡ HasPut (length blocks)) × (new ≡ in_hand w worker volume Empty (with_stock blocks))
+Puts w worker (Dead volume blocks) done new = (done ≡ HasPut (length blocks)) × (new ≡ in_hand w worker volume Empty (with_free blocks))
+
+-- ---- what an event that isn't refused answers and does
+
+-- what an event that isn't refused answers and does
+abbrev pub Happens : Setup → World → Event → Done → World → Type 0
+Happens setup w Open done new = (done ≡ Opened (length w.connections)) × (new ≡ record w { connections = w.connections ++ new_connection ∷ [] })
+Happens setup w (Feed connection bytes) done new = (taken : ℕ) × (stop : ℕ) × (done ≡ Fed taken stop) × Feeds setup connection w bytes taken stop new
+Happens setup w (Close connection) done new = (done ≡ IsClosed) × (new ≡ record w { connections = changed_at (with_closed (length w.finished)) w.connections connection })
+Happens setup w (Begin worker place moment) done new =
+    (m : Message) × (slice_get w.waiting place ≡ Some m) × (done ≡ Granted m.affinity)
+    × (new ≡ record w { waiting = remove w.waiting place; workers = changed_at (with_running (Some (record { message = m; moment = moment; outcome = None }))) w.workers worker })
+Happens setup w (Work worker) done new =
+    (k : Worker) × (r : Running) × (o : Outcome) × (server : servers.Server) × (parts : List Parts)
+    × (slice_get w.workers worker ≡ Some k) × (k.running ≡ Some r) × Works w r o server parts
+    × (done ≡ done_of o) × (new ≡ record (with_outcome r o w worker) { server = server; parts = parts })
+Happens setup w (Finish worker) done new =
+    (k : Worker) × (r : Running) × (o : Outcome)
+    × (slice_get w.workers worker ≡ Some k) × (k.running ≡ Some r) × (r.outcome ≡ Some o)
+    × (done ≡ told_of setup w r o) × (new ≡ finished_by setup w worker r o)
+Happens setup w (Fetch worker volume range) done new =
+    (p : Parts) × (slice_get w.parts volume ≡ Some p) × (done ≡ HandHas (length (batch range p.free)))
+    × (new ≡ in_hand w worker volume (fresh_hand volume (batch range p.free)) (without_free (batch range p.free)))
+Happens setup w (Cull worker volume) done new =
+    (p : Parts) × (slice_get w.parts volume ≡ Some p) × (done ≡ HandHas (length (lowest_batch p.dead)))
+    × (new ≡ in_hand w worker volume (dead_hand volume (lowest_batch p.dead)) (without_dead (lowest_batch p.dead)))
+Happens setup w (PutDown worker) done new = (k : Worker) × (slice_get w.workers worker ≡ Some k) × Puts w worker k.hand done new
+Happens setup w (Survey worker volume) done new =
+    (p : Parts) × (v : servers.Volume) × (slice_get w.parts volume ≡ Some p) × (slice_get w.server.volumes volume ≡ Some v)
+    × (done ≡ Surveyed (free_counts (v.total / 1024) p.free)) × (new ≡ stamped w)
+
+-- the refusal's number, or 90 for want of memory
+abbrev pub Refuses : Setup → World → Event → ℕ → Type 0
+Refuses setup w event number =
+    (refusal setup w event ≡ Some number) ⊎ ((number ≡ 90) × (refusal setup w event ≡ None) × IsTrue (may_lack_memory event))
+
+-- One event. A refused one changes nothing.
+abbrev pub Events : Setup → World → Event → Result Done ℕ → World → Type 0
+Events setup old event (Ok done) new = (refusal setup old event ≡ None) × Happens setup old event done new
+Events setup old event (Err number) new = Refuses setup old event number × (new ≡ old)
+
+-- a list of events, each answered or refused
+abbrev pub Runs : Setup → World → List Event → World → Type 0
+Runs setup old [] new = new ≡ old
+Runs setup old (e ∷ es) new = (answer : Result Done ℕ) × (middle : World) × Events setup old e answer middle × Runs setup middle es new

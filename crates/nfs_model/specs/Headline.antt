@@ -1,0 +1,165 @@
+-- What holds after every event.
+use Rattle.std.specs.Prelude.{◌≡◌, ℕ, ◌+◌, ◌*◌, ◌≤◌, Bool, true, false, IsTrue, ◌&&◌, ◌==◌, nat_lt, List, [], ◌∷◌, ◌++◌, length, take, map, replicate, Option, Some, None, IfSome, slice_get, if◌then◌else◌}
+use Rattle.std.specs.List.{AllByRecursion, list_any, range_with_len}
+use Rattle.std.specs.FinSet.{contains, len, from_list, empty}
+use Rattle.nfs_model.specs.Types.{Asked, Ask, Refused, Undecoded}
+use Rattle.nfs_model.specs.Tree.{Affinity, Layout, VolumeLayout, excludes, begins, path}
+use Rattle.nfs_model.specs.Server as servers
+use Rattle.nfs_model.specs.Server.{Server, opening, used}
+use Rattle.nfs_model.specs.Serial.Step.{serial}
+use Rattle.nfs_model.specs.Serial.Starve.{may_starve_at_decoding, may_starve_later}
+use Rattle.nfs_model.specs.Home.{home_of_asked}
+use Rattle.nfs_model.specs.Replay.{Entry, step_of, server_after, AreLawful}
+use Rattle.nfs_model.specs.World.{Heard, Codec, Setup, World, Connection, Message, Running, Outcome, Replied, Starved, Moved, Empty, Parts, all_running, tried, hands_blocks}
+
+-- the server as a run begins
+abbrev pub start : Setup → Server
+start setup = opening setup.layout setup.verifier
+
+-- ---- bytes
+
+-- the replies to a connection's entries, on the server that all of them change
+abbrev pub replies : Codec → ℕ → Server → List Entry → List ℕ
+replies codec c server [] = []
+replies codec c server (e ∷ es) = (if e.connection == c then codec.reply_record e.xid (step_of server e).reply else []) ++ replies codec c (step_of server e).server es
+
+-- the entries up to a close
+abbrev pub up_to : Option ℕ → List Entry → List Entry
+up_to None es = es
+up_to (Some n) es = take n es
+
+-- ---- records
+
+-- the records of a connection's stream
+abbrev pub served : Setup → Connection → List Heard
+served setup x = (setup.codec.scan x.stream).served
+
+-- how many entries name a record
+abbrev pub tally_finished : ℕ → ℕ → List Entry → ℕ
+tally_finished c n [] = 0
+tally_finished c n (e ∷ es) = (if (e.connection == c) && (e.number == n) then 1 else 0) + tally_finished c n es
+
+-- how many messages name a record
+abbrev pub tally_messages : ℕ → ℕ → List Message → ℕ
+tally_messages c n [] = 0
+tally_messages c n (m ∷ ms) = (if (m.connection == c) && (m.number == n) then 1 else 0) + tally_messages c n ms
+
+-- the messages that run
+abbrev pub messages : List Running → List Message
+messages rs = map (λ r. r.message) rs
+
+-- the record that is named has this xid and asks this
+abbrev pub IsHeard : Setup → World → ℕ → ℕ → ℕ → Asked → Type 0
+IsHeard setup w c n xid asked = (x : Connection) × (slice_get w.connections c ≡ Some x) × (slice_get (served setup x) n ≡ Some (record { xid = xid; asked = asked }))
+
+-- an entry that wasn't decoded has its record's xid, and that record has a name or data
+abbrev pub IsOwn : Setup → World → Entry → Asked → Type 0
+IsOwn setup w e (Ask call credential) = IsHeard setup w e.connection e.number e.xid (Ask call credential)
+IsOwn setup w e (Refused reply) = IsHeard setup w e.connection e.number e.xid (Refused reply)
+IsOwn setup w e Undecoded = (asked : Asked) × IsHeard setup w e.connection e.number e.xid asked × IsTrue (may_starve_at_decoding asked) × (e.starved ≡ true) × (e.affinity ≡ None)
+
+-- an entry is of a record
+abbrev pub IsOwnEntry : Setup → World → Entry → Type 0
+IsOwnEntry setup w e = IsOwn setup w e e.asked
+
+-- a message is of a record
+abbrev pub IsOwnMessage : Setup → World → Message → Type 0
+IsOwnMessage setup w m = IsHeard setup w m.connection m.number m.xid m.asked
+
+-- ---- the server as it is
+
+-- the server after a message with its outcome
+abbrev pub worked_by : Server → Running → Option Outcome → Server
+worked_by server r None = server
+worked_by server r (Some (Replied reply)) = (serial server r.message.asked r.moment false).server
+worked_by server r (Some Starved) = server
+worked_by server r (Some (Moved a)) = server
+
+-- the server after what was worked and isn't finished
+abbrev pub server_worked : Server → List Running → Server
+server_worked server [] = server
+server_worked server (r ∷ rs) = server_worked (worked_by server r r.outcome) rs
+
+-- an affinity is the home of what is asked, or above it
+abbrev pub IsTriedAt : Setup → Asked → Affinity → Type 0
+IsTriedAt setup asked affinity = (home : Affinity) × (home_of_asked setup.layout asked ≡ Some home) × IsTrue (begins (path setup.layout affinity) (path setup.layout home))
+
+-- a message tries its home, or above it
+abbrev pub IsTried : Setup → Message → Type 0
+IsTried setup m = IsTriedAt setup m.asked m.affinity
+
+-- an outcome is the one that finishing now would give
+abbrev pub IsOutcome : Setup → Server → Running → Option Outcome → Type 0
+IsOutcome setup server r None = Unit {0}
+IsOutcome setup server r (Some (Replied reply)) = reply ≡ (serial server r.message.asked r.moment false).reply
+IsOutcome setup server r (Some Starved) = IsTrue (may_starve_later server r.message.asked r.moment)
+IsOutcome setup server r (Some (Moved a)) = IsTriedAt setup r.message.asked a
+
+-- ---- parts
+
+-- 1 where it is so
+abbrev pub one_if : Bool → ℕ
+one_if b = if b then 1 else 0
+
+-- how often a number stands in a list
+abbrev pub times_listed : ℕ → List ℕ → ℕ
+times_listed n [] = 0
+times_listed n (b ∷ bs) = one_if (b == n) + times_listed n bs
+
+-- in how many places a block number stands
+abbrev pub places : ℕ → Parts → List ℕ → ℕ
+places n p hands = one_if (contains p.files n) + one_if (contains p.stock n) + one_if (contains p.dead n) + one_if (contains p.free n) + times_listed n hands
+
+-- each number below total stands in one part, once, and no other does; and those in files are as many as the files fill
+pub record IsPartition (volume : servers.Volume) (p : Parts) (hands : List ℕ) : Type 0 where
+  pub once : (n : ℕ) → places n p hands ≡ one_if (nat_lt n volume.total)
+  pub in_files : len p.files ≡ used volume
+
+-- ---- affinities
+
+-- no two affinities exclude each other
+abbrev pub Apart : Layout → List Affinity → Type 0
+Apart layout [] = Unit {0}
+Apart layout (a ∷ others) = (list_any (excludes layout a) others ≡ false) × Apart layout others
+
+-- ---- all of it
+
+-- All of it, after every event, refused ones among them.
+pub record Headline (setup : Setup) (w : World) : Type 0 where
+  -- the bytes on each connection are the serial server's replies to its calls finished up to its close, in finishing order of all calls, each under its own xid
+  pub output : (c : ℕ) (x : Connection) → slice_get w.connections c ≡ Some x → x.output ≡ replies setup.codec c (start setup) (up_to x.closed w.finished)
+  -- each record served is finished, waiting or running, just once, and nothing else is
+  pub each_once : (c : ℕ) (x : Connection) → slice_get w.connections c ≡ Some x → (n : ℕ)
+      → tally_finished c n w.finished + tally_messages c n w.waiting + tally_messages c n (messages (all_running w.workers)) ≡ one_if (nat_lt n (length (served setup x)))
+  pub own_finished : AllByRecursion (IsOwnEntry setup w) w.finished
+  pub own_waiting : AllByRecursion (IsOwnMessage setup w) w.waiting
+  pub own_running : AllByRecursion (IsOwnMessage setup w) (messages (all_running w.workers))
+  -- only calls that may starve do
+  pub lawful : AreLawful (start setup) w.finished
+  pub state : w.server ≡ server_worked (server_after (start setup) w.finished) (all_running w.workers)
+  pub outcomes : AllByRecursion (λ r. IsOutcome setup (server_after (start setup) w.finished) r r.outcome) (all_running w.workers)
+  pub tried_waiting : AllByRecursion (IsTried setup) w.waiting
+  pub tried_running : AllByRecursion (IsTried setup) (messages (all_running w.workers))
+  pub until : (c : ℕ) (x : Connection) → slice_get w.connections c ≡ Some x → IfSome x.closed (λ n. n ≤ length w.finished)
+  -- block parts partition every volume
+  pub partition : (v : ℕ) (volume : servers.Volume) → slice_get w.server.volumes v ≡ Some volume → (p : Parts) × (slice_get w.parts v ≡ Some p) × IsPartition volume p (hands_blocks v w.workers)
+  -- no two running messages exclude each other
+  pub apart : Apart setup.layout (tried (all_running w.workers))
+
+-- ---- the beginning
+
+-- the parts of a volume as it begins: all is free
+abbrev pub opening_parts : VolumeLayout → Parts
+opening_parts v = record { files = empty; stock = empty; dead = empty; free = from_list (range_with_len 0 (1024 * v.ranges)) }
+
+-- a run as it begins: no connection, and idle workers with empty hands
+abbrev pub opening_world : Setup → World
+opening_world setup = record {
+  connections = [];
+  waiting = [];
+  workers = replicate setup.workers (record { running = None; hand = Empty });
+  finished = [];
+  server = start setup;
+  parts = map opening_parts setup.layout.volumes;
+  stamps = 0;
+}

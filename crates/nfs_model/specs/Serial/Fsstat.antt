@@ -1,0 +1,20 @@
+-- FSSTAT (RFC 1813 section 3.3.18).
+use Rattle.std.specs.Prelude.{ℕ, ◌-◌, ◌*◌}
+use Rattle.std.specs.FinMap.{get, len}
+use Rattle.nfs_model.specs.Types.{Space, FsstatDone}
+use Rattle.nfs_model.specs.Server.{Volume, used, block_size, most_inodes}
+use Rattle.nfs_model.specs.Shown.{shown}
+use Rattle.nfs_model.specs.Locate.{Served, told, on_node}
+
+-- the space of a volume; the blocks in files are what is used
+abbrev pub space : Volume → Space
+space volume = record {
+  total_bytes = block_size * volume.total;
+  free_bytes = block_size * (volume.total - used volume);
+  inodes = most_inodes;
+  free_inodes = most_inodes - len volume.nodes;
+}
+
+-- the attributes and the space, or STALE
+abbrev pub fsstat : Volume → ℕ → Served
+fsstat volume fileid = on_node 1 (get volume.nodes fileid) (λ node. told (FsstatDone (shown volume fileid node) (space volume)))

@@ -1,0 +1,104 @@
+-- SETATTR (RFC 1813 section 3.3.2), and what it shares with CREATE.
+use Rattle.std.specs.Prelude.{ℕ, ◌-◌, ◌*◌, ◌%◌, Bool, false, ◌||◌, not, nat_le, nat_lt, List, ◌++◌, length, take, replicate, Option, Some, None, is_some, if◌then◌else◌}
+use Rattle.std.specs.FinMap.{get, insert}
+use Rattle.std.specs.FinSet.{retain}
+use Rattle.nfs_model.specs.Types.{Moment, SetTime, Keep, ServerTime, ClientTime, SetAttributes, Status, NotSynchronous, Invalid, TooBig, SetattrDone}
+use Rattle.nfs_model.specs.Server.{Attributes, FileNode, Node, File, Directory, Volume, block_size}
+use Rattle.nfs_model.specs.Shown.{same_moment, times, settled, wcc}
+use Rattle.nfs_model.specs.Locate.{Served, changed, on_node, unless}
+
+-- ---- what several procedures share
+
+-- a client's time has fewer than 1,000,000,000 nanoseconds
+abbrev pub is_bad_time : SetTime → Bool
+is_bad_time Keep = false
+is_bad_time ServerTime = false
+is_bad_time (ClientTime t) = nat_le 1000000000 t.nanoseconds
+
+-- either time is bad
+abbrev pub has_bad_time : SetAttributes → Bool
+has_bad_time set = is_bad_time set.atime || is_bad_time set.mtime
+
+-- a time as time_how says, at a moment, from an old one
+abbrev pub time_after : SetTime → Moment → Moment → Moment
+time_after Keep moment old = old
+time_after ServerTime moment old = moment
+time_after (ClientTime t) moment old = t
+
+-- a number given, or the old one
+abbrev pub given : Option ℕ → ℕ → ℕ
+given None old = old
+given (Some n) old = n
+
+-- a mode keeps its low 12 bits
+abbrev pub given_mode : Option ℕ → ℕ → ℕ
+given_mode None old = old
+given_mode (Some n) old = n % 4096
+
+-- a size over the largest
+abbrev pub is_past : Option ℕ → ℕ → Bool
+is_past None largest = false
+is_past (Some n) largest = nat_lt largest n
+
+-- bytes cut, or grown by a hole
+abbrev pub resized_bytes : ℕ → List ℕ → List ℕ
+resized_bytes size bytes = take size bytes ++ replicate (size - length bytes) 0
+
+-- a file cut or grown: the blocks wholly past the end are freed
+abbrev pub resized : Option ℕ → FileNode → FileNode
+resized None f = f
+resized (Some size) f = record f { bytes = resized_bytes size f.bytes; filled = retain f.filled (λ b. nat_lt (block_size * b) size) }
+
+-- attributes given; a size given sets mtime, and ctime is always set
+abbrev pub set_attributes : SetAttributes → Moment → Attributes → Attributes
+set_attributes set moment a = record {
+  mode = given_mode set.mode a.mode;
+  uid = given set.uid a.uid;
+  gid = given set.gid a.gid;
+  atime = time_after set.atime moment a.atime;
+  mtime = time_after set.mtime moment (if is_some set.size then moment else a.mtime);
+  ctime = moment;
+}
+
+-- a file that settles and is set
+abbrev pub set_file : SetAttributes → Moment → FileNode → FileNode
+set_file set moment f = record (resized set.size (settled f)) { attributes = set_attributes set moment (settled f).attributes }
+
+-- ---- the procedure
+
+-- sattrguard3 (RFC 1813 section 3.3.2) names another ctime
+abbrev pub is_stale_guard : Option Moment → Moment → Bool
+is_stale_guard None ctime = false
+is_stale_guard (Some g) ctime = not (same_moment g ctime)
+
+-- a size for a directory
+abbrev pub is_sized_directory : Node → Option ℕ → Bool
+is_sized_directory (File f) size = false
+is_sized_directory (Directory d) size = is_some size
+
+-- the first check that fails: the guard, the times, a directory's size, the largest size
+abbrev pub setattr_fault : Volume → SetAttributes → Option Moment → Node → Option Status
+setattr_fault volume set guard node =
+    if is_stale_guard guard (times node).ctime then Some NotSynchronous
+    else if has_bad_time set then Some Invalid
+    else if is_sized_directory node set.size then Some Invalid
+    else if is_past set.size volume.largest then Some TooBig
+    else None
+
+-- a node that is set
+abbrev pub set_node : SetAttributes → Moment → Node → Node
+set_node set moment (File f) = File (set_file set moment f)
+set_node set moment (Directory d) = Directory (record d { attributes = set_attributes set moment d.attributes })
+
+-- a volume with another node at a fileid
+abbrev pub with_node : Volume → ℕ → Node → Volume
+with_node volume fileid node = record volume { nodes = insert volume.nodes fileid node }
+
+-- the answer of a node set
+abbrev pub replaced : Volume → ℕ → Node → Node → Served
+replaced volume fileid old new = changed (SetattrDone (wcc volume fileid old (with_node volume fileid new) new)) (with_node volume fileid new)
+
+-- STALE, then the checks, then the change
+abbrev pub setattr : Volume → ℕ → SetAttributes → Option Moment → Moment → Served
+setattr volume fileid set guard moment = on_node 2 (get volume.nodes fileid) (λ node.
+    unless (setattr_fault volume set guard node) 2 (replaced volume fileid node (set_node set moment node)))

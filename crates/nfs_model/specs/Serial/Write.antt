@@ -1,0 +1,62 @@
+-- WRITE (RFC 1813 section 3.3.7). A block is filled as a whole; memory is stable storage, so what is written is committed (our profile).
+use Rattle.std.specs.Prelude.{ℕ, ◌+◌, ◌-◌, ◌/◌, not, nat_lt, ◌==◌, List, [], ◌∷◌, ◌++◌, length, take, drop, replicate, Option, Some, None, if◌then◌else◌}
+use Rattle.std.specs.List.{range_with_len, filter}
+use Rattle.std.specs.Ordering.{nat_cmp}
+use Rattle.std.specs.FinMap.{get}
+use Rattle.std.specs.FinSet.{FinSet, contains, insert}
+use Rattle.nfs_model.specs.Types.{Moment, Status, Invalid, TooBig, NoSpace, WriteDone}
+use Rattle.nfs_model.specs.Server.{FileNode, File, Volume, used, block_size, most_bytes}
+use Rattle.nfs_model.specs.Shown.{touched}
+use Rattle.nfs_model.specs.Locate.{Served, told, changed, failed, unless, on_file}
+use Rattle.nfs_model.specs.Serial.Setattr.{with_node}
+
+-- the numbers of the blocks that n bytes at an offset meet
+abbrev pub blocks_met : ℕ → ℕ → List ℕ
+blocks_met offset n = if n == 0 then [] else range_with_len (offset / block_size) (((offset + n - 1) / block_size + 1) - offset / block_size)
+
+-- those blocks that aren't filled
+abbrev pub unfilled : FinSet nat_cmp → List ℕ → List ℕ
+unfilled filled blocks = filter (λ b. not (contains filled b)) blocks
+
+-- how many blocks it has to fill
+abbrev pub need : FileNode → ℕ → ℕ → ℕ
+need f offset n = length (unfilled f.filled (blocks_met offset n))
+
+-- what stands before the question of space
+abbrev pub write_fault : Volume → ℕ → ℕ → Option Status
+write_fault volume offset n = if nat_lt volume.largest (offset + n) then Some TooBig else None
+
+-- NOSPC exactly where the blocks in files and those needed exceed the volume's total (our profile)
+abbrev pub space_fault : Volume → FileNode → ℕ → ℕ → Option Status
+space_fault volume f offset n = if nat_lt volume.total (used volume + need f offset n) then Some NoSpace else None
+
+-- a set with these blocks filled
+abbrev pub with_blocks : FinSet nat_cmp → List ℕ → FinSet nat_cmp
+with_blocks filled [] = filled
+with_blocks filled (b ∷ bs) = insert (with_blocks filled bs) b
+
+-- the bytes with others at an offset; a gap is a hole
+abbrev pub written_bytes : List ℕ → ℕ → List ℕ → List ℕ
+written_bytes bytes offset written = take offset bytes ++ replicate (offset - length bytes) 0 ++ written ++ drop (offset + length written) bytes
+
+-- a file after a write: its bytes, blocks and touch; its stored times stay
+abbrev pub written_file : FileNode → ℕ → List ℕ → Moment → FileNode
+written_file f offset written moment = record f {
+  bytes = written_bytes f.bytes offset written;
+  filled = with_blocks f.filled (blocks_met offset (length written));
+  touch = Some (touched f.touch moment);
+}
+
+-- a write of at least one byte
+abbrev pub write_some : Volume → ℕ → FileNode → ℕ → List ℕ → Moment → Served
+write_some volume fileid f offset written moment =
+    unless (write_fault volume offset (length written)) 2
+    (unless (space_fault volume f offset (length written)) 2
+    (changed (WriteDone (length written) volume.verifier) (with_node volume fileid (File (written_file f offset written moment)))))
+
+-- STALE, INVAL for a directory, INVAL for a count that isn't the data's length; a count of 0 changes nothing; then FBIG, NOSPC, the change
+abbrev pub write : Volume → ℕ → ℕ → ℕ → List ℕ → Moment → Served
+write volume fileid offset count written moment = on_file 2 (get volume.nodes fileid) (λ f.
+    if not (count == length written) then failed Invalid 2
+    else if count == 0 then told (WriteDone 0 volume.verifier)
+    else write_some volume fileid f offset (take most_bytes written) moment)

@@ -1,0 +1,138 @@
+-- The server as a client could know it: volumes of named nodes, files as lists of bytes.
+use Rattle.std.specs.Prelude.{ℕ, ◌+◌, ◌*◌, List, [], ◌∷◌, length, take, drop, Option, Some, None, slice_set, nat_lt, ◌==◌, ◌&&◌, if◌then◌else◌, ◌++◌}
+use Rattle.std.specs.Int.{w32, w64, to_be_bytes, from_be_bytes}
+use Rattle.std.specs.Ordering.{nat_cmp}
+use Rattle.std.specs.FinMap.{FinMap, entries, from_sorted}
+use Rattle.std.specs.FinSet.{FinSet}
+use Rattle.std.specs.FinSet as sets
+use Rattle.nfs_model.specs.Types.{Moment, Listed}
+use Rattle.nfs_model.specs.Tree.{Layout, VolumeLayout}
+
+-- what is stored of fattr3 (RFC 1813 section 2.6)
+pub record Attributes : Type 0 where
+  pub mode : ℕ
+  pub uid : ℕ
+  pub gid : ℕ
+  pub atime : Moment
+  pub mtime : Moment
+  pub ctime : Moment
+
+-- a regular file
+pub record FileNode : Type 0 where
+  pub attributes : Attributes
+  pub bytes : List ℕ
+  pub filled : FinSet nat_cmp  -- the numbers of the blocks that are there
+  pub touch : Option Moment  -- the latest write since the times were last set
+  pub verifier : Option (List ℕ)  -- of the exclusive creation
+
+-- a directory; `.` and `..` aren't in its list
+pub record DirectoryNode : Type 0 where
+  pub attributes : Attributes
+  pub parent : ℕ
+  pub next : ℕ  -- the next cookie
+  pub list : List Listed  -- by rising cookies
+
+-- an inode
+pub data Node : Type 0 where
+  File : (file : FileNode) → Node
+  Directory : (directory : DirectoryNode) → Node
+
+-- A file system: its nodes by fileid (RFC 1813 section 2.5). Fileids grow and aren't used again.
+pub record Volume : Type 0 where
+  pub number : ℕ
+  pub aggregate : ℕ
+  pub total : ℕ  -- blocks
+  pub largest : ℕ  -- size of a file
+  pub stripes : ℕ
+  pub verifier : List ℕ  -- of writes, fixed for the run
+  pub next : ℕ  -- the next fileid
+  pub nodes : FinMap nat_cmp Node
+
+-- the whole state that calls see
+pub record Server : Type 0 where
+  pub spare : List ℕ  -- the spare ranges of each aggregate
+  pub volumes : List Volume
+
+-- ---- numbers of the profile
+
+-- bytes of a block
+abbrev pub block_size : ℕ
+block_size = 4096
+
+-- larger counts of READ, WRITE and READDIR are taken as this
+abbrev pub most_bytes : ℕ
+most_bytes = 65536
+
+-- the root with them
+abbrev pub most_inodes : ℕ
+most_inodes = 65536
+
+-- ---- the beginning
+
+-- 0 seconds, 0 nanoseconds
+abbrev pub start_of_times : Moment
+start_of_times = record { seconds = 0; nanoseconds = 0 }
+
+-- the root as it begins, its own parent, with mode 0755 (octal)
+abbrev pub root_node : Node
+root_node = Directory (record {
+  attributes = record { mode = 493; uid = 0; gid = 0; atime = start_of_times; mtime = start_of_times; ctime = start_of_times };
+  parent = 1;
+  next = 3;
+  list = [];
+})
+
+-- a volume as it begins: its root has fileid 1
+abbrev pub opening_volume : List ℕ → ℕ → VolumeLayout → Volume
+opening_volume verifier number layout = record {
+  number = number;
+  aggregate = layout.aggregate;
+  total = 1024 * layout.ranges;
+  largest = 1048576 * layout.mebibytes;
+  stripes = layout.stripes;
+  verifier = verifier;
+  next = 2;
+  nodes = from_sorted ((1, root_node) ∷ []);
+}
+
+-- volumes numbered from a number on
+abbrev pub opening_volumes : List ℕ → ℕ → List VolumeLayout → List Volume
+opening_volumes verifier number [] = []
+opening_volumes verifier number (v ∷ vs) = opening_volume verifier number v ∷ opening_volumes verifier (number + 1) vs
+
+-- the server as it begins
+abbrev pub opening : Layout → List ℕ → Server
+opening layout verifier = record { spare = layout.spare; volumes = opening_volumes verifier 0 layout.volumes }
+
+-- ---- counts
+
+-- the blocks of a node; a directory has none
+abbrev pub filled_in : Node → ℕ
+filled_in (File f) = sets.len f.filled
+filled_in (Directory d) = 0
+
+-- the blocks of nodes
+abbrev pub blocks_of : List (ℕ × Node) → ℕ
+blocks_of [] = 0
+blocks_of (e ∷ es) = filled_in e.1 + blocks_of es
+
+-- the blocks in files
+abbrev pub used : Volume → ℕ
+used volume = blocks_of (entries volume.nodes)
+
+-- ---- handles
+
+-- nfs_fh3 (RFC 1813 section 2.6): volume and fileid (our profile)
+abbrev pub handle_bytes : ℕ → ℕ → List ℕ
+handle_bytes volume fileid = to_be_bytes w32 volume ++ to_be_bytes w64 fileid
+
+-- the volume and the fileid of a good handle, where there are so many volumes
+abbrev pub handle_of : ℕ → List ℕ → Option (ℕ × ℕ)
+handle_of volumes bytes =
+    if (length bytes == 12) && nat_lt (from_be_bytes w32 (take 4 bytes)) volumes
+    then Some (from_be_bytes w32 (take 4 bytes), from_be_bytes w64 (drop 4 bytes))
+    else None
+
+-- the server with another volume at a place
+abbrev pub with_volume : Server → ℕ → Volume → Server
+with_volume server index volume = record server { volumes = slice_set server.volumes index volume }

@@ -1,0 +1,179 @@
+-- What calls ask and what replies tell, as plain data (RFC 1813 sections 2.5 and 2.6, RFC 5531 section 9). Bytes stand as lists of numbers.
+use Rattle.std.specs.Prelude.{ℕ, Bool, List, Option}
+
+-- nfstime3 (RFC 1813 section 2.6)
+pub record Moment : Type 0 where
+  pub seconds : ℕ
+  pub nanoseconds : ℕ
+
+-- whom a call acts for (RFC 5531 appendix A); without one, 65534 for both (our profile)
+pub record Credential : Type 0 where
+  pub uid : ℕ
+  pub gid : ℕ
+
+-- ---- what is asked
+
+-- time_how, with set_atime or set_mtime (RFC 1813 section 2.6)
+pub data SetTime : Type 0 where
+  Keep : SetTime
+  ServerTime : SetTime
+  ClientTime : (moment : Moment) → SetTime
+
+-- sattr3 (RFC 1813 section 2.6)
+pub record SetAttributes : Type 0 where
+  pub mode : Option ℕ
+  pub uid : Option ℕ
+  pub gid : Option ℕ
+  pub size : Option ℕ
+  pub atime : SetTime
+  pub mtime : SetTime
+
+-- createhow3 (RFC 1813 section 3.3.8)
+pub data CreateMode : Type 0 where
+  Unchecked : (set : SetAttributes) → CreateMode
+  Guarded : (set : SetAttributes) → CreateMode
+  Exclusive : (verifier : List ℕ) → CreateMode
+
+-- One constructor for each procedure, with its arguments (RFC 1813 section 3.3). A handle is the bytes that came, good or bad; so is a name. How stable a WRITE is to be isn't kept, since every one is stable. CENSUS and GROW are of the admin program (our profile).
+pub data Call : Type 0 where
+  Null : Call
+  Getattr : (handle : List ℕ) → Call
+  Setattr : (handle : List ℕ) (set : SetAttributes) (guard : Option Moment) → Call
+  Lookup : (directory name : List ℕ) → Call
+  Read : (handle : List ℕ) (offset count : ℕ) → Call
+  Write : (handle : List ℕ) (offset count : ℕ) (written : List ℕ) → Call
+  Create : (directory name : List ℕ) (mode : CreateMode) → Call
+  Mkdir : (directory name : List ℕ) (set : SetAttributes) → Call
+  Remove : (directory name : List ℕ) → Call
+  Rmdir : (directory name : List ℕ) → Call
+  Rename : (from from_name to to_name : List ℕ) → Call
+  Readdir : (directory : List ℕ) (cookie : ℕ) (verifier : List ℕ) (count : ℕ) → Call
+  Fsstat : (handle : List ℕ) → Call
+  Commit : (handle : List ℕ) → Call
+  Census : Call
+  Grow : (volume ranges : ℕ) → Call
+
+-- ---- what is answered
+
+-- nfsstat3, but for OK (RFC 1813 section 2.6)
+pub data Status : Type 0 where
+  NoEntry : Status
+  Access : Status
+  Exists : Status
+  CrossVolume : Status
+  NotDirectory : Status
+  IsDirectory : Status
+  Invalid : Status
+  TooBig : Status
+  NoSpace : Status
+  NameTooLong : Status
+  NotEmpty : Status
+  Stale : Status
+  BadHandle : Status
+  NotSynchronous : Status
+  BadCookie : Status
+  TooSmall : Status
+
+-- its number (RFC 1813 section 2.6)
+abbrev pub status_word : Status → ℕ
+status_word NoEntry = 2
+status_word Access = 13
+status_word Exists = 17
+status_word CrossVolume = 18
+status_word NotDirectory = 20
+status_word IsDirectory = 21
+status_word Invalid = 22
+status_word TooBig = 27
+status_word NoSpace = 28
+status_word NameTooLong = 63
+status_word NotEmpty = 66
+status_word Stale = 70
+status_word BadHandle = 10001
+status_word NotSynchronous = 10002
+status_word BadCookie = 10003
+status_word TooSmall = 10005
+
+-- ftype3: NF3REG and NF3DIR (RFC 1813 section 2.6)
+pub data Kind : Type 0 where
+  Regular : Kind
+  Folder : Kind
+
+-- fattr3, the attributes that a reply shows (RFC 1813 section 2.6); rdev is zero
+pub record Shown : Type 0 where
+  pub kind : Kind
+  pub mode : ℕ
+  pub links : ℕ
+  pub uid : ℕ
+  pub gid : ℕ
+  pub size : ℕ
+  pub used : ℕ
+  pub fsid : ℕ
+  pub fileid : ℕ
+  pub atime : Moment
+  pub mtime : Moment
+  pub ctime : Moment
+
+-- wcc_attr (RFC 1813 section 2.6)
+pub record Before : Type 0 where
+  pub size : ℕ
+  pub mtime : Moment
+  pub ctime : Moment
+
+-- wcc_data with both parts, the attributes before and after a call (RFC 1813 section 2.6)
+pub record Wcc : Type 0 where
+  pub before : Before
+  pub after : Shown
+
+-- entry3 (RFC 1813 section 3.3.16)
+pub record Listed : Type 0 where
+  pub cookie : ℕ
+  pub name : List ℕ
+  pub fileid : ℕ
+
+-- the numbers of FSSTAT (RFC 1813 section 3.3.18), of which the free and the available are the same
+pub record Space : Type 0 where
+  pub total_bytes : ℕ
+  pub free_bytes : ℕ
+  pub inodes : ℕ
+  pub free_inodes : ℕ
+
+-- what CENSUS tells of a volume, in blocks (our profile)
+pub record VolumeCount : Type 0 where
+  pub volume : ℕ
+  pub total : ℕ
+  pub used : ℕ
+
+-- The results of a call that was decoded (RFC 1813 section 3.3). In an OK arm every optional part is there, but READ and WRITE give no attributes; a failure has a status and some optional parts, all absent: so many zero words (our profile).
+pub data Answer : Type 0 where
+  NullDone : Answer
+  GetattrDone : (attributes : Shown) → Answer
+  SetattrDone : (change : Wcc) → Answer
+  LookupDone : (handle : List ℕ) (object directory : Shown) → Answer
+  ReadDone : (count : ℕ) (eof : Bool) (bytes : List ℕ) → Answer
+  WriteDone : (count : ℕ) (verifier : List ℕ) → Answer
+  MadeDone : (handle : List ℕ) (object : Shown) (directory : Wcc) → Answer
+  GoneDone : (directory : Wcc) → Answer
+  RenameDone : (from to : Wcc) → Answer
+  ReaddirDone : (directory : Shown) (page : List Listed) (eof : Bool) → Answer
+  FsstatDone : (root : Shown) (space : Space) → Answer
+  CommitDone : (file : Wcc) (verifier : List ℕ) → Answer
+  CensusDone : (volumes : List VolumeCount) → Answer
+  GrowDone : (total : ℕ) → Answer
+  Failed : (status : Status) (absent : ℕ) → Answer
+
+-- the reply of RPC (RFC 5531 section 9)
+pub data Reply : Type 0 where
+  Success : (answer : Answer) → Reply
+  ProgramUnavailable : Reply
+  ProgramMismatch : (low high : ℕ) → Reply
+  ProcedureUnavailable : Reply
+  GarbageArguments : Reply
+  SystemError : Reply
+  RpcMismatch : (low high : ℕ) → Reply
+  AuthError : (number : ℕ) → Reply
+
+-- What a record asks: a call, or one that RPC refuses with this reply. One whose decoding found no memory shows no call (our profile).
+pub data Asked : Type 0 where
+  Ask : (call : Call) (credential : Credential) → Asked
+  Refused : (reply : Reply) → Asked
+  Undecoded : Asked
