@@ -1,0 +1,9 @@
+pub mod Bytes
+pub mod Runs
+pub mod Standing
+pub mod Scans
+pub mod Streams
+pub mod Chunks
+pub mod Came
+pub mod Feeding
+pub mod Unique

@@ -1,0 +1,5 @@
+pub mod Records
+pub mod Machine
+pub mod Stream
+pub mod Place
+pub mod Feeds
