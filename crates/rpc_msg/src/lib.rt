@@ -1,8 +1,16 @@
 //! Heads of calls and whole replies of RPC (RFC 5531) as bytes.
 #![tactic(auto)]
 
+mod credential;
+mod fault;
+mod head;
+mod items;
 mod laws;
 mod reply;
+mod stop;
 
+pub use fault::Fault;
+pub use head::{Body, Head, read_call};
+pub use nfs_values::Procedure as Served;
 pub use laws::short_replies_are_short;
 pub use reply::{size_of_reply, write_reply, write_reply_record};

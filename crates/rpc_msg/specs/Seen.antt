@@ -1,0 +1,55 @@
+-- What the code's values are in the definitions.
+use Rattle.std.specs.Prelude.{◌≡◌, ℕ, List, Result, Ok, Err}
+use Rattle.std.specs.Borrow.{Bor}
+use Rattle.xdr.specs.Reading.{Reads}
+use Rattle.nfs_values.specs.Credential.{credential_of}
+use Rattle.nfs_values.specs.Reply.{reply_of}
+use Rattle.rpc_msg.specs.declared.fault.Fault.{Fault}
+use Rattle.rpc_msg.specs.declared.fault.Fault.TheVariants.{BadHeader, NotACall}
+use Rattle.rpc_msg.specs.declared.stop.Stop.{Stop}
+use Rattle.rpc_msg.specs.declared.stop.Stop.TheVariants as stops
+use Rattle.rpc_msg.specs.declared.head.Body.{Body}
+use Rattle.rpc_msg.specs.declared.head.Numbers.{Numbers}
+use Rattle.rpc_msg.specs.declared.head.Head.{Head}
+use Rattle.rpc_msg.specs.declared.head.Head.TheVariants as codes
+use Rattle.xdr.specs.Shape.{Value}
+use Rattle.rpc_msg.specs.Replies.{auth_shape}
+use Rattle.rpc_msg.specs.Heads.{numbers_shape}
+use Rattle.rpc_msg.specs.Heads as heads
+
+-- BadHeader and NotACall (our profile)
+abbrev pub fault_number : Fault → ℕ
+fault_number BadHeader = 12
+fault_number NotACall = 13
+
+abbrev pub stop_of : Stop → heads.Stop
+stop_of (stops.Fault fault) = heads.Fault (fault_number fault)
+stop_of (stops.Refuse reply) = heads.Refuse (reply_of reply)
+
+abbrev pub numbers_value : Numbers → Value numbers_shape
+numbers_value n = (n.program, (n.version, (n.procedure, (n.flavor, n.size))))
+
+abbrev pub auth_value : ℕ × Bor (List ℕ) → Value auth_shape
+auth_value a = (a.0, a.1.now)
+
+abbrev pub body_of : Body → heads.Body
+body_of b = record { procedure = b.procedure; credential = credential_of b.credential; arguments = b.arguments.now }
+
+abbrev pub head_seen : Head → heads.Head
+head_seen (codes.Call xid body) = heads.Call xid (body_of body)
+head_seen (codes.Refused xid reply) = heads.Refused xid (reply_of reply)
+head_seen (codes.Fault fault) = heads.Faulty (fault_number fault)
+
+-- What was returned, seen by these views, is what a step gives.
+abbrev pub Says : {X Y E F : Type 0} → (X → Y) → (E → F) → Result X E → Result Y F → Type 0
+Says view error (Ok x) step = step ≡ Ok (view x)
+Says view error (Err e) step = step ≡ Err (error e)
+
+-- a value, and the bytes behind it
+abbrev pub with_rest : {X Y : Type 0} → (X → Y) → X × Bor (List ℕ) → Y × List ℕ
+with_rest view x = (view x.0, x.1.now)
+
+-- what is read and not kept
+abbrev pub passed : {A : Type 0} → Reads A → Reads (Unit {0})
+passed (Ok x) = Ok (tt, x.1)
+passed (Err fault) = Err fault
