@@ -136,12 +136,12 @@ body_at bytes =
 
 -- what a record's head says
 pub data Head : Type 0 where
-  Call : (xid : ℕ) (body : Body) → Head
+  Call : (xid : ℕ) (procedure : Procedure) (credential : model.Credential) (arguments : List ℕ) → Head
   Refused : (xid : ℕ) (reply : model.Reply) → Head
   Faulty : (number : ℕ) → Head
 
 abbrev pub under : ℕ → Result Body Stop → Head
-under xid (Ok body) = Call xid body
+under xid (Ok body) = Call xid body.procedure body.credential body.arguments
 under xid (Err (Refuse reply)) = Refused xid reply
 under xid (Err (Fault number)) = Faulty number
 

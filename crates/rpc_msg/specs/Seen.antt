@@ -36,8 +36,8 @@ abbrev pub body_of : Body → heads.Body
 body_of b = record { procedure = b.procedure; credential = credential_of b.credential; arguments = b.arguments.now }
 
 abbrev pub head_seen : Head → heads.Head
-head_seen (codes.Call xid body) = heads.Call xid (body_of body)
-head_seen (codes.Refused xid reply) = heads.Refused xid (reply_of reply)
+head_seen (codes.Call xid procedure credential arguments) = heads.Call xid procedure (credential_of credential) arguments.now
+head_seen (codes.Refuse xid reply) = heads.Refused xid (reply_of reply)
 head_seen (codes.Fault fault) = heads.Faulty (fault_number fault)
 
 -- What was returned, seen by these views, is what a step gives.

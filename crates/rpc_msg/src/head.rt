@@ -5,7 +5,7 @@ ghost use Rattle.xdr.specs.Shape.{Word, Pair};
 ghost use Rattle.xdr.specs.Reading.{read};
 ghost use Rattle.nfs_values.specs.Credential.{credential_of};
 ghost use Rattle.rpc_msg.specs.Replies.{auth_shape};
-ghost use Rattle.rpc_msg.specs.Heads.{body_at, head_of, numbers_shape, procedure_of, version_at, whole, xid_at};
+ghost use Rattle.rpc_msg.specs.Heads.{body_at, head_of, numbers_shape, procedure_of, version_at, version_of, whole, xid_at};
 ghost use Rattle.rpc_msg.specs.Seen.{Says, auth_value, body_of, fault_number, head_seen, numbers_value, stop_of, with_rest};
 
 use crate::credential::read_credential;
@@ -24,21 +24,28 @@ const NFS_VERSION: u32 = 3;
 /// The version of the admin calls (our profile).
 const ADMIN_VERSION: u32 = 1;
 
-/// What follows the message type of a call that is served.
-#[derive(Drop)]
-pub struct Body<'a> {
-    pub procedure: Procedure,
-    pub credential: Credential,
-    /// The bytes behind the head.
-    pub arguments: &'a [u8],
-}
-
 /// What the head of a record says.
 #[derive(Drop)]
 pub enum Head<'a> {
-    Call { xid: u32, body: Body<'a> },
-    Refused { xid: u32, reply: Reply },
+    /// A call that is served. Its arguments are the bytes behind the head.
+    Call {
+        xid: u32,
+        procedure: Procedure,
+        credential: Credential,
+        arguments: &'a [u8],
+    },
+    /// A call that is refused, whatever its arguments.
+    Refuse { xid: u32, reply: Reply },
+    /// No call.
     Fault(Fault),
+}
+
+/// What follows the message type of a call that is served.
+#[derive(Drop)]
+struct Body<'a> {
+    procedure: Procedure,
+    credential: Credential,
+    arguments: &'a [u8],
 }
 
 /// The number of a call, and what stands behind its message type.
@@ -103,14 +110,23 @@ fn read_auth(bytes: &[u8]) -> Result<((u32, &[u8]), &[u8]), Stop>
     Ok(((flavor, body), rest))
 }
 
+/// The version that is served of a program.
+fn version_of(program: u32) -> Option<u32>
+    ensures { result ≡ version_of program }
+{
+    match program {
+        NFS_PROGRAM => Some(NFS_VERSION),
+        ADMIN_PROGRAM => Some(ADMIN_VERSION),
+        _ => None,
+    }
+}
+
 /// The procedure of this number in this version of a program.
 fn served(program: u32, version: u32, number: u32) -> Result<Procedure, Stop>
     ensures { Says (λ p. p) stop_of result (procedure_of program version number) }
 {
-    let served = match program {
-        NFS_PROGRAM => NFS_VERSION,
-        ADMIN_PROGRAM => ADMIN_VERSION,
-        _ => return Err(Stop::Refuse(Reply::ProgramUnavailable)),
+    let Some(served) = version_of(program) else {
+        return Err(Stop::Refuse(Reply::ProgramUnavailable));
     };
     if version != served {
         return Err(Stop::Refuse(Reply::ProgramMismatch {
@@ -151,8 +167,17 @@ pub fn read_call(bytes: &[u8]) -> Head<'_>
         Err(fault) => return Head::Fault(fault),
     };
     match read_body(rest) {
-        Ok(body) => Head::Call { xid, body },
-        Err(Stop::Refuse(reply)) => Head::Refused { xid, reply },
+        Ok(Body {
+            procedure,
+            credential,
+            arguments,
+        }) => Head::Call {
+            xid,
+            procedure,
+            credential,
+            arguments,
+        },
+        Err(Stop::Refuse(reply)) => Head::Refuse { xid, reply },
         Err(Stop::Fault(fault)) => Head::Fault(fault),
     }
 }

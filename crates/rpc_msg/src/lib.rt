@@ -10,7 +10,7 @@ mod reply;
 mod stop;
 
 pub use fault::Fault;
-pub use head::{Body, Head, read_call};
+pub use head::{Head, read_call};
 pub use nfs_values::Procedure as Served;
 pub use laws::short_replies_are_short;
 pub use reply::{size_of_reply, write_reply, write_reply_record};
