@@ -16,3 +16,5 @@ pub mod KeptByConnections
 pub mod KeptByWorkers
 pub mod Kept
 pub mod KeptByFeed
+pub mod Counting
+pub mod KeptByBlocks

@@ -1,9 +1,8 @@
--- A run whose codec serves only calls that change nothing, and the events of calls.
+-- A run whose codec serves only calls that change nothing.
 use Rattle.std.specs.Prelude.{ℕ, List}
 use Rattle.std.specs.List.{AllByRecursion}
 use Rattle.nfs_model.specs.Types.{Call, Null, Getattr, Asked, Ask, Refused, Undecoded}
 use Rattle.nfs_model.specs.World.{Setup}
-use Rattle.nfs_model.specs.Events.Refusals.{Event, Open, Feed, Close, Begin, Work, Finish}
 
 -- NULL and GETATTR (RFC 1813 sections 3.3.0 and 3.3.1)
 abbrev pub IsReading : Call → Type 0
@@ -20,13 +19,3 @@ AsksReading Undecoded = Unit {0}
 -- whatever comes on a connection
 abbrev pub IsReadOnly : Setup → Type 0
 IsReadOnly setup = (stream : List ℕ) → AllByRecursion (λ h. AsksReading h.asked) (setup.codec.scan stream).served
-
--- the events of connections and calls; the others move block numbers
-abbrev pub IsOfCalls : Event → Type 0
-IsOfCalls Open = Unit {0}
-IsOfCalls (Feed connection bytes) = Unit {0}
-IsOfCalls (Close connection) = Unit {0}
-IsOfCalls (Begin worker place moment) = Unit {0}
-IsOfCalls (Work worker) = Unit {0}
-IsOfCalls (Finish worker) = Unit {0}
-IsOfCalls event = ⊥

@@ -1,7 +1,6 @@
 //! What holds of the definitions.
 
 ghost use Rattle.std.specs.Prelude.{◌≡◌, None, Result, List, ℕ, [], ◌∷◌, ◌++◌, length};
-ghost use Rattle.std.specs.List.{AllByRecursion};
 ghost use Rattle.nfs_model.specs.Types.{Call, Credential, Moment};
 ghost use Rattle.nfs_model.specs.Tree.{Layout};
 ghost use Rattle.nfs_model.specs.Server.{Server};
@@ -12,7 +11,7 @@ ghost use Rattle.nfs_model.specs.World.{Setup, World, IsScan};
 ghost use Rattle.nfs_model.specs.Events.Refusals.{Event, Done};
 ghost use Rattle.nfs_model.specs.Events.Step.{Events, Runs};
 ghost use Rattle.nfs_model.specs.Headline.{Headline, opening_world};
-ghost use Rattle.nfs_model.specs.ReadOnly.{IsReadOnly, IsOfCalls};
+ghost use Rattle.nfs_model.specs.ReadOnly.{IsReadOnly};
 
 /// A run begins within the headline.
 pub fn opening_meets_headline()
@@ -27,24 +26,22 @@ pub fn without_home_stays()
         → serve server call credential moment ≡ stay server (answer_without_home layout call) }
 {}
 
-/// In a run that serves only calls that change nothing, each event of connections and calls keeps
-/// the headline, whether it is refused or not, for any number of workers.
+/// In a run that serves only calls that change nothing, each event keeps the headline, whether it
+/// is refused or not, for any number of workers.
 pub fn events_keep_headline()
     ensures { (setup : Setup) (old : World) (event : Event) (answer : Result Done ℕ) (new : World)
         → IsReadOnly setup
         → IsScan setup.codec
         → Headline setup old
-        → IsOfCalls event
         → Events setup old event answer new
         → Headline setup new }
 {}
 
-/// So does a whole run of such events, from its beginning on.
+/// So does a whole run, from its beginning on.
 pub fn runs_meet_headline()
     ensures { (setup : Setup) (events : List Event) (new : World)
         → IsReadOnly setup
         → IsScan setup.codec
-        → AllByRecursion IsOfCalls events
         → Runs setup (opening_world setup) events new
         → Headline setup new }
 {}

@@ -1,8 +1,8 @@
 -- How block numbers go from one part of a volume to another (our profile). How many is given; which ones is mostly free.
-use Rattle.std.specs.Prelude.{◌≡◌, ℕ, ◌-◌, ◌/◌, min, ◌==◌, IsTrue, List, [], ◌∷◌, length, map, take}
+use Rattle.std.specs.Prelude.{◌≡◌, ℕ, ◌-◌, ◌*◌, min, IsTrue, List, [], ◌∷◌, length, map, take}
 use Rattle.std.specs.List.{range_with_len, filter}
 use Rattle.std.specs.Ordering.{nat_cmp}
-use Rattle.std.specs.FinSet.{FinSet, is_subset, difference, union, from_list, len, items}
+use Rattle.std.specs.FinSet.{FinSet, is_subset, difference, union, from_list, len, contains}
 use Rattle.nfs_model.specs.Types.{Call, Write, Setattr, Create, Remove, Rename, Grow}
 use Rattle.nfs_model.specs.Tree.{Affinity, Volume, Logical}
 use Rattle.nfs_model.specs.Server as servers
@@ -55,22 +55,23 @@ PartsChange call affinity v w old new = new ≡ old
 
 -- ---- batches
 
--- the blocks of a range, lowest first
-abbrev pub in_range : ℕ → FinSet nat_cmp → List ℕ
-in_range range blocks = filter (λ b. b / 1024 == range) (items blocks)
+-- the numbers of a range that are in a set, lowest first
+unfoldable pub in_range : ℕ → FinSet nat_cmp → List ℕ
+in_range range blocks = filter (contains blocks) (range_with_len (1024 * range) 1024)
 
--- at most 64, the lowest
+-- at most 64 of them, the lowest
 abbrev pub batch : ℕ → FinSet nat_cmp → List ℕ
 batch range blocks = take 64 (in_range range blocks)
 
--- a batch of the range of the first of these
-abbrev pub lowest_batch_of : FinSet nat_cmp → List ℕ → List ℕ
-lowest_batch_of blocks [] = []
-lowest_batch_of blocks (b ∷ bs) = batch (b / 1024) blocks
+-- the first of some lists that isn't empty
+abbrev pub first_filled : List (List ℕ) → List ℕ
+first_filled [] = []
+first_filled ([] ∷ rest) = first_filled rest
+first_filled ((b ∷ bs) ∷ rest) = b ∷ bs
 
--- of the range of the lowest
-abbrev pub lowest_batch : FinSet nat_cmp → List ℕ
-lowest_batch blocks = lowest_batch_of blocks (items blocks)
+-- a batch of the range of the lowest; a volume has at most 16 ranges
+unfoldable pub lowest_batch : FinSet nat_cmp → List ℕ
+lowest_batch blocks = first_filled (map (λ r. batch r blocks) (range_with_len 0 16))
 
 -- a batch for the stock; without a block the hand is empty
 abbrev pub fresh_hand : ℕ → List ℕ → Hand

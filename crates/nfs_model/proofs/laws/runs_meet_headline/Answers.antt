@@ -5,4 +5,4 @@ use Rattle.nfs_model.specs.Headline.{opening_world}
 use Rattle.nfs_model.proofs.laws.runs_meet_headline.Goals as goal
 
 pub returns : goal.returns
-returns c = λ setup events new only scan all run. keeps_run setup (read_only_agrees setup only) scan (opening_world setup) events new all run (opening_headline setup)
+returns c = λ setup events new only scan run. keeps_run setup (read_only_agrees setup only) scan (opening_world setup) events new run (opening_headline setup)
