@@ -11,21 +11,15 @@ use Rattle.nfs_values.specs.Procedure.{numbers_of}
 use Rattle.nfs_types.specs.Shapes.{◌&◌}
 use Rattle.rpc_msg.specs.Replies.{auth_shape}
 
--- why a record is no call that is served: a fault of the stream, or a reply that refuses it
+-- why a call isn't served: its head isn't all there, or this reply refuses it
 pub data Stop : Type 0 where
-  Fault : (number : ℕ) → Stop
+  Incomplete : Stop
   Refuse : (reply : model.Reply) → Stop
 
 infixl 10 ◌>>=◌
 abbrev pub ◌>>=◌ : {A B : Type 0} → Result A Stop → (A → Result B Stop) → Result B Stop
 (Ok x) >>= f = f x
 (Err stop) >>= f = Err stop
-
--- ---- faults and refusals
-
--- a head that isn't all there is fault 12; a message that is no call is fault 13 (our profile)
-abbrev pub bad_header : Stop
-bad_header = Fault 12
 
 -- AUTH_ERROR with AUTH_BADCRED and with AUTH_REJECTEDCRED (RFC 5531 section 9)
 abbrev pub bad_credential : Stop
@@ -34,14 +28,14 @@ bad_credential = Refuse (model.AuthError 1)
 abbrev pub rejected_credential : Stop
 rejected_credential = Refuse (model.AuthError 2)
 
--- what is read from the front, where all of it is there
+-- what is read from the front, where it is there
 abbrev pub whole : {A : Type 0} → Reads A → Result (A × List ℕ) Stop
 whole (Ok x) = Ok x
-whole (Err fault) = Err bad_header
+whole (Err fault) = Err Incomplete
 
 -- ---- 1. xid and msg_type, which is CALL 0 (section 9)
 
--- xid, or the number of a fault
+-- xid; a head that isn't all there is fault 12, and a message that is no call fault 13 (our profile)
 abbrev pub xid_of : Reads (ℕ × ℕ) → Result (ℕ × List ℕ) ℕ
 xid_of (Ok m) = if m.0.1 == 0 then Ok (m.0.0, m.1) else Err 13
 xid_of (Err fault) = Err 12
@@ -72,7 +66,7 @@ nobody = record { uid = 65534; gid = 65534 }
 -- the body, where it is all there and its padding is zero
 abbrev pub body_of : Reads (List ℕ) → Result (List ℕ × List ℕ) Stop
 body_of (Ok x) = Ok x
-body_of (Err Short) = Err bad_header
+body_of (Err Short) = Err Incomplete
 body_of (Err fault) = Err bad_credential
 
 -- whom an AUTH_SYS body names
@@ -143,7 +137,7 @@ pub data Head : Type 0 where
 abbrev pub under : ℕ → Result Body Stop → Head
 under xid (Ok body) = Call xid body.procedure body.credential body.arguments
 under xid (Err (Refuse reply)) = Refused xid reply
-under xid (Err (Fault number)) = Faulty number
+under xid (Err Incomplete) = Faulty 12
 
 abbrev pub head_from : Result (ℕ × List ℕ) ℕ → Head
 head_from (Ok m) = under m.0 (body_at m.1)

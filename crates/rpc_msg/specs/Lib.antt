@@ -1,3 +1,4 @@
 pub mod Replies
 pub mod Heads
+pub mod Records
 pub mod Seen

@@ -1,7 +1,10 @@
 -- What the code's values are in the definitions.
-use Rattle.std.specs.Prelude.{◌≡◌, ℕ, List, Result, Ok, Err}
+use Rattle.std.specs.Prelude.{◌≡◌, ℕ, Bool, true, List, Result, Ok, Err}
 use Rattle.std.specs.Borrow.{Bor}
 use Rattle.xdr.specs.Reading.{Reads}
+use Rattle.nfs_model.specs.Types as model
+use Rattle.nfs_model.specs.World as world
+use Rattle.nfs_values.specs.Call.{call_of}
 use Rattle.nfs_values.specs.Credential.{credential_of}
 use Rattle.nfs_values.specs.Reply.{reply_of}
 use Rattle.rpc_msg.specs.declared.fault.Fault.{Fault}
@@ -15,6 +18,9 @@ use Rattle.rpc_msg.specs.declared.head.Head.TheVariants as codes
 use Rattle.xdr.specs.Shape.{Value}
 use Rattle.rpc_msg.specs.Replies.{auth_shape}
 use Rattle.rpc_msg.specs.Heads.{numbers_shape}
+use Rattle.rpc_msg.specs.declared.record.Heard.{Heard}
+use Rattle.rpc_msg.specs.declared.record.Request.{Request}
+use Rattle.rpc_msg.specs.declared.record.Request.TheVariants as requests
 use Rattle.rpc_msg.specs.Heads as heads
 
 -- BadHeader and NotACall (our profile)
@@ -23,7 +29,7 @@ fault_number BadHeader = 12
 fault_number NotACall = 13
 
 abbrev pub stop_of : Stop → heads.Stop
-stop_of (stops.Fault fault) = heads.Fault (fault_number fault)
+stop_of stops.Incomplete = heads.Incomplete
 stop_of (stops.Refuse reply) = heads.Refuse (reply_of reply)
 
 abbrev pub numbers_value : Numbers → Value numbers_shape
@@ -53,3 +59,14 @@ with_rest view x = (view x.0, x.1.now)
 abbrev pub passed : {A : Type 0} → Reads A → Reads (Unit {0})
 passed (Ok x) = Ok (tt, x.1)
 passed (Err fault) = Err fault
+
+-- What a record asks, as it is told. None is told only where memory ran out: where a call is asked by a name or data.
+abbrev pub Tells : ℕ → Request → Bool → Result world.Heard ℕ → Type 0
+Tells xid (requests.Call call credential) memory heard = heard ≡ Ok (record { xid = xid; asked = model.Ask (call_of call) (credential_of credential) })
+Tells xid (requests.Refused reply) memory heard = heard ≡ Ok (record { xid = xid; asked = model.Refused (reply_of reply) })
+Tells xid requests.Undecoded memory heard =
+    (memory ≡ true) × ((call : model.Call) × ((credential : model.Credential) × (heard ≡ Ok (record { xid = xid; asked = model.Ask call credential }))))
+
+abbrev pub Hears : Result Heard Fault → Bool → Result world.Heard ℕ → Type 0
+Hears (Ok h) memory heard = Tells h.xid h.request memory heard
+Hears (Err fault) memory heard = heard ≡ Err (fault_number fault)

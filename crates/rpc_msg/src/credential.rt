@@ -6,7 +6,6 @@ ghost use Rattle.nfs_values.specs.Credential.{credential_of};
 ghost use Rattle.rpc_msg.specs.Heads.{acting, auth_sys_shape, bad_credential, body_of, credential_at, user_of as user_from};
 ghost use Rattle.rpc_msg.specs.Seen.{Says, passed, stop_of, with_rest};
 
-use crate::fault::Fault;
 use crate::items::fixed;
 use crate::stop::Stop;
 use nfs_values::{AuthFault, Credential, Reply};
@@ -70,7 +69,7 @@ fn read_body(bytes: &[u8], size: u32) -> Result<(&[u8], &[u8]), Stop>
 {
     match fixed(bytes, size) {
         Ok(found) => Ok(found),
-        Err(xdr::Fault::Short) => Err(Stop::Fault(Fault::BadHeader)),
+        Err(xdr::Fault::Short) => Err(Stop::Incomplete),
         Err(_padding) => Err(Stop::Refuse(Reply::AuthError(AuthFault::BadCredential))),
     }
 }

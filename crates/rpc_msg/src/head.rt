@@ -178,6 +178,6 @@ pub fn read_call(bytes: &[u8]) -> Head<'_>
             arguments,
         },
         Err(Stop::Refuse(reply)) => Head::Refuse { xid, reply },
-        Err(Stop::Fault(fault)) => Head::Fault(fault),
+        Err(Stop::Incomplete) => Head::Fault(Fault::BadHeader),
     }
 }

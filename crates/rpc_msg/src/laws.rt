@@ -1,7 +1,10 @@
-//! What holds of every reply.
+//! What holds of every record and of every reply.
 
-ghost use Rattle.std.specs.Prelude.{ℕ, ◌≤◌, length};
+ghost use Rattle.std.specs.Prelude.{◌≡◌, ◌⊎◌, ℕ, ◌≤◌, List, length, Ok, Err};
 ghost use Rattle.nfs_model.specs.Types as model;
+ghost use Rattle.nfs_model.specs.World.{Heard, IsDecoded};
+ghost use Rattle.nfs_model.specs.ReadOnly.{AsksReading};
+ghost use Rattle.rpc_msg.specs.Records.{heard};
 ghost use Rattle.rpc_msg.specs.Replies.{reply_record, IsShort};
 
 /// The record of a reply with at most one node's attributes takes at most 116 bytes.
@@ -9,4 +12,25 @@ pub fn short_replies_are_short()
     ensures { (xid : ℕ) (reply : model.Reply)
         → IsShort reply
         → length (reply_record xid reply) ≤ 116 }
+{}
+
+/// A record is no call by fault 12 or 13.
+pub fn record_faults()
+    ensures { (bytes : List ℕ) (number : ℕ)
+        → heard bytes ≡ Err number
+        → (number ≡ 12) ⊎ (number ≡ 13) }
+{}
+
+/// A record asks a call or is refused.
+pub fn records_are_decoded()
+    ensures { (bytes : List ℕ) (h : Heard)
+        → heard bytes ≡ Ok h
+        → IsDecoded h.asked }
+{}
+
+/// A record asks nothing that changes anything, with the procedures that are served.
+pub fn records_ask_readings()
+    ensures { (bytes : List ℕ) (h : Heard)
+        → heard bytes ≡ Ok h
+        → AsksReading h.asked }
 {}
