@@ -18,6 +18,10 @@ no_verifier = (0, [])
 abbrev pub versions_shape : Shape
 versions_shape = Word & Word
 
+-- xid and REPLY, before the body (section 9)
+abbrev pub message : ℕ → List ℕ
+message xid = spelling (Word & Word) (xid, 1)
+
 -- MSG_ACCEPTED, the verifier and accept_stat, before its arm (section 9)
 abbrev pub accepted : ℕ → List ℕ → List ℕ
 accepted status arm = spelling (Word & auth_shape & Word) (0, (no_verifier, status)) ++ arm
@@ -37,9 +41,9 @@ body_bytes model.SystemError = accepted 5 []
 body_bytes (model.RpcMismatch low high) = denied 0 (spelling versions_shape (low, high))
 body_bytes (model.AuthError number) = denied 1 (spelling Word number)
 
--- rpc_msg of a reply (section 9): xid, REPLY and its body
+-- rpc_msg of a reply (section 9)
 abbrev pub reply_bytes : ℕ → model.Reply → List ℕ
-reply_bytes xid reply = spelling (Word & Word) (xid, 1) ++ body_bytes reply
+reply_bytes xid reply = message xid ++ body_bytes reply
 
 -- the record of a reply: one fragment, the last (section 11 and our profile)
 abbrev pub reply_record : ℕ → model.Reply → List ℕ

@@ -5,7 +5,7 @@ ghost use Rattle.std.specs.List.{flat_map};
 ghost use Rattle.xdr.specs.Shape.{word};
 ghost use Rattle.rpc_record.specs.Records.{limit};
 ghost use Rattle.nfs_values.specs.Reply.{reply_of};
-ghost use Rattle.rpc_msg.specs.Replies.{body_bytes, results, reply_bytes, reply_record};
+ghost use Rattle.rpc_msg.specs.Replies.{accepted, body_bytes, denied, message, results, reply_bytes, reply_record};
 
 use nfs_types::{encode_result, size_of_result};
 use nfs_values::Reply;
@@ -49,6 +49,28 @@ fn write_words(words: &[u32], out: &mut Vec<u8>)
     }
 }
 
+/// Appends a reply as far as its accept_stat, and the words of its arm.
+fn write_accepted(xid: u32, status: u32, arm: &[u32], out: &mut Vec<u8>)
+    requires { vec_len out.old + 24 + 4 * length arm.now ≤ vec_capacity out.old }
+    ensures items { out.new.items
+        ≡ out.old.items ++ (message xid ++ accepted status (flat_map word arm.now)) }
+    ensures capacity { vec_capacity out.old ≤ vec_capacity out.new }
+{
+    write_words(&[xid, REPLY, MSG_ACCEPTED, AUTH_NONE, 0, status], out);
+    write_words(arm, out);
+}
+
+/// Appends a reply as far as its reject_stat, and the words of its arm.
+fn write_denied(xid: u32, reason: u32, arm: &[u32], out: &mut Vec<u8>)
+    requires { vec_len out.old + 16 + 4 * length arm.now ≤ vec_capacity out.old }
+    ensures items { out.new.items
+        ≡ out.old.items ++ (message xid ++ denied reason (flat_map word arm.now)) }
+    ensures capacity { vec_capacity out.old ≤ vec_capacity out.new }
+{
+    write_words(&[xid, REPLY, MSG_DENIED, reason], out);
+    write_words(arm, out);
+}
+
 /// Appends a reply, for which there is room.
 fn append(xid: u32, reply: &Reply, out: &mut Vec<u8>)
     requires small { length (results (reply_of reply.now)) < 2 ^ 32 }
@@ -59,42 +81,18 @@ fn append(xid: u32, reply: &Reply, out: &mut Vec<u8>)
 {
     match reply {
         Reply::Success(answer) => {
-            write_words(&[xid, REPLY, MSG_ACCEPTED, AUTH_NONE, 0, SUCCESS], out);
+            write_accepted(xid, SUCCESS, &[], out);
             encode_result(out, answer).unwrap();
         }
-        Reply::ProgramUnavailable => {
-            write_words(&[xid, REPLY, MSG_ACCEPTED, AUTH_NONE, 0, PROG_UNAVAIL], out);
-        }
+        Reply::ProgramUnavailable => write_accepted(xid, PROG_UNAVAIL, &[], out),
         Reply::ProgramMismatch { low, high } => {
-            write_words(
-                &[
-                    xid,
-                    REPLY,
-                    MSG_ACCEPTED,
-                    AUTH_NONE,
-                    0,
-                    PROG_MISMATCH,
-                    *low,
-                    *high,
-                ],
-                out,
-            );
+            write_accepted(xid, PROG_MISMATCH, &[*low, *high], out);
         }
-        Reply::ProcedureUnavailable => {
-            write_words(&[xid, REPLY, MSG_ACCEPTED, AUTH_NONE, 0, PROC_UNAVAIL], out);
-        }
-        Reply::GarbageArguments => {
-            write_words(&[xid, REPLY, MSG_ACCEPTED, AUTH_NONE, 0, GARBAGE_ARGS], out);
-        }
-        Reply::SystemError => {
-            write_words(&[xid, REPLY, MSG_ACCEPTED, AUTH_NONE, 0, SYSTEM_ERR], out);
-        }
-        Reply::RpcMismatch { low, high } => {
-            write_words(&[xid, REPLY, MSG_DENIED, RPC_MISMATCH, *low, *high], out);
-        }
-        Reply::AuthError(fault) => {
-            write_words(&[xid, REPLY, MSG_DENIED, AUTH_ERROR, fault.number()], out);
-        }
+        Reply::ProcedureUnavailable => write_accepted(xid, PROC_UNAVAIL, &[], out),
+        Reply::GarbageArguments => write_accepted(xid, GARBAGE_ARGS, &[], out),
+        Reply::SystemError => write_accepted(xid, SYSTEM_ERR, &[], out),
+        Reply::RpcMismatch { low, high } => write_denied(xid, RPC_MISMATCH, &[*low, *high], out),
+        Reply::AuthError(fault) => write_denied(xid, AUTH_ERROR, &[fault.number()], out),
     }
 }
 

@@ -1,5 +1,0 @@
-use Rattle.rpc_msg.proofs.Hearing.{fault_of_record}
-use Rattle.rpc_msg.proofs.laws.record_faults.Goals as goal
-
-pub returns : goal.returns
-returns c = fault_of_record
