@@ -65,10 +65,11 @@ asked_reading : (procedure : Procedure) (credential : model.Credential) (bytes :
 asked_reading procedure credential bytes =
     subst (λ (r : Result model.Call Unread). AsksReading (asked_by credential r)) (sym (asked_is procedure bytes)) (asks_reading procedure credential (all_of (arguments_shape procedure) bytes))
 
-abbrev told : Heard → Result Heard ℕ
+-- what holds of what is asked, where it is told
+abbrev pub told : Heard → Result Heard ℕ
 told h = Ok h
 
-same_heard : (P : model.Asked → Type 0) (made h : Heard) → told made ≡ Ok h → P made.asked → P h.asked
+pub same_heard : (P : model.Asked → Type 0) (made h : Heard) → told made ≡ Ok h → P made.asked → P h.asked
 same_heard P made h e p =
     let same : made ≡ h = cc in
     subst (λ (h : Heard). P h.asked) same p

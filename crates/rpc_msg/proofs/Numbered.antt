@@ -23,4 +23,4 @@ find-none test (p ∷ ps) h = rw (h p) (find-none test ps h)
 pub none_numbered : (program number : ℕ) → ((p : Procedure) → numbers_of p ≢ (program, number)) → find (is_numbered program number) procedures ≡ None
 none_numbered program number h =
     find-none (is_numbered program number) procedures (λ p.
-      unequal (eqb (numbers_of p).0 program) (eqb (numbers_of p).1 number) (λ e d. h p (same_pair (numbers_of p) program number (eqb-true _ _ e) (eqb-true _ _ d))))
+    unequal (eqb (numbers_of p).0 program) (eqb (numbers_of p).1 number) (λ e d. h p (same_pair (numbers_of p) program number (eqb-true _ _ e) (eqb-true _ _ d))))

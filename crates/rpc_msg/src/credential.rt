@@ -13,6 +13,7 @@ use xdr::Cursor;
 
 // auth_flavor (RFC 5531 section 8.2)
 const AUTH_NONE: u32 = 0;
+
 const AUTH_SYS: u32 = 1;
 
 /// The most bytes of a credential's body (RFC 5531 section 8.2).
@@ -75,7 +76,11 @@ fn read_body(bytes: &[u8], size: u32) -> Result<(&[u8], &[u8]), Stop>
 }
 
 /// Whom a credential whose body has `size` bytes acts for, and what stands behind it.
-pub(crate) fn read_credential(flavor: u32, size: u32, bytes: &[u8]) -> Result<(Credential, &[u8]), Stop>
+pub(crate) fn read_credential(
+    flavor: u32,
+    size: u32,
+    bytes: &[u8],
+) -> Result<(Credential, &[u8]), Stop>
     ensures { Says (with_rest credential_of) stop_of result (credential_at flavor size bytes.now) }
 {
     if flavor > AUTH_SYS {

@@ -16,6 +16,7 @@ use nfs_values::{ADMIN_PROGRAM, Credential, NFS_PROGRAM, Procedure, Reply};
 
 // msg_type and rpcvers (RFC 5531 section 9)
 const CALL: u32 = 0;
+
 const RPC_VERSION: u32 = 2;
 
 /// The version of NFS (RFC 1813 section 1.5).
@@ -35,7 +36,10 @@ pub enum Head<'a> {
         arguments: &'a [u8],
     },
     /// A call that is refused, whatever its arguments.
-    Refuse { xid: u32, reply: Reply },
+    Refuse {
+        xid: u32,
+        reply: Reply,
+    },
     /// No call.
     Fault(Fault),
 }
@@ -167,11 +171,13 @@ pub fn read_call(bytes: &[u8]) -> Head<'_>
         Err(fault) => return Head::Fault(fault),
     };
     match read_body(rest) {
-        Ok(Body {
-            procedure,
-            credential,
-            arguments,
-        }) => Head::Call {
+        Ok(
+            Body {
+                procedure,
+                credential,
+                arguments,
+            },
+        ) => Head::Call {
             xid,
             procedure,
             credential,

@@ -34,3 +34,11 @@ pub fn records_ask_readings()
         → heard bytes ≡ Ok h
         → AsksReading h.asked }
 {}
+
+/// A reply that refuses a record is short.
+pub fn refusals_are_short()
+    ensures { (bytes : List ℕ) (h : Heard) (reply : model.Reply)
+        → heard bytes ≡ Ok h
+        → h.asked ≡ model.Refused reply
+        → IsShort reply }
+{}

@@ -8,7 +8,7 @@ use Rattle.rpc_msg.proofs.credential.skip_words.Goals as goal
 pub returns-in_err-u32 : goal.returns-in_err-u32
 returns-in_err-u32 c =
     let e : passed (items_at (λ rest. read Word rest) c.args.count c.args.from.now) ≡ Err c.in_err-u32.field-0.0 =
-        sym c.loop-word.invariant ∙ word_missing c.args.count c.loop-word._word c.loop-word.from c.in_err-u32.field-0.0 (omega arith) c.in_err-u32.ensures.0 in
+    sym c.loop-word.invariant ∙ word_missing c.args.count c.loop-word._word c.loop-word.from c.in_err-u32.field-0.0 (omega arith) c.in_err-u32.ensures.0 in
     search rules
 
 pub loop-word-preserved : goal.loop-word-preserved
