@@ -86,7 +86,7 @@ credential_at flavor size bytes =
 
 -- ---- 6. the procedure (section 9)
 
--- the version of a program that is served: NFS (RFC 1813 section 1.5) and the admin program (our profile)
+-- the version of a program that is served: NFS (RFC 1813 section 2.2) and the admin program (our profile)
 abbrev pub version_of : ℕ → Option ℕ
 version_of program = if program == 100003 then Some 3 else if program == 536870913 then Some 1 else None
 

@@ -11,17 +11,18 @@ use crate::stop::Stop;
 use nfs_values::{AuthFault, Credential, Reply};
 use xdr::Cursor;
 
-// auth_flavor (RFC 5531 section 8.2)
+// Flavors (auth_flavor, RFC 5531 section 8.2).
 const AUTH_NONE: u32 = 0;
 
 const AUTH_SYS: u32 = 1;
 
 /// The most bytes of a credential's body (RFC 5531 section 8.2).
-const MOST: u32 = 400;
+const MOST_BODY: u32 = 400;
 
-/// Reads so many words, of any content.
+/// Reads so many words, of any number.
 fn skip_words(count: u32, from: &mut Cursor<'_>) -> Result<(), xdr::Fault>
-    ensures { Gives (λ x. x) result (passed (items_at (λ rest. read Word rest) count from.old)) from.new }
+    ensures { Gives (λ x. x) result
+        (passed (items_at (λ rest. read Word rest) count from.old)) from.new }
 {
     for _word in 0..count {
         from.u32()?;
@@ -29,7 +30,7 @@ fn skip_words(count: u32, from: &mut Cursor<'_>) -> Result<(), xdr::Fault>
     Ok(())
 }
 
-/// The groups of a user, of any content.
+/// The groups of a user, of any numbers.
 fn skip_groups(from: &mut Cursor<'_>) -> Result<(), xdr::Fault>
     ensures { Gives (λ x. x) result (passed (read (Array 16 Word) from.old)) from.new }
 {
@@ -39,7 +40,8 @@ fn skip_groups(from: &mut Cursor<'_>) -> Result<(), xdr::Fault>
 
 /// The user that a body of AUTH_SYS names (RFC 5531 appendix A).
 fn read_user(body: &[u8]) -> Result<Credential, xdr::Fault>
-    ensures { Says credential_of (λ _. bad_credential) result (user_from (all_of auth_sys_shape body.now)) }
+    ensures { Says credential_of (λ _. bad_credential) result
+        (user_from (all_of auth_sys_shape body.now)) }
 {
     let mut from = Cursor::new(body);
     let _stamp = from.u32()?;
@@ -86,7 +88,7 @@ pub(crate) fn read_credential(
     if flavor > AUTH_SYS {
         return Err(Stop::Refuse(Reply::AuthError(AuthFault::RejectedCredential)));
     }
-    if size > MOST {
+    if size > MOST_BODY {
         return Err(Stop::Refuse(Reply::AuthError(AuthFault::BadCredential)));
     }
     let (body, rest) = read_body(bytes, size)?;

@@ -14,12 +14,13 @@ use crate::items::{opaque, word};
 use crate::stop::Stop;
 use nfs_values::{ADMIN_PROGRAM, Credential, NFS_PROGRAM, Procedure, Reply};
 
-// msg_type and rpcvers (RFC 5531 section 9)
+/// The type of a message that is a call (msg_type, RFC 5531 section 9).
 const CALL: u32 = 0;
 
+/// The version of RPC (RFC 5531 section 9).
 const RPC_VERSION: u32 = 2;
 
-/// The version of NFS (RFC 1813 section 1.5).
+/// The version of NFS (RFC 1813 section 2.2).
 const NFS_VERSION: u32 = 3;
 
 /// The version of the admin calls (our profile).
@@ -145,7 +146,7 @@ fn served(program: u32, version: u32, number: u32) -> Result<Procedure, Stop>
 }
 
 /// The head of a call, behind its message type.
-fn read_body(bytes: &[u8]) -> Result<Body<'_>, Stop>
+fn read_call_body(bytes: &[u8]) -> Result<Body<'_>, Stop>
     ensures { Says body_of stop_of result (body_at bytes.now) }
 {
     let rest = read_version(bytes)?;
@@ -170,7 +171,7 @@ pub fn read_call(bytes: &[u8]) -> Head<'_>
         Ok(found) => found,
         Err(fault) => return Head::Fault(fault),
     };
-    match read_body(rest) {
+    match read_call_body(rest) {
         Ok(
             Body {
                 procedure,

@@ -118,7 +118,8 @@ fn lengths_of_401(rt: HostRuntime) -> Result<(), Fail> {
             }
         )
     );
-    assert!(rt; matches!(read_call(&credential[..28]), Head::Fault(Fault::BadHeader)));
+    let cut = bytes_of(rt.alloc(), &[9, 0, 2, 0x000186a3, 3, 0, 0])?;
+    assert!(rt; matches!(read_call(&cut), Head::Fault(Fault::BadHeader)));
     let verifier = bytes_of(rt.alloc(), &[9, 0, 2, 0x000186a3, 3, 0, 0, 0, 0, 0x191])?;
     assert!(rt; matches!(read_call(&verifier), Head::Fault(Fault::BadHeader)));
     Ok(())
