@@ -69,9 +69,13 @@ body_of (Ok x) = Ok x
 body_of (Err Short) = Err Incomplete
 body_of (Err fault) = Err bad_credential
 
+-- the uid and gid of authsys_parms
+abbrev pub user : Value auth_sys_shape → model.Credential
+user v = record { uid = v.1.1.0; gid = v.1.1.1.0 }
+
 -- whom an AUTH_SYS body names
 abbrev pub user_of : Result (Value auth_sys_shape) Unread → Result model.Credential Stop
-user_of (Ok v) = Ok (record { uid = v.1.1.0; gid = v.1.1.1.0 })
+user_of (Ok v) = Ok (user v)
 user_of (Err fault) = Err bad_credential
 
 -- whom a body of flavor AUTH_NONE 0 or AUTH_SYS 1 acts for

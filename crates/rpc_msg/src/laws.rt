@@ -1,9 +1,12 @@
 //! What holds of every record and of every reply.
 
-ghost use Rattle.std.specs.Prelude.{◌≡◌, ◌⊎◌, ℕ, ◌≤◌, List, length, Ok, Err};
+ghost use Rattle.std.specs.Prelude.{◌≡◌, ◌⊎◌, ℕ, ◌≤◌, ◌<◌, List, length, Ok, Err, slice_index};
 ghost use Rattle.nfs_model.specs.Types as model;
 ghost use Rattle.nfs_model.specs.World.{Heard, IsDecoded};
 ghost use Rattle.nfs_model.specs.ReadOnly.{AsksReading};
+ghost use Rattle.nfs_values.specs.declared.procedure.Procedure.{Procedure};
+ghost use Rattle.rpc_msg.specs.Heads.{Call, head_of};
+ghost use Rattle.rpc_msg.specs.Calls.{IsCall};
 ghost use Rattle.rpc_msg.specs.Records.{heard};
 ghost use Rattle.rpc_msg.specs.Replies.{reply_record, IsShort};
 
@@ -41,4 +44,15 @@ pub fn refusals_are_short()
         → heard bytes ≡ Ok h
         → h.asked ≡ model.Refused reply
         → IsShort reply }
+{}
+
+/// A head says a call exactly where the bytes spell one that is served, and then its arguments.
+pub fn call_heads_are_exact()
+    ensures found { (bytes : List ℕ) (xid : ℕ) (procedure : Procedure) (who : model.Credential) (arguments : List ℕ)
+        → ((i : ℕ) → slice_index bytes i < 256)
+        → head_of bytes ≡ Call xid procedure who arguments
+        → IsCall bytes xid procedure who arguments }
+    ensures again { (bytes : List ℕ) (xid : ℕ) (procedure : Procedure) (who : model.Credential) (arguments : List ℕ)
+        → IsCall bytes xid procedure who arguments
+        → head_of bytes ≡ Call xid procedure who arguments }
 {}
