@@ -1,5 +1,5 @@
 -- What stands behind bytes that are read.
-use Rattle.std.proofs.Common.{◌≡◌, ℕ, ◌+◌, ◌≤◌, List, cond, eqb, ltb, length, take, drop, Ok, Err, ap, arith, ◌∙◌, inl, inr, refl}
+use Rattle.std.proofs.Common.{◌≡◌, ℕ, ◌+◌, ◌≤◌, List, cond, eqb, ltb, length, take, drop, Ok, Err, ap, inl, inr}
 use Rattle.std.specs.List.{list_all}
 use Rattle.std.proofs.lemmas.Bool.{ltb-false}
 use Rattle.xdr.specs.declared.fault.Fault.TheVariants.{Short, BadPad}

@@ -10,7 +10,7 @@ use Rattle.nfs_values.specs.declared.procedure.Procedure.{Procedure}
 use Rattle.nfs_types.specs.Arguments.{asked}
 use Rattle.nfs_types.specs.Shapes.{◌&◌}
 use Rattle.rpc_msg.specs.Replies.{auth_shape, IsShort}
-use Rattle.rpc_msg.specs.Heads.{◌>>=◌, Stop, Incomplete, Refuse, Body, Head, Call, Refused, Faulty, whole, version_at, numbers_shape, auth_sys_shape, nobody, body_of, user_of, acting, rejected_credential, bad_credential, credential_at, version_of, procedures, is_numbered, available, of_version, procedure_of, body_at, under, xid_of, xid_at, head_from, head_of}
+use Rattle.rpc_msg.specs.Heads.{◌>>=◌, Stop, Incomplete, Refuse, Body, Head, Call, Refused, Faulty, whole, version_at, numbers_shape, auth_sys_shape, body_of, user_of, acting, credential_at, version_of, procedures, is_numbered, available, of_version, procedure_of, body_at, under, xid_of, head_from, head_of}
 use Rattle.rpc_msg.specs.Records.{asked_by, heard_from, heard}
 use Rattle.rpc_msg.proofs.Hearing.{same_heard}
 

@@ -1,5 +1,5 @@
 -- How long replies are.
-use Rattle.std.proofs.Common.{ℕ, ◌*◌, ◌≤◌, length, arith}
+use Rattle.std.proofs.Common.{ℕ, ◌≤◌, length, arith}
 use Rattle.nfs_model.specs.Types as model
 use Rattle.nfs_types.proofs.Absent.{length-absent_parts}
 use Rattle.rpc_msg.specs.Replies.{reply_record, IsShort}

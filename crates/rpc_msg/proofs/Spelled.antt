@@ -1,10 +1,10 @@
 -- A head that says a call is the spelling of one.
-use Rattle.std.proofs.Common.{◌≡◌, ℕ, ◌+◌, ◌^◌, ◌<◌, ◌≤◌, Bool, true, false, cond, eqb, ltb, ◌&&◌, List, [], ◌∷◌, ◌++◌, length, get_or, replicate, ◌⊎◌, Option, Some, None, Result, Ok, Err, find, refl, sym, ap, subst, ◌∙◌, append_assoc, arith, inl, inr}
+use Rattle.std.proofs.Common.{◌≡◌, ℕ, ◌^◌, ◌<◌, ◌≤◌, Bool, true, false, cond, eqb, ltb, ◌&&◌, List, [], ◌∷◌, ◌++◌, length, replicate, Option, Some, None, Result, Ok, Err, find, refl, sym, ap, subst, ◌∙◌, append_assoc, arith, inl, inr}
 use Rattle.std.proofs.lemmas.Bool.{cases_lt, ltb-false, eqb-true, eqb-false}
 use Rattle.std.proofs.lemmas.List.{get_or_append_left, get_or_past}
 use Rattle.xdr.specs.declared.fault.Fault.{Fault as Unread}
 use Rattle.xdr.specs.declared.fault.Fault.TheVariants as unreads
-use Rattle.xdr.specs.Shape.{Shape, Word, Fixed, Value, Fits, Spells, word, padded, padding, spelling}
+use Rattle.xdr.specs.Shape.{Shape, Word, Fixed, Value, Fits, word, padded, padding, spelling}
 use Rattle.xdr.specs.Reading.{Reads, read, all_of}
 use Rattle.xdr.proofs.Items.{IsBytes, Splits}
 use Rattle.xdr.proofs.Shapes.{found, all_found}
@@ -14,7 +14,7 @@ use Rattle.nfs_values.specs.declared.procedure.Procedure.{Procedure}
 use Rattle.nfs_values.specs.Procedure.{numbers_of}
 use Rattle.nfs_types.specs.Shapes.{◌&◌}
 use Rattle.rpc_msg.specs.Replies.{auth_shape}
-use Rattle.rpc_msg.specs.Heads.{◌>>=◌, Stop, Incomplete, Refuse, Body, Head, Call, Refused, Faulty, whole, version_at, numbers_shape, auth_sys_shape, nobody, user, body_of, user_of, acting, bad_credential, rejected_credential, credential_at, version_of, procedures, is_numbered, available, of_version, procedure_of, body_at, under, xid_of, xid_at, head_from, head_of}
+use Rattle.rpc_msg.specs.Heads.{◌>>=◌, Stop, Incomplete, Refuse, Body, Call, whole, version_at, numbers_shape, auth_sys_shape, nobody, user, body_of, user_of, acting, bad_credential, rejected_credential, credential_at, version_of, procedures, is_numbered, available, of_version, procedure_of, body_at, under, xid_at, head_from, head_of}
 use Rattle.rpc_msg.specs.Calls.{ActsFor, IsCall, call_shape, call_value}
 use Rattle.rpc_msg.proofs.Steps.{then_ok, sure_is, whole_ok, xid_ok}
 
@@ -72,7 +72,7 @@ credential_found flavor size bytes x fits e =
             let body_fits = IsBytes-front b.0.0 (zeros ++ b.0.1) (subst IsBytes (f.0.parts ∙ append_assoc b.0.0 zeros b.0.1) fits) in
             let made : model.Credential × List ℕ = (a.0, b.0.1) in
             subst (λ (y : model.Credential × List ℕ). CredentialIs flavor size bytes y.0 y.1) (sure_is made x a.2)
-              (record { body = b.0.0; small = ltb-false 400 size k.0; size_is = f.1; acts = acts_found flavor b.0.0 a.0 (ltb-false 1 flavor h.0) body_fits a.1; splits = f.0 })
+            (record { body = b.0.0; small = ltb-false 400 size k.0; size_is = f.1; acts = acts_found flavor b.0.0 a.0 (ltb-false 1 flavor h.0) body_fits a.1; splits = f.0 })
       ]
     ]
 
@@ -176,16 +176,16 @@ body_found bytes body fits e =
     let cred : Value auth_shape = (flavor, cs.body) in
     let size_is : size ≡ length cs.body = sym cs.size_is in
     let parts : bytes ≡ spelling body_shape (2, (program, (version, (number, (cred, w.0.0))))) ++ w.0.1 =
-        vs.parts
-        ∙ ap (λ (t : List ℕ). word 2 ++ t) (ns.0.parts ∙ ap (λ (t : List ℕ). spelling numbers_shape n.0.0 ++ t) (cs.splits.parts ∙ ap (λ (t : List ℕ). padded cs.body ++ t) ws.0.parts))
-        ∙ joined program version number flavor size cs.body w.0.0 w.0.1 size_is in
+    vs.parts
+    ∙ ap (λ (t : List ℕ). word 2 ++ t) (ns.0.parts ∙ ap (λ (t : List ℕ). spelling numbers_shape n.0.0 ++ t) (cs.splits.parts ∙ ap (λ (t : List ℕ). padded cs.body ++ t) ws.0.parts))
+    ∙ joined program version number flavor size cs.body w.0.0 w.0.1 size_is in
     let short : length cs.body ≤ 400 = omega (arith, cs.small) in
     let two : 2 < 2 ^ 32 = omega arith in
     let all_fit : Fits body_shape (2, (program, (version, (number, (cred, w.0.0))))) = (two, (ns.1.0, (ns.1.1.0, (ns.1.1.1.0, ((ns.1.1.1.1.0, (short, omega arith)), ws.1))))) in
     let G : ℕ → ℕ → Type 0 = λ a b. Fits body_shape (body_value (a, b) version cred w.0.0) × (bytes ≡ spelling body_shape (body_value (a, b) version cred w.0.0) ++ w.0.1) in
     let both : G (numbers_of p.0).0 (numbers_of p.0).1 = subst (λ (b : ℕ). G (numbers_of p.0).0 b) (sym ps.2) (subst (λ (a : ℕ). G a number) (sym ps.1) (all_fit, parts)) in
     subst (λ (b : Body). BodyIs bytes b) (sure_is made body p.2)
-      (record { version = version; cred = cred; verf = w.0.0; is_served = ap version_of ps.1 ∙ ps.0; acts_for = cs.acts; fits = both.0; bytes_are = both.1 })
+    (record { version = version; cred = cred; verf = w.0.0; is_served = ap version_of ps.1 ∙ ps.0; acts_for = cs.acts; fits = both.0; bytes_are = both.1 })
 
 -- ---- the head
 
@@ -210,4 +210,4 @@ call_found bytes xid p who arguments fits e =
     let b = body_found h.0.1 (record { procedure = p; credential = who; arguments = arguments }) f.0.rest_fits u.1 in
     let parts : bytes ≡ spelling call_shape (call_value h.0.0 (numbers_of p) b.version b.cred b.verf) ++ arguments = f.0.parts ∙ ap (λ (t : List ℕ). spelling (Word & Word) (h.0.0, 0) ++ t) b.bytes_are in
     subst (λ (x : ℕ). IsCall bytes x p who arguments) u.0
-      (record { version = b.version; cred = b.cred; verf = b.verf; is_served = b.is_served; acts_for = b.acts_for; fits = (f.1.0, (f.1.1, b.fits)); bytes_are = parts })
+    (record { version = b.version; cred = b.cred; verf = b.verf; is_served = b.is_served; acts_for = b.acts_for; fits = (f.1.0, (f.1.1, b.fits)); bytes_are = parts })

@@ -1,8 +1,8 @@
 -- The spelling of a call that is served is heard as that call.
-use Rattle.std.proofs.Common.{◌≡◌, ℕ, ◌^◌, ◌<◌, ◌≤◌, Bool, true, false, cond, eqb, ltb, List, ◌++◌, length, Option, Some, Result, Ok, Err, find, refl, sym, ap, subst, ◌∙◌, arith, inl, inr}
+use Rattle.std.proofs.Common.{◌≡◌, ℕ, ◌≤◌, true, false, eqb, ltb, List, ◌++◌, length, Some, Ok, find, refl, sym, ap, ◌∙◌, arith, inl, inr}
 use Rattle.std.proofs.lemmas.Bool.{le-ltb, eq-eqb}
-use Rattle.xdr.specs.Shape.{Word, Fixed, Value, Fits, Spells, word, padded, spelling}
-use Rattle.xdr.specs.Reading.{read, all_of}
+use Rattle.xdr.specs.Shape.{Word, Fixed, Value, Fits, word, padded, spelling}
+use Rattle.xdr.specs.Reading.{read}
 use Rattle.xdr.proofs.Shapes.{again, all_again}
 use Rattle.nfs_model.specs.Types as model
 use Rattle.nfs_values.specs.declared.procedure.Procedure.{Procedure}
@@ -10,8 +10,8 @@ use Rattle.nfs_values.specs.declared.procedure.Procedure.TheVariants.{Null, GetA
 use Rattle.nfs_values.specs.Procedure.{numbers_of}
 use Rattle.nfs_types.specs.Shapes.{◌&◌}
 use Rattle.rpc_msg.specs.Replies.{auth_shape}
-use Rattle.rpc_msg.specs.Heads.{◌>>=◌, Stop, Refuse, Body, Head, Call, whole, version_at, numbers_shape, auth_sys_shape, nobody, user, body_of, user_of, acting, credential_at, version_of, procedures, is_numbered, available, of_version, procedure_of, body_at, under, xid_of, xid_at, head_from, head_of}
-use Rattle.rpc_msg.specs.Calls.{ActsFor, IsCall, call_shape, call_value}
+use Rattle.rpc_msg.specs.Heads.{Call, whole, version_at, numbers_shape, auth_sys_shape, acting, credential_at, version_of, procedures, is_numbered, procedure_of, body_at, under, xid_at, head_from, head_of}
+use Rattle.rpc_msg.specs.Calls.{ActsFor, IsCall}
 use Rattle.rpc_msg.proofs.Steps.{then_is}
 use Rattle.rpc_msg.proofs.Spelled.{from_version, from_numbers, from_credential, from_verifier, body_shape, body_value, joined}
 

@@ -1,5 +1,5 @@
 -- What a step of a head that did not stop says.
-use Rattle.std.proofs.Common.{◌≡◌, ℕ, true, false, cond, eqb, List, Result, Ok, Err, refl, ap, inl, inr}
+use Rattle.std.proofs.Common.{◌≡◌, ℕ, eqb, List, Result, Ok, Err, refl, inl, inr}
 use Rattle.std.proofs.lemmas.Bool.{eqb-true}
 use Rattle.xdr.specs.Reading.{Reads}
 use Rattle.xdr.proofs.Steps.{chosen}
