@@ -1,18 +1,18 @@
 -- Arguments are asked exactly where they are spelled.
 use Rattle.std.proofs.Common.{◌≡◌, ℕ, List, Ok, refl, sym, ap, ◌∙◌}
-use Rattle.xdr.specs.Shape.{Shape, Value, Spells}
-use Rattle.xdr.specs.Reading.{◌>>=◌, all_of}
+use Rattle.xdr.specs.Reading.{all_of}
 use Rattle.xdr.proofs.Steps.{bind_ok, ok_is}
 use Rattle.xdr.proofs.Items.{IsBytes}
 use Rattle.xdr.proofs.Shapes.{all_found, all_again}
 use Rattle.nfs_model.specs.Types as model
 use Rattle.nfs_values.specs.declared.procedure.Procedure.{Procedure}
-use Rattle.nfs_values.specs.declared.procedure.Procedure.TheVariants.{Null, GetAttributes}
+use Rattle.nfs_values.specs.declared.procedure.Procedure.TheVariants.{Null, GetAttributes, AdminNull}
 use Rattle.nfs_types.specs.Arguments.{arguments_shape, call_from, Asks, asked_by, asked}
 
 asked_is : (procedure : Procedure) (bytes : List ℕ) → asked procedure bytes ≡ asked_by (arguments_shape procedure) (call_from procedure) bytes
 asked_is Null bytes = refl
 asked_is GetAttributes bytes = refl
+asked_is AdminNull bytes = refl
 
 pub asked_found : (procedure : Procedure) (bytes : List ℕ) (call : model.Call) → IsBytes bytes → asked procedure bytes ≡ Ok call → Asks procedure bytes call
 asked_found procedure bytes call fits e =

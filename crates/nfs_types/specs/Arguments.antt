@@ -5,7 +5,7 @@ use Rattle.xdr.specs.Shape.{Shape, Void, Value, Spells}
 use Rattle.xdr.specs.Reading.{◌>>=◌, all_of}
 use Rattle.nfs_model.specs.Types as model
 use Rattle.nfs_values.specs.declared.procedure.Procedure.{Procedure}
-use Rattle.nfs_values.specs.declared.procedure.Procedure.TheVariants.{Null, GetAttributes}
+use Rattle.nfs_values.specs.declared.procedure.Procedure.TheVariants.{Null, GetAttributes, AdminNull}
 use Rattle.nfs_types.specs.declared.bad.Bad.{Bad}
 use Rattle.nfs_types.specs.declared.bad.Bad.TheVariants as bads
 use Rattle.nfs_types.specs.Shapes.{handle_shape}
@@ -13,6 +13,7 @@ use Rattle.nfs_types.specs.Shapes.{handle_shape}
 abbrev pub arguments_shape : Procedure → Shape
 arguments_shape Null = Void
 arguments_shape GetAttributes = handle_shape
+arguments_shape AdminNull = Void
 
 -- what arguments ask
 abbrev pub null_call : Value Void → model.Call
@@ -24,11 +25,13 @@ getattr_call handle = model.Getattr handle
 abbrev pub call_from : (procedure : Procedure) → Value (arguments_shape procedure) → model.Call
 call_from Null = null_call
 call_from GetAttributes = getattr_call
+call_from AdminNull = null_call
 
 -- The arguments have a name or data.
 abbrev pub takes_memory : Procedure → Bool
 takes_memory Null = false
 takes_memory GetAttributes = false
+takes_memory AdminNull = false
 
 -- The bytes spell arguments that ask this call.
 abbrev pub Asks : Procedure → List ℕ → model.Call → Type 0
@@ -41,6 +44,7 @@ asked_by shape call bytes = all_of shape bytes >>= λ v. Ok (call v)
 abbrev pub asked : Procedure → List ℕ → Result model.Call Fault
 asked Null bytes = asked_by Void null_call bytes
 asked GetAttributes bytes = asked_by handle_shape getattr_call bytes
+asked AdminNull bytes = asked_by Void null_call bytes
 
 -- What was returned, seen by view, is what is asked. Memory runs out only where something is asked that takes some.
 abbrev pub Makes : {X Y : Type 0} → (X → Y) → Bool → Result X Bad → Result Y Fault → Type 0

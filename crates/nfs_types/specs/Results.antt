@@ -1,5 +1,5 @@
 -- The results of each procedure (RFC 1813 section 3.3) as bytes.
-use Rattle.std.specs.Prelude.{ℕ, zero, suc, ◌-◌, ◌*◌, ◌^◌, List, [], ◌∷◌, ◌++◌, Option, Some, None, map, replicate}
+use Rattle.std.specs.Prelude.{ℕ, zero, suc, ◌-◌, ◌^◌, List, [], ◌++◌, Some, None, map, replicate}
 use Rattle.xdr.specs.Shape.{Shape, Void, Word, Hyper, Boolean, Optional, Chain, Array, Value, spelling}
 use Rattle.nfs_model.specs.Types as model
 use Rattle.nfs_types.specs.Shapes.{◌&◌, handle_shape, any_bytes, verifier_shape, attributes_shape, attributes_value, after_shape, change_shape, change_value, stable_shape}

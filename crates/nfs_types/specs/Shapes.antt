@@ -1,5 +1,5 @@
 -- The types of NFS version 3 (RFC 1813) as shapes of XDR, and what the model's data is in them.
-use Rattle.std.specs.Prelude.{ℕ, ◌-◌, ◌^◌, [], ◌∷◌, Some}
+use Rattle.std.specs.Prelude.{◌-◌, ◌^◌, [], ◌∷◌, Some}
 use Rattle.xdr.specs.Shape.{Shape, Word, Hyper, Choice, Fixed, Opaque, Pair, Optional, Value}
 use Rattle.nfs_model.specs.Types as model
 use Rattle.nfs_values.specs.Attributes.{kind_word}

@@ -11,7 +11,7 @@ use crate::decode::decode_all;
 use nfs_values::{Call, FileHandle, Procedure};
 use std::alloc::Global;
 
-/// NULL (RFC 1813 section 3.3.0).
+/// NULL (RFC 1813 section 3.3.0), and NULL of the admin program.
 fn null(bytes: &[u8]) -> Result<Call, Bad>
     ensures { Makes call_of false result (asked_by Void null_call bytes.now) }
 {
@@ -32,7 +32,7 @@ pub fn decode_args(_alloc: Global, procedure: Procedure, bytes: &[u8]) -> Result
     ensures { Makes call_of (takes_memory procedure) result (asked procedure bytes.now) }
 {
     match procedure {
-        Procedure::Null => null(bytes),
+        Procedure::Null | Procedure::AdminNull => null(bytes),
         Procedure::GetAttributes => get_attributes(bytes),
     }
 }

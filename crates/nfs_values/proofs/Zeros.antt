@@ -1,5 +1,5 @@
 -- Bytes with zeros behind them.
-use Rattle.std.proofs.Common.{◌≡◌, ℕ, ◌-◌, ◌≤◌, List, ◌++◌, length, take, drop, replicate, refl, sym, ap, ◌∙◌, arith}
+use Rattle.std.proofs.Common.{◌≡◌, ℕ, ◌-◌, ◌≤◌, List, ◌++◌, length, take, drop, replicate, refl, arith}
 use Rattle.std.proofs.lemmas.List.{take_at, length-append, length-replicate, drop-replicate}
 
 pub drop_zeros : (n : ℕ) → n ≤ 64 → drop {A = ℕ} n (replicate 64 0) ≡ replicate (64 - n) 0

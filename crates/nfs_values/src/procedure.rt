@@ -15,6 +15,8 @@ pub enum Procedure {
     Null,
     /// GETATTR (RFC 1813 section 3.3.1).
     GetAttributes,
+    /// NULL of the admin program (our profile).
+    AdminNull,
 }
 
 impl Procedure {
@@ -29,6 +31,7 @@ impl Procedure {
         match (program, number) {
             (NFS_PROGRAM, 0) => Some(Procedure::Null),
             (NFS_PROGRAM, 1) => Some(Procedure::GetAttributes),
+            (ADMIN_PROGRAM, 0) => Some(Procedure::AdminNull),
             _ => None,
         }
     }
@@ -38,7 +41,7 @@ impl Procedure {
         ensures { result ≡ failure_parts self }
     {
         match self {
-            Procedure::Null | Procedure::GetAttributes => 0,
+            Procedure::Null | Procedure::GetAttributes | Procedure::AdminNull => 0,
         }
     }
 }

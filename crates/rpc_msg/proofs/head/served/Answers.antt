@@ -1,0 +1,10 @@
+use Rattle.std.proofs.Common.{refl, rules}
+use Rattle.std.proofs.lemmas.Bool.Decides.{nat_tests}
+use Rattle.rpc_msg.proofs.Numbered.{none_numbered}
+use Rattle.rpc_msg.proofs.head.served.Goals as goal
+
+pub returns-in-None : goal.returns-in-None
+returns-in-None c =
+    let none = none_numbered c.args.program c.args.number (c.in-None.ensures.none refl) in
+    let program = c.version_of.ensures in
+    search (rules, nat_tests)

@@ -1,0 +1,29 @@
+-- The call of a record (RFC 5531 section 9): what its head and its arguments ask.
+use Rattle.std.specs.Prelude.{ℕ, Bool, false, List, Result, Ok, Err}
+use Rattle.xdr.specs.declared.fault.Fault.{Fault as Unread}
+use Rattle.nfs_model.specs.Types as model
+use Rattle.nfs_model.specs.World.{Heard}
+use Rattle.nfs_types.specs.Arguments.{asked, takes_memory}
+use Rattle.rpc_msg.specs.Heads.{Head, Call, Refused, Faulty, head_of}
+
+-- the call, or GARBAGE_ARGS where its arguments are no spelling or bytes are left
+abbrev pub asked_by : model.Credential → Result model.Call Unread → model.Asked
+asked_by credential (Ok call) = model.Ask call credential
+asked_by credential (Err fault) = model.Refused model.GarbageArguments
+
+abbrev pub heard_from : Head → Result Heard ℕ
+heard_from (Call xid procedure credential arguments) = Ok (record { xid = xid; asked = asked_by credential (asked procedure arguments) })
+heard_from (Refused xid reply) = Ok (record { xid = xid; asked = model.Refused reply })
+heard_from (Faulty number) = Err number
+
+-- what a record asks under its xid, or the number of its fault
+abbrev pub heard : List ℕ → Result Heard ℕ
+heard bytes = heard_from (head_of bytes)
+
+-- its arguments have a name or data
+abbrev pub memory_from : Head → Bool
+memory_from (Call xid procedure credential arguments) = takes_memory procedure
+memory_from head = false
+
+abbrev pub needs_memory : List ℕ → Bool
+needs_memory bytes = memory_from (head_of bytes)

@@ -1,0 +1,72 @@
+-- What the code's values are in the definitions.
+use Rattle.std.specs.Prelude.{◌≡◌, ℕ, Bool, true, List, Result, Ok, Err}
+use Rattle.std.specs.Borrow.{Bor}
+use Rattle.xdr.specs.Reading.{Reads}
+use Rattle.nfs_model.specs.Types as model
+use Rattle.nfs_model.specs.World as world
+use Rattle.nfs_values.specs.Call.{call_of}
+use Rattle.nfs_values.specs.Credential.{credential_of}
+use Rattle.nfs_values.specs.Reply.{reply_of}
+use Rattle.rpc_msg.specs.declared.fault.Fault.{Fault}
+use Rattle.rpc_msg.specs.declared.fault.Fault.TheVariants.{BadHeader, NotACall}
+use Rattle.rpc_msg.specs.declared.stop.Stop.{Stop}
+use Rattle.rpc_msg.specs.declared.stop.Stop.TheVariants as stops
+use Rattle.rpc_msg.specs.declared.head.Body.{Body}
+use Rattle.rpc_msg.specs.declared.head.Numbers.{Numbers}
+use Rattle.rpc_msg.specs.declared.head.Head.{Head}
+use Rattle.rpc_msg.specs.declared.head.Head.TheVariants as codes
+use Rattle.xdr.specs.Shape.{Value}
+use Rattle.rpc_msg.specs.Replies.{auth_shape}
+use Rattle.rpc_msg.specs.Heads.{numbers_shape}
+use Rattle.rpc_msg.specs.declared.record.Heard.{Heard}
+use Rattle.rpc_msg.specs.declared.record.Request.{Request}
+use Rattle.rpc_msg.specs.declared.record.Request.TheVariants as requests
+use Rattle.rpc_msg.specs.Heads as heads
+
+-- BadHeader and NotACall (our profile)
+abbrev pub fault_number : Fault → ℕ
+fault_number BadHeader = 12
+fault_number NotACall = 13
+
+abbrev pub stop_of : Stop → heads.Stop
+stop_of stops.Incomplete = heads.Incomplete
+stop_of (stops.Refuse reply) = heads.Refuse (reply_of reply)
+
+abbrev pub numbers_value : Numbers → Value numbers_shape
+numbers_value n = (n.program, (n.version, (n.procedure, (n.flavor, n.size))))
+
+abbrev pub auth_value : ℕ × Bor (List ℕ) → Value auth_shape
+auth_value a = (a.0, a.1.now)
+
+abbrev pub body_of : Body → heads.Body
+body_of b = record { procedure = b.procedure; credential = credential_of b.credential; arguments = b.arguments.now }
+
+abbrev pub head_seen : Head → heads.Head
+head_seen (codes.Call xid procedure credential arguments) = heads.Call xid procedure (credential_of credential) arguments.now
+head_seen (codes.Refuse xid reply) = heads.Refused xid (reply_of reply)
+head_seen (codes.Fault fault) = heads.Faulty (fault_number fault)
+
+-- What was returned, seen by these views, is what a step gives.
+abbrev pub Says : {X Y E F : Type 0} → (X → Y) → (E → F) → Result X E → Result Y F → Type 0
+Says view error (Ok x) step = step ≡ Ok (view x)
+Says view error (Err e) step = step ≡ Err (error e)
+
+-- a value, and the bytes behind it
+abbrev pub with_rest : {X Y : Type 0} → (X → Y) → X × Bor (List ℕ) → Y × List ℕ
+with_rest view x = (view x.0, x.1.now)
+
+-- what is read and not kept
+abbrev pub passed : {A : Type 0} → Reads A → Reads (Unit {0})
+passed (Ok x) = Ok (tt, x.1)
+passed (Err fault) = Err fault
+
+-- What a record asks, as it is told. None is told only where memory ran out: where a call is asked by a name or data.
+abbrev pub Tells : ℕ → Request → Bool → Result world.Heard ℕ → Type 0
+Tells xid (requests.Call call credential) memory heard = heard ≡ Ok (record { xid = xid; asked = model.Ask (call_of call) (credential_of credential) })
+Tells xid (requests.Refused reply) memory heard = heard ≡ Ok (record { xid = xid; asked = model.Refused (reply_of reply) })
+Tells xid requests.Undecoded memory heard =
+    (memory ≡ true) × ((call : model.Call) × ((credential : model.Credential) × (heard ≡ Ok (record { xid = xid; asked = model.Ask call credential }))))
+
+abbrev pub Hears : Result Heard Fault → Bool → Result world.Heard ℕ → Type 0
+Hears (Ok h) memory heard = Tells h.xid h.request memory heard
+Hears (Err fault) memory heard = heard ≡ Err (fault_number fault)

@@ -1,0 +1,97 @@
+//! Whom a call acts for.
+
+ghost use Rattle.xdr.specs.Shape.{Word, Fixed, Array};
+ghost use Rattle.xdr.specs.Reading.{Gives, items_at, read, all_of};
+ghost use Rattle.nfs_values.specs.Credential.{credential_of};
+ghost use Rattle.rpc_msg.specs.Heads.{acting, auth_sys_shape, bad_credential, body_of, credential_at, user_of as user_from};
+ghost use Rattle.rpc_msg.specs.Seen.{Says, passed, stop_of, with_rest};
+
+use crate::items::fixed;
+use crate::stop::Stop;
+use nfs_values::{AuthFault, Credential, Reply};
+use xdr::Cursor;
+
+// Flavors (auth_flavor, RFC 5531 section 8.2).
+const AUTH_NONE: u32 = 0;
+
+const AUTH_SYS: u32 = 1;
+
+/// The most bytes of a credential's body (RFC 5531 section 8.2).
+const MOST_BODY: u32 = 400;
+
+/// Reads so many words, of any number.
+fn skip_words(count: u32, from: &mut Cursor<'_>) -> Result<(), xdr::Fault>
+    ensures { Gives (λ x. x) result
+        (passed (items_at (λ rest. read Word rest) count from.old)) from.new }
+{
+    for _word in 0..count {
+        from.u32()?;
+    }
+    Ok(())
+}
+
+/// The groups of a user, of any numbers.
+fn skip_groups(from: &mut Cursor<'_>) -> Result<(), xdr::Fault>
+    ensures { Gives (λ x. x) result (passed (read (Array 16 Word) from.old)) from.new }
+{
+    let count = from.length(16)?;
+    skip_words(count, from)
+}
+
+/// The user that a body of AUTH_SYS names (RFC 5531 appendix A).
+fn read_user(body: &[u8]) -> Result<Credential, xdr::Fault>
+    ensures { Says credential_of (λ _. bad_credential) result
+        (user_from (all_of auth_sys_shape body.now)) }
+{
+    let mut from = Cursor::new(body);
+    let _stamp = from.u32()?;
+    let _machine = from.opaque(255)?;
+    let uid = from.u32()?;
+    let gid = from.u32()?;
+    skip_groups(&mut from)?;
+    from.end()?;
+    Ok(Credential { uid, gid })
+}
+
+/// Whom a body of AUTH_NONE or AUTH_SYS acts for.
+fn user_of(flavor: u32, body: &[u8]) -> Result<Credential, Stop>
+    ensures { Says credential_of stop_of result (acting flavor body.now) }
+{
+    if flavor == AUTH_NONE {
+        return Ok(Credential::NOBODY);
+    }
+    match read_user(body) {
+        Ok(user) => Ok(user),
+        Err(_fault) => Err(Stop::Refuse(Reply::AuthError(AuthFault::BadCredential))),
+    }
+}
+
+/// The body of a credential, and what stands behind it.
+fn read_body(bytes: &[u8], size: u32) -> Result<(&[u8], &[u8]), Stop>
+    ensures { Says (with_rest (λ x. x.now)) stop_of result (body_of (read (Fixed size) bytes.now)) }
+{
+    match fixed(bytes, size) {
+        Ok(found) => Ok(found),
+        Err(xdr::Fault::Short) => Err(Stop::Incomplete),
+        Err(_padding) => Err(Stop::Refuse(Reply::AuthError(AuthFault::BadCredential))),
+    }
+}
+
+/// Whom a credential whose body has `size` bytes acts for, and what stands behind it.
+pub(crate) fn read_credential(
+    flavor: u32,
+    size: u32,
+    bytes: &[u8],
+) -> Result<(Credential, &[u8]), Stop>
+    ensures { Says (with_rest credential_of) stop_of result (credential_at flavor size bytes.now) }
+{
+    if flavor > AUTH_SYS {
+        return Err(Stop::Refuse(Reply::AuthError(AuthFault::RejectedCredential)));
+    }
+    if size > MOST_BODY {
+        return Err(Stop::Refuse(Reply::AuthError(AuthFault::BadCredential)));
+    }
+    let (body, rest) = read_body(bytes, size)?;
+    let user = user_of(flavor, body)?;
+    Ok((user, rest))
+}

@@ -1,0 +1,23 @@
+//! Why a stream is given up.
+
+ghost use Rattle.std.specs.Prelude.{◌≡◌};
+
+/// Why a record is neither answered nor refused.
+#[derive(Clone, Copy, Debug, PartialEq, Eq)]
+pub enum Fault {
+    /// The head of the call isn't all there.
+    BadHeader = 12,
+    /// The message is no call.
+    NotACall = 13,
+}
+
+impl Fault {
+    ghost use Rattle.rpc_msg.specs.Seen.{fault_number};
+
+    /// The number by which a fault is told, 12 or 13.
+    pub fn number(self) -> u32
+        ensures { result ≡ fault_number self }
+    {
+        self as u32
+    }
+}

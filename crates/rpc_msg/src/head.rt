@@ -1,0 +1,190 @@
+//! Heads of calls (RFC 5531 section 9).
+
+ghost use Rattle.std.specs.Prelude.{◌≡◌};
+ghost use Rattle.xdr.specs.Shape.{Word, Pair};
+ghost use Rattle.xdr.specs.Reading.{read};
+ghost use Rattle.nfs_values.specs.Credential.{credential_of};
+ghost use Rattle.rpc_msg.specs.Replies.{auth_shape};
+ghost use Rattle.rpc_msg.specs.Heads.{body_at, head_of, numbers_shape, procedure_of, version_at, version_of, whole, xid_at};
+ghost use Rattle.rpc_msg.specs.Seen.{Says, auth_value, body_of, fault_number, head_seen, numbers_value, stop_of, with_rest};
+
+use crate::credential::read_credential;
+use crate::fault::Fault;
+use crate::items::{opaque, word};
+use crate::stop::Stop;
+use nfs_values::{ADMIN_PROGRAM, Credential, NFS_PROGRAM, Procedure, Reply};
+
+/// The type of a message that is a call (msg_type, RFC 5531 section 9).
+const CALL: u32 = 0;
+
+/// The version of RPC (RFC 5531 section 9).
+const RPC_VERSION: u32 = 2;
+
+/// The version of NFS (RFC 1813 section 2.2).
+const NFS_VERSION: u32 = 3;
+
+/// The version of the admin calls (our profile).
+const ADMIN_VERSION: u32 = 1;
+
+/// What the head of a record says.
+#[derive(Drop)]
+pub enum Head<'a> {
+    /// A call that is served. Its arguments are the bytes behind the head.
+    Call {
+        xid: u32,
+        procedure: Procedure,
+        credential: Credential,
+        arguments: &'a [u8],
+    },
+    /// A call that is refused, whatever its arguments.
+    Refuse {
+        xid: u32,
+        reply: Reply,
+    },
+    /// No call.
+    Fault(Fault),
+}
+
+/// What follows the message type of a call that is served.
+#[derive(Drop)]
+struct Body<'a> {
+    procedure: Procedure,
+    credential: Credential,
+    arguments: &'a [u8],
+}
+
+/// The number of a call, and what stands behind its message type.
+fn read_xid(bytes: &[u8]) -> Result<(u32, &[u8]), Fault>
+    ensures { Says (with_rest (λ x. x)) fault_number result (xid_at bytes.now) }
+{
+    let (xid, rest) = word(bytes).map_err(|_fault| Fault::BadHeader)?;
+    let (kind, rest) = word(rest).map_err(|_fault| Fault::BadHeader)?;
+    if kind != CALL {
+        return Err(Fault::NotACall);
+    }
+    Ok((xid, rest))
+}
+
+/// What stands behind the version of RPC, which is 2.
+fn read_version(bytes: &[u8]) -> Result<&[u8], Stop>
+    ensures { Says (λ x. x.now) stop_of result (version_at bytes.now) }
+{
+    let (version, rest) = word(bytes)?;
+    if version != RPC_VERSION {
+        return Err(Stop::Refuse(Reply::RpcMismatch { low: 2, high: 2 }));
+    }
+    Ok(rest)
+}
+
+/// The five words before the body of a credential.
+#[derive(Clone, Copy)]
+struct Numbers {
+    program: u32,
+    version: u32,
+    procedure: u32,
+    flavor: u32,
+    size: u32,
+}
+
+fn read_numbers(bytes: &[u8]) -> Result<(Numbers, &[u8]), Stop>
+    ensures { Says (with_rest numbers_value) stop_of result (whole (read numbers_shape bytes.now)) }
+{
+    let (program, rest) = word(bytes)?;
+    let (version, rest) = word(rest)?;
+    let (procedure, rest) = word(rest)?;
+    let (flavor, rest) = word(rest)?;
+    let (size, rest) = word(rest)?;
+    Ok((
+        Numbers {
+            program,
+            version,
+            procedure,
+            flavor,
+            size,
+        },
+        rest,
+    ))
+}
+
+/// A flavor and a body of at most 400 bytes (RFC 5531 section 8.2).
+fn read_auth(bytes: &[u8]) -> Result<((u32, &[u8]), &[u8]), Stop>
+    ensures { Says (with_rest auth_value) stop_of result (whole (read auth_shape bytes.now)) }
+{
+    let (flavor, rest) = word(bytes)?;
+    let (body, rest) = opaque(rest, 400)?;
+    Ok(((flavor, body), rest))
+}
+
+/// The version that is served of a program.
+fn version_of(program: u32) -> Option<u32>
+    ensures { result ≡ version_of program }
+{
+    match program {
+        NFS_PROGRAM => Some(NFS_VERSION),
+        ADMIN_PROGRAM => Some(ADMIN_VERSION),
+        _ => None,
+    }
+}
+
+/// The procedure of this number in this version of a program.
+fn served(program: u32, version: u32, number: u32) -> Result<Procedure, Stop>
+    ensures { Says (λ p. p) stop_of result (procedure_of program version number) }
+{
+    let Some(served) = version_of(program) else {
+        return Err(Stop::Refuse(Reply::ProgramUnavailable));
+    };
+    if version != served {
+        return Err(Stop::Refuse(Reply::ProgramMismatch {
+            low: served,
+            high: served,
+        }));
+    }
+    match Procedure::of(program, number) {
+        Some(procedure) => Ok(procedure),
+        None => Err(Stop::Refuse(Reply::ProcedureUnavailable)),
+    }
+}
+
+/// The head of a call, behind its message type.
+fn read_call_body(bytes: &[u8]) -> Result<Body<'_>, Stop>
+    ensures { Says body_of stop_of result (body_at bytes.now) }
+{
+    let rest = read_version(bytes)?;
+    let (numbers, rest) = read_numbers(rest)?;
+    let (credential, rest) = read_credential(numbers.flavor, numbers.size, rest)?;
+    let (_verifier, arguments) = read_auth(rest)?;
+    let procedure = served(numbers.program, numbers.version, numbers.procedure)?;
+    Ok(Body {
+        procedure,
+        credential,
+        arguments,
+    })
+}
+
+/// Reads the head of a record, without memory. The first of the checks that applies decides: the
+/// number and type of the message, the version of RPC, the credential, the verifier, and the
+/// program, version and procedure.
+pub fn read_call(bytes: &[u8]) -> Head<'_>
+    ensures { head_seen result ≡ head_of bytes.now }
+{
+    let (xid, rest) = match read_xid(bytes) {
+        Ok(found) => found,
+        Err(fault) => return Head::Fault(fault),
+    };
+    match read_call_body(rest) {
+        Ok(
+            Body {
+                procedure,
+                credential,
+                arguments,
+            },
+        ) => Head::Call {
+            xid,
+            procedure,
+            credential,
+            arguments,
+        },
+        Err(Stop::Refuse(reply)) => Head::Refuse { xid, reply },
+        Err(Stop::Incomplete) => Head::Fault(Fault::BadHeader),
+    }
+}

@@ -1,0 +1,23 @@
+//! Heads of calls and whole replies of RPC (RFC 5531) as bytes.
+#![tactic(auto)]
+
+mod credential;
+mod fault;
+mod head;
+mod items;
+mod laws;
+mod record;
+mod reply;
+mod stop;
+#[cfg(test)]
+mod tests;
+
+pub use fault::Fault;
+pub use head::{Head, read_call};
+pub use laws::{
+    call_heads_are_exact, record_faults, records_are_decoded, records_ask_readings,
+    refusals_are_short, short_replies_are_short,
+};
+pub use nfs_values::Procedure as Served;
+pub use record::{Heard, Request, read_record};
+pub use reply::{size_of_reply, write_reply, write_reply_record};

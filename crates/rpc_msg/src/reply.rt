@@ -1,0 +1,148 @@
+//! Replies.
+
+ghost use Rattle.std.specs.Prelude.{◌≡◌, ◌+◌, ◌*◌, ◌≤◌, ◌<◌, ◌^◌, ◌++◌, length, IsOk, OnOk, OnErr, vec_len, vec_capacity};
+ghost use Rattle.std.specs.List.{flat_map};
+ghost use Rattle.xdr.specs.Shape.{word};
+ghost use Rattle.rpc_record.specs.Records.{limit};
+ghost use Rattle.nfs_values.specs.Reply.{reply_of};
+ghost use Rattle.rpc_msg.specs.Replies.{accepted, body_bytes, denied, message, results, reply_bytes, reply_record};
+
+use nfs_types::{encode_result, size_of_result};
+use nfs_values::Reply;
+use rpc_record::put_header;
+use std::alloc::AllocError;
+use xdr::put_u32;
+
+// msg_type, reply_stat, accept_stat, reject_stat and auth_flavor (RFC 5531 sections 8.2 and 9)
+const REPLY: u32 = 1;
+
+const MSG_ACCEPTED: u32 = 0;
+
+const MSG_DENIED: u32 = 1;
+
+const SUCCESS: u32 = 0;
+
+const PROG_UNAVAIL: u32 = 1;
+
+const PROG_MISMATCH: u32 = 2;
+
+const PROC_UNAVAIL: u32 = 3;
+
+const GARBAGE_ARGS: u32 = 4;
+
+const SYSTEM_ERR: u32 = 5;
+
+const RPC_MISMATCH: u32 = 0;
+
+const AUTH_ERROR: u32 = 1;
+
+const AUTH_NONE: u32 = 0;
+
+/// Appends words, for which there is room.
+fn write_words(words: &[u32], out: &mut Vec<u8>)
+    requires { vec_len out.old + 4 * length words.now ≤ vec_capacity out.old }
+    ensures items { out.new.items ≡ out.old.items ++ flat_map word words.now }
+    ensures capacity { vec_capacity out.old ≤ vec_capacity out.new }
+{
+    for number in words {
+        put_u32(out, *number).unwrap();
+    }
+}
+
+/// Appends a reply as far as its accept_stat, and the words of its arm.
+fn write_accepted(xid: u32, status: u32, arm: &[u32], out: &mut Vec<u8>)
+    requires { vec_len out.old + 24 + 4 * length arm.now ≤ vec_capacity out.old }
+    ensures items { out.new.items
+        ≡ out.old.items ++ (message xid ++ accepted status (flat_map word arm.now)) }
+    ensures capacity { vec_capacity out.old ≤ vec_capacity out.new }
+{
+    write_words(&[xid, REPLY, MSG_ACCEPTED, AUTH_NONE, 0, status], out);
+    write_words(arm, out);
+}
+
+/// Appends a reply as far as its reject_stat, and the words of its arm.
+fn write_denied(xid: u32, reason: u32, arm: &[u32], out: &mut Vec<u8>)
+    requires { vec_len out.old + 16 + 4 * length arm.now ≤ vec_capacity out.old }
+    ensures items { out.new.items
+        ≡ out.old.items ++ (message xid ++ denied reason (flat_map word arm.now)) }
+    ensures capacity { vec_capacity out.old ≤ vec_capacity out.new }
+{
+    write_words(&[xid, REPLY, MSG_DENIED, reason], out);
+    write_words(arm, out);
+}
+
+/// Appends a reply, for which there is room.
+fn append(xid: u32, reply: &Reply, out: &mut Vec<u8>)
+    requires small { length (results (reply_of reply.now)) < 2 ^ 32 }
+    requires room { vec_len out.old + length (reply_bytes xid (reply_of reply.now))
+        ≤ vec_capacity out.old }
+    ensures items { out.new.items ≡ out.old.items ++ reply_bytes xid (reply_of reply.now) }
+    ensures capacity { vec_capacity out.old ≤ vec_capacity out.new }
+{
+    match reply {
+        Reply::Success(answer) => {
+            write_accepted(xid, SUCCESS, &[], out);
+            encode_result(out, answer).unwrap();
+        }
+        Reply::ProgramUnavailable => write_accepted(xid, PROG_UNAVAIL, &[], out),
+        Reply::ProgramMismatch { low, high } => {
+            write_accepted(xid, PROG_MISMATCH, &[*low, *high], out);
+        }
+        Reply::ProcedureUnavailable => write_accepted(xid, PROC_UNAVAIL, &[], out),
+        Reply::GarbageArguments => write_accepted(xid, GARBAGE_ARGS, &[], out),
+        Reply::SystemError => write_accepted(xid, SYSTEM_ERR, &[], out),
+        Reply::RpcMismatch { low, high } => write_denied(xid, RPC_MISMATCH, &[*low, *high], out),
+        Reply::AuthError(fault) => write_denied(xid, AUTH_ERROR, &[fault.number()], out),
+    }
+}
+
+/// How many bytes a reply takes: 8 for its xid and message type, and its body.
+pub fn size_of_reply(reply: &Reply) -> usize
+    requires { length (results (reply_of reply.now)) < 2 ^ 32 }
+    ensures { result ≡ 8 + length (body_bytes (reply_of reply.now)) }
+{
+    match reply {
+        Reply::Success(answer) => 24 + size_of_result(answer),
+        Reply::ProgramMismatch { .. } => 32,
+        Reply::ProgramUnavailable
+        | Reply::ProcedureUnavailable
+        | Reply::GarbageArguments
+        | Reply::SystemError
+        | Reply::RpcMismatch { .. } => 24,
+        Reply::AuthError(_) => 20,
+    }
+}
+
+/// Appends a reply, or nothing.
+pub fn write_reply(out: &mut Vec<u8>, xid: u32, reply: &Reply) -> Result<(), AllocError>
+    requires { length (results (reply_of reply.now)) < 2 ^ 32 }
+    ensures ok { OnOk result (out.new.items
+        ≡ out.old.items ++ reply_bytes xid (reply_of reply.now)) }
+    ensures err { OnErr result (out.new.items ≡ out.old.items) }
+    ensures succeeds { vec_len out.old + length (reply_bytes xid (reply_of reply.now))
+        ≤ vec_capacity out.old
+        → IsOk result }
+    ensures capacity { vec_capacity out.old ≤ vec_capacity out.new }
+{
+    out.try_reserve(size_of_reply(reply))?;
+    append(xid, reply, out);
+    Ok(())
+}
+
+/// Appends the record of a reply, or nothing.
+pub fn write_reply_record(out: &mut Vec<u8>, xid: u32, reply: &Reply) -> Result<(), AllocError>
+    requires { length (reply_bytes xid (reply_of reply.now)) ≤ limit }
+    ensures ok { OnOk result (out.new.items
+        ≡ out.old.items ++ reply_record xid (reply_of reply.now)) }
+    ensures err { OnErr result (out.new.items ≡ out.old.items) }
+    ensures succeeds { vec_len out.old + length (reply_record xid (reply_of reply.now))
+        ≤ vec_capacity out.old
+        → IsOk result }
+    ensures capacity { vec_capacity out.old ≤ vec_capacity out.new }
+{
+    let size = size_of_reply(reply);
+    out.try_reserve(4 + size)?;
+    put_header(out, size as u32)?;
+    append(xid, reply, out);
+    Ok(())
+}
