@@ -1,7 +1,7 @@
 -- The numbers by which faults, stops and refusals are told (our profile).
 use Rattle.std.specs.Prelude.{ℕ}
 use Rattle.filer.specs.declared.engine.event.StreamFault.{StreamFault}
-use Rattle.filer.specs.declared.engine.event.StreamFault.TheVariants.{RecordTooLong, BadHeader}
+use Rattle.filer.specs.declared.engine.event.StreamFault.TheVariants.{RecordTooLong, BadHeader, NotACall}
 use Rattle.filer.specs.declared.engine.event.Stop.{Stop}
 use Rattle.filer.specs.declared.engine.event.Stop.TheVariants as stops
 use Rattle.filer.specs.declared.engine.event.Refusal.{Refusal}
@@ -10,6 +10,7 @@ use Rattle.filer.specs.declared.engine.event.Refusal.TheVariants as refusals
 abbrev pub fault_number : StreamFault → ℕ
 fault_number RecordTooLong = 11
 fault_number BadHeader = 12
+fault_number NotACall = 13
 
 abbrev pub stop_number : Stop → ℕ
 stop_number stops.AllTaken = 0

@@ -43,7 +43,7 @@ pub(crate) fn take_bytes(from: &mut OpenConnection, bytes: &[u8]) -> (usize, Arr
             from.fault = Some(StreamFault::RecordTooLong);
             (taken, Arrival::Fault(StreamFault::RecordTooLong))
         }
-        Step::Record(record) => match read_record(&record) {
+        Step::Record(record) => match read_record(from.alloc, &record) {
             Ok(heard) => {
                 from.records += 1;
                 (taken, Arrival::Heard(heard))

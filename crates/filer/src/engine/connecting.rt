@@ -39,6 +39,7 @@ pub(crate) fn open_connection(state: &mut State) -> Result<Done, Refusal>
         return Err(Refusal::NoMemory);
     };
     state.current = Some(OpenConnection {
+        alloc: state.alloc,
         stream: Vec::new(state.alloc),
         reassembler: Reassembler::new(state.alloc),
         records: 0,

@@ -3,10 +3,12 @@
 use crate::engine::event::StreamFault;
 use crate::engine::message::Heard;
 use rpc_record::Reassembler;
+use std::alloc::Global;
 
 /// A connection that is open.
 #[derive(Drop)]
 pub(crate) struct OpenConnection {
+    pub(crate) alloc: Global,
     /// All bytes taken.
     pub(crate) stream: Vec<u8>,
     pub(crate) reassembler: Reassembler,

@@ -63,8 +63,10 @@ pub enum Stop {
 pub enum StreamFault {
     /// A header brings a record above 131,072 bytes (RFC 5531, section 11).
     RecordTooLong,
-    /// A record is no call message (RFC 5531, section 9).
+    /// A record ends within the head of a call (RFC 5531, section 9).
     BadHeader,
+    /// A record is no call message (RFC 5531, section 9).
+    NotACall,
 }
 
 /// Why an event was refused. It changed nothing then.
@@ -102,6 +104,7 @@ impl StreamFault {
         match self {
             StreamFault::RecordTooLong => 11,
             StreamFault::BadHeader => 12,
+            StreamFault::NotACall => 13,
         }
     }
 }

@@ -5,6 +5,7 @@ ghost use Rattle.nfs_values.specs.Reply.{reply_of};
 ghost use Rattle.filer.specs.Codec.{reply_record};
 
 use nfs_values::Reply;
+use rpc_msg::write_reply_record;
 
 /// Appends a reply record, for which there is room.
 pub(crate) fn put_reply(out: &mut Vec<u8>, xid: u32, reply: &Reply)
@@ -13,7 +14,5 @@ pub(crate) fn put_reply(out: &mut Vec<u8>, xid: u32, reply: &Reply)
     ensures len { vec_len out.new ≤ vec_len out.old + 116 }
     ensures capacity { vec_capacity out.old ≤ vec_capacity out.new }
 {
-    let _ = xid;
-    let _ = reply;
-    let _size = out.len();
+    write_reply_record(out, xid, reply).unwrap();
 }

@@ -24,4 +24,4 @@ returns-clause-events c =
     let number : c.len.result ≡ length (connections_of s.past.items s.current) = c.len.ensures ∙ omega (arith, c.room_to_open.ensures.len, s.past.ok.0) ∙ sym (next-number s.past.items s.current none) in
     (not-full s.past.items s.current none, (ap events.Opened number,
      ap (λ (cs : List worlds.Connection). record (world s) { connections = cs })
-     (now-open s.past.items c.room_to_open.new.past.items s.current (record { stream = c.new.result; reassembler = c.new-2.result; records = 0; fault = None; output = c.in-Ok.output }) none c.room_to_open.ensures.same c.new.ensures.items c.in-Ok.ensures.output.0)))
+     (now-open s.past.items c.room_to_open.new.past.items s.current (record { alloc = s.alloc; stream = c.new.result; reassembler = c.new-2.result; records = 0; fault = None; output = c.in-Ok.output }) none c.room_to_open.ensures.same c.new.ensures.items c.in-Ok.ensures.output.0)))
