@@ -12,3 +12,5 @@ pub mod Feeding
 pub mod Records
 pub mod Full
 pub mod Loops
+pub mod Serves
+pub mod Runs

@@ -19,7 +19,12 @@ use Rattle.rpc_msg.specs.Records.{memory_from, needs_memory}
 use Rattle.rpc_msg.specs.Replies.{IsShort}
 use Rattle.rpc_msg.specs.Replies as replies
 use Rattle.rpc_msg.proofs.Sizes.{short}
-use Rattle.rpc_msg.proofs.Hearing.{record_fault, record_is_decoded, record_asks_reading}
+use Rattle.rpc_msg.proofs.Hearing.{fault_of_record, record_is_decoded, record_asks_reading}
+use Rattle.rpc_msg.specs.Seen as told
+use Rattle.rpc_msg.specs.declared.fault.Fault.{Fault}
+use Rattle.rpc_msg.specs.declared.fault.Fault.TheVariants as faults
+use Rattle.filer.specs.Numbers.{fault_number}
+use Rattle.filer.specs.Records.{fault_of}
 use Rattle.filer.specs.Codec.{heard, reply_record}
 
 pub heard-is : (bytes : List ℕ) → heard bytes ≡ records.heard bytes
@@ -32,7 +37,7 @@ not_eleven n (inr e) = grind (arith, nat_tests)
 
 -- a record's fault isn't a header's
 pub not-too-long : (bytes : List ℕ) (number : ℕ) → heard bytes ≡ Err number → (number == 11) ≡ false
-not-too-long bytes number e = not_eleven number (record_fault bytes number (sym (heard-is bytes) ∙ e))
+not-too-long bytes number e = not_eleven number (fault_of_record bytes number (sym (heard-is bytes) ∙ e))
 
 pub heard-decoded : (bytes : List ℕ) (h : Heard) → heard bytes ≡ Ok h → IsDecoded h.asked
 heard-decoded bytes h e = record_is_decoded bytes h (sym (heard-is bytes) ∙ e)
@@ -79,3 +84,9 @@ record-is xid reply = refl
 
 pub record-short : (xid : ℕ) (reply : Reply) → length (replies.reply_record xid (reply_of reply)) ≤ 116
 record-short xid reply = short xid (reply_of reply) (is-short reply)
+
+-- ---- what was read
+
+pub numbers-same : (fault : Fault) → fault_number (fault_of fault) ≡ told.fault_number fault
+numbers-same faults.BadHeader = refl
+numbers-same faults.NotACall = refl

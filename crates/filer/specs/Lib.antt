@@ -6,3 +6,4 @@ pub mod Seen
 pub mod Records
 pub mod Served
 pub mod Sound
+pub mod Engine

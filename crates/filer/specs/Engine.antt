@@ -1,0 +1,19 @@
+-- What is seen of an engine: what is fixed for its run, and its world.
+use Rattle.std.specs.Prelude.{◌≡◌, ℕ, ◌+◌, List, [], ◌∷◌, Result, Ok, Err}
+use Rattle.nfs_model.specs.World.{Setup, World}
+use Rattle.nfs_model.specs.Events.Refusals.{Event, Done}
+use Rattle.nfs_model.specs.Events.Step.{Events}
+
+pub record Seen : Type 0 where
+  pub setup : Setup
+  pub world : World
+
+abbrev pub one_if_refused : Result Done ℕ → ℕ
+one_if_refused (Ok done) = 0
+one_if_refused (Err number) = 1
+
+-- a list of events, each answered or refused, and how many were refused
+abbrev pub RunsRefusing : Setup → World → List Event → ℕ → World → Type 0
+RunsRefusing setup old [] refused new = (refused ≡ 0) × (new ≡ old)
+RunsRefusing setup old (e ∷ es) refused new =
+    (answer : Result Done ℕ) × (middle : World) × (others : ℕ) × Events setup old e answer middle × (refused ≡ one_if_refused answer + others) × RunsRefusing setup middle es others new
