@@ -10,6 +10,8 @@ mod printing;
 mod program;
 mod replay;
 mod script;
+#[cfg(test)]
+mod tests;
 mod words;
 
 use fault::Fault;
