@@ -32,7 +32,10 @@ fn main(rt: HostRuntime) -> ExitCode {
     let mut out = io::writer(&rt);
     let status = match arguments(&rt) {
         Ok(words) => program::program(&rt, &words, &mut out),
-        Err(fault) => printing::end_by(fault, &mut out),
+        Err(fault) => {
+            printing::print_fault(&mut out, fault);
+            fault.status()
+        }
     };
     ExitCode::from(status)
 }

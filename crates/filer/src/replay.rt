@@ -1,11 +1,11 @@
 //! Scripts that are run, with a line printed for each event.
 
-ghost use Rattle.std.specs.Prelude.{◌≤◌};
+ghost use Rattle.std.specs.Prelude.{◌<◌, ◌≤◌, length};
 
 use crate::engine::Engine;
 use crate::engine::event::{Done, Event, Refusal};
 use crate::fault::Fault;
-use crate::printing::{end_by, print_output, say};
+use crate::printing::{print_fault, print_output, say};
 use crate::script::Script;
 use byteorder::{BigEndian, ByteOrder};
 use std::alloc::Global;
@@ -15,7 +15,10 @@ use std::io::{Read, Write};
 const LAST_FRAGMENT: u32 = 0x8000_0000;
 
 /// How many of the bytes are the record that they begin with, which is one fragment.
-fn record_len(bytes: &[u8]) -> usize {
+fn record_len(bytes: &[u8]) -> usize
+    ensures some { 0 < length bytes.now → 0 < result }
+    ensures within { result ≤ length bytes.now }
+{
     if bytes.len() < 4 {
         return bytes.len();
     }
@@ -93,17 +96,25 @@ fn run<W: Write>(alloc: Global, text: &[u8], out: &mut W) -> Result<bool, Fault>
     Ok(refused)
 }
 
+/// Reads a script whole.
+fn read_whole<R: Read>(alloc: Global, script: &mut R) -> Result<Vec<u8>, Fault> {
+    let mut text = Vec::new(alloc);
+    match script.read_to_end(&mut text) {
+        Ok(_) => Ok(text),
+        Err(error) => Err(Fault::of_file(&error)),
+    }
+}
+
 /// Runs a script, which is read whole before a line is printed, and answers the exit status: 1
 /// where an event was refused, a line was bad, a read or a write failed or memory ran out, else 0.
 pub fn replay<R: Read, W: Write>(alloc: Global, script: &mut R, out: &mut W) -> u8
     ensures { result ≤ 1 }
 {
-    let mut text = Vec::new(alloc);
-    if let Err(error) = script.read_to_end(&mut text) {
-        return end_by(Fault::of_file(&error), out);
-    }
-    match run(alloc, &text, out) {
+    match read_whole(alloc, script).and_then(|text| run(alloc, &text, out)) {
         Ok(refused) => u8::from(refused),
-        Err(fault) => end_by(fault, out),
+        Err(fault) => {
+            print_fault(out, fault);
+            1
+        }
     }
 }

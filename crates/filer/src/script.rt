@@ -1,6 +1,6 @@
 //! Scripts: lines of a layout, then lines of events.
 
-ghost use Rattle.std.specs.Prelude.{◌≡◌, ◌+◌, ◌<◌, ◌^◌, length};
+ghost use Rattle.std.specs.Prelude.{◌≡◌, ◌≢◌, ◌+◌, ◌<◌, ◌≤◌, ◌^◌, ◌⊎◌, [], ◌∷◌, ◌++◌, length, Contains, IfOk, IfErr, IsSome, IfSome};
 
 mod line;
 mod word;
@@ -9,6 +9,9 @@ use crate::engine::layout::Layout;
 use crate::fault::Fault;
 use crate::script::line::{EventLine, Line, Unread, read_line};
 use std::alloc::Global;
+
+/// What ends a line.
+const LINE_FEED: u8 = b'\n';
 
 /// The most spare ranges of an aggregate.
 const SPARE_LIMIT: u32 = 128;
@@ -35,7 +38,10 @@ pub(crate) struct Start {
 
 impl<'a> Script<'a> {
     /// A script of which nothing is read.
-    pub(crate) fn new(alloc: Global, text: &'a [u8]) -> Script<'a> {
+    pub(crate) fn new(alloc: Global, text: &'a [u8]) -> Script<'a>
+        ensures rest { result.rest.now ≡ text.now }
+        ensures count { result.count ≡ 0 }
+    {
         Script {
             alloc,
             rest: text,
@@ -44,27 +50,40 @@ impl<'a> Script<'a> {
     }
 
     /// That the line read last is of no form that a line may have there.
-    fn bad_line(&self) -> Fault {
+    fn bad_line(&self) -> Fault
+        ensures { result ≡ Fault.BadLine self.now.count }
+    {
         Fault::BadLine { number: self.count }
     }
 
     /// The next line without its line feed; nothing at the end. A last line without a line feed is
     /// bad.
-    fn next_text(&mut self) -> Result<Option<&'a [u8]>, Fault> {
-        if self.rest.is_empty() {
+    fn next_text(&mut self) -> Result<Option<&'a [u8]>, Fault>
+        ensures end { IfOk result (λ text. text ≡ None → (self.old.rest.now ≡ []) × (self.new ≡ self.old)) }
+        ensures line { IfOk result (λ text. IfSome text (λ line. self.old.rest.now ≡ line.now ++ 10 ∷ self.new.rest.now)) }
+        ensures whole { IfOk result (λ text. IfSome text (λ line. ¬ Contains line.now 10)) }
+        ensures count { IfOk result (λ text. IfSome text (λ _. self.new.count ≡ self.old.count + 1)) }
+        ensures shorter { IfOk result (λ text. IfSome text (λ _. length self.new.rest.now < length self.old.rest.now)) }
+        ensures err { IfErr result (λ fault. (fault ≡ Fault.BadLine (self.old.count + 1)) × ¬ Contains self.old.rest.now 10) }
+    {
+        let rest = self.rest;
+        if rest.is_empty() {
             return Ok(None);
         }
-        self.count += 1;
-        let Some(end) = self.rest.iter().position(|byte| *byte == b'\n') else {
-            return Err(self.bad_line());
+        let Some(end) = rest.iter().position(|byte| *byte == LINE_FEED) else {
+            return Err(Fault::BadLine {
+                number: self.count + 1,
+            });
         };
-        let (line, after) = self.rest.split_at(end);
-        self.rest = &after[1..];
-        Ok(Some(line))
+        self.rest = &rest[end + 1..];
+        self.count += 1;
+        Ok(Some(&rest[..end]))
     }
 
     /// The next line that is neither empty nor a comment; nothing at the end.
-    fn next_line(&mut self) -> Result<Option<Line>, Fault> {
+    fn next_line(&mut self) -> Result<Option<Line>, Fault>
+        ensures { IfOk result (λ line. IsSome line → length self.new.rest.now < length self.old.rest.now) }
+    {
         while let Some(text) = self.next_text()? {
             match read_line(self.alloc, text) {
                 Ok(None) => {}
@@ -122,7 +141,9 @@ impl<'a> Script<'a> {
     }
 
     /// The next event; nothing at the end.
-    pub(crate) fn read_event(&mut self) -> Result<Option<EventLine>, Fault> {
+    pub(crate) fn read_event(&mut self) -> Result<Option<EventLine>, Fault>
+        ensures { IfOk result (λ event. IsSome event → length self.new.rest.now < length self.old.rest.now) }
+    {
         match self.next_line()? {
             None => Ok(None),
             Some(Line::Event(event)) => Ok(Some(event)),
