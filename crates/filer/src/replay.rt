@@ -47,7 +47,13 @@ fn output_before(engine: &Engine, event: Event<'_>) -> usize {
 }
 
 /// Prints what an event came to.
-fn print_done<W: Write>(engine: &Engine, event: Event<'_>, before: usize, done: Done, out: &mut W) -> Result<(), Fault> {
+fn print_done<W: Write>(
+    engine: &Engine,
+    event: Event<'_>,
+    before: usize,
+    done: Done,
+    out: &mut W,
+) -> Result<(), Fault> {
     match (event, done) {
         (_, Done::Opened { connection }) => say(out, format_args!("conn {connection}")),
         (Event::Feed { connection, .. }, Done::Fed { taken, stop }) => {
@@ -56,12 +62,19 @@ fn print_done<W: Write>(engine: &Engine, event: Event<'_>, before: usize, done: 
             let output = engine.output(connection);
             print_records(out, connection, &output[before.min(output.len())..])
         }
-        (Event::Close { connection }, Done::Closed) => say(out, format_args!("closed {connection}")),
+        (Event::Close { connection }, Done::Closed) => say(
+            out,
+            format_args!("closed {connection}"),
+        ),
         (_, Done::Granted { affinity }) => say(out, format_args!("granted {affinity}")),
         (_, Done::Replied) => say(out, "reply"),
         (_, Done::Written { connection, count }) => {
             let output = engine.output(connection);
-            print_output(out, connection, &output[output.len().saturating_sub(count)..])
+            print_output(
+                out,
+                connection,
+                &output[output.len().saturating_sub(count)..],
+            )
         }
         // only a feed comes to the one, and only a close to the other
         (_, Done::Fed { .. } | Done::Closed) => Ok(()),

@@ -82,7 +82,9 @@ fn calls_are_answered(rt: HostRuntime) -> Result<(), Fail> {
     let run = "begin 0 0 1 0\nwork 0\nfinish 0\n";
 
     let events = format!(in alloc; "open\nfeed 0 {NULL}\nfeed 0 {GETATTR}\n{run}")?;
-    let printed = format!(in alloc; "conn 0\ntaken 44 stop 0\nout 0 {NULL_REPLY}\ntaken 60 stop 0\n{begun}out 0 {GETATTR_REPLY}\n")?;
+    let printed = format!(in alloc;
+        "conn 0\ntaken 44 stop 0\nout 0 {NULL_REPLY}\ntaken 60 stop 0\n{begun}out 0 {GETATTR_REPLY}\n"
+    )?;
     expect_events(&rt, &events, 0, &printed)?;
 
     let events = format!(in alloc; "open\nfeed 0 {NULL_IN_FRAGMENTS}\n")?;
@@ -99,7 +101,9 @@ fn calls_are_answered(rt: HostRuntime) -> Result<(), Fail> {
 
     // two replies in one feed are two lines
     let events = format!(in alloc; "open\nfeed 0 {NULL}{NULL}\nclose 0\nopen\nfeed 1 {NULL}\n")?;
-    let printed = format!(in alloc; "conn 0\ntaken 88 stop 0\nout 0 {NULL_REPLY}\nout 0 {NULL_REPLY}\nclosed 0\nconn 1\ntaken 44 stop 0\nout 1 {NULL_REPLY}\n")?;
+    let printed = format!(in alloc;
+        "conn 0\ntaken 88 stop 0\nout 0 {NULL_REPLY}\nout 0 {NULL_REPLY}\nclosed 0\nconn 1\ntaken 44 stop 0\nout 1 {NULL_REPLY}\n"
+    )?;
     expect_events(&rt, &events, 0, &printed)?;
     Ok(())
 }
@@ -121,22 +125,40 @@ fn streams_are_cut_anyhow(rt: HostRuntime) -> Result<(), Fail> {
 #[test]
 fn faults_and_closes_end_a_connection(rt: HostRuntime) -> Result<(), Fail> {
     let alloc = rt.alloc();
-    let events = format!(in alloc; "open\nfeed 0 {GETATTR}{GETATTR}80020001\nbegin 0 0 1 0\nwork 0\nfinish 0\nbegin 0 0 1 0\nclose 0\nwork 0\nfinish 0\nfeed 0 -\n")?;
-    let printed = format!(in alloc; "conn 0\ntaken 124 stop 11\ngranted logical 0\nreply\nout 0 {GETATTR_REPLY}\ngranted logical 0\nclosed 0\nreply\nout 0 -\nrefused 36\n")?;
+    let events = format!(in alloc;
+        "open\nfeed 0 {GETATTR}{GETATTR}80020001\nbegin 0 0 1 0\nwork 0\nfinish 0\nbegin 0 0 1 0\nclose 0\nwork 0\nfinish 0\nfeed 0 -\n"
+    )?;
+    let printed = format!(in alloc;
+        "conn 0\ntaken 124 stop 11\ngranted logical 0\nreply\nout 0 {GETATTR_REPLY}\ngranted logical 0\nclosed 0\nreply\nout 0 -\nrefused 36\n"
+    )?;
     expect_events(&rt, &events, 1, &printed)?;
 
     // a record of 7 bytes, then nothing more is taken
     let events = "open\nfeed 0 8000000700000001000000\nfeed 0 -\nclose 0\n";
-    expect_events(&rt, events, 1, "conn 0\ntaken 11 stop 12\nrefused 36\nclosed 0\n")?;
-    expect_events(&rt, "open\nfeed 0 8000000700000001000000\n", 0, "conn 0\ntaken 11 stop 12\n")?;
+    expect_events(
+        &rt,
+        events,
+        1,
+        "conn 0\ntaken 11 stop 12\nrefused 36\nclosed 0\n",
+    )?;
+    expect_events(
+        &rt,
+        "open\nfeed 0 8000000700000001000000\n",
+        0,
+        "conn 0\ntaken 11 stop 12\n",
+    )?;
     Ok(())
 }
 
 #[test]
 fn events_are_refused(rt: HostRuntime) -> Result<(), Fail> {
     let alloc = rt.alloc();
-    let events = format!(in alloc; "close 0\nfeed 4294967295 00\nwork 0\nfinish 0\nbegin 0 0 1 0\nbegin 1 0 1 0\nopen\nopen\nfeed 1 -\nfeed 0 -\nfeed 0 {GETATTR}{GETATTR}\nbegin 0 2 1 0\nbegin 0 0 1 1000000000\nbegin 0 0 1 999999999\nbegin 0 0 1 0\nwork 1\nfinish 1\nfinish 0\nwork 0\nwork 0\nfinish 0\nfinish 0\nclose 0\nclose 0\nfeed 0 00\n")?;
-    let printed = format!(in alloc; "refused 36\nrefused 36\nrefused 34\nrefused 34\nrefused 32\nrefused 33\nconn 0\nrefused 31\nrefused 36\ntaken 0 stop 0\ntaken 120 stop 0\nrefused 32\nrefused 37\ngranted logical 0\nrefused 33\nrefused 34\nrefused 34\nrefused 35\nreply\nrefused 34\nout 0 {GETATTR_REPLY}\nrefused 34\nclosed 0\nrefused 36\nrefused 36\n")?;
+    let events = format!(in alloc;
+        "close 0\nfeed 4294967295 00\nwork 0\nfinish 0\nbegin 0 0 1 0\nbegin 1 0 1 0\nopen\nopen\nfeed 1 -\nfeed 0 -\nfeed 0 {GETATTR}{GETATTR}\nbegin 0 2 1 0\nbegin 0 0 1 1000000000\nbegin 0 0 1 999999999\nbegin 0 0 1 0\nwork 1\nfinish 1\nfinish 0\nwork 0\nwork 0\nfinish 0\nfinish 0\nclose 0\nclose 0\nfeed 0 00\n"
+    )?;
+    let printed = format!(in alloc;
+        "refused 36\nrefused 36\nrefused 34\nrefused 34\nrefused 32\nrefused 33\nconn 0\nrefused 31\nrefused 36\ntaken 0 stop 0\ntaken 120 stop 0\nrefused 32\nrefused 37\ngranted logical 0\nrefused 33\nrefused 34\nrefused 34\nrefused 35\nreply\nrefused 34\nout 0 {GETATTR_REPLY}\nrefused 34\nclosed 0\nrefused 36\nrefused 36\n"
+    )?;
     expect_events(&rt, &events, 1, &printed)?;
     Ok(())
 }
@@ -149,7 +171,9 @@ fn a_full_engine_takes_no_record_more(rt: HostRuntime) -> Result<(), Fail> {
         events.push_str(GETATTR)?;
     }
     events.push_str("\nfeed 0 01\nbegin 0 1023 1 0\nwork 0\nfinish 0\nfeed 0 01\n")?;
-    let printed = format!(in alloc; "conn 0\ntaken 61499 stop 31\ntaken 0 stop 31\ngranted logical 0\nreply\nout 0 {GETATTR_REPLY}\ntaken 1 stop 0\n")?;
+    let printed = format!(in alloc;
+        "conn 0\ntaken 61499 stop 31\ntaken 0 stop 31\ngranted logical 0\nreply\nout 0 {GETATTR_REPLY}\ntaken 1 stop 0\n"
+    )?;
     expect_events(&rt, &events, 0, &printed)?;
     Ok(())
 }
@@ -182,7 +206,10 @@ fn bad_lines_end_a_script(rt: HostRuntime) -> Result<(), Fail> {
         ("aggregate 1\nvolume 0 1\nstart 1 010203040506070\n", 3),
         ("aggregate 1\nvolume 0 1\nstart 1 01020304050607AB\n", 3),
         ("aggregate 1\nvolume 0 1\nstart 1 -\n", 3),
-        ("aggregate 1\nvolume 0 1\nstart 1 0102030405060708\n# no line feed", 4),
+        (
+            "aggregate 1\nvolume 0 1\nstart 1 0102030405060708\n# no line feed",
+            4,
+        ),
     ];
     for (script, number) in layouts {
         let printed = format!(in alloc; "bad line {number}\n")?;
@@ -266,8 +293,12 @@ impl Write for Closing {
 #[test]
 fn devices_fail(rt: HostRuntime) -> Result<(), Fail> {
     let alloc = rt.alloc();
-    let script = format!(in alloc; "{LAYOUT}open\nfeed 0 {NULL}\nfeed 0 {GETATTR}\nbegin 0 0 1 0\nwork 0\nfinish 0\nclose 1\n")?;
-    let printed = format!(in alloc; "conn 0\ntaken 44 stop 0\nout 0 {NULL_REPLY}\ntaken 60 stop 0\ngranted logical 0\nreply\nout 0 {GETATTR_REPLY}\nrefused 36\n")?;
+    let script = format!(in alloc;
+        "{LAYOUT}open\nfeed 0 {NULL}\nfeed 0 {GETATTR}\nbegin 0 0 1 0\nwork 0\nfinish 0\nclose 1\n"
+    )?;
+    let printed = format!(in alloc;
+        "conn 0\ntaken 44 stop 0\nout 0 {NULL_REPLY}\ntaken 60 stop 0\ngranted logical 0\nreply\nout 0 {GETATTR_REPLY}\nrefused 36\n"
+    )?;
 
     let mut out = Vec::new(alloc);
     assert_eq!(rt; replay(alloc, &mut Broken(script.as_bytes()), &mut out), 1);
@@ -293,7 +324,10 @@ fn devices_fail(rt: HostRuntime) -> Result<(), Fail> {
 #[test]
 fn command_lines_are_read(rt: HostRuntime) -> Result<(), Fail> {
     let alloc = rt.alloc();
-    assert_eq!(rt; command(alloc, &["filer", "replay", "x"]), Ok(Command::Replay { path: "x" }));
+    assert_eq!(rt;
+        command(alloc, &["filer", "replay", "x"]),
+        Ok(Command::Replay { path: "x" })
+    );
     let refused: [&[&str]; 9] = [
         &[],
         &["filer"],
@@ -319,7 +353,10 @@ fn command_lines_are_read(rt: HostRuntime) -> Result<(), Fail> {
     assert_eq!(rt; program(&rt, &["filer"], &mut closed), 2);
 
     let mut out = Vec::new(alloc);
-    assert_eq!(rt; program(&rt, &["filer", "replay", "no such file"], &mut out), 1);
+    assert_eq!(rt;
+        program(&rt, &["filer", "replay", "no such file"], &mut out),
+        1
+    );
     assert_eq!(rt; out.as_slice(), b"fault 61\n".as_slice());
     Ok(())
 }

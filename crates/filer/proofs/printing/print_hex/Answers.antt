@@ -32,7 +32,7 @@ loop-rest-preserved g c = (
   c.loop-rest.invariant.0 ++ c.split_at.result.0.now,
   grind (arith, common_steps),
   rw (encode_with-append lower_digits c.loop-rest.invariant.0 c.split_at.result.0.now)
-  (Appends-more _ _ _ _ _ c.loop-rest.invariant.2 c.in_ok-print_piece.ensures.digits),
+      (Appends-more _ _ _ _ _ c.loop-rest.invariant.2 c.in_ok-print_piece.ensures.digits),
 )
 
 pub returns-clause-digits : goal.returns-clause-digits

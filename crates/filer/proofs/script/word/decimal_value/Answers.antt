@@ -1,4 +1,4 @@
-use Rattle.std.proofs.Common.{◌≡◌, ◌≢◌, ◌+◌, ◌*◌, ◌/◌, ◌%◌, ◌<◌, ◌≤◌, ◌∷◌, ◌++◌, [], ℕ, List, length, take, get_or, arith, rules, sym, ap, ◌∙◌, refl}
+use Rattle.std.proofs.Common.{◌≡◌, ◌≢◌, ◌+◌, ◌*◌, ◌/◌, ◌%◌, ◌^◌, ◌<◌, ◌≤◌, ◌∷◌, ◌++◌, [], ℕ, List, length, take, get_or, arith, rules, sym, ap, ◌∙◌, refl}
 use Rattle.std.proofs.lemmas.Grind.{common_steps}
 use Rattle.std.proofs.lemmas.Fmt.{decimal_digit, decimal_step}
 use Rattle.std.proofs.lemmas.List.{take_more}
@@ -26,7 +26,16 @@ more_digits digits others first i n d e inside before some next small fits =
     cc
 
 pub loop-next-init : goal.loop-next-init
-loop-next-init c = one_digit _ c.in_ok-first.others.now c.in_ok-first.first.now _ ? (c.in_ok-number.ensures.0) (c.in_ok-number.ensures.1)
+loop-next-init c =
+    one_digit _ _ _ _ c.in_ok-first.ensures.cases.0 c.in_ok-number.ensures.0 c.in_ok-number.ensures.1
 
 pub loop-next-preserved : goal.loop-next-preserved
-loop-next-preserved c = ?
+loop-next-preserved c =
+    let some : 0 < c.loop-next.number = omega arith in
+    let product = c.in_ok-checked_mul.ensures.1 in
+    let sum : c.in_ok-number-2.number ≡ c.loop-next.number * 10 + c.in_ok-digit.field-0 =
+    omega (arith, product, c.in_ok-number-2.ensures.1) in
+    let small : c.loop-next.number * 10 + c.in_ok-digit.field-0 < 2 ^ 32 =
+    omega (arith, product, c.in_ok-number-2.ensures.0) in
+    rw sum (more_digits _ _ _ _ _ _ c.in_ok-first.ensures.cases.0 c.loop-next-test.true c.loop-next.invariant some
+    c.in_ok-digit.ensures.1 c.in_ok-digit.ensures.0 small)
