@@ -1,9 +1,12 @@
 //! Why the program ends before its work is done.
 
+ghost use Rattle.std.specs.Prelude.{◌≡◌, ◌≢◌};
+
+use std::io;
 use thiserror::Error;
 
 /// What ends a command; the text is the line that is printed.
-#[derive(Clone, Copy, Debug, PartialEq, Eq, Drop, Error)]
+#[derive(Clone, Copy, Debug, PartialEq, Eq, Error)]
 pub enum Fault {
     /// The command line can't be parsed, or asks for help.
     #[error("fault 60")]
@@ -14,14 +17,39 @@ pub enum Fault {
     /// Memory ran out.
     #[error("refused 90")]
     NoMemory,
+    /// A line of a script, counted from 1, is of no form that a line may have where it stands.
+    #[error("bad line {number}")]
+    BadLine { number: usize },
+    /// A write failed, so that nothing more is printed.
+    #[error("fault of the output")]
+    Output,
 }
 
 impl Fault {
+    /// Why the command line can't be read.
+    pub fn of_words(error: &io::Error) -> Fault {
+        match error.kind() {
+            io::ErrorKind::OutOfMemory => Fault::NoMemory,
+            _ => Fault::CommandLine,
+        }
+    }
+
+    /// Why a file can't be read.
+    pub fn of_file(error: &io::Error) -> Fault {
+        match error.kind() {
+            io::ErrorKind::OutOfMemory => Fault::NoMemory,
+            _ => Fault::File,
+        }
+    }
+
     /// The exit status of the program.
-    pub fn status(self) -> u8 {
+    pub fn status(self) -> u8
+        ensures command_line { self ≡ Fault.CommandLine → result ≡ 2 }
+        ensures others { self ≢ Fault.CommandLine → result ≡ 1 }
+    {
         match self {
             Fault::CommandLine => 2,
-            Fault::File | Fault::NoMemory => 1,
+            Fault::File | Fault::NoMemory | Fault::BadLine { .. } | Fault::Output => 1,
         }
     }
 }

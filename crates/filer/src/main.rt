@@ -6,17 +6,36 @@
 mod choice;
 mod engine;
 mod fault;
+mod printing;
+mod program;
+mod replay;
 mod script;
+#[cfg(test)]
+mod tests;
 mod words;
 
-use std::io;
+use fault::Fault;
+use std::alloc::AllocError;
+use std::process::ExitCode;
+use std::{env, io};
 
-fn main(rt: HostRuntime) -> io::Result<()> {
-    let alloc = rt.alloc();
-    match words::command(alloc, &["filer", "replay", "x"]) {
-        Ok(choice::Command::Replay { path }) => println!(rt; "{path}")?,
-        Err(fault) => println!(rt; "{fault}")?,
+/// The words of the command line.
+fn arguments(rt: &(impl env::Env + AllocGlobal)) -> Result<Vec<String>, Fault> {
+    let mut words = Vec::new(rt.alloc());
+    for word in env::args(rt).map_err(|error| Fault::of_words(&error))? {
+        words.push(word).map_err(|_| Fault::NoMemory)?;
     }
-    let Ok(line) = script::read_line(alloc, b"feed 0 00ff") else { return Ok(()) };
-    println!(rt; "{line:?}")
+    Ok(words)
+}
+
+fn main(rt: HostRuntime) -> ExitCode {
+    let mut out = io::writer(&rt);
+    let status = match arguments(&rt) {
+        Ok(words) => program::program(&rt, &words, &mut out),
+        Err(fault) => {
+            printing::print_fault(&mut out, fault);
+            fault.status()
+        }
+    };
+    ExitCode::from(status)
 }

@@ -1,6 +1,153 @@
 //! Scripts: lines of a layout, then lines of events.
 
-pub(crate) mod line;
+ghost use Rattle.std.specs.Prelude.{◌≡◌, ◌≢◌, ◌+◌, ◌<◌, ◌≤◌, ◌^◌, ◌⊎◌, [], ◌∷◌, ◌++◌, length, Contains, IfOk, IfErr, IsSome, IfSome};
+
+mod line;
 mod word;
 
-pub(crate) use line::{EventLine, Line, Unread, read_line};
+use crate::engine::layout::Layout;
+use crate::fault::Fault;
+use crate::script::line::{EventLine, Line, Unread, read_line};
+use std::alloc::Global;
+
+/// What ends a line.
+const LINE_FEED: u8 = b'\n';
+
+/// The most spare ranges of an aggregate.
+const SPARE_LIMIT: u32 = 128;
+
+/// The most ranges of a volume.
+const RANGE_LIMIT: u32 = 16;
+
+/// The lines of a script, of which some are read.
+#[derive(Drop)]
+pub(crate) struct Script<'a> {
+    alloc: Global,
+    rest: &'a [u8],
+    /// How many lines are read.
+    count: usize,
+    ghost room: { count + length rest.now < 2 ^ 63 },
+}
+
+/// What an engine is started with.
+#[derive(Clone, Copy, Debug)]
+pub(crate) struct Start {
+    pub(crate) layout: Layout,
+    pub(crate) verifier: [u8; 8],
+}
+
+impl<'a> Script<'a> {
+    /// A script of which nothing is read.
+    pub(crate) fn new(alloc: Global, text: &'a [u8]) -> Script<'a>
+        ensures rest { result.rest.now ≡ text.now }
+        ensures count { result.count ≡ 0 }
+    {
+        Script {
+            alloc,
+            rest: text,
+            count: 0,
+        }
+    }
+
+    /// That the line read last is of no form that a line may have there.
+    fn bad_line(&self) -> Fault
+        ensures { result ≡ Fault.BadLine self.now.count }
+    {
+        Fault::BadLine { number: self.count }
+    }
+
+    /// The next line without its line feed; nothing at the end. A last line without a line feed is
+    /// bad.
+    fn next_text(&mut self) -> Result<Option<&'a [u8]>, Fault>
+        ensures end { IfOk result (λ text. text ≡ None → (self.old.rest.now ≡ []) × (self.new ≡ self.old)) }
+        ensures line { IfOk result (λ text. IfSome text (λ line. self.old.rest.now ≡ line.now ++ 10 ∷ self.new.rest.now)) }
+        ensures whole { IfOk result (λ text. IfSome text (λ line. ¬ Contains line.now 10)) }
+        ensures count { IfOk result (λ text. IfSome text (λ _. self.new.count ≡ self.old.count + 1)) }
+        ensures shorter { IfOk result (λ text. IfSome text (λ _. length self.new.rest.now < length self.old.rest.now)) }
+        ensures err { IfErr result (λ fault. (fault ≡ Fault.BadLine (self.old.count + 1)) × ¬ Contains self.old.rest.now 10) }
+    {
+        let rest = self.rest;
+        if rest.is_empty() {
+            return Ok(None);
+        }
+        let Some(end) = rest.iter().position(|byte| *byte == LINE_FEED) else {
+            return Err(Fault::BadLine {
+                number: self.count + 1,
+            });
+        };
+        self.rest = &rest[end + 1..];
+        self.count += 1;
+        Ok(Some(&rest[..end]))
+    }
+
+    /// The next line that is neither empty nor a comment; nothing at the end.
+    fn next_line(&mut self) -> Result<Option<Line>, Fault>
+        ensures { IfOk result (λ line. IsSome line → length self.new.rest.now < length self.old.rest.now) }
+    {
+        while let Some(text) = self.next_text()? {
+            match read_line(self.alloc, text) {
+                Ok(None) => {}
+                Ok(Some(line)) => return Ok(Some(line)),
+                Err(Unread::Form) => return Err(self.bad_line()),
+                Err(Unread::NoMemory) => return Err(Fault::NoMemory),
+            }
+        }
+        Ok(None)
+    }
+
+    /// The next line of the layout. Where the script ends, the line past its last is bad.
+    fn layout_line(&mut self) -> Result<Line, Fault> {
+        match self.next_line()? {
+            Some(line) => Ok(line),
+            None => Err(Fault::BadLine {
+                number: self.count + 1,
+            }),
+        }
+    }
+
+    /// The layout's aggregate: how many spare ranges it has.
+    fn read_aggregate(&mut self) -> Result<u32, Fault> {
+        match self.layout_line()? {
+            Line::Aggregate { spare } if spare <= SPARE_LIMIT => Ok(spare),
+            _ => Err(self.bad_line()),
+        }
+    }
+
+    /// The layout's volume: how many ranges are in use.
+    fn read_volume(&mut self) -> Result<u32, Fault> {
+        match self.layout_line()? {
+            Line::Volume {
+                aggregate: 0,
+                ranges,
+            } if 1 <= ranges && ranges <= RANGE_LIMIT => Ok(ranges),
+            _ => Err(self.bad_line()),
+        }
+    }
+
+    /// The layout, up to the line that starts its engine.
+    pub(crate) fn read_start(&mut self) -> Result<Start, Fault> {
+        let spare = self.read_aggregate()?;
+        let ranges = self.read_volume()?;
+        match self.layout_line()? {
+            Line::Start {
+                workers: 1,
+                verifier,
+            } => Ok(Start {
+                layout: Layout { spare, ranges },
+                verifier,
+            }),
+            _ => Err(self.bad_line()),
+        }
+    }
+
+    /// The next event; nothing at the end.
+    pub(crate) fn read_event(&mut self) -> Result<Option<EventLine>, Fault>
+        ensures { IfOk result (λ event. IsSome event → length self.new.rest.now < length self.old.rest.now) }
+    {
+        match self.next_line()? {
+            None => Ok(None),
+            Some(Line::Event(event)) => Ok(Some(event)),
+            Some(_) => Err(self.bad_line()),
+        }
+    }
+}

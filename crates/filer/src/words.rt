@@ -5,6 +5,7 @@ use crate::fault::Fault;
 use clap::error::ErrorKind;
 use clap::{Arg, ArgAction, ArgMatches, Error};
 use std::alloc::{AllocError, Global};
+use std::convert::AsStr;
 
 /// The program's command line, as it is declared: `filer replay FILE`.
 fn declared<'a>(alloc: Global) -> Result<clap::Command<'a>, AllocError> {
@@ -28,22 +29,20 @@ fn chosen<'a>(matches: &ArgMatches<'a>) -> Result<Command<'a>, Fault> {
     }
 }
 
-/// The command that the words ask for; the first word is the program's name.
-///
-/// `CommandLine` where the words are no command or ask for help, `NoMemory` where memory ran out.
-pub fn command<'a>(alloc: Global, words: &'a [&'a str]) -> Result<Command<'a>, Fault> {
-    let Ok(declared) = declared(alloc) else {
-        return Err(Fault::NoMemory);
-    };
-    match declared.try_get_matches_from(words) {
-        Ok(matches) => chosen(&matches),
-        Err(error) => Err(fault_of(&error)),
-    }
-}
-
 fn fault_of(error: &Error) -> Fault {
     match error.kind() {
         ErrorKind::OutOfMemory => Fault::NoMemory,
         _ => Fault::CommandLine,
+    }
+}
+
+/// The command that the words ask for; the first word is the program's name.
+///
+/// `CommandLine` where the words are no command or ask for help, `NoMemory` where memory ran out.
+pub fn command<'a, S: AsStr>(alloc: Global, words: &'a [S]) -> Result<Command<'a>, Fault> {
+    let declared = declared(alloc).map_err(|_| Fault::NoMemory)?;
+    match declared.try_get_matches_from(words) {
+        Ok(matches) => chosen(&matches),
+        Err(error) => Err(fault_of(&error)),
     }
 }

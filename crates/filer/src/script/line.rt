@@ -1,6 +1,8 @@
 //! The lines of a script.
 
+use crate::engine::event::Event;
 use crate::script::word::Words;
+use nfs_values::Moment;
 use std::alloc::Global;
 
 /// A line of a script that says something.
@@ -38,6 +40,41 @@ pub(crate) enum EventLine {
     Finish {
         worker: u32,
     },
+}
+
+impl EventLine {
+    /// The event that is asked for.
+    pub(crate) fn event(&self) -> Event<'_> {
+        match self {
+            EventLine::Open => Event::Open,
+            EventLine::Feed { connection, bytes } => Event::Feed {
+                connection: *connection as usize,
+                bytes,
+            },
+            EventLine::Close { connection } => Event::Close {
+                connection: *connection as usize,
+            },
+            EventLine::Begin {
+                worker,
+                place,
+                seconds,
+                nanoseconds,
+            } => Event::Begin {
+                worker: *worker as usize,
+                place: *place as usize,
+                moment: Moment {
+                    seconds: *seconds,
+                    nanoseconds: *nanoseconds,
+                },
+            },
+            EventLine::Work { worker } => Event::Work {
+                worker: *worker as usize,
+            },
+            EventLine::Finish { worker } => Event::Finish {
+                worker: *worker as usize,
+            },
+        }
+    }
 }
 
 /// Why a line can't be read.

@@ -1,5 +1,8 @@
 //! The words of a line: separated by one space each.
 
+ghost use Rattle.std.specs.Prelude.{◌≡◌, ◌+◌, ◌<◌, IfSome};
+ghost use Rattle.std.specs.Fmt.{decimal};
+
 use crate::script::line::Unread;
 use std::alloc::Global;
 
@@ -29,7 +32,7 @@ impl<'a> Words<'a> {
 
     /// The next word, as a decimal number without leading zeros.
     pub(crate) fn number(&mut self) -> Result<u32, Unread> {
-        decimal(self.word()?).ok_or(Unread::Form)
+        decimal_value(self.word()?).ok_or(Unread::Form)
     }
 
     /// The next word, as bytes in lower-case hex; `-` stands for none.
@@ -63,22 +66,28 @@ impl<'a> Words<'a> {
 }
 
 /// The number that decimal digits stand for: no sign, no leading zero, below 2^32.
-fn decimal(digits: &[u8]) -> Option<u32> {
-    match digits {
-        [] => return None,
-        [b'0', _, ..] => return None,
-        _ => {}
-    }
-    let mut number = 0u32;
-    for digit in digits {
-        if !digit.is_ascii_digit() {
+fn decimal_value(digits: &[u8]) -> Option<u32>
+    ensures { IfSome result (λ number. digits.now ≡ decimal number) }
+{
+    let (first, others) = digits.split_first()?;
+    let mut number = digit(*first)?;
+    for next in others {
+        if number == 0 {
             return None;
         }
-        number = number
-            .checked_mul(10)?
-            .checked_add(u32::from(*digit - b'0'))?;
+        number = number.checked_mul(10)?.checked_add(digit(*next)?)?;
     }
     Some(number)
+}
+
+/// The number of a decimal digit.
+fn digit(byte: u8) -> Option<u32>
+    ensures { IfSome result (λ number. (number < 10) × (byte ≡ 48 + number)) }
+{
+    match byte {
+        b'0'..=b'9' => Some(u32::from(byte - b'0')),
+        _ => None,
+    }
 }
 
 fn is_lower_hex(word: &[u8]) -> bool {
