@@ -17,7 +17,7 @@ keeps-headline layout verifier old event answer new h e = keeps (setup_of layout
 pub runs-on : (setup : Setup) (old : World) (events : List Event) (refused : ℕ) (middle : World) (event : Event) (answer : Result Done ℕ) (new : World)
     → RunsRefusing setup old events refused middle → Events setup middle event answer new → RunsRefusing setup old (events ++ event ∷ []) (refused + one_if_refused answer) new
 runs-on setup old [] refused middle event answer new r e =
-    (answer, new, 0, subst (λ (w : World). Events setup w event answer new) r.1 e, omega (arith, r.0), refl, refl)
+    (answer, new, 0, subst (λ (w : World). Events setup w event answer new) r.1 e, omega (arith, r.0), (refl, refl))
 runs-on setup old (x ∷ events) refused middle event answer new r e =
     (r.0, r.1, r.2 + one_if_refused answer, r.3, omega (arith, r.4), runs-on setup r.1 events r.2 middle event answer new r.5 e)
 

@@ -30,9 +30,12 @@ all_served P f (bytes ∷ records) fault = all_from P (heard bytes) (map heard r
 abbrev pub Adds : Scanned → Scanned → Type 0
 Adds old new = (more : List Heard) × (new.served ≡ old.served ++ more) × (length more ≤ 1) × IfSome new.fault (λ number. more ≡ [])
 
-adds_none : (old new : Scanned) → new ≡ old → old.fault ≡ None → Adds old new
-adds_none old new e f =
-    subst (Adds old) (sym e) ([], sym (append-nil old.served), omega arith, subst (λ (o : Option ℕ). IfSome o (λ number. [] {A = Heard} ≡ [])) (sym f) tt)
+nothing_told : (xs : List Heard) (o : Option ℕ) → IfSome o (λ number. xs ≡ xs)
+nothing_told xs None = tt
+nothing_told xs (Some n) = refl
+
+adds_none : (old new : Scanned) → new ≡ old → Adds old new
+adds_none old new e = subst (Adds old) (sym e) ([], sym (append-nil old.served), omega arith, nothing_told [] old.fault)
 
 adds_read : (old : Scanned) (r : Result Heard ℕ) → Adds old (joined old.served (served_of (r ∷ []) None))
 adds_read old (Ok h) = (h ∷ [], refl, omega arith, tt)
@@ -42,7 +45,7 @@ adds_fault : (old : Scanned) → Adds old (record { served = old.served; fault =
 adds_fault old = ([], sym (append-nil old.served), omega arith, refl)
 
 adds_at : (stream : List ℕ) (state : State) (b : ℕ) (next : Next) → IsAt stream state → after state b ≡ next → Adds (scan_stream stream) (scan_stream (stream ++ b ∷ []))
-adds_at stream state b (Goes to) h e = adds_none (scan_stream stream) (scan_stream (stream ++ b ∷ [])) (scan-goes stream state to b h e).0 h.sound
+adds_at stream state b (Goes to) h e = adds_none (scan_stream stream) (scan_stream (stream ++ b ∷ [])) (scan-goes stream state to b h e).0
 adds_at stream state b (Ends made) h e = subst (Adds (scan_stream stream)) (sym (scan-whole stream state b made h e).0) (adds_read (scan_stream stream) (heard made))
 adds_at stream state b Faults h e = subst (Adds (scan_stream stream)) (sym (scan-faults stream state b h e).0) (adds_fault (scan_stream stream))
 

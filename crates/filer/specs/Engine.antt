@@ -1,11 +1,13 @@
 -- What is seen of an engine: what is fixed for its run, and its world.
-use Rattle.std.specs.Prelude.{◌≡◌, ℕ, ◌+◌, List, [], ◌∷◌, Result, Ok, Err}
-use Rattle.nfs_model.specs.World.{Setup, World}
+use Rattle.std.specs.Prelude.{◌≡◌, ℕ, ◌+◌, List, [], ◌∷◌, Option, Some, None, Result, Ok, Err}
+use Rattle.nfs_model.specs.Tree.{Layout}
+use Rattle.nfs_model.specs.World.{Setup, World, Connection}
 use Rattle.nfs_model.specs.Events.Refusals.{Event, Done}
 use Rattle.nfs_model.specs.Events.Step.{Events}
 
 pub record Seen : Type 0 where
-  pub setup : Setup
+  pub layout : Layout
+  pub verifier : List ℕ
   pub world : World
 
 abbrev pub one_if_refused : Result Done ℕ → ℕ
@@ -17,3 +19,12 @@ abbrev pub RunsRefusing : Setup → World → List Event → ℕ → World → T
 RunsRefusing setup old [] refused new = (refused ≡ 0) × (new ≡ old)
 RunsRefusing setup old (e ∷ es) refused new =
     (answer : Result Done ℕ) × (middle : World) × (others : ℕ) × Events setup old e answer middle × (refused ≡ one_if_refused answer + others) × RunsRefusing setup middle es others new
+
+-- nothing where there is no such connection
+abbrev pub output_in : Option Connection → List ℕ
+output_in None = []
+output_in (Some c) = c.output
+
+abbrev pub stream_in : Option Connection → List ℕ
+stream_in None = []
+stream_in (Some c) = c.stream

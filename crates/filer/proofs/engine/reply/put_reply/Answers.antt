@@ -1,9 +1,7 @@
-use Rattle.std.proofs.Common.{◌≡◌, List, ℕ, ◌++◌, sym, ap, ◌∙◌}
-use Rattle.filer.proofs.Records.{record-is}
+use Rattle.std.proofs.Common.{rules}
+use Rattle.filer.specs.Codec.{reply_record}
 use Rattle.filer.proofs.engine.reply.put_reply.Goals as goal
 
 pub returns-clause-items : goal.returns-clause-items
-returns-clause-items c =
-    let a = c.write_reply_record.ensures in
-    let b = c.unwrap in
-    ?
+unfolding reply_record
+returns-clause-items c = search rules
