@@ -1,14 +1,8 @@
--- What is seen of an engine: what is fixed for its run, and its world.
+-- Runs that say how many events were refused, and what is seen of a connection.
 use Rattle.std.specs.Prelude.{◌≡◌, ℕ, ◌+◌, List, [], ◌∷◌, Option, Some, None, Result, Ok, Err}
-use Rattle.nfs_model.specs.Tree.{Layout}
 use Rattle.nfs_model.specs.World.{Setup, World, Connection}
 use Rattle.nfs_model.specs.Events.Refusals.{Event, Done}
 use Rattle.nfs_model.specs.Events.Step.{Events}
-
-pub record Seen : Type 0 where
-  pub layout : Layout
-  pub verifier : List ℕ
-  pub world : World
 
 abbrev pub one_if_refused : Result Done ℕ → ℕ
 one_if_refused (Ok done) = 0

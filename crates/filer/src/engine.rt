@@ -64,15 +64,15 @@ pub struct Engine {
 }
 
 impl Model for Engine {
-    ghost use Rattle.filer.specs.Engine.{Seen};
+    ghost use Rattle.filer.specs.declared.engine.state.State.{State};
 
-    ghost Value = { Seen };
+    ghost Value = { State };
 
     ghost use Rattle.nfs_model.specs.Headline.{Headline};
-    ghost use Rattle.filer.specs.Seen.{layout_of, setup_in, world};
+    ghost use Rattle.filer.specs.Seen.{setup_in, world};
     ghost use Rattle.filer.specs.Sound.{IsSound};
 
-    ghost view = { λ e. record { layout = layout_of e.state.layout; verifier = e.state.verifier; world = world e.state } };
+    ghost view = { λ e. e.state };
 
     ghost invariant = { λ e. IsSound e.state × Headline (setup_in e.state) (world e.state) };
 }
@@ -80,10 +80,9 @@ impl Model for Engine {
 impl Engine {
     /// An engine to which nothing has happened.
     pub fn new(alloc: Global, layout: Layout, verifier: [u8; 8]) -> Engine
-        ensures layout { result.layout ≡ layout_of layout }
-        ensures verifier { result.verifier ≡ verifier }
-        ensures opening { result.world ≡ opening_world (setup_of result.layout result.verifier) }
-        ensures headline { Headline (setup_of result.layout result.verifier) result.world }
+        ensures setup { setup_in result ≡ setup_of (layout_of layout) verifier }
+        ensures opening { (world result) ≡ opening_world (setup_in result) }
+        ensures headline { Headline (setup_in result) (world result) }
     {
         Engine {
             state: State {
@@ -103,21 +102,20 @@ impl Engine {
 
     /// Takes one event. A refused one changes nothing.
     pub fn step(&mut self, event: Event<'_>) -> Result<Done, Refusal>
-        ensures events { Events (setup_of self.old.layout self.old.verifier) self.old.world (event_of event.entry) (answer_of result) self.new.world }
-        ensures layout { self.new.layout ≡ self.old.layout }
-        ensures verifier { self.new.verifier ≡ self.old.verifier }
-        ensures headline { Headline (setup_of self.new.layout self.new.verifier) self.new.world }
+        ensures events { Events (setup_in self.old) (world self.old) (event_of event.entry) (answer_of result) (world self.new) }
+        ensures setup { setup_in self.new ≡ setup_in self.old }
+        ensures headline { Headline (setup_in self.new) (world self.new) }
     {
         dispatch(&mut self.state, event)
     }
 
     /// Takes events, and answers how many were refused.
     pub fn run(&mut self, events: &[Event<'_>]) -> usize
-        ensures runs { RunsRefusing (setup_of self.old.layout self.old.verifier) self.old.world (map event_of events.now) result self.new.world }
-        ensures layout { self.new.layout ≡ self.old.layout }
-        ensures verifier { self.new.verifier ≡ self.old.verifier }
-        ensures headline { Headline (setup_of self.new.layout self.new.verifier) self.new.world }
+        ensures runs { RunsRefusing (setup_in self.old) (world self.old) (map event_of events.now) result (world self.new) }
+        ensures setup { setup_in self.new ≡ setup_in self.old }
+        ensures headline { Headline (setup_in self.new) (world self.new) }
     {
+        let _ = &self.state;
         let mut refused = 0;
         for event in events {
             if self.step(*event).is_err() {
@@ -129,10 +127,9 @@ impl Engine {
 
     /// A new engine after these events.
     pub fn play(alloc: Global, layout: Layout, verifier: [u8; 8], events: &[Event<'_>]) -> Engine
-        ensures layout { result.layout ≡ layout_of layout }
-        ensures verifier { result.verifier ≡ verifier }
-        ensures runs { Runs (setup_of result.layout result.verifier) (opening_world (setup_of result.layout result.verifier)) (map event_of events.now) result.world }
-        ensures headline { Headline (setup_of result.layout result.verifier) result.world }
+        ensures setup { setup_in result ≡ setup_of (layout_of layout) verifier }
+        ensures runs { Runs (setup_in result) (opening_world (setup_in result)) (map event_of events.now) (world result) }
+        ensures headline { Headline (setup_in result) (world result) }
     {
         let mut engine = Engine::new(alloc, layout, verifier);
         engine.run(events);
@@ -141,7 +138,7 @@ impl Engine {
 
     /// All bytes that were written to a connection; none where there is no such connection.
     pub fn output(&self, connection: usize) -> &[u8]
-        ensures { result.now ≡ output_in (slice_get self.now.world.connections connection) }
+        ensures { result.now ≡ output_in (slice_get (world self.now).connections connection) }
     {
         match self.state.past.get(connection) {
             Some(closed) => &closed.output,
@@ -154,7 +151,7 @@ impl Engine {
 
     /// All bytes that were taken from a connection; none where there is no such connection.
     pub fn stream(&self, connection: usize) -> &[u8]
-        ensures { result.now ≡ stream_in (slice_get self.now.world.connections connection) }
+        ensures { result.now ≡ stream_in (slice_get (world self.now).connections connection) }
     {
         match self.state.past.get(connection) {
             Some(closed) => &closed.stream,
@@ -172,7 +169,7 @@ impl Engine {
 
     /// The calls that are finished, in finishing order.
     pub fn finished(&self) -> &[Entry]
-        ensures { map entry_of result.now ≡ self.now.world.finished }
+        ensures { map entry_of result.now ≡ (world self.now).finished }
     {
         &self.state.finished
     }

@@ -1,0 +1,34 @@
+use Rattle.std.proofs.Common.{rules, arith, Some, None, ◌≡◌}
+use Rattle.nfs_model.specs.Headline.{Headline, opening_world}
+use Rattle.filer.specs.declared.engine.state.State.{State}
+use Rattle.filer.specs.Seen.{setup_in, world}
+use Rattle.filer.proofs.Runs.{opens}
+use Rattle.filer.proofs.engine.Engine.new.Goals as goal
+
+abbrev begun : goal.After-new-3 → State
+begun c = record {
+  alloc = c.args.alloc;
+  layout = c.args.layout;
+  verifier = c.args.verifier;
+  past = c.new.result;
+  current = None;
+  waiting = c.new-2.result;
+  running = None;
+  home = Some (record { root = record { mode = 493; uid = 0; gid = 0; atime = record { seconds = 0; nanoseconds = 0 }; mtime = record { seconds = 0; nanoseconds = 0 }; ctime = record { seconds = 0; nanoseconds = 0 } } });
+  finished = c.new-3.result;
+  stamps = 0;
+}
+
+pub returns-clause-opening : goal.returns-clause-opening
+returns-clause-opening c = search rules
+
+headline : (c : goal.After-new-3) → Headline (setup_in (begun c)) (world (begun c))
+headline c = opens (begun c) (returns-clause-opening c)
+
+-- src/engine.rt:82:5
+pub invariant_of-result : goal.invariant_of-result
+invariant_of-result c = (record { current = tt; places = omega (arith, c.new-2.ensures.len); finished = omega (arith, c.new-2.ensures.len, c.new-3.ensures.len); lent = tt; stamps = omega (arith) }, headline c)
+
+-- src/engine.rt:82:5
+pub returns-clause-headline : goal.returns-clause-headline
+returns-clause-headline c = headline c
