@@ -88,7 +88,7 @@ credential_at flavor size bytes =
     else if nat_lt 400 size then Err bad_credential
     else (body_of (read (Fixed size) bytes) >>= λ b. acting flavor b.0 >>= λ c. Ok (c, b.1))
 
--- ---- 6. the procedure (section 9)
+-- ---- 6. the procedure (section 9); before it stands verf, an opaque_auth (section 8.2)
 
 -- the version of a program that is served: NFS (RFC 1813 section 2.2) and the admin program (our profile)
 abbrev pub version_of : ℕ → Option ℕ
@@ -122,7 +122,7 @@ pub record Body : Type 0 where
   pub credential : model.Credential
   pub arguments : List ℕ
 
--- call_body (section 9): the fifth item is verf, whose content is ignored
+-- call_body (section 9) in the order of the checks. The fifth is verf, whose content is ignored.
 abbrev pub body_at : List ℕ → Result Body Stop
 body_at bytes =
     version_at bytes

@@ -48,11 +48,13 @@ pub fn refusals_are_short()
 
 /// A head says a call exactly where the bytes spell one that is served, and then its arguments.
 pub fn call_heads_are_exact()
-    ensures found { (bytes : List ℕ) (xid : ℕ) (procedure : Procedure) (who : model.Credential) (arguments : List ℕ)
+    ensures found { (bytes : List ℕ) (xid : ℕ) (procedure : Procedure) (who : model.Credential)
+        (arguments : List ℕ)
         → ((i : ℕ) → slice_index bytes i < 256)
         → head_of bytes ≡ Call xid procedure who arguments
         → IsCall bytes xid procedure who arguments }
-    ensures again { (bytes : List ℕ) (xid : ℕ) (procedure : Procedure) (who : model.Credential) (arguments : List ℕ)
+    ensures again { (bytes : List ℕ) (xid : ℕ) (procedure : Procedure) (who : model.Credential)
+        (arguments : List ℕ)
         → IsCall bytes xid procedure who arguments
         → head_of bytes ≡ Call xid procedure who arguments }
 {}
