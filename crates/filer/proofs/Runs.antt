@@ -58,3 +58,9 @@ refused-counts (Err refusal) e = refl
 pub done-counts : (answer : Result dones.Done refusals.Refusal) → is_err answer ≡ false → one_if_refused (answer_of answer) ≡ 0
 done-counts (Ok done) e = refl
 done-counts (Err refusal) e = absurd (cc)
+
+pub run-more-from : (first old new : State) (events : List happened.Event) (i : ℕ) (d : happened.Event) (refused : ℕ) (answer : Result Done ℕ) (after : ℕ) → i < length events
+    → RunsRefusing (setup_in first) (world first) (map event_of (take i events)) refused (world old) → setup_in old ≡ setup_in first → Events (setup_in old) (world old) (event_of (get_or events i d)) answer (world new) → after ≡ refused + one_if_refused answer
+    → RunsRefusing (setup_in first) (world first) (map event_of (take (i + 1) events)) after (world new)
+run-more-from first old new events i d refused answer after within r same e a =
+    run-more (setup_in first) (world first) events i d refused (world old) answer after (world new) within r (subst (λ (s : Setup). Events s (world old) (event_of (get_or events i d)) answer (world new)) same e) a

@@ -3,7 +3,7 @@ use Rattle.nfs_model.specs.World.{Setup}
 use Rattle.nfs_model.specs.Events.Step.{Events}
 use Rattle.filer.specs.Engine.{one_if_refused}
 use Rattle.filer.specs.Seen.{setup_in, world, event_of, answer_of}
-use Rattle.filer.proofs.Runs.{run-more, refused-counts, done-counts}
+use Rattle.filer.proofs.Runs.{run-more-from, refused-counts, done-counts}
 use Rattle.filer.proofs.engine.Engine.run.Goals as goal
 use Rattle.filer.proofs.engine.Engine.run.Goals.{then-is_err, else-is_err}
 
@@ -20,7 +20,7 @@ few c = elim c.if-is_err.branch [
 -- src/engine.rt:119:9
 pub loop-event-preserved : goal.loop-event-preserved
 loop-event-preserved c =
-    ( run-more _ _ _ _ _ _ _ _ _ _ c.loop-event-test.true c.loop-event.invariant.0 (subst (λ (s : Setup). Events s _ _ _ _) c.loop-event.invariant.1 c.step.ensures.events) (counted c)
+    ( run-more-from c.args.self.now c.loop-event.self c.step.new.self c.args.events.now c.loop-event.event-index _ c.loop-event.refused (answer_of c.step.result) c.if-is_err.refused c.loop-event-test.true c.loop-event.invariant.0 c.loop-event.invariant.1 c.step.ensures.events (counted c)
     , c.step.ensures.setup ∙ c.loop-event.invariant.1
     , few c
     , c.step.ensures.headline
