@@ -2,7 +2,7 @@
 use Rattle.std.proofs.Common.{◌≡◌, ℕ, suc, ◌+◌, ◌≤◌, ◌<◌, List, [], ◌∷◌, ◌++◌, length, take, Option, Some, None, Result, Ok, Err, refl, sym, ap, subst, ◌∙◌, arith, length-append}
 use Rattle.std.specs.Prelude.{map, option_map, vec_len}
 use Rattle.std.proofs.lemmas.List.{append-nil, take_all, length-take-le}
-use Rattle.rpc_record.specs.Machine.{State, start, Outcome, More, Made, Fault, scan, outcome}
+use Rattle.rpc_record.specs.Machine.{State}
 use Rattle.rpc_record.specs.Stream.{read_stream}
 use Rattle.rpc_record.specs.Feeds.{Feeds}
 use Rattle.rpc_record.specs.declared.reassembler.Step.{Step}
@@ -14,7 +14,7 @@ use Rattle.filer.specs.Numbers.{fault_number}
 use Rattle.filer.specs.Streams.{fault_at, served_of, scan_stream, IsQuiet, Completes}
 use Rattle.filer.specs.Sound.{IsInStep}
 use Rattle.filer.proofs.Scanning.{IsAt, joined}
-use Rattle.filer.proofs.Taking.{IsQuietTo, EndsAt, scanned_with, faulted_at, scan-more, scan-made, scan-fault}
+use Rattle.filer.proofs.Taking.{EndsAt, scanned_with, faulted_at, scan-more, scan-made, scan-fault}
 use Rattle.filer.proofs.Worlds.{quiet-scan}
 
 -- so many bytes were taken, and the reading is at this state after them
@@ -40,12 +40,13 @@ is-at stream e = let s = at_some (map heard (read_stream stream).records) (read_
 
 ended : (stream bytes : List ℕ) (taken : ℕ) (scanned : Scanned) (at : Option State) → EndsAt stream bytes 0 taken scanned at → TookTo stream bytes taken at × ((0 < taken) × Completes stream (take taken bytes) scanned)
 ended stream bytes taken scanned at e =
-    let count : suc e.before ≡ taken = omega (arith, e.count) in
-    (record {
-       within = omega (arith, e.within, e.count);
-       to = subst (λ (n : ℕ). (read_stream (stream ++ take n bytes)).at ≡ at) count e.to;
-     },
-     (omega (arith, e.count), subst (λ (n : ℕ). Completes stream (take n bytes) scanned) count e.completes))
+    let count : suc e.before ≡ taken = omega (arith, e.count) in (
+      record {
+        within = omega (arith, e.within, e.count);
+        to = subst (λ (n : ℕ). (read_stream (stream ++ take n bytes)).at ≡ at) count e.to;
+      },
+      (omega (arith, e.count), subst (λ (n : ℕ). Completes stream (take n bytes) scanned) count e.completes),
+    )
 
 pub took : (stream bytes : List ℕ) (taken : ℕ) (step : Step) (state : State) (new : Option State) → IsAt stream state → Feeds (Some state) bytes taken step new → TookTo stream bytes taken new × Took stream bytes taken step
 took stream bytes taken (steps.Record made) state new h f =
@@ -53,16 +54,18 @@ took stream bytes taken (steps.Record made) state new h f =
     (record { within = e.0.within; to = e.0.to ∙ sym f.3 }, e.1)
 took stream bytes taken steps.More state new h f =
     let q = scan-more stream bytes state f.1.0 0 h f.1.1 in
-    let whole : stream ++ take taken bytes ≡ stream ++ bytes = ap (λ (s : List ℕ). stream ++ s) (take_all taken bytes (omega (arith, f.0))) in
-    (record { within = omega (arith, f.0); to = ap (λ (s : List ℕ). (read_stream s).at) whole ∙ q.to.at ∙ sym f.1.2 },
-     (f.0, q.quiet, ap scan_stream whole ∙ quiet-scan stream bytes q.quiet))
+    let whole : stream ++ take taken bytes ≡ stream ++ bytes = ap (λ (s : List ℕ). stream ++ s) (take_all taken bytes (omega (arith, f.0))) in (
+      record { within = omega (arith, f.0); to = ap (λ (s : List ℕ). (read_stream s).at) whole ∙ q.to.at ∙ sym f.1.2 },
+      (f.0, q.quiet, ap scan_stream whole ∙ quiet-scan stream bytes q.quiet),
+    )
 took stream bytes taken steps.Fault state new h f =
     let e = ended stream bytes taken _ _ (scan-fault stream bytes state 0 taken h f.1) in
     (record { within = e.0.within; to = e.0.to ∙ sym f.2 }, e.1)
 took stream bytes taken steps.NoMemory state new h f =
-    let whole : stream ++ take taken bytes ≡ stream = ap (λ (n : ℕ). stream ++ take n bytes) f.0 ∙ append-nil stream in
-    (record { within = omega (arith, f.0); to = ap (λ (s : List ℕ). (read_stream s).at) whole ∙ h.at ∙ sym f.2 },
-     (f.0, ap scan_stream whole))
+    let whole : stream ++ take taken bytes ≡ stream = ap (λ (n : ℕ). stream ++ take n bytes) f.0 ∙ append-nil stream in (
+      record { within = omega (arith, f.0); to = ap (λ (s : List ℕ). (read_stream s).at) whole ∙ h.at ∙ sym f.2 },
+      (f.0, ap scan_stream whole),
+    )
 
 -- the same, of a connection that is in step and at no fault
 pub took_from : (c : OpenConnection) (bytes : List ℕ) (taken : ℕ) (step : Step) (new : Option State) → IsInStep c → c.fault ≡ None → Feeds c.reassembler bytes taken step new

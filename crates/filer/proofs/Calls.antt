@@ -1,12 +1,12 @@
 -- A worker's message, and a call that is finished.
-use Rattle.std.proofs.Common.{◌≡◌, ◌≢◌, ℕ, zero, suc, Bool, true, false, List, [], ◌∷◌, ◌++◌, length, Option, Some, None, refl, sym, ap, subst, ◌∙◌, arith}
-use Rattle.std.specs.Prelude.{map, slice_get, option_map}
+use Rattle.std.proofs.Common.{◌≡◌, ◌≢◌, ℕ, zero, suc, List, [], ◌∷◌, ◌++◌, length, Option, Some, None, refl, sym, ap, ◌∙◌}
+use Rattle.std.specs.Prelude.{map, slice_get}
 use Rattle.nfs_model.specs.World as worlds
 use Rattle.nfs_model.specs.World.{changed_at, with_output}
 use Rattle.nfs_model.specs.Events.Step.{bytes_if_open}
 use Rattle.filer.specs.declared.engine.connection.OpenConnection.{OpenConnection}
 use Rattle.filer.specs.declared.engine.connection.ClosedConnection.{ClosedConnection}
-use Rattle.filer.specs.Seen.{closed_of, open_of, last_of, connections_of}
+use Rattle.filer.specs.Seen.{closed_of, open_of, connections_of}
 use Rattle.filer.proofs.Connections.{last-open, last-changed}
 
 -- ---- writing to connections

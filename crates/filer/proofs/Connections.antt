@@ -1,16 +1,14 @@
 -- The connections of an engine: closed ones, and then the open one.
-use Rattle.std.proofs.Common.{◌≡◌, ◌≢◌, ℕ, zero, suc, ◌+◌, Bool, true, false, List, [], ◌∷◌, ◌++◌, length, Option, Some, None, refl, sym, ap, subst, ◌∙◌, append_assoc, arith, length-append}
+use Rattle.std.proofs.Common.{◌≡◌, ◌≢◌, ℕ, zero, suc, Bool, true, false, List, [], ◌∷◌, ◌++◌, length, Option, Some, None, refl, sym, ap, ◌∙◌, arith}
 use Rattle.std.specs.Prelude.{map, slice_get, nat_le, is_some, if◌then◌else◌}
 use Rattle.std.proofs.lemmas.List.{append-nil, map_push, length-map}
-use Rattle.std.proofs.lemmas.Bool.Decides.{nat_tests}
 use Rattle.nfs_model.specs.World as worlds
 use Rattle.nfs_model.specs.World.{changed_at}
 use Rattle.nfs_model.specs.Events.Refusals.{is_open, open_count}
 use Rattle.nfs_model.specs.Events.Step.{with_closed, new_connection}
 use Rattle.filer.specs.declared.engine.connection.OpenConnection.{OpenConnection}
 use Rattle.filer.specs.declared.engine.connection.ClosedConnection.{ClosedConnection}
-use Rattle.filer.specs.Seen.{closed_of, open_of, last_of, connections_of}
-use Rattle.filer.proofs.Lists.{changed_at-last, slice_get-last}
+use Rattle.filer.specs.Seen.{closed_of, open_of, connections_of}
 
 pub none-open : (past : List ClosedConnection) → open_count (connections_of past None) ≡ 0
 none-open [] = refl

@@ -1,26 +1,24 @@
 -- What part of a feed comes to.
-use Rattle.std.proofs.Common.{◌≡◌, ℕ, zero, suc, ◌+◌, ◌<◌, ◌≤◌, Bool, true, false, List, [], ◌∷◌, ◌++◌, length, take, drop, Option, Some, None, refl, sym, ap, subst, ◌∙◌, arith, inl, inr}
+use Rattle.std.proofs.Common.{◌≡◌, ℕ, ◌+◌, ◌<◌, ◌≤◌, Bool, true, false, List, [], ◌∷◌, ◌++◌, length, take, drop, Option, Some, None, refl, sym, ap, subst, ◌∙◌, arith, inl, inr}
 use Rattle.std.specs.Prelude.{map, slice_get, option_map, IfSome, vec_len, vec_capacity, nat_le, ◌&&◌}
 use Rattle.std.proofs.lemmas.List.{take_all, take-append-drop, length-map}
 use Rattle.std.proofs.lemmas.Bool.Decides.{nat_tests}
 use Rattle.rpc_record.specs.Stream.{read_stream}
 use Rattle.nfs_model.specs.World as worlds
 use Rattle.nfs_model.specs.World.{changed_at, is_crowded, all_running, Setup, World}
-use Rattle.nfs_model.specs.Replay as replays
-use Rattle.nfs_model.specs.Events.Feed.{Feeds, Further, Fault, completes, heard_in}
+use Rattle.nfs_model.specs.Events.Feed.{Feeds, Fault, completes, heard_in}
 use Rattle.filer.specs.declared.engine.connection.OpenConnection.{OpenConnection}
 use Rattle.filer.specs.declared.engine.connection.ClosedConnection.{ClosedConnection}
 use Rattle.filer.specs.declared.engine.connection.Arrival.{Arrival}
-use Rattle.filer.specs.declared.engine.connection.Arrival.TheVariants as arrivals
 use Rattle.filer.specs.declared.engine.event.StreamFault.{StreamFault}
 use Rattle.filer.specs.declared.engine.message.Heard.{Heard}
 use Rattle.filer.specs.declared.engine.message.Running.{Running}
 use Rattle.filer.specs.declared.engine.state.State.{State}
 use Rattle.filer.specs.Numbers.{fault_number}
 use Rattle.filer.specs.Seen.{closed_of, open_of, connections_of, heard_of, message_of, running_of, entry_of, layout_of, setup_in, world}
-use Rattle.filer.specs.Sound.{IsInStep, Arrives, IsSound, IsRoomy, pending, count_of, MayBeRoomier, MakesRoom, TakesIn, AtNoFault, MayBeStreamRoomier, TakesFrom, MayTakeFrom, records_of}
-use Rattle.filer.specs.Streams.{scan_stream, IsQuiet, Completes, setup_of}
-use Rattle.filer.specs.Feeding.{TakesAll, with_bytes, bytes_taken, FeedsPart}
+use Rattle.filer.specs.Sound.{Arrives, IsSound, IsRoomy, pending, count_of, MayBeRoomier, MakesRoom, TakesIn, AtNoFault, MayBeStreamRoomier, TakesFrom, MayTakeFrom}
+use Rattle.filer.specs.Streams.{scan_stream, IsQuiet, Completes}
+use Rattle.filer.specs.Feeding.{TakesAll, with_bytes, bytes_taken}
 use Rattle.filer.proofs.Arriving.{length_taken}
 use Rattle.filer.proofs.Connections.{last-open, last-changed}
 use Rattle.filer.proofs.Worlds.{bytes_taken-none, takes-quiet, takes-heard, feeds-fault}
@@ -50,13 +48,16 @@ fed_at : (s : State) (current : Option OpenConnection) → s.current ≡ current
     → (o : OpenConnection) × (current ≡ Some o) × IsFed (world s) (vec_len s.past) o
 fed_at s None e h t = absurd t
 fed_at s (Some o) e h t =
-    let number : vec_len s.past ≡ length s.past.items = omega (arith, s.past.ok.0) in
-    (o, refl, record {
-       there = ap (λ (k : ℕ). slice_get (connections_of s.past.items s.current) k) number ∙ ap (λ (k : Option OpenConnection). slice_get (connections_of s.past.items k) (length s.past.items)) e ∙ last-open s.past.items o;
-       sound = h.0.in_step.fault ∙ ap (option_map fault_number) t;
-       records = h.0.in_step.records;
-       stands = h.0.in_step.reassembler;
-     })
+    let number : vec_len s.past ≡ length s.past.items = omega (arith, s.past.ok.0) in (
+      o,
+      refl,
+      record {
+        there = ap (λ (k : ℕ). slice_get (connections_of s.past.items s.current) k) number ∙ ap (λ (k : Option OpenConnection). slice_get (connections_of s.past.items k) (length s.past.items)) e ∙ last-open s.past.items o;
+        sound = h.0.in_step.fault ∙ ap (option_map fault_number) t;
+        records = h.0.in_step.records;
+        stands = h.0.in_step.reassembler;
+      },
+    )
 
 no-fault : (o : Option OpenConnection) (n : ℕ) → TakesIn o n → AtNoFault o
 no-fault None n t = absurd t
@@ -192,9 +193,9 @@ pub heard-admitted : (s : State) (o : OpenConnection) (w before new : World) (c 
     → TakesAll (setup_in s) c (world s) (take taken bytes) new
 heard-admitted s o w before new c d setup bytes taken number heard p e q r n a k =
     let made : new ≡ heard_in (setup_in s) (bytes_taken w c (take taken bytes)) c number (heard_of heard) false =
-        a ∙ ap (λ (x : Setup). heard_in x before d number (heard_of heard) false) r
-        ∙ ap (λ (x : World). heard_in (setup_in s) x d number (heard_of heard) false) e
-        ∙ ap (λ (x : ℕ). heard_in (setup_in s) (bytes_taken w c (take taken bytes)) x number (heard_of heard) false) q in
+    a ∙ ap (λ (x : Setup). heard_in x before d number (heard_of heard) false) r
+    ∙ ap (λ (x : World). heard_in (setup_in s) x d number (heard_of heard) false) e
+    ∙ ap (λ (x : ℕ). heard_in (setup_in s) (bytes_taken w c (take taken bytes)) x number (heard_of heard) false) q in
     subst (λ (v : World). TakesAll (setup_in s) c v (take taken bytes) new) p.same
     (subst (TakesAll (setup_in s) c w (take taken bytes)) (sym made) (part-heard s o w c bytes taken heard number p.fed p.room n k))
 

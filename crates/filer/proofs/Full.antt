@@ -1,9 +1,8 @@
 -- Bytes that are taken where the places are full.
-use Rattle.std.proofs.Common.{◌≡◌, ℕ, zero, suc, ◌+◌, ◌-◌, ◌<◌, ◌≤◌, Bool, true, false, List, [], ◌∷◌, ◌++◌, length, take, drop, Option, Some, None, Result, Ok, Err, refl, sym, ap, subst, ◌∙◌, append_assoc, arith, inl, inr, length-append}
+use Rattle.std.proofs.Common.{◌≡◌, ℕ, zero, suc, ◌+◌, ◌<◌, ◌≤◌, Bool, true, false, List, [], ◌∷◌, ◌++◌, length, take, drop, Option, Some, None, Result, Ok, Err, refl, sym, ap, subst, ◌∙◌, append_assoc, arith, inl, inr, length-append}
 use Rattle.std.specs.Prelude.{slice_get, ◌&&◌, not, ◌==◌}
-use Rattle.std.proofs.lemmas.List.{take_all, take-append-drop, length-take-le}
+use Rattle.std.proofs.lemmas.List.{take-append-drop, length-take-le}
 use Rattle.rpc_record.specs.Machine.{State, Next, Goes, Ends, Faults, Outcome, More, Made, Fault, IsMore, after, go, scan, outcome}
-use Rattle.rpc_record.specs.Stream.{read_stream}
 use Rattle.rpc_record.specs.Feeds.{look_at}
 use Rattle.rpc_record.specs.declared.reassembler.Look.{Look}
 use Rattle.rpc_record.specs.declared.reassembler.Look.TheVariants as looks
@@ -19,15 +18,15 @@ use Rattle.filer.specs.Codec.{heard}
 use Rattle.filer.specs.Numbers.{fault_number}
 use Rattle.filer.specs.Seen.{open_of, layout_of, setup_in}
 use Rattle.filer.specs.Sound.{HasNoRecord}
-use Rattle.filer.specs.Streams.{scan_stream, served_of, IsQuiet, Completes}
-use Rattle.filer.specs.Feeding.{TakesAll, with_bytes, bytes_taken}
+use Rattle.filer.specs.Streams.{scan_stream, served_of, Completes}
+use Rattle.filer.specs.Feeding.{with_bytes, bytes_taken}
 use Rattle.filer.proofs.Scanning.{IsAt, joined, scan-goes, scan-faults}
-use Rattle.filer.proofs.Taking.{EndsAt, scanned_with, scan-made}
-use Rattle.filer.proofs.Arriving.{is-at, length_taken}
+use Rattle.filer.proofs.Taking.{scanned_with, scan-made}
+use Rattle.filer.proofs.Arriving.{is-at}
 use Rattle.filer.proofs.Lists.{slice_get-last}
 use Rattle.filer.proofs.Records.{not-too-long}
 use Rattle.filer.proofs.Worlds.{Feeds-after, reached-is, reached-quiet, takes-quiet, connection-taken, quiet-scan}
-use Rattle.filer.proofs.Feeding.{IsFed, part-more, part-fault}
+use Rattle.filer.proofs.Feeding.{IsFed, part-fault}
 
 -- ---- looks
 
@@ -94,11 +93,11 @@ full_at s o w c bytes free made f crowd h k =
     let same : scan_stream y.stream ≡ scan_stream stream = quiet-scan stream k.front k.quiet in
     let whole : scan_stream (y.stream ++ k.last ∷ []) ≡ scanned_with stream made = ap scan_stream (append_assoc stream k.front (k.last ∷ []) ∙ ap (λ (xs : List ℕ). stream ++ xs) (sym k.split)) ∙ k.complete in
     let at : reached setup middle c k.last ≡ reached_by (scanned_with stream made) (length (scan_stream stream).served) =
-        reached-is (layout_of s.layout) s.verifier middle c k.last y _ there whole ∙ ap (λ (t : Scanned). reached_by (scanned_with stream made) (length t.served)) same in
+    reached-is (layout_of s.layout) s.verifier middle c k.last y _ there whole ∙ ap (λ (t : Scanned). reached_by (scanned_with stream made) (length t.served)) same in
     let ends : completes (reached setup middle c k.last) ≡ true = ap completes at ∙ completes_at (scan_stream stream).served (heard made) (not-too-long made) in
     let stops : Stops middle (reached setup middle c k.last) 0 31 middle = (refl, refl, inl (refl, both (is_crowded middle) (completes (reached setup middle c k.last)) crowd ends)) in
     let fed : Feeds setup c w (k.front ++ (k.last ∷ drop (suc free) bytes)) (length k.front + 0) 31 middle =
-        Feeds-after setup c w middle middle k.front (k.last ∷ drop (suc free) bytes) 0 31 (takes-quiet (layout_of s.layout) s.verifier w c k.front (open_of o) f.there f.sound k.quiet) (inl stops) in
+    Feeds-after setup c w middle middle k.front (k.last ∷ drop (suc free) bytes) 0 31 (takes-quiet (layout_of s.layout) s.verifier w c k.front (open_of o) f.there f.sound k.quiet) (inl stops) in
     let size : length k.front + 0 ≡ free = omega (arith, ap length front, length-take-le free bytes (omega arith)) in
     let new : middle ≡ bytes_taken w c (take free bytes) = ap (bytes_taken w c) front in
     subst (Feeds setup c w bytes free 31) new

@@ -1,5 +1,5 @@
 -- A list changed at one place.
-use Rattle.std.proofs.Common.{◌≡◌, ℕ, zero, suc, List, [], ◌∷◌, ◌++◌, length, Option, Some, None, refl, sym, ap, ◌∙◌, arith}
+use Rattle.std.proofs.Common.{◌≡◌, ℕ, zero, suc, List, [], ◌∷◌, ◌++◌, length, Some, None, refl, ap}
 use Rattle.std.specs.Prelude.{slice_get}
 use Rattle.nfs_model.specs.World.{changed_at}
 

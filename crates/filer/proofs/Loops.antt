@@ -1,5 +1,5 @@
 -- Bytes taken piece by piece.
-use Rattle.std.proofs.Common.{◌≡◌, ℕ, ◌+◌, ◌-◌, ◌<◌, ◌≤◌, Bool, true, false, List, [], ◌∷◌, ◌++◌, length, take, drop, Option, Some, None, refl, sym, ap, subst, ◌∙◌, arith, inl, inr}
+use Rattle.std.proofs.Common.{◌≡◌, ℕ, ◌+◌, ◌-◌, ◌<◌, ◌≤◌, Bool, false, List, [], ◌∷◌, ◌++◌, length, take, drop, Option, Some, None, refl, sym, ap, subst, ◌∙◌, arith, inl, inr}
 use Rattle.std.specs.Prelude.{◌==◌, slice_get, vec_len, vec_capacity, IfSome, is_none, option_map, if◌then◌else◌}
 use Rattle.std.proofs.Math.Seq.{take-add}
 use Rattle.std.proofs.lemmas.Bool.Decides.{nat_tests}
@@ -12,12 +12,12 @@ use Rattle.filer.specs.declared.engine.connection.OpenConnection.{OpenConnection
 use Rattle.filer.specs.declared.engine.connection.ClosedConnection.{ClosedConnection}
 use Rattle.filer.specs.declared.engine.state.State as states
 use Rattle.filer.specs.Numbers.{fault_number}
-use Rattle.filer.specs.Seen.{setup_in, world, connections_of, open_of}
+use Rattle.filer.specs.Seen.{setup_in, world, connections_of}
 use Rattle.filer.specs.Sound.{IsSound, IsRoomy, AtNoFault, at_no_fault, MayGoOn, IsFree, stands_at, pending}
-use Rattle.filer.specs.Feeding.{TakesAll, bytes_taken}
+use Rattle.filer.specs.Feeding.{TakesAll}
 use Rattle.filer.proofs.Worlds.{TakesAll-append, Feeds-after, bytes_taken-none}
 use Rattle.filer.proofs.Connections.{others-closed, all-closed, last-open}
-use Rattle.filer.proofs.Feeding.{IsFed, fed-open, not-crowded, crowded, feeds-nothing}
+use Rattle.filer.proofs.Feeding.{fed-open, not-crowded, crowded, feeds-nothing}
 use Rattle.filer.proofs.Full.{full-stop, full-nothing}
 
 pub goes-on : (setup other : Setup) (c d : ℕ) (w m new : World) (bytes : List ℕ) (taken count : ℕ) → setup ≡ other → c ≡ d → TakesAll other d w (take taken bytes) m → TakesAll setup c m (take count (drop taken bytes)) new

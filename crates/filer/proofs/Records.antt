@@ -1,12 +1,11 @@
 -- What records are heard as, and how long replies are.
-use Rattle.std.proofs.Common.{◌≡◌, ℕ, ◌≤◌, ◌⊎◌, Bool, true, false, List, Option, Some, None, Result, Ok, Err, refl, ap, sym, ◌∙◌, length, arith, inl, inr}
+use Rattle.std.proofs.Common.{◌≡◌, ℕ, ◌≤◌, ◌⊎◌, false, List, Ok, Err, refl, sym, ◌∙◌, length, arith, inl, inr}
 use Rattle.std.specs.Prelude.{◌==◌}
 use Rattle.std.proofs.lemmas.Bool.Decides.{nat_tests}
 use Rattle.nfs_model.specs.World.{Heard, IsDecoded}
 use Rattle.nfs_model.specs.ReadOnly.{AsksReading}
 use Rattle.nfs_values.specs.declared.procedure.Procedure.{Procedure}
 use Rattle.nfs_values.specs.declared.procedure.Procedure.TheVariants as procedures
-use Rattle.nfs_values.specs.declared.answer.Answer.{Answer}
 use Rattle.nfs_values.specs.declared.answer.Answer.TheVariants as answers
 use Rattle.nfs_values.specs.declared.reply.Reply.{Reply}
 use Rattle.nfs_values.specs.declared.reply.Reply.TheVariants as codes

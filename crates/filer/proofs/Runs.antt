@@ -1,5 +1,5 @@
 -- Runs of events, and what they keep.
-use Rattle.std.proofs.Common.{◌≡◌, ℕ, ◌+◌, ◌≤◌, List, [], ◌∷◌, ◌++◌, length, take, map, get_or, true, false, ◌<◌, Result, Ok, Err, refl, sym, ap, subst, ◌∙◌, arith}
+use Rattle.std.proofs.Common.{◌≡◌, ℕ, ◌+◌, List, [], ◌∷◌, ◌++◌, length, take, map, get_or, true, false, ◌<◌, Result, Ok, Err, refl, sym, subst, arith}
 use Rattle.nfs_model.specs.Tree.{Layout}
 use Rattle.nfs_model.specs.World.{Setup, World}
 use Rattle.nfs_model.specs.Events.Refusals.{Event, Done}
@@ -44,12 +44,12 @@ pub run-more : (setup : Setup) (old : World) (events : List happened.Event) (i :
     → RunsRefusing setup old (map event_of (take i events)) refused middle → Events setup middle (event_of (get_or events i d)) answer new → after ≡ refused + one_if_refused answer → RunsRefusing setup old (map event_of (take (i + 1) events)) after new
 run-more setup old events i d refused middle answer after new within r e a =
     subst (λ (es : List Event). RunsRefusing setup old es after new) (sym (map_more event_of events i d within))
-      (subst (λ (n : ℕ). RunsRefusing setup old (map event_of (take i events) ++ event_of (get_or events i d) ∷ []) n new) (sym a) (runs-on setup old (map event_of (take i events)) refused middle (event_of (get_or events i d)) answer new r e))
+    (subst (λ (n : ℕ). RunsRefusing setup old (map event_of (take i events) ++ event_of (get_or events i d) ∷ []) n new) (sym a) (runs-on setup old (map event_of (take i events)) refused middle (event_of (get_or events i d)) answer new r e))
 
 pub plays : (old new : State) (events : List Event) (refused : ℕ) → world old ≡ opening_world (setup_in old) → setup_in new ≡ setup_in old → RunsRefusing (setup_in old) (world old) events refused (world new) → Runs (setup_in new) (opening_world (setup_in new)) events (world new)
 plays old new events refused opening same r =
     subst (λ (s : Setup). Runs s (opening_world s) events (world new)) (sym same)
-      (subst (λ (w : World). Runs (setup_in old) w events (world new)) opening (runs (setup_in old) (world old) events refused (world new) r))
+    (subst (λ (w : World). Runs (setup_in old) w events (world new)) opening (runs (setup_in old) (world old) events refused (world new) r))
 
 pub refused-counts : (answer : Result dones.Done refusals.Refusal) → is_err answer ≡ true → one_if_refused (answer_of answer) ≡ 1
 refused-counts (Ok done) e = absurd (cc)

@@ -1,8 +1,8 @@
 -- What a byte adds to a stream that has been scanned.
-use Rattle.std.proofs.Common.{◌≡◌, ℕ, List, [], ◌∷◌, ◌++◌, Option, Some, None, Result, Ok, Err, refl, sym, ap, ◌∙◌, append_assoc}
+use Rattle.std.proofs.Common.{◌≡◌, ℕ, List, [], ◌∷◌, ◌++◌, Option, Some, None, Result, Ok, Err, refl, sym, ap, ◌∙◌}
 use Rattle.std.specs.Prelude.{map}
 use Rattle.std.proofs.lemmas.List.{append-nil, map_push}
-use Rattle.rpc_record.specs.Machine.{State, start, Next, Goes, Ends, Faults, after}
+use Rattle.rpc_record.specs.Machine.{State, start, Goes, Ends, Faults, after}
 use Rattle.rpc_record.specs.Stream.{Reading, reading_at, byte_read, read_on, read_stream}
 use Rattle.nfs_model.specs.World.{Heard, Scanned}
 use Rattle.filer.specs.Codec.{heard}
@@ -57,20 +57,24 @@ pub scan-whole : (stream : List ℕ) (state : State) (b : ℕ) (made : List ℕ)
     → (scan_stream (stream ++ b ∷ []) ≡ joined (scan_stream stream).served (served_of (heard made ∷ []) None)) × ((read_stream (stream ++ b ∷ [])).at ≡ Some (start))
 scan-whole stream state b made h e =
     let records = (read_stream stream).records in
-    let read : read_stream (stream ++ b ∷ []) ≡ record { records = records ++ made ∷ []; at = Some (start) } = read-push stream state b h.at ∙ ap (reading_at records) e in
-    (ap scanned read
-    ∙ ap (λ (rs : List (Result Heard ℕ)). served_of rs None) (map_push heard records made)
-    ∙ served_of-append (map heard records) (heard made ∷ []) None (sound_records stream state h)
-    ∙ served_are stream state (served_of (heard made ∷ []) None) h, ap (λ (r : Reading). r.at) read)
+    let read : read_stream (stream ++ b ∷ []) ≡ record { records = records ++ made ∷ []; at = Some (start) } = read-push stream state b h.at ∙ ap (reading_at records) e in (
+      ap scanned read
+          ∙ ap (λ (rs : List (Result Heard ℕ)). served_of rs None) (map_push heard records made)
+          ∙ served_of-append (map heard records) (heard made ∷ []) None (sound_records stream state h)
+          ∙ served_are stream state (served_of (heard made ∷ []) None) h,
+      ap (λ (r : Reading). r.at) read,
+    )
 
 -- the byte that ends a header at fault
 pub scan-faults : (stream : List ℕ) (state : State) (b : ℕ) → IsAt stream state → after state b ≡ Faults
     → (scan_stream (stream ++ b ∷ []) ≡ record { served = (scan_stream stream).served; fault = Some 11 }) × ((read_stream (stream ++ b ∷ [])).at ≡ None)
 scan-faults stream state b h e =
     let records = (read_stream stream).records in
-    let read : read_stream (stream ++ b ∷ []) ≡ record { records = records; at = None } = read-push stream state b h.at ∙ ap (reading_at records) e in
-    (ap scanned read
-    ∙ ap (λ (rs : List (Result Heard ℕ)). served_of rs (Some 11)) (sym (append-nil (map heard records)))
-    ∙ served_of-append (map heard records) [] (Some 11) (sound_records stream state h)
-    ∙ served_are stream state (record { served = []; fault = Some 11 }) h
-    ∙ ap (λ (hs : List Heard). record { served = hs; fault = Some 11 }) (append-nil _), ap (λ (r : Reading). r.at) read)
+    let read : read_stream (stream ++ b ∷ []) ≡ record { records = records; at = None } = read-push stream state b h.at ∙ ap (reading_at records) e in (
+      ap scanned read
+          ∙ ap (λ (rs : List (Result Heard ℕ)). served_of rs (Some 11)) (sym (append-nil (map heard records)))
+          ∙ served_of-append (map heard records) [] (Some 11) (sound_records stream state h)
+          ∙ served_are stream state (record { served = []; fault = Some 11 }) h
+          ∙ ap (λ (hs : List Heard). record { served = hs; fault = Some 11 }) (append-nil _),
+      ap (λ (r : Reading). r.at) read,
+    )

@@ -1,11 +1,11 @@
 -- What the serial server answers a call on the root's parcel.
-use Rattle.std.proofs.Common.{◌≡◌, ℕ, zero, suc, ◌<◌, Bool, true, false, cond, List, [], ◌∷◌, length, take, drop, Option, Some, None, refl, sym, ap, subst, ◌∙◌, arith, inl, inr}
-use Rattle.std.specs.Prelude.{◌⊎◌, slice_get, option_map, ◌&&◌, ◌==◌, nat_lt, if◌then◌else◌}
+use Rattle.std.proofs.Common.{◌≡◌, ℕ, Bool, true, false, List, [], ◌∷◌, length, take, drop, Option, Some, None, refl, sym, ap, ◌∙◌, arith, inl, inr}
+use Rattle.std.specs.Prelude.{◌⊎◌, ◌&&◌, ◌==◌, nat_lt, if◌then◌else◌}
 use Rattle.std.specs.Int.{w32, w64, from_be_bytes}
 use Rattle.std.specs.Ordering.{nat_cmp}
 use Rattle.std.specs.declared.cmp.Ordering.{Ordering}
 use Rattle.std.specs.declared.cmp.Ordering.TheVariants.{Less, Equal, Greater}
-use Rattle.std.specs.FinMap.{FinMap, get, from_sorted, find, nat_cmp-IsAntisymmetric}
+use Rattle.std.specs.FinMap.{get, from_sorted, find, nat_cmp-IsAntisymmetric}
 use Rattle.std.proofs.lemmas.Bool.Decides.{nat_tests}
 use Rattle.nfs_model.specs.Types as types
 use Rattle.nfs_model.specs.Server as servers
@@ -13,7 +13,7 @@ use Rattle.nfs_model.specs.Server.{handle_of}
 use Rattle.nfs_model.specs.Shown.{shown}
 use Rattle.nfs_model.specs.Locate.{Served, on_node, told}
 use Rattle.nfs_model.specs.Serial.Getattr.{getattr}
-use Rattle.nfs_model.specs.Serial.Step.{Step, serve, stay, on_handle, on_volume, put_back}
+use Rattle.nfs_model.specs.Serial.Step.{Step, on_handle, put_back}
 use Rattle.nfs_model.proofs.Evaluate.{get_entries, entries_sorted_list}
 use Rattle.filer.specs.declared.engine.layout.Layout.{Layout}
 use Rattle.filer.specs.declared.engine.parcel.Kept.{Kept}
@@ -63,9 +63,9 @@ getattr-root root handle h answer e f a layout verifier credential moment =
     let volume = volume_of layout verifier root in
     let there : get volume.nodes h.1 ≡ Some (root_of root) = ap (get volume.nodes) f ∙ get_is (root_of root) 1 ∙ found (root_of root) in
     let served : getattr volume h.1 ≡ told answer =
-        ap (λ (o : Option servers.Node). on_node 0 o (λ node. told (types.GetattrDone (shown volume h.1 node)))) there
-        ∙ ap (λ (n : ℕ). told (types.GetattrDone (shown volume n (root_of root)))) f
-        ∙ ap told (sym (a layout verifier)) in
+    ap (λ (o : Option servers.Node). on_node 0 o (λ node. told (types.GetattrDone (shown volume h.1 node)))) there
+    ∙ ap (λ (n : ℕ). told (types.GetattrDone (shown volume n (root_of root)))) f
+    ∙ ap told (sym (a layout verifier)) in
     ap (on_getattr layout verifier root) e ∙ on_first layout verifier root h _ (first-volume handle h e) served
 
 -- any other fileid
@@ -74,7 +74,7 @@ getattr-stale root handle h answer e f a layout verifier credential moment =
     let volume = volume_of layout verifier root in
     let there : get volume.nodes h.1 ≡ None = get_is (root_of root) h.1 ∙ other_at (root_of root) h.1 (nat_cmp h.1 1) refl f in
     let served : getattr volume h.1 ≡ told answer =
-        ap (λ (o : Option servers.Node). on_node 0 o (λ node. told (types.GetattrDone (shown volume h.1 node)))) there ∙ ap told (sym a) in
+    ap (λ (o : Option servers.Node). on_node 0 o (λ node. told (types.GetattrDone (shown volume h.1 node)))) there ∙ ap told (sym a) in
     ap (on_getattr layout verifier root) e ∙ on_first layout verifier root h _ (first-volume handle h e) served
 
 -- what is answered of each fileid

@@ -1,7 +1,7 @@
 -- Bytes that the machine scans, taken by a world.
-use Rattle.std.proofs.Common.{◌≡◌, ℕ, zero, suc, ◌+◌, ◌≤◌, ◌<◌, List, [], ◌∷◌, ◌++◌, length, take, Option, Some, None, Result, Ok, Err, refl, sym, ap, subst, ◌∙◌, append_assoc, arith}
+use Rattle.std.proofs.Common.{◌≡◌, ℕ, suc, ◌+◌, ◌<◌, List, [], ◌∷◌, ◌++◌, length, take, Option, Some, None, refl, sym, ap, subst, ◌∙◌, append_assoc, arith}
 use Rattle.std.proofs.lemmas.List.{append-nil}
-use Rattle.rpc_record.specs.Machine.{State, start, Next, Goes, Ends, Faults, Outcome, More, Made, Fault, after, go, scan}
+use Rattle.rpc_record.specs.Machine.{State, start, Next, Goes, Ends, Faults, More, Made, Fault, after, go, scan}
 use Rattle.rpc_record.specs.Stream.{read_stream}
 use Rattle.nfs_model.specs.World.{Scanned}
 use Rattle.filer.specs.Codec.{heard}

@@ -1,9 +1,9 @@
 -- What a worker's events come to.
-use Rattle.std.proofs.Common.{◌≡◌, ℕ, zero, suc, ◌+◌, ◌<◌, ◌≤◌, ◌^◌, Bool, true, false, List, [], ◌∷◌, ◌++◌, length, Option, Some, None, refl, sym, ap, subst, ◌∙◌, arith, inl, inr}
-use Rattle.std.specs.Prelude.{map, slice_get, option_map, is_some, nat_le}
+use Rattle.std.proofs.Common.{◌≡◌, ℕ, zero, suc, ◌<◌, ◌≤◌, ◌^◌, true, false, List, [], ◌∷◌, ◌++◌, Option, Some, None, refl, sym, ap, subst, ◌∙◌, arith}
+use Rattle.std.specs.Prelude.{map, slice_get, option_map, nat_le}
 use Rattle.std.specs.List.{remove}
 use Rattle.std.proofs.lemmas.Bool.Decides.{nat_tests}
-use Rattle.std.proofs.lemmas.Option.{slice_get-map, slice_get-get_or}
+use Rattle.std.proofs.lemmas.Option.{slice_get-map}
 use Rattle.nfs_model.specs.Types as types
 use Rattle.nfs_model.specs.Tree as trees
 use Rattle.nfs_model.specs.Server as servers
@@ -17,7 +17,6 @@ use Rattle.nfs_model.specs.Replay as replays
 use Rattle.nfs_model.specs.Headline.{opening_parts}
 use Rattle.nfs_values.specs.declared.call.Call.{Call}
 use Rattle.nfs_values.specs.declared.call.Call.TheVariants as calls
-use Rattle.nfs_values.specs.declared.moment.Moment.{Moment}
 use Rattle.nfs_values.specs.declared.answer.Answer.{Answer}
 use Rattle.nfs_values.specs.Call.{call_of}
 use Rattle.nfs_values.specs.Credential.{credential_of}
@@ -114,11 +113,12 @@ works s r answer e lent h =
     let root = kept_by s.home s.running in
     let same : root ≡ r.held.root = kept-lent s.home s.running r lent e in
     let answered : serve (server_of s.layout s.verifier root) (call_of r.message.call) credential moment ≡ stay (server_of s.layout s.verifier root) answer =
-        subst (λ (k : Kept). serve (server_of s.layout s.verifier k) (call_of r.message.call) credential moment ≡ stay (server_of s.layout s.verifier k) answer) (sym same) (h s.layout s.verifier credential moment) in
-    (stays_there (world s).server (world s).parts (trees.Logical 0) r.message.call credential,
-     ap (λ (t : Step). t.reply) (sym answered),
-     ap (λ (t : Step). t.server) (sym answered),
-     subst (λ (sv : servers.Server). PartsAfter (types.Ask (call_of r.message.call) credential) (trees.Logical 0) (world s).server sv (world s).parts (world s).parts) refl (parts_stay s.layout s.verifier root r.message.call credential))
+    subst (λ (k : Kept). serve (server_of s.layout s.verifier k) (call_of r.message.call) credential moment ≡ stay (server_of s.layout s.verifier k) answer) (sym same) (h s.layout s.verifier credential moment) in (
+      stays_there (world s).server (world s).parts (trees.Logical 0) r.message.call credential,
+      ap (λ (t : Step). t.reply) (sym answered),
+      ap (λ (t : Step). t.server) (sym answered),
+      subst (λ (sv : servers.Server). PartsAfter (types.Ask (call_of r.message.call) credential) (trees.Logical 0) (world s).server sv (world s).parts (world s).parts) refl (parts_stay s.layout s.verifier root r.message.call credential),
+    )
 
 -- ---- Finish
 

@@ -1,10 +1,10 @@
 -- A world that takes bytes.
-use Rattle.std.proofs.Common.{◌≡◌, ℕ, zero, suc, ◌+◌, Bool, true, false, List, [], ◌∷◌, ◌++◌, length, take, drop, Option, Some, None, Result, Ok, Err, refl, sym, ap, subst, ◌∙◌, append_assoc, arith, inl, inr, length-append}
-use Rattle.std.specs.Prelude.{slice_get, ◌&&◌, not, ◌==◌}
+use Rattle.std.proofs.Common.{◌≡◌, ℕ, ◌+◌, false, List, [], ◌∷◌, ◌++◌, length, Some, None, refl, sym, ap, subst, ◌∙◌, append_assoc, arith, inl, inr, length-append}
+use Rattle.std.specs.Prelude.{slice_get, ◌&&◌}
 use Rattle.std.proofs.lemmas.List.{append-nil}
 use Rattle.nfs_model.specs.Tree.{Layout}
-use Rattle.nfs_model.specs.World.{Heard, Scanned, Setup, World, Connection, changed_at, is_crowded}
-use Rattle.nfs_model.specs.Events.Feed.{Reached, Further, Complete, Fault, reached_at, reached_by, reached, stream_in, stream_of, served_count, completes, with_byte, byte_taken, heard_in, Takes, TakesFault, Stops, Feeds}
+use Rattle.nfs_model.specs.World.{Heard, Scanned, Setup, World, Connection, is_crowded}
+use Rattle.nfs_model.specs.Events.Feed.{Reached, Further, Complete, Fault, reached_by, reached, stream_in, stream_of, served_count, completes, byte_taken, heard_in, Takes, TakesFault, Feeds}
 use Rattle.filer.specs.Streams.{scan_stream, setup_of, IsQuiet, Completes}
 use Rattle.filer.specs.Feeding.{TakesAll, with_bytes, bytes_taken}
 use Rattle.filer.proofs.Lists.{changed_at-same, changed_at-twice, changed_at-none, slice_get-changed_at, slice_get-end, slice_get-last}
@@ -70,9 +70,11 @@ takes-quiet layout verifier w c (b ∷ bytes) x e f q =
     let first : Takes setup w c b (reached setup w c b) (byte_taken w c b) = subst (λ (at : Reached). Takes setup w c b at (byte_taken w c b)) (sym further) refl in
     let y : Connection = with_bytes (b ∷ []) x in
     let there : slice_get (byte_taken w c b).connections c ≡ Some y = connection-taken w c (b ∷ []) x e in
-    let sound : (scan_stream y.stream).fault ≡ None = ap (λ (s : Scanned). s.fault) q.0 ∙ f in
-    (byte_taken w c b, first,
-     subst (TakesAll setup c (byte_taken w c b) bytes) (bytes_taken-more w c (b ∷ []) bytes) (takes-quiet layout verifier (byte_taken w c b) c bytes y there sound q.1))
+    let sound : (scan_stream y.stream).fault ≡ None = ap (λ (s : Scanned). s.fault) q.0 ∙ f in (
+      byte_taken w c b,
+      first,
+      subst (TakesAll setup c (byte_taken w c b) bytes) (bytes_taken-more w c (b ∷ []) bytes) (takes-quiet layout verifier (byte_taken w c b) c bytes y there sound q.1),
+    )
 
 -- ---- bytes whose last completes something
 
@@ -96,17 +98,17 @@ takes-heard layout verifier w c taken x h e f crowd k =
     let same : scan_stream y.stream ≡ scan_stream x.stream = quiet-scan x.stream k.front k.quiet in
     let served : length (scan_stream y.stream).served ≡ length (scan_stream x.stream).served = ap (λ (s : Scanned). length s.served) same in
     let whole : scan_stream (y.stream ++ k.last ∷ []) ≡ record { served = (scan_stream x.stream).served ++ h ∷ []; fault = None } =
-        ap scan_stream (append_assoc x.stream k.front (k.last ∷ []) ∙ ap (λ (s : List ℕ). x.stream ++ s) (sym k.split)) ∙ k.complete in
+    ap scan_stream (append_assoc x.stream k.front (k.last ∷ []) ∙ ap (λ (s : List ℕ). x.stream ++ s) (sym k.split)) ∙ k.complete in
     let at : reached setup middle c k.last ≡ Complete h =
-        reached-is layout verifier middle c k.last y _ there whole
-        ∙ ap (reached_by (record { served = (scan_stream x.stream).served ++ h ∷ []; fault = None })) served
-        ∙ reached-heard (scan_stream x.stream).served h in
+    reached-is layout verifier middle c k.last y _ there whole
+    ∙ ap (reached_by (record { served = (scan_stream x.stream).served ++ h ∷ []; fault = None })) served
+    ∙ reached-heard (scan_stream x.stream).served h in
     let new : World = heard_in setup (bytes_taken w c taken) c (length (scan_stream x.stream).served) h false in
     let is_new : new ≡ heard_in setup (byte_taken middle c k.last) c (served_count setup middle c) h false =
-        ap (λ (v : World). heard_in setup v c (length (scan_stream x.stream).served) h false) (sym (front_and_last w c taken k.front k.last k.split))
-        ∙ ap (λ (n : ℕ). heard_in setup (byte_taken middle c k.last) c n h false) (sym (served-count layout verifier middle c y there ∙ served)) in
+    ap (λ (v : World). heard_in setup v c (length (scan_stream x.stream).served) h false) (sym (front_and_last w c taken k.front k.last k.split))
+    ∙ ap (λ (n : ℕ). heard_in setup (byte_taken middle c k.last) c n h false) (sym (served-count layout verifier middle c y there ∙ served)) in
     let last : Takes setup middle c k.last (reached setup middle c k.last) new =
-        subst (λ (r : Reached). Takes setup middle c k.last r new) (sym at) (crowd, (false, tt, is_new)) in
+    subst (λ (r : Reached). Takes setup middle c k.last r new) (sym at) (crowd, (false, tt, is_new)) in
     subst (λ (bytes : List ℕ). TakesAll setup c w bytes new) (sym k.split)
     (TakesAll-append setup c w middle new k.front (k.last ∷ []) (takes-quiet layout verifier w c k.front x e f k.quiet) (new, last, refl))
 
@@ -121,12 +123,12 @@ feeds-fault layout verifier w c taken rest x number e f room k =
     let y : Connection = with_bytes k.front x in
     let there : slice_get middle.connections c ≡ Some y = connection-taken w c k.front x e in
     let whole : scan_stream (y.stream ++ k.last ∷ []) ≡ record { served = (scan_stream x.stream).served; fault = Some number } =
-        ap scan_stream (append_assoc x.stream k.front (k.last ∷ []) ∙ ap (λ (s : List ℕ). x.stream ++ s) (sym k.split)) ∙ k.complete in
+    ap scan_stream (append_assoc x.stream k.front (k.last ∷ []) ∙ ap (λ (s : List ℕ). x.stream ++ s) (sym k.split)) ∙ k.complete in
     let at : reached setup middle c k.last ≡ Fault number = reached-is layout verifier middle c k.last y _ there whole in
     let last : TakesFault middle c k.last (reached setup middle c k.last) 1 number (bytes_taken w c taken) =
-        subst (λ (r : Reached). TakesFault middle c k.last r 1 number (bytes_taken w c taken)) (sym at) (room, refl, refl, sym (front_and_last w c taken k.front k.last k.split)) in
+    subst (λ (r : Reached). TakesFault middle c k.last r 1 number (bytes_taken w c taken)) (sym at) (room, refl, refl, sym (front_and_last w c taken k.front k.last k.split)) in
     let fed : Feeds setup c w (k.front ++ (k.last ∷ rest)) (length k.front + 1) number (bytes_taken w c taken) =
-        Feeds-after setup c w middle (bytes_taken w c taken) k.front (k.last ∷ rest) 1 number (takes-quiet layout verifier w c k.front x e f k.quiet) (inr (inl last)) in
+    Feeds-after setup c w middle (bytes_taken w c taken) k.front (k.last ∷ rest) 1 number (takes-quiet layout verifier w c k.front x e f k.quiet) (inr (inl last)) in
     let bytes : k.front ++ (k.last ∷ rest) ≡ taken ++ rest = sym (append_assoc k.front (k.last ∷ []) rest) ∙ ap (λ (s : List ℕ). s ++ rest) (sym k.split) in
     let count : length k.front + 1 ≡ length taken = omega (arith, ap length k.split, length-append k.front (k.last ∷ [])) in
     subst (λ (n : ℕ). Feeds setup c w (taken ++ rest) n number (bytes_taken w c taken)) count

@@ -1,7 +1,7 @@
 -- What a call on the parcel is answered.
 use Rattle.std.specs.Prelude.{◌≡◌, ℕ, List}
 use Rattle.nfs_model.specs.Types as types
-use Rattle.nfs_model.specs.Serial.Step.{Step, serve, stay}
+use Rattle.nfs_model.specs.Serial.Step.{serve, stay}
 use Rattle.filer.specs.declared.engine.layout.Layout.{Layout}
 use Rattle.filer.specs.declared.engine.parcel.Kept.{Kept}
 use Rattle.filer.specs.Seen.{server_of}

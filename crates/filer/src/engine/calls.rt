@@ -16,7 +16,12 @@ use crate::engine::work;
 use nfs_values::{Moment, Reply};
 
 /// Begins the message at a place: its parcel is lent to the worker.
-pub(crate) fn begin(state: &mut State, worker: usize, place: usize, moment: Moment) -> Result<Done, Refusal>
+pub(crate) fn begin(
+    state: &mut State,
+    worker: usize,
+    place: usize,
+    moment: Moment,
+) -> Result<Done, Refusal>
     requires { IsSound state.old }
     ensures events { Events (setup_in state.old) (world state.old) (events.Begin worker place (moment_of moment)) (answer_of result) (world state.new) }
     ensures setup { setup_in state.new ≡ setup_in state.old }

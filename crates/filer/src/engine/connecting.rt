@@ -13,7 +13,11 @@ use rpc_record::Reassembler;
 use std::alloc::{AllocError, Global};
 
 /// Room for one more closed connection, and for so many replies on a new one.
-fn room_to_open(past: &mut Vec<ClosedConnection>, alloc: Global, replies: usize) -> Result<Vec<u8>, AllocError>
+fn room_to_open(
+    past: &mut Vec<ClosedConnection>,
+    alloc: Global,
+    replies: usize,
+) -> Result<Vec<u8>, AllocError>
     requires { replies ≤ 1024 }
     ensures same { past.new.items ≡ past.old.items }
     ensures len { vec_len past.new ≡ vec_len past.old }

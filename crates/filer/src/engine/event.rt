@@ -16,7 +16,9 @@ pub enum Event<'a> {
         bytes: &'a [u8],
     },
     /// A connection is closed: its calls still run, and nothing more is written to it.
-    Close { connection: usize },
+    Close {
+        connection: usize,
+    },
     /// A worker begins the message at a place of the list of waiting ones.
     Begin {
         worker: usize,
@@ -24,9 +26,13 @@ pub enum Event<'a> {
         moment: Moment,
     },
     /// A worker works the message that it began.
-    Work { worker: usize },
+    Work {
+        worker: usize,
+    },
     /// A worker finishes the message that it worked.
-    Finish { worker: usize },
+    Finish {
+        worker: usize,
+    },
 }
 
 /// What an event came to that was not refused.

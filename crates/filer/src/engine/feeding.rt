@@ -28,7 +28,10 @@ const START: Moment = Moment {
 };
 
 /// Room for so many replies.
-fn make_room_for_replies(current: &mut Option<OpenConnection>, replies: usize) -> Result<(), AllocError>
+fn make_room_for_replies(
+    current: &mut Option<OpenConnection>,
+    replies: usize,
+) -> Result<(), AllocError>
     requires { replies ≤ 1025 }
     ensures same { MayBeRoomier current.old current.new }
     ensures room { OnOk result (IfSome current.new (λ c. vec_len c.output + 116 * replies ≤ vec_capacity c.output)) }
@@ -82,7 +85,13 @@ fn admit(state: &mut State, number: usize, heard: Heard)
             }),
             None => {
                 respond(state, origin, &Reply::Success(answer_at_once(&call)));
-                keep_entry(state, origin, Request::Call { call, credential }, None, START);
+                keep_entry(
+                    state,
+                    origin,
+                    Request::Call { call, credential },
+                    None,
+                    START,
+                );
             }
         },
     }

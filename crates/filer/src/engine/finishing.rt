@@ -45,7 +45,13 @@ pub(crate) fn respond(state: &mut State, origin: Origin, reply: &Reply) -> usize
 }
 
 /// Keeps the entry of a finished call, for which there is room.
-pub(crate) fn keep_entry(state: &mut State, origin: Origin, request: Request, affinity: Option<Affinity>, moment: Moment)
+pub(crate) fn keep_entry(
+    state: &mut State,
+    origin: Origin,
+    request: Request,
+    affinity: Option<Affinity>,
+    moment: Moment,
+)
     requires { vec_len state.old.finished < vec_capacity state.old.finished }
     ensures kept { world state.new ≡ record (world state.old) { finished = (world state.old).finished ++ entry_by origin request affinity moment ∷ [] } }
     ensures keeps { KeepsEntry state.old state.new }

@@ -1,5 +1,5 @@
-use Rattle.std.proofs.Common.{rules, arith, Some, None, ◌≡◌}
-use Rattle.nfs_model.specs.Headline.{Headline, opening_world}
+use Rattle.std.proofs.Common.{rules, arith, Some, None}
+use Rattle.nfs_model.specs.Headline.{Headline}
 use Rattle.filer.specs.declared.engine.state.State.{State}
 use Rattle.filer.specs.Seen.{setup_in, world}
 use Rattle.filer.proofs.Runs.{opens}

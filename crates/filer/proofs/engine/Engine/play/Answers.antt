@@ -1,8 +1,5 @@
-use Rattle.std.proofs.Common.{rules, ◌≡◌, subst, sym, refl, map, ◌∙◌}
-use Rattle.nfs_model.specs.World.{Setup, World}
-use Rattle.nfs_model.specs.Events.Step.{Runs}
-use Rattle.nfs_model.specs.Headline.{opening_world}
-use Rattle.filer.specs.Seen.{setup_in, world, event_of}
+use Rattle.std.proofs.Common.{map}
+use Rattle.filer.specs.Seen.{event_of}
 use Rattle.filer.proofs.Runs.{plays}
 use Rattle.filer.proofs.engine.Engine.play.Goals as goal
 

@@ -1,4 +1,4 @@
-use Rattle.std.proofs.Common.{◌≡◌, List, ℕ, [], map, ◌+◌, ◌≤◌, length, take}
+use Rattle.std.proofs.Common.{◌≡◌, map, ◌≤◌, take}
 use Rattle.nfs_model.specs.Headline.{Headline}
 use Rattle.filer.specs.Engine.{RunsRefusing}
 use Rattle.filer.specs.Seen.{setup_in, world, event_of}

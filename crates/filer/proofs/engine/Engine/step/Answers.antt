@@ -1,4 +1,3 @@
-use Rattle.std.proofs.Common.{rules}
 use Rattle.filer.specs.Seen.{event_of, answer_of}
 use Rattle.filer.proofs.Runs.{keeps-state}
 use Rattle.filer.proofs.engine.Engine.step.Goals as goal

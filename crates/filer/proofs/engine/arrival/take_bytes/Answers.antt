@@ -1,11 +1,11 @@
-use Rattle.std.proofs.Common.{◌≡◌, ◌++◌, refl, sym, ap, ◌∙◌, length, take, Some, None, Ok, Err, arith}
+use Rattle.std.proofs.Common.{◌++◌, sym, ap, ◌∙◌, length, take, Ok, Err, arith}
 use Rattle.std.specs.Prelude.{option_map}
 use Rattle.nfs_model.specs.World.{Scanned}
 use Rattle.rpc_record.specs.declared.reassembler.Step.TheVariants as steps
 use Rattle.filer.specs.Numbers.{fault_number}
 use Rattle.filer.specs.Seen.{heard_of}
 use Rattle.filer.specs.Records.{read_of}
-use Rattle.filer.proofs.Arriving.{took_from, took_as, in-step, read_as, ended-as, scan_at, one_more, length_taken}
+use Rattle.filer.proofs.Arriving.{took_from, took_as, in-step, read_as, ended-as, one_more, length_taken}
 use Rattle.filer.proofs.engine.arrival.take_bytes.Goals as goal
 
 pub slice_bounds-keep-end : goal.slice_bounds-keep-end

@@ -1,4 +1,4 @@
-use Rattle.std.proofs.Common.{◌≡◌, ℕ, List, Option, Some, None, refl, sym, ap, ◌∙◌, length, arith}
+use Rattle.std.proofs.Common.{◌≡◌, Option, Some, None, refl, sym, ap, ◌∙◌, arith}
 use Rattle.std.specs.Prelude.{slice_get, map}
 use Rattle.std.specs.List.{remove}
 use Rattle.std.proofs.lemmas.Option.{slice_get-get_or}
@@ -17,10 +17,15 @@ returns-clause-events c =
     let message = c.remove-message.result in
     let begun : Running = record { message = message; moment = c.args.moment; held = c.in-Some.held; answer = None } in
     let there : slice_get s.waiting.items c.args.place ≡ Some message =
-        slice_get-get_or s.waiting.items c.args.place message (omega (arith, c.if-place-len.false, c.len.ensures, s.waiting.ok.0)) ∙ ap Some (sym c.remove-message.ensures.value) in
-    (may-begin s c.args.worker c.args.place (moment_of c.args.moment) message c.if-worker-ne0.false idle there c.if-moment-ge-SECOND.false c.if-state-ge-STAMPS.false,
-     (message_of message, message-there s.waiting.items c.args.place message there, refl,
-      changes-same (world s) (map message_of c.remove-message.new.self.items) (remove (map message_of s.waiting.items) c.args.place) _ _ _ _
-      (ap (map message_of) c.remove-message.ensures.items ∙ map-remove message_of s.waiting.items c.args.place)
-      (only-changed s.running _ c.args.worker c.if-worker-ne0.false)
-      (ap (server_of s.layout s.verifier) (ap (λ (o : Option VolumeLogical). kept_by o (Some begun)) c.take.ensures.after ∙ sym (ap (λ (o : Option VolumeLogical). kept_by o s.running) (sym c.take.ensures.value ∙ c.in-Some.is))))))
+    slice_get-get_or s.waiting.items c.args.place message (omega (arith, c.if-place-len.false, c.len.ensures, s.waiting.ok.0)) ∙ ap Some (sym c.remove-message.ensures.value) in (
+      may-begin s c.args.worker c.args.place (moment_of c.args.moment) message c.if-worker-ne0.false idle there c.if-moment-ge-SECOND.false c.if-state-ge-STAMPS.false,
+      (
+        message_of message,
+        message-there s.waiting.items c.args.place message there,
+        refl,
+        changes-same (world s) (map message_of c.remove-message.new.self.items) (remove (map message_of s.waiting.items) c.args.place) _ _ _ _
+            (ap (map message_of) c.remove-message.ensures.items ∙ map-remove message_of s.waiting.items c.args.place)
+            (only-changed s.running _ c.args.worker c.if-worker-ne0.false)
+            (ap (server_of s.layout s.verifier) (ap (λ (o : Option VolumeLogical). kept_by o (Some begun)) c.take.ensures.after ∙ sym (ap (λ (o : Option VolumeLogical). kept_by o s.running) (sym c.take.ensures.value ∙ c.in-Some.is)))),
+      ),
+    )

@@ -1,4 +1,4 @@
-use Rattle.std.proofs.Common.{◌≡◌, ℕ, false, Option, Some, None, refl, sym, ap, ◌∙◌}
+use Rattle.std.proofs.Common.{◌≡◌, false, Some, sym, ap, ◌∙◌}
 use Rattle.std.specs.Prelude.{option_map}
 use Rattle.nfs_model.specs.Types as types
 use Rattle.nfs_model.specs.World as worlds
@@ -17,9 +17,16 @@ returns-clause-events c =
     let some : s.running ≡ Some r = sym c.take.ensures.value ∙ c.in-Some-take.is in
     let answer = c.in-Some-answer.answer in
     let reply : types.Reply = types.Success (answer_of answer) in
-    let before = without-call s c.args.worker r c.take.new.self c.if-worker-ne0.false some c.requires.lent c.take.ensures.after in
-    (may-finish s c.args.worker r answer c.if-worker-ne0.false some c.in-Some-answer.is,
-     (worker_of s.running, running_of r, worlds.Replied reply,
-      only-there s.running c.args.worker c.if-worker-ne0.false, ap (option_map running_of) some, ap (option_map outcome_of) c.in-Some-answer.is,
-      ap (events.Written r.message.origin.connection) c.respond-count.ensures.count,
-      finished (setup_in s) (stamped (without_call w c.args.worker)) _ _ _ (entry_of (running_of r) false) reply c.respond-count.ensures.written c.keep_entry.ensures.kept before))
+    let before = without-call s c.args.worker r c.take.new.self c.if-worker-ne0.false some c.requires.lent c.take.ensures.after in (
+      may-finish s c.args.worker r answer c.if-worker-ne0.false some c.in-Some-answer.is,
+      (
+        worker_of s.running,
+        running_of r,
+        worlds.Replied reply,
+        only-there s.running c.args.worker c.if-worker-ne0.false,
+        ap (option_map running_of) some,
+        ap (option_map outcome_of) c.in-Some-answer.is,
+        ap (events.Written r.message.origin.connection) c.respond-count.ensures.count,
+        finished (setup_in s) (stamped (without_call w c.args.worker)) _ _ _ (entry_of (running_of r) false) reply c.respond-count.ensures.written c.keep_entry.ensures.kept before,
+      ),
+    )

@@ -18,10 +18,20 @@ returns-in-Some-clause-events c =
     let answer = answer_of c.answer.result in
     let some : s.running ≡ Some r = c.in-Some.is in
     let none : r.answer ≡ None = none-if r.answer c.if-is_none.ensures in
-    let worked : Running = record { message = r.message; moment = r.moment; held = r.held; answer = Some c.answer.result } in
-    (may-work s c.args.worker r c.if-worker-ne0.false some none,
-     (worker_of s.running, running_of r, worlds.Replied (types.Success answer), w.server, w.parts,
-      only-there s.running c.args.worker c.if-worker-ne0.false, ap (option_map running_of) some, works s r answer some c.requires.lent c.answer.ensures, refl,
-      changes-same w w.waiting w.waiting _ _ _ _ refl
-      (only-changed s.running (Some (running_of worked)) c.args.worker c.if-worker-ne0.false)
-      (ap (server_of s.layout s.verifier) (ap (λ (o : Option VolumeLogical). kept_by o (Some worked)) (lent-away s.home s.running r c.requires.lent some) ∙ sym (kept-lent s.home s.running r c.requires.lent some)))))
+    let worked : Running = record { message = r.message; moment = r.moment; held = r.held; answer = Some c.answer.result } in (
+      may-work s c.args.worker r c.if-worker-ne0.false some none,
+      (
+        worker_of s.running,
+        running_of r,
+        worlds.Replied (types.Success answer),
+        w.server,
+        w.parts,
+        only-there s.running c.args.worker c.if-worker-ne0.false,
+        ap (option_map running_of) some,
+        works s r answer some c.requires.lent c.answer.ensures,
+        refl,
+        changes-same w w.waiting w.waiting _ _ _ _ refl
+            (only-changed s.running (Some (running_of worked)) c.args.worker c.if-worker-ne0.false)
+            (ap (server_of s.layout s.verifier) (ap (λ (o : Option VolumeLogical). kept_by o (Some worked)) (lent-away s.home s.running r c.requires.lent some) ∙ sym (kept-lent s.home s.running r c.requires.lent some))),
+      ),
+    )

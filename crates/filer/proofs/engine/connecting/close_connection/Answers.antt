@@ -1,4 +1,4 @@
-use Rattle.std.proofs.Common.{◌≡◌, List, Option, Some, None, refl, sym, ap, ◌∙◌, inl, inr, true, false, arith, ℕ, length, map}
+use Rattle.std.proofs.Common.{◌≡◌, List, Option, refl, sym, ap, ◌∙◌, inl, arith, ℕ, length, map}
 use Rattle.nfs_model.specs.World as worlds
 use Rattle.filer.specs.Seen.{world, connections_of, closed_of, open_of, entry_of}
 use Rattle.filer.specs.declared.engine.connection.OpenConnection.{OpenConnection}
@@ -15,9 +15,10 @@ returns-then-connection-len-clause-events c =
 pub returns-in_default-clause-events : goal.returns-in_default-clause-events
 returns-in_default-clause-events c =
     let s = c.args.state.now in
-    let none = sym c.take.ensures.value ∙ c.in_default.is in
-    (inl (none-there s.past.items s.current c.args.connection none),
-     ap (λ (o : Option OpenConnection). record (world s) { connections = connections_of s.past.items o }) (c.take.ensures.after ∙ sym none))
+    let none = sym c.take.ensures.value ∙ c.in_default.is in (
+      inl (none-there s.past.items s.current c.args.connection none),
+      ap (λ (o : Option OpenConnection). record (world s) { connections = connections_of s.past.items o }) (c.take.ensures.after ∙ sym none),
+    )
 
 pub returns-clause-events : goal.returns-clause-events
 returns-clause-events c =
@@ -26,8 +27,12 @@ returns-clause-events c =
     let number : c.args.connection ≡ length s.past.items = omega (arith, c.if-connection-len.false, c.len.ensures, s.past.ok.0) in
     let count : c.len-finished.result ≡ length (map entry_of s.finished.items) = count-mapped entry_of s.finished.items c.len-finished.result (omega (arith, c.len-finished.ensures, s.finished.ok.0)) in
     let closed : ClosedConnection = record { stream = c.in-Some.last.stream; output = c.in-Some.last.output; finished = c.len-finished.result } in
-    let seen : closed_of closed ≡ with_closed (length (map entry_of s.finished.items)) (open_of c.in-Some.last) = ap (λ (n : ℕ). with_closed n (open_of c.in-Some.last)) count in
-    (there s.past.items s.current c.in-Some.last c.args.connection some number, (refl,
-     ap (λ (cs : List worlds.Connection). record (world s) { connections = cs })
-     (ap (connections_of c.push_reserved.new.self.items) c.take.ensures.after
-      ∙ now-closed (length (map entry_of s.finished.items)) c.args.connection s.past.items c.push_reserved.new.self.items s.current c.in-Some.last closed some number c.push_reserved.ensures.items seen)))
+    let seen : closed_of closed ≡ with_closed (length (map entry_of s.finished.items)) (open_of c.in-Some.last) = ap (λ (n : ℕ). with_closed n (open_of c.in-Some.last)) count in (
+      there s.past.items s.current c.in-Some.last c.args.connection some number,
+      (
+        refl,
+        ap (λ (cs : List worlds.Connection). record (world s) { connections = cs })
+            (ap (connections_of c.push_reserved.new.self.items) c.take.ensures.after
+            ∙ now-closed (length (map entry_of s.finished.items)) c.args.connection s.past.items c.push_reserved.new.self.items s.current c.in-Some.last closed some number c.push_reserved.ensures.items seen),
+      ),
+    )

@@ -1,5 +1,4 @@
-use Rattle.std.proofs.Common.{◌≡◌, List, None, length, refl, sym, ap, ◌∙◌, inl, inr, true, false, arith}
-use Rattle.std.specs.Prelude.{is_some}
+use Rattle.std.proofs.Common.{◌≡◌, List, None, length, refl, sym, ap, ◌∙◌, inl, inr, arith}
 use Rattle.nfs_model.specs.World as worlds
 use Rattle.nfs_model.specs.Events.Refusals as events
 use Rattle.filer.specs.Seen.{world, connections_of}
@@ -13,15 +12,20 @@ returns-then-is_some-clause-events c = (inl (full-if c.args.state.now.past.items
 pub returns-in_default-clause-events : goal.returns-in_default-clause-events
 returns-in_default-clause-events c =
     let s = c.args.state.now in
-    let none = none-if s.current (sym c.if-is_some.ensures) in
-    (inr (refl, not-full s.past.items s.current none, refl),
-     ap (λ (past : List ClosedConnection). record (world s) { connections = connections_of past s.current }) c.room_to_open.ensures.same)
+    let none = none-if s.current (sym c.if-is_some.ensures) in (
+      inr (refl, not-full s.past.items s.current none, refl),
+      ap (λ (past : List ClosedConnection). record (world s) { connections = connections_of past s.current }) c.room_to_open.ensures.same,
+    )
 
 pub returns-clause-events : goal.returns-clause-events
 returns-clause-events c =
     let s = c.args.state.now in
     let none = none-if s.current (sym c.if-is_some.ensures) in
-    let number : c.len.result ≡ length (connections_of s.past.items s.current) = c.len.ensures ∙ omega (arith, c.room_to_open.ensures.len, s.past.ok.0) ∙ sym (next-number s.past.items s.current none) in
-    (not-full s.past.items s.current none, (ap events.Opened number,
-     ap (λ (cs : List worlds.Connection). record (world s) { connections = cs })
-     (now-open s.past.items c.room_to_open.new.past.items s.current (record { alloc = s.alloc; stream = c.new.result; reassembler = c.new-2.result; records = 0; fault = None; output = c.in-Ok.output }) none c.room_to_open.ensures.same c.new.ensures.items c.in-Ok.ensures.output.0)))
+    let number : c.len.result ≡ length (connections_of s.past.items s.current) = c.len.ensures ∙ omega (arith, c.room_to_open.ensures.len, s.past.ok.0) ∙ sym (next-number s.past.items s.current none) in (
+      not-full s.past.items s.current none,
+      (
+        ap events.Opened number,
+        ap (λ (cs : List worlds.Connection). record (world s) { connections = cs })
+            (now-open s.past.items c.room_to_open.new.past.items s.current (record { alloc = s.alloc; stream = c.new.result; reassembler = c.new-2.result; records = 0; fault = None; output = c.in-Ok.output }) none c.room_to_open.ensures.same c.new.ensures.items c.in-Ok.ensures.output.0),
+      ),
+    )

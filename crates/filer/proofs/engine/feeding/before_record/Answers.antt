@@ -1,4 +1,4 @@
-use Rattle.std.proofs.Common.{◌≡◌, ℕ, ◌+◌, ◌-◌, ◌∙◌, ap, sym, arith, length, take}
+use Rattle.std.proofs.Common.{◌≡◌, ℕ, ◌+◌, ◌-◌, ◌∙◌, ap, arith}
 use Rattle.rpc_record.specs.Machine.{Made, outcome}
 use Rattle.filer.proofs.Full.{look-record, made-some, more-none}
 use Rattle.filer.proofs.engine.feeding.before_record.Goals as goal

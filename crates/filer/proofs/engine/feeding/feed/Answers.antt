@@ -1,4 +1,4 @@
-use Rattle.std.proofs.Common.{◌≡◌, ℕ, true, false, refl, sym, subst, ◌∙◌, arith, inl, length}
+use Rattle.std.proofs.Common.{ℕ, true, false, refl, sym, subst, ◌∙◌, arith, inl}
 use Rattle.nfs_model.specs.Events.Feed.{Feeds}
 use Rattle.filer.specs.Numbers.{stop_number}
 use Rattle.filer.specs.Seen.{setup_in, world}
@@ -17,7 +17,12 @@ returns-then-not-takes_input-clause-events c =
 
 pub returns-clause-events : goal.returns-clause-events
 returns-clause-events c =
-    let s = c.args.state.now in
-    (taking-is s c.args.connection true c.requires (omega (arith, c.if-connection-len.false, c.len.ensures, s.past.ok.0)) c.if-not-takes_input.ensures,
-     (c.feed_open-taken.result.0, stop_number c.feed_open-taken.result.1, refl,
-      subst (λ (n : ℕ). Feeds (setup_in s) n (world s) c.args.bytes.now c.feed_open-taken.result.0 (stop_number c.feed_open-taken.result.1) (world c.feed_open-taken.new.state)) (sym (c.if-connection-len.false ∙ c.len.ensures)) c.feed_open-taken.ensures.feeds))
+    let s = c.args.state.now in (
+      taking-is s c.args.connection true c.requires (omega (arith, c.if-connection-len.false, c.len.ensures, s.past.ok.0)) c.if-not-takes_input.ensures,
+      (
+        c.feed_open-taken.result.0,
+        stop_number c.feed_open-taken.result.1,
+        refl,
+        subst (λ (n : ℕ). Feeds (setup_in s) n (world s) c.args.bytes.now c.feed_open-taken.result.0 (stop_number c.feed_open-taken.result.1) (world c.feed_open-taken.new.state)) (sym (c.if-connection-len.false ∙ c.len.ensures)) c.feed_open-taken.ensures.feeds,
+      ),
+    )

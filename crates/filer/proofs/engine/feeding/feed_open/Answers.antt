@@ -1,4 +1,4 @@
-use Rattle.std.proofs.Common.{◌≡◌, sym, subst, arith, vec_len, refl}
+use Rattle.std.proofs.Common.{sym, subst, vec_len}
 use Rattle.nfs_model.specs.Events.Feed.{Feeds}
 use Rattle.filer.specs.Seen.{setup_in, world}
 use Rattle.filer.proofs.Feeding.{stream-room-unseen}

@@ -1,5 +1,5 @@
 use Rattle.std.proofs.Common.{◌≡◌, ℕ, List, ◌+◌, ◌-◌, ap, subst, ◌∙◌, arith, length, take, drop, vec_len}
-use Rattle.std.specs.Prelude.{None, Some, Option}
+use Rattle.std.specs.Prelude.{Option}
 use Rattle.filer.specs.declared.engine.event.Stop.{Stop}
 use Rattle.filer.specs.Numbers.{stop_number}
 use Rattle.filer.specs.Seen.{setup_in, world}

@@ -1,9 +1,7 @@
-use Rattle.std.proofs.Common.{◌≡◌, ℕ, refl, sym, ap, subst, ◌∙◌, length, take}
+use Rattle.std.proofs.Common.{◌≡◌, ℕ, sym, ap, subst, ◌∙◌, length, take}
 use Rattle.std.specs.Prelude.{vec_len}
-use Rattle.nfs_model.specs.World as worlds
 use Rattle.nfs_model.specs.Events.Feed.{Feeds}
 use Rattle.filer.specs.declared.engine.connection.Arrival.TheVariants as arrivals
-use Rattle.filer.specs.declared.engine.connection.OpenConnection.{OpenConnection}
 use Rattle.filer.specs.declared.engine.state.State.{State}
 use Rattle.filer.specs.Seen.{setup_in, world}
 use Rattle.filer.specs.Sound.{records_of}
@@ -25,7 +23,7 @@ returns-in-NoMemory-clause-feeds c =
     let a = arrived made.current c.take_in-taken.new.state.current p.0 c.args.bytes.now c.take_in-taken.result.0 c.take_in-taken.result.1 p.1 c.take_in-taken.ensures.took in
     let past : vec_len made.past ≡ vec_len s.past = ap (λ (x : State). vec_len x.past) c.make_room.ensures.same.same in
     let taken : world c.take_in-taken.new.state ≡ bytes_taken (world made) (vec_len s.past) (take c.take_in-taken.result.0 c.args.bytes.now) =
-        c.take_in-taken.ensures.taken ∙ ap (λ (n : ℕ). bytes_taken (world made) n (take c.take_in-taken.result.0 c.args.bytes.now)) past in
+    c.take_in-taken.ensures.taken ∙ ap (λ (n : ℕ). bytes_taken (world made) n (take c.take_in-taken.result.0 c.args.bytes.now)) past in
     nothing-admitted s p.0 (world made) (world c.take_in-taken.new.state) (vec_len s.past) c.args.bytes.now c.take_in-taken.result.0 p.2 c.requires.some taken (arrived_as p.0.stream.items c.args.bytes.now c.take_in-taken.result.0 _ arrivals.NoMemory c.in-NoMemory.is a)
 
 pub returns-in-Fault-clause-feeds : goal.returns-in-Fault-clause-feeds
@@ -36,7 +34,7 @@ returns-in-Fault-clause-feeds c =
     let a = arrived made.current c.take_in-taken.new.state.current p.0 c.args.bytes.now c.take_in-taken.result.0 c.take_in-taken.result.1 p.1 c.take_in-taken.ensures.took in
     let past : vec_len made.past ≡ vec_len s.past = ap (λ (x : State). vec_len x.past) c.make_room.ensures.same.same in
     let taken : world c.take_in-taken.new.state ≡ bytes_taken (world made) (vec_len s.past) (take c.take_in-taken.result.0 c.args.bytes.now) =
-        c.take_in-taken.ensures.taken ∙ ap (λ (n : ℕ). bytes_taken (world made) n (take c.take_in-taken.result.0 c.args.bytes.now)) past in
+    c.take_in-taken.ensures.taken ∙ ap (λ (n : ℕ). bytes_taken (world made) n (take c.take_in-taken.result.0 c.args.bytes.now)) past in
     let f = arrived_as p.0.stream.items c.args.bytes.now c.take_in-taken.result.0 _ (arrivals.Fault c.in-Fault.fault) c.in-Fault.is a in
     fault-admitted s p.0 (world made) (world c.take_in-taken.new.state) (vec_len s.past) c.args.bytes.now c.take_in-taken.result.0 c.in-Fault.fault p.2 taken f.1 f.2
 
@@ -48,7 +46,7 @@ returns-in-More-clause-feeds c =
     let a = arrived made.current c.take_in-taken.new.state.current p.0 c.args.bytes.now c.take_in-taken.result.0 c.take_in-taken.result.1 p.1 c.take_in-taken.ensures.took in
     let past : vec_len made.past ≡ vec_len s.past = ap (λ (x : State). vec_len x.past) c.make_room.ensures.same.same in
     let taken : world c.take_in-taken.new.state ≡ bytes_taken (world made) (vec_len s.past) (take c.take_in-taken.result.0 c.args.bytes.now) =
-        c.take_in-taken.ensures.taken ∙ ap (λ (n : ℕ). bytes_taken (world made) n (take c.take_in-taken.result.0 c.args.bytes.now)) past in
+    c.take_in-taken.ensures.taken ∙ ap (λ (n : ℕ). bytes_taken (world made) n (take c.take_in-taken.result.0 c.args.bytes.now)) past in
     more-admitted s p.0 (world made) (world c.take_in-taken.new.state) (vec_len s.past) c.args.bytes.now c.take_in-taken.result.0 p.2 taken (arrived_as p.0.stream.items c.args.bytes.now c.take_in-taken.result.0 _ arrivals.More c.in-More.is a)
 
 pub returns-in-Heard-clause-feeds : goal.returns-in-Heard-clause-feeds
@@ -59,7 +57,7 @@ returns-in-Heard-clause-feeds c =
     let a = arrived made.current c.take_in-taken.new.state.current p.0 c.args.bytes.now c.take_in-taken.result.0 c.take_in-taken.result.1 p.1 c.take_in-taken.ensures.took in
     let past : vec_len made.past ≡ vec_len s.past = ap (λ (x : State). vec_len x.past) c.make_room.ensures.same.same in
     let taken : world c.take_in-taken.new.state ≡ bytes_taken (world made) (vec_len s.past) (take c.take_in-taken.result.0 c.args.bytes.now) =
-        c.take_in-taken.ensures.taken ∙ ap (λ (n : ℕ). bytes_taken (world made) n (take c.take_in-taken.result.0 c.args.bytes.now)) past in
+    c.take_in-taken.ensures.taken ∙ ap (λ (n : ℕ). bytes_taken (world made) n (take c.take_in-taken.result.0 c.args.bytes.now)) past in
     let f = arrived_as p.0.stream.items c.args.bytes.now c.take_in-taken.result.0 _ (arrivals.Heard c.in-Heard.heard) c.in-Heard.is a in
     let number : c.records-number.result ≡ p.0.records = c.records-number.ensures ∙ ap records_of p.1 in
     let later : vec_len c.take_in-taken.new.state.past ≡ vec_len s.past = ap (λ (x : State). vec_len x.past) c.take_in-taken.ensures.same ∙ past in

@@ -2,14 +2,12 @@ use Rattle.std.proofs.Common.{◌≡◌, ℕ, List, sym, ap, subst, ◌∙◌, l
 use Rattle.std.specs.Prelude.{vec_len}
 use Rattle.std.proofs.lemmas.List.{take_all, length-take-le}
 use Rattle.nfs_model.specs.Events.Feed.{Feeds}
-use Rattle.filer.specs.declared.engine.connection.Arrival.{Arrival}
 use Rattle.filer.specs.declared.engine.connection.Arrival.TheVariants as arrivals
 use Rattle.filer.specs.Seen.{setup_in, world}
 use Rattle.filer.specs.Sound.{AdmitsNone, stands_at}
 use Rattle.filer.specs.Feeding.{TakesAll, bytes_taken}
 use Rattle.filer.proofs.Feeding.{fed, arrived, arrived_as, crowded, part-more, no-bytes}
 use Rattle.filer.proofs.Full.{full-stop, full-nothing, full-fault, take-within}
-use Rattle.filer.proofs.Worlds.{bytes_taken-none}
 use Rattle.filer.proofs.engine.feeding.take_when_full.Goals as goal
 
 pub returns-then-free-eq0-clause-feeds : goal.returns-then-free-eq0-clause-feeds
@@ -68,7 +66,7 @@ returns-then-free-bytes-clause-feeds c =
     let all : c.take_in-taken.result.0 ≡ free = omega (arith, k.0, length-take-le free c.args.bytes.now c.free_bytes-free.ensures.within) in
     let stop = full-stop s f.0 w (vec_len s.past) c.args.bytes.now free (stands_at s.current) f.2 at crowd c.if-free-bytes.true (c.free_bytes-free.ensures.next c.if-free-bytes.true) in
     let new : bytes_taken w (vec_len s.past) given ≡ world c.take_in-taken.new.state =
-        sym (c.take_in-taken.ensures.taken ∙ ap (bytes_taken w (vec_len s.past)) (take_all c.take_in-taken.result.0 given (omega (arith, k.0)))) in
+    sym (c.take_in-taken.ensures.taken ∙ ap (bytes_taken w (vec_len s.past)) (take_all c.take_in-taken.result.0 given (omega (arith, k.0)))) in
     subst (λ (n : ℕ). Feeds (setup_in s) (vec_len s.past) w c.args.bytes.now n 31 (world c.take_in-taken.new.state)) (sym all) (subst (Feeds (setup_in s) (vec_len s.past) w c.args.bytes.now free 31) new stop)
 
 pub returns-else-free-bytes-clause-feeds : goal.returns-else-free-bytes-clause-feeds

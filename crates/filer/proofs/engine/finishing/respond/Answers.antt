@@ -1,4 +1,4 @@
-use Rattle.std.proofs.Common.{◌≡◌, ℕ, List, Option, Some, None, refl, sym, ap, ◌∙◌, length, arith}
+use Rattle.std.proofs.Common.{◌≡◌, ℕ, List, Option, sym, ap, ◌∙◌, length, arith}
 use Rattle.nfs_model.specs.World as worlds
 use Rattle.nfs_model.specs.Events.Step.{bytes_if_open}
 use Rattle.nfs_values.specs.Reply.{reply_of}
@@ -29,7 +29,7 @@ returns-in-Some-clause-written c =
     let number : c.args.origin.connection ≡ length s.past.items = omega (arith, c.if-origin-len.false, c.len.ensures, s.past.ok.0) in
     ap (λ (cs : List worlds.Connection). record (world s) { connections = cs })
     (last-written bytes s.past.items c.in-Some.last c.write_to.new.last s.current c.args.origin.connection c.in-Some.is number
-     (written-is bytes c.in-Some.last c.write_to.new.last c.write_to.ensures.written.same c.write_to.ensures.output))
+    (written-is bytes c.in-Some.last c.write_to.new.last c.write_to.ensures.written.same c.write_to.ensures.output))
 
 pub returns-in-Some-clause-count : goal.returns-in-Some-clause-count
 returns-in-Some-clause-count c =
@@ -44,11 +44,11 @@ returns-in-None-clause-written c =
     let bytes = reply_record c.args.origin.xid (reply_of c.args.reply.now) in
     ap (λ (cs : List worlds.Connection). record (world s) { connections = cs })
     (ap (connections_of s.past.items) c.in-None.is ∙ sym (all-stay bytes s.past.items c.args.origin.connection)
-     ∙ ap (λ (o : Option OpenConnection). worlds.changed_at (worlds.with_output bytes) (connections_of s.past.items o) c.args.origin.connection) (sym c.in-None.is))
+    ∙ ap (λ (o : Option OpenConnection). worlds.changed_at (worlds.with_output bytes) (connections_of s.past.items o) c.args.origin.connection) (sym c.in-None.is))
 
 pub returns-in-None-clause-count : goal.returns-in-None-clause-count
 returns-in-None-clause-count c =
     let s = c.args.state.now in
     let bytes = reply_record c.args.origin.xid (reply_of c.args.reply.now) in
     sym (ap (λ (o : Option OpenConnection). length (bytes_if_open (slice_get (connections_of s.past.items o) c.args.origin.connection) bytes)) c.in-None.is
-         ∙ ap (λ (bs : List ℕ). length bs) (none-gets bytes s.past.items c.args.origin.connection))
+    ∙ ap (λ (bs : List ℕ). length bs) (none-gets bytes s.past.items c.args.origin.connection))

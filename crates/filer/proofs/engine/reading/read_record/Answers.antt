@@ -1,4 +1,4 @@
-use Rattle.std.proofs.Common.{◌≡◌, Result, Ok, Err, sym, ap, subst, ◌∙◌}
+use Rattle.std.proofs.Common.{Result, Err, sym, ap, subst, ◌∙◌}
 use Rattle.rpc_msg.specs.declared.fault.Fault.{Fault}
 use Rattle.rpc_msg.specs.declared.record.Heard.{Heard}
 use Rattle.rpc_msg.specs.declared.record.Request.{Request}
@@ -7,7 +7,6 @@ use Rattle.rpc_msg.specs.Records.{needs_memory}
 use Rattle.rpc_msg.specs.Seen.{Hears, Tells}
 use Rattle.filer.specs.declared.engine.event.StreamFault.{StreamFault}
 use Rattle.filer.specs.Numbers.{fault_number}
-use Rattle.filer.specs.Codec.{heard}
 use Rattle.filer.proofs.Records.{numbers-same, heard-is}
 use Rattle.filer.proofs.engine.reading.read_record.Goals as goal
 
