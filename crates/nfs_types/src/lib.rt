@@ -2,10 +2,12 @@
 #![tactic(auto)]
 
 mod arguments;
+mod arms;
 mod bad;
 mod decode;
 mod encode;
 mod laws;
+mod lists;
 mod results;
 
 pub use arguments::decode_args;
