@@ -61,8 +61,9 @@ fn get_attributes(bytes: &[u8]) -> Result<Call, Bad>
 fn set_attributes(bytes: &[u8]) -> Result<Call, Bad>
     ensures { Makes call_of false result (asked_by setattr_shape setattr_call bytes.now) }
 {
-    let (handle, (set, guard)) =
-        decode_all::<(FileHandle, (SetAttributes, Option<Moment>))>(bytes)?;
+    let (handle, (set, guard)) = decode_all::<(FileHandle, (SetAttributes, Option<Moment>))>(
+        bytes,
+    )?;
     Ok(Call::SetAttributes { handle, set, guard })
 }
 
@@ -138,8 +139,9 @@ fn remove_directory(alloc: Global, bytes: &[u8]) -> Result<Call, Bad>
 fn read_directory(bytes: &[u8]) -> Result<Call, Bad>
     ensures { Makes call_of false result (asked_by listing_shape readdir_call bytes.now) }
 {
-    let (directory, (cookie, (verifier, count))) =
-        decode_all::<(FileHandle, (u64, (Verifier, u32)))>(bytes)?;
+    let (directory, (cookie, (verifier, count))) = decode_all::<
+        (FileHandle, (u64, (Verifier, u32))),
+    >(bytes)?;
     Ok(Call::ReadDirectory {
         directory,
         cookie,
