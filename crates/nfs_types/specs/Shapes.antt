@@ -1,6 +1,5 @@
 -- The types of NFS version 3 (RFC 1813) as shapes of XDR, and what the model's data is in them.
-use Rattle.std.specs.Prelude.{◌-◌, ◌^◌, ℕ, List, [], ◌∷◌, Option, Some}
-use Rattle.std.specs.Option.{option_map}
+use Rattle.std.specs.Prelude.{◌-◌, ◌^◌, [], ◌∷◌, Some}
 use Rattle.std.proofs.Common.{inl, inr}
 use Rattle.xdr.specs.Shape.{Shape, Void, Word, Hyper, Choice, Fixed, Opaque, Pair, Optional, Case, NoCase, Value}
 use Rattle.nfs_model.specs.Types as model

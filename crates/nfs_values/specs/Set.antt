@@ -1,4 +1,3 @@
-use Rattle.std.specs.Prelude.{ℕ, List}
 use Rattle.nfs_model.specs.Types as model
 use Rattle.nfs_values.specs.declared.set.SetTime.{SetTime}
 use Rattle.nfs_values.specs.declared.set.SetTime.TheVariants.{Keep, ServerTime, ClientTime}
