@@ -1,2 +1,4 @@
 pub mod Absent
 pub mod Exact
+pub mod Memory
+pub mod Rest

@@ -1,19 +1,66 @@
 -- The arguments of each procedure (RFC 1813 section 3.3).
 use Rattle.std.specs.Prelude.{◌≡◌, ℕ, Bool, true, false, List, Result, Ok, Err}
+use Rattle.std.specs.Option.{option_map}
 use Rattle.xdr.specs.declared.fault.Fault.{Fault}
-use Rattle.xdr.specs.Shape.{Shape, Void, Value, Spells}
+use Rattle.xdr.specs.Shape.{Shape, Void, Word, Hyper, Value, Spells}
 use Rattle.xdr.specs.Reading.{◌>>=◌, all_of}
 use Rattle.nfs_model.specs.Types as model
 use Rattle.nfs_values.specs.declared.procedure.Procedure.{Procedure}
-use Rattle.nfs_values.specs.declared.procedure.Procedure.TheVariants.{Null, GetAttributes, AdminNull}
+use Rattle.nfs_values.specs.declared.procedure.Procedure.TheVariants.{Null, GetAttributes, SetAttributes, Lookup, Read, Write, Create, MakeDirectory, Remove, RemoveDirectory, ReadDirectory, FilesystemStatus, Commit, AdminNull, Census, Grow}
+use Rattle.nfs_values.specs.declared.target.Target.{Target}
 use Rattle.nfs_types.specs.declared.bad.Bad.{Bad}
 use Rattle.nfs_types.specs.declared.bad.Bad.TheVariants as bads
-use Rattle.nfs_types.specs.Shapes.{handle_shape}
+use Rattle.nfs_types.specs.Shapes.{◌&◌, handle_shape, any_bytes, verifier_shape, moment_from, set_shape, set_from, guard_shape, target_shape, create_shape, create_from, stable_shape}
+
+-- SETATTR3args (section 3.3.2): object, new_attributes and guard
+abbrev pub setattr_shape : Shape
+setattr_shape = handle_shape & set_shape & guard_shape
+
+-- READ3args (section 3.3.6) and COMMIT3args (section 3.3.21): file, offset and count
+abbrev pub range_shape : Shape
+range_shape = handle_shape & Hyper & Word
+
+-- WRITE3args (section 3.3.7): file, offset, count, stable and data
+abbrev pub writing_shape : Shape
+writing_shape = handle_shape & Hyper & Word & stable_shape & any_bytes
+
+-- CREATE3args (section 3.3.8): where and how
+abbrev pub creating_shape : Shape
+creating_shape = target_shape & create_shape
+
+-- MKDIR3args (section 3.3.9): where and attributes
+abbrev pub making_shape : Shape
+making_shape = target_shape & set_shape
+
+-- READDIR3args (section 3.3.16): dir, cookie, cookieverf and count
+abbrev pub listing_shape : Shape
+listing_shape = handle_shape & Hyper & verifier_shape & Word
+
+-- GROW (our profile): volume and ranges
+abbrev pub growing_shape : Shape
+growing_shape = Word & Word
 
 abbrev pub arguments_shape : Procedure → Shape
 arguments_shape Null = Void
 arguments_shape GetAttributes = handle_shape
+arguments_shape SetAttributes = setattr_shape
+arguments_shape Lookup = target_shape
+arguments_shape Read = range_shape
+arguments_shape Write = writing_shape
+arguments_shape Create = creating_shape
+arguments_shape MakeDirectory = making_shape
+arguments_shape Remove = target_shape
+arguments_shape RemoveDirectory = target_shape
+arguments_shape ReadDirectory = listing_shape
+arguments_shape FilesystemStatus = handle_shape
+arguments_shape Commit = range_shape
 arguments_shape AdminNull = Void
+arguments_shape Census = Void
+arguments_shape Grow = growing_shape
+
+-- a name in a directory, as its type has it
+abbrev pub target_of : Target → Value target_shape
+target_of t = (t.directory, t.name.items)
 
 -- what arguments ask
 abbrev pub null_call : Value Void → model.Call
@@ -22,16 +69,72 @@ null_call v = model.Null
 abbrev pub getattr_call : Value handle_shape → model.Call
 getattr_call handle = model.Getattr handle
 
+abbrev pub setattr_call : Value setattr_shape → model.Call
+setattr_call v = model.Setattr v.0 (set_from v.1.0) (option_map moment_from v.1.1)
+
+abbrev pub lookup_call : Value target_shape → model.Call
+lookup_call v = model.Lookup v.0 v.1
+
+abbrev pub read_call : Value range_shape → model.Call
+read_call v = model.Read v.0 v.1.0 v.1.1
+
+abbrev pub write_call : Value writing_shape → model.Call
+write_call v = model.Write v.0 v.1.0 v.1.1.0 v.1.1.1.1
+
+abbrev pub create_call : Value creating_shape → model.Call
+create_call v = model.Create v.0.0 v.0.1 (create_from v.1)
+
+abbrev pub mkdir_call : Value making_shape → model.Call
+mkdir_call v = model.Mkdir v.0.0 v.0.1 (set_from v.1)
+
+abbrev pub remove_call : Value target_shape → model.Call
+remove_call v = model.Remove v.0 v.1
+
+abbrev pub rmdir_call : Value target_shape → model.Call
+rmdir_call v = model.Rmdir v.0 v.1
+
+abbrev pub readdir_call : Value listing_shape → model.Call
+readdir_call v = model.Readdir v.0 v.1.0 v.1.1.0 v.1.1.1
+
+abbrev pub fsstat_call : Value handle_shape → model.Call
+fsstat_call handle = model.Fsstat handle
+
+abbrev pub commit_call : Value range_shape → model.Call
+commit_call v = model.Commit v.0
+
+abbrev pub census_call : Value Void → model.Call
+census_call v = model.Census
+
+abbrev pub grow_call : Value growing_shape → model.Call
+grow_call v = model.Grow v.0 v.1
+
 abbrev pub call_from : (procedure : Procedure) → Value (arguments_shape procedure) → model.Call
 call_from Null = null_call
 call_from GetAttributes = getattr_call
+call_from SetAttributes = setattr_call
+call_from Lookup = lookup_call
+call_from Read = read_call
+call_from Write = write_call
+call_from Create = create_call
+call_from MakeDirectory = mkdir_call
+call_from Remove = remove_call
+call_from RemoveDirectory = rmdir_call
+call_from ReadDirectory = readdir_call
+call_from FilesystemStatus = fsstat_call
+call_from Commit = commit_call
 call_from AdminNull = null_call
+call_from Census = census_call
+call_from Grow = grow_call
 
 -- The arguments have a name or data.
 abbrev pub takes_memory : Procedure → Bool
-takes_memory Null = false
-takes_memory GetAttributes = false
-takes_memory AdminNull = false
+takes_memory Lookup = true
+takes_memory Write = true
+takes_memory Create = true
+takes_memory MakeDirectory = true
+takes_memory Remove = true
+takes_memory RemoveDirectory = true
+takes_memory procedure = false
 
 -- The bytes spell arguments that ask this call.
 abbrev pub Asks : Procedure → List ℕ → model.Call → Type 0
@@ -44,7 +147,20 @@ asked_by shape call bytes = all_of shape bytes >>= λ v. Ok (call v)
 abbrev pub asked : Procedure → List ℕ → Result model.Call Fault
 asked Null bytes = asked_by Void null_call bytes
 asked GetAttributes bytes = asked_by handle_shape getattr_call bytes
+asked SetAttributes bytes = asked_by setattr_shape setattr_call bytes
+asked Lookup bytes = asked_by target_shape lookup_call bytes
+asked Read bytes = asked_by range_shape read_call bytes
+asked Write bytes = asked_by writing_shape write_call bytes
+asked Create bytes = asked_by creating_shape create_call bytes
+asked MakeDirectory bytes = asked_by making_shape mkdir_call bytes
+asked Remove bytes = asked_by target_shape remove_call bytes
+asked RemoveDirectory bytes = asked_by target_shape rmdir_call bytes
+asked ReadDirectory bytes = asked_by listing_shape readdir_call bytes
+asked FilesystemStatus bytes = asked_by handle_shape fsstat_call bytes
+asked Commit bytes = asked_by range_shape commit_call bytes
 asked AdminNull bytes = asked_by Void null_call bytes
+asked Census bytes = asked_by Void census_call bytes
+asked Grow bytes = asked_by growing_shape grow_call bytes
 
 -- What was returned, seen by view, is what is asked. Memory runs out only where something is asked that takes some.
 abbrev pub Makes : {X Y : Type 0} → (X → Y) → Bool → Result X Bad → Result Y Fault → Type 0

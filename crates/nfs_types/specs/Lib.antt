@@ -1,3 +1,4 @@
 pub mod Shapes
+pub mod Stable
 pub mod Arguments
 pub mod Results

@@ -1,5 +1,5 @@
 -- The results of each procedure (RFC 1813 section 3.3) as bytes.
-use Rattle.std.specs.Prelude.{ℕ, zero, suc, ◌-◌, ◌^◌, List, [], ◌++◌, Some, None, map, replicate}
+use Rattle.std.specs.Prelude.{ℕ, zero, suc, Bool, ◌-◌, ◌^◌, List, [], ◌++◌, Some, None, map, replicate}
 use Rattle.xdr.specs.Shape.{Shape, Void, Word, Hyper, Boolean, Optional, Chain, Array, Value, spelling}
 use Rattle.nfs_model.specs.Types as model
 use Rattle.nfs_types.specs.Shapes.{◌&◌, handle_shape, any_bytes, verifier_shape, attributes_shape, attributes_value, after_shape, change_shape, change_value, stable_shape}
@@ -8,17 +8,33 @@ use Rattle.nfs_types.specs.Shapes.{◌&◌, handle_shape, any_bytes, verifier_sh
 abbrev pub lookup_shape : Shape
 lookup_shape = handle_shape & after_shape & after_shape
 
+abbrev pub lookup_value : List ℕ → model.Shown → model.Shown → Value lookup_shape
+lookup_value handle object directory = (handle, (Some (attributes_value object), Some (attributes_value directory)))
+
 -- READ3resok (section 3.3.6): attributes, count, eof and data
 abbrev pub read_shape : Shape
 read_shape = after_shape & Word & Boolean & any_bytes
+
+abbrev pub read_value : ℕ → Bool → List ℕ → Value read_shape
+read_value count eof bytes = (None, (count, (eof, bytes)))
+
+-- FILE_SYNC (section 3.3.7)
+abbrev pub file_sync : ℕ
+file_sync = 2
 
 -- WRITE3resok (section 3.3.7): wcc_data, count, committed and verf
 abbrev pub write_shape : Shape
 write_shape = change_shape & Word & stable_shape & verifier_shape
 
+abbrev pub write_value : ℕ → List ℕ → Value write_shape
+write_value count verifier = ((None, None), (count, (file_sync, verifier)))
+
 -- CREATE3resok and MKDIR3resok (sections 3.3.8 and 3.3.9): the object's handle and attributes, the directory's wcc_data
 abbrev pub made_shape : Shape
 made_shape = Optional handle_shape & after_shape & change_shape
+
+abbrev pub made_value : List ℕ → model.Shown → model.Wcc → Value made_shape
+made_value handle object directory = (Some handle, (Some (attributes_value object), change_value directory))
 
 -- entry3 (section 3.3.16): fileid, name and cookie, before the next
 abbrev pub entry_shape : Shape
@@ -31,24 +47,33 @@ entry_value e = (e.fileid, (e.name, e.cookie))
 abbrev pub readdir_shape : Shape
 readdir_shape = after_shape & verifier_shape & Chain entry_shape & Boolean
 
+abbrev pub readdir_value : model.Shown → List model.Listed → Bool → Value readdir_shape
+readdir_value directory page eof = (Some (attributes_value directory), (replicate 8 0, (map entry_value page, eof)))
+
 -- FSSTAT3resok (section 3.3.18): attributes, tbytes, fbytes, abytes, tfiles, ffiles, afiles and invarsec
 abbrev pub fsstat_shape : Shape
 fsstat_shape = after_shape & Hyper & Hyper & Hyper & Hyper & Hyper & Hyper & Word
+
+abbrev pub fsstat_value : model.Shown → model.Space → Value fsstat_shape
+fsstat_value root space =
+    (Some (attributes_value root), (space.total_bytes, (space.free_bytes, (space.free_bytes, (space.inodes, (space.free_inodes, (space.free_inodes, 0)))))))
 
 -- COMMIT3resok (section 3.3.21): wcc_data and verf
 abbrev pub commit_shape : Shape
 commit_shape = change_shape & verifier_shape
 
--- CENSUS (our profile): for each volume its number, its blocks and those in files
-abbrev pub census_shape : Shape
-census_shape = Array (2 ^ 32 - 1) (Word & Hyper & Hyper)
+abbrev pub commit_value : model.Wcc → List ℕ → Value commit_shape
+commit_value file verifier = (change_value file, verifier)
 
-abbrev pub count_value : model.VolumeCount → Value (Word & Hyper & Hyper)
+-- CENSUS (our profile): for each volume its number, its blocks and those in files
+abbrev pub count_shape : Shape
+count_shape = Word & Hyper & Hyper
+
+abbrev pub count_value : model.VolumeCount → Value count_shape
 count_value v = (v.volume, (v.total, v.used))
 
--- FILE_SYNC (section 3.3.7)
-abbrev pub file_sync : ℕ
-file_sync = 2
+abbrev pub census_shape : Shape
+census_shape = Array (2 ^ 32 - 1) count_shape
 
 -- NFS3_OK (section 2.6) and the OK arm
 abbrev pub done : (shape : Shape) → Value shape → List ℕ
@@ -64,16 +89,15 @@ abbrev pub answer_bytes : model.Answer → List ℕ
 answer_bytes model.NullDone = spelling Void tt
 answer_bytes (model.GetattrDone attributes) = done attributes_shape (attributes_value attributes)
 answer_bytes (model.SetattrDone change) = done change_shape (change_value change)
-answer_bytes (model.LookupDone handle object directory) = done lookup_shape (handle, (Some (attributes_value object), Some (attributes_value directory)))
-answer_bytes (model.ReadDone count eof bytes) = done read_shape (None, (count, (eof, bytes)))
-answer_bytes (model.WriteDone count verifier) = done write_shape ((None, None), (count, (file_sync, verifier)))
-answer_bytes (model.MadeDone handle object directory) = done made_shape (Some handle, (Some (attributes_value object), change_value directory))
+answer_bytes (model.LookupDone handle object directory) = done lookup_shape (lookup_value handle object directory)
+answer_bytes (model.ReadDone count eof bytes) = done read_shape (read_value count eof bytes)
+answer_bytes (model.WriteDone count verifier) = done write_shape (write_value count verifier)
+answer_bytes (model.MadeDone handle object directory) = done made_shape (made_value handle object directory)
 answer_bytes (model.GoneDone directory) = done change_shape (change_value directory)
 answer_bytes (model.RenameDone from to) = done (change_shape & change_shape) (change_value from, change_value to)
-answer_bytes (model.ReaddirDone directory page eof) = done readdir_shape (Some (attributes_value directory), (replicate 8 0, (map entry_value page, eof)))
-answer_bytes (model.FsstatDone root space) =
-    done fsstat_shape (Some (attributes_value root), (space.total_bytes, (space.free_bytes, (space.free_bytes, (space.inodes, (space.free_inodes, (space.free_inodes, 0)))))))
-answer_bytes (model.CommitDone file verifier) = done commit_shape (change_value file, verifier)
+answer_bytes (model.ReaddirDone directory page eof) = done readdir_shape (readdir_value directory page eof)
+answer_bytes (model.FsstatDone root space) = done fsstat_shape (fsstat_value root space)
+answer_bytes (model.CommitDone file verifier) = done commit_shape (commit_value file verifier)
 answer_bytes (model.CensusDone volumes) = spelling census_shape (map count_value volumes)
 answer_bytes (model.GrowDone total) = done Hyper total
 answer_bytes (model.Failed status absent) = spelling Word (model.status_word status) ++ absent_parts absent

@@ -1,17 +1,47 @@
 //! Arguments of calls.
 
-ghost use Rattle.std.specs.Prelude.{false};
-ghost use Rattle.xdr.specs.Shape.{Void};
+ghost use Rattle.std.specs.Prelude.{true, false};
+ghost use Rattle.xdr.specs.Shape.{Void, Pair};
+ghost use Rattle.xdr.specs.Reading.{all_of};
 ghost use Rattle.nfs_values.specs.Call.{call_of};
-ghost use Rattle.nfs_types.specs.Shapes.{handle_shape};
-ghost use Rattle.nfs_types.specs.Arguments.{Makes, asked, asked_by, takes_memory, null_call, getattr_call};
+ghost use Rattle.nfs_types.specs.Shapes.{handle_shape, target_shape};
+ghost use Rattle.nfs_types.specs.Arguments.{Makes, target_of, asked, asked_by, takes_memory, setattr_shape, range_shape, writing_shape, creating_shape, making_shape, listing_shape, growing_shape, null_call, getattr_call, setattr_call, lookup_call, read_call, write_call, create_call, mkdir_call, remove_call, rmdir_call, readdir_call, fsstat_call, commit_call, census_call, grow_call};
 
 use crate::bad::Bad;
-use crate::decode::decode_all;
-use nfs_values::{Call, FileHandle, Procedure};
+use crate::decode::{Decode, StableHow, decode_all};
+use nfs_values::{
+    Call, CreateMode, FileHandle, Moment, Procedure, SetAttributes, Target, Verifier,
+};
 use std::alloc::Global;
+use xdr::Cursor;
 
-/// NULL (RFC 1813 section 3.3.0), and NULL of the admin program.
+/// A name in a directory that these bytes spell, copied once nothing is left over.
+fn target(alloc: Global, bytes: &[u8]) -> Result<Target, Bad>
+    ensures { Makes target_of true result (all_of target_shape bytes.now) }
+{
+    let mut from = Cursor::new(bytes);
+    let directory = FileHandle::decode(&mut from)?;
+    let name = from.opaque(u32::MAX)?;
+    from.end()?;
+    let name = Vec::from_slice(alloc, name)?;
+    Ok(Target { directory, name })
+}
+
+/// A name in a directory and what stands behind it, alike.
+fn target_and<'a, T: Decode<'a> + Drop>(alloc: Global, bytes: &'a [u8]) -> Result<(Target, T), Bad>
+    ensures { Makes (λ p. (target_of p.0, T.value p.1)) true result
+        (all_of (Pair target_shape T.shape) bytes.now) }
+{
+    let mut from = Cursor::new(bytes);
+    let directory = FileHandle::decode(&mut from)?;
+    let name = from.opaque(u32::MAX)?;
+    let rest = T::decode(&mut from)?;
+    from.end()?;
+    let name = Vec::from_slice(alloc, name)?;
+    Ok((Target { directory, name }, rest))
+}
+
+/// NULL (RFC 1813 section 3.3.0).
 fn null(bytes: &[u8]) -> Result<Call, Bad>
     ensures { Makes call_of false result (asked_by Void null_call bytes.now) }
 {
@@ -27,12 +57,150 @@ fn get_attributes(bytes: &[u8]) -> Result<Call, Bad>
     Ok(Call::GetAttributes { handle })
 }
 
+/// SETATTR (RFC 1813 section 3.3.2).
+fn set_attributes(bytes: &[u8]) -> Result<Call, Bad>
+    ensures { Makes call_of false result (asked_by setattr_shape setattr_call bytes.now) }
+{
+    let (handle, (set, guard)) = decode_all::<(FileHandle, (SetAttributes, Option<Moment>))>(
+        bytes,
+    )?;
+    Ok(Call::SetAttributes { handle, set, guard })
+}
+
+/// LOOKUP (RFC 1813 section 3.3.3).
+fn lookup(alloc: Global, bytes: &[u8]) -> Result<Call, Bad>
+    ensures { Makes call_of true result (asked_by target_shape lookup_call bytes.now) }
+{
+    Ok(Call::Lookup(target(alloc, bytes)?))
+}
+
+/// READ (RFC 1813 section 3.3.6).
+fn read(bytes: &[u8]) -> Result<Call, Bad>
+    ensures { Makes call_of false result (asked_by range_shape read_call bytes.now) }
+{
+    let (handle, (offset, count)) = decode_all::<(FileHandle, (u64, u32))>(bytes)?;
+    Ok(Call::Read {
+        handle,
+        offset,
+        count,
+    })
+}
+
+/// WRITE (RFC 1813 section 3.3.7).
+fn write(alloc: Global, bytes: &[u8]) -> Result<Call, Bad>
+    ensures { Makes call_of true result (asked_by writing_shape write_call bytes.now) }
+{
+    let mut from = Cursor::new(bytes);
+    let handle = FileHandle::decode(&mut from)?;
+    let offset = from.u64()?;
+    let count = from.u32()?;
+    let _stable = StableHow::decode(&mut from)?;
+    let written = from.opaque(u32::MAX)?;
+    from.end()?;
+    Ok(Call::Write {
+        handle,
+        offset,
+        count,
+        bytes: Vec::from_slice(alloc, written)?,
+    })
+}
+
+/// CREATE (RFC 1813 section 3.3.8).
+fn create(alloc: Global, bytes: &[u8]) -> Result<Call, Bad>
+    ensures { Makes call_of true result (asked_by creating_shape create_call bytes.now) }
+{
+    let (target, mode) = target_and::<CreateMode>(alloc, bytes)?;
+    Ok(Call::Create { target, mode })
+}
+
+/// MKDIR (RFC 1813 section 3.3.9).
+fn make_directory(alloc: Global, bytes: &[u8]) -> Result<Call, Bad>
+    ensures { Makes call_of true result (asked_by making_shape mkdir_call bytes.now) }
+{
+    let (target, set) = target_and::<SetAttributes>(alloc, bytes)?;
+    Ok(Call::MakeDirectory { target, set })
+}
+
+/// REMOVE (RFC 1813 section 3.3.12).
+fn remove(alloc: Global, bytes: &[u8]) -> Result<Call, Bad>
+    ensures { Makes call_of true result (asked_by target_shape remove_call bytes.now) }
+{
+    Ok(Call::Remove(target(alloc, bytes)?))
+}
+
+/// RMDIR (RFC 1813 section 3.3.13).
+fn remove_directory(alloc: Global, bytes: &[u8]) -> Result<Call, Bad>
+    ensures { Makes call_of true result (asked_by target_shape rmdir_call bytes.now) }
+{
+    Ok(Call::RemoveDirectory(target(alloc, bytes)?))
+}
+
+/// READDIR (RFC 1813 section 3.3.16).
+fn read_directory(bytes: &[u8]) -> Result<Call, Bad>
+    ensures { Makes call_of false result (asked_by listing_shape readdir_call bytes.now) }
+{
+    let (directory, (cookie, (verifier, count))) = decode_all::<
+        (FileHandle, (u64, (Verifier, u32))),
+    >(bytes)?;
+    Ok(Call::ReadDirectory {
+        directory,
+        cookie,
+        verifier,
+        count,
+    })
+}
+
+/// FSSTAT (RFC 1813 section 3.3.18).
+fn filesystem_status(bytes: &[u8]) -> Result<Call, Bad>
+    ensures { Makes call_of false result (asked_by handle_shape fsstat_call bytes.now) }
+{
+    let handle = decode_all::<FileHandle>(bytes)?;
+    Ok(Call::FilesystemStatus { handle })
+}
+
+/// COMMIT (RFC 1813 section 3.3.21).
+fn commit(bytes: &[u8]) -> Result<Call, Bad>
+    ensures { Makes call_of false result (asked_by range_shape commit_call bytes.now) }
+{
+    let (handle, _range) = decode_all::<(FileHandle, (u64, u32))>(bytes)?;
+    Ok(Call::Commit { handle })
+}
+
+/// CENSUS of the admin program.
+fn census(bytes: &[u8]) -> Result<Call, Bad>
+    ensures { Makes call_of false result (asked_by Void census_call bytes.now) }
+{
+    decode_all::<()>(bytes)?;
+    Ok(Call::Census)
+}
+
+/// GROW of the admin program.
+fn grow(bytes: &[u8]) -> Result<Call, Bad>
+    ensures { Makes call_of false result (asked_by growing_shape grow_call bytes.now) }
+{
+    let (volume, ranges) = decode_all::<(u32, u32)>(bytes)?;
+    Ok(Call::Grow { volume, ranges })
+}
+
 /// The call that these arguments of a procedure make (RFC 1813 section 3.3).
-pub fn decode_args(_alloc: Global, procedure: Procedure, bytes: &[u8]) -> Result<Call, Bad>
+pub fn decode_args(alloc: Global, procedure: Procedure, bytes: &[u8]) -> Result<Call, Bad>
     ensures { Makes call_of (takes_memory procedure) result (asked procedure bytes.now) }
 {
     match procedure {
         Procedure::Null | Procedure::AdminNull => null(bytes),
         Procedure::GetAttributes => get_attributes(bytes),
+        Procedure::SetAttributes => set_attributes(bytes),
+        Procedure::Lookup => lookup(alloc, bytes),
+        Procedure::Read => read(bytes),
+        Procedure::Write => write(alloc, bytes),
+        Procedure::Create => create(alloc, bytes),
+        Procedure::MakeDirectory => make_directory(alloc, bytes),
+        Procedure::Remove => remove(alloc, bytes),
+        Procedure::RemoveDirectory => remove_directory(alloc, bytes),
+        Procedure::ReadDirectory => read_directory(bytes),
+        Procedure::FilesystemStatus => filesystem_status(bytes),
+        Procedure::Commit => commit(bytes),
+        Procedure::Census => census(bytes),
+        Procedure::Grow => grow(bytes),
     }
 }

@@ -1,10 +1,14 @@
 //! Values that are read from a cursor.
 
-ghost use Rattle.xdr.specs.Shape.{Shape, Value, Void, Word};
+ghost use Rattle.std.specs.Option.{option_map};
+ghost use Rattle.xdr.specs.Shape.{Shape, Value, Void, Word, Hyper, Pair, Optional};
 ghost use Rattle.xdr.specs.Reading.{Gives, GivesAll, all_of, read};
-ghost use Rattle.nfs_types.specs.Shapes.{handle_shape};
+ghost use Rattle.nfs_values.specs.Moment.{moment_of};
+ghost use Rattle.nfs_values.specs.Set.{time_of, set_of, mode_of};
+ghost use Rattle.nfs_types.specs.Shapes.{handle_shape, verifier_shape, moment_shape, moment_value, time_shape, time_value, set_shape, set_value, create_shape, create_value, stable_shape};
+ghost use Rattle.nfs_types.specs.Stable.{stable_word};
 
-use nfs_values::FileHandle;
+use nfs_values::{CreateMode, FileHandle, Moment, SetAttributes, SetTime, Verifier};
 use xdr::{Cursor, Fault};
 
 /// A value of a type of XDR, read without memory. After a fault the cursor is anywhere.
@@ -47,6 +51,41 @@ impl<'a> Decode<'a> for u32 {
     }
 }
 
+impl<'a> Decode<'a> for u64 {
+    ghost shape = { Hyper };
+
+    ghost value = { λ n. n };
+
+    fn decode(from: &mut Cursor<'a>) -> Result<u64, Fault> {
+        from.u64()
+    }
+}
+
+impl<'a, A: Decode<'a> + Drop, B: Decode<'a> + Drop> Decode<'a> for (A, B) {
+    ghost shape = { Pair A.shape B.shape };
+
+    ghost value = { λ p. (A.value p.0, B.value p.1) };
+
+    fn decode(from: &mut Cursor<'a>) -> Result<(A, B), Fault> {
+        let first = A::decode(from)?;
+        Ok((first, B::decode(from)?))
+    }
+}
+
+impl<'a, T: Decode<'a> + Drop> Decode<'a> for Option<T> {
+    ghost shape = { Optional T.shape };
+
+    ghost value = { λ o. option_map T.value o };
+
+    fn decode(from: &mut Cursor<'a>) -> Result<Option<T>, Fault> {
+        if from.boolean()? {
+            Ok(Some(T::decode(from)?))
+        } else {
+            Ok(None)
+        }
+    }
+}
+
 impl<'a> Decode<'a> for FileHandle {
     ghost shape = { handle_shape };
 
@@ -54,5 +93,99 @@ impl<'a> Decode<'a> for FileHandle {
 
     fn decode(from: &mut Cursor<'a>) -> Result<FileHandle, Fault> {
         Ok(FileHandle::new(from.opaque(64)?))
+    }
+}
+
+impl<'a> Decode<'a> for Verifier {
+    ghost shape = { verifier_shape };
+
+    ghost value = { λ v. v.0 };
+
+    fn decode(from: &mut Cursor<'a>) -> Result<Verifier, Fault> {
+        let mut bytes = [0; 8];
+        bytes.copy_from_slice(from.fixed(8)?);
+        Ok(Verifier(bytes))
+    }
+}
+
+impl<'a> Decode<'a> for Moment {
+    ghost shape = { moment_shape };
+
+    ghost value = { λ m. moment_value (moment_of m) };
+
+    fn decode(from: &mut Cursor<'a>) -> Result<Moment, Fault> {
+        Ok(Moment {
+            seconds: from.u32()?,
+            nanoseconds: from.u32()?,
+        })
+    }
+}
+
+impl<'a> Decode<'a> for SetTime {
+    ghost shape = { time_shape };
+
+    ghost value = { λ t. time_value (time_of t) };
+
+    fn decode(from: &mut Cursor<'a>) -> Result<SetTime, Fault> {
+        match from.u32()? {
+            0 => Ok(SetTime::Keep),
+            1 => Ok(SetTime::ServerTime),
+            2 => Ok(SetTime::ClientTime(Moment::decode(from)?)),
+            _ => Err(Fault::BadEnum),
+        }
+    }
+}
+
+impl<'a> Decode<'a> for SetAttributes {
+    ghost shape = { set_shape };
+
+    ghost value = { λ s. set_value (set_of s) };
+
+    fn decode(from: &mut Cursor<'a>) -> Result<SetAttributes, Fault> {
+        Ok(SetAttributes {
+            mode: Option::decode(from)?,
+            uid: Option::decode(from)?,
+            gid: Option::decode(from)?,
+            size: Option::decode(from)?,
+            atime: SetTime::decode(from)?,
+            mtime: SetTime::decode(from)?,
+        })
+    }
+}
+
+/// How stable a WRITE is to be (stable_how, RFC 1813 section 3.3.7).
+#[derive(Clone, Copy, Debug, PartialEq, Eq)]
+pub enum StableHow {
+    Unstable = 0,
+    DataSync = 1,
+    FileSync = 2,
+}
+
+impl<'a> Decode<'a> for StableHow {
+    ghost shape = { stable_shape };
+
+    ghost value = { stable_word };
+
+    fn decode(from: &mut Cursor<'a>) -> Result<StableHow, Fault> {
+        match from.choice(&[0, 1, 2])? {
+            0 => Ok(StableHow::Unstable),
+            1 => Ok(StableHow::DataSync),
+            _ => Ok(StableHow::FileSync),
+        }
+    }
+}
+
+impl<'a> Decode<'a> for CreateMode {
+    ghost shape = { create_shape };
+
+    ghost value = { λ c. create_value (mode_of c) };
+
+    fn decode(from: &mut Cursor<'a>) -> Result<CreateMode, Fault> {
+        match from.u32()? {
+            0 => Ok(CreateMode::Unchecked(SetAttributes::decode(from)?)),
+            1 => Ok(CreateMode::Guarded(SetAttributes::decode(from)?)),
+            2 => Ok(CreateMode::Exclusive(Verifier::decode(from)?)),
+            _ => Err(Fault::BadEnum),
+        }
     }
 }

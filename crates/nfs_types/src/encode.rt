@@ -1,15 +1,16 @@
 //! Values that are written where room for them was made.
 
-ghost use Rattle.std.specs.Prelude.{◌≡◌, ◌+◌, ◌≤◌, ◌++◌, length, vec_len, vec_capacity};
-ghost use Rattle.xdr.specs.Shape.{Shape, Value, Word, Hyper, Boolean, spelling};
-ghost use Rattle.nfs_values.specs.Attributes.{kind_of, kind_word, shown_of};
+ghost use Rattle.std.specs.Prelude.{◌≡◌, ◌+◌, ◌≤◌, ◌<◌, ◌^◌, ◌++◌, length, vec_len, vec_capacity};
+ghost use Rattle.std.specs.Option.{option_map};
+ghost use Rattle.xdr.specs.Shape.{Shape, Value, Word, Hyper, Boolean, Optional, counted, padded, spelling};
+ghost use Rattle.nfs_values.specs.Attributes.{kind_of, kind_word, shown_of, before_of, change_of};
 ghost use Rattle.nfs_values.specs.Moment.{moment_of};
-ghost use Rattle.nfs_types.specs.Shapes.{moment_shape, moment_value, kind_shape, device_shape, attributes_shape, attributes_value};
+ghost use Rattle.nfs_types.specs.Shapes.{handle_shape, any_bytes, verifier_shape, moment_shape, moment_value, kind_shape, device_shape, attributes_shape, attributes_value, prior_shape, prior_value, change_shape, change_value};
 
-use nfs_values::{Attributes, FileKind, Moment};
-use xdr::{put_bool, put_u32, put_u64};
+use nfs_values::{Attributes, Change, FileHandle, FileKind, Moment, PriorAttributes, Verifier};
+use xdr::{put_bool, put_fixed, put_opaque, put_u32, put_u64};
 
-/// A value of a type of XDR.
+/// A value of a type of XDR, whose spelling is shorter than 2^32 bytes.
 pub trait Encode {
     ghost shape: { Shape };
 
@@ -17,11 +18,13 @@ pub trait Encode {
 
     /// How many bytes the value takes.
     fn size(&self) -> usize
+        requires { length (spelling shape (value self.now)) < 2 ^ 32 }
         ensures { result ≡ length (spelling shape (value self.now)) };
 
     /// Appends the value, for which there is room.
     fn write(&self, out: &mut Vec<u8>)
-        requires { vec_len out.old + length (spelling shape (value self.now))
+        requires short { length (spelling shape (value self.now)) < 2 ^ 32 }
+        requires room { vec_len out.old + length (spelling shape (value self.now))
             ≤ vec_capacity out.old }
         ensures items { out.new.items ≡ out.old.items ++ spelling shape (value self.now) }
         ensures capacity { vec_capacity out.old ≤ vec_capacity out.new };
@@ -66,6 +69,87 @@ impl Encode for bool {
 
     fn write(&self, out: &mut Vec<u8>) {
         put_bool(out, *self).unwrap()
+    }
+}
+
+/// How many bytes the bytes and their padding take.
+fn size_of_fixed(bytes: &[u8]) -> usize
+    requires { length (padded bytes.now) < 2 ^ 32 }
+    ensures { result ≡ length (padded bytes.now) }
+{
+    bytes.len() + (4 - bytes.len() % 4) % 4
+}
+
+/// How many bytes a length, the bytes and their padding take.
+fn size_of_opaque(bytes: &[u8]) -> usize
+    requires { length (counted bytes.now) < 2 ^ 32 }
+    ensures { result ≡ length (counted bytes.now) }
+{
+    4 + size_of_fixed(bytes)
+}
+
+impl Encode for Vec<u8> {
+    ghost shape = { any_bytes };
+
+    ghost value = { λ v. v.items };
+
+    fn size(&self) -> usize {
+        size_of_opaque(self)
+    }
+
+    fn write(&self, out: &mut Vec<u8>) {
+        put_opaque(out, self).unwrap()
+    }
+}
+
+impl<T: Encode> Encode for Option<T> {
+    ghost shape = { Optional T.shape };
+
+    ghost value = { λ o. option_map T.value o };
+
+    fn size(&self) -> usize {
+        match self {
+            None => 4,
+            Some(value) => 4 + value.size(),
+        }
+    }
+
+    fn write(&self, out: &mut Vec<u8>) {
+        match self {
+            None => false.write(out),
+            Some(value) => {
+                true.write(out);
+                value.write(out);
+            }
+        }
+    }
+}
+
+impl Encode for FileHandle {
+    ghost shape = { handle_shape };
+
+    ghost value = { λ h. h };
+
+    fn size(&self) -> usize {
+        size_of_opaque(self.as_bytes())
+    }
+
+    fn write(&self, out: &mut Vec<u8>) {
+        put_opaque(out, self.as_bytes()).unwrap()
+    }
+}
+
+impl Encode for Verifier {
+    ghost shape = { verifier_shape };
+
+    ghost value = { λ v. v.0 };
+
+    fn size(&self) -> usize {
+        size_of_fixed(&self.0)
+    }
+
+    fn write(&self, out: &mut Vec<u8>) {
+        put_fixed(out, &self.0).unwrap()
     }
 }
 
@@ -121,5 +205,36 @@ impl Encode for Attributes {
         self.atime.write(out);
         self.mtime.write(out);
         self.ctime.write(out);
+    }
+}
+
+impl Encode for PriorAttributes {
+    ghost shape = { prior_shape };
+
+    ghost value = { λ a. prior_value (before_of a) };
+
+    fn size(&self) -> usize {
+        24
+    }
+
+    fn write(&self, out: &mut Vec<u8>) {
+        self.size.write(out);
+        self.mtime.write(out);
+        self.ctime.write(out);
+    }
+}
+
+impl Encode for Change {
+    ghost shape = { change_shape };
+
+    ghost value = { λ c. change_value (change_of c) };
+
+    fn size(&self) -> usize {
+        Some(self.before).size() + Some(self.after).size()
+    }
+
+    fn write(&self, out: &mut Vec<u8>) {
+        Some(self.before).write(out);
+        Some(self.after).write(out);
     }
 }

@@ -13,7 +13,9 @@ use std::alloc::AllocError;
 
 /// NFS3_OK and the OK arm.
 fn write_done<T: Encode>(arm: &T, out: &mut Vec<u8>)
-    requires { vec_len out.old + length (done T.shape (T.value arm.now)) ≤ vec_capacity out.old }
+    requires short { length (done T.shape (T.value arm.now)) < 2 ^ 32 }
+    requires room { vec_len out.old + length (done T.shape (T.value arm.now))
+        ≤ vec_capacity out.old }
     ensures items { out.new.items ≡ out.old.items ++ done T.shape (T.value arm.now) }
     ensures capacity { vec_capacity out.old ≤ vec_capacity out.new }
 {
@@ -49,7 +51,8 @@ fn write_failed(procedure: Procedure, status: Status, out: &mut Vec<u8>)
 }
 
 fn write_result(answer: &Answer, out: &mut Vec<u8>)
-    requires { vec_len out.old + length (answer_bytes (answer_of answer.now))
+    requires short { length (answer_bytes (answer_of answer.now)) < 2 ^ 32 }
+    requires room { vec_len out.old + length (answer_bytes (answer_of answer.now))
         ≤ vec_capacity out.old }
     ensures items { out.new.items ≡ out.old.items ++ answer_bytes (answer_of answer.now) }
     ensures capacity { vec_capacity out.old ≤ vec_capacity out.new }
@@ -57,6 +60,16 @@ fn write_result(answer: &Answer, out: &mut Vec<u8>)
     match answer {
         Answer::Null => (),
         Answer::GetAttributes(attributes) => write_done(attributes, out),
+        Answer::SetAttributes(change) | Answer::Removed(change) => write_done(change, out),
+        Answer::Lookup(results) => write_done(results, out),
+        Answer::Read(results) => write_done(results, out),
+        Answer::Write(results) => write_done(results, out),
+        Answer::Made(results) => write_done(results, out),
+        Answer::ReadDirectory(results) => write_done(results, out),
+        Answer::FilesystemStatus(results) => write_done(results, out),
+        Answer::Commit(results) => write_done(results, out),
+        Answer::Census(volumes) => volumes.write(out),
+        Answer::Grow(total) => write_done(total, out),
         Answer::Failed { procedure, status } => write_failed(*procedure, *status, out),
     }
 }
@@ -70,6 +83,16 @@ pub fn size_of_result(answer: &Answer) -> usize
     match answer {
         Answer::Null => 0,
         Answer::GetAttributes(attributes) => 4 + attributes.size(),
+        Answer::SetAttributes(change) | Answer::Removed(change) => 4 + change.size(),
+        Answer::Lookup(results) => 4 + results.size(),
+        Answer::Read(results) => 4 + results.size(),
+        Answer::Write(results) => 4 + results.size(),
+        Answer::Made(results) => 4 + results.size(),
+        Answer::ReadDirectory(results) => 4 + results.size(),
+        Answer::FilesystemStatus(results) => 4 + results.size(),
+        Answer::Commit(results) => 4 + results.size(),
+        Answer::Census(volumes) => volumes.size(),
+        Answer::Grow(total) => 4 + total.size(),
         Answer::Failed { procedure, .. } => 4 + 4 * procedure.failure_parts() as usize,
     }
 }

@@ -3,6 +3,8 @@ use Rattle.nfs_model.specs.Types as model
 use Rattle.nfs_values.specs.declared.attributes.FileKind.{FileKind}
 use Rattle.nfs_values.specs.declared.attributes.FileKind.TheVariants.{Regular, Directory}
 use Rattle.nfs_values.specs.declared.attributes.Attributes.{Attributes}
+use Rattle.nfs_values.specs.declared.attributes.PriorAttributes.{PriorAttributes}
+use Rattle.nfs_values.specs.declared.attributes.Change.{Change}
 use Rattle.nfs_values.specs.Moment.{moment_of}
 
 -- a kind, as the model has it
@@ -31,3 +33,11 @@ shown_of a = record {
   mtime = moment_of a.mtime;
   ctime = moment_of a.ctime;
 }
+
+-- attributes before a call, as the model has them
+abbrev pub before_of : PriorAttributes → model.Before
+before_of a = record { size = a.size; mtime = moment_of a.mtime; ctime = moment_of a.ctime }
+
+-- attributes before and after a call, as the model has them
+abbrev pub change_of : Change → model.Wcc
+change_of c = record { before = before_of c.before; after = shown_of c.after }

@@ -1,8 +1,24 @@
+use Rattle.std.specs.Option.{option_map}
 use Rattle.nfs_model.specs.Types as model
 use Rattle.nfs_values.specs.declared.call.Call.{Call}
-use Rattle.nfs_values.specs.declared.call.Call.TheVariants.{Null, GetAttributes}
+use Rattle.nfs_values.specs.declared.call.Call.TheVariants.{Null, GetAttributes, SetAttributes, Lookup, Read, Write, Create, MakeDirectory, Remove, RemoveDirectory, ReadDirectory, FilesystemStatus, Commit, Census, Grow}
+use Rattle.nfs_values.specs.Moment.{moment_of}
+use Rattle.nfs_values.specs.Set.{set_of, mode_of}
 
 -- a call, as the model has it
 abbrev pub call_of : Call → model.Call
 call_of Null = model.Null
 call_of (GetAttributes handle) = model.Getattr handle
+call_of (SetAttributes handle set guard) = model.Setattr handle (set_of set) (option_map moment_of guard)
+call_of (Lookup target) = model.Lookup target.directory target.name.items
+call_of (Read handle offset count) = model.Read handle offset count
+call_of (Write handle offset count bytes) = model.Write handle offset count bytes.items
+call_of (Create target mode) = model.Create target.directory target.name.items (mode_of mode)
+call_of (MakeDirectory target set) = model.Mkdir target.directory target.name.items (set_of set)
+call_of (Remove target) = model.Remove target.directory target.name.items
+call_of (RemoveDirectory target) = model.Rmdir target.directory target.name.items
+call_of (ReadDirectory directory cookie verifier count) = model.Readdir directory cookie verifier.0 count
+call_of (FilesystemStatus handle) = model.Fsstat handle
+call_of (Commit handle) = model.Commit handle
+call_of Census = model.Census
+call_of (Grow volume ranges) = model.Grow volume ranges

@@ -3,6 +3,7 @@ pub mod Handle
 pub mod Credential
 pub mod Status
 pub mod Attributes
+pub mod Set
 pub mod Procedure
 pub mod Call
 pub mod Answer

@@ -1,15 +1,48 @@
-use Rattle.std.specs.Prelude.{ℕ}
+use Rattle.std.specs.Prelude.{ℕ, Bool, true, false}
 use Rattle.nfs_values.specs.declared.procedure.Procedure.{Procedure}
-use Rattle.nfs_values.specs.declared.procedure.Procedure.TheVariants.{Null, GetAttributes, AdminNull}
+use Rattle.nfs_values.specs.declared.procedure.Procedure.TheVariants.{Null, GetAttributes, SetAttributes, Lookup, Read, Write, Create, MakeDirectory, Remove, RemoveDirectory, ReadDirectory, FilesystemStatus, Commit, AdminNull, Census, Grow}
 
--- program and procedure (RFC 1813 section 3; the admin program is our profile's)
+-- program and procedure of NFS (RFC 1813 section 3) and of the admin program (our profile)
 abbrev pub numbers_of : Procedure → ℕ × ℕ
 numbers_of Null = (100003, 0)
 numbers_of GetAttributes = (100003, 1)
-numbers_of AdminNull = (536870913, 0)
+numbers_of SetAttributes = (100003, 2)
+numbers_of Lookup = (100003, 3)
+numbers_of Read = (100003, 6)
+numbers_of Write = (100003, 7)
+numbers_of Create = (100003, 8)
+numbers_of MakeDirectory = (100003, 9)
+numbers_of Remove = (100003, 12)
+numbers_of RemoveDirectory = (100003, 13)
+numbers_of ReadDirectory = (100003, 16)
+numbers_of FilesystemStatus = (100003, 18)
+numbers_of Commit = (100003, 21)
+numbers_of AdminNull = (0x20000001, 0)
+numbers_of Census = (0x20000001, 1)
+numbers_of Grow = (0x20000001, 2)
 
--- how many optional parts the failure arm of its results has (RFC 1813 section 3.3)
+-- the procedures that are served so far
+abbrev pub is_served : Procedure → Bool
+is_served Null = true
+is_served GetAttributes = true
+is_served AdminNull = true
+is_served p = false
+
+-- how many optional parts the failure arm of its results has (RFC 1813 section 3.3); wcc_data has two
 abbrev pub failure_parts : Procedure → ℕ
 failure_parts Null = 0
 failure_parts GetAttributes = 0
+failure_parts SetAttributes = 2
+failure_parts Lookup = 1
+failure_parts Read = 1
+failure_parts Write = 2
+failure_parts Create = 2
+failure_parts MakeDirectory = 2
+failure_parts Remove = 2
+failure_parts RemoveDirectory = 2
+failure_parts ReadDirectory = 1
+failure_parts FilesystemStatus = 1
+failure_parts Commit = 2
 failure_parts AdminNull = 0
+failure_parts Census = 0
+failure_parts Grow = 0

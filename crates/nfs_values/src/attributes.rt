@@ -38,3 +38,18 @@ pub struct Attributes {
     pub mtime: Moment,
     pub ctime: Moment,
 }
+
+/// Attributes before a call (wcc_attr, RFC 1813 section 2.6).
+#[derive(Clone, Copy, Debug, PartialEq, Eq)]
+pub struct PriorAttributes {
+    pub size: u64,
+    pub mtime: Moment,
+    pub ctime: Moment,
+}
+
+/// Attributes before and after a call (wcc_data with both, RFC 1813 section 2.6).
+#[derive(Clone, Copy, Debug, PartialEq, Eq)]
+pub struct Change {
+    pub before: PriorAttributes,
+    pub after: Attributes,
+}

@@ -1,10 +1,67 @@
 //! What calls ask.
 
 use crate::handle::FileHandle;
+use crate::moment::Moment;
+use crate::set::{CreateMode, SetAttributes};
+use crate::target::Target;
+use crate::verifier::Verifier;
 
 /// A call with its arguments (RFC 1813 section 3.3). A handle is the bytes that came, good or bad.
+/// How stable a WRITE is to be, and which bytes a COMMIT is of, isn't kept, since every WRITE is
+/// stable.
 #[derive(Drop)]
 pub enum Call {
+    /// NULL of NFS, and of the admin program.
     Null,
-    GetAttributes { handle: FileHandle },
+    GetAttributes {
+        handle: FileHandle,
+    },
+    SetAttributes {
+        handle: FileHandle,
+        set: SetAttributes,
+        /// The change time at which alone they are set.
+        guard: Option<Moment>,
+    },
+    Lookup(Target),
+    Read {
+        handle: FileHandle,
+        offset: u64,
+        count: u32,
+    },
+    Write {
+        handle: FileHandle,
+        offset: u64,
+        count: u32,
+        bytes: Vec<u8>,
+    },
+    Create {
+        target: Target,
+        mode: CreateMode,
+    },
+    MakeDirectory {
+        target: Target,
+        set: SetAttributes,
+    },
+    Remove(Target),
+    RemoveDirectory(Target),
+    ReadDirectory {
+        directory: FileHandle,
+        cookie: u64,
+        verifier: Verifier,
+        /// The most bytes that the results may take.
+        count: u32,
+    },
+    FilesystemStatus {
+        handle: FileHandle,
+    },
+    Commit {
+        handle: FileHandle,
+    },
+    /// CENSUS of the admin program.
+    Census,
+    /// GROW of the admin program.
+    Grow {
+        volume: u32,
+        ranges: u32,
+    },
 }

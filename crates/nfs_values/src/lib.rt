@@ -9,14 +9,23 @@ mod handle;
 mod moment;
 mod procedure;
 mod reply;
+mod set;
 mod status;
+mod target;
+mod verifier;
 
-pub use answer::Answer;
-pub use attributes::{Attributes, FileKind};
+pub use answer::{
+    Answer, CommitResults, Entry, FilesystemStatusResults, LookupResults, MakeResults,
+    ReadDirectoryResults, ReadResults, VolumeCount, WriteResults,
+};
+pub use attributes::{Attributes, Change, FileKind, PriorAttributes};
 pub use call::Call;
 pub use credential::Credential;
 pub use handle::FileHandle;
 pub use moment::Moment;
 pub use procedure::{ADMIN_PROGRAM, NFS_PROGRAM, Procedure};
 pub use reply::{AuthFault, Reply};
+pub use set::{CreateMode, SetAttributes, SetTime};
 pub use status::Status;
+pub use target::Target;
+pub use verifier::Verifier;

@@ -1,6 +1,6 @@
-//! The procedures that are served.
+//! The procedures of the programs.
 
-ghost use Rattle.std.specs.Prelude.{◌≡◌, ◌≢◌, IfSome, None};
+ghost use Rattle.std.specs.Prelude.{◌≡◌, ◌≢◌, true, IfSome, None};
 
 /// The program number of NFS (RFC 1813 section 1.5).
 pub const NFS_PROGRAM: u32 = 100003;
@@ -8,32 +8,93 @@ pub const NFS_PROGRAM: u32 = 100003;
 /// The program number of the admin calls (our profile).
 pub const ADMIN_PROGRAM: u32 = 0x2000_0001;
 
-/// A procedure that is served.
+/// A procedure, served or not.
 #[derive(Clone, Copy, Debug, PartialEq, Eq)]
 pub enum Procedure {
     /// NULL of NFS (RFC 1813 section 3.3.0).
     Null,
     /// GETATTR (RFC 1813 section 3.3.1).
     GetAttributes,
-    /// NULL of the admin program (our profile).
+    /// SETATTR (RFC 1813 section 3.3.2).
+    SetAttributes,
+    /// LOOKUP (RFC 1813 section 3.3.3).
+    Lookup,
+    /// READ (RFC 1813 section 3.3.6).
+    Read,
+    /// WRITE (RFC 1813 section 3.3.7).
+    Write,
+    /// CREATE (RFC 1813 section 3.3.8).
+    Create,
+    /// MKDIR (RFC 1813 section 3.3.9).
+    MakeDirectory,
+    /// REMOVE (RFC 1813 section 3.3.12).
+    Remove,
+    /// RMDIR (RFC 1813 section 3.3.13).
+    RemoveDirectory,
+    /// READDIR (RFC 1813 section 3.3.16).
+    ReadDirectory,
+    /// FSSTAT (RFC 1813 section 3.3.18).
+    FilesystemStatus,
+    /// COMMIT (RFC 1813 section 3.3.21).
+    Commit,
+    /// NULL of the admin program.
     AdminNull,
+    /// CENSUS of the admin program: the blocks of every volume.
+    Census,
+    /// GROW of the admin program: more ranges for a volume.
+    Grow,
 }
 
 impl Procedure {
-    ghost use Rattle.nfs_values.specs.Procedure.{failure_parts, numbers_of};
-    ghost use Rattle.nfs_values.specs.declared.procedure.Procedure.{Procedure as Served};
+    ghost use Rattle.nfs_values.specs.Procedure.{failure_parts, is_served, numbers_of};
+    ghost use Rattle.nfs_values.specs.declared.procedure.Procedure.{Procedure as Known};
 
-    /// The procedure of this number in this program.
-    pub fn of(program: u32, number: u32) -> Option<Procedure>
+    /// The procedure of this number in this program, served or not.
+    pub fn known(program: u32, number: u32) -> Option<Procedure>
         ensures found { IfSome result (λ p. numbers_of p ≡ (program, number)) }
-        ensures none { result ≡ None → (p : Served) → numbers_of p ≢ (program, number) }
+        ensures none { result ≡ None → (p : Known) → numbers_of p ≢ (program, number) }
     {
         match (program, number) {
             (NFS_PROGRAM, 0) => Some(Procedure::Null),
             (NFS_PROGRAM, 1) => Some(Procedure::GetAttributes),
+            (NFS_PROGRAM, 2) => Some(Procedure::SetAttributes),
+            (NFS_PROGRAM, 3) => Some(Procedure::Lookup),
+            (NFS_PROGRAM, 6) => Some(Procedure::Read),
+            (NFS_PROGRAM, 7) => Some(Procedure::Write),
+            (NFS_PROGRAM, 8) => Some(Procedure::Create),
+            (NFS_PROGRAM, 9) => Some(Procedure::MakeDirectory),
+            (NFS_PROGRAM, 12) => Some(Procedure::Remove),
+            (NFS_PROGRAM, 13) => Some(Procedure::RemoveDirectory),
+            (NFS_PROGRAM, 16) => Some(Procedure::ReadDirectory),
+            (NFS_PROGRAM, 18) => Some(Procedure::FilesystemStatus),
+            (NFS_PROGRAM, 21) => Some(Procedure::Commit),
             (ADMIN_PROGRAM, 0) => Some(Procedure::AdminNull),
+            (ADMIN_PROGRAM, 1) => Some(Procedure::Census),
+            (ADMIN_PROGRAM, 2) => Some(Procedure::Grow),
             _ => None,
         }
+    }
+
+    /// Whether calls of the procedure are answered.
+    pub fn is_served(self) -> bool
+        ensures { result ≡ is_served self }
+    {
+        matches!(
+            self,
+            Procedure::Null | Procedure::GetAttributes | Procedure::AdminNull
+        )
+    }
+
+    /// The procedure of this number in this program that is served.
+    pub fn of(program: u32, number: u32) -> Option<Procedure>
+        ensures found { IfSome result
+            (λ p. (numbers_of p ≡ (program, number)) × (is_served p ≡ true)) }
+        ensures none { result ≡ None
+            → (p : Known)
+            → is_served p ≡ true
+            → numbers_of p ≢ (program, number) }
+    {
+        Procedure::known(program, number).filter(|p| p.is_served())
     }
 
     /// How many optional parts the failure arm of the procedure's results has.
@@ -41,7 +102,22 @@ impl Procedure {
         ensures { result ≡ failure_parts self }
     {
         match self {
-            Procedure::Null | Procedure::GetAttributes | Procedure::AdminNull => 0,
+            Procedure::Null
+            | Procedure::GetAttributes
+            | Procedure::AdminNull
+            | Procedure::Census
+            | Procedure::Grow => 0,
+            Procedure::Lookup
+            | Procedure::Read
+            | Procedure::ReadDirectory
+            | Procedure::FilesystemStatus => 1,
+            Procedure::SetAttributes
+            | Procedure::Write
+            | Procedure::Create
+            | Procedure::MakeDirectory
+            | Procedure::Remove
+            | Procedure::RemoveDirectory
+            | Procedure::Commit => 2,
         }
     }
 }

@@ -1,0 +1,118 @@
+//! The arms of results that tell what was done (RFC 1813 section 3.3).
+
+ghost use Rattle.std.specs.Prelude.{length};
+ghost use Rattle.nfs_values.specs.Attributes.{shown_of, change_of};
+ghost use Rattle.nfs_values.specs.Answer.{space_of};
+ghost use Rattle.nfs_types.specs.Results.{lookup_shape, lookup_value, read_shape, read_value, write_shape, write_value, made_shape, made_value, fsstat_shape, fsstat_value, commit_shape, commit_value};
+
+use crate::encode::Encode;
+use nfs_values::{
+    Attributes, CommitResults, FilesystemStatusResults, LookupResults, MakeResults,
+    PriorAttributes, ReadResults, WriteResults,
+};
+
+/// FILE_SYNC (RFC 1813 section 3.3.7).
+const FILE_SYNC: u32 = 2;
+
+impl Encode for LookupResults {
+    ghost shape = { lookup_shape };
+
+    ghost value = { λ r. lookup_value r.handle (shown_of r.object) (shown_of r.directory) };
+
+    fn size(&self) -> usize {
+        self.handle.size() + Some(self.object).size() + Some(self.directory).size()
+    }
+
+    fn write(&self, out: &mut Vec<u8>) {
+        self.handle.write(out);
+        Some(self.object).write(out);
+        Some(self.directory).write(out);
+    }
+}
+
+impl Encode for ReadResults {
+    ghost shape = { read_shape };
+
+    ghost value = { λ r. read_value (length r.bytes.items) r.eof r.bytes.items };
+
+    fn size(&self) -> usize {
+        12 + self.bytes.size()
+    }
+
+    fn write(&self, out: &mut Vec<u8>) {
+        None::<Attributes>.write(out);
+        (self.bytes.len() as u32).write(out);
+        self.eof.write(out);
+        self.bytes.write(out);
+    }
+}
+
+impl Encode for WriteResults {
+    ghost shape = { write_shape };
+
+    ghost value = { λ r. write_value r.count r.verifier.0 };
+
+    fn size(&self) -> usize {
+        16 + self.verifier.size()
+    }
+
+    fn write(&self, out: &mut Vec<u8>) {
+        None::<PriorAttributes>.write(out);
+        None::<Attributes>.write(out);
+        self.count.write(out);
+        FILE_SYNC.write(out);
+        self.verifier.write(out);
+    }
+}
+
+impl Encode for MakeResults {
+    ghost shape = { made_shape };
+
+    ghost value = { λ r. made_value r.handle (shown_of r.object) (change_of r.directory) };
+
+    fn size(&self) -> usize {
+        Some(self.handle).size() + Some(self.object).size() + self.directory.size()
+    }
+
+    fn write(&self, out: &mut Vec<u8>) {
+        Some(self.handle).write(out);
+        Some(self.object).write(out);
+        self.directory.write(out);
+    }
+}
+
+impl Encode for FilesystemStatusResults {
+    ghost shape = { fsstat_shape };
+
+    ghost value = { λ r. fsstat_value (shown_of r.root) (space_of r) };
+
+    fn size(&self) -> usize {
+        Some(self.root).size() + 6 * 8 + 4
+    }
+
+    fn write(&self, out: &mut Vec<u8>) {
+        Some(self.root).write(out);
+        self.total_bytes.write(out);
+        self.free_bytes.write(out);
+        self.free_bytes.write(out);
+        self.inodes.write(out);
+        self.free_inodes.write(out);
+        self.free_inodes.write(out);
+        0u32.write(out);
+    }
+}
+
+impl Encode for CommitResults {
+    ghost shape = { commit_shape };
+
+    ghost value = { λ r. commit_value (change_of r.file) r.verifier.0 };
+
+    fn size(&self) -> usize {
+        self.file.size() + self.verifier.size()
+    }
+
+    fn write(&self, out: &mut Vec<u8>) {
+        self.file.write(out);
+        self.verifier.write(out);
+    }
+}

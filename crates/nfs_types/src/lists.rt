@@ -1,0 +1,128 @@
+//! Lists in results.
+
+ghost use Rattle.std.specs.Prelude.{◌≡◌, ◌+◌, ◌≤◌, ◌<◌, ◌^◌, ◌++◌, length, map, vec_len, vec_capacity};
+ghost use Rattle.std.specs.List.{flat_map};
+ghost use Rattle.xdr.specs.Shape.{Chain, spelling};
+ghost use Rattle.nfs_values.specs.Attributes.{shown_of};
+ghost use Rattle.nfs_values.specs.Answer.{entry_of, count_of};
+ghost use Rattle.nfs_types.specs.Results.{entry_shape, entry_value, readdir_shape, readdir_value, count_shape, count_value, census_shape};
+
+use crate::encode::Encode;
+use nfs_values::{Entry, ReadDirectoryResults, Verifier, VolumeCount};
+
+impl Encode for Entry {
+    ghost shape = { entry_shape };
+
+    ghost value = { λ e. entry_value (entry_of e) };
+
+    fn size(&self) -> usize {
+        16 + self.name.size()
+    }
+
+    fn write(&self, out: &mut Vec<u8>) {
+        self.fileid.write(out);
+        self.name.write(out);
+        self.cookie.write(out);
+    }
+}
+
+/// How many bytes the entries of a directory take.
+fn size_of_entries(entries: &[Entry]) -> usize
+    requires { length (spelling (Chain entry_shape) (map entry_value (map entry_of entries.now)))
+        < 2 ^ 32 }
+    ensures { result
+        ≡ length (spelling (Chain entry_shape) (map entry_value (map entry_of entries.now))) }
+{
+    let mut size = 4;
+    for entry in entries {
+        size += 4 + entry.size();
+    }
+    size
+}
+
+/// The entries of a directory, each behind TRUE, and FALSE at the end.
+fn write_entries(entries: &[Entry], out: &mut Vec<u8>)
+    requires short { length
+        (spelling (Chain entry_shape) (map entry_value (map entry_of entries.now)))
+        < 2 ^ 32 }
+    requires room { vec_len out.old
+        + length (spelling (Chain entry_shape) (map entry_value (map entry_of entries.now)))
+        ≤ vec_capacity out.old }
+    ensures items { out.new.items
+        ≡ out.old.items
+        ++ spelling (Chain entry_shape) (map entry_value (map entry_of entries.now)) }
+    ensures capacity { vec_capacity out.old ≤ vec_capacity out.new }
+{
+    for entry in entries {
+        true.write(out);
+        entry.write(out);
+    }
+    false.write(out);
+}
+
+impl Encode for ReadDirectoryResults {
+    ghost shape = { readdir_shape };
+
+    ghost value = { λ r. readdir_value (shown_of r.directory) (map entry_of r.entries.items) r.eof };
+
+    fn size(&self) -> usize {
+        Some(self.directory).size() + 8 + size_of_entries(&self.entries) + 4
+    }
+
+    fn write(&self, out: &mut Vec<u8>) {
+        Some(self.directory).write(out);
+        Verifier([0; 8]).write(out);
+        write_entries(&self.entries, out);
+        self.eof.write(out);
+    }
+}
+
+impl Encode for VolumeCount {
+    ghost shape = { count_shape };
+
+    ghost value = { λ v. count_value (count_of v) };
+
+    fn size(&self) -> usize {
+        20
+    }
+
+    fn write(&self, out: &mut Vec<u8>) {
+        self.volume.write(out);
+        self.total.write(out);
+        self.used.write(out);
+    }
+}
+
+/// The blocks of the volumes, one behind the other.
+fn write_counts(volumes: &[VolumeCount], out: &mut Vec<u8>)
+    requires short { length
+        (flat_map (λ v. spelling count_shape v) (map count_value (map count_of volumes.now)))
+        < 2 ^ 32 }
+    requires room { vec_len out.old
+        + length
+        (flat_map (λ v. spelling count_shape v) (map count_value (map count_of volumes.now)))
+        ≤ vec_capacity out.old }
+    ensures items { out.new.items
+        ≡ out.old.items
+        ++ flat_map (λ v. spelling count_shape v) (map count_value (map count_of volumes.now)) }
+    ensures capacity { vec_capacity out.old ≤ vec_capacity out.new }
+{
+    for volume in volumes {
+        volume.write(out);
+    }
+}
+
+impl Encode for Vec<VolumeCount> {
+    ghost shape = { census_shape };
+
+    ghost value = { λ v. map count_value (map count_of v.items) };
+
+    fn size(&self) -> usize {
+        4 + 20 * self.len()
+    }
+
+    fn write(&self, out: &mut Vec<u8>) {
+        (self.len() as u32).write(out);
+        write_counts(self, out);
+    }
+}

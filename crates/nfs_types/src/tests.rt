@@ -1,0 +1,166 @@
+//! Calls that take memory, and results, each once where memory is there.
+
+use super::*;
+use nfs_values::{
+    Answer, Attributes, Call, CreateMode, Entry, FileKind, Moment, Procedure, ReadDirectoryResults,
+    ReadResults, SetAttributes, SetTime,
+};
+use std::alloc::{AllocError, Global};
+use std::test::Fail;
+
+/// The handle 7, and the name `ab`.
+const TARGET: [u8; 16] = [0, 0, 0, 1, 7, 0, 0, 0, 0, 0, 0, 2, b'a', b'b', 0, 0];
+
+/// Mode 0644 octal, no uid and gid, size 5, atime of the server, mtime 3.000000004.
+const SET: [u8; 44] = [
+    0, 0, 0, 1, 0, 0, 1, 0xA4, 0, 0, 0, 0, 0, 0, 0, 0, 0, 0, 0, 1, 0, 0, 0, 0, 0, 0, 0, 5, 0, 0, 0,
+    1, 0, 0, 0, 2, 0, 0, 0, 3, 0, 0, 0, 4,
+];
+
+/// What they set.
+fn set() -> SetAttributes {
+    SetAttributes {
+        mode: Some(0o644),
+        uid: None,
+        gid: None,
+        size: Some(5),
+        atime: SetTime::ServerTime,
+        mtime: SetTime::ClientTime(Moment {
+            seconds: 3,
+            nanoseconds: 4,
+        }),
+    }
+}
+
+fn joined(alloc: Global, parts: &[&[u8]]) -> Result<Vec<u8>, AllocError> {
+    let mut all = Vec::new(alloc);
+    for part in parts {
+        all.extend_from_slice(part)?;
+    }
+    Ok(all)
+}
+
+#[test]
+fn names_are_copied(rt: HostRuntime) -> Result<(), Fail> {
+    for procedure in [
+        Procedure::Lookup,
+        Procedure::Remove,
+        Procedure::RemoveDirectory,
+    ] {
+        let call = decode_args(rt.alloc(), procedure, &TARGET)?;
+        let (Call::Lookup(target) | Call::Remove(target) | Call::RemoveDirectory(target)) = call
+        else {
+            return Err("another call".into());
+        };
+        assert_eq!(rt; target.directory.as_bytes(), [7].as_slice());
+        assert_eq!(rt; target.name.as_slice(), b"ab".as_slice());
+    }
+    Ok(())
+}
+
+#[test]
+fn names_are_made_with_attributes(rt: HostRuntime) -> Result<(), Fail> {
+    let guarded = joined(rt.alloc(), &[&TARGET, &[0, 0, 0, 1], &SET])?;
+    let Call::Create { target, mode } = decode_args(rt.alloc(), Procedure::Create, &guarded)? else {
+        return Err("no CREATE".into());
+    };
+    assert_eq!(rt; target.name.as_slice(), b"ab".as_slice());
+    assert_eq!(rt; mode, CreateMode::Guarded(set()));
+    let plain = joined(rt.alloc(), &[&TARGET, &SET])?;
+    let Call::MakeDirectory { target, set: made } = decode_args(
+        rt.alloc(),
+        Procedure::MakeDirectory,
+        &plain,
+    )?
+    else {
+        return Err("no MKDIR".into());
+    };
+    assert_eq!(rt; target.name.as_slice(), b"ab".as_slice());
+    assert_eq!(rt; made, set());
+    Ok(())
+}
+
+#[test]
+fn data_is_copied(rt: HostRuntime) -> Result<(), Fail> {
+    let arguments = [
+        0, 0, 0, 1, 7, 0, 0, 0, 0, 0, 0, 0, 0, 0, 0, 8, 0, 0, 0, 3, 0, 0, 0, 2, 0, 0, 0, 3, 1, 2,
+        3, 0,
+    ];
+    let Call::Write {
+        handle,
+        offset,
+        count,
+        bytes,
+    } = decode_args(rt.alloc(), Procedure::Write, &arguments)?
+    else {
+        return Err("no WRITE".into());
+    };
+    assert_eq!(rt; handle.as_bytes(), [7].as_slice());
+    assert_eq!(rt; (offset, count), (8, 3));
+    assert_eq!(rt; bytes.as_slice(), [1, 2, 3].as_slice());
+    Ok(())
+}
+
+#[test]
+fn results_are_written(rt: HostRuntime) -> Result<(), Fail> {
+    let read = Answer::Read(ReadResults {
+        eof: true,
+        bytes: [1, 2, 3].to_vec(rt.alloc())?,
+    });
+    let mut out = Vec::new(rt.alloc());
+    encode_result(&mut out, &read)?;
+    let wanted = [
+        0, 0, 0, 0, 0, 0, 0, 0, 0, 0, 0, 3, 0, 0, 0, 1, 0, 0, 0, 3, 1, 2, 3, 0,
+    ];
+    assert_eq!(rt; out.as_slice(), wanted.as_slice());
+    Ok(())
+}
+
+#[test]
+fn entries_are_chained(rt: HostRuntime) -> Result<(), Fail> {
+    let zero = Moment {
+        seconds: 0,
+        nanoseconds: 0,
+    };
+    let directory = Attributes {
+        kind: FileKind::Directory,
+        mode: 0,
+        links: 0,
+        uid: 0,
+        gid: 0,
+        size: 0,
+        used: 0,
+        fsid: 0,
+        fileid: 0,
+        atime: zero,
+        mtime: zero,
+        ctime: zero,
+    };
+    let mut entries = Vec::new(rt.alloc());
+    entries.push(Entry {
+        fileid: 5,
+        name: b"a".to_vec(rt.alloc())?,
+        cookie: 3,
+    })?;
+    let listed = Answer::ReadDirectory(ReadDirectoryResults {
+        directory,
+        entries,
+        eof: true,
+    });
+    let mut out = Vec::new(rt.alloc());
+    encode_result(&mut out, &listed)?;
+    let wanted = joined(
+        rt.alloc(),
+        &[
+            &[0, 0, 0, 0, 0, 0, 0, 1, 0, 0, 0, 2],
+            &[0; 80],
+            &[0; 8],
+            &[0, 0, 0, 1, 0, 0, 0, 0, 0, 0, 0, 5],
+            &[0, 0, 0, 1, b'a', 0, 0, 0],
+            &[0, 0, 0, 0, 0, 0, 0, 3],
+            &[0, 0, 0, 0, 0, 0, 0, 1],
+        ],
+    )?;
+    assert_eq!(rt; out.as_slice(), wanted.as_slice());
+    Ok(())
+}

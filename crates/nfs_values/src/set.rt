@@ -1,0 +1,34 @@
+//! What calls set.
+
+use crate::moment::Moment;
+use crate::verifier::Verifier;
+
+/// How a time is set (set_atime and set_mtime, RFC 1813 section 2.6).
+#[derive(Clone, Copy, Debug, PartialEq, Eq)]
+pub enum SetTime {
+    /// It stays as it is.
+    Keep,
+    /// To the moment of the call.
+    ServerTime,
+    /// To the client's, whose nanoseconds may be any number.
+    ClientTime(Moment),
+}
+
+/// The attributes to set (sattr3, RFC 1813 section 2.6). What is `None` stays as it is.
+#[derive(Clone, Copy, Debug, PartialEq, Eq)]
+pub struct SetAttributes {
+    pub mode: Option<u32>,
+    pub uid: Option<u32>,
+    pub gid: Option<u32>,
+    pub size: Option<u64>,
+    pub atime: SetTime,
+    pub mtime: SetTime,
+}
+
+/// How a file is created (createhow3, RFC 1813 section 3.3.8).
+#[derive(Clone, Copy, Debug, PartialEq, Eq)]
+pub enum CreateMode {
+    Unchecked(SetAttributes),
+    Guarded(SetAttributes),
+    Exclusive(Verifier),
+}
