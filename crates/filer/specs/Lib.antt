@@ -7,3 +7,4 @@ pub mod Records
 pub mod Served
 pub mod Sound
 pub mod Engine
+pub mod Script
