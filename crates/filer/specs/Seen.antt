@@ -100,7 +100,6 @@ volume_of l verifier k = record {
   aggregate = 0;
   total = 1024 * l.ranges;
   largest = 1048576 * 16;
-  stripes = 8;
   verifier = verifier;
   next = 2;
   nodes = from_sorted ((1, root_of k) ∷ []);
