@@ -1,1 +1,4 @@
 pub mod Mapped
+pub mod Ways
+pub mod Lawful
+pub mod Sharing

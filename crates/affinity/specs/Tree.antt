@@ -12,6 +12,16 @@ IsNode layout (Stripe v i) = (v < length layout.volumes) × (i < stripes_of layo
 IsNode layout (Vbn v) = v < length layout.volumes
 IsNode layout (Range v r) = (v < length layout.volumes) × (r < 16)
 
+-- the volume that an affinity is of or below
+abbrev pub volume_in : Affinity → Option ℕ
+volume_in Serial = None
+volume_in (Aggregate a) = None
+volume_in (Volume v) = Some v
+volume_in (Logical v) = Some v
+volume_in (Stripe v i) = Some v
+volume_in (Vbn v) = Some v
+volume_in (Range v r) = Some v
+
 -- the next node towards the root
 abbrev pub parent_of : Layout → Affinity → Option Affinity
 parent_of layout Serial = None
