@@ -2,3 +2,4 @@ pub mod Mapped
 pub mod Ways
 pub mod Lawful
 pub mod Sharing
+pub mod Spans

@@ -88,7 +88,9 @@ impl Layout {
 
     /// The number of stripes of a volume.
     pub fn stripes_of(&self, volume: u32) -> u32
-        ensures { result ≡ stripes_of (layout_of self.now) volume }
+        ensures stripes { result ≡ stripes_of (layout_of self.now) volume }
+        ensures some { 0 < result }
+        ensures most { result ≤ 16 }
     {
         let _ = self.volume(volume);
         STRIPES

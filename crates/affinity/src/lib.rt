@@ -16,6 +16,6 @@ pub mod laws;
 
 pub use affinity::{Affinity, Kind};
 pub use fault::LayoutFault;
-//pub use home::home_of;
+pub use home::home_of;
 pub use layout::Layout;
 pub use specification::{AggregateSpec, VolumeSpec};
