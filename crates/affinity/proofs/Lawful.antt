@@ -1,6 +1,6 @@
 -- What holds of a layout that breaks no rule.
 use Rattle.std.proofs.Common.{◌≡◌, ℕ, zero, suc, ◌+◌, ◌<◌, ◌≤◌, Bool, true, false, ◌&&◌, not, List, [], ◌∷◌, length, Option, Some, None, cond, refl, sym, ◌∙◌, ap, subst, arith, slice_get}
-use Rattle.std.specs.Prelude.{if◌then◌else◌}
+use Rattle.std.specs.Prelude.{if◌then◌else◌, nat_le}
 use Rattle.std.specs.List.{list_all}
 use Rattle.std.proofs.lemmas.Bool.{and_parts, ltb-true, leb-true}
 use Rattle.nfs_model.specs.Tree.{Layout, VolumeLayout, aggregate_of, aggregate_in, stripes_of, stripes_in}
@@ -40,3 +40,10 @@ aggregate_known layout v h there =
     let below : x.0.aggregate < length layout.spare = ltb-true x.0.aggregate (length layout.spare) test in
     let same : aggregate_of layout v ≡ x.0.aggregate = ap aggregate_in x.1 in
     omega arith
+
+-- there are at most 8 volumes
+pub few_volumes : (layout : Layout) → fault_of layout ≡ None → length layout.volumes ≤ 8
+few_volumes layout h =
+    let first = kept (is_within 1 2 (length layout.spare)) 51 _ h in
+    let second = kept (is_within 1 8 (length layout.volumes)) 52 _ first.1 in
+    leb-true (length layout.volumes) 8 (and_parts (nat_le 1 (length layout.volumes)) (nat_le (length layout.volumes) 8) second.0).1

@@ -3,3 +3,5 @@ pub mod Ways
 pub mod Lawful
 pub mod Sharing
 pub mod Spans
+pub mod Places
+pub mod Parents
