@@ -5,3 +5,4 @@ pub mod Sharing
 pub mod Spans
 pub mod Places
 pub mod Parents
+pub mod Numbered
