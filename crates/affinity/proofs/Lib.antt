@@ -6,3 +6,5 @@ pub mod Spans
 pub mod Places
 pub mod Parents
 pub mod Numbered
+pub mod Smaller
+pub mod Chains

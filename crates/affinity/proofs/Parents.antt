@@ -28,7 +28,7 @@ past_replicate n x ys i =
 
 -- ---- one volume
 
-length-volume_parents : (first : ℕ) (v : VolumeLayout) → length (volume_parents first v) ≡ nodes_of v
+pub length-volume_parents : (first : ℕ) (v : VolumeLayout) → length (volume_parents first v) ≡ nodes_of v
 length-volume_parents first v =
     let both = length-append (replicate v.stripes (first + 1)) (first ∷ replicate 16 (first + 2 + v.stripes)) in
     let stripes = length-replicate v.stripes (first + 1) in

@@ -17,11 +17,11 @@ const STRIPES: u32 = 8;
 pub struct Layout {
     aggregates: Vec<AggregateSpec>,
     volumes: Vec<VolumeSpec>,
-    ghost lawful: { fault_of (layout_in aggregates.items volumes.items) ≡ None },
+    pub ghost lawful: { fault_of (layout_in aggregates.items volumes.items) ≡ None },
 }
 
 impl Layout {
-    ghost use Rattle.std.specs.Prelude.{◌<◌, ◌≤◌, length, slice_get, option_map, IfOk, IfErr};
+    ghost use Rattle.std.specs.Prelude.{◌<◌, ◌≤◌, length, slice_get, option_map, IfOk, IfErr, OnOk};
     ghost use Rattle.nfs_model.specs.Tree.{aggregate_of, stripes_of};
     ghost use Rattle.affinity.specs.Specification.{spare_of, volume_of};
     ghost use Rattle.affinity.specs.Fault.{rule_broken};
@@ -35,6 +35,7 @@ impl Layout {
         volumes: &[VolumeSpec],
     ) -> Result<Layout, LayoutFault>
         ensures ok { IfOk result (λ layout. layout_of layout ≡ layout_in aggregates.now volumes.now) }
+        ensures lawful { OnOk result (fault_of (layout_in aggregates.now volumes.now) ≡ None) }
         ensures err { IfErr result (λ fault. rule_broken fault ≡ fault_of (layout_in aggregates.now volumes.now)) }
     {
         check(aggregates, volumes)?;
