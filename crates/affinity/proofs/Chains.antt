@@ -1,12 +1,12 @@
 -- The numbers above a node are those of the nodes above it.
-use Rattle.std.proofs.Common.{◌≡◌, ℕ, zero, suc, ◌+◌, ◌<◌, ◌≤◌, Bool, true, false, ◌&&◌, ◌||◌, not, List, [], ◌∷◌, ◌++◌, length, slice_index, slice_index_or, Option, Some, None, refl, sym, ◌∙◌, ap, subst, arith, length-append, ◌⊎◌, inl, inr, ⊎_elim}
-use Rattle.std.specs.Prelude.{◌↔◌, Contains}
-use Rattle.std.proofs.lemmas.Bool.{and_parts, and_from, or_left, or_right, or_cases, cases_Bool, not-true, not_from_false, false_from_ne_true}
+use Rattle.std.proofs.Common.{◌≡◌, ℕ, zero, suc, ◌<◌, true, false, not, List, [], ◌∷◌, ◌++◌, length, slice_index_or, Some, None, refl, sym, ◌∙◌, ap, subst, arith, length-append, ◌⊎◌, inl, inr, ⊎_elim}
+use Rattle.std.specs.Prelude.{Contains}
+use Rattle.std.proofs.lemmas.Bool.{and_parts, and_from, or_left, or_right, or_cases, not-true, not_from_false, false_from_ne_true}
 use Rattle.nfs_model.specs.Tree.{Layout, Affinity, Serial, Aggregate, Volume, Logical, Stripe, Vbn, Range, path, begins, excludes, aggregate_of}
 use Rattle.affinity.specs.Fault.{fault_of}
 use Rattle.affinity.specs.Tree.{IsNode, IsParent, is_above, covers, parent_of}
 use Rattle.affinity.specs.Numbers.{number_of, number_or_none, parents, ListsAbove}
-use Rattle.affinity.proofs.Ways.{begins-self, begins-longer, begins-both, begins-length, begins-step}
+use Rattle.affinity.proofs.Ways.{begins-longer, begins-length, begins-step}
 use Rattle.affinity.proofs.Lawful.{aggregate_known}
 use Rattle.affinity.proofs.Sharing.{same_way, covers-cases, covers_from}
 use Rattle.affinity.proofs.Places.{number_positive}
@@ -33,25 +33,25 @@ above_child layout a b p step h =
     let parts = and_parts (covers layout a b) (not (covers layout b a)) h in
     let longer : begins (path layout a) (path layout p ++ step.0 ∷ []) ≡ true = subst (λ (way : List ℕ). begins (path layout a) way ≡ true) step.1 parts.0 in
     ⊎_elim
-        (λ (there : covers layout a p ≡ true).
-            ⊎_elim (λ (same : p ≡ a). inl (sym same)) (λ (above : is_above layout a p ≡ true). inr above) (covers-cases layout a p there))
-        (λ (same : path layout a ≡ path layout p ++ step.0 ∷ []).
-            absurd (let one : a ≡ b = same_way layout a b (same ∙ sym step.1) in
-                let back : covers layout b a ≡ false = not-true (covers layout b a) parts.1 in
-                let self : covers layout b a ≡ true = covers_from layout b a (inl one) in
-                let no : true ≡ false = sym self ∙ back in
-                cc))
-        (begins-step (path layout a) (path layout p) step.0 longer)
+    (λ (there : covers layout a p ≡ true).
+    ⊎_elim (λ (same : p ≡ a). inl (sym same)) (λ (above : is_above layout a p ≡ true). inr above) (covers-cases layout a p there))
+    (λ (same : path layout a ≡ path layout p ++ step.0 ∷ []).
+    absurd (let one : a ≡ b = same_way layout a b (same ∙ sym step.1) in
+    let back : covers layout b a ≡ false = not-true (covers layout b a) parts.1 in
+    let self : covers layout b a ≡ true = covers_from layout b a (inl one) in
+    let no : true ≡ false = sym self ∙ back in
+    cc))
+    (begins-step (path layout a) (path layout p) step.0 longer)
 
 -- a child doesn't begin a way that begins its parent's
 not_back : (layout : Layout) (a b p : Affinity) → IsParent layout p b → covers layout a p ≡ true → covers layout b a ≡ false
 not_back layout a b p step h =
     false_from_ne_true (covers layout b a) (λ (back : covers layout b a ≡ true).
-        let up = begins-length (path layout a) (path layout p) h in
-        let down = begins-length (path layout b) (path layout a) back in
-        let size = ap length step.1 in
-        let one = length-append (path layout p) (step.0 ∷ []) in
-        omega arith)
+    let up = begins-length (path layout a) (path layout p) h in
+    let down = begins-length (path layout b) (path layout a) back in
+    let size = ap length step.1 in
+    let one = length-append (path layout p) (step.0 ∷ []) in
+    omega arith)
 
 above_from : (layout : Layout) (a b p : Affinity) → IsParent layout p b → covers layout a p ≡ true → is_above layout a b ≡ true
 above_from layout a b p step h =
@@ -71,18 +71,18 @@ child_listed : (layout : Layout) (f : ℕ → List ℕ) (b p : Affinity) → IsN
 child_listed layout f b p node step e up = record {
   listed = λ a m h.
       let found : Contains (number_of layout p ∷ f (number_of layout p)) (number_of layout a) =
-          ⊎_elim
-              (λ (same : a ≡ p). first_in (number_of layout a) (number_of layout p) (f (number_of layout p)) (ap (number_of layout) (sym same)))
-              (λ (above : is_above layout a p ≡ true). later_in (number_of layout a) (number_of layout p) (f (number_of layout p)) (up.listed a m above))
-              (above_child layout a b p step h) in
+      ⊎_elim
+      (λ (same : a ≡ p). first_in (number_of layout a) (number_of layout p) (f (number_of layout p)) (ap (number_of layout) (sym same)))
+      (λ (above : is_above layout a p ≡ true). later_in (number_of layout a) (number_of layout p) (f (number_of layout p)) (up.listed a m above))
+      (above_child layout a b p step h) in
       subst (λ (xs : List ℕ). Contains xs (number_of layout a)) (sym e) found;
   above = λ a m h.
       let found : Contains (number_of layout p ∷ f (number_of layout p)) (number_of layout a) = subst (λ (xs : List ℕ). Contains xs (number_of layout a)) e h in
       above_from layout a b p step
-          (⊎_elim
-              (λ (same : number_of layout p ≡ number_of layout a). covers_from layout a p (inl (own_number layout p a node m same)))
-              (λ (later : Contains (f (number_of layout p)) (number_of layout a)). covers_from layout a p (inr (up.above a m later)))
-              (place_in (number_of layout a) (number_of layout p) (f (number_of layout p)) found.0 found.1 found.2));
+      (⊎_elim
+      (λ (same : number_of layout p ≡ number_of layout a). covers_from layout a p (inl (own_number layout p a node m same)))
+      (λ (later : Contains (f (number_of layout p)) (number_of layout a)). covers_from layout a p (inr (up.above a m later)))
+      (place_in (number_of layout a) (number_of layout p) (f (number_of layout p)) found.0 found.1 found.2));
 }
 
 -- a list starts with the parent's number
@@ -131,43 +131,43 @@ node_listed layout f lawful lists (Range v r) h =
 pub excludes-cases : (layout : Layout) (a b : Affinity) → excludes layout a b ≡ true → (a ≡ b) ⊎ ((is_above layout a b ≡ true) ⊎ (is_above layout b a ≡ true))
 excludes-cases layout a b h =
     ⊎_elim
-        (λ (e : covers layout a b ≡ true).
-            ⊎_elim (λ (same : b ≡ a). inl (sym same)) (λ (above : is_above layout a b ≡ true). inr (inl above)) (covers-cases layout a b e))
-        (λ (e : covers layout b a ≡ true).
-            ⊎_elim (λ (same : a ≡ b). inl same) (λ (above : is_above layout b a ≡ true). inr (inr above)) (covers-cases layout b a e))
-        (or_cases (covers layout a b) (covers layout b a) h)
+    (λ (e : covers layout a b ≡ true).
+    ⊎_elim (λ (same : b ≡ a). inl (sym same)) (λ (above : is_above layout a b ≡ true). inr (inl above)) (covers-cases layout a b e))
+    (λ (e : covers layout b a ≡ true).
+    ⊎_elim (λ (same : a ≡ b). inl same) (λ (above : is_above layout b a ≡ true). inr (inr above)) (covers-cases layout b a e))
+    (or_cases (covers layout a b) (covers layout b a) h)
 
 pub excludes_by : (layout : Layout) (a b : Affinity) → (a ≡ b) ⊎ ((is_above layout a b ≡ true) ⊎ (is_above layout b a ≡ true)) → excludes layout a b ≡ true
 excludes_by layout a b h =
     ⊎_elim
-        (λ (same : a ≡ b). or_left (covers layout a b) (covers layout b a) (covers_from layout a b (inl (sym same))))
-        (λ (one : (is_above layout a b ≡ true) ⊎ (is_above layout b a ≡ true)).
-            ⊎_elim
-                (λ (above : is_above layout a b ≡ true). or_left (covers layout a b) (covers layout b a) (covers_from layout a b (inr above)))
-                (λ (above : is_above layout b a ≡ true). or_right (covers layout a b) (covers layout b a) (covers_from layout b a (inr above)))
-                one)
-        h
+    (λ (same : a ≡ b). or_left (covers layout a b) (covers layout b a) (covers_from layout a b (inl (sym same))))
+    (λ (one : (is_above layout a b ≡ true) ⊎ (is_above layout b a ≡ true)).
+    ⊎_elim
+    (λ (above : is_above layout a b ≡ true). or_left (covers layout a b) (covers layout b a) (covers_from layout a b (inr above)))
+    (λ (above : is_above layout b a ≡ true). or_right (covers layout a b) (covers layout b a) (covers_from layout b a (inr above)))
+    one)
+    h
 
 pub numbers_from : (layout : Layout) (f : ℕ → List ℕ) (a b : Affinity) → fault_of layout ≡ None → ListsAbove (parents layout) f → IsNode layout a → IsNode layout b → excludes layout a b ≡ true
     → (number_of layout a ≡ number_of layout b) ⊎ (Contains (f (number_of layout b)) (number_of layout a) ⊎ Contains (f (number_of layout a)) (number_of layout b))
 numbers_from layout f a b lawful lists m n h =
     ⊎_elim
-        (λ (same : a ≡ b). inl (ap (number_of layout) same))
-        (λ (one : (is_above layout a b ≡ true) ⊎ (is_above layout b a ≡ true)).
-            ⊎_elim
-                (λ (above : is_above layout a b ≡ true). inr (inl ((node_listed layout f lawful lists b n).listed a m above)))
-                (λ (above : is_above layout b a ≡ true). inr (inr ((node_listed layout f lawful lists a m).listed b n above)))
-                one)
-        (excludes-cases layout a b h)
+    (λ (same : a ≡ b). inl (ap (number_of layout) same))
+    (λ (one : (is_above layout a b ≡ true) ⊎ (is_above layout b a ≡ true)).
+    ⊎_elim
+    (λ (above : is_above layout a b ≡ true). inr (inl ((node_listed layout f lawful lists b n).listed a m above)))
+    (λ (above : is_above layout b a ≡ true). inr (inr ((node_listed layout f lawful lists a m).listed b n above)))
+    one)
+    (excludes-cases layout a b h)
 
 pub excludes_numbered : (layout : Layout) (f : ℕ → List ℕ) (a b : Affinity) → fault_of layout ≡ None → ListsAbove (parents layout) f → IsNode layout a → IsNode layout b
     → (number_of layout a ≡ number_of layout b) ⊎ (Contains (f (number_of layout b)) (number_of layout a) ⊎ Contains (f (number_of layout a)) (number_of layout b)) → excludes layout a b ≡ true
 excludes_numbered layout f a b lawful lists m n h =
     excludes_by layout a b (⊎_elim
-        (λ (same : number_of layout a ≡ number_of layout b). inl (own_number layout a b m n same))
-        (λ (one : Contains (f (number_of layout b)) (number_of layout a) ⊎ Contains (f (number_of layout a)) (number_of layout b)).
-            ⊎_elim
-                (λ (found : Contains (f (number_of layout b)) (number_of layout a)). inr (inl ((node_listed layout f lawful lists b n).above a m found)))
-                (λ (found : Contains (f (number_of layout a)) (number_of layout b)). inr (inr ((node_listed layout f lawful lists a m).above b n found)))
-                one)
-        h)
+    (λ (same : number_of layout a ≡ number_of layout b). inl (own_number layout a b m n same))
+    (λ (one : Contains (f (number_of layout b)) (number_of layout a) ⊎ Contains (f (number_of layout a)) (number_of layout b)).
+    ⊎_elim
+    (λ (found : Contains (f (number_of layout b)) (number_of layout a)). inr (inl ((node_listed layout f lawful lists b n).above a m found)))
+    (λ (found : Contains (f (number_of layout a)) (number_of layout b)). inr (inr ((node_listed layout f lawful lists a m).above b n found)))
+    one)
+    h)

@@ -1,10 +1,10 @@
 -- What holds of a layout that breaks no rule.
-use Rattle.std.proofs.Common.{◌≡◌, ℕ, zero, suc, ◌+◌, ◌<◌, ◌≤◌, Bool, true, false, ◌&&◌, not, List, [], ◌∷◌, length, Option, Some, None, cond, refl, sym, ◌∙◌, ap, subst, arith, slice_get}
+use Rattle.std.proofs.Common.{◌≡◌, ℕ, zero, suc, ◌<◌, ◌≤◌, Bool, true, false, not, List, [], ◌∷◌, length, Option, Some, None, refl, ap, arith, slice_get}
 use Rattle.std.specs.Prelude.{if◌then◌else◌, nat_le}
 use Rattle.std.specs.List.{list_all}
 use Rattle.std.proofs.lemmas.Bool.{and_parts, ltb-true, leb-true}
-use Rattle.nfs_model.specs.Tree.{Layout, VolumeLayout, aggregate_of, aggregate_in, stripes_of, stripes_in}
-use Rattle.affinity.specs.Fault.{fault_of, is_known, is_sized, is_within}
+use Rattle.nfs_model.specs.Tree.{Layout, VolumeLayout, aggregate_of, aggregate_in}
+use Rattle.affinity.specs.Fault.{fault_of, is_known, is_within}
 
 -- a rule that isn't broken, and what follows it
 kept : (test : Bool) (number : ℕ) (others : Option ℕ) → (if not test then Some number else others) ≡ None → (test ≡ true) × (others ≡ None)

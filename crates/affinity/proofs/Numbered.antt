@@ -1,11 +1,10 @@
 -- Each node has a number of its own, and each number is some node's.
-use Rattle.std.proofs.Common.{◌≡◌, ℕ, zero, suc, ◌+◌, ◌-◌, ◌<◌, ◌≤◌, ◌==◌, nat_lt, Bool, true, false, List, [], ◌∷◌, length, Option, Some, None, refl, sym, ◌∙◌, ap, subst, arith, slice_get, ◌⊎◌, inl, inr, ⊎_elim}
+use Rattle.std.proofs.Common.{◌≡◌, ℕ, zero, suc, ◌+◌, ◌-◌, ◌<◌, ◌≤◌, ◌==◌, nat_lt, List, [], ◌∷◌, length, Some, refl, sym, ◌∙◌, ap, arith, slice_get, ◌⊎◌, ⊎_elim}
 use Rattle.std.specs.Prelude.{if◌then◌else◌}
 use Rattle.std.proofs.lemmas.Bool.{cases_lt, cases_order, lt-ltb, le-ltb, eq-eqb, ne_eqb}
 use Rattle.nfs_model.specs.Tree.{Layout, VolumeLayout, Affinity, Serial, Aggregate, Volume, Logical, Stripe, Vbn, Range, stripes_of, stripes_in}
 use Rattle.affinity.specs.Tree.{IsNode}
 use Rattle.affinity.specs.Numbers.{nodes_of, nodes_before, volume_number, number_of, node_count}
-use Rattle.affinity.proofs.Lawful.{volume_there}
 use Rattle.affinity.proofs.Places.{volume_number_next}
 
 -- ---- a volume's nodes by their places
@@ -28,7 +27,7 @@ vbn_at stripes v = simp (le-ltb stripes stripes (omega arith), eq-eqb stripes st
 range_at : (stripes v r : ℕ) → Range v r ≡ node_at stripes v (suc (suc (stripes + 1 + r)))
 range_at stripes v r =
     simp (le-ltb (stripes + 1 + r) stripes (omega arith), ne_eqb (stripes + 1 + r) stripes (λ e. omega arith))
-        (let less : r ≡ stripes + 1 + r - (stripes + 1) = omega arith in ap (Range v) less)
+    (let less : r ≡ stripes + 1 + r - (stripes + 1) = omega arith in ap (Range v) less)
 
 -- a node at a place of a volume
 pub record IsAt (layout : Layout) (a : Affinity) (v place : ℕ) : Type 0 where
@@ -55,12 +54,12 @@ place_of layout (Range v r) h far =
 one_volume : (layout : Layout) (a b : Affinity) (v w p q : ℕ) → IsAt layout a v p → IsAt layout b w q → number_of layout a ≡ number_of layout b → v ≡ w
 one_volume layout a b v w p q m n e =
     ⊎_elim
-        (λ (same : v ≡ w). same)
-        (λ (other : (v < w) ⊎ (w < v)). absurd (⊎_elim
-            (λ (less : v < w). let next = volume_number_next layout v w m.there less in let no : ⊥ = omega arith in no)
-            (λ (less : w < v). let next = volume_number_next layout w v n.there less in let no : ⊥ = omega arith in no)
-            other))
-        (cases_order v w)
+    (λ (same : v ≡ w). same)
+    (λ (other : (v < w) ⊎ (w < v)). absurd (⊎_elim
+    (λ (less : v < w). let next = volume_number_next layout v w m.there less in let no : ⊥ = omega arith in no)
+    (λ (less : w < v). let next = volume_number_next layout w v n.there less in let no : ⊥ = omega arith in no)
+    other))
+    (cases_order v w)
 
 one_node : (layout : Layout) (a b : Affinity) (v w p q : ℕ) → IsAt layout a v p → IsAt layout b w q → number_of layout a ≡ number_of layout b → a ≡ b
 one_node layout a b v w p q m n e =
@@ -92,23 +91,23 @@ split : (volumes : List VolumeLayout) (k : ℕ) → k < nodes_before volumes (le
 split [] k h = absurd (omega arith)
 split (x ∷ xs) k h =
     ⊎_elim
-        (λ (here : k < nodes_of x). (0, x, k, refl, here, omega arith))
-        (λ (later : nodes_of x ≤ k).
-            let there = split xs (k - nodes_of x) (omega arith) in
-            (suc there.0, there.1, there.2, there.3, there.4, (let e = there.5 in omega arith)))
-        (cases_lt k (nodes_of x))
+    (λ (here : k < nodes_of x). (0, x, k, refl, here, omega arith))
+    (λ (later : nodes_of x ≤ k).
+    let there = split xs (k - nodes_of x) (omega arith) in
+    (suc there.0, there.1, there.2, there.3, there.4, (let e = there.5 in omega arith)))
+    (cases_lt k (nodes_of x))
 
 -- a node at each place of a volume
 filled_below : (layout : Layout) (v p : ℕ) → v < length layout.volumes → p < 17 + stripes_of layout v → (a : Affinity) × IsNode layout a × (number_of layout a ≡ volume_number layout v + suc (suc p))
 filled_below layout v p h k =
     ⊎_elim
-        (λ (stripe : p < stripes_of layout v). (Stripe v p, (h, stripe), omega arith))
-        (λ (past : stripes_of layout v ≤ p).
-            ⊎_elim
-                (λ (range : stripes_of layout v < p). (Range v (p - (stripes_of layout v + 1)), (h, omega arith), omega arith))
-                (λ (vbn : p ≤ stripes_of layout v). (Vbn v, h, omega arith))
-                (cases_lt (stripes_of layout v) p))
-        (cases_lt p (stripes_of layout v))
+    (λ (stripe : p < stripes_of layout v). (Stripe v p, (h, stripe), omega arith))
+    (λ (past : stripes_of layout v ≤ p).
+    ⊎_elim
+    (λ (range : stripes_of layout v < p). (Range v (p - (stripes_of layout v + 1)), (h, omega arith), omega arith))
+    (λ (vbn : p ≤ stripes_of layout v). (Vbn v, h, omega arith))
+    (cases_lt (stripes_of layout v) p))
+    (cases_lt p (stripes_of layout v))
 
 filled : (layout : Layout) (v place : ℕ) → v < length layout.volumes → place < 19 + stripes_of layout v → (a : Affinity) × IsNode layout a × (number_of layout a ≡ volume_number layout v + place)
 filled layout v zero h k = (Volume v, h, omega arith)
@@ -125,10 +124,10 @@ some_node layout zero h k = absurd (omega arith)
 some_node layout (suc zero) h k = (Serial, tt, refl)
 some_node layout (suc (suc n)) h k =
     ⊎_elim
-        (λ (aggregate : n < length layout.spare). (Aggregate n, aggregate, omega arith))
-        (λ (far : length layout.spare ≤ n).
-            let place = split layout.volumes (n - length layout.spare) (omega arith) in
-            let stripes : stripes_of layout place.0 ≡ place.1.stripes = ap stripes_in place.3 in
-            let node = filled layout place.0 place.2 (there_is layout.volumes place.0 place.1 place.3) (omega arith) in
-            (node.0, node.1, (let e = place.5 in let number = node.2 in omega arith)))
-        (cases_lt n (length layout.spare))
+    (λ (aggregate : n < length layout.spare). (Aggregate n, aggregate, omega arith))
+    (λ (far : length layout.spare ≤ n).
+    let place = split layout.volumes (n - length layout.spare) (omega arith) in
+    let stripes : stripes_of layout place.0 ≡ place.1.stripes = ap stripes_in place.3 in
+    let node = filled layout place.0 place.2 (there_is layout.volumes place.0 place.1 place.3) (omega arith) in
+    (node.0, node.1, (let e = place.5 in let number = node.2 in omega arith)))
+    (cases_lt n (length layout.spare))

@@ -1,5 +1,5 @@
 -- Where the nodes of a volume stand among all nodes.
-use Rattle.std.proofs.Common.{◌≡◌, ℕ, zero, suc, ◌+◌, ◌*◌, ◌<◌, ◌≤◌, List, [], ◌∷◌, length, map, Option, Some, None, refl, sym, ◌∙◌, ap, arith, slice_get}
+use Rattle.std.proofs.Common.{◌≡◌, ℕ, zero, suc, ◌+◌, ◌*◌, ◌<◌, ◌≤◌, List, [], ◌∷◌, length, map, Some, refl, ap, arith, slice_get}
 use Rattle.nfs_model.specs.Tree.{Layout, VolumeLayout, Affinity, Serial, Aggregate, Volume, Logical, Stripe, Vbn, Range, stripes_of, stripes_in}
 use Rattle.affinity.specs.declared.specification.VolumeSpec.{VolumeSpec}
 use Rattle.affinity.specs.declared.specification.AggregateSpec.{AggregateSpec}

@@ -1,8 +1,8 @@
 -- Two affinities exclude each other where a parcel is under both.
-use Rattle.std.proofs.Common.{◌≡◌, ℕ, zero, suc, Bool, true, false, ◌&&◌, ◌||◌, not, List, [], ◌∷◌, refl, sym, ◌∙◌, ap, subst, rules, ◌⊎◌, inl, inr, ⊎_elim}
+use Rattle.std.proofs.Common.{◌≡◌, ℕ, zero, suc, Bool, true, false, not, List, [], ◌∷◌, refl, sym, ◌∙◌, ap, subst, rules, ◌⊎◌, inl, inr, ⊎_elim}
 use Rattle.std.specs.Prelude.{IsTrue, ◌↔◌}
-use Rattle.std.proofs.lemmas.Bool.{and_parts, and_from, or_left, or_right, or_cases, cases_Bool, not-true, not_from_false}
-use Rattle.nfs_model.specs.Tree.{Layout, Affinity, Serial, Aggregate, Volume, Logical, Stripe, Vbn, Range, path, begins, excludes}
+use Rattle.std.proofs.lemmas.Bool.{and_parts, and_from, or_cases, cases_Bool, not_from_false}
+use Rattle.nfs_model.specs.Tree.{Layout, Affinity, Serial, Aggregate, Volume, Logical, Stripe, Vbn, Range, path, excludes}
 use Rattle.affinity.specs.Tree.{IsNode, is_above, covers}
 use Rattle.affinity.specs.Under.{IsUnder, ShareParcel}
 use Rattle.affinity.proofs.Ways.{begins-self, begins-both, begins-either}
@@ -34,17 +34,17 @@ same_way layout a b e = sym (reached-path layout a) ∙ ap reached e ∙ reached
 pub covers-cases : (layout : Layout) (a b : Affinity) → covers layout a b ≡ true → (b ≡ a) ⊎ (is_above layout a b ≡ true)
 covers-cases layout a b h =
     ⊎_elim
-        (λ (e : covers layout b a ≡ true). inl (same_way layout b a (begins-both (path layout b) (path layout a) e h)))
-        (λ (e : covers layout b a ≡ false). inr (and_from (covers layout a b) (not (covers layout b a)) h (not_from_false (covers layout b a) e)))
-        (cases_Bool (covers layout b a))
+    (λ (e : covers layout b a ≡ true). inl (same_way layout b a (begins-both (path layout b) (path layout a) e h)))
+    (λ (e : covers layout b a ≡ false). inr (and_from (covers layout a b) (not (covers layout b a)) h (not_from_false (covers layout b a) e)))
+    (cases_Bool (covers layout b a))
 
 -- and the other way round
 pub covers_from : (layout : Layout) (a b : Affinity) → (b ≡ a) ⊎ (is_above layout a b ≡ true) → covers layout a b ≡ true
 covers_from layout a b h =
     ⊎_elim
-        (λ (e : b ≡ a). subst (λ (x : Affinity). covers layout a x ≡ true) (sym e) (begins-self (path layout a)))
-        (λ (e : is_above layout a b ≡ true). (and_parts (covers layout a b) (not (covers layout b a)) e).0)
-        h
+    (λ (e : b ≡ a). subst (λ (x : Affinity). covers layout a x ≡ true) (sym e) (begins-self (path layout a)))
+    (λ (e : is_above layout a b ≡ true). (and_parts (covers layout a b) (not (covers layout b a)) e).0)
+    h
 
 -- a node is under itself
 own : (layout : Layout) (a : Affinity) → IsNode layout a → IsUnder layout a a
@@ -53,9 +53,9 @@ own layout a h = (h, inl refl)
 pub shares_from : (layout : Layout) (a b : Affinity) → IsNode layout a → IsNode layout b → excludes layout a b ≡ true → ShareParcel layout a b
 shares_from layout a b m n h =
     ⊎_elim
-        (λ (e : covers layout a b ≡ true). (b, (n, covers-cases layout a b e), own layout b n))
-        (λ (e : covers layout b a ≡ true). (a, own layout a m, (m, covers-cases layout b a e)))
-        (or_cases (covers layout a b) (covers layout b a) h)
+    (λ (e : covers layout a b ≡ true). (b, (n, covers-cases layout a b e), own layout b n))
+    (λ (e : covers layout b a ≡ true). (a, own layout a m, (m, covers-cases layout b a e)))
+    (or_cases (covers layout a b) (covers layout b a) h)
 
 pub excludes_from : (layout : Layout) (a b : Affinity) → ShareParcel layout a b → excludes layout a b ≡ true
 excludes_from layout a b h =
@@ -63,6 +63,7 @@ excludes_from layout a b h =
 
 -- a test that says whether they exclude each other says whether they share a parcel
 pub tells : (layout : Layout) (a b : Affinity) (test : Bool) → IsNode layout a → IsNode layout b → test ≡ excludes layout a b → (IsTrue test ↔ ShareParcel layout a b)
-tells layout a b test m n e =
-    ((λ (h : IsTrue test). shares_from layout a b m n (let yes : test ≡ true = search rules in sym e ∙ yes)),
-     (λ (h : ShareParcel layout a b). let yes : test ≡ true = e ∙ excludes_from layout a b h in search rules))
+tells layout a b test m n e = (
+  (λ (h : IsTrue test). shares_from layout a b m n (let yes : test ≡ true = search rules in sym e ∙ yes)),
+  (λ (h : ShareParcel layout a b). let yes : test ≡ true = e ∙ excludes_from layout a b h in search rules),
+)

@@ -1,6 +1,6 @@
 -- Ways from the root, of which one begins another.
-use Rattle.std.proofs.Common.{◌≡◌, ℕ, zero, suc, ◌+◌, ◌<◌, ◌≤◌, ◌==◌, Bool, true, false, ◌&&◌, ◌||◌, not, List, [], ◌∷◌, ◌++◌, length, refl, sym, ◌∙◌, ap, subst, arith, ◌⊎◌, inl, inr, ⊎_elim}
-use Rattle.std.proofs.lemmas.Bool.{and_parts, and_from, eqb-true, eq-eqb, or_left, or_right, cases_Bool}
+use Rattle.std.proofs.Common.{◌≡◌, ℕ, ◌≤◌, ◌==◌, true, false, ◌||◌, List, [], ◌∷◌, ◌++◌, length, refl, sym, ◌∙◌, ap, arith, ◌⊎◌, inl, inr, ⊎_elim}
+use Rattle.std.proofs.lemmas.Bool.{and_parts, and_from, eqb-true, eq-eqb}
 use Rattle.nfs_model.specs.Tree.{begins}
 
 -- a way begins itself
@@ -59,6 +59,6 @@ begins-step (x ∷ xs) (y ∷ ys) z h =
     let parts = and_parts (x == y) (begins xs (ys ++ z ∷ [])) h in
     let first : x ≡ y = eqb-true x y parts.0 in
     ⊎_elim
-        (λ (e : begins xs ys ≡ true). inl (and_from (x == y) (begins xs ys) parts.0 e))
-        (λ (e : xs ≡ ys ++ z ∷ []). inr (let both : x ∷ xs ≡ y ∷ (ys ++ z ∷ []) = cc in both))
-        (begins-step xs ys z parts.1)
+    (λ (e : begins xs ys ≡ true). inl (and_from (x == y) (begins xs ys) parts.0 e))
+    (λ (e : xs ≡ ys ++ z ∷ []). inr (let both : x ∷ xs ≡ y ∷ (ys ++ z ∷ []) = cc in both))
+    (begins-step xs ys z parts.1)

@@ -1,5 +1,5 @@
 -- Which layouts a run may have, and the number by which another is refused (our profile).
-use Rattle.std.specs.Prelude.{ℕ, Bool, ◌&&◌, not, nat_le, nat_lt, List, length, Option, Some, None, if◌then◌else◌}
+use Rattle.std.specs.Prelude.{ℕ, Bool, ◌&&◌, not, nat_le, nat_lt, length, Option, Some, None, if◌then◌else◌}
 use Rattle.std.specs.List.{list_all}
 use Rattle.nfs_model.specs.Tree.{Layout, VolumeLayout}
 use Rattle.affinity.specs.declared.fault.LayoutFault.{LayoutFault}

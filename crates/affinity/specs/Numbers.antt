@@ -1,7 +1,6 @@
 -- The nodes of a layout by number: a parent has a smaller number than its children, and 0 is no node's.
 use Rattle.std.specs.Prelude.{◌≡◌, ℕ, zero, suc, ◌+◌, ◌<◌, List, [], ◌∷◌, ◌++◌, length, replicate, slice_index, Option, Some, None}
 use Rattle.nfs_model.specs.Tree.{Layout, VolumeLayout, Affinity, Serial, Aggregate, Volume, Logical, Stripe, Vbn, Range, stripes_of}
-use Rattle.affinity.specs.Tree.{parent_of}
 
 -- a volume's nodes: itself, Logical, its stripes, Vbn and 16 ranges
 abbrev pub nodes_of : VolumeLayout → ℕ

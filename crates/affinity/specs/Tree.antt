@@ -1,5 +1,5 @@
 -- The tree of affinities over a layout: its nodes, the parent of each, and what is above what (our profile).
-use Rattle.std.specs.Prelude.{◌≡◌, ℕ, ◌<◌, Bool, ◌&&◌, not, List, [], ◌∷◌, ◌++◌, length, Option, Some, None}
+use Rattle.std.specs.Prelude.{◌≡◌, ℕ, ◌<◌, Bool, ◌&&◌, not, [], ◌∷◌, ◌++◌, length, Option, Some, None}
 use Rattle.nfs_model.specs.Tree.{Layout, Affinity, Serial, Aggregate, Volume, Logical, Stripe, Vbn, Range, path, begins, aggregate_of, stripes_of}
 
 -- an affinity that the layout has: all 16 ranges of a volume are there, in use or not

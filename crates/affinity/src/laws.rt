@@ -56,7 +56,7 @@ pub fn exclusion_goes_by_numbers()
         → IsNode layout a
         → IsNode layout b
         → ((excludes layout a b ≡ true)
-            ↔ ((number_of layout a ≡ number_of layout b)
-                ⊎ (Contains (above (number_of layout b)) (number_of layout a)
-                    ⊎ Contains (above (number_of layout a)) (number_of layout b)))) }
+        ↔ ((number_of layout a ≡ number_of layout b)
+        ⊎ (Contains (above (number_of layout b)) (number_of layout a)
+        ⊎ Contains (above (number_of layout a)) (number_of layout b)))) }
 {}

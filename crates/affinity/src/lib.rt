@@ -5,14 +5,15 @@
 mod affinity;
 mod fault;
 mod home;
+pub mod laws;
 mod layout;
 mod nodes;
 mod printed;
 mod rules;
 mod specification;
+#[cfg(test)]
+mod tests;
 mod tree;
-
-pub mod laws;
 
 pub use affinity::{Affinity, Kind};
 pub use fault::LayoutFault;

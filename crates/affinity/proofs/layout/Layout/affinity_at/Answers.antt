@@ -1,4 +1,4 @@
-use Rattle.std.proofs.Common.{◌/◌, ◌-◌, arith, rules}
+use Rattle.std.proofs.Common.{◌/◌, ◌-◌, arith}
 use Rattle.affinity.specs.Layout.{layout_of}
 use Rattle.affinity.proofs.Lawful.{few_volumes}
 use Rattle.affinity.proofs.Places.{node_count_even, volume_number_even, stripes_even}
