@@ -8,3 +8,4 @@ pub mod Parents
 pub mod Numbered
 pub mod Smaller
 pub mod Chains
+pub mod Worked

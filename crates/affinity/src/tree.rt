@@ -108,6 +108,13 @@ impl Affinity {
             → IsNode (layout_of layout.now) (affinity_of other)
             → (IsTrue result ↔ ShareParcel (layout_of layout.now) (affinity_of self) (affinity_of other)) }
     {
+        self.meets(other, layout)
+    }
+
+    /// Whether it is another or one of the two is above the other.
+    fn meets(self, other: Affinity, layout: &Layout) -> bool
+        ensures { result ≡ excludes (layout_of layout.now) (affinity_of self) (affinity_of other) }
+    {
         self.covers(other, layout) || other.covers(self, layout)
     }
 }
