@@ -1,6 +1,6 @@
 -- Rows computed from the definitions: one aggregate with one spare range, two volumes of one range each.
-use Rattle.std.proofs.Common.{◌≡◌, ℕ, true, false, List, [], ◌∷◌, replicate, slice_index, Option, Some, None, refl}
-use Rattle.nfs_model.specs.Tree.{Layout, VolumeLayout, Affinity, Serial, Aggregate, Volume, Logical, Stripe, Vbn, Range}
+use Rattle.std.proofs.Common.{◌≡◌, ℕ, true, false, [], ◌∷◌, replicate, slice_index, Some, None, refl}
+use Rattle.nfs_model.specs.Tree.{Layout, VolumeLayout, Aggregate, Volume, Logical, Stripe, Range}
 use Rattle.affinity.specs.Fault.{fault_of}
 use Rattle.affinity.specs.Tree.{is_above, parent_of}
 use Rattle.affinity.specs.Numbers.{node_count, number_of, parents}
