@@ -5,6 +5,7 @@ use Rattle.std.proofs.lemmas.Bool.{and_parts, and_from, or_left, or_right, or_ca
 use Rattle.nfs_model.specs.Tree.{Layout, Affinity, Serial, Aggregate, Volume, Logical, Stripe, Vbn, Range, path, begins, excludes, aggregate_of}
 use Rattle.affinity.specs.Fault.{fault_of}
 use Rattle.affinity.specs.Tree.{IsNode, IsParent, is_above, covers, parent_of}
+use Rattle.affinity.specs.Under.{IsUnder}
 use Rattle.affinity.specs.Numbers.{number_of, number_or_none, parents, ListsAbove}
 use Rattle.affinity.proofs.Ways.{begins-longer, begins-length, begins-step}
 use Rattle.affinity.proofs.Lawful.{aggregate_known}
@@ -125,6 +126,24 @@ node_listed layout f lawful lists (Stripe v i) h =
 node_listed layout f lawful lists (Vbn v) h = vbn_listed layout f lawful lists v h
 node_listed layout f lawful lists (Range v r) h =
     child_listed layout f (Range v r) (Vbn v) h.0 (r, refl) (starts layout f (Range v r) (Vbn v) lists h refl) (vbn_listed layout f lawful lists v h.0)
+
+-- ---- parcels by numbers
+
+pub number_over : (layout : Layout) (f : ℕ → List ℕ) (a p : Affinity) → fault_of layout ≡ None → ListsAbove (parents layout) f → IsNode layout a → IsNode layout p
+    → IsUnder layout a p → (number_of layout a ≡ number_of layout p) ⊎ Contains (f (number_of layout p)) (number_of layout a)
+number_over layout f a p lawful lists m n h =
+    ⊎_elim
+        (λ (same : p ≡ a). inl (ap (number_of layout) (sym same)))
+        (λ (above : is_above layout a p ≡ true). inr ((node_listed layout f lawful lists p n).listed a m above))
+        h.1
+
+pub under_numbered : (layout : Layout) (f : ℕ → List ℕ) (a p : Affinity) → fault_of layout ≡ None → ListsAbove (parents layout) f → IsNode layout a → IsNode layout p
+    → (number_of layout a ≡ number_of layout p) ⊎ Contains (f (number_of layout p)) (number_of layout a) → IsUnder layout a p
+under_numbered layout f a p lawful lists m n h =
+    (n, ⊎_elim
+        (λ (same : number_of layout a ≡ number_of layout p). inl (sym (own_number layout a p m n same)))
+        (λ (found : Contains (f (number_of layout p)) (number_of layout a)). inr ((node_listed layout f lawful lists p n).above a m found))
+        h)
 
 -- ---- exclusion by numbers
 

@@ -19,8 +19,8 @@ const SPAN: u64 = 262_144;
 /// Larger counts of bytes are taken as this.
 const COUNT_LIMIT: u32 = 65_536;
 
-/// The volume and the fileid of a good handle.
-fn named_by(handle: &FileHandle, layout: &Layout) -> Option<(u32, u64)>
+/// The volume and the fileid of a good handle, which has 12 bytes and a volume that the layout has.
+pub fn named_by(handle: &FileHandle, layout: &Layout) -> Option<(u32, u64)>
     ensures named { result ≡ named_by (layout_of layout.now) handle.now }
     ensures there { IfSome result (λ h. h.0 < length (layout_of layout.now).volumes) }
 {

@@ -5,7 +5,7 @@ ghost use Rattle.std.specs.Prelude.{◌≡◌, ◌↔◌, ◌⊎◌, ◌+◌, �
 ghost use Rattle.nfs_model.specs.Tree.{Affinity, Layout, excludes};
 ghost use Rattle.affinity.specs.Fault.{fault_of};
 ghost use Rattle.affinity.specs.Tree.{IsNode, is_above, parent_of};
-ghost use Rattle.affinity.specs.Under.{ShareParcel};
+ghost use Rattle.affinity.specs.Under.{IsUnder, ShareParcel};
 ghost use Rattle.affinity.specs.Numbers.{ListsAbove, node_count, number_of, number_or_none, parents};
 
 /// Each node has a number of its own, and the numbers have no gap.
@@ -48,9 +48,18 @@ pub fn exclusion_is_sharing()
 {}
 
 /// Two nodes exclude each other just where their numbers are one, or one is among the numbers above
-/// the other.
+/// the other. A parcel is under a node just where the node's number is its own, or among those
+/// above it.
 pub fn exclusion_goes_by_numbers()
-    ensures { (layout : Layout) (above : ℕ → List ℕ) (a b : Affinity)
+    ensures under { (layout : Layout) (above : ℕ → List ℕ) (a parcel : Affinity)
+        → fault_of layout ≡ None
+        → ListsAbove (parents layout) above
+        → IsNode layout a
+        → IsNode layout parcel
+        → (IsUnder layout a parcel
+            ↔ ((number_of layout a ≡ number_of layout parcel)
+                ⊎ Contains (above (number_of layout parcel)) (number_of layout a))) }
+    ensures excludes { (layout : Layout) (above : ℕ → List ℕ) (a b : Affinity)
         → fault_of layout ≡ None
         → ListsAbove (parents layout) above
         → IsNode layout a

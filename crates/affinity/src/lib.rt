@@ -17,6 +17,6 @@ mod tree;
 
 pub use affinity::{Affinity, Kind};
 pub use fault::LayoutFault;
-pub use home::home_of;
+pub use home::{home_of, named_by};
 pub use layout::Layout;
 pub use specification::{AggregateSpec, VolumeSpec};
