@@ -8,6 +8,7 @@ use Rattle.nfs_model.specs.Types as types
 use Rattle.nfs_model.specs.Tree as trees
 use Rattle.nfs_model.specs.Server as servers
 use Rattle.nfs_model.specs.World as worlds
+use Rattle.nfs_model.specs.ReadOnly.{IsReading}
 use Rattle.nfs_model.specs.Serial.Step.{Step, serve, stay}
 use Rattle.nfs_model.specs.Events.Refusals as events
 use Rattle.nfs_model.specs.Events.Refusals.{begin_refusal, is_idle}
@@ -94,30 +95,32 @@ may-work s worker r e f g = rw (e, f, g) refl
 abbrev first_parts : Layout → worlds.Parts
 first_parts layout = opening_parts (record { aggregate = 0; ranges = layout.ranges; stripes = 8; mebibytes = 16 })
 
-stays_there : (server : servers.Server) (parts : List worlds.Parts) (affinity : trees.Affinity) (call : Call) (credential : types.Credential) → move_of server parts affinity (types.Ask (call_of call) credential) ≡ None
-stays_there server parts affinity calls.Null credential = refl
-stays_there server parts affinity (calls.GetAttributes handle) credential = refl
+stays_there : (server : servers.Server) (parts : List worlds.Parts) (affinity : trees.Affinity) (call : Call) (credential : types.Credential) → IsReading (call_of call) → move_of server parts affinity (types.Ask (call_of call) credential) ≡ None
+stays_there server parts affinity calls.Null credential h = refl
+stays_there server parts affinity (calls.GetAttributes handle) credential h = refl
+stays_there server parts affinity call credential h = absurd h
 
-parts_stay : (layout : Layout) (verifier : List ℕ) (root : Kept) (call : Call) (credential : types.Credential)
+parts_stay : (layout : Layout) (verifier : List ℕ) (root : Kept) (call : Call) (credential : types.Credential) → IsReading (call_of call)
     → PartsAfter (types.Ask (call_of call) credential) (trees.Logical 0) (server_of layout verifier root) (server_of layout verifier root) (map opening_parts (layout_of layout).volumes) (map opening_parts (layout_of layout).volumes)
-parts_stay layout verifier root calls.Null credential =
+parts_stay layout verifier root calls.Null credential h =
     record { volume = volume_of layout verifier root; new_volume = volume_of layout verifier root; parts = first_parts layout; new_parts = first_parts layout; volume_there = refl; new_volume_there = refl; parts_there = refl; change = refl; all = refl }
-parts_stay layout verifier root (calls.GetAttributes handle) credential =
+parts_stay layout verifier root (calls.GetAttributes handle) credential h =
     record { volume = volume_of layout verifier root; new_volume = volume_of layout verifier root; parts = first_parts layout; new_parts = first_parts layout; volume_there = refl; new_volume_there = refl; parts_there = refl; change = refl; all = refl }
+parts_stay layout verifier root call credential h = absurd h
 
-pub works : (s : State) (r : Running) (answer : types.Answer) → s.running ≡ Some r → IsLent s.home s.running → IsAnswer r.held.root (call_of r.message.call) answer
+pub works : (s : State) (r : Running) (answer : types.Answer) → s.running ≡ Some r → IsLent s.home s.running → IsReading (call_of r.message.call) → IsAnswer r.held.root (call_of r.message.call) answer
     → Works (world s) (running_of r) (worlds.Replied (types.Success answer)) (world s).server (world s).parts
-works s r answer e lent h =
+works s r answer e lent reading h =
     let credential = credential_of r.message.credential in
     let moment = moment_of r.moment in
     let root = kept_by s.home s.running in
     let same : root ≡ r.held.root = kept-lent s.home s.running r lent e in
     let answered : serve (server_of s.layout s.verifier root) (call_of r.message.call) credential moment ≡ stay (server_of s.layout s.verifier root) answer =
     subst (λ (k : Kept). serve (server_of s.layout s.verifier k) (call_of r.message.call) credential moment ≡ stay (server_of s.layout s.verifier k) answer) (sym same) (h s.layout s.verifier credential moment) in (
-      stays_there (world s).server (world s).parts (trees.Logical 0) r.message.call credential,
+      stays_there (world s).server (world s).parts (trees.Logical 0) r.message.call credential reading,
       ap (λ (t : Step). t.reply) (sym answered),
       ap (λ (t : Step). t.server) (sym answered),
-      subst (λ (sv : servers.Server). PartsAfter (types.Ask (call_of r.message.call) credential) (trees.Logical 0) (world s).server sv (world s).parts (world s).parts) refl (parts_stay s.layout s.verifier root r.message.call credential),
+      subst (λ (sv : servers.Server). PartsAfter (types.Ask (call_of r.message.call) credential) (trees.Logical 0) (world s).server sv (world s).parts (world s).parts) refl (parts_stay s.layout s.verifier root r.message.call credential reading),
     )
 
 -- ---- Finish

@@ -5,5 +5,6 @@ pub mod Numbers
 pub mod Seen
 pub mod Records
 pub mod Served
+pub mod Short
 pub mod Sound
 pub mod Engine

@@ -22,6 +22,7 @@ pub mod message;
 pub(crate) mod parcel;
 pub(crate) mod reading;
 pub(crate) mod reply;
+pub mod served;
 pub(crate) mod state;
 pub(crate) mod work;
 

@@ -9,6 +9,8 @@ mod fault;
 mod printing;
 mod program;
 mod replay;
+#[cfg(test)]
+mod rows;
 mod script;
 #[cfg(test)]
 mod tests;

@@ -64,7 +64,7 @@ fn expect(rt: &(impl Abort + AllocGlobal), script: &[u8], status: u8, printed: &
 }
 
 /// Runs these events after the layout.
-fn expect_events(
+pub(crate) fn expect_events(
     rt: &(impl Abort + AllocGlobal),
     events: &str,
     status: u8,

@@ -9,7 +9,7 @@ use Rattle.nfs_values.specs.declared.procedure.Procedure.{Procedure}
 use Rattle.nfs_values.specs.declared.procedure.Procedure.TheVariants.{Null, GetAttributes, SetAttributes, Lookup, Read, Write, Create, MakeDirectory, Remove, RemoveDirectory, ReadDirectory, FilesystemStatus, Commit, AdminNull, Census, Grow}
 use Rattle.nfs_types.specs.Arguments.{arguments_shape, call_from, Asks, asked_by, asked}
 
-asked_is : (procedure : Procedure) (bytes : List ℕ) → asked procedure bytes ≡ asked_by (arguments_shape procedure) (call_from procedure) bytes
+pub asked_is : (procedure : Procedure) (bytes : List ℕ) → asked procedure bytes ≡ asked_by (arguments_shape procedure) (call_from procedure) bytes
 asked_is Null bytes = refl
 asked_is GetAttributes bytes = refl
 asked_is SetAttributes bytes = refl

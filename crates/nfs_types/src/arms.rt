@@ -5,10 +5,9 @@ ghost use Rattle.nfs_values.specs.Attributes.{shown_of, change_of};
 ghost use Rattle.nfs_values.specs.Answer.{space_of};
 ghost use Rattle.nfs_types.specs.Results.{lookup_shape, lookup_value, read_shape, read_value, write_shape, write_value, made_shape, made_value, fsstat_shape, fsstat_value, commit_shape, commit_value};
 
-use crate::encode::Encode;
+use crate::encode::{Encode, size_of_present, write_absent, write_present};
 use nfs_values::{
-    Attributes, CommitResults, FilesystemStatusResults, LookupResults, MakeResults,
-    PriorAttributes, ReadResults, WriteResults,
+    CommitResults, FilesystemStatusResults, LookupResults, MakeResults, ReadResults, WriteResults,
 };
 
 /// FILE_SYNC (RFC 1813 section 3.3.7).
@@ -20,13 +19,13 @@ impl Encode for LookupResults {
     ghost value = { λ r. lookup_value r.handle (shown_of r.object) (shown_of r.directory) };
 
     fn size(&self) -> usize {
-        self.handle.size() + Some(self.object).size() + Some(self.directory).size()
+        self.handle.size() + size_of_present(&self.object) + size_of_present(&self.directory)
     }
 
     fn write(&self, out: &mut Vec<u8>) {
         self.handle.write(out);
-        Some(self.object).write(out);
-        Some(self.directory).write(out);
+        write_present(&self.object, out);
+        write_present(&self.directory, out);
     }
 }
 
@@ -40,7 +39,7 @@ impl Encode for ReadResults {
     }
 
     fn write(&self, out: &mut Vec<u8>) {
-        None::<Attributes>.write(out);
+        write_absent(out);
         (self.bytes.len() as u32).write(out);
         self.eof.write(out);
         self.bytes.write(out);
@@ -57,8 +56,8 @@ impl Encode for WriteResults {
     }
 
     fn write(&self, out: &mut Vec<u8>) {
-        None::<PriorAttributes>.write(out);
-        None::<Attributes>.write(out);
+        write_absent(out);
+        write_absent(out);
         self.count.write(out);
         FILE_SYNC.write(out);
         self.verifier.write(out);
@@ -71,12 +70,12 @@ impl Encode for MakeResults {
     ghost value = { λ r. made_value r.handle (shown_of r.object) (change_of r.directory) };
 
     fn size(&self) -> usize {
-        Some(self.handle).size() + Some(self.object).size() + self.directory.size()
+        size_of_present(&self.handle) + size_of_present(&self.object) + self.directory.size()
     }
 
     fn write(&self, out: &mut Vec<u8>) {
-        Some(self.handle).write(out);
-        Some(self.object).write(out);
+        write_present(&self.handle, out);
+        write_present(&self.object, out);
         self.directory.write(out);
     }
 }
@@ -87,11 +86,11 @@ impl Encode for FilesystemStatusResults {
     ghost value = { λ r. fsstat_value (shown_of r.root) (space_of r) };
 
     fn size(&self) -> usize {
-        Some(self.root).size() + 6 * 8 + 4
+        size_of_present(&self.root) + 6 * 8 + 4
     }
 
     fn write(&self, out: &mut Vec<u8>) {
-        Some(self.root).write(out);
+        write_present(&self.root, out);
         self.total_bytes.write(out);
         self.free_bytes.write(out);
         self.free_bytes.write(out);

@@ -1,8 +1,7 @@
 //! Values that are written where room for them was made.
 
-ghost use Rattle.std.specs.Prelude.{◌≡◌, ◌+◌, ◌≤◌, ◌<◌, ◌^◌, ◌++◌, length, vec_len, vec_capacity};
-ghost use Rattle.std.specs.Option.{option_map};
-ghost use Rattle.xdr.specs.Shape.{Shape, Value, Word, Hyper, Boolean, Optional, counted, padded, spelling};
+ghost use Rattle.std.specs.Prelude.{◌≡◌, ◌+◌, ◌≤◌, ◌<◌, ◌^◌, ◌++◌, length, Some, None, vec_len, vec_capacity};
+ghost use Rattle.xdr.specs.Shape.{Shape, Value, Void, Word, Hyper, Boolean, Optional, counted, padded, spelling};
 ghost use Rattle.nfs_values.specs.Attributes.{kind_of, kind_word, shown_of, before_of, change_of};
 ghost use Rattle.nfs_values.specs.Moment.{moment_of};
 ghost use Rattle.nfs_types.specs.Shapes.{handle_shape, any_bytes, verifier_shape, moment_shape, moment_value, kind_shape, device_shape, attributes_shape, attributes_value, prior_shape, prior_value, change_shape, change_value};
@@ -102,27 +101,34 @@ impl Encode for Vec<u8> {
     }
 }
 
-impl<T: Encode> Encode for Option<T> {
-    ghost shape = { Optional T.shape };
+/// How many bytes an optional part that is there takes.
+pub fn size_of_present<T: Encode>(part: &T) -> usize
+    requires { length (spelling (Optional T.shape) (Some (T.value part.now))) < 2 ^ 32 }
+    ensures { result ≡ length (spelling (Optional T.shape) (Some (T.value part.now))) }
+{
+    4 + part.size()
+}
 
-    ghost value = { λ o. option_map T.value o };
+/// Appends an optional part that is there, for which there is room.
+pub fn write_present<T: Encode>(part: &T, out: &mut Vec<u8>)
+    requires short { length (spelling (Optional T.shape) (Some (T.value part.now))) < 2 ^ 32 }
+    requires room { vec_len out.old + length (spelling (Optional T.shape) (Some (T.value part.now)))
+        ≤ vec_capacity out.old }
+    ensures items { out.new.items
+        ≡ out.old.items ++ spelling (Optional T.shape) (Some (T.value part.now)) }
+    ensures capacity { vec_capacity out.old ≤ vec_capacity out.new }
+{
+    true.write(out);
+    part.write(out);
+}
 
-    fn size(&self) -> usize {
-        match self {
-            None => 4,
-            Some(value) => 4 + value.size(),
-        }
-    }
-
-    fn write(&self, out: &mut Vec<u8>) {
-        match self {
-            None => false.write(out),
-            Some(value) => {
-                true.write(out);
-                value.write(out);
-            }
-        }
-    }
+/// Appends an optional part that is absent, for which there is room.
+pub fn write_absent(out: &mut Vec<u8>)
+    requires { vec_len out.old + 4 ≤ vec_capacity out.old }
+    ensures items { out.new.items ≡ out.old.items ++ spelling (Optional Void) None }
+    ensures capacity { vec_capacity out.old ≤ vec_capacity out.new }
+{
+    false.write(out);
 }
 
 impl Encode for FileHandle {
@@ -230,11 +236,11 @@ impl Encode for Change {
     ghost value = { λ c. change_value (change_of c) };
 
     fn size(&self) -> usize {
-        Some(self.before).size() + Some(self.after).size()
+        size_of_present(&self.before) + size_of_present(&self.after)
     }
 
     fn write(&self, out: &mut Vec<u8>) {
-        Some(self.before).write(out);
-        Some(self.after).write(out);
+        write_present(&self.before, out);
+        write_present(&self.after, out);
     }
 }

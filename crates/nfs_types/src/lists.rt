@@ -7,7 +7,7 @@ ghost use Rattle.nfs_values.specs.Attributes.{shown_of};
 ghost use Rattle.nfs_values.specs.Answer.{entry_of, count_of};
 ghost use Rattle.nfs_types.specs.Results.{entry_shape, entry_value, readdir_shape, readdir_value, count_shape, count_value, census_shape};
 
-use crate::encode::Encode;
+use crate::encode::{Encode, size_of_present, write_present};
 use nfs_values::{Entry, ReadDirectoryResults, Verifier, VolumeCount};
 
 impl Encode for Entry {
@@ -66,11 +66,11 @@ impl Encode for ReadDirectoryResults {
     ghost value = { λ r. readdir_value (shown_of r.directory) (map entry_of r.entries.items) r.eof };
 
     fn size(&self) -> usize {
-        Some(self.directory).size() + 8 + size_of_entries(&self.entries) + 4
+        size_of_present(&self.directory) + 8 + size_of_entries(&self.entries) + 4
     }
 
     fn write(&self, out: &mut Vec<u8>) {
-        Some(self.directory).write(out);
+        write_present(&self.directory, out);
         Verifier([0; 8]).write(out);
         write_entries(&self.entries, out);
         self.eof.write(out);

@@ -7,7 +7,7 @@ ghost use Rattle.nfs_values.specs.Procedure.{failure_parts};
 ghost use Rattle.nfs_values.specs.Status.{status_of};
 ghost use Rattle.nfs_types.specs.Results.{absent_parts, answer_bytes, done};
 
-use crate::encode::Encode;
+use crate::encode::{Encode, write_absent};
 use nfs_values::{Answer, Procedure, Status};
 use std::alloc::AllocError;
 
@@ -25,13 +25,13 @@ fn write_done<T: Encode>(arm: &T, out: &mut Vec<u8>)
 
 /// So many optional parts that are absent.
 #[tactic(auto, using(crate::proofs::Absent::absent))]
-fn write_absent(count: u32, out: &mut Vec<u8>)
+fn write_absent_parts(count: u32, out: &mut Vec<u8>)
     requires { vec_len out.old + 4 * count ≤ vec_capacity out.old }
     ensures items { out.new.items ≡ out.old.items ++ absent_parts count }
     ensures capacity { vec_capacity out.old ≤ vec_capacity out.new }
 {
     for _part in 0..count {
-        false.write(out);
+        write_absent(out);
     }
 }
 
@@ -47,7 +47,7 @@ fn write_failed(procedure: Procedure, status: Status, out: &mut Vec<u8>)
     ensures capacity { vec_capacity out.old ≤ vec_capacity out.new }
 {
     status.word().write(out);
-    write_absent(procedure.failure_parts(), out);
+    write_absent_parts(procedure.failure_parts(), out);
 }
 
 fn write_result(answer: &Answer, out: &mut Vec<u8>)

@@ -59,6 +59,25 @@ fn names_are_copied(rt: HostRuntime) -> Result<(), Fail> {
 }
 
 #[test]
+fn second_spellings_are_refused(rt: HostRuntime) -> Result<(), Fail> {
+    // the handle of a root, and the name `abc` without its padding
+    let root = [
+        0, 0, 0, 12, 0, 0, 0, 0, 0, 0, 0, 0, 0, 0, 0, 1, 0, 0, 0, 3, b'a', b'b', b'c',
+    ];
+    let padded = joined(rt.alloc(), &[&root, &[1]])?;
+    let Err(Bad::Fault(fault)) = decode_args(rt.alloc(), Procedure::Lookup, &padded) else {
+        return Err("padding that isn't zero".into());
+    };
+    assert_eq!(rt; fault.number(), 4);
+    let longer = joined(rt.alloc(), &[&root, &[0, 0, 0, 0, 0]])?;
+    let Err(Bad::Fault(fault)) = decode_args(rt.alloc(), Procedure::Lookup, &longer) else {
+        return Err("bytes behind the name".into());
+    };
+    assert_eq!(rt; fault.number(), 6);
+    Ok(())
+}
+
+#[test]
 fn names_are_made_with_attributes(rt: HostRuntime) -> Result<(), Fail> {
     let guarded = joined(rt.alloc(), &[&TARGET, &[0, 0, 0, 1], &SET])?;
     let Call::Create { target, mode } = decode_args(rt.alloc(), Procedure::Create, &guarded)? else {

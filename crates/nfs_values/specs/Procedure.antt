@@ -1,6 +1,11 @@
-use Rattle.std.specs.Prelude.{ℕ, Bool, true, false}
+use Rattle.std.specs.Prelude.{ℕ, Bool, true, false, List, [], ◌∷◌}
 use Rattle.nfs_values.specs.declared.procedure.Procedure.{Procedure}
 use Rattle.nfs_values.specs.declared.procedure.Procedure.TheVariants.{Null, GetAttributes, SetAttributes, Lookup, Read, Write, Create, MakeDirectory, Remove, RemoveDirectory, ReadDirectory, FilesystemStatus, Commit, AdminNull, Census, Grow}
+
+-- all of them
+abbrev pub all_procedures : List Procedure
+all_procedures =
+    Null ∷ GetAttributes ∷ SetAttributes ∷ Lookup ∷ Read ∷ Write ∷ Create ∷ MakeDirectory ∷ Remove ∷ RemoveDirectory ∷ ReadDirectory ∷ FilesystemStatus ∷ Commit ∷ AdminNull ∷ Census ∷ Grow ∷ []
 
 -- program and procedure of NFS (RFC 1813 section 3) and of the admin program (our profile)
 abbrev pub numbers_of : Procedure → ℕ × ℕ

@@ -8,10 +8,13 @@ use Rattle.nfs_model.specs.World.{Heard, IsDecoded}
 use Rattle.nfs_model.specs.ReadOnly.{AsksReading}
 use Rattle.nfs_values.specs.declared.procedure.Procedure.{Procedure}
 use Rattle.nfs_values.specs.declared.procedure.Procedure.TheVariants.{Null, GetAttributes, AdminNull}
+use Rattle.nfs_values.specs.Procedure.{is_served}
 use Rattle.nfs_types.specs.Arguments.{asked, asked_by as call_in, arguments_shape, call_from}
 use Rattle.nfs_types.specs.Shapes.{◌&◌}
+use Rattle.nfs_types.proofs.Exact.{asked_is}
 use Rattle.rpc_msg.specs.Heads.{Stop, Incomplete, Refuse, Body, Head, Call, Refused, Faulty, xid_of, body_at, under, head_from, head_of}
 use Rattle.rpc_msg.specs.Records.{asked_by, heard_from, heard}
+use Rattle.rpc_msg.proofs.Serving.{HeadServes, head_serves}
 
 -- ---- faults
 
@@ -49,21 +52,17 @@ asks_decoded : (credential : model.Credential) (r : Result model.Call Unread) �
 asks_decoded credential (Ok call) = tt
 asks_decoded credential (Err fault) = tt
 
--- with the procedures that are served
-asks_reading : (procedure : Procedure) (credential : model.Credential) (r : Result (Value (arguments_shape procedure)) Unread) → AsksReading (asked_by credential (r >>= λ v. Ok (call_from procedure v)))
-asks_reading Null credential (Ok v) = tt
-asks_reading GetAttributes credential (Ok v) = tt
-asks_reading AdminNull credential (Ok v) = tt
-asks_reading procedure credential (Err fault) = tt
+-- with a procedure that is served
+asks_reading : (procedure : Procedure) → is_served procedure ≡ true → (credential : model.Credential) (r : Result (Value (arguments_shape procedure)) Unread) → AsksReading (asked_by credential (r >>= λ v. Ok (call_from procedure v)))
+asks_reading procedure served credential (Err fault) = tt
+asks_reading Null served credential (Ok v) = tt
+asks_reading GetAttributes served credential (Ok v) = tt
+asks_reading AdminNull served credential (Ok v) = tt
+asks_reading procedure served credential (Ok v) = absurd cc
 
-asked_is : (procedure : Procedure) (bytes : List ℕ) → asked procedure bytes ≡ call_in (arguments_shape procedure) (call_from procedure) bytes
-asked_is Null bytes = refl
-asked_is GetAttributes bytes = refl
-asked_is AdminNull bytes = refl
-
-asked_reading : (procedure : Procedure) (credential : model.Credential) (bytes : List ℕ) → AsksReading (asked_by credential (asked procedure bytes))
-asked_reading procedure credential bytes =
-    subst (λ (r : Result model.Call Unread). AsksReading (asked_by credential r)) (sym (asked_is procedure bytes)) (asks_reading procedure credential (all_of (arguments_shape procedure) bytes))
+asked_reading : (procedure : Procedure) → is_served procedure ≡ true → (credential : model.Credential) (bytes : List ℕ) → AsksReading (asked_by credential (asked procedure bytes))
+asked_reading procedure served credential bytes =
+    subst (λ (r : Result model.Call Unread). AsksReading (asked_by credential r)) (sym (asked_is procedure bytes)) (asks_reading procedure served credential (all_of (arguments_shape procedure) bytes))
 
 -- what holds of what is asked, where it is told
 abbrev pub told : Heard → Result Heard ℕ
@@ -82,10 +81,10 @@ decoded (Faulty number) h e = absurd cc
 pub record_is_decoded : (bytes : List ℕ) (h : Heard) → heard bytes ≡ Ok h → IsDecoded h.asked
 record_is_decoded bytes = decoded (head_of bytes)
 
-reading : (head : Head) (h : Heard) → heard_from head ≡ Ok h → AsksReading h.asked
-reading (Call xid procedure credential arguments) h e = same_heard AsksReading _ h e (asked_reading procedure credential arguments)
-reading (Refused xid reply) h e = same_heard AsksReading _ h e tt
-reading (Faulty number) h e = absurd cc
+reading : (head : Head) (h : Heard) → HeadServes head → heard_from head ≡ Ok h → AsksReading h.asked
+reading (Call xid procedure credential arguments) h s e = same_heard AsksReading _ h e (asked_reading procedure s credential arguments)
+reading (Refused xid reply) h s e = same_heard AsksReading _ h e tt
+reading (Faulty number) h s e = absurd cc
 
 pub record_asks_reading : (bytes : List ℕ) (h : Heard) → heard bytes ≡ Ok h → AsksReading h.asked
-record_asks_reading bytes = reading (head_of bytes)
+record_asks_reading bytes h = reading (head_of bytes) h (head_serves (read (Word & Word) bytes))

@@ -11,11 +11,12 @@ use Rattle.xdr.proofs.Shapes.{found, all_found}
 use Rattle.xdr.proofs.Steps.{chosen}
 use Rattle.nfs_model.specs.Types as model
 use Rattle.nfs_values.specs.declared.procedure.Procedure.{Procedure}
-use Rattle.nfs_values.specs.Procedure.{numbers_of}
+use Rattle.nfs_values.specs.Procedure.{all_procedures, is_served, numbers_of}
 use Rattle.nfs_types.specs.Shapes.{◌&◌}
 use Rattle.rpc_msg.specs.Replies.{auth_shape}
 use Rattle.rpc_msg.specs.Heads.{◌>>=◌, Stop, Incomplete, Refuse, Body, Call, whole, version_at, numbers_shape, auth_sys_shape, nobody, user, body_of, user_of, acting, bad_credential, rejected_credential, credential_at, version_of, procedures, is_numbered, available, of_version, procedure_of, body_at, under, xid_at, head_from, head_of}
 use Rattle.rpc_msg.specs.Calls.{ActsFor, IsCall, call_shape, call_value}
+use Rattle.rpc_msg.proofs.Numbered.{FoundIs, found_is}
 use Rattle.rpc_msg.proofs.Steps.{then_ok, sure_is, whole_ok, xid_ok}
 
 -- ---- the credential
@@ -127,11 +128,11 @@ version_found bytes rest fits e =
       | inr h ↦ absurd cc
     ]
 
-procedure_found : (program version number : ℕ) (p : Procedure) → procedure_of program version number ≡ Ok p → (version_of program ≡ Some version) × ((numbers_of p).0 ≡ program) × ((numbers_of p).1 ≡ number)
+procedure_found : (program version number : ℕ) (p : Procedure) → procedure_of program version number ≡ Ok p → (version_of program ≡ Some version) × ((numbers_of p).0 ≡ program) × ((numbers_of p).1 ≡ number) × (is_served p ≡ true)
 procedure_found program version number p e =
     let o = of_version_ok (version_of program) version (find (is_numbered program number) procedures) p e in
     let t = both_true (eqb (numbers_of p).0 program) (eqb (numbers_of p).1 number) (find_is (is_numbered program number) procedures p o.1) in
-    (o.0, eqb-true _ _ t.0, eqb-true _ _ t.1)
+    (o.0, eqb-true _ _ t.0, eqb-true _ _ t.1, subst (FoundIs is_served) o.1 (found_is is_served (is_numbered program number) all_procedures))
 
 -- rpcvers 2, prog, vers, proc, cred and verf
 abbrev pub body_shape : Shape
@@ -150,7 +151,8 @@ record BodyIs (bytes : List ℕ) (body : Body) : Type 0 where
   version : ℕ
   cred : Value auth_shape
   verf : Value auth_shape
-  is_served : version_of (numbers_of body.procedure).0 ≡ Some version
+  served : is_served body.procedure ≡ true
+  version_is : version_of (numbers_of body.procedure).0 ≡ Some version
   acts_for : ActsFor cred body.credential
   fits : Fits body_shape (body_value (numbers_of body.procedure) version cred verf)
   bytes_are : bytes ≡ spelling body_shape (body_value (numbers_of body.procedure) version cred verf) ++ body.arguments
@@ -185,7 +187,7 @@ body_found bytes body fits e =
     let G : ℕ → ℕ → Type 0 = λ a b. Fits body_shape (body_value (a, b) version cred w.0.0) × (bytes ≡ spelling body_shape (body_value (a, b) version cred w.0.0) ++ w.0.1) in
     let both : G (numbers_of p.0).0 (numbers_of p.0).1 = subst (λ (b : ℕ). G (numbers_of p.0).0 b) (sym ps.2) (subst (λ (a : ℕ). G a number) (sym ps.1) (all_fit, parts)) in
     subst (λ (b : Body). BodyIs bytes b) (sure_is made body p.2)
-    (record { version = version; cred = cred; verf = w.0.0; is_served = ap version_of ps.1 ∙ ps.0; acts_for = cs.acts; fits = both.0; bytes_are = both.1 })
+    (record { version = version; cred = cred; verf = w.0.0; served = ps.3; version_is = ap version_of ps.1 ∙ ps.0; acts_for = cs.acts; fits = both.0; bytes_are = both.1 })
 
 -- ---- the head
 
@@ -210,4 +212,4 @@ call_found bytes xid p who arguments fits e =
     let b = body_found h.0.1 (record { procedure = p; credential = who; arguments = arguments }) f.0.rest_fits u.1 in
     let parts : bytes ≡ spelling call_shape (call_value h.0.0 (numbers_of p) b.version b.cred b.verf) ++ arguments = f.0.parts ∙ ap (λ (t : List ℕ). spelling (Word & Word) (h.0.0, 0) ++ t) b.bytes_are in
     subst (λ (x : ℕ). IsCall bytes x p who arguments) u.0
-    (record { version = b.version; cred = b.cred; verf = b.verf; is_served = b.is_served; acts_for = b.acts_for; fits = (f.1.0, (f.1.1, b.fits)); bytes_are = parts })
+    (record { version = b.version; cred = b.cred; verf = b.verf; served = b.served; version_is = b.version_is; acts_for = b.acts_for; fits = (f.1.0, (f.1.1, b.fits)); bytes_are = parts })

@@ -1,9 +1,9 @@
 -- A call that is served, as one message (RFC 5531 section 9).
-use Rattle.std.specs.Prelude.{◌≡◌, ℕ, List, ◌++◌, ◌⊎◌, Some}
+use Rattle.std.specs.Prelude.{◌≡◌, ℕ, true, List, ◌++◌, ◌⊎◌, Some}
 use Rattle.xdr.specs.Shape.{Shape, Word, Value, Fits, Spells, spelling}
 use Rattle.nfs_model.specs.Types as model
 use Rattle.nfs_values.specs.declared.procedure.Procedure.{Procedure}
-use Rattle.nfs_values.specs.Procedure.{numbers_of}
+use Rattle.nfs_values.specs.Procedure.{is_served, numbers_of}
 use Rattle.nfs_types.specs.Shapes.{◌&◌}
 use Rattle.rpc_msg.specs.Replies.{auth_shape}
 use Rattle.rpc_msg.specs.Heads.{auth_sys_shape, nobody, user, version_of}
@@ -24,7 +24,8 @@ pub record IsCall (bytes : List ℕ) (xid : ℕ) (procedure : Procedure) (who : 
   pub version : ℕ
   pub cred : Value auth_shape
   pub verf : Value auth_shape
-  pub is_served : version_of (numbers_of procedure).0 ≡ Some version
+  pub served : is_served procedure ≡ true
+  pub version_is : version_of (numbers_of procedure).0 ≡ Some version
   pub acts_for : ActsFor cred who
   pub fits : Fits call_shape (call_value xid (numbers_of procedure) version cred verf)
   pub bytes_are : bytes ≡ spelling call_shape (call_value xid (numbers_of procedure) version cred verf) ++ arguments

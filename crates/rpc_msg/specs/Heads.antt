@@ -1,13 +1,13 @@
 -- The head of a record: what stands before the arguments of a call (RFC 5531 section 9), in the order in which it is read. The order, and the first that applies decides, is our profile.
-use Rattle.std.specs.Prelude.{ℕ, Bool, List, [], ◌∷◌, ◌&&◌, ◌==◌, nat_lt, Option, Some, None, Result, Ok, Err, find, if◌then◌else◌}
+use Rattle.std.specs.Prelude.{ℕ, Bool, List, ◌&&◌, ◌==◌, nat_lt, Option, Some, None, Result, Ok, Err, find, if◌then◌else◌}
+use Rattle.std.specs.List.{filter}
 use Rattle.xdr.specs.declared.fault.Fault.{Fault as Unread}
 use Rattle.xdr.specs.declared.fault.Fault.TheVariants.{Short}
 use Rattle.xdr.specs.Shape.{Shape, Word, Fixed, Opaque, Array, Value}
 use Rattle.xdr.specs.Reading.{Reads, read, all_of}
 use Rattle.nfs_model.specs.Types as model
 use Rattle.nfs_values.specs.declared.procedure.Procedure.{Procedure}
-use Rattle.nfs_values.specs.declared.procedure.Procedure.TheVariants.{Null, GetAttributes, AdminNull}
-use Rattle.nfs_values.specs.Procedure.{numbers_of}
+use Rattle.nfs_values.specs.Procedure.{all_procedures, is_served, numbers_of}
 use Rattle.nfs_types.specs.Shapes.{◌&◌}
 use Rattle.rpc_msg.specs.Replies.{auth_shape}
 
@@ -94,9 +94,9 @@ credential_at flavor size bytes =
 abbrev pub version_of : ℕ → Option ℕ
 version_of program = if program == 100003 then Some 3 else if program == 536870913 then Some 1 else None
 
--- the procedures that are served
+-- the procedures that are served so far
 abbrev pub procedures : List Procedure
-procedures = Null ∷ GetAttributes ∷ AdminNull ∷ []
+procedures = filter is_served all_procedures
 
 abbrev pub is_numbered : ℕ → ℕ → Procedure → Bool
 is_numbered program number procedure = ((numbers_of procedure).0 == program) && ((numbers_of procedure).1 == number)

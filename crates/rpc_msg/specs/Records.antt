@@ -1,9 +1,9 @@
 -- The call of a record (RFC 5531 section 9): what its head and its arguments ask.
-use Rattle.std.specs.Prelude.{ℕ, Bool, false, List, Result, Ok, Err}
+use Rattle.std.specs.Prelude.{ℕ, List, Result, Ok, Err}
 use Rattle.xdr.specs.declared.fault.Fault.{Fault as Unread}
 use Rattle.nfs_model.specs.Types as model
 use Rattle.nfs_model.specs.World.{Heard}
-use Rattle.nfs_types.specs.Arguments.{asked, takes_memory}
+use Rattle.nfs_types.specs.Arguments.{asked}
 use Rattle.rpc_msg.specs.Heads.{Head, Call, Refused, Faulty, head_of}
 
 -- the call, or GARBAGE_ARGS where its arguments are no spelling or bytes are left
@@ -19,11 +19,3 @@ heard_from (Faulty number) = Err number
 -- what a record asks under its xid, or the number of its fault
 abbrev pub heard : List ℕ → Result Heard ℕ
 heard bytes = heard_from (head_of bytes)
-
--- its arguments have a name or data
-abbrev pub memory_from : Head → Bool
-memory_from (Call xid procedure credential arguments) = takes_memory procedure
-memory_from head = false
-
-abbrev pub needs_memory : List ℕ → Bool
-needs_memory bytes = memory_from (head_of bytes)

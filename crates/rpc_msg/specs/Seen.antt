@@ -1,9 +1,10 @@
 -- What the code's values are in the definitions.
-use Rattle.std.specs.Prelude.{◌≡◌, ℕ, Bool, true, List, Result, Ok, Err}
+use Rattle.std.specs.Prelude.{◌≡◌, ℕ, true, List, Result, Ok, Err}
 use Rattle.std.specs.Borrow.{Bor}
 use Rattle.xdr.specs.Reading.{Reads}
 use Rattle.nfs_model.specs.Types as model
 use Rattle.nfs_model.specs.World as world
+use Rattle.nfs_model.specs.Serial.Starve.{has_bytes}
 use Rattle.nfs_values.specs.Call.{call_of}
 use Rattle.nfs_values.specs.Credential.{credential_of}
 use Rattle.nfs_values.specs.Reply.{reply_of}
@@ -60,13 +61,13 @@ abbrev pub passed : {A : Type 0} → Reads A → Reads (Unit {0})
 passed (Ok x) = Ok (tt, x.1)
 passed (Err fault) = Err fault
 
--- What a record asks, as it is told. None is told only where memory ran out: where a call is asked by a name or data.
-abbrev pub Tells : ℕ → Request → Bool → Result world.Heard ℕ → Type 0
-Tells xid (requests.Call call credential) memory heard = heard ≡ Ok (record { xid = xid; asked = model.Ask (call_of call) (credential_of credential) })
-Tells xid (requests.Refused reply) memory heard = heard ≡ Ok (record { xid = xid; asked = model.Refused (reply_of reply) })
-Tells xid requests.Undecoded memory heard =
-    (memory ≡ true) × ((call : model.Call) × ((credential : model.Credential) × (heard ≡ Ok (record { xid = xid; asked = model.Ask call credential }))))
+-- What a record asks, as it is told. None is told only where memory ran out: where a call has a name or data.
+abbrev pub Tells : ℕ → Request → Result world.Heard ℕ → Type 0
+Tells xid (requests.Call call credential) heard = heard ≡ Ok (record { xid = xid; asked = model.Ask (call_of call) (credential_of credential) })
+Tells xid (requests.Refused reply) heard = heard ≡ Ok (record { xid = xid; asked = model.Refused (reply_of reply) })
+Tells xid requests.Undecoded heard =
+    (call : model.Call) × ((credential : model.Credential) × (has_bytes call ≡ true) × (heard ≡ Ok (record { xid = xid; asked = model.Ask call credential })))
 
-abbrev pub Hears : Result Heard Fault → Bool → Result world.Heard ℕ → Type 0
-Hears (Ok h) memory heard = Tells h.xid h.request memory heard
-Hears (Err fault) memory heard = heard ≡ Err (fault_number fault)
+abbrev pub Hears : Result Heard Fault → Result world.Heard ℕ → Type 0
+Hears (Ok h) heard = Tells h.xid h.request heard
+Hears (Err fault) heard = heard ≡ Err (fault_number fault)

@@ -1,9 +1,8 @@
 //! What records ask.
 
 ghost use Rattle.nfs_values.specs.Credential.{credential_of};
-ghost use Rattle.nfs_types.specs.Arguments.{takes_memory};
 ghost use Rattle.rpc_msg.specs.Heads.{Call as Asks};
-ghost use Rattle.rpc_msg.specs.Records.{heard, heard_from, needs_memory};
+ghost use Rattle.rpc_msg.specs.Records.{heard, heard_from};
 ghost use Rattle.rpc_msg.specs.Seen.{Hears, Tells};
 
 use crate::fault::Fault;
@@ -37,7 +36,7 @@ fn decode(
     credential: Credential,
     arguments: &[u8],
 ) -> Request
-    ensures { Tells xid result (takes_memory procedure)
+    ensures { Tells xid result
         (heard_from (Asks xid procedure (credential_of credential) arguments.now)) }
 {
     match decode_args(alloc, procedure, arguments) {
@@ -49,7 +48,7 @@ fn decode(
 
 /// Reads a whole record (RFC 5531 section 9). Only names and data take memory.
 pub fn read_record(alloc: Global, bytes: &[u8]) -> Result<Heard, Fault>
-    ensures { Hears result (needs_memory bytes.now) (heard bytes.now) }
+    ensures { Hears result (heard bytes.now) }
 {
     match read_call(bytes) {
         Head::Call {

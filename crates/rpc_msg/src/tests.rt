@@ -22,10 +22,13 @@ fn null_of_a_user(rt: HostRuntime) -> Result<(), Fail> {
     )?;
     let heard = read_record(rt.alloc(), &record).map_err(|_fault| "fault")?;
     assert_eq!(rt; heard.xid, 9);
-    let Request::Call { call, credential } = heard.request else {
-        return Err(Fail::from("no call"));
+    let Request::Call {
+        call: Call::Null,
+        credential,
+    } = &heard.request
+    else {
+        return Err(Fail::from("no NULL"));
     };
-    assert!(rt; matches!(call, Call::Null));
     assert_eq!(rt; credential.uid, 1000);
     assert_eq!(rt; credential.gid, 100);
     Ok(())

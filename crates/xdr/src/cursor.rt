@@ -44,6 +44,13 @@ impl<'a> Cursor<'a> {
         Cursor { rest: bytes }
     }
 
+    /// The bytes that are still to be read.
+    pub fn rest(&self) -> &'a [u8]
+        ensures { result.now ≡ self.now }
+    {
+        self.rest
+    }
+
     /// An unsigned integer (RFC 4506, section 4.2).
     pub fn u32(&mut self) -> Result<u32, Fault>
         ensures { Takes (λ x. x) result (read Word self.old) self.old self.new }

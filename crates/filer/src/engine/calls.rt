@@ -11,6 +11,7 @@ use crate::engine::affinity::Affinity;
 use crate::engine::event::{Done, Refusal};
 use crate::engine::finishing::{keep_entry, respond};
 use crate::engine::message::{Request, Running};
+use crate::engine::served::ServedAnswer;
 use crate::engine::state::{SECOND, STAMPS, State};
 use crate::engine::work;
 use nfs_values::{Moment, Reply};
@@ -66,7 +67,8 @@ pub(crate) fn work(state: &mut State, worker: usize) -> Result<Done, Refusal>
     }
     match &mut state.running {
         Some(running) if running.answer.is_none() => {
-            running.answer = Some(work::answer(&running.held, &running.message.call));
+            let answer = work::answer(&running.held, running.message.call.as_call());
+            running.answer = Some(ServedAnswer::new(answer));
             Ok(Done::Replied)
         }
         _ => Err(Refusal::NoWork),
@@ -108,7 +110,7 @@ pub(crate) fn finish(state: &mut State, worker: usize) -> Result<Done, Refusal>
         credential: message.credential,
     };
     let affinity = Some(Affinity::VolumeLogical(0));
-    let count = respond(state, origin, &Reply::Success(answer));
+    let count = respond(state, origin, &Reply::Success(answer.into_answer()));
     keep_entry(state, origin, request, affinity, moment);
     Ok(Done::Written {
         connection: origin.connection,

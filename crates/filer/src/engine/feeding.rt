@@ -74,7 +74,7 @@ fn admit(state: &mut State, number: usize, heard: Heard)
     };
     match heard.request {
         Request::Refused(reply) => {
-            respond(state, origin, &reply);
+            respond(state, origin, reply.as_reply());
             keep_entry(state, origin, Request::Refused(reply), None, START);
         }
         Request::Call { call, credential } => match home_of(&call) {

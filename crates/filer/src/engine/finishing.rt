@@ -4,6 +4,7 @@ ghost use Rattle.std.specs.Prelude.{◌≡◌, ◌+◌, ◌≤◌, ◌<◌, ◌+
 ghost use Rattle.nfs_model.specs.World.{changed_at, with_output};
 ghost use Rattle.nfs_model.specs.Events.Step.{bytes_if_open};
 ghost use Rattle.nfs_values.specs.Reply.{reply_of};
+ghost use Rattle.rpc_msg.specs.Replies.{IsShort};
 ghost use Rattle.filer.specs.Codec.{reply_record};
 ghost use Rattle.filer.specs.Seen.{world, entry_by};
 ghost use Rattle.filer.specs.Sound.{IsWrittenTo, Responds, KeepsEntry};
@@ -17,7 +18,8 @@ use nfs_values::{Moment, Reply};
 
 /// Writes a reply record, and answers how many bytes it has.
 fn write_to(last: &mut OpenConnection, xid: u32, reply: &Reply) -> usize
-    requires { vec_len last.old.output + 116 ≤ vec_capacity last.old.output }
+    requires short { IsShort (reply_of reply.now) }
+    requires room { vec_len last.old.output + 116 ≤ vec_capacity last.old.output }
     ensures output { last.new.output.items ≡ last.old.output.items ++ reply_record xid (reply_of reply.now) }
     ensures count { result ≡ length (reply_record xid (reply_of reply.now)) }
     ensures written { IsWrittenTo last.old last.new }
@@ -30,7 +32,8 @@ fn write_to(last: &mut OpenConnection, xid: u32, reply: &Reply) -> usize
 /// Writes the reply to a record's call, and answers how many bytes it has: none where the
 /// record's connection is closed.
 pub(crate) fn respond(state: &mut State, origin: Origin, reply: &Reply) -> usize
-    requires { IfSome state.old.current (λ c. vec_len c.output + 116 ≤ vec_capacity c.output) }
+    requires short { IsShort (reply_of reply.now) }
+    requires room { IfSome state.old.current (λ c. vec_len c.output + 116 ≤ vec_capacity c.output) }
     ensures written { world state.new ≡ record (world state.old) { connections = changed_at (with_output (reply_record origin.xid (reply_of reply.now))) (world state.old).connections origin.connection } }
     ensures count { result ≡ length (bytes_if_open (slice_get (world state.old).connections origin.connection) (reply_record origin.xid (reply_of reply.now))) }
     ensures responds { Responds state.old state.new }

@@ -2,7 +2,8 @@
 
 use crate::engine::affinity::Affinity;
 use crate::engine::parcel::VolumeLogical;
-use nfs_values::{Answer, Call, Credential, Moment, Reply};
+use crate::engine::served::{Refused, ServedAnswer, ServedCall};
+use nfs_values::{Credential, Moment};
 
 /// The record that a call came in.
 #[derive(Clone, Copy, Debug, PartialEq, Eq)]
@@ -17,9 +18,12 @@ pub struct Origin {
 #[derive(Drop)]
 pub enum Request {
     /// A call, and whom it acts for.
-    Call { call: Call, credential: Credential },
-    /// A call message that is refused before its arguments are read.
-    Refused(Reply),
+    Call {
+        call: ServedCall,
+        credential: Credential,
+    },
+    /// A call message that is refused.
+    Refused(Refused),
 }
 
 /// What was read of a record.
@@ -33,7 +37,7 @@ pub struct Heard {
 #[derive(Drop)]
 pub struct Message {
     pub origin: Origin,
-    pub call: Call,
+    pub call: ServedCall,
     pub credential: Credential,
 }
 
@@ -44,7 +48,7 @@ pub struct Running {
     pub moment: Moment,
     pub(crate) held: VolumeLogical,
     /// What it is answered, once the message is worked.
-    pub answer: Option<Answer>,
+    pub answer: Option<ServedAnswer>,
 }
 
 /// A finished call.

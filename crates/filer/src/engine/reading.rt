@@ -6,6 +6,7 @@ ghost use Rattle.filer.specs.Records.{fault_of, read_of};
 
 use crate::engine::event::StreamFault;
 use crate::engine::message::{Heard, Request};
+use crate::engine::served::{Refused, ServedCall};
 use std::alloc::Global;
 
 /// The fault of a stream that a record's fault is.
@@ -27,11 +28,14 @@ pub(crate) fn read_record(alloc: Global, bytes: &[u8]) -> Result<Heard, StreamFa
         Ok(rpc_msg::Heard { xid, request }) => match request {
             rpc_msg::Request::Call { call, credential } => Ok(Heard {
                 xid,
-                request: Request::Call { call, credential },
+                request: Request::Call {
+                    call: ServedCall::new(call),
+                    credential,
+                },
             }),
             rpc_msg::Request::Refused(reply) => Ok(Heard {
                 xid,
-                request: Request::Refused(reply),
+                request: Request::Refused(Refused::new(reply)),
             }),
             rpc_msg::Request::Undecoded => unreachable!(),
         },

@@ -15,17 +15,18 @@ returns-clause-events c =
     let r = c.in-Some-take.running in
     let w = world s in
     let some : s.running ≡ Some r = sym c.take.ensures.value ∙ c.in-Some-take.is in
-    let answer = c.in-Some-answer.answer in
+    let answer = c.into_answer.result in
+    let answered : r.answer ≡ Some answer = c.in-Some-answer.is ∙ ap Some (sym c.into_answer.ensures.value) in
     let reply : types.Reply = types.Success (answer_of answer) in
     let before = without-call s c.args.worker r c.take.new.self c.if-worker-ne0.false some c.requires.lent c.take.ensures.after in (
-      may-finish s c.args.worker r answer c.if-worker-ne0.false some c.in-Some-answer.is,
+      may-finish s c.args.worker r answer c.if-worker-ne0.false some answered,
       (
         worker_of s.running,
         running_of r,
         worlds.Replied reply,
         only-there s.running c.args.worker c.if-worker-ne0.false,
         ap (option_map running_of) some,
-        ap (option_map outcome_of) c.in-Some-answer.is,
+        ap (option_map outcome_of) answered,
         ap (events.Written r.message.origin.connection) c.respond-count.ensures.count,
         finished (setup_in s) (stamped (without_call w c.args.worker)) _ _ _ (entry_of (running_of r) false) reply c.respond-count.ensures.written c.keep_entry.ensures.kept before,
       ),

@@ -19,7 +19,7 @@ returns-in-None-clause-admitted c =
     let kept = world c.keep_entry-in-None.new.state in
     let call = call_of c.in-Call.call in
     let nowhere : home layout call ≡ None = ap (λ (k : Call). home layout (call_of k)) (sym c.in-Call.call-is) ∙ sym (c.home_of.ensures.home s.layout) ∙ ap (option_map affinity_of) c.in-None.is in
-    let answered : answer_of c.answer_at_once.result ≡ answer_without_home layout call = c.answer_at_once.ensures s.layout ∙ ap (λ (k : Call). answer_without_home layout (call_of k)) c.in-Call.call-is in
+    let answered : answer_of c.answer_at_once.result ≡ answer_without_home layout call = c.answer_at_once.ensures.answer s.layout ∙ ap (λ (k : Call). answer_without_home layout (call_of k)) c.in-Call.call-is in
     let once = at-once s c.len.result c.args.number c.args.heard.xid call (credential_of c.in-Call.credential) (answer_of c.answer_at_once.result) (world c.respond-in-None.new.state) kept nowhere answered
     c.respond-in-None.ensures.written
     (c.keep_entry-in-None.ensures.kept ∙ entries-same (world c.respond-in-None.new.state) c.len.result c.args.number c.args.heard.xid _ c.in-Call.call _ c.in-Call.credential c.in-Call.call-is c.in-Call.credential-is) in

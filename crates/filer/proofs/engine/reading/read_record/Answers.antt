@@ -1,31 +1,56 @@
-use Rattle.std.proofs.Common.{Result, Err, sym, ap, subst, ◌∙◌}
+use Rattle.std.proofs.Common.{Result, Ok, Err, sym, ap, subst, ◌∙◌}
+use Rattle.nfs_model.specs.Types as types
+use Rattle.nfs_values.specs.declared.call.Call.{Call}
+use Rattle.nfs_values.specs.declared.reply.Reply.{Reply}
+use Rattle.nfs_values.specs.Call.{call_of}
+use Rattle.nfs_values.specs.Credential.{credential_of}
+use Rattle.nfs_values.specs.Reply.{reply_of}
 use Rattle.rpc_msg.specs.declared.fault.Fault.{Fault}
 use Rattle.rpc_msg.specs.declared.record.Heard.{Heard}
 use Rattle.rpc_msg.specs.declared.record.Request.{Request}
 use Rattle.rpc_msg.specs.Records as records
-use Rattle.rpc_msg.specs.Records.{needs_memory}
 use Rattle.rpc_msg.specs.Seen.{Hears, Tells}
 use Rattle.filer.specs.declared.engine.event.StreamFault.{StreamFault}
 use Rattle.filer.specs.Numbers.{fault_number}
-use Rattle.filer.proofs.Records.{numbers-same, heard-is}
+use Rattle.filer.proofs.Records.{numbers-same, heard-is, heard-is-reading, refused-is-short, none-undecoded}
 use Rattle.filer.proofs.engine.reading.read_record.Goals as goal
 
 pub returns-in-Err : goal.returns-in-Err
 returns-in-Err c =
     let bytes = c.args.bytes.now in
-    let h = subst (λ (r : Result Heard Fault). Hears r (needs_memory bytes) (records.heard bytes)) c.in-Err.is c.read_record.ensures in
+    let h = subst (λ (r : Result Heard Fault). Hears r (records.heard bytes)) c.in-Err.is c.read_record.ensures in
     ap (λ (f : StreamFault). Err (fault_number f)) c.stream_fault.ensures ∙ ap (λ n. Err n) (numbers-same _) ∙ sym h ∙ sym (heard-is bytes)
+
+pub new-requires : goal.new-requires
+new-requires c =
+    let bytes = c.args.bytes.now in
+    let h = subst (λ (r : Result Heard Fault). Hears r (records.heard bytes)) c.in-Ok.is c.read_record.ensures in
+    let q = subst (λ (r : Request). Tells c.in-Ok.field-0.xid r (records.heard bytes)) c.in-Call.is h in
+    heard-is-reading bytes c.in-Ok.field-0.xid (call_of c.in-Call.call) (credential_of c.in-Call.credential) q
+
+pub new-requires-in-Refused : goal.new-requires-in-Refused
+new-requires-in-Refused c =
+    let bytes = c.args.bytes.now in
+    let h = subst (λ (r : Result Heard Fault). Hears r (records.heard bytes)) c.in-Ok.is c.read_record.ensures in
+    let q = subst (λ (r : Request). Tells c.in-Ok.field-0.xid r (records.heard bytes)) c.in-Refused.is h in
+    refused-is-short bytes c.in-Ok.field-0.xid (reply_of c.in-Refused.reply) q
+
+pub unreachable-requires : goal.unreachable-requires
+unreachable-requires c =
+    let bytes = c.args.bytes.now in
+    let h = subst (λ (r : Result Heard Fault). Hears r (records.heard bytes)) c.in-Ok.is c.read_record.ensures in
+    none-undecoded bytes c.in-Ok.field-0.xid (subst (λ (r : Request). Tells c.in-Ok.field-0.xid r (records.heard bytes)) c.in-Undecoded.is h)
 
 pub returns-in-Call : goal.returns-in-Call
 returns-in-Call c =
     let bytes = c.args.bytes.now in
-    let h = subst (λ (r : Result Heard Fault). Hears r (needs_memory bytes) (records.heard bytes)) c.in-Ok.is c.read_record.ensures in
-    let q = subst (λ (r : Request). Tells c.in-Ok.field-0.xid r (needs_memory bytes) (records.heard bytes)) c.in-Call.is h in
-    sym q ∙ sym (heard-is bytes)
+    let h = subst (λ (r : Result Heard Fault). Hears r (records.heard bytes)) c.in-Ok.is c.read_record.ensures in
+    let q = subst (λ (r : Request). Tells c.in-Ok.field-0.xid r (records.heard bytes)) c.in-Call.is h in
+    ap (λ (k : Call). Ok (record { xid = c.in-Ok.field-0.xid; asked = types.Ask (call_of k) (credential_of c.in-Call.credential) })) c.new.ensures ∙ sym q ∙ sym (heard-is bytes)
 
 pub returns-in-Refused : goal.returns-in-Refused
 returns-in-Refused c =
     let bytes = c.args.bytes.now in
-    let h = subst (λ (r : Result Heard Fault). Hears r (needs_memory bytes) (records.heard bytes)) c.in-Ok.is c.read_record.ensures in
-    let q = subst (λ (r : Request). Tells c.in-Ok.field-0.xid r (needs_memory bytes) (records.heard bytes)) c.in-Refused.is h in
-    sym q ∙ sym (heard-is bytes)
+    let h = subst (λ (r : Result Heard Fault). Hears r (records.heard bytes)) c.in-Ok.is c.read_record.ensures in
+    let q = subst (λ (r : Request). Tells c.in-Ok.field-0.xid r (records.heard bytes)) c.in-Refused.is h in
+    ap (λ (r : Reply). Ok (record { xid = c.in-Ok.field-0.xid; asked = types.Refused (reply_of r) })) c.new-in-Refused.ensures ∙ sym q ∙ sym (heard-is bytes)

@@ -1,6 +1,6 @@
 use Rattle.std.proofs.Common.{◌≡◌, ◌+◌, ◌-◌, ◌*◌, ◌≤◌, ◌++◌, vec_len, vec_capacity}
 use Rattle.nfs_types.specs.Results.{absent_parts}
-use Rattle.nfs_types.proofs.results.write_absent.Given as goal
+use Rattle.nfs_types.proofs.results.write_absent_parts.Given as goal
 
 abbrev pub invariant-loop-part : goal.invariant-loop-part
 invariant-loop-part l =

@@ -1,0 +1,44 @@
+-- Calls that there was no memory for.
+use Rattle.std.proofs.Common.{◌≡◌, ℕ, Bool, true, List, Result, Ok, refl, sym, ap, subst, ◌∙◌}
+use Rattle.xdr.specs.declared.fault.Fault.{Fault as Unread}
+use Rattle.xdr.specs.Shape.{Value}
+use Rattle.xdr.specs.Reading.{all_of}
+use Rattle.xdr.proofs.Steps.{bind_ok, ok_is}
+use Rattle.nfs_model.specs.Types as model
+use Rattle.nfs_model.specs.Serial.Starve.{has_bytes}
+use Rattle.nfs_values.specs.declared.procedure.Procedure.{Procedure}
+use Rattle.nfs_values.specs.declared.procedure.Procedure.TheVariants.{Null, GetAttributes, SetAttributes, Lookup, Read, Write, Create, MakeDirectory, Remove, RemoveDirectory, ReadDirectory, FilesystemStatus, Commit, AdminNull, Census, Grow}
+use Rattle.nfs_types.specs.Arguments.{arguments_shape, call_from, asked, takes_memory}
+use Rattle.nfs_types.proofs.Exact.{asked_is}
+use Rattle.rpc_msg.specs.declared.record.Request.TheVariants as requests
+use Rattle.rpc_msg.specs.Heads.{Call}
+use Rattle.rpc_msg.specs.Records.{asked_by, heard_from}
+use Rattle.rpc_msg.specs.Seen.{Tells}
+
+-- a procedure takes memory just for a call with a name or data
+bytes_from : (procedure : Procedure) (v : Value (arguments_shape procedure)) → has_bytes (call_from procedure v) ≡ takes_memory procedure
+bytes_from Null v = refl
+bytes_from GetAttributes v = refl
+bytes_from SetAttributes v = refl
+bytes_from Lookup v = refl
+bytes_from Read v = refl
+bytes_from Write v = refl
+bytes_from Create v = refl
+bytes_from MakeDirectory v = refl
+bytes_from Remove v = refl
+bytes_from RemoveDirectory v = refl
+bytes_from ReadDirectory v = refl
+bytes_from FilesystemStatus v = refl
+bytes_from Commit v = refl
+bytes_from AdminNull v = refl
+bytes_from Census v = refl
+bytes_from Grow v = refl
+
+asked_has_bytes : (procedure : Procedure) (bytes : List ℕ) (call : model.Call) → asked procedure bytes ≡ Ok call → has_bytes call ≡ takes_memory procedure
+asked_has_bytes procedure bytes call e =
+    let p = bind_ok (all_of (arguments_shape procedure) bytes) (λ v. Ok (call_from procedure v)) call (sym (asked_is procedure bytes) ∙ e) in
+    subst (λ (c : model.Call). has_bytes c ≡ takes_memory procedure) (ok_is (call_from procedure p.0) call p.2) (bytes_from procedure p.0)
+
+pub undecoded : (xid : ℕ) (procedure : Procedure) (who : model.Credential) (arguments : List ℕ) → (takes_memory procedure ≡ true) × ((call : model.Call) × (asked procedure arguments ≡ Ok call)) → Tells xid requests.Undecoded (heard_from (Call xid procedure who arguments))
+undecoded xid procedure who arguments m =
+    (m.1.0, (who, asked_has_bytes procedure arguments m.1.0 m.1.1 ∙ m.0, ap (λ (r : Result model.Call Unread). Ok (record { xid = xid; asked = asked_by who r })) m.1.1))
