@@ -1,6 +1,6 @@
 //! The engine: connections, calls on their way, and the state that calls run on.
 
-ghost use Rattle.std.specs.Prelude.{◌≡◌, List, ℕ, [], map, option_map, slice_get};
+ghost use Rattle.std.specs.Prelude.{◌≡◌, List, ℕ, [], ◌∷◌, map, option_map, slice_get};
 ghost use Rattle.nfs_model.specs.World as worlds;
 ghost use Rattle.nfs_model.specs.Events.Step.{Events, Runs};
 ghost use Rattle.nfs_model.specs.Headline.{Headline, opening_world};
@@ -164,7 +164,9 @@ impl Engine {
     }
 
     /// The message that the worker has begun.
-    pub fn running(&self) -> Option<&Running> {
+    pub fn running(&self) -> Option<&Running>
+        ensures { (world self.now).workers ≡ (record { running = option_map (λ r. running_of r.now) result; hand = worlds.Empty }) ∷ [] }
+    {
         self.state.running.as_ref()
     }
 

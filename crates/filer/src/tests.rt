@@ -1,4 +1,7 @@
 use crate::choice::Command;
+use crate::engine::Engine;
+use crate::engine::event::Event;
+use crate::engine::layout::Layout;
 use crate::fault::Fault;
 use crate::program::program;
 use crate::replay::replay;
@@ -253,6 +256,32 @@ fn bad_lines_end_a_script(rt: HostRuntime) -> Result<(), Fail> {
     expect_events(&rt, "\n# a comment\nopen\n", 0, "conn 0\n")?;
     expect_events(&rt, "open\nopen", 1, "conn 0\nbad line 5\n")?;
     expect(&rt, b"#\xff\nopen\n", 1, "bad line 2\n");
+    Ok(())
+}
+
+#[test]
+fn lists_of_events_are_played(rt: HostRuntime) -> Result<(), Fail> {
+    let alloc = rt.alloc();
+    let call = hex::decode(alloc, NULL.as_bytes()).unwrap();
+    let reply = hex::decode(alloc, NULL_REPLY.as_bytes()).unwrap();
+    let layout = Layout {
+        spare: 1,
+        ranges: 1,
+    };
+    let fed = Event::Feed {
+        connection: 0,
+        bytes: &call,
+    };
+    let mut engine = Engine::play(alloc, layout, [0; 8], &[Event::Open, fed]);
+    assert_eq!(rt; engine.output(0), reply.as_slice());
+    assert_eq!(rt; engine.stream(0), call.as_slice());
+    assert_eq!(rt; engine.finished().len(), 1);
+    assert!(rt; engine.running().is_none());
+    assert_eq!(rt;
+        engine.run(&[Event::Open, fed, Event::Work { worker: 0 }]),
+        2
+    );
+    assert_eq!(rt; engine.finished().len(), 2);
     Ok(())
 }
 

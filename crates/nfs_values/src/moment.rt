@@ -6,3 +6,11 @@ pub struct Moment {
     pub seconds: u32,
     pub nanoseconds: u32,
 }
+
+impl Moment {
+    /// The start of all times.
+    pub const START: Moment = Moment {
+        seconds: 0,
+        nanoseconds: 0,
+    };
+}

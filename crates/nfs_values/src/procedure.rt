@@ -2,7 +2,7 @@
 
 ghost use Rattle.std.specs.Prelude.{◌≡◌, ◌≢◌, true, IfSome, None};
 
-/// The program number of NFS (RFC 1813 section 1.5).
+/// The program number of NFS (RFC 1813 section 2.2).
 pub const NFS_PROGRAM: u32 = 100003;
 
 /// The program number of the admin calls (our profile).

@@ -21,12 +21,6 @@ use nfs_values::{Moment, Reply};
 use rpc_record::Look;
 use std::alloc::AllocError;
 
-/// The moment of a call that is finished in the feed of its record.
-const START: Moment = Moment {
-    seconds: 0,
-    nanoseconds: 0,
-};
-
 /// Room for so many replies.
 fn make_room_for_replies(
     current: &mut Option<OpenConnection>,
@@ -75,7 +69,7 @@ fn admit(state: &mut State, number: usize, heard: Heard)
     match heard.request {
         Request::Refused(reply) => {
             respond(state, origin, reply.as_reply());
-            keep_entry(state, origin, Request::Refused(reply), None, START);
+            keep_entry(state, origin, Request::Refused(reply), None, Moment::START);
         }
         Request::Call { call, credential } => match home_of(&call) {
             Some(_) => state.waiting.push_reserved(Message {
@@ -90,7 +84,7 @@ fn admit(state: &mut State, number: usize, heard: Heard)
                     origin,
                     Request::Call { call, credential },
                     None,
-                    START,
+                    Moment::START,
                 );
             }
         },

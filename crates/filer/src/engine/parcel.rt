@@ -2,11 +2,6 @@
 
 use nfs_values::Moment;
 
-const START: Moment = Moment {
-    seconds: 0,
-    nanoseconds: 0,
-};
-
 /// The attributes that are kept of a node.
 #[derive(Clone, Copy, Debug, PartialEq, Eq)]
 pub(crate) struct Kept {
@@ -31,9 +26,9 @@ impl VolumeLogical {
             mode: 0o755,
             uid: 0,
             gid: 0,
-            atime: START,
-            mtime: START,
-            ctime: START,
+            atime: Moment::START,
+            mtime: Moment::START,
+            ctime: Moment::START,
         },
     };
 }

@@ -1,5 +1,9 @@
 //! The lines of a script.
 
+ghost use Rattle.std.specs.Prelude.{◌≡◌};
+ghost use Rattle.filer.specs.Seen.{event_of};
+ghost use Rattle.filer.specs.Script.{said};
+
 use crate::engine::event::Event;
 use crate::script::word::Words;
 use nfs_values::Moment;
@@ -44,7 +48,9 @@ pub(crate) enum EventLine {
 
 impl EventLine {
     /// The event that is asked for.
-    pub(crate) fn event(&self) -> Event<'_> {
+    pub(crate) fn event(&self) -> Event<'_>
+        ensures { event_of result ≡ said self.now }
+    {
         match self {
             EventLine::Open => Event::Open,
             EventLine::Feed { connection, bytes } => Event::Feed {
