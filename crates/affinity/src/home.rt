@@ -1,0 +1,135 @@
+//! Where a call is at home.
+
+ghost use Rattle.std.specs.Prelude.{◌≡◌, ◌==◌, ◌||◌, ◌+◌, ◌-◌, ◌*◌, ◌/◌, ◌<◌, ◌≤◌, length, min, option_map, slice_get, IfSome};
+ghost use Rattle.nfs_model.specs.Server.{handle_of};
+ghost use Rattle.nfs_model.specs.Home.{home, home_of_bytes, home_of_volume, logical_of, named_by, span_bytes, stripe_of_span, volume_of};
+ghost use Rattle.nfs_values.specs.Call.{call_of};
+ghost use Rattle.affinity.specs.Affinity.{affinity_of};
+ghost use Rattle.affinity.specs.Layout.{layout_of};
+ghost use Rattle.affinity.specs.Tree.{IsNode};
+
+use crate::affinity::Affinity;
+use crate::layout::Layout;
+use byteorder::{BigEndian, ByteOrder};
+use nfs_values::{Call, FileHandle};
+
+/// The bytes of a span, which lie in one stripe.
+const SPAN: u64 = 262_144;
+
+/// Larger counts of bytes are taken as this.
+const COUNT_LIMIT: u32 = 65_536;
+
+/// The volume and the fileid of a good handle, which has 12 bytes and a volume that the layout has.
+pub fn named_by(handle: &FileHandle, layout: &Layout) -> Option<(u32, u64)>
+    ensures named { result ≡ named_by (layout_of layout.now) handle.now }
+    ensures there { IfSome result (λ h. h.0 < length (layout_of layout.now).volumes) }
+{
+    let bytes = handle.as_bytes();
+    if bytes.len() != 12 {
+        return None;
+    }
+    let volume = BigEndian::read_u32(&bytes[..4]);
+    if volume as usize >= layout.volume_count() {
+        return None;
+    }
+    Some((volume, BigEndian::read_u64(&bytes[4..])))
+}
+
+/// Whether bytes, as many as a count that isn't 0, lie in one span.
+fn is_in_one_span(offset: u64, count: u32) -> bool
+    requires { 0 < count }
+    ensures { result ≡ (offset / span_bytes == (offset + count - 1) / span_bytes) }
+{
+    offset % SPAN + u64::from(count) <= SPAN
+}
+
+/// The stripe of a file's span.
+#[tactic(auto, using(crate::proofs::Spans::remainder_of_parts))]
+fn stripe_of_span(layout: &Layout, volume: u32, fileid: u64, span: u64) -> Affinity
+    ensures stripe { affinity_of result ≡ stripe_of_span (layout_of layout.now) (volume, fileid) span }
+    ensures node { volume < length (layout_of layout.now).volumes → IsNode (layout_of layout.now) (affinity_of result) }
+{
+    let stripes = u64::from(layout.stripes_of(volume));
+    let stripe = (fileid % stripes + span % stripes) % stripes;
+    Affinity::Stripe {
+        volume,
+        stripe: stripe as u32,
+    }
+}
+
+/// Where a call on bytes of a file is at home.
+fn home_of_bytes(handle: &FileHandle, offset: u64, count: u32, layout: &Layout) -> Option<Affinity>
+    ensures home { option_map affinity_of result ≡ home_of_bytes (layout_of layout.now) (named_by (layout_of layout.now) handle.now) offset (min count COUNT_LIMIT) }
+    ensures node { IfSome result (λ a. IsNode (layout_of layout.now) (affinity_of a)) }
+{
+    let (volume, fileid) = named_by(handle, layout)?;
+    let count = count.min(COUNT_LIMIT);
+    if count == 0 || is_in_one_span(offset, count) {
+        Some(stripe_of_span(layout, volume, fileid, offset / SPAN))
+    } else {
+        Some(Affinity::VolumeLogical(volume))
+    }
+}
+
+/// Where a call on names and attributes is at home.
+fn home_of_names(handle: &FileHandle, layout: &Layout) -> Option<Affinity>
+    ensures home { option_map affinity_of result ≡ logical_of (named_by (layout_of layout.now) handle.now) }
+    ensures node { IfSome result (λ a. IsNode (layout_of layout.now) (affinity_of a)) }
+{
+    let (volume, _) = named_by(handle, layout)?;
+    Some(Affinity::VolumeLogical(volume))
+}
+
+/// Where a call on a whole volume is at home.
+fn home_of_status(handle: &FileHandle, layout: &Layout) -> Option<Affinity>
+    ensures home { option_map affinity_of result ≡ volume_of (named_by (layout_of layout.now) handle.now) }
+    ensures node { IfSome result (λ a. IsNode (layout_of layout.now) (affinity_of a)) }
+{
+    let (volume, _) = named_by(handle, layout)?;
+    Some(Affinity::Volume(volume))
+}
+
+/// Where a volume's growth is at home.
+fn home_of_growth(volume: u32, layout: &Layout) -> Option<Affinity>
+    ensures home { option_map affinity_of result ≡ home_of_volume volume (slice_get (layout_of layout.now).volumes volume) }
+    ensures node { IfSome result (λ a. IsNode (layout_of layout.now) (affinity_of a)) }
+{
+    if volume as usize >= layout.volume_count() {
+        return None;
+    }
+    Some(Affinity::Aggregate(layout.aggregate_of(volume)))
+}
+
+/// The affinity that a call tries first; nothing for a call that is answered without one.
+pub fn home_of(call: &Call, layout: &Layout) -> Option<Affinity>
+    ensures home { option_map affinity_of result ≡ home (layout_of layout.now) (call_of call.now) }
+    ensures node { IfSome result (λ a. IsNode (layout_of layout.now) (affinity_of a)) }
+{
+    match call {
+        Call::Null => None,
+        Call::GetAttributes { handle }
+        | Call::SetAttributes { handle, .. }
+        | Call::Commit { handle } => home_of_names(handle, layout),
+        Call::Lookup(target) | Call::Remove(target) | Call::RemoveDirectory(target) => {
+            home_of_names(&target.directory, layout)
+        }
+        Call::Create { target, .. } | Call::MakeDirectory { target, .. } => {
+            home_of_names(&target.directory, layout)
+        }
+        Call::ReadDirectory { directory, .. } => home_of_names(directory, layout),
+        Call::Read {
+            handle,
+            offset,
+            count,
+        }
+        | Call::Write {
+            handle,
+            offset,
+            count,
+            ..
+        } => home_of_bytes(handle, *offset, *count, layout),
+        Call::FilesystemStatus { handle } => home_of_status(handle, layout),
+        Call::Census => Some(Affinity::Serial),
+        Call::Grow { volume, .. } => home_of_growth(*volume, layout),
+    }
+}

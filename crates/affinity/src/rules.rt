@@ -1,0 +1,52 @@
+//! The rules that a layout keeps.
+
+ghost use Rattle.std.specs.Prelude.{◌≡◌, ◌≢◌, nat_lt, nat_le, None, IfErr, OnOk};
+ghost use Rattle.std.specs.List.{list_all};
+ghost use Rattle.affinity.specs.Specification.{layout_in};
+ghost use Rattle.affinity.specs.Fault.{fault_of, is_within, rule_broken};
+
+use crate::fault::LayoutFault;
+use crate::specification::{AggregateSpec, VolumeSpec};
+
+fn are_known(volumes: &[VolumeSpec], aggregates: usize) -> bool
+    ensures { result ≡ list_all (λ v. nat_lt v.aggregate aggregates) volumes.now }
+{
+    volumes.iter().all(|v| (v.aggregate as usize) < aggregates)
+}
+
+fn are_sized(volumes: &[VolumeSpec]) -> bool
+    ensures { result ≡ list_all (λ v. is_within 1 16 v.ranges) volumes.now }
+{
+    volumes.iter().all(|v| 1 <= v.ranges && v.ranges <= 16)
+}
+
+fn are_spare(aggregates: &[AggregateSpec]) -> bool
+    ensures { result ≡ list_all (λ a. nat_le a.spare 128) aggregates.now }
+{
+    aggregates.iter().all(|a| a.spare <= 128)
+}
+
+#[tactic(auto, using(crate::proofs::Mapped::mapped))]
+/// Refuses a layout for the first rule that it breaks.
+pub(crate) fn check(aggregates: &[AggregateSpec], volumes: &[VolumeSpec]) -> Result<(), LayoutFault>
+    ensures ok { OnOk result (fault_of (layout_in aggregates.now volumes.now) ≡ None) }
+    ensures err { IfErr result (λ fault. rule_broken fault ≡ fault_of (layout_in aggregates.now volumes.now)) }
+    ensures broken { IfErr result (λ fault. rule_broken fault ≢ None) }
+{
+    if aggregates.len() < 1 || 2 < aggregates.len() {
+        return Err(LayoutFault::AggregateCount);
+    }
+    if volumes.len() < 1 || 8 < volumes.len() {
+        return Err(LayoutFault::VolumeCount);
+    }
+    if !are_known(volumes, aggregates.len()) {
+        return Err(LayoutFault::UnknownAggregate);
+    }
+    if !are_sized(volumes) {
+        return Err(LayoutFault::RangeCount);
+    }
+    if !are_spare(aggregates) {
+        return Err(LayoutFault::SpareRanges);
+    }
+    Ok(())
+}
