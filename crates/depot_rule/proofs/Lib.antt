@@ -1,0 +1,4 @@
+pub mod Sums
+pub mod Trees
+pub mod Views
+pub mod Words
