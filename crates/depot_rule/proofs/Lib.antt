@@ -4,3 +4,6 @@ pub mod Views
 pub mod Words
 pub mod Grants
 pub mod Parcels
+pub mod Places
+pub mod Entering
+pub mod Claiming
