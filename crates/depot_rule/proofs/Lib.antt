@@ -7,3 +7,4 @@ pub mod Parcels
 pub mod Places
 pub mod Entering
 pub mod Claiming
+pub mod Slots
