@@ -8,3 +8,6 @@ pub mod Places
 pub mod Entering
 pub mod Claiming
 pub mod Slots
+pub mod Dealing
+pub mod Joining
+pub mod Opening
