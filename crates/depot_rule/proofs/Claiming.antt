@@ -10,13 +10,16 @@ use Rattle.atomic_table.specs.Table.{State, Step, step, keeps, stepped, Allows}
 use Rattle.atomic_table.proofs.Lists.{at_set, set_else}
 use Rattle.depot_rule.specs.declared.view.View.{View}
 use Rattle.depot_rule.specs.declared.view.Read.{Read}
-use Rattle.depot_rule.specs.Sums.{tally}
-use Rattle.depot_rule.specs.Tree.{ancestors, Covers}
-use Rattle.depot_rule.specs.Shares.{exclusive, shares, Shares}
+use Rattle.depot_rule.specs.Sums.{total, tally}
+use Rattle.depot_rule.specs.Tree.{ancestors, Covers, Excludes}
+use Rattle.depot_rule.specs.Shares.{exclusive, Has, claims, entered, shares, Shares}
 use Rattle.depot_rule.specs.Parcels.{takes, IsParcel, Carries, Parcels}
 use Rattle.depot_rule.specs.Rule.{Rule}
 use Rattle.depot_rule.specs.Plays.{Place, noted, ClaimSays, ReleaseSays}
 use Rattle.depot_rule.proofs.Views.{finds-own}
+use Rattle.depot_rule.proofs.Sums.{total-at}
+use Rattle.depot_rule.proofs.Grants.{at-length, claims-own, lower-own}
+use Rattle.depot_rule.proofs.Only.{own-or-below}
 use Rattle.depot_rule.proofs.Words.{claim-keeps, release-keeps, read-keeps}
 use Rattle.depot_rule.proofs.Parcels.{stay-keeps, untaken}
 use Rattle.depot_rule.proofs.Places.{on-one}
@@ -37,6 +40,22 @@ module _ (P E : Type 0) (kind_of : P → ℕ) where
 
   abbrev G : Type 0
   G = List (Option P)
+
+  -- where b's word is 0 and the words above it are entered, the seat has no grant that excludes b
+  not-held : (ps ws : List ℕ) (views : List (List (View P E))) (r : Shares ps ws views) (id : ℕ) (v : View P E) (b c : ℕ) (h : G) → get_elem? views id ≡ some (v ∷ []) → 0 < b → b < length ps
+      → ((a : ℕ) → tally a v.path ≡ tally a (ancestors ps b)) → get_or ws b 0 ≡ 0 → Has v c h → Excludes ps b c → 0 < c → ⊥
+  not-held ps ws views r id v b c h at pos lt all free hc ex pc =
+      let so = r.sound id (v ∷ []) at 0 v refl in
+      let lt' = at-length v.held c (Some h) hc in let wide = so.wide in
+      let q = r.counted b pos lt in let sh = total-at (total (shares b)) views id (v ∷ []) at in
+      ⊎_elim
+        (λ (e : b ≡ c). let m : 1 ≤ claims b v = claims-own P E v b h (ap (get_elem? v.held) e ∙ hc) in absurd (omega arith))
+        (λ (o : (0 < tally b (ancestors ps c)) ⊎ (0 < tally c (ancestors ps b))). ⊎_elim
+          (λ (u : 0 < tally b (ancestors ps c)). let m = lower-own P E ps v so b c h hc in absurd (omega arith))
+          (λ (u : 0 < tally c (ancestors ps b)).
+            let m = claims-own P E v c h hc in let n = total-at (total (claims c)) views id (v ∷ []) at in
+            let l = r.alone c pc (omega arith) (omega arith) in let l1 = l.1 in
+            let p = all c in let mine = total-at (total (entered c)) views id (v ∷ []) at in absurd (omega arith)) o) ex
 
   -- a grant of b, of what lies in the slots
   granted : (ps : List ℕ) (first : List (Option P)) (s : St) (b : ℕ) (v : View P E) (rs : List Read) → Carries kind_of ps first s.homes v → 0 < b → b < length ps → get_elem? v.held b ≡ some None
@@ -63,10 +82,10 @@ module _ (P E : Type 0) (kind_of : P → ℕ) where
         empty = ca.empty;
       }
 
-  pub claims-it : (ps : List ℕ) (first : List (Option P)) (slots id : ℕ) (me : Place P E) (v : View P E) (b : ℕ) → me.0 ≡ v ∷ [] → 0 < b → b < length ps
+  pub claims-it : (ps : List ℕ) (first : List (Option P)) (slots id : ℕ) (me : Place P E) (v : View P E) (b : ℕ) → me.0 ≡ v ∷ [] → 0 < b → b < length ps → v.unsure ≡ 0
       → ((a : ℕ) → tally a v.path ≡ tally a (ancestors ps b))
       → Allows (Rule kind_of ps first) slots id me b (λ x. either (eqb x 0) exclusive x) (ClaimSays kind_of (step slots b 0 exclusive none) me)
-  claims-it ps first slots id me v b one pos lt all s r _ at' small =
+  claims-it ps first slots id me v b one pos lt calm all s r _ at' small =
       let at : get_elem? s.views id ≡ some (v ∷ []) = at' ∙ ap some one in
       let st : Step (Option P) = step slots b 0 exclusive none in
       let x : ℕ = get_or s.words b 0 in
@@ -84,10 +103,11 @@ module _ (P E : Type 0) (kind_of : P → ℕ) where
           subst (λ (z : Bool). Rule kind_of ps first (stepped s b (either z exclusive x) id me.1 (w ∷ []) keeps)) (sym (eq-eqb x 0 free))
             (record { shares = kept.1; parcels = stay-keeps P E kind_of ps first s r id v w at (λ k. refl) (granted ps first s b v (noted st x v) ca pos lt kept.0 found) }),
           (on-one _ me.0 v one
-            ((λ _. (g, refl, λ k pk lk ck.
+            ((λ _. (g, refl, (λ k pk lk ck.
                 let y = found k pk (subst (λ (t : List ℕ). k < length t) so.tree lk) (subst (λ (t : List ℕ). Covers t b k) so.tree ck) in
-                subst (λ (f : List (Option P)). IsParcel kind_of f k (get_or g k None)) (sym ca.opened) (subst (IsParcel kind_of first k) (sym (lying-at s.homes k y.0 y.1)) y.2))),
-             (λ ne. absurd (ne free)), own), refl)))
+                subst (λ (f : List (Option P)). IsParcel kind_of f k (get_or g k None)) (sym ca.opened) (subst (IsParcel kind_of first k) (sym (lying-at s.homes k y.0 y.1)) y.2)),
+              (λ c h hc ex. not-held ps s.words s.views r.shares id v b c h at pos lt all free hc (subst (λ (t : List ℕ). Excludes t b c) so.tree ex) (ca.nodes c h hc).0))),
+             (λ ne. absurd (ne free))), refl)))
       (λ busy.
         let w : View P E = record v { reads = noted st x v } in
         (w ∷ [], keeps, tt,
@@ -95,7 +115,8 @@ module _ (P E : Type 0) (kind_of : P → ℕ) where
             (record { shares = read-keeps P E ps s.words s.views r.shares id v b v.hand v.gone (noted st x v) at pos lt;
               parcels = stay-keeps P E kind_of ps first s r id v w at (λ k. refl)
                 (record { opened = ca.opened; nodes = ca.nodes; single = ca.single; cover = ca.cover; whole = ca.whole; there = ca.there; empty = ca.empty }) }),
-          (on-one _ me.0 v one ((λ e. absurd (busy e)), (λ _. refl), own), refl)))
+          (on-one _ me.0 v one ((λ e. absurd (busy e)), (λ _. (refl, λ only. subst (λ (t : List ℕ). (c : ℕ) × (h : G) × Has v c h × Excludes t b c) (sym so.tree)
+            (own-or-below P E ps r.shares.tree b v so all calm pos (λ z. busy (own only ∙ z)))))), refl)))
 
   -- a grant whose parcels are all at home is given up
   pub releases : (ps : List ℕ) (first : List (Option P)) (slots id : ℕ) (me : Place P E) (v : View P E) (b : ℕ) (g : G) → me.0 ≡ v ∷ [] → 0 < b → b < length ps → v.path ≡ [] → get_elem? v.held b ≡ some (Some g)

@@ -12,6 +12,7 @@ use Rattle.depot_rule.specs.Parcels.{Carries, Parcels}
 use Rattle.depot_rule.specs.Rule.{Rule}
 use Rattle.depot_rule.specs.Plays.{Place, noted, EnterSays, BackOutSays, LeaveSays}
 use Rattle.depot_rule.proofs.Views.{finds-own}
+use Rattle.depot_rule.proofs.Only.{own-claim}
 use Rattle.depot_rule.proofs.Words.{word-most, enter-keeps, vain-keeps, back-out-keeps, leave-keeps}
 use Rattle.depot_rule.proofs.Parcels.{stay-keeps}
 use Rattle.depot_rule.proofs.Places.{on-one}
@@ -43,13 +44,13 @@ module _ (P E : Type 0) (kind_of : P → ℕ) where
           (w ∷ [], keeps, tt,
             subst (λ (z : ℕ). Rule kind_of ps first (stepped s i z id me.1 (w ∷ []) keeps)) (sym wrap)
               (record { shares = enter-keeps P E ps s.words s.views r.shares i id v (noted st x v) at pos lt fresh free; parcels = stays ps first s r id v (i ∷ v.path) v.unsure (noted st x v) at }),
-            (on-one _ me.0 v one ((λ _. refl), (λ full. absurd (omega arith)), own), refl))
+            (on-one _ me.0 v one ((λ _. refl), (λ full. absurd (omega arith))), refl))
         | no busy ↦
           let w : View P E = record v { unsure = i; reads = noted st x v } in
           (w ∷ [], keeps, tt,
             subst (λ (z : ℕ). Rule kind_of ps first (stepped s i z id me.1 (w ∷ []) keeps)) (sym wrap)
               (record { shares = vain-keeps P E ps s.words s.views r.shares i id v (noted st x v) at pos lt calm (omega arith); parcels = stays ps first s r id v v.path i (noted st x v) at }),
-            (on-one _ me.0 v one ((λ free. absurd (omega arith)), (λ _. refl), own), refl))
+            (on-one _ me.0 v one ((λ free. absurd (omega arith)), (λ full. (refl, λ all. own-claim P E ps r.shares.tree r.shares.few i v (r.shares.sound id (v ∷ []) at 0 v refl) (let o = own all in omega arith) all))), refl))
       ]
 
   pub backs-out : (ps : List ℕ) (first : List (Option P)) (slots id : ℕ) (me : Place P E) (v : View P E) (i : ℕ) → me.0 ≡ v ∷ [] → 0 < i → i < length ps → v.unsure ≡ i

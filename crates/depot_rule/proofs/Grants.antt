@@ -9,7 +9,7 @@ use Rattle.depot_rule.specs.Sums.{total, one_if, tally, over_taken}
 use Rattle.depot_rule.specs.Tree.{ancestors, Covers}
 use Rattle.depot_rule.specs.Shares.{claims, lower, entered, IsSound, Shares}
 use Rattle.depot_rule.proofs.Sums.{one-same, total-at, total-two, over-at}
-use Rattle.depot_rule.proofs.Trees.{in-line}
+use Rattle.depot_rule.proofs.Trees.{cover-excludes}
 
 pub at-length : {A : Type 0} (l : List A) (i : ℕ) (x : A) → get_elem? l i ≡ some x → i < length l
 at-length [] i x e = absurd (some-ne-none x (sym e))
@@ -69,4 +69,4 @@ module _ (P E : Type 0) where
         (λ (o : (0 < tally b (ancestors ps c)) ⊎ (0 < tally c (ancestors ps b))). ⊎_elim
           (λ (t : 0 < tally b (ancestors ps c)). let z = apart ps ws views r j j' i i' b c vs us v u g h pb at in_vs here at' in_us there in absurd (omega arith))
           (λ (t : 0 < tally c (ancestors ps b)). let z = apart ps ws views r j' j i' i c b us vs u v h g pc at' in_us there at in_vs here in absurd (omega arith)) o)
-        (in-line ps r.tree b c k cb cc')
+        (cover-excludes ps r.tree b c k cb cc')

@@ -5,6 +5,7 @@ pub mod Words
 pub mod Grants
 pub mod Parcels
 pub mod Places
+pub mod Only
 pub mod Entering
 pub mod Claiming
 pub mod Slots

@@ -15,7 +15,7 @@ use Rattle.depot_rule.specs.Shares.{Each, claims, lower, entered, shares, IsSoun
 use Rattle.depot_rule.specs.Parcels.{takes, IsParcel, Carries, Parcels}
 use Rattle.depot_rule.specs.Rule.{Rule}
 use Rattle.depot_rule.proofs.Sums.{one-same, one-other, total-set, total-at, total-zero}
-use Rattle.depot_rule.proofs.Trees.{in-line}
+use Rattle.depot_rule.proofs.Trees.{cover-excludes}
 use Rattle.depot_rule.proofs.Views.{all-one, each-set, each-moved}
 use Rattle.depot_rule.proofs.Words.{read-keeps}
 use Rattle.depot_rule.proofs.Grants.{claims-own, lower-own, covers-one}
@@ -54,7 +54,7 @@ module _ (P E : Type 0) (kind_of : P → ℕ) where
               let n = total-at (claims c) us i u ai in let n' = total-at (total (claims c)) s.views j us aj in
               let l = r.shares.alone c node.0 node.1 (omega arith) in let l1 = l.1 in
               let p = all c in let mine = total-at (total (entered c)) s.views id (v ∷ []) at in omega arith) o)
-          (in-line ps r.shares.tree b c k cover t.3)))))
+          (cover-excludes ps r.shares.tree b c k cover t.3)))))
 
   -- what is in the slot of k changes; a view that doesn't cover k is as before
   carries-else : (ps : List ℕ) (first : List (Option P)) (homes : List (maybe.Option (Option P))) (k : ℕ) (x : maybe.Option (Option P)) (u : View P E)

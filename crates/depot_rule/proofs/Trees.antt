@@ -3,7 +3,7 @@ use Rattle.std.proofs.Common.{◌≡◌, ◌⊎◌, ℕ, zero, suc, ◌+◌, ◌
 use mathlib.Core.Logic.{dite}
 use native.Mathlib.Decide.{ℕ_discrete, dec_lt}
 use Rattle.depot_rule.specs.Sums.{tally, one_if}
-use Rattle.depot_rule.specs.Tree.{IsTree, from_parent, above, ancestors, Covers}
+use Rattle.depot_rule.specs.Tree.{IsTree, from_parent, above, ancestors, Covers, Excludes}
 use Rattle.depot_rule.proofs.Sums.{one-other, one-most}
 
 from-same : (f g : ℕ → List ℕ) (p : ℕ) → (0 < p → f p ≡ g p) → from_parent f p ≡ from_parent g p
@@ -56,12 +56,8 @@ pub ancestors-once : (ps : List ℕ) → IsTree ps → (a b : ℕ) → tally a (
 ancestors-once ps t a zero = omega arith
 ancestors-once ps t a (suc b) = once-above ps t (suc b) (suc b) a (omega arith)
 
--- two nodes of which one is the other or above it
-abbrev pub InLine : List ℕ → ℕ → ℕ → Type 0
-InLine ps b c = (b ≡ c) ⊎ ((0 < tally b (ancestors ps c)) ⊎ (0 < tally c (ancestors ps b)))
-
-from-line : (ps : List ℕ) (f : ℕ → List ℕ) (p b c : ℕ) → (0 < p → f p ≡ ancestors ps p) → (0 < p → 0 < tally b (f p) → 0 < tally c (f p) → InLine ps b c)
-    → 0 < tally b (from_parent f p) → 0 < tally c (from_parent f p) → InLine ps b c
+from-line : (ps : List ℕ) (f : ℕ → List ℕ) (p b c : ℕ) → (0 < p → f p ≡ ancestors ps p) → (0 < p → 0 < tally b (f p) → 0 < tally c (f p) → Excludes ps b c)
+    → 0 < tally b (from_parent f p) → 0 < tally c (from_parent f p) → Excludes ps b c
 from-line ps f zero b c same further hb hc = absurd (omega arith)
 from-line ps f (suc p) b c same further hb hc = dite (ℕ_discrete (suc p) b)
     (λ e. dite (ℕ_discrete (suc p) c) (λ e'. inl (sym e ∙ e'))
@@ -71,20 +67,34 @@ from-line ps f (suc p) b c same further hb hc = dite (ℕ_discrete (suc p) b)
       (λ e. inr (inl (subst (λ (z : ℕ). 0 < tally b (ancestors ps z)) e (subst (λ (z : List ℕ). 0 < tally b z) (same (omega arith)) u))))
       (λ nc. let o' = one-other (suc p) c nc in further (omega arith) u (omega arith)))
 
-line-above : (ps : List ℕ) → IsTree ps → (m k b c : ℕ) → 0 < k → k ≤ m → 0 < tally b (above ps m k) → 0 < tally c (above ps m k) → InLine ps b c
+line-above : (ps : List ℕ) → IsTree ps → (m k b c : ℕ) → 0 < k → k ≤ m → 0 < tally b (above ps m k) → 0 < tally c (above ps m k) → Excludes ps b c
 line-above ps t zero k b c pos le hb hc = absurd (omega arith)
 line-above ps t (suc m) k b c pos le hb hc = let l = t k pos in let p : ℕ = slice_index ps k in
     from-line ps (above ps m) p b c (λ some_parent. enough ps t m p p some_parent (omega arith) (omega arith))
       (λ some_parent ub uc. line-above ps t m p b c some_parent (omega arith) ub uc) hb hc
 
--- two nodes that cover one node are in line
-pub in-line : (ps : List ℕ) → IsTree ps → (b c k : ℕ) → Covers ps b k → Covers ps c k → InLine ps b c
-in-line ps t b c k = ⊎_elim
+-- two nodes that cover one node exclude each other
+pub cover-excludes : (ps : List ℕ) → IsTree ps → (b c k : ℕ) → Covers ps b k → Covers ps c k → Excludes ps b c
+cover-excludes ps t b c k = ⊎_elim
     (λ (e : b ≡ k). ⊎_elim (λ (e' : c ≡ k). inl (e ∙ sym e')) (λ (u : 0 < tally c (ancestors ps k)). inr (inr (subst (λ (z : ℕ). 0 < tally c (ancestors ps z)) (sym e) u))))
     (λ (u : 0 < tally b (ancestors ps k)). ⊎_elim
       (λ (e : c ≡ k). inr (inl (subst (λ (z : ℕ). 0 < tally b (ancestors ps z)) (sym e) u)))
       (λ (w : 0 < tally c (ancestors ps k)). both k u w))
   where
-    both : (k : ℕ) → 0 < tally b (ancestors ps k) → 0 < tally c (ancestors ps k) → InLine ps b c
+    both : (k : ℕ) → 0 < tally b (ancestors ps k) → 0 < tally c (ancestors ps k) → Excludes ps b c
     both zero u w = absurd (omega arith)
     both (suc k) u w = line-above ps t (suc k) (suc k) b c (omega arith) (omega arith) u w
+
+from-zero : (f : ℕ → List ℕ) (p : ℕ) → ((q : ℕ) → tally 0 (f q) ≡ 0) → tally 0 (from_parent f p) ≡ 0
+from-zero f zero h = refl
+from-zero f (suc p) h = let o = one-other (suc p) 0 (λ e. omega arith) in let z = h (suc p) in omega arith
+
+zero-above : (ps : List ℕ) (m b : ℕ) → tally 0 (above ps m b) ≡ 0
+zero-above ps zero b = refl
+zero-above ps (suc m) b = from-zero (above ps m) (slice_index ps b) (λ q. zero-above ps m q)
+
+-- what is above b is a node, and has a smaller number
+pub above-smaller : (ps : List ℕ) → IsTree ps → (a b : ℕ) → 0 < tally a (ancestors ps b) → (0 < a) × (a < b)
+above-smaller ps t a zero h = absurd (omega arith)
+above-smaller ps t zero (suc b) h = let z = zero-above ps (suc b) (suc b) in absurd (omega arith)
+above-smaller ps t (suc a) (suc b) h = elim (dec_lt (suc a) (suc b)) [ yes l ↦ (omega arith, l) | no n ↦ let z = lower-above ps t (suc b) (suc b) (suc a) (omega arith) (omega arith) in absurd (omega arith) ]

@@ -58,7 +58,7 @@ module _ (P E : Type 0) where
             = over-most (λ b. tally a (ancestors v.tree b)) 0 v.held (λ b. subst (λ (q : List ℕ). tally a (ancestors q b) ≤ 1) (sym s.tree) (ancestors-once ps t a b)) in
       let w = s.wide in omega arith
 
-  few-shares : (ps : List ℕ) → IsTree ps → length ps ≤ 1024 → (a : ℕ) (v : View P E) → IsSound ps v → entered a v + unsure_in a v ≤ 2000 * parts v
+  pub few-shares : (ps : List ℕ) → IsTree ps → length ps ≤ 1024 → (a : ℕ) (v : View P E) → IsSound ps v → entered a v + unsure_in a v ≤ 2000 * parts v
   few-shares ps t few a v s = let u = one-most (eqb v.unsure a) in let p = s.once a in let l = lower-most ps t a v s in let some_part = s.some_part in omega arith
 
   -- the shares in a word never reach its exclusive part

@@ -6,7 +6,7 @@ use lib.ListN.{get_elem?}
 use Rattle.depot_rule.specs.declared.view.View.{View}
 use Rattle.depot_rule.specs.Sums.{total, one_if, tally}
 use Rattle.depot_rule.specs.Tree.{Covers}
-use Rattle.depot_rule.specs.Shares.{Each}
+use Rattle.depot_rule.specs.Shares.{Each, Has}
 
 -- 1 where the seat has the parcel of k, or its slot
 abbrev pub takes : {P E : Type 0} → ℕ → View P E → ℕ
@@ -25,14 +25,14 @@ module _ {P E : Type 0} where
   -- Of what lies in the slots (none where a slot is out), and of one view
   pub record Carries (kind_of : P → ℕ) (parents : List ℕ) (first : List (Option P)) (homes : List (maybe.Option (Option P))) (v : View P E) : Type 0 where
     pub opened : v.first ≡ first
-    pub nodes : (b : ℕ) (g : List (Option P)) → get_elem? v.held b ≡ some (Some g) → (0 < b) × (b < length parents)
+    pub nodes : (b : ℕ) (g : List (Option P)) → Has v b g → (0 < b) × (b < length parents)
     pub single : (k : ℕ) → 0 < k → takes k v ≤ 1
     -- what the seat has is covered by one of its grants
-    pub cover : (k : ℕ) → 0 < k → 0 < takes k v → (b : ℕ) × (g : List (Option P)) × (get_elem? v.held b ≡ some (Some g)) × Covers parents b k
+    pub cover : (k : ℕ) → 0 < k → 0 < takes k v → (b : ℕ) × (g : List (Option P)) × Has v b g × Covers parents b k
     -- a grant has a parcel for each node that it covers
-    pub whole : (b k : ℕ) (g : List (Option P)) → get_elem? v.held b ≡ some (Some g) → Covers parents b k → 0 < k → k < length parents → IsParcel kind_of first k (slice_index_or g k None)
+    pub whole : (b k : ℕ) (g : List (Option P)) → Has v b g → Covers parents b k → 0 < k → k < length parents → IsParcel kind_of first k (slice_index_or g k None)
     -- what it covers and hasn't taken lies in its slot as it was granted
-    pub there : (b k : ℕ) (g : List (Option P)) → get_elem? v.held b ≡ some (Some g) → Covers parents b k → 0 < k → k < length parents → takes k v ≡ 0 → get_elem? homes k ≡ some (some (slice_index_or g k None))
+    pub there : (b k : ℕ) (g : List (Option P)) → Has v b g → Covers parents b k → 0 < k → k < length parents → takes k v ≡ 0 → get_elem? homes k ≡ some (some (slice_index_or g k None))
     pub empty : (k : ℕ) → 0 < k → 0 < tally k v.gone → get_elem? homes k ≡ some (some None)
 
   pub record Parcels (kind_of : P → ℕ) (parents : List ℕ) (first : List (Option P)) (homes : List (maybe.Option (Option P))) (views : List (List (View P E))) : Type 0 where

@@ -6,8 +6,8 @@ use Rattle.atomic_table.specs.Table.{Me, Step, rest}
 use Rattle.depot_rule.specs.declared.view.View.{View}
 use Rattle.depot_rule.specs.declared.view.Read.{Read}
 use Rattle.depot_rule.specs.Sums.{without}
-use Rattle.depot_rule.specs.Tree.{ancestors, Covers}
-use Rattle.depot_rule.specs.Shares.{exclusive, shares}
+use Rattle.depot_rule.specs.Tree.{ancestors, Covers, Excludes}
+use Rattle.depot_rule.specs.Shares.{exclusive, shares, Has}
 use Rattle.depot_rule.specs.Parcels.{IsParcel}
 use Rattle.depot_rule.specs.Seats.{OnOne}
 
@@ -20,9 +20,9 @@ module _ {P E : Type 0} where
   abbrev pub noted : Step (Option P) → ℕ → View P E → List Read
   noted st found v = record { word = st.word; value = found; shares = shares st.word v } ∷ v.reads
 
-  -- a seat with all parts is the only one, and finds its own shares
-  abbrev pub FindsOwn : Step (Option P) → ℕ → View P E → Type 0
-  FindsOwn st found v = v.parts ≡ 64 → found ≡ shares st.word v
+  -- a seat that has all parts is the only one, so that what it finds is its own
+  abbrev pub IsOnly : View P E → Type 0
+  IsOnly v = v.parts ≡ 64
 
   -- a step that moves no slot
   abbrev pub Goes : (View P E → List (View P E) → Type 0) → Place P E → Place P E → Type 0
@@ -32,8 +32,7 @@ module _ {P E : Type 0} where
   abbrev pub EnterSays : Step (Option P) → Place P E → ℕ → Place P E → Type 0
   EnterSays st me found me' = Goes (λ v vs.
       (found < exclusive → vs ≡ record v { path = st.word ∷ v.path; reads = noted st found v } ∷ [])
-      × (exclusive ≤ found → vs ≡ record v { unsure = st.word; reads = noted st found v } ∷ [])
-      × FindsOwn st found v) me me'
+      × (exclusive ≤ found → (vs ≡ record v { unsure = st.word; reads = noted st found v } ∷ []) × (IsOnly v → (g : List (Option P)) × Has v st.word g))) me me'
 
   -- fetch_sub of 1, of the share that was found to be in vain
   abbrev pub BackOutSays : Step (Option P) → Place P E → ℕ → Place P E → Type 0
@@ -48,9 +47,9 @@ module _ {P E : Type 0} where
   ClaimSays kind_of st me found me' = Goes (λ v vs.
       (found ≡ 0 → (g : List (Option P))
         × (vs ≡ record v { path = []; held = slice_set v.held st.word (Some g); reads = noted st found v } ∷ [])
-        × ((k : ℕ) → 0 < k → k < length v.tree → Covers v.tree st.word k → IsParcel kind_of v.first k (slice_index_or g k None)))
-      × (found ≢ 0 → vs ≡ record v { reads = noted st found v } ∷ [])
-      × FindsOwn st found v) me me'
+        × ((k : ℕ) → 0 < k → k < length v.tree → Covers v.tree st.word k → IsParcel kind_of v.first k (slice_index_or g k None))
+        × ((c : ℕ) (h : List (Option P)) → Has v c h → Excludes v.tree st.word c → ⊥))
+      × (found ≢ 0 → (vs ≡ record v { reads = noted st found v } ∷ []) × (IsOnly v → (c : ℕ) × (h : List (Option P)) × Has v c h × Excludes v.tree st.word c))) me me'
 
   -- fetch_sub of 2^32: the grant ends, and its shares are to be left
   abbrev pub ReleaseSays : Step (Option P) → Place P E → ℕ → Place P E → Type 0
@@ -60,7 +59,7 @@ module _ {P E : Type 0} where
   abbrev pub FetchSays : Step (Option P) → Place P E → ℕ → Place P E → Type 0
   FetchSays st me found me' =
       OnOne (λ v. me'.0 ≡ record v { hand = st.word; reads = noted st found v } ∷ []) me.0
-      × OnOne (λ v. (b : ℕ) (g : List (Option P)) → get_elem? v.held b ≡ some (Some g) → Covers v.tree b st.word → me'.1 ≡ (st.word, slice_index_or g st.word None) ∷ me.1) me.0
+      × OnOne (λ v. (b : ℕ) (g : List (Option P)) → Has v b g → Covers v.tree b st.word → me'.1 ≡ (st.word, slice_index_or g st.word None) ∷ me.1) me.0
 
   -- a load, by which the slot comes home empty
   abbrev pub EmptySays : Step (Option P) → Place P E → ℕ → Place P E → Type 0

@@ -19,6 +19,10 @@ abbrev pub opening_view : {P E : Type 0} → List ℕ → List (Option P) → Vi
 opening_view parents first = record { parts = 64; tree = parents; unsure = 0; path = []; held = replicate (length parents) None; hand = 0; gone = []; reads = []; first = first; seen = []; mine = [] }
 
 module _ {P E : Type 0} where
+  -- the view has a grant of b, with the parcels g by node
+  abbrev pub Has : View P E → ℕ → List (Option P) → Type 0
+  Has v b g = get_elem? v.held b ≡ some (Some g)
+
   abbrev pub parts : View P E → ℕ
   parts v = v.parts
 

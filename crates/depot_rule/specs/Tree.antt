@@ -22,3 +22,7 @@ ancestors parents b = above parents b b
 -- b is k, or above it
 abbrev pub Covers : List ℕ → ℕ → ℕ → Type 0
 Covers parents b k = (b ≡ k) ⊎ (0 < tally b (ancestors parents k))
+
+-- one of the two is the other, or above it
+abbrev pub Excludes : List ℕ → ℕ → ℕ → Type 0
+Excludes parents b c = (b ≡ c) ⊎ ((0 < tally b (ancestors parents c)) ⊎ (0 < tally c (ancestors parents b)))
