@@ -5,3 +5,5 @@ pub mod Parcels
 pub mod Rule
 pub mod Seats
 pub mod Plays
+pub mod History
+pub mod Machine
