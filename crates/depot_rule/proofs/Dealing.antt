@@ -1,5 +1,5 @@
 -- Views that are dealt out anew: seats that meet, part and are joined keep the rule.
-use Rattle.std.proofs.Common.{◌≡◌, ◌≢◌, ◌⊎◌, ℕ, zero, suc, ◌+◌, ◌-◌, ◌*◌, ◌<◌, ◌≤◌, eqb, List, [], ◌∷◌, ◌++◌, map, length, replicate, get_or, set, sym, refl, ap, ◌∙◌, subst, arith, Option, Some, None, ⊎_elim, inl, inr}
+use Rattle.std.proofs.Common.{◌≡◌, ◌≢◌, ℕ, zero, suc, ◌+◌, ◌<◌, eqb, List, [], ◌∷◌, ◌++◌, map, replicate, set, sym, refl, ap, ◌∙◌, subst, arith, Option, None}
 use mathlib.Core.Option.{some, some-injective, some-ne-none}
 use mathlib.Core.Option as maybe
 use lib.ListN.{get_elem?}
@@ -8,10 +8,10 @@ use Rattle.atomic_table.proofs.Lists.{set_else}
 use Rattle.depot_rule.specs.declared.view.View.{View}
 use Rattle.depot_rule.specs.Sums.{total, one_if, tally, over_taken}
 use Rattle.depot_rule.specs.Tree.{ancestors}
-use Rattle.depot_rule.specs.Shares.{Each, parts, claims, entered, shares, IsSound, Shares}
-use Rattle.depot_rule.specs.Parcels.{takes, Carries, Parcels}
+use Rattle.depot_rule.specs.Shares.{Each, parts, claims, entered, shares, IsSound}
+use Rattle.depot_rule.specs.Parcels.{takes, Carries}
 use Rattle.depot_rule.specs.Rule.{Rule}
-use Rattle.depot_rule.specs.Seats.{longer, view_of, having_seen, met, first_of, others_of, fresh}
+use Rattle.depot_rule.specs.Seats.{longer, view_of, having_seen, met, first_of, others_of}
 use Rattle.depot_rule.proofs.Sums.{one-other, total-set, total-append, total-map, over-none}
 use Rattle.depot_rule.proofs.Views.{All, all-none, all-one, all-append, each-set, each-more}
 
@@ -65,34 +65,36 @@ module _ (P E : Type 0) (kind_of : P → ℕ) where
 
   pub joined : (ps : List ℕ) (first : List (Option P)) (id : ℕ) (vs : List (View P E)) (other : ℕ) (ws both : List (View P E))
       → ((s : St) → Rule kind_of ps first s → get_elem? s.views id ≡ some vs → get_elem? s.views other ≡ some ws → id ≢ other
-          → Agree (λ f. total f both ≡ total f vs + total f ws) × All (IsSound ps) both × All (Carries kind_of ps first s.homes) both)
+      → Agree (λ f. total f both ≡ total f vs + total f ws) × All (IsSound ps) both × All (Carries kind_of ps first s.homes) both)
       → Joins (Rule kind_of ps first) id vs other ws both []
   joined ps first id vs other ws both go s r at ne at' =
       let there : get_elem? s.views other ≡ some ws = sym (set_else s.views id other both ne) ∙ at' in
       let q = go s r at there (λ e. ne (sym e)) in
-      redealt ps first s r (set (set s.views id both) other [])
-        (total-joined parts s.views id other vs ws both at at' q.0.0,
-         (λ a p. total-joined (shares a) s.views id other vs ws both at at' (q.0.1 a p)),
-         (λ a p. total-joined (claims a) s.views id other vs ws both at at' (q.0.2 a p)),
-         (λ a p. total-joined (entered a) s.views id other vs ws both at at' (q.0.3 a p)),
-         (λ k p. total-joined (takes k) s.views id other vs ws both at at' (q.0.4 k p)))
-        (each-set (IsSound ps) (set s.views id both) other [] (each-set (IsSound ps) s.views id both r.shares.sound q.1) (all-none (IsSound ps)))
-        (each-set (Carries kind_of ps first s.homes) (set s.views id both) other [] (each-set (Carries kind_of ps first s.homes) s.views id both r.parcels.carries q.2) (all-none (Carries kind_of ps first s.homes)))
+      redealt ps first s r (set (set s.views id both) other []) (
+        total-joined parts s.views id other vs ws both at at' q.0.0,
+        (λ a p. total-joined (shares a) s.views id other vs ws both at at' (q.0.1 a p)),
+        (λ a p. total-joined (claims a) s.views id other vs ws both at at' (q.0.2 a p)),
+        (λ a p. total-joined (entered a) s.views id other vs ws both at at' (q.0.3 a p)),
+        (λ k p. total-joined (takes k) s.views id other vs ws both at at' (q.0.4 k p)),
+      )
+      (each-set (IsSound ps) (set s.views id both) other [] (each-set (IsSound ps) s.views id both r.shares.sound q.1) (all-none (IsSound ps)))
+      (each-set (Carries kind_of ps first s.homes) (set s.views id both) other [] (each-set (Carries kind_of ps first s.homes) s.views id both r.parcels.carries q.2) (all-none (Carries kind_of ps first s.homes)))
 
   pub parted_in : (ps : List ℕ) (first : List (Option P)) (id : ℕ) (vs left right : List (View P E))
       → ((s : St) → Rule kind_of ps first s → get_elem? s.views id ≡ some vs
-          → Agree (λ f. total f left + total f right ≡ total f vs) × (All (IsSound ps) left × All (IsSound ps) right) × (All (Carries kind_of ps first s.homes) left × All (Carries kind_of ps first s.homes) right))
+      → Agree (λ f. total f left + total f right ≡ total f vs) × (All (IsSound ps) left × All (IsSound ps) right) × (All (Carries kind_of ps first s.homes) left × All (Carries kind_of ps first s.homes) right))
       → Splits (Rule kind_of ps first) id vs left right
   parted_in ps first id vs left right go s r at =
       let q = go s r at in
-      redealt ps first s r (set s.views id left ++ right ∷ [])
-        (total-parted parts s.views id vs left right at q.0.0,
-         (λ a p. total-parted (shares a) s.views id vs left right at (q.0.1 a p)),
-         (λ a p. total-parted (claims a) s.views id vs left right at (q.0.2 a p)),
-         (λ a p. total-parted (entered a) s.views id vs left right at (q.0.3 a p)),
-         (λ k p. total-parted (takes k) s.views id vs left right at (q.0.4 k p)))
-        (each-more (IsSound ps) (set s.views id left) right (each-set (IsSound ps) s.views id left r.shares.sound q.1.0) q.1.1)
-        (each-more (Carries kind_of ps first s.homes) (set s.views id left) right (each-set (Carries kind_of ps first s.homes) s.views id left r.parcels.carries q.2.0) q.2.1)
+      redealt ps first s r (set s.views id left ++ right ∷ []) (
+        total-parted parts s.views id vs left right at q.0.0,
+        (λ a p. total-parted (shares a) s.views id vs left right at (q.0.1 a p)),
+        (λ a p. total-parted (claims a) s.views id vs left right at (q.0.2 a p)),
+        (λ a p. total-parted (entered a) s.views id vs left right at (q.0.3 a p)),
+        (λ k p. total-parted (takes k) s.views id vs left right at (q.0.4 k p)),
+      )
+      (each-more (IsSound ps) (set s.views id left) right (each-set (IsSound ps) s.views id left r.shares.sound q.1.0) q.1.1)
+      (each-more (Carries kind_of ps first s.homes) (set s.views id left) right (each-set (Carries kind_of ps first s.homes) s.views id left r.parcels.carries q.2.0) q.2.1)
 
   seen-sound : (ps : List ℕ) (es : List E) (v : View P E) → IsSound ps v → IsSound ps (having_seen es v)
   seen-sound ps es v s = record { some_part = s.some_part; tree = s.tree; wide = s.wide; once = s.once }
@@ -104,20 +106,25 @@ module _ (P E : Type 0) (kind_of : P → ℕ) where
   pub meets : (ps : List ℕ) (first : List (Option P)) (id : ℕ) (vs : List (View P E)) (other : ℕ) (ws : List (View P E)) → Joins (Rule kind_of ps first) id vs other ws (met vs ws) []
   meets ps first id vs other ws = joined ps first id vs other ws (met vs ws) (λ s r at at' ne.
       let es : List E = longer (view_of vs).seen (view_of ws).seen in
-      let adds : (f : View P E → ℕ) → ((v : View P E) → f (having_seen es v) ≡ f v) → total f (met vs ws) ≡ total f vs + total f ws = λ f h. total-map f (having_seen es) f h (vs ++ ws) ∙ total-append f vs ws in
-      ((adds parts (λ v. refl), (λ a p. adds (shares a) (λ v. refl)), (λ a p. adds (claims a) (λ v. refl)), (λ a p. adds (entered a) (λ v. refl)), (λ k p. adds (takes k) (λ v. refl))),
-       all-map (IsSound ps) (having_seen es) (seen-sound ps es) (vs ++ ws) (all-append (IsSound ps) vs ws (r.shares.sound id vs at) (r.shares.sound other ws at')),
-       all-map (Carries kind_of ps first s.homes) (having_seen es) (seen-carries ps first s.homes es) (vs ++ ws)
-         (all-append (Carries kind_of ps first s.homes) vs ws (r.parcels.carries id vs at) (r.parcels.carries other ws at'))))
+      let adds : (f : View P E → ℕ) → ((v : View P E) → f (having_seen es v) ≡ f v) → total f (met vs ws) ≡ total f vs + total f ws = λ f h. total-map f (having_seen es) f h (vs ++ ws) ∙ total-append f vs ws in (
+        (adds parts (λ v. refl), (λ a p. adds (shares a) (λ v. refl)), (λ a p. adds (claims a) (λ v. refl)), (λ a p. adds (entered a) (λ v. refl)), (λ k p. adds (takes k) (λ v. refl))),
+        all-map (IsSound ps) (having_seen es) (seen-sound ps es) (vs ++ ws) (all-append (IsSound ps) vs ws (r.shares.sound id vs at) (r.shares.sound other ws at')),
+        all-map (Carries kind_of ps first s.homes) (having_seen es) (seen-carries ps first s.homes es) (vs ++ ws)
+            (all-append (Carries kind_of ps first s.homes) vs ws (r.parcels.carries id vs at) (r.parcels.carries other ws at')),
+      ))
 
   -- and part again, each with its own view
   pub parts-again : (ps : List ℕ) (first : List (Option P)) (id : ℕ) (vs : List (View P E)) → Splits (Rule kind_of ps first) id vs (first_of vs) (others_of vs)
-  parts-again ps first id [] = parted_in ps first id [] [] [] (λ s r at. ((refl, (λ a p. refl), (λ a p. refl), (λ a p. refl), (λ k p. refl)),
-      (all-none (IsSound ps), all-none (IsSound ps)), (all-none (Carries kind_of ps first s.homes), all-none (Carries kind_of ps first s.homes))))
-  parts-again ps first id (v ∷ vs) = parted_in ps first id (v ∷ vs) (v ∷ []) vs (λ s r at.
-      ((omega arith, (λ a p. omega arith), (λ a p. omega arith), (λ a p. omega arith), (λ k p. omega arith)),
-       (all-one (IsSound ps) v (r.shares.sound id (v ∷ vs) at 0 v refl), (λ i u e. r.shares.sound id (v ∷ vs) at (suc i) u e)),
-       (all-one (Carries kind_of ps first s.homes) v (r.parcels.carries id (v ∷ vs) at 0 v refl), (λ i u e. r.parcels.carries id (v ∷ vs) at (suc i) u e))))
+  parts-again ps first id [] = parted_in ps first id [] [] [] (λ s r at. (
+    (refl, (λ a p. refl), (λ a p. refl), (λ a p. refl), (λ k p. refl)),
+    (all-none (IsSound ps), all-none (IsSound ps)),
+    (all-none (Carries kind_of ps first s.homes), all-none (Carries kind_of ps first s.homes)),
+  ))
+  parts-again ps first id (v ∷ vs) = parted_in ps first id (v ∷ vs) (v ∷ []) vs (λ s r at. (
+    (omega arith, (λ a p. omega arith), (λ a p. omega arith), (λ a p. omega arith), (λ k p. omega arith)),
+    (all-one (IsSound ps) v (r.shares.sound id (v ∷ vs) at 0 v refl), (λ i u e. r.shares.sound id (v ∷ vs) at (suc i) u e)),
+    (all-one (Carries kind_of ps first s.homes) v (r.parcels.carries id (v ∷ vs) at 0 v refl), (λ i u e. r.parcels.carries id (v ∷ vs) at (suc i) u e)),
+  ))
 
   -- a view with nothing entered, granted or taken
   pub bare-counts : (v : View P E) (a : ℕ) → 0 < a → v.unsure ≡ 0 → v.path ≡ [] → v.hand ≡ 0 → v.gone ≡ [] → (n : ℕ) → v.held ≡ replicate n None

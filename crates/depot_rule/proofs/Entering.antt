@@ -1,5 +1,5 @@
 -- The steps enter, back out and leave, as the table asks for them.
-use Rattle.std.proofs.Common.{◌≡◌, ◌≢◌, ℕ, zero, suc, ◌+◌, ◌-◌, ◌*◌, ◌%◌, ◌^◌, ◌<◌, ◌≤◌, eqb, List, [], ◌∷◌, drop, length, get_or, set, sym, refl, ap, ◌∙◌, subst, arith, Option, Some, None}
+use Rattle.std.proofs.Common.{◌≡◌, ℕ, ◌+◌, ◌-◌, ◌%◌, ◌^◌, ◌<◌, List, [], ◌∷◌, drop, length, get_or, set, sym, refl, ap, ◌∙◌, subst, arith, Option}
 use mathlib.Core.Option.{none, some}
 use native.Mathlib.Decide.{dec_lt}
 use lib.ListN.{get_elem?}
@@ -7,8 +7,8 @@ use Rattle.atomic_table.specs.Table.{State, Step, step, keeps, stepped, Allows}
 use Rattle.depot_rule.specs.declared.view.View.{View}
 use Rattle.depot_rule.specs.declared.view.Read.{Read}
 use Rattle.depot_rule.specs.Sums.{tally}
-use Rattle.depot_rule.specs.Shares.{exclusive, shares, Shares}
-use Rattle.depot_rule.specs.Parcels.{Carries, Parcels}
+use Rattle.depot_rule.specs.Shares.{exclusive}
+use Rattle.depot_rule.specs.Parcels.{Parcels}
 use Rattle.depot_rule.specs.Rule.{Rule}
 use Rattle.depot_rule.specs.Plays.{Place, noted, EnterSays, BackOutSays, LeaveSays}
 use Rattle.depot_rule.proofs.Views.{finds-own}
@@ -27,7 +27,7 @@ module _ (P E : Type 0) (kind_of : P → ℕ) where
   stays ps first s r id v path unsure rs at =
       let ca = r.parcels.carries id (v ∷ []) at 0 v refl in
       stay-keeps P E kind_of ps first s r id v (record v { path = path; unsure = unsure; reads = rs }) at (λ k. refl)
-        (record { opened = ca.opened; nodes = ca.nodes; single = ca.single; cover = ca.cover; whole = ca.whole; there = ca.there; empty = ca.empty })
+      (record { opened = ca.opened; nodes = ca.nodes; single = ca.single; cover = ca.cover; whole = ca.whole; there = ca.there; empty = ca.empty })
 
   pub enters : (ps : List ℕ) (first : List (Option P)) (slots id : ℕ) (me : Place P E) (v : View P E) (i : ℕ) → me.0 ≡ v ∷ [] → 0 < i → i < length ps → v.unsure ≡ 0 → tally i v.path ≡ 0
       → Allows (Rule kind_of ps first) slots id me i (λ x. (x + 1) % 2 ^ 64) (EnterSays (step slots i 1 0 none) me)
@@ -40,17 +40,23 @@ module _ (P E : Type 0) (kind_of : P → ℕ) where
       let own = finds-own P E ps s.words s.views r.shares i id v at pos lt in
       elim (dec_lt x exclusive) [
         | yes free ↦
-          let w : View P E = record v { path = i ∷ v.path; reads = noted st x v } in
-          (w ∷ [], keeps, tt,
-            subst (λ (z : ℕ). Rule kind_of ps first (stepped s i z id me.1 (w ∷ []) keeps)) (sym wrap)
-              (record { shares = enter-keeps P E ps s.words s.views r.shares i id v (noted st x v) at pos lt fresh free; parcels = stays ps first s r id v (i ∷ v.path) v.unsure (noted st x v) at }),
-            (on-one _ me.0 v one ((λ _. refl), (λ full. absurd (omega arith))), refl))
+            let w : View P E = record v { path = i ∷ v.path; reads = noted st x v } in (
+              w ∷ [],
+              keeps,
+              tt,
+              subst (λ (z : ℕ). Rule kind_of ps first (stepped s i z id me.1 (w ∷ []) keeps)) (sym wrap)
+                  (record { shares = enter-keeps P E ps s.words s.views r.shares i id v (noted st x v) at pos lt fresh free; parcels = stays ps first s r id v (i ∷ v.path) v.unsure (noted st x v) at }),
+              (on-one _ me.0 v one ((λ _. refl), (λ full. absurd (omega arith))), refl),
+            )
         | no busy ↦
-          let w : View P E = record v { unsure = i; reads = noted st x v } in
-          (w ∷ [], keeps, tt,
-            subst (λ (z : ℕ). Rule kind_of ps first (stepped s i z id me.1 (w ∷ []) keeps)) (sym wrap)
-              (record { shares = vain-keeps P E ps s.words s.views r.shares i id v (noted st x v) at pos lt calm (omega arith); parcels = stays ps first s r id v v.path i (noted st x v) at }),
-            (on-one _ me.0 v one ((λ free. absurd (omega arith)), (λ full. (refl, λ all. own-claim P E ps r.shares.tree r.shares.few i v (r.shares.sound id (v ∷ []) at 0 v refl) (let o = own all in omega arith) all))), refl))
+            let w : View P E = record v { unsure = i; reads = noted st x v } in (
+              w ∷ [],
+              keeps,
+              tt,
+              subst (λ (z : ℕ). Rule kind_of ps first (stepped s i z id me.1 (w ∷ []) keeps)) (sym wrap)
+                  (record { shares = vain-keeps P E ps s.words s.views r.shares i id v (noted st x v) at pos lt calm (omega arith); parcels = stays ps first s r id v v.path i (noted st x v) at }),
+              (on-one _ me.0 v one ((λ free. absurd (omega arith)), (λ full. (refl, λ all. own-claim P E ps r.shares.tree r.shares.few i v (r.shares.sound id (v ∷ []) at 0 v refl) (let o = own all in omega arith) all))), refl),
+            )
       ]
 
   pub backs-out : (ps : List ℕ) (first : List (Option P)) (slots id : ℕ) (me : Place P E) (v : View P E) (i : ℕ) → me.0 ≡ v ∷ [] → 0 < i → i < length ps → v.unsure ≡ i
@@ -62,11 +68,14 @@ module _ (P E : Type 0) (kind_of : P → ℕ) where
       let kept = back-out-keeps P E ps s.words s.views r.shares i id v (noted st x v) at pos lt unsure in
       let some_share = kept.0 in
       let wrap : (x + 18446744073709551615) % 18446744073709551616 ≡ x - 1 = omega arith in
-      let w : View P E = record v { unsure = 0; reads = noted st x v } in
-      (w ∷ [], keeps, tt,
+      let w : View P E = record v { unsure = 0; reads = noted st x v } in (
+        w ∷ [],
+        keeps,
+        tt,
         subst (λ (z : ℕ). Rule kind_of ps first (stepped s i z id me.1 (w ∷ []) keeps)) (sym wrap)
-          (record { shares = kept.1; parcels = stays ps first s r id v v.path 0 (noted st x v) at }),
-        (on-one _ me.0 v one refl, refl))
+            (record { shares = kept.1; parcels = stays ps first s r id v v.path 0 (noted st x v) at }),
+        (on-one _ me.0 v one refl, refl),
+      )
 
   pub leaves : (ps : List ℕ) (first : List (Option P)) (slots id : ℕ) (me : Place P E) (v : View P E) (i : ℕ) (rest : List ℕ) → me.0 ≡ v ∷ [] → 0 < i → i < length ps → v.path ≡ i ∷ rest
       → Allows (Rule kind_of ps first) slots id me i (λ x. (x + (2 ^ 64 - 1)) % 2 ^ 64) (LeaveSays (step slots i 1 0 none) me)
@@ -78,8 +87,11 @@ module _ (P E : Type 0) (kind_of : P → ℕ) where
       let some_share = kept.0 in
       let wrap : (x + 18446744073709551615) % 18446744073709551616 ≡ x - 1 = omega arith in
       let w : View P E = record v { path = rest; reads = noted st x v } in
-      let tail : drop 1 v.path ≡ rest = ap (drop 1) path in
-      (w ∷ [], keeps, tt,
+      let tail : drop 1 v.path ≡ rest = ap (drop 1) path in (
+        w ∷ [],
+        keeps,
+        tt,
         subst (λ (z : ℕ). Rule kind_of ps first (stepped s i z id me.1 (w ∷ []) keeps)) (sym wrap)
-          (record { shares = kept.1; parcels = stays ps first s r id v rest v.unsure (noted st x v) at }),
-        (on-one _ me.0 v one (ap (λ (p : List ℕ). let z : View P E = record v { path = p; reads = noted st x v } in z ∷ []) (sym tail)), refl))
+            (record { shares = kept.1; parcels = stays ps first s r id v rest v.unsure (noted st x v) at }),
+        (on-one _ me.0 v one (ap (λ (p : List ℕ). let z : View P E = record v { path = p; reads = noted st x v } in z ∷ []) (sym tail)), refl),
+      )

@@ -1,11 +1,11 @@
 -- Grants of all seats: no node is covered by two.
-use Rattle.std.proofs.Common.{◌≡◌, ◌≢◌, ◌⊎◌, ℕ, zero, suc, ◌+◌, ◌*◌, ◌<◌, ◌≤◌, eqb, List, [], ◌∷◌, length, sym, refl, ap, ◌∙◌, subst, arith, Option, Some, None, ⊎_elim}
+use Rattle.std.proofs.Common.{◌≡◌, ◌⊎◌, ℕ, zero, suc, ◌<◌, ◌≤◌, eqb, List, [], ◌∷◌, length, sym, refl, ap, ◌∙◌, arith, Option, Some, ⊎_elim}
 use mathlib.Core.Option.{some, some-injective, some-ne-none}
 use mathlib.Core.Logic.{dite}
 use native.Mathlib.Decide.{ℕ_discrete}
 use lib.ListN.{get_elem?}
 use Rattle.depot_rule.specs.declared.view.View.{View}
-use Rattle.depot_rule.specs.Sums.{total, one_if, tally, over_taken}
+use Rattle.depot_rule.specs.Sums.{total, one_if, tally}
 use Rattle.depot_rule.specs.Tree.{ancestors, Covers}
 use Rattle.depot_rule.specs.Shares.{claims, lower, entered, IsSound, Shares}
 use Rattle.depot_rule.proofs.Sums.{one-same, total-at, total-two, over-at}
@@ -54,19 +54,19 @@ module _ (P E : Type 0) where
       let lt' = at-length v.held b (Some g) here in let wide = (r.sound j vs at i v in_vs).wide in let lt : b < length ps = omega arith in
       let most = claimed-once ps ws views r b pb lt in
       ⊎_elim
-        (λ (e : b ≡ c).
-          let m = claims-own v b g here in
-          let m' : 1 ≤ claims b u = claims-own u b h (ap (get_elem? u.held) e ∙ there) in
-          let s = total-at (claims b) vs i v in_vs in let s' = total-at (claims b) us i' u in_us in
-          dite (ℕ_discrete j j')
-            (λ same. dite (ℕ_discrete i i')
-              (λ same'. (same, same', e))
-              (λ ne.
-                let is : some us ≡ some vs = sym at' ∙ (sym (ap (get_elem? views) same) ∙ at) in
-                let in_vs' : get_elem? vs i' ≡ some u = sym (ap (λ (zs : List (View P E)). get_elem? zs i') (some-injective us vs is)) ∙ in_us in
-                let two = total-two (claims b) vs i i' v u in_vs in_vs' ne in let s'' = total-at (total (claims b)) views j vs at in absurd (omega arith)))
-            (λ ne. let two = total-two (total (claims b)) views j j' vs us at at' ne in absurd (omega arith)))
-        (λ (o : (0 < tally b (ancestors ps c)) ⊎ (0 < tally c (ancestors ps b))). ⊎_elim
-          (λ (t : 0 < tally b (ancestors ps c)). let z = apart ps ws views r j j' i i' b c vs us v u g h pb at in_vs here at' in_us there in absurd (omega arith))
-          (λ (t : 0 < tally c (ancestors ps b)). let z = apart ps ws views r j' j i' i c b us vs u v h g pc at' in_us there at in_vs here in absurd (omega arith)) o)
-        (cover-excludes ps r.tree b c k cb cc')
+      (λ (e : b ≡ c).
+      let m = claims-own v b g here in
+      let m' : 1 ≤ claims b u = claims-own u b h (ap (get_elem? u.held) e ∙ there) in
+      let s = total-at (claims b) vs i v in_vs in let s' = total-at (claims b) us i' u in_us in
+      dite (ℕ_discrete j j')
+      (λ same. dite (ℕ_discrete i i')
+      (λ same'. (same, same', e))
+      (λ ne.
+      let is : some us ≡ some vs = sym at' ∙ (sym (ap (get_elem? views) same) ∙ at) in
+      let in_vs' : get_elem? vs i' ≡ some u = sym (ap (λ (zs : List (View P E)). get_elem? zs i') (some-injective us vs is)) ∙ in_us in
+      let two = total-two (claims b) vs i i' v u in_vs in_vs' ne in let s'' = total-at (total (claims b)) views j vs at in absurd (omega arith)))
+      (λ ne. let two = total-two (total (claims b)) views j j' vs us at at' ne in absurd (omega arith)))
+      (λ (o : (0 < tally b (ancestors ps c)) ⊎ (0 < tally c (ancestors ps b))). ⊎_elim
+      (λ (t : 0 < tally b (ancestors ps c)). let z = apart ps ws views r j j' i i' b c vs us v u g h pb at in_vs here at' in_us there in absurd (omega arith))
+      (λ (t : 0 < tally c (ancestors ps b)). let z = apart ps ws views r j' j i' i c b us vs u v h g pc at' in_us there at in_vs here in absurd (omega arith)) o)
+      (cover-excludes ps r.tree b c k cb cc')

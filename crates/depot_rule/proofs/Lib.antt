@@ -12,3 +12,4 @@ pub mod Slots
 pub mod Dealing
 pub mod Joining
 pub mod Opening
+pub mod Following

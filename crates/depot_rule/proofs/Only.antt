@@ -1,14 +1,13 @@
 -- What the only seat learns where it isn't granted.
-use Rattle.std.proofs.Common.{◌≡◌, ◌≢◌, ◌⊎◌, ℕ, zero, suc, ◌+◌, ◌*◌, ◌<◌, ◌≤◌, eqb, List, [], ◌∷◌, length, sym, refl, ap, ◌∙◌, arith, subst, Option, Some, None, inl, inr}
-use mathlib.Core.Option.{some}
+use Rattle.std.proofs.Common.{◌≡◌, ◌≢◌, ℕ, zero, suc, ◌<◌, ◌≤◌, eqb, List, length, sym, refl, ap, ◌∙◌, arith, subst, Option, inl, inr}
 use mathlib.Core.Logic.{dite}
 use native.Mathlib.Decide.{ℕ_discrete}
 use lib.ListN.{get_elem?}
 use Rattle.depot_rule.specs.declared.view.View.{View}
-use Rattle.depot_rule.specs.Sums.{one_if, tally, over_taken}
+use Rattle.depot_rule.specs.Sums.{one_if, tally}
 use Rattle.depot_rule.specs.Tree.{IsTree, ancestors, Excludes}
-use Rattle.depot_rule.specs.Shares.{exclusive, Has, claims, lower, entered, shares, IsSound}
-use Rattle.depot_rule.proofs.Sums.{one-is, one-most, one-other, over-some}
+use Rattle.depot_rule.specs.Shares.{exclusive, Has, claims, lower, shares, IsSound}
+use Rattle.depot_rule.proofs.Sums.{one-is, one-other, over-some}
 use Rattle.depot_rule.proofs.Trees.{not-above}
 use Rattle.depot_rule.proofs.Views.{few-shares}
 
@@ -26,9 +25,9 @@ module _ (P E : Type 0) where
   own-or-below ps t b v s path calm pos busy =
       let p = path b in let n = not-above ps t b in let u = one-other v.unsure b (λ e. omega arith) in
       dite (ℕ_discrete (claims b v) 0)
-        (λ z. let r = over-some (λ c. tally b (ancestors v.tree c)) v.held (some-lower (lower b v) (claims b v) (λ h. busy (omega arith))) in
-          (r.0, r.1, r.2, inr (inl (subst (λ (q : List ℕ). 0 < tally b (ancestors q r.0)) s.tree r.3))))
-        (λ nz. let r = over-some (λ c. one_if (eqb c b)) v.held (omega arith) in (r.0, r.1, r.2, inl (sym (one-is r.0 b r.3))))
+      (λ z. let r = over-some (λ c. tally b (ancestors v.tree c)) v.held (some-lower (lower b v) (claims b v) (λ h. busy (omega arith))) in
+      (r.0, r.1, r.2, inr (inl (subst (λ (q : List ℕ). 0 < tally b (ancestors q r.0)) s.tree r.3))))
+      (λ nz. let r = over-some (λ c. one_if (eqb c b)) v.held (omega arith) in (r.0, r.1, r.2, inl (sym (one-is r.0 b r.3))))
     where
       some-lower : (m n : ℕ) → (m ≡ 0 → ⊥) → 0 < m
       some-lower zero n h = absurd (h refl)

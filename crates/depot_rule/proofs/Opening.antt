@@ -1,13 +1,12 @@
 -- The beginning and the end of a depot.
-use Rattle.std.proofs.Common.{◌≡◌, ◌⊎◌, ℕ, zero, suc, ◌+◌, ◌*◌, ◌<◌, ◌≤◌, eqb, List, [], ◌∷◌, map, length, replicate, get_or, sym, refl, ap, ◌∙◌, subst, arith, Option, Some, None}
+use Rattle.std.proofs.Common.{◌≡◌, ℕ, zero, suc, ◌<◌, ◌≤◌, List, [], ◌∷◌, map, length, replicate, get_or, sym, refl, ap, ◌∙◌, subst, arith, Option, Some, None}
 use Rattle.std.proofs.lemmas.List.{length-replicate}
 use mathlib.Core.Option.{some, some-injective, some-ne-none}
 use lib.ListN.{get_elem?}
 use Rattle.atomic_table.specs.Table.{State, opening}
 use Rattle.depot_rule.specs.declared.view.View.{View}
-use Rattle.depot_rule.specs.Sums.{total, tally}
-use Rattle.depot_rule.specs.Tree.{IsTree, Covers}
-use Rattle.depot_rule.specs.Shares.{opening_view, parts, claims, entered, shares, IsSound}
+use Rattle.depot_rule.specs.Tree.{IsTree}
+use Rattle.depot_rule.specs.Shares.{opening_view, claims, entered, shares, IsSound}
 use Rattle.depot_rule.specs.Parcels.{takes, kind_at, IsParcel, Carries}
 use Rattle.depot_rule.specs.Rule.{Rule}
 use Rattle.depot_rule.proofs.Views.{all-one, only-view}
@@ -60,7 +59,8 @@ module _ (P E : Type 0) (kind_of : P → ℕ) where
             cover = λ k p h. let z = bare k p in let q = z.3 in absurd (omega arith);
             whole = λ b k g e. absurd (none-held (length ps) b g e);
             there = λ b k g e. absurd (none-held (length ps) b g e);
-            empty = λ k p h. absurd (omega arith) });
+            empty = λ k p h. absurd (omega arith);
+          });
         };
       }
 
@@ -71,7 +71,7 @@ module _ (P E : Type 0) (kind_of : P → ℕ) where
   closes ps first s r id v at all none_open k p l =
       let ca = r.parcels.carries id (v ∷ []) at 0 v refl in
       r.parcels.home k p l (only-view P E ps s.words s.views r.shares id v at all (takes k)
-        ∙ (let z : (0 < takes k v → ⊥) = (λ h. let c = ca.cover k p h in none_open c.0 c.1 c.2) in none-then (takes k v) z))
+      ∙ (let z : (0 < takes k v → ⊥) = (λ h. let c = ca.cover k p h in none_open c.0 c.1 c.2) in none-then (takes k v) z))
     where
       none-then : (n : ℕ) → (0 < n → ⊥) → n ≡ 0
       none-then zero z = refl

@@ -62,6 +62,21 @@ module _ {A : Type 0} where
       let m = total-at g zs i x e in let none : g z ≡ 0 = omega arith in let b = h 0 z refl none in
       let r = total-alone f g zs i x e (omega arith) (λ j y d. h (suc j) y d) in omega arith
 
+  -- what counts is somewhere
+  pub total-some : (f : A → ℕ) (l : List A) → 0 < total f l → (i : ℕ) × (x : A) × (get_elem? l i ≡ some x) × (0 < f x)
+  total-some f [] h = absurd (omega arith)
+  total-some f (x ∷ xs) h = dite (ℕ_discrete (f x) 0)
+      (λ z. let r = total-some f xs (omega arith) in (suc r.0, r.1, r.2, r.3))
+      (λ nz. (0, x, refl, (let p : 0 < f x = omega arith in p)))
+
+  -- where each counts at most 1, and no two count, the sum is at most 1
+  pub total-one : (f : A → ℕ) (l : List A) → ((i : ℕ) (x : A) → get_elem? l i ≡ some x → f x ≤ 1)
+      → ((i j : ℕ) (x y : A) → get_elem? l i ≡ some x → get_elem? l j ≡ some y → 0 < f x → 0 < f y → i ≡ j) → total f l ≤ 1
+  total-one f [] most two = omega arith
+  total-one f (x ∷ xs) most two = let m = most 0 x refl in dite (ℕ_discrete (f x) 0)
+      (λ z. let r = total-one f xs (λ i y e. most (suc i) y e) (λ i j y w e d p q. let t = two (suc i) (suc j) y w e d p q in omega arith) in omega arith)
+      (λ nz. let r = total-zero f xs (λ j y e. dite (ℕ_discrete (f y) 0) (λ z. z) (λ ny. absurd (let t = two 0 (suc j) x y refl e (omega arith) (omega arith) in omega arith))) in omega arith)
+
   pub total-append : (f : A → ℕ) (xs ys : List A) → total f (xs ++ ys) ≡ total f xs + total f ys
   total-append f [] ys = omega arith
   total-append f (x ∷ xs) ys = let r = total-append f xs ys in omega arith

@@ -1,8 +1,8 @@
 -- The nodes above a node.
-use Rattle.std.proofs.Common.{◌≡◌, ◌⊎◌, ℕ, zero, suc, ◌+◌, ◌<◌, ◌≤◌, eqb, List, [], ◌∷◌, slice_index, sym, ap, ◌∙◌, subst, arith, refl, inl, inr, ⊎_elim}
+use Rattle.std.proofs.Common.{◌≡◌, ℕ, zero, suc, ◌<◌, ◌≤◌, eqb, List, [], ◌∷◌, slice_index, sym, ap, ◌∙◌, subst, arith, refl, inl, inr, ⊎_elim}
 use mathlib.Core.Logic.{dite}
 use native.Mathlib.Decide.{ℕ_discrete, dec_lt}
-use Rattle.depot_rule.specs.Sums.{tally, one_if}
+use Rattle.depot_rule.specs.Sums.{tally}
 use Rattle.depot_rule.specs.Tree.{IsTree, from_parent, above, ancestors, Covers, Excludes}
 use Rattle.depot_rule.proofs.Sums.{one-other, one-most}
 
@@ -61,25 +61,25 @@ from-line : (ps : List ℕ) (f : ℕ → List ℕ) (p b c : ℕ) → (0 < p → 
 from-line ps f zero b c same further hb hc = absurd (omega arith)
 from-line ps f (suc p) b c same further hb hc = dite (ℕ_discrete (suc p) b)
     (λ e. dite (ℕ_discrete (suc p) c) (λ e'. inl (sym e ∙ e'))
-      (λ ne. let o = one-other (suc p) c ne in let u : 0 < tally c (f (suc p)) = omega arith in
-        inr (inr (subst (λ (z : ℕ). 0 < tally c (ancestors ps z)) e (subst (λ (z : List ℕ). 0 < tally c z) (same (omega arith)) u)))))
+    (λ ne. let o = one-other (suc p) c ne in let u : 0 < tally c (f (suc p)) = omega arith in
+    inr (inr (subst (λ (z : ℕ). 0 < tally c (ancestors ps z)) e (subst (λ (z : List ℕ). 0 < tally c z) (same (omega arith)) u)))))
     (λ nb. let o = one-other (suc p) b nb in let u : 0 < tally b (f (suc p)) = omega arith in dite (ℕ_discrete (suc p) c)
-      (λ e. inr (inl (subst (λ (z : ℕ). 0 < tally b (ancestors ps z)) e (subst (λ (z : List ℕ). 0 < tally b z) (same (omega arith)) u))))
-      (λ nc. let o' = one-other (suc p) c nc in further (omega arith) u (omega arith)))
+    (λ e. inr (inl (subst (λ (z : ℕ). 0 < tally b (ancestors ps z)) e (subst (λ (z : List ℕ). 0 < tally b z) (same (omega arith)) u))))
+    (λ nc. let o' = one-other (suc p) c nc in further (omega arith) u (omega arith)))
 
 line-above : (ps : List ℕ) → IsTree ps → (m k b c : ℕ) → 0 < k → k ≤ m → 0 < tally b (above ps m k) → 0 < tally c (above ps m k) → Excludes ps b c
 line-above ps t zero k b c pos le hb hc = absurd (omega arith)
 line-above ps t (suc m) k b c pos le hb hc = let l = t k pos in let p : ℕ = slice_index ps k in
     from-line ps (above ps m) p b c (λ some_parent. enough ps t m p p some_parent (omega arith) (omega arith))
-      (λ some_parent ub uc. line-above ps t m p b c some_parent (omega arith) ub uc) hb hc
+    (λ some_parent ub uc. line-above ps t m p b c some_parent (omega arith) ub uc) hb hc
 
 -- two nodes that cover one node exclude each other
 pub cover-excludes : (ps : List ℕ) → IsTree ps → (b c k : ℕ) → Covers ps b k → Covers ps c k → Excludes ps b c
 cover-excludes ps t b c k = ⊎_elim
     (λ (e : b ≡ k). ⊎_elim (λ (e' : c ≡ k). inl (e ∙ sym e')) (λ (u : 0 < tally c (ancestors ps k)). inr (inr (subst (λ (z : ℕ). 0 < tally c (ancestors ps z)) (sym e) u))))
     (λ (u : 0 < tally b (ancestors ps k)). ⊎_elim
-      (λ (e : c ≡ k). inr (inl (subst (λ (z : ℕ). 0 < tally b (ancestors ps z)) (sym e) u)))
-      (λ (w : 0 < tally c (ancestors ps k)). both k u w))
+    (λ (e : c ≡ k). inr (inl (subst (λ (z : ℕ). 0 < tally b (ancestors ps z)) (sym e) u)))
+    (λ (w : 0 < tally c (ancestors ps k)). both k u w))
   where
     both : (k : ℕ) → 0 < tally b (ancestors ps k) → 0 < tally c (ancestors ps k) → Excludes ps b c
     both zero u w = absurd (omega arith)

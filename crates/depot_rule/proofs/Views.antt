@@ -1,5 +1,5 @@
 -- The views of all seats: what holds of each, and what a view adds to the words.
-use Rattle.std.proofs.Common.{◌≡◌, ◌≢◌, ℕ, zero, suc, ◌+◌, ◌*◌, ◌<◌, ◌≤◌, eqb, List, [], ◌∷◌, ◌++◌, length, get_or, set, sym, refl, ap, ◌∙◌, subst, arith, Option, Some, None, ⊎_elim}
+use Rattle.std.proofs.Common.{◌≡◌, ◌≢◌, ℕ, zero, suc, ◌+◌, ◌*◌, ◌<◌, ◌≤◌, eqb, List, [], ◌∷◌, ◌++◌, length, get_or, set, sym, refl, ◌∙◌, subst, arith, ⊎_elim}
 use mathlib.Core.Option.{some, some-injective, some-ne-none}
 use lib.ListN.{get_elem?}
 use Rattle.atomic_table.proofs.Lists.{at_set, at_snoc}
@@ -7,7 +7,7 @@ use Rattle.depot_rule.specs.declared.view.View.{View}
 use Rattle.depot_rule.specs.Sums.{total, one_if, tally, over_taken}
 use Rattle.depot_rule.specs.Tree.{IsTree, ancestors}
 use Rattle.depot_rule.specs.Shares.{exclusive, Each, parts, claims, lower, entered, shares, IsSound, Shares}
-use Rattle.depot_rule.proofs.Sums.{one-most, total-at, total-most, total-zero, total-alone, total-parts, over-most}
+use Rattle.depot_rule.proofs.Sums.{one-most, total-most, total-alone, total-parts, over-most}
 use Rattle.depot_rule.proofs.Trees.{ancestors-once}
 
 module _ {V : Type 0} where
@@ -55,7 +55,7 @@ module _ (P E : Type 0) where
   pub lower-most : (ps : List ℕ) → IsTree ps → (a : ℕ) (v : View P E) → IsSound ps v → lower a v ≤ length ps
   lower-most ps t a v s =
       let o : over_taken (λ b. tally a (ancestors v.tree b)) 0 v.held ≤ length v.held
-            = over-most (λ b. tally a (ancestors v.tree b)) 0 v.held (λ b. subst (λ (q : List ℕ). tally a (ancestors q b) ≤ 1) (sym s.tree) (ancestors-once ps t a b)) in
+      = over-most (λ b. tally a (ancestors v.tree b)) 0 v.held (λ b. subst (λ (q : List ℕ). tally a (ancestors q b) ≤ 1) (sym s.tree) (ancestors-once ps t a b)) in
       let w = s.wide in omega arith
 
   pub few-shares : (ps : List ℕ) → IsTree ps → length ps ≤ 1024 → (a : ℕ) (v : View P E) → IsSound ps v → entered a v + unsure_in a v ≤ 2000 * parts v
@@ -65,7 +65,7 @@ module _ (P E : Type 0) where
   pub few-in-word : (ps ws : List ℕ) (views : List (List (View P E))) (r : Shares ps ws views) (a : ℕ) → total (total (λ (v : View P E). entered a v + unsure_in a v)) views ≤ 128000
   few-in-word ps ws views r a =
       let b = total-most (total (λ (v : View P E). entered a v + unsure_in a v)) (total parts) views
-            (λ j vs e. total-most (λ (v : View P E). entered a v + unsure_in a v) parts vs (λ i v d. few-shares ps r.tree r.few a v (r.sound j vs e i v d))) in
+      (λ j vs e. total-most (λ (v : View P E). entered a v + unsure_in a v) parts vs (λ i v d. few-shares ps r.tree r.few a v (r.sound j vs e i v d))) in
       let s = r.seats in omega arith
 
   -- a view with all parts is the only one

@@ -1,5 +1,5 @@
 -- The steps on words keep the rule of shares. Each lemma names the next view.
-use Rattle.std.proofs.Common.{◌≡◌, ◌≢◌, ℕ, zero, suc, ◌+◌, ◌-◌, ◌*◌, ◌<◌, ◌≤◌, eqb, List, [], ◌∷◌, length, get_or, set, sym, refl, ap, ◌∙◌, subst, arith, Option, Some, None, length-set, get_or-set_other, get_or-set_same}
+use Rattle.std.proofs.Common.{◌≡◌, ◌≢◌, ℕ, ◌+◌, ◌-◌, ◌*◌, ◌<◌, ◌≤◌, eqb, List, [], ◌∷◌, length, get_or, set, sym, refl, ap, ◌∙◌, subst, arith, Option, Some, None, length-set, get_or-set_other, get_or-set_same}
 use mathlib.Core.Option.{some}
 use mathlib.Core.Logic.{dite}
 use native.Mathlib.Decide.{ℕ_discrete}
@@ -8,7 +8,7 @@ use Rattle.depot_rule.specs.declared.view.View.{View}
 use Rattle.depot_rule.specs.declared.view.Read.{Read}
 use Rattle.depot_rule.specs.Sums.{total, one_if, tally, over_taken}
 use Rattle.depot_rule.specs.Tree.{ancestors}
-use Rattle.depot_rule.specs.Shares.{exclusive, parts, claims, lower, entered, shares, IsSound, Shares}
+use Rattle.depot_rule.specs.Shares.{exclusive, parts, claims, entered, shares, IsSound, Shares}
 use Rattle.depot_rule.proofs.Sums.{one-same, one-other, total-set, total-at, total-less, fill-at, clear-at, free-at}
 use Rattle.depot_rule.proofs.Trees.{ancestors-once}
 use Rattle.depot_rule.proofs.Views.{all-one, each-set, unsure_in, shares-parts, few-in-word}
@@ -52,15 +52,15 @@ module _ (P E : Type 0) where
     seats = let t = total-set (total parts) views id (v ∷ []) (w ∷ []) at in let q = r.seats in omega arith;
     counted = λ a p l. dite (ℕ_discrete a i)
         (λ e. subst (λ (z : ℕ). get_or (set ws i x) z 0 ≡ total (total (shares z)) (set views id (w ∷ []))) (sym e)
-            (let t = total-set (total (shares i)) views id (v ∷ []) (w ∷ []) at in let q = r.counted i pos lt in
-             let n = r.as_many in let g = get_or-set_same ws i x 0 (omega arith) in omega arith))
+        (let t = total-set (total (shares i)) views id (v ∷ []) (w ∷ []) at in let q = r.counted i pos lt in
+        let n = r.as_many in let g = get_or-set_same ws i x 0 (omega arith) in omega arith))
         (λ ne. let t = total-set (total (shares a)) views id (v ∷ []) (w ∷ []) at in let q = r.counted a p l in let o = others a p ne in let o' = o.0 in
-             let g = get_or-set_other ws i a x 0 ne in omega arith);
+        let g = get_or-set_other ws i a x 0 ne in omega arith);
     alone = λ a p l. dite (ℕ_discrete a i)
         (λ e. subst (λ (z : ℕ). 0 < total (total (claims z)) (set views id (w ∷ [])) → (total (total (claims z)) (set views id (w ∷ [])) ≡ 1) × (total (total (entered z)) (set views id (w ∷ [])) ≡ 0)) (sym e) lone)
         (λ ne some_claim. let t = total-set (total (entered a)) views id (v ∷ []) (w ∷ []) at in let u = total-set (total (claims a)) views id (v ∷ []) (w ∷ []) at in
-            let o = others a p ne in let o1 = o.1 in let o2 = o.2 in
-            let q = r.alone a p l (omega arith) in let q0 = q.0 in let q1 = q.1 in (omega arith, omega arith));
+        let o = others a p ne in let o1 = o.1 in let o2 = o.2 in
+        let q = r.alone a p l (omega arith) in let q0 = q.0 in let q1 = q.1 in (omega arith, omega arith));
     sound = each-set (IsSound ps) views id (w ∷ []) r.sound (all-one (IsSound ps) w sound);
   }
 
@@ -75,12 +75,17 @@ module _ (P E : Type 0) where
       let none = unclaimed ps ws views r i pos lt free in
       let c = total-set (total (claims i)) views id (v ∷ []) (w ∷ []) at in
       step-keeps ps ws views r i (get_or ws i 0 + 1) id v w at pos lt refl
-        (record { some_part = so.some_part; tree = so.tree; wide = so.wide; once = λ a. dite (ℕ_discrete i a)
+      (record {
+        some_part = so.some_part;
+        tree = so.tree;
+        wide = so.wide;
+        once = λ a. dite (ℕ_discrete i a)
             (λ e. let b = one-same i a e in let f : tally a v.path ≡ 0 = ap (λ (z : ℕ). tally z v.path) (sym e) ∙ fresh in omega arith)
-            (λ ne. let b = one-other i a ne in let f = so.once a in omega arith) })
-        (omega arith)
-        (λ a p ne. let b = one-other i a (λ e. ne (sym e)) in (omega arith, refl, omega arith))
-        (λ some_claim. absurd (omega arith))
+            (λ ne. let b = one-other i a ne in let f = so.once a in omega arith);
+      })
+      (omega arith)
+      (λ a p ne. let b = one-other i a (λ e. ne (sym e)) in (omega arith, refl, omega arith))
+      (λ some_claim. absurd (omega arith))
 
   -- a word found claimed is entered in vain
   pub vain-keeps : (ps ws : List ℕ) (views : Views) (r : Shares ps ws views) (i id : ℕ) (v : View P E) (rs : List Read) → get_elem? views id ≡ some (v ∷ []) → 0 < i → i < length ps
@@ -93,10 +98,10 @@ module _ (P E : Type 0) where
       let l = claimed ps ws views r i pos lt full in let l0 = l.0 in let l1 = l.1 in
       let c = total-set (total (claims i)) views id (v ∷ []) (w ∷ []) at in let t = total-set (total (entered i)) views id (v ∷ []) (w ∷ []) at in
       step-keeps ps ws views r i (get_or ws i 0 + 1) id v w at pos lt refl
-        (record { some_part = so.some_part; tree = so.tree; wide = so.wide; once = so.once })
-        (omega arith)
-        (λ a p ne. let b = one-other i a (λ e. ne (sym e)) in let b' = one-other v.unsure a (λ e. omega arith) in (omega arith, refl, refl))
-        (λ some_claim. (omega arith, omega arith))
+      (record { some_part = so.some_part; tree = so.tree; wide = so.wide; once = so.once })
+      (omega arith)
+      (λ a p ne. let b = one-other i a (λ e. ne (sym e)) in let b' = one-other v.unsure a (λ e. omega arith) in (omega arith, refl, refl))
+      (λ some_claim. (omega arith, omega arith))
 
   -- and left
   pub back-out-keeps : (ps ws : List ℕ) (views : Views) (r : Shares ps ws views) (i id : ℕ) (v : View P E) (rs : List Read) → get_elem? views id ≡ some (v ∷ []) → 0 < i → i < length ps
@@ -107,12 +112,14 @@ module _ (P E : Type 0) where
       let w : View P E = record v { unsure = 0; reads = rs } in
       let one : one_if (eqb v.unsure i) ≡ 1 = one-same v.unsure i unsure in let zero_then : one_if (eqb 0 i) ≡ 0 = one-other 0 i (λ e. omega arith) in
       let q = r.counted i pos lt in let m = total-at (total (shares i)) views id (v ∷ []) at in
-      let c = total-set (total (claims i)) views id (v ∷ []) (w ∷ []) at in let t = total-set (total (entered i)) views id (v ∷ []) (w ∷ []) at in
-      (omega arith, step-keeps ps ws views r i (get_or ws i 0 - 1) id v w at pos lt refl
-        (record { some_part = so.some_part; tree = so.tree; wide = so.wide; once = so.once })
-        (omega arith)
-        (λ a p ne. let b = one-other 0 a (λ e. omega arith) in let b' = one-other v.unsure a (λ e. ne (sym e ∙ unsure)) in (omega arith, refl, refl))
-        (λ some_claim. let l = r.alone i pos lt (omega arith) in let l0 = l.0 in let l1 = l.1 in (omega arith, omega arith)))
+      let c = total-set (total (claims i)) views id (v ∷ []) (w ∷ []) at in let t = total-set (total (entered i)) views id (v ∷ []) (w ∷ []) at in (
+        omega arith,
+        step-keeps ps ws views r i (get_or ws i 0 - 1) id v w at pos lt refl
+            (record { some_part = so.some_part; tree = so.tree; wide = so.wide; once = so.once })
+            (omega arith)
+            (λ a p ne. let b = one-other 0 a (λ e. omega arith) in let b' = one-other v.unsure a (λ e. ne (sym e ∙ unsure)) in (omega arith, refl, refl))
+            (λ some_claim. let l = r.alone i pos lt (omega arith) in let l0 = l.0 in let l1 = l.1 in (omega arith, omega arith)),
+      )
 
   -- the word entered last is left
   pub leave-keeps : (ps ws : List ℕ) (views : Views) (r : Shares ps ws views) (i id : ℕ) (v : View P E) (rest : List ℕ) (rs : List Read) → get_elem? views id ≡ some (v ∷ []) → 0 < i → i < length ps
@@ -125,12 +132,14 @@ module _ (P E : Type 0) where
       let split : (a : ℕ) → tally a v.path ≡ one_if (eqb i a) + tally a rest = λ a. ap (tally a) first in
       let here = split i in
       let q = r.counted i pos lt in let m = total-at (total (shares i)) views id (v ∷ []) at in let m' = total-at (total (entered i)) views id (v ∷ []) at in
-      let c = total-set (total (claims i)) views id (v ∷ []) (w ∷ []) at in let t = total-set (total (entered i)) views id (v ∷ []) (w ∷ []) at in
-      (omega arith, step-keeps ps ws views r i (get_or ws i 0 - 1) id v w at pos lt refl
-        (record { some_part = so.some_part; tree = so.tree; wide = so.wide; once = λ a. let o = so.once a in let e = split a in omega arith })
-        (omega arith)
-        (λ a p ne. let b = one-other i a (λ e. ne (sym e)) in let e = split a in (omega arith, refl, omega arith))
-        (λ some_claim. let l = r.alone i pos lt (omega arith) in let l0 = l.0 in let l1 = l.1 in (omega arith, omega arith)))
+      let c = total-set (total (claims i)) views id (v ∷ []) (w ∷ []) at in let t = total-set (total (entered i)) views id (v ∷ []) (w ∷ []) at in (
+        omega arith,
+        step-keeps ps ws views r i (get_or ws i 0 - 1) id v w at pos lt refl
+            (record { some_part = so.some_part; tree = so.tree; wide = so.wide; once = λ a. let o = so.once a in let e = split a in omega arith })
+            (omega arith)
+            (λ a p ne. let b = one-other i a (λ e. ne (sym e)) in let e = split a in (omega arith, refl, omega arith))
+            (λ some_claim. let l = r.alone i pos lt (omega arith) in let l0 = l.0 in let l1 = l.1 in (omega arith, omega arith)),
+      )
 
   -- a word found at 0 is claimed, and the shares entered above it become the grant's
   pub claim-keeps : (ps ws : List ℕ) (views : Views) (r : Shares ps ws views) (id : ℕ) (v : View P E) (b : ℕ) (g : List (Option P)) (rs : List Read) → get_elem? views id ≡ some (v ∷ []) → 0 < b → b < length ps
@@ -150,12 +159,14 @@ module _ (P E : Type 0) where
       let as_before : (a : ℕ) → entered a w ≡ entered a v = λ a. let u = up a in let t = tree a in let p = all a in omega arith in
       let own_here = own b in let here = as_before b in
       let c = total-set (total (claims b)) views id (v ∷ []) (w ∷ []) at in let t = total-set (total (entered b)) views id (v ∷ []) (w ∷ []) at in
-      let le = total-less (total (entered b)) (total (Bare b)) (λ vs. total-less (entered b) (Bare b) (λ u. omega arith) vs) views in
-      (vacant, step-keeps ps ws views r b exclusive id v w at pos lt refl
-        (record { some_part = so.some_part; tree = so.tree; wide = length-set v.held b (Some g) ∙ so.wide; once = λ a. omega arith })
-        (omega arith)
-        (λ a p ne. let o = own a in let z = one-other b a (λ e. ne (sym e)) in let u = as_before a in (omega arith, omega arith, u))
-        (λ some_claim. (omega arith, omega arith)))
+      let le = total-less (total (entered b)) (total (Bare b)) (λ vs. total-less (entered b) (Bare b) (λ u. omega arith) vs) views in (
+        vacant,
+        step-keeps ps ws views r b exclusive id v w at pos lt refl
+            (record { some_part = so.some_part; tree = so.tree; wide = length-set v.held b (Some g) ∙ so.wide; once = λ a. omega arith })
+            (omega arith)
+            (λ a p ne. let o = own a in let z = one-other b a (λ e. ne (sym e)) in let u = as_before a in (omega arith, omega arith, u))
+            (λ some_claim. (omega arith, omega arith)),
+      )
 
   -- a grant's claim is released, and its shares are to be left
   pub release-keeps : (ps ws : List ℕ) (views : Views) (r : Shares ps ws views) (id : ℕ) (v : View P E) (b : ℕ) (g : List (Option P)) (rs : List Read) → get_elem? views id ≡ some (v ∷ []) → 0 < b → b < length ps
@@ -173,12 +184,14 @@ module _ (P E : Type 0) where
       let q = r.counted b pos lt in let m = total-at (total (shares b)) views id (v ∷ []) at in
       let mine = total-at (total (claims b)) views id (v ∷ []) at in
       let l = r.alone b pos lt (omega arith) in let l0 = l.0 in
-      let c = total-set (total (claims b)) views id (v ∷ []) (w ∷ []) at in
-      (omega arith, step-keeps ps ws views r b (get_or ws b 0 - exclusive) id v w at pos lt refl
-        (record { some_part = so.some_part; tree = so.tree; wide = length-set v.held b None ∙ so.wide; once = λ a. subst (λ (t : List ℕ). tally a (ancestors t b) ≤ 1) (sym so.tree) (ancestors-once ps r.tree a b) })
-        (omega arith)
-        (λ a p ne. let o = own a in let z = one-other b a (λ e. ne (sym e)) in let u = as_before a in (omega arith, omega arith, u))
-        (λ some_claim. absurd (omega arith)))
+      let c = total-set (total (claims b)) views id (v ∷ []) (w ∷ []) at in (
+        omega arith,
+        step-keeps ps ws views r b (get_or ws b 0 - exclusive) id v w at pos lt refl
+            (record { some_part = so.some_part; tree = so.tree; wide = length-set v.held b None ∙ so.wide; once = λ a. subst (λ (t : List ℕ). tally a (ancestors t b) ≤ 1) (sym so.tree) (ancestors-once ps r.tree a b) })
+            (omega arith)
+            (λ a p ne. let o = own a in let z = one-other b a (λ e. ne (sym e)) in let u = as_before a in (omega arith, omega arith, u))
+            (λ some_claim. absurd (omega arith)),
+      )
 
   -- a word is read, and the seat's shares stay
   pub read-keeps : (ps ws : List ℕ) (views : Views) (r : Shares ps ws views) (id : ℕ) (v : View P E) (i hand : ℕ) (gone : List ℕ) (rs : List Read) → get_elem? views id ≡ some (v ∷ []) → 0 < i → i < length ps
@@ -188,7 +201,7 @@ module _ (P E : Type 0) where
       let w : View P E = record v { hand = hand; gone = gone; reads = rs } in
       let c = total-set (total (claims i)) views id (v ∷ []) (w ∷ []) at in let t = total-set (total (entered i)) views id (v ∷ []) (w ∷ []) at in
       step-keeps ps ws views r i (get_or ws i 0) id v w at pos lt refl
-        (record { some_part = so.some_part; tree = so.tree; wide = so.wide; once = so.once })
-        (omega arith)
-        (λ a p ne. (refl, refl, refl))
-        (λ some_claim. let l = r.alone i pos lt (omega arith) in let l0 = l.0 in let l1 = l.1 in (omega arith, omega arith))
+      (record { some_part = so.some_part; tree = so.tree; wide = so.wide; once = so.once })
+      (omega arith)
+      (λ a p ne. (refl, refl, refl))
+      (λ some_claim. let l = r.alone i pos lt (omega arith) in let l0 = l.0 in let l1 = l.1 in (omega arith, omega arith))

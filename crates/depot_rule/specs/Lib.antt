@@ -7,3 +7,4 @@ pub mod Seats
 pub mod Plays
 pub mod History
 pub mod Machine
+pub mod Laws

@@ -3,5 +3,6 @@
 //! definitions; their functions do nothing.
 #![tactic(auto)]
 
+pub mod laws;
 pub mod machine;
 pub mod view;

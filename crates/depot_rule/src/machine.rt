@@ -6,7 +6,9 @@ ghost use Rattle.depot_rule.specs.Machine.{IsLocal, Keeps};
 /// Calls on parcels. The tree is given as the parent of each node, parcels by node.
 pub trait Machine {
     type Parcel;
+
     type Call;
+
     type Reply;
     /// What a seat carries in its hand from one call to another.
     type Batch;
