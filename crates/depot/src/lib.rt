@@ -1,0 +1,10 @@
+//! Grants of the parcels of a tree, to threads, without a lock and without memory. So far: the
+//! table, its atomic steps, the way of a claim through the words above its node, and parcels that
+//! go out of their slots and come home.
+#![tactic(auto)]
+
+pub mod claim;
+pub mod path;
+pub mod plays;
+pub mod steps;
+pub mod table;
