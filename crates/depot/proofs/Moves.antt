@@ -1,7 +1,6 @@
 -- A view from one step to the next.
-use Rattle.std.proofs.Common.{◌≡◌, ◌≢◌, ℕ, ◌<◌, ◌≤◌, ◌+◌, suc, List, [], ◌∷◌, ◌++◌, length, set, eqb, slice_index, sym, refl, ap, ◌∙◌, subst, arith, append_assoc, Option, Some, None}
+use Rattle.std.proofs.Common.{◌≡◌, ◌≢◌, ℕ, ◌<◌, ◌≤◌, ◌+◌, suc, List, [], ◌∷◌, ◌++◌, length, set, eqb, slice_index, sym, refl, ap, ◌∙◌, subst, arith, append_assoc, inr, Option, Some, None}
 use mathlib.Core.Option.{some}
-use lib.ListN.{get_elem?}
 use Rattle.depot_rule.specs.declared.view.View.{View}
 use Rattle.depot_rule.specs.declared.view.Read.{Read}
 use Rattle.depot_rule.specs.Sums.{tally, one_if}
@@ -12,7 +11,7 @@ use Rattle.depot_rule.specs.Plays.{IsOnly}
 use Rattle.depot_rule.proofs.Sums.{one-same, one-other}
 use Rattle.depot_rule.proofs.Trees.{ancestors-parent, not-above}
 use Rattle.depot_rule.proofs.Places.{one-view}
-use Rattle.depot.specs.Calls.{IsAmong, read_of, Moved, MovedTo, IsRead, IsExcluded, FoundClaimed}
+use Rattle.depot.specs.Calls.{IsAmong, read_of, Moved, MovedTo, IsExcluded, FoundClaimed, WasRefused, IsGranted}
 
 pub among-later : {A : Type 0} (x : A) (ys xs : List A) → IsAmong x xs → IsAmong x (ys ++ xs)
 among-later x [] xs a = a
@@ -37,7 +36,7 @@ module _ {P E : Type 0} where
   pub moved-again : (v : View P E) (more again : List Read) {p q : List ℕ} {vs ws : List (View P E)} → Moved v p more vs → Moved (view_of vs) q again ws → Moved v q (again ++ more) ws
   moved-again v more again {q = q} is then =
       then ∙ (ap (λ us. let z : View P E = record (view_of us) { path = q; reads = again ++ (view_of us).reads } in z ∷ []) is
-        ∙ ap (λ rs. let z : View P E = record v { path = q; reads = rs } in z ∷ []) (sym (append_assoc again more v.reads)))
+      ∙ ap (λ rs. let z : View P E = record v { path = q; reads = rs } in z ∷ []) (sym (append_assoc again more v.reads)))
 
   pub same-path : {vs : List (View P E)} {p : List ℕ} → length vs ≡ 1 → (view_of vs).path ≡ p → Moved (view_of vs) p [] vs
   same-path {vs = vs} one e = with-path (view_of vs) {rs = (view_of vs).reads} e (one-view vs one)
@@ -58,12 +57,14 @@ module _ {P E : Type 0} where
       let here : 0 < tally p (ancestors ps b) = (let e : tally p (ancestors ps b) ≡ one_if (eqb p p) + tally p (ancestors ps p) = ap (tally p) up in let o = one-same p p refl in omega arith) in
       let bare : shares p (view_of vs) ≡ grant_shares p v = ap (shares p) is ∙ only-grants w p pp calm (not-above ps t p) in
       let seen : IsAmong (record { word = p; value = found; shares = grant_shares p v }) (entered.0 ∷ read_of p found (view_of vs) ∷ climbed.0)
-            = (1, ap (λ (n : ℕ). let r : Read = record { word = p; value = found; shares = n } in some r) bare) in
-      (left.0 ++ (entered.0 ∷ read_of p found (view_of vs) ∷ climbed.0),
+      = (1, ap (λ (n : ℕ). let r : Read = record { word = p; value = found; shares = n } in some r) bare) in (
+        left.0 ++ (entered.0 ∷ read_of p found (view_of vs) ∷ climbed.0),
         moved-again v (entered.0 ∷ read_of p found (view_of vs) ∷ climbed.0) left.0 (moved-again v climbed.0 (entered.0 ∷ read_of p found (view_of vs) ∷ []) climbed.1 entered.1) left.1,
         among-later (record { word = p; value = found; shares = grant_shares p v }) left.0 (entered.0 ∷ read_of p found (view_of vs) ∷ climbed.0) seen,
-        here, full,
-        subst (λ (u : View P E). IsOnly u → (g : List (Option P)) × Has u p g) is own)
+        here,
+        full,
+        subst (λ (u : View P E). IsOnly u → (g : List (Option P)) × Has u p g) is own,
+      )
 
   -- where a word above the parent is found claimed
   pub claimed-higher : (ps : List ℕ) → IsTree ps → (v : View P E) (b p node found : ℕ) {vs : List (View P E)} → 0 < b → slice_index ps b ≡ p → 0 < p → FoundClaimed ps v p node found vs → FoundClaimed ps v b node found vs
@@ -93,3 +94,53 @@ module _ {P E : Type 0} where
 
   pub left-one : (v : View P E) (node : ℕ) {p : List ℕ} {vs : List (View P E)} → (found : ℕ) × Moved v p (read_of node found v ∷ []) vs → MovedTo v p vs
   left-one v node is = (read_of node is.0 v ∷ [], is.1)
+
+  -- refused by the node's own word
+  pub refused-here : (ps : List ℕ) → IsTree ps → (v : View P E) (b found : ℕ) {vs ws us : List (View P E)} → 0 < b → v.unsure ≡ 0 → found ≢ 0
+      → MovedTo v (ancestors ps b) vs → Moved (view_of vs) (view_of vs).path (read_of b found (view_of vs) ∷ []) ws → (IsOnly (view_of vs) → IsExcluded (view_of vs) b) → MovedTo (view_of ws) [] us
+      → WasRefused ps v b b found us
+  refused-here ps t v b found {vs = vs} pb calm busy climbed tried excluded left =
+      let w : View P E = record v { path = ancestors ps b; reads = climbed.0 ++ v.reads } in
+      let is : view_of vs ≡ w = ap view_of climbed.1 in
+      let bare : shares b (view_of vs) ≡ grant_shares b v = ap (shares b) is ∙ only-grants w b pb calm (not-above ps t b) in
+      let here : IsAmong (record { word = b; value = found; shares = grant_shares b v }) (read_of b found (view_of vs) ∷ climbed.0)
+      = (0, ap (λ (n : ℕ). let r : Read = record { word = b; value = found; shares = n } in some r) bare) in (
+        left.0 ++ (read_of b found (view_of vs) ∷ climbed.0),
+        moved-again v (read_of b found (view_of vs) ∷ climbed.0) left.0 (moved-again v climbed.0 (read_of b found (view_of vs) ∷ []) climbed.1 tried) left.1,
+        among-later (record { word = b; value = found; shares = grant_shares b v }) left.0 (read_of b found (view_of vs) ∷ climbed.0) here,
+        inr (refl, busy),
+        subst (λ (u : View P E). IsOnly u → IsExcluded u b) is excluded,
+      )
+
+  -- the claim took the shares over
+  pub granted-from : (kind_of : P → ℕ) (ps : List ℕ) (v : View P E) (b : ℕ) {vs ws : List (View P E)} → v.path ≡ [] → MovedTo v (ancestors ps b) vs
+      → (g : List (Option P)) × IsGranted kind_of (record (view_of vs) { path = [] }) b g (read_of b 0 (view_of vs) ∷ []) ws
+      → (g : List (Option P)) × (more : List Read) × IsGranted kind_of v b g more ws
+  granted-from kind_of ps v b {vs = vs} {ws = ws} none climbed q =
+      let w : View P E = record v { path = ancestors ps b; reads = climbed.0 ++ v.reads } in
+      let is : view_of vs ≡ w = ap view_of climbed.1 in
+      let r = subst (λ (u : View P E). IsGranted kind_of (record u { path = [] }) b q.0 (read_of b 0 u ∷ []) ws) is q.1 in (
+        q.0,
+        read_of b 0 w ∷ climbed.0,
+        (r.0 ∙ ap (λ (p : List ℕ). let z : View P E = record v { path = p; held = set v.held b (Some q.0); reads = read_of b 0 w ∷ (climbed.0 ++ v.reads) } in z ∷ []) (sym none), r.1),
+      )
+
+  pub none-excluded : (ps : List ℕ) (v : View P E) (b : ℕ) {vs : List (View P E)} → MovedTo v (ancestors ps b) vs → (IsExcluded (view_of vs) b → ⊥) → IsExcluded v b → ⊥
+  none-excluded ps v b climbed none = subst (λ (u : View P E). IsExcluded u b → ⊥) (ap view_of climbed.1) none
+
+  -- a grant that was released, once the words above are left
+  pub ended-from : (v : View P E) (b found : ℕ) (path : List ℕ) {vs ws : List (View P E)} → v.path ≡ []
+      → vs ≡ record v { path = path; held = set v.held b None; reads = read_of b found v ∷ v.reads } ∷ [] → MovedTo (view_of vs) [] ws
+      → (more : List Read) × (ws ≡ record v { held = set v.held b None; reads = more ++ v.reads } ∷ [])
+  ended-from v b found path none is left = (
+    left.0 ++ (read_of b found v ∷ []),
+    left.1
+        ∙ (ap (λ us. let z : View P E = record (view_of us) { path = []; reads = left.0 ++ (view_of us).reads } in z ∷ []) is
+        ∙ ap (λ (x : List ℕ × List Read). let z : View P E = record v { path = x.0; held = set v.held b None; reads = x.1 } in z ∷ []) (λ i. (sym none i, sym (append_assoc left.0 (read_of b found v ∷ []) v.reads) i))),
+  )
+
+  -- a slot went out and came home
+  pub hand-free : (v : View P E) {gone : List ℕ} {one two : Read} {vs : List (View P E)} → v.hand ≡ 0 → vs ≡ record v { hand = 0; gone = gone; reads = two ∷ one ∷ v.reads } ∷ []
+      → (more : List Read) × (vs ≡ record v { gone = gone; reads = more ++ v.reads } ∷ [])
+  hand-free v {gone = gone} {one = one} {two = two} calm is =
+      (two ∷ one ∷ [], is ∙ ap (λ (h : ℕ). let z : View P E = record v { hand = h; gone = gone; reads = two ∷ one ∷ v.reads } in z ∷ []) (sym calm))

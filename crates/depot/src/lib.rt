@@ -3,8 +3,9 @@
 //! go out of their slots and come home.
 #![tactic(auto)]
 
-pub mod claim;
+pub mod claiming;
 pub mod path;
 pub mod plays;
+pub mod slots;
 pub mod steps;
 pub mod table;

@@ -49,21 +49,16 @@ pub fn climb<M: Machine>(
 }
 
 /// Leaves the words of the nodes above a node.
-pub fn leave_all<M: Machine>(
-    board: &Board<M>,
-    place: &mut Place<M>,
-    parents: &[u64],
-    node: usize,
-)
+pub fn leave_all<M: Machine>(board: &Board<M>, place: &mut Place<M>, parents: &[u64], node: usize)
     requires table { (place.old.table_id ≡ board.now.table_id) × (node < board.now.table_id.words) × (board.now.table_id.words ≡ length board.now.key.value.parents.items) }
     requires tree { (parents.now ≡ board.now.key.value.parents.items) × IsTree parents.now }
     requires ready { let v = view_of place.old.me.0 in (length place.old.me.0 ≡ 1) × (0 < node) × (v.path ≡ ancestors parents.now node) }
     ensures seat { (place.new.table_id ≡ place.old.table_id) × (place.new.me.1 ≡ place.old.me.1) }
     ensures left { MovedTo (view_of place.old.me.0) [] place.new.me.0 }
 {
-    let parent = parents[node] as usize;
-    if parent != 0 {
-        leave(board, place, parent);
-        leave_all(board, place, parents, parent);
+    let above = parents[node] as usize;
+    if above != 0 {
+        leave(board, place, above);
+        leave_all(board, place, parents, above);
     }
 }

@@ -1,5 +1,4 @@
-use Rattle.std.proofs.Common.{rules, arith, ◌≡◌, ◌<◌, ◌∷◌, [], length, ℕ, List, ap, sym, ◌∙◌, refl}
-use Rattle.depot_rule.specs.declared.view.View.{View}
+use Rattle.std.proofs.Common.{rules, arith, ◌<◌, length, ap}
 use Rattle.depot_rule.specs.declared.view.Entry.{Entry}
 use Rattle.depot_rule.specs.Sums.{tally}
 use Rattle.depot_rule.specs.Seats.{view_of}
@@ -10,9 +9,12 @@ use Rattle.depot.proofs.steps.claim.Goals as goal
 
 pub compare_exchange-requires : goal.compare_exchange-requires
 compare_exchange-requires g c =
-    let lt : c.args.node < length c.args.board.now.key.value.parents.items = omega arith in
-    (search rules, search rules, claims-it g.row.M-Parcel.Denot (Entry g.row.M-Parcel.Denot g.row.M-Call.Denot g.row.M-Reply.Denot) g.M.Machine.kind_of c.args.board.now.key.value.parents.items c.args.board.now.key.value.parcels.items
-      _ _ c.args.place.now.me (view_of c.args.place.now.me.0) c.args.node (one-view c.args.place.now.me.0 c.requires.ready.0) c.requires.ready.1 lt c.requires.ready.2 (λ a. ap (tally a) c.requires.ready.3))
+    let lt : c.args.node < length c.args.board.now.key.value.parents.items = omega arith in (
+      search rules,
+      search rules,
+      claims-it g.row.M-Parcel.Denot (Entry g.row.M-Parcel.Denot g.row.M-Call.Denot g.row.M-Reply.Denot) g.M.Machine.kind_of c.args.board.now.key.value.parents.items c.args.board.now.key.value.parcels.items
+          _ _ c.args.place.now.me (view_of c.args.place.now.me.0) c.args.node (one-view c.args.place.now.me.0 c.requires.ready.0) c.requires.ready.1 lt c.requires.ready.2 (λ a. ap (tally a) c.requires.ready.3),
+    )
 
 pub returns-clause-granted : goal.returns-clause-granted
 returns-clause-granted g c =
