@@ -11,7 +11,7 @@ use Rattle.depot_rule.specs.Plays.{IsOnly}
 use Rattle.depot_rule.proofs.Sums.{one-same, one-other}
 use Rattle.depot_rule.proofs.Trees.{ancestors-parent, not-above}
 use Rattle.depot_rule.proofs.Places.{one-view}
-use Rattle.depot.specs.Calls.{IsAmong, read_of, Moved, MovedTo, IsExcluded, FoundClaimed, WasRefused, IsGranted}
+use Rattle.depot.specs.Calls.{IsAmong, read_of, Moved, MovedTo, IsExcluded, FoundClaimed, WasRefused, IsGranted, own_views, known}
 
 pub among-later : {A : Type 0} (x : A) (ys xs : List A) → IsAmong x xs → IsAmong x (ys ++ xs)
 among-later x [] xs a = a
@@ -144,3 +144,14 @@ module _ {P E : Type 0} where
       → (more : List Read) × (vs ≡ record v { gone = gone; reads = more ++ v.reads } ∷ [])
   hand-free v {gone = gone} {one = one} {two = two} calm is =
       (two ∷ one ∷ [], is ∙ ap (λ (h : ℕ). let z : View P E = record v { hand = h; gone = gone; reads = two ∷ one ∷ v.reads } in z ∷ []) (sym calm))
+
+  -- a seat between calls, and its place in the table
+  pub placed-one : {views : List (List (View P E))} {vs : List (View P E)} → views ≡ vs ∷ [] → length (own_views views) ≡ 1 → length vs ≡ 1
+  placed-one is one = sym (ap (λ l. length (own_views l)) is) ∙ one
+
+  pub no-path : {views : List (List (View P E))} {vs : List (View P E)} → views ≡ vs ∷ [] → length (known views).path ≡ 0 → (view_of vs).path ≡ []
+  no-path {vs = vs} is none = nothing (view_of vs).path (sym (ap (λ l. length (known l).path) is) ∙ none)
+    where
+      nothing : (xs : List ℕ) → length xs ≡ 0 → xs ≡ []
+      nothing [] e = refl
+      nothing (x ∷ xs) e = absurd (omega arith)

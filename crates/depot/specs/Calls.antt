@@ -8,6 +8,7 @@ use Rattle.depot_rule.specs.Sums.{tally}
 use Rattle.depot_rule.specs.Tree.{ancestors, Covers, Excludes}
 use Rattle.depot_rule.specs.Shares.{exclusive, grant_shares, shares, Has}
 use Rattle.depot_rule.specs.Parcels.{IsParcel}
+use Rattle.depot_rule.specs.Seats.{view_of}
 use Rattle.depot_rule.specs.Plays.{IsOnly}
 
 abbrev pub IsAmong : {A : Type 0} → A → List A → Type 0
@@ -50,3 +51,11 @@ module _ {P E : Type 0} where
   -- b wasn't granted; if there is no other seat, a grant of this one excludes it
   abbrev pub WasRefused : List ℕ → View P E → ℕ → ℕ → ℕ → List (View P E) → Type 0
   WasRefused parents v b node found vs = (more : List Read) × Moved v [] more vs × IsRead v node found more × Refuses parents b node found × (IsOnly v → IsExcluded v b)
+
+  -- the view of a seat between two calls
+  abbrev pub own_views : List (List (View P E)) → List (View P E)
+  own_views [] = []
+  own_views (vs ∷ more) = vs
+
+  abbrev pub known : List (List (View P E)) → View P E
+  known views = view_of (own_views views)

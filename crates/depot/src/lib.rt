@@ -6,6 +6,7 @@
 pub mod claiming;
 pub mod path;
 pub mod plays;
+pub mod seats;
 pub mod slots;
 pub mod steps;
 pub mod table;

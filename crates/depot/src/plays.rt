@@ -1,7 +1,7 @@
 //! The kinds of step, each by what it tells its seat.
 
 use crate::table::ViewsOf;
-use atomic_table::Play;
+use atomic_table::{Join, Play, Split};
 use depot_rule::machine::Machine;
 use depot_rule::view::Views;
 use std::marker::PhantomData;
@@ -87,4 +87,59 @@ impl<P, E> Play<Option<P>, Views<P, E>> for Fill {
     ghost use Rattle.depot_rule.specs.Plays.{FillSays};
 
     ghost then = { FillSays };
+}
+
+/// The ticket is looked at.
+pub struct Look;
+
+impl<P, E> Play<Option<P>, Views<P, E>> for Look {
+    ghost use Rattle.depot_rule.specs.Plays.{LookSays};
+
+    ghost then = { LookSays };
+}
+
+/// A second seat is split off.
+pub struct SplitOff;
+
+impl<P, E> Split<Views<P, E>> for SplitOff {
+    ghost use Rattle.depot_rule.specs.Seats.{parted, fresh_of};
+
+    ghost left = { parted };
+
+    ghost right = { fresh_of };
+}
+
+/// Two seats become one.
+pub struct Merge;
+
+impl<P, E> Join<Views<P, E>> for Merge {
+    ghost use Rattle.std.specs.Prelude.{[]};
+    ghost use Rattle.depot_rule.specs.Seats.{merged};
+
+    ghost both = { merged };
+
+    ghost spent = { [] };
+}
+
+/// Two seats meet: their views lie side by side.
+pub struct Meet;
+
+impl<P, E> Join<Views<P, E>> for Meet {
+    ghost use Rattle.std.specs.Prelude.{[]};
+    ghost use Rattle.depot_rule.specs.Seats.{met};
+
+    ghost both = { met };
+
+    ghost spent = { [] };
+}
+
+/// Seats that met part again.
+pub struct PartAgain;
+
+impl<P, E> Split<Views<P, E>> for PartAgain {
+    ghost use Rattle.depot_rule.specs.Seats.{first_of, others_of};
+
+    ghost left = { first_of };
+
+    ghost right = { others_of };
 }

@@ -12,7 +12,7 @@ use Rattle.depot_rule.specs.Tree.{ancestors, Covers}
 use Rattle.depot_rule.specs.Shares.{claims, lower, entered, shares, IsSound}
 use Rattle.depot_rule.specs.Parcels.{takes, Carries}
 use Rattle.depot_rule.specs.Rule.{Rule}
-use Rattle.depot_rule.specs.Seats.{both_held, merge, fresh}
+use Rattle.depot_rule.specs.Seats.{both_held, merge, fresh, merged, parted, fresh_of, view_of}
 use Rattle.depot_rule.proofs.Sums.{one-other, tally-append}
 use Rattle.depot_rule.proofs.Views.{all-one}
 use Rattle.depot_rule.proofs.Grants.{covers-one}
@@ -142,3 +142,17 @@ module _ (P E : Type 0) (kind_of : P → ℕ) where
           empty = λ k p h. let t = tally-append k v.gone w.gone in dite (ℕ_discrete (tally k v.gone) 0) (λ z. ca'.empty k p (omega arith)) (λ nz. ca.empty k p (omega arith));
         }),
       ))
+
+  -- the same of lists of one view
+  pub splits-seat : (ps : List ℕ) (first : List (Option P)) (id : ℕ) (vs : List (View P E)) → length vs ≡ 1 → 2 ≤ (view_of vs).parts → Splits (Rule kind_of ps first) id vs (parted vs) (fresh_of vs)
+  splits-seat ps first id [] one two = absurd (omega arith)
+  splits-seat ps first id (v ∷ []) one two = splits-off ps first id v two
+  splits-seat ps first id (v ∷ u ∷ us) one two = absurd (omega arith)
+
+  pub merges-seats : (ps : List ℕ) (first : List (Option P)) (id : ℕ) (vs : List (View P E)) (other : ℕ) (ws : List (View P E)) → length vs ≡ 1 → length ws ≡ 1
+      → (view_of ws).path ≡ [] → (view_of ws).unsure ≡ 0 → (view_of ws).hand ≡ 0 → Joins (Rule kind_of ps first) id vs other ws (merged vs ws) []
+  merges-seats ps first id [] other ws one one' path calm idle = absurd (omega arith)
+  merges-seats ps first id (v ∷ []) other [] one one' path calm idle = absurd (omega arith)
+  merges-seats ps first id (v ∷ []) other (w ∷ []) one one' path calm idle = merges ps first id v other w path calm idle
+  merges-seats ps first id (v ∷ []) other (w ∷ u ∷ us) one one' path calm idle = absurd (omega arith)
+  merges-seats ps first id (v ∷ u ∷ us) other ws one one' path calm idle = absurd (omega arith)

@@ -13,3 +13,4 @@ pub mod Dealing
 pub mod Joining
 pub mod Opening
 pub mod Following
+pub mod Looking

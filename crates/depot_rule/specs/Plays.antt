@@ -72,3 +72,7 @@ module _ {P E : Type 0} where
   -- a load, by which the slot comes home with what the grant lists
   abbrev pub FillSays : Step (Option P) → Place P E → ℕ → Place P E → Type 0
   FillSays st me found me' = OnOne (λ v. me'.0 ≡ record v { hand = 0; reads = noted st found v } ∷ []) me.0 × (me'.1 ≡ rest me.1)
+
+  -- a load of the ticket, in which no seat has shares
+  abbrev pub LookSays : Step (Option P) → Place P E → ℕ → Place P E → Type 0
+  LookSays st me found me' = Goes (λ v vs. (vs ≡ record v { reads = record { word = 0; value = found; shares = 0 } ∷ v.reads } ∷ []) × (v.parts ≤ 64)) me me'
