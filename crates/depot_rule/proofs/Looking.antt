@@ -1,8 +1,8 @@
 -- A look at the ticket, as the table asks for it.
-use Rattle.std.proofs.Common.{◌≡◌, ◌≢◌, ℕ, zero, suc, ◌+◌, ◌<◌, ◌≤◌, List, [], ◌∷◌, length, get_or, set, sym, refl, ap, ◌∙◌, arith, Option, Some, None, length-set, get_or-set_other}
+use Rattle.std.proofs.Common.{◌≡◌, ℕ, ◌≤◌, List, [], ◌∷◌, get_or, set, refl, ap, ◌∙◌, arith, Option, length-set, get_or-set_other}
 use mathlib.Core.Option.{none, some}
 use lib.ListN.{get_elem?}
-use Rattle.atomic_table.specs.Table.{State, Step, step, keeps, Allows}
+use Rattle.atomic_table.specs.Table.{step, keeps, Allows}
 use Rattle.depot_rule.specs.declared.view.View.{View}
 use Rattle.depot_rule.specs.declared.view.Read.{Read}
 use Rattle.depot_rule.specs.Sums.{total}
@@ -40,11 +40,14 @@ module _ (P E : Type 0) where
       let rs : List Read = record { word = 0; value = x; shares = 0 } ∷ v.reads in
       let w : View P E = record v { reads = rs } in
       let ca = r.parcels.carries id (v ∷ []) at 0 v refl in
-      let most = total-at (total parts) s.views id (v ∷ []) at in let seats = r.shares.seats in
-      (w ∷ [], keeps, tt,
+      let most = total-at (total parts) s.views id (v ∷ []) at in let seats = r.shares.seats in (
+        w ∷ [],
+        keeps,
+        tt,
         record {
           shares = ticket-keeps ps s.words s.views r.shares x id v rs at;
           parcels = stay-keeps P E kind_of ps first s r id v w at (λ k. refl)
-            (record { opened = ca.opened; nodes = ca.nodes; single = ca.single; cover = ca.cover; whole = ca.whole; there = ca.there; empty = ca.empty });
+              (record { opened = ca.opened; nodes = ca.nodes; single = ca.single; cover = ca.cover; whole = ca.whole; there = ca.there; empty = ca.empty });
         },
-        (on-one _ me.0 v one (refl, (let fit : v.parts ≤ 64 = omega arith in fit)), refl))
+        (on-one _ me.0 v one (refl, (let fit : v.parts ≤ 64 = omega arith in fit)), refl),
+      )
