@@ -14,3 +14,4 @@ pub mod Joining
 pub mod Opening
 pub mod Following
 pub mod Looking
+pub mod Stamping

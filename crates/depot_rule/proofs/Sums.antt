@@ -127,6 +127,14 @@ module _ {A : Type 0} where
   over-clear f k (None ∷ ys) (suc i) x e = let r = over-clear f (suc k) ys i x e in let z : f (suc k + i) ≡ f (k + suc i) = ap f (omega arith) in omega arith
   over-clear f k (Some y ∷ ys) (suc i) x e = let r = over-clear f (suc k) ys i x e in let z : f (suc k + i) ≡ f (k + suc i) = ap f (omega arith) in omega arith
 
+  -- what stands at a taken place doesn't count, only that it is taken
+  pub over-other : (f : ℕ → ℕ) (k : ℕ) (l : List (Option A)) (i : ℕ) (x y : A) → get_elem? l i ≡ some (Some x) → over_taken f k (set l i (Some y)) ≡ over_taken f k l
+  over-other f k [] i x y e = absurd (some-ne-none (Some x) (sym e))
+  over-other f k (Some z ∷ zs) zero x y e = refl
+  over-other f k (None ∷ zs) zero x y e = absurd (cc)
+  over-other f k (None ∷ zs) (suc i) x y e = over-other f (suc k) zs i x y e
+  over-other f k (Some z ∷ zs) (suc i) x y e = let r = over-other f (suc k) zs i x y e in omega arith
+
   pub fill-at : (f : ℕ → ℕ) (l : List (Option A)) (i : ℕ) (x : A) → get_elem? l i ≡ some None → over_taken f 0 (set l i (Some x)) ≡ over_taken f 0 l + f i
   fill-at f l i x e = let t = over-fill f 0 l i x e in let z : f (0 + i) ≡ f i = ap f (omega arith) in omega arith
 

@@ -1,8 +1,9 @@
 -- What each kind of step tells the seat that makes it.
-use Rattle.std.specs.Prelude.{◌≡◌, ◌≢◌, ℕ, ◌<◌, ◌≤◌, List, [], ◌∷◌, drop, length, slice_set, slice_index_or, Option, Some, None}
+use Rattle.std.specs.Prelude.{◌≡◌, ◌≢◌, ℕ, ◌<◌, ◌≤◌, List, [], ◌∷◌, ◌++◌, drop, length, slice_set, slice_index_or, Option, Some, None, IfSome}
 use Rattle.atomic_table.specs.Table.{Me, Step, rest}
 use Rattle.depot_rule.specs.declared.view.View.{View}
 use Rattle.depot_rule.specs.declared.view.Read.{Read}
+use Rattle.depot_rule.specs.declared.view.Entry.{Entry}
 use Rattle.depot_rule.specs.Sums.{without}
 use Rattle.depot_rule.specs.Tree.{ancestors, Covers, Excludes}
 use Rattle.depot_rule.specs.Shares.{exclusive, shares, Has}
@@ -76,3 +77,9 @@ module _ {P E : Type 0} where
   -- a load of the ticket, in which no seat has shares
   abbrev pub LookSays : Step (Option P) → Place P E → ℕ → Place P E → Type 0
   LookSays st me found me' = Goes (λ v vs. (vs ≡ record v { reads = record { word = 0; value = found; shares = 0 } ∷ v.reads } ∷ []) × (v.parts ≤ 64)) me me'
+
+-- fetch_add of 1 on the ticket, for the entry e: the grant of its node lists from then on what the entry left, and the entry stands in the history after all that was seen and what others put between
+abbrev pub StampSays : {P C R : Type 0} → Option (Entry P C R) → Step (Option P) → Place P (Entry P C R) → ℕ → Place P (Entry P C R) → Type 0
+StampSays {P = P} item st me found me' = IfSome item (λ e. OnOne (λ v. (between : List (Entry P _ _))
+    × (me'.0 ≡ record v { held = slice_set v.held e.node (Some e.left); reads = record { word = 0; value = found; shares = 0 } ∷ v.reads; seen = (v.seen ++ between) ++ e ∷ []; mine = v.mine ++ length (v.seen ++ between) ∷ [] } ∷ [])) me.0)
+  × (me'.1 ≡ me.1)
