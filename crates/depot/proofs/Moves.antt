@@ -1,16 +1,17 @@
 -- A view from one step to the next.
-use Rattle.std.proofs.Common.{◌≡◌, ◌≢◌, ℕ, ◌<◌, ◌≤◌, ◌+◌, suc, List, [], ◌∷◌, ◌++◌, length, set, eqb, slice_index, sym, refl, ap, ◌∙◌, subst, arith, append_assoc, inr, Option, Some, None}
+use Rattle.std.proofs.Common.{◌≡◌, ◌≢◌, ℕ, ◌<◌, ◌≤◌, ◌+◌, suc, List, [], ◌∷◌, ◌++◌, length, set, eqb, slice_index, sym, refl, ap, ◌∙◌, subst, arith, append_assoc, inr, Option, Some, None, IfSome}
 use mathlib.Core.Option.{some}
 use Rattle.depot_rule.specs.declared.view.View.{View}
 use Rattle.depot_rule.specs.declared.view.Read.{Read}
+use Rattle.depot_rule.specs.declared.view.Entry.{Entry}
 use Rattle.depot_rule.specs.Sums.{tally, one_if}
 use Rattle.depot_rule.specs.Tree.{IsTree, ancestors, Excludes}
 use Rattle.depot_rule.specs.Shares.{exclusive, shares, grant_shares, Has}
-use Rattle.depot_rule.specs.Seats.{view_of}
+use Rattle.depot_rule.specs.Seats.{OnOne, view_of}
 use Rattle.depot_rule.specs.Plays.{IsOnly}
 use Rattle.depot_rule.proofs.Sums.{one-same, one-other}
 use Rattle.depot_rule.proofs.Trees.{ancestors-parent, not-above}
-use Rattle.depot_rule.proofs.Places.{one-view}
+use Rattle.depot_rule.proofs.Places.{one-view, of-one}
 use Rattle.depot.specs.Calls.{IsAmong, read_of, Moved, MovedTo, IsExcluded, FoundClaimed, WasRefused, IsGranted, own_views, known}
 
 pub among-later : {A : Type 0} (x : A) (ys xs : List A) → IsAmong x xs → IsAmong x (ys ++ xs)
@@ -155,3 +156,11 @@ module _ {P E : Type 0} where
       nothing : (xs : List ℕ) → length xs ≡ 0 → xs ≡ []
       nothing [] e = refl
       nothing (x ∷ xs) e = absurd (omega arith)
+
+-- the entry that was picked was stamped
+pub stamped-so : {P C R : Type 0} {item : Option (Entry P C R)} {e : Entry P C R} {vs ws : List (View P (Entry P C R))} {found : ℕ} → item ≡ Some e → vs ≡ view_of vs ∷ []
+    → IfSome item (λ x. OnOne (λ v. (between : List (Entry P C R)) × (ws ≡ record v { held = set v.held x.node (Some x.left); reads = record { word = 0; value = found; shares = 0 } ∷ v.reads; seen = (v.seen ++ between) ++ x ∷ []; mine = v.mine ++ length (v.seen ++ between) ∷ [] } ∷ [])) vs)
+    → (between : List (Entry P C R)) × (ws ≡ record (view_of vs) { held = set (view_of vs).held e.node (Some e.left); reads = record { word = 0; value = found; shares = 0 } ∷ (view_of vs).reads; seen = ((view_of vs).seen ++ between) ++ e ∷ []; mine = (view_of vs).mine ++ length ((view_of vs).seen ++ between) ∷ [] } ∷ [])
+stamped-so {P = P} {C = C} {R = R} {item = item} {e = e} {vs = vs} {ws = ws} {found = found} is one did =
+    let q = subst (λ (j : Option (Entry P C R)). IfSome j (λ x. OnOne (λ v. (between : List (Entry P C R)) × (ws ≡ record v { held = set v.held x.node (Some x.left); reads = record { word = 0; value = found; shares = 0 } ∷ v.reads; seen = (v.seen ++ between) ++ x ∷ []; mine = v.mine ++ length (v.seen ++ between) ∷ [] } ∷ [])) vs)) is did in
+    of-one _ vs (view_of vs) one q

@@ -8,5 +8,6 @@ pub mod path;
 pub mod plays;
 pub mod seats;
 pub mod slots;
+pub mod stamps;
 pub mod steps;
 pub mod table;

@@ -14,11 +14,11 @@ pub struct Opening<P> {
 
 pub type Key<M> = Snapshot<Opening<<M as Machine>::Parcel>>;
 
+/// An entry of a machine's history.
+pub type EntryOf<M> = Entry<<M as Machine>::Parcel, <M as Machine>::Call, <M as Machine>::Reply>;
+
 /// The views of a seat of a machine's depot.
-pub type ViewsOf<M> = Views<
-    <M as Machine>::Parcel,
-    Entry<<M as Machine>::Parcel, <M as Machine>::Call, <M as Machine>::Reply>,
->;
+pub type ViewsOf<M> = Views<<M as Machine>::Parcel, EntryOf<M>>;
 
 /// What holds between any two steps.
 pub struct DepotRule<M> {
