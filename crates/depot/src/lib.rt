@@ -4,6 +4,7 @@
 #![tactic(auto)]
 
 pub mod claiming;
+pub mod depot;
 pub mod path;
 pub mod plays;
 pub mod seats;

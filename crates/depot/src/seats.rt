@@ -15,8 +15,8 @@ use std::mem;
 /// The right to make calls on a depot, and what came of them. It runs no call, so it has entered
 /// no word but for its grants, and no slot is out with it.
 pub struct Seat<M: Machine> {
-    badge: Badge<ViewsOf<M>>,
-    splits: u8,
+    pub(crate) badge: Badge<ViewsOf<M>>,
+    pub(crate) splits: u8,
     ghost one: { (length badge.views ≡ 1) × (length (own_views badge.views) ≡ 1) },
     ghost idle: { ((known badge.views).unsure ≡ 0) × ((known badge.views).hand ≡ 0) × (length (known badge.views).path ≡ 0) },
     ghost parts: { (known badge.views).parts ≡ splits + 1 },
