@@ -30,6 +30,7 @@ pub fn split_seat<M: Machine>(
     requires table { (seat.badge.table_id ≡ board.now.table_id) × (0 < board.now.table_id.words) }
     ensures table { IfOk result (λ two. (two.0.badge.table_id ≡ seat.badge.table_id) × (two.1.badge.table_id ≡ seat.badge.table_id)) }
     ensures split { IfOk result (λ two. (0 < seat.splits) × (known two.0.badge.views ≡ record (known seat.badge.views) { parts = seat.splits }) × (known two.1.badge.views ≡ fresh (known seat.badge.views))) }
+    ensures splits { IfOk result (λ two. (two.0.splits + 1 ≡ seat.splits) × (two.1.splits ≡ 0)) }
     ensures refused { IfErr result (λ same. (seat.splits ≡ 0) × (same ≡ seat)) }
 {
     if seat.splits == 0 {
