@@ -17,8 +17,8 @@ pub opened-so : (P E : Type 0) (kind_of : P → ℕ) {ps qs : List ℕ} {first o
 opened-so P E kind_of {ps = ps} {qs = qs} {first = first} {others = others} {ws = ws} parents parcels words many tree few wide there =
     let w : ws ≡ replicate {A = ℕ} (length ps) 0 = words ∙ ap (λ (m : ℕ). replicate {A = ℕ} m 0) many in
     subst (λ (x : List ℕ × List (Option P) × List ℕ). Rule {E = E} kind_of x.0 x.1 (opening x.2 first (opening_view x.0 x.1 ∷ [])))
-      (λ i. (sym parents i, sym parcels i, sym w i))
-      (opens P E kind_of ps first tree few wide there)
+    (λ i. (sym parents i, sym parcels i, sym w i))
+    (opens P E kind_of ps first tree few wide there)
 
 -- what a table holds at its end, where its only seat has no grant
 pub closed-so : (P E : Type 0) (kind_of : P → ℕ) (ps : List ℕ) (first : List (Option P)) (id : ℕ) (vs : List (View P E)) (ws : List ℕ) (xs : List (Option P)) → vs ≡ view_of vs ∷ [] → (view_of vs).parts ≡ 64

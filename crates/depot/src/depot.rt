@@ -3,7 +3,7 @@
 ghost use Rattle.std.specs.Prelude.{◌≡◌, ◌<◌, ◌≤◌, ℕ, List, length, replicate, slice_index_or, Option, Some, None, IfOk, IfErr};
 ghost use Rattle.depot_rule.specs.Tree.{IsTree};
 
-use crate::seats::{join_seat, meet, split_seat, Seat};
+use crate::seats::{Seat, join_seat, meet, split_seat};
 use crate::table::{DepotRule, Key, Opening, Place, ViewsOf};
 use atomic_table::{Closed, Table};
 use depot_rule::machine::Machine;
