@@ -1,0 +1,17 @@
+use Rattle.std.proofs.Common.{rules, arith, ◌≡◌, ◌+◌, length, sym, ap, ◌∙◌}
+use Rattle.depot_rule.specs.declared.view.Entry.{Entry}
+use Rattle.depot_rule.specs.Seats.{view_of}
+use Rattle.depot_rule.proofs.Joining.{splits-seat}
+use Rattle.depot.specs.Calls.{own_views, known}
+use Rattle.depot.proofs.seats.split_seat.Goals as goal
+
+pub split_seat-second-requires : goal.split_seat-second-requires
+split_seat-second-requires g c =
+    let is = c.into_seat-place.ensures.2 in
+    let one : length c.into_seat-place.result.me.0 ≡ 1 = sym (ap (λ l. length (own_views l)) is) ∙ c.args.seat.one.1 in
+    let parts : (view_of c.into_seat-place.result.me.0).parts ≡ c.args.seat.splits + 1 = sym (ap (λ l. (known l).parts) is) ∙ c.args.seat.parts in (
+      search rules,
+      search rules,
+      splits-seat g.row.M-Parcel.Denot (Entry g.row.M-Parcel.Denot g.row.M-Call.Denot g.row.M-Reply.Denot) g.M.Machine.kind_of c.args.board.now.key.value.parents.items c.args.board.now.key.value.parcels.items
+          _ c.into_seat-place.result.me.0 one (omega arith),
+    )

@@ -1,0 +1,19 @@
+use Rattle.std.proofs.Common.{rules, arith, ◌<◌, length}
+use Rattle.depot_rule.specs.declared.view.Entry.{Entry}
+use Rattle.depot_rule.specs.Seats.{view_of}
+use Rattle.depot_rule.proofs.Places.{one-view, of-one}
+use Rattle.depot_rule.proofs.Claiming.{releases}
+use Rattle.depot.proofs.steps.release.Goals as goal
+
+pub fetch_sub-requires : goal.fetch_sub-requires
+fetch_sub-requires g c =
+    let lt : c.args.node < length c.args.board.now.key.value.parents.items = omega arith in (
+      search rules,
+      search rules,
+      releases g.row.M-Parcel.Denot (Entry g.row.M-Parcel.Denot g.row.M-Call.Denot g.row.M-Reply.Denot) g.M.Machine.kind_of c.args.board.now.key.value.parents.items c.args.board.now.key.value.parcels.items
+          _ _ c.args.place.now.me (view_of c.args.place.now.me.0) c.args.node c.requires.granted.0 (one-view c.args.place.now.me.0 c.requires.ready.0) c.requires.ready.1 lt c.requires.ready.2 c.requires.granted.1 c.requires.home,
+    )
+
+pub returns-clause-released : goal.returns-clause-released
+returns-clause-released g c =
+    let did = of-one _ _ _ (one-view c.args.place.now.me.0 c.requires.ready.0) c.fetch_sub.ensures.2.0 in (_, did)

@@ -1,0 +1,53 @@
+//! A node is claimed with all that it covers, and given up.
+
+ghost use Rattle.std.specs.Prelude.{◌≡◌, ◌<◌, ◌≤◌, ◌≢◌, ◌∷◌, ◌++◌, ℕ, List, [], length, slice_set, Option, Some, None, OnOk, IfErr};
+ghost use Rattle.depot_rule.specs.declared.view.View.{View};
+ghost use Rattle.depot_rule.specs.declared.view.Read.{Read};
+ghost use Rattle.depot_rule.specs.Tree.{IsTree, ancestors, Covers};
+ghost use Rattle.depot_rule.specs.Shares.{Has};
+ghost use Rattle.depot_rule.specs.Parcels.{takes};
+ghost use Rattle.depot_rule.specs.Seats.{view_of};
+ghost use Rattle.depot.specs.Calls.{IsGranted, IsExcluded, WasRefused};
+
+use crate::path::{Busy, climb, leave_all};
+use crate::steps::{claim, release};
+use crate::table::{Board, Place};
+use depot_rule::machine::Machine;
+
+/// Claims a node: enters the words above it, and then takes its own. Either there is a grant, or
+/// the seat has no share more than before.
+pub fn try_claim<M: Machine>(
+    board: &Board<M>,
+    place: &mut Place<M>,
+    parents: &[u64],
+    node: usize,
+) -> Result<(), Busy>
+    requires table { (place.old.table_id ≡ board.now.table_id) × (node < board.now.table_id.words) × (board.now.table_id.words ≡ length board.now.key.value.parents.items) }
+    requires tree { (parents.now ≡ board.now.key.value.parents.items) × IsTree parents.now }
+    requires ready { let v = view_of place.old.me.0 in (length place.old.me.0 ≡ 1) × (0 < node) × (v.unsure ≡ 0) × (v.path ≡ []) × (v.tree ≡ parents.now) }
+    ensures seat { (place.new.table_id ≡ place.old.table_id) × (place.new.me.1 ≡ place.old.me.1) }
+    ensures granted { let v = view_of place.old.me.0 in OnOk result (((g : _) × (more : List Read) × IsGranted M.kind_of v node g more place.new.me.0) × (IsExcluded v node → ⊥)) }
+    ensures refused { IfErr result (λ busy. WasRefused parents.now (view_of place.old.me.0) node busy.node busy.word place.new.me.0) }
+{
+    climb(board, place, parents, node)?;
+    let word = claim(board, place, node);
+    if word == 0 {
+        return Ok(());
+    }
+    leave_all(board, place, parents, node);
+    Err(Busy { node, word })
+}
+
+/// Ends a grant whose parcels are all at home.
+pub fn give_up<M: Machine>(board: &Board<M>, place: &mut Place<M>, parents: &[u64], node: usize)
+    requires table { (place.old.table_id ≡ board.now.table_id) × (node < board.now.table_id.words) × (board.now.table_id.words ≡ length board.now.key.value.parents.items) }
+    requires tree { (parents.now ≡ board.now.key.value.parents.items) × IsTree parents.now }
+    requires ready { let v = view_of place.old.me.0 in (length place.old.me.0 ≡ 1) × (0 < node) × (v.path ≡ []) × (v.tree ≡ parents.now) }
+    requires granted { let v = view_of place.old.me.0 in (g : _) × Has v node g }
+    requires home { let v = view_of place.old.me.0 in (k : ℕ) → 0 < k → Covers board.now.key.value.parents.items node k → takes k v ≡ 0 }
+    ensures seat { (place.new.table_id ≡ place.old.table_id) × (place.new.me.1 ≡ place.old.me.1) }
+    ensures ended { let v = view_of place.old.me.0 in (more : List Read) × (place.new.me.0 ≡ record v { held = slice_set v.held node None; reads = more ++ v.reads } ∷ []) }
+{
+    release(board, place, node);
+    leave_all(board, place, parents, node);
+}

@@ -1,0 +1,14 @@
+//! Grants of the parcels of a tree, to threads, without a lock and without memory. So far: the
+//! table, its atomic steps, the way of a claim through the words above its node, and parcels that
+//! go out of their slots and come home.
+#![tactic(auto)]
+
+pub mod claiming;
+pub mod depot;
+pub mod path;
+pub mod plays;
+pub mod seats;
+pub mod slots;
+pub mod stamps;
+pub mod steps;
+pub mod table;

@@ -1,0 +1,49 @@
+//! The stamp: a call takes effect.
+
+ghost use Rattle.std.specs.Prelude.{◌≡◌, ◌<◌, ◌++◌, ◌∷◌, ℕ, List, [], length, slice_set, slice_index_or, Option, Some, None};
+ghost use Rattle.depot_rule.specs.declared.view.View.{View};
+ghost use Rattle.depot_rule.specs.declared.view.Read.{Read};
+ghost use Rattle.depot_rule.specs.Tree.{Covers};
+ghost use Rattle.depot_rule.specs.Shares.{Has};
+ghost use Rattle.depot_rule.specs.Parcels.{takes, IsParcel};
+ghost use Rattle.depot_rule.specs.Seats.{view_of};
+
+use crate::table::{Board, EntryOf, Place};
+use atomic_table::Play;
+use depot_rule::machine::Machine;
+use depot_rule::view::{Entry, Views};
+use std::marker::{Brand, PhantomData};
+
+/// What a step is about, which each call of it picks.
+pub trait Said<X> {
+    ghost item: { Option X };
+}
+
+impl<X> Said<X> for Brand {
+    ghost item = { None };
+}
+
+/// An entry is added to the history.
+pub struct Stamp<J> {
+    said: PhantomData<J>,
+}
+
+impl<P, C, R, J: Said<Entry<P, C, R>>> Play<Option<P>, Views<P, Entry<P, C, R>>> for Stamp<J> {
+    ghost use Rattle.depot_rule.specs.Plays.{StampSays};
+
+    ghost then = { StampSays J.item };
+}
+
+/// Stamps the entry that was picked, of a grant all of whose parcels are taken. The answer is the ticket.
+pub fn stamp_as<M: Machine, J: Said<EntryOf<M>>>(board: &Board<M>, place: &mut Place<M>) -> u64
+    requires table { (place.old.table_id ≡ board.now.table_id) × (0 < board.now.table_id.words) }
+    requires one { length place.old.me.0 ≡ 1 }
+    requires granted { let v = view_of place.old.me.0 in (e : _) × (g : _) × (J.item ≡ Some e) × Has v e.node g
+        × ((k : ℕ) → 0 < k → k < length board.now.key.value.parents.items → Covers board.now.key.value.parents.items e.node k → takes k v ≡ 1)
+        × ((k : ℕ) → 0 < k → k < length board.now.key.value.parents.items → Covers board.now.key.value.parents.items e.node k → IsParcel M.kind_of board.now.key.value.parcels.items k (slice_index_or e.left k None)) }
+    ensures seat { (place.new.table_id ≡ place.old.table_id) × (place.new.me.1 ≡ place.old.me.1) }
+    ensures stamped { let v = view_of place.old.me.0 in (e : _) → J.item ≡ Some e → (between : List _)
+        × (place.new.me.0 ≡ record v { held = slice_set v.held e.node (Some e.left); reads = record { word = 0; value = result; shares = 0 } ∷ v.reads; seen = (v.seen ++ between) ++ e ∷ []; mine = v.mine ++ length (v.seen ++ between) ∷ [] } ∷ []) }
+{
+    board.fetch_add::<Stamp<J>>(place, 0, 1)
+}

@@ -1,0 +1,67 @@
+//! Steps on words.
+
+ghost use Rattle.std.specs.Prelude.{◌≡◌, ◌<◌, ◌≤◌, ◌≢◌, ◌∷◌, ℕ, List, [], length, slice_set, slice_index_or, Option, Some, None, IfNone, IfSome};
+ghost use Rattle.depot_rule.specs.declared.view.View.{View};
+ghost use Rattle.depot_rule.specs.Sums.{tally};
+ghost use Rattle.depot_rule.specs.Tree.{ancestors, Covers};
+ghost use Rattle.depot_rule.specs.Shares.{exclusive, Has};
+ghost use Rattle.depot_rule.specs.Seats.{view_of};
+ghost use Rattle.depot_rule.specs.Plays.{IsOnly};
+ghost use Rattle.depot_rule.specs.Parcels.{takes};
+ghost use Rattle.depot.specs.Calls.{read_of, Moved, IsGranted, IsExcluded};
+
+use crate::plays::{BackOut, Claim, Enter, Leave, Release};
+use crate::table::{Board, Place};
+use depot_rule::machine::Machine;
+
+/// The part of a word that says that its node is claimed.
+pub const EXCLUSIVE: u64 = 1 << 32;
+
+/// Enters the word of a node. Where it is found claimed it is left again, and the answer is what was found.
+pub fn enter<M: Machine>(board: &Board<M>, place: &mut Place<M>, node: usize) -> Option<u64>
+    requires table { (place.old.table_id ≡ board.now.table_id) × (node < board.now.table_id.words) × (board.now.table_id.words ≡ length board.now.key.value.parents.items) }
+    requires ready { let v = view_of place.old.me.0 in (length place.old.me.0 ≡ 1) × (0 < node) × (v.unsure ≡ 0) × (tally node v.path ≡ 0) }
+    ensures seat { (place.new.table_id ≡ place.old.table_id) × (place.new.me.1 ≡ place.old.me.1) }
+    ensures entered { let v = view_of place.old.me.0 in IfNone result ((found : ℕ) × Moved v (node ∷ v.path) (read_of node found v ∷ []) place.new.me.0) }
+    ensures claimed { let v = view_of place.old.me.0 in IfSome result (λ found. (exclusive ≤ found) × ((last : _) × Moved v v.path (last ∷ read_of node found v ∷ []) place.new.me.0) × (IsOnly v → (g : _) × Has v node g)) }
+{
+    let found = board.fetch_add::<Enter>(place, node, 1);
+    if found < EXCLUSIVE {
+        return None;
+    }
+    board.fetch_sub::<BackOut>(place, node, 1);
+    Some(found)
+}
+
+/// Leaves the word that was entered last.
+pub fn leave<M: Machine>(board: &Board<M>, place: &mut Place<M>, node: usize)
+    requires table { (place.old.table_id ≡ board.now.table_id) × (node < board.now.table_id.words) × (board.now.table_id.words ≡ length board.now.key.value.parents.items) }
+    requires ready { let v = view_of place.old.me.0 in (length place.old.me.0 ≡ 1) × (0 < node) × ((rest : List ℕ) × (v.path ≡ node ∷ rest)) }
+    ensures seat { (place.new.table_id ≡ place.old.table_id) × (place.new.me.1 ≡ place.old.me.1) }
+    ensures left { let v = view_of place.old.me.0 in (rest : List ℕ) → v.path ≡ node ∷ rest → (found : ℕ) × Moved v rest (read_of node found v ∷ []) place.new.me.0 }
+{
+    board.fetch_sub::<Leave>(place, node, 1);
+}
+
+/// Claims a node whose words above are entered. The answer is what its word was: 0 where there is now a grant.
+pub fn claim<M: Machine>(board: &Board<M>, place: &mut Place<M>, node: usize) -> u64
+    requires table { (place.old.table_id ≡ board.now.table_id) × (node < board.now.table_id.words) × (board.now.table_id.words ≡ length board.now.key.value.parents.items) }
+    requires ready { let v = view_of place.old.me.0 in (length place.old.me.0 ≡ 1) × (0 < node) × (v.unsure ≡ 0) × (v.path ≡ ancestors board.now.key.value.parents.items node) }
+    ensures seat { (place.new.table_id ≡ place.old.table_id) × (place.new.me.1 ≡ place.old.me.1) }
+    ensures granted { let v = view_of place.old.me.0 in result ≡ 0 → ((g : _) × IsGranted M.kind_of (record v { path = [] }) node g (read_of node 0 v ∷ []) place.new.me.0) × (IsExcluded v node → ⊥) }
+    ensures refused { let v = view_of place.old.me.0 in result ≢ 0 → Moved v v.path (read_of node result v ∷ []) place.new.me.0 × (IsOnly v → IsExcluded v node) }
+{
+    board.compare_exchange::<Claim<M>>(place, node, 0, EXCLUSIVE)
+}
+
+/// Gives up a grant whose parcels are all at home. The words above its node are still entered.
+pub fn release<M: Machine>(board: &Board<M>, place: &mut Place<M>, node: usize)
+    requires table { (place.old.table_id ≡ board.now.table_id) × (node < board.now.table_id.words) × (board.now.table_id.words ≡ length board.now.key.value.parents.items) }
+    requires ready { let v = view_of place.old.me.0 in (length place.old.me.0 ≡ 1) × (0 < node) × (v.path ≡ []) }
+    requires granted { let v = view_of place.old.me.0 in (g : _) × Has v node g }
+    requires home { let v = view_of place.old.me.0 in (k : ℕ) → 0 < k → Covers board.now.key.value.parents.items node k → takes k v ≡ 0 }
+    ensures seat { (place.new.table_id ≡ place.old.table_id) × (place.new.me.1 ≡ place.old.me.1) }
+    ensures released { let v = view_of place.old.me.0 in (found : ℕ) × (place.new.me.0 ≡ record v { path = ancestors v.tree node; held = slice_set v.held node None; reads = read_of node found v ∷ v.reads } ∷ []) }
+{
+    board.fetch_sub::<Release>(place, node, EXCLUSIVE);
+}

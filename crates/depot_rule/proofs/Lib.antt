@@ -1,0 +1,17 @@
+pub mod Sums
+pub mod Trees
+pub mod Views
+pub mod Words
+pub mod Grants
+pub mod Parcels
+pub mod Places
+pub mod Only
+pub mod Entering
+pub mod Claiming
+pub mod Slots
+pub mod Dealing
+pub mod Joining
+pub mod Opening
+pub mod Following
+pub mod Looking
+pub mod Stamping

@@ -1,0 +1,51 @@
+-- A look at the ticket, as the table asks for it.
+use Rattle.std.proofs.Common.{◌≡◌, ℕ, ◌≤◌, List, [], ◌∷◌, get_or, set, refl, ap, ◌∙◌, arith, Option, length-set, get_or-set_other}
+use mathlib.Core.Option.{none, some}
+use lib.ListN.{get_elem?}
+use Rattle.atomic_table.specs.Table.{step, keeps, Allows}
+use Rattle.depot_rule.specs.declared.view.View.{View}
+use Rattle.depot_rule.specs.declared.view.Read.{Read}
+use Rattle.depot_rule.specs.Sums.{total}
+use Rattle.depot_rule.specs.Shares.{parts, claims, entered, shares, IsSound, Shares}
+use Rattle.depot_rule.specs.Rule.{Rule}
+use Rattle.depot_rule.specs.Plays.{Place, LookSays}
+use Rattle.depot_rule.proofs.Sums.{total-set, total-at}
+use Rattle.depot_rule.proofs.Views.{all-one, each-set}
+use Rattle.depot_rule.proofs.Parcels.{stay-keeps}
+use Rattle.depot_rule.proofs.Places.{on-one}
+
+module _ (P E : Type 0) where
+  -- the ticket is no node's word
+  pub ticket-keeps : (ps ws : List ℕ) (views : List (List (View P E))) (r : Shares ps ws views) (x id : ℕ) (v w : View P E) → get_elem? views id ≡ some (v ∷ [])
+      → w.parts ≡ v.parts → IsSound ps w → ((a : ℕ) → (shares a w ≡ shares a v) × (claims a w ≡ claims a v) × (entered a w ≡ entered a v))
+      → Shares ps (set ws 0 x) (set views id (w ∷ []))
+  ticket-keeps ps ws views r x id v w at same sound others = record {
+    tree = r.tree;
+    few = r.few;
+    as_many = length-set ws 0 x ∙ r.as_many;
+    seats = let t = total-set (total parts) views id (v ∷ []) (w ∷ []) at in let q = r.seats in omega arith;
+    counted = λ a p l. let t = total-set (total (shares a)) views id (v ∷ []) (w ∷ []) at in let o = others a in let o0 = o.0 in let q = r.counted a p l in let g = get_or-set_other ws 0 a x 0 (λ e. omega arith) in omega arith;
+    alone = λ a p l some_claim. let t = total-set (total (entered a)) views id (v ∷ []) (w ∷ []) at in let u = total-set (total (claims a)) views id (v ∷ []) (w ∷ []) at in
+        let o = others a in let o1 = o.1 in let o2 = o.2 in let q = r.alone a p l (omega arith) in let q0 = q.0 in let q1 = q.1 in (omega arith, omega arith);
+    sound = each-set (IsSound ps) views id (w ∷ []) r.sound (all-one (IsSound ps) w sound);
+  }
+
+  pub looks : (kind_of : P → ℕ) (ps : List ℕ) (first : List (Option P)) (slots id : ℕ) (me : Place P E) (v : View P E) → me.0 ≡ v ∷ []
+      → Allows (Rule kind_of ps first) slots id me 0 (λ x. x) (LookSays (step slots 0 0 0 none) me)
+  looks kind_of ps first slots id me v one s r _ at' small =
+      let at : get_elem? s.views id ≡ some (v ∷ []) = at' ∙ ap some one in
+      let x : ℕ = get_or s.words 0 0 in
+      let rs : List Read = record { word = 0; value = x; shares = 0 } ∷ v.reads in
+      let w : View P E = record v { reads = rs } in
+      let ca = r.parcels.carries id (v ∷ []) at 0 v refl in let so = r.shares.sound id (v ∷ []) at 0 v refl in
+      let most = total-at (total parts) s.views id (v ∷ []) at in let seats = r.shares.seats in (
+        w ∷ [],
+        keeps,
+        tt,
+        record {
+          shares = ticket-keeps ps s.words s.views r.shares x id v w at refl (record { some_part = so.some_part; tree = so.tree; wide = so.wide; once = so.once }) (λ a. (refl, refl, refl));
+          parcels = stay-keeps P E kind_of ps first s r id v w at (λ k. refl)
+              (record { opened = ca.opened; nodes = ca.nodes; single = ca.single; cover = ca.cover; whole = ca.whole; there = ca.there; empty = ca.empty });
+        },
+        (on-one _ me.0 v one (refl, (let fit : v.parts ≤ 64 = omega arith in fit)), refl),
+      )

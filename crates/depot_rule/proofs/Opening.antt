@@ -1,0 +1,78 @@
+-- The beginning and the end of a depot.
+use Rattle.std.proofs.Common.{◌≡◌, ℕ, zero, suc, ◌<◌, ◌≤◌, List, [], ◌∷◌, map, length, replicate, get_or, sym, refl, ap, ◌∙◌, subst, arith, Option, Some, None}
+use Rattle.std.proofs.lemmas.List.{length-replicate}
+use mathlib.Core.Option.{some, some-injective, some-ne-none}
+use lib.ListN.{get_elem?}
+use Rattle.atomic_table.specs.Table.{State, opening}
+use Rattle.depot_rule.specs.declared.view.View.{View}
+use Rattle.depot_rule.specs.Tree.{IsTree}
+use Rattle.depot_rule.specs.Shares.{opening_view, claims, entered, shares, IsSound}
+use Rattle.depot_rule.specs.Parcels.{takes, kind_at, IsParcel, Carries}
+use Rattle.depot_rule.specs.Rule.{Rule}
+use Rattle.depot_rule.proofs.Views.{all-one, only-view}
+use Rattle.depot_rule.proofs.Dealing.{bare-counts}
+use Rattle.depot_rule.proofs.Joining.{none-held}
+
+zero-word : (n a : ℕ) → get_or (replicate {A = ℕ} n 0) a 0 ≡ 0
+zero-word zero a = refl
+zero-word (suc n) zero = refl
+zero-word (suc n) (suc a) = zero-word n a
+
+at-home : {A : Type 0} (xs : List A) (k : ℕ) (d : A) → k < length xs → get_elem? (map some xs) k ≡ some (some (get_or xs k d))
+at-home [] k d h = absurd (omega arith)
+at-home (x ∷ xs) zero d h = refl
+at-home (x ∷ xs) (suc k) d h = at-home xs k d (omega arith)
+
+length-map : {A B : Type 0} (f : A → B) (xs : List A) → length (map f xs) ≡ length xs
+length-map f [] = refl
+length-map f (x ∷ xs) = let r = length-map f xs in omega arith
+
+each-one : {V : Type 0} (Q : V → Type 0) (v : V) → Q v → (j : ℕ) (vs : List V) → get_elem? ((v ∷ []) ∷ []) j ≡ some vs → (i : ℕ) (u : V) → get_elem? vs i ≡ some u → Q u
+each-one Q v q zero vs e = subst (λ (zs : List _). (i : ℕ) (u : _) → get_elem? zs i ≡ some u → Q u) (some-injective (v ∷ []) vs e) (all-one Q v q)
+each-one Q v q (suc j) vs e = absurd (some-ne-none vs (sym e))
+
+module _ (P E : Type 0) (kind_of : P → ℕ) where
+  -- all words are 0, each node's parcel is in its slot, and the first seat has nothing
+  pub opens : (ps : List ℕ) (first : List (Option P)) → IsTree ps → length ps ≤ 1024 → length first ≡ length ps
+      → ((k : ℕ) → 0 < k → k < length ps → (p : P) × (get_or first k None ≡ Some p))
+      → Rule {E = E} kind_of ps first (opening (replicate (length ps) 0) first (opening_view ps first ∷ []))
+  opens ps first tree few wide there =
+      let v : View P E = opening_view ps first in
+      let bare : (a : ℕ) → 0 < a → (shares a v ≡ 0) × (claims a v ≡ 0) × (entered a v ≡ 0) × (takes a v ≡ 0) = λ a p. bare-counts P E kind_of v a p refl refl refl refl (length ps) refl in
+      record {
+        shares = record {
+          tree = tree;
+          few = few;
+          as_many = length-replicate (length ps) 0;
+          seats = omega arith;
+          counted = λ a p l. let z = zero-word (length ps) a in let q = bare a p in let q0 = q.0 in omega arith;
+          alone = λ a p l h. let q = bare a p in let q1 = q.1 in absurd (omega arith);
+          sound = each-one (IsSound ps) v (record { some_part = omega arith; tree = refl; wide = length-replicate (length ps) None; once = λ a. omega arith });
+        };
+        parcels = record {
+          slots = length-map some first ∙ wide;
+          home = λ k p l z. let y = there k p l in (get_or first k None, at-home first k None (omega arith), (y.0, y.1, sym (ap (kind_at kind_of) y.1)));
+          carries = each-one (Carries kind_of ps first (map some first)) v (record {
+            opened = refl;
+            nodes = λ b g e. absurd (none-held (length ps) b g e);
+            single = λ k p. let z = bare k p in let q = z.3 in omega arith;
+            cover = λ k p h. let z = bare k p in let q = z.3 in absurd (omega arith);
+            whole = λ b k g e. absurd (none-held (length ps) b g e);
+            there = λ b k g e. absurd (none-held (length ps) b g e);
+            empty = λ k p h. absurd (omega arith);
+          });
+        };
+      }
+
+  -- where the only seat has no grant, each parcel is in its slot
+  pub closes : (ps : List ℕ) (first : List (Option P)) (s : State (Option P) (List (View P E))) (r : Rule kind_of ps first s) (id : ℕ) (v : View P E) → get_elem? s.views id ≡ some (v ∷ []) → v.parts ≡ 64
+      → ((b : ℕ) (g : List (Option P)) → get_elem? v.held b ≡ some (Some g) → ⊥)
+      → (k : ℕ) → 0 < k → k < length ps → (y : Option P) × (get_elem? s.homes k ≡ some (some y)) × IsParcel kind_of first k y
+  closes ps first s r id v at all none_open k p l =
+      let ca = r.parcels.carries id (v ∷ []) at 0 v refl in
+      r.parcels.home k p l (only-view P E ps s.words s.views r.shares id v at all (takes k)
+      ∙ (let z : (0 < takes k v → ⊥) = (λ h. let c = ca.cover k p h in none_open c.0 c.1 c.2) in none-then (takes k v) z))
+    where
+      none-then : (n : ℕ) → (0 < n → ⊥) → n ≡ 0
+      none-then zero z = refl
+      none-then (suc n) z = absurd (z (omega arith))

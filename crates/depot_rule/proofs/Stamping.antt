@@ -1,0 +1,80 @@
+-- The stamp, as the table asks for it.
+use Rattle.std.proofs.Common.{◌≡◌, ◌≢◌, ◌⊎◌, ℕ, ◌+◌, ◌%◌, ◌^◌, ◌<◌, eqb, List, [], ◌∷◌, ◌++◌, length, get_or, set, refl, ap, ◌∙◌, subst, arith, Option, Some, None, length-set, inl, inr, ⊎_elim}
+use mathlib.Core.Option.{none, some}
+use mathlib.Core.Logic.{dite}
+use native.Mathlib.Decide.{ℕ_discrete}
+use lib.ListN.{get_elem?}
+use Rattle.atomic_table.specs.Table.{State, step, keeps, Allows}
+use Rattle.atomic_table.proofs.Lists.{at_set, set_else, set_here}
+use Rattle.depot_rule.specs.declared.view.View.{View}
+use Rattle.depot_rule.specs.declared.view.Entry.{Entry}
+use Rattle.depot_rule.specs.declared.view.Read.{Read}
+use Rattle.depot_rule.specs.Sums.{one_if, tally}
+use Rattle.depot_rule.specs.Tree.{ancestors, Covers}
+use Rattle.depot_rule.specs.Shares.{Has, claims, lower}
+use Rattle.depot_rule.specs.Parcels.{takes, IsParcel}
+use Rattle.depot_rule.specs.Rule.{Rule}
+use Rattle.depot_rule.specs.Plays.{Place, StampSays}
+use Rattle.depot_rule.proofs.Sums.{over-other}
+use Rattle.depot_rule.proofs.Grants.{at-length}
+use Rattle.depot_rule.proofs.Parcels.{stay-keeps}
+use Rattle.depot_rule.proofs.Looking.{ticket-keeps}
+use Rattle.depot_rule.proofs.Places.{on-one}
+
+module _ (P E : Type 0) (kind_of : P → ℕ) where
+  abbrev G : Type 0
+  G = List (Option P)
+
+  -- the grant of b lists other parcels, where all that it covers is taken
+  pub relist-keeps : (ps : List ℕ) (first : List (Option P)) (s : State (Option P) (List (View P E))) (r : Rule kind_of ps first s) (x id b : ℕ) (v : View P E) (g left : G) (rs : List Read) (seen : List E) (mine : List ℕ)
+      → get_elem? s.views id ≡ some (v ∷ []) → Has v b g
+      → ((k : ℕ) → 0 < k → k < length ps → Covers ps b k → takes k v ≡ 1)
+      → ((k : ℕ) → 0 < k → k < length ps → Covers ps b k → IsParcel kind_of first k (get_or left k None))
+      → Rule kind_of ps first record { words = set s.words 0 x; homes = s.homes; views = set s.views id (record v { held = set v.held b (Some left); reads = rs; seen = seen; mine = mine } ∷ []) }
+  relist-keeps ps first s r x id b v g left rs seen mine at here taken fits =
+      let w : View P E = record v { held = set v.held b (Some left); reads = rs; seen = seen; mine = mine } in
+      let so = r.shares.sound id (v ∷ []) at 0 v refl in
+      let ca = r.parcels.carries id (v ∷ []) at 0 v refl in
+      let low : (a : ℕ) → lower a w ≡ lower a v = λ a. over-other (λ c. tally a (ancestors v.tree c)) 0 v.held b g left here in
+      let own : (a : ℕ) → claims a w ≡ claims a v = λ a. over-other (λ c. one_if (eqb c a)) 0 v.held b g left here in
+      let cases : (c : ℕ) (h : G) → Has w c h → ((c ≡ b) × (left ≡ h)) ⊎ ((c ≢ b) × Has v c h)
+            = λ c h e. ⊎_elim (λ (t : (c ≡ b) × (Some left ≡ Some h)). let lh : left ≡ h = (let q = t.1 in cc) in inl (t.0, lh)) (λ (t : (c ≢ b) × Has v c h). inr t) (at_set v.held b c (Some left) (Some h) e) in
+      let now : Has w b left = set_here v.held b (Some left) (at-length v.held b (Some g) here) in
+      record {
+        shares = ticket-keeps P E ps s.words s.views r.shares x id v w at refl
+          (record { some_part = so.some_part; tree = so.tree; wide = length-set v.held b (Some left) ∙ so.wide; once = so.once })
+          (λ a. let l = low a in let o = own a in (omega arith, o, omega arith));
+        parcels = stay-keeps P E kind_of ps first s r id v w at (λ k. refl) (record {
+          opened = ca.opened;
+          nodes = λ c h e. ⊎_elim (λ (t : (c ≡ b) × (left ≡ h)). let n = ca.nodes b g here in let n0 = n.0 in let n1 = n.1 in let z = t.0 in (omega arith, omega arith)) (λ (t : (c ≢ b) × Has v c h). ca.nodes c h t.1) (cases c h e);
+          single = ca.single;
+          cover = λ k pk h. let t = ca.cover k pk h in dite (ℕ_discrete t.0 b)
+            (λ e. (b, left, now, subst (λ (z : ℕ). Covers ps z k) e t.3))
+            (λ ne. (t.0, t.1, set_else v.held b t.0 (Some left) ne ∙ t.2, t.3));
+          whole = λ c k h e ck pk lk. ⊎_elim
+            (λ (t : (c ≡ b) × (left ≡ h)). subst (λ (z : G). IsParcel kind_of first k (get_or z k None)) t.1 (fits k pk lk (subst (λ (z : ℕ). Covers ps z k) t.0 ck)))
+            (λ (t : (c ≢ b) × Has v c h). ca.whole c k h t.1 ck pk lk) (cases c h e);
+          there = λ c k h e ck pk lk none_taken. ⊎_elim
+            (λ (t : (c ≡ b) × (left ≡ h)). let one = taken k pk lk (subst (λ (z : ℕ). Covers ps z k) t.0 ck) in absurd (omega arith))
+            (λ (t : (c ≢ b) × Has v c h). ca.there c k h t.1 ck pk lk none_taken) (cases c h e);
+          empty = ca.empty });
+      }
+
+module _ (P C R : Type 0) (kind_of : P → ℕ) where
+  abbrev E : Type 0
+  E = Entry P C R
+
+  pub stamps : (ps : List ℕ) (first : List (Option P)) (slots id : ℕ) (me : Place P E) (v : View P E) (e : E) (g : List (Option P)) → me.0 ≡ v ∷ [] → Has v e.node g
+      → ((k : ℕ) → 0 < k → k < length ps → Covers ps e.node k → takes k v ≡ 1)
+      → ((k : ℕ) → 0 < k → k < length ps → Covers ps e.node k → IsParcel kind_of first k (get_or e.left k None))
+      → Allows (Rule kind_of ps first) slots id me 0 (λ x. (x + 1) % 2 ^ 64) (StampSays (Some e) (step slots 0 1 0 none) me)
+  stamps ps first slots id me v e g one here taken fits s r _ at' small =
+      let at : get_elem? s.views id ≡ some (v ∷ []) = at' ∙ ap some one in
+      let x : ℕ = get_or s.words 0 0 in
+      let rs : List Read = record { word = 0; value = x; shares = 0 } ∷ v.reads in
+      let seen : List E = (v.seen ++ []) ++ e ∷ [] in
+      let mine : List ℕ = v.mine ++ length (v.seen ++ []) ∷ [] in
+      let w : View P E = record v { held = set v.held e.node (Some e.left); reads = rs; seen = seen; mine = mine } in
+      (w ∷ [], keeps, tt,
+        relist-keeps P E kind_of ps first s r ((x + 1) % 18446744073709551616) id e.node v g e.left rs seen mine at here taken fits,
+        (on-one _ me.0 v one ([], refl), refl))

@@ -1,0 +1,100 @@
+-- The nodes above a node.
+use Rattle.std.proofs.Common.{◌≡◌, ℕ, zero, suc, ◌<◌, ◌≤◌, eqb, List, [], ◌∷◌, slice_index, sym, ap, ◌∙◌, subst, arith, refl, inl, inr, ⊎_elim}
+use mathlib.Core.Logic.{dite}
+use native.Mathlib.Decide.{ℕ_discrete, dec_lt}
+use Rattle.depot_rule.specs.Sums.{tally}
+use Rattle.depot_rule.specs.Tree.{IsTree, from_parent, above, ancestors, Covers, Excludes}
+use Rattle.depot_rule.proofs.Sums.{one-other, one-most}
+
+from-same : (f g : ℕ → List ℕ) (p : ℕ) → (0 < p → f p ≡ g p) → from_parent f p ≡ from_parent g p
+from-same f g zero h = refl
+from-same f g (suc p) h = ap (λ (t : List ℕ). suc p ∷ t) (h (omega arith))
+
+-- there are fewer nodes above b than its number
+enough : (ps : List ℕ) → IsTree ps → (m n b : ℕ) → 0 < b → b ≤ m → b ≤ n → above ps m b ≡ above ps n b
+enough ps t zero n b pos h k = absurd (omega arith)
+enough ps t (suc m) zero b pos h k = absurd (omega arith)
+enough ps t (suc m) (suc n) b pos h k =
+    let l = t b pos in from-same (above ps m) (above ps n) (slice_index ps b) (λ some_parent. enough ps t m n (slice_index ps b) some_parent (omega arith) (omega arith))
+
+pub ancestors-root : (ps : List ℕ) (b : ℕ) → slice_index ps b ≡ 0 → ancestors ps b ≡ []
+ancestors-root ps zero e = refl
+ancestors-root ps (suc b) e = ap (from_parent (above ps b)) e
+
+pub ancestors-parent : (ps : List ℕ) → IsTree ps → (b p : ℕ) → 0 < b → slice_index ps b ≡ p → 0 < p → ancestors ps b ≡ p ∷ ancestors ps p
+ancestors-parent ps t zero p pos e q = absurd (omega arith)
+ancestors-parent ps t (suc b) zero pos e q = absurd (omega arith)
+ancestors-parent ps t (suc b) (suc p) pos e q =
+    let l = t (suc b) pos in ap (from_parent (above ps b)) e ∙ ap (λ (r : List ℕ). suc p ∷ r) (enough ps t b (suc p) (suc p) q (omega arith) (omega arith))
+
+from-lower : (f : ℕ → List ℕ) (p a : ℕ) → p < a → ((q : ℕ) → 0 < q → q ≤ a → tally a (f q) ≡ 0) → tally a (from_parent f p) ≡ 0
+from-lower f zero a l r = refl
+from-lower f (suc p) a l r = let z = one-other (suc p) a (λ e. omega arith) in let u = r (suc p) (omega arith) (omega arith) in omega arith
+
+-- what is above b has a smaller number
+lower-above : (ps : List ℕ) → IsTree ps → (m b a : ℕ) → 0 < b → b ≤ a → tally a (above ps m b) ≡ 0
+lower-above ps t zero b a pos h = refl
+lower-above ps t (suc m) b a pos h = let l = t b pos in from-lower (above ps m) (slice_index ps b) a (omega arith) (λ q qpos le. lower-above ps t m q a qpos le)
+
+-- no node is above itself
+pub not-above : (ps : List ℕ) → IsTree ps → (b : ℕ) → tally b (ancestors ps b) ≡ 0
+not-above ps t zero = refl
+not-above ps t (suc b) = lower-above ps t (suc b) (suc b) (suc b) (omega arith) (omega arith)
+
+from-once : (f : ℕ → List ℕ) (p a : ℕ) → ((q : ℕ) → 0 < q → tally a (f q) ≤ 1) → ((q : ℕ) → 0 < q → q ≤ a → tally a (f q) ≡ 0) → tally a (from_parent f p) ≤ 1
+from-once f zero a r z = omega arith
+from-once f (suc p) a r z = dite (ℕ_discrete (suc p) a)
+    (λ e. let l = z (suc p) (omega arith) (omega arith) in let o = one-most (eqb (suc p) a) in omega arith)
+    (λ ne. let o = one-other (suc p) a ne in let u = r (suc p) (omega arith) in omega arith)
+
+once-above : (ps : List ℕ) → IsTree ps → (m b a : ℕ) → 0 < b → tally a (above ps m b) ≤ 1
+once-above ps t zero b a pos = omega arith
+once-above ps t (suc m) b a pos = from-once (above ps m) (slice_index ps b) a (λ q qpos. once-above ps t m q a qpos) (λ q qpos le. lower-above ps t m q a qpos le)
+
+-- each node above stands there once
+pub ancestors-once : (ps : List ℕ) → IsTree ps → (a b : ℕ) → tally a (ancestors ps b) ≤ 1
+ancestors-once ps t a zero = omega arith
+ancestors-once ps t a (suc b) = once-above ps t (suc b) (suc b) a (omega arith)
+
+from-line : (ps : List ℕ) (f : ℕ → List ℕ) (p b c : ℕ) → (0 < p → f p ≡ ancestors ps p) → (0 < p → 0 < tally b (f p) → 0 < tally c (f p) → Excludes ps b c)
+    → 0 < tally b (from_parent f p) → 0 < tally c (from_parent f p) → Excludes ps b c
+from-line ps f zero b c same further hb hc = absurd (omega arith)
+from-line ps f (suc p) b c same further hb hc = dite (ℕ_discrete (suc p) b)
+    (λ e. dite (ℕ_discrete (suc p) c) (λ e'. inl (sym e ∙ e'))
+    (λ ne. let o = one-other (suc p) c ne in let u : 0 < tally c (f (suc p)) = omega arith in
+    inr (inr (subst (λ (z : ℕ). 0 < tally c (ancestors ps z)) e (subst (λ (z : List ℕ). 0 < tally c z) (same (omega arith)) u)))))
+    (λ nb. let o = one-other (suc p) b nb in let u : 0 < tally b (f (suc p)) = omega arith in dite (ℕ_discrete (suc p) c)
+    (λ e. inr (inl (subst (λ (z : ℕ). 0 < tally b (ancestors ps z)) e (subst (λ (z : List ℕ). 0 < tally b z) (same (omega arith)) u))))
+    (λ nc. let o' = one-other (suc p) c nc in further (omega arith) u (omega arith)))
+
+line-above : (ps : List ℕ) → IsTree ps → (m k b c : ℕ) → 0 < k → k ≤ m → 0 < tally b (above ps m k) → 0 < tally c (above ps m k) → Excludes ps b c
+line-above ps t zero k b c pos le hb hc = absurd (omega arith)
+line-above ps t (suc m) k b c pos le hb hc = let l = t k pos in let p : ℕ = slice_index ps k in
+    from-line ps (above ps m) p b c (λ some_parent. enough ps t m p p some_parent (omega arith) (omega arith))
+    (λ some_parent ub uc. line-above ps t m p b c some_parent (omega arith) ub uc) hb hc
+
+-- two nodes that cover one node exclude each other
+pub cover-excludes : (ps : List ℕ) → IsTree ps → (b c k : ℕ) → Covers ps b k → Covers ps c k → Excludes ps b c
+cover-excludes ps t b c k = ⊎_elim
+    (λ (e : b ≡ k). ⊎_elim (λ (e' : c ≡ k). inl (e ∙ sym e')) (λ (u : 0 < tally c (ancestors ps k)). inr (inr (subst (λ (z : ℕ). 0 < tally c (ancestors ps z)) (sym e) u))))
+    (λ (u : 0 < tally b (ancestors ps k)). ⊎_elim
+    (λ (e : c ≡ k). inr (inl (subst (λ (z : ℕ). 0 < tally b (ancestors ps z)) (sym e) u)))
+    (λ (w : 0 < tally c (ancestors ps k)). both k u w))
+  where
+    both : (k : ℕ) → 0 < tally b (ancestors ps k) → 0 < tally c (ancestors ps k) → Excludes ps b c
+    both zero u w = absurd (omega arith)
+    both (suc k) u w = line-above ps t (suc k) (suc k) b c (omega arith) (omega arith) u w
+
+from-zero : (f : ℕ → List ℕ) (p : ℕ) → ((q : ℕ) → tally 0 (f q) ≡ 0) → tally 0 (from_parent f p) ≡ 0
+from-zero f zero h = refl
+from-zero f (suc p) h = let o = one-other (suc p) 0 (λ e. omega arith) in let z = h (suc p) in omega arith
+
+zero-above : (ps : List ℕ) (m b : ℕ) → tally 0 (above ps m b) ≡ 0
+zero-above ps zero b = refl
+zero-above ps (suc m) b = from-zero (above ps m) (slice_index ps b) (λ q. zero-above ps m q)
+
+-- what is above b is a node, and has a smaller number
+pub above-smaller : (ps : List ℕ) → IsTree ps → (a b : ℕ) → 0 < tally a (ancestors ps b) → (0 < a) × (a < b)
+above-smaller ps t a zero h = absurd (omega arith)
+above-smaller ps t zero (suc b) h = let z = zero-above ps (suc b) (suc b) in absurd (omega arith)
+above-smaller ps t (suc a) (suc b) h = elim (dec_lt (suc a) (suc b)) [ yes l ↦ (omega arith, l) | no n ↦ let z = lower-above ps t (suc b) (suc b) (suc a) (omega arith) (omega arith) in absurd (omega arith) ]

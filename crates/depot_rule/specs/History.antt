@@ -1,0 +1,85 @@
+-- The one history: a list of entries, as long as the ticket says. Each entry put parcels in, and each parcel is as the history left it.
+use Rattle.std.specs.Prelude.{◌≡◌, ℕ, ◌+◌, ◌%◌, ◌<◌, ◌==◌, nat_lt, Bool, ◌||◌, List, [], ◌∷◌, ◌++◌, length, slice_index, slice_index_or, slice_get, Option, Some, None}
+use mathlib.Core.Option.{some}
+use lib.ListN.{get_elem?}
+use Rattle.atomic_table.specs.Table.{State}
+use Rattle.depot_rule.specs.declared.view.View.{View}
+use Rattle.depot_rule.specs.declared.view.Entry.{Entry}
+use Rattle.depot_rule.specs.Sums.{total, one_if, tally}
+use Rattle.depot_rule.specs.Tree.{ancestors, Covers}
+use Rattle.depot_rule.specs.Shares.{Each, Has}
+use Rattle.depot_rule.specs.Parcels.{takes}
+use Rattle.depot_rule.specs.Seats.{if_less}
+
+abbrev pub covers : List ℕ → ℕ → ℕ → Bool
+covers parents b k = (b == k) || nat_lt 0 (tally b (ancestors parents k))
+
+-- parcels by node: those of a where a covers the node, else the others
+abbrev pub under : {P : Type 0} → List ℕ → ℕ → (ℕ → Option P) → (ℕ → Option P) → ℕ → Option P
+under parents a inner outer k = if_less (covers parents a k) (inner k) (outer k)
+
+abbrev pub listed : {P : Type 0} → List (Option P) → ℕ → Option P
+listed ys k = slice_index_or ys k None
+
+-- numbers in ascending order
+abbrev pub Ascends : List ℕ → Type 0
+Ascends [] = Unit {0}
+Ascends (x ∷ xs) = ((y : ℕ) → 0 < tally y xs → x < y) × Ascends xs
+
+abbrev pub StartsWith : {A : Type 0} → List A → List A → Type 0
+StartsWith xs start = (rest : List _) × (start ++ rest ≡ xs)
+
+-- what stands at these places
+abbrev pub or_nothing : {A : Type 0} → Option A → List A → List A
+or_nothing None xs = xs
+or_nothing (Some x) xs = x ∷ xs
+
+abbrev pub chosen : {A : Type 0} → List A → List ℕ → List A
+chosen xs [] = []
+chosen xs (p ∷ ps) = or_nothing (slice_get xs p) (chosen xs ps)
+
+-- parcels at home, and those that grants list, are as f has them
+pub record Current {P E : Type 0} (parents : List ℕ) (f : ℕ → Option P) (s : State (Option P) (List (View P E))) : Type 0 where
+  pub now : (k : ℕ) → 0 < k → k < length parents → total (total (takes k)) s.views ≡ 0 → get_elem? s.homes k ≡ some (some (f k))
+  pub listed : Each (λ (v : View P E). (b k : ℕ) (g : List (Option P)) → Has v b g → Covers parents b k → 0 < k → k < length parents → slice_index_or g k None ≡ f k) s.views
+
+module _ {P C R : Type 0} where
+  abbrev pub put_in : List ℕ → Entry P C R → (ℕ → Option P) → ℕ → Option P
+  put_in parents e f = under parents e.node (listed e.left) f
+
+  -- the opening parcels with what each entry left put in, in order
+  abbrev pub after : List ℕ → (ℕ → Option P) → List (Entry P C R) → ℕ → Option P
+  after parents f [] = f
+  after parents f (e ∷ es) = after parents (put_in parents e f) es
+
+  -- each call is a step from the parcels that it found to its reply and the parcels that it left
+  abbrev pub Legal : (List ℕ → ℕ → C → (ℕ → Option P) → R → (ℕ → Option P) → Type 0) → List ℕ → (ℕ → Option P) → List (Entry P C R) → Type 0
+  Legal steps parents f [] = Unit {0}
+  Legal steps parents f (e ∷ es) = steps parents e.node e.call f e.reply (put_in parents e f) × Legal steps parents (put_in parents e f) es
+
+  -- the batches that entries took, and those that they gave
+  abbrev pub moved : {B : Type 0} → (C → R → List B) → List (Entry P C R) → List B
+  moved batches [] = []
+  moved batches (e ∷ es) = batches e.call e.reply ++ moved batches es
+
+  -- the batches that were taken and not given, in any order: however batches are weighed, they weigh the difference
+  abbrev pub AreHands : {B : Type 0} → (C → R → List B) → (C → R → List B) → List (Entry P C R) → List B → Type 0
+  AreHands takes gives es hands = (weigh : _ → ℕ) → total weigh (moved gives es) + total weigh hands ≡ total weigh (moved takes es)
+
+  -- The third pass. The first four name what the machine does: the steps of calls, the batches that they take and give, and what has to hold of all parcels, all batches in hands and the count of entries
+  pub record History {B : Type 0} (steps : List ℕ → ℕ → C → (ℕ → Option P) → R → (ℕ → Option P) → Type 0) (takes gives : C → R → List B) (invariant : List ℕ → (ℕ → Option P) → List B → ℕ → Type 0)
+      (parents : List ℕ) (first : List (Option P)) (s : State (Option P) (List (View P (Entry P C R)))) : Type 0 where
+    pub log : List (Entry P C R)
+    pub ticket : slice_index s.words 0 ≡ length log % 18446744073709551616
+    pub legal : Legal steps parents (listed first) log
+    pub current : Current parents (after parents (listed first) log) s
+    -- each seat has seen a beginning
+    pub seen : Each (λ (v : View P (Entry P C R)). StartsWith log v.seen) s.views
+    -- each entry is one seat's, who has seen it
+    pub mine : (p : ℕ) → total (total (λ (v : View P (Entry P C R)). tally p v.mine)) s.views ≡ one_if (nat_lt p (length log))
+    pub own : Each (λ (v : View P (Entry P C R)). Ascends v.mine × ((p : ℕ) → 0 < tally p v.mine → p < length v.seen)) s.views
+    -- a seat gives only what is in its hand
+    pub hand : Each (λ (v : View P (Entry P C R)). (hands : List B) × AreHands takes gives (chosen log v.mine) hands) s.views
+    pub hands : List B
+    pub all_hands : AreHands takes gives log hands
+    pub sound : invariant parents (after parents (listed first) log) hands (length log)

@@ -1,0 +1,10 @@
+pub mod Sums
+pub mod Tree
+pub mod Shares
+pub mod Parcels
+pub mod Rule
+pub mod Seats
+pub mod Plays
+pub mod History
+pub mod Machine
+pub mod Laws

@@ -1,0 +1,85 @@
+-- What each kind of step tells the seat that makes it.
+use Rattle.std.specs.Prelude.{◌≡◌, ◌≢◌, ℕ, ◌<◌, ◌≤◌, List, [], ◌∷◌, ◌++◌, drop, length, slice_set, slice_index_or, Option, Some, None, IfSome}
+use Rattle.atomic_table.specs.Table.{Me, Step, rest}
+use Rattle.depot_rule.specs.declared.view.View.{View}
+use Rattle.depot_rule.specs.declared.view.Read.{Read}
+use Rattle.depot_rule.specs.declared.view.Entry.{Entry}
+use Rattle.depot_rule.specs.Sums.{without}
+use Rattle.depot_rule.specs.Tree.{ancestors, Covers, Excludes}
+use Rattle.depot_rule.specs.Shares.{exclusive, shares, Has}
+use Rattle.depot_rule.specs.Parcels.{IsParcel}
+use Rattle.depot_rule.specs.Seats.{OnOne}
+
+-- a seat: its views, and the slots that are out with it
+abbrev pub Place : Type 0 → Type 0 → Type 0
+Place P E = Me (Option P) (List (View P E))
+
+module _ {P E : Type 0} where
+  -- what was found, added to the reads
+  abbrev pub noted : Step (Option P) → ℕ → View P E → List Read
+  noted st found v = record { word = st.word; value = found; shares = shares st.word v } ∷ v.reads
+
+  -- a seat that has all parts is the only one, so that what it finds is its own
+  abbrev pub IsOnly : View P E → Type 0
+  IsOnly v = v.parts ≡ 64
+
+  -- a step that moves no slot
+  abbrev pub Goes : (View P E → List (View P E) → Type 0) → Place P E → Place P E → Type 0
+  Goes Q me me' = OnOne (λ v. Q v me'.0) me.0 × (me'.1 ≡ me.1)
+
+  -- fetch_add of 1: a share that counts, or, where the word was found exclusive, one that has to be left
+  abbrev pub EnterSays : Step (Option P) → Place P E → ℕ → Place P E → Type 0
+  EnterSays st me found me' = Goes (λ v vs.
+      (found < exclusive → vs ≡ record v { path = st.word ∷ v.path; reads = noted st found v } ∷ [])
+      × (exclusive ≤ found → (vs ≡ record v { unsure = st.word; reads = noted st found v } ∷ []) × (IsOnly v → (g : List (Option P)) × Has v st.word g))) me me'
+
+  -- fetch_sub of 1, of the share that was found to be in vain
+  abbrev pub BackOutSays : Step (Option P) → Place P E → ℕ → Place P E → Type 0
+  BackOutSays st me found me' = Goes (λ v vs. vs ≡ record v { unsure = 0; reads = noted st found v } ∷ []) me me'
+
+  -- fetch_sub of 1, of the share that was entered last
+  abbrev pub LeaveSays : Step (Option P) → Place P E → ℕ → Place P E → Type 0
+  LeaveSays st me found me' = Goes (λ v vs. vs ≡ record v { path = drop 1 v.path; reads = noted st found v } ∷ []) me me'
+
+  -- compare_exchange of 0 by 2^32: where 0 was found there is a grant, with a parcel for each node that it covers, and the shares entered are the grant's
+  abbrev pub ClaimSays : (P → ℕ) → Step (Option P) → Place P E → ℕ → Place P E → Type 0
+  ClaimSays kind_of st me found me' = Goes (λ v vs.
+      (found ≡ 0 → (g : List (Option P))
+      × (vs ≡ record v { path = []; held = slice_set v.held st.word (Some g); reads = noted st found v } ∷ [])
+      × ((k : ℕ) → 0 < k → k < length v.tree → Covers v.tree st.word k → IsParcel kind_of v.first k (slice_index_or g k None))
+      × ((c : ℕ) (h : List (Option P)) → Has v c h → Excludes v.tree st.word c → ⊥))
+      × (found ≢ 0 → (vs ≡ record v { reads = noted st found v } ∷ []) × (IsOnly v → (c : ℕ) × (h : List (Option P)) × Has v c h × Excludes v.tree st.word c))) me me'
+
+  -- fetch_sub of 2^32: the grant ends, and its shares are to be left
+  abbrev pub ReleaseSays : Step (Option P) → Place P E → ℕ → Place P E → Type 0
+  ReleaseSays st me found me' = Goes (λ v vs. vs ≡ record v { path = ancestors v.tree st.word; held = slice_set v.held st.word None; reads = noted st found v } ∷ []) me me'
+
+  -- a load of the node's word, by which its slot goes out with what the grant lists
+  abbrev pub FetchSays : Step (Option P) → Place P E → ℕ → Place P E → Type 0
+  FetchSays st me found me' =
+      OnOne (λ v. me'.0 ≡ record v { hand = st.word; reads = noted st found v } ∷ []) me.0
+      × OnOne (λ v. (b : ℕ) (g : List (Option P)) → Has v b g → Covers v.tree b st.word → me'.1 ≡ (st.word, slice_index_or g st.word None) ∷ me.1) me.0
+
+  -- a load, by which the slot comes home empty
+  abbrev pub EmptySays : Step (Option P) → Place P E → ℕ → Place P E → Type 0
+  EmptySays st me found me' = OnOne (λ v. me'.0 ≡ record v { hand = 0; gone = st.word ∷ v.gone; reads = noted st found v } ∷ []) me.0 × (me'.1 ≡ rest me.1)
+
+  -- a load, by which the empty slot goes out
+  abbrev pub ReachSays : Step (Option P) → Place P E → ℕ → Place P E → Type 0
+  ReachSays st me found me' =
+      OnOne (λ v. me'.0 ≡ record v { hand = st.word; gone = without st.word v.gone; reads = noted st found v } ∷ []) me.0
+      × (me'.1 ≡ (st.word, None) ∷ me.1)
+
+  -- a load, by which the slot comes home with what the grant lists
+  abbrev pub FillSays : Step (Option P) → Place P E → ℕ → Place P E → Type 0
+  FillSays st me found me' = OnOne (λ v. me'.0 ≡ record v { hand = 0; reads = noted st found v } ∷ []) me.0 × (me'.1 ≡ rest me.1)
+
+  -- a load of the ticket, in which no seat has shares
+  abbrev pub LookSays : Step (Option P) → Place P E → ℕ → Place P E → Type 0
+  LookSays st me found me' = Goes (λ v vs. (vs ≡ record v { reads = record { word = 0; value = found; shares = 0 } ∷ v.reads } ∷ []) × (v.parts ≤ 64)) me me'
+
+-- fetch_add of 1 on the ticket, for the entry e: the grant of its node lists from then on what the entry left, and the entry stands in the history after all that was seen and what others put between
+abbrev pub StampSays : {P C R : Type 0} → Option (Entry P C R) → Step (Option P) → Place P (Entry P C R) → ℕ → Place P (Entry P C R) → Type 0
+StampSays {P = P} item st me found me' = IfSome item (λ e. OnOne (λ v. (between : List (Entry P _ _))
+    × (me'.0 ≡ record v { held = slice_set v.held e.node (Some e.left); reads = record { word = 0; value = found; shares = 0 } ∷ v.reads; seen = (v.seen ++ between) ++ e ∷ []; mine = v.mine ++ length (v.seen ++ between) ∷ [] } ∷ [])) me.0)
+  × (me'.1 ≡ me.1)

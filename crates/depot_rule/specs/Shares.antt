@@ -1,0 +1,64 @@
+-- Words and shares. The word of a node is the sum of what the seats' views have added to it: 1 for each share, 2^32 for a claim.
+use Rattle.std.specs.Prelude.{◌≡◌, ℕ, ◌+◌, ◌*◌, ◌<◌, ◌≤◌, ◌==◌, List, [], length, replicate, slice_index, Option, Some, None}
+use mathlib.Core.Option.{some}
+use lib.ListN.{get_elem?}
+use Rattle.depot_rule.specs.declared.view.View.{View}
+use Rattle.depot_rule.specs.Sums.{total, one_if, tally, over_taken}
+use Rattle.depot_rule.specs.Tree.{IsTree, ancestors}
+
+-- the part of a word that says that the node is claimed
+abbrev pub exclusive : ℕ
+exclusive = 4294967296
+
+-- P holds of each view of each seat
+abbrev pub Each : {V : Type 0} → (V → Type 0) → List (List V) → Type 0
+Each P views = (j : ℕ) (vs : List _) → get_elem? views j ≡ some vs → (i : ℕ) (v : _) → get_elem? vs i ≡ some v → P v
+
+-- the first seat's view: all parts, nothing entered, granted or seen
+abbrev pub opening_view : {P E : Type 0} → List ℕ → List (Option P) → View P E
+opening_view parents first = record { parts = 64; tree = parents; unsure = 0; path = []; held = replicate (length parents) None; hand = 0; gone = []; reads = []; first = first; seen = []; mine = [] }
+
+module _ {P E : Type 0} where
+  -- the view has a grant of b, with the parcels g by node
+  abbrev pub Has : View P E → ℕ → List (Option P) → Type 0
+  Has v b g = get_elem? v.held b ≡ some (Some g)
+
+  abbrev pub parts : View P E → ℕ
+  parts v = v.parts
+
+  -- 1 where the view has a grant of a itself
+  abbrev pub claims : ℕ → View P E → ℕ
+  claims a v = over_taken (λ b. one_if (b == a)) 0 v.held
+
+  -- the shares in a that the view has for its grants of nodes below a
+  abbrev pub lower : ℕ → View P E → ℕ
+  lower a v = over_taken (λ b. tally a (ancestors v.tree b)) 0 v.held
+
+  -- its shares in a that were found free of a claim
+  abbrev pub entered : ℕ → View P E → ℕ
+  entered a v = tally a v.path + lower a v
+
+  -- what its open grants have added to the word of a
+  abbrev pub grant_shares : ℕ → View P E → ℕ
+  grant_shares a v = lower a v + exclusive * claims a v
+
+  -- what the view has added to the word of a
+  abbrev pub shares : ℕ → View P E → ℕ
+  shares a v = (entered a v + one_if (v.unsure == a)) + exclusive * claims a v
+
+  pub record IsSound (parents : List ℕ) (v : View P E) : Type 0 where
+    pub some_part : 0 < v.parts
+    pub tree : v.tree ≡ parents
+    pub wide : length v.held ≡ length parents
+    pub once : (a : ℕ) → tally a v.path ≤ 1
+
+  -- Of the words, and of the views of all seats, seat by seat. Word 0 is the ticket, and no node's
+  pub record Shares (parents : List ℕ) (words : List ℕ) (views : List (List (View P E))) : Type 0 where
+    pub tree : IsTree parents
+    pub few : length parents ≤ 1024
+    pub as_many : length words ≡ length parents
+    pub seats : total (total parts) views ≡ 64
+    pub counted : (a : ℕ) → 0 < a → a < length parents → slice_index words a ≡ total (total (shares a)) views
+    -- a node that is claimed is claimed once, and no share in it was found free
+    pub alone : (a : ℕ) → 0 < a → a < length parents → 0 < total (total (claims a)) views → (total (total (claims a)) views ≡ 1) × (total (total (entered a)) views ≡ 0)
+    pub sound : Each (IsSound parents) views

@@ -1,0 +1,28 @@
+-- The tree of nodes: the parent of each node. Nodes have numbers from 1 on, parents before their children; a root has parent 0, and entry 0 is no node.
+use Rattle.std.specs.Prelude.{◌≡◌, ◌⊎◌, ℕ, ◌<◌, zero, suc, List, [], ◌∷◌, slice_index}
+use Rattle.depot_rule.specs.Sums.{tally}
+
+abbrev pub IsTree : List ℕ → Type 0
+IsTree parents = (b : ℕ) → 0 < b → slice_index parents b < b
+
+-- a parent, if there is one, and the nodes above it
+abbrev pub from_parent : (ℕ → List ℕ) → ℕ → List ℕ
+from_parent above zero = []
+from_parent above (suc p) = suc p ∷ above (suc p)
+
+-- the nodes above b, at most as many as the first number says
+abbrev pub above : List ℕ → ℕ → ℕ → List ℕ
+above parents zero b = []
+above parents (suc most) b = from_parent (above parents most) (slice_index parents b)
+
+-- the nodes above b, the nearest first
+abbrev pub ancestors : List ℕ → ℕ → List ℕ
+ancestors parents b = above parents b b
+
+-- b is k, or above it
+abbrev pub Covers : List ℕ → ℕ → ℕ → Type 0
+Covers parents b k = (b ≡ k) ⊎ (0 < tally b (ancestors parents k))
+
+-- one of the two is the other, or above it
+abbrev pub Excludes : List ℕ → ℕ → ℕ → Type 0
+Excludes parents b c = (b ≡ c) ⊎ ((0 < tally b (ancestors parents c)) ⊎ (0 < tally c (ancestors parents b)))
