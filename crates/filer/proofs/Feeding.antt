@@ -4,6 +4,7 @@ use Rattle.std.specs.Prelude.{map, slice_get, option_map, IfSome, vec_len, vec_c
 use Rattle.std.proofs.lemmas.List.{take_all, take-append-drop, length-map}
 use Rattle.std.proofs.lemmas.Bool.Decides.{nat_tests}
 use Rattle.rpc_record.specs.Stream.{read_stream}
+use Rattle.nfs_model.specs.Tree.{Layout}
 use Rattle.nfs_model.specs.World as worlds
 use Rattle.nfs_model.specs.World.{changed_at, is_crowded, all_running, Setup, World}
 use Rattle.nfs_model.specs.Events.Feed.{Feeds, Fault, completes, heard_in}
@@ -15,7 +16,8 @@ use Rattle.filer.specs.declared.engine.message.Heard.{Heard}
 use Rattle.filer.specs.declared.engine.message.Running.{Running}
 use Rattle.filer.specs.declared.engine.state.State.{State}
 use Rattle.filer.specs.Numbers.{fault_number}
-use Rattle.filer.specs.Seen.{closed_of, open_of, connections_of, heard_of, message_of, running_of, entry_of, layout_of, setup_in, world}
+use Rattle.filer.specs.Seen.{closed_of, open_of, connections_of, heard_of, message_of, running_of, entry_of, setup_in, world}
+use Rattle.affinity.specs.Layout.{layout_of}
 use Rattle.filer.specs.Sound.{Arrives, IsSound, IsRoomy, pending, count_of, MayBeRoomier, MakesRoom, TakesIn, AtNoFault, MayBeStreamRoomier, TakesFrom, MayTakeFrom}
 use Rattle.filer.specs.Streams.{scan_stream, IsQuiet, Completes}
 use Rattle.filer.specs.Feeding.{TakesAll, with_bytes, bytes_taken}
@@ -92,16 +94,16 @@ roomier past (Some a) (Some b) r =
 pub room-unseen : (old new : State) → MakesRoom old new → world new ≡ world old
 room-unseen old new r =
     ap world r.same
-    ∙ ap (λ (cs : List worlds.Connection). record (world old) { connections = cs; waiting = map message_of new.waiting.items; finished = map entry_of new.finished.items }) (roomier old.past.items old.current new.current r.current)
-    ∙ ap (λ ms. record (world old) { waiting = map message_of ms; finished = map entry_of new.finished.items }) r.waiting
+    ∙ ap (λ (cs : List worlds.Connection). record (world old) { connections = cs; waiting = map (message_of (layout_of old.layout)) new.waiting.items; finished = map entry_of new.finished.items }) (roomier old.past.items old.current new.current r.current)
+    ∙ ap (λ ms. record (world old) { waiting = map (message_of (layout_of old.layout)) ms; finished = map entry_of new.finished.items }) r.waiting
     ∙ ap (λ es. record (world old) { finished = map entry_of es }) r.finished
 
-running_count : (running : Option Running) → length (all_running (record { running = option_map running_of running; hand = worlds.Empty } ∷ [])) ≡ count_of running
-running_count None = refl
-running_count (Some r) = refl
+running_count : (layout : Layout) (running : Option Running) → length (all_running (record { running = option_map (running_of layout) running; hand = worlds.Empty } ∷ [])) ≡ count_of running
+running_count layout None = refl
+running_count layout (Some r) = refl
 
 pub crowd-is : (s : State) → length (world s).waiting + length (all_running (world s).workers) ≡ pending s
-crowd-is s = omega (arith, length-map s.waiting.items message_of, s.waiting.ok.0, running_count s.running)
+crowd-is s = omega (arith, length-map s.waiting.items (message_of (layout_of s.layout)), s.waiting.ok.0, running_count (layout_of s.layout) s.running)
 
 below_most : (n : ℕ) → n < 1024 → nat_le 1024 n ≡ false
 below_most n h = grind (arith, nat_tests)

@@ -1,7 +1,6 @@
 use crate::choice::Command;
 use crate::engine::Engine;
 use crate::engine::event::Event;
-use crate::engine::layout::Layout;
 use crate::fault::Fault;
 use crate::program::program;
 use crate::replay::replay;
@@ -192,12 +191,19 @@ fn bad_lines_end_a_script(rt: HostRuntime) -> Result<(), Fail> {
         ("aggregate 128\n", 2),
         ("aggregate 129\n", 1),
         ("aggregate 01\n", 1),
-        ("aggregate 1\n\naggregate 1\n", 3),
+        ("aggregate 1\n\naggregate 1\n", 4),
+        ("aggregate 1\naggregate 1\naggregate 1\n", 3),
+        ("aggregate 1\naggregate 1\nvolume 2 1\n", 3),
+        (
+            "aggregate 1\nvolume 0 1\nvolume 0 1\nvolume 0 1\nvolume 0 1\nvolume 0 1\nvolume 0 1\nvolume 0 1\nvolume 0 1\nvolume 0 1\n",
+            10,
+        ),
         ("volume 0 1\n", 1),
         ("aggregate 1\nvolume 1 1\n", 2),
         ("aggregate 1\nvolume 0 0\n", 2),
         ("aggregate 1\nvolume 0 17\n", 2),
-        ("aggregate 1\nvolume 0 16\nvolume 0 1\n", 3),
+        ("aggregate 1\nvolume 0 16\nvolume 0 17\n", 3),
+        ("aggregate 1\nvolume 0 16\nvolume 0 1\n", 4),
         ("aggregate 1\nvolume 0 1\naggregate 1\n", 3),
         ("aggregate 1\nvolume 0 1\nopen\n", 3),
         ("aggregate 1\nvolume 0 1\n", 3),
@@ -264,10 +270,12 @@ fn lists_of_events_are_played(rt: HostRuntime) -> Result<(), Fail> {
     let alloc = rt.alloc();
     let call = hex::decode(alloc, NULL.as_bytes()).unwrap();
     let reply = hex::decode(alloc, NULL_REPLY.as_bytes()).unwrap();
-    let layout = Layout {
-        spare: 1,
+    let aggregate = AggregateSpec { spare: 1 };
+    let volume = VolumeSpec {
+        aggregate: 0,
         ranges: 1,
     };
+    let layout = Layout::new(alloc, &[aggregate], &[volume]).map_err(|_fault| "fault")?;
     let fed = Event::Feed {
         connection: 0,
         bytes: &call,

@@ -16,7 +16,8 @@ use crate::engine::event::{Done, Refusal, Stop};
 use crate::engine::finishing::{keep_entry, respond};
 use crate::engine::message::{Heard, Message, Origin, Request};
 use crate::engine::state::{PLACES, REPLY_LIMIT, State};
-use crate::engine::work::{answer_at_once, home_of};
+use crate::engine::work::answer_at_once;
+use affinity::home_of;
 use nfs_values::{Moment, Reply};
 use rpc_record::Look;
 use std::alloc::AllocError;
@@ -71,7 +72,7 @@ fn admit(state: &mut State, number: usize, heard: Heard)
             respond(state, origin, reply.as_reply());
             keep_entry(state, origin, Request::Refused(reply), None, Moment::START);
         }
-        Request::Call { call, credential } => match home_of(&call) {
+        Request::Call { call, credential } => match home_of(call.as_call(), &state.layout) {
             Some(_) => state.waiting.push_reserved(Message {
                 origin,
                 call,

@@ -9,11 +9,11 @@ ghost use Rattle.filer.specs.Codec.{reply_record};
 ghost use Rattle.filer.specs.Seen.{world, entry_by};
 ghost use Rattle.filer.specs.Sound.{IsWrittenTo, Responds, KeepsEntry};
 
-use crate::engine::affinity::Affinity;
 use crate::engine::connection::OpenConnection;
 use crate::engine::message::{Entry, Origin, Request};
 use crate::engine::reply::put_reply;
 use crate::engine::state::State;
+use affinity::Affinity;
 use nfs_values::{Moment, Reply};
 
 /// Writes a reply record, and answers how many bytes it has.
