@@ -111,7 +111,7 @@ pub(crate) fn finish(state: &mut State, worker: usize) -> Result<Done, Refusal>
     };
     let affinity = Some(Affinity::VolumeLogical(0));
     let count = respond(state, origin, &Reply::Success(answer.into_answer()));
-    keep_entry(state, origin, request, affinity, moment);
+    keep_entry(state, origin, Some(request), affinity, moment);
     Ok(Done::Written {
         connection: origin.connection,
         count,
