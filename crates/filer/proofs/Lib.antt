@@ -14,3 +14,4 @@ pub mod Full
 pub mod Loops
 pub mod Serves
 pub mod Runs
+pub mod Marking

@@ -83,7 +83,7 @@ volumes-open verifier number [] root e = refl
 volumes-open verifier number (v ∷ vs) root e =
     let first : volume_of verifier root number v ≡ opening_volume verifier number v = ap (λ (node : servers.Node). record (opening_volume verifier number v) { nodes = from_sorted ((1, node) ∷ []) }) e in
     ap (λ (x : servers.Volume). x ∷ volumes_from verifier root (number + 1) vs) first
-        ∙ ap (λ (xs : List servers.Volume). opening_volume verifier number v ∷ xs) (volumes-open verifier (number + 1) vs root e)
+    ∙ ap (λ (xs : List servers.Volume). opening_volume verifier number v ∷ xs) (volumes-open verifier (number + 1) vs root e)
 
 pub server-opens : (layout : Layout) (verifier : List ℕ) (root : Kept) → root_of root ≡ root_node → server_of layout verifier root ≡ opening layout verifier
 server-opens layout verifier root e = ap (λ (vs : List servers.Volume). record (opening layout verifier) { volumes = vs }) (volumes-open verifier 0 layout.volumes root e)
@@ -94,7 +94,7 @@ on_there : (layout : Layout) (verifier : List ℕ) (root : Kept) (h : ℕ × ℕ
     → on_handle (server_of layout verifier root) 0 (Some h) getattr ≡ put_back (server_of layout verifier root) h.0 s
 on_there layout verifier root h x s e k =
     ap (λ (o : Option servers.Volume). on_volume (server_of layout verifier root) 0 h.0 o (λ volume. getattr volume h.1)) e
-        ∙ ap (put_back (server_of layout verifier root) h.0) k
+    ∙ ap (put_back (server_of layout verifier root) h.0) k
 
 -- a call on a good handle, whose node is answered so
 on_good : (layout : Layout) (root : Kept) (handle : List ℕ) (h : ℕ × ℕ) (answer : types.Answer) → handle_of (length layout.volumes) handle ≡ Some h
@@ -104,26 +104,26 @@ on_good layout root handle h answer e served verifier credential moment =
     let count = length-volumes_from verifier root 0 layout.volumes in
     let named : handle_of (length (server_of layout verifier root).volumes) handle ≡ Some h = ap (λ (n : ℕ). handle_of n handle) count ∙ e in
     ap (λ (o : Option (ℕ × ℕ)). on_handle (server_of layout verifier root) 0 o getattr) named
-        ∙ on_there layout verifier root h there.0 (told answer) there.2 (served verifier there.0)
+    ∙ on_there layout verifier root h there.0 (told answer) there.2 (served verifier there.0)
 
 -- the root
 getattr-root : (layout : Layout) (root : Kept) (handle : List ℕ) (h : ℕ × ℕ) (answer : types.Answer) → handle_of (length layout.volumes) handle ≡ Some h → h.1 ≡ 1
     → ((verifier : List ℕ) (x : VolumeLayout) → answer ≡ types.GetattrDone (shown (volume_of verifier root h.0 x) 1 (root_of root))) → IsAnswer layout root (types.Getattr handle) answer
 getattr-root layout root handle h answer e f a =
     on_good layout root handle h answer e (λ (verifier : List ℕ) (x : VolumeLayout).
-        let volume = volume_of verifier root h.0 x in
-        let there : get volume.nodes h.1 ≡ Some (root_of root) = ap (get volume.nodes) f ∙ get_is (root_of root) 1 ∙ found (root_of root) in
-        ap (λ (o : Option servers.Node). on_node 0 o (λ node. told (types.GetattrDone (shown volume h.1 node)))) there
-            ∙ ap (λ (n : ℕ). told (types.GetattrDone (shown volume n (root_of root)))) f
-            ∙ ap told (sym (a verifier x)))
+    let volume = volume_of verifier root h.0 x in
+    let there : get volume.nodes h.1 ≡ Some (root_of root) = ap (get volume.nodes) f ∙ get_is (root_of root) 1 ∙ found (root_of root) in
+    ap (λ (o : Option servers.Node). on_node 0 o (λ node. told (types.GetattrDone (shown volume h.1 node)))) there
+    ∙ ap (λ (n : ℕ). told (types.GetattrDone (shown volume n (root_of root)))) f
+    ∙ ap told (sym (a verifier x)))
 
 -- any other fileid
 getattr-stale : (layout : Layout) (root : Kept) (handle : List ℕ) (h : ℕ × ℕ) (answer : types.Answer) → handle_of (length layout.volumes) handle ≡ Some h → (h.1 ≡ 1 → ⊥) → answer ≡ types.Failed types.Stale 0 → IsAnswer layout root (types.Getattr handle) answer
 getattr-stale layout root handle h answer e f a =
     on_good layout root handle h answer e (λ (verifier : List ℕ) (x : VolumeLayout).
-        let volume = volume_of verifier root h.0 x in
-        let there : get volume.nodes h.1 ≡ None = get_is (root_of root) h.1 ∙ other_at (root_of root) h.1 (nat_cmp h.1 1) refl f in
-        ap (λ (o : Option servers.Node). on_node 0 o (λ node. told (types.GetattrDone (shown volume h.1 node)))) there ∙ ap told (sym a))
+    let volume = volume_of verifier root h.0 x in
+    let there : get volume.nodes h.1 ≡ None = get_is (root_of root) h.1 ∙ other_at (root_of root) h.1 (nat_cmp h.1 1) refl f in
+    ap (λ (o : Option servers.Node). on_node 0 o (λ node. told (types.GetattrDone (shown volume h.1 node)))) there ∙ ap told (sym a))
 
 -- a bad handle
 pub getattr-bad : (layout : Layout) (root : Kept) (handle : List ℕ) → handle_of (length layout.volumes) handle ≡ None → IsAnswer layout root (types.Getattr handle) (types.Failed types.BadHandle 0)

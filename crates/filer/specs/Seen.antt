@@ -1,5 +1,5 @@
 -- The engine's fields as a world, and its events and answers as the world's.
-use Rattle.std.specs.Prelude.{ℕ, false, ◌+◌, ◌*◌, List, [], ◌∷◌, ◌++◌, map, Option, Some, None, Result, Ok, Err, option_map}
+use Rattle.std.specs.Prelude.{ℕ, ◌+◌, ◌*◌, is_none, List, [], ◌∷◌, ◌++◌, map, Option, Some, None, Result, Ok, Err, option_map}
 use Rattle.std.specs.FinMap.{from_sorted}
 use Rattle.nfs_model.specs.Types as types
 use Rattle.nfs_model.specs.Tree as trees
@@ -45,6 +45,11 @@ abbrev pub asked_of : Request → types.Asked
 asked_of (requests.Call call credential) = types.Ask (call_of call) (credential_of credential)
 asked_of (requests.Refused reply) = types.Refused (reply_of reply)
 
+-- what an entry's record asks, where it was decoded
+abbrev pub asked_in : Option Request → types.Asked
+asked_in None = types.Undecoded
+asked_in (Some request) = asked_of request
+
 abbrev pub heard_of : Heard → worlds.Heard
 heard_of h = record { xid = h.xid; asked = asked_of h.request }
 
@@ -63,11 +68,11 @@ abbrev pub running_of : trees.Layout → Running → worlds.Running
 running_of layout r = record { message = message_of layout r.message; moment = moment_of r.moment; outcome = option_map outcome_of r.answer }
 
 abbrev pub entry_of : Entry → replays.Entry
-entry_of e = record { connection = e.origin.connection; number = e.origin.number; xid = e.origin.xid; asked = asked_of e.request; affinity = option_map affinity_of e.affinity; moment = moment_of e.moment; starved = e.starved }
+entry_of e = record { connection = e.origin.connection; number = e.origin.number; xid = e.origin.xid; asked = asked_in e.request; affinity = option_map affinity_of e.affinity; moment = moment_of e.moment; starved = e.starved }
 
--- a call that was not starved
-abbrev pub entry_by : Origin → Request → Option Affinity → Moment → replays.Entry
-entry_by origin request affinity moment = record { connection = origin.connection; number = origin.number; xid = origin.xid; asked = asked_of request; affinity = option_map affinity_of affinity; moment = moment_of moment; starved = false }
+-- a finished call, starved just where it wasn't decoded
+abbrev pub entry_by : Origin → Option Request → Option Affinity → Moment → replays.Entry
+entry_by origin request affinity moment = record { connection = origin.connection; number = origin.number; xid = origin.xid; asked = asked_in request; affinity = option_map affinity_of affinity; moment = moment_of moment; starved = is_none request }
 
 -- ---- connections
 
@@ -101,7 +106,6 @@ volume_of verifier k number v = record {
   aggregate = v.aggregate;
   total = 1024 * v.ranges;
   largest = 1048576 * v.mebibytes;
-  stripes = v.stripes;
   verifier = verifier;
   next = 2;
   nodes = from_sorted ((1, root_of k) ∷ []);

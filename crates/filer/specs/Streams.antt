@@ -1,6 +1,7 @@
 -- Whole streams: the calls and refusals that their records are, and the fault that ends them.
 use Rattle.std.specs.Prelude.{◌≡◌, ℕ, List, [], ◌∷◌, ◌++◌, map, Option, Some, None, Result, Ok, Err}
 use Rattle.rpc_record.specs.Machine.{State}
+use Rattle.rpc_record.specs.Records.{Records, HasFault, HasNoFault}
 use Rattle.rpc_record.specs.Stream.{read_stream}
 use Rattle.nfs_model.specs.Tree.{Layout}
 use Rattle.nfs_model.specs.World.{Heard, Scanned, Codec, Setup}
@@ -19,6 +20,20 @@ served_of (Err number ∷ others) fault = record { served = []; fault = Some num
 
 abbrev pub scan_stream : List ℕ → Scanned
 scan_stream stream = served_of (map heard (read_stream stream).records) (fault_at (read_stream stream).at)
+
+-- whether a header in the rest is at fault, told as 11
+abbrev pub IsFaultOf : List ℕ → Option ℕ → Type 0
+IsFaultOf rest None = HasNoFault rest
+IsFaultOf rest (Some number) = (number ≡ 11) × HasFault rest
+
+-- By record marking (RFC 5531 section 11): the stream is spellings of records and a rest. Served are the records in order, up to the first that is neither a call nor refused.
+pub record IsServed (stream : List ℕ) (scanned : Scanned) : Type 0 where
+  pub records : List (List ℕ)
+  pub rest : List ℕ
+  pub fault : Option ℕ
+  pub are : Records stream records rest
+  pub at_fault : IsFaultOf rest fault
+  pub served : scanned ≡ served_of (map heard records) fault
 
 -- these bytes, after a stream, complete nothing
 abbrev pub IsQuiet : List ℕ → List ℕ → Type 0

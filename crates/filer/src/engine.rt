@@ -17,6 +17,7 @@ pub(crate) mod connection;
 pub mod event;
 pub(crate) mod feeding;
 pub(crate) mod finishing;
+pub mod laws;
 pub mod message;
 pub(crate) mod parcel;
 pub(crate) mod reading;

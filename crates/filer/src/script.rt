@@ -15,10 +15,12 @@ const LINE_FEED: u8 = b'\n';
 
 /// The most aggregates, and how many spare ranges each may have.
 const AGGREGATES: usize = 2;
+
 const SPARE_LIMIT: u32 = 128;
 
 /// The most volumes, and how many ranges each may have.
 const VOLUMES: usize = 8;
+
 const RANGE_LIMIT: u32 = 16;
 
 /// The most lines of a layout, the one that starts its engine with them.
@@ -143,12 +145,8 @@ impl<'a> Script<'a> {
                         .push(specification)
                         .map_err(|_full| Fault::NoMemory)?;
                 }
-                Line::Volume { aggregate, ranges } if is_volume(
-                    &aggregates,
-                    &volumes,
-                    aggregate,
-                    ranges,
-                ) => {
+                Line::Volume { aggregate, ranges }
+                    if is_volume(&aggregates, &volumes, aggregate, ranges) => {
                     let specification = VolumeSpec { aggregate, ranges };
                     volumes
                         .push(specification)
@@ -168,11 +166,7 @@ impl<'a> Script<'a> {
     }
 
     /// The layout of these; the line read last is bad where they are none.
-    fn layout(
-        &self,
-        aggregates: &[AggregateSpec],
-        volumes: &[VolumeSpec],
-    ) -> Result<Layout, Fault>
+    fn layout(&self, aggregates: &[AggregateSpec], volumes: &[VolumeSpec]) -> Result<Layout, Fault>
         ensures layout { IfOk result (λ layout. layout_of layout ≡ layout_in aggregates.now volumes.now) }
         ensures bad { IfErr result (λ fault. (fault ≡ Fault.NoMemory) ⊎ (fault ≡ Fault.BadLine self.now.count)) }
     {

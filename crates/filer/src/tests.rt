@@ -5,6 +5,7 @@ use crate::fault::Fault;
 use crate::program::program;
 use crate::replay::replay;
 use crate::words::command;
+use affinity::{AggregateSpec, Layout, VolumeSpec};
 use std::alloc::AllocError;
 use std::io;
 use std::io::{Read, Write};
@@ -262,6 +263,42 @@ fn bad_lines_end_a_script(rt: HostRuntime) -> Result<(), Fail> {
     expect_events(&rt, "\n# a comment\nopen\n", 0, "conn 0\n")?;
     expect_events(&rt, "open\nopen", 1, "conn 0\nbad line 5\n")?;
     expect(&rt, b"#\xff\nopen\n", 1, "bad line 2\n");
+    Ok(())
+}
+
+/// The largest layout.
+const LARGEST: &str = "\
+    aggregate 128\naggregate 0\nvolume 1 16\nvolume 1 16\nvolume 0 1\nvolume 1 16\n\
+    volume 1 16\nvolume 1 16\nvolume 1 16\nvolume 1 16\nstart 1 0102030405060708\n";
+
+/// A GETATTR call of the root of volume 7, xid 2.
+const GETATTR_OF_7: &str = "\
+    80000038000000020000000000000002000186a30000000300000001000000000000000000000000\
+    000000000000000c000000070000000000000001";
+
+/// Its reply: the attributes of that root, whose fsid is 7.
+const GETATTR_OF_7_REPLY: &str = "\
+    800000700000000200000001000000000000000000000000000000000000000000000002000001ed\
+    00000002000000000000000000000000000010000000000000000000000000000000000000000000\
+    000000070000000000000001000000000000000000000000000000000000000000000000";
+
+/// The reply to it where there are fewer volumes: NFS3ERR_BADHANDLE.
+const NO_SUCH_VOLUME: &str = "\
+    8000001c00000002000000010000000000000000000000000000000000002711";
+
+#[test]
+fn every_volume_has_its_root(rt: HostRuntime) -> Result<(), Fail> {
+    let alloc = rt.alloc();
+    let script = format!(in alloc;
+        "{LARGEST}open\nfeed 0 {GETATTR_OF_7}\nbegin 0 0 1 0\nwork 0\nfinish 0\n"
+    )?;
+    let printed = format!(in alloc;
+        "conn 0\ntaken 60 stop 0\ngranted logical 7\nreply\nout 0 {GETATTR_OF_7_REPLY}\n"
+    )?;
+    expect(&rt, script.as_bytes(), 0, &printed);
+    let absent = format!(in alloc; "open\nfeed 0 {GETATTR_OF_7}\n")?;
+    let refused = format!(in alloc; "conn 0\ntaken 60 stop 0\nout 0 {NO_SUCH_VOLUME}\n")?;
+    expect_events(&rt, &absent, 0, &refused)?;
     Ok(())
 }
 

@@ -151,9 +151,9 @@ module _ (setup : Setup) (only : IsReadOnly setup) (w : World) (h : Headline set
     worked : (o : Outcome) (server : Server) (parts : List Parts) → r.outcome ≡ None → Works w r o server parts → IsWorked setup w r o server parts before after
     worked (Moved a) server parts n k = absurd (does_not_move w.server w.parts r.message.affinity a r.message.asked reads k.0)
     worked Starved server parts n k = record {
-      outcome = subst (λ (s : Server). IsTrue (may_starve_later s r.message.asked r.moment)) (server_is ∙ sym done_is) k.0;
-      state = k.1 ∙ server_is ∙ state_with Starved;
-      partition = partition_with server parts k.1 k.2;
+      outcome = subst (λ (s : Server). IsTrue (may_starve_later s r.message.asked r.moment)) (server_is ∙ sym done_is) k.1;
+      state = k.2 ∙ server_is ∙ state_with Starved;
+      partition = partition_with server parts k.2 k.3;
     }
     worked (Replied reply) server parts n k =
         let same : server ≡ w.server = k.2 ∙ serial_stays w.server r.message.asked r.moment false reads in

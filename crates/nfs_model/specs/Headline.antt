@@ -2,14 +2,14 @@
 use Rattle.std.specs.Prelude.{◌≡◌, ℕ, ◌+◌, ◌*◌, ◌≤◌, Bool, true, false, IsTrue, ◌&&◌, ◌==◌, nat_lt, List, [], ◌∷◌, ◌++◌, length, take, map, replicate, Option, Some, None, IfSome, slice_get, if◌then◌else◌}
 use Rattle.std.specs.List.{AllByRecursion, list_any, range_with_len}
 use Rattle.std.specs.FinSet.{contains, len, from_list, empty}
-use Rattle.nfs_model.specs.Types.{Asked, Ask, Refused, Undecoded}
+use Rattle.nfs_model.specs.Types.{Asked, Ask, Refused, Undecoded, Reply}
 use Rattle.nfs_model.specs.Tree.{Affinity, Layout, VolumeLayout, excludes, begins, path}
 use Rattle.nfs_model.specs.Server as servers
 use Rattle.nfs_model.specs.Server.{Server, opening, used}
 use Rattle.nfs_model.specs.Serial.Step.{serial}
 use Rattle.nfs_model.specs.Serial.Starve.{may_starve_at_decoding, may_starve_later}
 use Rattle.nfs_model.specs.Home.{home_of_asked}
-use Rattle.nfs_model.specs.Replay.{Entry, step_of, server_after, AreLawful}
+use Rattle.nfs_model.specs.Replay.{Entry, server_after, replay, AreLawful}
 use Rattle.nfs_model.specs.World.{Heard, Codec, Setup, World, Connection, Message, Running, Outcome, Replied, Starved, Moved, Empty, Parts, all_running, tried, hands_blocks}
 
 -- the server as a run begins
@@ -18,10 +18,15 @@ start setup = opening setup.layout setup.verifier
 
 -- ---- bytes
 
--- the replies to a connection's entries, on the server that all of them change
+-- the reply records of a connection's entries
+abbrev pub records_of : Codec → ℕ → List Entry → List Reply → List ℕ
+records_of codec c [] rs = []
+records_of codec c (e ∷ es) [] = []
+records_of codec c (e ∷ es) (r ∷ rs) = (if e.connection == c then codec.reply_record e.xid r else []) ++ records_of codec c es rs
+
+-- those of a replay of all entries
 abbrev pub replies : Codec → ℕ → Server → List Entry → List ℕ
-replies codec c server [] = []
-replies codec c server (e ∷ es) = (if e.connection == c then codec.reply_record e.xid (step_of server e).reply else []) ++ replies codec c (step_of server e).server es
+replies codec c server es = records_of codec c es (replay server es)
 
 -- the entries up to a close
 abbrev pub up_to : Option ℕ → List Entry → List Entry
@@ -131,15 +136,20 @@ pub record Headline (setup : Setup) (w : World) : Type 0 where
   -- each record served is finished, waiting or running, just once, and nothing else is
   pub each_once : (c : ℕ) (x : Connection) → slice_get w.connections c ≡ Some x → (n : ℕ)
       → tally_finished c n w.finished + tally_messages c n w.waiting + tally_messages c n (messages (all_running w.workers)) ≡ one_if (nat_lt n (length (served setup x)))
+  -- what is finished, waits or runs asks what its record asks, under its xid
   pub own_finished : AllByRecursion (IsOwnEntry setup w) w.finished
   pub own_waiting : AllByRecursion (IsOwnMessage setup w) w.waiting
   pub own_running : AllByRecursion (IsOwnMessage setup w) (messages (all_running w.workers))
   -- only calls that may starve do
   pub lawful : AreLawful (start setup) w.finished
+  -- the server is the one after the finished calls and those that were worked
   pub state : w.server ≡ server_worked (server_after (start setup) w.finished) (all_running w.workers)
+  -- finishing now gives the outcome that was worked
   pub outcomes : AllByRecursion (λ r. IsOutcome setup (server_after (start setup) w.finished) r r.outcome) (all_running w.workers)
+  -- a message tries its home, or an affinity above it
   pub tried_waiting : AllByRecursion (IsTried setup) w.waiting
   pub tried_running : AllByRecursion (IsTried setup) (messages (all_running w.workers))
+  -- a close counted no more calls than are finished
   pub until : (c : ℕ) (x : Connection) → slice_get w.connections c ≡ Some x → IfSome x.closed (λ n. n ≤ length w.finished)
   -- block parts partition every volume
   pub partition : (v : ℕ) (volume : servers.Volume) → slice_get w.server.volumes v ≡ Some volume → (p : Parts) × (slice_get w.parts v ≡ Some p) × IsPartition volume p (hands_blocks v w.workers)

@@ -43,7 +43,6 @@ pub record Volume : Type 0 where
   pub aggregate : ℕ
   pub total : ℕ  -- blocks
   pub largest : ℕ  -- size of a file
-  pub stripes : ℕ
   pub verifier : List ℕ  -- of writes, fixed for the run
   pub next : ℕ  -- the next fileid
   pub nodes : FinMap nat_cmp Node
@@ -89,7 +88,6 @@ opening_volume verifier number layout = record {
   aggregate = layout.aggregate;
   total = 1024 * layout.ranges;
   largest = 1048576 * layout.mebibytes;
-  stripes = layout.stripes;
   verifier = verifier;
   next = 2;
   nodes = from_sorted ((1, root_node) ∷ []);

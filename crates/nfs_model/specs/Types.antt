@@ -55,7 +55,7 @@ pub data Call : Type 0 where
 
 -- ---- what is answered
 
--- nfsstat3, but for OK (RFC 1813 section 2.6)
+-- nfsstat3, but for OK (RFC 1813 section 2.5)
 pub data Status : Type 0 where
   NoEntry : Status
   Access : Status
@@ -74,7 +74,7 @@ pub data Status : Type 0 where
   BadCookie : Status
   TooSmall : Status
 
--- its number (RFC 1813 section 2.6)
+-- its number (RFC 1813 section 2.5)
 abbrev pub status_word : Status → ℕ
 status_word NoEntry = 2
 status_word Access = 13

@@ -100,7 +100,7 @@ pub record World : Type 0 where
   pub finished : List Entry
   pub server : Server  -- with the changes of calls that were worked and aren't finished
   pub parts : List Parts  -- of each volume
-  pub stamps : ℕ  -- calls finished and inner calls made
+  pub stamps : ℕ  -- calls finished by a worker, and inner calls made
 
 -- ---- running and hands
 

@@ -2,7 +2,7 @@
 
 ghost use Rattle.std.specs.Prelude.{◌≡◌};
 
-/// Why a call failed (nfsstat3 without NFS3_OK, RFC 1813 section 2.6).
+/// Why a call failed (nfsstat3 without NFS3_OK, RFC 1813 section 2.5).
 #[derive(Clone, Copy, Debug, PartialEq, Eq)]
 pub enum Status {
     NoEntry = 2,

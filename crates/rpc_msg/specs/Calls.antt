@@ -8,7 +8,7 @@ use Rattle.nfs_types.specs.Shapes.{◌&◌}
 use Rattle.rpc_msg.specs.Replies.{auth_shape}
 use Rattle.rpc_msg.specs.Heads.{auth_sys_shape, nobody, user, version_of}
 
--- xid, CALL 0, rpcvers 2, prog, vers, proc, cred and verf (section 9)
+-- xid, CALL 0, rpcvers 2, prog, vers, proc (section 9), cred and verf (section 8.2)
 abbrev pub call_shape : Shape
 call_shape = Word & Word & Word & Word & Word & Word & auth_shape & auth_shape
 

@@ -65,11 +65,7 @@ pub(crate) fn work(state: &mut State, worker: usize) -> Result<Done, Refusal>
     }
     match &mut state.running {
         Some(running) if running.answer.is_none() => {
-            let answer = work::answer(
-                &running.held,
-                &state.layout,
-                running.message.call.as_call(),
-            );
+            let answer = work::answer(&running.held, &state.layout, running.message.call.as_call());
             running.answer = Some(ServedAnswer::new(answer));
             Ok(Done::Replied)
         }
@@ -113,7 +109,7 @@ pub(crate) fn finish(state: &mut State, worker: usize) -> Result<Done, Refusal>
         credential: message.credential,
     };
     let count = respond(state, origin, &Reply::Success(answer.into_answer()));
-    keep_entry(state, origin, request, affinity, moment);
+    keep_entry(state, origin, Some(request), affinity, moment);
     Ok(Done::Written {
         connection: origin.connection,
         count,

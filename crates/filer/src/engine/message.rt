@@ -55,7 +55,8 @@ pub struct Running {
 #[derive(Drop)]
 pub struct Entry {
     pub origin: Origin,
-    pub request: Request,
+    /// Nothing where memory for its name or data ran out.
+    pub request: Option<Request>,
     /// What it ran on; nothing where it was answered as its record was complete.
     pub affinity: Option<Affinity>,
     pub moment: Moment,

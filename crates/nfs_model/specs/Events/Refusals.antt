@@ -158,9 +158,15 @@ refusal setup w (Survey worker volume) =
     if is_idle (slice_get w.workers worker) && has_empty_hand (slice_get w.workers worker)
     then (if is_some (slice_get w.server.volumes volume) then excluded setup w (Vbn volume) else Some 41) else Some 33
 
--- the events that may lack memory; a Feed tells it by its stop
-abbrev pub may_lack_memory : Event → Bool
-may_lack_memory Open = true
-may_lack_memory (PutDown worker) = true
-may_lack_memory (Survey worker volume) = true
-may_lack_memory event = false
+-- a batch for the stock
+abbrev pub is_fresh : Hand → Bool
+is_fresh Empty = false
+is_fresh (Fresh volume blocks) = true
+is_fresh (Dead volume blocks) = false
+
+-- The events that may lack memory; a Feed tells it by its stop. The stock grows, and the marks of the bitmaps are there from the start.
+abbrev pub may_lack_memory : World → Event → Bool
+may_lack_memory w Open = true
+may_lack_memory w (PutDown worker) = is_fresh (hand_of (slice_get w.workers worker))
+may_lack_memory w (Survey worker volume) = true
+may_lack_memory w event = false

@@ -108,7 +108,7 @@ Happens setup w (Survey worker volume) done new =
 -- the refusal's number, or 90 for want of memory
 abbrev pub Refuses : Setup → World → Event → ℕ → Type 0
 Refuses setup w event number =
-    (refusal setup w event ≡ Some number) ⊎ ((number ≡ 90) × (refusal setup w event ≡ None) × IsTrue (may_lack_memory event))
+    (refusal setup w event ≡ Some number) ⊎ ((number ≡ 90) × (refusal setup w event ≡ None) × IsTrue (may_lack_memory w event))
 
 -- One event. A refused one changes nothing.
 abbrev pub Events : Setup → World → Event → Result Done ℕ → World → Type 0

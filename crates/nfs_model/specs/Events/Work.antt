@@ -104,10 +104,12 @@ PartsAfter Undecoded affinity server new_server old new = new ≡ old
 
 -- ---- the outcome
 
--- The outcome of work, with the server and the parts after it. A move changes nothing, nor does a starved call.
+-- The outcome of work, with the server and the parts after it. A move changes nothing, nor does a starved call, which else would be answered.
 abbrev pub Works : World → Running → Outcome → Server → List Parts → Type 0
 Works w r (Moved a) server parts = (move_of w.server w.parts r.message.affinity r.message.asked ≡ Some a) × (server ≡ w.server) × (parts ≡ w.parts)
-Works w r Starved server parts = IsTrue (may_starve_later w.server r.message.asked r.moment) × (server ≡ w.server) × (parts ≡ w.parts)
+Works w r Starved server parts =
+    (move_of w.server w.parts r.message.affinity r.message.asked ≡ None)
+    × IsTrue (may_starve_later w.server r.message.asked r.moment) × (server ≡ w.server) × (parts ≡ w.parts)
 Works w r (Replied reply) server parts =
     (move_of w.server w.parts r.message.affinity r.message.asked ≡ None)
     × (reply ≡ (serial w.server r.message.asked r.moment false).reply)

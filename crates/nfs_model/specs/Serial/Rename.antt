@@ -21,7 +21,7 @@ abbrev pub on_parent : Option ℕ → (ℕ → Bool) → Bool
 on_parent None test = false
 on_parent (Some parent) test = test parent
 
--- whether at most so many steps from a directory to its parent lead to a target
+-- Whether at most so many steps from a directory to its parent lead to a target. As many as there are nodes are enough, since parents lead to the root, and the root ends the way.
 abbrev pub climbs_to : ℕ → Volume → ℕ → ℕ → Bool
 climbs_to zero volume target fileid = fileid == target
 climbs_to (suc n) volume target fileid = (fileid == target) || on_parent (parent_above fileid (get volume.nodes fileid)) (climbs_to n volume target)

@@ -61,7 +61,7 @@ next_in (Some volume) = volume.next
 abbrev pub next_at : Server → List ℕ → ℕ
 next_at server handle = next_in (volume_at server (handle_of (length server.volumes) handle))
 
--- whether a call with this answer takes memory: READ that gives bytes, READDIR, CENSUS, WRITE that fills a block, CREATE, MKDIR and RENAME that add an entry
+-- whether a call with this answer takes memory: READ that gives bytes, READDIR, CENSUS, WRITE that fills a block, CREATE, MKDIR and RENAME that add an entry (a CREATE adds one just where the next fileid grows)
 abbrev pub takes_memory : Server → Server → Call → Answer → Bool
 takes_memory old new call (ReadDone count eof bytes) = is_some_bytes bytes
 takes_memory old new call (ReaddirDone directory page eof) = true

@@ -1,0 +1,96 @@
+//! How many records are decoded and replies encoded in a second.
+
+ghost use Rattle.codec_bench.specs.Fits.{FitsRecord};
+
+use crate::sample::{Sample, get_attributes, lookup, read, write};
+use nfs_types::decode_args;
+use nfs_values::{Call, FileHandle, Target};
+use rpc_msg::{Head, read_call, write_reply_record};
+use std::alloc::{AllocError, Global};
+use std::io;
+use std::rt::Clock;
+use std::time::{Duration, Instant};
+
+/// How many bytes of its record a handle keeps.
+fn kept_by_handle(handle: &FileHandle) -> u64 {
+    handle.as_bytes().len() as u64
+}
+
+fn kept_by_target(target: &Target) -> u64 {
+    kept_by_handle(&target.directory).saturating_add(target.name.len() as u64)
+}
+
+/// How many bytes of its record a measured call keeps.
+fn kept_by(call: &Call) -> u64 {
+    match call {
+        Call::GetAttributes { handle } | Call::Read { handle, .. } => kept_by_handle(handle),
+        Call::Lookup(target) => kept_by_target(target),
+        Call::Write { handle, bytes, .. } => {
+            kept_by_handle(handle).saturating_add(bytes.len() as u64)
+        }
+        _ => 0,
+    }
+}
+
+/// Decodes a record so many times, and answers how many bytes were copied.
+fn decode(alloc: Global, sample: &Sample, count: u32) -> u64 {
+    let mut copied: u64 = 0;
+    for _call in 0..count {
+        if let Head::Call { arguments, .. } = read_call(&sample.record) {
+            if let Ok(call) = decode_args(alloc, sample.procedure, arguments) {
+                copied = copied.saturating_add(kept_by(&call));
+            }
+        }
+    }
+    copied
+}
+
+/// Encodes a reply so many times, and answers how many bytes were written.
+fn encode(out: &mut Vec<u8>, sample: &Sample, count: u32) -> Result<u64, AllocError>
+    requires { FitsRecord sample.now.reply }
+{
+    let mut written: u64 = 0;
+    for xid in 0..count {
+        out.clear();
+        write_reply_record(out, xid, &sample.reply)?;
+        written = written.saturating_add(out.len() as u64);
+    }
+    Ok(written)
+}
+
+/// How many of these were done in a second.
+fn per_second(count: u32, time: Duration) -> u64 {
+    let nanoseconds = u64::try_from(time.as_nanos()).unwrap_or(u64::MAX);
+    u64::from(count) * 1_000_000_000 / nanoseconds.max(1)
+}
+
+/// How many bytes one of these took.
+fn each(total: u64, count: u32) -> u64 {
+    total / u64::from(count.max(1))
+}
+
+/// Measures a kind of call, and prints its line.
+fn measure(rt: &(impl Clock + Print + AllocGlobal), sample: &Sample, count: u32) -> io::Result<()>
+    requires { FitsRecord sample.now.reply }
+{
+    let name = sample.name;
+    let start = Instant::now(rt)?;
+    let copied = decode(rt.alloc(), sample, count);
+    let decoded = per_second(count, start.elapsed(rt)?);
+    let copied = each(copied, count);
+    println!(rt; "{name}: {decoded} decoded a second, {copied} bytes copied by each")?;
+    let mut out = Vec::new(rt.alloc());
+    let start = Instant::now(rt)?;
+    let written = encode(&mut out, sample, count)?;
+    let encoded = per_second(count, start.elapsed(rt)?);
+    let written = each(written, count);
+    println!(rt; "{name}: {encoded} encoded a second, {written} bytes written by each")
+}
+
+/// Measures each kind of call.
+pub fn run(rt: &(impl Clock + Print + AllocGlobal), count: u32) -> io::Result<()> {
+    measure(rt, &get_attributes(rt.alloc())?, count)?;
+    measure(rt, &lookup(rt.alloc())?, count)?;
+    measure(rt, &write(rt.alloc())?, count)?;
+    measure(rt, &read(rt.alloc())?, count)
+}
