@@ -262,8 +262,12 @@ fn bad_lines_end_a_script(rt: HostRuntime) -> Result<(), Fail> {
 #[test]
 fn lists_of_events_are_played(rt: HostRuntime) -> Result<(), Fail> {
     let alloc = rt.alloc();
-    let call = hex::decode(alloc, NULL.as_bytes()).unwrap();
-    let reply = hex::decode(alloc, NULL_REPLY.as_bytes()).unwrap();
+    let Ok(call) = hex::decode(alloc, NULL.as_bytes()) else {
+        return Err("a call in bad hex".into());
+    };
+    let Ok(reply) = hex::decode(alloc, NULL_REPLY.as_bytes()) else {
+        return Err("a reply in bad hex".into());
+    };
     let layout = Layout {
         spare: 1,
         ranges: 1,
