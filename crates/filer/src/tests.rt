@@ -305,8 +305,12 @@ fn every_volume_has_its_root(rt: HostRuntime) -> Result<(), Fail> {
 #[test]
 fn lists_of_events_are_played(rt: HostRuntime) -> Result<(), Fail> {
     let alloc = rt.alloc();
-    let call = hex::decode(alloc, NULL.as_bytes()).unwrap();
-    let reply = hex::decode(alloc, NULL_REPLY.as_bytes()).unwrap();
+    let Ok(call) = hex::decode(alloc, NULL.as_bytes()) else {
+        return Err("a call in bad hex".into());
+    };
+    let Ok(reply) = hex::decode(alloc, NULL_REPLY.as_bytes()) else {
+        return Err("a reply in bad hex".into());
+    };
     let aggregate = AggregateSpec { spare: 1 };
     let volume = VolumeSpec {
         aggregate: 0,
