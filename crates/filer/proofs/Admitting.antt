@@ -15,7 +15,9 @@ use Rattle.nfs_values.specs.declared.credential.Credential.{Credential}
 use Rattle.nfs_values.specs.Call.{call_of}
 use Rattle.nfs_values.specs.Credential.{credential_of}
 use Rattle.filer.specs.declared.engine.state.State.{State}
-use Rattle.filer.specs.Seen.{layout_of, setup_in, world}
+use Rattle.filer.specs.Seen.{kept_by, setup_in, world}
+use Rattle.filer.proofs.Serving.{length-volumes_from}
+use Rattle.affinity.specs.Layout.{layout_of}
 use Rattle.filer.proofs.Workers.{finished}
 
 abbrev pub entry_at : ℕ → ℕ → ℕ → types.Asked → replays.Entry
@@ -30,7 +32,7 @@ at-once s c number xid call credential answer written kept h a e f =
     let setup = setup_in s in
     let w = world s in
     let asked : types.Asked = types.Ask call credential in
-    let stays : serve w.server call credential start_of_times ≡ stay w.server (answer_without_home (layout_of s.layout) call) = without_home_stays (layout_of s.layout) w.server credential start_of_times call refl h in
+    let stays : serve w.server call credential start_of_times ≡ stay w.server (answer_without_home (layout_of s.layout) call) = without_home_stays (layout_of s.layout) w.server credential start_of_times call (sym (length-volumes_from s.verifier (kept_by s.home s.running) 0 (layout_of s.layout).volumes)) h in
     let reply : types.Success answer ≡ (serial w.server asked start_of_times false).reply = ap (λ (x : types.Answer). types.Success x) a ∙ sym (ap (λ (t : Step). t.reply) stays) in
     let done : kept ≡ worlds.finish setup w (entry_at c number xid asked) (types.Success answer) = finished setup w w written kept (entry_at c number xid asked) (types.Success answer) e f refl in
     subst (λ (o : Option trees.Affinity). kept ≡ admit setup w c number (record { xid = xid; asked = asked }) o) (sym h)

@@ -109,8 +109,8 @@ pub took_as : (c : OpenConnection) (bytes : List ℕ) (taken : ℕ) (step as_thi
 took_as c bytes taken step as_this new h e is f = took_from c bytes taken as_this new h e (subst (λ (s : Step). Feeds c.reassembler bytes taken s new) is f)
 
 -- what was read of the record that a step gave
-pub read_as : (stream taken record_bytes given : List ℕ) (r s : Result Heard ℕ) → given ≡ record_bytes → r ≡ heard given → r ≡ s → Completes stream taken (scanned_with stream record_bytes) → Completes stream taken (read_to stream s)
-read_as stream taken record_bytes given r s g e i k = made_as stream taken record_bytes s (ap heard (sym g) ∙ sym e ∙ i) k
+pub read_as : (stream taken record_bytes given : List ℕ) (s : Result Heard ℕ) → given ≡ record_bytes → heard given ≡ s → Completes stream taken (scanned_with stream record_bytes) → Completes stream taken (read_to stream s)
+read_as stream taken record_bytes given s g e k = made_as stream taken record_bytes s (ap heard (sym g) ∙ e) k
 
 pub scan_at : (stream taken : List ℕ) (scanned : Scanned) → Completes stream taken scanned → scan_stream (stream ++ taken) ≡ scanned
 scan_at stream taken scanned k = k.complete

@@ -4,18 +4,19 @@ use Rattle.std.specs.Prelude.{map, slice_get, option_map, IfSome, vec_len, vec_c
 use Rattle.std.proofs.lemmas.List.{take_all, take-append-drop, length-map}
 use Rattle.std.proofs.lemmas.Bool.Decides.{nat_tests}
 use Rattle.rpc_record.specs.Stream.{read_stream}
+use Rattle.nfs_model.specs.Tree.{Layout}
 use Rattle.nfs_model.specs.World as worlds
 use Rattle.nfs_model.specs.World.{changed_at, is_crowded, all_running, Setup, World}
-use Rattle.nfs_model.specs.Events.Feed.{Feeds, Fault, completes, heard_in}
+use Rattle.nfs_model.specs.Events.Feed.{Feeds, Fault, completes, heard_in, MayStarveIf}
 use Rattle.filer.specs.declared.engine.connection.OpenConnection.{OpenConnection}
 use Rattle.filer.specs.declared.engine.connection.ClosedConnection.{ClosedConnection}
 use Rattle.filer.specs.declared.engine.connection.Arrival.{Arrival}
 use Rattle.filer.specs.declared.engine.event.StreamFault.{StreamFault}
-use Rattle.filer.specs.declared.engine.message.Heard.{Heard}
 use Rattle.filer.specs.declared.engine.message.Running.{Running}
 use Rattle.filer.specs.declared.engine.state.State.{State}
 use Rattle.filer.specs.Numbers.{fault_number}
-use Rattle.filer.specs.Seen.{closed_of, open_of, connections_of, heard_of, message_of, running_of, entry_of, layout_of, setup_in, world}
+use Rattle.filer.specs.Seen.{closed_of, open_of, connections_of, message_of, running_of, entry_of, setup_in, world}
+use Rattle.affinity.specs.Layout.{layout_of}
 use Rattle.filer.specs.Sound.{Arrives, IsSound, IsRoomy, pending, count_of, MayBeRoomier, MakesRoom, TakesIn, AtNoFault, MayBeStreamRoomier, TakesFrom, MayTakeFrom}
 use Rattle.filer.specs.Streams.{scan_stream, IsQuiet, Completes}
 use Rattle.filer.specs.Feeding.{TakesAll, with_bytes, bytes_taken}
@@ -92,16 +93,16 @@ roomier past (Some a) (Some b) r =
 pub room-unseen : (old new : State) → MakesRoom old new → world new ≡ world old
 room-unseen old new r =
     ap world r.same
-    ∙ ap (λ (cs : List worlds.Connection). record (world old) { connections = cs; waiting = map message_of new.waiting.items; finished = map entry_of new.finished.items }) (roomier old.past.items old.current new.current r.current)
-    ∙ ap (λ ms. record (world old) { waiting = map message_of ms; finished = map entry_of new.finished.items }) r.waiting
+    ∙ ap (λ (cs : List worlds.Connection). record (world old) { connections = cs; waiting = map (message_of (layout_of old.layout)) new.waiting.items; finished = map entry_of new.finished.items }) (roomier old.past.items old.current new.current r.current)
+    ∙ ap (λ ms. record (world old) { waiting = map (message_of (layout_of old.layout)) ms; finished = map entry_of new.finished.items }) r.waiting
     ∙ ap (λ es. record (world old) { finished = map entry_of es }) r.finished
 
-running_count : (running : Option Running) → length (all_running (record { running = option_map running_of running; hand = worlds.Empty } ∷ [])) ≡ count_of running
-running_count None = refl
-running_count (Some r) = refl
+running_count : (layout : Layout) (running : Option Running) → length (all_running (record { running = option_map (running_of layout) running; hand = worlds.Empty } ∷ [])) ≡ count_of running
+running_count layout None = refl
+running_count layout (Some r) = refl
 
 pub crowd-is : (s : State) → length (world s).waiting + length (all_running (world s).workers) ≡ pending s
-crowd-is s = omega (arith, length-map s.waiting.items message_of, s.waiting.ok.0, running_count s.running)
+crowd-is s = omega (arith, length-map s.waiting.items (message_of (layout_of s.layout)), s.waiting.ok.0, running_count (layout_of s.layout) s.running)
 
 below_most : (n : ℕ) → n < 1024 → nat_le 1024 n ≡ false
 below_most n h = grind (arith, nat_tests)
@@ -135,13 +136,13 @@ part-more s o w c bytes taken f a =
     let whole : bytes ≡ take taken bytes = sym (take_all taken bytes (omega (arith, a.0))) in
     takes-quiet (layout_of s.layout) s.verifier w c (take taken bytes) (open_of o) f.there f.sound (subst (IsQuiet o.stream.items) whole a.1)
 
-pub part-heard : (s : State) (o : OpenConnection) (w : World) (c : ℕ) (bytes : List ℕ) (taken : ℕ) (heard : Heard) (number : ℕ) → IsFed w c o → is_crowded w ≡ false → number ≡ o.records
-    → Completes o.stream.items (take taken bytes) (record { served = (scan_stream o.stream.items).served ++ heard_of heard ∷ []; fault = None })
-    → TakesAll (setup_in s) c w (take taken bytes) (heard_in (setup_in s) (bytes_taken w c (take taken bytes)) c number (heard_of heard) false)
-part-heard s o w c bytes taken heard number f room e k =
+pub part-heard : (s : State) (o : OpenConnection) (w : World) (c : ℕ) (bytes : List ℕ) (taken : ℕ) (told : worlds.Heard) (starved : Bool) → MayStarveIf starved told.asked → (number : ℕ) → IsFed w c o → is_crowded w ≡ false → number ≡ o.records
+    → Completes o.stream.items (take taken bytes) (record { served = (scan_stream o.stream.items).served ++ told ∷ []; fault = None })
+    → TakesAll (setup_in s) c w (take taken bytes) (heard_in (setup_in s) (bytes_taken w c (take taken bytes)) c number told starved)
+part-heard s o w c bytes taken told starved may number f room e k =
     let number_is : length (scan_stream o.stream.items).served ≡ number = f.records ∙ sym e in
-    subst (λ (n : ℕ). TakesAll (setup_in s) c w (take taken bytes) (heard_in (setup_in s) (bytes_taken w c (take taken bytes)) c n (heard_of heard) false)) number_is
-    (takes-heard (layout_of s.layout) s.verifier w c (take taken bytes) (open_of o) (heard_of heard) f.there f.sound room k)
+    subst (λ (n : ℕ). TakesAll (setup_in s) c w (take taken bytes) (heard_in (setup_in s) (bytes_taken w c (take taken bytes)) c n told starved)) number_is
+    (takes-heard (layout_of s.layout) s.verifier w c (take taken bytes) (open_of o) told starved may f.there f.sound room k)
 
 pub part-fault : (s : State) (o : OpenConnection) (w : World) (c : ℕ) (bytes : List ℕ) (taken : ℕ) (fault : StreamFault) → IsFed w c o → (is_crowded w && completes (Fault (fault_number fault))) ≡ false
     → taken ≤ length bytes → Completes o.stream.items (take taken bytes) (record { served = (scan_stream o.stream.items).served; fault = Some (fault_number fault) })
@@ -187,17 +188,17 @@ nothing-admitted s o w new c bytes taken p some e z =
     subst (λ (v : World). Feeds (setup_in s) c v bytes taken 90 new) p.same
     (subst (λ (n : ℕ). Feeds (setup_in s) c w bytes n 90 new) (sym z) (subst (Feeds (setup_in s) c w bytes 0 90) none (feeds-nothing (setup_in s) c w bytes some p.room)))
 
-pub heard-admitted : (s : State) (o : OpenConnection) (w before new : World) (c d : ℕ) (setup : Setup) (bytes : List ℕ) (taken number : ℕ) (heard : Heard) → IsPart s c o w → before ≡ bytes_taken w c (take taken bytes)
-    → d ≡ c → setup ≡ setup_in s → number ≡ o.records → new ≡ heard_in setup before d number (heard_of heard) false
-    → Completes o.stream.items (take taken bytes) (record { served = (scan_stream o.stream.items).served ++ heard_of heard ∷ []; fault = None })
+pub heard-admitted : (s : State) (o : OpenConnection) (w before new : World) (c d : ℕ) (setup : Setup) (bytes : List ℕ) (taken number : ℕ) (told : worlds.Heard) (starved : Bool) → MayStarveIf starved told.asked → IsPart s c o w → before ≡ bytes_taken w c (take taken bytes)
+    → d ≡ c → setup ≡ setup_in s → number ≡ o.records → new ≡ heard_in setup before d number told starved
+    → Completes o.stream.items (take taken bytes) (record { served = (scan_stream o.stream.items).served ++ told ∷ []; fault = None })
     → TakesAll (setup_in s) c (world s) (take taken bytes) new
-heard-admitted s o w before new c d setup bytes taken number heard p e q r n a k =
-    let made : new ≡ heard_in (setup_in s) (bytes_taken w c (take taken bytes)) c number (heard_of heard) false =
-    a ∙ ap (λ (x : Setup). heard_in x before d number (heard_of heard) false) r
-    ∙ ap (λ (x : World). heard_in (setup_in s) x d number (heard_of heard) false) e
-    ∙ ap (λ (x : ℕ). heard_in (setup_in s) (bytes_taken w c (take taken bytes)) x number (heard_of heard) false) q in
+heard-admitted s o w before new c d setup bytes taken number told starved may p e q r n a k =
+    let made : new ≡ heard_in (setup_in s) (bytes_taken w c (take taken bytes)) c number told starved =
+    a ∙ ap (λ (x : Setup). heard_in x before d number told starved) r
+    ∙ ap (λ (x : World). heard_in (setup_in s) x d number told starved) e
+    ∙ ap (λ (x : ℕ). heard_in (setup_in s) (bytes_taken w c (take taken bytes)) x number told starved) q in
     subst (λ (v : World). TakesAll (setup_in s) c v (take taken bytes) new) p.same
-    (subst (TakesAll (setup_in s) c w (take taken bytes)) (sym made) (part-heard s o w c bytes taken heard number p.fed p.room n k))
+    (subst (TakesAll (setup_in s) c w (take taken bytes)) (sym made) (part-heard s o w c bytes taken told starved may number p.fed p.room n k))
 
 -- after room was made
 pub part : (old new : State) (n : ℕ) → MakesRoom old new → IsSound new → TakesIn old.current n → pending old < 1024

@@ -16,7 +16,8 @@ use Rattle.filer.specs.declared.engine.event.StreamFault.TheVariants.{RecordTooL
 use Rattle.filer.specs.declared.engine.state.State as states
 use Rattle.filer.specs.Codec.{heard}
 use Rattle.filer.specs.Numbers.{fault_number}
-use Rattle.filer.specs.Seen.{open_of, layout_of, setup_in}
+use Rattle.filer.specs.Seen.{open_of, setup_in}
+use Rattle.affinity.specs.Layout.{layout_of}
 use Rattle.filer.specs.Sound.{HasNoRecord}
 use Rattle.filer.specs.Streams.{scan_stream, served_of, Completes}
 use Rattle.filer.specs.Feeding.{with_bytes, bytes_taken}

@@ -1,11 +1,10 @@
 -- What records are heard as, and how long replies are.
-use Rattle.std.proofs.Common.{◌≡◌, ℕ, ◌≤◌, ◌⊎◌, true, false, List, Ok, Err, refl, sym, ◌∙◌, length, arith, inl, inr}
+use Rattle.std.proofs.Common.{◌≡◌, ℕ, ◌≤◌, ◌⊎◌, false, List, Ok, Err, refl, sym, ◌∙◌, length, arith, inl, inr}
 use Rattle.std.specs.Prelude.{◌==◌}
 use Rattle.std.proofs.lemmas.Bool.Decides.{nat_tests}
 use Rattle.nfs_model.specs.World.{Heard, IsDecoded}
 use Rattle.nfs_model.specs.Types as types
 use Rattle.nfs_model.specs.ReadOnly.{AsksReading, IsReading}
-use Rattle.nfs_model.specs.Serial.Starve.{has_bytes}
 use Rattle.nfs_values.specs.declared.reply.Reply.{Reply}
 use Rattle.nfs_values.specs.Reply.{reply_of}
 use Rattle.rpc_msg.specs.Records as records
@@ -13,8 +12,6 @@ use Rattle.rpc_msg.specs.Replies.{IsShort}
 use Rattle.rpc_msg.specs.Replies as replies
 use Rattle.rpc_msg.proofs.Sizes.{short}
 use Rattle.rpc_msg.proofs.Refusals.{refusal_is_short}
-use Rattle.rpc_msg.specs.Seen.{Tells}
-use Rattle.rpc_msg.specs.declared.record.Request.TheVariants as requests
 use Rattle.rpc_msg.proofs.Hearing.{fault_of_record, record_is_decoded, record_asks_reading}
 use Rattle.rpc_msg.specs.Seen as told
 use Rattle.rpc_msg.specs.declared.fault.Fault.{Fault}
@@ -48,15 +45,6 @@ heard-is-reading bytes xid call credential e = record_asks_reading bytes (record
 
 pub refused-is-short : (bytes : List ℕ) (xid : ℕ) (reply : types.Reply) → records.heard bytes ≡ Ok (record { xid = xid; asked = types.Refused reply }) → IsShort reply
 refused-is-short bytes xid reply e = refusal_is_short bytes (record { xid = xid; asked = types.Refused reply }) reply e refl
-
-none_has_bytes : (call : types.Call) → IsReading call → has_bytes call ≡ true → ⊥
-none_has_bytes types.Null r e = absurd cc
-none_has_bytes (types.Getattr handle) r e = absurd cc
-none_has_bytes call r e = absurd r
-
--- no record lacks memory
-pub none-undecoded : (bytes : List ℕ) (xid : ℕ) → Tells xid requests.Undecoded (records.heard bytes) → ⊥
-none-undecoded bytes xid t = none_has_bytes t.0 (heard-is-reading bytes xid t.0 t.1.0 t.1.2) t.1.1
 
 -- ---- replies
 

@@ -14,7 +14,8 @@ use Rattle.filer.specs.declared.engine.state.State.{State}
 use Rattle.filer.specs.declared.engine.event.Event as happened
 use Rattle.filer.specs.declared.engine.event.Done as dones
 use Rattle.filer.specs.declared.engine.event.Refusal as refusals
-use Rattle.filer.specs.Seen.{layout_of, setup_in, world, event_of, answer_of}
+use Rattle.filer.specs.Seen.{setup_in, world, event_of, answer_of}
+use Rattle.affinity.specs.Layout.{layout_of}
 use Rattle.std.specs.Result.{is_err}
 use Rattle.std.proofs.lemmas.List.{map_more}
 use Rattle.filer.proofs.Serves.{is-scan, is-read-only}

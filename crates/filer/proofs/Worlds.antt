@@ -1,10 +1,10 @@
 -- A world that takes bytes.
-use Rattle.std.proofs.Common.{◌≡◌, ℕ, ◌+◌, false, List, [], ◌∷◌, ◌++◌, length, Some, None, refl, sym, ap, subst, ◌∙◌, append_assoc, arith, inl, inr, length-append}
+use Rattle.std.proofs.Common.{◌≡◌, ℕ, ◌+◌, Bool, false, List, [], ◌∷◌, ◌++◌, length, Some, None, refl, sym, ap, subst, ◌∙◌, append_assoc, arith, inl, inr, length-append}
 use Rattle.std.specs.Prelude.{slice_get, ◌&&◌}
 use Rattle.std.proofs.lemmas.List.{append-nil}
 use Rattle.nfs_model.specs.Tree.{Layout}
 use Rattle.nfs_model.specs.World.{Heard, Scanned, Setup, World, Connection, is_crowded}
-use Rattle.nfs_model.specs.Events.Feed.{Reached, Further, Complete, Fault, reached_by, reached, stream_in, stream_of, served_count, completes, byte_taken, heard_in, Takes, TakesFault, Feeds}
+use Rattle.nfs_model.specs.Events.Feed.{Reached, Further, Complete, Fault, reached_by, reached, stream_in, stream_of, served_count, completes, byte_taken, heard_in, MayStarveIf, Takes, TakesFault, Feeds}
 use Rattle.filer.specs.Streams.{scan_stream, setup_of, IsQuiet, Completes}
 use Rattle.filer.specs.Feeding.{TakesAll, with_bytes, bytes_taken}
 use Rattle.filer.proofs.Lists.{changed_at-same, changed_at-twice, changed_at-none, slice_get-changed_at, slice_get-end, slice_get-last}
@@ -86,11 +86,11 @@ pub quiet-scan : (stream front : List ℕ) → IsQuiet stream front → scan_str
 quiet-scan stream [] q = ap scan_stream (append-nil stream)
 quiet-scan stream (b ∷ front) q = ap scan_stream (sym (append_assoc stream (b ∷ []) front)) ∙ quiet-scan (stream ++ b ∷ []) front q.1 ∙ q.0
 
--- a record, which is a call or refused
-pub takes-heard : (layout : Layout) (verifier : List ℕ) (w : World) (c : ℕ) (taken : List ℕ) (x : Connection) (h : Heard) → slice_get w.connections c ≡ Some x → (scan_stream x.stream).fault ≡ None → is_crowded w ≡ false
+-- a record, with whether its decoding was starved
+pub takes-heard : (layout : Layout) (verifier : List ℕ) (w : World) (c : ℕ) (taken : List ℕ) (x : Connection) (h : Heard) (starved : Bool) → MayStarveIf starved h.asked → slice_get w.connections c ≡ Some x → (scan_stream x.stream).fault ≡ None → is_crowded w ≡ false
     → Completes x.stream taken (record { served = (scan_stream x.stream).served ++ h ∷ []; fault = None })
-    → TakesAll (setup_of layout verifier) c w taken (heard_in (setup_of layout verifier) (bytes_taken w c taken) c (length (scan_stream x.stream).served) h false)
-takes-heard layout verifier w c taken x h e f crowd k =
+    → TakesAll (setup_of layout verifier) c w taken (heard_in (setup_of layout verifier) (bytes_taken w c taken) c (length (scan_stream x.stream).served) h starved)
+takes-heard layout verifier w c taken x h starved may e f crowd k =
     let setup = setup_of layout verifier in
     let middle : World = bytes_taken w c k.front in
     let y : Connection = with_bytes k.front x in
@@ -103,12 +103,12 @@ takes-heard layout verifier w c taken x h e f crowd k =
     reached-is layout verifier middle c k.last y _ there whole
     ∙ ap (reached_by (record { served = (scan_stream x.stream).served ++ h ∷ []; fault = None })) served
     ∙ reached-heard (scan_stream x.stream).served h in
-    let new : World = heard_in setup (bytes_taken w c taken) c (length (scan_stream x.stream).served) h false in
-    let is_new : new ≡ heard_in setup (byte_taken middle c k.last) c (served_count setup middle c) h false =
-    ap (λ (v : World). heard_in setup v c (length (scan_stream x.stream).served) h false) (sym (front_and_last w c taken k.front k.last k.split))
-    ∙ ap (λ (n : ℕ). heard_in setup (byte_taken middle c k.last) c n h false) (sym (served-count layout verifier middle c y there ∙ served)) in
+    let new : World = heard_in setup (bytes_taken w c taken) c (length (scan_stream x.stream).served) h starved in
+    let is_new : new ≡ heard_in setup (byte_taken middle c k.last) c (served_count setup middle c) h starved =
+    ap (λ (v : World). heard_in setup v c (length (scan_stream x.stream).served) h starved) (sym (front_and_last w c taken k.front k.last k.split))
+    ∙ ap (λ (n : ℕ). heard_in setup (byte_taken middle c k.last) c n h starved) (sym (served-count layout verifier middle c y there ∙ served)) in
     let last : Takes setup middle c k.last (reached setup middle c k.last) new =
-    subst (λ (r : Reached). Takes setup middle c k.last r new) (sym at) (crowd, (false, tt, is_new)) in
+    subst (λ (r : Reached). Takes setup middle c k.last r new) (sym at) (crowd, (starved, may, is_new)) in
     subst (λ (bytes : List ℕ). TakesAll setup c w bytes new) (sym k.split)
     (TakesAll-append setup c w middle new k.front (k.last ∷ []) (takes-quiet layout verifier w c k.front x e f k.quiet) (new, last, refl))
 

@@ -1,17 +1,22 @@
 -- What was read of a record.
-use Rattle.std.specs.Prelude.{ℕ, Result, Ok, Err}
+use Rattle.std.specs.Prelude.{◌≡◌, ℕ, Result, Ok, Err, IsTrue}
+use Rattle.nfs_model.specs.Types as types
+use Rattle.nfs_model.specs.Serial.Starve.{may_starve_at_decoding}
 use Rattle.nfs_model.specs.World as worlds
 use Rattle.rpc_msg.specs.declared.fault.Fault.{Fault}
 use Rattle.rpc_msg.specs.declared.fault.Fault.TheVariants as faults
 use Rattle.filer.specs.declared.engine.event.StreamFault.{StreamFault}
 use Rattle.filer.specs.declared.engine.event.StreamFault.TheVariants.{BadHeader, NotACall}
-use Rattle.filer.specs.declared.engine.message.Heard.{Heard}
+use Rattle.filer.specs.declared.engine.reading.RecordRead.{RecordRead}
+use Rattle.filer.specs.declared.engine.reading.RecordRead.TheVariants as reads
 use Rattle.filer.specs.Numbers.{fault_number}
 use Rattle.filer.specs.Seen.{heard_of}
 
-abbrev pub read_of : Result Heard StreamFault → Result worlds.Heard ℕ
-read_of (Ok heard) = Ok (heard_of heard)
-read_of (Err fault) = Err (fault_number fault)
+-- what a record asks; where it has a name or data that memory ran out for, only its xid
+abbrev pub IsReadAs : RecordRead → Result worlds.Heard ℕ → Type 0
+IsReadAs (reads.Heard h) heard = heard ≡ Ok (heard_of h)
+IsReadAs (reads.Undecoded xid) heard = (asked : types.Asked) × IsTrue (may_starve_at_decoding asked) × (heard ≡ Ok (record { xid = xid; asked = asked }))
+IsReadAs (reads.Fault fault) heard = heard ≡ Err (fault_number fault)
 
 abbrev pub fault_of : Fault → StreamFault
 fault_of faults.BadHeader = BadHeader

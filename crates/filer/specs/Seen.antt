@@ -1,8 +1,9 @@
 -- The engine's fields as a world, and its events and answers as the world's.
-use Rattle.std.specs.Prelude.{ℕ, false, ◌*◌, List, [], ◌∷◌, ◌++◌, map, Option, Some, None, Result, Ok, Err, option_map}
+use Rattle.std.specs.Prelude.{ℕ, ◌+◌, ◌*◌, is_none, List, [], ◌∷◌, ◌++◌, map, Option, Some, None, Result, Ok, Err, option_map}
 use Rattle.std.specs.FinMap.{from_sorted}
 use Rattle.nfs_model.specs.Types as types
 use Rattle.nfs_model.specs.Tree as trees
+use Rattle.nfs_model.specs.Home.{home}
 use Rattle.nfs_model.specs.Server as servers
 use Rattle.nfs_model.specs.Replay as replays
 use Rattle.nfs_model.specs.World as worlds
@@ -15,8 +16,9 @@ use Rattle.nfs_values.specs.Credential.{credential_of}
 use Rattle.nfs_values.specs.Call.{call_of}
 use Rattle.nfs_values.specs.Answer as answers
 use Rattle.nfs_values.specs.Reply.{reply_of}
-use Rattle.filer.specs.declared.engine.affinity.Affinity.{Affinity}
-use Rattle.filer.specs.declared.engine.affinity.Affinity.TheVariants.{VolumeLogical}
+use Rattle.affinity.specs.declared.affinity.Affinity.{Affinity}
+use Rattle.affinity.specs.Affinity.{affinity_of}
+use Rattle.affinity.specs.Layout.{layout_of}
 use Rattle.filer.specs.declared.engine.connection.OpenConnection.{OpenConnection}
 use Rattle.filer.specs.declared.engine.connection.ClosedConnection.{ClosedConnection}
 use Rattle.filer.specs.declared.engine.event.Event.{Event}
@@ -24,7 +26,6 @@ use Rattle.filer.specs.declared.engine.event.Event.TheVariants as happened
 use Rattle.filer.specs.declared.engine.event.Done.{Done}
 use Rattle.filer.specs.declared.engine.event.Done.TheVariants as dones
 use Rattle.filer.specs.declared.engine.event.Refusal.{Refusal}
-use Rattle.filer.specs.declared.engine.layout.Layout.{Layout}
 use Rattle.filer.specs.declared.engine.message.Request.{Request}
 use Rattle.filer.specs.declared.engine.message.Request.TheVariants as requests
 use Rattle.filer.specs.declared.engine.message.Origin.{Origin}
@@ -44,27 +45,34 @@ abbrev pub asked_of : Request → types.Asked
 asked_of (requests.Call call credential) = types.Ask (call_of call) (credential_of credential)
 asked_of (requests.Refused reply) = types.Refused (reply_of reply)
 
+-- what an entry's record asks, where it was decoded
+abbrev pub asked_in : Option Request → types.Asked
+asked_in None = types.Undecoded
+asked_in (Some request) = asked_of request
+
 abbrev pub heard_of : Heard → worlds.Heard
 heard_of h = record { xid = h.xid; asked = asked_of h.request }
 
-abbrev pub affinity_of : Affinity → trees.Affinity
-affinity_of (VolumeLogical volume) = trees.Logical volume
+-- the affinity that a call tries that waits; one that has none doesn't wait
+abbrev pub tried : Option trees.Affinity → trees.Affinity
+tried None = trees.Serial
+tried (Some a) = a
 
-abbrev pub message_of : Message → worlds.Message
-message_of m = record { connection = m.origin.connection; number = m.origin.number; xid = m.origin.xid; asked = types.Ask (call_of m.call) (credential_of m.credential); affinity = trees.Logical 0 }
+abbrev pub message_of : trees.Layout → Message → worlds.Message
+message_of layout m = record { connection = m.origin.connection; number = m.origin.number; xid = m.origin.xid; asked = types.Ask (call_of m.call) (credential_of m.credential); affinity = tried (home layout (call_of m.call)) }
 
 abbrev pub outcome_of : Answer → worlds.Outcome
 outcome_of answer = worlds.Replied (types.Success (answers.answer_of answer))
 
-abbrev pub running_of : Running → worlds.Running
-running_of r = record { message = message_of r.message; moment = moment_of r.moment; outcome = option_map outcome_of r.answer }
+abbrev pub running_of : trees.Layout → Running → worlds.Running
+running_of layout r = record { message = message_of layout r.message; moment = moment_of r.moment; outcome = option_map outcome_of r.answer }
 
 abbrev pub entry_of : Entry → replays.Entry
-entry_of e = record { connection = e.origin.connection; number = e.origin.number; xid = e.origin.xid; asked = asked_of e.request; affinity = option_map affinity_of e.affinity; moment = moment_of e.moment; starved = e.starved }
+entry_of e = record { connection = e.origin.connection; number = e.origin.number; xid = e.origin.xid; asked = asked_in e.request; affinity = option_map affinity_of e.affinity; moment = moment_of e.moment; starved = e.starved }
 
--- a call that was not starved
-abbrev pub entry_by : Origin → Request → Option Affinity → Moment → replays.Entry
-entry_by origin request affinity moment = record { connection = origin.connection; number = origin.number; xid = origin.xid; asked = asked_of request; affinity = option_map affinity_of affinity; moment = moment_of moment; starved = false }
+-- a finished call, starved just where it wasn't decoded
+abbrev pub entry_by : Origin → Option Request → Option Affinity → Moment → replays.Entry
+entry_by origin request affinity moment = record { connection = origin.connection; number = origin.number; xid = origin.xid; asked = asked_in request; affinity = option_map affinity_of affinity; moment = moment_of moment; starved = is_none request }
 
 -- ---- connections
 
@@ -83,9 +91,6 @@ connections_of past current = map closed_of past ++ last_of current
 
 -- ---- the server
 
-abbrev pub layout_of : Layout → trees.Layout
-layout_of l = record { spare = l.spare ∷ []; volumes = record { aggregate = 0; ranges = l.ranges; stripes = 8; mebibytes = 16 } ∷ [] }
-
 abbrev pub root_of : Kept → servers.Node
 root_of k = servers.Directory (record {
   attributes = record { mode = k.mode; uid = k.uid; gid = k.gid; atime = moment_of k.atime; mtime = moment_of k.mtime; ctime = moment_of k.ctime };
@@ -94,20 +99,26 @@ root_of k = servers.Directory (record {
   list = [];
 })
 
-abbrev pub volume_of : Layout → List ℕ → Kept → servers.Volume
-volume_of l verifier k = record {
-  number = 0;
-  aggregate = 0;
-  total = 1024 * l.ranges;
-  largest = 1048576 * 16;
+-- a volume as it begins, but for its root
+abbrev pub volume_of : List ℕ → Kept → ℕ → trees.VolumeLayout → servers.Volume
+volume_of verifier k number v = record {
+  number = number;
+  aggregate = v.aggregate;
+  total = 1024 * v.ranges;
+  largest = 1048576 * v.mebibytes;
   verifier = verifier;
   next = 2;
   nodes = from_sorted ((1, root_of k) ∷ []);
 }
 
--- the server of which the parcel is all that calls change
-abbrev pub server_of : Layout → List ℕ → Kept → servers.Server
-server_of l verifier k = record { spare = l.spare ∷ []; volumes = volume_of l verifier k ∷ [] }
+-- volumes numbered from a number on
+abbrev pub volumes_from : List ℕ → Kept → ℕ → List trees.VolumeLayout → List servers.Volume
+volumes_from verifier k number [] = []
+volumes_from verifier k number (v ∷ vs) = volume_of verifier k number v ∷ volumes_from verifier k (number + 1) vs
+
+-- the server of which the parcel is all that calls change: the root of every volume
+abbrev pub server_of : trees.Layout → List ℕ → Kept → servers.Server
+server_of layout verifier k = record { spare = layout.spare; volumes = volumes_from verifier k 0 layout.volumes }
 
 -- the parcel, at home or lent
 abbrev pub held_by : Option Running → Kept
@@ -126,10 +137,10 @@ setup_in s = setup_of (layout_of s.layout) s.verifier
 abbrev pub world : State → worlds.World
 world s = record {
   connections = connections_of s.past.items s.current;
-  waiting = map message_of s.waiting.items;
-  workers = record { running = option_map running_of s.running; hand = worlds.Empty } ∷ [];
+  waiting = map (message_of (layout_of s.layout)) s.waiting.items;
+  workers = record { running = option_map (running_of (layout_of s.layout)) s.running; hand = worlds.Empty } ∷ [];
   finished = map entry_of s.finished.items;
-  server = server_of s.layout s.verifier (kept_by s.home s.running);
+  server = server_of (layout_of s.layout) s.verifier (kept_by s.home s.running);
   parts = map opening_parts (layout_of s.layout).volumes;
   stamps = s.stamps;
 }

@@ -1,5 +1,7 @@
 -- What holds of an engine's fields beside what is seen of them: what was read is in step with the streams, and what is to come has its room.
-use Rattle.std.specs.Prelude.{Bool, false, is_none, ◌⊎◌, ◌≡◌, ℕ, ◌+◌, ◌*◌, ◌^◌, ◌≤◌, ◌<◌, List, [], ◌∷◌, ◌++◌, length, take, Option, Some, None, option_map, IfSome, vec_len, vec_capacity}
+use Rattle.std.specs.Prelude.{Bool, false, is_none, ◌⊎◌, ◌≡◌, ℕ, ◌+◌, ◌*◌, ◌^◌, ◌≤◌, ◌<◌, List, [], ◌∷◌, ◌++◌, length, take, Option, Some, None, option_map, IfSome, IsTrue, vec_len, vec_capacity}
+use Rattle.nfs_model.specs.Types as types
+use Rattle.nfs_model.specs.Serial.Starve.{may_starve_at_decoding}
 use Rattle.rpc_record.specs.Machine.{State, Outcome, More, Made, Fault, outcome}
 use Rattle.rpc_record.specs.Stream.{read_stream}
 use Rattle.filer.specs.declared.engine.event.StreamFault.TheVariants.{RecordTooLong}
@@ -25,6 +27,8 @@ pub record IsInStep (c : OpenConnection) : Type 0 where
 abbrev pub Arrives : List ℕ → List ℕ → ℕ → Arrival → Type 0
 Arrives stream bytes taken arrivals.More = (taken ≡ length bytes) × IsQuiet stream bytes
 Arrives stream bytes taken (arrivals.Heard heard) = (0 < taken) × (taken ≤ length bytes) × Completes stream (take taken bytes) (record { served = (scan_stream stream).served ++ heard_of heard ∷ []; fault = None })
+Arrives stream bytes taken (arrivals.Undecoded xid) =
+    (0 < taken) × (taken ≤ length bytes) × ((asked : types.Asked) × IsTrue (may_starve_at_decoding asked) × Completes stream (take taken bytes) (record { served = (scan_stream stream).served ++ (record { xid = xid; asked = asked }) ∷ []; fault = None }))
 Arrives stream bytes taken (arrivals.Fault fault) = (0 < taken) × (taken ≤ length bytes) × Completes stream (take taken bytes) (record { served = (scan_stream stream).served; fault = Some (fault_number fault) })
 Arrives stream bytes taken arrivals.NoMemory = taken ≡ 0
 
@@ -120,6 +124,7 @@ TakesIn (Some c) rest = (c.fault ≡ None) × (vec_len c.stream + rest ≤ vec_c
 abbrev pub IsFaultless : Arrival → Option StreamFault → Type 0
 IsFaultless arrivals.More fault = fault ≡ None
 IsFaultless (arrivals.Heard heard) fault = fault ≡ None
+IsFaultless (arrivals.Undecoded xid) fault = fault ≡ None
 IsFaultless (arrivals.Fault told) fault = Unit {0}
 IsFaultless arrivals.NoMemory fault = fault ≡ None
 
@@ -153,6 +158,7 @@ HasNoRecord (Fault taken) = Unit {0}
 abbrev pub AdmitsNone : Arrival → Type 0
 AdmitsNone arrivals.More = Unit {0}
 AdmitsNone (arrivals.Heard heard) = ⊥
+AdmitsNone (arrivals.Undecoded xid) = ⊥
 AdmitsNone (arrivals.Fault fault) = fault ≡ RecordTooLong
 AdmitsNone arrivals.NoMemory = Unit {0}
 

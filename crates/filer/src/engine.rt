@@ -5,11 +5,11 @@ ghost use Rattle.nfs_model.specs.World as worlds;
 ghost use Rattle.nfs_model.specs.Events.Step.{Events, Runs};
 ghost use Rattle.nfs_model.specs.Headline.{Headline, opening_world};
 ghost use Rattle.filer.specs.Engine.{RunsRefusing, output_in, stream_in};
-ghost use Rattle.filer.specs.Seen.{setup_in, layout_of, world, event_of, answer_of, running_of, entry_of};
+ghost use Rattle.filer.specs.Seen.{setup_in, world, event_of, answer_of, running_of, entry_of};
 ghost use Rattle.filer.specs.Sound.{IsSound};
+ghost use Rattle.affinity.specs.Layout.{layout_of};
 ghost use Rattle.filer.specs.Streams.{setup_of};
 
-pub mod affinity;
 pub(crate) mod arrival;
 pub(crate) mod calls;
 pub(crate) mod connecting;
@@ -18,7 +18,6 @@ pub mod event;
 pub(crate) mod feeding;
 pub(crate) mod finishing;
 pub mod laws;
-pub mod layout;
 pub mod message;
 pub(crate) mod parcel;
 pub(crate) mod reading;
@@ -30,10 +29,10 @@ pub(crate) mod work;
 use crate::engine::connecting::{close_connection, open_connection};
 use crate::engine::event::{Done, Event, Refusal};
 use crate::engine::feeding::feed;
-use crate::engine::layout::Layout;
 use crate::engine::message::{Entry, Running};
 use crate::engine::parcel::VolumeLogical;
 use crate::engine::state::State;
+use affinity::Layout;
 use std::alloc::Global;
 use std::marker::Model;
 
@@ -166,7 +165,7 @@ impl Engine {
 
     /// The message that the worker has begun.
     pub fn running(&self) -> Option<&Running>
-        ensures { (world self.now).workers ≡ (record { running = option_map (λ r. running_of r.now) result; hand = worlds.Empty }) ∷ [] }
+        ensures { (world self.now).workers ≡ (record { running = option_map (λ r. running_of (setup_in self.now).layout r.now) result; hand = worlds.Empty }) ∷ [] }
     {
         self.state.running.as_ref()
     }

@@ -6,7 +6,7 @@ use crate::engine::Engine;
 use crate::engine::event::{Done, Event, Refusal};
 use crate::fault::Fault;
 use crate::printing::{print_fault, print_output, say};
-use crate::script::Script;
+use crate::script::{Script, Start};
 use byteorder::{BigEndian, ByteOrder};
 use std::alloc::Global;
 use std::io::{Read, Write};
@@ -100,8 +100,8 @@ fn play<W: Write>(engine: &mut Engine, event: Event<'_>, out: &mut W) -> Result<
 /// Runs a script up to its end, and answers whether an event was refused.
 fn run<W: Write>(alloc: Global, text: &[u8], out: &mut W) -> Result<bool, Fault> {
     let mut script = Script::new(alloc, text);
-    let start = script.read_start()?;
-    let mut engine = Engine::new(alloc, start.layout, start.verifier);
+    let Start { layout, verifier } = script.read_start()?;
+    let mut engine = Engine::new(alloc, layout, verifier);
     let mut refused = false;
     while let Some(line) = script.read_event()? {
         refused |= play(&mut engine, line.event(), out)?;

@@ -5,19 +5,44 @@ ghost use Rattle.std.specs.Prelude.{◌≡◌, ◌≢◌, ◌+◌, ◌<◌, ◌�
 mod line;
 mod word;
 
-use crate::engine::layout::Layout;
 use crate::fault::Fault;
 use crate::script::line::{EventLine, Line, Unread, read_line};
+use affinity::{AggregateSpec, Layout, LayoutFault, VolumeSpec};
 use std::alloc::Global;
 
 /// What ends a line.
 const LINE_FEED: u8 = b'\n';
 
-/// The most spare ranges of an aggregate.
+/// The most aggregates, and how many spare ranges each may have.
+const AGGREGATES: usize = 2;
+
 const SPARE_LIMIT: u32 = 128;
 
-/// The most ranges of a volume.
+/// The most volumes, and how many ranges each may have.
+const VOLUMES: usize = 8;
+
 const RANGE_LIMIT: u32 = 16;
+
+/// The most lines of a layout, the one that starts its engine with them.
+const LAYOUT_LINES: usize = AGGREGATES + VOLUMES + 1;
+
+/// Whether one more aggregate may follow these lines.
+fn is_aggregate(aggregates: &[AggregateSpec], volumes: &[VolumeSpec], spare: u32) -> bool {
+    volumes.is_empty() && aggregates.len() < AGGREGATES && spare <= SPARE_LIMIT
+}
+
+/// Whether one more volume may follow these lines.
+fn is_volume(
+    aggregates: &[AggregateSpec],
+    volumes: &[VolumeSpec],
+    aggregate: u32,
+    ranges: u32,
+) -> bool {
+    volumes.len() < VOLUMES
+        && (aggregate as usize) < aggregates.len()
+        && 1 <= ranges
+        && ranges <= RANGE_LIMIT
+}
 
 /// The lines of a script, of which some are read.
 #[derive(Drop)]
@@ -30,13 +55,16 @@ pub(crate) struct Script<'a> {
 }
 
 /// What an engine is started with.
-#[derive(Clone, Copy, Debug)]
+#[derive(Debug, Drop)]
 pub(crate) struct Start {
     pub(crate) layout: Layout,
     pub(crate) verifier: [u8; 8],
 }
 
 impl<'a> Script<'a> {
+    ghost use Rattle.affinity.specs.Layout.{layout_of};
+    ghost use Rattle.affinity.specs.Specification.{layout_in};
+
     /// A script of which nothing is read.
     pub(crate) fn new(alloc: Global, text: &'a [u8]) -> Script<'a>
         ensures rest { result.rest.now ≡ text.now }
@@ -105,38 +133,47 @@ impl<'a> Script<'a> {
         }
     }
 
-    /// The layout's aggregate: how many spare ranges it has.
-    fn read_aggregate(&mut self) -> Result<u32, Fault> {
-        match self.layout_line()? {
-            Line::Aggregate { spare } if spare <= SPARE_LIMIT => Ok(spare),
-            _ => Err(self.bad_line()),
-        }
-    }
-
-    /// The layout's volume: how many ranges are in use.
-    fn read_volume(&mut self) -> Result<u32, Fault> {
-        match self.layout_line()? {
-            Line::Volume {
-                aggregate: 0,
-                ranges,
-            } if 1 <= ranges && ranges <= RANGE_LIMIT => Ok(ranges),
-            _ => Err(self.bad_line()),
-        }
-    }
-
-    /// The layout, up to the line that starts its engine.
+    /// The layout, up to the line that starts its engine: aggregates, then volumes, then that line.
     pub(crate) fn read_start(&mut self) -> Result<Start, Fault> {
-        let spare = self.read_aggregate()?;
-        let ranges = self.read_volume()?;
-        match self.layout_line()? {
-            Line::Start {
-                workers: 1,
-                verifier,
-            } => Ok(Start {
-                layout: Layout { spare, ranges },
-                verifier,
-            }),
-            _ => Err(self.bad_line()),
+        let mut aggregates = Vec::new(self.alloc);
+        let mut volumes = Vec::new(self.alloc);
+        for _ in 0..LAYOUT_LINES {
+            match self.layout_line()? {
+                Line::Aggregate { spare } if is_aggregate(&aggregates, &volumes, spare) => {
+                    let specification = AggregateSpec { spare };
+                    aggregates
+                        .push(specification)
+                        .map_err(|_full| Fault::NoMemory)?;
+                }
+                Line::Volume { aggregate, ranges }
+                    if is_volume(&aggregates, &volumes, aggregate, ranges) => {
+                    let specification = VolumeSpec { aggregate, ranges };
+                    volumes
+                        .push(specification)
+                        .map_err(|_full| Fault::NoMemory)?;
+                }
+                Line::Start {
+                    workers: 1,
+                    verifier,
+                } => {
+                    let layout = self.layout(&aggregates, &volumes)?;
+                    return Ok(Start { layout, verifier });
+                }
+                _ => return Err(self.bad_line()),
+            }
+        }
+        Err(self.bad_line())
+    }
+
+    /// The layout of these; the line read last is bad where they are none.
+    fn layout(&self, aggregates: &[AggregateSpec], volumes: &[VolumeSpec]) -> Result<Layout, Fault>
+        ensures layout { IfOk result (λ layout. layout_of layout ≡ layout_in aggregates.now volumes.now) }
+        ensures bad { IfErr result (λ fault. (fault ≡ Fault.NoMemory) ⊎ (fault ≡ Fault.BadLine self.now.count)) }
+    {
+        match Layout::new(self.alloc, aggregates, volumes) {
+            Ok(layout) => Ok(layout),
+            Err(LayoutFault::NoMemory) => Err(Fault::NoMemory),
+            Err(_) => Err(self.bad_line()),
         }
     }
 

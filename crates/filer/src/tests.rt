@@ -1,11 +1,11 @@
 use crate::choice::Command;
 use crate::engine::Engine;
 use crate::engine::event::Event;
-use crate::engine::layout::Layout;
 use crate::fault::Fault;
 use crate::program::program;
 use crate::replay::replay;
 use crate::words::command;
+use affinity::{AggregateSpec, Layout, VolumeSpec};
 use std::alloc::AllocError;
 use std::io;
 use std::io::{Read, Write};
@@ -192,12 +192,19 @@ fn bad_lines_end_a_script(rt: HostRuntime) -> Result<(), Fail> {
         ("aggregate 128\n", 2),
         ("aggregate 129\n", 1),
         ("aggregate 01\n", 1),
-        ("aggregate 1\n\naggregate 1\n", 3),
+        ("aggregate 1\n\naggregate 1\n", 4),
+        ("aggregate 1\naggregate 1\naggregate 1\n", 3),
+        ("aggregate 1\naggregate 1\nvolume 2 1\n", 3),
+        (
+            "aggregate 1\nvolume 0 1\nvolume 0 1\nvolume 0 1\nvolume 0 1\nvolume 0 1\nvolume 0 1\nvolume 0 1\nvolume 0 1\nvolume 0 1\n",
+            10,
+        ),
         ("volume 0 1\n", 1),
         ("aggregate 1\nvolume 1 1\n", 2),
         ("aggregate 1\nvolume 0 0\n", 2),
         ("aggregate 1\nvolume 0 17\n", 2),
-        ("aggregate 1\nvolume 0 16\nvolume 0 1\n", 3),
+        ("aggregate 1\nvolume 0 16\nvolume 0 17\n", 3),
+        ("aggregate 1\nvolume 0 16\nvolume 0 1\n", 4),
         ("aggregate 1\nvolume 0 1\naggregate 1\n", 3),
         ("aggregate 1\nvolume 0 1\nopen\n", 3),
         ("aggregate 1\nvolume 0 1\n", 3),
@@ -259,15 +266,57 @@ fn bad_lines_end_a_script(rt: HostRuntime) -> Result<(), Fail> {
     Ok(())
 }
 
+/// The largest layout.
+const LARGEST: &str = "\
+    aggregate 128\naggregate 0\nvolume 1 16\nvolume 1 16\nvolume 0 1\nvolume 1 16\n\
+    volume 1 16\nvolume 1 16\nvolume 1 16\nvolume 1 16\nstart 1 0102030405060708\n";
+
+/// A GETATTR call of the root of volume 7, xid 2.
+const GETATTR_OF_7: &str = "\
+    80000038000000020000000000000002000186a30000000300000001000000000000000000000000\
+    000000000000000c000000070000000000000001";
+
+/// Its reply: the attributes of that root, whose fsid is 7.
+const GETATTR_OF_7_REPLY: &str = "\
+    800000700000000200000001000000000000000000000000000000000000000000000002000001ed\
+    00000002000000000000000000000000000010000000000000000000000000000000000000000000\
+    000000070000000000000001000000000000000000000000000000000000000000000000";
+
+/// The reply to it where there are fewer volumes: NFS3ERR_BADHANDLE.
+const NO_SUCH_VOLUME: &str = "\
+    8000001c00000002000000010000000000000000000000000000000000002711";
+
+#[test]
+fn every_volume_has_its_root(rt: HostRuntime) -> Result<(), Fail> {
+    let alloc = rt.alloc();
+    let script = format!(in alloc;
+        "{LARGEST}open\nfeed 0 {GETATTR_OF_7}\nbegin 0 0 1 0\nwork 0\nfinish 0\n"
+    )?;
+    let printed = format!(in alloc;
+        "conn 0\ntaken 60 stop 0\ngranted logical 7\nreply\nout 0 {GETATTR_OF_7_REPLY}\n"
+    )?;
+    expect(&rt, script.as_bytes(), 0, &printed);
+    let absent = format!(in alloc; "open\nfeed 0 {GETATTR_OF_7}\n")?;
+    let refused = format!(in alloc; "conn 0\ntaken 60 stop 0\nout 0 {NO_SUCH_VOLUME}\n")?;
+    expect_events(&rt, &absent, 0, &refused)?;
+    Ok(())
+}
+
 #[test]
 fn lists_of_events_are_played(rt: HostRuntime) -> Result<(), Fail> {
     let alloc = rt.alloc();
-    let call = hex::decode(alloc, NULL.as_bytes()).unwrap();
-    let reply = hex::decode(alloc, NULL_REPLY.as_bytes()).unwrap();
-    let layout = Layout {
-        spare: 1,
+    let Ok(call) = hex::decode(alloc, NULL.as_bytes()) else {
+        return Err("a call in bad hex".into());
+    };
+    let Ok(reply) = hex::decode(alloc, NULL_REPLY.as_bytes()) else {
+        return Err("a reply in bad hex".into());
+    };
+    let aggregate = AggregateSpec { spare: 1 };
+    let volume = VolumeSpec {
+        aggregate: 0,
         ranges: 1,
     };
+    let layout = Layout::new(alloc, &[aggregate], &[volume]).map_err(|_fault| "fault")?;
     let fed = Event::Feed {
         connection: 0,
         bytes: &call,

@@ -6,7 +6,7 @@ ghost use Rattle.rpc_record.specs.Machine.{outcome};
 
 use crate::engine::connection::{Arrival, OpenConnection};
 use crate::engine::event::StreamFault;
-use crate::engine::reading::read_record;
+use crate::engine::reading::{RecordRead, read_record};
 use rpc_record::Step;
 
 /// Appends bytes that have their room.
@@ -44,11 +44,15 @@ pub(crate) fn take_bytes(from: &mut OpenConnection, bytes: &[u8]) -> (usize, Arr
             (taken, Arrival::Fault(StreamFault::RecordTooLong))
         }
         Step::Record(record) => match read_record(from.alloc, &record) {
-            Ok(heard) => {
+            RecordRead::Heard(heard) => {
                 from.records += 1;
                 (taken, Arrival::Heard(heard))
             }
-            Err(fault) => {
+            RecordRead::Undecoded(xid) => {
+                from.records += 1;
+                (taken, Arrival::Undecoded(xid))
+            }
+            RecordRead::Fault(fault) => {
                 from.fault = Some(fault);
                 (taken, Arrival::Fault(fault))
             }

@@ -7,7 +7,6 @@ ghost use Rattle.nfs_values.specs.Moment.{moment_of};
 ghost use Rattle.filer.specs.Seen.{setup_in, world, answer_of};
 ghost use Rattle.filer.specs.Sound.{IsSound};
 
-use crate::engine::affinity::Affinity;
 use crate::engine::event::{Done, Refusal};
 use crate::engine::finishing::{keep_entry, respond};
 use crate::engine::message::{Request, Running};
@@ -44,15 +43,14 @@ pub(crate) fn begin(
         return Err(Refusal::Busy);
     };
     let message = state.waiting.remove(place);
+    let affinity = work::tried(&message.call, &state.layout);
     state.running = Some(Running {
         message,
         moment,
         held,
         answer: None,
     });
-    Ok(Done::Granted {
-        affinity: Affinity::VolumeLogical(0),
-    })
+    Ok(Done::Granted { affinity })
 }
 
 /// Works the message that the worker has begun.
@@ -67,7 +65,7 @@ pub(crate) fn work(state: &mut State, worker: usize) -> Result<Done, Refusal>
     }
     match &mut state.running {
         Some(running) if running.answer.is_none() => {
-            let answer = work::answer(&running.held, running.message.call.as_call());
+            let answer = work::answer(&running.held, &state.layout, running.message.call.as_call());
             running.answer = Some(ServedAnswer::new(answer));
             Ok(Done::Replied)
         }
@@ -105,13 +103,13 @@ pub(crate) fn finish(state: &mut State, worker: usize) -> Result<Done, Refusal>
     state.home = Some(held);
     state.stamps += 1;
     let origin = message.origin;
+    let affinity = Some(work::tried(&message.call, &state.layout));
     let request = Request::Call {
         call: message.call,
         credential: message.credential,
     };
-    let affinity = Some(Affinity::VolumeLogical(0));
     let count = respond(state, origin, &Reply::Success(answer.into_answer()));
-    keep_entry(state, origin, request, affinity, moment);
+    keep_entry(state, origin, Some(request), affinity, moment);
     Ok(Done::Written {
         connection: origin.connection,
         count,

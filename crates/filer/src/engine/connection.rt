@@ -36,6 +36,8 @@ pub(crate) enum Arrival {
     More,
     /// The last byte taken ends a record that is served.
     Heard(Heard),
+    /// The last byte taken ends a record of this xid, but memory for its name or data ran out.
+    Undecoded(u32),
     /// The last byte taken ends the service.
     Fault(StreamFault),
     /// Memory ran out, and none was taken.

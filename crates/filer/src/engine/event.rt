@@ -2,7 +2,7 @@
 
 ghost use Rattle.std.specs.Prelude.{◌≡◌};
 
-use crate::engine::affinity::Affinity;
+use affinity::Affinity;
 use nfs_values::Moment;
 
 /// What may happen to an engine.

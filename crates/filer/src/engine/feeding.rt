@@ -1,6 +1,7 @@
 //! Bytes that an engine takes.
 
 ghost use Rattle.std.specs.Prelude.{true, false, ◌≡◌, ◌+◌, ◌-◌, ◌*◌, ◌<◌, ◌≤◌, length, take, None, IfSome, OnOk, vec_len, vec_capacity};
+ghost use Rattle.nfs_model.specs.Types as types;
 ghost use Rattle.nfs_model.specs.Events.Refusals as events;
 ghost use Rattle.nfs_model.specs.Events.Step.{Events};
 ghost use Rattle.nfs_model.specs.Events.Feed.{Feeds, heard_in};
@@ -16,7 +17,8 @@ use crate::engine::event::{Done, Refusal, Stop};
 use crate::engine::finishing::{keep_entry, respond};
 use crate::engine::message::{Heard, Message, Origin, Request};
 use crate::engine::state::{PLACES, REPLY_LIMIT, State};
-use crate::engine::work::{answer_at_once, home_of};
+use crate::engine::work::answer_at_once;
+use affinity::home_of;
 use nfs_values::{Moment, Reply};
 use rpc_record::Look;
 use std::alloc::AllocError;
@@ -69,9 +71,15 @@ fn admit(state: &mut State, number: usize, heard: Heard)
     match heard.request {
         Request::Refused(reply) => {
             respond(state, origin, reply.as_reply());
-            keep_entry(state, origin, Request::Refused(reply), None, Moment::START);
+            keep_entry(
+                state,
+                origin,
+                Some(Request::Refused(reply)),
+                None,
+                Moment::START,
+            );
         }
-        Request::Call { call, credential } => match home_of(&call) {
+        Request::Call { call, credential } => match home_of(call.as_call(), &state.layout) {
             Some(_) => state.waiting.push_reserved(Message {
                 origin,
                 call,
@@ -82,13 +90,33 @@ fn admit(state: &mut State, number: usize, heard: Heard)
                 keep_entry(
                     state,
                     origin,
-                    Request::Call { call, credential },
+                    Some(Request::Call { call, credential }),
                     None,
                     Moment::START,
                 );
             }
         },
     }
+}
+
+/// Answers a call that there was no memory to decode.
+fn starve(state: &mut State, number: usize, xid: u32)
+    requires sound { IsSound state.old }
+    requires room { HasRoomToAdmit state.old }
+    requires places { pending state.old < 1024 }
+    ensures starved { (asked : types.Asked) → world state.new ≡ heard_in (setup_in state.old) (world state.old) (vec_len state.old.past) number (record { xid = xid; asked = asked }) true }
+    ensures setup { setup_in state.new ≡ setup_in state.old }
+    ensures past { state.new.past ≡ state.old.past }
+    ensures current { MayBeWrittenTo state.old.current state.new.current }
+    ensures sound { IsSound state.new }
+{
+    let origin = Origin {
+        connection: state.past.len(),
+        number,
+        xid,
+    };
+    respond(state, origin, &Reply::SystemError);
+    keep_entry(state, origin, None, None, Moment::START);
 }
 
 /// Takes bytes on the open connection, up to the end of at most one record.
@@ -144,6 +172,10 @@ fn take_and_admit(state: &mut State, bytes: &[u8]) -> (usize, Option<Stop>)
             admit(state, number, heard);
             (taken, None)
         }
+        Arrival::Undecoded(xid) => {
+            starve(state, number, xid);
+            (taken, None)
+        }
     }
 }
 
@@ -190,7 +222,7 @@ fn take_when_full(state: &mut State, bytes: &[u8]) -> (usize, Option<Stop>)
     match arrival {
         Arrival::NoMemory => (taken, Some(Stop::NoMemory)),
         Arrival::Fault(fault) => (taken, Some(Stop::Fault(fault))),
-        Arrival::Heard(_) => unreachable!(),
+        Arrival::Heard(_) | Arrival::Undecoded(_) => unreachable!(),
         Arrival::More => {
             if free < bytes.len() {
                 (taken, Some(Stop::Full))

@@ -9,11 +9,11 @@ ghost use Rattle.filer.specs.Codec.{reply_record};
 ghost use Rattle.filer.specs.Seen.{world, entry_by};
 ghost use Rattle.filer.specs.Sound.{IsWrittenTo, Responds, KeepsEntry};
 
-use crate::engine::affinity::Affinity;
 use crate::engine::connection::OpenConnection;
 use crate::engine::message::{Entry, Origin, Request};
 use crate::engine::reply::put_reply;
 use crate::engine::state::State;
+use affinity::Affinity;
 use nfs_values::{Moment, Reply};
 
 /// Writes a reply record, and answers how many bytes it has.
@@ -47,11 +47,12 @@ pub(crate) fn respond(state: &mut State, origin: Origin, reply: &Reply) -> usize
     }
 }
 
-/// Keeps the entry of a finished call, for which there is room.
+/// Keeps the entry of a finished call, for which there is room. It was starved where memory for its
+/// name or data ran out.
 pub(crate) fn keep_entry(
     state: &mut State,
     origin: Origin,
-    request: Request,
+    request: Option<Request>,
     affinity: Option<Affinity>,
     moment: Moment,
 )
@@ -59,11 +60,12 @@ pub(crate) fn keep_entry(
     ensures kept { world state.new ≡ record (world state.old) { finished = (world state.old).finished ++ entry_by origin request affinity moment ∷ [] } }
     ensures keeps { KeepsEntry state.old state.new }
 {
+    let starved = request.is_none();
     state.finished.push_reserved(Entry {
         origin,
         request,
         affinity,
         moment,
-        starved: false,
+        starved,
     });
 }

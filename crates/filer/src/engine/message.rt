@@ -1,8 +1,8 @@
 //! Calls on their way: waiting, running and finished.
 
-use crate::engine::affinity::Affinity;
 use crate::engine::parcel::VolumeLogical;
 use crate::engine::served::{Refused, ServedAnswer, ServedCall};
+use affinity::Affinity;
 use nfs_values::{Credential, Moment};
 
 /// The record that a call came in.
@@ -33,7 +33,7 @@ pub struct Heard {
     pub request: Request,
 }
 
-/// A call that waits or runs. Each tries the affinity Volume Logical.
+/// A call that waits or runs. Each tries the affinity that its call is at home in.
 #[derive(Drop)]
 pub struct Message {
     pub origin: Origin,
@@ -55,7 +55,8 @@ pub struct Running {
 #[derive(Drop)]
 pub struct Entry {
     pub origin: Origin,
-    pub request: Request,
+    /// Nothing where memory for its name or data ran out.
+    pub request: Option<Request>,
     /// What it ran on; nothing where it was answered as its record was complete.
     pub affinity: Option<Affinity>,
     pub moment: Moment,

@@ -2,12 +2,21 @@
 
 ghost use Rattle.std.specs.Prelude.{◌≡◌};
 ghost use Rattle.filer.specs.Codec.{heard};
-ghost use Rattle.filer.specs.Records.{fault_of, read_of};
+ghost use Rattle.filer.specs.Records.{IsReadAs, fault_of};
 
 use crate::engine::event::StreamFault;
 use crate::engine::message::{Heard, Request};
 use crate::engine::served::{Refused, ServedCall};
 use std::alloc::Global;
+
+/// What was read of a record.
+#[derive(Drop)]
+pub(crate) enum RecordRead {
+    Heard(Heard),
+    /// A call of this xid, but memory for its name or data ran out.
+    Undecoded(u32),
+    Fault(StreamFault),
+}
 
 /// The fault of a stream that a record's fault is.
 fn stream_fault(fault: rpc_msg::Fault) -> StreamFault
@@ -19,25 +28,25 @@ fn stream_fault(fault: rpc_msg::Fault) -> StreamFault
     }
 }
 
-/// Reads a whole record. No procedure that is served takes memory.
-pub(crate) fn read_record(alloc: Global, bytes: &[u8]) -> Result<Heard, StreamFault>
-    ensures { read_of result ≡ heard bytes.now }
+/// Reads a whole record. Only names and data take memory.
+pub(crate) fn read_record(alloc: Global, bytes: &[u8]) -> RecordRead
+    ensures { IsReadAs result (heard bytes.now) }
 {
     match rpc_msg::read_record(alloc, bytes) {
-        Err(fault) => Err(stream_fault(fault)),
+        Err(fault) => RecordRead::Fault(stream_fault(fault)),
         Ok(rpc_msg::Heard { xid, request }) => match request {
-            rpc_msg::Request::Call { call, credential } => Ok(Heard {
+            rpc_msg::Request::Call { call, credential } => RecordRead::Heard(Heard {
                 xid,
                 request: Request::Call {
                     call: ServedCall::new(call),
                     credential,
                 },
             }),
-            rpc_msg::Request::Refused(reply) => Ok(Heard {
+            rpc_msg::Request::Refused(reply) => RecordRead::Heard(Heard {
                 xid,
                 request: Request::Refused(Refused::new(reply)),
             }),
-            rpc_msg::Request::Undecoded => unreachable!(),
+            rpc_msg::Request::Undecoded => RecordRead::Undecoded(xid),
         },
     }
 }

@@ -3,9 +3,9 @@
 ghost use Rattle.std.specs.Prelude.{◌≡◌, ◌≤◌};
 
 use crate::engine::connection::{ClosedConnection, OpenConnection};
-use crate::engine::layout::Layout;
 use crate::engine::message::{Entry, Message, Running};
 use crate::engine::parcel::VolumeLogical;
+use affinity::Layout;
 use std::alloc::Global;
 
 /// How many messages may wait or run.
@@ -30,7 +30,8 @@ pub(crate) struct State {
     pub(crate) current: Option<OpenConnection>,
     pub(crate) waiting: Vec<Message>,
     pub(crate) running: Option<Running>,
-    /// The parcel, where it isn't lent to the running message.
+    /// The parcel, where it isn't lent to the running message: one for all volumes, since no call
+    /// changes any of them yet.
     pub(crate) home: Option<VolumeLogical>,
     pub(crate) finished: Vec<Entry>,
     /// How many calls with an affinity were finished.

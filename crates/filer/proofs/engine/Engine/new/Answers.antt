@@ -1,7 +1,10 @@
-use Rattle.std.proofs.Common.{rules, arith, Some, None}
-use Rattle.nfs_model.specs.Headline.{Headline}
+use Rattle.std.proofs.Common.{◌≡◌, ◌∙◌, arith, rules, Some, None, ap, refl}
+use Rattle.nfs_model.specs.Headline.{Headline, opening_world}
 use Rattle.filer.specs.declared.engine.state.State.{State}
-use Rattle.filer.specs.Seen.{setup_in, world}
+use Rattle.nfs_model.specs.Server.{Server, opening}
+use Rattle.affinity.specs.Layout.{layout_of}
+use Rattle.filer.specs.Seen.{setup_in, world, kept_by}
+use Rattle.filer.proofs.Serving.{server-opens}
 use Rattle.filer.proofs.Runs.{opens}
 use Rattle.filer.proofs.engine.Engine.new.Goals as goal
 
@@ -20,7 +23,9 @@ begun c = record {
 }
 
 pub returns-clause-opening : goal.returns-clause-opening
-returns-clause-opening c = search rules
+returns-clause-opening c =
+    let opened : record (world (begun c)) { server = opening (layout_of c.args.layout) c.args.verifier } ≡ opening_world (setup_in (begun c)) = search rules in
+    ap (λ (server : Server). record (world (begun c)) { server = server }) (server-opens (layout_of c.args.layout) c.args.verifier (kept_by (begun c).home (begun c).running) refl) ∙ opened
 
 headline : (c : goal.After-new-3) → Headline (setup_in (begun c)) (world (begun c))
 headline c = opens (begun c) (returns-clause-opening c)

@@ -1,10 +1,12 @@
-use Rattle.std.proofs.Common.{◌++◌, sym, ap, ◌∙◌, length, take, Ok, Err, arith}
+use Rattle.std.proofs.Common.{◌++◌, sym, ap, subst, ◌∙◌, length, take, Ok, Err, arith}
 use Rattle.std.specs.Prelude.{option_map}
 use Rattle.nfs_model.specs.World.{Scanned}
 use Rattle.rpc_record.specs.declared.reassembler.Step.TheVariants as steps
 use Rattle.filer.specs.Numbers.{fault_number}
 use Rattle.filer.specs.Seen.{heard_of}
-use Rattle.filer.specs.Records.{read_of}
+use Rattle.filer.specs.declared.engine.reading.RecordRead.{RecordRead}
+use Rattle.filer.specs.Codec.{heard}
+use Rattle.filer.specs.Records.{IsReadAs}
 use Rattle.filer.proofs.Arriving.{took_from, took_as, in-step, read_as, ended-as, one_more, length_taken}
 use Rattle.filer.proofs.engine.arrival.take_bytes.Goals as goal
 
@@ -39,15 +41,33 @@ returns-in-Fault-clause-in_step c =
     (ap (λ (s : Scanned). length s.served) t.1.1.complete ∙ c.requires.in_step.records)
     (omega (arith, c.requires.in_step.few, c.keep.ensures.len))
 
-pub returns-in-Ok-clause-arrives : goal.returns-in-Ok-clause-arrives
-returns-in-Ok-clause-arrives c =
+pub returns-in-Heard-clause-arrives : goal.returns-in-Heard-clause-arrives
+returns-in-Heard-clause-arrives c =
     let t = took_as c.args.from.now c.args.bytes.now c.feed-taken.result.0 c.feed-taken.result.1 (steps.Record c.in-Record.record) c.feed-taken.new.self c.requires.in_step c.requires.faultless c.in-Record.is c.feed-taken.ensures.feeds in
-    (t.1.0, t.0.within, read_as _ _ _ _ _ (Ok (heard_of c.in-Ok.heard)) c.deref.ensures.value c.read_record.ensures (ap read_of c.in-Ok.is) t.1.1)
+    let r = subst (λ (x : RecordRead). IsReadAs x (heard c.deref.result.now)) c.in-Heard.is c.read_record.ensures in
+    (t.1.0, t.0.within, read_as _ _ _ _ (Ok (heard_of c.in-Heard.heard)) c.deref.ensures.value r t.1.1)
 
-pub returns-in-Ok-clause-in_step : goal.returns-in-Ok-clause-in_step
-returns-in-Ok-clause-in_step c =
+pub returns-in-Heard-clause-in_step : goal.returns-in-Heard-clause-in_step
+returns-in-Heard-clause-in_step c =
     let t = took_as c.args.from.now c.args.bytes.now c.feed-taken.result.0 c.feed-taken.result.1 (steps.Record c.in-Record.record) c.feed-taken.new.self c.requires.in_step c.requires.faultless c.in-Record.is c.feed-taken.ensures.feeds in
-    let k = read_as _ _ _ _ _ (Ok (heard_of c.in-Ok.heard)) c.deref.ensures.value c.read_record.ensures (ap read_of c.in-Ok.is) t.1.1 in
+    let r = subst (λ (x : RecordRead). IsReadAs x (heard c.deref.result.now)) c.in-Heard.is c.read_record.ensures in
+    let k = read_as _ _ _ _ (Ok (heard_of c.in-Heard.heard)) c.deref.ensures.value r t.1.1 in
+    in-step _ (c.args.from.now.stream.items ++ take c.feed-taken.result.0 c.args.bytes.now) c.keep.ensures.items t.0.to
+    (ap (λ (s : Scanned). s.fault) k.complete ∙ sym (ap (option_map fault_number) c.requires.faultless))
+    (ap (λ (s : Scanned). length s.served) k.complete ∙ one_more _ _ _ c.requires.in_step.records)
+    (omega (arith, c.requires.in_step.few, c.keep.ensures.len, t.1.0, length_taken c.feed-taken.result.0 c.args.bytes.now t.0.within))
+
+pub returns-in-Undecoded-clause-arrives : goal.returns-in-Undecoded-clause-arrives
+returns-in-Undecoded-clause-arrives c =
+    let t = took_as c.args.from.now c.args.bytes.now c.feed-taken.result.0 c.feed-taken.result.1 (steps.Record c.in-Record.record) c.feed-taken.new.self c.requires.in_step c.requires.faultless c.in-Record.is c.feed-taken.ensures.feeds in
+    let r = subst (λ (x : RecordRead). IsReadAs x (heard c.deref.result.now)) c.in-Undecoded.is c.read_record.ensures in
+    (t.1.0, t.0.within, (r.0, r.1, read_as _ _ _ _ (Ok (record { xid = c.in-Undecoded.xid; asked = r.0 })) c.deref.ensures.value r.2 t.1.1))
+
+pub returns-in-Undecoded-clause-in_step : goal.returns-in-Undecoded-clause-in_step
+returns-in-Undecoded-clause-in_step c =
+    let t = took_as c.args.from.now c.args.bytes.now c.feed-taken.result.0 c.feed-taken.result.1 (steps.Record c.in-Record.record) c.feed-taken.new.self c.requires.in_step c.requires.faultless c.in-Record.is c.feed-taken.ensures.feeds in
+    let r = subst (λ (x : RecordRead). IsReadAs x (heard c.deref.result.now)) c.in-Undecoded.is c.read_record.ensures in
+    let k = read_as _ _ _ _ (Ok (record { xid = c.in-Undecoded.xid; asked = r.0 })) c.deref.ensures.value r.2 t.1.1 in
     in-step _ (c.args.from.now.stream.items ++ take c.feed-taken.result.0 c.args.bytes.now) c.keep.ensures.items t.0.to
     (ap (λ (s : Scanned). s.fault) k.complete ∙ sym (ap (option_map fault_number) c.requires.faultless))
     (ap (λ (s : Scanned). length s.served) k.complete ∙ one_more _ _ _ c.requires.in_step.records)
@@ -56,12 +76,15 @@ returns-in-Ok-clause-in_step c =
 pub returns-clause-arrives : goal.returns-clause-arrives
 returns-clause-arrives c =
     let t = took_as c.args.from.now c.args.bytes.now c.feed-taken.result.0 c.feed-taken.result.1 (steps.Record c.in-Record.record) c.feed-taken.new.self c.requires.in_step c.requires.faultless c.in-Record.is c.feed-taken.ensures.feeds in
-    (t.1.0, t.0.within, ended-as _ _ (fault_number c.in-Err.fault) (read_as _ _ _ _ _ (Err (fault_number c.in-Err.fault)) c.deref.ensures.value c.read_record.ensures (ap read_of c.in-Err.is) t.1.1))
+    let r = subst (λ (x : RecordRead). IsReadAs x (heard c.deref.result.now)) c.in-Fault-read_record.is c.read_record.ensures in
+    let k = ended-as _ _ (fault_number c.in-Fault-read_record.fault) (read_as _ _ _ _ (Err (fault_number c.in-Fault-read_record.fault)) c.deref.ensures.value r t.1.1) in
+    (t.1.0, t.0.within, k)
 
 pub returns-clause-in_step : goal.returns-clause-in_step
 returns-clause-in_step c =
     let t = took_as c.args.from.now c.args.bytes.now c.feed-taken.result.0 c.feed-taken.result.1 (steps.Record c.in-Record.record) c.feed-taken.new.self c.requires.in_step c.requires.faultless c.in-Record.is c.feed-taken.ensures.feeds in
-    let k = ended-as _ _ (fault_number c.in-Err.fault) (read_as _ _ _ _ _ (Err (fault_number c.in-Err.fault)) c.deref.ensures.value c.read_record.ensures (ap read_of c.in-Err.is) t.1.1) in
+    let r = subst (λ (x : RecordRead). IsReadAs x (heard c.deref.result.now)) c.in-Fault-read_record.is c.read_record.ensures in
+    let k = ended-as _ _ (fault_number c.in-Fault-read_record.fault) (read_as _ _ _ _ (Err (fault_number c.in-Fault-read_record.fault)) c.deref.ensures.value r t.1.1) in
     in-step _ (c.args.from.now.stream.items ++ take c.feed-taken.result.0 c.args.bytes.now) c.keep.ensures.items t.0.to
     (ap (λ (s : Scanned). s.fault) k.complete)
     (ap (λ (s : Scanned). length s.served) k.complete ∙ c.requires.in_step.records)

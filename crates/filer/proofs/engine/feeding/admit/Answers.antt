@@ -8,7 +8,9 @@ use Rattle.nfs_values.specs.Answer.{answer_of}
 use Rattle.nfs_values.specs.Call.{call_of}
 use Rattle.nfs_values.specs.Credential.{credential_of}
 use Rattle.filer.specs.declared.engine.message.Request.{Request}
-use Rattle.filer.specs.Seen.{affinity_of, asked_of, layout_of, setup_in, world}
+use Rattle.filer.specs.Seen.{asked_of, setup_in, world}
+use Rattle.affinity.specs.Affinity.{affinity_of}
+use Rattle.affinity.specs.Layout.{layout_of}
 use Rattle.filer.proofs.Admitting.{at-once, entries-same}
 use Rattle.filer.proofs.engine.feeding.admit.Goals as goal
 
@@ -18,8 +20,8 @@ returns-in-None-clause-admitted c =
     let layout = layout_of s.layout in
     let kept = world c.keep_entry-in-None.new.state in
     let call = call_of c.in-Call.call in
-    let nowhere : home layout call ≡ None = ap (λ (k : Call). home layout (call_of k)) (sym c.in-Call.call-is) ∙ sym (c.home_of.ensures.home s.layout) ∙ ap (option_map affinity_of) c.in-None.is in
-    let answered : answer_of c.answer_at_once.result ≡ answer_without_home layout call = c.answer_at_once.ensures.answer s.layout ∙ ap (λ (k : Call). answer_without_home layout (call_of k)) c.in-Call.call-is in
+    let nowhere : home layout call ≡ None = ap (λ (k : Call). home layout (call_of k)) (sym c.in-Call.call-is) ∙ ap (λ (k : Call). home layout (call_of k)) (sym c.as_call.ensures.value) ∙ sym c.home_of.ensures.home ∙ ap (option_map affinity_of) c.in-None.is in
+    let answered : answer_of c.answer_at_once.result ≡ answer_without_home layout call = c.answer_at_once.ensures.answer layout ∙ ap (λ (k : Call). answer_without_home layout (call_of k)) c.in-Call.call-is in
     let once = at-once s c.len.result c.args.number c.args.heard.xid call (credential_of c.in-Call.credential) (answer_of c.answer_at_once.result) (world c.respond-in-None.new.state) kept nowhere answered
     c.respond-in-None.ensures.written
     (c.keep_entry-in-None.ensures.kept ∙ entries-same (world c.respond-in-None.new.state) c.len.result c.args.number c.args.heard.xid _ c.in-Call.call _ c.in-Call.credential c.in-Call.call-is c.in-Call.credential-is) in

@@ -12,14 +12,14 @@ use Rattle.rpc_msg.specs.Records as records
 use Rattle.rpc_msg.specs.Seen.{Hears, Tells}
 use Rattle.filer.specs.declared.engine.event.StreamFault.{StreamFault}
 use Rattle.filer.specs.Numbers.{fault_number}
-use Rattle.filer.proofs.Records.{numbers-same, heard-is, heard-is-reading, refused-is-short, none-undecoded}
+use Rattle.filer.proofs.Records.{numbers-same, heard-is, heard-is-reading, refused-is-short}
 use Rattle.filer.proofs.engine.reading.read_record.Goals as goal
 
 pub returns-in-Err : goal.returns-in-Err
 returns-in-Err c =
     let bytes = c.args.bytes.now in
     let h = subst (λ (r : Result Heard Fault). Hears r (records.heard bytes)) c.in-Err.is c.read_record.ensures in
-    ap (λ (f : StreamFault). Err (fault_number f)) c.stream_fault.ensures ∙ ap (λ n. Err n) (numbers-same _) ∙ sym h ∙ sym (heard-is bytes)
+    heard-is bytes ∙ h ∙ ap (λ n. Err n) (sym (numbers-same _)) ∙ ap (λ (f : StreamFault). Err (fault_number f)) (sym c.stream_fault.ensures)
 
 pub new-requires : goal.new-requires
 new-requires c =
@@ -35,22 +35,23 @@ new-requires-in-Refused c =
     let q = subst (λ (r : Request). Tells c.in-Ok.field-0.xid r (records.heard bytes)) c.in-Refused.is h in
     refused-is-short bytes c.in-Ok.field-0.xid (reply_of c.in-Refused.reply) q
 
-pub unreachable-requires : goal.unreachable-requires
-unreachable-requires c =
-    let bytes = c.args.bytes.now in
-    let h = subst (λ (r : Result Heard Fault). Hears r (records.heard bytes)) c.in-Ok.is c.read_record.ensures in
-    none-undecoded bytes c.in-Ok.field-0.xid (subst (λ (r : Request). Tells c.in-Ok.field-0.xid r (records.heard bytes)) c.in-Undecoded.is h)
-
 pub returns-in-Call : goal.returns-in-Call
 returns-in-Call c =
     let bytes = c.args.bytes.now in
     let h = subst (λ (r : Result Heard Fault). Hears r (records.heard bytes)) c.in-Ok.is c.read_record.ensures in
     let q = subst (λ (r : Request). Tells c.in-Ok.field-0.xid r (records.heard bytes)) c.in-Call.is h in
-    ap (λ (k : Call). Ok (record { xid = c.in-Ok.field-0.xid; asked = types.Ask (call_of k) (credential_of c.in-Call.credential) })) c.new.ensures ∙ sym q ∙ sym (heard-is bytes)
+    heard-is bytes ∙ q ∙ ap (λ (k : Call). Ok (record { xid = c.in-Ok.field-0.xid; asked = types.Ask (call_of k) (credential_of c.in-Call.credential) })) (sym c.new.ensures)
 
 pub returns-in-Refused : goal.returns-in-Refused
 returns-in-Refused c =
     let bytes = c.args.bytes.now in
     let h = subst (λ (r : Result Heard Fault). Hears r (records.heard bytes)) c.in-Ok.is c.read_record.ensures in
     let q = subst (λ (r : Request). Tells c.in-Ok.field-0.xid r (records.heard bytes)) c.in-Refused.is h in
-    ap (λ (r : Reply). Ok (record { xid = c.in-Ok.field-0.xid; asked = types.Refused (reply_of r) })) c.new-in-Refused.ensures ∙ sym q ∙ sym (heard-is bytes)
+    heard-is bytes ∙ q ∙ ap (λ (r : Reply). Ok (record { xid = c.in-Ok.field-0.xid; asked = types.Refused (reply_of r) })) (sym c.new-in-Refused.ensures)
+
+pub returns-in-Undecoded : goal.returns-in-Undecoded
+returns-in-Undecoded c =
+    let bytes = c.args.bytes.now in
+    let h = subst (λ (r : Result Heard Fault). Hears r (records.heard bytes)) c.in-Ok.is c.read_record.ensures in
+    let q = subst (λ (r : Request). Tells c.in-Ok.field-0.xid r (records.heard bytes)) c.in-Undecoded.is h in
+    (types.Ask q.0 q.1.0, q.1.1, heard-is bytes ∙ q.1.2)

@@ -3,4 +3,4 @@ use Rattle.nfs_model.specs.Types as types
 use Rattle.filer.proofs.engine.work.get_attributes.Goals as goal
 
 pub returns-then-fileid-eq-ROOT-clause-root : goal.returns-then-fileid-eq-ROOT-clause-root
-returns-then-fileid-eq-ROOT-clause-root c = λ e layout verifier. ap types.GetattrDone (c.root_attributes.ensures layout verifier)
+returns-then-fileid-eq-ROOT-clause-root c = λ e verifier v. ap types.GetattrDone (c.root_attributes.ensures verifier v)
