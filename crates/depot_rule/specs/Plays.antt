@@ -82,4 +82,4 @@ module _ {P E : Type 0} where
 abbrev pub StampSays : {P C R : Type 0} → Option (Entry P C R) → Step (Option P) → Place P (Entry P C R) → ℕ → Place P (Entry P C R) → Type 0
 StampSays {P = P} item st me found me' = IfSome item (λ e. OnOne (λ v. (between : List (Entry P _ _))
     × (me'.0 ≡ record v { held = slice_set v.held e.node (Some e.left); reads = record { word = 0; value = found; shares = 0 } ∷ v.reads; seen = (v.seen ++ between) ++ e ∷ []; mine = v.mine ++ length (v.seen ++ between) ∷ [] } ∷ [])) me.0)
-  × (me'.1 ≡ me.1)
+    × (me'.1 ≡ me.1)
