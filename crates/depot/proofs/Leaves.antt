@@ -1,5 +1,5 @@
 -- The set of a leaf.
-use Rattle.std.proofs.Common.{◌≡◌, ◌≢◌, ℕ, ◌+◌, ◌<◌, eqb, List, [], ◌∷◌, ◌++◌, refl, sym, arith, inl}
+use Rattle.std.proofs.Common.{◌≡◌, ℕ, ◌+◌, eqb, List, [], ◌∷◌, ◌++◌, refl, arith, inl}
 use Rattle.depot_rule.specs.declared.view.View.{View}
 use Rattle.depot_rule.specs.declared.view.Read.{Read}
 use Rattle.depot_rule.specs.Sums.{tally, one_if, without}
@@ -13,7 +13,10 @@ module _ {P E : Type 0} where
       → (more : List Read) × (vs ≡ record v { gone = without node v.gone; reads = more ++ v.reads } ∷ []) → TookAll 0 node v vs
   gave-leaf v node leaf taken given =
       let here = taken node (inl refl) in
-      let less : (k : ℕ) → tally k (without node v.gone) + one_if (eqb node k) ≡ tally k v.gone = λ k. tally-without node k v.gone (omega arith) in
-      (without node v.gone, given.0, given.1,
+      let less : (k : ℕ) → tally k (without node v.gone) + one_if (eqb node k) ≡ tally k v.gone = λ k. tally-without node k v.gone (omega arith) in (
+        without node v.gone,
+        given.0,
+        given.1,
         (λ k c. let l = less k in let one = one-same node k (leaf k c) in let t = taken k c in omega arith),
-        (λ k n. let l = less k in let none = one-other node k (λ e. n (inl e)) in omega arith))
+        (λ k n. let l = less k in let none = one-other node k (λ e. n (inl e)) in omega arith),
+      )

@@ -1,4 +1,4 @@
-use Rattle.std.proofs.Common.{arith, ◌≡◌, ◌<◌, ℕ, List, length, refl, sym, subst, inl}
+use Rattle.std.proofs.Common.{arith, ◌<◌, ℕ, List, length, refl, sym, subst, inl}
 use Rattle.depot_rule.specs.Seats.{view_of}
 use Rattle.depot.proofs.sets.LeafNode.gather.Goals as goal
 

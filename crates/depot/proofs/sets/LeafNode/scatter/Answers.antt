@@ -1,4 +1,4 @@
-use Rattle.std.proofs.Common.{◌≡◌, ℕ, List, sym, subst}
+use Rattle.std.proofs.Common.{ℕ, List, sym, subst}
 use Rattle.depot_rule.specs.Seats.{view_of}
 use Rattle.depot.specs.Sets.{IsLeaf}
 use Rattle.depot.proofs.Leaves.{gave-leaf}
