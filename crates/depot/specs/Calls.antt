@@ -7,7 +7,7 @@ use Rattle.depot_rule.specs.declared.view.Read.{Read}
 use Rattle.depot_rule.specs.Sums.{tally}
 use Rattle.depot_rule.specs.Tree.{ancestors, Covers, Excludes}
 use Rattle.depot_rule.specs.Shares.{exclusive, grant_shares, shares, Has}
-use Rattle.depot_rule.specs.Parcels.{IsParcel}
+use Rattle.depot_rule.specs.Parcels.{takes, IsParcel}
 use Rattle.depot_rule.specs.Seats.{view_of}
 use Rattle.depot_rule.specs.Plays.{IsOnly}
 
@@ -35,10 +35,11 @@ module _ {P E : Type 0} where
   abbrev pub IsExcluded : View P E → ℕ → Type 0
   IsExcluded v b = (c : ℕ) × (h : List (Option P)) × Has v c h × Excludes v.tree b c
 
-  -- the seat has a new grant g of b, with a parcel for each node that b covers
+  -- the seat has a new grant g of b, with a parcel for each node that b covers, none of them taken yet
   abbrev pub IsGranted : (P → ℕ) → View P E → ℕ → List (Option P) → List Read → List (View P E) → Type 0
   IsGranted kind_of v b g more vs = (vs ≡ record v { held = slice_set v.held b (Some g); reads = more ++ v.reads } ∷ [])
       × ((k : ℕ) → 0 < k → k < length v.tree → Covers v.tree b k → IsParcel kind_of v.first k (slice_index_or g k None))
+      × ((k : ℕ) → 0 < k → Covers v.tree b k → takes k v ≡ 0)
 
   abbrev pub MovedTo : View P E → List ℕ → List (View P E) → Type 0
   MovedTo v path vs = (more : List Read) × Moved v path more vs

@@ -1,6 +1,6 @@
 //! Grants of the parcels of a tree, to threads, without a lock and without memory. So far: the
-//! table, its atomic steps, the way of a claim through the words above its node, and parcels that
-//! go out of their slots and come home.
+//! depot and its seats, all atomic steps, the way of a claim through the words above its node, and
+//! parcels that go out of their slots and come home.
 #![tactic(auto)]
 
 pub mod claiming;
@@ -8,6 +8,7 @@ pub mod depot;
 pub mod path;
 pub mod plays;
 pub mod seats;
+pub mod sets;
 pub mod slots;
 pub mod stamps;
 pub mod steps;

@@ -113,6 +113,9 @@ module _ (P E : Type 0) (kind_of : P → ℕ) where
                   let y = found k pk (subst (λ (t : List ℕ). k < length t) so.tree lk) (subst (λ (t : List ℕ). Covers t b k) so.tree ck) in
                   subst (λ (f : List (Option P)). IsParcel kind_of f k (get_or g k None)) (sym ca.opened) (subst (IsParcel kind_of first k) (sym (lying-at s.homes k y.0 y.1)) y.2)),
               (λ c h hc ex. not-held ps s.words s.views r.shares id v b c h at pos lt all free hc (subst (λ (t : List ℕ). Excludes t b c) so.tree ex) (ca.nodes c h hc).0),
+              (λ k pk ck.
+                  let u = untaken P E kind_of ps first s r id b k v at pos lt all free pk (subst (λ (t : List ℕ). Covers t b k) so.tree ck) in
+                  let m = total-at (total (takes k)) s.views id (v ∷ []) at in omega arith),
             )),
             (λ ne. absurd (ne free)),
           ),

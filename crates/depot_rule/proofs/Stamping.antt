@@ -38,26 +38,27 @@ module _ (P E : Type 0) (kind_of : P → ℕ) where
       let low : (a : ℕ) → lower a w ≡ lower a v = λ a. over-other (λ c. tally a (ancestors v.tree c)) 0 v.held b g left here in
       let own : (a : ℕ) → claims a w ≡ claims a v = λ a. over-other (λ c. one_if (eqb c a)) 0 v.held b g left here in
       let cases : (c : ℕ) (h : G) → Has w c h → ((c ≡ b) × (left ≡ h)) ⊎ ((c ≢ b) × Has v c h)
-            = λ c h e. ⊎_elim (λ (t : (c ≡ b) × (Some left ≡ Some h)). let lh : left ≡ h = (let q = t.1 in cc) in inl (t.0, lh)) (λ (t : (c ≢ b) × Has v c h). inr t) (at_set v.held b c (Some left) (Some h) e) in
+      = λ c h e. ⊎_elim (λ (t : (c ≡ b) × (Some left ≡ Some h)). let lh : left ≡ h = (let q = t.1 in cc) in inl (t.0, lh)) (λ (t : (c ≢ b) × Has v c h). inr t) (at_set v.held b c (Some left) (Some h) e) in
       let now : Has w b left = set_here v.held b (Some left) (at-length v.held b (Some g) here) in
       record {
         shares = ticket-keeps P E ps s.words s.views r.shares x id v w at refl
-          (record { some_part = so.some_part; tree = so.tree; wide = length-set v.held b (Some left) ∙ so.wide; once = so.once })
-          (λ a. let l = low a in let o = own a in (omega arith, o, omega arith));
+            (record { some_part = so.some_part; tree = so.tree; wide = length-set v.held b (Some left) ∙ so.wide; once = so.once })
+            (λ a. let l = low a in let o = own a in (omega arith, o, omega arith));
         parcels = stay-keeps P E kind_of ps first s r id v w at (λ k. refl) (record {
           opened = ca.opened;
           nodes = λ c h e. ⊎_elim (λ (t : (c ≡ b) × (left ≡ h)). let n = ca.nodes b g here in let n0 = n.0 in let n1 = n.1 in let z = t.0 in (omega arith, omega arith)) (λ (t : (c ≢ b) × Has v c h). ca.nodes c h t.1) (cases c h e);
           single = ca.single;
           cover = λ k pk h. let t = ca.cover k pk h in dite (ℕ_discrete t.0 b)
-            (λ e. (b, left, now, subst (λ (z : ℕ). Covers ps z k) e t.3))
-            (λ ne. (t.0, t.1, set_else v.held b t.0 (Some left) ne ∙ t.2, t.3));
+              (λ e. (b, left, now, subst (λ (z : ℕ). Covers ps z k) e t.3))
+              (λ ne. (t.0, t.1, set_else v.held b t.0 (Some left) ne ∙ t.2, t.3));
           whole = λ c k h e ck pk lk. ⊎_elim
-            (λ (t : (c ≡ b) × (left ≡ h)). subst (λ (z : G). IsParcel kind_of first k (get_or z k None)) t.1 (fits k pk lk (subst (λ (z : ℕ). Covers ps z k) t.0 ck)))
-            (λ (t : (c ≢ b) × Has v c h). ca.whole c k h t.1 ck pk lk) (cases c h e);
+              (λ (t : (c ≡ b) × (left ≡ h)). subst (λ (z : G). IsParcel kind_of first k (get_or z k None)) t.1 (fits k pk lk (subst (λ (z : ℕ). Covers ps z k) t.0 ck)))
+              (λ (t : (c ≢ b) × Has v c h). ca.whole c k h t.1 ck pk lk) (cases c h e);
           there = λ c k h e ck pk lk none_taken. ⊎_elim
-            (λ (t : (c ≡ b) × (left ≡ h)). let one = taken k pk lk (subst (λ (z : ℕ). Covers ps z k) t.0 ck) in absurd (omega arith))
-            (λ (t : (c ≢ b) × Has v c h). ca.there c k h t.1 ck pk lk none_taken) (cases c h e);
-          empty = ca.empty });
+              (λ (t : (c ≡ b) × (left ≡ h)). let one = taken k pk lk (subst (λ (z : ℕ). Covers ps z k) t.0 ck) in absurd (omega arith))
+              (λ (t : (c ≢ b) × Has v c h). ca.there c k h t.1 ck pk lk none_taken) (cases c h e);
+          empty = ca.empty;
+        });
       }
 
 module _ (P C R : Type 0) (kind_of : P → ℕ) where
@@ -74,7 +75,10 @@ module _ (P C R : Type 0) (kind_of : P → ℕ) where
       let rs : List Read = record { word = 0; value = x; shares = 0 } ∷ v.reads in
       let seen : List E = (v.seen ++ []) ++ e ∷ [] in
       let mine : List ℕ = v.mine ++ length (v.seen ++ []) ∷ [] in
-      let w : View P E = record v { held = set v.held e.node (Some e.left); reads = rs; seen = seen; mine = mine } in
-      (w ∷ [], keeps, tt,
+      let w : View P E = record v { held = set v.held e.node (Some e.left); reads = rs; seen = seen; mine = mine } in (
+        w ∷ [],
+        keeps,
+        tt,
         relist-keeps P E kind_of ps first s r ((x + 1) % 18446744073709551616) id e.node v g e.left rs seen mine at here taken fits,
-        (on-one _ me.0 v one ([], refl), refl))
+        (on-one _ me.0 v one ([], refl), refl),
+      )

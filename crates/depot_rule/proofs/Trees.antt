@@ -3,7 +3,7 @@ use Rattle.std.proofs.Common.{◌≡◌, ℕ, zero, suc, ◌<◌, ◌≤◌, eqb
 use mathlib.Core.Logic.{dite}
 use native.Mathlib.Decide.{ℕ_discrete, dec_lt}
 use Rattle.depot_rule.specs.Sums.{tally}
-use Rattle.depot_rule.specs.Tree.{IsTree, from_parent, above, ancestors, Covers, Excludes}
+use Rattle.depot_rule.specs.Tree.{IsTree, from_parent, upwards, ancestors, Covers, Excludes}
 use Rattle.depot_rule.proofs.Sums.{one-other, one-most}
 
 from-same : (f g : ℕ → List ℕ) (p : ℕ) → (0 < p → f p ≡ g p) → from_parent f p ≡ from_parent g p
@@ -11,30 +11,30 @@ from-same f g zero h = refl
 from-same f g (suc p) h = ap (λ (t : List ℕ). suc p ∷ t) (h (omega arith))
 
 -- there are fewer nodes above b than its number
-enough : (ps : List ℕ) → IsTree ps → (m n b : ℕ) → 0 < b → b ≤ m → b ≤ n → above ps m b ≡ above ps n b
+enough : (ps : List ℕ) → IsTree ps → (m n b : ℕ) → 0 < b → b ≤ m → b ≤ n → upwards ps m b ≡ upwards ps n b
 enough ps t zero n b pos h k = absurd (omega arith)
 enough ps t (suc m) zero b pos h k = absurd (omega arith)
 enough ps t (suc m) (suc n) b pos h k =
-    let l = t b pos in from-same (above ps m) (above ps n) (slice_index ps b) (λ some_parent. enough ps t m n (slice_index ps b) some_parent (omega arith) (omega arith))
+    let l = t b pos in from-same (upwards ps m) (upwards ps n) (slice_index ps b) (λ some_parent. enough ps t m n (slice_index ps b) some_parent (omega arith) (omega arith))
 
 pub ancestors-root : (ps : List ℕ) (b : ℕ) → slice_index ps b ≡ 0 → ancestors ps b ≡ []
 ancestors-root ps zero e = refl
-ancestors-root ps (suc b) e = ap (from_parent (above ps b)) e
+ancestors-root ps (suc b) e = ap (from_parent (upwards ps b)) e
 
 pub ancestors-parent : (ps : List ℕ) → IsTree ps → (b p : ℕ) → 0 < b → slice_index ps b ≡ p → 0 < p → ancestors ps b ≡ p ∷ ancestors ps p
 ancestors-parent ps t zero p pos e q = absurd (omega arith)
 ancestors-parent ps t (suc b) zero pos e q = absurd (omega arith)
 ancestors-parent ps t (suc b) (suc p) pos e q =
-    let l = t (suc b) pos in ap (from_parent (above ps b)) e ∙ ap (λ (r : List ℕ). suc p ∷ r) (enough ps t b (suc p) (suc p) q (omega arith) (omega arith))
+    let l = t (suc b) pos in ap (from_parent (upwards ps b)) e ∙ ap (λ (r : List ℕ). suc p ∷ r) (enough ps t b (suc p) (suc p) q (omega arith) (omega arith))
 
 from-lower : (f : ℕ → List ℕ) (p a : ℕ) → p < a → ((q : ℕ) → 0 < q → q ≤ a → tally a (f q) ≡ 0) → tally a (from_parent f p) ≡ 0
 from-lower f zero a l r = refl
 from-lower f (suc p) a l r = let z = one-other (suc p) a (λ e. omega arith) in let u = r (suc p) (omega arith) (omega arith) in omega arith
 
 -- what is above b has a smaller number
-lower-above : (ps : List ℕ) → IsTree ps → (m b a : ℕ) → 0 < b → b ≤ a → tally a (above ps m b) ≡ 0
+lower-above : (ps : List ℕ) → IsTree ps → (m b a : ℕ) → 0 < b → b ≤ a → tally a (upwards ps m b) ≡ 0
 lower-above ps t zero b a pos h = refl
-lower-above ps t (suc m) b a pos h = let l = t b pos in from-lower (above ps m) (slice_index ps b) a (omega arith) (λ q qpos le. lower-above ps t m q a qpos le)
+lower-above ps t (suc m) b a pos h = let l = t b pos in from-lower (upwards ps m) (slice_index ps b) a (omega arith) (λ q qpos le. lower-above ps t m q a qpos le)
 
 -- no node is above itself
 pub not-above : (ps : List ℕ) → IsTree ps → (b : ℕ) → tally b (ancestors ps b) ≡ 0
@@ -47,9 +47,9 @@ from-once f (suc p) a r z = dite (ℕ_discrete (suc p) a)
     (λ e. let l = z (suc p) (omega arith) (omega arith) in let o = one-most (eqb (suc p) a) in omega arith)
     (λ ne. let o = one-other (suc p) a ne in let u = r (suc p) (omega arith) in omega arith)
 
-once-above : (ps : List ℕ) → IsTree ps → (m b a : ℕ) → 0 < b → tally a (above ps m b) ≤ 1
+once-above : (ps : List ℕ) → IsTree ps → (m b a : ℕ) → 0 < b → tally a (upwards ps m b) ≤ 1
 once-above ps t zero b a pos = omega arith
-once-above ps t (suc m) b a pos = from-once (above ps m) (slice_index ps b) a (λ q qpos. once-above ps t m q a qpos) (λ q qpos le. lower-above ps t m q a qpos le)
+once-above ps t (suc m) b a pos = from-once (upwards ps m) (slice_index ps b) a (λ q qpos. once-above ps t m q a qpos) (λ q qpos le. lower-above ps t m q a qpos le)
 
 -- each node above stands there once
 pub ancestors-once : (ps : List ℕ) → IsTree ps → (a b : ℕ) → tally a (ancestors ps b) ≤ 1
@@ -67,10 +67,10 @@ from-line ps f (suc p) b c same further hb hc = dite (ℕ_discrete (suc p) b)
     (λ e. inr (inl (subst (λ (z : ℕ). 0 < tally b (ancestors ps z)) e (subst (λ (z : List ℕ). 0 < tally b z) (same (omega arith)) u))))
     (λ nc. let o' = one-other (suc p) c nc in further (omega arith) u (omega arith)))
 
-line-above : (ps : List ℕ) → IsTree ps → (m k b c : ℕ) → 0 < k → k ≤ m → 0 < tally b (above ps m k) → 0 < tally c (above ps m k) → Excludes ps b c
+line-above : (ps : List ℕ) → IsTree ps → (m k b c : ℕ) → 0 < k → k ≤ m → 0 < tally b (upwards ps m k) → 0 < tally c (upwards ps m k) → Excludes ps b c
 line-above ps t zero k b c pos le hb hc = absurd (omega arith)
 line-above ps t (suc m) k b c pos le hb hc = let l = t k pos in let p : ℕ = slice_index ps k in
-    from-line ps (above ps m) p b c (λ some_parent. enough ps t m p p some_parent (omega arith) (omega arith))
+    from-line ps (upwards ps m) p b c (λ some_parent. enough ps t m p p some_parent (omega arith) (omega arith))
     (λ some_parent ub uc. line-above ps t m p b c some_parent (omega arith) ub uc) hb hc
 
 -- two nodes that cover one node exclude each other
@@ -89,9 +89,9 @@ from-zero : (f : ℕ → List ℕ) (p : ℕ) → ((q : ℕ) → tally 0 (f q) �
 from-zero f zero h = refl
 from-zero f (suc p) h = let o = one-other (suc p) 0 (λ e. omega arith) in let z = h (suc p) in omega arith
 
-zero-above : (ps : List ℕ) (m b : ℕ) → tally 0 (above ps m b) ≡ 0
+zero-above : (ps : List ℕ) (m b : ℕ) → tally 0 (upwards ps m b) ≡ 0
 zero-above ps zero b = refl
-zero-above ps (suc m) b = from-zero (above ps m) (slice_index ps b) (λ q. zero-above ps m q)
+zero-above ps (suc m) b = from-zero (upwards ps m) (slice_index ps b) (λ q. zero-above ps m q)
 
 -- what is above b is a node, and has a smaller number
 pub above-smaller : (ps : List ℕ) → IsTree ps → (a b : ℕ) → 0 < tally a (ancestors ps b) → (0 < a) × (a < b)

@@ -14,9 +14,9 @@ use Rattle.depot_rule.specs.Seats.{if_less}
 abbrev pub covers : List ℕ → ℕ → ℕ → Bool
 covers parents b k = (b == k) || nat_lt 0 (tally b (ancestors parents k))
 
--- parcels by node: those of a where a covers the node, else the others
-abbrev pub under : {P : Type 0} → List ℕ → ℕ → (ℕ → Option P) → (ℕ → Option P) → ℕ → Option P
-under parents a inner outer k = if_less (covers parents a k) (inner k) (outer k)
+-- parcels by node: the inner ones where a covers the node, else the outer ones
+abbrev pub patched : {P : Type 0} → List ℕ → ℕ → (ℕ → Option P) → (ℕ → Option P) → ℕ → Option P
+patched parents a inner outer k = if_less (covers parents a k) (inner k) (outer k)
 
 abbrev pub listed : {P : Type 0} → List (Option P) → ℕ → Option P
 listed ys k = slice_index_or ys k None
@@ -45,7 +45,7 @@ pub record Current {P E : Type 0} (parents : List ℕ) (f : ℕ → Option P) (s
 
 module _ {P C R : Type 0} where
   abbrev pub put_in : List ℕ → Entry P C R → (ℕ → Option P) → ℕ → Option P
-  put_in parents e f = under parents e.node (listed e.left) f
+  put_in parents e f = patched parents e.node (listed e.left) f
 
   -- the opening parcels with what each entry left put in, in order
   abbrev pub after : List ℕ → (ℕ → Option P) → List (Entry P C R) → ℕ → Option P
@@ -66,7 +66,7 @@ module _ {P C R : Type 0} where
   abbrev pub AreHands : {B : Type 0} → (C → R → List B) → (C → R → List B) → List (Entry P C R) → List B → Type 0
   AreHands takes gives es hands = (weigh : _ → ℕ) → total weigh (moved gives es) + total weigh hands ≡ total weigh (moved takes es)
 
-  -- The third pass. The first four name what the machine does: the steps of calls, the batches that they take and give, and what has to hold of all parcels, all batches in hands and the count of entries
+  -- the third pass: of the whole state. The first four name what the machine does: the steps of calls, the batches that they take and give, and what has to hold of all parcels, all batches in hands and the count of entries
   pub record History {B : Type 0} (steps : List ℕ → ℕ → C → (ℕ → Option P) → R → (ℕ → Option P) → Type 0) (takes gives : C → R → List B) (invariant : List ℕ → (ℕ → Option P) → List B → ℕ → Type 0)
       (parents : List ℕ) (first : List (Option P)) (s : State (Option P) (List (View P (Entry P C R)))) : Type 0 where
     pub log : List (Entry P C R)

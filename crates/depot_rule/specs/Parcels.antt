@@ -22,7 +22,7 @@ abbrev pub IsParcel : {P : Type 0} → (P → ℕ) → List (Option P) → ℕ �
 IsParcel kind_of first k y = (p : _) × (y ≡ Some p) × (kind_of p ≡ kind_at kind_of (slice_index_or first k None))
 
 module _ {P E : Type 0} where
-  -- Of what lies in the slots (none where a slot is out), and of one view
+  -- of what lies in the slots (none where a slot is out), and of one view
   pub record Carries (kind_of : P → ℕ) (parents : List ℕ) (first : List (Option P)) (homes : List (maybe.Option (Option P))) (v : View P E) : Type 0 where
     pub opened : v.first ≡ first
     pub nodes : (b : ℕ) (g : List (Option P)) → Has v b g → (0 < b) × (b < length parents)
@@ -33,8 +33,10 @@ module _ {P E : Type 0} where
     pub whole : (b k : ℕ) (g : List (Option P)) → Has v b g → Covers parents b k → 0 < k → k < length parents → IsParcel kind_of first k (slice_index_or g k None)
     -- what it covers and hasn't taken lies in its slot as it was granted
     pub there : (b k : ℕ) (g : List (Option P)) → Has v b g → Covers parents b k → 0 < k → k < length parents → takes k v ≡ 0 → get_elem? homes k ≡ some (some (slice_index_or g k None))
+    -- its slot is home, empty, where the seat has the parcel alone
     pub empty : (k : ℕ) → 0 < k → 0 < tally k v.gone → get_elem? homes k ≡ some (some None)
 
+  -- the second pass: of what lies in the slots, and of all views
   pub record Parcels (kind_of : P → ℕ) (parents : List ℕ) (first : List (Option P)) (homes : List (maybe.Option (Option P))) (views : List (List (View P E))) : Type 0 where
     pub slots : length homes ≡ length parents
     -- a parcel that no seat has is at home

@@ -7,7 +7,7 @@ use Rattle.depot_rule.specs.declared.view.Entry.{Entry}
 use Rattle.depot_rule.specs.Sums.{without}
 use Rattle.depot_rule.specs.Tree.{ancestors, Covers, Excludes}
 use Rattle.depot_rule.specs.Shares.{exclusive, shares, Has}
-use Rattle.depot_rule.specs.Parcels.{IsParcel}
+use Rattle.depot_rule.specs.Parcels.{takes, IsParcel}
 use Rattle.depot_rule.specs.Seats.{OnOne}
 
 -- a seat: its views, and the slots that are out with it
@@ -41,13 +41,14 @@ module _ {P E : Type 0} where
   abbrev pub LeaveSays : Step (Option P) → Place P E → ℕ → Place P E → Type 0
   LeaveSays st me found me' = Goes (λ v vs. vs ≡ record v { path = drop 1 v.path; reads = noted st found v } ∷ []) me me'
 
-  -- compare_exchange of 0 by 2^32: where 0 was found there is a grant, with a parcel for each node that it covers, and the shares entered are the grant's
+  -- compare_exchange of 0 by 2^32: where 0 was found there is a grant, with a parcel for each node that it covers, none of them taken, and the shares entered are the grant's
   abbrev pub ClaimSays : (P → ℕ) → Step (Option P) → Place P E → ℕ → Place P E → Type 0
   ClaimSays kind_of st me found me' = Goes (λ v vs.
       (found ≡ 0 → (g : List (Option P))
       × (vs ≡ record v { path = []; held = slice_set v.held st.word (Some g); reads = noted st found v } ∷ [])
       × ((k : ℕ) → 0 < k → k < length v.tree → Covers v.tree st.word k → IsParcel kind_of v.first k (slice_index_or g k None))
-      × ((c : ℕ) (h : List (Option P)) → Has v c h → Excludes v.tree st.word c → ⊥))
+      × ((c : ℕ) (h : List (Option P)) → Has v c h → Excludes v.tree st.word c → ⊥)
+      × ((k : ℕ) → 0 < k → Covers v.tree st.word k → takes k v ≡ 0))
       × (found ≢ 0 → (vs ≡ record v { reads = noted st found v } ∷ []) × (IsOnly v → (c : ℕ) × (h : List (Option P)) × Has v c h × Excludes v.tree st.word c))) me me'
 
   -- fetch_sub of 2^32: the grant ends, and its shares are to be left
@@ -82,4 +83,4 @@ module _ {P E : Type 0} where
 abbrev pub StampSays : {P C R : Type 0} → Option (Entry P C R) → Step (Option P) → Place P (Entry P C R) → ℕ → Place P (Entry P C R) → Type 0
 StampSays {P = P} item st me found me' = IfSome item (λ e. OnOne (λ v. (between : List (Entry P _ _))
     × (me'.0 ≡ record v { held = slice_set v.held e.node (Some e.left); reads = record { word = 0; value = found; shares = 0 } ∷ v.reads; seen = (v.seen ++ between) ++ e ∷ []; mine = v.mine ++ length (v.seen ++ between) ∷ [] } ∷ [])) me.0)
-  × (me'.1 ≡ me.1)
+    × (me'.1 ≡ me.1)

@@ -10,9 +10,9 @@ use Rattle.depot_rule.specs.Tree.{IsTree, ancestors}
 abbrev pub exclusive : ℕ
 exclusive = 4294967296
 
--- P holds of each view of each seat
+-- Q holds of each view of each seat
 abbrev pub Each : {V : Type 0} → (V → Type 0) → List (List V) → Type 0
-Each P views = (j : ℕ) (vs : List _) → get_elem? views j ≡ some vs → (i : ℕ) (v : _) → get_elem? vs i ≡ some v → P v
+Each Q views = (j : ℕ) (vs : List _) → get_elem? views j ≡ some vs → (i : ℕ) (v : _) → get_elem? vs i ≡ some v → Q v
 
 -- the first seat's view: all parts, nothing entered, granted or seen
 abbrev pub opening_view : {P E : Type 0} → List ℕ → List (Option P) → View P E
@@ -46,17 +46,19 @@ module _ {P E : Type 0} where
   abbrev pub shares : ℕ → View P E → ℕ
   shares a v = (entered a v + one_if (v.unsure == a)) + exclusive * claims a v
 
+  -- of one view: it has a part, knows the tree, has a place for each node, and entered no word twice
   pub record IsSound (parents : List ℕ) (v : View P E) : Type 0 where
     pub some_part : 0 < v.parts
     pub tree : v.tree ≡ parents
     pub wide : length v.held ≡ length parents
     pub once : (a : ℕ) → tally a v.path ≤ 1
 
-  -- Of the words, and of the views of all seats, seat by seat. Word 0 is the ticket, and no node's
+  -- the first pass: of the words, and of the views of all seats, seat by seat. Word 0 is the ticket, and no node's
   pub record Shares (parents : List ℕ) (words : List ℕ) (views : List (List (View P E))) : Type 0 where
     pub tree : IsTree parents
     pub few : length parents ≤ 1024
     pub as_many : length words ≡ length parents
+    -- the splits of all seats, and the seats
     pub seats : total (total parts) views ≡ 64
     pub counted : (a : ℕ) → 0 < a → a < length parents → slice_index words a ≡ total (total (shares a)) views
     -- a node that is claimed is claimed once, and no share in it was found free

@@ -21,11 +21,11 @@ over_taken f k [] = 0
 over_taken f k (None ∷ xs) = over_taken f (suc k) xs
 over_taken f k (Some x ∷ xs) = f k + over_taken f (suc k) xs
 
--- the list without the first a in it
 abbrev pub if_here : Bool → List ℕ → List ℕ → List ℕ
 if_here true here further = here
 if_here false here further = further
 
+-- the list without the first a in it
 abbrev pub without : ℕ → List ℕ → List ℕ
 without a [] = []
 without a (x ∷ xs) = if_here (x == a) xs (x ∷ without a xs)

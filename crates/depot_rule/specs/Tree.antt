@@ -7,17 +7,17 @@ IsTree parents = (b : ℕ) → 0 < b → slice_index parents b < b
 
 -- a parent, if there is one, and the nodes above it
 abbrev pub from_parent : (ℕ → List ℕ) → ℕ → List ℕ
-from_parent above zero = []
-from_parent above (suc p) = suc p ∷ above (suc p)
+from_parent further zero = []
+from_parent further (suc p) = suc p ∷ further (suc p)
 
 -- the nodes above b, at most as many as the first number says
-abbrev pub above : List ℕ → ℕ → ℕ → List ℕ
-above parents zero b = []
-above parents (suc most) b = from_parent (above parents most) (slice_index parents b)
+abbrev pub upwards : List ℕ → ℕ → ℕ → List ℕ
+upwards parents zero b = []
+upwards parents (suc most) b = from_parent (upwards parents most) (slice_index parents b)
 
 -- the nodes above b, the nearest first
 abbrev pub ancestors : List ℕ → ℕ → List ℕ
-ancestors parents b = above parents b b
+ancestors parents b = upwards parents b b
 
 -- b is k, or above it
 abbrev pub Covers : List ℕ → ℕ → ℕ → Type 0
