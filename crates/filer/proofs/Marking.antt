@@ -1,5 +1,5 @@
 -- What is read of a stream, by record marking.
-use Rattle.std.proofs.Common.{◌≡◌, ℕ, List, Option, Some, None, refl}
+use Rattle.std.proofs.Common.{ℕ, List, Option, Some, None, refl}
 use Rattle.std.specs.Prelude.{MatchOption}
 use Rattle.rpc_record.specs.Machine.{State}
 use Rattle.rpc_record.specs.Records.{HasFault, HasNoFault}

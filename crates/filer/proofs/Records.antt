@@ -1,5 +1,5 @@
 -- What records are heard as, and how long replies are.
-use Rattle.std.proofs.Common.{◌≡◌, ℕ, ◌≤◌, ◌⊎◌, true, false, List, Ok, Err, refl, sym, ◌∙◌, length, arith, inl, inr}
+use Rattle.std.proofs.Common.{◌≡◌, ℕ, ◌≤◌, ◌⊎◌, false, List, Ok, Err, refl, sym, ◌∙◌, length, arith, inl, inr}
 use Rattle.std.specs.Prelude.{◌==◌}
 use Rattle.std.proofs.lemmas.Bool.Decides.{nat_tests}
 use Rattle.nfs_model.specs.World.{Heard, IsDecoded}

@@ -1,4 +1,3 @@
-use Rattle.std.proofs.Common.{List, ℕ}
 use Rattle.filer.proofs.Marking.{served_by}
 use Rattle.filer.proofs.engine.laws.streams_are_served.Goals as goal
 
