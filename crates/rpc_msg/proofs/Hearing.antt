@@ -9,7 +9,7 @@ use Rattle.nfs_model.specs.ReadOnly.{AsksReading}
 use Rattle.nfs_values.specs.declared.procedure.Procedure.{Procedure}
 use Rattle.nfs_values.specs.declared.procedure.Procedure.TheVariants.{Null, GetAttributes, AdminNull}
 use Rattle.nfs_values.specs.Procedure.{is_served}
-use Rattle.nfs_types.specs.Arguments.{asked, asked_by as call_in, arguments_shape, call_from}
+use Rattle.nfs_types.specs.Arguments.{asked, arguments_shape, call_from}
 use Rattle.nfs_types.specs.Shapes.{◌&◌}
 use Rattle.nfs_types.proofs.Exact.{asked_is}
 use Rattle.rpc_msg.specs.Heads.{Stop, Incomplete, Refuse, Body, Head, Call, Refused, Faulty, xid_of, body_at, under, head_from, head_of}

@@ -1,11 +1,9 @@
 -- A head that says a call names a procedure that is served.
 use Rattle.std.proofs.Common.{◌≡◌, ℕ, true, false, cond, eqb, List, Option, Some, None, Result, Ok, Err, find}
-use Rattle.xdr.specs.Shape.{Word}
 use Rattle.xdr.specs.Reading.{Reads, read}
 use Rattle.nfs_model.specs.Types as model
 use Rattle.nfs_values.specs.declared.procedure.Procedure.{Procedure}
 use Rattle.nfs_values.specs.Procedure.{all_procedures, is_served}
-use Rattle.nfs_types.specs.Shapes.{◌&◌}
 use Rattle.rpc_msg.specs.Replies.{auth_shape}
 use Rattle.rpc_msg.specs.Heads.{◌>>=◌, Stop, Incomplete, Refuse, Body, Head, Call, Refused, Faulty, whole, version_at, numbers_shape, credential_at, version_of, procedures, is_numbered, available, of_version, procedure_of, xid_of, body_at, under, head_from}
 use Rattle.rpc_msg.proofs.Numbered.{FoundIs, found_is}

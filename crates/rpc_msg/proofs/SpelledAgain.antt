@@ -1,5 +1,5 @@
 -- The spelling of a call that is served is heard as that call.
-use Rattle.std.proofs.Common.{◌≡◌, ℕ, ◌≤◌, true, false, eqb, ltb, List, ◌++◌, length, Some, Ok, find, refl, sym, ap, ◌∙◌, arith, inl, inr}
+use Rattle.std.proofs.Common.{◌≡◌, ℕ, ◌≤◌, true, false, eqb, ltb, List, ◌++◌, length, Some, Ok, refl, sym, ap, ◌∙◌, arith, inl, inr}
 use Rattle.std.proofs.lemmas.Bool.{le-ltb, eq-eqb}
 use Rattle.xdr.specs.Shape.{Word, Fixed, Value, Fits, word, padded, spelling}
 use Rattle.xdr.specs.Reading.{read}
@@ -9,7 +9,7 @@ use Rattle.nfs_values.specs.declared.procedure.Procedure.{Procedure}
 use Rattle.nfs_values.specs.Procedure.{is_served, numbers_of}
 use Rattle.nfs_types.specs.Shapes.{◌&◌}
 use Rattle.rpc_msg.specs.Replies.{auth_shape}
-use Rattle.rpc_msg.specs.Heads.{Call, whole, version_at, numbers_shape, auth_sys_shape, acting, credential_at, version_of, procedures, is_numbered, procedure_of, body_at, under, xid_at, head_from, head_of}
+use Rattle.rpc_msg.specs.Heads.{Call, whole, version_at, numbers_shape, auth_sys_shape, acting, credential_at, version_of, procedure_of, body_at, under, xid_at, head_from, head_of}
 use Rattle.rpc_msg.specs.Calls.{ActsFor, IsCall}
 use Rattle.rpc_msg.proofs.Numbered.{find_again}
 use Rattle.rpc_msg.proofs.Steps.{then_is}

@@ -1,5 +1,5 @@
 -- Calls that there was no memory for.
-use Rattle.std.proofs.Common.{◌≡◌, ℕ, Bool, true, List, Result, Ok, refl, sym, ap, subst, ◌∙◌}
+use Rattle.std.proofs.Common.{◌≡◌, ℕ, true, List, Result, Ok, refl, sym, ap, subst, ◌∙◌}
 use Rattle.xdr.specs.declared.fault.Fault.{Fault as Unread}
 use Rattle.xdr.specs.Shape.{Value}
 use Rattle.xdr.specs.Reading.{all_of}
