@@ -3,6 +3,8 @@
 //! parcels that go out of their slots and come home.
 #![tactic(auto)]
 
+pub mod begin;
+pub mod probe;
 pub mod claiming;
 pub mod depot;
 pub mod path;
