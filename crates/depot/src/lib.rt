@@ -3,14 +3,11 @@
 //! parcels that go out of their slots and come home.
 #![tactic(auto)]
 
-pub mod begin;
-pub mod probe;
 pub mod claiming;
 pub mod depot;
 pub mod path;
 pub mod plays;
 pub mod seats;
-pub mod sets;
 pub mod slots;
 pub mod stamps;
 pub mod steps;
