@@ -123,7 +123,7 @@ module _ {P E : Type 0} where
       let r = subst (λ (u : View P E). IsGranted kind_of (record u { path = [] }) b q.0 (read_of b 0 u ∷ []) ws) is q.1 in (
         q.0,
         read_of b 0 w ∷ climbed.0,
-        (r.0 ∙ ap (λ (p : List ℕ). let z : View P E = record v { path = p; held = set v.held b (Some q.0); reads = read_of b 0 w ∷ (climbed.0 ++ v.reads) } in z ∷ []) (sym none), r.1, r.2),
+        (r.0 ∙ ap (λ (p : List ℕ). let z : View P E = record v { path = p; held = set v.held b (Some q.0); reads = read_of b 0 w ∷ (climbed.0 ++ v.reads) } in z ∷ []) (sym none), r.1, r.2, r.3),
       )
 
   pub none-excluded : (ps : List ℕ) (v : View P E) (b : ℕ) {vs : List (View P E)} → MovedTo v (ancestors ps b) vs → (IsExcluded (view_of vs) b → ⊥) → IsExcluded v b → ⊥

@@ -40,6 +40,7 @@ module _ {P E : Type 0} where
   IsGranted kind_of v b g more vs = (vs ≡ record v { held = slice_set v.held b (Some g); reads = more ++ v.reads } ∷ [])
       × ((k : ℕ) → 0 < k → k < length v.tree → Covers v.tree b k → IsParcel kind_of v.first k (slice_index_or g k None))
       × ((k : ℕ) → 0 < k → Covers v.tree b k → takes k v ≡ 0)
+      × (get_elem? v.held b ≡ some None)
 
   abbrev pub MovedTo : View P E → List ℕ → List (View P E) → Type 0
   MovedTo v path vs = (more : List Read) × Moved v path more vs

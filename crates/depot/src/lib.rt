@@ -8,7 +8,6 @@ pub mod depot;
 pub mod path;
 pub mod plays;
 pub mod seats;
-pub mod sets;
 pub mod slots;
 pub mod stamps;
 pub mod steps;

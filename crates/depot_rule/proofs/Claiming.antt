@@ -116,6 +116,7 @@ module _ (P E : Type 0) (kind_of : P → ℕ) where
               (λ k pk ck.
                   let u = untaken P E kind_of ps first s r id b k v at pos lt all free pk (subst (λ (t : List ℕ). Covers t b k) so.tree ck) in
                   let m = total-at (total (takes k)) s.views id (v ∷ []) at in omega arith),
+              kept.0,
             )),
             (λ ne. absurd (ne free)),
           ),

@@ -98,3 +98,27 @@ pub above-smaller : (ps : List ℕ) → IsTree ps → (a b : ℕ) → 0 < tally 
 above-smaller ps t a zero h = absurd (omega arith)
 above-smaller ps t zero (suc b) h = let z = zero-above ps (suc b) (suc b) in absurd (omega arith)
 above-smaller ps t (suc a) (suc b) h = elim (dec_lt (suc a) (suc b)) [ yes l ↦ (omega arith, l) | no n ↦ let z = lower-above ps t (suc b) (suc b) (suc a) (omega arith) (omega arith) in absurd (omega arith) ]
+
+from-above : (ps : List ℕ) (f : ℕ → List ℕ) (p b c : ℕ) → (0 < p → f p ≡ ancestors ps p) → (0 < p → 0 < tally b (f p) → 0 < tally c (ancestors ps b) → 0 < tally c (f p)) → 0 < tally b (from_parent f p) → 0 < tally c (ancestors ps b) → 0 < tally c (from_parent f p)
+from-above ps f zero b c same further hb hc = absurd (omega arith)
+from-above ps f (suc p) b c same further hb hc = dite (ℕ_discrete (suc p) b)
+    (λ e. let u : 0 < tally c (f (suc p)) = subst (λ (z : List ℕ). 0 < tally c z) (sym (same (omega arith))) (subst (λ (z : ℕ). 0 < tally c (ancestors ps z)) (sym e) hc) in omega arith)
+    (λ ne. let o = one-other (suc p) b ne in let u = further (omega arith) (omega arith) hc in omega arith)
+
+above-above : (ps : List ℕ) → IsTree ps → (m k b c : ℕ) → 0 < k → k ≤ m → 0 < tally b (upwards ps m k) → 0 < tally c (ancestors ps b) → 0 < tally c (upwards ps m k)
+above-above ps t zero k b c pos le hb hc = absurd (omega arith)
+above-above ps t (suc m) k b c pos le hb hc = let l = t k pos in let p : ℕ = slice_index ps k in
+    from-above ps (upwards ps m) p b c (λ some_parent. enough ps t m p p some_parent (omega arith) (omega arith))
+    (λ some_parent ub uc. above-above ps t m p b c some_parent (omega arith) ub uc) hb hc
+
+-- what covers a node covers all that the node covers
+pub covers-through : (ps : List ℕ) → IsTree ps → (c b k : ℕ) → Covers ps c b → Covers ps b k → Covers ps c k
+covers-through ps t c b k cb bk = ⊎_elim
+    (λ (e : b ≡ k). subst (Covers ps c) e cb)
+    (λ (u : 0 < tally b (ancestors ps k)). ⊎_elim
+    (λ (e : c ≡ b). inr (subst (λ (z : ℕ). 0 < tally z (ancestors ps k)) (sym e) u))
+    (λ (w : 0 < tally c (ancestors ps b)). inr (through k u w)) cb) bk
+  where
+    through : (k : ℕ) → 0 < tally b (ancestors ps k) → 0 < tally c (ancestors ps b) → 0 < tally c (ancestors ps k)
+    through zero u w = absurd (omega arith)
+    through (suc k) u w = above-above ps t (suc k) (suc k) b c (omega arith) (omega arith) u w

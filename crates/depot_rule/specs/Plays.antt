@@ -1,5 +1,7 @@
 -- What each kind of step tells the seat that makes it.
 use Rattle.std.specs.Prelude.{◌≡◌, ◌≢◌, ℕ, ◌<◌, ◌≤◌, List, [], ◌∷◌, ◌++◌, drop, length, slice_set, slice_index_or, Option, Some, None, IfSome}
+use mathlib.Core.Option.{some}
+use lib.ListN.{get_elem?}
 use Rattle.atomic_table.specs.Table.{Me, Step, rest}
 use Rattle.depot_rule.specs.declared.view.View.{View}
 use Rattle.depot_rule.specs.declared.view.Read.{Read}
@@ -48,7 +50,8 @@ module _ {P E : Type 0} where
       × (vs ≡ record v { path = []; held = slice_set v.held st.word (Some g); reads = noted st found v } ∷ [])
       × ((k : ℕ) → 0 < k → k < length v.tree → Covers v.tree st.word k → IsParcel kind_of v.first k (slice_index_or g k None))
       × ((c : ℕ) (h : List (Option P)) → Has v c h → Excludes v.tree st.word c → ⊥)
-      × ((k : ℕ) → 0 < k → Covers v.tree st.word k → takes k v ≡ 0))
+      × ((k : ℕ) → 0 < k → Covers v.tree st.word k → takes k v ≡ 0)
+      × (get_elem? v.held st.word ≡ some None))
       × (found ≢ 0 → (vs ≡ record v { reads = noted st found v } ∷ []) × (IsOnly v → (c : ℕ) × (h : List (Option P)) × Has v c h × Excludes v.tree st.word c))) me me'
 
   -- fetch_sub of 2^32: the grant ends, and its shares are to be left

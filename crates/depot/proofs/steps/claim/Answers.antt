@@ -19,7 +19,7 @@ compare_exchange-requires g c =
 pub returns-clause-granted : goal.returns-clause-granted
 returns-clause-granted g c =
     let did = of-one _ _ _ (one-view c.args.place.now.me.0 c.requires.ready.0) c.compare_exchange.ensures.2.0 in
-    λ free. let q = did.0 free in ((q.0, (granted-now (view_of c.args.place.now.me.0) c.args.node q.0 free q.1, q.2, q.4)), not-excluded (view_of c.args.place.now.me.0) c.args.node q.3)
+    λ free. let q = did.0 free in ((q.0, (granted-now (view_of c.args.place.now.me.0) c.args.node q.0 free q.1, q.2, q.4, q.5)), not-excluded (view_of c.args.place.now.me.0) c.args.node q.3)
 
 pub returns-clause-refused : goal.returns-clause-refused
 returns-clause-refused g c =
