@@ -1,0 +1,4 @@
+pub mod PlaceLemmas
+pub mod Moves
+pub mod OfKind
+pub mod Parts
