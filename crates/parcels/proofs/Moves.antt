@@ -30,9 +30,9 @@ module _ {T : Type 0} where
   pub moved-alone : (f g : ℕ → Option T) (n : ℕ) (x : T) → f n ≡ Some x → g n ≡ None → ((k : ℕ) → k ≢ n → g k ≡ f k) → (k : ℕ) → Moved (f k) (alone n x k) (g k)
   moved-alone f g n x there gone others k =
       ⊎_elim
-          (λ (e : k ≡ n). subst (λ j. Moved (f j) (alone n x j) (g j)) (sym e) (subst (λ o. Moved (f n) o (g n)) (sym (alone-there n x)) (there, gone)))
-          (λ (e : k ≡ n → ⊥). subst (λ o. Moved (f k) o (g k)) (sym (alone-none n x k e)) (others k e))
-          (cases_eq k n)
+      (λ (e : k ≡ n). subst (λ j. Moved (f j) (alone n x j) (g j)) (sym e) (subst (λ o. Moved (f n) o (g n)) (sym (alone-there n x)) (there, gone)))
+      (λ (e : k ≡ n → ⊥). subst (λ o. Moved (f k) o (g k)) (sym (alone-none n x k e)) (others k e))
+      (cases_eq k n)
 
   -- one parcel is given
   pub given-alone : (f g : ℕ → Option T) (n : ℕ) (x : T) → f n ≡ None → g n ≡ Some x → ((k : ℕ) → k ≢ n → g k ≡ f k) → (k : ℕ) → Moved (g k) (alone n x k) (f k)
@@ -51,7 +51,7 @@ module _ {T : Type 0} where
         → (k : ℕ) → Moved (f k) (in_places u (λ j held. p j held k) ys (i + 1)) (h k)
     gathered-next xs ys i held f g h used there others before step k =
         subst (λ o. Moved (f k) o (h k)) (sym (in_places-put u (λ j held. p j held k) xs ys i held used there others))
-            (moved-both (f k) (in_places u (λ j held. p j held k) xs i) (g k) (p i held k) (h k) (before k) (step k))
+        (moved-both (f k) (in_places u (λ j held. p j held k) xs i) (g k) (p i held k) (h k) (before k) (step k))
 
     -- a set more was taken from its place and given back
     pub scattered-next : (xs : List (Option H)) (i : ℕ) (held : H) (f g h : ℕ → Option T)
@@ -61,7 +61,7 @@ module _ {T : Type 0} where
         → (k : ℕ) → Moved (h k) (in_places u (λ j held. p j held k) xs (i + 1)) (f k)
     scattered-next xs i held f g h used there before step k =
         subst (λ o. Moved (h k) o (f k)) (sym (in_places-next u (λ j held. p j held k) xs i held used there))
-            (given-both (f k) (in_places u (λ j held. p j held k) xs i) (g k) (p i held k) (h k) (before k) (step k))
+        (given-both (f k) (in_places u (λ j held. p j held k) xs i) (g k) (p i held k) (h k) (before k) (step k))
 
     -- a place that isn't in use was passed
     pub passed-unused : (xs : List (Option H)) (i : ℕ) (f g : ℕ → Option T) → u i ≡ false
@@ -79,3 +79,10 @@ module _ {T : Type 0} where
     pub moved-none : (xs : List (Option H)) (f : ℕ → Option T) (k : ℕ) → Moved (f k) (in_places u (λ j held. p j held k) xs 0) (f k)
     unfolding in_places
     moved-none xs f k = refl
+
+-- a parcel was taken at a number, told in two ways
+pub taken-at : {T : Type 0} (f g : ℕ → Option T) (n m : ℕ) (x : T) → n ≡ m → f n ≡ Some x → g n ≡ None → ((k : ℕ) → k ≢ n → g k ≡ f k) → (k : ℕ) → Moved (f k) (alone m x k) (g k)
+taken-at f g n m x e there gone others k = subst (λ j. Moved (f k) (alone j x k) (g k)) e (moved-alone f g n x there gone others k)
+
+pub given-at : {T : Type 0} (f g : ℕ → Option T) (n m : ℕ) (x : T) → n ≡ m → f m ≡ None → g n ≡ Some x → ((k : ℕ) → k ≢ n → g k ≡ f k) → (k : ℕ) → Moved (g k) (alone m x k) (f k)
+given-at f g n m x e vacant there others k = subst (λ j. Moved (g k) (alone j x k) (f k)) e (given-alone f g n x (ap f e ∙ vacant) there others k)

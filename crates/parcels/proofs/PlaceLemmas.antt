@@ -36,8 +36,8 @@ module _ {H T : Type 0} (u : ℕ → Bool) (f : ℕ → H → Option T) where
   in_places-none places zero h = refl
   in_places-none places (suc n) h =
       or_else-none (in_places u f places n) (in_used_place u f places n)
-          (in_places-none places n (λ i l. h i (omega arith)))
-          (used-none (u n) (in_place (f n) (slice_get places n)) (λ e. place-none (f n) (slice_get places n) (h n (omega arith) e)))
+      (in_places-none places n (λ i l. h i (omega arith)))
+      (used-none (u n) (in_place (f n) (slice_get places n)) (λ e. place-none (f n) (slice_get places n) (h n (omega arith) e)))
 
   -- the first places say what is found in them
   pub in_places-same : (xs ys : List (Option H)) (n : ℕ) → ((i : ℕ) → i < n → slice_get ys i ≡ slice_get xs i) → in_places u f ys n ≡ in_places u f xs n
@@ -45,33 +45,33 @@ module _ {H T : Type 0} (u : ℕ → Bool) (f : ℕ → H → Option T) where
   in_places-same xs ys zero h = refl
   in_places-same xs ys (suc n) h =
       ap (λ o. or_else o (in_used_place u f ys n)) (in_places-same xs ys n (λ i l. h i (omega arith)))
-          ∙ ap (λ o. or_else (in_places u f xs n) (if u n then in_place (f n) o else None)) (h n (omega arith))
+      ∙ ap (λ o. or_else (in_places u f xs n) (if u n then in_place (f n) o else None)) (h n (omega arith))
 
   -- one place more, with a set
   pub in_places-next : (xs : List (Option H)) (i : ℕ) (held : H) → u i ≡ true → slice_get xs i ≡ Some (Some held) → in_places u f xs (i + 1) ≡ or_else (in_places u f xs i) (f i held)
   unfolding in_places
   in_places-next xs i held used e =
       ap (in_places u f xs) (add-one i)
-          ∙ ap (λ o. or_else (in_places u f xs i) (if u i then in_place (f i) o else None)) e
-          ∙ ap (λ b. or_else (in_places u f xs i) (if b then f i held else None)) used
+      ∙ ap (λ o. or_else (in_places u f xs i) (if u i then in_place (f i) o else None)) e
+      ∙ ap (λ b. or_else (in_places u f xs i) (if b then f i held else None)) used
 
   -- one that is empty
   pub in_places-empty : (xs : List (Option H)) (i : ℕ) → slice_get xs i ≡ Some None → in_places u f xs (i + 1) ≡ in_places u f xs i
   unfolding in_places
   in_places-empty xs i e =
       ap (in_places u f xs) (add-one i)
-          ∙ or_else-last (in_places u f xs i) (in_used_place u f xs i) (ap (λ o. if u i then in_place (f i) o else None) e ∙ used-none (u i) None (λ _. refl))
+      ∙ or_else-last (in_places u f xs i) (in_used_place u f xs i) (ap (λ o. if u i then in_place (f i) o else None) e ∙ used-none (u i) None (λ _. refl))
 
   -- one that isn't in use
   pub in_places-unused : (xs : List (Option H)) (i : ℕ) → u i ≡ false → in_places u f xs (i + 1) ≡ in_places u f xs i
   unfolding in_places
   in_places-unused xs i e =
       ap (in_places u f xs) (add-one i)
-          ∙ or_else-last (in_places u f xs i) (in_used_place u f xs i) (ap (λ b. if b then in_place (f i) (slice_get xs i) else None) e)
+      ∙ or_else-last (in_places u f xs i) (in_used_place u f xs i) (ap (λ b. if b then in_place (f i) (slice_get xs i) else None) e)
 
   -- one into which a set was put
   pub in_places-put : (xs ys : List (Option H)) (i : ℕ) (held : H) → u i ≡ true → slice_get ys i ≡ Some (Some held) → ((j : ℕ) → j ≢ i → slice_get ys j ≡ slice_get xs j)
       → in_places u f ys (i + 1) ≡ or_else (in_places u f xs i) (f i held)
   in_places-put xs ys i held used e others =
       in_places-next ys i held used e
-          ∙ ap (λ o. or_else o (f i held)) (in_places-same xs ys i (λ j l. others j (λ (same : j ≡ i). let no : ⊥ = omega arith in no)))
+      ∙ ap (λ o. or_else o (f i held)) (in_places-same xs ys i (λ j l. others j (λ (same : j ≡ i). let no : ⊥ = omega arith in no)))

@@ -3,7 +3,7 @@
 #![tactic(auto)]
 
 mod family;
-// mod gather;
+mod gather;
 mod hand;
 mod places;
 // mod scatter;
