@@ -2,3 +2,4 @@ pub mod PlaceLemmas
 pub mod Moves
 pub mod OfKind
 pub mod Parts
+pub mod Steps

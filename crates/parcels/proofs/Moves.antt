@@ -86,3 +86,12 @@ taken-at f g n m x e there gone others k = subst (λ j. Moved (f k) (alone j x k
 
 pub given-at : {T : Type 0} (f g : ℕ → Option T) (n m : ℕ) (x : T) → n ≡ m → f m ≡ None → g n ≡ Some x → ((k : ℕ) → k ≢ n → g k ≡ f k) → (k : ℕ) → Moved (g k) (alone m x k) (f k)
 given-at f g n m x e vacant there others k = subst (λ j. Moved (g k) (alone j x k) (f k)) e (given-alone f g n x (ap f e ∙ vacant) there others k)
+
+module _ {T : Type 0} (f g h : ℕ → Option T) (s t : ℕ → Option T) where
+  -- a taking by the shelf as a whole, and one after it
+  pub taken-both : ((k : ℕ) → Moved (f k) (s k) (g k)) → ((k : ℕ) → Moved (g k) (t k) (h k)) → (k : ℕ) → Moved (f k) (or_else (s k) (t k)) (h k)
+  taken-both m n k = moved-both (f k) (s k) (g k) (t k) (h k) (m k) (n k)
+
+  -- a giving, and one after it
+  pub put-both : ((k : ℕ) → Moved (g k) (s k) (f k)) → ((k : ℕ) → Moved (h k) (t k) (g k)) → (k : ℕ) → Moved (h k) (or_else (s k) (t k)) (f k)
+  put-both m n k = given-both (f k) (s k) (g k) (t k) (h k) (m k) (n k)
