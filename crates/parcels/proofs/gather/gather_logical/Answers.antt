@@ -1,4 +1,4 @@
-use Rattle.std.proofs.Common.{◌≡◌, ◌≢◌, ◌==◌, ◌∙◌, ℕ, ◌+◌, ◌<◌, ◌≤◌, true, None, Option, length, refl, sym, ap, arith}
+use Rattle.std.proofs.Common.{rules, ◌≡◌, ◌≢◌, ◌==◌, ◌∙◌, ℕ, ◌+◌, ◌<◌, ◌≤◌, true, None, Option, length, refl, sym, ap, arith}
 use Rattle.nfs_model.specs.Tree as trees
 use Rattle.nfs_model.specs.Tree.{stripes_of, aggregate_of}
 use Rattle.affinity.specs.Layout.{layout_of}
@@ -16,11 +16,14 @@ use Rattle.parcels.proofs.Parts.{logical-none, vbn-none, volume-none, aggregate-
 use Rattle.parcels.proofs.Steps.{fewer, more, stripes-after, ranges-after, stripe-after, range-after, logical-after, vbn-after, vbn-after-logical, volume-after, volumes-after, aggregate-after, aggregates-after, logical-stays, volume-stays, aggregate-stays}
 use Rattle.parcels.proofs.gather.gather_logical.Goals as goal
 
-pub gather_stripes-stripes-requires-clause-there : goal.gather_stripes-stripes-requires-clause-there
-gather_stripes-stripes-requires-clause-there g c =
-    stripes-after (layout_of c.args.layout.now) (HasParcel (layout_of c.args.layout.now)) (has_kept (layout_of c.args.layout.now)) (g.S.Shelf.at c.args.shelf.now) (g.S.Shelf.at c.take_parcel.new.shelf) c.args.volume
-        (λ k e. moved-same (g.S.Shelf.at c.args.shelf.now k) (alone (number_of (layout_of c.args.layout.now) (trees.Logical c.args.volume)) (parcels.Logical c.in-Logical.own) k) (g.S.Shelf.at c.take_parcel.new.shelf k) (alone-none (number_of (layout_of c.args.layout.now) (trees.Logical c.args.volume)) (parcels.Logical c.in-Logical.own) k e) (c.in-Logical.ensures.moved k))
-        c.requires.there.stripes
+pub gather_stripes-stripes-requires : goal.gather_stripes-stripes-requires
+gather_stripes-stripes-requires g c =
+    let w = c.well_formed in
+    (search rules,
+        (c.requires.volume,
+            stripes-after (layout_of c.args.layout.now) (HasParcel (layout_of c.args.layout.now)) (has_kept (layout_of c.args.layout.now)) (g.S.Shelf.at c.args.shelf.now) (g.S.Shelf.at c.take_parcel.new.shelf) c.args.volume
+                (λ k e. moved-same (g.S.Shelf.at c.args.shelf.now k) (alone (number_of (layout_of c.args.layout.now) (trees.Logical c.args.volume)) (parcels.Logical c.in-Logical.own) k) (g.S.Shelf.at c.take_parcel.new.shelf k) (alone-none (number_of (layout_of c.args.layout.now) (trees.Logical c.args.volume)) (parcels.Logical c.in-Logical.own) k e) (c.in-Logical.ensures.moved k))
+                c.requires.there.stripes))
 
 pub returns-clause-moved : goal.returns-clause-moved
 unfolding logical_parcels
@@ -31,6 +34,9 @@ returns-clause-moved g c =
 
 pub returns-clause-gone : goal.returns-clause-gone
 returns-clause-gone g c = record {
-  own = moved-stays (g.S.Shelf.at c.take_parcel.new.shelf (number_of (layout_of c.args.layout.now) (trees.Logical c.args.volume))) ((λ k. in_places (λ i. true) (λ i held. stripe_parcels (layout_of c.args.layout.now) (trees.Stripe c.args.volume i) held k) c.gather_stripes-stripes.result.at (stripes_of (layout_of c.args.layout.now) c.args.volume)) (number_of (layout_of c.args.layout.now) (trees.Logical c.args.volume))) (g.S.Shelf.at c.gather_stripes-stripes.new.shelf (number_of (layout_of c.args.layout.now) (trees.Logical c.args.volume))) (gone-alone (g.S.Shelf.at c.args.shelf.now) (g.S.Shelf.at c.take_parcel.new.shelf) (number_of (layout_of c.args.layout.now) (trees.Logical c.args.volume)) (parcels.Logical c.in-Logical.own) c.in-Logical.ensures.moved) (c.gather_stripes-stripes.ensures.moved (number_of (layout_of c.args.layout.now) (trees.Logical c.args.volume)));
+  own = moved-stays (g.S.Shelf.at c.take_parcel.new.shelf (number_of (layout_of c.args.layout.now) (trees.Logical c.args.volume)))
+      (in_places (λ i. true) (λ i held. stripe_parcels (layout_of c.args.layout.now) (trees.Stripe c.args.volume i) held (number_of (layout_of c.args.layout.now) (trees.Logical c.args.volume))) c.gather_stripes-stripes.result.at (stripes_of (layout_of c.args.layout.now) c.args.volume))
+      (g.S.Shelf.at c.gather_stripes-stripes.new.shelf (number_of (layout_of c.args.layout.now) (trees.Logical c.args.volume)))
+      (gone-alone (g.S.Shelf.at c.args.shelf.now) (g.S.Shelf.at c.take_parcel.new.shelf) (number_of (layout_of c.args.layout.now) (trees.Logical c.args.volume)) (parcels.Logical c.in-Logical.own) c.in-Logical.ensures.moved) (c.gather_stripes-stripes.ensures.moved (number_of (layout_of c.args.layout.now) (trees.Logical c.args.volume)));
   stripes = c.gather_stripes-stripes.ensures.gone
 }

@@ -1,4 +1,4 @@
-use Rattle.std.proofs.Common.{◌≡◌, ◌≢◌, ◌==◌, ◌∙◌, ℕ, ◌+◌, ◌<◌, ◌≤◌, true, None, Option, length, refl, sym, ap, arith}
+use Rattle.std.proofs.Common.{rules, ◌≡◌, ◌≢◌, ◌==◌, ◌∙◌, ℕ, ◌+◌, ◌<◌, ◌≤◌, true, None, Option, length, refl, sym, ap, arith}
 use Rattle.nfs_model.specs.Tree as trees
 use Rattle.nfs_model.specs.Tree.{stripes_of, aggregate_of}
 use Rattle.affinity.specs.Layout.{layout_of}
