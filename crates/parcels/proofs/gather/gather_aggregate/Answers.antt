@@ -1,4 +1,5 @@
-use Rattle.std.proofs.Common.{rules, ◌≡◌, ◌≢◌, ◌==◌, ◌∙◌, ℕ, ◌+◌, ◌<◌, ◌≤◌, true, None, Option, length, refl, sym, ap, arith}
+use Rattle.std.proofs.Common.{rules, ◌≡◌, ◌≢◌, ◌==◌, ◌∙◌, ℕ, ◌+◌, ◌<◌, ◌≤◌, true, false, None, Option, length, refl, sym, ap, arith}
+use Rattle.std.proofs.lemmas.Bool.{eq-eqb, ne_eqb}
 use Rattle.nfs_model.specs.Tree as trees
 use Rattle.nfs_model.specs.Tree.{stripes_of, aggregate_of}
 use Rattle.affinity.specs.Layout.{layout_of}
@@ -16,11 +17,12 @@ use Rattle.parcels.proofs.Parts.{logical-none, vbn-none, volume-none, aggregate-
 use Rattle.parcels.proofs.Steps.{fewer, more, stripes-after, ranges-after, stripe-after, range-after, logical-after, vbn-after, vbn-after-logical, volume-after, volumes-after, aggregate-after, aggregates-after, logical-stays, volume-stays, aggregate-stays}
 use Rattle.parcels.proofs.gather.gather_aggregate.Goals as goal
 
-pub gather_volumes-volumes-requires-clause-there : goal.gather_volumes-volumes-requires-clause-there
-gather_volumes-volumes-requires-clause-there g c v l on =
-    volumes-after (layout_of c.args.layout.now) (HasParcel (layout_of c.args.layout.now)) (has_kept (layout_of c.args.layout.now)) (g.S.Shelf.at c.args.shelf.now) (g.S.Shelf.at c.take_parcel.new.shelf) c.args.aggregate v c.requires.aggregate
-        (λ k e. moved-same (g.S.Shelf.at c.args.shelf.now k) (alone (number_of (layout_of c.args.layout.now) (trees.Aggregate c.args.aggregate)) (parcels.Aggregate c.in-Aggregate.own) k) (g.S.Shelf.at c.take_parcel.new.shelf k) (alone-none (number_of (layout_of c.args.layout.now) (trees.Aggregate c.args.aggregate)) (parcels.Aggregate c.in-Aggregate.own) k e) (c.in-Aggregate.ensures.moved k))
-        (c.requires.there.volumes v l on)
+pub gather_volumes-volumes-requires : goal.gather_volumes-volumes-requires
+gather_volumes-volumes-requires g c =
+    (search rules,
+        λ v l on. volumes-after (layout_of c.args.layout.now) (HasParcel (layout_of c.args.layout.now)) (has_kept (layout_of c.args.layout.now)) (g.S.Shelf.at c.args.shelf.now) (g.S.Shelf.at c.take_parcel.new.shelf) c.args.aggregate v c.requires.aggregate
+            (λ k e. moved-same (g.S.Shelf.at c.args.shelf.now k) (alone (number_of (layout_of c.args.layout.now) (trees.Aggregate c.args.aggregate)) (parcels.Aggregate c.in-Aggregate.own) k) (g.S.Shelf.at c.take_parcel.new.shelf k) (alone-none (number_of (layout_of c.args.layout.now) (trees.Aggregate c.args.aggregate)) (parcels.Aggregate c.in-Aggregate.own) k e) (c.in-Aggregate.ensures.moved k))
+            (c.requires.there.volumes v l on))
 
 pub returns-clause-moved : goal.returns-clause-moved
 unfolding aggregate_parcels
@@ -31,7 +33,7 @@ returns-clause-moved g c =
 
 pub returns-clause-gone : goal.returns-clause-gone
 returns-clause-gone g c = record {
-  own = moved-stays (g.S.Shelf.at c.take_parcel.new.shelf (number_of (layout_of c.args.layout.now) (trees.Aggregate c.args.aggregate))) ((λ k. in_places (λ v. aggregate_of (layout_of c.args.layout.now) v == c.args.aggregate) (λ v held. volume_parcels (layout_of c.args.layout.now) (trees.Volume v) held k) c.gather_volumes-volumes.result.at (length (layout_of c.args.layout.now).volumes)) (number_of (layout_of c.args.layout.now) (trees.Aggregate c.args.aggregate))) (g.S.Shelf.at c.gather_volumes-volumes.new.shelf (number_of (layout_of c.args.layout.now) (trees.Aggregate c.args.aggregate))) (gone-alone (g.S.Shelf.at c.args.shelf.now) (g.S.Shelf.at c.take_parcel.new.shelf) (number_of (layout_of c.args.layout.now) (trees.Aggregate c.args.aggregate)) (parcels.Aggregate c.in-Aggregate.own) c.in-Aggregate.ensures.moved) (c.gather_volumes-volumes.ensures.moved (number_of (layout_of c.args.layout.now) (trees.Aggregate c.args.aggregate)));
+  own = moved-stays (g.S.Shelf.at c.take_parcel.new.shelf (number_of (layout_of c.args.layout.now) (trees.Aggregate c.args.aggregate))) (in_places (λ v. aggregate_of (layout_of c.args.layout.now) v == c.args.aggregate) (λ v held. volume_parcels (layout_of c.args.layout.now) (trees.Volume v) held (number_of (layout_of c.args.layout.now) (trees.Aggregate c.args.aggregate))) c.gather_volumes-volumes.result.at (length (layout_of c.args.layout.now).volumes)) (g.S.Shelf.at c.gather_volumes-volumes.new.shelf (number_of (layout_of c.args.layout.now) (trees.Aggregate c.args.aggregate))) (gone-alone (g.S.Shelf.at c.args.shelf.now) (g.S.Shelf.at c.take_parcel.new.shelf) (number_of (layout_of c.args.layout.now) (trees.Aggregate c.args.aggregate)) (parcels.Aggregate c.in-Aggregate.own) c.in-Aggregate.ensures.moved) (c.gather_volumes-volumes.ensures.moved (number_of (layout_of c.args.layout.now) (trees.Aggregate c.args.aggregate)));
   volumes = c.gather_volumes-volumes.ensures.gone
 }
 

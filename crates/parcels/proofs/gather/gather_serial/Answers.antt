@@ -1,4 +1,5 @@
-use Rattle.std.proofs.Common.{rules, ◌≡◌, ◌≢◌, ◌==◌, ◌∙◌, ℕ, ◌+◌, ◌<◌, ◌≤◌, true, None, Option, length, refl, sym, ap, arith}
+use Rattle.std.proofs.Common.{rules, ◌≡◌, ◌≢◌, ◌==◌, ◌∙◌, ℕ, ◌+◌, ◌<◌, ◌≤◌, true, false, None, Option, length, refl, sym, ap, arith}
+use Rattle.std.proofs.lemmas.Bool.{eq-eqb, ne_eqb}
 use Rattle.nfs_model.specs.Tree as trees
 use Rattle.nfs_model.specs.Tree.{stripes_of, aggregate_of}
 use Rattle.affinity.specs.Layout.{layout_of}
@@ -17,10 +18,11 @@ use Rattle.parcels.proofs.Steps.{fewer, more, stripes-after, ranges-after, strip
 use Rattle.parcels.proofs.gather.gather_serial.Goals as goal
 
 pub gather_aggregates-aggregates-requires : goal.gather_aggregates-aggregates-requires
-gather_aggregates-aggregates-requires g c a l =
-    aggregates-after (layout_of c.args.layout.now) (HasParcel (layout_of c.args.layout.now)) (has_kept (layout_of c.args.layout.now)) (g.S.Shelf.at c.args.shelf.now) (g.S.Shelf.at c.take_parcel.new.shelf) a
-        (λ k e. moved-same (g.S.Shelf.at c.args.shelf.now k) (alone (number_of (layout_of c.args.layout.now) trees.Serial) (parcels.Serial c.in-Serial.own) k) (g.S.Shelf.at c.take_parcel.new.shelf k) (alone-none (number_of (layout_of c.args.layout.now) trees.Serial) (parcels.Serial c.in-Serial.own) k e) (c.in-Serial.ensures.moved k))
-        (c.requires.aggregates a l)
+gather_aggregates-aggregates-requires g c =
+    (search rules,
+        λ a l. aggregates-after (layout_of c.args.layout.now) (HasParcel (layout_of c.args.layout.now)) (has_kept (layout_of c.args.layout.now)) (g.S.Shelf.at c.args.shelf.now) (g.S.Shelf.at c.take_parcel.new.shelf) a
+            (λ k e. moved-same (g.S.Shelf.at c.args.shelf.now k) (alone (number_of (layout_of c.args.layout.now) trees.Serial) (parcels.Serial c.in-Serial.own) k) (g.S.Shelf.at c.take_parcel.new.shelf k) (alone-none (number_of (layout_of c.args.layout.now) trees.Serial) (parcels.Serial c.in-Serial.own) k e) (c.in-Serial.ensures.moved k))
+            (c.requires.aggregates a l))
 
 pub returns-clause-moved : goal.returns-clause-moved
 unfolding serial_parcels
@@ -31,7 +33,7 @@ returns-clause-moved g c =
 
 pub returns-clause-gone : goal.returns-clause-gone
 returns-clause-gone g c = record {
-  own = moved-stays (g.S.Shelf.at c.take_parcel.new.shelf (number_of (layout_of c.args.layout.now) trees.Serial)) ((λ k. in_places (λ a. true) (λ a held. aggregate_parcels (layout_of c.args.layout.now) (trees.Aggregate a) held k) c.gather_aggregates-aggregates.result.at (length (layout_of c.args.layout.now).spare)) (number_of (layout_of c.args.layout.now) trees.Serial)) (g.S.Shelf.at c.gather_aggregates-aggregates.new.shelf (number_of (layout_of c.args.layout.now) trees.Serial)) (gone-alone (g.S.Shelf.at c.args.shelf.now) (g.S.Shelf.at c.take_parcel.new.shelf) (number_of (layout_of c.args.layout.now) trees.Serial) (parcels.Serial c.in-Serial.own) c.in-Serial.ensures.moved) (c.gather_aggregates-aggregates.ensures.moved (number_of (layout_of c.args.layout.now) trees.Serial));
+  own = moved-stays (g.S.Shelf.at c.take_parcel.new.shelf (number_of (layout_of c.args.layout.now) trees.Serial)) (in_places (λ a. true) (λ a held. aggregate_parcels (layout_of c.args.layout.now) (trees.Aggregate a) held (number_of (layout_of c.args.layout.now) trees.Serial)) c.gather_aggregates-aggregates.result.at (length (layout_of c.args.layout.now).spare)) (g.S.Shelf.at c.gather_aggregates-aggregates.new.shelf (number_of (layout_of c.args.layout.now) trees.Serial)) (gone-alone (g.S.Shelf.at c.args.shelf.now) (g.S.Shelf.at c.take_parcel.new.shelf) (number_of (layout_of c.args.layout.now) trees.Serial) (parcels.Serial c.in-Serial.own) c.in-Serial.ensures.moved) (c.gather_aggregates-aggregates.ensures.moved (number_of (layout_of c.args.layout.now) trees.Serial));
   aggregates = c.gather_aggregates-aggregates.ensures.gone
 }
 

@@ -1,4 +1,5 @@
-use Rattle.std.proofs.Common.{rules, ◌≡◌, ◌≢◌, ◌==◌, ◌∙◌, ℕ, ◌+◌, ◌<◌, ◌≤◌, true, None, Option, length, refl, sym, ap, arith}
+use Rattle.std.proofs.Common.{rules, ◌≡◌, ◌≢◌, ◌==◌, ◌∙◌, ℕ, ◌+◌, ◌<◌, ◌≤◌, true, false, None, Option, length, refl, sym, ap, arith}
+use Rattle.std.proofs.lemmas.Bool.{eq-eqb, ne_eqb}
 use Rattle.nfs_model.specs.Tree as trees
 use Rattle.nfs_model.specs.Tree.{stripes_of, aggregate_of}
 use Rattle.affinity.specs.Layout.{layout_of}
@@ -16,11 +17,13 @@ use Rattle.parcels.proofs.Parts.{logical-none, vbn-none, volume-none, aggregate-
 use Rattle.parcels.proofs.Steps.{fewer, more, stripes-after, ranges-after, stripe-after, range-after, logical-after, vbn-after, vbn-after-logical, volume-after, volumes-after, aggregate-after, aggregates-after, logical-stays, volume-stays, aggregate-stays}
 use Rattle.parcels.proofs.gather.gather_vbn.Goals as goal
 
-pub gather_ranges-ranges-requires-clause-there : goal.gather_ranges-ranges-requires-clause-there
-gather_ranges-ranges-requires-clause-there g c =
-    ranges-after (layout_of c.args.layout.now) (HasParcel (layout_of c.args.layout.now)) (has_kept (layout_of c.args.layout.now)) (g.S.Shelf.at c.args.shelf.now) (g.S.Shelf.at c.take_parcel.new.shelf) c.args.volume
-        (λ k e. moved-same (g.S.Shelf.at c.args.shelf.now k) (alone (number_of (layout_of c.args.layout.now) (trees.Vbn c.args.volume)) (parcels.Vbn c.in-Vbn.own) k) (g.S.Shelf.at c.take_parcel.new.shelf k) (alone-none (number_of (layout_of c.args.layout.now) (trees.Vbn c.args.volume)) (parcels.Vbn c.in-Vbn.own) k e) (c.in-Vbn.ensures.moved k))
-        c.requires.there.ranges
+pub gather_ranges-ranges-requires : goal.gather_ranges-ranges-requires
+gather_ranges-ranges-requires g c =
+    (search rules,
+        (c.requires.volume,
+            ranges-after (layout_of c.args.layout.now) (HasParcel (layout_of c.args.layout.now)) (has_kept (layout_of c.args.layout.now)) (g.S.Shelf.at c.args.shelf.now) (g.S.Shelf.at c.take_parcel.new.shelf) c.args.volume
+                (λ k e. moved-same (g.S.Shelf.at c.args.shelf.now k) (alone (number_of (layout_of c.args.layout.now) (trees.Vbn c.args.volume)) (parcels.Vbn c.in-Vbn.own) k) (g.S.Shelf.at c.take_parcel.new.shelf k) (alone-none (number_of (layout_of c.args.layout.now) (trees.Vbn c.args.volume)) (parcels.Vbn c.in-Vbn.own) k e) (c.in-Vbn.ensures.moved k))
+                c.requires.there.ranges))
 
 pub returns-clause-moved : goal.returns-clause-moved
 unfolding vbn_parcels
@@ -31,6 +34,6 @@ returns-clause-moved g c =
 
 pub returns-clause-gone : goal.returns-clause-gone
 returns-clause-gone g c = record {
-  own = moved-stays (g.S.Shelf.at c.take_parcel.new.shelf (number_of (layout_of c.args.layout.now) (trees.Vbn c.args.volume))) ((λ k. in_places (λ r. true) (λ r held. range_parcels (layout_of c.args.layout.now) (trees.Range c.args.volume r) held k) c.gather_ranges-ranges.result.at 16) (number_of (layout_of c.args.layout.now) (trees.Vbn c.args.volume))) (g.S.Shelf.at c.gather_ranges-ranges.new.shelf (number_of (layout_of c.args.layout.now) (trees.Vbn c.args.volume))) (gone-alone (g.S.Shelf.at c.args.shelf.now) (g.S.Shelf.at c.take_parcel.new.shelf) (number_of (layout_of c.args.layout.now) (trees.Vbn c.args.volume)) (parcels.Vbn c.in-Vbn.own) c.in-Vbn.ensures.moved) (c.gather_ranges-ranges.ensures.moved (number_of (layout_of c.args.layout.now) (trees.Vbn c.args.volume)));
+  own = moved-stays (g.S.Shelf.at c.take_parcel.new.shelf (number_of (layout_of c.args.layout.now) (trees.Vbn c.args.volume))) (in_places (λ r. true) (λ r held. range_parcels (layout_of c.args.layout.now) (trees.Range c.args.volume r) held (number_of (layout_of c.args.layout.now) (trees.Vbn c.args.volume))) c.gather_ranges-ranges.result.at 16) (g.S.Shelf.at c.gather_ranges-ranges.new.shelf (number_of (layout_of c.args.layout.now) (trees.Vbn c.args.volume))) (gone-alone (g.S.Shelf.at c.args.shelf.now) (g.S.Shelf.at c.take_parcel.new.shelf) (number_of (layout_of c.args.layout.now) (trees.Vbn c.args.volume)) (parcels.Vbn c.in-Vbn.own) c.in-Vbn.ensures.moved) (c.gather_ranges-ranges.ensures.moved (number_of (layout_of c.args.layout.now) (trees.Vbn c.args.volume)));
   ranges = c.gather_ranges-ranges.ensures.gone
 }

@@ -1,4 +1,5 @@
-use Rattle.std.proofs.Common.{rules, ◌≡◌, ◌≢◌, ◌==◌, ◌∙◌, ℕ, ◌+◌, ◌<◌, ◌≤◌, true, None, Option, length, refl, sym, ap, arith}
+use Rattle.std.proofs.Common.{rules, ◌≡◌, ◌≢◌, ◌==◌, ◌∙◌, ℕ, ◌+◌, ◌<◌, ◌≤◌, true, false, None, Option, length, refl, sym, ap, arith}
+use Rattle.std.proofs.lemmas.Bool.{eq-eqb, ne_eqb}
 use Rattle.nfs_model.specs.Tree as trees
 use Rattle.nfs_model.specs.Tree.{stripes_of, aggregate_of}
 use Rattle.affinity.specs.Layout.{layout_of}
@@ -16,19 +17,23 @@ use Rattle.parcels.proofs.Parts.{logical-none, vbn-none, volume-none, aggregate-
 use Rattle.parcels.proofs.Steps.{fewer, more, stripes-after, ranges-after, stripe-after, range-after, logical-after, vbn-after, vbn-after-logical, volume-after, volumes-after, aggregate-after, aggregates-after, logical-stays, volume-stays, aggregate-stays}
 use Rattle.parcels.proofs.gather.gather_volume.Goals as goal
 
-pub gather_logical-logical-requires-clause-there : goal.gather_logical-logical-requires-clause-there
-gather_logical-logical-requires-clause-there g c =
-    logical-after (layout_of c.args.layout.now) (HasParcel (layout_of c.args.layout.now)) (has_kept (layout_of c.args.layout.now)) (g.S.Shelf.at c.args.shelf.now) (g.S.Shelf.at c.take_parcel.new.shelf) c.args.volume
-        (λ k e. moved-same (g.S.Shelf.at c.args.shelf.now k) (alone (number_of (layout_of c.args.layout.now) (trees.Volume c.args.volume)) (parcels.Volume c.in-Volume.own) k) (g.S.Shelf.at c.take_parcel.new.shelf k) (alone-none (number_of (layout_of c.args.layout.now) (trees.Volume c.args.volume)) (parcels.Volume c.in-Volume.own) k e) (c.in-Volume.ensures.moved k))
-        c.requires.there.logical
+pub gather_logical-logical-requires : goal.gather_logical-logical-requires
+gather_logical-logical-requires g c =
+    (search rules,
+        (c.requires.volume,
+            logical-after (layout_of c.args.layout.now) (HasParcel (layout_of c.args.layout.now)) (has_kept (layout_of c.args.layout.now)) (g.S.Shelf.at c.args.shelf.now) (g.S.Shelf.at c.take_parcel.new.shelf) c.args.volume
+                (λ k e. moved-same (g.S.Shelf.at c.args.shelf.now k) (alone (number_of (layout_of c.args.layout.now) (trees.Volume c.args.volume)) (parcels.Volume c.in-Volume.own) k) (g.S.Shelf.at c.take_parcel.new.shelf k) (alone-none (number_of (layout_of c.args.layout.now) (trees.Volume c.args.volume)) (parcels.Volume c.in-Volume.own) k e) (c.in-Volume.ensures.moved k))
+                c.requires.there.logical))
 
-pub gather_vbn-vbn-requires-clause-there : goal.gather_vbn-vbn-requires-clause-there
-gather_vbn-vbn-requires-clause-there g c =
-    vbn-after-logical (layout_of c.args.layout.now) (HasParcel (layout_of c.args.layout.now)) (has_kept (layout_of c.args.layout.now)) (g.S.Shelf.at c.take_parcel.new.shelf) (g.S.Shelf.at c.gather_logical-logical.new.shelf) c.args.volume
-        (λ k e. moved-same (g.S.Shelf.at c.take_parcel.new.shelf k) (logical_parcels (layout_of c.args.layout.now) (trees.Logical c.args.volume) c.gather_logical-logical.result k) (g.S.Shelf.at c.gather_logical-logical.new.shelf k) (logical-none (layout_of c.args.layout.now) k c.args.volume c.gather_logical-logical.result e) (c.gather_logical-logical.ensures.moved k))
-        (vbn-after (layout_of c.args.layout.now) (HasParcel (layout_of c.args.layout.now)) (has_kept (layout_of c.args.layout.now)) (g.S.Shelf.at c.args.shelf.now) (g.S.Shelf.at c.take_parcel.new.shelf) c.args.volume
-            (λ k e. moved-same (g.S.Shelf.at c.args.shelf.now k) (alone (number_of (layout_of c.args.layout.now) (trees.Volume c.args.volume)) (parcels.Volume c.in-Volume.own) k) (g.S.Shelf.at c.take_parcel.new.shelf k) (alone-none (number_of (layout_of c.args.layout.now) (trees.Volume c.args.volume)) (parcels.Volume c.in-Volume.own) k e) (c.in-Volume.ensures.moved k))
-            c.requires.there.vbn)
+pub gather_vbn-vbn-requires : goal.gather_vbn-vbn-requires
+gather_vbn-vbn-requires g c =
+    (search rules,
+        (c.requires.volume,
+            vbn-after-logical (layout_of c.args.layout.now) (HasParcel (layout_of c.args.layout.now)) (has_kept (layout_of c.args.layout.now)) (g.S.Shelf.at c.take_parcel.new.shelf) (g.S.Shelf.at c.gather_logical-logical.new.shelf) c.args.volume
+                (λ k e. moved-same (g.S.Shelf.at c.take_parcel.new.shelf k) (logical_parcels (layout_of c.args.layout.now) (trees.Logical c.args.volume) c.gather_logical-logical.result k) (g.S.Shelf.at c.gather_logical-logical.new.shelf k) (logical-none (layout_of c.args.layout.now) k c.args.volume c.gather_logical-logical.result e) (c.gather_logical-logical.ensures.moved k))
+                (vbn-after (layout_of c.args.layout.now) (HasParcel (layout_of c.args.layout.now)) (has_kept (layout_of c.args.layout.now)) (g.S.Shelf.at c.args.shelf.now) (g.S.Shelf.at c.take_parcel.new.shelf) c.args.volume
+                    (λ k e. moved-same (g.S.Shelf.at c.args.shelf.now k) (alone (number_of (layout_of c.args.layout.now) (trees.Volume c.args.volume)) (parcels.Volume c.in-Volume.own) k) (g.S.Shelf.at c.take_parcel.new.shelf k) (alone-none (number_of (layout_of c.args.layout.now) (trees.Volume c.args.volume)) (parcels.Volume c.in-Volume.own) k e) (c.in-Volume.ensures.moved k))
+                    c.requires.there.vbn)))
 
 pub returns-clause-moved : goal.returns-clause-moved
 unfolding volume_parcels
@@ -39,7 +44,7 @@ returns-clause-moved g c =
 
 pub returns-clause-gone : goal.returns-clause-gone
 returns-clause-gone g c =
-    let last = λ (k : ℕ) (e : g.S.Shelf.at c.gather_logical-logical.new.shelf k ≡ None). moved-stays (g.S.Shelf.at c.gather_logical-logical.new.shelf k) (vbn_parcels (layout_of c.args.layout.now) (trees.Vbn c.args.volume) c.gather_vbn-vbn.result k) (g.S.Shelf.at c.gather_vbn-vbn.new.shelf k) e (c.gather_vbn-vbn.ensures.moved k) in
+    let last : (k : ℕ) → g.S.Shelf.at c.gather_logical-logical.new.shelf k ≡ None → g.S.Shelf.at c.gather_vbn-vbn.new.shelf k ≡ None = λ k e. moved-stays (g.S.Shelf.at c.gather_logical-logical.new.shelf k) (vbn_parcels (layout_of c.args.layout.now) (trees.Vbn c.args.volume) c.gather_vbn-vbn.result k) (g.S.Shelf.at c.gather_vbn-vbn.new.shelf k) e (c.gather_vbn-vbn.ensures.moved k) in
     record {
       own = last (number_of (layout_of c.args.layout.now) (trees.Volume c.args.volume)) (moved-stays (g.S.Shelf.at c.take_parcel.new.shelf (number_of (layout_of c.args.layout.now) (trees.Volume c.args.volume))) (logical_parcels (layout_of c.args.layout.now) (trees.Logical c.args.volume) c.gather_logical-logical.result (number_of (layout_of c.args.layout.now) (trees.Volume c.args.volume))) (g.S.Shelf.at c.gather_logical-logical.new.shelf (number_of (layout_of c.args.layout.now) (trees.Volume c.args.volume))) (gone-alone (g.S.Shelf.at c.args.shelf.now) (g.S.Shelf.at c.take_parcel.new.shelf) (number_of (layout_of c.args.layout.now) (trees.Volume c.args.volume)) (parcels.Volume c.in-Volume.own) c.in-Volume.ensures.moved) (c.gather_logical-logical.ensures.moved (number_of (layout_of c.args.layout.now) (trees.Volume c.args.volume))));
       logical = logical-stays (layout_of c.args.layout.now) (g.S.Shelf.at c.gather_logical-logical.new.shelf) (g.S.Shelf.at c.gather_vbn-vbn.new.shelf) last c.args.volume c.gather_logical-logical.ensures.gone;
