@@ -1,9 +1,9 @@
 -- Takings and givings, one after another.
 use Rattle.std.proofs.Common.{◌≡◌, ◌≢◌, ℕ, zero, suc, ◌+◌, ◌<◌, ◌≤◌, Bool, true, false, List, Option, Some, None, refl, sym, ◌∙◌, ap, subst, arith, slice_get, ◌⊎◌, inl, inr, ⊎_elim}
 use Rattle.std.proofs.lemmas.Bool.{cases_eq}
-use Rattle.parcels.specs.Places.{alone, or_else, in_places}
+use Rattle.parcels.specs.Places.{alone, or_else, in_place, in_places}
 use Rattle.parcels.specs.Moved.{Moved}
-use Rattle.parcels.proofs.PlaceLemmas.{alone-there, alone-none, in_places-put, in_places-next, in_places-empty, in_places-unused}
+use Rattle.parcels.proofs.PlaceLemmas.{alone-there, alone-none, in_places-put, in_places-next, in_places-empty, in_places-unused, in_places-step}
 
 module _ {T : Type 0} where
   pub moved-same : (a s b : Option T) → s ≡ None → Moved a s b → b ≡ a
@@ -95,3 +95,14 @@ module _ {T : Type 0} (f g h : ℕ → Option T) (s t : ℕ → Option T) where
   -- a giving, and one after it
   pub put-both : ((k : ℕ) → Moved (g k) (s k) (f k)) → ((k : ℕ) → Moved (h k) (t k) (g k)) → (k : ℕ) → Moved (h k) (or_else (s k) (t k)) (f k)
   put-both m n k = given-both (f k) (s k) (g k) (t k) (h k) (m k) (n k)
+
+module _ {T H : Type 0} (u : ℕ → Bool) (p : ℕ → H → ℕ → Option T) where
+  -- what is in a place more was given back
+  pub scattered-step : (xs : List (Option H)) (i : ℕ) (place : Option H) (f g h : ℕ → Option T)
+      → u i ≡ true → slice_get xs i ≡ Some place
+      → ((k : ℕ) → Moved (g k) (in_places u (λ j held. p j held k) xs i) (f k))
+      → ((k : ℕ) → Moved (h k) (in_place (λ held. p i held k) (Some place)) (g k))
+      → (k : ℕ) → Moved (h k) (in_places u (λ j held. p j held k) xs (i + 1)) (f k)
+  scattered-step xs i place f g h used there before step k =
+      subst (λ o. Moved (h k) o (f k)) (sym (in_places-step u (λ j held. p j held k) xs i place used there))
+      (given-both (f k) (in_places u (λ j held. p j held k) xs i) (g k) (in_place (λ held. p i held k) (Some place)) (h k) (before k) (step k))

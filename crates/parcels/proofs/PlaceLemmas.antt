@@ -20,7 +20,7 @@ or_else-last : {T : Type 0} (a b : Option T) → b ≡ None → or_else a b ≡ 
 or_else-last None b e = e
 or_else-last (Some x) b e = refl
 
-place-none : {H T : Type 0} (f : H → Option T) (o : Option (Option H)) → ((held : H) → f held ≡ None) → in_place f o ≡ None
+pub place-none : {H T : Type 0} (f : H → Option T) (o : Option (Option H)) → ((held : H) → f held ≡ None) → in_place f o ≡ None
 place-none f None h = refl
 place-none f (Some None) h = refl
 place-none f (Some (Some x)) h = h x
@@ -75,3 +75,11 @@ module _ {H T : Type 0} (u : ℕ → Bool) (f : ℕ → H → Option T) where
   in_places-put xs ys i held used e others =
       in_places-next ys i held used e
       ∙ ap (λ o. or_else o (f i held)) (in_places-same xs ys i (λ j l. others j (λ (same : j ≡ i). let no : ⊥ = omega arith in no)))
+
+  -- one place more, whatever is in it
+  pub in_places-step : (xs : List (Option H)) (i : ℕ) (place : Option H) → u i ≡ true → slice_get xs i ≡ Some place → in_places u f xs (i + 1) ≡ or_else (in_places u f xs i) (in_place (f i) (Some place))
+  unfolding in_places
+  in_places-step xs i place used e =
+      ap (in_places u f xs) (add-one i)
+      ∙ ap (λ o. or_else (in_places u f xs i) (if u i then in_place (f i) o else None)) e
+      ∙ ap (λ b. or_else (in_places u f xs i) (if b then in_place (f i) (Some place) else None)) used

@@ -17,9 +17,9 @@ fewer W Z i n over before j low high = over j (λ e. omega arith) high (before j
 pub more : (W Z : ℕ → Type 0) (i : ℕ) → ((j : ℕ) → W j → Z j) → ((j : ℕ) → j < i → W j) → Z i → (j : ℕ) → j < i + 1 → Z j
 more W Z i over before here j below =
     ⊎_elim
-        (λ (e : j ≡ i). subst Z (sym e) here)
-        (λ (n : j ≡ i → ⊥). over j (before j (omega arith)))
-        (cases_eq j i)
+    (λ (e : j ≡ i). subst Z (sym e) here)
+    (λ (n : j ≡ i → ⊥). over j (before j (omega arith)))
+    (cases_eq j i)
 
 -- ---- numbers of other parts
 
@@ -28,7 +28,7 @@ module _ (layout : Layout) (k : ℕ) where
   pub aggregate-outside : (a c : ℕ) → c < length layout.spare → c ≢ a → k ≡ 2 + c → OnAggregate layout (λ b. k ≢ number_of layout b) a
   aggregate-outside a c there n e = record {
     own = λ same. n (omega arith);
-    volumes = λ v l on. volume-outside layout v k (inl (omega arith))
+    volumes = λ v l on. volume-outside layout v k (inl (omega arith));
   }
 
   -- nor is a number of a volume that is on another
@@ -36,7 +36,7 @@ module _ (layout : Layout) (k : ℕ) where
       → OnAggregate layout (λ b. k ≢ number_of layout b) a
   volume-outside-aggregate a c w there l on n low high = record {
     own = λ same. omega arith;
-    volumes = λ v m of_a. volume-outside layout v k (volumes-apart layout v w k m l (λ same. n (sym on ∙ ap (aggregate_of layout) (sym same) ∙ of_a)) low high)
+    volumes = λ v m of_a. volume-outside layout v k (volumes-apart layout v w k m l (λ same. n (sym on ∙ ap (aggregate_of layout) (sym same) ∙ of_a)) low high);
   }
 
 -- ---- a fact of nodes by what is at their numbers goes over to a shelf that is the same there
@@ -75,13 +75,13 @@ module _ {T : Type 0} (layout : Layout) (K : (ℕ → Option T) → Affinity →
   pub aggregate-after : (a c : ℕ) → a < length layout.spare → c < length layout.spare → c ≢ a → ((k : ℕ) → OnAggregate layout (λ b. k ≢ number_of layout b) a → g k ≡ f k) → OnAggregate layout (K f) c → OnAggregate layout (K g) c
   aggregate-after a c l m n same on = record {
     own = over f g (Aggregate c) (same (2 + c) (aggregate-outside layout (2 + c) a c m n refl)) on.own;
-    volumes = λ w there of_c. volume-over layout (K f) (K g) w (λ b low high. over f g b (same (number_of layout b) (volume-outside-aggregate layout (number_of layout b) a c w l there of_c n low high))) (on.volumes w there of_c)
+    volumes = λ w there of_c. volume-over layout (K f) (K g) w (λ b low high. over f g b (same (number_of layout b) (volume-outside-aggregate layout (number_of layout b) a c w l there of_c n low high))) (on.volumes w there of_c);
   }
 
   pub aggregates-after : (a : ℕ) → ((k : ℕ) → k ≢ 1 → g k ≡ f k) → OnAggregate layout (K f) a → OnAggregate layout (K g) a
   aggregates-after a same on = record {
     own = over f g (Aggregate a) (same (2 + a) (λ e. omega arith)) on.own;
-    volumes = λ w there of_a. volume-over layout (K f) (K g) w (λ b low high. over f g b (same (number_of layout b) (λ e. omega arith))) (on.volumes w there of_a)
+    volumes = λ w there of_a. volume-over layout (K f) (K g) w (λ b low high. over f g b (same (number_of layout b) (λ e. omega arith))) (on.volumes w there of_a);
   }
 
 -- ---- what is gone stays gone
@@ -96,7 +96,7 @@ module _ {T : Type 0} (layout : Layout) (f g : ℕ → Option T) (stays : (k : �
   pub aggregate-stays : (a : ℕ) → OnAggregate layout (IsVacant layout f) a → OnAggregate layout (IsVacant layout g) a
   aggregate-stays a on = record {
     own = stays (2 + a) on.own;
-    volumes = λ w there of_a. volume-stays w (on.volumes w there of_a)
+    volumes = λ w there of_a. volume-stays w (on.volumes w there of_a);
   }
 
 pub vacant_kept : {T : Type 0} (layout : Layout) (f g : ℕ → Option T) (b : Affinity) → g (number_of layout b) ≡ f (number_of layout b) → IsVacant layout f b → IsVacant layout g b

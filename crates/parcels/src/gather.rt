@@ -14,8 +14,8 @@ ghost use Rattle.parcels.specs.Places.{alone, in_places};
 ghost use Rattle.parcels.specs.Sets.{range_parcels, vbn_parcels, stripe_parcels, logical_parcels, volume_parcels, aggregate_parcels, serial_parcels};
 
 use crate::family::{Family, Parcel};
-use crate::places::{Places, eight_places, sixteen_places, two_places};
-use crate::sets::{AggrHeld, LogicalHeld, RangeHeld, SerialHeld, StripeHeld, VbnHeld, VolumeHeld};
+use crate::places::{Places, sixteen_places};
+use crate::sets::{LogicalHeld, RangeHeld, StripeHeld, VbnHeld, VolumeHeld};
 use crate::shelf::Shelf;
 use affinity::{Affinity, Layout};
 
@@ -173,79 +173,4 @@ pub(crate) fn gather_volume<P: Family, S: Shelf<Parcel<P>>>(
     let logical = gather_logical(shelf, layout, volume);
     let vbn = gather_vbn(shelf, layout, volume);
     VolumeHeld { own, logical, vbn }
-}
-
-/// Takes the parcels of the volumes of an aggregate.
-pub(crate) fn gather_volumes<P: Family, S: Shelf<Parcel<P>>>(
-    shelf: &mut S,
-    layout: &Layout,
-    aggregate: u32,
-) -> Places<VolumeHeld<P>, 8>
-    requires { (v : ℕ) → v < length (layout_of layout.now).volumes → aggregate_of (layout_of layout.now) v ≡ aggregate → OnVolume (layout_of layout.now) (HasParcel (layout_of layout.now) (S.at shelf.old)) v }
-    ensures moved { (k : ℕ) → Moved (S.at shelf.old k) (in_places (λ v. aggregate_of (layout_of layout.now) v == aggregate) (λ v held. volume_parcels (layout_of layout.now) (trees.Volume v) held k) result.at (length (layout_of layout.now).volumes)) (S.at shelf.new k) }
-    ensures gone { (v : ℕ) → v < length (layout_of layout.now).volumes → aggregate_of (layout_of layout.now) v ≡ aggregate → OnVolume (layout_of layout.now) (IsVacant (layout_of layout.now) (S.at shelf.new)) v }
-    ensures kept { S.keeps shelf.old shelf.new }
-{
-    let mut volumes = eight_places();
-    for volume in 0..layout.volume_count() {
-        if layout.aggregate_of(volume as u32) == aggregate {
-            let held = gather_volume(shelf, layout, volume as u32);
-            volumes.put(volume, held);
-        }
-    }
-    volumes
-}
-
-/// Takes the parcels of an aggregate.
-pub(crate) fn gather_aggregate<P: Family, S: Shelf<Parcel<P>>>(
-    shelf: &mut S,
-    layout: &Layout,
-    aggregate: u32,
-) -> AggrHeld<P>
-    requires aggregate { aggregate < length (layout_of layout.now).spare }
-    requires there { OnAggregate (layout_of layout.now) (HasParcel (layout_of layout.now) (S.at shelf.old)) aggregate }
-    ensures moved { (k : ℕ) → Moved (S.at shelf.old k) (aggregate_parcels (layout_of layout.now) (trees.Aggregate aggregate) result k) (S.at shelf.new k) }
-    ensures gone { OnAggregate (layout_of layout.now) (IsVacant (layout_of layout.now) (S.at shelf.new)) aggregate }
-    ensures kept { S.keeps shelf.old shelf.new }
-{
-    let Parcel::Aggregate(own) = take_parcel(shelf, layout, Affinity::Aggregate(aggregate)) else {
-        unreachable!()
-    };
-    let volumes = gather_volumes(shelf, layout, aggregate);
-    AggrHeld { own, volumes }
-}
-
-/// Takes the parcels of all aggregates.
-pub(crate) fn gather_aggregates<P: Family, S: Shelf<Parcel<P>>>(
-    shelf: &mut S,
-    layout: &Layout,
-) -> Places<AggrHeld<P>, 2>
-    requires { (a : ℕ) → a < length (layout_of layout.now).spare → OnAggregate (layout_of layout.now) (HasParcel (layout_of layout.now) (S.at shelf.old)) a }
-    ensures moved { (k : ℕ) → Moved (S.at shelf.old k) (in_places (λ a. true) (λ a held. aggregate_parcels (layout_of layout.now) (trees.Aggregate a) held k) result.at (length (layout_of layout.now).spare)) (S.at shelf.new k) }
-    ensures gone { (a : ℕ) → a < length (layout_of layout.now).spare → OnAggregate (layout_of layout.now) (IsVacant (layout_of layout.now) (S.at shelf.new)) a }
-    ensures kept { S.keeps shelf.old shelf.new }
-{
-    let mut aggregates = two_places();
-    for aggregate in 0..layout.aggregate_count() {
-        let held = gather_aggregate(shelf, layout, aggregate as u32);
-        aggregates.put(aggregate, held);
-    }
-    aggregates
-}
-
-/// Takes all parcels.
-pub(crate) fn gather_serial<P: Family, S: Shelf<Parcel<P>>>(
-    shelf: &mut S,
-    layout: &Layout,
-) -> SerialHeld<P>
-    requires { OnSerial (layout_of layout.now) (HasParcel (layout_of layout.now) (S.at shelf.old)) }
-    ensures moved { (k : ℕ) → Moved (S.at shelf.old k) (serial_parcels (layout_of layout.now) trees.Serial result k) (S.at shelf.new k) }
-    ensures gone { OnSerial (layout_of layout.now) (IsVacant (layout_of layout.now) (S.at shelf.new)) }
-    ensures kept { S.keeps shelf.old shelf.new }
-{
-    let Parcel::Serial(own) = take_parcel(shelf, layout, Affinity::Serial) else {
-        unreachable!()
-    };
-    let aggregates = gather_aggregates(shelf, layout);
-    SerialHeld { own, aggregates }
 }

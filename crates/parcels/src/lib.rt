@@ -6,7 +6,7 @@ mod family;
 mod gather;
 mod hand;
 mod places;
-// mod scatter;
+mod scatter;
 mod sets;
 mod shelf;
 

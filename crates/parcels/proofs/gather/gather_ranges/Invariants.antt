@@ -14,5 +14,5 @@ invariant-loop-range g l = record {
   moved : (k : ℕ) → Moved (g.S.Shelf.at l.initial.shelf k) (in_places (λ r. true) (λ r held. range_parcels (layout_of l.layout) (trees.Range l.volume r) held k) l.ranges.at l.range) (g.S.Shelf.at l.shelf k);
   there : (r : ℕ) → l.range ≤ r → r < 16 → HasParcel (layout_of l.layout) (g.S.Shelf.at l.shelf) (trees.Range l.volume r);
   gone : (r : ℕ) → r < l.range → IsVacant (layout_of l.layout) (g.S.Shelf.at l.shelf) (trees.Range l.volume r);
-  kept : g.S.Shelf.keeps l.initial.shelf l.shelf
+  kept : g.S.Shelf.keeps l.initial.shelf l.shelf;
 }

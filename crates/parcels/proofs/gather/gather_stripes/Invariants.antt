@@ -14,5 +14,5 @@ invariant-loop-stripe g l = record {
   moved : (k : ℕ) → Moved (g.S.Shelf.at l.initial.shelf k) (in_places (λ i. true) (λ i held. stripe_parcels (layout_of l.layout) (trees.Stripe l.volume i) held k) l.stripes.at l.stripe) (g.S.Shelf.at l.shelf k);
   there : (i : ℕ) → l.stripe ≤ i → i < stripes_of (layout_of l.layout) l.volume → HasParcel (layout_of l.layout) (g.S.Shelf.at l.shelf) (trees.Stripe l.volume i);
   gone : (i : ℕ) → i < l.stripe → IsVacant (layout_of l.layout) (g.S.Shelf.at l.shelf) (trees.Stripe l.volume i);
-  kept : g.S.Shelf.keeps l.initial.shelf l.shelf
+  kept : g.S.Shelf.keeps l.initial.shelf l.shelf;
 }

@@ -18,22 +18,25 @@ use Rattle.parcels.proofs.Steps.{fewer, more, stripes-after, ranges-after, strip
 use Rattle.parcels.proofs.gather.gather_vbn.Goals as goal
 
 pub gather_ranges-ranges-requires : goal.gather_ranges-ranges-requires
-gather_ranges-ranges-requires g c =
-    (search rules,
-        (c.requires.volume,
-            ranges-after (layout_of c.args.layout.now) (HasParcel (layout_of c.args.layout.now)) (has_kept (layout_of c.args.layout.now)) (g.S.Shelf.at c.args.shelf.now) (g.S.Shelf.at c.take_parcel.new.shelf) c.args.volume
-                (λ k e. moved-same (g.S.Shelf.at c.args.shelf.now k) (alone (number_of (layout_of c.args.layout.now) (trees.Vbn c.args.volume)) (parcels.Vbn c.in-Vbn.own) k) (g.S.Shelf.at c.take_parcel.new.shelf k) (alone-none (number_of (layout_of c.args.layout.now) (trees.Vbn c.args.volume)) (parcels.Vbn c.in-Vbn.own) k e) (c.in-Vbn.ensures.moved k))
-                c.requires.there.ranges))
+gather_ranges-ranges-requires g c = (
+  search rules,
+  (
+    c.requires.volume,
+    ranges-after (layout_of c.args.layout.now) (HasParcel (layout_of c.args.layout.now)) (has_kept (layout_of c.args.layout.now)) (g.S.Shelf.at c.args.shelf.now) (g.S.Shelf.at c.take_parcel.new.shelf) c.args.volume
+        (λ k e. moved-same (g.S.Shelf.at c.args.shelf.now k) (alone (number_of (layout_of c.args.layout.now) (trees.Vbn c.args.volume)) (parcels.Vbn c.in-Vbn.own) k) (g.S.Shelf.at c.take_parcel.new.shelf k) (alone-none (number_of (layout_of c.args.layout.now) (trees.Vbn c.args.volume)) (parcels.Vbn c.in-Vbn.own) k e) (c.in-Vbn.ensures.moved k))
+        c.requires.there.ranges,
+  ),
+)
 
 pub returns-clause-moved : goal.returns-clause-moved
 unfolding vbn_parcels
 returns-clause-moved g c =
     taken-both (g.S.Shelf.at c.args.shelf.now) (g.S.Shelf.at c.take_parcel.new.shelf) (g.S.Shelf.at c.gather_ranges-ranges.new.shelf) (alone (number_of (layout_of c.args.layout.now) (trees.Vbn c.args.volume)) (parcels.Vbn c.in-Vbn.own))
-        (λ k. in_places (λ r. true) (λ r held. range_parcels (layout_of c.args.layout.now) (trees.Range c.args.volume r) held k) c.gather_ranges-ranges.result.at 16)
-        c.in-Vbn.ensures.moved c.gather_ranges-ranges.ensures.moved
+    (λ k. in_places (λ r. true) (λ r held. range_parcels (layout_of c.args.layout.now) (trees.Range c.args.volume r) held k) c.gather_ranges-ranges.result.at 16)
+    c.in-Vbn.ensures.moved c.gather_ranges-ranges.ensures.moved
 
 pub returns-clause-gone : goal.returns-clause-gone
 returns-clause-gone g c = record {
   own = moved-stays (g.S.Shelf.at c.take_parcel.new.shelf (number_of (layout_of c.args.layout.now) (trees.Vbn c.args.volume))) (in_places (λ r. true) (λ r held. range_parcels (layout_of c.args.layout.now) (trees.Range c.args.volume r) held (number_of (layout_of c.args.layout.now) (trees.Vbn c.args.volume))) c.gather_ranges-ranges.result.at 16) (g.S.Shelf.at c.gather_ranges-ranges.new.shelf (number_of (layout_of c.args.layout.now) (trees.Vbn c.args.volume))) (gone-alone (g.S.Shelf.at c.args.shelf.now) (g.S.Shelf.at c.take_parcel.new.shelf) (number_of (layout_of c.args.layout.now) (trees.Vbn c.args.volume)) (parcels.Vbn c.in-Vbn.own) c.in-Vbn.ensures.moved) (c.gather_ranges-ranges.ensures.moved (number_of (layout_of c.args.layout.now) (trees.Vbn c.args.volume)));
-  ranges = c.gather_ranges-ranges.ensures.gone
+  ranges = c.gather_ranges-ranges.ensures.gone;
 }
