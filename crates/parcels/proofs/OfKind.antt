@@ -1,10 +1,10 @@
 -- Parcels by their kinds.
-use Rattle.std.proofs.Common.{◌≡◌, ℕ, Option, Some, None, refl, sym, ◌∙◌, ap, subst}
+use Rattle.std.proofs.Common.{◌≡◌, ℕ, Option, Some, refl, sym, ◌∙◌, ap}
 use Rattle.nfs_model.specs.Tree.{Layout, Affinity}
 use Rattle.affinity.specs.declared.affinity.Kind.TheVariants as kinds
 use Rattle.affinity.specs.Affinity.{kind_of}
 use Rattle.affinity.specs.Numbers.{number_of}
-use Rattle.parcels.specs.Exact.{kind_in, HasParcel, IsVacant}
+use Rattle.parcels.specs.Exact.{kind_in, HasParcel}
 use Rattle.parcels.specs.declared.family.Parcel.{Parcel}
 use Rattle.parcels.specs.declared.family.Parcel.TheVariants.{Range, Vbn, Stripe, Logical, Volume, Aggregate, Serial}
 

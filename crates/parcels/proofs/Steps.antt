@@ -1,11 +1,11 @@
 -- What a step of a taking or of a giving leaves at other nodes.
-use Rattle.std.proofs.Common.{◌≡◌, ◌≢◌, ℕ, zero, suc, ◌+◌, ◌<◌, ◌≤◌, Bool, true, false, ◌==◌, List, Option, Some, None, length, refl, sym, ◌∙◌, ap, subst, arith, ◌⊎◌, inl, inr, ⊎_elim}
+use Rattle.std.proofs.Common.{◌≡◌, ◌≢◌, ℕ, ◌+◌, ◌<◌, ◌≤◌, Option, None, length, refl, sym, ◌∙◌, ap, subst, arith, inl, inr, ⊎_elim}
 use Rattle.std.proofs.lemmas.Bool.{cases_eq}
-use Rattle.nfs_model.specs.Tree.{Layout, Affinity, Serial, Aggregate, Volume, Logical, Stripe, Vbn, Range, stripes_of, aggregate_of}
-use Rattle.affinity.specs.Numbers.{number_of, volume_number, nodes_before}
-use Rattle.parcels.specs.Below.{OnLogical, OnVbn, OnVolume, OnAggregate, OnSerial}
+use Rattle.nfs_model.specs.Tree.{Layout, Affinity, Aggregate, Volume, Logical, Stripe, Vbn, Range, stripes_of, aggregate_of}
+use Rattle.affinity.specs.Numbers.{number_of, volume_number}
+use Rattle.parcels.specs.Below.{OnLogical, OnVbn, OnVolume, OnAggregate}
 use Rattle.parcels.specs.Exact.{IsVacant}
-use Rattle.parcels.proofs.Parts.{logical-over, vbn-over, volume-over, logical-outside, vbn-outside, volume-outside, volumes-apart}
+use Rattle.parcels.proofs.Parts.{logical-over, vbn-over, volume-over, logical-outside, volume-outside, volumes-apart}
 
 -- ---- loops
 

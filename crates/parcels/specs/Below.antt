@@ -1,7 +1,6 @@
 -- A fact of each node of a part of the tree, told by the parts of that part.
-use Rattle.std.specs.Prelude.{◌≡◌, ℕ, ◌<◌, Option, None, length}
+use Rattle.std.specs.Prelude.{◌≡◌, ℕ, ◌<◌, length}
 use Rattle.nfs_model.specs.Tree.{Layout, Affinity, Serial, Aggregate, Volume, Logical, Stripe, Vbn, Range, stripes_of, aggregate_of}
-use Rattle.affinity.specs.Numbers.{number_of}
 
 module _ (layout : Layout) (Q : Affinity → Type 0) where
   pub record OnLogical (v : ℕ) : Type 0 where

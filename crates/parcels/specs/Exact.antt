@@ -1,6 +1,5 @@
 -- The parcels of a part of the tree.
 use Rattle.std.specs.Prelude.{◌≡◌, ◌≢◌, ℕ, Option, Some, None}
-use Rattle.nfs_model.specs.Tree as trees
 use Rattle.nfs_model.specs.Tree.{Layout, Affinity}
 use Rattle.affinity.specs.declared.affinity.Kind.{Kind}
 use Rattle.affinity.specs.declared.affinity.Kind.TheVariants as kinds

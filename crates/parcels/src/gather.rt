@@ -38,7 +38,7 @@ fn take_parcel<P: Family, S: Shelf<Parcel<P>>>(
 }
 
 /// Takes the parcel of a range.
-pub(crate) fn gather_range<P: Family, S: Shelf<Parcel<P>>>(
+pub fn gather_range<P: Family, S: Shelf<Parcel<P>>>(
     shelf: &mut S,
     layout: &Layout,
     volume: u32,
@@ -58,7 +58,7 @@ pub(crate) fn gather_range<P: Family, S: Shelf<Parcel<P>>>(
 }
 
 /// Takes the parcel of a stripe.
-pub(crate) fn gather_stripe<P: Family, S: Shelf<Parcel<P>>>(
+pub fn gather_stripe<P: Family, S: Shelf<Parcel<P>>>(
     shelf: &mut S,
     layout: &Layout,
     volume: u32,
@@ -78,7 +78,7 @@ pub(crate) fn gather_stripe<P: Family, S: Shelf<Parcel<P>>>(
 }
 
 /// Takes the parcels of the ranges of a volume.
-pub(crate) fn gather_ranges<P: Family, S: Shelf<Parcel<P>>>(
+fn gather_ranges<P: Family, S: Shelf<Parcel<P>>>(
     shelf: &mut S,
     layout: &Layout,
     volume: u32,
@@ -98,7 +98,7 @@ pub(crate) fn gather_ranges<P: Family, S: Shelf<Parcel<P>>>(
 }
 
 /// Takes the parcels of the stripes of a volume.
-pub(crate) fn gather_stripes<P: Family, S: Shelf<Parcel<P>>>(
+fn gather_stripes<P: Family, S: Shelf<Parcel<P>>>(
     shelf: &mut S,
     layout: &Layout,
     volume: u32,
@@ -118,7 +118,7 @@ pub(crate) fn gather_stripes<P: Family, S: Shelf<Parcel<P>>>(
 }
 
 /// Takes the parcels of a volume's block numbers.
-pub(crate) fn gather_vbn<P: Family, S: Shelf<Parcel<P>>>(
+pub fn gather_vbn<P: Family, S: Shelf<Parcel<P>>>(
     shelf: &mut S,
     layout: &Layout,
     volume: u32,
@@ -137,7 +137,7 @@ pub(crate) fn gather_vbn<P: Family, S: Shelf<Parcel<P>>>(
 }
 
 /// Takes the parcels of a volume's names and of its stripes.
-pub(crate) fn gather_logical<P: Family, S: Shelf<Parcel<P>>>(
+pub fn gather_logical<P: Family, S: Shelf<Parcel<P>>>(
     shelf: &mut S,
     layout: &Layout,
     volume: u32,
@@ -156,7 +156,7 @@ pub(crate) fn gather_logical<P: Family, S: Shelf<Parcel<P>>>(
 }
 
 /// Takes the parcels of a volume.
-pub(crate) fn gather_volume<P: Family, S: Shelf<Parcel<P>>>(
+pub fn gather_volume<P: Family, S: Shelf<Parcel<P>>>(
     shelf: &mut S,
     layout: &Layout,
     volume: u32,

@@ -5,13 +5,17 @@
 mod family;
 mod gather;
 mod hand;
+mod numbers;
 mod places;
 mod scatter;
 mod sets;
 mod shelf;
 
 pub use family::{Family, Parcel};
+pub use gather::{gather_logical, gather_range, gather_stripe, gather_vbn, gather_volume};
 pub use hand::Hand;
-pub use places::Places;
+pub use numbers::Numbers;
+pub use places::{Places, eight_places, sixteen_places, two_places};
+pub use scatter::{scatter_logical, scatter_range, scatter_stripe, scatter_vbn, scatter_volume};
 pub use sets::{AggrHeld, LogicalHeld, RangeHeld, SerialHeld, StripeHeld, VbnHeld, VolumeHeld};
 pub use shelf::Shelf;

@@ -38,7 +38,7 @@ fn put_parcel<P: Family, S: Shelf<Parcel<P>>>(
 }
 
 /// Gives back the parcel of a range.
-pub(crate) fn scatter_range<P: Family, S: Shelf<Parcel<P>>>(
+pub fn scatter_range<P: Family, S: Shelf<Parcel<P>>>(
     shelf: &mut S,
     layout: &Layout,
     volume: u32,
@@ -60,7 +60,7 @@ pub(crate) fn scatter_range<P: Family, S: Shelf<Parcel<P>>>(
 }
 
 /// Gives back the parcel of a stripe.
-pub(crate) fn scatter_stripe<P: Family, S: Shelf<Parcel<P>>>(
+pub fn scatter_stripe<P: Family, S: Shelf<Parcel<P>>>(
     shelf: &mut S,
     layout: &Layout,
     volume: u32,
@@ -101,7 +101,7 @@ fn scatter_range_place<P: Family, S: Shelf<Parcel<P>>>(
 }
 
 /// Gives back the parcels of the ranges of a volume.
-pub(crate) fn scatter_ranges<P: Family, S: Shelf<Parcel<P>>>(
+fn scatter_ranges<P: Family, S: Shelf<Parcel<P>>>(
     shelf: &mut S,
     layout: &Layout,
     volume: u32,
@@ -138,7 +138,7 @@ fn scatter_stripe_place<P: Family, S: Shelf<Parcel<P>>>(
 }
 
 /// Gives back the parcels of the stripes of a volume.
-pub(crate) fn scatter_stripes<P: Family, S: Shelf<Parcel<P>>>(
+fn scatter_stripes<P: Family, S: Shelf<Parcel<P>>>(
     shelf: &mut S,
     layout: &Layout,
     volume: u32,
@@ -156,7 +156,7 @@ pub(crate) fn scatter_stripes<P: Family, S: Shelf<Parcel<P>>>(
 }
 
 /// Gives back the parcels of a volume's block numbers.
-pub(crate) fn scatter_vbn<P: Family, S: Shelf<Parcel<P>>>(
+pub fn scatter_vbn<P: Family, S: Shelf<Parcel<P>>>(
     shelf: &mut S,
     layout: &Layout,
     volume: u32,
@@ -173,7 +173,7 @@ pub(crate) fn scatter_vbn<P: Family, S: Shelf<Parcel<P>>>(
 }
 
 /// Gives back the parcels of a volume's names and of its stripes.
-pub(crate) fn scatter_logical<P: Family, S: Shelf<Parcel<P>>>(
+pub fn scatter_logical<P: Family, S: Shelf<Parcel<P>>>(
     shelf: &mut S,
     layout: &Layout,
     volume: u32,
@@ -195,7 +195,7 @@ pub(crate) fn scatter_logical<P: Family, S: Shelf<Parcel<P>>>(
 }
 
 /// Gives back the parcels of a volume.
-pub(crate) fn scatter_volume<P: Family, S: Shelf<Parcel<P>>>(
+pub fn scatter_volume<P: Family, S: Shelf<Parcel<P>>>(
     shelf: &mut S,
     layout: &Layout,
     volume: u32,

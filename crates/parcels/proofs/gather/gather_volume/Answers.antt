@@ -1,20 +1,17 @@
-use Rattle.std.proofs.Common.{rules, ◌≡◌, ◌≢◌, ◌==◌, ◌∙◌, ℕ, ◌+◌, ◌<◌, ◌≤◌, true, false, None, Option, length, refl, sym, ap, arith}
-use Rattle.std.proofs.lemmas.Bool.{eq-eqb, ne_eqb}
+use Rattle.std.proofs.Common.{rules, ◌≡◌, ℕ, None}
 use Rattle.nfs_model.specs.Tree as trees
 use Rattle.nfs_model.specs.Tree.{stripes_of, aggregate_of}
 use Rattle.affinity.specs.Layout.{layout_of}
 use Rattle.affinity.specs.Numbers.{number_of}
-use Rattle.parcels.specs.Below.{OnLogical, OnVbn, OnVolume, OnAggregate, OnSerial}
-use Rattle.parcels.specs.Exact.{HasParcel, IsVacant}
-use Rattle.parcels.specs.Moved.{Moved}
-use Rattle.parcels.specs.Places.{alone, or_else, in_places}
-use Rattle.parcels.specs.Sets.{range_parcels, vbn_parcels, stripe_parcels, logical_parcels, volume_parcels, aggregate_parcels, serial_parcels}
+use Rattle.parcels.specs.Exact.{HasParcel}
+use Rattle.parcels.specs.Places.{alone, or_else}
+use Rattle.parcels.specs.Sets.{vbn_parcels, logical_parcels, volume_parcels}
 use Rattle.parcels.specs.declared.family.Parcel.TheVariants as parcels
 use Rattle.parcels.proofs.OfKind.{has_kept}
 use Rattle.parcels.proofs.PlaceLemmas.{alone-none}
-use Rattle.parcels.proofs.Moves.{moved-same, moved-stays, gone-alone, taken-both, gathered-next, passed-unused, moved-none}
-use Rattle.parcels.proofs.Parts.{logical-none, vbn-none, volume-none, aggregate-none}
-use Rattle.parcels.proofs.Steps.{fewer, more, stripes-after, ranges-after, stripe-after, range-after, logical-after, vbn-after, vbn-after-logical, volume-after, volumes-after, aggregate-after, aggregates-after, logical-stays, volume-stays, aggregate-stays}
+use Rattle.parcels.proofs.Moves.{moved-same, moved-stays, gone-alone, taken-both}
+use Rattle.parcels.proofs.Parts.{logical-none}
+use Rattle.parcels.proofs.Steps.{logical-after, vbn-after, vbn-after-logical, logical-stays}
 use Rattle.parcels.proofs.gather.gather_volume.Goals as goal
 
 pub gather_logical-logical-requires : goal.gather_logical-logical-requires
