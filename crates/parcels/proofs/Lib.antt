@@ -3,3 +3,4 @@ pub mod Moves
 pub mod OfKind
 pub mod Parts
 pub mod Steps
+pub mod Exactness
