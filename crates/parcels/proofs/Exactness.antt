@@ -26,13 +26,13 @@ module _ (layout : Layout) (Q : Affinity → Type 0) (v : ℕ) (there : v < leng
   pub logical-from : Under layout (Logical v) Q → OnLogical layout Q v
   logical-from under = record {
     own = under (Logical v) (there, inl refl);
-    stripes = λ i l. under (Stripe v i) (goes_on layout (Logical v) (Stripe v i) (i ∷ []) (there, l) refl)
+    stripes = λ i l. under (Stripe v i) (goes_on layout (Logical v) (Stripe v i) (i ∷ []) (there, l) refl);
   }
 
   pub vbn-from : Under layout (Vbn v) Q → OnVbn layout Q v
   vbn-from under = record {
     own = under (Vbn v) (there, inl refl);
-    ranges = λ r l. under (Range v r) (goes_on layout (Vbn v) (Range v r) (r ∷ []) (there, l) refl)
+    ranges = λ r l. under (Range v r) (goes_on layout (Vbn v) (Range v r) (r ∷ []) (there, l) refl);
   }
 
   pub volume-from : Under layout (Volume v) Q → OnVolume layout Q v
@@ -40,12 +40,12 @@ module _ (layout : Layout) (Q : Affinity → Type 0) (v : ℕ) (there : v < leng
     own = under (Volume v) (there, inl refl);
     logical = record {
       own = under (Logical v) (goes_on layout (Volume v) (Logical v) (0 ∷ []) there refl);
-      stripes = λ i l. under (Stripe v i) (goes_on layout (Volume v) (Stripe v i) (0 ∷ i ∷ []) (there, l) refl)
+      stripes = λ i l. under (Stripe v i) (goes_on layout (Volume v) (Stripe v i) (0 ∷ i ∷ []) (there, l) refl);
     };
     vbn = record {
       own = under (Vbn v) (goes_on layout (Volume v) (Vbn v) (1 ∷ []) there refl);
-      ranges = λ r l. under (Range v r) (goes_on layout (Volume v) (Range v r) (1 ∷ r ∷ []) (there, l) refl)
-    }
+      ranges = λ r l. under (Range v r) (goes_on layout (Volume v) (Range v r) (1 ∷ r ∷ []) (there, l) refl);
+    };
   }
 
 -- the second step of a way that begins another
@@ -114,20 +114,20 @@ module _ {P R B S L V A X : Type 0} (layout : Layout) (f s g : ℕ → Option (P
   logical-taken : (v : ℕ) → OnLogical layout (HasParcel layout f) v → OnLogical layout (IsVacant layout g) v → OnLogical layout (HasParcel layout s) v
   logical-taken v has gone = record {
     own = has-taken (Logical v) has.own gone.own;
-    stripes = λ i l. has-taken (Stripe v i) (has.stripes i l) (gone.stripes i l)
+    stripes = λ i l. has-taken (Stripe v i) (has.stripes i l) (gone.stripes i l);
   }
 
   vbn-taken : (v : ℕ) → OnVbn layout (HasParcel layout f) v → OnVbn layout (IsVacant layout g) v → OnVbn layout (HasParcel layout s) v
   vbn-taken v has gone = record {
     own = has-taken (Vbn v) has.own gone.own;
-    ranges = λ r l. has-taken (Range v r) (has.ranges r l) (gone.ranges r l)
+    ranges = λ r l. has-taken (Range v r) (has.ranges r l) (gone.ranges r l);
   }
 
   volume-taken : (v : ℕ) → OnVolume layout (HasParcel layout f) v → OnVolume layout (IsVacant layout g) v → OnVolume layout (HasParcel layout s) v
   volume-taken v has gone = record {
     own = has-taken (Volume v) has.own gone.own;
     logical = logical-taken v has.logical gone.logical;
-    vbn = vbn-taken v has.vbn gone.vbn
+    vbn = vbn-taken v has.vbn gone.vbn;
   }
 
 module _ {P R B S L V A X : Type 0} (layout : Layout) (v : ℕ) (there : v < length layout.volumes) (f g : ℕ → Option (Parcel P R B S L V A X)) where
@@ -135,19 +135,19 @@ module _ {P R B S L V A X : Type 0} (layout : Layout) (v : ℕ) (there : v < len
       → ((k : ℕ) → Moved (f k) (logical_parcels layout (Logical v) held k) (g k)) → HasExactly layout (Logical v) (logical_parcels layout (Logical v) held)
   logical-exact held has gone moved = record {
     each = logical-to layout (HasParcel layout (logical_parcels layout (Logical v) held)) v (logical-taken layout f (logical_parcels layout (Logical v) held) g moved v has gone);
-    no_other = λ k under. logical-none layout k v held (logical-from layout (λ b. k ≢ number_of layout b) v there under)
+    no_other = λ k under. logical-none layout k v held (logical-from layout (λ b. k ≢ number_of layout b) v there under);
   }
 
   pub vbn-exact : (held : VbnHeld P R B S L V A X) → OnVbn layout (HasParcel layout f) v → OnVbn layout (IsVacant layout g) v
       → ((k : ℕ) → Moved (f k) (vbn_parcels layout (Vbn v) held k) (g k)) → HasExactly layout (Vbn v) (vbn_parcels layout (Vbn v) held)
   vbn-exact held has gone moved = record {
     each = vbn-to layout (HasParcel layout (vbn_parcels layout (Vbn v) held)) v (vbn-taken layout f (vbn_parcels layout (Vbn v) held) g moved v has gone);
-    no_other = λ k under. vbn-none layout k v held (vbn-from layout (λ b. k ≢ number_of layout b) v there under)
+    no_other = λ k under. vbn-none layout k v held (vbn-from layout (λ b. k ≢ number_of layout b) v there under);
   }
 
   pub volume-exact : (held : VolumeHeld P R B S L V A X) → OnVolume layout (HasParcel layout f) v → OnVolume layout (IsVacant layout g) v
       → ((k : ℕ) → Moved (f k) (volume_parcels layout (Volume v) held k) (g k)) → HasExactly layout (Volume v) (volume_parcels layout (Volume v) held)
   volume-exact held has gone moved = record {
     each = volume-to layout (HasParcel layout (volume_parcels layout (Volume v) held)) v (volume-taken layout f (volume_parcels layout (Volume v) held) g moved v has gone);
-    no_other = λ k under. volume-none layout k v held (volume-from layout (λ b. k ≢ number_of layout b) v there under)
+    no_other = λ k under. volume-none layout k v held (volume-from layout (λ b. k ≢ number_of layout b) v there under);
   }

@@ -8,7 +8,7 @@ ghost use Rattle.affinity.specs.Numbers.{number_of};
 ghost use Rattle.affinity.specs.Tree.{IsNode};
 ghost use Rattle.affinity.specs.Layout.{layout_of};
 ghost use Rattle.parcels.specs.Below.{OnLogical, OnVbn, OnVolume, OnAggregate, OnSerial};
-ghost use Rattle.parcels.specs.Exact.{HasParcel, IsVacant, kind_in};
+ghost use Rattle.parcels.specs.Exact.{HasExactly, HasParcel, IsVacant, kind_in};
 ghost use Rattle.parcels.specs.Moved.{Moved};
 ghost use Rattle.parcels.specs.Places.{alone, in_places};
 ghost use Rattle.parcels.specs.Sets.{range_parcels, vbn_parcels, stripe_parcels, logical_parcels, volume_parcels, aggregate_parcels, serial_parcels};
@@ -125,6 +125,7 @@ pub fn gather_vbn<P: Family, S: Shelf<Parcel<P>>>(
 ) -> VbnHeld<P>
     requires volume { volume < length (layout_of layout.now).volumes }
     requires there { OnVbn (layout_of layout.now) (HasParcel (layout_of layout.now) (S.at shelf.old)) volume }
+    ensures exact { HasExactly (layout_of layout.now) (trees.Vbn volume) (vbn_parcels (layout_of layout.now) (trees.Vbn volume) result) }
     ensures moved { (k : ℕ) → Moved (S.at shelf.old k) (vbn_parcels (layout_of layout.now) (trees.Vbn volume) result k) (S.at shelf.new k) }
     ensures gone { OnVbn (layout_of layout.now) (IsVacant (layout_of layout.now) (S.at shelf.new)) volume }
     ensures kept { S.keeps shelf.old shelf.new }
@@ -144,6 +145,7 @@ pub fn gather_logical<P: Family, S: Shelf<Parcel<P>>>(
 ) -> LogicalHeld<P>
     requires volume { volume < length (layout_of layout.now).volumes }
     requires there { OnLogical (layout_of layout.now) (HasParcel (layout_of layout.now) (S.at shelf.old)) volume }
+    ensures exact { HasExactly (layout_of layout.now) (trees.Logical volume) (logical_parcels (layout_of layout.now) (trees.Logical volume) result) }
     ensures moved { (k : ℕ) → Moved (S.at shelf.old k) (logical_parcels (layout_of layout.now) (trees.Logical volume) result k) (S.at shelf.new k) }
     ensures gone { OnLogical (layout_of layout.now) (IsVacant (layout_of layout.now) (S.at shelf.new)) volume }
     ensures kept { S.keeps shelf.old shelf.new }
@@ -163,6 +165,7 @@ pub fn gather_volume<P: Family, S: Shelf<Parcel<P>>>(
 ) -> VolumeHeld<P>
     requires volume { volume < length (layout_of layout.now).volumes }
     requires there { OnVolume (layout_of layout.now) (HasParcel (layout_of layout.now) (S.at shelf.old)) volume }
+    ensures exact { HasExactly (layout_of layout.now) (trees.Volume volume) (volume_parcels (layout_of layout.now) (trees.Volume volume) result) }
     ensures moved { (k : ℕ) → Moved (S.at shelf.old k) (volume_parcels (layout_of layout.now) (trees.Volume volume) result k) (S.at shelf.new k) }
     ensures gone { OnVolume (layout_of layout.now) (IsVacant (layout_of layout.now) (S.at shelf.new)) volume }
     ensures kept { S.keeps shelf.old shelf.new }

@@ -10,6 +10,7 @@ use Rattle.parcels.specs.declared.family.Parcel.TheVariants as parcels
 use Rattle.parcels.proofs.OfKind.{has_kept}
 use Rattle.parcels.proofs.PlaceLemmas.{alone-none}
 use Rattle.parcels.proofs.Moves.{moved-same, moved-stays, gone-alone, taken-both}
+use Rattle.parcels.proofs.Exactness.{logical-exact}
 use Rattle.parcels.proofs.Steps.{stripes-after}
 use Rattle.parcels.proofs.gather.gather_logical.Goals as goal
 
@@ -40,3 +41,7 @@ returns-clause-gone g c = record {
       (gone-alone (g.S.Shelf.at c.args.shelf.now) (g.S.Shelf.at c.take_parcel.new.shelf) (number_of (layout_of c.args.layout.now) (trees.Logical c.args.volume)) (parcels.Logical c.in-Logical.own) c.in-Logical.ensures.moved) (c.gather_stripes-stripes.ensures.moved (number_of (layout_of c.args.layout.now) (trees.Logical c.args.volume)));
   stripes = c.gather_stripes-stripes.ensures.gone;
 }
+
+pub returns-clause-exact : goal.returns-clause-exact
+returns-clause-exact g c =
+    logical-exact (layout_of c.args.layout.now) c.args.volume c.requires.volume (g.S.Shelf.at c.args.shelf.now) (g.S.Shelf.at c.gather_stripes-stripes.new.shelf) record { own = c.in-Logical.own; stripes = c.gather_stripes-stripes.result } c.requires.there (returns-clause-gone g c) (returns-clause-moved g c)

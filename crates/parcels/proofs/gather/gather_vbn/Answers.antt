@@ -10,6 +10,7 @@ use Rattle.parcels.specs.declared.family.Parcel.TheVariants as parcels
 use Rattle.parcels.proofs.OfKind.{has_kept}
 use Rattle.parcels.proofs.PlaceLemmas.{alone-none}
 use Rattle.parcels.proofs.Moves.{moved-same, moved-stays, gone-alone, taken-both}
+use Rattle.parcels.proofs.Exactness.{vbn-exact}
 use Rattle.parcels.proofs.Steps.{ranges-after}
 use Rattle.parcels.proofs.gather.gather_vbn.Goals as goal
 
@@ -36,3 +37,7 @@ returns-clause-gone g c = record {
   own = moved-stays (g.S.Shelf.at c.take_parcel.new.shelf (number_of (layout_of c.args.layout.now) (trees.Vbn c.args.volume))) (in_places (λ r. true) (λ r held. range_parcels (layout_of c.args.layout.now) (trees.Range c.args.volume r) held (number_of (layout_of c.args.layout.now) (trees.Vbn c.args.volume))) c.gather_ranges-ranges.result.at 16) (g.S.Shelf.at c.gather_ranges-ranges.new.shelf (number_of (layout_of c.args.layout.now) (trees.Vbn c.args.volume))) (gone-alone (g.S.Shelf.at c.args.shelf.now) (g.S.Shelf.at c.take_parcel.new.shelf) (number_of (layout_of c.args.layout.now) (trees.Vbn c.args.volume)) (parcels.Vbn c.in-Vbn.own) c.in-Vbn.ensures.moved) (c.gather_ranges-ranges.ensures.moved (number_of (layout_of c.args.layout.now) (trees.Vbn c.args.volume)));
   ranges = c.gather_ranges-ranges.ensures.gone;
 }
+
+pub returns-clause-exact : goal.returns-clause-exact
+returns-clause-exact g c =
+    vbn-exact (layout_of c.args.layout.now) c.args.volume c.requires.volume (g.S.Shelf.at c.args.shelf.now) (g.S.Shelf.at c.gather_ranges-ranges.new.shelf) record { own = c.in-Vbn.own; ranges = c.gather_ranges-ranges.result } c.requires.there (returns-clause-gone g c) (returns-clause-moved g c)

@@ -11,6 +11,7 @@ use Rattle.parcels.proofs.OfKind.{has_kept}
 use Rattle.parcels.proofs.PlaceLemmas.{alone-none}
 use Rattle.parcels.proofs.Moves.{moved-same, moved-stays, gone-alone, taken-both}
 use Rattle.parcels.proofs.Parts.{logical-none}
+use Rattle.parcels.proofs.Exactness.{volume-exact}
 use Rattle.parcels.proofs.Steps.{logical-after, vbn-after, vbn-after-logical, logical-stays}
 use Rattle.parcels.proofs.gather.gather_volume.Goals as goal
 
@@ -53,3 +54,12 @@ returns-clause-gone g c =
       logical = logical-stays (layout_of c.args.layout.now) (g.S.Shelf.at c.gather_logical-logical.new.shelf) (g.S.Shelf.at c.gather_vbn-vbn.new.shelf) last c.args.volume c.gather_logical-logical.ensures.gone;
       vbn = c.gather_vbn-vbn.ensures.gone;
     }
+
+pub returns-clause-exact : goal.returns-clause-exact
+returns-clause-exact g c =
+    volume-exact (layout_of c.args.layout.now) c.args.volume c.requires.volume (g.S.Shelf.at c.args.shelf.now) (g.S.Shelf.at c.gather_vbn-vbn.new.shelf) record { own = c.in-Volume.own; logical = c.gather_logical-logical.result; vbn = c.gather_vbn-vbn.result } c.requires.there (returns-clause-gone g c) (returns-clause-moved g c)
+
+pub returns-clause-kept : goal.returns-clause-kept
+returns-clause-kept g c =
+    g.met.S.Shelf.keeps_on c.args.shelf.now c.take_parcel.new.shelf c.gather_vbn-vbn.new.shelf c.in-Volume.ensures.kept
+        (g.met.S.Shelf.keeps_on c.take_parcel.new.shelf c.gather_logical-logical.new.shelf c.gather_vbn-vbn.new.shelf c.gather_logical-logical.ensures.kept c.gather_vbn-vbn.ensures.kept)
