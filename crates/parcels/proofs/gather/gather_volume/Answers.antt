@@ -62,4 +62,4 @@ returns-clause-exact g c =
 pub returns-clause-kept : goal.returns-clause-kept
 returns-clause-kept g c =
     g.met.S.Shelf.keeps_on c.args.shelf.now c.take_parcel.new.shelf c.gather_vbn-vbn.new.shelf c.in-Volume.ensures.kept
-        (g.met.S.Shelf.keeps_on c.take_parcel.new.shelf c.gather_logical-logical.new.shelf c.gather_vbn-vbn.new.shelf c.gather_logical-logical.ensures.kept c.gather_vbn-vbn.ensures.kept)
+    (g.met.S.Shelf.keeps_on c.take_parcel.new.shelf c.gather_logical-logical.new.shelf c.gather_vbn-vbn.new.shelf c.gather_logical-logical.ensures.kept c.gather_vbn-vbn.ensures.kept)
