@@ -1,0 +1,15 @@
+use Rattle.nfs_model.specs.Tree as trees
+use Rattle.affinity.specs.Layout.{layout_of}
+use Rattle.affinity.specs.Numbers.{number_of}
+use Rattle.parcels.specs.Sets.{range_parcels}
+use Rattle.parcels.specs.declared.family.Parcel.TheVariants.{Range}
+use Rattle.parcels.proofs.Moves.{gone-alone}
+use Rattle.parcels.proofs.gather.gather_range.Goals as goal
+
+pub returns-clause-moved : goal.returns-clause-moved
+unfolding range_parcels
+returns-clause-moved g c = c.in-Range.ensures.moved
+
+pub returns-clause-gone : goal.returns-clause-gone
+returns-clause-gone g c =
+    gone-alone (g.S.Shelf.at c.args.shelf.now) (g.S.Shelf.at c.take_parcel.new.shelf) (number_of (layout_of c.args.layout.now) (trees.Range c.args.volume c.args.range)) (Range c.in-Range.own) c.in-Range.ensures.moved

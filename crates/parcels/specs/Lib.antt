@@ -1,0 +1,5 @@
+pub mod Places
+pub mod Moved
+pub mod Sets
+pub mod Below
+pub mod Exact

@@ -1,0 +1,21 @@
+//! Parcels of the tree of affinities, and typed sets of them: each node's parcel with those of all
+//! nodes below it. A set is put together from a shelf of parcels and taken apart without memory.
+#![tactic(auto)]
+
+mod family;
+mod gather;
+mod hand;
+mod numbers;
+mod places;
+mod scatter;
+mod sets;
+mod shelf;
+
+pub use family::{Family, Parcel};
+pub use gather::{gather_logical, gather_range, gather_stripe, gather_vbn, gather_volume};
+pub use hand::Hand;
+pub use numbers::Numbers;
+pub use places::{Places, eight_places, sixteen_places, two_places};
+pub use scatter::{scatter_logical, scatter_range, scatter_stripe, scatter_vbn, scatter_volume};
+pub use sets::{AggrHeld, LogicalHeld, RangeHeld, SerialHeld, StripeHeld, VbnHeld, VolumeHeld};
+pub use shelf::Shelf;

@@ -1,0 +1,52 @@
+//! Places for sets.
+
+ghost use Rattle.std.specs.Prelude.{◌≡◌, ◌≢◌, ◌<◌, ℕ, Some, None, slice_get};
+
+/// Up to N values, by number.
+#[derive(Drop)]
+pub struct Places<T, const N: usize> {
+    pub at: [Option<T>; N],
+}
+
+impl<T: Drop, const N: usize> Places<T, N> {
+    /// Puts a value into a place.
+    pub fn put(&mut self, place: usize, value: T)
+        requires { place < N }
+        ensures there { slice_get self.new.at place ≡ Some (Some value) }
+        ensures others { (i : ℕ) → i ≢ place → slice_get self.new.at i ≡ slice_get self.old.at i }
+    {
+        self.at[place] = Some(value);
+    }
+
+    /// Takes what is in a place.
+    pub fn take(&mut self, place: usize) -> Option<T>
+        requires { place < N }
+        ensures taken { slice_get self.old.at place ≡ Some result }
+        ensures left { slice_get self.new.at place ≡ Some None }
+        ensures others { (i : ℕ) → i ≢ place → slice_get self.new.at i ≡ slice_get self.old.at i }
+    {
+        self.at[place].take()
+    }
+}
+
+/// Two empty places.
+pub fn two_places<T>() -> Places<T, 2> {
+    Places { at: [None, None] }
+}
+
+/// Eight empty places.
+pub fn eight_places<T>() -> Places<T, 8> {
+    Places {
+        at: [None, None, None, None, None, None, None, None],
+    }
+}
+
+/// Sixteen empty places.
+pub fn sixteen_places<T>() -> Places<T, 16> {
+    Places {
+        at: [
+            None, None, None, None, None, None, None, None, None, None, None, None, None, None,
+            None, None,
+        ],
+    }
+}

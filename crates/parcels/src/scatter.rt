@@ -1,0 +1,213 @@
+//! Sets are taken apart, and their parcels given to a shelf.
+
+ghost use Rattle.std.specs.Prelude.{◌≡◌, ◌≢◌, ◌<◌, ℕ, true, ◌==◌, length, Some};
+ghost use Rattle.nfs_model.specs.Tree as trees;
+ghost use Rattle.nfs_model.specs.Tree.{stripes_of, aggregate_of};
+ghost use Rattle.affinity.specs.Affinity.{affinity_of};
+ghost use Rattle.affinity.specs.Numbers.{number_of};
+ghost use Rattle.affinity.specs.Tree.{IsNode};
+ghost use Rattle.affinity.specs.Layout.{layout_of};
+ghost use Rattle.parcels.specs.Below.{OnLogical, OnVbn, OnVolume, OnAggregate, OnSerial};
+ghost use Rattle.parcels.specs.Exact.{IsVacant};
+ghost use Rattle.parcels.specs.Moved.{Moved};
+ghost use Rattle.parcels.specs.Places.{alone, in_place, in_places};
+ghost use Rattle.parcels.specs.Sets.{range_parcels, vbn_parcels, stripe_parcels, logical_parcels, volume_parcels, aggregate_parcels, serial_parcels};
+
+use crate::family::{Family, Parcel};
+use crate::places::Places;
+use crate::sets::{LogicalHeld, RangeHeld, StripeHeld, VbnHeld, VolumeHeld};
+use crate::shelf::Shelf;
+use affinity::{Affinity, Layout};
+
+/// The ranges of a volume, in use or not.
+const RANGES: u32 = 16;
+
+/// Gives a node its parcel.
+fn put_parcel<P: Family, S: Shelf<Parcel<P>>>(
+    shelf: &mut S,
+    layout: &Layout,
+    affinity: Affinity,
+    parcel: Parcel<P>,
+)
+    requires node { IsNode (layout_of layout.now) (affinity_of affinity) }
+    requires vacant { IsVacant (layout_of layout.now) (S.at shelf.old) (affinity_of affinity) }
+    ensures moved { (k : ℕ) → Moved (S.at shelf.new k) (alone (number_of (layout_of layout.now) (affinity_of affinity)) parcel k) (S.at shelf.old k) }
+    ensures kept { S.keeps shelf.old shelf.new }
+{
+    shelf.put(layout.number_of(affinity), parcel);
+}
+
+/// Gives back the parcel of a range.
+pub fn scatter_range<P: Family, S: Shelf<Parcel<P>>>(
+    shelf: &mut S,
+    layout: &Layout,
+    volume: u32,
+    range: u32,
+    held: RangeHeld<P>,
+)
+    requires volume { volume < length (layout_of layout.now).volumes }
+    requires range { range < 16 }
+    requires vacant { IsVacant (layout_of layout.now) (S.at shelf.old) (trees.Range volume range) }
+    ensures moved { (k : ℕ) → Moved (S.at shelf.new k) (range_parcels (layout_of layout.now) (trees.Range volume range) held k) (S.at shelf.old k) }
+    ensures kept { S.keeps shelf.old shelf.new }
+{
+    put_parcel(
+        shelf,
+        layout,
+        Affinity::Range { volume, range },
+        Parcel::Range(held.own),
+    );
+}
+
+/// Gives back the parcel of a stripe.
+pub fn scatter_stripe<P: Family, S: Shelf<Parcel<P>>>(
+    shelf: &mut S,
+    layout: &Layout,
+    volume: u32,
+    stripe: u32,
+    held: StripeHeld<P>,
+)
+    requires volume { volume < length (layout_of layout.now).volumes }
+    requires stripe { stripe < stripes_of (layout_of layout.now) volume }
+    requires vacant { IsVacant (layout_of layout.now) (S.at shelf.old) (trees.Stripe volume stripe) }
+    ensures moved { (k : ℕ) → Moved (S.at shelf.new k) (stripe_parcels (layout_of layout.now) (trees.Stripe volume stripe) held k) (S.at shelf.old k) }
+    ensures kept { S.keeps shelf.old shelf.new }
+{
+    put_parcel(
+        shelf,
+        layout,
+        Affinity::Stripe { volume, stripe },
+        Parcel::Stripe(held.own),
+    );
+}
+
+/// Gives back the parcel of a range, where it is in its place.
+fn scatter_range_place<P: Family, S: Shelf<Parcel<P>>>(
+    shelf: &mut S,
+    layout: &Layout,
+    volume: u32,
+    range: u32,
+    place: Option<RangeHeld<P>>,
+)
+    requires volume { volume < length (layout_of layout.now).volumes }
+    requires range { range < 16 }
+    requires vacant { IsVacant (layout_of layout.now) (S.at shelf.old) (trees.Range volume range) }
+    ensures moved { (k : ℕ) → Moved (S.at shelf.new k) (in_place (λ held. range_parcels (layout_of layout.now) (trees.Range volume range) held k) (Some place)) (S.at shelf.old k) }
+    ensures kept { S.keeps shelf.old shelf.new }
+{
+    if let Some(held) = place {
+        scatter_range(shelf, layout, volume, range, held);
+    }
+}
+
+/// Gives back the parcels of the ranges of a volume.
+fn scatter_ranges<P: Family, S: Shelf<Parcel<P>>>(
+    shelf: &mut S,
+    layout: &Layout,
+    volume: u32,
+    mut ranges: Places<RangeHeld<P>, 16>,
+)
+    requires volume { volume < length (layout_of layout.now).volumes }
+    requires vacant { (r : ℕ) → r < 16 → IsVacant (layout_of layout.now) (S.at shelf.old) (trees.Range volume r) }
+    ensures moved { (k : ℕ) → Moved (S.at shelf.new k) (in_places (λ r. true) (λ r held. range_parcels (layout_of layout.now) (trees.Range volume r) held k) ranges.at (16)) (S.at shelf.old k) }
+    ensures kept { S.keeps shelf.old shelf.new }
+{
+    for range in 0..RANGES {
+        let place = ranges.take(range as usize);
+        scatter_range_place(shelf, layout, volume, range, place);
+    }
+}
+
+/// Gives back the parcel of a stripe, where it is in its place.
+fn scatter_stripe_place<P: Family, S: Shelf<Parcel<P>>>(
+    shelf: &mut S,
+    layout: &Layout,
+    volume: u32,
+    stripe: u32,
+    place: Option<StripeHeld<P>>,
+)
+    requires volume { volume < length (layout_of layout.now).volumes }
+    requires stripe { stripe < stripes_of (layout_of layout.now) volume }
+    requires vacant { IsVacant (layout_of layout.now) (S.at shelf.old) (trees.Stripe volume stripe) }
+    ensures moved { (k : ℕ) → Moved (S.at shelf.new k) (in_place (λ held. stripe_parcels (layout_of layout.now) (trees.Stripe volume stripe) held k) (Some place)) (S.at shelf.old k) }
+    ensures kept { S.keeps shelf.old shelf.new }
+{
+    if let Some(held) = place {
+        scatter_stripe(shelf, layout, volume, stripe, held);
+    }
+}
+
+/// Gives back the parcels of the stripes of a volume.
+fn scatter_stripes<P: Family, S: Shelf<Parcel<P>>>(
+    shelf: &mut S,
+    layout: &Layout,
+    volume: u32,
+    mut stripes: Places<StripeHeld<P>, 16>,
+)
+    requires volume { volume < length (layout_of layout.now).volumes }
+    requires vacant { (i : ℕ) → i < stripes_of (layout_of layout.now) volume → IsVacant (layout_of layout.now) (S.at shelf.old) (trees.Stripe volume i) }
+    ensures moved { (k : ℕ) → Moved (S.at shelf.new k) (in_places (λ i. true) (λ i held. stripe_parcels (layout_of layout.now) (trees.Stripe volume i) held k) stripes.at (stripes_of (layout_of layout.now) volume)) (S.at shelf.old k) }
+    ensures kept { S.keeps shelf.old shelf.new }
+{
+    for stripe in 0..layout.stripes_of(volume) {
+        let place = stripes.take(stripe as usize);
+        scatter_stripe_place(shelf, layout, volume, stripe, place);
+    }
+}
+
+/// Gives back the parcels of a volume's block numbers.
+pub fn scatter_vbn<P: Family, S: Shelf<Parcel<P>>>(
+    shelf: &mut S,
+    layout: &Layout,
+    volume: u32,
+    held: VbnHeld<P>,
+)
+    requires volume { volume < length (layout_of layout.now).volumes }
+    requires vacant { OnVbn (layout_of layout.now) (IsVacant (layout_of layout.now) (S.at shelf.old)) volume }
+    ensures moved { (k : ℕ) → Moved (S.at shelf.new k) (vbn_parcels (layout_of layout.now) (trees.Vbn volume) held k) (S.at shelf.old k) }
+    ensures kept { S.keeps shelf.old shelf.new }
+{
+    let VbnHeld { own, ranges } = held;
+    put_parcel(shelf, layout, Affinity::VolumeVbn(volume), Parcel::Vbn(own));
+    scatter_ranges(shelf, layout, volume, ranges);
+}
+
+/// Gives back the parcels of a volume's names and of its stripes.
+pub fn scatter_logical<P: Family, S: Shelf<Parcel<P>>>(
+    shelf: &mut S,
+    layout: &Layout,
+    volume: u32,
+    held: LogicalHeld<P>,
+)
+    requires volume { volume < length (layout_of layout.now).volumes }
+    requires vacant { OnLogical (layout_of layout.now) (IsVacant (layout_of layout.now) (S.at shelf.old)) volume }
+    ensures moved { (k : ℕ) → Moved (S.at shelf.new k) (logical_parcels (layout_of layout.now) (trees.Logical volume) held k) (S.at shelf.old k) }
+    ensures kept { S.keeps shelf.old shelf.new }
+{
+    let LogicalHeld { own, stripes } = held;
+    put_parcel(
+        shelf,
+        layout,
+        Affinity::VolumeLogical(volume),
+        Parcel::Logical(own),
+    );
+    scatter_stripes(shelf, layout, volume, stripes);
+}
+
+/// Gives back the parcels of a volume.
+pub fn scatter_volume<P: Family, S: Shelf<Parcel<P>>>(
+    shelf: &mut S,
+    layout: &Layout,
+    volume: u32,
+    held: VolumeHeld<P>,
+)
+    requires volume { volume < length (layout_of layout.now).volumes }
+    requires vacant { OnVolume (layout_of layout.now) (IsVacant (layout_of layout.now) (S.at shelf.old)) volume }
+    ensures moved { (k : ℕ) → Moved (S.at shelf.new k) (volume_parcels (layout_of layout.now) (trees.Volume volume) held k) (S.at shelf.old k) }
+    ensures kept { S.keeps shelf.old shelf.new }
+{
+    let VolumeHeld { own, logical, vbn } = held;
+    put_parcel(shelf, layout, Affinity::Volume(volume), Parcel::Volume(own));
+    scatter_logical(shelf, layout, volume, logical);
+    scatter_vbn(shelf, layout, volume, vbn);
+}
