@@ -75,7 +75,7 @@ count_value v = (v.volume, (v.total, v.used))
 abbrev pub census_shape : Shape
 census_shape = Array (2 ^ 32 - 1) count_shape
 
--- NFS3_OK (section 2.6) and the OK arm
+-- NFS3_OK (section 2.5) and the OK arm
 abbrev pub done : (shape : Shape) → Value shape → List ℕ
 done shape v = spelling (Word & shape) (0, v)
 

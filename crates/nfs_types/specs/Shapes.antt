@@ -14,11 +14,11 @@ first & second = Pair first second
 abbrev pub handle_shape : Shape
 handle_shape = Opaque 64
 
--- filename3 and data of any length (sections 2.6 and 3.3.7)
+-- filename3 and data of any length (sections 2.5 and 3.3.7)
 abbrev pub any_bytes : Shape
 any_bytes = Opaque (2 ^ 32 - 1)
 
--- cookieverf3, createverf3 and writeverf3 (section 2.6)
+-- cookieverf3, createverf3 and writeverf3 (section 2.5)
 abbrev pub verifier_shape : Shape
 verifier_shape = Fixed 8
 
