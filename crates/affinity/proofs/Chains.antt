@@ -133,17 +133,19 @@ pub number_over : (layout : Layout) (f : ℕ → List ℕ) (a p : Affinity) → 
     → IsUnder layout a p → (number_of layout a ≡ number_of layout p) ⊎ Contains (f (number_of layout p)) (number_of layout a)
 number_over layout f a p lawful lists m n h =
     ⊎_elim
-        (λ (same : p ≡ a). inl (ap (number_of layout) (sym same)))
-        (λ (above : is_above layout a p ≡ true). inr ((node_listed layout f lawful lists p n).listed a m above))
-        h.1
+    (λ (same : p ≡ a). inl (ap (number_of layout) (sym same)))
+    (λ (above : is_above layout a p ≡ true). inr ((node_listed layout f lawful lists p n).listed a m above))
+    h.1
 
 pub under_numbered : (layout : Layout) (f : ℕ → List ℕ) (a p : Affinity) → fault_of layout ≡ None → ListsAbove (parents layout) f → IsNode layout a → IsNode layout p
     → (number_of layout a ≡ number_of layout p) ⊎ Contains (f (number_of layout p)) (number_of layout a) → IsUnder layout a p
-under_numbered layout f a p lawful lists m n h =
-    (n, ⊎_elim
-        (λ (same : number_of layout a ≡ number_of layout p). inl (sym (own_number layout a p m n same)))
-        (λ (found : Contains (f (number_of layout p)) (number_of layout a)). inr ((node_listed layout f lawful lists p n).above a m found))
-        h)
+under_numbered layout f a p lawful lists m n h = (
+  n,
+  ⊎_elim
+      (λ (same : number_of layout a ≡ number_of layout p). inl (sym (own_number layout a p m n same)))
+      (λ (found : Contains (f (number_of layout p)) (number_of layout a)). inr ((node_listed layout f lawful lists p n).above a m found))
+      h,
+)
 
 -- ---- exclusion by numbers
 

@@ -57,8 +57,8 @@ pub fn exclusion_goes_by_numbers()
         → IsNode layout a
         → IsNode layout parcel
         → (IsUnder layout a parcel
-            ↔ ((number_of layout a ≡ number_of layout parcel)
-                ⊎ Contains (above (number_of layout parcel)) (number_of layout a))) }
+        ↔ ((number_of layout a ≡ number_of layout parcel)
+        ⊎ Contains (above (number_of layout parcel)) (number_of layout a))) }
     ensures excludes { (layout : Layout) (above : ℕ → List ℕ) (a b : Affinity)
         → fault_of layout ≡ None
         → ListsAbove (parents layout) above
