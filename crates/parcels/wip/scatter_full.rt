@@ -1,0 +1,232 @@
+//! Sets are taken apart, and their parcels given to a shelf.
+
+ghost use Rattle.std.specs.Prelude.{◌≡◌, ◌≢◌, ◌<◌, ℕ, true, ◌==◌, length};
+ghost use Rattle.nfs_model.specs.Tree as trees;
+ghost use Rattle.nfs_model.specs.Tree.{stripes_of, aggregate_of};
+ghost use Rattle.affinity.specs.Affinity.{affinity_of};
+ghost use Rattle.affinity.specs.Numbers.{number_of};
+ghost use Rattle.affinity.specs.Tree.{IsNode};
+ghost use Rattle.affinity.specs.Layout.{layout_of};
+ghost use Rattle.parcels.specs.Below.{OnLogical, OnVbn, OnVolume, OnAggregate, OnSerial};
+ghost use Rattle.parcels.specs.Exact.{IsVacant};
+ghost use Rattle.parcels.specs.Moved.{Moved};
+ghost use Rattle.parcels.specs.Places.{alone, in_places};
+ghost use Rattle.parcels.specs.Sets.{range_parcels, vbn_parcels, stripe_parcels, logical_parcels, volume_parcels, aggregate_parcels, serial_parcels};
+
+use crate::family::{Family, Parcel};
+use crate::places::Places;
+use crate::sets::{AggrHeld, LogicalHeld, RangeHeld, SerialHeld, StripeHeld, VbnHeld, VolumeHeld};
+use crate::shelf::Shelf;
+use affinity::{Affinity, Layout};
+
+/// The ranges of a volume, in use or not.
+const RANGES: u32 = 16;
+
+/// Gives a node its parcel.
+fn put_parcel<P: Family, S: Shelf<Parcel<P>>>(
+    shelf: &mut S,
+    layout: &Layout,
+    affinity: Affinity,
+    parcel: Parcel<P>,
+)
+    requires node { IsNode (layout_of layout.now) (affinity_of affinity) }
+    requires vacant { IsVacant (layout_of layout.now) (S.at shelf.old) (affinity_of affinity) }
+    ensures moved { (k : ℕ) → Moved (S.at shelf.new k) (alone (number_of (layout_of layout.now) (affinity_of affinity)) parcel k) (S.at shelf.old k) }
+    ensures kept { S.keeps shelf.old shelf.new }
+{
+    shelf.put(layout.number_of(affinity), parcel);
+}
+
+
+/// Gives back the parcel of a range.
+pub(crate) fn scatter_range<P: Family, S: Shelf<Parcel<P>>>(
+    shelf: &mut S,
+    layout: &Layout,
+    volume: u32,
+    range: u32,
+    held: RangeHeld<P>,
+)
+    requires volume { volume < length (layout_of layout.now).volumes }
+    requires range { range < 16 }
+    requires vacant { IsVacant (layout_of layout.now) (S.at shelf.old) (trees.Range volume range) }
+    ensures moved { (k : ℕ) → Moved (S.at shelf.new k) (range_parcels (layout_of layout.now) (trees.Range volume range) held k) (S.at shelf.old k) }
+    ensures kept { S.keeps shelf.old shelf.new }
+{
+    put_parcel(shelf, layout, Affinity::Range { volume, range }, Parcel::Range(held.own));
+}
+
+/// Gives back the parcel of a stripe.
+pub(crate) fn scatter_stripe<P: Family, S: Shelf<Parcel<P>>>(
+    shelf: &mut S,
+    layout: &Layout,
+    volume: u32,
+    stripe: u32,
+    held: StripeHeld<P>,
+)
+    requires volume { volume < length (layout_of layout.now).volumes }
+    requires stripe { stripe < stripes_of (layout_of layout.now) volume }
+    requires vacant { IsVacant (layout_of layout.now) (S.at shelf.old) (trees.Stripe volume stripe) }
+    ensures moved { (k : ℕ) → Moved (S.at shelf.new k) (stripe_parcels (layout_of layout.now) (trees.Stripe volume stripe) held k) (S.at shelf.old k) }
+    ensures kept { S.keeps shelf.old shelf.new }
+{
+    put_parcel(shelf, layout, Affinity::Stripe { volume, stripe }, Parcel::Stripe(held.own));
+}
+
+/// Gives back the parcels of the ranges of a volume.
+pub(crate) fn scatter_ranges<P: Family, S: Shelf<Parcel<P>>>(
+    shelf: &mut S,
+    layout: &Layout,
+    volume: u32,
+    mut ranges: Places<RangeHeld<P>, 16>,
+)
+    requires volume { volume < length (layout_of layout.now).volumes }
+    requires vacant { (r : ℕ) → r < 16 → IsVacant (layout_of layout.now) (S.at shelf.old) (trees.Range volume r) }
+    ensures moved { (k : ℕ) → Moved (S.at shelf.new k) (in_places (λ r. true) (λ r held. range_parcels (layout_of layout.now) (trees.Range volume r) held k) ranges.at (16)) (S.at shelf.old k) }
+    ensures kept { S.keeps shelf.old shelf.new }
+{
+    for range in 0..RANGES {
+        if let Some(held) = ranges.take(range as usize) {
+            scatter_range(shelf, layout, volume, range, held);
+        }
+    }
+}
+
+/// Gives back the parcels of the stripes of a volume.
+pub(crate) fn scatter_stripes<P: Family, S: Shelf<Parcel<P>>>(
+    shelf: &mut S,
+    layout: &Layout,
+    volume: u32,
+    mut stripes: Places<StripeHeld<P>, 16>,
+)
+    requires volume { volume < length (layout_of layout.now).volumes }
+    requires vacant { (i : ℕ) → i < stripes_of (layout_of layout.now) volume → IsVacant (layout_of layout.now) (S.at shelf.old) (trees.Stripe volume i) }
+    ensures moved { (k : ℕ) → Moved (S.at shelf.new k) (in_places (λ i. true) (λ i held. stripe_parcels (layout_of layout.now) (trees.Stripe volume i) held k) stripes.at (stripes_of (layout_of layout.now) volume)) (S.at shelf.old k) }
+    ensures kept { S.keeps shelf.old shelf.new }
+{
+    for stripe in 0..layout.stripes_of(volume) {
+        if let Some(held) = stripes.take(stripe as usize) {
+            scatter_stripe(shelf, layout, volume, stripe, held);
+        }
+    }
+}
+
+/// Gives back the parcels of a volume's block numbers.
+pub(crate) fn scatter_vbn<P: Family, S: Shelf<Parcel<P>>>(
+    shelf: &mut S,
+    layout: &Layout,
+    volume: u32,
+    held: VbnHeld<P>,
+)
+    requires volume { volume < length (layout_of layout.now).volumes }
+    requires vacant { OnVbn (layout_of layout.now) (IsVacant (layout_of layout.now) (S.at shelf.old)) volume }
+    ensures moved { (k : ℕ) → Moved (S.at shelf.new k) (vbn_parcels (layout_of layout.now) (trees.Vbn volume) held k) (S.at shelf.old k) }
+    ensures kept { S.keeps shelf.old shelf.new }
+{
+    let VbnHeld { own, ranges } = held;
+    put_parcel(shelf, layout, Affinity::VolumeVbn(volume), Parcel::Vbn(own));
+    scatter_ranges(shelf, layout, volume, ranges);
+}
+
+/// Gives back the parcels of a volume's names and of its stripes.
+pub(crate) fn scatter_logical<P: Family, S: Shelf<Parcel<P>>>(
+    shelf: &mut S,
+    layout: &Layout,
+    volume: u32,
+    held: LogicalHeld<P>,
+)
+    requires volume { volume < length (layout_of layout.now).volumes }
+    requires vacant { OnLogical (layout_of layout.now) (IsVacant (layout_of layout.now) (S.at shelf.old)) volume }
+    ensures moved { (k : ℕ) → Moved (S.at shelf.new k) (logical_parcels (layout_of layout.now) (trees.Logical volume) held k) (S.at shelf.old k) }
+    ensures kept { S.keeps shelf.old shelf.new }
+{
+    let LogicalHeld { own, stripes } = held;
+    put_parcel(shelf, layout, Affinity::VolumeLogical(volume), Parcel::Logical(own));
+    scatter_stripes(shelf, layout, volume, stripes);
+}
+
+/// Gives back the parcels of a volume.
+pub(crate) fn scatter_volume<P: Family, S: Shelf<Parcel<P>>>(
+    shelf: &mut S,
+    layout: &Layout,
+    volume: u32,
+    held: VolumeHeld<P>,
+)
+    requires volume { volume < length (layout_of layout.now).volumes }
+    requires vacant { OnVolume (layout_of layout.now) (IsVacant (layout_of layout.now) (S.at shelf.old)) volume }
+    ensures moved { (k : ℕ) → Moved (S.at shelf.new k) (volume_parcels (layout_of layout.now) (trees.Volume volume) held k) (S.at shelf.old k) }
+    ensures kept { S.keeps shelf.old shelf.new }
+{
+    let VolumeHeld { own, logical, vbn } = held;
+    put_parcel(shelf, layout, Affinity::Volume(volume), Parcel::Volume(own));
+    scatter_logical(shelf, layout, volume, logical);
+    scatter_vbn(shelf, layout, volume, vbn);
+}
+
+/// Gives back the parcels of the volumes of an aggregate.
+pub(crate) fn scatter_volumes<P: Family, S: Shelf<Parcel<P>>>(
+    shelf: &mut S,
+    layout: &Layout,
+    aggregate: u32,
+    mut volumes: Places<VolumeHeld<P>, 8>,
+)
+    requires { (v : ℕ) → v < length (layout_of layout.now).volumes → aggregate_of (layout_of layout.now) v ≡ aggregate → OnVolume (layout_of layout.now) (IsVacant (layout_of layout.now) (S.at shelf.old)) v }
+    ensures moved { (k : ℕ) → Moved (S.at shelf.new k) (in_places (λ v. aggregate_of (layout_of layout.now) v == aggregate) (λ v held. volume_parcels (layout_of layout.now) (trees.Volume v) held k) volumes.at (length (layout_of layout.now).volumes)) (S.at shelf.old k) }
+    ensures kept { S.keeps shelf.old shelf.new }
+{
+    for volume in 0..layout.volume_count() {
+        if layout.aggregate_of(volume as u32) == aggregate {
+            if let Some(held) = volumes.take(volume) {
+                scatter_volume(shelf, layout, volume as u32, held);
+            }
+        }
+    }
+}
+
+/// Gives back the parcels of an aggregate.
+pub(crate) fn scatter_aggregate<P: Family, S: Shelf<Parcel<P>>>(
+    shelf: &mut S,
+    layout: &Layout,
+    aggregate: u32,
+    held: AggrHeld<P>,
+)
+    requires aggregate { aggregate < length (layout_of layout.now).spare }
+    requires vacant { OnAggregate (layout_of layout.now) (IsVacant (layout_of layout.now) (S.at shelf.old)) aggregate }
+    ensures moved { (k : ℕ) → Moved (S.at shelf.new k) (aggregate_parcels (layout_of layout.now) (trees.Aggregate aggregate) held k) (S.at shelf.old k) }
+    ensures kept { S.keeps shelf.old shelf.new }
+{
+    let AggrHeld { own, volumes } = held;
+    put_parcel(shelf, layout, Affinity::Aggregate(aggregate), Parcel::Aggregate(own));
+    scatter_volumes(shelf, layout, aggregate, volumes);
+}
+
+/// Gives back the parcels of all aggregates.
+pub(crate) fn scatter_aggregates<P: Family, S: Shelf<Parcel<P>>>(
+    shelf: &mut S,
+    layout: &Layout,
+    mut aggregates: Places<AggrHeld<P>, 2>,
+)
+    requires { (a : ℕ) → a < length (layout_of layout.now).spare → OnAggregate (layout_of layout.now) (IsVacant (layout_of layout.now) (S.at shelf.old)) a }
+    ensures moved { (k : ℕ) → Moved (S.at shelf.new k) (in_places (λ a. true) (λ a held. aggregate_parcels (layout_of layout.now) (trees.Aggregate a) held k) aggregates.at (length (layout_of layout.now).spare)) (S.at shelf.old k) }
+    ensures kept { S.keeps shelf.old shelf.new }
+{
+    for aggregate in 0..layout.aggregate_count() {
+        if let Some(held) = aggregates.take(aggregate) {
+            scatter_aggregate(shelf, layout, aggregate as u32, held);
+        }
+    }
+}
+
+/// Gives back all parcels.
+pub(crate) fn scatter_serial<P: Family, S: Shelf<Parcel<P>>>(
+    shelf: &mut S,
+    layout: &Layout,
+    held: SerialHeld<P>,
+)
+    requires { OnSerial (layout_of layout.now) (IsVacant (layout_of layout.now) (S.at shelf.old)) }
+    ensures moved { (k : ℕ) → Moved (S.at shelf.new k) (serial_parcels (layout_of layout.now) trees.Serial held k) (S.at shelf.old k) }
+    ensures kept { S.keeps shelf.old shelf.new }
+{
+    let SerialHeld { own, aggregates } = held;
+    put_parcel(shelf, layout, Affinity::Serial, Parcel::Serial(own));
+    scatter_aggregates(shelf, layout, aggregates);
+}
