@@ -8,7 +8,7 @@ use Rattle.affinity.specs.Numbers.{number_of}
 use Rattle.affinity.proofs.Ways.{begins-self, begins-longer}
 use Rattle.affinity.proofs.Sharing.{covers-cases, covers_from}
 use Rattle.parcels.specs.Below.{OnLogical, OnVbn, OnVolume}
-use Rattle.parcels.specs.Exact.{Under, HasParcel, IsVacant, HasExactly}
+use Rattle.parcels.specs.Exact.{Under, HasParcel, IsVacant, HasExactly, kind_in}
 use Rattle.parcels.specs.Moved.{Moved}
 use Rattle.parcels.specs.Sets.{vbn_parcels, logical_parcels, volume_parcels}
 use Rattle.parcels.specs.declared.family.Parcel.{Parcel}
@@ -132,21 +132,21 @@ module _ {P R B S L V A X : Type 0} (layout : Layout) (f s g : ℕ → Option (P
 
 module _ {P R B S L V A X : Type 0} (layout : Layout) (v : ℕ) (there : v < length layout.volumes) (f g : ℕ → Option (Parcel P R B S L V A X)) where
   pub logical-exact : (held : LogicalHeld P R B S L V A X) → OnLogical layout (HasParcel layout f) v → OnLogical layout (IsVacant layout g) v
-      → ((k : ℕ) → Moved (f k) (logical_parcels layout (Logical v) held k) (g k)) → HasExactly layout (Logical v) (logical_parcels layout (Logical v) held)
+      → ((k : ℕ) → Moved (f k) (logical_parcels layout (Logical v) held k) (g k)) → HasExactly kind_in layout (Logical v) (logical_parcels layout (Logical v) held)
   logical-exact held has gone moved = record {
     each = logical-to layout (HasParcel layout (logical_parcels layout (Logical v) held)) v (logical-taken layout f (logical_parcels layout (Logical v) held) g moved v has gone);
     no_other = λ k under. logical-none layout k v held (logical-from layout (λ b. k ≢ number_of layout b) v there under);
   }
 
   pub vbn-exact : (held : VbnHeld P R B S L V A X) → OnVbn layout (HasParcel layout f) v → OnVbn layout (IsVacant layout g) v
-      → ((k : ℕ) → Moved (f k) (vbn_parcels layout (Vbn v) held k) (g k)) → HasExactly layout (Vbn v) (vbn_parcels layout (Vbn v) held)
+      → ((k : ℕ) → Moved (f k) (vbn_parcels layout (Vbn v) held k) (g k)) → HasExactly kind_in layout (Vbn v) (vbn_parcels layout (Vbn v) held)
   vbn-exact held has gone moved = record {
     each = vbn-to layout (HasParcel layout (vbn_parcels layout (Vbn v) held)) v (vbn-taken layout f (vbn_parcels layout (Vbn v) held) g moved v has gone);
     no_other = λ k under. vbn-none layout k v held (vbn-from layout (λ b. k ≢ number_of layout b) v there under);
   }
 
   pub volume-exact : (held : VolumeHeld P R B S L V A X) → OnVolume layout (HasParcel layout f) v → OnVolume layout (IsVacant layout g) v
-      → ((k : ℕ) → Moved (f k) (volume_parcels layout (Volume v) held k) (g k)) → HasExactly layout (Volume v) (volume_parcels layout (Volume v) held)
+      → ((k : ℕ) → Moved (f k) (volume_parcels layout (Volume v) held k) (g k)) → HasExactly kind_in layout (Volume v) (volume_parcels layout (Volume v) held)
   volume-exact held has gone moved = record {
     each = volume-to layout (HasParcel layout (volume_parcels layout (Volume v) held)) v (volume-taken layout f (volume_parcels layout (Volume v) held) g moved v has gone);
     no_other = λ k under. volume-none layout k v held (volume-from layout (λ b. k ≢ number_of layout b) v there under);

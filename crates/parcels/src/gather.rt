@@ -125,7 +125,7 @@ pub fn gather_vbn<P: Family, S: Shelf<Parcel<P>>>(
 ) -> VbnHeld<P>
     requires volume { volume < length (layout_of layout.now).volumes }
     requires there { OnVbn (layout_of layout.now) (HasParcel (layout_of layout.now) (S.at shelf.old)) volume }
-    ensures exact { HasExactly (layout_of layout.now) (trees.Vbn volume) (vbn_parcels (layout_of layout.now) (trees.Vbn volume) result) }
+    ensures exact { HasExactly kind_in (layout_of layout.now) (trees.Vbn volume) (vbn_parcels (layout_of layout.now) (trees.Vbn volume) result) }
     ensures moved { (k : ℕ) → Moved (S.at shelf.old k) (vbn_parcels (layout_of layout.now) (trees.Vbn volume) result k) (S.at shelf.new k) }
     ensures gone { OnVbn (layout_of layout.now) (IsVacant (layout_of layout.now) (S.at shelf.new)) volume }
     ensures kept { S.keeps shelf.old shelf.new }
@@ -145,7 +145,7 @@ pub fn gather_logical<P: Family, S: Shelf<Parcel<P>>>(
 ) -> LogicalHeld<P>
     requires volume { volume < length (layout_of layout.now).volumes }
     requires there { OnLogical (layout_of layout.now) (HasParcel (layout_of layout.now) (S.at shelf.old)) volume }
-    ensures exact { HasExactly (layout_of layout.now) (trees.Logical volume) (logical_parcels (layout_of layout.now) (trees.Logical volume) result) }
+    ensures exact { HasExactly kind_in (layout_of layout.now) (trees.Logical volume) (logical_parcels (layout_of layout.now) (trees.Logical volume) result) }
     ensures moved { (k : ℕ) → Moved (S.at shelf.old k) (logical_parcels (layout_of layout.now) (trees.Logical volume) result k) (S.at shelf.new k) }
     ensures gone { OnLogical (layout_of layout.now) (IsVacant (layout_of layout.now) (S.at shelf.new)) volume }
     ensures kept { S.keeps shelf.old shelf.new }
@@ -165,7 +165,7 @@ pub fn gather_volume<P: Family, S: Shelf<Parcel<P>>>(
 ) -> VolumeHeld<P>
     requires volume { volume < length (layout_of layout.now).volumes }
     requires there { OnVolume (layout_of layout.now) (HasParcel (layout_of layout.now) (S.at shelf.old)) volume }
-    ensures exact { HasExactly (layout_of layout.now) (trees.Volume volume) (volume_parcels (layout_of layout.now) (trees.Volume volume) result) }
+    ensures exact { HasExactly kind_in (layout_of layout.now) (trees.Volume volume) (volume_parcels (layout_of layout.now) (trees.Volume volume) result) }
     ensures moved { (k : ℕ) → Moved (S.at shelf.old k) (volume_parcels (layout_of layout.now) (trees.Volume volume) result k) (S.at shelf.new k) }
     ensures gone { OnVolume (layout_of layout.now) (IsVacant (layout_of layout.now) (S.at shelf.new)) volume }
     ensures kept { S.keeps shelf.old shelf.new }

@@ -5,6 +5,8 @@
 mod family;
 mod gather;
 mod hand;
+
+mod node;
 mod numbers;
 mod places;
 mod scatter;
@@ -14,6 +16,7 @@ mod shelf;
 pub use family::{Family, Parcel};
 pub use gather::{gather_logical, gather_range, gather_stripe, gather_vbn, gather_volume};
 pub use hand::Hand;
+pub use node::{HasKind, Node};
 pub use numbers::Numbers;
 pub use places::{Places, eight_places, sixteen_places, two_places};
 pub use scatter::{scatter_logical, scatter_range, scatter_stripe, scatter_vbn, scatter_volume};

@@ -5,10 +5,13 @@ ghost use Rattle.std.specs.Prelude.{◌≡◌, ◌≢◌, ℕ, Option, Some, Non
 /// Parcels by the number of their node. What a taking or a giving leaves as it was is for each kind
 /// of shelf to say.
 pub trait Shelf<T> {
-    /// The parcel at a node, where there is one.
+    // The parcel at a node, where there is one.
     ghost at: { Self → ℕ → Option T };
 
-    /// What was so before is so after.
+    // A parcel that may be given to a node.
+    ghost allows: { Self → ℕ → T → Type 0 };
+
+    // What was so before is so after.
     ghost keeps: { Self → Self → Type 0 };
 
     /// Takes the parcel of a node.
@@ -21,7 +24,8 @@ pub trait Shelf<T> {
 
     /// Gives a node its parcel.
     fn put(&mut self, node: usize, parcel: T)
-        requires { at self.old node ≡ None }
+        requires vacant { at self.old node ≡ None }
+        requires allowed { allows self.old node parcel }
         ensures there { at self.new node ≡ Some parcel }
         ensures others { (k : ℕ) → k ≢ node → at self.new k ≡ at self.old k }
         ensures kept { keeps self.old self.new };
@@ -29,4 +33,6 @@ pub trait Shelf<T> {
     ghost keeps_itself: { (s : Self) → keeps s s };
 
     ghost keeps_on: { (s t u : Self) → keeps s t → keeps t u → keeps s u };
+
+    ghost keeps_allowing: { (s t : Self) (node : ℕ) (parcel : T) → keeps s t → allows s node parcel → allows t node parcel };
 }
