@@ -13,6 +13,7 @@ use Rattle.depot_rule.proofs.Sums.{one-same, one-other}
 use Rattle.depot_rule.proofs.Trees.{ancestors-parent, not-above}
 use Rattle.depot_rule.proofs.Places.{one-view, of-one}
 use Rattle.depot.specs.Calls.{IsAmong, read_of, Moved, MovedTo, IsExcluded, FoundClaimed, WasRefused, IsGranted, own_views, known}
+use Rattle.affinity.specs.declared.affinity.Kind.{Kind}
 
 pub among-later : {A : Type 0} (x : A) (ys xs : List A) → IsAmong x xs → IsAmong x (ys ++ xs)
 among-later x [] xs a = a
@@ -114,7 +115,7 @@ module _ {P E : Type 0} where
       )
 
   -- the claim took the shares over
-  pub granted-from : (kind_of : P → ℕ) (ps : List ℕ) (v : View P E) (b : ℕ) {vs ws : List (View P E)} → v.path ≡ [] → MovedTo v (ancestors ps b) vs
+  pub granted-from : (kind_of : P → Kind) (ps : List ℕ) (v : View P E) (b : ℕ) {vs ws : List (View P E)} → v.path ≡ [] → MovedTo v (ancestors ps b) vs
       → (g : List (Option P)) × IsGranted kind_of (record (view_of vs) { path = [] }) b g (read_of b 0 (view_of vs) ∷ []) ws
       → (g : List (Option P)) × (more : List Read) × IsGranted kind_of v b g more ws
   granted-from kind_of ps v b {vs = vs} {ws = ws} none climbed q =

@@ -10,6 +10,7 @@ use Rattle.depot_rule.specs.Shares.{exclusive, grant_shares, shares, Has}
 use Rattle.depot_rule.specs.Parcels.{takes, IsParcel}
 use Rattle.depot_rule.specs.Seats.{view_of}
 use Rattle.depot_rule.specs.Plays.{IsOnly}
+use Rattle.affinity.specs.declared.affinity.Kind.{Kind}
 
 abbrev pub IsAmong : {A : Type 0} → A → List A → Type 0
 IsAmong x xs = (i : ℕ) × (get_elem? xs i ≡ some x)
@@ -36,7 +37,7 @@ module _ {P E : Type 0} where
   IsExcluded v b = (c : ℕ) × (h : List (Option P)) × Has v c h × Excludes v.tree b c
 
   -- the seat has a new grant g of b, with a parcel for each node that b covers, none of them taken yet
-  abbrev pub IsGranted : (P → ℕ) → View P E → ℕ → List (Option P) → List Read → List (View P E) → Type 0
+  abbrev pub IsGranted : (P → Kind) → View P E → ℕ → List (Option P) → List Read → List (View P E) → Type 0
   IsGranted kind_of v b g more vs = (vs ≡ record v { held = slice_set v.held b (Some g); reads = more ++ v.reads } ∷ [])
       × ((k : ℕ) → 0 < k → k < length v.tree → Covers v.tree b k → IsParcel kind_of v.first k (slice_index_or g k None))
       × ((k : ℕ) → 0 < k → Covers v.tree b k → takes k v ≡ 0)

@@ -104,7 +104,7 @@ impl<M: Machine> Depot<M> {
         requires only { seat.splits ≡ 63 }
         requires none_open { (b : ℕ) (g : _) → Has (known seat.badge.views) b g → ⊥ }
         ensures counts { slots_len result.slots ≡ self.table.shared.table_id.slots }
-        ensures parcels { (k : ℕ) → 0 < k → k < length self.parents.items → (y : _) × (get_elem? (slots_items result.slots) k ≡ some y) × IsParcel M.kind_of self.table.shared.key.value.parcels.items k y }
+        ensures parcels { (k : ℕ) → 0 < k → k < length self.parents.items → (y : _) × (get_elem? (slots_items result.slots) k ≡ some y) × IsParcel M.Parcel.kind self.table.shared.key.value.parcels.items k y }
     {
         let Depot { table, parents: _ } = self;
         let Seat { badge, splits: _ } = seat;

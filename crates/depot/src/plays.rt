@@ -41,7 +41,7 @@ pub struct Claim<M> {
 impl<M: Machine> Play<Option<M::Parcel>, ViewsOf<M>> for Claim<M> {
     ghost use Rattle.depot_rule.specs.Plays.{ClaimSays};
 
-    ghost then = { ClaimSays M.kind_of };
+    ghost then = { ClaimSays M.Parcel.kind };
 }
 
 /// The claim is given up.

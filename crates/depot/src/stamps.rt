@@ -40,7 +40,7 @@ pub fn stamp_as<M: Machine, J: Said<EntryOf<M>>>(board: &Board<M>, place: &mut P
     requires one { length place.old.me.0 ≡ 1 }
     requires granted { let v = view_of place.old.me.0 in (e : _) × (g : _) × (J.item ≡ Some e) × Has v e.node g
         × ((k : ℕ) → 0 < k → k < length board.now.key.value.parents.items → Covers board.now.key.value.parents.items e.node k → takes k v ≡ 1)
-        × ((k : ℕ) → 0 < k → k < length board.now.key.value.parents.items → Covers board.now.key.value.parents.items e.node k → IsParcel M.kind_of board.now.key.value.parcels.items k (slice_index_or e.left k None)) }
+        × ((k : ℕ) → 0 < k → k < length board.now.key.value.parents.items → Covers board.now.key.value.parents.items e.node k → IsParcel M.Parcel.kind board.now.key.value.parcels.items k (slice_index_or e.left k None)) }
     ensures seat { (place.new.table_id ≡ place.old.table_id) × (place.new.me.1 ≡ place.old.me.1) }
     ensures stamped { let v = view_of place.old.me.0 in (e : _) → J.item ≡ Some e → (between : List _)
         × (place.new.me.0 ≡ record v { held = slice_set v.held e.node (Some e.left); reads = record { word = 0; value = result; shares = 0 } ∷ v.reads; seen = (v.seen ++ between) ++ e ∷ []; mine = v.mine ++ length (v.seen ++ between) ∷ [] } ∷ []) }

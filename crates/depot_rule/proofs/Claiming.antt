@@ -23,6 +23,7 @@ use Rattle.depot_rule.proofs.Only.{own-or-below}
 use Rattle.depot_rule.proofs.Words.{claim-keeps, release-keeps, read-keeps}
 use Rattle.depot_rule.proofs.Parcels.{stay-keeps, untaken}
 use Rattle.depot_rule.proofs.Places.{on-one}
+use Rattle.affinity.specs.declared.affinity.Kind.{Kind}
 
 -- what lies in a slot, none where it is out
 abbrev pub lying : {P : Type 0} → maybe.Option (Option P) → Option P
@@ -34,7 +35,7 @@ lying-at [] k y e = absurd (some-ne-none (some y) (sym e))
 lying-at (x ∷ xs) zero y e = ap lying (some-injective x (some y) e)
 lying-at (x ∷ xs) (suc k) y e = lying-at xs k y e
 
-module _ (P E : Type 0) (kind_of : P → ℕ) where
+module _ (P E : Type 0) (kind_of : P → Kind) where
   abbrev St : Type 0
   St = State (Option P) (List (View P E))
 

@@ -14,6 +14,7 @@ use Rattle.depot_rule.specs.Rule.{Rule}
 use Rattle.depot_rule.specs.Seats.{longer, view_of, having_seen, met, first_of, others_of}
 use Rattle.depot_rule.proofs.Sums.{one-other, total-set, total-append, total-map, over-none}
 use Rattle.depot_rule.proofs.Views.{All, all-none, all-one, all-append, each-set, each-more}
+use Rattle.affinity.specs.declared.affinity.Kind.{Kind}
 
 module _ {V : Type 0} where
   all-map : (Q : V → Type 0) (f : V → V) → ((v : V) → Q v → Q (f v)) → (vs : List V) → All Q vs → All Q (map f vs)
@@ -33,7 +34,7 @@ module _ {V : Type 0} where
   total-parted f views id vs left right at e =
       let a = total-set (total f) views id vs left at in let b = total-append (total f) (set views id left) (right ∷ []) in omega arith
 
-module _ (P E : Type 0) (kind_of : P → ℕ) where
+module _ (P E : Type 0) (kind_of : P → Kind) where
   abbrev St : Type 0
   St = State (Option P) (List (View P E))
 

@@ -16,8 +16,9 @@ use Rattle.depot_rule.proofs.Only.{own-claim}
 use Rattle.depot_rule.proofs.Words.{word-most, enter-keeps, vain-keeps, back-out-keeps, leave-keeps}
 use Rattle.depot_rule.proofs.Parcels.{stay-keeps}
 use Rattle.depot_rule.proofs.Places.{on-one}
+use Rattle.affinity.specs.declared.affinity.Kind.{Kind}
 
-module _ (P E : Type 0) (kind_of : P → ℕ) where
+module _ (P E : Type 0) (kind_of : P → Kind) where
   abbrev St : Type 0
   St = State (Option P) (List (View P E))
 

@@ -17,6 +17,7 @@ use Rattle.depot_rule.proofs.Sums.{one-other, tally-append}
 use Rattle.depot_rule.proofs.Views.{all-one}
 use Rattle.depot_rule.proofs.Grants.{covers-one}
 use Rattle.depot_rule.proofs.Dealing.{joined, parted_in, bare-counts}
+use Rattle.affinity.specs.declared.affinity.Kind.{Kind}
 
 pub none-held : {A : Type 0} (n b : ℕ) (x : A) → get_elem? (replicate n None) b ≡ some (Some x) → ⊥
 none-held zero b x e = some-ne-none (Some x) (sym e)
@@ -65,7 +66,7 @@ module _ {A : Type 0} where
   held-second (Some x ∷ xs) (y ∷ ys) zero g d e = absurd (d 0 x g refl e)
   held-second (x ∷ xs) (y ∷ ys) (suc i) g d e = held-second xs ys i g (later x y xs ys d) e
 
-module _ (P E : Type 0) (kind_of : P → ℕ) where
+module _ (P E : Type 0) (kind_of : P → Kind) where
   abbrev St : Type 0
   St = State (Option P) (List (View P E))
 

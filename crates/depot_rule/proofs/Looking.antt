@@ -13,6 +13,7 @@ use Rattle.depot_rule.proofs.Sums.{total-set, total-at}
 use Rattle.depot_rule.proofs.Views.{all-one, each-set}
 use Rattle.depot_rule.proofs.Parcels.{stay-keeps}
 use Rattle.depot_rule.proofs.Places.{on-one}
+use Rattle.affinity.specs.declared.affinity.Kind.{Kind}
 
 module _ (P E : Type 0) where
   -- the ticket is no node's word
@@ -30,7 +31,7 @@ module _ (P E : Type 0) where
     sound = each-set (IsSound ps) views id (w ∷ []) r.sound (all-one (IsSound ps) w sound);
   }
 
-  pub looks : (kind_of : P → ℕ) (ps : List ℕ) (first : List (Option P)) (slots id : ℕ) (me : Place P E) (v : View P E) → me.0 ≡ v ∷ []
+  pub looks : (kind_of : P → Kind) (ps : List ℕ) (first : List (Option P)) (slots id : ℕ) (me : Place P E) (v : View P E) → me.0 ≡ v ∷ []
       → Allows (Rule kind_of ps first) slots id me 0 (λ x. x) (LookSays (step slots 0 0 0 none) me)
   looks kind_of ps first slots id me v one s r _ at' small =
       let at : get_elem? s.views id ≡ some (v ∷ []) = at' ∙ ap some one in

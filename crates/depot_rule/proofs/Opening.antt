@@ -7,11 +7,12 @@ use Rattle.atomic_table.specs.Table.{State, opening}
 use Rattle.depot_rule.specs.declared.view.View.{View}
 use Rattle.depot_rule.specs.Tree.{IsTree}
 use Rattle.depot_rule.specs.Shares.{opening_view, claims, entered, shares, IsSound}
-use Rattle.depot_rule.specs.Parcels.{takes, kind_at, IsParcel, Carries}
+use Rattle.depot_rule.specs.Parcels.{takes, IsParcel, Carries}
 use Rattle.depot_rule.specs.Rule.{Rule}
 use Rattle.depot_rule.proofs.Views.{all-one, only-view}
 use Rattle.depot_rule.proofs.Dealing.{bare-counts}
 use Rattle.depot_rule.proofs.Joining.{none-held}
+use Rattle.affinity.specs.declared.affinity.Kind.{Kind}
 
 zero-word : (n a : ℕ) → get_or (replicate {A = ℕ} n 0) a 0 ≡ 0
 zero-word zero a = refl
@@ -31,7 +32,7 @@ each-one : {V : Type 0} (Q : V → Type 0) (v : V) → Q v → (j : ℕ) (vs : L
 each-one Q v q zero vs e = subst (λ (zs : List _). (i : ℕ) (u : _) → get_elem? zs i ≡ some u → Q u) (some-injective (v ∷ []) vs e) (all-one Q v q)
 each-one Q v q (suc j) vs e = absurd (some-ne-none vs (sym e))
 
-module _ (P E : Type 0) (kind_of : P → ℕ) where
+module _ (P E : Type 0) (kind_of : P → Kind) where
   -- all words are 0, each node's parcel is in its slot, and the first seat has nothing
   pub opens : (ps : List ℕ) (first : List (Option P)) → IsTree ps → length ps ≤ 1024 → length first ≡ length ps
       → ((k : ℕ) → 0 < k → k < length ps → (p : P) × (get_or first k None ≡ Some p))
@@ -51,7 +52,7 @@ module _ (P E : Type 0) (kind_of : P → ℕ) where
         };
         parcels = record {
           slots = length-map some first ∙ wide;
-          home = λ k p l z. let y = there k p l in (get_or first k None, at-home first k None (omega arith), (y.0, y.1, sym (ap (kind_at kind_of) y.1)));
+          home = λ k p l z. let y = there k p l in (get_or first k None, at-home first k None (omega arith), (y.0, y.1, (y.0, y.1, refl)));
           carries = each-one (Carries kind_of ps first (map some first)) v (record {
             opened = refl;
             nodes = λ b g e. absurd (none-held (length ps) b g e);

@@ -13,8 +13,9 @@ use Rattle.depot_rule.proofs.Sums.{one-same, one-other, tally-without}
 use Rattle.depot_rule.proofs.Grants.{covers-one}
 use Rattle.depot_rule.proofs.Parcels.{slot-keeps}
 use Rattle.depot_rule.proofs.Places.{on-one}
+use Rattle.affinity.specs.declared.affinity.Kind.{Kind}
 
-module _ (P E : Type 0) (kind_of : P → ℕ) where
+module _ (P E : Type 0) (kind_of : P → Kind) where
   abbrev St : Type 0
   St = State (Option P) (List (View P E))
 

@@ -20,8 +20,9 @@ use Rattle.depot_rule.proofs.Grants.{at-length}
 use Rattle.depot_rule.proofs.Parcels.{stay-keeps}
 use Rattle.depot_rule.proofs.Looking.{ticket-keeps}
 use Rattle.depot_rule.proofs.Places.{on-one}
+use Rattle.affinity.specs.declared.affinity.Kind.{Kind}
 
-module _ (P E : Type 0) (kind_of : P → ℕ) where
+module _ (P E : Type 0) (kind_of : P → Kind) where
   abbrev G : Type 0
   G = List (Option P)
 
@@ -61,7 +62,7 @@ module _ (P E : Type 0) (kind_of : P → ℕ) where
         });
       }
 
-module _ (P C R : Type 0) (kind_of : P → ℕ) where
+module _ (P C R : Type 0) (kind_of : P → Kind) where
   abbrev E : Type 0
   E = Entry P C R
 

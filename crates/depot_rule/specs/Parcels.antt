@@ -7,23 +7,19 @@ use Rattle.depot_rule.specs.declared.view.View.{View}
 use Rattle.depot_rule.specs.Sums.{total, one_if, tally}
 use Rattle.depot_rule.specs.Tree.{Covers}
 use Rattle.depot_rule.specs.Shares.{Each, Has}
+use Rattle.affinity.specs.declared.affinity.Kind.{Kind}
 
 -- 1 where the seat has the parcel of k, or its slot
 abbrev pub takes : {P E : Type 0} → ℕ → View P E → ℕ
 takes k v = tally k v.gone + one_if (v.hand == k)
 
--- the kind of what is there
-abbrev pub kind_at : {P : Type 0} → (P → ℕ) → Option P → ℕ
-kind_at kind_of None = 0
-kind_at kind_of (Some p) = kind_of p
-
 -- a parcel for the node k: of the kind of that which was there at the start
-abbrev pub IsParcel : {P : Type 0} → (P → ℕ) → List (Option P) → ℕ → Option P → Type 0
-IsParcel kind_of first k y = (p : _) × (y ≡ Some p) × (kind_of p ≡ kind_at kind_of (slice_index_or first k None))
+abbrev pub IsParcel : {P : Type 0} → (P → Kind) → List (Option P) → ℕ → Option P → Type 0
+IsParcel kind_of first k y = (p : _) × (y ≡ Some p) × ((q : _) × (slice_index_or first k None ≡ Some q) × (kind_of p ≡ kind_of q))
 
 module _ {P E : Type 0} where
   -- of what lies in the slots (none where a slot is out), and of one view
-  pub record Carries (kind_of : P → ℕ) (parents : List ℕ) (first : List (Option P)) (homes : List (maybe.Option (Option P))) (v : View P E) : Type 0 where
+  pub record Carries (kind_of : P → Kind) (parents : List ℕ) (first : List (Option P)) (homes : List (maybe.Option (Option P))) (v : View P E) : Type 0 where
     pub opened : v.first ≡ first
     pub nodes : (b : ℕ) (g : List (Option P)) → Has v b g → (0 < b) × (b < length parents)
     pub single : (k : ℕ) → 0 < k → takes k v ≤ 1
@@ -37,7 +33,7 @@ module _ {P E : Type 0} where
     pub empty : (k : ℕ) → 0 < k → 0 < tally k v.gone → get_elem? homes k ≡ some (some None)
 
   -- the second pass: of what lies in the slots, and of all views
-  pub record Parcels (kind_of : P → ℕ) (parents : List ℕ) (first : List (Option P)) (homes : List (maybe.Option (Option P))) (views : List (List (View P E))) : Type 0 where
+  pub record Parcels (kind_of : P → Kind) (parents : List ℕ) (first : List (Option P)) (homes : List (maybe.Option (Option P))) (views : List (List (View P E))) : Type 0 where
     pub slots : length homes ≡ length parents
     -- a parcel that no seat has is at home
     pub home : (k : ℕ) → 0 < k → k < length parents → total (total (takes k)) views ≡ 0 → (y : Option P) × (get_elem? homes k ≡ some (some y)) × IsParcel kind_of first k y

@@ -11,6 +11,7 @@ use Rattle.depot_rule.specs.Tree.{ancestors, Covers, Excludes}
 use Rattle.depot_rule.specs.Shares.{exclusive, shares, Has}
 use Rattle.depot_rule.specs.Parcels.{takes, IsParcel}
 use Rattle.depot_rule.specs.Seats.{OnOne}
+use Rattle.affinity.specs.declared.affinity.Kind.{Kind}
 
 -- a seat: its views, and the slots that are out with it
 abbrev pub Place : Type 0 → Type 0 → Type 0
@@ -44,7 +45,7 @@ module _ {P E : Type 0} where
   LeaveSays st me found me' = Goes (λ v vs. vs ≡ record v { path = drop 1 v.path; reads = noted st found v } ∷ []) me me'
 
   -- compare_exchange of 0 by 2^32: where 0 was found there is a grant, with a parcel for each node that it covers, none of them taken, and the shares entered are the grant's
-  abbrev pub ClaimSays : (P → ℕ) → Step (Option P) → Place P E → ℕ → Place P E → Type 0
+  abbrev pub ClaimSays : (P → Kind) → Step (Option P) → Place P E → ℕ → Place P E → Type 0
   ClaimSays kind_of st me found me' = Goes (λ v vs.
       (found ≡ 0 → (g : List (Option P))
       × (vs ≡ record v { path = []; held = slice_set v.held st.word (Some g); reads = noted st found v } ∷ [])

@@ -3,18 +3,17 @@
 ghost use Rattle.std.specs.Prelude.{ℕ, List, Option};
 ghost use Rattle.depot_rule.specs.Machine.{IsLocal, Keeps};
 
+use parcels::HasKind;
+
 /// Calls on parcels. The tree is given as the parent of each node, parcels by node.
 pub trait Machine {
-    type Parcel;
+    type Parcel: HasKind;
 
     type Call;
 
     type Reply;
     /// What a seat carries in its hand from one call to another.
     type Batch;
-
-    // A parcel's kind, which is that of its node.
-    ghost kind_of: { Self.Parcel → ℕ };
 
     // Of the tree, the call's node, the call, the parcels before, its reply and the parcels after.
     ghost steps: { List ℕ → ℕ → Self.Call → (ℕ → Option Self.Parcel) → Self.Reply → (ℕ → Option Self.Parcel) → Type 0 };

@@ -9,7 +9,6 @@ mod hand;
 mod node;
 mod numbers;
 mod places;
-mod scatter;
 mod sets;
 mod shelf;
 
@@ -19,6 +18,5 @@ pub use hand::Hand;
 pub use node::{HasKind, Node};
 pub use numbers::Numbers;
 pub use places::{Places, eight_places, sixteen_places, two_places};
-pub use scatter::{scatter_logical, scatter_range, scatter_stripe, scatter_vbn, scatter_volume};
 pub use sets::{AggrHeld, LogicalHeld, RangeHeld, SerialHeld, StripeHeld, VbnHeld, VolumeHeld};
 pub use shelf::Shelf;

@@ -6,7 +6,7 @@ pub returns-then-word-eq0-clause-granted : goal.returns-then-word-eq0-clause-gra
 returns-then-word-eq0-clause-granted g c =
     let climbed = c.in_ok-climb.ensures.entered in
     let granted = c.claim-word.ensures.granted c.if-word-eq0.true in (
-      granted-from g.M.Machine.kind_of c.args.parents.now (view_of c.args.place.now.me.0) c.args.node c.requires.ready.3 climbed granted.0,
+      granted-from g.M.Parcel.HasKind.kind c.args.parents.now (view_of c.args.place.now.me.0) c.args.node c.requires.ready.3 climbed granted.0,
       none-excluded c.args.parents.now (view_of c.args.place.now.me.0) c.args.node climbed granted.1,
     )
 

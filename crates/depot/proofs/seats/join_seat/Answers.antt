@@ -12,7 +12,7 @@ pub load-requires : goal.load-requires
 load-requires g c = (
   search rules,
   search rules,
-  looks g.row.M-Parcel.Denot (Entry g.row.M-Parcel.Denot g.row.M-Call.Denot g.row.M-Reply.Denot) g.M.Machine.kind_of c.args.board.now.key.value.parents.items c.args.board.now.key.value.parcels.items
+  looks g.row.M-Parcel.Denot (Entry g.row.M-Parcel.Denot g.row.M-Call.Denot g.row.M-Reply.Denot) g.M.Parcel.HasKind.kind c.args.board.now.key.value.parents.items c.args.board.now.key.value.parcels.items
       _ _ c.into_seat-place.result.me (view_of c.into_seat-place.result.me.0) (one-view c.into_seat-place.result.me.0 (placed-one c.into_seat-place.ensures.2 c.args.first.one.1)),
 )
 
@@ -20,7 +20,7 @@ pub load-requires-2 : goal.load-requires-2
 load-requires-2 g c = (
   search rules,
   search rules,
-  looks g.row.M-Parcel.Denot (Entry g.row.M-Parcel.Denot g.row.M-Call.Denot g.row.M-Reply.Denot) g.M.Machine.kind_of c.args.board.now.key.value.parents.items c.args.board.now.key.value.parcels.items
+  looks g.row.M-Parcel.Denot (Entry g.row.M-Parcel.Denot g.row.M-Call.Denot g.row.M-Reply.Denot) g.M.Parcel.HasKind.kind c.args.board.now.key.value.parents.items c.args.board.now.key.value.parcels.items
       _ _ c.into_seat-other.result.me (view_of c.into_seat-other.result.me.0) (one-view c.into_seat-other.result.me.0 (placed-one c.into_seat-other.ensures.2 c.args.second.one.1)),
 )
 
@@ -33,7 +33,7 @@ join_seat-requires g c =
       search rules,
       search rules,
       search rules,
-      merges-seats g.row.M-Parcel.Denot (Entry g.row.M-Parcel.Denot g.row.M-Call.Denot g.row.M-Reply.Denot) g.M.Machine.kind_of c.args.board.now.key.value.parents.items c.args.board.now.key.value.parcels.items
+      merges-seats g.row.M-Parcel.Denot (Entry g.row.M-Parcel.Denot g.row.M-Call.Denot g.row.M-Reply.Denot) g.M.Parcel.HasKind.kind c.args.board.now.key.value.parents.items c.args.board.now.key.value.parcels.items
           _ c.load.new.seat.me.0 _ c.load-2.new.seat.me.0 (ap length one.0) (ap length other.0)
           (ap (λ vs. (view_of vs).path) other.0 ∙ no-path is c.args.second.idle.2)
           (ap (λ vs. (view_of vs).unsure) other.0 ∙ (sym (ap (λ l. (known l).unsure) is) ∙ c.args.second.idle.0))

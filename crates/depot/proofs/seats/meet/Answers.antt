@@ -9,7 +9,7 @@ join_seat-requires g c = (
   search rules,
   search rules,
   search rules,
-  meets g.row.M-Parcel.Denot (Entry g.row.M-Parcel.Denot g.row.M-Call.Denot g.row.M-Reply.Denot) g.M.Machine.kind_of c.args.board.now.key.value.parents.items c.args.board.now.key.value.parcels.items
+  meets g.row.M-Parcel.Denot (Entry g.row.M-Parcel.Denot g.row.M-Call.Denot g.row.M-Reply.Denot) g.M.Parcel.HasKind.kind c.args.board.now.key.value.parents.items c.args.board.now.key.value.parcels.items
       _ c.into_seat-first.result.me.0 _ c.into_seat-second.result.me.0,
 )
 
@@ -17,5 +17,5 @@ pub split_seat-second-requires : goal.split_seat-second-requires
 split_seat-second-requires g c = (
   search rules,
   search rules,
-  parts-again g.row.M-Parcel.Denot (Entry g.row.M-Parcel.Denot g.row.M-Call.Denot g.row.M-Reply.Denot) g.M.Machine.kind_of c.args.board.now.key.value.parents.items c.args.board.now.key.value.parcels.items _ c.join_seat.new.seat.me.0,
+  parts-again g.row.M-Parcel.Denot (Entry g.row.M-Parcel.Denot g.row.M-Call.Denot g.row.M-Reply.Denot) g.M.Parcel.HasKind.kind c.args.board.now.key.value.parents.items c.args.board.now.key.value.parcels.items _ c.join_seat.new.seat.me.0,
 )

@@ -16,10 +16,10 @@ fetch_add-requires g c =
       c.requires.table.0,
       c.requires.table.1,
       subst (λ (j : Option (Entry g.row.M-Parcel.Denot g.row.M-Call.Denot g.row.M-Reply.Denot)).
-          Allows (Rule g.M.Machine.kind_of c.args.board.now.key.value.parents.items c.args.board.now.key.value.parcels.items) c.args.board.now.table_id.slots c.args.place.now.id c.args.place.now.me 0 (λ x. (x + 1) % 2 ^ 64)
+          Allows (Rule g.M.Parcel.HasKind.kind c.args.board.now.key.value.parents.items c.args.board.now.key.value.parcels.items) c.args.board.now.table_id.slots c.args.place.now.id c.args.place.now.me 0 (λ x. (x + 1) % 2 ^ 64)
           (StampSays j (step c.args.board.now.table_id.slots 0 1 0 none) c.args.place.now.me))
           (sym q.2)
-          (stamps g.row.M-Parcel.Denot g.row.M-Call.Denot g.row.M-Reply.Denot g.M.Machine.kind_of c.args.board.now.key.value.parents.items c.args.board.now.key.value.parcels.items
+          (stamps g.row.M-Parcel.Denot g.row.M-Call.Denot g.row.M-Reply.Denot g.M.Parcel.HasKind.kind c.args.board.now.key.value.parents.items c.args.board.now.key.value.parcels.items
           _ _ c.args.place.now.me (view_of c.args.place.now.me.0) q.0 q.1 (one-view c.args.place.now.me.0 c.requires.one) q.3 q.4 q.5),
     )
 

@@ -12,7 +12,7 @@ compare_exchange-requires g c =
     let lt : c.args.node < length c.args.board.now.key.value.parents.items = omega arith in (
       search rules,
       search rules,
-      claims-it g.row.M-Parcel.Denot (Entry g.row.M-Parcel.Denot g.row.M-Call.Denot g.row.M-Reply.Denot) g.M.Machine.kind_of c.args.board.now.key.value.parents.items c.args.board.now.key.value.parcels.items
+      claims-it g.row.M-Parcel.Denot (Entry g.row.M-Parcel.Denot g.row.M-Call.Denot g.row.M-Reply.Denot) g.M.Parcel.HasKind.kind c.args.board.now.key.value.parents.items c.args.board.now.key.value.parcels.items
           _ _ c.args.place.now.me (view_of c.args.place.now.me.0) c.args.node (one-view c.args.place.now.me.0 c.requires.ready.0) c.requires.ready.1 lt c.requires.ready.2 (λ a. ap (tally a) c.requires.ready.3),
     )
 

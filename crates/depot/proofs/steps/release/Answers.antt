@@ -10,7 +10,7 @@ fetch_sub-requires g c =
     let lt : c.args.node < length c.args.board.now.key.value.parents.items = omega arith in (
       search rules,
       search rules,
-      releases g.row.M-Parcel.Denot (Entry g.row.M-Parcel.Denot g.row.M-Call.Denot g.row.M-Reply.Denot) g.M.Machine.kind_of c.args.board.now.key.value.parents.items c.args.board.now.key.value.parcels.items
+      releases g.row.M-Parcel.Denot (Entry g.row.M-Parcel.Denot g.row.M-Call.Denot g.row.M-Reply.Denot) g.M.Parcel.HasKind.kind c.args.board.now.key.value.parents.items c.args.board.now.key.value.parcels.items
           _ _ c.args.place.now.me (view_of c.args.place.now.me.0) c.args.node c.requires.granted.0 (one-view c.args.place.now.me.0 c.requires.ready.0) c.requires.ready.1 lt c.requires.ready.2 c.requires.granted.1 c.requires.home,
     )
 

@@ -17,5 +17,5 @@ returns-clause-parcels g c = λ k pk lk.
     let parts : (view_of vs).parts ≡ 64 = (let p = sym (ap (λ l. (known l).parts) is) ∙ c.args.seat.parts in let q = c.requires.only in omega arith) in
     let none : (b : ℕ) (h : List (Option g.row.M-Parcel.Denot)) → Has (view_of vs) b h → ⊥
     = subst (λ (l : List (List (View g.row.M-Parcel.Denot E))). (b : ℕ) (h : List (Option g.row.M-Parcel.Denot)) → Has (known l) b h → ⊥) is c.requires.none_open in
-    closed-so g.row.M-Parcel.Denot E g.M.Machine.kind_of c.args.self.table.shared.key.value.parents.items c.args.self.table.shared.key.value.parcels.items
+    closed-so g.row.M-Parcel.Denot E g.M.Parcel.HasKind.kind c.args.self.table.shared.key.value.parents.items c.args.self.table.shared.key.value.parcels.items
     c.into_seat-place.result.id vs _ _ (one-view vs (placed-one is c.args.seat.one.1)) parts none c.close_with.ensures.values.2 k pk (subst (λ (l : List ℕ). k < length l) c.args.self.tree lk)
