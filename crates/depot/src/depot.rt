@@ -1,27 +1,48 @@
 //! The depot, made and shared.
 
 ghost use Rattle.std.specs.Prelude.{◌≡◌, ◌<◌, ◌≤◌, ℕ, List, length, replicate, slice_index_or, Option, Some, None, IfOk, IfErr};
+ghost use Rattle.nfs_model.specs.Tree as trees;
+ghost use Rattle.affinity.specs.declared.affinity.Kind.TheVariants as kinds;
+ghost use Rattle.affinity.specs.Layout.{layout_of};
+ghost use Rattle.affinity.specs.Numbers as numbers;
 ghost use Rattle.depot_rule.specs.Tree.{IsTree};
 
 use crate::seats::{Seat, join_seat, meet, split_seat};
 use crate::table::{DepotRule, Key, Opening, Place, ViewsOf};
-use atomic_table::{Closed, Table};
+use crate::closed::ClosedTable;
+use affinity::{Affinity, Layout};
+use atomic_table::Table;
 use depot_rule::machine::Machine;
+use parcels::{Node, VecShelf};
 use std::alloc::{AllocError, Global};
 use std::snapshot::Snapshot;
 
 /// Parcels that threads share.
 pub struct Depot<M: Machine> {
-    table: Table<Option<M::Parcel>, ViewsOf<M>, Key<M>, DepotRule<M>, Global>,
-    parents: Vec<u64>,
+    pub(crate) table: Table<Option<M::Parcel>, ViewsOf<M>, Key<M>, DepotRule<M>, Global>,
+    pub(crate) layout: Layout,
+    // The number of each node's parent, by the node's number.
+    pub(crate) parents: Vec<u64>,
     ghost words: { table.shared.table_id.words ≡ length parents.items },
     ghost tree: { parents.items ≡ table.shared.key.value.parents.items },
+    ghost layout_tree: { parents.items ≡ numbers.parents (layout_of layout) },
 }
 
 fn zeros(alloc: Global, n: usize) -> Result<Vec<u64>, AllocError>
     ensures { IfOk result (λ words. words.items ≡ replicate n 0) }
 {
     vec![in alloc; 0; n]
+}
+
+/// The number of each node's parent, by the node's number.
+fn parents_of(alloc: Global, layout: &Layout) -> Result<Vec<u64>, AllocError>
+    ensures { IfOk result (λ parents. parents.items ≡ numbers.parents (layout_of layout.now)) }
+{
+    let mut parents = zeros(alloc, layout.node_count() + 1)?;
+    for number in 1..layout.node_count() + 1 {
+        parents[number] = layout.parent_number(number) as u64;
+    }
+    Ok(parents)
 }
 
 impl<M: Machine> Depot<M> {
@@ -33,25 +54,36 @@ impl<M: Machine> Depot<M> {
     ghost use Rattle.depot_rule.specs.Shares.{Has, opening_view};
     ghost use Rattle.depot_rule.specs.Parcels.{IsParcel};
     ghost use Rattle.depot_rule.specs.Seats.{fresh, merge, longer, having_seen};
+    ghost use Rattle.parcels.specs.Exact.{HasExactly};
     ghost use Rattle.depot.specs.Calls.{known};
+    ghost use Rattle.depot.specs.Grants.{by_number, IsSeatOf};
 
-    /// A depot of a tree, given by the parent of each node, with the parcel of each node in its
-    /// place, and its first seat. Without memory the parcels come back.
-    pub fn new(
+    /// A depot of a layout with the parcels of all nodes, and its first seat. Without memory the
+    /// parcels come back.
+    pub fn new<N: Node<M::Parcel>>(
         alloc: Global,
-        parents: Vec<u64>,
-        parcels: Vec<Option<M::Parcel>>,
-    ) -> Result<(Depot<M>, Seat<M>), Vec<Option<M::Parcel>>>
-        requires tree { IsTree parents.items × (0 < length parents.items) × (length parents.items ≤ 1024) }
-        requires parcels { (length parcels.items ≡ length parents.items) × ((k : ℕ) → 0 < k → k < length parents.items → (p : _) × (slice_index_or parcels.items k None ≡ Some p)) }
-        ensures made { IfOk result (λ made. (made.0.parents.items ≡ parents.items) × (made.1.badge.table_id ≡ made.0.table.shared.table_id) × (made.1.splits ≡ 63) × (known made.1.badge.views ≡ opening_view parents.items parcels.items)) }
-        ensures refused { IfErr result (λ back. back.items ≡ parcels.items) }
+        layout: Layout,
+        parcels: N::Held,
+    ) -> Result<(Depot<M>, Seat<M>), N::Held>
+        requires root { N.KIND ≡ kinds.Serial }
+        requires exact { HasExactly M.Parcel.kind (layout_of layout) trees.Serial (N.parcels (layout_of layout) trees.Serial parcels) }
+        ensures made { IfOk result (λ made. (layout_of made.0.layout ≡ layout_of layout) × (known made.1.badge.views ≡ opening_view (numbers.parents (layout_of layout)) (by_number (N.parcels (layout_of layout) trees.Serial parcels) (1 + numbers.node_count (layout_of layout))))) }
+        ensures seat { IfOk result (λ made. (made.1.badge.table_id ≡ made.0.table.shared.table_id) × (made.1.splits ≡ 63) × IsSeatOf M.Parcel.kind (layout_of layout) (known made.1.badge.views)) }
+        ensures refused { IfErr result (λ back. (k : ℕ) → N.parcels (layout_of layout) trees.Serial back k ≡ N.parcels (layout_of layout) trees.Serial parcels k) }
     {
-        let words = match zeros(alloc, parents.len()) {
-            Ok(words) => words,
-            Err(_) => return Err(parcels),
+        let n = layout.node_count() + 1;
+        let (Ok(parents), Ok(words), Ok(mut shelf)) = (
+            parents_of(alloc, &layout),
+            zeros(alloc, n),
+            VecShelf::new(alloc, n),
+        ) else {
+            return Err(parcels);
         };
-        let opening = Opening { parents, parcels };
+        N::scatter(&mut shelf, &layout, Affinity::Serial, parcels);
+        let opening = Opening {
+            parents,
+            parcels: shelf.parcels,
+        };
         let key: Key<M> = Snapshot::of(&opening);
         let Opening { parents, parcels } = opening;
         match Table::new(alloc, words.as_slice(), parcels, &key) {
@@ -60,9 +92,19 @@ impl<M: Machine> Depot<M> {
                     badge: place.into_badge(),
                     splits: 63,
                 };
-                Ok((Depot { table, parents }, seat))
+                let depot = Depot {
+                    table,
+                    layout,
+                    parents,
+                };
+                Ok((depot, seat))
             }
-            Err(refused) => Err(refused.slots),
+            Err(refused) => {
+                let mut shelf = VecShelf {
+                    parcels: refused.slots,
+                };
+                Err(N::gather(&mut shelf, &layout, Affinity::Serial))
+            }
         }
     }
 
@@ -98,17 +140,26 @@ impl<M: Machine> Depot<M> {
         meet(&self.table.shared, one, other);
     }
 
-    /// Ends the depot. Where the seat is the only one and has no grant, each node's parcel is in its slot.
-    pub fn close(self, seat: Seat<M>) -> Closed<Option<M::Parcel>, Global>
-        requires table { seat.badge.table_id ≡ self.table.shared.table_id }
+    /// Ends the depot. Its only seat, which has no grant, gets all parcels.
+    pub fn close<N: Node<M::Parcel>>(self, seat: Seat<M>) -> N::Held
+        requires root { N.KIND ≡ kinds.Serial }
+        requires seat { (seat.badge.table_id ≡ self.table.shared.table_id) × IsSeatOf M.Parcel.kind (layout_of self.layout) (known seat.badge.views) }
         requires only { seat.splits ≡ 63 }
         requires none_open { (b : ℕ) (g : _) → Has (known seat.badge.views) b g → ⊥ }
-        ensures counts { slots_len result.slots ≡ self.table.shared.table_id.slots }
-        ensures parcels { (k : ℕ) → 0 < k → k < length self.parents.items → (y : _) × (get_elem? (slots_items result.slots) k ≡ some y) × IsParcel M.Parcel.kind self.table.shared.key.value.parcels.items k y }
+        ensures exact { HasExactly M.Parcel.kind (layout_of self.layout) trees.Serial (N.parcels (layout_of self.layout) trees.Serial result) }
     {
-        let Depot { table, parents: _ } = self;
+        let Depot {
+            table,
+            layout,
+            parents: _,
+        } = self;
         let Seat { badge, splits: _ } = seat;
         let place: Place<M> = badge.into_seat();
-        table.close_with(place)
+        let mut closed = ClosedTable {
+            table: table.close_with(place),
+        };
+        let held = N::gather(&mut closed, &layout, Affinity::Serial);
+        closed.free();
+        held
     }
 }

@@ -4,7 +4,10 @@
 #![tactic(auto)]
 
 pub mod claiming;
+mod closed;
 pub mod depot;
+pub mod grants;
+pub mod hold;
 pub mod path;
 pub mod plays;
 pub mod seats;

@@ -3,6 +3,9 @@
 ghost use Rattle.std.specs.Prelude.{◌≡◌, ◌<◌, ◌+◌, ◌-◌, ◌∷◌, ◌++◌, ℕ, List, [], length, IfOk, IfErr};
 ghost use Rattle.depot_rule.specs.declared.view.View.{View};
 ghost use Rattle.depot_rule.specs.declared.view.Read.{Read};
+ghost use Rattle.depot_rule.specs.Sums.{tally};
+ghost use Rattle.depot_rule.specs.Tree.{Covers};
+ghost use Rattle.depot_rule.specs.Shares.{Has};
 ghost use Rattle.depot_rule.specs.Seats.{fresh, merge, longer, having_seen};
 ghost use Rattle.depot.specs.Calls.{own_views, known};
 
@@ -20,6 +23,7 @@ pub struct Seat<M: Machine> {
     ghost one: { (length badge.views ≡ 1) × (length (own_views badge.views) ≡ 1) },
     ghost idle: { ((known badge.views).unsure ≡ 0) × ((known badge.views).hand ≡ 0) × (length (known badge.views).path ≡ 0) },
     ghost parts: { (known badge.views).parts ≡ splits + 1 },
+    ghost gathered: { (b k : ℕ) (g : List _) → Has (known badge.views) b g → 0 < k → k < length (known badge.views).tree → Covers (known badge.views).tree b k → 0 < tally k (known badge.views).gone },
 }
 
 /// Splits a second seat off, which has seen the same and has nothing open. A seat with no split left comes back.

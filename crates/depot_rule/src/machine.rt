@@ -7,7 +7,7 @@ use parcels::HasKind;
 
 /// Calls on parcels. The tree is given as the parent of each node, parcels by node.
 pub trait Machine {
-    type Parcel: HasKind;
+    type Parcel: HasKind + Drop;
 
     type Call;
 

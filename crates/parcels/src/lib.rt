@@ -11,6 +11,7 @@ mod numbers;
 mod places;
 mod sets;
 mod shelf;
+mod vec_shelf;
 
 pub use family::{Family, Parcel};
 pub use gather::{gather_logical, gather_range, gather_stripe, gather_vbn, gather_volume};
@@ -20,3 +21,4 @@ pub use numbers::Numbers;
 pub use places::{Places, eight_places, sixteen_places, two_places};
 pub use sets::{AggrHeld, LogicalHeld, RangeHeld, SerialHeld, StripeHeld, VbnHeld, VolumeHeld};
 pub use shelf::Shelf;
+pub use vec_shelf::VecShelf;

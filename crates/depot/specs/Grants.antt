@@ -1,0 +1,73 @@
+-- What the calls on a depot do to a seat's view.
+use Rattle.std.specs.Prelude.{◌≡◌, ℕ, zero, suc, ◌<◌, ◌≤◌, List, [], ◌∷◌, ◌++◌, length, slice_set, slice_index_or, Option, Some, None}
+use mathlib.Core.Option.{some}
+use lib.ListN.{get_elem?}
+use Rattle.nfs_model.specs.Tree.{Layout, Affinity}
+use Rattle.affinity.specs.Affinity.{affinity_of, kind_of}
+use Rattle.affinity.specs.declared.affinity.Kind.{Kind}
+use Rattle.affinity.specs.Numbers.{number_of, parents}
+use Rattle.affinity.specs.Tree.{IsNode}
+use Rattle.depot_rule.specs.declared.view.View.{View}
+use Rattle.depot_rule.specs.declared.view.Read.{Read}
+use Rattle.depot_rule.specs.Tree.{Covers}
+use Rattle.depot_rule.specs.Shares.{Has}
+use Rattle.depot_rule.specs.Plays.{IsOnly}
+use Rattle.depot.specs.Kinds.{AreOfKind}
+use Rattle.depot.specs.Calls.{IsAmong, IsRead, Refuses, IsExcluded}
+use Rattle.depot.specs.declared.grants.Refusal.{Refusal}
+use Rattle.depot.specs.declared.grants.Refusal.TheVariants.{Busy, Worn}
+
+-- from this many entries on no call begins
+abbrev pub worn : ℕ
+worn = 4611686018427387904
+
+-- parcels by node as a list, of so many places
+abbrev pub by_number : {P : Type 0} → (ℕ → Option P) → ℕ → List (Option P)
+by_number f zero = []
+by_number f (suc n) = by_number f n ++ f n ∷ []
+
+module _ {P E : Type 0} where
+  -- the seat is of a depot of this layout, whose parcels at the start were of their nodes' kinds
+  abbrev pub IsSeatOf : (P → Kind) → Layout → View P E → Type 0
+  IsSeatOf kind layout v = (v.tree ≡ parents layout) × AreOfKind kind layout v.first
+
+  -- g lists what f has at each node that b covers
+  abbrev pub ListsAs : View P E → ℕ → List (Option P) → (ℕ → Option P) → Type 0
+  ListsAs v b g f = (k : ℕ) → 0 < k → k < length v.tree → Covers v.tree b k → slice_index_or g k None ≡ f k
+
+  -- the seat has a grant of b, with the parcels f
+  abbrev pub HasWith : View P E → ℕ → (ℕ → Option P) → Type 0
+  HasWith v b f = (g : List (Option P)) × Has v b g × ListsAs v b g f
+
+  -- a grant of b, with the parcels f, was added: no open grant of the seat's excluded b
+  abbrev pub IsBegun : View P E → ℕ → (ℕ → Option P) → View P E → Type 0
+  IsBegun v b f w = (g : List (Option P)) × (gone : List ℕ) × (more : List Read)
+      × (w ≡ record v { held = slice_set v.held b (Some g); gone = gone; reads = more ++ v.reads })
+      × ListsAs v b g f
+      × (get_elem? v.held b ≡ some None)
+      × (IsExcluded v b → ⊥)
+
+  -- the grant of b is no more
+  abbrev pub IsEnded : View P E → ℕ → View P E → Type 0
+  IsEnded v b w = (gone : List ℕ) × (more : List Read) × (w ≡ record v { held = slice_set v.held b None; gone = gone; reads = more ++ v.reads })
+
+  -- nothing but reads was added
+  abbrev pub HasRead : View P E → List Read → View P E → Type 0
+  HasRead v more w = w ≡ record v { reads = more ++ v.reads }
+
+  -- b was refused by the word of a node, which this call read: the seat then had no share in it but for its grants. If it is the only seat, a grant of its own excludes b
+  abbrev pub IsBusy : List ℕ → View P E → ℕ → ℕ → ℕ → View P E → Type 0
+  IsBusy tree v b node word w = (more : List Read) × HasRead v more w × IsRead v node word more × Refuses tree b node word × (IsOnly v → IsExcluded v b)
+
+  -- the ticket was read at 2^62 or more
+  abbrev pub IsWorn : View P E → View P E → Type 0
+  IsWorn v w = (more : List Read) × HasRead v more w × ((ticket : ℕ) × (worn ≤ ticket) × IsAmong (record { word = 0; value = ticket; shares = 0 }) more)
+
+  abbrev pub IsRefused : Layout → View P E → Affinity → Refusal → View P E → Type 0
+  IsRefused layout v a (Busy node word) w = IsNode layout (affinity_of node) × IsBusy (parents layout) v (number_of layout a) (number_of layout (affinity_of node)) word w
+  IsRefused layout v a Worn w = IsWorn v w
+
+-- the grant of b is no more, and the entry e stands in the history after all that was seen, and what others put between
+abbrev pub IsFinished : {P X : Type 0} → View P X → ℕ → X → View P X → Type 0
+IsFinished v b e w = (gone : List ℕ) × (more : List Read) × (between : List _)
+    × (w ≡ record v { held = slice_set v.held b None; gone = gone; reads = more ++ v.reads; seen = (v.seen ++ between) ++ e ∷ []; mine = v.mine ++ length (v.seen ++ between) ∷ [] })

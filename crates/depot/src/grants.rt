@@ -1,0 +1,168 @@
+//! Calls on a depot, from begin to finish.
+
+ghost use Rattle.std.specs.Prelude.{◌≡◌, ◌<◌, ◌+◌, ℕ, List, [], length, None, IfOk, IfErr};
+ghost use Rattle.affinity.specs.Affinity.{affinity_of, kind_of};
+ghost use Rattle.affinity.specs.Layout.{layout_of};
+ghost use Rattle.affinity.specs.Numbers as numbers;
+ghost use Rattle.affinity.specs.Tree.{IsNode};
+ghost use Rattle.affinity.specs.Fault.{fault_of};
+ghost use Rattle.parcels.specs.Exact.{HasExactly};
+ghost use Rattle.depot_rule.specs.Sums.{tally};
+ghost use Rattle.depot_rule.specs.Tree.{Covers};
+ghost use Rattle.depot_rule.specs.Shares.{Has};
+ghost use Rattle.depot_rule.specs.Seats.{view_of};
+ghost use Rattle.depot.specs.Calls.{known};
+ghost use Rattle.depot.specs.Grants.{by_number, IsSeatOf, HasWith, IsBegun, IsEnded, IsFinished, IsRefused};
+
+use crate::claiming::{give_up, try_claim};
+use crate::depot::Depot;
+use crate::hold::Hold;
+use crate::plays::Look;
+use crate::seats::Seat;
+use crate::stamps::stamp_as;
+use crate::table::{Board, Place};
+use affinity::{Affinity, Layout};
+use atomic_table::Badge;
+use depot_rule::machine::Machine;
+use parcels::{HasKind, Node};
+use std::marker::Brand;
+use std::mem;
+
+/// The parcels of a node and of all nodes below it. A grant that is dropped gives nothing home.
+pub struct Grant<T: HasKind, N: Node<T>> {
+    pub(crate) affinity: Affinity,
+    pub(crate) held: N::Held,
+}
+
+/// Why a call doesn't begin.
+#[derive(Clone, Copy, Debug, PartialEq, Eq)]
+pub enum Refusal {
+    /// Refusal 21: the word of a node was found taken.
+    Busy { node: Affinity, word: u64 },
+    /// Refusal 22: the history is as long as it may get.
+    Worn,
+}
+
+/// A ticket from which on no call begins.
+const WORN: u64 = 1 << 62;
+
+impl<T: HasKind, N: Node<T>> Grant<T, N> {
+    /// What was granted.
+    pub fn affinity(&self) -> Affinity
+        ensures { result ≡ self.now.affinity }
+    {
+        self.affinity
+    }
+
+    /// The parcels, to be read and changed.
+    pub fn held(&mut self) -> &mut N::Held
+        ensures held { (result.old ≡ self.old.held) × (self.new.held ≡ result.new) }
+        ensures affinity { self.new.affinity ≡ self.old.affinity }
+    {
+        &mut self.held
+    }
+}
+
+impl<M: Machine> Depot<M> {
+    /// Begins a call on a node of the layout: its parcels and those below it are granted, or a word
+    /// refuses. It waits for nobody, and takes no memory.
+    pub fn begin<N: Node<M::Parcel>>(
+        &self,
+        seat: &mut Seat<M>,
+        affinity: Affinity,
+    ) -> Result<Grant<M::Parcel, N>, Refusal>
+        requires seat { (seat.old.badge.table_id ≡ self.now.table.shared.table_id) × IsSeatOf M.Parcel.kind (layout_of self.now.layout) (known seat.old.badge.views) }
+        requires node { IsNode (layout_of self.now.layout) (affinity_of affinity) × (kind_of (affinity_of affinity) ≡ N.KIND) }
+        ensures seat { (seat.new.badge.table_id ≡ seat.old.badge.table_id) × (seat.new.splits ≡ seat.old.splits) × IsSeatOf M.Parcel.kind (layout_of self.now.layout) (known seat.new.badge.views) }
+        ensures exact { IfOk result (λ grant. (grant.affinity ≡ affinity) × HasExactly M.Parcel.kind (layout_of self.now.layout) (affinity_of affinity) (N.parcels (layout_of self.now.layout) (affinity_of affinity) grant.held)) }
+        ensures granted { IfOk result (λ grant. IsBegun (known seat.old.badge.views) (numbers.number_of (layout_of self.now.layout) (affinity_of affinity)) (N.parcels (layout_of self.now.layout) (affinity_of affinity) grant.held) (known seat.new.badge.views)) }
+        ensures refused { IfErr result (λ refusal. IsRefused (layout_of self.now.layout) (known seat.old.badge.views) (affinity_of affinity) refusal (known seat.new.badge.views)) }
+    {
+        let board = &self.table.shared;
+        let mut place: Place<M> = mem::replace(&mut seat.badge, Badge::blank()).into_seat();
+        let ticket = board.load::<Look>(&mut place, 0);
+        if ticket >= WORN {
+            seat.badge = place.into_badge();
+            return Err(Refusal::Worn);
+        }
+        let node = self.layout.number_of(affinity);
+        match try_claim(board, &mut place, &self.parents, node) {
+            Ok(()) => {
+                let mut hold = Hold { board, place, node };
+                let held = N::gather(&mut hold, &self.layout, affinity);
+                let Hold { board: _, place, node: _ } = hold;
+                seat.badge = place.into_badge();
+                Ok(Grant { affinity, held })
+            }
+            Err(busy) => {
+                seat.badge = place.into_badge();
+                Err(Refusal::Busy {
+                    node: self.layout.affinity_at(busy.node),
+                    word: busy.word,
+                })
+            }
+        }
+    }
+
+    /// Ends a call without an entry. Its parcels have to be as they were granted.
+    pub fn put_back<N: Node<M::Parcel>>(&self, seat: &mut Seat<M>, grant: Grant<M::Parcel, N>)
+        requires seat { (seat.old.badge.table_id ≡ self.now.table.shared.table_id) × IsSeatOf M.Parcel.kind (layout_of self.now.layout) (known seat.old.badge.views) }
+        requires node { IsNode (layout_of self.now.layout) (affinity_of grant.affinity) × (kind_of (affinity_of grant.affinity) ≡ N.KIND) }
+        requires as_granted { HasWith (known seat.old.badge.views) (numbers.number_of (layout_of self.now.layout) (affinity_of grant.affinity)) (N.parcels (layout_of self.now.layout) (affinity_of grant.affinity) grant.held) }
+        ensures seat { (seat.new.badge.table_id ≡ seat.old.badge.table_id) × (seat.new.splits ≡ seat.old.splits) × IsSeatOf M.Parcel.kind (layout_of self.now.layout) (known seat.new.badge.views) }
+        ensures ended { IsEnded (known seat.old.badge.views) (numbers.number_of (layout_of self.now.layout) (affinity_of grant.affinity)) (known seat.new.badge.views) }
+    {
+        let place: Place<M> = mem::replace(&mut seat.badge, Badge::blank()).into_seat();
+        seat.badge = give_home(&self.table.shared, place, &self.layout, &self.parents, grant).into_badge();
+    }
+
+    /// Ends a call: it takes effect by one step, with its parcels as they are then, and after that
+    /// its parcels are given home.
+    pub fn finish<N: Node<M::Parcel>>(
+        &self,
+        seat: &mut Seat<M>,
+        grant: Grant<M::Parcel, N>,
+        call: &M::Call,
+        reply: &M::Reply,
+    )
+        requires seat { (seat.old.badge.table_id ≡ self.now.table.shared.table_id) × IsSeatOf M.Parcel.kind (layout_of self.now.layout) (known seat.old.badge.views) }
+        requires node { IsNode (layout_of self.now.layout) (affinity_of grant.affinity) × (kind_of (affinity_of grant.affinity) ≡ N.KIND) }
+        requires open { (g : List _) × Has (known seat.old.badge.views) (numbers.number_of (layout_of self.now.layout) (affinity_of grant.affinity)) g }
+        requires exact { HasExactly M.Parcel.kind (layout_of self.now.layout) (affinity_of grant.affinity) (N.parcels (layout_of self.now.layout) (affinity_of grant.affinity) grant.held) }
+        ensures seat { (seat.new.badge.table_id ≡ seat.old.badge.table_id) × (seat.new.splits ≡ seat.old.splits) × IsSeatOf M.Parcel.kind (layout_of self.now.layout) (known seat.new.badge.views) }
+        ensures finished { let node = numbers.number_of (layout_of self.now.layout) (affinity_of grant.affinity) in
+            let entry = record { node = node; call = call.now; reply = reply.now; left = by_number (N.parcels (layout_of self.now.layout) (affinity_of grant.affinity) grant.held) (1 + numbers.node_count (layout_of self.now.layout)) } in
+            IsFinished (known seat.old.badge.views) node entry (known seat.new.badge.views) }
+    {
+        let mut place: Place<M> = mem::replace(&mut seat.badge, Badge::blank()).into_seat();
+        stamp_as::<M, Brand>(&self.table.shared, &mut place);
+        seat.badge = give_home(&self.table.shared, place, &self.layout, &self.parents, grant).into_badge();
+    }
+}
+
+/// Gives the parcels of a grant home, as its view lists them, and gives the grant up.
+fn give_home<M: Machine, N: Node<M::Parcel>>(
+    board: &Board<M>,
+    place: Place<M>,
+    layout: &Layout,
+    parents: &[u64],
+    grant: Grant<M::Parcel, N>,
+) -> Place<M>
+    requires table { (place.table_id ≡ board.now.table_id) × (board.now.table_id.words ≡ length board.now.key.value.parents.items) }
+    requires tree { (parents.now ≡ board.now.key.value.parents.items) × (parents.now ≡ numbers.parents (layout_of layout.now)) × (fault_of (layout_of layout.now) ≡ None) }
+    requires ready { let v = view_of place.me.0 in (length place.me.0 ≡ 1) × (place.me.1 ≡ []) × (v.hand ≡ 0) × (v.path ≡ []) × (v.tree ≡ parents.now) }
+    requires node { IsNode (layout_of layout.now) (affinity_of grant.affinity) × (kind_of (affinity_of grant.affinity) ≡ N.KIND) }
+    requires listed { HasWith (view_of place.me.0) (numbers.number_of (layout_of layout.now) (affinity_of grant.affinity)) (N.parcels (layout_of layout.now) (affinity_of grant.affinity) grant.held) }
+    requires whole { HasExactly M.Parcel.kind (layout_of layout.now) (affinity_of grant.affinity) (N.parcels (layout_of layout.now) (affinity_of grant.affinity) grant.held) }
+    requires taken { let v = view_of place.me.0 in (k : ℕ) → 0 < k → k < length v.tree → Covers v.tree (numbers.number_of (layout_of layout.now) (affinity_of grant.affinity)) k → 0 < tally k v.gone }
+    ensures seat { (result.table_id ≡ place.table_id) × (result.me.1 ≡ []) }
+    ensures ended { (length result.me.0 ≡ 1) × IsEnded (view_of place.me.0) (numbers.number_of (layout_of layout.now) (affinity_of grant.affinity)) (view_of result.me.0) }
+{
+    let Grant { affinity, held } = grant;
+    let node = layout.number_of(affinity);
+    let mut hold = Hold { board, place, node };
+    N::scatter(&mut hold, layout, affinity, held);
+    let Hold { board: _, mut place, node: _ } = hold;
+    give_up(board, &mut place, parents, node);
+    place
+}

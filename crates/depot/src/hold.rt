@@ -1,0 +1,43 @@
+//! A grant's parcels as a shelf, from which sets are put together.
+
+ghost use Rattle.std.specs.Prelude.{◌≡◌, ℕ, [], length};
+ghost use Rattle.depot_rule.specs.Seats.{view_of};
+ghost use Rattle.depot.specs.Holds.{untaken, Lists, Handled};
+
+use crate::slots::{give_parcel, take_parcel};
+use crate::table::{Board, Place};
+use depot_rule::machine::Machine;
+use parcels::Shelf;
+
+/// A call that runs, and the node of the grant whose parcels it takes or gives.
+pub struct Hold<'a, M: Machine> {
+    pub(crate) board: &'a Board<M>,
+    pub(crate) place: Place<M>,
+    pub(crate) node: usize,
+    ghost table: { (place.table_id ≡ board.now.table_id) × (board.now.table_id.words ≡ length board.now.key.value.parents.items) },
+    ghost one: { (length place.me.0 ≡ 1) × (length place.me.1 ≡ 0) },
+    ghost free: { (view_of place.me.0).hand ≡ 0 },
+    ghost tree: { (view_of place.me.0).tree ≡ board.now.key.value.parents.items },
+}
+
+impl<'a, M: Machine> Shelf<M::Parcel> for Hold<'a, M> {
+    ghost at = { λ hold. untaken (view_of hold.place.me.0) hold.node };
+
+    ghost allows = { λ hold k p. Lists (view_of hold.place.me.0) hold.node k p };
+
+    ghost keeps = { λ old new. (new.node ≡ old.node) × (new.place.table_id ≡ old.place.table_id) × Handled old.place.me.0 new.place.me.0 };
+
+    ghost keeps_itself = { ? };
+
+    ghost keeps_on = { ? };
+
+    ghost keeps_allowing = { ? };
+
+    fn take(&mut self, node: usize) -> M::Parcel {
+        take_parcel(self.board, &mut self.place, node)
+    }
+
+    fn put(&mut self, node: usize, parcel: M::Parcel) {
+        give_parcel(self.board, &mut self.place, node, parcel);
+    }
+}
