@@ -18,6 +18,10 @@ use Rattle.depot.specs.Holds.{listed_by, is_untaken, untaken, Lists, Handled}
 
 -- ---- small cases
 
+pub nothing : {A : Type 0} (xs : List A) → length xs ≡ 0 → xs ≡ []
+nothing [] e = refl
+nothing (x ∷ xs) e = absurd (omega arith)
+
 if-is : {A : Type 0} (t : Bool) (x y : A) → t ≡ true → (if t then x else y) ≡ x
 if-is true x y e = refl
 if-is false x y e = cc
@@ -51,6 +55,10 @@ true-covers ps b k = ⊎_elim
     (λ (e : b ≡ k). or_left (eqb b k) (nat_lt 0 (tally b (ancestors ps k))) (eq-eqb b k e))
     (λ (u : 0 < tally b (ancestors ps k)). or_right (eqb b k) (nat_lt 0 (tally b (ancestors ps k))) (lt-ltb 0 (tally b (ancestors ps k)) u))
 
+listed-some : {P : Type 0} (o : Option (List (Option P))) (k : ℕ) (p : P) → listed_by o k ≡ Some p → (g : List (Option P)) × (o ≡ Some g) × (slice_index_or g k None ≡ Some p)
+listed-some None k p e = cc
+listed-some (Some g) k p e = (g, refl, e)
+
 module _ {P E : Type 0} where
   -- ---- what is untaken
 
@@ -62,10 +70,6 @@ module _ {P E : Type 0} where
     pub grant : List (Option P)
     pub has : Has v b grant
     pub lists : slice_index_or grant k None ≡ Some p
-
-  listed-some : (o : Option (List (Option P))) (k : ℕ) (p : P) → listed_by o k ≡ Some p → (g : List (Option P)) × (o ≡ Some g) × (slice_index_or g k None ≡ Some p)
-  listed-some None k p e = cc
-  listed-some (Some g) k p e = (g, refl, e)
 
   pub untaken-is : (v : View P E) (b k : ℕ) (p : P) → untaken v b k ≡ Some p → IsUntaken v b k p
   untaken-is v b k p e =
@@ -107,7 +111,7 @@ module _ {P E : Type 0} where
     taken-others k ne = let o = one-other node k (λ e. ne (sym e)) in ap (λ xs. untaken (view_of xs) b k) is ∙ same-untaken v b k (node ∷ v.gone) (more ++ v.reads) (omega arith)
 
     pub taken-else : Covers v.tree b node → (k : ℕ) → (Covers v.tree b k → ⊥) → tally k (node ∷ v.gone) ≡ tally k v.gone
-    taken-else cover k no = let o = one-other node k (λ e. no (subst (Covers v.tree b) e cover)) in omega arith
+    taken-else cover k out = let o = one-other node k (λ e. out (subst (Covers v.tree b) e cover)) in omega arith
 
   pub taken-there : (v : View P E) (b node : ℕ) (p q : P) (e : untaken v b node ≡ Some p) → ((b : ℕ) (g : List (Option P)) → Has v b g → Covers v.tree b node → slice_index_or g node None ≡ Some q) → untaken v b node ≡ Some q
   taken-there v b node p q e found = let u = untaken-is v b node p e in is-untaken v b node u.grant q u.pos u.place u.cover u.home u.has (found b u.grant u.has u.cover)
@@ -116,14 +120,14 @@ module _ {P E : Type 0} where
 
   pub given-away : (v : View P E) (b node : ℕ) (p : P) → Lists v b node p → untaken v b node ≡ None → 0 < tally node v.gone
   given-away v b node p l none = dite (ℕ_discrete (tally node v.gone) 0)
-      (λ z. let some_there = is-untaken v b node l.3 p l.0 l.1 l.2 z l.4 l.5 in absurd (let bad : None ≡ Some p = sym none ∙ some_there in cc))
+      (λ z. let some_there = is-untaken v b node l.3.0 p l.0 l.1 l.2 z l.3.1 l.3.2 in absurd (let bad : None ≡ Some p = sym none ∙ some_there in cc))
       (λ nz. omega arith)
 
   module _ (v : View P E) (b node : ℕ) (more : List Read) (ws : List (View P E)) (is : ws ≡ record v { gone = without node v.gone; reads = more ++ v.reads } ∷ []) (once : tally node v.gone ≡ 1) where
     pub given-there : (p : P) → Lists v b node p → untaken (view_of ws) b node ≡ Some p
     given-there p l =
         let o = one-same node node refl in let t = tally-without node node v.gone (omega arith) in
-        ap (λ xs. untaken (view_of xs) b node) is ∙ is-untaken (record v { gone = without node v.gone; reads = more ++ v.reads }) b node l.3 p l.0 l.1 l.2 (omega arith) l.4 l.5
+        ap (λ xs. untaken (view_of xs) b node) is ∙ is-untaken (record v { gone = without node v.gone; reads = more ++ v.reads }) b node l.3.0 p l.0 l.1 l.2 (omega arith) l.3.1 l.3.2
 
     pub given-others : (k : ℕ) → k ≢ node → untaken (view_of ws) b k ≡ untaken v b k
     given-others k ne =
@@ -131,4 +135,4 @@ module _ {P E : Type 0} where
         ap (λ xs. untaken (view_of xs) b k) is ∙ same-untaken v b k (without node v.gone) (more ++ v.reads) (omega arith)
 
     pub given-else : Covers v.tree b node → (k : ℕ) → (Covers v.tree b k → ⊥) → tally k (without node v.gone) ≡ tally k v.gone
-    given-else cover k no = let o = one-other node k (λ e. no (subst (Covers v.tree b) e cover)) in let t = tally-without node k v.gone (omega arith) in omega arith
+    given-else cover k out = let o = one-other node k (λ e. out (subst (Covers v.tree b) e cover)) in let t = tally-without node k v.gone (omega arith) in omega arith
