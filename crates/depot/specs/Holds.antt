@@ -29,3 +29,7 @@ module _ {P E : Type 0} where
   abbrev pub Handled : ℕ → List (View P E) → List (View P E) → Type 0
   Handled b vs ws = (gone : List ℕ) × (more : List Read) × (ws ≡ record (view_of vs) { gone = gone; reads = more ++ (view_of vs).reads } ∷ [])
       × ((k : ℕ) → (Covers (view_of vs).tree b k → ⊥) → tally k gone ≡ tally k (view_of vs).gone)
+
+  -- each parcel of each open grant was taken
+  abbrev pub IsGathered : View P E → Type 0
+  IsGathered v = (b k : ℕ) (g : List (Option P)) → Has v b g → 0 < k → k < length v.tree → Covers v.tree b k → 0 < tally k v.gone
