@@ -7,6 +7,7 @@ ghost use Rattle.affinity.specs.Numbers as numbers;
 ghost use Rattle.affinity.specs.Tree.{IsNode};
 ghost use Rattle.affinity.specs.Fault.{fault_of};
 ghost use Rattle.parcels.specs.Exact.{HasExactly};
+ghost use Rattle.depot_rule.specs.declared.view.Entry.{Entry};
 ghost use Rattle.depot_rule.specs.Sums.{tally};
 ghost use Rattle.depot_rule.specs.Tree.{Covers, Excludes};
 ghost use Rattle.depot_rule.specs.Shares.{Has};
@@ -142,7 +143,7 @@ impl<M: Machine> Depot<M> {
         requires exact { HasExactly M.Parcel.kind (layout_of self.now.layout) (affinity_of grant.affinity) (N.parcels (layout_of self.now.layout) (affinity_of grant.affinity) grant.held) }
         ensures seat { (seat.new.badge.table_id ≡ seat.old.badge.table_id) × (seat.new.splits ≡ seat.old.splits) × IsSeatOf M.Parcel.kind (layout_of self.now.layout) (known seat.new.badge.views) }
         ensures finished { let node = numbers.number_of (layout_of self.now.layout) (affinity_of grant.affinity) in
-            let entry = record { node = node; call = call.now; reply = reply.now; left = by_number (N.parcels (layout_of self.now.layout) (affinity_of grant.affinity) grant.held) (1 + numbers.node_count (layout_of self.now.layout)) } in
+            let entry : Entry M.Parcel M.Call M.Reply = record { node = node; call = call.now; reply = reply.now; left = by_number (N.parcels (layout_of self.now.layout) (affinity_of grant.affinity) grant.held) (1 + numbers.node_count (layout_of self.now.layout)) } in
             IsFinished (known seat.old.badge.views) node entry (known seat.new.badge.views) }
     {
         let mut place: Place<M> = mem::replace(&mut seat.badge, Badge::blank()).into_seat();
