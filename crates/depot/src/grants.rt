@@ -172,7 +172,6 @@ fn give_home<M: Machine, N: Node<M::Parcel>>(
     requires ready { let v = view_of place.me.0 in (length place.me.0 ≡ 1) × (place.me.1 ≡ []) × (v.hand ≡ 0) × (v.path ≡ []) × (v.tree ≡ parents.now) }
     requires node { IsNode (layout_of layout.now) (affinity_of grant.affinity) × (kind_of (affinity_of grant.affinity) ≡ N.KIND) }
     requires listed { HasWith (view_of place.me.0) (numbers.number_of (layout_of layout.now) (affinity_of grant.affinity)) (N.parcels (layout_of layout.now) (affinity_of grant.affinity) grant.held) }
-    requires whole { HasExactly M.Parcel.kind (layout_of layout.now) (affinity_of grant.affinity) (N.parcels (layout_of layout.now) (affinity_of grant.affinity) grant.held) }
     requires taken { let v = view_of place.me.0 in (k : ℕ) → 0 < k → k < length v.tree → Covers v.tree (numbers.number_of (layout_of layout.now) (affinity_of grant.affinity)) k → 0 < tally k v.gone }
     ensures seat { (result.table_id ≡ place.table_id) × (result.me.1 ≡ []) }
     ensures ended { (length result.me.0 ≡ 1) × IsEnded (view_of place.me.0) (numbers.number_of (layout_of layout.now) (affinity_of grant.affinity)) (view_of result.me.0) }
