@@ -32,8 +32,7 @@ use std::mem;
 /// The parcels of a node and of all nodes below it. A grant that is dropped gives nothing home.
 pub struct Grant<T: HasKind, N: Node<T>> {
     pub(crate) affinity: Affinity,
-    /// The parcels, to be read and changed.
-    pub held: N::Held,
+    pub(crate) held: N::Held,
 }
 
 /// Why a call doesn't begin.
@@ -49,11 +48,22 @@ pub enum Refusal {
 const WORN: u64 = 1 << 62;
 
 impl<T: HasKind, N: Node<T>> Grant<T, N> {
+    ghost use Rattle.std.specs.Borrow.{Lends, sem};
+    ghost use Rattle.depot.specs.contracts.grants.Grant.{the_row};
+
     /// What was granted.
     pub fn affinity(&self) -> Affinity
         ensures { result ≡ self.now.affinity }
     {
         self.affinity
+    }
+
+    /// The parcels, to be read and changed.
+    pub fn held(&mut self) -> &mut N::Held
+        ensures* writes_back { sem 𝓛 (Lends (the_row T.row N.row N.Held.row) N.Held.row self.entry result (λ held. record self.old { held = held })) }
+        ensures value { result.now ≡ self.old.held }
+    {
+        &mut self.held
     }
 }
 
