@@ -90,7 +90,11 @@ impl<M: Machine> Depot<M> {
             Ok(()) => {
                 let mut hold = Hold { board, place, node };
                 let held = N::gather(&mut hold, &self.layout, affinity);
-                let Hold { board: _, place, node: _ } = hold;
+                let Hold {
+                    board: _,
+                    place,
+                    node: _,
+                } = hold;
                 seat.badge = place.into_badge();
                 Ok(Grant { affinity, held })
             }
@@ -113,7 +117,14 @@ impl<M: Machine> Depot<M> {
         ensures ended { IsEnded (known seat.old.badge.views) (numbers.number_of (layout_of self.now.layout) (affinity_of grant.affinity)) (known seat.new.badge.views) }
     {
         let place: Place<M> = mem::replace(&mut seat.badge, Badge::blank()).into_seat();
-        seat.badge = give_home(&self.table.shared, place, &self.layout, &self.parents, grant).into_badge();
+        seat.badge = give_home(
+            &self.table.shared,
+            place,
+            &self.layout,
+            &self.parents,
+            grant,
+        )
+        .into_badge();
     }
 
     /// Ends a call: it takes effect by one step, with its parcels as they are then, and after that
@@ -136,7 +147,14 @@ impl<M: Machine> Depot<M> {
     {
         let mut place: Place<M> = mem::replace(&mut seat.badge, Badge::blank()).into_seat();
         stamp_as::<M, Brand>(&self.table.shared, &mut place);
-        seat.badge = give_home(&self.table.shared, place, &self.layout, &self.parents, grant).into_badge();
+        seat.badge = give_home(
+            &self.table.shared,
+            place,
+            &self.layout,
+            &self.parents,
+            grant,
+        )
+        .into_badge();
     }
 }
 
@@ -162,7 +180,11 @@ fn give_home<M: Machine, N: Node<M::Parcel>>(
     let node = layout.number_of(affinity);
     let mut hold = Hold { board, place, node };
     N::scatter(&mut hold, layout, affinity, held);
-    let Hold { board: _, mut place, node: _ } = hold;
+    let Hold {
+        board: _,
+        mut place,
+        node: _,
+    } = hold;
     give_up(board, &mut place, parents, node);
     place
 }
