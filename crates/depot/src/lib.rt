@@ -3,6 +3,7 @@
 //! parcels that go out of their slots and come home.
 #![tactic(auto)]
 
+pub mod adding;
 pub mod claiming;
 mod closed;
 pub mod depot;
@@ -15,3 +16,8 @@ pub mod slots;
 pub mod stamps;
 pub mod steps;
 pub mod table;
+
+#[cfg(test)]
+mod tests;
+#[cfg(test)]
+mod trial;
