@@ -25,6 +25,11 @@ module _ {P E : Type 0} where
   abbrev pub Lists : View P E → ℕ → ℕ → P → Type 0
   Lists v b k p = (0 < k) × (k < length v.tree) × Covers v.tree b k × ((g : List (Option P)) × Has v b g × (slice_index_or g k None ≡ Some p))
 
-  -- some parcels were taken or given, and nothing else
-  abbrev pub Handled : List (View P E) → List (View P E) → Type 0
-  Handled vs ws = (gone : List ℕ) × (more : List Read) × (ws ≡ record (view_of vs) { gone = gone; reads = more ++ (view_of vs).reads } ∷ [])
+  -- some parcels that b covers were taken or given, and nothing else
+  abbrev pub Handled : ℕ → List (View P E) → List (View P E) → Type 0
+  Handled b vs ws = (gone : List ℕ) × (more : List Read) × (ws ≡ record (view_of vs) { gone = gone; reads = more ++ (view_of vs).reads } ∷ [])
+      × ((k : ℕ) → (Covers (view_of vs).tree b k → ⊥) → tally k gone ≡ tally k (view_of vs).gone)
+
+  -- each parcel of each open grant was taken
+  abbrev pub IsGathered : View P E → Type 0
+  IsGathered v = (b k : ℕ) (g : List (Option P)) → Has v b g → 0 < k → k < length v.tree → Covers v.tree b k → 0 < tally k v.gone

@@ -1,6 +1,6 @@
 //! Calls on a depot, from begin to finish.
 
-ghost use Rattle.std.specs.Prelude.{◌≡◌, ◌<◌, ◌+◌, ℕ, List, [], length, None, IfOk, IfErr};
+ghost use Rattle.std.specs.Prelude.{◌≡◌, ◌<◌, ◌+◌, ℕ, List, Option, [], length, None, IfOk, IfErr};
 ghost use Rattle.affinity.specs.Affinity.{affinity_of, kind_of};
 ghost use Rattle.affinity.specs.Layout.{layout_of};
 ghost use Rattle.affinity.specs.Numbers as numbers;
@@ -8,7 +8,7 @@ ghost use Rattle.affinity.specs.Tree.{IsNode};
 ghost use Rattle.affinity.specs.Fault.{fault_of};
 ghost use Rattle.parcels.specs.Exact.{HasExactly};
 ghost use Rattle.depot_rule.specs.Sums.{tally};
-ghost use Rattle.depot_rule.specs.Tree.{Covers};
+ghost use Rattle.depot_rule.specs.Tree.{Covers, Excludes};
 ghost use Rattle.depot_rule.specs.Shares.{Has};
 ghost use Rattle.depot_rule.specs.Seats.{view_of};
 ghost use Rattle.depot.specs.Calls.{known};
@@ -175,6 +175,8 @@ fn give_home<M: Machine, N: Node<M::Parcel>>(
     requires taken { let v = view_of place.me.0 in (k : ℕ) → 0 < k → k < length v.tree → Covers v.tree (numbers.number_of (layout_of layout.now) (affinity_of grant.affinity)) k → 0 < tally k v.gone }
     ensures seat { (result.table_id ≡ place.table_id) × (result.me.1 ≡ []) }
     ensures ended { (length result.me.0 ≡ 1) × IsEnded (view_of place.me.0) (numbers.number_of (layout_of layout.now) (affinity_of grant.affinity)) (view_of result.me.0) }
+    ensures others { (k : ℕ) → (Covers (view_of place.me.0).tree (numbers.number_of (layout_of layout.now) (affinity_of grant.affinity)) k → ⊥) → tally k (view_of result.me.0).gone ≡ tally k (view_of place.me.0).gone }
+    ensures apart { (c : ℕ) (h : List (Option _)) → Has (view_of place.me.0) c h → Excludes (view_of place.me.0).tree (numbers.number_of (layout_of layout.now) (affinity_of grant.affinity)) c → c ≡ numbers.number_of (layout_of layout.now) (affinity_of grant.affinity) }
 {
     let Grant { affinity, held } = grant;
     let node = layout.number_of(affinity);

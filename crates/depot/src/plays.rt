@@ -98,6 +98,15 @@ impl<P, E> Play<Option<P>, Views<P, E>> for Look {
     ghost then = { LookSays };
 }
 
+/// Two seats that met are found to be alike.
+pub struct Alike;
+
+impl<P, E> Play<Option<P>, Views<P, E>> for Alike {
+    ghost use Rattle.depot_rule.specs.Plays.{AlikeSays};
+
+    ghost then = { AlikeSays };
+}
+
 /// A second seat is split off.
 pub struct SplitOff;
 

@@ -3,13 +3,11 @@
 ghost use Rattle.std.specs.Prelude.{◌≡◌, ◌<◌, ◌+◌, ◌-◌, ◌∷◌, ◌++◌, ℕ, List, [], length, IfOk, IfErr};
 ghost use Rattle.depot_rule.specs.declared.view.View.{View};
 ghost use Rattle.depot_rule.specs.declared.view.Read.{Read};
-ghost use Rattle.depot_rule.specs.Sums.{tally};
-ghost use Rattle.depot_rule.specs.Tree.{Covers};
-ghost use Rattle.depot_rule.specs.Shares.{Has};
 ghost use Rattle.depot_rule.specs.Seats.{fresh, merge, longer, having_seen};
 ghost use Rattle.depot.specs.Calls.{own_views, known};
+ghost use Rattle.depot.specs.Holds.{IsGathered};
 
-use crate::plays::{Look, Meet, Merge, PartAgain, SplitOff};
+use crate::plays::{Alike, Meet, Merge, PartAgain, SplitOff};
 use crate::table::{Board, Place, ViewsOf};
 use atomic_table::Badge;
 use depot_rule::machine::Machine;
@@ -24,7 +22,7 @@ pub struct Seat<M: Machine> {
     ghost one: { (length badge.views ≡ 1) × (length (own_views badge.views) ≡ 1) },
     ghost idle: { ((known badge.views).unsure ≡ 0) × ((known badge.views).hand ≡ 0) × (length (known badge.views).path ≡ 0) },
     ghost parts: { (known badge.views).parts ≡ splits + 1 },
-    ghost gathered: { (b k : ℕ) (g : List _) → Has (known badge.views) b g → 0 < k → k < length (known badge.views).tree → Covers (known badge.views).tree b k → 0 < tally k (known badge.views).gone },
+    ghost gathered: { IsGathered (known badge.views) },
 }
 
 /// Splits a second seat off, which has seen the same and has nothing open. A seat with no split left comes back.
@@ -69,9 +67,10 @@ pub fn join_seat<M: Machine>(board: &Board<M>, first: Seat<M>, second: Seat<M>) 
         splits: other_splits,
     } = second;
     let mut place: Place<M> = badge.into_seat();
-    let mut other: Place<M> = other_badge.into_seat();
-    board.load::<Look>(&mut place, 0);
-    board.load::<Look>(&mut other, 0);
+    let other: Place<M> = other_badge.into_seat();
+    board.join_seat::<Meet>(&mut place, other);
+    board.load::<Alike>(&mut place, 0);
+    let other = board.split_seat::<PartAgain>(&mut place);
     board.join_seat::<Merge>(&mut place, other);
     Seat {
         badge: place.into_badge(),

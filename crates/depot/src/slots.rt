@@ -41,6 +41,7 @@ pub fn give_parcel<M: Machine>(
     requires ready { let v = view_of place.old.me.0 in (length place.old.me.0 ≡ 1) × (place.old.me.1 ≡ []) × (0 < node) × (v.hand ≡ 0) × (0 < tally node v.gone) × (v.tree ≡ board.now.key.value.parents.items) }
     requires granted { let v = view_of place.old.me.0 in (b : ℕ) × (g : List (Option _)) × Has v b g × Covers v.tree b node × (slice_index_or g node None ≡ Some parcel) }
     ensures seat { (place.new.table_id ≡ place.old.table_id) × (place.new.me.1 ≡ []) }
+    ensures once { tally node (view_of place.old.me.0).gone ≡ 1 }
     ensures given { let v = view_of place.old.me.0 in (more : List Read) × (place.new.me.0 ≡ record v { gone = without node v.gone; reads = more ++ v.reads } ∷ []) }
 {
     board.load::<Reach>(place, node);

@@ -5,7 +5,7 @@ ghost use Rattle.depot_rule.specs.declared.view.View.{View};
 ghost use Rattle.depot_rule.specs.declared.view.Read.{Read};
 ghost use Rattle.depot_rule.specs.Tree.{Covers};
 ghost use Rattle.depot_rule.specs.Shares.{Has};
-ghost use Rattle.depot_rule.specs.Parcels.{takes, IsParcel};
+ghost use Rattle.depot_rule.specs.Parcels.{takes};
 ghost use Rattle.depot_rule.specs.Seats.{view_of};
 
 use crate::table::{Board, EntryOf, Place};
@@ -39,8 +39,8 @@ pub fn stamp_as<M: Machine, J: Said<EntryOf<M>>>(board: &Board<M>, place: &mut P
     requires table { (place.old.table_id ≡ board.now.table_id) × (0 < board.now.table_id.words) }
     requires one { length place.old.me.0 ≡ 1 }
     requires granted { let v = view_of place.old.me.0 in (e : _) × (g : _) × (J.item ≡ Some e) × Has v e.node g
-        × ((k : ℕ) → 0 < k → k < length board.now.key.value.parents.items → Covers board.now.key.value.parents.items e.node k → takes k v ≡ 1)
-        × ((k : ℕ) → 0 < k → k < length board.now.key.value.parents.items → Covers board.now.key.value.parents.items e.node k → IsParcel M.Parcel.kind board.now.key.value.parcels.items k (slice_index_or e.left k None)) }
+        × ((k : ℕ) → 0 < k → k < length board.now.key.value.parents.items → Covers board.now.key.value.parents.items e.node k → 0 < takes k v)
+        × ((k : ℕ) → 0 < k → k < length board.now.key.value.parents.items → Covers board.now.key.value.parents.items e.node k → (p : _) × (slice_index_or e.left k None ≡ Some p) × ((q : _) → slice_index_or v.first k None ≡ Some q → M.Parcel.kind p ≡ M.Parcel.kind q)) }
     ensures seat { (place.new.table_id ≡ place.old.table_id) × (place.new.me.1 ≡ place.old.me.1) }
     ensures stamped { let v = view_of place.old.me.0 in (e : _) → J.item ≡ Some e → (between : List _)
         × (place.new.me.0 ≡ record v { held = slice_set v.held e.node (Some e.left); reads = record { word = 0; value = result; shares = 0 } ∷ v.reads; seen = (v.seen ++ between) ++ e ∷ []; mine = v.mine ++ length (v.seen ++ between) ∷ [] } ∷ []) }

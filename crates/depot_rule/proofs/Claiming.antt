@@ -22,6 +22,8 @@ use Rattle.depot_rule.proofs.Grants.{at-length, claims-own, lower-own}
 use Rattle.depot_rule.proofs.Only.{own-or-below}
 use Rattle.depot_rule.proofs.Words.{claim-keeps, release-keeps, read-keeps}
 use Rattle.depot_rule.proofs.Parcels.{stay-keeps, untaken}
+use Rattle.depot_rule.proofs.Trees.{covers-below}
+use Rattle.depot_rule.proofs.Following.{are-apart}
 use Rattle.depot_rule.proofs.Places.{on-one}
 use Rattle.affinity.specs.declared.affinity.Kind.{Kind}
 
@@ -150,13 +152,16 @@ module _ (P E : Type 0) (kind_of : P → Kind) where
 
   -- a grant whose parcels are all at home is given up
   pub releases : (ps : List ℕ) (first : List (Option P)) (slots id : ℕ) (me : Place P E) (v : View P E) (b : ℕ) (g : G) → me.0 ≡ v ∷ [] → 0 < b → b < length ps → v.path ≡ [] → get_elem? v.held b ≡ some (Some g)
-      → ((k : ℕ) → 0 < k → Covers ps b k → takes k v ≡ 0)
+      → ((k : ℕ) (p : P) → 0 < k → k < length ps → Covers ps b k → get_or g k None ≡ Some p → takes k v ≡ 0)
       → Allows (Rule kind_of ps first) slots id me b (λ x. (x + (2 ^ 64 - exclusive)) % 2 ^ 64) (ReleaseSays (step slots b exclusive 0 none) me)
-  releases ps first slots id me v b g one pos lt no_path held home_again s r _ at' small =
+  releases ps first slots id me v b g one pos lt no_path held listed_home s r _ at' small =
       let at : get_elem? s.views id ≡ some (v ∷ []) = at' ∙ ap some one in
       let st : Step (Option P) = step slots b exclusive 0 none in
       let x : ℕ = get_or s.words b 0 in
+      let so = r.shares.sound id (v ∷ []) at 0 v refl in
       let ca = r.parcels.carries id (v ∷ []) at 0 v refl in
+      let home_again : (k : ℕ) → 0 < k → Covers ps b k → takes k v ≡ 0
+      = λ k pk ck. let lk = covers-below ps b k pk lt ck in let p = ca.whole b k g held ck pk lk in listed_home k p.0 pk lk ck p.1 in
       let w : View P E = record v { path = ancestors v.tree b; held = set v.held b None; reads = noted st x v } in
       let kept = release-keeps P E ps s.words s.views r.shares id v b g (noted st x v) at pos lt no_path held in
       let full = kept.0 in
@@ -177,5 +182,8 @@ module _ (P E : Type 0) (kind_of : P → Kind) where
         tt,
         subst (λ (z : ℕ). Rule kind_of ps first (stepped s b z id me.1 (w ∷ []) keeps)) (sym wrap)
             (record { shares = kept.1; parcels = stay-keeps P E kind_of ps first s r id v w at (λ k. refl) mine }),
-        (on-one _ me.0 v one refl, refl),
+        (
+          on-one _ me.0 v one (refl, λ c h hc ex. sym (are-apart P E kind_of ps first s r id 0 b id 0 c (v ∷ [], v, g, at, refl, held) (v ∷ [], v, h, at, refl, hc) (subst (λ (t : List ℕ). Excludes t b c) so.tree ex)).2),
+          refl,
+        ),
       )

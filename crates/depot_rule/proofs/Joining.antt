@@ -45,7 +45,7 @@ module _ {A : Type 0} where
   length-both (x ∷ xs) [] e = refl
   length-both (x ∷ xs) (y ∷ ys) e = let r = length-both xs ys (omega arith) in omega arith
 
-  held-of : (xs ys : List (Option A)) (i : ℕ) (g : A) → get_elem? (both_held xs ys) i ≡ some (Some g) → (get_elem? xs i ≡ some (Some g)) ⊎ (get_elem? ys i ≡ some (Some g))
+  pub held-of : (xs ys : List (Option A)) (i : ℕ) (g : A) → get_elem? (both_held xs ys) i ≡ some (Some g) → (get_elem? xs i ≡ some (Some g)) ⊎ (get_elem? ys i ≡ some (Some g))
   held-of [] ys i g e = inr e
   held-of (x ∷ xs) [] i g e = inl e
   held-of (None ∷ xs) (y ∷ ys) zero g e = inr e

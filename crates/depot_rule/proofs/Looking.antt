@@ -1,19 +1,24 @@
 -- A look at the ticket, as the table asks for it.
-use Rattle.std.proofs.Common.{◌≡◌, ℕ, ◌≤◌, List, [], ◌∷◌, get_or, set, refl, ap, ◌∙◌, arith, Option, length-set, get_or-set_other}
+use Rattle.std.proofs.Common.{◌≡◌, ℕ, ◌+◌, ◌≤◌, List, [], ◌∷◌, get_or, set, sym, refl, ap, ◌∙◌, subst, arith, Option, length-set, get_or-set_other}
 use mathlib.Core.Option.{none, some}
 use lib.ListN.{get_elem?}
 use Rattle.atomic_table.specs.Table.{step, keeps, Allows}
+use Rattle.atomic_table.proofs.Lists.{set_again}
 use Rattle.depot_rule.specs.declared.view.View.{View}
 use Rattle.depot_rule.specs.declared.view.Read.{Read}
 use Rattle.depot_rule.specs.Sums.{total}
 use Rattle.depot_rule.specs.Shares.{parts, claims, entered, shares, IsSound, Shares}
 use Rattle.depot_rule.specs.Rule.{Rule}
-use Rattle.depot_rule.specs.Plays.{Place, LookSays}
+use Rattle.depot_rule.specs.Plays.{Place, LookSays, AlikeSays}
 use Rattle.depot_rule.proofs.Sums.{total-set, total-at}
 use Rattle.depot_rule.proofs.Views.{all-one, each-set}
 use Rattle.depot_rule.proofs.Parcels.{stay-keeps}
 use Rattle.depot_rule.proofs.Places.{on-one}
 use Rattle.affinity.specs.declared.affinity.Kind.{Kind}
+
+same-word : (ws : List ℕ) → set ws 0 (get_or ws 0 0) ≡ ws
+same-word [] = refl
+same-word (w ∷ ws) = refl
 
 module _ (P E : Type 0) where
   -- the ticket is no node's word
@@ -50,3 +55,23 @@ module _ (P E : Type 0) where
         },
         (on-one _ me.0 v one (refl, (let fit : v.parts ≤ 64 = omega arith in fit)), refl),
       )
+
+  -- two seats that met are of the table's tree
+  pub alikes : (kind_of : P → Kind) (ps : List ℕ) (first : List (Option P)) (slots id : ℕ) (me : Place P E)
+      → Allows (Rule kind_of ps first) slots id me 0 (λ x. x) (AlikeSays (step slots 0 0 0 none) me)
+  alikes kind_of ps first slots id me s r _ at small = (
+    me.0,
+    keeps,
+    tt,
+    subst (λ (z : List ℕ × List (List (View P E))). Rule kind_of ps first record { words = z.0; homes = s.homes; views = z.1 })
+        (λ i. (sym (same-word s.words) i, sym (set_again s.views id me.0 at) i)) r,
+    (
+      refl,
+      λ v w is.
+          let at' : get_elem? s.views id ≡ some (v ∷ w ∷ []) = at ∙ ap some is in
+          let so = r.shares.sound id (v ∷ w ∷ []) at' 0 v refl in
+          let so' = r.shares.sound id (v ∷ w ∷ []) at' 1 w refl in
+          let most = total-at (total parts) s.views id (v ∷ w ∷ []) at' in let seats = r.shares.seats in
+          (so.tree ∙ sym so'.tree, (let fit : v.parts + w.parts ≤ 64 = omega arith in fit)),
+    ),
+  )

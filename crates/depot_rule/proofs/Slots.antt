@@ -87,7 +87,7 @@ module _ (P E : Type 0) (kind_of : P → Kind) where
       let w : View P E = record v { hand = k; gone = without k v.gone; reads = noted st x v } in
       let one_k : one_if (eqb k k) ≡ 1 = one-same k k refl in
       let less : (m : ℕ) → tally m (without k v.gone) + one_if (eqb k m) ≡ tally m v.gone = λ m. tally-without k m v.gone away in
-      let less_k = less k in let single = ca.single k pos in
+      let less_k = less k in let single = ca.single k pos in let once : tally k v.gone ≡ 1 = omega arith in
       let c = ca.cover k pos (omega arith) in (
         w ∷ [],
         takes_slot k None,
@@ -95,7 +95,7 @@ module _ (P E : Type 0) (kind_of : P → Kind) where
         slot-keeps P E kind_of ps first s r id c.0 k v c.1 k (without k v.gone) (noted st x v) none at c.2 c.3 pos lt
             (λ m pm ne. let l = less m in let y = one-other k m (λ e. ne (sym e)) in (omega arith, y ∙ sym (one-other v.hand m (λ e. omega arith))))
             (omega arith) (λ z. absurd (omega arith)) (λ z. absurd (omega arith)),
-        (on-one _ me.0 v one refl, refl),
+        (on-one _ me.0 v one (refl, once), refl),
       )
 
   -- the slot comes home with what the grant lists

@@ -67,12 +67,17 @@ module _ (P C R : Type 0) (kind_of : P → Kind) where
   E = Entry P C R
 
   pub stamps : (ps : List ℕ) (first : List (Option P)) (slots id : ℕ) (me : Place P E) (v : View P E) (e : E) (g : List (Option P)) → me.0 ≡ v ∷ [] → Has v e.node g
-      → ((k : ℕ) → 0 < k → k < length ps → Covers ps e.node k → takes k v ≡ 1)
-      → ((k : ℕ) → 0 < k → k < length ps → Covers ps e.node k → IsParcel kind_of first k (get_or e.left k None))
+      → ((k : ℕ) → 0 < k → k < length ps → Covers ps e.node k → 0 < takes k v)
+      → ((k : ℕ) → 0 < k → k < length ps → Covers ps e.node k → (p : P) × (get_or e.left k None ≡ Some p) × ((q : P) → get_or v.first k None ≡ Some q → kind_of p ≡ kind_of q))
       → Allows (Rule kind_of ps first) slots id me 0 (λ x. (x + 1) % 2 ^ 64) (StampSays (Some e) (step slots 0 1 0 none) me)
   stamps ps first slots id me v e g one here taken fits s r _ at' small =
       let at : get_elem? s.views id ≡ some (v ∷ []) = at' ∙ ap some one in
       let x : ℕ = get_or s.words 0 0 in
+      let ca = r.parcels.carries id (v ∷ []) at 0 v refl in
+      let once : (k : ℕ) → 0 < k → k < length ps → Covers ps e.node k → takes k v ≡ 1
+      = λ k pk lk ck. let t = taken k pk lk ck in let m = ca.single k pk in omega arith in
+      let parcels : (k : ℕ) → 0 < k → k < length ps → Covers ps e.node k → IsParcel kind_of first k (get_or e.left k None)
+      = λ k pk lk ck. let f = fits k pk lk ck in let q = (ca.whole e.node k g here ck pk lk).2 in (f.0, f.1, (q.0, q.1, f.2 q.0 (ap (λ (z : List (Option P)). get_or z k None) ca.opened ∙ q.1))) in
       let rs : List Read = record { word = 0; value = x; shares = 0 } ∷ v.reads in
       let seen : List E = (v.seen ++ []) ++ e ∷ [] in
       let mine : List ℕ = v.mine ++ length (v.seen ++ []) ∷ [] in
@@ -80,6 +85,6 @@ module _ (P C R : Type 0) (kind_of : P → Kind) where
         w ∷ [],
         keeps,
         tt,
-        relist-keeps P E kind_of ps first s r ((x + 1) % 18446744073709551616) id e.node v g e.left rs seen mine at here taken fits,
+        relist-keeps P E kind_of ps first s r ((x + 1) % 18446744073709551616) id e.node v g e.left rs seen mine at here once parcels,
         (on-one _ me.0 v one ([], refl), refl),
       )

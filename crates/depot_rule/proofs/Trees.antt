@@ -1,5 +1,5 @@
 -- The nodes above a node.
-use Rattle.std.proofs.Common.{◌≡◌, ℕ, zero, suc, ◌<◌, ◌≤◌, eqb, List, [], ◌∷◌, slice_index, sym, ap, ◌∙◌, subst, arith, refl, inl, inr, ⊎_elim}
+use Rattle.std.proofs.Common.{◌≡◌, ℕ, zero, suc, ◌<◌, ◌≤◌, eqb, List, [], ◌∷◌, length, slice_index, sym, ap, ◌∙◌, subst, arith, refl, inl, inr, ⊎_elim}
 use mathlib.Core.Logic.{dite}
 use native.Mathlib.Decide.{ℕ_discrete, dec_lt}
 use Rattle.depot_rule.specs.Sums.{tally}
@@ -110,6 +110,18 @@ above-above ps t zero k b c pos le hb hc = absurd (omega arith)
 above-above ps t (suc m) k b c pos le hb hc = let l = t k pos in let p : ℕ = slice_index ps k in
     from-above ps (upwards ps m) p b c (λ some_parent. enough ps t m p p some_parent (omega arith) (omega arith))
     (λ some_parent ub uc. above-above ps t m p b c some_parent (omega arith) ub uc) hb hc
+
+beyond : (ps : List ℕ) (k : ℕ) → length ps ≤ k → slice_index ps k ≡ 0
+beyond [] k h = refl
+beyond (p ∷ ps) zero h = absurd (omega arith)
+beyond (p ∷ ps) (suc k) h = beyond ps k (omega arith)
+
+-- what a node covers is a node
+pub covers-below : (ps : List ℕ) (b k : ℕ) → 0 < k → b < length ps → Covers ps b k → k < length ps
+covers-below ps b k pos lt c = elim (dec_lt k (length ps)) [ yes l ↦ l | no n ↦ absurd (⊎_elim
+    (λ (e : b ≡ k). n (let l : k < length ps = omega arith in l))
+    (λ (u : 0 < tally b (ancestors ps k)). let none : tally b (ancestors ps k) ≡ 0 = ap (tally b) (ancestors-root ps k (beyond ps k (omega arith))) in let no : ⊥ = absurd (omega arith) in no)
+    c) ]
 
 -- what covers a node covers all that the node covers
 pub covers-through : (ps : List ℕ) → IsTree ps → (c b k : ℕ) → Covers ps c b → Covers ps b k → Covers ps c k

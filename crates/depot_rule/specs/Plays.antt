@@ -1,12 +1,12 @@
 -- What each kind of step tells the seat that makes it.
-use Rattle.std.specs.Prelude.{◌≡◌, ◌≢◌, ℕ, ◌<◌, ◌≤◌, List, [], ◌∷◌, ◌++◌, drop, length, slice_set, slice_index_or, Option, Some, None, IfSome}
+use Rattle.std.specs.Prelude.{◌≡◌, ◌≢◌, ℕ, ◌+◌, ◌<◌, ◌≤◌, List, [], ◌∷◌, ◌++◌, drop, length, slice_set, slice_index_or, Option, Some, None, IfSome}
 use mathlib.Core.Option.{some}
 use lib.ListN.{get_elem?}
 use Rattle.atomic_table.specs.Table.{Me, Step, rest}
 use Rattle.depot_rule.specs.declared.view.View.{View}
 use Rattle.depot_rule.specs.declared.view.Read.{Read}
 use Rattle.depot_rule.specs.declared.view.Entry.{Entry}
-use Rattle.depot_rule.specs.Sums.{without}
+use Rattle.depot_rule.specs.Sums.{tally, without}
 use Rattle.depot_rule.specs.Tree.{ancestors, Covers, Excludes}
 use Rattle.depot_rule.specs.Shares.{exclusive, shares, Has}
 use Rattle.depot_rule.specs.Parcels.{takes, IsParcel}
@@ -55,9 +55,10 @@ module _ {P E : Type 0} where
       × (get_elem? v.held st.word ≡ some None))
       × (found ≢ 0 → (vs ≡ record v { reads = noted st found v } ∷ []) × (IsOnly v → (c : ℕ) × (h : List (Option P)) × Has v c h × Excludes v.tree st.word c))) me me'
 
-  -- fetch_sub of 2^32: the grant ends, and its shares are to be left
+  -- fetch_sub of 2^32: the grant ends, which no other grant of the seat excluded, and its shares are to be left
   abbrev pub ReleaseSays : Step (Option P) → Place P E → ℕ → Place P E → Type 0
-  ReleaseSays st me found me' = Goes (λ v vs. vs ≡ record v { path = ancestors v.tree st.word; held = slice_set v.held st.word None; reads = noted st found v } ∷ []) me me'
+  ReleaseSays st me found me' = Goes (λ v vs. (vs ≡ record v { path = ancestors v.tree st.word; held = slice_set v.held st.word None; reads = noted st found v } ∷ [])
+      × ((c : ℕ) (h : List (Option P)) → Has v c h → Excludes v.tree st.word c → c ≡ st.word)) me me'
 
   -- a load of the node's word, by which its slot goes out with what the grant lists
   abbrev pub FetchSays : Step (Option P) → Place P E → ℕ → Place P E → Type 0
@@ -69,10 +70,10 @@ module _ {P E : Type 0} where
   abbrev pub EmptySays : Step (Option P) → Place P E → ℕ → Place P E → Type 0
   EmptySays st me found me' = OnOne (λ v. me'.0 ≡ record v { hand = 0; gone = st.word ∷ v.gone; reads = noted st found v } ∷ []) me.0 × (me'.1 ≡ rest me.1)
 
-  -- a load, by which the empty slot goes out
+  -- a load, by which the empty slot of a parcel that was taken once goes out
   abbrev pub ReachSays : Step (Option P) → Place P E → ℕ → Place P E → Type 0
   ReachSays st me found me' =
-      OnOne (λ v. me'.0 ≡ record v { hand = st.word; gone = without st.word v.gone; reads = noted st found v } ∷ []) me.0
+      OnOne (λ v. (me'.0 ≡ record v { hand = st.word; gone = without st.word v.gone; reads = noted st found v } ∷ []) × (tally st.word v.gone ≡ 1)) me.0
       × (me'.1 ≡ (st.word, None) ∷ me.1)
 
   -- a load, by which the slot comes home with what the grant lists
@@ -82,6 +83,10 @@ module _ {P E : Type 0} where
   -- a load of the ticket, in which no seat has shares
   abbrev pub LookSays : Step (Option P) → Place P E → ℕ → Place P E → Type 0
   LookSays st me found me' = Goes (λ v vs. (vs ≡ record v { reads = record { word = 0; value = found; shares = 0 } ∷ v.reads } ∷ []) × (v.parts ≤ 64)) me me'
+
+  -- a load by which two seats that met are found to be of one tree, with at most 64 parts
+  abbrev pub AlikeSays : Step (Option P) → Place P E → ℕ → Place P E → Type 0
+  AlikeSays st me found me' = (me' ≡ me) × ((v w : View P E) → me.0 ≡ v ∷ w ∷ [] → (v.tree ≡ w.tree) × (v.parts + w.parts ≤ 64))
 
 -- fetch_add of 1 on the ticket, for the entry e: the grant of its node lists from then on what the entry left, and the entry stands in the history after all that was seen and what others put between
 abbrev pub StampSays : {P C R : Type 0} → Option (Entry P C R) → Step (Option P) → Place P (Entry P C R) → ℕ → Place P (Entry P C R) → Type 0

@@ -1,41 +1,95 @@
-use Rattle.std.proofs.Common.{rules, length, sym, ap, ◌∙◌}
+use Rattle.std.proofs.Common.{rules, arith, ◌≡◌, ◌+◌, ◌≤◌, ◌∷◌, List, [], length, sym, ap, ◌∙◌}
 use Rattle.depot_rule.specs.declared.view.Entry.{Entry}
-use Rattle.depot_rule.specs.Seats.{view_of}
-use Rattle.depot_rule.proofs.Places.{one-view, of-one}
-use Rattle.depot_rule.proofs.Looking.{looks}
+use Rattle.depot_rule.specs.declared.view.View.{View}
+use Rattle.depot_rule.specs.Seats.{view_of, merge, having_seen, longer, first_of, others_of, met}
+use Rattle.depot_rule.proofs.Dealing.{meets, parts-again}
+use Rattle.depot_rule.proofs.Looking.{alikes}
 use Rattle.depot_rule.proofs.Joining.{merges-seats}
-use Rattle.depot.specs.Calls.{known}
+use Rattle.depot.specs.Calls.{own_views, known}
 use Rattle.depot.proofs.Moves.{placed-one, no-path}
+use Rattle.depot.proofs.Seated.{met-first, met-second, met-two, merged-view, merge-gathered, known-known, gathered-in, gathered-of}
 use Rattle.depot.proofs.seats.join_seat.Goals as goal
+
+pub join_seat-requires : goal.join_seat-requires
+join_seat-requires g c = (
+  search rules,
+  search rules,
+  search rules,
+  search rules,
+  meets g.row.M-Parcel.Denot (Entry g.row.M-Parcel.Denot g.row.M-Call.Denot g.row.M-Reply.Denot) g.M.Parcel.HasKind.kind c.args.board.now.key.value.parents.items c.args.board.now.key.value.parcels.items
+      _ c.into_seat-place.result.me.0 _ c.into_seat-other.result.me.0,
+)
 
 pub load-requires : goal.load-requires
 load-requires g c = (
   search rules,
   search rules,
-  looks g.row.M-Parcel.Denot (Entry g.row.M-Parcel.Denot g.row.M-Call.Denot g.row.M-Reply.Denot) g.M.Parcel.HasKind.kind c.args.board.now.key.value.parents.items c.args.board.now.key.value.parcels.items
-      _ _ c.into_seat-place.result.me (view_of c.into_seat-place.result.me.0) (one-view c.into_seat-place.result.me.0 (placed-one c.into_seat-place.ensures.2 c.args.first.one.1)),
+  alikes g.row.M-Parcel.Denot (Entry g.row.M-Parcel.Denot g.row.M-Call.Denot g.row.M-Reply.Denot) g.M.Parcel.HasKind.kind c.args.board.now.key.value.parents.items c.args.board.now.key.value.parcels.items
+      _ _ c.join_seat.new.seat.me,
 )
 
-pub load-requires-2 : goal.load-requires-2
-load-requires-2 g c = (
+pub split_seat-other-requires : goal.split_seat-other-requires
+split_seat-other-requires g c = (
   search rules,
   search rules,
-  looks g.row.M-Parcel.Denot (Entry g.row.M-Parcel.Denot g.row.M-Call.Denot g.row.M-Reply.Denot) g.M.Parcel.HasKind.kind c.args.board.now.key.value.parents.items c.args.board.now.key.value.parcels.items
-      _ _ c.into_seat-other.result.me (view_of c.into_seat-other.result.me.0) (one-view c.into_seat-other.result.me.0 (placed-one c.into_seat-other.ensures.2 c.args.second.one.1)),
+  parts-again g.row.M-Parcel.Denot (Entry g.row.M-Parcel.Denot g.row.M-Call.Denot g.row.M-Reply.Denot) g.M.Parcel.HasKind.kind c.args.board.now.key.value.parents.items c.args.board.now.key.value.parcels.items _ c.load.new.seat.me.0,
 )
 
-pub join_seat-requires : goal.join_seat-requires
-join_seat-requires g c =
-    let is = c.into_seat-other.ensures.2 in
-    let one = of-one _ _ _ (one-view c.into_seat-place.result.me.0 (placed-one c.into_seat-place.ensures.2 c.args.first.one.1)) c.load.ensures.2.0 in
-    let other = of-one _ _ _ (one-view c.into_seat-other.result.me.0 (placed-one is c.args.second.one.1)) c.load-2.ensures.2.0 in (
+pub join_seat-requires-2 : goal.join_seat-requires-2
+join_seat-requires-2 g c =
+    let E : Type 0 = Entry g.row.M-Parcel.Denot g.row.M-Call.Denot g.row.M-Reply.Denot in
+    let vs : List (View g.row.M-Parcel.Denot E) = c.into_seat-place.result.me.0 in
+    let ws : List (View g.row.M-Parcel.Denot E) = c.into_seat-other.result.me.0 in
+    let is = c.into_seat-place.ensures.2 in
+    let other_is = c.into_seat-other.ensures.2 in
+    let one = placed-one is c.args.first.one.1 in
+    let other_one = placed-one other_is c.args.second.one.1 in
+    let both : c.join_seat.new.seat.me.0 ≡ met vs ws = ap (λ m. m.0) c.join_seat.ensures.2 in
+    let loaded : c.load.new.seat.me.0 ≡ met vs ws = ap (λ m. m.0) c.load.ensures.2.0 ∙ both in
+    let es : List E = longer (view_of vs).seen (view_of ws).seen in
+    let first : c.split_seat-other.new.seat.me.0 ≡ having_seen es (view_of vs) ∷ [] = ap (λ m. m.0) c.split_seat-other.ensures.2 ∙ (ap first_of loaded ∙ met-first vs ws one other_one) in
+    let second : c.split_seat-other.result.me.0 ≡ having_seen es (view_of ws) ∷ [] = ap (λ m. m.0) c.split_seat-other.ensures.4 ∙ (ap others_of loaded ∙ met-second vs ws one other_one) in
+    (
       search rules,
       search rules,
       search rules,
       search rules,
-      merges-seats g.row.M-Parcel.Denot (Entry g.row.M-Parcel.Denot g.row.M-Call.Denot g.row.M-Reply.Denot) g.M.Parcel.HasKind.kind c.args.board.now.key.value.parents.items c.args.board.now.key.value.parcels.items
-          _ c.load.new.seat.me.0 _ c.load-2.new.seat.me.0 (ap length one.0) (ap length other.0)
-          (ap (λ vs. (view_of vs).path) other.0 ∙ no-path is c.args.second.idle.2)
-          (ap (λ vs. (view_of vs).unsure) other.0 ∙ (sym (ap (λ l. (known l).unsure) is) ∙ c.args.second.idle.0))
-          (ap (λ vs. (view_of vs).hand) other.0 ∙ (sym (ap (λ l. (known l).hand) is) ∙ c.args.second.idle.1)),
+      merges-seats g.row.M-Parcel.Denot E g.M.Parcel.HasKind.kind c.args.board.now.key.value.parents.items c.args.board.now.key.value.parcels.items
+          _ c.split_seat-other.new.seat.me.0 _ c.split_seat-other.result.me.0 (ap length first) (ap length second)
+          (ap (λ us. (view_of us).path) second ∙ no-path other_is c.args.second.idle.2)
+          (ap (λ us. (view_of us).unsure) second ∙ (sym (ap (λ l. (known l).unsure) other_is) ∙ c.args.second.idle.0))
+          (ap (λ us. (view_of us).hand) second ∙ (sym (ap (λ l. (known l).hand) other_is) ∙ c.args.second.idle.1)),
     )
+
+pub invariant_of-result : goal.invariant_of-result
+invariant_of-result g c =
+    let E : Type 0 = Entry g.row.M-Parcel.Denot g.row.M-Call.Denot g.row.M-Reply.Denot in
+    let vs : List (View g.row.M-Parcel.Denot E) = c.into_seat-place.result.me.0 in
+    let ws : List (View g.row.M-Parcel.Denot E) = c.into_seat-other.result.me.0 in
+    let is = c.into_seat-place.ensures.2 in
+    let other_is = c.into_seat-other.ensures.2 in
+    let one = placed-one is c.args.first.one.1 in
+    let other_one = placed-one other_is c.args.second.one.1 in
+    let both : c.join_seat.new.seat.me.0 ≡ met vs ws = ap (λ m. m.0) c.join_seat.ensures.2 in
+    let loaded : c.load.new.seat.me.0 ≡ met vs ws = ap (λ m. m.0) c.load.ensures.2.0 ∙ both in
+    let es : List E = longer (view_of vs).seen (view_of ws).seen in
+    let first : c.split_seat-other.new.seat.me.0 ≡ having_seen es (view_of vs) ∷ [] = ap (λ m. m.0) c.split_seat-other.ensures.2 ∙ (ap first_of loaded ∙ met-first vs ws one other_one) in
+    let second : c.split_seat-other.result.me.0 ≡ having_seen es (view_of ws) ∷ [] = ap (λ m. m.0) c.split_seat-other.ensures.4 ∙ (ap others_of loaded ∙ met-second vs ws one other_one) in
+    let merged : c.join_seat-2.new.seat.me.0 ≡ merge (view_of vs) (view_of ws) ∷ [] = merged-view (view_of vs) (view_of ws) _ _ _ first second (ap (λ m. m.0) c.join_seat-2.ensures.2) in
+    let badge : c.into_badge.result.views ≡ c.join_seat-2.new.seat.me.0 ∷ [] = search rules in
+    let full : c.into_badge.result.views ≡ (merge (view_of vs) (view_of ws) ∷ []) ∷ [] = known-known badge merged in
+    let alike = c.load.ensures.2.1 (having_seen es (view_of vs)) (having_seen es (view_of ws)) (both ∙ met-two vs ws one other_one) in
+    let parts : (view_of vs).parts ≡ c.args.first.splits + 1 = sym (ap (λ l. (known l).parts) is) ∙ c.args.first.parts in
+    let other_parts : (view_of ws).parts ≡ c.args.second.splits + 1 = sym (ap (λ l. (known l).parts) other_is) ∙ c.args.second.parts in
+    let sum : (known c.into_badge.result.views).parts ≡ (view_of vs).parts + (view_of ws).parts = ap (λ l. (known l).parts) full in
+    record {
+      one = (ap length full, ap (λ l. length (own_views l)) full);
+      idle = (
+        ap (λ l. (known l).unsure) full ∙ (sym (ap (λ l. (known l).unsure) is) ∙ c.args.first.idle.0),
+        ap (λ l. (known l).hand) full ∙ (sym (ap (λ l. (known l).hand) is) ∙ c.args.first.idle.1),
+        ap (λ l. length (known l).path) full ∙ (sym (ap (λ l. length (known l).path) is) ∙ c.args.first.idle.2),
+      );
+      parts = omega arith;
+      gathered = gathered-of (merge (view_of vs) (view_of ws)) full
+          (merge-gathered (view_of vs) (view_of ws) (merge (view_of vs) (view_of ws)).reads alike.0 (gathered-in is c.args.first.gathered) (gathered-in other_is c.args.second.gathered));
+    }

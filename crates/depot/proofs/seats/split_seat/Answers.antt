@@ -1,8 +1,10 @@
-use Rattle.std.proofs.Common.{rules, arith, ◌≡◌, ◌+◌, length, sym, ap, ◌∙◌}
+use Rattle.std.proofs.Common.{rules, arith, ◌≡◌, ◌+◌, length, sym, ap, ◌∙◌, subst}
 use Rattle.depot_rule.specs.declared.view.Entry.{Entry}
-use Rattle.depot_rule.specs.Seats.{view_of}
+use Rattle.depot_rule.specs.Seats.{fresh, view_of}
 use Rattle.depot_rule.proofs.Joining.{splits-seat}
 use Rattle.depot.specs.Calls.{own_views, known}
+use Rattle.depot.specs.Holds.{IsGathered}
+use Rattle.depot.proofs.Seated.{fresh-gathered}
 use Rattle.depot.proofs.seats.split_seat.Goals as goal
 
 pub split_seat-second-requires : goal.split_seat-second-requires
@@ -15,3 +17,8 @@ split_seat-second-requires g c =
       splits-seat g.row.M-Parcel.Denot (Entry g.row.M-Parcel.Denot g.row.M-Call.Denot g.row.M-Reply.Denot) g.M.Parcel.HasKind.kind c.args.board.now.key.value.parents.items c.args.board.now.key.value.parcels.items
           _ c.into_seat-place.result.me.0 one (omega arith),
     )
+
+pub invariant_of-result-2-clause-gathered : goal.invariant_of-result-2-clause-gathered
+invariant_of-result-2-clause-gathered g c =
+    let is : known c.into_badge-2.result.views ≡ fresh (known c.args.seat.badge.views) = search rules in
+    subst IsGathered (sym is) (fresh-gathered (known c.args.seat.badge.views))

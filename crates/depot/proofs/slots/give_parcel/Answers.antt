@@ -23,7 +23,7 @@ load-requires-in-None g c =
     let ps : List ℕ = c.args.board.now.key.value.parents.items in
     let lt : c.args.node < length ps = omega arith in
     let q = c.requires.granted in
-    let did = of-one _ _ _ (one-view c.args.place.now.me.0 c.requires.ready.0) c.load.ensures.2.0 in
+    let did = (of-one _ _ _ (one-view c.args.place.now.me.0 c.requires.ready.0) c.load.ensures.2.0).0 in
     let now = c.exchange.ensures.3 in
     let held : c.exchange.new.seat.me.1 ≡ (c.args.node, get_or q.1 c.args.node None) ∷ rest c.load.new.seat.me.1
     = ap (λ m. m.1) now ∙ ap (λ (y : Option g.row.M-Parcel.Denot). (c.args.node, y) ∷ rest c.load.new.seat.me.1) (sym q.4) in (
@@ -35,6 +35,9 @@ load-requires-in-None g c =
 
 pub returns-clause-given : goal.returns-clause-given
 returns-clause-given g c =
-    let did = of-one _ _ _ (one-view c.args.place.now.me.0 c.requires.ready.0) c.load.ensures.2.0 in
+    let did = (of-one _ _ _ (one-view c.args.place.now.me.0 c.requires.ready.0) c.load.ensures.2.0).0 in
     let back = of-one _ _ _ (ap (λ m. m.0) c.exchange.ensures.3 ∙ did) c.load-in-None.ensures.2.0 in
     hand-free (view_of c.args.place.now.me.0) c.requires.ready.3 back
+
+pub returns-clause-once : goal.returns-clause-once
+returns-clause-once g c = (of-one _ _ _ (one-view c.args.place.now.me.0 c.requires.ready.0) c.load.ensures.2.0).1

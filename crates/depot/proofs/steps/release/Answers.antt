@@ -11,9 +11,13 @@ fetch_sub-requires g c =
       search rules,
       search rules,
       releases g.row.M-Parcel.Denot (Entry g.row.M-Parcel.Denot g.row.M-Call.Denot g.row.M-Reply.Denot) g.M.Parcel.HasKind.kind c.args.board.now.key.value.parents.items c.args.board.now.key.value.parcels.items
-          _ _ c.args.place.now.me (view_of c.args.place.now.me.0) c.args.node c.requires.granted.0 (one-view c.args.place.now.me.0 c.requires.ready.0) c.requires.ready.1 lt c.requires.ready.2 c.requires.granted.1 c.requires.home,
+          _ _ c.args.place.now.me (view_of c.args.place.now.me.0) c.args.node c.requires.granted.0 (one-view c.args.place.now.me.0 c.requires.ready.0) c.requires.ready.1 lt c.requires.ready.2 c.requires.granted.1 (λ k p. c.requires.home k c.requires.granted.0 p c.requires.granted.1),
     )
 
 pub returns-clause-released : goal.returns-clause-released
 returns-clause-released g c =
-    let did = of-one _ _ _ (one-view c.args.place.now.me.0 c.requires.ready.0) c.fetch_sub.ensures.2.0 in (_, did)
+    let did = of-one _ _ _ (one-view c.args.place.now.me.0 c.requires.ready.0) c.fetch_sub.ensures.2.0 in (_, did.0)
+
+pub returns-clause-apart : goal.returns-clause-apart
+returns-clause-apart g c =
+    let did = of-one _ _ _ (one-view c.args.place.now.me.0 c.requires.ready.0) c.fetch_sub.ensures.2.0 in did.1

@@ -1,0 +1,109 @@
+-- A grant's parcels are given home.
+use Rattle.std.proofs.Common.{◌≡◌, ◌≢◌, ℕ, zero, suc, ◌+◌, ◌<◌, ◌≤◌, eqb, Bool, true, false, ◌&&◌, List, [], ◌∷◌, ◌++◌, length, set, slice_index_or, slice_set, sym, refl, ap, ◌∙◌, subst, arith, append_assoc, Option, Some, None, IfSome}
+use Rattle.std.specs.Prelude.{nat_lt}
+use Rattle.std.proofs.lemmas.Bool.{and_parts, and_from, ltb-true, lt-ltb}
+use mathlib.Core.Option.{some, some-injective}
+use lib.ListN.{get_elem?}
+use Rattle.nfs_model.specs.Tree.{Layout, Affinity}
+use Rattle.affinity.specs.declared.affinity.Kind.{Kind}
+use Rattle.affinity.specs.Fault.{fault_of}
+use Rattle.affinity.specs.Tree.{IsNode}
+use Rattle.affinity.specs.Numbers.{number_of, parents}
+use Rattle.parcels.specs.Exact.{HasExactly}
+use Rattle.parcels.specs.Moved.{Moved}
+use Rattle.depot_rule.specs.declared.view.View.{View}
+use Rattle.depot_rule.specs.declared.view.Read.{Read}
+use Rattle.depot_rule.specs.Sums.{tally, one_if}
+use Rattle.depot_rule.specs.Tree.{Covers, Excludes}
+use Rattle.depot_rule.specs.Shares.{Has}
+use Rattle.depot_rule.specs.Parcels.{takes}
+use Rattle.depot_rule.specs.History.{covers}
+use Rattle.depot_rule.specs.Seats.{view_of}
+use Rattle.depot_rule.proofs.Sums.{one-other}
+use Rattle.depot.specs.Holds.{untaken, Lists, Handled}
+use Rattle.depot.specs.Grants.{HasWith, IsEnded}
+use Rattle.depot.proofs.Holding.{covers-true, true-covers, untaken-is, of-place}
+use Rattle.depot.proofs.Layouts.{covers-under, under-place}
+
+pub if-each : {A : Type 0} (Q : A → Type 0) (o : Option A) → ((x : A) → o ≡ Some x → Q x) → IfSome o Q
+if-each Q None h = tt
+if-each Q (Some x) h = h x refl
+
+if-both : {C : Type 0} (t : Bool) → (t ≡ true → C) → (t ≡ false → C) → C
+if-both true y n = y refl
+if-both false y n = n refl
+
+some-none : {A C : Type 0} {o : Option A} {x : A} → o ≡ Some x → o ≡ None → C
+some-none {x = x} e n = absurd (let bad : Some x ≡ None = sym e ∙ n in cc)
+
+-- what a set has is at a node that its own node covers
+pub exact-covered : {T : Type 0} (kind : T → Kind) (layout : Layout) (f : ℕ → Option T) (a : Affinity) → fault_of layout ≡ None → IsNode layout a → HasExactly kind layout a f
+    → (k : ℕ) (x : T) → f k ≡ Some x → (0 < k) × (k < length (parents layout)) × Covers (parents layout) (number_of layout a) k
+exact-covered kind layout f a lawful m whole k x e =
+    let ps : List ℕ = parents layout in
+    let n : ℕ = number_of layout a in
+    let t : Bool = (nat_lt 0 k && nat_lt k (length ps)) && covers ps n k in
+    if-both t
+    (λ yes. let p = and_parts (nat_lt 0 k && nat_lt k (length ps)) (covers ps n k) yes in let q = and_parts (nat_lt 0 k) (nat_lt k (length ps)) p.0 in (ltb-true 0 k q.0, ltb-true k (length ps) q.1, covers-true ps n k p.1))
+    (λ no. some-none e (whole.no_other k (λ c under is.
+        let place = under-place layout a c under in
+        let cover : Covers ps n k = subst (Covers ps n) (sym is) (covers-under layout lawful a c m under) in
+        let low : 0 < k = subst (λ (j : ℕ). 0 < j) (sym is) place.0 in
+        let high : k < length ps = subst (λ (j : ℕ). j < length ps) (sym is) place.1 in
+        let yes : t ≡ true = and_from (nat_lt 0 k && nat_lt k (length ps)) (covers ps n k) (and_from (nat_lt 0 k) (nat_lt k (length ps)) (lt-ltb 0 k low) (lt-ltb k (length ps) high)) (true-covers ps n k cover) in
+        let bad : true ≡ false = sym yes ∙ no in cc)))
+
+module _ {P E : Type 0} where
+  -- the parcels of a grant's set are those that it lists
+  pub set-listed : (kind : P → Kind) (layout : Layout) (f : ℕ → Option P) (a : Affinity) (v : View P E) (n : ℕ) → n ≡ number_of layout a → v.tree ≡ parents layout → fault_of layout ≡ None → IsNode layout a
+      → HasExactly kind layout a f → HasWith v (number_of layout a) f → (k : ℕ) → IfSome (f k) (λ p. Lists v n k p)
+  set-listed kind layout f a v n is tree lawful m whole with k = if-each (λ p. Lists v n k p) (f k) (λ p e.
+      let c = exact-covered kind layout f a lawful m whole k p e in
+      let place : k < length v.tree = subst (λ (ps : List ℕ). k < length ps) (sym tree) c.1 in
+      let cover : Covers v.tree (number_of layout a) k = subst (λ (ps : List ℕ). Covers ps (number_of layout a) k) (sym tree) c.2 in
+      subst (λ (b : ℕ). Lists v b k p) (sym is) (c.0, place, cover, (with.0, with.1, with.2 k c.0 place cover ∙ e)))
+
+  -- once they are given, none of them is with the seat
+  pub set-home : (f : ℕ → Option P) (b n : ℕ) (vs ws : List (View P E)) → n ≡ b → HasWith (view_of vs) b f → (view_of vs).hand ≡ 0 → Handled n vs ws
+      → ((k : ℕ) → Moved (untaken (view_of ws) n k) (f k) (untaken (view_of vs) n k))
+      → (k : ℕ) (g : List (Option P)) (p : P) → Has (view_of ws) n g → 0 < k → k < length (view_of vs).tree → Covers (view_of vs).tree n k → slice_index_or g k None ≡ Some p → takes k (view_of ws) ≡ 0
+  set-home f b n vs ws is with free handled moved k g p has pos lt cover lists =
+      let v : View P E = view_of vs in
+      let w : View P E = record v { gone = handled.0; reads = handled.1 ++ v.reads } in
+      let now : view_of ws ≡ w = ap view_of handled.2 in
+      let here : get_elem? v.held n ≡ some (Some g) = sym (ap (λ (u : View P E). get_elem? u.held n) now) ∙ has in
+      let there : get_elem? v.held n ≡ some (Some with.0) = ap (get_elem? v.held) is ∙ with.1 in
+      let same : with.0 ≡ g = (let e : Some with.0 ≡ Some g = some-injective (Some with.0) (Some g) (sym there ∙ here) in cc) in
+      let inside : Covers v.tree b k = subst (λ (j : ℕ). Covers v.tree j k) is cover in
+      let has_it : f k ≡ Some p = sym (with.2 k pos lt inside) ∙ (ap (λ xs. slice_index_or xs k None) same ∙ lists) in
+      let u = untaken-is (view_of ws) n k p (subst (λ (o : Option P). Moved (untaken (view_of ws) n k) o (untaken v n k)) has_it (moved k)).0 in
+      let home = u.home in
+      let hand : (view_of ws).hand ≡ 0 = ap (λ (x : View P E). x.hand) now ∙ free in
+      let out = one-other (view_of ws).hand k (λ e. omega (arith, e, hand, pos)) in
+      omega arith
+
+  -- and the grant is ended
+  pub home-ended : (b n : ℕ) (vs ws us : List (View P E)) → n ≡ b → Handled n vs ws → (more : List Read) × (us ≡ record (view_of ws) { held = set (view_of ws).held n None; reads = more ++ (view_of ws).reads } ∷ [])
+      → (length us ≡ 1) × IsEnded (view_of vs) b (view_of us)
+  home-ended b n vs ws us is handled ended =
+      let v : View P E = view_of vs in
+      let w : View P E = record v { gone = handled.0; reads = handled.1 ++ v.reads } in
+      let now : view_of ws ≡ w = ap view_of handled.2 in (
+        ap length ended.1,
+        (handled.0, ended.0 ++ handled.1, ap view_of ended.1
+            ∙ (ap (λ (x : View P E). let z : View P E = record x { held = set x.held n None; reads = ended.0 ++ x.reads } in z) now
+            ∙ ap (λ (x : ℕ × List Read). let z : View P E = record v { held = set v.held x.0 None; gone = handled.0; reads = x.1 } in z) (λ i. (is i, sym (append_assoc ended.0 handled.1 v.reads) i)))),
+      )
+
+  -- what other grants have taken is still with the seat
+  pub home-else : (n : ℕ) (vs ws us : List (View P E)) → Handled n vs ws → (more : List Read) × (us ≡ record (view_of ws) { held = set (view_of ws).held n None; reads = more ++ (view_of ws).reads } ∷ [])
+      → (k : ℕ) → (Covers (view_of vs).tree n k → ⊥) → tally k (view_of us).gone ≡ tally k (view_of vs).gone
+  home-else n vs ws us handled ended k out = ap (λ xs. tally k (view_of xs).gone) ended.1 ∙ (ap (λ xs. tally k (view_of xs).gone) handled.2 ∙ handled.3 k out)
+
+  pub home-apart : (b n : ℕ) (vs ws : List (View P E)) → n ≡ b → Handled n vs ws → ((c : ℕ) (h : List (Option P)) → Has (view_of ws) c h → Excludes (view_of ws).tree n c → c ≡ n)
+      → (c : ℕ) (h : List (Option P)) → Has (view_of vs) c h → Excludes (view_of vs).tree b c → c ≡ b
+  home-apart b n vs ws is handled apart c h has ex =
+      let v : View P E = view_of vs in
+      let w : View P E = record v { gone = handled.0; reads = handled.1 ++ v.reads } in
+      let now : w ≡ view_of ws = sym (ap view_of handled.2) in
+      apart c h (subst (λ (x : View P E). Has x c h) now has) (subst (λ (x : View P E). Excludes x.tree n c) now (subst (λ (j : ℕ). Excludes v.tree j c) (sym is) ex)) ∙ is

@@ -1,0 +1,71 @@
+-- Seats between two calls: what becomes of their grants' parcels as they part, join and meet.
+use Rattle.std.proofs.Common.{◌≡◌, ℕ, ◌+◌, ◌<◌, Bool, true, false, ltb, List, [], ◌∷◌, ◌++◌, length, sym, refl, ap, ◌∙◌, subst, arith, Option, Some, None, ⊎_elim}
+use mathlib.Core.Option.{some}
+use lib.ListN.{get_elem?}
+use Rattle.depot_rule.specs.declared.view.View.{View}
+use Rattle.depot_rule.specs.declared.view.Read.{Read}
+use Rattle.depot_rule.specs.Sums.{tally}
+use Rattle.depot_rule.specs.Tree.{Covers}
+use Rattle.depot_rule.specs.Shares.{Has, opening_view}
+use Rattle.depot_rule.specs.Seats.{if_less, longer, fresh, merge, merged, having_seen, met, first_of, others_of, view_of}
+use Rattle.depot_rule.proofs.Sums.{tally-append}
+use Rattle.depot_rule.proofs.Joining.{none-held, held-of}
+use Rattle.depot.specs.Calls.{known}
+use Rattle.depot.specs.Holds.{IsGathered}
+
+if-same : {A : Type 0} (t : Bool) (x : A) → if_less t x x ≡ x
+if-same true x = refl
+if-same false x = refl
+
+longer-same : {A : Type 0} (xs : List A) → longer xs xs ≡ xs
+longer-same xs = if-same (ltb (length xs) (length xs)) xs
+
+module _ {P E : Type 0} where
+  pub fresh-gathered : (v : View P E) → IsGathered (fresh v)
+  fresh-gathered v b k g has = absurd (none-held (length v.tree) b g has)
+
+  pub opening-gathered : (ps : List ℕ) (first : List (Option P)) → IsGathered {E = E} (opening_view ps first)
+  opening-gathered ps first b k g has = absurd (none-held (length ps) b g has)
+
+  pub merge-gathered : (v w : View P E) (rs : List Read) → v.tree ≡ w.tree → IsGathered v → IsGathered w → IsGathered (record (merge v w) { reads = rs })
+  merge-gathered v w rs same mine others b k g has pos lt cover =
+      let both = tally-append k v.gone w.gone in ⊎_elim
+      (λ (h : get_elem? v.held b ≡ some (Some g)). let t = mine b k g h pos lt cover in (let r : 0 < tally k (v.gone ++ w.gone) = omega arith in r))
+      (λ (h : get_elem? w.held b ≡ some (Some g)).
+      let t = others b k g h pos (subst (λ (ps : List ℕ). k < length ps) same lt) (subst (λ (ps : List ℕ). Covers ps b k) same cover) in (let r : 0 < tally k (v.gone ++ w.gone) = omega arith in r))
+      (held-of v.held w.held b g has)
+
+  -- two seats that met and parted again are the one and the other
+  pub met-first : (vs ws : List (View P E)) → length vs ≡ 1 → length ws ≡ 1 → first_of (met vs ws) ≡ having_seen (longer (view_of vs).seen (view_of ws).seen) (view_of vs) ∷ []
+  met-first [] ws one other = absurd (omega arith)
+  met-first (v ∷ vs) ws one other = refl
+
+  pub met-second : (vs ws : List (View P E)) → length vs ≡ 1 → length ws ≡ 1 → others_of (met vs ws) ≡ having_seen (longer (view_of vs).seen (view_of ws).seen) (view_of ws) ∷ []
+  met-second [] ws one other = absurd (omega arith)
+  met-second (v ∷ u ∷ us) ws one other = absurd (omega arith)
+  met-second (v ∷ []) [] one other = absurd (omega arith)
+  met-second (v ∷ []) (w ∷ []) one other = refl
+  met-second (v ∷ []) (w ∷ u ∷ us) one other = absurd (omega arith)
+
+  pub met-two : (vs ws : List (View P E)) → length vs ≡ 1 → length ws ≡ 1
+      → met vs ws ≡ having_seen (longer (view_of vs).seen (view_of ws).seen) (view_of vs) ∷ having_seen (longer (view_of vs).seen (view_of ws).seen) (view_of ws) ∷ []
+  met-two [] ws one other = absurd (omega arith)
+  met-two (v ∷ u ∷ us) ws one other = absurd (omega arith)
+  met-two (v ∷ []) [] one other = absurd (omega arith)
+  met-two (v ∷ []) (w ∷ []) one other = refl
+  met-two (v ∷ []) (w ∷ u ∷ us) one other = absurd (omega arith)
+
+  -- and are merged as if they hadn't met
+  pub merged-view : (v w : View P E) (fs os us : List (View P E)) → fs ≡ having_seen (longer v.seen w.seen) v ∷ [] → os ≡ having_seen (longer v.seen w.seen) w ∷ [] → us ≡ merged fs os → us ≡ merge v w ∷ []
+  merged-view v w fs os us f o is =
+      is ∙ (ap (λ (x : List (View P E) × List (View P E)). merged x.0 x.1) (λ i. (f i, o i))
+      ∙ ap (λ (s : List E). let z : View P E = record (merge v w) { seen = s } in z ∷ []) (longer-same (longer v.seen w.seen)))
+
+  pub known-known : {views : List (List (View P E))} {vs : List (View P E)} {u : View P E} → views ≡ vs ∷ [] → vs ≡ u ∷ [] → views ≡ (u ∷ []) ∷ []
+  known-known is one = is ∙ ap (λ us. us ∷ []) one
+
+  pub gathered-in : {views : List (List (View P E))} {vs : List (View P E)} → views ≡ vs ∷ [] → IsGathered (known views) → IsGathered (view_of vs)
+  gathered-in is h = subst (λ l. IsGathered (known l)) is h
+
+  pub gathered-of : {views : List (List (View P E))} (u : View P E) → views ≡ (u ∷ []) ∷ [] → IsGathered u → IsGathered (known views)
+  gathered-of u is h = subst (λ l. IsGathered (known l)) (sym is) h
