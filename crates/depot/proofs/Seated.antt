@@ -20,12 +20,12 @@ if-same false x = refl
 longer-same : {A : Type 0} (xs : List A) → longer xs xs ≡ xs
 longer-same xs = if-same (ltb (length xs) (length xs)) xs
 
+pub opening-gathered : (P E : Type 0) (ps : List ℕ) (first : List (Option P)) → IsGathered {P = P} {E = E} (opening_view ps first)
+opening-gathered P E ps first b k g has = absurd (none-held (length ps) b g has)
+
 module _ {P E : Type 0} where
   pub fresh-gathered : (v : View P E) → IsGathered (fresh v)
   fresh-gathered v b k g has = absurd (none-held (length v.tree) b g has)
-
-  pub opening-gathered : (ps : List ℕ) (first : List (Option P)) → IsGathered {E = E} (opening_view ps first)
-  opening-gathered ps first b k g has = absurd (none-held (length ps) b g has)
 
   pub merge-gathered : (v w : View P E) (rs : List Read) → v.tree ≡ w.tree → IsGathered v → IsGathered w → IsGathered (record (merge v w) { reads = rs })
   merge-gathered v w rs same mine others b k g has pos lt cover =

@@ -7,6 +7,7 @@ ghost use Rattle.affinity.specs.Numbers as numbers;
 ghost use Rattle.affinity.specs.Tree.{IsNode};
 ghost use Rattle.affinity.specs.Fault.{fault_of};
 ghost use Rattle.parcels.specs.Exact.{HasExactly};
+ghost use Rattle.depot_rule.specs.declared.view.Entry.{Entry};
 ghost use Rattle.depot_rule.specs.Sums.{tally};
 ghost use Rattle.depot_rule.specs.Tree.{Covers, Excludes};
 ghost use Rattle.depot_rule.specs.Shares.{Has};
@@ -142,7 +143,7 @@ impl<M: Machine> Depot<M> {
         requires exact { HasExactly M.Parcel.kind (layout_of self.now.layout) (affinity_of grant.affinity) (N.parcels (layout_of self.now.layout) (affinity_of grant.affinity) grant.held) }
         ensures seat { (seat.new.badge.table_id ≡ seat.old.badge.table_id) × (seat.new.splits ≡ seat.old.splits) × IsSeatOf M.Parcel.kind (layout_of self.now.layout) (known seat.new.badge.views) }
         ensures finished { let node = numbers.number_of (layout_of self.now.layout) (affinity_of grant.affinity) in
-            let entry = record { node = node; call = call.now; reply = reply.now; left = by_number (N.parcels (layout_of self.now.layout) (affinity_of grant.affinity) grant.held) (1 + numbers.node_count (layout_of self.now.layout)) } in
+            let entry : Entry M.Parcel M.Call M.Reply = record { node = node; call = call.now; reply = reply.now; left = by_number (N.parcels (layout_of self.now.layout) (affinity_of grant.affinity) grant.held) (1 + numbers.node_count (layout_of self.now.layout)) } in
             IsFinished (known seat.old.badge.views) node entry (known seat.new.badge.views) }
     {
         let mut place: Place<M> = mem::replace(&mut seat.badge, Badge::blank()).into_seat();
@@ -171,7 +172,6 @@ fn give_home<M: Machine, N: Node<M::Parcel>>(
     requires ready { let v = view_of place.me.0 in (length place.me.0 ≡ 1) × (place.me.1 ≡ []) × (v.hand ≡ 0) × (v.path ≡ []) × (v.tree ≡ parents.now) }
     requires node { IsNode (layout_of layout.now) (affinity_of grant.affinity) × (kind_of (affinity_of grant.affinity) ≡ N.KIND) }
     requires listed { HasWith (view_of place.me.0) (numbers.number_of (layout_of layout.now) (affinity_of grant.affinity)) (N.parcels (layout_of layout.now) (affinity_of grant.affinity) grant.held) }
-    requires whole { HasExactly M.Parcel.kind (layout_of layout.now) (affinity_of grant.affinity) (N.parcels (layout_of layout.now) (affinity_of grant.affinity) grant.held) }
     requires taken { let v = view_of place.me.0 in (k : ℕ) → 0 < k → k < length v.tree → Covers v.tree (numbers.number_of (layout_of layout.now) (affinity_of grant.affinity)) k → 0 < tally k v.gone }
     ensures seat { (result.table_id ≡ place.table_id) × (result.me.1 ≡ []) }
     ensures ended { (length result.me.0 ≡ 1) × IsEnded (view_of place.me.0) (numbers.number_of (layout_of layout.now) (affinity_of grant.affinity)) (view_of result.me.0) }

@@ -1,19 +1,32 @@
 use Rattle.std.proofs.Common.{rules, ◌≡◌, ◌<◌, ℕ, List, length, sym, ap, ◌∙◌, subst}
+use Rattle.nfs_model.specs.Tree.{Layout}
 use Rattle.affinity.specs.Affinity.{affinity_of}
 use Rattle.affinity.specs.Layout.{layout_of}
-use Rattle.affinity.specs.Numbers.{number_of}
+use Rattle.affinity.specs.Numbers.{number_of, parents}
 use Rattle.depot_rule.specs.Tree.{IsTree, Covers}
 use Rattle.depot_rule.specs.Seats.{view_of}
 use Rattle.parcels.specs.Moved.{Moved}
 use Rattle.depot.specs.Holds.{untaken}
-use Rattle.depot.proofs.Layouts.{parents-tree}
-use Rattle.depot.proofs.Homing.{set-listed, set-home, home-ended, home-else, home-apart}
+use Rattle.depot.specs.Grants.{HasWith}
+use Rattle.depot.proofs.Layouts.{parents-tree, number-place}
+use Rattle.depot.proofs.Homing.{set-home, home-ended, home-else, home-apart}
+use Rattle.depot.proofs.Ended.{given-allowed}
 use Rattle.depot.proofs.grants.give_home.Goals as goal
 
 pub scatter-requires-clause-allowed : goal.scatter-requires-clause-allowed
 scatter-requires-clause-allowed g c =
-    set-listed g.M.Parcel.HasKind.kind (layout_of c.args.layout.now) (g.N.Node.parcels (layout_of c.args.layout.now) (affinity_of c.args.grant.affinity) c.args.grant.held) (affinity_of c.args.grant.affinity)
-    (view_of c.args.place.me.0) c.number_of-node.result c.number_of-node.ensures.number (c.requires.ready.4 ∙ c.requires.tree.1) c.requires.tree.2 c.requires.node.0 c.requires.whole c.requires.listed
+    let L : Layout = layout_of c.args.layout.now in
+    given-allowed L c.requires.tree.2 (affinity_of c.args.grant.affinity) c.requires.node.0 (view_of c.args.place.me.0) (c.requires.ready.4 ∙ c.requires.tree.1) c.number_of-node.result c.number_of-node.ensures.number
+    (g.N.Node.parcels L (affinity_of c.args.grant.affinity) c.args.grant.held)
+    (subst (λ (n : ℕ). HasWith (view_of c.args.place.me.0) n (g.N.Node.parcels L (affinity_of c.args.grant.affinity) c.args.grant.held)) (sym c.number_of-node.ensures.number) c.requires.listed)
+    (λ k. g.met.N.Node.within L (affinity_of c.args.grant.affinity) c.args.grant.held k c.requires.node.0 c.requires.node.1)
+
+pub give_up-requires-clause-table : goal.give_up-requires-clause-table
+give_up-requires-clause-table g c =
+    let L : Layout = layout_of c.args.layout.now in
+    let words : c.args.board.now.table_id.words ≡ length (parents L) = c.requires.table.1 ∙ ap length (sym c.requires.tree.0 ∙ c.requires.tree.1) in
+    let place = number-place L (affinity_of c.args.grant.affinity) c.requires.node.0 in
+    (c.scatter.ensures.kept.1 ∙ c.requires.table.0, subst (λ (x : ℕ × ℕ). x.0 < x.1) (λ i. (sym c.number_of-node.ensures.number i, sym words i)) place.1, c.requires.table.1)
 
 pub give_up-requires-clause-tree : goal.give_up-requires-clause-tree
 give_up-requires-clause-tree g c = (c.requires.tree.0, subst IsTree (sym c.requires.tree.1) (parents-tree (layout_of c.args.layout.now) c.requires.tree.2))

@@ -1,0 +1,173 @@
+-- A call that ends: what may be given home, what it stamps, and what its seat has afterwards.
+use Rattle.std.proofs.Common.{◌≡◌, ◌≢◌, ℕ, zero, suc, ◌+◌, ◌<◌, eqb, true, false, List, [], ◌∷◌, ◌++◌, length, set, slice_index_or, sym, refl, ap, ◌∙◌, subst, arith, append_assoc, length-append, inl, inr, ⊎_elim, Option, Some, None, IfSome}
+use Rattle.std.proofs.lemmas.Bool.{cases_Bool}
+use mathlib.Core.Option.{some}
+use mathlib.Core.Logic.{dite}
+use native.Mathlib.Decide.{ℕ_discrete, dec_lt}
+use lib.ListN.{get_elem?}
+use Rattle.atomic_table.proofs.Lists.{at_set, set_here, set_else}
+use Rattle.nfs_model.specs.Tree.{Layout, Affinity}
+use Rattle.affinity.specs.declared.affinity.Kind.{Kind}
+use Rattle.affinity.specs.Affinity.{kind_of}
+use Rattle.affinity.specs.Fault.{fault_of}
+use Rattle.affinity.specs.Tree.{IsNode}
+use Rattle.affinity.specs.Under.{IsUnder}
+use Rattle.affinity.specs.Numbers.{number_of, node_count, parents}
+use Rattle.affinity.proofs.Smaller.{length-parents}
+use Rattle.parcels.specs.Exact.{Under, HasExactly}
+use Rattle.parcels.specs.Moved as moving
+use Rattle.depot_rule.specs.declared.view.View.{View}
+use Rattle.depot_rule.specs.declared.view.Read.{Read}
+use Rattle.depot_rule.specs.Sums.{tally, one_if}
+use Rattle.depot_rule.specs.Tree.{IsTree, Covers, Excludes}
+use Rattle.depot_rule.specs.Shares.{Has}
+use Rattle.depot_rule.specs.Parcels.{takes}
+use Rattle.depot_rule.specs.History.{covers}
+use Rattle.depot_rule.specs.Seats.{view_of}
+use Rattle.depot_rule.proofs.Places.{one-view}
+use Rattle.depot_rule.proofs.Grants.{at-length}
+use Rattle.depot_rule.proofs.Trees.{cover-excludes}
+use Rattle.depot.specs.Kinds.{AreOfKind}
+use Rattle.depot.specs.Calls.{known}
+use Rattle.depot.specs.Holds.{untaken, Lists, Handled, IsGathered}
+use Rattle.depot.specs.Grants.{by_number, IsSeatOf, ListsAs, HasWith, IsEnded, IsFinished}
+use Rattle.depot.proofs.Holding.{covers-true, true-covers, untaken-is, none-untaken}
+use Rattle.depot.proofs.Layouts.{parents-tree, under-place, covers-under, under-covers}
+use Rattle.depot.proofs.Begun.{moved-some}
+
+all-some : {T : Type 0} (y : Option T) (Q : T → Type 0) → ((p : T) → y ≡ Some p → Q p) → IfSome y Q
+all-some None Q h = tt
+all-some (Some p) Q h = h p refl
+
+-- ---- parcels by number
+
+by-number-length : {T : Type 0} (f : ℕ → Option T) (n : ℕ) → length (by_number f n) ≡ n
+by-number-length f zero = refl
+by-number-length f (suc n) = let r = by-number-length f n in let l = length-append (by_number f n) (f n ∷ []) in omega arith
+
+last-at : {T : Type 0} (xs : List (Option T)) (y : Option T) (k : ℕ) → length xs ≡ k → slice_index_or (xs ++ y ∷ []) k None ≡ y
+last-at [] y zero e = refl
+last-at [] y (suc k) e = absurd (omega arith)
+last-at (x ∷ xs) y zero e = absurd (omega arith)
+last-at (x ∷ xs) y (suc k) e = last-at xs y k (omega arith)
+
+earlier-at : {T : Type 0} (xs : List (Option T)) (y : Option T) (k : ℕ) → k < length xs → slice_index_or (xs ++ y ∷ []) k None ≡ slice_index_or xs k None
+earlier-at [] y k l = absurd (omega arith)
+earlier-at (x ∷ xs) y zero l = refl
+earlier-at (x ∷ xs) y (suc k) l = earlier-at xs y k (omega arith)
+
+pub by-number-at : {T : Type 0} (f : ℕ → Option T) (n k : ℕ) → k < n → slice_index_or (by_number f n) k None ≡ f k
+by-number-at f zero k l = absurd (omega arith)
+by-number-at f (suc n) k l =
+    let size = by-number-length f n in
+    dite (ℕ_discrete k n)
+    (λ e. last-at (by_number f n) (f n) k (size ∙ sym e) ∙ ap f (sym e))
+    (λ ne. earlier-at (by_number f n) (f n) k (omega arith) ∙ by-number-at f n k (omega arith))
+
+set-again : {T : Type 0} (xs : List T) (i : ℕ) (x y : T) → set (set xs i x) i y ≡ set xs i y
+set-again [] i x y = refl
+set-again (z ∷ zs) zero x y = refl
+set-again (z ∷ zs) (suc i) x y = ap (λ l. z ∷ l) (set-again zs i x y)
+
+module _ {P E : Type 0} where
+  -- ---- what may be given home
+
+  module _ (layout : Layout) (lawful : fault_of layout ≡ None) (a : Affinity) (m : IsNode layout a) (v : View P E) (tree : v.tree ≡ parents layout) (b : ℕ) (number : b ≡ number_of layout a)
+      (f : ℕ → Option P) (listed : HasWith v b f) where
+
+    covered : (c : Affinity) → IsUnder layout a c → Covers v.tree b (number_of layout c)
+    covered c under = subst (λ (x : List ℕ × ℕ). Covers x.0 x.1 (number_of layout c)) (λ i. (sym tree i, sym number i)) (covers-under layout lawful a c m under)
+
+    -- what has a number that has no other parcel than those under the node is a number that its own covers
+    within-covers : (k : ℕ) → (Under layout a (λ c. k ≢ number_of layout c) → ⊥) → (0 < k) × (k < length v.tree) × Covers v.tree b k
+    within-covers k some_under = (
+      elim (dec_lt 0 k) [ yes l ↦ l | no n ↦ absurd (some_under (λ c under e. n (subst (λ (x : ℕ). 0 < x) (sym e) (under-place layout a c under).0))) ],
+      elim (dec_lt k (length v.tree)) [ yes l ↦ l | no n ↦ absurd (some_under (λ c under e. n (subst (λ (x : ℕ × List ℕ). x.0 < length x.1) (λ i. (sym e i, sym tree i)) (under-place layout a c under).1))) ],
+      ⊎_elim
+          (λ (t : covers v.tree b k ≡ true). covers-true v.tree b k t)
+          (λ (t : covers v.tree b k ≡ false). absurd (some_under (λ c under e.
+              let is : covers v.tree b k ≡ true = true-covers v.tree b k (subst (λ (x : ℕ). Covers v.tree b x) (sym e) (covered c under)) in
+              let bad : false ≡ true = sym t ∙ is in let no_way : ⊥ = cc in no_way)))
+          (cases_Bool (covers v.tree b k)),
+    )
+
+    pub given-allowed : ((k : ℕ) → Under layout a (λ c. k ≢ number_of layout c) → f k ≡ None) → (k : ℕ) → IfSome (f k) (Lists v b k)
+    given-allowed within k = all-some (f k) (Lists v b k) (λ p e.
+        let t = within-covers k (λ outside. let bad : None ≡ Some p = sym (within k outside) ∙ e in let no_way : ⊥ = cc in no_way) in
+        (t.0, t.1, t.2, (listed.0, listed.1, listed.2 k t.0 t.1 t.2 ∙ e)))
+
+  -- ---- what a seat has afterwards
+
+  pub ended-gathered : (v w : View P E) (b : ℕ) → IsTree v.tree → IsGathered v → IsEnded v b w
+      → ((c : ℕ) (h : List (Option P)) → Has v c h → Excludes v.tree b c → c ≡ b) → ((k : ℕ) → (Covers v.tree b k → ⊥) → tally k w.gone ≡ tally k v.gone) → IsGathered w
+  ended-gathered v w b tree before ended apart others =
+      let u : View P E = record v { held = set v.held b None; gone = ended.0; reads = ended.1 ++ v.reads } in
+      let same : (k : ℕ) → (Covers v.tree b k → ⊥) → tally k ended.0 ≡ tally k v.gone = λ k out. ap (λ (x : View P E). tally k x.gone) (sym ended.2) ∙ others k out in
+      let all : IsGathered u = (λ c k h has pos lt cover. ⊎_elim
+      (λ (t : (c ≡ b) × (None ≡ Some h)). absurd (let bad : None ≡ Some h = t.1 in let no_way : ⊥ = cc in no_way))
+      (λ (t : (c ≢ b) × (get_elem? v.held c ≡ some (Some h))).
+      let old = before c k h t.1 pos lt cover in
+      let still = same k (λ both. t.0 (apart c h t.1 (cover-excludes v.tree tree b c k both cover))) in
+      (let some_gone : 0 < tally k ended.0 = omega arith in some_gone))
+      (at_set v.held b c None (Some h) has)) in
+      subst IsGathered (sym ended.2) all
+
+  pub stamped-gathered : (v : View P E) (b : ℕ) (g left : List (Option P)) (rs : List Read) (seen : List E) (mine : List ℕ) → IsGathered v → Has v b g → IsGathered (record v { held = set v.held b (Some left); reads = rs; seen = seen; mine = mine })
+  stamped-gathered v b g left rs seen mine before has c k h now pos lt cover = ⊎_elim
+      (λ (t : (c ≡ b) × (Some left ≡ Some h)). before b k g has pos lt (subst (λ (n : ℕ). Covers v.tree n k) t.0 cover))
+      (λ (t : (c ≢ b) × (get_elem? v.held c ≡ some (Some h))). before c k h t.1 pos lt cover)
+      (at_set v.held b c (Some left) (Some h) now)
+
+  pub put-gathered : (views : List (List (View P E))) (vs us : List (View P E)) (b : ℕ) → views ≡ vs ∷ [] → IsTree (known views).tree → IsGathered (known views) → IsEnded (view_of vs) b (view_of us)
+      → ((c : ℕ) (h : List (Option P)) → Has (view_of vs) c h → Excludes (view_of vs).tree b c → c ≡ b) → ((k : ℕ) → (Covers (view_of vs).tree b k → ⊥) → tally k (view_of us).gone ≡ tally k (view_of vs).gone) → IsGathered (view_of us)
+  put-gathered views vs us b is tree before ended apart others =
+      ended-gathered (view_of vs) (view_of us) b (subst (λ l. IsTree (known l).tree) is tree) (subst (λ l. IsGathered (known l)) is before) ended apart others
+
+  -- the views of a seat whose grant was ended
+  pub ended-views : (v : View P E) (b : ℕ) (us : List (View P E)) (views : List (List (View P E))) → views ≡ us ∷ [] → length us ≡ 1 → (e : IsEnded v b (view_of us))
+      → views ≡ (record v { held = set v.held b None; gone = e.0; reads = e.1 ++ v.reads } ∷ []) ∷ []
+  ended-views v b us views is one e = is ∙ ap (λ (x : List (View P E)). x ∷ []) (one-view us one ∙ ap (λ (w : View P E). w ∷ []) e.2)
+
+  -- ---- the stamp
+
+  module _ (kind : P → Kind) (layout : Layout) (lawful : fault_of layout ≡ None) (a : Affinity) (m : IsNode layout a) (v : View P E) (seat : IsSeatOf kind layout v)
+      (f : ℕ → Option P) (exact : HasExactly kind layout a f) where
+    abbrev left : List (Option P)
+    left = by_number f (1 + node_count layout)
+
+    pub left-at : (k : ℕ) → k < length (parents layout) → slice_index_or left k None ≡ f k
+    left-at k lt = let size = length-parents layout in by-number-at f (1 + node_count layout) k (omega arith)
+
+    -- it leaves a parcel of the node's kind at each node that the call's covers
+    pub stamp-fits : (ps : List ℕ) → ps ≡ parents layout → (k : ℕ) → 0 < k → k < length ps → Covers ps (number_of layout a) k
+        → (p : P) × (slice_index_or left k None ≡ Some p) × ((q : P) → slice_index_or v.first k None ≡ Some q → kind p ≡ kind q)
+    stamp-fits ps is k pos lt cover =
+        let low : k < length (parents layout) = subst (λ (t : List ℕ). k < length t) is lt in
+        let u = under-covers layout lawful a k m pos low (subst (λ (t : List ℕ). Covers t (number_of layout a) k) is cover) in
+        let each = exact.each u.0 u.1 in (
+          each.0,
+          left-at k low ∙ (ap f (sym u.2) ∙ each.1),
+          (λ q at. each.2 ∙ sym (seat.1 u.0 q u.1.0 (ap (λ n. slice_index_or v.first n None) u.2 ∙ at))),
+        )
+
+    pub stamped-listed : (g : List (Option P)) → Has v (number_of layout a) g → (rs : List Read) (seen : List E) (mine : List ℕ)
+        → HasWith (record v { held = set v.held (number_of layout a) (Some left); reads = rs; seen = seen; mine = mine }) (number_of layout a) f
+    stamped-listed g has rs seen mine = (
+      left,
+      set_here v.held (number_of layout a) (Some left) (at-length v.held (number_of layout a) (Some g) has),
+      (λ k pos lt cover. left-at k (subst (λ (t : List ℕ). k < length t) seat.0 lt)),
+    )
+
+-- the grant was stamped, and then ended
+pub finished-so : {P X : Type 0} (v : View P X) (b : ℕ) (left : List (Option P)) (r : Read) (between : List X) (e : X) (vs : List (View P X)) (w : View P X)
+    → vs ≡ record v { held = set v.held b (Some left); reads = r ∷ v.reads; seen = (v.seen ++ between) ++ e ∷ []; mine = v.mine ++ length (v.seen ++ between) ∷ [] } ∷ []
+    → IsEnded (view_of vs) b w → IsFinished v b e w
+finished-so {P = P} {X = X} v b left r between e vs w is ended =
+    let t = subst (λ us. IsEnded (view_of us) b w) is ended in (
+      t.0,
+      t.1 ++ r ∷ [],
+      between,
+      t.2 ∙ ap (λ (x : List (Option (List (Option P))) × List Read).
+          let z : View P X = record v { held = x.0; gone = t.0; reads = x.1; seen = (v.seen ++ between) ++ e ∷ []; mine = v.mine ++ length (v.seen ++ between) ∷ [] } in z)
+          (λ i. (set-again v.held b (Some left) None i, sym (append_assoc t.1 (r ∷ []) v.reads) i)),
+    )
