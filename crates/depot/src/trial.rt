@@ -120,9 +120,8 @@ pub fn add(
     }
     match depot.begin::<StripeNode>(seat, affinity) {
         Ok(mut grant) => {
-            let held = grant.held();
-            let sum = held.own.wrapping_add(number);
-            held.own = sum;
+            let sum = grant.held.own.wrapping_add(number);
+            grant.held.own = sum;
             depot.finish(seat, grant, &number, &sum);
             Some(sum)
         }
