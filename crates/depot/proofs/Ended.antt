@@ -74,7 +74,6 @@ module _ {P E : Type 0} where
 
   module _ (layout : Layout) (lawful : fault_of layout ≡ None) (a : Affinity) (m : IsNode layout a) (v : View P E) (tree : v.tree ≡ parents layout) (b : ℕ) (number : b ≡ number_of layout a)
       (f : ℕ → Option P) (listed : HasWith v b f) where
-
     covered : (c : Affinity) → IsUnder layout a c → Covers v.tree b (number_of layout c)
     covered c under = subst (λ (x : List ℕ × ℕ). Covers x.0 x.1 (number_of layout c)) (λ i. (sym tree i, sym number i)) (covers-under layout lawful a c m under)
 
@@ -86,8 +85,8 @@ module _ {P E : Type 0} where
       ⊎_elim
           (λ (t : covers v.tree b k ≡ true). covers-true v.tree b k t)
           (λ (t : covers v.tree b k ≡ false). absurd (some_under (λ c under e.
-              let is : covers v.tree b k ≡ true = true-covers v.tree b k (subst (λ (x : ℕ). Covers v.tree b x) (sym e) (covered c under)) in
-              let bad : false ≡ true = sym t ∙ is in let no_way : ⊥ = cc in no_way)))
+          let is : covers v.tree b k ≡ true = true-covers v.tree b k (subst (λ (x : ℕ). Covers v.tree b x) (sym e) (covered c under)) in
+          let bad : false ≡ true = sym t ∙ is in let no_way : ⊥ = cc in no_way)))
           (cases_Bool (covers v.tree b k)),
     )
 
@@ -171,3 +170,13 @@ finished-so {P = P} {X = X} v b left r between e vs w is ended =
           let z : View P X = record v { held = x.0; gone = t.0; reads = x.1; seen = (v.seen ++ between) ++ e ∷ []; mine = v.mine ++ length (v.seen ++ between) ∷ [] } in z)
           (λ i. (set-again v.held b (Some left) None i, sym (append_assoc t.1 (r ∷ []) v.reads) i)),
     )
+
+pub finished-known : {P X : Type 0} (views : List (List (View P X))) (vs ws us : List (View P X)) (news : List (List (View P X))) (b : ℕ) (left : List (Option P)) (r : Read) (between : List X) (e : X) → views ≡ vs ∷ [] → news ≡ us ∷ []
+    → ws ≡ record (view_of vs) { held = set (view_of vs).held b (Some left); reads = r ∷ (view_of vs).reads; seen = ((view_of vs).seen ++ between) ++ e ∷ []; mine = (view_of vs).mine ++ length ((view_of vs).seen ++ between) ∷ [] } ∷ []
+    → IsEnded (view_of ws) b (view_of us) → IsFinished (known views) b e (known news)
+finished-known views vs ws us news b left r between e is now stamped ended =
+    subst (λ l. IsFinished (known l) b e (known news)) (sym is) (subst (λ l. IsFinished (view_of vs) b e (known l)) (sym now) (finished-so (view_of vs) b left r between e ws (view_of us) stamped ended))
+
+pub finished-views : {P X : Type 0} (v : View P X) (b : ℕ) (e : X) (us : List (View P X)) (views : List (List (View P X))) → views ≡ us ∷ [] → length us ≡ 1 → (d : IsFinished v b e (known views))
+    → views ≡ (record v { held = set v.held b None; gone = d.0; reads = d.1 ++ v.reads; seen = (v.seen ++ d.2) ++ e ∷ []; mine = v.mine ++ length (v.seen ++ d.2) ∷ [] } ∷ []) ∷ []
+finished-views v b e us views is one d = is ∙ ap (λ (x : List (View _ _)). x ∷ []) (one-view us one ∙ ap (λ (w : View _ _). w ∷ []) (sym (ap known is) ∙ d.3))

@@ -1,14 +1,15 @@
 -- What the calls on a depot do to a seat's view.
-use Rattle.std.specs.Prelude.{◌≡◌, ℕ, zero, suc, ◌<◌, ◌≤◌, List, [], ◌∷◌, ◌++◌, length, slice_set, slice_index_or, Option, Some, None}
+use Rattle.std.specs.Prelude.{◌≡◌, ℕ, zero, suc, ◌+◌, ◌<◌, ◌≤◌, List, [], ◌∷◌, ◌++◌, length, slice_set, slice_index_or, Option, Some, None}
 use mathlib.Core.Option.{some}
 use lib.ListN.{get_elem?}
 use Rattle.nfs_model.specs.Tree.{Layout, Affinity}
 use Rattle.affinity.specs.Affinity.{affinity_of, kind_of}
 use Rattle.affinity.specs.declared.affinity.Kind.{Kind}
-use Rattle.affinity.specs.Numbers.{number_of, parents}
+use Rattle.affinity.specs.Numbers.{number_of, node_count, parents}
 use Rattle.affinity.specs.Tree.{IsNode}
 use Rattle.depot_rule.specs.declared.view.View.{View}
 use Rattle.depot_rule.specs.declared.view.Read.{Read}
+use Rattle.depot_rule.specs.declared.view.Entry.{Entry}
 use Rattle.depot_rule.specs.Tree.{Covers}
 use Rattle.depot_rule.specs.Shares.{Has}
 use Rattle.depot_rule.specs.Plays.{IsOnly}
@@ -25,6 +26,10 @@ worn = 4611686018427387904
 abbrev pub by_number : {P : Type 0} → (ℕ → Option P) → ℕ → List (Option P)
 by_number f zero = []
 by_number f (suc n) = by_number f n ++ f n ∷ []
+
+-- the entry of a call on a node, with the parcels as it leaves them
+abbrev pub entry_of : {P C R : Type 0} → Layout → Affinity → (ℕ → Option P) → C → R → Entry P C R
+entry_of layout a f call reply = record { node = number_of layout a; call = call; reply = reply; left = by_number f (1 + node_count layout) }
 
 module _ {P E : Type 0} where
   -- the seat is of a depot of this layout, whose parcels at the start were of their nodes' kinds

@@ -1,27 +1,27 @@
 //! Calls on a depot, from begin to finish.
 
-ghost use Rattle.std.specs.Prelude.{◌≡◌, ◌<◌, ◌+◌, ℕ, List, Option, [], length, None, IfOk, IfErr};
+ghost use Rattle.std.specs.Prelude.{◌≡◌, ◌<◌, ◌+◌, ◌∷◌, ◌++◌, ℕ, List, Option, Some, [], length, slice_set, slice_index_or, None, IfOk, IfErr};
 ghost use Rattle.affinity.specs.Affinity.{affinity_of, kind_of};
 ghost use Rattle.affinity.specs.Layout.{layout_of};
 ghost use Rattle.affinity.specs.Numbers as numbers;
 ghost use Rattle.affinity.specs.Tree.{IsNode};
 ghost use Rattle.affinity.specs.Fault.{fault_of};
 ghost use Rattle.parcels.specs.Exact.{HasExactly};
-ghost use Rattle.depot_rule.specs.declared.view.Entry.{Entry};
 ghost use Rattle.depot_rule.specs.Sums.{tally};
 ghost use Rattle.depot_rule.specs.Tree.{Covers, Excludes};
 ghost use Rattle.depot_rule.specs.Shares.{Has};
+ghost use Rattle.depot_rule.specs.Parcels.{takes};
 ghost use Rattle.depot_rule.specs.Seats.{view_of};
 ghost use Rattle.depot.specs.Calls.{known};
-ghost use Rattle.depot.specs.Grants.{by_number, IsSeatOf, HasWith, IsBegun, IsEnded, IsFinished, IsRefused};
+ghost use Rattle.depot.specs.Grants.{by_number, entry_of, IsSeatOf, HasWith, IsBegun, IsEnded, IsFinished, IsRefused};
 
 use crate::claiming::{give_up, try_claim};
 use crate::depot::Depot;
 use crate::hold::Hold;
 use crate::plays::Look;
 use crate::seats::Seat;
-use crate::stamps::stamp_as;
-use crate::table::{Board, Place};
+use crate::stamps::{Said, stamp_as};
+use crate::table::{Board, EntryOf, Place};
 use affinity::{Affinity, Layout};
 use atomic_table::Badge;
 use depot_rule::machine::Machine;
@@ -142,12 +142,17 @@ impl<M: Machine> Depot<M> {
         requires open { (g : List _) × Has (known seat.old.badge.views) (numbers.number_of (layout_of self.now.layout) (affinity_of grant.affinity)) g }
         requires exact { HasExactly M.Parcel.kind (layout_of self.now.layout) (affinity_of grant.affinity) (N.parcels (layout_of self.now.layout) (affinity_of grant.affinity) grant.held) }
         ensures seat { (seat.new.badge.table_id ≡ seat.old.badge.table_id) × (seat.new.splits ≡ seat.old.splits) × IsSeatOf M.Parcel.kind (layout_of self.now.layout) (known seat.new.badge.views) }
-        ensures finished { let node = numbers.number_of (layout_of self.now.layout) (affinity_of grant.affinity) in
-            let entry : Entry M.Parcel M.Call M.Reply = record { node = node; call = call.now; reply = reply.now; left = by_number (N.parcels (layout_of self.now.layout) (affinity_of grant.affinity) grant.held) (1 + numbers.node_count (layout_of self.now.layout)) } in
-            IsFinished (known seat.old.badge.views) node entry (known seat.new.badge.views) }
+        ensures finished { IsFinished (known seat.old.badge.views) (numbers.number_of (layout_of self.now.layout) (affinity_of grant.affinity)) (entry_of (layout_of self.now.layout) (affinity_of grant.affinity) (N.parcels (layout_of self.now.layout) (affinity_of grant.affinity) grant.held) call.now reply.now) (known seat.new.badge.views) }
     {
         let mut place: Place<M> = mem::replace(&mut seat.badge, Badge::blank()).into_seat();
-        stamp_as::<M, Brand>(&self.table.shared, &mut place);
+        stamp_call::<M, N, Brand>(
+            &self.table.shared,
+            &mut place,
+            &self.layout,
+            &grant,
+            call,
+            reply,
+        );
         seat.badge = give_home(
             &self.table.shared,
             place,
@@ -157,6 +162,31 @@ impl<M: Machine> Depot<M> {
         )
         .into_badge();
     }
+}
+
+/// Stamps the entry of a call, with the parcels of its grant as they are. What the entry says is
+/// told to the proof alone.
+fn stamp_call<M: Machine, N: Node<M::Parcel>, J: Said<EntryOf<M>>>(
+    board: &Board<M>,
+    place: &mut Place<M>,
+    layout: &Layout,
+    grant: &Grant<M::Parcel, N>,
+    call: &M::Call,
+    reply: &M::Reply,
+)
+    requires table { (place.old.table_id ≡ board.now.table_id) × (0 < board.now.table_id.words) }
+    requires one { length place.old.me.0 ≡ 1 }
+    requires said { J.item ≡ Some (entry_of (layout_of layout.now) (affinity_of grant.now.affinity) (N.parcels (layout_of layout.now) (affinity_of grant.now.affinity) grant.now.held) call.now reply.now) }
+    requires open { (g : List _) × Has (view_of place.old.me.0) (numbers.number_of (layout_of layout.now) (affinity_of grant.now.affinity)) g }
+    requires taken { let ps = board.now.key.value.parents.items in (k : ℕ) → 0 < k → k < length ps → Covers ps (numbers.number_of (layout_of layout.now) (affinity_of grant.now.affinity)) k → 0 < takes k (view_of place.old.me.0) }
+    requires fits { let ps = board.now.key.value.parents.items in let n = numbers.number_of (layout_of layout.now) (affinity_of grant.now.affinity) in
+        let left = by_number (N.parcels (layout_of layout.now) (affinity_of grant.now.affinity) grant.now.held) (1 + numbers.node_count (layout_of layout.now)) in
+        (k : ℕ) → 0 < k → k < length ps → Covers ps n k → (p : _) × (slice_index_or left k None ≡ Some p) × ((q : _) → slice_index_or (view_of place.old.me.0).first k None ≡ Some q → M.Parcel.kind p ≡ M.Parcel.kind q) }
+    ensures seat { (place.new.table_id ≡ place.old.table_id) × (place.new.me.1 ≡ place.old.me.1) }
+    ensures stamped { let v = view_of place.old.me.0 in let e = entry_of (layout_of layout.now) (affinity_of grant.now.affinity) (N.parcels (layout_of layout.now) (affinity_of grant.now.affinity) grant.now.held) call.now reply.now in (ticket : ℕ) × (between : List _)
+        × (place.new.me.0 ≡ record v { held = slice_set v.held e.node (Some e.left); reads = record { word = 0; value = ticket; shares = 0 } ∷ v.reads; seen = (v.seen ++ between) ++ e ∷ []; mine = v.mine ++ length (v.seen ++ between) ∷ [] } ∷ []) }
+{
+    stamp_as::<M, J>(board, place);
 }
 
 /// Gives the parcels of a grant home, as its view lists them, and gives the grant up.

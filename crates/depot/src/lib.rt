@@ -1,6 +1,6 @@
-//! Grants of the parcels of a tree, to threads, without a lock and without memory. So far: the
-//! depot and its seats, all atomic steps, the way of a claim through the words above its node, and
-//! parcels that go out of their slots and come home.
+//! Grants of the parcels of a tree, to threads, without a lock and without memory. A call begins with
+//! a grant of a node's parcels and of those below it, or a word refuses it; it is finished by one
+//! step, which puts its entry into the history, or put back.
 #![tactic(auto)]
 
 pub mod adding;
@@ -9,6 +9,7 @@ mod closed;
 pub mod depot;
 pub mod grants;
 pub mod hold;
+pub mod laws;
 pub mod path;
 pub mod plays;
 pub mod seats;

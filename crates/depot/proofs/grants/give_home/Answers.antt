@@ -35,7 +35,7 @@ pub give_up-requires-clause-home : goal.give_up-requires-clause-home
 give_up-requires-clause-home g c = λ k h p has pos lt cover lists.
     let tree : (view_of c.args.place.me.0).tree ≡ c.args.board.now.key.value.parents.items = c.requires.ready.4 ∙ c.requires.tree.0 in
     let moved = subst (λ (m : ℕ). (j : ℕ) → Moved (untaken (view_of c.scatter.new.shelf.place.me.0) m j) (g.N.Node.parcels (layout_of c.args.layout.now) (affinity_of c.args.grant.affinity) c.args.grant.held j) (untaken (view_of c.args.place.me.0) c.number_of-node.result j))
-        c.scatter.ensures.kept.0 c.scatter.ensures.moved in
+    c.scatter.ensures.kept.0 c.scatter.ensures.moved in
     set-home (g.N.Node.parcels (layout_of c.args.layout.now) (affinity_of c.args.grant.affinity) c.args.grant.held) (number_of (layout_of c.args.layout.now) (affinity_of c.args.grant.affinity))
     c.number_of-node.result c.args.place.me.0 c.scatter.new.shelf.place.me.0 c.number_of-node.ensures.number c.requires.listed c.requires.ready.2 c.scatter.ensures.kept.2 moved k h p has pos
     (subst (λ (ps : List ℕ). k < length ps) (sym tree) lt) (subst (λ (ps : List ℕ). Covers ps c.number_of-node.result k) (sym tree) cover) lists

@@ -93,7 +93,7 @@ invariant_of-seat-in-Ok g c =
     let q = granted-after g.M.Parcel.HasKind.kind K c.number_of-node.result r c.load-ticket.new.seat.me.0 c.try_claim.new.place.me.0 looked c.in-Ok.ensures.granted in
     let badge : c.into_badge-in-Ok.result.views ≡ c.gather-held.new.shelf.place.me.0 ∷ [] = search rules in
     let full = begun-views g.M.Parcel.HasKind.kind L c.args.self.now.layout.lawful (affinity_of c.args.affinity) c.requires.node.0 K c.requires.seat.1 c.number_of-node.result c.number_of-node.ensures.number q.0.0 q.0.1 c.try_claim.new.place.me.0 q.0.2
-        (g.N.Node.parcels L (affinity_of c.args.affinity) c.gather-held.result) c.gather-held.ensures.exact c.gather-held.new.shelf.node c.gather-held.ensures.kept.0 c.gather-held.new.shelf.place.me.0 c.gather-held.ensures.moved c.gather-held.ensures.kept.2 c.into_badge-in-Ok.result.views badge in
+    (g.N.Node.parcels L (affinity_of c.args.affinity) c.gather-held.result) c.gather-held.ensures.exact c.gather-held.new.shelf.node c.gather-held.ensures.kept.0 c.gather-held.new.shelf.place.me.0 c.gather-held.ensures.moved c.gather-held.ensures.kept.2 c.into_badge-in-Ok.result.views badge in
     record {
       one = (ap length full, ap (λ l. length (own_views l)) full);
       idle = (ap (λ l. (known l).unsure) full ∙ seat.idle.0, ap (λ l. (known l).hand) full ∙ seat.idle.1, ap (λ l. length (known l).path) full ∙ seat.idle.2);
@@ -113,7 +113,7 @@ returns-in-Ok-clause-seat g c =
     let q = granted-after g.M.Parcel.HasKind.kind K c.number_of-node.result r c.load-ticket.new.seat.me.0 c.try_claim.new.place.me.0 looked c.in-Ok.ensures.granted in
     let badge : c.into_badge-in-Ok.result.views ≡ c.gather-held.new.shelf.place.me.0 ∷ [] = search rules in
     let full = begun-views g.M.Parcel.HasKind.kind L c.args.self.now.layout.lawful (affinity_of c.args.affinity) c.requires.node.0 K c.requires.seat.1 c.number_of-node.result c.number_of-node.ensures.number q.0.0 q.0.1 c.try_claim.new.place.me.0 q.0.2
-        (g.N.Node.parcels L (affinity_of c.args.affinity) c.gather-held.result) c.gather-held.ensures.exact c.gather-held.new.shelf.node c.gather-held.ensures.kept.0 c.gather-held.new.shelf.place.me.0 c.gather-held.ensures.moved c.gather-held.ensures.kept.2 c.into_badge-in-Ok.result.views badge in
+    (g.N.Node.parcels L (affinity_of c.args.affinity) c.gather-held.result) c.gather-held.ensures.exact c.gather-held.new.shelf.node c.gather-held.ensures.kept.0 c.gather-held.new.shelf.place.me.0 c.gather-held.ensures.moved c.gather-held.ensures.kept.2 c.into_badge-in-Ok.result.views badge in
     (search rules, refl, seat-still g.M.Parcel.HasKind.kind L K (known c.into_badge-in-Ok.result.views) (ap (λ l. (known l).tree) full) (ap (λ l. (known l).first) full) c.requires.seat.1)
 
 pub returns-in-Ok-clause-granted : goal.returns-in-Ok-clause-granted
