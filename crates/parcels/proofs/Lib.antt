@@ -4,3 +4,9 @@ pub mod OfKind
 pub mod Parts
 pub mod Steps
 pub mod Exactness
+pub mod Allowing
+pub mod Apart
+pub mod Allowed
+pub mod Within
+pub mod InVecs
+pub mod AtNode

@@ -1,9 +1,10 @@
 -- Takings and givings, one after another.
-use Rattle.std.proofs.Common.{◌≡◌, ◌≢◌, ℕ, ◌+◌, Bool, true, false, List, Option, Some, None, refl, sym, ◌∙◌, ap, subst, slice_get, ⊎_elim}
-use Rattle.std.proofs.lemmas.Bool.{cases_eq}
+use Rattle.std.proofs.Common.{◌≡◌, ◌==◌, ◌≢◌, ℕ, ◌+◌, Bool, true, false, List, Option, Some, None, refl, sym, ◌∙◌, ap, subst, arith, slice_get, ⊎_elim}
+use Rattle.std.specs.Prelude.{if◌then◌else◌}
+use Rattle.std.proofs.lemmas.Bool.{cases_eq, eq-eqb, eqb-true}
 use Rattle.parcels.specs.Places.{alone, or_else, in_place, in_places}
 use Rattle.parcels.specs.Moved.{Moved}
-use Rattle.parcels.proofs.PlaceLemmas.{alone-there, alone-none, in_places-put, in_places-next, in_places-empty, in_places-unused, in_places-step}
+use Rattle.parcels.proofs.PlaceLemmas.{alone-there, alone-none, in_places-put, in_places-next, in_places-empty, in_places-unused, in_places-step, in_places-same, in_places-any, used-none}
 
 module _ {T : Type 0} where
   pub moved-same : (a s b : Option T) → s ≡ None → Moved a s b → b ≡ a
@@ -106,3 +107,42 @@ module _ {T H : Type 0} (u : ℕ → Bool) (p : ℕ → H → ℕ → Option T) 
   scattered-step xs i place f g h used there before step k =
       subst (λ o. Moved (h k) o (f k)) (sym (in_places-step u (λ j held. p j held k) xs i place used there))
       (given-both (f k) (in_places u (λ j held. p j held k) xs i) (g k) (in_place (λ held. p i held k) (Some place)) (h k) (before k) (step k))
+
+  -- what is in a place more, if it is in use, was taken and put there
+  pub gathered-step : (xs ys : List (Option H)) (i : ℕ) (place : Option H) (f g h : ℕ → Option T)
+      → slice_get ys i ≡ Some place → ((j : ℕ) → j ≢ i → slice_get ys j ≡ slice_get xs j)
+      → ((k : ℕ) → Moved (f k) (in_places u (λ j held. p j held k) xs i) (g k))
+      → ((k : ℕ) → Moved (g k) (if u i then in_place (λ held. p i held k) (Some place) else None) (h k))
+      → (k : ℕ) → Moved (f k) (in_places u (λ j held. p j held k) ys (i + 1)) (h k)
+  gathered-step xs ys i place f g h there others before step k =
+      subst (λ o. Moved (f k) o (h k))
+      (sym (in_places-any u (λ j held. p j held k) ys i place there
+      ∙ ap (λ o. or_else o (if u i then in_place (λ held. p i held k) (Some place) else None)) (in_places-same u (λ j held. p j held k) xs ys i (λ j l. others j (λ (same : j ≡ i). let no : ⊥ = omega arith in no)))))
+      (moved-both (f k) (in_places u (λ j held. p j held k) xs i) (g k) (if u i then in_place (λ held. p i held k) (Some place) else None) (h k) (before k) (step k))
+
+  -- or it was taken from there and given back
+  pub scattered-used : (xs : List (Option H)) (i : ℕ) (place : Option H) (f g h : ℕ → Option T)
+      → slice_get xs i ≡ Some place
+      → ((k : ℕ) → Moved (g k) (in_places u (λ j held. p j held k) xs i) (f k))
+      → ((k : ℕ) → Moved (h k) (if u i then in_place (λ held. p i held k) (Some place) else None) (g k))
+      → (k : ℕ) → Moved (h k) (in_places u (λ j held. p j held k) xs (i + 1)) (f k)
+  scattered-used xs i place f g h there before step k =
+      subst (λ o. Moved (h k) o (f k)) (sym (in_places-any u (λ j held. p j held k) xs i place there))
+      (given-both (f k) (in_places u (λ j held. p j held k) xs i) (g k) (if u i then in_place (λ held. p i held k) (Some place) else None) (h k) (before k) (step k))
+
+-- what is in a full place was moved
+pub moved-full : {T H : Type 0} (f : H → ℕ → Option T) (before after : ℕ → Option T) (place : Option H) (held : H) → place ≡ Some held
+    → ((k : ℕ) → Moved (before k) (f held k) (after k)) → (k : ℕ) → Moved (before k) (in_place (λ h. f h k) (Some place)) (after k)
+moved-full f before after place held e h k = subst (λ o. Moved (before k) (in_place (λ h. f h k) (Some o)) (after k)) (sym e) (h k)
+
+-- what is of this number was moved, or nothing was
+pub moved-if : {T : Type 0} (s f g : ℕ → Option T) (m n : ℕ) → m ≡ n → ((k : ℕ) → Moved (f k) (s k) (g k)) → (k : ℕ) → Moved (f k) (if m == n then s k else None) (g k)
+moved-if s f g m n e h k = subst (λ b. Moved (f k) (if b then s k else None) (g k)) (sym (eq-eqb m n e)) (h k)
+
+pub moved-if_not : {T : Type 0} (s f : ℕ → Option T) (m n : ℕ) → (m ≡ n → ⊥) → (k : ℕ) → Moved (f k) (if m == n then s k else None) (f k)
+moved-if_not s f m n d k = subst (λ o. Moved (f k) o (f k)) (sym (used-none (m == n) (s k) (λ e. absurd (d (eqb-true m n e))))) refl
+
+-- all places were passed
+pub moved-all : {T H : Type 0} (u : ℕ → Bool) (p : ℕ → H → ℕ → Option T) (xs : List (Option H)) (i n : ℕ) (f g : ℕ → Option T) → i ≡ n
+    → ((k : ℕ) → Moved (f k) (in_places u (λ j held. p j held k) xs i) (g k)) → (k : ℕ) → Moved (f k) (in_places u (λ j held. p j held k) xs n) (g k)
+moved-all u p xs i n f g e h k = subst (λ m. Moved (f k) (in_places u (λ j held. p j held k) xs m) (g k)) e (h k)

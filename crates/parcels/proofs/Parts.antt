@@ -8,6 +8,8 @@ use Rattle.parcels.specs.Places.{alone, or_else, in_places}
 use Rattle.parcels.specs.Below.{OnLogical, OnVbn, OnVolume, OnAggregate, OnSerial}
 use Rattle.parcels.specs.Sets.{range_parcels, vbn_parcels, stripe_parcels, logical_parcels, volume_parcels, aggregate_parcels, serial_parcels}
 use Rattle.parcels.specs.declared.family.Parcel.TheVariants as parcels
+use Rattle.parcels.specs.declared.sets.RangeHeld.{RangeHeld}
+use Rattle.parcels.specs.declared.sets.StripeHeld.{StripeHeld}
 use Rattle.parcels.specs.declared.sets.VbnHeld.{VbnHeld}
 use Rattle.parcels.specs.declared.sets.LogicalHeld.{LogicalHeld}
 use Rattle.parcels.specs.declared.sets.VolumeHeld.{VolumeHeld}
@@ -77,6 +79,14 @@ volumes-apart layout v w k there_v there_w n low high =
 -- ---- a set has nothing at a number that is none of its nodes'
 
 module _ {P R B S L V A X : Type 0} (layout : Layout) (k : ℕ) where
+  pub range-none : (v r : ℕ) (held : RangeHeld P R B S L V A X) → k ≢ number_of layout (Range v r) → range_parcels layout (Range v r) held k ≡ None
+  unfolding range_parcels
+  range-none v r held = alone-none (number_of layout (Range v r)) (parcels.Range held.own) k
+
+  pub stripe-none : (v i : ℕ) (held : StripeHeld P R B S L V A X) → k ≢ number_of layout (Stripe v i) → stripe_parcels layout (Stripe v i) held k ≡ None
+  unfolding stripe_parcels
+  stripe-none v i held = alone-none (number_of layout (Stripe v i)) (parcels.Stripe held.own) k
+
   pub vbn-none : (v : ℕ) (held : VbnHeld P R B S L V A X) → OnVbn layout (λ b. k ≢ number_of layout b) v → vbn_parcels layout (Vbn v) held k ≡ None
   unfolding vbn_parcels range_parcels
   vbn-none v held on =

@@ -16,7 +16,7 @@ pub or_else-none : {T : Type 0} (a b : Option T) → a ≡ None → b ≡ None �
 or_else-none a b e d = subst (λ o. or_else o b ≡ None) (sym e) d
 
 -- nothing more
-or_else-last : {T : Type 0} (a b : Option T) → b ≡ None → or_else a b ≡ a
+pub or_else-last : {T : Type 0} (a b : Option T) → b ≡ None → or_else a b ≡ a
 or_else-last None b e = e
 or_else-last (Some x) b e = refl
 
@@ -25,7 +25,7 @@ place-none f None h = refl
 place-none f (Some None) h = refl
 place-none f (Some (Some x)) h = h x
 
-used-none : {T : Type 0} (b : Bool) (o : Option T) → (b ≡ true → o ≡ None) → (if b then o else None) ≡ None
+pub used-none : {T : Type 0} (b : Bool) (o : Option T) → (b ≡ true → o ≡ None) → (if b then o else None) ≡ None
 used-none true o h = h refl
 used-none false o h = refl
 
@@ -83,3 +83,8 @@ module _ {H T : Type 0} (u : ℕ → Bool) (f : ℕ → H → Option T) where
       ap (in_places u f xs) (add-one i)
       ∙ ap (λ o. or_else (in_places u f xs i) (if u i then in_place (f i) o else None)) e
       ∙ ap (λ b. or_else (in_places u f xs i) (if b then in_place (f i) (Some place) else None)) used
+
+  -- one place more, in use or not
+  pub in_places-any : (xs : List (Option H)) (i : ℕ) (place : Option H) → slice_get xs i ≡ Some place → in_places u f xs (i + 1) ≡ or_else (in_places u f xs i) (if u i then in_place (f i) (Some place) else None)
+  unfolding in_places
+  in_places-any xs i place e = ap (in_places u f xs) (add-one i) ∙ ap (λ o. or_else (in_places u f xs i) (if u i then in_place (f i) o else None)) e

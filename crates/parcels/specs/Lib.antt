@@ -3,3 +3,5 @@ pub mod Moved
 pub mod Sets
 pub mod Below
 pub mod Exact
+pub mod InVec
+pub mod Laws

@@ -1,6 +1,6 @@
 //! Sets are taken apart, and their parcels given to a shelf.
 
-ghost use Rattle.std.specs.Prelude.{◌≡◌, ◌≢◌, ◌<◌, ℕ, true, ◌==◌, length, Some};
+ghost use Rattle.std.specs.Prelude.{◌≡◌, ◌≢◌, ◌<◌, ℕ, true, ◌==◌, length, Some, None, IfSome, slice_get, if◌then◌else◌};
 ghost use Rattle.nfs_model.specs.Tree as trees;
 ghost use Rattle.nfs_model.specs.Tree.{stripes_of, aggregate_of};
 ghost use Rattle.affinity.specs.Affinity.{affinity_of};
@@ -15,7 +15,7 @@ ghost use Rattle.parcels.specs.Sets.{range_parcels, vbn_parcels, stripe_parcels,
 
 use crate::family::{Family, Parcel};
 use crate::places::Places;
-use crate::sets::{LogicalHeld, RangeHeld, StripeHeld, VbnHeld, VolumeHeld};
+use crate::sets::{AggrHeld, LogicalHeld, RangeHeld, SerialHeld, StripeHeld, VbnHeld, VolumeHeld};
 use crate::shelf::Shelf;
 use affinity::{Affinity, Layout};
 
@@ -31,6 +31,7 @@ fn put_parcel<P: Family, S: Shelf<Parcel<P>>>(
 )
     requires node { IsNode (layout_of layout.now) (affinity_of affinity) }
     requires vacant { IsVacant (layout_of layout.now) (S.at shelf.old) (affinity_of affinity) }
+    requires allowed { S.allows shelf.old (number_of (layout_of layout.now) (affinity_of affinity)) parcel }
     ensures moved { (k : ℕ) → Moved (S.at shelf.new k) (alone (number_of (layout_of layout.now) (affinity_of affinity)) parcel k) (S.at shelf.old k) }
     ensures kept { S.keeps shelf.old shelf.new }
 {
@@ -38,7 +39,7 @@ fn put_parcel<P: Family, S: Shelf<Parcel<P>>>(
 }
 
 /// Gives back the parcel of a range.
-pub fn scatter_range<P: Family, S: Shelf<Parcel<P>>>(
+pub(crate) fn scatter_range<P: Family, S: Shelf<Parcel<P>>>(
     shelf: &mut S,
     layout: &Layout,
     volume: u32,
@@ -48,6 +49,7 @@ pub fn scatter_range<P: Family, S: Shelf<Parcel<P>>>(
     requires volume { volume < length (layout_of layout.now).volumes }
     requires range { range < 16 }
     requires vacant { IsVacant (layout_of layout.now) (S.at shelf.old) (trees.Range volume range) }
+    requires allowed { (k : ℕ) → IfSome (range_parcels (layout_of layout.now) (trees.Range volume range) held k) (S.allows shelf.old k) }
     ensures moved { (k : ℕ) → Moved (S.at shelf.new k) (range_parcels (layout_of layout.now) (trees.Range volume range) held k) (S.at shelf.old k) }
     ensures kept { S.keeps shelf.old shelf.new }
 {
@@ -60,7 +62,7 @@ pub fn scatter_range<P: Family, S: Shelf<Parcel<P>>>(
 }
 
 /// Gives back the parcel of a stripe.
-pub fn scatter_stripe<P: Family, S: Shelf<Parcel<P>>>(
+pub(crate) fn scatter_stripe<P: Family, S: Shelf<Parcel<P>>>(
     shelf: &mut S,
     layout: &Layout,
     volume: u32,
@@ -70,6 +72,7 @@ pub fn scatter_stripe<P: Family, S: Shelf<Parcel<P>>>(
     requires volume { volume < length (layout_of layout.now).volumes }
     requires stripe { stripe < stripes_of (layout_of layout.now) volume }
     requires vacant { IsVacant (layout_of layout.now) (S.at shelf.old) (trees.Stripe volume stripe) }
+    requires allowed { (k : ℕ) → IfSome (stripe_parcels (layout_of layout.now) (trees.Stripe volume stripe) held k) (S.allows shelf.old k) }
     ensures moved { (k : ℕ) → Moved (S.at shelf.new k) (stripe_parcels (layout_of layout.now) (trees.Stripe volume stripe) held k) (S.at shelf.old k) }
     ensures kept { S.keeps shelf.old shelf.new }
 {
@@ -92,6 +95,7 @@ fn scatter_range_place<P: Family, S: Shelf<Parcel<P>>>(
     requires volume { volume < length (layout_of layout.now).volumes }
     requires range { range < 16 }
     requires vacant { IsVacant (layout_of layout.now) (S.at shelf.old) (trees.Range volume range) }
+    requires allowed { (k : ℕ) → IfSome (in_place (λ held. range_parcels (layout_of layout.now) (trees.Range volume range) held k) (Some place)) (S.allows shelf.old k) }
     ensures moved { (k : ℕ) → Moved (S.at shelf.new k) (in_place (λ held. range_parcels (layout_of layout.now) (trees.Range volume range) held k) (Some place)) (S.at shelf.old k) }
     ensures kept { S.keeps shelf.old shelf.new }
 {
@@ -109,6 +113,7 @@ fn scatter_ranges<P: Family, S: Shelf<Parcel<P>>>(
 )
     requires volume { volume < length (layout_of layout.now).volumes }
     requires vacant { (r : ℕ) → r < 16 → IsVacant (layout_of layout.now) (S.at shelf.old) (trees.Range volume r) }
+    requires allowed { (r : ℕ) → r < 16 → (k : ℕ) → IfSome (in_place (λ held. range_parcels (layout_of layout.now) (trees.Range volume r) held k) (slice_get ranges.at r)) (S.allows shelf.old k) }
     ensures moved { (k : ℕ) → Moved (S.at shelf.new k) (in_places (λ r. true) (λ r held. range_parcels (layout_of layout.now) (trees.Range volume r) held k) ranges.at (16)) (S.at shelf.old k) }
     ensures kept { S.keeps shelf.old shelf.new }
 {
@@ -129,6 +134,7 @@ fn scatter_stripe_place<P: Family, S: Shelf<Parcel<P>>>(
     requires volume { volume < length (layout_of layout.now).volumes }
     requires stripe { stripe < stripes_of (layout_of layout.now) volume }
     requires vacant { IsVacant (layout_of layout.now) (S.at shelf.old) (trees.Stripe volume stripe) }
+    requires allowed { (k : ℕ) → IfSome (in_place (λ held. stripe_parcels (layout_of layout.now) (trees.Stripe volume stripe) held k) (Some place)) (S.allows shelf.old k) }
     ensures moved { (k : ℕ) → Moved (S.at shelf.new k) (in_place (λ held. stripe_parcels (layout_of layout.now) (trees.Stripe volume stripe) held k) (Some place)) (S.at shelf.old k) }
     ensures kept { S.keeps shelf.old shelf.new }
 {
@@ -146,6 +152,7 @@ fn scatter_stripes<P: Family, S: Shelf<Parcel<P>>>(
 )
     requires volume { volume < length (layout_of layout.now).volumes }
     requires vacant { (i : ℕ) → i < stripes_of (layout_of layout.now) volume → IsVacant (layout_of layout.now) (S.at shelf.old) (trees.Stripe volume i) }
+    requires allowed { (i : ℕ) → i < stripes_of (layout_of layout.now) volume → (k : ℕ) → IfSome (in_place (λ held. stripe_parcels (layout_of layout.now) (trees.Stripe volume i) held k) (slice_get stripes.at i)) (S.allows shelf.old k) }
     ensures moved { (k : ℕ) → Moved (S.at shelf.new k) (in_places (λ i. true) (λ i held. stripe_parcels (layout_of layout.now) (trees.Stripe volume i) held k) stripes.at (stripes_of (layout_of layout.now) volume)) (S.at shelf.old k) }
     ensures kept { S.keeps shelf.old shelf.new }
 {
@@ -156,7 +163,7 @@ fn scatter_stripes<P: Family, S: Shelf<Parcel<P>>>(
 }
 
 /// Gives back the parcels of a volume's block numbers.
-pub fn scatter_vbn<P: Family, S: Shelf<Parcel<P>>>(
+pub(crate) fn scatter_vbn<P: Family, S: Shelf<Parcel<P>>>(
     shelf: &mut S,
     layout: &Layout,
     volume: u32,
@@ -164,6 +171,7 @@ pub fn scatter_vbn<P: Family, S: Shelf<Parcel<P>>>(
 )
     requires volume { volume < length (layout_of layout.now).volumes }
     requires vacant { OnVbn (layout_of layout.now) (IsVacant (layout_of layout.now) (S.at shelf.old)) volume }
+    requires allowed { (k : ℕ) → IfSome (vbn_parcels (layout_of layout.now) (trees.Vbn volume) held k) (S.allows shelf.old k) }
     ensures moved { (k : ℕ) → Moved (S.at shelf.new k) (vbn_parcels (layout_of layout.now) (trees.Vbn volume) held k) (S.at shelf.old k) }
     ensures kept { S.keeps shelf.old shelf.new }
 {
@@ -173,7 +181,7 @@ pub fn scatter_vbn<P: Family, S: Shelf<Parcel<P>>>(
 }
 
 /// Gives back the parcels of a volume's names and of its stripes.
-pub fn scatter_logical<P: Family, S: Shelf<Parcel<P>>>(
+pub(crate) fn scatter_logical<P: Family, S: Shelf<Parcel<P>>>(
     shelf: &mut S,
     layout: &Layout,
     volume: u32,
@@ -181,6 +189,7 @@ pub fn scatter_logical<P: Family, S: Shelf<Parcel<P>>>(
 )
     requires volume { volume < length (layout_of layout.now).volumes }
     requires vacant { OnLogical (layout_of layout.now) (IsVacant (layout_of layout.now) (S.at shelf.old)) volume }
+    requires allowed { (k : ℕ) → IfSome (logical_parcels (layout_of layout.now) (trees.Logical volume) held k) (S.allows shelf.old k) }
     ensures moved { (k : ℕ) → Moved (S.at shelf.new k) (logical_parcels (layout_of layout.now) (trees.Logical volume) held k) (S.at shelf.old k) }
     ensures kept { S.keeps shelf.old shelf.new }
 {
@@ -195,7 +204,7 @@ pub fn scatter_logical<P: Family, S: Shelf<Parcel<P>>>(
 }
 
 /// Gives back the parcels of a volume.
-pub fn scatter_volume<P: Family, S: Shelf<Parcel<P>>>(
+pub(crate) fn scatter_volume<P: Family, S: Shelf<Parcel<P>>>(
     shelf: &mut S,
     layout: &Layout,
     volume: u32,
@@ -203,6 +212,7 @@ pub fn scatter_volume<P: Family, S: Shelf<Parcel<P>>>(
 )
     requires volume { volume < length (layout_of layout.now).volumes }
     requires vacant { OnVolume (layout_of layout.now) (IsVacant (layout_of layout.now) (S.at shelf.old)) volume }
+    requires allowed { (k : ℕ) → IfSome (volume_parcels (layout_of layout.now) (trees.Volume volume) held k) (S.allows shelf.old k) }
     ensures moved { (k : ℕ) → Moved (S.at shelf.new k) (volume_parcels (layout_of layout.now) (trees.Volume volume) held k) (S.at shelf.old k) }
     ensures kept { S.keeps shelf.old shelf.new }
 {
@@ -210,4 +220,122 @@ pub fn scatter_volume<P: Family, S: Shelf<Parcel<P>>>(
     put_parcel(shelf, layout, Affinity::Volume(volume), Parcel::Volume(own));
     scatter_logical(shelf, layout, volume, logical);
     scatter_vbn(shelf, layout, volume, vbn);
+}
+
+/// Gives back the parcels of a volume, where they are in their place.
+fn scatter_volume_place<P: Family, S: Shelf<Parcel<P>>>(
+    shelf: &mut S,
+    layout: &Layout,
+    volume: u32,
+    place: Option<VolumeHeld<P>>,
+)
+    requires volume { volume < length (layout_of layout.now).volumes }
+    requires vacant { OnVolume (layout_of layout.now) (IsVacant (layout_of layout.now) (S.at shelf.old)) volume }
+    requires allowed { (k : ℕ) → IfSome (in_place (λ held. volume_parcels (layout_of layout.now) (trees.Volume volume) held k) (Some place)) (S.allows shelf.old k) }
+    ensures moved { (k : ℕ) → Moved (S.at shelf.new k) (in_place (λ held. volume_parcels (layout_of layout.now) (trees.Volume volume) held k) (Some place)) (S.at shelf.old k) }
+    ensures kept { S.keeps shelf.old shelf.new }
+{
+    if let Some(held) = place {
+        scatter_volume(shelf, layout, volume, held);
+    }
+}
+
+/// Gives back the parcels of a volume, if it is on the aggregate.
+fn scatter_volume_of<P: Family, S: Shelf<Parcel<P>>>(
+    shelf: &mut S,
+    layout: &Layout,
+    aggregate: u32,
+    volume: u32,
+    place: Option<VolumeHeld<P>>,
+)
+    requires volume { volume < length (layout_of layout.now).volumes }
+    requires vacant { aggregate_of (layout_of layout.now) volume ≡ aggregate → OnVolume (layout_of layout.now) (IsVacant (layout_of layout.now) (S.at shelf.old)) volume }
+    requires allowed { aggregate_of (layout_of layout.now) volume ≡ aggregate → (k : ℕ) → IfSome (in_place (λ held. volume_parcels (layout_of layout.now) (trees.Volume volume) held k) (Some place)) (S.allows shelf.old k) }
+    ensures moved { (k : ℕ) → Moved (S.at shelf.new k) (if aggregate_of (layout_of layout.now) volume == aggregate then in_place (λ held. volume_parcels (layout_of layout.now) (trees.Volume volume) held k) (Some place) else None) (S.at shelf.old k) }
+    ensures kept { S.keeps shelf.old shelf.new }
+{
+    if layout.aggregate_of(volume) == aggregate {
+        scatter_volume_place(shelf, layout, volume, place);
+    }
+}
+
+/// Gives back the parcels of the volumes of an aggregate.
+fn scatter_volumes<P: Family, S: Shelf<Parcel<P>>>(
+    shelf: &mut S,
+    layout: &Layout,
+    aggregate: u32,
+    mut volumes: Places<VolumeHeld<P>, 8>,
+)
+    requires vacant { (v : ℕ) → v < length (layout_of layout.now).volumes → aggregate_of (layout_of layout.now) v ≡ aggregate → OnVolume (layout_of layout.now) (IsVacant (layout_of layout.now) (S.at shelf.old)) v }
+    requires allowed { (v : ℕ) → v < length (layout_of layout.now).volumes → aggregate_of (layout_of layout.now) v ≡ aggregate → (k : ℕ) → IfSome (in_place (λ held. volume_parcels (layout_of layout.now) (trees.Volume v) held k) (slice_get volumes.at v)) (S.allows shelf.old k) }
+    ensures moved { (k : ℕ) → Moved (S.at shelf.new k) (in_places (λ v. aggregate_of (layout_of layout.now) v == aggregate) (λ v held. volume_parcels (layout_of layout.now) (trees.Volume v) held k) volumes.at (length (layout_of layout.now).volumes)) (S.at shelf.old k) }
+    ensures kept { S.keeps shelf.old shelf.new }
+{
+    for volume in 0..layout.volume_count() {
+        let place = volumes.take(volume);
+        scatter_volume_of(shelf, layout, aggregate, volume as u32, place);
+    }
+}
+
+/// Gives back the parcels of an aggregate.
+pub(crate) fn scatter_aggregate<P: Family, S: Shelf<Parcel<P>>>(
+    shelf: &mut S,
+    layout: &Layout,
+    aggregate: u32,
+    held: AggrHeld<P>,
+)
+    requires aggregate { aggregate < length (layout_of layout.now).spare }
+    requires vacant { OnAggregate (layout_of layout.now) (IsVacant (layout_of layout.now) (S.at shelf.old)) aggregate }
+    requires allowed { (k : ℕ) → IfSome (aggregate_parcels (layout_of layout.now) (trees.Aggregate aggregate) held k) (S.allows shelf.old k) }
+    ensures moved { (k : ℕ) → Moved (S.at shelf.new k) (aggregate_parcels (layout_of layout.now) (trees.Aggregate aggregate) held k) (S.at shelf.old k) }
+    ensures kept { S.keeps shelf.old shelf.new }
+{
+    let AggrHeld { own, volumes } = held;
+    put_parcel(
+        shelf,
+        layout,
+        Affinity::Aggregate(aggregate),
+        Parcel::Aggregate(own),
+    );
+    scatter_volumes(shelf, layout, aggregate, volumes);
+}
+
+/// Gives back the parcels of an aggregate, where they are in their place.
+fn scatter_aggregate_place<P: Family, S: Shelf<Parcel<P>>>(
+    shelf: &mut S,
+    layout: &Layout,
+    aggregate: u32,
+    place: Option<AggrHeld<P>>,
+)
+    requires aggregate { aggregate < length (layout_of layout.now).spare }
+    requires vacant { OnAggregate (layout_of layout.now) (IsVacant (layout_of layout.now) (S.at shelf.old)) aggregate }
+    requires allowed { (k : ℕ) → IfSome (in_place (λ held. aggregate_parcels (layout_of layout.now) (trees.Aggregate aggregate) held k) (Some place)) (S.allows shelf.old k) }
+    ensures moved { (k : ℕ) → Moved (S.at shelf.new k) (in_place (λ held. aggregate_parcels (layout_of layout.now) (trees.Aggregate aggregate) held k) (Some place)) (S.at shelf.old k) }
+    ensures kept { S.keeps shelf.old shelf.new }
+{
+    if let Some(held) = place {
+        scatter_aggregate(shelf, layout, aggregate, held);
+    }
+}
+
+/// Gives back all parcels.
+pub(crate) fn scatter_serial<P: Family, S: Shelf<Parcel<P>>>(
+    shelf: &mut S,
+    layout: &Layout,
+    held: SerialHeld<P>,
+)
+    requires vacant { OnSerial (layout_of layout.now) (IsVacant (layout_of layout.now) (S.at shelf.old)) }
+    requires allowed { (k : ℕ) → IfSome (serial_parcels (layout_of layout.now) trees.Serial held k) (S.allows shelf.old k) }
+    ensures moved { (k : ℕ) → Moved (S.at shelf.new k) (serial_parcels (layout_of layout.now) trees.Serial held k) (S.at shelf.old k) }
+    ensures kept { S.keeps shelf.old shelf.new }
+{
+    let SerialHeld {
+        own,
+        mut aggregates,
+    } = held;
+    put_parcel(shelf, layout, Affinity::Serial, Parcel::Serial(own));
+    for aggregate in 0..layout.aggregate_count() {
+        let place = aggregates.take(aggregate);
+        scatter_aggregate_place(shelf, layout, aggregate as u32, place);
+    }
 }

@@ -1,12 +1,15 @@
-use Rattle.std.proofs.Common.{◌∙◌, ap}
+use Rattle.std.proofs.Common.{◌∙◌, ap, subst, sym}
 use Rattle.affinity.specs.Affinity.{affinity_of}
 use Rattle.affinity.specs.Layout.{layout_of}
 use Rattle.affinity.specs.Numbers.{number_of}
 use Rattle.parcels.proofs.Moves.{given-at}
 use Rattle.parcels.proofs.scatter.put_parcel.Goals as goal
 
-pub put-requires : goal.put-requires
-put-requires g c = ap (g.S.Shelf.at c.args.shelf.now) c.number_of.ensures.number ∙ c.requires.vacant
+pub put-requires-clause-vacant : goal.put-requires-clause-vacant
+put-requires-clause-vacant g c = ap (g.S.Shelf.at c.args.shelf.now) c.number_of.ensures.number ∙ c.requires.vacant
+
+pub put-requires-clause-allowed : goal.put-requires-clause-allowed
+put-requires-clause-allowed g c = subst (λ n. g.S.Shelf.allows c.args.shelf.now n c.args.parcel) (sym c.number_of.ensures.number) c.requires.allowed
 
 pub returns-clause-moved : goal.returns-clause-moved
 returns-clause-moved g c =

@@ -1,4 +1,4 @@
-use Rattle.std.proofs.Common.{◌∙◌, true, Some, refl, sym, arith}
+use Rattle.std.proofs.Common.{◌∙◌, true, Some, refl, sym, arith, slice_get}
 use Rattle.nfs_model.specs.Tree as trees
 use Rattle.nfs_model.specs.Tree.{stripes_of}
 use Rattle.affinity.specs.Layout.{layout_of}
@@ -9,6 +9,7 @@ use Rattle.parcels.specs.Sets.{range_parcels}
 use Rattle.parcels.specs.declared.family.Parcel.TheVariants as parcels
 use Rattle.parcels.proofs.PlaceLemmas.{alone-none, place-none}
 use Rattle.parcels.proofs.Moves.{moved-same, scattered-step, moved-none}
+use Rattle.parcels.proofs.Allowing.{allowed-taken}
 use Rattle.parcels.proofs.Steps.{fewer, vacant_kept, range-after}
 use Rattle.parcels.proofs.scatter.scatter_ranges.Goals as goal
 
@@ -22,6 +23,13 @@ loop-range-init g c = record {
 
 pub scatter_range_place-requires-clause-vacant : goal.scatter_range_place-requires-clause-vacant
 scatter_range_place-requires-clause-vacant g c = c.loop-range.invariant.vacant c.loop-range.range (omega arith) (omega arith)
+
+pub scatter_range_place-requires-clause-allowed : goal.scatter_range_place-requires-clause-allowed
+scatter_range_place-requires-clause-allowed g c =
+    allowed-taken (range_parcels (layout_of c.args.layout.now) (trees.Range c.args.volume c.loop-range.range)) (g.S.Shelf.allows c.args.shelf.now) (g.S.Shelf.allows c.loop-range.shelf) (slice_get c.args.ranges.at c.loop-range.range) c.take-place.result
+    (sym (c.loop-range.invariant.others c.loop-range.range (omega arith)) ∙ c.take-place.ensures.taken)
+    (λ k x. g.met.S.Shelf.keeps_allowing c.args.shelf.now c.loop-range.shelf k x c.loop-range.invariant.kept)
+    (c.requires.allowed c.loop-range.range (omega arith))
 
 pub loop-range-preserved : goal.loop-range-preserved
 unfolding range_parcels

@@ -1,4 +1,4 @@
-use Rattle.std.proofs.Common.{◌∙◌, true, Some, refl, sym, arith}
+use Rattle.std.proofs.Common.{◌∙◌, true, Some, refl, sym, arith, slice_get}
 use Rattle.nfs_model.specs.Tree as trees
 use Rattle.nfs_model.specs.Tree.{stripes_of}
 use Rattle.affinity.specs.Layout.{layout_of}
@@ -9,6 +9,7 @@ use Rattle.parcels.specs.Sets.{stripe_parcels}
 use Rattle.parcels.specs.declared.family.Parcel.TheVariants as parcels
 use Rattle.parcels.proofs.PlaceLemmas.{alone-none, place-none}
 use Rattle.parcels.proofs.Moves.{moved-same, scattered-step, moved-none}
+use Rattle.parcels.proofs.Allowing.{allowed-taken}
 use Rattle.parcels.proofs.Steps.{fewer, vacant_kept, stripe-after}
 use Rattle.parcels.proofs.scatter.scatter_stripes.Goals as goal
 
@@ -22,6 +23,13 @@ loop-stripe-init g c = record {
 
 pub scatter_stripe_place-requires-clause-vacant : goal.scatter_stripe_place-requires-clause-vacant
 scatter_stripe_place-requires-clause-vacant g c = c.loop-stripe.invariant.vacant c.loop-stripe.stripe (omega arith) (omega arith)
+
+pub scatter_stripe_place-requires-clause-allowed : goal.scatter_stripe_place-requires-clause-allowed
+scatter_stripe_place-requires-clause-allowed g c =
+    allowed-taken (stripe_parcels (layout_of c.args.layout.now) (trees.Stripe c.args.volume c.loop-stripe.stripe)) (g.S.Shelf.allows c.args.shelf.now) (g.S.Shelf.allows c.loop-stripe.shelf) (slice_get c.args.stripes.at c.loop-stripe.stripe) c.take-place.result
+    (sym (c.loop-stripe.invariant.others c.loop-stripe.stripe (omega arith)) ∙ c.take-place.ensures.taken)
+    (λ k x. g.met.S.Shelf.keeps_allowing c.args.shelf.now c.loop-stripe.shelf k x c.loop-stripe.invariant.kept)
+    (c.requires.allowed c.loop-stripe.stripe (omega arith))
 
 pub loop-stripe-preserved : goal.loop-stripe-preserved
 unfolding stripe_parcels
