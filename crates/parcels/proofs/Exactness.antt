@@ -7,6 +7,7 @@ use Rattle.affinity.specs.Under.{IsUnder}
 use Rattle.affinity.specs.Numbers.{number_of}
 use Rattle.affinity.proofs.Ways.{begins-self, begins-longer}
 use Rattle.affinity.proofs.Sharing.{covers-cases, covers_from}
+pub use Rattle.parcels.specs.Within.{range-from, stripe-from, vbn-from, logical-from, volume-from, aggregate-from, serial-from}
 use Rattle.parcels.specs.Below.{OnLogical, OnVbn, OnVolume, OnAggregate, OnSerial}
 use Rattle.parcels.specs.Exact.{Under, HasParcel, IsVacant, HasExactly, kind_in}
 use Rattle.parcels.specs.Moved.{Moved}
@@ -20,66 +21,6 @@ use Rattle.parcels.specs.declared.sets.VbnHeld.{VbnHeld}
 use Rattle.parcels.specs.declared.sets.LogicalHeld.{LogicalHeld}
 use Rattle.parcels.specs.declared.sets.VolumeHeld.{VolumeHeld}
 use Rattle.parcels.proofs.Parts.{range-none, stripe-none, vbn-none, logical-none, volume-none, aggregate-none, serial-none}
-
--- a node whose way goes on from another's is under it
-goes_on : (layout : Layout) (a b : Affinity) (more : List ℕ) → IsNode layout b → path layout b ≡ path layout a ++ more → IsUnder layout a b
-goes_on layout a b more there e =
-    (there, covers-cases layout a b (subst (λ way. begins (path layout a) way ≡ true) (sym e) (begins-longer (path layout a) (path layout a) more (begins-self (path layout a)))))
-
-module _ (layout : Layout) (Q : Affinity → Type 0) (v : ℕ) (there : v < length layout.volumes) where
-  pub logical-from : Under layout (Logical v) Q → OnLogical layout Q v
-  logical-from under = record {
-    own = under (Logical v) (there, inl refl);
-    stripes = λ i l. under (Stripe v i) (goes_on layout (Logical v) (Stripe v i) (i ∷ []) (there, l) refl);
-  }
-
-  pub vbn-from : Under layout (Vbn v) Q → OnVbn layout Q v
-  vbn-from under = record {
-    own = under (Vbn v) (there, inl refl);
-    ranges = λ r l. under (Range v r) (goes_on layout (Vbn v) (Range v r) (r ∷ []) (there, l) refl);
-  }
-
-  pub volume-from : Under layout (Volume v) Q → OnVolume layout Q v
-  volume-from under = record {
-    own = under (Volume v) (there, inl refl);
-    logical = record {
-      own = under (Logical v) (goes_on layout (Volume v) (Logical v) (0 ∷ []) there refl);
-      stripes = λ i l. under (Stripe v i) (goes_on layout (Volume v) (Stripe v i) (0 ∷ i ∷ []) (there, l) refl);
-    };
-    vbn = record {
-      own = under (Vbn v) (goes_on layout (Volume v) (Vbn v) (1 ∷ []) there refl);
-      ranges = λ r l. under (Range v r) (goes_on layout (Volume v) (Range v r) (1 ∷ r ∷ []) (there, l) refl);
-    };
-  }
-
-pub range-from : (layout : Layout) (Q : Affinity → Type 0) (v r : ℕ) → IsNode layout (Range v r) → Under layout (Range v r) Q → Q (Range v r)
-range-from layout Q v r there under = under (Range v r) (there, inl refl)
-
-pub stripe-from : (layout : Layout) (Q : Affinity → Type 0) (v i : ℕ) → IsNode layout (Stripe v i) → Under layout (Stripe v i) Q → Q (Stripe v i)
-stripe-from layout Q v i there under = under (Stripe v i) (there, inl refl)
-
-pub aggregate-from : (layout : Layout) (Q : Affinity → Type 0) (a : ℕ) → a < length layout.spare → Under layout (Aggregate a) Q → OnAggregate layout Q a
-aggregate-from layout Q a there under = record {
-  own = under (Aggregate a) (there, inl refl);
-  volumes = λ v l on. record {
-    own = under (Volume v) (goes_on layout (Aggregate a) (Volume v) (v ∷ []) l (ap (λ n. n ∷ v ∷ []) on));
-    logical = record {
-      own = under (Logical v) (goes_on layout (Aggregate a) (Logical v) (v ∷ 0 ∷ []) l (ap (λ n. n ∷ v ∷ 0 ∷ []) on));
-      stripes = λ i m. under (Stripe v i) (goes_on layout (Aggregate a) (Stripe v i) (v ∷ 0 ∷ i ∷ []) (l, m) (ap (λ n. n ∷ v ∷ 0 ∷ i ∷ []) on));
-    };
-    vbn = record {
-      own = under (Vbn v) (goes_on layout (Aggregate a) (Vbn v) (v ∷ 1 ∷ []) l (ap (λ n. n ∷ v ∷ 1 ∷ []) on));
-      ranges = λ r m. under (Range v r) (goes_on layout (Aggregate a) (Range v r) (v ∷ 1 ∷ r ∷ []) (l, m) (ap (λ n. n ∷ v ∷ 1 ∷ r ∷ []) on));
-    };
-  };
-}
-
--- all nodes are under the root
-pub serial-from : (layout : Layout) (Q : Affinity → Type 0) → Under layout Serial Q → OnSerial layout Q
-serial-from layout Q under = record {
-  own = under Serial (tt, inl refl);
-  aggregates = λ a l. aggregate-from layout Q a l (λ b u. under b (goes_on layout Serial b (path layout b) u.0 refl));
-}
 
 -- the first step of a way that begins another
 first_step : (a b : ℕ) (xs : List ℕ) → begins (a ∷ []) (b ∷ xs) ≡ true → b ≡ a

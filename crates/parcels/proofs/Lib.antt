@@ -7,6 +7,4 @@ pub mod Exactness
 pub mod Allowing
 pub mod Apart
 pub mod Allowed
-pub mod Within
-pub mod InVecs
 pub mod AtNode

@@ -2,7 +2,7 @@
 
 ghost use Rattle.affinity.specs.declared.affinity.Kind.TheVariants as kinds;
 ghost use Rattle.parcels.specs.Sets.{range_parcels, vbn_parcels, stripe_parcels, logical_parcels, volume_parcels, aggregate_parcels, serial_parcels};
-ghost use Rattle.parcels.specs.Laws.{range-within, vbn-within, stripe-within, logical-within, volume-within, aggregate-within, serial-within};
+ghost use Rattle.parcels.specs.Within.{range-within, vbn-within, stripe-within, logical-within, volume-within, aggregate-within, serial-within};
 
 use crate::family::{Family, Parcel};
 use crate::gather::{

@@ -10,7 +10,8 @@ ghost use Rattle.affinity.specs.Layout.{layout_of};
 ghost use Rattle.parcels.specs.Below.{OnLogical, OnVbn, OnVolume, OnAggregate, OnSerial};
 ghost use Rattle.parcels.specs.Exact.{IsVacant};
 ghost use Rattle.parcels.specs.Moved.{Moved};
-ghost use Rattle.parcels.specs.Places.{alone, in_place, in_places};
+ghost use Rattle.parcels.specs.Places.{alone, in_place, in_used_place, in_places};
+ghost use Rattle.parcels.specs.Ready.{IsVolumeReady, IsAggregateReady};
 ghost use Rattle.parcels.specs.Sets.{range_parcels, vbn_parcels, stripe_parcels, logical_parcels, volume_parcels, aggregate_parcels, serial_parcels};
 
 use crate::family::{Family, Parcel};
@@ -240,41 +241,45 @@ fn scatter_volume_place<P: Family, S: Shelf<Parcel<P>>>(
     }
 }
 
-/// Gives back the parcels of a volume, if it is on the aggregate.
+/// Gives back the parcels of a volume, if it is on the aggregate, and leaves its place empty.
 fn scatter_volume_of<P: Family, S: Shelf<Parcel<P>>>(
     shelf: &mut S,
     layout: &Layout,
     aggregate: u32,
-    volume: u32,
-    place: Option<VolumeHeld<P>>,
+    held: &mut AggrHeld<P>,
+    volume: usize,
 )
     requires volume { volume < length (layout_of layout.now).volumes }
-    requires vacant { aggregate_of (layout_of layout.now) volume ≡ aggregate → OnVolume (layout_of layout.now) (IsVacant (layout_of layout.now) (S.at shelf.old)) volume }
-    requires allowed { aggregate_of (layout_of layout.now) volume ≡ aggregate → (k : ℕ) → IfSome (in_place (λ held. volume_parcels (layout_of layout.now) (trees.Volume volume) held k) (Some place)) (S.allows shelf.old k) }
-    ensures moved { (k : ℕ) → Moved (S.at shelf.new k) (if aggregate_of (layout_of layout.now) volume == aggregate then in_place (λ held. volume_parcels (layout_of layout.now) (trees.Volume volume) held k) (Some place) else None) (S.at shelf.old k) }
+    requires ready { IsVolumeReady (layout_of layout.now) (S.at shelf.old) (S.allows shelf.old) aggregate volume (slice_get held.old.volumes.at volume) }
+    ensures moved { (k : ℕ) → Moved (S.at shelf.new k) (in_used_place (λ v. aggregate_of (layout_of layout.now) v == aggregate) (λ v held. volume_parcels (layout_of layout.now) (trees.Volume v) held k) held.old.volumes.at volume) (S.at shelf.old k) }
+    ensures others { (v : ℕ) → v ≢ volume → slice_get held.new.volumes.at v ≡ slice_get held.old.volumes.at v }
+    ensures own { held.new.own ≡ held.old.own }
     ensures kept { S.keeps shelf.old shelf.new }
 {
-    if layout.aggregate_of(volume) == aggregate {
-        scatter_volume_place(shelf, layout, volume, place);
+    let _ = layout.volume_count();
+    let place = held.volumes.take(volume);
+    if layout.aggregate_of(volume as u32) == aggregate {
+        scatter_volume_place(shelf, layout, volume as u32, place);
     }
 }
 
-/// Gives back the parcels of the volumes of an aggregate.
+/// Gives back the parcels of the volumes of an aggregate, and leaves its own.
 fn scatter_volumes<P: Family, S: Shelf<Parcel<P>>>(
     shelf: &mut S,
     layout: &Layout,
     aggregate: u32,
-    mut volumes: Places<VolumeHeld<P>, 8>,
-)
+    mut held: AggrHeld<P>,
+) -> P::Aggregate
     requires vacant { (v : ℕ) → v < length (layout_of layout.now).volumes → aggregate_of (layout_of layout.now) v ≡ aggregate → OnVolume (layout_of layout.now) (IsVacant (layout_of layout.now) (S.at shelf.old)) v }
-    requires allowed { (v : ℕ) → v < length (layout_of layout.now).volumes → aggregate_of (layout_of layout.now) v ≡ aggregate → (k : ℕ) → IfSome (in_place (λ held. volume_parcels (layout_of layout.now) (trees.Volume v) held k) (slice_get volumes.at v)) (S.allows shelf.old k) }
-    ensures moved { (k : ℕ) → Moved (S.at shelf.new k) (in_places (λ v. aggregate_of (layout_of layout.now) v == aggregate) (λ v held. volume_parcels (layout_of layout.now) (trees.Volume v) held k) volumes.at (length (layout_of layout.now).volumes)) (S.at shelf.old k) }
+    requires allowed { (v : ℕ) → v < length (layout_of layout.now).volumes → aggregate_of (layout_of layout.now) v ≡ aggregate → (k : ℕ) → IfSome (in_place (λ held. volume_parcels (layout_of layout.now) (trees.Volume v) held k) (slice_get held.volumes.at v)) (S.allows shelf.old k) }
+    ensures own { result ≡ held.own }
+    ensures moved { (k : ℕ) → Moved (S.at shelf.new k) (in_places (λ v. aggregate_of (layout_of layout.now) v == aggregate) (λ v held. volume_parcels (layout_of layout.now) (trees.Volume v) held k) held.volumes.at (length (layout_of layout.now).volumes)) (S.at shelf.old k) }
     ensures kept { S.keeps shelf.old shelf.new }
 {
     for volume in 0..layout.volume_count() {
-        let place = volumes.take(volume);
-        scatter_volume_of(shelf, layout, aggregate, volume as u32, place);
+        scatter_volume_of(shelf, layout, aggregate, &mut held, volume);
     }
+    held.own
 }
 
 /// Gives back the parcels of an aggregate.
@@ -290,14 +295,13 @@ pub(crate) fn scatter_aggregate<P: Family, S: Shelf<Parcel<P>>>(
     ensures moved { (k : ℕ) → Moved (S.at shelf.new k) (aggregate_parcels (layout_of layout.now) (trees.Aggregate aggregate) held k) (S.at shelf.old k) }
     ensures kept { S.keeps shelf.old shelf.new }
 {
-    let AggrHeld { own, volumes } = held;
+    let own = scatter_volumes(shelf, layout, aggregate, held);
     put_parcel(
         shelf,
         layout,
         Affinity::Aggregate(aggregate),
         Parcel::Aggregate(own),
     );
-    scatter_volumes(shelf, layout, aggregate, volumes);
 }
 
 /// Gives back the parcels of an aggregate, where they are in their place.
@@ -308,14 +312,50 @@ fn scatter_aggregate_place<P: Family, S: Shelf<Parcel<P>>>(
     place: Option<AggrHeld<P>>,
 )
     requires aggregate { aggregate < length (layout_of layout.now).spare }
-    requires vacant { OnAggregate (layout_of layout.now) (IsVacant (layout_of layout.now) (S.at shelf.old)) aggregate }
-    requires allowed { (k : ℕ) → IfSome (in_place (λ held. aggregate_parcels (layout_of layout.now) (trees.Aggregate aggregate) held k) (Some place)) (S.allows shelf.old k) }
+    requires ready { IsAggregateReady (layout_of layout.now) (S.at shelf.old) (S.allows shelf.old) aggregate (Some place) }
     ensures moved { (k : ℕ) → Moved (S.at shelf.new k) (in_place (λ held. aggregate_parcels (layout_of layout.now) (trees.Aggregate aggregate) held k) (Some place)) (S.at shelf.old k) }
     ensures kept { S.keeps shelf.old shelf.new }
 {
     if let Some(held) = place {
         scatter_aggregate(shelf, layout, aggregate, held);
     }
+}
+
+/// Gives back the parcels of an aggregate, and leaves its place empty.
+fn scatter_aggregate_of<P: Family, S: Shelf<Parcel<P>>>(
+    shelf: &mut S,
+    layout: &Layout,
+    held: &mut SerialHeld<P>,
+    aggregate: usize,
+)
+    requires aggregate { aggregate < length (layout_of layout.now).spare }
+    requires ready { IsAggregateReady (layout_of layout.now) (S.at shelf.old) (S.allows shelf.old) aggregate (slice_get held.old.aggregates.at aggregate) }
+    ensures moved { (k : ℕ) → Moved (S.at shelf.new k) (in_place (λ held. aggregate_parcels (layout_of layout.now) (trees.Aggregate aggregate) held k) (slice_get held.old.aggregates.at aggregate)) (S.at shelf.old k) }
+    ensures others { (a : ℕ) → a ≢ aggregate → slice_get held.new.aggregates.at a ≡ slice_get held.old.aggregates.at a }
+    ensures own { held.new.own ≡ held.old.own }
+    ensures kept { S.keeps shelf.old shelf.new }
+{
+    let _ = layout.aggregate_count();
+    let place = held.aggregates.take(aggregate);
+    scatter_aggregate_place(shelf, layout, aggregate as u32, place);
+}
+
+/// Gives back the parcels of all aggregates, and leaves that of the root.
+fn scatter_aggregates<P: Family, S: Shelf<Parcel<P>>>(
+    shelf: &mut S,
+    layout: &Layout,
+    mut held: SerialHeld<P>,
+) -> P::Serial
+    requires vacant { (a : ℕ) → a < length (layout_of layout.now).spare → OnAggregate (layout_of layout.now) (IsVacant (layout_of layout.now) (S.at shelf.old)) a }
+    requires allowed { (a : ℕ) → a < length (layout_of layout.now).spare → (k : ℕ) → IfSome (in_place (λ held. aggregate_parcels (layout_of layout.now) (trees.Aggregate a) held k) (slice_get held.aggregates.at a)) (S.allows shelf.old k) }
+    ensures own { result ≡ held.own }
+    ensures moved { (k : ℕ) → Moved (S.at shelf.new k) (in_places (λ a. true) (λ a held. aggregate_parcels (layout_of layout.now) (trees.Aggregate a) held k) held.aggregates.at (length (layout_of layout.now).spare)) (S.at shelf.old k) }
+    ensures kept { S.keeps shelf.old shelf.new }
+{
+    for aggregate in 0..layout.aggregate_count() {
+        scatter_aggregate_of(shelf, layout, &mut held, aggregate);
+    }
+    held.own
 }
 
 /// Gives back all parcels.
@@ -329,13 +369,6 @@ pub(crate) fn scatter_serial<P: Family, S: Shelf<Parcel<P>>>(
     ensures moved { (k : ℕ) → Moved (S.at shelf.new k) (serial_parcels (layout_of layout.now) trees.Serial held k) (S.at shelf.old k) }
     ensures kept { S.keeps shelf.old shelf.new }
 {
-    let SerialHeld {
-        own,
-        mut aggregates,
-    } = held;
+    let own = scatter_aggregates(shelf, layout, held);
     put_parcel(shelf, layout, Affinity::Serial, Parcel::Serial(own));
-    for aggregate in 0..layout.aggregate_count() {
-        let place = aggregates.take(aggregate);
-        scatter_aggregate_place(shelf, layout, aggregate as u32, place);
-    }
 }

@@ -1,8 +1,7 @@
 //! A shelf in memory.
 
-ghost use Rattle.std.specs.Prelude.{◌≡◌, ◌<◌, ℕ, None, length, slice_get, IfOk, replicate};
-ghost use Rattle.parcels.specs.InVec.{found};
-ghost use Rattle.parcels.specs.Laws.{keeps_itself, keeps_on, keeps_allowing};
+ghost use Rattle.std.specs.Prelude.{◌≡◌, ◌<◌, ℕ, None, length, slice_index_or, IfOk, replicate};
+ghost use Rattle.std.proofs.Common.{refl, sym, ◌∙◌, subst};
 
 use crate::shelf::Shelf;
 use std::alloc::{AllocError, Global};
@@ -19,7 +18,7 @@ impl<T: Drop> VecShelf<T> {
         ensures { IfOk result (λ shelf. shelf.parcels.items ≡ replicate count None) }
     {
         let mut parcels = Vec::with_capacity(alloc, count)?;
-        for _ in 0..count {
+        for _done in 0..count {
             parcels.push(None)?;
         }
         Ok(VecShelf { parcels })
@@ -27,7 +26,7 @@ impl<T: Drop> VecShelf<T> {
 }
 
 impl<T: Drop> Shelf<T> for VecShelf<T> {
-    ghost at = { λ shelf k. found (slice_get shelf.parcels.items k) };
+    ghost at = { λ shelf k. slice_index_or shelf.parcels.items k None };
 
     ghost allows = { λ shelf node parcel. node < length shelf.parcels.items };
 
@@ -44,9 +43,9 @@ impl<T: Drop> Shelf<T> for VecShelf<T> {
         self.parcels[node] = Some(parcel);
     }
 
-    ghost keeps_itself = { λ s. keeps_itself (length s.parcels.items) };
+    ghost keeps_itself = { λ s. refl };
 
-    ghost keeps_on = { λ s t u. keeps_on (length s.parcels.items) (length t.parcels.items) (length u.parcels.items) };
+    ghost keeps_on = { λ s t u first then. then ∙ first };
 
-    ghost keeps_allowing = { λ s t node parcel. keeps_allowing (length s.parcels.items) (length t.parcels.items) node };
+    ghost keeps_allowing = { λ s t node parcel same below. subst (λ n. node < n) (sym same) below };
 }

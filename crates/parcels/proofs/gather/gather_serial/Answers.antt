@@ -8,13 +8,16 @@ use Rattle.parcels.specs.Exact.{HasParcel, IsVacant}
 use Rattle.parcels.specs.Places.{alone, in_places}
 use Rattle.parcels.specs.Sets.{aggregate_parcels, serial_parcels}
 use Rattle.parcels.specs.declared.family.Parcel.TheVariants as parcels
-use Rattle.parcels.proofs.OfKind.{has_kept}
+use Rattle.parcels.proofs.OfKind.{has_kept, is_serial}
 use Rattle.parcels.proofs.PlaceLemmas.{alone-none}
 use Rattle.parcels.proofs.Moves.{moved-same, moved-stays, gone-alone, taken-both, gathered-next, moved-none, moved-all}
 use Rattle.parcels.proofs.Parts.{aggregate-none}
 use Rattle.parcels.proofs.Exactness.{serial-exact}
 use Rattle.parcels.proofs.Steps.{fewer, more, aggregate-after, aggregates-after, aggregate-stays}
 use Rattle.parcels.proofs.gather.gather_serial.Goals as goal
+
+pub unreachable-requires : goal.unreachable-requires
+unreachable-requires g c = is_serial c.take_parcel.result c.take_parcel.ensures.kind c.in_default.not-Serial
 
 pub loop-aggregate-init : goal.loop-aggregate-init
 loop-aggregate-init g c = record {
