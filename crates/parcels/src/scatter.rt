@@ -241,21 +241,27 @@ fn scatter_volume_place<P: Family, S: Shelf<Parcel<P>>>(
     }
 }
 
+/// A volume that may be on an aggregate.
+struct Member {
+    aggregate: u32,
+    volume: usize,
+}
+
 /// Gives back the parcels of a volume, if it is on the aggregate, and leaves its place empty.
-fn scatter_volume_of<P: Family, S: Shelf<Parcel<P>>>(
+fn scatter_member<P: Family, S: Shelf<Parcel<P>>>(
     shelf: &mut S,
     layout: &Layout,
-    aggregate: u32,
     held: &mut AggrHeld<P>,
-    volume: usize,
+    member: Member,
 )
-    requires volume { volume < length (layout_of layout.now).volumes }
-    requires ready { IsVolumeReady (layout_of layout.now) (S.at shelf.old) (S.allows shelf.old) aggregate volume (slice_get held.old.volumes.at volume) }
-    ensures moved { (k : ℕ) → Moved (S.at shelf.new k) (in_used_place (λ v. aggregate_of (layout_of layout.now) v == aggregate) (λ v held. volume_parcels (layout_of layout.now) (trees.Volume v) held k) held.old.volumes.at volume) (S.at shelf.old k) }
-    ensures others { (v : ℕ) → v ≢ volume → slice_get held.new.volumes.at v ≡ slice_get held.old.volumes.at v }
+    requires volume { member.volume < length (layout_of layout.now).volumes }
+    requires ready { IsVolumeReady (layout_of layout.now) (S.at shelf.old) (S.allows shelf.old) member.aggregate member.volume (slice_get held.old.volumes.at member.volume) }
+    ensures moved { (k : ℕ) → Moved (S.at shelf.new k) (in_used_place (λ v. aggregate_of (layout_of layout.now) v == member.aggregate) (λ v held. volume_parcels (layout_of layout.now) (trees.Volume v) held k) held.old.volumes.at member.volume) (S.at shelf.old k) }
+    ensures others { (v : ℕ) → v ≢ member.volume → slice_get held.new.volumes.at v ≡ slice_get held.old.volumes.at v }
     ensures own { held.new.own ≡ held.old.own }
     ensures kept { S.keeps shelf.old shelf.new }
 {
+    let Member { aggregate, volume } = member;
     let _ = layout.volume_count();
     let place = held.volumes.take(volume);
     if layout.aggregate_of(volume as u32) == aggregate {
@@ -277,7 +283,7 @@ fn scatter_volumes<P: Family, S: Shelf<Parcel<P>>>(
     ensures kept { S.keeps shelf.old shelf.new }
 {
     for volume in 0..layout.volume_count() {
-        scatter_volume_of(shelf, layout, aggregate, &mut held, volume);
+        scatter_member(shelf, layout, &mut held, Member { aggregate, volume });
     }
     held.own
 }

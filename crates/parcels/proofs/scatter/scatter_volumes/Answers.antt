@@ -23,8 +23,8 @@ loop-volume-init g c = record {
   kept = g.met.S.Shelf.keeps_itself c.args.shelf.now;
 }
 
-pub scatter_volume_of-requires : goal.scatter_volume_of-requires
-scatter_volume_of-requires g c =
+pub scatter_member-requires : goal.scatter_member-requires
+scatter_member-requires g c =
     let count = c.volume_count-volume-end.ensures.count in
     let below : c.loop-volume.volume < length (layout_of c.args.layout.now).volumes = omega arith in (
       search rules,
@@ -43,15 +43,15 @@ loop-volume-preserved g c =
     let count = c.volume_count-volume-end.ensures.count in
     let below : c.loop-volume.volume < length (layout_of c.args.layout.now).volumes = omega arith in
     record {
-      moved = scattered-used (λ v. aggregate_of (layout_of c.args.layout.now) v == c.args.aggregate) (λ w held. volume_parcels (layout_of c.args.layout.now) (trees.Volume w) held) c.args.held.volumes.at c.loop-volume.held.volumes.at c.loop-volume.volume (g.S.Shelf.at c.args.shelf.now) (g.S.Shelf.at c.loop-volume.shelf) (g.S.Shelf.at c.scatter_volume_of.new.shelf) (c.loop-volume.invariant.others c.loop-volume.volume (omega arith)) c.loop-volume.invariant.moved c.scatter_volume_of.ensures.moved;
-      others = λ j low. c.scatter_volume_of.ensures.others j (λ e. omega arith) ∙ c.loop-volume.invariant.others j (omega arith);
-      own = c.scatter_volume_of.ensures.own ∙ c.loop-volume.invariant.own;
-      vacant = fewer (λ w. aggregate_of (layout_of c.args.layout.now) w ≡ c.args.aggregate → OnVolume (layout_of c.args.layout.now) (IsVacant (layout_of c.args.layout.now) (g.S.Shelf.at c.loop-volume.shelf)) w) (λ w. aggregate_of (layout_of c.args.layout.now) w ≡ c.args.aggregate → OnVolume (layout_of c.args.layout.now) (IsVacant (layout_of c.args.layout.now) (g.S.Shelf.at c.scatter_volume_of.new.shelf)) w) c.loop-volume.volume (length (layout_of c.args.layout.now).volumes)
-          (λ w n high none on. volume-after (layout_of c.args.layout.now) (IsVacant (layout_of c.args.layout.now)) (vacant_kept (layout_of c.args.layout.now)) (g.S.Shelf.at c.loop-volume.shelf) (g.S.Shelf.at c.scatter_volume_of.new.shelf) c.loop-volume.volume w below high n
-          (λ k e. sym (moved-same (g.S.Shelf.at c.scatter_volume_of.new.shelf k) (in_used_place (λ v. aggregate_of (layout_of c.args.layout.now) v == c.args.aggregate) (λ w held. volume_parcels (layout_of c.args.layout.now) (trees.Volume w) held k) c.loop-volume.held.volumes.at c.loop-volume.volume) (g.S.Shelf.at c.loop-volume.shelf k) (used-none (aggregate_of (layout_of c.args.layout.now) c.loop-volume.volume == c.args.aggregate) (in_place (λ held. volume_parcels (layout_of c.args.layout.now) (trees.Volume c.loop-volume.volume) held k) (slice_get c.loop-volume.held.volumes.at c.loop-volume.volume)) (λ w. (place-none (λ held. volume_parcels (layout_of c.args.layout.now) (trees.Volume c.loop-volume.volume) held k) (slice_get c.loop-volume.held.volumes.at c.loop-volume.volume) (λ held. volume-none (layout_of c.args.layout.now) k c.loop-volume.volume held e)))) (c.scatter_volume_of.ensures.moved k)))
+      moved = scattered-used (λ v. aggregate_of (layout_of c.args.layout.now) v == c.args.aggregate) (λ w held. volume_parcels (layout_of c.args.layout.now) (trees.Volume w) held) c.args.held.volumes.at c.loop-volume.held.volumes.at c.loop-volume.volume (g.S.Shelf.at c.args.shelf.now) (g.S.Shelf.at c.loop-volume.shelf) (g.S.Shelf.at c.scatter_member.new.shelf) (c.loop-volume.invariant.others c.loop-volume.volume (omega arith)) c.loop-volume.invariant.moved c.scatter_member.ensures.moved;
+      others = λ j low. c.scatter_member.ensures.others j (λ e. omega arith) ∙ c.loop-volume.invariant.others j (omega arith);
+      own = c.scatter_member.ensures.own ∙ c.loop-volume.invariant.own;
+      vacant = fewer (λ w. aggregate_of (layout_of c.args.layout.now) w ≡ c.args.aggregate → OnVolume (layout_of c.args.layout.now) (IsVacant (layout_of c.args.layout.now) (g.S.Shelf.at c.loop-volume.shelf)) w) (λ w. aggregate_of (layout_of c.args.layout.now) w ≡ c.args.aggregate → OnVolume (layout_of c.args.layout.now) (IsVacant (layout_of c.args.layout.now) (g.S.Shelf.at c.scatter_member.new.shelf)) w) c.loop-volume.volume (length (layout_of c.args.layout.now).volumes)
+          (λ w n high none on. volume-after (layout_of c.args.layout.now) (IsVacant (layout_of c.args.layout.now)) (vacant_kept (layout_of c.args.layout.now)) (g.S.Shelf.at c.loop-volume.shelf) (g.S.Shelf.at c.scatter_member.new.shelf) c.loop-volume.volume w below high n
+          (λ k e. sym (moved-same (g.S.Shelf.at c.scatter_member.new.shelf k) (in_used_place (λ v. aggregate_of (layout_of c.args.layout.now) v == c.args.aggregate) (λ w held. volume_parcels (layout_of c.args.layout.now) (trees.Volume w) held k) c.loop-volume.held.volumes.at c.loop-volume.volume) (g.S.Shelf.at c.loop-volume.shelf k) (used-none (aggregate_of (layout_of c.args.layout.now) c.loop-volume.volume == c.args.aggregate) (in_place (λ held. volume_parcels (layout_of c.args.layout.now) (trees.Volume c.loop-volume.volume) held k) (slice_get c.loop-volume.held.volumes.at c.loop-volume.volume)) (λ w. (place-none (λ held. volume_parcels (layout_of c.args.layout.now) (trees.Volume c.loop-volume.volume) held k) (slice_get c.loop-volume.held.volumes.at c.loop-volume.volume) (λ held. volume-none (layout_of c.args.layout.now) k c.loop-volume.volume held e)))) (c.scatter_member.ensures.moved k)))
           (none on))
           c.loop-volume.invariant.vacant;
-      kept = g.met.S.Shelf.keeps_on c.args.shelf.now c.loop-volume.shelf c.scatter_volume_of.new.shelf c.loop-volume.invariant.kept c.scatter_volume_of.ensures.kept;
+      kept = g.met.S.Shelf.keeps_on c.args.shelf.now c.loop-volume.shelf c.scatter_member.new.shelf c.loop-volume.invariant.kept c.scatter_member.ensures.kept;
     }
 
 pub returns-clause-moved : goal.returns-clause-moved
