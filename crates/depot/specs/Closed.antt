@@ -1,5 +1,5 @@
 -- What is left in the slots of a table that ended.
-use Rattle.std.specs.Prelude.{ℕ, Bool, true, false, List, Option, Some, None, slice_index_or}
+use Rattle.std.specs.Prelude.{ℕ, zero, suc, Bool, true, false, List, Option, Some, None, slice_index_or}
 use mathlib.Core.Option as maybe
 use lib.ListN.{get_elem?}
 
@@ -11,6 +11,7 @@ abbrev pub if_filled : {T : Type 0} → Bool → Option T → Option T
 if_filled true y = y
 if_filled false y = None
 
--- the parcel in slot k, where it wasn't taken yet
+-- the parcel in slot k, where it wasn't taken yet. Slot 0 is no node's
 abbrev pub left_at : {T : Type 0} → List Bool → List (Option T) → ℕ → Option T
-left_at filled items k = if_filled (slice_index_or filled k false) (value_of (get_elem? items k))
+left_at filled items zero = None
+left_at filled items (suc k) = if_filled (slice_index_or filled (suc k) false) (value_of (get_elem? items (suc k)))

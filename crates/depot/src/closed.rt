@@ -1,6 +1,8 @@
 //! A table that ended, as a shelf from which all parcels are taken.
 
-ghost use Rattle.std.specs.Prelude.{◌≡◌, ℕ, false, length, slice_index_or, Option, None};
+ghost use Rattle.std.specs.Prelude.{◌≡◌, ◌≢◌, ◌<◌, ℕ, true, false, length, slice_index_or, Option, None};
+ghost use mathlib.Core.Option.{some};
+ghost use lib.ListN.{get_elem?};
 ghost use Rattle.std.specs.Mem.Slots.{slots_items, slots_filled, slots_len};
 ghost use Rattle.depot.specs.Closed.{left_at};
 
@@ -12,20 +14,24 @@ use std::alloc::Global;
 pub struct ClosedTable<T> {
     pub(crate) table: Closed<Option<T>, Global>,
     ghost lengths: { (length (slots_items table.slots) ≡ slots_len table.slots) × (length (slots_filled table.slots) ≡ slots_len table.slots) },
+    ghost root: { slice_index_or (slots_filled table.slots) 0 false ≡ true },
+    ghost parcels: { (k : ℕ) → 0 < k → k < slots_len table.slots → get_elem? (slots_items table.slots) k ≢ some None },
 }
 
 impl<T: Drop> Shelf<T> for ClosedTable<T> {
+    ghost use Rattle.std.proofs.Common.{refl, ◌∙◌};
+
     ghost at = { λ closed. left_at (slots_filled closed.table.slots) (slots_items closed.table.slots) };
 
     ghost allows = { λ closed k p. ⊥ };
 
     ghost keeps = { λ old new. slots_len new.table.slots ≡ slots_len old.table.slots };
 
-    ghost keeps_itself = { ? };
+    ghost keeps_itself = { λ s. refl };
 
-    ghost keeps_on = { ? };
+    ghost keeps_on = { λ s t u on more. more ∙ on };
 
-    ghost keeps_allowing = { ? };
+    ghost keeps_allowing = { λ s t node parcel same no. no };
 
     fn take(&mut self, node: usize) -> T {
         match self.table.take(node) {

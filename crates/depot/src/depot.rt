@@ -18,6 +18,7 @@ use std::alloc::{AllocError, Global};
 use std::snapshot::Snapshot;
 
 /// Parcels that threads share.
+#[derive(Drop)]
 pub struct Depot<M: Machine> {
     pub(crate) table: Table<Option<M::Parcel>, ViewsOf<M>, Key<M>, DepotRule<M>, Global>,
     pub(crate) layout: Layout,

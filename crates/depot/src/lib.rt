@@ -3,6 +3,7 @@
 //! step, which puts its entry into the history, or put back.
 #![tactic(auto)]
 
+pub mod adding;
 pub mod claiming;
 mod closed;
 pub mod depot;
@@ -16,3 +17,8 @@ pub mod slots;
 pub mod stamps;
 pub mod steps;
 pub mod table;
+
+#[cfg(test)]
+mod tests;
+#[cfg(test)]
+mod trial;

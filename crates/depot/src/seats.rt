@@ -15,6 +15,7 @@ use std::mem;
 
 /// The right to make calls on a depot, and what came of them. It runs no call, so it has entered
 /// no word but for its grants, and no slot is out with it.
+#[derive(Drop)]
 pub struct Seat<M: Machine> {
     pub(crate) badge: Badge<ViewsOf<M>>,
     pub(crate) splits: u8,

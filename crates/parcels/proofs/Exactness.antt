@@ -1,5 +1,5 @@
 -- The parcels of a set are those under its node.
-use Rattle.std.proofs.Common.{◌≡◌, ◌≢◌, ℕ, ◌<◌, ◌==◌, true, false, ◌&&◌, List, [], ◌∷◌, ◌++◌, Option, Some, None, length, refl, sym, ◌∙◌, subst, inl}
+use Rattle.std.proofs.Common.{◌≡◌, ◌≢◌, ℕ, ◌<◌, ◌==◌, true, false, ◌&&◌, List, [], ◌∷◌, ◌++◌, Option, Some, None, length, refl, sym, ◌∙◌, ap, subst, inl}
 use Rattle.std.proofs.lemmas.Bool.{and_parts, eqb-true}
 use Rattle.nfs_model.specs.Tree.{Layout, Affinity, Serial, Aggregate, Volume, Logical, Stripe, Vbn, Range, stripes_of, aggregate_of, path, begins}
 use Rattle.affinity.specs.Tree.{IsNode, covers}
@@ -7,46 +7,24 @@ use Rattle.affinity.specs.Under.{IsUnder}
 use Rattle.affinity.specs.Numbers.{number_of}
 use Rattle.affinity.proofs.Ways.{begins-self, begins-longer}
 use Rattle.affinity.proofs.Sharing.{covers-cases, covers_from}
-use Rattle.parcels.specs.Below.{OnLogical, OnVbn, OnVolume}
+pub use Rattle.parcels.specs.Within.{range-from, stripe-from, vbn-from, logical-from, volume-from, aggregate-from, serial-from}
+use Rattle.parcels.specs.Below.{OnLogical, OnVbn, OnVolume, OnAggregate, OnSerial}
 use Rattle.parcels.specs.Exact.{Under, HasParcel, IsVacant, HasExactly, kind_in}
 use Rattle.parcels.specs.Moved.{Moved}
-use Rattle.parcels.specs.Sets.{vbn_parcels, logical_parcels, volume_parcels}
+use Rattle.parcels.specs.Sets.{range_parcels, stripe_parcels, vbn_parcels, logical_parcels, volume_parcels, aggregate_parcels, serial_parcels}
 use Rattle.parcels.specs.declared.family.Parcel.{Parcel}
+use Rattle.parcels.specs.declared.sets.RangeHeld.{RangeHeld}
+use Rattle.parcels.specs.declared.sets.StripeHeld.{StripeHeld}
+use Rattle.parcels.specs.declared.sets.AggrHeld.{AggrHeld}
+use Rattle.parcels.specs.declared.sets.SerialHeld.{SerialHeld}
 use Rattle.parcels.specs.declared.sets.VbnHeld.{VbnHeld}
 use Rattle.parcels.specs.declared.sets.LogicalHeld.{LogicalHeld}
 use Rattle.parcels.specs.declared.sets.VolumeHeld.{VolumeHeld}
-use Rattle.parcels.proofs.Parts.{vbn-none, logical-none, volume-none}
+use Rattle.parcels.proofs.Parts.{range-none, stripe-none, vbn-none, logical-none, volume-none, aggregate-none, serial-none}
 
--- a node whose way goes on from another's is under it
-goes_on : (layout : Layout) (a b : Affinity) (more : List ℕ) → IsNode layout b → path layout b ≡ path layout a ++ more → IsUnder layout a b
-goes_on layout a b more there e =
-    (there, covers-cases layout a b (subst (λ way. begins (path layout a) way ≡ true) (sym e) (begins-longer (path layout a) (path layout a) more (begins-self (path layout a)))))
-
-module _ (layout : Layout) (Q : Affinity → Type 0) (v : ℕ) (there : v < length layout.volumes) where
-  pub logical-from : Under layout (Logical v) Q → OnLogical layout Q v
-  logical-from under = record {
-    own = under (Logical v) (there, inl refl);
-    stripes = λ i l. under (Stripe v i) (goes_on layout (Logical v) (Stripe v i) (i ∷ []) (there, l) refl);
-  }
-
-  pub vbn-from : Under layout (Vbn v) Q → OnVbn layout Q v
-  vbn-from under = record {
-    own = under (Vbn v) (there, inl refl);
-    ranges = λ r l. under (Range v r) (goes_on layout (Vbn v) (Range v r) (r ∷ []) (there, l) refl);
-  }
-
-  pub volume-from : Under layout (Volume v) Q → OnVolume layout Q v
-  volume-from under = record {
-    own = under (Volume v) (there, inl refl);
-    logical = record {
-      own = under (Logical v) (goes_on layout (Volume v) (Logical v) (0 ∷ []) there refl);
-      stripes = λ i l. under (Stripe v i) (goes_on layout (Volume v) (Stripe v i) (0 ∷ i ∷ []) (there, l) refl);
-    };
-    vbn = record {
-      own = under (Vbn v) (goes_on layout (Volume v) (Vbn v) (1 ∷ []) there refl);
-      ranges = λ r l. under (Range v r) (goes_on layout (Volume v) (Range v r) (1 ∷ r ∷ []) (there, l) refl);
-    };
-  }
+-- the first step of a way that begins another
+first_step : (a b : ℕ) (xs : List ℕ) → begins (a ∷ []) (b ∷ xs) ≡ true → b ≡ a
+first_step a b xs h = sym (eqb-true a b (and_parts (a == b) true h).0)
 
 -- the second step of a way that begins another
 second : (a b v w : ℕ) (xs ys : List ℕ) → begins (a ∷ v ∷ xs) (b ∷ w ∷ ys) ≡ true → (v ≡ w) × (begins xs ys ≡ true)
@@ -102,6 +80,61 @@ module _ (layout : Layout) (Q : Affinity → Type 0) (v : ℕ) where
   pub vbn-to : OnVbn layout Q v → Under layout (Vbn v) Q
   vbn-to on b under = vbn-to_covered on b under.0 (covers_from layout (Vbn v) b under.1)
 
+range-to_covered : (layout : Layout) (Q : Affinity → Type 0) (v r : ℕ) → Q (Range v r) → (b : Affinity) → covers layout (Range v r) b ≡ true → Q b
+range-to_covered layout Q v r q Serial h = absurd (let no : false ≡ true = h in cc)
+range-to_covered layout Q v r q (Aggregate a) h = absurd (too_short (aggregate_of layout v) v a (1 ∷ r ∷ []) h)
+range-to_covered layout Q v r q (Volume w) h = absurd (let no : false ≡ true = (second (aggregate_of layout v) (aggregate_of layout w) v w (1 ∷ r ∷ []) [] h).1 in cc)
+range-to_covered layout Q v r q (Logical w) h = absurd (let no : false ≡ true = (second (aggregate_of layout v) (aggregate_of layout w) v w (1 ∷ r ∷ []) (0 ∷ []) h).1 in cc)
+range-to_covered layout Q v r q (Stripe w i) h = absurd (let no : false ≡ true = (second (aggregate_of layout v) (aggregate_of layout w) v w (1 ∷ r ∷ []) (0 ∷ i ∷ []) h).1 in cc)
+range-to_covered layout Q v r q (Vbn w) h = absurd (let no : false ≡ true = (second (aggregate_of layout v) (aggregate_of layout w) v w (1 ∷ r ∷ []) (1 ∷ []) h).1 in cc)
+range-to_covered layout Q v r q (Range w s) h =
+    let both = second (aggregate_of layout v) (aggregate_of layout w) v w (1 ∷ r ∷ []) (1 ∷ s ∷ []) h in
+    subst (λ n. Q (Range w n)) (sym (first_step r s [] both.1)) (subst (λ n. Q (Range n r)) both.0 q)
+
+stripe-to_covered : (layout : Layout) (Q : Affinity → Type 0) (v i : ℕ) → Q (Stripe v i) → (b : Affinity) → covers layout (Stripe v i) b ≡ true → Q b
+stripe-to_covered layout Q v i q Serial h = absurd (let no : false ≡ true = h in cc)
+stripe-to_covered layout Q v i q (Aggregate a) h = absurd (too_short (aggregate_of layout v) v a (0 ∷ i ∷ []) h)
+stripe-to_covered layout Q v i q (Volume w) h = absurd (let no : false ≡ true = (second (aggregate_of layout v) (aggregate_of layout w) v w (0 ∷ i ∷ []) [] h).1 in cc)
+stripe-to_covered layout Q v i q (Logical w) h = absurd (let no : false ≡ true = (second (aggregate_of layout v) (aggregate_of layout w) v w (0 ∷ i ∷ []) (0 ∷ []) h).1 in cc)
+stripe-to_covered layout Q v i q (Stripe w j) h =
+    let both = second (aggregate_of layout v) (aggregate_of layout w) v w (0 ∷ i ∷ []) (0 ∷ j ∷ []) h in
+    subst (λ n. Q (Stripe w n)) (sym (first_step i j [] both.1)) (subst (λ n. Q (Stripe n i)) both.0 q)
+stripe-to_covered layout Q v i q (Vbn w) h = absurd (let no : false ≡ true = (second (aggregate_of layout v) (aggregate_of layout w) v w (0 ∷ i ∷ []) (1 ∷ []) h).1 in cc)
+stripe-to_covered layout Q v i q (Range w r) h = absurd (let no : false ≡ true = (second (aggregate_of layout v) (aggregate_of layout w) v w (0 ∷ i ∷ []) (1 ∷ r ∷ []) h).1 in cc)
+
+pub range-to : (layout : Layout) (Q : Affinity → Type 0) (v r : ℕ) → Q (Range v r) → Under layout (Range v r) Q
+range-to layout Q v r q b under = range-to_covered layout Q v r q b (covers_from layout (Range v r) b under.1)
+
+pub stripe-to : (layout : Layout) (Q : Affinity → Type 0) (v i : ℕ) → Q (Stripe v i) → Under layout (Stripe v i) Q
+stripe-to layout Q v i q b under = stripe-to_covered layout Q v i q b (covers_from layout (Stripe v i) b under.1)
+
+module _ (layout : Layout) (Q : Affinity → Type 0) (a : ℕ) where
+  aggregate-to_covered : OnAggregate layout Q a → (b : Affinity) → IsNode layout b → covers layout (Aggregate a) b ≡ true → Q b
+  aggregate-to_covered on Serial node h = absurd (let no : false ≡ true = h in cc)
+  aggregate-to_covered on (Aggregate c) node h = subst (λ n. Q (Aggregate n)) (sym (first_step a c [] h)) on.own
+  aggregate-to_covered on (Volume w) node h = (on.volumes w node (first_step a (aggregate_of layout w) (w ∷ []) h)).own
+  aggregate-to_covered on (Logical w) node h = (on.volumes w node (first_step a (aggregate_of layout w) (w ∷ 0 ∷ []) h)).logical.own
+  aggregate-to_covered on (Stripe w i) node h = (on.volumes w node.0 (first_step a (aggregate_of layout w) (w ∷ 0 ∷ i ∷ []) h)).logical.stripes i node.1
+  aggregate-to_covered on (Vbn w) node h = (on.volumes w node (first_step a (aggregate_of layout w) (w ∷ 1 ∷ []) h)).vbn.own
+  aggregate-to_covered on (Range w r) node h = (on.volumes w node.0 (first_step a (aggregate_of layout w) (w ∷ 1 ∷ r ∷ []) h)).vbn.ranges r node.1
+
+  pub aggregate-to : OnAggregate layout Q a → Under layout (Aggregate a) Q
+  aggregate-to on b under = aggregate-to_covered on b under.0 (covers_from layout (Aggregate a) b under.1)
+
+-- each volume's aggregate is there
+module _ (layout : Layout) (Q : Affinity → Type 0) (known : (v : ℕ) → v < length layout.volumes → aggregate_of layout v < length layout.spare) where
+  serial-to_node : OnSerial layout Q → (b : Affinity) → IsNode layout b → Q b
+  serial-to_node on Serial node = on.own
+  serial-to_node on (Aggregate a) node = (on.aggregates a node).own
+  serial-to_node on (Volume w) node = ((on.aggregates (aggregate_of layout w) (known w node)).volumes w node refl).own
+  serial-to_node on (Logical w) node = ((on.aggregates (aggregate_of layout w) (known w node)).volumes w node refl).logical.own
+  serial-to_node on (Stripe w i) node = ((on.aggregates (aggregate_of layout w) (known w node.0)).volumes w node.0 refl).logical.stripes i node.1
+  serial-to_node on (Vbn w) node = ((on.aggregates (aggregate_of layout w) (known w node)).volumes w node refl).vbn.own
+  serial-to_node on (Range w r) node = ((on.aggregates (aggregate_of layout w) (known w node.0)).volumes w node.0 refl).vbn.ranges r node.1
+
+  pub serial-to : OnSerial layout Q → Under layout Serial Q
+  serial-to on b under = serial-to_node on b under.0
+
 -- what was there and is gone was taken
 taken-there : {T : Type 0} (a s b : Option T) (x : T) → a ≡ Some x → b ≡ None → Moved a s b → s ≡ Some x
 taken-there a None b x e d m = absurd (let no : None ≡ Some x = sym d ∙ m ∙ e in cc)
@@ -128,6 +161,47 @@ module _ {P R B S L V A X : Type 0} (layout : Layout) (f s g : ℕ → Option (P
     own = has-taken (Volume v) has.own gone.own;
     logical = logical-taken v has.logical gone.logical;
     vbn = vbn-taken v has.vbn gone.vbn;
+  }
+
+  aggregate-taken : (a : ℕ) → OnAggregate layout (HasParcel layout f) a → OnAggregate layout (IsVacant layout g) a → OnAggregate layout (HasParcel layout s) a
+  aggregate-taken a has gone = record {
+    own = has-taken (Aggregate a) has.own gone.own;
+    volumes = λ v l on. volume-taken v (has.volumes v l on) (gone.volumes v l on);
+  }
+
+  serial-taken : OnSerial layout (HasParcel layout f) → OnSerial layout (IsVacant layout g) → OnSerial layout (HasParcel layout s)
+  serial-taken has gone = record {
+    own = has-taken Serial has.own gone.own;
+    aggregates = λ a l. aggregate-taken a (has.aggregates a l) (gone.aggregates a l);
+  }
+
+module _ {P R B S L V A X : Type 0} (layout : Layout) (f g : ℕ → Option (Parcel P R B S L V A X)) where
+  pub range-exact : (v r : ℕ) → IsNode layout (Range v r) → (held : RangeHeld P R B S L V A X) → HasParcel layout f (Range v r) → IsVacant layout g (Range v r)
+      → ((k : ℕ) → Moved (f k) (range_parcels layout (Range v r) held k) (g k)) → HasExactly kind_in layout (Range v r) (range_parcels layout (Range v r) held)
+  range-exact v r there held has gone moved = record {
+    each = range-to layout (HasParcel layout (range_parcels layout (Range v r) held)) v r (has-taken layout f (range_parcels layout (Range v r) held) g moved (Range v r) has gone);
+    no_other = λ k under. range-none layout k v r held (range-from layout (λ b. k ≢ number_of layout b) v r there under);
+  }
+
+  pub stripe-exact : (v i : ℕ) → IsNode layout (Stripe v i) → (held : StripeHeld P R B S L V A X) → HasParcel layout f (Stripe v i) → IsVacant layout g (Stripe v i)
+      → ((k : ℕ) → Moved (f k) (stripe_parcels layout (Stripe v i) held k) (g k)) → HasExactly kind_in layout (Stripe v i) (stripe_parcels layout (Stripe v i) held)
+  stripe-exact v i there held has gone moved = record {
+    each = stripe-to layout (HasParcel layout (stripe_parcels layout (Stripe v i) held)) v i (has-taken layout f (stripe_parcels layout (Stripe v i) held) g moved (Stripe v i) has gone);
+    no_other = λ k under. stripe-none layout k v i held (stripe-from layout (λ b. k ≢ number_of layout b) v i there under);
+  }
+
+  pub aggregate-exact : (a : ℕ) → a < length layout.spare → (held : AggrHeld P R B S L V A X) → OnAggregate layout (HasParcel layout f) a → OnAggregate layout (IsVacant layout g) a
+      → ((k : ℕ) → Moved (f k) (aggregate_parcels layout (Aggregate a) held k) (g k)) → HasExactly kind_in layout (Aggregate a) (aggregate_parcels layout (Aggregate a) held)
+  aggregate-exact a there held has gone moved = record {
+    each = aggregate-to layout (HasParcel layout (aggregate_parcels layout (Aggregate a) held)) a (aggregate-taken layout f (aggregate_parcels layout (Aggregate a) held) g moved a has gone);
+    no_other = λ k under. aggregate-none layout k a held (aggregate-from layout (λ b. k ≢ number_of layout b) a there under);
+  }
+
+  pub serial-exact : ((v : ℕ) → v < length layout.volumes → aggregate_of layout v < length layout.spare) → (held : SerialHeld P R B S L V A X) → OnSerial layout (HasParcel layout f) → OnSerial layout (IsVacant layout g)
+      → ((k : ℕ) → Moved (f k) (serial_parcels layout Serial held k) (g k)) → HasExactly kind_in layout Serial (serial_parcels layout Serial held)
+  serial-exact known held has gone moved = record {
+    each = serial-to layout (HasParcel layout (serial_parcels layout Serial held)) known (serial-taken layout f (serial_parcels layout Serial held) g moved has gone);
+    no_other = λ k under. serial-none layout k held (serial-from layout (λ b. k ≢ number_of layout b) under);
   }
 
 module _ {P R B S L V A X : Type 0} (layout : Layout) (v : ℕ) (there : v < length layout.volumes) (f g : ℕ → Option (Parcel P R B S L V A X)) where

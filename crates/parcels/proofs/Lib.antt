@@ -4,3 +4,7 @@ pub mod OfKind
 pub mod Parts
 pub mod Steps
 pub mod Exactness
+pub mod Allowing
+pub mod Apart
+pub mod Allowed
+pub mod AtNode

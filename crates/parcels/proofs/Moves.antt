@@ -1,9 +1,10 @@
 -- Takings and givings, one after another.
-use Rattle.std.proofs.Common.{◌≡◌, ◌≢◌, ℕ, ◌+◌, Bool, true, false, List, Option, Some, None, refl, sym, ◌∙◌, ap, subst, slice_get, ⊎_elim}
-use Rattle.std.proofs.lemmas.Bool.{cases_eq}
-use Rattle.parcels.specs.Places.{alone, or_else, in_place, in_places}
+use Rattle.std.proofs.Common.{◌≡◌, ◌==◌, ◌≢◌, ℕ, ◌+◌, Bool, true, false, List, Option, Some, None, refl, sym, ◌∙◌, ap, subst, arith, slice_get, ⊎_elim}
+use Rattle.std.specs.Prelude.{if◌then◌else◌}
+use Rattle.std.proofs.lemmas.Bool.{cases_eq, eq-eqb, eqb-true}
+use Rattle.parcels.specs.Places.{alone, or_else, in_place, in_used_place, in_places}
 use Rattle.parcels.specs.Moved.{Moved}
-use Rattle.parcels.proofs.PlaceLemmas.{alone-there, alone-none, in_places-put, in_places-next, in_places-empty, in_places-unused, in_places-step}
+use Rattle.parcels.proofs.PlaceLemmas.{alone-there, alone-none, in_places-put, in_places-next, in_places-empty, in_places-unused, in_places-step, in_places-same, in_places-any, in_places-used, used-none}
 
 module _ {T : Type 0} where
   pub moved-same : (a s b : Option T) → s ≡ None → Moved a s b → b ≡ a
@@ -25,6 +26,12 @@ module _ {T : Type 0} where
   given-both a None b t c m n = subst (λ o. Moved c t o) (sym m) n
   given-both a (Some x) b None c m n = (sym n ∙ m.0, m.1)
   given-both a (Some x) b (Some y) c m n = absurd (let no : None ≡ Some x = sym n.1 ∙ m.0 in cc)
+
+  -- two givings, of which the second is told first
+  pub given-back : (a t b s c : Option T) → Moved b t a → Moved c s b → Moved c (or_else s t) a
+  given-back a t b None c m n = subst (λ o. Moved o t a) n m
+  given-back a None b (Some x) c m n = (n.0, m ∙ n.1)
+  given-back a (Some y) b (Some x) c m n = absurd (let no : None ≡ Some y = sym n.1 ∙ m.0 in cc)
 
   -- one parcel is taken
   pub moved-alone : (f g : ℕ → Option T) (n : ℕ) (x : T) → f n ≡ Some x → g n ≡ None → ((k : ℕ) → k ≢ n → g k ≡ f k) → (k : ℕ) → Moved (f k) (alone n x k) (g k)
@@ -96,6 +103,9 @@ module _ {T : Type 0} (f g h : ℕ → Option T) (s t : ℕ → Option T) where
   pub put-both : ((k : ℕ) → Moved (g k) (s k) (f k)) → ((k : ℕ) → Moved (h k) (t k) (g k)) → (k : ℕ) → Moved (h k) (or_else (s k) (t k)) (f k)
   put-both m n k = given-both (f k) (s k) (g k) (t k) (h k) (m k) (n k)
 
+  pub put-back : ((k : ℕ) → Moved (g k) (t k) (f k)) → ((k : ℕ) → Moved (h k) (s k) (g k)) → (k : ℕ) → Moved (h k) (or_else (s k) (t k)) (f k)
+  put-back m n k = given-back (f k) (t k) (g k) (s k) (h k) (m k) (n k)
+
 module _ {T H : Type 0} (u : ℕ → Bool) (p : ℕ → H → ℕ → Option T) where
   -- what is in a place more was given back
   pub scattered-step : (xs : List (Option H)) (i : ℕ) (place : Option H) (f g h : ℕ → Option T)
@@ -106,3 +116,43 @@ module _ {T H : Type 0} (u : ℕ → Bool) (p : ℕ → H → ℕ → Option T) 
   scattered-step xs i place f g h used there before step k =
       subst (λ o. Moved (h k) o (f k)) (sym (in_places-step u (λ j held. p j held k) xs i place used there))
       (given-both (f k) (in_places u (λ j held. p j held k) xs i) (g k) (in_place (λ held. p i held k) (Some place)) (h k) (before k) (step k))
+
+  -- what is in a place more, if it is in use, was taken and put there
+  pub gathered-step : (xs ys : List (Option H)) (i : ℕ) (place : Option H) (f g h : ℕ → Option T)
+      → slice_get ys i ≡ Some place → ((j : ℕ) → j ≢ i → slice_get ys j ≡ slice_get xs j)
+      → ((k : ℕ) → Moved (f k) (in_places u (λ j held. p j held k) xs i) (g k))
+      → ((k : ℕ) → Moved (g k) (if u i then in_place (λ held. p i held k) (Some place) else None) (h k))
+      → (k : ℕ) → Moved (f k) (in_places u (λ j held. p j held k) ys (i + 1)) (h k)
+  gathered-step xs ys i place f g h there others before step k =
+      subst (λ o. Moved (f k) o (h k))
+      (sym (in_places-any u (λ j held. p j held k) ys i place there
+      ∙ ap (λ o. or_else o (if u i then in_place (λ held. p i held k) (Some place) else None)) (in_places-same u (λ j held. p j held k) xs ys i (λ j l. others j (λ (same : j ≡ i). let no : ⊥ = omega arith in no)))))
+      (moved-both (f k) (in_places u (λ j held. p j held k) xs i) (g k) (if u i then in_place (λ held. p i held k) (Some place) else None) (h k) (before k) (step k))
+
+  -- what is in a place more, if it is in use, was taken from there and given back
+  pub scattered-used : (xs ys : List (Option H)) (i : ℕ) (f g h : ℕ → Option T)
+      → slice_get ys i ≡ slice_get xs i
+      → ((k : ℕ) → Moved (g k) (in_places u (λ j held. p j held k) xs i) (f k))
+      → ((k : ℕ) → Moved (h k) (in_used_place u (λ j held. p j held k) ys i) (g k))
+      → (k : ℕ) → Moved (h k) (in_places u (λ j held. p j held k) xs (i + 1)) (f k)
+  scattered-used xs ys i f g h same before step k =
+      subst (λ o. Moved (h k) o (f k)) (sym (in_places-used u (λ j held. p j held k) xs i))
+      (given-both (f k) (in_places u (λ j held. p j held k) xs i) (g k) (in_used_place u (λ j held. p j held k) xs i) (h k) (before k)
+      (subst (λ o. Moved (h k) (if u i then in_place (λ held. p i held k) o else None) (g k)) same (step k)))
+
+-- what is in a full place was moved
+pub moved-full : {T H : Type 0} (f : H → ℕ → Option T) (before after : ℕ → Option T) (place : Option H) (held : H) → place ≡ Some held
+    → ((k : ℕ) → Moved (before k) (f held k) (after k)) → (k : ℕ) → Moved (before k) (in_place (λ h. f h k) (Some place)) (after k)
+moved-full f before after place held e h k = subst (λ o. Moved (before k) (in_place (λ h. f h k) (Some o)) (after k)) (sym e) (h k)
+
+-- what is of this number was moved, or nothing was
+pub moved-if : {T : Type 0} (s f g : ℕ → Option T) (m n : ℕ) → m ≡ n → ((k : ℕ) → Moved (f k) (s k) (g k)) → (k : ℕ) → Moved (f k) (if m == n then s k else None) (g k)
+moved-if s f g m n e h k = subst (λ b. Moved (f k) (if b then s k else None) (g k)) (sym (eq-eqb m n e)) (h k)
+
+pub moved-if_not : {T : Type 0} (s f : ℕ → Option T) (m n : ℕ) → (m ≡ n → ⊥) → (k : ℕ) → Moved (f k) (if m == n then s k else None) (f k)
+moved-if_not s f m n d k = subst (λ o. Moved (f k) o (f k)) (sym (used-none (m == n) (s k) (λ e. absurd (d (eqb-true m n e))))) refl
+
+-- all places were passed
+pub moved-all : {T H : Type 0} (u : ℕ → Bool) (p : ℕ → H → ℕ → Option T) (xs : List (Option H)) (i n : ℕ) (f g : ℕ → Option T) → i ≡ n
+    → ((k : ℕ) → Moved (f k) (in_places u (λ j held. p j held k) xs i) (g k)) → (k : ℕ) → Moved (f k) (in_places u (λ j held. p j held k) xs n) (g k)
+moved-all u p xs i n f g e h k = subst (λ m. Moved (f k) (in_places u (λ j held. p j held k) xs m) (g k)) e (h k)

@@ -4,10 +4,13 @@ use Rattle.std.proofs.lemmas.Bool.{eqb-true}
 use Rattle.nfs_model.specs.Tree.{Layout, Affinity, Serial, Aggregate, Volume, Logical, Stripe, Vbn, Range, stripes_of, aggregate_of}
 use Rattle.affinity.specs.Numbers.{number_of, volume_number}
 use Rattle.affinity.proofs.Places.{volume_number_next}
+pub use Rattle.parcels.specs.Nothing.{range-none, stripe-none, vbn-none, logical-none, volume-none, aggregate-none, serial-none}
 use Rattle.parcels.specs.Places.{alone, or_else, in_places}
 use Rattle.parcels.specs.Below.{OnLogical, OnVbn, OnVolume, OnAggregate, OnSerial}
 use Rattle.parcels.specs.Sets.{range_parcels, vbn_parcels, stripe_parcels, logical_parcels, volume_parcels, aggregate_parcels, serial_parcels}
 use Rattle.parcels.specs.declared.family.Parcel.TheVariants as parcels
+use Rattle.parcels.specs.declared.sets.RangeHeld.{RangeHeld}
+use Rattle.parcels.specs.declared.sets.StripeHeld.{StripeHeld}
 use Rattle.parcels.specs.declared.sets.VbnHeld.{VbnHeld}
 use Rattle.parcels.specs.declared.sets.LogicalHeld.{LogicalHeld}
 use Rattle.parcels.specs.declared.sets.VolumeHeld.{VolumeHeld}
@@ -73,53 +76,3 @@ volumes-apart layout v w k there_v there_w n low high =
         (λ (l : a < b). inl (omega arith))
         (λ (l : b < a). inr (omega arith))
         (apart a b (λ e. n (ap (λ m. suc m) e)))
-
--- ---- a set has nothing at a number that is none of its nodes'
-
-module _ {P R B S L V A X : Type 0} (layout : Layout) (k : ℕ) where
-  pub vbn-none : (v : ℕ) (held : VbnHeld P R B S L V A X) → OnVbn layout (λ b. k ≢ number_of layout b) v → vbn_parcels layout (Vbn v) held k ≡ None
-  unfolding vbn_parcels range_parcels
-  vbn-none v held on =
-      or_else-none
-      (alone (number_of layout (Vbn v)) (parcels.Vbn held.own) k)
-      (in_places (λ r. true) (λ r range. range_parcels layout (Range v r) range k) held.ranges.at 16)
-      (alone-none (number_of layout (Vbn v)) (parcels.Vbn held.own) k on.own)
-      (in_places-none (λ r. true) (λ r range. range_parcels layout (Range v r) range k) held.ranges.at 16 (λ r l used range. alone-none (number_of layout (Range v r)) (parcels.Range range.own) k (on.ranges r l)))
-
-  pub logical-none : (v : ℕ) (held : LogicalHeld P R B S L V A X) → OnLogical layout (λ b. k ≢ number_of layout b) v → logical_parcels layout (Logical v) held k ≡ None
-  unfolding logical_parcels stripe_parcels
-  logical-none v held on =
-      or_else-none
-      (alone (number_of layout (Logical v)) (parcels.Logical held.own) k)
-      (in_places (λ i. true) (λ i stripe. stripe_parcels layout (Stripe v i) stripe k) held.stripes.at (stripes_of layout v))
-      (alone-none (number_of layout (Logical v)) (parcels.Logical held.own) k on.own)
-      (in_places-none (λ i. true) (λ i stripe. stripe_parcels layout (Stripe v i) stripe k) held.stripes.at (stripes_of layout v) (λ i l used stripe. alone-none (number_of layout (Stripe v i)) (parcels.Stripe stripe.own) k (on.stripes i l)))
-
-  pub volume-none : (v : ℕ) (held : VolumeHeld P R B S L V A X) → OnVolume layout (λ b. k ≢ number_of layout b) v → volume_parcels layout (Volume v) held k ≡ None
-  unfolding volume_parcels
-  volume-none v held on =
-      or_else-none
-      (alone (number_of layout (Volume v)) (parcels.Volume held.own) k)
-      (or_else (logical_parcels layout (Logical v) held.logical k) (vbn_parcels layout (Vbn v) held.vbn k))
-      (alone-none (number_of layout (Volume v)) (parcels.Volume held.own) k on.own)
-      (or_else-none (logical_parcels layout (Logical v) held.logical k) (vbn_parcels layout (Vbn v) held.vbn k) (logical-none v held.logical on.logical) (vbn-none v held.vbn on.vbn))
-
-  pub aggregate-none : (a : ℕ) (held : AggrHeld P R B S L V A X) → OnAggregate layout (λ b. k ≢ number_of layout b) a → aggregate_parcels layout (Aggregate a) held k ≡ None
-  unfolding aggregate_parcels
-  aggregate-none a held on =
-      or_else-none
-      (alone (number_of layout (Aggregate a)) (parcels.Aggregate held.own) k)
-      (in_places (λ v. aggregate_of layout v == a) (λ v volume. volume_parcels layout (Volume v) volume k) held.volumes.at (length layout.volumes))
-      (alone-none (number_of layout (Aggregate a)) (parcels.Aggregate held.own) k on.own)
-      (in_places-none (λ v. aggregate_of layout v == a) (λ v volume. volume_parcels layout (Volume v) volume k) held.volumes.at (length layout.volumes)
-      (λ v l used volume. volume-none v volume (on.volumes v l (eqb-true (aggregate_of layout v) a used))))
-
-  pub serial-none : (held : SerialHeld P R B S L V A X) → OnSerial layout (λ b. k ≢ number_of layout b) → serial_parcels layout Serial held k ≡ None
-  unfolding serial_parcels
-  serial-none held on =
-      or_else-none
-      (alone 1 (parcels.Serial held.own) k)
-      (in_places (λ a. true) (λ a aggregate. aggregate_parcels layout (Aggregate a) aggregate k) held.aggregates.at (length layout.spare))
-      (alone-none 1 (parcels.Serial held.own) k on.own)
-      (in_places-none (λ a. true) (λ a aggregate. aggregate_parcels layout (Aggregate a) aggregate k) held.aggregates.at (length layout.spare)
-      (λ a l used aggregate. aggregate-none a aggregate (on.aggregates a l)))

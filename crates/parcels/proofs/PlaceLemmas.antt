@@ -2,43 +2,19 @@
 use Rattle.std.proofs.Common.{◌≡◌, ◌≢◌, ℕ, zero, suc, ◌+◌, ◌<◌, Bool, true, false, List, Option, Some, None, refl, sym, ◌∙◌, ap, subst, arith, slice_get, add-one}
 use Rattle.std.specs.Prelude.{if◌then◌else◌}
 use Rattle.std.proofs.lemmas.Bool.{eq-eqb, ne_eqb}
+pub use Rattle.parcels.specs.Nothing.{alone-none, or_else-none, place-none, used-none, in_places-none}
 use Rattle.parcels.specs.Places.{alone, or_else, in_place, in_used_place, in_places}
 
 pub alone-there : {T : Type 0} (n : ℕ) (x : T) → alone n x n ≡ Some x
 unfolding alone
 alone-there n x = ap (λ b. if b then Some x else None) (eq-eqb n n refl)
 
-pub alone-none : {T : Type 0} (n : ℕ) (x : T) (k : ℕ) → k ≢ n → alone n x k ≡ None
-unfolding alone
-alone-none n x k h = ap (λ b. if b then Some x else None) (ne_eqb k n h)
-
-pub or_else-none : {T : Type 0} (a b : Option T) → a ≡ None → b ≡ None → or_else a b ≡ None
-or_else-none a b e d = subst (λ o. or_else o b ≡ None) (sym e) d
-
 -- nothing more
-or_else-last : {T : Type 0} (a b : Option T) → b ≡ None → or_else a b ≡ a
+pub or_else-last : {T : Type 0} (a b : Option T) → b ≡ None → or_else a b ≡ a
 or_else-last None b e = e
 or_else-last (Some x) b e = refl
 
-pub place-none : {H T : Type 0} (f : H → Option T) (o : Option (Option H)) → ((held : H) → f held ≡ None) → in_place f o ≡ None
-place-none f None h = refl
-place-none f (Some None) h = refl
-place-none f (Some (Some x)) h = h x
-
-used-none : {T : Type 0} (b : Bool) (o : Option T) → (b ≡ true → o ≡ None) → (if b then o else None) ≡ None
-used-none true o h = h refl
-used-none false o h = refl
-
 module _ {H T : Type 0} (u : ℕ → Bool) (f : ℕ → H → Option T) where
-  -- nothing where no set has anything
-  pub in_places-none : (places : List (Option H)) (n : ℕ) → ((i : ℕ) → i < n → u i ≡ true → (held : H) → f i held ≡ None) → in_places u f places n ≡ None
-  unfolding in_places
-  in_places-none places zero h = refl
-  in_places-none places (suc n) h =
-      or_else-none (in_places u f places n) (in_used_place u f places n)
-      (in_places-none places n (λ i l. h i (omega arith)))
-      (used-none (u n) (in_place (f n) (slice_get places n)) (λ e. place-none (f n) (slice_get places n) (h n (omega arith) e)))
-
   -- the first places say what is found in them
   pub in_places-same : (xs ys : List (Option H)) (n : ℕ) → ((i : ℕ) → i < n → slice_get ys i ≡ slice_get xs i) → in_places u f ys n ≡ in_places u f xs n
   unfolding in_places
@@ -83,3 +59,12 @@ module _ {H T : Type 0} (u : ℕ → Bool) (f : ℕ → H → Option T) where
       ap (in_places u f xs) (add-one i)
       ∙ ap (λ o. or_else (in_places u f xs i) (if u i then in_place (f i) o else None)) e
       ∙ ap (λ b. or_else (in_places u f xs i) (if b then in_place (f i) (Some place) else None)) used
+
+  -- one place more, in use or not
+  pub in_places-any : (xs : List (Option H)) (i : ℕ) (place : Option H) → slice_get xs i ≡ Some place → in_places u f xs (i + 1) ≡ or_else (in_places u f xs i) (if u i then in_place (f i) (Some place) else None)
+  unfolding in_places
+  in_places-any xs i place e = ap (in_places u f xs) (add-one i) ∙ ap (λ o. or_else (in_places u f xs i) (if u i then in_place (f i) o else None)) e
+
+  pub in_places-used : (xs : List (Option H)) (i : ℕ) → in_places u f xs (i + 1) ≡ or_else (in_places u f xs i) (in_used_place u f xs i)
+  unfolding in_places
+  in_places-used xs i = ap (in_places u f xs) (add-one i)

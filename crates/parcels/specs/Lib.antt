@@ -3,3 +3,7 @@ pub mod Moved
 pub mod Sets
 pub mod Below
 pub mod Exact
+pub mod NumberIn
+pub mod Ready
+pub mod Nothing
+pub mod Within

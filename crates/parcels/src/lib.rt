@@ -5,18 +5,21 @@
 mod family;
 mod gather;
 mod hand;
-
 mod node;
+mod nodes;
 mod numbers;
 mod places;
+mod scatter;
 mod sets;
 mod shelf;
 mod vec_shelf;
 
 pub use family::{Family, Parcel};
-pub use gather::{gather_logical, gather_range, gather_stripe, gather_vbn, gather_volume};
 pub use hand::Hand;
 pub use node::{HasKind, Node};
+pub use nodes::{
+    AggregateNode, LogicalNode, RangeNode, SerialNode, StripeNode, VbnNode, VolumeNode,
+};
 pub use numbers::Numbers;
 pub use places::{Places, eight_places, sixteen_places, two_places};
 pub use sets::{AggrHeld, LogicalHeld, RangeHeld, SerialHeld, StripeHeld, VbnHeld, VolumeHeld};

@@ -26,7 +26,7 @@ impl<P: Family> HasKind for Parcel<P> {
 /// A kind of node, and the typed set of one.
 pub trait Node<T: HasKind> {
     /// The node's parcel, and the sets of the nodes below.
-    type Held: Drop;
+    type Held;
 
     ghost KIND: { Kind };
 

@@ -2,6 +2,7 @@
 
 ghost use Rattle.std.specs.Prelude.{◌≡◌};
 ghost use Rattle.parcels.specs.Exact.{kind_in};
+ghost use Rattle.parcels.specs.NumberIn.{number_in};
 
 use crate::family::{Family, Parcel};
 use affinity::Kind;
@@ -28,7 +29,8 @@ impl Family for Numbers {
 impl Numbers {
     /// A parcel of a kind of node, with this number.
     pub fn parcel(kind: Kind, number: u64) -> Parcel<Numbers>
-        ensures { kind_in result ≡ kind }
+        ensures kind { kind_in result ≡ kind }
+        ensures number { number_in result ≡ number }
     {
         match kind {
             Kind::Serial => Parcel::Serial(number),

@@ -18,6 +18,15 @@ impl<T: Drop, const N: usize> Places<T, N> {
         self.at[place] = Some(value);
     }
 
+    /// Puts a value into a place, or nothing.
+    pub fn set(&mut self, place: usize, value: Option<T>)
+        requires { place < N }
+        ensures there { slice_get self.new.at place ≡ Some value }
+        ensures others { (i : ℕ) → i ≢ place → slice_get self.new.at i ≡ slice_get self.old.at i }
+    {
+        self.at[place] = value;
+    }
+
     /// Takes what is in a place.
     pub fn take(&mut self, place: usize) -> Option<T>
         requires { place < N }
@@ -30,19 +39,25 @@ impl<T: Drop, const N: usize> Places<T, N> {
 }
 
 /// Two empty places.
-pub fn two_places<T>() -> Places<T, 2> {
+pub fn two_places<T>() -> Places<T, 2>
+    ensures { (i : ℕ) → i < 2 → slice_get result.at i ≡ Some None }
+{
     Places { at: [None, None] }
 }
 
 /// Eight empty places.
-pub fn eight_places<T>() -> Places<T, 8> {
+pub fn eight_places<T>() -> Places<T, 8>
+    ensures { (i : ℕ) → i < 8 → slice_get result.at i ≡ Some None }
+{
     Places {
         at: [None, None, None, None, None, None, None, None],
     }
 }
 
 /// Sixteen empty places.
-pub fn sixteen_places<T>() -> Places<T, 16> {
+pub fn sixteen_places<T>() -> Places<T, 16>
+    ensures { (i : ℕ) → i < 16 → slice_get result.at i ≡ Some None }
+{
     Places {
         at: [
             None, None, None, None, None, None, None, None, None, None, None, None, None, None,

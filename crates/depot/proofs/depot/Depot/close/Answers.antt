@@ -1,21 +1,55 @@
-use Rattle.std.proofs.Common.{arith, ◌≡◌, ◌<◌, Option, ℕ, List, length, sym, ap, ◌∙◌, subst}
-use Rattle.depot_rule.specs.declared.view.View.{View}
+use Rattle.std.proofs.Common.{arith, ◌≡◌, ◌+◌, List, length, sym, ap, ◌∙◌}
+use Rattle.std.specs.Mem.Slots.{slots_items, slots_filled, slots_counts}
+use Rattle.affinity.specs.Layout.{layout_of}
+use Rattle.affinity.specs.Numbers.{parents, node_count}
+use Rattle.affinity.proofs.Smaller.{length-parents}
 use Rattle.depot_rule.specs.declared.view.Entry.{Entry}
-use Rattle.depot_rule.specs.Shares.{Has}
-use Rattle.depot_rule.specs.Seats.{view_of}
-use Rattle.depot_rule.proofs.Places.{one-view}
 use Rattle.depot.specs.Calls.{known}
-use Rattle.depot.proofs.Moves.{placed-one}
-use Rattle.depot.proofs.Opened.{closed-so}
+use Rattle.depot.specs.Closed.{left_at}
+use Rattle.depot.proofs.Opened.{ended-so}
+use Rattle.depot.proofs.Emptied.{whole-some, whole-placed, nothing-left}
 use Rattle.depot.proofs.depot.Depot.close.Goals as goal
 
-pub returns-clause-parcels : goal.returns-clause-parcels
-returns-clause-parcels g c = λ k pk lk.
-    let is = c.into_seat-place.ensures.2 in
-    let E : Type 0 = Entry g.row.M-Parcel.Denot g.row.M-Call.Denot g.row.M-Reply.Denot in
-    let vs : List (View g.row.M-Parcel.Denot E) = c.into_seat-place.result.me.0 in
-    let parts : (view_of vs).parts ≡ 64 = (let p = sym (ap (λ l. (known l).parts) is) ∙ c.args.seat.parts in let q = c.requires.only in omega arith) in
-    let none : (b : ℕ) (h : List (Option g.row.M-Parcel.Denot)) → Has (view_of vs) b h → ⊥
-    = subst (λ (l : List (List (View g.row.M-Parcel.Denot E))). (b : ℕ) (h : List (Option g.row.M-Parcel.Denot)) → Has (known l) b h → ⊥) is c.requires.none_open in
-    closed-so g.row.M-Parcel.Denot E g.M.Parcel.HasKind.kind c.args.self.table.shared.key.value.parents.items c.args.self.table.shared.key.value.parcels.items
-    c.into_seat-place.result.id vs _ _ (one-view vs (placed-one is c.args.seat.one.1)) parts none c.close_with.ensures.values.2 k pk (subst (λ (l : List ℕ). k < length l) c.args.self.tree lk)
+pub invariant_of-closed : goal.invariant_of-closed
+invariant_of-closed g c =
+    let all : (known c.args.seat.badge.views).parts ≡ 64 = (let p = c.args.seat.parts in let q = c.requires.only in omega arith) in
+    let w = ended-so g.row.M-Parcel.Denot (Entry g.row.M-Parcel.Denot g.row.M-Call.Denot g.row.M-Reply.Denot) g.M.Parcel.HasKind.kind c.into_seat-place.result.me.0
+    c.into_seat-place.ensures.2 c.args.seat.one.1 all c.requires.none_open c.close_with.ensures.values.2 in
+    let slots = c.close_with.result.slots in
+    let counts = slots_counts slots in
+    let size : length (slots_items slots) ≡ length c.args.self.table.shared.key.value.parents.items = w.size in
+    let same : length c.args.self.table.shared.key.value.parents.items ≡ length (parents (layout_of c.args.self.layout)) = ap length (sym c.args.self.tree ∙ c.args.self.layout_tree) in
+    let some : length (parents (layout_of c.args.self.layout)) ≡ 1 + node_count (layout_of c.args.self.layout) = length-parents (layout_of c.args.self.layout) in
+    let e0 = counts.0 in
+    record {
+      lengths = (sym counts.0, sym counts.1);
+      root = c.close_with.ensures.values.1 0 (omega arith) (omega arith);
+      parcels = λ k pos lt. whole-some g.M.Parcel.HasKind.kind w k pos (omega arith);
+    }
+
+pub gather-held-requires-clause-there : goal.gather-held-requires-clause-there
+gather-held-requires-clause-there g c =
+    let all : (known c.args.seat.badge.views).parts ≡ 64 = (let p = c.args.seat.parts in let q = c.requires.only in omega arith) in
+    let w = ended-so g.row.M-Parcel.Denot (Entry g.row.M-Parcel.Denot g.row.M-Call.Denot g.row.M-Reply.Denot) g.M.Parcel.HasKind.kind c.into_seat-place.result.me.0
+    c.into_seat-place.ensures.2 c.args.seat.one.1 all c.requires.none_open c.close_with.ensures.values.2 in
+    let slots = c.close_with.result.slots in
+    let counts = slots_counts slots in
+    let e0 = counts.0 in
+    whole-placed g.M.Parcel.HasKind.kind (layout_of c.args.self.layout) (slots_filled slots) (sym c.args.self.tree ∙ c.args.self.layout_tree) c.requires.seat.1.1
+    (λ k lt. c.close_with.ensures.values.1 k (omega arith) (omega arith)) w
+
+pub free-requires : goal.free-requires
+free-requires g c =
+    let all : (known c.args.seat.badge.views).parts ≡ 64 = (let p = c.args.seat.parts in let q = c.requires.only in omega arith) in
+    let w = ended-so g.row.M-Parcel.Denot (Entry g.row.M-Parcel.Denot g.row.M-Call.Denot g.row.M-Reply.Denot) g.M.Parcel.HasKind.kind c.into_seat-place.result.me.0
+    c.into_seat-place.ensures.2 c.args.seat.one.1 all c.requires.none_open c.close_with.ensures.values.2 in
+    let slots = c.close_with.result.slots in
+    let counts = slots_counts slots in
+    let e0 = counts.0 in
+    let e1 = counts.1 in
+    let size : length (slots_items slots) ≡ length c.args.self.table.shared.key.value.parents.items = w.size in
+    let same : length c.args.self.table.shared.key.value.parents.items ≡ length (parents (layout_of c.args.self.layout)) = ap length (sym c.args.self.tree ∙ c.args.self.layout_tree) in
+    record {
+      empty = nothing-left g.M.Parcel.HasKind.kind (layout_of c.args.self.layout) (slots_filled slots) (slots_items slots) _
+          (left_at (slots_filled c.gather-held.new.shelf.table.slots) (slots_items c.gather-held.new.shelf.table.slots)) (omega arith) c.gather-held.ensures.exact c.gather-held.ensures.moved;
+    }

@@ -1,0 +1,122 @@
+-- Parcels taken from the slots of a table that ended.
+use Rattle.std.proofs.Common.{◌≡◌, ◌≢◌, ℕ, zero, suc, ◌<◌, ◌≤◌, Bool, true, false, List, [], ◌∷◌, length, set, get_or, sym, refl, ap, ◌∙◌, subst, arith, Option, Some, None, inl, inr, ⊎_elim}
+use Rattle.std.proofs.lemmas.List.{get_or_past}
+use Rattle.std.proofs.lemmas.Bool.{false≢true, cases_lt}
+use mathlib.Core.Option as maybe
+use mathlib.Core.Option.{some, some-injective, some-ne-none}
+use lib.ListN.{get_elem?}
+use Rattle.nfs_model.specs.Tree.{Layout, Affinity, Serial, Aggregate, Volume, Logical, Stripe, Vbn, Range}
+use Rattle.affinity.specs.declared.affinity.Kind.{Kind}
+use Rattle.affinity.specs.Numbers.{number_of, parents}
+use Rattle.affinity.specs.Tree.{IsNode}
+use Rattle.affinity.specs.Under.{IsUnder}
+use Rattle.parcels.specs.Exact.{Under, HasExactly, IsPlaced}
+use Rattle.parcels.specs.Moved.{Moved}
+use Rattle.depot.specs.Closed.{value_of, if_filled, left_at}
+use Rattle.depot.specs.Kinds.{AreOfKind}
+use Rattle.depot.proofs.Layouts.{place-node, under-place}
+use Rattle.depot.proofs.Opened.{Whole}
+
+within-there : {A : Type 0} (xs : List A) (k : ℕ) → k < length xs → get_elem? xs k ≢ maybe.none
+within-there [] k h e = absurd (omega arith)
+within-there (x ∷ xs) zero h e = some-ne-none x e
+within-there (x ∷ xs) (suc k) h e = within-there xs k (omega arith) e
+
+module _ {T : Type 0} where
+  filled-some : (b : Bool) (y : Option T) (p : T) → if_filled b y ≡ Some p → (b ≡ true) × (y ≡ Some p)
+  filled-some true y p e = (refl, e)
+  filled-some false y p e = absurd cc
+
+  filled-none : (b : Bool) (z : maybe.Option (Option T)) → z ≢ maybe.none → z ≢ some None → if_filled b (value_of z) ≡ None → b ≡ false
+  filled-none true maybe.none there some_parcel e = absurd (there refl)
+  filled-none true (maybe.some None) there some_parcel e = absurd (some_parcel refl)
+  filled-none true (maybe.some (Some p)) there some_parcel e = absurd cc
+  filled-none false z there some_parcel e = refl
+
+  -- what is left at a node is in a slot that is filled
+  pub left-filled : (filled : List Bool) (items : List (Option T)) (k : ℕ) (p : T) → left_at filled items k ≡ Some p → (0 < k) × (get_or filled k false ≡ true) × (value_of (get_elem? items k) ≡ Some p)
+  left-filled filled items zero p e = absurd cc
+  left-filled filled items (suc k) p e = let q = filled-some (get_or filled (suc k) false) (value_of (get_elem? items (suc k))) p e in (omega arith, q.0, q.1)
+
+  -- where nothing is left of a parcel that was there, its slot was emptied
+  pub none-left : (filled : List Bool) (items : List (Option T)) (k : ℕ) → 0 < k → k < length items → get_elem? items k ≢ some None → left_at filled items k ≡ None → get_or filled k false ≡ false
+  none-left filled items zero pos lt some_parcel e = absurd (omega arith)
+  none-left filled items (suc k) pos lt some_parcel e = filled-none (get_or filled (suc k) false) (get_elem? items (suc k)) (within-there items (suc k) lt) some_parcel e
+
+pub filled-within : (filled : List Bool) (k : ℕ) → get_or filled k false ≡ true → k < length filled
+filled-within [] k e = absurd (false≢true e)
+filled-within (b ∷ filled) zero e = omega arith
+filled-within (b ∷ filled) (suc k) e = let r = filled-within filled k e in omega arith
+
+-- slot 0 was emptied last
+pub all-empty : (filled : List Bool) → ((k : ℕ) → 0 < k → k < length filled → get_or filled k false ≡ false) → (k : ℕ) → k < length filled → get_or (set filled 0 false) k false ≡ false
+all-empty [] others k lt = absurd (omega arith)
+all-empty (b ∷ filled) others zero lt = refl
+all-empty (b ∷ filled) others (suc k) lt = others (suc k) (omega arith) lt
+
+-- ---- the end of a depot
+
+-- each node is under Serial
+pub under-serial : (layout : Layout) (c : Affinity) → IsNode layout c → IsUnder layout Serial c
+under-serial layout Serial m = (m, inl refl)
+under-serial layout (Aggregate a) m = (m, inr refl)
+under-serial layout (Volume v) m = (m, inr refl)
+under-serial layout (Logical v) m = (m, inr refl)
+under-serial layout (Stripe v i) m = (m, inr refl)
+under-serial layout (Vbn v) m = (m, inr refl)
+under-serial layout (Range v r) m = (m, inr refl)
+
+module _ {P : Type 0} where
+  left-there : (filled : List Bool) (items : List (Option P)) (k : ℕ) (y : Option P) → 0 < k → get_or filled k false ≡ true → get_elem? items k ≡ some y → left_at filled items k ≡ y
+  left-there filled items zero y pos full there = absurd (omega arith)
+  left-there filled items (suc k) y pos full there = ap (λ (x : Bool × maybe.Option (Option P)). if_filled x.0 (value_of x.1)) (λ i. (full i, there i))
+
+  -- no slot but 0 is vacant
+  pub whole-some : (kind_of : P → Kind) {ps : List ℕ} {first xs : List (Option P)} → Whole kind_of ps first xs → (k : ℕ) → 0 < k → k < length xs → get_elem? xs k ≢ some None
+  whole-some kind_of {xs = xs} w k pos lt e =
+      let size = w.size in
+      let f = w.filled k pos (omega arith) in
+      no-parcel (f.2.0) (some-injective _ _ (sym e ∙ f.1) ∙ f.2.1)
+      where
+        no-parcel : (p : P) → None ≡ Some p → ⊥
+        no-parcel p e = cc
+
+  -- each node's parcel is left, of its kind
+  pub whole-placed : (kind_of : P → Kind) (layout : Layout) {ps : List ℕ} {first xs : List (Option P)} (filled : List Bool) → ps ≡ parents layout → AreOfKind kind_of layout first
+      → ((k : ℕ) → k < length xs → get_or filled k false ≡ true) → Whole kind_of ps first xs
+      → Under layout Serial (IsPlaced kind_of layout (left_at filled xs))
+  whole-placed kind_of layout {xs = xs} filled is kinds full w node under =
+      let size = w.size in
+      let many = ap length is in
+      let place = under-place layout Serial node under in
+      let lt = place.1 in
+      let f = w.filled (number_of layout node) place.0 (omega arith) in
+      (f.2.0, left-there filled xs (number_of layout node) f.0 place.0 (full (number_of layout node) (omega arith)) f.1 ∙ f.2.1, f.2.2.2 ∙ kinds node f.2.2.0 under.0 f.2.2.1)
+
+  gathered-none : (before taken after : Option P) → Moved before taken after → (taken ≡ None → before ≡ None) → after ≡ None
+  gathered-none before None after m none = m ∙ none refl
+  gathered-none before (Some p) after m none = m.1
+
+  past-none : (filled : List Bool) (items : List (Option P)) (k : ℕ) → length filled ≤ k → left_at filled items k ≡ None
+  past-none filled items zero le = refl
+  past-none filled items (suc k) le = ap (λ b. if_filled b (value_of (get_elem? items (suc k)))) (get_or_past filled (suc k) false le)
+
+  -- once all nodes' parcels were taken, nothing is left
+  pub nothing-left : (kind_of : P → Kind) (layout : Layout) (filled : List Bool) (items : List (Option P)) (taken after : ℕ → Option P) → length filled ≡ length (parents layout)
+      → HasExactly kind_of layout Serial taken → ((k : ℕ) → Moved (left_at filled items k) (taken k) (after k)) → (k : ℕ) → after k ≡ None
+  nothing-left kind_of layout filled items taken after size exact moved k = gathered-none (left_at filled items k) (taken k) (after k) (moved k) (before k)
+      where
+        not-taken : (k : ℕ) → 0 < k → k < length (parents layout) → taken k ≡ None → ⊥
+        not-taken k pos lt e =
+            let c = place-node layout k pos lt in
+            let t = exact.each c.0 (under-serial layout c.0 c.1) in
+            some-no (t.0) (sym e ∙ (ap taken (sym c.2) ∙ t.1))
+            where
+              some-no : (p : P) → None ≡ Some p → ⊥
+              some-no p e = cc
+        before : (k : ℕ) → taken k ≡ None → left_at filled items k ≡ None
+        before zero e = refl
+        before (suc k) e = ⊎_elim
+            (λ (lt : suc k < length filled). absurd (not-taken (suc k) (omega arith) (omega arith) e))
+            (λ (le : length filled ≤ suc k). past-none filled items (suc k) le)
+            (cases_lt (suc k) (length filled))

@@ -1,0 +1,49 @@
+-- What the tests' calls rest on.
+use Rattle.std.proofs.Common.{◌≡◌, ℕ, zero, suc, ◌==◌, Bool, true, false, cond, List, [], ◌∷◌, ◌++◌, set, sym, refl, ap, ◌∙◌, subst, Option, Some, None}
+use mathlib.Core.Option.{some, some-ne-none}
+use lib.ListN.{get_elem?}
+use Rattle.nfs_model.specs.Tree.{Layout, Affinity}
+use Rattle.affinity.specs.declared.affinity.Kind.{Kind}
+use Rattle.parcels.specs.Exact.{kind_in, HasExactly}
+use Rattle.parcels.specs.Places.{alone}
+use Rattle.parcels.specs.Sets.{stripe_parcels}
+use Rattle.parcels.specs.declared.sets.StripeHeld.{StripeHeld}
+use Rattle.parcels.specs.declared.family.Parcel.TheVariants.{Stripe}
+use Rattle.affinity.specs.Numbers.{number_of}
+use Rattle.depot_rule.specs.declared.view.View.{View}
+use Rattle.depot_rule.specs.Shares.{Has}
+use Rattle.depot.specs.Grants.{ListsAs, HasWith, IsBegun}
+
+set-there : {A : Type 0} (xs : List A) (i : ℕ) (x y : A) → get_elem? xs i ≡ some x → get_elem? (set xs i y) i ≡ some y
+set-there [] i x y e = absurd (some-ne-none x (sym e))
+set-there (z ∷ zs) zero x y e = refl
+set-there (z ∷ zs) (suc i) x y e = set-there zs i x y e
+
+-- what was granted is there to be put back
+pub begun-with : {P E : Type 0} (v w : View P E) (b : ℕ) (f : ℕ → Option P) → IsBegun v b f w → HasWith w b f
+begun-with v w b f begun = (
+  begun.0,
+  ap (λ u. get_elem? u.held b) begun.3 ∙ set-there v.held b None (Some begun.0) begun.5,
+  subst (λ (u : View _ _). ListsAs u b begun.0 f) (sym begun.3) begun.4,
+)
+
+module _ {T : Type 0} (kind : T → Kind) where
+  either-way : (x y p : T) (b : Bool) → cond b (Some x) None ≡ Some p → (cond b (Some y) None ≡ Some y) × (kind p ≡ kind x)
+  either-way x y p true e = (refl, cc)
+  either-way x y p false e = absurd cc
+
+  neither-way : (x y : T) (b : Bool) → cond b (Some x) None ≡ None → cond {A = Option T} b (Some y) None ≡ None
+  neither-way x y true e = absurd cc
+  neither-way x y false e = refl
+
+  alone-swap : (layout : Layout) (a : Affinity) (n : ℕ) (x y : T) → kind x ≡ kind y → HasExactly kind layout a (alone n x) → HasExactly kind layout a (alone n y)
+  unfolding alone
+  alone-swap layout a n x y same exact = record {
+    each = λ node under. (let t = exact.each node under in let q = either-way x y t.0 (number_of layout node == n) t.1 in (y, q.0, sym same ∙ (sym q.1 ∙ t.2)));
+    no_other = λ k under. neither-way x y (k == n) (exact.no_other k under);
+  }
+
+-- a stripe's parcel was changed
+pub stripe-changed : {P R B S L V A X : Type 0} (layout : Layout) (a : Affinity) (held held' : StripeHeld P R B S L V A X) → HasExactly kind_in layout a (stripe_parcels layout a held) → HasExactly kind_in layout a (stripe_parcels layout a held')
+unfolding stripe_parcels
+stripe-changed layout a held held' exact = alone-swap kind_in layout a (number_of layout a) (Stripe held.own) (Stripe held'.own) refl exact

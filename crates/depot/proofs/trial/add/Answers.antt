@@ -1,0 +1,23 @@
+use Rattle.std.proofs.Common.{◌≡◌, ◌+◌, ◌%◌, sym, subst}
+use Rattle.affinity.specs.Affinity.{affinity_of}
+use Rattle.affinity.specs.Layout.{layout_of}
+use Rattle.affinity.specs.Numbers.{number_of}
+use Rattle.parcels.specs.Exact.{kind_in, HasExactly}
+use Rattle.parcels.specs.Sets.{stripe_parcels}
+use Rattle.parcels.specs.declared.sets.StripeHeld.{StripeHeld}
+use Rattle.depot_rule.specs.Shares.{Has}
+use Rattle.depot.specs.Calls.{known}
+use Rattle.depot.specs.Grants.{HasWith}
+use Rattle.depot.proofs.Trials.{begun-with, stripe-changed}
+use Rattle.depot.proofs.trial.add.Goals as goal
+
+pub finish-requires-clause-open : goal.finish-requires-clause-open
+finish-requires-clause-open c =
+    let has = subst (λ a. HasWith (known c.begin.new.seat.badge.views) (number_of (layout_of c.args.depot.now.layout) (affinity_of a)) (stripe_parcels (layout_of c.args.depot.now.layout) (affinity_of a) c.in-Ok.grant.held)) (sym c.in-Ok.ensures.exact.0)
+    (begun-with (known c.args.seat.now.badge.views) (known c.begin.new.seat.badge.views) (number_of (layout_of c.args.depot.now.layout) (affinity_of c.args.affinity)) (stripe_parcels (layout_of c.args.depot.now.layout) (affinity_of c.args.affinity) c.in-Ok.grant.held) c.in-Ok.ensures.granted) in
+    (has.0, has.1)
+
+pub finish-requires-clause-exact : goal.finish-requires-clause-exact
+finish-requires-clause-exact c =
+    stripe-changed (layout_of c.args.depot.now.layout) (affinity_of c.in-Ok.grant.affinity) c.in-Ok.grant.held (record { own = (c.in-Ok.grant.held.own + c.args.number) % 18446744073709551616 })
+    (subst (λ a. HasExactly kind_in (layout_of c.args.depot.now.layout) (affinity_of a) (stripe_parcels (layout_of c.args.depot.now.layout) (affinity_of a) c.in-Ok.grant.held)) (sym c.in-Ok.ensures.exact.0) c.in-Ok.ensures.exact.1)

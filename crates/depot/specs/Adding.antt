@@ -1,0 +1,59 @@
+-- A machine whose calls add to the number of their node.
+use Rattle.std.specs.Prelude.{◌≡◌, ◌≢◌, ◌⊎◌, ℕ, ◌+◌, ◌<◌, ◌==◌, ◌||◌, nat_lt, Bool, true, false, List, Option, Some}
+use Rattle.std.proofs.Common.{refl, sym, ap, ◌∙◌, inl, inr, ⊎_elim}
+use Rattle.std.proofs.lemmas.Bool.{eqb-true, eq-eqb, ltb-true}
+use Rattle.parcels.specs.declared.family.Parcel.{Parcel}
+use Rattle.parcels.specs.declared.family.Parcel.TheVariants.{Range, Vbn, Stripe, Logical, Volume, Aggregate, Serial}
+use Rattle.parcels.specs.Exact.{kind_in}
+use Rattle.depot_rule.specs.Sums.{tally}
+use Rattle.depot_rule.specs.Tree.{ancestors, Covers}
+use Rattle.depot_rule.specs.History.{covers, patched}
+use Rattle.depot_rule.specs.Seats.{if_less}
+use Rattle.depot_rule.specs.Machine.{IsLocal}
+
+module _ {P : Type 0} where
+  abbrev pub number_in : Parcel P ℕ ℕ ℕ ℕ ℕ ℕ ℕ → ℕ
+  number_in (Range n) = n
+  number_in (Vbn n) = n
+  number_in (Stripe n) = n
+  number_in (Logical n) = n
+  number_in (Volume n) = n
+  number_in (Aggregate n) = n
+  number_in (Serial n) = n
+
+  -- the number of the call's node becomes the reply, the sum of what it was and what the call adds; all others stay
+  abbrev pub Adds : List ℕ → ℕ → ℕ → (ℕ → Option (Parcel P ℕ ℕ ℕ ℕ ℕ ℕ ℕ)) → ℕ → (ℕ → Option (Parcel P ℕ ℕ ℕ ℕ ℕ ℕ ℕ)) → Type 0
+  Adds parents a n f sum f' = ((p q : _) × (f a ≡ Some p) × (f' a ≡ Some q) × (kind_in q ≡ kind_in p) × (number_in q ≡ sum) × (number_in p + n ≡ sum))
+      × ((k : ℕ) → k ≢ a → f' k ≡ f k)
+
+either-true : (b c : Bool) → b || c ≡ true → (b ≡ true) ⊎ (c ≡ true)
+either-true true c e = inl refl
+either-true false c e = inr e
+
+covers-true : (parents : List ℕ) (a k : ℕ) → covers parents a k ≡ true → Covers parents a k
+covers-true parents a k e = ⊎_elim
+    (λ (here : (a == k) ≡ true). inl (eqb-true a k here))
+    (λ (above : nat_lt 0 (tally a (ancestors parents k)) ≡ true). inr (ltb-true 0 (tally a (ancestors parents k)) above))
+    (either-true (a == k) (nat_lt 0 (tally a (ancestors parents k))) e)
+
+if-alike : {A : Type 0} (b : Bool) (x y : A) → (b ≡ true → x ≡ y) → if_less b x y ≡ y
+if-alike true x y h = h refl
+if-alike false x y h = refl
+
+-- a call reads and writes the number of its own node alone
+pub adds-local : {P : Type 0} → IsLocal (Adds {P = P})
+adds-local parents a n f g sum f' s = (
+  λ k no. s.1 k (λ e. no (inl (sym e))),
+  λ same. (
+    (
+      s.0.0,
+      s.0.1,
+      same a (inl refl) ∙ s.0.2,
+      ap (λ b. if_less (b || nat_lt 0 (tally a (ancestors parents a))) (f' a) (g a)) (eq-eqb a a refl) ∙ s.0.3,
+      s.0.4,
+      s.0.5,
+      s.0.6,
+    ),
+    λ k ne. if-alike (covers parents a k) (f' k) (g k) (λ e. s.1 k ne ∙ sym (same k (covers-true parents a k e))),
+  ),
+)

@@ -1,0 +1,57 @@
+//! A machine for tests and measurements: each parcel is a number, and a call adds to its node's.
+
+ghost use Rattle.std.specs.Prelude.{◌≡◌, ℕ, List, [], Option, IfOk};
+ghost use Rattle.nfs_model.specs.Tree as trees;
+ghost use Rattle.affinity.specs.Layout.{layout_of};
+ghost use Rattle.parcels.specs.Exact.{kind_in, HasExactly};
+ghost use Rattle.parcels.specs.Sets.{serial_parcels};
+
+use affinity::{Affinity, Layout};
+use depot_rule::machine::Machine;
+use parcels::{Node, Numbers, Parcel, SerialHeld, SerialNode, VecShelf};
+use std::alloc::{AllocError, Global};
+
+/// Numbers that calls add to.
+pub struct Adding;
+
+impl Machine for Adding {
+    ghost use Rattle.depot.specs.Adding.{Adds, adds-local};
+
+    type Parcel = Parcel<Numbers>;
+
+    /// What is added.
+    type Call = u64;
+
+    /// The sum.
+    type Reply = u64;
+
+    type Batch = ();
+
+    ghost steps = { Adds };
+
+    ghost takes = { λ c r. [] };
+
+    ghost gives = { λ c r. [] };
+
+    ghost invariant = { λ parents f hands n. Unit {0} };
+
+    ghost local = { adds-local };
+
+    ghost keeps = { λ parents a c f r f' hands hands' n i s w. tt };
+}
+
+/// The parcels of all nodes of a layout, each 0.
+pub fn all_zero(alloc: Global, layout: &Layout) -> Result<SerialHeld<Numbers>, AllocError>
+    ensures { IfOk result (λ held. HasExactly kind_in (layout_of layout.now) trees.Serial (serial_parcels (layout_of layout.now) trees.Serial held)) }
+{
+    let mut shelf = VecShelf::new(alloc, layout.node_count() + 1)?;
+    for number in 1..layout.node_count() + 1 {
+        let kind = layout.affinity_at(number).kind();
+        shelf.parcels[number] = Some(Numbers::parcel(kind, 0));
+    }
+    Ok(<SerialNode as Node<Parcel<Numbers>>>::gather(
+        &mut shelf,
+        layout,
+        Affinity::Serial,
+    ))
+}
