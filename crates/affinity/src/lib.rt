@@ -19,4 +19,5 @@ pub use affinity::{Affinity, Kind};
 pub use fault::LayoutFault;
 pub use home::{home_of, named_by};
 pub use layout::Layout;
+pub use rules::{MOST_AGGREGATES, MOST_RANGES, MOST_SPARE, MOST_VOLUMES};
 pub use specification::{AggregateSpec, VolumeSpec};

@@ -1,34 +1,29 @@
 //! Scripts: lines of a layout, then lines of events.
 
-ghost use Rattle.std.specs.Prelude.{◌≡◌, ◌≢◌, ◌+◌, ◌<◌, ◌≤◌, ◌^◌, ◌⊎◌, [], ◌∷◌, ◌++◌, length, Contains, IfOk, IfErr, IsSome, IfSome};
+ghost use Rattle.std.specs.Prelude.{◌≡◌, ◌≢◌, ◌+◌, ◌<◌, ◌≤◌, ◌^◌, ◌⊎◌, [], ◌∷◌, ◌++◌, length, Contains, IsTrue, ◌↔◌, IfOk, IfErr, IsSome, IfSome};
 
 mod line;
 mod word;
 
 use crate::fault::Fault;
 use crate::script::line::{EventLine, Line, Unread, read_line};
-use affinity::{AggregateSpec, Layout, LayoutFault, VolumeSpec};
+use affinity::{
+    AggregateSpec, Layout, LayoutFault, MOST_AGGREGATES, MOST_RANGES, MOST_SPARE, MOST_VOLUMES,
+    VolumeSpec,
+};
 use std::alloc::Global;
 
 /// What ends a line.
 const LINE_FEED: u8 = b'\n';
 
-/// The most aggregates, and how many spare ranges each may have.
-const AGGREGATES: usize = 2;
-
-const SPARE_LIMIT: u32 = 128;
-
-/// The most volumes, and how many ranges each may have.
-const VOLUMES: usize = 8;
-
-const RANGE_LIMIT: u32 = 16;
-
 /// The most lines of a layout, the one that starts its engine with them.
-const LAYOUT_LINES: usize = AGGREGATES + VOLUMES + 1;
+const LAYOUT_LINES: usize = MOST_AGGREGATES + MOST_VOLUMES + 1;
 
 /// Whether one more aggregate may follow these lines.
-fn is_aggregate(aggregates: &[AggregateSpec], volumes: &[VolumeSpec], spare: u32) -> bool {
-    volumes.is_empty() && aggregates.len() < AGGREGATES && spare <= SPARE_LIMIT
+fn is_aggregate(aggregates: &[AggregateSpec], volumes: &[VolumeSpec], spare: u32) -> bool
+    ensures { IsTrue result ↔ (volumes.now ≡ []) × (length aggregates.now < 2) × (spare ≤ 128) }
+{
+    volumes.is_empty() && aggregates.len() < MOST_AGGREGATES && spare <= MOST_SPARE
 }
 
 /// Whether one more volume may follow these lines.
@@ -37,11 +32,13 @@ fn is_volume(
     volumes: &[VolumeSpec],
     aggregate: u32,
     ranges: u32,
-) -> bool {
-    volumes.len() < VOLUMES
+) -> bool
+    ensures { IsTrue result ↔ (length volumes.now < 8) × (aggregate < length aggregates.now) × (1 ≤ ranges) × (ranges ≤ 16) }
+{
+    volumes.len() < MOST_VOLUMES
         && (aggregate as usize) < aggregates.len()
         && 1 <= ranges
-        && ranges <= RANGE_LIMIT
+        && ranges <= MOST_RANGES
 }
 
 /// The lines of a script, of which some are read.
