@@ -118,10 +118,13 @@ beyond (p ∷ ps) (suc k) h = beyond ps k (omega arith)
 
 -- what a node covers is a node
 pub covers-below : (ps : List ℕ) (b k : ℕ) → 0 < k → b < length ps → Covers ps b k → k < length ps
-covers-below ps b k pos lt c = elim (dec_lt k (length ps)) [ yes l ↦ l | no n ↦ absurd (⊎_elim
-    (λ (e : b ≡ k). n (let l : k < length ps = omega arith in l))
-    (λ (u : 0 < tally b (ancestors ps k)). let none : tally b (ancestors ps k) ≡ 0 = ap (tally b) (ancestors-root ps k (beyond ps k (omega arith))) in let no : ⊥ = absurd (omega arith) in no)
-    c) ]
+covers-below ps b k pos lt c = elim (dec_lt k (length ps)) [
+  | yes l ↦ l
+  | no n ↦ absurd (⊎_elim
+      (λ (e : b ≡ k). n (let l : k < length ps = omega arith in l))
+      (λ (u : 0 < tally b (ancestors ps k)). let none : tally b (ancestors ps k) ≡ 0 = ap (tally b) (ancestors-root ps k (beyond ps k (omega arith))) in let no : ⊥ = absurd (omega arith) in no)
+      c)
+]
 
 -- what covers a node covers all that the node covers
 pub covers-through : (ps : List ℕ) → IsTree ps → (c b k : ℕ) → Covers ps c b → Covers ps b k → Covers ps c k
