@@ -1,5 +1,5 @@
 -- A call that begins: what is there to be gathered, and what is known once it is.
-use Rattle.std.proofs.Common.{◌≡◌, ◌≢◌, ℕ, ◌+◌, ◌<◌, ◌≤◌, eqb, List, [], ◌∷◌, ◌++◌, length, set, slice_index_or, sym, refl, ap, ◌∙◌, subst, arith, append_assoc, inl, inr, ⊎_elim, Option, Some, None}
+use Rattle.std.proofs.Common.{◌≡◌, ◌≢◌, ℕ, ◌<◌, ◌≤◌, List, [], ◌∷◌, ◌++◌, length, set, slice_index_or, sym, ap, ◌∙◌, subst, arith, append_assoc, ⊎_elim, Option, Some, None}
 use mathlib.Core.Option.{some}
 use mathlib.Core.Logic.{dite}
 use native.Mathlib.Decide.{ℕ_discrete}
@@ -13,25 +13,23 @@ use Rattle.affinity.specs.Tree.{IsNode}
 use Rattle.affinity.specs.Under.{IsUnder}
 use Rattle.affinity.specs.Numbers.{number_of, node_count, parents}
 use Rattle.affinity.proofs.Smaller.{length-parents}
-use Rattle.parcels.specs.Exact.{HasExactly, IsPlaced}
+use Rattle.parcels.specs.Exact.{HasExactly}
 use Rattle.parcels.specs.Moved as moving
 use Rattle.depot_rule.specs.declared.view.View.{View}
 use Rattle.depot_rule.specs.declared.view.Read.{Read}
-use Rattle.depot_rule.specs.Sums.{tally, one_if}
-use Rattle.depot_rule.specs.Tree.{IsTree, ancestors, Covers, Excludes}
+use Rattle.depot_rule.specs.Sums.{tally}
+use Rattle.depot_rule.specs.Tree.{IsTree, ancestors, Covers}
 use Rattle.depot_rule.specs.Shares.{Has, grant_shares}
-use Rattle.depot_rule.specs.Parcels.{takes, IsParcel}
 use Rattle.depot_rule.specs.Seats.{OnOne, view_of}
 use Rattle.depot_rule.specs.Plays.{IsOnly}
 use Rattle.depot_rule.proofs.Grants.{at-length}
 use Rattle.depot_rule.proofs.Places.{one-view, of-one}
 use Rattle.depot_rule.proofs.Trees.{cover-excludes, above-smaller}
-use Rattle.depot.specs.Kinds.{AreOfKind}
-use Rattle.depot.specs.Calls.{IsAmong, IsRead, Refuses, IsExcluded, IsGranted, WasRefused, own_views, known}
+use Rattle.depot.specs.Calls.{IsRead, Refuses, IsExcluded, IsGranted, WasRefused, own_views, known}
 use Rattle.depot.specs.Holds.{untaken, Handled, IsGathered}
-use Rattle.depot.specs.Grants.{IsSeatOf, ListsAs, IsBegun, HasRead, IsBusy}
+use Rattle.depot.specs.Grants.{IsSeatOf, IsBegun, IsBusy}
 use Rattle.depot.proofs.Moves.{placed-one}
-use Rattle.depot.proofs.Holding.{nothing, is-untaken}
+use Rattle.depot.proofs.Holding.{is-untaken}
 use Rattle.depot.proofs.Layouts.{parents-tree, number-place, under-place, covers-under, under-covers}
 
 -- what a taking took was there, and isn't any more

@@ -1,39 +1,34 @@
 -- A call that ends: what may be given home, what it stamps, and what its seat has afterwards.
-use Rattle.std.proofs.Common.{◌≡◌, ◌≢◌, ℕ, zero, suc, ◌+◌, ◌<◌, eqb, true, false, List, [], ◌∷◌, ◌++◌, length, set, slice_index_or, sym, refl, ap, ◌∙◌, subst, arith, append_assoc, length-append, inl, inr, ⊎_elim, Option, Some, None, IfSome}
+use Rattle.std.proofs.Common.{◌≡◌, ◌≢◌, ℕ, zero, suc, ◌+◌, ◌<◌, true, false, List, [], ◌∷◌, ◌++◌, length, set, slice_index_or, sym, refl, ap, ◌∙◌, subst, arith, append_assoc, length-append, ⊎_elim, Option, Some, None, IfSome}
 use Rattle.std.proofs.lemmas.Bool.{cases_Bool}
 use mathlib.Core.Option.{some}
 use mathlib.Core.Logic.{dite}
 use native.Mathlib.Decide.{ℕ_discrete, dec_lt}
 use lib.ListN.{get_elem?}
-use Rattle.atomic_table.proofs.Lists.{at_set, set_here, set_else}
+use Rattle.atomic_table.proofs.Lists.{at_set, set_here}
 use Rattle.nfs_model.specs.Tree.{Layout, Affinity}
 use Rattle.affinity.specs.declared.affinity.Kind.{Kind}
-use Rattle.affinity.specs.Affinity.{kind_of}
 use Rattle.affinity.specs.Fault.{fault_of}
 use Rattle.affinity.specs.Tree.{IsNode}
 use Rattle.affinity.specs.Under.{IsUnder}
 use Rattle.affinity.specs.Numbers.{number_of, node_count, parents}
 use Rattle.affinity.proofs.Smaller.{length-parents}
 use Rattle.parcels.specs.Exact.{Under, HasExactly}
-use Rattle.parcels.specs.Moved as moving
 use Rattle.depot_rule.specs.declared.view.View.{View}
 use Rattle.depot_rule.specs.declared.view.Read.{Read}
-use Rattle.depot_rule.specs.Sums.{tally, one_if}
+use Rattle.depot_rule.specs.Sums.{tally}
 use Rattle.depot_rule.specs.Tree.{IsTree, Covers, Excludes}
 use Rattle.depot_rule.specs.Shares.{Has}
-use Rattle.depot_rule.specs.Parcels.{takes}
 use Rattle.depot_rule.specs.History.{covers}
 use Rattle.depot_rule.specs.Seats.{view_of}
 use Rattle.depot_rule.proofs.Places.{one-view}
 use Rattle.depot_rule.proofs.Grants.{at-length}
 use Rattle.depot_rule.proofs.Trees.{cover-excludes}
-use Rattle.depot.specs.Kinds.{AreOfKind}
 use Rattle.depot.specs.Calls.{known}
-use Rattle.depot.specs.Holds.{untaken, Lists, Handled, IsGathered}
-use Rattle.depot.specs.Grants.{by_number, IsSeatOf, ListsAs, HasWith, IsEnded, IsFinished}
-use Rattle.depot.proofs.Holding.{covers-true, true-covers, untaken-is, none-untaken}
-use Rattle.depot.proofs.Layouts.{parents-tree, under-place, covers-under, under-covers}
-use Rattle.depot.proofs.Begun.{moved-some}
+use Rattle.depot.specs.Holds.{Lists, IsGathered}
+use Rattle.depot.specs.Grants.{by_number, IsSeatOf, HasWith, IsEnded, IsFinished}
+use Rattle.depot.proofs.Holding.{covers-true, true-covers}
+use Rattle.depot.proofs.Layouts.{under-place, covers-under, under-covers}
 
 all-some : {T : Type 0} (y : Option T) (Q : T → Type 0) → ((p : T) → y ≡ Some p → Q p) → IfSome y Q
 all-some None Q h = tt

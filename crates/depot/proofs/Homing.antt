@@ -1,68 +1,21 @@
 -- A grant's parcels are given home.
-use Rattle.std.proofs.Common.{◌≡◌, ◌≢◌, ℕ, zero, suc, ◌+◌, ◌<◌, ◌≤◌, eqb, Bool, true, false, ◌&&◌, List, [], ◌∷◌, ◌++◌, length, set, slice_index_or, slice_set, sym, refl, ap, ◌∙◌, subst, arith, append_assoc, Option, Some, None, IfSome}
-use Rattle.std.specs.Prelude.{nat_lt}
-use Rattle.std.proofs.lemmas.Bool.{and_parts, and_from, ltb-true, lt-ltb}
+use Rattle.std.proofs.Common.{◌≡◌, ℕ, ◌<◌, List, [], ◌∷◌, ◌++◌, length, set, slice_index_or, sym, ap, ◌∙◌, subst, arith, append_assoc, Option, Some, None}
 use mathlib.Core.Option.{some, some-injective}
 use lib.ListN.{get_elem?}
-use Rattle.nfs_model.specs.Tree.{Layout, Affinity}
-use Rattle.affinity.specs.declared.affinity.Kind.{Kind}
-use Rattle.affinity.specs.Fault.{fault_of}
-use Rattle.affinity.specs.Tree.{IsNode}
-use Rattle.affinity.specs.Numbers.{number_of, parents}
-use Rattle.parcels.specs.Exact.{HasExactly}
 use Rattle.parcels.specs.Moved.{Moved}
 use Rattle.depot_rule.specs.declared.view.View.{View}
 use Rattle.depot_rule.specs.declared.view.Read.{Read}
-use Rattle.depot_rule.specs.Sums.{tally, one_if}
+use Rattle.depot_rule.specs.Sums.{tally}
 use Rattle.depot_rule.specs.Tree.{Covers, Excludes}
 use Rattle.depot_rule.specs.Shares.{Has}
 use Rattle.depot_rule.specs.Parcels.{takes}
-use Rattle.depot_rule.specs.History.{covers}
 use Rattle.depot_rule.specs.Seats.{view_of}
 use Rattle.depot_rule.proofs.Sums.{one-other}
-use Rattle.depot.specs.Holds.{untaken, Lists, Handled}
+use Rattle.depot.specs.Holds.{untaken, Handled}
 use Rattle.depot.specs.Grants.{HasWith, IsEnded}
-use Rattle.depot.proofs.Holding.{covers-true, true-covers, untaken-is, of-place}
-use Rattle.depot.proofs.Layouts.{covers-under, under-place}
-
-pub if-each : {A : Type 0} (Q : A → Type 0) (o : Option A) → ((x : A) → o ≡ Some x → Q x) → IfSome o Q
-if-each Q None h = tt
-if-each Q (Some x) h = h x refl
-
-if-both : {C : Type 0} (t : Bool) → (t ≡ true → C) → (t ≡ false → C) → C
-if-both true y n = y refl
-if-both false y n = n refl
-
-some-none : {A C : Type 0} {o : Option A} {x : A} → o ≡ Some x → o ≡ None → C
-some-none {x = x} e n = absurd (let bad : Some x ≡ None = sym e ∙ n in cc)
-
--- what a set has is at a node that its own node covers
-pub exact-covered : {T : Type 0} (kind : T → Kind) (layout : Layout) (f : ℕ → Option T) (a : Affinity) → fault_of layout ≡ None → IsNode layout a → HasExactly kind layout a f
-    → (k : ℕ) (x : T) → f k ≡ Some x → (0 < k) × (k < length (parents layout)) × Covers (parents layout) (number_of layout a) k
-exact-covered kind layout f a lawful m whole k x e =
-    let ps : List ℕ = parents layout in
-    let n : ℕ = number_of layout a in
-    let t : Bool = (nat_lt 0 k && nat_lt k (length ps)) && covers ps n k in
-    if-both t
-    (λ yes. let p = and_parts (nat_lt 0 k && nat_lt k (length ps)) (covers ps n k) yes in let q = and_parts (nat_lt 0 k) (nat_lt k (length ps)) p.0 in (ltb-true 0 k q.0, ltb-true k (length ps) q.1, covers-true ps n k p.1))
-    (λ no. some-none e (whole.no_other k (λ c under is.
-        let place = under-place layout a c under in
-        let cover : Covers ps n k = subst (Covers ps n) (sym is) (covers-under layout lawful a c m under) in
-        let low : 0 < k = subst (λ (j : ℕ). 0 < j) (sym is) place.0 in
-        let high : k < length ps = subst (λ (j : ℕ). j < length ps) (sym is) place.1 in
-        let yes : t ≡ true = and_from (nat_lt 0 k && nat_lt k (length ps)) (covers ps n k) (and_from (nat_lt 0 k) (nat_lt k (length ps)) (lt-ltb 0 k low) (lt-ltb k (length ps) high)) (true-covers ps n k cover) in
-        let bad : true ≡ false = sym yes ∙ no in cc)))
+use Rattle.depot.proofs.Holding.{untaken-is}
 
 module _ {P E : Type 0} where
-  -- the parcels of a grant's set are those that it lists
-  pub set-listed : (kind : P → Kind) (layout : Layout) (f : ℕ → Option P) (a : Affinity) (v : View P E) (n : ℕ) → n ≡ number_of layout a → v.tree ≡ parents layout → fault_of layout ≡ None → IsNode layout a
-      → HasExactly kind layout a f → HasWith v (number_of layout a) f → (k : ℕ) → IfSome (f k) (λ p. Lists v n k p)
-  set-listed kind layout f a v n is tree lawful m whole with k = if-each (λ p. Lists v n k p) (f k) (λ p e.
-      let c = exact-covered kind layout f a lawful m whole k p e in
-      let place : k < length v.tree = subst (λ (ps : List ℕ). k < length ps) (sym tree) c.1 in
-      let cover : Covers v.tree (number_of layout a) k = subst (λ (ps : List ℕ). Covers ps (number_of layout a) k) (sym tree) c.2 in
-      subst (λ (b : ℕ). Lists v b k p) (sym is) (c.0, place, cover, (with.0, with.1, with.2 k c.0 place cover ∙ e)))
-
   -- once they are given, none of them is with the seat
   pub set-home : (f : ℕ → Option P) (b n : ℕ) (vs ws : List (View P E)) → n ≡ b → HasWith (view_of vs) b f → (view_of vs).hand ≡ 0 → Handled n vs ws
       → ((k : ℕ) → Moved (untaken (view_of ws) n k) (f k) (untaken (view_of vs) n k))
@@ -90,9 +43,13 @@ module _ {P E : Type 0} where
       let w : View P E = record v { gone = handled.0; reads = handled.1 ++ v.reads } in
       let now : view_of ws ≡ w = ap view_of handled.2 in (
         ap length ended.1,
-        (handled.0, ended.0 ++ handled.1, ap view_of ended.1
-            ∙ (ap (λ (x : View P E). let z : View P E = record x { held = set x.held n None; reads = ended.0 ++ x.reads } in z) now
-            ∙ ap (λ (x : ℕ × List Read). let z : View P E = record v { held = set v.held x.0 None; gone = handled.0; reads = x.1 } in z) (λ i. (is i, sym (append_assoc ended.0 handled.1 v.reads) i)))),
+        (
+          handled.0,
+          ended.0 ++ handled.1,
+          ap view_of ended.1
+              ∙ (ap (λ (x : View P E). let z : View P E = record x { held = set x.held n None; reads = ended.0 ++ x.reads } in z) now
+              ∙ ap (λ (x : ℕ × List Read). let z : View P E = record v { held = set v.held x.0 None; gone = handled.0; reads = x.1 } in z) (λ i. (is i, sym (append_assoc ended.0 handled.1 v.reads) i))),
+        ),
       )
 
   -- what other grants have taken is still with the seat

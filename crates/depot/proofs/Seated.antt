@@ -1,12 +1,12 @@
 -- Seats between two calls: what becomes of their grants' parcels as they part, join and meet.
-use Rattle.std.proofs.Common.{◌≡◌, ℕ, ◌+◌, ◌<◌, Bool, true, false, ltb, List, [], ◌∷◌, ◌++◌, length, sym, refl, ap, ◌∙◌, subst, arith, Option, Some, None, ⊎_elim}
+use Rattle.std.proofs.Common.{◌≡◌, ℕ, ◌<◌, Bool, true, false, ltb, List, [], ◌∷◌, ◌++◌, length, sym, refl, ap, ◌∙◌, subst, arith, Option, Some, ⊎_elim}
 use mathlib.Core.Option.{some}
 use lib.ListN.{get_elem?}
 use Rattle.depot_rule.specs.declared.view.View.{View}
 use Rattle.depot_rule.specs.declared.view.Read.{Read}
 use Rattle.depot_rule.specs.Sums.{tally}
 use Rattle.depot_rule.specs.Tree.{Covers}
-use Rattle.depot_rule.specs.Shares.{Has, opening_view}
+use Rattle.depot_rule.specs.Shares.{opening_view}
 use Rattle.depot_rule.specs.Seats.{if_less, longer, fresh, merge, merged, having_seen, met, first_of, others_of, view_of}
 use Rattle.depot_rule.proofs.Sums.{tally-append}
 use Rattle.depot_rule.proofs.Joining.{none-held, held-of}

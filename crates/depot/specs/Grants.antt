@@ -3,7 +3,7 @@ use Rattle.std.specs.Prelude.{◌≡◌, ℕ, zero, suc, ◌+◌, ◌<◌, ◌�
 use mathlib.Core.Option.{some}
 use lib.ListN.{get_elem?}
 use Rattle.nfs_model.specs.Tree.{Layout, Affinity}
-use Rattle.affinity.specs.Affinity.{affinity_of, kind_of}
+use Rattle.affinity.specs.Affinity.{affinity_of}
 use Rattle.affinity.specs.declared.affinity.Kind.{Kind}
 use Rattle.affinity.specs.Numbers.{number_of, node_count, parents}
 use Rattle.affinity.specs.Tree.{IsNode}

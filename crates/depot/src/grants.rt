@@ -32,7 +32,8 @@ use std::mem;
 /// The parcels of a node and of all nodes below it. A grant that is dropped gives nothing home.
 pub struct Grant<T: HasKind, N: Node<T>> {
     pub(crate) affinity: Affinity,
-    pub(crate) held: N::Held,
+    /// The parcels, to be read and changed.
+    pub held: N::Held,
 }
 
 /// Why a call doesn't begin.
@@ -53,14 +54,6 @@ impl<T: HasKind, N: Node<T>> Grant<T, N> {
         ensures { result ≡ self.now.affinity }
     {
         self.affinity
-    }
-
-    /// The parcels, to be read and changed.
-    pub fn held(&mut self) -> &mut N::Held
-        ensures held { (result.old ≡ self.old.held) × (self.new.held ≡ result.new) }
-        ensures affinity { self.new.affinity ≡ self.old.affinity }
-    {
-        &mut self.held
     }
 }
 

@@ -1,4 +1,4 @@
-use Rattle.std.proofs.Common.{rules, ◌≡◌, ◌<◌, ℕ, List, length, sym, ap, ◌∙◌, subst}
+use Rattle.std.proofs.Common.{◌≡◌, ◌<◌, ℕ, List, length, sym, ap, ◌∙◌, subst}
 use Rattle.nfs_model.specs.Tree.{Layout}
 use Rattle.affinity.specs.Affinity.{affinity_of}
 use Rattle.affinity.specs.Layout.{layout_of}

@@ -1,4 +1,4 @@
-use Rattle.std.proofs.Common.{rules, arith, ◌≡◌, ◌+◌, ◌≤◌, ◌∷◌, List, [], length, sym, ap, ◌∙◌}
+use Rattle.std.proofs.Common.{rules, arith, ◌≡◌, ◌+◌, ◌∷◌, List, [], length, sym, ap, ◌∙◌}
 use Rattle.depot_rule.specs.declared.view.Entry.{Entry}
 use Rattle.depot_rule.specs.declared.view.View.{View}
 use Rattle.depot_rule.specs.Seats.{view_of, merge, having_seen, longer, first_of, others_of, met}
@@ -48,8 +48,7 @@ join_seat-requires-2 g c =
     let loaded : c.load.new.seat.me.0 ≡ met vs ws = ap (λ m. m.0) c.load.ensures.2.0 ∙ both in
     let es : List E = longer (view_of vs).seen (view_of ws).seen in
     let first : c.split_seat-other.new.seat.me.0 ≡ having_seen es (view_of vs) ∷ [] = ap (λ m. m.0) c.split_seat-other.ensures.2 ∙ (ap first_of loaded ∙ met-first vs ws one other_one) in
-    let second : c.split_seat-other.result.me.0 ≡ having_seen es (view_of ws) ∷ [] = ap (λ m. m.0) c.split_seat-other.ensures.4 ∙ (ap others_of loaded ∙ met-second vs ws one other_one) in
-    (
+    let second : c.split_seat-other.result.me.0 ≡ having_seen es (view_of ws) ∷ [] = ap (λ m. m.0) c.split_seat-other.ensures.4 ∙ (ap others_of loaded ∙ met-second vs ws one other_one) in (
       search rules,
       search rules,
       search rules,

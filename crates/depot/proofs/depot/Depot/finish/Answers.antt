@@ -1,4 +1,4 @@
-use Rattle.std.proofs.Common.{rules, ◌≡◌, ◌<◌, ◌+◌, ◌∷◌, ◌++◌, ℕ, List, [], length, set, Option, Some, None, refl, sym, ap, ◌∙◌, subst, arith}
+use Rattle.std.proofs.Common.{rules, ◌≡◌, ◌<◌, ◌+◌, ◌∷◌, ◌++◌, ℕ, List, [], length, Option, refl, sym, ap, ◌∙◌, subst, arith}
 use Rattle.nfs_model.specs.Tree.{Layout}
 use Rattle.affinity.specs.Affinity.{affinity_of}
 use Rattle.affinity.specs.Layout.{layout_of}
@@ -190,7 +190,7 @@ invariant_of-seat g c =
     let done : IsFinished K n e (known c.into_badge.result.views) = finished-known seat.badge.views vs c.stamp_call.new.place.me.0 c.give_home.result.me.0 c.into_badge.result.views n left r stamped.1 e is badge stamped.2 c.give_home.ensures.ended.1 in
     let full = finished-views K n e c.give_home.result.me.0 c.into_badge.result.views badge c.give_home.ensures.ended.0 done in
     let stamped_all : IsGathered (view_of c.stamp_call.new.place.me.0) = subst (λ us. IsGathered (view_of us)) (sym stamped.2)
-        (stamped-gathered (view_of vs) n open_grant.0 left (r ∷ (view_of vs).reads) (((view_of vs).seen ++ stamped.1) ++ e ∷ []) ((view_of vs).mine ++ length ((view_of vs).seen ++ stamped.1) ∷ []) (gathered-in is seat.gathered) open_grant.1) in
+    (stamped-gathered (view_of vs) n open_grant.0 left (r ∷ (view_of vs).reads) (((view_of vs).seen ++ stamped.1) ++ e ∷ []) ((view_of vs).mine ++ length ((view_of vs).seen ++ stamped.1) ∷ []) (gathered-in is seat.gathered) open_grant.1) in
     let tree : IsTree (view_of c.stamp_call.new.place.me.0).tree = subst IsTree (sym (ap (λ us. (view_of us).tree) stamped.2 ∙ still.0)) (parents-tree L c.args.self.now.layout.lawful) in
     record {
       one = (ap length full, ap (λ l. length (own_views l)) full);
