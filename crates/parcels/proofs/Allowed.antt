@@ -4,7 +4,7 @@ use Rattle.std.specs.Prelude.{IfSome}
 use Rattle.std.proofs.lemmas.Bool.{eq-eqb}
 use Rattle.nfs_model.specs.Tree.{Layout, Serial, Aggregate, Volume, Logical, Stripe, Vbn, Range, stripes_of, aggregate_of}
 use Rattle.affinity.specs.Numbers.{number_of}
-use Rattle.parcels.specs.Places.{alone, or_else, in_place, in_places}
+use Rattle.parcels.specs.Places.{or_else, in_place, in_places}
 use Rattle.parcels.specs.Sets.{range_parcels, vbn_parcels, stripe_parcels, logical_parcels, volume_parcels, aggregate_parcels, serial_parcels}
 use Rattle.parcels.specs.declared.family.Parcel.{Parcel}
 use Rattle.parcels.specs.declared.family.Parcel.TheVariants as parcels

@@ -1,12 +1,10 @@
 -- The parcels of a set are those under its node.
-use Rattle.std.proofs.Common.{◌≡◌, ◌≢◌, ℕ, ◌<◌, ◌==◌, true, false, ◌&&◌, List, [], ◌∷◌, ◌++◌, Option, Some, None, length, refl, sym, ◌∙◌, ap, subst, inl}
+use Rattle.std.proofs.Common.{◌≡◌, ◌≢◌, ℕ, ◌<◌, ◌==◌, true, false, ◌&&◌, List, [], ◌∷◌, Option, Some, None, length, refl, sym, ◌∙◌, subst}
 use Rattle.std.proofs.lemmas.Bool.{and_parts, eqb-true}
-use Rattle.nfs_model.specs.Tree.{Layout, Affinity, Serial, Aggregate, Volume, Logical, Stripe, Vbn, Range, stripes_of, aggregate_of, path, begins}
+use Rattle.nfs_model.specs.Tree.{Layout, Affinity, Serial, Aggregate, Volume, Logical, Stripe, Vbn, Range, stripes_of, aggregate_of, begins}
 use Rattle.affinity.specs.Tree.{IsNode, covers}
-use Rattle.affinity.specs.Under.{IsUnder}
 use Rattle.affinity.specs.Numbers.{number_of}
-use Rattle.affinity.proofs.Ways.{begins-self, begins-longer}
-use Rattle.affinity.proofs.Sharing.{covers-cases, covers_from}
+use Rattle.affinity.proofs.Sharing.{covers_from}
 pub use Rattle.parcels.specs.Within.{range-from, stripe-from, vbn-from, logical-from, volume-from, aggregate-from, serial-from}
 use Rattle.parcels.specs.Below.{OnLogical, OnVbn, OnVolume, OnAggregate, OnSerial}
 use Rattle.parcels.specs.Exact.{Under, HasParcel, IsVacant, HasExactly, kind_in}

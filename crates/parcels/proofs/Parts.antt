@@ -1,22 +1,10 @@
 -- Parts of the tree by their numbers.
-use Rattle.std.proofs.Common.{◌≡◌, ◌≢◌, ℕ, zero, suc, ◌+◌, ◌<◌, ◌≤◌, true, ◌==◌, None, length, refl, ap, arith, ◌⊎◌, inl, inr, ⊎_elim}
-use Rattle.std.proofs.lemmas.Bool.{eqb-true}
-use Rattle.nfs_model.specs.Tree.{Layout, Affinity, Serial, Aggregate, Volume, Logical, Stripe, Vbn, Range, stripes_of, aggregate_of}
+use Rattle.std.proofs.Common.{◌≢◌, ℕ, zero, suc, ◌+◌, ◌<◌, ◌≤◌, length, refl, ap, arith, ◌⊎◌, inl, inr, ⊎_elim}
+use Rattle.nfs_model.specs.Tree.{Layout, Affinity, Volume, Logical, Stripe, Vbn, Range, stripes_of}
 use Rattle.affinity.specs.Numbers.{number_of, volume_number}
 use Rattle.affinity.proofs.Places.{volume_number_next}
 pub use Rattle.parcels.specs.Nothing.{range-none, stripe-none, vbn-none, logical-none, volume-none, aggregate-none, serial-none}
-use Rattle.parcels.specs.Places.{alone, or_else, in_places}
-use Rattle.parcels.specs.Below.{OnLogical, OnVbn, OnVolume, OnAggregate, OnSerial}
-use Rattle.parcels.specs.Sets.{range_parcels, vbn_parcels, stripe_parcels, logical_parcels, volume_parcels, aggregate_parcels, serial_parcels}
-use Rattle.parcels.specs.declared.family.Parcel.TheVariants as parcels
-use Rattle.parcels.specs.declared.sets.RangeHeld.{RangeHeld}
-use Rattle.parcels.specs.declared.sets.StripeHeld.{StripeHeld}
-use Rattle.parcels.specs.declared.sets.VbnHeld.{VbnHeld}
-use Rattle.parcels.specs.declared.sets.LogicalHeld.{LogicalHeld}
-use Rattle.parcels.specs.declared.sets.VolumeHeld.{VolumeHeld}
-use Rattle.parcels.specs.declared.sets.AggrHeld.{AggrHeld}
-use Rattle.parcels.specs.declared.sets.SerialHeld.{SerialHeld}
-use Rattle.parcels.proofs.PlaceLemmas.{alone-none, or_else-none, in_places-none}
+use Rattle.parcels.specs.Below.{OnLogical, OnVbn, OnVolume}
 
 -- ---- a fact that goes over to another, at the numbers of a part
 

@@ -1,7 +1,7 @@
 -- What is found in places.
-use Rattle.std.proofs.Common.{◌≡◌, ◌≢◌, ℕ, zero, suc, ◌+◌, ◌<◌, Bool, true, false, List, Option, Some, None, refl, sym, ◌∙◌, ap, subst, arith, slice_get, add-one}
+use Rattle.std.proofs.Common.{◌≡◌, ◌≢◌, ℕ, zero, suc, ◌+◌, ◌<◌, Bool, true, false, List, Option, Some, None, refl, ◌∙◌, ap, arith, slice_get, add-one}
 use Rattle.std.specs.Prelude.{if◌then◌else◌}
-use Rattle.std.proofs.lemmas.Bool.{eq-eqb, ne_eqb}
+use Rattle.std.proofs.lemmas.Bool.{eq-eqb}
 pub use Rattle.parcels.specs.Nothing.{alone-none, or_else-none, place-none, used-none, in_places-none}
 use Rattle.parcels.specs.Places.{alone, or_else, in_place, in_used_place, in_places}
 

@@ -2,7 +2,7 @@
 use Rattle.std.proofs.Common.{◌≡◌, ◌≢◌, ℕ, zero, suc, ◌<◌, Bool, true, false, List, Option, Some, None, length, refl, sym, ap, subst, arith, slice_get, ◌==◌}
 use Rattle.std.specs.Prelude.{if◌then◌else◌}
 use Rattle.std.proofs.lemmas.Bool.{ne_eqb, eqb-true}
-use Rattle.nfs_model.specs.Tree.{Layout, Affinity, Serial, Aggregate, Volume, Logical, Stripe, Vbn, Range, stripes_of, aggregate_of}
+use Rattle.nfs_model.specs.Tree.{Layout, Serial, Aggregate, Volume, Logical, Stripe, Vbn, Range, stripes_of, aggregate_of}
 use Rattle.affinity.specs.Numbers.{number_of}
 use Rattle.parcels.specs.Below.{OnLogical, OnVbn, OnVolume, OnAggregate, OnSerial}
 use Rattle.parcels.specs.Places.{alone, or_else, in_place, in_used_place, in_places}

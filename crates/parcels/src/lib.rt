@@ -12,6 +12,8 @@ mod places;
 mod scatter;
 mod sets;
 mod shelf;
+#[cfg(test)]
+mod tests;
 mod vec_shelf;
 
 pub use family::{Family, Parcel};
