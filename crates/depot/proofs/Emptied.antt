@@ -77,9 +77,9 @@ module _ {P : Type 0} where
       let size = w.size in
       let f = w.filled k pos (omega arith) in
       no-parcel (f.2.0) (some-injective _ _ (sym e ∙ f.1) ∙ f.2.1)
-      where
-        no-parcel : (p : P) → None ≡ Some p → ⊥
-        no-parcel p e = cc
+    where
+      no-parcel : (p : P) → None ≡ Some p → ⊥
+      no-parcel p e = cc
 
   -- each node's parcel is left, of its kind
   pub whole-placed : (kind_of : P → Kind) (layout : Layout) {ps : List ℕ} {first xs : List (Option P)} (filled : List Bool) → ps ≡ parents layout → AreOfKind kind_of layout first
@@ -105,18 +105,19 @@ module _ {P : Type 0} where
   pub nothing-left : (kind_of : P → Kind) (layout : Layout) (filled : List Bool) (items : List (Option P)) (taken after : ℕ → Option P) → length filled ≡ length (parents layout)
       → HasExactly kind_of layout Serial taken → ((k : ℕ) → Moved (left_at filled items k) (taken k) (after k)) → (k : ℕ) → after k ≡ None
   nothing-left kind_of layout filled items taken after size exact moved k = gathered-none (left_at filled items k) (taken k) (after k) (moved k) (before k)
-      where
-        not-taken : (k : ℕ) → 0 < k → k < length (parents layout) → taken k ≡ None → ⊥
-        not-taken k pos lt e =
-            let c = place-node layout k pos lt in
-            let t = exact.each c.0 (under-serial layout c.0 c.1) in
-            some-no (t.0) (sym e ∙ (ap taken (sym c.2) ∙ t.1))
-            where
-              some-no : (p : P) → None ≡ Some p → ⊥
-              some-no p e = cc
-        before : (k : ℕ) → taken k ≡ None → left_at filled items k ≡ None
-        before zero e = refl
-        before (suc k) e = ⊎_elim
-            (λ (lt : suc k < length filled). absurd (not-taken (suc k) (omega arith) (omega arith) e))
-            (λ (le : length filled ≤ suc k). past-none filled items (suc k) le)
-            (cases_lt (suc k) (length filled))
+    where
+      not-taken : (k : ℕ) → 0 < k → k < length (parents layout) → taken k ≡ None → ⊥
+      not-taken k pos lt e =
+          let c = place-node layout k pos lt in
+          let t = exact.each c.0 (under-serial layout c.0 c.1) in
+          some-no (t.0) (sym e ∙ (ap taken (sym c.2) ∙ t.1))
+        where
+          some-no : (p : P) → None ≡ Some p → ⊥
+          some-no p e = cc
+
+      before : (k : ℕ) → taken k ≡ None → left_at filled items k ≡ None
+      before zero e = refl
+      before (suc k) e = ⊎_elim
+          (λ (lt : suc k < length filled). absurd (not-taken (suc k) (omega arith) (omega arith) e))
+          (λ (le : length filled ≤ suc k). past-none filled items (suc k) le)
+          (cases_lt (suc k) (length filled))

@@ -82,9 +82,9 @@ module _ {P : Type 0} where
 
   not-both : (p : P) {y : Option P} → y ≡ None → y ≡ Some p → ⊥
   not-both p none some = no (sym none ∙ some)
-      where
-        no : None ≡ Some p → ⊥
-        no e = cc
+    where
+      no : None ≡ Some p → ⊥
+      no e = cc
 
   -- ---- the parcels of a whole tree
 
@@ -110,10 +110,10 @@ module _ {P : Type 0} where
   are-of-kind kind layout f first exact are node parcel m e =
       let t = exact.each node (under-serial layout node m) in
       same-kind parcel t.0 (f (number_of layout node)) (sym (are (number_of layout node)) ∙ e) t.1 ∙ t.2
-      where
-        same-kind : (p q : P) (y : Option P) → y ≡ Some p → y ≡ Some q → kind p ≡ kind q
-        same-kind p q None ep eq = cc
-        same-kind p q (Some r) ep eq = cc
+    where
+      same-kind : (p q : P) (y : Option P) → y ≡ Some p → y ≡ Some q → kind p ≡ kind q
+      same-kind p q None ep eq = cc
+      same-kind p q (Some r) ep eq = cc
 
   pub still-placed : (kind : P → Kind) (layout : Layout) (f at : ℕ → Option P) → HasExactly kind layout Serial f → ((k : ℕ) → at k ≡ f k) → Under layout Serial (IsPlaced kind layout at)
   still-placed kind layout f at exact are node under = let t = exact.each node under in (t.0, are (number_of layout node) ∙ t.1, t.2)
@@ -126,13 +126,13 @@ module _ {P : Type 0} where
   pub back-so : (kind : P → Kind) (layout : Layout) (f at back after : ℕ → Option P) → HasExactly kind layout Serial f → HasExactly kind layout Serial back → ((k : ℕ) → at k ≡ f k) → ((k : ℕ) → Moved (at k) (back k) (after k))
       → (k : ℕ) → back k ≡ f k
   back-so kind layout f at back after exact again are moved k = taken-at (at k) (back k) (after k) (moved k) (λ e. are k ∙ none k e) ∙ are k
-      where
-        none : (k : ℕ) → back k ≡ None → f k ≡ None
-        none zero e = none-at-zero kind layout f exact
-        none (suc k) e = ⊎_elim
-            (λ (lt : suc k < length (parents layout)). let s = some-at kind layout back again (suc k) (omega arith) lt in absurd (not-both s.0 e s.1))
-            (λ (le : length (parents layout) ≤ suc k). past-nodes kind layout f exact (suc k) le)
-            (cases_lt (suc k) (length (parents layout)))
+    where
+      none : (k : ℕ) → back k ≡ None → f k ≡ None
+      none zero e = none-at-zero kind layout f exact
+      none (suc k) e = ⊎_elim
+          (λ (lt : suc k < length (parents layout)). let s = some-at kind layout back again (suc k) (omega arith) lt in absurd (not-both s.0 e s.1))
+          (λ (le : length (parents layout) ≤ suc k). past-nodes kind layout f exact (suc k) le)
+          (cases_lt (suc k) (length (parents layout)))
 
 -- ---- the first seat
 

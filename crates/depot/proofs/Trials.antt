@@ -1,15 +1,24 @@
 -- What the tests' calls rest on.
-use Rattle.std.proofs.Common.{◌≡◌, ℕ, zero, suc, ◌==◌, Bool, true, false, cond, List, [], ◌∷◌, ◌++◌, set, sym, refl, ap, ◌∙◌, subst, Option, Some, None}
+use Rattle.std.proofs.Common.{◌≡◌, ◌≢◌, ℕ, zero, suc, ◌+◌, ◌<◌, ◌≤◌, ◌==◌, Bool, true, false, cond, List, [], ◌∷◌, ◌++◌, length, set, get_or, sym, refl, ap, ◌∙◌, subst, arith, Option, Some, None}
+use Rattle.std.proofs.Math.Arith.{lt_of_le-ne}
+use Rattle.std.proofs.lemmas.List.{get_or-set_same, get_or-set_other}
+use mathlib.Core.Logic.{dite}
+use native.Mathlib.Decide.{ℕ_discrete}
 use mathlib.Core.Option.{some, some-ne-none}
 use lib.ListN.{get_elem?}
-use Rattle.nfs_model.specs.Tree.{Layout, Affinity}
+use Rattle.nfs_model.specs.Tree.{Layout, Affinity, Serial}
 use Rattle.affinity.specs.declared.affinity.Kind.{Kind}
-use Rattle.parcels.specs.Exact.{kind_in, HasExactly}
+use Rattle.affinity.specs.Affinity.{kind_of}
+use Rattle.affinity.specs.Tree.{IsNode}
+use Rattle.affinity.specs.Under.{IsUnder}
+use Rattle.affinity.proofs.Places.{number_positive, number_within}
+use Rattle.affinity.proofs.Numbered.{own_number}
+use Rattle.parcels.specs.Exact.{kind_in, HasExactly, IsPlaced}
 use Rattle.parcels.specs.Places.{alone}
 use Rattle.parcels.specs.Sets.{stripe_parcels}
 use Rattle.parcels.specs.declared.sets.StripeHeld.{StripeHeld}
 use Rattle.parcels.specs.declared.family.Parcel.TheVariants.{Stripe}
-use Rattle.affinity.specs.Numbers.{number_of}
+use Rattle.affinity.specs.Numbers.{number_of, node_count}
 use Rattle.depot_rule.specs.declared.view.View.{View}
 use Rattle.depot_rule.specs.Shares.{Has}
 use Rattle.depot.specs.Grants.{ListsAs, HasWith, IsBegun}
@@ -47,3 +56,24 @@ module _ {T : Type 0} (kind : T → Kind) where
 pub stripe-changed : {P R B S L V A X : Type 0} (layout : Layout) (a : Affinity) (held held' : StripeHeld P R B S L V A X) → HasExactly kind_in layout a (stripe_parcels layout a held) → HasExactly kind_in layout a (stripe_parcels layout a held')
 unfolding stripe_parcels
 stripe-changed layout a held held' exact = alone-swap kind_in layout a (number_of layout a) (Stripe held.own) (Stripe held'.own) refl exact
+
+-- ---- parcels laid out node by node
+
+module _ {T : Type 0} (kind : T → Kind) (layout : Layout) where
+  -- the nodes of numbers below n have their parcels
+  abbrev pub LaidBelow : ℕ → List (Option T) → Type 0
+  LaidBelow n xs = (a : Affinity) → IsNode layout a → number_of layout a < n → IsPlaced kind layout (λ k. get_or xs k None) a
+
+  pub none-below : (xs : List (Option T)) → LaidBelow 1 xs
+  none-below xs a m lt = let pos = number_positive layout a in absurd (omega arith)
+
+  pub laid-more : (xs : List (Option T)) (n : ℕ) (p : T) (b : Affinity) → IsNode layout b → number_of layout b ≡ n → kind p ≡ kind_of b → n < length xs → LaidBelow n xs → LaidBelow (n + 1) (set xs n (Some p))
+  laid-more xs n p b mb is same lt before a m below =
+      dite (ℕ_discrete (number_of layout a) n)
+      (λ e.
+      let ab : b ≡ a = own_number layout b a mb m (is ∙ sym e) in
+      (p, ap (λ (k : ℕ). get_or (set xs n (Some p)) k None) e ∙ get_or-set_same xs n (Some p) None lt, same ∙ ap kind_of ab))
+      (λ ne. let q = before a m (lt_of_le-ne (let l : number_of layout a ≤ n = omega arith in l) ne) in (q.0, get_or-set_other xs n (number_of layout a) (Some p) None ne ∙ q.1, q.2))
+
+  pub laid-all : (xs : List (Option T)) (n : ℕ) → node_count layout < n → LaidBelow n xs → (node : Affinity) → IsUnder layout Serial node → IsPlaced kind layout (λ k. get_or xs k None) node
+  laid-all xs n many laid node under = let within = number_within layout node under.0 in laid node under.0 (omega arith)

@@ -49,9 +49,5 @@ pub fn all_zero(alloc: Global, layout: &Layout) -> Result<SerialHeld<Numbers>, A
         let kind = layout.affinity_at(number).kind();
         shelf.parcels[number] = Some(Numbers::parcel(kind, 0));
     }
-    Ok(<SerialNode as Node<Parcel<Numbers>>>::gather(
-        &mut shelf,
-        layout,
-        Affinity::Serial,
-    ))
+    Ok(<SerialNode as Node<Parcel<Numbers>>>::gather(&mut shelf, layout, Affinity::Serial))
 }

@@ -7,9 +7,9 @@ ghost use Rattle.affinity.specs.Layout.{layout_of};
 ghost use Rattle.affinity.specs.Numbers as numbers;
 ghost use Rattle.depot_rule.specs.Tree.{IsTree};
 
+use crate::closed::ClosedTable;
 use crate::seats::{Seat, join_seat, meet, split_seat};
 use crate::table::{DepotRule, Key, Opening, Place, ViewsOf};
-use crate::closed::ClosedTable;
 use affinity::{Affinity, Layout};
 use atomic_table::Table;
 use depot_rule::machine::Machine;

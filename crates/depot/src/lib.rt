@@ -17,7 +17,6 @@ pub mod slots;
 pub mod stamps;
 pub mod steps;
 pub mod table;
-
 #[cfg(test)]
 mod tests;
 #[cfg(test)]

@@ -15,14 +15,20 @@ fn stripe(volume: u32, stripe: u32) -> Affinity {
 fn beside_a_stripe(rt: HostRuntime) -> Result<(), Fail> {
     let (depot, seat) = open(rt.alloc())?;
     let (mut one, mut other) = split(&depot, seat)?;
-    assert_eq!(rt; claim::<StripeNode>(&depot, &mut one, stripe(0, 2)), Found::Granted);
+    assert_eq!(rt;
+        claim::<StripeNode>(&depot, &mut one, stripe(0, 2)),
+        Found::Granted
+    );
     let volume = claim::<VolumeNode>(&depot, &mut other, Affinity::Volume(0));
     assert_eq!(rt; volume, Found::Busy(Affinity::Volume(0)));
     let serial = claim::<SerialNode>(&depot, &mut other, Affinity::Serial);
     assert_eq!(rt; serial, Found::Busy(Affinity::Serial));
     let same = claim::<StripeNode>(&depot, &mut other, stripe(0, 2));
     assert_eq!(rt; same, Found::Busy(stripe(0, 2)));
-    assert_eq!(rt; claim::<StripeNode>(&depot, &mut other, stripe(0, 3)), Found::Granted);
+    assert_eq!(rt;
+        claim::<StripeNode>(&depot, &mut other, stripe(0, 3)),
+        Found::Granted
+    );
     let logical = claim::<LogicalNode>(&depot, &mut other, Affinity::VolumeLogical(1));
     assert_eq!(rt; logical, Found::Granted);
     let range = Affinity::Range {
@@ -38,7 +44,10 @@ fn below_a_grant(rt: HostRuntime) -> Result<(), Fail> {
     let (depot, seat) = open(rt.alloc())?;
     let (mut one, mut other) = split(&depot, seat)?;
     let logical = Affinity::VolumeLogical(0);
-    assert_eq!(rt; claim::<LogicalNode>(&depot, &mut one, logical), Found::Granted);
+    assert_eq!(rt;
+        claim::<LogicalNode>(&depot, &mut one, logical),
+        Found::Granted
+    );
     for number in 0..8 {
         let below = claim::<StripeNode>(&depot, &mut other, stripe(0, number));
         assert_eq!(rt; below, Found::Busy(logical));

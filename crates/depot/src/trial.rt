@@ -93,10 +93,12 @@ where
         return Found::Other;
     }
     match depot.begin::<N>(seat, affinity) {
-        Ok(Grant {
-            affinity: _,
-            held: _held,
-        }) => Found::Granted,
+        Ok(
+            Grant {
+                affinity: _,
+                held: _held,
+            },
+        ) => Found::Granted,
         Err(Refusal::Busy { node, word: _ }) => Found::Busy(node),
         Err(Refusal::Worn) => Found::Other,
     }

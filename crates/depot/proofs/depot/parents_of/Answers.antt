@@ -9,10 +9,10 @@ use Rattle.depot.proofs.depot.parents_of.Goals as goal
 
 first-entry : (n : ℕ) (xs : List ℕ) → xs ≡ replicate {A = ℕ} n 0 → (k : ℕ) → k < 1 → slice_index xs k ≡ 0
 first-entry n xs is zero h = ap (λ (l : List ℕ). slice_index l 0) is ∙ at n
-    where
-      at : (n : ℕ) → slice_index (replicate {A = ℕ} n 0) 0 ≡ 0
-      at zero = refl
-      at (suc n) = refl
+  where
+    at : (n : ℕ) → slice_index (replicate {A = ℕ} n 0) 0 ≡ 0
+    at zero = refl
+    at (suc n) = refl
 first-entry n xs is (suc k) h = absurd (omega arith)
 
 one-more : (ps xs : List ℕ) (i p : ℕ) → i < length xs → p ≡ slice_index ps i → ((k : ℕ) → k < i → slice_index xs k ≡ slice_index ps k) → (k : ℕ) → k < i + 1 → slice_index (set xs i p) k ≡ slice_index ps k
@@ -26,10 +26,10 @@ loop-number-init c =
     let many : length c.in_ok-parents.parents.items ≡ n = ap length items ∙ length-replicate n 0 in
     let counted : c.node_count.result ≡ numbers.node_count (layout_of c.args.layout.now) = c.node_count.ensures.count in
     (omega arith, omega arith, λ k h. first-entry n c.in_ok-parents.parents.items items k h ∙ first-there k h)
-    where
-      first-there : (k : ℕ) → k < 1 → 0 ≡ slice_index (numbers.parents (layout_of c.args.layout.now)) k
-      first-there zero h = refl
-      first-there (suc k) h = absurd (omega arith)
+  where
+    first-there : (k : ℕ) → k < 1 → 0 ≡ slice_index (numbers.parents (layout_of c.args.layout.now)) k
+    first-there zero h = refl
+    first-there (suc k) h = absurd (omega arith)
 
 -- src/depot.rt:42:5
 pub loop-number-preserved : goal.loop-number-preserved
