@@ -1,24 +1,16 @@
 -- The parcels of a new depot, laid out by the numbers of their nodes.
-use Rattle.std.proofs.Common.{◌≡◌, ◌≢◌, ℕ, zero, suc, ◌+◌, ◌<◌, ◌≤◌, List, [], ◌∷◌, ◌++◌, length, replicate, get_or, sym, refl, ap, ◌∙◌, subst, arith, Option, Some, None, IfSome, inl, inr, ⊎_elim, ◌⊎◌}
-use Rattle.std.proofs.lemmas.List.{ext_get_or, length-replicate, get_or_past}
+use Rattle.std.proofs.Common.{◌≡◌, ℕ, zero, suc, ◌+◌, ◌<◌, ◌≤◌, List, [], ◌∷◌, ◌++◌, length, replicate, get_or, sym, refl, ap, ◌∙◌, arith, Option, Some, None, IfSome, ⊎_elim}
+use Rattle.std.proofs.lemmas.List.{ext_get_or, length-replicate}
 use Rattle.std.proofs.lemmas.Bool.{cases_lt}
-use Rattle.nfs_model.specs.Tree.{Layout, Affinity, Serial}
+use Rattle.nfs_model.specs.Tree.{Layout, Serial}
 use Rattle.affinity.specs.declared.affinity.Kind.{Kind}
-use Rattle.affinity.specs.Affinity.{kind_of}
-use Rattle.affinity.specs.Numbers.{number_of, node_count, parents}
-use Rattle.affinity.specs.Tree.{IsNode}
-use Rattle.affinity.specs.Under.{IsUnder}
-use Rattle.affinity.proofs.Smaller.{length-parents}
+use Rattle.affinity.specs.Numbers.{number_of, parents}
 use Rattle.parcels.specs.Exact.{Under, HasExactly, IsPlaced}
 use Rattle.parcels.specs.Moved.{Moved}
 use Rattle.depot_rule.specs.declared.view.View.{View}
-use Rattle.depot_rule.specs.Sums.{tally}
-use Rattle.depot_rule.specs.Tree.{Covers}
-use Rattle.depot_rule.specs.Shares.{Has, opening_view}
-use Rattle.depot_rule.proofs.Joining.{none-held}
-use Rattle.depot.specs.Grants.{by_number, IsSeatOf}
+use Rattle.depot_rule.specs.Shares.{opening_view}
+use Rattle.depot.specs.Grants.{by_number}
 use Rattle.depot.specs.Kinds.{AreOfKind}
-use Rattle.depot.specs.Calls.{own_views, known}
 use Rattle.depot.proofs.Layouts.{place-node, under-place}
 use Rattle.depot.proofs.Emptied.{under-serial}
 

@@ -1,26 +1,17 @@
 -- A machine whose calls add to the number of their node.
-use Rattle.std.specs.Prelude.{◌≡◌, ◌≢◌, ◌⊎◌, ℕ, ◌+◌, ◌<◌, ◌==◌, ◌||◌, nat_lt, Bool, true, false, List, Option, Some}
+use Rattle.std.specs.Prelude.{◌≡◌, ◌≢◌, ◌⊎◌, ℕ, ◌+◌, ◌==◌, ◌||◌, nat_lt, Bool, true, false, List, Option, Some}
 use Rattle.std.proofs.Common.{refl, sym, ap, ◌∙◌, inl, inr, ⊎_elim}
 use Rattle.std.proofs.lemmas.Bool.{eqb-true, eq-eqb, ltb-true}
 use Rattle.parcels.specs.declared.family.Parcel.{Parcel}
-use Rattle.parcels.specs.declared.family.Parcel.TheVariants.{Range, Vbn, Stripe, Logical, Volume, Aggregate, Serial}
 use Rattle.parcels.specs.Exact.{kind_in}
+use Rattle.parcels.specs.NumberIn.{number_in}
 use Rattle.depot_rule.specs.Sums.{tally}
 use Rattle.depot_rule.specs.Tree.{ancestors, Covers}
-use Rattle.depot_rule.specs.History.{covers, patched}
+use Rattle.depot_rule.specs.History.{covers}
 use Rattle.depot_rule.specs.Seats.{if_less}
 use Rattle.depot_rule.specs.Machine.{IsLocal}
 
 module _ {P : Type 0} where
-  abbrev pub number_in : Parcel P ℕ ℕ ℕ ℕ ℕ ℕ ℕ → ℕ
-  number_in (Range n) = n
-  number_in (Vbn n) = n
-  number_in (Stripe n) = n
-  number_in (Logical n) = n
-  number_in (Volume n) = n
-  number_in (Aggregate n) = n
-  number_in (Serial n) = n
-
   -- the number of the call's node becomes the reply, the sum of what it was and what the call adds; all others stay
   abbrev pub Adds : List ℕ → ℕ → ℕ → (ℕ → Option (Parcel P ℕ ℕ ℕ ℕ ℕ ℕ ℕ)) → ℕ → (ℕ → Option (Parcel P ℕ ℕ ℕ ℕ ℕ ℕ ℕ)) → Type 0
   Adds parents a n f sum f' = ((p q : _) × (f a ≡ Some p) × (f' a ≡ Some q) × (kind_in q ≡ kind_in p) × (number_in q ≡ sum) × (number_in p + n ≡ sum))

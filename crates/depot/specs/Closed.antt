@@ -1,5 +1,5 @@
 -- What is left in the slots of a table that ended.
-use Rattle.std.specs.Prelude.{ℕ, zero, suc, Bool, true, false, List, Option, Some, None, slice_index_or}
+use Rattle.std.specs.Prelude.{ℕ, zero, suc, Bool, true, false, List, Option, None, slice_index_or}
 use mathlib.Core.Option as maybe
 use lib.ListN.{get_elem?}
 

@@ -1,6 +1,6 @@
 //! Grants of a depot: what excludes what, how many seats there are, and what one call leaves to the next.
 
-use crate::trial::{Found, add, claim, holds_beside, look, open, split, splits};
+use crate::trial::{Found, add, claim, holds_beside, look, open, split, splits, tell};
 use affinity::Affinity;
 use parcels::{LogicalNode, RangeNode, SerialNode, StripeNode, VbnNode, VolumeNode};
 use std::sync::atomic::AtomicBool;
@@ -70,7 +70,7 @@ fn effects(rt: HostRuntime) -> Result<(), Fail> {
     let (mut one, mut other) = split(&depot, seat)?;
     assert_eq!(rt; look(&depot, &mut one, stripe(0, 2)), Some(0));
     assert_eq!(rt; add(&depot, &mut one, stripe(0, 2), 7), Some(7));
-    depot.meet(&mut one, &mut other);
+    tell(&depot, &mut one, &mut other);
     assert_eq!(rt; look(&depot, &mut other, stripe(0, 2)), Some(7));
     assert_eq!(rt; look(&depot, &mut other, stripe(0, 3)), Some(0));
     Ok(())

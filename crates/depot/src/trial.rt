@@ -62,6 +62,16 @@ pub fn split(
     }
 }
 
+/// Two seats tell each other what they have seen.
+pub fn tell(depot: &Depot<Adding>, one: &mut Seat<Adding>, other: &mut Seat<Adding>)
+    requires one { (one.old.badge.table_id ≡ depot.now.table.shared.table_id) × IsSeatOf kind_in (layout_of depot.now.layout) (known one.old.badge.views) }
+    requires other { (other.old.badge.table_id ≡ depot.now.table.shared.table_id) × IsSeatOf kind_in (layout_of depot.now.layout) (known other.old.badge.views) }
+    ensures one { (one.new.badge.table_id ≡ depot.now.table.shared.table_id) × IsSeatOf kind_in (layout_of depot.now.layout) (known one.new.badge.views) }
+    ensures other { (other.new.badge.table_id ≡ depot.now.table.shared.table_id) × IsSeatOf kind_in (layout_of depot.now.layout) (known other.new.badge.views) }
+{
+    depot.meet(one, other);
+}
+
 /// How many seats can be split off, up to so many.
 pub fn splits(depot: &Depot<Adding>, mut seat: Seat<Adding>, most: usize) -> usize
     requires seat { seat.badge.table_id ≡ depot.now.table.shared.table_id }

@@ -1,4 +1,4 @@
-use Rattle.std.proofs.Common.{arith, rules, ◌≡◌, ◌+◌, ◌<◌, length, set, ap, ◌∙◌, None, Some, refl}
+use Rattle.std.proofs.Common.{arith, ◌≡◌, ◌+◌, length, ap, ◌∙◌, None, Some, refl}
 use Rattle.std.proofs.lemmas.List.{length-replicate, length-set}
 use Rattle.affinity.specs.Affinity.{affinity_of}
 use Rattle.affinity.specs.Layout.{layout_of}

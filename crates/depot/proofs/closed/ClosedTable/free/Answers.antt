@@ -1,4 +1,4 @@
-use Rattle.std.proofs.Common.{◌≡◌, ◌<◌, ℕ, false, get_or, length, sym, ap, ◌∙◌, subst, arith, List, Bool}
+use Rattle.std.proofs.Common.{◌≡◌, ◌<◌, ℕ, false, get_or, length, ap, ◌∙◌, arith, List, Bool}
 use Rattle.std.specs.Mem.Slots.{slots_items, slots_filled, slots_len}
 use Rattle.depot.proofs.Emptied.{none-left, all-empty}
 use Rattle.depot.proofs.closed.ClosedTable.free.Goals as goal

@@ -1,4 +1,4 @@
-use Rattle.std.proofs.Common.{arith, rules, ◌≡◌, ◌≢◌, ℕ, ◌+◌, ◌<◌, ◌≤◌, [], ◌∷◌, List, Option, None, Some, length, replicate, get_or, sym, refl, ap, ◌∙◌, subst}
+use Rattle.std.proofs.Common.{arith, ◌≡◌, ℕ, ◌+◌, [], ◌∷◌, List, Option, None, length, get_or, sym, refl, ap, ◌∙◌, subst}
 use Rattle.std.proofs.lemmas.List.{length-replicate}
 use Rattle.nfs_model.specs.Tree.{Serial}
 use Rattle.affinity.specs.Layout.{layout_of}
@@ -12,7 +12,7 @@ use Rattle.depot.specs.Calls.{own_views, known}
 use Rattle.depot.specs.Grants.{by_number, IsSeatOf}
 use Rattle.depot.proofs.Layouts.{parents-tree, parents-few}
 use Rattle.depot.proofs.Opened.{opened-so}
-use Rattle.depot.proofs.Laid.{nothing-at, length-by_number, by_number-at, given-all, given-so, past-nodes, some-at, room-for, are-of-kind, still-placed, back-so, opened-view}
+use Rattle.depot.proofs.Laid.{nothing-at, given-all, given-so, some-at, room-for, are-of-kind, still-placed, back-so, opened-view}
 use Rattle.depot.proofs.depot.Depot.new.Goals as goal
 
 pub scatter-requires-clause-vacant : goal.scatter-requires-clause-vacant
