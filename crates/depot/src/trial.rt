@@ -132,8 +132,9 @@ pub fn add(
     }
     match depot.begin::<StripeNode>(seat, affinity) {
         Ok(mut grant) => {
-            let sum = grant.held.own.wrapping_add(number);
-            grant.held.own = sum;
+            let held = grant.held();
+            held.own = held.own.wrapping_add(number);
+            let sum = held.own;
             depot.finish(seat, grant, &number, &sum);
             Some(sum)
         }

@@ -19,5 +19,5 @@ finish-requires-clause-open c =
 
 pub finish-requires-clause-exact : goal.finish-requires-clause-exact
 finish-requires-clause-exact c =
-    stripe-changed (layout_of c.args.depot.now.layout) (affinity_of c.in-Ok.grant.affinity) c.in-Ok.grant.held (record { own = (c.in-Ok.grant.held.own + c.args.number) % 18446744073709551616 })
+    stripe-changed (layout_of c.args.depot.now.layout) (affinity_of c.in-Ok.grant.affinity) c.in-Ok.grant.held _
     (subst (λ a. HasExactly kind_in (layout_of c.args.depot.now.layout) (affinity_of a) (stripe_parcels (layout_of c.args.depot.now.layout) (affinity_of a) c.in-Ok.grant.held)) (sym c.in-Ok.ensures.exact.0) c.in-Ok.ensures.exact.1)
