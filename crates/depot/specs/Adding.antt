@@ -1,5 +1,5 @@
 -- A machine whose calls add to the number of their node.
-use Rattle.std.specs.Prelude.{◌≡◌, ◌≢◌, ◌⊎◌, ℕ, ◌+◌, ◌==◌, ◌||◌, nat_lt, Bool, true, false, List, Option, Some}
+use Rattle.std.specs.Prelude.{◌≡◌, ◌≢◌, ◌⊎◌, ℕ, ◌+◌, ◌%◌, ◌==◌, ◌||◌, nat_lt, Bool, true, false, List, Option, Some}
 use Rattle.std.proofs.Common.{refl, sym, ap, ◌∙◌, inl, inr, ⊎_elim}
 use Rattle.std.proofs.lemmas.Bool.{eqb-true, eq-eqb, ltb-true}
 use Rattle.parcels.specs.declared.family.Parcel.{Parcel}
@@ -12,9 +12,9 @@ use Rattle.depot_rule.specs.Seats.{if_less}
 use Rattle.depot_rule.specs.Machine.{IsLocal}
 
 module _ {P : Type 0} where
-  -- the number of the call's node becomes the reply, the sum of what it was and what the call adds; all others stay
+  -- the number of the call's node becomes the reply, the sum of what it was and what the call adds modulo 2^64; all others stay
   abbrev pub Adds : List ℕ → ℕ → ℕ → (ℕ → Option (Parcel P ℕ ℕ ℕ ℕ ℕ ℕ ℕ)) → ℕ → (ℕ → Option (Parcel P ℕ ℕ ℕ ℕ ℕ ℕ ℕ)) → Type 0
-  Adds parents a n f sum f' = ((p q : _) × (f a ≡ Some p) × (f' a ≡ Some q) × (kind_in q ≡ kind_in p) × (number_in q ≡ sum) × (number_in p + n ≡ sum))
+  Adds parents a n f sum f' = ((p q : _) × (f a ≡ Some p) × (f' a ≡ Some q) × (kind_in q ≡ kind_in p) × (number_in q ≡ sum) × ((number_in p + n) % 18446744073709551616 ≡ sum))
       × ((k : ℕ) → k ≢ a → f' k ≡ f k)
 
 either-true : (b c : Bool) → b || c ≡ true → (b ≡ true) ⊎ (c ≡ true)
