@@ -5,6 +5,7 @@ use Rattle.std.proofs.lemmas.Bool.{false≢true, cases_lt}
 use mathlib.Core.Option as maybe
 use mathlib.Core.Option.{some, some-injective, some-ne-none}
 use lib.ListN.{get_elem?}
+use Rattle.atomic_table.proofs.Lists.{at_set, set_here, set_else}
 use Rattle.nfs_model.specs.Tree.{Layout, Affinity, Serial, Aggregate, Volume, Logical, Stripe, Vbn, Range}
 use Rattle.affinity.specs.declared.affinity.Kind.{Kind}
 use Rattle.affinity.specs.Numbers.{number_of, parents}
@@ -121,3 +122,35 @@ module _ {P : Type 0} where
           (λ (lt : suc k < length filled). absurd (not-taken (suc k) (omega arith) (omega arith) e))
           (λ (le : length filled ≤ suc k). past-none filled items (suc k) le)
           (cases_lt (suc k) (length filled))
+
+-- ---- a parcel that comes back to its slot
+
+other-flag : (filled : List Bool) (n k : ℕ) → k ≢ n → get_or (set filled n true) k false ≡ get_or filled k false
+other-flag [] n k ne = refl
+other-flag (b ∷ filled) zero zero ne = absurd (ne refl)
+other-flag (b ∷ filled) zero (suc k) ne = refl
+other-flag (b ∷ filled) (suc n) zero ne = refl
+other-flag (b ∷ filled) (suc n) (suc k) ne = other-flag filled n k (λ e. ne (ap suc e))
+
+own-flag : (filled : List Bool) (n : ℕ) → n < length filled → get_or (set filled n true) n false ≡ true
+own-flag [] n lt = absurd (omega arith)
+own-flag (b ∷ filled) zero lt = refl
+own-flag (b ∷ filled) (suc n) lt = own-flag filled n (omega arith)
+
+pub put-root : (filled : List Bool) (n : ℕ) → 0 < n → get_or filled 0 false ≡ true → get_or (set filled n true) 0 false ≡ true
+put-root filled n pos e = other-flag filled n 0 (λ z. omega arith) ∙ e
+
+module _ {T : Type 0} where
+  pub put-there : (filled : List Bool) (items : List (Option T)) (n : ℕ) (p : T) → 0 < n → n < length filled → n < length items → left_at (set filled n true) (set items n (Some p)) n ≡ Some p
+  put-there filled items zero p pos lt li = absurd (omega arith)
+  put-there filled items (suc n) p pos lt li = ap (λ (x : Bool × maybe.Option (Option T)). if_filled x.0 (value_of x.1)) (λ i. (own-flag filled (suc n) lt i, set_here items (suc n) (Some p) li i))
+
+  pub put-others : (filled : List Bool) (items : List (Option T)) (n : ℕ) (p : T) (k : ℕ) → k ≢ n → left_at (set filled n true) (set items n (Some p)) k ≡ left_at filled items k
+  put-others filled items n p zero ne = refl
+  put-others filled items n p (suc k) ne = ap (λ (x : Bool × maybe.Option (Option T)). if_filled x.0 (value_of x.1)) (λ i. (other-flag filled n (suc k) ne i, set_else items n (suc k) (Some p) ne i))
+
+  pub put-parcels : (items : List (Option T)) (n : ℕ) (p : T) (k : ℕ) → get_elem? items k ≢ some None → get_elem? (set items n (Some p)) k ≢ some None
+  put-parcels items n p k there e = ⊎_elim
+      (λ (q : (k ≡ n) × (Some p ≡ None)). let bad : Some p ≡ None = q.1 in cc)
+      (λ (q : (k ≢ n) × (get_elem? items k ≡ some None)). there q.1)
+      (at_set items n k (Some p) None e)

@@ -18,7 +18,7 @@ use Rattle.depot.specs.Calls.{IsAmong, IsRead, Refuses, IsExcluded}
 use Rattle.depot.specs.declared.grants.Refusal.{Refusal}
 use Rattle.depot.specs.declared.grants.Refusal.TheVariants.{Busy, Worn}
 
--- from this many entries on no call begins
+-- a ticket at which a call doesn't begin: 2^62
 abbrev pub worn : ℕ
 worn = 4611686018427387904
 
@@ -32,7 +32,7 @@ abbrev pub entry_of : {P C R : Type 0} → Layout → Affinity → (ℕ → Opti
 entry_of layout a f call reply = record { node = number_of layout a; call = call; reply = reply; left = by_number f (1 + node_count layout) }
 
 module _ {P E : Type 0} where
-  -- the seat is of a depot of this layout, whose parcels at the start were of their nodes' kinds
+  -- what is known of a seat of a depot of this layout: it has the layout's tree, and the parcels at the start were of their nodes' kinds
   abbrev pub IsSeatOf : (P → Kind) → Layout → View P E → Type 0
   IsSeatOf kind layout v = (v.tree ≡ parents layout) × AreOfKind kind layout v.first
 

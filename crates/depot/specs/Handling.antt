@@ -1,4 +1,4 @@
--- What holds of takings and givings: the laws of a shelf whose parcels are a grant's.
+-- Lemmas alone, which no reader has to believe. What holds of takings and givings: the laws of a shelf whose parcels are a grant's.
 use Rattle.std.proofs.Common.{◌≡◌, ℕ, List, [], ◌∷◌, ◌++◌, length, sym, refl, ap, ◌∙◌, subst, arith, append_assoc}
 use Rattle.depot_rule.specs.declared.view.View.{View}
 use Rattle.depot_rule.specs.Seats.{view_of}

@@ -19,11 +19,11 @@ pub struct ClosedTable<T> {
 }
 
 impl<T: Drop> Shelf<T> for ClosedTable<T> {
-    ghost use Rattle.std.proofs.Common.{refl, ◌∙◌};
+    ghost use Rattle.std.proofs.Common.{refl, sym, ◌∙◌, subst};
 
     ghost at = { λ closed. left_at (slots_filled closed.table.slots) (slots_items closed.table.slots) };
 
-    ghost allows = { λ closed k p. ⊥ };
+    ghost allows = { λ closed node parcel. (0 < node) × (node < slots_len closed.table.slots) };
 
     ghost keeps = { λ old new. slots_len new.table.slots ≡ slots_len old.table.slots };
 
@@ -31,7 +31,7 @@ impl<T: Drop> Shelf<T> for ClosedTable<T> {
 
     ghost keeps_on = { λ s t u on more. more ∙ on };
 
-    ghost keeps_allowing = { λ s t node parcel same no. no };
+    ghost keeps_allowing = { λ s t node parcel same within. (within.0, subst (λ n. node < n) (sym same) within.1) };
 
     fn take(&mut self, node: usize) -> T {
         match self.table.take(node) {
@@ -41,8 +41,7 @@ impl<T: Drop> Shelf<T> for ClosedTable<T> {
     }
 
     fn put(&mut self, node: usize, parcel: T) {
-        let _ = (node, parcel);
-        unreachable!()
+        self.table.slots.put(node, Some(parcel));
     }
 }
 

@@ -109,9 +109,16 @@ impl<M: Machine> Depot<M> {
         }
     }
 
+    /// The layout that the depot was made of.
+    pub fn layout(&self) -> &Layout
+        ensures { result.now ≡ self.now.layout }
+    {
+        &self.layout
+    }
+
     /// Splits a second seat off, which has seen the same and has nothing open. A seat with no split left comes back.
     pub fn split_seat(&self, seat: Seat<M>) -> Result<(Seat<M>, Seat<M>), Seat<M>>
-        requires table { (seat.badge.table_id ≡ self.now.table.shared.table_id) × (0 < length self.now.parents.items) }
+        requires table { (seat.badge.table_id ≡ self.now.table.shared.table_id) }
         ensures table { IfOk result (λ two. (two.0.badge.table_id ≡ seat.badge.table_id) × (two.1.badge.table_id ≡ seat.badge.table_id)) }
         ensures split { IfOk result (λ two. (0 < seat.splits) × (known two.0.badge.views ≡ record (known seat.badge.views) { parts = seat.splits }) × (known two.1.badge.views ≡ fresh (known seat.badge.views))) }
         ensures splits { IfOk result (λ two. (two.0.splits + 1 ≡ seat.splits) × (two.1.splits ≡ 0)) }
@@ -122,7 +129,7 @@ impl<M: Machine> Depot<M> {
 
     /// Makes one seat of two, with the splits of both and one more, and the grants and entries of both.
     pub fn join_seat(&self, first: Seat<M>, second: Seat<M>) -> Seat<M>
-        requires table { (first.badge.table_id ≡ self.now.table.shared.table_id) × (second.badge.table_id ≡ self.now.table.shared.table_id) × (0 < length self.now.parents.items) }
+        requires table { (first.badge.table_id ≡ self.now.table.shared.table_id) × (second.badge.table_id ≡ self.now.table.shared.table_id) }
         ensures table { result.badge.table_id ≡ first.badge.table_id }
         ensures joined { (reads : List Read) × (known result.badge.views ≡ record (merge (known first.badge.views) (known second.badge.views)) { reads = reads }) }
         ensures splits { result.splits ≡ first.splits + second.splits + 1 }
@@ -132,7 +139,7 @@ impl<M: Machine> Depot<M> {
 
     /// Two seats tell each other what they have seen.
     pub fn meet(&self, one: &mut Seat<M>, other: &mut Seat<M>)
-        requires table { (one.old.badge.table_id ≡ self.now.table.shared.table_id) × (other.old.badge.table_id ≡ self.now.table.shared.table_id) × (0 < length self.now.parents.items) }
+        requires table { (one.old.badge.table_id ≡ self.now.table.shared.table_id) × (other.old.badge.table_id ≡ self.now.table.shared.table_id) }
         ensures table { (one.new.badge.table_id ≡ one.old.badge.table_id) × (other.new.badge.table_id ≡ other.old.badge.table_id) }
         ensures one { known one.new.badge.views ≡ having_seen (longer (known one.old.badge.views).seen (known other.old.badge.views).seen) (known one.old.badge.views) }
         ensures other { known other.new.badge.views ≡ having_seen (longer (known one.old.badge.views).seen (known other.old.badge.views).seen) (known other.old.badge.views) }

@@ -30,6 +30,7 @@ use std::marker::Brand;
 use std::mem;
 
 /// The parcels of a node and of all nodes below it. A grant that is dropped gives nothing home.
+#[derive(Drop)]
 pub struct Grant<T: HasKind, N: Node<T>> {
     pub(crate) affinity: Affinity,
     pub(crate) held: N::Held,
@@ -40,11 +41,11 @@ pub struct Grant<T: HasKind, N: Node<T>> {
 pub enum Refusal {
     /// Refusal 21: the word of a node was found taken.
     Busy { node: Affinity, word: u64 },
-    /// Refusal 22: the history is as long as it may get.
+    /// Refusal 22: the ticket was read at 2^62 or more.
     Worn,
 }
 
-/// A ticket from which on no call begins.
+/// A ticket at which a call doesn't begin.
 const WORN: u64 = 1 << 62;
 
 impl<T: HasKind, N: Node<T>> Grant<T, N> {

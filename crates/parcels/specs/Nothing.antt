@@ -1,4 +1,4 @@
--- A set has nothing at a number that is none of its nodes'.
+-- Lemmas alone, which no reader has to believe. A set has nothing at a number that is none of its nodes'.
 use Rattle.std.proofs.Common.{◌≡◌, ◌≢◌, ℕ, zero, suc, ◌<◌, Bool, true, false, List, Option, Some, None, length, refl, sym, ap, subst, arith, slice_get, ◌==◌}
 use Rattle.std.specs.Prelude.{if◌then◌else◌}
 use Rattle.std.proofs.lemmas.Bool.{ne_eqb, eqb-true}

@@ -1,4 +1,4 @@
--- The facts of the parts below a node, from one of all nodes under it; and so a set has no parcel of another node.
+-- Lemmas alone, which no reader has to believe. The facts of the parts below a node, from one of all nodes under it; and so a set has no parcel of another node.
 use Rattle.std.proofs.Common.{◌≡◌, ◌≢◌, ℕ, ◌<◌, true, List, [], ◌∷◌, ◌++◌, None, length, refl, sym, ap, subst, inl}
 use Rattle.nfs_model.specs.Tree.{Layout, Affinity, Serial, Aggregate, Volume, Logical, Stripe, Vbn, Range, path, begins}
 use Rattle.affinity.specs.declared.affinity.Kind.TheVariants as kinds
