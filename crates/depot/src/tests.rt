@@ -1,6 +1,8 @@
 //! Grants of a depot: what excludes what, how many seats there are, and what one call leaves to the next.
 
-use crate::trial::{Found, add, claim, holds_beside, look, open, split, splits, tell};
+use crate::trial::{
+    Found, add, claim, close_joined, holds_beside, look, open, split, splits, tell,
+};
 use affinity::Affinity;
 use parcels::{LogicalNode, RangeNode, SerialNode, StripeNode, VbnNode, VolumeNode};
 use std::sync::atomic::AtomicBool;
@@ -61,6 +63,12 @@ fn below_a_grant(rt: HostRuntime) -> Result<(), Fail> {
 fn seats(rt: HostRuntime) -> Result<(), Fail> {
     let (depot, seat) = open(rt.alloc())?;
     assert_eq!(rt; splits(&depot, seat, 100), 63);
+    Ok(())
+}
+
+#[test]
+fn an_end(rt: HostRuntime) -> Result<(), Fail> {
+    assert_eq!(rt; close_joined(rt.alloc())?, 0);
     Ok(())
 }
 

@@ -72,6 +72,21 @@ pub fn tell(depot: &Depot<Adding>, one: &mut Seat<Adding>, other: &mut Seat<Addi
     depot.meet(one, other);
 }
 
+/// The root's parcel of a depot whose seat was split and joined again, and which was then closed.
+pub fn close_joined(alloc: Global) -> Result<u64, Fail> {
+    let layout = two_volumes(alloc)?;
+    let parcels = all_zero(alloc, &layout)?;
+    let Ok((depot, seat)) = Depot::<Adding>::new::<SerialNode>(alloc, layout, parcels) else {
+        return Err("no memory".into());
+    };
+    let Ok((one, other)) = depot.split_seat(seat) else {
+        return Err("no split is left".into());
+    };
+    let seat = depot.join_seat(one, other);
+    let held = depot.close::<SerialNode>(seat);
+    Ok(held.own)
+}
+
 /// How many seats can be split off, up to so many.
 pub fn splits(depot: &Depot<Adding>, mut seat: Seat<Adding>, most: usize) -> usize
     requires seat { seat.badge.table_id ≡ depot.now.table.shared.table_id }
