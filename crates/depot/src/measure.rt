@@ -11,8 +11,11 @@ ghost use Rattle.depot.specs.Grants.{IsSeatOf};
 use crate::adding::{Adding, all_zero};
 use crate::depot::Depot;
 use crate::seats::Seat;
-use affinity::{Affinity, AggregateSpec, Layout, VolumeSpec};
-use parcels::{Node, Numbers, Parcel, SerialNode};
+use affinity::{Affinity, AggregateSpec, Kind, Layout, VolumeSpec};
+use parcels::{
+    AggregateNode, LogicalNode, Node, Numbers, Parcel, RangeNode, SerialNode, StripeNode, VbnNode,
+    VolumeNode,
+};
 use std::alloc::Global;
 use std::thread;
 use std::thread::Threads;
@@ -36,16 +39,15 @@ fn begin_and_finish_once<N: Node<Parcel<Numbers>>>(
     }
 }
 
-/// So many calls on a node, one after another. How many were granted; none at a node of another
-/// kind, or one that isn't there.
-pub fn begin_and_finish<N: Node<Parcel<Numbers>>>(
+/// So many calls of a seat on a node, one after another. How many were granted; none at a node of
+/// another kind, or one that isn't there.
+fn begin_and_finish<N: Node<Parcel<Numbers>>>(
     depot: &Depot<Adding>,
-    seat: &mut Seat<Adding>,
+    mut seat: Seat<Adding>,
     affinity: Affinity,
     count: u32,
 ) -> u32
-    requires seat { (seat.old.badge.table_id ≡ depot.now.table.shared.table_id) × IsSeatOf kind_in (layout_of depot.now.layout) (known seat.old.badge.views) }
-    ensures seat { (seat.new.badge.table_id ≡ depot.now.table.shared.table_id) × IsSeatOf kind_in (layout_of depot.now.layout) (known seat.new.badge.views) }
+    requires seat { (seat.badge.table_id ≡ depot.now.table.shared.table_id) × IsSeatOf kind_in (layout_of depot.now.layout) (known seat.badge.views) }
     ensures most { result ≤ count }
 {
     if affinity.kind() != N::KIND {
@@ -56,19 +58,35 @@ pub fn begin_and_finish<N: Node<Parcel<Numbers>>>(
     }
     let mut refused = 0;
     for _call in 0..count {
-        if !begin_and_finish_once::<N>(depot, seat, affinity) {
+        if !begin_and_finish_once::<N>(depot, &mut seat, affinity) {
             refused += 1;
         }
     }
     count - refused
 }
 
+/// So many calls of a seat on a node of whichever kind. How many were granted.
+fn calls(depot: &Depot<Adding>, seat: Seat<Adding>, affinity: Affinity, count: u32) -> u32
+    requires seat { (seat.badge.table_id ≡ depot.now.table.shared.table_id) × IsSeatOf kind_in (layout_of depot.now.layout) (known seat.badge.views) }
+    ensures most { result ≤ count }
+{
+    match affinity.kind() {
+        Kind::Serial => begin_and_finish::<SerialNode>(depot, seat, affinity, count),
+        Kind::Aggregate => begin_and_finish::<AggregateNode>(depot, seat, affinity, count),
+        Kind::Volume => begin_and_finish::<VolumeNode>(depot, seat, affinity, count),
+        Kind::VolumeLogical => begin_and_finish::<LogicalNode>(depot, seat, affinity, count),
+        Kind::Stripe => begin_and_finish::<StripeNode>(depot, seat, affinity, count),
+        Kind::VolumeVbn => begin_and_finish::<VbnNode>(depot, seat, affinity, count),
+        Kind::Range => begin_and_finish::<RangeNode>(depot, seat, affinity, count),
+    }
+}
+
 /// The calls of two threads, each with a seat and a node of its own. How many were granted.
-fn two_threads<N: Node<Parcel<Numbers>>, R: Threads + Sync>(
+fn two_threads<R: Threads + Sync>(
     rt: &R,
     depot: &Depot<Adding>,
-    mut first: Seat<Adding>,
-    mut second: Seat<Adding>,
+    first: Seat<Adding>,
+    second: Seat<Adding>,
     nodes: [Affinity; 2],
     count: u32,
 ) -> u64
@@ -78,8 +96,8 @@ fn two_threads<N: Node<Parcel<Numbers>>, R: Threads + Sync>(
     let [here, there] = nodes;
     let (one, other) = thread::join(
         rt,
-        || begin_and_finish::<N>(depot, &mut first, here, count),
-        || begin_and_finish::<N>(depot, &mut second, there, count),
+        move || calls(depot, first, here, count),
+        move || calls(depot, second, there, count),
     );
     u64::from(one) + u64::from(other)
 }
@@ -151,16 +169,16 @@ impl Bench {
     }
 
     /// So many calls by one thread. How many were granted.
-    pub fn one_thread<N: Node<Parcel<Numbers>>>(self, nodes: [Affinity; 4], count: u32) -> u64 {
+    pub fn one_thread(self, nodes: [Affinity; 4], count: u32) -> u64 {
         let Bench {
-            depot, mut first, ..
+            depot, first, ..
         } = self;
         let [node, _, _, _] = nodes;
-        u64::from(begin_and_finish::<N>(&depot, &mut first, node, count))
+        u64::from(calls(&depot, first, node, count))
     }
 
     /// So many calls by each of two threads.
-    pub fn two_threads<N: Node<Parcel<Numbers>>, R: Threads + Sync>(
+    pub fn two_threads<R: Threads + Sync>(
         self,
         rt: &R,
         nodes: [Affinity; 4],
@@ -173,11 +191,11 @@ impl Bench {
             ..
         } = self;
         let [one, two, _, _] = nodes;
-        two_threads::<N, R>(rt, &depot, first, second, [one, two], count)
+        two_threads(rt, &depot, first, second, [one, two], count)
     }
 
     /// So many calls by each of four threads.
-    pub fn four_threads<N: Node<Parcel<Numbers>>, R: Threads + Sync>(
+    pub fn four_threads<R: Threads + Sync>(
         self,
         rt: &R,
         nodes: [Affinity; 4],
@@ -194,8 +212,8 @@ impl Bench {
         let [one, two, three, four] = nodes;
         let (here, there) = thread::join(
             rt,
-            move || two_threads::<N, R>(rt, depot, first, second, [one, two], count),
-            move || two_threads::<N, R>(rt, depot, third, fourth, [three, four], count),
+            move || two_threads(rt, depot, first, second, [one, two], count),
+            move || two_threads(rt, depot, third, fourth, [three, four], count),
         );
         here.saturating_add(there)
     }
