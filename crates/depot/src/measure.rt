@@ -170,20 +170,13 @@ impl Bench {
 
     /// So many calls by one thread. How many were granted.
     pub fn one_thread(self, nodes: [Affinity; 4], count: u32) -> u64 {
-        let Bench {
-            depot, first, ..
-        } = self;
+        let Bench { depot, first, .. } = self;
         let [node, _, _, _] = nodes;
         u64::from(calls(&depot, first, node, count))
     }
 
     /// So many calls by each of two threads.
-    pub fn two_threads<R: Threads + Sync>(
-        self,
-        rt: &R,
-        nodes: [Affinity; 4],
-        count: u32,
-    ) -> u64 {
+    pub fn two_threads<R: Threads + Sync>(self, rt: &R, nodes: [Affinity; 4], count: u32) -> u64 {
         let Bench {
             depot,
             first,
@@ -195,12 +188,7 @@ impl Bench {
     }
 
     /// So many calls by each of four threads.
-    pub fn four_threads<R: Threads + Sync>(
-        self,
-        rt: &R,
-        nodes: [Affinity; 4],
-        count: u32,
-    ) -> u64 {
+    pub fn four_threads<R: Threads + Sync>(self, rt: &R, nodes: [Affinity; 4], count: u32) -> u64 {
         let Bench {
             depot,
             first,
@@ -212,8 +200,14 @@ impl Bench {
         let [one, two, three, four] = nodes;
         let (here, there) = thread::join(
             rt,
-            move || two_threads(rt, depot, first, second, [one, two], count),
-            move || two_threads(rt, depot, third, fourth, [three, four], count),
+            move || -> u64
+                requires first { (first.badge.table_id ≡ depot.now.table.shared.table_id) × IsSeatOf kind_in (layout_of depot.now.layout) (known first.badge.views) }
+                requires second { (second.badge.table_id ≡ depot.now.table.shared.table_id) × IsSeatOf kind_in (layout_of depot.now.layout) (known second.badge.views) }
+            { two_threads(rt, depot, first, second, [one, two], count) },
+            move || -> u64
+                requires third { (third.badge.table_id ≡ depot.now.table.shared.table_id) × IsSeatOf kind_in (layout_of depot.now.layout) (known third.badge.views) }
+                requires fourth { (fourth.badge.table_id ≡ depot.now.table.shared.table_id) × IsSeatOf kind_in (layout_of depot.now.layout) (known fourth.badge.views) }
+            { two_threads(rt, depot, third, fourth, [three, four], count) },
         );
         here.saturating_add(there)
     }
