@@ -1,5 +1,7 @@
 //! How many calls are granted and finished in a second.
 
+ghost use Rattle.std.specs.Prelude.{◌≤◌};
+
 use crate::lock;
 use affinity::Affinity;
 use depot::measure::Bench;
@@ -21,7 +23,9 @@ enum Crew {
 impl Crew {
     const ALL: [Crew; 3] = [Crew::One, Crew::Two, Crew::Four];
 
-    fn size(self) -> u64 {
+    fn size(self) -> u64
+        ensures { result ≤ 4 }
+    {
         match self {
             Crew::One => 1,
             Crew::Two => 2,
@@ -106,9 +110,10 @@ fn measure<R: Clock + Print + AllocGlobal + Threads + Wait + Sync>(
         let threads = crew.size();
         let granted = depot_rate(rt, crew, nodes, count)?;
         let added = lock_rate(rt, crew, count)?;
-        let percent = u128::from(granted) * 100 / u128::from(added.max(1));
+        let ratio = u128::from(granted) * 1000 / u128::from(added.max(1));
+        let (whole, thousandths) = (ratio / 1000, ratio % 1000);
         println!(rt;
-            "{name}, {threads} threads: {granted} begun and finished a second, {added} under a lock, {percent} %"
+            "{name}, threads {threads}: {granted} begun and finished a second, {added} under a lock, ratio {whole}.{thousandths:03}"
         )?;
     }
     Ok(())
