@@ -2,8 +2,8 @@
 //!
 //! `depot_bench COUNT` begins and finishes COUNT calls by each of 1, 2 and 4 threads, first on
 //! stripes of one volume and then on the names of volumes, each thread on a node of its own. It
-//! prints how many were done in a second, beside additions to numbers under one lock. Without its
-//! argument it prints nothing.
+//! prints how many were granted, how many of these were done in a second, and beside this how
+//! many additions to numbers under one lock. Without its argument it prints nothing.
 #![tactic(auto)]
 
 mod lock;

@@ -69,13 +69,14 @@ fn per_second(calls: u64, time: Duration) -> u64 {
     u64::try_from(rate).unwrap_or(u64::MAX)
 }
 
-/// Calls on a new depot, each thread on its node: how many were granted in a second.
+/// Calls on a new depot, each thread on its node: how many were granted, and how many of these in a
+/// second.
 fn depot_rate<R: Clock + AllocGlobal + Threads + Sync>(
     rt: &R,
     crew: Crew,
     nodes: [Affinity; 4],
     count: u32,
-) -> io::Result<u64> {
+) -> io::Result<(u64, u64)> {
     let bench = Bench::open(rt.alloc()).ok_or(AllocError)?;
     let start = Instant::now(rt)?;
     let granted = match crew {
@@ -83,7 +84,8 @@ fn depot_rate<R: Clock + AllocGlobal + Threads + Sync>(
         Crew::Two => bench.two_threads(rt, nodes, count),
         Crew::Four => bench.four_threads(rt, nodes, count),
     };
-    Ok(per_second(granted, start.elapsed(rt)?))
+    let time = start.elapsed(rt)?;
+    Ok((granted, per_second(granted, time)))
 }
 
 /// Additions under one lock: how many were done in a second.
@@ -108,12 +110,12 @@ fn measure<R: Clock + Print + AllocGlobal + Threads + Wait + Sync>(
 ) -> io::Result<()> {
     for crew in Crew::ALL {
         let threads = crew.size();
-        let granted = depot_rate(rt, crew, nodes, count)?;
+        let (granted, finished) = depot_rate(rt, crew, nodes, count)?;
         let added = lock_rate(rt, crew, count)?;
-        let ratio = u128::from(granted) * 1000 / u128::from(added.max(1));
+        let ratio = u128::from(finished) * 1000 / u128::from(added.max(1));
         let (whole, thousandths) = (ratio / 1000, ratio % 1000);
         println!(rt;
-            "{name}, threads {threads}: {granted} begun and finished a second, {added} under a lock, ratio {whole}.{thousandths:03}"
+            "{name}, threads {threads}: {granted} granted, {finished} begun and finished a second, {added} under a lock, ratio {whole}.{thousandths:03}"
         )?;
     }
     Ok(())
