@@ -12,8 +12,6 @@ mod places;
 mod scatter;
 mod sets;
 mod shelf;
-#[cfg(test)]
-mod tests;
 mod vec_shelf;
 
 pub use family::{Family, Parcel};
