@@ -1,5 +1,7 @@
 //! Affinities.
 
+ghost use Rattle.affinity.specs.declared.affinity.Kind.{Kind};
+
 /// What a call runs on: a node of the tree. Serial is above the aggregates, an aggregate above its
 /// volumes, a volume above its logical part and its block numbers, the logical part above the
 /// stripes and the block numbers above the ranges.
@@ -29,4 +31,9 @@ pub enum Kind {
     Stripe,
     VolumeVbn,
     Range,
+}
+
+/// What is of one kind of node.
+pub trait HasKind {
+    ghost kind: { Self → Kind };
 }

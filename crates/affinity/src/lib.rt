@@ -15,7 +15,7 @@ mod specification;
 mod tests;
 mod tree;
 
-pub use affinity::{Affinity, Kind};
+pub use affinity::{Affinity, HasKind, Kind};
 pub use fault::LayoutFault;
 pub use home::{home_of, named_by};
 pub use layout::Layout;

@@ -22,10 +22,10 @@ use crate::plays::Look;
 use crate::seats::Seat;
 use crate::stamps::{Said, stamp_as};
 use crate::table::{Board, EntryOf, Place};
-use affinity::{Affinity, Layout};
+use affinity::{Affinity, HasKind, Layout};
 use atomic_table::Badge;
 use depot_rule::machine::Machine;
-use parcels::{HasKind, Node};
+use parcels::Node;
 use std::marker::Brand;
 use std::mem;
 

@@ -16,7 +16,7 @@ mod vec_shelf;
 
 pub use family::{Family, Parcel};
 pub use hand::Hand;
-pub use node::{HasKind, Node};
+pub use node::Node;
 pub use nodes::{
     AggregateNode, LogicalNode, RangeNode, SerialNode, StripeNode, VbnNode, VolumeNode,
 };

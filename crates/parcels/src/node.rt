@@ -12,12 +12,7 @@ ghost use Rattle.parcels.specs.Moved.{Moved};
 
 use crate::family::{Family, Parcel};
 use crate::shelf::Shelf;
-use affinity::{Affinity, Kind, Layout};
-
-/// A parcel, which is of one kind of node.
-pub trait HasKind {
-    ghost kind: { Self → Kind };
-}
+use affinity::{Affinity, HasKind, Kind, Layout};
 
 impl<P: Family> HasKind for Parcel<P> {
     ghost kind = { kind_in };
