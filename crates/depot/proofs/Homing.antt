@@ -17,7 +17,7 @@ use Rattle.depot.proofs.Holding.{untaken-is}
 
 module _ {P E : Type 0} where
   -- once they are given, none of them is with the seat
-  pub set-home : (f : ℕ → Option P) (b n : ℕ) (vs ws : List (View P E)) → n ≡ b → HasWith (view_of vs) b f → (view_of vs).hand ≡ 0 → Handled n vs ws
+  pub set-home : (f : ℕ → Option P) (b n : ℕ) (vs ws : List (View P E)) → n ≡ b → HasWith (view_of vs) b f → (view_of vs).out ≡ 0 → Handled n vs ws
       → ((k : ℕ) → Moved (untaken (view_of ws) n k) (f k) (untaken (view_of vs) n k))
       → (k : ℕ) (g : List (Option P)) (p : P) → Has (view_of ws) n g → 0 < k → k < length (view_of vs).tree → Covers (view_of vs).tree n k → slice_index_or g k None ≡ Some p → takes k (view_of ws) ≡ 0
   set-home f b n vs ws is with free handled moved k g p has pos lt cover lists =
@@ -31,8 +31,8 @@ module _ {P E : Type 0} where
       let has_it : f k ≡ Some p = sym (with.2 k pos lt inside) ∙ (ap (λ xs. slice_index_or xs k None) same ∙ lists) in
       let u = untaken-is (view_of ws) n k p (subst (λ (o : Option P). Moved (untaken (view_of ws) n k) o (untaken v n k)) has_it (moved k)).0 in
       let home = u.home in
-      let hand : (view_of ws).hand ≡ 0 = ap (λ (x : View P E). x.hand) now ∙ free in
-      let out = one-other (view_of ws).hand k (λ e. omega (arith, e, hand, pos)) in
+      let out : (view_of ws).out ≡ 0 = ap (λ (x : View P E). x.out) now ∙ free in
+      let out = one-other (view_of ws).out k (λ e. omega (arith, e, out, pos)) in
       omega arith
 
   -- and the grant is ended

@@ -142,10 +142,10 @@ module _ {P E : Type 0} where
   )
 
   -- a slot went out and came home
-  pub hand-free : (v : View P E) {gone : List ℕ} {one two : Read} {vs : List (View P E)} → v.hand ≡ 0 → vs ≡ record v { hand = 0; gone = gone; reads = two ∷ one ∷ v.reads } ∷ []
+  pub hand-free : (v : View P E) {gone : List ℕ} {one two : Read} {vs : List (View P E)} → v.out ≡ 0 → vs ≡ record v { out = 0; gone = gone; reads = two ∷ one ∷ v.reads } ∷ []
       → (more : List Read) × (vs ≡ record v { gone = gone; reads = more ++ v.reads } ∷ [])
   hand-free v {gone = gone} {one = one} {two = two} calm is =
-      (two ∷ one ∷ [], is ∙ ap (λ (h : ℕ). let z : View P E = record v { hand = h; gone = gone; reads = two ∷ one ∷ v.reads } in z ∷ []) (sym calm))
+      (two ∷ one ∷ [], is ∙ ap (λ (h : ℕ). let z : View P E = record v { out = h; gone = gone; reads = two ∷ one ∷ v.reads } in z ∷ []) (sym calm))
 
   -- a seat between calls, and its place in the table
   pub placed-one : {views : List (List (View P E))} {vs : List (View P E)} → views ≡ vs ∷ [] → length (own_views views) ≡ 1 → length vs ≡ 1

@@ -203,7 +203,7 @@ fn give_home<M: Machine, N: Node<M::Parcel>>(
 ) -> Place<M>
     requires table { (place.table_id ≡ board.now.table_id) × (board.now.table_id.words ≡ length board.now.key.value.parents.items) }
     requires tree { (parents.now ≡ board.now.key.value.parents.items) × (parents.now ≡ numbers.parents (layout_of layout.now)) × (fault_of (layout_of layout.now) ≡ None) }
-    requires ready { let v = view_of place.me.0 in (length place.me.0 ≡ 1) × (place.me.1 ≡ []) × (v.hand ≡ 0) × (v.path ≡ []) × (v.tree ≡ parents.now) }
+    requires ready { let v = view_of place.me.0 in (length place.me.0 ≡ 1) × (place.me.1 ≡ []) × (v.out ≡ 0) × (v.path ≡ []) × (v.tree ≡ parents.now) }
     requires node { IsNode (layout_of layout.now) (affinity_of grant.affinity) × (kind_of (affinity_of grant.affinity) ≡ N.KIND) }
     requires listed { HasWith (view_of place.me.0) (numbers.number_of (layout_of layout.now) (affinity_of grant.affinity)) (N.parcels (layout_of layout.now) (affinity_of grant.affinity) grant.held) }
     requires taken { let v = view_of place.me.0 in (k : ℕ) → 0 < k → k < length v.tree → Covers v.tree (numbers.number_of (layout_of layout.now) (affinity_of grant.affinity)) k → 0 < tally k v.gone }

@@ -18,7 +18,7 @@ pub struct Hold<'a, M: Machine> {
     pub(crate) node: usize,
     ghost table: { (place.table_id ≡ board.now.table_id) × (board.now.table_id.words ≡ length board.now.key.value.parents.items) },
     ghost one: { (length place.me.0 ≡ 1) × (length place.me.1 ≡ 0) },
-    ghost free: { (view_of place.me.0).hand ≡ 0 },
+    ghost free: { (view_of place.me.0).out ≡ 0 },
     ghost tree: { (view_of place.me.0).tree ≡ board.now.key.value.parents.items },
 }
 

@@ -15,7 +15,7 @@ use depot_rule::machine::Machine;
 /// Takes the parcel of a node that a grant of the seat covers. Its slot stays at home, empty.
 pub fn take_parcel<M: Machine>(board: &Board<M>, place: &mut Place<M>, node: usize) -> M::Parcel
     requires table { (place.old.table_id ≡ board.now.table_id) × (node < board.now.table_id.words) × (board.now.table_id.words ≡ length board.now.key.value.parents.items) }
-    requires ready { let v = view_of place.old.me.0 in (length place.old.me.0 ≡ 1) × (place.old.me.1 ≡ []) × (0 < node) × (v.hand ≡ 0) × (tally node v.gone ≡ 0) × (v.tree ≡ board.now.key.value.parents.items) }
+    requires ready { let v = view_of place.old.me.0 in (length place.old.me.0 ≡ 1) × (place.old.me.1 ≡ []) × (0 < node) × (v.out ≡ 0) × (tally node v.gone ≡ 0) × (v.tree ≡ board.now.key.value.parents.items) }
     requires granted { let v = view_of place.old.me.0 in (b : ℕ) × (g : List (Option _)) × (p : _) × Has v b g × Covers v.tree b node × (slice_index_or g node None ≡ Some p) }
     ensures seat { (place.new.table_id ≡ place.old.table_id) × (place.new.me.1 ≡ []) }
     ensures parcel { let v = view_of place.old.me.0 in (b : ℕ) (g : List (Option _)) → Has v b g → Covers v.tree b node → slice_index_or g node None ≡ Some result }
@@ -38,7 +38,7 @@ pub fn give_parcel<M: Machine>(
     parcel: M::Parcel,
 )
     requires table { (place.old.table_id ≡ board.now.table_id) × (node < board.now.table_id.words) × (board.now.table_id.words ≡ length board.now.key.value.parents.items) }
-    requires ready { let v = view_of place.old.me.0 in (length place.old.me.0 ≡ 1) × (place.old.me.1 ≡ []) × (0 < node) × (v.hand ≡ 0) × (0 < tally node v.gone) × (v.tree ≡ board.now.key.value.parents.items) }
+    requires ready { let v = view_of place.old.me.0 in (length place.old.me.0 ≡ 1) × (place.old.me.1 ≡ []) × (0 < node) × (v.out ≡ 0) × (0 < tally node v.gone) × (v.tree ≡ board.now.key.value.parents.items) }
     requires granted { let v = view_of place.old.me.0 in (b : ℕ) × (g : List (Option _)) × Has v b g × Covers v.tree b node × (slice_index_or g node None ≡ Some parcel) }
     ensures seat { (place.new.table_id ≡ place.old.table_id) × (place.new.me.1 ≡ []) }
     ensures once { tally node (view_of place.old.me.0).gone ≡ 1 }

@@ -133,7 +133,7 @@ module _ (P E : Type 0) (kind_of : P → Kind) where
         tt,
         subst (λ (z : Bool). Rule kind_of ps first (stepped s b (either z exclusive x) id me.1 (w ∷ []) keeps)) (sym (ne_eqb x 0 busy))
             (record {
-              shares = read-keeps P E ps s.words s.views r.shares id v b v.hand v.gone (noted st x v) at pos lt;
+              shares = read-keeps P E ps s.words s.views r.shares id v b v.out v.gone (noted st x v) at pos lt;
               parcels = stay-keeps P E kind_of ps first s r id v w at (λ k. refl)
                   (record { opened = ca.opened; nodes = ca.nodes; single = ca.single; cover = ca.cover; whole = ca.whole; there = ca.there; empty = ca.empty });
             }),

@@ -1,5 +1,5 @@
 -- Views that are dealt out anew: seats that meet, part and are joined keep the rule.
-use Rattle.std.proofs.Common.{◌≡◌, ◌≢◌, ℕ, zero, suc, ◌+◌, ◌<◌, eqb, List, [], ◌∷◌, ◌++◌, map, replicate, set, sym, refl, ap, ◌∙◌, subst, arith, Option, None}
+use Rattle.std.proofs.Common.{◌≡◌, ◌≢◌, ℕ, zero, suc, ◌+◌, ◌%◌, ◌<◌, eqb, List, [], ◌∷◌, ◌++◌, map, replicate, set, sym, refl, ap, ◌∙◌, subst, arith, Option, None}
 use mathlib.Core.Option.{some, some-injective, some-ne-none}
 use mathlib.Core.Option as maybe
 use lib.ListN.{get_elem?}
@@ -8,7 +8,7 @@ use Rattle.atomic_table.proofs.Lists.{set_else}
 use Rattle.depot_rule.specs.declared.view.View.{View}
 use Rattle.depot_rule.specs.Sums.{total, one_if, tally, over_taken}
 use Rattle.depot_rule.specs.Tree.{ancestors}
-use Rattle.depot_rule.specs.Shares.{Each, parts, claims, entered, shares, IsSound}
+use Rattle.depot_rule.specs.Shares.{Each, parts, made, claims, entered, shares, IsSound}
 use Rattle.depot_rule.specs.Parcels.{takes, Carries}
 use Rattle.depot_rule.specs.Rule.{Rule}
 use Rattle.depot_rule.specs.Seats.{longer, view_of, having_seen, met, first_of, others_of}
@@ -40,7 +40,7 @@ module _ (P E : Type 0) (kind_of : P → Kind) where
 
   -- f adds up to as much as before, for each f that the rule speaks of
   abbrev Agree : (((View P E → ℕ) → Type 0)) → Type 0
-  Agree same = same parts × ((a : ℕ) → 0 < a → same (shares a)) × ((a : ℕ) → 0 < a → same (claims a)) × ((a : ℕ) → 0 < a → same (entered a)) × ((k : ℕ) → 0 < k → same (takes k))
+  Agree same = same parts × ((a : ℕ) → 0 < a → same (shares a)) × ((a : ℕ) → 0 < a → same (claims a)) × ((a : ℕ) → 0 < a → same (entered a)) × ((k : ℕ) → 0 < k → same (takes k)) × same made
 
   -- the rule sees the views added up, and each alone
   pub redealt : (ps : List ℕ) (first : List (Option P)) (s : St) (r : Rule kind_of ps first s) (views : List (List (View P E)))
@@ -54,6 +54,7 @@ module _ (P E : Type 0) (kind_of : P → Kind) where
       as_many = r.shares.as_many;
       seats = same.0 ∙ r.shares.seats;
       counted = λ a p l. r.shares.counted a p l ∙ sym (same.1 a p);
+      ticket = r.shares.ticket ∙ ap (λ n. n % 18446744073709551616) (sym same.5);
       alone = λ a p l h. let c = same.2 a p in let e = same.3 a p in let q = r.shares.alone a p l (omega arith) in let q0 = q.0 in let q1 = q.1 in (omega arith, omega arith);
       sound = sound;
     };
@@ -77,6 +78,7 @@ module _ (P E : Type 0) (kind_of : P → Kind) where
         (λ a p. total-joined (claims a) s.views id other vs ws both at at' (q.0.2 a p)),
         (λ a p. total-joined (entered a) s.views id other vs ws both at at' (q.0.3 a p)),
         (λ k p. total-joined (takes k) s.views id other vs ws both at at' (q.0.4 k p)),
+        total-joined made s.views id other vs ws both at at' q.0.5,
       )
       (each-set (IsSound ps) (set s.views id both) other [] (each-set (IsSound ps) s.views id both r.shares.sound q.1) (all-none (IsSound ps)))
       (each-set (Carries kind_of ps first s.homes) (set s.views id both) other [] (each-set (Carries kind_of ps first s.homes) s.views id both r.parcels.carries q.2) (all-none (Carries kind_of ps first s.homes)))
@@ -93,6 +95,7 @@ module _ (P E : Type 0) (kind_of : P → Kind) where
         (λ a p. total-parted (claims a) s.views id vs left right at (q.0.2 a p)),
         (λ a p. total-parted (entered a) s.views id vs left right at (q.0.3 a p)),
         (λ k p. total-parted (takes k) s.views id vs left right at (q.0.4 k p)),
+        total-parted made s.views id vs left right at q.0.5,
       )
       (each-more (IsSound ps) (set s.views id left) right (each-set (IsSound ps) s.views id left r.shares.sound q.1.0) q.1.1)
       (each-more (Carries kind_of ps first s.homes) (set s.views id left) right (each-set (Carries kind_of ps first s.homes) s.views id left r.parcels.carries q.2.0) q.2.1)
@@ -108,7 +111,7 @@ module _ (P E : Type 0) (kind_of : P → Kind) where
   meets ps first id vs other ws = joined ps first id vs other ws (met vs ws) (λ s r at at' ne.
       let es : List E = longer (view_of vs).seen (view_of ws).seen in
       let adds : (f : View P E → ℕ) → ((v : View P E) → f (having_seen es v) ≡ f v) → total f (met vs ws) ≡ total f vs + total f ws = λ f h. total-map f (having_seen es) f h (vs ++ ws) ∙ total-append f vs ws in (
-        (adds parts (λ v. refl), (λ a p. adds (shares a) (λ v. refl)), (λ a p. adds (claims a) (λ v. refl)), (λ a p. adds (entered a) (λ v. refl)), (λ k p. adds (takes k) (λ v. refl))),
+        (adds parts (λ v. refl), (λ a p. adds (shares a) (λ v. refl)), (λ a p. adds (claims a) (λ v. refl)), (λ a p. adds (entered a) (λ v. refl)), (λ k p. adds (takes k) (λ v. refl)), adds made (λ v. refl)),
         all-map (IsSound ps) (having_seen es) (seen-sound ps es) (vs ++ ws) (all-append (IsSound ps) vs ws (r.shares.sound id vs at) (r.shares.sound other ws at')),
         all-map (Carries kind_of ps first s.homes) (having_seen es) (seen-carries ps first s.homes es) (vs ++ ws)
             (all-append (Carries kind_of ps first s.homes) vs ws (r.parcels.carries id vs at) (r.parcels.carries other ws at')),
@@ -117,21 +120,21 @@ module _ (P E : Type 0) (kind_of : P → Kind) where
   -- and part again, each with its own view
   pub parts-again : (ps : List ℕ) (first : List (Option P)) (id : ℕ) (vs : List (View P E)) → Splits (Rule kind_of ps first) id vs (first_of vs) (others_of vs)
   parts-again ps first id [] = parted_in ps first id [] [] [] (λ s r at. (
-    (refl, (λ a p. refl), (λ a p. refl), (λ a p. refl), (λ k p. refl)),
+    (refl, (λ a p. refl), (λ a p. refl), (λ a p. refl), (λ k p. refl), refl),
     (all-none (IsSound ps), all-none (IsSound ps)),
     (all-none (Carries kind_of ps first s.homes), all-none (Carries kind_of ps first s.homes)),
   ))
   parts-again ps first id (v ∷ vs) = parted_in ps first id (v ∷ vs) (v ∷ []) vs (λ s r at. (
-    (omega arith, (λ a p. omega arith), (λ a p. omega arith), (λ a p. omega arith), (λ k p. omega arith)),
+    (omega arith, (λ a p. omega arith), (λ a p. omega arith), (λ a p. omega arith), (λ k p. omega arith), omega arith),
     (all-one (IsSound ps) v (r.shares.sound id (v ∷ vs) at 0 v refl), (λ i u e. r.shares.sound id (v ∷ vs) at (suc i) u e)),
     (all-one (Carries kind_of ps first s.homes) v (r.parcels.carries id (v ∷ vs) at 0 v refl), (λ i u e. r.parcels.carries id (v ∷ vs) at (suc i) u e)),
   ))
 
   -- a view with nothing entered, granted or taken
-  pub bare-counts : (v : View P E) (a : ℕ) → 0 < a → v.unsure ≡ 0 → v.path ≡ [] → v.hand ≡ 0 → v.gone ≡ [] → (n : ℕ) → v.held ≡ replicate n None
+  pub bare-counts : (v : View P E) (a : ℕ) → 0 < a → v.unsure ≡ 0 → v.path ≡ [] → v.out ≡ 0 → v.gone ≡ [] → (n : ℕ) → v.held ≡ replicate n None
       → (shares a v ≡ 0) × (claims a v ≡ 0) × (entered a v ≡ 0) × (takes a v ≡ 0)
   bare-counts v a pos u p h g n e =
-      let z = one-other v.unsure a (λ q. omega arith) in let z' = one-other v.hand a (λ q. omega arith) in
+      let z = one-other v.unsure a (λ q. omega arith) in let z' = one-other v.out a (λ q. omega arith) in
       let no_path : tally a v.path ≡ 0 = ap (tally a) p in let none_gone : tally a v.gone ≡ 0 = ap (tally a) g in
       let c : claims a v ≡ 0 = ap (λ (l : List (Option (List (Option P)))). over_taken (λ b. one_if (eqb b a)) 0 l) e ∙ over-none (List (Option P)) (λ b. one_if (eqb b a)) 0 n in
       let l : over_taken (λ b. tally a (ancestors v.tree b)) 0 v.held ≡ 0 = ap (λ (l : List (Option (List (Option P)))). over_taken (λ b. tally a (ancestors v.tree b)) 0 l) e ∙ over-none (List (Option P)) (λ b. tally a (ancestors v.tree b)) 0 n in

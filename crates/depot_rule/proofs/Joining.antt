@@ -1,5 +1,5 @@
 -- A seat that is split, and two that become one.
-use Rattle.std.proofs.Common.{◌≡◌, ◌⊎◌, ℕ, zero, suc, ◌+◌, ◌-◌, ◌<◌, ◌≤◌, eqb, List, [], ◌∷◌, length, replicate, sym, refl, ap, ◌∙◌, arith, Option, Some, None, ⊎_elim, inl, inr}
+use Rattle.std.proofs.Common.{◌≡◌, ◌⊎◌, ℕ, zero, suc, ◌+◌, ◌-◌, ◌<◌, ◌≤◌, eqb, nat_lt, Bool, true, false, List, [], ◌∷◌, length, replicate, sym, refl, ap, ◌∙◌, arith, Option, Some, None, ⊎_elim, inl, inr}
 use Rattle.std.proofs.lemmas.List.{length-replicate}
 use mathlib.Core.Option.{some, some-ne-none}
 use mathlib.Core.Logic.{dite}
@@ -12,7 +12,7 @@ use Rattle.depot_rule.specs.Tree.{ancestors, Covers}
 use Rattle.depot_rule.specs.Shares.{claims, lower, entered, shares, IsSound}
 use Rattle.depot_rule.specs.Parcels.{takes, Carries}
 use Rattle.depot_rule.specs.Rule.{Rule}
-use Rattle.depot_rule.specs.Seats.{both_held, merge, fresh, merged, parted, fresh_of, view_of}
+use Rattle.depot_rule.specs.Seats.{if_less, put_among, in_order, both_held, merge, fresh, merged, parted, fresh_of, view_of}
 use Rattle.depot_rule.proofs.Sums.{one-other, tally-append}
 use Rattle.depot_rule.proofs.Views.{all-one}
 use Rattle.depot_rule.proofs.Grants.{covers-one}
@@ -23,6 +23,18 @@ pub none-held : {A : Type 0} (n b : ℕ) (x : A) → get_elem? (replicate n None
 none-held zero b x e = some-ne-none (Some x) (sym e)
 none-held (suc n) zero x e = cc
 none-held (suc n) (suc b) x e = none-held n b x e
+
+length-less : (b : Bool) (xs ys : List ℕ) (n : ℕ) → length xs ≡ n → length ys ≡ n → length (if_less b xs ys) ≡ n
+length-less true xs ys n e f = e
+length-less false xs ys n e f = f
+
+length-put : (x : ℕ) (ys : List ℕ) → length (put_among x ys) ≡ suc (length ys)
+length-put x [] = refl
+length-put x (y ∷ ys) = length-less (nat_lt y x) (y ∷ put_among x ys) (x ∷ y ∷ ys) (suc (suc (length ys))) (ap suc (length-put x ys)) refl
+
+length-in-order : (xs ys : List ℕ) → length (in_order xs ys) ≡ length xs + length ys
+length-in-order [] ys = omega arith
+length-in-order (x ∷ xs) ys = let p = length-put x (in_order xs ys) in let r = length-in-order xs ys in omega arith
 
 module _ {A : Type 0} where
   -- no place is taken in both
@@ -85,6 +97,7 @@ module _ (P E : Type 0) (kind_of : P → Kind) where
           (λ a p. let z = bare a p in let q = z.1 in omega arith),
           (λ a p. let z = bare a p in let q = z.2 in omega arith),
           (λ k p. let z = bare k p in let q = z.3 in omega arith),
+          omega arith,
         ),
         (
           all-one (IsSound ps) (record v { parts = v.parts - 1 }) (record { some_part = omega arith; tree = so.tree; wide = so.wide; once = so.once }),
@@ -106,7 +119,7 @@ module _ (P E : Type 0) (kind_of : P → Kind) where
       ))
 
   -- two seats, of which the second runs no call, become one
-  pub merges : (ps : List ℕ) (first : List (Option P)) (id : ℕ) (v : View P E) (other : ℕ) (w : View P E) → w.path ≡ [] → w.unsure ≡ 0 → w.hand ≡ 0 → Joins (Rule kind_of ps first) id (v ∷ []) other (w ∷ []) (merge v w ∷ []) []
+  pub merges : (ps : List ℕ) (first : List (Option P)) (id : ℕ) (v : View P E) (other : ℕ) (w : View P E) → w.path ≡ [] → w.unsure ≡ 0 → w.out ≡ 0 → Joins (Rule kind_of ps first) id (v ∷ []) other (w ∷ []) (merge v w ∷ []) []
   merges ps first id v other w no_path calm idle = joined P E kind_of ps first id (v ∷ []) other (w ∷ []) (merge v w ∷ []) (λ s r at at' ne.
       let so = r.shares.sound id (v ∷ []) at 0 v refl in let so' = r.shares.sound other (w ∷ []) at' 0 w refl in
       let ca = r.parcels.carries id (v ∷ []) at 0 v refl in let ca' = r.parcels.carries other (w ∷ []) at' 0 w refl in
@@ -119,8 +132,8 @@ module _ (P E : Type 0) (kind_of : P → Kind) where
       let own : (a : ℕ) → claims a (merge v w) ≡ claims a v + claims a w = λ a. over-both (λ b. one_if (eqb b a)) 0 v.held w.held apart in
       let unsure : (a : ℕ) → 0 < a → one_if (eqb w.unsure a) ≡ 0 = λ a p. one-other w.unsure a (λ e. omega arith) in
       let path : (a : ℕ) → tally a w.path ≡ 0 = λ a. ap (tally a) no_path in
-      let hand : (k : ℕ) → 0 < k → one_if (eqb w.hand k) ≡ 0 = λ k p. one-other w.hand k (λ e. omega arith) in
-      let taken : (k : ℕ) → 0 < k → takes k (merge v w) ≡ takes k v + takes k w = λ k p. let h = hand k p in let t = tally-append k v.gone w.gone in omega arith in
+      let out : (k : ℕ) → 0 < k → one_if (eqb w.out k) ≡ 0 = λ k p. one-other w.out k (λ e. omega arith) in
+      let taken : (k : ℕ) → 0 < k → takes k (merge v w) ≡ takes k v + takes k w = λ k p. let h = out k p in let t = tally-append k v.gone w.gone in omega arith in
       let not_both : (k : ℕ) → 0 < k → 0 < takes k v → 0 < takes k w → ⊥ = λ k p h h'. let c = ca.cover k p h in let c' = ca'.cover k p h' in clash c.0 c'.0 k c.1 c'.1 c.2 c'.2 c.3 c'.3 in (
         (
           omega arith,
@@ -128,6 +141,7 @@ module _ (P E : Type 0) (kind_of : P → Kind) where
           (λ a p. let o = own a in omega arith),
           (λ a p. let l = low a in let q = path a in omega arith),
           (λ k p. let t = taken k p in omega arith),
+          (let l = length-in-order v.mine w.mine in omega arith),
         ),
         all-one (IsSound ps) (merge v w) (record { some_part = (let p = so.some_part in omega arith); tree = so.tree; wide = length-both v.held w.held (so.wide ∙ sym so'.wide) ∙ so.wide; once = so.once }),
         all-one (Carries kind_of ps first s.homes) (merge v w) (record {
@@ -151,7 +165,7 @@ module _ (P E : Type 0) (kind_of : P → Kind) where
   splits-seat ps first id (v ∷ u ∷ us) one two = absurd (omega arith)
 
   pub merges-seats : (ps : List ℕ) (first : List (Option P)) (id : ℕ) (vs : List (View P E)) (other : ℕ) (ws : List (View P E)) → length vs ≡ 1 → length ws ≡ 1
-      → (view_of ws).path ≡ [] → (view_of ws).unsure ≡ 0 → (view_of ws).hand ≡ 0 → Joins (Rule kind_of ps first) id vs other ws (merged vs ws) []
+      → (view_of ws).path ≡ [] → (view_of ws).unsure ≡ 0 → (view_of ws).out ≡ 0 → Joins (Rule kind_of ps first) id vs other ws (merged vs ws) []
   merges-seats ps first id [] other ws one one' path calm idle = absurd (omega arith)
   merges-seats ps first id (v ∷ []) other [] one one' path calm idle = absurd (omega arith)
   merges-seats ps first id (v ∷ []) other (w ∷ []) one one' path calm idle = merges ps first id v other w path calm idle

@@ -1,5 +1,5 @@
 -- A look at the ticket, as the table asks for it.
-use Rattle.std.proofs.Common.{◌≡◌, ℕ, ◌+◌, ◌≤◌, List, [], ◌∷◌, get_or, set, sym, refl, ap, ◌∙◌, subst, arith, Option, length-set, get_or-set_other}
+use Rattle.std.proofs.Common.{◌≡◌, ℕ, ◌+◌, ◌%◌, ◌≤◌, List, [], ◌∷◌, get_or, set, sym, refl, ap, ◌∙◌, subst, arith, Option, length-set, get_or-set_other}
 use mathlib.Core.Option.{none, some}
 use lib.ListN.{get_elem?}
 use Rattle.atomic_table.specs.Table.{step, keeps, Allows}
@@ -7,12 +7,14 @@ use Rattle.atomic_table.proofs.Lists.{set_again}
 use Rattle.depot_rule.specs.declared.view.View.{View}
 use Rattle.depot_rule.specs.declared.view.Read.{Read}
 use Rattle.depot_rule.specs.Sums.{total}
-use Rattle.depot_rule.specs.Shares.{parts, claims, entered, shares, IsSound, Shares}
+use Rattle.depot_rule.specs.Shares.{parts, made, claims, entered, shares, IsSound, Shares}
 use Rattle.depot_rule.specs.Rule.{Rule}
 use Rattle.depot_rule.specs.Plays.{Place, LookSays, AlikeSays}
 use Rattle.depot_rule.proofs.Sums.{total-set, total-at}
-use Rattle.depot_rule.proofs.Views.{all-one, each-set}
+use Rattle.depot_rule.proofs.Views.{all-one, each-set, only-view}
 use Rattle.depot_rule.proofs.Parcels.{stay-keeps}
+use Rattle.depot_rule.proofs.Following.{are-apart}
+use Rattle.depot_rule.specs.Tree.{Excludes}
 use Rattle.depot_rule.proofs.Places.{on-one}
 use Rattle.affinity.specs.declared.affinity.Kind.{Kind}
 
@@ -23,14 +25,15 @@ same-word (w ∷ ws) = refl
 module _ (P E : Type 0) where
   -- the ticket is no node's word
   pub ticket-keeps : (ps ws : List ℕ) (views : List (List (View P E))) (r : Shares ps ws views) (x id : ℕ) (v w : View P E) → get_elem? views id ≡ some (v ∷ [])
-      → w.parts ≡ v.parts → IsSound ps w → ((a : ℕ) → (shares a w ≡ shares a v) × (claims a w ≡ claims a v) × (entered a w ≡ entered a v))
+      → w.parts ≡ v.parts → get_or (set ws 0 x) 0 0 ≡ total (total made) (set views id (w ∷ [])) % 18446744073709551616 → IsSound ps w → ((a : ℕ) → (shares a w ≡ shares a v) × (claims a w ≡ claims a v) × (entered a w ≡ entered a v))
       → Shares ps (set ws 0 x) (set views id (w ∷ []))
-  ticket-keeps ps ws views r x id v w at same sound others = record {
+  ticket-keeps ps ws views r x id v w at same next sound others = record {
     tree = r.tree;
     few = r.few;
     as_many = length-set ws 0 x ∙ r.as_many;
     seats = let t = total-set (total parts) views id (v ∷ []) (w ∷ []) at in let q = r.seats in omega arith;
     counted = λ a p l. let t = total-set (total (shares a)) views id (v ∷ []) (w ∷ []) at in let o = others a in let o0 = o.0 in let q = r.counted a p l in let g = get_or-set_other ws 0 a x 0 (λ e. omega arith) in omega arith;
+    ticket = next;
     alone = λ a p l some_claim. let t = total-set (total (entered a)) views id (v ∷ []) (w ∷ []) at in let u = total-set (total (claims a)) views id (v ∷ []) (w ∷ []) at in
         let o = others a in let o1 = o.1 in let o2 = o.2 in let q = r.alone a p l (omega arith) in let q0 = q.0 in let q1 = q.1 in (omega arith, omega arith);
     sound = each-set (IsSound ps) views id (w ∷ []) r.sound (all-one (IsSound ps) w sound);
@@ -44,16 +47,17 @@ module _ (P E : Type 0) where
       let rs : List Read = record { word = 0; value = x; shares = 0 } ∷ v.reads in
       let w : View P E = record v { reads = rs } in
       let ca = r.parcels.carries id (v ∷ []) at 0 v refl in let so = r.shares.sound id (v ∷ []) at 0 v refl in
-      let most = total-at (total parts) s.views id (v ∷ []) at in let seats = r.shares.seats in (
+      let count = total-set (total made) s.views id (v ∷ []) (w ∷ []) at in
+      let still : total (total made) (set s.views id (w ∷ [])) ≡ total (total made) s.views = omega arith in (
         w ∷ [],
         keeps,
         tt,
         record {
-          shares = ticket-keeps ps s.words s.views r.shares x id v w at refl (record { some_part = so.some_part; tree = so.tree; wide = so.wide; once = so.once }) (λ a. (refl, refl, refl));
+          shares = ticket-keeps ps s.words s.views r.shares x id v w at refl (ap (λ l. get_or l 0 0) (same-word s.words) ∙ r.shares.ticket ∙ ap (λ n. n % 18446744073709551616) (sym still)) (record { some_part = so.some_part; tree = so.tree; wide = so.wide; once = so.once }) (λ a. (refl, refl, refl));
           parcels = stay-keeps P E kind_of ps first s r id v w at (λ k. refl)
               (record { opened = ca.opened; nodes = ca.nodes; single = ca.single; cover = ca.cover; whole = ca.whole; there = ca.there; empty = ca.empty });
         },
-        (on-one _ me.0 v one (refl, (let fit : v.parts ≤ 64 = omega arith in fit)), refl),
+        (on-one _ me.0 v one (refl, λ all. r.shares.ticket ∙ ap (λ n. n % 18446744073709551616) (only-view P E ps s.words s.views r.shares id v at all made)), refl),
       )
 
   -- two seats that met are of the table's tree
@@ -71,7 +75,12 @@ module _ (P E : Type 0) where
           let at' : get_elem? s.views id ≡ some (v ∷ w ∷ []) = at ∙ ap some is in
           let so = r.shares.sound id (v ∷ w ∷ []) at' 0 v refl in
           let so' = r.shares.sound id (v ∷ w ∷ []) at' 1 w refl in
-          let most = total-at (total parts) s.views id (v ∷ w ∷ []) at' in let seats = r.shares.seats in
-          (so.tree ∙ sym so'.tree, (let fit : v.parts + w.parts ≤ 64 = omega arith in fit)),
+          let most = total-at (total parts) s.views id (v ∷ w ∷ []) at' in let seats = r.shares.seats in (
+            so.tree ∙ sym so'.tree,
+            (let fit : v.parts + w.parts ≤ 64 = omega arith in fit),
+            λ b c g h has has' ex.
+                let same = are-apart P E kind_of ps first s r id 0 b id 1 c (v ∷ w ∷ [], v, g, at', refl, has) (v ∷ w ∷ [], w, h, at', refl, has') (subst (λ (q : List ℕ). Excludes q b c) so.tree ex) in
+                let bad = same.1 in absurd (omega arith),
+          ),
     ),
   )

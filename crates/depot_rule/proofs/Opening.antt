@@ -47,6 +47,7 @@ module _ (P E : Type 0) (kind_of : P → Kind) where
           as_many = length-replicate (length ps) 0;
           seats = omega arith;
           counted = λ a p l. let z = zero-word (length ps) a in let q = bare a p in let q0 = q.0 in omega arith;
+          ticket = zero-word (length ps) 0;
           alone = λ a p l h. let q = bare a p in let q1 = q.1 in absurd (omega arith);
           sound = each-one (IsSound ps) v (record { some_part = omega arith; tree = refl; wide = length-replicate (length ps) None; once = λ a. omega arith });
         };

@@ -75,16 +75,16 @@ module _ (P E : Type 0) (kind_of : P → Kind) where
   }
 
   -- one slot changes, of a node that a grant of the seat covers: x is there from then on
-  pub slot-keeps : (ps : List ℕ) (first : List (Option P)) (s : St) (r : Rule kind_of ps first s) (id b k : ℕ) (v : View P E) (g : List (Option P)) (hand : ℕ) (gone : List ℕ) (rs : List Read) (x : maybe.Option (Option P))
+  pub slot-keeps : (ps : List ℕ) (first : List (Option P)) (s : St) (r : Rule kind_of ps first s) (id b k : ℕ) (v : View P E) (g : List (Option P)) (out : ℕ) (gone : List ℕ) (rs : List Read) (x : maybe.Option (Option P))
       → get_elem? s.views id ≡ some (v ∷ []) → get_elem? v.held b ≡ some (Some g) → Covers ps b k → 0 < k → k < length ps
-      → ((m : ℕ) → 0 < m → m ≢ k → (tally m gone ≡ tally m v.gone) × (one_if (eqb hand m) ≡ one_if (eqb v.hand m)))
-      → tally k gone + one_if (eqb hand k) ≤ 1
-      → (tally k gone + one_if (eqb hand k) ≡ 0 → x ≡ some (get_or g k None))
+      → ((m : ℕ) → 0 < m → m ≢ k → (tally m gone ≡ tally m v.gone) × (one_if (eqb out m) ≡ one_if (eqb v.out m)))
+      → tally k gone + one_if (eqb out k) ≤ 1
+      → (tally k gone + one_if (eqb out k) ≡ 0 → x ≡ some (get_or g k None))
       → (0 < tally k gone → x ≡ some None)
-      → Rule kind_of ps first record { words = set s.words k (get_or s.words k 0); homes = set s.homes k x; views = set s.views id (record v { hand = hand; gone = gone; reads = rs } ∷ []) }
-  slot-keeps ps first s r id b k v g hand gone rs x at here covers pos lt else_same most back gone_empty =
+      → Rule kind_of ps first record { words = set s.words k (get_or s.words k 0); homes = set s.homes k x; views = set s.views id (record v { out = out; gone = gone; reads = rs } ∷ []) }
+  slot-keeps ps first s r id b k v g out gone rs x at here covers pos lt else_same most back gone_empty =
       let ca = r.parcels.carries id (v ∷ []) at 0 v refl in
-      let w : View P E = record v { hand = hand; gone = gone; reads = rs } in
+      let w : View P E = record v { out = out; gone = gone; reads = rs } in
       let node = ca.nodes b g here in
       let wide = r.parcels.slots in
       let one_grant : (c : ℕ) (h : List (Option P)) → get_elem? v.held c ≡ some (Some h) → Covers ps c k → g ≡ h = λ c h hc ck.
@@ -111,7 +111,7 @@ module _ (P E : Type 0) (kind_of : P → Kind) where
             (λ ne. let t = else_same m pm ne in let t0 = t.0 in set_else s.homes k m x ne ∙ ca.empty m pm (omega arith));
       } in
       record {
-        shares = read-keeps P E ps s.words s.views r.shares id v k hand gone rs at pos lt;
+        shares = read-keeps P E ps s.words s.views r.shares id v k out gone rs at pos lt;
         parcels = record {
           slots = length-set s.homes k x ∙ r.parcels.slots;
           home = λ m pm lm none_taken. let t = total-set (total (takes m)) s.views id (v ∷ []) (w ∷ []) at in dite (ℕ_discrete m k)

@@ -23,7 +23,7 @@ module _ (P E : Type 0) (kind_of : P → Kind) where
   G = List (Option P)
 
   -- a parcel that a grant covers goes out of its slot
-  pub fetches : (ps : List ℕ) (first : List (Option P)) (slots id : ℕ) (me : Place P E) (v : View P E) (k b : ℕ) (g : G) → me.0 ≡ v ∷ [] → 0 < k → k < length ps → v.hand ≡ 0 → tally k v.gone ≡ 0
+  pub fetches : (ps : List ℕ) (first : List (Option P)) (slots id : ℕ) (me : Place P E) (v : View P E) (k b : ℕ) (g : G) → me.0 ≡ v ∷ [] → 0 < k → k < length ps → v.out ≡ 0 → tally k v.gone ≡ 0
       → get_elem? v.held b ≡ some (Some g) → Covers ps b k
       → Allows (Rule kind_of ps first) slots id me k (λ x. x) (FetchSays (step slots k 0 0 none) me)
   fetches ps first slots id me v k b g one pos lt calm fresh here covers s r _ at' small =
@@ -32,14 +32,14 @@ module _ (P E : Type 0) (kind_of : P → Kind) where
       let x : ℕ = get_or s.words k 0 in
       let so = r.shares.sound id (v ∷ []) at 0 v refl in
       let ca = r.parcels.carries id (v ∷ []) at 0 v refl in
-      let w : View P E = record v { hand = k; reads = noted st x v } in
-      let zero_hand : one_if (eqb v.hand k) ≡ 0 = one-other v.hand k (λ e. omega arith) in
+      let w : View P E = record v { out = k; reads = noted st x v } in
+      let zero_out : one_if (eqb v.out k) ≡ 0 = one-other v.out k (λ e. omega arith) in
       let one_hand : one_if (eqb k k) ≡ 1 = one-same k k refl in (
         w ∷ [],
         takes_slot k (get_or g k None),
         ca.there b k g here covers pos lt (omega arith),
         slot-keeps P E kind_of ps first s r id b k v g k v.gone (noted st x v) none at here covers pos lt
-            (λ m pm ne. (refl, one-other k m (λ e. ne (sym e)) ∙ sym (one-other v.hand m (λ e. omega arith))))
+            (λ m pm ne. (refl, one-other k m (λ e. ne (sym e)) ∙ sym (one-other v.out m (λ e. omega arith))))
             (omega arith) (λ z. absurd (omega arith)) (λ z. absurd (omega arith)),
         (
           on-one _ me.0 v one refl,
@@ -51,17 +51,17 @@ module _ (P E : Type 0) (kind_of : P → Kind) where
       )
 
   -- the slot whose parcel was moved out comes home empty
-  pub empties : (ps : List ℕ) (first : List (Option P)) (slots id : ℕ) (me : Place P E) (v : View P E) (k : ℕ) (others : List (ℕ × Option P)) → me.0 ≡ v ∷ [] → me.1 ≡ (k, None) ∷ others → 0 < k → k < length ps → v.hand ≡ k
+  pub empties : (ps : List ℕ) (first : List (Option P)) (slots id : ℕ) (me : Place P E) (v : View P E) (k : ℕ) (others : List (ℕ × Option P)) → me.0 ≡ v ∷ [] → me.1 ≡ (k, None) ∷ others → 0 < k → k < length ps → v.out ≡ k
       → Allows (Rule kind_of ps first) slots id me k (λ x. x) (EmptySays (step slots k 0 0 none) me)
-  empties ps first slots id me v k others one out pos lt hand s r _ at' small =
+  empties ps first slots id me v k others one slot pos lt out s r _ at' small =
       let at : get_elem? s.views id ≡ some (v ∷ []) = at' ∙ ap some one in
       let st : Step (Option P) = step slots k 0 0 none in
       let x : ℕ = get_or s.words k 0 in
       let ca = r.parcels.carries id (v ∷ []) at 0 v refl in
-      let w : View P E = record v { hand = 0; gone = k ∷ v.gone; reads = noted st x v } in
+      let w : View P E = record v { out = 0; gone = k ∷ v.gone; reads = noted st x v } in
       let homes : List (maybe.Option (Option P)) = set s.homes k (some None) in
-      let back : put_back s.homes me.1 ≡ homes = ap (put_back s.homes) out in
-      let in_hand : one_if (eqb v.hand k) ≡ 1 = one-same v.hand k hand in
+      let back : put_back s.homes me.1 ≡ homes = ap (put_back s.homes) slot in
+      let is_out : one_if (eqb v.out k) ≡ 1 = one-same v.out k out in
       let one_k : one_if (eqb k k) ≡ 1 = one-same k k refl in
       let zero_k : one_if (eqb 0 k) ≡ 0 = one-other 0 k (λ e. omega arith) in
       let single = ca.single k pos in
@@ -71,20 +71,20 @@ module _ (P E : Type 0) (kind_of : P → Kind) where
         tt,
         subst (λ (hs : List (maybe.Option (Option P))). Rule kind_of ps first record { words = set s.words k x; homes = hs; views = set s.views id (w ∷ []) }) (sym back)
             (slot-keeps P E kind_of ps first s r id c.0 k v c.1 0 (k ∷ v.gone) (noted st x v) (some None) at c.2 c.3 pos lt
-            (λ m pm ne. let y = one-other k m (λ e. ne (sym e)) in (omega arith, one-other 0 m (λ e. omega arith) ∙ sym (one-other v.hand m (λ e. ne (sym e ∙ hand)))))
+            (λ m pm ne. let y = one-other k m (λ e. ne (sym e)) in (omega arith, one-other 0 m (λ e. omega arith) ∙ sym (one-other v.out m (λ e. ne (sym e ∙ out)))))
             (omega arith) (λ z. absurd (omega arith)) (λ z. refl)),
         (on-one _ me.0 v one refl, refl),
       )
 
   -- the empty slot of a parcel that the seat has goes out
-  pub reaches : (ps : List ℕ) (first : List (Option P)) (slots id : ℕ) (me : Place P E) (v : View P E) (k : ℕ) → me.0 ≡ v ∷ [] → 0 < k → k < length ps → v.hand ≡ 0 → 0 < tally k v.gone
+  pub reaches : (ps : List ℕ) (first : List (Option P)) (slots id : ℕ) (me : Place P E) (v : View P E) (k : ℕ) → me.0 ≡ v ∷ [] → 0 < k → k < length ps → v.out ≡ 0 → 0 < tally k v.gone
       → Allows (Rule kind_of ps first) slots id me k (λ x. x) (ReachSays (step slots k 0 0 none) me)
   reaches ps first slots id me v k one pos lt calm away s r _ at' small =
       let at : get_elem? s.views id ≡ some (v ∷ []) = at' ∙ ap some one in
       let st : Step (Option P) = step slots k 0 0 none in
       let x : ℕ = get_or s.words k 0 in
       let ca = r.parcels.carries id (v ∷ []) at 0 v refl in
-      let w : View P E = record v { hand = k; gone = without k v.gone; reads = noted st x v } in
+      let w : View P E = record v { out = k; gone = without k v.gone; reads = noted st x v } in
       let one_k : one_if (eqb k k) ≡ 1 = one-same k k refl in
       let less : (m : ℕ) → tally m (without k v.gone) + one_if (eqb k m) ≡ tally m v.gone = λ m. tally-without k m v.gone away in
       let less_k = less k in let single = ca.single k pos in let once : tally k v.gone ≡ 1 = omega arith in
@@ -93,24 +93,24 @@ module _ (P E : Type 0) (kind_of : P → Kind) where
         takes_slot k None,
         ca.empty k pos away,
         slot-keeps P E kind_of ps first s r id c.0 k v c.1 k (without k v.gone) (noted st x v) none at c.2 c.3 pos lt
-            (λ m pm ne. let l = less m in let y = one-other k m (λ e. ne (sym e)) in (omega arith, y ∙ sym (one-other v.hand m (λ e. omega arith))))
+            (λ m pm ne. let l = less m in let y = one-other k m (λ e. ne (sym e)) in (omega arith, y ∙ sym (one-other v.out m (λ e. omega arith))))
             (omega arith) (λ z. absurd (omega arith)) (λ z. absurd (omega arith)),
         (on-one _ me.0 v one (refl, once), refl),
       )
 
   -- the slot comes home with what the grant lists
-  pub fills : (ps : List ℕ) (first : List (Option P)) (slots id : ℕ) (me : Place P E) (v : View P E) (k b : ℕ) (g : G) (others : List (ℕ × Option P)) → me.0 ≡ v ∷ [] → me.1 ≡ (k, get_or g k None) ∷ others → 0 < k → k < length ps → v.hand ≡ k
+  pub fills : (ps : List ℕ) (first : List (Option P)) (slots id : ℕ) (me : Place P E) (v : View P E) (k b : ℕ) (g : G) (others : List (ℕ × Option P)) → me.0 ≡ v ∷ [] → me.1 ≡ (k, get_or g k None) ∷ others → 0 < k → k < length ps → v.out ≡ k
       → get_elem? v.held b ≡ some (Some g) → Covers ps b k
       → Allows (Rule kind_of ps first) slots id me k (λ x. x) (FillSays (step slots k 0 0 none) me)
-  fills ps first slots id me v k b g others one out pos lt hand here covers s r _ at' small =
+  fills ps first slots id me v k b g others one slot pos lt out here covers s r _ at' small =
       let at : get_elem? s.views id ≡ some (v ∷ []) = at' ∙ ap some one in
       let st : Step (Option P) = step slots k 0 0 none in
       let x : ℕ = get_or s.words k 0 in
       let ca = r.parcels.carries id (v ∷ []) at 0 v refl in
-      let w : View P E = record v { hand = 0; reads = noted st x v } in
+      let w : View P E = record v { out = 0; reads = noted st x v } in
       let homes : List (maybe.Option (Option P)) = set s.homes k (some (get_or g k None)) in
-      let back : put_back s.homes me.1 ≡ homes = ap (put_back s.homes) out in
-      let in_hand : one_if (eqb v.hand k) ≡ 1 = one-same v.hand k hand in
+      let back : put_back s.homes me.1 ≡ homes = ap (put_back s.homes) slot in
+      let is_out : one_if (eqb v.out k) ≡ 1 = one-same v.out k out in
       let zero_k : one_if (eqb 0 k) ≡ 0 = one-other 0 k (λ e. omega arith) in
       let single = ca.single k pos in (
         w ∷ [],
@@ -118,7 +118,7 @@ module _ (P E : Type 0) (kind_of : P → Kind) where
         tt,
         subst (λ (hs : List (maybe.Option (Option P))). Rule kind_of ps first record { words = set s.words k x; homes = hs; views = set s.views id (w ∷ []) }) (sym back)
             (slot-keeps P E kind_of ps first s r id b k v g 0 v.gone (noted st x v) (some (get_or g k None)) at here covers pos lt
-            (λ m pm ne. (refl, one-other 0 m (λ e. omega arith) ∙ sym (one-other v.hand m (λ e. ne (sym e ∙ hand)))))
+            (λ m pm ne. (refl, one-other 0 m (λ e. omega arith) ∙ sym (one-other v.out m (λ e. ne (sym e ∙ out)))))
             (omega arith) (λ z. refl) (λ z. absurd (omega arith))),
         (on-one _ me.0 v one refl, refl),
       )

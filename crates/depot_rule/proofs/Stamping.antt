@@ -1,5 +1,5 @@
 -- The stamp, as the table asks for it.
-use Rattle.std.proofs.Common.{◌≡◌, ◌≢◌, ◌⊎◌, ℕ, ◌+◌, ◌%◌, ◌^◌, ◌<◌, eqb, List, [], ◌∷◌, ◌++◌, length, get_or, set, refl, ap, ◌∙◌, subst, arith, Option, Some, None, length-set, inl, inr, ⊎_elim}
+use Rattle.std.proofs.Common.{◌≡◌, ◌≢◌, ◌⊎◌, ℕ, ◌+◌, ◌%◌, ◌^◌, ◌<◌, eqb, List, [], ◌∷◌, ◌++◌, length, get_or, set, refl, ap, ◌∙◌, subst, arith, Option, Some, None, length-set, length-append, get_or-set_same, inl, inr, ⊎_elim}
 use mathlib.Core.Option.{none, some}
 use mathlib.Core.Logic.{dite}
 use native.Mathlib.Decide.{ℕ_discrete}
@@ -9,13 +9,13 @@ use Rattle.atomic_table.proofs.Lists.{at_set, set_else, set_here}
 use Rattle.depot_rule.specs.declared.view.View.{View}
 use Rattle.depot_rule.specs.declared.view.Entry.{Entry}
 use Rattle.depot_rule.specs.declared.view.Read.{Read}
-use Rattle.depot_rule.specs.Sums.{one_if, tally}
+use Rattle.depot_rule.specs.Sums.{total, one_if, tally}
 use Rattle.depot_rule.specs.Tree.{ancestors, Covers}
-use Rattle.depot_rule.specs.Shares.{Has, claims, lower}
+use Rattle.depot_rule.specs.Shares.{Has, made, claims, lower}
 use Rattle.depot_rule.specs.Parcels.{takes, IsParcel}
 use Rattle.depot_rule.specs.Rule.{Rule}
 use Rattle.depot_rule.specs.Plays.{Place, StampSays}
-use Rattle.depot_rule.proofs.Sums.{over-other}
+use Rattle.depot_rule.proofs.Sums.{total-set, over-other}
 use Rattle.depot_rule.proofs.Grants.{at-length}
 use Rattle.depot_rule.proofs.Parcels.{stay-keeps}
 use Rattle.depot_rule.proofs.Looking.{ticket-keeps}
@@ -27,12 +27,12 @@ module _ (P E : Type 0) (kind_of : P → Kind) where
   G = List (Option P)
 
   -- the grant of b lists other parcels, where all that it covers is taken
-  pub relist-keeps : (ps : List ℕ) (first : List (Option P)) (s : State (Option P) (List (View P E))) (r : Rule kind_of ps first s) (x id b : ℕ) (v : View P E) (g left : G) (rs : List Read) (seen : List E) (mine : List ℕ)
-      → get_elem? s.views id ≡ some (v ∷ []) → Has v b g
+  pub relist-keeps : (ps : List ℕ) (first : List (Option P)) (s : State (Option P) (List (View P E))) (r : Rule kind_of ps first s) (id b : ℕ) (v : View P E) (g left : G) (rs : List Read) (seen : List E) (mine : List ℕ)
+      → get_elem? s.views id ≡ some (v ∷ []) → Has v b g → length mine ≡ length v.mine + 1
       → ((k : ℕ) → 0 < k → k < length ps → Covers ps b k → takes k v ≡ 1)
       → ((k : ℕ) → 0 < k → k < length ps → Covers ps b k → IsParcel kind_of first k (get_or left k None))
-      → Rule kind_of ps first record { words = set s.words 0 x; homes = s.homes; views = set s.views id (record v { held = set v.held b (Some left); reads = rs; seen = seen; mine = mine } ∷ []) }
-  relist-keeps ps first s r x id b v g left rs seen mine at here taken fits =
+      → Rule kind_of ps first record { words = set s.words 0 ((get_or s.words 0 0 + 1) % 18446744073709551616); homes = s.homes; views = set s.views id (record v { held = set v.held b (Some left); reads = rs; seen = seen; mine = mine } ∷ []) }
+  relist-keeps ps first s r id b v g left rs seen mine at here more taken fits =
       let w : View P E = record v { held = set v.held b (Some left); reads = rs; seen = seen; mine = mine } in
       let so = r.shares.sound id (v ∷ []) at 0 v refl in
       let ca = r.parcels.carries id (v ∷ []) at 0 v refl in
@@ -42,7 +42,9 @@ module _ (P E : Type 0) (kind_of : P → Kind) where
       = λ c h e. ⊎_elim (λ (t : (c ≡ b) × (Some left ≡ Some h)). let lh : left ≡ h = (let q = t.1 in cc) in inl (t.0, lh)) (λ (t : (c ≢ b) × Has v c h). inr t) (at_set v.held b c (Some left) (Some h) e) in
       let now : Has w b left = set_here v.held b (Some left) (at-length v.held b (Some g) here) in
       record {
-        shares = ticket-keeps P E ps s.words s.views r.shares x id v w at refl
+        shares = ticket-keeps P E ps s.words s.views r.shares ((get_or s.words 0 0 + 1) % 18446744073709551616) id v w at refl
+            (let t = total-set (total made) s.views id (v ∷ []) (w ∷ []) at in let n = ca.nodes b g here in let n0 = n.1 in let wide = r.shares.as_many in
+            let q = r.shares.ticket in let h = get_or-set_same s.words 0 ((get_or s.words 0 0 + 1) % 18446744073709551616) 0 (omega arith) in omega arith)
             (record { some_part = so.some_part; tree = so.tree; wide = length-set v.held b (Some left) ∙ so.wide; once = so.once })
             (λ a. let l = low a in let o = own a in (omega arith, o, omega arith));
         parcels = stay-keeps P E kind_of ps first s r id v w at (λ k. refl) (record {
@@ -85,6 +87,6 @@ module _ (P C R : Type 0) (kind_of : P → Kind) where
         w ∷ [],
         keeps,
         tt,
-        relist-keeps P E kind_of ps first s r ((x + 1) % 18446744073709551616) id e.node v g e.left rs seen mine at here once parcels,
+        relist-keeps P E kind_of ps first s r id e.node v g e.left rs seen mine at here (length-append v.mine (length (v.seen ++ []) ∷ [])) once parcels,
         (on-one _ me.0 v one ([], refl), refl),
       )

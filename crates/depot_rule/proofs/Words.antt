@@ -1,5 +1,5 @@
 -- The steps on words keep the rule of shares. Each lemma names the next view.
-use Rattle.std.proofs.Common.{◌≡◌, ◌≢◌, ℕ, ◌+◌, ◌-◌, ◌*◌, ◌<◌, ◌≤◌, eqb, List, [], ◌∷◌, length, get_or, set, sym, refl, ap, ◌∙◌, subst, arith, Option, Some, None, length-set, get_or-set_other, get_or-set_same}
+use Rattle.std.proofs.Common.{◌≡◌, ◌≢◌, ℕ, ◌+◌, ◌-◌, ◌*◌, ◌%◌, ◌<◌, ◌≤◌, eqb, List, [], ◌∷◌, length, get_or, set, sym, refl, ap, ◌∙◌, subst, arith, Option, Some, None, length-set, get_or-set_other, get_or-set_same}
 use mathlib.Core.Option.{some}
 use mathlib.Core.Logic.{dite}
 use native.Mathlib.Decide.{ℕ_discrete}
@@ -8,7 +8,7 @@ use Rattle.depot_rule.specs.declared.view.View.{View}
 use Rattle.depot_rule.specs.declared.view.Read.{Read}
 use Rattle.depot_rule.specs.Sums.{total, one_if, tally, over_taken}
 use Rattle.depot_rule.specs.Tree.{ancestors}
-use Rattle.depot_rule.specs.Shares.{exclusive, parts, claims, entered, shares, IsSound, Shares}
+use Rattle.depot_rule.specs.Shares.{exclusive, parts, made, claims, entered, shares, IsSound, Shares}
 use Rattle.depot_rule.proofs.Sums.{one-same, one-other, total-set, total-at, total-less, fill-at, clear-at, free-at}
 use Rattle.depot_rule.proofs.Trees.{ancestors-once}
 use Rattle.depot_rule.proofs.Views.{all-one, each-set, unsure_in, shares-parts, few-in-word}
@@ -40,12 +40,12 @@ module _ (P E : Type 0) where
 
   -- the seat id's step on the word i, which makes it x
   pub step-keeps : (ps ws : List ℕ) (views : Views) (r : Shares ps ws views) (i x id : ℕ) (v w : View P E) → get_elem? views id ≡ some (v ∷ []) → 0 < i → i < length ps
-      → w.parts ≡ v.parts → IsSound ps w
+      → w.parts ≡ v.parts → made w ≡ made v → IsSound ps w
       → x + shares i v ≡ get_or ws i 0 + shares i w
       → ((a : ℕ) → 0 < a → a ≢ i → (shares a w ≡ shares a v) × (claims a w ≡ claims a v) × (entered a w ≡ entered a v))
       → (0 < total (total (claims i)) (set views id (w ∷ [])) → (total (total (claims i)) (set views id (w ∷ [])) ≡ 1) × (total (total (entered i)) (set views id (w ∷ [])) ≡ 0))
       → Shares ps (set ws i x) (set views id (w ∷ []))
-  step-keeps ps ws views r i x id v w at pos lt same sound here others lone = record {
+  step-keeps ps ws views r i x id v w at pos lt same as_many_made sound here others lone = record {
     tree = r.tree;
     few = r.few;
     as_many = length-set ws i x ∙ r.as_many;
@@ -56,6 +56,8 @@ module _ (P E : Type 0) where
         let n = r.as_many in let g = get_or-set_same ws i x 0 (omega arith) in omega arith))
         (λ ne. let t = total-set (total (shares a)) views id (v ∷ []) (w ∷ []) at in let q = r.counted a p l in let o = others a p ne in let o' = o.0 in
         let g = get_or-set_other ws i a x 0 ne in omega arith);
+    ticket = let t = total-set (total made) views id (v ∷ []) (w ∷ []) at in let q = r.ticket in let g = get_or-set_other ws i 0 x 0 (λ e. omega arith) in
+        let still : total (total made) (set views id (w ∷ [])) ≡ total (total made) views = omega arith in g ∙ q ∙ ap (λ n. n % 18446744073709551616) (sym still);
     alone = λ a p l. dite (ℕ_discrete a i)
         (λ e. subst (λ (z : ℕ). 0 < total (total (claims z)) (set views id (w ∷ [])) → (total (total (claims z)) (set views id (w ∷ [])) ≡ 1) × (total (total (entered z)) (set views id (w ∷ [])) ≡ 0)) (sym e) lone)
         (λ ne some_claim. let t = total-set (total (entered a)) views id (v ∷ []) (w ∷ []) at in let u = total-set (total (claims a)) views id (v ∷ []) (w ∷ []) at in
@@ -74,7 +76,7 @@ module _ (P E : Type 0) where
       let one = one-same i i refl in
       let none = unclaimed ps ws views r i pos lt free in
       let c = total-set (total (claims i)) views id (v ∷ []) (w ∷ []) at in
-      step-keeps ps ws views r i (get_or ws i 0 + 1) id v w at pos lt refl
+      step-keeps ps ws views r i (get_or ws i 0 + 1) id v w at pos lt refl refl
       (record {
         some_part = so.some_part;
         tree = so.tree;
@@ -97,7 +99,7 @@ module _ (P E : Type 0) where
       let one = one-same i i refl in let zero_now : one_if (eqb v.unsure i) ≡ 0 = one-other v.unsure i (λ e. omega arith) in
       let l = claimed ps ws views r i pos lt full in let l0 = l.0 in let l1 = l.1 in
       let c = total-set (total (claims i)) views id (v ∷ []) (w ∷ []) at in let t = total-set (total (entered i)) views id (v ∷ []) (w ∷ []) at in
-      step-keeps ps ws views r i (get_or ws i 0 + 1) id v w at pos lt refl
+      step-keeps ps ws views r i (get_or ws i 0 + 1) id v w at pos lt refl refl
       (record { some_part = so.some_part; tree = so.tree; wide = so.wide; once = so.once })
       (omega arith)
       (λ a p ne. let b = one-other i a (λ e. ne (sym e)) in let b' = one-other v.unsure a (λ e. omega arith) in (omega arith, refl, refl))
@@ -114,7 +116,7 @@ module _ (P E : Type 0) where
       let q = r.counted i pos lt in let m = total-at (total (shares i)) views id (v ∷ []) at in
       let c = total-set (total (claims i)) views id (v ∷ []) (w ∷ []) at in let t = total-set (total (entered i)) views id (v ∷ []) (w ∷ []) at in (
         omega arith,
-        step-keeps ps ws views r i (get_or ws i 0 - 1) id v w at pos lt refl
+        step-keeps ps ws views r i (get_or ws i 0 - 1) id v w at pos lt refl refl
             (record { some_part = so.some_part; tree = so.tree; wide = so.wide; once = so.once })
             (omega arith)
             (λ a p ne. let b = one-other 0 a (λ e. omega arith) in let b' = one-other v.unsure a (λ e. ne (sym e ∙ unsure)) in (omega arith, refl, refl))
@@ -134,7 +136,7 @@ module _ (P E : Type 0) where
       let q = r.counted i pos lt in let m = total-at (total (shares i)) views id (v ∷ []) at in let m' = total-at (total (entered i)) views id (v ∷ []) at in
       let c = total-set (total (claims i)) views id (v ∷ []) (w ∷ []) at in let t = total-set (total (entered i)) views id (v ∷ []) (w ∷ []) at in (
         omega arith,
-        step-keeps ps ws views r i (get_or ws i 0 - 1) id v w at pos lt refl
+        step-keeps ps ws views r i (get_or ws i 0 - 1) id v w at pos lt refl refl
             (record { some_part = so.some_part; tree = so.tree; wide = so.wide; once = λ a. let o = so.once a in let e = split a in omega arith })
             (omega arith)
             (λ a p ne. let b = one-other i a (λ e. ne (sym e)) in let e = split a in (omega arith, refl, omega arith))
@@ -161,7 +163,7 @@ module _ (P E : Type 0) where
       let c = total-set (total (claims b)) views id (v ∷ []) (w ∷ []) at in let t = total-set (total (entered b)) views id (v ∷ []) (w ∷ []) at in
       let le = total-less (total (entered b)) (total (Bare b)) (λ vs. total-less (entered b) (Bare b) (λ u. omega arith) vs) views in (
         vacant,
-        step-keeps ps ws views r b exclusive id v w at pos lt refl
+        step-keeps ps ws views r b exclusive id v w at pos lt refl refl
             (record { some_part = so.some_part; tree = so.tree; wide = length-set v.held b (Some g) ∙ so.wide; once = λ a. omega arith })
             (omega arith)
             (λ a p ne. let o = own a in let z = one-other b a (λ e. ne (sym e)) in let u = as_before a in (omega arith, omega arith, u))
@@ -186,7 +188,7 @@ module _ (P E : Type 0) where
       let l = r.alone b pos lt (omega arith) in let l0 = l.0 in
       let c = total-set (total (claims b)) views id (v ∷ []) (w ∷ []) at in (
         omega arith,
-        step-keeps ps ws views r b (get_or ws b 0 - exclusive) id v w at pos lt refl
+        step-keeps ps ws views r b (get_or ws b 0 - exclusive) id v w at pos lt refl refl
             (record { some_part = so.some_part; tree = so.tree; wide = length-set v.held b None ∙ so.wide; once = λ a. subst (λ (t : List ℕ). tally a (ancestors t b) ≤ 1) (sym so.tree) (ancestors-once ps r.tree a b) })
             (omega arith)
             (λ a p ne. let o = own a in let z = one-other b a (λ e. ne (sym e)) in let u = as_before a in (omega arith, omega arith, u))
@@ -194,13 +196,13 @@ module _ (P E : Type 0) where
       )
 
   -- a word is read, and the seat's shares stay
-  pub read-keeps : (ps ws : List ℕ) (views : Views) (r : Shares ps ws views) (id : ℕ) (v : View P E) (i hand : ℕ) (gone : List ℕ) (rs : List Read) → get_elem? views id ≡ some (v ∷ []) → 0 < i → i < length ps
-      → Shares ps (set ws i (get_or ws i 0)) (set views id (record v { hand = hand; gone = gone; reads = rs } ∷ []))
-  read-keeps ps ws views r id v i hand gone rs at pos lt =
+  pub read-keeps : (ps ws : List ℕ) (views : Views) (r : Shares ps ws views) (id : ℕ) (v : View P E) (i out : ℕ) (gone : List ℕ) (rs : List Read) → get_elem? views id ≡ some (v ∷ []) → 0 < i → i < length ps
+      → Shares ps (set ws i (get_or ws i 0)) (set views id (record v { out = out; gone = gone; reads = rs } ∷ []))
+  read-keeps ps ws views r id v i out gone rs at pos lt =
       let so = r.sound id (v ∷ []) at 0 v refl in
-      let w : View P E = record v { hand = hand; gone = gone; reads = rs } in
+      let w : View P E = record v { out = out; gone = gone; reads = rs } in
       let c = total-set (total (claims i)) views id (v ∷ []) (w ∷ []) at in let t = total-set (total (entered i)) views id (v ∷ []) (w ∷ []) at in
-      step-keeps ps ws views r i (get_or ws i 0) id v w at pos lt refl
+      step-keeps ps ws views r i (get_or ws i 0) id v w at pos lt refl refl
       (record { some_part = so.some_part; tree = so.tree; wide = so.wide; once = so.once })
       (omega arith)
       (λ a p ne. (refl, refl, refl))

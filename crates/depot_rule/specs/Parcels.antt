@@ -11,7 +11,7 @@ use Rattle.affinity.specs.declared.affinity.Kind.{Kind}
 
 -- 1 where the seat has the parcel of k, or its slot
 abbrev pub takes : {P E : Type 0} → ℕ → View P E → ℕ
-takes k v = tally k v.gone + one_if (v.hand == k)
+takes k v = tally k v.gone + one_if (v.out == k)
 
 -- a parcel for the node k: of the kind of that which was there at the start
 abbrev pub IsParcel : {P : Type 0} → (P → Kind) → List (Option P) → ℕ → Option P → Type 0

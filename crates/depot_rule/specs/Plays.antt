@@ -1,5 +1,5 @@
 -- What each kind of step tells the seat that makes it.
-use Rattle.std.specs.Prelude.{◌≡◌, ◌≢◌, ℕ, ◌+◌, ◌<◌, ◌≤◌, List, [], ◌∷◌, ◌++◌, drop, length, slice_set, slice_index_or, Option, Some, None, IfSome}
+use Rattle.std.specs.Prelude.{◌≡◌, ◌≢◌, ℕ, ◌+◌, ◌%◌, ◌<◌, ◌≤◌, List, [], ◌∷◌, ◌++◌, drop, length, slice_set, slice_index_or, Option, Some, None, IfSome}
 use mathlib.Core.Option.{some}
 use lib.ListN.{get_elem?}
 use Rattle.atomic_table.specs.Table.{Me, Step, rest}
@@ -8,7 +8,7 @@ use Rattle.depot_rule.specs.declared.view.Read.{Read}
 use Rattle.depot_rule.specs.declared.view.Entry.{Entry}
 use Rattle.depot_rule.specs.Sums.{tally, without}
 use Rattle.depot_rule.specs.Tree.{ancestors, Covers, Excludes}
-use Rattle.depot_rule.specs.Shares.{exclusive, shares, Has}
+use Rattle.depot_rule.specs.Shares.{exclusive, made, shares, Has}
 use Rattle.depot_rule.specs.Parcels.{takes, IsParcel}
 use Rattle.depot_rule.specs.Seats.{OnOne}
 use Rattle.affinity.specs.declared.affinity.Kind.{Kind}
@@ -63,30 +63,34 @@ module _ {P E : Type 0} where
   -- a load of the node's word, by which its slot goes out with what the grant lists
   abbrev pub FetchSays : Step (Option P) → Place P E → ℕ → Place P E → Type 0
   FetchSays st me found me' =
-      OnOne (λ v. me'.0 ≡ record v { hand = st.word; reads = noted st found v } ∷ []) me.0
+      OnOne (λ v. me'.0 ≡ record v { out = st.word; reads = noted st found v } ∷ []) me.0
       × OnOne (λ v. (b : ℕ) (g : List (Option P)) → Has v b g → Covers v.tree b st.word → me'.1 ≡ (st.word, slice_index_or g st.word None) ∷ me.1) me.0
 
   -- a load, by which the slot comes home empty
   abbrev pub EmptySays : Step (Option P) → Place P E → ℕ → Place P E → Type 0
-  EmptySays st me found me' = OnOne (λ v. me'.0 ≡ record v { hand = 0; gone = st.word ∷ v.gone; reads = noted st found v } ∷ []) me.0 × (me'.1 ≡ rest me.1)
+  EmptySays st me found me' = OnOne (λ v. me'.0 ≡ record v { out = 0; gone = st.word ∷ v.gone; reads = noted st found v } ∷ []) me.0 × (me'.1 ≡ rest me.1)
 
   -- a load, by which the empty slot of a parcel that was taken once goes out
   abbrev pub ReachSays : Step (Option P) → Place P E → ℕ → Place P E → Type 0
   ReachSays st me found me' =
-      OnOne (λ v. (me'.0 ≡ record v { hand = st.word; gone = without st.word v.gone; reads = noted st found v } ∷ []) × (tally st.word v.gone ≡ 1)) me.0
+      OnOne (λ v. (me'.0 ≡ record v { out = st.word; gone = without st.word v.gone; reads = noted st found v } ∷ []) × (tally st.word v.gone ≡ 1)) me.0
       × (me'.1 ≡ (st.word, None) ∷ me.1)
 
   -- a load, by which the slot comes home with what the grant lists
   abbrev pub FillSays : Step (Option P) → Place P E → ℕ → Place P E → Type 0
-  FillSays st me found me' = OnOne (λ v. me'.0 ≡ record v { hand = 0; reads = noted st found v } ∷ []) me.0 × (me'.1 ≡ rest me.1)
+  FillSays st me found me' = OnOne (λ v. me'.0 ≡ record v { out = 0; reads = noted st found v } ∷ []) me.0 × (me'.1 ≡ rest me.1)
 
-  -- a load of the ticket, in which no seat has shares
+  -- a load of the ticket, in which no seat has shares; for the only seat it counts the entries that it made
   abbrev pub LookSays : Step (Option P) → Place P E → ℕ → Place P E → Type 0
-  LookSays st me found me' = Goes (λ v vs. (vs ≡ record v { reads = record { word = 0; value = found; shares = 0 } ∷ v.reads } ∷ []) × (v.parts ≤ 64)) me me'
+  LookSays st me found me' = Goes (λ v vs. (vs ≡ record v { reads = record { word = 0; value = found; shares = 0 } ∷ v.reads } ∷ []) × (IsOnly v → found ≡ made v % 18446744073709551616)) me me'
 
-  -- a load by which two seats that met are found to be of one tree, with at most 64 parts
+  -- no grant of the one excludes a grant of the other
+  abbrev pub AreApart : View P E → View P E → Type 0
+  AreApart v w = (b c : ℕ) (g h : List (Option P)) → Has v b g → Has w c h → Excludes v.tree b c → ⊥
+
+  -- a load by which two seats that met are found to be of one tree, with at most 64 parts, and no grant of the one to exclude a grant of the other
   abbrev pub AlikeSays : Step (Option P) → Place P E → ℕ → Place P E → Type 0
-  AlikeSays st me found me' = (me' ≡ me) × ((v w : View P E) → me.0 ≡ v ∷ w ∷ [] → (v.tree ≡ w.tree) × (v.parts + w.parts ≤ 64))
+  AlikeSays st me found me' = (me' ≡ me) × ((v w : View P E) → me.0 ≡ v ∷ w ∷ [] → (v.tree ≡ w.tree) × (v.parts + w.parts ≤ 64) × AreApart v w)
 
 -- fetch_add of 1 on the ticket, for the entry e: the grant of its node lists from then on what the entry left, and the entry stands in the history after all that was seen and what others put between
 abbrev pub StampSays : {P C R : Type 0} → Option (Entry P C R) → Step (Option P) → Place P (Entry P C R) → ℕ → Place P (Entry P C R) → Type 0

@@ -56,7 +56,7 @@ module _ {P E : Type 0} where
   parted (v ∷ vs) = record v { parts = v.parts - 1 } ∷ vs
 
   abbrev pub fresh : View P E → View P E
-  fresh v = record v { parts = 1; unsure = 0; path = []; held = replicate (length v.tree) None; hand = 0; gone = []; reads = []; mine = [] }
+  fresh v = record v { parts = 1; unsure = 0; path = []; held = replicate (length v.tree) None; out = 0; gone = []; reads = []; mine = [] }
 
   abbrev pub fresh_of : List (View P E) → List (View P E)
   fresh_of [] = []

@@ -1,5 +1,5 @@
 -- Words and shares. The word of a node is the sum of what the seats' views have added to it: 1 for each share, 2^32 for a claim.
-use Rattle.std.specs.Prelude.{◌≡◌, ℕ, ◌+◌, ◌*◌, ◌<◌, ◌≤◌, ◌==◌, List, [], length, replicate, slice_index, Option, Some, None}
+use Rattle.std.specs.Prelude.{◌≡◌, ℕ, ◌+◌, ◌*◌, ◌%◌, ◌<◌, ◌≤◌, ◌==◌, List, [], length, replicate, slice_index, Option, Some, None}
 use mathlib.Core.Option.{some}
 use lib.ListN.{get_elem?}
 use Rattle.depot_rule.specs.declared.view.View.{View}
@@ -16,7 +16,7 @@ Each Q views = (j : ℕ) (vs : List _) → get_elem? views j ≡ some vs → (i 
 
 -- the first seat's view: all parts, nothing entered, granted or seen
 abbrev pub opening_view : {P E : Type 0} → List ℕ → List (Option P) → View P E
-opening_view parents first = record { parts = 64; tree = parents; unsure = 0; path = []; held = replicate (length parents) None; hand = 0; gone = []; reads = []; first = first; seen = []; mine = [] }
+opening_view parents first = record { parts = 64; tree = parents; unsure = 0; path = []; held = replicate (length parents) None; out = 0; gone = []; reads = []; first = first; seen = []; mine = [] }
 
 module _ {P E : Type 0} where
   -- the view has a grant of b, with the parcels g by node
@@ -25,6 +25,10 @@ module _ {P E : Type 0} where
 
   abbrev pub parts : View P E → ℕ
   parts v = v.parts
+
+  -- the entries that the view made
+  abbrev pub made : View P E → ℕ
+  made v = length v.mine
 
   -- 1 where the view has a grant of a itself
   abbrev pub claims : ℕ → View P E → ℕ
@@ -61,6 +65,8 @@ module _ {P E : Type 0} where
     -- the splits of all seats, and the seats
     pub seats : total (total parts) views ≡ 64
     pub counted : (a : ℕ) → 0 < a → a < length parents → slice_index words a ≡ total (total (shares a)) views
+    -- the ticket counts the entries of all views, modulo 2^64
+    pub ticket : slice_index words 0 ≡ total (total made) views % 18446744073709551616
     -- a node that is claimed is claimed once, and no share in it was found free
     pub alone : (a : ℕ) → 0 < a → a < length parents → 0 < total (total (claims a)) views → (total (total (claims a)) views ≡ 1) × (total (total (entered a)) views ≡ 0)
     pub sound : Each (IsSound parents) views

@@ -33,7 +33,7 @@ pub struct View<P, E> {
     /// By node, what was granted there.
     pub held: LinkedList<Option<Granted<P>>>,
     /// The node whose slot is out with the seat, or 0.
-    pub hand: u64,
+    pub out: u64,
     /// The nodes whose slots are at home and empty, since the seat has their parcels.
     pub gone: LinkedList<u64>,
     /// The seat's steps on words, the last one first.

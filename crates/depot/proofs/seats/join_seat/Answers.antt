@@ -57,7 +57,7 @@ join_seat-requires-2 g c =
           _ c.split_seat-other.new.seat.me.0 _ c.split_seat-other.result.me.0 (ap length first) (ap length second)
           (ap (λ us. (view_of us).path) second ∙ no-path other_is c.args.second.idle.2)
           (ap (λ us. (view_of us).unsure) second ∙ (sym (ap (λ l. (known l).unsure) other_is) ∙ c.args.second.idle.0))
-          (ap (λ us. (view_of us).hand) second ∙ (sym (ap (λ l. (known l).hand) other_is) ∙ c.args.second.idle.1)),
+          (ap (λ us. (view_of us).out) second ∙ (sym (ap (λ l. (known l).out) other_is) ∙ c.args.second.idle.1)),
     )
 
 pub invariant_of-result : goal.invariant_of-result
@@ -85,7 +85,7 @@ invariant_of-result g c =
       one = (ap length full, ap (λ l. length (own_views l)) full);
       idle = (
         ap (λ l. (known l).unsure) full ∙ (sym (ap (λ l. (known l).unsure) is) ∙ c.args.first.idle.0),
-        ap (λ l. (known l).hand) full ∙ (sym (ap (λ l. (known l).hand) is) ∙ c.args.first.idle.1),
+        ap (λ l. (known l).out) full ∙ (sym (ap (λ l. (known l).out) is) ∙ c.args.first.idle.1),
         ap (λ l. length (known l).path) full ∙ (sym (ap (λ l. length (known l).path) is) ∙ c.args.first.idle.2),
       );
       parts = omega arith;

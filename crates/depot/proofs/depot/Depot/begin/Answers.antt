@@ -96,7 +96,7 @@ invariant_of-seat-in-Ok g c =
     (g.N.Node.parcels L (affinity_of c.args.affinity) c.gather-held.result) c.gather-held.ensures.exact c.gather-held.new.shelf.node c.gather-held.ensures.kept.0 c.gather-held.new.shelf.place.me.0 c.gather-held.ensures.moved c.gather-held.ensures.kept.2 c.into_badge-in-Ok.result.views badge in
     record {
       one = (ap length full, ap (λ l. length (own_views l)) full);
-      idle = (ap (λ l. (known l).unsure) full ∙ seat.idle.0, ap (λ l. (known l).hand) full ∙ seat.idle.1, ap (λ l. length (known l).path) full ∙ seat.idle.2);
+      idle = (ap (λ l. (known l).unsure) full ∙ seat.idle.0, ap (λ l. (known l).out) full ∙ seat.idle.1, ap (λ l. length (known l).path) full ∙ seat.idle.2);
       parts = ap (λ l. (known l).parts) full ∙ seat.parts;
       gathered = gathered-of _ full (begun-gathered g.M.Parcel.HasKind.kind L c.args.self.now.layout.lawful (affinity_of c.args.affinity) c.requires.node.0 K c.requires.seat.1 c.number_of-node.result c.number_of-node.ensures.number q.0.0 q.0.1 c.try_claim.new.place.me.0 q.0.2
           (g.N.Node.parcels L (affinity_of c.args.affinity) c.gather-held.result) c.gather-held.ensures.exact c.gather-held.new.shelf.node c.gather-held.ensures.kept.0 c.gather-held.new.shelf.place.me.0 c.gather-held.ensures.moved c.gather-held.ensures.kept.2 q.1 seat.gathered);
@@ -143,7 +143,7 @@ invariant_of-seat-in-Err g c =
     let full = badge ∙ ap (λ us. us ∷ []) q.1 in
     record {
       one = (ap length full, ap (λ l. length (own_views l)) full);
-      idle = (ap (λ l. (known l).unsure) full ∙ seat.idle.0, ap (λ l. (known l).hand) full ∙ seat.idle.1, ap (λ l. length (known l).path) full ∙ seat.idle.2);
+      idle = (ap (λ l. (known l).unsure) full ∙ seat.idle.0, ap (λ l. (known l).out) full ∙ seat.idle.1, ap (λ l. length (known l).path) full ∙ seat.idle.2);
       parts = ap (λ l. (known l).parts) full ∙ seat.parts;
       gathered = gathered-of _ full seat.gathered;
     }

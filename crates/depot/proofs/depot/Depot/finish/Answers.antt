@@ -85,7 +85,7 @@ give_home-requires-clause-ready g c =
     let parents : c.deref.result.now ≡ numbers.parents L = search rules in (
       ap length stamped.2,
       c.stamp_call.ensures.seat.1 ∙ none,
-      ap (λ us. (view_of us).hand) stamped.2 ∙ (sym (ap (λ l. (known l).hand) is) ∙ seat.idle.1),
+      ap (λ us. (view_of us).out) stamped.2 ∙ (sym (ap (λ l. (known l).out) is) ∙ seat.idle.1),
       ap (λ us. (view_of us).path) stamped.2 ∙ no-path is seat.idle.2,
       ap (λ us. (view_of us).tree) stamped.2 ∙ (still.0 ∙ sym parents),
     )
@@ -194,7 +194,7 @@ invariant_of-seat g c =
     let tree : IsTree (view_of c.stamp_call.new.place.me.0).tree = subst IsTree (sym (ap (λ us. (view_of us).tree) stamped.2 ∙ still.0)) (parents-tree L c.args.self.now.layout.lawful) in
     record {
       one = (ap length full, ap (λ l. length (own_views l)) full);
-      idle = (ap (λ l. (known l).unsure) full ∙ seat.idle.0, ap (λ l. (known l).hand) full ∙ seat.idle.1, ap (λ l. length (known l).path) full ∙ seat.idle.2);
+      idle = (ap (λ l. (known l).unsure) full ∙ seat.idle.0, ap (λ l. (known l).out) full ∙ seat.idle.1, ap (λ l. length (known l).path) full ∙ seat.idle.2);
       parts = ap (λ l. (known l).parts) full ∙ seat.parts;
       gathered = subst IsGathered (sym (ap known badge))
           (ended-gathered (view_of c.stamp_call.new.place.me.0) (view_of c.give_home.result.me.0) n tree stamped_all c.give_home.ensures.ended.1 c.give_home.ensures.apart c.give_home.ensures.others);
