@@ -1,5 +1,5 @@
 -- A call that begins: what is there to be gathered, and what is known once it is.
-use Rattle.std.proofs.Common.{◌≡◌, ◌≢◌, ℕ, ◌<◌, ◌≤◌, List, [], ◌∷◌, ◌++◌, length, set, slice_index_or, sym, ap, ◌∙◌, subst, arith, append_assoc, ⊎_elim, Option, Some, None}
+use Rattle.std.proofs.Common.{◌≡◌, ◌≢◌, ℕ, suc, ◌+◌, ◌%◌, ◌<◌, ◌≤◌, List, [], ◌∷◌, ◌++◌, length, set, slice_index_or, refl, sym, ap, ◌∙◌, subst, arith, append_assoc, ⊎_elim, Option, Some, None}
 use mathlib.Core.Option.{some}
 use mathlib.Core.Logic.{dite}
 use native.Mathlib.Decide.{ℕ_discrete}
@@ -19,15 +19,15 @@ use Rattle.depot_rule.specs.declared.view.View.{View}
 use Rattle.depot_rule.specs.declared.view.Read.{Read}
 use Rattle.depot_rule.specs.Sums.{tally}
 use Rattle.depot_rule.specs.Tree.{IsTree, ancestors, Covers}
-use Rattle.depot_rule.specs.Shares.{Has, grant_shares}
+use Rattle.depot_rule.specs.Shares.{Has, made, grant_shares}
 use Rattle.depot_rule.specs.Seats.{OnOne, view_of}
 use Rattle.depot_rule.specs.Plays.{IsOnly}
 use Rattle.depot_rule.proofs.Grants.{at-length}
 use Rattle.depot_rule.proofs.Places.{one-view, of-one}
 use Rattle.depot_rule.proofs.Trees.{cover-excludes, above-smaller}
-use Rattle.depot.specs.Calls.{IsRead, Refuses, IsExcluded, IsGranted, WasRefused, own_views, known}
+use Rattle.depot.specs.Calls.{IsAmong, IsRead, Refuses, IsExcluded, IsGranted, WasRefused, own_views, known}
 use Rattle.depot.specs.Holds.{untaken, Handled, IsGathered}
-use Rattle.depot.specs.Grants.{IsSeatOf, IsBegun, IsBusy}
+use Rattle.depot.specs.Grants.{worn, IsSeatOf, IsBegun, IsBusy, IsWorn}
 use Rattle.depot.proofs.Moves.{placed-one}
 use Rattle.depot.proofs.Holding.{is-untaken}
 use Rattle.depot.proofs.Layouts.{parents-tree, number-place, under-place, covers-under, under-covers}
@@ -35,6 +35,21 @@ use Rattle.depot.proofs.Layouts.{parents-tree, number-place, under-place, covers
 -- what a taking took was there, and isn't any more
 pub moved-some : {T : Type 0} (before taken after : Option T) (p : T) → taken ≡ Some p → moving.Moved before taken after → (before ≡ Some p) × (after ≡ None)
 moved-some before taken after p e m = subst (λ (t : Option _). moving.Moved before t after) e m
+
+-- what is added last, or was there behind others, is among them
+index-last : {A : Type 0} (xs : List A) (x : A) → get_elem? (xs ++ x ∷ []) (length xs) ≡ some x
+index-last [] x = refl
+index-last (y ∷ ys) x = index-last ys x
+
+index-after : {A : Type 0} (xs ys : List A) (i : ℕ) → get_elem? (xs ++ ys) (length xs + i) ≡ get_elem? ys i
+index-after [] ys i = ap (get_elem? ys) (let e : 0 + i ≡ i = omega arith in e)
+index-after (x ∷ xs) ys i = ap (get_elem? (x ∷ xs ++ ys)) (let e : length (x ∷ xs) + i ≡ suc (length xs + i) = omega arith in e) ∙ index-after xs ys i
+
+pub among-last : {A : Type 0} (xs : List A) (x : A) → IsAmong x (xs ++ x ∷ [])
+among-last xs x = (length xs, index-last xs x)
+
+pub among-after : {A : Type 0} (xs ys : List A) (x : A) → IsAmong x ys → IsAmong x (xs ++ ys)
+among-after xs ys x a = (length xs + a.0, index-after xs ys a.0 ∙ a.1)
 
 pub some-parents : (layout : Layout) → 0 < length (parents layout)
 some-parents layout = omega arith
@@ -52,11 +67,24 @@ refuses-node layout a ps b node found lawful m parent number r =
 module _ {P E : Type 0} where
   -- the ticket was looked at
   pub looked-at : (views : List (List (View P E))) (vs ws : List (View P E)) (found : ℕ) → views ≡ vs ∷ [] → length (own_views views) ≡ 1
-      → OnOne (λ v. (ws ≡ record v { reads = record { word = 0; value = found; shares = 0 } ∷ v.reads } ∷ []) × (v.parts ≤ 64)) vs
-      → ws ≡ record (known views) { reads = record { word = 0; value = found; shares = 0 } ∷ (known views).reads } ∷ []
+      → OnOne (λ v. (ws ≡ record v { reads = record { word = 0; value = found; shares = 0 } ∷ v.reads } ∷ []) × (IsOnly v → found ≡ made v % 18446744073709551616)) vs
+      → (ws ≡ record (known views) { reads = record { word = 0; value = found; shares = 0 } ∷ (known views).reads } ∷ []) × (IsOnly (known views) → found ≡ made (known views) % 18446744073709551616)
   looked-at views vs ws found is one did =
-      let q = of-one _ vs (view_of vs) (one-view vs (placed-one is one)) did in
-      q.0 ∙ ap (λ (v : View P E). let z : View P E = record v { reads = record { word = 0; value = found; shares = 0 } ∷ v.reads } in z ∷ []) (sym (ap known is))
+      let q = of-one _ vs (view_of vs) (one-view vs (placed-one is one)) did in (
+        q.0 ∙ ap (λ (v : View P E). let z : View P E = record v { reads = record { word = 0; value = found; shares = 0 } ∷ v.reads } in z ∷ []) (sym (ap known is)),
+        subst (λ (v : View P E). IsOnly v → found ≡ made v % 18446744073709551616) (sym (ap known is)) q.1,
+      )
+
+  -- and found at 2^62 or more
+  pub worn-so : (v : View P E) (found : ℕ) (views : List (List (View P E))) (ws : List (View P E)) → views ≡ ws ∷ [] → worn ≤ found
+      → (ws ≡ record v { reads = record { word = 0; value = found; shares = 0 } ∷ v.reads } ∷ []) × (IsOnly v → found ≡ made v % 18446744073709551616)
+      → IsWorn v (known views)
+  worn-so v found views ws is high looked = (
+    record { word = 0; value = found; shares = 0 } ∷ [],
+    ap known is ∙ ap view_of looked.0,
+    (found, high, (0, refl)),
+    λ only. let count = looked.1 only in let enough : worn ≤ made v = omega arith in enough,
+  )
 
   -- a seat whose tree and first parcels are as before is of the same depot
   pub seat-still : (kind : P → Kind) (layout : Layout) (v w : View P E) → w.tree ≡ v.tree → w.first ≡ v.first → IsSeatOf kind layout v → IsSeatOf kind layout w
@@ -66,7 +94,7 @@ module _ {P E : Type 0} where
   -- a claim after a look
   pub granted-after : (kind : P → Kind) (v : View P E) (b : ℕ) (r : Read) (vs ws : List (View P E)) → vs ≡ record v { reads = r ∷ v.reads } ∷ []
       → ((g : List (Option P)) × (more : List Read) × IsGranted kind (view_of vs) b g more ws) × (IsExcluded (view_of vs) b → ⊥)
-      → ((g : List (Option P)) × (more : List Read) × IsGranted kind v b g more ws) × (IsExcluded v b → ⊥)
+      → (q : (g : List (Option P)) × (more : List Read) × IsGranted kind v b g more ws) × (IsExcluded v b → ⊥) × IsAmong r q.1
   granted-after kind v b r vs ws is q =
       let t = subst (λ us. ((g : List (Option P)) × (more : List Read) × IsGranted kind (view_of us) b g more ws) × (IsExcluded (view_of us) b → ⊥)) is q in
       let g = t.0.0 in let more = t.0.1 in let i = t.0.2 in (
@@ -81,6 +109,7 @@ module _ {P E : Type 0} where
           ),
         ),
         t.1,
+        among-last more r,
       )
 
   module _ (kind : P → Kind) (layout : Layout) (lawful : fault_of layout ≡ None) (a : Affinity) (m : IsNode layout a) (v : View P E) (seat : IsSeatOf kind layout v) (b : ℕ) (number : b ≡ number_of layout a)
@@ -130,8 +159,8 @@ module _ {P E : Type 0} where
             ap (λ us. untaken (view_of us) b k) (sym begun-is) ∙ (ap (λ n. untaken (view_of ws) n k) (sym same_node) ∙ mv.1),
           )
 
-      pub begun-so : (IsExcluded v b → ⊥) → (views : List (List (View P E))) → views ≡ ws ∷ [] → IsBegun v b f (known views)
-      begun-so apart views is = (
+      pub begun-so : (IsExcluded v b → ⊥) → (found : ℕ) → found < worn → IsAmong (record { word = 0; value = found; shares = 0 }) more → (views : List (List (View P E))) → views ≡ ws ∷ [] → IsBegun v b f (known views)
+      begun-so apart found low looked views is = (
         g,
         by_hand.0,
         by_hand.1 ++ more,
@@ -139,6 +168,7 @@ module _ {P E : Type 0} where
         (λ k pos lt cover. let t = taken-at k pos lt cover in t.1 ∙ sym t.2),
         granted.3,
         apart,
+        (found, low, among-after by_hand.1 more (record { word = 0; value = found; shares = 0 }) looked),
       )
 
       pub begun-gathered : (IsExcluded v b → ⊥) → IsGathered v → IsGathered begun_view

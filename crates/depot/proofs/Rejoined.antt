@@ -5,14 +5,13 @@ use lib.ListN.{get_elem?}
 use Rattle.nfs_model.specs.Tree.{Layout}
 use Rattle.affinity.specs.declared.affinity.Kind.{Kind}
 use Rattle.depot_rule.specs.declared.view.View.{View}
-use Rattle.depot_rule.specs.declared.view.Read.{Read}
 use Rattle.depot_rule.specs.Shares.{Has, opening_view}
 use Rattle.depot_rule.specs.Seats.{fresh, merge}
 use Rattle.depot_rule.proofs.Joining.{none-held, held-of}
 use Rattle.depot.specs.Grants.{IsSeatOf}
 
 module _ {P E : Type 0} where
-  pub rejoined-none : (ps : List ℕ) (first : List (Option P)) (n : ℕ) (v a b j : View P E) → v ≡ opening_view ps first → a ≡ record v { parts = n } → b ≡ fresh v → (reads : List Read) × (j ≡ record (merge a b) { reads = reads })
+  pub rejoined-none : (ps : List ℕ) (first : List (Option P)) (n : ℕ) (v a b j : View P E) → v ≡ opening_view ps first → a ≡ record v { parts = n } → b ≡ fresh v → j ≡ merge a b
       → (k : ℕ) (g : List (Option P)) → Has j k g → ⊥
   rejoined-none ps first n v a b j opened one other joined k g has =
       let own : View P E = record (opening_view {E = E} ps first) { parts = n } in
@@ -20,9 +19,9 @@ module _ {P E : Type 0} where
       = λ h e. none-held (length ps) k h (subst (λ (x : View P E). get_elem? x.held k ≡ some (Some h)) (one ∙ ap (λ (x : View P E). let z : View P E = record x { parts = n } in z) opened) e) in
       let others : (h : List (Option P)) → get_elem? b.held k ≡ some (Some h) → ⊥
       = λ h e. none-held (length v.tree) k h (subst (λ (x : View P E). get_elem? x.held k ≡ some (Some h)) other e) in
-      let both = subst (λ (x : View P E). get_elem? x.held k ≡ some (Some g)) joined.1 has in
+      let both = subst (λ (x : View P E). get_elem? x.held k ≡ some (Some g)) joined has in
       ⊎_elim (mine g) (others g) (held-of a.held b.held k g both)
 
-  pub rejoined-seat : (kind : P → Kind) (layout : Layout) (n : ℕ) (v a b j : View P E) → IsSeatOf kind layout v → a ≡ record v { parts = n } → (reads : List Read) × (j ≡ record (merge a b) { reads = reads }) → IsSeatOf kind layout j
+  pub rejoined-seat : (kind : P → Kind) (layout : Layout) (n : ℕ) (v a b j : View P E) → IsSeatOf kind layout v → a ≡ record v { parts = n } → j ≡ merge a b → IsSeatOf kind layout j
   rejoined-seat kind layout n v a b j seat one joined =
-      subst (IsSeatOf kind layout) (sym joined.1) (subst (λ (x : View P E). IsSeatOf kind layout x) (sym one) seat)
+      subst (IsSeatOf kind layout) (sym joined) (subst (λ (x : View P E). IsSeatOf kind layout x) (sym one) seat)

@@ -11,7 +11,7 @@ use Rattle.depot_rule.specs.declared.view.View.{View}
 use Rattle.depot_rule.specs.declared.view.Read.{Read}
 use Rattle.depot_rule.specs.declared.view.Entry.{Entry}
 use Rattle.depot_rule.specs.Tree.{Covers}
-use Rattle.depot_rule.specs.Shares.{Has}
+use Rattle.depot_rule.specs.Shares.{made, Has}
 use Rattle.depot_rule.specs.Plays.{IsOnly}
 use Rattle.depot.specs.Kinds.{AreOfKind}
 use Rattle.depot.specs.Calls.{IsAmong, IsRead, Refuses, IsExcluded}
@@ -31,6 +31,10 @@ by_number f (suc n) = by_number f n ++ f n ∷ []
 abbrev pub entry_of : {P C R : Type 0} → Layout → Affinity → (ℕ → Option P) → C → R → Entry P C R
 entry_of layout a f call reply = record { node = number_of layout a; call = call; reply = reply; left = by_number f (1 + node_count layout) }
 
+-- the ticket was read as a number of which Q holds
+abbrev pub HasLooked : (ℕ → Type 0) → List Read → Type 0
+HasLooked Q more = (ticket : ℕ) × Q ticket × IsAmong (record { word = 0; value = ticket; shares = 0 }) more
+
 module _ {P E : Type 0} where
   -- what is known of a seat of a depot of this layout: it has the layout's tree, and the parcels at the start were of their nodes' kinds
   abbrev pub IsSeatOf : (P → Kind) → Layout → View P E → Type 0
@@ -44,13 +48,14 @@ module _ {P E : Type 0} where
   abbrev pub HasWith : View P E → ℕ → (ℕ → Option P) → Type 0
   HasWith v b f = (g : List (Option P)) × Has v b g × ListsAs v b g f
 
-  -- a grant of b, with the parcels f, was added: no open grant of the seat's excluded b
+  -- a grant of b, with the parcels f, was added: no open grant of the seat's excluded b, and the ticket was read below 2^62
   abbrev pub IsBegun : View P E → ℕ → (ℕ → Option P) → View P E → Type 0
   IsBegun v b f w = (g : List (Option P)) × (gone : List ℕ) × (more : List Read)
       × (w ≡ record v { held = slice_set v.held b (Some g); gone = gone; reads = more ++ v.reads })
       × ListsAs v b g f
       × (get_elem? v.held b ≡ some None)
       × (IsExcluded v b → ⊥)
+      × HasLooked (λ ticket. ticket < worn) more
 
   -- the grant of b is no more
   abbrev pub IsEnded : View P E → ℕ → View P E → Type 0
@@ -64,9 +69,9 @@ module _ {P E : Type 0} where
   abbrev pub IsBusy : List ℕ → View P E → ℕ → ℕ → ℕ → View P E → Type 0
   IsBusy tree v b node word w = (more : List Read) × HasRead v more w × IsRead v node word more × Refuses tree b node word × (IsOnly v → IsExcluded v b)
 
-  -- the ticket was read at 2^62 or more
+  -- the ticket was read at 2^62 or more. If it is the only seat, it made as many entries
   abbrev pub IsWorn : View P E → View P E → Type 0
-  IsWorn v w = (more : List Read) × HasRead v more w × ((ticket : ℕ) × (worn ≤ ticket) × IsAmong (record { word = 0; value = ticket; shares = 0 }) more)
+  IsWorn v w = (more : List Read) × HasRead v more w × HasLooked (λ ticket. worn ≤ ticket) more × (IsOnly v → worn ≤ made v)
 
   abbrev pub IsRefused : Layout → View P E → Affinity → Refusal → View P E → Type 0
   IsRefused layout v a (Busy node word) w = IsNode layout (affinity_of node) × IsBusy (parents layout) v (number_of layout a) (number_of layout (affinity_of node)) word w

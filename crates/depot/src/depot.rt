@@ -51,10 +51,10 @@ impl<M: Machine> Depot<M> {
     ghost use Rattle.std.specs.Mem.Slots.{slots_items, slots_len};
     ghost use mathlib.Core.Option.{some};
     ghost use lib.ListN.{get_elem?};
-    ghost use Rattle.depot_rule.specs.declared.view.Read.{Read};
     ghost use Rattle.depot_rule.specs.Shares.{Has, opening_view};
     ghost use Rattle.depot_rule.specs.Parcels.{IsParcel};
     ghost use Rattle.depot_rule.specs.Seats.{fresh, merge, longer, having_seen};
+    ghost use Rattle.depot_rule.specs.Plays.{AreApart};
     ghost use Rattle.parcels.specs.Exact.{HasExactly};
     ghost use Rattle.depot.specs.Calls.{known};
     ghost use Rattle.depot.specs.Grants.{by_number, IsSeatOf};
@@ -131,7 +131,8 @@ impl<M: Machine> Depot<M> {
     pub fn join_seat(&self, first: Seat<M>, second: Seat<M>) -> Seat<M>
         requires table { (first.badge.table_id ≡ self.now.table.shared.table_id) × (second.badge.table_id ≡ self.now.table.shared.table_id) }
         ensures table { result.badge.table_id ≡ first.badge.table_id }
-        ensures joined { (reads : List Read) × (known result.badge.views ≡ record (merge (known first.badge.views) (known second.badge.views)) { reads = reads }) }
+        ensures joined { known result.badge.views ≡ merge (known first.badge.views) (known second.badge.views) }
+        ensures apart { AreApart (known first.badge.views) (known second.badge.views) }
         ensures splits { result.splits ≡ first.splits + second.splits + 1 }
     {
         join_seat(&self.table.shared, first, second)

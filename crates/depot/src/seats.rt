@@ -2,8 +2,8 @@
 
 ghost use Rattle.std.specs.Prelude.{◌≡◌, ◌<◌, ◌+◌, ◌-◌, ◌∷◌, ◌++◌, ℕ, List, [], length, IfOk, IfErr};
 ghost use Rattle.depot_rule.specs.declared.view.View.{View};
-ghost use Rattle.depot_rule.specs.declared.view.Read.{Read};
 ghost use Rattle.depot_rule.specs.Seats.{fresh, merge, longer, having_seen};
+ghost use Rattle.depot_rule.specs.Plays.{AreApart};
 ghost use Rattle.depot.specs.Calls.{own_views, known};
 ghost use Rattle.depot.specs.Holds.{IsGathered};
 
@@ -58,7 +58,8 @@ pub fn split_seat<M: Machine>(
 pub fn join_seat<M: Machine>(board: &Board<M>, first: Seat<M>, second: Seat<M>) -> Seat<M>
     requires table { (first.badge.table_id ≡ board.now.table_id) × (second.badge.table_id ≡ board.now.table_id) × (0 < board.now.table_id.words) }
     ensures table { result.badge.table_id ≡ first.badge.table_id }
-    ensures joined { (reads : List Read) × (known result.badge.views ≡ record (merge (known first.badge.views) (known second.badge.views)) { reads = reads }) }
+    ensures joined { known result.badge.views ≡ merge (known first.badge.views) (known second.badge.views) }
+    ensures apart { AreApart (known first.badge.views) (known second.badge.views) }
     ensures splits { result.splits ≡ first.splits + second.splits + 1 }
 {
     let Seat { badge, splits } = first;

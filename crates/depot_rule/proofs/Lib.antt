@@ -15,3 +15,4 @@ pub mod Opening
 pub mod Following
 pub mod Looking
 pub mod Stamping
+pub mod Histories

@@ -1,4 +1,4 @@
--- The one history: a list of entries, as long as the ticket says. Each entry put parcels in, and each parcel is as the history left it.
+-- The one history: a list of entries, each of which put parcels in. Each parcel is as the history left it.
 use Rattle.std.specs.Prelude.{◌≡◌, ℕ, ◌+◌, ◌%◌, ◌<◌, ◌==◌, nat_lt, Bool, ◌||◌, List, [], ◌∷◌, ◌++◌, length, slice_index, slice_index_or, slice_get, Option, Some, None}
 use mathlib.Core.Option.{some}
 use lib.ListN.{get_elem?}
@@ -38,6 +38,13 @@ abbrev pub chosen : {A : Type 0} → List A → List ℕ → List A
 chosen xs [] = []
 chosen xs (p ∷ ps) = or_nothing (slice_get xs p) (chosen xs ps)
 
+-- what a machine does: the steps of calls, the batches that they take and give, and what has to hold of all parcels, all batches in hands and the count of entries
+pub record Behaviour (P C R B : Type 0) : Type 1 where
+  pub steps : List ℕ → ℕ → C → (ℕ → Option P) → R → (ℕ → Option P) → Type 0
+  pub takes : C → R → List B
+  pub gives : C → R → List B
+  pub invariant : List ℕ → (ℕ → Option P) → List B → ℕ → Type 0
+
 -- parcels at home, and those that grants list, are as f has them
 pub record Current {P E : Type 0} (parents : List ℕ) (f : ℕ → Option P) (s : State (Option P) (List (View P E))) : Type 0 where
   pub now : (k : ℕ) → 0 < k → k < length parents → total (total (takes k)) s.views ≡ 0 → get_elem? s.homes k ≡ some (some (f k))
@@ -66,20 +73,20 @@ module _ {P C R : Type 0} where
   abbrev pub AreHands : {B : Type 0} → (C → R → List B) → (C → R → List B) → List (Entry P C R) → List B → Type 0
   AreHands takes gives es hands = (weigh : _ → ℕ) → total weigh (moved gives es) + total weigh hands ≡ total weigh (moved takes es)
 
-  -- the third pass: of the whole state. The first four name what the machine does: the steps of calls, the batches that they take and give, and what has to hold of all parcels, all batches in hands and the count of entries
-  pub record History {B : Type 0} (steps : List ℕ → ℕ → C → (ℕ → Option P) → R → (ℕ → Option P) → Type 0) (takes gives : C → R → List B) (invariant : List ℕ → (ℕ → Option P) → List B → ℕ → Type 0)
-      (parents : List ℕ) (first : List (Option P)) (s : State (Option P) (List (View P (Entry P C R)))) : Type 0 where
+  -- the third pass: of the whole state, for a machine
+  pub record History {B : Type 0} (m : Behaviour P C R B) (parents : List ℕ) (first : List (Option P)) (s : State (Option P) (List (View P (Entry P C R)))) : Type 0 where
     pub log : List (Entry P C R)
-    pub ticket : slice_index s.words 0 ≡ length log % 18446744073709551616
-    pub legal : Legal steps parents (listed first) log
+    pub legal : Legal m.steps parents (listed first) log
     pub current : Current parents (after parents (listed first) log) s
     -- each seat has seen a beginning
     pub seen : Each (λ (v : View P (Entry P C R)). StartsWith log v.seen) s.views
     -- each entry is one seat's, who has seen it
     pub mine : (p : ℕ) → total (total (λ (v : View P (Entry P C R)). tally p v.mine)) s.views ≡ one_if (nat_lt p (length log))
     pub own : Each (λ (v : View P (Entry P C R)). Ascends v.mine × ((p : ℕ) → 0 < tally p v.mine → p < length v.seen)) s.views
-    -- a seat gives only what is in its hand
-    pub hand : Each (λ (v : View P (Entry P C R)). (hands : List B) × AreHands takes gives (chosen log v.mine) hands) s.views
+    -- the entries of all seats are those of the log, however entries are weighed
+    pub shared : (weigh : Entry P C R → ℕ) → total (total (λ (v : View P (Entry P C R)). total weigh (chosen v.seen v.mine))) s.views ≡ total weigh log
+    -- each seat's hand has what its entries took and didn't give; all hands together have what all entries took and didn't give
+    pub hand : Each (λ (v : View P (Entry P C R)). (hand : List B) × AreHands m.takes m.gives (chosen v.seen v.mine) hand) s.views
     pub hands : List B
-    pub all_hands : AreHands takes gives log hands
-    pub sound : invariant parents (after parents (listed first) log) hands (length log)
+    pub all_hands : AreHands m.takes m.gives log hands
+    pub sound : m.invariant parents (after parents (listed first) log) hands (length log)

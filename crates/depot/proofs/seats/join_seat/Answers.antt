@@ -1,7 +1,8 @@
-use Rattle.std.proofs.Common.{rules, arith, ◌≡◌, ◌+◌, ◌∷◌, List, [], length, sym, ap, ◌∙◌}
+use Rattle.std.proofs.Common.{rules, arith, ◌≡◌, ◌+◌, ◌∷◌, List, [], length, sym, ap, ◌∙◌, subst}
 use Rattle.depot_rule.specs.declared.view.Entry.{Entry}
 use Rattle.depot_rule.specs.declared.view.View.{View}
 use Rattle.depot_rule.specs.Seats.{view_of, merge, having_seen, longer, first_of, others_of, met}
+use Rattle.depot_rule.specs.Plays.{AreApart}
 use Rattle.depot_rule.proofs.Dealing.{meets, parts-again}
 use Rattle.depot_rule.proofs.Looking.{alikes}
 use Rattle.depot_rule.proofs.Joining.{merges-seats}
@@ -92,3 +93,36 @@ invariant_of-result g c =
       gathered = gathered-of (merge (view_of vs) (view_of ws)) full
           (merge-gathered (view_of vs) (view_of ws) (merge (view_of vs) (view_of ws)).reads alike.0 (gathered-in is c.args.first.gathered) (gathered-in other_is c.args.second.gathered));
     }
+
+pub returns-clause-joined : goal.returns-clause-joined
+returns-clause-joined g c =
+    let E : Type 0 = Entry g.row.M-Parcel.Denot g.row.M-Call.Denot g.row.M-Reply.Denot in
+    let vs : List (View g.row.M-Parcel.Denot E) = c.into_seat-place.result.me.0 in
+    let ws : List (View g.row.M-Parcel.Denot E) = c.into_seat-other.result.me.0 in
+    let is = c.into_seat-place.ensures.2 in
+    let other_is = c.into_seat-other.ensures.2 in
+    let one = placed-one is c.args.first.one.1 in
+    let other_one = placed-one other_is c.args.second.one.1 in
+    let both : c.join_seat.new.seat.me.0 ≡ met vs ws = ap (λ m. m.0) c.join_seat.ensures.2 in
+    let loaded : c.load.new.seat.me.0 ≡ met vs ws = ap (λ m. m.0) c.load.ensures.2.0 ∙ both in
+    let es : List E = longer (view_of vs).seen (view_of ws).seen in
+    let first : c.split_seat-other.new.seat.me.0 ≡ having_seen es (view_of vs) ∷ [] = ap (λ m. m.0) c.split_seat-other.ensures.2 ∙ (ap first_of loaded ∙ met-first vs ws one other_one) in
+    let second : c.split_seat-other.result.me.0 ≡ having_seen es (view_of ws) ∷ [] = ap (λ m. m.0) c.split_seat-other.ensures.4 ∙ (ap others_of loaded ∙ met-second vs ws one other_one) in
+    let merged : c.join_seat-2.new.seat.me.0 ≡ merge (view_of vs) (view_of ws) ∷ [] = merged-view (view_of vs) (view_of ws) _ _ _ first second (ap (λ m. m.0) c.join_seat-2.ensures.2) in
+    let badge : c.into_badge.result.views ≡ c.join_seat-2.new.seat.me.0 ∷ [] = search rules in
+    let full : c.into_badge.result.views ≡ (merge (view_of vs) (view_of ws) ∷ []) ∷ [] = known-known badge merged in
+    ap known full ∙ (λ i. merge (sym (ap known is) i) (sym (ap known other_is) i))
+
+pub returns-clause-apart : goal.returns-clause-apart
+returns-clause-apart g c =
+    let E : Type 0 = Entry g.row.M-Parcel.Denot g.row.M-Call.Denot g.row.M-Reply.Denot in
+    let vs : List (View g.row.M-Parcel.Denot E) = c.into_seat-place.result.me.0 in
+    let ws : List (View g.row.M-Parcel.Denot E) = c.into_seat-other.result.me.0 in
+    let is = c.into_seat-place.ensures.2 in
+    let other_is = c.into_seat-other.ensures.2 in
+    let one = placed-one is c.args.first.one.1 in
+    let other_one = placed-one other_is c.args.second.one.1 in
+    let both : c.join_seat.new.seat.me.0 ≡ met vs ws = ap (λ m. m.0) c.join_seat.ensures.2 in
+    let es : List E = longer (view_of vs).seen (view_of ws).seen in
+    let alike = c.load.ensures.2.1 (having_seen es (view_of vs)) (having_seen es (view_of ws)) (both ∙ met-two vs ws one other_one) in
+    subst (λ (x : View g.row.M-Parcel.Denot E × View g.row.M-Parcel.Denot E). AreApart x.0 x.1) (λ i. (sym (ap known is) i, sym (ap known other_is) i)) alike.2

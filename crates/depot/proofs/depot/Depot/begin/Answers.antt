@@ -16,7 +16,7 @@ use Rattle.depot.proofs.Moves.{placed-one}
 use Rattle.depot.proofs.Holding.{nothing}
 use Rattle.depot.proofs.Seated.{gathered-of}
 use Rattle.depot.proofs.Layouts.{parents-tree, number-place}
-use Rattle.depot.proofs.Begun.{some-parents, refuses-node, looked-at, seat-still, granted-after, all-there, begun-so, begun-gathered, begun-views, refused-after, busy-so}
+use Rattle.depot.proofs.Begun.{some-parents, refuses-node, looked-at, worn-so, seat-still, granted-after, all-there, begun-so, begun-gathered, begun-views, refused-after, busy-so}
 use Rattle.depot.proofs.depot.Depot.begin.Goals as goal
 
 pub load-ticket-requires : goal.load-ticket-requires
@@ -39,7 +39,7 @@ returns-then-ticket-ge-WORN-clause-seat g c =
     let is : seat.badge.views ≡ c.into_seat-place.result.me.0 ∷ [] = search rules in
     let looked = looked-at seat.badge.views c.into_seat-place.result.me.0 c.load-ticket.new.seat.me.0 c.load-ticket.result is seat.one.1 c.load-ticket.ensures.2.0 in
     let badge : c.into_badge.result.views ≡ c.load-ticket.new.seat.me.0 ∷ [] = search rules in
-    let now = ap known badge ∙ ap view_of looked in
+    let now = ap known badge ∙ ap view_of looked.0 in
     (search rules, refl, seat-still g.M.Parcel.HasKind.kind L K (known c.into_badge.result.views) (ap (λ v. v.tree) now) (ap (λ v. v.first) now) c.requires.seat.1)
 
 pub returns-then-ticket-ge-WORN-clause-refused : goal.returns-then-ticket-ge-WORN-clause-refused
@@ -50,8 +50,7 @@ returns-then-ticket-ge-WORN-clause-refused g c =
     let is : seat.badge.views ≡ c.into_seat-place.result.me.0 ∷ [] = search rules in
     let looked = looked-at seat.badge.views c.into_seat-place.result.me.0 c.load-ticket.new.seat.me.0 c.load-ticket.result is seat.one.1 c.load-ticket.ensures.2.0 in
     let badge : c.into_badge.result.views ≡ c.load-ticket.new.seat.me.0 ∷ [] = search rules in
-    let r : Read = record { word = 0; value = c.load-ticket.result; shares = 0 } in
-    (r ∷ [], ap known badge ∙ ap view_of looked, (c.load-ticket.result, c.if-ticket-ge-WORN.true, (0, refl)))
+    worn-so K c.load-ticket.result c.into_badge.result.views c.load-ticket.new.seat.me.0 badge c.if-ticket-ge-WORN.true looked
 
 pub try_claim-requires-clause-table : goal.try_claim-requires-clause-table
 try_claim-requires-clause-table g c =
@@ -79,7 +78,7 @@ gather-held-requires-clause-there g c =
     let is : seat.badge.views ≡ c.into_seat-place.result.me.0 ∷ [] = search rules in
     let looked = looked-at seat.badge.views c.into_seat-place.result.me.0 c.load-ticket.new.seat.me.0 c.load-ticket.result is seat.one.1 c.load-ticket.ensures.2.0 in
     let r : Read = record { word = 0; value = c.load-ticket.result; shares = 0 } in
-    let q = granted-after g.M.Parcel.HasKind.kind K c.number_of-node.result r c.load-ticket.new.seat.me.0 c.try_claim.new.place.me.0 looked c.in-Ok.ensures.granted in
+    let q = granted-after g.M.Parcel.HasKind.kind K c.number_of-node.result r c.load-ticket.new.seat.me.0 c.try_claim.new.place.me.0 looked.0 c.in-Ok.ensures.granted in
     all-there g.M.Parcel.HasKind.kind L c.args.self.now.layout.lawful (affinity_of c.args.affinity) c.requires.node.0 K c.requires.seat.1 c.number_of-node.result c.number_of-node.ensures.number q.0.0 q.0.1 c.try_claim.new.place.me.0 q.0.2
 
 pub invariant_of-seat-in-Ok : goal.invariant_of-seat-in-Ok
@@ -90,7 +89,7 @@ invariant_of-seat-in-Ok g c =
     let is : seat.badge.views ≡ c.into_seat-place.result.me.0 ∷ [] = search rules in
     let looked = looked-at seat.badge.views c.into_seat-place.result.me.0 c.load-ticket.new.seat.me.0 c.load-ticket.result is seat.one.1 c.load-ticket.ensures.2.0 in
     let r : Read = record { word = 0; value = c.load-ticket.result; shares = 0 } in
-    let q = granted-after g.M.Parcel.HasKind.kind K c.number_of-node.result r c.load-ticket.new.seat.me.0 c.try_claim.new.place.me.0 looked c.in-Ok.ensures.granted in
+    let q = granted-after g.M.Parcel.HasKind.kind K c.number_of-node.result r c.load-ticket.new.seat.me.0 c.try_claim.new.place.me.0 looked.0 c.in-Ok.ensures.granted in
     let badge : c.into_badge-in-Ok.result.views ≡ c.gather-held.new.shelf.place.me.0 ∷ [] = search rules in
     let full = begun-views g.M.Parcel.HasKind.kind L c.args.self.now.layout.lawful (affinity_of c.args.affinity) c.requires.node.0 K c.requires.seat.1 c.number_of-node.result c.number_of-node.ensures.number q.0.0 q.0.1 c.try_claim.new.place.me.0 q.0.2
     (g.N.Node.parcels L (affinity_of c.args.affinity) c.gather-held.result) c.gather-held.ensures.exact c.gather-held.new.shelf.node c.gather-held.ensures.kept.0 c.gather-held.new.shelf.place.me.0 c.gather-held.ensures.moved c.gather-held.ensures.kept.2 c.into_badge-in-Ok.result.views badge in
@@ -110,7 +109,7 @@ returns-in-Ok-clause-seat g c =
     let is : seat.badge.views ≡ c.into_seat-place.result.me.0 ∷ [] = search rules in
     let looked = looked-at seat.badge.views c.into_seat-place.result.me.0 c.load-ticket.new.seat.me.0 c.load-ticket.result is seat.one.1 c.load-ticket.ensures.2.0 in
     let r : Read = record { word = 0; value = c.load-ticket.result; shares = 0 } in
-    let q = granted-after g.M.Parcel.HasKind.kind K c.number_of-node.result r c.load-ticket.new.seat.me.0 c.try_claim.new.place.me.0 looked c.in-Ok.ensures.granted in
+    let q = granted-after g.M.Parcel.HasKind.kind K c.number_of-node.result r c.load-ticket.new.seat.me.0 c.try_claim.new.place.me.0 looked.0 c.in-Ok.ensures.granted in
     let badge : c.into_badge-in-Ok.result.views ≡ c.gather-held.new.shelf.place.me.0 ∷ [] = search rules in
     let full = begun-views g.M.Parcel.HasKind.kind L c.args.self.now.layout.lawful (affinity_of c.args.affinity) c.requires.node.0 K c.requires.seat.1 c.number_of-node.result c.number_of-node.ensures.number q.0.0 q.0.1 c.try_claim.new.place.me.0 q.0.2
     (g.N.Node.parcels L (affinity_of c.args.affinity) c.gather-held.result) c.gather-held.ensures.exact c.gather-held.new.shelf.node c.gather-held.ensures.kept.0 c.gather-held.new.shelf.place.me.0 c.gather-held.ensures.moved c.gather-held.ensures.kept.2 c.into_badge-in-Ok.result.views badge in
@@ -124,11 +123,12 @@ returns-in-Ok-clause-granted g c =
     let is : seat.badge.views ≡ c.into_seat-place.result.me.0 ∷ [] = search rules in
     let looked = looked-at seat.badge.views c.into_seat-place.result.me.0 c.load-ticket.new.seat.me.0 c.load-ticket.result is seat.one.1 c.load-ticket.ensures.2.0 in
     let r : Read = record { word = 0; value = c.load-ticket.result; shares = 0 } in
-    let q = granted-after g.M.Parcel.HasKind.kind K c.number_of-node.result r c.load-ticket.new.seat.me.0 c.try_claim.new.place.me.0 looked c.in-Ok.ensures.granted in
+    let q = granted-after g.M.Parcel.HasKind.kind K c.number_of-node.result r c.load-ticket.new.seat.me.0 c.try_claim.new.place.me.0 looked.0 c.in-Ok.ensures.granted in
     let badge : c.into_badge-in-Ok.result.views ≡ c.gather-held.new.shelf.place.me.0 ∷ [] = search rules in
+    let low : c.load-ticket.result < 4611686018427387904 = search rules in
     subst (λ (n : ℕ). IsBegun K n (g.N.Node.parcels L (affinity_of c.args.affinity) c.gather-held.result) (known c.into_badge-in-Ok.result.views)) c.number_of-node.ensures.number
     (begun-so g.M.Parcel.HasKind.kind L c.args.self.now.layout.lawful (affinity_of c.args.affinity) c.requires.node.0 K c.requires.seat.1 c.number_of-node.result c.number_of-node.ensures.number q.0.0 q.0.1 c.try_claim.new.place.me.0 q.0.2
-    (g.N.Node.parcels L (affinity_of c.args.affinity) c.gather-held.result) c.gather-held.ensures.exact c.gather-held.new.shelf.node c.gather-held.ensures.kept.0 c.gather-held.new.shelf.place.me.0 c.gather-held.ensures.moved c.gather-held.ensures.kept.2 q.1 c.into_badge-in-Ok.result.views badge)
+    (g.N.Node.parcels L (affinity_of c.args.affinity) c.gather-held.result) c.gather-held.ensures.exact c.gather-held.new.shelf.node c.gather-held.ensures.kept.0 c.gather-held.new.shelf.place.me.0 c.gather-held.ensures.moved c.gather-held.ensures.kept.2 q.1 c.load-ticket.result low q.2 c.into_badge-in-Ok.result.views badge)
 
 pub invariant_of-seat-in-Err : goal.invariant_of-seat-in-Err
 invariant_of-seat-in-Err g c =
@@ -138,7 +138,7 @@ invariant_of-seat-in-Err g c =
     let is : seat.badge.views ≡ c.into_seat-place.result.me.0 ∷ [] = search rules in
     let looked = looked-at seat.badge.views c.into_seat-place.result.me.0 c.load-ticket.new.seat.me.0 c.load-ticket.result is seat.one.1 c.load-ticket.ensures.2.0 in
     let r : Read = record { word = 0; value = c.load-ticket.result; shares = 0 } in
-    let q = refused-after K c.deref.result.now c.number_of-node.result c.in-Err.busy.node c.in-Err.busy.word r c.load-ticket.new.seat.me.0 c.try_claim.new.place.me.0 (nothing K.path seat.idle.2) looked c.in-Err.ensures.refused in
+    let q = refused-after K c.deref.result.now c.number_of-node.result c.in-Err.busy.node c.in-Err.busy.word r c.load-ticket.new.seat.me.0 c.try_claim.new.place.me.0 (nothing K.path seat.idle.2) looked.0 c.in-Err.ensures.refused in
     let badge : c.into_badge-in-Err.result.views ≡ c.try_claim.new.place.me.0 ∷ [] = search rules in
     let full = badge ∙ ap (λ us. us ∷ []) q.1 in
     record {
@@ -156,7 +156,7 @@ affinity_at-requires-clause-positive g c =
     let is : seat.badge.views ≡ c.into_seat-place.result.me.0 ∷ [] = search rules in
     let looked = looked-at seat.badge.views c.into_seat-place.result.me.0 c.load-ticket.new.seat.me.0 c.load-ticket.result is seat.one.1 c.load-ticket.ensures.2.0 in
     let r : Read = record { word = 0; value = c.load-ticket.result; shares = 0 } in
-    let q = refused-after K c.deref.result.now c.number_of-node.result c.in-Err.busy.node c.in-Err.busy.word r c.load-ticket.new.seat.me.0 c.try_claim.new.place.me.0 (nothing K.path seat.idle.2) looked c.in-Err.ensures.refused in
+    let q = refused-after K c.deref.result.now c.number_of-node.result c.in-Err.busy.node c.in-Err.busy.word r c.load-ticket.new.seat.me.0 c.try_claim.new.place.me.0 (nothing K.path seat.idle.2) looked.0 c.in-Err.ensures.refused in
     let badge : c.into_badge-in-Err.result.views ≡ c.try_claim.new.place.me.0 ∷ [] = search rules in
     let parent : c.deref.result.now ≡ numbers.parents L = search rules in
     (refuses-node L (affinity_of c.args.affinity) c.deref.result.now c.number_of-node.result c.in-Err.busy.node c.in-Err.busy.word c.args.self.now.layout.lawful c.requires.node.0 parent c.number_of-node.ensures.number q.3).0
@@ -169,7 +169,7 @@ affinity_at-requires-clause-within g c =
     let is : seat.badge.views ≡ c.into_seat-place.result.me.0 ∷ [] = search rules in
     let looked = looked-at seat.badge.views c.into_seat-place.result.me.0 c.load-ticket.new.seat.me.0 c.load-ticket.result is seat.one.1 c.load-ticket.ensures.2.0 in
     let r : Read = record { word = 0; value = c.load-ticket.result; shares = 0 } in
-    let q = refused-after K c.deref.result.now c.number_of-node.result c.in-Err.busy.node c.in-Err.busy.word r c.load-ticket.new.seat.me.0 c.try_claim.new.place.me.0 (nothing K.path seat.idle.2) looked c.in-Err.ensures.refused in
+    let q = refused-after K c.deref.result.now c.number_of-node.result c.in-Err.busy.node c.in-Err.busy.word r c.load-ticket.new.seat.me.0 c.try_claim.new.place.me.0 (nothing K.path seat.idle.2) looked.0 c.in-Err.ensures.refused in
     let badge : c.into_badge-in-Err.result.views ≡ c.try_claim.new.place.me.0 ∷ [] = search rules in
     let parent : c.deref.result.now ≡ numbers.parents L = search rules in
     (refuses-node L (affinity_of c.args.affinity) c.deref.result.now c.number_of-node.result c.in-Err.busy.node c.in-Err.busy.word c.args.self.now.layout.lawful c.requires.node.0 parent c.number_of-node.ensures.number q.3).1
@@ -182,7 +182,7 @@ returns-in-Err-clause-seat g c =
     let is : seat.badge.views ≡ c.into_seat-place.result.me.0 ∷ [] = search rules in
     let looked = looked-at seat.badge.views c.into_seat-place.result.me.0 c.load-ticket.new.seat.me.0 c.load-ticket.result is seat.one.1 c.load-ticket.ensures.2.0 in
     let r : Read = record { word = 0; value = c.load-ticket.result; shares = 0 } in
-    let q = refused-after K c.deref.result.now c.number_of-node.result c.in-Err.busy.node c.in-Err.busy.word r c.load-ticket.new.seat.me.0 c.try_claim.new.place.me.0 (nothing K.path seat.idle.2) looked c.in-Err.ensures.refused in
+    let q = refused-after K c.deref.result.now c.number_of-node.result c.in-Err.busy.node c.in-Err.busy.word r c.load-ticket.new.seat.me.0 c.try_claim.new.place.me.0 (nothing K.path seat.idle.2) looked.0 c.in-Err.ensures.refused in
     let badge : c.into_badge-in-Err.result.views ≡ c.try_claim.new.place.me.0 ∷ [] = search rules in
     let full = badge ∙ ap (λ us. us ∷ []) q.1 in
     (search rules, refl, seat-still g.M.Parcel.HasKind.kind L K (known c.into_badge-in-Err.result.views) (ap (λ l. (known l).tree) full) (ap (λ l. (known l).first) full) c.requires.seat.1)
@@ -195,7 +195,7 @@ returns-in-Err-clause-refused g c =
     let is : seat.badge.views ≡ c.into_seat-place.result.me.0 ∷ [] = search rules in
     let looked = looked-at seat.badge.views c.into_seat-place.result.me.0 c.load-ticket.new.seat.me.0 c.load-ticket.result is seat.one.1 c.load-ticket.ensures.2.0 in
     let r : Read = record { word = 0; value = c.load-ticket.result; shares = 0 } in
-    let q = refused-after K c.deref.result.now c.number_of-node.result c.in-Err.busy.node c.in-Err.busy.word r c.load-ticket.new.seat.me.0 c.try_claim.new.place.me.0 (nothing K.path seat.idle.2) looked c.in-Err.ensures.refused in
+    let q = refused-after K c.deref.result.now c.number_of-node.result c.in-Err.busy.node c.in-Err.busy.word r c.load-ticket.new.seat.me.0 c.try_claim.new.place.me.0 (nothing K.path seat.idle.2) looked.0 c.in-Err.ensures.refused in
     let badge : c.into_badge-in-Err.result.views ≡ c.try_claim.new.place.me.0 ∷ [] = search rules in
     let parent : c.deref.result.now ≡ numbers.parents L = search rules in (
       c.affinity_at.ensures.node,
