@@ -16,3 +16,5 @@ pub mod Following
 pub mod Looking
 pub mod Stamping
 pub mod Histories
+pub mod Current
+pub mod Chosen
