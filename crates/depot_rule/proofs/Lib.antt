@@ -18,3 +18,5 @@ pub mod Stamping
 pub mod Histories
 pub mod Current
 pub mod Chosen
+pub mod Remembering
+pub mod Adding
