@@ -13,10 +13,10 @@ use Rattle.depot_rule.specs.Sums.{total, one_if, tally}
 use Rattle.depot_rule.specs.Tree.{IsTree, ancestors, Covers}
 use Rattle.depot_rule.specs.Shares.{Each, Has}
 use Rattle.depot_rule.specs.Parcels.{takes}
-use Rattle.depot_rule.specs.Rule.{Rule}
+use Rattle.depot_rule.specs.Rule.{Base}
 use Rattle.depot_rule.specs.Seats.{if_less}
 use Rattle.depot_rule.specs.Machine.{IsLocal, Keeps}
-use Rattle.depot_rule.specs.History.{Behaviour, Current, History, covers, patched, listed, put_in, after, moved, chosen, AreHands, Ascends, StartsWith}
+use Rattle.depot_rule.specs.History.{Behaviour, Current, History, covers, patched, listed, put_in, after, Legal, moved, chosen, AreHands, Ascends, StartsWith}
 use Rattle.depot_rule.proofs.Sums.{one-same, one-other, total-set, total-at, total-append, total-same, tally-append}
 use Rattle.depot_rule.proofs.Trees.{above-smaller, covers-below}
 use Rattle.depot_rule.proofs.Views.{All, all-none, all-one, each-set, each-moved}
@@ -25,6 +25,7 @@ use Rattle.depot_rule.proofs.Histories.{after-snoc, legal-snoc, moved-snoc, star
 use Rattle.depot_rule.proofs.Current.{current-granted}
 use Rattle.depot_rule.proofs.Chosen.{chosen-within, chosen-snoc, moved-weigh, ascends-snoc}
 use Rattle.depot_rule.proofs.Remembering.{Own, HasHand}
+use Rattle.depot_rule.proofs.Hands.{other-hands}
 use Rattle.affinity.specs.declared.affinity.Kind.{Kind}
 
 -- covering, decided
@@ -99,30 +100,6 @@ module _ (P C R B : Type 0) (kind_of : P → Kind) (m : Behaviour P C R B) where
   abbrev G : Type 0
   G = List (Option P)
 
-  abbrev given : (B → ℕ) → View P E → ℕ
-  given weigh v = total weigh (moved m.gives (chosen v.seen v.mine))
-
-  abbrev taken : (B → ℕ) → View P E → ℕ
-  taken weigh v = total weigh (moved m.takes (chosen v.seen v.mine))
-
-  -- all hands of one seat's views, and of some seats'
-  hands-of : (ps : List ℕ) (first : G) (vs : List (View P E)) → All (HasHand P C R B m ps first) vs → (hands : List B) × ((weigh : B → ℕ) → total (given weigh) vs + total weigh hands ≡ total (taken weigh) vs)
-  hands-of ps first [] all = ([], λ weigh. refl)
-  hands-of ps first (v ∷ vs) all =
-      let own = all 0 v refl in let rest = hands-of ps first vs (λ i u e. all (suc i) u e) in
-      (own.0 ++ rest.0, λ weigh. let a = own.1 weigh in let b = rest.1 weigh in let c = total-append weigh own.0 rest.0 in omega arith)
-
-  hands-all : (ps : List ℕ) (first : G) (views : List (List (View P E))) → Each (HasHand P C R B m ps first) views → (hands : List B) × ((weigh : B → ℕ) → total (total (given weigh)) views + total weigh hands ≡ total (total (taken weigh)) views)
-  hands-all ps first [] each = ([], λ weigh. refl)
-  hands-all ps first (vs ∷ views) each =
-      let own = hands-of ps first vs (each 0 vs refl) in let rest = hands-all ps first views (λ j us e. each (suc j) us e) in
-      (own.0 ++ rest.0, λ weigh. let a = own.1 weigh in let b = rest.1 weigh in let c = total-append weigh own.0 rest.0 in omega arith)
-
-  -- two ways to weigh a view's entries
-  total-alike : (weigh : E → ℕ) (f : View P E → ℕ) → ((u : View P E) → f u ≡ total weigh (chosen u.seen u.mine)) → (views : List (List (View P E)))
-      → total (total f) views ≡ total (total (λ (u : View P E). total weigh (chosen u.seen u.mine))) views
-  total-alike weigh f same views = total-same (total f) (total (λ (u : View P E). total weigh (chosen u.seen u.mine))) (total-same f (λ (u : View P E). total weigh (chosen u.seen u.mine)) same) views
-
   -- the call's step, from the parcels as the history left them
   steps-on : IsLocal m.steps → (ps : List ℕ) → IsTree ps → (e : E) (f f' F : ℕ → Option P) → 0 < e.node → e.node < length ps
       → m.steps ps e.node e.call f e.reply f'
@@ -134,7 +111,7 @@ module _ (P C R B : Type 0) (kind_of : P → Kind) (m : Behaviour P C R B) where
       let there = (local ps e.node e.call f F e.reply f' step).1 (λ k c. before k (node k c).0 (node k c).1 c) in
       subst (λ g. m.steps ps e.node e.call F e.reply g) (patched-alike ps e.node f' (listed e.left) F (λ k c. left k (node k c).0 (node k c).1 c)) there
 
-  module _ (local : IsLocal m.steps) (keeps : Keeps m.steps m.takes m.gives m.invariant) (ps : List ℕ) (first : G) (s : State (Option P) (List (View P E))) (r : Rule kind_of ps first s) (h : History m ps first s)
+  module _ (local : IsLocal m.steps) (keeps : Keeps m.steps m.takes m.gives m.invariant) (ps : List ℕ) (first : G) (s : State (Option P) (List (View P E))) (r : Base kind_of ps first s) (h : History m ps first s)
       (id : ℕ) (v : View P E) (at : get_elem? s.views id ≡ some (v ∷ [])) (e : E) (g : G) (here : Has v e.node g)
       (once : (k : ℕ) → 0 < k → k < length ps → Covers ps e.node k → takes k v ≡ 1)
       (f f' : ℕ → Option P) (step : m.steps ps e.node e.call f e.reply f')
@@ -191,25 +168,22 @@ module _ (P C R B : Type 0) (kind_of : P → Kind) (m : Behaviour P C R B) where
         (λ k c pk lk. sym (patched-in ps e.node k (listed e.left) F c))
 
     -- the hands of the other seats, and this one's as it is now
-    others : (hands : List B) × ((weigh : B → ℕ) → total (total (given weigh)) (set s.views id []) + total weigh hands ≡ total (total (taken weigh)) (set s.views id []))
-    others = hands-all ps first (set s.views id []) (each-set (HasHand P C R B m ps first) s.views id [] h.hand (all-none (HasHand P C R B m ps first)))
+    others : (others : List B) × ((weigh : B → ℕ) → total weigh own + total weigh others ≡ total weigh h.hands)
+    others = other-hands P C R B m ps first s h id v at own mine
 
     abbrev hands : List B
     hands = own' ++ others.0
 
     balance : (weigh : B → ℕ) → total weigh (m.gives e.call e.reply) + total weigh hands ≡ total weigh (m.takes e.call e.reply) + total weigh h.hands
-    balance weigh =
-        let c = change weigh in let o = others.1 weigh in let a = total-append weigh own' others.0 in let q = h.all_hands weigh in let i = mine weigh in
-        let g_all = h.shared (λ (d : E). total weigh (m.gives d.call d.reply)) in let t_all = h.shared (λ (d : E). total weigh (m.takes d.call d.reply)) in
-        let g_log = moved-weigh m.gives weigh h.log in let t_log = moved-weigh m.takes weigh h.log in
-        let g_each = total-alike (λ (d : E). total weigh (m.gives d.call d.reply)) (given weigh) (λ u. moved-weigh m.gives weigh (chosen u.seen u.mine)) s.views in
-        let t_each = total-alike (λ (d : E). total weigh (m.takes d.call d.reply)) (taken weigh) (λ u. moved-weigh m.takes weigh (chosen u.seen u.mine)) s.views in
-        let g_rest = total-set (total (given weigh)) s.views id (v ∷ []) [] at in let t_rest = total-set (total (taken weigh)) s.views id (v ∷ []) [] at in omega arith
+    balance weigh = let c = change weigh in let o = others.1 weigh in let a = total-append weigh own' others.0 in omega arith
+
+    pub stamp-legal : Legal m.steps ps (listed first) log
+    stamp-legal = legal-snoc m.steps ps (listed first) h.log e h.legal stepped
 
     pub stamp-remembers : History m ps first record { words = words; homes = s.homes; views = set s.views id (stamped ∷ []) }
     stamp-remembers = record {
       log = log;
-      legal = legal-snoc m.steps ps (listed first) h.log e h.legal stepped;
+      legal = stamp-legal;
       current = subst (λ z. Current ps z record { words = words; homes = s.homes; views = set s.views id (stamped ∷ []) }) (sym (after-snoc ps (listed first) h.log e)) now;
       seen = each-moved (λ (u : View P E). StartsWith h.log u.seen) (λ (u : View P E). StartsWith log u.seen) s.views id (stamped ∷ []) (λ j us ne aj i u ai old. starts-more h.log (e ∷ []) u.seen old) h.seen
           (all-one (λ (u : View P E). StartsWith log u.seen) stamped (starts-itself log));

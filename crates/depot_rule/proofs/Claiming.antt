@@ -9,12 +9,14 @@ use prog.Atomic.{either}
 use Rattle.atomic_table.specs.Table.{State, Step, step, keeps, stepped, Allows}
 use Rattle.atomic_table.proofs.Lists.{at_set, set_else}
 use Rattle.depot_rule.specs.declared.view.View.{View}
+use Rattle.depot_rule.specs.declared.view.Entry.{Entry}
 use Rattle.depot_rule.specs.declared.view.Read.{Read}
+use Rattle.depot_rule.specs.History.{Behaviour, IsWhole, listed, after}
 use Rattle.depot_rule.specs.Sums.{total, tally}
 use Rattle.depot_rule.specs.Tree.{ancestors, Covers, Excludes}
 use Rattle.depot_rule.specs.Shares.{exclusive, Has, claims, entered, shares, Shares}
 use Rattle.depot_rule.specs.Parcels.{takes, IsParcel, Carries}
-use Rattle.depot_rule.specs.Rule.{Rule}
+use Rattle.depot_rule.specs.Rule.{Base, Rule}
 use Rattle.depot_rule.specs.Plays.{Place, noted, ClaimSays, ReleaseSays}
 use Rattle.depot_rule.proofs.Views.{finds-own}
 use Rattle.depot_rule.proofs.Sums.{total-at}
@@ -25,6 +27,10 @@ use Rattle.depot_rule.proofs.Parcels.{stay-keeps, untaken}
 use Rattle.depot_rule.proofs.Trees.{covers-below}
 use Rattle.depot_rule.proofs.Following.{are-apart}
 use Rattle.depot_rule.proofs.Places.{on-one}
+use Rattle.depot_rule.proofs.Current.{current-stays, current-granted}
+use Rattle.depot_rule.proofs.Remembering.{remembers, still}
+use Rattle.depot_rule.proofs.Hands.{is-whole}
+use Rattle.depot_rule.proofs.Whole.{only-log}
 use Rattle.affinity.specs.declared.affinity.Kind.{Kind}
 
 -- what lies in a slot, none where it is out
@@ -37,7 +43,10 @@ lying-at [] k y e = absurd (some-ne-none (some y) (sym e))
 lying-at (x ∷ xs) zero y e = ap lying (some-injective x (some y) e)
 lying-at (x ∷ xs) (suc k) y e = lying-at xs k y e
 
-module _ (P E : Type 0) (kind_of : P → Kind) where
+module _ (P C R B : Type 0) (kind_of : P → Kind) (m : Behaviour P C R B) where
+  abbrev E : Type 0
+  E = Entry P C R
+
   abbrev St : Type 0
   St = State (Option P) (List (View P E))
 
@@ -87,8 +96,9 @@ module _ (P E : Type 0) (kind_of : P → Kind) where
 
   pub claims-it : (ps : List ℕ) (first : List (Option P)) (slots id : ℕ) (me : Place P E) (v : View P E) (b : ℕ) → me.0 ≡ v ∷ [] → 0 < b → b < length ps → v.unsure ≡ 0
       → ((a : ℕ) → tally a v.path ≡ tally a (ancestors ps b))
-      → Allows (Rule kind_of ps first) slots id me b (λ x. either (eqb x 0) exclusive x) (ClaimSays kind_of (step slots b 0 exclusive none) me)
-  claims-it ps first slots id me v b one pos lt calm all s r _ at' small =
+      → Allows (Rule kind_of m ps first) slots id me b (λ x. either (eqb x 0) exclusive x) (ClaimSays kind_of m (step slots b 0 exclusive none) me)
+  claims-it ps first slots id me v b one pos lt calm all s whole _ at' small =
+      let r = whole.base in let h = whole.history in
       let at : get_elem? s.views id ≡ some (v ∷ []) = at' ∙ ap some one in
       let st : Step (Option P) = step slots b 0 exclusive none in
       let x : ℕ = get_or s.words b 0 in
@@ -101,12 +111,19 @@ module _ (P E : Type 0) (kind_of : P → Kind) where
       let w : View P E = record v { path = []; held = set v.held b (Some g); reads = noted st x v } in
       let found : (k : ℕ) → 0 < k → k < length ps → Covers ps b k → (y : Option P) × (get_elem? s.homes k ≡ some (some y)) × IsParcel kind_of first k y
       = λ k pk lk ck. r.parcels.home k pk lk (untaken P E kind_of ps first s r id b k v at pos lt all free pk ck) in
+      let F : ℕ → Option P = after ps (listed first) h.log in
+      let lists : (k : ℕ) → 0 < k → k < length ps → Covers ps b k → get_or g k None ≡ F k
+      = λ k pk lk ck. lying-at s.homes k (F k) (h.current.now k pk lk (untaken P E kind_of ps first s r id b k v at pos lt all free pk ck)) in
       let kept = claim-keeps P E ps s.words s.views r.shares id v b g (noted st x v) at pos lt all free in (
         w ∷ [],
         keeps,
         tt,
-        subst (λ (z : Bool). Rule kind_of ps first (stepped s b (either z exclusive x) id me.1 (w ∷ []) keeps)) (sym (eq-eqb x 0 free))
-            (record { shares = kept.1; parcels = stay-keeps P E kind_of ps first s r id v w at (λ k. refl) (granted ps first s b v (noted st x v) ca pos lt kept.0 found) }),
+        subst (λ (z : Bool). Rule kind_of m ps first (stepped s b (either z exclusive x) id me.1 (w ∷ []) keeps)) (sym (eq-eqb x 0 free))
+            (record {
+              base = record { shares = kept.1; parcels = stay-keeps P E kind_of ps first s r id v w at (λ k. refl) (granted ps first s b v (noted st x v) ca pos lt kept.0 found) };
+              history = remembers P C R B m ps first s h _ s.homes id v [] v.unsure (set v.held b (Some g)) v.out v.gone (noted st x v) at
+                  (current-granted ps F s _ id b v w g at (λ k. refl) refl h.current.now (λ j us aj i u ai c k l has other. h.current.listed j us aj i u ai c k l has) (λ k ck pk lk. lists k pk lk ck));
+            }),
         (
           on-one _ me.0 v one (
             (λ _. (
@@ -120,6 +137,14 @@ module _ (P E : Type 0) (kind_of : P → Kind) where
                   let u = untaken P E kind_of ps first s r id b k v at pos lt all free pk (subst (λ (t : List ℕ). Covers t b k) so.tree ck) in
                   let m = total-at (total (takes k)) s.views id (v ∷ []) at in omega arith),
               kept.0,
+              (
+                h.log,
+                subst (λ (z : List ℕ × List (Option P)). IsWhole m z.0 z.1 v h.log) (λ i. (sym so.tree i, sym ca.opened i)) (is-whole P C R B m ps first s h id v at),
+                (λ all_parts. only-log P C R B kind_of m ps first s r h id v at all_parts),
+                (λ k pk lk ck.
+                    lists k pk (subst (λ (t : List ℕ). k < length t) so.tree lk) (subst (λ (t : List ℕ). Covers t b k) so.tree ck)
+                    ∙ ap (λ (z : List ℕ × List (Option P)). after z.0 (listed z.1) h.log k) (λ i. (sym so.tree i, sym ca.opened i))),
+              ),
             )),
             (λ ne. absurd (ne free)),
           ),
@@ -131,11 +156,14 @@ module _ (P E : Type 0) (kind_of : P → Kind) where
         w ∷ [],
         keeps,
         tt,
-        subst (λ (z : Bool). Rule kind_of ps first (stepped s b (either z exclusive x) id me.1 (w ∷ []) keeps)) (sym (ne_eqb x 0 busy))
+        subst (λ (z : Bool). Rule kind_of m ps first (stepped s b (either z exclusive x) id me.1 (w ∷ []) keeps)) (sym (ne_eqb x 0 busy))
             (record {
-              shares = read-keeps P E ps s.words s.views r.shares id v b v.out v.gone (noted st x v) at pos lt;
-              parcels = stay-keeps P E kind_of ps first s r id v w at (λ k. refl)
-                  (record { opened = ca.opened; nodes = ca.nodes; single = ca.single; cover = ca.cover; whole = ca.whole; there = ca.there; empty = ca.empty });
+              base = record {
+                shares = read-keeps P E ps s.words s.views r.shares id v b v.out v.gone (noted st x v) at pos lt;
+                parcels = stay-keeps P E kind_of ps first s r id v w at (λ k. refl)
+                    (record { opened = ca.opened; nodes = ca.nodes; single = ca.single; cover = ca.cover; whole = ca.whole; there = ca.there; empty = ca.empty });
+              };
+              history = still P C R B m ps first s h _ id v v.path v.unsure (noted st x v) at;
             }),
         (
           on-one _ me.0 v one (
@@ -153,8 +181,9 @@ module _ (P E : Type 0) (kind_of : P → Kind) where
   -- a grant whose parcels are all at home is given up
   pub releases : (ps : List ℕ) (first : List (Option P)) (slots id : ℕ) (me : Place P E) (v : View P E) (b : ℕ) (g : G) → me.0 ≡ v ∷ [] → 0 < b → b < length ps → v.path ≡ [] → get_elem? v.held b ≡ some (Some g)
       → ((k : ℕ) (p : P) → 0 < k → k < length ps → Covers ps b k → get_or g k None ≡ Some p → takes k v ≡ 0)
-      → Allows (Rule kind_of ps first) slots id me b (λ x. (x + (2 ^ 64 - exclusive)) % 2 ^ 64) (ReleaseSays (step slots b exclusive 0 none) me)
-  releases ps first slots id me v b g one pos lt no_path held listed_home s r _ at' small =
+      → Allows (Rule kind_of m ps first) slots id me b (λ x. (x + (2 ^ 64 - exclusive)) % 2 ^ 64) (ReleaseSays (step slots b exclusive 0 none) me)
+  releases ps first slots id me v b g one pos lt no_path held listed_home s whole _ at' small =
+      let r = whole.base in let h = whole.history in
       let at : get_elem? s.views id ≡ some (v ∷ []) = at' ∙ ap some one in
       let st : Step (Option P) = step slots b exclusive 0 none in
       let x : ℕ = get_or s.words b 0 in
@@ -180,8 +209,12 @@ module _ (P E : Type 0) (kind_of : P → Kind) where
         w ∷ [],
         keeps,
         tt,
-        subst (λ (z : ℕ). Rule kind_of ps first (stepped s b z id me.1 (w ∷ []) keeps)) (sym wrap)
-            (record { shares = kept.1; parcels = stay-keeps P E kind_of ps first s r id v w at (λ k. refl) mine }),
+        subst (λ (z : ℕ). Rule kind_of m ps first (stepped s b z id me.1 (w ∷ []) keeps)) (sym wrap)
+            (record {
+              base = record { shares = kept.1; parcels = stay-keeps P E kind_of ps first s r id v w at (λ k. refl) mine };
+              history = remembers P C R B m ps first s h _ s.homes id v (ancestors v.tree b) v.unsure (set v.held b None) v.out v.gone (noted st x v) at
+                  (current-stays ps (after ps (listed first) h.log) s h.current _ id v w at (λ k. refl) old);
+            }),
         (
           on-one _ me.0 v one (refl, λ c h hc ex. sym (are-apart P E kind_of ps first s r id 0 b id 0 c (v ∷ [], v, g, at, refl, held) (v ∷ [], v, h, at, refl, hc) (subst (λ (t : List ℕ). Excludes t b c) so.tree ex)).2),
           refl,

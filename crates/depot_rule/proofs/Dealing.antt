@@ -10,7 +10,7 @@ use Rattle.depot_rule.specs.Sums.{total, one_if, tally, over_taken}
 use Rattle.depot_rule.specs.Tree.{ancestors}
 use Rattle.depot_rule.specs.Shares.{Each, parts, made, claims, entered, shares, IsSound}
 use Rattle.depot_rule.specs.Parcels.{takes, Carries}
-use Rattle.depot_rule.specs.Rule.{Rule}
+use Rattle.depot_rule.specs.Rule.{Base}
 use Rattle.depot_rule.specs.Seats.{longer, view_of, having_seen, met, first_of, others_of}
 use Rattle.depot_rule.proofs.Sums.{one-other, total-set, total-append, total-map, over-none}
 use Rattle.depot_rule.proofs.Views.{All, all-none, all-one, all-append, each-set, each-more}
@@ -43,10 +43,10 @@ module _ (P E : Type 0) (kind_of : P → Kind) where
   Agree same = same parts × ((a : ℕ) → 0 < a → same (shares a)) × ((a : ℕ) → 0 < a → same (claims a)) × ((a : ℕ) → 0 < a → same (entered a)) × ((k : ℕ) → 0 < k → same (takes k)) × same made
 
   -- the rule sees the views added up, and each alone
-  pub redealt : (ps : List ℕ) (first : List (Option P)) (s : St) (r : Rule kind_of ps first s) (views : List (List (View P E)))
+  pub redealt : (ps : List ℕ) (first : List (Option P)) (s : St) (r : Base kind_of ps first s) (views : List (List (View P E)))
       → Agree (λ f. total (total f) views ≡ total (total f) s.views)
       → Each (IsSound ps) views → Each (Carries kind_of ps first s.homes) views
-      → Rule kind_of ps first record { words = s.words; homes = s.homes; views = views }
+      → Base kind_of ps first record { words = s.words; homes = s.homes; views = views }
   redealt ps first s r views same sound carries = record {
     shares = record {
       tree = r.shares.tree;
@@ -66,9 +66,9 @@ module _ (P E : Type 0) (kind_of : P → Kind) where
   }
 
   pub joined : (ps : List ℕ) (first : List (Option P)) (id : ℕ) (vs : List (View P E)) (other : ℕ) (ws both : List (View P E))
-      → ((s : St) → Rule kind_of ps first s → get_elem? s.views id ≡ some vs → get_elem? s.views other ≡ some ws → id ≢ other
+      → ((s : St) → Base kind_of ps first s → get_elem? s.views id ≡ some vs → get_elem? s.views other ≡ some ws → id ≢ other
       → Agree (λ f. total f both ≡ total f vs + total f ws) × All (IsSound ps) both × All (Carries kind_of ps first s.homes) both)
-      → Joins (Rule kind_of ps first) id vs other ws both []
+      → Joins (Base kind_of ps first) id vs other ws both []
   joined ps first id vs other ws both go s r at ne at' =
       let there : get_elem? s.views other ≡ some ws = sym (set_else s.views id other both ne) ∙ at' in
       let q = go s r at there (λ e. ne (sym e)) in
@@ -84,9 +84,9 @@ module _ (P E : Type 0) (kind_of : P → Kind) where
       (each-set (Carries kind_of ps first s.homes) (set s.views id both) other [] (each-set (Carries kind_of ps first s.homes) s.views id both r.parcels.carries q.2) (all-none (Carries kind_of ps first s.homes)))
 
   pub parted_in : (ps : List ℕ) (first : List (Option P)) (id : ℕ) (vs left right : List (View P E))
-      → ((s : St) → Rule kind_of ps first s → get_elem? s.views id ≡ some vs
+      → ((s : St) → Base kind_of ps first s → get_elem? s.views id ≡ some vs
       → Agree (λ f. total f left + total f right ≡ total f vs) × (All (IsSound ps) left × All (IsSound ps) right) × (All (Carries kind_of ps first s.homes) left × All (Carries kind_of ps first s.homes) right))
-      → Splits (Rule kind_of ps first) id vs left right
+      → Splits (Base kind_of ps first) id vs left right
   parted_in ps first id vs left right go s r at =
       let q = go s r at in
       redealt ps first s r (set s.views id left ++ right ∷ []) (
@@ -107,7 +107,7 @@ module _ (P E : Type 0) (kind_of : P → Kind) where
   seen-carries ps first homes es v c = record { opened = c.opened; nodes = c.nodes; single = c.single; cover = c.cover; whole = c.whole; there = c.there; empty = c.empty }
 
   -- two seats meet: their views lie side by side, each with the longer history
-  pub meets : (ps : List ℕ) (first : List (Option P)) (id : ℕ) (vs : List (View P E)) (other : ℕ) (ws : List (View P E)) → Joins (Rule kind_of ps first) id vs other ws (met vs ws) []
+  pub meets : (ps : List ℕ) (first : List (Option P)) (id : ℕ) (vs : List (View P E)) (other : ℕ) (ws : List (View P E)) → Joins (Base kind_of ps first) id vs other ws (met vs ws) []
   meets ps first id vs other ws = joined ps first id vs other ws (met vs ws) (λ s r at at' ne.
       let es : List E = longer (view_of vs).seen (view_of ws).seen in
       let adds : (f : View P E → ℕ) → ((v : View P E) → f (having_seen es v) ≡ f v) → total f (met vs ws) ≡ total f vs + total f ws = λ f h. total-map f (having_seen es) f h (vs ++ ws) ∙ total-append f vs ws in (
@@ -118,7 +118,7 @@ module _ (P E : Type 0) (kind_of : P → Kind) where
       ))
 
   -- and part again, each with its own view
-  pub parts-again : (ps : List ℕ) (first : List (Option P)) (id : ℕ) (vs : List (View P E)) → Splits (Rule kind_of ps first) id vs (first_of vs) (others_of vs)
+  pub parts-again : (ps : List ℕ) (first : List (Option P)) (id : ℕ) (vs : List (View P E)) → Splits (Base kind_of ps first) id vs (first_of vs) (others_of vs)
   parts-again ps first id [] = parted_in ps first id [] [] [] (λ s r at. (
     (refl, (λ a p. refl), (λ a p. refl), (λ a p. refl), (λ k p. refl), refl),
     (all-none (IsSound ps), all-none (IsSound ps)),

@@ -11,7 +11,7 @@ use Rattle.depot_rule.specs.Sums.{one_if, tally, over_taken}
 use Rattle.depot_rule.specs.Tree.{ancestors, Covers}
 use Rattle.depot_rule.specs.Shares.{claims, lower, entered, shares, IsSound}
 use Rattle.depot_rule.specs.Parcels.{takes, Carries}
-use Rattle.depot_rule.specs.Rule.{Rule}
+use Rattle.depot_rule.specs.Rule.{Base}
 use Rattle.depot_rule.specs.Seats.{if_less, put_among, in_order, both_held, merge, fresh, merged, parted, fresh_of, view_of}
 use Rattle.depot_rule.proofs.Sums.{one-other, tally-append}
 use Rattle.depot_rule.proofs.Views.{all-one}
@@ -86,7 +86,7 @@ module _ (P E : Type 0) (kind_of : P → Kind) where
   G = List (Option P)
 
   -- a seat with a split left gives a second one
-  pub splits-off : (ps : List ℕ) (first : List (Option P)) (id : ℕ) (v : View P E) → 2 ≤ v.parts → Splits (Rule kind_of ps first) id (v ∷ []) (record v { parts = v.parts - 1 } ∷ []) (fresh v ∷ [])
+  pub splits-off : (ps : List ℕ) (first : List (Option P)) (id : ℕ) (v : View P E) → 2 ≤ v.parts → Splits (Base kind_of ps first) id (v ∷ []) (record v { parts = v.parts - 1 } ∷ []) (fresh v ∷ [])
   splits-off ps first id v two = parted_in P E kind_of ps first id (v ∷ []) (record v { parts = v.parts - 1 } ∷ []) (fresh v ∷ []) (λ s r at.
       let so = r.shares.sound id (v ∷ []) at 0 v refl in
       let ca = r.parcels.carries id (v ∷ []) at 0 v refl in
@@ -119,7 +119,7 @@ module _ (P E : Type 0) (kind_of : P → Kind) where
       ))
 
   -- two seats, of which the second runs no call, become one
-  pub merges : (ps : List ℕ) (first : List (Option P)) (id : ℕ) (v : View P E) (other : ℕ) (w : View P E) → w.path ≡ [] → w.unsure ≡ 0 → w.out ≡ 0 → Joins (Rule kind_of ps first) id (v ∷ []) other (w ∷ []) (merge v w ∷ []) []
+  pub merges : (ps : List ℕ) (first : List (Option P)) (id : ℕ) (v : View P E) (other : ℕ) (w : View P E) → w.path ≡ [] → w.unsure ≡ 0 → w.out ≡ 0 → Joins (Base kind_of ps first) id (v ∷ []) other (w ∷ []) (merge v w ∷ []) []
   merges ps first id v other w no_path calm idle = joined P E kind_of ps first id (v ∷ []) other (w ∷ []) (merge v w ∷ []) (λ s r at at' ne.
       let so = r.shares.sound id (v ∷ []) at 0 v refl in let so' = r.shares.sound other (w ∷ []) at' 0 w refl in
       let ca = r.parcels.carries id (v ∷ []) at 0 v refl in let ca' = r.parcels.carries other (w ∷ []) at' 0 w refl in
@@ -159,13 +159,13 @@ module _ (P E : Type 0) (kind_of : P → Kind) where
       ))
 
   -- the same of lists of one view
-  pub splits-seat : (ps : List ℕ) (first : List (Option P)) (id : ℕ) (vs : List (View P E)) → length vs ≡ 1 → 2 ≤ (view_of vs).parts → Splits (Rule kind_of ps first) id vs (parted vs) (fresh_of vs)
+  pub splits-seat : (ps : List ℕ) (first : List (Option P)) (id : ℕ) (vs : List (View P E)) → length vs ≡ 1 → 2 ≤ (view_of vs).parts → Splits (Base kind_of ps first) id vs (parted vs) (fresh_of vs)
   splits-seat ps first id [] one two = absurd (omega arith)
   splits-seat ps first id (v ∷ []) one two = splits-off ps first id v two
   splits-seat ps first id (v ∷ u ∷ us) one two = absurd (omega arith)
 
   pub merges-seats : (ps : List ℕ) (first : List (Option P)) (id : ℕ) (vs : List (View P E)) (other : ℕ) (ws : List (View P E)) → length vs ≡ 1 → length ws ≡ 1
-      → (view_of ws).path ≡ [] → (view_of ws).unsure ≡ 0 → (view_of ws).out ≡ 0 → Joins (Rule kind_of ps first) id vs other ws (merged vs ws) []
+      → (view_of ws).path ≡ [] → (view_of ws).unsure ≡ 0 → (view_of ws).out ≡ 0 → Joins (Base kind_of ps first) id vs other ws (merged vs ws) []
   merges-seats ps first id [] other ws one one' path calm idle = absurd (omega arith)
   merges-seats ps first id (v ∷ []) other [] one one' path calm idle = absurd (omega arith)
   merges-seats ps first id (v ∷ []) other (w ∷ []) one one' path calm idle = merges ps first id v other w path calm idle

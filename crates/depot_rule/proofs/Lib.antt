@@ -20,3 +20,5 @@ pub mod Current
 pub mod Chosen
 pub mod Remembering
 pub mod Adding
+pub mod Hands
+pub mod Whole

@@ -5,10 +5,12 @@ use lib.ListN.{get_elem?}
 use Rattle.atomic_table.specs.Table.{step, keeps, Allows}
 use Rattle.atomic_table.proofs.Lists.{set_again}
 use Rattle.depot_rule.specs.declared.view.View.{View}
+use Rattle.depot_rule.specs.declared.view.Entry.{Entry}
 use Rattle.depot_rule.specs.declared.view.Read.{Read}
+use Rattle.depot_rule.specs.History.{Behaviour}
 use Rattle.depot_rule.specs.Sums.{total}
 use Rattle.depot_rule.specs.Shares.{parts, made, claims, entered, shares, IsSound, Shares}
-use Rattle.depot_rule.specs.Rule.{Rule}
+use Rattle.depot_rule.specs.Rule.{Base, Rule}
 use Rattle.depot_rule.specs.Plays.{Place, LookSays, AlikeSays}
 use Rattle.depot_rule.proofs.Sums.{total-set, total-at}
 use Rattle.depot_rule.proofs.Views.{all-one, each-set, only-view}
@@ -16,6 +18,7 @@ use Rattle.depot_rule.proofs.Parcels.{stay-keeps}
 use Rattle.depot_rule.proofs.Following.{are-apart}
 use Rattle.depot_rule.specs.Tree.{Excludes}
 use Rattle.depot_rule.proofs.Places.{on-one}
+use Rattle.depot_rule.proofs.Remembering.{still}
 use Rattle.affinity.specs.declared.affinity.Kind.{Kind}
 
 same-word : (ws : List ℕ) → set ws 0 (get_or ws 0 0) ≡ ws
@@ -39,36 +42,44 @@ module _ (P E : Type 0) where
     sound = each-set (IsSound ps) views id (w ∷ []) r.sound (all-one (IsSound ps) w sound);
   }
 
-  pub looks : (kind_of : P → Kind) (ps : List ℕ) (first : List (Option P)) (slots id : ℕ) (me : Place P E) (v : View P E) → me.0 ≡ v ∷ []
-      → Allows (Rule kind_of ps first) slots id me 0 (λ x. x) (LookSays (step slots 0 0 0 none) me)
-  looks kind_of ps first slots id me v one s r _ at' small =
+module _ (P C R B : Type 0) (kind_of : P → Kind) (m : Behaviour P C R B) where
+  abbrev E : Type 0
+  E = Entry P C R
+
+  pub looks : (ps : List ℕ) (first : List (Option P)) (slots id : ℕ) (me : Place P E) (v : View P E) → me.0 ≡ v ∷ []
+      → Allows (Rule kind_of m ps first) slots id me 0 (λ x. x) (LookSays (step slots 0 0 0 none) me)
+  looks ps first slots id me v one s whole _ at' small =
+      let r = whole.base in
       let at : get_elem? s.views id ≡ some (v ∷ []) = at' ∙ ap some one in
       let x : ℕ = get_or s.words 0 0 in
       let rs : List Read = record { word = 0; value = x; shares = 0 } ∷ v.reads in
       let w : View P E = record v { reads = rs } in
       let ca = r.parcels.carries id (v ∷ []) at 0 v refl in let so = r.shares.sound id (v ∷ []) at 0 v refl in
       let count = total-set (total made) s.views id (v ∷ []) (w ∷ []) at in
-      let still : total (total made) (set s.views id (w ∷ [])) ≡ total (total made) s.views = omega arith in (
+      let as_many : total (total made) (set s.views id (w ∷ [])) ≡ total (total made) s.views = omega arith in (
         w ∷ [],
         keeps,
         tt,
         record {
-          shares = ticket-keeps ps s.words s.views r.shares x id v w at refl (ap (λ l. get_or l 0 0) (same-word s.words) ∙ r.shares.ticket ∙ ap (λ n. n % 18446744073709551616) (sym still)) (record { some_part = so.some_part; tree = so.tree; wide = so.wide; once = so.once }) (λ a. (refl, refl, refl));
-          parcels = stay-keeps P E kind_of ps first s r id v w at (λ k. refl)
-              (record { opened = ca.opened; nodes = ca.nodes; single = ca.single; cover = ca.cover; whole = ca.whole; there = ca.there; empty = ca.empty });
+          base = record {
+            shares = ticket-keeps P E ps s.words s.views r.shares x id v w at refl (ap (λ l. get_or l 0 0) (same-word s.words) ∙ r.shares.ticket ∙ ap (λ n. n % 18446744073709551616) (sym as_many)) (record { some_part = so.some_part; tree = so.tree; wide = so.wide; once = so.once }) (λ a. (refl, refl, refl));
+            parcels = stay-keeps P E kind_of ps first s r id v w at (λ k. refl)
+                (record { opened = ca.opened; nodes = ca.nodes; single = ca.single; cover = ca.cover; whole = ca.whole; there = ca.there; empty = ca.empty });
+          };
+          history = still P C R B m ps first s whole.history _ id v v.path v.unsure rs at;
         },
         (on-one _ me.0 v one (refl, λ all. r.shares.ticket ∙ ap (λ n. n % 18446744073709551616) (only-view P E ps s.words s.views r.shares id v at all made)), refl),
       )
 
   -- two seats that met are of the table's tree
-  pub alikes : (kind_of : P → Kind) (ps : List ℕ) (first : List (Option P)) (slots id : ℕ) (me : Place P E)
-      → Allows (Rule kind_of ps first) slots id me 0 (λ x. x) (AlikeSays (step slots 0 0 0 none) me)
-  alikes kind_of ps first slots id me s r _ at small = (
+  pub alikes : (ps : List ℕ) (first : List (Option P)) (slots id : ℕ) (me : Place P E)
+      → Allows (Rule kind_of m ps first) slots id me 0 (λ x. x) (AlikeSays (step slots 0 0 0 none) me)
+  alikes ps first slots id me s whole _ at small = let r = whole.base in (
     me.0,
     keeps,
     tt,
-    subst (λ (z : List ℕ × List (List (View P E))). Rule kind_of ps first record { words = z.0; homes = s.homes; views = z.1 })
-        (λ i. (sym (same-word s.words) i, sym (set_again s.views id me.0 at) i)) r,
+    subst (λ (z : List ℕ × List (List (View P E))). Rule kind_of m ps first record { words = z.0; homes = s.homes; views = z.1 })
+        (λ i. (sym (same-word s.words) i, sym (set_again s.views id me.0 at) i)) whole,
     (
       refl,
       λ v w is.

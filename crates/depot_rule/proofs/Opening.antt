@@ -8,7 +8,7 @@ use Rattle.depot_rule.specs.declared.view.View.{View}
 use Rattle.depot_rule.specs.Tree.{IsTree}
 use Rattle.depot_rule.specs.Shares.{opening_view, claims, entered, shares, IsSound}
 use Rattle.depot_rule.specs.Parcels.{takes, IsParcel, Carries}
-use Rattle.depot_rule.specs.Rule.{Rule}
+use Rattle.depot_rule.specs.Rule.{Base}
 use Rattle.depot_rule.proofs.Views.{all-one, only-view}
 use Rattle.depot_rule.proofs.Dealing.{bare-counts}
 use Rattle.depot_rule.proofs.Joining.{none-held}
@@ -36,7 +36,7 @@ module _ (P E : Type 0) (kind_of : P → Kind) where
   -- all words are 0, each node's parcel is in its slot, and the first seat has nothing
   pub opens : (ps : List ℕ) (first : List (Option P)) → IsTree ps → length ps ≤ 1024 → length first ≡ length ps
       → ((k : ℕ) → 0 < k → k < length ps → (p : P) × (get_or first k None ≡ Some p))
-      → Rule {E = E} kind_of ps first (opening (replicate (length ps) 0) first (opening_view ps first ∷ []))
+      → Base {E = E} kind_of ps first (opening (replicate (length ps) 0) first (opening_view ps first ∷ []))
   opens ps first tree few wide there =
       let v : View P E = opening_view ps first in
       let bare : (a : ℕ) → 0 < a → (shares a v ≡ 0) × (claims a v ≡ 0) × (entered a v ≡ 0) × (takes a v ≡ 0) = λ a p. bare-counts P E kind_of v a p refl refl refl refl (length ps) refl in
@@ -67,7 +67,7 @@ module _ (P E : Type 0) (kind_of : P → Kind) where
       }
 
   -- where the only seat has no grant, each parcel is in its slot
-  pub closes : (ps : List ℕ) (first : List (Option P)) (s : State (Option P) (List (View P E))) (r : Rule kind_of ps first s) (id : ℕ) (v : View P E) → get_elem? s.views id ≡ some (v ∷ []) → v.parts ≡ 64
+  pub closes : (ps : List ℕ) (first : List (Option P)) (s : State (Option P) (List (View P E))) (r : Base kind_of ps first s) (id : ℕ) (v : View P E) → get_elem? s.views id ≡ some (v ∷ []) → v.parts ≡ 64
       → ((b : ℕ) (g : List (Option P)) → get_elem? v.held b ≡ some (Some g) → ⊥)
       → (k : ℕ) → 0 < k → k < length ps → (y : Option P) × (get_elem? s.homes k ≡ some (some y)) × IsParcel kind_of first k y
   closes ps first s r id v at all none_open k p l =

@@ -13,7 +13,7 @@ use Rattle.depot_rule.specs.Sums.{total, one_if, tally}
 use Rattle.depot_rule.specs.Tree.{ancestors, Covers}
 use Rattle.depot_rule.specs.Shares.{claims, entered, shares}
 use Rattle.depot_rule.specs.Parcels.{takes, Carries, Parcels}
-use Rattle.depot_rule.specs.Rule.{Rule}
+use Rattle.depot_rule.specs.Rule.{Base}
 use Rattle.depot_rule.proofs.Sums.{total-set, total-at, total-zero}
 use Rattle.depot_rule.proofs.Trees.{cover-excludes}
 use Rattle.depot_rule.proofs.Views.{all-one, each-set, each-moved}
@@ -26,7 +26,7 @@ module _ (P E : Type 0) (kind_of : P → Kind) where
   St = State (Option P) (List (View P E))
 
   -- a step that moves no slot
-  pub stay-keeps : (ps : List ℕ) (first : List (Option P)) (s : St) (r : Rule kind_of ps first s) (id : ℕ) (v w : View P E) → get_elem? s.views id ≡ some (v ∷ [])
+  pub stay-keeps : (ps : List ℕ) (first : List (Option P)) (s : St) (r : Base kind_of ps first s) (id : ℕ) (v w : View P E) → get_elem? s.views id ≡ some (v ∷ [])
       → ((k : ℕ) → takes k w ≡ takes k v) → Carries kind_of ps first s.homes w
       → Parcels kind_of ps first s.homes (set s.views id (w ∷ []))
   stay-keeps ps first s r id v w at same mine = record {
@@ -36,7 +36,7 @@ module _ (P E : Type 0) (kind_of : P → Kind) where
   }
 
   -- where b's word is 0 and the words above it are entered, no seat has a parcel that b covers
-  pub untaken : (ps : List ℕ) (first : List (Option P)) (s : St) (r : Rule kind_of ps first s) (id b k : ℕ) (v : View P E) → get_elem? s.views id ≡ some (v ∷ []) → 0 < b → b < length ps
+  pub untaken : (ps : List ℕ) (first : List (Option P)) (s : St) (r : Base kind_of ps first s) (id b k : ℕ) (v : View P E) → get_elem? s.views id ≡ some (v ∷ []) → 0 < b → b < length ps
       → ((a : ℕ) → tally a v.path ≡ tally a (ancestors ps b)) → get_or s.words b 0 ≡ 0 → 0 < k → Covers ps b k → total (total (takes k)) s.views ≡ 0
   untaken ps first s r id b k v at pb lb all free pk cover = total-zero (total (takes k)) s.views (λ j us aj. total-zero (takes k) us (λ i u ai.
       let cu = r.parcels.carries j us aj i u ai in
@@ -75,13 +75,13 @@ module _ (P E : Type 0) (kind_of : P → Kind) where
   }
 
   -- one slot changes, of a node that a grant of the seat covers: x is there from then on
-  pub slot-keeps : (ps : List ℕ) (first : List (Option P)) (s : St) (r : Rule kind_of ps first s) (id b k : ℕ) (v : View P E) (g : List (Option P)) (out : ℕ) (gone : List ℕ) (rs : List Read) (x : maybe.Option (Option P))
+  pub slot-keeps : (ps : List ℕ) (first : List (Option P)) (s : St) (r : Base kind_of ps first s) (id b k : ℕ) (v : View P E) (g : List (Option P)) (out : ℕ) (gone : List ℕ) (rs : List Read) (x : maybe.Option (Option P))
       → get_elem? s.views id ≡ some (v ∷ []) → get_elem? v.held b ≡ some (Some g) → Covers ps b k → 0 < k → k < length ps
       → ((m : ℕ) → 0 < m → m ≢ k → (tally m gone ≡ tally m v.gone) × (one_if (eqb out m) ≡ one_if (eqb v.out m)))
       → tally k gone + one_if (eqb out k) ≤ 1
       → (tally k gone + one_if (eqb out k) ≡ 0 → x ≡ some (get_or g k None))
       → (0 < tally k gone → x ≡ some None)
-      → Rule kind_of ps first record { words = set s.words k (get_or s.words k 0); homes = set s.homes k x; views = set s.views id (record v { out = out; gone = gone; reads = rs } ∷ []) }
+      → Base kind_of ps first record { words = set s.words k (get_or s.words k 0); homes = set s.homes k x; views = set s.views id (record v { out = out; gone = gone; reads = rs } ∷ []) }
   slot-keeps ps first s r id b k v g out gone rs x at here covers pos lt else_same most back gone_empty =
       let ca = r.parcels.carries id (v ∷ []) at 0 v refl in
       let w : View P E = record v { out = out; gone = gone; reads = rs } in

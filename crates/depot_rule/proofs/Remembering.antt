@@ -11,7 +11,7 @@ use Rattle.depot_rule.specs.Sums.{total, tally}
 use Rattle.depot_rule.specs.Shares.{Each}
 use Rattle.depot_rule.specs.Parcels.{takes}
 use Rattle.depot_rule.specs.History.{Behaviour, Current, History, listed, after, chosen, AreHands, Ascends, StartsWith}
-use Rattle.depot_rule.proofs.Current.{ListsCurrent}
+use Rattle.depot_rule.proofs.Current.{ListsCurrent, current-stays}
 use Rattle.depot_rule.proofs.Sums.{total-set}
 use Rattle.depot_rule.proofs.Views.{all-one, each-set}
 
@@ -73,3 +73,10 @@ module _ (P C R B : Type 0) (m : Behaviour P C R B) (ps : List ℕ) (first : Lis
     all_hands = h.all_hands;
     sound = h.sound;
   }
+
+  -- no grant and no slot changes
+  pub still : (s : St) (h : History m ps first s) (words : List ℕ) (id : ℕ) (v : View P E) (path : List ℕ) (unsure : ℕ) (rs : List Read) → get_elem? s.views id ≡ some (v ∷ [])
+      → History m ps first record { words = words; homes = s.homes; views = set s.views id (record v { path = path; unsure = unsure; reads = rs } ∷ []) }
+  still s h words id v path unsure rs at =
+      remembers s h words s.homes id v path unsure v.held v.out v.gone rs at
+      (current-stays ps (after ps (listed first) h.log) s h.current words id v (record v { path = path; unsure = unsure; reads = rs }) at (λ k. refl) (λ b g has. has))

@@ -1,5 +1,5 @@
 -- The stamp, as the table asks for it.
-use Rattle.std.proofs.Common.{◌≡◌, ◌≢◌, ◌⊎◌, ℕ, ◌+◌, ◌%◌, ◌^◌, ◌<◌, eqb, List, [], ◌∷◌, ◌++◌, length, get_or, set, refl, ap, ◌∙◌, subst, arith, Option, Some, None, length-set, length-append, get_or-set_same, inl, inr, ⊎_elim}
+use Rattle.std.proofs.Common.{◌≡◌, ◌≢◌, ◌⊎◌, ℕ, ◌+◌, ◌%◌, ◌^◌, ◌<◌, eqb, List, [], ◌∷◌, ◌++◌, length, get_or, set, sym, refl, ap, ◌∙◌, subst, arith, Option, Some, None, length-set, length-append, get_or-set_same, inl, inr, ⊎_elim}
 use mathlib.Core.Option.{none, some}
 use mathlib.Core.Logic.{dite}
 use native.Mathlib.Decide.{ℕ_discrete}
@@ -13,13 +13,17 @@ use Rattle.depot_rule.specs.Sums.{total, one_if, tally}
 use Rattle.depot_rule.specs.Tree.{ancestors, Covers}
 use Rattle.depot_rule.specs.Shares.{Has, made, claims, lower}
 use Rattle.depot_rule.specs.Parcels.{takes, IsParcel}
-use Rattle.depot_rule.specs.Rule.{Rule}
+use Rattle.depot_rule.specs.Rule.{Base, Rule}
+use Rattle.depot_rule.specs.Machine.{IsLocal, Keeps}
+use Rattle.depot_rule.specs.History.{Behaviour, Legal, listed, chosen, AreHands}
 use Rattle.depot_rule.specs.Plays.{Place, StampSays}
 use Rattle.depot_rule.proofs.Sums.{total-set, over-other}
 use Rattle.depot_rule.proofs.Grants.{at-length}
 use Rattle.depot_rule.proofs.Parcels.{stay-keeps}
 use Rattle.depot_rule.proofs.Looking.{ticket-keeps}
 use Rattle.depot_rule.proofs.Places.{on-one}
+use Rattle.depot_rule.proofs.Adding.{stamp-remembers, stamp-legal}
+use Rattle.depot_rule.proofs.Whole.{only-log, nothing-more}
 use Rattle.affinity.specs.declared.affinity.Kind.{Kind}
 
 module _ (P E : Type 0) (kind_of : P → Kind) where
@@ -27,11 +31,11 @@ module _ (P E : Type 0) (kind_of : P → Kind) where
   G = List (Option P)
 
   -- the grant of b lists other parcels, where all that it covers is taken
-  pub relist-keeps : (ps : List ℕ) (first : List (Option P)) (s : State (Option P) (List (View P E))) (r : Rule kind_of ps first s) (id b : ℕ) (v : View P E) (g left : G) (rs : List Read) (seen : List E) (mine : List ℕ)
+  pub relist-keeps : (ps : List ℕ) (first : List (Option P)) (s : State (Option P) (List (View P E))) (r : Base kind_of ps first s) (id b : ℕ) (v : View P E) (g left : G) (rs : List Read) (seen : List E) (mine : List ℕ)
       → get_elem? s.views id ≡ some (v ∷ []) → Has v b g → length mine ≡ length v.mine + 1
       → ((k : ℕ) → 0 < k → k < length ps → Covers ps b k → takes k v ≡ 1)
       → ((k : ℕ) → 0 < k → k < length ps → Covers ps b k → IsParcel kind_of first k (get_or left k None))
-      → Rule kind_of ps first record { words = set s.words 0 ((get_or s.words 0 0 + 1) % 18446744073709551616); homes = s.homes; views = set s.views id (record v { held = set v.held b (Some left); reads = rs; seen = seen; mine = mine } ∷ []) }
+      → Base kind_of ps first record { words = set s.words 0 ((get_or s.words 0 0 + 1) % 18446744073709551616); homes = s.homes; views = set s.views id (record v { held = set v.held b (Some left); reads = rs; seen = seen; mine = mine } ∷ []) }
   relist-keeps ps first s r id b v g left rs seen mine at here more taken fits =
       let w : View P E = record v { held = set v.held b (Some left); reads = rs; seen = seen; mine = mine } in
       let so = r.shares.sound id (v ∷ []) at 0 v refl in
@@ -64,29 +68,51 @@ module _ (P E : Type 0) (kind_of : P → Kind) where
         });
       }
 
-module _ (P C R : Type 0) (kind_of : P → Kind) where
+module _ (P C R B : Type 0) (kind_of : P → Kind) (m : Behaviour P C R B) where
   abbrev E : Type 0
   E = Entry P C R
 
-  pub stamps : (ps : List ℕ) (first : List (Option P)) (slots id : ℕ) (me : Place P E) (v : View P E) (e : E) (g : List (Option P)) → me.0 ≡ v ∷ [] → Has v e.node g
+  -- the call is a step of the machine's, from the parcels that its grant lists to those that the entry says; what it gives was in the seat's hand
+  pub stamps : IsLocal m.steps → Keeps m.steps m.takes m.gives m.invariant
+      → (ps : List ℕ) (first : List (Option P)) (slots id : ℕ) (me : Place P E) (v : View P E) (e : E) (g : List (Option P)) → me.0 ≡ v ∷ [] → Has v e.node g
       → ((k : ℕ) → 0 < k → k < length ps → Covers ps e.node k → 0 < takes k v)
       → ((k : ℕ) → 0 < k → k < length ps → Covers ps e.node k → (p : P) × (get_or e.left k None ≡ Some p) × ((q : P) → get_or v.first k None ≡ Some q → kind_of p ≡ kind_of q))
-      → Allows (Rule kind_of ps first) slots id me 0 (λ x. (x + 1) % 2 ^ 64) (StampSays (Some e) (step slots 0 1 0 none) me)
-  stamps ps first slots id me v e g one here taken fits s r _ at' small =
+      → (f f' : ℕ → Option P) → m.steps ps e.node e.call f e.reply f'
+      → ((k : ℕ) → 0 < k → k < length ps → Covers ps e.node k → get_or g k None ≡ f k)
+      → ((k : ℕ) → 0 < k → k < length ps → Covers ps e.node k → f' k ≡ get_or e.left k None)
+      → (own own' : List B) → AreHands m.takes m.gives (chosen v.seen v.mine) own
+      → ((weigh : B → ℕ) → total weigh (m.gives e.call e.reply) + total weigh own' ≡ total weigh (m.takes e.call e.reply) + total weigh own)
+      → Allows (Rule kind_of m ps first) slots id me 0 (λ x. (x + 1) % 2 ^ 64) (StampSays m (Some e) (step slots 0 1 0 none) me)
+  stamps local steady ps first slots id me v e g one here taken fits f f' step_of before left own own' mine change s whole _ at' small =
+      let r = whole.base in let h = whole.history in
       let at : get_elem? s.views id ≡ some (v ∷ []) = at' ∙ ap some one in
       let x : ℕ = get_or s.words 0 0 in
+      let so = r.shares.sound id (v ∷ []) at 0 v refl in
       let ca = r.parcels.carries id (v ∷ []) at 0 v refl in
       let once : (k : ℕ) → 0 < k → k < length ps → Covers ps e.node k → takes k v ≡ 1
-      = λ k pk lk ck. let t = taken k pk lk ck in let m = ca.single k pk in omega arith in
+      = λ k pk lk ck. let t = taken k pk lk ck in let q = ca.single k pk in omega arith in
       let parcels : (k : ℕ) → 0 < k → k < length ps → Covers ps e.node k → IsParcel kind_of first k (get_or e.left k None)
-      = λ k pk lk ck. let f = fits k pk lk ck in let q = (ca.whole e.node k g here ck pk lk).2 in (f.0, f.1, (q.0, q.1, f.2 q.0 (ap (λ (z : List (Option P)). get_or z k None) ca.opened ∙ q.1))) in
+      = λ k pk lk ck. let y = fits k pk lk ck in let q = (ca.whole e.node k g here ck pk lk).2 in (y.0, y.1, (q.0, q.1, y.2 q.0 (ap (λ (z : List (Option P)). get_or z k None) ca.opened ∙ q.1))) in
       let rs : List Read = record { word = 0; value = x; shares = 0 } ∷ v.reads in
-      let seen : List E = (v.seen ++ []) ++ e ∷ [] in
-      let mine : List ℕ = v.mine ++ length (v.seen ++ []) ∷ [] in
-      let w : View P E = record v { held = set v.held e.node (Some e.left); reads = rs; seen = seen; mine = mine } in (
+      let seen = h.seen id (v ∷ []) at 0 v refl in
+      let log : List E = h.log ++ e ∷ [] in
+      let places : List ℕ = v.mine ++ length h.log ∷ [] in
+      let w : View P E = record v { held = set v.held e.node (Some e.left); reads = rs; seen = log; mine = places } in
+      let next : Rule kind_of m ps first record { words = set s.words 0 ((x + 1) % 18446744073709551616); homes = s.homes; views = set s.views id (w ∷ []) } = record {
+        base = relist-keeps P E kind_of ps first s r id e.node v g e.left rs log places at here (length-append v.mine (length h.log ∷ [])) once parcels;
+        history = stamp-remembers P C R B kind_of m local steady ps first s r h id v at e g here once f f' step_of before left own own' mine change _ rs;
+      } in (
         w ∷ [],
         keeps,
         tt,
-        relist-keeps P E kind_of ps first s r id e.node v g e.left rs seen mine at here (length-append v.mine (length (v.seen ++ []) ∷ [])) once parcels,
-        (on-one _ me.0 v one ([], refl), refl),
+        next,
+        (
+          on-one _ me.0 v one (
+            seen.0,
+            ap (λ (l : List E). let z : View P E = record v { held = set v.held e.node (Some e.left); reads = rs; seen = l ++ e ∷ []; mine = v.mine ++ length l ∷ [] } in z ∷ []) (sym seen.1),
+            subst (λ (z : List ℕ × List (Option P) × List E). Legal m.steps z.0 (listed z.1) (z.2 ++ e ∷ [])) (λ i. (sym so.tree i, sym ca.opened i, sym seen.1 i)) (stamp-legal P C R B kind_of m local steady ps first s r h id v at e g here once f f' step_of before left own own' mine change s.words rs),
+            (λ all_parts. nothing-more v.seen seen.0 (seen.1 ∙ only-log P C R B kind_of m ps first s r h id v at all_parts)),
+          ),
+          refl,
+        ),
       )

@@ -8,7 +8,7 @@ use Rattle.depot_rule.specs.Sums.{total, tally}
 use Rattle.depot_rule.specs.Tree.{IsTree, ancestors, Covers, Excludes}
 use Rattle.depot_rule.specs.Shares.{exclusive, Has, opening_view}
 use Rattle.depot_rule.specs.Parcels.{takes, IsParcel}
-use Rattle.depot_rule.specs.Rule.{Rule}
+use Rattle.depot_rule.specs.Rule.{Base}
 use Rattle.affinity.specs.declared.affinity.Kind.{Kind}
 
 -- the i-th view of seat j has a grant of b
@@ -22,27 +22,27 @@ IsAtHome kind_of first s k = (y : Option _) × (get_elem? s.homes k ≡ some (so
 module _ (P E : Type 0) where
   -- two grants that exclude each other are one and the same
   abbrev pub GrantsAreApart : Type 0
-  GrantsAreApart = (kind_of : P → Kind) (parents : List ℕ) (first : List (Option P)) (s : State (Option P) (List (View P E))) → Rule kind_of parents first s
+  GrantsAreApart = (kind_of : P → Kind) (parents : List ℕ) (first : List (Option P)) (s : State (Option P) (List (View P E))) → Base kind_of parents first s
       → (j i b j' i' b' : ℕ) → IsOpen s.views j i b → IsOpen s.views j' i' b' → Excludes parents b b' → (j ≡ j') × (i ≡ i') × (b ≡ b')
 
   -- a parcel is at home, or a grant covers its node
   abbrev pub ParcelsArePlaced : Type 0
-  ParcelsArePlaced = (kind_of : P → Kind) (parents : List ℕ) (first : List (Option P)) (s : State (Option P) (List (View P E))) → Rule kind_of parents first s
+  ParcelsArePlaced = (kind_of : P → Kind) (parents : List ℕ) (first : List (Option P)) (s : State (Option P) (List (View P E))) → Base kind_of parents first s
       → (k : ℕ) → 0 < k → k < length parents → IsAtHome kind_of first s k ⊎ ((j : ℕ) × (i : ℕ) × (b : ℕ) × IsOpen s.views j i b × Covers parents b k)
 
   -- at most one seat has it
   abbrev pub ParcelsAreSingle : Type 0
-  ParcelsAreSingle = (kind_of : P → Kind) (parents : List ℕ) (first : List (Option P)) (s : State (Option P) (List (View P E))) → Rule kind_of parents first s
+  ParcelsAreSingle = (kind_of : P → Kind) (parents : List ℕ) (first : List (Option P)) (s : State (Option P) (List (View P E))) → Base kind_of parents first s
       → (k : ℕ) → 0 < k → total (total (takes k)) s.views ≤ 1
 
   -- the word of a node above a grant's has a share and no claim
   abbrev pub GrantsHaveEntered : Type 0
-  GrantsHaveEntered = (kind_of : P → Kind) (parents : List ℕ) (first : List (Option P)) (s : State (Option P) (List (View P E))) → Rule kind_of parents first s
+  GrantsHaveEntered = (kind_of : P → Kind) (parents : List ℕ) (first : List (Option P)) (s : State (Option P) (List (View P E))) → Base kind_of parents first s
       → (j i b a : ℕ) → IsOpen s.views j i b → 0 < tally a (ancestors parents b) → (0 < slice_index s.words a) × (slice_index s.words a < exclusive)
 
   -- a word has its exclusive part just where a grant of that very node is open
   abbrev pub ExclusiveIsGranted : Type 0
-  ExclusiveIsGranted = (kind_of : P → Kind) (parents : List ℕ) (first : List (Option P)) (s : State (Option P) (List (View P E))) → Rule kind_of parents first s
+  ExclusiveIsGranted = (kind_of : P → Kind) (parents : List ℕ) (first : List (Option P)) (s : State (Option P) (List (View P E))) → Base kind_of parents first s
       → (a : ℕ) → 0 < a → a < length parents
       → (exclusive ≤ slice_index s.words a → (j : ℕ) × (i : ℕ) × IsOpen s.views j i a) × ((j i : ℕ) → IsOpen s.views j i a → exclusive ≤ slice_index s.words a)
 
@@ -50,10 +50,10 @@ module _ (P E : Type 0) where
   abbrev pub OpensWithin : Type 0
   OpensWithin = (kind_of : P → Kind) (parents : List ℕ) (first : List (Option P)) → IsTree parents → length parents ≤ 1024 → length first ≡ length parents
       → ((k : ℕ) → 0 < k → k < length parents → (p : P) × (slice_index_or first k None ≡ Some p))
-      → Rule {E = E} kind_of parents first (opening (replicate (length parents) 0) first (opening_view parents first ∷ []))
+      → Base {E = E} kind_of parents first (opening (replicate (length parents) 0) first (opening_view parents first ∷ []))
 
   -- where the only seat has no grant, every parcel is at home
   abbrev pub ClosesWhole : Type 0
-  ClosesWhole = (kind_of : P → Kind) (parents : List ℕ) (first : List (Option P)) (s : State (Option P) (List (View P E))) → Rule kind_of parents first s
+  ClosesWhole = (kind_of : P → Kind) (parents : List ℕ) (first : List (Option P)) (s : State (Option P) (List (View P E))) → Base kind_of parents first s
       → (id : ℕ) (v : View P E) → get_elem? s.views id ≡ some (v ∷ []) → v.parts ≡ 64 → ((b : ℕ) (g : List (Option P)) → Has v b g → ⊥)
       → (k : ℕ) → 0 < k → k < length parents → IsAtHome kind_of first s k

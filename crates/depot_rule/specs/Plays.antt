@@ -11,6 +11,7 @@ use Rattle.depot_rule.specs.Tree.{ancestors, Covers, Excludes}
 use Rattle.depot_rule.specs.Shares.{exclusive, made, shares, Has}
 use Rattle.depot_rule.specs.Parcels.{takes, IsParcel}
 use Rattle.depot_rule.specs.Seats.{OnOne}
+use Rattle.depot_rule.specs.History.{Behaviour, IsWhole, Legal, listed, after}
 use Rattle.affinity.specs.declared.affinity.Kind.{Kind}
 
 -- a seat: its views, and the slots that are out with it
@@ -43,17 +44,6 @@ module _ {P E : Type 0} where
   -- fetch_sub of 1, of the share that was entered last
   abbrev pub LeaveSays : Step (Option P) → Place P E → ℕ → Place P E → Type 0
   LeaveSays st me found me' = Goes (λ v vs. vs ≡ record v { path = drop 1 v.path; reads = noted st found v } ∷ []) me me'
-
-  -- compare_exchange of 0 by 2^32: where 0 was found there is a grant, with a parcel for each node that it covers, none of them taken, and the shares entered are the grant's
-  abbrev pub ClaimSays : (P → Kind) → Step (Option P) → Place P E → ℕ → Place P E → Type 0
-  ClaimSays kind_of st me found me' = Goes (λ v vs.
-      (found ≡ 0 → (g : List (Option P))
-      × (vs ≡ record v { path = []; held = slice_set v.held st.word (Some g); reads = noted st found v } ∷ [])
-      × ((k : ℕ) → 0 < k → k < length v.tree → Covers v.tree st.word k → IsParcel kind_of v.first k (slice_index_or g k None))
-      × ((c : ℕ) (h : List (Option P)) → Has v c h → Excludes v.tree st.word c → ⊥)
-      × ((k : ℕ) → 0 < k → Covers v.tree st.word k → takes k v ≡ 0)
-      × (get_elem? v.held st.word ≡ some None))
-      × (found ≢ 0 → (vs ≡ record v { reads = noted st found v } ∷ []) × (IsOnly v → (c : ℕ) × (h : List (Option P)) × Has v c h × Excludes v.tree st.word c))) me me'
 
   -- fetch_sub of 2^32: the grant ends, which no other grant of the seat excluded, and its shares are to be left
   abbrev pub ReleaseSays : Step (Option P) → Place P E → ℕ → Place P E → Type 0
@@ -92,8 +82,23 @@ module _ {P E : Type 0} where
   abbrev pub AlikeSays : Step (Option P) → Place P E → ℕ → Place P E → Type 0
   AlikeSays st me found me' = (me' ≡ me) × ((v w : View P E) → me.0 ≡ v ∷ w ∷ [] → (v.tree ≡ w.tree) × (v.parts + w.parts ≤ 64) × AreApart v w)
 
--- fetch_add of 1 on the ticket, for the entry e: the grant of its node lists from then on what the entry left, and the entry stands in the history after all that was seen and what others put between
-abbrev pub StampSays : {P C R : Type 0} → Option (Entry P C R) → Step (Option P) → Place P (Entry P C R) → ℕ → Place P (Entry P C R) → Type 0
-StampSays {P = P} item st me found me' = IfSome item (λ e. OnOne (λ v. (between : List (Entry P _ _))
-    × (me'.0 ≡ record v { held = slice_set v.held e.node (Some e.left); reads = record { word = 0; value = found; shares = 0 } ∷ v.reads; seen = (v.seen ++ between) ++ e ∷ []; mine = v.mine ++ length (v.seen ++ between) ∷ [] } ∷ [])) me.0)
-    × (me'.1 ≡ me.1)
+module _ {P C R B : Type 0} where
+  -- compare_exchange of 0 by 2^32: where 0 was found there is a grant, with a parcel for each node that it covers, none of them taken, each as a whole history left it, and the shares entered are the grant's. For the only seat that history is what it has seen
+  abbrev pub ClaimSays : (P → Kind) → Behaviour P C R B → Step (Option P) → Place P (Entry P C R) → ℕ → Place P (Entry P C R) → Type 0
+  ClaimSays kind_of m st me found me' = Goes (λ v vs.
+      (found ≡ 0 → (g : List (Option P))
+      × (vs ≡ record v { path = []; held = slice_set v.held st.word (Some g); reads = noted st found v } ∷ [])
+      × ((k : ℕ) → 0 < k → k < length v.tree → Covers v.tree st.word k → IsParcel kind_of v.first k (slice_index_or g k None))
+      × ((c : ℕ) (h : List (Option P)) → Has v c h → Excludes v.tree st.word c → ⊥)
+      × ((k : ℕ) → 0 < k → Covers v.tree st.word k → takes k v ≡ 0)
+      × (get_elem? v.held st.word ≡ some None)
+      × ((log : List (Entry P C R)) × IsWhole m v.tree v.first v log × (IsOnly v → log ≡ v.seen) × ((k : ℕ) → 0 < k → k < length v.tree → Covers v.tree st.word k → slice_index_or g k None ≡ after v.tree (listed v.first) log k)))
+      × (found ≢ 0 → (vs ≡ record v { reads = noted st found v } ∷ []) × (IsOnly v → (c : ℕ) × (h : List (Option P)) × Has v c h × Excludes v.tree st.word c))) me me'
+
+  -- fetch_add of 1 on the ticket, for the entry e: the grant of its node lists from then on what the entry left, and the entry stands in the history after all that was seen and what others put between, which no one did to the only seat. That history is legal
+  abbrev pub StampSays : Behaviour P C R B → Option (Entry P C R) → Step (Option P) → Place P (Entry P C R) → ℕ → Place P (Entry P C R) → Type 0
+  StampSays m item st me found me' = IfSome item (λ e. OnOne (λ v. (between : List (Entry P C R))
+      × (me'.0 ≡ record v { held = slice_set v.held e.node (Some e.left); reads = record { word = 0; value = found; shares = 0 } ∷ v.reads; seen = (v.seen ++ between) ++ e ∷ []; mine = v.mine ++ length (v.seen ++ between) ∷ [] } ∷ [])
+      × Legal m.steps v.tree (listed v.first) ((v.seen ++ between) ++ e ∷ [])
+      × (IsOnly v → between ≡ [])) me.0)
+      × (me'.1 ≡ me.1)
