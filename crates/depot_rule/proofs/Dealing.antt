@@ -1,27 +1,27 @@
 -- Views that are dealt out anew: seats that meet, part and are joined keep the rule.
-use Rattle.std.proofs.Common.{◌≡◌, ◌≢◌, ℕ, zero, suc, ◌+◌, ◌%◌, ◌<◌, eqb, List, [], ◌∷◌, ◌++◌, map, replicate, set, sym, refl, ap, ◌∙◌, subst, arith, Option, None}
+use Rattle.std.proofs.Common.{◌≡◌, ◌≢◌, ℕ, zero, suc, ◌+◌, ◌%◌, ◌<◌, eqb, List, [], ◌∷◌, ◌++◌, map, length, replicate, set, sym, refl, ap, ◌∙◌, subst, arith, Option, None}
 use mathlib.Core.Option.{some, some-injective, some-ne-none}
 use mathlib.Core.Option as maybe
 use lib.ListN.{get_elem?}
 use Rattle.atomic_table.specs.Table.{State, Joins, Splits}
 use Rattle.atomic_table.proofs.Lists.{set_else}
 use Rattle.depot_rule.specs.declared.view.View.{View}
+use Rattle.depot_rule.specs.declared.view.Entry.{Entry}
+use Rattle.depot_rule.specs.History.{Behaviour, listed, after, chosen, StartsWith}
 use Rattle.depot_rule.specs.Sums.{total, one_if, tally, over_taken}
 use Rattle.depot_rule.specs.Tree.{ancestors}
 use Rattle.depot_rule.specs.Shares.{Each, parts, made, claims, entered, shares, IsSound}
 use Rattle.depot_rule.specs.Parcels.{takes, Carries}
-use Rattle.depot_rule.specs.Rule.{Base}
+use Rattle.depot_rule.specs.Rule.{Rule}
 use Rattle.depot_rule.specs.Seats.{longer, view_of, having_seen, met, first_of, others_of}
 use Rattle.depot_rule.proofs.Sums.{one-other, total-set, total-append, total-map, over-none}
 use Rattle.depot_rule.proofs.Views.{All, all-none, all-one, all-append, each-set, each-more}
+use Rattle.depot_rule.proofs.Current.{ListsCurrent}
+use Rattle.depot_rule.proofs.Remembering.{Own, HasHand, dealt}
+use Rattle.depot_rule.proofs.Meeting.{both-begin, first-chosen, second-chosen, first-met, second-met}
 use Rattle.affinity.specs.declared.affinity.Kind.{Kind}
 
 module _ {V : Type 0} where
-  all-map : (Q : V → Type 0) (f : V → V) → ((v : V) → Q v → Q (f v)) → (vs : List V) → All Q vs → All Q (map f vs)
-  all-map Q f go [] all i v e = absurd (some-ne-none v (sym e))
-  all-map Q f go (x ∷ xs) all zero v e = subst Q (some-injective (f x) v e) (go x (all 0 x refl))
-  all-map Q f go (x ∷ xs) all (suc i) v e = all-map Q f go xs (λ j u d. all (suc j) u d) i v e
-
   -- one seat has what two had
   total-joined : (f : V → ℕ) (views : List (List V)) (id other : ℕ) (vs ws both : List V) → get_elem? views id ≡ some vs → get_elem? (set views id both) other ≡ some ws
       → total f both ≡ total f vs + total f ws → total (total f) (set (set views id both) other []) ≡ total (total f) views
@@ -34,41 +34,60 @@ module _ {V : Type 0} where
   total-parted f views id vs left right at e =
       let a = total-set (total f) views id vs left at in let b = total-append (total f) (set views id left) (right ∷ []) in omega arith
 
-module _ (P E : Type 0) (kind_of : P → Kind) where
+module _ (P C R B : Type 0) (kind_of : P → Kind) (m : Behaviour P C R B) where
+  abbrev E : Type 0
+  E = Entry P C R
+
   abbrev St : Type 0
   St = State (Option P) (List (View P E))
 
   -- f adds up to as much as before, for each f that the rule speaks of
   abbrev Agree : (((View P E → ℕ) → Type 0)) → Type 0
   Agree same = same parts × ((a : ℕ) → 0 < a → same (shares a)) × ((a : ℕ) → 0 < a → same (claims a)) × ((a : ℕ) → 0 < a → same (entered a)) × ((k : ℕ) → 0 < k → same (takes k)) × same made
+      × ((p : ℕ) → same (λ (v : View P E). tally p v.mine)) × ((weigh : E → ℕ) → same (λ (v : View P E). total weigh (chosen v.seen v.mine)))
+
+  -- what the rule says of each view alone
+  abbrev Sound : (ps : List ℕ) (first : List (Option P)) (s : St) → Rule kind_of m ps first s → View P E → Type 0
+  Sound ps first s r v = IsSound ps v × Carries kind_of ps first s.homes v × ListsCurrent ps (after ps (listed first) r.history.log) v × StartsWith r.history.log v.seen × Own P C R B m ps first v × HasHand P C R B m ps first v
+
+  -- of the views of all seats
+  abbrev AreSound : (ps : List ℕ) (first : List (Option P)) (s : St) → Rule kind_of m ps first s → List (List (View P E)) → Type 0
+  AreSound ps first s r views = Each (Sound ps first s r) views
+
+  pub sound-views : (ps : List ℕ) (first : List (Option P)) (s : St) (r : Rule kind_of m ps first s) → AreSound ps first s r s.views
+  sound-views ps first s r j vs at i v in_vs = (r.base.shares.sound j vs at i v in_vs, r.base.parcels.carries j vs at i v in_vs, r.history.current.listed j vs at i v in_vs, r.history.seen j vs at i v in_vs, r.history.own j vs at i v in_vs, r.history.hand j vs at i v in_vs)
 
   -- the rule sees the views added up, and each alone
-  pub redealt : (ps : List ℕ) (first : List (Option P)) (s : St) (r : Base kind_of ps first s) (views : List (List (View P E)))
+  redealt : (ps : List ℕ) (first : List (Option P)) (s : St) (r : Rule kind_of m ps first s) (views : List (List (View P E)))
       → Agree (λ f. total (total f) views ≡ total (total f) s.views)
-      → Each (IsSound ps) views → Each (Carries kind_of ps first s.homes) views
-      → Base kind_of ps first record { words = s.words; homes = s.homes; views = views }
-  redealt ps first s r views same sound carries = record {
-    shares = record {
-      tree = r.shares.tree;
-      few = r.shares.few;
-      as_many = r.shares.as_many;
-      seats = same.0 ∙ r.shares.seats;
-      counted = λ a p l. r.shares.counted a p l ∙ sym (same.1 a p);
-      ticket = r.shares.ticket ∙ ap (λ n. n % 18446744073709551616) (sym same.5);
-      alone = λ a p l h. let c = same.2 a p in let e = same.3 a p in let q = r.shares.alone a p l (omega arith) in let q0 = q.0 in let q1 = q.1 in (omega arith, omega arith);
-      sound = sound;
+      → AreSound ps first s r views
+      → Rule kind_of m ps first record { words = s.words; homes = s.homes; views = views }
+  redealt ps first s whole views same sound = let r = whole.base in record {
+    base = record {
+      shares = record {
+        tree = r.shares.tree;
+        few = r.shares.few;
+        as_many = r.shares.as_many;
+        seats = same.0 ∙ r.shares.seats;
+        counted = λ a p l. r.shares.counted a p l ∙ sym (same.1 a p);
+        ticket = r.shares.ticket ∙ ap (λ n. n % 18446744073709551616) (sym same.5);
+        alone = λ a p l h. let c = same.2 a p in let e = same.3 a p in let q = r.shares.alone a p l (omega arith) in let q0 = q.0 in let q1 = q.1 in (omega arith, omega arith);
+        sound = λ j vs at i v in_vs. (sound j vs at i v in_vs).0;
+      };
+      parcels = record {
+        slots = r.parcels.slots;
+        home = λ k p l z. let t = same.4 k p in r.parcels.home k p l (omega arith);
+        carries = λ j vs at i v in_vs. (sound j vs at i v in_vs).1;
+      };
     };
-    parcels = record {
-      slots = r.parcels.slots;
-      home = λ k p l z. let t = same.4 k p in r.parcels.home k p l (omega arith);
-      carries = carries;
-    };
+    history = dealt P C R B m ps first s whole.history views same.4 (λ j vs at i v in_vs. (sound j vs at i v in_vs).2) (λ j vs at i v in_vs. (sound j vs at i v in_vs).3) same.6
+        (λ j vs at i v in_vs. (sound j vs at i v in_vs).4) same.7 (λ j vs at i v in_vs. (sound j vs at i v in_vs).5);
   }
 
   pub joined : (ps : List ℕ) (first : List (Option P)) (id : ℕ) (vs : List (View P E)) (other : ℕ) (ws both : List (View P E))
-      → ((s : St) → Base kind_of ps first s → get_elem? s.views id ≡ some vs → get_elem? s.views other ≡ some ws → id ≢ other
-      → Agree (λ f. total f both ≡ total f vs + total f ws) × All (IsSound ps) both × All (Carries kind_of ps first s.homes) both)
-      → Joins (Base kind_of ps first) id vs other ws both []
+      → ((s : St) (r : Rule kind_of m ps first s) → get_elem? s.views id ≡ some vs → get_elem? s.views other ≡ some ws → id ≢ other
+      → Agree (λ f. total f both ≡ total f vs + total f ws) × All (Sound ps first s r) both)
+      → Joins (Rule kind_of m ps first) id vs other ws both []
   joined ps first id vs other ws both go s r at ne at' =
       let there : get_elem? s.views other ≡ some ws = sym (set_else s.views id other both ne) ∙ at' in
       let q = go s r at there (λ e. ne (sym e)) in
@@ -79,14 +98,15 @@ module _ (P E : Type 0) (kind_of : P → Kind) where
         (λ a p. total-joined (entered a) s.views id other vs ws both at at' (q.0.3 a p)),
         (λ k p. total-joined (takes k) s.views id other vs ws both at at' (q.0.4 k p)),
         total-joined made s.views id other vs ws both at at' q.0.5,
+        (λ p. total-joined (λ (v : View P E). tally p v.mine) s.views id other vs ws both at at' (q.0.6 p)),
+        (λ weigh. total-joined (λ (v : View P E). total weigh (chosen v.seen v.mine)) s.views id other vs ws both at at' (q.0.7 weigh)),
       )
-      (each-set (IsSound ps) (set s.views id both) other [] (each-set (IsSound ps) s.views id both r.shares.sound q.1) (all-none (IsSound ps)))
-      (each-set (Carries kind_of ps first s.homes) (set s.views id both) other [] (each-set (Carries kind_of ps first s.homes) s.views id both r.parcels.carries q.2) (all-none (Carries kind_of ps first s.homes)))
+      (each-set (Sound ps first s r) (set s.views id both) other [] (each-set (Sound ps first s r) s.views id both (sound-views ps first s r) q.1) (all-none (Sound ps first s r)))
 
   pub parted_in : (ps : List ℕ) (first : List (Option P)) (id : ℕ) (vs left right : List (View P E))
-      → ((s : St) → Base kind_of ps first s → get_elem? s.views id ≡ some vs
-      → Agree (λ f. total f left + total f right ≡ total f vs) × (All (IsSound ps) left × All (IsSound ps) right) × (All (Carries kind_of ps first s.homes) left × All (Carries kind_of ps first s.homes) right))
-      → Splits (Base kind_of ps first) id vs left right
+      → ((s : St) (r : Rule kind_of m ps first s) → get_elem? s.views id ≡ some vs
+      → Agree (λ f. total f left + total f right ≡ total f vs) × All (Sound ps first s r) left × All (Sound ps first s r) right)
+      → Splits (Rule kind_of m ps first) id vs left right
   parted_in ps first id vs left right go s r at =
       let q = go s r at in
       redealt ps first s r (set s.views id left ++ right ∷ []) (
@@ -96,10 +116,12 @@ module _ (P E : Type 0) (kind_of : P → Kind) where
         (λ a p. total-parted (entered a) s.views id vs left right at (q.0.3 a p)),
         (λ k p. total-parted (takes k) s.views id vs left right at (q.0.4 k p)),
         total-parted made s.views id vs left right at q.0.5,
+        (λ p. total-parted (λ (v : View P E). tally p v.mine) s.views id vs left right at (q.0.6 p)),
+        (λ weigh. total-parted (λ (v : View P E). total weigh (chosen v.seen v.mine)) s.views id vs left right at (q.0.7 weigh)),
       )
-      (each-more (IsSound ps) (set s.views id left) right (each-set (IsSound ps) s.views id left r.shares.sound q.1.0) q.1.1)
-      (each-more (Carries kind_of ps first s.homes) (set s.views id left) right (each-set (Carries kind_of ps first s.homes) s.views id left r.parcels.carries q.2.0) q.2.1)
+      (each-more (Sound ps first s r) (set s.views id left) right (each-set (Sound ps first s r) s.views id left (sound-views ps first s r) q.1) q.2)
 
+  -- a view that has seen more
   seen-sound : (ps : List ℕ) (es : List E) (v : View P E) → IsSound ps v → IsSound ps (having_seen es v)
   seen-sound ps es v s = record { some_part = s.some_part; tree = s.tree; wide = s.wide; once = s.once }
 
@@ -107,29 +129,51 @@ module _ (P E : Type 0) (kind_of : P → Kind) where
   seen-carries ps first homes es v c = record { opened = c.opened; nodes = c.nodes; single = c.single; cover = c.cover; whole = c.whole; there = c.there; empty = c.empty }
 
   -- two seats meet: their views lie side by side, each with the longer history
-  pub meets : (ps : List ℕ) (first : List (Option P)) (id : ℕ) (vs : List (View P E)) (other : ℕ) (ws : List (View P E)) → Joins (Base kind_of ps first) id vs other ws (met vs ws) []
-  meets ps first id vs other ws = joined ps first id vs other ws (met vs ws) (λ s r at at' ne.
-      let es : List E = longer (view_of vs).seen (view_of ws).seen in
-      let adds : (f : View P E → ℕ) → ((v : View P E) → f (having_seen es v) ≡ f v) → total f (met vs ws) ≡ total f vs + total f ws = λ f h. total-map f (having_seen es) f h (vs ++ ws) ∙ total-append f vs ws in (
-        (adds parts (λ v. refl), (λ a p. adds (shares a) (λ v. refl)), (λ a p. adds (claims a) (λ v. refl)), (λ a p. adds (entered a) (λ v. refl)), (λ k p. adds (takes k) (λ v. refl)), adds made (λ v. refl)),
-        all-map (IsSound ps) (having_seen es) (seen-sound ps es) (vs ++ ws) (all-append (IsSound ps) vs ws (r.shares.sound id vs at) (r.shares.sound other ws at')),
-        all-map (Carries kind_of ps first s.homes) (having_seen es) (seen-carries ps first s.homes es) (vs ++ ws)
-            (all-append (Carries kind_of ps first s.homes) vs ws (r.parcels.carries id vs at) (r.parcels.carries other ws at')),
+  meet-two : (ps : List ℕ) (first : List (Option P)) (id : ℕ) (v : View P E) (other : ℕ) (w : View P E) → Joins (Rule kind_of m ps first) id (v ∷ []) other (w ∷ []) (met (v ∷ []) (w ∷ [])) []
+  meet-two ps first id v other w = joined ps first id (v ∷ []) other (w ∷ []) (met (v ∷ []) (w ∷ [])) (λ s r at at' ne.
+      let es : List E = longer v.seen w.seen in
+      let h = r.history in
+      let begins = both-begin P C R B m ps first s h id v at other w at' in
+      let one = first-met P C R B m ps first s h id v at other w at' in let two = second-met P C R B m ps first s h id v at other w at' in
+      let a = sound-views ps first s r id (v ∷ []) at 0 v refl in let b = sound-views ps first s r other (w ∷ []) at' 0 w refl in (
+        (
+          omega arith,
+          (λ a p. omega arith),
+          (λ a p. omega arith),
+          (λ a p. omega arith),
+          (λ k p. omega arith),
+          omega arith,
+          (λ p. omega arith),
+          (λ weigh.
+              let x : total weigh (chosen es v.mine) ≡ total weigh (chosen v.seen v.mine) = ap (total weigh) (first-chosen P C R B m ps first s h id v at other w at') in
+              let y : total weigh (chosen es w.mine) ≡ total weigh (chosen w.seen w.mine) = ap (total weigh) (second-chosen P C R B m ps first s h id v at other w at') in omega arith),
+        ),
+        all-append (Sound ps first s r) (having_seen es v ∷ []) (having_seen es w ∷ [])
+            (all-one (Sound ps first s r) (having_seen es v) (seen-sound ps es v a.0, seen-carries ps first s.homes es v a.1, a.2, begins, one.0, one.1))
+            (all-one (Sound ps first s r) (having_seen es w) (seen-sound ps es w b.0, seen-carries ps first s.homes es w b.1, b.2, begins, two.0, two.1)),
       ))
 
+  pub meets : (ps : List ℕ) (first : List (Option P)) (id : ℕ) (vs : List (View P E)) (other : ℕ) (ws : List (View P E)) → length vs ≡ 1 → length ws ≡ 1 → Joins (Rule kind_of m ps first) id vs other ws (met vs ws) []
+  meets ps first id [] other ws one one' = absurd (omega arith)
+  meets ps first id (v ∷ []) other [] one one' = absurd (omega arith)
+  meets ps first id (v ∷ []) other (w ∷ []) one one' = meet-two ps first id v other w
+  meets ps first id (v ∷ []) other (w ∷ u ∷ us) one one' = absurd (omega arith)
+  meets ps first id (v ∷ u ∷ us) other ws one one' = absurd (omega arith)
+
   -- and part again, each with its own view
-  pub parts-again : (ps : List ℕ) (first : List (Option P)) (id : ℕ) (vs : List (View P E)) → Splits (Base kind_of ps first) id vs (first_of vs) (others_of vs)
+  pub parts-again : (ps : List ℕ) (first : List (Option P)) (id : ℕ) (vs : List (View P E)) → Splits (Rule kind_of m ps first) id vs (first_of vs) (others_of vs)
   parts-again ps first id [] = parted_in ps first id [] [] [] (λ s r at. (
-    (refl, (λ a p. refl), (λ a p. refl), (λ a p. refl), (λ k p. refl), refl),
-    (all-none (IsSound ps), all-none (IsSound ps)),
-    (all-none (Carries kind_of ps first s.homes), all-none (Carries kind_of ps first s.homes)),
+    (refl, (λ a p. refl), (λ a p. refl), (λ a p. refl), (λ k p. refl), refl, (λ p. refl), (λ weigh. refl)),
+    all-none (Sound ps first s r),
+    all-none (Sound ps first s r),
   ))
   parts-again ps first id (v ∷ vs) = parted_in ps first id (v ∷ vs) (v ∷ []) vs (λ s r at. (
-    (omega arith, (λ a p. omega arith), (λ a p. omega arith), (λ a p. omega arith), (λ k p. omega arith), omega arith),
-    (all-one (IsSound ps) v (r.shares.sound id (v ∷ vs) at 0 v refl), (λ i u e. r.shares.sound id (v ∷ vs) at (suc i) u e)),
-    (all-one (Carries kind_of ps first s.homes) v (r.parcels.carries id (v ∷ vs) at 0 v refl), (λ i u e. r.parcels.carries id (v ∷ vs) at (suc i) u e)),
+    (omega arith, (λ a p. omega arith), (λ a p. omega arith), (λ a p. omega arith), (λ k p. omega arith), omega arith, (λ p. omega arith), (λ weigh. omega arith)),
+    all-one (Sound ps first s r) v (sound-views ps first s r id (v ∷ vs) at 0 v refl),
+    (λ i u e. sound-views ps first s r id (v ∷ vs) at (suc i) u e),
   ))
 
+module _ (P E : Type 0) (kind_of : P → Kind) where
   -- a view with nothing entered, granted or taken
   pub bare-counts : (v : View P E) (a : ℕ) → 0 < a → v.unsure ≡ 0 → v.path ≡ [] → v.out ≡ 0 → v.gone ≡ [] → (n : ℕ) → v.held ≡ replicate n None
       → (shares a v ≡ 0) × (claims a v ≡ 0) × (entered a v ≡ 0) × (takes a v ≡ 0)

@@ -7,16 +7,20 @@ use native.Mathlib.Decide.{ℕ_discrete}
 use lib.ListN.{get_elem?}
 use Rattle.atomic_table.specs.Table.{State, Joins, Splits}
 use Rattle.depot_rule.specs.declared.view.View.{View}
+use Rattle.depot_rule.specs.declared.view.Entry.{Entry}
+use Rattle.depot_rule.specs.History.{Behaviour}
 use Rattle.depot_rule.specs.Sums.{one_if, tally, over_taken}
 use Rattle.depot_rule.specs.Tree.{ancestors, Covers}
 use Rattle.depot_rule.specs.Shares.{claims, lower, entered, shares, IsSound}
 use Rattle.depot_rule.specs.Parcels.{takes, Carries}
-use Rattle.depot_rule.specs.Rule.{Base}
+use Rattle.depot_rule.specs.Rule.{Rule}
 use Rattle.depot_rule.specs.Seats.{if_less, put_among, in_order, both_held, merge, fresh, merged, parted, fresh_of, view_of}
 use Rattle.depot_rule.proofs.Sums.{one-other, tally-append}
 use Rattle.depot_rule.proofs.Views.{all-one}
 use Rattle.depot_rule.proofs.Grants.{covers-one}
 use Rattle.depot_rule.proofs.Dealing.{joined, parted_in, bare-counts}
+use Rattle.depot_rule.proofs.Chosen.{tally-in-order}
+use Rattle.depot_rule.proofs.Meeting.{both-begin, merged-weigh, merged-own, merged-hand}
 use Rattle.affinity.specs.declared.affinity.Kind.{Kind}
 
 pub none-held : {A : Type 0} (n b : ℕ) (x : A) → get_elem? (replicate n None) b ≡ some (Some x) → ⊥
@@ -78,7 +82,10 @@ module _ {A : Type 0} where
   held-second (Some x ∷ xs) (y ∷ ys) zero g d e = absurd (d 0 x g refl e)
   held-second (x ∷ xs) (y ∷ ys) (suc i) g d e = held-second xs ys i g (later x y xs ys d) e
 
-module _ (P E : Type 0) (kind_of : P → Kind) where
+module _ (P C R B : Type 0) (kind_of : P → Kind) (m : Behaviour P C R B) where
+  abbrev E : Type 0
+  E = Entry P C R
+
   abbrev St : Type 0
   St = State (Option P) (List (View P E))
 
@@ -86,8 +93,10 @@ module _ (P E : Type 0) (kind_of : P → Kind) where
   G = List (Option P)
 
   -- a seat with a split left gives a second one
-  pub splits-off : (ps : List ℕ) (first : List (Option P)) (id : ℕ) (v : View P E) → 2 ≤ v.parts → Splits (Base kind_of ps first) id (v ∷ []) (record v { parts = v.parts - 1 } ∷ []) (fresh v ∷ [])
-  splits-off ps first id v two = parted_in P E kind_of ps first id (v ∷ []) (record v { parts = v.parts - 1 } ∷ []) (fresh v ∷ []) (λ s r at.
+  pub splits-off : (ps : List ℕ) (first : List (Option P)) (id : ℕ) (v : View P E) → 2 ≤ v.parts → Splits (Rule kind_of m ps first) id (v ∷ []) (record v { parts = v.parts - 1 } ∷ []) (fresh v ∷ [])
+  splits-off ps first id v two = parted_in P C R B kind_of m ps first id (v ∷ []) (record v { parts = v.parts - 1 } ∷ []) (fresh v ∷ []) (λ s whole at.
+      let r = whole.base in let h = whole.history in
+      let own = h.own id (v ∷ []) at 0 v refl in
       let so = r.shares.sound id (v ∷ []) at 0 v refl in
       let ca = r.parcels.carries id (v ∷ []) at 0 v refl in
       let bare : (a : ℕ) → 0 < a → (shares a (fresh v) ≡ 0) × (claims a (fresh v) ≡ 0) × (entered a (fresh v) ≡ 0) × (takes a (fresh v) ≡ 0) = λ a p. bare-counts P E kind_of (fresh v) a p refl refl refl refl (length v.tree) refl in (
@@ -98,15 +107,20 @@ module _ (P E : Type 0) (kind_of : P → Kind) where
           (λ a p. let z = bare a p in let q = z.2 in omega arith),
           (λ k p. let z = bare k p in let q = z.3 in omega arith),
           omega arith,
+          (λ p. omega arith),
+          (λ weigh. omega arith),
         ),
-        (
-          all-one (IsSound ps) (record v { parts = v.parts - 1 }) (record { some_part = omega arith; tree = so.tree; wide = so.wide; once = so.once }),
-          all-one (IsSound ps) (fresh v) (record { some_part = omega arith; tree = so.tree; wide = length-replicate (length v.tree) None ∙ ap (λ (t : List ℕ). length t) so.tree; once = λ a. omega arith }),
+        all-one _ (record v { parts = v.parts - 1 }) (
+          record { some_part = omega arith; tree = so.tree; wide = so.wide; once = so.once },
+          record { opened = ca.opened; nodes = ca.nodes; single = ca.single; cover = ca.cover; whole = ca.whole; there = ca.there; empty = ca.empty },
+          h.current.listed id (v ∷ []) at 0 v refl,
+          h.seen id (v ∷ []) at 0 v refl,
+          own,
+          h.hand id (v ∷ []) at 0 v refl,
         ),
-        (
-          all-one (Carries kind_of ps first s.homes) (record v { parts = v.parts - 1 })
-              (record { opened = ca.opened; nodes = ca.nodes; single = ca.single; cover = ca.cover; whole = ca.whole; there = ca.there; empty = ca.empty }),
-          all-one (Carries kind_of ps first s.homes) (fresh v) (record {
+        all-one _ (fresh v) (
+          record { some_part = omega arith; tree = so.tree; wide = length-replicate (length v.tree) None ∙ ap (λ (t : List ℕ). length t) so.tree; once = λ a. omega arith },
+          record {
             opened = ca.opened;
             nodes = λ b g e. absurd (none-held (length v.tree) b g e);
             single = λ k p. let z = bare k p in let q = z.3 in omega arith;
@@ -114,13 +128,18 @@ module _ (P E : Type 0) (kind_of : P → Kind) where
             whole = λ b k g e. absurd (none-held (length v.tree) b g e);
             there = λ b k g e. absurd (none-held (length v.tree) b g e);
             empty = λ k p h. absurd (omega arith);
-          }),
+          },
+          (λ b k g e. absurd (none-held (length v.tree) b g e)),
+          h.seen id (v ∷ []) at 0 v refl,
+          (tt, (λ p some_p. absurd (omega arith))),
+          ([], λ weigh. refl),
         ),
       ))
 
   -- two seats, of which the second runs no call, become one
-  pub merges : (ps : List ℕ) (first : List (Option P)) (id : ℕ) (v : View P E) (other : ℕ) (w : View P E) → w.path ≡ [] → w.unsure ≡ 0 → w.out ≡ 0 → Joins (Base kind_of ps first) id (v ∷ []) other (w ∷ []) (merge v w ∷ []) []
-  merges ps first id v other w no_path calm idle = joined P E kind_of ps first id (v ∷ []) other (w ∷ []) (merge v w ∷ []) (λ s r at at' ne.
+  pub merges : (ps : List ℕ) (first : List (Option P)) (id : ℕ) (v : View P E) (other : ℕ) (w : View P E) → w.path ≡ [] → w.unsure ≡ 0 → w.out ≡ 0 → Joins (Rule kind_of m ps first) id (v ∷ []) other (w ∷ []) (merge v w ∷ []) []
+  merges ps first id v other w no_path calm idle = joined P C R B kind_of m ps first id (v ∷ []) other (w ∷ []) (merge v w ∷ []) (λ s whole at at' ne.
+      let r = whole.base in let h = whole.history in
       let so = r.shares.sound id (v ∷ []) at 0 v refl in let so' = r.shares.sound other (w ∷ []) at' 0 w refl in
       let ca = r.parcels.carries id (v ∷ []) at 0 v refl in let ca' = r.parcels.carries other (w ∷ []) at' 0 w refl in
       let clash : (b c k : ℕ) (g h : G) → get_elem? v.held b ≡ some (Some g) → get_elem? w.held c ≡ some (Some h) → Covers ps b k → Covers ps c k → ⊥ = λ b c k g h e f p q.
@@ -142,30 +161,38 @@ module _ (P E : Type 0) (kind_of : P → Kind) where
           (λ a p. let l = low a in let q = path a in omega arith),
           (λ k p. let t = taken k p in omega arith),
           (let l = length-in-order v.mine w.mine in omega arith),
+          (λ p. let t = tally-in-order p v.mine w.mine in omega arith),
+          (λ weigh. let t = merged-weigh P C R B m ps first s h id v at other w at' weigh in omega arith),
         ),
-        all-one (IsSound ps) (merge v w) (record { some_part = (let p = so.some_part in omega arith); tree = so.tree; wide = length-both v.held w.held (so.wide ∙ sym so'.wide) ∙ so.wide; once = so.once }),
-        all-one (Carries kind_of ps first s.homes) (merge v w) (record {
-          opened = ca.opened;
-          nodes = λ b g e. ⊎_elim (λ (f : get_elem? v.held b ≡ some (Some g)). ca.nodes b g f) (λ (f : get_elem? w.held b ≡ some (Some g)). ca'.nodes b g f) (held-of v.held w.held b g e);
-          single = λ k p. let t = taken k p in let m = ca.single k p in let m' = ca'.single k p in
-              dite (ℕ_discrete (takes k v) 0) (λ z. omega arith) (λ nz. dite (ℕ_discrete (takes k w) 0) (λ z'. omega arith) (λ nz'. absurd (not_both k p (omega arith) (omega arith))));
-          cover = λ k p h. let t = taken k p in dite (ℕ_discrete (takes k v) 0)
-              (λ z. let c = ca'.cover k p (omega arith) in (c.0, c.1, held-second v.held w.held c.0 c.1 apart c.2, c.3))
-              (λ nz. let c = ca.cover k p (omega arith) in (c.0, c.1, held-first v.held w.held c.0 c.1 c.2, c.3));
-          whole = λ b k g e c p l. ⊎_elim (λ (f : get_elem? v.held b ≡ some (Some g)). ca.whole b k g f c p l) (λ (f : get_elem? w.held b ≡ some (Some g)). ca'.whole b k g f c p l) (held-of v.held w.held b g e);
-          there = λ b k g e c p l z. let t = taken k p in ⊎_elim (λ (f : get_elem? v.held b ≡ some (Some g)). ca.there b k g f c p l (omega arith)) (λ (f : get_elem? w.held b ≡ some (Some g)). ca'.there b k g f c p l (omega arith)) (held-of v.held w.held b g e);
-          empty = λ k p h. let t = tally-append k v.gone w.gone in dite (ℕ_discrete (tally k v.gone) 0) (λ z. ca'.empty k p (omega arith)) (λ nz. ca.empty k p (omega arith));
-        }),
+        all-one _ (merge v w) (
+          record { some_part = (let p = so.some_part in omega arith); tree = so.tree; wide = length-both v.held w.held (so.wide ∙ sym so'.wide) ∙ so.wide; once = so.once },
+          record {
+            opened = ca.opened;
+            nodes = λ b g e. ⊎_elim (λ (f : get_elem? v.held b ≡ some (Some g)). ca.nodes b g f) (λ (f : get_elem? w.held b ≡ some (Some g)). ca'.nodes b g f) (held-of v.held w.held b g e);
+            single = λ k p. let t = taken k p in let m = ca.single k p in let m' = ca'.single k p in
+                dite (ℕ_discrete (takes k v) 0) (λ z. omega arith) (λ nz. dite (ℕ_discrete (takes k w) 0) (λ z'. omega arith) (λ nz'. absurd (not_both k p (omega arith) (omega arith))));
+            cover = λ k p h. let t = taken k p in dite (ℕ_discrete (takes k v) 0)
+                (λ z. let c = ca'.cover k p (omega arith) in (c.0, c.1, held-second v.held w.held c.0 c.1 apart c.2, c.3))
+                (λ nz. let c = ca.cover k p (omega arith) in (c.0, c.1, held-first v.held w.held c.0 c.1 c.2, c.3));
+            whole = λ b k g e c p l. ⊎_elim (λ (f : get_elem? v.held b ≡ some (Some g)). ca.whole b k g f c p l) (λ (f : get_elem? w.held b ≡ some (Some g)). ca'.whole b k g f c p l) (held-of v.held w.held b g e);
+            there = λ b k g e c p l z. let t = taken k p in ⊎_elim (λ (f : get_elem? v.held b ≡ some (Some g)). ca.there b k g f c p l (omega arith)) (λ (f : get_elem? w.held b ≡ some (Some g)). ca'.there b k g f c p l (omega arith)) (held-of v.held w.held b g e);
+            empty = λ k p h. let t = tally-append k v.gone w.gone in dite (ℕ_discrete (tally k v.gone) 0) (λ z. ca'.empty k p (omega arith)) (λ nz. ca.empty k p (omega arith));
+          },
+          (λ b k g e cover pk lk. ⊎_elim (λ (f : get_elem? v.held b ≡ some (Some g)). h.current.listed id (v ∷ []) at 0 v refl b k g f cover pk lk) (λ (f : get_elem? w.held b ≡ some (Some g)). h.current.listed other (w ∷ []) at' 0 w refl b k g f cover pk lk) (held-of v.held w.held b g e)),
+          both-begin P C R B m ps first s h id v at other w at',
+          merged-own P C R B m ps first s h id v at other w at' ne,
+          merged-hand P C R B m ps first s h id v at other w at',
+        ),
       ))
 
   -- the same of lists of one view
-  pub splits-seat : (ps : List ℕ) (first : List (Option P)) (id : ℕ) (vs : List (View P E)) → length vs ≡ 1 → 2 ≤ (view_of vs).parts → Splits (Base kind_of ps first) id vs (parted vs) (fresh_of vs)
+  pub splits-seat : (ps : List ℕ) (first : List (Option P)) (id : ℕ) (vs : List (View P E)) → length vs ≡ 1 → 2 ≤ (view_of vs).parts → Splits (Rule kind_of m ps first) id vs (parted vs) (fresh_of vs)
   splits-seat ps first id [] one two = absurd (omega arith)
   splits-seat ps first id (v ∷ []) one two = splits-off ps first id v two
   splits-seat ps first id (v ∷ u ∷ us) one two = absurd (omega arith)
 
   pub merges-seats : (ps : List ℕ) (first : List (Option P)) (id : ℕ) (vs : List (View P E)) (other : ℕ) (ws : List (View P E)) → length vs ≡ 1 → length ws ≡ 1
-      → (view_of ws).path ≡ [] → (view_of ws).unsure ≡ 0 → (view_of ws).out ≡ 0 → Joins (Base kind_of ps first) id vs other ws (merged vs ws) []
+      → (view_of ws).path ≡ [] → (view_of ws).unsure ≡ 0 → (view_of ws).out ≡ 0 → Joins (Rule kind_of m ps first) id vs other ws (merged vs ws) []
   merges-seats ps first id [] other ws one one' path calm idle = absurd (omega arith)
   merges-seats ps first id (v ∷ []) other [] one one' path calm idle = absurd (omega arith)
   merges-seats ps first id (v ∷ []) other (w ∷ []) one one' path calm idle = merges ps first id v other w path calm idle

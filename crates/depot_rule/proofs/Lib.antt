@@ -22,3 +22,4 @@ pub mod Remembering
 pub mod Adding
 pub mod Hands
 pub mod Whole
+pub mod Meeting

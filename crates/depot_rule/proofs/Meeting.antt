@@ -1,0 +1,102 @@
+-- What two seats have seen, and their entries, where they meet or are joined.
+use Rattle.std.proofs.Common.{◌≡◌, ◌≢◌, ◌⊎◌, ℕ, zero, suc, ◌+◌, ◌<◌, ◌≤◌, ltb, Bool, true, false, List, [], ◌∷◌, ◌++◌, length, sym, refl, ap, ◌∙◌, subst, arith, length-append, inl, inr, ⊎_elim, Option}
+use Rattle.std.proofs.lemmas.Bool.{ltb-true, ltb-false}
+use mathlib.Core.Option.{some}
+use mathlib.Core.Logic.{dite}
+use native.Mathlib.Decide.{ℕ_discrete}
+use lib.ListN.{get_elem?}
+use Rattle.atomic_table.specs.Table.{State}
+use Rattle.depot_rule.specs.declared.view.View.{View}
+use Rattle.depot_rule.specs.declared.view.Entry.{Entry}
+use Rattle.depot_rule.specs.Sums.{total, one_if, tally}
+use Rattle.depot_rule.specs.Seats.{if_less, longer, in_order, having_seen, merge}
+use Rattle.depot_rule.specs.History.{Behaviour, History, moved, chosen, AreHands, StartsWith}
+use Rattle.depot_rule.proofs.Sums.{one-most, total-two, total-append}
+use Rattle.depot_rule.proofs.Chosen.{chosen-within, weigh-in-order, moved-weigh, tally-in-order, ascends-in-order}
+use Rattle.depot_rule.proofs.Remembering.{Own, HasHand}
+
+less-cases : {A : Type 0} (b : Bool) (less others : List A) (Q : List A → Type 0) → (b ≡ true → Q less) → (b ≡ false → Q others) → Q (if_less b less others)
+less-cases true less others Q e f = e refl
+less-cases false less others Q e f = f refl
+
+module _ {A : Type 0} where
+  pub longer-first : (xs ys : List A) → length xs ≤ length (longer xs ys)
+  longer-first xs ys = less-cases (ltb (length xs) (length ys)) ys xs (λ l. length xs ≤ length l) (λ e. let lt = ltb-true (length xs) (length ys) e in omega arith) (λ e. omega arith)
+
+  pub longer-second : (xs ys : List A) → length ys ≤ length (longer xs ys)
+  longer-second xs ys = less-cases (ltb (length xs) (length ys)) ys xs (λ l. length ys ≤ length l) (λ e. omega arith) (λ e. ltb-false (length xs) (length ys) e)
+
+  pub longer-one : (Q : List A → Type 0) (xs ys : List A) → Q xs → Q ys → Q (longer xs ys)
+  longer-one Q xs ys p q = less-cases (ltb (length xs) (length ys)) ys xs Q (λ e. q) (λ e. p)
+
+module _ (P C R B : Type 0) (m : Behaviour P C R B) (ps : List ℕ) (first : List (Option P)) where
+  abbrev E : Type 0
+  E = Entry P C R
+
+  module _ (s : State (Option P) (List (View P E))) (h : History m ps first s) where
+    -- a seat with a longer beginning of the history
+    module _ (id : ℕ) (v : View P E) (at : get_elem? s.views id ≡ some (v ∷ [])) (es : List E) (begins : StartsWith h.log es) (long : length v.seen ≤ length es) where
+      pub within-longer : (p : ℕ) → 0 < tally p v.mine → p < length es
+      within-longer p some_p = let o = (h.own id (v ∷ []) at 0 v refl).1 p some_p in omega arith
+
+      pub chosen-longer : chosen es v.mine ≡ chosen v.seen v.mine
+      chosen-longer = sym (chosen-within h.log es v.mine begins within-longer) ∙ chosen-within h.log v.seen v.mine (h.seen id (v ∷ []) at 0 v refl) (h.own id (v ∷ []) at 0 v refl).1
+
+      pub longer-own : Own P C R B m ps first (having_seen es v)
+      longer-own = ((h.own id (v ∷ []) at 0 v refl).0, within-longer)
+
+      pub longer-hand : HasHand P C R B m ps first (having_seen es v)
+      longer-hand = let q = h.hand id (v ∷ []) at 0 v refl in (q.0, subst (λ l. AreHands m.takes m.gives l q.0) (sym chosen-longer) q.1)
+
+    -- two seats
+    module _ (id : ℕ) (v : View P E) (at : get_elem? s.views id ≡ some (v ∷ [])) (other : ℕ) (w : View P E) (at' : get_elem? s.views other ≡ some (w ∷ [])) where
+      abbrev both : List E
+      both = longer v.seen w.seen
+
+      pub both-begin : StartsWith h.log both
+      both-begin = longer-one (λ l. StartsWith h.log l) v.seen w.seen (h.seen id (v ∷ []) at 0 v refl) (h.seen other (w ∷ []) at' 0 w refl)
+
+      pub first-chosen : chosen both v.mine ≡ chosen v.seen v.mine
+      first-chosen = chosen-longer id v at both both-begin (longer-first v.seen w.seen)
+
+      pub second-chosen : chosen both w.mine ≡ chosen w.seen w.mine
+      second-chosen = chosen-longer other w at' both both-begin (longer-second v.seen w.seen)
+
+      pub first-met : Own P C R B m ps first (having_seen both v) × HasHand P C R B m ps first (having_seen both v)
+      first-met = (longer-own id v at both both-begin (longer-first v.seen w.seen), longer-hand id v at both both-begin (longer-first v.seen w.seen))
+
+      pub second-met : Own P C R B m ps first (having_seen both w) × HasHand P C R B m ps first (having_seen both w)
+      second-met = (longer-own other w at' both both-begin (longer-second v.seen w.seen), longer-hand other w at' both both-begin (longer-second v.seen w.seen))
+
+      -- the entries of the two as one's
+      pub merged-weigh : (weigh : E → ℕ) → total weigh (chosen both (in_order v.mine w.mine)) ≡ total weigh (chosen v.seen v.mine) + total weigh (chosen w.seen w.mine)
+      merged-weigh weigh =
+          let a = weigh-in-order weigh both v.mine w.mine in
+          let b : total weigh (chosen both v.mine) ≡ total weigh (chosen v.seen v.mine) = ap (total weigh) first-chosen in
+          let c : total weigh (chosen both w.mine) ≡ total weigh (chosen w.seen w.mine) = ap (total weigh) second-chosen in omega arith
+
+      -- no place is both's
+      not-both : id ≢ other → (p : ℕ) → tally p v.mine + tally p w.mine ≤ 1
+      not-both ne p =
+          let two = total-two (total (λ (u : View P E). tally p u.mine)) s.views id other (v ∷ []) (w ∷ []) at at' ne in
+          let q = h.mine p in let o = one-most (ltb p (length h.log)) in omega arith
+
+      pub merged-own : id ≢ other → Own P C R B m ps first (merge v w)
+      merged-own ne = (
+        ascends-in-order v.mine w.mine (h.own id (v ∷ []) at 0 v refl).0 (h.own other (w ∷ []) at' 0 w refl).0 (not-both ne),
+        λ p some_p. let t = tally-in-order p v.mine w.mine in dite (ℕ_discrete (tally p v.mine) 0)
+            (λ z. within-longer other w at' both both-begin (longer-second v.seen w.seen) p (omega arith))
+            (λ nz. within-longer id v at both both-begin (longer-first v.seen w.seen) p (omega arith)),
+      )
+
+      pub merged-hand : HasHand P C R B m ps first (merge v w)
+      merged-hand =
+          let a = h.hand id (v ∷ []) at 0 v refl in let b = h.hand other (w ∷ []) at' 0 w refl in (
+            a.0 ++ b.0,
+            λ weigh.
+                let g = merged-weigh (λ (d : E). total weigh (m.gives d.call d.reply)) in let t = merged-weigh (λ (d : E). total weigh (m.takes d.call d.reply)) in
+                let g_both = moved-weigh m.gives weigh (chosen both (in_order v.mine w.mine)) in let t_both = moved-weigh m.takes weigh (chosen both (in_order v.mine w.mine)) in
+                let g_first = moved-weigh m.gives weigh (chosen v.seen v.mine) in let t_first = moved-weigh m.takes weigh (chosen v.seen v.mine) in
+                let g_second = moved-weigh m.gives weigh (chosen w.seen w.mine) in let t_second = moved-weigh m.takes weigh (chosen w.seen w.mine) in
+                let x = a.1 weigh in let y = b.1 weigh in let c = total-append weigh a.0 b.0 in omega arith,
+          )
