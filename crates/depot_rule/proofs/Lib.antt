@@ -23,3 +23,4 @@ pub mod Adding
 pub mod Hands
 pub mod Whole
 pub mod Meeting
+pub mod Counting

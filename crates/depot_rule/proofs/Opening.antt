@@ -1,17 +1,25 @@
 -- The beginning and the end of a depot.
-use Rattle.std.proofs.Common.{◌≡◌, ℕ, zero, suc, ◌<◌, ◌≤◌, List, [], ◌∷◌, map, length, replicate, get_or, sym, refl, ap, ◌∙◌, subst, arith, Option, Some, None}
+use Rattle.std.proofs.Common.{◌≡◌, ℕ, zero, suc, ◌<◌, ◌≤◌, ltb, List, [], ◌∷◌, map, length, replicate, get_or, sym, refl, ap, ◌∙◌, subst, arith, Option, Some, None}
 use Rattle.std.proofs.lemmas.List.{length-replicate}
+use Rattle.std.proofs.lemmas.Bool.{le-ltb}
 use mathlib.Core.Option.{some, some-injective, some-ne-none}
 use lib.ListN.{get_elem?}
 use Rattle.atomic_table.specs.Table.{State, opening}
 use Rattle.depot_rule.specs.declared.view.View.{View}
+use Rattle.depot_rule.specs.declared.view.Entry.{Entry}
+use Rattle.depot_rule.specs.Sums.{one_if, tally}
 use Rattle.depot_rule.specs.Tree.{IsTree}
+use Rattle.depot_rule.specs.History.{Behaviour, IsWhole, StartsWith, listed, after}
 use Rattle.depot_rule.specs.Shares.{opening_view, claims, entered, shares, IsSound}
 use Rattle.depot_rule.specs.Parcels.{takes, IsParcel, Carries}
-use Rattle.depot_rule.specs.Rule.{Base}
+use Rattle.depot_rule.specs.Rule.{Base, Rule}
 use Rattle.depot_rule.proofs.Views.{all-one, only-view}
 use Rattle.depot_rule.proofs.Dealing.{bare-counts}
 use Rattle.depot_rule.proofs.Joining.{none-held}
+use Rattle.depot_rule.proofs.Current.{ListsCurrent}
+use Rattle.depot_rule.proofs.Remembering.{Own, HasHand}
+use Rattle.depot_rule.proofs.Hands.{is-whole}
+use Rattle.depot_rule.proofs.Whole.{only-mine, only-log}
 use Rattle.affinity.specs.declared.affinity.Kind.{Kind}
 
 zero-word : (n a : ℕ) → get_or (replicate {A = ℕ} n 0) a 0 ≡ 0
@@ -31,6 +39,10 @@ length-map f (x ∷ xs) = let r = length-map f xs in omega arith
 each-one : {V : Type 0} (Q : V → Type 0) (v : V) → Q v → (j : ℕ) (vs : List V) → get_elem? ((v ∷ []) ∷ []) j ≡ some vs → (i : ℕ) (u : V) → get_elem? vs i ≡ some u → Q u
 each-one Q v q zero vs e = subst (λ (zs : List _). (i : ℕ) (u : _) → get_elem? zs i ≡ some u → Q u) (some-injective (v ∷ []) vs e) (all-one Q v q)
 each-one Q v q (suc j) vs e = absurd (some-ne-none vs (sym e))
+
+none-then : (n : ℕ) → (0 < n → ⊥) → n ≡ 0
+none-then zero z = refl
+none-then (suc n) z = absurd (z (omega arith))
 
 module _ (P E : Type 0) (kind_of : P → Kind) where
   -- all words are 0, each node's parcel is in its slot, and the first seat has nothing
@@ -74,7 +86,47 @@ module _ (P E : Type 0) (kind_of : P → Kind) where
       let ca = r.parcels.carries id (v ∷ []) at 0 v refl in
       r.parcels.home k p l (only-view P E ps s.words s.views r.shares id v at all (takes k)
       ∙ (let z : (0 < takes k v → ⊥) = (λ h. let c = ca.cover k p h in none_open c.0 c.1 c.2) in none-then (takes k v) z))
-    where
-      none-then : (n : ℕ) → (0 < n → ⊥) → n ≡ 0
-      none-then zero z = refl
-      none-then (suc n) z = absurd (z (omega arith))
+
+-- with nothing in the history
+module _ (P C R B : Type 0) (kind_of : P → Kind) (m : Behaviour P C R B) where
+  abbrev E : Type 0
+  E = Entry P C R
+
+  pub opens-whole : (ps : List ℕ) (first : List (Option P)) → IsTree ps → length ps ≤ 1024 → length first ≡ length ps
+      → ((k : ℕ) → 0 < k → k < length ps → (p : P) × (get_or first k None ≡ Some p))
+      → m.invariant ps (listed first) [] 0
+      → Rule kind_of m ps first (opening (replicate (length ps) 0) first (opening_view ps first ∷ []))
+  opens-whole ps first tree few wide there sound =
+      let v : View P E = opening_view ps first in record {
+        base = opens P E kind_of ps first tree few wide there;
+        history = record {
+          log = [];
+          legal = tt;
+          current = record {
+            now = λ k pk lk z. at-home first k None (omega arith);
+            listed = each-one (ListsCurrent ps (listed first)) v (λ b k g e. absurd (none-held (length ps) b g e));
+          };
+          seen = each-one (λ (u : View P E). StartsWith [] u.seen) v ([], refl);
+          mine = λ p. let z : one_if (ltb p 0) ≡ 0 = ap one_if (le-ltb p 0 (omega arith)) in sym z;
+          own = each-one (Own P C R B m ps first) v (tt, (λ p some_p. absurd (omega arith)));
+          shared = λ weigh. refl;
+          hand = each-one (HasHand P C R B m ps first) v ([], λ weigh. refl);
+          hands = [];
+          all_hands = λ weigh. refl;
+          sound = sound;
+        };
+      }
+
+  -- the only seat, which has no grant: all parcels are at home as its history left them, and that history is the whole one, each entry of it the seat's
+  pub closes-history : (ps : List ℕ) (first : List (Option P)) (s : State (Option P) (List (View P E))) (r : Rule kind_of m ps first s) (id : ℕ) (v : View P E) → get_elem? s.views id ≡ some (v ∷ []) → v.parts ≡ 64
+      → ((b : ℕ) (g : List (Option P)) → get_elem? v.held b ≡ some (Some g) → ⊥)
+      → IsWhole m ps first v v.seen × ((p : ℕ) → tally p v.mine ≡ one_if (ltb p (length v.seen))) × ((k : ℕ) → 0 < k → k < length ps → get_elem? s.homes k ≡ some (some (after ps (listed first) v.seen k)))
+  closes-history ps first s r id v at all none_open =
+      let log = only-log P C R B kind_of m ps first s r.base r.history id v at all in (
+        subst (λ (l : List E). IsWhole m ps first v l) log (is-whole P C R B m ps first s r.history id v at),
+        (λ p. only-mine P C R B kind_of m ps first s r.base r.history id v at all p ∙ ap (λ (l : List E). one_if (ltb p (length l))) log),
+        (λ k pk lk.
+            let ca = r.base.parcels.carries id (v ∷ []) at 0 v refl in
+            r.history.current.now k pk lk (only-view P E ps s.words s.views r.base.shares id v at all (takes k) ∙ none-then (takes k v) (λ h. let c = ca.cover k pk h in none_open c.0 c.1 c.2))
+            ∙ ap (λ (l : List E). some (some (after ps (listed first) l k))) log),
+      )

@@ -45,6 +45,9 @@ pub record Behaviour (P C R B : Type 0) : Type 1 where
   pub gives : C → R → List B
   pub invariant : List ℕ → (ℕ → Option P) → List B → ℕ → Type 0
 
+abbrev pub behaviour : {P C R B : Type 0} → (List ℕ → ℕ → C → (ℕ → Option P) → R → (ℕ → Option P) → Type 0) → (C → R → List B) → (C → R → List B) → (List ℕ → (ℕ → Option P) → List B → ℕ → Type 0) → Behaviour P C R B
+behaviour steps takes gives invariant = record { steps = steps; takes = takes; gives = gives; invariant = invariant }
+
 -- parcels at home, and those that grants list, are as f has them
 pub record Current {P E : Type 0} (parents : List ℕ) (f : ℕ → Option P) (s : State (Option P) (List (View P E))) : Type 0 where
   pub now : (k : ℕ) → 0 < k → k < length parents → total (total (takes k)) s.views ≡ 0 → get_elem? s.homes k ≡ some (some (f k))

@@ -1,6 +1,9 @@
 //! What follows from the rule, for any seats, grants and schedule.
 
-ghost use Rattle.depot_rule.specs.Laws.{GrantsAreApart, ParcelsArePlaced, ParcelsAreSingle, GrantsHaveEntered, ExclusiveIsGranted, OpensWithin, ClosesWhole};
+ghost use Rattle.depot_rule.specs.History.{behaviour};
+ghost use Rattle.depot_rule.specs.Laws.{GrantsAreApart, ParcelsArePlaced, ParcelsAreSingle, GrantsHaveEntered, ExclusiveIsGranted, OpensWithin, ClosesWhole, HistoryIsOne};
+
+use crate::machine::Machine;
 
 /// No two grants exclude each other.
 pub fn grants_are_apart<P, E>()
@@ -35,4 +38,9 @@ pub fn opens_within<P, E>()
 /// At the end all parcels are at home.
 pub fn closes_whole<P, E>()
     ensures { ClosesWhole P E }
+{}
+
+/// There is one legal history of all seats' calls.
+pub fn history_is_one<M: Machine>()
+    ensures { HistoryIsOne M.Parcel.kind (behaviour M.steps M.takes M.gives M.invariant) }
 {}
