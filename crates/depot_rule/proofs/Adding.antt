@@ -151,7 +151,7 @@ module _ (P C R B : Type 0) (kind_of : P → Kind) (m : Behaviour P C R B) where
         let n = length-append v.seen seen_before.0 in
         let size : length (v.seen ++ seen_before.0) ≡ length h.log = ap (λ (l : List E). length l) seen_before.1 in omega arith
 
-    chosen_now : chosen log (v.mine ++ length h.log ∷ []) ≡ chosen v.seen v.mine ++ e ∷ []
+    pub chosen_now : chosen log (v.mine ++ length h.log ∷ []) ≡ chosen v.seen v.mine ++ e ∷ []
     chosen_now = chosen-snoc h.log e v.mine within ∙ ap (λ l. l ++ e ∷ []) (chosen-within h.log v.seen v.mine seen_before (h.own id (v ∷ []) at 0 v refl).1)
 
     -- the parcels of other grants aren't the call's

@@ -13,7 +13,7 @@ use Rattle.depot_rule.specs.Tree.{ancestors}
 use Rattle.depot_rule.specs.Shares.{Each, parts, made, claims, entered, shares, IsSound}
 use Rattle.depot_rule.specs.Parcels.{takes, Carries}
 use Rattle.depot_rule.specs.Rule.{Rule}
-use Rattle.depot_rule.specs.Seats.{longer, view_of, having_seen, met, first_of, others_of}
+use Rattle.depot_rule.specs.Seats.{longer, having_seen, first_of, others_of}
 use Rattle.depot_rule.proofs.Sums.{one-other, total-set, total-append, total-map, over-none}
 use Rattle.depot_rule.proofs.Views.{All, all-none, all-one, all-append, each-set, each-more}
 use Rattle.depot_rule.proofs.Current.{ListsCurrent}
@@ -128,14 +128,35 @@ module _ (P C R B : Type 0) (kind_of : P → Kind) (m : Behaviour P C R B) where
   seen-carries : (ps : List ℕ) (first : List (Option P)) (homes : List (maybe.Option (Option P))) (es : List E) (v : View P E) → Carries kind_of ps first homes v → Carries kind_of ps first homes (having_seen es v)
   seen-carries ps first homes es v c = record { opened = c.opened; nodes = c.nodes; single = c.single; cover = c.cover; whole = c.whole; there = c.there; empty = c.empty }
 
-  -- two seats meet: their views lie side by side, each with the longer history
-  meet-two : (ps : List ℕ) (first : List (Option P)) (id : ℕ) (v : View P E) (other : ℕ) (w : View P E) → Joins (Rule kind_of m ps first) id (v ∷ []) other (w ∷ []) (met (v ∷ []) (w ∷ [])) []
-  meet-two ps first id v other w = joined ps first id (v ∷ []) other (w ∷ []) (met (v ∷ []) (w ∷ [])) (λ s r at at' ne.
+  -- two seats meet: their views lie side by side
+  pub meets : (ps : List ℕ) (first : List (Option P)) (id : ℕ) (vs : List (View P E)) (other : ℕ) (ws : List (View P E)) → Joins (Rule kind_of m ps first) id vs other ws (vs ++ ws) []
+  meets ps first id vs other ws = joined ps first id vs other ws (vs ++ ws) (λ s r at at' ne.
+      let adds : (f : View P E → ℕ) → total f (vs ++ ws) ≡ total f vs + total f ws = λ f. total-append f vs ws in (
+        (
+          adds parts,
+          (λ a p. adds (shares a)),
+          (λ a p. adds (claims a)),
+          (λ a p. adds (entered a)),
+          (λ k p. adds (takes k)),
+          adds made,
+          (λ p. adds (λ (v : View P E). tally p v.mine)),
+          (λ weigh. adds (λ (v : View P E). total weigh (chosen v.seen v.mine))),
+        ),
+        all-append (Sound ps first s r) vs ws (sound-views ps first s r id vs at) (sound-views ps first s r other ws at'),
+      ))
+
+  -- and part again, each with the longer history
+  pub parts-again : (ps : List ℕ) (first : List (Option P)) (id : ℕ) (vs : List (View P E)) → length vs ≡ 2 → Splits (Rule kind_of m ps first) id vs (first_of vs) (others_of vs)
+  parts-again ps first id [] two = absurd (omega arith)
+  parts-again ps first id (v ∷ []) two = absurd (omega arith)
+  parts-again ps first id (v ∷ w ∷ u ∷ us) two = absurd (omega arith)
+  parts-again ps first id (v ∷ w ∷ []) two = parted_in ps first id (v ∷ w ∷ []) (first_of (v ∷ w ∷ [])) (others_of (v ∷ w ∷ [])) (λ s r at.
       let es : List E = longer v.seen w.seen in
       let h = r.history in
-      let begins = both-begin P C R B m ps first s h id v at other w at' in
-      let one = first-met P C R B m ps first s h id v at other w at' in let two = second-met P C R B m ps first s h id v at other w at' in
-      let a = sound-views ps first s r id (v ∷ []) at 0 v refl in let b = sound-views ps first s r other (w ∷ []) at' 0 w refl in (
+      let begins = both-begin P C R B m ps first s h id (v ∷ w ∷ []) 0 v at refl id (v ∷ w ∷ []) 1 w at refl in
+      let one = first-met P C R B m ps first s h id (v ∷ w ∷ []) 0 v at refl id (v ∷ w ∷ []) 1 w at refl in
+      let two = second-met P C R B m ps first s h id (v ∷ w ∷ []) 0 v at refl id (v ∷ w ∷ []) 1 w at refl in
+      let a = sound-views ps first s r id (v ∷ w ∷ []) at 0 v refl in let b = sound-views ps first s r id (v ∷ w ∷ []) at 1 w refl in (
         (
           omega arith,
           (λ a p. omega arith),
@@ -145,33 +166,12 @@ module _ (P C R B : Type 0) (kind_of : P → Kind) (m : Behaviour P C R B) where
           omega arith,
           (λ p. omega arith),
           (λ weigh.
-              let x : total weigh (chosen es v.mine) ≡ total weigh (chosen v.seen v.mine) = ap (total weigh) (first-chosen P C R B m ps first s h id v at other w at') in
-              let y : total weigh (chosen es w.mine) ≡ total weigh (chosen w.seen w.mine) = ap (total weigh) (second-chosen P C R B m ps first s h id v at other w at') in omega arith),
+              let x : total weigh (chosen es v.mine) ≡ total weigh (chosen v.seen v.mine) = ap (total weigh) (first-chosen P C R B m ps first s h id (v ∷ w ∷ []) 0 v at refl id (v ∷ w ∷ []) 1 w at refl) in
+              let y : total weigh (chosen es w.mine) ≡ total weigh (chosen w.seen w.mine) = ap (total weigh) (second-chosen P C R B m ps first s h id (v ∷ w ∷ []) 0 v at refl id (v ∷ w ∷ []) 1 w at refl) in omega arith),
         ),
-        all-append (Sound ps first s r) (having_seen es v ∷ []) (having_seen es w ∷ [])
-            (all-one (Sound ps first s r) (having_seen es v) (seen-sound ps es v a.0, seen-carries ps first s.homes es v a.1, a.2, begins, one.0, one.1))
-            (all-one (Sound ps first s r) (having_seen es w) (seen-sound ps es w b.0, seen-carries ps first s.homes es w b.1, b.2, begins, two.0, two.1)),
+        all-one (Sound ps first s r) (having_seen es v) (seen-sound ps es v a.0, seen-carries ps first s.homes es v a.1, a.2, begins, one.0, one.1),
+        all-one (Sound ps first s r) (having_seen es w) (seen-sound ps es w b.0, seen-carries ps first s.homes es w b.1, b.2, begins, two.0, two.1),
       ))
-
-  pub meets : (ps : List ℕ) (first : List (Option P)) (id : ℕ) (vs : List (View P E)) (other : ℕ) (ws : List (View P E)) → length vs ≡ 1 → length ws ≡ 1 → Joins (Rule kind_of m ps first) id vs other ws (met vs ws) []
-  meets ps first id [] other ws one one' = absurd (omega arith)
-  meets ps first id (v ∷ []) other [] one one' = absurd (omega arith)
-  meets ps first id (v ∷ []) other (w ∷ []) one one' = meet-two ps first id v other w
-  meets ps first id (v ∷ []) other (w ∷ u ∷ us) one one' = absurd (omega arith)
-  meets ps first id (v ∷ u ∷ us) other ws one one' = absurd (omega arith)
-
-  -- and part again, each with its own view
-  pub parts-again : (ps : List ℕ) (first : List (Option P)) (id : ℕ) (vs : List (View P E)) → Splits (Rule kind_of m ps first) id vs (first_of vs) (others_of vs)
-  parts-again ps first id [] = parted_in ps first id [] [] [] (λ s r at. (
-    (refl, (λ a p. refl), (λ a p. refl), (λ a p. refl), (λ k p. refl), refl, (λ p. refl), (λ weigh. refl)),
-    all-none (Sound ps first s r),
-    all-none (Sound ps first s r),
-  ))
-  parts-again ps first id (v ∷ vs) = parted_in ps first id (v ∷ vs) (v ∷ []) vs (λ s r at. (
-    (omega arith, (λ a p. omega arith), (λ a p. omega arith), (λ a p. omega arith), (λ k p. omega arith), omega arith, (λ p. omega arith), (λ weigh. omega arith)),
-    all-one (Sound ps first s r) v (sound-views ps first s r id (v ∷ vs) at 0 v refl),
-    (λ i u e. sound-views ps first s r id (v ∷ vs) at (suc i) u e),
-  ))
 
 module _ (P E : Type 0) (kind_of : P → Kind) where
   -- a view with nothing entered, granted or taken

@@ -20,7 +20,7 @@ use Rattle.depot_rule.proofs.Views.{all-one}
 use Rattle.depot_rule.proofs.Grants.{covers-one}
 use Rattle.depot_rule.proofs.Dealing.{joined, parted_in, bare-counts}
 use Rattle.depot_rule.proofs.Chosen.{tally-in-order}
-use Rattle.depot_rule.proofs.Meeting.{both-begin, merged-weigh, merged-own, merged-hand}
+use Rattle.depot_rule.proofs.Meeting.{both-begin, merged-weigh, merged-own, merged-hand, not-both}
 use Rattle.affinity.specs.declared.affinity.Kind.{Kind}
 
 pub none-held : {A : Type 0} (n b : ℕ) (x : A) → get_elem? (replicate n None) b ≡ some (Some x) → ⊥
@@ -162,7 +162,7 @@ module _ (P C R B : Type 0) (kind_of : P → Kind) (m : Behaviour P C R B) where
           (λ k p. let t = taken k p in omega arith),
           (let l = length-in-order v.mine w.mine in omega arith),
           (λ p. let t = tally-in-order p v.mine w.mine in omega arith),
-          (λ weigh. let t = merged-weigh P C R B m ps first s h id v at other w at' weigh in omega arith),
+          (λ weigh. let t = merged-weigh P C R B m ps first s h id (v ∷ []) 0 v at refl other (w ∷ []) 0 w at' refl weigh in omega arith),
         ),
         all-one _ (merge v w) (
           record { some_part = (let p = so.some_part in omega arith); tree = so.tree; wide = length-both v.held w.held (so.wide ∙ sym so'.wide) ∙ so.wide; once = so.once },
@@ -179,9 +179,9 @@ module _ (P C R B : Type 0) (kind_of : P → Kind) (m : Behaviour P C R B) where
             empty = λ k p h. let t = tally-append k v.gone w.gone in dite (ℕ_discrete (tally k v.gone) 0) (λ z. ca'.empty k p (omega arith)) (λ nz. ca.empty k p (omega arith));
           },
           (λ b k g e cover pk lk. ⊎_elim (λ (f : get_elem? v.held b ≡ some (Some g)). h.current.listed id (v ∷ []) at 0 v refl b k g f cover pk lk) (λ (f : get_elem? w.held b ≡ some (Some g)). h.current.listed other (w ∷ []) at' 0 w refl b k g f cover pk lk) (held-of v.held w.held b g e)),
-          both-begin P C R B m ps first s h id v at other w at',
-          merged-own P C R B m ps first s h id v at other w at' ne,
-          merged-hand P C R B m ps first s h id v at other w at',
+          both-begin P C R B m ps first s h id (v ∷ []) 0 v at refl other (w ∷ []) 0 w at' refl,
+          merged-own P C R B m ps first s h id (v ∷ []) 0 v at refl other (w ∷ []) 0 w at' refl (not-both P C R B m ps first s h id v other w at at' ne),
+          merged-hand P C R B m ps first s h id (v ∷ []) 0 v at refl other (w ∷ []) 0 w at' refl,
         ),
       ))
 

@@ -1,5 +1,5 @@
 -- A look at the ticket, as the table asks for it.
-use Rattle.std.proofs.Common.{◌≡◌, ℕ, ◌+◌, ◌%◌, ◌≤◌, List, [], ◌∷◌, get_or, set, sym, refl, ap, ◌∙◌, subst, arith, Option, length-set, get_or-set_other}
+use Rattle.std.proofs.Common.{◌≡◌, ◌⊎◌, ◌++◌, inl, inr, ⊎_elim, ℕ, ◌+◌, ◌%◌, ◌≤◌, List, [], ◌∷◌, get_or, set, sym, refl, ap, ◌∙◌, subst, arith, Option, length-set, get_or-set_other}
 use mathlib.Core.Option.{none, some}
 use lib.ListN.{get_elem?}
 use Rattle.atomic_table.specs.Table.{step, keeps, Allows}
@@ -7,7 +7,7 @@ use Rattle.atomic_table.proofs.Lists.{set_again}
 use Rattle.depot_rule.specs.declared.view.View.{View}
 use Rattle.depot_rule.specs.declared.view.Entry.{Entry}
 use Rattle.depot_rule.specs.declared.view.Read.{Read}
-use Rattle.depot_rule.specs.History.{Behaviour}
+use Rattle.depot_rule.specs.History.{Behaviour, StartsWith}
 use Rattle.depot_rule.specs.Sums.{total}
 use Rattle.depot_rule.specs.Shares.{parts, made, claims, entered, shares, IsSound, Shares}
 use Rattle.depot_rule.specs.Rule.{Base, Rule}
@@ -24,6 +24,19 @@ use Rattle.affinity.specs.declared.affinity.Kind.{Kind}
 same-word : (ws : List ℕ) → set ws 0 (get_or ws 0 0) ≡ ws
 same-word [] = refl
 same-word (w ∷ ws) = refl
+
+-- of two beginnings of a list, one begins the other
+began : {A : Type 0} (xs ys rest rest' : List A) → xs ++ rest ≡ ys ++ rest' → StartsWith ys xs ⊎ StartsWith xs ys
+began [] ys rest rest' e = inl (ys, refl)
+began (x ∷ xs) [] rest rest' e = inr (x ∷ xs, refl)
+began (x ∷ xs) (y ∷ ys) rest rest' e =
+    let same : x ≡ y = cc in let further : xs ++ rest ≡ ys ++ rest' = cc in ⊎_elim
+    (λ (s : StartsWith ys xs). inl (s.0, λ i. same i ∷ s.1 i))
+    (λ (s : StartsWith xs ys). inr (s.0, λ i. sym same i ∷ s.1 i))
+    (began xs ys rest rest' further)
+
+one-began : {A : Type 0} (xs ys log : List A) → StartsWith log xs → StartsWith log ys → StartsWith ys xs ⊎ StartsWith xs ys
+one-began xs ys log a b = began xs ys a.0 b.0 (a.1 ∙ sym b.1)
 
 module _ (P E : Type 0) where
   -- the ticket is no node's word
@@ -89,9 +102,10 @@ module _ (P C R B : Type 0) (kind_of : P → Kind) (m : Behaviour P C R B) where
           let most = total-at (total parts) s.views id (v ∷ w ∷ []) at' in let seats = r.shares.seats in (
             so.tree ∙ sym so'.tree,
             (let fit : v.parts + w.parts ≤ 64 = omega arith in fit),
-            λ b c g h has has' ex.
+            (λ b c g h has has' ex.
                 let same = are-apart P E kind_of ps first s r id 0 b id 1 c (v ∷ w ∷ [], v, g, at', refl, has) (v ∷ w ∷ [], w, h, at', refl, has') (subst (λ (q : List ℕ). Excludes q b c) so.tree ex) in
-                let bad = same.1 in absurd (omega arith),
+                let bad = same.1 in absurd (omega arith)),
+            one-began v.seen w.seen whole.history.log (whole.history.seen id (v ∷ w ∷ []) at' 0 v refl) (whole.history.seen id (v ∷ w ∷ []) at' 1 w refl),
           ),
     ),
   )

@@ -35,38 +35,38 @@ module _ (P C R B : Type 0) (m : Behaviour P C R B) (ps : List ℕ) (first : Lis
 
   module _ (s : State (Option P) (List (View P E))) (h : History m ps first s) where
     -- a seat with a longer beginning of the history
-    module _ (id : ℕ) (v : View P E) (at : get_elem? s.views id ≡ some (v ∷ [])) (es : List E) (begins : StartsWith h.log es) (long : length v.seen ≤ length es) where
+    module _ (id : ℕ) (vs : List (View P E)) (i : ℕ) (v : View P E) (at : get_elem? s.views id ≡ some vs) (in_vs : get_elem? vs i ≡ some v) (es : List E) (begins : StartsWith h.log es) (long : length v.seen ≤ length es) where
       pub within-longer : (p : ℕ) → 0 < tally p v.mine → p < length es
-      within-longer p some_p = let o = (h.own id (v ∷ []) at 0 v refl).1 p some_p in omega arith
+      within-longer p some_p = let o = (h.own id vs at i v in_vs).1 p some_p in omega arith
 
       pub chosen-longer : chosen es v.mine ≡ chosen v.seen v.mine
-      chosen-longer = sym (chosen-within h.log es v.mine begins within-longer) ∙ chosen-within h.log v.seen v.mine (h.seen id (v ∷ []) at 0 v refl) (h.own id (v ∷ []) at 0 v refl).1
+      chosen-longer = sym (chosen-within h.log es v.mine begins within-longer) ∙ chosen-within h.log v.seen v.mine (h.seen id vs at i v in_vs) (h.own id vs at i v in_vs).1
 
       pub longer-own : Own P C R B m ps first (having_seen es v)
-      longer-own = ((h.own id (v ∷ []) at 0 v refl).0, within-longer)
+      longer-own = ((h.own id vs at i v in_vs).0, within-longer)
 
       pub longer-hand : HasHand P C R B m ps first (having_seen es v)
-      longer-hand = let q = h.hand id (v ∷ []) at 0 v refl in (q.0, subst (λ l. AreHands m.takes m.gives l q.0) (sym chosen-longer) q.1)
+      longer-hand = let q = h.hand id vs at i v in_vs in (q.0, subst (λ l. AreHands m.takes m.gives l q.0) (sym chosen-longer) q.1)
 
     -- two seats
-    module _ (id : ℕ) (v : View P E) (at : get_elem? s.views id ≡ some (v ∷ [])) (other : ℕ) (w : View P E) (at' : get_elem? s.views other ≡ some (w ∷ [])) where
+    module _ (id : ℕ) (vs : List (View P E)) (i : ℕ) (v : View P E) (at : get_elem? s.views id ≡ some vs) (in_vs : get_elem? vs i ≡ some v) (other : ℕ) (ws : List (View P E)) (j : ℕ) (w : View P E) (at' : get_elem? s.views other ≡ some ws) (in_ws : get_elem? ws j ≡ some w) where
       abbrev both : List E
       both = longer v.seen w.seen
 
       pub both-begin : StartsWith h.log both
-      both-begin = longer-one (λ l. StartsWith h.log l) v.seen w.seen (h.seen id (v ∷ []) at 0 v refl) (h.seen other (w ∷ []) at' 0 w refl)
+      both-begin = longer-one (λ l. StartsWith h.log l) v.seen w.seen (h.seen id vs at i v in_vs) (h.seen other ws at' j w in_ws)
 
       pub first-chosen : chosen both v.mine ≡ chosen v.seen v.mine
-      first-chosen = chosen-longer id v at both both-begin (longer-first v.seen w.seen)
+      first-chosen = chosen-longer id vs i v at in_vs both both-begin (longer-first v.seen w.seen)
 
       pub second-chosen : chosen both w.mine ≡ chosen w.seen w.mine
-      second-chosen = chosen-longer other w at' both both-begin (longer-second v.seen w.seen)
+      second-chosen = chosen-longer other ws j w at' in_ws both both-begin (longer-second v.seen w.seen)
 
       pub first-met : Own P C R B m ps first (having_seen both v) × HasHand P C R B m ps first (having_seen both v)
-      first-met = (longer-own id v at both both-begin (longer-first v.seen w.seen), longer-hand id v at both both-begin (longer-first v.seen w.seen))
+      first-met = (longer-own id vs i v at in_vs both both-begin (longer-first v.seen w.seen), longer-hand id vs i v at in_vs both both-begin (longer-first v.seen w.seen))
 
       pub second-met : Own P C R B m ps first (having_seen both w) × HasHand P C R B m ps first (having_seen both w)
-      second-met = (longer-own other w at' both both-begin (longer-second v.seen w.seen), longer-hand other w at' both both-begin (longer-second v.seen w.seen))
+      second-met = (longer-own other ws j w at' in_ws both both-begin (longer-second v.seen w.seen), longer-hand other ws j w at' in_ws both both-begin (longer-second v.seen w.seen))
 
       -- the entries of the two as one's
       pub merged-weigh : (weigh : E → ℕ) → total weigh (chosen both (in_order v.mine w.mine)) ≡ total weigh (chosen v.seen v.mine) + total weigh (chosen w.seen w.mine)
@@ -75,23 +75,17 @@ module _ (P C R B : Type 0) (m : Behaviour P C R B) (ps : List ℕ) (first : Lis
           let b : total weigh (chosen both v.mine) ≡ total weigh (chosen v.seen v.mine) = ap (total weigh) first-chosen in
           let c : total weigh (chosen both w.mine) ≡ total weigh (chosen w.seen w.mine) = ap (total weigh) second-chosen in omega arith
 
-      -- no place is both's
-      not-both : id ≢ other → (p : ℕ) → tally p v.mine + tally p w.mine ≤ 1
-      not-both ne p =
-          let two = total-two (total (λ (u : View P E). tally p u.mine)) s.views id other (v ∷ []) (w ∷ []) at at' ne in
-          let q = h.mine p in let o = one-most (ltb p (length h.log)) in omega arith
-
-      pub merged-own : id ≢ other → Own P C R B m ps first (merge v w)
-      merged-own ne = (
-        ascends-in-order v.mine w.mine (h.own id (v ∷ []) at 0 v refl).0 (h.own other (w ∷ []) at' 0 w refl).0 (not-both ne),
+      pub merged-own : ((p : ℕ) → tally p v.mine + tally p w.mine ≤ 1) → Own P C R B m ps first (merge v w)
+      merged-own not_both = (
+        ascends-in-order v.mine w.mine (h.own id vs at i v in_vs).0 (h.own other ws at' j w in_ws).0 not_both,
         λ p some_p. let t = tally-in-order p v.mine w.mine in dite (ℕ_discrete (tally p v.mine) 0)
-            (λ z. within-longer other w at' both both-begin (longer-second v.seen w.seen) p (omega arith))
-            (λ nz. within-longer id v at both both-begin (longer-first v.seen w.seen) p (omega arith)),
+            (λ z. within-longer other ws j w at' in_ws both both-begin (longer-second v.seen w.seen) p (omega arith))
+            (λ nz. within-longer id vs i v at in_vs both both-begin (longer-first v.seen w.seen) p (omega arith)),
       )
 
       pub merged-hand : HasHand P C R B m ps first (merge v w)
       merged-hand =
-          let a = h.hand id (v ∷ []) at 0 v refl in let b = h.hand other (w ∷ []) at' 0 w refl in (
+          let a = h.hand id vs at i v in_vs in let b = h.hand other ws at' j w in_ws in (
             a.0 ++ b.0,
             λ weigh.
                 let g = merged-weigh (λ (d : E). total weigh (m.gives d.call d.reply)) in let t = merged-weigh (λ (d : E). total weigh (m.takes d.call d.reply)) in
@@ -100,3 +94,9 @@ module _ (P C R B : Type 0) (m : Behaviour P C R B) (ps : List ℕ) (first : Lis
                 let g_second = moved-weigh m.gives weigh (chosen w.seen w.mine) in let t_second = moved-weigh m.takes weigh (chosen w.seen w.mine) in
                 let x = a.1 weigh in let y = b.1 weigh in let c = total-append weigh a.0 b.0 in omega arith,
           )
+
+    -- no place is two seats'
+    pub not-both : (id : ℕ) (v : View P E) (other : ℕ) (w : View P E) → get_elem? s.views id ≡ some (v ∷ []) → get_elem? s.views other ≡ some (w ∷ []) → id ≢ other → (p : ℕ) → tally p v.mine + tally p w.mine ≤ 1
+    not-both id v other w at at' ne p =
+        let two = total-two (total (λ (u : View P E). tally p u.mine)) s.views id other (v ∷ []) (w ∷ []) at at' ne in
+        let q = h.mine p in let o = one-most (ltb p (length h.log)) in omega arith

@@ -53,6 +53,10 @@ pub record Current {P E : Type 0} (parents : List ℕ) (f : ℕ → Option P) (s
   pub now : (k : ℕ) → 0 < k → k < length parents → total (total (takes k)) s.views ≡ 0 → get_elem? s.homes k ≡ some (some (f k))
   pub listed : Each (λ (v : View P E). (b k : ℕ) (g : List (Option P)) → Has v b g → Covers parents b k → 0 < k → k < length parents → slice_index_or g k None ≡ f k) s.views
 
+-- the entries that a seat made
+abbrev pub entries_of : {P E : Type 0} → View P E → List E
+entries_of v = chosen v.seen v.mine
+
 module _ {P C R : Type 0} where
   abbrev pub put_in : List ℕ → Entry P C R → (ℕ → Option P) → ℕ → Option P
   put_in parents e f = patched parents e.node (listed e.left) f
@@ -87,9 +91,9 @@ module _ {P C R : Type 0} where
     pub mine : (p : ℕ) → total (total (λ (v : View P (Entry P C R)). tally p v.mine)) s.views ≡ one_if (nat_lt p (length log))
     pub own : Each (λ (v : View P (Entry P C R)). Ascends v.mine × ((p : ℕ) → 0 < tally p v.mine → p < length v.seen)) s.views
     -- the entries of all seats are those of the log, however entries are weighed
-    pub shared : (weigh : Entry P C R → ℕ) → total (total (λ (v : View P (Entry P C R)). total weigh (chosen v.seen v.mine))) s.views ≡ total weigh log
+    pub shared : (weigh : Entry P C R → ℕ) → total (total (λ (v : View P (Entry P C R)). total weigh (entries_of v))) s.views ≡ total weigh log
     -- each seat's hand has what its entries took and didn't give; all hands together have what all entries took and didn't give
-    pub hand : Each (λ (v : View P (Entry P C R)). (hand : List B) × AreHands m.takes m.gives (chosen v.seen v.mine) hand) s.views
+    pub hand : Each (λ (v : View P (Entry P C R)). (hand : List B) × AreHands m.takes m.gives (entries_of v) hand) s.views
     pub hands : List B
     pub all_hands : AreHands m.takes m.gives log hands
     pub sound : m.invariant parents (after parents (listed first) log) hands (length log)
@@ -102,6 +106,6 @@ module _ {P C R : Type 0} where
     pub all_hands : AreHands m.takes m.gives log hands
     pub sound : m.invariant parents (after parents (listed first) log) hands (length log)
     pub hand : List B
-    pub own_hand : AreHands m.takes m.gives (chosen v.seen v.mine) hand
+    pub own_hand : AreHands m.takes m.gives (entries_of v) hand
     pub others : List B
     pub together : (weigh : B → ℕ) → total weigh hand + total weigh others ≡ total weigh hands

@@ -1,5 +1,5 @@
 -- What each kind of step tells the seat that makes it.
-use Rattle.std.specs.Prelude.{◌≡◌, ◌≢◌, ℕ, ◌+◌, ◌%◌, ◌<◌, ◌≤◌, List, [], ◌∷◌, ◌++◌, drop, length, slice_set, slice_index_or, Option, Some, None, IfSome}
+use Rattle.std.specs.Prelude.{◌≡◌, ◌≢◌, ◌⊎◌, ℕ, ◌+◌, ◌%◌, ◌<◌, ◌≤◌, List, [], ◌∷◌, ◌++◌, drop, length, slice_set, slice_index_or, Option, Some, None, IfSome}
 use mathlib.Core.Option.{some}
 use lib.ListN.{get_elem?}
 use Rattle.atomic_table.specs.Table.{Me, Step, rest}
@@ -11,7 +11,7 @@ use Rattle.depot_rule.specs.Tree.{ancestors, Covers, Excludes}
 use Rattle.depot_rule.specs.Shares.{exclusive, made, shares, Has}
 use Rattle.depot_rule.specs.Parcels.{takes, IsParcel}
 use Rattle.depot_rule.specs.Seats.{OnOne}
-use Rattle.depot_rule.specs.History.{Behaviour, IsWhole, Legal, listed, after}
+use Rattle.depot_rule.specs.History.{Behaviour, IsWhole, Legal, StartsWith, listed, after, chosen, entries_of}
 use Rattle.affinity.specs.declared.affinity.Kind.{Kind}
 
 -- a seat: its views, and the slots that are out with it
@@ -78,9 +78,13 @@ module _ {P E : Type 0} where
   abbrev pub AreApart : View P E → View P E → Type 0
   AreApart v w = (b c : ℕ) (g h : List (Option P)) → Has v b g → Has w c h → Excludes v.tree b c → ⊥
 
-  -- a load by which two seats that met are found to be of one tree, with at most 64 parts, and no grant of the one to exclude a grant of the other
+  -- what the one has seen began what the other has
+  abbrev pub HaveSeenOne : View P E → View P E → Type 0
+  HaveSeenOne v w = StartsWith w.seen v.seen ⊎ StartsWith v.seen w.seen
+
+  -- a load by which two seats that met are found to be of one tree and one history, with at most 64 parts, and no grant of the one to exclude a grant of the other
   abbrev pub AlikeSays : Step (Option P) → Place P E → ℕ → Place P E → Type 0
-  AlikeSays st me found me' = (me' ≡ me) × ((v w : View P E) → me.0 ≡ v ∷ w ∷ [] → (v.tree ≡ w.tree) × (v.parts + w.parts ≤ 64) × AreApart v w)
+  AlikeSays st me found me' = (me' ≡ me) × ((v w : View P E) → me.0 ≡ v ∷ w ∷ [] → (v.tree ≡ w.tree) × (v.parts + w.parts ≤ 64) × AreApart v w × HaveSeenOne v w)
 
 module _ {P C R B : Type 0} where
   -- compare_exchange of 0 by 2^32: where 0 was found there is a grant, with a parcel for each node that it covers, none of them taken, each as a whole history left it, and the shares entered are the grant's. For the only seat that history is what it has seen
@@ -95,10 +99,11 @@ module _ {P C R B : Type 0} where
       × ((log : List (Entry P C R)) × IsWhole m v.tree v.first v log × (IsOnly v → log ≡ v.seen) × ((k : ℕ) → 0 < k → k < length v.tree → Covers v.tree st.word k → slice_index_or g k None ≡ after v.tree (listed v.first) log k)))
       × (found ≢ 0 → (vs ≡ record v { reads = noted st found v } ∷ []) × (IsOnly v → (c : ℕ) × (h : List (Option P)) × Has v c h × Excludes v.tree st.word c))) me me'
 
-  -- fetch_add of 1 on the ticket, for the entry e: the grant of its node lists from then on what the entry left, and the entry stands in the history after all that was seen and what others put between, which no one did to the only seat. That history is legal
+  -- fetch_add of 1 on the ticket, for the entry e: the grant of its node lists from then on what the entry left, and the entry stands in the history after all that was seen and what others put between, which no one did to the only seat. That history is legal, and the seat's own entries are those that it had, and this one
   abbrev pub StampSays : Behaviour P C R B → Option (Entry P C R) → Step (Option P) → Place P (Entry P C R) → ℕ → Place P (Entry P C R) → Type 0
   StampSays m item st me found me' = IfSome item (λ e. OnOne (λ v. (between : List (Entry P C R))
       × (me'.0 ≡ record v { held = slice_set v.held e.node (Some e.left); reads = record { word = 0; value = found; shares = 0 } ∷ v.reads; seen = (v.seen ++ between) ++ e ∷ []; mine = v.mine ++ length (v.seen ++ between) ∷ [] } ∷ [])
       × Legal m.steps v.tree (listed v.first) ((v.seen ++ between) ++ e ∷ [])
+      × (chosen ((v.seen ++ between) ++ e ∷ []) (v.mine ++ length (v.seen ++ between) ∷ []) ≡ entries_of v ++ e ∷ [])
       × (IsOnly v → between ≡ [])) me.0)
       × (me'.1 ≡ me.1)

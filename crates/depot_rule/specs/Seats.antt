@@ -42,14 +42,6 @@ module _ {P E : Type 0} where
   view_of [] = opening_view [] []
   view_of (v ∷ vs) = v
 
-  abbrev pub first_of : List (View P E) → List (View P E)
-  first_of [] = []
-  first_of (v ∷ vs) = v ∷ []
-
-  abbrev pub others_of : List (View P E) → List (View P E)
-  others_of [] = []
-  others_of (v ∷ vs) = vs
-
   -- a seat that parts has one part less; the other gets one part, nothing open, and has seen the same
   abbrev pub parted : List (View P E) → List (View P E)
   parted [] = []
@@ -71,9 +63,25 @@ module _ {P E : Type 0} where
   merged (v ∷ vs) [] = v ∷ vs
   merged (v ∷ vs) (w ∷ ws) = merge v w ∷ (vs ++ ws)
 
-  -- two seats' views side by side, each with the longer history
+  -- of two seats that met, each with the longer history of the two: the one, and the other
   abbrev pub having_seen : List E → View P E → View P E
   having_seen es v = record v { seen = es }
 
-  abbrev pub met : List (View P E) → List (View P E) → List (View P E)
-  met vs ws = map (having_seen (longer (view_of vs).seen (view_of ws).seen)) (vs ++ ws)
+  abbrev pub longest : List (View P E) → List E
+  longest [] = []
+  longest (v ∷ []) = v.seen
+  longest (v ∷ w ∷ us) = longer v.seen w.seen
+
+  abbrev pub first_told : List E → List (View P E) → List (View P E)
+  first_told es [] = []
+  first_told es (v ∷ vs) = having_seen es v ∷ []
+
+  abbrev pub others_told : List E → List (View P E) → List (View P E)
+  others_told es [] = []
+  others_told es (v ∷ vs) = map (having_seen es) vs
+
+  abbrev pub first_of : List (View P E) → List (View P E)
+  first_of vs = first_told (longest vs) vs
+
+  abbrev pub others_of : List (View P E) → List (View P E)
+  others_of vs = others_told (longest vs) vs
