@@ -115,16 +115,18 @@ module _ {P E : Type 0} where
       )
 
   -- the claim took the shares over
-  pub granted-from : (kind_of : P → Kind) (ps : List ℕ) (v : View P E) (b : ℕ) {vs ws : List (View P E)} → v.path ≡ [] → MovedTo v (ancestors ps b) vs
-      → (g : List (Option P)) × IsGranted kind_of (record (view_of vs) { path = [] }) b g (read_of b 0 (view_of vs) ∷ []) ws
-      → (g : List (Option P)) × (more : List Read) × IsGranted kind_of v b g more ws
-  granted-from kind_of ps v b {vs = vs} {ws = ws} none climbed q =
+  pub granted-from : (kind_of : P → Kind) (ps : List ℕ) (v : View P E) (b : ℕ) (Q : View P E → List (Option P) → Type 0) → ((path : List ℕ) (rs : List Read) (g : List (Option P)) → Q (record v { path = path; reads = rs }) g → Q v g)
+      → {vs ws : List (View P E)} → v.path ≡ [] → MovedTo v (ancestors ps b) vs
+      → (g : List (Option P)) × IsGranted kind_of (record (view_of vs) { path = [] }) b g (read_of b 0 (view_of vs) ∷ []) ws × Q (view_of vs) g
+      → (g : List (Option P)) × (more : List Read) × IsGranted kind_of v b g more ws × Q v g
+  granted-from kind_of ps v b Q still {vs = vs} {ws = ws} none climbed q =
       let w : View P E = record v { path = ancestors ps b; reads = climbed.0 ++ v.reads } in
       let is : view_of vs ≡ w = ap view_of climbed.1 in
       let r = subst (λ (u : View P E). IsGranted kind_of (record u { path = [] }) b q.0 (read_of b 0 u ∷ []) ws) is q.1 in (
         q.0,
         read_of b 0 w ∷ climbed.0,
         (r.0 ∙ ap (λ (p : List ℕ). let z : View P E = record v { path = p; held = set v.held b (Some q.0); reads = read_of b 0 w ∷ (climbed.0 ++ v.reads) } in z ∷ []) (sym none), r.1, r.2, r.3),
+        still (ancestors ps b) (climbed.0 ++ v.reads) q.0 (subst (λ (u : View P E). Q u q.0) is q.2),
       )
 
   pub none-excluded : (ps : List ℕ) (v : View P E) (b : ℕ) {vs : List (View P E)} → MovedTo v (ancestors ps b) vs → (IsExcluded (view_of vs) b → ⊥) → IsExcluded v b → ⊥
@@ -159,9 +161,5 @@ module _ {P E : Type 0} where
       nothing (x ∷ xs) e = absurd (omega arith)
 
 -- the entry that was picked was stamped
-pub stamped-so : {P C R : Type 0} {item : Option (Entry P C R)} {e : Entry P C R} {vs ws : List (View P (Entry P C R))} {found : ℕ} → item ≡ Some e → vs ≡ view_of vs ∷ []
-    → IfSome item (λ x. OnOne (λ v. (between : List (Entry P C R)) × (ws ≡ record v { held = set v.held x.node (Some x.left); reads = record { word = 0; value = found; shares = 0 } ∷ v.reads; seen = (v.seen ++ between) ++ x ∷ []; mine = v.mine ++ length (v.seen ++ between) ∷ [] } ∷ [])) vs)
-    → (between : List (Entry P C R)) × (ws ≡ record (view_of vs) { held = set (view_of vs).held e.node (Some e.left); reads = record { word = 0; value = found; shares = 0 } ∷ (view_of vs).reads; seen = ((view_of vs).seen ++ between) ++ e ∷ []; mine = (view_of vs).mine ++ length ((view_of vs).seen ++ between) ∷ [] } ∷ [])
-stamped-so {P = P} {C = C} {R = R} {item = item} {e = e} {vs = vs} {ws = ws} {found = found} is one did =
-    let q = subst (λ (j : Option (Entry P C R)). IfSome j (λ x. OnOne (λ v. (between : List (Entry P C R)) × (ws ≡ record v { held = set v.held x.node (Some x.left); reads = record { word = 0; value = found; shares = 0 } ∷ v.reads; seen = (v.seen ++ between) ++ x ∷ []; mine = v.mine ++ length (v.seen ++ between) ∷ [] } ∷ [])) vs)) is did in
-    of-one _ vs (view_of vs) one q
+pub stamped-so : {P E : Type 0} (Q : E → View P E → Type 0) {item : Option E} {e : E} {vs : List (View P E)} → item ≡ Some e → vs ≡ view_of vs ∷ [] → IfSome item (λ x. OnOne (Q x) vs) → Q e (view_of vs)
+stamped-so Q {e = e} {vs = vs} is one did = of-one (Q e) vs (view_of vs) one (subst (λ j. IfSome j (λ x. OnOne (Q x) vs)) is did)

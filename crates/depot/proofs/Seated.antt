@@ -7,7 +7,7 @@ use Rattle.depot_rule.specs.declared.view.Read.{Read}
 use Rattle.depot_rule.specs.Sums.{tally}
 use Rattle.depot_rule.specs.Tree.{Covers}
 use Rattle.depot_rule.specs.Shares.{opening_view}
-use Rattle.depot_rule.specs.Seats.{if_less, longer, fresh, merge, merged, having_seen, met, first_of, others_of, view_of}
+use Rattle.depot_rule.specs.Seats.{if_less, longer, fresh, merge, merged, having_seen, view_of}
 use Rattle.depot_rule.proofs.Sums.{tally-append}
 use Rattle.depot_rule.proofs.Joining.{none-held, held-of}
 use Rattle.depot.specs.Calls.{known}
@@ -35,20 +35,8 @@ module _ {P E : Type 0} where
       let t = others b k g h pos (subst (λ (ps : List ℕ). k < length ps) same lt) (subst (λ (ps : List ℕ). Covers ps b k) same cover) in (let r : 0 < tally k (v.gone ++ w.gone) = omega arith in r))
       (held-of v.held w.held b g has)
 
-  -- two seats that met and parted again are the one and the other
-  pub met-first : (vs ws : List (View P E)) → length vs ≡ 1 → length ws ≡ 1 → first_of (met vs ws) ≡ having_seen (longer (view_of vs).seen (view_of ws).seen) (view_of vs) ∷ []
-  met-first [] ws one other = absurd (omega arith)
-  met-first (v ∷ vs) ws one other = refl
-
-  pub met-second : (vs ws : List (View P E)) → length vs ≡ 1 → length ws ≡ 1 → others_of (met vs ws) ≡ having_seen (longer (view_of vs).seen (view_of ws).seen) (view_of ws) ∷ []
-  met-second [] ws one other = absurd (omega arith)
-  met-second (v ∷ u ∷ us) ws one other = absurd (omega arith)
-  met-second (v ∷ []) [] one other = absurd (omega arith)
-  met-second (v ∷ []) (w ∷ []) one other = refl
-  met-second (v ∷ []) (w ∷ u ∷ us) one other = absurd (omega arith)
-
-  pub met-two : (vs ws : List (View P E)) → length vs ≡ 1 → length ws ≡ 1
-      → met vs ws ≡ having_seen (longer (view_of vs).seen (view_of ws).seen) (view_of vs) ∷ having_seen (longer (view_of vs).seen (view_of ws).seen) (view_of ws) ∷ []
+  -- two seats that met
+  pub met-two : (vs ws : List (View P E)) → length vs ≡ 1 → length ws ≡ 1 → vs ++ ws ≡ view_of vs ∷ view_of ws ∷ []
   met-two [] ws one other = absurd (omega arith)
   met-two (v ∷ u ∷ us) ws one other = absurd (omega arith)
   met-two (v ∷ []) [] one other = absurd (omega arith)

@@ -10,9 +10,11 @@ use Rattle.affinity.specs.Tree.{IsNode}
 use Rattle.depot_rule.specs.declared.view.View.{View}
 use Rattle.depot_rule.specs.declared.view.Read.{Read}
 use Rattle.depot_rule.specs.declared.view.Entry.{Entry}
+use Rattle.depot_rule.specs.Sums.{total}
 use Rattle.depot_rule.specs.Tree.{Covers}
+use Rattle.depot_rule.specs.History.{Behaviour, IsWhole, AreHands, entries_of, listed, after}
 use Rattle.depot_rule.specs.Shares.{made, Has}
-use Rattle.depot_rule.specs.Plays.{IsOnly}
+use Rattle.depot_rule.specs.Plays.{IsOnly, HasAdded}
 use Rattle.depot.specs.Kinds.{AreOfKind}
 use Rattle.depot.specs.Calls.{IsAmong, IsRead, Refuses, IsExcluded}
 use Rattle.depot.specs.declared.grants.Refusal.{Refusal}
@@ -77,7 +79,29 @@ module _ {P E : Type 0} where
   IsRefused layout v a (Busy node word) w = IsNode layout (affinity_of node) × IsBusy (parents layout) v (number_of layout a) (number_of layout (affinity_of node)) word w
   IsRefused layout v a Worn w = IsWorn v w
 
--- the grant of b is no more, and the entry e stands in the history after all that was seen, and what others put between
-abbrev pub IsFinished : {P X : Type 0} → View P X → ℕ → X → View P X → Type 0
-IsFinished v b e w = (gone : List ℕ) × (more : List Read) × (between : List _)
-    × (w ≡ record v { held = slice_set v.held b None; gone = gone; reads = more ++ v.reads; seen = (v.seen ++ between) ++ e ∷ []; mine = v.mine ++ length (v.seen ++ between) ∷ [] })
+module _ {P C R B : Type 0} (m : Behaviour P C R B) where
+  -- the parcels f of the nodes that b covers are as a whole history left them. For the only seat it is what it has seen
+  abbrev pub IsAfter : View P (Entry P C R) → ℕ → (ℕ → Option P) → Type 0
+  IsAfter v b f = (log : List (Entry P C R)) × IsWhole m v.tree v.first v log × (IsOnly v → log ≡ v.seen)
+      × ((k : ℕ) → 0 < k → k < length v.tree → Covers v.tree b k → f k ≡ after v.tree (listed v.first) log k)
+
+  -- the call is a step of the machine's, from the parcels of the seat's grant of b to g
+  abbrev pub IsStep : View P (Entry P C R) → ℕ → C → R → (ℕ → Option P) → Type 0
+  IsStep v b call reply g = (f : ℕ → Option P) × HasWith v b f × m.steps v.tree b call f reply g
+
+  -- what the call gives was in the seat's hand, or is taken by it
+  abbrev pub HasInHand : View P (Entry P C R) → C → R → Type 0
+  HasInHand v call reply = (hand next : List B) × AreHands m.takes m.gives (entries_of v) hand
+      × ((weigh : B → ℕ) → total weigh (m.gives call reply) + total weigh next ≡ total weigh (m.takes call reply) + total weigh hand)
+
+  -- the entry e was stamped
+  abbrev pub IsStamped : View P (Entry P C R) → Entry P C R → ℕ → List (View P (Entry P C R)) → Type 0
+  IsStamped v e ticket vs = (between : List (Entry P C R))
+      × (vs ≡ record v { held = slice_set v.held e.node (Some e.left); reads = record { word = 0; value = ticket; shares = 0 } ∷ v.reads; seen = (v.seen ++ between) ++ e ∷ []; mine = v.mine ++ length (v.seen ++ between) ∷ [] } ∷ [])
+      × HasAdded m v between e
+
+  -- the grant of b is no more, and the entry e stands in the history after all that was seen, and what others put between
+  abbrev pub IsFinished : View P (Entry P C R) → ℕ → Entry P C R → View P (Entry P C R) → Type 0
+  IsFinished v b e w = (gone : List ℕ) × (more : List Read) × (between : List (Entry P C R))
+      × (w ≡ record v { held = slice_set v.held b None; gone = gone; reads = more ++ v.reads; seen = (v.seen ++ between) ++ e ∷ []; mine = v.mine ++ length (v.seen ++ between) ∷ [] })
+      × HasAdded m v between e

@@ -6,8 +6,10 @@ ghost use Rattle.depot_rule.specs.declared.view.Read.{Read};
 ghost use Rattle.depot_rule.specs.Tree.{IsTree, ancestors, Covers, Excludes};
 ghost use Rattle.depot_rule.specs.Shares.{Has};
 ghost use Rattle.depot_rule.specs.Parcels.{takes};
+ghost use Rattle.depot_rule.specs.History.{behaviour, listed};
 ghost use Rattle.depot_rule.specs.Seats.{view_of};
 ghost use Rattle.depot.specs.Calls.{IsGranted, IsExcluded, WasRefused};
+ghost use Rattle.depot.specs.Grants.{IsAfter};
 
 use crate::path::{Busy, climb, leave_all};
 use crate::steps::{claim, release};
@@ -26,7 +28,7 @@ pub fn try_claim<M: Machine>(
     requires tree { (parents.now ≡ board.now.key.value.parents.items) × IsTree parents.now }
     requires ready { let v = view_of place.old.me.0 in (length place.old.me.0 ≡ 1) × (0 < node) × (v.unsure ≡ 0) × (v.path ≡ []) × (v.tree ≡ parents.now) }
     ensures seat { (place.new.table_id ≡ place.old.table_id) × (place.new.me.1 ≡ place.old.me.1) }
-    ensures granted { let v = view_of place.old.me.0 in OnOk result (((g : _) × (more : List Read) × IsGranted M.Parcel.kind v node g more place.new.me.0) × (IsExcluded v node → ⊥)) }
+    ensures granted { let v = view_of place.old.me.0 in OnOk result (((g : _) × (more : List Read) × IsGranted M.Parcel.kind v node g more place.new.me.0 × IsAfter (behaviour M.steps M.takes M.gives M.invariant) v node (listed g)) × (IsExcluded v node → ⊥)) }
     ensures refused { IfErr result (λ busy. WasRefused parents.now (view_of place.old.me.0) node busy.node busy.word place.new.me.0) }
 {
     climb(board, place, parents, node)?;

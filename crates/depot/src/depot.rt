@@ -54,7 +54,7 @@ impl<M: Machine> Depot<M> {
     ghost use Rattle.depot_rule.specs.Shares.{Has, opening_view};
     ghost use Rattle.depot_rule.specs.Parcels.{IsParcel};
     ghost use Rattle.depot_rule.specs.Seats.{fresh, merge, longer, having_seen};
-    ghost use Rattle.depot_rule.specs.Plays.{AreApart};
+    ghost use Rattle.depot_rule.specs.Plays.{AreApart, HaveSeenOne};
     ghost use Rattle.parcels.specs.Exact.{HasExactly};
     ghost use Rattle.depot.specs.Calls.{known};
     ghost use Rattle.depot.specs.Grants.{by_number, IsSeatOf};
@@ -144,6 +144,7 @@ impl<M: Machine> Depot<M> {
         ensures table { (one.new.badge.table_id ≡ one.old.badge.table_id) × (other.new.badge.table_id ≡ other.old.badge.table_id) }
         ensures one { known one.new.badge.views ≡ having_seen (longer (known one.old.badge.views).seen (known other.old.badge.views).seen) (known one.old.badge.views) }
         ensures other { known other.new.badge.views ≡ having_seen (longer (known one.old.badge.views).seen (known other.old.badge.views).seen) (known other.old.badge.views) }
+        ensures one_history { HaveSeenOne (known one.old.badge.views) (known other.old.badge.views) }
         ensures splits { (one.new.splits ≡ one.old.splits) × (other.new.splits ≡ other.old.splits) }
     {
         meet(&self.table.shared, one, other);

@@ -39,9 +39,10 @@ pub struct Claim<M> {
 }
 
 impl<M: Machine> Play<Option<M::Parcel>, ViewsOf<M>> for Claim<M> {
+    ghost use Rattle.depot_rule.specs.History.{behaviour};
     ghost use Rattle.depot_rule.specs.Plays.{ClaimSays};
 
-    ghost then = { ClaimSays M.Parcel.kind };
+    ghost then = { ClaimSays M.Parcel.kind (behaviour M.steps M.takes M.gives M.invariant) };
 }
 
 /// The claim is given up.
@@ -134,15 +135,14 @@ impl<P, E> Join<Views<P, E>> for Merge {
 pub struct Meet;
 
 impl<P, E> Join<Views<P, E>> for Meet {
-    ghost use Rattle.std.specs.Prelude.{[]};
-    ghost use Rattle.depot_rule.specs.Seats.{met};
+    ghost use Rattle.std.specs.Prelude.{[], ◌++◌};
 
-    ghost both = { met };
+    ghost both = { λ vs ws. vs ++ ws };
 
     ghost spent = { [] };
 }
 
-/// Seats that met part again.
+/// Seats that met part again, each with the longer history of the two.
 pub struct PartAgain;
 
 impl<P, E> Split<Views<P, E>> for PartAgain {

@@ -3,7 +3,7 @@
 ghost use Rattle.std.specs.Prelude.{◌≡◌, ◌<◌, ◌+◌, ◌-◌, ◌∷◌, ◌++◌, ℕ, List, [], length, IfOk, IfErr};
 ghost use Rattle.depot_rule.specs.declared.view.View.{View};
 ghost use Rattle.depot_rule.specs.Seats.{fresh, merge, longer, having_seen};
-ghost use Rattle.depot_rule.specs.Plays.{AreApart};
+ghost use Rattle.depot_rule.specs.Plays.{AreApart, HaveSeenOne};
 ghost use Rattle.depot.specs.Calls.{own_views, known};
 ghost use Rattle.depot.specs.Holds.{IsGathered};
 
@@ -85,11 +85,13 @@ pub fn meet<M: Machine>(board: &Board<M>, one: &mut Seat<M>, other: &mut Seat<M>
     ensures table { (one.new.badge.table_id ≡ one.old.badge.table_id) × (other.new.badge.table_id ≡ other.old.badge.table_id) }
     ensures one { known one.new.badge.views ≡ having_seen (longer (known one.old.badge.views).seen (known other.old.badge.views).seen) (known one.old.badge.views) }
     ensures other { known other.new.badge.views ≡ having_seen (longer (known one.old.badge.views).seen (known other.old.badge.views).seen) (known other.old.badge.views) }
+    ensures one_history { HaveSeenOne (known one.old.badge.views) (known other.old.badge.views) }
     ensures splits { (one.new.splits ≡ one.old.splits) × (other.new.splits ≡ other.old.splits) }
 {
     let mut first: Place<M> = mem::replace(&mut one.badge, Badge::blank()).into_seat();
     let second: Place<M> = mem::replace(&mut other.badge, Badge::blank()).into_seat();
     board.join_seat::<Meet>(&mut first, second);
+    board.load::<Alike>(&mut first, 0);
     let second = board.split_seat::<PartAgain>(&mut first);
     one.badge = first.into_badge();
     other.badge = second.into_badge();

@@ -7,11 +7,13 @@ ghost use Rattle.depot_rule.specs.Tree.{Covers};
 ghost use Rattle.depot_rule.specs.Shares.{Has};
 ghost use Rattle.depot_rule.specs.Parcels.{takes};
 ghost use Rattle.depot_rule.specs.Seats.{view_of};
+ghost use Rattle.depot_rule.specs.Plays.{IsOnly};
+ghost use Rattle.depot_rule.specs.History.{behaviour, Legal, listed, entries_of};
+ghost use Rattle.depot.specs.Grants.{IsStep, HasInHand, IsStamped};
 
-use crate::table::{Board, EntryOf, Place};
+use crate::table::{Board, EntryOf, Place, ViewsOf};
 use atomic_table::Play;
 use depot_rule::machine::Machine;
-use depot_rule::view::{Entry, Views};
 use std::marker::{Brand, PhantomData};
 
 /// What a step is about, which each call of it picks.
@@ -24,14 +26,15 @@ impl<X> Said<X> for Brand {
 }
 
 /// An entry is added to the history.
-pub struct Stamp<J> {
+pub struct Stamp<M, J> {
+    machine: PhantomData<M>,
     said: PhantomData<J>,
 }
 
-impl<P, C, R, J: Said<Entry<P, C, R>>> Play<Option<P>, Views<P, Entry<P, C, R>>> for Stamp<J> {
+impl<M: Machine, J: Said<EntryOf<M>>> Play<Option<M::Parcel>, ViewsOf<M>> for Stamp<M, J> {
     ghost use Rattle.depot_rule.specs.Plays.{StampSays};
 
-    ghost then = { StampSays J.item };
+    ghost then = { StampSays (behaviour M.steps M.takes M.gives M.invariant) J.item };
 }
 
 /// Stamps the entry that was picked, of a grant all of whose parcels are taken. The answer is the ticket.
@@ -41,9 +44,11 @@ pub fn stamp_as<M: Machine, J: Said<EntryOf<M>>>(board: &Board<M>, place: &mut P
     requires granted { let v = view_of place.old.me.0 in (e : _) × (g : _) × (J.item ≡ Some e) × Has v e.node g
         × ((k : ℕ) → 0 < k → k < length board.now.key.value.parents.items → Covers board.now.key.value.parents.items e.node k → 0 < takes k v)
         × ((k : ℕ) → 0 < k → k < length board.now.key.value.parents.items → Covers board.now.key.value.parents.items e.node k → (p : _) × (slice_index_or e.left k None ≡ Some p) × ((q : _) → slice_index_or v.first k None ≡ Some q → M.Parcel.kind p ≡ M.Parcel.kind q)) }
+    requires step { let v = view_of place.old.me.0 in (e : _) → J.item ≡ Some e → (f' : ℕ → Option _) × IsStep (behaviour M.steps M.takes M.gives M.invariant) v e.node e.call e.reply f'
+        × ((k : ℕ) → 0 < k → k < length v.tree → Covers v.tree e.node k → f' k ≡ slice_index_or e.left k None) }
+    requires hand { let v = view_of place.old.me.0 in (e : _) → J.item ≡ Some e → HasInHand (behaviour M.steps M.takes M.gives M.invariant) v e.call e.reply }
     ensures seat { (place.new.table_id ≡ place.old.table_id) × (place.new.me.1 ≡ place.old.me.1) }
-    ensures stamped { let v = view_of place.old.me.0 in (e : _) → J.item ≡ Some e → (between : List _)
-        × (place.new.me.0 ≡ record v { held = slice_set v.held e.node (Some e.left); reads = record { word = 0; value = result; shares = 0 } ∷ v.reads; seen = (v.seen ++ between) ++ e ∷ []; mine = v.mine ++ length (v.seen ++ between) ∷ [] } ∷ []) }
+    ensures stamped { (e : _) → J.item ≡ Some e → IsStamped (behaviour M.steps M.takes M.gives M.invariant) (view_of place.old.me.0) e result place.new.me.0 }
 {
-    board.fetch_add::<Stamp<J>>(place, 0, 1)
+    board.fetch_add::<Stamp<M, J>>(place, 0, 1)
 }

@@ -8,7 +8,9 @@ ghost use Rattle.depot_rule.specs.Shares.{exclusive, Has};
 ghost use Rattle.depot_rule.specs.Seats.{view_of};
 ghost use Rattle.depot_rule.specs.Plays.{IsOnly};
 ghost use Rattle.depot_rule.specs.Parcels.{takes};
+ghost use Rattle.depot_rule.specs.History.{behaviour, listed};
 ghost use Rattle.depot.specs.Calls.{read_of, Moved, IsGranted, IsExcluded};
+ghost use Rattle.depot.specs.Grants.{IsAfter};
 
 use crate::plays::{BackOut, Claim, Enter, Leave, Release};
 use crate::table::{Board, Place};
@@ -48,7 +50,7 @@ pub fn claim<M: Machine>(board: &Board<M>, place: &mut Place<M>, node: usize) ->
     requires table { (place.old.table_id ≡ board.now.table_id) × (node < board.now.table_id.words) × (board.now.table_id.words ≡ length board.now.key.value.parents.items) }
     requires ready { let v = view_of place.old.me.0 in (length place.old.me.0 ≡ 1) × (0 < node) × (v.unsure ≡ 0) × (v.path ≡ ancestors board.now.key.value.parents.items node) }
     ensures seat { (place.new.table_id ≡ place.old.table_id) × (place.new.me.1 ≡ place.old.me.1) }
-    ensures granted { let v = view_of place.old.me.0 in result ≡ 0 → ((g : _) × IsGranted M.Parcel.kind (record v { path = [] }) node g (read_of node 0 v ∷ []) place.new.me.0) × (IsExcluded v node → ⊥) }
+    ensures granted { let v = view_of place.old.me.0 in result ≡ 0 → ((g : _) × IsGranted M.Parcel.kind (record v { path = [] }) node g (read_of node 0 v ∷ []) place.new.me.0 × IsAfter (behaviour M.steps M.takes M.gives M.invariant) v node (listed g)) × (IsExcluded v node → ⊥) }
     ensures refused { let v = view_of place.old.me.0 in result ≢ 0 → Moved v v.path (read_of node result v ∷ []) place.new.me.0 × (IsOnly v → IsExcluded v node) }
 {
     board.compare_exchange::<Claim<M>>(place, node, 0, EXCLUSIVE)

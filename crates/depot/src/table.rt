@@ -27,10 +27,11 @@ pub struct DepotRule<M> {
 
 impl<M: Machine> TableRule<Option<M::Parcel>, ViewsOf<M>, Key<M>> for DepotRule<M> {
     ghost use Rattle.std.specs.Prelude.{[], ◌∷◌};
+    ghost use Rattle.depot_rule.specs.History.{behaviour};
     ghost use Rattle.depot_rule.specs.Rule.{Rule};
     ghost use Rattle.depot_rule.specs.Shares.{opening_view};
 
-    ghost holds = { λ key s. Rule M.Parcel.kind key.value.parents.items key.value.parcels.items s };
+    ghost holds = { λ key s. Rule M.Parcel.kind (behaviour M.steps M.takes M.gives M.invariant) key.value.parents.items key.value.parcels.items s };
 
     ghost first = { λ key. opening_view key.value.parents.items key.value.parcels.items ∷ [] };
 }

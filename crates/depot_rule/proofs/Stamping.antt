@@ -77,18 +77,21 @@ module _ (P C R B : Type 0) (kind_of : P → Kind) (m : Behaviour P C R B) where
       → (ps : List ℕ) (first : List (Option P)) (slots id : ℕ) (me : Place P E) (v : View P E) (e : E) (g : List (Option P)) → me.0 ≡ v ∷ [] → Has v e.node g
       → ((k : ℕ) → 0 < k → k < length ps → Covers ps e.node k → 0 < takes k v)
       → ((k : ℕ) → 0 < k → k < length ps → Covers ps e.node k → (p : P) × (get_or e.left k None ≡ Some p) × ((q : P) → get_or v.first k None ≡ Some q → kind_of p ≡ kind_of q))
-      → (f f' : ℕ → Option P) → m.steps ps e.node e.call f e.reply f'
-      → ((k : ℕ) → 0 < k → k < length ps → Covers ps e.node k → get_or g k None ≡ f k)
-      → ((k : ℕ) → 0 < k → k < length ps → Covers ps e.node k → f' k ≡ get_or e.left k None)
+      → (f f' : ℕ → Option P) → m.steps v.tree e.node e.call f e.reply f'
+      → ((k : ℕ) → 0 < k → k < length v.tree → Covers v.tree e.node k → get_or g k None ≡ f k)
+      → ((k : ℕ) → 0 < k → k < length v.tree → Covers v.tree e.node k → f' k ≡ get_or e.left k None)
       → (own own' : List B) → AreHands m.takes m.gives (chosen v.seen v.mine) own
       → ((weigh : B → ℕ) → total weigh (m.gives e.call e.reply) + total weigh own' ≡ total weigh (m.takes e.call e.reply) + total weigh own)
       → Allows (Rule kind_of m ps first) slots id me 0 (λ x. (x + 1) % 2 ^ 64) (StampSays m (Some e) (step slots 0 1 0 none) me)
-  stamps local steady ps first slots id me v e g one here taken fits f f' step_of before left own own' mine change s whole _ at' small =
+  stamps local steady ps first slots id me v e g one here taken fits f f' own_step own_before own_left own own' mine change s whole _ at' small =
       let r = whole.base in let h = whole.history in
       let at : get_elem? s.views id ≡ some (v ∷ []) = at' ∙ ap some one in
       let x : ℕ = get_or s.words 0 0 in
       let so = r.shares.sound id (v ∷ []) at 0 v refl in
       let ca = r.parcels.carries id (v ∷ []) at 0 v refl in
+      let same = subst (λ (t : List ℕ). m.steps t e.node e.call f e.reply f' × ((k : ℕ) → 0 < k → k < length t → Covers t e.node k → get_or g k None ≡ f k) × ((k : ℕ) → 0 < k → k < length t → Covers t e.node k → f' k ≡ get_or e.left k None)) so.tree
+      (own_step, own_before, own_left) in
+      let step_of = same.0 in let before = same.1 in let left = same.2 in
       let once : (k : ℕ) → 0 < k → k < length ps → Covers ps e.node k → takes k v ≡ 1
       = λ k pk lk ck. let t = taken k pk lk ck in let q = ca.single k pk in omega arith in
       let parcels : (k : ℕ) → 0 < k → k < length ps → Covers ps e.node k → IsParcel kind_of first k (get_or e.left k None)
@@ -110,9 +113,11 @@ module _ (P C R B : Type 0) (kind_of : P → Kind) (m : Behaviour P C R B) where
           on-one _ me.0 v one (
             seen.0,
             ap (λ (l : List E). let z : View P E = record v { held = set v.held e.node (Some e.left); reads = rs; seen = l ++ e ∷ []; mine = v.mine ++ length l ∷ [] } in z ∷ []) (sym seen.1),
-            subst (λ (z : List ℕ × List (Option P) × List E). Legal m.steps z.0 (listed z.1) (z.2 ++ e ∷ [])) (λ i. (sym so.tree i, sym ca.opened i, sym seen.1 i)) (stamp-legal P C R B kind_of m local steady ps first s r h id v at e g here once f f' step_of before left own own' mine change s.words rs),
-            ap (λ (l : List E). chosen (l ++ e ∷ []) (v.mine ++ length l ∷ [])) seen.1 ∙ chosen_now P C R B kind_of m local steady ps first s r h id v at e g here once f f' step_of before left own own' mine change s.words rs,
-            (λ all_parts. nothing-more v.seen seen.0 (seen.1 ∙ only-log P C R B kind_of m ps first s r h id v at all_parts)),
+            (
+              subst (λ (z : List ℕ × List (Option P) × List E). Legal m.steps z.0 (listed z.1) (z.2 ++ e ∷ [])) (λ i. (sym so.tree i, sym ca.opened i, sym seen.1 i)) (stamp-legal P C R B kind_of m local steady ps first s r h id v at e g here once f f' step_of before left own own' mine change s.words rs),
+              ap (λ (l : List E). chosen (l ++ e ∷ []) (v.mine ++ length l ∷ [])) seen.1 ∙ chosen_now P C R B kind_of m local steady ps first s r h id v at e g here once f f' step_of before left own own' mine change s.words rs,
+              (λ all_parts. nothing-more v.seen seen.0 (seen.1 ∙ only-log P C R B kind_of m ps first s r h id v at all_parts)),
+            ),
           ),
           refl,
         ),

@@ -99,11 +99,15 @@ module _ {P C R B : Type 0} where
       × ((log : List (Entry P C R)) × IsWhole m v.tree v.first v log × (IsOnly v → log ≡ v.seen) × ((k : ℕ) → 0 < k → k < length v.tree → Covers v.tree st.word k → slice_index_or g k None ≡ after v.tree (listed v.first) log k)))
       × (found ≢ 0 → (vs ≡ record v { reads = noted st found v } ∷ []) × (IsOnly v → (c : ℕ) × (h : List (Option P)) × Has v c h × Excludes v.tree st.word c))) me me'
 
-  -- fetch_add of 1 on the ticket, for the entry e: the grant of its node lists from then on what the entry left, and the entry stands in the history after all that was seen and what others put between, which no one did to the only seat. That history is legal, and the seat's own entries are those that it had, and this one
+  -- the seat's history is what it had seen, what others put between, and e; it is legal, and the seat's own entries are those that it had, and e. For the only seat nothing is between
+  abbrev pub HasAdded : Behaviour P C R B → View P (Entry P C R) → List (Entry P C R) → Entry P C R → Type 0
+  HasAdded m v between e = Legal m.steps v.tree (listed v.first) ((v.seen ++ between) ++ e ∷ [])
+      × (chosen ((v.seen ++ between) ++ e ∷ []) (v.mine ++ length (v.seen ++ between) ∷ []) ≡ entries_of v ++ e ∷ [])
+      × (IsOnly v → between ≡ [])
+
+  -- fetch_add of 1 on the ticket, for the entry e: the grant of its node lists from then on what the entry left, and the entry stands in the history after all that was seen and what others put between
   abbrev pub StampSays : Behaviour P C R B → Option (Entry P C R) → Step (Option P) → Place P (Entry P C R) → ℕ → Place P (Entry P C R) → Type 0
   StampSays m item st me found me' = IfSome item (λ e. OnOne (λ v. (between : List (Entry P C R))
       × (me'.0 ≡ record v { held = slice_set v.held e.node (Some e.left); reads = record { word = 0; value = found; shares = 0 } ∷ v.reads; seen = (v.seen ++ between) ++ e ∷ []; mine = v.mine ++ length (v.seen ++ between) ∷ [] } ∷ [])
-      × Legal m.steps v.tree (listed v.first) ((v.seen ++ between) ++ e ∷ [])
-      × (chosen ((v.seen ++ between) ++ e ∷ []) (v.mine ++ length (v.seen ++ between) ∷ []) ≡ entries_of v ++ e ∷ [])
-      × (IsOnly v → between ≡ [])) me.0)
+      × HasAdded m v between e) me.0)
       × (me'.1 ≡ me.1)

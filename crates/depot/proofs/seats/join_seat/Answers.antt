@@ -1,14 +1,15 @@
 use Rattle.std.proofs.Common.{rules, arith, ◌≡◌, ◌+◌, ◌∷◌, List, [], length, sym, ap, ◌∙◌, subst}
 use Rattle.depot_rule.specs.declared.view.Entry.{Entry}
+use Rattle.depot_rule.specs.History.{behaviour}
 use Rattle.depot_rule.specs.declared.view.View.{View}
-use Rattle.depot_rule.specs.Seats.{view_of, merge, having_seen, longer, first_of, others_of, met}
+use Rattle.depot_rule.specs.Seats.{view_of, merge, having_seen, longer, first_of, others_of}
 use Rattle.depot_rule.specs.Plays.{AreApart}
 use Rattle.depot_rule.proofs.Dealing.{meets, parts-again}
 use Rattle.depot_rule.proofs.Looking.{alikes}
 use Rattle.depot_rule.proofs.Joining.{merges-seats}
 use Rattle.depot.specs.Calls.{own_views, known}
 use Rattle.depot.proofs.Moves.{placed-one, no-path}
-use Rattle.depot.proofs.Seated.{met-first, met-second, met-two, merged-view, merge-gathered, known-known, gathered-in, gathered-of}
+use Rattle.depot.proofs.Seated.{met-two, merged-view, merge-gathered, known-known, gathered-in, gathered-of}
 use Rattle.depot.proofs.seats.join_seat.Goals as goal
 
 pub join_seat-requires : goal.join_seat-requires
@@ -17,7 +18,7 @@ join_seat-requires g c = (
   search rules,
   search rules,
   search rules,
-  meets g.row.M-Parcel.Denot (Entry g.row.M-Parcel.Denot g.row.M-Call.Denot g.row.M-Reply.Denot) g.M.Parcel.HasKind.kind c.args.board.now.key.value.parents.items c.args.board.now.key.value.parcels.items
+  meets g.row.M-Parcel.Denot g.row.M-Call.Denot g.row.M-Reply.Denot g.row.M-Batch.Denot g.M.Parcel.HasKind.kind (behaviour g.M.Machine.steps g.M.Machine.takes g.M.Machine.gives g.M.Machine.invariant) c.args.board.now.key.value.parents.items c.args.board.now.key.value.parcels.items
       _ c.into_seat-place.result.me.0 _ c.into_seat-other.result.me.0,
 )
 
@@ -25,16 +26,23 @@ pub load-requires : goal.load-requires
 load-requires g c = (
   search rules,
   search rules,
-  alikes g.row.M-Parcel.Denot (Entry g.row.M-Parcel.Denot g.row.M-Call.Denot g.row.M-Reply.Denot) g.M.Parcel.HasKind.kind c.args.board.now.key.value.parents.items c.args.board.now.key.value.parcels.items
+  alikes g.row.M-Parcel.Denot g.row.M-Call.Denot g.row.M-Reply.Denot g.row.M-Batch.Denot g.M.Parcel.HasKind.kind (behaviour g.M.Machine.steps g.M.Machine.takes g.M.Machine.gives g.M.Machine.invariant) c.args.board.now.key.value.parents.items c.args.board.now.key.value.parcels.items
       _ _ c.join_seat.new.seat.me,
 )
 
 pub split_seat-other-requires : goal.split_seat-other-requires
-split_seat-other-requires g c = (
-  search rules,
-  search rules,
-  parts-again g.row.M-Parcel.Denot (Entry g.row.M-Parcel.Denot g.row.M-Call.Denot g.row.M-Reply.Denot) g.M.Parcel.HasKind.kind c.args.board.now.key.value.parents.items c.args.board.now.key.value.parcels.items _ c.load.new.seat.me.0,
-)
+split_seat-other-requires g c =
+    let E : Type 0 = Entry g.row.M-Parcel.Denot g.row.M-Call.Denot g.row.M-Reply.Denot in
+    let vs : List (View g.row.M-Parcel.Denot E) = c.into_seat-place.result.me.0 in
+    let ws : List (View g.row.M-Parcel.Denot E) = c.into_seat-other.result.me.0 in
+    let one = placed-one c.into_seat-place.ensures.2 c.args.first.one.1 in
+    let other_one = placed-one c.into_seat-other.ensures.2 c.args.second.one.1 in
+    let both : c.join_seat.new.seat.me.0 ≡ view_of vs ∷ view_of ws ∷ [] = ap (λ m. m.0) c.join_seat.ensures.2 ∙ met-two vs ws one other_one in
+    let loaded : c.load.new.seat.me.0 ≡ view_of vs ∷ view_of ws ∷ [] = ap (λ m. m.0) c.load.ensures.2.0 ∙ both in (
+      search rules,
+      search rules,
+      parts-again g.row.M-Parcel.Denot g.row.M-Call.Denot g.row.M-Reply.Denot g.row.M-Batch.Denot g.M.Parcel.HasKind.kind (behaviour g.M.Machine.steps g.M.Machine.takes g.M.Machine.gives g.M.Machine.invariant) c.args.board.now.key.value.parents.items c.args.board.now.key.value.parcels.items _ c.load.new.seat.me.0 (ap length loaded),
+    )
 
 pub join_seat-requires-2 : goal.join_seat-requires-2
 join_seat-requires-2 g c =
@@ -45,16 +53,16 @@ join_seat-requires-2 g c =
     let other_is = c.into_seat-other.ensures.2 in
     let one = placed-one is c.args.first.one.1 in
     let other_one = placed-one other_is c.args.second.one.1 in
-    let both : c.join_seat.new.seat.me.0 ≡ met vs ws = ap (λ m. m.0) c.join_seat.ensures.2 in
-    let loaded : c.load.new.seat.me.0 ≡ met vs ws = ap (λ m. m.0) c.load.ensures.2.0 ∙ both in
+    let both : c.join_seat.new.seat.me.0 ≡ view_of vs ∷ view_of ws ∷ [] = ap (λ m. m.0) c.join_seat.ensures.2 ∙ met-two vs ws one other_one in
+    let loaded : c.load.new.seat.me.0 ≡ view_of vs ∷ view_of ws ∷ [] = ap (λ m. m.0) c.load.ensures.2.0 ∙ both in
     let es : List E = longer (view_of vs).seen (view_of ws).seen in
-    let first : c.split_seat-other.new.seat.me.0 ≡ having_seen es (view_of vs) ∷ [] = ap (λ m. m.0) c.split_seat-other.ensures.2 ∙ (ap first_of loaded ∙ met-first vs ws one other_one) in
-    let second : c.split_seat-other.result.me.0 ≡ having_seen es (view_of ws) ∷ [] = ap (λ m. m.0) c.split_seat-other.ensures.4 ∙ (ap others_of loaded ∙ met-second vs ws one other_one) in (
+    let first : c.split_seat-other.new.seat.me.0 ≡ having_seen es (view_of vs) ∷ [] = ap (λ m. m.0) c.split_seat-other.ensures.2 ∙ ap first_of loaded in
+    let second : c.split_seat-other.result.me.0 ≡ having_seen es (view_of ws) ∷ [] = ap (λ m. m.0) c.split_seat-other.ensures.4 ∙ ap others_of loaded in (
       search rules,
       search rules,
       search rules,
       search rules,
-      merges-seats g.row.M-Parcel.Denot E g.M.Parcel.HasKind.kind c.args.board.now.key.value.parents.items c.args.board.now.key.value.parcels.items
+      merges-seats g.row.M-Parcel.Denot g.row.M-Call.Denot g.row.M-Reply.Denot g.row.M-Batch.Denot g.M.Parcel.HasKind.kind (behaviour g.M.Machine.steps g.M.Machine.takes g.M.Machine.gives g.M.Machine.invariant) c.args.board.now.key.value.parents.items c.args.board.now.key.value.parcels.items
           _ c.split_seat-other.new.seat.me.0 _ c.split_seat-other.result.me.0 (ap length first) (ap length second)
           (ap (λ us. (view_of us).path) second ∙ no-path other_is c.args.second.idle.2)
           (ap (λ us. (view_of us).unsure) second ∙ (sym (ap (λ l. (known l).unsure) other_is) ∙ c.args.second.idle.0))
@@ -70,15 +78,15 @@ invariant_of-result g c =
     let other_is = c.into_seat-other.ensures.2 in
     let one = placed-one is c.args.first.one.1 in
     let other_one = placed-one other_is c.args.second.one.1 in
-    let both : c.join_seat.new.seat.me.0 ≡ met vs ws = ap (λ m. m.0) c.join_seat.ensures.2 in
-    let loaded : c.load.new.seat.me.0 ≡ met vs ws = ap (λ m. m.0) c.load.ensures.2.0 ∙ both in
+    let both : c.join_seat.new.seat.me.0 ≡ view_of vs ∷ view_of ws ∷ [] = ap (λ m. m.0) c.join_seat.ensures.2 ∙ met-two vs ws one other_one in
+    let loaded : c.load.new.seat.me.0 ≡ view_of vs ∷ view_of ws ∷ [] = ap (λ m. m.0) c.load.ensures.2.0 ∙ both in
     let es : List E = longer (view_of vs).seen (view_of ws).seen in
-    let first : c.split_seat-other.new.seat.me.0 ≡ having_seen es (view_of vs) ∷ [] = ap (λ m. m.0) c.split_seat-other.ensures.2 ∙ (ap first_of loaded ∙ met-first vs ws one other_one) in
-    let second : c.split_seat-other.result.me.0 ≡ having_seen es (view_of ws) ∷ [] = ap (λ m. m.0) c.split_seat-other.ensures.4 ∙ (ap others_of loaded ∙ met-second vs ws one other_one) in
+    let first : c.split_seat-other.new.seat.me.0 ≡ having_seen es (view_of vs) ∷ [] = ap (λ m. m.0) c.split_seat-other.ensures.2 ∙ ap first_of loaded in
+    let second : c.split_seat-other.result.me.0 ≡ having_seen es (view_of ws) ∷ [] = ap (λ m. m.0) c.split_seat-other.ensures.4 ∙ ap others_of loaded in
     let merged : c.join_seat-2.new.seat.me.0 ≡ merge (view_of vs) (view_of ws) ∷ [] = merged-view (view_of vs) (view_of ws) _ _ _ first second (ap (λ m. m.0) c.join_seat-2.ensures.2) in
     let badge : c.into_badge.result.views ≡ c.join_seat-2.new.seat.me.0 ∷ [] = search rules in
     let full : c.into_badge.result.views ≡ (merge (view_of vs) (view_of ws) ∷ []) ∷ [] = known-known badge merged in
-    let alike = c.load.ensures.2.1 (having_seen es (view_of vs)) (having_seen es (view_of ws)) (both ∙ met-two vs ws one other_one) in
+    let alike = c.load.ensures.2.1 (view_of vs) (view_of ws) both in
     let parts : (view_of vs).parts ≡ c.args.first.splits + 1 = sym (ap (λ l. (known l).parts) is) ∙ c.args.first.parts in
     let other_parts : (view_of ws).parts ≡ c.args.second.splits + 1 = sym (ap (λ l. (known l).parts) other_is) ∙ c.args.second.parts in
     let sum : (known c.into_badge.result.views).parts ≡ (view_of vs).parts + (view_of ws).parts = ap (λ l. (known l).parts) full in
@@ -103,11 +111,11 @@ returns-clause-joined g c =
     let other_is = c.into_seat-other.ensures.2 in
     let one = placed-one is c.args.first.one.1 in
     let other_one = placed-one other_is c.args.second.one.1 in
-    let both : c.join_seat.new.seat.me.0 ≡ met vs ws = ap (λ m. m.0) c.join_seat.ensures.2 in
-    let loaded : c.load.new.seat.me.0 ≡ met vs ws = ap (λ m. m.0) c.load.ensures.2.0 ∙ both in
+    let both : c.join_seat.new.seat.me.0 ≡ view_of vs ∷ view_of ws ∷ [] = ap (λ m. m.0) c.join_seat.ensures.2 ∙ met-two vs ws one other_one in
+    let loaded : c.load.new.seat.me.0 ≡ view_of vs ∷ view_of ws ∷ [] = ap (λ m. m.0) c.load.ensures.2.0 ∙ both in
     let es : List E = longer (view_of vs).seen (view_of ws).seen in
-    let first : c.split_seat-other.new.seat.me.0 ≡ having_seen es (view_of vs) ∷ [] = ap (λ m. m.0) c.split_seat-other.ensures.2 ∙ (ap first_of loaded ∙ met-first vs ws one other_one) in
-    let second : c.split_seat-other.result.me.0 ≡ having_seen es (view_of ws) ∷ [] = ap (λ m. m.0) c.split_seat-other.ensures.4 ∙ (ap others_of loaded ∙ met-second vs ws one other_one) in
+    let first : c.split_seat-other.new.seat.me.0 ≡ having_seen es (view_of vs) ∷ [] = ap (λ m. m.0) c.split_seat-other.ensures.2 ∙ ap first_of loaded in
+    let second : c.split_seat-other.result.me.0 ≡ having_seen es (view_of ws) ∷ [] = ap (λ m. m.0) c.split_seat-other.ensures.4 ∙ ap others_of loaded in
     let merged : c.join_seat-2.new.seat.me.0 ≡ merge (view_of vs) (view_of ws) ∷ [] = merged-view (view_of vs) (view_of ws) _ _ _ first second (ap (λ m. m.0) c.join_seat-2.ensures.2) in
     let badge : c.into_badge.result.views ≡ c.join_seat-2.new.seat.me.0 ∷ [] = search rules in
     let full : c.into_badge.result.views ≡ (merge (view_of vs) (view_of ws) ∷ []) ∷ [] = known-known badge merged in
@@ -122,7 +130,7 @@ returns-clause-apart g c =
     let other_is = c.into_seat-other.ensures.2 in
     let one = placed-one is c.args.first.one.1 in
     let other_one = placed-one other_is c.args.second.one.1 in
-    let both : c.join_seat.new.seat.me.0 ≡ met vs ws = ap (λ m. m.0) c.join_seat.ensures.2 in
+    let both : c.join_seat.new.seat.me.0 ≡ view_of vs ∷ view_of ws ∷ [] = ap (λ m. m.0) c.join_seat.ensures.2 ∙ met-two vs ws one other_one in
     let es : List E = longer (view_of vs).seen (view_of ws).seen in
-    let alike = c.load.ensures.2.1 (having_seen es (view_of vs)) (having_seen es (view_of ws)) (both ∙ met-two vs ws one other_one) in
+    let alike = c.load.ensures.2.1 (view_of vs) (view_of ws) both in
     subst (λ (x : View g.row.M-Parcel.Denot E × View g.row.M-Parcel.Denot E). AreApart x.0 x.1) (λ i. (sym (ap known is) i, sym (ap known other_is) i)) alike.2

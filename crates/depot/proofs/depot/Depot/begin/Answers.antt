@@ -6,6 +6,7 @@ use Rattle.affinity.specs.Numbers as numbers
 use Rattle.depot_rule.specs.declared.view.View.{View}
 use Rattle.depot_rule.specs.declared.view.Read.{Read}
 use Rattle.depot_rule.specs.declared.view.Entry.{Entry}
+use Rattle.depot_rule.specs.History.{behaviour}
 use Rattle.depot_rule.specs.Tree.{IsTree}
 use Rattle.depot_rule.specs.Seats.{view_of}
 use Rattle.depot_rule.proofs.Places.{one-view}
@@ -27,7 +28,7 @@ load-ticket-requires g c =
     let words : c.args.self.now.table.shared.table_id.words ≡ length (numbers.parents L) = search rules in (
       search rules,
       subst (λ (n : ℕ). 0 < n) (sym words) (some-parents L),
-      looks g.row.M-Parcel.Denot (Entry g.row.M-Parcel.Denot g.row.M-Call.Denot g.row.M-Reply.Denot) g.M.Parcel.HasKind.kind c.args.self.now.table.shared.key.value.parents.items c.args.self.now.table.shared.key.value.parcels.items
+      looks g.row.M-Parcel.Denot g.row.M-Call.Denot g.row.M-Reply.Denot g.row.M-Batch.Denot g.M.Parcel.HasKind.kind (behaviour g.M.Machine.steps g.M.Machine.takes g.M.Machine.gives g.M.Machine.invariant) c.args.self.now.table.shared.key.value.parents.items c.args.self.now.table.shared.key.value.parcels.items
           _ _ c.into_seat-place.result.me (view_of c.into_seat-place.result.me.0) (one-view c.into_seat-place.result.me.0 (placed-one is seat.one.1)),
     )
 
