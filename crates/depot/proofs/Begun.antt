@@ -27,29 +27,14 @@ use Rattle.depot_rule.proofs.Places.{one-view, of-one}
 use Rattle.depot_rule.proofs.Trees.{cover-excludes, above-smaller}
 use Rattle.depot.specs.Calls.{IsAmong, IsRead, Refuses, IsExcluded, IsGranted, WasRefused, own_views, known}
 use Rattle.depot.specs.Holds.{untaken, Handled, IsGathered}
-use Rattle.depot.specs.Grants.{worn, IsSeatOf, IsBegun, IsBusy, IsWorn}
-use Rattle.depot.proofs.Moves.{placed-one}
+use Rattle.depot.specs.Grants.{worn, IsSeatOf, ListsAs, IsBegun, IsBusy, IsWorn}
+use Rattle.depot.proofs.Moves.{among-later, placed-one}
 use Rattle.depot.proofs.Holding.{is-untaken}
 use Rattle.depot.proofs.Layouts.{parents-tree, number-place, under-place, covers-under, under-covers}
 
 -- what a taking took was there, and isn't any more
 pub moved-some : {T : Type 0} (before taken after : Option T) (p : T) → taken ≡ Some p → moving.Moved before taken after → (before ≡ Some p) × (after ≡ None)
 moved-some before taken after p e m = subst (λ (t : Option _). moving.Moved before t after) e m
-
--- what is added last, or was there behind others, is among them
-index-last : {A : Type 0} (xs : List A) (x : A) → get_elem? (xs ++ x ∷ []) (length xs) ≡ some x
-index-last [] x = refl
-index-last (y ∷ ys) x = index-last ys x
-
-index-after : {A : Type 0} (xs ys : List A) (i : ℕ) → get_elem? (xs ++ ys) (length xs + i) ≡ get_elem? ys i
-index-after [] ys i = ap (get_elem? ys) (let e : 0 + i ≡ i = omega arith in e)
-index-after (x ∷ xs) ys i = ap (get_elem? (x ∷ xs ++ ys)) (let e : length (x ∷ xs) + i ≡ suc (length xs + i) = omega arith in e) ∙ index-after xs ys i
-
-pub among-last : {A : Type 0} (xs : List A) (x : A) → IsAmong x (xs ++ x ∷ [])
-among-last xs x = (length xs, index-last xs x)
-
-pub among-after : {A : Type 0} (xs ys : List A) (x : A) → IsAmong x ys → IsAmong x (xs ++ ys)
-among-after xs ys x a = (length xs + a.0, index-after xs ys a.0 ∙ a.1)
 
 pub some-parents : (layout : Layout) → 0 < length (parents layout)
 some-parents layout = omega arith
@@ -92,11 +77,12 @@ module _ {P E : Type 0} where
       (tree ∙ h.0, λ node parcel m at. h.1 node parcel m (ap (λ (f : List (Option P)). slice_index_or f (number_of layout node) None) (sym first) ∙ at))
 
   -- a claim after a look
-  pub granted-after : (kind : P → Kind) (v : View P E) (b : ℕ) (r : Read) (vs ws : List (View P E)) → vs ≡ record v { reads = r ∷ v.reads } ∷ []
-      → ((g : List (Option P)) × (more : List Read) × IsGranted kind (view_of vs) b g more ws) × (IsExcluded (view_of vs) b → ⊥)
-      → (q : (g : List (Option P)) × (more : List Read) × IsGranted kind v b g more ws) × (IsExcluded v b → ⊥) × IsAmong r q.1
-  granted-after kind v b r vs ws is q =
-      let t = subst (λ us. ((g : List (Option P)) × (more : List Read) × IsGranted kind (view_of us) b g more ws) × (IsExcluded (view_of us) b → ⊥)) is q in
+  pub granted-after : (kind : P → Kind) (v : View P E) (b : ℕ) (Q : View P E → List (Option P) → Type 0) → ((rs : List Read) (g : List (Option P)) → Q (record v { reads = rs }) g → Q v g)
+      → (r : Read) (vs ws : List (View P E)) → vs ≡ record v { reads = r ∷ v.reads } ∷ []
+      → ((g : List (Option P)) × (more : List Read) × IsGranted kind (view_of vs) b g more ws × Q (view_of vs) g) × (IsExcluded (view_of vs) b → ⊥)
+      → (q : (g : List (Option P)) × (more : List Read) × IsGranted kind v b g more ws × Q v g) × (IsExcluded v b → ⊥) × IsAmong r q.1
+  granted-after kind v b Q still r vs ws is q =
+      let t = subst (λ us. ((g : List (Option P)) × (more : List Read) × IsGranted kind (view_of us) b g more ws × Q (view_of us) g) × (IsExcluded (view_of us) b → ⊥)) is q in
       let g = t.0.0 in let more = t.0.1 in let i = t.0.2 in (
         (
           g,
@@ -107,9 +93,10 @@ module _ {P E : Type 0} where
             i.2,
             i.3,
           ),
+          still (r ∷ v.reads) g t.0.3,
         ),
         t.1,
-        among-last more r,
+        among-later r more (r ∷ []) (0, refl),
       )
 
   module _ (kind : P → Kind) (layout : Layout) (lawful : fault_of layout ≡ None) (a : Affinity) (m : IsNode layout a) (v : View P E) (seat : IsSeatOf kind layout v) (b : ℕ) (number : b ≡ number_of layout a)
@@ -159,16 +146,20 @@ module _ {P E : Type 0} where
             ap (λ us. untaken (view_of us) b k) (sym begun-is) ∙ (ap (λ n. untaken (view_of ws) n k) (sym same_node) ∙ mv.1),
           )
 
+      -- the grant lists what was taken
+      pub begun-lists : ListsAs v b g f
+      begun-lists k pos lt cover = let t = taken-at k pos lt cover in t.1 ∙ sym t.2
+
       pub begun-so : (IsExcluded v b → ⊥) → (found : ℕ) → found < worn → IsAmong (record { word = 0; value = found; shares = 0 }) more → (views : List (List (View P E))) → views ≡ ws ∷ [] → IsBegun v b f (known views)
       begun-so apart found low looked views is = (
         g,
         by_hand.0,
         by_hand.1 ++ more,
         ap known is ∙ ap view_of begun-is,
-        (λ k pos lt cover. let t = taken-at k pos lt cover in t.1 ∙ sym t.2),
+        begun-lists,
         granted.3,
         apart,
-        (found, low, among-after by_hand.1 more (record { word = 0; value = found; shares = 0 }) looked),
+        (found, low, among-later (record { word = 0; value = found; shares = 0 }) by_hand.1 more looked),
       )
 
       pub begun-gathered : (IsExcluded v b → ⊥) → IsGathered v → IsGathered begun_view

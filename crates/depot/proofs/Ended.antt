@@ -19,16 +19,20 @@ use Rattle.depot_rule.specs.declared.view.Read.{Read}
 use Rattle.depot_rule.specs.Sums.{tally}
 use Rattle.depot_rule.specs.Tree.{IsTree, Covers, Excludes}
 use Rattle.depot_rule.specs.Shares.{Has}
-use Rattle.depot_rule.specs.History.{covers}
+use Rattle.depot_rule.specs.declared.view.Entry.{Entry}
+use Rattle.depot_rule.specs.History.{Behaviour, covers}
 use Rattle.depot_rule.specs.Seats.{view_of}
 use Rattle.depot_rule.proofs.Places.{one-view}
 use Rattle.depot_rule.proofs.Grants.{at-length}
 use Rattle.depot_rule.proofs.Trees.{cover-excludes}
 use Rattle.depot.specs.Calls.{known}
 use Rattle.depot.specs.Holds.{Lists, IsGathered}
-use Rattle.depot.specs.Grants.{by_number, IsSeatOf, HasWith, IsEnded, IsFinished}
+use Rattle.depot.specs.Grants.{by_number, entry_of, IsSeatOf, HasWith, IsStep, HasInHand, IsStamped, IsEnded, IsFinished}
 use Rattle.depot.proofs.Holding.{covers-true, true-covers}
 use Rattle.depot.proofs.Layouts.{under-place, covers-under, under-covers}
+
+some-same : {T : Type 0} (x y : T) → Some x ≡ Some y → x ≡ y
+some-same x y e = cc
 
 all-some : {T : Type 0} (y : Option T) (Q : T → Type 0) → ((p : T) → y ≡ Some p → Q p) → IfSome y Q
 all-some None Q h = tt
@@ -152,26 +156,41 @@ module _ {P E : Type 0} where
       (λ k pos lt cover. left-at k (subst (λ (t : List ℕ). k < length t) seat.0 lt)),
     )
 
--- the grant was stamped, and then ended
-pub finished-so : {P X : Type 0} (v : View P X) (b : ℕ) (left : List (Option P)) (r : Read) (between : List X) (e : X) (vs : List (View P X)) (w : View P X)
-    → vs ≡ record v { held = set v.held b (Some left); reads = r ∷ v.reads; seen = (v.seen ++ between) ++ e ∷ []; mine = v.mine ++ length (v.seen ++ between) ∷ [] } ∷ []
-    → IsEnded (view_of vs) b w → IsFinished v b e w
-finished-so {P = P} {X = X} v b left r between e vs w is ended =
-    let t = subst (λ us. IsEnded (view_of us) b w) is ended in (
-      t.0,
-      t.1 ++ r ∷ [],
-      between,
-      t.2 ∙ ap (λ (x : List (Option (List (Option P))) × List Read).
-          let z : View P X = record v { held = x.0; gone = t.0; reads = x.1; seen = (v.seen ++ between) ++ e ∷ []; mine = v.mine ++ length (v.seen ++ between) ∷ [] } in z)
-          (λ i. (set-again v.held b (Some left) None i, sym (append_assoc t.1 (r ∷ []) v.reads) i)),
-    )
+module _ {P C R B : Type 0} (m : Behaviour P C R B) where
+  -- the grant was stamped, and then ended
+  finished-so : (v : View P (Entry P C R)) (e : Entry P C R) (ticket : ℕ) (vs : List (View P (Entry P C R))) (w : View P (Entry P C R)) → IsStamped m v e ticket vs → IsEnded (view_of vs) e.node w → IsFinished m v e.node e w
+  finished-so v e ticket vs w stamped ended =
+      let r : Read = record { word = 0; value = ticket; shares = 0 } in
+      let t = subst (λ us. IsEnded (view_of us) e.node w) stamped.1 ended in (
+        t.0,
+        t.1 ++ r ∷ [],
+        stamped.0,
+        t.2 ∙ ap (λ (x : List (Option (List (Option P))) × List Read).
+            let z : View P (Entry P C R) = record v { held = x.0; gone = t.0; reads = x.1; seen = (v.seen ++ stamped.0) ++ e ∷ []; mine = v.mine ++ length (v.seen ++ stamped.0) ∷ [] } in z)
+            (λ i. (set-again v.held e.node (Some e.left) None i, sym (append_assoc t.1 (r ∷ []) v.reads) i)),
+        stamped.2,
+      )
 
-pub finished-known : {P X : Type 0} (views : List (List (View P X))) (vs ws us : List (View P X)) (news : List (List (View P X))) (b : ℕ) (left : List (Option P)) (r : Read) (between : List X) (e : X) → views ≡ vs ∷ [] → news ≡ us ∷ []
-    → ws ≡ record (view_of vs) { held = set (view_of vs).held b (Some left); reads = r ∷ (view_of vs).reads; seen = ((view_of vs).seen ++ between) ++ e ∷ []; mine = (view_of vs).mine ++ length ((view_of vs).seen ++ between) ∷ [] } ∷ []
-    → IsEnded (view_of ws) b (view_of us) → IsFinished (known views) b e (known news)
-finished-known views vs ws us news b left r between e is now stamped ended =
-    subst (λ l. IsFinished (known l) b e (known news)) (sym is) (subst (λ l. IsFinished (view_of vs) b e (known l)) (sym now) (finished-so (view_of vs) b left r between e ws (view_of us) stamped ended))
+  pub finished-known : (views : List (List (View P (Entry P C R)))) (vs ws us : List (View P (Entry P C R))) (news : List (List (View P (Entry P C R)))) (e : Entry P C R) (ticket : ℕ) → views ≡ vs ∷ [] → news ≡ us ∷ []
+      → IsStamped m (view_of vs) e ticket ws → IsEnded (view_of ws) e.node (view_of us) → IsFinished m (known views) e.node e (known news)
+  finished-known views vs ws us news e ticket is now stamped ended =
+      subst (λ l. IsFinished m (known l) e.node e (known news)) (sym is) (subst (λ l. IsFinished m (view_of vs) e.node e (known l)) (sym now) (finished-so (view_of vs) e ticket ws (view_of us) stamped ended))
 
-pub finished-views : {P X : Type 0} (v : View P X) (b : ℕ) (e : X) (us : List (View P X)) (views : List (List (View P X))) → views ≡ us ∷ [] → length us ≡ 1 → (d : IsFinished v b e (known views))
-    → views ≡ (record v { held = set v.held b None; gone = d.0; reads = d.1 ++ v.reads; seen = (v.seen ++ d.2) ++ e ∷ []; mine = v.mine ++ length (v.seen ++ d.2) ∷ [] } ∷ []) ∷ []
-finished-views v b e us views is one d = is ∙ ap (λ (x : List (View _ _)). x ∷ []) (one-view us one ∙ ap (λ (w : View _ _). w ∷ []) (sym (ap known is) ∙ d.3))
+  pub finished-views : (v : View P (Entry P C R)) (b : ℕ) (e : Entry P C R) (us : List (View P (Entry P C R))) (views : List (List (View P (Entry P C R)))) → views ≡ us ∷ [] → length us ≡ 1 → (d : IsFinished m v b e (known views))
+      → views ≡ (record v { held = set v.held b None; gone = d.0; reads = d.1 ++ v.reads; seen = (v.seen ++ d.2) ++ e ∷ []; mine = v.mine ++ length (v.seen ++ d.2) ∷ [] } ∷ []) ∷ []
+  finished-views v b e us views is one d = is ∙ ap (λ (x : List (View P (Entry P C R))). x ∷ []) (one-view us one ∙ ap (λ (w : View P (Entry P C R)). w ∷ []) (sym (ap known is) ∙ d.3))
+
+  -- the step of a call, as its stamp asks for it: the entry lists what the call left
+  pub stamp-step : (layout : Layout) (a : Affinity) (v : View P (Entry P C R)) (call : C) (reply : R) (f : ℕ → Option P) (item : Option (Entry P C R)) → v.tree ≡ parents layout → item ≡ Some (entry_of layout a f call reply)
+      → IsStep m v (number_of layout a) call reply f
+      → (e : Entry P C R) → item ≡ Some e → (f' : ℕ → Option P) × IsStep m v e.node e.call e.reply f' × ((k : ℕ) → 0 < k → k < length v.tree → Covers v.tree e.node k → f' k ≡ slice_index_or e.left k None)
+  stamp-step layout a v call reply f item tree said step e is =
+      let same : entry_of layout a f call reply ≡ e = some-same (entry_of layout a f call reply) e (sym said ∙ is) in
+      let size = length-parents layout in let many : length v.tree ≡ length (parents layout) = ap (λ (l : List ℕ). length l) tree in
+      subst (λ (d : Entry P C R). (f' : ℕ → Option P) × IsStep m v d.node d.call d.reply f' × ((k : ℕ) → 0 < k → k < length v.tree → Covers v.tree d.node k → f' k ≡ slice_index_or d.left k None)) same
+      (f, step, λ k pos lt cover. sym (by-number-at f (1 + node_count layout) k (omega arith)))
+
+  pub stamp-hand : (layout : Layout) (a : Affinity) (v : View P (Entry P C R)) (call : C) (reply : R) (f : ℕ → Option P) (item : Option (Entry P C R)) → item ≡ Some (entry_of layout a f call reply)
+      → HasInHand m v call reply → (e : Entry P C R) → item ≡ Some e → HasInHand m v e.call e.reply
+  stamp-hand layout a v call reply f item said hand e is =
+      subst (λ (d : Entry P C R). HasInHand m v d.call d.reply) (some-same (entry_of layout a f call reply) e (sym said ∙ is)) hand

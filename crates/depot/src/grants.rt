@@ -13,7 +13,8 @@ ghost use Rattle.depot_rule.specs.Shares.{Has};
 ghost use Rattle.depot_rule.specs.Parcels.{takes};
 ghost use Rattle.depot_rule.specs.Seats.{view_of};
 ghost use Rattle.depot.specs.Calls.{known};
-ghost use Rattle.depot.specs.Grants.{by_number, entry_of, IsSeatOf, HasWith, IsBegun, IsEnded, IsFinished, IsRefused};
+ghost use Rattle.depot_rule.specs.History.{behaviour};
+ghost use Rattle.depot.specs.Grants.{by_number, entry_of, IsSeatOf, HasWith, IsBegun, IsAfter, IsStep, HasInHand, IsStamped, IsEnded, IsFinished, IsRefused};
 
 use crate::claiming::{give_up, try_claim};
 use crate::depot::Depot;
@@ -81,6 +82,7 @@ impl<M: Machine> Depot<M> {
         ensures seat { (seat.new.badge.table_id ≡ seat.old.badge.table_id) × (seat.new.splits ≡ seat.old.splits) × IsSeatOf M.Parcel.kind (layout_of self.now.layout) (known seat.new.badge.views) }
         ensures exact { IfOk result (λ grant. (grant.affinity ≡ affinity) × HasExactly M.Parcel.kind (layout_of self.now.layout) (affinity_of affinity) (N.parcels (layout_of self.now.layout) (affinity_of affinity) grant.held)) }
         ensures granted { IfOk result (λ grant. IsBegun (known seat.old.badge.views) (numbers.number_of (layout_of self.now.layout) (affinity_of affinity)) (N.parcels (layout_of self.now.layout) (affinity_of affinity) grant.held) (known seat.new.badge.views)) }
+        ensures after { IfOk result (λ grant. IsAfter (behaviour M.steps M.takes M.gives M.invariant) (known seat.old.badge.views) (numbers.number_of (layout_of self.now.layout) (affinity_of affinity)) (N.parcels (layout_of self.now.layout) (affinity_of affinity) grant.held)) }
         ensures refused { IfErr result (λ refusal. IsRefused (layout_of self.now.layout) (known seat.old.badge.views) (affinity_of affinity) refusal (known seat.new.badge.views)) }
     {
         let board = &self.table.shared;
@@ -143,10 +145,11 @@ impl<M: Machine> Depot<M> {
     )
         requires seat { (seat.old.badge.table_id ≡ self.now.table.shared.table_id) × IsSeatOf M.Parcel.kind (layout_of self.now.layout) (known seat.old.badge.views) }
         requires node { IsNode (layout_of self.now.layout) (affinity_of grant.affinity) × (kind_of (affinity_of grant.affinity) ≡ N.KIND) }
-        requires open { (g : List _) × Has (known seat.old.badge.views) (numbers.number_of (layout_of self.now.layout) (affinity_of grant.affinity)) g }
+        requires step { IsStep (behaviour M.steps M.takes M.gives M.invariant) (known seat.old.badge.views) (numbers.number_of (layout_of self.now.layout) (affinity_of grant.affinity)) call.now reply.now (N.parcels (layout_of self.now.layout) (affinity_of grant.affinity) grant.held) }
+        requires hand { HasInHand (behaviour M.steps M.takes M.gives M.invariant) (known seat.old.badge.views) call.now reply.now }
         requires exact { HasExactly M.Parcel.kind (layout_of self.now.layout) (affinity_of grant.affinity) (N.parcels (layout_of self.now.layout) (affinity_of grant.affinity) grant.held) }
         ensures seat { (seat.new.badge.table_id ≡ seat.old.badge.table_id) × (seat.new.splits ≡ seat.old.splits) × IsSeatOf M.Parcel.kind (layout_of self.now.layout) (known seat.new.badge.views) }
-        ensures finished { IsFinished (known seat.old.badge.views) (numbers.number_of (layout_of self.now.layout) (affinity_of grant.affinity)) (entry_of (layout_of self.now.layout) (affinity_of grant.affinity) (N.parcels (layout_of self.now.layout) (affinity_of grant.affinity) grant.held) call.now reply.now) (known seat.new.badge.views) }
+        ensures finished { IsFinished (behaviour M.steps M.takes M.gives M.invariant) (known seat.old.badge.views) (numbers.number_of (layout_of self.now.layout) (affinity_of grant.affinity)) (entry_of (layout_of self.now.layout) (affinity_of grant.affinity) (N.parcels (layout_of self.now.layout) (affinity_of grant.affinity) grant.held) call.now reply.now) (known seat.new.badge.views) }
     {
         let mut place: Place<M> = mem::replace(&mut seat.badge, Badge::blank()).into_seat();
         stamp_call::<M, N, Brand>(
@@ -181,14 +184,15 @@ fn stamp_call<M: Machine, N: Node<M::Parcel>, J: Said<EntryOf<M>>>(
     requires table { (place.old.table_id ≡ board.now.table_id) × (0 < board.now.table_id.words) }
     requires one { length place.old.me.0 ≡ 1 }
     requires said { J.item ≡ Some (entry_of (layout_of layout.now) (affinity_of grant.now.affinity) (N.parcels (layout_of layout.now) (affinity_of grant.now.affinity) grant.now.held) call.now reply.now) }
-    requires open { (g : List _) × Has (view_of place.old.me.0) (numbers.number_of (layout_of layout.now) (affinity_of grant.now.affinity)) g }
+    requires tree { (view_of place.old.me.0).tree ≡ numbers.parents (layout_of layout.now) }
+    requires step { IsStep (behaviour M.steps M.takes M.gives M.invariant) (view_of place.old.me.0) (numbers.number_of (layout_of layout.now) (affinity_of grant.now.affinity)) call.now reply.now (N.parcels (layout_of layout.now) (affinity_of grant.now.affinity) grant.now.held) }
+    requires hand { HasInHand (behaviour M.steps M.takes M.gives M.invariant) (view_of place.old.me.0) call.now reply.now }
     requires taken { let ps = board.now.key.value.parents.items in (k : ℕ) → 0 < k → k < length ps → Covers ps (numbers.number_of (layout_of layout.now) (affinity_of grant.now.affinity)) k → 0 < takes k (view_of place.old.me.0) }
     requires fits { let ps = board.now.key.value.parents.items in let n = numbers.number_of (layout_of layout.now) (affinity_of grant.now.affinity) in
         let left = by_number (N.parcels (layout_of layout.now) (affinity_of grant.now.affinity) grant.now.held) (1 + numbers.node_count (layout_of layout.now)) in
         (k : ℕ) → 0 < k → k < length ps → Covers ps n k → (p : _) × (slice_index_or left k None ≡ Some p) × ((q : _) → slice_index_or (view_of place.old.me.0).first k None ≡ Some q → M.Parcel.kind p ≡ M.Parcel.kind q) }
     ensures seat { (place.new.table_id ≡ place.old.table_id) × (place.new.me.1 ≡ place.old.me.1) }
-    ensures stamped { let v = view_of place.old.me.0 in let e = entry_of (layout_of layout.now) (affinity_of grant.now.affinity) (N.parcels (layout_of layout.now) (affinity_of grant.now.affinity) grant.now.held) call.now reply.now in (ticket : ℕ) × (between : List _)
-        × (place.new.me.0 ≡ record v { held = slice_set v.held e.node (Some e.left); reads = record { word = 0; value = ticket; shares = 0 } ∷ v.reads; seen = (v.seen ++ between) ++ e ∷ []; mine = v.mine ++ length (v.seen ++ between) ∷ [] } ∷ []) }
+    ensures stamped { (ticket : ℕ) × IsStamped (behaviour M.steps M.takes M.gives M.invariant) (view_of place.old.me.0) (entry_of (layout_of layout.now) (affinity_of grant.now.affinity) (N.parcels (layout_of layout.now) (affinity_of grant.now.affinity) grant.now.held) call.now reply.now) ticket place.new.me.0 }
 {
     stamp_as::<M, J>(board, place);
 }

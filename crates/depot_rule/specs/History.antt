@@ -98,14 +98,17 @@ module _ {P C R : Type 0} where
     pub all_hands : AreHands m.takes m.gives log hands
     pub sound : m.invariant parents (after parents (listed first) log) hands (length log)
 
-  -- a whole history, as a seat knows it: it begins with what the seat has seen, and is legal. The machine's invariant holds of the parcels as it leaves them, and of all hands, which are the seat's hand and the others'
-  pub record IsWhole {B : Type 0} (m : Behaviour P C R B) (parents : List ℕ) (first : List (Option P)) (v : View P (Entry P C R)) (log : List (Entry P C R)) : Type 0 where
-    pub begins : StartsWith log v.seen
+  -- a whole history, as a seat knows it that has seen so much of it, and has its own entries at these places: it begins with what was seen, and is legal. The machine's invariant holds of the parcels as it leaves them, and of all hands, which are the seat's hand and the others'
+  pub record WholeHistory {B : Type 0} (m : Behaviour P C R B) (parents : List ℕ) (first : List (Option P)) (seen : List (Entry P C R)) (mine : List ℕ) (log : List (Entry P C R)) : Type 0 where
+    pub begins : StartsWith log seen
     pub legal : Legal m.steps parents (listed first) log
     pub hands : List B
     pub all_hands : AreHands m.takes m.gives log hands
     pub sound : m.invariant parents (after parents (listed first) log) hands (length log)
     pub hand : List B
-    pub own_hand : AreHands m.takes m.gives (entries_of v) hand
+    pub own_hand : AreHands m.takes m.gives (chosen seen mine) hand
     pub others : List B
     pub together : (weigh : B → ℕ) → total weigh hand + total weigh others ≡ total weigh hands
+
+  abbrev pub IsWhole : {B : Type 0} → Behaviour P C R B → List ℕ → List (Option P) → View P (Entry P C R) → List (Entry P C R) → Type 0
+  IsWhole m parents first v log = WholeHistory m parents first v.seen v.mine log

@@ -6,18 +6,18 @@ use Rattle.affinity.specs.Numbers as numbers
 use Rattle.depot_rule.specs.declared.view.View.{View}
 use Rattle.depot_rule.specs.declared.view.Read.{Read}
 use Rattle.depot_rule.specs.declared.view.Entry.{Entry}
-use Rattle.depot_rule.specs.History.{behaviour}
+use Rattle.depot_rule.specs.History.{behaviour, listed}
 use Rattle.depot_rule.specs.Tree.{IsTree}
 use Rattle.depot_rule.specs.Seats.{view_of}
 use Rattle.depot_rule.proofs.Places.{one-view}
 use Rattle.depot_rule.proofs.Looking.{looks}
 use Rattle.depot.specs.Calls.{own_views, known}
-use Rattle.depot.specs.Grants.{IsBegun}
+use Rattle.depot.specs.Grants.{IsBegun, IsAfter}
 use Rattle.depot.proofs.Moves.{placed-one}
 use Rattle.depot.proofs.Holding.{nothing}
 use Rattle.depot.proofs.Seated.{gathered-of}
 use Rattle.depot.proofs.Layouts.{parents-tree, number-place}
-use Rattle.depot.proofs.Begun.{some-parents, refuses-node, looked-at, worn-so, seat-still, granted-after, all-there, begun-so, begun-gathered, begun-views, refused-after, busy-so}
+use Rattle.depot.proofs.Begun.{some-parents, refuses-node, looked-at, worn-so, seat-still, granted-after, all-there, begun-lists, begun-so, begun-gathered, begun-views, refused-after, busy-so}
 use Rattle.depot.proofs.depot.Depot.begin.Goals as goal
 
 pub load-ticket-requires : goal.load-ticket-requires
@@ -79,7 +79,7 @@ gather-held-requires-clause-there g c =
     let is : seat.badge.views ≡ c.into_seat-place.result.me.0 ∷ [] = search rules in
     let looked = looked-at seat.badge.views c.into_seat-place.result.me.0 c.load-ticket.new.seat.me.0 c.load-ticket.result is seat.one.1 c.load-ticket.ensures.2.0 in
     let r : Read = record { word = 0; value = c.load-ticket.result; shares = 0 } in
-    let q = granted-after g.M.Parcel.HasKind.kind K c.number_of-node.result r c.load-ticket.new.seat.me.0 c.try_claim.new.place.me.0 looked.0 c.in-Ok.ensures.granted in
+    let q = granted-after g.M.Parcel.HasKind.kind K c.number_of-node.result (λ u l. IsAfter (behaviour g.M.Machine.steps g.M.Machine.takes g.M.Machine.gives g.M.Machine.invariant) u c.number_of-node.result (listed l)) (λ rs l x. x) r c.load-ticket.new.seat.me.0 c.try_claim.new.place.me.0 looked.0 c.in-Ok.ensures.granted in
     all-there g.M.Parcel.HasKind.kind L c.args.self.now.layout.lawful (affinity_of c.args.affinity) c.requires.node.0 K c.requires.seat.1 c.number_of-node.result c.number_of-node.ensures.number q.0.0 q.0.1 c.try_claim.new.place.me.0 q.0.2
 
 pub invariant_of-seat-in-Ok : goal.invariant_of-seat-in-Ok
@@ -90,7 +90,7 @@ invariant_of-seat-in-Ok g c =
     let is : seat.badge.views ≡ c.into_seat-place.result.me.0 ∷ [] = search rules in
     let looked = looked-at seat.badge.views c.into_seat-place.result.me.0 c.load-ticket.new.seat.me.0 c.load-ticket.result is seat.one.1 c.load-ticket.ensures.2.0 in
     let r : Read = record { word = 0; value = c.load-ticket.result; shares = 0 } in
-    let q = granted-after g.M.Parcel.HasKind.kind K c.number_of-node.result r c.load-ticket.new.seat.me.0 c.try_claim.new.place.me.0 looked.0 c.in-Ok.ensures.granted in
+    let q = granted-after g.M.Parcel.HasKind.kind K c.number_of-node.result (λ u l. IsAfter (behaviour g.M.Machine.steps g.M.Machine.takes g.M.Machine.gives g.M.Machine.invariant) u c.number_of-node.result (listed l)) (λ rs l x. x) r c.load-ticket.new.seat.me.0 c.try_claim.new.place.me.0 looked.0 c.in-Ok.ensures.granted in
     let badge : c.into_badge-in-Ok.result.views ≡ c.gather-held.new.shelf.place.me.0 ∷ [] = search rules in
     let full = begun-views g.M.Parcel.HasKind.kind L c.args.self.now.layout.lawful (affinity_of c.args.affinity) c.requires.node.0 K c.requires.seat.1 c.number_of-node.result c.number_of-node.ensures.number q.0.0 q.0.1 c.try_claim.new.place.me.0 q.0.2
     (g.N.Node.parcels L (affinity_of c.args.affinity) c.gather-held.result) c.gather-held.ensures.exact c.gather-held.new.shelf.node c.gather-held.ensures.kept.0 c.gather-held.new.shelf.place.me.0 c.gather-held.ensures.moved c.gather-held.ensures.kept.2 c.into_badge-in-Ok.result.views badge in
@@ -110,7 +110,7 @@ returns-in-Ok-clause-seat g c =
     let is : seat.badge.views ≡ c.into_seat-place.result.me.0 ∷ [] = search rules in
     let looked = looked-at seat.badge.views c.into_seat-place.result.me.0 c.load-ticket.new.seat.me.0 c.load-ticket.result is seat.one.1 c.load-ticket.ensures.2.0 in
     let r : Read = record { word = 0; value = c.load-ticket.result; shares = 0 } in
-    let q = granted-after g.M.Parcel.HasKind.kind K c.number_of-node.result r c.load-ticket.new.seat.me.0 c.try_claim.new.place.me.0 looked.0 c.in-Ok.ensures.granted in
+    let q = granted-after g.M.Parcel.HasKind.kind K c.number_of-node.result (λ u l. IsAfter (behaviour g.M.Machine.steps g.M.Machine.takes g.M.Machine.gives g.M.Machine.invariant) u c.number_of-node.result (listed l)) (λ rs l x. x) r c.load-ticket.new.seat.me.0 c.try_claim.new.place.me.0 looked.0 c.in-Ok.ensures.granted in
     let badge : c.into_badge-in-Ok.result.views ≡ c.gather-held.new.shelf.place.me.0 ∷ [] = search rules in
     let full = begun-views g.M.Parcel.HasKind.kind L c.args.self.now.layout.lawful (affinity_of c.args.affinity) c.requires.node.0 K c.requires.seat.1 c.number_of-node.result c.number_of-node.ensures.number q.0.0 q.0.1 c.try_claim.new.place.me.0 q.0.2
     (g.N.Node.parcels L (affinity_of c.args.affinity) c.gather-held.result) c.gather-held.ensures.exact c.gather-held.new.shelf.node c.gather-held.ensures.kept.0 c.gather-held.new.shelf.place.me.0 c.gather-held.ensures.moved c.gather-held.ensures.kept.2 c.into_badge-in-Ok.result.views badge in
@@ -124,12 +124,28 @@ returns-in-Ok-clause-granted g c =
     let is : seat.badge.views ≡ c.into_seat-place.result.me.0 ∷ [] = search rules in
     let looked = looked-at seat.badge.views c.into_seat-place.result.me.0 c.load-ticket.new.seat.me.0 c.load-ticket.result is seat.one.1 c.load-ticket.ensures.2.0 in
     let r : Read = record { word = 0; value = c.load-ticket.result; shares = 0 } in
-    let q = granted-after g.M.Parcel.HasKind.kind K c.number_of-node.result r c.load-ticket.new.seat.me.0 c.try_claim.new.place.me.0 looked.0 c.in-Ok.ensures.granted in
+    let q = granted-after g.M.Parcel.HasKind.kind K c.number_of-node.result (λ u l. IsAfter (behaviour g.M.Machine.steps g.M.Machine.takes g.M.Machine.gives g.M.Machine.invariant) u c.number_of-node.result (listed l)) (λ rs l x. x) r c.load-ticket.new.seat.me.0 c.try_claim.new.place.me.0 looked.0 c.in-Ok.ensures.granted in
     let badge : c.into_badge-in-Ok.result.views ≡ c.gather-held.new.shelf.place.me.0 ∷ [] = search rules in
     let low : c.load-ticket.result < 4611686018427387904 = search rules in
     subst (λ (n : ℕ). IsBegun K n (g.N.Node.parcels L (affinity_of c.args.affinity) c.gather-held.result) (known c.into_badge-in-Ok.result.views)) c.number_of-node.ensures.number
     (begun-so g.M.Parcel.HasKind.kind L c.args.self.now.layout.lawful (affinity_of c.args.affinity) c.requires.node.0 K c.requires.seat.1 c.number_of-node.result c.number_of-node.ensures.number q.0.0 q.0.1 c.try_claim.new.place.me.0 q.0.2
     (g.N.Node.parcels L (affinity_of c.args.affinity) c.gather-held.result) c.gather-held.ensures.exact c.gather-held.new.shelf.node c.gather-held.ensures.kept.0 c.gather-held.new.shelf.place.me.0 c.gather-held.ensures.moved c.gather-held.ensures.kept.2 q.1 c.load-ticket.result low q.2 c.into_badge-in-Ok.result.views badge)
+
+pub returns-in-Ok-clause-after : goal.returns-in-Ok-clause-after
+returns-in-Ok-clause-after g c =
+    let L : Layout = layout_of c.args.self.now.layout in
+    let seat = c.args.seat.now in
+    let K : View g.row.M-Parcel.Denot (Entry g.row.M-Parcel.Denot g.row.M-Call.Denot g.row.M-Reply.Denot) = known seat.badge.views in
+    let is : seat.badge.views ≡ c.into_seat-place.result.me.0 ∷ [] = search rules in
+    let looked = looked-at seat.badge.views c.into_seat-place.result.me.0 c.load-ticket.new.seat.me.0 c.load-ticket.result is seat.one.1 c.load-ticket.ensures.2.0 in
+    let r : Read = record { word = 0; value = c.load-ticket.result; shares = 0 } in
+    let q = granted-after g.M.Parcel.HasKind.kind K c.number_of-node.result (λ u l. IsAfter (behaviour g.M.Machine.steps g.M.Machine.takes g.M.Machine.gives g.M.Machine.invariant) u c.number_of-node.result (listed l)) (λ rs l x. x) r c.load-ticket.new.seat.me.0 c.try_claim.new.place.me.0 looked.0 c.in-Ok.ensures.granted in
+    let badge : c.into_badge-in-Ok.result.views ≡ c.gather-held.new.shelf.place.me.0 ∷ [] = search rules in
+    let same = begun-lists g.M.Parcel.HasKind.kind L c.args.self.now.layout.lawful (affinity_of c.args.affinity) c.requires.node.0 K c.requires.seat.1 c.number_of-node.result c.number_of-node.ensures.number q.0.0 q.0.1 c.try_claim.new.place.me.0 q.0.2
+    (g.N.Node.parcels L (affinity_of c.args.affinity) c.gather-held.result) c.gather-held.ensures.exact c.gather-held.new.shelf.node c.gather-held.ensures.kept.0 c.gather-held.new.shelf.place.me.0 c.gather-held.ensures.moved c.gather-held.ensures.kept.2 in
+    let seen = q.0.3 in
+    subst (λ (n : ℕ). IsAfter (behaviour g.M.Machine.steps g.M.Machine.takes g.M.Machine.gives g.M.Machine.invariant) K n (g.N.Node.parcels L (affinity_of c.args.affinity) c.gather-held.result)) c.number_of-node.ensures.number
+    (seen.0, seen.1, seen.2, λ k pos lt cover. sym (same k pos lt cover) ∙ seen.3 k pos lt cover)
 
 pub invariant_of-seat-in-Err : goal.invariant_of-seat-in-Err
 invariant_of-seat-in-Err g c =
