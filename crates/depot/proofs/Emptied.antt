@@ -1,5 +1,5 @@
 -- Parcels taken from the slots of a table that ended.
-use Rattle.std.proofs.Common.{◌≡◌, ◌≢◌, ℕ, zero, suc, ◌<◌, ◌≤◌, Bool, true, false, List, [], ◌∷◌, length, set, get_or, sym, refl, ap, ◌∙◌, arith, Option, Some, None, inl, inr, ⊎_elim}
+use Rattle.std.proofs.Common.{◌≡◌, ◌≢◌, ℕ, zero, suc, ◌<◌, ◌≤◌, Bool, true, false, List, [], ◌∷◌, length, set, get_or, sym, refl, ap, ◌∙◌, subst, arith, Option, Some, None, inl, inr, ⊎_elim}
 use Rattle.std.proofs.lemmas.List.{get_or_past}
 use Rattle.std.proofs.lemmas.Bool.{false≢true, cases_lt}
 use mathlib.Core.Option as maybe
@@ -16,6 +16,9 @@ use Rattle.parcels.specs.Moved.{Moved}
 use Rattle.depot.specs.Closed.{value_of, if_filled, left_at}
 use Rattle.depot.specs.Kinds.{AreOfKind}
 use Rattle.depot.proofs.Layouts.{place-node, under-place}
+use Rattle.depot_rule.specs.declared.view.View.{View}
+use Rattle.depot_rule.specs.declared.view.Entry.{Entry}
+use Rattle.depot_rule.specs.History.{Behaviour, listed, after}
 use Rattle.depot.proofs.Opened.{Whole}
 
 within-there : {A : Type 0} (xs : List A) (k : ℕ) → k < length xs → get_elem? xs k ≢ maybe.none
@@ -73,7 +76,7 @@ module _ {P : Type 0} where
   left-there filled items (suc k) y pos full there = ap (λ (x : Bool × maybe.Option (Option P)). if_filled x.0 (value_of x.1)) (λ i. (full i, there i))
 
   -- no slot but 0 is vacant
-  pub whole-some : (kind_of : P → Kind) {ps : List ℕ} {first xs : List (Option P)} → Whole kind_of ps first xs → (k : ℕ) → 0 < k → k < length xs → get_elem? xs k ≢ some None
+  pub whole-some : {C R B : Type 0} (kind_of : P → Kind) {m : Behaviour P C R B} {ps : List ℕ} {v : View P (Entry P C R)} {xs : List (Option P)} → Whole kind_of m ps v xs → (k : ℕ) → 0 < k → k < length xs → get_elem? xs k ≢ some None
   whole-some kind_of {xs = xs} w k pos lt e =
       let size = w.size in
       let f = w.filled k pos (omega arith) in
@@ -83,8 +86,8 @@ module _ {P : Type 0} where
       no-parcel p e = cc
 
   -- each node's parcel is left, of its kind
-  pub whole-placed : (kind_of : P → Kind) (layout : Layout) {ps : List ℕ} {first xs : List (Option P)} (filled : List Bool) → ps ≡ parents layout → AreOfKind kind_of layout first
-      → ((k : ℕ) → k < length xs → get_or filled k false ≡ true) → Whole kind_of ps first xs
+  pub whole-placed : {C R B : Type 0} (kind_of : P → Kind) (layout : Layout) {m : Behaviour P C R B} {ps : List ℕ} {v : View P (Entry P C R)} {xs : List (Option P)} (filled : List Bool) → ps ≡ parents layout → AreOfKind kind_of layout v.first
+      → ((k : ℕ) → k < length xs → get_or filled k false ≡ true) → Whole kind_of m ps v xs
       → Under layout Serial (IsPlaced kind_of layout (left_at filled xs))
   whole-placed kind_of layout {xs = xs} filled is kinds full w node under =
       let size = w.size in
@@ -93,6 +96,23 @@ module _ {P : Type 0} where
       let lt = place.1 in
       let f = w.filled (number_of layout node) place.0 (omega arith) in
       (f.2.0, left-there filled xs (number_of layout node) f.0 place.0 (full (number_of layout node) (omega arith)) f.1 ∙ f.2.1, f.2.2.2 ∙ kinds node f.2.2.0 under.0 f.2.2.1)
+
+  -- what was taken of each node is as the history left it
+  pub taken-left : {C R B : Type 0} (kind_of : P → Kind) (layout : Layout) {m : Behaviour P C R B} {ps : List ℕ} (v : View P (Entry P C R)) {xs : List (Option P)} (filled : List Bool) (taken after_all : ℕ → Option P) → ps ≡ parents layout → v.tree ≡ parents layout
+      → ((k : ℕ) → k < length xs → get_or filled k false ≡ true) → Whole kind_of m ps v xs → HasExactly kind_of layout Serial taken → ((k : ℕ) → Moved (left_at filled xs k) (taken k) (after_all k))
+      → (k : ℕ) → 0 < k → k < length v.tree → taken k ≡ after v.tree (listed v.first) v.seen k
+  taken-left kind_of layout {ps = ps} v {xs = xs} filled taken after_all is tree full w exact moved k pos lt =
+      let size = w.size in
+      let many : length ps ≡ length (parents layout) = ap (λ (l : List ℕ). length l) is in
+      let own : length v.tree ≡ length (parents layout) = ap (λ (l : List ℕ). length l) tree in
+      let c = place-node layout k pos (omega arith) in
+      let t = exact.each c.0 (under-serial layout c.0 c.1) in
+      let here : taken k ≡ Some t.0 = ap taken (sym c.2) ∙ t.1 in
+      let was = moved-before (left_at filled xs k) (taken k) (after_all k) t.0 here (moved k) in
+      here ∙ (sym was ∙ left-there filled xs k (after v.tree (listed v.first) v.seen k) pos (full k (omega arith)) (w.left k pos (omega arith)))
+    where
+      moved-before : (before taken after : Option P) (p : P) → taken ≡ Some p → Moved before taken after → before ≡ Some p
+      moved-before before taken after p e m = (subst (λ (t : Option P). Moved before t after) e m).0
 
   gathered-none : (before taken after : Option P) → Moved before taken after → (taken ≡ None → before ≡ None) → after ≡ None
   gathered-none before None after m none = m ∙ none refl

@@ -1,5 +1,5 @@
 -- The beginning and the end of a depot.
-use Rattle.std.proofs.Common.{◌≡◌, ℕ, ◌<◌, ◌≤◌, List, [], ◌∷◌, length, replicate, get_or, sym, refl, ap, ◌∙◌, subst, Option, Some, None}
+use Rattle.std.proofs.Common.{◌≡◌, ℕ, ◌<◌, ◌≤◌, ltb, List, [], ◌∷◌, length, replicate, get_or, sym, refl, ap, ◌∙◌, subst, Option, Some, None}
 use mathlib.Core.Option.{some}
 use lib.ListN.{get_elem?}
 use Rattle.atomic_table.specs.Table.{opening, Final, Seen}
@@ -7,45 +7,63 @@ use Rattle.depot_rule.specs.declared.view.View.{View}
 use Rattle.depot_rule.specs.Tree.{IsTree}
 use Rattle.depot_rule.specs.Shares.{Has, opening_view}
 use Rattle.depot_rule.specs.Rule.{Rule}
+use Rattle.depot_rule.specs.declared.view.Entry.{Entry}
+use Rattle.depot_rule.specs.Sums.{one_if, tally}
+use Rattle.depot_rule.specs.History.{Behaviour, IsWhole, listed, after}
 use Rattle.depot_rule.specs.Parcels.{IsParcel}
 use Rattle.depot_rule.specs.Seats.{view_of}
-use Rattle.depot_rule.proofs.Opening.{opens, closes}
+use Rattle.depot_rule.proofs.Opening.{opens-whole, closes, closes-history}
 use Rattle.depot_rule.proofs.Places.{one-view}
 use Rattle.affinity.specs.declared.affinity.Kind.{Kind}
 use Rattle.depot.specs.Calls.{own_views, known}
 use Rattle.depot.proofs.Moves.{placed-one}
 
-pub opened-so : (P E : Type 0) (kind_of : P → Kind) {ps qs : List ℕ} {first others : List (Option P)} {ws : List ℕ} {n : ℕ} → qs ≡ ps → others ≡ first → ws ≡ replicate {A = ℕ} n 0 → n ≡ length ps
-    → IsTree ps → length ps ≤ 1024 → length first ≡ length ps → ((k : ℕ) → 0 < k → k < length ps → (p : P) × (get_or first k None ≡ Some p))
-    → Rule {E = E} kind_of qs others (opening ws first (opening_view qs others ∷ []))
-opened-so P E kind_of {ps = ps} {qs = qs} {first = first} {others = others} {ws = ws} parents parcels words many tree few wide there =
-    let w : ws ≡ replicate {A = ℕ} (length ps) 0 = words ∙ ap (λ (m : ℕ). replicate {A = ℕ} m 0) many in
-    subst (λ (x : List ℕ × List (Option P) × List ℕ). Rule {E = E} kind_of x.0 x.1 (opening x.2 first (opening_view x.0 x.1 ∷ [])))
-    (λ i. (sym parents i, sym parcels i, sym w i))
-    (opens P E kind_of ps first tree few wide there)
-
 -- a table at its end, where its only seat has no grant
-pub record Whole {P : Type 0} (kind_of : P → Kind) (ps : List ℕ) (first : List (Option P)) (xs : List (Option P)) : Type 0 where
+pub record Whole {P C R B : Type 0} (kind_of : P → Kind) (m : Behaviour P C R B) (ps : List ℕ) (v : View P (Entry P C R)) (xs : List (Option P)) : Type 0 where
   pub size : length xs ≡ length ps
-  pub filled : (k : ℕ) → 0 < k → k < length ps → (y : Option P) × (get_elem? xs k ≡ some y) × IsParcel kind_of first k y
+  pub filled : (k : ℕ) → 0 < k → k < length ps → (y : Option P) × (get_elem? xs k ≡ some y) × IsParcel kind_of v.first k y
+  pub history : IsWhole m v.tree v.first v v.seen
+  pub entries : (p : ℕ) → tally p v.mine ≡ one_if (ltb p (length v.seen))
+  pub left : (k : ℕ) → 0 < k → k < length ps → get_elem? xs k ≡ some (after v.tree (listed v.first) v.seen k)
 
-pub closed-so : (P E : Type 0) (kind_of : P → Kind) (ps : List ℕ) (first : List (Option P)) (id : ℕ) (vs : List (View P E)) (ws : List ℕ) (xs : List (Option P)) → vs ≡ view_of vs ∷ [] → (view_of vs).parts ≡ 64
-    → ((b : ℕ) (g : List (Option P)) → Has (view_of vs) b g → ⊥) → Final (Seen (Rule kind_of ps first) id vs) ws xs
-    → Whole kind_of ps (view_of vs).first xs
-closed-so P E kind_of ps first id vs ws xs one all none_open end =
-    let at = end.1.1 ∙ ap some one in
-    let mine = end.1.0.parcels.carries id (view_of vs ∷ []) at 0 (view_of vs) refl in
-    record {
-      size = sym end.3 ∙ end.1.0.parcels.slots;
-      filled = λ k pk lk. let home = closes P E kind_of ps first end.0 end.1.0 id (view_of vs) at all none_open k pk lk in
-          (home.0, end.4 k home.0 home.1, subst (λ (l : List (Option P)). IsParcel kind_of l k home.0) (sym mine.opened) home.2);
-    }
+module _ (P C R B : Type 0) (kind_of : P → Kind) (m : Behaviour P C R B) where
+  abbrev E : Type 0
+  E = Entry P C R
 
--- the same of a seat between two calls
-pub ended-so : (P E : Type 0) (kind_of : P → Kind) {ps : List ℕ} {first : List (Option P)} {id : ℕ} {views : List (List (View P E))} (vs : List (View P E)) {ws : List ℕ} {xs : List (Option P)} → views ≡ vs ∷ [] → length (own_views views) ≡ 1 → (known views).parts ≡ 64
-    → ((b : ℕ) (g : List (Option P)) → Has (known views) b g → ⊥) → Final (Seen (Rule kind_of ps first) id vs) ws xs
-    → Whole kind_of ps (known views).first xs
-ended-so P E kind_of {ps = ps} {first = first} {id = id} {views = views} vs {ws = ws} {xs = xs} is one all none_open end =
-    subst (λ (l : List (List (View P E))). Whole kind_of ps (known l).first xs) (sym is)
-    (closed-so P E kind_of ps first id vs ws xs (one-view vs (placed-one is one)) (sym (ap (λ l. (known l).parts) is) ∙ all)
-    (subst (λ (l : List (List (View P E))). (b : ℕ) (h : List (Option P)) → Has (known l) b h → ⊥) is none_open) end)
+  pub opened-so : {ps qs : List ℕ} {first others : List (Option P)} {ws : List ℕ} {n : ℕ} → qs ≡ ps → others ≡ first → ws ≡ replicate {A = ℕ} n 0 → n ≡ length ps
+      → IsTree ps → length ps ≤ 1024 → length first ≡ length ps → ((k : ℕ) → 0 < k → k < length ps → (p : P) × (get_or first k None ≡ Some p))
+      → (f : ℕ → Option P) → ((k : ℕ) → get_or first k None ≡ f k) → m.invariant ps f [] 0
+      → Rule kind_of m qs others (opening ws first (opening_view qs others ∷ []))
+  opened-so {ps = ps} {qs = qs} {first = first} {others = others} {ws = ws} parents parcels words many tree few wide there f are sound =
+      let w : ws ≡ replicate {A = ℕ} (length ps) 0 = words ∙ ap (λ (k : ℕ). replicate {A = ℕ} k 0) many in
+      subst (λ (x : List ℕ × List (Option P) × List ℕ). Rule kind_of m x.0 x.1 (opening x.2 first (opening_view x.0 x.1 ∷ [])))
+      (λ i. (sym parents i, sym parcels i, sym w i))
+      (opens-whole P C R B kind_of m ps first tree few wide there (subst (λ (g : ℕ → Option P). m.invariant ps g [] 0) (λ i k. sym (are k) i) sound))
+
+  closed-so : (ps : List ℕ) (first : List (Option P)) (id : ℕ) (vs : List (View P E)) (ws : List ℕ) (xs : List (Option P)) → vs ≡ view_of vs ∷ [] → (view_of vs).parts ≡ 64
+      → ((b : ℕ) (g : List (Option P)) → Has (view_of vs) b g → ⊥) → Final (Seen (Rule kind_of m ps first) id vs) ws xs
+      → Whole kind_of m ps (view_of vs) xs
+  closed-so ps first id vs ws xs one all none_open end =
+      let at = end.1.1 ∙ ap some one in
+      let r = end.1.0.base in
+      let mine = r.parcels.carries id (view_of vs ∷ []) at 0 (view_of vs) refl in
+      let so = r.shares.sound id (view_of vs ∷ []) at 0 (view_of vs) refl in
+      let history = closes-history P C R B kind_of m ps first end.0 end.1.0 id (view_of vs) at all none_open in
+      record {
+        size = sym end.3 ∙ r.parcels.slots;
+        filled = λ k pk lk. let home = closes P E kind_of ps first end.0 r id (view_of vs) at all none_open k pk lk in
+            (home.0, end.4 k home.0 home.1, subst (λ (l : List (Option P)). IsParcel kind_of l k home.0) (sym mine.opened) home.2);
+        history = subst (λ (x : List ℕ × List (Option P)). IsWhole m x.0 x.1 (view_of vs) (view_of vs).seen) (λ i. (sym so.tree i, sym mine.opened i)) history.0;
+        entries = history.1;
+        left = λ k pk lk. end.4 k (after ps (listed first) (view_of vs).seen k) (history.2 k pk lk)
+            ∙ ap (λ (x : List ℕ × List (Option P)). some (after x.0 (listed x.1) (view_of vs).seen k)) (λ i. (sym so.tree i, sym mine.opened i));
+      }
+
+  -- the same of a seat between two calls
+  pub ended-so : {ps : List ℕ} {first : List (Option P)} {id : ℕ} {views : List (List (View P E))} (vs : List (View P E)) {ws : List ℕ} {xs : List (Option P)} → views ≡ vs ∷ [] → length (own_views views) ≡ 1 → (known views).parts ≡ 64
+      → ((b : ℕ) (g : List (Option P)) → Has (known views) b g → ⊥) → Final (Seen (Rule kind_of m ps first) id vs) ws xs
+      → Whole kind_of m ps (known views) xs
+  ended-so {ps = ps} {first = first} {id = id} {views = views} vs {ws = ws} {xs = xs} is one all none_open end =
+      subst (λ (l : List (List (View P E))). Whole kind_of m ps (known l) xs) (sym is)
+      (closed-so ps first id vs ws xs (one-view vs (placed-one is one)) (sym (ap (λ l. (known l).parts) is) ∙ all)
+      (subst (λ (l : List (List (View P E))). (b : ℕ) (h : List (Option P)) → Has (known l) b h → ⊥) is none_open) end)

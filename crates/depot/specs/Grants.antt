@@ -1,5 +1,5 @@
 -- What the calls on a depot do to a seat's view.
-use Rattle.std.specs.Prelude.{◌≡◌, ℕ, zero, suc, ◌+◌, ◌<◌, ◌≤◌, List, [], ◌∷◌, ◌++◌, length, slice_set, slice_index_or, Option, Some, None}
+use Rattle.std.specs.Prelude.{◌≡◌, ℕ, zero, suc, ◌+◌, ◌<◌, ◌≤◌, nat_lt, List, [], ◌∷◌, ◌++◌, length, slice_set, slice_index_or, Option, Some, None}
 use mathlib.Core.Option.{some}
 use lib.ListN.{get_elem?}
 use Rattle.nfs_model.specs.Tree.{Layout, Affinity}
@@ -10,7 +10,7 @@ use Rattle.affinity.specs.Tree.{IsNode}
 use Rattle.depot_rule.specs.declared.view.View.{View}
 use Rattle.depot_rule.specs.declared.view.Read.{Read}
 use Rattle.depot_rule.specs.declared.view.Entry.{Entry}
-use Rattle.depot_rule.specs.Sums.{total}
+use Rattle.depot_rule.specs.Sums.{total, one_if, tally}
 use Rattle.depot_rule.specs.Tree.{Covers}
 use Rattle.depot_rule.specs.History.{Behaviour, IsWhole, AreHands, entries_of, listed, after}
 use Rattle.depot_rule.specs.Shares.{made, Has}
@@ -105,3 +105,9 @@ module _ {P C R B : Type 0} (m : Behaviour P C R B) where
   IsFinished v b e w = (gone : List ℕ) × (more : List Read) × (between : List (Entry P C R))
       × (w ≡ record v { held = slice_set v.held b None; gone = gone; reads = more ++ v.reads; seen = (v.seen ++ between) ++ e ∷ []; mine = v.mine ++ length (v.seen ++ between) ∷ [] })
       × HasAdded m v between e
+
+  -- the history of the only seat, at the end: it is whole, each entry of it is the seat's, and the parcels f are as it left them
+  abbrev pub IsClosed : View P (Entry P C R) → (ℕ → Option P) → Type 0
+  IsClosed v f = IsWhole m v.tree v.first v v.seen
+      × ((p : ℕ) → tally p v.mine ≡ one_if (nat_lt p (length v.seen)))
+      × ((k : ℕ) → 0 < k → k < length v.tree → f k ≡ after v.tree (listed v.first) v.seen k)

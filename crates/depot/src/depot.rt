@@ -47,7 +47,7 @@ fn parents_of(alloc: Global, layout: &Layout) -> Result<Vec<u64>, AllocError>
 }
 
 impl<M: Machine> Depot<M> {
-    ghost use Rattle.std.specs.Prelude.{◌+◌};
+    ghost use Rattle.std.specs.Prelude.{◌+◌, []};
     ghost use Rattle.std.specs.Mem.Slots.{slots_items, slots_len};
     ghost use mathlib.Core.Option.{some};
     ghost use lib.ListN.{get_elem?};
@@ -57,7 +57,8 @@ impl<M: Machine> Depot<M> {
     ghost use Rattle.depot_rule.specs.Plays.{AreApart, HaveSeenOne};
     ghost use Rattle.parcels.specs.Exact.{HasExactly};
     ghost use Rattle.depot.specs.Calls.{known};
-    ghost use Rattle.depot.specs.Grants.{by_number, IsSeatOf};
+    ghost use Rattle.depot_rule.specs.History.{behaviour};
+    ghost use Rattle.depot.specs.Grants.{by_number, IsSeatOf, IsClosed};
 
     /// A depot of a layout with the parcels of all nodes, and its first seat. Without memory the
     /// parcels come back.
@@ -68,6 +69,7 @@ impl<M: Machine> Depot<M> {
     ) -> Result<(Depot<M>, Seat<M>), N::Held>
         requires root { N.KIND ≡ kinds.Serial }
         requires exact { HasExactly M.Parcel.kind (layout_of layout) trees.Serial (N.parcels (layout_of layout) trees.Serial parcels) }
+        requires invariant { M.invariant (numbers.parents (layout_of layout)) (N.parcels (layout_of layout) trees.Serial parcels) [] 0 }
         ensures made { IfOk result (λ made. (layout_of made.0.layout ≡ layout_of layout) × (known made.1.badge.views ≡ opening_view (numbers.parents (layout_of layout)) (by_number (N.parcels (layout_of layout) trees.Serial parcels) (1 + numbers.node_count (layout_of layout))))) }
         ensures seat { IfOk result (λ made. (made.1.badge.table_id ≡ made.0.table.shared.table_id) × (made.1.splits ≡ 63) × IsSeatOf M.Parcel.kind (layout_of layout) (known made.1.badge.views)) }
         ensures refused { IfErr result (λ back. (k : ℕ) → N.parcels (layout_of layout) trees.Serial back k ≡ N.parcels (layout_of layout) trees.Serial parcels k) }
@@ -157,6 +159,7 @@ impl<M: Machine> Depot<M> {
         requires only { seat.splits ≡ 63 }
         requires none_open { (b : ℕ) (g : _) → Has (known seat.badge.views) b g → ⊥ }
         ensures exact { HasExactly M.Parcel.kind (layout_of self.layout) trees.Serial (N.parcels (layout_of self.layout) trees.Serial result) }
+        ensures history { IsClosed (behaviour M.steps M.takes M.gives M.invariant) (known seat.badge.views) (N.parcels (layout_of self.layout) trees.Serial result) }
     {
         let Depot {
             table,

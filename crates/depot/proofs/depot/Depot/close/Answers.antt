@@ -1,19 +1,20 @@
 use Rattle.std.proofs.Common.{arith, ◌≡◌, ◌+◌, length, sym, ap, ◌∙◌}
 use Rattle.std.specs.Mem.Slots.{slots_items, slots_filled, slots_counts}
+use Rattle.nfs_model.specs.Tree.{Serial}
 use Rattle.affinity.specs.Layout.{layout_of}
 use Rattle.affinity.specs.Numbers.{parents, node_count}
 use Rattle.affinity.proofs.Smaller.{length-parents}
-use Rattle.depot_rule.specs.declared.view.Entry.{Entry}
+use Rattle.depot_rule.specs.History.{behaviour}
 use Rattle.depot.specs.Calls.{known}
 use Rattle.depot.specs.Closed.{left_at}
 use Rattle.depot.proofs.Opened.{ended-so}
-use Rattle.depot.proofs.Emptied.{whole-some, whole-placed, nothing-left}
+use Rattle.depot.proofs.Emptied.{whole-some, whole-placed, taken-left, nothing-left}
 use Rattle.depot.proofs.depot.Depot.close.Goals as goal
 
 pub invariant_of-closed : goal.invariant_of-closed
 invariant_of-closed g c =
     let all : (known c.args.seat.badge.views).parts ≡ 64 = (let p = c.args.seat.parts in let q = c.requires.only in omega arith) in
-    let w = ended-so g.row.M-Parcel.Denot (Entry g.row.M-Parcel.Denot g.row.M-Call.Denot g.row.M-Reply.Denot) g.M.Parcel.HasKind.kind c.into_seat-place.result.me.0
+    let w = ended-so g.row.M-Parcel.Denot g.row.M-Call.Denot g.row.M-Reply.Denot g.row.M-Batch.Denot g.M.Parcel.HasKind.kind (behaviour g.M.Machine.steps g.M.Machine.takes g.M.Machine.gives g.M.Machine.invariant) c.into_seat-place.result.me.0
     c.into_seat-place.ensures.2 c.args.seat.one.1 all c.requires.none_open c.close_with.ensures.values.2 in
     let slots = c.close_with.result.slots in
     let counts = slots_counts slots in
@@ -30,7 +31,7 @@ invariant_of-closed g c =
 pub gather-held-requires-clause-there : goal.gather-held-requires-clause-there
 gather-held-requires-clause-there g c =
     let all : (known c.args.seat.badge.views).parts ≡ 64 = (let p = c.args.seat.parts in let q = c.requires.only in omega arith) in
-    let w = ended-so g.row.M-Parcel.Denot (Entry g.row.M-Parcel.Denot g.row.M-Call.Denot g.row.M-Reply.Denot) g.M.Parcel.HasKind.kind c.into_seat-place.result.me.0
+    let w = ended-so g.row.M-Parcel.Denot g.row.M-Call.Denot g.row.M-Reply.Denot g.row.M-Batch.Denot g.M.Parcel.HasKind.kind (behaviour g.M.Machine.steps g.M.Machine.takes g.M.Machine.gives g.M.Machine.invariant) c.into_seat-place.result.me.0
     c.into_seat-place.ensures.2 c.args.seat.one.1 all c.requires.none_open c.close_with.ensures.values.2 in
     let slots = c.close_with.result.slots in
     let counts = slots_counts slots in
@@ -41,7 +42,7 @@ gather-held-requires-clause-there g c =
 pub free-requires : goal.free-requires
 free-requires g c =
     let all : (known c.args.seat.badge.views).parts ≡ 64 = (let p = c.args.seat.parts in let q = c.requires.only in omega arith) in
-    let w = ended-so g.row.M-Parcel.Denot (Entry g.row.M-Parcel.Denot g.row.M-Call.Denot g.row.M-Reply.Denot) g.M.Parcel.HasKind.kind c.into_seat-place.result.me.0
+    let w = ended-so g.row.M-Parcel.Denot g.row.M-Call.Denot g.row.M-Reply.Denot g.row.M-Batch.Denot g.M.Parcel.HasKind.kind (behaviour g.M.Machine.steps g.M.Machine.takes g.M.Machine.gives g.M.Machine.invariant) c.into_seat-place.result.me.0
     c.into_seat-place.ensures.2 c.args.seat.one.1 all c.requires.none_open c.close_with.ensures.values.2 in
     let slots = c.close_with.result.slots in
     let counts = slots_counts slots in
@@ -53,3 +54,19 @@ free-requires g c =
       empty = nothing-left g.M.Parcel.HasKind.kind (layout_of c.args.self.layout) (slots_filled slots) (slots_items slots) _
           (left_at (slots_filled c.gather-held.new.shelf.table.slots) (slots_items c.gather-held.new.shelf.table.slots)) (omega arith) c.gather-held.ensures.exact c.gather-held.ensures.moved;
     }
+
+pub returns-clause-history : goal.returns-clause-history
+returns-clause-history g c =
+    let all : (known c.args.seat.badge.views).parts ≡ 64 = (let p = c.args.seat.parts in let q = c.requires.only in omega arith) in
+    let w = ended-so g.row.M-Parcel.Denot g.row.M-Call.Denot g.row.M-Reply.Denot g.row.M-Batch.Denot g.M.Parcel.HasKind.kind (behaviour g.M.Machine.steps g.M.Machine.takes g.M.Machine.gives g.M.Machine.invariant) c.into_seat-place.result.me.0
+    c.into_seat-place.ensures.2 c.args.seat.one.1 all c.requires.none_open c.close_with.ensures.values.2 in
+    let slots = c.close_with.result.slots in
+    let counts = slots_counts slots in
+    let e0 = counts.0 in
+    (
+      w.history,
+      w.entries,
+      taken-left g.M.Parcel.HasKind.kind (layout_of c.args.self.layout) (known c.args.seat.badge.views) (slots_filled slots) (g.N.Node.parcels (layout_of c.args.self.layout) Serial c.gather-held.result)
+          (left_at (slots_filled c.gather-held.new.shelf.table.slots) (slots_items c.gather-held.new.shelf.table.slots)) (sym c.args.self.tree ∙ c.args.self.layout_tree) c.requires.seat.1.0
+          (λ k lt. c.close_with.ensures.values.1 k (omega arith) (omega arith)) w c.gather-held.ensures.exact c.gather-held.ensures.moved,
+    )

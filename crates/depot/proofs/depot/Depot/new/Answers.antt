@@ -6,6 +6,7 @@ use Rattle.affinity.specs.Numbers.{number_of, node_count, parents}
 use Rattle.affinity.proofs.Smaller.{length-parents}
 use Rattle.depot_rule.specs.declared.view.View.{View}
 use Rattle.depot_rule.specs.declared.view.Entry.{Entry}
+use Rattle.depot_rule.specs.History.{behaviour}
 use Rattle.depot_rule.specs.Shares.{Has, opening_view}
 use Rattle.depot_rule.proofs.Joining.{none-held}
 use Rattle.depot.specs.Calls.{own_views, known}
@@ -34,10 +35,10 @@ new-requires-2 g c =
     let made : length c.in-Ok-Ok-Ok.shelf.parcels.items ≡ c.node_count-n.result + 1 = ap length c.in-Ok-Ok-Ok.ensures'' ∙ length-replicate (c.node_count-n.result + 1) None in
     let kept : length c.scatter.new.shelf.parcels.items ≡ length c.in-Ok-Ok-Ok.shelf.parcels.items = c.scatter.ensures.kept in
     let are = given-so f (c.node_count-n.result + 1) c.scatter.new.shelf.parcels.items c.in-Ok-Ok-Ok.shelf.parcels.items c.in-Ok-Ok-Ok.ensures'' c.scatter.ensures.moved in
-    opened-so g.row.M-Parcel.Denot (Entry g.row.M-Parcel.Denot g.row.M-Call.Denot g.row.M-Reply.Denot) g.M.Parcel.HasKind.kind {ps = parents (layout_of c.args.layout)} {first = c.scatter.new.shelf.parcels.items}
+    opened-so g.row.M-Parcel.Denot g.row.M-Call.Denot g.row.M-Reply.Denot g.row.M-Batch.Denot g.M.Parcel.HasKind.kind (behaviour g.M.Machine.steps g.M.Machine.takes g.M.Machine.gives g.M.Machine.invariant) {ps = parents (layout_of c.args.layout)} {first = c.scatter.new.shelf.parcels.items}
     (ap (λ o. o.parents.items) c.of-key.ensures ∙ c.in-Ok-Ok-Ok.ensures) (ap (λ o. o.parcels.items) c.of-key.ensures) (c.as_slice.ensures.value ∙ c.in-Ok-Ok-Ok.ensures') (omega arith)
     (parents-tree (layout_of c.args.layout) c.args.layout.lawful) (parents-few c.args.layout.aggregates.items c.args.layout.volumes.items c.args.layout.lawful) (omega arith)
-    (λ k pos lt. let s = some-at g.M.Parcel.HasKind.kind (layout_of c.args.layout) f c.requires.exact k pos lt in (s.0, are k ∙ s.1))
+    (λ k pos lt. let s = some-at g.M.Parcel.HasKind.kind (layout_of c.args.layout) f c.requires.exact k pos lt in (s.0, are k ∙ s.1)) f are c.requires.invariant
 
 pub invariant_of-depot : goal.invariant_of-depot
 invariant_of-depot g c =
