@@ -1,5 +1,5 @@
 -- What the tests' calls rest on.
-use Rattle.std.proofs.Common.{◌≡◌, ℕ, zero, suc, ◌+◌, ◌<◌, ◌≤◌, ◌==◌, Bool, true, false, cond, List, [], ◌∷◌, length, set, get_or, sym, refl, ap, ◌∙◌, subst, arith, Option, Some, None}
+use Rattle.std.proofs.Common.{◌≡◌, ◌≢◌, ℕ, zero, suc, ◌+◌, ◌%◌, ◌<◌, ◌≤◌, ◌==◌, Bool, true, false, cond, List, [], ◌∷◌, length, set, get_or, sym, refl, ap, ◌∙◌, subst, arith, eq-eqb, ne_eqb, Option, Some, None}
 use Rattle.std.proofs.Math.Arith.{lt_of_le-ne}
 use Rattle.std.proofs.lemmas.List.{get_or-set_same, get_or-set_other}
 use mathlib.Core.Logic.{dite}
@@ -20,7 +20,12 @@ use Rattle.parcels.specs.declared.sets.StripeHeld.{StripeHeld}
 use Rattle.parcels.specs.declared.family.Parcel.TheVariants.{Stripe}
 use Rattle.affinity.specs.Numbers.{number_of, node_count}
 use Rattle.depot_rule.specs.declared.view.View.{View}
-use Rattle.depot.specs.Grants.{ListsAs, HasWith, IsBegun}
+use Rattle.depot.specs.Grants.{ListsAs, HasWith, IsBegun, IsAfter, HasInHand}
+use Rattle.depot.specs.Adding.{Changes}
+use Rattle.depot.specs.declared.adding.Change.TheVariants.{Add}
+use Rattle.depot_rule.specs.declared.view.Entry.{Entry}
+use Rattle.depot_rule.specs.Sums.{total}
+use Rattle.depot_rule.specs.History.{Behaviour, AreHands, entries_of}
 
 set-there : {A : Type 0} (xs : List A) (i : ℕ) (x y : A) → get_elem? xs i ≡ some x → get_elem? (set xs i y) i ≡ some y
 set-there [] i x y e = absurd (some-ne-none x (sym e))
@@ -34,6 +39,12 @@ begun-with v w b f begun = (
   ap (λ u. get_elem? u.held b) begun.3 ∙ set-there v.held b None (Some begun.0) begun.5,
   subst (λ (u : View _ _). ListsAs u b begun.0 f) (sym begun.3) begun.4,
 )
+
+-- a machine that moves no batches has all in hand
+pub begun-hand : {P C R B : Type 0} (m : Behaviour P C R B) (v w : View P (Entry P C R)) (b : ℕ) (f : ℕ → Option P) (call : C) (reply : R) → m.takes call reply ≡ [] → m.gives call reply ≡ [] → IsBegun v b f w → IsAfter m v b f → HasInHand m w call reply
+begun-hand {P = P} {C = C} {R = R} m v w b f call reply no_takes no_gives begun seen =
+    let own = subst (λ (u : View P (Entry P C R)). AreHands m.takes m.gives (entries_of u) seen.1.hand) (sym begun.3) seen.1.own_hand in
+    (seen.1.hand, seen.1.hand, own, λ weigh. let a : total weigh (m.takes call reply) ≡ 0 = ap (total weigh) no_takes in let g : total weigh (m.gives call reply) ≡ 0 = ap (total weigh) no_gives in omega arith)
 
 module _ {T : Type 0} (kind : T → Kind) where
   either-way : (x y p : T) (b : Bool) → cond b (Some x) None ≡ Some p → (cond b (Some y) None ≡ Some y) × (kind p ≡ kind x)
@@ -55,6 +66,23 @@ module _ {T : Type 0} (kind : T → Kind) where
 pub stripe-changed : {P R B S L V A X : Type 0} (layout : Layout) (a : Affinity) (held held' : StripeHeld P R B S L V A X) → HasExactly kind_in layout a (stripe_parcels layout a held) → HasExactly kind_in layout a (stripe_parcels layout a held')
 unfolding stripe_parcels
 stripe-changed layout a held held' exact = alone-swap kind_in layout a (number_of layout a) (Stripe held.own) (Stripe held'.own) refl exact
+
+alone-here : {T : Type 0} (n : ℕ) (x : T) → alone n x n ≡ Some x
+unfolding alone
+alone-here n x = ap (λ b. cond b (Some x) None) (eq-eqb n n refl)
+
+alone-else : {T : Type 0} (n : ℕ) (x : T) (k : ℕ) → k ≢ n → alone n x k ≡ None
+unfolding alone
+alone-else n x k ne = ap (λ b. cond b (Some x) None) (ne_eqb k n ne)
+
+-- a call added to a stripe's number
+pub stripe-added : {P : Type 0} (layout : Layout) (a : Affinity) (held held' : StripeHeld P ℕ ℕ ℕ ℕ ℕ ℕ ℕ) (tree : List ℕ) (n sum : ℕ) → held'.own ≡ sum → (held.own + n) % 18446744073709551616 ≡ sum
+    → Changes tree (number_of layout a) (Add n) (stripe_parcels layout a held) sum (stripe_parcels layout a held')
+unfolding stripe_parcels
+stripe-added layout a held held' tree n sum is added = (
+  (Stripe held.own, Stripe held'.own, alone-here (number_of layout a) (Stripe held.own), alone-here (number_of layout a) (Stripe held'.own), refl, is, added),
+  λ k ne. alone-else (number_of layout a) (Stripe held'.own) k ne ∙ sym (alone-else (number_of layout a) (Stripe held.own) k ne),
+)
 
 -- ---- parcels laid out node by node
 

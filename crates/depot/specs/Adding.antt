@@ -5,6 +5,8 @@ use Rattle.std.proofs.lemmas.Bool.{eqb-true, eq-eqb, ltb-true}
 use Rattle.parcels.specs.declared.family.Parcel.{Parcel}
 use Rattle.parcels.specs.Exact.{kind_in}
 use Rattle.parcels.specs.NumberIn.{number_in}
+use Rattle.depot.specs.declared.adding.Change.{Change}
+use Rattle.depot.specs.declared.adding.Change.TheVariants.{Touch, Add}
 use Rattle.depot_rule.specs.Sums.{tally}
 use Rattle.depot_rule.specs.Tree.{ancestors, Covers}
 use Rattle.depot_rule.specs.History.{covers}
@@ -32,7 +34,7 @@ if-alike true x y h = h refl
 if-alike false x y h = refl
 
 -- a call reads and writes the number of its own node alone
-pub adds-local : {P : Type 0} → IsLocal (Adds {P = P})
+adds-local : {P : Type 0} → IsLocal (Adds {P = P})
 adds-local parents a n f g sum f' s = (
   λ k no. s.1 k (λ e. no (inl (sym e))),
   λ same. (
@@ -48,3 +50,13 @@ adds-local parents a n f g sum f' s = (
     λ k ne. if-alike (covers parents a k) (f' k) (g k) (λ e. s.1 k ne ∙ sym (same k (covers-true parents a k e))),
   ),
 )
+
+-- what a call does
+abbrev pub Changes : {P : Type 0} → List ℕ → ℕ → Change → (ℕ → Option (Parcel P ℕ ℕ ℕ ℕ ℕ ℕ ℕ)) → ℕ → (ℕ → Option (Parcel P ℕ ℕ ℕ ℕ ℕ ℕ ℕ)) → Type 0
+Changes parents a Touch f reply f' = (reply ≡ 0) × ((k : ℕ) → f' k ≡ f k)
+Changes parents a (Add n) f reply f' = Adds parents a n f reply f'
+
+-- a call reads and writes what its node covers alone
+pub changes-local : {P : Type 0} → IsLocal (Changes {P = P})
+changes-local parents a Touch f g reply f' s = (λ k out. s.1 k, λ same. (s.0, λ k. if-alike (covers parents a k) (f' k) (g k) (λ e. s.1 k ∙ sym (same k (covers-true parents a k e)))))
+changes-local parents a (Add n) f g reply f' s = adds-local parents a n f g reply f' s

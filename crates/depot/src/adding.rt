@@ -1,4 +1,5 @@
-//! A machine for tests and measurements: each parcel is a number, and a call adds to its node's.
+//! A machine for tests and measurements: each parcel is a number, and a call adds to its node's, or
+//! leaves it.
 
 ghost use Rattle.std.specs.Prelude.{◌≡◌, ℕ, List, [], Option, IfOk};
 ghost use Rattle.nfs_model.specs.Tree as trees;
@@ -11,23 +12,30 @@ use depot_rule::machine::Machine;
 use parcels::{Node, Numbers, Parcel, SerialHeld, SerialNode, VecShelf};
 use std::alloc::{AllocError, Global};
 
+/// A call on the number of its node.
+#[derive(Clone, Copy, Debug, PartialEq, Eq)]
+pub enum Change {
+    /// Nothing changes, and the reply is 0.
+    Touch,
+    /// The number becomes the sum, modulo 2^64, which is the reply.
+    Add(u64),
+}
+
 /// Numbers that calls add to.
 pub struct Adding;
 
 impl Machine for Adding {
-    ghost use Rattle.depot.specs.Adding.{Adds, adds-local};
+    ghost use Rattle.depot.specs.Adding.{Changes, changes-local};
 
     type Parcel = Parcel<Numbers>;
 
-    /// What is added.
-    type Call = u64;
+    type Call = Change;
 
-    /// The sum.
     type Reply = u64;
 
     type Batch = ();
 
-    ghost steps = { Adds };
+    ghost steps = { Changes };
 
     ghost takes = { λ c r. [] };
 
@@ -35,7 +43,7 @@ impl Machine for Adding {
 
     ghost invariant = { λ parents f hands n. Unit {0} };
 
-    ghost local = { adds-local };
+    ghost local = { changes-local };
 
     ghost keeps = { λ parents a c f r f' hands hands' n i s w. tt };
 }

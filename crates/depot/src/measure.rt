@@ -8,7 +8,7 @@ ghost use Rattle.parcels.specs.Exact.{kind_in};
 ghost use Rattle.depot.specs.Calls.{known};
 ghost use Rattle.depot.specs.Grants.{IsSeatOf};
 
-use crate::adding::{Adding, all_zero};
+use crate::adding::{Adding, Change, all_zero};
 use crate::depot::Depot;
 use crate::seats::Seat;
 use affinity::{Affinity, AggregateSpec, Kind, Layout, VolumeSpec};
@@ -20,7 +20,7 @@ use std::alloc::Global;
 use std::thread;
 use std::thread::Threads;
 
-/// Begins a call on a node and, if it is granted, finishes it: it adds 0. Whether it was granted.
+/// Begins a call on a node and, if it is granted, finishes it: nothing changes. Whether it was granted.
 fn begin_and_finish_once<N: Node<Parcel<Numbers>>>(
     depot: &Depot<Adding>,
     seat: &mut Seat<Adding>,
@@ -32,7 +32,7 @@ fn begin_and_finish_once<N: Node<Parcel<Numbers>>>(
 {
     match depot.begin::<N>(seat, affinity) {
         Ok(grant) => {
-            depot.finish(seat, grant, &0, &0);
+            depot.finish(seat, grant, &Change::Touch, &0);
             true
         }
         Err(_) => false,

@@ -6,7 +6,7 @@ ghost use Rattle.parcels.specs.Exact.{kind_in};
 ghost use Rattle.depot.specs.Calls.{known};
 ghost use Rattle.depot.specs.Grants.{IsSeatOf};
 
-use crate::adding::{Adding, all_zero};
+use crate::adding::{Adding, Change, all_zero};
 use crate::depot::Depot;
 use crate::grants::{Grant, Refusal};
 use crate::seats::Seat;
@@ -150,7 +150,7 @@ pub fn add(
             let held = grant.held();
             held.own = held.own.wrapping_add(number);
             let sum = held.own;
-            depot.finish(seat, grant, &number, &sum);
+            depot.finish(seat, grant, &Change::Add(number), &sum);
             Some(sum)
         }
         Err(_) => None,

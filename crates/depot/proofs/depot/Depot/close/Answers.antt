@@ -62,8 +62,7 @@ returns-clause-history g c =
     c.into_seat-place.ensures.2 c.args.seat.one.1 all c.requires.none_open c.close_with.ensures.values.2 in
     let slots = c.close_with.result.slots in
     let counts = slots_counts slots in
-    let e0 = counts.0 in
-    (
+    let e0 = counts.0 in (
       w.history,
       w.entries,
       taken-left g.M.Parcel.HasKind.kind (layout_of c.args.self.layout) (known c.args.seat.badge.views) (slots_filled slots) (g.N.Node.parcels (layout_of c.args.self.layout) Serial c.gather-held.result)
