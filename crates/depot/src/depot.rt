@@ -57,7 +57,8 @@ impl<M: Machine> Depot<M> {
     ghost use Rattle.depot_rule.specs.Plays.{AreApart, HaveSeenOne};
     ghost use Rattle.parcels.specs.Exact.{HasExactly};
     ghost use Rattle.depot.specs.Calls.{known};
-    ghost use Rattle.depot_rule.specs.History.{behaviour};
+    ghost use Rattle.depot_rule.specs.Sums.{total};
+    ghost use Rattle.depot_rule.specs.History.{behaviour, entries_of};
     ghost use Rattle.depot.specs.Grants.{by_number, IsSeatOf, IsClosed};
 
     /// A depot of a layout with the parcels of all nodes, and its first seat. Without memory the
@@ -135,6 +136,8 @@ impl<M: Machine> Depot<M> {
         ensures table { result.badge.table_id ≡ first.badge.table_id }
         ensures joined { known result.badge.views ≡ merge (known first.badge.views) (known second.badge.views) }
         ensures apart { AreApart (known first.badge.views) (known second.badge.views) }
+        ensures one_history { HaveSeenOne (known first.badge.views) (known second.badge.views) }
+        ensures entries { (weigh : _ → ℕ) → total weigh (entries_of (known result.badge.views)) ≡ total weigh (entries_of (known first.badge.views)) + total weigh (entries_of (known second.badge.views)) }
         ensures splits { result.splits ≡ first.splits + second.splits + 1 }
     {
         join_seat(&self.table.shared, first, second)
@@ -147,6 +150,7 @@ impl<M: Machine> Depot<M> {
         ensures one { known one.new.badge.views ≡ having_seen (longer (known one.old.badge.views).seen (known other.old.badge.views).seen) (known one.old.badge.views) }
         ensures other { known other.new.badge.views ≡ having_seen (longer (known one.old.badge.views).seen (known other.old.badge.views).seen) (known other.old.badge.views) }
         ensures one_history { HaveSeenOne (known one.old.badge.views) (known other.old.badge.views) }
+        ensures entries { (entries_of (known one.new.badge.views) ≡ entries_of (known one.old.badge.views)) × (entries_of (known other.new.badge.views) ≡ entries_of (known other.old.badge.views)) }
         ensures splits { (one.new.splits ≡ one.old.splits) × (other.new.splits ≡ other.old.splits) }
     {
         meet(&self.table.shared, one, other);

@@ -4,6 +4,8 @@ ghost use Rattle.std.specs.Prelude.{◌≡◌, ◌<◌, ◌+◌, ◌-◌, ◌∷
 ghost use Rattle.depot_rule.specs.declared.view.View.{View};
 ghost use Rattle.depot_rule.specs.Seats.{fresh, merge, longer, having_seen};
 ghost use Rattle.depot_rule.specs.Plays.{AreApart, HaveSeenOne};
+ghost use Rattle.depot_rule.specs.Sums.{total};
+ghost use Rattle.depot_rule.specs.History.{entries_of};
 ghost use Rattle.depot.specs.Calls.{own_views, known};
 ghost use Rattle.depot.specs.Holds.{IsGathered};
 
@@ -60,6 +62,8 @@ pub fn join_seat<M: Machine>(board: &Board<M>, first: Seat<M>, second: Seat<M>) 
     ensures table { result.badge.table_id ≡ first.badge.table_id }
     ensures joined { known result.badge.views ≡ merge (known first.badge.views) (known second.badge.views) }
     ensures apart { AreApart (known first.badge.views) (known second.badge.views) }
+    ensures one_history { HaveSeenOne (known first.badge.views) (known second.badge.views) }
+    ensures entries { (weigh : _ → ℕ) → total weigh (entries_of (known result.badge.views)) ≡ total weigh (entries_of (known first.badge.views)) + total weigh (entries_of (known second.badge.views)) }
     ensures splits { result.splits ≡ first.splits + second.splits + 1 }
 {
     let Seat { badge, splits } = first;
@@ -86,6 +90,7 @@ pub fn meet<M: Machine>(board: &Board<M>, one: &mut Seat<M>, other: &mut Seat<M>
     ensures one { known one.new.badge.views ≡ having_seen (longer (known one.old.badge.views).seen (known other.old.badge.views).seen) (known one.old.badge.views) }
     ensures other { known other.new.badge.views ≡ having_seen (longer (known one.old.badge.views).seen (known other.old.badge.views).seen) (known other.old.badge.views) }
     ensures one_history { HaveSeenOne (known one.old.badge.views) (known other.old.badge.views) }
+    ensures entries { (entries_of (known one.new.badge.views) ≡ entries_of (known one.old.badge.views)) × (entries_of (known other.new.badge.views) ≡ entries_of (known other.old.badge.views)) }
     ensures splits { (one.new.splits ≡ one.old.splits) × (other.new.splits ≡ other.old.splits) }
 {
     let mut first: Place<M> = mem::replace(&mut one.badge, Badge::blank()).into_seat();

@@ -18,6 +18,7 @@ use Rattle.depot_rule.proofs.Parcels.{stay-keeps}
 use Rattle.depot_rule.proofs.Following.{are-apart}
 use Rattle.depot_rule.specs.Tree.{Excludes}
 use Rattle.depot_rule.proofs.Places.{on-one}
+use Rattle.depot_rule.proofs.Meeting.{first-chosen, second-chosen, merged-weigh}
 use Rattle.depot_rule.proofs.Remembering.{still}
 use Rattle.affinity.specs.declared.affinity.Kind.{Kind}
 
@@ -106,6 +107,11 @@ module _ (P C R B : Type 0) (kind_of : P → Kind) (m : Behaviour P C R B) where
                 let same = are-apart P E kind_of ps first s r id 0 b id 1 c (v ∷ w ∷ [], v, g, at', refl, has) (v ∷ w ∷ [], w, h, at', refl, has') (subst (λ (q : List ℕ). Excludes q b c) so.tree ex) in
                 let bad = same.1 in absurd (omega arith)),
             one-began v.seen w.seen whole.history.log (whole.history.seen id (v ∷ w ∷ []) at' 0 v refl) (whole.history.seen id (v ∷ w ∷ []) at' 1 w refl),
+            (
+              first-chosen P C R B m ps first s whole.history id (v ∷ w ∷ []) 0 v at' refl id (v ∷ w ∷ []) 1 w at' refl,
+              second-chosen P C R B m ps first s whole.history id (v ∷ w ∷ []) 0 v at' refl id (v ∷ w ∷ []) 1 w at' refl,
+              merged-weigh P C R B m ps first s whole.history id (v ∷ w ∷ []) 0 v at' refl id (v ∷ w ∷ []) 1 w at' refl,
+            ),
           ),
     ),
   )

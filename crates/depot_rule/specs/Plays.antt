@@ -6,11 +6,11 @@ use Rattle.atomic_table.specs.Table.{Me, Step, rest}
 use Rattle.depot_rule.specs.declared.view.View.{View}
 use Rattle.depot_rule.specs.declared.view.Read.{Read}
 use Rattle.depot_rule.specs.declared.view.Entry.{Entry}
-use Rattle.depot_rule.specs.Sums.{tally, without}
+use Rattle.depot_rule.specs.Sums.{total, tally, without}
 use Rattle.depot_rule.specs.Tree.{ancestors, Covers, Excludes}
 use Rattle.depot_rule.specs.Shares.{exclusive, made, shares, Has}
 use Rattle.depot_rule.specs.Parcels.{takes, IsParcel}
-use Rattle.depot_rule.specs.Seats.{OnOne}
+use Rattle.depot_rule.specs.Seats.{OnOne, longer, in_order}
 use Rattle.depot_rule.specs.History.{Behaviour, IsWhole, Legal, StartsWith, listed, after, chosen, entries_of}
 use Rattle.affinity.specs.declared.affinity.Kind.{Kind}
 
@@ -82,9 +82,14 @@ module _ {P E : Type 0} where
   abbrev pub HaveSeenOne : View P E → View P E → Type 0
   HaveSeenOne v w = StartsWith w.seen v.seen ⊎ StartsWith v.seen w.seen
 
+  -- the entries of each are the same in the longer history, and those of both together are the two's, however weighed
+  abbrev pub KeepEntries : View P E → View P E → Type 0
+  KeepEntries v w = (chosen (longer v.seen w.seen) v.mine ≡ entries_of v) × (chosen (longer v.seen w.seen) w.mine ≡ entries_of w)
+      × ((weigh : E → ℕ) → total weigh (chosen (longer v.seen w.seen) (in_order v.mine w.mine)) ≡ total weigh (entries_of v) + total weigh (entries_of w))
+
   -- a load by which two seats that met are found to be of one tree and one history, with at most 64 parts, and no grant of the one to exclude a grant of the other
   abbrev pub AlikeSays : Step (Option P) → Place P E → ℕ → Place P E → Type 0
-  AlikeSays st me found me' = (me' ≡ me) × ((v w : View P E) → me.0 ≡ v ∷ w ∷ [] → (v.tree ≡ w.tree) × (v.parts + w.parts ≤ 64) × AreApart v w × HaveSeenOne v w)
+  AlikeSays st me found me' = (me' ≡ me) × ((v w : View P E) → me.0 ≡ v ∷ w ∷ [] → (v.tree ≡ w.tree) × (v.parts + w.parts ≤ 64) × AreApart v w × HaveSeenOne v w × KeepEntries v w)
 
 module _ {P C R B : Type 0} where
   -- compare_exchange of 0 by 2^32: where 0 was found there is a grant, with a parcel for each node that it covers, none of them taken, each as a whole history left it, and the shares entered are the grant's. For the only seat that history is what it has seen

@@ -1,9 +1,10 @@
 use Rattle.std.proofs.Common.{rules, arith, ◌≡◌, ◌+◌, ◌∷◌, List, [], length, sym, ap, ◌∙◌, subst}
 use Rattle.depot_rule.specs.declared.view.Entry.{Entry}
-use Rattle.depot_rule.specs.History.{behaviour}
+use Rattle.depot_rule.specs.History.{behaviour, entries_of}
 use Rattle.depot_rule.specs.declared.view.View.{View}
+use Rattle.depot_rule.specs.Sums.{total}
 use Rattle.depot_rule.specs.Seats.{view_of, merge, having_seen, longer, first_of, others_of}
-use Rattle.depot_rule.specs.Plays.{AreApart}
+use Rattle.depot_rule.specs.Plays.{AreApart, HaveSeenOne, KeepEntries}
 use Rattle.depot_rule.proofs.Dealing.{meets, parts-again}
 use Rattle.depot_rule.proofs.Looking.{alikes}
 use Rattle.depot_rule.proofs.Joining.{merges-seats}
@@ -68,6 +69,38 @@ join_seat-requires-2 g c =
           (ap (λ us. (view_of us).unsure) second ∙ (sym (ap (λ l. (known l).unsure) other_is) ∙ c.args.second.idle.0))
           (ap (λ us. (view_of us).out) second ∙ (sym (ap (λ l. (known l).out) other_is) ∙ c.args.second.idle.1)),
     )
+
+pub overflow_add-result : goal.overflow_add-result
+overflow_add-result g c =
+    let E : Type 0 = Entry g.row.M-Parcel.Denot g.row.M-Call.Denot g.row.M-Reply.Denot in
+    let vs : List (View g.row.M-Parcel.Denot E) = c.into_seat-place.result.me.0 in
+    let ws : List (View g.row.M-Parcel.Denot E) = c.into_seat-other.result.me.0 in
+    let is = c.into_seat-place.ensures.2 in
+    let other_is = c.into_seat-other.ensures.2 in
+    let one = placed-one is c.args.first.one.1 in
+    let other_one = placed-one other_is c.args.second.one.1 in
+    let both : c.join_seat.new.seat.me.0 ≡ view_of vs ∷ view_of ws ∷ [] = ap (λ m. m.0) c.join_seat.ensures.2 ∙ met-two vs ws one other_one in
+    let es : List E = longer (view_of vs).seen (view_of ws).seen in
+    let alike = c.load.ensures.2.1 (view_of vs) (view_of ws) both in
+    let fit = alike.1 in
+    let parts : (view_of vs).parts ≡ c.args.first.splits + 1 = sym (ap (λ l. (known l).parts) is) ∙ c.args.first.parts in
+    let other_parts : (view_of ws).parts ≡ c.args.second.splits + 1 = sym (ap (λ l. (known l).parts) other_is) ∙ c.args.second.parts in omega arith
+
+pub overflow_add-result-2 : goal.overflow_add-result-2
+overflow_add-result-2 g c =
+    let E : Type 0 = Entry g.row.M-Parcel.Denot g.row.M-Call.Denot g.row.M-Reply.Denot in
+    let vs : List (View g.row.M-Parcel.Denot E) = c.into_seat-place.result.me.0 in
+    let ws : List (View g.row.M-Parcel.Denot E) = c.into_seat-other.result.me.0 in
+    let is = c.into_seat-place.ensures.2 in
+    let other_is = c.into_seat-other.ensures.2 in
+    let one = placed-one is c.args.first.one.1 in
+    let other_one = placed-one other_is c.args.second.one.1 in
+    let both : c.join_seat.new.seat.me.0 ≡ view_of vs ∷ view_of ws ∷ [] = ap (λ m. m.0) c.join_seat.ensures.2 ∙ met-two vs ws one other_one in
+    let es : List E = longer (view_of vs).seen (view_of ws).seen in
+    let alike = c.load.ensures.2.1 (view_of vs) (view_of ws) both in
+    let fit = alike.1 in
+    let parts : (view_of vs).parts ≡ c.args.first.splits + 1 = sym (ap (λ l. (known l).parts) is) ∙ c.args.first.parts in
+    let other_parts : (view_of ws).parts ≡ c.args.second.splits + 1 = sym (ap (λ l. (known l).parts) other_is) ∙ c.args.second.parts in omega arith
 
 pub invariant_of-result : goal.invariant_of-result
 invariant_of-result g c =
@@ -134,3 +167,32 @@ returns-clause-apart g c =
     let es : List E = longer (view_of vs).seen (view_of ws).seen in
     let alike = c.load.ensures.2.1 (view_of vs) (view_of ws) both in
     subst (λ (x : View g.row.M-Parcel.Denot E × View g.row.M-Parcel.Denot E). AreApart x.0 x.1) (λ i. (sym (ap known is) i, sym (ap known other_is) i)) alike.2
+
+pub returns-clause-one_history : goal.returns-clause-one_history
+returns-clause-one_history g c =
+    let E : Type 0 = Entry g.row.M-Parcel.Denot g.row.M-Call.Denot g.row.M-Reply.Denot in
+    let vs : List (View g.row.M-Parcel.Denot E) = c.into_seat-place.result.me.0 in
+    let ws : List (View g.row.M-Parcel.Denot E) = c.into_seat-other.result.me.0 in
+    let is = c.into_seat-place.ensures.2 in
+    let other_is = c.into_seat-other.ensures.2 in
+    let one = placed-one is c.args.first.one.1 in
+    let other_one = placed-one other_is c.args.second.one.1 in
+    let both : c.join_seat.new.seat.me.0 ≡ view_of vs ∷ view_of ws ∷ [] = ap (λ m. m.0) c.join_seat.ensures.2 ∙ met-two vs ws one other_one in
+    let es : List E = longer (view_of vs).seen (view_of ws).seen in
+    let alike = c.load.ensures.2.1 (view_of vs) (view_of ws) both in
+    subst (λ (x : View g.row.M-Parcel.Denot E × View g.row.M-Parcel.Denot E). HaveSeenOne x.0 x.1) (λ i. (sym (ap known is) i, sym (ap known other_is) i)) alike.3
+
+pub returns-clause-entries : goal.returns-clause-entries
+returns-clause-entries g c =
+    let E : Type 0 = Entry g.row.M-Parcel.Denot g.row.M-Call.Denot g.row.M-Reply.Denot in
+    let vs : List (View g.row.M-Parcel.Denot E) = c.into_seat-place.result.me.0 in
+    let ws : List (View g.row.M-Parcel.Denot E) = c.into_seat-other.result.me.0 in
+    let is = c.into_seat-place.ensures.2 in
+    let other_is = c.into_seat-other.ensures.2 in
+    let one = placed-one is c.args.first.one.1 in
+    let other_one = placed-one other_is c.args.second.one.1 in
+    let both : c.join_seat.new.seat.me.0 ≡ view_of vs ∷ view_of ws ∷ [] = ap (λ m. m.0) c.join_seat.ensures.2 ∙ met-two vs ws one other_one in
+    let es : List E = longer (view_of vs).seen (view_of ws).seen in
+    let alike = c.load.ensures.2.1 (view_of vs) (view_of ws) both in
+    let keep = subst (λ (x : View g.row.M-Parcel.Denot E × View g.row.M-Parcel.Denot E). KeepEntries x.0 x.1) (λ i. (sym (ap known is) i, sym (ap known other_is) i)) alike.4 in
+    λ weigh. ap (λ (u : View g.row.M-Parcel.Denot E). total weigh (entries_of u)) (returns-clause-joined g c) ∙ keep.2 weigh
