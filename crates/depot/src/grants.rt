@@ -124,14 +124,9 @@ impl<M: Machine> Depot<M> {
         ensures ended { IsEnded (known seat.old.badge.views) (numbers.number_of (layout_of self.now.layout) (affinity_of grant.affinity)) (known seat.new.badge.views) }
     {
         let place: Place<M> = mem::replace(&mut seat.badge, Badge::blank()).into_seat();
-        seat.badge = give_home(
-            &self.table.shared,
-            place,
-            &self.layout,
-            &self.parents,
-            grant,
-        )
-        .into_badge();
+        let board = &self.table.shared;
+        let place = give_home(board, place, &self.layout, &self.parents, grant);
+        seat.badge = place.into_badge();
     }
 
     /// Ends a call: it takes effect by one step, with its parcels as they are then, and after that
@@ -151,23 +146,11 @@ impl<M: Machine> Depot<M> {
         ensures seat { (seat.new.badge.table_id ≡ seat.old.badge.table_id) × (seat.new.splits ≡ seat.old.splits) × IsSeatOf M.Parcel.kind (layout_of self.now.layout) (known seat.new.badge.views) }
         ensures finished { IsFinished (behaviour M.steps M.takes M.gives M.invariant) (known seat.old.badge.views) (numbers.number_of (layout_of self.now.layout) (affinity_of grant.affinity)) (entry_of (layout_of self.now.layout) (affinity_of grant.affinity) (N.parcels (layout_of self.now.layout) (affinity_of grant.affinity) grant.held) call.now reply.now) (known seat.new.badge.views) }
     {
+        let board = &self.table.shared;
         let mut place: Place<M> = mem::replace(&mut seat.badge, Badge::blank()).into_seat();
-        stamp_call::<M, N, Brand>(
-            &self.table.shared,
-            &mut place,
-            &self.layout,
-            &grant,
-            call,
-            reply,
-        );
-        seat.badge = give_home(
-            &self.table.shared,
-            place,
-            &self.layout,
-            &self.parents,
-            grant,
-        )
-        .into_badge();
+        stamp_call::<M, N, Brand>(board, &mut place, &self.layout, &grant, call, reply);
+        let place = give_home(board, place, &self.layout, &self.parents, grant);
+        seat.badge = place.into_badge();
     }
 }
 

@@ -68,8 +68,8 @@ stamp_call-requires-clause-fits g c =
     let key : c.args.self.now.table.shared.key.value.parents.items ≡ numbers.parents L = search rules in
     stamp-fits g.M.Parcel.HasKind.kind L c.args.self.now.layout.lawful (affinity_of c.args.grant.affinity) c.requires.node.0 (view_of vs) still f c.requires.exact c.args.self.now.table.shared.key.value.parents.items key
 
-pub give_home-requires-clause-ready : goal.give_home-requires-clause-ready
-give_home-requires-clause-ready g c =
+pub give_home-place-requires-clause-ready : goal.give_home-place-requires-clause-ready
+give_home-place-requires-clause-ready g c =
     let L : Layout = layout_of c.args.self.now.layout in
     let seat = c.args.seat.now in
     let n : ℕ = numbers.number_of L (affinity_of c.args.grant.affinity) in
@@ -93,8 +93,8 @@ give_home-requires-clause-ready g c =
       ap (λ us. (view_of us).tree) stamped.1.1 ∙ (still.0 ∙ sym parents),
     )
 
-pub give_home-requires-clause-listed : goal.give_home-requires-clause-listed
-give_home-requires-clause-listed g c =
+pub give_home-place-requires-clause-listed : goal.give_home-place-requires-clause-listed
+give_home-place-requires-clause-listed g c =
     let L : Layout = layout_of c.args.self.now.layout in
     let seat = c.args.seat.now in
     let n : ℕ = numbers.number_of L (affinity_of c.args.grant.affinity) in
@@ -113,8 +113,8 @@ give_home-requires-clause-listed g c =
     (stamped-listed g.M.Parcel.HasKind.kind L c.args.self.now.layout.lawful (affinity_of c.args.grant.affinity) c.requires.node.0 (view_of vs) still f c.requires.exact
     open_grant.0 open_grant.1 (r ∷ (view_of vs).reads) (((view_of vs).seen ++ stamped.1.0) ++ e ∷ []) ((view_of vs).mine ++ length ((view_of vs).seen ++ stamped.1.0) ∷ []))
 
-pub give_home-requires-clause-taken : goal.give_home-requires-clause-taken
-give_home-requires-clause-taken g c =
+pub give_home-place-requires-clause-taken : goal.give_home-place-requires-clause-taken
+give_home-place-requires-clause-taken g c =
     let L : Layout = layout_of c.args.self.now.layout in
     let seat = c.args.seat.now in
     let n : ℕ = numbers.number_of L (affinity_of c.args.grant.affinity) in
@@ -148,8 +148,8 @@ returns-clause-finished g c =
     let stamped = c.stamp_call.ensures.stamped in
     let r : Read = record { word = 0; value = stamped.0; shares = 0 } in
     let e : E = entry_of L (affinity_of c.args.grant.affinity) f c.args.call.now c.args.reply.now in
-    let badge : c.into_badge.result.views ≡ c.give_home.result.me.0 ∷ [] = search rules in
-    let done : IsFinished (behaviour g.M.Machine.steps g.M.Machine.takes g.M.Machine.gives g.M.Machine.invariant) K n e (known c.into_badge.result.views) = finished-known (behaviour g.M.Machine.steps g.M.Machine.takes g.M.Machine.gives g.M.Machine.invariant) seat.badge.views vs c.stamp_call.new.place.me.0 c.give_home.result.me.0 c.into_badge.result.views e stamped.0 is badge stamped.1 c.give_home.ensures.ended.1 in
+    let badge : c.into_badge.result.views ≡ c.give_home-place.result.me.0 ∷ [] = search rules in
+    let done : IsFinished (behaviour g.M.Machine.steps g.M.Machine.takes g.M.Machine.gives g.M.Machine.invariant) K n e (known c.into_badge.result.views) = finished-known (behaviour g.M.Machine.steps g.M.Machine.takes g.M.Machine.gives g.M.Machine.invariant) seat.badge.views vs c.stamp_call.new.place.me.0 c.give_home-place.result.me.0 c.into_badge.result.views e stamped.0 is badge stamped.1 c.give_home-place.ensures.ended.1 in
     done
 
 pub returns-clause-seat : goal.returns-clause-seat
@@ -168,8 +168,8 @@ returns-clause-seat g c =
     let stamped = c.stamp_call.ensures.stamped in
     let r : Read = record { word = 0; value = stamped.0; shares = 0 } in
     let e : E = entry_of L (affinity_of c.args.grant.affinity) f c.args.call.now c.args.reply.now in
-    let badge : c.into_badge.result.views ≡ c.give_home.result.me.0 ∷ [] = search rules in
-    let done : IsFinished (behaviour g.M.Machine.steps g.M.Machine.takes g.M.Machine.gives g.M.Machine.invariant) K n e (known c.into_badge.result.views) = finished-known (behaviour g.M.Machine.steps g.M.Machine.takes g.M.Machine.gives g.M.Machine.invariant) seat.badge.views vs c.stamp_call.new.place.me.0 c.give_home.result.me.0 c.into_badge.result.views e stamped.0 is badge stamped.1 c.give_home.ensures.ended.1 in
+    let badge : c.into_badge.result.views ≡ c.give_home-place.result.me.0 ∷ [] = search rules in
+    let done : IsFinished (behaviour g.M.Machine.steps g.M.Machine.takes g.M.Machine.gives g.M.Machine.invariant) K n e (known c.into_badge.result.views) = finished-known (behaviour g.M.Machine.steps g.M.Machine.takes g.M.Machine.gives g.M.Machine.invariant) seat.badge.views vs c.stamp_call.new.place.me.0 c.give_home-place.result.me.0 c.into_badge.result.views e stamped.0 is badge stamped.1 c.give_home-place.ensures.ended.1 in
     let now = done.3 in
     (search rules, refl, seat-still g.M.Parcel.HasKind.kind L K (known c.into_badge.result.views) (ap (λ v. v.tree) now) (ap (λ v. v.first) now) c.requires.seat.1)
 
@@ -189,9 +189,9 @@ invariant_of-seat g c =
     let stamped = c.stamp_call.ensures.stamped in
     let r : Read = record { word = 0; value = stamped.0; shares = 0 } in
     let e : E = entry_of L (affinity_of c.args.grant.affinity) f c.args.call.now c.args.reply.now in
-    let badge : c.into_badge.result.views ≡ c.give_home.result.me.0 ∷ [] = search rules in
-    let done : IsFinished (behaviour g.M.Machine.steps g.M.Machine.takes g.M.Machine.gives g.M.Machine.invariant) K n e (known c.into_badge.result.views) = finished-known (behaviour g.M.Machine.steps g.M.Machine.takes g.M.Machine.gives g.M.Machine.invariant) seat.badge.views vs c.stamp_call.new.place.me.0 c.give_home.result.me.0 c.into_badge.result.views e stamped.0 is badge stamped.1 c.give_home.ensures.ended.1 in
-    let full = finished-views (behaviour g.M.Machine.steps g.M.Machine.takes g.M.Machine.gives g.M.Machine.invariant) K n e c.give_home.result.me.0 c.into_badge.result.views badge c.give_home.ensures.ended.0 done in
+    let badge : c.into_badge.result.views ≡ c.give_home-place.result.me.0 ∷ [] = search rules in
+    let done : IsFinished (behaviour g.M.Machine.steps g.M.Machine.takes g.M.Machine.gives g.M.Machine.invariant) K n e (known c.into_badge.result.views) = finished-known (behaviour g.M.Machine.steps g.M.Machine.takes g.M.Machine.gives g.M.Machine.invariant) seat.badge.views vs c.stamp_call.new.place.me.0 c.give_home-place.result.me.0 c.into_badge.result.views e stamped.0 is badge stamped.1 c.give_home-place.ensures.ended.1 in
+    let full = finished-views (behaviour g.M.Machine.steps g.M.Machine.takes g.M.Machine.gives g.M.Machine.invariant) K n e c.give_home-place.result.me.0 c.into_badge.result.views badge c.give_home-place.ensures.ended.0 done in
     let stamped_all : IsGathered (view_of c.stamp_call.new.place.me.0) = subst (λ us. IsGathered (view_of us)) (sym stamped.1.1)
     (stamped-gathered (view_of vs) n open_grant.0 left (r ∷ (view_of vs).reads) (((view_of vs).seen ++ stamped.1.0) ++ e ∷ []) ((view_of vs).mine ++ length ((view_of vs).seen ++ stamped.1.0) ∷ []) (gathered-in is seat.gathered) open_grant.1) in
     let tree : IsTree (view_of c.stamp_call.new.place.me.0).tree = subst IsTree (sym (ap (λ us. (view_of us).tree) stamped.1.1 ∙ still.0)) (parents-tree L c.args.self.now.layout.lawful) in
@@ -200,5 +200,5 @@ invariant_of-seat g c =
       idle = (ap (λ l. (known l).unsure) full ∙ seat.idle.0, ap (λ l. (known l).out) full ∙ seat.idle.1, ap (λ l. length (known l).path) full ∙ seat.idle.2);
       parts = ap (λ l. (known l).parts) full ∙ seat.parts;
       gathered = subst IsGathered (sym (ap known badge))
-          (ended-gathered (view_of c.stamp_call.new.place.me.0) (view_of c.give_home.result.me.0) n tree stamped_all c.give_home.ensures.ended.1 c.give_home.ensures.apart c.give_home.ensures.others);
+          (ended-gathered (view_of c.stamp_call.new.place.me.0) (view_of c.give_home-place.result.me.0) n tree stamped_all c.give_home-place.ensures.ended.1 c.give_home-place.ensures.apart c.give_home-place.ensures.others);
     }
