@@ -1,5 +1,5 @@
 -- The stamp adds an entry to the history.
-use Rattle.std.proofs.Common.{◌≡◌, ◌≢◌, ◌⊎◌, ℕ, zero, suc, ◌+◌, ◌<◌, ◌≤◌, eqb, ltb, Bool, true, false, ◌||◌, List, [], ◌∷◌, ◌++◌, length, get_or, set, sym, refl, ap, ◌∙◌, subst, arith, length-append, eq-eqb, ne_eqb, inl, inr, ⊎_elim, Option, Some, None}
+use Rattle.std.proofs.Common.{◌≡◌, ◌≢◌, ◌⊎◌, ℕ, ◌+◌, ◌<◌, eqb, ltb, Bool, true, false, ◌||◌, List, [], ◌∷◌, ◌++◌, length, get_or, set, sym, refl, ap, ◌∙◌, subst, arith, length-append, eq-eqb, inl, inr, ⊎_elim, Option, Some, None}
 use Rattle.std.proofs.lemmas.Bool.{lt-ltb, le-ltb, ltb-true, eqb-true}
 use mathlib.Core.Option.{some}
 use mathlib.Core.Logic.{dite}
@@ -11,19 +11,19 @@ use Rattle.depot_rule.specs.declared.view.Entry.{Entry}
 use Rattle.depot_rule.specs.declared.view.Read.{Read}
 use Rattle.depot_rule.specs.Sums.{total, one_if, tally}
 use Rattle.depot_rule.specs.Tree.{IsTree, ancestors, Covers}
-use Rattle.depot_rule.specs.Shares.{Each, Has}
+use Rattle.depot_rule.specs.Shares.{Has}
 use Rattle.depot_rule.specs.Parcels.{takes}
 use Rattle.depot_rule.specs.Rule.{Base}
 use Rattle.depot_rule.specs.Seats.{if_less}
 use Rattle.depot_rule.specs.Machine.{IsLocal, Keeps}
-use Rattle.depot_rule.specs.History.{Behaviour, Current, History, covers, patched, listed, put_in, after, Legal, moved, chosen, AreHands, Ascends, StartsWith}
-use Rattle.depot_rule.proofs.Sums.{one-same, one-other, total-set, total-at, total-append, total-same, tally-append}
+use Rattle.depot_rule.specs.History.{Behaviour, Current, History, covers, patched, listed, put_in, after, Legal, chosen, AreHands, StartsWith}
+use Rattle.depot_rule.proofs.Sums.{one-same, one-other, total-set, total-at, total-append, tally-append}
 use Rattle.depot_rule.proofs.Trees.{above-smaller, covers-below}
-use Rattle.depot_rule.proofs.Views.{All, all-none, all-one, each-set, each-moved}
-use Rattle.depot_rule.proofs.Grants.{at-length, covers-one}
+use Rattle.depot_rule.proofs.Views.{all-one, each-set, each-moved}
+use Rattle.depot_rule.proofs.Grants.{covers-one}
 use Rattle.depot_rule.proofs.Histories.{after-snoc, legal-snoc, moved-snoc, starts-itself, starts-more}
 use Rattle.depot_rule.proofs.Current.{current-granted}
-use Rattle.depot_rule.proofs.Chosen.{chosen-within, chosen-snoc, moved-weigh, ascends-snoc}
+use Rattle.depot_rule.proofs.Chosen.{chosen-within, chosen-snoc, ascends-snoc}
 use Rattle.depot_rule.proofs.Remembering.{Own, HasHand}
 use Rattle.depot_rule.proofs.Hands.{other-hands}
 use Rattle.affinity.specs.declared.affinity.Kind.{Kind}

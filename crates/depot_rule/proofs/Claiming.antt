@@ -16,7 +16,7 @@ use Rattle.depot_rule.specs.Sums.{total, tally}
 use Rattle.depot_rule.specs.Tree.{ancestors, Covers, Excludes}
 use Rattle.depot_rule.specs.Shares.{exclusive, Has, claims, entered, shares, Shares}
 use Rattle.depot_rule.specs.Parcels.{takes, IsParcel, Carries}
-use Rattle.depot_rule.specs.Rule.{Base, Rule}
+use Rattle.depot_rule.specs.Rule.{Rule}
 use Rattle.depot_rule.specs.Plays.{Place, noted, ClaimSays, ReleaseSays}
 use Rattle.depot_rule.proofs.Views.{finds-own}
 use Rattle.depot_rule.proofs.Sums.{total-at}

@@ -1,5 +1,5 @@
 -- Parcels at home, and those that grants list, stay as the history left them.
-use Rattle.std.proofs.Common.{◌≡◌, ◌≢◌, ◌⊎◌, ℕ, ◌+◌, ◌<◌, eqb, List, [], ◌∷◌, length, get_or, set, sym, refl, ap, ◌∙◌, subst, arith, Option, Some, None, ⊎_elim}
+use Rattle.std.proofs.Common.{◌≡◌, ◌≢◌, ℕ, ◌+◌, ◌<◌, eqb, List, [], ◌∷◌, length, get_or, set, sym, refl, ap, ◌∙◌, subst, arith, Option, Some, None, ⊎_elim}
 use mathlib.Core.Option.{some}
 use mathlib.Core.Option as maybe
 use mathlib.Core.Logic.{dite}
@@ -11,7 +11,7 @@ use Rattle.depot_rule.specs.declared.view.View.{View}
 use Rattle.depot_rule.specs.declared.view.Read.{Read}
 use Rattle.depot_rule.specs.Sums.{total, one_if, tally}
 use Rattle.depot_rule.specs.Tree.{Covers}
-use Rattle.depot_rule.specs.Shares.{Each, Has}
+use Rattle.depot_rule.specs.Shares.{Has}
 use Rattle.depot_rule.specs.Parcels.{takes}
 use Rattle.depot_rule.specs.History.{Current}
 use Rattle.depot_rule.proofs.Sums.{total-set, total-at}

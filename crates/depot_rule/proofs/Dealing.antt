@@ -1,5 +1,5 @@
 -- Views that are dealt out anew: seats that meet, part and are joined keep the rule.
-use Rattle.std.proofs.Common.{◌≡◌, ◌≢◌, ℕ, zero, suc, ◌+◌, ◌%◌, ◌<◌, eqb, List, [], ◌∷◌, ◌++◌, map, length, replicate, set, sym, refl, ap, ◌∙◌, subst, arith, Option, None}
+use Rattle.std.proofs.Common.{◌≡◌, ◌≢◌, ℕ, ◌+◌, ◌%◌, ◌<◌, eqb, List, [], ◌∷◌, ◌++◌, length, replicate, set, sym, refl, ap, ◌∙◌, arith, Option, None}
 use mathlib.Core.Option.{some, some-injective, some-ne-none}
 use mathlib.Core.Option as maybe
 use lib.ListN.{get_elem?}
@@ -14,7 +14,7 @@ use Rattle.depot_rule.specs.Shares.{Each, parts, made, claims, entered, shares, 
 use Rattle.depot_rule.specs.Parcels.{takes, Carries}
 use Rattle.depot_rule.specs.Rule.{Rule}
 use Rattle.depot_rule.specs.Seats.{longer, having_seen, first_of, others_of}
-use Rattle.depot_rule.proofs.Sums.{one-other, total-set, total-append, total-map, over-none}
+use Rattle.depot_rule.proofs.Sums.{one-other, total-set, total-append, over-none}
 use Rattle.depot_rule.proofs.Views.{All, all-none, all-one, all-append, each-set, each-more}
 use Rattle.depot_rule.proofs.Current.{ListsCurrent}
 use Rattle.depot_rule.proofs.Remembering.{Own, HasHand, dealt}

@@ -1,9 +1,8 @@
 -- Histories as lists: what an entry more does.
-use Rattle.std.proofs.Common.{◌≡◌, ℕ, ◌+◌, ◌<◌, nat_lt, true, false, List, [], ◌∷◌, ◌++◌, length, sym, refl, ap, ◌∙◌, subst, arith, append_assoc, Option, Some, None}
+use Rattle.std.proofs.Common.{◌≡◌, ℕ, ◌+◌, List, [], ◌∷◌, ◌++◌, sym, refl, ap, ◌∙◌, arith, append_assoc, Option}
 use Rattle.depot_rule.specs.declared.view.Entry.{Entry}
-use Rattle.depot_rule.specs.Sums.{total, one_if, tally}
-use Rattle.depot_rule.specs.Tree.{Covers}
-use Rattle.depot_rule.specs.History.{patched, listed, put_in, after, Legal, moved, StartsWith, or_nothing, chosen}
+use Rattle.depot_rule.specs.Sums.{total}
+use Rattle.depot_rule.specs.History.{put_in, after, Legal, moved, StartsWith}
 use Rattle.depot_rule.proofs.Sums.{total-append}
 
 module _ {P C R : Type 0} where

@@ -11,8 +11,8 @@ use Rattle.depot_rule.specs.declared.view.Entry.{Entry}
 use Rattle.depot_rule.specs.History.{Behaviour}
 use Rattle.depot_rule.specs.Sums.{one_if, tally, over_taken}
 use Rattle.depot_rule.specs.Tree.{ancestors, Covers}
-use Rattle.depot_rule.specs.Shares.{claims, lower, entered, shares, IsSound}
-use Rattle.depot_rule.specs.Parcels.{takes, Carries}
+use Rattle.depot_rule.specs.Shares.{claims, lower, entered, shares}
+use Rattle.depot_rule.specs.Parcels.{takes}
 use Rattle.depot_rule.specs.Rule.{Rule}
 use Rattle.depot_rule.specs.Seats.{if_less, put_among, in_order, both_held, merge, fresh, merged, parted, fresh_of, view_of}
 use Rattle.depot_rule.proofs.Sums.{one-other, tally-append}

@@ -10,7 +10,7 @@ use Rattle.depot_rule.specs.declared.view.Read.{Read}
 use Rattle.depot_rule.specs.History.{Behaviour, StartsWith}
 use Rattle.depot_rule.specs.Sums.{total}
 use Rattle.depot_rule.specs.Shares.{parts, made, claims, entered, shares, IsSound, Shares}
-use Rattle.depot_rule.specs.Rule.{Base, Rule}
+use Rattle.depot_rule.specs.Rule.{Rule}
 use Rattle.depot_rule.specs.Plays.{Place, LookSays, AlikeSays}
 use Rattle.depot_rule.proofs.Sums.{total-set, total-at}
 use Rattle.depot_rule.proofs.Views.{all-one, each-set, only-view}

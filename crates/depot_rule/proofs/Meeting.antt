@@ -1,5 +1,5 @@
 -- What two seats have seen, and their entries, where they meet or are joined.
-use Rattle.std.proofs.Common.{◌≡◌, ◌≢◌, ◌⊎◌, ℕ, zero, suc, ◌+◌, ◌<◌, ◌≤◌, ltb, Bool, true, false, List, [], ◌∷◌, ◌++◌, length, sym, refl, ap, ◌∙◌, subst, arith, length-append, inl, inr, ⊎_elim, Option}
+use Rattle.std.proofs.Common.{◌≡◌, ◌≢◌, ℕ, ◌+◌, ◌<◌, ◌≤◌, ltb, Bool, true, false, List, [], ◌∷◌, ◌++◌, length, sym, refl, ap, ◌∙◌, subst, arith, Option}
 use Rattle.std.proofs.lemmas.Bool.{ltb-true, ltb-false}
 use mathlib.Core.Option.{some}
 use mathlib.Core.Logic.{dite}
@@ -8,9 +8,9 @@ use lib.ListN.{get_elem?}
 use Rattle.atomic_table.specs.Table.{State}
 use Rattle.depot_rule.specs.declared.view.View.{View}
 use Rattle.depot_rule.specs.declared.view.Entry.{Entry}
-use Rattle.depot_rule.specs.Sums.{total, one_if, tally}
+use Rattle.depot_rule.specs.Sums.{total, tally}
 use Rattle.depot_rule.specs.Seats.{if_less, longer, in_order, having_seen, merge}
-use Rattle.depot_rule.specs.History.{Behaviour, History, moved, chosen, AreHands, StartsWith}
+use Rattle.depot_rule.specs.History.{Behaviour, History, chosen, AreHands, StartsWith}
 use Rattle.depot_rule.proofs.Sums.{one-most, total-two, total-append}
 use Rattle.depot_rule.proofs.Chosen.{chosen-within, weigh-in-order, moved-weigh, tally-in-order, ascends-in-order}
 use Rattle.depot_rule.proofs.Remembering.{Own, HasHand}

@@ -1,5 +1,5 @@
 -- The only seat has seen the whole history, and made each entry of it.
-use Rattle.std.proofs.Common.{◌≡◌, ℕ, zero, suc, ◌+◌, ◌<◌, ◌≤◌, ltb, List, [], ◌∷◌, ◌++◌, length, sym, refl, ap, ◌∙◌, arith, length-append, Option}
+use Rattle.std.proofs.Common.{◌≡◌, ℕ, ◌<◌, ◌≤◌, ltb, List, [], ◌∷◌, ◌++◌, length, sym, refl, ap, ◌∙◌, arith, length-append, Option}
 use Rattle.std.proofs.lemmas.Bool.{lt-ltb}
 use mathlib.Core.Option.{some}
 use native.Mathlib.Decide.{dec_lt}
@@ -10,7 +10,7 @@ use Rattle.depot_rule.specs.declared.view.View.{View}
 use Rattle.depot_rule.specs.declared.view.Entry.{Entry}
 use Rattle.depot_rule.specs.Sums.{one_if, tally}
 use Rattle.depot_rule.specs.Rule.{Base}
-use Rattle.depot_rule.specs.History.{Behaviour, History, StartsWith}
+use Rattle.depot_rule.specs.History.{Behaviour, History}
 use Rattle.depot_rule.proofs.Views.{only-view}
 use Rattle.affinity.specs.declared.affinity.Kind.{Kind}
 
