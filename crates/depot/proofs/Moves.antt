@@ -3,7 +3,6 @@ use Rattle.std.proofs.Common.{◌≡◌, ◌≢◌, ℕ, ◌<◌, ◌≤◌, ◌
 use mathlib.Core.Option.{some}
 use Rattle.depot_rule.specs.declared.view.View.{View}
 use Rattle.depot_rule.specs.declared.view.Read.{Read}
-use Rattle.depot_rule.specs.declared.view.Entry.{Entry}
 use Rattle.depot_rule.specs.Sums.{tally, one_if}
 use Rattle.depot_rule.specs.Tree.{IsTree, ancestors, Excludes}
 use Rattle.depot_rule.specs.Shares.{exclusive, shares, grant_shares, Has}

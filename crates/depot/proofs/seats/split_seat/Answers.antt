@@ -1,5 +1,4 @@
 use Rattle.std.proofs.Common.{rules, arith, ◌≡◌, ◌+◌, length, sym, ap, ◌∙◌, subst}
-use Rattle.depot_rule.specs.declared.view.Entry.{Entry}
 use Rattle.depot_rule.specs.History.{behaviour}
 use Rattle.depot_rule.specs.Seats.{fresh, view_of}
 use Rattle.depot_rule.proofs.Joining.{splits-seat}

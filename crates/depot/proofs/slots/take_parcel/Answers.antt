@@ -1,6 +1,5 @@
 use Rattle.std.proofs.Common.{rules, arith, ◌<◌, ◌∷◌, ℕ, List, length, get_or, Option, None, sym, ap, refl, ◌∙◌, subst}
 use Rattle.atomic_table.specs.Table.{rest}
-use Rattle.depot_rule.specs.declared.view.Entry.{Entry}
 use Rattle.depot_rule.specs.History.{behaviour}
 use Rattle.depot_rule.specs.Tree.{Covers}
 use Rattle.depot_rule.specs.Seats.{view_of}

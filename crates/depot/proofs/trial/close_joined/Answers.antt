@@ -1,4 +1,4 @@
-use Rattle.std.proofs.Common.{◌≡◌, ◌+◌, ◌∙◌, sym, subst}
+use Rattle.std.proofs.Common.{◌+◌, ◌∙◌, sym, subst}
 use Rattle.nfs_model.specs.Tree.{Serial}
 use Rattle.affinity.specs.Layout.{layout_of}
 use Rattle.affinity.specs.Numbers.{parents, node_count}

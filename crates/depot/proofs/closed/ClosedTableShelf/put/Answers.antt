@@ -1,4 +1,4 @@
-use Rattle.std.proofs.Common.{rules, arith, ◌≡◌, ◌<◌, ℕ, Bool, List, Option, length, slice_index_or, true, false, refl, sym, ap, ◌∙◌, subst, Some, None}
+use Rattle.std.proofs.Common.{rules, arith, ◌≡◌, ◌<◌, ℕ, Bool, List, Option, slice_index_or, true, false, sym, ap, ◌∙◌, subst, None}
 use mathlib.Core.Option.{some}
 use lib.ListN.{get_elem?}
 use Rattle.std.specs.Mem.Slots.{slots_items, slots_filled, slots_len}
