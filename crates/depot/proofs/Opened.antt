@@ -9,7 +9,7 @@ use Rattle.depot_rule.specs.Shares.{Has, opening_view}
 use Rattle.depot_rule.specs.Rule.{Rule}
 use Rattle.depot_rule.specs.declared.view.Entry.{Entry}
 use Rattle.depot_rule.specs.Sums.{one_if, tally}
-use Rattle.depot_rule.specs.History.{Behaviour, IsWhole, listed, after}
+use Rattle.depot_rule.specs.History.{Behaviour, IsHistory, listed, after}
 use Rattle.depot_rule.specs.Parcels.{IsParcel}
 use Rattle.depot_rule.specs.Seats.{view_of}
 use Rattle.depot_rule.proofs.Opening.{opens-whole, closes, closes-history}
@@ -22,7 +22,7 @@ use Rattle.depot.proofs.Moves.{placed-one}
 pub record Whole {P C R B : Type 0} (kind_of : P → Kind) (m : Behaviour P C R B) (ps : List ℕ) (v : View P (Entry P C R)) (xs : List (Option P)) : Type 0 where
   pub size : length xs ≡ length ps
   pub filled : (k : ℕ) → 0 < k → k < length ps → (y : Option P) × (get_elem? xs k ≡ some y) × IsParcel kind_of v.first k y
-  pub history : IsWhole m v.tree v.first v v.seen
+  pub history : IsHistory m v.tree v.first v v.seen
   pub entries : (p : ℕ) → tally p v.mine ≡ one_if (ltb p (length v.seen))
   pub left : (k : ℕ) → 0 < k → k < length ps → get_elem? xs k ≡ some (after v.tree (listed v.first) v.seen k)
 
@@ -53,7 +53,7 @@ module _ (P C R B : Type 0) (kind_of : P → Kind) (m : Behaviour P C R B) where
         size = sym end.3 ∙ r.parcels.slots;
         filled = λ k pk lk. let home = closes P E kind_of ps first end.0 r id (view_of vs) at all none_open k pk lk in
             (home.0, end.4 k home.0 home.1, subst (λ (l : List (Option P)). IsParcel kind_of l k home.0) (sym mine.opened) home.2);
-        history = subst (λ (x : List ℕ × List (Option P)). IsWhole m x.0 x.1 (view_of vs) (view_of vs).seen) (λ i. (sym so.tree i, sym mine.opened i)) history.0;
+        history = subst (λ (x : List ℕ × List (Option P)). IsHistory m x.0 x.1 (view_of vs) (view_of vs).seen) (λ i. (sym so.tree i, sym mine.opened i)) history.0;
         entries = history.1;
         left = λ k pk lk. end.4 k (after ps (listed first) (view_of vs).seen k) (history.2 k pk lk)
             ∙ ap (λ (x : List ℕ × List (Option P)). some (after x.0 (listed x.1) (view_of vs).seen k)) (λ i. (sym so.tree i, sym mine.opened i));

@@ -12,7 +12,7 @@ use Rattle.depot_rule.specs.declared.view.Read.{Read}
 use Rattle.depot_rule.specs.declared.view.Entry.{Entry}
 use Rattle.depot_rule.specs.Sums.{total, one_if, tally}
 use Rattle.depot_rule.specs.Tree.{Covers}
-use Rattle.depot_rule.specs.History.{Behaviour, IsWhole, AreHands, entries_of, listed, after}
+use Rattle.depot_rule.specs.History.{Behaviour, IsHistory, AreHands, entries_of, listed, after}
 use Rattle.depot_rule.specs.Shares.{made, Has}
 use Rattle.depot_rule.specs.Plays.{IsOnly, HasAdded}
 use Rattle.depot.specs.Kinds.{AreOfKind}
@@ -82,7 +82,7 @@ module _ {P E : Type 0} where
 module _ {P C R B : Type 0} (m : Behaviour P C R B) where
   -- the parcels f of the nodes that b covers are as a whole history left them. For the only seat it is what it has seen
   abbrev pub IsAfter : View P (Entry P C R) → ℕ → (ℕ → Option P) → Type 0
-  IsAfter v b f = (log : List (Entry P C R)) × IsWhole m v.tree v.first v log × (IsOnly v → log ≡ v.seen)
+  IsAfter v b f = (log : List (Entry P C R)) × IsHistory m v.tree v.first v log × (IsOnly v → log ≡ v.seen)
       × ((k : ℕ) → 0 < k → k < length v.tree → Covers v.tree b k → f k ≡ after v.tree (listed v.first) log k)
 
   -- the call is a step of the machine's, from the parcels of the seat's grant of b to g
@@ -108,6 +108,6 @@ module _ {P C R B : Type 0} (m : Behaviour P C R B) where
 
   -- the history of the only seat, at the end: it is whole, each entry of it is the seat's, and the parcels f are as it left them
   abbrev pub IsClosed : View P (Entry P C R) → (ℕ → Option P) → Type 0
-  IsClosed v f = IsWhole m v.tree v.first v v.seen
+  IsClosed v f = IsHistory m v.tree v.first v v.seen
       × ((p : ℕ) → tally p v.mine ≡ one_if (nat_lt p (length v.seen)))
       × ((k : ℕ) → 0 < k → k < length v.tree → f k ≡ after v.tree (listed v.first) v.seen k)

@@ -16,7 +16,7 @@ use Rattle.depot_rule.specs.Parcels.{takes}
 use Rattle.depot_rule.specs.Rule.{Base}
 use Rattle.depot_rule.specs.Seats.{if_less}
 use Rattle.depot_rule.specs.Machine.{IsLocal, Keeps}
-use Rattle.depot_rule.specs.History.{Behaviour, Current, History, covers, patched, listed, put_in, after, Legal, chosen, AreHands, StartsWith}
+use Rattle.depot_rule.specs.History.{Behaviour, Current, History, covers, patched, listed, put_in, after, Legal, SoundThroughout, chosen, AreHands, StartsWith}
 use Rattle.depot_rule.proofs.Sums.{one-same, one-other, total-set, total-at, total-append, tally-append}
 use Rattle.depot_rule.proofs.Trees.{above-smaller, covers-below}
 use Rattle.depot_rule.proofs.Views.{all-one, each-set, each-moved}
@@ -59,6 +59,20 @@ if-less false x y e = absurd cc
 if-others : {A : Type 0} (b : Bool) (x y z : A) → (b ≡ true → x ≡ z) → (b ≡ false → y ≡ z) → if_less b x y ≡ z
 if-others true x y z e f = e refl
 if-others false x y z e f = f refl
+
+-- a beginning of a list and one more is the whole, or a beginning of the list
+last-or-before : {A : Type 0} (xs ys zs : List A) (z : A) → xs ++ ys ≡ zs ++ z ∷ [] → (xs ≡ zs ++ z ∷ []) ⊎ ((more : List A) × (xs ++ more ≡ zs))
+last-or-before [] ys zs z e = inr (zs, refl)
+last-or-before (x ∷ xs) ys [] z e = inl (let none : xs ++ ys ≡ [] = cc in let first : x ≡ z = cc in λ i. first i ∷ nothing xs ys none i)
+  where
+    nothing : {A : Type 0} (us vs : List A) → us ++ vs ≡ [] → us ≡ []
+    nothing [] vs n = refl
+    nothing (u ∷ us) vs n = absurd cc
+last-or-before (x ∷ xs) ys (w ∷ zs) z e =
+    let first : x ≡ w = cc in let further : xs ++ ys ≡ zs ++ z ∷ [] = cc in ⊎_elim
+    (λ (t : xs ≡ zs ++ z ∷ []). inl (λ i. first i ∷ t i))
+    (λ (t : (more : List _) × (xs ++ more ≡ zs)). inr (t.0, λ i. first i ∷ t.1 i))
+    (last-or-before xs ys zs z further)
 
 module _ {P : Type 0} where
   -- what is patched in, and what stays outside
@@ -180,6 +194,19 @@ module _ (P C R B : Type 0) (kind_of : P → Kind) (m : Behaviour P C R B) where
     pub stamp-legal : Legal m.steps ps (listed first) log
     stamp-legal = legal-snoc m.steps ps (listed first) h.log e h.legal stepped
 
+    sound_now : m.invariant ps (after ps (listed first) log) hands (length log)
+    sound_now = subst (λ (x : (ℕ → Option P) × ℕ). m.invariant ps x.0 hands x.1) (λ i. (sym (after-snoc ps (listed first) h.log e) i, sym longer i))
+        (keeps ps e.node e.call F e.reply (put_in ps e F) h.hands hands (length h.log) h.sound stepped balance)
+
+    hands_now : AreHands m.takes m.gives log hands
+    hands_now weigh = let a = moved-snoc m.gives weigh h.log e in let b = moved-snoc m.takes weigh h.log e in let c = balance weigh in let q = h.all_hands weigh in omega arith
+
+    pub stamp-throughout : SoundThroughout m ps (listed first) log
+    stamp-throughout earlier later is = ⊎_elim
+        (λ (t : earlier ≡ log). subst (λ (l : List E). (some_hands : List B) × AreHands m.takes m.gives l some_hands × m.invariant ps (after ps (listed first) l) some_hands (length l)) (sym t) (hands, hands_now, sound_now))
+        (λ (t : (more : List E) × (earlier ++ more ≡ h.log)). h.throughout earlier t.0 t.1)
+        (last-or-before earlier later h.log e is)
+
     pub stamp-remembers : History m ps first record { words = words; homes = s.homes; views = set s.views id (stamped ∷ []) }
     stamp-remembers = record {
       log = log;
@@ -203,7 +230,7 @@ module _ (P C R B : Type 0) (kind_of : P → Kind) (m : Behaviour P C R B) where
             let c = change weigh in let i = mine weigh in omega arith),
       ));
       hands = hands;
-      all_hands = λ weigh. let a = moved-snoc m.gives weigh h.log e in let b = moved-snoc m.takes weigh h.log e in let c = balance weigh in let q = h.all_hands weigh in omega arith;
-      sound = subst (λ (x : (ℕ → Option P) × ℕ). m.invariant ps x.0 hands x.1) (λ i. (sym (after-snoc ps (listed first) h.log e) i, sym longer i))
-          (keeps ps e.node e.call F e.reply (put_in ps e F) h.hands hands (length h.log) h.sound stepped balance);
+      all_hands = hands_now;
+      sound = sound_now;
+      throughout = stamp-throughout;
     }

@@ -11,7 +11,7 @@ use Rattle.atomic_table.proofs.Lists.{at_set, set_else}
 use Rattle.depot_rule.specs.declared.view.View.{View}
 use Rattle.depot_rule.specs.declared.view.Entry.{Entry}
 use Rattle.depot_rule.specs.declared.view.Read.{Read}
-use Rattle.depot_rule.specs.History.{Behaviour, IsWhole, listed, after}
+use Rattle.depot_rule.specs.History.{Behaviour, IsHistory, listed, after}
 use Rattle.depot_rule.specs.Sums.{total, tally}
 use Rattle.depot_rule.specs.Tree.{ancestors, Covers, Excludes}
 use Rattle.depot_rule.specs.Shares.{exclusive, Has, claims, entered, shares, Shares}
@@ -29,7 +29,7 @@ use Rattle.depot_rule.proofs.Following.{are-apart}
 use Rattle.depot_rule.proofs.Places.{on-one}
 use Rattle.depot_rule.proofs.Current.{current-stays, current-granted}
 use Rattle.depot_rule.proofs.Remembering.{remembers, still}
-use Rattle.depot_rule.proofs.Hands.{is-whole}
+use Rattle.depot_rule.proofs.Hands.{is-history}
 use Rattle.depot_rule.proofs.Whole.{only-log}
 use Rattle.affinity.specs.declared.affinity.Kind.{Kind}
 
@@ -139,7 +139,7 @@ module _ (P C R B : Type 0) (kind_of : P → Kind) (m : Behaviour P C R B) where
               kept.0,
               (
                 h.log,
-                subst (λ (z : List ℕ × List (Option P)). IsWhole m z.0 z.1 v h.log) (λ i. (sym so.tree i, sym ca.opened i)) (is-whole P C R B m ps first s h id v at),
+                subst (λ (z : List ℕ × List (Option P)). IsHistory m z.0 z.1 v h.log) (λ i. (sym so.tree i, sym ca.opened i)) (is-history P C R B m ps first s h id v at),
                 (λ all_parts. only-log P C R B kind_of m ps first s r h id v at all_parts),
                 (λ k pk lk ck.
                     lists k pk (subst (λ (t : List ℕ). k < length t) so.tree lk) (subst (λ (t : List ℕ). Covers t b k) so.tree ck)

@@ -1,15 +1,16 @@
 -- The ticket counts the entries of the one history.
-use Rattle.std.proofs.Common.{◌≡◌, ℕ, zero, suc, ◌%◌, ◌<◌, List, [], ◌∷◌, length, refl, ap, ◌∙◌, arith, Some}
+use Rattle.std.proofs.Common.{◌≡◌, ℕ, zero, suc, ◌%◌, ◌<◌, ltb, List, [], ◌∷◌, length, refl, ap, ◌∙◌, arith, Some}
 use Rattle.std.specs.Prelude.{slice_get}
 use mathlib.Core.Option.{some}
 use lib.ListN.{get_elem?}
 use Rattle.depot_rule.specs.declared.view.View.{View}
 use Rattle.depot_rule.specs.declared.view.Entry.{Entry}
-use Rattle.depot_rule.specs.Sums.{total, tally}
+use Rattle.depot_rule.specs.Sums.{total, one_if, tally}
 use Rattle.depot_rule.specs.Shares.{Each, made}
 use Rattle.depot_rule.specs.History.{Behaviour, or_nothing, chosen}
-use Rattle.depot_rule.specs.Laws.{HistoryIsOne}
+use Rattle.depot_rule.specs.Laws.{HistoryIsOne, OnlySeatHasAll}
 use Rattle.depot_rule.proofs.Sums.{one-same}
+use Rattle.depot_rule.proofs.Whole.{only-mine, only-log}
 use Rattle.affinity.specs.declared.affinity.Kind.{Kind}
 
 total-ones : {A : Type 0} (xs : List A) → total (λ x. 1) xs ≡ length xs
@@ -45,14 +46,9 @@ is-one P C R B kind_of m ps first s r =
     let each = total-each (λ (v : View P (Entry P C R)). total (λ x. 1) (chosen v.seen v.mine)) (λ (v : View P (Entry P C R)). length v.mine) s.views
     (λ j vs at i v in_vs. chosen-ones v.seen v.mine (h.own j vs at i v in_vs).1) in
     let ones = h.shared (λ x. 1) in let all = total-ones h.log in
-    let count : total (total made) s.views ≡ length h.log = omega arith in (
-      h.log,
-      h.hands,
-      h.legal,
-      r.base.shares.ticket ∙ ap (λ n. n % 18446744073709551616) count,
-      h.seen,
-      h.mine,
-      h.all_hands,
-      h.sound,
-      h.current.now,
-    )
+    let count : total (total made) s.views ≡ length h.log = omega arith in (h, r.base.shares.ticket ∙ ap (λ n. n % 18446744073709551616) count)
+
+pub has-all : (P C R B : Type 0) (kind_of : P → Kind) (m : Behaviour P C R B) → OnlySeatHasAll kind_of m
+has-all P C R B kind_of m ps first s r id v at all =
+    let log = only-log P C R B kind_of m ps first s r.base r.history id v at all in
+    (log, λ p. only-mine P C R B kind_of m ps first s r.base r.history id v at all p ∙ ap (λ (l : List (Entry P C R)). one_if (ltb p (length l))) log)

@@ -7,7 +7,7 @@ use Rattle.depot_rule.specs.declared.view.View.{View}
 use Rattle.depot_rule.specs.declared.view.Entry.{Entry}
 use Rattle.depot_rule.specs.Sums.{total}
 use Rattle.depot_rule.specs.Shares.{Each}
-use Rattle.depot_rule.specs.History.{Behaviour, History, IsWhole, moved, chosen, AreHands}
+use Rattle.depot_rule.specs.History.{Behaviour, History, IsHistory, moved, chosen, AreHands}
 use Rattle.depot_rule.proofs.Sums.{total-set, total-append, total-same}
 use Rattle.depot_rule.proofs.Views.{All, all-none, each-set}
 use Rattle.depot_rule.proofs.Chosen.{moved-weigh}
@@ -57,14 +57,15 @@ module _ (P C R B : Type 0) (m : Behaviour P C R B) (ps : List ℕ) (first : Lis
       )
 
   -- the history is a whole one for each seat
-  pub is-whole : (s : State (Option P) (List (View P E))) (h : History m ps first s) (id : ℕ) (v : View P E) → get_elem? s.views id ≡ some (v ∷ []) → IsWhole m ps first v h.log
-  is-whole s h id v at =
+  pub is-history : (s : State (Option P) (List (View P E))) (h : History m ps first s) (id : ℕ) (v : View P E) → get_elem? s.views id ≡ some (v ∷ []) → IsHistory m ps first v h.log
+  is-history s h id v at =
       let own = h.hand id (v ∷ []) at 0 v refl in let others = other-hands s h id v at own.0 own.1 in record {
         begins = h.seen id (v ∷ []) at 0 v refl;
         legal = h.legal;
         hands = h.hands;
         all_hands = h.all_hands;
         sound = h.sound;
+        throughout = h.throughout;
         hand = own.0;
         own_hand = own.1;
         others = others.0;

@@ -82,7 +82,7 @@ module _ (P C R B : Type 0) (kind_of : P → Kind) (m : Behaviour P C R B) where
           };
           history = still P C R B m ps first s whole.history _ id v v.path v.unsure rs at;
         },
-        (on-one _ me.0 v one (refl, λ all. r.shares.ticket ∙ ap (λ n. n % 18446744073709551616) (only-view P E ps s.words s.views r.shares id v at all made)), refl),
+        (on-one _ me.0 v one (refl, refl, λ all. r.shares.ticket ∙ ap (λ n. n % 18446744073709551616) (only-view P E ps s.words s.views r.shares id v at all made)), refl),
       )
 
   -- two seats that met are of the table's tree

@@ -1,5 +1,5 @@
 -- The beginning and the end of a depot.
-use Rattle.std.proofs.Common.{◌≡◌, ℕ, zero, suc, ◌<◌, ◌≤◌, ltb, List, [], ◌∷◌, map, length, replicate, get_or, sym, refl, ap, ◌∙◌, subst, arith, Option, Some, None}
+use Rattle.std.proofs.Common.{◌≡◌, ℕ, zero, suc, ◌<◌, ◌≤◌, ltb, List, [], ◌∷◌, ◌++◌, map, length, replicate, get_or, sym, refl, ap, ◌∙◌, subst, arith, Option, Some, None}
 use Rattle.std.proofs.lemmas.List.{length-replicate}
 use Rattle.std.proofs.lemmas.Bool.{le-ltb}
 use mathlib.Core.Option.{some, some-injective, some-ne-none}
@@ -9,7 +9,7 @@ use Rattle.depot_rule.specs.declared.view.View.{View}
 use Rattle.depot_rule.specs.declared.view.Entry.{Entry}
 use Rattle.depot_rule.specs.Sums.{one_if, tally}
 use Rattle.depot_rule.specs.Tree.{IsTree}
-use Rattle.depot_rule.specs.History.{Behaviour, IsWhole, StartsWith, listed, after}
+use Rattle.depot_rule.specs.History.{Behaviour, IsHistory, StartsWith, AreHands, listed, after}
 use Rattle.depot_rule.specs.Shares.{opening_view, claims, entered, shares, IsSound}
 use Rattle.depot_rule.specs.Parcels.{takes, IsParcel, Carries}
 use Rattle.depot_rule.specs.Rule.{Base, Rule}
@@ -18,7 +18,7 @@ use Rattle.depot_rule.proofs.Dealing.{bare-counts}
 use Rattle.depot_rule.proofs.Joining.{none-held}
 use Rattle.depot_rule.proofs.Current.{ListsCurrent}
 use Rattle.depot_rule.proofs.Remembering.{Own, HasHand}
-use Rattle.depot_rule.proofs.Hands.{is-whole}
+use Rattle.depot_rule.proofs.Hands.{is-history}
 use Rattle.depot_rule.proofs.Whole.{only-mine, only-log}
 use Rattle.affinity.specs.declared.affinity.Kind.{Kind}
 
@@ -39,6 +39,10 @@ length-map f (x ∷ xs) = let r = length-map f xs in omega arith
 each-one : {V : Type 0} (Q : V → Type 0) (v : V) → Q v → (j : ℕ) (vs : List V) → get_elem? ((v ∷ []) ∷ []) j ≡ some vs → (i : ℕ) (u : V) → get_elem? vs i ≡ some u → Q u
 each-one Q v q zero vs e = subst (λ (zs : List _). (i : ℕ) (u : _) → get_elem? zs i ≡ some u → Q u) (some-injective (v ∷ []) vs e) (all-one Q v q)
 each-one Q v q (suc j) vs e = absurd (some-ne-none vs (sym e))
+
+none-before : {A : Type 0} (xs ys : List A) → xs ++ ys ≡ [] → xs ≡ []
+none-before [] ys e = refl
+none-before (x ∷ xs) ys e = absurd cc
 
 none-then : (n : ℕ) → (0 < n → ⊥) → n ≡ 0
 none-then zero z = refl
@@ -114,16 +118,17 @@ module _ (P C R B : Type 0) (kind_of : P → Kind) (m : Behaviour P C R B) where
           hands = [];
           all_hands = λ weigh. refl;
           sound = sound;
+          throughout = λ earlier later e. subst (λ (l : List E). (hands : List B) × AreHands m.takes m.gives l hands × m.invariant ps (after ps (listed first) l) hands (length l)) (sym (none-before earlier later e)) ([], (λ weigh. refl), sound);
         };
       }
 
   -- the only seat, which has no grant: all parcels are at home as its history left them, and that history is the whole one, each entry of it the seat's
   pub closes-history : (ps : List ℕ) (first : List (Option P)) (s : State (Option P) (List (View P E))) (r : Rule kind_of m ps first s) (id : ℕ) (v : View P E) → get_elem? s.views id ≡ some (v ∷ []) → v.parts ≡ 64
       → ((b : ℕ) (g : List (Option P)) → get_elem? v.held b ≡ some (Some g) → ⊥)
-      → IsWhole m ps first v v.seen × ((p : ℕ) → tally p v.mine ≡ one_if (ltb p (length v.seen))) × ((k : ℕ) → 0 < k → k < length ps → get_elem? s.homes k ≡ some (some (after ps (listed first) v.seen k)))
+      → IsHistory m ps first v v.seen × ((p : ℕ) → tally p v.mine ≡ one_if (ltb p (length v.seen))) × ((k : ℕ) → 0 < k → k < length ps → get_elem? s.homes k ≡ some (some (after ps (listed first) v.seen k)))
   closes-history ps first s r id v at all none_open =
       let log = only-log P C R B kind_of m ps first s r.base r.history id v at all in (
-        subst (λ (l : List E). IsWhole m ps first v l) log (is-whole P C R B m ps first s r.history id v at),
+        subst (λ (l : List E). IsHistory m ps first v l) log (is-history P C R B m ps first s r.history id v at),
         (λ p. only-mine P C R B kind_of m ps first s r.base r.history id v at all p ∙ ap (λ (l : List E). one_if (ltb p (length l))) log),
         (λ k pk lk.
             let ca = r.base.parcels.carries id (v ∷ []) at 0 v refl in

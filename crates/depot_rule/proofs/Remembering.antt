@@ -48,6 +48,7 @@ module _ (P C R B : Type 0) (m : Behaviour P C R B) (ps : List ℕ) (first : Lis
         hands = h.hands;
         all_hands = h.all_hands;
         sound = h.sound;
+        throughout = h.throughout;
       }
 
   -- views that are dealt out anew
@@ -72,6 +73,7 @@ module _ (P C R B : Type 0) (m : Behaviour P C R B) (ps : List ℕ) (first : Lis
     hands = h.hands;
     all_hands = h.all_hands;
     sound = h.sound;
+    throughout = h.throughout;
   }
 
   -- no grant and no slot changes

@@ -15,14 +15,14 @@ use Rattle.depot_rule.specs.Shares.{Has, made, claims, lower}
 use Rattle.depot_rule.specs.Parcels.{takes, IsParcel}
 use Rattle.depot_rule.specs.Rule.{Base, Rule}
 use Rattle.depot_rule.specs.Machine.{IsLocal, Keeps}
-use Rattle.depot_rule.specs.History.{Behaviour, Legal, listed, chosen, AreHands}
+use Rattle.depot_rule.specs.History.{Behaviour, Legal, SoundThroughout, listed, chosen, AreHands}
 use Rattle.depot_rule.specs.Plays.{Place, StampSays}
 use Rattle.depot_rule.proofs.Sums.{total-set, over-other}
 use Rattle.depot_rule.proofs.Grants.{at-length}
 use Rattle.depot_rule.proofs.Parcels.{stay-keeps}
 use Rattle.depot_rule.proofs.Looking.{ticket-keeps}
 use Rattle.depot_rule.proofs.Places.{on-one}
-use Rattle.depot_rule.proofs.Adding.{chosen_now, stamp-remembers, stamp-legal}
+use Rattle.depot_rule.proofs.Adding.{chosen_now, stamp-remembers, stamp-legal, stamp-throughout}
 use Rattle.depot_rule.proofs.Whole.{only-log, nothing-more}
 use Rattle.affinity.specs.declared.affinity.Kind.{Kind}
 
@@ -115,6 +115,8 @@ module _ (P C R B : Type 0) (kind_of : P → Kind) (m : Behaviour P C R B) where
             ap (λ (l : List E). let z : View P E = record v { held = set v.held e.node (Some e.left); reads = rs; seen = l ++ e ∷ []; mine = v.mine ++ length l ∷ [] } in z ∷ []) (sym seen.1),
             (
               subst (λ (z : List ℕ × List (Option P) × List E). Legal m.steps z.0 (listed z.1) (z.2 ++ e ∷ [])) (λ i. (sym so.tree i, sym ca.opened i, sym seen.1 i)) (stamp-legal P C R B kind_of m local steady ps first s r h id v at e g here once f f' step_of before left own own' mine change s.words rs),
+              subst (λ (z : List ℕ × List (Option P) × List E). SoundThroughout m z.0 (listed z.1) (z.2 ++ e ∷ [])) (λ i. (sym so.tree i, sym ca.opened i, sym seen.1 i))
+                  (stamp-throughout P C R B kind_of m local steady ps first s r h id v at e g here once f f' step_of before left own own' mine change s.words rs),
               ap (λ (l : List E). chosen (l ++ e ∷ []) (v.mine ++ length l ∷ [])) seen.1 ∙ chosen_now P C R B kind_of m local steady ps first s r h id v at e g here once f f' step_of before left own own' mine change s.words rs,
               (λ all_parts. nothing-more v.seen seen.0 (seen.1 ∙ only-log P C R B kind_of m ps first s r h id v at all_parts)),
             ),

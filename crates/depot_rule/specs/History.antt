@@ -80,6 +80,11 @@ module _ {P C R : Type 0} where
   abbrev pub AreHands : {B : Type 0} → (C → R → List B) → (C → R → List B) → List (Entry P C R) → List B → Type 0
   AreHands takes gives es hands = (weigh : _ → ℕ) → total weigh (moved gives es) + total weigh hands ≡ total weigh (moved takes es)
 
+  -- at each place of the log, what has to hold of all parcels as the entries before it left them, and of all hands
+  abbrev pub SoundThroughout : {B : Type 0} → Behaviour P C R B → List ℕ → (ℕ → Option P) → List (Entry P C R) → Type 0
+  SoundThroughout m parents f log = (earlier later : List (Entry P C R)) → earlier ++ later ≡ log
+      → (hands : List _) × AreHands m.takes m.gives earlier hands × m.invariant parents (after parents f earlier) hands (length earlier)
+
   -- the third pass: of the whole state, for a machine
   pub record History {B : Type 0} (m : Behaviour P C R B) (parents : List ℕ) (first : List (Option P)) (s : State (Option P) (List (View P (Entry P C R)))) : Type 0 where
     pub log : List (Entry P C R)
@@ -87,8 +92,9 @@ module _ {P C R : Type 0} where
     pub current : Current parents (after parents (listed first) log) s
     -- each seat has seen a beginning
     pub seen : Each (λ (v : View P (Entry P C R)). StartsWith log v.seen) s.views
-    -- each entry is one seat's, who has seen it
+    -- each entry is one seat's
     pub mine : (p : ℕ) → total (total (λ (v : View P (Entry P C R)). tally p v.mine)) s.views ≡ one_if (nat_lt p (length log))
+    -- who has seen it, and has its places in order
     pub own : Each (λ (v : View P (Entry P C R)). Ascends v.mine × ((p : ℕ) → 0 < tally p v.mine → p < length v.seen)) s.views
     -- the entries of all seats are those of the log, however entries are weighed
     pub shared : (weigh : Entry P C R → ℕ) → total (total (λ (v : View P (Entry P C R)). total weigh (entries_of v))) s.views ≡ total weigh log
@@ -97,18 +103,20 @@ module _ {P C R : Type 0} where
     pub hands : List B
     pub all_hands : AreHands m.takes m.gives log hands
     pub sound : m.invariant parents (after parents (listed first) log) hands (length log)
+    pub throughout : SoundThroughout m parents (listed first) log
 
-  -- a whole history, as a seat knows it that has seen so much of it, and has its own entries at these places: it begins with what was seen, and is legal. The machine's invariant holds of the parcels as it leaves them, and of all hands, which are the seat's hand and the others'
-  pub record WholeHistory {B : Type 0} (m : Behaviour P C R B) (parents : List ℕ) (first : List (Option P)) (seen : List (Entry P C R)) (mine : List ℕ) (log : List (Entry P C R)) : Type 0 where
+  -- a history that a seat may know of that has seen so much, and has its own entries at these places: it begins with what was seen, and is legal, and the machine's invariant holds throughout. At its end all hands are the seat's hand and the others'
+  pub record SoundHistory {B : Type 0} (m : Behaviour P C R B) (parents : List ℕ) (first : List (Option P)) (seen : List (Entry P C R)) (mine : List ℕ) (log : List (Entry P C R)) : Type 0 where
     pub begins : StartsWith log seen
     pub legal : Legal m.steps parents (listed first) log
     pub hands : List B
     pub all_hands : AreHands m.takes m.gives log hands
     pub sound : m.invariant parents (after parents (listed first) log) hands (length log)
+    pub throughout : SoundThroughout m parents (listed first) log
     pub hand : List B
     pub own_hand : AreHands m.takes m.gives (chosen seen mine) hand
     pub others : List B
     pub together : (weigh : B → ℕ) → total weigh hand + total weigh others ≡ total weigh hands
 
-  abbrev pub IsWhole : {B : Type 0} → Behaviour P C R B → List ℕ → List (Option P) → View P (Entry P C R) → List (Entry P C R) → Type 0
-  IsWhole m parents first v log = WholeHistory m parents first v.seen v.mine log
+  abbrev pub IsHistory : {B : Type 0} → Behaviour P C R B → List ℕ → List (Option P) → View P (Entry P C R) → List (Entry P C R) → Type 0
+  IsHistory m parents first v log = SoundHistory m parents first v.seen v.mine log

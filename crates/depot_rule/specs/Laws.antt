@@ -6,9 +6,9 @@ use Rattle.atomic_table.specs.Table.{State, opening}
 use Rattle.depot_rule.specs.declared.view.View.{View}
 use Rattle.depot_rule.specs.declared.view.Entry.{Entry}
 use Rattle.depot_rule.specs.Sums.{total, one_if, tally}
-use Rattle.depot_rule.specs.History.{Behaviour, Legal, StartsWith, AreHands, listed, after}
+use Rattle.depot_rule.specs.History.{Behaviour, History}
 use Rattle.depot_rule.specs.Tree.{IsTree, ancestors, Covers, Excludes}
-use Rattle.depot_rule.specs.Shares.{exclusive, Each, Has, opening_view}
+use Rattle.depot_rule.specs.Shares.{exclusive, Has, opening_view}
 use Rattle.depot_rule.specs.Parcels.{takes, IsParcel}
 use Rattle.depot_rule.specs.Rule.{Base, Rule}
 use Rattle.affinity.specs.declared.affinity.Kind.{Kind}
@@ -61,13 +61,13 @@ module _ (P E : Type 0) where
       → (k : ℕ) → 0 < k → k < length parents → IsAtHome kind_of first s k
 
 module _ {P C R B : Type 0} (kind_of : P → Kind) (m : Behaviour P C R B) where
-  -- there is one legal history, as long as the ticket says. What a seat has seen is a beginning of it, and each place in it is one seat's. The machine's invariant holds of the parcels as it leaves them, and those at home are so
+  -- there is one history of all seats (`History`), and the ticket says how long it is
   abbrev pub HistoryIsOne : Type 0
   HistoryIsOne = (parents : List ℕ) (first : List (Option P)) (s : State (Option P) (List (View P (Entry P C R)))) → Rule kind_of m parents first s
-      → (log : List (Entry P C R)) × (hands : List B) × Legal m.steps parents (listed first) log
-      × (slice_index s.words 0 ≡ length log % 18446744073709551616)
-      × Each (λ (v : View P (Entry P C R)). StartsWith log v.seen) s.views
-      × ((p : ℕ) → total (total (λ (v : View P (Entry P C R)). tally p v.mine)) s.views ≡ one_if (nat_lt p (length log)))
-      × AreHands m.takes m.gives log hands
-      × m.invariant parents (after parents (listed first) log) hands (length log)
-      × ((k : ℕ) → 0 < k → k < length parents → total (total (takes k)) s.views ≡ 0 → get_elem? s.homes k ≡ some (some (after parents (listed first) log k)))
+      → (h : History m parents first s) × (slice_index s.words 0 ≡ length h.log % 18446744073709551616)
+
+  -- the only seat has seen all of it, and its entries are all entries
+  abbrev pub OnlySeatHasAll : Type 0
+  OnlySeatHasAll = (parents : List ℕ) (first : List (Option P)) (s : State (Option P) (List (View P (Entry P C R)))) (r : Rule kind_of m parents first s)
+      → (id : ℕ) (v : View P (Entry P C R)) → get_elem? s.views id ≡ some (v ∷ []) → v.parts ≡ 64
+      → (r.history.log ≡ v.seen) × ((p : ℕ) → tally p v.mine ≡ one_if (nat_lt p (length v.seen)))

@@ -10,8 +10,8 @@ use Rattle.depot_rule.specs.Sums.{total, tally, without}
 use Rattle.depot_rule.specs.Tree.{ancestors, Covers, Excludes}
 use Rattle.depot_rule.specs.Shares.{exclusive, made, shares, Has}
 use Rattle.depot_rule.specs.Parcels.{takes, IsParcel}
-use Rattle.depot_rule.specs.Seats.{OnOne, longer, in_order}
-use Rattle.depot_rule.specs.History.{Behaviour, IsWhole, Legal, StartsWith, listed, after, chosen, entries_of}
+use Rattle.depot_rule.specs.Seats.{OnOne, longer, merge}
+use Rattle.depot_rule.specs.History.{Behaviour, SoundThroughout, IsHistory, Legal, StartsWith, listed, after, chosen, entries_of}
 use Rattle.affinity.specs.declared.affinity.Kind.{Kind}
 
 -- a seat: its views, and the slots that are out with it
@@ -72,7 +72,7 @@ module _ {P E : Type 0} where
 
   -- a load of the ticket, in which no seat has shares; for the only seat it counts the entries that it made
   abbrev pub LookSays : Step (Option P) → Place P E → ℕ → Place P E → Type 0
-  LookSays st me found me' = Goes (λ v vs. (vs ≡ record v { reads = record { word = 0; value = found; shares = 0 } ∷ v.reads } ∷ []) × (IsOnly v → found ≡ made v % 18446744073709551616)) me me'
+  LookSays st me found me' = Goes (λ v vs. (st.word ≡ 0) × (vs ≡ record v { reads = record { word = 0; value = found; shares = 0 } ∷ v.reads } ∷ []) × (IsOnly v → found ≡ made v % 18446744073709551616)) me me'
 
   -- no grant of the one excludes a grant of the other
   abbrev pub AreApart : View P E → View P E → Type 0
@@ -85,14 +85,14 @@ module _ {P E : Type 0} where
   -- the entries of each are the same in the longer history, and those of both together are the two's, however weighed
   abbrev pub KeepEntries : View P E → View P E → Type 0
   KeepEntries v w = (chosen (longer v.seen w.seen) v.mine ≡ entries_of v) × (chosen (longer v.seen w.seen) w.mine ≡ entries_of w)
-      × ((weigh : E → ℕ) → total weigh (chosen (longer v.seen w.seen) (in_order v.mine w.mine)) ≡ total weigh (entries_of v) + total weigh (entries_of w))
+      × ((weigh : E → ℕ) → total weigh (entries_of (merge v w)) ≡ total weigh (entries_of v) + total weigh (entries_of w))
 
-  -- a load by which two seats that met are found to be of one tree and one history, with at most 64 parts, and no grant of the one to exclude a grant of the other
+  -- a load by which two seats that met are found to be of one tree and one history, with at most 64 parts, no grant of the one to exclude a grant of the other, and each to keep its entries
   abbrev pub AlikeSays : Step (Option P) → Place P E → ℕ → Place P E → Type 0
   AlikeSays st me found me' = (me' ≡ me) × ((v w : View P E) → me.0 ≡ v ∷ w ∷ [] → (v.tree ≡ w.tree) × (v.parts + w.parts ≤ 64) × AreApart v w × HaveSeenOne v w × KeepEntries v w)
 
 module _ {P C R B : Type 0} where
-  -- compare_exchange of 0 by 2^32: where 0 was found there is a grant, with a parcel for each node that it covers, none of them taken, each as a whole history left it, and the shares entered are the grant's. For the only seat that history is what it has seen
+  -- compare_exchange of 0 by 2^32: where 0 was found there is a grant, with a parcel for each node that it covers, none of them taken, each as a sound history left it, and the shares entered are the grant's. For the only seat that history is what it has seen
   abbrev pub ClaimSays : (P → Kind) → Behaviour P C R B → Step (Option P) → Place P (Entry P C R) → ℕ → Place P (Entry P C R) → Type 0
   ClaimSays kind_of m st me found me' = Goes (λ v vs.
       (found ≡ 0 → (g : List (Option P))
@@ -101,12 +101,13 @@ module _ {P C R B : Type 0} where
       × ((c : ℕ) (h : List (Option P)) → Has v c h → Excludes v.tree st.word c → ⊥)
       × ((k : ℕ) → 0 < k → Covers v.tree st.word k → takes k v ≡ 0)
       × (get_elem? v.held st.word ≡ some None)
-      × ((log : List (Entry P C R)) × IsWhole m v.tree v.first v log × (IsOnly v → log ≡ v.seen) × ((k : ℕ) → 0 < k → k < length v.tree → Covers v.tree st.word k → slice_index_or g k None ≡ after v.tree (listed v.first) log k)))
+      × ((log : List (Entry P C R)) × IsHistory m v.tree v.first v log × (IsOnly v → log ≡ v.seen) × ((k : ℕ) → 0 < k → k < length v.tree → Covers v.tree st.word k → slice_index_or g k None ≡ after v.tree (listed v.first) log k)))
       × (found ≢ 0 → (vs ≡ record v { reads = noted st found v } ∷ []) × (IsOnly v → (c : ℕ) × (h : List (Option P)) × Has v c h × Excludes v.tree st.word c))) me me'
 
-  -- the seat's history is what it had seen, what others put between, and e; it is legal, and the seat's own entries are those that it had, and e. For the only seat nothing is between
+  -- the seat's history is what it had seen, what others put between, and e; it is legal, with the machine's invariant throughout, and the seat's own entries are those that it had, and e. For the only seat nothing is between
   abbrev pub HasAdded : Behaviour P C R B → View P (Entry P C R) → List (Entry P C R) → Entry P C R → Type 0
   HasAdded m v between e = Legal m.steps v.tree (listed v.first) ((v.seen ++ between) ++ e ∷ [])
+      × SoundThroughout m v.tree (listed v.first) ((v.seen ++ between) ++ e ∷ [])
       × (chosen ((v.seen ++ between) ++ e ∷ []) (v.mine ++ length (v.seen ++ between) ∷ []) ≡ entries_of v ++ e ∷ [])
       × (IsOnly v → between ≡ [])
 

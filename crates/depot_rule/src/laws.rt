@@ -1,7 +1,7 @@
 //! What follows from the rule, for any seats, grants and schedule.
 
 ghost use Rattle.depot_rule.specs.History.{behaviour};
-ghost use Rattle.depot_rule.specs.Laws.{GrantsAreApart, ParcelsArePlaced, ParcelsAreSingle, GrantsHaveEntered, ExclusiveIsGranted, OpensWithin, ClosesWhole, HistoryIsOne};
+ghost use Rattle.depot_rule.specs.Laws.{GrantsAreApart, ParcelsArePlaced, ParcelsAreSingle, GrantsHaveEntered, ExclusiveIsGranted, OpensWithin, ClosesWhole, HistoryIsOne, OnlySeatHasAll};
 
 use crate::machine::Machine;
 
@@ -43,4 +43,9 @@ pub fn closes_whole<P, E>()
 /// There is one legal history of all seats' calls.
 pub fn history_is_one<M: Machine>()
     ensures { HistoryIsOne M.Parcel.kind (behaviour M.steps M.takes M.gives M.invariant) }
+{}
+
+/// The only seat has seen the whole history, and made each entry of it.
+pub fn only_seat_has_all<M: Machine>()
+    ensures { OnlySeatHasAll M.Parcel.kind (behaviour M.steps M.takes M.gives M.invariant) }
 {}
