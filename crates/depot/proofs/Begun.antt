@@ -51,13 +51,13 @@ refuses-node layout a ps b node found lawful m parent number r =
 
 module _ {P E : Type 0} where
   -- the ticket was looked at
-  pub looked-at : (views : List (List (View P E))) (vs ws : List (View P E)) (found : ℕ) → views ≡ vs ∷ [] → length (own_views views) ≡ 1
-      → OnOne (λ v. (ws ≡ record v { reads = record { word = 0; value = found; shares = 0 } ∷ v.reads } ∷ []) × (IsOnly v → found ≡ made v % 18446744073709551616)) vs
+  pub looked-at : (Z : Type 0) (views : List (List (View P E))) (vs ws : List (View P E)) (found : ℕ) → views ≡ vs ∷ [] → length (own_views views) ≡ 1
+      → OnOne (λ v. Z × (ws ≡ record v { reads = record { word = 0; value = found; shares = 0 } ∷ v.reads } ∷ []) × (IsOnly v → found ≡ made v % 18446744073709551616)) vs
       → (ws ≡ record (known views) { reads = record { word = 0; value = found; shares = 0 } ∷ (known views).reads } ∷ []) × (IsOnly (known views) → found ≡ made (known views) % 18446744073709551616)
-  looked-at views vs ws found is one did =
+  looked-at Z views vs ws found is one did =
       let q = of-one _ vs (view_of vs) (one-view vs (placed-one is one)) did in (
-        q.0 ∙ ap (λ (v : View P E). let z : View P E = record v { reads = record { word = 0; value = found; shares = 0 } ∷ v.reads } in z ∷ []) (sym (ap known is)),
-        subst (λ (v : View P E). IsOnly v → found ≡ made v % 18446744073709551616) (sym (ap known is)) q.1,
+        q.1 ∙ ap (λ (v : View P E). let z : View P E = record v { reads = record { word = 0; value = found; shares = 0 } ∷ v.reads } in z ∷ []) (sym (ap known is)),
+        subst (λ (v : View P E). IsOnly v → found ≡ made v % 18446744073709551616) (sym (ap known is)) q.2,
       )
 
   -- and found at 2^62 or more

@@ -9,10 +9,10 @@ use Rattle.depot_rule.specs.Shares.{Has, opening_view}
 use Rattle.depot_rule.specs.Rule.{Rule}
 use Rattle.depot_rule.specs.declared.view.Entry.{Entry}
 use Rattle.depot_rule.specs.Sums.{one_if, tally}
-use Rattle.depot_rule.specs.History.{Behaviour, IsHistory, listed, after}
+use Rattle.depot_rule.specs.History.{Behaviour, Legal, SoundThroughout, AreHands, listed, after, entries_of}
 use Rattle.depot_rule.specs.Parcels.{IsParcel}
 use Rattle.depot_rule.specs.Seats.{view_of}
-use Rattle.depot_rule.proofs.Opening.{opens-whole, closes, closes-history}
+use Rattle.depot_rule.proofs.Opening.{opens-whole, closes, closes-history, closes-parcels}
 use Rattle.depot_rule.proofs.Places.{one-view}
 use Rattle.affinity.specs.declared.affinity.Kind.{Kind}
 use Rattle.depot.specs.Calls.{own_views, known}
@@ -22,8 +22,9 @@ use Rattle.depot.proofs.Moves.{placed-one}
 pub record Whole {P C R B : Type 0} (kind_of : P → Kind) (m : Behaviour P C R B) (ps : List ℕ) (v : View P (Entry P C R)) (xs : List (Option P)) : Type 0 where
   pub size : length xs ≡ length ps
   pub filled : (k : ℕ) → 0 < k → k < length ps → (y : Option P) × (get_elem? xs k ≡ some y) × IsParcel kind_of v.first k y
-  pub history : IsHistory m v.tree v.first v v.seen
-  pub entries : (p : ℕ) → tally p v.mine ≡ one_if (ltb p (length v.seen))
+  pub history : Legal m.steps v.tree (listed v.first) v.seen × SoundThroughout m v.tree (listed v.first) v.seen
+      × ((hands : List B) × AreHands m.takes m.gives (entries_of v) hands × m.invariant v.tree (after v.tree (listed v.first) v.seen) hands (length v.seen))
+      × ((p : ℕ) → tally p v.mine ≡ one_if (ltb p (length v.seen)))
   pub left : (k : ℕ) → 0 < k → k < length ps → get_elem? xs k ≡ some (after v.tree (listed v.first) v.seen k)
 
 module _ (P C R B : Type 0) (kind_of : P → Kind) (m : Behaviour P C R B) where
@@ -48,14 +49,16 @@ module _ (P C R B : Type 0) (kind_of : P → Kind) (m : Behaviour P C R B) where
       let r = end.1.0.base in
       let mine = r.parcels.carries id (view_of vs ∷ []) at 0 (view_of vs) refl in
       let so = r.shares.sound id (view_of vs ∷ []) at 0 (view_of vs) refl in
-      let history = closes-history P C R B kind_of m ps first end.0 end.1.0 id (view_of vs) at all none_open in
+      let history = closes-history P C R B kind_of m ps first end.0 end.1.0 id (view_of vs) at all in
+      let parcels = closes-parcels P C R B kind_of m ps first end.0 end.1.0 id (view_of vs) at all none_open in
       record {
         size = sym end.3 ∙ r.parcels.slots;
         filled = λ k pk lk. let home = closes P E kind_of ps first end.0 r id (view_of vs) at all none_open k pk lk in
             (home.0, end.4 k home.0 home.1, subst (λ (l : List (Option P)). IsParcel kind_of l k home.0) (sym mine.opened) home.2);
-        history = subst (λ (x : List ℕ × List (Option P)). IsHistory m x.0 x.1 (view_of vs) (view_of vs).seen) (λ i. (sym so.tree i, sym mine.opened i)) history.0;
-        entries = history.1;
-        left = λ k pk lk. end.4 k (after ps (listed first) (view_of vs).seen k) (history.2 k pk lk)
+        history = subst (λ (x : List ℕ × List (Option P)). Legal m.steps x.0 (listed x.1) (view_of vs).seen × SoundThroughout m x.0 (listed x.1) (view_of vs).seen
+            × ((hands : List B) × AreHands m.takes m.gives (entries_of (view_of vs)) hands × m.invariant x.0 (after x.0 (listed x.1) (view_of vs).seen) hands (length (view_of vs).seen))
+            × ((p : ℕ) → tally p (view_of vs).mine ≡ one_if (ltb p (length (view_of vs).seen)))) (λ i. (sym so.tree i, sym mine.opened i)) history;
+        left = λ k pk lk. end.4 k (after ps (listed first) (view_of vs).seen k) (parcels k pk lk)
             ∙ ap (λ (x : List ℕ × List (Option P)). some (after x.0 (listed x.1) (view_of vs).seen k)) (λ i. (sym so.tree i, sym mine.opened i));
       }
 

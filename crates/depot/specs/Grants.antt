@@ -12,7 +12,7 @@ use Rattle.depot_rule.specs.declared.view.Read.{Read}
 use Rattle.depot_rule.specs.declared.view.Entry.{Entry}
 use Rattle.depot_rule.specs.Sums.{total, one_if, tally}
 use Rattle.depot_rule.specs.Tree.{Covers}
-use Rattle.depot_rule.specs.History.{Behaviour, IsHistory, AreHands, entries_of, listed, after}
+use Rattle.depot_rule.specs.History.{Behaviour, Legal, SoundThroughout, IsHistory, AreHands, entries_of, listed, after}
 use Rattle.depot_rule.specs.Shares.{made, Has}
 use Rattle.depot_rule.specs.Plays.{IsOnly, HasAdded}
 use Rattle.depot.specs.Kinds.{AreOfKind}
@@ -80,7 +80,7 @@ module _ {P E : Type 0} where
   IsRefused layout v a Worn w = IsWorn v w
 
 module _ {P C R B : Type 0} (m : Behaviour P C R B) where
-  -- the parcels f of the nodes that b covers are as a whole history left them. For the only seat it is what it has seen
+  -- the parcels f of the nodes that b covers are as a history left them that begins with what the seat has seen. For the only seat it is just that
   abbrev pub IsAfter : View P (Entry P C R) → ℕ → (ℕ → Option P) → Type 0
   IsAfter v b f = (log : List (Entry P C R)) × IsHistory m v.tree v.first v log × (IsOnly v → log ≡ v.seen)
       × ((k : ℕ) → 0 < k → k < length v.tree → Covers v.tree b k → f k ≡ after v.tree (listed v.first) log k)
@@ -106,8 +106,9 @@ module _ {P C R B : Type 0} (m : Behaviour P C R B) where
       × (w ≡ record v { held = slice_set v.held b None; gone = gone; reads = more ++ v.reads; seen = (v.seen ++ between) ++ e ∷ []; mine = v.mine ++ length (v.seen ++ between) ∷ [] })
       × HasAdded m v between e
 
-  -- the history of the only seat, at the end: it is whole, each entry of it is the seat's, and the parcels f are as it left them
+  -- the history of the only seat, at the end: it is legal, with the invariant throughout; the seat's own hand is all hands; each entry is the seat's; and the parcels f are as it left them
   abbrev pub IsClosed : View P (Entry P C R) → (ℕ → Option P) → Type 0
-  IsClosed v f = IsHistory m v.tree v.first v v.seen
+  IsClosed v f = Legal m.steps v.tree (listed v.first) v.seen × SoundThroughout m v.tree (listed v.first) v.seen
+      × ((hands : List B) × AreHands m.takes m.gives (entries_of v) hands × m.invariant v.tree (after v.tree (listed v.first) v.seen) hands (length v.seen))
       × ((p : ℕ) → tally p v.mine ≡ one_if (nat_lt p (length v.seen)))
       × ((k : ℕ) → 0 < k → k < length v.tree → f k ≡ after v.tree (listed v.first) v.seen k)

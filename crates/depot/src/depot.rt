@@ -136,6 +136,7 @@ impl<M: Machine> Depot<M> {
         ensures table { result.badge.table_id ≡ first.badge.table_id }
         ensures joined { known result.badge.views ≡ merge (known first.badge.views) (known second.badge.views) }
         ensures apart { AreApart (known first.badge.views) (known second.badge.views) }
+        ensures grants { ((b : ℕ) (g : _) → Has (known first.badge.views) b g → Has (known result.badge.views) b g) × ((b : ℕ) (g : _) → Has (known second.badge.views) b g → Has (known result.badge.views) b g) }
         ensures one_history { HaveSeenOne (known first.badge.views) (known second.badge.views) }
         ensures entries { (weigh : _ → ℕ) → total weigh (entries_of (known result.badge.views)) ≡ total weigh (entries_of (known first.badge.views)) + total weigh (entries_of (known second.badge.views)) }
         ensures splits { result.splits ≡ first.splits + second.splits + 1 }

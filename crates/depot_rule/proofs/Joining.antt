@@ -68,14 +68,14 @@ module _ {A : Type 0} where
   held-of (Some x ∷ xs) (y ∷ ys) zero g e = inl e
   held-of (x ∷ xs) (y ∷ ys) (suc i) g e = held-of xs ys i g e
 
-  held-first : (xs ys : List (Option A)) (i : ℕ) (g : A) → get_elem? xs i ≡ some (Some g) → get_elem? (both_held xs ys) i ≡ some (Some g)
+  pub held-first : (xs ys : List (Option A)) (i : ℕ) (g : A) → get_elem? xs i ≡ some (Some g) → get_elem? (both_held xs ys) i ≡ some (Some g)
   held-first [] ys i g e = absurd (some-ne-none (Some g) (sym e))
   held-first (x ∷ xs) [] i g e = e
   held-first (None ∷ xs) (y ∷ ys) zero g e = absurd (cc)
   held-first (Some x ∷ xs) (y ∷ ys) zero g e = e
   held-first (x ∷ xs) (y ∷ ys) (suc i) g e = held-first xs ys i g e
 
-  held-second : (xs ys : List (Option A)) (i : ℕ) (g : A) → Disjoint xs ys → get_elem? ys i ≡ some (Some g) → get_elem? (both_held xs ys) i ≡ some (Some g)
+  pub held-second : (xs ys : List (Option A)) (i : ℕ) (g : A) → Disjoint xs ys → get_elem? ys i ≡ some (Some g) → get_elem? (both_held xs ys) i ≡ some (Some g)
   held-second [] ys i g d e = e
   held-second (x ∷ xs) [] i g d e = absurd (some-ne-none (Some g) (sym e))
   held-second (None ∷ xs) (y ∷ ys) zero g d e = e

@@ -1,5 +1,5 @@
 -- The beginning and the end of a depot.
-use Rattle.std.proofs.Common.{◌≡◌, ℕ, zero, suc, ◌<◌, ◌≤◌, ltb, List, [], ◌∷◌, ◌++◌, map, length, replicate, get_or, sym, refl, ap, ◌∙◌, subst, arith, Option, Some, None}
+use Rattle.std.proofs.Common.{◌≡◌, ℕ, zero, suc, ◌+◌, ◌<◌, ◌≤◌, ltb, List, [], ◌∷◌, ◌++◌, map, length, replicate, get_or, sym, refl, ap, ◌∙◌, subst, arith, Option, Some, None}
 use Rattle.std.proofs.lemmas.List.{length-replicate}
 use Rattle.std.proofs.lemmas.Bool.{le-ltb}
 use mathlib.Core.Option.{some, some-injective, some-ne-none}
@@ -7,9 +7,9 @@ use lib.ListN.{get_elem?}
 use Rattle.atomic_table.specs.Table.{State, opening}
 use Rattle.depot_rule.specs.declared.view.View.{View}
 use Rattle.depot_rule.specs.declared.view.Entry.{Entry}
-use Rattle.depot_rule.specs.Sums.{one_if, tally}
+use Rattle.depot_rule.specs.Sums.{total, one_if, tally}
 use Rattle.depot_rule.specs.Tree.{IsTree}
-use Rattle.depot_rule.specs.History.{Behaviour, IsHistory, StartsWith, AreHands, listed, after}
+use Rattle.depot_rule.specs.History.{Behaviour, Legal, SoundThroughout, AreHands, StartsWith, listed, after, moved, chosen, entries_of}
 use Rattle.depot_rule.specs.Shares.{opening_view, claims, entered, shares, IsSound}
 use Rattle.depot_rule.specs.Parcels.{takes, IsParcel, Carries}
 use Rattle.depot_rule.specs.Rule.{Base, Rule}
@@ -18,7 +18,7 @@ use Rattle.depot_rule.proofs.Dealing.{bare-counts}
 use Rattle.depot_rule.proofs.Joining.{none-held}
 use Rattle.depot_rule.proofs.Current.{ListsCurrent}
 use Rattle.depot_rule.proofs.Remembering.{Own, HasHand}
-use Rattle.depot_rule.proofs.Hands.{is-history}
+use Rattle.depot_rule.proofs.Chosen.{moved-weigh}
 use Rattle.depot_rule.proofs.Whole.{only-mine, only-log}
 use Rattle.affinity.specs.declared.affinity.Kind.{Kind}
 
@@ -123,15 +123,35 @@ module _ (P C R B : Type 0) (kind_of : P → Kind) (m : Behaviour P C R B) where
       }
 
   -- the only seat, which has no grant: all parcels are at home as its history left them, and that history is the whole one, each entry of it the seat's
-  pub closes-history : (ps : List ℕ) (first : List (Option P)) (s : State (Option P) (List (View P E))) (r : Rule kind_of m ps first s) (id : ℕ) (v : View P E) → get_elem? s.views id ≡ some (v ∷ []) → v.parts ≡ 64
-      → ((b : ℕ) (g : List (Option P)) → get_elem? v.held b ≡ some (Some g) → ⊥)
-      → IsHistory m ps first v v.seen × ((p : ℕ) → tally p v.mine ≡ one_if (ltb p (length v.seen))) × ((k : ℕ) → 0 < k → k < length ps → get_elem? s.homes k ≡ some (some (after ps (listed first) v.seen k)))
-  closes-history ps first s r id v at all none_open =
-      let log = only-log P C R B kind_of m ps first s r.base r.history id v at all in (
-        subst (λ (l : List E). IsHistory m ps first v l) log (is-history P C R B m ps first s r.history id v at),
-        (λ p. only-mine P C R B kind_of m ps first s r.base r.history id v at all p ∙ ap (λ (l : List E). one_if (ltb p (length l))) log),
-        (λ k pk lk.
-            let ca = r.base.parcels.carries id (v ∷ []) at 0 v refl in
-            r.history.current.now k pk lk (only-view P E ps s.words s.views r.base.shares id v at all (takes k) ∙ none-then (takes k v) (λ h. let c = ca.cover k pk h in none_open c.0 c.1 c.2))
-            ∙ ap (λ (l : List E). some (some (after ps (listed first) l k))) log),
-      )
+  module _ (ps : List ℕ) (first : List (Option P)) (s : State (Option P) (List (View P E))) (r : Rule kind_of m ps first s) (id : ℕ) (v : View P E) (at : get_elem? s.views id ≡ some (v ∷ [])) (all : v.parts ≡ 64) where
+    all_seen : r.history.log ≡ v.seen
+    all_seen = only-log P C R B kind_of m ps first s r.base r.history id v at all
+
+    -- the seat's entries weigh as much as all
+    own-weigh : (weigh : E → ℕ) → total weigh (chosen v.seen v.mine) ≡ total weigh v.seen
+    own-weigh weigh = sym (only-view P E ps s.words s.views r.base.shares id v at all (λ (u : View P E). total weigh (chosen u.seen u.mine))) ∙ (r.history.shared weigh ∙ ap (total weigh) all_seen)
+
+    own-hands : AreHands m.takes m.gives (chosen v.seen v.mine) r.history.hands
+    own-hands weigh =
+        let q = r.history.all_hands weigh in
+        let g = own-weigh (λ (d : E). total weigh (m.gives d.call d.reply)) in let t = own-weigh (λ (d : E). total weigh (m.takes d.call d.reply)) in
+        let g_own = moved-weigh m.gives weigh (chosen v.seen v.mine) in let t_own = moved-weigh m.takes weigh (chosen v.seen v.mine) in
+        let g_all = moved-weigh m.gives weigh v.seen in let t_all = moved-weigh m.takes weigh v.seen in
+        let g_log : total weigh (moved m.gives r.history.log) ≡ total weigh (moved m.gives v.seen) = ap (λ (l : List E). total weigh (moved m.gives l)) all_seen in
+        let t_log : total weigh (moved m.takes r.history.log) ≡ total weigh (moved m.takes v.seen) = ap (λ (l : List E). total weigh (moved m.takes l)) all_seen in omega arith
+
+    pub closes-history : Legal m.steps ps (listed first) v.seen × SoundThroughout m ps (listed first) v.seen
+        × ((hands : List B) × AreHands m.takes m.gives (entries_of v) hands × m.invariant ps (after ps (listed first) v.seen) hands (length v.seen))
+        × ((p : ℕ) → tally p v.mine ≡ one_if (ltb p (length v.seen)))
+    closes-history = (
+      subst (λ (l : List E). Legal m.steps ps (listed first) l) all_seen r.history.legal,
+      subst (λ (l : List E). SoundThroughout m ps (listed first) l) all_seen r.history.throughout,
+      (r.history.hands, own-hands, subst (λ (l : List E). m.invariant ps (after ps (listed first) l) r.history.hands (length l)) all_seen r.history.sound),
+      (λ p. only-mine P C R B kind_of m ps first s r.base r.history id v at all p ∙ ap (λ (l : List E). one_if (ltb p (length l))) all_seen),
+    )
+
+    pub closes-parcels : ((b : ℕ) (g : List (Option P)) → get_elem? v.held b ≡ some (Some g) → ⊥) → (k : ℕ) → 0 < k → k < length ps → get_elem? s.homes k ≡ some (some (after ps (listed first) v.seen k))
+    closes-parcels none_open k pk lk =
+        let ca = r.base.parcels.carries id (v ∷ []) at 0 v refl in
+        r.history.current.now k pk lk (only-view P E ps s.words s.views r.base.shares id v at all (takes k) ∙ none-then (takes k v) (λ h. let c = ca.cover k pk h in none_open c.0 c.1 c.2))
+        ∙ ap (λ (l : List E). some (some (after ps (listed first) l k))) all_seen

@@ -1,4 +1,5 @@
-use Rattle.std.proofs.Common.{rules, arith, ◌≡◌, ◌+◌, ◌∷◌, List, [], length, sym, ap, ◌∙◌, subst}
+use Rattle.std.proofs.Common.{rules, arith, ◌≡◌, ◌+◌, ◌∷◌, List, [], length, sym, inl, refl, ap, ◌∙◌, subst}
+use lib.ListN.{get_elem?}
 use Rattle.depot_rule.specs.declared.view.Entry.{Entry}
 use Rattle.depot_rule.specs.History.{behaviour, entries_of}
 use Rattle.depot_rule.specs.declared.view.View.{View}
@@ -7,7 +8,7 @@ use Rattle.depot_rule.specs.Seats.{view_of, merge, having_seen, longer, first_of
 use Rattle.depot_rule.specs.Plays.{AreApart, HaveSeenOne, KeepEntries}
 use Rattle.depot_rule.proofs.Dealing.{meets, parts-again}
 use Rattle.depot_rule.proofs.Looking.{alikes}
-use Rattle.depot_rule.proofs.Joining.{merges-seats}
+use Rattle.depot_rule.proofs.Joining.{merges-seats, held-first, held-second}
 use Rattle.depot.specs.Calls.{own_views, known}
 use Rattle.depot.proofs.Moves.{placed-one, no-path}
 use Rattle.depot.proofs.Seated.{met-two, merged-view, merge-gathered, known-known, gathered-in, gathered-of}
@@ -196,3 +197,13 @@ returns-clause-entries g c =
     let alike = c.load.ensures.2.1 (view_of vs) (view_of ws) both in
     let keep = subst (λ (x : View g.row.M-Parcel.Denot E × View g.row.M-Parcel.Denot E). KeepEntries x.0 x.1) (λ i. (sym (ap known is) i, sym (ap known other_is) i)) alike.4 in
     λ weigh. ap (λ (u : View g.row.M-Parcel.Denot E). total weigh (entries_of u)) (returns-clause-joined g c) ∙ keep.2 weigh
+
+pub returns-clause-grants : goal.returns-clause-grants
+returns-clause-grants g c =
+    let v = known c.args.first.badge.views in
+    let w = known c.args.second.badge.views in
+    let joined = returns-clause-joined g c in
+    let apart = returns-clause-apart g c in (
+      λ b h has. ap (λ u. get_elem? u.held b) joined ∙ held-first v.held w.held b h has,
+      λ b h has. ap (λ u. get_elem? u.held b) joined ∙ held-second v.held w.held b h (λ i x y e f. apart i i x y e f (inl refl)) has,
+    )

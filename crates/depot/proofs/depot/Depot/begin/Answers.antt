@@ -38,7 +38,7 @@ returns-then-ticket-ge-WORN-clause-seat g c =
     let seat = c.args.seat.now in
     let K : View g.row.M-Parcel.Denot (Entry g.row.M-Parcel.Denot g.row.M-Call.Denot g.row.M-Reply.Denot) = known seat.badge.views in
     let is : seat.badge.views ≡ c.into_seat-place.result.me.0 ∷ [] = search rules in
-    let looked = looked-at seat.badge.views c.into_seat-place.result.me.0 c.load-ticket.new.seat.me.0 c.load-ticket.result is seat.one.1 c.load-ticket.ensures.2.0 in
+    let looked = looked-at _ seat.badge.views c.into_seat-place.result.me.0 c.load-ticket.new.seat.me.0 c.load-ticket.result is seat.one.1 c.load-ticket.ensures.2.0 in
     let badge : c.into_badge.result.views ≡ c.load-ticket.new.seat.me.0 ∷ [] = search rules in
     let now = ap known badge ∙ ap view_of looked.0 in
     (search rules, refl, seat-still g.M.Parcel.HasKind.kind L K (known c.into_badge.result.views) (ap (λ v. v.tree) now) (ap (λ v. v.first) now) c.requires.seat.1)
@@ -49,7 +49,7 @@ returns-then-ticket-ge-WORN-clause-refused g c =
     let seat = c.args.seat.now in
     let K : View g.row.M-Parcel.Denot (Entry g.row.M-Parcel.Denot g.row.M-Call.Denot g.row.M-Reply.Denot) = known seat.badge.views in
     let is : seat.badge.views ≡ c.into_seat-place.result.me.0 ∷ [] = search rules in
-    let looked = looked-at seat.badge.views c.into_seat-place.result.me.0 c.load-ticket.new.seat.me.0 c.load-ticket.result is seat.one.1 c.load-ticket.ensures.2.0 in
+    let looked = looked-at _ seat.badge.views c.into_seat-place.result.me.0 c.load-ticket.new.seat.me.0 c.load-ticket.result is seat.one.1 c.load-ticket.ensures.2.0 in
     let badge : c.into_badge.result.views ≡ c.load-ticket.new.seat.me.0 ∷ [] = search rules in
     worn-so K c.load-ticket.result c.into_badge.result.views c.load-ticket.new.seat.me.0 badge c.if-ticket-ge-WORN.true looked
 
@@ -77,7 +77,7 @@ gather-held-requires-clause-there g c =
     let seat = c.args.seat.now in
     let K : View g.row.M-Parcel.Denot (Entry g.row.M-Parcel.Denot g.row.M-Call.Denot g.row.M-Reply.Denot) = known seat.badge.views in
     let is : seat.badge.views ≡ c.into_seat-place.result.me.0 ∷ [] = search rules in
-    let looked = looked-at seat.badge.views c.into_seat-place.result.me.0 c.load-ticket.new.seat.me.0 c.load-ticket.result is seat.one.1 c.load-ticket.ensures.2.0 in
+    let looked = looked-at _ seat.badge.views c.into_seat-place.result.me.0 c.load-ticket.new.seat.me.0 c.load-ticket.result is seat.one.1 c.load-ticket.ensures.2.0 in
     let r : Read = record { word = 0; value = c.load-ticket.result; shares = 0 } in
     let q = granted-after g.M.Parcel.HasKind.kind K c.number_of-node.result (λ u l. IsAfter (behaviour g.M.Machine.steps g.M.Machine.takes g.M.Machine.gives g.M.Machine.invariant) u c.number_of-node.result (listed l)) (λ rs l x. x) r c.load-ticket.new.seat.me.0 c.try_claim.new.place.me.0 looked.0 c.in-Ok.ensures.granted in
     all-there g.M.Parcel.HasKind.kind L c.args.self.now.layout.lawful (affinity_of c.args.affinity) c.requires.node.0 K c.requires.seat.1 c.number_of-node.result c.number_of-node.ensures.number q.0.0 q.0.1 c.try_claim.new.place.me.0 q.0.2
@@ -88,7 +88,7 @@ invariant_of-seat-in-Ok g c =
     let seat = c.args.seat.now in
     let K : View g.row.M-Parcel.Denot (Entry g.row.M-Parcel.Denot g.row.M-Call.Denot g.row.M-Reply.Denot) = known seat.badge.views in
     let is : seat.badge.views ≡ c.into_seat-place.result.me.0 ∷ [] = search rules in
-    let looked = looked-at seat.badge.views c.into_seat-place.result.me.0 c.load-ticket.new.seat.me.0 c.load-ticket.result is seat.one.1 c.load-ticket.ensures.2.0 in
+    let looked = looked-at _ seat.badge.views c.into_seat-place.result.me.0 c.load-ticket.new.seat.me.0 c.load-ticket.result is seat.one.1 c.load-ticket.ensures.2.0 in
     let r : Read = record { word = 0; value = c.load-ticket.result; shares = 0 } in
     let q = granted-after g.M.Parcel.HasKind.kind K c.number_of-node.result (λ u l. IsAfter (behaviour g.M.Machine.steps g.M.Machine.takes g.M.Machine.gives g.M.Machine.invariant) u c.number_of-node.result (listed l)) (λ rs l x. x) r c.load-ticket.new.seat.me.0 c.try_claim.new.place.me.0 looked.0 c.in-Ok.ensures.granted in
     let badge : c.into_badge-in-Ok.result.views ≡ c.gather-held.new.shelf.place.me.0 ∷ [] = search rules in
@@ -108,7 +108,7 @@ returns-in-Ok-clause-seat g c =
     let seat = c.args.seat.now in
     let K : View g.row.M-Parcel.Denot (Entry g.row.M-Parcel.Denot g.row.M-Call.Denot g.row.M-Reply.Denot) = known seat.badge.views in
     let is : seat.badge.views ≡ c.into_seat-place.result.me.0 ∷ [] = search rules in
-    let looked = looked-at seat.badge.views c.into_seat-place.result.me.0 c.load-ticket.new.seat.me.0 c.load-ticket.result is seat.one.1 c.load-ticket.ensures.2.0 in
+    let looked = looked-at _ seat.badge.views c.into_seat-place.result.me.0 c.load-ticket.new.seat.me.0 c.load-ticket.result is seat.one.1 c.load-ticket.ensures.2.0 in
     let r : Read = record { word = 0; value = c.load-ticket.result; shares = 0 } in
     let q = granted-after g.M.Parcel.HasKind.kind K c.number_of-node.result (λ u l. IsAfter (behaviour g.M.Machine.steps g.M.Machine.takes g.M.Machine.gives g.M.Machine.invariant) u c.number_of-node.result (listed l)) (λ rs l x. x) r c.load-ticket.new.seat.me.0 c.try_claim.new.place.me.0 looked.0 c.in-Ok.ensures.granted in
     let badge : c.into_badge-in-Ok.result.views ≡ c.gather-held.new.shelf.place.me.0 ∷ [] = search rules in
@@ -122,7 +122,7 @@ returns-in-Ok-clause-granted g c =
     let seat = c.args.seat.now in
     let K : View g.row.M-Parcel.Denot (Entry g.row.M-Parcel.Denot g.row.M-Call.Denot g.row.M-Reply.Denot) = known seat.badge.views in
     let is : seat.badge.views ≡ c.into_seat-place.result.me.0 ∷ [] = search rules in
-    let looked = looked-at seat.badge.views c.into_seat-place.result.me.0 c.load-ticket.new.seat.me.0 c.load-ticket.result is seat.one.1 c.load-ticket.ensures.2.0 in
+    let looked = looked-at _ seat.badge.views c.into_seat-place.result.me.0 c.load-ticket.new.seat.me.0 c.load-ticket.result is seat.one.1 c.load-ticket.ensures.2.0 in
     let r : Read = record { word = 0; value = c.load-ticket.result; shares = 0 } in
     let q = granted-after g.M.Parcel.HasKind.kind K c.number_of-node.result (λ u l. IsAfter (behaviour g.M.Machine.steps g.M.Machine.takes g.M.Machine.gives g.M.Machine.invariant) u c.number_of-node.result (listed l)) (λ rs l x. x) r c.load-ticket.new.seat.me.0 c.try_claim.new.place.me.0 looked.0 c.in-Ok.ensures.granted in
     let badge : c.into_badge-in-Ok.result.views ≡ c.gather-held.new.shelf.place.me.0 ∷ [] = search rules in
@@ -137,7 +137,7 @@ returns-in-Ok-clause-after g c =
     let seat = c.args.seat.now in
     let K : View g.row.M-Parcel.Denot (Entry g.row.M-Parcel.Denot g.row.M-Call.Denot g.row.M-Reply.Denot) = known seat.badge.views in
     let is : seat.badge.views ≡ c.into_seat-place.result.me.0 ∷ [] = search rules in
-    let looked = looked-at seat.badge.views c.into_seat-place.result.me.0 c.load-ticket.new.seat.me.0 c.load-ticket.result is seat.one.1 c.load-ticket.ensures.2.0 in
+    let looked = looked-at _ seat.badge.views c.into_seat-place.result.me.0 c.load-ticket.new.seat.me.0 c.load-ticket.result is seat.one.1 c.load-ticket.ensures.2.0 in
     let r : Read = record { word = 0; value = c.load-ticket.result; shares = 0 } in
     let q = granted-after g.M.Parcel.HasKind.kind K c.number_of-node.result (λ u l. IsAfter (behaviour g.M.Machine.steps g.M.Machine.takes g.M.Machine.gives g.M.Machine.invariant) u c.number_of-node.result (listed l)) (λ rs l x. x) r c.load-ticket.new.seat.me.0 c.try_claim.new.place.me.0 looked.0 c.in-Ok.ensures.granted in
     let badge : c.into_badge-in-Ok.result.views ≡ c.gather-held.new.shelf.place.me.0 ∷ [] = search rules in
@@ -153,7 +153,7 @@ invariant_of-seat-in-Err g c =
     let seat = c.args.seat.now in
     let K : View g.row.M-Parcel.Denot (Entry g.row.M-Parcel.Denot g.row.M-Call.Denot g.row.M-Reply.Denot) = known seat.badge.views in
     let is : seat.badge.views ≡ c.into_seat-place.result.me.0 ∷ [] = search rules in
-    let looked = looked-at seat.badge.views c.into_seat-place.result.me.0 c.load-ticket.new.seat.me.0 c.load-ticket.result is seat.one.1 c.load-ticket.ensures.2.0 in
+    let looked = looked-at _ seat.badge.views c.into_seat-place.result.me.0 c.load-ticket.new.seat.me.0 c.load-ticket.result is seat.one.1 c.load-ticket.ensures.2.0 in
     let r : Read = record { word = 0; value = c.load-ticket.result; shares = 0 } in
     let q = refused-after K c.deref.result.now c.number_of-node.result c.in-Err.busy.node c.in-Err.busy.word r c.load-ticket.new.seat.me.0 c.try_claim.new.place.me.0 (nothing K.path seat.idle.2) looked.0 c.in-Err.ensures.refused in
     let badge : c.into_badge-in-Err.result.views ≡ c.try_claim.new.place.me.0 ∷ [] = search rules in
@@ -171,7 +171,7 @@ affinity_at-requires-clause-positive g c =
     let seat = c.args.seat.now in
     let K : View g.row.M-Parcel.Denot (Entry g.row.M-Parcel.Denot g.row.M-Call.Denot g.row.M-Reply.Denot) = known seat.badge.views in
     let is : seat.badge.views ≡ c.into_seat-place.result.me.0 ∷ [] = search rules in
-    let looked = looked-at seat.badge.views c.into_seat-place.result.me.0 c.load-ticket.new.seat.me.0 c.load-ticket.result is seat.one.1 c.load-ticket.ensures.2.0 in
+    let looked = looked-at _ seat.badge.views c.into_seat-place.result.me.0 c.load-ticket.new.seat.me.0 c.load-ticket.result is seat.one.1 c.load-ticket.ensures.2.0 in
     let r : Read = record { word = 0; value = c.load-ticket.result; shares = 0 } in
     let q = refused-after K c.deref.result.now c.number_of-node.result c.in-Err.busy.node c.in-Err.busy.word r c.load-ticket.new.seat.me.0 c.try_claim.new.place.me.0 (nothing K.path seat.idle.2) looked.0 c.in-Err.ensures.refused in
     let badge : c.into_badge-in-Err.result.views ≡ c.try_claim.new.place.me.0 ∷ [] = search rules in
@@ -184,7 +184,7 @@ affinity_at-requires-clause-within g c =
     let seat = c.args.seat.now in
     let K : View g.row.M-Parcel.Denot (Entry g.row.M-Parcel.Denot g.row.M-Call.Denot g.row.M-Reply.Denot) = known seat.badge.views in
     let is : seat.badge.views ≡ c.into_seat-place.result.me.0 ∷ [] = search rules in
-    let looked = looked-at seat.badge.views c.into_seat-place.result.me.0 c.load-ticket.new.seat.me.0 c.load-ticket.result is seat.one.1 c.load-ticket.ensures.2.0 in
+    let looked = looked-at _ seat.badge.views c.into_seat-place.result.me.0 c.load-ticket.new.seat.me.0 c.load-ticket.result is seat.one.1 c.load-ticket.ensures.2.0 in
     let r : Read = record { word = 0; value = c.load-ticket.result; shares = 0 } in
     let q = refused-after K c.deref.result.now c.number_of-node.result c.in-Err.busy.node c.in-Err.busy.word r c.load-ticket.new.seat.me.0 c.try_claim.new.place.me.0 (nothing K.path seat.idle.2) looked.0 c.in-Err.ensures.refused in
     let badge : c.into_badge-in-Err.result.views ≡ c.try_claim.new.place.me.0 ∷ [] = search rules in
@@ -197,7 +197,7 @@ returns-in-Err-clause-seat g c =
     let seat = c.args.seat.now in
     let K : View g.row.M-Parcel.Denot (Entry g.row.M-Parcel.Denot g.row.M-Call.Denot g.row.M-Reply.Denot) = known seat.badge.views in
     let is : seat.badge.views ≡ c.into_seat-place.result.me.0 ∷ [] = search rules in
-    let looked = looked-at seat.badge.views c.into_seat-place.result.me.0 c.load-ticket.new.seat.me.0 c.load-ticket.result is seat.one.1 c.load-ticket.ensures.2.0 in
+    let looked = looked-at _ seat.badge.views c.into_seat-place.result.me.0 c.load-ticket.new.seat.me.0 c.load-ticket.result is seat.one.1 c.load-ticket.ensures.2.0 in
     let r : Read = record { word = 0; value = c.load-ticket.result; shares = 0 } in
     let q = refused-after K c.deref.result.now c.number_of-node.result c.in-Err.busy.node c.in-Err.busy.word r c.load-ticket.new.seat.me.0 c.try_claim.new.place.me.0 (nothing K.path seat.idle.2) looked.0 c.in-Err.ensures.refused in
     let badge : c.into_badge-in-Err.result.views ≡ c.try_claim.new.place.me.0 ∷ [] = search rules in
@@ -210,7 +210,7 @@ returns-in-Err-clause-refused g c =
     let seat = c.args.seat.now in
     let K : View g.row.M-Parcel.Denot (Entry g.row.M-Parcel.Denot g.row.M-Call.Denot g.row.M-Reply.Denot) = known seat.badge.views in
     let is : seat.badge.views ≡ c.into_seat-place.result.me.0 ∷ [] = search rules in
-    let looked = looked-at seat.badge.views c.into_seat-place.result.me.0 c.load-ticket.new.seat.me.0 c.load-ticket.result is seat.one.1 c.load-ticket.ensures.2.0 in
+    let looked = looked-at _ seat.badge.views c.into_seat-place.result.me.0 c.load-ticket.new.seat.me.0 c.load-ticket.result is seat.one.1 c.load-ticket.ensures.2.0 in
     let r : Read = record { word = 0; value = c.load-ticket.result; shares = 0 } in
     let q = refused-after K c.deref.result.now c.number_of-node.result c.in-Err.busy.node c.in-Err.busy.word r c.load-ticket.new.seat.me.0 c.try_claim.new.place.me.0 (nothing K.path seat.idle.2) looked.0 c.in-Err.ensures.refused in
     let badge : c.into_badge-in-Err.result.views ≡ c.try_claim.new.place.me.0 ∷ [] = search rules in

@@ -63,8 +63,10 @@ returns-clause-history g c =
     let slots = c.close_with.result.slots in
     let counts = slots_counts slots in
     let e0 = counts.0 in (
-      w.history,
-      w.entries,
+      w.history.0,
+      w.history.1,
+      w.history.2,
+      w.history.3,
       taken-left g.M.Parcel.HasKind.kind (layout_of c.args.self.layout) (known c.args.seat.badge.views) (slots_filled slots) (g.N.Node.parcels (layout_of c.args.self.layout) Serial c.gather-held.result)
           (left_at (slots_filled c.gather-held.new.shelf.table.slots) (slots_items c.gather-held.new.shelf.table.slots)) (sym c.args.self.tree ∙ c.args.self.layout_tree) c.requires.seat.1.0
           (λ k lt. c.close_with.ensures.values.1 k (omega arith) (omega arith)) w c.gather-held.ensures.exact c.gather-held.ensures.moved,
