@@ -8,3 +8,4 @@ pub mod Allowing
 pub mod Apart
 pub mod Allowed
 pub mod AtNode
+pub mod Siblings

@@ -129,6 +129,16 @@ module _ {T H : Type 0} (u : ℕ → Bool) (p : ℕ → H → ℕ → Option T) 
       ∙ ap (λ o. or_else o (if u i then in_place (λ held. p i held k) (Some place) else None)) (in_places-same u (λ j held. p j held k) xs ys i (λ j l. others j (λ (same : j ≡ i). let no : ⊥ = omega arith in no)))))
       (moved-both (f k) (in_places u (λ j held. p j held k) xs i) (g k) (if u i then in_place (λ held. p i held k) (Some place) else None) (h k) (before k) (step k))
 
+  -- what is in a place more was given back, if the place is in use
+  pub scattered-any : (xs : List (Option H)) (i : ℕ) (place : Option H) (f g h : ℕ → Option T)
+      → slice_get xs i ≡ Some place
+      → ((k : ℕ) → Moved (g k) (in_places u (λ j held. p j held k) xs i) (f k))
+      → ((k : ℕ) → Moved (h k) (if u i then in_place (λ held. p i held k) (Some place) else None) (g k))
+      → (k : ℕ) → Moved (h k) (in_places u (λ j held. p j held k) xs (i + 1)) (f k)
+  scattered-any xs i place f g h there before step k =
+      subst (λ o. Moved (h k) o (f k)) (sym (in_places-any u (λ j held. p j held k) xs i place there))
+      (given-both (f k) (in_places u (λ j held. p j held k) xs i) (g k) (if u i then in_place (λ held. p i held k) (Some place) else None) (h k) (before k) (step k))
+
   -- what is in a place more, if it is in use, was taken from there and given back
   pub scattered-used : (xs ys : List (Option H)) (i : ℕ) (f g h : ℕ → Option T)
       → slice_get ys i ≡ slice_get xs i
