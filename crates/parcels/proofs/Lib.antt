@@ -9,3 +9,4 @@ pub mod Apart
 pub mod Allowed
 pub mod AtNode
 pub mod Siblings
+pub mod Levels

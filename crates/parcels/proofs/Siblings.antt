@@ -1,15 +1,12 @@
 -- What a step at one child of a node leaves at the others, and what is left of the children where the node's own parcel moved.
-use Rattle.std.proofs.Common.{◌≡◌, ◌≢◌, ℕ, ◌<◌, Bool, true, false, Option, Some, None, length, sym, ◌∙◌, ap, subst, arith, ◌≤◌, refl}
-use Rattle.std.specs.Prelude.{if◌then◌else◌}
+use Rattle.std.proofs.Common.{◌≡◌, ◌≢◌, ℕ, ◌<◌, true, Option, ◌∙◌, arith}
 use Rattle.std.proofs.lemmas.Bool.{eqb-true}
 use Rattle.nfs_model.specs.Tree.{Layout, Affinity, Serial, Aggregate, Volume, Logical, Stripe, Vbn, Range, aggregate_of}
 use Rattle.affinity.specs.declared.affinity.Kind.{Kind}
-use Rattle.affinity.specs.Affinity.{kind_of}
 use Rattle.affinity.specs.Numbers.{number_of}
 use Rattle.affinity.specs.Tree.{IsNode}
 use Rattle.parcels.specs.Children.{child, children, has_child}
 use Rattle.parcels.specs.Exact.{Under, IsPlaced}
-use Rattle.parcels.specs.Moved.{Moved}
 use Rattle.parcels.proofs.Exactness.{range-from, stripe-from, vbn-from, logical-from, volume-from, aggregate-from, serial-from, range-to, stripe-to, volume-to, aggregate-to}
 use Rattle.parcels.proofs.Steps.{stripes-after, ranges-after, stripe-after, range-after, volume-after, volumes-after, aggregate-after, aggregates-after}
 
@@ -53,14 +50,3 @@ module _ {T : Type 0} (layout : Layout) (K : (ℕ → Option T) → Affinity →
 
 pub placed_kept : {T : Type 0} (kind : T → Kind) (layout : Layout) (f g : ℕ → Option T) (b : Affinity) → g (number_of layout b) ≡ f (number_of layout b) → IsPlaced kind layout f b → IsPlaced kind layout g b
 placed_kept kind layout f g b e has = (has.0, e ∙ has.1, has.2)
-
--- what was taken of each node under another is gone
-pub gone-under : {T : Type 0} (kind : T → Kind) (layout : Layout) (f s g : ℕ → Option T) (b : Affinity) → IsPlaced kind layout s b → ((k : ℕ) → Moved (f k) (s k) (g k)) → g (number_of layout b) ≡ None
-gone-under kind layout f s g b has moved = (let both : Moved (f (number_of layout b)) (Some has.0) (g (number_of layout b)) = subst (λ o. Moved (f (number_of layout b)) o (g (number_of layout b))) has.1 (moved (number_of layout b)) in both).1
-
--- what is moved where a place is in use
-pub moved-used : {T : Type 0} (u : Bool) (s f g : ℕ → Option T) → u ≡ true → ((k : ℕ) → Moved (f k) (s k) (g k)) → (k : ℕ) → Moved (f k) (if u then s k else None) (g k)
-moved-used u s f g e h k = subst (λ b. Moved (f k) (if b then s k else None) (g k)) (sym e) (h k)
-
-pub moved-unused : {T : Type 0} (u : Bool) (s f : ℕ → Option T) → u ≡ false → (k : ℕ) → Moved (f k) (if u then s k else None) (f k)
-moved-unused u s f e k = subst (λ b. Moved (f k) (if b then s k else None) (f k)) (sym e) refl
