@@ -25,7 +25,7 @@ unreachable-requires g c =
 
 pub put_parcel-requires-clause-node : goal.put_parcel-requires-clause-node
 put_parcel-requires-clause-node g c =
-    (at-node (layout_of c.args.layout.now) (affinity_of c.args.affinity) (trees.Aggregate c.in-Aggregate.aggregate) (ap affinity_of c.in-Aggregate.is) c.requires.node)
+    at-node (layout_of c.args.layout.now) (affinity_of c.args.affinity) (trees.Aggregate c.in-Aggregate.aggregate) (ap affinity_of c.in-Aggregate.is) c.requires.node
 
 pub put_parcel-requires-clause-vacant : goal.put_parcel-requires-clause-vacant
 put_parcel-requires-clause-vacant g c =
@@ -37,7 +37,7 @@ put_parcel-requires-clause-allowed g c =
 
 pub scatter_children-requires-clause-node : goal.scatter_children-requires-clause-node
 scatter_children-requires-clause-node g c =
-    (at-node (layout_of c.args.layout.now) (affinity_of c.args.affinity) (trees.Aggregate c.in-Aggregate.aggregate) (ap affinity_of c.in-Aggregate.is) c.requires.node)
+    at-node (layout_of c.args.layout.now) (affinity_of c.args.affinity) (trees.Aggregate c.in-Aggregate.aggregate) (ap affinity_of c.in-Aggregate.is) c.requires.node
 
 pub scatter_children-requires-clause-kind : goal.scatter_children-requires-clause-kind
 scatter_children-requires-clause-kind g c =

@@ -11,11 +11,11 @@ use Rattle.parcels.proofs.nodes.RangeNodeNodeParcel.gather.Goals as goal
 
 pub take_parcel-requires-clause-node : goal.take_parcel-requires-clause-node
 take_parcel-requires-clause-node g c =
-    (at-node (layout_of c.args.layout.now) (affinity_of c.args.affinity) (trees.Range c.in-Range.volume c.in-Range.range) (ap affinity_of c.in-Range.is) c.requires.node)
+    at-node (layout_of c.args.layout.now) (affinity_of c.args.affinity) (trees.Range c.in-Range.volume c.in-Range.range) (ap affinity_of c.in-Range.is) c.requires.node
 
 pub take_parcel-requires-clause-there : goal.take_parcel-requires-clause-there
 take_parcel-requires-clause-there g c =
-    (range-from (layout_of c.args.layout.now) (HasParcel (layout_of c.args.layout.now) (g.S.Shelf.at c.args.shelf.now)) c.in-Range.volume c.in-Range.range (at-node (layout_of c.args.layout.now) (affinity_of c.args.affinity) (trees.Range c.in-Range.volume c.in-Range.range) (ap affinity_of c.in-Range.is) c.requires.node) (at-under (layout_of c.args.layout.now) (affinity_of c.args.affinity) (trees.Range c.in-Range.volume c.in-Range.range) (ap affinity_of c.in-Range.is) (HasParcel (layout_of c.args.layout.now) (g.S.Shelf.at c.args.shelf.now)) c.requires.there))
+    range-from (layout_of c.args.layout.now) (HasParcel (layout_of c.args.layout.now) (g.S.Shelf.at c.args.shelf.now)) c.in-Range.volume c.in-Range.range (at-node (layout_of c.args.layout.now) (affinity_of c.args.affinity) (trees.Range c.in-Range.volume c.in-Range.range) (ap affinity_of c.in-Range.is) c.requires.node) (at-under (layout_of c.args.layout.now) (affinity_of c.args.affinity) (trees.Range c.in-Range.volume c.in-Range.range) (ap affinity_of c.in-Range.is) (HasParcel (layout_of c.args.layout.now) (g.S.Shelf.at c.args.shelf.now)) c.requires.there)
 
 pub returns-clause-exact : goal.returns-clause-exact
 returns-clause-exact g c =

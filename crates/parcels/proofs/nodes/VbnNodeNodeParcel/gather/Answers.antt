@@ -19,7 +19,7 @@ unreachable-requires g c =
 
 pub take_parcel-requires-clause-node : goal.take_parcel-requires-clause-node
 take_parcel-requires-clause-node g c =
-    (at-node (layout_of c.args.layout.now) (affinity_of c.args.affinity) (trees.Vbn c.in-VolumeVbn.volume) (ap affinity_of c.in-VolumeVbn.is) c.requires.node)
+    at-node (layout_of c.args.layout.now) (affinity_of c.args.affinity) (trees.Vbn c.in-VolumeVbn.volume) (ap affinity_of c.in-VolumeVbn.is) c.requires.node
 
 pub take_parcel-requires-clause-there : goal.take_parcel-requires-clause-there
 take_parcel-requires-clause-there g c =
@@ -27,7 +27,7 @@ take_parcel-requires-clause-there g c =
 
 pub gather_children-requires-clause-node : goal.gather_children-requires-clause-node
 gather_children-requires-clause-node g c =
-    (at-node (layout_of c.args.layout.now) (affinity_of c.args.affinity) (trees.Vbn c.in-VolumeVbn.volume) (ap affinity_of c.in-VolumeVbn.is) c.requires.node)
+    at-node (layout_of c.args.layout.now) (affinity_of c.args.affinity) (trees.Vbn c.in-VolumeVbn.volume) (ap affinity_of c.in-VolumeVbn.is) c.requires.node
 
 pub gather_children-requires-clause-kind : goal.gather_children-requires-clause-kind
 gather_children-requires-clause-kind g c =

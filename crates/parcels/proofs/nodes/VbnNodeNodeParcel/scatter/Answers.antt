@@ -23,7 +23,7 @@ unreachable-requires g c =
 
 pub put_parcel-requires-clause-node : goal.put_parcel-requires-clause-node
 put_parcel-requires-clause-node g c =
-    (at-node (layout_of c.args.layout.now) (affinity_of c.args.affinity) (trees.Vbn c.in-VolumeVbn.volume) (ap affinity_of c.in-VolumeVbn.is) c.requires.node)
+    at-node (layout_of c.args.layout.now) (affinity_of c.args.affinity) (trees.Vbn c.in-VolumeVbn.volume) (ap affinity_of c.in-VolumeVbn.is) c.requires.node
 
 pub put_parcel-requires-clause-vacant : goal.put_parcel-requires-clause-vacant
 put_parcel-requires-clause-vacant g c =
@@ -35,7 +35,7 @@ put_parcel-requires-clause-allowed g c =
 
 pub scatter_children-requires-clause-node : goal.scatter_children-requires-clause-node
 scatter_children-requires-clause-node g c =
-    (at-node (layout_of c.args.layout.now) (affinity_of c.args.affinity) (trees.Vbn c.in-VolumeVbn.volume) (ap affinity_of c.in-VolumeVbn.is) c.requires.node)
+    at-node (layout_of c.args.layout.now) (affinity_of c.args.affinity) (trees.Vbn c.in-VolumeVbn.volume) (ap affinity_of c.in-VolumeVbn.is) c.requires.node
 
 pub scatter_children-requires-clause-kind : goal.scatter_children-requires-clause-kind
 scatter_children-requires-clause-kind g c =

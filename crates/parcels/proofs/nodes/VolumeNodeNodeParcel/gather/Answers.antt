@@ -21,7 +21,7 @@ unreachable-requires g c =
 
 pub take_parcel-requires-clause-node : goal.take_parcel-requires-clause-node
 take_parcel-requires-clause-node g c =
-    (at-node (layout_of c.args.layout.now) (affinity_of c.args.affinity) (trees.Volume c.in-Volume.volume) (ap affinity_of c.in-Volume.is) c.requires.node)
+    at-node (layout_of c.args.layout.now) (affinity_of c.args.affinity) (trees.Volume c.in-Volume.volume) (ap affinity_of c.in-Volume.is) c.requires.node
 
 pub take_parcel-requires-clause-there : goal.take_parcel-requires-clause-there
 take_parcel-requires-clause-there g c =
@@ -29,7 +29,7 @@ take_parcel-requires-clause-there g c =
 
 pub gather_at-logical-requires-clause-node : goal.gather_at-logical-requires-clause-node
 gather_at-logical-requires-clause-node g c =
-    (at-node (layout_of c.args.layout.now) (affinity_of c.args.affinity) (trees.Volume c.in-Volume.volume) (ap affinity_of c.in-Volume.is) c.requires.node)
+    at-node (layout_of c.args.layout.now) (affinity_of c.args.affinity) (trees.Volume c.in-Volume.volume) (ap affinity_of c.in-Volume.is) c.requires.node
 
 pub gather_at-logical-requires-clause-kind : goal.gather_at-logical-requires-clause-kind
 gather_at-logical-requires-clause-kind g c =
@@ -41,7 +41,7 @@ gather_at-logical-requires-clause-there g c =
 
 pub gather_at-vbn-requires-clause-node : goal.gather_at-vbn-requires-clause-node
 gather_at-vbn-requires-clause-node g c =
-    (at-node (layout_of c.args.layout.now) (affinity_of c.args.affinity) (trees.Volume c.in-Volume.volume) (ap affinity_of c.in-Volume.is) c.requires.node)
+    at-node (layout_of c.args.layout.now) (affinity_of c.args.affinity) (trees.Volume c.in-Volume.volume) (ap affinity_of c.in-Volume.is) c.requires.node
 
 pub gather_at-vbn-requires-clause-kind : goal.gather_at-vbn-requires-clause-kind
 gather_at-vbn-requires-clause-kind g c =

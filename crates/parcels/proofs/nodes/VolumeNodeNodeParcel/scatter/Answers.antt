@@ -22,7 +22,7 @@ unreachable-requires g c =
 
 pub put_parcel-requires-clause-node : goal.put_parcel-requires-clause-node
 put_parcel-requires-clause-node g c =
-    (at-node (layout_of c.args.layout.now) (affinity_of c.args.affinity) (trees.Volume c.in-Volume.volume) (ap affinity_of c.in-Volume.is) c.requires.node)
+    at-node (layout_of c.args.layout.now) (affinity_of c.args.affinity) (trees.Volume c.in-Volume.volume) (ap affinity_of c.in-Volume.is) c.requires.node
 
 pub put_parcel-requires-clause-vacant : goal.put_parcel-requires-clause-vacant
 put_parcel-requires-clause-vacant g c =
@@ -34,7 +34,7 @@ put_parcel-requires-clause-allowed g c =
 
 pub scatter_at-requires-clause-node : goal.scatter_at-requires-clause-node
 scatter_at-requires-clause-node g c =
-    (at-node (layout_of c.args.layout.now) (affinity_of c.args.affinity) (trees.Volume c.in-Volume.volume) (ap affinity_of c.in-Volume.is) c.requires.node)
+    at-node (layout_of c.args.layout.now) (affinity_of c.args.affinity) (trees.Volume c.in-Volume.volume) (ap affinity_of c.in-Volume.is) c.requires.node
 
 pub scatter_at-requires-clause-kind : goal.scatter_at-requires-clause-kind
 scatter_at-requires-clause-kind g c =
@@ -51,7 +51,7 @@ scatter_at-requires-clause-allowed g c =
 
 pub scatter_at-requires-2-clause-node : goal.scatter_at-requires-2-clause-node
 scatter_at-requires-2-clause-node g c =
-    (at-node (layout_of c.args.layout.now) (affinity_of c.args.affinity) (trees.Volume c.in-Volume.volume) (ap affinity_of c.in-Volume.is) c.requires.node)
+    at-node (layout_of c.args.layout.now) (affinity_of c.args.affinity) (trees.Volume c.in-Volume.volume) (ap affinity_of c.in-Volume.is) c.requires.node
 
 pub scatter_at-requires-2-clause-kind : goal.scatter_at-requires-2-clause-kind
 scatter_at-requires-2-clause-kind g c =
