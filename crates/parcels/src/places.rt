@@ -39,7 +39,7 @@ impl<T: Drop, const N: usize> Places<T, N> {
 }
 
 /// Places by number, of any type, so that what goes over them is proved without their size.
-pub(crate) trait Slots<H>: Drop {
+pub(crate) trait Slots<H> {
     ghost room: { ℕ };
 
     // What is in the places.

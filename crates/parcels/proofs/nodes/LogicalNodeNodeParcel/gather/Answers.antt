@@ -6,6 +6,7 @@ use Rattle.affinity.specs.Numbers.{number_of}
 use Rattle.parcels.specs.Exact.{HasParcel, IsPlaced, kind_in}
 use Rattle.parcels.specs.Sets.{logical_parcels}
 use Rattle.parcels.specs.declared.family.Parcel.TheVariants as parcels
+use Rattle.parcels.proofs.OfKind.{is_logical}
 use Rattle.parcels.proofs.Moves.{taken-others}
 use Rattle.parcels.proofs.AtNode.{of_logical, at-node, at-under, at-taken, at-exact}
 use Rattle.parcels.proofs.Exactness.{logical-from}
@@ -16,6 +17,10 @@ use Rattle.parcels.proofs.nodes.LogicalNodeNodeParcel.gather.Goals as goal
 pub unreachable-requires : goal.unreachable-requires
 unreachable-requires g c =
     of_logical c.args.affinity c.requires.kind c.in_default.not-VolumeLogical
+
+pub unreachable-requires-in_default-take_parcel : goal.unreachable-requires-in_default-take_parcel
+unreachable-requires-in_default-take_parcel g c =
+    is_logical c.take_parcel.result c.take_parcel.ensures.kind c.in_default-take_parcel.not-Logical
 
 pub take_parcel-requires-clause-node : goal.take_parcel-requires-clause-node
 take_parcel-requires-clause-node g c =

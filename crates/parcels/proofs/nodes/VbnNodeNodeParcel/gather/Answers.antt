@@ -6,6 +6,7 @@ use Rattle.affinity.specs.Numbers.{number_of}
 use Rattle.parcels.specs.Exact.{HasParcel, IsPlaced, kind_in}
 use Rattle.parcels.specs.Sets.{vbn_parcels}
 use Rattle.parcels.specs.declared.family.Parcel.TheVariants as parcels
+use Rattle.parcels.proofs.OfKind.{is_vbn}
 use Rattle.parcels.proofs.Moves.{taken-others}
 use Rattle.parcels.proofs.AtNode.{of_vbn, at-node, at-under, at-taken, at-exact}
 use Rattle.parcels.proofs.Exactness.{vbn-from}
@@ -16,6 +17,10 @@ use Rattle.parcels.proofs.nodes.VbnNodeNodeParcel.gather.Goals as goal
 pub unreachable-requires : goal.unreachable-requires
 unreachable-requires g c =
     of_vbn c.args.affinity c.requires.kind c.in_default.not-VolumeVbn
+
+pub unreachable-requires-in_default-take_parcel : goal.unreachable-requires-in_default-take_parcel
+unreachable-requires-in_default-take_parcel g c =
+    is_vbn c.take_parcel.result c.take_parcel.ensures.kind c.in_default-take_parcel.not-Vbn
 
 pub take_parcel-requires-clause-node : goal.take_parcel-requires-clause-node
 take_parcel-requires-clause-node g c =

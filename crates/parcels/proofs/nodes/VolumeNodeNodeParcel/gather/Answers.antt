@@ -6,7 +6,7 @@ use Rattle.affinity.specs.Numbers.{number_of}
 use Rattle.parcels.specs.Exact.{HasParcel, kind_in}
 use Rattle.parcels.specs.Sets.{logical_parcels, volume_parcels}
 use Rattle.parcels.specs.declared.family.Parcel.TheVariants as parcels
-use Rattle.parcels.proofs.OfKind.{has_kept}
+use Rattle.parcels.proofs.OfKind.{has_kept, is_volume}
 use Rattle.parcels.proofs.Parts.{logical-none}
 use Rattle.parcels.proofs.Moves.{moved-same, taken-others}
 use Rattle.parcels.proofs.AtNode.{of_volume, at-node, at-under, at-taken, at-exact}
@@ -18,6 +18,10 @@ use Rattle.parcels.proofs.nodes.VolumeNodeNodeParcel.gather.Goals as goal
 pub unreachable-requires : goal.unreachable-requires
 unreachable-requires g c =
     of_volume c.args.affinity c.requires.kind c.in_default.not-Volume
+
+pub unreachable-requires-in_default-take_parcel : goal.unreachable-requires-in_default-take_parcel
+unreachable-requires-in_default-take_parcel g c =
+    is_volume c.take_parcel.result c.take_parcel.ensures.kind c.in_default-take_parcel.not-Volume
 
 pub take_parcel-requires-clause-node : goal.take_parcel-requires-clause-node
 take_parcel-requires-clause-node g c =
