@@ -1,4 +1,4 @@
--- The nodes below a node whose set has places for theirs.
+-- The nodes below a node whose set has places for theirs. Only functions within the crate speak of them.
 use Rattle.std.specs.Prelude.{ℕ, ◌==◌, Bool, true, length}
 use Rattle.nfs_model.specs.Tree.{Layout, Affinity, Serial, Aggregate, Volume, Logical, Stripe, Vbn, Range, stripes_of, aggregate_of}
 
