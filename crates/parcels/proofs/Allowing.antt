@@ -74,8 +74,3 @@ pub allowed-taken : {T H : Type 0} (f : H → ℕ → Option T) (Q Z : ℕ → T
     → ((k : ℕ) (x : T) → Q k x → Z k x) → ((k : ℕ) → IfSome (in_place (λ held. f held k) o) (Q k)) → (k : ℕ) → IfSome (in_place (λ held. f held k) (Some place)) (Z k)
 allowed-taken f Q Z o place e over h k =
     subst (λ o. IfSome (in_place (λ held. f held k) o) (Z k)) e (weaker (in_place (λ held. f held k) o) (Q k) (Z k) (over k) (h k))
-
--- what is allowed of a full place
-pub allowed-full : {T H : Type 0} (f : H → ℕ → Option T) (Q : ℕ → T → Type 0) (place : Option H) (held : H) → place ≡ Some held
-    → ((k : ℕ) → IfSome (in_place (λ h. f h k) (Some place)) (Q k)) → (k : ℕ) → IfSome (f held k) (Q k)
-allowed-full f Q place held e h k = subst (λ o. IfSome (in_place (λ h. f h k) (Some o)) (Q k)) e (h k)

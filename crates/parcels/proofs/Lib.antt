@@ -8,3 +8,5 @@ pub mod Allowing
 pub mod Apart
 pub mod Allowed
 pub mod AtNode
+pub mod Siblings
+pub mod Levels

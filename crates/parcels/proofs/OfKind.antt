@@ -1,25 +1,16 @@
 -- Parcels by their kinds.
-use Rattle.std.proofs.Common.{◌≡◌, ℕ, Option, Some, refl, sym, ◌∙◌, ap}
+use Rattle.std.proofs.Common.{◌≡◌, ℕ, Option, refl, ◌∙◌}
 use Rattle.nfs_model.specs.Tree.{Layout, Affinity}
 use Rattle.affinity.specs.declared.affinity.Kind.TheVariants as kinds
-use Rattle.affinity.specs.Affinity.{kind_of}
 use Rattle.affinity.specs.Numbers.{number_of}
 use Rattle.parcels.specs.Exact.{kind_in, HasParcel}
 use Rattle.parcels.specs.declared.family.Parcel.{Parcel}
-use Rattle.parcels.specs.declared.family.Parcel.TheVariants.{Range, Vbn, Stripe, Logical, Volume, Aggregate, Serial}
+use Rattle.parcels.specs.declared.family.Parcel.TheVariants.{Vbn, Logical, Volume, Aggregate, Serial}
 
 module _ {P R B S L V A X : Type 0} where
-  pub is_range : (x : Parcel P R B S L V A X) → kind_in x ≡ kinds.Range → ((y : R) → x ≡ Range y → ⊥) → ⊥
-  is_range (Range y) e n = n y refl
-  is_range _ e n = cc
-
   pub is_vbn : (x : Parcel P R B S L V A X) → kind_in x ≡ kinds.VolumeVbn → ((y : B) → x ≡ Vbn y → ⊥) → ⊥
   is_vbn (Vbn y) e n = n y refl
   is_vbn _ e n = cc
-
-  pub is_stripe : (x : Parcel P R B S L V A X) → kind_in x ≡ kinds.Stripe → ((y : S) → x ≡ Stripe y → ⊥) → ⊥
-  is_stripe (Stripe y) e n = n y refl
-  is_stripe _ e n = cc
 
   pub is_logical : (x : Parcel P R B S L V A X) → kind_in x ≡ kinds.VolumeLogical → ((y : L) → x ≡ Logical y → ⊥) → ⊥
   is_logical (Logical y) e n = n y refl
@@ -36,14 +27,6 @@ module _ {P R B S L V A X : Type 0} where
   pub is_serial : (x : Parcel P R B S L V A X) → kind_in x ≡ kinds.Serial → ((y : X) → x ≡ Serial y → ⊥) → ⊥
   is_serial (Serial y) e n = n y refl
   is_serial _ e n = cc
-
-  -- what was found at a node that has a parcel of its kind
-  pub kind_taken : (layout : Layout) (f : ℕ → Option (Parcel P R B S L V A X)) (node : Affinity) (n : ℕ) (x : Parcel P R B S L V A X)
-      → HasParcel layout f node → n ≡ number_of layout node → f n ≡ Some x → kind_in x ≡ kind_of node
-  kind_taken layout f node n x has e there =
-      let same : Some x ≡ Some has.0 = sym there ∙ ap f e ∙ has.1 in
-      let one : x ≡ has.0 = cc in
-      ap kind_in one ∙ has.2
 
   pub has_kept : (layout : Layout) (f g : ℕ → Option (Parcel P R B S L V A X)) (node : Affinity) → g (number_of layout node) ≡ f (number_of layout node) → HasParcel layout f node → HasParcel layout g node
   has_kept layout f g node e has = (has.0, e ∙ has.1, has.2)

@@ -90,14 +90,5 @@ module _ {T : Type 0} (layout : Layout) (f g : ℕ → Option T) (stays : (k : �
   pub logical-stays : (v : ℕ) → OnLogical layout (IsVacant layout f) v → OnLogical layout (IsVacant layout g) v
   logical-stays v on = logical-over layout (IsVacant layout f) (IsVacant layout g) v (λ b low high. stays (number_of layout b)) on
 
-  pub volume-stays : (v : ℕ) → OnVolume layout (IsVacant layout f) v → OnVolume layout (IsVacant layout g) v
-  volume-stays v on = volume-over layout (IsVacant layout f) (IsVacant layout g) v (λ b low high. stays (number_of layout b)) on
-
-  pub aggregate-stays : (a : ℕ) → OnAggregate layout (IsVacant layout f) a → OnAggregate layout (IsVacant layout g) a
-  aggregate-stays a on = record {
-    own = stays (2 + a) on.own;
-    volumes = λ w there of_a. volume-stays w (on.volumes w there of_a);
-  }
-
 pub vacant_kept : {T : Type 0} (layout : Layout) (f g : ℕ → Option T) (b : Affinity) → g (number_of layout b) ≡ f (number_of layout b) → IsVacant layout f b → IsVacant layout g b
 vacant_kept layout f g b e h = e ∙ h

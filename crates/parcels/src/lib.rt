@@ -2,6 +2,7 @@
 //! nodes below it. A set is put together from a shelf of parcels and taken apart without memory.
 #![tactic(auto)]
 
+mod children;
 mod family;
 mod gather;
 mod hand;

@@ -5,15 +5,10 @@ ghost use Rattle.parcels.specs.Sets.{range_parcels, vbn_parcels, stripe_parcels,
 ghost use Rattle.parcels.specs.Within.{range-within, vbn-within, stripe-within, logical-within, volume-within, aggregate-within, serial-within};
 
 use crate::family::{Family, Parcel};
-use crate::gather::{
-    gather_aggregate, gather_logical, gather_range, gather_serial, gather_stripe, gather_vbn,
-    gather_volume,
-};
+use crate::gather::{gather_at, gather_children, take_parcel};
 use crate::node::Node;
-use crate::scatter::{
-    scatter_aggregate, scatter_logical, scatter_range, scatter_serial, scatter_stripe, scatter_vbn,
-    scatter_volume,
-};
+use crate::places::{Places, eight_places, sixteen_places, two_places};
+use crate::scatter::{put_parcel, scatter_at, scatter_children};
 use crate::sets::{AggrHeld, LogicalHeld, RangeHeld, SerialHeld, StripeHeld, VbnHeld, VolumeHeld};
 use crate::shelf::Shelf;
 use affinity::{Affinity, Kind, Layout};
@@ -35,7 +30,17 @@ impl<P: Family> Node<Parcel<P>> for SerialNode {
         layout: &Layout,
         _affinity: Affinity,
     ) -> SerialHeld<P> {
-        gather_serial(shelf, layout)
+        let Parcel::Serial(own) = take_parcel(shelf, layout, Affinity::Serial) else {
+            unreachable!()
+        };
+        let mut aggregates = two_places();
+        gather_children::<Parcel<P>, AggregateNode, Places<AggrHeld<P>, 2>, S>(
+            shelf,
+            layout,
+            Affinity::Serial,
+            &mut aggregates,
+        );
+        SerialHeld { own, aggregates }
     }
 
     fn scatter<S: Shelf<Parcel<P>>>(
@@ -44,7 +49,14 @@ impl<P: Family> Node<Parcel<P>> for SerialNode {
         _affinity: Affinity,
         held: SerialHeld<P>,
     ) {
-        scatter_serial(shelf, layout, held);
+        let SerialHeld { own, aggregates } = held;
+        put_parcel(shelf, layout, Affinity::Serial, Parcel::Serial(own));
+        scatter_children::<Parcel<P>, AggregateNode, Places<AggrHeld<P>, 2>, S>(
+            shelf,
+            layout,
+            Affinity::Serial,
+            aggregates,
+        );
     }
 
     ghost within = { serial-within };
@@ -70,7 +82,18 @@ impl<P: Family> Node<Parcel<P>> for AggregateNode {
         let Affinity::Aggregate(aggregate) = affinity else {
             unreachable!()
         };
-        gather_aggregate(shelf, layout, aggregate)
+        let Parcel::Aggregate(own) = take_parcel(shelf, layout, Affinity::Aggregate(aggregate))
+        else {
+            unreachable!()
+        };
+        let mut volumes = eight_places();
+        gather_children::<Parcel<P>, VolumeNode, Places<VolumeHeld<P>, 8>, S>(
+            shelf,
+            layout,
+            Affinity::Aggregate(aggregate),
+            &mut volumes,
+        );
+        AggrHeld { own, volumes }
     }
 
     fn scatter<S: Shelf<Parcel<P>>>(
@@ -82,7 +105,19 @@ impl<P: Family> Node<Parcel<P>> for AggregateNode {
         let Affinity::Aggregate(aggregate) = affinity else {
             unreachable!()
         };
-        scatter_aggregate(shelf, layout, aggregate, held);
+        let AggrHeld { own, volumes } = held;
+        put_parcel(
+            shelf,
+            layout,
+            Affinity::Aggregate(aggregate),
+            Parcel::Aggregate(own),
+        );
+        scatter_children::<Parcel<P>, VolumeNode, Places<VolumeHeld<P>, 8>, S>(
+            shelf,
+            layout,
+            Affinity::Aggregate(aggregate),
+            volumes,
+        );
     }
 
     ghost within = { aggregate-within };
@@ -108,7 +143,16 @@ impl<P: Family> Node<Parcel<P>> for VolumeNode {
         let Affinity::Volume(volume) = affinity else {
             unreachable!()
         };
-        gather_volume(shelf, layout, volume)
+        let Parcel::Volume(own) = take_parcel(shelf, layout, Affinity::Volume(volume)) else {
+            unreachable!()
+        };
+        let logical = gather_at::<Parcel<P>, LogicalNode, S>(
+            shelf,
+            layout,
+            Affinity::VolumeLogical(volume),
+        );
+        let vbn = gather_at::<Parcel<P>, VbnNode, S>(shelf, layout, Affinity::VolumeVbn(volume));
+        VolumeHeld { own, logical, vbn }
     }
 
     fn scatter<S: Shelf<Parcel<P>>>(
@@ -120,7 +164,15 @@ impl<P: Family> Node<Parcel<P>> for VolumeNode {
         let Affinity::Volume(volume) = affinity else {
             unreachable!()
         };
-        scatter_volume(shelf, layout, volume, held);
+        let VolumeHeld { own, logical, vbn } = held;
+        put_parcel(shelf, layout, Affinity::Volume(volume), Parcel::Volume(own));
+        scatter_at::<Parcel<P>, LogicalNode, S>(
+            shelf,
+            layout,
+            Affinity::VolumeLogical(volume),
+            logical,
+        );
+        scatter_at::<Parcel<P>, VbnNode, S>(shelf, layout, Affinity::VolumeVbn(volume), vbn);
     }
 
     ghost within = { volume-within };
@@ -146,7 +198,18 @@ impl<P: Family> Node<Parcel<P>> for LogicalNode {
         let Affinity::VolumeLogical(volume) = affinity else {
             unreachable!()
         };
-        gather_logical(shelf, layout, volume)
+        let Parcel::Logical(own) = take_parcel(shelf, layout, Affinity::VolumeLogical(volume))
+        else {
+            unreachable!()
+        };
+        let mut stripes = sixteen_places();
+        gather_children::<Parcel<P>, StripeNode, Places<StripeHeld<P>, 16>, S>(
+            shelf,
+            layout,
+            Affinity::VolumeLogical(volume),
+            &mut stripes,
+        );
+        LogicalHeld { own, stripes }
     }
 
     fn scatter<S: Shelf<Parcel<P>>>(
@@ -158,7 +221,19 @@ impl<P: Family> Node<Parcel<P>> for LogicalNode {
         let Affinity::VolumeLogical(volume) = affinity else {
             unreachable!()
         };
-        scatter_logical(shelf, layout, volume, held);
+        let LogicalHeld { own, stripes } = held;
+        put_parcel(
+            shelf,
+            layout,
+            Affinity::VolumeLogical(volume),
+            Parcel::Logical(own),
+        );
+        scatter_children::<Parcel<P>, StripeNode, Places<StripeHeld<P>, 16>, S>(
+            shelf,
+            layout,
+            Affinity::VolumeLogical(volume),
+            stripes,
+        );
     }
 
     ghost within = { logical-within };
@@ -184,7 +259,11 @@ impl<P: Family> Node<Parcel<P>> for StripeNode {
         let Affinity::Stripe { volume, stripe } = affinity else {
             unreachable!()
         };
-        gather_stripe(shelf, layout, volume, stripe)
+        let Parcel::Stripe(own) = take_parcel(shelf, layout, Affinity::Stripe { volume, stripe })
+        else {
+            unreachable!()
+        };
+        StripeHeld { own }
     }
 
     fn scatter<S: Shelf<Parcel<P>>>(
@@ -196,7 +275,12 @@ impl<P: Family> Node<Parcel<P>> for StripeNode {
         let Affinity::Stripe { volume, stripe } = affinity else {
             unreachable!()
         };
-        scatter_stripe(shelf, layout, volume, stripe, held);
+        put_parcel(
+            shelf,
+            layout,
+            Affinity::Stripe { volume, stripe },
+            Parcel::Stripe(held.own),
+        );
     }
 
     ghost within = { stripe-within };
@@ -222,7 +306,17 @@ impl<P: Family> Node<Parcel<P>> for VbnNode {
         let Affinity::VolumeVbn(volume) = affinity else {
             unreachable!()
         };
-        gather_vbn(shelf, layout, volume)
+        let Parcel::Vbn(own) = take_parcel(shelf, layout, Affinity::VolumeVbn(volume)) else {
+            unreachable!()
+        };
+        let mut ranges = sixteen_places();
+        gather_children::<Parcel<P>, RangeNode, Places<RangeHeld<P>, 16>, S>(
+            shelf,
+            layout,
+            Affinity::VolumeVbn(volume),
+            &mut ranges,
+        );
+        VbnHeld { own, ranges }
     }
 
     fn scatter<S: Shelf<Parcel<P>>>(
@@ -234,7 +328,14 @@ impl<P: Family> Node<Parcel<P>> for VbnNode {
         let Affinity::VolumeVbn(volume) = affinity else {
             unreachable!()
         };
-        scatter_vbn(shelf, layout, volume, held);
+        let VbnHeld { own, ranges } = held;
+        put_parcel(shelf, layout, Affinity::VolumeVbn(volume), Parcel::Vbn(own));
+        scatter_children::<Parcel<P>, RangeNode, Places<RangeHeld<P>, 16>, S>(
+            shelf,
+            layout,
+            Affinity::VolumeVbn(volume),
+            ranges,
+        );
     }
 
     ghost within = { vbn-within };
@@ -260,7 +361,11 @@ impl<P: Family> Node<Parcel<P>> for RangeNode {
         let Affinity::Range { volume, range } = affinity else {
             unreachable!()
         };
-        gather_range(shelf, layout, volume, range)
+        let Parcel::Range(own) = take_parcel(shelf, layout, Affinity::Range { volume, range })
+        else {
+            unreachable!()
+        };
+        RangeHeld { own }
     }
 
     fn scatter<S: Shelf<Parcel<P>>>(
@@ -272,7 +377,12 @@ impl<P: Family> Node<Parcel<P>> for RangeNode {
         let Affinity::Range { volume, range } = affinity else {
             unreachable!()
         };
-        scatter_range(shelf, layout, volume, range, held);
+        put_parcel(
+            shelf,
+            layout,
+            Affinity::Range { volume, range },
+            Parcel::Range(held.own),
+        );
     }
 
     ghost within = { range-within };

@@ -1,6 +1,6 @@
 //! Places for sets.
 
-ghost use Rattle.std.specs.Prelude.{◌≡◌, ◌≢◌, ◌<◌, ℕ, Some, None, slice_get};
+ghost use Rattle.std.specs.Prelude.{◌≡◌, ◌≢◌, ◌<◌, ℕ, List, Option, Some, None, slice_get};
 
 /// Up to N values, by number.
 #[derive(Drop)]
@@ -32,6 +32,48 @@ impl<T: Drop, const N: usize> Places<T, N> {
         requires { place < N }
         ensures taken { slice_get self.old.at place ≡ Some result }
         ensures left { slice_get self.new.at place ≡ Some None }
+        ensures others { (i : ℕ) → i ≢ place → slice_get self.new.at i ≡ slice_get self.old.at i }
+    {
+        self.at[place].take()
+    }
+}
+
+/// Places by number, of any type, so that what goes over them is proved without their size.
+pub(crate) trait Slots<H> {
+    ghost room: { ℕ };
+
+    // What is in the places.
+    ghost at: { Self → List (Option H) };
+
+    /// Puts a value into a place, or nothing.
+    fn fill(&mut self, place: usize, value: Option<H>)
+        requires { place < room }
+        ensures there { slice_get (at self.new) place ≡ Some value }
+        ensures others { (i : ℕ) → i ≢ place → slice_get (at self.new) i ≡ slice_get (at self.old) i };
+
+    /// Takes what is in a place.
+    fn empty(&mut self, place: usize) -> Option<H>
+        requires { place < room }
+        ensures taken { slice_get (at self.old) place ≡ Some result }
+        ensures others { (i : ℕ) → i ≢ place → slice_get (at self.new) i ≡ slice_get (at self.old) i };
+}
+
+impl<H: Drop, const N: usize> Slots<H> for Places<H, N> {
+    ghost room = { N };
+
+    ghost at = { λ places. places.at };
+
+    fn fill(&mut self, place: usize, value: Option<H>)
+        requires { place < N }
+        ensures there { slice_get self.new.at place ≡ Some value }
+        ensures others { (i : ℕ) → i ≢ place → slice_get self.new.at i ≡ slice_get self.old.at i }
+    {
+        self.at[place] = value;
+    }
+
+    fn empty(&mut self, place: usize) -> Option<H>
+        requires { place < N }
+        ensures taken { slice_get self.old.at place ≡ Some result }
         ensures others { (i : ℕ) → i ≢ place → slice_get self.new.at i ≡ slice_get self.old.at i }
     {
         self.at[place].take()
