@@ -5,6 +5,5 @@ pub mod Below
 pub mod Children
 pub mod Exact
 pub mod NumberIn
-pub mod Ready
 pub mod Nothing
 pub mod Within
