@@ -8,7 +8,7 @@ use Rattle.depot_rule.specs.declared.view.Read.{Read}
 use Rattle.depot_rule.specs.Sums.{tally}
 use Rattle.depot_rule.specs.Tree.{Covers, Excludes}
 use Rattle.depot_rule.specs.Shares.{Has}
-use Rattle.depot_rule.specs.Parcels.{takes}
+use Rattle.depot_rule.specs.Parcels.{has_out}
 use Rattle.depot_rule.specs.Seats.{view_of}
 use Rattle.depot_rule.proofs.Sums.{one-other}
 use Rattle.depot.specs.Holds.{untaken, Handled}
@@ -19,7 +19,7 @@ module _ {P E : Type 0} where
   -- once they are given, none of them is with the seat
   pub set-home : (f : ℕ → Option P) (b n : ℕ) (vs ws : List (View P E)) → n ≡ b → HasWith (view_of vs) b f → (view_of vs).out ≡ 0 → Handled n vs ws
       → ((k : ℕ) → Moved (untaken (view_of ws) n k) (f k) (untaken (view_of vs) n k))
-      → (k : ℕ) (g : List (Option P)) (p : P) → Has (view_of ws) n g → 0 < k → k < length (view_of vs).tree → Covers (view_of vs).tree n k → slice_index_or g k None ≡ Some p → takes k (view_of ws) ≡ 0
+      → (k : ℕ) (g : List (Option P)) (p : P) → Has (view_of ws) n g → 0 < k → k < length (view_of vs).tree → Covers (view_of vs).tree n k → slice_index_or g k None ≡ Some p → has_out k (view_of ws) ≡ 0
   set-home f b n vs ws is with free handled moved k g p has pos lt cover lists =
       let v : View P E = view_of vs in
       let w : View P E = record v { gone = handled.0; reads = handled.1 ++ v.reads } in

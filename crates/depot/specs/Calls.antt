@@ -7,7 +7,7 @@ use Rattle.depot_rule.specs.declared.view.Read.{Read}
 use Rattle.depot_rule.specs.Sums.{tally}
 use Rattle.depot_rule.specs.Tree.{ancestors, Covers, Excludes}
 use Rattle.depot_rule.specs.Shares.{exclusive, grant_shares, shares, Has}
-use Rattle.depot_rule.specs.Parcels.{takes, IsParcel}
+use Rattle.depot_rule.specs.Parcels.{has_out, IsParcel}
 use Rattle.depot_rule.specs.Seats.{view_of}
 use Rattle.depot_rule.specs.Plays.{IsOnly}
 use Rattle.affinity.specs.declared.affinity.Kind.{Kind}
@@ -40,7 +40,7 @@ module _ {P E : Type 0} where
   abbrev pub IsGranted : (P → Kind) → View P E → ℕ → List (Option P) → List Read → List (View P E) → Type 0
   IsGranted kind_of v b g more vs = (vs ≡ record v { held = slice_set v.held b (Some g); reads = more ++ v.reads } ∷ [])
       × ((k : ℕ) → 0 < k → k < length v.tree → Covers v.tree b k → IsParcel kind_of v.first k (slice_index_or g k None))
-      × ((k : ℕ) → 0 < k → Covers v.tree b k → takes k v ≡ 0)
+      × ((k : ℕ) → 0 < k → Covers v.tree b k → has_out k v ≡ 0)
       × (get_elem? v.held b ≡ some None)
 
   abbrev pub MovedTo : View P E → List ℕ → List (View P E) → Type 0

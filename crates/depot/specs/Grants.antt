@@ -14,7 +14,7 @@ use Rattle.depot_rule.specs.Sums.{total, one_if, tally}
 use Rattle.depot_rule.specs.Tree.{Covers}
 use Rattle.depot_rule.specs.History.{Behaviour, Legal, SoundThroughout, IsHistory, AreHands, entries_of, listed, after}
 use Rattle.depot_rule.specs.Shares.{made, Has}
-use Rattle.depot_rule.specs.Plays.{IsOnly, HasAdded}
+use Rattle.depot_rule.specs.Plays.{IsOnly, with_entry, HasAdded}
 use Rattle.depot.specs.Kinds.{AreOfKind}
 use Rattle.depot.specs.Calls.{IsAmong, IsRead, Refuses, IsExcluded}
 use Rattle.depot.specs.declared.grants.Refusal.{Refusal}
@@ -97,13 +97,13 @@ module _ {P C R B : Type 0} (m : Behaviour P C R B) where
   -- the entry e was stamped
   abbrev pub IsStamped : View P (Entry P C R) → Entry P C R → ℕ → List (View P (Entry P C R)) → Type 0
   IsStamped v e ticket vs = (between : List (Entry P C R))
-      × (vs ≡ record v { held = slice_set v.held e.node (Some e.left); reads = record { word = 0; value = ticket; shares = 0 } ∷ v.reads; seen = (v.seen ++ between) ++ e ∷ []; mine = v.mine ++ length (v.seen ++ between) ∷ [] } ∷ [])
+      × (vs ≡ record (with_entry v between e) { held = slice_set v.held e.node (Some e.left); reads = record { word = 0; value = ticket; shares = 0 } ∷ v.reads } ∷ [])
       × HasAdded m v between e
 
   -- the grant of b is no more, and the entry e stands in the history after all that was seen, and what others put between
   abbrev pub IsFinished : View P (Entry P C R) → ℕ → Entry P C R → View P (Entry P C R) → Type 0
   IsFinished v b e w = (gone : List ℕ) × (more : List Read) × (between : List (Entry P C R))
-      × (w ≡ record v { held = slice_set v.held b None; gone = gone; reads = more ++ v.reads; seen = (v.seen ++ between) ++ e ∷ []; mine = v.mine ++ length (v.seen ++ between) ∷ [] })
+      × (w ≡ record (with_entry v between e) { held = slice_set v.held b None; gone = gone; reads = more ++ v.reads })
       × HasAdded m v between e
 
   -- the history of the only seat, at the end: it is legal, with the invariant throughout; the seat's own hand is all hands; each entry is the seat's; and the parcels f are as it left them

@@ -5,7 +5,7 @@ ghost use Rattle.depot_rule.specs.declared.view.View.{View};
 ghost use Rattle.depot_rule.specs.declared.view.Read.{Read};
 ghost use Rattle.depot_rule.specs.Tree.{IsTree, ancestors, Covers, Excludes};
 ghost use Rattle.depot_rule.specs.Shares.{Has};
-ghost use Rattle.depot_rule.specs.Parcels.{takes};
+ghost use Rattle.depot_rule.specs.Parcels.{has_out};
 ghost use Rattle.depot_rule.specs.History.{behaviour, listed};
 ghost use Rattle.depot_rule.specs.Seats.{view_of};
 ghost use Rattle.depot.specs.Calls.{IsGranted, IsExcluded, WasRefused};
@@ -46,7 +46,7 @@ pub fn give_up<M: Machine>(board: &Board<M>, place: &mut Place<M>, parents: &[u6
     requires tree { (parents.now ≡ board.now.key.value.parents.items) × IsTree parents.now }
     requires ready { let v = view_of place.old.me.0 in (length place.old.me.0 ≡ 1) × (0 < node) × (v.path ≡ []) × (v.tree ≡ parents.now) }
     requires granted { let v = view_of place.old.me.0 in (g : _) × Has v node g }
-    requires home { let v = view_of place.old.me.0 in (k : ℕ) (g : List (Option _)) (p : _) → Has v node g → 0 < k → k < length board.now.key.value.parents.items → Covers board.now.key.value.parents.items node k → slice_index_or g k None ≡ Some p → takes k v ≡ 0 }
+    requires home { let v = view_of place.old.me.0 in (k : ℕ) (g : List (Option _)) (p : _) → Has v node g → 0 < k → k < length board.now.key.value.parents.items → Covers board.now.key.value.parents.items node k → slice_index_or g k None ≡ Some p → has_out k v ≡ 0 }
     ensures seat { (place.new.table_id ≡ place.old.table_id) × (place.new.me.1 ≡ place.old.me.1) }
     ensures apart { let v = view_of place.old.me.0 in (c : ℕ) (h : List (Option _)) → Has v c h → Excludes v.tree node c → c ≡ node }
     ensures ended { let v = view_of place.old.me.0 in (more : List Read) × (place.new.me.0 ≡ record v { held = slice_set v.held node None; reads = more ++ v.reads } ∷ []) }

@@ -10,7 +10,7 @@ ghost use Rattle.parcels.specs.Exact.{HasExactly};
 ghost use Rattle.depot_rule.specs.Sums.{tally};
 ghost use Rattle.depot_rule.specs.Tree.{Covers, Excludes};
 ghost use Rattle.depot_rule.specs.Shares.{Has};
-ghost use Rattle.depot_rule.specs.Parcels.{takes};
+ghost use Rattle.depot_rule.specs.Parcels.{has_out};
 ghost use Rattle.depot_rule.specs.Seats.{view_of};
 ghost use Rattle.depot.specs.Calls.{known};
 ghost use Rattle.depot_rule.specs.History.{behaviour};
@@ -170,7 +170,7 @@ fn stamp_call<M: Machine, N: Node<M::Parcel>, J: Said<EntryOf<M>>>(
     requires tree { (view_of place.old.me.0).tree ≡ numbers.parents (layout_of layout.now) }
     requires step { IsStep (behaviour M.steps M.takes M.gives M.invariant) (view_of place.old.me.0) (numbers.number_of (layout_of layout.now) (affinity_of grant.now.affinity)) call.now reply.now (N.parcels (layout_of layout.now) (affinity_of grant.now.affinity) grant.now.held) }
     requires hand { HasInHand (behaviour M.steps M.takes M.gives M.invariant) (view_of place.old.me.0) call.now reply.now }
-    requires taken { let ps = board.now.key.value.parents.items in (k : ℕ) → 0 < k → k < length ps → Covers ps (numbers.number_of (layout_of layout.now) (affinity_of grant.now.affinity)) k → 0 < takes k (view_of place.old.me.0) }
+    requires taken { let ps = board.now.key.value.parents.items in (k : ℕ) → 0 < k → k < length ps → Covers ps (numbers.number_of (layout_of layout.now) (affinity_of grant.now.affinity)) k → 0 < has_out k (view_of place.old.me.0) }
     requires fits { let ps = board.now.key.value.parents.items in let n = numbers.number_of (layout_of layout.now) (affinity_of grant.now.affinity) in
         let left = by_number (N.parcels (layout_of layout.now) (affinity_of grant.now.affinity) grant.now.held) (1 + numbers.node_count (layout_of layout.now)) in
         (k : ℕ) → 0 < k → k < length ps → Covers ps n k → (p : _) × (slice_index_or left k None ≡ Some p) × ((q : _) → slice_index_or (view_of place.old.me.0).first k None ≡ Some q → M.Parcel.kind p ≡ M.Parcel.kind q) }

@@ -5,7 +5,7 @@ ghost use Rattle.depot_rule.specs.declared.view.View.{View};
 ghost use Rattle.depot_rule.specs.declared.view.Read.{Read};
 ghost use Rattle.depot_rule.specs.Tree.{Covers};
 ghost use Rattle.depot_rule.specs.Shares.{Has};
-ghost use Rattle.depot_rule.specs.Parcels.{takes};
+ghost use Rattle.depot_rule.specs.Parcels.{has_out};
 ghost use Rattle.depot_rule.specs.Seats.{view_of};
 ghost use Rattle.depot_rule.specs.Plays.{IsOnly};
 ghost use Rattle.depot_rule.specs.History.{behaviour, Legal, listed, entries_of};
@@ -42,7 +42,7 @@ pub fn stamp_as<M: Machine, J: Said<EntryOf<M>>>(board: &Board<M>, place: &mut P
     requires table { (place.old.table_id ≡ board.now.table_id) × (0 < board.now.table_id.words) }
     requires one { length place.old.me.0 ≡ 1 }
     requires granted { let v = view_of place.old.me.0 in (e : _) × (g : _) × (J.item ≡ Some e) × Has v e.node g
-        × ((k : ℕ) → 0 < k → k < length board.now.key.value.parents.items → Covers board.now.key.value.parents.items e.node k → 0 < takes k v)
+        × ((k : ℕ) → 0 < k → k < length board.now.key.value.parents.items → Covers board.now.key.value.parents.items e.node k → 0 < has_out k v)
         × ((k : ℕ) → 0 < k → k < length board.now.key.value.parents.items → Covers board.now.key.value.parents.items e.node k → (p : _) × (slice_index_or e.left k None ≡ Some p) × ((q : _) → slice_index_or v.first k None ≡ Some q → M.Parcel.kind p ≡ M.Parcel.kind q)) }
     requires step { let v = view_of place.old.me.0 in (e : _) → J.item ≡ Some e → (f' : ℕ → Option _) × IsStep (behaviour M.steps M.takes M.gives M.invariant) v e.node e.call e.reply f'
         × ((k : ℕ) → 0 < k → k < length v.tree → Covers v.tree e.node k → f' k ≡ slice_index_or e.left k None) }

@@ -7,7 +7,7 @@ ghost use Rattle.depot_rule.specs.Tree.{ancestors, Covers, Excludes};
 ghost use Rattle.depot_rule.specs.Shares.{exclusive, Has};
 ghost use Rattle.depot_rule.specs.Seats.{view_of};
 ghost use Rattle.depot_rule.specs.Plays.{IsOnly};
-ghost use Rattle.depot_rule.specs.Parcels.{takes};
+ghost use Rattle.depot_rule.specs.Parcels.{has_out};
 ghost use Rattle.depot_rule.specs.History.{behaviour, listed};
 ghost use Rattle.depot.specs.Calls.{read_of, Moved, IsGranted, IsExcluded};
 ghost use Rattle.depot.specs.Grants.{IsAfter};
@@ -61,7 +61,7 @@ pub fn release<M: Machine>(board: &Board<M>, place: &mut Place<M>, node: usize)
     requires table { (place.old.table_id ≡ board.now.table_id) × (node < board.now.table_id.words) × (board.now.table_id.words ≡ length board.now.key.value.parents.items) }
     requires ready { let v = view_of place.old.me.0 in (length place.old.me.0 ≡ 1) × (0 < node) × (v.path ≡ []) }
     requires granted { let v = view_of place.old.me.0 in (g : _) × Has v node g }
-    requires home { let v = view_of place.old.me.0 in (k : ℕ) (g : List (Option _)) (p : _) → Has v node g → 0 < k → k < length board.now.key.value.parents.items → Covers board.now.key.value.parents.items node k → slice_index_or g k None ≡ Some p → takes k v ≡ 0 }
+    requires home { let v = view_of place.old.me.0 in (k : ℕ) (g : List (Option _)) (p : _) → Has v node g → 0 < k → k < length board.now.key.value.parents.items → Covers board.now.key.value.parents.items node k → slice_index_or g k None ≡ Some p → has_out k v ≡ 0 }
     ensures seat { (place.new.table_id ≡ place.old.table_id) × (place.new.me.1 ≡ place.old.me.1) }
     ensures apart { let v = view_of place.old.me.0 in (c : ℕ) (h : List (Option _)) → Has v c h → Excludes v.tree node c → c ≡ node }
     ensures released { let v = view_of place.old.me.0 in (found : ℕ) × (place.new.me.0 ≡ record v { path = ancestors v.tree node; held = slice_set v.held node None; reads = read_of node found v ∷ v.reads } ∷ []) }

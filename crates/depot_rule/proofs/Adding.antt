@@ -12,7 +12,7 @@ use Rattle.depot_rule.specs.declared.view.Read.{Read}
 use Rattle.depot_rule.specs.Sums.{total, one_if, tally}
 use Rattle.depot_rule.specs.Tree.{IsTree, ancestors, Covers}
 use Rattle.depot_rule.specs.Shares.{Has}
-use Rattle.depot_rule.specs.Parcels.{takes}
+use Rattle.depot_rule.specs.Parcels.{has_out}
 use Rattle.depot_rule.specs.Rule.{Base}
 use Rattle.depot_rule.specs.Seats.{if_less}
 use Rattle.depot_rule.specs.Machine.{IsLocal, Keeps}
@@ -127,7 +127,7 @@ module _ (P C R B : Type 0) (kind_of : P → Kind) (m : Behaviour P C R B) where
 
   module _ (local : IsLocal m.steps) (keeps : Keeps m.steps m.takes m.gives m.invariant) (ps : List ℕ) (first : G) (s : State (Option P) (List (View P E))) (r : Base kind_of ps first s) (h : History m ps first s)
       (id : ℕ) (v : View P E) (at : get_elem? s.views id ≡ some (v ∷ [])) (e : E) (g : G) (here : Has v e.node g)
-      (once : (k : ℕ) → 0 < k → k < length ps → Covers ps e.node k → takes k v ≡ 1)
+      (once : (k : ℕ) → 0 < k → k < length ps → Covers ps e.node k → has_out k v ≡ 1)
       (f f' : ℕ → Option P) (step : m.steps ps e.node e.call f e.reply f')
       (before : (k : ℕ) → 0 < k → k < length ps → Covers ps e.node k → get_or g k None ≡ f k)
       (left : (k : ℕ) → 0 < k → k < length ps → Covers ps e.node k → f' k ≡ get_or e.left k None)
@@ -147,7 +147,7 @@ module _ (P C R B : Type 0) (kind_of : P → Kind) (m : Behaviour P C R B) where
 
     -- the grant lists the parcels as the history left them
     found : (k : ℕ) → 0 < k → k < length ps → Covers ps e.node k → F k ≡ f k
-    found k pk lk c = sym (h.current.listed id (v ∷ []) at 0 v refl e.node k g here c pk lk) ∙ before k pk lk c
+    found k pk lk c = sym (h.current.granted id (v ∷ []) at 0 v refl e.node k g here c pk lk) ∙ before k pk lk c
 
     stepped : m.steps ps e.node e.call F e.reply (put_in ps e F)
     stepped = steps-on local ps r.shares.tree e f f' F node.0 node.1 step found left
@@ -176,8 +176,8 @@ module _ (P C R B : Type 0) (kind_of : P → Kind) (m : Behaviour P C R B) where
 
     now : Current ps (put_in ps e F) record { words = words; homes = s.homes; views = set s.views id (stamped ∷ []) }
     now = current-granted ps (put_in ps e F) s words id e.node v stamped e.left at (λ k. refl) refl
-        (λ k pk lk z. h.current.now k pk lk z ∙ ap (λ y. some (some y)) (sym (patched-out ps e.node k (listed e.left) F (λ c. let o = once k pk lk c in let t = total-at (total (takes k)) s.views id (v ∷ []) at in absurd (omega arith)))))
-        (λ j us aj i u ai c k l has other cover pk lk. h.current.listed j us aj i u ai c k l has cover pk lk
+        (λ k pk lk z. h.current.now k pk lk z ∙ ap (λ y. some (some y)) (sym (patched-out ps e.node k (listed e.left) F (λ c. let o = once k pk lk c in let t = total-at (total (has_out k)) s.views id (v ∷ []) at in absurd (omega arith)))))
+        (λ j us aj i u ai c k l has other cover pk lk. h.current.granted j us aj i u ai c k l has cover pk lk
         ∙ sym (patched-out ps e.node k (listed e.left) F (λ covered. apart j i c k us u l aj ai has other cover covered)))
         (λ k c pk lk. sym (patched-in ps e.node k (listed e.left) F c))
 

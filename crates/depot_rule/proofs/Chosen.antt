@@ -7,7 +7,7 @@ use Rattle.std.specs.Prelude.{slice_get}
 use Rattle.depot_rule.specs.declared.view.Entry.{Entry}
 use Rattle.depot_rule.specs.Sums.{total, one_if, tally}
 use Rattle.depot_rule.specs.Seats.{if_less, put_among, in_order}
-use Rattle.depot_rule.specs.History.{Ascends, StartsWith, moved, or_nothing, chosen}
+use Rattle.depot_rule.specs.History.{Ascends, StartsWith, batches_of, or_nothing, chosen}
 use Rattle.depot_rule.proofs.Sums.{one-same, one-is, total-append, tally-append}
 
 module _ {A : Type 0} where
@@ -70,9 +70,9 @@ module _ {A : Type 0} where
       let r = weigh-in-order weigh zs ps qs in let a = weigh-put weigh zs p (in_order ps qs) in let b = weigh-or weigh (slice_get zs p) (chosen zs ps) in omega arith
 
 -- batches of entries weigh as much as the entries do
-pub moved-weigh : {P C R B : Type 0} (batches : C → R → List B) (weigh : B → ℕ) (es : List (Entry P C R)) → total weigh (moved batches es) ≡ total (λ (e : Entry P C R). total weigh (batches e.call e.reply)) es
+pub moved-weigh : {P C R B : Type 0} (batches : C → R → List B) (weigh : B → ℕ) (es : List (Entry P C R)) → total weigh (batches_of batches es) ≡ total (λ (e : Entry P C R). total weigh (batches e.call e.reply)) es
 moved-weigh batches weigh [] = refl
-moved-weigh batches weigh (e ∷ es) = let a = total-append weigh (batches e.call e.reply) (moved batches es) in let r = moved-weigh batches weigh es in omega arith
+moved-weigh batches weigh (e ∷ es) = let a = total-append weigh (batches e.call e.reply) (batches_of batches es) in let r = moved-weigh batches weigh es in omega arith
 
 tally-less : (p : ℕ) (b : Bool) (xs ys : List ℕ) (n : ℕ) → tally p xs ≡ n → tally p ys ≡ n → tally p (if_less b xs ys) ≡ n
 tally-less p true xs ys n e f = e

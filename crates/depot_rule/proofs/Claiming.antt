@@ -15,7 +15,7 @@ use Rattle.depot_rule.specs.History.{Behaviour, IsHistory, listed, after}
 use Rattle.depot_rule.specs.Sums.{total, tally}
 use Rattle.depot_rule.specs.Tree.{ancestors, Covers, Excludes}
 use Rattle.depot_rule.specs.Shares.{exclusive, Has, claims, entered, shares, Shares}
-use Rattle.depot_rule.specs.Parcels.{takes, IsParcel, Carries}
+use Rattle.depot_rule.specs.Parcels.{has_out, IsParcel, Carries}
 use Rattle.depot_rule.specs.Rule.{Rule}
 use Rattle.depot_rule.specs.Plays.{Place, noted, ClaimSays, ReleaseSays}
 use Rattle.depot_rule.proofs.Views.{finds-own}
@@ -122,7 +122,7 @@ module _ (P C R B : Type 0) (kind_of : P → Kind) (m : Behaviour P C R B) where
             (record {
               base = record { shares = kept.1; parcels = stay-keeps P E kind_of ps first s r id v w at (λ k. refl) (granted ps first s b v (noted st x v) ca pos lt kept.0 found) };
               history = remembers P C R B m ps first s h _ s.homes id v [] v.unsure (set v.held b (Some g)) v.out v.gone (noted st x v) at
-                  (current-granted ps F s _ id b v w g at (λ k. refl) refl h.current.now (λ j us aj i u ai c k l has other. h.current.listed j us aj i u ai c k l has) (λ k ck pk lk. lists k pk lk ck));
+                  (current-granted ps F s _ id b v w g at (λ k. refl) refl h.current.now (λ j us aj i u ai c k l has other. h.current.granted j us aj i u ai c k l has) (λ k ck pk lk. lists k pk lk ck));
             }),
         (
           on-one _ me.0 v one (
@@ -135,7 +135,7 @@ module _ (P C R B : Type 0) (kind_of : P → Kind) (m : Behaviour P C R B) where
               (λ c h hc ex. not-held ps s.words s.views r.shares id v b c h at pos lt all free hc (subst (λ (t : List ℕ). Excludes t b c) so.tree ex) (ca.nodes c h hc).0),
               (λ k pk ck.
                   let u = untaken P E kind_of ps first s r id b k v at pos lt all free pk (subst (λ (t : List ℕ). Covers t b k) so.tree ck) in
-                  let m = total-at (total (takes k)) s.views id (v ∷ []) at in omega arith),
+                  let m = total-at (total (has_out k)) s.views id (v ∷ []) at in omega arith),
               kept.0,
               (
                 h.log,
@@ -180,7 +180,7 @@ module _ (P C R B : Type 0) (kind_of : P → Kind) (m : Behaviour P C R B) where
 
   -- a grant whose parcels are all at home is given up
   pub releases : (ps : List ℕ) (first : List (Option P)) (slots id : ℕ) (me : Place P E) (v : View P E) (b : ℕ) (g : G) → me.0 ≡ v ∷ [] → 0 < b → b < length ps → v.path ≡ [] → get_elem? v.held b ≡ some (Some g)
-      → ((k : ℕ) (p : P) → 0 < k → k < length ps → Covers ps b k → get_or g k None ≡ Some p → takes k v ≡ 0)
+      → ((k : ℕ) (p : P) → 0 < k → k < length ps → Covers ps b k → get_or g k None ≡ Some p → has_out k v ≡ 0)
       → Allows (Rule kind_of m ps first) slots id me b (λ x. (x + (2 ^ 64 - exclusive)) % 2 ^ 64) (ReleaseSays (step slots b exclusive 0 none) me)
   releases ps first slots id me v b g one pos lt no_path held listed_home s whole _ at' small =
       let r = whole.base in let h = whole.history in
@@ -189,7 +189,7 @@ module _ (P C R B : Type 0) (kind_of : P → Kind) (m : Behaviour P C R B) where
       let x : ℕ = get_or s.words b 0 in
       let so = r.shares.sound id (v ∷ []) at 0 v refl in
       let ca = r.parcels.carries id (v ∷ []) at 0 v refl in
-      let home_again : (k : ℕ) → 0 < k → Covers ps b k → takes k v ≡ 0
+      let home_again : (k : ℕ) → 0 < k → Covers ps b k → has_out k v ≡ 0
       = λ k pk ck. let lk = covers-below ps b k pk lt ck in let p = ca.whole b k g held ck pk lk in listed_home k p.0 pk lk ck p.1 in
       let w : View P E = record v { path = ancestors v.tree b; held = set v.held b None; reads = noted st x v } in
       let kept = release-keeps P E ps s.words s.views r.shares id v b g (noted st x v) at pos lt no_path held in

@@ -12,7 +12,7 @@ use Rattle.depot_rule.specs.declared.view.Read.{Read}
 use Rattle.depot_rule.specs.Sums.{total, one_if, tally}
 use Rattle.depot_rule.specs.Tree.{Covers}
 use Rattle.depot_rule.specs.Shares.{Has}
-use Rattle.depot_rule.specs.Parcels.{takes}
+use Rattle.depot_rule.specs.Parcels.{has_out}
 use Rattle.depot_rule.specs.History.{Current}
 use Rattle.depot_rule.proofs.Sums.{total-set, total-at}
 use Rattle.depot_rule.proofs.Views.{all-one, each-set}
@@ -24,23 +24,23 @@ module _ {P E : Type 0} (ps : List ℕ) (f : ℕ → Option P) where
 
   -- no slot moves, and no grant is new
   pub current-stays : (s : State (Option P) (List (View P E))) (c : Current ps f s) (words : List ℕ) (id : ℕ) (v w : View P E) → get_elem? s.views id ≡ some (v ∷ [])
-      → ((k : ℕ) → takes k w ≡ takes k v) → ((b : ℕ) (g : List (Option P)) → Has w b g → Has v b g)
+      → ((k : ℕ) → has_out k w ≡ has_out k v) → ((b : ℕ) (g : List (Option P)) → Has w b g → Has v b g)
       → Current ps f record { words = words; homes = s.homes; views = set s.views id (w ∷ []) }
   current-stays s c words id v w at same old = record {
-    now = λ k pk lk z. let t = total-set (total (takes k)) s.views id (v ∷ []) (w ∷ []) at in let e = same k in c.now k pk lk (omega arith);
-    listed = each-set ListsCurrent s.views id (w ∷ []) c.listed (all-one ListsCurrent w (λ b k g has. c.listed id (v ∷ []) at 0 v refl b k g (old b g has)));
+    now = λ k pk lk z. let t = total-set (total (has_out k)) s.views id (v ∷ []) (w ∷ []) at in let e = same k in c.now k pk lk (omega arith);
+    granted = each-set ListsCurrent s.views id (w ∷ []) c.granted (all-one ListsCurrent w (λ b k g has. c.granted id (v ∷ []) at 0 v refl b k g (old b g has)));
   }
 
   -- a grant lists other parcels than before, or is new: they are as g has them
   pub current-granted : (s : State (Option P) (List (View P E))) (words : List ℕ) (id b : ℕ) (v w : View P E) (left : List (Option P)) → get_elem? s.views id ≡ some (v ∷ [])
-      → ((k : ℕ) → takes k w ≡ takes k v) → w.held ≡ set v.held b (Some left)
-      → ((k : ℕ) → 0 < k → k < length ps → total (total (takes k)) s.views ≡ 0 → get_elem? s.homes k ≡ some (some (f k)))
+      → ((k : ℕ) → has_out k w ≡ has_out k v) → w.held ≡ set v.held b (Some left)
+      → ((k : ℕ) → 0 < k → k < length ps → total (total (has_out k)) s.views ≡ 0 → get_elem? s.homes k ≡ some (some (f k)))
       → ((j : ℕ) (us : List (View P E)) → get_elem? s.views j ≡ some us → (i : ℕ) (u : View P E) → get_elem? us i ≡ some u → (c k : ℕ) (h : List (Option P)) → Has u c h → (j ≡ id → c ≢ b) → Covers ps c k → 0 < k → k < length ps → get_or h k None ≡ f k)
       → ((k : ℕ) → Covers ps b k → 0 < k → k < length ps → get_or left k None ≡ f k)
       → Current ps f record { words = words; homes = s.homes; views = set s.views id (w ∷ []) }
   current-granted s words id b v w left at same held home others lists = record {
-    now = λ k pk lk z. let t = total-set (total (takes k)) s.views id (v ∷ []) (w ∷ []) at in let e = same k in home k pk lk (omega arith);
-    listed = λ j us aj i u ai c k h has cover pk lk. ⊎_elim
+    now = λ k pk lk z. let t = total-set (total (has_out k)) s.views id (v ∷ []) (w ∷ []) at in let e = same k in home k pk lk (omega arith);
+    granted = λ j us aj i u ai c k h has cover pk lk. ⊎_elim
         (λ (t : (j ≡ id) × (w ∷ [] ≡ us)).
         let alone = all-one ListsCurrent w (λ c k h has cover pk lk. ⊎_elim
         (λ (q : (c ≡ b) × (Some left ≡ Some h)). let lh : left ≡ h = (let e = q.1 in cc) in
@@ -60,10 +60,10 @@ module _ {P E : Type 0} (ps : List ℕ) (f : ℕ → Option P) where
       → Current ps f record { words = words; homes = set s.homes k x; views = set s.views id (record v { out = out; gone = gone; reads = rs } ∷ []) }
   current-slot s c words id b k v g out gone rs x at here covers pos lt wide else_same back =
       let w : View P E = record v { out = out; gone = gone; reads = rs } in record {
-        now = λ m pm lm z. let t = total-set (total (takes m)) s.views id (v ∷ []) (w ∷ []) at in dite (ℕ_discrete m k)
-            (λ e. let tk : takes m w ≡ takes k w = ap (λ (n : ℕ). takes n w) e in
-            let n = total-at (total (takes m)) s.views id (v ∷ []) at in
-            ap (get_elem? (set s.homes k x)) e ∙ (set_here s.homes k x (omega arith) ∙ ap some (back (omega arith) ∙ ap some (c.listed id (v ∷ []) at 0 v refl b k g here covers pos lt ∙ ap f (sym e)))))
+        now = λ m pm lm z. let t = total-set (total (has_out m)) s.views id (v ∷ []) (w ∷ []) at in dite (ℕ_discrete m k)
+            (λ e. let tk : has_out m w ≡ has_out k w = ap (λ (n : ℕ). has_out n w) e in
+            let n = total-at (total (has_out m)) s.views id (v ∷ []) at in
+            ap (get_elem? (set s.homes k x)) e ∙ (set_here s.homes k x (omega arith) ∙ ap some (back (omega arith) ∙ ap some (c.granted id (v ∷ []) at 0 v refl b k g here covers pos lt ∙ ap f (sym e)))))
             (λ ne. let q = else_same m pm ne in let q0 = q.0 in let q1 = q.1 in set_else s.homes k m x ne ∙ c.now m pm lm (omega arith));
-        listed = each-set ListsCurrent s.views id (w ∷ []) c.listed (all-one ListsCurrent w (c.listed id (v ∷ []) at 0 v refl));
+        granted = each-set ListsCurrent s.views id (w ∷ []) c.granted (all-one ListsCurrent w (c.granted id (v ∷ []) at 0 v refl));
       }

@@ -11,7 +11,7 @@ use Rattle.depot_rule.specs.History.{Behaviour, listed, after, chosen, StartsWit
 use Rattle.depot_rule.specs.Sums.{total, one_if, tally, over_taken}
 use Rattle.depot_rule.specs.Tree.{ancestors}
 use Rattle.depot_rule.specs.Shares.{Each, parts, made, claims, entered, shares, IsSound}
-use Rattle.depot_rule.specs.Parcels.{takes, Carries}
+use Rattle.depot_rule.specs.Parcels.{has_out, Carries}
 use Rattle.depot_rule.specs.Rule.{Rule}
 use Rattle.depot_rule.specs.Seats.{longer, having_seen, first_of, others_of}
 use Rattle.depot_rule.proofs.Sums.{one-other, total-set, total-append, over-none}
@@ -43,7 +43,7 @@ module _ (P C R B : Type 0) (kind_of : P → Kind) (m : Behaviour P C R B) where
 
   -- f adds up to as much as before, for each f that the rule speaks of
   abbrev Agree : (((View P E → ℕ) → Type 0)) → Type 0
-  Agree same = same parts × ((a : ℕ) → 0 < a → same (shares a)) × ((a : ℕ) → 0 < a → same (claims a)) × ((a : ℕ) → 0 < a → same (entered a)) × ((k : ℕ) → 0 < k → same (takes k)) × same made
+  Agree same = same parts × ((a : ℕ) → 0 < a → same (shares a)) × ((a : ℕ) → 0 < a → same (claims a)) × ((a : ℕ) → 0 < a → same (entered a)) × ((k : ℕ) → 0 < k → same (has_out k)) × same made
       × ((p : ℕ) → same (λ (v : View P E). tally p v.mine)) × ((weigh : E → ℕ) → same (λ (v : View P E). total weigh (chosen v.seen v.mine)))
 
   -- what the rule says of each view alone
@@ -55,7 +55,7 @@ module _ (P C R B : Type 0) (kind_of : P → Kind) (m : Behaviour P C R B) where
   AreSound ps first s r views = Each (Sound ps first s r) views
 
   pub sound-views : (ps : List ℕ) (first : List (Option P)) (s : St) (r : Rule kind_of m ps first s) → AreSound ps first s r s.views
-  sound-views ps first s r j vs at i v in_vs = (r.base.shares.sound j vs at i v in_vs, r.base.parcels.carries j vs at i v in_vs, r.history.current.listed j vs at i v in_vs, r.history.seen j vs at i v in_vs, r.history.own j vs at i v in_vs, r.history.hand j vs at i v in_vs)
+  sound-views ps first s r j vs at i v in_vs = (r.base.shares.sound j vs at i v in_vs, r.base.parcels.carries j vs at i v in_vs, r.history.current.granted j vs at i v in_vs, r.history.seen j vs at i v in_vs, r.history.own j vs at i v in_vs, r.history.hand j vs at i v in_vs)
 
   -- the rule sees the views added up, and each alone
   redealt : (ps : List ℕ) (first : List (Option P)) (s : St) (r : Rule kind_of m ps first s) (views : List (List (View P E)))
@@ -96,7 +96,7 @@ module _ (P C R B : Type 0) (kind_of : P → Kind) (m : Behaviour P C R B) where
         (λ a p. total-joined (shares a) s.views id other vs ws both at at' (q.0.1 a p)),
         (λ a p. total-joined (claims a) s.views id other vs ws both at at' (q.0.2 a p)),
         (λ a p. total-joined (entered a) s.views id other vs ws both at at' (q.0.3 a p)),
-        (λ k p. total-joined (takes k) s.views id other vs ws both at at' (q.0.4 k p)),
+        (λ k p. total-joined (has_out k) s.views id other vs ws both at at' (q.0.4 k p)),
         total-joined made s.views id other vs ws both at at' q.0.5,
         (λ p. total-joined (λ (v : View P E). tally p v.mine) s.views id other vs ws both at at' (q.0.6 p)),
         (λ weigh. total-joined (λ (v : View P E). total weigh (chosen v.seen v.mine)) s.views id other vs ws both at at' (q.0.7 weigh)),
@@ -114,7 +114,7 @@ module _ (P C R B : Type 0) (kind_of : P → Kind) (m : Behaviour P C R B) where
         (λ a p. total-parted (shares a) s.views id vs left right at (q.0.1 a p)),
         (λ a p. total-parted (claims a) s.views id vs left right at (q.0.2 a p)),
         (λ a p. total-parted (entered a) s.views id vs left right at (q.0.3 a p)),
-        (λ k p. total-parted (takes k) s.views id vs left right at (q.0.4 k p)),
+        (λ k p. total-parted (has_out k) s.views id vs left right at (q.0.4 k p)),
         total-parted made s.views id vs left right at q.0.5,
         (λ p. total-parted (λ (v : View P E). tally p v.mine) s.views id vs left right at (q.0.6 p)),
         (λ weigh. total-parted (λ (v : View P E). total weigh (chosen v.seen v.mine)) s.views id vs left right at (q.0.7 weigh)),
@@ -137,7 +137,7 @@ module _ (P C R B : Type 0) (kind_of : P → Kind) (m : Behaviour P C R B) where
           (λ a p. adds (shares a)),
           (λ a p. adds (claims a)),
           (λ a p. adds (entered a)),
-          (λ k p. adds (takes k)),
+          (λ k p. adds (has_out k)),
           adds made,
           (λ p. adds (λ (v : View P E). tally p v.mine)),
           (λ weigh. adds (λ (v : View P E). total weigh (chosen v.seen v.mine))),
@@ -176,7 +176,7 @@ module _ (P C R B : Type 0) (kind_of : P → Kind) (m : Behaviour P C R B) where
 module _ (P E : Type 0) (kind_of : P → Kind) where
   -- a view with nothing entered, granted or taken
   pub bare-counts : (v : View P E) (a : ℕ) → 0 < a → v.unsure ≡ 0 → v.path ≡ [] → v.out ≡ 0 → v.gone ≡ [] → (n : ℕ) → v.held ≡ replicate n None
-      → (shares a v ≡ 0) × (claims a v ≡ 0) × (entered a v ≡ 0) × (takes a v ≡ 0)
+      → (shares a v ≡ 0) × (claims a v ≡ 0) × (entered a v ≡ 0) × (has_out a v ≡ 0)
   bare-counts v a pos u p h g n e =
       let z = one-other v.unsure a (λ q. omega arith) in let z' = one-other v.out a (λ q. omega arith) in
       let no_path : tally a v.path ≡ 0 = ap (tally a) p in let none_gone : tally a v.gone ≡ 0 = ap (tally a) g in

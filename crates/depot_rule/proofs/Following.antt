@@ -8,7 +8,7 @@ use Rattle.depot_rule.specs.declared.view.View.{View}
 use Rattle.depot_rule.specs.Sums.{total, one_if, tally}
 use Rattle.depot_rule.specs.Tree.{ancestors, Covers}
 use Rattle.depot_rule.specs.Shares.{exclusive, claims, entered, shares, Shares}
-use Rattle.depot_rule.specs.Parcels.{takes}
+use Rattle.depot_rule.specs.Parcels.{has_out}
 use Rattle.depot_rule.specs.Laws.{IsOpen, GrantsAreApart, ParcelsArePlaced, ParcelsAreSingle, GrantsHaveEntered, ExclusiveIsGranted}
 use Rattle.depot_rule.proofs.Sums.{one-is, total-at, total-some, total-one, over-some}
 use Rattle.depot_rule.proofs.Trees.{above-smaller}
@@ -27,22 +27,22 @@ module _ (P E : Type 0) where
       (λ (t : (0 < tally b (ancestors ps b')) ⊎ (0 < tally b' (ancestors ps b))). ⊎_elim (λ (u : 0 < tally b (ancestors ps b')). one b' (inr u) (inl refl)) (λ (u : 0 < tally b' (ancestors ps b)). one b (inl refl) (inr u)) t) ex
 
   pub are-placed : ParcelsArePlaced P E
-  are-placed kind_of ps first s r k pk lk = dite (ℕ_discrete (total (total (takes k)) s.views) 0)
+  are-placed kind_of ps first s r k pk lk = dite (ℕ_discrete (total (total (has_out k)) s.views) 0)
       (λ z. inl (r.parcels.home k pk lk z))
-      (λ nz. let a = total-some (total (takes k)) s.views (omega arith) in let u = total-some (takes k) a.1 a.3 in
+      (λ nz. let a = total-some (total (has_out k)) s.views (omega arith) in let u = total-some (has_out k) a.1 a.3 in
       let c = (r.parcels.carries a.0 a.1 a.2 u.0 u.1 u.2).cover k pk u.3 in
       inr (a.0, u.0, c.0, (a.1, u.1, c.1, a.2, u.2, c.2), c.3))
 
   pub are-single : ParcelsAreSingle P E
   are-single kind_of ps first s r k pk =
-      let open-at : (j : ℕ) (vs : List (View P E)) → get_elem? s.views j ≡ some vs → (i : ℕ) (v : View P E) → get_elem? vs i ≡ some v → 0 < takes k v → (b : ℕ) × IsOpen s.views j i b × Covers ps b k
+      let open-at : (j : ℕ) (vs : List (View P E)) → get_elem? s.views j ≡ some vs → (i : ℕ) (v : View P E) → get_elem? vs i ≡ some v → 0 < has_out k v → (b : ℕ) × IsOpen s.views j i b × Covers ps b k
       = λ j vs at i v in_vs h. let c = (r.parcels.carries j vs at i v in_vs).cover k pk h in (c.0, (vs, v, c.1, at, in_vs, c.2), c.3) in
       let same : (j j' i i' b b' : ℕ) → IsOpen s.views j i b → IsOpen s.views j' i' b' → Covers ps b k → Covers ps b' k → (j ≡ j') × (i ≡ i') × (b ≡ b') = λ j j' i i' b b' o o' c c'.
       covers-one P E ps s.words s.views r.shares j j' i i' b b' k o.0 o'.0 o.1 o'.1 o.2 o'.2 ((r.parcels.carries j o.0 o.3 i o.1 o.4).nodes b o.2 o.5).0 ((r.parcels.carries j' o'.0 o'.3 i' o'.1 o'.4).nodes b' o'.2 o'.5).0 o.3 o.4 o.5 o'.3 o'.4 o'.5 c c' in
-      total-one (total (takes k)) s.views
-      (λ j vs at. total-one (takes k) vs (λ i v in_vs. (r.parcels.carries j vs at i v in_vs).single k pk)
+      total-one (total (has_out k)) s.views
+      (λ j vs at. total-one (has_out k) vs (λ i v in_vs. (r.parcels.carries j vs at i v in_vs).single k pk)
       (λ i i' v v' e e' h h'. let o = open-at j vs at i v e h in let o' = open-at j vs at i' v' e' h' in (same j j i i' o.0 o'.0 o.1 o'.1 o.2 o'.2).1))
-      (λ j j' vs vs' at at' h h'. let u = total-some (takes k) vs h in let u' = total-some (takes k) vs' h' in
+      (λ j j' vs vs' at at' h h'. let u = total-some (has_out k) vs h in let u' = total-some (has_out k) vs' h' in
       let o = open-at j vs at u.0 u.1 u.2 u.3 in let o' = open-at j' vs' at' u'.0 u'.1 u'.2 u'.3 in (same j j' u.0 u'.0 o.0 o'.0 o.1 o'.1 o.2 o'.2).0)
 
   free-word : (ps ws : List ℕ) (views : List (List (View P E))) (r : Shares ps ws views) (a : ℕ) → 0 < a → a < length ps → total (total (claims a)) views ≡ 0 → get_or ws a 0 < exclusive

@@ -7,7 +7,7 @@ use Rattle.depot_rule.specs.declared.view.View.{View}
 use Rattle.depot_rule.specs.declared.view.Entry.{Entry}
 use Rattle.depot_rule.specs.Sums.{total}
 use Rattle.depot_rule.specs.Shares.{Each}
-use Rattle.depot_rule.specs.History.{Behaviour, History, IsHistory, moved, chosen, AreHands}
+use Rattle.depot_rule.specs.History.{Behaviour, History, IsHistory, batches_of, chosen, AreHands}
 use Rattle.depot_rule.proofs.Sums.{total-set, total-append, total-same}
 use Rattle.depot_rule.proofs.Views.{All, all-none, each-set}
 use Rattle.depot_rule.proofs.Chosen.{moved-weigh}
@@ -18,10 +18,10 @@ module _ (P C R B : Type 0) (m : Behaviour P C R B) (ps : List ℕ) (first : Lis
   E = Entry P C R
 
   abbrev given : (B → ℕ) → View P E → ℕ
-  given weigh v = total weigh (moved m.gives (chosen v.seen v.mine))
+  given weigh v = total weigh (batches_of m.gives (chosen v.seen v.mine))
 
   abbrev taken : (B → ℕ) → View P E → ℕ
-  taken weigh v = total weigh (moved m.takes (chosen v.seen v.mine))
+  taken weigh v = total weigh (batches_of m.takes (chosen v.seen v.mine))
 
   -- all hands of one seat's views, and of some seats'
   hands-of : (vs : List (View P E)) → All (HasHand P C R B m ps first) vs → (hands : List B) × ((weigh : B → ℕ) → total (given weigh) vs + total weigh hands ≡ total (taken weigh) vs)

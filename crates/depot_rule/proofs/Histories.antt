@@ -2,7 +2,7 @@
 use Rattle.std.proofs.Common.{◌≡◌, ℕ, ◌+◌, List, [], ◌∷◌, ◌++◌, sym, refl, ap, ◌∙◌, arith, append_assoc, Option}
 use Rattle.depot_rule.specs.declared.view.Entry.{Entry}
 use Rattle.depot_rule.specs.Sums.{total}
-use Rattle.depot_rule.specs.History.{put_in, after, Legal, moved, StartsWith}
+use Rattle.depot_rule.specs.History.{put_in, after, Legal, batches_of, StartsWith}
 use Rattle.depot_rule.proofs.Sums.{total-append}
 
 module _ {P C R : Type 0} where
@@ -17,12 +17,12 @@ module _ {P C R : Type 0} where
 
   -- batches of entries, and of one entry more
   pub moved-snoc : {B : Type 0} (batches : C → R → List B) (weigh : B → ℕ) (es : List (Entry P C R)) (e : Entry P C R)
-      → total weigh (moved batches (es ++ e ∷ [])) ≡ total weigh (moved batches es) + total weigh (batches e.call e.reply)
+      → total weigh (batches_of batches (es ++ e ∷ [])) ≡ total weigh (batches_of batches es) + total weigh (batches e.call e.reply)
   moved-snoc batches weigh [] e = let a = total-append weigh (batches e.call e.reply) [] in omega arith
   moved-snoc batches weigh (d ∷ es) e =
       let r = moved-snoc batches weigh es e in
-      let a = total-append weigh (batches d.call d.reply) (moved batches (es ++ e ∷ [])) in
-      let b = total-append weigh (batches d.call d.reply) (moved batches es) in omega arith
+      let a = total-append weigh (batches d.call d.reply) (batches_of batches (es ++ e ∷ [])) in
+      let b = total-append weigh (batches d.call d.reply) (batches_of batches es) in omega arith
 
 module _ {A : Type 0} where
   pub starts-itself : (xs : List A) → StartsWith xs xs

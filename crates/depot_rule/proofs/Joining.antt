@@ -12,7 +12,7 @@ use Rattle.depot_rule.specs.History.{Behaviour}
 use Rattle.depot_rule.specs.Sums.{one_if, tally, over_taken}
 use Rattle.depot_rule.specs.Tree.{ancestors, Covers}
 use Rattle.depot_rule.specs.Shares.{claims, lower, entered, shares}
-use Rattle.depot_rule.specs.Parcels.{takes}
+use Rattle.depot_rule.specs.Parcels.{has_out}
 use Rattle.depot_rule.specs.Rule.{Rule}
 use Rattle.depot_rule.specs.Seats.{if_less, put_among, in_order, both_held, merge, fresh, merged, parted, fresh_of, view_of}
 use Rattle.depot_rule.proofs.Sums.{one-other, tally-append}
@@ -99,7 +99,7 @@ module _ (P C R B : Type 0) (kind_of : P → Kind) (m : Behaviour P C R B) where
       let own = h.own id (v ∷ []) at 0 v refl in
       let so = r.shares.sound id (v ∷ []) at 0 v refl in
       let ca = r.parcels.carries id (v ∷ []) at 0 v refl in
-      let bare : (a : ℕ) → 0 < a → (shares a (fresh v) ≡ 0) × (claims a (fresh v) ≡ 0) × (entered a (fresh v) ≡ 0) × (takes a (fresh v) ≡ 0) = λ a p. bare-counts P E kind_of (fresh v) a p refl refl refl refl (length v.tree) refl in (
+      let bare : (a : ℕ) → 0 < a → (shares a (fresh v) ≡ 0) × (claims a (fresh v) ≡ 0) × (entered a (fresh v) ≡ 0) × (has_out a (fresh v) ≡ 0) = λ a p. bare-counts P E kind_of (fresh v) a p refl refl refl refl (length v.tree) refl in (
         (
           omega arith,
           (λ a p. let z = bare a p in let q = z.0 in omega arith),
@@ -113,7 +113,7 @@ module _ (P C R B : Type 0) (kind_of : P → Kind) (m : Behaviour P C R B) where
         all-one _ (record v { parts = v.parts - 1 }) (
           record { some_part = omega arith; tree = so.tree; wide = so.wide; once = so.once },
           record { opened = ca.opened; nodes = ca.nodes; single = ca.single; cover = ca.cover; whole = ca.whole; there = ca.there; empty = ca.empty },
-          h.current.listed id (v ∷ []) at 0 v refl,
+          h.current.granted id (v ∷ []) at 0 v refl,
           h.seen id (v ∷ []) at 0 v refl,
           own,
           h.hand id (v ∷ []) at 0 v refl,
@@ -152,8 +152,8 @@ module _ (P C R B : Type 0) (kind_of : P → Kind) (m : Behaviour P C R B) where
       let unsure : (a : ℕ) → 0 < a → one_if (eqb w.unsure a) ≡ 0 = λ a p. one-other w.unsure a (λ e. omega arith) in
       let path : (a : ℕ) → tally a w.path ≡ 0 = λ a. ap (tally a) no_path in
       let out : (k : ℕ) → 0 < k → one_if (eqb w.out k) ≡ 0 = λ k p. one-other w.out k (λ e. omega arith) in
-      let taken : (k : ℕ) → 0 < k → takes k (merge v w) ≡ takes k v + takes k w = λ k p. let h = out k p in let t = tally-append k v.gone w.gone in omega arith in
-      let not_both : (k : ℕ) → 0 < k → 0 < takes k v → 0 < takes k w → ⊥ = λ k p h h'. let c = ca.cover k p h in let c' = ca'.cover k p h' in clash c.0 c'.0 k c.1 c'.1 c.2 c'.2 c.3 c'.3 in (
+      let taken : (k : ℕ) → 0 < k → has_out k (merge v w) ≡ has_out k v + has_out k w = λ k p. let h = out k p in let t = tally-append k v.gone w.gone in omega arith in
+      let not_both : (k : ℕ) → 0 < k → 0 < has_out k v → 0 < has_out k w → ⊥ = λ k p h h'. let c = ca.cover k p h in let c' = ca'.cover k p h' in clash c.0 c'.0 k c.1 c'.1 c.2 c'.2 c.3 c'.3 in (
         (
           omega arith,
           (λ a p. let l = low a in let o = own a in let u = unsure a p in let q = path a in omega arith),
@@ -170,15 +170,15 @@ module _ (P C R B : Type 0) (kind_of : P → Kind) (m : Behaviour P C R B) where
             opened = ca.opened;
             nodes = λ b g e. ⊎_elim (λ (f : get_elem? v.held b ≡ some (Some g)). ca.nodes b g f) (λ (f : get_elem? w.held b ≡ some (Some g)). ca'.nodes b g f) (held-of v.held w.held b g e);
             single = λ k p. let t = taken k p in let m = ca.single k p in let m' = ca'.single k p in
-                dite (ℕ_discrete (takes k v) 0) (λ z. omega arith) (λ nz. dite (ℕ_discrete (takes k w) 0) (λ z'. omega arith) (λ nz'. absurd (not_both k p (omega arith) (omega arith))));
-            cover = λ k p h. let t = taken k p in dite (ℕ_discrete (takes k v) 0)
+                dite (ℕ_discrete (has_out k v) 0) (λ z. omega arith) (λ nz. dite (ℕ_discrete (has_out k w) 0) (λ z'. omega arith) (λ nz'. absurd (not_both k p (omega arith) (omega arith))));
+            cover = λ k p h. let t = taken k p in dite (ℕ_discrete (has_out k v) 0)
                 (λ z. let c = ca'.cover k p (omega arith) in (c.0, c.1, held-second v.held w.held c.0 c.1 apart c.2, c.3))
                 (λ nz. let c = ca.cover k p (omega arith) in (c.0, c.1, held-first v.held w.held c.0 c.1 c.2, c.3));
             whole = λ b k g e c p l. ⊎_elim (λ (f : get_elem? v.held b ≡ some (Some g)). ca.whole b k g f c p l) (λ (f : get_elem? w.held b ≡ some (Some g)). ca'.whole b k g f c p l) (held-of v.held w.held b g e);
             there = λ b k g e c p l z. let t = taken k p in ⊎_elim (λ (f : get_elem? v.held b ≡ some (Some g)). ca.there b k g f c p l (omega arith)) (λ (f : get_elem? w.held b ≡ some (Some g)). ca'.there b k g f c p l (omega arith)) (held-of v.held w.held b g e);
             empty = λ k p h. let t = tally-append k v.gone w.gone in dite (ℕ_discrete (tally k v.gone) 0) (λ z. ca'.empty k p (omega arith)) (λ nz. ca.empty k p (omega arith));
           },
-          (λ b k g e cover pk lk. ⊎_elim (λ (f : get_elem? v.held b ≡ some (Some g)). h.current.listed id (v ∷ []) at 0 v refl b k g f cover pk lk) (λ (f : get_elem? w.held b ≡ some (Some g)). h.current.listed other (w ∷ []) at' 0 w refl b k g f cover pk lk) (held-of v.held w.held b g e)),
+          (λ b k g e cover pk lk. ⊎_elim (λ (f : get_elem? v.held b ≡ some (Some g)). h.current.granted id (v ∷ []) at 0 v refl b k g f cover pk lk) (λ (f : get_elem? w.held b ≡ some (Some g)). h.current.granted other (w ∷ []) at' 0 w refl b k g f cover pk lk) (held-of v.held w.held b g e)),
           both-begin P C R B m ps first s h id (v ∷ []) 0 v at refl other (w ∷ []) 0 w at' refl,
           merged-own P C R B m ps first s h id (v ∷ []) 0 v at refl other (w ∷ []) 0 w at' refl (not-both P C R B m ps first s h id v other w at at' ne),
           merged-hand P C R B m ps first s h id (v ∷ []) 0 v at refl other (w ∷ []) 0 w at' refl,

@@ -9,9 +9,9 @@ use Rattle.depot_rule.specs.declared.view.View.{View}
 use Rattle.depot_rule.specs.declared.view.Entry.{Entry}
 use Rattle.depot_rule.specs.Sums.{total, one_if, tally}
 use Rattle.depot_rule.specs.Tree.{IsTree}
-use Rattle.depot_rule.specs.History.{Behaviour, Legal, SoundThroughout, AreHands, StartsWith, listed, after, moved, chosen, entries_of}
+use Rattle.depot_rule.specs.History.{Behaviour, Legal, SoundThroughout, AreHands, StartsWith, listed, after, batches_of, chosen, entries_of}
 use Rattle.depot_rule.specs.Shares.{opening_view, claims, entered, shares, IsSound}
-use Rattle.depot_rule.specs.Parcels.{takes, IsParcel, Carries}
+use Rattle.depot_rule.specs.Parcels.{has_out, IsParcel, Carries}
 use Rattle.depot_rule.specs.Rule.{Base, Rule}
 use Rattle.depot_rule.proofs.Views.{all-one, only-view}
 use Rattle.depot_rule.proofs.Dealing.{bare-counts}
@@ -55,7 +55,7 @@ module _ (P E : Type 0) (kind_of : P → Kind) where
       → Base {E = E} kind_of ps first (opening (replicate (length ps) 0) first (opening_view ps first ∷ []))
   opens ps first tree few wide there =
       let v : View P E = opening_view ps first in
-      let bare : (a : ℕ) → 0 < a → (shares a v ≡ 0) × (claims a v ≡ 0) × (entered a v ≡ 0) × (takes a v ≡ 0) = λ a p. bare-counts P E kind_of v a p refl refl refl refl (length ps) refl in
+      let bare : (a : ℕ) → 0 < a → (shares a v ≡ 0) × (claims a v ≡ 0) × (entered a v ≡ 0) × (has_out a v ≡ 0) = λ a p. bare-counts P E kind_of v a p refl refl refl refl (length ps) refl in
       record {
         shares = record {
           tree = tree;
@@ -88,8 +88,8 @@ module _ (P E : Type 0) (kind_of : P → Kind) where
       → (k : ℕ) → 0 < k → k < length ps → (y : Option P) × (get_elem? s.homes k ≡ some (some y)) × IsParcel kind_of first k y
   closes ps first s r id v at all none_open k p l =
       let ca = r.parcels.carries id (v ∷ []) at 0 v refl in
-      r.parcels.home k p l (only-view P E ps s.words s.views r.shares id v at all (takes k)
-      ∙ (let z : (0 < takes k v → ⊥) = (λ h. let c = ca.cover k p h in none_open c.0 c.1 c.2) in none-then (takes k v) z))
+      r.parcels.home k p l (only-view P E ps s.words s.views r.shares id v at all (has_out k)
+      ∙ (let z : (0 < has_out k v → ⊥) = (λ h. let c = ca.cover k p h in none_open c.0 c.1 c.2) in none-then (has_out k v) z))
 
 -- with nothing in the history
 module _ (P C R B : Type 0) (kind_of : P → Kind) (m : Behaviour P C R B) where
@@ -108,7 +108,7 @@ module _ (P C R B : Type 0) (kind_of : P → Kind) (m : Behaviour P C R B) where
           legal = tt;
           current = record {
             now = λ k pk lk z. at-home first k None (omega arith);
-            listed = each-one (ListsCurrent ps (listed first)) v (λ b k g e. absurd (none-held (length ps) b g e));
+            granted = each-one (ListsCurrent ps (listed first)) v (λ b k g e. absurd (none-held (length ps) b g e));
           };
           seen = each-one (λ (u : View P E). StartsWith [] u.seen) v ([], refl);
           mine = λ p. let z : one_if (ltb p 0) ≡ 0 = ap one_if (le-ltb p 0 (omega arith)) in sym z;
@@ -137,8 +137,8 @@ module _ (P C R B : Type 0) (kind_of : P → Kind) (m : Behaviour P C R B) where
         let g = own-weigh (λ (d : E). total weigh (m.gives d.call d.reply)) in let t = own-weigh (λ (d : E). total weigh (m.takes d.call d.reply)) in
         let g_own = moved-weigh m.gives weigh (chosen v.seen v.mine) in let t_own = moved-weigh m.takes weigh (chosen v.seen v.mine) in
         let g_all = moved-weigh m.gives weigh v.seen in let t_all = moved-weigh m.takes weigh v.seen in
-        let g_log : total weigh (moved m.gives r.history.log) ≡ total weigh (moved m.gives v.seen) = ap (λ (l : List E). total weigh (moved m.gives l)) all_seen in
-        let t_log : total weigh (moved m.takes r.history.log) ≡ total weigh (moved m.takes v.seen) = ap (λ (l : List E). total weigh (moved m.takes l)) all_seen in omega arith
+        let g_log : total weigh (batches_of m.gives r.history.log) ≡ total weigh (batches_of m.gives v.seen) = ap (λ (l : List E). total weigh (batches_of m.gives l)) all_seen in
+        let t_log : total weigh (batches_of m.takes r.history.log) ≡ total weigh (batches_of m.takes v.seen) = ap (λ (l : List E). total weigh (batches_of m.takes l)) all_seen in omega arith
 
     pub closes-history : Legal m.steps ps (listed first) v.seen × SoundThroughout m ps (listed first) v.seen
         × ((hands : List B) × AreHands m.takes m.gives (entries_of v) hands × m.invariant ps (after ps (listed first) v.seen) hands (length v.seen))
@@ -153,5 +153,5 @@ module _ (P C R B : Type 0) (kind_of : P → Kind) (m : Behaviour P C R B) where
     pub closes-parcels : ((b : ℕ) (g : List (Option P)) → get_elem? v.held b ≡ some (Some g) → ⊥) → (k : ℕ) → 0 < k → k < length ps → get_elem? s.homes k ≡ some (some (after ps (listed first) v.seen k))
     closes-parcels none_open k pk lk =
         let ca = r.base.parcels.carries id (v ∷ []) at 0 v refl in
-        r.history.current.now k pk lk (only-view P E ps s.words s.views r.base.shares id v at all (takes k) ∙ none-then (takes k v) (λ h. let c = ca.cover k pk h in none_open c.0 c.1 c.2))
+        r.history.current.now k pk lk (only-view P E ps s.words s.views r.base.shares id v at all (has_out k) ∙ none-then (has_out k v) (λ h. let c = ca.cover k pk h in none_open c.0 c.1 c.2))
         ∙ ap (λ (l : List E). some (some (after ps (listed first) l k))) all_seen

@@ -12,7 +12,7 @@ use Rattle.depot_rule.specs.declared.view.Read.{Read}
 use Rattle.depot_rule.specs.Sums.{total, one_if, tally}
 use Rattle.depot_rule.specs.Tree.{ancestors, Covers}
 use Rattle.depot_rule.specs.Shares.{claims, entered, shares}
-use Rattle.depot_rule.specs.Parcels.{takes, Carries, Parcels}
+use Rattle.depot_rule.specs.Parcels.{has_out, Carries, Parcels}
 use Rattle.depot_rule.specs.Rule.{Base}
 use Rattle.depot_rule.proofs.Sums.{total-set, total-at, total-zero}
 use Rattle.depot_rule.proofs.Trees.{cover-excludes}
@@ -27,20 +27,20 @@ module _ (P E : Type 0) (kind_of : P → Kind) where
 
   -- a step that moves no slot
   pub stay-keeps : (ps : List ℕ) (first : List (Option P)) (s : St) (r : Base kind_of ps first s) (id : ℕ) (v w : View P E) → get_elem? s.views id ≡ some (v ∷ [])
-      → ((k : ℕ) → takes k w ≡ takes k v) → Carries kind_of ps first s.homes w
+      → ((k : ℕ) → has_out k w ≡ has_out k v) → Carries kind_of ps first s.homes w
       → Parcels kind_of ps first s.homes (set s.views id (w ∷ []))
   stay-keeps ps first s r id v w at same mine = record {
     slots = r.parcels.slots;
-    home = λ k pk lk none_taken. let t = total-set (total (takes k)) s.views id (v ∷ []) (w ∷ []) at in let e = same k in r.parcels.home k pk lk (omega arith);
+    home = λ k pk lk none_taken. let t = total-set (total (has_out k)) s.views id (v ∷ []) (w ∷ []) at in let e = same k in r.parcels.home k pk lk (omega arith);
     carries = each-set (Carries kind_of ps first s.homes) s.views id (w ∷ []) r.parcels.carries (all-one (Carries kind_of ps first s.homes) w mine);
   }
 
   -- where b's word is 0 and the words above it are entered, no seat has a parcel that b covers
   pub untaken : (ps : List ℕ) (first : List (Option P)) (s : St) (r : Base kind_of ps first s) (id b k : ℕ) (v : View P E) → get_elem? s.views id ≡ some (v ∷ []) → 0 < b → b < length ps
-      → ((a : ℕ) → tally a v.path ≡ tally a (ancestors ps b)) → get_or s.words b 0 ≡ 0 → 0 < k → Covers ps b k → total (total (takes k)) s.views ≡ 0
-  untaken ps first s r id b k v at pb lb all free pk cover = total-zero (total (takes k)) s.views (λ j us aj. total-zero (takes k) us (λ i u ai.
+      → ((a : ℕ) → tally a v.path ≡ tally a (ancestors ps b)) → get_or s.words b 0 ≡ 0 → 0 < k → Covers ps b k → total (total (has_out k)) s.views ≡ 0
+  untaken ps first s r id b k v at pb lb all free pk cover = total-zero (total (has_out k)) s.views (λ j us aj. total-zero (has_out k) us (λ i u ai.
       let cu = r.parcels.carries j us aj i u ai in
-      dite (ℕ_discrete (takes k u) 0) (λ z. z) (λ nz.
+      dite (ℕ_discrete (has_out k u) 0) (λ z. z) (λ nz.
       let t = cu.cover k pk (omega arith) in
       let c : ℕ = t.0 in let node = cu.nodes c t.1 t.2 in
       let q = r.shares.counted b pb lb in
@@ -95,7 +95,7 @@ module _ (P E : Type 0) (kind_of : P → Kind) where
         opened = ca.opened;
         nodes = ca.nodes;
         single = λ m pm. dite (ℕ_discrete m k)
-            (λ e. subst (λ (z : ℕ). takes z w ≤ 1) (sym e) most)
+            (λ e. subst (λ (z : ℕ). has_out z w ≤ 1) (sym e) most)
             (λ ne. let t = else_same m pm ne in let t0 = t.0 in let t1 = t.1 in let q = ca.single m pm in omega arith);
         cover = λ m pm some_take. dite (ℕ_discrete m k)
             (λ e. (b, g, here, subst (Covers ps b) (sym e) covers))
@@ -103,7 +103,7 @@ module _ (P E : Type 0) (kind_of : P → Kind) where
         whole = ca.whole;
         there = λ c m h hc cm pm lm none_taken. dite (ℕ_discrete m k)
             (λ e. let gh = one_grant c h hc (subst (Covers ps c) e cm) in
-            ap (get_elem? (set s.homes k x)) e ∙ (now ∙ ap some (back (subst (λ (z : ℕ). takes z w ≡ 0) e none_taken)
+            ap (get_elem? (set s.homes k x)) e ∙ (now ∙ ap some (back (subst (λ (z : ℕ). has_out z w ≡ 0) e none_taken)
             ∙ ap (λ (z : List (Option P) × ℕ). some (get_or z.0 z.1 None)) (λ i. (gh i, sym e i)))))
             (λ ne. let t = else_same m pm ne in let t0 = t.0 in let t1 = t.1 in set_else s.homes k m x ne ∙ ca.there c m h hc cm pm lm (omega arith));
         empty = λ m pm some_gone. dite (ℕ_discrete m k)
@@ -114,9 +114,9 @@ module _ (P E : Type 0) (kind_of : P → Kind) where
         shares = read-keeps P E ps s.words s.views r.shares id v k out gone rs at pos lt;
         parcels = record {
           slots = length-set s.homes k x ∙ r.parcels.slots;
-          home = λ m pm lm none_taken. let t = total-set (total (takes m)) s.views id (v ∷ []) (w ∷ []) at in dite (ℕ_discrete m k)
-              (λ e. let tk : takes m w ≡ takes k w = ap (λ (z : ℕ). takes z w) e in
-              let n = total-at (total (takes m)) s.views id (v ∷ []) at in
+          home = λ m pm lm none_taken. let t = total-set (total (has_out m)) s.views id (v ∷ []) (w ∷ []) at in dite (ℕ_discrete m k)
+              (λ e. let tk : has_out m w ≡ has_out k w = ap (λ (z : ℕ). has_out z w) e in
+              let n = total-at (total (has_out m)) s.views id (v ∷ []) at in
               (get_or g m None, ap (get_elem? (set s.homes k x)) e ∙ (now ∙ ap some (back (omega arith) ∙ ap (λ (z : ℕ). some (get_or g z None)) (sym e))), ca.whole b m g here (subst (Covers ps b) (sym e) covers) pm lm))
               (λ ne. let q = else_same m pm ne in let q0 = q.0 in let q1 = q.1 in let h = r.parcels.home m pm lm (omega arith) in (h.0, set_else s.homes k m x ne ∙ h.1, h.2));
           carries = each-moved (Carries kind_of ps first s.homes) (Carries kind_of ps first (set s.homes k x)) s.views id (w ∷ [])

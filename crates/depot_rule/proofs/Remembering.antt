@@ -9,7 +9,7 @@ use Rattle.depot_rule.specs.declared.view.Entry.{Entry}
 use Rattle.depot_rule.specs.declared.view.Read.{Read}
 use Rattle.depot_rule.specs.Sums.{total, tally}
 use Rattle.depot_rule.specs.Shares.{Each}
-use Rattle.depot_rule.specs.Parcels.{takes}
+use Rattle.depot_rule.specs.Parcels.{has_out}
 use Rattle.depot_rule.specs.History.{Behaviour, Current, History, listed, after, chosen, AreHands, Ascends, StartsWith}
 use Rattle.depot_rule.proofs.Current.{ListsCurrent, current-stays}
 use Rattle.depot_rule.proofs.Sums.{total-set}
@@ -53,7 +53,7 @@ module _ (P C R B : Type 0) (m : Behaviour P C R B) (ps : List ℕ) (first : Lis
 
   -- views that are dealt out anew
   pub dealt : (s : St) (h : History m ps first s) (views : List (List (View P E)))
-      → ((k : ℕ) → 0 < k → total (total (takes k)) views ≡ total (total (takes k)) s.views)
+      → ((k : ℕ) → 0 < k → total (total (has_out k)) views ≡ total (total (has_out k)) s.views)
       → Each (ListsCurrent ps (after ps (listed first) h.log)) views
       → Each (λ (v : View P E). StartsWith h.log v.seen) views
       → ((p : ℕ) → total (total (λ (v : View P E). tally p v.mine)) views ≡ total (total (λ (v : View P E). tally p v.mine)) s.views)
@@ -64,7 +64,7 @@ module _ (P C R B : Type 0) (m : Behaviour P C R B) (ps : List ℕ) (first : Lis
   dealt s h views taken lists seen mine own shared hand = record {
     log = h.log;
     legal = h.legal;
-    current = record { now = λ k pk lk z. let t = taken k pk in h.current.now k pk lk (omega arith); listed = lists };
+    current = record { now = λ k pk lk z. let t = taken k pk in h.current.now k pk lk (omega arith); granted = lists };
     seen = seen;
     mine = λ p. mine p ∙ h.mine p;
     own = own;

@@ -12,7 +12,7 @@ use Rattle.depot_rule.specs.declared.view.Read.{Read}
 use Rattle.depot_rule.specs.Sums.{total, one_if, tally}
 use Rattle.depot_rule.specs.Tree.{ancestors, Covers}
 use Rattle.depot_rule.specs.Shares.{Has, made, claims, lower}
-use Rattle.depot_rule.specs.Parcels.{takes, IsParcel}
+use Rattle.depot_rule.specs.Parcels.{has_out, IsParcel}
 use Rattle.depot_rule.specs.Rule.{Base, Rule}
 use Rattle.depot_rule.specs.Machine.{IsLocal, Keeps}
 use Rattle.depot_rule.specs.History.{Behaviour, Legal, SoundThroughout, listed, chosen, AreHands}
@@ -33,7 +33,7 @@ module _ (P E : Type 0) (kind_of : P → Kind) where
   -- the grant of b lists other parcels, where all that it covers is taken
   pub relist-keeps : (ps : List ℕ) (first : List (Option P)) (s : State (Option P) (List (View P E))) (r : Base kind_of ps first s) (id b : ℕ) (v : View P E) (g left : G) (rs : List Read) (seen : List E) (mine : List ℕ)
       → get_elem? s.views id ≡ some (v ∷ []) → Has v b g → length mine ≡ length v.mine + 1
-      → ((k : ℕ) → 0 < k → k < length ps → Covers ps b k → takes k v ≡ 1)
+      → ((k : ℕ) → 0 < k → k < length ps → Covers ps b k → has_out k v ≡ 1)
       → ((k : ℕ) → 0 < k → k < length ps → Covers ps b k → IsParcel kind_of first k (get_or left k None))
       → Base kind_of ps first record { words = set s.words 0 ((get_or s.words 0 0 + 1) % 18446744073709551616); homes = s.homes; views = set s.views id (record v { held = set v.held b (Some left); reads = rs; seen = seen; mine = mine } ∷ []) }
   relist-keeps ps first s r id b v g left rs seen mine at here more taken fits =
@@ -75,7 +75,7 @@ module _ (P C R B : Type 0) (kind_of : P → Kind) (m : Behaviour P C R B) where
   -- the call is a step of the machine's, from the parcels that its grant lists to those that the entry says; what it gives was in the seat's hand
   pub stamps : IsLocal m.steps → Keeps m.steps m.takes m.gives m.invariant
       → (ps : List ℕ) (first : List (Option P)) (slots id : ℕ) (me : Place P E) (v : View P E) (e : E) (g : List (Option P)) → me.0 ≡ v ∷ [] → Has v e.node g
-      → ((k : ℕ) → 0 < k → k < length ps → Covers ps e.node k → 0 < takes k v)
+      → ((k : ℕ) → 0 < k → k < length ps → Covers ps e.node k → 0 < has_out k v)
       → ((k : ℕ) → 0 < k → k < length ps → Covers ps e.node k → (p : P) × (get_or e.left k None ≡ Some p) × ((q : P) → get_or v.first k None ≡ Some q → kind_of p ≡ kind_of q))
       → (f f' : ℕ → Option P) → m.steps v.tree e.node e.call f e.reply f'
       → ((k : ℕ) → 0 < k → k < length v.tree → Covers v.tree e.node k → get_or g k None ≡ f k)
@@ -92,7 +92,7 @@ module _ (P C R B : Type 0) (kind_of : P → Kind) (m : Behaviour P C R B) where
       let same = subst (λ (t : List ℕ). m.steps t e.node e.call f e.reply f' × ((k : ℕ) → 0 < k → k < length t → Covers t e.node k → get_or g k None ≡ f k) × ((k : ℕ) → 0 < k → k < length t → Covers t e.node k → f' k ≡ get_or e.left k None)) so.tree
       (own_step, own_before, own_left) in
       let step_of = same.0 in let before = same.1 in let left = same.2 in
-      let once : (k : ℕ) → 0 < k → k < length ps → Covers ps e.node k → takes k v ≡ 1
+      let once : (k : ℕ) → 0 < k → k < length ps → Covers ps e.node k → has_out k v ≡ 1
       = λ k pk lk ck. let t = taken k pk lk ck in let q = ca.single k pk in omega arith in
       let parcels : (k : ℕ) → 0 < k → k < length ps → Covers ps e.node k → IsParcel kind_of first k (get_or e.left k None)
       = λ k pk lk ck. let y = fits k pk lk ck in let q = (ca.whole e.node k g here ck pk lk).2 in (y.0, y.1, (q.0, q.1, y.2 q.0 (ap (λ (z : List (Option P)). get_or z k None) ca.opened ∙ q.1))) in

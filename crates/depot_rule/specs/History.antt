@@ -8,7 +8,7 @@ use Rattle.depot_rule.specs.declared.view.Entry.{Entry}
 use Rattle.depot_rule.specs.Sums.{total, one_if, tally}
 use Rattle.depot_rule.specs.Tree.{ancestors, Covers}
 use Rattle.depot_rule.specs.Shares.{Each, Has}
-use Rattle.depot_rule.specs.Parcels.{takes}
+use Rattle.depot_rule.specs.Parcels.{has_out}
 use Rattle.depot_rule.specs.Seats.{if_less}
 
 abbrev pub covers : List ℕ → ℕ → ℕ → Bool
@@ -38,20 +38,28 @@ abbrev pub chosen : {A : Type 0} → List A → List ℕ → List A
 chosen xs [] = []
 chosen xs (p ∷ ps) = or_nothing (slice_get xs p) (chosen xs ps)
 
--- what a machine does: the steps of calls, the batches that they take and give, and what has to hold of all parcels, all batches in hands and the count of entries
+-- of the tree, a call's node, the call, the parcels before it, its reply and the parcels after it
+abbrev pub Steps : Type 0 → Type 0 → Type 0 → Type 1
+Steps P C R = List ℕ → ℕ → C → (ℕ → Option P) → R → (ℕ → Option P) → Type 0
+
+-- of the tree, all parcels, all batches in hands and the count of entries
+abbrev pub Invariant : Type 0 → Type 0 → Type 1
+Invariant P B = List ℕ → (ℕ → Option P) → List B → ℕ → Type 0
+
+-- what a machine does: the steps of calls, the batches that they take into hands and give from them, and what has to hold
 pub record Behaviour (P C R B : Type 0) : Type 1 where
-  pub steps : List ℕ → ℕ → C → (ℕ → Option P) → R → (ℕ → Option P) → Type 0
+  pub steps : Steps P C R
   pub takes : C → R → List B
   pub gives : C → R → List B
-  pub invariant : List ℕ → (ℕ → Option P) → List B → ℕ → Type 0
+  pub invariant : Invariant P B
 
-abbrev pub behaviour : {P C R B : Type 0} → (List ℕ → ℕ → C → (ℕ → Option P) → R → (ℕ → Option P) → Type 0) → (C → R → List B) → (C → R → List B) → (List ℕ → (ℕ → Option P) → List B → ℕ → Type 0) → Behaviour P C R B
+abbrev pub behaviour : {P C R B : Type 0} → Steps P C R → (C → R → List B) → (C → R → List B) → Invariant P B → Behaviour P C R B
 behaviour steps takes gives invariant = record { steps = steps; takes = takes; gives = gives; invariant = invariant }
 
 -- parcels at home, and those that grants list, are as f has them
 pub record Current {P E : Type 0} (parents : List ℕ) (f : ℕ → Option P) (s : State (Option P) (List (View P E))) : Type 0 where
-  pub now : (k : ℕ) → 0 < k → k < length parents → total (total (takes k)) s.views ≡ 0 → get_elem? s.homes k ≡ some (some (f k))
-  pub listed : Each (λ (v : View P E). (b k : ℕ) (g : List (Option P)) → Has v b g → Covers parents b k → 0 < k → k < length parents → slice_index_or g k None ≡ f k) s.views
+  pub now : (k : ℕ) → 0 < k → k < length parents → total (total (has_out k)) s.views ≡ 0 → get_elem? s.homes k ≡ some (some (f k))
+  pub granted : Each (λ (v : View P E). (b k : ℕ) (g : List (Option P)) → Has v b g → Covers parents b k → 0 < k → k < length parents → slice_index_or g k None ≡ f k) s.views
 
 -- the entries that a seat made
 abbrev pub entries_of : {P E : Type 0} → View P E → List E
@@ -67,18 +75,18 @@ module _ {P C R : Type 0} where
   after parents f (e ∷ es) = after parents (put_in parents e f) es
 
   -- each call is a step from the parcels that it found to its reply and the parcels that it left
-  abbrev pub Legal : (List ℕ → ℕ → C → (ℕ → Option P) → R → (ℕ → Option P) → Type 0) → List ℕ → (ℕ → Option P) → List (Entry P C R) → Type 0
+  abbrev pub Legal : Steps P C R → List ℕ → (ℕ → Option P) → List (Entry P C R) → Type 0
   Legal steps parents f [] = Unit {0}
   Legal steps parents f (e ∷ es) = steps parents e.node e.call f e.reply (put_in parents e f) × Legal steps parents (put_in parents e f) es
 
   -- the batches that entries took, and those that they gave
-  abbrev pub moved : {B : Type 0} → (C → R → List B) → List (Entry P C R) → List B
-  moved batches [] = []
-  moved batches (e ∷ es) = batches e.call e.reply ++ moved batches es
+  abbrev pub batches_of : {B : Type 0} → (C → R → List B) → List (Entry P C R) → List B
+  batches_of batches [] = []
+  batches_of batches (e ∷ es) = batches e.call e.reply ++ batches_of batches es
 
   -- the batches that were taken and not given, in any order: however batches are weighed, they weigh the difference
   abbrev pub AreHands : {B : Type 0} → (C → R → List B) → (C → R → List B) → List (Entry P C R) → List B → Type 0
-  AreHands takes gives es hands = (weigh : _ → ℕ) → total weigh (moved gives es) + total weigh hands ≡ total weigh (moved takes es)
+  AreHands takes gives es hands = (weigh : _ → ℕ) → total weigh (batches_of gives es) + total weigh hands ≡ total weigh (batches_of takes es)
 
   -- at each place of the log, what has to hold of all parcels as the entries before it left them, and of all hands
   abbrev pub SoundThroughout : {B : Type 0} → Behaviour P C R B → List ℕ → (ℕ → Option P) → List (Entry P C R) → Type 0

@@ -9,7 +9,7 @@ use Rattle.depot_rule.specs.Sums.{total, one_if, tally}
 use Rattle.depot_rule.specs.History.{Behaviour, History}
 use Rattle.depot_rule.specs.Tree.{IsTree, ancestors, Covers, Excludes}
 use Rattle.depot_rule.specs.Shares.{exclusive, Has, opening_view}
-use Rattle.depot_rule.specs.Parcels.{takes, IsParcel}
+use Rattle.depot_rule.specs.Parcels.{has_out, IsParcel}
 use Rattle.depot_rule.specs.Rule.{Base, Rule}
 use Rattle.affinity.specs.declared.affinity.Kind.{Kind}
 
@@ -35,7 +35,7 @@ module _ (P E : Type 0) where
   -- at most one seat has it
   abbrev pub ParcelsAreSingle : Type 0
   ParcelsAreSingle = (kind_of : P → Kind) (parents : List ℕ) (first : List (Option P)) (s : State (Option P) (List (View P E))) → Base kind_of parents first s
-      → (k : ℕ) → 0 < k → total (total (takes k)) s.views ≤ 1
+      → (k : ℕ) → 0 < k → total (total (has_out k)) s.views ≤ 1
 
   -- the word of a node above a grant's has a share and no claim
   abbrev pub GrantsHaveEntered : Type 0

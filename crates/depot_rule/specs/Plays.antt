@@ -9,7 +9,7 @@ use Rattle.depot_rule.specs.declared.view.Entry.{Entry}
 use Rattle.depot_rule.specs.Sums.{total, tally, without}
 use Rattle.depot_rule.specs.Tree.{ancestors, Covers, Excludes}
 use Rattle.depot_rule.specs.Shares.{exclusive, made, shares, Has}
-use Rattle.depot_rule.specs.Parcels.{takes, IsParcel}
+use Rattle.depot_rule.specs.Parcels.{has_out, IsParcel}
 use Rattle.depot_rule.specs.Seats.{OnOne, longer, merge}
 use Rattle.depot_rule.specs.History.{Behaviour, SoundThroughout, IsHistory, Legal, StartsWith, listed, after, chosen, entries_of}
 use Rattle.affinity.specs.declared.affinity.Kind.{Kind}
@@ -91,6 +91,10 @@ module _ {P E : Type 0} where
   abbrev pub AlikeSays : Step (Option P) → Place P E → ℕ → Place P E → Type 0
   AlikeSays st me found me' = (me' ≡ me) × ((v w : View P E) → me.0 ≡ v ∷ w ∷ [] → (v.tree ≡ w.tree) × (v.parts + w.parts ≤ 64) × AreApart v w × HaveSeenOne v w × KeepEntries v w)
 
+  -- the view has seen what others put between, and its own entry e after that
+  abbrev pub with_entry : View P E → List E → E → View P E
+  with_entry v between e = record v { seen = (v.seen ++ between) ++ e ∷ []; mine = v.mine ++ length (v.seen ++ between) ∷ [] }
+
 module _ {P C R B : Type 0} where
   -- compare_exchange of 0 by 2^32: where 0 was found there is a grant, with a parcel for each node that it covers, none of them taken, each as a sound history left it, and the shares entered are the grant's. For the only seat that history is what it has seen
   abbrev pub ClaimSays : (P → Kind) → Behaviour P C R B → Step (Option P) → Place P (Entry P C R) → ℕ → Place P (Entry P C R) → Type 0
@@ -99,21 +103,21 @@ module _ {P C R B : Type 0} where
       × (vs ≡ record v { path = []; held = slice_set v.held st.word (Some g); reads = noted st found v } ∷ [])
       × ((k : ℕ) → 0 < k → k < length v.tree → Covers v.tree st.word k → IsParcel kind_of v.first k (slice_index_or g k None))
       × ((c : ℕ) (h : List (Option P)) → Has v c h → Excludes v.tree st.word c → ⊥)
-      × ((k : ℕ) → 0 < k → Covers v.tree st.word k → takes k v ≡ 0)
+      × ((k : ℕ) → 0 < k → Covers v.tree st.word k → has_out k v ≡ 0)
       × (get_elem? v.held st.word ≡ some None)
       × ((log : List (Entry P C R)) × IsHistory m v.tree v.first v log × (IsOnly v → log ≡ v.seen) × ((k : ℕ) → 0 < k → k < length v.tree → Covers v.tree st.word k → slice_index_or g k None ≡ after v.tree (listed v.first) log k)))
       × (found ≢ 0 → (vs ≡ record v { reads = noted st found v } ∷ []) × (IsOnly v → (c : ℕ) × (h : List (Option P)) × Has v c h × Excludes v.tree st.word c))) me me'
 
   -- the seat's history is what it had seen, what others put between, and e; it is legal, with the machine's invariant throughout, and the seat's own entries are those that it had, and e. For the only seat nothing is between
   abbrev pub HasAdded : Behaviour P C R B → View P (Entry P C R) → List (Entry P C R) → Entry P C R → Type 0
-  HasAdded m v between e = Legal m.steps v.tree (listed v.first) ((v.seen ++ between) ++ e ∷ [])
-      × SoundThroughout m v.tree (listed v.first) ((v.seen ++ between) ++ e ∷ [])
-      × (chosen ((v.seen ++ between) ++ e ∷ []) (v.mine ++ length (v.seen ++ between) ∷ []) ≡ entries_of v ++ e ∷ [])
+  HasAdded m v between e = Legal m.steps v.tree (listed v.first) (with_entry v between e).seen
+      × SoundThroughout m v.tree (listed v.first) (with_entry v between e).seen
+      × (entries_of (with_entry v between e) ≡ entries_of v ++ e ∷ [])
       × (IsOnly v → between ≡ [])
 
   -- fetch_add of 1 on the ticket, for the entry e: the grant of its node lists from then on what the entry left, and the entry stands in the history after all that was seen and what others put between
   abbrev pub StampSays : Behaviour P C R B → Option (Entry P C R) → Step (Option P) → Place P (Entry P C R) → ℕ → Place P (Entry P C R) → Type 0
   StampSays m item st me found me' = IfSome item (λ e. OnOne (λ v. (between : List (Entry P C R))
-      × (me'.0 ≡ record v { held = slice_set v.held e.node (Some e.left); reads = record { word = 0; value = found; shares = 0 } ∷ v.reads; seen = (v.seen ++ between) ++ e ∷ []; mine = v.mine ++ length (v.seen ++ between) ∷ [] } ∷ [])
+      × (me'.0 ≡ record (with_entry v between e) { held = slice_set v.held e.node (Some e.left); reads = record { word = 0; value = found; shares = 0 } ∷ v.reads } ∷ [])
       × HasAdded m v between e) me.0)
       × (me'.1 ≡ me.1)
