@@ -11,6 +11,7 @@ use Rattle.depot_rule.specs.Shares.{Each, Has}
 use Rattle.depot_rule.specs.Parcels.{has_out}
 use Rattle.depot_rule.specs.Seats.{if_less}
 
+-- whether b is k, or above it
 abbrev pub covers : List ℕ → ℕ → ℕ → Bool
 covers parents b k = (b == k) || nat_lt 0 (tally b (ancestors parents k))
 
@@ -18,6 +19,7 @@ covers parents b k = (b == k) || nat_lt 0 (tally b (ancestors parents k))
 abbrev pub patched : {P : Type 0} → List ℕ → ℕ → (ℕ → Option P) → (ℕ → Option P) → ℕ → Option P
 patched parents a inner outer k = if_less (covers parents a k) (inner k) (outer k)
 
+-- parcels by node, of a list
 abbrev pub listed : {P : Type 0} → List (Option P) → ℕ → Option P
 listed ys k = slice_index_or ys k None
 
@@ -26,14 +28,16 @@ abbrev pub Ascends : List ℕ → Type 0
 Ascends [] = Unit {0}
 Ascends (x ∷ xs) = ((y : ℕ) → 0 < tally y xs → x < y) × Ascends xs
 
+-- the second list begins the first
 abbrev pub StartsWith : {A : Type 0} → List A → List A → Type 0
 StartsWith xs start = (rest : List _) × (start ++ rest ≡ xs)
 
--- what stands at these places
+-- before the others, an element if there is one
 abbrev pub or_nothing : {A : Type 0} → Option A → List A → List A
 or_nothing None xs = xs
 or_nothing (Some x) xs = x ∷ xs
 
+-- what stands at these places
 abbrev pub chosen : {A : Type 0} → List A → List ℕ → List A
 chosen xs [] = []
 chosen xs (p ∷ ps) = or_nothing (slice_get xs p) (chosen xs ps)
@@ -66,6 +70,7 @@ abbrev pub entries_of : {P E : Type 0} → View P E → List E
 entries_of v = chosen v.seen v.mine
 
 module _ {P C R : Type 0} where
+  -- what an entry left, put in
   abbrev pub put_in : List ℕ → Entry P C R → (ℕ → Option P) → ℕ → Option P
   put_in parents e f = patched parents e.node (listed e.left) f
 
@@ -106,7 +111,7 @@ module _ {P C R : Type 0} where
     pub own : Each (λ (v : View P (Entry P C R)). Ascends v.mine × ((p : ℕ) → 0 < tally p v.mine → p < length v.seen)) s.views
     -- the entries of all seats are those of the log, however entries are weighed
     pub shared : (weigh : Entry P C R → ℕ) → total (total (λ (v : View P (Entry P C R)). total weigh (entries_of v))) s.views ≡ total weigh log
-    -- each seat's hand has what its entries took and didn't give; all hands together have what all entries took and didn't give
+    -- each seat's hand has what its entries took and didn't give, and all hands what all entries took and didn't give; of these the machine's invariant holds now, as it held of the hands at each place before
     pub hand : Each (λ (v : View P (Entry P C R)). (hand : List B) × AreHands m.takes m.gives (entries_of v) hand) s.views
     pub hands : List B
     pub all_hands : AreHands m.takes m.gives log hands
@@ -126,5 +131,6 @@ module _ {P C R : Type 0} where
     pub others : List B
     pub together : (weigh : B → ℕ) → total weigh hand + total weigh others ≡ total weigh hands
 
+  -- the same of a seat's view
   abbrev pub IsHistory : {B : Type 0} → Behaviour P C R B → List ℕ → List (Option P) → View P (Entry P C R) → List (Entry P C R) → Type 0
   IsHistory m parents first v log = SoundHistory m parents first v.seen v.mine log
