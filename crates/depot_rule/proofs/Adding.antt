@@ -140,7 +140,7 @@ module _ (P C R B : Type 0) (kind_of : P → Kind) (m : Behaviour P C R B) where
     log = h.log ++ e ∷ []
 
     abbrev stamped : View P E
-    stamped = record v { held = set v.held e.node (Some e.left); reads = rs; seen = log; mine = v.mine ++ length h.log ∷ [] }
+    stamped = record v { stamped = e.node; held = set v.held e.node (Some e.left); reads = rs; seen = log; mine = v.mine ++ length h.log ∷ [] }
 
     node : (0 < e.node) × (e.node < length ps)
     node = (r.parcels.carries id (v ∷ []) at 0 v refl).nodes e.node g here

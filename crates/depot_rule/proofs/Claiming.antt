@@ -18,7 +18,7 @@ use Rattle.depot_rule.specs.Shares.{exclusive, Has, claims, entered, shares, Sha
 use Rattle.depot_rule.specs.Parcels.{has_out, IsParcel, Carries}
 use Rattle.depot_rule.specs.Rule.{Rule}
 use Rattle.depot_rule.specs.Plays.{Place, noted, ClaimSays, ReleaseSays}
-use Rattle.depot_rule.proofs.Views.{finds-own}
+use Rattle.depot_rule.proofs.Views.{finds-own, few-entries}
 use Rattle.depot_rule.proofs.Sums.{total-at}
 use Rattle.depot_rule.proofs.Grants.{at-length, claims-own, lower-own}
 use Rattle.depot_rule.proofs.Only.{own-or-below}
@@ -31,6 +31,7 @@ use Rattle.depot_rule.proofs.Current.{current-stays, current-granted}
 use Rattle.depot_rule.proofs.Remembering.{remembers, still}
 use Rattle.depot_rule.proofs.Hands.{is-history}
 use Rattle.depot_rule.proofs.Whole.{only-log}
+use Rattle.depot_rule.proofs.Counting.{history-length}
 use Rattle.affinity.specs.declared.affinity.Kind.{Kind}
 
 -- what lies in a slot, none where it is out
@@ -72,7 +73,7 @@ module _ (P C R B : Type 0) (kind_of : P → Kind) (m : Behaviour P C R B) where
   -- a grant of b, of what lies in the slots
   granted : (ps : List ℕ) (first : List (Option P)) (s : St) (b : ℕ) (v : View P E) (rs : List Read) → Carries kind_of ps first s.homes v → 0 < b → b < length ps → get_elem? v.held b ≡ some None
       → ((k : ℕ) → 0 < k → k < length ps → Covers ps b k → (y : Option P) × (get_elem? s.homes k ≡ some (some y)) × IsParcel kind_of first k y)
-      → Carries kind_of ps first s.homes (record v { path = []; held = set v.held b (Some (map lying s.homes)); reads = rs })
+      → Carries kind_of ps first s.homes (record v { looked = 0; path = []; held = set v.held b (Some (map lying s.homes)); reads = rs })
   granted ps first s b v rs ca pos lt vacant found =
       let g : G = map lying s.homes in
       let cases : (c : ℕ) (h : G) → get_elem? (set v.held b (Some g)) c ≡ some (Some h) → ((c ≡ b) × (g ≡ h)) ⊎ ((c ≢ b) × (get_elem? v.held c ≡ some (Some h)))
@@ -94,10 +95,10 @@ module _ (P C R B : Type 0) (kind_of : P → Kind) (m : Behaviour P C R B) where
         empty = ca.empty;
       }
 
-  pub claims-it : (ps : List ℕ) (first : List (Option P)) (slots id : ℕ) (me : Place P E) (v : View P E) (b : ℕ) → me.0 ≡ v ∷ [] → 0 < b → b < length ps → v.unsure ≡ 0
+  pub claims-it : (ps : List ℕ) (first : List (Option P)) (slots id : ℕ) (me : Place P E) (v : View P E) (b : ℕ) → me.0 ≡ v ∷ [] → 0 < b → b < length ps → v.unsure ≡ 0 → v.looked ≡ 1
       → ((a : ℕ) → tally a v.path ≡ tally a (ancestors ps b))
       → Allows (Rule kind_of m ps first) slots id me b (λ x. either (eqb x 0) exclusive x) (ClaimSays kind_of m (step slots b 0 exclusive none) me)
-  claims-it ps first slots id me v b one pos lt calm all s whole _ at' small =
+  claims-it ps first slots id me v b one pos lt calm ready all s whole _ at' small =
       let r = whole.base in let h = whole.history in
       let at : get_elem? s.views id ≡ some (v ∷ []) = at' ∙ ap some one in
       let st : Step (Option P) = step slots b 0 exclusive none in
@@ -108,20 +109,20 @@ module _ (P C R B : Type 0) (kind_of : P → Kind) (m : Behaviour P C R B) where
       dite (ℕ_discrete x 0)
       (λ free.
       let g : G = map lying s.homes in
-      let w : View P E = record v { path = []; held = set v.held b (Some g); reads = noted st x v } in
+      let w : View P E = record v { looked = 0; path = []; held = set v.held b (Some g); reads = noted st x v } in
       let found : (k : ℕ) → 0 < k → k < length ps → Covers ps b k → (y : Option P) × (get_elem? s.homes k ≡ some (some y)) × IsParcel kind_of first k y
       = λ k pk lk ck. r.parcels.home k pk lk (untaken P E kind_of ps first s r id b k v at pos lt all free pk ck) in
       let F : ℕ → Option P = after ps (listed first) h.log in
       let lists : (k : ℕ) → 0 < k → k < length ps → Covers ps b k → get_or g k None ≡ F k
       = λ k pk lk ck. lying-at s.homes k (F k) (h.current.now k pk lk (untaken P E kind_of ps first s r id b k v at pos lt all free pk ck)) in
-      let kept = claim-keeps P E ps s.words s.views r.shares id v b g (noted st x v) at pos lt all free in (
+      let kept = claim-keeps P E ps s.words s.views r.shares id v b g (noted st x v) at pos lt ready all free in (
         w ∷ [],
         keeps,
         tt,
         subst (λ (z : Bool). Rule kind_of m ps first (stepped s b (either z exclusive x) id me.1 (w ∷ []) keeps)) (sym (eq-eqb x 0 free))
             (record {
               base = record { shares = kept.1; parcels = stay-keeps P E kind_of ps first s r id v w at (λ k. refl) (granted ps first s b v (noted st x v) ca pos lt kept.0 found) };
-              history = remembers P C R B m ps first s h _ s.homes id v [] v.unsure (set v.held b (Some g)) v.out v.gone (noted st x v) at
+              history = remembers P C R B m ps first s h _ s.homes id v 0 v.stamped [] v.unsure (set v.held b (Some g)) v.out v.gone (noted st x v) at
                   (current-granted ps F s _ id b v w g at (λ k. refl) refl h.current.now (λ j us aj i u ai c k l has other. h.current.granted j us aj i u ai c k l has) (λ k ck pk lk. lists k pk lk ck));
             }),
         (
@@ -140,6 +141,7 @@ module _ (P C R B : Type 0) (kind_of : P → Kind) (m : Behaviour P C R B) where
               (
                 h.log,
                 subst (λ (z : List ℕ × List (Option P)). IsHistory m z.0 z.1 v h.log) (λ i. (sym so.tree i, sym ca.opened i)) (is-history P C R B m ps first s h id v at),
+                (let n = history-length P C R B kind_of m ps first s whole in let f = few-entries P E ps s.words s.views r.shares in let few : length h.log < 9223372036854775808 = omega arith in few),
                 (λ all_parts. only-log P C R B kind_of m ps first s r h id v at all_parts),
                 (λ k pk lk ck.
                     lists k pk (subst (λ (t : List ℕ). k < length t) so.tree lk) (subst (λ (t : List ℕ). Covers t b k) so.tree ck)
@@ -163,7 +165,7 @@ module _ (P C R B : Type 0) (kind_of : P → Kind) (m : Behaviour P C R B) where
                 parcels = stay-keeps P E kind_of ps first s r id v w at (λ k. refl)
                     (record { opened = ca.opened; nodes = ca.nodes; single = ca.single; cover = ca.cover; whole = ca.whole; there = ca.there; empty = ca.empty });
               };
-              history = still P C R B m ps first s h _ id v v.path v.unsure (noted st x v) at;
+              history = still P C R B m ps first s h _ id v v.looked v.path v.unsure (noted st x v) at;
             }),
         (
           on-one _ me.0 v one (
@@ -191,7 +193,7 @@ module _ (P C R B : Type 0) (kind_of : P → Kind) (m : Behaviour P C R B) where
       let ca = r.parcels.carries id (v ∷ []) at 0 v refl in
       let home_again : (k : ℕ) → 0 < k → Covers ps b k → has_out k v ≡ 0
       = λ k pk ck. let lk = covers-below ps b k pk lt ck in let p = ca.whole b k g held ck pk lk in listed_home k p.0 pk lk ck p.1 in
-      let w : View P E = record v { path = ancestors v.tree b; held = set v.held b None; reads = noted st x v } in
+      let w : View P E = record v { stamped = 0; path = ancestors v.tree b; held = set v.held b None; reads = noted st x v } in
       let kept = release-keeps P E ps s.words s.views r.shares id v b g (noted st x v) at pos lt no_path held in
       let full = kept.0 in
       let wrap : (x + 18446744069414584320) % 18446744073709551616 ≡ x - exclusive = omega arith in
@@ -212,7 +214,7 @@ module _ (P C R B : Type 0) (kind_of : P → Kind) (m : Behaviour P C R B) where
         subst (λ (z : ℕ). Rule kind_of m ps first (stepped s b z id me.1 (w ∷ []) keeps)) (sym wrap)
             (record {
               base = record { shares = kept.1; parcels = stay-keeps P E kind_of ps first s r id v w at (λ k. refl) mine };
-              history = remembers P C R B m ps first s h _ s.homes id v (ancestors v.tree b) v.unsure (set v.held b None) v.out v.gone (noted st x v) at
+              history = remembers P C R B m ps first s h _ s.homes id v v.looked 0 (ancestors v.tree b) v.unsure (set v.held b None) v.out v.gone (noted st x v) at
                   (current-stays ps (after ps (listed first) h.log) s h.current _ id v w at (λ k. refl) old);
             }),
         (

@@ -1,5 +1,5 @@
 -- The ticket counts the entries of the one history.
-use Rattle.std.proofs.Common.{◌≡◌, ℕ, zero, suc, ◌%◌, ◌<◌, ltb, List, [], ◌∷◌, length, refl, ap, ◌∙◌, arith, Some}
+use Rattle.std.proofs.Common.{◌≡◌, ℕ, zero, suc, ◌%◌, ◌<◌, ltb, List, [], ◌∷◌, length, refl, ap, ◌∙◌, arith, Some, Option}
 use Rattle.std.specs.Prelude.{slice_get}
 use mathlib.Core.Option.{some}
 use lib.ListN.{get_elem?}
@@ -10,6 +10,9 @@ use Rattle.depot_rule.specs.Shares.{Each, made}
 use Rattle.depot_rule.specs.History.{Behaviour, or_nothing, chosen}
 use Rattle.depot_rule.specs.Laws.{HistoryIsOne, OnlySeatHasAll}
 use Rattle.depot_rule.proofs.Sums.{one-same}
+use Rattle.atomic_table.specs.Table.{State}
+use Rattle.depot_rule.specs.Rule.{Rule}
+use Rattle.depot_rule.proofs.Views.{few-entries}
 use Rattle.depot_rule.proofs.Whole.{only-mine, only-log}
 use Rattle.affinity.specs.declared.affinity.Kind.{Kind}
 
@@ -40,13 +43,18 @@ module _ {V : Type 0} (f g : V → ℕ) where
   total-each [] same = refl
   total-each (vs ∷ views) same = let a = total-one-seat vs (same 0 vs refl) in let r = total-each views (λ j us e. same (suc j) us e) in omega arith
 
-pub is-one : (P C R B : Type 0) (kind_of : P → Kind) (m : Behaviour P C R B) → HistoryIsOne kind_of m
-is-one P C R B kind_of m ps first s r =
+pub history-length : (P C R B : Type 0) (kind_of : P → Kind) (m : Behaviour P C R B) (ps : List ℕ) (first : List (Option P)) (s : State (Option P) (List (View P (Entry P C R)))) (r : Rule kind_of m ps first s) → total (total made) s.views ≡ length r.history.log
+history-length P C R B kind_of m ps first s r =
     let h = r.history in
     let each = total-each (λ (v : View P (Entry P C R)). total (λ x. 1) (chosen v.seen v.mine)) (λ (v : View P (Entry P C R)). length v.mine) s.views
     (λ j vs at i v in_vs. chosen-ones v.seen v.mine (h.own j vs at i v in_vs).1) in
     let ones = h.shared (λ x. 1) in let all = total-ones h.log in
-    let count : total (total made) s.views ≡ length h.log = omega arith in (h, r.base.shares.ticket ∙ ap (λ n. n % 18446744073709551616) count)
+    let count : total (total made) s.views ≡ length h.log = omega arith in count
+
+pub is-one : (P C R B : Type 0) (kind_of : P → Kind) (m : Behaviour P C R B) → HistoryIsOne kind_of m
+is-one P C R B kind_of m ps first s r =
+    let count = history-length P C R B kind_of m ps first s r in let f = few-entries P (Entry P C R) ps s.words s.views r.base.shares in
+    (r.history, r.base.shares.ticket ∙ count, (let few : length r.history.log < 9223372036854775808 = omega arith in few))
 
 pub has-all : (P C R B : Type 0) (kind_of : P → Kind) (m : Behaviour P C R B) → OnlySeatHasAll kind_of m
 has-all P C R B kind_of m ps first s r id v at all =

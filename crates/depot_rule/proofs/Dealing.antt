@@ -1,5 +1,5 @@
 -- Views that are dealt out anew: seats that meet, part and are joined keep the rule.
-use Rattle.std.proofs.Common.{◌≡◌, ◌≢◌, ℕ, ◌+◌, ◌%◌, ◌<◌, eqb, List, [], ◌∷◌, ◌++◌, length, replicate, set, sym, refl, ap, ◌∙◌, arith, Option, None}
+use Rattle.std.proofs.Common.{◌≡◌, ◌≢◌, ℕ, ◌+◌, ◌<◌, ◌≤◌, eqb, List, [], ◌∷◌, ◌++◌, length, replicate, set, sym, refl, ap, ◌∙◌, arith, Option, None}
 use mathlib.Core.Option.{some, some-injective, some-ne-none}
 use mathlib.Core.Option as maybe
 use lib.ListN.{get_elem?}
@@ -10,7 +10,7 @@ use Rattle.depot_rule.specs.declared.view.Entry.{Entry}
 use Rattle.depot_rule.specs.History.{Behaviour, listed, after, chosen, StartsWith}
 use Rattle.depot_rule.specs.Sums.{total, one_if, tally, over_taken}
 use Rattle.depot_rule.specs.Tree.{ancestors}
-use Rattle.depot_rule.specs.Shares.{Each, parts, made, claims, entered, shares, IsSound}
+use Rattle.depot_rule.specs.Shares.{Each, parts, made, due, unsettled, claims, entered, shares, IsSound}
 use Rattle.depot_rule.specs.Parcels.{has_out, Carries}
 use Rattle.depot_rule.specs.Rule.{Rule}
 use Rattle.depot_rule.specs.Seats.{longer, having_seen, first_of, others_of}
@@ -28,6 +28,16 @@ module _ {V : Type 0} where
   total-joined f views id other vs ws both at at' e =
       let a = total-set (total f) views id vs both at in let b = total-set (total f) (set views id both) other ws [] at' in omega arith
 
+  joined-less : (f : V → ℕ) (views : List (List V)) (id other : ℕ) (vs ws both : List V) → get_elem? views id ≡ some vs → get_elem? (set views id both) other ≡ some ws
+      → total f both ≤ total f vs + total f ws → total (total f) (set (set views id both) other []) ≤ total (total f) views
+  joined-less f views id other vs ws both at at' e =
+      let a = total-set (total f) views id vs both at in let b = total-set (total f) (set views id both) other ws [] at' in omega arith
+
+  parted-less : (f : V → ℕ) (views : List (List V)) (id : ℕ) (vs left right : List V) → get_elem? views id ≡ some vs
+      → total f left + total f right ≤ total f vs → total (total f) (set views id left ++ right ∷ []) ≤ total (total f) views
+  parted-less f views id vs left right at e =
+      let a = total-set (total f) views id vs left at in let b = total-append (total f) (set views id left) (right ∷ []) in omega arith
+
   -- two have what one had
   total-parted : (f : V → ℕ) (views : List (List V)) (id : ℕ) (vs left right : List V) → get_elem? views id ≡ some vs
       → total f left + total f right ≡ total f vs → total (total f) (set views id left ++ right ∷ []) ≡ total (total f) views
@@ -41,10 +51,10 @@ module _ (P C R B : Type 0) (kind_of : P → Kind) (m : Behaviour P C R B) where
   abbrev St : Type 0
   St = State (Option P) (List (View P E))
 
-  -- f adds up to as much as before, for each f that the rule speaks of
-  abbrev Agree : (((View P E → ℕ) → Type 0)) → Type 0
-  Agree same = same parts × ((a : ℕ) → 0 < a → same (shares a)) × ((a : ℕ) → 0 < a → same (claims a)) × ((a : ℕ) → 0 < a → same (entered a)) × ((k : ℕ) → 0 < k → same (has_out k)) × same made
-      × ((p : ℕ) → same (λ (v : View P E). tally p v.mine)) × ((weigh : E → ℕ) → same (λ (v : View P E). total weigh (chosen v.seen v.mine)))
+  -- f adds up to as much as before, for each f that the rule speaks of, or to no more
+  abbrev Agree : ((View P E → ℕ) → Type 0) → ((View P E → ℕ) → Type 0) → Type 0
+  Agree same less = same parts × ((a : ℕ) → 0 < a → same (shares a)) × ((a : ℕ) → 0 < a → same (claims a)) × ((a : ℕ) → 0 < a → same (entered a)) × ((k : ℕ) → 0 < k → same (has_out k)) × same made
+      × ((p : ℕ) → same (λ (v : View P E). tally p v.mine)) × ((weigh : E → ℕ) → same (λ (v : View P E). total weigh (chosen v.seen v.mine))) × same unsettled × less due
 
   -- what the rule says of each view alone
   abbrev Sound : (ps : List ℕ) (first : List (Option P)) (s : St) → Rule kind_of m ps first s → View P E → Type 0
@@ -59,7 +69,7 @@ module _ (P C R B : Type 0) (kind_of : P → Kind) (m : Behaviour P C R B) where
 
   -- the rule sees the views added up, and each alone
   redealt : (ps : List ℕ) (first : List (Option P)) (s : St) (r : Rule kind_of m ps first s) (views : List (List (View P E)))
-      → Agree (λ f. total (total f) views ≡ total (total f) s.views)
+      → Agree (λ f. total (total f) views ≡ total (total f) s.views) (λ f. total (total f) views ≤ total (total f) s.views)
       → AreSound ps first s r views
       → Rule kind_of m ps first record { words = s.words; homes = s.homes; views = views }
   redealt ps first s whole views same sound = let r = whole.base in record {
@@ -70,7 +80,8 @@ module _ (P C R B : Type 0) (kind_of : P → Kind) (m : Behaviour P C R B) where
         as_many = r.shares.as_many;
         seats = same.0 ∙ r.shares.seats;
         counted = λ a p l. r.shares.counted a p l ∙ sym (same.1 a p);
-        ticket = r.shares.ticket ∙ ap (λ n. n % 18446744073709551616) (sym same.5);
+        ticket = r.shares.ticket ∙ sym same.5;
+        bounded = let q = r.shares.bounded in let d = same.9 in let t = same.8 in omega arith;
         alone = λ a p l h. let c = same.2 a p in let e = same.3 a p in let q = r.shares.alone a p l (omega arith) in let q0 = q.0 in let q1 = q.1 in (omega arith, omega arith);
         sound = λ j vs at i v in_vs. (sound j vs at i v in_vs).0;
       };
@@ -86,7 +97,7 @@ module _ (P C R B : Type 0) (kind_of : P → Kind) (m : Behaviour P C R B) where
 
   pub joined : (ps : List ℕ) (first : List (Option P)) (id : ℕ) (vs : List (View P E)) (other : ℕ) (ws both : List (View P E))
       → ((s : St) (r : Rule kind_of m ps first s) → get_elem? s.views id ≡ some vs → get_elem? s.views other ≡ some ws → id ≢ other
-      → Agree (λ f. total f both ≡ total f vs + total f ws) × All (Sound ps first s r) both)
+      → Agree (λ f. total f both ≡ total f vs + total f ws) (λ f. total f both ≤ total f vs + total f ws) × All (Sound ps first s r) both)
       → Joins (Rule kind_of m ps first) id vs other ws both []
   joined ps first id vs other ws both go s r at ne at' =
       let there : get_elem? s.views other ≡ some ws = sym (set_else s.views id other both ne) ∙ at' in
@@ -100,12 +111,14 @@ module _ (P C R B : Type 0) (kind_of : P → Kind) (m : Behaviour P C R B) where
         total-joined made s.views id other vs ws both at at' q.0.5,
         (λ p. total-joined (λ (v : View P E). tally p v.mine) s.views id other vs ws both at at' (q.0.6 p)),
         (λ weigh. total-joined (λ (v : View P E). total weigh (chosen v.seen v.mine)) s.views id other vs ws both at at' (q.0.7 weigh)),
+        total-joined unsettled s.views id other vs ws both at at' q.0.8,
+        joined-less due s.views id other vs ws both at at' q.0.9,
       )
       (each-set (Sound ps first s r) (set s.views id both) other [] (each-set (Sound ps first s r) s.views id both (sound-views ps first s r) q.1) (all-none (Sound ps first s r)))
 
   pub parted_in : (ps : List ℕ) (first : List (Option P)) (id : ℕ) (vs left right : List (View P E))
       → ((s : St) (r : Rule kind_of m ps first s) → get_elem? s.views id ≡ some vs
-      → Agree (λ f. total f left + total f right ≡ total f vs) × All (Sound ps first s r) left × All (Sound ps first s r) right)
+      → Agree (λ f. total f left + total f right ≡ total f vs) (λ f. total f left + total f right ≤ total f vs) × All (Sound ps first s r) left × All (Sound ps first s r) right)
       → Splits (Rule kind_of m ps first) id vs left right
   parted_in ps first id vs left right go s r at =
       let q = go s r at in
@@ -118,12 +131,14 @@ module _ (P C R B : Type 0) (kind_of : P → Kind) (m : Behaviour P C R B) where
         total-parted made s.views id vs left right at q.0.5,
         (λ p. total-parted (λ (v : View P E). tally p v.mine) s.views id vs left right at (q.0.6 p)),
         (λ weigh. total-parted (λ (v : View P E). total weigh (chosen v.seen v.mine)) s.views id vs left right at (q.0.7 weigh)),
+        total-parted unsettled s.views id vs left right at q.0.8,
+        parted-less due s.views id vs left right at q.0.9,
       )
       (each-more (Sound ps first s r) (set s.views id left) right (each-set (Sound ps first s r) s.views id left (sound-views ps first s r) q.1) q.2)
 
   -- a view that has seen more
   seen-sound : (ps : List ℕ) (es : List E) (v : View P E) → IsSound ps v → IsSound ps (having_seen es v)
-  seen-sound ps es v s = record { some_part = s.some_part; tree = s.tree; wide = s.wide; once = s.once }
+  seen-sound ps es v s = record { some_part = s.some_part; tree = s.tree; wide = s.wide; once = s.once; looked = s.looked }
 
   seen-carries : (ps : List ℕ) (first : List (Option P)) (homes : List (maybe.Option (Option P))) (es : List E) (v : View P E) → Carries kind_of ps first homes v → Carries kind_of ps first homes (having_seen es v)
   seen-carries ps first homes es v c = record { opened = c.opened; nodes = c.nodes; single = c.single; cover = c.cover; whole = c.whole; there = c.there; empty = c.empty }
@@ -141,6 +156,8 @@ module _ (P C R B : Type 0) (kind_of : P → Kind) (m : Behaviour P C R B) where
           adds made,
           (λ p. adds (λ (v : View P E). tally p v.mine)),
           (λ weigh. adds (λ (v : View P E). total weigh (chosen v.seen v.mine))),
+          adds unsettled,
+          (let a = adds due in omega arith),
         ),
         all-append (Sound ps first s r) vs ws (sound-views ps first s r id vs at) (sound-views ps first s r other ws at'),
       ))
@@ -168,6 +185,8 @@ module _ (P C R B : Type 0) (kind_of : P → Kind) (m : Behaviour P C R B) where
           (λ weigh.
               let x : total weigh (chosen es v.mine) ≡ total weigh (chosen v.seen v.mine) = ap (total weigh) (first-chosen P C R B m ps first s h id (v ∷ w ∷ []) 0 v at refl id (v ∷ w ∷ []) 1 w at refl) in
               let y : total weigh (chosen es w.mine) ≡ total weigh (chosen w.seen w.mine) = ap (total weigh) (second-chosen P C R B m ps first s h id (v ∷ w ∷ []) 0 v at refl id (v ∷ w ∷ []) 1 w at refl) in omega arith),
+          omega arith,
+          omega arith,
         ),
         all-one (Sound ps first s r) (having_seen es v) (seen-sound ps es v a.0, seen-carries ps first s.homes es v a.1, a.2, begins, one.0, one.1),
         all-one (Sound ps first s r) (having_seen es w) (seen-sound ps es w b.0, seen-carries ps first s.homes es w b.1, b.2, begins, two.0, two.1),

@@ -53,7 +53,7 @@ module _ (P C R B : Type 0) (kind_of : P → Kind) (m : Behaviour P C R B) where
               keeps,
               tt,
               subst (λ (z : ℕ). Rule kind_of m ps first (stepped s i z id me.1 (w ∷ []) keeps)) (sym wrap)
-                  (record { base = record { shares = enter-keeps P E ps s.words s.views r.shares i id v (noted st x v) at pos lt fresh free; parcels = stays ps first s r id v (i ∷ v.path) v.unsure (noted st x v) at }; history = still P C R B m ps first s whole.history _ id v (i ∷ v.path) v.unsure (noted st x v) at }),
+                  (record { base = record { shares = enter-keeps P E ps s.words s.views r.shares i id v (noted st x v) at pos lt fresh free; parcels = stays ps first s r id v (i ∷ v.path) v.unsure (noted st x v) at }; history = still P C R B m ps first s whole.history _ id v v.looked (i ∷ v.path) v.unsure (noted st x v) at }),
               (on-one _ me.0 v one ((λ _. refl), (λ full. absurd (omega arith))), refl),
             )
         | no busy ↦
@@ -62,7 +62,7 @@ module _ (P C R B : Type 0) (kind_of : P → Kind) (m : Behaviour P C R B) where
               keeps,
               tt,
               subst (λ (z : ℕ). Rule kind_of m ps first (stepped s i z id me.1 (w ∷ []) keeps)) (sym wrap)
-                  (record { base = record { shares = vain-keeps P E ps s.words s.views r.shares i id v (noted st x v) at pos lt calm (omega arith); parcels = stays ps first s r id v v.path i (noted st x v) at }; history = still P C R B m ps first s whole.history _ id v v.path i (noted st x v) at }),
+                  (record { base = record { shares = vain-keeps P E ps s.words s.views r.shares i id v (noted st x v) at pos lt calm (omega arith); parcels = stays ps first s r id v v.path i (noted st x v) at }; history = still P C R B m ps first s whole.history _ id v v.looked v.path i (noted st x v) at }),
               (on-one _ me.0 v one ((λ free. absurd (omega arith)), (λ full. (refl, λ all. own-claim P E ps r.shares.tree r.shares.few i v (r.shares.sound id (v ∷ []) at 0 v refl) (let o = own all in omega arith) all))), refl),
             )
       ]
@@ -82,7 +82,7 @@ module _ (P C R B : Type 0) (kind_of : P → Kind) (m : Behaviour P C R B) where
         keeps,
         tt,
         subst (λ (z : ℕ). Rule kind_of m ps first (stepped s i z id me.1 (w ∷ []) keeps)) (sym wrap)
-            (record { base = record { shares = kept.1; parcels = stays ps first s r id v v.path 0 (noted st x v) at }; history = still P C R B m ps first s whole.history _ id v v.path 0 (noted st x v) at }),
+            (record { base = record { shares = kept.1; parcels = stays ps first s r id v v.path 0 (noted st x v) at }; history = still P C R B m ps first s whole.history _ id v v.looked v.path 0 (noted st x v) at }),
         (on-one _ me.0 v one refl, refl),
       )
 
@@ -102,6 +102,6 @@ module _ (P C R B : Type 0) (kind_of : P → Kind) (m : Behaviour P C R B) where
         keeps,
         tt,
         subst (λ (z : ℕ). Rule kind_of m ps first (stepped s i z id me.1 (w ∷ []) keeps)) (sym wrap)
-            (record { base = record { shares = kept.1; parcels = stays ps first s r id v rest v.unsure (noted st x v) at }; history = still P C R B m ps first s whole.history _ id v rest v.unsure (noted st x v) at }),
+            (record { base = record { shares = kept.1; parcels = stays ps first s r id v rest v.unsure (noted st x v) at }; history = still P C R B m ps first s whole.history _ id v v.looked rest v.unsure (noted st x v) at }),
         (on-one _ me.0 v one (ap (λ (p : List ℕ). let z : View P E = record v { path = p; reads = noted st x v } in z ∷ []) (sym tail)), refl),
       )

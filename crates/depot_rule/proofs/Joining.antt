@@ -1,5 +1,5 @@
 -- A seat that is split, and two that become one.
-use Rattle.std.proofs.Common.{◌≡◌, ◌⊎◌, ℕ, zero, suc, ◌+◌, ◌-◌, ◌<◌, ◌≤◌, eqb, nat_lt, Bool, true, false, List, [], ◌∷◌, length, replicate, sym, refl, ap, ◌∙◌, arith, Option, Some, None, ⊎_elim, inl, inr}
+use Rattle.std.proofs.Common.{◌≡◌, ◌⊎◌, ℕ, zero, suc, ◌+◌, ◌-◌, ◌<◌, ◌≤◌, eqb, ltb, nat_lt, Bool, true, false, List, [], ◌∷◌, length, replicate, sym, refl, ap, ◌∙◌, arith, Option, Some, None, ⊎_elim, inl, inr}
 use Rattle.std.proofs.lemmas.List.{length-replicate}
 use mathlib.Core.Option.{some, some-ne-none}
 use mathlib.Core.Logic.{dite}
@@ -15,7 +15,7 @@ use Rattle.depot_rule.specs.Shares.{claims, lower, entered, shares}
 use Rattle.depot_rule.specs.Parcels.{has_out}
 use Rattle.depot_rule.specs.Rule.{Rule}
 use Rattle.depot_rule.specs.Seats.{if_less, put_among, in_order, both_held, merge, fresh, merged, parted, fresh_of, view_of}
-use Rattle.depot_rule.proofs.Sums.{one-other, tally-append}
+use Rattle.depot_rule.proofs.Sums.{one-other, over-none, tally-append}
 use Rattle.depot_rule.proofs.Views.{all-one}
 use Rattle.depot_rule.proofs.Grants.{covers-one}
 use Rattle.depot_rule.proofs.Dealing.{joined, parted_in, bare-counts}
@@ -109,9 +109,11 @@ module _ (P C R B : Type 0) (kind_of : P → Kind) (m : Behaviour P C R B) where
           omega arith,
           (λ p. omega arith),
           (λ weigh. omega arith),
+          omega arith,
+          (let n = over-none (List (Option P)) (λ b. 1) 0 (length v.tree) in omega arith),
         ),
         all-one _ (record v { parts = v.parts - 1 }) (
-          record { some_part = omega arith; tree = so.tree; wide = so.wide; once = so.once },
+          record { some_part = omega arith; tree = so.tree; wide = so.wide; once = so.once; looked = so.looked },
           record { opened = ca.opened; nodes = ca.nodes; single = ca.single; cover = ca.cover; whole = ca.whole; there = ca.there; empty = ca.empty },
           h.current.granted id (v ∷ []) at 0 v refl,
           h.seen id (v ∷ []) at 0 v refl,
@@ -119,7 +121,7 @@ module _ (P C R B : Type 0) (kind_of : P → Kind) (m : Behaviour P C R B) where
           h.hand id (v ∷ []) at 0 v refl,
         ),
         all-one _ (fresh v) (
-          record { some_part = omega arith; tree = so.tree; wide = length-replicate (length v.tree) None ∙ ap (λ (t : List ℕ). length t) so.tree; once = λ a. omega arith },
+          record { some_part = omega arith; tree = so.tree; wide = length-replicate (length v.tree) None ∙ ap (λ (t : List ℕ). length t) so.tree; once = λ a. omega arith; looked = omega arith },
           record {
             opened = ca.opened;
             nodes = λ b g e. absurd (none-held (length v.tree) b g e);
@@ -137,8 +139,8 @@ module _ (P C R B : Type 0) (kind_of : P → Kind) (m : Behaviour P C R B) where
       ))
 
   -- two seats, of which the second runs no call, become one
-  pub merges : (ps : List ℕ) (first : List (Option P)) (id : ℕ) (v : View P E) (other : ℕ) (w : View P E) → w.path ≡ [] → w.unsure ≡ 0 → w.out ≡ 0 → Joins (Rule kind_of m ps first) id (v ∷ []) other (w ∷ []) (merge v w ∷ []) []
-  merges ps first id v other w no_path calm idle = joined P C R B kind_of m ps first id (v ∷ []) other (w ∷ []) (merge v w ∷ []) (λ s whole at at' ne.
+  pub merges : (ps : List ℕ) (first : List (Option P)) (id : ℕ) (v : View P E) (other : ℕ) (w : View P E) → w.path ≡ [] → w.unsure ≡ 0 → w.out ≡ 0 → w.stamped ≡ 0 → Joins (Rule kind_of m ps first) id (v ∷ []) other (w ∷ []) (merge v w ∷ []) []
+  merges ps first id v other w no_path calm idle unstamped = joined P C R B kind_of m ps first id (v ∷ []) other (w ∷ []) (merge v w ∷ []) (λ s whole at at' ne.
       let r = whole.base in let h = whole.history in
       let so = r.shares.sound id (v ∷ []) at 0 v refl in let so' = r.shares.sound other (w ∷ []) at' 0 w refl in
       let ca = r.parcels.carries id (v ∷ []) at 0 v refl in let ca' = r.parcels.carries other (w ∷ []) at' 0 w refl in
@@ -163,9 +165,11 @@ module _ (P C R B : Type 0) (kind_of : P → Kind) (m : Behaviour P C R B) where
           (let l = length-in-order v.mine w.mine in omega arith),
           (λ p. let t = tally-in-order p v.mine w.mine in omega arith),
           (λ weigh. let t = merged-weigh P C R B m ps first s h id (v ∷ []) 0 v at refl other (w ∷ []) 0 w at' refl weigh in omega arith),
+          (let z : one_if (ltb 0 w.stamped) ≡ 0 = ap (λ n. one_if (ltb 0 n)) unstamped in omega arith),
+          (let g = over-both (λ b. 1) 0 v.held w.held apart in let l = length-in-order v.mine w.mine in omega arith),
         ),
         all-one _ (merge v w) (
-          record { some_part = (let p = so.some_part in omega arith); tree = so.tree; wide = length-both v.held w.held (so.wide ∙ sym so'.wide) ∙ so.wide; once = so.once },
+          record { some_part = (let p = so.some_part in omega arith); tree = so.tree; wide = length-both v.held w.held (so.wide ∙ sym so'.wide) ∙ so.wide; once = so.once; looked = omega arith },
           record {
             opened = ca.opened;
             nodes = λ b g e. ⊎_elim (λ (f : get_elem? v.held b ≡ some (Some g)). ca.nodes b g f) (λ (f : get_elem? w.held b ≡ some (Some g)). ca'.nodes b g f) (held-of v.held w.held b g e);
@@ -192,9 +196,9 @@ module _ (P C R B : Type 0) (kind_of : P → Kind) (m : Behaviour P C R B) where
   splits-seat ps first id (v ∷ u ∷ us) one two = absurd (omega arith)
 
   pub merges-seats : (ps : List ℕ) (first : List (Option P)) (id : ℕ) (vs : List (View P E)) (other : ℕ) (ws : List (View P E)) → length vs ≡ 1 → length ws ≡ 1
-      → (view_of ws).path ≡ [] → (view_of ws).unsure ≡ 0 → (view_of ws).out ≡ 0 → Joins (Rule kind_of m ps first) id vs other ws (merged vs ws) []
-  merges-seats ps first id [] other ws one one' path calm idle = absurd (omega arith)
-  merges-seats ps first id (v ∷ []) other [] one one' path calm idle = absurd (omega arith)
-  merges-seats ps first id (v ∷ []) other (w ∷ []) one one' path calm idle = merges ps first id v other w path calm idle
-  merges-seats ps first id (v ∷ []) other (w ∷ u ∷ us) one one' path calm idle = absurd (omega arith)
-  merges-seats ps first id (v ∷ u ∷ us) other ws one one' path calm idle = absurd (omega arith)
+      → (view_of ws).path ≡ [] → (view_of ws).unsure ≡ 0 → (view_of ws).out ≡ 0 → (view_of ws).stamped ≡ 0 → Joins (Rule kind_of m ps first) id vs other ws (merged vs ws) []
+  merges-seats ps first id [] other ws one one' path calm idle unstamped = absurd (omega arith)
+  merges-seats ps first id (v ∷ []) other [] one one' path calm idle unstamped = absurd (omega arith)
+  merges-seats ps first id (v ∷ []) other (w ∷ []) one one' path calm idle unstamped = merges ps first id v other w path calm idle unstamped
+  merges-seats ps first id (v ∷ []) other (w ∷ u ∷ us) one one' path calm idle unstamped = absurd (omega arith)
+  merges-seats ps first id (v ∷ u ∷ us) other ws one one' path calm idle unstamped = absurd (omega arith)

@@ -14,6 +14,7 @@ use Rattle.depot_rule.specs.Shares.{opening_view, claims, entered, shares, IsSou
 use Rattle.depot_rule.specs.Parcels.{has_out, IsParcel, Carries}
 use Rattle.depot_rule.specs.Rule.{Base, Rule}
 use Rattle.depot_rule.proofs.Views.{all-one, only-view}
+use Rattle.depot_rule.proofs.Sums.{over-none}
 use Rattle.depot_rule.proofs.Dealing.{bare-counts}
 use Rattle.depot_rule.proofs.Joining.{none-held}
 use Rattle.depot_rule.proofs.Current.{ListsCurrent}
@@ -64,8 +65,9 @@ module _ (P E : Type 0) (kind_of : P → Kind) where
           seats = omega arith;
           counted = λ a p l. let z = zero-word (length ps) a in let q = bare a p in let q0 = q.0 in omega arith;
           ticket = zero-word (length ps) 0;
+          bounded = let o = over-none (List (Option P)) (λ b. 1) 0 (length ps) in omega arith;
           alone = λ a p l h. let q = bare a p in let q1 = q.1 in absurd (omega arith);
-          sound = each-one (IsSound ps) v (record { some_part = omega arith; tree = refl; wide = length-replicate (length ps) None; once = λ a. omega arith });
+          sound = each-one (IsSound ps) v (record { some_part = omega arith; tree = refl; wide = length-replicate (length ps) None; once = λ a. omega arith; looked = omega arith });
         };
         parcels = record {
           slots = length-map some first ∙ wide;

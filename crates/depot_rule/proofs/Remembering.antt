@@ -31,12 +31,12 @@ module _ (P C R B : Type 0) (m : Behaviour P C R B) (ps : List ℕ) (first : Lis
   HasHand v = (hand : List B) × AreHands m.takes m.gives (chosen v.seen v.mine) hand
 
   -- a seat's step that changes neither what it has seen nor its own entries
-  pub remembers : (s : St) (h : History m ps first s) (words : List ℕ) (homes : List (maybe.Option (Option P))) (id : ℕ) (v : View P E) (path : List ℕ) (unsure : ℕ) (held : List (Option (List (Option P)))) (out : ℕ) (gone : List ℕ) (rs : List Read)
+  pub remembers : (s : St) (h : History m ps first s) (words : List ℕ) (homes : List (maybe.Option (Option P))) (id : ℕ) (v : View P E) (looked stamped : ℕ) (path : List ℕ) (unsure : ℕ) (held : List (Option (List (Option P)))) (out : ℕ) (gone : List ℕ) (rs : List Read)
       → get_elem? s.views id ≡ some (v ∷ [])
-      → Current ps (after ps (listed first) h.log) record { words = words; homes = homes; views = set s.views id (record v { path = path; unsure = unsure; held = held; out = out; gone = gone; reads = rs } ∷ []) }
-      → History m ps first record { words = words; homes = homes; views = set s.views id (record v { path = path; unsure = unsure; held = held; out = out; gone = gone; reads = rs } ∷ []) }
-  remembers s h words homes id v path unsure held out gone rs at current =
-      let w : View P E = record v { path = path; unsure = unsure; held = held; out = out; gone = gone; reads = rs } in record {
+      → Current ps (after ps (listed first) h.log) record { words = words; homes = homes; views = set s.views id (record v { looked = looked; stamped = stamped; path = path; unsure = unsure; held = held; out = out; gone = gone; reads = rs } ∷ []) }
+      → History m ps first record { words = words; homes = homes; views = set s.views id (record v { looked = looked; stamped = stamped; path = path; unsure = unsure; held = held; out = out; gone = gone; reads = rs } ∷ []) }
+  remembers s h words homes id v looked stamped path unsure held out gone rs at current =
+      let w : View P E = record v { looked = looked; stamped = stamped; path = path; unsure = unsure; held = held; out = out; gone = gone; reads = rs } in record {
         log = h.log;
         legal = h.legal;
         current = current;
@@ -77,8 +77,8 @@ module _ (P C R B : Type 0) (m : Behaviour P C R B) (ps : List ℕ) (first : Lis
   }
 
   -- no grant and no slot changes
-  pub still : (s : St) (h : History m ps first s) (words : List ℕ) (id : ℕ) (v : View P E) (path : List ℕ) (unsure : ℕ) (rs : List Read) → get_elem? s.views id ≡ some (v ∷ [])
-      → History m ps first record { words = words; homes = s.homes; views = set s.views id (record v { path = path; unsure = unsure; reads = rs } ∷ []) }
-  still s h words id v path unsure rs at =
-      remembers s h words s.homes id v path unsure v.held v.out v.gone rs at
-      (current-stays ps (after ps (listed first) h.log) s h.current words id v (record v { path = path; unsure = unsure; reads = rs }) at (λ k. refl) (λ b g has. has))
+  pub still : (s : St) (h : History m ps first s) (words : List ℕ) (id : ℕ) (v : View P E) (looked : ℕ) (path : List ℕ) (unsure : ℕ) (rs : List Read) → get_elem? s.views id ≡ some (v ∷ [])
+      → History m ps first record { words = words; homes = s.homes; views = set s.views id (record v { looked = looked; path = path; unsure = unsure; reads = rs } ∷ []) }
+  still s h words id v looked path unsure rs at =
+      remembers s h words s.homes id v looked v.stamped path unsure v.held v.out v.gone rs at
+      (current-stays ps (after ps (listed first) h.log) s h.current words id v (record v { looked = looked; path = path; unsure = unsure; reads = rs }) at (λ k. refl) (λ b g has. has))

@@ -40,7 +40,7 @@ module _ (P C R B : Type 0) (kind_of : P → Kind) (m : Behaviour P C R B) where
       → Rule kind_of m ps first record { words = set s.words k (get_or s.words k 0); homes = set s.homes k x; views = set s.views id (record v { out = out; gone = gone; reads = rs } ∷ []) }
   slot-moves ps first s whole id b k v g out gone rs x at here covers pos lt else_same most back gone_empty = record {
     base = slot-keeps P E kind_of ps first s whole.base id b k v g out gone rs x at here covers pos lt else_same most back gone_empty;
-    history = remembers P C R B m ps first s whole.history _ (set s.homes k x) id v v.path v.unsure v.held out gone rs at
+    history = remembers P C R B m ps first s whole.history _ (set s.homes k x) id v v.looked v.stamped v.path v.unsure v.held out gone rs at
         (current-slot ps (after ps (listed first) whole.history.log) s whole.history.current _ id b k v g out gone rs x at here covers pos lt whole.base.parcels.slots else_same back);
   }
 

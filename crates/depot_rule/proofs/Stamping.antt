@@ -1,5 +1,5 @@
 -- The stamp, as the table asks for it.
-use Rattle.std.proofs.Common.{◌≡◌, ◌≢◌, ◌⊎◌, ℕ, ◌+◌, ◌%◌, ◌^◌, ◌<◌, eqb, List, [], ◌∷◌, ◌++◌, length, get_or, set, sym, refl, ap, ◌∙◌, subst, arith, Option, Some, None, length-set, length-append, get_or-set_same, inl, inr, ⊎_elim}
+use Rattle.std.proofs.Common.{◌≡◌, ◌≢◌, ◌⊎◌, ℕ, ◌+◌, ◌%◌, ◌^◌, ◌<◌, eqb, ltb, List, [], ◌∷◌, ◌++◌, length, get_or, set, sym, refl, ap, ◌∙◌, subst, arith, Option, Some, None, length-set, length-append, get_or-set_same, inl, inr, ⊎_elim}
 use mathlib.Core.Option.{none, some}
 use mathlib.Core.Logic.{dite}
 use native.Mathlib.Decide.{ℕ_discrete}
@@ -11,14 +11,16 @@ use Rattle.depot_rule.specs.declared.view.Entry.{Entry}
 use Rattle.depot_rule.specs.declared.view.Read.{Read}
 use Rattle.depot_rule.specs.Sums.{total, one_if, tally}
 use Rattle.depot_rule.specs.Tree.{ancestors, Covers}
-use Rattle.depot_rule.specs.Shares.{Has, made, claims, lower}
+use Rattle.depot_rule.specs.Shares.{Has, made, due, unsettled, open_grants, claims, lower}
 use Rattle.depot_rule.specs.Parcels.{has_out, IsParcel}
 use Rattle.depot_rule.specs.Rule.{Base, Rule}
 use Rattle.depot_rule.specs.Machine.{IsLocal, Keeps}
 use Rattle.depot_rule.specs.History.{Behaviour, Legal, SoundThroughout, listed, chosen, AreHands}
 use Rattle.depot_rule.specs.Plays.{Place, StampSays}
 use Rattle.depot_rule.proofs.Sums.{total-set, over-other}
+use Rattle.depot_rule.proofs.Views.{few-entries}
 use Rattle.depot_rule.proofs.Grants.{at-length}
+use Rattle.std.proofs.lemmas.Bool.{lt-ltb}
 use Rattle.depot_rule.proofs.Parcels.{stay-keeps}
 use Rattle.depot_rule.proofs.Looking.{ticket-keeps}
 use Rattle.depot_rule.proofs.Places.{on-one}
@@ -32,12 +34,12 @@ module _ (P E : Type 0) (kind_of : P → Kind) where
 
   -- the grant of b lists other parcels, where all that it covers is taken
   pub relist-keeps : (ps : List ℕ) (first : List (Option P)) (s : State (Option P) (List (View P E))) (r : Base kind_of ps first s) (id b : ℕ) (v : View P E) (g left : G) (rs : List Read) (seen : List E) (mine : List ℕ)
-      → get_elem? s.views id ≡ some (v ∷ []) → Has v b g → length mine ≡ length v.mine + 1
+      → get_elem? s.views id ≡ some (v ∷ []) → Has v b g → v.stamped ≡ 0 → length mine ≡ length v.mine + 1
       → ((k : ℕ) → 0 < k → k < length ps → Covers ps b k → has_out k v ≡ 1)
       → ((k : ℕ) → 0 < k → k < length ps → Covers ps b k → IsParcel kind_of first k (get_or left k None))
-      → Base kind_of ps first record { words = set s.words 0 ((get_or s.words 0 0 + 1) % 18446744073709551616); homes = s.homes; views = set s.views id (record v { held = set v.held b (Some left); reads = rs; seen = seen; mine = mine } ∷ []) }
-  relist-keeps ps first s r id b v g left rs seen mine at here more taken fits =
-      let w : View P E = record v { held = set v.held b (Some left); reads = rs; seen = seen; mine = mine } in
+      → Base kind_of ps first record { words = set s.words 0 ((get_or s.words 0 0 + 1) % 18446744073709551616); homes = s.homes; views = set s.views id (record v { stamped = b; held = set v.held b (Some left); reads = rs; seen = seen; mine = mine } ∷ []) }
+  relist-keeps ps first s r id b v g left rs seen mine at here unstamped more taken fits =
+      let w : View P E = record v { stamped = b; held = set v.held b (Some left); reads = rs; seen = seen; mine = mine } in
       let so = r.shares.sound id (v ∷ []) at 0 v refl in
       let ca = r.parcels.carries id (v ∷ []) at 0 v refl in
       let low : (a : ℕ) → lower a w ≡ lower a v = λ a. over-other (λ c. tally a (ancestors v.tree c)) 0 v.held b g left here in
@@ -48,8 +50,11 @@ module _ (P E : Type 0) (kind_of : P → Kind) where
       record {
         shares = ticket-keeps P E ps s.words s.views r.shares ((get_or s.words 0 0 + 1) % 18446744073709551616) id v w at refl
             (let t = total-set (total made) s.views id (v ∷ []) (w ∷ []) at in let n = ca.nodes b g here in let n0 = n.1 in let wide = r.shares.as_many in
-            let q = r.shares.ticket in let h = get_or-set_same s.words 0 ((get_or s.words 0 0 + 1) % 18446744073709551616) 0 (omega arith) in omega arith)
-            (record { some_part = so.some_part; tree = so.tree; wide = length-set v.held b (Some left) ∙ so.wide; once = so.once })
+            let q = r.shares.ticket in let h = get_or-set_same s.words 0 ((get_or s.words 0 0 + 1) % 18446744073709551616) 0 (omega arith) in let f = few-entries P E ps s.words s.views r.shares in omega arith)
+            (let d = total-set (total due) s.views id (v ∷ []) (w ∷ []) at in let t = total-set (total unsettled) s.views id (v ∷ []) (w ∷ []) at in let q = r.shares.bounded in
+            let grants : open_grants w ≡ open_grants v = over-other (λ c. 1) 0 v.held b g left here in let n = (ca.nodes b g here).0 in
+            let one : one_if (ltb 0 b) ≡ 1 = ap one_if (lt-ltb 0 b n) in let none : one_if (ltb 0 v.stamped) ≡ 0 = ap (λ z. one_if (ltb 0 z)) unstamped in omega arith)
+            (record { some_part = so.some_part; tree = so.tree; wide = length-set v.held b (Some left) ∙ so.wide; once = so.once; looked = so.looked })
             (λ a. let l = low a in let o = own a in (omega arith, o, omega arith));
         parcels = stay-keeps P E kind_of ps first s r id v w at (λ k. refl) (record {
           opened = ca.opened;
@@ -74,7 +79,7 @@ module _ (P C R B : Type 0) (kind_of : P → Kind) (m : Behaviour P C R B) where
 
   -- the call is a step of the machine's, from the parcels that its grant lists to those that the entry says; what it gives was in the seat's hand
   pub stamps : IsLocal m.steps → Keeps m.steps m.takes m.gives m.invariant
-      → (ps : List ℕ) (first : List (Option P)) (slots id : ℕ) (me : Place P E) (v : View P E) (e : E) (g : List (Option P)) → me.0 ≡ v ∷ [] → Has v e.node g
+      → (ps : List ℕ) (first : List (Option P)) (slots id : ℕ) (me : Place P E) (v : View P E) (e : E) (g : List (Option P)) → me.0 ≡ v ∷ [] → Has v e.node g → v.stamped ≡ 0
       → ((k : ℕ) → 0 < k → k < length ps → Covers ps e.node k → 0 < has_out k v)
       → ((k : ℕ) → 0 < k → k < length ps → Covers ps e.node k → (p : P) × (get_or e.left k None ≡ Some p) × ((q : P) → get_or v.first k None ≡ Some q → kind_of p ≡ kind_of q))
       → (f f' : ℕ → Option P) → m.steps v.tree e.node e.call f e.reply f'
@@ -83,7 +88,7 @@ module _ (P C R B : Type 0) (kind_of : P → Kind) (m : Behaviour P C R B) where
       → (own own' : List B) → AreHands m.takes m.gives (chosen v.seen v.mine) own
       → ((weigh : B → ℕ) → total weigh (m.gives e.call e.reply) + total weigh own' ≡ total weigh (m.takes e.call e.reply) + total weigh own)
       → Allows (Rule kind_of m ps first) slots id me 0 (λ x. (x + 1) % 2 ^ 64) (StampSays m (Some e) (step slots 0 1 0 none) me)
-  stamps local steady ps first slots id me v e g one here taken fits f f' own_step own_before own_left own own' mine change s whole _ at' small =
+  stamps local steady ps first slots id me v e g one here unstamped taken fits f f' own_step own_before own_left own own' mine change s whole _ at' small =
       let r = whole.base in let h = whole.history in
       let at : get_elem? s.views id ≡ some (v ∷ []) = at' ∙ ap some one in
       let x : ℕ = get_or s.words 0 0 in
@@ -100,9 +105,9 @@ module _ (P C R B : Type 0) (kind_of : P → Kind) (m : Behaviour P C R B) where
       let seen = h.seen id (v ∷ []) at 0 v refl in
       let log : List E = h.log ++ e ∷ [] in
       let places : List ℕ = v.mine ++ length h.log ∷ [] in
-      let w : View P E = record v { held = set v.held e.node (Some e.left); reads = rs; seen = log; mine = places } in
+      let w : View P E = record v { stamped = e.node; held = set v.held e.node (Some e.left); reads = rs; seen = log; mine = places } in
       let next : Rule kind_of m ps first record { words = set s.words 0 ((x + 1) % 18446744073709551616); homes = s.homes; views = set s.views id (w ∷ []) } = record {
-        base = relist-keeps P E kind_of ps first s r id e.node v g e.left rs log places at here (length-append v.mine (length h.log ∷ [])) once parcels;
+        base = relist-keeps P E kind_of ps first s r id e.node v g e.left rs log places at here unstamped (length-append v.mine (length h.log ∷ [])) once parcels;
         history = stamp-remembers P C R B kind_of m local steady ps first s r h id v at e g here once f f' step_of before left own own' mine change _ rs;
       } in (
         w ∷ [],
@@ -112,7 +117,7 @@ module _ (P C R B : Type 0) (kind_of : P → Kind) (m : Behaviour P C R B) where
         (
           on-one _ me.0 v one (
             seen.0,
-            ap (λ (l : List E). let z : View P E = record v { held = set v.held e.node (Some e.left); reads = rs; seen = l ++ e ∷ []; mine = v.mine ++ length l ∷ [] } in z ∷ []) (sym seen.1),
+            ap (λ (l : List E). let z : View P E = record v { stamped = e.node; held = set v.held e.node (Some e.left); reads = rs; seen = l ++ e ∷ []; mine = v.mine ++ length l ∷ [] } in z ∷ []) (sym seen.1),
             (
               subst (λ (z : List ℕ × List (Option P) × List E). Legal m.steps z.0 (listed z.1) (z.2 ++ e ∷ [])) (λ i. (sym so.tree i, sym ca.opened i, sym seen.1 i)) (stamp-legal P C R B kind_of m local steady ps first s r h id v at e g here once f f' step_of before left own own' mine change s.words rs),
               subst (λ (z : List ℕ × List (Option P) × List E). SoundThroughout m z.0 (listed z.1) (z.2 ++ e ∷ [])) (λ i. (sym so.tree i, sym ca.opened i, sym seen.1 i))

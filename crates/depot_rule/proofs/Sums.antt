@@ -86,6 +86,11 @@ module _ {A : Type 0} where
   total-parts f g h e [] = omega arith
   total-parts f g h e (x ∷ xs) = let a = e x in let r = total-parts f g h e xs in omega arith
 
+  -- a sum of sums, over lists of lists
+  pub total-plus : (f g h : A → ℕ) → ((x : A) → h x ≡ f x + g x) → (l : List A) → total h l ≡ total f l + total g l
+  total-plus f g h same [] = omega arith
+  total-plus f g h same (x ∷ xs) = let a = same x in let r = total-plus f g h same xs in omega arith
+
   pub total-same : (f g : A → ℕ) → ((x : A) → f x ≡ g x) → (l : List A) → total f l ≡ total g l
   total-same f g e [] = refl
   total-same f g e (x ∷ xs) = let a = e x in let r = total-same f g e xs in omega arith

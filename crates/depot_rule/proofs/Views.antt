@@ -1,13 +1,13 @@
 -- The views of all seats: what holds of each, and what a view adds to the words.
-use Rattle.std.proofs.Common.{◌≡◌, ◌≢◌, ℕ, zero, suc, ◌+◌, ◌*◌, ◌<◌, ◌≤◌, eqb, List, [], ◌∷◌, ◌++◌, length, get_or, set, sym, refl, ◌∙◌, subst, arith, ⊎_elim}
+use Rattle.std.proofs.Common.{◌≡◌, ◌≢◌, ℕ, zero, suc, ◌+◌, ◌*◌, ◌<◌, ◌≤◌, eqb, ltb, List, [], ◌∷◌, ◌++◌, length, get_or, set, sym, refl, ◌∙◌, subst, arith, ⊎_elim}
 use mathlib.Core.Option.{some, some-injective, some-ne-none}
 use lib.ListN.{get_elem?}
 use Rattle.atomic_table.proofs.Lists.{at_set, at_snoc}
 use Rattle.depot_rule.specs.declared.view.View.{View}
 use Rattle.depot_rule.specs.Sums.{total, one_if, tally, over_taken}
 use Rattle.depot_rule.specs.Tree.{IsTree, ancestors}
-use Rattle.depot_rule.specs.Shares.{exclusive, Each, parts, claims, lower, entered, shares, IsSound, Shares}
-use Rattle.depot_rule.proofs.Sums.{one-most, total-most, total-alone, total-parts, over-most}
+use Rattle.depot_rule.specs.Shares.{exclusive, Each, parts, made, open_grants, due, unsettled, claims, lower, entered, shares, IsSound, Shares}
+use Rattle.depot_rule.proofs.Sums.{one-most, total-most, total-less, total-alone, total-parts, over-most}
 use Rattle.depot_rule.proofs.Trees.{ancestors-once}
 
 module _ {V : Type 0} where
@@ -67,6 +67,28 @@ module _ (P E : Type 0) where
       let b = total-most (total (λ (v : View P E). entered a v + unsure_in a v)) (total parts) views
       (λ j vs e. total-most (λ (v : View P E). entered a v + unsure_in a v) parts vs (λ i v d. few-shares ps r.tree r.few a v (r.sound j vs e i v d))) in
       let s = r.seats in omega arith
+
+  -- a view's rights to add entries are few, and so are all entries
+  pub few-due : (ps : List ℕ) → length ps ≤ 1024 → (v : View P E) → IsSound ps v → v.looked + open_grants v ≤ 2000 * parts v
+  few-due ps few v s = let o = over-most (λ b. 1) 0 v.held (λ b. omega arith) in let w = s.wide in let l = s.looked in let some_part = s.some_part in omega arith
+
+  pub due-most : (ps ws : List ℕ) (views : List (List (View P E))) (r : Shares ps ws views) → total (total (λ (v : View P E). v.looked + open_grants v)) views ≤ 128000
+  due-most ps ws views r =
+      let b = total-most (total (λ (v : View P E). v.looked + open_grants v)) (total parts) views
+      (λ j vs e. total-most (λ (v : View P E). v.looked + open_grants v) parts vs (λ i v d. few-due ps r.few v (r.sound j vs e i v d))) in
+      let s = r.seats in omega arith
+
+  pub unsettled-most : (ps ws : List ℕ) (views : List (List (View P E))) (r : Shares ps ws views) → total (total unsettled) views ≤ 128000
+  unsettled-most ps ws views r =
+      let b = total-most (total unsettled) (total parts) views
+      (λ j vs e. total-most unsettled parts vs (λ i v d. let o = one-most (ltb 0 v.stamped) in let some_part = (r.sound j vs e i v d).some_part in omega arith)) in
+      let s = r.seats in omega arith
+
+  pub made-less : (views : List (List (View P E))) → total (total made) views ≤ total (total due) views
+  made-less views = total-less (total made) (total due) (λ vs. total-less made due (λ v. omega arith) vs) views
+
+  pub few-entries : (ps ws : List ℕ) (views : List (List (View P E))) (r : Shares ps ws views) → total (total made) views ≤ 4611686018427643904
+  few-entries ps ws views r = let m = made-less views in let s = unsettled-most ps ws views r in let b = r.bounded in omega arith
 
   -- a view with all parts is the only one
   none-left : (vs : List (View P E)) (f : View P E → ℕ) → All (λ (v : View P E). 0 < v.parts) vs → total parts vs ≡ 0 → total f vs ≡ 0

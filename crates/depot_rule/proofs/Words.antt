@@ -1,5 +1,5 @@
 -- The steps on words keep the rule of shares. Each lemma names the next view.
-use Rattle.std.proofs.Common.{◌≡◌, ◌≢◌, ℕ, ◌+◌, ◌-◌, ◌*◌, ◌%◌, ◌<◌, ◌≤◌, eqb, List, [], ◌∷◌, length, get_or, set, sym, refl, ap, ◌∙◌, subst, arith, Option, Some, None, length-set, get_or-set_other, get_or-set_same}
+use Rattle.std.proofs.Common.{◌≡◌, ◌≢◌, ℕ, ◌+◌, ◌-◌, ◌*◌, ◌<◌, ◌≤◌, eqb, ltb, List, [], ◌∷◌, length, get_or, set, sym, refl, ap, ◌∙◌, subst, arith, Option, Some, None, length-set, get_or-set_other, get_or-set_same}
 use mathlib.Core.Option.{some}
 use mathlib.Core.Logic.{dite}
 use native.Mathlib.Decide.{ℕ_discrete}
@@ -8,8 +8,8 @@ use Rattle.depot_rule.specs.declared.view.View.{View}
 use Rattle.depot_rule.specs.declared.view.Read.{Read}
 use Rattle.depot_rule.specs.Sums.{total, one_if, tally, over_taken}
 use Rattle.depot_rule.specs.Tree.{ancestors}
-use Rattle.depot_rule.specs.Shares.{exclusive, parts, made, claims, entered, shares, IsSound, Shares}
-use Rattle.depot_rule.proofs.Sums.{one-same, one-other, total-set, total-at, total-less, fill-at, clear-at, free-at}
+use Rattle.depot_rule.specs.Shares.{exclusive, parts, made, open_grants, due, unsettled, claims, entered, shares, IsSound, Shares}
+use Rattle.depot_rule.proofs.Sums.{one-same, one-other, one-most, total-set, total-at, total-less, fill-at, clear-at, free-at}
 use Rattle.depot_rule.proofs.Trees.{ancestors-once}
 use Rattle.depot_rule.proofs.Views.{all-one, each-set, unsure_in, shares-parts, few-in-word}
 
@@ -40,12 +40,12 @@ module _ (P E : Type 0) where
 
   -- the seat id's step on the word i, which makes it x
   pub step-keeps : (ps ws : List ℕ) (views : Views) (r : Shares ps ws views) (i x id : ℕ) (v w : View P E) → get_elem? views id ≡ some (v ∷ []) → 0 < i → i < length ps
-      → w.parts ≡ v.parts → made w ≡ made v → IsSound ps w
+      → w.parts ≡ v.parts → made w ≡ made v → due w + unsettled v ≤ due v + unsettled w → IsSound ps w
       → x + shares i v ≡ get_or ws i 0 + shares i w
       → ((a : ℕ) → 0 < a → a ≢ i → (shares a w ≡ shares a v) × (claims a w ≡ claims a v) × (entered a w ≡ entered a v))
       → (0 < total (total (claims i)) (set views id (w ∷ [])) → (total (total (claims i)) (set views id (w ∷ [])) ≡ 1) × (total (total (entered i)) (set views id (w ∷ [])) ≡ 0))
       → Shares ps (set ws i x) (set views id (w ∷ []))
-  step-keeps ps ws views r i x id v w at pos lt same as_many_made sound here others lone = record {
+  step-keeps ps ws views r i x id v w at pos lt same as_many_made rights sound here others lone = record {
     tree = r.tree;
     few = r.few;
     as_many = length-set ws i x ∙ r.as_many;
@@ -57,7 +57,8 @@ module _ (P E : Type 0) where
         (λ ne. let t = total-set (total (shares a)) views id (v ∷ []) (w ∷ []) at in let q = r.counted a p l in let o = others a p ne in let o' = o.0 in
         let g = get_or-set_other ws i a x 0 ne in omega arith);
     ticket = let t = total-set (total made) views id (v ∷ []) (w ∷ []) at in let q = r.ticket in let g = get_or-set_other ws i 0 x 0 (λ e. omega arith) in
-        let still : total (total made) (set views id (w ∷ [])) ≡ total (total made) views = omega arith in g ∙ q ∙ ap (λ n. n % 18446744073709551616) (sym still);
+        let still : total (total made) (set views id (w ∷ [])) ≡ total (total made) views = omega arith in g ∙ q ∙ sym still;
+    bounded = let d = total-set (total due) views id (v ∷ []) (w ∷ []) at in let t = total-set (total unsettled) views id (v ∷ []) (w ∷ []) at in let q = r.bounded in omega arith;
     alone = λ a p l. dite (ℕ_discrete a i)
         (λ e. subst (λ (z : ℕ). 0 < total (total (claims z)) (set views id (w ∷ [])) → (total (total (claims z)) (set views id (w ∷ [])) ≡ 1) × (total (total (entered z)) (set views id (w ∷ [])) ≡ 0)) (sym e) lone)
         (λ ne some_claim. let t = total-set (total (entered a)) views id (v ∷ []) (w ∷ []) at in let u = total-set (total (claims a)) views id (v ∷ []) (w ∷ []) at in
@@ -76,7 +77,7 @@ module _ (P E : Type 0) where
       let one = one-same i i refl in
       let none = unclaimed ps ws views r i pos lt free in
       let c = total-set (total (claims i)) views id (v ∷ []) (w ∷ []) at in
-      step-keeps ps ws views r i (get_or ws i 0 + 1) id v w at pos lt refl refl
+      step-keeps ps ws views r i (get_or ws i 0 + 1) id v w at pos lt refl refl (omega arith)
       (record {
         some_part = so.some_part;
         tree = so.tree;
@@ -84,6 +85,7 @@ module _ (P E : Type 0) where
         once = λ a. dite (ℕ_discrete i a)
             (λ e. let b = one-same i a e in let f : tally a v.path ≡ 0 = ap (λ (z : ℕ). tally z v.path) (sym e) ∙ fresh in omega arith)
             (λ ne. let b = one-other i a ne in let f = so.once a in omega arith);
+        looked = so.looked;
       })
       (omega arith)
       (λ a p ne. let b = one-other i a (λ e. ne (sym e)) in (omega arith, refl, omega arith))
@@ -99,8 +101,8 @@ module _ (P E : Type 0) where
       let one = one-same i i refl in let zero_now : one_if (eqb v.unsure i) ≡ 0 = one-other v.unsure i (λ e. omega arith) in
       let l = claimed ps ws views r i pos lt full in let l0 = l.0 in let l1 = l.1 in
       let c = total-set (total (claims i)) views id (v ∷ []) (w ∷ []) at in let t = total-set (total (entered i)) views id (v ∷ []) (w ∷ []) at in
-      step-keeps ps ws views r i (get_or ws i 0 + 1) id v w at pos lt refl refl
-      (record { some_part = so.some_part; tree = so.tree; wide = so.wide; once = so.once })
+      step-keeps ps ws views r i (get_or ws i 0 + 1) id v w at pos lt refl refl (omega arith)
+      (record { some_part = so.some_part; tree = so.tree; wide = so.wide; once = so.once; looked = so.looked })
       (omega arith)
       (λ a p ne. let b = one-other i a (λ e. ne (sym e)) in let b' = one-other v.unsure a (λ e. omega arith) in (omega arith, refl, refl))
       (λ some_claim. (omega arith, omega arith))
@@ -116,8 +118,8 @@ module _ (P E : Type 0) where
       let q = r.counted i pos lt in let m = total-at (total (shares i)) views id (v ∷ []) at in
       let c = total-set (total (claims i)) views id (v ∷ []) (w ∷ []) at in let t = total-set (total (entered i)) views id (v ∷ []) (w ∷ []) at in (
         omega arith,
-        step-keeps ps ws views r i (get_or ws i 0 - 1) id v w at pos lt refl refl
-            (record { some_part = so.some_part; tree = so.tree; wide = so.wide; once = so.once })
+        step-keeps ps ws views r i (get_or ws i 0 - 1) id v w at pos lt refl refl (omega arith)
+            (record { some_part = so.some_part; tree = so.tree; wide = so.wide; once = so.once; looked = so.looked })
             (omega arith)
             (λ a p ne. let b = one-other 0 a (λ e. omega arith) in let b' = one-other v.unsure a (λ e. ne (sym e ∙ unsure)) in (omega arith, refl, refl))
             (λ some_claim. let l = r.alone i pos lt (omega arith) in let l0 = l.0 in let l1 = l.1 in (omega arith, omega arith)),
@@ -136,8 +138,8 @@ module _ (P E : Type 0) where
       let q = r.counted i pos lt in let m = total-at (total (shares i)) views id (v ∷ []) at in let m' = total-at (total (entered i)) views id (v ∷ []) at in
       let c = total-set (total (claims i)) views id (v ∷ []) (w ∷ []) at in let t = total-set (total (entered i)) views id (v ∷ []) (w ∷ []) at in (
         omega arith,
-        step-keeps ps ws views r i (get_or ws i 0 - 1) id v w at pos lt refl refl
-            (record { some_part = so.some_part; tree = so.tree; wide = so.wide; once = λ a. let o = so.once a in let e = split a in omega arith })
+        step-keeps ps ws views r i (get_or ws i 0 - 1) id v w at pos lt refl refl (omega arith)
+            (record { some_part = so.some_part; tree = so.tree; wide = so.wide; once = λ a. let o = so.once a in let e = split a in omega arith; looked = so.looked })
             (omega arith)
             (λ a p ne. let b = one-other i a (λ e. ne (sym e)) in let e = split a in (omega arith, refl, omega arith))
             (λ some_claim. let l = r.alone i pos lt (omega arith) in let l0 = l.0 in let l1 = l.1 in (omega arith, omega arith)),
@@ -145,11 +147,11 @@ module _ (P E : Type 0) where
 
   -- a word found at 0 is claimed, and the shares entered above it become the grant's
   pub claim-keeps : (ps ws : List ℕ) (views : Views) (r : Shares ps ws views) (id : ℕ) (v : View P E) (b : ℕ) (g : List (Option P)) (rs : List Read) → get_elem? views id ≡ some (v ∷ []) → 0 < b → b < length ps
-      → ((a : ℕ) → tally a v.path ≡ tally a (ancestors ps b)) → get_or ws b 0 ≡ 0
-      → (get_elem? v.held b ≡ some None) × Shares ps (set ws b exclusive) (set views id (record v { path = []; held = set v.held b (Some g); reads = rs } ∷ []))
-  claim-keeps ps ws views r id v b g rs at pos lt all free =
+      → v.looked ≡ 1 → ((a : ℕ) → tally a v.path ≡ tally a (ancestors ps b)) → get_or ws b 0 ≡ 0
+      → (get_elem? v.held b ≡ some None) × Shares ps (set ws b exclusive) (set views id (record v { looked = 0; path = []; held = set v.held b (Some g); reads = rs } ∷ []))
+  claim-keeps ps ws views r id v b g rs at pos lt ready all free =
       let so = r.sound id (v ∷ []) at 0 v refl in
-      let w : View P E = record v { path = []; held = set v.held b (Some g); reads = rs } in
+      let w : View P E = record v { looked = 0; path = []; held = set v.held b (Some g); reads = rs } in
       let one = one-same b b refl in
       let q = word-is ps ws views r b pos lt in
       let mine = total-at (total (claims b)) views id (v ∷ []) at in
@@ -160,11 +162,12 @@ module _ (P E : Type 0) where
       let tree : (a : ℕ) → tally a (ancestors v.tree b) ≡ tally a (ancestors ps b) = λ a. ap (λ (t : List ℕ). tally a (ancestors t b)) so.tree in
       let as_before : (a : ℕ) → entered a w ≡ entered a v = λ a. let u = up a in let t = tree a in let p = all a in omega arith in
       let own_here = own b in let here = as_before b in
+      let grants : open_grants w ≡ open_grants v + 1 = fill-at (λ c. 1) v.held b g vacant in
       let c = total-set (total (claims b)) views id (v ∷ []) (w ∷ []) at in let t = total-set (total (entered b)) views id (v ∷ []) (w ∷ []) at in
       let le = total-less (total (entered b)) (total (Bare b)) (λ vs. total-less (entered b) (Bare b) (λ u. omega arith) vs) views in (
         vacant,
-        step-keeps ps ws views r b exclusive id v w at pos lt refl refl
-            (record { some_part = so.some_part; tree = so.tree; wide = length-set v.held b (Some g) ∙ so.wide; once = λ a. omega arith })
+        step-keeps ps ws views r b exclusive id v w at pos lt refl refl (omega arith)
+            (record { some_part = so.some_part; tree = so.tree; wide = length-set v.held b (Some g) ∙ so.wide; once = λ a. omega arith; looked = omega arith })
             (omega arith)
             (λ a p ne. let o = own a in let z = one-other b a (λ e. ne (sym e)) in let u = as_before a in (omega arith, omega arith, u))
             (λ some_claim. (omega arith, omega arith)),
@@ -173,10 +176,11 @@ module _ (P E : Type 0) where
   -- a grant's claim is released, and its shares are to be left
   pub release-keeps : (ps ws : List ℕ) (views : Views) (r : Shares ps ws views) (id : ℕ) (v : View P E) (b : ℕ) (g : List (Option P)) (rs : List Read) → get_elem? views id ≡ some (v ∷ []) → 0 < b → b < length ps
       → v.path ≡ [] → get_elem? v.held b ≡ some (Some g)
-      → (exclusive ≤ get_or ws b 0) × Shares ps (set ws b (get_or ws b 0 - exclusive)) (set views id (record v { path = ancestors v.tree b; held = set v.held b None; reads = rs } ∷ []))
+      → (exclusive ≤ get_or ws b 0) × Shares ps (set ws b (get_or ws b 0 - exclusive)) (set views id (record v { stamped = 0; path = ancestors v.tree b; held = set v.held b None; reads = rs } ∷ []))
   release-keeps ps ws views r id v b g rs at pos lt no_path held =
       let so = r.sound id (v ∷ []) at 0 v refl in
-      let w : View P E = record v { path = ancestors v.tree b; held = set v.held b None; reads = rs } in
+      let w : View P E = record v { stamped = 0; path = ancestors v.tree b; held = set v.held b None; reads = rs } in
+      let grants : open_grants w + 1 ≡ open_grants v = clear-at (λ c. 1) v.held b g held in let some_stamp = one-most (ltb 0 v.stamped) in
       let one = one-same b b refl in
       let down : (a : ℕ) → over_taken (λ c. tally a (ancestors v.tree c)) 0 w.held + tally a (ancestors v.tree b) ≡ over_taken (λ c. tally a (ancestors v.tree c)) 0 v.held = λ a. clear-at (λ c. tally a (ancestors v.tree c)) v.held b g held in
       let own : (a : ℕ) → claims a w + one_if (eqb b a) ≡ claims a v = λ a. clear-at (λ c. one_if (eqb c a)) v.held b g held in
@@ -188,8 +192,8 @@ module _ (P E : Type 0) where
       let l = r.alone b pos lt (omega arith) in let l0 = l.0 in
       let c = total-set (total (claims b)) views id (v ∷ []) (w ∷ []) at in (
         omega arith,
-        step-keeps ps ws views r b (get_or ws b 0 - exclusive) id v w at pos lt refl refl
-            (record { some_part = so.some_part; tree = so.tree; wide = length-set v.held b None ∙ so.wide; once = λ a. subst (λ (t : List ℕ). tally a (ancestors t b) ≤ 1) (sym so.tree) (ancestors-once ps r.tree a b) })
+        step-keeps ps ws views r b (get_or ws b 0 - exclusive) id v w at pos lt refl refl (omega arith)
+            (record { some_part = so.some_part; tree = so.tree; wide = length-set v.held b None ∙ so.wide; once = λ a. subst (λ (t : List ℕ). tally a (ancestors t b) ≤ 1) (sym so.tree) (ancestors-once ps r.tree a b); looked = so.looked })
             (omega arith)
             (λ a p ne. let o = own a in let z = one-other b a (λ e. ne (sym e)) in let u = as_before a in (omega arith, omega arith, u))
             (λ some_claim. absurd (omega arith)),
@@ -202,8 +206,8 @@ module _ (P E : Type 0) where
       let so = r.sound id (v ∷ []) at 0 v refl in
       let w : View P E = record v { out = out; gone = gone; reads = rs } in
       let c = total-set (total (claims i)) views id (v ∷ []) (w ∷ []) at in let t = total-set (total (entered i)) views id (v ∷ []) (w ∷ []) at in
-      step-keeps ps ws views r i (get_or ws i 0) id v w at pos lt refl refl
-      (record { some_part = so.some_part; tree = so.tree; wide = so.wide; once = so.once })
+      step-keeps ps ws views r i (get_or ws i 0) id v w at pos lt refl refl (omega arith)
+      (record { some_part = so.some_part; tree = so.tree; wide = so.wide; once = so.once; looked = so.looked })
       (omega arith)
       (λ a p ne. (refl, refl, refl))
       (λ some_claim. let l = r.alone i pos lt (omega arith) in let l0 = l.0 in let l1 = l.1 in (omega arith, omega arith))

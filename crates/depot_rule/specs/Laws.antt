@@ -61,10 +61,10 @@ module _ (P E : Type 0) where
       → (k : ℕ) → 0 < k → k < length parents → IsAtHome kind_of first s k
 
 module _ {P C R B : Type 0} (kind_of : P → Kind) (m : Behaviour P C R B) where
-  -- there is one history of all seats (`History`), and the ticket says how long it is
+  -- there is one history of all seats (`History`), and the ticket says how long it is: fewer than 2^63 entries
   abbrev pub HistoryIsOne : Type 0
   HistoryIsOne = (parents : List ℕ) (first : List (Option P)) (s : State (Option P) (List (View P (Entry P C R)))) → Rule kind_of m parents first s
-      → (h : History m parents first s) × (slice_index s.words 0 ≡ length h.log % 18446744073709551616)
+      → (h : History m parents first s) × (slice_index s.words 0 ≡ length h.log) × (length h.log < 9223372036854775808)
 
   -- the only seat has seen all of it, and its entries are all entries
   abbrev pub OnlySeatHasAll : Type 0

@@ -1,5 +1,5 @@
 -- What each kind of step tells the seat that makes it.
-use Rattle.std.specs.Prelude.{◌≡◌, ◌≢◌, ◌⊎◌, ℕ, ◌+◌, ◌%◌, ◌<◌, ◌≤◌, List, [], ◌∷◌, ◌++◌, drop, length, slice_set, slice_index_or, Option, Some, None, IfSome}
+use Rattle.std.specs.Prelude.{◌≡◌, ◌≢◌, ◌⊎◌, ℕ, ◌+◌, ◌<◌, ◌≤◌, List, [], ◌∷◌, ◌++◌, drop, length, slice_set, slice_index_or, Option, Some, None, IfSome}
 use mathlib.Core.Option.{some}
 use lib.ListN.{get_elem?}
 use Rattle.atomic_table.specs.Table.{Me, Step, rest}
@@ -8,7 +8,7 @@ use Rattle.depot_rule.specs.declared.view.Read.{Read}
 use Rattle.depot_rule.specs.declared.view.Entry.{Entry}
 use Rattle.depot_rule.specs.Sums.{total, tally, without}
 use Rattle.depot_rule.specs.Tree.{ancestors, Covers, Excludes}
-use Rattle.depot_rule.specs.Shares.{exclusive, made, shares, Has}
+use Rattle.depot_rule.specs.Shares.{exclusive, worn, made, shares, Has}
 use Rattle.depot_rule.specs.Parcels.{has_out, IsParcel}
 use Rattle.depot_rule.specs.Seats.{OnOne, longer, merge}
 use Rattle.depot_rule.specs.History.{Behaviour, SoundThroughout, IsHistory, Legal, StartsWith, listed, after, chosen, entries_of}
@@ -47,7 +47,7 @@ module _ {P E : Type 0} where
 
   -- fetch_sub of 2^32: the grant ends, which no other grant of the seat excluded, and its shares are to be left
   abbrev pub ReleaseSays : Step (Option P) → Place P E → ℕ → Place P E → Type 0
-  ReleaseSays st me found me' = Goes (λ v vs. (vs ≡ record v { path = ancestors v.tree st.word; held = slice_set v.held st.word None; reads = noted st found v } ∷ [])
+  ReleaseSays st me found me' = Goes (λ v vs. (vs ≡ record v { stamped = 0; path = ancestors v.tree st.word; held = slice_set v.held st.word None; reads = noted st found v } ∷ [])
       × ((c : ℕ) (h : List (Option P)) → Has v c h → Excludes v.tree st.word c → c ≡ st.word)) me me'
 
   -- a load of the node's word, by which its slot goes out with what the grant lists
@@ -70,9 +70,12 @@ module _ {P E : Type 0} where
   abbrev pub FillSays : Step (Option P) → Place P E → ℕ → Place P E → Type 0
   FillSays st me found me' = OnOne (λ v. me'.0 ≡ record v { out = 0; reads = noted st found v } ∷ []) me.0 × (me'.1 ≡ rest me.1)
 
-  -- a load of the ticket, in which no seat has shares; for the only seat it counts the entries that it made
+  -- a load of the ticket, in which no seat has shares: below 2^62 a call may begin. For the only seat it counts the entries that it made
   abbrev pub LookSays : Step (Option P) → Place P E → ℕ → Place P E → Type 0
-  LookSays st me found me' = Goes (λ v vs. (st.word ≡ 0) × (vs ≡ record v { reads = record { word = 0; value = found; shares = 0 } ∷ v.reads } ∷ []) × (IsOnly v → found ≡ made v % 18446744073709551616)) me me'
+  LookSays st me found me' = Goes (λ v vs. (st.word ≡ 0)
+      × (found < worn → vs ≡ record v { looked = 1; reads = record { word = 0; value = found; shares = 0 } ∷ v.reads } ∷ [])
+      × (worn ≤ found → vs ≡ record v { reads = record { word = 0; value = found; shares = 0 } ∷ v.reads } ∷ [])
+      × (IsOnly v → found ≡ made v)) me me'
 
   -- no grant of the one excludes a grant of the other
   abbrev pub AreApart : View P E → View P E → Type 0
@@ -100,12 +103,12 @@ module _ {P C R B : Type 0} where
   abbrev pub ClaimSays : (P → Kind) → Behaviour P C R B → Step (Option P) → Place P (Entry P C R) → ℕ → Place P (Entry P C R) → Type 0
   ClaimSays kind_of m st me found me' = Goes (λ v vs.
       (found ≡ 0 → (g : List (Option P))
-      × (vs ≡ record v { path = []; held = slice_set v.held st.word (Some g); reads = noted st found v } ∷ [])
+      × (vs ≡ record v { looked = 0; path = []; held = slice_set v.held st.word (Some g); reads = noted st found v } ∷ [])
       × ((k : ℕ) → 0 < k → k < length v.tree → Covers v.tree st.word k → IsParcel kind_of v.first k (slice_index_or g k None))
       × ((c : ℕ) (h : List (Option P)) → Has v c h → Excludes v.tree st.word c → ⊥)
       × ((k : ℕ) → 0 < k → Covers v.tree st.word k → has_out k v ≡ 0)
       × (get_elem? v.held st.word ≡ some None)
-      × ((log : List (Entry P C R)) × IsHistory m v.tree v.first v log × (IsOnly v → log ≡ v.seen) × ((k : ℕ) → 0 < k → k < length v.tree → Covers v.tree st.word k → slice_index_or g k None ≡ after v.tree (listed v.first) log k)))
+      × ((log : List (Entry P C R)) × IsHistory m v.tree v.first v log × (length log < 9223372036854775808) × (IsOnly v → log ≡ v.seen) × ((k : ℕ) → 0 < k → k < length v.tree → Covers v.tree st.word k → slice_index_or g k None ≡ after v.tree (listed v.first) log k)))
       × (found ≢ 0 → (vs ≡ record v { reads = noted st found v } ∷ []) × (IsOnly v → (c : ℕ) × (h : List (Option P)) × Has v c h × Excludes v.tree st.word c))) me me'
 
   -- the seat's history is what it had seen, what others put between, and e; it is legal, with the machine's invariant throughout, and the seat's own entries are those that it had, and e. For the only seat nothing is between
@@ -118,6 +121,6 @@ module _ {P C R B : Type 0} where
   -- fetch_add of 1 on the ticket, for the entry e: the grant of its node lists from then on what the entry left, and the entry stands in the history after all that was seen and what others put between
   abbrev pub StampSays : Behaviour P C R B → Option (Entry P C R) → Step (Option P) → Place P (Entry P C R) → ℕ → Place P (Entry P C R) → Type 0
   StampSays m item st me found me' = IfSome item (λ e. OnOne (λ v. (between : List (Entry P C R))
-      × (me'.0 ≡ record (with_entry v between e) { held = slice_set v.held e.node (Some e.left); reads = record { word = 0; value = found; shares = 0 } ∷ v.reads } ∷ [])
+      × (me'.0 ≡ record (with_entry v between e) { stamped = e.node; held = slice_set v.held e.node (Some e.left); reads = record { word = 0; value = found; shares = 0 } ∷ v.reads } ∷ [])
       × HasAdded m v between e) me.0)
       × (me'.1 ≡ me.1)

@@ -28,6 +28,10 @@ pub struct View<P, E> {
     pub tree: LinkedList<u64>,
     /// A word that was entered and found exclusive and has to be left again, or 0.
     pub unsure: u64,
+    /// 1 where the ticket was read below 2^62 for the call that begins, or 0.
+    pub looked: u64,
+    /// The node whose grant was stamped and not yet given up, or 0.
+    pub stamped: u64,
     /// The words that were entered for the call that runs, the last one first.
     pub path: LinkedList<u64>,
     /// By node, what was granted there.
