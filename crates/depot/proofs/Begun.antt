@@ -19,7 +19,7 @@ use Rattle.depot_rule.specs.declared.view.View.{View}
 use Rattle.depot_rule.specs.declared.view.Read.{Read}
 use Rattle.depot_rule.specs.Sums.{tally}
 use Rattle.depot_rule.specs.Tree.{IsTree, ancestors, Covers}
-use Rattle.depot_rule.specs.Shares.{Has, made, grant_shares}
+use Rattle.depot_rule.specs.Shares.{worn, Has, made, grant_shares}
 use Rattle.depot_rule.specs.Seats.{OnOne, view_of}
 use Rattle.depot_rule.specs.Plays.{IsOnly}
 use Rattle.depot_rule.proofs.Grants.{at-length}
@@ -27,7 +27,7 @@ use Rattle.depot_rule.proofs.Places.{one-view, of-one}
 use Rattle.depot_rule.proofs.Trees.{cover-excludes, above-smaller}
 use Rattle.depot.specs.Calls.{IsAmong, IsRead, Refuses, IsExcluded, IsGranted, WasRefused, own_views, known}
 use Rattle.depot.specs.Holds.{untaken, Handled, IsGathered}
-use Rattle.depot.specs.Grants.{worn, IsSeatOf, ListsAs, IsBegun, IsBusy, IsWorn}
+use Rattle.depot.specs.Grants.{IsSeatOf, ListsAs, IsBegun, IsBusy, IsWorn}
 use Rattle.depot.proofs.Moves.{among-later, placed-one}
 use Rattle.depot.proofs.Holding.{is-untaken}
 use Rattle.depot.proofs.Layouts.{parents-tree, number-place, under-place, covers-under, under-covers}
@@ -52,23 +52,25 @@ refuses-node layout a ps b node found lawful m parent number r =
 module _ {P E : Type 0} where
   -- the ticket was looked at
   pub looked-at : (Z : Type 0) (views : List (List (View P E))) (vs ws : List (View P E)) (found : ℕ) → views ≡ vs ∷ [] → length (own_views views) ≡ 1
-      → OnOne (λ v. Z × (ws ≡ record v { reads = record { word = 0; value = found; shares = 0 } ∷ v.reads } ∷ []) × (IsOnly v → found ≡ made v % 18446744073709551616)) vs
-      → (ws ≡ record (known views) { reads = record { word = 0; value = found; shares = 0 } ∷ (known views).reads } ∷ []) × (IsOnly (known views) → found ≡ made (known views) % 18446744073709551616)
+      → OnOne (λ v. Z × (found < worn → ws ≡ record v { looked = 1; reads = record { word = 0; value = found; shares = 0 } ∷ v.reads } ∷ [])
+      × (worn ≤ found → ws ≡ record v { reads = record { word = 0; value = found; shares = 0 } ∷ v.reads } ∷ []) × (IsOnly v → found ≡ made v)) vs
+      → (found < worn → ws ≡ record (known views) { looked = 1; reads = record { word = 0; value = found; shares = 0 } ∷ (known views).reads } ∷ [])
+      × (worn ≤ found → ws ≡ record (known views) { reads = record { word = 0; value = found; shares = 0 } ∷ (known views).reads } ∷ [])
+      × (IsOnly (known views) → found ≡ made (known views))
   looked-at Z views vs ws found is one did =
-      let q = of-one _ vs (view_of vs) (one-view vs (placed-one is one)) did in (
-        q.1 ∙ ap (λ (v : View P E). let z : View P E = record v { reads = record { word = 0; value = found; shares = 0 } ∷ v.reads } in z ∷ []) (sym (ap known is)),
-        subst (λ (v : View P E). IsOnly v → found ≡ made v % 18446744073709551616) (sym (ap known is)) q.2,
-      )
+      let q = of-one _ vs (view_of vs) (one-view vs (placed-one is one)) did in
+      subst (λ (v : View P E). (found < worn → ws ≡ record v { looked = 1; reads = record { word = 0; value = found; shares = 0 } ∷ v.reads } ∷ [])
+      × (worn ≤ found → ws ≡ record v { reads = record { word = 0; value = found; shares = 0 } ∷ v.reads } ∷ []) × (IsOnly v → found ≡ made v)) (sym (ap known is)) (q.1, q.2, q.3)
 
   -- and found at 2^62 or more
   pub worn-so : (v : View P E) (found : ℕ) (views : List (List (View P E))) (ws : List (View P E)) → views ≡ ws ∷ [] → worn ≤ found
-      → (ws ≡ record v { reads = record { word = 0; value = found; shares = 0 } ∷ v.reads } ∷ []) × (IsOnly v → found ≡ made v % 18446744073709551616)
+      → ws ≡ record v { reads = record { word = 0; value = found; shares = 0 } ∷ v.reads } ∷ [] → (IsOnly v → found ≡ made v)
       → IsWorn v (known views)
-  worn-so v found views ws is high looked = (
+  worn-so v found views ws is high looked own = (
     record { word = 0; value = found; shares = 0 } ∷ [],
-    ap known is ∙ ap view_of looked.0,
+    ap known is ∙ ap view_of looked,
     (found, high, (0, refl)),
-    λ only. let count = looked.1 only in let enough : worn ≤ made v = omega arith in enough,
+    λ only. let count = own only in let enough : worn ≤ made v = omega arith in enough,
   )
 
   -- a seat whose tree and first parcels are as before is of the same depot
@@ -77,8 +79,8 @@ module _ {P E : Type 0} where
       (tree ∙ h.0, λ node parcel m at. h.1 node parcel m (ap (λ (f : List (Option P)). slice_index_or f (number_of layout node) None) (sym first) ∙ at))
 
   -- a claim after a look
-  pub granted-after : (kind : P → Kind) (v : View P E) (b : ℕ) (Q : View P E → List (Option P) → Type 0) → ((rs : List Read) (g : List (Option P)) → Q (record v { reads = rs }) g → Q v g)
-      → (r : Read) (vs ws : List (View P E)) → vs ≡ record v { reads = r ∷ v.reads } ∷ []
+  pub granted-after : (kind : P → Kind) (v : View P E) (b : ℕ) (Q : View P E → List (Option P) → Type 0) → ((rs : List Read) (g : List (Option P)) → Q (record v { looked = 1; reads = rs }) g → Q v g)
+      → (r : Read) (vs ws : List (View P E)) → vs ≡ record v { looked = 1; reads = r ∷ v.reads } ∷ []
       → ((g : List (Option P)) × (more : List Read) × IsGranted kind (view_of vs) b g more ws × Q (view_of vs) g) × (IsExcluded (view_of vs) b → ⊥)
       → (q : (g : List (Option P)) × (more : List Read) × IsGranted kind v b g more ws × Q v g) × (IsExcluded v b → ⊥) × IsAmong r q.1
   granted-after kind v b Q still r vs ws is q =
@@ -88,7 +90,7 @@ module _ {P E : Type 0} where
           g,
           more ++ r ∷ [],
           (
-            i.0 ∙ ap (λ (rs : List Read). let z : View P E = record v { held = set v.held b (Some g); reads = rs } in z ∷ []) (sym (append_assoc more (r ∷ []) v.reads)),
+            i.0 ∙ ap (λ (rs : List Read). let z : View P E = record v { looked = 0; held = set v.held b (Some g); reads = rs } in z ∷ []) (sym (append_assoc more (r ∷ []) v.reads)),
             i.1,
             i.2,
             i.3,
@@ -102,7 +104,7 @@ module _ {P E : Type 0} where
   module _ (kind : P → Kind) (layout : Layout) (lawful : fault_of layout ≡ None) (a : Affinity) (m : IsNode layout a) (v : View P E) (seat : IsSeatOf kind layout v) (b : ℕ) (number : b ≡ number_of layout a)
       (g : List (Option P)) (more : List Read) (vs : List (View P E)) (granted : IsGranted kind v b g more vs) where
     abbrev with : View P E
-    with = record v { held = set v.held b (Some g); reads = more ++ v.reads }
+    with = record v { looked = 0; held = set v.held b (Some g); reads = more ++ v.reads }
 
     -- the parcel of each node under the call's is there to be taken
     pub found-there : (c : Affinity) → IsUnder layout a c → (p : P) × (untaken with b (number_of layout c) ≡ Some p) × (slice_index_or g (number_of layout c) None ≡ Some p) × (kind p ≡ kind_of c)
@@ -126,10 +128,10 @@ module _ {P E : Type 0} where
       by_hand = subst (λ us. Handled b us ws) granted.0 handled
 
       abbrev begun_view : View P E
-      begun_view = record v { held = set v.held b (Some g); gone = by_hand.0; reads = (by_hand.1 ++ more) ++ v.reads }
+      begun_view = record v { looked = 0; held = set v.held b (Some g); gone = by_hand.0; reads = (by_hand.1 ++ more) ++ v.reads }
 
       begun-is : ws ≡ begun_view ∷ []
-      begun-is = by_hand.2 ∙ ap (λ (rs : List Read). let z : View P E = record v { held = set v.held b (Some g); gone = by_hand.0; reads = rs } in z ∷ []) (sym (append_assoc by_hand.1 more v.reads))
+      begun-is = by_hand.2 ∙ ap (λ (rs : List Read). let z : View P E = record v { looked = 0; held = set v.held b (Some g); gone = by_hand.0; reads = rs } in z ∷ []) (sym (append_assoc by_hand.1 more v.reads))
 
       -- at each node that b covers the grant lists what was taken, and nothing is there any more
       taken-at : (k : ℕ) → 0 < k → k < length v.tree → Covers v.tree b k → (p : P) × (slice_index_or g k None ≡ Some p) × (f k ≡ Some p) × (untaken begun_view b k ≡ None)
@@ -182,19 +184,19 @@ module _ {P E : Type 0} where
       begun-views views is = is ∙ ap (λ us. us ∷ []) begun-is
 
   -- a claim that was refused after a look: nothing but reads was added
-  pub refused-after : (v : View P E) (ps : List ℕ) (b node found : ℕ) (r : Read) (vs ws : List (View P E)) → v.path ≡ [] → vs ≡ record v { reads = r ∷ v.reads } ∷ [] → WasRefused ps (view_of vs) b node found ws
-      → (more : List Read) × (ws ≡ record v { reads = more ++ v.reads } ∷ []) × IsRead v node found more × Refuses ps b node found × (IsOnly v → IsExcluded v b)
+  pub refused-after : (v : View P E) (ps : List ℕ) (b node found : ℕ) (r : Read) (vs ws : List (View P E)) → v.path ≡ [] → vs ≡ record v { looked = 1; reads = r ∷ v.reads } ∷ [] → WasRefused ps (view_of vs) b node found ws
+      → (more : List Read) × (ws ≡ record v { looked = 1; reads = more ++ v.reads } ∷ []) × IsRead v node found more × Refuses ps b node found × (IsOnly v → IsExcluded v b)
   refused-after v ps b node found r vs ws none is q =
       let t = subst (λ us. WasRefused ps (view_of us) b node found ws) is q in (
         t.0 ++ r ∷ [],
-        t.1 ∙ ap (λ (x : List ℕ × List Read). let z : View P E = record v { path = x.0; reads = x.1 } in z ∷ []) (λ i. (sym none i, sym (append_assoc t.0 (r ∷ []) v.reads) i)),
+        t.1 ∙ ap (λ (x : List ℕ × List Read). let z : View P E = record v { looked = 1; path = x.0; reads = x.1 } in z ∷ []) (λ i. (sym none i, sym (append_assoc t.0 (r ∷ []) v.reads) i)),
         (t.2.0, at_longer t.0 (r ∷ []) t.2.0 (record { word = node; value = found; shares = grant_shares node v }) t.2.1),
         t.3,
         t.4,
       )
 
   pub busy-so : (layout : Layout) (v : View P E) (ps : List ℕ) (b node found k c : ℕ) (ws : List (View P E)) (views : List (List (View P E))) → ps ≡ parents layout → b ≡ k → c ≡ node → views ≡ ws ∷ []
-      → (more : List Read) × (ws ≡ record v { reads = more ++ v.reads } ∷ []) × IsRead v node found more × Refuses ps b node found × (IsOnly v → IsExcluded v b)
+      → (more : List Read) × (ws ≡ record v { looked = 1; reads = more ++ v.reads } ∷ []) × IsRead v node found more × Refuses ps b node found × (IsOnly v → IsExcluded v b)
       → IsBusy (parents layout) v k c found (known views)
   busy-so layout v ps b node found k c ws views parent number at is q =
       subst (λ (x : List ℕ × ℕ × ℕ). IsBusy x.0 v x.1 x.2 found (known views)) (λ i. (parent i, number i, sym at i))

@@ -99,7 +99,7 @@ module _ {P E : Type 0} where
   pub ended-gathered : (v w : View P E) (b : ℕ) → IsTree v.tree → IsGathered v → IsEnded v b w
       → ((c : ℕ) (h : List (Option P)) → Has v c h → Excludes v.tree b c → c ≡ b) → ((k : ℕ) → (Covers v.tree b k → ⊥) → tally k w.gone ≡ tally k v.gone) → IsGathered w
   ended-gathered v w b tree before ended apart others =
-      let u : View P E = record v { held = set v.held b None; gone = ended.0; reads = ended.1 ++ v.reads } in
+      let u : View P E = record v { stamped = 0; held = set v.held b None; gone = ended.0; reads = ended.1 ++ v.reads } in
       let same : (k : ℕ) → (Covers v.tree b k → ⊥) → tally k ended.0 ≡ tally k v.gone = λ k out. ap (λ (x : View P E). tally k x.gone) (sym ended.2) ∙ others k out in
       let all : IsGathered u = (λ c k h has pos lt cover. ⊎_elim
       (λ (t : (c ≡ b) × (None ≡ Some h)). absurd (let bad : None ≡ Some h = t.1 in let no_way : ⊥ = cc in no_way))
@@ -110,7 +110,7 @@ module _ {P E : Type 0} where
       (at_set v.held b c None (Some h) has)) in
       subst IsGathered (sym ended.2) all
 
-  pub stamped-gathered : (v : View P E) (b : ℕ) (g left : List (Option P)) (rs : List Read) (seen : List E) (mine : List ℕ) → IsGathered v → Has v b g → IsGathered (record v { held = set v.held b (Some left); reads = rs; seen = seen; mine = mine })
+  pub stamped-gathered : (v : View P E) (b : ℕ) (g left : List (Option P)) (rs : List Read) (seen : List E) (mine : List ℕ) → IsGathered v → Has v b g → IsGathered (record v { stamped = b; held = set v.held b (Some left); reads = rs; seen = seen; mine = mine })
   stamped-gathered v b g left rs seen mine before has c k h now pos lt cover = ⊎_elim
       (λ (t : (c ≡ b) × (Some left ≡ Some h)). before b k g has pos lt (subst (λ (n : ℕ). Covers v.tree n k) t.0 cover))
       (λ (t : (c ≢ b) × (get_elem? v.held c ≡ some (Some h))). before c k h t.1 pos lt cover)
@@ -123,7 +123,7 @@ module _ {P E : Type 0} where
 
   -- the views of a seat whose grant was ended
   pub ended-views : (v : View P E) (b : ℕ) (us : List (View P E)) (views : List (List (View P E))) → views ≡ us ∷ [] → length us ≡ 1 → (e : IsEnded v b (view_of us))
-      → views ≡ (record v { held = set v.held b None; gone = e.0; reads = e.1 ++ v.reads } ∷ []) ∷ []
+      → views ≡ (record v { stamped = 0; held = set v.held b None; gone = e.0; reads = e.1 ++ v.reads } ∷ []) ∷ []
   ended-views v b us views is one e = is ∙ ap (λ (x : List (View P E)). x ∷ []) (one-view us one ∙ ap (λ (w : View P E). w ∷ []) e.2)
 
   -- ---- the stamp
@@ -149,7 +149,7 @@ module _ {P E : Type 0} where
         )
 
     pub stamped-listed : (g : List (Option P)) → Has v (number_of layout a) g → (rs : List Read) (seen : List E) (mine : List ℕ)
-        → HasWith (record v { held = set v.held (number_of layout a) (Some left); reads = rs; seen = seen; mine = mine }) (number_of layout a) f
+        → HasWith (record v { stamped = number_of layout a; held = set v.held (number_of layout a) (Some left); reads = rs; seen = seen; mine = mine }) (number_of layout a) f
     stamped-listed g has rs seen mine = (
       left,
       set_here v.held (number_of layout a) (Some left) (at-length v.held (number_of layout a) (Some g) has),
@@ -166,7 +166,7 @@ module _ {P C R B : Type 0} (m : Behaviour P C R B) where
         t.1 ++ r ∷ [],
         stamped.0,
         t.2 ∙ ap (λ (x : List (Option (List (Option P))) × List Read).
-            let z : View P (Entry P C R) = record v { held = x.0; gone = t.0; reads = x.1; seen = (v.seen ++ stamped.0) ++ e ∷ []; mine = v.mine ++ length (v.seen ++ stamped.0) ∷ [] } in z)
+            let z : View P (Entry P C R) = record v { stamped = 0; held = x.0; gone = t.0; reads = x.1; seen = (v.seen ++ stamped.0) ++ e ∷ []; mine = v.mine ++ length (v.seen ++ stamped.0) ∷ [] } in z)
             (λ i. (set-again v.held e.node (Some e.left) None i, sym (append_assoc t.1 (r ∷ []) v.reads) i)),
         stamped.2,
       )
@@ -177,7 +177,7 @@ module _ {P C R B : Type 0} (m : Behaviour P C R B) where
       subst (λ l. IsFinished m (known l) e.node e (known news)) (sym is) (subst (λ l. IsFinished m (view_of vs) e.node e (known l)) (sym now) (finished-so (view_of vs) e ticket ws (view_of us) stamped ended))
 
   pub finished-views : (v : View P (Entry P C R)) (b : ℕ) (e : Entry P C R) (us : List (View P (Entry P C R))) (views : List (List (View P (Entry P C R)))) → views ≡ us ∷ [] → length us ≡ 1 → (d : IsFinished m v b e (known views))
-      → views ≡ (record v { held = set v.held b None; gone = d.0; reads = d.1 ++ v.reads; seen = (v.seen ++ d.2) ++ e ∷ []; mine = v.mine ++ length (v.seen ++ d.2) ∷ [] } ∷ []) ∷ []
+      → views ≡ (record v { stamped = 0; held = set v.held b None; gone = d.0; reads = d.1 ++ v.reads; seen = (v.seen ++ d.2) ++ e ∷ []; mine = v.mine ++ length (v.seen ++ d.2) ∷ [] } ∷ []) ∷ []
   finished-views v b e us views is one d = is ∙ ap (λ (x : List (View P (Entry P C R))). x ∷ []) (one-view us one ∙ ap (λ (w : View P (Entry P C R)). w ∷ []) (sym (ap known is) ∙ d.3))
 
   -- the step of a call, as its stamp asks for it: the entry lists what the call left

@@ -36,7 +36,7 @@ module _ {P E : Type 0} where
       omega arith
 
   -- and the grant is ended
-  pub home-ended : (b n : ℕ) (vs ws us : List (View P E)) → n ≡ b → Handled n vs ws → (more : List Read) × (us ≡ record (view_of ws) { held = set (view_of ws).held n None; reads = more ++ (view_of ws).reads } ∷ [])
+  pub home-ended : (b n : ℕ) (vs ws us : List (View P E)) → n ≡ b → Handled n vs ws → (more : List Read) × (us ≡ record (view_of ws) { stamped = 0; held = set (view_of ws).held n None; reads = more ++ (view_of ws).reads } ∷ [])
       → (length us ≡ 1) × IsEnded (view_of vs) b (view_of us)
   home-ended b n vs ws us is handled ended =
       let v : View P E = view_of vs in
@@ -47,13 +47,13 @@ module _ {P E : Type 0} where
           handled.0,
           ended.0 ++ handled.1,
           ap view_of ended.1
-              ∙ (ap (λ (x : View P E). let z : View P E = record x { held = set x.held n None; reads = ended.0 ++ x.reads } in z) now
-              ∙ ap (λ (x : ℕ × List Read). let z : View P E = record v { held = set v.held x.0 None; gone = handled.0; reads = x.1 } in z) (λ i. (is i, sym (append_assoc ended.0 handled.1 v.reads) i))),
+              ∙ (ap (λ (x : View P E). let z : View P E = record x { stamped = 0; held = set x.held n None; reads = ended.0 ++ x.reads } in z) now
+              ∙ ap (λ (x : ℕ × List Read). let z : View P E = record v { stamped = 0; held = set v.held x.0 None; gone = handled.0; reads = x.1 } in z) (λ i. (is i, sym (append_assoc ended.0 handled.1 v.reads) i))),
         ),
       )
 
   -- what other grants have taken is still with the seat
-  pub home-else : (n : ℕ) (vs ws us : List (View P E)) → Handled n vs ws → (more : List Read) × (us ≡ record (view_of ws) { held = set (view_of ws).held n None; reads = more ++ (view_of ws).reads } ∷ [])
+  pub home-else : (n : ℕ) (vs ws us : List (View P E)) → Handled n vs ws → (more : List Read) × (us ≡ record (view_of ws) { stamped = 0; held = set (view_of ws).held n None; reads = more ++ (view_of ws).reads } ∷ [])
       → (k : ℕ) → (Covers (view_of vs).tree n k → ⊥) → tally k (view_of us).gone ≡ tally k (view_of vs).gone
   home-else n vs ws us handled ended k out = ap (λ xs. tally k (view_of xs).gone) ended.1 ∙ (ap (λ xs. tally k (view_of xs).gone) handled.2 ∙ handled.3 k out)
 

@@ -28,8 +28,8 @@ module _ {P E : Type 0} where
 
   -- the word that was claimed was found at 0
   pub granted-now : (v : View P E) (node : ℕ) (g : List (Option P)) {found : ℕ} {vs : List (View P E)} → found ≡ 0
-      → vs ≡ record v { path = []; held = set v.held node (Some g); reads = read_of node found v ∷ v.reads } ∷ [] → vs ≡ record v { path = []; held = set v.held node (Some g); reads = read_of node 0 v ∷ v.reads } ∷ []
-  granted-now v node g free is = is ∙ ap (λ (n : ℕ). let z : View P E = record v { path = []; held = set v.held node (Some g); reads = read_of node n v ∷ v.reads } in z ∷ []) free
+      → vs ≡ record v { path = []; looked = 0; held = set v.held node (Some g); reads = read_of node found v ∷ v.reads } ∷ [] → vs ≡ record v { path = []; looked = 0; held = set v.held node (Some g); reads = read_of node 0 v ∷ v.reads } ∷ []
+  granted-now v node g free is = is ∙ ap (λ (n : ℕ). let z : View P E = record v { path = []; looked = 0; held = set v.held node (Some g); reads = read_of node n v ∷ v.reads } in z ∷ []) free
 
   pub not-excluded : (v : View P E) (node : ℕ) → ((c : ℕ) (h : List (Option P)) → Has v c h → Excludes v.tree node c → ⊥) → IsExcluded v node → ⊥
   not-excluded v node none x = none x.0 x.1 x.2 x.3
@@ -124,7 +124,7 @@ module _ {P E : Type 0} where
       let r = subst (λ (u : View P E). IsGranted kind_of (record u { path = [] }) b q.0 (read_of b 0 u ∷ []) ws) is q.1 in (
         q.0,
         read_of b 0 w ∷ climbed.0,
-        (r.0 ∙ ap (λ (p : List ℕ). let z : View P E = record v { path = p; held = set v.held b (Some q.0); reads = read_of b 0 w ∷ (climbed.0 ++ v.reads) } in z ∷ []) (sym none), r.1, r.2, r.3),
+        (r.0 ∙ ap (λ (p : List ℕ). let z : View P E = record v { path = p; looked = 0; held = set v.held b (Some q.0); reads = read_of b 0 w ∷ (climbed.0 ++ v.reads) } in z ∷ []) (sym none), r.1, r.2, r.3),
         still (ancestors ps b) (climbed.0 ++ v.reads) q.0 (subst (λ (u : View P E). Q u q.0) is q.2),
       )
 
@@ -133,13 +133,13 @@ module _ {P E : Type 0} where
 
   -- a grant that was released, once the words above are left
   pub ended-from : (v : View P E) (b found : ℕ) (path : List ℕ) {vs ws : List (View P E)} → v.path ≡ []
-      → vs ≡ record v { path = path; held = set v.held b None; reads = read_of b found v ∷ v.reads } ∷ [] → MovedTo (view_of vs) [] ws
-      → (more : List Read) × (ws ≡ record v { held = set v.held b None; reads = more ++ v.reads } ∷ [])
+      → vs ≡ record v { path = path; stamped = 0; held = set v.held b None; reads = read_of b found v ∷ v.reads } ∷ [] → MovedTo (view_of vs) [] ws
+      → (more : List Read) × (ws ≡ record v { stamped = 0; held = set v.held b None; reads = more ++ v.reads } ∷ [])
   ended-from v b found path none is left = (
     left.0 ++ (read_of b found v ∷ []),
     left.1
         ∙ (ap (λ us. let z : View P E = record (view_of us) { path = []; reads = left.0 ++ (view_of us).reads } in z ∷ []) is
-        ∙ ap (λ (x : List ℕ × List Read). let z : View P E = record v { path = x.0; held = set v.held b None; reads = x.1 } in z ∷ []) (λ i. (sym none i, sym (append_assoc left.0 (read_of b found v ∷ []) v.reads) i))),
+        ∙ ap (λ (x : List ℕ × List Read). let z : View P E = record v { path = x.0; stamped = 0; held = set v.held b None; reads = x.1 } in z ∷ []) (λ i. (sym none i, sym (append_assoc left.0 (read_of b found v ∷ []) v.reads) i))),
   )
 
   -- a slot went out and came home

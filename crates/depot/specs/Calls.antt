@@ -38,7 +38,7 @@ module _ {P E : Type 0} where
 
   -- the seat has a new grant g of b, with a parcel for each node that b covers, none of them taken yet
   abbrev pub IsGranted : (P → Kind) → View P E → ℕ → List (Option P) → List Read → List (View P E) → Type 0
-  IsGranted kind_of v b g more vs = (vs ≡ record v { held = slice_set v.held b (Some g); reads = more ++ v.reads } ∷ [])
+  IsGranted kind_of v b g more vs = (vs ≡ record v { looked = 0; held = slice_set v.held b (Some g); reads = more ++ v.reads } ∷ [])
       × ((k : ℕ) → 0 < k → k < length v.tree → Covers v.tree b k → IsParcel kind_of v.first k (slice_index_or g k None))
       × ((k : ℕ) → 0 < k → Covers v.tree b k → has_out k v ≡ 0)
       × (get_elem? v.held b ≡ some None)

@@ -13,16 +13,12 @@ use Rattle.depot_rule.specs.declared.view.Entry.{Entry}
 use Rattle.depot_rule.specs.Sums.{total, one_if, tally}
 use Rattle.depot_rule.specs.Tree.{Covers}
 use Rattle.depot_rule.specs.History.{Behaviour, Legal, SoundThroughout, IsHistory, AreHands, entries_of, listed, after}
-use Rattle.depot_rule.specs.Shares.{made, Has}
+use Rattle.depot_rule.specs.Shares.{worn, made, Has}
 use Rattle.depot_rule.specs.Plays.{IsOnly, with_entry, HasAdded}
 use Rattle.depot.specs.Kinds.{AreOfKind}
 use Rattle.depot.specs.Calls.{IsAmong, IsRead, Refuses, IsExcluded}
 use Rattle.depot.specs.declared.grants.Refusal.{Refusal}
 use Rattle.depot.specs.declared.grants.Refusal.TheVariants.{Busy, Worn}
-
--- a ticket at which a call doesn't begin: 2^62
-abbrev pub worn : ℕ
-worn = 4611686018427387904
 
 -- parcels by node as a list, of so many places
 abbrev pub by_number : {P : Type 0} → (ℕ → Option P) → ℕ → List (Option P)
@@ -53,7 +49,7 @@ module _ {P E : Type 0} where
   -- a grant of b, with the parcels f, was added: no open grant of the seat's excluded b, and the ticket was read below 2^62
   abbrev pub IsBegun : View P E → ℕ → (ℕ → Option P) → View P E → Type 0
   IsBegun v b f w = (g : List (Option P)) × (gone : List ℕ) × (more : List Read)
-      × (w ≡ record v { held = slice_set v.held b (Some g); gone = gone; reads = more ++ v.reads })
+      × (w ≡ record v { looked = 0; held = slice_set v.held b (Some g); gone = gone; reads = more ++ v.reads })
       × ListsAs v b g f
       × (get_elem? v.held b ≡ some None)
       × (IsExcluded v b → ⊥)
@@ -61,28 +57,28 @@ module _ {P E : Type 0} where
 
   -- the grant of b is no more
   abbrev pub IsEnded : View P E → ℕ → View P E → Type 0
-  IsEnded v b w = (gone : List ℕ) × (more : List Read) × (w ≡ record v { held = slice_set v.held b None; gone = gone; reads = more ++ v.reads })
+  IsEnded v b w = (gone : List ℕ) × (more : List Read) × (w ≡ record v { stamped = 0; held = slice_set v.held b None; gone = gone; reads = more ++ v.reads })
 
-  -- nothing but reads was added
-  abbrev pub HasRead : View P E → List Read → View P E → Type 0
-  HasRead v more w = w ≡ record v { reads = more ++ v.reads }
+  -- nothing but reads was added, and whether the ticket was low enough for a call
+  abbrev pub HasRead : View P E → ℕ → List Read → View P E → Type 0
+  HasRead v looked more w = w ≡ record v { looked = looked; reads = more ++ v.reads }
 
   -- b was refused by the word of a node, which this call read: the seat then had no share in it but for its grants. If it is the only seat, a grant of its own excludes b
   abbrev pub IsBusy : List ℕ → View P E → ℕ → ℕ → ℕ → View P E → Type 0
-  IsBusy tree v b node word w = (more : List Read) × HasRead v more w × IsRead v node word more × Refuses tree b node word × (IsOnly v → IsExcluded v b)
+  IsBusy tree v b node word w = (more : List Read) × HasRead v 1 more w × IsRead v node word more × Refuses tree b node word × (IsOnly v → IsExcluded v b)
 
   -- the ticket was read at 2^62 or more. If it is the only seat, it made as many entries
   abbrev pub IsWorn : View P E → View P E → Type 0
-  IsWorn v w = (more : List Read) × HasRead v more w × HasLooked (λ ticket. worn ≤ ticket) more × (IsOnly v → worn ≤ made v)
+  IsWorn v w = (more : List Read) × HasRead v v.looked more w × HasLooked (λ ticket. worn ≤ ticket) more × (IsOnly v → worn ≤ made v)
 
   abbrev pub IsRefused : Layout → View P E → Affinity → Refusal → View P E → Type 0
   IsRefused layout v a (Busy node word) w = IsNode layout (affinity_of node) × IsBusy (parents layout) v (number_of layout a) (number_of layout (affinity_of node)) word w
   IsRefused layout v a Worn w = IsWorn v w
 
 module _ {P C R B : Type 0} (m : Behaviour P C R B) where
-  -- the parcels f of the nodes that b covers are as a history left them that begins with what the seat has seen. For the only seat it is just that
+  -- the parcels f of the nodes that b covers are as a history left them that begins with what the seat has seen, of fewer than 2^63 entries. For the only seat it is just what it has seen
   abbrev pub IsAfter : View P (Entry P C R) → ℕ → (ℕ → Option P) → Type 0
-  IsAfter v b f = (log : List (Entry P C R)) × IsHistory m v.tree v.first v log × (IsOnly v → log ≡ v.seen)
+  IsAfter v b f = (log : List (Entry P C R)) × IsHistory m v.tree v.first v log × (length log < 9223372036854775808) × (IsOnly v → log ≡ v.seen)
       × ((k : ℕ) → 0 < k → k < length v.tree → Covers v.tree b k → f k ≡ after v.tree (listed v.first) log k)
 
   -- the call is a step of the machine's, from the parcels of the seat's grant of b to g
@@ -97,13 +93,13 @@ module _ {P C R B : Type 0} (m : Behaviour P C R B) where
   -- the entry e was stamped
   abbrev pub IsStamped : View P (Entry P C R) → Entry P C R → ℕ → List (View P (Entry P C R)) → Type 0
   IsStamped v e ticket vs = (between : List (Entry P C R))
-      × (vs ≡ record (with_entry v between e) { held = slice_set v.held e.node (Some e.left); reads = record { word = 0; value = ticket; shares = 0 } ∷ v.reads } ∷ [])
+      × (vs ≡ record (with_entry v between e) { stamped = e.node; held = slice_set v.held e.node (Some e.left); reads = record { word = 0; value = ticket; shares = 0 } ∷ v.reads } ∷ [])
       × HasAdded m v between e
 
   -- the grant of b is no more, and the entry e stands in the history after all that was seen, and what others put between
   abbrev pub IsFinished : View P (Entry P C R) → ℕ → Entry P C R → View P (Entry P C R) → Type 0
   IsFinished v b e w = (gone : List ℕ) × (more : List Read) × (between : List (Entry P C R))
-      × (w ≡ record (with_entry v between e) { held = slice_set v.held b None; gone = gone; reads = more ++ v.reads })
+      × (w ≡ record (with_entry v between e) { stamped = 0; held = slice_set v.held b None; gone = gone; reads = more ++ v.reads })
       × HasAdded m v between e
 
   -- the history of the only seat, at the end: it is legal, with the invariant throughout; the seat's own hand is all hands; each entry is the seat's; and the parcels f are as it left them

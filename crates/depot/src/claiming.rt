@@ -26,7 +26,7 @@ pub fn try_claim<M: Machine>(
 ) -> Result<(), Busy>
     requires table { (place.old.table_id ≡ board.now.table_id) × (node < board.now.table_id.words) × (board.now.table_id.words ≡ length board.now.key.value.parents.items) }
     requires tree { (parents.now ≡ board.now.key.value.parents.items) × IsTree parents.now }
-    requires ready { let v = view_of place.old.me.0 in (length place.old.me.0 ≡ 1) × (0 < node) × (v.unsure ≡ 0) × (v.path ≡ []) × (v.tree ≡ parents.now) }
+    requires ready { let v = view_of place.old.me.0 in (length place.old.me.0 ≡ 1) × (0 < node) × (v.unsure ≡ 0) × (v.path ≡ []) × (v.tree ≡ parents.now) × (v.looked ≡ 1) }
     ensures seat { (place.new.table_id ≡ place.old.table_id) × (place.new.me.1 ≡ place.old.me.1) }
     ensures granted { let v = view_of place.old.me.0 in OnOk result (((g : _) × (more : List Read) × IsGranted M.Parcel.kind v node g more place.new.me.0 × IsAfter (behaviour M.steps M.takes M.gives M.invariant) v node (listed g)) × (IsExcluded v node → ⊥)) }
     ensures refused { IfErr result (λ busy. WasRefused parents.now (view_of place.old.me.0) node busy.node busy.word place.new.me.0) }
@@ -49,7 +49,7 @@ pub fn give_up<M: Machine>(board: &Board<M>, place: &mut Place<M>, parents: &[u6
     requires home { let v = view_of place.old.me.0 in (k : ℕ) (g : List (Option _)) (p : _) → Has v node g → 0 < k → k < length board.now.key.value.parents.items → Covers board.now.key.value.parents.items node k → slice_index_or g k None ≡ Some p → has_out k v ≡ 0 }
     ensures seat { (place.new.table_id ≡ place.old.table_id) × (place.new.me.1 ≡ place.old.me.1) }
     ensures apart { let v = view_of place.old.me.0 in (c : ℕ) (h : List (Option _)) → Has v c h → Excludes v.tree node c → c ≡ node }
-    ensures ended { let v = view_of place.old.me.0 in (more : List Read) × (place.new.me.0 ≡ record v { held = slice_set v.held node None; reads = more ++ v.reads } ∷ []) }
+    ensures ended { let v = view_of place.old.me.0 in (more : List Read) × (place.new.me.0 ≡ record v { stamped = 0; held = slice_set v.held node None; reads = more ++ v.reads } ∷ []) }
 {
     release(board, place, node);
     leave_all(board, place, parents, node);

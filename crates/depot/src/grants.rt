@@ -165,7 +165,7 @@ fn stamp_call<M: Machine, N: Node<M::Parcel>, J: Said<EntryOf<M>>>(
     reply: &M::Reply,
 )
     requires table { (place.old.table_id ≡ board.now.table_id) × (0 < board.now.table_id.words) }
-    requires one { length place.old.me.0 ≡ 1 }
+    requires one { (length place.old.me.0 ≡ 1) × ((view_of place.old.me.0).stamped ≡ 0) }
     requires said { J.item ≡ Some (entry_of (layout_of layout.now) (affinity_of grant.now.affinity) (N.parcels (layout_of layout.now) (affinity_of grant.now.affinity) grant.now.held) call.now reply.now) }
     requires tree { (view_of place.old.me.0).tree ≡ numbers.parents (layout_of layout.now) }
     requires step { IsStep (behaviour M.steps M.takes M.gives M.invariant) (view_of place.old.me.0) (numbers.number_of (layout_of layout.now) (affinity_of grant.now.affinity)) call.now reply.now (N.parcels (layout_of layout.now) (affinity_of grant.now.affinity) grant.now.held) }

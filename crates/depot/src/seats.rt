@@ -23,7 +23,7 @@ pub struct Seat<M: Machine> {
     pub(crate) badge: Badge<ViewsOf<M>>,
     pub(crate) splits: u8,
     ghost one: { (length badge.views ≡ 1) × (length (own_views badge.views) ≡ 1) },
-    ghost idle: { ((known badge.views).unsure ≡ 0) × ((known badge.views).out ≡ 0) × (length (known badge.views).path ≡ 0) },
+    ghost idle: { ((known badge.views).unsure ≡ 0) × ((known badge.views).out ≡ 0) × (length (known badge.views).path ≡ 0) × ((known badge.views).stamped ≡ 0) },
     pub ghost parts: { (known badge.views).parts ≡ splits + 1 },
     ghost gathered: { IsGathered (known badge.views) },
 }

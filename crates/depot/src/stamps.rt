@@ -40,7 +40,7 @@ impl<M: Machine, J: Said<EntryOf<M>>> Play<Option<M::Parcel>, ViewsOf<M>> for St
 /// Stamps the entry that was picked, of a grant all of whose parcels are taken. The answer is the ticket.
 pub fn stamp_as<M: Machine, J: Said<EntryOf<M>>>(board: &Board<M>, place: &mut Place<M>) -> u64
     requires table { (place.old.table_id ≡ board.now.table_id) × (0 < board.now.table_id.words) }
-    requires one { length place.old.me.0 ≡ 1 }
+    requires one { (length place.old.me.0 ≡ 1) × ((view_of place.old.me.0).stamped ≡ 0) }
     requires granted { let v = view_of place.old.me.0 in (e : _) × (g : _) × (J.item ≡ Some e) × Has v e.node g
         × ((k : ℕ) → 0 < k → k < length board.now.key.value.parents.items → Covers board.now.key.value.parents.items e.node k → 0 < has_out k v)
         × ((k : ℕ) → 0 < k → k < length board.now.key.value.parents.items → Covers board.now.key.value.parents.items e.node k → (p : _) × (slice_index_or e.left k None ≡ Some p) × ((q : _) → slice_index_or v.first k None ≡ Some q → M.Parcel.kind p ≡ M.Parcel.kind q)) }

@@ -48,7 +48,7 @@ pub fn leave<M: Machine>(board: &Board<M>, place: &mut Place<M>, node: usize)
 /// Claims a node whose words above are entered. The answer is what its word was: 0 where there is now a grant.
 pub fn claim<M: Machine>(board: &Board<M>, place: &mut Place<M>, node: usize) -> u64
     requires table { (place.old.table_id ≡ board.now.table_id) × (node < board.now.table_id.words) × (board.now.table_id.words ≡ length board.now.key.value.parents.items) }
-    requires ready { let v = view_of place.old.me.0 in (length place.old.me.0 ≡ 1) × (0 < node) × (v.unsure ≡ 0) × (v.path ≡ ancestors board.now.key.value.parents.items node) }
+    requires ready { let v = view_of place.old.me.0 in (length place.old.me.0 ≡ 1) × (0 < node) × (v.unsure ≡ 0) × (v.path ≡ ancestors board.now.key.value.parents.items node) × (v.looked ≡ 1) }
     ensures seat { (place.new.table_id ≡ place.old.table_id) × (place.new.me.1 ≡ place.old.me.1) }
     ensures granted { let v = view_of place.old.me.0 in result ≡ 0 → ((g : _) × IsGranted M.Parcel.kind (record v { path = [] }) node g (read_of node 0 v ∷ []) place.new.me.0 × IsAfter (behaviour M.steps M.takes M.gives M.invariant) v node (listed g)) × (IsExcluded v node → ⊥) }
     ensures refused { let v = view_of place.old.me.0 in result ≢ 0 → Moved v v.path (read_of node result v ∷ []) place.new.me.0 × (IsOnly v → IsExcluded v node) }
@@ -64,7 +64,7 @@ pub fn release<M: Machine>(board: &Board<M>, place: &mut Place<M>, node: usize)
     requires home { let v = view_of place.old.me.0 in (k : ℕ) (g : List (Option _)) (p : _) → Has v node g → 0 < k → k < length board.now.key.value.parents.items → Covers board.now.key.value.parents.items node k → slice_index_or g k None ≡ Some p → has_out k v ≡ 0 }
     ensures seat { (place.new.table_id ≡ place.old.table_id) × (place.new.me.1 ≡ place.old.me.1) }
     ensures apart { let v = view_of place.old.me.0 in (c : ℕ) (h : List (Option _)) → Has v c h → Excludes v.tree node c → c ≡ node }
-    ensures released { let v = view_of place.old.me.0 in (found : ℕ) × (place.new.me.0 ≡ record v { path = ancestors v.tree node; held = slice_set v.held node None; reads = read_of node found v ∷ v.reads } ∷ []) }
+    ensures released { let v = view_of place.old.me.0 in (found : ℕ) × (place.new.me.0 ≡ record v { path = ancestors v.tree node; stamped = 0; held = slice_set v.held node None; reads = read_of node found v ∷ v.reads } ∷ []) }
 {
     board.fetch_sub::<Release>(place, node, EXCLUSIVE);
 }

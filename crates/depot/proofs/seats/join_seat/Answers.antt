@@ -68,7 +68,8 @@ join_seat-requires-2 g c =
           _ c.split_seat-other.new.seat.me.0 _ c.split_seat-other.result.me.0 (ap length first) (ap length second)
           (ap (λ us. (view_of us).path) second ∙ no-path other_is c.args.second.idle.2)
           (ap (λ us. (view_of us).unsure) second ∙ (sym (ap (λ l. (known l).unsure) other_is) ∙ c.args.second.idle.0))
-          (ap (λ us. (view_of us).out) second ∙ (sym (ap (λ l. (known l).out) other_is) ∙ c.args.second.idle.1)),
+          (ap (λ us. (view_of us).out) second ∙ (sym (ap (λ l. (known l).out) other_is) ∙ c.args.second.idle.1))
+          (ap (λ us. (view_of us).stamped) second ∙ (sym (ap (λ l. (known l).stamped) other_is) ∙ c.args.second.idle.3)),
     )
 
 pub overflow_add-result : goal.overflow_add-result
@@ -130,6 +131,7 @@ invariant_of-result g c =
         ap (λ l. (known l).unsure) full ∙ (sym (ap (λ l. (known l).unsure) is) ∙ c.args.first.idle.0),
         ap (λ l. (known l).out) full ∙ (sym (ap (λ l. (known l).out) is) ∙ c.args.first.idle.1),
         ap (λ l. length (known l).path) full ∙ (sym (ap (λ l. length (known l).path) is) ∙ c.args.first.idle.2),
+        ap (λ l. (known l).stamped) full ∙ (sym (ap (λ l. (known l).stamped) is) ∙ c.args.first.idle.3),
       );
       parts = omega arith;
       gathered = gathered-of (merge (view_of vs) (view_of ws)) full

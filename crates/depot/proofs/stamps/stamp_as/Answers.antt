@@ -23,8 +23,8 @@ fetch_add-requires g c =
           (StampSays (behaviour g.M.Machine.steps g.M.Machine.takes g.M.Machine.gives g.M.Machine.invariant) j (step c.args.board.now.table_id.slots 0 1 0 none) c.args.place.now.me))
           (sym q.2)
           (stamps g.row.M-Parcel.Denot g.row.M-Call.Denot g.row.M-Reply.Denot g.row.M-Batch.Denot g.M.Parcel.HasKind.kind (behaviour g.M.Machine.steps g.M.Machine.takes g.M.Machine.gives g.M.Machine.invariant) g.M.Machine.local g.M.Machine.keeps c.args.board.now.key.value.parents.items c.args.board.now.key.value.parcels.items
-          _ _ c.args.place.now.me (view_of c.args.place.now.me.0) q.0 of.1.1.0 (one-view c.args.place.now.me.0 c.requires.one) of.1.1.1 q.4 q.5 of.1.0 of.0 of.1.2 of.1.1.2 of.2 hand.0 hand.1 hand.2 hand.3),
+          _ _ c.args.place.now.me (view_of c.args.place.now.me.0) q.0 of.1.1.0 (one-view c.args.place.now.me.0 c.requires.one.0) of.1.1.1 c.requires.one.1 q.4 q.5 of.1.0 of.0 of.1.2 of.1.1.2 of.2 hand.0 hand.1 hand.2 hand.3),
     )
 
 pub returns-clause-stamped : goal.returns-clause-stamped
-returns-clause-stamped g c = λ e is. stamped-so _ is (one-view c.args.place.now.me.0 c.requires.one) c.fetch_add.ensures.2.0
+returns-clause-stamped g c = λ e is. stamped-so _ is (one-view c.args.place.now.me.0 c.requires.one.0) c.fetch_add.ensures.2.0

@@ -13,7 +13,7 @@ compare_exchange-requires g c =
       search rules,
       search rules,
       claims-it g.row.M-Parcel.Denot g.row.M-Call.Denot g.row.M-Reply.Denot g.row.M-Batch.Denot g.M.Parcel.HasKind.kind (behaviour g.M.Machine.steps g.M.Machine.takes g.M.Machine.gives g.M.Machine.invariant) c.args.board.now.key.value.parents.items c.args.board.now.key.value.parcels.items
-          _ _ c.args.place.now.me (view_of c.args.place.now.me.0) c.args.node (one-view c.args.place.now.me.0 c.requires.ready.0) c.requires.ready.1 lt c.requires.ready.2 (λ a. ap (tally a) c.requires.ready.3),
+          _ _ c.args.place.now.me (view_of c.args.place.now.me.0) c.args.node (one-view c.args.place.now.me.0 c.requires.ready.0) c.requires.ready.1 lt c.requires.ready.2 c.requires.ready.4 (λ a. ap (tally a) c.requires.ready.3),
     )
 
 pub returns-clause-granted : goal.returns-clause-granted

@@ -40,7 +40,7 @@ returns-then-ticket-ge-WORN-clause-seat g c =
     let is : seat.badge.views ≡ c.into_seat-place.result.me.0 ∷ [] = search rules in
     let looked = looked-at _ seat.badge.views c.into_seat-place.result.me.0 c.load-ticket.new.seat.me.0 c.load-ticket.result is seat.one.1 c.load-ticket.ensures.2.0 in
     let badge : c.into_badge.result.views ≡ c.load-ticket.new.seat.me.0 ∷ [] = search rules in
-    let now = ap known badge ∙ ap view_of looked.0 in
+    let now = ap known badge ∙ ap view_of (looked.1 c.if-ticket-ge-WORN.true) in
     (search rules, refl, seat-still g.M.Parcel.HasKind.kind L K (known c.into_badge.result.views) (ap (λ v. v.tree) now) (ap (λ v. v.first) now) c.requires.seat.1)
 
 pub returns-then-ticket-ge-WORN-clause-refused : goal.returns-then-ticket-ge-WORN-clause-refused
@@ -51,7 +51,7 @@ returns-then-ticket-ge-WORN-clause-refused g c =
     let is : seat.badge.views ≡ c.into_seat-place.result.me.0 ∷ [] = search rules in
     let looked = looked-at _ seat.badge.views c.into_seat-place.result.me.0 c.load-ticket.new.seat.me.0 c.load-ticket.result is seat.one.1 c.load-ticket.ensures.2.0 in
     let badge : c.into_badge.result.views ≡ c.load-ticket.new.seat.me.0 ∷ [] = search rules in
-    worn-so K c.load-ticket.result c.into_badge.result.views c.load-ticket.new.seat.me.0 badge c.if-ticket-ge-WORN.true looked
+    worn-so K c.load-ticket.result c.into_badge.result.views c.load-ticket.new.seat.me.0 badge c.if-ticket-ge-WORN.true (looked.1 c.if-ticket-ge-WORN.true) looked.2
 
 pub try_claim-requires-clause-table : goal.try_claim-requires-clause-table
 try_claim-requires-clause-table g c =
@@ -78,8 +78,9 @@ gather-held-requires-clause-there g c =
     let K : View g.row.M-Parcel.Denot (Entry g.row.M-Parcel.Denot g.row.M-Call.Denot g.row.M-Reply.Denot) = known seat.badge.views in
     let is : seat.badge.views ≡ c.into_seat-place.result.me.0 ∷ [] = search rules in
     let looked = looked-at _ seat.badge.views c.into_seat-place.result.me.0 c.load-ticket.new.seat.me.0 c.load-ticket.result is seat.one.1 c.load-ticket.ensures.2.0 in
+    let low : c.load-ticket.result < 4611686018427387904 = search rules in
     let r : Read = record { word = 0; value = c.load-ticket.result; shares = 0 } in
-    let q = granted-after g.M.Parcel.HasKind.kind K c.number_of-node.result (λ u l. IsAfter (behaviour g.M.Machine.steps g.M.Machine.takes g.M.Machine.gives g.M.Machine.invariant) u c.number_of-node.result (listed l)) (λ rs l x. x) r c.load-ticket.new.seat.me.0 c.try_claim.new.place.me.0 looked.0 c.in-Ok.ensures.granted in
+    let q = granted-after g.M.Parcel.HasKind.kind K c.number_of-node.result (λ u l. IsAfter (behaviour g.M.Machine.steps g.M.Machine.takes g.M.Machine.gives g.M.Machine.invariant) u c.number_of-node.result (listed l)) (λ rs l x. x) r c.load-ticket.new.seat.me.0 c.try_claim.new.place.me.0 (looked.0 low) c.in-Ok.ensures.granted in
     all-there g.M.Parcel.HasKind.kind L c.args.self.now.layout.lawful (affinity_of c.args.affinity) c.requires.node.0 K c.requires.seat.1 c.number_of-node.result c.number_of-node.ensures.number q.0.0 q.0.1 c.try_claim.new.place.me.0 q.0.2
 
 pub invariant_of-seat-in-Ok : goal.invariant_of-seat-in-Ok
@@ -89,14 +90,15 @@ invariant_of-seat-in-Ok g c =
     let K : View g.row.M-Parcel.Denot (Entry g.row.M-Parcel.Denot g.row.M-Call.Denot g.row.M-Reply.Denot) = known seat.badge.views in
     let is : seat.badge.views ≡ c.into_seat-place.result.me.0 ∷ [] = search rules in
     let looked = looked-at _ seat.badge.views c.into_seat-place.result.me.0 c.load-ticket.new.seat.me.0 c.load-ticket.result is seat.one.1 c.load-ticket.ensures.2.0 in
+    let low : c.load-ticket.result < 4611686018427387904 = search rules in
     let r : Read = record { word = 0; value = c.load-ticket.result; shares = 0 } in
-    let q = granted-after g.M.Parcel.HasKind.kind K c.number_of-node.result (λ u l. IsAfter (behaviour g.M.Machine.steps g.M.Machine.takes g.M.Machine.gives g.M.Machine.invariant) u c.number_of-node.result (listed l)) (λ rs l x. x) r c.load-ticket.new.seat.me.0 c.try_claim.new.place.me.0 looked.0 c.in-Ok.ensures.granted in
+    let q = granted-after g.M.Parcel.HasKind.kind K c.number_of-node.result (λ u l. IsAfter (behaviour g.M.Machine.steps g.M.Machine.takes g.M.Machine.gives g.M.Machine.invariant) u c.number_of-node.result (listed l)) (λ rs l x. x) r c.load-ticket.new.seat.me.0 c.try_claim.new.place.me.0 (looked.0 low) c.in-Ok.ensures.granted in
     let badge : c.into_badge-in-Ok.result.views ≡ c.gather-held.new.shelf.place.me.0 ∷ [] = search rules in
     let full = begun-views g.M.Parcel.HasKind.kind L c.args.self.now.layout.lawful (affinity_of c.args.affinity) c.requires.node.0 K c.requires.seat.1 c.number_of-node.result c.number_of-node.ensures.number q.0.0 q.0.1 c.try_claim.new.place.me.0 q.0.2
     (g.N.Node.parcels L (affinity_of c.args.affinity) c.gather-held.result) c.gather-held.ensures.exact c.gather-held.new.shelf.node c.gather-held.ensures.kept.0 c.gather-held.new.shelf.place.me.0 c.gather-held.ensures.moved c.gather-held.ensures.kept.2 c.into_badge-in-Ok.result.views badge in
     record {
       one = (ap length full, ap (λ l. length (own_views l)) full);
-      idle = (ap (λ l. (known l).unsure) full ∙ seat.idle.0, ap (λ l. (known l).out) full ∙ seat.idle.1, ap (λ l. length (known l).path) full ∙ seat.idle.2);
+      idle = (ap (λ l. (known l).unsure) full ∙ seat.idle.0, ap (λ l. (known l).out) full ∙ seat.idle.1, ap (λ l. length (known l).path) full ∙ seat.idle.2, ap (λ l. (known l).stamped) full ∙ seat.idle.3);
       parts = ap (λ l. (known l).parts) full ∙ seat.parts;
       gathered = gathered-of _ full (begun-gathered g.M.Parcel.HasKind.kind L c.args.self.now.layout.lawful (affinity_of c.args.affinity) c.requires.node.0 K c.requires.seat.1 c.number_of-node.result c.number_of-node.ensures.number q.0.0 q.0.1 c.try_claim.new.place.me.0 q.0.2
           (g.N.Node.parcels L (affinity_of c.args.affinity) c.gather-held.result) c.gather-held.ensures.exact c.gather-held.new.shelf.node c.gather-held.ensures.kept.0 c.gather-held.new.shelf.place.me.0 c.gather-held.ensures.moved c.gather-held.ensures.kept.2 q.1 seat.gathered);
@@ -109,8 +111,9 @@ returns-in-Ok-clause-seat g c =
     let K : View g.row.M-Parcel.Denot (Entry g.row.M-Parcel.Denot g.row.M-Call.Denot g.row.M-Reply.Denot) = known seat.badge.views in
     let is : seat.badge.views ≡ c.into_seat-place.result.me.0 ∷ [] = search rules in
     let looked = looked-at _ seat.badge.views c.into_seat-place.result.me.0 c.load-ticket.new.seat.me.0 c.load-ticket.result is seat.one.1 c.load-ticket.ensures.2.0 in
+    let low : c.load-ticket.result < 4611686018427387904 = search rules in
     let r : Read = record { word = 0; value = c.load-ticket.result; shares = 0 } in
-    let q = granted-after g.M.Parcel.HasKind.kind K c.number_of-node.result (λ u l. IsAfter (behaviour g.M.Machine.steps g.M.Machine.takes g.M.Machine.gives g.M.Machine.invariant) u c.number_of-node.result (listed l)) (λ rs l x. x) r c.load-ticket.new.seat.me.0 c.try_claim.new.place.me.0 looked.0 c.in-Ok.ensures.granted in
+    let q = granted-after g.M.Parcel.HasKind.kind K c.number_of-node.result (λ u l. IsAfter (behaviour g.M.Machine.steps g.M.Machine.takes g.M.Machine.gives g.M.Machine.invariant) u c.number_of-node.result (listed l)) (λ rs l x. x) r c.load-ticket.new.seat.me.0 c.try_claim.new.place.me.0 (looked.0 low) c.in-Ok.ensures.granted in
     let badge : c.into_badge-in-Ok.result.views ≡ c.gather-held.new.shelf.place.me.0 ∷ [] = search rules in
     let full = begun-views g.M.Parcel.HasKind.kind L c.args.self.now.layout.lawful (affinity_of c.args.affinity) c.requires.node.0 K c.requires.seat.1 c.number_of-node.result c.number_of-node.ensures.number q.0.0 q.0.1 c.try_claim.new.place.me.0 q.0.2
     (g.N.Node.parcels L (affinity_of c.args.affinity) c.gather-held.result) c.gather-held.ensures.exact c.gather-held.new.shelf.node c.gather-held.ensures.kept.0 c.gather-held.new.shelf.place.me.0 c.gather-held.ensures.moved c.gather-held.ensures.kept.2 c.into_badge-in-Ok.result.views badge in
@@ -123,10 +126,10 @@ returns-in-Ok-clause-granted g c =
     let K : View g.row.M-Parcel.Denot (Entry g.row.M-Parcel.Denot g.row.M-Call.Denot g.row.M-Reply.Denot) = known seat.badge.views in
     let is : seat.badge.views ≡ c.into_seat-place.result.me.0 ∷ [] = search rules in
     let looked = looked-at _ seat.badge.views c.into_seat-place.result.me.0 c.load-ticket.new.seat.me.0 c.load-ticket.result is seat.one.1 c.load-ticket.ensures.2.0 in
-    let r : Read = record { word = 0; value = c.load-ticket.result; shares = 0 } in
-    let q = granted-after g.M.Parcel.HasKind.kind K c.number_of-node.result (λ u l. IsAfter (behaviour g.M.Machine.steps g.M.Machine.takes g.M.Machine.gives g.M.Machine.invariant) u c.number_of-node.result (listed l)) (λ rs l x. x) r c.load-ticket.new.seat.me.0 c.try_claim.new.place.me.0 looked.0 c.in-Ok.ensures.granted in
-    let badge : c.into_badge-in-Ok.result.views ≡ c.gather-held.new.shelf.place.me.0 ∷ [] = search rules in
     let low : c.load-ticket.result < 4611686018427387904 = search rules in
+    let r : Read = record { word = 0; value = c.load-ticket.result; shares = 0 } in
+    let q = granted-after g.M.Parcel.HasKind.kind K c.number_of-node.result (λ u l. IsAfter (behaviour g.M.Machine.steps g.M.Machine.takes g.M.Machine.gives g.M.Machine.invariant) u c.number_of-node.result (listed l)) (λ rs l x. x) r c.load-ticket.new.seat.me.0 c.try_claim.new.place.me.0 (looked.0 low) c.in-Ok.ensures.granted in
+    let badge : c.into_badge-in-Ok.result.views ≡ c.gather-held.new.shelf.place.me.0 ∷ [] = search rules in
     subst (λ (n : ℕ). IsBegun K n (g.N.Node.parcels L (affinity_of c.args.affinity) c.gather-held.result) (known c.into_badge-in-Ok.result.views)) c.number_of-node.ensures.number
     (begun-so g.M.Parcel.HasKind.kind L c.args.self.now.layout.lawful (affinity_of c.args.affinity) c.requires.node.0 K c.requires.seat.1 c.number_of-node.result c.number_of-node.ensures.number q.0.0 q.0.1 c.try_claim.new.place.me.0 q.0.2
     (g.N.Node.parcels L (affinity_of c.args.affinity) c.gather-held.result) c.gather-held.ensures.exact c.gather-held.new.shelf.node c.gather-held.ensures.kept.0 c.gather-held.new.shelf.place.me.0 c.gather-held.ensures.moved c.gather-held.ensures.kept.2 q.1 c.load-ticket.result low q.2 c.into_badge-in-Ok.result.views badge)
@@ -138,14 +141,15 @@ returns-in-Ok-clause-after g c =
     let K : View g.row.M-Parcel.Denot (Entry g.row.M-Parcel.Denot g.row.M-Call.Denot g.row.M-Reply.Denot) = known seat.badge.views in
     let is : seat.badge.views ≡ c.into_seat-place.result.me.0 ∷ [] = search rules in
     let looked = looked-at _ seat.badge.views c.into_seat-place.result.me.0 c.load-ticket.new.seat.me.0 c.load-ticket.result is seat.one.1 c.load-ticket.ensures.2.0 in
+    let low : c.load-ticket.result < 4611686018427387904 = search rules in
     let r : Read = record { word = 0; value = c.load-ticket.result; shares = 0 } in
-    let q = granted-after g.M.Parcel.HasKind.kind K c.number_of-node.result (λ u l. IsAfter (behaviour g.M.Machine.steps g.M.Machine.takes g.M.Machine.gives g.M.Machine.invariant) u c.number_of-node.result (listed l)) (λ rs l x. x) r c.load-ticket.new.seat.me.0 c.try_claim.new.place.me.0 looked.0 c.in-Ok.ensures.granted in
+    let q = granted-after g.M.Parcel.HasKind.kind K c.number_of-node.result (λ u l. IsAfter (behaviour g.M.Machine.steps g.M.Machine.takes g.M.Machine.gives g.M.Machine.invariant) u c.number_of-node.result (listed l)) (λ rs l x. x) r c.load-ticket.new.seat.me.0 c.try_claim.new.place.me.0 (looked.0 low) c.in-Ok.ensures.granted in
     let badge : c.into_badge-in-Ok.result.views ≡ c.gather-held.new.shelf.place.me.0 ∷ [] = search rules in
     let same = begun-lists g.M.Parcel.HasKind.kind L c.args.self.now.layout.lawful (affinity_of c.args.affinity) c.requires.node.0 K c.requires.seat.1 c.number_of-node.result c.number_of-node.ensures.number q.0.0 q.0.1 c.try_claim.new.place.me.0 q.0.2
     (g.N.Node.parcels L (affinity_of c.args.affinity) c.gather-held.result) c.gather-held.ensures.exact c.gather-held.new.shelf.node c.gather-held.ensures.kept.0 c.gather-held.new.shelf.place.me.0 c.gather-held.ensures.moved c.gather-held.ensures.kept.2 in
     let seen = q.0.3 in
     subst (λ (n : ℕ). IsAfter (behaviour g.M.Machine.steps g.M.Machine.takes g.M.Machine.gives g.M.Machine.invariant) K n (g.N.Node.parcels L (affinity_of c.args.affinity) c.gather-held.result)) c.number_of-node.ensures.number
-    (seen.0, seen.1, seen.2, λ k pos lt cover. sym (same k pos lt cover) ∙ seen.3 k pos lt cover)
+    (seen.0, seen.1, seen.2, seen.3, λ k pos lt cover. sym (same k pos lt cover) ∙ seen.4 k pos lt cover)
 
 pub invariant_of-seat-in-Err : goal.invariant_of-seat-in-Err
 invariant_of-seat-in-Err g c =
@@ -154,13 +158,14 @@ invariant_of-seat-in-Err g c =
     let K : View g.row.M-Parcel.Denot (Entry g.row.M-Parcel.Denot g.row.M-Call.Denot g.row.M-Reply.Denot) = known seat.badge.views in
     let is : seat.badge.views ≡ c.into_seat-place.result.me.0 ∷ [] = search rules in
     let looked = looked-at _ seat.badge.views c.into_seat-place.result.me.0 c.load-ticket.new.seat.me.0 c.load-ticket.result is seat.one.1 c.load-ticket.ensures.2.0 in
+    let low : c.load-ticket.result < 4611686018427387904 = search rules in
     let r : Read = record { word = 0; value = c.load-ticket.result; shares = 0 } in
-    let q = refused-after K c.deref.result.now c.number_of-node.result c.in-Err.busy.node c.in-Err.busy.word r c.load-ticket.new.seat.me.0 c.try_claim.new.place.me.0 (nothing K.path seat.idle.2) looked.0 c.in-Err.ensures.refused in
+    let q = refused-after K c.deref.result.now c.number_of-node.result c.in-Err.busy.node c.in-Err.busy.word r c.load-ticket.new.seat.me.0 c.try_claim.new.place.me.0 (nothing K.path seat.idle.2) (looked.0 low) c.in-Err.ensures.refused in
     let badge : c.into_badge-in-Err.result.views ≡ c.try_claim.new.place.me.0 ∷ [] = search rules in
     let full = badge ∙ ap (λ us. us ∷ []) q.1 in
     record {
       one = (ap length full, ap (λ l. length (own_views l)) full);
-      idle = (ap (λ l. (known l).unsure) full ∙ seat.idle.0, ap (λ l. (known l).out) full ∙ seat.idle.1, ap (λ l. length (known l).path) full ∙ seat.idle.2);
+      idle = (ap (λ l. (known l).unsure) full ∙ seat.idle.0, ap (λ l. (known l).out) full ∙ seat.idle.1, ap (λ l. length (known l).path) full ∙ seat.idle.2, ap (λ l. (known l).stamped) full ∙ seat.idle.3);
       parts = ap (λ l. (known l).parts) full ∙ seat.parts;
       gathered = gathered-of _ full seat.gathered;
     }
@@ -172,8 +177,9 @@ affinity_at-requires-clause-positive g c =
     let K : View g.row.M-Parcel.Denot (Entry g.row.M-Parcel.Denot g.row.M-Call.Denot g.row.M-Reply.Denot) = known seat.badge.views in
     let is : seat.badge.views ≡ c.into_seat-place.result.me.0 ∷ [] = search rules in
     let looked = looked-at _ seat.badge.views c.into_seat-place.result.me.0 c.load-ticket.new.seat.me.0 c.load-ticket.result is seat.one.1 c.load-ticket.ensures.2.0 in
+    let low : c.load-ticket.result < 4611686018427387904 = search rules in
     let r : Read = record { word = 0; value = c.load-ticket.result; shares = 0 } in
-    let q = refused-after K c.deref.result.now c.number_of-node.result c.in-Err.busy.node c.in-Err.busy.word r c.load-ticket.new.seat.me.0 c.try_claim.new.place.me.0 (nothing K.path seat.idle.2) looked.0 c.in-Err.ensures.refused in
+    let q = refused-after K c.deref.result.now c.number_of-node.result c.in-Err.busy.node c.in-Err.busy.word r c.load-ticket.new.seat.me.0 c.try_claim.new.place.me.0 (nothing K.path seat.idle.2) (looked.0 low) c.in-Err.ensures.refused in
     let badge : c.into_badge-in-Err.result.views ≡ c.try_claim.new.place.me.0 ∷ [] = search rules in
     let parent : c.deref.result.now ≡ numbers.parents L = search rules in
     (refuses-node L (affinity_of c.args.affinity) c.deref.result.now c.number_of-node.result c.in-Err.busy.node c.in-Err.busy.word c.args.self.now.layout.lawful c.requires.node.0 parent c.number_of-node.ensures.number q.3).0
@@ -185,8 +191,9 @@ affinity_at-requires-clause-within g c =
     let K : View g.row.M-Parcel.Denot (Entry g.row.M-Parcel.Denot g.row.M-Call.Denot g.row.M-Reply.Denot) = known seat.badge.views in
     let is : seat.badge.views ≡ c.into_seat-place.result.me.0 ∷ [] = search rules in
     let looked = looked-at _ seat.badge.views c.into_seat-place.result.me.0 c.load-ticket.new.seat.me.0 c.load-ticket.result is seat.one.1 c.load-ticket.ensures.2.0 in
+    let low : c.load-ticket.result < 4611686018427387904 = search rules in
     let r : Read = record { word = 0; value = c.load-ticket.result; shares = 0 } in
-    let q = refused-after K c.deref.result.now c.number_of-node.result c.in-Err.busy.node c.in-Err.busy.word r c.load-ticket.new.seat.me.0 c.try_claim.new.place.me.0 (nothing K.path seat.idle.2) looked.0 c.in-Err.ensures.refused in
+    let q = refused-after K c.deref.result.now c.number_of-node.result c.in-Err.busy.node c.in-Err.busy.word r c.load-ticket.new.seat.me.0 c.try_claim.new.place.me.0 (nothing K.path seat.idle.2) (looked.0 low) c.in-Err.ensures.refused in
     let badge : c.into_badge-in-Err.result.views ≡ c.try_claim.new.place.me.0 ∷ [] = search rules in
     let parent : c.deref.result.now ≡ numbers.parents L = search rules in
     (refuses-node L (affinity_of c.args.affinity) c.deref.result.now c.number_of-node.result c.in-Err.busy.node c.in-Err.busy.word c.args.self.now.layout.lawful c.requires.node.0 parent c.number_of-node.ensures.number q.3).1
@@ -198,8 +205,9 @@ returns-in-Err-clause-seat g c =
     let K : View g.row.M-Parcel.Denot (Entry g.row.M-Parcel.Denot g.row.M-Call.Denot g.row.M-Reply.Denot) = known seat.badge.views in
     let is : seat.badge.views ≡ c.into_seat-place.result.me.0 ∷ [] = search rules in
     let looked = looked-at _ seat.badge.views c.into_seat-place.result.me.0 c.load-ticket.new.seat.me.0 c.load-ticket.result is seat.one.1 c.load-ticket.ensures.2.0 in
+    let low : c.load-ticket.result < 4611686018427387904 = search rules in
     let r : Read = record { word = 0; value = c.load-ticket.result; shares = 0 } in
-    let q = refused-after K c.deref.result.now c.number_of-node.result c.in-Err.busy.node c.in-Err.busy.word r c.load-ticket.new.seat.me.0 c.try_claim.new.place.me.0 (nothing K.path seat.idle.2) looked.0 c.in-Err.ensures.refused in
+    let q = refused-after K c.deref.result.now c.number_of-node.result c.in-Err.busy.node c.in-Err.busy.word r c.load-ticket.new.seat.me.0 c.try_claim.new.place.me.0 (nothing K.path seat.idle.2) (looked.0 low) c.in-Err.ensures.refused in
     let badge : c.into_badge-in-Err.result.views ≡ c.try_claim.new.place.me.0 ∷ [] = search rules in
     let full = badge ∙ ap (λ us. us ∷ []) q.1 in
     (search rules, refl, seat-still g.M.Parcel.HasKind.kind L K (known c.into_badge-in-Err.result.views) (ap (λ l. (known l).tree) full) (ap (λ l. (known l).first) full) c.requires.seat.1)
@@ -211,8 +219,9 @@ returns-in-Err-clause-refused g c =
     let K : View g.row.M-Parcel.Denot (Entry g.row.M-Parcel.Denot g.row.M-Call.Denot g.row.M-Reply.Denot) = known seat.badge.views in
     let is : seat.badge.views ≡ c.into_seat-place.result.me.0 ∷ [] = search rules in
     let looked = looked-at _ seat.badge.views c.into_seat-place.result.me.0 c.load-ticket.new.seat.me.0 c.load-ticket.result is seat.one.1 c.load-ticket.ensures.2.0 in
+    let low : c.load-ticket.result < 4611686018427387904 = search rules in
     let r : Read = record { word = 0; value = c.load-ticket.result; shares = 0 } in
-    let q = refused-after K c.deref.result.now c.number_of-node.result c.in-Err.busy.node c.in-Err.busy.word r c.load-ticket.new.seat.me.0 c.try_claim.new.place.me.0 (nothing K.path seat.idle.2) looked.0 c.in-Err.ensures.refused in
+    let q = refused-after K c.deref.result.now c.number_of-node.result c.in-Err.busy.node c.in-Err.busy.word r c.load-ticket.new.seat.me.0 c.try_claim.new.place.me.0 (nothing K.path seat.idle.2) (looked.0 low) c.in-Err.ensures.refused in
     let badge : c.into_badge-in-Err.result.views ≡ c.try_claim.new.place.me.0 ∷ [] = search rules in
     let parent : c.deref.result.now ≡ numbers.parents L = search rules in (
       c.affinity_at.ensures.node,

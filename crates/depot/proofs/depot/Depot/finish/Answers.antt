@@ -197,7 +197,7 @@ invariant_of-seat g c =
     let tree : IsTree (view_of c.stamp_call.new.place.me.0).tree = subst IsTree (sym (ap (λ us. (view_of us).tree) stamped.1.1 ∙ still.0)) (parents-tree L c.args.self.now.layout.lawful) in
     record {
       one = (ap length full, ap (λ l. length (own_views l)) full);
-      idle = (ap (λ l. (known l).unsure) full ∙ seat.idle.0, ap (λ l. (known l).out) full ∙ seat.idle.1, ap (λ l. length (known l).path) full ∙ seat.idle.2);
+      idle = (ap (λ l. (known l).unsure) full ∙ seat.idle.0, ap (λ l. (known l).out) full ∙ seat.idle.1, ap (λ l. length (known l).path) full ∙ seat.idle.2, ap (λ l. (known l).stamped) full);
       parts = ap (λ l. (known l).parts) full ∙ seat.parts;
       gathered = subst IsGathered (sym (ap known badge))
           (ended-gathered (view_of c.stamp_call.new.place.me.0) (view_of c.give_home-place.result.me.0) n tree stamped_all c.give_home-place.ensures.ended.1 c.give_home-place.ensures.apart c.give_home-place.ensures.others);

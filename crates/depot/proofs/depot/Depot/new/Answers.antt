@@ -82,7 +82,7 @@ invariant_of-seat g c =
     = opened-view c.into_badge.ensures.2 (ap (λ m. m.0) ok.4) (ap (λ o. o.parents.items) c.of-key.ensures ∙ c.in-Ok-Ok-Ok.ensures) (ap (λ o. o.parcels.items) c.of-key.ensures ∙ laid) in
     record {
       one = (ap length e, ap (λ l. length (own_views l)) e);
-      idle = (ap (λ l. (known l).unsure) e, ap (λ l. (known l).out) e, ap (λ l. length (known l).path) e);
+      idle = (ap (λ l. (known l).unsure) e, ap (λ l. (known l).out) e, ap (λ l. length (known l).path) e, ap (λ l. (known l).stamped) e);
       parts = ap (λ l. (known l).parts) e;
       gathered = λ b k h has. absurd (none-held (length (parents (layout_of c.args.layout))) b h (subst (λ (l : List (List (View g.row.M-Parcel.Denot E))). Has (known l) b h) e has));
     }

@@ -46,7 +46,7 @@ invariant_of-seat g c =
     let tree : IsTree K.tree = subst IsTree (sym c.requires.seat.1.0) (parents-tree L c.args.self.now.layout.lawful) in
     record {
       one = (ap length full, ap (λ l. length (own_views l)) full);
-      idle = (ap (λ l. (known l).unsure) full ∙ seat.idle.0, ap (λ l. (known l).out) full ∙ seat.idle.1, ap (λ l. length (known l).path) full ∙ seat.idle.2);
+      idle = (ap (λ l. (known l).unsure) full ∙ seat.idle.0, ap (λ l. (known l).out) full ∙ seat.idle.1, ap (λ l. length (known l).path) full ∙ seat.idle.2, ap (λ l. (known l).stamped) full);
       parts = ap (λ l. (known l).parts) full ∙ seat.parts;
       gathered = subst IsGathered (sym (ap known badge)) (put-gathered seat.badge.views c.into_seat-place.result.me.0 c.give_home-place.result.me.0 n is tree seat.gathered c.give_home-place.ensures.ended.1 c.give_home-place.ensures.apart c.give_home-place.ensures.others);
     }
