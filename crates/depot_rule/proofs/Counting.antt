@@ -1,5 +1,5 @@
 -- The ticket counts the entries of the one history.
-use Rattle.std.proofs.Common.{◌≡◌, ℕ, zero, suc, ◌%◌, ◌<◌, ltb, List, [], ◌∷◌, length, refl, ap, ◌∙◌, arith, Some, Option}
+use Rattle.std.proofs.Common.{◌≡◌, ℕ, zero, suc, ◌<◌, ltb, List, [], ◌∷◌, length, refl, ap, ◌∙◌, arith, Some, Option}
 use Rattle.std.specs.Prelude.{slice_get}
 use mathlib.Core.Option.{some}
 use lib.ListN.{get_elem?}
