@@ -13,7 +13,7 @@ use Rattle.depot_rule.specs.declared.view.Entry.{Entry}
 use Rattle.depot_rule.specs.Sums.{total, one_if, tally}
 use Rattle.depot_rule.specs.Tree.{Covers}
 use Rattle.depot_rule.specs.History.{Behaviour, Legal, SoundThroughout, IsHistory, AreHands, entries_of, listed, after}
-use Rattle.depot_rule.specs.Shares.{worn, made, Has}
+use Rattle.depot_rule.specs.Shares.{worn, too_many, made, Has}
 use Rattle.depot_rule.specs.Plays.{IsOnly, with_entry, HasAdded}
 use Rattle.depot.specs.Kinds.{AreOfKind}
 use Rattle.depot.specs.Calls.{IsAmong, IsRead, Refuses, IsExcluded}
@@ -78,7 +78,7 @@ module _ {P E : Type 0} where
 module _ {P C R B : Type 0} (m : Behaviour P C R B) where
   -- the parcels f of the nodes that b covers are as a history left them that begins with what the seat has seen, of fewer than 2^63 entries. For the only seat it is just what it has seen
   abbrev pub IsAfter : View P (Entry P C R) → ℕ → (ℕ → Option P) → Type 0
-  IsAfter v b f = (log : List (Entry P C R)) × IsHistory m v.tree v.first v log × (length log < 9223372036854775808) × (IsOnly v → log ≡ v.seen)
+  IsAfter v b f = (log : List (Entry P C R)) × IsHistory m v.tree v.first v log × (length log < too_many) × (IsOnly v → log ≡ v.seen)
       × ((k : ℕ) → 0 < k → k < length v.tree → Covers v.tree b k → f k ≡ after v.tree (listed v.first) log k)
 
   -- the call is a step of the machine's, from the parcels of the seat's grant of b to g

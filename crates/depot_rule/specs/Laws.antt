@@ -8,7 +8,7 @@ use Rattle.depot_rule.specs.declared.view.Entry.{Entry}
 use Rattle.depot_rule.specs.Sums.{total, one_if, tally}
 use Rattle.depot_rule.specs.History.{Behaviour, History}
 use Rattle.depot_rule.specs.Tree.{IsTree, ancestors, Covers, Excludes}
-use Rattle.depot_rule.specs.Shares.{exclusive, Has, opening_view}
+use Rattle.depot_rule.specs.Shares.{exclusive, too_many, Has, opening_view}
 use Rattle.depot_rule.specs.Parcels.{has_out, IsParcel}
 use Rattle.depot_rule.specs.Rule.{Base, Rule}
 use Rattle.affinity.specs.declared.affinity.Kind.{Kind}
@@ -64,7 +64,7 @@ module _ {P C R B : Type 0} (kind_of : P → Kind) (m : Behaviour P C R B) where
   -- there is one history of all seats (`History`), and the ticket says how long it is: fewer than 2^63 entries
   abbrev pub HistoryIsOne : Type 0
   HistoryIsOne = (parents : List ℕ) (first : List (Option P)) (s : State (Option P) (List (View P (Entry P C R)))) → Rule kind_of m parents first s
-      → (h : History m parents first s) × (slice_index s.words 0 ≡ length h.log) × (length h.log < 9223372036854775808)
+      → (h : History m parents first s) × (slice_index s.words 0 ≡ length h.log) × (length h.log < too_many)
 
   -- the only seat has seen all of it, and its entries are all entries
   abbrev pub OnlySeatHasAll : Type 0

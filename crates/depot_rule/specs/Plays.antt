@@ -8,7 +8,7 @@ use Rattle.depot_rule.specs.declared.view.Read.{Read}
 use Rattle.depot_rule.specs.declared.view.Entry.{Entry}
 use Rattle.depot_rule.specs.Sums.{total, tally, without}
 use Rattle.depot_rule.specs.Tree.{ancestors, Covers, Excludes}
-use Rattle.depot_rule.specs.Shares.{exclusive, worn, made, shares, Has}
+use Rattle.depot_rule.specs.Shares.{exclusive, worn, too_many, made, shares, Has}
 use Rattle.depot_rule.specs.Parcels.{has_out, IsParcel}
 use Rattle.depot_rule.specs.Seats.{OnOne, longer, merge}
 use Rattle.depot_rule.specs.History.{Behaviour, SoundThroughout, IsHistory, Legal, StartsWith, listed, after, chosen, entries_of}
@@ -108,7 +108,7 @@ module _ {P C R B : Type 0} where
       × ((c : ℕ) (h : List (Option P)) → Has v c h → Excludes v.tree st.word c → ⊥)
       × ((k : ℕ) → 0 < k → Covers v.tree st.word k → has_out k v ≡ 0)
       × (get_elem? v.held st.word ≡ some None)
-      × ((log : List (Entry P C R)) × IsHistory m v.tree v.first v log × (length log < 9223372036854775808) × (IsOnly v → log ≡ v.seen) × ((k : ℕ) → 0 < k → k < length v.tree → Covers v.tree st.word k → slice_index_or g k None ≡ after v.tree (listed v.first) log k)))
+      × ((log : List (Entry P C R)) × IsHistory m v.tree v.first v log × (length log < too_many) × (IsOnly v → log ≡ v.seen) × ((k : ℕ) → 0 < k → k < length v.tree → Covers v.tree st.word k → slice_index_or g k None ≡ after v.tree (listed v.first) log k)))
       × (found ≢ 0 → (vs ≡ record v { reads = noted st found v } ∷ []) × (IsOnly v → (c : ℕ) × (h : List (Option P)) × Has v c h × Excludes v.tree st.word c))) me me'
 
   -- the seat's history is what it had seen, what others put between, and e; it is legal, with the machine's invariant throughout, and the seat's own entries are those that it had, and e. For the only seat nothing is between

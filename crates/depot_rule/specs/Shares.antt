@@ -14,6 +14,10 @@ exclusive = 4294967296
 abbrev pub worn : ℕ
 worn = 4611686018427387904
 
+-- more entries than there ever are: 2^63
+abbrev pub too_many : ℕ
+too_many = 9223372036854775808
+
 -- Q holds of each view of each seat
 abbrev pub Each : {V : Type 0} → (V → Type 0) → List (List V) → Type 0
 Each Q views = (j : ℕ) (vs : List _) → get_elem? views j ≡ some vs → (i : ℕ) (v : _) → get_elem? vs i ≡ some v → Q v
@@ -81,7 +85,7 @@ module _ {P E : Type 0} where
     -- the splits of all seats, and the seats
     pub seats : total (total parts) views ≡ 64
     pub counted : (a : ℕ) → 0 < a → a < length parents → slice_index words a ≡ total (total (shares a)) views
-    -- the ticket counts the entries of all views, and there are never many more than 2^62: of what a grant may add, the stamp took its part
+    -- the ticket counts the entries of all views. What is made and what may be made is little more than 2^62: 64 parts have at most 2,000 rights each, and a grant that was stamped has used its own
     pub ticket : slice_index words 0 ≡ total (total made) views
     pub bounded : total (total due) views ≤ (worn + 128000) + total (total unsettled) views
     -- a node that is claimed is claimed once, and no share in it was found free
