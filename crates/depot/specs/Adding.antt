@@ -23,13 +23,13 @@ either-true : (b c : Bool) → b || c ≡ true → (b ≡ true) ⊎ (c ≡ true)
 either-true true c e = inl refl
 either-true false c e = inr e
 
-covers-true : (parents : List ℕ) (a k : ℕ) → covers parents a k ≡ true → Covers parents a k
+pub covers-true : (parents : List ℕ) (a k : ℕ) → covers parents a k ≡ true → Covers parents a k
 covers-true parents a k e = ⊎_elim
     (λ (here : (a == k) ≡ true). inl (eqb-true a k here))
     (λ (above : nat_lt 0 (tally a (ancestors parents k)) ≡ true). inr (ltb-true 0 (tally a (ancestors parents k)) above))
     (either-true (a == k) (nat_lt 0 (tally a (ancestors parents k))) e)
 
-if-alike : {A : Type 0} (b : Bool) (x y : A) → (b ≡ true → x ≡ y) → if_less b x y ≡ y
+pub if-alike : {A : Type 0} (b : Bool) (x y : A) → (b ≡ true → x ≡ y) → if_less b x y ≡ y
 if-alike true x y h = h refl
 if-alike false x y h = refl
 
