@@ -67,11 +67,11 @@ pub stripe-changed : {P R B S L V A X : Type 0} (layout : Layout) (a : Affinity)
 unfolding stripe_parcels
 stripe-changed layout a held held' exact = alone-swap kind_in layout a (number_of layout a) (Stripe held.own) (Stripe held'.own) refl exact
 
-alone-here : {T : Type 0} (n : ℕ) (x : T) → alone n x n ≡ Some x
+pub alone-here : {T : Type 0} (n : ℕ) (x : T) → alone n x n ≡ Some x
 unfolding alone
 alone-here n x = ap (λ b. cond b (Some x) None) (eq-eqb n n refl)
 
-alone-else : {T : Type 0} (n : ℕ) (x : T) (k : ℕ) → k ≢ n → alone n x k ≡ None
+pub alone-else : {T : Type 0} (n : ℕ) (x : T) (k : ℕ) → k ≢ n → alone n x k ≡ None
 unfolding alone
 alone-else n x k ne = ap (λ b. cond b (Some x) None) (ne_eqb k n ne)
 

@@ -1,7 +1,18 @@
 //! A machine for tests, whose calls move tokens between a node's parcel and the seat's hand.
 
+ghost use Rattle.std.specs.Prelude.{◌≡◌, true, false, ℕ, List, ◌∷◌};
+ghost use Rattle.affinity.specs.Layout.{layout_of};
+ghost use Rattle.parcels.specs.Exact.{kind_in};
+ghost use Rattle.depot_rule.specs.History.{entries_of};
+ghost use Rattle.depot.specs.Calls.{known};
+ghost use Rattle.depot.specs.Grants.{IsSeatOf};
+ghost use Rattle.depot.specs.Lending.{IsHand};
+
+use crate::depot::Depot;
+use crate::seats::Seat;
+use affinity::{Affinity, Kind};
 use depot_rule::machine::Machine;
-use parcels::{Numbers, Parcel};
+use parcels::{Numbers, Parcel, StripeNode};
 
 /// A call on the tokens of its node.
 #[derive(Clone, Copy, Debug, PartialEq, Eq)]
@@ -37,4 +48,38 @@ impl Machine for Lending {
     ghost local = { moves-local };
 
     ghost keeps = { moves-keep };
+}
+
+/// Takes tokens of a stripe into the hand, as one batch. Whether it did: not where the stripe has
+/// fewer, or where the call wasn't granted.
+pub fn take(
+    depot: &Depot<Lending>,
+    seat: &mut Seat<Lending>,
+    affinity: Affinity,
+    count: u64,
+) -> bool
+    requires seat { (seat.old.badge.table_id ≡ depot.now.table.shared.table_id) × IsSeatOf kind_in (layout_of depot.now.layout) (known seat.old.badge.views) }
+    ensures seat { (seat.new.badge.table_id ≡ depot.now.table.shared.table_id) × IsSeatOf kind_in (layout_of depot.now.layout) (known seat.new.badge.views) }
+    ensures taken { result ≡ true → (hand : List ℕ) → IsHand (known seat.old.badge.views) hand → IsHand (known seat.new.badge.views) (count ∷ hand) }
+    ensures kept { result ≡ false → entries_of (known seat.new.badge.views) ≡ entries_of (known seat.old.badge.views) }
+{
+    if affinity.kind() != Kind::Stripe {
+        return false;
+    }
+    if !depot.layout.contains(affinity) {
+        return false;
+    }
+    match depot.begin::<StripeNode>(seat, affinity) {
+        Ok(mut grant) => {
+            if grant.held.own < count {
+                depot.put_back(seat, grant);
+                return false;
+            }
+            let held = grant.held();
+            held.own -= count;
+            depot.finish(seat, grant, &Move::Take(count), &());
+            true
+        }
+        Err(_refusal) => false,
+    }
 }
