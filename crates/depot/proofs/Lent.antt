@@ -1,23 +1,26 @@
 -- What calls that move tokens rest on.
-use Rattle.std.proofs.Common.{◌≡◌, ℕ, ◌+◌, ◌<◌, List, [], ◌∷◌, ◌++◌, length, refl, sym, ap, ◌∙◌, subst, arith, Option}
+use Rattle.std.proofs.Common.{◌≡◌, ℕ, zero, suc, ◌+◌, ◌<◌, ◌≤◌, List, [], ◌∷◌, ◌++◌, length, refl, sym, ap, ◌∙◌, subst, arith, inl, Option}
+use mathlib.Core.Logic.{dite}
+use native.Mathlib.Decide.{ℕ_discrete}
 use Rattle.nfs_model.specs.Tree.{Layout, Affinity}
 use Rattle.affinity.specs.Tree.{IsNode}
 use Rattle.affinity.specs.Numbers.{number_of, parents}
-use Rattle.affinity.proofs.Places.{number_within}
+use Rattle.affinity.proofs.Places.{number_positive, number_within}
 use Rattle.affinity.proofs.Smaller.{length-parents}
+use Rattle.parcels.specs.declared.family.Parcel.{Parcel}
 use Rattle.parcels.specs.declared.family.Parcel.TheVariants.{Stripe}
 use Rattle.parcels.specs.declared.sets.StripeHeld.{StripeHeld}
 use Rattle.parcels.specs.Sets.{stripe_parcels}
 use Rattle.depot_rule.specs.declared.view.View.{View}
 use Rattle.depot_rule.specs.declared.view.Entry.{Entry}
 use Rattle.depot_rule.specs.Sums.{total}
-use Rattle.depot_rule.specs.History.{Behaviour, AreHands, entries_of}
+use Rattle.depot_rule.specs.History.{Behaviour, behaviour, AreHands, entries_of, listed, after}
 use Rattle.depot_rule.proofs.Histories.{moved-snoc}
 use Rattle.depot.specs.declared.grants.Refusal.{Refusal}
 use Rattle.depot.specs.declared.grants.Refusal.TheVariants.{Busy, Worn}
 use Rattle.depot.specs.declared.lending.Move.{Move}
-use Rattle.depot.specs.Grants.{IsBegun, IsEnded, IsFinished, IsRefused}
-use Rattle.depot.specs.Lending.{taken_by, given_by, Becomes, IsHand}
+use Rattle.depot.specs.Grants.{IsBegun, IsAfter, IsEnded, IsFinished, IsRefused}
+use Rattle.depot.specs.Lending.{sum_below, size, tokens_in, taken_by, given_by, Becomes, Moves, FewTokens, IsHand}
 use Rattle.depot.proofs.Trials.{alone-here, alone-else}
 
 -- ---- a seat's entries after each kind of step
@@ -66,3 +69,21 @@ stripe-becomes Q layout a held held' tree there is = (
   there,
   λ k ne. alone-else (number_of layout a) (Stripe held'.own) k ne ∙ sym (alone-else (number_of layout a) (Stripe held.own) k ne),
 )
+
+-- ---- what a seat has in its hand fits beside a node's tokens
+
+sum-at : (f : ℕ → ℕ) (a n : ℕ) → a < n → f a ≤ sum_below f n
+sum-at f a zero lt = absurd (omega arith)
+sum-at f a (suc n) lt = dite (ℕ_discrete n a)
+    (λ e. let same : f n ≡ f a = ap f e in let fits : f a ≤ sum_below f n + f n = omega arith in fits)
+    (λ ne. let r = sum-at f a n (omega arith) in let fits : f a ≤ sum_below f n + f n = omega arith in fits)
+
+pub hand-fits : {P : Type 0} (layout : Layout) (a : Affinity) (v : View (Parcel P ℕ ℕ ℕ ℕ ℕ ℕ ℕ) (Entry (Parcel P ℕ ℕ ℕ ℕ ℕ ℕ ℕ) Move (Unit {0}))) (held : StripeHeld P ℕ ℕ ℕ ℕ ℕ ℕ ℕ) (n : ℕ) (rest : List ℕ) → v.tree ≡ parents layout → IsNode layout a
+    → IsHand v (n ∷ rest) → IsAfter (behaviour Moves taken_by given_by FewTokens) v (number_of layout a) (stripe_parcels layout a held) → held.own + n < 18446744073709551616
+unfolding stripe_parcels
+hand-fits layout a v held n rest is node own seen =
+    let there = number-in-tree layout a v.tree is node in
+    let now = seen.3 (number_of layout a) (number_positive layout a) there (inl refl) in
+    let tokens : held.own ≡ tokens_in (after v.tree (listed v.first) seen.0 (number_of layout a)) = ap tokens_in (sym (alone-here (number_of layout a) (Stripe held.own)) ∙ now) in
+    let part = sum-at (λ k. tokens_in (after v.tree (listed v.first) seen.0 k)) (number_of layout a) (length v.tree) there in
+    let mine = own size in let hand = seen.1.own_hand size in let all = seen.1.together size in let few = seen.1.sound in omega arith

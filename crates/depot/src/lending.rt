@@ -83,3 +83,34 @@ pub fn take(
         Err(_refusal) => false,
     }
 }
+
+/// Gives a batch of so many tokens from the hand to a stripe. Whether it did: not where the call
+/// wasn't granted.
+pub fn give(
+    depot: &Depot<Lending>,
+    seat: &mut Seat<Lending>,
+    affinity: Affinity,
+    count: u64,
+) -> bool
+    requires seat { (seat.old.badge.table_id ≡ depot.now.table.shared.table_id) × IsSeatOf kind_in (layout_of depot.now.layout) (known seat.old.badge.views) }
+    requires hand { (rest : List ℕ) × IsHand (known seat.old.badge.views) (count ∷ rest) }
+    ensures seat { (seat.new.badge.table_id ≡ depot.now.table.shared.table_id) × IsSeatOf kind_in (layout_of depot.now.layout) (known seat.new.badge.views) }
+    ensures given { result ≡ true → (rest : List ℕ) → IsHand (known seat.old.badge.views) (count ∷ rest) → IsHand (known seat.new.badge.views) rest }
+    ensures kept { result ≡ false → entries_of (known seat.new.badge.views) ≡ entries_of (known seat.old.badge.views) }
+{
+    if affinity.kind() != Kind::Stripe {
+        return false;
+    }
+    if !depot.layout.contains(affinity) {
+        return false;
+    }
+    match depot.begin::<StripeNode>(seat, affinity) {
+        Ok(mut grant) => {
+            let held = grant.held();
+            held.own += count;
+            depot.finish(seat, grant, &Move::Give(count), &());
+            true
+        }
+        Err(_refusal) => false,
+    }
+}
