@@ -1,16 +1,26 @@
 -- What calls that move tokens rest on.
-use Rattle.std.proofs.Common.{◌≡◌, ℕ, zero, suc, ◌+◌, ◌<◌, ◌≤◌, List, [], ◌∷◌, ◌++◌, length, refl, sym, ap, ◌∙◌, subst, arith, inl, Option}
+use Rattle.std.proofs.Common.{◌≡◌, ℕ, zero, suc, ◌+◌, ◌*◌, ◌<◌, ◌≤◌, Bool, true, false, not, List, [], ◌∷◌, ◌++◌, length, refl, sym, ap, ◌∙◌, subst, arith, inl, Option, Some, None}
+use Rattle.std.specs.Prelude.{if◌then◌else◌, nat_le}
+use Rattle.std.proofs.lemmas.Bool.{and_parts, leb-true}
 use mathlib.Core.Logic.{dite}
 use native.Mathlib.Decide.{ℕ_discrete}
 use Rattle.nfs_model.specs.Tree.{Layout, Affinity}
 use Rattle.affinity.specs.Tree.{IsNode}
-use Rattle.affinity.specs.Numbers.{number_of, parents}
-use Rattle.affinity.proofs.Places.{number_positive, number_within}
+use Rattle.affinity.specs.Fault.{fault_of, is_within}
+use Rattle.affinity.specs.declared.specification.AggregateSpec.{AggregateSpec}
+use Rattle.affinity.specs.declared.specification.VolumeSpec.{VolumeSpec}
+use Rattle.affinity.specs.Specification.{layout_in}
+use Rattle.affinity.proofs.Lawful.{few_volumes}
+use Rattle.affinity.specs.Numbers.{number_of, node_count, parents}
+use Rattle.affinity.proofs.Places.{number_positive, number_within, node_count_even}
 use Rattle.affinity.proofs.Smaller.{length-parents}
 use Rattle.parcels.specs.declared.family.Parcel.{Parcel}
 use Rattle.parcels.specs.declared.family.Parcel.TheVariants.{Stripe}
 use Rattle.parcels.specs.declared.sets.StripeHeld.{StripeHeld}
 use Rattle.parcels.specs.Sets.{stripe_parcels}
+use Rattle.parcels.specs.NumberIn.{number_in}
+use Rattle.depot_rule.specs.Shares.{opening_view}
+use Rattle.depot.specs.Adding.{AreEach}
 use Rattle.depot_rule.specs.declared.view.View.{View}
 use Rattle.depot_rule.specs.declared.view.Entry.{Entry}
 use Rattle.depot_rule.specs.Sums.{total}
@@ -87,3 +97,34 @@ hand-fits layout a v held n rest is node own seen =
     let tokens : held.own ≡ tokens_in (after v.tree (listed v.first) seen.0 (number_of layout a)) = ap tokens_in (sym (alone-here (number_of layout a) (Stripe held.own)) ∙ now) in
     let part = sum-at (λ k. tokens_in (after v.tree (listed v.first) seen.0 k)) (number_of layout a) (length v.tree) there in
     let mine = own size in let hand = seen.1.own_hand size in let all = seen.1.together size in let few = seen.1.sound in omega arith
+
+-- ---- a depot in which each node has so many tokens
+
+rule-kept : (test : Bool) (number : ℕ) (others : Option ℕ) → (if not test then Some number else others) ≡ None → test ≡ true
+rule-kept true number others h = refl
+rule-kept false number others h = cc
+
+pub few-nodes : (aggregates : List AggregateSpec) (volumes : List VolumeSpec) → fault_of (layout_in aggregates volumes) ≡ None → node_count (layout_in aggregates volumes) ≤ 219
+few-nodes aggregates volumes lawful =
+    let layout : Layout = layout_in aggregates volumes in
+    let count = node_count_even aggregates volumes in
+    let eight = few_volumes layout lawful in
+    let test = rule-kept (is_within 1 2 (length layout.spare)) 51 _ lawful in
+    let two = leb-true (length layout.spare) 2 (and_parts (nat_le 1 (length layout.spare)) (nat_le (length layout.spare) 2) test).1 in omega arith
+
+sum-most : (f : ℕ → ℕ) (n : ℕ) → ((k : ℕ) → f k ≤ 1000) → sum_below f n ≤ 1000 * n
+sum-most f zero most = omega arith
+sum-most f (suc n) most = let r = sum-most f n most in let e = most n in omega arith
+
+tokens-most : {P : Type 0} (n : ℕ) (parcel : Option (Parcel P ℕ ℕ ℕ ℕ ℕ ℕ ℕ)) → ((p : Parcel P ℕ ℕ ℕ ℕ ℕ ℕ ℕ) → parcel ≡ Some p → number_in p ≡ n) → tokens_in parcel ≤ n
+tokens-most n None is = omega arith
+tokens-most n (Some p) is = let e = is p refl in omega arith
+
+pub each-few : {P : Type 0} (layout : Layout) (n : ℕ) (f : ℕ → Option (Parcel P ℕ ℕ ℕ ℕ ℕ ℕ ℕ)) → node_count layout ≤ 219 → n ≤ 1000 → AreEach n f → FewTokens (parents layout) f [] 0
+each-few layout n f nodes small each =
+    let all = sum-most (λ k. tokens_in (f k)) (length (parents layout)) (λ k. let t = tokens-most n (f k) (each k) in let most : tokens_in (f k) ≤ 1000 = omega arith in most) in
+    let many = length-parents layout in omega arith
+
+-- nothing is in a seat's hand at the opening
+pub hand-opened : {P : Type 0} (tree : List ℕ) (first : List (Option P)) (v : View P (Entry P Move (Unit {0}))) → v ≡ opening_view tree first → IsHand v []
+hand-opened tree first v is = subst (λ (u : View _ (Entry _ Move (Unit {0}))). IsHand u []) (sym is) (λ weigh. refl)
