@@ -26,25 +26,15 @@ use Rattle.depot_rule.specs.declared.view.Entry.{Entry}
 use Rattle.depot_rule.specs.Sums.{total}
 use Rattle.depot_rule.specs.History.{Behaviour, behaviour, AreHands, entries_of, listed, after}
 use Rattle.depot_rule.proofs.Histories.{moved-snoc}
-use Rattle.depot.specs.declared.grants.Refusal.{Refusal}
-use Rattle.depot.specs.declared.grants.Refusal.TheVariants.{Busy, Worn}
 use Rattle.depot.specs.declared.lending.Move.{Move}
-use Rattle.depot.specs.Grants.{IsBegun, IsAfter, IsEnded, IsFinished, IsRefused}
+use Rattle.depot.specs.Grants.{IsBegun, IsAfter, IsFinished}
 use Rattle.depot.specs.Lending.{sum_below, size, tokens_in, taken_by, given_by, Becomes, Moves, FewTokens, IsHand}
 use Rattle.depot.proofs.Trials.{alone-here, alone-else}
 
 -- ---- a seat's entries after each kind of step
 
-module _ {P E : Type 0} where
-  pub refused-entries : (layout : Layout) (v w : View P E) (a : Affinity) (refusal : Refusal) → IsRefused layout v a refusal w → entries_of w ≡ entries_of v
-  refused-entries layout v w a (Busy node word) r = ap entries_of r.1.1
-  refused-entries layout v w a Worn r = ap entries_of r.1
-
-  pub begun-entries : (v w : View P E) (b : ℕ) (f : ℕ → Option P) → IsBegun v b f w → entries_of w ≡ entries_of v
-  begun-entries v w b f begun = ap entries_of begun.3
-
-  pub ended-entries : (v w : View P E) (b : ℕ) → IsEnded v b w → entries_of w ≡ entries_of v
-  ended-entries v w b ended = ap entries_of ended.2
+pub begun-entries : {P E : Type 0} (v w : View P E) (b : ℕ) (f : ℕ → Option P) → IsBegun v b f w → entries_of w ≡ entries_of v
+begun-entries v w b f begun = ap entries_of begun.3
 
 pub finished-entries : {P C R B : Type 0} (m : Behaviour P C R B) (v w : View P (Entry P C R)) (b : ℕ) (e : Entry P C R) → IsFinished m v b e w → entries_of w ≡ entries_of v ++ e ∷ []
 finished-entries m v w b e finished = ap entries_of finished.3 ∙ finished.4.2

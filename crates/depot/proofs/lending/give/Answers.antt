@@ -27,7 +27,7 @@ finish-requires-clause-step c =
     let same : c.held-held.result.now.own ≡ c.in-Ok.grant.held.own = ap (λ h. h.own) c.held-held.ensures.value in (
       stripe_parcels (layout_of c.args.depot.now.layout) (affinity_of c.in-Ok.grant.affinity) c.in-Ok.grant.held,
       has,
-      stripe-becomes (λ before now. now ≡ before + c.args.count) (layout_of c.args.depot.now.layout) (affinity_of c.in-Ok.grant.affinity) c.in-Ok.grant.held (record { own = c.held-held.result.now.own + c.args.count }) (known c.begin.new.seat.badge.views).tree
+      stripe-becomes (λ before now. now ≡ before + c.args.count) (layout_of c.args.depot.now.layout) (affinity_of c.in-Ok.grant.affinity) c.in-Ok.grant.held _ (known c.begin.new.seat.badge.views).tree
           (number-in-tree (layout_of c.args.depot.now.layout) (affinity_of c.in-Ok.grant.affinity) (known c.begin.new.seat.badge.views).tree c.begin.ensures.seat.2.0 node) (omega arith),
     )
 

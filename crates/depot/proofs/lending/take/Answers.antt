@@ -1,4 +1,4 @@
-use Rattle.std.proofs.Common.{rules, ◌≡◌, ◌∷◌, ◌+◌, ◌-◌, refl, sym, ap, subst, arith}
+use Rattle.std.proofs.Common.{rules, ◌≡◌, ◌∷◌, ◌+◌, refl, sym, ap, subst, arith}
 use Rattle.affinity.specs.Affinity.{affinity_of}
 use Rattle.affinity.specs.Layout.{layout_of}
 use Rattle.affinity.specs.Numbers.{number_of}
@@ -26,7 +26,7 @@ finish-requires-clause-step c =
     let enough = c.if-grant-count.false in let same : c.held-held.result.now.own ≡ c.in-Ok.grant.held.own = ap (λ h. h.own) c.held-held.ensures.value in (
       stripe_parcels (layout_of c.args.depot.now.layout) (affinity_of c.in-Ok.grant.affinity) c.in-Ok.grant.held,
       has,
-      stripe-becomes (λ before now. now + c.args.count ≡ before) (layout_of c.args.depot.now.layout) (affinity_of c.in-Ok.grant.affinity) c.in-Ok.grant.held (record { own = c.held-held.result.now.own - c.args.count }) (known c.begin.new.seat.badge.views).tree
+      stripe-becomes (λ before now. now + c.args.count ≡ before) (layout_of c.args.depot.now.layout) (affinity_of c.in-Ok.grant.affinity) c.in-Ok.grant.held _ (known c.begin.new.seat.badge.views).tree
           (number-in-tree (layout_of c.args.depot.now.layout) (affinity_of c.in-Ok.grant.affinity) (known c.begin.new.seat.badge.views).tree c.begin.ensures.seat.2.0 node) (omega arith),
     )
 
