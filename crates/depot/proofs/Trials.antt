@@ -1,5 +1,5 @@
 -- What the tests' calls rest on.
-use Rattle.std.proofs.Common.{◌≡◌, ◌≢◌, ℕ, zero, suc, ◌+◌, ◌%◌, ◌<◌, ◌≤◌, ◌==◌, Bool, true, false, cond, List, [], ◌∷◌, length, set, get_or, sym, refl, ap, ◌∙◌, subst, arith, eq-eqb, ne_eqb, Option, Some, None}
+use Rattle.std.proofs.Common.{◌≡◌, ◌≢◌, ℕ, zero, suc, ◌+◌, ◌%◌, ◌<◌, ◌≤◌, ◌==◌, Bool, true, false, cond, List, [], ◌∷◌, length, replicate, set, get_or, sym, refl, ap, ◌∙◌, subst, arith, eq-eqb, ne_eqb, Option, Some, None}
 use Rattle.std.proofs.Math.Arith.{lt_of_le-ne}
 use Rattle.std.proofs.lemmas.List.{get_or-set_same, get_or-set_other}
 use mathlib.Core.Logic.{dite}
@@ -21,7 +21,11 @@ use Rattle.parcels.specs.declared.family.Parcel.TheVariants.{Stripe}
 use Rattle.affinity.specs.Numbers.{number_of, node_count}
 use Rattle.depot_rule.specs.declared.view.View.{View}
 use Rattle.depot.specs.Grants.{ListsAs, HasWith, IsBegun, IsAfter, HasInHand}
-use Rattle.depot.specs.Adding.{Changes}
+use Rattle.depot.specs.Adding.{Changes, AreEach}
+use Rattle.depot.proofs.Laid.{nothing-at}
+use Rattle.parcels.specs.Moved.{Moved}
+use Rattle.parcels.specs.NumberIn.{number_in}
+use Rattle.parcels.specs.declared.family.Parcel.{Parcel}
 use Rattle.depot.specs.declared.adding.Change.TheVariants.{Add}
 use Rattle.depot_rule.specs.declared.view.Entry.{Entry}
 use Rattle.depot_rule.specs.Sums.{total}
@@ -67,11 +71,11 @@ pub stripe-changed : {P R B S L V A X : Type 0} (layout : Layout) (a : Affinity)
 unfolding stripe_parcels
 stripe-changed layout a held held' exact = alone-swap kind_in layout a (number_of layout a) (Stripe held.own) (Stripe held'.own) refl exact
 
-alone-here : {T : Type 0} (n : ℕ) (x : T) → alone n x n ≡ Some x
+pub alone-here : {T : Type 0} (n : ℕ) (x : T) → alone n x n ≡ Some x
 unfolding alone
 alone-here n x = ap (λ b. cond b (Some x) None) (eq-eqb n n refl)
 
-alone-else : {T : Type 0} (n : ℕ) (x : T) (k : ℕ) → k ≢ n → alone n x k ≡ None
+pub alone-else : {T : Type 0} (n : ℕ) (x : T) (k : ℕ) → k ≢ n → alone n x k ≡ None
 unfolding alone
 alone-else n x k ne = ap (λ b. cond b (Some x) None) (ne_eqb k n ne)
 
@@ -104,3 +108,18 @@ module _ {T : Type 0} (kind : T → Kind) (layout : Layout) where
 
   pub laid-all : (xs : List (Option T)) (n : ℕ) → node_count layout < n → LaidBelow n xs → (node : Affinity) → IsUnder layout Serial node → IsPlaced kind layout (λ k. get_or xs k None) node
   laid-all xs n many laid node under = let within = number_within layout node under.0 in laid node under.0 (omega arith)
+
+-- ---- parcels of one number
+
+module _ {P : Type 0} (n : ℕ) where
+  pub none-each : (count : ℕ) (xs : List (Option (Parcel P ℕ ℕ ℕ ℕ ℕ ℕ ℕ))) → xs ≡ replicate count None → AreEach n (λ k. get_or xs k None)
+  none-each count xs is k p e = absurd (let none : get_or xs k None ≡ None = ap (λ (ys : List (Option _)). get_or ys k None) is ∙ nothing-at count k in cc)
+
+  pub more-each : (xs : List (Option (Parcel P ℕ ℕ ℕ ℕ ℕ ℕ ℕ))) (i : ℕ) (q : Parcel P ℕ ℕ ℕ ℕ ℕ ℕ ℕ) → number_in q ≡ n → i < length xs → AreEach n (λ k. get_or xs k None) → AreEach n (λ k. get_or (set xs i (Some q)) k None)
+  more-each xs i q is lt before k p e = dite (ℕ_discrete k i)
+      (λ here. let there : Some q ≡ Some p = sym (ap (λ (j : ℕ). get_or (set xs i (Some q)) j None) here ∙ get_or-set_same xs i (Some q) None lt) ∙ e in let same : p ≡ q = cc in ap number_in same ∙ is)
+      (λ else. before k p (sym (get_or-set_other xs i k (Some q) None else) ∙ e))
+
+  -- parcels that were taken are as they were
+  pub taken-each : (before taken after : ℕ → Option (Parcel P ℕ ℕ ℕ ℕ ℕ ℕ ℕ)) → ((k : ℕ) → Moved (before k) (taken k) (after k)) → AreEach n before → AreEach n taken
+  taken-each before taken after moved each k p e = each k p (subst (λ (t : Option (Parcel P ℕ ℕ ℕ ℕ ℕ ℕ ℕ)). Moved (before k) t (after k)) e (moved k)).0

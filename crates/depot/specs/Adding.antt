@@ -14,6 +14,10 @@ use Rattle.depot_rule.specs.Seats.{if_less}
 use Rattle.depot_rule.specs.Machine.{IsLocal}
 
 module _ {P : Type 0} where
+  -- each parcel is this number
+  abbrev pub AreEach : ℕ → (ℕ → Option (Parcel P ℕ ℕ ℕ ℕ ℕ ℕ ℕ)) → Type 0
+  AreEach n f = (k : ℕ) (p : _) → f k ≡ Some p → number_in p ≡ n
+
   -- the number of the call's node becomes the reply, the sum of what it was and what the call adds modulo 2^64; all others stay
   abbrev pub Adds : List ℕ → ℕ → ℕ → (ℕ → Option (Parcel P ℕ ℕ ℕ ℕ ℕ ℕ ℕ)) → ℕ → (ℕ → Option (Parcel P ℕ ℕ ℕ ℕ ℕ ℕ ℕ)) → Type 0
   Adds parents a n f sum f' = ((p q : _) × (f a ≡ Some p) × (f' a ≡ Some q) × (kind_in q ≡ kind_in p) × (number_in q ≡ sum) × ((number_in p + n) % 18446744073709551616 ≡ sum))
@@ -23,13 +27,13 @@ either-true : (b c : Bool) → b || c ≡ true → (b ≡ true) ⊎ (c ≡ true)
 either-true true c e = inl refl
 either-true false c e = inr e
 
-covers-true : (parents : List ℕ) (a k : ℕ) → covers parents a k ≡ true → Covers parents a k
+pub covers-true : (parents : List ℕ) (a k : ℕ) → covers parents a k ≡ true → Covers parents a k
 covers-true parents a k e = ⊎_elim
     (λ (here : (a == k) ≡ true). inl (eqb-true a k here))
     (λ (above : nat_lt 0 (tally a (ancestors parents k)) ≡ true). inr (ltb-true 0 (tally a (ancestors parents k)) above))
     (either-true (a == k) (nat_lt 0 (tally a (ancestors parents k))) e)
 
-if-alike : {A : Type 0} (b : Bool) (x y : A) → (b ≡ true → x ≡ y) → if_less b x y ≡ y
+pub if-alike : {A : Type 0} (b : Bool) (x y : A) → (b ≡ true → x ≡ y) → if_less b x y ≡ y
 if-alike true x y h = h refl
 if-alike false x y h = refl
 

@@ -6,6 +6,7 @@ ghost use Rattle.nfs_model.specs.Tree as trees;
 ghost use Rattle.affinity.specs.Layout.{layout_of};
 ghost use Rattle.parcels.specs.Exact.{kind_in, HasExactly};
 ghost use Rattle.parcels.specs.Sets.{serial_parcels};
+ghost use Rattle.depot.specs.Adding.{AreEach};
 
 use affinity::{Affinity, Layout};
 use depot_rule::machine::Machine;
@@ -48,14 +49,22 @@ impl Machine for Adding {
     ghost keeps = { λ parents a c f r f' hands hands' n i s w. tt };
 }
 
-/// The parcels of all nodes of a layout, each 0.
-pub fn all_zero(alloc: Global, layout: &Layout) -> Result<SerialHeld<Numbers>, AllocError>
-    ensures { IfOk result (λ held. HasExactly kind_in (layout_of layout.now) trees.Serial (serial_parcels (layout_of layout.now) trees.Serial held)) }
+/// The parcels of all nodes of a layout, each the same number.
+pub fn all_of(alloc: Global, layout: &Layout, each: u64) -> Result<SerialHeld<Numbers>, AllocError>
+    ensures exact { IfOk result (λ held. HasExactly kind_in (layout_of layout.now) trees.Serial (serial_parcels (layout_of layout.now) trees.Serial held)) }
+    ensures numbers { IfOk result (λ held. AreEach each (serial_parcels (layout_of layout.now) trees.Serial held)) }
 {
     let mut shelf = VecShelf::new(alloc, layout.node_count() + 1)?;
     for number in 1..layout.node_count() + 1 {
         let kind = layout.affinity_at(number).kind();
-        shelf.parcels[number] = Some(Numbers::parcel(kind, 0));
+        shelf.parcels[number] = Some(Numbers::parcel(kind, each));
     }
     Ok(<SerialNode as Node<Parcel<Numbers>>>::gather(&mut shelf, layout, Affinity::Serial))
+}
+
+/// The parcels of all nodes of a layout, each 0.
+pub fn all_zero(alloc: Global, layout: &Layout) -> Result<SerialHeld<Numbers>, AllocError>
+    ensures { IfOk result (λ held. HasExactly kind_in (layout_of layout.now) trees.Serial (serial_parcels (layout_of layout.now) trees.Serial held)) }
+{
+    all_of(alloc, layout, 0)
 }

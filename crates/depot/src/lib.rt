@@ -10,6 +10,7 @@ pub mod depot;
 pub mod grants;
 pub mod hold;
 pub mod laws;
+pub mod lending;
 pub mod measure;
 pub mod path;
 pub mod plays;

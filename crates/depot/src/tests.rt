@@ -1,7 +1,8 @@
 //! Grants of a depot: what excludes what, how many seats there are, and what one call leaves to the next.
 
+use crate::lending::{give, take};
 use crate::trial::{
-    Found, add, claim, close_joined, holds_beside, look, open, split, splits, tell,
+    Found, add, claim, close_joined, holds_beside, look, open, open_lent, split, splits, tell,
 };
 use affinity::Affinity;
 use parcels::{LogicalNode, RangeNode, SerialNode, StripeNode, VbnNode, VolumeNode};
@@ -81,6 +82,19 @@ fn effects(rt: HostRuntime) -> Result<(), Fail> {
     tell(&depot, &mut one, &mut other);
     assert_eq!(rt; look(&depot, &mut other, stripe(0, 2)), Some(7));
     assert_eq!(rt; look(&depot, &mut other, stripe(0, 3)), Some(0));
+    Ok(())
+}
+
+#[test]
+fn lent_tokens(rt: HostRuntime) -> Result<(), Fail> {
+    let (depot, mut seat) = open_lent(rt.alloc())?;
+    if !take(&depot, &mut seat, stripe(0, 2), 5) {
+        return Err("5 of 7 tokens weren't taken".into());
+    }
+    assert!(rt; give(&depot, &mut seat, stripe(0, 3), 5));
+    assert!(rt; !take(&depot, &mut seat, stripe(0, 2), 5));
+    assert!(rt; take(&depot, &mut seat, stripe(0, 2), 2));
+    assert!(rt; take(&depot, &mut seat, stripe(0, 3), 12));
     Ok(())
 }
 

@@ -1,14 +1,16 @@
 //! What the tests do with a depot.
 
-ghost use Rattle.std.specs.Prelude.{◌≡◌, IfOk};
+ghost use Rattle.std.specs.Prelude.{◌≡◌, IfOk, []};
 ghost use Rattle.affinity.specs.Layout.{layout_of};
 ghost use Rattle.parcels.specs.Exact.{kind_in};
 ghost use Rattle.depot.specs.Calls.{known};
 ghost use Rattle.depot.specs.Grants.{IsSeatOf};
+ghost use Rattle.depot.specs.Lending.{IsHand};
 
-use crate::adding::{Adding, Change, all_zero};
+use crate::adding::{Adding, Change, all_of, all_zero};
 use crate::depot::Depot;
 use crate::grants::{Grant, Refusal};
+use crate::lending::Lending;
 use crate::seats::Seat;
 use affinity::{Affinity, AggregateSpec, Kind, Layout, VolumeSpec};
 use parcels::{Node, Numbers, Parcel, SerialNode, StripeNode};
@@ -42,6 +44,19 @@ pub fn open(alloc: Global) -> Result<(Depot<Adding>, Seat<Adding>), Fail>
     let layout = two_volumes(alloc)?;
     let parcels = all_zero(alloc, &layout)?;
     match Depot::<Adding>::new::<SerialNode>(alloc, layout, parcels) {
+        Ok(made) => Ok(made),
+        Err(_) => Err("no memory".into()),
+    }
+}
+
+/// A depot in which each node has 7 tokens, and its first seat, with nothing in its hand.
+pub fn open_lent(alloc: Global) -> Result<(Depot<Lending>, Seat<Lending>), Fail>
+    ensures seat { IfOk result (λ made. (made.1.badge.table_id ≡ made.0.table.shared.table_id) × IsSeatOf kind_in (layout_of made.0.layout) (known made.1.badge.views)) }
+    ensures hand { IfOk result (λ made. IsHand (known made.1.badge.views) []) }
+{
+    let layout = two_volumes(alloc)?;
+    let parcels = all_of(alloc, &layout, 7)?;
+    match Depot::<Lending>::new::<SerialNode>(alloc, layout, parcels) {
         Ok(made) => Ok(made),
         Err(_) => Err("no memory".into()),
     }

@@ -1,0 +1,20 @@
+use Rattle.std.proofs.Common.{sym, subst, arith}
+use Rattle.affinity.specs.Layout.{layout_of}
+use Rattle.nfs_model.specs.Tree.{Serial}
+use Rattle.parcels.specs.Exact.{kind_in}
+use Rattle.parcels.specs.Sets.{serial_parcels}
+use Rattle.depot.specs.Calls.{known}
+use Rattle.depot.specs.Grants.{IsSeatOf}
+use Rattle.depot.proofs.Lent.{few-nodes, each-few, hand-opened}
+use Rattle.depot.proofs.trial.open_lent.Goals as goal
+
+pub new-requires-clause-invariant : goal.new-requires-clause-invariant
+new-requires-clause-invariant c =
+    each-few (layout_of c.in_ok-layout.layout) 7 (serial_parcels (layout_of c.in_ok-layout.layout) Serial c.in_ok-parcels.parcels) (few-nodes _ _ c.in_ok-layout.layout.lawful) (omega arith) c.in_ok-parcels.ensures.numbers
+
+pub returns-in-Ok-clause-seat : goal.returns-in-Ok-clause-seat
+returns-in-Ok-clause-seat c =
+    (c.in-Ok.ensures.seat.0, subst (λ l. IsSeatOf kind_in l (known c.in-Ok.made.1.badge.views)) (sym c.in-Ok.ensures.made.0) c.in-Ok.ensures.seat.2)
+
+pub returns-in-Ok-clause-hand : goal.returns-in-Ok-clause-hand
+returns-in-Ok-clause-hand c = hand-opened _ _ (known c.in-Ok.made.1.badge.views) c.in-Ok.ensures.made.1
