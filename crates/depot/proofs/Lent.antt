@@ -83,7 +83,7 @@ pub hand-fits : {P : Type 0} (layout : Layout) (a : Affinity) (v : View (Parcel 
 unfolding stripe_parcels
 hand-fits layout a v held n rest is node own seen =
     let there = number-in-tree layout a v.tree is node in
-    let now = seen.3 (number_of layout a) (number_positive layout a) there (inl refl) in
+    let now = seen.4 (number_of layout a) (number_positive layout a) there (inl refl) in
     let tokens : held.own ≡ tokens_in (after v.tree (listed v.first) seen.0 (number_of layout a)) = ap tokens_in (sym (alone-here (number_of layout a) (Stripe held.own)) ∙ now) in
     let part = sum-at (λ k. tokens_in (after v.tree (listed v.first) seen.0 k)) (number_of layout a) (length v.tree) there in
     let mine = own size in let hand = seen.1.own_hand size in let all = seen.1.together size in let few = seen.1.sound in omega arith
