@@ -185,19 +185,20 @@ module _ {P E : Type 0} where
 
   -- a claim that was refused after a look: nothing but reads was added
   pub refused-after : (v : View P E) (ps : List ℕ) (b node found : ℕ) (r : Read) (vs ws : List (View P E)) → v.path ≡ [] → vs ≡ record v { looked = 1; reads = r ∷ v.reads } ∷ [] → WasRefused ps (view_of vs) b node found ws
-      → (more : List Read) × (ws ≡ record v { looked = 1; reads = more ++ v.reads } ∷ []) × IsRead v node found more × Refuses ps b node found × (IsOnly v → IsExcluded v b)
+      → (more : List Read) × (ws ≡ record v { looked = 1; reads = more ++ v.reads } ∷ []) × IsRead v node found more × Refuses ps b node found × IsAmong r more × (IsOnly v → IsExcluded v b)
   refused-after v ps b node found r vs ws none is q =
       let t = subst (λ us. WasRefused ps (view_of us) b node found ws) is q in (
         t.0 ++ r ∷ [],
         t.1 ∙ ap (λ (x : List ℕ × List Read). let z : View P E = record v { looked = 1; path = x.0; reads = x.1 } in z ∷ []) (λ i. (sym none i, sym (append_assoc t.0 (r ∷ []) v.reads) i)),
         (t.2.0, at_longer t.0 (r ∷ []) t.2.0 (record { word = node; value = found; shares = grant_shares node v }) t.2.1),
         t.3,
+        among-later r t.0 (r ∷ []) (0, refl),
         t.4,
       )
 
-  pub busy-so : (layout : Layout) (v : View P E) (ps : List ℕ) (b node found k c : ℕ) (ws : List (View P E)) (views : List (List (View P E))) → ps ≡ parents layout → b ≡ k → c ≡ node → views ≡ ws ∷ []
-      → (more : List Read) × (ws ≡ record v { looked = 1; reads = more ++ v.reads } ∷ []) × IsRead v node found more × Refuses ps b node found × (IsOnly v → IsExcluded v b)
+  pub busy-so : (layout : Layout) (v : View P E) (ps : List ℕ) (b node found k c : ℕ) (ws : List (View P E)) (views : List (List (View P E))) (ticket : ℕ) → ticket < worn → ps ≡ parents layout → b ≡ k → c ≡ node → views ≡ ws ∷ []
+      → (more : List Read) × (ws ≡ record v { looked = 1; reads = more ++ v.reads } ∷ []) × IsRead v node found more × Refuses ps b node found × IsAmong (record { word = 0; value = ticket; shares = 0 }) more × (IsOnly v → IsExcluded v b)
       → IsBusy (parents layout) v k c found (known views)
-  busy-so layout v ps b node found k c ws views parent number at is q =
+  busy-so layout v ps b node found k c ws views ticket low parent number at is q =
       subst (λ (x : List ℕ × ℕ × ℕ). IsBusy x.0 v x.1 x.2 found (known views)) (λ i. (parent i, number i, sym at i))
-      (q.0, ap known is ∙ ap view_of q.1, q.2, q.3, q.4)
+      (q.0, ap known is ∙ ap view_of q.1, q.2, q.3, (ticket, low, q.4), q.5)

@@ -59,13 +59,13 @@ module _ {P E : Type 0} where
   abbrev pub IsEnded : View P E → ℕ → View P E → Type 0
   IsEnded v b w = (gone : List ℕ) × (more : List Read) × (w ≡ record v { stamped = 0; held = slice_set v.held b None; gone = gone; reads = more ++ v.reads })
 
-  -- nothing but reads was added, and whether the ticket was low enough for a call
+  -- nothing but reads was added, and `looked` is this
   abbrev pub HasRead : View P E → ℕ → List Read → View P E → Type 0
   HasRead v looked more w = w ≡ record v { looked = looked; reads = more ++ v.reads }
 
-  -- b was refused by the word of a node, which this call read: the seat then had no share in it but for its grants. If it is the only seat, a grant of its own excludes b
+  -- b was refused by the word of a node, which this call read: the seat then had no share in it but for its grants. The ticket was below 2^62. If it is the only seat, a grant of its own excludes b
   abbrev pub IsBusy : List ℕ → View P E → ℕ → ℕ → ℕ → View P E → Type 0
-  IsBusy tree v b node word w = (more : List Read) × HasRead v 1 more w × IsRead v node word more × Refuses tree b node word × (IsOnly v → IsExcluded v b)
+  IsBusy tree v b node word w = (more : List Read) × HasRead v 1 more w × IsRead v node word more × Refuses tree b node word × HasLooked (λ ticket. ticket < worn) more × (IsOnly v → IsExcluded v b)
 
   -- the ticket was read at 2^62 or more. If it is the only seat, it made as many entries
   abbrev pub IsWorn : View P E → View P E → Type 0

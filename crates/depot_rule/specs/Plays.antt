@@ -45,7 +45,7 @@ module _ {P E : Type 0} where
   abbrev pub LeaveSays : Step (Option P) → Place P E → ℕ → Place P E → Type 0
   LeaveSays st me found me' = Goes (λ v vs. vs ≡ record v { path = drop 1 v.path; reads = noted st found v } ∷ []) me me'
 
-  -- fetch_sub of 2^32: the grant ends, which no other grant of the seat excluded, and its shares are to be left
+  -- fetch_sub of 2^32: the grant ends, which no other grant of the seat excluded, no grant is stamped any more, and its shares are to be left
   abbrev pub ReleaseSays : Step (Option P) → Place P E → ℕ → Place P E → Type 0
   ReleaseSays st me found me' = Goes (λ v vs. (vs ≡ record v { stamped = 0; path = ancestors v.tree st.word; held = slice_set v.held st.word None; reads = noted st found v } ∷ [])
       × ((c : ℕ) (h : List (Option P)) → Has v c h → Excludes v.tree st.word c → c ≡ st.word)) me me'
@@ -99,7 +99,7 @@ module _ {P E : Type 0} where
   with_entry v between e = record v { seen = (v.seen ++ between) ++ e ∷ []; mine = v.mine ++ length (v.seen ++ between) ∷ [] }
 
 module _ {P C R B : Type 0} where
-  -- compare_exchange of 0 by 2^32: where 0 was found there is a grant, with a parcel for each node that it covers, none of them taken, each as a sound history left it, and the shares entered are the grant's. For the only seat that history is what it has seen
+  -- compare_exchange of 0 by 2^32: where 0 was found there is a grant, with a parcel for each node that it covers, none of them taken, each as a sound history left it, and the shares entered are the grant's. For the only seat that history is what it has seen. The look is used up. Where another number was found nothing changes
   abbrev pub ClaimSays : (P → Kind) → Behaviour P C R B → Step (Option P) → Place P (Entry P C R) → ℕ → Place P (Entry P C R) → Type 0
   ClaimSays kind_of m st me found me' = Goes (λ v vs.
       (found ≡ 0 → (g : List (Option P))

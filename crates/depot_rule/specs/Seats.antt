@@ -54,7 +54,7 @@ module _ {P E : Type 0} where
   fresh_of [] = []
   fresh_of (v ∷ vs) = fresh v ∷ []
 
-  -- two views between calls as one
+  -- two views between calls as one. A right to an entry is dropped; the second has nothing entered, out or stamped
   abbrev pub merge : View P E → View P E → View P E
   merge v w = record v { parts = v.parts + w.parts; looked = 0; held = both_held v.held w.held; gone = v.gone ++ w.gone; reads = v.reads ++ w.reads; seen = longer v.seen w.seen; mine = in_order v.mine w.mine }
 

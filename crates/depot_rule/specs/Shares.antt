@@ -18,6 +18,10 @@ worn = 4611686018427387904
 abbrev pub too_many : ℕ
 too_many = 9223372036854775808
 
+-- more rights to an entry than all seats have: a view has one for its look and one for each of at most 1,024 grants, and there are at most 64 views
+abbrev pub most_rights : ℕ
+most_rights = 128000
+
 -- Q holds of each view of each seat
 abbrev pub Each : {V : Type 0} → (V → Type 0) → List (List V) → Type 0
 Each Q views = (j : ℕ) (vs : List _) → get_elem? views j ≡ some vs → (i : ℕ) (v : _) → get_elem? vs i ≡ some v → Q v
@@ -69,7 +73,7 @@ module _ {P E : Type 0} where
   abbrev pub shares : ℕ → View P E → ℕ
   shares a v = (entered a v + one_if (v.unsure == a)) + exclusive * claims a v
 
-  -- of one view: it has a part, knows the tree, has a place for each node, entered no word twice, and looked for one call
+  -- of one view: it has a part, knows the tree, has a place for each node, entered no word twice, and looked for one call at most
   pub record IsSound (parents : List ℕ) (v : View P E) : Type 0 where
     pub some_part : 0 < v.parts
     pub tree : v.tree ≡ parents
@@ -85,9 +89,9 @@ module _ {P E : Type 0} where
     -- the splits of all seats, and the seats
     pub seats : total (total parts) views ≡ 64
     pub counted : (a : ℕ) → 0 < a → a < length parents → slice_index words a ≡ total (total (shares a)) views
-    -- the ticket counts the entries of all views. What is made and what may be made is little more than 2^62: 64 parts have at most 2,000 rights each, and a grant that was stamped has used its own
+    -- the ticket counts the entries of all views. What is made and what may be made is little more than 2^62; a grant that was stamped has used up its right
     pub ticket : slice_index words 0 ≡ total (total made) views
-    pub bounded : total (total due) views ≤ (worn + 128000) + total (total unsettled) views
+    pub bounded : total (total due) views ≤ (worn + most_rights) + total (total unsettled) views
     -- a node that is claimed is claimed once, and no share in it was found free
     pub alone : (a : ℕ) → 0 < a → a < length parents → 0 < total (total (claims a)) views → (total (total (claims a)) views ≡ 1) × (total (total (entered a)) views ≡ 0)
     pub sound : Each (IsSound parents) views

@@ -28,13 +28,13 @@ pub struct View<P, E> {
     pub tree: LinkedList<u64>,
     /// A word that was entered and found exclusive and has to be left again, or 0.
     pub unsure: u64,
-    /// 1 where the ticket was read below 2^62 for the call that begins, or 0.
+    /// 1 where the ticket was read below 2^62 and no claim has used that up, or 0.
     pub looked: u64,
     /// The node whose grant was stamped and not yet given up, or 0.
     pub stamped: u64,
     /// The words that were entered for the call that runs, the last one first.
     pub path: LinkedList<u64>,
-    /// By node, what was granted there.
+    /// By node, what was granted there, and after a stamp what the call left.
     pub held: LinkedList<Option<Granted<P>>>,
     /// The node whose slot is out with the seat, or 0.
     pub out: u64,

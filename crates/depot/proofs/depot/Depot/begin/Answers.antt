@@ -226,5 +226,5 @@ returns-in-Err-clause-refused g c =
     let parent : c.deref.result.now ≡ numbers.parents L = search rules in (
       c.affinity_at.ensures.node,
       busy-so L K c.deref.result.now c.number_of-node.result c.in-Err.busy.node c.in-Err.busy.word (numbers.number_of L (affinity_of c.args.affinity)) (numbers.number_of L (affinity_of c.affinity_at.result))
-          c.try_claim.new.place.me.0 c.into_badge-in-Err.result.views parent c.number_of-node.ensures.number c.affinity_at.ensures.number badge q,
+          c.try_claim.new.place.me.0 c.into_badge-in-Err.result.views c.load-ticket.result low parent c.number_of-node.ensures.number c.affinity_at.ensures.number badge q,
     )
