@@ -9,7 +9,7 @@ use Rattle.nfs_model.specs.World as worlds
 use Rattle.nfs_model.specs.Serial.Step.{Step, serve, serial, stay}
 use Rattle.nfs_model.specs.Serial.AtOnce.{answer_without_home}
 use Rattle.nfs_model.specs.Events.Feed.{admit}
-use Rattle.nfs_model.proofs.AtOnce.{without_home_stays}
+use Rattle.nfs_laws.proofs.AtOnce.{without_home_stays}
 use Rattle.nfs_values.specs.declared.call.Call.{Call}
 use Rattle.nfs_values.specs.declared.credential.Credential.{Credential}
 use Rattle.nfs_values.specs.Call.{call_of}

@@ -5,9 +5,9 @@ use Rattle.nfs_model.specs.World.{Setup, World}
 use Rattle.nfs_model.specs.Events.Refusals.{Event, Done}
 use Rattle.nfs_model.specs.Events.Step.{Events, Runs}
 use Rattle.nfs_model.specs.Headline.{Headline, opening_world}
-use Rattle.nfs_model.proofs.Opening.{opening_headline}
-use Rattle.nfs_model.proofs.Kept.{keeps}
-use Rattle.nfs_model.proofs.Unchanged.{read_only_agrees}
+use Rattle.nfs_laws.proofs.Opening.{opening_headline}
+use Rattle.nfs_laws.proofs.Kept.{keeps}
+use Rattle.nfs_laws.proofs.Unchanged.{read_only_agrees}
 use Rattle.filer.specs.Engine.{one_if_refused, RunsRefusing}
 use Rattle.filer.specs.Streams.{setup_of}
 use Rattle.filer.specs.declared.engine.state.State.{State}

@@ -4,7 +4,7 @@ ghost use Rattle.std.specs.Prelude.{◌≡◌, List, ℕ};
 ghost use Rattle.nfs_model.specs.Types as types;
 ghost use Rattle.nfs_model.specs.Tree as trees;
 ghost use Rattle.nfs_model.specs.Home.{home};
-ghost use Rattle.nfs_model.specs.ReadOnly.{IsReading};
+ghost use Rattle.nfs_laws.specs.ReadOnly.{IsReading};
 ghost use Rattle.nfs_model.specs.Serial.AtOnce.{answer_without_home};
 ghost use Rattle.nfs_model.specs.Shown.{shown};
 ghost use Rattle.nfs_values.specs.Attributes.{shown_of};

@@ -11,9 +11,9 @@ use Rattle.nfs_model.specs.Events.Blocks.{batch, lowest_batch, fresh_hand, dead_
 use Rattle.nfs_model.specs.Events.Refusals.{Done}
 use Rattle.nfs_model.specs.Events.Step.{stamped, in_hand, Puts}
 use Rattle.nfs_model.specs.Headline.{Headline, messages, tally_finished, tally_messages, server_worked, IsOwnMessage, IsOutcome, IsTried, IsPartition, Apart, one_if, times_listed, places}
-use Rattle.nfs_model.proofs.Lists.{Some_same, slice_get-changed_at, slice_get-changed_elsewhere}
-use Rattle.nfs_model.proofs.Counting.{times_listed-append, batch_within, lowest_within, batch_leaves, batch_comes}
-use Rattle.nfs_model.proofs.Needs.{done}
+use Rattle.nfs_laws.proofs.Lists.{Some_same, slice_get-changed_at, slice_get-changed_elsewhere}
+use Rattle.nfs_laws.proofs.Counting.{times_listed-append, batch_within, lowest_within, batch_leaves, batch_comes}
+use Rattle.nfs_laws.proofs.Needs.{done}
 
 -- ---- one hand among the others
 

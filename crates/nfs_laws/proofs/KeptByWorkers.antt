@@ -12,12 +12,12 @@ use Rattle.nfs_model.specs.Events.Refusals.{is_busy}
 use Rattle.nfs_model.specs.Events.Work.{Works}
 use Rattle.nfs_model.specs.Events.Step.{with_outcome, entry_of, without_call, stamped, finished_by}
 use Rattle.nfs_model.specs.Headline.{Headline, start, served, messages, tally_finished, tally_messages, server_worked, worked_by, IsOwnEntry, IsOwnMessage, IsOutcome, IsTried, IsPartition, Apart}
-use Rattle.nfs_model.proofs.Lists.{All-get, All-remove, All-push, All-between, All-without, All-there}
-use Rattle.nfs_model.proofs.Written.{AreLawful-push, server_after-push, replies_finish, until_finish, written_stream}
-use Rattle.nfs_model.proofs.Own.{later_changed, entries_later, messages_later, heard_later, own_of_heard}
-use Rattle.nfs_model.proofs.Once.{total_in, once_changed, tally_finished-append, tally_messages-append, tally_messages-remove}
-use Rattle.nfs_model.proofs.Slots.{Slot, slot, messages-between, tried-append, tally-between, messages_between, messages_without, messages_there, server_worked-between, Apart-between, Apart-without}
-use Rattle.nfs_model.proofs.Needs.{done, IsWorked, IsFinished, IsAgreed}
+use Rattle.nfs_laws.proofs.Lists.{All-get, All-remove, All-push, All-between, All-without, All-there}
+use Rattle.nfs_laws.proofs.Written.{AreLawful-push, server_after-push, replies_finish, until_finish, written_stream}
+use Rattle.nfs_laws.proofs.Own.{later_changed, entries_later, messages_later, heard_later, own_of_heard}
+use Rattle.nfs_laws.proofs.Once.{total_in, once_changed, tally_finished-append, tally_messages-append, tally_messages-remove}
+use Rattle.nfs_laws.proofs.Slots.{Slot, slot, messages-between, tried-append, tally-between, messages_between, messages_without, messages_there, server_worked-between, Apart-between, Apart-without}
+use Rattle.nfs_laws.proofs.Needs.{done, IsWorked, IsFinished, IsAgreed}
 
 -- a worker's call changes, its hand doesn't
 module _ (setup : Setup) (w : World) (i : ℕ) (k : Worker) (s : Slot w.workers i k) where

@@ -14,7 +14,7 @@ use Rattle.nfs_model.specs.Home.{home_of_asked}
 use Rattle.nfs_model.specs.Replay.{Entry, step_of, server_after}
 use Rattle.nfs_model.specs.World.{Setup, Running, Outcome, Replied, Starved, Moved}
 use Rattle.nfs_model.specs.Headline.{start, worked_by, server_worked}
-use Rattle.nfs_model.proofs.AtOnce.{without_home_stays}
+use Rattle.nfs_laws.proofs.AtOnce.{without_home_stays}
 
 abbrev pub volumes_in : Server → ℕ
 volumes_in server = length server.volumes

@@ -14,11 +14,11 @@ use Rattle.nfs_model.specs.World.{Heard, Setup, World, Connection, Message, IsSc
 use Rattle.nfs_model.specs.Events.Refusals.{takes_input}
 use Rattle.nfs_model.specs.Events.Feed.{Reached, Further, Complete, Fault, reached_at, reached_by, stream_in, stream_of, served_count, reached, with_byte, byte_taken, entry_at_once, entry_undecoded, admit, heard_in, MayStarveIf, Takes, TakesFault, Feeds}
 use Rattle.nfs_model.specs.Headline.{Headline, start, served, messages, tally_finished, one_if, server_worked, IsHeard, IsOwnEntry, IsOwnMessage, IsOutcome, IsTried}
-use Rattle.nfs_model.proofs.Lists.{All-push, Some_same, none_is, slice_get-append, slice_get_next, slice_get-changed_at}
-use Rattle.nfs_model.proofs.Written.{AreLawful-push, server_after-push, replies_finish, until_finish, replies_changed, until_changed, written_stream, written_closed}
-use Rattle.nfs_model.proofs.Own.{IsLater, later_changed, later_then, own_later, own_of_heard, entries_later, messages_later}
-use Rattle.nfs_model.proofs.Once.{total_in, once_changed, once_heard, tally_finished-append, tally_messages-append}
-use Rattle.nfs_model.proofs.Needs.{done, IsAtOnce, at_once}
+use Rattle.nfs_laws.proofs.Lists.{All-push, Some_same, none_is, slice_get-append, slice_get_next, slice_get-changed_at}
+use Rattle.nfs_laws.proofs.Written.{AreLawful-push, server_after-push, replies_finish, until_finish, replies_changed, until_changed, written_stream, written_closed}
+use Rattle.nfs_laws.proofs.Own.{IsLater, later_changed, later_then, own_later, own_of_heard, entries_later, messages_later}
+use Rattle.nfs_laws.proofs.Once.{total_in, once_changed, once_heard, tally_finished-append, tally_messages-append}
+use Rattle.nfs_laws.proofs.Needs.{done, IsAtOnce, at_once}
 
 -- ---- what one byte does to a stream
 

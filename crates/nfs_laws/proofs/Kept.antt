@@ -6,12 +6,12 @@ use Rattle.nfs_model.specs.World.{Setup, World, Message, Running, Worker, Hand, 
 use Rattle.nfs_model.specs.Events.Refusals.{Event, Open, Feed, Close, Begin, Work, Finish, Fetch, Cull, PutDown, Survey, Done, is_open, is_idle, is_busy, is_bad_moment, takes_input, begin_refusal, work_refusal, running_of, excluded, fetch_refusal, has_empty_hand, is_empty_hand, refusal}
 use Rattle.nfs_model.specs.Events.Step.{Happens, Events, Runs}
 use Rattle.nfs_model.specs.Headline.{Headline}
-use Rattle.nfs_model.proofs.Lists.{none_is}
-use Rattle.nfs_model.proofs.Needs.{IsAgreed}
-use Rattle.nfs_model.proofs.KeptByConnections.{keeps_open, keeps_close, open_is}
-use Rattle.nfs_model.proofs.KeptByFeed.{keeps_feed}
-use Rattle.nfs_model.proofs.KeptByBlocks.{keeps_fetch, keeps_cull, keeps_put, keeps_survey}
-use Rattle.nfs_model.proofs.KeptByWorkers.{keeps_begin, keeps_work, keeps_finish}
+use Rattle.nfs_laws.proofs.Lists.{none_is}
+use Rattle.nfs_laws.proofs.Needs.{IsAgreed}
+use Rattle.nfs_laws.proofs.KeptByConnections.{keeps_open, keeps_close, open_is}
+use Rattle.nfs_laws.proofs.KeptByFeed.{keeps_feed}
+use Rattle.nfs_laws.proofs.KeptByBlocks.{keeps_fetch, keeps_cull, keeps_put, keeps_survey}
+use Rattle.nfs_laws.proofs.KeptByWorkers.{keeps_begin, keeps_work, keeps_finish}
 
 -- ---- what isn't refused
 

@@ -7,7 +7,7 @@ use Rattle.nfs_model.specs.Types.{Asked, Ask, Refused, Undecoded}
 use Rattle.nfs_model.specs.Replay.{Entry}
 use Rattle.nfs_model.specs.World.{Heard, Setup, World, Connection, Message, IsScan, IsDecoded, changed_at}
 use Rattle.nfs_model.specs.Headline.{served, IsHeard, IsOwn, IsOwnEntry, IsOwnMessage}
-use Rattle.nfs_model.proofs.Lists.{All-weaker, All-get, slice_get-append, slice_get_below, slice_get-changed_at, slice_get-changed_elsewhere}
+use Rattle.nfs_laws.proofs.Lists.{All-weaker, All-get, slice_get-append, slice_get_below, slice_get-changed_at, slice_get-changed_elsewhere}
 
 -- each connection is there still, with the records that it had
 abbrev pub IsLater : Setup → List Connection → List Connection → Type 0

@@ -9,7 +9,7 @@ use Rattle.nfs_model.specs.Tree.{Affinity, Layout, excludes, begins, path}
 use Rattle.nfs_model.specs.Server.{Server}
 use Rattle.nfs_model.specs.World.{Message, Running, Worker, with_held, all_running, tried, hand_blocks, hands_blocks, with_running, changed_at}
 use Rattle.nfs_model.specs.Headline.{Apart, server_worked, worked_by, messages, tally_messages}
-use Rattle.nfs_model.proofs.Lists.{Some_same}
+use Rattle.nfs_laws.proofs.Lists.{Some_same}
 
 -- ---- one worker among the others
 

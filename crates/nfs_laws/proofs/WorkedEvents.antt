@@ -13,8 +13,8 @@ use Rattle.nfs_model.specs.World.{Setup, World, Message, Replied, Worker, Empty,
 use Rattle.nfs_model.specs.Events.Refusals.{Open, Feed, Begin, Work, Finish, Opened, Fed, Granted, HasReply, Written, refusal}
 use Rattle.nfs_model.specs.Events.Step.{Events, new_connection}
 use Rattle.nfs_model.specs.Headline.{opening_world, opening_parts}
-use Rattle.nfs_model.proofs.Evaluate.{evaluate}
-use Rattle.nfs_model.proofs.Toy.{nobody, asked_by, toy}
+use Rattle.nfs_laws.proofs.Evaluate.{evaluate}
+use Rattle.nfs_laws.proofs.Toy.{nobody, asked_by, toy}
 
 abbrev layout : Layout
 layout = record { spare = 1 ∷ []; volumes = record { aggregate = 0; ranges = 1; stripes = 8; mebibytes = 16 } ∷ [] }

@@ -9,7 +9,7 @@ use Rattle.nfs_model.specs.Server as servers
 use Rattle.nfs_model.specs.World.{Setup, Worker, Empty, Parts, all_running, hands_blocks, tried}
 use Rattle.nfs_model.specs.Headline.{Headline, IsPartition, one_if, opening_parts, opening_world, IsOwnMessage, IsTried, IsOutcome, Apart, messages, server_worked, start}
 use Rattle.std.specs.List.{AllByRecursion}
-use Rattle.nfs_model.proofs.Evaluate.{contains_empty, set_len_empty, entries_sorted_list}
+use Rattle.nfs_laws.proofs.Evaluate.{contains_empty, set_len_empty, entries_sorted_list}
 
 pub any_range : (k a n : ℕ) → list_any (λ y. nat_eq y n) (range_with_len a k) ≡ (nat_le a n && nat_lt n (a + k))
 any_range zero a n = grind (arith, nat_tests)

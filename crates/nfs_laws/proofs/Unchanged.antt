@@ -19,10 +19,10 @@ use Rattle.nfs_model.specs.World.{Heard, Setup, World, Running, Outcome, Replied
 use Rattle.nfs_model.specs.Events.Work.{Works, PartsAt, PartsAfter, changed_volume, move_of}
 use Rattle.nfs_model.specs.Events.Step.{entry_of}
 use Rattle.nfs_model.specs.Headline.{Headline, start, served, messages, worked_by, server_worked, IsHeard, IsOwn, IsOwnEntry, IsOwnMessage, IsOutcome, IsPartition}
-use Rattle.nfs_model.specs.ReadOnly.{IsReading, AsksReading, IsReadOnly}
-use Rattle.nfs_model.proofs.Lists.{All-weaker, All-get, All-between, All-without, All-there}
-use Rattle.nfs_model.proofs.Written.{server_after-push}
-use Rattle.nfs_model.proofs.Needs.{done, IsWorked, IsFinished, IsAgreed}
+use Rattle.nfs_laws.specs.ReadOnly.{IsReading, AsksReading, IsReadOnly}
+use Rattle.nfs_laws.proofs.Lists.{All-weaker, All-get, All-between, All-without, All-there}
+use Rattle.nfs_laws.proofs.Written.{server_after-push}
+use Rattle.nfs_laws.proofs.Needs.{done, IsWorked, IsFinished, IsAgreed}
 
 -- ---- one call
 

@@ -7,10 +7,10 @@ use Rattle.nfs_model.specs.World.{Setup, World, Connection, IsScan, all_running,
 use Rattle.nfs_model.specs.Events.Refusals.{is_open}
 use Rattle.nfs_model.specs.Events.Step.{new_connection, with_closed}
 use Rattle.nfs_model.specs.Headline.{Headline, start, replies, up_to, messages}
-use Rattle.nfs_model.proofs.Lists.{pushed_all, changed_all, Some_same, none_is}
-use Rattle.nfs_model.proofs.Written.{replies_none}
-use Rattle.nfs_model.proofs.Own.{later_pushed, later_changed, entries_later, messages_later, entries_elsewhere, messages_elsewhere}
-use Rattle.nfs_model.proofs.Once.{total_in, once_pushed, once_changed, tally_finished_none, tally_messages_none}
+use Rattle.nfs_laws.proofs.Lists.{pushed_all, changed_all, Some_same, none_is}
+use Rattle.nfs_laws.proofs.Written.{replies_none}
+use Rattle.nfs_laws.proofs.Own.{later_pushed, later_changed, entries_later, messages_later, entries_elsewhere, messages_elsewhere}
+use Rattle.nfs_laws.proofs.Once.{total_in, once_pushed, once_changed, tally_finished_none, tally_messages_none}
 
 -- a connection is opened
 pub keeps_open : (setup : Setup) (w : World) → IsScan setup.codec → Headline setup w → Headline setup (record w { connections = w.connections ++ new_connection ∷ [] })

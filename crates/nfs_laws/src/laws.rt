@@ -11,7 +11,7 @@ ghost use Rattle.nfs_model.specs.World.{Setup, World, IsScan};
 ghost use Rattle.nfs_model.specs.Events.Refusals.{Event, Done};
 ghost use Rattle.nfs_model.specs.Events.Step.{Events, Runs};
 ghost use Rattle.nfs_model.specs.Headline.{Headline, opening_world};
-ghost use Rattle.nfs_model.specs.ReadOnly.{IsReadOnly};
+ghost use Rattle.nfs_laws.specs.ReadOnly.{IsReadOnly};
 
 /// A run begins within the headline.
 pub fn opening_meets_headline()

@@ -12,7 +12,7 @@ use Rattle.nfs_model.specs.World.{Setup, World, Running, Outcome, Replied, Parts
 use Rattle.nfs_model.specs.Events.Work.{Works}
 use Rattle.nfs_model.specs.Events.Step.{entry_of}
 use Rattle.nfs_model.specs.Headline.{Headline, start, server_worked, IsOutcome, IsPartition}
-use Rattle.nfs_model.proofs.Volumes.{volumes_in, start_counts, after_counts, all_worked_count, at_once_same, at_once_stays}
+use Rattle.nfs_laws.proofs.Volumes.{volumes_in, start_counts, after_counts, all_worked_count, at_once_same, at_once_stays}
 
 -- the server after the finished calls
 abbrev pub done : Setup → World → Server

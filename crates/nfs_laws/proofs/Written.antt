@@ -9,7 +9,7 @@ use Rattle.nfs_model.specs.Server.{Server}
 use Rattle.nfs_model.specs.Replay.{Entry, step_of, server_after, IsLawful, AreLawful}
 use Rattle.nfs_model.specs.World.{Codec, Setup, Connection, changed_at, written_to, with_output}
 use Rattle.nfs_model.specs.Headline.{replies, up_to, start}
-use Rattle.nfs_model.proofs.Lists.{changed_all}
+use Rattle.nfs_laws.proofs.Lists.{changed_all}
 
 -- ---- one more entry
 

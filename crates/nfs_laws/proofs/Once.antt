@@ -7,7 +7,7 @@ use Rattle.std.proofs.lemmas.Bool.Decides.{nat_tests}
 use Rattle.nfs_model.specs.Replay.{Entry}
 use Rattle.nfs_model.specs.World.{Heard, Setup, World, Connection, Message, all_running, changed_at}
 use Rattle.nfs_model.specs.Headline.{served, messages, one_if, tally_finished, tally_messages}
-use Rattle.nfs_model.proofs.Lists.{changed_all, pushed_all, Some_same}
+use Rattle.nfs_laws.proofs.Lists.{changed_all, pushed_all, Some_same}
 
 -- ---- counts of lists
 
