@@ -4,12 +4,11 @@ ghost use Rattle.std.specs.Prelude.{◌≡◌, ◌==◌, ◌||◌, ◌+◌, ◌-
 ghost use Rattle.nfs_model.specs.Server.{handle_of};
 ghost use Rattle.nfs_model.specs.Home.{home, home_of_bytes, home_of_volume, logical_of, named_by, span_bytes, stripe_of_span, volume_of};
 ghost use Rattle.nfs_values.specs.Call.{call_of};
-ghost use Rattle.affinity.specs.Affinity.{affinity_of};
-ghost use Rattle.affinity.specs.Layout.{layout_of};
-ghost use Rattle.affinity.specs.Tree.{IsNode};
+ghost use Rattle.affinity_tree.specs.Affinity.{affinity_of};
+ghost use Rattle.affinity_tree.specs.Layout.{layout_of};
+ghost use Rattle.affinity_tree.specs.Tree.{IsNode};
 
-use crate::affinity::Affinity;
-use crate::layout::Layout;
+use affinity_tree::{Affinity, Layout};
 use byteorder::{BigEndian, ByteOrder};
 use nfs_values::{Call, FileHandle};
 

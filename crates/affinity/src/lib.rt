@@ -1,23 +1,8 @@
-//! The tree of affinities: what a call runs on, which affinities exclude each other, the layouts
-//! that a run may have, and where each call is at home.
+//! The home of a call: the affinity that it tries first, by what its handle names.
 #![tactic(auto)]
 
-mod affinity;
-mod fault;
 mod home;
-pub mod laws;
-mod layout;
-mod nodes;
-mod printed;
-mod rules;
-mod specification;
 #[cfg(test)]
 mod tests;
-mod tree;
 
-pub use affinity::{Affinity, HasKind, Kind};
-pub use fault::LayoutFault;
 pub use home::{home_of, named_by};
-pub use layout::Layout;
-pub use rules::{MOST_AGGREGATES, MOST_RANGES, MOST_SPARE, MOST_VOLUMES};
-pub use specification::{AggregateSpec, VolumeSpec};

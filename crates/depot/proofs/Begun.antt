@@ -6,15 +6,15 @@ use native.Mathlib.Decide.{ℕ_discrete}
 use lib.ListN.{get_elem?}
 use Rattle.atomic_table.proofs.Lists.{at_set, set_here, at_longer}
 use Rattle.nfs_model.specs.Tree.{Layout, Affinity}
-use Rattle.affinity.specs.declared.affinity.Kind.{Kind}
-use Rattle.affinity.specs.Affinity.{kind_of}
-use Rattle.affinity.specs.Fault.{fault_of}
-use Rattle.affinity.specs.Tree.{IsNode}
-use Rattle.affinity.specs.Under.{IsUnder}
-use Rattle.affinity.specs.Numbers.{number_of, node_count, parents}
-use Rattle.affinity.proofs.Smaller.{length-parents}
-use Rattle.parcels.specs.Exact.{HasExactly}
-use Rattle.parcels.specs.Moved as moving
+use Rattle.affinity_tree.specs.declared.affinity.Kind.{Kind}
+use Rattle.affinity_tree.specs.Affinity.{kind_of}
+use Rattle.affinity_tree.specs.Fault.{fault_of}
+use Rattle.affinity_tree.specs.Tree.{IsNode}
+use Rattle.affinity_tree.specs.Under.{IsUnder}
+use Rattle.affinity_tree.specs.Numbers.{number_of, node_count, parents}
+use Rattle.affinity_tree.proofs.Smaller.{length-parents}
+use Rattle.parcel_sets.specs.Exact.{HasExactly}
+use Rattle.parcel_sets.specs.Moved as moving
 use Rattle.depot_rule.specs.declared.view.View.{View}
 use Rattle.depot_rule.specs.declared.view.Read.{Read}
 use Rattle.depot_rule.specs.Sums.{tally}

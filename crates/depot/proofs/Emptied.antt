@@ -7,12 +7,12 @@ use mathlib.Core.Option.{some, some-injective, some-ne-none}
 use lib.ListN.{get_elem?}
 use Rattle.atomic_table.proofs.Lists.{at_set, set_here, set_else}
 use Rattle.nfs_model.specs.Tree.{Layout, Affinity, Serial, Aggregate, Volume, Logical, Stripe, Vbn, Range}
-use Rattle.affinity.specs.declared.affinity.Kind.{Kind}
-use Rattle.affinity.specs.Numbers.{number_of, parents}
-use Rattle.affinity.specs.Tree.{IsNode}
-use Rattle.affinity.specs.Under.{IsUnder}
-use Rattle.parcels.specs.Exact.{Under, HasExactly, IsPlaced}
-use Rattle.parcels.specs.Moved.{Moved}
+use Rattle.affinity_tree.specs.declared.affinity.Kind.{Kind}
+use Rattle.affinity_tree.specs.Numbers.{number_of, parents}
+use Rattle.affinity_tree.specs.Tree.{IsNode}
+use Rattle.affinity_tree.specs.Under.{IsUnder}
+use Rattle.parcel_sets.specs.Exact.{Under, HasExactly, IsPlaced}
+use Rattle.parcel_sets.specs.Moved.{Moved}
 use Rattle.depot.specs.Closed.{value_of, if_filled, left_at}
 use Rattle.depot.specs.Kinds.{AreOfKind}
 use Rattle.depot.proofs.Layouts.{place-node, under-place}

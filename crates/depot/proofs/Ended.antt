@@ -7,13 +7,13 @@ use native.Mathlib.Decide.{ℕ_discrete, dec_lt}
 use lib.ListN.{get_elem?}
 use Rattle.atomic_table.proofs.Lists.{at_set, set_here}
 use Rattle.nfs_model.specs.Tree.{Layout, Affinity}
-use Rattle.affinity.specs.declared.affinity.Kind.{Kind}
-use Rattle.affinity.specs.Fault.{fault_of}
-use Rattle.affinity.specs.Tree.{IsNode}
-use Rattle.affinity.specs.Under.{IsUnder}
-use Rattle.affinity.specs.Numbers.{number_of, node_count, parents}
-use Rattle.affinity.proofs.Smaller.{length-parents}
-use Rattle.parcels.specs.Exact.{Under, HasExactly}
+use Rattle.affinity_tree.specs.declared.affinity.Kind.{Kind}
+use Rattle.affinity_tree.specs.Fault.{fault_of}
+use Rattle.affinity_tree.specs.Tree.{IsNode}
+use Rattle.affinity_tree.specs.Under.{IsUnder}
+use Rattle.affinity_tree.specs.Numbers.{number_of, node_count, parents}
+use Rattle.affinity_tree.proofs.Smaller.{length-parents}
+use Rattle.parcel_sets.specs.Exact.{Under, HasExactly}
 use Rattle.depot_rule.specs.declared.view.View.{View}
 use Rattle.depot_rule.specs.declared.view.Read.{Read}
 use Rattle.depot_rule.specs.Sums.{tally}

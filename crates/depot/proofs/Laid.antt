@@ -3,10 +3,10 @@ use Rattle.std.proofs.Common.{◌≡◌, ℕ, zero, suc, ◌+◌, ◌<◌, ◌�
 use Rattle.std.proofs.lemmas.List.{ext_get_or, length-replicate}
 use Rattle.std.proofs.lemmas.Bool.{cases_lt}
 use Rattle.nfs_model.specs.Tree.{Layout, Serial}
-use Rattle.affinity.specs.declared.affinity.Kind.{Kind}
-use Rattle.affinity.specs.Numbers.{number_of, parents}
-use Rattle.parcels.specs.Exact.{Under, HasExactly, IsPlaced}
-use Rattle.parcels.specs.Moved.{Moved}
+use Rattle.affinity_tree.specs.declared.affinity.Kind.{Kind}
+use Rattle.affinity_tree.specs.Numbers.{number_of, parents}
+use Rattle.parcel_sets.specs.Exact.{Under, HasExactly, IsPlaced}
+use Rattle.parcel_sets.specs.Moved.{Moved}
 use Rattle.depot_rule.specs.declared.view.View.{View}
 use Rattle.depot_rule.specs.Shares.{opening_view}
 use Rattle.depot.specs.Grants.{by_number}

@@ -5,18 +5,18 @@ use Rattle.std.proofs.lemmas.Bool.{and_parts, leb-true}
 use mathlib.Core.Logic.{dite}
 use native.Mathlib.Decide.{ℕ_discrete}
 use Rattle.nfs_model.specs.Tree.{Layout, Affinity, excludes}
-use Rattle.affinity.specs.declared.specification.AggregateSpec.{AggregateSpec}
-use Rattle.affinity.specs.declared.specification.VolumeSpec.{VolumeSpec}
-use Rattle.affinity.specs.Specification.{layout_in, spare_of, volume_of}
-use Rattle.affinity.specs.Fault.{fault_of, is_within}
-use Rattle.affinity.specs.Tree.{IsNode}
-use Rattle.affinity.specs.Under.{IsUnder}
-use Rattle.affinity.specs.Numbers.{number_of, node_count, parents, ListsAbove}
-use Rattle.affinity.proofs.Lawful.{few_volumes}
-use Rattle.affinity.proofs.Places.{number_positive, number_within, node_count_even}
-use Rattle.affinity.proofs.Numbered.{some_node}
-use Rattle.affinity.proofs.Smaller.{length-parents, parent_smaller}
-use Rattle.affinity.proofs.Chains.{number_over, under_numbered, numbers_from, excludes_numbered}
+use Rattle.affinity_tree.specs.declared.specification.AggregateSpec.{AggregateSpec}
+use Rattle.affinity_tree.specs.declared.specification.VolumeSpec.{VolumeSpec}
+use Rattle.affinity_tree.specs.Specification.{layout_in, spare_of, volume_of}
+use Rattle.affinity_tree.specs.Fault.{fault_of, is_within}
+use Rattle.affinity_tree.specs.Tree.{IsNode}
+use Rattle.affinity_tree.specs.Under.{IsUnder}
+use Rattle.affinity_tree.specs.Numbers.{number_of, node_count, parents, ListsAbove}
+use Rattle.affinity_tree.proofs.Lawful.{few_volumes}
+use Rattle.affinity_tree.proofs.Places.{number_positive, number_within, node_count_even}
+use Rattle.affinity_tree.proofs.Numbered.{some_node}
+use Rattle.affinity_tree.proofs.Smaller.{length-parents, parent_smaller}
+use Rattle.affinity_tree.proofs.Chains.{number_over, under_numbered, numbers_from, excludes_numbered}
 use Rattle.depot_rule.specs.Sums.{tally}
 use Rattle.depot_rule.specs.Tree.{IsTree, ancestors, Covers, Excludes}
 use Rattle.depot_rule.proofs.Sums.{one-same, one-other}

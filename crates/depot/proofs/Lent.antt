@@ -5,20 +5,20 @@ use Rattle.std.proofs.lemmas.Bool.{and_parts, leb-true}
 use mathlib.Core.Logic.{dite}
 use native.Mathlib.Decide.{ℕ_discrete}
 use Rattle.nfs_model.specs.Tree.{Layout, Affinity}
-use Rattle.affinity.specs.Tree.{IsNode}
-use Rattle.affinity.specs.Fault.{fault_of, is_within}
-use Rattle.affinity.specs.declared.specification.AggregateSpec.{AggregateSpec}
-use Rattle.affinity.specs.declared.specification.VolumeSpec.{VolumeSpec}
-use Rattle.affinity.specs.Specification.{layout_in}
-use Rattle.affinity.proofs.Lawful.{few_volumes}
-use Rattle.affinity.specs.Numbers.{number_of, node_count, parents}
-use Rattle.affinity.proofs.Places.{number_positive, number_within, node_count_even}
-use Rattle.affinity.proofs.Smaller.{length-parents}
-use Rattle.parcels.specs.declared.family.Parcel.{Parcel}
-use Rattle.parcels.specs.declared.family.Parcel.TheVariants.{Stripe}
-use Rattle.parcels.specs.declared.sets.StripeHeld.{StripeHeld}
-use Rattle.parcels.specs.Sets.{stripe_parcels}
-use Rattle.parcels.specs.NumberIn.{number_in}
+use Rattle.affinity_tree.specs.Tree.{IsNode}
+use Rattle.affinity_tree.specs.Fault.{fault_of, is_within}
+use Rattle.affinity_tree.specs.declared.specification.AggregateSpec.{AggregateSpec}
+use Rattle.affinity_tree.specs.declared.specification.VolumeSpec.{VolumeSpec}
+use Rattle.affinity_tree.specs.Specification.{layout_in}
+use Rattle.affinity_tree.proofs.Lawful.{few_volumes}
+use Rattle.affinity_tree.specs.Numbers.{number_of, node_count, parents}
+use Rattle.affinity_tree.proofs.Places.{number_positive, number_within, node_count_even}
+use Rattle.affinity_tree.proofs.Smaller.{length-parents}
+use Rattle.parcel_sets.specs.declared.family.Parcel.{Parcel}
+use Rattle.parcel_sets.specs.declared.family.Parcel.TheVariants.{Stripe}
+use Rattle.parcel_sets.specs.declared.sets.StripeHeld.{StripeHeld}
+use Rattle.parcel_sets.specs.Sets.{stripe_parcels}
+use Rattle.parcel_sets.specs.NumberIn.{number_in}
 use Rattle.depot_rule.specs.Shares.{opening_view}
 use Rattle.depot.specs.Adding.{AreEach}
 use Rattle.depot_rule.specs.declared.view.View.{View}

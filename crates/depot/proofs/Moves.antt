@@ -12,7 +12,7 @@ use Rattle.depot_rule.proofs.Sums.{one-same, one-other}
 use Rattle.depot_rule.proofs.Trees.{ancestors-parent, not-above}
 use Rattle.depot_rule.proofs.Places.{one-view, of-one}
 use Rattle.depot.specs.Calls.{IsAmong, read_of, Moved, MovedTo, IsExcluded, FoundClaimed, WasRefused, IsGranted, own_views, known}
-use Rattle.affinity.specs.declared.affinity.Kind.{Kind}
+use Rattle.affinity_tree.specs.declared.affinity.Kind.{Kind}
 
 pub among-later : {A : Type 0} (x : A) (ys xs : List A) → IsAmong x xs → IsAmong x (ys ++ xs)
 among-later x [] xs a = a

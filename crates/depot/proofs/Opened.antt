@@ -14,7 +14,7 @@ use Rattle.depot_rule.specs.Parcels.{IsParcel}
 use Rattle.depot_rule.specs.Seats.{view_of}
 use Rattle.depot_rule.proofs.Opening.{opens-whole, closes, closes-history, closes-parcels}
 use Rattle.depot_rule.proofs.Places.{one-view}
-use Rattle.affinity.specs.declared.affinity.Kind.{Kind}
+use Rattle.affinity_tree.specs.declared.affinity.Kind.{Kind}
 use Rattle.depot.specs.Calls.{own_views, known}
 use Rattle.depot.proofs.Moves.{placed-one}
 

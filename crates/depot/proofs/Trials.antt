@@ -7,25 +7,25 @@ use native.Mathlib.Decide.{ℕ_discrete}
 use mathlib.Core.Option.{some, some-ne-none}
 use lib.ListN.{get_elem?}
 use Rattle.nfs_model.specs.Tree.{Layout, Affinity, Serial}
-use Rattle.affinity.specs.declared.affinity.Kind.{Kind}
-use Rattle.affinity.specs.Affinity.{kind_of}
-use Rattle.affinity.specs.Tree.{IsNode}
-use Rattle.affinity.specs.Under.{IsUnder}
-use Rattle.affinity.proofs.Places.{number_positive, number_within}
-use Rattle.affinity.proofs.Numbered.{own_number}
-use Rattle.parcels.specs.Exact.{kind_in, HasExactly, IsPlaced}
-use Rattle.parcels.specs.Places.{alone}
-use Rattle.parcels.specs.Sets.{stripe_parcels}
-use Rattle.parcels.specs.declared.sets.StripeHeld.{StripeHeld}
-use Rattle.parcels.specs.declared.family.Parcel.TheVariants.{Stripe}
-use Rattle.affinity.specs.Numbers.{number_of, node_count}
+use Rattle.affinity_tree.specs.declared.affinity.Kind.{Kind}
+use Rattle.affinity_tree.specs.Affinity.{kind_of}
+use Rattle.affinity_tree.specs.Tree.{IsNode}
+use Rattle.affinity_tree.specs.Under.{IsUnder}
+use Rattle.affinity_tree.proofs.Places.{number_positive, number_within}
+use Rattle.affinity_tree.proofs.Numbered.{own_number}
+use Rattle.parcel_sets.specs.Exact.{kind_in, HasExactly, IsPlaced}
+use Rattle.parcel_sets.specs.Places.{alone}
+use Rattle.parcel_sets.specs.Sets.{stripe_parcels}
+use Rattle.parcel_sets.specs.declared.sets.StripeHeld.{StripeHeld}
+use Rattle.parcel_sets.specs.declared.family.Parcel.TheVariants.{Stripe}
+use Rattle.affinity_tree.specs.Numbers.{number_of, node_count}
 use Rattle.depot_rule.specs.declared.view.View.{View}
 use Rattle.depot.specs.Grants.{ListsAs, HasWith, IsBegun, IsAfter, HasInHand}
 use Rattle.depot.specs.Adding.{Changes, AreEach}
 use Rattle.depot.proofs.Laid.{nothing-at}
-use Rattle.parcels.specs.Moved.{Moved}
-use Rattle.parcels.specs.NumberIn.{number_in}
-use Rattle.parcels.specs.declared.family.Parcel.{Parcel}
+use Rattle.parcel_sets.specs.Moved.{Moved}
+use Rattle.parcel_sets.specs.NumberIn.{number_in}
+use Rattle.parcel_sets.specs.declared.family.Parcel.{Parcel}
 use Rattle.depot.specs.declared.adding.Change.TheVariants.{Add}
 use Rattle.depot_rule.specs.declared.view.Entry.{Entry}
 use Rattle.depot_rule.specs.Sums.{total}

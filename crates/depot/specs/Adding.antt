@@ -2,9 +2,9 @@
 use Rattle.std.specs.Prelude.{◌≡◌, ◌≢◌, ◌⊎◌, ℕ, ◌+◌, ◌%◌, ◌==◌, ◌||◌, nat_lt, Bool, true, false, List, Option, Some}
 use Rattle.std.proofs.Common.{refl, sym, ap, ◌∙◌, inl, inr, ⊎_elim}
 use Rattle.std.proofs.lemmas.Bool.{eqb-true, eq-eqb, ltb-true}
-use Rattle.parcels.specs.declared.family.Parcel.{Parcel}
-use Rattle.parcels.specs.Exact.{kind_in}
-use Rattle.parcels.specs.NumberIn.{number_in}
+use Rattle.parcel_sets.specs.declared.family.Parcel.{Parcel}
+use Rattle.parcel_sets.specs.Exact.{kind_in}
+use Rattle.parcel_sets.specs.NumberIn.{number_in}
 use Rattle.depot.specs.declared.adding.Change.{Change}
 use Rattle.depot.specs.declared.adding.Change.TheVariants.{Touch, Add}
 use Rattle.depot_rule.specs.Sums.{tally}

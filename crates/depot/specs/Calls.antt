@@ -10,7 +10,7 @@ use Rattle.depot_rule.specs.Shares.{exclusive, grant_shares, shares, Has}
 use Rattle.depot_rule.specs.Parcels.{has_out, IsParcel}
 use Rattle.depot_rule.specs.Seats.{view_of}
 use Rattle.depot_rule.specs.Plays.{IsOnly}
-use Rattle.affinity.specs.declared.affinity.Kind.{Kind}
+use Rattle.affinity_tree.specs.declared.affinity.Kind.{Kind}
 
 abbrev pub IsAmong : {A : Type 0} → A → List A → Type 0
 IsAmong x xs = (i : ℕ) × (get_elem? xs i ≡ some x)

@@ -3,10 +3,10 @@ use Rattle.std.specs.Prelude.{◌≡◌, ℕ, zero, suc, ◌+◌, ◌<◌, ◌�
 use mathlib.Core.Option.{some}
 use lib.ListN.{get_elem?}
 use Rattle.nfs_model.specs.Tree.{Layout, Affinity}
-use Rattle.affinity.specs.Affinity.{affinity_of}
-use Rattle.affinity.specs.declared.affinity.Kind.{Kind}
-use Rattle.affinity.specs.Numbers.{number_of, node_count, parents}
-use Rattle.affinity.specs.Tree.{IsNode}
+use Rattle.affinity_tree.specs.Affinity.{affinity_of}
+use Rattle.affinity_tree.specs.declared.affinity.Kind.{Kind}
+use Rattle.affinity_tree.specs.Numbers.{number_of, node_count, parents}
+use Rattle.affinity_tree.specs.Tree.{IsNode}
 use Rattle.depot_rule.specs.declared.view.View.{View}
 use Rattle.depot_rule.specs.declared.view.Read.{Read}
 use Rattle.depot_rule.specs.declared.view.Entry.{Entry}

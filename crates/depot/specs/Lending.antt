@@ -4,9 +4,9 @@ use Rattle.std.proofs.Common.{refl, sym, ap, ◌∙◌, arith, inl}
 use Rattle.std.proofs.lemmas.Bool.{eq-eqb}
 use mathlib.Core.Logic.{dite}
 use native.Mathlib.Decide.{ℕ_discrete}
-use Rattle.parcels.specs.declared.family.Parcel.{Parcel}
-use Rattle.parcels.specs.Exact.{kind_in}
-use Rattle.parcels.specs.NumberIn.{number_in}
+use Rattle.parcel_sets.specs.declared.family.Parcel.{Parcel}
+use Rattle.parcel_sets.specs.Exact.{kind_in}
+use Rattle.parcel_sets.specs.NumberIn.{number_in}
 use Rattle.depot.specs.declared.lending.Move.{Move}
 use Rattle.depot.specs.declared.lending.Move.TheVariants.{Take, Give}
 use Rattle.depot_rule.specs.declared.view.View.{View}

@@ -3,14 +3,14 @@
 
 ghost use Rattle.std.specs.Prelude.{◌≡◌, ℕ, List, [], Option, IfOk};
 ghost use Rattle.nfs_model.specs.Tree as trees;
-ghost use Rattle.affinity.specs.Layout.{layout_of};
-ghost use Rattle.parcels.specs.Exact.{kind_in, HasExactly};
-ghost use Rattle.parcels.specs.Sets.{serial_parcels};
+ghost use Rattle.affinity_tree.specs.Layout.{layout_of};
+ghost use Rattle.parcel_sets.specs.Exact.{kind_in, HasExactly};
+ghost use Rattle.parcel_sets.specs.Sets.{serial_parcels};
 ghost use Rattle.depot.specs.Adding.{AreEach};
 
-use affinity::{Affinity, Layout};
+use affinity_tree::{Affinity, Layout};
 use depot_rule::machine::Machine;
-use parcels::{Node, Numbers, Parcel, SerialHeld, SerialNode, VecShelf};
+use parcel_sets::{Node, Numbers, Parcel, SerialHeld, SerialNode, VecShelf};
 use std::alloc::{AllocError, Global};
 
 /// A call on the number of its node.

@@ -2,18 +2,18 @@
 
 ghost use Rattle.std.specs.Prelude.{◌≡◌, ◌<◌, ◌≤◌, ℕ, List, length, replicate, slice_index_or, Option, Some, None, IfOk, IfErr};
 ghost use Rattle.nfs_model.specs.Tree as trees;
-ghost use Rattle.affinity.specs.declared.affinity.Kind.TheVariants as kinds;
-ghost use Rattle.affinity.specs.Layout.{layout_of};
-ghost use Rattle.affinity.specs.Numbers as numbers;
+ghost use Rattle.affinity_tree.specs.declared.affinity.Kind.TheVariants as kinds;
+ghost use Rattle.affinity_tree.specs.Layout.{layout_of};
+ghost use Rattle.affinity_tree.specs.Numbers as numbers;
 ghost use Rattle.depot_rule.specs.Tree.{IsTree};
 
 use crate::closed::ClosedTable;
 use crate::seats::{Seat, join_seat, meet, split_seat};
 use crate::table::{DepotRule, Key, Opening, Place, ViewsOf};
-use affinity::{Affinity, Layout};
+use affinity_tree::{Affinity, Layout};
 use atomic_table::Table;
 use depot_rule::machine::Machine;
-use parcels::{Node, VecShelf};
+use parcel_sets::{Node, VecShelf};
 use std::alloc::{AllocError, Global};
 use std::snapshot::Snapshot;
 
@@ -55,7 +55,7 @@ impl<M: Machine> Depot<M> {
     ghost use Rattle.depot_rule.specs.Parcels.{IsParcel};
     ghost use Rattle.depot_rule.specs.Seats.{fresh, merge, longer, having_seen};
     ghost use Rattle.depot_rule.specs.Plays.{AreApart, HaveSeenOne};
-    ghost use Rattle.parcels.specs.Exact.{HasExactly};
+    ghost use Rattle.parcel_sets.specs.Exact.{HasExactly};
     ghost use Rattle.depot.specs.Calls.{known};
     ghost use Rattle.depot_rule.specs.Sums.{total};
     ghost use Rattle.depot_rule.specs.History.{behaviour, entries_of};

@@ -1,12 +1,12 @@
 //! Calls on a depot, from begin to finish.
 
 ghost use Rattle.std.specs.Prelude.{◌≡◌, ◌<◌, ◌+◌, ◌∷◌, ◌++◌, ℕ, List, Option, Some, [], length, slice_set, slice_index_or, None, IfOk, IfErr};
-ghost use Rattle.affinity.specs.Affinity.{affinity_of, kind_of};
-ghost use Rattle.affinity.specs.Layout.{layout_of};
-ghost use Rattle.affinity.specs.Numbers as numbers;
-ghost use Rattle.affinity.specs.Tree.{IsNode};
-ghost use Rattle.affinity.specs.Fault.{fault_of};
-ghost use Rattle.parcels.specs.Exact.{HasExactly};
+ghost use Rattle.affinity_tree.specs.Affinity.{affinity_of, kind_of};
+ghost use Rattle.affinity_tree.specs.Layout.{layout_of};
+ghost use Rattle.affinity_tree.specs.Numbers as numbers;
+ghost use Rattle.affinity_tree.specs.Tree.{IsNode};
+ghost use Rattle.affinity_tree.specs.Fault.{fault_of};
+ghost use Rattle.parcel_sets.specs.Exact.{HasExactly};
 ghost use Rattle.depot_rule.specs.Sums.{tally};
 ghost use Rattle.depot_rule.specs.Tree.{Covers, Excludes};
 ghost use Rattle.depot_rule.specs.Shares.{Has};
@@ -23,10 +23,10 @@ use crate::plays::Look;
 use crate::seats::Seat;
 use crate::stamps::{Said, stamp_as};
 use crate::table::{Board, EntryOf, Place};
-use affinity::{Affinity, HasKind, Layout};
+use affinity_tree::{Affinity, HasKind, Layout};
 use atomic_table::Badge;
 use depot_rule::machine::Machine;
-use parcels::Node;
+use parcel_sets::Node;
 use std::marker::Brand;
 use std::mem;
 

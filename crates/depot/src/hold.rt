@@ -9,7 +9,7 @@ ghost use Rattle.depot.specs.Handling.{handled-itself, handled-on, lists-still};
 use crate::slots::{give_parcel, take_parcel};
 use crate::table::{Board, Place};
 use depot_rule::machine::Machine;
-use parcels::Shelf;
+use parcel_sets::Shelf;
 
 /// A call that runs, and the node of the grant whose parcels it takes or gives.
 pub struct Hold<'a, M: Machine> {

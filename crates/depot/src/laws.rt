@@ -5,10 +5,10 @@ ghost use Rattle.std.specs.Prelude.{◌≡◌, ◌<◌, ℕ, ◌↔◌, true, No
 ghost use Rattle.depot_rule.specs.Shares.{shares, grant_shares};
 ghost use Rattle.depot.specs.Calls.{known};
 ghost use Rattle.nfs_model.specs.Tree as trees;
-ghost use Rattle.affinity.specs.Fault.{fault_of};
-ghost use Rattle.affinity.specs.Tree.{IsNode};
-ghost use Rattle.affinity.specs.Under.{IsUnder};
-ghost use Rattle.affinity.specs.Numbers.{number_of, parents};
+ghost use Rattle.affinity_tree.specs.Fault.{fault_of};
+ghost use Rattle.affinity_tree.specs.Tree.{IsNode};
+ghost use Rattle.affinity_tree.specs.Under.{IsUnder};
+ghost use Rattle.affinity_tree.specs.Numbers.{number_of, parents};
 ghost use Rattle.depot_rule.specs.Tree.{Excludes, Covers};
 
 use crate::seats::Seat;

@@ -1,8 +1,8 @@
 //! A machine for tests, whose calls move tokens between a node's parcel and the seat's hand.
 
 ghost use Rattle.std.specs.Prelude.{◌≡◌, true, false, ℕ, List, ◌∷◌};
-ghost use Rattle.affinity.specs.Layout.{layout_of};
-ghost use Rattle.parcels.specs.Exact.{kind_in};
+ghost use Rattle.affinity_tree.specs.Layout.{layout_of};
+ghost use Rattle.parcel_sets.specs.Exact.{kind_in};
 ghost use Rattle.depot_rule.specs.History.{entries_of};
 ghost use Rattle.depot.specs.Calls.{known};
 ghost use Rattle.depot.specs.Grants.{IsSeatOf};
@@ -10,9 +10,9 @@ ghost use Rattle.depot.specs.Lending.{IsHand};
 
 use crate::depot::Depot;
 use crate::seats::Seat;
-use affinity::{Affinity, Kind};
+use affinity_tree::{Affinity, Kind};
 use depot_rule::machine::Machine;
-use parcels::{Numbers, Parcel, StripeNode};
+use parcel_sets::{Numbers, Parcel, StripeNode};
 
 /// A call on the tokens of its node.
 #[derive(Clone, Copy, Debug, PartialEq, Eq)]

@@ -1,18 +1,18 @@
 //! What measurements do with a depot: four seats of one, and threads that begin and finish calls.
 
 ghost use Rattle.std.specs.Prelude.{◌≡◌, ◌≤◌, IfSome};
-ghost use Rattle.affinity.specs.Affinity.{affinity_of, kind_of};
-ghost use Rattle.affinity.specs.Layout.{layout_of};
-ghost use Rattle.affinity.specs.Tree.{IsNode};
-ghost use Rattle.parcels.specs.Exact.{kind_in};
+ghost use Rattle.affinity_tree.specs.Affinity.{affinity_of, kind_of};
+ghost use Rattle.affinity_tree.specs.Layout.{layout_of};
+ghost use Rattle.affinity_tree.specs.Tree.{IsNode};
+ghost use Rattle.parcel_sets.specs.Exact.{kind_in};
 ghost use Rattle.depot.specs.Calls.{known};
 ghost use Rattle.depot.specs.Grants.{IsSeatOf};
 
 use crate::adding::{Adding, Change, all_zero};
 use crate::depot::Depot;
 use crate::seats::Seat;
-use affinity::{Affinity, AggregateSpec, Kind, Layout, VolumeSpec};
-use parcels::{
+use affinity_tree::{Affinity, AggregateSpec, Kind, Layout, VolumeSpec};
+use parcel_sets::{
     AggregateNode, LogicalNode, Node, Numbers, Parcel, RangeNode, SerialNode, StripeNode, VbnNode,
     VolumeNode,
 };

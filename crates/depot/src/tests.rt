@@ -4,8 +4,8 @@ use crate::lending::{give, take};
 use crate::trial::{
     Found, add, claim, close_joined, holds_beside, look, open, open_lent, split, splits, tell,
 };
-use affinity::Affinity;
-use parcels::{LogicalNode, RangeNode, SerialNode, StripeNode, VbnNode, VolumeNode};
+use affinity_tree::Affinity;
+use parcel_sets::{LogicalNode, RangeNode, SerialNode, StripeNode, VbnNode, VolumeNode};
 use std::sync::atomic::AtomicBool;
 use std::test::Fail;
 use std::thread;

@@ -1,8 +1,8 @@
 //! What the tests do with a depot.
 
 ghost use Rattle.std.specs.Prelude.{◌≡◌, IfOk, []};
-ghost use Rattle.affinity.specs.Layout.{layout_of};
-ghost use Rattle.parcels.specs.Exact.{kind_in};
+ghost use Rattle.affinity_tree.specs.Layout.{layout_of};
+ghost use Rattle.parcel_sets.specs.Exact.{kind_in};
 ghost use Rattle.depot.specs.Calls.{known};
 ghost use Rattle.depot.specs.Grants.{IsSeatOf};
 ghost use Rattle.depot.specs.Lending.{IsHand};
@@ -12,8 +12,8 @@ use crate::depot::Depot;
 use crate::grants::{Grant, Refusal};
 use crate::lending::Lending;
 use crate::seats::Seat;
-use affinity::{Affinity, AggregateSpec, Kind, Layout, VolumeSpec};
-use parcels::{Node, Numbers, Parcel, SerialNode, StripeNode};
+use affinity_tree::{Affinity, AggregateSpec, Kind, Layout, VolumeSpec};
+use parcel_sets::{Node, Numbers, Parcel, SerialNode, StripeNode};
 use std::alloc::Global;
 use std::sync::atomic::{AtomicBool, Ordering};
 use std::test::Fail;

@@ -3,7 +3,7 @@
 ghost use Rattle.std.specs.Prelude.{◌≤◌};
 
 use crate::lock;
-use affinity::Affinity;
+use affinity_tree::Affinity;
 use depot::measure::Bench;
 use std::alloc::AllocError;
 use std::io;

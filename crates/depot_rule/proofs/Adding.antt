@@ -26,7 +26,7 @@ use Rattle.depot_rule.proofs.Current.{current-granted}
 use Rattle.depot_rule.proofs.Chosen.{chosen-within, chosen-snoc, ascends-snoc}
 use Rattle.depot_rule.proofs.Remembering.{Own, HasHand}
 use Rattle.depot_rule.proofs.Hands.{other-hands}
-use Rattle.affinity.specs.declared.affinity.Kind.{Kind}
+use Rattle.affinity_tree.specs.declared.affinity.Kind.{Kind}
 
 -- covering, decided
 either-true : (b c : Bool) → b || c ≡ true → (b ≡ true) ⊎ (c ≡ true)

@@ -32,7 +32,7 @@ use Rattle.depot_rule.proofs.Remembering.{remembers, still}
 use Rattle.depot_rule.proofs.Hands.{is-history}
 use Rattle.depot_rule.proofs.Whole.{only-log}
 use Rattle.depot_rule.proofs.Counting.{history-length}
-use Rattle.affinity.specs.declared.affinity.Kind.{Kind}
+use Rattle.affinity_tree.specs.declared.affinity.Kind.{Kind}
 
 -- what lies in a slot, none where it is out
 abbrev pub lying : {P : Type 0} → maybe.Option (Option P) → Option P

@@ -14,7 +14,7 @@ use Rattle.atomic_table.specs.Table.{State}
 use Rattle.depot_rule.specs.Rule.{Rule}
 use Rattle.depot_rule.proofs.Views.{few-entries}
 use Rattle.depot_rule.proofs.Whole.{only-mine, only-log}
-use Rattle.affinity.specs.declared.affinity.Kind.{Kind}
+use Rattle.affinity_tree.specs.declared.affinity.Kind.{Kind}
 
 total-ones : {A : Type 0} (xs : List A) → total (λ x. 1) xs ≡ length xs
 total-ones [] = refl

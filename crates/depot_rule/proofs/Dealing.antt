@@ -19,7 +19,7 @@ use Rattle.depot_rule.proofs.Views.{All, all-none, all-one, all-append, each-set
 use Rattle.depot_rule.proofs.Current.{ListsCurrent}
 use Rattle.depot_rule.proofs.Remembering.{Own, HasHand, dealt}
 use Rattle.depot_rule.proofs.Meeting.{both-begin, first-chosen, second-chosen, first-met, second-met}
-use Rattle.affinity.specs.declared.affinity.Kind.{Kind}
+use Rattle.affinity_tree.specs.declared.affinity.Kind.{Kind}
 
 module _ {V : Type 0} where
   -- one seat has what two had

@@ -21,7 +21,7 @@ use Rattle.depot_rule.proofs.Grants.{covers-one}
 use Rattle.depot_rule.proofs.Dealing.{joined, parted_in, bare-counts}
 use Rattle.depot_rule.proofs.Chosen.{tally-in-order}
 use Rattle.depot_rule.proofs.Meeting.{both-begin, merged-weigh, merged-own, merged-hand, not-both}
-use Rattle.affinity.specs.declared.affinity.Kind.{Kind}
+use Rattle.affinity_tree.specs.declared.affinity.Kind.{Kind}
 
 pub none-held : {A : Type 0} (n b : ℕ) (x : A) → get_elem? (replicate n None) b ≡ some (Some x) → ⊥
 none-held zero b x e = some-ne-none (Some x) (sym e)

@@ -22,7 +22,7 @@ use Rattle.depot_rule.specs.Tree.{Excludes}
 use Rattle.depot_rule.proofs.Places.{on-one}
 use Rattle.depot_rule.proofs.Meeting.{first-chosen, second-chosen, merged-weigh}
 use Rattle.depot_rule.proofs.Remembering.{still}
-use Rattle.affinity.specs.declared.affinity.Kind.{Kind}
+use Rattle.affinity_tree.specs.declared.affinity.Kind.{Kind}
 
 same-word : (ws : List ℕ) → set ws 0 (get_or ws 0 0) ≡ ws
 same-word [] = refl

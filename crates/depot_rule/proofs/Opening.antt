@@ -21,7 +21,7 @@ use Rattle.depot_rule.proofs.Current.{ListsCurrent}
 use Rattle.depot_rule.proofs.Remembering.{Own, HasHand}
 use Rattle.depot_rule.proofs.Chosen.{moved-weigh}
 use Rattle.depot_rule.proofs.Whole.{only-mine, only-log}
-use Rattle.affinity.specs.declared.affinity.Kind.{Kind}
+use Rattle.affinity_tree.specs.declared.affinity.Kind.{Kind}
 
 zero-word : (n a : ℕ) → get_or (replicate {A = ℕ} n 0) a 0 ≡ 0
 zero-word zero a = refl

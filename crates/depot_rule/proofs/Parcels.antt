@@ -19,7 +19,7 @@ use Rattle.depot_rule.proofs.Trees.{cover-excludes}
 use Rattle.depot_rule.proofs.Views.{all-one, each-set, each-moved}
 use Rattle.depot_rule.proofs.Words.{read-keeps}
 use Rattle.depot_rule.proofs.Grants.{claims-own, lower-own, covers-one}
-use Rattle.affinity.specs.declared.affinity.Kind.{Kind}
+use Rattle.affinity_tree.specs.declared.affinity.Kind.{Kind}
 
 module _ (P E : Type 0) (kind_of : P → Kind) where
   abbrev St : Type 0

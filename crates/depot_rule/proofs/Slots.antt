@@ -18,7 +18,7 @@ use Rattle.depot_rule.proofs.Parcels.{slot-keeps}
 use Rattle.depot_rule.proofs.Places.{on-one}
 use Rattle.depot_rule.proofs.Current.{current-slot}
 use Rattle.depot_rule.proofs.Remembering.{remembers}
-use Rattle.affinity.specs.declared.affinity.Kind.{Kind}
+use Rattle.affinity_tree.specs.declared.affinity.Kind.{Kind}
 
 module _ (P C R B : Type 0) (kind_of : P → Kind) (m : Behaviour P C R B) where
   abbrev E : Type 0

@@ -26,7 +26,7 @@ use Rattle.depot_rule.proofs.Looking.{ticket-keeps}
 use Rattle.depot_rule.proofs.Places.{on-one}
 use Rattle.depot_rule.proofs.Adding.{chosen_now, stamp-remembers, stamp-legal, stamp-throughout}
 use Rattle.depot_rule.proofs.Whole.{only-log, nothing-more}
-use Rattle.affinity.specs.declared.affinity.Kind.{Kind}
+use Rattle.affinity_tree.specs.declared.affinity.Kind.{Kind}
 
 module _ (P E : Type 0) (kind_of : P → Kind) where
   abbrev G : Type 0

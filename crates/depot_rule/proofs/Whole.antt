@@ -12,7 +12,7 @@ use Rattle.depot_rule.specs.Sums.{one_if, tally}
 use Rattle.depot_rule.specs.Rule.{Base}
 use Rattle.depot_rule.specs.History.{Behaviour, History}
 use Rattle.depot_rule.proofs.Views.{only-view}
-use Rattle.affinity.specs.declared.affinity.Kind.{Kind}
+use Rattle.affinity_tree.specs.declared.affinity.Kind.{Kind}
 
 no-longer : {A : Type 0} (xs rest : List A) → length (xs ++ rest) ≤ length xs → xs ++ rest ≡ xs
 no-longer [] [] le = refl

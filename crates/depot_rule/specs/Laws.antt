@@ -11,7 +11,7 @@ use Rattle.depot_rule.specs.Tree.{IsTree, ancestors, Covers, Excludes}
 use Rattle.depot_rule.specs.Shares.{exclusive, too_many, Has, opening_view}
 use Rattle.depot_rule.specs.Parcels.{has_out, IsParcel}
 use Rattle.depot_rule.specs.Rule.{Base, Rule}
-use Rattle.affinity.specs.declared.affinity.Kind.{Kind}
+use Rattle.affinity_tree.specs.declared.affinity.Kind.{Kind}
 
 -- the i-th view of seat j has a grant of b
 abbrev pub IsOpen : {P E : Type 0} → List (List (View P E)) → ℕ → ℕ → ℕ → Type 0

@@ -7,7 +7,7 @@ use Rattle.depot_rule.specs.declared.view.View.{View}
 use Rattle.depot_rule.specs.Sums.{total, one_if, tally}
 use Rattle.depot_rule.specs.Tree.{Covers}
 use Rattle.depot_rule.specs.Shares.{Each, Has}
-use Rattle.affinity.specs.declared.affinity.Kind.{Kind}
+use Rattle.affinity_tree.specs.declared.affinity.Kind.{Kind}
 
 -- 1 where the seat has the parcel of k, or its slot
 abbrev pub has_out : {P E : Type 0} → ℕ → View P E → ℕ

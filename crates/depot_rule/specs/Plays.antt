@@ -12,7 +12,7 @@ use Rattle.depot_rule.specs.Shares.{exclusive, worn, too_many, made, shares, Has
 use Rattle.depot_rule.specs.Parcels.{has_out, IsParcel}
 use Rattle.depot_rule.specs.Seats.{OnOne, longer, merge}
 use Rattle.depot_rule.specs.History.{Behaviour, SoundThroughout, IsHistory, Legal, StartsWith, listed, after, chosen, entries_of}
-use Rattle.affinity.specs.declared.affinity.Kind.{Kind}
+use Rattle.affinity_tree.specs.declared.affinity.Kind.{Kind}
 
 -- a seat: its views, and the slots that are out with it
 abbrev pub Place : Type 0 → Type 0 → Type 0

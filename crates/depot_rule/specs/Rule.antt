@@ -6,7 +6,7 @@ use Rattle.depot_rule.specs.declared.view.Entry.{Entry}
 use Rattle.depot_rule.specs.Shares.{Shares}
 use Rattle.depot_rule.specs.Parcels.{Parcels}
 use Rattle.depot_rule.specs.History.{Behaviour, History}
-use Rattle.affinity.specs.declared.affinity.Kind.{Kind}
+use Rattle.affinity_tree.specs.declared.affinity.Kind.{Kind}
 
 -- the first two passes, of any entries. The tree and the opening parcels are fixed when the depot is made
 pub record Base {P E : Type 0} (kind_of : P → Kind) (parents : List ℕ) (first : List (Option P)) (s : State (Option P) (List (View P E))) : Type 0 where

@@ -3,7 +3,7 @@
 ghost use Rattle.std.specs.Prelude.{ℕ, List, Option};
 ghost use Rattle.depot_rule.specs.Machine.{IsLocal, Keeps};
 
-use affinity::HasKind;
+use affinity_tree::HasKind;
 
 /// Calls on parcels. The tree is given as the parent of each node, parcels by node.
 pub trait Machine {

@@ -3,20 +3,7 @@
 //! `filer replay FILE` runs a script of events, and prints a line for each.
 #![tactic(auto)]
 
-mod choice;
-mod engine;
-mod fault;
-mod printing;
-mod program;
-mod replay;
-#[cfg(test)]
-mod rows;
-mod script;
-#[cfg(test)]
-mod tests;
-mod words;
-
-use fault::Fault;
+use filer_replay::{Fault, print_fault, program};
 use std::alloc::AllocError;
 use std::process::ExitCode;
 use std::{env, io};
@@ -33,9 +20,9 @@ fn arguments(rt: &(impl env::Env + AllocGlobal)) -> Result<Vec<String>, Fault> {
 fn main(rt: HostRuntime) -> ExitCode {
     let mut out = io::writer(&rt);
     let status = match arguments(&rt) {
-        Ok(words) => program::program(&rt, &words, &mut out),
+        Ok(words) => program(&rt, &words, &mut out),
         Err(fault) => {
-            printing::print_fault(&mut out, fault);
+            print_fault(&mut out, fault);
             fault.status()
         }
     };

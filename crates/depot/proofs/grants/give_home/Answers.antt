@@ -1,11 +1,11 @@
 use Rattle.std.proofs.Common.{◌≡◌, ◌<◌, ℕ, List, length, sym, ap, ◌∙◌, subst}
 use Rattle.nfs_model.specs.Tree.{Layout}
-use Rattle.affinity.specs.Affinity.{affinity_of}
-use Rattle.affinity.specs.Layout.{layout_of}
-use Rattle.affinity.specs.Numbers.{number_of, parents}
+use Rattle.affinity_tree.specs.Affinity.{affinity_of}
+use Rattle.affinity_tree.specs.Layout.{layout_of}
+use Rattle.affinity_tree.specs.Numbers.{number_of, parents}
 use Rattle.depot_rule.specs.Tree.{IsTree, Covers}
 use Rattle.depot_rule.specs.Seats.{view_of}
-use Rattle.parcels.specs.Moved.{Moved}
+use Rattle.parcel_sets.specs.Moved.{Moved}
 use Rattle.depot.specs.Holds.{untaken}
 use Rattle.depot.specs.Grants.{HasWith}
 use Rattle.depot.proofs.Layouts.{parents-tree, number-place}

@@ -1,5 +1,5 @@
-use Rattle.affinity.specs.Affinity.{affinity_of}
-use Rattle.affinity.specs.Layout.{layout_of}
+use Rattle.affinity_tree.specs.Affinity.{affinity_of}
+use Rattle.affinity_tree.specs.Layout.{layout_of}
 use Rattle.depot_rule.specs.History.{behaviour}
 use Rattle.depot_rule.specs.Seats.{view_of}
 use Rattle.depot.proofs.Ended.{stamp-step, stamp-hand}

@@ -1,10 +1,10 @@
 use Rattle.std.proofs.Common.{rules, ◌≡◌, ◌∷◌, ◌+◌, refl, sym, ap, subst, arith}
-use Rattle.affinity.specs.Affinity.{affinity_of}
-use Rattle.affinity.specs.Layout.{layout_of}
-use Rattle.affinity.specs.Numbers.{number_of}
-use Rattle.affinity.specs.Tree.{IsNode}
-use Rattle.parcels.specs.Exact.{kind_in, HasExactly}
-use Rattle.parcels.specs.Sets.{stripe_parcels}
+use Rattle.affinity_tree.specs.Affinity.{affinity_of}
+use Rattle.affinity_tree.specs.Layout.{layout_of}
+use Rattle.affinity_tree.specs.Numbers.{number_of}
+use Rattle.affinity_tree.specs.Tree.{IsNode}
+use Rattle.parcel_sets.specs.Exact.{kind_in, HasExactly}
+use Rattle.parcel_sets.specs.Sets.{stripe_parcels}
 use Rattle.depot_rule.specs.History.{AreHands, behaviour, entries_of}
 use Rattle.depot.specs.Calls.{known}
 use Rattle.depot.specs.Grants.{HasWith}

@@ -1,6 +1,6 @@
 use Rattle.std.proofs.Common.{◌≡◌, ◌≤◌}
-use Rattle.affinity.specs.Layout.{layout_of}
-use Rattle.parcels.specs.Exact.{kind_in}
+use Rattle.affinity_tree.specs.Layout.{layout_of}
+use Rattle.parcel_sets.specs.Exact.{kind_in}
 use Rattle.depot.specs.Calls.{known}
 use Rattle.depot.specs.Grants.{IsSeatOf}
 use Rattle.depot.proofs.measure.begin_and_finish.Given as goal

@@ -1,8 +1,8 @@
 use Rattle.std.proofs.Common.{refl, sym, subst}
-use Rattle.affinity.specs.Affinity.{affinity_of}
-use Rattle.affinity.specs.Layout.{layout_of}
-use Rattle.affinity.specs.Numbers.{number_of}
-use Rattle.parcels.specs.Exact.{kind_in, HasExactly}
+use Rattle.affinity_tree.specs.Affinity.{affinity_of}
+use Rattle.affinity_tree.specs.Layout.{layout_of}
+use Rattle.affinity_tree.specs.Numbers.{number_of}
+use Rattle.parcel_sets.specs.Exact.{kind_in, HasExactly}
 use Rattle.depot.specs.Calls.{known}
 use Rattle.depot.specs.Grants.{HasWith}
 use Rattle.depot.specs.declared.adding.Change.TheVariants.{Touch}

@@ -1,9 +1,9 @@
 use Rattle.std.proofs.Common.{◌+◌, ◌∙◌, sym, subst}
 use Rattle.nfs_model.specs.Tree.{Serial}
-use Rattle.affinity.specs.Layout.{layout_of}
-use Rattle.affinity.specs.Numbers.{parents, node_count}
-use Rattle.parcels.specs.Exact.{kind_in}
-use Rattle.parcels.specs.Sets.{serial_parcels}
+use Rattle.affinity_tree.specs.Layout.{layout_of}
+use Rattle.affinity_tree.specs.Numbers.{parents, node_count}
+use Rattle.parcel_sets.specs.Exact.{kind_in}
+use Rattle.parcel_sets.specs.Sets.{serial_parcels}
 use Rattle.depot.specs.Calls.{known}
 use Rattle.depot.specs.Grants.{by_number, IsSeatOf}
 use Rattle.depot.proofs.Rejoined.{rejoined-none, rejoined-seat}

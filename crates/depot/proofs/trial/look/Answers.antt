@@ -1,10 +1,10 @@
 use Rattle.std.proofs.Common.{sym, subst}
-use Rattle.affinity.specs.Affinity.{affinity_of}
-use Rattle.affinity.specs.Layout.{layout_of}
-use Rattle.affinity.specs.Numbers.{number_of}
+use Rattle.affinity_tree.specs.Affinity.{affinity_of}
+use Rattle.affinity_tree.specs.Layout.{layout_of}
+use Rattle.affinity_tree.specs.Numbers.{number_of}
 use Rattle.depot.specs.Calls.{known}
 use Rattle.depot.specs.Grants.{HasWith}
-use Rattle.parcels.specs.Sets.{stripe_parcels}
+use Rattle.parcel_sets.specs.Sets.{stripe_parcels}
 use Rattle.depot.proofs.Trials.{begun-with}
 use Rattle.depot.proofs.trial.look.Goals as goal
 

@@ -1,5 +1,5 @@
 use Rattle.std.proofs.Common.{sym, subst}
-use Rattle.parcels.specs.Exact.{kind_in}
+use Rattle.parcel_sets.specs.Exact.{kind_in}
 use Rattle.depot.specs.Calls.{known}
 use Rattle.depot.specs.Grants.{IsSeatOf}
 use Rattle.depot.proofs.trial.open.Goals as goal

@@ -1,8 +1,8 @@
 use Rattle.std.proofs.Common.{sym, subst, arith}
-use Rattle.affinity.specs.Layout.{layout_of}
+use Rattle.affinity_tree.specs.Layout.{layout_of}
 use Rattle.nfs_model.specs.Tree.{Serial}
-use Rattle.parcels.specs.Exact.{kind_in}
-use Rattle.parcels.specs.Sets.{serial_parcels}
+use Rattle.parcel_sets.specs.Exact.{kind_in}
+use Rattle.parcel_sets.specs.Sets.{serial_parcels}
 use Rattle.depot.specs.Calls.{known}
 use Rattle.depot.specs.Grants.{IsSeatOf}
 use Rattle.depot.proofs.Lent.{few-nodes, each-few, hand-opened}

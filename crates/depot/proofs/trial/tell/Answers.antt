@@ -1,6 +1,6 @@
 use Rattle.std.proofs.Common.{sym, ◌∙◌, subst}
-use Rattle.affinity.specs.Layout.{layout_of}
-use Rattle.parcels.specs.Exact.{kind_in}
+use Rattle.affinity_tree.specs.Layout.{layout_of}
+use Rattle.parcel_sets.specs.Exact.{kind_in}
 use Rattle.depot.specs.Grants.{IsSeatOf}
 use Rattle.depot.proofs.trial.tell.Goals as goal
 

@@ -1,8 +1,8 @@
 use Rattle.std.proofs.Common.{rules, ◌≡◌, ◌<◌, ◌+◌, ◌∷◌, ◌++◌, ℕ, List, [], length, Option, refl, sym, ap, ◌∙◌, subst, arith}
 use Rattle.nfs_model.specs.Tree.{Layout}
-use Rattle.affinity.specs.Affinity.{affinity_of}
-use Rattle.affinity.specs.Layout.{layout_of}
-use Rattle.affinity.specs.Numbers as numbers
+use Rattle.affinity_tree.specs.Affinity.{affinity_of}
+use Rattle.affinity_tree.specs.Layout.{layout_of}
+use Rattle.affinity_tree.specs.Numbers as numbers
 use Rattle.depot_rule.specs.declared.view.View.{View}
 use Rattle.depot_rule.specs.declared.view.Read.{Read}
 use Rattle.depot_rule.specs.declared.view.Entry.{Entry}

@@ -1,9 +1,9 @@
 use Rattle.std.proofs.Common.{arith, ◌≡◌, ℕ, ◌+◌, [], ◌∷◌, List, Option, None, length, get_or, sym, refl, ap, ◌∙◌, subst}
 use Rattle.std.proofs.lemmas.List.{length-replicate}
 use Rattle.nfs_model.specs.Tree.{Serial}
-use Rattle.affinity.specs.Layout.{layout_of}
-use Rattle.affinity.specs.Numbers.{number_of, node_count, parents}
-use Rattle.affinity.proofs.Smaller.{length-parents}
+use Rattle.affinity_tree.specs.Layout.{layout_of}
+use Rattle.affinity_tree.specs.Numbers.{number_of, node_count, parents}
+use Rattle.affinity_tree.proofs.Smaller.{length-parents}
 use Rattle.depot_rule.specs.declared.view.View.{View}
 use Rattle.depot_rule.specs.declared.view.Entry.{Entry}
 use Rattle.depot_rule.specs.History.{behaviour}

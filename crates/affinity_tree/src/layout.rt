@@ -1,0 +1,99 @@
+//! Layouts.
+
+ghost use Rattle.std.specs.Prelude.{◌≡◌, None};
+ghost use Rattle.affinity_tree.specs.Specification.{layout_in};
+ghost use Rattle.affinity_tree.specs.Fault.{fault_of};
+
+use crate::fault::LayoutFault;
+use crate::rules::check;
+use crate::specification::{AggregateSpec, VolumeSpec};
+use std::alloc::Global;
+
+/// The stripes of a volume.
+const STRIPES: u32 = 8;
+
+/// The aggregates and volumes of a run, fixed for as long as it lasts.
+#[derive(Debug, Drop)]
+pub struct Layout {
+    aggregates: Vec<AggregateSpec>,
+    volumes: Vec<VolumeSpec>,
+    pub ghost lawful: { fault_of (layout_in aggregates.items volumes.items) ≡ None },
+}
+
+impl Layout {
+    ghost use Rattle.std.specs.Prelude.{◌<◌, ◌≤◌, length, slice_get, option_map, IfOk, IfErr, OnOk};
+    ghost use Rattle.nfs_model.specs.Tree.{aggregate_of, stripes_of};
+    ghost use Rattle.affinity_tree.specs.Specification.{spare_of, volume_of};
+    ghost use Rattle.affinity_tree.specs.Fault.{rule_broken};
+    ghost use Rattle.affinity_tree.specs.Layout.{layout_of};
+
+    /// A layout of these aggregates and volumes, each with 8 stripes. It is refused for the first
+    /// rule that it breaks.
+    pub fn new(
+        alloc: Global,
+        aggregates: &[AggregateSpec],
+        volumes: &[VolumeSpec],
+    ) -> Result<Layout, LayoutFault>
+        ensures ok { IfOk result (λ layout. layout_of layout ≡ layout_in aggregates.now volumes.now) }
+        ensures lawful { OnOk result (fault_of (layout_in aggregates.now volumes.now) ≡ None) }
+        ensures err { IfErr result (λ fault. rule_broken fault ≡ fault_of (layout_in aggregates.now volumes.now)) }
+    {
+        check(aggregates, volumes)?;
+        Ok(Layout {
+            aggregates: aggregates.to_vec(alloc)?,
+            volumes: volumes.to_vec(alloc)?,
+        })
+    }
+
+    /// How many aggregates there are.
+    pub fn aggregate_count(&self) -> usize
+        ensures count { result ≡ length (layout_of self.now).spare }
+        ensures most { result ≤ 2 }
+    {
+        self.aggregates.len()
+    }
+
+    /// How many volumes there are.
+    pub fn volume_count(&self) -> usize
+        ensures count { result ≡ length (layout_of self.now).volumes }
+        ensures most { result ≤ 8 }
+    {
+        self.volumes.len()
+    }
+
+    /// An aggregate by its number.
+    pub fn aggregate(&self, aggregate: u32) -> Option<AggregateSpec>
+        ensures { option_map spare_of result ≡ slice_get (layout_of self.now).spare aggregate }
+    {
+        self.aggregates.get(aggregate as usize).copied()
+    }
+
+    /// A volume by its number.
+    pub fn volume(&self, volume: u32) -> Option<VolumeSpec>
+        ensures { option_map volume_of result ≡ slice_get (layout_of self.now).volumes volume }
+    {
+        self.volumes.get(volume as usize).copied()
+    }
+
+    /// The aggregate of a volume; 0 for a volume that isn't there.
+    #[tactic(auto, using(crate::proofs::Lawful::aggregate_known))]
+    pub fn aggregate_of(&self, volume: u32) -> u32
+        ensures aggregate { result ≡ aggregate_of (layout_of self.now) volume }
+        ensures known { volume < length (layout_of self.now).volumes → result < length (layout_of self.now).spare }
+    {
+        match self.volume(volume) {
+            Some(specification) => specification.aggregate,
+            None => 0,
+        }
+    }
+
+    /// The number of stripes of a volume.
+    pub fn stripes_of(&self, volume: u32) -> u32
+        ensures stripes { result ≡ stripes_of (layout_of self.now) volume }
+        ensures some { 0 < result }
+        ensures most { result ≤ 16 }
+    {
+        let _ = self.volume(volume);
+        STRIPES
+    }
+}

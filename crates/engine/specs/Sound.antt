@@ -1,0 +1,199 @@
+-- What holds of an engine's fields beside what is seen of them: what was read is in step with the streams, and what is to come has its room.
+use Rattle.std.specs.Prelude.{Bool, false, is_none, ◌⊎◌, ◌≡◌, ℕ, ◌+◌, ◌*◌, ◌^◌, ◌≤◌, ◌<◌, List, [], ◌∷◌, ◌++◌, length, take, Option, Some, None, option_map, IfSome, IsTrue, vec_len, vec_capacity}
+use Rattle.nfs_model.specs.Types as types
+use Rattle.nfs_model.specs.Serial.Starve.{may_starve_at_decoding}
+use Rattle.rpc_record.specs.Machine.{State, Outcome, More, Made, Fault, outcome}
+use Rattle.rpc_record.specs.Stream.{read_stream}
+use Rattle.engine.specs.declared.event.StreamFault.TheVariants.{RecordTooLong}
+use Rattle.engine.specs.declared.connection.OpenConnection.{OpenConnection}
+use Rattle.engine.specs.declared.connection.Arrival.{Arrival}
+use Rattle.engine.specs.declared.connection.Arrival.TheVariants as arrivals
+use Rattle.engine.specs.declared.event.StreamFault.{StreamFault}
+use Rattle.engine.specs.declared.message.Running.{Running}
+use Rattle.engine.specs.declared.parcel.VolumeLogical.{VolumeLogical}
+use Rattle.engine.specs.declared.state.State as states
+use Rattle.engine.specs.Numbers.{fault_number}
+use Rattle.engine.specs.Seen.{heard_of}
+use Rattle.engine.specs.Streams.{scan_stream, IsQuiet, Completes}
+
+-- What was read of a connection is in step with its stream.
+pub record IsInStep (c : OpenConnection) : Type 0 where
+  pub reassembler : (read_stream c.stream.items).at ≡ c.reassembler
+  pub fault : (scan_stream c.stream.items).fault ≡ option_map fault_number c.fault
+  pub records : length (scan_stream c.stream.items).served ≡ c.records
+  pub few : c.records ≤ vec_len c.stream
+
+-- What bytes came to that a connection was given: so many of them were taken.
+abbrev pub Arrives : List ℕ → List ℕ → ℕ → Arrival → Type 0
+Arrives stream bytes taken arrivals.More = (taken ≡ length bytes) × IsQuiet stream bytes
+Arrives stream bytes taken (arrivals.Heard heard) = (0 < taken) × (taken ≤ length bytes) × Completes stream (take taken bytes) (record { served = (scan_stream stream).served ++ heard_of heard ∷ []; fault = None })
+Arrives stream bytes taken (arrivals.Undecoded xid) =
+    (0 < taken) × (taken ≤ length bytes) × ((asked : types.Asked) × IsTrue (may_starve_at_decoding asked) × Completes stream (take taken bytes) (record { served = (scan_stream stream).served ++ (record { xid = xid; asked = asked }) ∷ []; fault = None }))
+Arrives stream bytes taken (arrivals.Fault fault) = (0 < taken) × (taken ≤ length bytes) × Completes stream (take taken bytes) (record { served = (scan_stream stream).served; fault = Some (fault_number fault) })
+Arrives stream bytes taken arrivals.NoMemory = taken ≡ 0
+
+abbrev pub count_of : Option Running → ℕ
+count_of None = 0
+count_of (Some r) = 1
+
+-- how many messages wait or run
+abbrev pub pending : states.State → ℕ
+pending s = vec_len s.waiting + count_of s.running
+
+-- The parcel is at home just where nothing runs.
+abbrev pub IsLent : Option VolumeLogical → Option Running → Type 0
+IsLent None None = ⊥
+IsLent None (Some r) = Unit {0}
+IsLent (Some p) None = Unit {0}
+IsLent (Some p) (Some r) = ⊥
+
+-- Each message that waits or runs has its room among the replies.
+pub record IsRoomy (pending : ℕ) (c : OpenConnection) : Type 0 where
+  pub in_step : IsInStep c
+  pub output : vec_len c.output + 116 * pending ≤ vec_capacity c.output
+
+pub record IsSound (s : states.State) : Type 0 where
+  pub current : IfSome s.current (λ c. IsRoomy (pending s) c × (vec_len s.past < vec_capacity s.past))
+  pub places : pending s ≤ 1024
+  pub finished : vec_len s.finished + pending s ≤ vec_capacity s.finished
+  pub lent : IsLent s.home s.running
+  pub stamps : s.stamps + count_of s.running ≤ 2 ^ 62
+
+-- ---- what a finished call leaves
+
+-- a connection that was written to, at most 116 bytes
+pub record IsWrittenTo (old new : OpenConnection) : Type 0 where
+  pub same : new ≡ record old { output = new.output }
+  pub len : vec_len new.output ≤ vec_len old.output + 116
+  pub room : vec_capacity old.output ≤ vec_capacity new.output
+
+abbrev pub MayBeWrittenTo : Option OpenConnection → Option OpenConnection → Type 0
+MayBeWrittenTo None None = Unit {0}
+MayBeWrittenTo None (Some new) = ⊥
+MayBeWrittenTo (Some old) None = ⊥
+MayBeWrittenTo (Some old) (Some new) = IsWrittenTo old new
+
+-- a reply was written where its connection is open; all else stays
+pub record Responds (old new : states.State) : Type 0 where
+  pub same : new ≡ record old { current = new.current }
+  pub current : MayBeWrittenTo old.current new.current
+
+-- one more entry is kept; all else stays
+pub record KeepsEntry (old new : states.State) : Type 0 where
+  pub same : new ≡ record old { finished = new.finished }
+  pub len : vec_len new.finished ≡ vec_len old.finished + 1
+  pub room : vec_capacity new.finished ≡ vec_capacity old.finished
+
+-- ---- bytes that are taken
+
+-- room for one more message, its entry and its reply
+pub record HasRoomToAdmit (s : states.State) : Type 0 where
+  pub waiting : vec_len s.waiting < vec_capacity s.waiting
+  pub finished : vec_len s.finished + (pending s + 1) ≤ vec_capacity s.finished
+  pub output : IfSome s.current (λ c. vec_len c.output + 116 * (pending s + 1) ≤ vec_capacity c.output)
+
+-- a connection with perhaps more room for its output
+pub record IsRoomier (old new : OpenConnection) : Type 0 where
+  pub same : new ≡ record old { output = new.output }
+  pub items : new.output.items ≡ old.output.items
+  pub len : vec_len new.output ≡ vec_len old.output
+  pub room : vec_capacity old.output ≤ vec_capacity new.output
+
+abbrev pub MayBeRoomier : Option OpenConnection → Option OpenConnection → Type 0
+MayBeRoomier None None = Unit {0}
+MayBeRoomier None (Some new) = ⊥
+MayBeRoomier (Some old) None = ⊥
+MayBeRoomier (Some old) (Some new) = IsRoomier old new
+
+-- nothing that is seen changes, and perhaps there is more room
+pub record MakesRoom (old new : states.State) : Type 0 where
+  pub same : new ≡ record old { waiting = new.waiting; finished = new.finished; current = new.current }
+  pub waiting : new.waiting.items ≡ old.waiting.items
+  pub waiting_len : vec_len new.waiting ≡ vec_len old.waiting
+  pub finished : new.finished.items ≡ old.finished.items
+  pub finished_len : vec_len new.finished ≡ vec_len old.finished
+  pub finished_room : vec_capacity old.finished ≤ vec_capacity new.finished
+  pub current : MayBeRoomier old.current new.current
+
+-- a connection is open, at no fault, and has room for so many more bytes
+abbrev pub TakesIn : Option OpenConnection → ℕ → Type 0
+TakesIn None rest = ⊥
+TakesIn (Some c) rest = (c.fault ≡ None) × (vec_len c.stream + rest ≤ vec_capacity c.stream)
+
+-- no fault was told
+abbrev pub IsFaultless : Arrival → Option StreamFault → Type 0
+IsFaultless arrivals.More fault = fault ≡ None
+IsFaultless (arrivals.Heard heard) fault = fault ≡ None
+IsFaultless (arrivals.Undecoded xid) fault = fault ≡ None
+IsFaultless (arrivals.Fault told) fault = Unit {0}
+IsFaultless arrivals.NoMemory fault = fault ≡ None
+
+-- bytes came on a connection, and so many of them were taken
+pub record TakesFrom (old new : OpenConnection) (bytes : List ℕ) (taken : ℕ) (arrival : Arrival) : Type 0 where
+  pub arrives : Arrives old.stream.items bytes taken arrival
+  pub stream : new.stream.items ≡ old.stream.items ++ take taken bytes
+  pub len : vec_len new.stream ≡ vec_len old.stream + taken
+  pub room : vec_capacity old.stream ≤ vec_capacity new.stream
+  pub output : new.output ≡ old.output
+  pub in_step : IsInStep new
+  pub faultless : IsFaultless arrival new.fault
+
+abbrev pub MayTakeFrom : Option OpenConnection → Option OpenConnection → List ℕ → ℕ → Arrival → Type 0
+MayTakeFrom (Some old) (Some new) bytes taken arrival = TakesFrom old new bytes taken arrival
+MayTakeFrom (Some old) None bytes taken arrival = ⊥
+MayTakeFrom None new bytes taken arrival = ⊥
+
+-- the records that the open connection served
+abbrev pub records_of : Option OpenConnection → ℕ
+records_of None = 0
+records_of (Some c) = c.records
+
+-- ---- bytes that complete no record
+
+abbrev pub HasNoRecord : Outcome → Type 0
+HasNoRecord (More state) = Unit {0}
+HasNoRecord (Made taken made) = ⊥
+HasNoRecord (Fault taken) = Unit {0}
+
+abbrev pub AdmitsNone : Arrival → Type 0
+AdmitsNone arrivals.More = Unit {0}
+AdmitsNone (arrivals.Heard heard) = ⊥
+AdmitsNone (arrivals.Undecoded xid) = ⊥
+AdmitsNone (arrivals.Fault fault) = fault ≡ RecordTooLong
+AdmitsNone arrivals.NoMemory = Unit {0}
+
+-- where the reassembler of the open connection stands
+abbrev pub stands_at : Option OpenConnection → Option State
+stands_at None = None
+stands_at (Some c) = c.reassembler
+
+-- so many of the bytes complete no record, and one more would
+pub record IsFree (at : Option State) (bytes : List ℕ) (free : ℕ) : Type 0 where
+  pub within : free ≤ length bytes
+  pub none : HasNoRecord (outcome at (take free bytes))
+  pub next : free < length bytes → (made : List ℕ) × (outcome at bytes ≡ Made (free + 1) made)
+
+-- a connection is open, and at no fault
+abbrev pub AtNoFault : Option OpenConnection → Type 0
+AtNoFault None = ⊥
+AtNoFault (Some c) = c.fault ≡ None
+
+abbrev pub at_no_fault : Option OpenConnection → Bool
+at_no_fault None = false
+at_no_fault (Some c) = is_none c.fault
+
+-- The next byte is not one that would complete a record in want of a place.
+abbrev pub MayGoOn : states.State → List ℕ → Type 0
+MayGoOn s bytes = (pending s < 1024) ⊎ ((free : ℕ) × (free ≡ 0 → ⊥) × HasNoRecord (outcome (stands_at s.current) (take free bytes)))
+
+-- a connection with perhaps more room for its stream
+pub record IsStreamRoomier (old new : OpenConnection) : Type 0 where
+  pub same : new ≡ record old { stream = new.stream }
+  pub items : new.stream.items ≡ old.stream.items
+  pub len : vec_len new.stream ≡ vec_len old.stream
+
+abbrev pub MayBeStreamRoomier : Option OpenConnection → Option OpenConnection → Type 0
+MayBeStreamRoomier None None = Unit {0}
+MayBeStreamRoomier None (Some new) = ⊥
+MayBeStreamRoomier (Some old) None = ⊥
+MayBeStreamRoomier (Some old) (Some new) = IsStreamRoomier old new

@@ -1,0 +1,71 @@
+//! Calls that are finished: their replies, and their entries.
+
+ghost use Rattle.std.specs.Prelude.{◌≡◌, ◌+◌, ◌≤◌, ◌<◌, ◌++◌, ◌∷◌, [], length, slice_get, IfSome, vec_len, vec_capacity};
+ghost use Rattle.nfs_model.specs.World.{changed_at, with_output};
+ghost use Rattle.nfs_model.specs.Events.Step.{bytes_if_open};
+ghost use Rattle.nfs_values.specs.Reply.{reply_of};
+ghost use Rattle.rpc_msg.specs.Replies.{IsShort};
+ghost use Rattle.engine.specs.Codec.{reply_record};
+ghost use Rattle.engine.specs.Seen.{world, entry_by};
+ghost use Rattle.engine.specs.Sound.{IsWrittenTo, Responds, KeepsEntry};
+
+use crate::connection::OpenConnection;
+use crate::message::{Entry, Origin, Request};
+use crate::reply::put_reply;
+use crate::state::State;
+use affinity_tree::Affinity;
+use nfs_values::{Moment, Reply};
+
+/// Writes a reply record, and answers how many bytes it has.
+fn write_to(last: &mut OpenConnection, xid: u32, reply: &Reply) -> usize
+    requires short { IsShort (reply_of reply.now) }
+    requires room { vec_len last.old.output + 116 ≤ vec_capacity last.old.output }
+    ensures output { last.new.output.items ≡ last.old.output.items ++ reply_record xid (reply_of reply.now) }
+    ensures count { result ≡ length (reply_record xid (reply_of reply.now)) }
+    ensures written { IsWrittenTo last.old last.new }
+{
+    let before = last.output.len();
+    put_reply(&mut last.output, xid, reply);
+    last.output.len() - before
+}
+
+/// Writes the reply to a record's call, and answers how many bytes it has: none where the
+/// record's connection is closed.
+pub(crate) fn respond(state: &mut State, origin: Origin, reply: &Reply) -> usize
+    requires short { IsShort (reply_of reply.now) }
+    requires room { IfSome state.old.current (λ c. vec_len c.output + 116 ≤ vec_capacity c.output) }
+    ensures written { world state.new ≡ record (world state.old) { connections = changed_at (with_output (reply_record origin.xid (reply_of reply.now))) (world state.old).connections origin.connection } }
+    ensures count { result ≡ length (bytes_if_open (slice_get (world state.old).connections origin.connection) (reply_record origin.xid (reply_of reply.now))) }
+    ensures responds { Responds state.old state.new }
+{
+    if origin.connection != state.past.len() {
+        return 0;
+    }
+    match &mut state.current {
+        Some(last) => write_to(last, origin.xid, reply),
+        None => 0,
+    }
+}
+
+/// Keeps the entry of a finished call, for which there is room. It was starved where memory for its
+/// name or data ran out.
+pub(crate) fn keep_entry(
+    state: &mut State,
+    origin: Origin,
+    request: Option<Request>,
+    affinity: Option<Affinity>,
+    moment: Moment,
+)
+    requires { vec_len state.old.finished < vec_capacity state.old.finished }
+    ensures kept { world state.new ≡ record (world state.old) { finished = (world state.old).finished ++ entry_by origin request affinity moment ∷ [] } }
+    ensures keeps { KeepsEntry state.old state.new }
+{
+    let starved = request.is_none();
+    state.finished.push_reserved(Entry {
+        origin,
+        request,
+        affinity,
+        moment,
+        starved,
+    });
+}

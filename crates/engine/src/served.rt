@@ -1,0 +1,119 @@
+//! What is asked and answered, with the procedures that are served so far. What the types hold
+//! widens with that set.
+
+ghost use Rattle.std.specs.Prelude.{◌≡◌};
+ghost use Rattle.nfs_laws.specs.ReadOnly.{IsReading};
+ghost use Rattle.nfs_values.specs.Answer.{answer_of};
+ghost use Rattle.nfs_values.specs.Call.{call_of};
+ghost use Rattle.nfs_values.specs.Reply.{reply_of};
+ghost use Rattle.rpc_msg.specs.Replies.{IsShort};
+ghost use Rattle.engine.specs.Short.{IsShortAnswer};
+
+use nfs_values::{Answer, Call, Reply};
+use std::marker::Model;
+
+/// A call of a procedure that is served.
+#[derive(Drop)]
+pub struct ServedCall {
+    call: Call,
+}
+
+impl Model for ServedCall {
+    ghost use Rattle.nfs_values.specs.declared.call.Call.{Call};
+
+    ghost Value = { Call };
+
+    ghost use Rattle.nfs_laws.specs.ReadOnly.{IsReading};
+    ghost use Rattle.nfs_values.specs.Call.{call_of};
+
+    ghost view = { λ s. s.call };
+
+    ghost invariant = { λ s. IsReading (call_of s.call) };
+}
+
+impl ServedCall {
+    pub(crate) fn new(call: Call) -> ServedCall
+        requires { IsReading (call_of call) }
+        ensures { result ≡ call }
+    {
+        ServedCall { call }
+    }
+
+    pub fn as_call(&self) -> &Call
+        ensures value { result.now ≡ self.now }
+        ensures served { IsReading (call_of self.now) }
+    {
+        &self.call
+    }
+}
+
+/// An answer to a call that is served.
+#[derive(Drop)]
+pub struct ServedAnswer {
+    answer: Answer,
+}
+
+impl Model for ServedAnswer {
+    ghost use Rattle.nfs_values.specs.declared.answer.Answer.{Answer};
+
+    ghost Value = { Answer };
+
+    ghost use Rattle.nfs_values.specs.Answer.{answer_of};
+    ghost use Rattle.engine.specs.Short.{IsShortAnswer};
+
+    ghost view = { λ s. s.answer };
+
+    ghost invariant = { λ s. IsShortAnswer (answer_of s.answer) };
+}
+
+impl ServedAnswer {
+    pub(crate) fn new(answer: Answer) -> ServedAnswer
+        requires { IsShortAnswer (answer_of answer) }
+        ensures { result ≡ answer }
+    {
+        ServedAnswer { answer }
+    }
+
+    pub fn into_answer(self) -> Answer
+        ensures value { result ≡ self }
+        ensures short { IsShortAnswer (answer_of self) }
+    {
+        let ServedAnswer { answer } = self;
+        answer
+    }
+}
+
+/// A reply that refuses a record.
+#[derive(Drop)]
+pub struct Refused {
+    reply: Reply,
+}
+
+impl Model for Refused {
+    ghost use Rattle.nfs_values.specs.declared.reply.Reply.{Reply};
+
+    ghost Value = { Reply };
+
+    ghost use Rattle.nfs_values.specs.Reply.{reply_of};
+    ghost use Rattle.rpc_msg.specs.Replies.{IsShort};
+
+    ghost view = { λ r. r.reply };
+
+    ghost invariant = { λ r. IsShort (reply_of r.reply) };
+}
+
+impl Refused {
+    pub(crate) fn new(reply: Reply) -> Refused
+        requires { IsShort (reply_of reply) }
+        ensures { result ≡ reply }
+    {
+        Refused { reply }
+    }
+
+    pub fn as_reply(&self) -> &Reply
+        ensures value { result.now ≡ self.now }
+        ensures short { IsShort (reply_of self.now) }
+    {
+        &self.reply
+    }
+}

@@ -1,0 +1,107 @@
+//! Calls on the parcel.
+
+ghost use Rattle.std.specs.Prelude.{◌≡◌, List, ℕ};
+ghost use Rattle.nfs_model.specs.Types as types;
+ghost use Rattle.nfs_model.specs.Tree as trees;
+ghost use Rattle.nfs_model.specs.Home.{home};
+ghost use Rattle.nfs_laws.specs.ReadOnly.{IsReading};
+ghost use Rattle.nfs_model.specs.Serial.AtOnce.{answer_without_home};
+ghost use Rattle.nfs_model.specs.Shown.{shown};
+ghost use Rattle.nfs_values.specs.Attributes.{shown_of};
+ghost use Rattle.nfs_values.specs.Answer.{answer_of};
+ghost use Rattle.nfs_values.specs.Call.{call_of};
+ghost use Rattle.affinity_tree.specs.Affinity.{affinity_of};
+ghost use Rattle.affinity_tree.specs.Layout.{layout_of};
+ghost use Rattle.engine.specs.Seen.{root_of, tried, volume_of};
+ghost use Rattle.engine.specs.Served.{IsAnswer};
+ghost use Rattle.engine.specs.Short.{IsShortAnswer};
+
+use crate::parcel::VolumeLogical;
+use crate::served::ServedCall;
+use affinity::{home_of, named_by};
+use affinity_tree::{Affinity, Layout};
+use nfs_values::{Answer, Attributes, Call, FileKind, Procedure, Status};
+
+/// The fileid of the root directory.
+const ROOT: u64 = 1;
+
+/// The affinity that a waiting call tries. A call without one doesn't wait.
+pub(crate) fn tried(call: &ServedCall, layout: &Layout) -> Affinity
+    ensures { affinity_of result ≡ tried (home (layout_of layout.now) (call_of call.now)) }
+{
+    match home_of(call.as_call(), layout) {
+        Some(affinity) => affinity,
+        None => Affinity::Serial,
+    }
+}
+
+/// What a call without an affinity is answered.
+pub(crate) fn answer_at_once(call: &ServedCall) -> Answer
+    ensures answer { (layout : trees.Layout) → answer_of result ≡ answer_without_home layout (call_of call.now) }
+    ensures short { IsShortAnswer (answer_of result) }
+{
+    match call.as_call() {
+        Call::Null => Answer::Null,
+        Call::GetAttributes { .. } => Answer::Failed {
+            procedure: Procedure::GetAttributes,
+            status: Status::BadHandle,
+        },
+        _ => unreachable!(),
+    }
+}
+
+impl VolumeLogical {
+    /// The attributes of a volume's root directory, which is empty.
+    fn root_attributes(&self, volume: u32) -> Attributes
+        ensures { (verifier : List ℕ) (v : trees.VolumeLayout) → shown_of result ≡ shown (volume_of verifier self.now.root volume v) 1 (root_of self.now.root) }
+    {
+        Attributes {
+            kind: FileKind::Directory,
+            mode: self.root.mode,
+            links: 2,
+            uid: self.root.uid,
+            gid: self.root.gid,
+            size: 4_096,
+            used: 0,
+            fsid: u64::from(volume),
+            fileid: ROOT,
+            atime: self.root.atime,
+            mtime: self.root.mtime,
+            ctime: self.root.ctime,
+        }
+    }
+}
+
+/// What a call on a fileid is answered by the server whose parcel this is.
+fn get_attributes(held: &VolumeLogical, volume: u32, fileid: u64) -> Answer
+    ensures root { fileid ≡ 1 → (verifier : List ℕ) (v : trees.VolumeLayout) → answer_of result ≡ types.GetattrDone (shown (volume_of verifier held.now.root volume v) 1 (root_of held.now.root)) }
+    ensures others { (fileid ≡ 1 → ⊥) → answer_of result ≡ types.Failed types.Stale 0 }
+    ensures short { IsShortAnswer (answer_of result) }
+{
+    if fileid == ROOT {
+        return Answer::GetAttributes(held.root_attributes(volume));
+    }
+    Answer::Failed {
+        procedure: Procedure::GetAttributes,
+        status: Status::Stale,
+    }
+}
+
+/// What a call is answered by the server whose parcel this is.
+pub(crate) fn answer(held: &VolumeLogical, layout: &Layout, call: &Call) -> Answer
+    requires { IsReading (call_of call.now) }
+    ensures answer { IsAnswer (layout_of layout.now) held.now.root (call_of call.now) (answer_of result) }
+    ensures short { IsShortAnswer (answer_of result) }
+{
+    match call {
+        Call::Null => Answer::Null,
+        Call::GetAttributes { handle } => match named_by(handle, layout) {
+            Some((volume, fileid)) => get_attributes(held, volume, fileid),
+            None => Answer::Failed {
+                procedure: Procedure::GetAttributes,
+                status: Status::BadHandle,
+            },
+        },
+        _ => unreachable!(),
+    }
+}

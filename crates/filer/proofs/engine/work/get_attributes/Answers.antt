@@ -1,6 +1,0 @@
-use Rattle.std.proofs.Common.{ap}
-use Rattle.nfs_model.specs.Types as types
-use Rattle.filer.proofs.engine.work.get_attributes.Goals as goal
-
-pub returns-then-fileid-eq-ROOT-clause-root : goal.returns-then-fileid-eq-ROOT-clause-root
-returns-then-fileid-eq-ROOT-clause-root c = λ e verifier v. ap types.GetattrDone (c.root_attributes.ensures verifier v)

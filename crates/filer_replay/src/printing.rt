@@ -1,0 +1,79 @@
+//! The lines that are printed.
+
+ghost use Rattle.std.specs.Prelude.{◌≡◌, ◌≤◌, ◌==◌, [], ◌∷◌, ◌++◌, length, codes, if◌then◌else◌, IfSome, IfErr, OnOk};
+ghost use Rattle.std.specs.Fmt.{decimal};
+ghost use Rattle.std.specs.Io.KnownBytes.{Appends};
+ghost use Rattle.hex.specs.Hex.{encode_lower};
+
+use crate::fault::Fault;
+use std::fmt::Display;
+use std::io::Write;
+
+/// How many bytes are spelled in one write.
+const PIECE: usize = 256;
+
+/// The hex digits of so many bytes.
+const DIGITS: usize = 512;
+
+/// Prints a line.
+pub(crate) fn say<W: Write, D: Display + Drop>(out: &mut W, line: D) -> Result<(), Fault>
+    ensures line { OnOk result (IfSome (D.output line)
+        (λ text. Appends (W.contents out.old) (W.contents out.new) (text ++ 10 ∷ []))) }
+    ensures err { IfErr result (λ fault. fault ≡ Fault.Output) }
+{
+    writeln!(out, "{line}").map_err(|_| Fault::Output)
+}
+
+/// Prints a piece in lower-case hex, in one write.
+fn print_piece<W: Write>(out: &mut W, piece: &[u8]) -> Result<(), Fault>
+    requires { length piece.now ≤ PIECE }
+    ensures digits { OnOk result (Appends (W.contents out.old) (W.contents out.new) (encode_lower piece.now)) }
+    ensures err { IfErr result (λ fault. fault ≡ Fault.Output) }
+{
+    let mut digits = [0; DIGITS];
+    let spelled = &mut digits[..2 * piece.len()];
+    hex::encode_to_slice(piece, spelled).unwrap();
+    out.write_all(spelled).map_err(|_| Fault::Output)
+}
+
+/// Prints bytes in lower-case hex.
+fn print_hex<W: Write>(out: &mut W, bytes: &[u8]) -> Result<(), Fault>
+    ensures digits { OnOk result (Appends (W.contents out.old) (W.contents out.new) (encode_lower bytes.now)) }
+    ensures err { IfErr result (λ fault. fault ≡ Fault.Output) }
+{
+    let mut rest = bytes;
+    while !rest.is_empty() {
+        let (piece, others) = rest.split_at(rest.len().min(PIECE));
+        print_piece(out, piece)?;
+        rest = others;
+    }
+    Ok(())
+}
+
+/// Prints the bytes that were written to a connection: `out`, its number and the bytes in hex, or
+/// `-` for none.
+pub(crate) fn print_output<W: Write>(
+    out: &mut W,
+    connection: usize,
+    bytes: &[u8],
+) -> Result<(), Fault>
+    ensures line { OnOk result (Appends (W.contents out.old) (W.contents out.new)
+        (codes "out " ++ decimal connection ++ codes " "
+        ++ (if length bytes.now == 0 then codes "-" else encode_lower bytes.now) ++ 10 ∷ [])) }
+    ensures err { IfErr result (λ fault. fault ≡ Fault.Output) }
+{
+    if bytes.is_empty() {
+        return say(out, format_args!("out {connection} -"));
+    }
+    write!(out, "out {connection} ").map_err(|_| Fault::Output)?;
+    print_hex(out, bytes)?;
+    out.write_all(b"\n").map_err(|_| Fault::Output)
+}
+
+/// Prints a fault, unless the output is what failed. The exit status tells of one that can't be
+/// printed.
+pub fn print_fault<W: Write>(out: &mut W, fault: Fault) {
+    if fault != Fault::Output {
+        let _ = say(out, fault);
+    }
+}

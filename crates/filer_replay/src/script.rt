@@ -1,0 +1,187 @@
+//! Scripts: lines of a layout, then lines of events.
+
+ghost use Rattle.std.specs.Prelude.{◌≡◌, ◌≢◌, ◌+◌, ◌<◌, ◌≤◌, ◌^◌, ◌⊎◌, [], ◌∷◌, ◌++◌, length, Contains, IsTrue, ◌↔◌, IfOk, IfErr, IsSome, IfSome};
+
+mod line;
+mod word;
+
+use crate::fault::Fault;
+use crate::script::line::{EventLine, Line, Unread, read_line};
+use affinity_tree::{
+    AggregateSpec, Layout, LayoutFault, MOST_AGGREGATES, MOST_RANGES, MOST_SPARE, MOST_VOLUMES,
+    VolumeSpec,
+};
+use std::alloc::Global;
+
+/// What ends a line.
+const LINE_FEED: u8 = b'\n';
+
+/// The most lines of a layout, the one that starts its engine with them.
+const LAYOUT_LINES: usize = MOST_AGGREGATES + MOST_VOLUMES + 1;
+
+/// Whether one more aggregate may follow these lines.
+fn is_aggregate(aggregates: &[AggregateSpec], volumes: &[VolumeSpec], spare: u32) -> bool
+    ensures { IsTrue result ↔ (volumes.now ≡ []) × (length aggregates.now < 2) × (spare ≤ 128) }
+{
+    volumes.is_empty() && aggregates.len() < MOST_AGGREGATES && spare <= MOST_SPARE
+}
+
+/// Whether one more volume may follow these lines.
+fn is_volume(
+    aggregates: &[AggregateSpec],
+    volumes: &[VolumeSpec],
+    aggregate: u32,
+    ranges: u32,
+) -> bool
+    ensures { IsTrue result ↔ (length volumes.now < 8) × (aggregate < length aggregates.now) × (1 ≤ ranges) × (ranges ≤ 16) }
+{
+    volumes.len() < MOST_VOLUMES
+        && (aggregate as usize) < aggregates.len()
+        && 1 <= ranges
+        && ranges <= MOST_RANGES
+}
+
+/// The lines of a script, of which some are read.
+#[derive(Drop)]
+pub(crate) struct Script<'a> {
+    alloc: Global,
+    rest: &'a [u8],
+    /// How many lines are read.
+    count: usize,
+    ghost room: { count + length rest.now < 2 ^ 63 },
+}
+
+/// What an engine is started with.
+#[derive(Debug, Drop)]
+pub(crate) struct Start {
+    pub(crate) layout: Layout,
+    pub(crate) verifier: [u8; 8],
+}
+
+impl<'a> Script<'a> {
+    ghost use Rattle.affinity_tree.specs.Layout.{layout_of};
+    ghost use Rattle.affinity_tree.specs.Specification.{layout_in};
+
+    /// A script of which nothing is read.
+    pub(crate) fn new(alloc: Global, text: &'a [u8]) -> Script<'a>
+        ensures rest { result.rest.now ≡ text.now }
+        ensures count { result.count ≡ 0 }
+    {
+        Script {
+            alloc,
+            rest: text,
+            count: 0,
+        }
+    }
+
+    /// That the line read last is of no form that a line may have there.
+    fn bad_line(&self) -> Fault
+        ensures { result ≡ Fault.BadLine self.now.count }
+    {
+        Fault::BadLine { number: self.count }
+    }
+
+    /// The next line without its line feed; nothing at the end. A last line without a line feed is
+    /// bad.
+    fn next_text(&mut self) -> Result<Option<&'a [u8]>, Fault>
+        ensures end { IfOk result (λ text. text ≡ None → (self.old.rest.now ≡ []) × (self.new ≡ self.old)) }
+        ensures line { IfOk result (λ text. IfSome text (λ line. self.old.rest.now ≡ line.now ++ 10 ∷ self.new.rest.now)) }
+        ensures whole { IfOk result (λ text. IfSome text (λ line. ¬ Contains line.now 10)) }
+        ensures count { IfOk result (λ text. IfSome text (λ _. self.new.count ≡ self.old.count + 1)) }
+        ensures shorter { IfOk result (λ text. IfSome text (λ _. length self.new.rest.now < length self.old.rest.now)) }
+        ensures err { IfErr result (λ fault. (fault ≡ Fault.BadLine (self.old.count + 1)) × ¬ Contains self.old.rest.now 10) }
+    {
+        let rest = self.rest;
+        if rest.is_empty() {
+            return Ok(None);
+        }
+        let Some(end) = rest.iter().position(|byte| *byte == LINE_FEED) else {
+            return Err(Fault::BadLine {
+                number: self.count + 1,
+            });
+        };
+        self.rest = &rest[end + 1..];
+        self.count += 1;
+        Ok(Some(&rest[..end]))
+    }
+
+    /// The next line that is neither empty nor a comment; nothing at the end.
+    fn next_line(&mut self) -> Result<Option<Line>, Fault>
+        ensures { IfOk result (λ line. IsSome line → length self.new.rest.now < length self.old.rest.now) }
+    {
+        while let Some(text) = self.next_text()? {
+            match read_line(self.alloc, text) {
+                Ok(None) => {}
+                Ok(Some(line)) => return Ok(Some(line)),
+                Err(Unread::Form) => return Err(self.bad_line()),
+                Err(Unread::NoMemory) => return Err(Fault::NoMemory),
+            }
+        }
+        Ok(None)
+    }
+
+    /// The next line of the layout. Where the script ends, the line past its last is bad.
+    fn layout_line(&mut self) -> Result<Line, Fault> {
+        match self.next_line()? {
+            Some(line) => Ok(line),
+            None => Err(Fault::BadLine {
+                number: self.count + 1,
+            }),
+        }
+    }
+
+    /// The layout, up to the line that starts its engine: aggregates, then volumes, then that line.
+    pub(crate) fn read_start(&mut self) -> Result<Start, Fault> {
+        let mut aggregates = Vec::new(self.alloc);
+        let mut volumes = Vec::new(self.alloc);
+        for _ in 0..LAYOUT_LINES {
+            match self.layout_line()? {
+                Line::Aggregate { spare } if is_aggregate(&aggregates, &volumes, spare) => {
+                    let specification = AggregateSpec { spare };
+                    aggregates
+                        .push(specification)
+                        .map_err(|_full| Fault::NoMemory)?;
+                }
+                Line::Volume { aggregate, ranges }
+                    if is_volume(&aggregates, &volumes, aggregate, ranges) => {
+                    let specification = VolumeSpec { aggregate, ranges };
+                    volumes
+                        .push(specification)
+                        .map_err(|_full| Fault::NoMemory)?;
+                }
+                Line::Start {
+                    workers: 1,
+                    verifier,
+                } => {
+                    let layout = self.layout(&aggregates, &volumes)?;
+                    return Ok(Start { layout, verifier });
+                }
+                _ => return Err(self.bad_line()),
+            }
+        }
+        Err(self.bad_line())
+    }
+
+    /// The layout of these; the line read last is bad where they are none.
+    fn layout(&self, aggregates: &[AggregateSpec], volumes: &[VolumeSpec]) -> Result<Layout, Fault>
+        ensures layout { IfOk result (λ layout. layout_of layout ≡ layout_in aggregates.now volumes.now) }
+        ensures bad { IfErr result (λ fault. (fault ≡ Fault.NoMemory) ⊎ (fault ≡ Fault.BadLine self.now.count)) }
+    {
+        match Layout::new(self.alloc, aggregates, volumes) {
+            Ok(layout) => Ok(layout),
+            Err(LayoutFault::NoMemory) => Err(Fault::NoMemory),
+            Err(_) => Err(self.bad_line()),
+        }
+    }
+
+    /// The next event; nothing at the end.
+    pub(crate) fn read_event(&mut self) -> Result<Option<EventLine>, Fault>
+        ensures { IfOk result (λ event. IsSome event → length self.new.rest.now < length self.old.rest.now) }
+    {
+        match self.next_line()? {
+            None => Ok(None),
+            Some(Line::Event(event)) => Ok(Some(event)),
+            Some(_) => Err(self.bad_line()),
+        }
+    }
+}

@@ -1,0 +1,58 @@
+//! The kinds of node.
+
+ghost use Rattle.std.specs.Prelude.{◌≡◌, ◌≢◌, ℕ, Option, None, IfSome};
+ghost use Rattle.nfs_model.specs.Tree as trees;
+ghost use Rattle.affinity_tree.specs.declared.affinity.Kind.{Kind};
+ghost use Rattle.affinity_tree.specs.Affinity.{affinity_of, kind_of};
+ghost use Rattle.affinity_tree.specs.Numbers.{number_of};
+ghost use Rattle.affinity_tree.specs.Tree.{IsNode};
+ghost use Rattle.affinity_tree.specs.Layout.{layout_of};
+ghost use Rattle.parcel_sets.specs.Exact.{kind_in, Under, HasExactly, IsPlaced, IsVacant};
+ghost use Rattle.parcel_sets.specs.Moved.{Moved};
+
+use crate::family::{Family, Parcel};
+use crate::shelf::Shelf;
+use affinity_tree::{Affinity, HasKind, Kind, Layout};
+
+impl<P: Family> HasKind for Parcel<P> {
+    ghost kind = { kind_in };
+}
+
+/// A kind of node, and the typed set of one.
+pub trait Node<T: HasKind> {
+    /// The node's parcel, and the sets of the nodes below.
+    type Held;
+
+    ghost KIND: { Kind };
+
+    /// The kind of the nodes that have such sets.
+    const KIND: Kind;
+
+    // The parcels of a set by the numbers of their nodes.
+    ghost parcels: { trees.Layout → trees.Affinity → Self.Held → ℕ → Option T };
+
+    /// Puts a node's set together from a shelf. No memory is taken.
+    fn gather<S: Shelf<T>>(shelf: &mut S, layout: &Layout, affinity: Affinity) -> Self::Held
+        requires node { IsNode (layout_of layout.now) (affinity_of affinity) }
+        requires kind { kind_of (affinity_of affinity) ≡ KIND }
+        requires there { Under (layout_of layout.now) (affinity_of affinity) (IsPlaced T.kind (layout_of layout.now) (S.at shelf.old)) }
+        ensures exact { HasExactly T.kind (layout_of layout.now) (affinity_of affinity) (parcels (layout_of layout.now) (affinity_of affinity) result) }
+        ensures moved { (k : ℕ) → Moved (S.at shelf.old k) (parcels (layout_of layout.now) (affinity_of affinity) result k) (S.at shelf.new k) }
+        ensures kept { S.keeps shelf.old shelf.new };
+
+    /// Gives the parcels of a set back to a shelf, each at its node. No memory is taken.
+    fn scatter<S: Shelf<T>>(shelf: &mut S, layout: &Layout, affinity: Affinity, held: Self::Held)
+        requires node { IsNode (layout_of layout.now) (affinity_of affinity) }
+        requires kind { kind_of (affinity_of affinity) ≡ KIND }
+        requires vacant { Under (layout_of layout.now) (affinity_of affinity) (IsVacant (layout_of layout.now) (S.at shelf.old)) }
+        requires allowed { (k : ℕ) → IfSome (parcels (layout_of layout.now) (affinity_of affinity) held k) (S.allows shelf.old k) }
+        ensures moved { (k : ℕ) → Moved (S.at shelf.new k) (parcels (layout_of layout.now) (affinity_of affinity) held k) (S.at shelf.old k) }
+        ensures kept { S.keeps shelf.old shelf.new };
+
+    // A set has no parcel of another node.
+    ghost within: { (layout : trees.Layout) (affinity : trees.Affinity) (held : Self.Held) (k : ℕ)
+        → IsNode layout affinity
+        → kind_of affinity ≡ KIND
+        → Under layout affinity (λ node. k ≢ number_of layout node)
+        → parcels layout affinity held k ≡ None };
+}

@@ -1,0 +1,389 @@
+//! A type for each kind of node.
+
+ghost use Rattle.affinity_tree.specs.declared.affinity.Kind.TheVariants as kinds;
+ghost use Rattle.parcel_sets.specs.Sets.{range_parcels, vbn_parcels, stripe_parcels, logical_parcels, volume_parcels, aggregate_parcels, serial_parcels};
+ghost use Rattle.parcel_sets.specs.Within.{range-within, vbn-within, stripe-within, logical-within, volume-within, aggregate-within, serial-within};
+
+use crate::family::{Family, Parcel};
+use crate::gather::{gather_at, gather_children, take_parcel};
+use crate::node::Node;
+use crate::places::{Places, eight_places, sixteen_places, two_places};
+use crate::scatter::{put_parcel, scatter_at, scatter_children};
+use crate::sets::{AggrHeld, LogicalHeld, RangeHeld, SerialHeld, StripeHeld, VbnHeld, VolumeHeld};
+use crate::shelf::Shelf;
+use affinity_tree::{Affinity, Kind, Layout};
+
+/// The root, with all parcels.
+pub struct SerialNode;
+
+impl<P: Family> Node<Parcel<P>> for SerialNode {
+    type Held = SerialHeld<P>;
+
+    ghost KIND = { kinds.Serial };
+
+    const KIND: Kind = Kind::Serial;
+
+    ghost parcels = { serial_parcels };
+
+    fn gather<S: Shelf<Parcel<P>>>(
+        shelf: &mut S,
+        layout: &Layout,
+        _affinity: Affinity,
+    ) -> SerialHeld<P> {
+        let Parcel::Serial(own) = take_parcel(shelf, layout, Affinity::Serial) else {
+            unreachable!()
+        };
+        let mut aggregates = two_places();
+        gather_children::<Parcel<P>, AggregateNode, Places<AggrHeld<P>, 2>, S>(
+            shelf,
+            layout,
+            Affinity::Serial,
+            &mut aggregates,
+        );
+        SerialHeld { own, aggregates }
+    }
+
+    fn scatter<S: Shelf<Parcel<P>>>(
+        shelf: &mut S,
+        layout: &Layout,
+        _affinity: Affinity,
+        held: SerialHeld<P>,
+    ) {
+        let SerialHeld { own, aggregates } = held;
+        put_parcel(shelf, layout, Affinity::Serial, Parcel::Serial(own));
+        scatter_children::<Parcel<P>, AggregateNode, Places<AggrHeld<P>, 2>, S>(
+            shelf,
+            layout,
+            Affinity::Serial,
+            aggregates,
+        );
+    }
+
+    ghost within = { serial-within };
+}
+
+/// An aggregate, with the volumes that are on it.
+pub struct AggregateNode;
+
+impl<P: Family> Node<Parcel<P>> for AggregateNode {
+    type Held = AggrHeld<P>;
+
+    ghost KIND = { kinds.Aggregate };
+
+    const KIND: Kind = Kind::Aggregate;
+
+    ghost parcels = { aggregate_parcels };
+
+    fn gather<S: Shelf<Parcel<P>>>(
+        shelf: &mut S,
+        layout: &Layout,
+        affinity: Affinity,
+    ) -> AggrHeld<P> {
+        let Affinity::Aggregate(aggregate) = affinity else {
+            unreachable!()
+        };
+        let Parcel::Aggregate(own) = take_parcel(shelf, layout, Affinity::Aggregate(aggregate))
+        else {
+            unreachable!()
+        };
+        let mut volumes = eight_places();
+        gather_children::<Parcel<P>, VolumeNode, Places<VolumeHeld<P>, 8>, S>(
+            shelf,
+            layout,
+            Affinity::Aggregate(aggregate),
+            &mut volumes,
+        );
+        AggrHeld { own, volumes }
+    }
+
+    fn scatter<S: Shelf<Parcel<P>>>(
+        shelf: &mut S,
+        layout: &Layout,
+        affinity: Affinity,
+        held: AggrHeld<P>,
+    ) {
+        let Affinity::Aggregate(aggregate) = affinity else {
+            unreachable!()
+        };
+        let AggrHeld { own, volumes } = held;
+        put_parcel(
+            shelf,
+            layout,
+            Affinity::Aggregate(aggregate),
+            Parcel::Aggregate(own),
+        );
+        scatter_children::<Parcel<P>, VolumeNode, Places<VolumeHeld<P>, 8>, S>(
+            shelf,
+            layout,
+            Affinity::Aggregate(aggregate),
+            volumes,
+        );
+    }
+
+    ghost within = { aggregate-within };
+}
+
+/// A volume, with its two halves.
+pub struct VolumeNode;
+
+impl<P: Family> Node<Parcel<P>> for VolumeNode {
+    type Held = VolumeHeld<P>;
+
+    ghost KIND = { kinds.Volume };
+
+    const KIND: Kind = Kind::Volume;
+
+    ghost parcels = { volume_parcels };
+
+    fn gather<S: Shelf<Parcel<P>>>(
+        shelf: &mut S,
+        layout: &Layout,
+        affinity: Affinity,
+    ) -> VolumeHeld<P> {
+        let Affinity::Volume(volume) = affinity else {
+            unreachable!()
+        };
+        let Parcel::Volume(own) = take_parcel(shelf, layout, Affinity::Volume(volume)) else {
+            unreachable!()
+        };
+        let logical = gather_at::<Parcel<P>, LogicalNode, S>(
+            shelf,
+            layout,
+            Affinity::VolumeLogical(volume),
+        );
+        let vbn = gather_at::<Parcel<P>, VbnNode, S>(shelf, layout, Affinity::VolumeVbn(volume));
+        VolumeHeld { own, logical, vbn }
+    }
+
+    fn scatter<S: Shelf<Parcel<P>>>(
+        shelf: &mut S,
+        layout: &Layout,
+        affinity: Affinity,
+        held: VolumeHeld<P>,
+    ) {
+        let Affinity::Volume(volume) = affinity else {
+            unreachable!()
+        };
+        let VolumeHeld { own, logical, vbn } = held;
+        put_parcel(shelf, layout, Affinity::Volume(volume), Parcel::Volume(own));
+        scatter_at::<Parcel<P>, LogicalNode, S>(
+            shelf,
+            layout,
+            Affinity::VolumeLogical(volume),
+            logical,
+        );
+        scatter_at::<Parcel<P>, VbnNode, S>(shelf, layout, Affinity::VolumeVbn(volume), vbn);
+    }
+
+    ghost within = { volume-within };
+}
+
+/// A volume's names and attributes, with its stripes.
+pub struct LogicalNode;
+
+impl<P: Family> Node<Parcel<P>> for LogicalNode {
+    type Held = LogicalHeld<P>;
+
+    ghost KIND = { kinds.VolumeLogical };
+
+    const KIND: Kind = Kind::VolumeLogical;
+
+    ghost parcels = { logical_parcels };
+
+    fn gather<S: Shelf<Parcel<P>>>(
+        shelf: &mut S,
+        layout: &Layout,
+        affinity: Affinity,
+    ) -> LogicalHeld<P> {
+        let Affinity::VolumeLogical(volume) = affinity else {
+            unreachable!()
+        };
+        let Parcel::Logical(own) = take_parcel(shelf, layout, Affinity::VolumeLogical(volume))
+        else {
+            unreachable!()
+        };
+        let mut stripes = sixteen_places();
+        gather_children::<Parcel<P>, StripeNode, Places<StripeHeld<P>, 16>, S>(
+            shelf,
+            layout,
+            Affinity::VolumeLogical(volume),
+            &mut stripes,
+        );
+        LogicalHeld { own, stripes }
+    }
+
+    fn scatter<S: Shelf<Parcel<P>>>(
+        shelf: &mut S,
+        layout: &Layout,
+        affinity: Affinity,
+        held: LogicalHeld<P>,
+    ) {
+        let Affinity::VolumeLogical(volume) = affinity else {
+            unreachable!()
+        };
+        let LogicalHeld { own, stripes } = held;
+        put_parcel(
+            shelf,
+            layout,
+            Affinity::VolumeLogical(volume),
+            Parcel::Logical(own),
+        );
+        scatter_children::<Parcel<P>, StripeNode, Places<StripeHeld<P>, 16>, S>(
+            shelf,
+            layout,
+            Affinity::VolumeLogical(volume),
+            stripes,
+        );
+    }
+
+    ghost within = { logical-within };
+}
+
+/// A stripe.
+pub struct StripeNode;
+
+impl<P: Family> Node<Parcel<P>> for StripeNode {
+    type Held = StripeHeld<P>;
+
+    ghost KIND = { kinds.Stripe };
+
+    const KIND: Kind = Kind::Stripe;
+
+    ghost parcels = { stripe_parcels };
+
+    fn gather<S: Shelf<Parcel<P>>>(
+        shelf: &mut S,
+        layout: &Layout,
+        affinity: Affinity,
+    ) -> StripeHeld<P> {
+        let Affinity::Stripe { volume, stripe } = affinity else {
+            unreachable!()
+        };
+        let Parcel::Stripe(own) = take_parcel(shelf, layout, Affinity::Stripe { volume, stripe })
+        else {
+            unreachable!()
+        };
+        StripeHeld { own }
+    }
+
+    fn scatter<S: Shelf<Parcel<P>>>(
+        shelf: &mut S,
+        layout: &Layout,
+        affinity: Affinity,
+        held: StripeHeld<P>,
+    ) {
+        let Affinity::Stripe { volume, stripe } = affinity else {
+            unreachable!()
+        };
+        put_parcel(
+            shelf,
+            layout,
+            Affinity::Stripe { volume, stripe },
+            Parcel::Stripe(held.own),
+        );
+    }
+
+    ghost within = { stripe-within };
+}
+
+/// A volume's block numbers, with their ranges.
+pub struct VbnNode;
+
+impl<P: Family> Node<Parcel<P>> for VbnNode {
+    type Held = VbnHeld<P>;
+
+    ghost KIND = { kinds.VolumeVbn };
+
+    const KIND: Kind = Kind::VolumeVbn;
+
+    ghost parcels = { vbn_parcels };
+
+    fn gather<S: Shelf<Parcel<P>>>(
+        shelf: &mut S,
+        layout: &Layout,
+        affinity: Affinity,
+    ) -> VbnHeld<P> {
+        let Affinity::VolumeVbn(volume) = affinity else {
+            unreachable!()
+        };
+        let Parcel::Vbn(own) = take_parcel(shelf, layout, Affinity::VolumeVbn(volume)) else {
+            unreachable!()
+        };
+        let mut ranges = sixteen_places();
+        gather_children::<Parcel<P>, RangeNode, Places<RangeHeld<P>, 16>, S>(
+            shelf,
+            layout,
+            Affinity::VolumeVbn(volume),
+            &mut ranges,
+        );
+        VbnHeld { own, ranges }
+    }
+
+    fn scatter<S: Shelf<Parcel<P>>>(
+        shelf: &mut S,
+        layout: &Layout,
+        affinity: Affinity,
+        held: VbnHeld<P>,
+    ) {
+        let Affinity::VolumeVbn(volume) = affinity else {
+            unreachable!()
+        };
+        let VbnHeld { own, ranges } = held;
+        put_parcel(shelf, layout, Affinity::VolumeVbn(volume), Parcel::Vbn(own));
+        scatter_children::<Parcel<P>, RangeNode, Places<RangeHeld<P>, 16>, S>(
+            shelf,
+            layout,
+            Affinity::VolumeVbn(volume),
+            ranges,
+        );
+    }
+
+    ghost within = { vbn-within };
+}
+
+/// A range of block numbers.
+pub struct RangeNode;
+
+impl<P: Family> Node<Parcel<P>> for RangeNode {
+    type Held = RangeHeld<P>;
+
+    ghost KIND = { kinds.Range };
+
+    const KIND: Kind = Kind::Range;
+
+    ghost parcels = { range_parcels };
+
+    fn gather<S: Shelf<Parcel<P>>>(
+        shelf: &mut S,
+        layout: &Layout,
+        affinity: Affinity,
+    ) -> RangeHeld<P> {
+        let Affinity::Range { volume, range } = affinity else {
+            unreachable!()
+        };
+        let Parcel::Range(own) = take_parcel(shelf, layout, Affinity::Range { volume, range })
+        else {
+            unreachable!()
+        };
+        RangeHeld { own }
+    }
+
+    fn scatter<S: Shelf<Parcel<P>>>(
+        shelf: &mut S,
+        layout: &Layout,
+        affinity: Affinity,
+        held: RangeHeld<P>,
+    ) {
+        let Affinity::Range { volume, range } = affinity else {
+            unreachable!()
+        };
+        put_parcel(
+            shelf,
+            layout,
+            Affinity::Range { volume, range },
+            Parcel::Range(held.own),
+        );
+    }
+
+    ghost within = { range-within };
+}
