@@ -15,7 +15,7 @@ use Rattle.nfs_model.specs.Shown.{shown}
 use Rattle.nfs_model.specs.Locate.{Served, on_node, told}
 use Rattle.nfs_model.specs.Serial.Getattr.{getattr}
 use Rattle.nfs_model.specs.Serial.Step.{on_handle, on_volume, put_back}
-use Rattle.nfs_laws.proofs.Evaluate.{get_entries, entries_sorted_list}
+use Rattle.nfs_laws.specs.lemmas.Evaluate.{get_entries, entries_sorted_list}
 use Rattle.nfs_model.specs.Tree.{Layout, VolumeLayout}
 use Rattle.engine.specs.declared.parcel.Kept.{Kept}
 use Rattle.engine.specs.Seen.{root_of, volume_of, volumes_from, server_of}

@@ -5,15 +5,17 @@ use Rattle.nfs_model.specs.Tree.{Layout, Logical, Stripe, Volume}
 use Rattle.nfs_model.specs.Server.{opening, opening_volume, handle_bytes, start_of_times}
 use Rattle.nfs_model.specs.Serial.Step.{serial}
 use Rattle.nfs_model.specs.Serial.Create.{no_attributes}
-use Rattle.nfs_model.specs.Events.Work.{move_of}
+use Rattle.nfs_model.specs.Work.{move_of}
 use Rattle.std.specs.Ordering.{nat_cmp}
 use Rattle.std.specs.FinSet.{FinSet, empty, from_list}
-use Rattle.nfs_model.specs.Replay.{Entry}
-use Rattle.nfs_model.specs.World.{Setup, World, Message, Replied, Worker, Empty, Parts}
+use Rattle.nfs_model.specs.Replay.{FinishedCall}
+use Rattle.nfs_model.specs.World.{Setup, World, Message, Worker}
+use Rattle.nfs_model.specs.Parts.{Empty, Parts}
+use Rattle.nfs_model.specs.Work.{Replied}
 use Rattle.nfs_model.specs.Events.Refusals.{Open, Feed, Begin, Work, Finish, Opened, Fed, Granted, HasReply, Written, refusal}
 use Rattle.nfs_model.specs.Events.Step.{Events, new_connection}
 use Rattle.nfs_model.specs.Headline.{opening_world, opening_parts}
-use Rattle.nfs_laws.proofs.Evaluate.{evaluate}
+use Rattle.nfs_laws.specs.lemmas.Evaluate.{evaluate}
 use Rattle.nfs_laws.proofs.Toy.{nobody, asked_by, toy}
 
 abbrev layout : Layout
@@ -31,7 +33,7 @@ opened = record (opening_world setup) { connections = new_connection ∷ [] }
 open_gives_a_number : Events setup (opening_world setup) Open (Ok (Opened 0)) opened
 open_gives_a_number = (refl, (refl, refl))
 
-abbrev null_entry : Entry
+abbrev null_entry : FinishedCall
 null_entry = record { connection = 0; number = 0; xid = 7; asked = Ask Null nobody; affinity = None; moment = start_of_times; starved = false }
 
 -- NULL is answered in its feed

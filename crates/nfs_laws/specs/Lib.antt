@@ -1,1 +1,3 @@
 pub mod ReadOnly
+pub mod Walk
+pub mod lemmas
