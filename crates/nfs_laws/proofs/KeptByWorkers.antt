@@ -4,8 +4,8 @@ use Rattle.std.specs.Prelude.{slice_get}
 use Rattle.std.specs.List.{AllByRecursion, list_any, remove}
 use Rattle.nfs_model.specs.Types.{Moment, Reply, SystemError}
 use Rattle.nfs_model.specs.Tree.{Affinity, excludes}
-use Rattle.nfs_model.specs.Server.{VolumeState, Server}
-use Rattle.nfs_model.specs.Replay.{FinishedCall, step_of, server_after, IsLawful}
+use Rattle.nfs_model.specs.Server.{VolumeState}
+use Rattle.nfs_model.specs.Replay.{FinishedCall, step_of, IsLawful}
 use Rattle.nfs_model.specs.World.{Heard, Setup, World, Connection, Message, Running, Worker, IsScan, all_running, with_held, affinities, hands_blocks, with_running, with_output, changed_at, finish}
 use Rattle.nfs_model.specs.Parts.{Parts}
 use Rattle.nfs_model.specs.Work.{Store, Outcome, Replied, Starved, Moved}
@@ -14,7 +14,7 @@ use Rattle.nfs_model.specs.Events.Step.{worked, finished_call, without_call, sta
 use Rattle.nfs_model.specs.Headline.{Kept, start, served, messages, tally_finished, tally_messages, server_worked, worked_by, IsOwnCall, IsOwnMessage, IsOutcome, IsTried, Apart}
 use Rattle.nfs_model.specs.Parts.{IsPartition}
 use Rattle.nfs_laws.proofs.Lists.{All-get, All-remove, All-push, All-between, All-without, All-there}
-use Rattle.nfs_laws.proofs.Written.{AreLawful-push, server_after-push, replies_finish, until_finish, written_stream}
+use Rattle.nfs_laws.proofs.Written.{AreLawful-push, replies_finish, until_finish, written_stream}
 use Rattle.nfs_laws.proofs.Own.{later_changed, entries_later, messages_later, heard_later, own_of_heard}
 use Rattle.nfs_laws.proofs.Once.{total_in, once_changed, tally_finished-append, tally_messages-append, tally_messages-remove}
 use Rattle.nfs_laws.proofs.Slots.{Slot, slot, messages-between, affinities-append, tally-between, messages_between, messages_without, messages_there, server_worked-between, Apart-between, Apart-without}

@@ -1,22 +1,13 @@
 -- Which events need to know that calls agree, and what is known of calls without a home.
-use Rattle.std.proofs.Common.{◌≡◌, ℕ, Bool, false, List, [], ◌∷◌, ◌++◌, length, Some, None, sym, ap, ◌∙◌}
-use Rattle.std.specs.Prelude.{slice_get}
-use Rattle.std.specs.List.{AllByRecursion}
-use Rattle.nfs_model.specs.Types.{Asked, Reply}
-use Rattle.nfs_model.specs.Server as servers
+use Rattle.std.proofs.Common.{◌≡◌, false, length, None, sym, ap, ◌∙◌}
+use Rattle.nfs_model.specs.Types.{Asked}
 use Rattle.nfs_model.specs.Server.{Server, start_of_times}
 use Rattle.nfs_model.specs.Serial.Step.{serial}
 use Rattle.nfs_model.specs.Home.{home_of_asked}
-use Rattle.nfs_model.specs.Replay.{server_after}
-use Rattle.nfs_model.specs.World.{Setup, World, Running, all_running, hands_blocks}
-use Rattle.nfs_model.specs.Parts.{Parts}
-use Rattle.nfs_model.specs.Work.{Outcome, Replied}
-use Rattle.nfs_model.specs.Work.{Works}
-use Rattle.nfs_model.specs.Events.Step.{finished_call}
-use Rattle.nfs_model.specs.Headline.{Kept, start, server_worked}
+use Rattle.nfs_model.specs.World.{Setup, World, all_running}
+use Rattle.nfs_model.specs.Headline.{Kept, start}
 use Rattle.nfs_model.specs.Agreed.{done, IsAgreed}
 use Rattle.nfs_model.specs.Events.Refusals.{Event, Work, Finish}
-use Rattle.nfs_model.specs.Parts.{IsPartition}
 use Rattle.nfs_laws.proofs.Volumes.{volumes_in, start_counts, after_counts, all_worked_count, at_once_same, at_once_stays}
 
 -- Work and Finish are the events that calls which run at one time could disturb.

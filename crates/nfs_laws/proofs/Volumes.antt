@@ -4,7 +4,7 @@ use Rattle.std.specs.Prelude.{slice_index_or}
 use Rattle.std.proofs.lemmas.List.{length-set}
 use Rattle.nfs_model.specs.Types.{Moment, Credential, Call, Null, Getattr, Setattr, Lookup, Read, Write, Create, Mkdir, Remove, Rmdir, Rename, Readdir, Fsstat, Commit, Census, Grow, Asked, Ask, Refused, Undecoded, Answer, Failed, GrowDone, Invalid, TooBig, NoSpace}
 use Rattle.nfs_model.specs.Tree.{Layout, VolumeLayout}
-use Rattle.nfs_model.specs.Server.{VolumeState, Server, opening, opening_volumes}
+use Rattle.nfs_model.specs.Server.{VolumeState, Server, opening_volumes}
 use Rattle.nfs_model.specs.Locate.{Effect, Fails, Tells, Changes, Located, locate, on_name}
 use Rattle.nfs_model.specs.Serial.Grow.{Grown, grown, grow_volume}
 use Rattle.nfs_model.specs.Serial.Getattr.{getattr}
