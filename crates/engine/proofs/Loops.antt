@@ -17,7 +17,7 @@ use Rattle.engine.specs.Sound.{IsSound, IsRoomy, AtNoFault, at_no_fault, MayGoOn
 use Rattle.engine.specs.Feeding.{TakesAll}
 use Rattle.engine.proofs.Worlds.{TakesAll-append, Feeds-after, bytes_taken-none}
 use Rattle.engine.proofs.Connections.{others-closed, all-closed, last-open}
-use Rattle.engine.proofs.Feeding.{fed-open, not-crowded, crowded, feeds-nothing}
+use Rattle.engine.proofs.Fed.{fed-open, not-crowded, crowded, feeds-nothing}
 use Rattle.engine.proofs.Full.{full-stop, full-nothing}
 
 pub goes-on : (setup other : Setup) (c d : ℕ) (w m new : World) (bytes : List ℕ) (taken count : ℕ) → setup ≡ other → c ≡ d → TakesAll other d w (take taken bytes) m → TakesAll setup c m (take count (drop taken bytes)) new
