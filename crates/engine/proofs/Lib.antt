@@ -15,3 +15,4 @@ pub mod Loops
 pub mod Serves
 pub mod Runs
 pub mod Marking
+pub mod Rooms

@@ -11,4 +11,4 @@ returns-in-Some-clause-taken c =
     let bytes = take c.take_bytes.result.0 c.args.bytes.now in
     ap (λ (cs : List worlds.Connection). record (world s) { connections = cs })
     (last-becomes (with_bytes bytes) s.past.items c.in-Some.last c.take_bytes.new.from s.current _ c.in-Some.is (omega (arith, s.past.ok.0))
-    (open-taken c.in-Some.last c.take_bytes.new.from bytes c.take_bytes.ensures.stream c.take_bytes.ensures.output))
+    (open-taken c.in-Some.last c.take_bytes.new.from bytes c.take_bytes.ensures.stream c.take_bytes.ensures.output.0))
