@@ -2,7 +2,7 @@
 
 ghost use Rattle.std.specs.Prelude.{◌≡◌, ◌==◌, ◌||◌, ◌+◌, ◌-◌, ◌*◌, ◌/◌, ◌<◌, ◌≤◌, length, min, option_map, slice_get, IfSome};
 ghost use Rattle.nfs_model.specs.Server.{handle_of};
-ghost use Rattle.nfs_model.specs.Home.{home, home_of_bytes, home_of_volume, logical_of, named_by, span_bytes, stripe_of_span, volume_of};
+ghost use Rattle.nfs_model.specs.Home.{home, bytes_home, grow_home, logical_home, named_by, span_bytes, stripe_of_span, volume_home};
 ghost use Rattle.nfs_values.specs.Call.{call_of};
 ghost use Rattle.affinity_tree.specs.Affinity.{affinity_of};
 ghost use Rattle.affinity_tree.specs.Layout.{layout_of};
@@ -57,8 +57,8 @@ fn stripe_of_span(layout: &Layout, volume: u32, fileid: u64, span: u64) -> Affin
 }
 
 /// Where a call on bytes of a file is at home.
-fn home_of_bytes(handle: &FileHandle, offset: u64, count: u32, layout: &Layout) -> Option<Affinity>
-    ensures home { option_map affinity_of result ≡ home_of_bytes (layout_of layout.now) (named_by (layout_of layout.now) handle.now) offset (min count COUNT_LIMIT) }
+fn bytes_home(handle: &FileHandle, offset: u64, count: u32, layout: &Layout) -> Option<Affinity>
+    ensures home { option_map affinity_of result ≡ bytes_home (layout_of layout.now) (named_by (layout_of layout.now) handle.now) offset (min count COUNT_LIMIT) }
     ensures node { IfSome result (λ a. IsNode (layout_of layout.now) (affinity_of a)) }
 {
     let (volume, fileid) = named_by(handle, layout)?;
@@ -72,7 +72,7 @@ fn home_of_bytes(handle: &FileHandle, offset: u64, count: u32, layout: &Layout) 
 
 /// Where a call on names and attributes is at home.
 fn home_of_names(handle: &FileHandle, layout: &Layout) -> Option<Affinity>
-    ensures home { option_map affinity_of result ≡ logical_of (named_by (layout_of layout.now) handle.now) }
+    ensures home { option_map affinity_of result ≡ logical_home (named_by (layout_of layout.now) handle.now) }
     ensures node { IfSome result (λ a. IsNode (layout_of layout.now) (affinity_of a)) }
 {
     let (volume, _) = named_by(handle, layout)?;
@@ -81,7 +81,7 @@ fn home_of_names(handle: &FileHandle, layout: &Layout) -> Option<Affinity>
 
 /// Where a call on a whole volume is at home.
 fn home_of_status(handle: &FileHandle, layout: &Layout) -> Option<Affinity>
-    ensures home { option_map affinity_of result ≡ volume_of (named_by (layout_of layout.now) handle.now) }
+    ensures home { option_map affinity_of result ≡ volume_home (named_by (layout_of layout.now) handle.now) }
     ensures node { IfSome result (λ a. IsNode (layout_of layout.now) (affinity_of a)) }
 {
     let (volume, _) = named_by(handle, layout)?;
@@ -90,7 +90,7 @@ fn home_of_status(handle: &FileHandle, layout: &Layout) -> Option<Affinity>
 
 /// Where a volume's growth is at home.
 fn home_of_growth(volume: u32, layout: &Layout) -> Option<Affinity>
-    ensures home { option_map affinity_of result ≡ home_of_volume volume (slice_get (layout_of layout.now).volumes volume) }
+    ensures home { option_map affinity_of result ≡ grow_home volume (slice_get (layout_of layout.now).volumes volume) }
     ensures node { IfSome result (λ a. IsNode (layout_of layout.now) (affinity_of a)) }
 {
     if volume as usize >= layout.volume_count() {
@@ -126,7 +126,7 @@ pub fn home_of(call: &Call, layout: &Layout) -> Option<Affinity>
             offset,
             count,
             ..
-        } => home_of_bytes(handle, *offset, *count, layout),
+        } => bytes_home(handle, *offset, *count, layout),
         Call::FilesystemStatus { handle } => home_of_status(handle, layout),
         Call::Census => Some(Affinity::Serial),
         Call::Grow { volume, .. } => home_of_growth(*volume, layout),

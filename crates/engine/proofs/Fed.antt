@@ -7,7 +7,8 @@ use Rattle.rpc_record.specs.Stream.{read_stream}
 use Rattle.nfs_model.specs.Tree.{Layout}
 use Rattle.nfs_model.specs.World as worlds
 use Rattle.nfs_model.specs.World.{changed_at, is_crowded, all_running, Setup, World}
-use Rattle.nfs_model.specs.Events.Feed.{Feeds, Fault, completes, heard_in, MayStarveIf}
+use Rattle.nfs_model.specs.Events.Feed.{heard_in, MayStarveIf}
+use Rattle.nfs_laws.specs.Walk.{Walks, AtFault, is_complete}
 use Rattle.engine.specs.declared.connection.OpenConnection.{OpenConnection}
 use Rattle.engine.specs.declared.connection.ClosedConnection.{ClosedConnection}
 use Rattle.engine.specs.declared.connection.Arrival.{Arrival}

@@ -5,7 +5,7 @@ use Rattle.std.proofs.Math.Seq.{take-add}
 use Rattle.std.proofs.lemmas.Bool.Decides.{nat_tests}
 use Rattle.std.proofs.lemmas.List.{append-nil, take_all, take-append-drop, length-take-le, length-drop}
 use Rattle.nfs_model.specs.World.{Setup, World, Connection}
-use Rattle.nfs_model.specs.Events.Feed.{Feeds}
+use Rattle.nfs_laws.specs.Walk.{Walks}
 use Rattle.nfs_model.specs.Events.Refusals as events
 use Rattle.nfs_model.specs.Events.Refusals.{takes_input}
 use Rattle.engine.specs.declared.connection.OpenConnection.{OpenConnection}

@@ -4,7 +4,8 @@ ghost use Rattle.std.specs.Prelude.{true, false, ◌≡◌, ◌+◌, ◌-◌, �
 ghost use Rattle.nfs_model.specs.Types as types;
 ghost use Rattle.nfs_model.specs.Events.Refusals as events;
 ghost use Rattle.nfs_model.specs.Events.Step.{Events};
-ghost use Rattle.nfs_model.specs.Events.Feed.{Feeds, heard_in};
+ghost use Rattle.nfs_model.specs.Events.Feed.{heard_in};
+ghost use Rattle.nfs_laws.specs.Walk.{Walks};
 ghost use Rattle.engine.specs.Seen.{setup_in, world, answer_of, heard_of};
 ghost use Rattle.engine.specs.Sound.{IsSound, pending, MayBeAnswered, MayBeRoomier, MakesRoom, HasRoomToAdmit, HasItsRoom, HasRoomForOneMore, Waits, count_open, TakesIn, MayTakeFrom, records_of, HasNoRecord, AdmitsNone, stands_at, IsFree, AtNoFault, at_no_fault, MayGoOn, MayBeStreamRoomier};
 ghost use Rattle.engine.specs.Numbers.{stop_number};

@@ -1,7 +1,7 @@
 use Rattle.std.proofs.Common.{◌≡◌, ℕ, List, sym, ap, subst, ◌∙◌, length, take, arith}
 use Rattle.std.specs.Prelude.{vec_len}
 use Rattle.std.proofs.lemmas.List.{take_all, length-take-le}
-use Rattle.nfs_model.specs.Events.Feed.{Feeds}
+use Rattle.nfs_laws.specs.Walk.{Walks}
 use Rattle.engine.specs.declared.connection.Arrival.TheVariants as arrivals
 use Rattle.engine.specs.Seen.{setup_in, world}
 use Rattle.engine.specs.Sound.{AdmitsNone, stands_at}
