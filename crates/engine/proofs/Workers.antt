@@ -8,7 +8,7 @@ use Rattle.nfs_model.specs.Types as types
 use Rattle.nfs_model.specs.Tree as trees
 use Rattle.nfs_model.specs.Server as servers
 use Rattle.nfs_model.specs.World as worlds
-use Rattle.nfs_laws.specs.ReadOnly.{IsReading}
+use Rattle.nfs_model.specs.ReadOnly.{IsReading}
 use Rattle.nfs_model.specs.Serial.Step.{Step, serve, stay}
 use Rattle.nfs_model.specs.Events.Refusals as events
 use Rattle.nfs_model.specs.Events.Refusals.{begin_refusal, is_idle}

@@ -3,7 +3,7 @@ use Rattle.std.proofs.Common.{◌≡◌, ℕ, zero, suc, Bool, true, false, List
 use Rattle.std.proofs.lemmas.Bool.{ltb-true}
 use Rattle.nfs_model.specs.Types.{Moment, Credential, Call, Null, Getattr, Setattr, Lookup, Read, Write, Create, Mkdir, Remove, Rmdir, Rename, Readdir, Fsstat, Commit, Census, Grow, Failed, CrossVolume, BadHandle, NoEntry, Success}
 use Rattle.nfs_model.specs.Tree.{Layout, VolumeLayout, Affinity, Logical}
-use Rattle.nfs_model.specs.Server.{VolumeState, Server, Handle, handle_read, handle_of, most_bytes}
+use Rattle.nfs_model.specs.Server.{VolumeState, Server, Named, named_read, handle_of, most_bytes}
 use Rattle.nfs_model.specs.Serial.Rename.{rename}
 use Rattle.nfs_model.specs.Home.{home, logical_home, volume_home, bytes_home, grow_home, rename_home}
 use Rattle.nfs_model.specs.Locate.{Effect, Located, located_in, located_by}
@@ -12,11 +12,11 @@ use Rattle.nfs_model.specs.Serial.AtOnce.{answer_of_two, answer_without_home}
 use Rattle.nfs_model.specs.Serial.Grow.{Grown, grow_volume}
 
 module _ (server : Server) (absent : ℕ) (run : VolumeState → ℕ → Effect) where
-  logical_answered : (h : Option Handle) → logical_home h ≡ None → on server absent (located_by server.volumes h) run ≡ stay server (Failed BadHandle absent)
+  logical_answered : (h : Option Named) → logical_home h ≡ None → on server absent (located_by server.volumes h) run ≡ stay server (Failed BadHandle absent)
   logical_answered None e = refl
   logical_answered (Some h) e = absurd cc
 
-  volume_answered : (h : Option Handle) → volume_home h ≡ None → on server absent (located_by server.volumes h) run ≡ stay server (Failed BadHandle absent)
+  volume_answered : (h : Option Named) → volume_home h ≡ None → on server absent (located_by server.volumes h) run ≡ stay server (Failed BadHandle absent)
   volume_answered None e = refl
   volume_answered (Some h) e = absurd cc
 
@@ -24,14 +24,14 @@ module _ (server : Server) (absent : ℕ) (run : VolumeState → ℕ → Effect)
   in_a_span true x y e = cc
   in_a_span false x y e = cc
 
-  bytes_answered : (layout : Layout) (h : Option Handle) (offset n : ℕ) → bytes_home layout h offset n ≡ None → on server absent (located_by server.volumes h) run ≡ stay server (Failed BadHandle absent)
+  bytes_answered : (layout : Layout) (h : Option Named) (offset n : ℕ) → bytes_home layout h offset n ≡ None → on server absent (located_by server.volumes h) run ≡ stay server (Failed BadHandle absent)
   bytes_answered layout None offset n e = refl
   bytes_answered layout (Some h) offset n e = absurd (in_a_span _ _ _ e)
 
 -- ---- two handles
 
 -- a good handle names a volume that is there
-record IsGood (volumes : List VolumeState) (h : Handle) : Type 0 where
+record IsGood (volumes : List VolumeState) (h : Named) : Type 0 where
   volume : VolumeState
   there : slice_get volumes h.volume ≡ Some volume
 
@@ -40,7 +40,7 @@ there_below [] i l = absurd (omega (arith, l))
 there_below (v ∷ volumes) zero l = (v, refl)
 there_below (v ∷ volumes) (suc i) l = there_below volumes i (omega (arith, l))
 
-good_if : (b : Bool) (h k : Handle) → (if b then Some h else None) ≡ Some k → (b ≡ true) × (h ≡ k)
+good_if : (b : Bool) (h k : Named) → (if b then Some h else None) ≡ Some k → (b ≡ true) × (h ≡ k)
 good_if true h k e = (refl, cc)
 good_if false h k e = absurd cc
 
@@ -48,12 +48,12 @@ both_right : (a b : Bool) → (a && b) ≡ true → b ≡ true
 both_right true b e = e
 both_right false b e = absurd cc
 
-good : (volumes : List VolumeState) (bytes : List ℕ) (h : Handle) → handle_of (length volumes) bytes ≡ Some h → IsGood volumes h
+good : (volumes : List VolumeState) (bytes : List ℕ) (h : Named) → handle_of (length volumes) bytes ≡ Some h → IsGood volumes h
 good volumes bytes h e =
-    let is = good_if _ (handle_read bytes) h e in
-    let below : (handle_read bytes).volume < length volumes = ltb-true _ _ (both_right _ _ is.0) in
-    let found = there_below volumes (handle_read bytes).volume below in
-    record { volume = found.0; there = ap (λ (k : Handle). slice_get volumes k.volume) (sym is.1) ∙ found.1 }
+    let is = good_if _ (named_read bytes) h e in
+    let below : (named_read bytes).volume < length volumes = ltb-true _ _ (both_right _ _ is.0) in
+    let found = there_below volumes (named_read bytes).volume below in
+    record { volume = found.0; there = ap (λ (k : Named). slice_get volumes k.volume) (sym is.1) ∙ found.1 }
 
 module _ (server : Server) (absent : ℕ) (run : VolumeState → ℕ → ℕ → Effect) where
   two_in_one : (b : Bool) (a : Affinity) (s : Step) → (if b then Some a else None) ≡ None
@@ -61,18 +61,18 @@ module _ (server : Server) (absent : ℕ) (run : VolumeState → ℕ → ℕ →
   two_in_one true a s e = absurd cc
   two_in_one false a s e = refl
 
-  one_answered : (from : Handle) (l : Option Located) → on_two server absent l None run ≡ stay server (Failed BadHandle absent)
+  one_answered : (from : Named) (l : Option Located) → on_two server absent l None run ≡ stay server (Failed BadHandle absent)
   one_answered from None = refl
   one_answered from (Some l) = refl
 
-  both_answered : (from to : Handle) → IsGood server.volumes from → IsGood server.volumes to → rename_home (Some from) (Some to) ≡ None
+  both_answered : (from to : Named) → IsGood server.volumes from → IsGood server.volumes to → rename_home (Some from) (Some to) ≡ None
       → on_two server absent (located_in from (slice_get server.volumes from.volume)) (located_in to (slice_get server.volumes to.volume)) run ≡ stay server (Failed CrossVolume absent)
   both_answered from to f t e =
       ap (λ (o : Option VolumeState). on_two server absent (located_in from o) (located_in to (slice_get server.volumes to.volume)) run) f.there
       ∙ ap (λ (o : Option VolumeState). on_two server absent (located_in from (Some f.volume)) (located_in to o) run) t.there
       ∙ two_in_one (from.volume == to.volume) (Logical from.volume) (placed server absent from.volume (run f.volume from.fileid to.fileid)) e
 
-  two_answered : (from to : Option Handle) → ((h : Handle) → from ≡ Some h → IsGood server.volumes h) → ((h : Handle) → to ≡ Some h → IsGood server.volumes h)
+  two_answered : (from to : Option Named) → ((h : Named) → from ≡ Some h → IsGood server.volumes h) → ((h : Named) → to ≡ Some h → IsGood server.volumes h)
       → rename_home from to ≡ None → on_two server absent (located_by server.volumes from) (located_by server.volumes to) run ≡ stay server (answer_of_two absent from to)
   two_answered None to f t e = refl
   two_answered (Some from) None f t e = one_answered from (located_in from (slice_get server.volumes from.volume))
@@ -92,7 +92,7 @@ same_there (x ∷ xs) (y ∷ ys) zero e = refl
 same_there (x ∷ xs) (y ∷ ys) (suc i) e = same_there xs ys i (omega arith)
 
 module _ (layout : Layout) (server : Server) (credential : Credential) (moment : Moment) where
-  here : (F : Option Handle → Option Affinity) (handle : List ℕ) → length layout.volumes ≡ length server.volumes → F (handle_of (length layout.volumes) handle) ≡ None → F (handle_of (length server.volumes) handle) ≡ None
+  here : (F : Option Named → Option Affinity) (handle : List ℕ) → length layout.volumes ≡ length server.volumes → F (handle_of (length layout.volumes) handle) ≡ None → F (handle_of (length server.volumes) handle) ≡ None
   here F handle volumes e = subst (λ n. F (handle_of n handle) ≡ None) volumes e
 
   -- A call without a home affinity reads no state and changes nothing.

@@ -10,7 +10,7 @@ use Rattle.nfs_model.specs.Events.Step.{Happens, Events, Runs}
 use Rattle.nfs_model.specs.Headline.{Kept}
 use Rattle.nfs_laws.proofs.Lists.{none_is}
 use Rattle.nfs_model.specs.Agreed.{IsAgreed}
-use Rattle.nfs_laws.specs.ReadOnly.{IsReadOnly}
+use Rattle.nfs_model.specs.ReadOnly.{IsReadOnly}
 use Rattle.nfs_laws.proofs.Needs.{NeedsAgreed}
 use Rattle.nfs_laws.proofs.Unchanged.{readings_agree}
 use Rattle.nfs_laws.proofs.KeptByConnections.{keeps_open, keeps_close, open_is}

@@ -21,7 +21,7 @@ use Rattle.nfs_model.specs.Events.Refusals.{Event, Open, Feed, Close, Begin, Wor
 use Rattle.nfs_model.specs.Events.Step.{worked, finished_call, stamped, without_call, finished_by, Happens}
 use Rattle.nfs_model.specs.Headline.{Kept, start, served, messages, worked_by, server_worked, IsHeard, IsOwn, IsOwnCall, IsOwnMessage, IsOutcome}
 use Rattle.nfs_model.specs.Agreed.{done, IsAgreed}
-use Rattle.nfs_laws.specs.ReadOnly.{IsReading, AsksReading, IsReadOnly}
+use Rattle.nfs_model.specs.ReadOnly.{IsReading, AsksReading, IsReadOnly}
 use Rattle.nfs_laws.proofs.Lists.{All-weaker, All-get, All-between, All-without, All-there}
 use Rattle.nfs_laws.proofs.Written.{server_after-push}
 use Rattle.nfs_laws.proofs.Slots.{Slot, slot}
@@ -46,7 +46,7 @@ placed_stays server absent i (Changes answer volume) k = absurd k
 
 on_stays : (server : Server) (absent : ℕ) (l : Option Located) (run : VolumeState → ℕ → Effect) → ((v : VolumeState) (i : ℕ) → Keeps (run v i)) → (on server absent l run).server ≡ server
 on_stays server absent None run same = refl
-on_stays server absent (Some l) run same = placed_stays server absent l.handle.volume (run l.volume l.handle.fileid) (same l.volume l.handle.fileid)
+on_stays server absent (Some l) run same = placed_stays server absent l.named.volume (run l.volume l.named.fileid) (same l.volume l.named.fileid)
 
 getattr_told : (v : VolumeState) (i : ℕ) → Keeps (getattr v i)
 getattr_told v i = node_told (get v.nodes i) (λ node. GetattrDone (shown v i node))

@@ -39,7 +39,7 @@ module _ (server : Server) where
 
   on_counts : (absent : ℕ) (l : Option Located) (run : VolumeState → ℕ → Effect) → volumes_in (on server absent l run).server ≡ volumes_in server
   on_counts absent None run = refl
-  on_counts absent (Some l) run = placed_counts absent l.handle.volume (run l.volume l.handle.fileid)
+  on_counts absent (Some l) run = placed_counts absent l.named.volume (run l.volume l.named.fileid)
 
   one_counts : (b : Bool) (s : Step) (answer : Answer) → volumes_in s.server ≡ volumes_in server → volumes_in (if b then s else stay server answer).server ≡ volumes_in server
   one_counts true s answer e = e
@@ -49,7 +49,7 @@ module _ (server : Server) where
   two_counts absent None to run = refl
   two_counts absent (Some from) None run = refl
   two_counts absent (Some from) (Some to) run =
-      one_counts (from.handle.volume == to.handle.volume) _ _ (placed_counts absent from.handle.volume (run from.volume from.handle.fileid to.handle.fileid))
+      one_counts (from.named.volume == to.named.volume) _ _ (placed_counts absent from.named.volume (run from.volume from.named.fileid to.named.fileid))
 
   grow_if : (p q r : Bool) (x y z : Answer) (g : Grown) → volumes_in g.server ≡ volumes_in server
       → volumes_in (if p then record { answer = x; server = server } else if q then record { answer = y; server = server } else if r then record { answer = z; server = server } else g).server ≡ volumes_in server

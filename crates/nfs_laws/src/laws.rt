@@ -13,7 +13,7 @@ ghost use Rattle.nfs_model.specs.Events.Refusals.{Event, Done, takes_input};
 ghost use Rattle.nfs_model.specs.Events.Step.{Events, Runs};
 ghost use Rattle.nfs_model.specs.Headline.{Kept, opening_world};
 ghost use Rattle.nfs_model.specs.Agreed.{IsAgreed};
-ghost use Rattle.nfs_laws.specs.ReadOnly.{IsReadOnly};
+ghost use Rattle.nfs_model.specs.ReadOnly.{IsReadOnly};
 ghost use Rattle.nfs_laws.specs.Walk.{Walks};
 
 /// A run begins within the headline.
