@@ -6,6 +6,8 @@ use Rattle.nfs_model.specs.Tree as trees
 use Rattle.nfs_model.specs.Home.{home}
 use Rattle.nfs_model.specs.Server as servers
 use Rattle.nfs_model.specs.Replay as replays
+use Rattle.nfs_model.specs.Parts as blocks
+use Rattle.nfs_model.specs.Work as tasks
 use Rattle.nfs_model.specs.World as worlds
 use Rattle.nfs_model.specs.Headline.{opening_parts}
 use Rattle.nfs_model.specs.Events.Refusals as events
@@ -61,8 +63,8 @@ tried (Some a) = a
 abbrev pub message_of : trees.Layout → Message → worlds.Message
 message_of layout m = record { connection = m.origin.connection; number = m.origin.number; xid = m.origin.xid; asked = types.Ask (call_of m.call) (credential_of m.credential); affinity = tried (home layout (call_of m.call)) }
 
-abbrev pub outcome_of : Answer → worlds.Outcome
-outcome_of answer = worlds.Replied (types.Success (answers.answer_of answer))
+abbrev pub outcome_of : Answer → tasks.Outcome
+outcome_of answer = tasks.Replied (types.Success (answers.answer_of answer))
 
 abbrev pub running_of : trees.Layout → Running → worlds.Running
 running_of layout r = record { message = message_of layout r.message; moment = moment_of r.moment; outcome = option_map outcome_of r.answer }
@@ -138,7 +140,7 @@ abbrev pub world : State → worlds.World
 world s = record {
   connections = connections_of s.past.items s.current;
   waiting = map (message_of (layout_of s.layout)) s.waiting.items;
-  workers = record { running = option_map (running_of (layout_of s.layout)) s.running; hand = worlds.Empty } ∷ [];
+  workers = record { running = option_map (running_of (layout_of s.layout)) s.running; hand = blocks.Empty } ∷ [];
   finished = map entry_of s.finished.items;
   server = server_of (layout_of s.layout) s.verifier (kept_by s.home s.running);
   parts = map opening_parts (layout_of s.layout).volumes;
