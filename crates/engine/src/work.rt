@@ -96,7 +96,7 @@ pub(crate) fn answer(held: &VolumeLogical, layout: &Layout, call: &Call) -> Answ
     match call {
         Call::Null => Answer::Null,
         Call::GetAttributes { handle } => match named_by(handle, layout) {
-            Some((volume, fileid)) => get_attributes(held, volume, fileid),
+            Some(named) => get_attributes(held, named.volume, named.fileid),
             None => Answer::Failed {
                 procedure: Procedure::GetAttributes,
                 status: Status::BadHandle,

@@ -4,9 +4,9 @@ use Rattle.std.proofs.lemmas.Bool.{and_parts, eqb-true}
 use Rattle.nfs_model.specs.Tree.{Layout, Affinity, Serial, Aggregate, Volume, Logical, Stripe, Vbn, Range, stripes_of, aggregate_of, begins}
 use Rattle.affinity_tree.specs.Tree.{IsNode, covers}
 use Rattle.affinity_tree.specs.Numbers.{number_of}
-use Rattle.affinity_tree.proofs.Sharing.{covers_from}
-pub use Rattle.parcel_sets.specs.Within.{range-from, stripe-from, vbn-from, logical-from, volume-from, aggregate-from, serial-from}
-use Rattle.parcel_sets.specs.Below.{OnLogical, OnVbn, OnVolume, OnAggregate, OnSerial}
+use Rattle.affinity_tree.specs.lemmas.Sharing.{covers_from}
+pub use Rattle.parcel_sets.specs.lemmas.Within.{range-from, stripe-from, vbn-from, logical-from, volume-from, aggregate-from, serial-from}
+use Rattle.parcel_sets.specs.lemmas.Below.{OnLogical, OnVbn, OnVolume, OnAggregate, OnSerial}
 use Rattle.parcel_sets.specs.Exact.{Under, HasParcel, IsVacant, HasExactly, kind_in}
 use Rattle.parcel_sets.specs.Moved.{Moved}
 use Rattle.parcel_sets.specs.Sets.{range_parcels, stripe_parcels, vbn_parcels, logical_parcels, volume_parcels, aggregate_parcels, serial_parcels}

@@ -2,9 +2,9 @@
 use Rattle.std.proofs.Common.{◌≢◌, ℕ, zero, suc, ◌+◌, ◌<◌, ◌≤◌, length, refl, ap, arith, ◌⊎◌, inl, inr, ⊎_elim}
 use Rattle.nfs_model.specs.Tree.{Layout, Affinity, Volume, Logical, Stripe, Vbn, Range, stripes_of}
 use Rattle.affinity_tree.specs.Numbers.{number_of, volume_number}
-use Rattle.affinity_tree.proofs.Places.{volume_number_next}
-pub use Rattle.parcel_sets.specs.Nothing.{range-none, stripe-none, vbn-none, logical-none, volume-none, aggregate-none, serial-none}
-use Rattle.parcel_sets.specs.Below.{OnLogical, OnVbn, OnVolume}
+use Rattle.affinity_tree.specs.lemmas.Places.{volume_number_next}
+pub use Rattle.parcel_sets.specs.lemmas.Nothing.{range-none, stripe-none, vbn-none, logical-none, volume-none, aggregate-none, serial-none}
+use Rattle.parcel_sets.specs.lemmas.Below.{OnLogical, OnVbn, OnVolume}
 
 -- ---- a fact that goes over to another, at the numbers of a part
 

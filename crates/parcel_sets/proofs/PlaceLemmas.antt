@@ -2,7 +2,7 @@
 use Rattle.std.proofs.Common.{◌≡◌, ℕ, zero, suc, ◌+◌, ◌<◌, Bool, List, Option, Some, None, refl, ◌∙◌, ap, arith, slice_get, add-one}
 use Rattle.std.specs.Prelude.{if◌then◌else◌}
 use Rattle.std.proofs.lemmas.Bool.{eq-eqb}
-pub use Rattle.parcel_sets.specs.Nothing.{alone-none, or_else-none, place-none, used-none, in_places-none}
+pub use Rattle.parcel_sets.specs.lemmas.Nothing.{alone-none, or_else-none, place-none, used-none, in_places-none}
 use Rattle.parcel_sets.specs.Places.{alone, or_else, in_place, in_used_place, in_places}
 
 pub alone-there : {T : Type 0} (n : ℕ) (x : T) → alone n x n ≡ Some x

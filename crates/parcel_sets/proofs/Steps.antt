@@ -3,7 +3,7 @@ use Rattle.std.proofs.Common.{◌≡◌, ◌≢◌, ℕ, ◌+◌, ◌<◌, ◌�
 use Rattle.std.proofs.lemmas.Bool.{cases_eq}
 use Rattle.nfs_model.specs.Tree.{Layout, Affinity, Aggregate, Volume, Logical, Stripe, Vbn, Range, stripes_of, aggregate_of}
 use Rattle.affinity_tree.specs.Numbers.{number_of, volume_number}
-use Rattle.parcel_sets.specs.Below.{OnLogical, OnVbn, OnVolume, OnAggregate}
+use Rattle.parcel_sets.specs.lemmas.Below.{OnLogical, OnVbn, OnVolume, OnAggregate}
 use Rattle.parcel_sets.specs.Exact.{IsVacant}
 use Rattle.parcel_sets.proofs.Parts.{logical-over, vbn-over, volume-over, logical-outside, volume-outside, volumes-apart}
 

@@ -1,8 +1,12 @@
 //! A type for each kind of node.
 
 ghost use Rattle.affinity_tree.specs.declared.affinity.Kind.TheVariants as kinds;
-ghost use Rattle.parcel_sets.specs.Sets.{range_parcels, vbn_parcels, stripe_parcels, logical_parcels, volume_parcels, aggregate_parcels, serial_parcels};
-ghost use Rattle.parcel_sets.specs.Within.{range-within, vbn-within, stripe-within, logical-within, volume-within, aggregate-within, serial-within};
+ghost use Rattle.parcel_sets.specs.Sets.{range_parcels, vbn_parcels, stripe_parcels};
+ghost use Rattle.parcel_sets.specs.Sets.{logical_parcels, volume_parcels};
+ghost use Rattle.parcel_sets.specs.Sets.{aggregate_parcels, serial_parcels};
+ghost use Rattle.parcel_sets.specs.lemmas.Within.{range-within, vbn-within, stripe-within};
+ghost use Rattle.parcel_sets.specs.lemmas.Within.{logical-within, volume-within};
+ghost use Rattle.parcel_sets.specs.lemmas.Within.{aggregate-within, serial-within};
 
 use crate::family::{Family, Parcel};
 use crate::gather::{gather_at, gather_children, take_parcel};

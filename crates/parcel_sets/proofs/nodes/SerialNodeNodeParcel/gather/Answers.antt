@@ -3,7 +3,7 @@ use Rattle.nfs_model.specs.Tree as trees
 use Rattle.affinity_tree.specs.Affinity.{affinity_of}
 use Rattle.affinity_tree.specs.Layout.{layout_of}
 use Rattle.affinity_tree.specs.Numbers.{number_of}
-use Rattle.affinity_tree.proofs.Lawful.{aggregate_known}
+use Rattle.affinity_tree.specs.lemmas.Lawful.{aggregate_known}
 use Rattle.parcel_sets.specs.Exact.{HasParcel, IsPlaced, kind_in}
 use Rattle.parcel_sets.specs.Sets.{serial_parcels}
 use Rattle.parcel_sets.specs.declared.family.Parcel.TheVariants as parcels

@@ -5,7 +5,7 @@ use Rattle.std.proofs.lemmas.Bool.{cases_lt, cases_order, lt-ltb, le-ltb, eq-eqb
 use Rattle.nfs_model.specs.Tree.{Layout, VolumeLayout, Affinity, Serial, Aggregate, Volume, Logical, Stripe, Vbn, Range, stripes_of, stripes_in}
 use Rattle.affinity_tree.specs.Tree.{IsNode}
 use Rattle.affinity_tree.specs.Numbers.{nodes_of, nodes_before, volume_number, number_of, node_count}
-use Rattle.affinity_tree.proofs.Places.{volume_number_next}
+use Rattle.affinity_tree.specs.lemmas.Places.{volume_number_next}
 
 -- ---- a volume's nodes by their places
 

@@ -1,10 +1,10 @@
--- Lemmas alone, which no reader has to believe. A set has nothing at a number that is none of its nodes'.
+-- A set has nothing at a number that is none of its nodes'.
 use Rattle.std.proofs.Common.{◌≡◌, ◌≢◌, ℕ, zero, suc, ◌<◌, Bool, true, false, List, Option, Some, None, length, refl, sym, ap, subst, arith, slice_get, ◌==◌}
 use Rattle.std.specs.Prelude.{if◌then◌else◌}
 use Rattle.std.proofs.lemmas.Bool.{ne_eqb, eqb-true}
 use Rattle.nfs_model.specs.Tree.{Layout, Serial, Aggregate, Volume, Logical, Stripe, Vbn, Range, stripes_of, aggregate_of}
 use Rattle.affinity_tree.specs.Numbers.{number_of}
-use Rattle.parcel_sets.specs.Below.{OnLogical, OnVbn, OnVolume, OnAggregate, OnSerial}
+use Rattle.parcel_sets.specs.lemmas.Below.{OnLogical, OnVbn, OnVolume, OnAggregate, OnSerial}
 use Rattle.parcel_sets.specs.Places.{alone, or_else, in_place, in_used_place, in_places}
 use Rattle.parcel_sets.specs.Sets.{range_parcels, vbn_parcels, stripe_parcels, logical_parcels, volume_parcels, aggregate_parcels, serial_parcels}
 use Rattle.parcel_sets.specs.declared.family.Parcel.TheVariants as parcels

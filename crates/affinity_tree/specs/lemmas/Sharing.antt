@@ -5,7 +5,7 @@ use Rattle.std.proofs.lemmas.Bool.{and_parts, and_from, or_cases, cases_Bool, no
 use Rattle.nfs_model.specs.Tree.{Layout, Affinity, Serial, Aggregate, Volume, Logical, Stripe, Vbn, Range, path, excludes}
 use Rattle.affinity_tree.specs.Tree.{IsNode, is_above, covers}
 use Rattle.affinity_tree.specs.Under.{IsUnder, ShareParcel}
-use Rattle.affinity_tree.proofs.Ways.{begins-self, begins-both, begins-either}
+use Rattle.affinity_tree.specs.lemmas.Ways.{begins-self, begins-both, begins-either}
 
 -- the affinity at the end of a way
 abbrev reached : List ℕ → Affinity

@@ -6,8 +6,8 @@ use Rattle.std.proofs.lemmas.Bool.{and_parts, ltb-true}
 use Rattle.nfs_model.specs.Tree.{Layout, VolumeLayout}
 use Rattle.affinity_tree.specs.Fault.{fault_of, is_known}
 use Rattle.affinity_tree.specs.Numbers.{nodes_of, nodes_before, node_count, volume_parents, parents_from, parents}
-use Rattle.affinity_tree.proofs.Lawful.{all_known}
-use Rattle.affinity_tree.proofs.Parents.{length-volume_parents}
+use Rattle.affinity_tree.specs.lemmas.Lawful.{keeps_rules}
+use Rattle.affinity_tree.specs.lemmas.Parents.{length-volume_parents}
 
 -- each number in the list is below its own index, counted from n
 abbrev AreBelow : ℕ → List ℕ → Type 0
@@ -54,7 +54,7 @@ parent_smaller layout zero lawful h = absurd (omega arith)
 parent_smaller layout (suc n) lawful h =
     let ones : List ℕ = replicate (length layout.spare) 1 in
     let size : length ones ≡ length layout.spare = length-replicate (length layout.spare) 1 in
-    let volumes = below_volumes (length layout.spare) (2 + length layout.spare) layout.volumes (omega arith) (all_known layout lawful) in
+    let volumes = below_volumes (length layout.spare) (2 + length layout.spare) layout.volumes (omega arith) (keeps_rules layout lawful).known in
     let P : ℕ → Type 0 = λ k. AreBelow k (parents_from (2 + length layout.spare) layout.volumes) in
     let same : 2 + length layout.spare ≡ 2 + length ones = omega arith in
     let nodes = below_append 2 ones (parents_from (2 + length layout.spare) layout.volumes) (below_replicate 2 (length layout.spare) 1 (omega arith)) (subst P same volumes) in

@@ -5,7 +5,7 @@ use Rattle.std.proofs.Common.{length-append}
 use Rattle.nfs_model.specs.Tree.{Layout, VolumeLayout, Affinity, Serial, Aggregate, Volume, Logical, Stripe, Vbn, Range, stripes_of, stripes_in, aggregate_of, aggregate_in}
 use Rattle.affinity_tree.specs.Tree.{IsNode, parent_of}
 use Rattle.affinity_tree.specs.Numbers.{nodes_of, nodes_before, volume_number, number_of, number_or_none, volume_parents, parents_from, parents}
-use Rattle.affinity_tree.proofs.Lawful.{volume_there}
+use Rattle.affinity_tree.specs.lemmas.Lawful.{volume_there}
 
 -- ---- lists that are joined
 

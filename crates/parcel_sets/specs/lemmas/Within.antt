@@ -1,4 +1,4 @@
--- Lemmas alone, which no reader has to believe. The facts of the parts below a node, from one of all nodes under it; and so a set has no parcel of another node.
+-- The facts of the parts below a node, from one of all nodes under it; and so a set has no parcel of another node.
 use Rattle.std.proofs.Common.{◌≡◌, ◌≢◌, ℕ, ◌<◌, true, List, [], ◌∷◌, ◌++◌, None, length, refl, sym, ap, subst, inl}
 use Rattle.nfs_model.specs.Tree.{Layout, Affinity, Serial, Aggregate, Volume, Logical, Stripe, Vbn, Range, path, begins}
 use Rattle.affinity_tree.specs.declared.affinity.Kind.TheVariants as kinds
@@ -6,11 +6,11 @@ use Rattle.affinity_tree.specs.Affinity.{kind_of}
 use Rattle.affinity_tree.specs.Numbers.{number_of}
 use Rattle.affinity_tree.specs.Tree.{IsNode}
 use Rattle.affinity_tree.specs.Under.{IsUnder}
-use Rattle.affinity_tree.proofs.Ways.{begins-self, begins-longer}
-use Rattle.affinity_tree.proofs.Sharing.{covers-cases}
-use Rattle.parcel_sets.specs.Below.{OnLogical, OnVbn, OnVolume, OnAggregate, OnSerial}
+use Rattle.affinity_tree.specs.lemmas.Ways.{begins-self, begins-longer}
+use Rattle.affinity_tree.specs.lemmas.Sharing.{covers-cases}
+use Rattle.parcel_sets.specs.lemmas.Below.{OnLogical, OnVbn, OnVolume, OnAggregate, OnSerial}
 use Rattle.parcel_sets.specs.Exact.{Under}
-use Rattle.parcel_sets.specs.Nothing.{range-none, stripe-none, vbn-none, logical-none, volume-none, aggregate-none, serial-none}
+use Rattle.parcel_sets.specs.lemmas.Nothing.{range-none, stripe-none, vbn-none, logical-none, volume-none, aggregate-none, serial-none}
 use Rattle.parcel_sets.specs.Sets.{range_parcels, vbn_parcels, stripe_parcels, logical_parcels, volume_parcels, aggregate_parcels, serial_parcels}
 use Rattle.parcel_sets.specs.declared.sets.RangeHeld.{RangeHeld}
 use Rattle.parcel_sets.specs.declared.sets.VbnHeld.{VbnHeld}

@@ -1,18 +1,23 @@
 -- The numbers above a node are those of the nodes above it.
-use Rattle.std.proofs.Common.{◌≡◌, ℕ, zero, suc, ◌<◌, true, false, not, List, [], ◌∷◌, ◌++◌, length, slice_index_or, Some, None, refl, sym, ◌∙◌, ap, subst, arith, length-append, ◌⊎◌, inl, inr, ⊎_elim}
+use Rattle.std.proofs.Common.{◌≡◌, ℕ, zero, suc, ◌<◌, true, false, not, List, [], ◌∷◌, ◌++◌, length, slice_index, slice_index_or, Some, None, refl, sym, ◌∙◌, ap, subst, arith, length-append, ◌⊎◌, inl, inr, ⊎_elim}
 use Rattle.std.specs.Prelude.{Contains}
 use Rattle.std.proofs.lemmas.Bool.{and_parts, and_from, or_left, or_right, or_cases, not-true, not_from_false, false_from_ne_true}
 use Rattle.nfs_model.specs.Tree.{Layout, Affinity, Serial, Aggregate, Volume, Logical, Stripe, Vbn, Range, path, begins, excludes, aggregate_of}
 use Rattle.affinity_tree.specs.Fault.{fault_of}
 use Rattle.affinity_tree.specs.Tree.{IsNode, IsParent, is_above, covers, parent_of}
 use Rattle.affinity_tree.specs.Under.{IsUnder}
-use Rattle.affinity_tree.specs.Numbers.{number_of, number_or_none, parents, ListsAbove}
-use Rattle.affinity_tree.proofs.Ways.{begins-longer, begins-length, begins-step}
-use Rattle.affinity_tree.proofs.Lawful.{aggregate_known}
-use Rattle.affinity_tree.proofs.Sharing.{same_way, covers-cases, covers_from}
-use Rattle.affinity_tree.proofs.Places.{number_positive}
-use Rattle.affinity_tree.proofs.Numbered.{own_number}
-use Rattle.affinity_tree.proofs.Parents.{parent_at}
+use Rattle.affinity_tree.specs.Numbers.{number_of, number_or_none, parents}
+use Rattle.affinity_tree.specs.lemmas.Ways.{begins-longer, begins-length, begins-step}
+use Rattle.affinity_tree.specs.lemmas.Lawful.{aggregate_known}
+use Rattle.affinity_tree.specs.lemmas.Sharing.{same_way, covers-cases, covers_from}
+use Rattle.affinity_tree.specs.lemmas.Places.{number_positive}
+use Rattle.affinity_tree.specs.lemmas.Numbered.{own_number}
+use Rattle.affinity_tree.specs.lemmas.Parents.{parent_at}
+
+-- f lists the numbers above each number, the nearest first, where each number's parent is in the list
+pub record ListsAbove (parents : List ℕ) (f : ℕ → List ℕ) : Type 0 where
+  pub root : (n : ℕ) → slice_index parents n ≡ 0 → f n ≡ []
+  pub child : (n p : ℕ) → 0 < n → 0 < p → slice_index parents n ≡ p → f n ≡ p ∷ f p
 
 -- ---- elements of a list
 
