@@ -2,3 +2,5 @@
 pub mod Below
 pub mod Nothing
 pub mod Within
+pub mod Sorts
+pub mod Exactly

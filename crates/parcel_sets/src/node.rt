@@ -31,6 +31,9 @@ pub trait Node<T: HasKind> {
     // The parcels of a set by the numbers of their nodes.
     ghost parcels: { trees.Layout → trees.Affinity → Self.Held → ℕ → Option T };
 
+    // The two sets have something in the same places, here and below.
+    ghost alike: { Self.Held → Self.Held → Type 0 };
+
     /// Puts a node's set together from a shelf. No memory is taken.
     fn gather<S: Shelf<T>>(shelf: &mut S, layout: &Layout, affinity: Affinity) -> Self::Held
         requires node { IsNode (layout_of layout.now) (affinity_of affinity) }
@@ -52,6 +55,18 @@ pub trait Node<T: HasKind> {
         ensures moved { AllMoved (S.at shelf.new)
             (parcels (layout_of layout.now) (affinity_of affinity) held) (S.at shelf.old) }
         ensures kept { S.keeps shelf.old shelf.new };
+
+    // A set that has exactly the parcels under a node is of the node's kind.
+    ghost of_kind: { (layout : trees.Layout) (affinity : trees.Affinity) (held : Self.Held)
+        → IsNode layout affinity
+        → HasExactly T.kind layout affinity (parcels layout affinity held)
+        → kind_of affinity ≡ KIND };
+
+    // It still has exactly those once its parcels have changed and its places haven't.
+    ghost stays_exact: { (layout : trees.Layout) (affinity : trees.Affinity) (old new : Self.Held)
+        → alike old new
+        → HasExactly T.kind layout affinity (parcels layout affinity old)
+        → HasExactly T.kind layout affinity (parcels layout affinity new) };
 
     // A set has no parcel of another node.
     ghost within: { (layout : trees.Layout) (affinity : trees.Affinity) (held : Self.Held) (k : ℕ)
