@@ -28,7 +28,8 @@ is_striped v = (v.stripes == 8) || (v.stripes == 16)
 abbrev pub is_limited : VolumeLayout → Bool
 is_limited v = (v.mebibytes == 16) || (v.mebibytes == 64)
 
--- The first rule that a layout breaks: 1 to 2 aggregates, 1 to 8 volumes, each volume on an aggregate that is there and of 1 to 16 ranges, each aggregate with at most 128 spare ranges, each volume of 8 or 16 stripes, with files of at most 16 or 64 mebibytes.
+-- The first rule that a layout breaks: 1 to 2 aggregates, 1 to 8 volumes, each volume on an aggregate that is there and of 1 to 16 ranges,
+-- each aggregate with at most 128 spare ranges, each volume of 8 or 16 stripes, with files of at most 16 or 64 mebibytes.
 abbrev pub fault_of : Layout → Option ℕ
 fault_of layout =
     if not (is_within 1 2 (length layout.spare)) then Some 51

@@ -19,6 +19,7 @@ module _ {H T : Type 0} (u : ℕ → Bool) (f : ℕ → H → Option T) where
       ∙ ap (λ o. or_else (in_places u f xs n) (if u n then in_place (f n) o else None)) (h n (omega arith))
 
   -- one place more, in use or not
-  pub in_places-any : (xs : List (Option H)) (i : ℕ) (place : Option H) → slice_get xs i ≡ Some place → in_places u f xs (i + 1) ≡ or_else (in_places u f xs i) (if u i then in_place (f i) (Some place) else None)
+  pub in_places-any : (xs : List (Option H)) (i : ℕ) (place : Option H) → slice_get xs i ≡ Some place
+      → in_places u f xs (i + 1) ≡ or_else (in_places u f xs i) (if u i then in_place (f i) (Some place) else None)
   unfolding in_places
   in_places-any xs i place e = ap (in_places u f xs) (add-one i) ∙ ap (λ o. or_else (in_places u f xs i) (if u i then in_place (f i) o else None)) e

@@ -43,7 +43,8 @@ pub(crate) fn gather_at<T: HasKind, K: Node<T>, S: Shelf<T>>(
 ) -> K::Held
     requires node { IsNode (layout_of layout.now) (affinity_of affinity) }
     requires kind { kind_of (affinity_of affinity) ≡ K.KIND }
-    requires there { AllPlaced T.kind (layout_of layout.now) (affinity_of affinity) (S.at shelf.old) }
+    requires there { AllPlaced T.kind (layout_of layout.now) (affinity_of affinity)
+        (S.at shelf.old) }
     ensures moved { AllMoved (S.at shelf.old)
         (K.parcels (layout_of layout.now) (affinity_of affinity) result) (S.at shelf.new) }
     ensures gone { AllVacant (layout_of layout.now) (affinity_of affinity) (S.at shelf.new) }
@@ -62,7 +63,8 @@ fn gather_child<T: HasKind, K: Node<T>, S: Shelf<T>>(
     requires node { IsNode (layout_of layout.now) (child (affinity_of parent) index) }
     requires kind { kind_of (child (affinity_of parent) index) ≡ K.KIND }
     requires there { has_child (layout_of layout.now) (affinity_of parent) index ≡ true
-        → AllPlaced T.kind (layout_of layout.now) (child (affinity_of parent) index) (S.at shelf.old) }
+        → AllPlaced T.kind (layout_of layout.now) (child (affinity_of parent) index)
+        (S.at shelf.old) }
     ensures moved { AllMoved (S.at shelf.old)
         (child_parcels K.parcels (layout_of layout.now) (affinity_of parent) index (Some result))
         (S.at shelf.new) }

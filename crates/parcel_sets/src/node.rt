@@ -38,7 +38,8 @@ pub trait Node<T: HasKind> {
     fn gather<S: Shelf<T>>(shelf: &mut S, layout: &Layout, affinity: Affinity) -> Self::Held
         requires node { IsNode (layout_of layout.now) (affinity_of affinity) }
         requires kind { kind_of (affinity_of affinity) ≡ KIND }
-        requires there { AllPlaced T.kind (layout_of layout.now) (affinity_of affinity) (S.at shelf.old) }
+        requires there { AllPlaced T.kind (layout_of layout.now) (affinity_of affinity)
+            (S.at shelf.old) }
         ensures exact { HasExactly T.kind (layout_of layout.now) (affinity_of affinity)
             (parcels (layout_of layout.now) (affinity_of affinity) result) }
         ensures moved { AllMoved (S.at shelf.old)

@@ -1,6 +1,8 @@
 -- Two layouts with one list of parents have the same nodes, under the same numbers.
-use Rattle.std.proofs.Common.{◌≡◌, ◌≢◌, ℕ, zero, suc, ◌+◌, Bool, true, not, ◌&&◌, ◌||◌, List, [], ◌∷◌, ◌++◌, length, replicate, refl, sym, ap, ◌∙◌, arith, slice_get, append_assoc, subst, ◌⊎◌}
-use Rattle.nfs_model.specs.Tree.{Layout, VolumeLayout, Affinity, Serial, Aggregate, Volume, Logical, Stripe, Vbn, Range, path, begins, excludes, stripes_in, stripes_of, aggregate_in, aggregate_of}
+use Rattle.std.proofs.Common.{◌≡◌, ◌≢◌, ℕ, zero, suc, ◌+◌, Bool, true, not, ◌&&◌, ◌||◌, List, [], ◌∷◌, ◌++◌, length, replicate, refl, sym}
+use Rattle.std.proofs.Common.{ap, ◌∙◌, arith, slice_get, append_assoc, subst, ◌⊎◌}
+use Rattle.nfs_model.specs.Tree.{Layout, VolumeLayout, Affinity, Serial, Aggregate, Volume, Logical, Stripe, Vbn, Range, path, begins}
+use Rattle.nfs_model.specs.Tree.{excludes, stripes_in, stripes_of, aggregate_in, aggregate_of}
 use Rattle.affinity_tree.specs.Alike.{AreAlike}
 use Rattle.affinity_tree.specs.Numbers.{nodes_of, nodes_before, volume_number, number_of, parents_from, parents}
 use Rattle.affinity_tree.specs.Tree.{IsNode, is_above}
@@ -101,7 +103,8 @@ not_led a (v ∷ vs) = λ e. omega arith
 
 is_same : (l m : Layout) → parents l ≡ parents m → IsSame l m
 is_same l m e =
-    let below : replicate (length l.spare) 1 ++ parents_from (2 + length l.spare) l.volumes ≡ replicate (length m.spare) 1 ++ parents_from (2 + length m.spare) m.volumes = cc in
+    let below : replicate (length l.spare) 1 ++ parents_from (2 + length l.spare) l.volumes ≡ replicate (length m.spare) 1 ++ parents_from
+    (2 + length m.spare) m.volumes = cc in
     let split = leading 1 (length l.spare) (length m.spare) _ _ (not_led (length l.spare) l.volumes) (not_led (length m.spare) m.volumes) below in
     let one_first = ap (λ (a : ℕ). parents_from (2 + a) m.volumes) (sym split.0) in
     record { aggregates = split.0; volumes = same_volumes (2 + length l.spare) l.volumes m.volumes (split.1 ∙ one_first) }

@@ -1,5 +1,6 @@
 -- What holds of a layout that breaks no rule.
-use Rattle.std.proofs.Common.{◌≡◌, ℕ, zero, suc, ◌*◌, ◌<◌, ◌≤◌, ◌==◌, ◌||◌, Bool, true, false, not, List, [], ◌∷◌, length, Option, Some, None, refl, ap, arith, slice_get, ◌⊎◌, inl, inr, ⊎_elim}
+use Rattle.std.proofs.Common.{◌≡◌, ℕ, zero, suc, ◌*◌, ◌<◌, ◌≤◌, ◌==◌, ◌||◌, Bool, true, false, not, List, [], ◌∷◌, length, Option, Some}
+use Rattle.std.proofs.Common.{None, refl, ap, arith, slice_get, ◌⊎◌, inl, inr, ⊎_elim}
 use Rattle.std.specs.Prelude.{if◌then◌else◌, nat_le}
 use Rattle.std.specs.List.{list_all}
 use Rattle.std.proofs.lemmas.Bool.{and_parts, or_cases, ltb-true, leb-true, eqb-true}
@@ -20,7 +21,8 @@ volume_there (x ∷ xs) zero h = (x, refl)
 volume_there (x ∷ xs) (suc v) h = volume_there xs v (omega arith)
 
 -- a test that all volumes pass
-pub passes_at : (test : VolumeLayout → Bool) (volumes : List VolumeLayout) (v : ℕ) (x : VolumeLayout) → list_all test volumes ≡ true → slice_get volumes v ≡ Some x → test x ≡ true
+pub passes_at : (test : VolumeLayout → Bool) (volumes : List VolumeLayout) (v : ℕ) (x : VolumeLayout) → list_all test volumes ≡ true
+    → slice_get volumes v ≡ Some x → test x ≡ true
 passes_at test [] v x h e = cc
 passes_at test (y ∷ ys) zero x h e =
     let first = (and_parts (test y) (list_all test ys) h).0 in
@@ -82,7 +84,8 @@ either n a b h =
     (λ (e : (n == b) ≡ true). inr (eqb-true n b e))
     (or_cases (n == a) (n == b) h)
 
-stripes_at : (volumes : List VolumeLayout) (v : ℕ) → list_all is_striped volumes ≡ true → (stripes_in (slice_get volumes v) ≡ 8) ⊎ (stripes_in (slice_get volumes v) ≡ 16)
+stripes_at : (volumes : List VolumeLayout) (v : ℕ) → list_all is_striped volumes ≡ true
+    → (stripes_in (slice_get volumes v) ≡ 8) ⊎ (stripes_in (slice_get volumes v) ≡ 16)
 stripes_at [] v h = inl refl
 stripes_at (x ∷ xs) zero h = either x.stripes 8 16 (and_parts (is_striped x) (list_all is_striped xs) h).0
 stripes_at (x ∷ xs) (suc v) h = stripes_at xs v (and_parts (is_striped x) (list_all is_striped xs) h).1
@@ -99,13 +102,15 @@ pub stripes_most : (layout : Layout) (v : ℕ) → fault_of layout ≡ None → 
 stripes_most layout v h =
     ⊎_elim (λ (e : stripes_of layout v ≡ 8). omega arith) (λ (e : stripes_of layout v ≡ 16). omega arith) (stripes_either layout v h)
 
-mebibytes_at : (volumes : List VolumeLayout) (v : ℕ) → list_all is_limited volumes ≡ true → (mebibytes_in (slice_get volumes v) ≡ 16) ⊎ (mebibytes_in (slice_get volumes v) ≡ 64)
+mebibytes_at : (volumes : List VolumeLayout) (v : ℕ) → list_all is_limited volumes ≡ true
+    → (mebibytes_in (slice_get volumes v) ≡ 16) ⊎ (mebibytes_in (slice_get volumes v) ≡ 64)
 mebibytes_at [] v h = inl refl
 mebibytes_at (x ∷ xs) zero h = either x.mebibytes 16 64 (and_parts (is_limited x) (list_all is_limited xs) h).0
 mebibytes_at (x ∷ xs) (suc v) h = mebibytes_at xs v (and_parts (is_limited x) (list_all is_limited xs) h).1
 
 -- the largest file of a volume has 16 or 64 mebibytes
-pub mebibytes_either : (layout : Layout) (v : ℕ) → fault_of layout ≡ None → (mebibytes_in (slice_get layout.volumes v) ≡ 16) ⊎ (mebibytes_in (slice_get layout.volumes v) ≡ 64)
+pub mebibytes_either : (layout : Layout) (v : ℕ) → fault_of layout ≡ None
+    → (mebibytes_in (slice_get layout.volumes v) ≡ 16) ⊎ (mebibytes_in (slice_get layout.volumes v) ≡ 64)
 mebibytes_either layout v h = mebibytes_at layout.volumes v (keeps_rules layout h).limited
 
 pub mebibytes_some : (layout : Layout) (v : ℕ) → fault_of layout ≡ None → 0 < mebibytes_in (slice_get layout.volumes v)

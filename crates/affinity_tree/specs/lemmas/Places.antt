@@ -9,7 +9,8 @@ no_nodes_before : (volumes : List VolumeLayout) → nodes_before volumes 0 ≡ 0
 no_nodes_before [] = refl
 no_nodes_before (x ∷ xs) = refl
 
-nodes_before_more : (volumes : List VolumeLayout) (n : ℕ) → n < length volumes → nodes_before volumes (suc n) ≡ nodes_before volumes n + (19 + stripes_in (slice_get volumes n))
+nodes_before_more : (volumes : List VolumeLayout) (n : ℕ) → n < length volumes
+    → nodes_before volumes (suc n) ≡ nodes_before volumes n + (19 + stripes_in (slice_get volumes n))
 nodes_before_more [] n h = absurd (omega arith)
 nodes_before_more (x ∷ xs) zero h = let none = no_nodes_before xs in omega arith
 nodes_before_more (x ∷ xs) (suc n) h =
@@ -20,7 +21,8 @@ nodes_before_more (x ∷ xs) (suc n) h =
 pub volume_number_first : (layout : Layout) → volume_number layout 0 ≡ 2 + length layout.spare
 volume_number_first layout = let none = no_nodes_before layout.volumes in omega arith
 
-pub volume_number_more : (layout : Layout) (v : ℕ) → v < length layout.volumes → volume_number layout (v + 1) ≡ volume_number layout v + (19 + stripes_of layout v)
+pub volume_number_more : (layout : Layout) (v : ℕ) → v < length layout.volumes
+    → volume_number layout (v + 1) ≡ volume_number layout v + (19 + stripes_of layout v)
 volume_number_more layout v h =
     let next : v + 1 ≡ suc v = omega arith in
     let same : volume_number layout (v + 1) ≡ volume_number layout (suc v) = ap (volume_number layout) next in
@@ -28,7 +30,8 @@ volume_number_more layout v h =
     omega arith
 
 -- the nodes of a later volume come after those of an earlier one
-pub nodes_before_next : (volumes : List VolumeLayout) (v w : ℕ) (x : VolumeLayout) → slice_get volumes v ≡ Some x → v < w → nodes_before volumes v + nodes_of x ≤ nodes_before volumes w
+pub nodes_before_next : (volumes : List VolumeLayout) (v w : ℕ) (x : VolumeLayout) → slice_get volumes v ≡ Some x → v < w
+    → nodes_before volumes v + nodes_of x ≤ nodes_before volumes w
 nodes_before_next [] v w x e h = cc
 nodes_before_next (y ∷ ys) v zero x e h = absurd (omega arith)
 nodes_before_next (y ∷ ys) zero (suc w) x e h =
@@ -40,7 +43,8 @@ nodes_before_next (y ∷ ys) (suc v) (suc w) x e h =
     omega arith
 
 -- so many numbers lie between the nodes of two volumes
-pub volume_number_next : (layout : Layout) (v w : ℕ) → v < length layout.volumes → v < w → volume_number layout v + 19 + stripes_of layout v ≤ volume_number layout w
+pub volume_number_next : (layout : Layout) (v w : ℕ) → v < length layout.volumes → v < w
+    → volume_number layout v + 19 + stripes_of layout v ≤ volume_number layout w
 volume_number_next layout v w there h =
     let x = volume_there layout.volumes v there in
     let next = nodes_before_next layout.volumes v w x.0 x.1 h in

@@ -1,5 +1,6 @@
 -- Node numbers stand for nodes, there and back, and for what is under a node and what excludes another.
-use Rattle.std.proofs.Common.{◌≡◌, ◌≢◌, ℕ, zero, suc, ◌<◌, ◌≤◌, eqb, true, List, [], ◌∷◌, length, slice_index, slice_index_or, None, refl, sym, ap, ◌∙◌, subst, arith, eq-eqb, ne_eqb, ◌⊎◌, inl, inr, ⊎_elim}
+use Rattle.std.proofs.Common.{◌≡◌, ◌≢◌, ℕ, zero, suc, ◌<◌, ◌≤◌, eqb, true, List, [], ◌∷◌, length, slice_index, slice_index_or, None, refl}
+use Rattle.std.proofs.Common.{sym, ap, ◌∙◌, subst, arith, eq-eqb, ne_eqb, ◌⊎◌, inl, inr, ⊎_elim}
 use Rattle.std.specs.Prelude.{Contains}
 use mathlib.Core.Logic.{dite}
 use native.Mathlib.Decide.{ℕ_discrete}
@@ -112,7 +113,8 @@ module _ (layout : Layout) (lawful : fault_of layout ≡ None) where
       (λ (h : Contains (above (number_of layout c)) (number_of layout a)). inr (stands (number_of layout a) (above (number_of layout c)) h.0 h.1 h.2))
       (number_over layout above a c lawful lists m under.0 under)
 
-  pub under-number : (a c : Affinity) → IsNode layout a → IsNode layout c → Covers (parents layout) (number_of layout a) (number_of layout c) → IsUnder layout a c
+  pub under-number : (a c : Affinity) → IsNode layout a → IsNode layout c → Covers (parents layout) (number_of layout a) (number_of layout c)
+      → IsUnder layout a c
   under-number a c m n covers =
       under_numbered layout above a c lawful lists m n
       (⊎_elim
@@ -128,7 +130,8 @@ module _ (layout : Layout) (lawful : fault_of layout ≡ None) where
       (c.0, under-number a c.0 m c.1 (subst (Covers (parents layout) (number_of layout a)) (sym c.2) covers), c.2)
 
   -- two nodes exclude each other just where their numbers do
-  pub excludes-number : (a b : Affinity) → IsNode layout a → IsNode layout b → excludes layout a b ≡ true → Excludes (parents layout) (number_of layout a) (number_of layout b)
+  pub excludes-number : (a b : Affinity) → IsNode layout a → IsNode layout b → excludes layout a b ≡ true
+      → Excludes (parents layout) (number_of layout a) (number_of layout b)
   excludes-number a b m n h =
       ⊎_elim
       (λ (e : number_of layout a ≡ number_of layout b). inl e)
@@ -139,7 +142,8 @@ module _ (layout : Layout) (lawful : fault_of layout ≡ None) where
       one)
       (numbers_from layout above a b lawful lists m n h)
 
-  pub number-excludes : (a b : Affinity) → IsNode layout a → IsNode layout b → Excludes (parents layout) (number_of layout a) (number_of layout b) → excludes layout a b ≡ true
+  pub number-excludes : (a b : Affinity) → IsNode layout a → IsNode layout b → Excludes (parents layout) (number_of layout a) (number_of layout b)
+      → excludes layout a b ≡ true
   number-excludes a b m n h =
       excludes_numbered layout above a b lawful lists m n
       (⊎_elim
