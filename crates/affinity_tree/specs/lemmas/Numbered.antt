@@ -1,11 +1,12 @@
 -- Each node has a number of its own, and each number is some node's.
-use Rattle.std.proofs.Common.{◌≡◌, ℕ, zero, suc, ◌+◌, ◌-◌, ◌<◌, ◌≤◌, ◌==◌, nat_lt, List, [], ◌∷◌, length, Some, refl, sym, ◌∙◌, ap, arith, slice_get, ◌⊎◌, ⊎_elim}
+use Rattle.std.proofs.Common.{◌≡◌, ℕ, zero, suc, ◌+◌, ◌-◌, ◌<◌, ◌≤◌, ◌==◌, nat_lt, List, [], ◌∷◌, length, Some, refl, sym, ◌∙◌, ap, arith}
+use Rattle.std.proofs.Common.{slice_get, ◌⊎◌, ⊎_elim}
 use Rattle.std.specs.Prelude.{if◌then◌else◌}
 use Rattle.std.proofs.lemmas.Bool.{cases_lt, cases_order, lt-ltb, le-ltb, eq-eqb, ne_eqb}
 use Rattle.nfs_model.specs.Tree.{Layout, VolumeLayout, Affinity, Serial, Aggregate, Volume, Logical, Stripe, Vbn, Range, stripes_of, stripes_in}
 use Rattle.affinity_tree.specs.Tree.{IsNode}
 use Rattle.affinity_tree.specs.Numbers.{nodes_of, nodes_before, volume_number, number_of, node_count}
-use Rattle.affinity_tree.proofs.Places.{volume_number_next}
+use Rattle.affinity_tree.specs.lemmas.Places.{volume_number_next}
 
 -- ---- a volume's nodes by their places
 
@@ -69,7 +70,8 @@ one_node layout a b v w p q m n e =
     m.node ∙ ap (λ (x : ℕ). node_at (stripes_of layout x) x p) same ∙ ap (node_at (stripes_of layout w) w) place ∙ sym n.node
 
 -- past the aggregates
-own_far : (layout : Layout) (a b : Affinity) → IsNode layout a → IsNode layout b → 2 + length layout.spare ≤ number_of layout a → number_of layout a ≡ number_of layout b → a ≡ b
+own_far : (layout : Layout) (a b : Affinity) → IsNode layout a → IsNode layout b → 2 + length layout.spare ≤ number_of layout a
+    → number_of layout a ≡ number_of layout b → a ≡ b
 own_far layout a b m n far e =
     let here = place_of layout a m far in
     let there = place_of layout b n (omega arith) in
@@ -87,7 +89,8 @@ own_number layout a b m n e = own_far layout a b m n (omega arith) e
 -- ---- each number is some node's
 
 -- the volume and the place of a number past the aggregates'
-split : (volumes : List VolumeLayout) (k : ℕ) → k < nodes_before volumes (length volumes) → (v : ℕ) × (x : VolumeLayout) × (place : ℕ) × (slice_get volumes v ≡ Some x) × (place < nodes_of x) × (nodes_before volumes v + place ≡ k)
+split : (volumes : List VolumeLayout) (k : ℕ) → k < nodes_before volumes (length volumes)
+    → (v : ℕ) × (x : VolumeLayout) × (place : ℕ) × (slice_get volumes v ≡ Some x) × (place < nodes_of x) × (nodes_before volumes v + place ≡ k)
 split [] k h = absurd (omega arith)
 split (x ∷ xs) k h =
     ⊎_elim
@@ -98,7 +101,8 @@ split (x ∷ xs) k h =
     (cases_lt k (nodes_of x))
 
 -- a node at each place of a volume
-filled_below : (layout : Layout) (v p : ℕ) → v < length layout.volumes → p < 17 + stripes_of layout v → (a : Affinity) × IsNode layout a × (number_of layout a ≡ volume_number layout v + suc (suc p))
+filled_below : (layout : Layout) (v p : ℕ) → v < length layout.volumes → p < 17 + stripes_of layout v
+    → (a : Affinity) × IsNode layout a × (number_of layout a ≡ volume_number layout v + suc (suc p))
 filled_below layout v p h k =
     ⊎_elim
     (λ (stripe : p < stripes_of layout v). (Stripe v p, (h, stripe), omega arith))
@@ -109,7 +113,8 @@ filled_below layout v p h k =
     (cases_lt (stripes_of layout v) p))
     (cases_lt p (stripes_of layout v))
 
-filled : (layout : Layout) (v place : ℕ) → v < length layout.volumes → place < 19 + stripes_of layout v → (a : Affinity) × IsNode layout a × (number_of layout a ≡ volume_number layout v + place)
+filled : (layout : Layout) (v place : ℕ) → v < length layout.volumes → place < 19 + stripes_of layout v
+    → (a : Affinity) × IsNode layout a × (number_of layout a ≡ volume_number layout v + place)
 filled layout v zero h k = (Volume v, h, omega arith)
 filled layout v (suc zero) h k = (Logical v, h, refl)
 filled layout v (suc (suc p)) h k = filled_below layout v p h (omega arith)

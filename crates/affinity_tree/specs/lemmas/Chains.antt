@@ -1,18 +1,24 @@
 -- The numbers above a node are those of the nodes above it.
-use Rattle.std.proofs.Common.{◌≡◌, ℕ, zero, suc, ◌<◌, true, false, not, List, [], ◌∷◌, ◌++◌, length, slice_index_or, Some, None, refl, sym, ◌∙◌, ap, subst, arith, length-append, ◌⊎◌, inl, inr, ⊎_elim}
+use Rattle.std.proofs.Common.{◌≡◌, ℕ, zero, suc, ◌<◌, true, false, not, List, [], ◌∷◌, ◌++◌, length, slice_index, slice_index_or, Some}
+use Rattle.std.proofs.Common.{None, refl, sym, ◌∙◌, ap, subst, arith, length-append, ◌⊎◌, inl, inr, ⊎_elim}
 use Rattle.std.specs.Prelude.{Contains}
 use Rattle.std.proofs.lemmas.Bool.{and_parts, and_from, or_left, or_right, or_cases, not-true, not_from_false, false_from_ne_true}
 use Rattle.nfs_model.specs.Tree.{Layout, Affinity, Serial, Aggregate, Volume, Logical, Stripe, Vbn, Range, path, begins, excludes, aggregate_of}
 use Rattle.affinity_tree.specs.Fault.{fault_of}
 use Rattle.affinity_tree.specs.Tree.{IsNode, IsParent, is_above, covers, parent_of}
 use Rattle.affinity_tree.specs.Under.{IsUnder}
-use Rattle.affinity_tree.specs.Numbers.{number_of, number_or_none, parents, ListsAbove}
-use Rattle.affinity_tree.proofs.Ways.{begins-longer, begins-length, begins-step}
-use Rattle.affinity_tree.proofs.Lawful.{aggregate_known}
-use Rattle.affinity_tree.proofs.Sharing.{same_way, covers-cases, covers_from}
-use Rattle.affinity_tree.proofs.Places.{number_positive}
-use Rattle.affinity_tree.proofs.Numbered.{own_number}
-use Rattle.affinity_tree.proofs.Parents.{parent_at}
+use Rattle.affinity_tree.specs.Numbers.{number_of, number_or_none, parents}
+use Rattle.affinity_tree.specs.lemmas.Ways.{begins-longer, begins-length, begins-step}
+use Rattle.affinity_tree.specs.lemmas.Lawful.{aggregate_known}
+use Rattle.affinity_tree.specs.lemmas.Sharing.{same_way, covers-cases, covers_from}
+use Rattle.affinity_tree.specs.lemmas.Places.{number_positive}
+use Rattle.affinity_tree.specs.lemmas.Numbered.{own_number}
+use Rattle.affinity_tree.specs.lemmas.Parents.{parent_at}
+
+-- f lists the numbers above each number, the nearest first, where each number's parent is in the list
+pub record ListsAbove (parents : List ℕ) (f : ℕ → List ℕ) : Type 0 where
+  pub root : (n : ℕ) → slice_index parents n ≡ 0 → f n ≡ []
+  pub child : (n p : ℕ) → 0 < n → 0 < p → slice_index parents n ≡ p → f n ≡ p ∷ f p
 
 -- ---- elements of a list
 
@@ -87,49 +93,60 @@ child_listed layout f b p node step e up = record {
 }
 
 -- a list starts with the parent's number
-starts : (layout : Layout) (f : ℕ → List ℕ) (b p : Affinity) → ListsAbove (parents layout) f → IsNode layout b → parent_of layout b ≡ Some p → f (number_of layout b) ≡ number_of layout p ∷ f (number_of layout p)
+starts : (layout : Layout) (f : ℕ → List ℕ) (b p : Affinity) → ListsAbove (parents layout) f → IsNode layout b → parent_of layout b ≡ Some p
+    → f (number_of layout b) ≡ number_of layout p ∷ f (number_of layout p)
 starts layout f b p lists node e =
-    lists.child (number_of layout b) (number_of layout p) (number_positive layout b) (number_positive layout p) (parent_at layout b node ∙ ap (number_or_none layout) e)
+    lists.child (number_of layout b) (number_of layout p) (number_positive layout b) (number_positive layout p)
+    (parent_at layout b node ∙ ap (number_or_none layout) e)
 
 serial_listed : (layout : Layout) (f : ℕ → List ℕ) → ListsAbove (parents layout) f → IsListed layout f Serial
 serial_listed layout f lists =
     let none : f 1 ≡ [] = lists.root 1 refl in
     record {
       listed = λ a m h. absurd (let back = (and_parts (covers layout a Serial) false h).1 in let no : false ≡ true = back in cc);
-      above = λ a m h. absurd (let found : Contains [] (number_of layout a) = subst (λ (xs : List ℕ). Contains xs (number_of layout a)) none h in let within : found.0 < 0 = found.1 in omega arith);
+      above = λ a m h. absurd
+          (let found : Contains [] (number_of layout a) = subst (λ (xs : List ℕ). Contains xs (number_of layout a)) none h
+          in let within : found.0 < 0 = found.1 in omega arith);
     }
 
 aggregate_listed : (layout : Layout) (f : ℕ → List ℕ) → ListsAbove (parents layout) f → (a : ℕ) → a < length layout.spare → IsListed layout f (Aggregate a)
 aggregate_listed layout f lists a h =
     child_listed layout f (Aggregate a) Serial tt (a, refl) (starts layout f (Aggregate a) Serial lists h refl) (serial_listed layout f lists)
 
-volume_listed : (layout : Layout) (f : ℕ → List ℕ) → fault_of layout ≡ None → ListsAbove (parents layout) f → (v : ℕ) → v < length layout.volumes → IsListed layout f (Volume v)
+volume_listed : (layout : Layout) (f : ℕ → List ℕ) → fault_of layout ≡ None → ListsAbove (parents layout) f → (v : ℕ) → v < length layout.volumes
+    → IsListed layout f (Volume v)
 volume_listed layout f lawful lists v h =
     let known = aggregate_known layout v lawful h in
-    child_listed layout f (Volume v) (Aggregate (aggregate_of layout v)) known (v, refl) (starts layout f (Volume v) (Aggregate (aggregate_of layout v)) lists h refl) (aggregate_listed layout f lists (aggregate_of layout v) known)
+    child_listed layout f (Volume v) (Aggregate (aggregate_of layout v)) known (v, refl)
+    (starts layout f (Volume v) (Aggregate (aggregate_of layout v)) lists h refl) (aggregate_listed layout f lists (aggregate_of layout v) known)
 
-logical_listed : (layout : Layout) (f : ℕ → List ℕ) → fault_of layout ≡ None → ListsAbove (parents layout) f → (v : ℕ) → v < length layout.volumes → IsListed layout f (Logical v)
+logical_listed : (layout : Layout) (f : ℕ → List ℕ) → fault_of layout ≡ None → ListsAbove (parents layout) f → (v : ℕ) → v < length layout.volumes
+    → IsListed layout f (Logical v)
 logical_listed layout f lawful lists v h =
     child_listed layout f (Logical v) (Volume v) h (0, refl) (starts layout f (Logical v) (Volume v) lists h refl) (volume_listed layout f lawful lists v h)
 
-vbn_listed : (layout : Layout) (f : ℕ → List ℕ) → fault_of layout ≡ None → ListsAbove (parents layout) f → (v : ℕ) → v < length layout.volumes → IsListed layout f (Vbn v)
+vbn_listed : (layout : Layout) (f : ℕ → List ℕ) → fault_of layout ≡ None → ListsAbove (parents layout) f → (v : ℕ) → v < length layout.volumes
+    → IsListed layout f (Vbn v)
 vbn_listed layout f lawful lists v h =
     child_listed layout f (Vbn v) (Volume v) h (1, refl) (starts layout f (Vbn v) (Volume v) lists h refl) (volume_listed layout f lawful lists v h)
 
-pub node_listed : (layout : Layout) (f : ℕ → List ℕ) → fault_of layout ≡ None → ListsAbove (parents layout) f → (b : Affinity) → IsNode layout b → IsListed layout f b
+pub node_listed : (layout : Layout) (f : ℕ → List ℕ) → fault_of layout ≡ None → ListsAbove (parents layout) f → (b : Affinity) → IsNode layout b
+    → IsListed layout f b
 node_listed layout f lawful lists Serial h = serial_listed layout f lists
 node_listed layout f lawful lists (Aggregate a) h = aggregate_listed layout f lists a h
 node_listed layout f lawful lists (Volume v) h = volume_listed layout f lawful lists v h
 node_listed layout f lawful lists (Logical v) h = logical_listed layout f lawful lists v h
 node_listed layout f lawful lists (Stripe v i) h =
-    child_listed layout f (Stripe v i) (Logical v) h.0 (i, refl) (starts layout f (Stripe v i) (Logical v) lists h refl) (logical_listed layout f lawful lists v h.0)
+    child_listed layout f (Stripe v i) (Logical v) h.0 (i, refl) (starts layout f (Stripe v i) (Logical v) lists h refl)
+    (logical_listed layout f lawful lists v h.0)
 node_listed layout f lawful lists (Vbn v) h = vbn_listed layout f lawful lists v h
 node_listed layout f lawful lists (Range v r) h =
     child_listed layout f (Range v r) (Vbn v) h.0 (r, refl) (starts layout f (Range v r) (Vbn v) lists h refl) (vbn_listed layout f lawful lists v h.0)
 
 -- ---- parcels by numbers
 
-pub number_over : (layout : Layout) (f : ℕ → List ℕ) (a p : Affinity) → fault_of layout ≡ None → ListsAbove (parents layout) f → IsNode layout a → IsNode layout p
+pub number_over : (layout : Layout) (f : ℕ → List ℕ) (a p : Affinity) → fault_of layout ≡ None → ListsAbove (parents layout) f → IsNode layout a
+    → IsNode layout p
     → IsUnder layout a p → (number_of layout a ≡ number_of layout p) ⊎ Contains (f (number_of layout p)) (number_of layout a)
 number_over layout f a p lawful lists m n h =
     ⊎_elim
@@ -137,7 +154,8 @@ number_over layout f a p lawful lists m n h =
     (λ (above : is_above layout a p ≡ true). inr ((node_listed layout f lawful lists p n).listed a m above))
     h.1
 
-pub under_numbered : (layout : Layout) (f : ℕ → List ℕ) (a p : Affinity) → fault_of layout ≡ None → ListsAbove (parents layout) f → IsNode layout a → IsNode layout p
+pub under_numbered : (layout : Layout) (f : ℕ → List ℕ) (a p : Affinity) → fault_of layout ≡ None → ListsAbove (parents layout) f → IsNode layout a
+    → IsNode layout p
     → (number_of layout a ≡ number_of layout p) ⊎ Contains (f (number_of layout p)) (number_of layout a) → IsUnder layout a p
 under_numbered layout f a p lawful lists m n h = (
   n,
@@ -169,8 +187,10 @@ excludes_by layout a b h =
     one)
     h
 
-pub numbers_from : (layout : Layout) (f : ℕ → List ℕ) (a b : Affinity) → fault_of layout ≡ None → ListsAbove (parents layout) f → IsNode layout a → IsNode layout b → excludes layout a b ≡ true
-    → (number_of layout a ≡ number_of layout b) ⊎ (Contains (f (number_of layout b)) (number_of layout a) ⊎ Contains (f (number_of layout a)) (number_of layout b))
+pub numbers_from : (layout : Layout) (f : ℕ → List ℕ) (a b : Affinity) → fault_of layout ≡ None → ListsAbove (parents layout) f → IsNode layout a
+    → IsNode layout b → excludes layout a b ≡ true
+    → (number_of layout a ≡ number_of layout b) ⊎
+    (Contains (f (number_of layout b)) (number_of layout a) ⊎ Contains (f (number_of layout a)) (number_of layout b))
 numbers_from layout f a b lawful lists m n h =
     ⊎_elim
     (λ (same : a ≡ b). inl (ap (number_of layout) same))
@@ -181,8 +201,10 @@ numbers_from layout f a b lawful lists m n h =
     one)
     (excludes-cases layout a b h)
 
-pub excludes_numbered : (layout : Layout) (f : ℕ → List ℕ) (a b : Affinity) → fault_of layout ≡ None → ListsAbove (parents layout) f → IsNode layout a → IsNode layout b
-    → (number_of layout a ≡ number_of layout b) ⊎ (Contains (f (number_of layout b)) (number_of layout a) ⊎ Contains (f (number_of layout a)) (number_of layout b)) → excludes layout a b ≡ true
+pub excludes_numbered : (layout : Layout) (f : ℕ → List ℕ) (a b : Affinity) → fault_of layout ≡ None → ListsAbove (parents layout) f → IsNode layout a
+    → IsNode layout b
+    → (number_of layout a ≡ number_of layout b) ⊎
+    (Contains (f (number_of layout b)) (number_of layout a) ⊎ Contains (f (number_of layout a)) (number_of layout b)) → excludes layout a b ≡ true
 excludes_numbered layout f a b lawful lists m n h =
     excludes_by layout a b (⊎_elim
     (λ (same : number_of layout a ≡ number_of layout b). inl (own_number layout a b m n same))

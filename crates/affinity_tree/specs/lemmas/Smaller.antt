@@ -1,13 +1,14 @@
 -- A parent has a smaller number than its children.
-use Rattle.std.proofs.Common.{◌≡◌, ℕ, zero, suc, ◌+◌, ◌<◌, ◌≤◌, true, List, [], ◌∷◌, ◌++◌, length, slice_index, replicate, None, refl, subst, arith, length-append}
+use Rattle.std.proofs.Common.{◌≡◌, ℕ, zero, suc, ◌+◌, ◌<◌, ◌≤◌, true, List, [], ◌∷◌, ◌++◌, length, slice_index, replicate, None, refl}
+use Rattle.std.proofs.Common.{subst, arith, length-append}
 use Rattle.std.specs.List.{list_all}
 use Rattle.std.proofs.lemmas.List.{length-replicate}
 use Rattle.std.proofs.lemmas.Bool.{and_parts, ltb-true}
 use Rattle.nfs_model.specs.Tree.{Layout, VolumeLayout}
 use Rattle.affinity_tree.specs.Fault.{fault_of, is_known}
 use Rattle.affinity_tree.specs.Numbers.{nodes_of, nodes_before, node_count, volume_parents, parents_from, parents}
-use Rattle.affinity_tree.proofs.Lawful.{all_known}
-use Rattle.affinity_tree.proofs.Parents.{length-volume_parents}
+use Rattle.affinity_tree.specs.lemmas.Lawful.{keeps_rules}
+use Rattle.affinity_tree.specs.lemmas.Parents.{length-volume_parents}
 
 -- each number in the list is below its own index, counted from n
 abbrev AreBelow : ℕ → List ℕ → Type 0
@@ -38,7 +39,8 @@ below_volume first v h =
     let vbn : first < suc (suc first) + length (replicate v.stripes (first + 1)) = omega arith in
     (h, (omega arith, below_append (suc (suc first)) (replicate v.stripes (first + 1)) (first ∷ replicate 16 (first + 2 + v.stripes)) stripes (vbn, ranges)))
 
-below_volumes : (aggregates first : ℕ) (volumes : List VolumeLayout) → 2 + aggregates ≤ first → list_all (is_known aggregates) volumes ≡ true → AreBelow first (parents_from first volumes)
+below_volumes : (aggregates first : ℕ) (volumes : List VolumeLayout) → 2 + aggregates ≤ first → list_all (is_known aggregates) volumes ≡ true
+    → AreBelow first (parents_from first volumes)
 below_volumes aggregates first [] h known = tt
 below_volumes aggregates first (v ∷ vs) h known =
     let parts = and_parts (is_known aggregates v) (list_all (is_known aggregates) vs) known in
@@ -54,10 +56,11 @@ parent_smaller layout zero lawful h = absurd (omega arith)
 parent_smaller layout (suc n) lawful h =
     let ones : List ℕ = replicate (length layout.spare) 1 in
     let size : length ones ≡ length layout.spare = length-replicate (length layout.spare) 1 in
-    let volumes = below_volumes (length layout.spare) (2 + length layout.spare) layout.volumes (omega arith) (all_known layout lawful) in
+    let volumes = below_volumes (length layout.spare) (2 + length layout.spare) layout.volumes (omega arith) (keeps_rules layout lawful).known in
     let P : ℕ → Type 0 = λ k. AreBelow k (parents_from (2 + length layout.spare) layout.volumes) in
     let same : 2 + length layout.spare ≡ 2 + length ones = omega arith in
-    let nodes = below_append 2 ones (parents_from (2 + length layout.spare) layout.volumes) (below_replicate 2 (length layout.spare) 1 (omega arith)) (subst P same volumes) in
+    let nodes = below_append 2 ones (parents_from (2 + length layout.spare) layout.volumes) (below_replicate 2 (length layout.spare) 1 (omega arith))
+    (subst P same volumes) in
     let all : AreBelow 1 (0 ∷ (ones ++ parents_from (2 + length layout.spare) layout.volumes)) = (omega arith, nodes) in
     let below = below_at 1 (0 ∷ (ones ++ parents_from (2 + length layout.spare) layout.volumes)) n (omega arith) all in
     omega arith

@@ -5,7 +5,7 @@ use Rattle.std.proofs.lemmas.Bool.{and_parts, and_from, or_cases, cases_Bool, no
 use Rattle.nfs_model.specs.Tree.{Layout, Affinity, Serial, Aggregate, Volume, Logical, Stripe, Vbn, Range, path, excludes}
 use Rattle.affinity_tree.specs.Tree.{IsNode, is_above, covers}
 use Rattle.affinity_tree.specs.Under.{IsUnder, ShareParcel}
-use Rattle.affinity_tree.proofs.Ways.{begins-self, begins-both, begins-either}
+use Rattle.affinity_tree.specs.lemmas.Ways.{begins-self, begins-both, begins-either}
 
 -- the affinity at the end of a way
 abbrev reached : List ℕ → Affinity
@@ -62,7 +62,8 @@ excludes_from layout a b h =
     begins-either (path layout a) (path layout b) (path layout h.0) (covers_from layout a h.0 h.1.1) (covers_from layout b h.0 h.2.1)
 
 -- a test that says whether they exclude each other says whether they share a parcel
-pub tells : (layout : Layout) (a b : Affinity) (test : Bool) → IsNode layout a → IsNode layout b → test ≡ excludes layout a b → (IsTrue test ↔ ShareParcel layout a b)
+pub tells : (layout : Layout) (a b : Affinity) (test : Bool) → IsNode layout a → IsNode layout b → test ≡ excludes layout a b
+    → (IsTrue test ↔ ShareParcel layout a b)
 tells layout a b test m n e = (
   (λ (h : IsTrue test). shares_from layout a b m n (let yes : test ≡ true = search rules in sym e ∙ yes)),
   (λ (h : ShareParcel layout a b). let yes : test ≡ true = e ∙ excludes_from layout a b h in search rules),

@@ -1,10 +1,10 @@
--- Lemmas alone, which no reader has to believe. A set has nothing at a number that is none of its nodes'.
+-- A set has nothing at a number that is none of its nodes'.
 use Rattle.std.proofs.Common.{◌≡◌, ◌≢◌, ℕ, zero, suc, ◌<◌, Bool, true, false, List, Option, Some, None, length, refl, sym, ap, subst, arith, slice_get, ◌==◌}
 use Rattle.std.specs.Prelude.{if◌then◌else◌}
 use Rattle.std.proofs.lemmas.Bool.{ne_eqb, eqb-true}
 use Rattle.nfs_model.specs.Tree.{Layout, Serial, Aggregate, Volume, Logical, Stripe, Vbn, Range, stripes_of, aggregate_of}
 use Rattle.affinity_tree.specs.Numbers.{number_of}
-use Rattle.parcel_sets.specs.Below.{OnLogical, OnVbn, OnVolume, OnAggregate, OnSerial}
+use Rattle.parcel_sets.specs.lemmas.Below.{OnLogical, OnVbn, OnVolume, OnAggregate, OnSerial}
 use Rattle.parcel_sets.specs.Places.{alone, or_else, in_place, in_used_place, in_places}
 use Rattle.parcel_sets.specs.Sets.{range_parcels, vbn_parcels, stripe_parcels, logical_parcels, volume_parcels, aggregate_parcels, serial_parcels}
 use Rattle.parcel_sets.specs.declared.family.Parcel.TheVariants as parcels
@@ -58,27 +58,33 @@ module _ {P R B S L V A X : Type 0} (layout : Layout) (k : ℕ) where
       (alone (number_of layout (Vbn v)) (parcels.Vbn held.own) k)
       (in_places (λ r. true) (λ r range. range_parcels layout (Range v r) range k) held.ranges.at 16)
       (alone-none (number_of layout (Vbn v)) (parcels.Vbn held.own) k on.own)
-      (in_places-none (λ r. true) (λ r range. range_parcels layout (Range v r) range k) held.ranges.at 16 (λ r l used range. alone-none (number_of layout (Range v r)) (parcels.Range range.own) k (on.ranges r l)))
+      (in_places-none (λ r. true) (λ r range. range_parcels layout (Range v r) range k) held.ranges.at 16
+      (λ r l used range. alone-none (number_of layout (Range v r)) (parcels.Range range.own) k (on.ranges r l)))
 
-  pub logical-none : (v : ℕ) (held : LogicalHeld P R B S L V A X) → OnLogical layout (λ b. k ≢ number_of layout b) v → logical_parcels layout (Logical v) held k ≡ None
+  pub logical-none : (v : ℕ) (held : LogicalHeld P R B S L V A X) → OnLogical layout (λ b. k ≢ number_of layout b) v
+      → logical_parcels layout (Logical v) held k ≡ None
   unfolding logical_parcels stripe_parcels
   logical-none v held on =
       or_else-none
       (alone (number_of layout (Logical v)) (parcels.Logical held.own) k)
       (in_places (λ i. true) (λ i stripe. stripe_parcels layout (Stripe v i) stripe k) held.stripes.at (stripes_of layout v))
       (alone-none (number_of layout (Logical v)) (parcels.Logical held.own) k on.own)
-      (in_places-none (λ i. true) (λ i stripe. stripe_parcels layout (Stripe v i) stripe k) held.stripes.at (stripes_of layout v) (λ i l used stripe. alone-none (number_of layout (Stripe v i)) (parcels.Stripe stripe.own) k (on.stripes i l)))
+      (in_places-none (λ i. true) (λ i stripe. stripe_parcels layout (Stripe v i) stripe k) held.stripes.at (stripes_of layout v)
+      (λ i l used stripe. alone-none (number_of layout (Stripe v i)) (parcels.Stripe stripe.own) k (on.stripes i l)))
 
-  pub volume-none : (v : ℕ) (held : VolumeHeld P R B S L V A X) → OnVolume layout (λ b. k ≢ number_of layout b) v → volume_parcels layout (Volume v) held k ≡ None
+  pub volume-none : (v : ℕ) (held : VolumeHeld P R B S L V A X) → OnVolume layout (λ b. k ≢ number_of layout b) v
+      → volume_parcels layout (Volume v) held k ≡ None
   unfolding volume_parcels
   volume-none v held on =
       or_else-none
       (alone (number_of layout (Volume v)) (parcels.Volume held.own) k)
       (or_else (logical_parcels layout (Logical v) held.logical k) (vbn_parcels layout (Vbn v) held.vbn k))
       (alone-none (number_of layout (Volume v)) (parcels.Volume held.own) k on.own)
-      (or_else-none (logical_parcels layout (Logical v) held.logical k) (vbn_parcels layout (Vbn v) held.vbn k) (logical-none v held.logical on.logical) (vbn-none v held.vbn on.vbn))
+      (or_else-none (logical_parcels layout (Logical v) held.logical k) (vbn_parcels layout (Vbn v) held.vbn k)
+      (logical-none v held.logical on.logical) (vbn-none v held.vbn on.vbn))
 
-  pub aggregate-none : (a : ℕ) (held : AggrHeld P R B S L V A X) → OnAggregate layout (λ b. k ≢ number_of layout b) a → aggregate_parcels layout (Aggregate a) held k ≡ None
+  pub aggregate-none : (a : ℕ) (held : AggrHeld P R B S L V A X) → OnAggregate layout (λ b. k ≢ number_of layout b) a
+      → aggregate_parcels layout (Aggregate a) held k ≡ None
   unfolding aggregate_parcels
   aggregate-none a held on =
       or_else-none

@@ -2,10 +2,11 @@
 use Rattle.std.proofs.Common.{◌≡◌, ℕ, zero, suc, ◌+◌, ◌<◌, List, [], ◌∷◌, ◌++◌, length, slice_index, replicate, Some, refl, sym, ◌∙◌, ap, arith, slice_get}
 use Rattle.std.proofs.lemmas.List.{length-replicate, get_or-replicate, get_or_append_left, get_or-append-add}
 use Rattle.std.proofs.Common.{length-append}
-use Rattle.nfs_model.specs.Tree.{Layout, VolumeLayout, Affinity, Serial, Aggregate, Volume, Logical, Stripe, Vbn, Range, stripes_of, stripes_in, aggregate_of, aggregate_in}
+use Rattle.nfs_model.specs.Tree.{Layout, VolumeLayout, Affinity, Serial, Aggregate, Volume, Logical, Stripe, Vbn, Range, stripes_of}
+use Rattle.nfs_model.specs.Tree.{stripes_in, aggregate_of, aggregate_in}
 use Rattle.affinity_tree.specs.Tree.{IsNode, parent_of}
 use Rattle.affinity_tree.specs.Numbers.{nodes_of, nodes_before, volume_number, number_of, number_or_none, volume_parents, parents_from, parents}
-use Rattle.affinity_tree.proofs.Lawful.{volume_there}
+use Rattle.affinity_tree.specs.lemmas.Lawful.{volume_there}
 
 -- ---- lists that are joined
 
@@ -65,7 +66,8 @@ in_parents_from (y ∷ ys) first (suc v) x place e h =
     let size = length-volume_parents first y in
     let others = in_parents_from ys (first + nodes_of y) v x place e h in
     let moved : first + nodes_of y + nodes_before ys v ≡ first + (nodes_of y + nodes_before ys v) = omega arith in
-    at_same (volume_parents first y ++ parents_from (first + nodes_of y) ys) (nodes_of y + nodes_before ys v + place) (length (volume_parents first y) + (nodes_before ys v + place)) (omega arith)
+    at_same (volume_parents first y ++ parents_from (first + nodes_of y) ys) (nodes_of y + nodes_before ys v + place)
+    (length (volume_parents first y) + (nodes_before ys v + place)) (omega arith)
     ∙ get_or-append-add (volume_parents first y) (parents_from (first + nodes_of y) ys) (nodes_before ys v + place) 0
     ∙ others
     ∙ ap (λ (n : ℕ). slice_index (volume_parents n x) place) moved
@@ -78,7 +80,8 @@ in_parents layout v x place e h =
     ∙ in_parents_from layout.volumes (2 + length layout.spare) v x place e h
 
 -- by each node's number stands its parent's
-pub parent_at : (layout : Layout) (a : Affinity) → IsNode layout a → slice_index (parents layout) (number_of layout a) ≡ number_or_none layout (parent_of layout a)
+pub parent_at : (layout : Layout) (a : Affinity) → IsNode layout a
+    → slice_index (parents layout) (number_of layout a) ≡ number_or_none layout (parent_of layout a)
 parent_at layout Serial h = refl
 parent_at layout (Aggregate a) h =
     at_same (parents layout) (2 + a) (suc (suc a)) (omega arith)
