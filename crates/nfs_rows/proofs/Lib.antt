@@ -1,0 +1,10 @@
+mod Evaluate
+mod Cases
+mod Attributes
+mod Making
+mod Leaving
+mod Pages
+mod Renaming
+mod Bytes
+mod Administration
+mod Homes
