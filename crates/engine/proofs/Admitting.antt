@@ -20,7 +20,7 @@ use Rattle.engine.proofs.Serving.{length-volumes_from}
 use Rattle.affinity_tree.specs.Layout.{layout_of}
 use Rattle.engine.proofs.Workers.{finished}
 
-abbrev pub entry_at : ℕ → ℕ → ℕ → types.Asked → replays.Entry
+abbrev pub entry_at : ℕ → ℕ → ℕ → types.Asked → replays.FinishedCall
 entry_at c number xid asked = record { connection = c; number = number; xid = xid; asked = asked; affinity = None; moment = start_of_times; starved = false }
 
 pub at-once : (s : State) (c number xid : ℕ) (call : types.Call) (credential : types.Credential) (answer : types.Answer) (written kept : worlds.World)

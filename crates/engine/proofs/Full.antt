@@ -8,7 +8,7 @@ use Rattle.rpc_record.specs.declared.reassembler.Look.{Look}
 use Rattle.rpc_record.specs.declared.reassembler.Look.TheVariants as looks
 use Rattle.nfs_model.specs.World as worlds
 use Rattle.nfs_model.specs.World.{Heard, Scanned, World, Setup, is_crowded}
-use Rattle.nfs_model.specs.Events.Feed.{Reached, Further, Complete, reached, reached_by, completes, Feeds, TakesFault, Stops}
+use Rattle.nfs_laws.specs.Walk.{Reached, Further, Complete, reached, reached_by, is_complete, Walks, TakesFault, Stops}
 use Rattle.nfs_model.specs.Events.Feed as feeds
 use Rattle.engine.specs.declared.connection.OpenConnection.{OpenConnection}
 use Rattle.engine.specs.declared.event.StreamFault.{StreamFault}
@@ -27,7 +27,7 @@ use Rattle.engine.proofs.Arriving.{is-at}
 use Rattle.engine.proofs.Lists.{slice_get-last}
 use Rattle.engine.proofs.Records.{not-too-long}
 use Rattle.engine.proofs.Worlds.{Feeds-after, reached-is, reached-quiet, takes-quiet, connection-taken, quiet-scan}
-use Rattle.engine.proofs.Feeding.{IsFed, part-fault}
+use Rattle.engine.proofs.Fed.{IsFed, part-fault}
 
 -- ---- looks
 

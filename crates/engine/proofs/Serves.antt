@@ -7,7 +7,7 @@ use Rattle.rpc_record.specs.Machine.{State, Next, Goes, Ends, Faults, after}
 use Rattle.rpc_record.specs.Stream.{read_stream}
 use Rattle.nfs_model.specs.Tree.{Layout}
 use Rattle.nfs_model.specs.World.{Heard, Scanned, IsScan, IsDecoded}
-use Rattle.nfs_laws.specs.ReadOnly.{IsReadOnly, AsksReading}
+use Rattle.nfs_model.specs.ReadOnly.{IsReadOnly, AsksReading}
 use Rattle.engine.specs.Codec.{heard}
 use Rattle.engine.specs.Streams.{scan_stream, served_of, fault_at, codec, setup_of}
 use Rattle.engine.proofs.Scanning.{IsAt, joined, scan-goes, scan-whole, scan-faults}

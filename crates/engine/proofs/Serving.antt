@@ -15,7 +15,7 @@ use Rattle.nfs_model.specs.Shown.{shown}
 use Rattle.nfs_model.specs.Locate.{Served, on_node, told}
 use Rattle.nfs_model.specs.Serial.Getattr.{getattr}
 use Rattle.nfs_model.specs.Serial.Step.{on_handle, on_volume, put_back}
-use Rattle.nfs_laws.proofs.Evaluate.{get_entries, entries_sorted_list}
+use Rattle.nfs_laws.specs.lemmas.Evaluate.{get_entries, entries_sorted_list}
 use Rattle.nfs_model.specs.Tree.{Layout, VolumeLayout}
 use Rattle.engine.specs.declared.parcel.Kept.{Kept}
 use Rattle.engine.specs.Seen.{root_of, volume_of, volumes_from, server_of}
@@ -82,18 +82,18 @@ volumes-open : (verifier : List ℕ) (number : ℕ) (vs : List VolumeLayout) (ro
 volumes-open verifier number [] root e = refl
 volumes-open verifier number (v ∷ vs) root e =
     let first : volume_of verifier root number v ≡ opening_volume verifier number v = ap (λ (node : servers.Node). record (opening_volume verifier number v) { nodes = from_sorted ((1, node) ∷ []) }) e in
-    ap (λ (x : servers.Volume). x ∷ volumes_from verifier root (number + 1) vs) first
-    ∙ ap (λ (xs : List servers.Volume). opening_volume verifier number v ∷ xs) (volumes-open verifier (number + 1) vs root e)
+    ap (λ (x : servers.VolumeState). x ∷ volumes_from verifier root (number + 1) vs) first
+    ∙ ap (λ (xs : List servers.VolumeState). opening_volume verifier number v ∷ xs) (volumes-open verifier (number + 1) vs root e)
 
 pub server-opens : (layout : Layout) (verifier : List ℕ) (root : Kept) → root_of root ≡ root_node → server_of layout verifier root ≡ opening layout verifier
-server-opens layout verifier root e = ap (λ (vs : List servers.Volume). record (opening layout verifier) { volumes = vs }) (volumes-open verifier 0 layout.volumes root e)
+server-opens layout verifier root e = ap (λ (vs : List servers.VolumeState). record (opening layout verifier) { volumes = vs }) (volumes-open verifier 0 layout.volumes root e)
 
 -- ---- GETATTR
 
 on_there : (layout : Layout) (verifier : List ℕ) (root : Kept) (h : ℕ × ℕ) (x : VolumeLayout) (s : Served) → slice_get (server_of layout verifier root).volumes h.0 ≡ Some (volume_of verifier root h.0 x) → getattr (volume_of verifier root h.0 x) h.1 ≡ s
     → on_handle (server_of layout verifier root) 0 (Some h) getattr ≡ put_back (server_of layout verifier root) h.0 s
 on_there layout verifier root h x s e k =
-    ap (λ (o : Option servers.Volume). on_volume (server_of layout verifier root) 0 h.0 o (λ volume. getattr volume h.1)) e
+    ap (λ (o : Option servers.VolumeState). on_volume (server_of layout verifier root) 0 h.0 o (λ volume. getattr volume h.1)) e
     ∙ ap (put_back (server_of layout verifier root) h.0) k
 
 -- a call on a good handle, whose node is answered so

@@ -8,11 +8,11 @@ use Rattle.nfs_model.specs.Types as types
 use Rattle.nfs_model.specs.Tree as trees
 use Rattle.nfs_model.specs.Server as servers
 use Rattle.nfs_model.specs.World as worlds
-use Rattle.nfs_laws.specs.ReadOnly.{IsReading}
+use Rattle.nfs_model.specs.ReadOnly.{IsReading}
 use Rattle.nfs_model.specs.Serial.Step.{Step, serve, stay}
 use Rattle.nfs_model.specs.Events.Refusals as events
 use Rattle.nfs_model.specs.Events.Refusals.{begin_refusal, is_idle}
-use Rattle.nfs_model.specs.Events.Work.{Works, PartsAfter, move_of}
+use Rattle.nfs_model.specs.Work.{Works, PartsAfter, move_of}
 use Rattle.nfs_model.specs.Events.Step.{stamped, without_call}
 use Rattle.nfs_model.specs.Replay as replays
 use Rattle.nfs_model.specs.Headline.{opening_parts}
@@ -29,7 +29,7 @@ use Rattle.engine.specs.declared.parcel.Kept.{Kept}
 use Rattle.engine.specs.declared.parcel.VolumeLogical.{VolumeLogical}
 use Rattle.engine.specs.Seen.{message_of, running_of, held_by, kept_by, tried, volume_of, server_of, setup_in, world}
 use Rattle.affinity_tree.specs.Layout.{layout_of}
-use Rattle.nfs_model.specs.Home.{home, logical_of}
+use Rattle.nfs_model.specs.Home.{home, logical_home}
 use Rattle.nfs_model.specs.Server.{handle_of}
 use Rattle.engine.proofs.Serving.{volume_at}
 use Rattle.engine.specs.Served.{IsAnswer}
@@ -107,7 +107,7 @@ put_again (y ∷ ys) zero x e = let same : y ≡ x = cc in ap (λ z. z ∷ ys) s
 put_again (y ∷ ys) (suc i) x e = ap (λ zs. y ∷ zs) (put_again ys i x e)
 
 parts_of_getattr : (layout : trees.Layout) (verifier : List ℕ) (root : Kept) (handle : List ℕ) (credential : types.Credential) (o : Option (ℕ × ℕ)) → handle_of (length layout.volumes) handle ≡ o
-    → PartsAfter (types.Ask (types.Getattr handle) credential) (tried (logical_of o)) (server_of layout verifier root) (server_of layout verifier root) (map opening_parts layout.volumes) (map opening_parts layout.volumes)
+    → PartsAfter (types.Ask (types.Getattr handle) credential) (tried (logical_home o)) (server_of layout verifier root) (server_of layout verifier root) (map opening_parts layout.volumes) (map opening_parts layout.volumes)
 parts_of_getattr layout verifier root handle credential None e = refl
 parts_of_getattr layout verifier root handle credential (Some h) e =
     let there = volume_at layout verifier root handle h e in
@@ -159,7 +159,7 @@ without-call s worker r running e some lent none =
     (ap (λ (o : Option Running). worker_of (layout_of s.layout) o ∷ []) none ∙ only-changed (layout_of s.layout) s.running None worker e)
     (ap (server_of (layout_of s.layout) s.verifier) (sym (kept-lent s.home s.running r lent some)))
 
-pub finished : (setup : worlds.Setup) (w before written kept : worlds.World) (e : replays.Entry) (reply : types.Reply)
+pub finished : (setup : worlds.Setup) (w before written kept : worlds.World) (e : replays.FinishedCall) (reply : types.Reply)
     → written ≡ record before { connections = worlds.changed_at (worlds.with_output (setup.codec.reply_record e.xid reply)) before.connections e.connection }
     → kept ≡ record written { finished = written.finished ++ e ∷ [] } → before ≡ w → kept ≡ worlds.finish setup w e reply
 finished setup w before written kept e reply a b d =

@@ -4,7 +4,8 @@ use Rattle.std.specs.Prelude.{slice_get, ◌&&◌}
 use Rattle.std.proofs.lemmas.List.{append-nil}
 use Rattle.nfs_model.specs.Tree.{Layout}
 use Rattle.nfs_model.specs.World.{Heard, Scanned, Setup, World, Connection, is_crowded}
-use Rattle.nfs_model.specs.Events.Feed.{Reached, Further, Complete, Fault, reached_by, reached, stream_in, stream_of, served_count, completes, byte_taken, heard_in, MayStarveIf, Takes, TakesFault, Feeds}
+use Rattle.nfs_model.specs.Events.Feed.{stream_in, stream_of, served_count, heard_in, MayStarveIf}
+use Rattle.nfs_laws.specs.Walk.{Reached, Further, Complete, AtFault, reached_by, reached, is_complete, byte_taken, Takes, TakesFault, Walks}
 use Rattle.engine.specs.Streams.{scan_stream, setup_of, IsQuiet, Completes}
 use Rattle.engine.specs.Feeding.{TakesAll, with_bytes, bytes_taken}
 use Rattle.engine.proofs.Lists.{changed_at-same, changed_at-twice, changed_at-none, slice_get-changed_at, slice_get-end, slice_get-last}

@@ -1,7 +1,7 @@
 -- Bytes taken one after another, with more to come.
 use Rattle.std.specs.Prelude.{◌≡◌, ℕ, List, [], ◌∷◌, ◌++◌, take, Option, Some, None}
 use Rattle.nfs_model.specs.World.{Setup, World, Connection, changed_at}
-use Rattle.nfs_model.specs.Events.Feed.{reached, Takes, Feeds}
+use Rattle.nfs_laws.specs.Walk.{reached, Takes, Walks}
 use Rattle.engine.specs.declared.event.Stop.{Stop}
 use Rattle.engine.specs.Numbers.{stop_number}
 

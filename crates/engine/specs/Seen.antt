@@ -67,11 +67,11 @@ outcome_of answer = worlds.Replied (types.Success (answers.answer_of answer))
 abbrev pub running_of : trees.Layout → Running → worlds.Running
 running_of layout r = record { message = message_of layout r.message; moment = moment_of r.moment; outcome = option_map outcome_of r.answer }
 
-abbrev pub entry_of : Entry → replays.Entry
+abbrev pub entry_of : Entry → replays.FinishedCall
 entry_of e = record { connection = e.origin.connection; number = e.origin.number; xid = e.origin.xid; asked = asked_in e.request; affinity = option_map affinity_of e.affinity; moment = moment_of e.moment; starved = e.starved }
 
 -- a finished call, starved just where it wasn't decoded
-abbrev pub entry_by : Origin → Option Request → Option Affinity → Moment → replays.Entry
+abbrev pub entry_by : Origin → Option Request → Option Affinity → Moment → replays.FinishedCall
 entry_by origin request affinity moment = record { connection = origin.connection; number = origin.number; xid = origin.xid; asked = asked_in request; affinity = option_map affinity_of affinity; moment = moment_of moment; starved = is_none request }
 
 -- ---- connections
@@ -100,7 +100,7 @@ root_of k = servers.Directory (record {
 })
 
 -- a volume as it begins, but for its root
-abbrev pub volume_of : List ℕ → Kept → ℕ → trees.VolumeLayout → servers.Volume
+abbrev pub volume_of : List ℕ → Kept → ℕ → trees.VolumeLayout → servers.VolumeState
 volume_of verifier k number v = record {
   number = number;
   aggregate = v.aggregate;
@@ -112,7 +112,7 @@ volume_of verifier k number v = record {
 }
 
 -- volumes numbered from a number on
-abbrev pub volumes_from : List ℕ → Kept → ℕ → List trees.VolumeLayout → List servers.Volume
+abbrev pub volumes_from : List ℕ → Kept → ℕ → List trees.VolumeLayout → List servers.VolumeState
 volumes_from verifier k number [] = []
 volumes_from verifier k number (v ∷ vs) = volume_of verifier k number v ∷ volumes_from verifier k (number + 1) vs
 

@@ -2,7 +2,7 @@
 //! widens with that set.
 
 ghost use Rattle.std.specs.Prelude.{◌≡◌};
-ghost use Rattle.nfs_laws.specs.ReadOnly.{IsReading};
+ghost use Rattle.nfs_model.specs.ReadOnly.{IsReading};
 ghost use Rattle.nfs_values.specs.Answer.{answer_of};
 ghost use Rattle.nfs_values.specs.Call.{call_of};
 ghost use Rattle.nfs_values.specs.Reply.{reply_of};
@@ -23,7 +23,7 @@ impl Model for ServedCall {
 
     ghost Value = { Call };
 
-    ghost use Rattle.nfs_laws.specs.ReadOnly.{IsReading};
+    ghost use Rattle.nfs_model.specs.ReadOnly.{IsReading};
     ghost use Rattle.nfs_values.specs.Call.{call_of};
 
     ghost view = { λ s. s.call };

@@ -7,8 +7,8 @@ use Rattle.std.specs.FinSet.{FinSet, contains, difference, union, from_list, con
 use Rattle.std.specs.Cmp.{nat_cmp_total}
 use Rattle.std.proofs.lemmas.Bool.{eqb-true}
 use Rattle.std.proofs.lemmas.Bool.Decides.{nat_tests}
-use Rattle.nfs_model.specs.Headline.{one_if, times_listed}
-use Rattle.nfs_model.specs.Events.Blocks.{in_range, batch, first_filled, lowest_batch}
+use Rattle.nfs_model.specs.Parts.{one_if, times_listed}
+use Rattle.nfs_model.specs.Moves.{in_range, batch, first_filled, lowest_batch}
 
 pub times_listed-append : (n : ℕ) (xs ys : List ℕ) → times_listed n (xs ++ ys) ≡ times_listed n xs + times_listed n ys
 times_listed-append n [] ys = omega arith

@@ -2,15 +2,21 @@
 use Rattle.std.proofs.Common.{◌≡◌, ℕ, Bool, true, false, List, [], ◌∷◌, ◌++◌, Option, Some, None, Result, Ok, Err, refl, sym, ap, subst, ◌∙◌}
 use Rattle.std.specs.Prelude.{slice_get, is_some, if◌then◌else◌, ◌&&◌}
 use Rattle.nfs_model.specs.Tree.{Logical}
-use Rattle.nfs_model.specs.World.{Setup, World, Message, Running, Worker, Hand, Empty, Fresh, Dead, Outcome, IsScan}
+use Rattle.nfs_model.specs.World.{Setup, World, Message, Running, Worker, IsScan}
+use Rattle.nfs_model.specs.Parts.{Hand, Empty, Fresh, Dead}
+use Rattle.nfs_model.specs.Work.{Outcome}
 use Rattle.nfs_model.specs.Events.Refusals.{Event, Open, Feed, Close, Begin, Work, Finish, Fetch, Cull, PutDown, Survey, Done, is_open, is_idle, is_busy, is_bad_moment, takes_input, begin_refusal, work_refusal, running_of, excluded, fetch_refusal, has_empty_hand, is_empty_hand, refusal}
 use Rattle.nfs_model.specs.Events.Step.{Happens, Events, Runs}
-use Rattle.nfs_model.specs.Headline.{Headline}
+use Rattle.nfs_model.specs.Headline.{Kept}
 use Rattle.nfs_laws.proofs.Lists.{none_is}
-use Rattle.nfs_laws.proofs.Needs.{IsAgreed}
+use Rattle.nfs_model.specs.Agreed.{IsAgreed}
+use Rattle.nfs_model.specs.ReadOnly.{IsReadOnly}
+use Rattle.nfs_laws.proofs.Needs.{NeedsAgreed}
+use Rattle.nfs_laws.proofs.Unchanged.{readings_agree}
 use Rattle.nfs_laws.proofs.KeptByConnections.{keeps_open, keeps_close, open_is}
-use Rattle.nfs_laws.proofs.KeptByFeed.{keeps_feed}
-use Rattle.nfs_laws.proofs.KeptByBlocks.{keeps_fetch, keeps_cull, keeps_put, keeps_survey}
+use Rattle.nfs_laws.proofs.KeptByFeed.{keeps_walk}
+use Rattle.nfs_laws.proofs.Walked.{walk_of_feed}
+use Rattle.nfs_laws.proofs.KeptByBlocks.{keeps_fetched, keeps_culled, keeps_put_down, keeps_survey}
 use Rattle.nfs_laws.proofs.KeptByWorkers.{keeps_begin, keeps_work, keeps_finish}
 
 -- ---- what isn't refused
@@ -76,38 +82,65 @@ empty_handed w i rest e =
 
 -- ---- each event
 
-module _ (setup : Setup) (agreed : IsAgreed setup) (scan : IsScan setup.codec) where
-  happens_kept : (w : World) (event : Event) (done : Done) (new : World) → refusal setup w event ≡ None → Happens setup w event done new → Headline setup w → Headline setup new
-  happens_kept w Open done new allowed p h = subst (λ (v : World). Headline setup v) (sym p.1) (keeps_open setup w scan h)
-  happens_kept w (Feed c bytes) done new allowed p h = keeps_feed setup w c bytes p.0 p.1 new scan (allowed_if (takes_input setup (slice_get w.connections c)) 36 None allowed).0 p.3 h
-  happens_kept w (Close c) done new allowed p h =
-      subst (λ (v : World). Headline setup v) (sym p.1) (keeps_close setup w c (open_is w c (allowed_if (is_open (slice_get w.connections c)) 36 None allowed).0) h)
-  happens_kept w (Begin worker place moment) done new allowed p h =
+module _ (setup : Setup) (scan : IsScan setup.codec) where
+  happens_kept : (w : World) (event : Event) (done : Done) (new : World) → refusal setup w event ≡ None → NeedsAgreed setup event new → Happens setup w event done new → Kept setup w → Kept setup new
+  happens_kept w Open done new allowed agreed p h = subst (λ (v : World). Kept setup v) (sym p.1) (keeps_open setup w scan h)
+  happens_kept w (Feed c bytes) done new allowed agreed p h =
+      let takes = (allowed_if (takes_input setup (slice_get w.connections c)) 36 None allowed).0 in
+      keeps_walk setup w c bytes p.0 p.1 new scan takes (walk_of_feed setup w c bytes p.0 p.1 new scan takes p.3) h
+  happens_kept w (Close c) done new allowed agreed p h =
+      subst (λ (v : World). Kept setup v) (sym p.1) (keeps_close setup w c (open_is w c (allowed_if (is_open (slice_get w.connections c)) 36 None allowed).0) h)
+  happens_kept w (Begin worker place moment) done new allowed agreed p h =
       let free = allowed_if (is_idle (slice_get w.workers worker)) 33 (begin_refusal setup w moment (slice_get w.waiting place)) allowed in
       let k = idle_at w worker (slice_get w.workers worker) refl free.0 in
-      subst (λ (v : World). Headline setup v) (sym p.3) (keeps_begin setup w worker k.worker place p.0 moment k.there k.idle p.1 (begun_free setup w place p.0 moment p.1 free.1) h)
-  happens_kept w (Work worker) done new allowed p h =
-      subst (λ (v : World). Headline setup v) (sym p.9) (keeps_work setup w worker p.0 p.1 p.2 p.3 p.4 agreed p.5 p.6 (worked_once w worker p.0 p.1 p.5 p.6 allowed) p.7 h)
-  happens_kept w (Finish worker) done new allowed p h =
-      subst (λ (v : World). Headline setup v) (sym p.7) (keeps_finish setup w worker p.0 p.1 p.2 agreed scan p.3 p.4 p.5 h)
-  happens_kept w (Fetch worker volume range) done new allowed p h =
+      subst (λ (v : World). Kept setup v) (sym p.3) (keeps_begin setup w worker k.worker place p.0 moment k.there k.idle p.1 (begun_free setup w place p.0 moment p.1 free.1) h)
+  happens_kept w (Work worker) done new allowed agreed p h =
+      subst (λ (v : World). Kept setup v) (sym p.8) (keeps_work setup w worker p.0 p.1 p.2 p.3 (subst (λ (v : World). IsAgreed setup v) p.8 agreed) p.4 p.5 h)
+  happens_kept w (Finish worker) done new allowed agreed p h =
+      subst (λ (v : World). Kept setup v) (sym p.7) (keeps_finish setup w worker p.0 p.1 p.2 (subst (λ (v : World). IsAgreed setup v) p.7 agreed) scan p.3 p.4 p.5 h)
+  happens_kept w (Fetch worker volume range) done new allowed agreed p h =
       let k = empty_handed w worker (fetch_refusal setup w volume range (slice_get w.server.volumes volume)) allowed in
-      subst (λ (v : World). Headline setup v) (sym p.3) (keeps_fetch setup w worker volume range k.worker p.0 k.there k.empty p.1 h)
-  happens_kept w (Cull worker volume) done new allowed p h =
+      keeps_fetched setup w worker volume range p.2 k.worker p.0 p.1 new k.there k.empty p.3.3 p.4 p.6 h
+  happens_kept w (Cull worker volume) done new allowed agreed p h =
       let k = empty_handed w worker (if is_some (slice_get w.server.volumes volume) then excluded setup w (Logical volume) else Some 41) allowed in
-      subst (λ (v : World). Headline setup v) (sym p.3) (keeps_cull setup w worker volume k.worker p.0 k.there k.empty p.1 h)
-  happens_kept w (PutDown worker) done new allowed p h = keeps_put setup w worker p.0 p.0.hand done new p.1 refl p.2 h
-  happens_kept w (Survey worker volume) done new allowed p h = subst (λ (v : World). Headline setup v) (sym p.5) (keeps_survey setup w h)
+      keeps_culled setup w worker volume p.2 k.worker p.0 p.1 new k.there k.empty p.3.3 p.4 p.6 h
+  happens_kept w (PutDown worker) done new allowed agreed p h = keeps_put_down setup w worker p.2 p.0 p.1 new p.3 p.4 p.6 h
+  happens_kept w (Survey worker volume) done new allowed agreed p h = subst (λ (v : World). Kept setup v) (sym p.7) (keeps_survey setup w h)
 
+-- an event that isn't Work or Finish needs nothing
+needs_agreed : (setup : Setup) (event : Event) (new : World) → IsAgreed setup new → NeedsAgreed setup event new
+needs_agreed setup (Work worker) new a = a
+needs_agreed setup (Finish worker) new a = a
+needs_agreed setup Open new a = tt
+needs_agreed setup (Feed c bytes) new a = tt
+needs_agreed setup (Close c) new a = tt
+needs_agreed setup (Begin worker place moment) new a = tt
+needs_agreed setup (Fetch worker volume range) new a = tt
+needs_agreed setup (Cull worker volume) new a = tt
+needs_agreed setup (PutDown worker) new a = tt
+needs_agreed setup (Survey worker volume) new a = tt
+
+module _ (setup : Setup) (scan : IsScan setup.codec) where
   -- whatever an event is answered
-  pub keeps : (w : World) (event : Event) (answer : Result Done ℕ) (new : World) → Events setup w event answer new → Headline setup w → Headline setup new
-  keeps w event (Ok done) new e h = happens_kept w event done new e.0 e.1 h
-  keeps w event (Err number) new e h = subst (λ (v : World). Headline setup v) (sym e.1) h
+  pub keeps : (w : World) (event : Event) (answer : Result Done ℕ) (new : World) → Kept setup w → IsAgreed setup new → Events setup w event answer new → Kept setup new
+  keeps w event (Ok done) new h agreed e = happens_kept setup scan w event done new e.0 (needs_agreed setup event new agreed) e.1 h
+  keeps w event (Err number) new h agreed e = subst (λ (v : World). Kept setup v) (sym e.1) h
+
+module _ (setup : Setup) (only : IsReadOnly setup) (scan : IsScan setup.codec) where
+  -- where calls change nothing
+  keeps_reading : (w : World) (event : Event) (answer : Result Done ℕ) (new : World) → Kept setup w → Events setup w event answer new → Kept setup new
+  keeps_reading w event (Ok done) new h e = happens_kept setup scan w event done new e.0 (readings_agree setup only w h event done new e.1) e.1 h
+  keeps_reading w event (Err number) new h e = subst (λ (v : World). Kept setup v) (sym e.1) h
+
+  pub readings_meet_the_premise : (w : World) (event : Event) (answer : Result Done ℕ) (new : World) → Kept setup w → Events setup w event answer new → IsAgreed setup new
+  readings_meet_the_premise w event answer new h e =
+      let k = keeps_reading w event answer new h e in
+      record { state = k.headline.state; outcomes = k.outcomes; partition = k.headline.partition }
 
   -- after a whole run
-  pub keeps_run : (old : World) (events : List Event) (new : World) → Runs setup old events new → Headline setup old → Headline setup new
-  keeps_run old [] new run h = subst (λ (v : World). Headline setup v) (sym run) h
-  keeps_run old (e ∷ events) new run h = keeps_run run.1 events new run.3 (keeps old e run.0 run.1 run.2 h)
+  pub keeps_run : (old : World) (events : List Event) (new : World) → Runs setup old events new → Kept setup old → Kept setup new
+  keeps_run old [] new run h = subst (λ (v : World). Kept setup v) (sym run) h
+  keeps_run old (e ∷ events) new run h = keeps_run run.1 events new run.3 (keeps_reading old e run.0 run.1 h run.2)
 
 -- a run goes on by one event
 pub Runs-push : (setup : Setup) (old : World) (events : List Event) (middle : World) (event : Event) (answer : Result Done ℕ) (new : World)

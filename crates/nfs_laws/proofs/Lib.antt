@@ -1,4 +1,3 @@
-pub mod Evaluate
 mod Toy
 mod WorkedCalls
 mod WorkedEvents
@@ -16,5 +15,6 @@ pub mod KeptByConnections
 pub mod KeptByWorkers
 pub mod Kept
 pub mod KeptByFeed
+pub mod Walked
 pub mod Counting
 pub mod KeptByBlocks

@@ -4,14 +4,15 @@ use Rattle.std.specs.Prelude.{slice_get, ◌==◌, ◌&&◌, nat_lt, if◌then�
 use Rattle.std.specs.List.{AllByRecursion, remove}
 use Rattle.std.proofs.lemmas.Bool.{ne_eqb, eq-eqb}
 use Rattle.std.proofs.lemmas.Bool.Decides.{nat_tests}
-use Rattle.nfs_model.specs.Replay.{Entry}
+use Rattle.nfs_model.specs.Replay.{FinishedCall}
 use Rattle.nfs_model.specs.World.{Heard, Setup, World, Connection, Message, all_running, changed_at}
-use Rattle.nfs_model.specs.Headline.{served, messages, one_if, tally_finished, tally_messages}
+use Rattle.nfs_model.specs.Headline.{served, messages, tally_finished, tally_messages}
+use Rattle.nfs_model.specs.Parts.{one_if}
 use Rattle.nfs_laws.proofs.Lists.{changed_all, pushed_all, Some_same}
 
 -- ---- counts of lists
 
-pub tally_finished-append : (c n : ℕ) (xs ys : List Entry) → tally_finished c n (xs ++ ys) ≡ tally_finished c n xs + tally_finished c n ys
+pub tally_finished-append : (c n : ℕ) (xs ys : List FinishedCall) → tally_finished c n (xs ++ ys) ≡ tally_finished c n xs + tally_finished c n ys
 tally_finished-append c n [] ys = omega arith
 tally_finished-append c n (x ∷ xs) ys = omega (arith, tally_finished-append c n xs ys)
 
@@ -30,7 +31,7 @@ uncounted true d t e z = absurd cc
 uncounted false d t e z = omega arith
 
 -- a connection that none names
-pub tally_finished_none : (c n : ℕ) (es : List Entry) → AllByRecursion (λ e. e.connection ≡ c → ⊥) es → tally_finished c n es ≡ 0
+pub tally_finished_none : (c n : ℕ) (es : List FinishedCall) → AllByRecursion (λ e. e.connection ≡ c → ⊥) es → tally_finished c n es ≡ 0
 tally_finished_none c n [] p = refl
 tally_finished_none c n (e ∷ es) p = uncounted (e.connection == c) (e.number == n) _ (ne_eqb e.connection c p.0) (tally_finished_none c n es p.1)
 

@@ -6,10 +6,12 @@ use Rattle.std.specs.Ordering.{nat_cmp}
 use Rattle.std.specs.FinSet as sets
 use Rattle.nfs_model.specs.Tree.{VolumeLayout}
 use Rattle.nfs_model.specs.Server as servers
-use Rattle.nfs_model.specs.World.{Setup, Worker, Empty, Parts, all_running, hands_blocks, tried}
-use Rattle.nfs_model.specs.Headline.{Headline, IsPartition, one_if, opening_parts, opening_world, IsOwnMessage, IsTried, IsOutcome, Apart, messages, server_worked, start}
+use Rattle.nfs_model.specs.World.{Setup, Worker, all_running, hands_blocks, affinities}
+use Rattle.nfs_model.specs.Parts.{Empty, Parts}
+use Rattle.nfs_model.specs.Headline.{Kept, opening_parts, opening_world, IsOwnMessage, IsTried, IsOutcome, Apart, messages, server_worked, start}
+use Rattle.nfs_model.specs.Parts.{IsPartition, one_if}
 use Rattle.std.specs.List.{AllByRecursion}
-use Rattle.nfs_laws.proofs.Evaluate.{contains_empty, set_len_empty, entries_sorted_list}
+use Rattle.nfs_laws.specs.lemmas.Evaluate.{contains_empty, set_len_empty, entries_sorted_list}
 
 pub any_range : (k a n : ℕ) → list_any (λ y. nat_eq y n) (range_with_len a k) ≡ (nat_le a n && nat_lt n (a + k))
 any_range zero a n = grind (arith, nat_tests)
@@ -38,7 +40,7 @@ opening_partition verifier k l = record {
   in_files = set_len_empty ∙ sym (ap (λ es. servers.blocks_of es) (entries_sorted_list ((1, servers.root_node) ∷ []) refl));
 }
 
-partition_at : (verifier : List ℕ) (k : ℕ) (ls : List VolumeLayout) (v : ℕ) (volume : servers.Volume) → slice_get (servers.opening_volumes verifier k ls) v ≡ Some volume
+partition_at : (verifier : List ℕ) (k : ℕ) (ls : List VolumeLayout) (v : ℕ) (volume : servers.VolumeState) → slice_get (servers.opening_volumes verifier k ls) v ≡ Some volume
     → (p : Parts) × (slice_get (map opening_parts ls) v ≡ Some p) × IsPartition volume p []
 partition_at verifier k [] v volume e = absurd (cc)
 partition_at verifier k (l ∷ ls) zero volume e = (opening_parts l, refl, subst (λ x. IsPartition x (opening_parts l) []) (some_is _ _ e) (opening_partition verifier k l))
@@ -55,19 +57,21 @@ no_hands : (v n : ℕ) → hands_blocks v (replicate n idle) ≡ []
 no_hands v zero = refl
 no_hands v (suc n) = no_hands v n
 
-pub opening_headline : (setup : Setup) → Headline setup (opening_world setup)
+pub opening_headline : (setup : Setup) → Kept setup (opening_world setup)
 opening_headline setup = record {
-  output = λ c x e. absurd (cc);
-  each_once = λ c x e. absurd (cc);
-  own_finished = tt;
-  own_waiting = tt;
-  own_running = subst (λ rs. AllByRecursion (IsOwnMessage setup (opening_world setup)) (messages rs)) (sym (none_running setup.workers)) tt;
-  lawful = tt;
-  state = ap (λ rs. server_worked (start setup) rs) (sym (none_running setup.workers));
+  headline = record {
+    output = λ c x e. absurd (cc);
+    each_once = λ c x e. absurd (cc);
+    own_finished = tt;
+    own_waiting = tt;
+    own_running = subst (λ rs. AllByRecursion (IsOwnMessage setup (opening_world setup)) (messages rs)) (sym (none_running setup.workers)) tt;
+    lawful = tt;
+    state = ap (λ rs. server_worked (start setup) rs) (sym (none_running setup.workers));
+    partition = λ v volume e. subst (λ hands. (p : Parts) × (slice_get (map opening_parts setup.layout.volumes) v ≡ Some p) × IsPartition volume p hands) (sym (no_hands v setup.workers)) (partition_at setup.verifier 0 setup.layout.volumes v volume e);
+    apart = subst (λ rs. Apart setup.layout (affinities rs)) (sym (none_running setup.workers)) tt;
+  };
   outcomes = subst (λ rs. AllByRecursion (λ r. IsOutcome setup (start setup) r r.outcome) rs) (sym (none_running setup.workers)) tt;
   tried_waiting = tt;
   tried_running = subst (λ rs. AllByRecursion (IsTried setup) (messages rs)) (sym (none_running setup.workers)) tt;
   until = λ c x e. absurd (cc);
-  partition = λ v volume e. subst (λ hands. (p : Parts) × (slice_get (map opening_parts setup.layout.volumes) v ≡ Some p) × IsPartition volume p hands) (sym (no_hands v setup.workers)) (partition_at setup.verifier 0 setup.layout.volumes v volume e);
-  apart = subst (λ rs. Apart setup.layout (tried rs)) (sym (none_running setup.workers)) tt;
 }

@@ -4,9 +4,9 @@ use Rattle.std.specs.Prelude.{slice_get}
 use Rattle.std.specs.List.{AllByRecursion}
 use Rattle.std.proofs.lemmas.Bool.Decides.{eqb_tells}
 use Rattle.nfs_model.specs.Types.{Asked, Ask, Refused, Undecoded}
-use Rattle.nfs_model.specs.Replay.{Entry}
+use Rattle.nfs_model.specs.Replay.{FinishedCall}
 use Rattle.nfs_model.specs.World.{Heard, Setup, World, Connection, Message, IsScan, IsDecoded, changed_at}
-use Rattle.nfs_model.specs.Headline.{served, IsHeard, IsOwn, IsOwnEntry, IsOwnMessage}
+use Rattle.nfs_model.specs.Headline.{served, IsHeard, IsOwn, IsOwnCall, IsOwnMessage}
 use Rattle.nfs_laws.proofs.Lists.{All-weaker, All-get, slice_get-append, slice_get_below, slice_get-changed_at, slice_get-changed_elsewhere}
 
 -- each connection is there still, with the records that it had
@@ -43,19 +43,19 @@ module _ (setup : Setup) (old new : World) (later : IsLater setup old.connection
       let a = later c h.0 h.1 in
       (a.0, a.1, a.2 n (record { xid = xid; asked = asked }) h.2)
 
-  pub own_later : (e : Entry) (asked : Asked) → IsOwn setup old e asked → IsOwn setup new e asked
+  pub own_later : (e : FinishedCall) (asked : Asked) → IsOwn setup old e asked → IsOwn setup new e asked
   own_later e (Ask call credential) h = heard_later e.connection e.number e.xid (Ask call credential) h
   own_later e (Refused reply) h = heard_later e.connection e.number e.xid (Refused reply) h
   own_later e Undecoded h = (h.0, heard_later e.connection e.number e.xid h.0 h.1, h.2, h.3, h.4)
 
-  pub entries_later : (es : List Entry) → AllByRecursion (IsOwnEntry setup old) es → AllByRecursion (IsOwnEntry setup new) es
-  entries_later es p = All-weaker (IsOwnEntry setup old) (IsOwnEntry setup new) (λ e h. own_later e e.asked h) es p
+  pub entries_later : (es : List FinishedCall) → AllByRecursion (IsOwnCall setup old) es → AllByRecursion (IsOwnCall setup new) es
+  entries_later es p = All-weaker (IsOwnCall setup old) (IsOwnCall setup new) (λ e h. own_later e e.asked h) es p
 
   pub messages_later : (ms : List Message) → AllByRecursion (IsOwnMessage setup old) ms → AllByRecursion (IsOwnMessage setup new) ms
   messages_later ms p = All-weaker (IsOwnMessage setup old) (IsOwnMessage setup new) (λ m h. heard_later m.connection m.number m.xid m.asked h) ms p
 
 -- an entry of a record that is heard is of it
-pub own_of_heard : (setup : Setup) (w : World) (e : Entry) (asked : Asked) → IsScan setup.codec → IsHeard setup w e.connection e.number e.xid asked → IsOwn setup w e asked
+pub own_of_heard : (setup : Setup) (w : World) (e : FinishedCall) (asked : Asked) → IsScan setup.codec → IsHeard setup w e.connection e.number e.xid asked → IsOwn setup w e asked
 own_of_heard setup w e (Ask call credential) scan h = h
 own_of_heard setup w e (Refused reply) scan h = h
 own_of_heard setup w e Undecoded scan h = absurd (All-get (λ (x : Heard). IsDecoded x.asked) (served setup h.0) e.number (record { xid = e.xid; asked = Undecoded }) h.2 (scan.decoded h.0.stream))
@@ -65,13 +65,13 @@ own_of_heard setup w e Undecoded scan h = absurd (All-get (λ (x : Heard). IsDec
 heard_below : (setup : Setup) (w : World) (c n xid : ℕ) (asked : Asked) → IsHeard setup w c n xid asked → c < length w.connections
 heard_below setup w c n xid asked h = slice_get_below w.connections c h.0 h.1
 
-pub own_below : (setup : Setup) (w : World) (e : Entry) (asked : Asked) → IsOwn setup w e asked → e.connection < length w.connections
+pub own_below : (setup : Setup) (w : World) (e : FinishedCall) (asked : Asked) → IsOwn setup w e asked → e.connection < length w.connections
 own_below setup w e (Ask call credential) h = heard_below setup w e.connection e.number e.xid (Ask call credential) h
 own_below setup w e (Refused reply) h = heard_below setup w e.connection e.number e.xid (Refused reply) h
 own_below setup w e Undecoded h = heard_below setup w e.connection e.number e.xid h.0 h.1
 
-pub entries_elsewhere : (setup : Setup) (w : World) (es : List Entry) → AllByRecursion (IsOwnEntry setup w) es → AllByRecursion (λ e. e.connection ≡ length w.connections → ⊥) es
-entries_elsewhere setup w es p = All-weaker (IsOwnEntry setup w) (λ e. e.connection ≡ length w.connections → ⊥) (λ e h same. let below = own_below setup w e e.asked h in omega arith) es p
+pub entries_elsewhere : (setup : Setup) (w : World) (es : List FinishedCall) → AllByRecursion (IsOwnCall setup w) es → AllByRecursion (λ e. e.connection ≡ length w.connections → ⊥) es
+entries_elsewhere setup w es p = All-weaker (IsOwnCall setup w) (λ e. e.connection ≡ length w.connections → ⊥) (λ e h same. let below = own_below setup w e e.asked h in omega arith) es p
 
 pub messages_elsewhere : (setup : Setup) (w : World) (ms : List Message) → AllByRecursion (IsOwnMessage setup w) ms → AllByRecursion (λ m. m.connection ≡ length w.connections → ⊥) ms
 messages_elsewhere setup w ms p = All-weaker (IsOwnMessage setup w) (λ m. m.connection ≡ length w.connections → ⊥) (λ m h same. let below = heard_below setup w m.connection m.number m.xid m.asked h in omega arith) ms p

@@ -7,7 +7,8 @@ use Rattle.std.proofs.Math.Bool.{or_comm}
 use Rattle.std.proofs.lemmas.List.Folds.{list_any-append}
 use Rattle.nfs_model.specs.Tree.{Affinity, Layout, excludes, begins, path}
 use Rattle.nfs_model.specs.Server.{Server}
-use Rattle.nfs_model.specs.World.{Message, Running, Worker, with_held, all_running, tried, hand_blocks, hands_blocks, with_running, changed_at}
+use Rattle.nfs_model.specs.World.{Message, Running, Worker, with_held, all_running, affinities, hands_blocks, with_running, changed_at}
+use Rattle.nfs_model.specs.Parts.{hand_blocks}
 use Rattle.nfs_model.specs.Headline.{Apart, server_worked, worked_by, messages, tally_messages}
 use Rattle.nfs_laws.proofs.Lists.{Some_same}
 
@@ -49,8 +50,8 @@ slot (x ∷ workers) (suc i) k e =
 pub messages-between : (xs ys : List Running) (r : Running) → messages (xs ++ r ∷ ys) ≡ messages xs ++ r.message ∷ messages ys
 messages-between xs ys r = map-append (λ q. q.message) xs (r ∷ ys)
 
-pub tried-append : (xs ys : List Running) → tried (xs ++ ys) ≡ tried xs ++ tried ys
-tried-append xs ys = map-append (λ q. q.message.affinity) xs ys
+pub affinities-append : (xs ys : List Running) → affinities (xs ++ ys) ≡ affinities xs ++ affinities ys
+affinities-append xs ys = map-append (λ q. q.message.affinity) xs ys
 
 pub tally-between : (c n : ℕ) (xs ys : List Running) (r : Running) → tally_messages c n (messages (xs ++ r ∷ ys)) ≡ tally_messages c n (messages (xs ++ ys)) + tally_messages c n (r.message ∷ [])
 tally-between c n [] ys r = omega arith

@@ -5,7 +5,7 @@ use Rattle.std.specs.List.{AllByRecursion}
 use Rattle.nfs_model.specs.Types.{Credential, Null, Getattr, Asked, Ask}
 use Rattle.nfs_model.specs.Server.{handle_bytes}
 use Rattle.nfs_model.specs.World.{Heard, Scanned, Codec, IsScan, IsDecoded}
-use Rattle.nfs_laws.specs.ReadOnly.{AsksReading}
+use Rattle.nfs_model.specs.ReadOnly.{AsksReading}
 
 abbrev pub nobody : Credential
 nobody = record { uid = 65534; gid = 65534 }

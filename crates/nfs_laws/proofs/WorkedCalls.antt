@@ -7,7 +7,7 @@ use Rattle.nfs_model.specs.Server.{Server, opening, opening_volume, handle_bytes
 use Rattle.nfs_model.specs.Serial.Step.{serial}
 use Rattle.nfs_model.specs.Serial.Create.{no_attributes}
 use Rattle.nfs_model.specs.Serial.Starve.{may_starve_at_decoding, may_starve_later}
-use Rattle.nfs_laws.proofs.Evaluate.{evaluate}
+use Rattle.nfs_laws.specs.lemmas.Evaluate.{evaluate}
 
 abbrev volume_layout : VolumeLayout
 volume_layout = record { aggregate = 0; ranges = 1; stripes = 8; mebibytes = 16 }

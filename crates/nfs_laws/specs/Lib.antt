@@ -1,1 +1,2 @@
-pub mod ReadOnly
+pub mod Walk
+pub mod lemmas

@@ -1,6 +1,6 @@
 //! What holds of the definitions.
 
-ghost use Rattle.std.specs.Prelude.{◌≡◌, None, Result, List, ℕ, [], ◌∷◌, ◌++◌, length};
+ghost use Rattle.std.specs.Prelude.{◌≡◌, true, None, Result, List, ℕ, [], ◌∷◌, ◌++◌, length, slice_get};
 ghost use Rattle.nfs_model.specs.Types.{Call, Credential, Moment};
 ghost use Rattle.nfs_model.specs.Tree.{Layout};
 ghost use Rattle.nfs_model.specs.Server.{Server};
@@ -8,14 +8,17 @@ ghost use Rattle.nfs_model.specs.Home.{home};
 ghost use Rattle.nfs_model.specs.Serial.Step.{serve, stay};
 ghost use Rattle.nfs_model.specs.Serial.AtOnce.{answer_without_home};
 ghost use Rattle.nfs_model.specs.World.{Setup, World, IsScan};
-ghost use Rattle.nfs_model.specs.Events.Refusals.{Event, Done};
+ghost use Rattle.nfs_model.specs.Events.Feed.{Feeds};
+ghost use Rattle.nfs_model.specs.Events.Refusals.{Event, Done, takes_input};
 ghost use Rattle.nfs_model.specs.Events.Step.{Events, Runs};
-ghost use Rattle.nfs_model.specs.Headline.{Headline, opening_world};
-ghost use Rattle.nfs_laws.specs.ReadOnly.{IsReadOnly};
+ghost use Rattle.nfs_model.specs.Headline.{Kept, opening_world};
+ghost use Rattle.nfs_model.specs.Agreed.{IsAgreed};
+ghost use Rattle.nfs_model.specs.ReadOnly.{IsReadOnly};
+ghost use Rattle.nfs_laws.specs.Walk.{Walks};
 
 /// A run begins within the headline.
 pub fn opening_meets_headline()
-    ensures { (setup : Setup) → Headline setup (opening_world setup) }
+    ensures { (setup : Setup) → Kept setup (opening_world setup) }
 {}
 
 /// A call without a home affinity reads no state and changes nothing.
@@ -26,24 +29,34 @@ pub fn without_home_stays()
         → serve server call credential moment ≡ stay server (answer_without_home layout call) }
 {}
 
-/// In a run that serves only calls that change nothing, each event keeps the headline, whether it
-/// is refused or not, for any number of workers.
+/// An event keeps the headline, refused or not, for any number of workers, where the calls that run
+/// after it don't disturb each other.
 pub fn events_keep_headline()
+    ensures { (setup : Setup) (old : World) (event : Event) (answer : Result Done ℕ) (new : World)
+        → IsScan setup.codec
+        → Kept setup old
+        → IsAgreed setup new
+        → Events setup old event answer new
+        → Kept setup new }
+{}
+
+/// Calls that change nothing don't disturb each other, after any event.
+pub fn readings_agree()
     ensures { (setup : Setup) (old : World) (event : Event) (answer : Result Done ℕ) (new : World)
         → IsReadOnly setup
         → IsScan setup.codec
-        → Headline setup old
+        → Kept setup old
         → Events setup old event answer new
-        → Headline setup new }
+        → IsAgreed setup new }
 {}
 
-/// So does a whole run, from its beginning on.
+/// So a whole run of such calls keeps the headline, from its beginning on.
 pub fn runs_meet_headline()
     ensures { (setup : Setup) (events : List Event) (new : World)
         → IsReadOnly setup
         → IsScan setup.codec
         → Runs setup (opening_world setup) events new
-        → Headline setup new }
+        → Kept setup new }
 {}
 
 /// A run goes on by one event.
@@ -52,4 +65,18 @@ pub fn runs_go_on()
         → Runs setup old events middle
         → Events setup middle event answer new
         → Runs setup old (events ++ event ∷ []) new }
+{}
+
+/// What a feed does can be told byte by byte.
+pub fn feeds_are_walks()
+    ensures walks { (setup : Setup) (w : World) (connection : ℕ) (bytes : List ℕ) (taken stop : ℕ) (new : World)
+        → IsScan setup.codec
+        → takes_input setup (slice_get w.connections connection) ≡ true
+        → Feeds setup connection w bytes taken stop new
+        → Walks setup connection w bytes taken stop new }
+    ensures feeds { (setup : Setup) (w : World) (connection : ℕ) (bytes : List ℕ) (taken stop : ℕ) (new : World)
+        → IsScan setup.codec
+        → takes_input setup (slice_get w.connections connection) ≡ true
+        → Walks setup connection w bytes taken stop new
+        → Feeds setup connection w bytes taken stop new }
 {}

@@ -2,38 +2,38 @@
 use Rattle.std.specs.Prelude.{ℕ, ◌+◌, ◌-◌, ◌/◌, ◌%◌, min, ◌==◌, ◌||◌, List, length, Option, Some, None, slice_get, if◌then◌else◌}
 use Rattle.nfs_model.specs.Types.{Call, Null, Getattr, Setattr, Lookup, Read, Write, Create, Mkdir, Remove, Rmdir, Rename, Readdir, Fsstat, Commit, Census, Grow, Asked, Ask, Refused, Undecoded}
 use Rattle.nfs_model.specs.Tree.{Layout, VolumeLayout, Affinity, Serial, Aggregate, Volume, Logical, Stripe, stripes_of}
-use Rattle.nfs_model.specs.Server.{Handle, handle_of, most_bytes}
+use Rattle.nfs_model.specs.Server.{Named, handle_of, most_bytes}
 
 -- the bytes of a span: 64 blocks, which lie in one stripe
 abbrev pub span_bytes : ℕ
 span_bytes = 262144
 
 -- what a handle names, where it is good
-abbrev pub named_by : Layout → List ℕ → Option Handle
+abbrev pub named_by : Layout → List ℕ → Option Named
 named_by layout handle = handle_of (length layout.volumes) handle
 
 -- Logical of a good handle's volume
-abbrev pub logical_home : Option Handle → Option Affinity
+abbrev pub logical_home : Option Named → Option Affinity
 logical_home None = None
 logical_home (Some h) = Some (Logical h.volume)
 
 -- Volume of a good handle's volume
-abbrev pub volume_home : Option Handle → Option Affinity
+abbrev pub volume_home : Option Named → Option Affinity
 volume_home None = None
 volume_home (Some h) = Some (Volume h.volume)
 
 -- the stripe of a file's span
-abbrev pub stripe_of_span : Layout → Handle → ℕ → Affinity
+abbrev pub stripe_of_span : Layout → Named → ℕ → Affinity
 stripe_of_span layout h span = Stripe h.volume ((h.fileid + span) % stripes_of layout h.volume)
 
 -- n bytes from an offset on, in one span or in more; where n is 0, the span of the offset
-abbrev pub bytes_home : Layout → Option Handle → ℕ → ℕ → Option Affinity
+abbrev pub bytes_home : Layout → Option Named → ℕ → ℕ → Option Affinity
 bytes_home layout None offset n = None
 bytes_home layout (Some h) offset n =
     if (n == 0) || (offset / span_bytes == (offset + n - 1) / span_bytes) then Some (stripe_of_span layout h (offset / span_bytes)) else Some (Logical h.volume)
 
 -- Logical of the volume of two good handles, if it is one
-abbrev pub rename_home : Option Handle → Option Handle → Option Affinity
+abbrev pub rename_home : Option Named → Option Named → Option Affinity
 rename_home None to = None
 rename_home (Some from) None = None
 rename_home (Some from) (Some to) = if from.volume == to.volume then Some (Logical from.volume) else None

@@ -2,7 +2,7 @@
 use Rattle.std.specs.Prelude.{ℕ, List, length, Option, Some, None, slice_get}
 use Rattle.std.specs.FinMap.{get}
 use Rattle.nfs_model.specs.Types.{Answer, Status, Stale, NotDirectory, Invalid, Moment, Listed}
-use Rattle.nfs_model.specs.Server.{FileNode, DirectoryNode, Node, File, Directory, VolumeState, Server, Handle, handle_of}
+use Rattle.nfs_model.specs.Server.{FileNode, DirectoryNode, Node, File, Directory, VolumeState, Server, Named, handle_of}
 use Rattle.nfs_model.specs.Names.{name_fault, find_name}
 
 -- ---- what a call comes to
@@ -41,18 +41,18 @@ on_file (Some (Directory d)) run = Fails Invalid
 
 -- a volume, and what names it
 pub record Located : Type 0 where
-  pub handle : Handle
+  pub named : Named
   pub volume : VolumeState
 
 -- a volume that is there
-abbrev pub located_in : Handle → Option VolumeState → Option Located
-located_in handle None = None
-located_in handle (Some volume) = Some (record { handle = handle; volume = volume })
+abbrev pub located_in : Named → Option VolumeState → Option Located
+located_in named None = None
+located_in named (Some volume) = Some (record { named = named; volume = volume })
 
 -- among volumes; none where the handle is bad
-abbrev pub located_by : List VolumeState → Option Handle → Option Located
+abbrev pub located_by : List VolumeState → Option Named → Option Located
 located_by volumes None = None
-located_by volumes (Some handle) = located_in handle (slice_get volumes handle.volume)
+located_by volumes (Some named) = located_in named (slice_get volumes named.volume)
 
 -- what a handle's bytes name; none is BADHANDLE
 abbrev pub locate : Server → List ℕ → Option Located
@@ -61,7 +61,7 @@ locate server bytes = located_by server.volumes (handle_of (length server.volume
 -- the node that is named, if it is still there
 abbrev pub node_named : Option Located → Option Node
 node_named None = None
-node_named (Some l) = get l.volume.nodes l.handle.fileid
+node_named (Some l) = get l.volume.nodes l.named.fileid
 
 -- ---- what a name stands for
 

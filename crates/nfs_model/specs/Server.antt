@@ -125,19 +125,19 @@ abbrev pub handle_bytes : ℕ → ℕ → List ℕ
 handle_bytes volume fileid = to_be_bytes w32 volume ++ to_be_bytes w64 fileid
 
 -- what a good handle names; a node of that fileid may be gone
-pub record Handle : Type 0 where
+pub record Named : Type 0 where
   pub volume : ℕ
   pub fileid : ℕ
 
 -- what 12 bytes name
-abbrev pub handle_read : List ℕ → Handle
-handle_read bytes = record { volume = from_be_bytes w32 (take 4 bytes); fileid = from_be_bytes w64 (drop 4 bytes) }
+abbrev pub named_read : List ℕ → Named
+named_read bytes = record { volume = from_be_bytes w32 (take 4 bytes); fileid = from_be_bytes w64 (drop 4 bytes) }
 
 -- A handle is good where it is 12 bytes that name one of so many volumes.
-abbrev pub handle_of : ℕ → List ℕ → Option Handle
+abbrev pub handle_of : ℕ → List ℕ → Option Named
 handle_of volumes bytes =
     if (length bytes == 12) && nat_lt (from_be_bytes w32 (take 4 bytes)) volumes
-    then Some (handle_read bytes)
+    then Some (named_read bytes)
     else None
 
 -- the server with another volume at a place

@@ -5,7 +5,7 @@ use Rattle.xdr.specs.Shape.{Word, Value}
 use Rattle.xdr.specs.Reading.{◌>>=◌, Reads, read, all_of}
 use Rattle.nfs_model.specs.Types as model
 use Rattle.nfs_model.specs.World.{Heard, IsDecoded}
-use Rattle.nfs_laws.specs.ReadOnly.{AsksReading}
+use Rattle.nfs_model.specs.ReadOnly.{AsksReading}
 use Rattle.nfs_values.specs.declared.procedure.Procedure.{Procedure}
 use Rattle.nfs_values.specs.declared.procedure.Procedure.TheVariants.{Null, GetAttributes, AdminNull}
 use Rattle.nfs_values.specs.Procedure.{is_served}

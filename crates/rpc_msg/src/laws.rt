@@ -3,7 +3,7 @@
 ghost use Rattle.std.specs.Prelude.{◌≡◌, ◌⊎◌, ℕ, ◌≤◌, ◌<◌, List, length, Ok, Err, slice_index};
 ghost use Rattle.nfs_model.specs.Types as model;
 ghost use Rattle.nfs_model.specs.World.{Heard, IsDecoded};
-ghost use Rattle.nfs_laws.specs.ReadOnly.{AsksReading};
+ghost use Rattle.nfs_model.specs.ReadOnly.{AsksReading};
 ghost use Rattle.nfs_values.specs.declared.procedure.Procedure.{Procedure};
 ghost use Rattle.rpc_msg.specs.Heads.{Call, head_of};
 ghost use Rattle.rpc_msg.specs.Calls.{IsCall};

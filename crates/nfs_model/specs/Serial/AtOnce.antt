@@ -2,12 +2,12 @@
 use Rattle.std.specs.Prelude.{ℕ, [], Option, Some, None}
 use Rattle.nfs_model.specs.Types.{Call, Null, Rename, Census, Grow, Answer, NullDone, CensusDone, Failed, BadHandle, CrossVolume, NoEntry}
 use Rattle.nfs_model.specs.Tree.{Layout}
-use Rattle.nfs_model.specs.Server.{Handle}
+use Rattle.nfs_model.specs.Server.{Named}
 use Rattle.nfs_model.specs.Home.{named_by}
 use Rattle.nfs_model.specs.Serial.Absent.{absent_parts}
 
 -- what is wrong with two handles: one is bad, or they name two volumes
-abbrev pub answer_of_two : ℕ → Option Handle → Option Handle → Answer
+abbrev pub answer_of_two : ℕ → Option Named → Option Named → Answer
 answer_of_two absent None to = Failed BadHandle absent
 answer_of_two absent (Some from) None = Failed BadHandle absent
 answer_of_two absent (Some from) (Some to) = Failed CrossVolume absent

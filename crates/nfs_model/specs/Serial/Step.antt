@@ -38,15 +38,15 @@ placed server absent index (Changes answer volume) = record { reply = Success an
 -- a call on what a handle names; BADHANDLE comes before all
 abbrev pub on : Server → ℕ → Option Located → (VolumeState → ℕ → Effect) → Step
 on server absent None run = stay server (Failed BadHandle absent)
-on server absent (Some l) run = placed server absent l.handle.volume (run l.volume l.handle.fileid)
+on server absent (Some l) run = placed server absent l.named.volume (run l.volume l.named.fileid)
 
 -- a call on what two handles name in one volume; BADHANDLE, then XDEV
 abbrev pub on_two : Server → ℕ → Option Located → Option Located → (VolumeState → ℕ → ℕ → Effect) → Step
 on_two server absent None to run = stay server (Failed BadHandle absent)
 on_two server absent (Some from) None run = stay server (Failed BadHandle absent)
 on_two server absent (Some from) (Some to) run =
-    if from.handle.volume == to.handle.volume
-    then placed server absent from.handle.volume (run from.volume from.handle.fileid to.handle.fileid)
+    if from.named.volume == to.named.volume
+    then placed server absent from.named.volume (run from.volume from.named.fileid to.named.fileid)
     else stay server (Failed CrossVolume absent)
 
 -- a call that was decoded, by its procedure (RFC 1813 section 3.3); a failure has so many absent parts

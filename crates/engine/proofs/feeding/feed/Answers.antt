@@ -1,5 +1,5 @@
 use Rattle.std.proofs.Common.{ℕ, true, false, refl, sym, subst, ◌∙◌, arith, inl}
-use Rattle.nfs_model.specs.Events.Feed.{Feeds}
+use Rattle.nfs_laws.specs.Walk.{Walks}
 use Rattle.engine.specs.Numbers.{stop_number}
 use Rattle.engine.specs.Seen.{setup_in, world}
 use Rattle.engine.proofs.Loops.{refused-elsewhere, taking-is}

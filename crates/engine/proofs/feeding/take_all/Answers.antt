@@ -3,7 +3,7 @@ use Rattle.std.specs.Prelude.{Option}
 use Rattle.engine.specs.declared.event.Stop.{Stop}
 use Rattle.engine.specs.Numbers.{stop_number}
 use Rattle.engine.specs.Seen.{setup_in, world}
-use Rattle.nfs_model.specs.Events.Feed.{Feeds}
+use Rattle.nfs_laws.specs.Walk.{Walks}
 use Rattle.engine.specs.Sound.{TakesIn}
 use Rattle.engine.specs.Feeding.{FeedsPart, TakesAll}
 use Rattle.engine.proofs.Loops.{goes-on, stops, all-taken, the-rest, rest-length}

@@ -1,12 +1,12 @@
 use Rattle.std.proofs.Common.{◌≡◌, ℕ, true, false, sym, ap, subst, ◌∙◌, length, take}
 use Rattle.std.specs.Prelude.{vec_len}
-use Rattle.nfs_model.specs.Events.Feed.{Feeds}
+use Rattle.nfs_laws.specs.Walk.{Walks}
 use Rattle.engine.specs.declared.connection.Arrival.TheVariants as arrivals
 use Rattle.engine.specs.declared.state.State.{State}
 use Rattle.engine.specs.Seen.{heard_of, setup_in, world}
 use Rattle.engine.specs.Sound.{records_of}
 use Rattle.engine.specs.Feeding.{bytes_taken}
-use Rattle.engine.proofs.Feeding.{part, arrived, arrived_as, room-unseen, not-crowded, feeds-nothing, more-admitted, fault-admitted, nothing-admitted, heard-admitted}
+use Rattle.engine.proofs.Fed.{part, arrived, arrived_as, room-unseen, not-crowded, feeds-nothing, more-admitted, fault-admitted, nothing-admitted, heard-admitted}
 use Rattle.engine.proofs.feeding.take_and_admit.Goals as goal
 
 pub returns-then-is_err-clause-feeds : goal.returns-then-is_err-clause-feeds

@@ -1,12 +1,12 @@
 use Rattle.std.proofs.Common.{◌≡◌, ℕ, List, sym, ap, subst, ◌∙◌, length, take, arith}
 use Rattle.std.specs.Prelude.{vec_len}
 use Rattle.std.proofs.lemmas.List.{take_all, length-take-le}
-use Rattle.nfs_model.specs.Events.Feed.{Feeds}
+use Rattle.nfs_laws.specs.Walk.{Walks}
 use Rattle.engine.specs.declared.connection.Arrival.TheVariants as arrivals
 use Rattle.engine.specs.Seen.{setup_in, world}
 use Rattle.engine.specs.Sound.{AdmitsNone, stands_at}
 use Rattle.engine.specs.Feeding.{TakesAll, bytes_taken}
-use Rattle.engine.proofs.Feeding.{fed, arrived, arrived_as, crowded, part-more, no-bytes}
+use Rattle.engine.proofs.Fed.{fed, arrived, arrived_as, crowded, part-more, no-bytes}
 use Rattle.engine.proofs.Full.{full-stop, full-nothing, full-fault, take-within}
 use Rattle.engine.proofs.feeding.take_when_full.Goals as goal
 
