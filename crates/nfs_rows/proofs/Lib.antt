@@ -8,3 +8,4 @@ mod Renaming
 mod Bytes
 mod Administration
 mod Homes
+mod Numbers
