@@ -1,7 +1,6 @@
 -- READ and WRITE (RFC 1813 sections 3.3.6 and 3.3.7).
 use Rattle.std.proofs.Common.{◌≡◌, true, false, [], ◌∷◌, replicate, Some, None, refl}
 use Rattle.nfs_model.specs.Types.{Getattr, Read, Write, Ask, Success, GetattrDone, ReadDone, WriteDone, Invalid, TooBig, NoSpace, Stale, BadHandle}
-use Rattle.nfs_model.specs.Server.{handle_bytes}
 use Rattle.nfs_model.specs.Shown.{touched}
 use Rattle.nfs_model.specs.Serial.Write.{blocks_met, write_fault}
 use Rattle.nfs_model.specs.Serial.Step.{serial}

@@ -9,3 +9,5 @@ mod Bytes
 mod Administration
 mod Homes
 mod Numbers
+mod Toy
+mod Happening

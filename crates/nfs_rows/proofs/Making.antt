@@ -1,7 +1,6 @@
 -- LOOKUP, CREATE and MKDIR (RFC 1813 sections 3.3.3, 3.3.8 and 3.3.9).
 use Rattle.std.proofs.Common.{◌≡◌, ℕ, true, false, [], ◌∷◌, replicate, Some, None, refl}
 use Rattle.nfs_model.specs.Types.{ServerTime, ClientTime, Unchecked, Guarded, Exclusive, Setattr, Lookup, Create, Mkdir, Remove, Ask, Success, LookupDone, MadeDone, NoEntry, Access, Exists, NotDirectory, Invalid, TooBig, NoSpace, NameTooLong, Stale, BadHandle}
-use Rattle.nfs_model.specs.Server.{handle_bytes}
 use Rattle.nfs_model.specs.Server.{VolumeState, most_inodes}
 use Rattle.nfs_model.specs.Types.{Status}
 use Rattle.std.specs.Prelude.{Bool, Option, nat_le, nat_lt, if◌then◌else◌}

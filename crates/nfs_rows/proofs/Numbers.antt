@@ -6,13 +6,13 @@ use Rattle.std.specs.Ordering.{nat_cmp}
 use Rattle.std.specs.Cmp.{nat_cmp_total}
 use Rattle.std.specs.FinSet as sets
 use Rattle.std.specs.FinSet.{FinSet, contains, union, difference, insert, from_list}
-use Rattle.nfs_model.specs.Types.{Setattr, Lookup, Read, Write, Create, Mkdir, Remove, Rmdir, Rename, Fsstat, Commit, Grow, Unchecked}
-use Rattle.nfs_model.specs.Tree.{Logical, Stripe, Volume, Aggregate}
+use Rattle.nfs_model.specs.Types.{Setattr, Write, Create, Mkdir, Remove, Rename, Grow, Unchecked}
+use Rattle.nfs_model.specs.Tree.{Logical, Stripe, Aggregate}
 use Rattle.nfs_model.specs.Serial.Create.{no_attributes}
-use Rattle.nfs_model.specs.Parts.{Parts, Hand, Empty, Fresh, Dead, IsBatch, Counts, counts}
-use Rattle.nfs_model.specs.Moves.{Carried, FilledInVolume, FilledInLogical, Emptied, Stored, PartsChange, in_range, batch, first_filled, lowest_batch, fresh_hand, dead_hand, fetched, culled, Carrying, Fetches, Culls, PutsDown, Surveys}
+use Rattle.nfs_model.specs.Parts.{Parts, Hand, Empty, Fresh, Dead, IsBatch, counts}
+use Rattle.nfs_model.specs.Moves.{Carried, FilledInVolume, Emptied, Stored, PartsChange, in_range, batch, first_filled, lowest_batch, fresh_hand, dead_hand, fetched, culled, Carrying, Fetches, Culls, PutsDown, Surveys}
 use Rattle.nfs_rows.proofs.Evaluate.{evaluate}
-use Rattle.nfs_rows.proofs.Cases.{root, h, a, b, entry, root_with, volume_with, file, block_0, no_blocks}
+use Rattle.nfs_rows.proofs.Cases.{root, h, a, b, entry, root_with, volume_with, file}
 
 -- ---- small sets
 
@@ -224,7 +224,7 @@ two_of_a_range : IsBatch 1 (1024 ∷ (2047 ∷ []))
 two_of_a_range = record { few = omega arith; ascending = (omega arith, tt); of_range = (refl, (refl, tt)) }
 
 two_ranges_are_no_batch : IsBatch 0 (1023 ∷ (1024 ∷ [])) → ⊥
-two_ranges_are_no_batch q = let k : 1 ≡ 0 = q.of_range.1.0 in absurd cc
+two_ranges_are_no_batch q = let k : 1 ≡ 0 = q.of_range.1.0 in absurd (cc)
 
 descending_are_no_batch : IsBatch 0 (5 ∷ (3 ∷ [])) → ⊥
 descending_are_no_batch q = let k = q.ascending.0 in omega (arith, k)

@@ -1,7 +1,6 @@
 -- READDIR (RFC 1813 section 3.3.16).
 use Rattle.std.proofs.Common.{◌≡◌, true, false, [], ◌∷◌, replicate, refl}
 use Rattle.nfs_model.specs.Types.{Unchecked, Create, Remove, Readdir, Ask, Success, ReaddirDone, NotDirectory, Stale, BadHandle, BadCookie, TooSmall}
-use Rattle.nfs_model.specs.Server.{handle_bytes}
 use Rattle.nfs_model.specs.Serial.Create.{no_attributes}
 use Rattle.nfs_model.specs.Serial.Step.{serial}
 use Rattle.nfs_rows.proofs.Evaluate.{evaluate}
