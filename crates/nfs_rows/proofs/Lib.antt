@@ -11,3 +11,4 @@ mod Homes
 mod Numbers
 mod Toy
 mod Happening
+mod Moving
