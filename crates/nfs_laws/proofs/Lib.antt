@@ -16,5 +16,6 @@ pub mod KeptByWorkers
 pub mod Kept
 pub mod KeptByFeed
 pub mod Walked
+pub mod Batches
 pub mod Counting
 pub mod KeptByBlocks

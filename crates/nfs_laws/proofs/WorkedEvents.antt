@@ -41,7 +41,8 @@ only_zero P p zero l = p
 only_zero P p (suc n) l = absurd (omega (arith, l))
 
 -- NULL is answered in its feed
-null_is_answered_in_its_feed : Events setup opened (Feed 0 (7 ∷ [])) (Ok (Fed 1 0)) (record opened { connections = record { stream = 7 ∷ []; closed = None; output = 7 ∷ [] } ∷ []; finished = null_entry ∷ [] })
+null_is_answered_in_its_feed : Events setup opened (Feed 0 (7 ∷ [])) (Ok (Fed 1 0))
+    (record opened { connections = record { stream = 7 ∷ []; closed = None; output = 7 ∷ [] } ∷ []; finished = null_entry ∷ [] })
 null_is_answered_in_its_feed = (
   refl,
   (
@@ -60,7 +61,8 @@ null_is_answered_in_its_feed = (
 )
 
 -- the fault's byte is taken, and none after it
-byte_of_a_fault_is_taken : Events setup opened (Feed 0 (255 ∷ (9 ∷ []))) (Ok (Fed 1 12)) (record opened { connections = record { stream = 255 ∷ []; closed = None; output = [] } ∷ [] })
+byte_of_a_fault_is_taken : Events setup opened (Feed 0 (255 ∷ (9 ∷ []))) (Ok (Fed 1 12))
+    (record opened { connections = record { stream = 255 ∷ []; closed = None; output = [] } ∷ [] })
 byte_of_a_fault_is_taken = (
   refl,
   (
@@ -79,7 +81,8 @@ byte_of_a_fault_is_taken = (
 )
 
 -- a faulted connection takes no more
-faulted_connection_takes_no_more : refusal setup (record opened { connections = record { stream = 255 ∷ []; closed = None; output = [] } ∷ [] }) (Feed 0 []) ≡ Some 36
+faulted_connection_takes_no_more : refusal setup (record opened { connections = record { stream = 255 ∷ []; closed = None; output = [] } ∷ [] }) (Feed 0 [])
+    ≡ Some 36
 faulted_connection_takes_no_more = refl
 
 feed_of_an_unknown_connection_is_refused : refusal setup opened (Feed 1 []) ≡ Some 36
@@ -166,10 +169,18 @@ crowded_engine_takes_no_last_byte = (
 )
 
 abbrev root_shown : Shown
-root_shown = record { kind = Folder; mode = 493; links = 2; uid = 0; gid = 0; size = 4096; used = 0; fsid = 0; fileid = 1; atime = at 0; mtime = at 0; ctime = at 0 }
+root_shown =
+    record { kind = Folder; mode = 493; links = 2; uid = 0; gid = 0; size = 4096; used = 0; fsid = 0; fileid = 1; atime = at 0; mtime = at 0; ctime = at 0 }
 
 abbrev worked : World
-worked = record begun { workers = record { running = Some (record { message = getattr_message; moment = at 1; outcome = Some (Replied (Success (GetattrDone root_shown))) }); hand = Empty } ∷ (idle ∷ []) }
+worked =
+    record begun {
+      workers = record {
+        running = Some
+            (record { message = getattr_message; moment = at 1; outcome = Some (Replied (Success (GetattrDone root_shown))) });
+        hand = Empty;
+      } ∷ (idle ∷ []);
+    }
 
 abbrev opened_volume : Stored
 opened_volume = record {
