@@ -123,6 +123,9 @@ home_goes_by_the_count_and_not_the_data = refl
 write_of_70000_bytes_is_cut : home layout (Write (h 2) 0 70000 []) ≡ Some (Stripe 0 2)
 write_of_70000_bytes_is_cut = refl
 
+count_of_a_write_is_cut : home layout (Write (h 2) 196608 70000 []) ≡ Some (Stripe 0 2)
+count_of_a_write_is_cut = refl
+
 cut_count_ends_with_the_span : home layout (Read (h 2) 196608 4294967295) ≡ Some (Stripe 0 2)
 cut_count_ends_with_the_span = refl
 
