@@ -2,18 +2,17 @@
 
 ghost use Rattle.std.specs.Prelude.{◌≡◌, ◌==◌, ◌+◌, ◌-◌, ◌/◌, ◌<◌, length, min, option_map};
 ghost use Rattle.std.specs.Prelude.{slice_get, IfSome};
-ghost use Rattle.nfs_model.specs.Home.{home, home_of_bytes, home_of_volume, logical_of};
-ghost use Rattle.nfs_model.specs.Home.{named_by, span_bytes, stripe_of_span, volume_of};
+ghost use Rattle.nfs_model.specs.Home.{home, bytes_home, grow_home, logical_home};
+ghost use Rattle.nfs_model.specs.Home.{named_by, span_bytes, stripe_of_span, volume_home};
 ghost use Rattle.nfs_values.specs.Call.{call_of};
+ghost use Rattle.nfs_values.specs.Handle.{named_of};
 ghost use Rattle.affinity_tree.specs.Affinity.{affinity_of};
 ghost use Rattle.affinity_tree.specs.Layout.{layout_of};
 ghost use Rattle.affinity_tree.specs.Tree.{IsNode};
-ghost use Rattle.affinity.specs.Named.{named_of};
 
-use crate::named::Named;
 use affinity_tree::{Affinity, Layout};
 use byteorder::{BigEndian, ByteOrder};
-use nfs_values::{Call, FileHandle};
+use nfs_values::{Call, FileHandle, Fileid, Named, VolumeNumber};
 
 /// The bytes of a span, which lie in one stripe.
 const SPAN: u64 = 262_144;
@@ -24,7 +23,7 @@ const COUNT_LIMIT: u32 = 65_536;
 /// What a good handle names, which has 12 bytes and a volume that the layout has.
 pub fn named_by(handle: &FileHandle, layout: &Layout) -> Option<Named>
     ensures named { option_map named_of result ≡ named_by (layout_of layout.now) handle.now }
-    ensures there { IfSome result (λ h. h.volume < length (layout_of layout.now).volumes) }
+    ensures there { IfSome result (λ n. n.volume.0 < length (layout_of layout.now).volumes) }
 {
     let bytes = handle.as_bytes();
     if bytes.len() != 12 {
@@ -35,8 +34,8 @@ pub fn named_by(handle: &FileHandle, layout: &Layout) -> Option<Named>
         return None;
     }
     Some(Named {
-        volume,
-        fileid: BigEndian::read_u64(&bytes[4..]),
+        volume: VolumeNumber(volume),
+        fileid: Fileid(BigEndian::read_u64(&bytes[4..])),
     })
 }
 
@@ -50,69 +49,66 @@ fn is_in_one_span(offset: u64, count: u32) -> bool
 
 /// The stripe of a file's span.
 #[tactic(auto, using(crate::proofs::Spans::remainder_of_parts))]
-fn stripe_of_span(layout: &Layout, file: Named, span: u64) -> Affinity
-    requires { file.volume < length (layout_of layout.now).volumes }
+fn stripe_of_span(layout: &Layout, named: Named, span: u64) -> Affinity
+    requires { named.volume.0 < length (layout_of layout.now).volumes }
     ensures stripe { affinity_of result
-        ≡ stripe_of_span (layout_of layout.now) (named_of file) span }
+        ≡ stripe_of_span (layout_of layout.now) (named_of named) span }
     ensures node { IsNode (layout_of layout.now) (affinity_of result) }
 {
-    let stripes = u64::from(layout.stripes_of(file.volume));
-    let stripe = (file.fileid % stripes + span % stripes) % stripes;
+    let volume = named.volume.0;
+    let stripes = u64::from(layout.stripes_of(volume));
+    let stripe = (named.fileid.0 % stripes + span % stripes) % stripes;
     Affinity::Stripe {
-        volume: file.volume,
+        volume,
         stripe: stripe as u32,
     }
 }
 
 /// Where a call on bytes of a file is at home.
 fn home_of_bytes(handle: &FileHandle, offset: u64, count: u32, layout: &Layout) -> Option<Affinity>
-    ensures home { option_map affinity_of result
-        ≡ home_of_bytes
-        (layout_of layout.now)
-        (named_by (layout_of layout.now) handle.now)
-        offset
-        (min count COUNT_LIMIT) }
+    ensures home { let L = layout_of layout.now in option_map affinity_of result
+        ≡ bytes_home L (named_by L handle.now) offset (min count COUNT_LIMIT) }
     ensures node { IfSome result (λ a. IsNode (layout_of layout.now) (affinity_of a)) }
 {
-    let file = named_by(handle, layout)?;
+    let named = named_by(handle, layout)?;
     let count = count.min(COUNT_LIMIT);
     if count == 0 || is_in_one_span(offset, count) {
-        Some(stripe_of_span(layout, file, offset / SPAN))
+        Some(stripe_of_span(layout, named, offset / SPAN))
     } else {
-        Some(Affinity::VolumeLogical(file.volume))
+        Some(Affinity::VolumeLogical(named.volume.0))
     }
 }
 
 /// Where a call on names and attributes is at home.
 fn home_of_names(handle: &FileHandle, layout: &Layout) -> Option<Affinity>
     ensures home { option_map affinity_of result
-        ≡ logical_of (named_by (layout_of layout.now) handle.now) }
+        ≡ logical_home (named_by (layout_of layout.now) handle.now) }
     ensures node { IfSome result (λ a. IsNode (layout_of layout.now) (affinity_of a)) }
 {
     let named = named_by(handle, layout)?;
-    Some(Affinity::VolumeLogical(named.volume))
+    Some(Affinity::VolumeLogical(named.volume.0))
 }
 
 /// Where a call on a whole volume is at home.
 fn home_of_status(handle: &FileHandle, layout: &Layout) -> Option<Affinity>
     ensures home { option_map affinity_of result
-        ≡ volume_of (named_by (layout_of layout.now) handle.now) }
+        ≡ volume_home (named_by (layout_of layout.now) handle.now) }
     ensures node { IfSome result (λ a. IsNode (layout_of layout.now) (affinity_of a)) }
 {
     let named = named_by(handle, layout)?;
-    Some(Affinity::Volume(named.volume))
+    Some(Affinity::Volume(named.volume.0))
 }
 
 /// Where a volume's growth is at home.
-fn home_of_growth(volume: u32, layout: &Layout) -> Option<Affinity>
+fn home_of_growth(volume: VolumeNumber, layout: &Layout) -> Option<Affinity>
     ensures home { option_map affinity_of result
-        ≡ home_of_volume volume (slice_get (layout_of layout.now).volumes volume) }
+        ≡ grow_home (slice_get (layout_of layout.now).volumes volume.0) }
     ensures node { IfSome result (λ a. IsNode (layout_of layout.now) (affinity_of a)) }
 {
-    if volume as usize >= layout.volume_count() {
+    if volume.0 as usize >= layout.volume_count() {
         return None;
     }
-    Some(Affinity::Aggregate(layout.aggregate_of(volume)))
+    Some(Affinity::Aggregate(layout.aggregate_of(volume.0)))
 }
 
 /// The affinity that a call tries first; nothing for a call that is answered without one.

@@ -2,9 +2,7 @@
 #![tactic(auto)]
 
 mod home;
-mod named;
 #[cfg(test)]
 mod tests;
 
 pub use home::{home_of, named_by};
-pub use named::Named;

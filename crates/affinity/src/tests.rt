@@ -2,7 +2,10 @@
 
 use super::*;
 use affinity_tree::{Affinity, AggregateSpec, Layout, VolumeSpec};
-use nfs_values::{Call, CreateMode, FileHandle, SetAttributes, SetTime, Target, Verifier};
+use nfs_values::{
+    Call, Cookie, CreateMode, FileHandle, Name, SetAttributes, SetTime, Target, Verifier,
+    VolumeNumber,
+};
 use std::alloc::Global;
 use std::test::Fail;
 
@@ -38,7 +41,7 @@ const NOTHING: SetAttributes = SetAttributes {
 fn target(alloc: Global) -> Target {
     Target {
         directory: handle(1, 1),
-        name: Vec::new(alloc),
+        name: Name::new(Vec::new(alloc)),
     }
 }
 
@@ -68,7 +71,7 @@ fn homes(rt: HostRuntime) -> Result<(), Fail> {
         Call::RemoveDirectory(target(rt.alloc())),
         Call::ReadDirectory {
             directory: handle(1, 1),
-            cookie: 0,
+            cookie: Cookie::START,
             verifier: Verifier([0; 8]),
             count: 512,
         },
@@ -83,7 +86,7 @@ fn homes(rt: HostRuntime) -> Result<(), Fail> {
         handle: handle(0, 1),
     };
     let growth = Call::Grow {
-        volume: 0,
+        volume: VolumeNumber(0),
         ranges: 1,
     };
     assert_eq!(rt; home_of(&status, &layout), Some(Affinity::Volume(0)));
@@ -104,7 +107,7 @@ fn calls_without_home(rt: HostRuntime) -> Result<(), Fail> {
         count: 1,
     };
     let growth = Call::Grow {
-        volume: 2,
+        volume: VolumeNumber(2),
         ranges: 1,
     };
     assert_eq!(rt; home_of(&Call::Null, &layout), None);
