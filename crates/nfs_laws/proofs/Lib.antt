@@ -1,6 +1,4 @@
 mod Toy
-mod WorkedCalls
-mod WorkedEvents
 pub mod AtOnce
 pub mod Volumes
 pub mod Opening

@@ -11,7 +11,7 @@ use Rattle.nfs_model.specs.World.{Setup, World, Connection, Message, Running, Wo
 use Rattle.nfs_model.specs.Headline.{opening_world}
 use Rattle.nfs_model.specs.Events.Refusals.{Open, Feed, Close, Begin, Work, Finish, Fetch, Cull, PutDown, Survey, Opened, Fed, IsClosed, Granted, HasMove, IsStarved, Written, IsBack, HasPut, refusal, may_lack_memory}
 use Rattle.nfs_model.specs.Events.Step.{Events, Happens, new_connection}
-use Rattle.nfs_rows.proofs.Evaluate.{evaluate}
+use Rattle.nfs_laws.specs.lemmas.Evaluate.{evaluate}
 use Rattle.nfs_rows.proofs.Cases.{layout, verifier, at, holding, with_file, file, no_blocks}
 use Rattle.nfs_rows.proofs.Toy.{asked, scan, toy}
 

@@ -6,7 +6,7 @@ use Rattle.nfs_model.specs.Home.{home, home_of_asked}
 use Rattle.nfs_model.specs.Serial.Starve.{may_starve_at_decoding, may_starve_later}
 use Rattle.nfs_model.specs.Server.{handle_bytes}
 use Rattle.nfs_model.specs.Serial.Create.{no_attributes}
-use Rattle.nfs_rows.proofs.Evaluate.{evaluate}
+use Rattle.nfs_laws.specs.lemmas.Evaluate.{evaluate}
 use Rattle.nfs_rows.proofs.Cases.{one_range, layout, start, at, nobody, h, root, a, b, d, x, write_at, sized, entry, no_blocks, block_0, file, exclusive_file, directory, root_with, holding, with_file, tight}
 
 getattr_is_of_logical : home layout (Getattr root) ≡ Some (Logical 0)

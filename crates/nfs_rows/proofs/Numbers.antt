@@ -11,7 +11,7 @@ use Rattle.nfs_model.specs.Tree.{Volume, Logical, Stripe, Aggregate}
 use Rattle.nfs_model.specs.Serial.Create.{no_attributes}
 use Rattle.nfs_model.specs.Parts.{Parts, Hand, Empty, Fresh, Dead, IsBatch, counts}
 use Rattle.nfs_model.specs.Moves.{Carried, FilledInVolume, Emptied, Stored, PartsChange, in_range, batch, first_filled, lowest_batch, fresh_hand, dead_hand, fetched, culled, Carrying, Fetches, Culls, PutsDown, Surveys}
-use Rattle.nfs_rows.proofs.Evaluate.{evaluate}
+use Rattle.nfs_laws.specs.lemmas.Evaluate.{evaluate}
 use Rattle.nfs_rows.proofs.Cases.{root, h, a, b, entry, root_with, volume_with, file}
 
 -- ---- small sets

@@ -3,7 +3,7 @@ use Rattle.std.proofs.Common.{◌≡◌, true, false, [], ◌∷◌, replicate, 
 use Rattle.nfs_model.specs.Types.{Unchecked, Create, Mkdir, Remove, Readdir, Ask, Success, ReaddirDone, NotDirectory, Stale, BadHandle, BadCookie, TooSmall}
 use Rattle.nfs_model.specs.Serial.Create.{no_attributes}
 use Rattle.nfs_model.specs.Serial.Step.{serial}
-use Rattle.nfs_rows.proofs.Evaluate.{evaluate}
+use Rattle.nfs_laws.specs.lemmas.Evaluate.{evaluate}
 use Rattle.nfs_rows.proofs.Cases.{start, at, nobody, h, root, fails, a, b, d, entry, no_blocks, file, root_with, holding, with_file, with_four, root_shown, directory_shown}
 
 readdir_of_a_bad_handle :
