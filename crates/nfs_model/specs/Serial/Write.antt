@@ -66,12 +66,12 @@ abbrev pub bytes_kept : Writing → List ℕ
 bytes_kept w = take most_bytes w.written
 
 -- at least one byte: FBIG, NOSPC, the change
-abbrev pub write_some : VolumeState → ℕ → FileNode → ℕ → List ℕ → Moment → Effect
-write_some volume fileid f offset written moment =
-    unless (write_fault volume offset (length written))
-    (unless (space_fault volume f offset (length written))
-    (Changes (WriteDone (length written) volume.verifier)
-    (with_node volume fileid (File (written_file f offset written moment)))))
+abbrev pub write_some : VolumeState → ℕ → FileNode → Writing → Effect
+write_some volume fileid f w =
+    unless (write_fault volume w.offset (length (bytes_kept w)))
+    (unless (space_fault volume f w.offset (length (bytes_kept w)))
+    (Changes (WriteDone (length (bytes_kept w)) volume.verifier)
+    (with_node volume fileid (File (written_file f w.offset (bytes_kept w) w.moment)))))
 
 -- STALE, INVAL for a directory, INVAL for a count that isn't the data's length; a count of 0
 -- changes nothing; then the rest
@@ -79,4 +79,4 @@ abbrev pub write : Writing → VolumeState → ℕ → Effect
 write w volume fileid = on_file (get volume.nodes fileid) (λ f.
     if not (w.count == length w.written) then Fails Invalid
     else if w.count == 0 then Tells (WriteDone 0 volume.verifier)
-    else write_some volume fileid f w.offset (bytes_kept w) w.moment)
+    else write_some volume fileid f w)
