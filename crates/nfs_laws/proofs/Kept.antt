@@ -13,6 +13,7 @@ use Rattle.nfs_model.specs.Headline.{Kept}
 use Rattle.nfs_laws.proofs.Lists.{none_is}
 use Rattle.nfs_model.specs.Agreed.{IsAgreed}
 use Rattle.nfs_model.specs.ReadOnly.{IsReadOnly}
+use Rattle.nfs_laws.specs.Undisturbed.{WorksNone}
 use Rattle.nfs_laws.proofs.Needs.{NeedsAgreed}
 use Rattle.nfs_laws.proofs.Unchanged.{readings_agree}
 use Rattle.nfs_laws.proofs.KeptByConnections.{keeps_open, keeps_close, open_is}
@@ -135,6 +136,30 @@ module _ (setup : Setup) (scan : IsScan setup.codec) where
   keeps w event (Ok done) new h agreed e = happens_kept setup scan w event done new e.0 (needs_agreed setup event new agreed) e.1 h
   keeps w event (Err number) new h agreed e = subst (λ (v : World). Kept setup v) (sym e.1) h
 
+-- what is kept agrees
+agreed_of : (setup : Setup) (w : World) → Kept setup w → IsAgreed setup w
+agreed_of setup w k = record { state = k.headline.state; outcomes = k.outcomes; partition = k.headline.partition }
+
+needs_nothing : (setup : Setup) (event : Event) (new : World) → WorksNone event → NeedsAgreed setup event new
+needs_nothing setup (Work worker) new n = absurd n
+needs_nothing setup (Finish worker) new n = absurd n
+needs_nothing setup Open new n = tt
+needs_nothing setup (Feed c bytes) new n = tt
+needs_nothing setup (Close c) new n = tt
+needs_nothing setup (Begin worker place moment) new n = tt
+needs_nothing setup (Fetch worker volume range) new n = tt
+needs_nothing setup (Cull worker volume) new n = tt
+needs_nothing setup (PutDown worker) new n = tt
+needs_nothing setup (Survey worker volume) new n = tt
+
+-- where no call is worked or finished
+pub others_agree : (setup : Setup) (scan : IsScan setup.codec) (w : World) (event : Event) (answer : Result Done ℕ) (new : World)
+    → WorksNone event → Kept setup w → Events setup w event answer new → IsAgreed setup new
+others_agree setup scan w event (Ok done) new none h e =
+    agreed_of setup new (happens_kept setup scan w event done new e.0 (needs_nothing setup event new none) e.1 h)
+others_agree setup scan w event (Err number) new none h e =
+    agreed_of setup new (subst (λ (v : World). Kept setup v) (sym e.1) h)
+
 module _ (setup : Setup) (only : IsReadOnly setup) (scan : IsScan setup.codec) where
   -- where calls change nothing
   keeps_reading : (w : World) (event : Event) (answer : Result Done ℕ) (new : World) → Kept setup w → Events setup w event answer new → Kept setup new
@@ -144,8 +169,7 @@ module _ (setup : Setup) (only : IsReadOnly setup) (scan : IsScan setup.codec) w
   pub readings_meet_the_premise : (w : World) (event : Event) (answer : Result Done ℕ) (new : World) → Kept setup w → Events setup w event answer new
       → IsAgreed setup new
   readings_meet_the_premise w event answer new h e =
-      let k = keeps_reading w event answer new h e in
-      record { state = k.headline.state; outcomes = k.outcomes; partition = k.headline.partition }
+      agreed_of setup new (keeps_reading w event answer new h e)
 
   -- after a whole run
   pub keeps_run : (old : World) (events : List Event) (new : World) → Runs setup old events new → Kept setup old → Kept setup new

@@ -1,2 +1,3 @@
+pub mod Undisturbed
 pub mod Walk
 pub mod lemmas

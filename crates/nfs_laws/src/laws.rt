@@ -18,6 +18,7 @@ ghost use Rattle.nfs_model.specs.Events.Step.{Events, Runs};
 ghost use Rattle.nfs_model.specs.Headline.{Kept, opening_world};
 ghost use Rattle.nfs_model.specs.Agreed.{IsAgreed};
 ghost use Rattle.nfs_model.specs.ReadOnly.{IsReadOnly};
+ghost use Rattle.nfs_laws.specs.Undisturbed.{WorksNone};
 ghost use Rattle.nfs_laws.specs.Walk.{Walks};
 
 /// A run begins within the headline.
@@ -44,6 +45,18 @@ pub fn events_keep_headline()
         → IsAgreed setup new
         → Events setup old event answer new
         → Kept setup new }
+{}
+
+/// Where no call is worked or finished, the calls that run don't disturb each other: of an engine's
+/// events only Work and Finish leave that to be shown.
+pub fn other_events_agree()
+    ensures { (setup : Setup) (old : World) (event : Event) (answer : Result Done ℕ)
+        (new : World)
+        → IsScan setup.codec
+        → WorksNone event
+        → Kept setup old
+        → Events setup old event answer new
+        → IsAgreed setup new }
 {}
 
 /// Calls that change nothing don't disturb each other, after any event.

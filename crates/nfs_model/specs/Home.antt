@@ -1,7 +1,12 @@
--- The affinity that a call tries first (our profile): a function of the call and the layout, never of the state.
-use Rattle.std.specs.Prelude.{ℕ, ◌+◌, ◌-◌, ◌/◌, ◌%◌, min, ◌==◌, ◌||◌, List, length, Option, Some, None, slice_get, if◌then◌else◌}
-use Rattle.nfs_model.specs.Types.{Call, Null, Getattr, Setattr, Lookup, Read, Write, Create, Mkdir, Remove, Rmdir, Rename, Readdir, Fsstat, Commit, Census, Grow, Asked, Ask, Refused, Undecoded}
-use Rattle.nfs_model.specs.Tree.{Layout, VolumeLayout, Affinity, Serial, Aggregate, Volume, Logical, Stripe, stripes_of}
+-- The affinity that a call tries first (our profile): a function of the call and the layout, never
+-- of the state.
+use Rattle.std.specs.Prelude.{ℕ, ◌+◌, ◌-◌, ◌/◌, ◌%◌, min, ◌==◌, ◌||◌, List, length, Option, Some, None}
+use Rattle.std.specs.Prelude.{slice_get, if◌then◌else◌}
+use Rattle.nfs_model.specs.Types.{Call, Null, Getattr, Setattr, Lookup, Read, Write, Create, Mkdir, Remove}
+use Rattle.nfs_model.specs.Types.{Rmdir, Rename, Readdir, Fsstat, Commit, Census, Grow, Asked, Ask, Refused}
+use Rattle.nfs_model.specs.Types.{Undecoded}
+use Rattle.nfs_model.specs.Tree.{Layout, VolumeLayout, Affinity, Serial, Aggregate, Volume, Logical, Stripe}
+use Rattle.nfs_model.specs.Tree.{stripes_of}
 use Rattle.nfs_model.specs.Server.{Named, handle_of, most_bytes}
 
 -- the bytes of a span: 64 blocks, which lie in one stripe
@@ -30,7 +35,8 @@ stripe_of_span layout h span = Stripe h.volume ((h.fileid + span) % stripes_of l
 abbrev pub bytes_home : Layout → Option Named → ℕ → ℕ → Option Affinity
 bytes_home layout None offset n = None
 bytes_home layout (Some h) offset n =
-    if (n == 0) || (offset / span_bytes == (offset + n - 1) / span_bytes) then Some (stripe_of_span layout h (offset / span_bytes)) else Some (Logical h.volume)
+    if (n == 0) || (offset / span_bytes == (offset + n - 1) / span_bytes)
+    then Some (stripe_of_span layout h (offset / span_bytes)) else Some (Logical h.volume)
 
 -- Logical of the volume of two good handles, if it is one
 abbrev pub rename_home : Option Named → Option Named → Option Affinity
@@ -49,8 +55,10 @@ home layout Null = None
 home layout (Getattr handle) = logical_home (named_by layout handle)
 home layout (Setattr handle set guard) = logical_home (named_by layout handle)
 home layout (Lookup directory name) = logical_home (named_by layout directory)
-home layout (Read handle offset count) = bytes_home layout (named_by layout handle) offset (min count most_bytes)
-home layout (Write handle offset count written) = bytes_home layout (named_by layout handle) offset (min count most_bytes)
+home layout (Read handle offset count) =
+    bytes_home layout (named_by layout handle) offset (min count most_bytes)
+home layout (Write handle offset count written) =
+    bytes_home layout (named_by layout handle) offset (min count most_bytes)
 home layout (Create directory name mode) = logical_home (named_by layout directory)
 home layout (Mkdir directory name set) = logical_home (named_by layout directory)
 home layout (Remove directory name) = logical_home (named_by layout directory)

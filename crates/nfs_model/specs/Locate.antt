@@ -1,8 +1,10 @@
--- What the procedures share: what a call on a volume comes to, the first check that fails, and the node that a handle or a name stands for.
+-- What the procedures share: what a call on a volume comes to, the first check that fails, and the
+-- node that a handle or a name stands for.
 use Rattle.std.specs.Prelude.{ℕ, List, length, Option, Some, None, slice_get}
 use Rattle.std.specs.FinMap.{get}
 use Rattle.nfs_model.specs.Types.{Answer, Status, Stale, NotDirectory, Invalid, Moment, Listed}
-use Rattle.nfs_model.specs.Server.{FileNode, DirectoryNode, Node, File, Directory, VolumeState, Server, Named, handle_of}
+use Rattle.nfs_model.specs.Server.{FileNode, DirectoryNode, Node, File, Directory, VolumeState, Server}
+use Rattle.nfs_model.specs.Server.{Named, handle_of}
 use Rattle.nfs_model.specs.Names.{name_fault, find_name}
 
 -- ---- what a call comes to
@@ -92,7 +94,14 @@ pub record Naming : Type 0 where
 abbrev pub named_child : Naming → Option Found
 named_child n = child n.volume (find_name n.name n.directory.list)
 
--- A call on a name of a directory: STALE, NOTDIR, what is wrong with the name. So begin LOOKUP, CREATE, MKDIR, REMOVE and RMDIR.
+-- A call on a name of a directory: STALE, NOTDIR, what is wrong with the name. So begin LOOKUP,
+-- CREATE, MKDIR, REMOVE and RMDIR.
 abbrev pub on_name : List ℕ → Moment → (Naming → Effect) → VolumeState → ℕ → Effect
 on_name name moment run volume fileid = on_directory (get volume.nodes fileid) (λ d.
-    unless (name_fault name) (run (record { volume = volume; fileid = fileid; directory = d; name = name; moment = moment })))
+    unless (name_fault name) (run (record {
+      volume = volume;
+      fileid = fileid;
+      directory = d;
+      name = name;
+      moment = moment;
+    })))

@@ -1,4 +1,5 @@
--- How block numbers go from one part of a volume to another (our profile). How many is given; which ones is mostly free.
+-- How block numbers go from one part of a volume to another (our profile). How many is given; which
+-- ones is mostly free.
 use Rattle.std.specs.Prelude.{◌≡◌, ℕ, ◌-◌, ◌*◌, min, IsTrue, List, [], ◌∷◌, length, map, take}
 use Rattle.std.specs.List.{range_with_len, filter}
 use Rattle.std.specs.Ordering.{nat_cmp}
@@ -6,7 +7,8 @@ use Rattle.std.specs.FinSet.{FinSet, is_subset, difference, union, from_list, le
 use Rattle.nfs_model.specs.Types.{Call, Write, Setattr, Create, Remove, Rename, Grow}
 use Rattle.nfs_model.specs.Tree.{Affinity, Volume, Logical}
 use Rattle.nfs_model.specs.Server.{VolumeState, used}
-use Rattle.nfs_model.specs.Parts.{Parts, Hand, Empty, Fresh, Dead, range_blocks, most_carried, most_ranges, batch_in}
+use Rattle.nfs_model.specs.Parts.{Parts, Hand, Empty, Fresh, Dead, range_blocks, most_carried, most_ranges}
+use Rattle.nfs_model.specs.Parts.{batch_in}
 
 -- ---- by calls
 
@@ -61,14 +63,19 @@ emptied_by old new = used old.volume - used new.volume
 abbrev pub grown_by : Stored → Stored → FinSet nat_cmp
 grown_by old new = from_list (range_with_len old.volume.total (new.volume.total - old.volume.total))
 
--- The parts of a volume after a call under an affinity, by what the call did to the volume. WRITE fills blocks; SETATTR, CREATE, REMOVE and RENAME leave them dead; new numbers of GROW are free; other calls move none.
+-- The parts of a volume after a call under an affinity, by what the call did to the volume. WRITE
+-- fills blocks; SETATTR, CREATE, REMOVE and RENAME leave them dead; new numbers of GROW are free;
+-- other calls move none.
 abbrev pub PartsChange : Call → Affinity → Stored → Stored → Type 0
-PartsChange (Write handle offset count written) affinity old new = Filled affinity (filled_by old new) old.parts new.parts
+PartsChange (Write handle offset count written) affinity old new =
+    Filled affinity (filled_by old new) old.parts new.parts
 PartsChange (Setattr handle set guard) affinity old new = Emptied (emptied_by old new) old.parts new.parts
 PartsChange (Create directory name mode) affinity old new = Emptied (emptied_by old new) old.parts new.parts
 PartsChange (Remove directory name) affinity old new = Emptied (emptied_by old new) old.parts new.parts
-PartsChange (Rename from from_name to to_name) affinity old new = Emptied (emptied_by old new) old.parts new.parts
-PartsChange (Grow volume ranges) affinity old new = new.parts ≡ record old.parts { free = union old.parts.free (grown_by old new) }
+PartsChange (Rename from from_name to to_name) affinity old new =
+    Emptied (emptied_by old new) old.parts new.parts
+PartsChange (Grow volume ranges) affinity old new =
+    new.parts ≡ record old.parts { free = union old.parts.free (grown_by old new) }
 PartsChange call affinity old new = new.parts ≡ old.parts
 
 -- ---- batches
@@ -124,7 +131,8 @@ with_stock blocks p = record p { stock = union p.stock (from_list blocks) }
 abbrev pub with_free : List ℕ → Parts → Parts
 with_free blocks p = record p { free = union p.free (from_list blocks) }
 
--- the parts where a hand is put down: a fresh batch comes into the stock, a dead one into the bitmaps
+-- the parts where a hand is put down: a fresh batch comes into the stock, a dead one into the
+-- bitmaps
 abbrev pub put_down : Hand → Parts → Parts
 put_down Empty p = p
 put_down (Fresh volume blocks) p = with_stock blocks p
@@ -138,17 +146,26 @@ fetched volume blocks p = record { parts = without_free blocks p; hand = fresh_h
 abbrev pub culled : ℕ → List ℕ → Parts → Carrying
 culled volume blocks p = record { parts = without_dead blocks p; hand = dead_hand volume blocks }
 
--- Fetch, under a Range: its 64 lowest free blocks come into the hand, or all if they are fewer; so many.
+-- Fetch, under a Range: its 64 lowest free blocks come into the hand, or all if they are fewer; so
+-- many.
 abbrev pub Fetches : ℕ → ℕ → ℕ → Carrying → Carrying → Type 0
-Fetches volume range count old new = (count ≡ length (batch range old.parts.free)) × (new ≡ fetched volume (batch range old.parts.free) old.parts)
+Fetches volume range count old new =
+    (count ≡ length (batch range old.parts.free))
+    × (new ≡ fetched volume (batch range old.parts.free) old.parts)
 
--- Cull, under Logical: the 64 lowest dead blocks of the range of the lowest come into the hand, or all of that range if they are fewer; so many.
+-- Cull, under Logical: the 64 lowest dead blocks of the range of the lowest come into the hand, or
+-- all of that range if they are fewer; so many.
 abbrev pub Culls : ℕ → ℕ → Carrying → Carrying → Type 0
-Culls volume count old new = (count ≡ length (lowest_batch old.parts.dead)) × (new ≡ culled volume (lowest_batch old.parts.dead) old.parts)
+Culls volume count old new =
+    (count ≡ length (lowest_batch old.parts.dead))
+    × (new ≡ culled volume (lowest_batch old.parts.dead) old.parts)
 
--- PutDown, under Logical for a fresh batch and under its Range for a dead one: the batch leaves the hand; so many blocks.
+-- PutDown, under Logical for a fresh batch and under its Range for a dead one: the batch leaves the
+-- hand; so many blocks.
 abbrev pub PutsDown : ℕ → Carrying → Carrying → Type 0
-PutsDown count old new = (count ≡ length (batch_in old.hand)) × (new ≡ record { parts = put_down old.hand old.parts; hand = Empty })
+PutsDown count old new =
+    (count ≡ length (batch_in old.hand))
+    × (new ≡ record { parts = put_down old.hand old.parts; hand = Empty })
 
 -- Survey, under Vbn: how many blocks of each range in use are free.
 abbrev pub Surveys : ℕ → Parts → List ℕ → Type 0

@@ -1,5 +1,6 @@
 -- Names, and the entries of a directory (RFC 1813 section 3.2).
-use Rattle.std.specs.Prelude.{ℕ, ◌+◌, Bool, true, false, ◌&&◌, ◌||◌, ◌==◌, not, nat_lt, List, [], ◌∷◌, ◌++◌, length, Option, Some, None, if◌then◌else◌}
+use Rattle.std.specs.Prelude.{ℕ, ◌+◌, Bool, true, false, ◌&&◌, ◌||◌, ◌==◌, not, nat_lt, List, [], ◌∷◌, ◌++◌}
+use Rattle.std.specs.Prelude.{length, Option, Some, None, if◌then◌else◌}
 use Rattle.std.specs.List.{filter, list_any}
 use Rattle.nfs_model.specs.Types.{Listed, Moment, Status, NameTooLong, Access}
 use Rattle.nfs_model.specs.Server.{DirectoryNode}
@@ -46,7 +47,11 @@ dated d moment = record d { attributes = record d.attributes { mtime = moment; c
 
 -- a directory with one more entry, under its next cookie
 abbrev pub with_name : DirectoryNode → List ℕ → ℕ → Moment → DirectoryNode
-with_name d name fileid moment = record (dated d moment) { next = d.next + 1; list = d.list ++ (record { cookie = d.next; name = name; fileid = fileid }) ∷ [] }
+with_name d name fileid moment =
+    record (dated d moment) {
+      next = d.next + 1;
+      list = d.list ++ (record { cookie = d.next; name = name; fileid = fileid }) ∷ [];
+    }
 
 -- a directory without a name
 abbrev pub dropped_name : DirectoryNode → List ℕ → Moment → DirectoryNode

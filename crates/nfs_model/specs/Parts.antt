@@ -1,5 +1,7 @@
--- Where the block numbers of a volume are (our profile): in files, in the stock, dead, free, or in the hand of a worker.
-use Rattle.std.specs.Prelude.{◌≡◌, ℕ, ◌+◌, ◌/◌, ◌<◌, ◌≤◌, Bool, ◌==◌, nat_lt, List, [], ◌∷◌, length, if◌then◌else◌}
+-- Where the block numbers of a volume are (our profile): in files, in the stock, dead, free, or in
+-- the hand of a worker.
+use Rattle.std.specs.Prelude.{◌≡◌, ℕ, ◌+◌, ◌/◌, ◌<◌, ◌≤◌, Bool, ◌==◌, nat_lt, List, [], ◌∷◌, length}
+use Rattle.std.specs.Prelude.{if◌then◌else◌}
 use Rattle.std.specs.List.{AllByRecursion}
 use Rattle.std.specs.Ordering.{nat_cmp}
 use Rattle.std.specs.FinSet.{FinSet, contains, len}
@@ -82,9 +84,12 @@ times_listed n blocks = count (λ b. b == n) blocks
 
 -- in how many places a block number stands
 abbrev pub places : ℕ → Parts → List ℕ → ℕ
-places n p in_hands = one_if (contains p.files n) + one_if (contains p.stock n) + one_if (contains p.dead n) + one_if (contains p.free n) + times_listed n in_hands
+places n p in_hands =
+    one_if (contains p.files n) + one_if (contains p.stock n) + one_if (contains p.dead n)
+    + one_if (contains p.free n) + times_listed n in_hands
 
--- Each number below total stands in one part, once, and no other does; and those in files are as many as the files fill.
+-- Each number below total stands in one part, once, and no other does; and those in files are as
+-- many as the files fill.
 pub record IsPartition (volume : VolumeState) (p : Parts) (in_hands : List ℕ) : Type 0 where
   pub once : (n : ℕ) → places n p in_hands ≡ one_if (nat_lt n volume.total)
   pub in_files : len p.files ≡ used volume
@@ -102,4 +107,12 @@ pub record Counts : Type 0 where
 
 -- those of a volume, with the blocks that all hands carry of it
 abbrev pub counts : VolumeState → Parts → List ℕ → Counts
-counts volume p in_hands = record { files = len p.files; stock = len p.stock; dead = len p.dead; free = len p.free; hands = length in_hands; total = volume.total }
+counts volume p in_hands =
+    record {
+      files = len p.files;
+      stock = len p.stock;
+      dead = len p.dead;
+      free = len p.free;
+      hands = length in_hands;
+      total = volume.total;
+    }

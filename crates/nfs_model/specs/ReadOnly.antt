@@ -18,4 +18,5 @@ AsksReading Undecoded = Unit {0}
 
 -- whatever comes on a connection
 abbrev pub IsReadOnly : Setup → Type 0
-IsReadOnly setup = (stream : List ℕ) → AllByRecursion (λ h. AsksReading h.asked) (setup.codec.scan stream).served
+IsReadOnly setup =
+    (stream : List ℕ) → AllByRecursion (λ h. AsksReading h.asked) (setup.codec.scan stream).served

@@ -6,7 +6,8 @@ use Rattle.nfs_model.specs.Server.{Server}
 use Rattle.nfs_model.specs.Serial.Step.{Step, serial}
 use Rattle.nfs_model.specs.Serial.Starve.{may_starve_later}
 
--- a finished call: its record by connection and number, what that record asks, the affinity under which it ran if any, its moment, and whether it was starved
+-- a finished call: its record by connection and number, what that record asks, the affinity under
+-- which it ran if any, its moment, and whether it was starved
 pub record FinishedCall : Type 0 where
   pub connection : ℕ
   pub number : ℕ
@@ -30,7 +31,8 @@ abbrev pub replay : Server → List FinishedCall → List Reply
 replay server [] = []
 replay server (e ∷ es) = (step_of server e).reply ∷ replay (step_of server e).server es
 
--- Whether a call that says starved may be: with no affinity it was its decoding, and then what it asks isn't known here; else by what it would answer.
+-- Whether a call that says starved may be: with no affinity it was its decoding, and then what it
+-- asks isn't known here; else by what it would answer.
 abbrev pub MayStarve : Server → Asked → Moment → Option Affinity → Type 0
 MayStarve server asked moment None = asked ≡ Undecoded
 MayStarve server asked moment (Some a) = IsTrue (may_starve_later server asked moment)

@@ -1,5 +1,6 @@
 -- The server as a client could know it: volumes of named nodes, files as lists of bytes.
-use Rattle.std.specs.Prelude.{ℕ, ◌+◌, ◌*◌, List, [], ◌∷◌, length, take, drop, Option, Some, None, slice_set, nat_lt, ◌==◌, ◌&&◌, if◌then◌else◌, ◌++◌}
+use Rattle.std.specs.Prelude.{ℕ, ◌+◌, ◌*◌, List, [], ◌∷◌, length, take, drop, Option, Some, None, slice_set}
+use Rattle.std.specs.Prelude.{nat_lt, ◌==◌, ◌&&◌, if◌then◌else◌, ◌++◌}
 use Rattle.std.specs.Int.{w32, w64, to_be_bytes, from_be_bytes}
 use Rattle.std.specs.Ordering.{nat_cmp}
 use Rattle.std.specs.FinMap.{FinMap, entries, from_sorted}
@@ -75,7 +76,14 @@ start_of_times = record { seconds = 0; nanoseconds = 0 }
 -- the root as it begins, its own parent, with mode 0755 (octal)
 abbrev pub root_node : Node
 root_node = Directory (record {
-  attributes = record { mode = 493; uid = 0; gid = 0; atime = start_of_times; mtime = start_of_times; ctime = start_of_times };
+  attributes = record {
+    mode = 493;
+    uid = 0;
+    gid = 0;
+    atime = start_of_times;
+    mtime = start_of_times;
+    ctime = start_of_times;
+  };
   parent = 1;
   next = 3;
   list = [];
@@ -96,7 +104,8 @@ opening_volume verifier number layout = record {
 -- volumes numbered from a number on
 abbrev pub opening_volumes : List ℕ → ℕ → List VolumeLayout → List VolumeState
 opening_volumes verifier number [] = []
-opening_volumes verifier number (v ∷ vs) = opening_volume verifier number v ∷ opening_volumes verifier (number + 1) vs
+opening_volumes verifier number (v ∷ vs) =
+    opening_volume verifier number v ∷ opening_volumes verifier (number + 1) vs
 
 -- the server as it begins
 abbrev pub opening : Layout → List ℕ → Server
@@ -131,7 +140,8 @@ pub record Named : Type 0 where
 
 -- what 12 bytes name
 abbrev pub named_read : List ℕ → Named
-named_read bytes = record { volume = from_be_bytes w32 (take 4 bytes); fileid = from_be_bytes w64 (drop 4 bytes) }
+named_read bytes =
+    record { volume = from_be_bytes w32 (take 4 bytes); fileid = from_be_bytes w64 (drop 4 bytes) }
 
 -- A handle is good where it is 12 bytes that name one of so many volumes.
 abbrev pub handle_of : ℕ → List ℕ → Option Named

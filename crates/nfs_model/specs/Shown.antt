@@ -1,5 +1,6 @@
 -- Times as they hold, and attributes as replies show them (RFC 1813 section 2.6).
-use Rattle.std.specs.Prelude.{ℕ, ◌+◌, ◌*◌, Bool, true, false, ◌&&◌, ◌||◌, ◌==◌, nat_lt, nat_le, List, [], ◌∷◌, length, Option, Some, None, if◌then◌else◌}
+use Rattle.std.specs.Prelude.{ℕ, ◌+◌, ◌*◌, Bool, true, false, ◌&&◌, ◌||◌, ◌==◌, nat_lt, nat_le, List, []}
+use Rattle.std.specs.Prelude.{◌∷◌, length, Option, Some, None, if◌then◌else◌}
 use Rattle.std.specs.Ordering.{nat_cmp}
 use Rattle.std.specs.FinMap.{FinMap, get}
 use Rattle.std.specs.FinSet as sets
@@ -44,9 +45,11 @@ is_directory_node (Some (Directory d)) = true
 -- how many of a directory's entries are directories
 abbrev pub subdirectories : FinMap nat_cmp Node → List Listed → ℕ
 subdirectories nodes [] = 0
-subdirectories nodes (e ∷ es) = (if is_directory_node (get nodes e.fileid) then 1 else 0) + subdirectories nodes es
+subdirectories nodes (e ∷ es) =
+    (if is_directory_node (get nodes e.fileid) then 1 else 0) + subdirectories nodes es
 
--- fattr3 of a node (RFC 1813 section 2.6): a file has one link, a directory two and one for each subdirectory
+-- fattr3 of a node (RFC 1813 section 2.6): a file has one link, a directory two and one for each
+-- subdirectory
 abbrev pub shown : VolumeState → ℕ → Node → Shown
 shown volume fileid (File f) = record {
   kind = Regular;
@@ -83,4 +86,5 @@ before_of s = record { size = s.size; mtime = s.mtime; ctime = s.ctime }
 
 -- a node of a volume before, and of the volume after
 abbrev pub wcc : VolumeState → ℕ → Node → VolumeState → Node → Wcc
-wcc old fileid node new changed = record { before = before_of (shown old fileid node); after = shown new fileid changed }
+wcc old fileid node new changed =
+    record { before = before_of (shown old fileid node); after = shown new fileid changed }

@@ -1,5 +1,6 @@
 -- The layout of a run, and the tree of affinities over it (our profile).
-use Rattle.std.specs.Prelude.{ℕ, Bool, true, false, ◌&&◌, ◌||◌, ◌==◌, List, [], ◌∷◌, Option, Some, None, slice_get}
+use Rattle.std.specs.Prelude.{ℕ, Bool, true, false, ◌&&◌, ◌||◌, ◌==◌, List, [], ◌∷◌, Option, Some, None}
+use Rattle.std.specs.Prelude.{slice_get}
 
 -- a volume as it is laid out at the start
 pub record VolumeLayout : Type 0 where
@@ -13,7 +14,8 @@ pub record Layout : Type 0 where
   pub spare : List ℕ  -- the spare ranges of each aggregate
   pub volumes : List VolumeLayout
 
--- the nodes of the tree: Serial above Aggregate above Volume above Logical and Vbn; Logical above its Stripes, Vbn above its Ranges
+-- the nodes of the tree: Serial above Aggregate above Volume above Logical and Vbn; Logical above
+-- its Stripes, Vbn above its Ranges
 pub data Affinity : Type 0 where
   Serial : Affinity
   Aggregate : (aggregate : ℕ) → Affinity

@@ -1,4 +1,5 @@
--- What calls ask and what replies tell, as plain data (RFC 1813 sections 2.5 and 2.6, RFC 5531 section 9). Bytes stand as lists of numbers.
+-- What calls ask and what replies tell, as plain data (RFC 1813 sections 2.5 and 2.6, RFC 5531
+-- section 9). Bytes stand as lists of numbers.
 use Rattle.std.specs.Prelude.{ℕ, Bool, List, Option}
 
 -- nfstime3 (RFC 1813 section 2.6)
@@ -34,7 +35,9 @@ pub data CreateMode : Type 0 where
   Guarded : (set : SetAttributes) → CreateMode
   Exclusive : (verifier : List ℕ) → CreateMode
 
--- One constructor for each procedure, with its arguments (RFC 1813 section 3.3). A handle is the bytes that came, good or bad; so is a name. How stable a WRITE is to be isn't kept, since every one is stable. CENSUS and GROW are of the admin program (our profile).
+-- One constructor for each procedure, with its arguments (RFC 1813 section 3.3). A handle is the
+-- bytes that came, good or bad; so is a name. How stable a WRITE is to be isn't kept, since every
+-- one is stable. CENSUS and GROW are of the admin program (our profile).
 pub data Call : Type 0 where
   Null : Call
   Getattr : (handle : List ℕ) → Call
@@ -143,7 +146,9 @@ pub record VolumeCount : Type 0 where
   pub total : ℕ
   pub used : ℕ
 
--- The results of a call that was decoded (RFC 1813 section 3.3). In an OK arm every optional part is there, but READ and WRITE give no attributes; a failure has a status and some optional parts, all absent: so many zero words (our profile).
+-- The results of a call that was decoded (RFC 1813 section 3.3). In an OK arm every optional part
+-- is there, but READ and WRITE give no attributes; a failure has a status and some optional parts,
+-- all absent: so many zero words (our profile).
 pub data Answer : Type 0 where
   NullDone : Answer
   GetattrDone : (attributes : Shown) → Answer
@@ -172,7 +177,8 @@ pub data Reply : Type 0 where
   RpcMismatch : (low high : ℕ) → Reply
   AuthError : (number : ℕ) → Reply
 
--- What a record asks: a call, or one that RPC refuses with this reply. One whose decoding found no memory shows no call (our profile).
+-- What a record asks: a call, or one that RPC refuses with this reply. One whose decoding found no
+-- memory shows no call (our profile).
 pub data Asked : Type 0 where
   Ask : (call : Call) (credential : Credential) → Asked
   Refused : (reply : Reply) → Asked

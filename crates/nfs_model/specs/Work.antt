@@ -1,5 +1,8 @@
--- What work on a call comes to (our profile): a move, a starved call, or a reply, with what calls run on before and after.
-use Rattle.std.specs.Prelude.{◌≡◌, ℕ, ◌+◌, min, Bool, false, not, ◌&&◌, ◌||◌, ◌==◌, nat_lt, IsTrue, List, length, Option, Some, None, is_some, is_none, slice_get, slice_set, if◌then◌else◌}
+-- What work on a call comes to (our profile): a move, a starved call, or a reply, with what calls
+-- run on before and after.
+use Rattle.std.specs.Prelude.{◌≡◌, ℕ, ◌+◌, min, Bool, false, not, ◌&&◌, ◌||◌, ◌==◌, nat_lt, IsTrue, List}
+use Rattle.std.specs.Prelude.{length, Option, Some, None, is_some, is_none, slice_get, slice_set}
+use Rattle.std.specs.Prelude.{if◌then◌else◌}
 use Rattle.std.specs.FinSet.{len}
 use Rattle.nfs_model.specs.Types.{Moment, Call, Write, Grow, Asked, Ask, Refused, Undecoded, Reply}
 use Rattle.nfs_model.specs.Tree.{Affinity, Serial, Aggregate, Volume, Logical, Stripe, Vbn, Range}
@@ -40,7 +43,11 @@ pub record Ready : Type 0 where
 abbrev pub ready_bytes : VolumeState → FileNode → ℕ → ℕ → Option Ready
 ready_bytes volume f offset n =
     if is_some (write_fault volume offset n) then None
-    else Some (record { need = need f offset n; extends = nat_lt (length f.bytes) (offset + n); fits = is_none (space_fault volume f offset n) })
+    else Some (record {
+      need = need f offset n;
+      extends = nat_lt (length f.bytes) (offset + n);
+      fits = is_none (space_fault volume f offset n);
+    })
 
 -- a WRITE to a file, with the count that was given and the length of the data
 abbrev pub ready_file : VolumeState → FileNode → ℕ → ℕ → ℕ → Option Ready
@@ -56,12 +63,18 @@ ready (Some l) None offset given n = None
 ready (Some l) (Some (File f)) offset given n = ready_file l.volume f offset given n
 ready (Some l) (Some (Directory d)) offset given n = None
 
--- a ready WRITE moves from a Stripe where it would extend or fill, from Logical where the stock is short, from Volume where what it may have is only in hands
+-- a WRITE to what a handle names
+abbrev pub ready_at : Option Located → ℕ → ℕ → ℕ → Option Ready
+ready_at there offset given n = ready there (node_named there) offset given n
+
+-- a ready WRITE moves from a Stripe where it would extend or fill, from Logical where the stock is
+-- short, from Volume where what it may have is only in hands
 abbrev pub move_by : Option Parts → Affinity → Ready → Option Affinity
 move_by parts (Stripe v i) r = if r.extends || nat_lt 0 r.need then Some (Logical v) else None
 move_by None affinity r = None
 move_by (Some p) (Logical v) r = if nat_lt (len p.stock) r.need then Some (Volume v) else None
-move_by (Some p) (Volume v) r = if r.fits && nat_lt (len p.stock + len p.free + len p.dead) r.need then Some (Volume v) else None
+move_by (Some p) (Volume v) r =
+    if r.fits && nat_lt (len p.stock + len p.free + len p.dead) r.need then Some (Volume v) else None
 move_by (Some p) affinity r = None
 
 -- only a ready WRITE moves
@@ -87,7 +100,8 @@ parts_at parts (Some v) = slice_get parts v
 -- where a call moves, if it moves
 abbrev pub move_of_call : Store → Affinity → Call → Option Affinity
 move_of_call store affinity (Write handle offset count written) =
-    move_if (parts_at store.parts (volume_above affinity)) affinity (ready (locate store.server handle) (node_named (locate store.server handle)) offset count (length written))
+    move_if (parts_at store.parts (volume_above affinity)) affinity
+    (ready_at (locate store.server handle) offset count (length written))
 move_of_call store affinity call = None
 
 -- where what a record asks moves
@@ -124,7 +138,8 @@ PartsAt (Some v) call affinity old new = PartsOfVolume v call affinity old new
 
 -- the parts after a reply to what a record asks
 abbrev pub PartsAfter : Asked → Affinity → Store → Store → Type 0
-PartsAfter (Ask call credential) affinity old new = PartsAt (changed_volume call affinity) call affinity old new
+PartsAfter (Ask call credential) affinity old new =
+    PartsAt (changed_volume call affinity) call affinity old new
 PartsAfter (Refused reply) affinity old new = new.parts ≡ old.parts
 PartsAfter Undecoded affinity old new = new.parts ≡ old.parts
 
@@ -134,10 +149,12 @@ PartsAfter Undecoded affinity old new = new.parts ≡ old.parts
 abbrev pub step_by : Store → Task → Step
 step_by store task = serial store.server task.asked task.moment false
 
--- The outcome of work, with what calls run on before and after it. A move changes nothing, nor does a starved call, which else would be answered; a reply is the serial server's.
+-- The outcome of work, with what calls run on before and after it. A move changes nothing, nor does
+-- a starved call, which else would be answered; a reply is the serial server's.
 abbrev pub Works : Task → Store → Outcome → Store → Type 0
 Works task old (Moved a) new = (move_of old task ≡ Some a) × (new ≡ old)
-Works task old Starved new = (move_of old task ≡ None) × IsTrue (may_starve_later old.server task.asked task.moment) × (new ≡ old)
+Works task old Starved new =
+    (move_of old task ≡ None) × IsTrue (may_starve_later old.server task.asked task.moment) × (new ≡ old)
 Works task old (Replied reply) new =
     (move_of old task ≡ None)
     × (reply ≡ (step_by old task).reply)

@@ -1,5 +1,6 @@
 -- What is seen of an engine between two events.
-use Rattle.std.specs.Prelude.{IfSome, ◌≤◌, ◌≡◌, ℕ, ◌+◌, Bool, List, [], ◌∷◌, ◌++◌, nat_le, zero, suc, length, map, Option, Some, None, slice_get}
+use Rattle.std.specs.Prelude.{IfSome, ◌≤◌, ◌≡◌, ℕ, ◌+◌, Bool, List, [], ◌∷◌, ◌++◌, nat_le, zero, suc}
+use Rattle.std.specs.Prelude.{length, map, Option, Some, None, slice_get}
 use Rattle.std.specs.List.{AllByRecursion}
 use Rattle.nfs_model.specs.Types.{Ask, Refused, Undecoded, Moment, Asked, Reply}
 use Rattle.nfs_model.specs.Tree.{Affinity, Layout}
@@ -35,7 +36,8 @@ IsDecoded Undecoded = ⊥
 pub record IsScan (codec : Codec) : Type 0 where
   pub nothing : codec.scan [] ≡ record { served = []; fault = None }
   pub further : (came : List ℕ) (b : ℕ) → (codec.scan came).fault ≡ None
-      → (more : List Heard) × ((codec.scan (came ++ b ∷ [])).served ≡ (codec.scan came).served ++ more) × (length more ≤ 1) × IfSome (codec.scan (came ++ b ∷ [])).fault (λ number. more ≡ [])
+      → (more : List Heard) × ((codec.scan (came ++ b ∷ [])).served ≡ (codec.scan came).served ++ more)
+      × (length more ≤ 1) × IfSome (codec.scan (came ++ b ∷ [])).fault (λ number. more ≡ [])
   pub decoded : (came : List ℕ) → AllByRecursion (λ h. IsDecoded h.asked) (codec.scan came).served
 
 -- what is fixed for a run
@@ -122,7 +124,8 @@ counts_if (Some volume) (Some p) in_hands = Some (counts volume p in_hands)
 
 -- how many block numbers of a volume are where
 abbrev pub counts_of : World → ℕ → Option Counts
-counts_of w volume = counts_if (slice_get w.server.volumes volume) (slice_get w.parts volume) (hands_blocks volume w.workers)
+counts_of w volume =
+    counts_if (slice_get w.server.volumes volume) (slice_get w.parts volume) (hands_blocks volume w.workers)
 
 -- ---- changes
 

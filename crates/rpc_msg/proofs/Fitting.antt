@@ -18,7 +18,7 @@ use Rattle.nfs_model.specs.Serial.Setattr.{setattr}
 use Rattle.nfs_model.specs.Serial.Getattr.{getattr}
 use Rattle.nfs_model.specs.Serial.Lookup.{looked_up, lookup_told, lookup}
 use Rattle.nfs_model.specs.Serial.Read.{read}
-use Rattle.nfs_model.specs.Serial.Write.{Writing, write_fault, space_fault, write_some, write}
+use Rattle.nfs_model.specs.Serial.Write.{Writing, bytes_kept, write_fault, space_fault, write_some, write}
 use Rattle.nfs_model.specs.Serial.Create.{create_over, create_at, create}
 use Rattle.nfs_model.specs.Serial.Mkdir.{mkdir_at, mkdir}
 use Rattle.nfs_model.specs.Serial.Remove.{gone, remove_node, remove_at, remove_name}
@@ -112,17 +112,17 @@ read_fits offset count volume fileid =
     if_fits (read_room count) volume (nat_le (length f.bytes) offset) _ _ (tells _ _ _ (read_size 0 true [] (min count most_bytes) (omega arith)))
     (tells _ _ _ (read_size _ _ _ _ (read_at_fits offset count volume f))))
 
-write_some_fits : (volume : VolumeState) (fileid : ℕ) (f : FileNode) (offset : ℕ) (written : List ℕ) (moment : model.Moment) → length volume.verifier ≡ 8
-    → Fits 28 volume (write_some volume fileid f offset written moment)
-write_some_fits volume fileid f offset written moment e =
-    unless_fits 28 volume (write_fault volume offset (length written)) _
-    (unless_fits 28 volume (space_fault volume f offset (length written)) _ (changes _ _ _ _ (write_size _ volume.verifier e) refl))
+write_some_fits : (volume : VolumeState) (fileid : ℕ) (f : FileNode) (w : Writing) → length volume.verifier ≡ 8
+    → Fits 28 volume (write_some volume fileid f w)
+write_some_fits volume fileid f w e =
+    unless_fits 28 volume (write_fault volume w.offset (length (bytes_kept w))) _
+    (unless_fits 28 volume (space_fault volume f w.offset (length (bytes_kept w))) _ (changes _ _ _ _ (write_size _ volume.verifier e) refl))
 
 write_fits : (w : Writing) (volume : VolumeState) (fileid : ℕ) → length volume.verifier ≡ 8 → Fits 28 volume (write w volume fileid)
 write_fits w volume fileid e =
     file_fits 28 volume (get volume.nodes fileid) _ (λ f.
     if_fits 28 volume (not (w.count == length w.written)) _ _ (fails _ _ _)
-    (if_fits 28 volume (w.count == 0) _ _ (tells _ _ _ (write_size 0 volume.verifier e)) (write_some_fits volume fileid f w.offset _ w.moment e)))
+    (if_fits 28 volume (w.count == 0) _ _ (tells _ _ _ (write_size 0 volume.verifier e)) (write_some_fits volume fileid f w e)))
 
 create_over_fits : (n : Naming) (mode : model.CreateMode) (fileid : ℕ) (node : Node) → Fits made_room n.volume (create_over n mode fileid node)
 create_over_fits n (model.Guarded set) fileid node = fails _ _ _

@@ -10,8 +10,8 @@ use Rattle.rpc_record.specs.Machine.{State, InHeader, InData, Next, Goes, Ends, 
 abbrev pub state : List ℕ → Place → State
 state joined p = if p.left == 0 then InHeader joined (take p.count p.header) else InData joined p.left p.last
 
--- what holds of each place
-pub record IsSound (p : Place) : Type 0 where
+-- a place that a stream can come to
+pub record IsPlace (p : Place) : Type 0 where
   pub count : p.count ≤ 3
   pub small : p.joined + p.left ≤ limit
 

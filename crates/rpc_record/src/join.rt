@@ -1,6 +1,6 @@
 ghost use Rattle.std.specs.Prelude.{◌≡◌, ◌<◌, ◌≤◌, length, take, vec_len, IfOk};
 ghost use Rattle.rpc_record.specs.Machine.{scan};
-ghost use Rattle.rpc_record.specs.Place.{state, IsSound, outcome_of};
+ghost use Rattle.rpc_record.specs.Place.{state, IsPlace, outcome_of};
 ghost use Rattle.rpc_record.specs.declared.place.Turn.TheVariants as turns;
 
 use crate::place::{Place, Turn};
@@ -13,14 +13,14 @@ pub(crate) fn join(
     place: &mut Place,
     bytes: &[u8],
 ) -> Result<(usize, Turn), AllocError>
-    requires sound { IsSound place.old }
+    requires sound { IsPlace place.old }
     requires joined { vec_len joined.old ≡ place.old.joined }
     ensures scanned { IfOk result (λ r. scan 0 (state joined.old.items place.old) bytes.now
         ≡ outcome_of r.0 r.1 joined.new.items place.new) }
     ensures within { IfOk result (λ r. r.0 ≤ length bytes.now) }
     ensures some { IfOk result (λ r. r.1 ≡ turns.Ends → 0 < r.0) }
     ensures all { IfOk result (λ r. r.1 ≡ turns.Goes → r.0 ≡ length bytes.now) }
-    ensures sound { IsSound place.new }
+    ensures sound { IsPlace place.new }
     ensures joined { IfOk result (λ _. vec_len joined.new ≡ place.new.joined) }
     ensures kept { take (vec_len joined.old) joined.new.items ≡ joined.old.items }
 {

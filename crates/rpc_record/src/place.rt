@@ -1,6 +1,6 @@
 ghost use Rattle.std.specs.Prelude.{◌≡◌, ◌+◌, ◌-◌, ◌<◌, ◌≤◌, List, ℕ, length};
 ghost use Rattle.rpc_record.specs.Machine.{scan, after, after_fragment, after_header};
-ghost use Rattle.rpc_record.specs.Place.{state, next_of, IsSound, Turns, joined_by, after_data};
+ghost use Rattle.rpc_record.specs.Place.{state, next_of, IsPlace, Turns, joined_by, after_data};
 ghost use Rattle.rpc_record.specs.Place.{walk_to};
 
 use byteorder::{BigEndian, ByteOrder};
@@ -49,11 +49,11 @@ impl Place {
 
     /// A fragment's end.
     fn end_fragment(&mut self, last: bool) -> Turn
-        requires { IsSound self.old }
+        requires { IsPlace self.old }
         ensures next { (joined : List ℕ)
             → next_of result joined self.new ≡ after_fragment joined last }
         ensures joined { self.new.joined ≡ self.old.joined }
-        ensures sound { IsSound self.new }
+        ensures sound { IsPlace self.new }
     {
         self.count = 0;
         self.left = 0;
@@ -62,11 +62,11 @@ impl Place {
 
     /// A header's end.
     fn end_header(&mut self, number: u32) -> Turn
-        requires { IsSound self.old }
+        requires { IsPlace self.old }
         ensures next { (joined : List ℕ) → length joined ≡ self.old.joined
             → next_of result joined self.new ≡ after_header joined number }
         ensures joined { self.new.joined ≡ self.old.joined }
-        ensures sound { IsSound self.new }
+        ensures sound { IsPlace self.new }
     {
         let size = (number % LAST_FRAGMENT) as usize;
         let last = LAST_FRAGMENT <= number;
@@ -84,11 +84,11 @@ impl Place {
     /// One byte of a header.
     fn take_header_byte(&mut self, byte: u8) -> Turn
         requires in_header { self.old.left ≡ 0 }
-        requires sound { IsSound self.old }
+        requires sound { IsPlace self.old }
         ensures next { (joined : List ℕ) → length joined ≡ self.old.joined
             → next_of result joined self.new ≡ after (state joined self.old) byte }
         ensures joined { self.new.joined ≡ self.old.joined }
-        ensures sound { IsSound self.new }
+        ensures sound { IsPlace self.new }
     {
         self.header[self.count] = byte;
         if self.count < 3 {
@@ -102,11 +102,11 @@ impl Place {
     /// Data of the fragment, of which this much is missing at least.
     fn take_data(&mut self, size: usize) -> Turn
         requires within { size ≤ self.old.left }
-        requires sound { IsSound self.old }
+        requires sound { IsPlace self.old }
         ensures next { (joined : List ℕ) → next_of result joined self.new
             ≡ after_data joined (self.old.left - size) self.old.last }
         ensures joined { self.new.joined ≡ self.old.joined + size }
-        ensures sound { IsSound self.new }
+        ensures sound { IsPlace self.new }
     {
         self.left -= size;
         self.joined += size;
@@ -120,12 +120,12 @@ impl Place {
     /// One byte of a header, or as much of a fragment's data as is there.
     pub(crate) fn take(&mut self, bytes: &[u8]) -> (usize, Turn)
         requires some { 0 < length bytes.now }
-        requires sound { IsSound self.old }
+        requires sound { IsPlace self.old }
         ensures some { 0 < result.0 }
         ensures within { result.0 ≤ length bytes.now }
         ensures turns { Turns self.old bytes.now result.0 result.1 self.new }
         ensures joined { self.new.joined ≡ joined_by self.old bytes.now }
-        ensures sound { IsSound self.new }
+        ensures sound { IsPlace self.new }
     {
         if self.left == 0 {
             return (1, self.take_header_byte(bytes[0]));
@@ -136,7 +136,7 @@ impl Place {
 
     /// How many bytes go up to the end of a record or a fault, and which of these stands there.
     pub(crate) fn walk(mut self, bytes: &[u8]) -> (usize, Turn)
-        requires { IsSound self }
+        requires { IsPlace self }
         ensures { (joined : List ℕ) → length joined ≡ self.joined
             → result ≡ walk_to bytes.now (scan 0 (state joined self) bytes.now) }
     {

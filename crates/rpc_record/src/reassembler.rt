@@ -52,11 +52,11 @@ impl Model for Reassembler {
 
     ghost Value = { Option State };
 
-    ghost use Rattle.rpc_record.specs.Place.{state, IsSound};
+    ghost use Rattle.rpc_record.specs.Place.{state, IsPlace};
 
     ghost view = { λ r. if r.failed then None else Some (state r.joined.items r.place) };
 
-    ghost invariant = { λ r. IsSound r.place × (vec_len r.joined ≡ r.place.joined) };
+    ghost invariant = { λ r. IsPlace r.place × (vec_len r.joined ≡ r.place.joined) };
 }
 
 impl Reassembler {

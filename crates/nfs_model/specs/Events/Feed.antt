@@ -1,5 +1,7 @@
--- What a feed of bytes takes, which records it completes, and where it stops (RFC 5531 section 11 for records).
-use Rattle.std.specs.Prelude.{◌≡◌, ◌<◌, ◌≤◌, ℕ, ◌+◌, Bool, true, false, not, ◌&&◌, ◌==◌, IsTrue, ◌⊎◌, List, [], ◌∷◌, ◌++◌, length, take, drop, Option, Some, None, is_some, slice_get}
+-- What a feed of bytes takes, which records it completes, and where it stops (RFC 5531 section 11
+-- for records).
+use Rattle.std.specs.Prelude.{◌≡◌, ◌<◌, ◌≤◌, ℕ, ◌+◌, Bool, true, false, not, ◌&&◌, ◌==◌, IsTrue, ◌⊎◌, List}
+use Rattle.std.specs.Prelude.{[], ◌∷◌, ◌++◌, length, take, drop, Option, Some, None, is_some, slice_get}
 use Rattle.nfs_model.specs.Types.{Asked, Undecoded, SystemError}
 use Rattle.nfs_model.specs.Tree.{Affinity}
 use Rattle.nfs_model.specs.Server.{start_of_times}
@@ -36,16 +38,39 @@ bytes_taken w c bytes = record w { connections = changed_at (with_bytes bytes) w
 
 -- a record that is answered at once, as it is finished
 abbrev pub call_at_once : ℕ → ℕ → Heard → FinishedCall
-call_at_once c number h = record { connection = c; number = number; xid = h.xid; asked = h.asked; affinity = None; moment = start_of_times; starved = false }
+call_at_once c number h =
+    record {
+      connection = c;
+      number = number;
+      xid = h.xid;
+      asked = h.asked;
+      affinity = None;
+      moment = start_of_times;
+      starved = false;
+    }
 
 -- a record whose decoding was starved, as it is finished
 abbrev pub call_undecoded : ℕ → ℕ → Heard → FinishedCall
-call_undecoded c number h = record { connection = c; number = number; xid = h.xid; asked = Undecoded; affinity = None; moment = start_of_times; starved = true }
+call_undecoded c number h =
+    record {
+      connection = c;
+      number = number;
+      xid = h.xid;
+      asked = Undecoded;
+      affinity = None;
+      moment = start_of_times;
+      starved = true;
+    }
 
 -- a record without an affinity is answered at once; another waits under its home
 abbrev pub admit : Setup → World → ℕ → ℕ → Heard → Option Affinity → World
-admit setup w c number h None = finish setup w (call_at_once c number h) (serial w.server h.asked start_of_times false).reply
-admit setup w c number h (Some a) = record w { waiting = w.waiting ++ (record { connection = c; number = number; xid = h.xid; asked = h.asked; affinity = a }) ∷ [] }
+admit setup w c number h None =
+    finish setup w (call_at_once c number h) (serial w.server h.asked start_of_times false).reply
+admit setup w c number h (Some a) =
+    record w {
+      waiting = w.waiting
+          ++ (record { connection = c; number = number; xid = h.xid; asked = h.asked; affinity = a }) ∷ [];
+    }
 
 -- a record complete, with whether its decoding was starved
 abbrev pub heard_in : Setup → World → ℕ → ℕ → Heard → Bool → World
@@ -57,12 +82,14 @@ abbrev pub MayStarveIf : Bool → Asked → Type 0
 MayStarveIf true asked = IsTrue (may_starve_at_decoding asked)
 MayStarveIf false asked = Unit {0}
 
--- records complete in order, the first of this number; each finds a place among those that wait or run
+-- records complete in order, the first of this number; each finds a place among those that wait or
+-- run
 abbrev pub Hears : Setup → ℕ → World → ℕ → List Heard → World → Type 0
 Hears setup c w number [] new = new ≡ w
 Hears setup c w number (h ∷ more) new =
     (is_crowded w ≡ false)
-    × ((starved : Bool) × MayStarveIf starved h.asked × Hears setup c (heard_in setup w c number h starved) (number + 1) more new)
+    × ((starved : Bool) × MayStarveIf starved h.asked
+    × Hears setup c (heard_in setup w c number h starved) (number + 1) more new)
 
 -- ---- where taking stops
 
@@ -82,35 +109,42 @@ completes before after = completes_at after.fault (slice_get after.served (lengt
 -- whether the next byte would complete a record
 abbrev pub completes_next : Setup → List ℕ → List ℕ → Bool
 completes_next setup stream [] = false
-completes_next setup stream (b ∷ rest) = completes (setup.codec.scan stream) (setup.codec.scan (stream ++ b ∷ []))
+completes_next setup stream (b ∷ rest) =
+    completes (setup.codec.scan stream) (setup.codec.scan (stream ++ b ∷ []))
 
 -- no place is left, and the next byte would need one: this is looked at before memory
 abbrev pub is_full_at : Setup → World → List ℕ → List ℕ → Bool
 is_full_at setup w stream rest = is_crowded w && completes_next setup stream rest
 
--- Where taking stops without a fault, with these bytes left: all are taken (0), no place is left for the next record (31), or memory ran out (90).
+-- Where taking stops without a fault, with these bytes left: all are taken (0), no place is left
+-- for the next record (31), or memory ran out (90).
 abbrev pub StopsSound : Setup → World → List ℕ → List ℕ → ℕ → Type 0
 StopsSound setup w stream rest stop =
     ((stop ≡ 0) × (rest ≡ []))
     ⊎ (((stop ≡ 31) × IsTrue (is_full_at setup w stream rest))
     ⊎ ((stop ≡ 90) × (rest ≡ [] → ⊥) × (is_full_at setup w stream rest ≡ false)))
 
--- Where taking stops, by the fault that the bytes taken reach, if any: at the fault, which needs a place where it is of a complete record.
+-- Where taking stops, by the fault that the bytes taken reach, if any: at the fault, which needs a
+-- place where it is of a complete record.
 abbrev pub StopsAt : Setup → World → List ℕ → List ℕ → ℕ → Option ℕ → Type 0
 StopsAt setup w stream rest stop None = StopsSound setup w stream rest stop
-StopsAt setup w stream rest stop (Some number) = (stop ≡ number) × ((is_crowded w && is_of_record number) ≡ false)
+StopsAt setup w stream rest stop (Some number) =
+    (stop ≡ number) × ((is_crowded w && is_of_record number) ≡ false)
 
 -- ---- a feed
 
 -- A feed of bytes on a connection: so many are taken, and taking stops with a number.
-pub record Feeds (setup : Setup) (c : ℕ) (w : World) (bytes : List ℕ) (taken stop : ℕ) (new : World) : Type 0 where
+pub record Feeds (setup : Setup) (c : ℕ) (w : World) (bytes : List ℕ) (taken stop : ℕ)
+    (new : World) : Type 0 where
   pub within : taken ≤ length bytes
   -- they go at most to the end of what reaches a fault
   pub sound : (n : ℕ) → n < taken → (setup.codec.scan (stream_of w c ++ take n bytes)).fault ≡ None
   -- the records that they complete
   pub heard : List Heard
-  pub complete : (setup.codec.scan (stream_of w c ++ take taken bytes)).served ≡ (setup.codec.scan (stream_of w c)).served ++ heard
+  pub complete : (setup.codec.scan (stream_of w c ++ take taken bytes)).served
+      ≡ (setup.codec.scan (stream_of w c)).served ++ heard
   -- the bytes are appended, and the records are answered or wait, in order
   pub hears : Hears setup c (bytes_taken w c (take taken bytes)) (served_count setup w c) heard new
   -- why it stops there
-  pub stops : StopsAt setup new (stream_of w c ++ take taken bytes) (drop taken bytes) stop (setup.codec.scan (stream_of w c ++ take taken bytes)).fault
+  pub stops : StopsAt setup new (stream_of w c ++ take taken bytes) (drop taken bytes) stop
+      (setup.codec.scan (stream_of w c ++ take taken bytes)).fault

@@ -1,5 +1,6 @@
 -- The events, what they answer, and the number of a refusal: the first that applies (our profile).
-use Rattle.std.specs.Prelude.{ℕ, ◌+◌, ◌/◌, ◌^◌, Bool, true, false, not, ◌&&◌, ◌||◌, nat_lt, nat_le, List, [], ◌∷◌, Option, Some, None, is_some, is_none, slice_get, if◌then◌else◌}
+use Rattle.std.specs.Prelude.{ℕ, ◌+◌, ◌/◌, ◌^◌, Bool, true, false, not, ◌&&◌, ◌||◌, nat_lt, nat_le, List}
+use Rattle.std.specs.Prelude.{[], ◌∷◌, Option, Some, None, is_some, is_none, slice_get, if◌then◌else◌}
 use Rattle.std.specs.List.{list_any}
 use Rattle.nfs_model.specs.Types.{Moment}
 use Rattle.nfs_model.specs.Tree.{Affinity, Logical, Vbn, Range, excludes}
@@ -133,13 +134,16 @@ abbrev pub hand_of : Option Worker → Hand
 hand_of None = Empty
 hand_of (Some k) = k.hand
 
--- The number of a refusal, want of memory aside: 31 at the most connections, 36 for a connection that takes no more, 33 for a worker that isn't there or isn't idle.
+-- The number of a refusal, want of memory aside: 31 at the most connections, 36 for a connection
+-- that takes no more, 33 for a worker that isn't there or isn't idle.
 abbrev pub refusal : Setup → World → Event → Option ℕ
 refusal setup w Open = if nat_le setup.connections (open_count w.connections) then Some 31 else None
-refusal setup w (Feed connection bytes) = if takes_input setup (slice_get w.connections connection) then None else Some 36
+refusal setup w (Feed connection bytes) =
+    if takes_input setup (slice_get w.connections connection) then None else Some 36
 refusal setup w (Close connection) = if is_open (slice_get w.connections connection) then None else Some 36
 refusal setup w (Begin worker place moment) =
-    if is_idle (slice_get w.workers worker) then begin_refusal setup w moment (slice_get w.waiting place) else Some 33
+    if is_idle (slice_get w.workers worker)
+    then begin_refusal setup w moment (slice_get w.waiting place) else Some 33
 refusal setup w (Work worker) = work_refusal (running_of (slice_get w.workers worker))
 refusal setup w (Finish worker) = finish_refusal (running_of (slice_get w.workers worker))
 refusal setup w (Fetch worker volume range) =
@@ -147,12 +151,15 @@ refusal setup w (Fetch worker volume range) =
     then fetch_refusal setup w volume range (slice_get w.server.volumes volume) else Some 33
 refusal setup w (Cull worker volume) =
     if is_idle (slice_get w.workers worker) && has_empty_hand (slice_get w.workers worker)
-    then (if is_some (slice_get w.server.volumes volume) then excluded setup w (Logical volume) else Some 41) else Some 33
+    then (if is_some (slice_get w.server.volumes volume) then excluded setup w (Logical volume) else Some 41)
+    else Some 33
 refusal setup w (PutDown worker) =
-    if is_idle (slice_get w.workers worker) then put_refusal setup w (hand_of (slice_get w.workers worker)) else Some 33
+    if is_idle (slice_get w.workers worker)
+    then put_refusal setup w (hand_of (slice_get w.workers worker)) else Some 33
 refusal setup w (Survey worker volume) =
     if is_idle (slice_get w.workers worker) && has_empty_hand (slice_get w.workers worker)
-    then (if is_some (slice_get w.server.volumes volume) then excluded setup w (Vbn volume) else Some 41) else Some 33
+    then (if is_some (slice_get w.server.volumes volume) then excluded setup w (Vbn volume) else Some 41)
+    else Some 33
 
 -- a batch for the stock
 abbrev pub is_fresh : Hand → Bool
@@ -160,7 +167,8 @@ is_fresh Empty = false
 is_fresh (Fresh volume blocks) = true
 is_fresh (Dead volume blocks) = false
 
--- The events that may lack memory; a Feed tells it by its stop. The stock grows, and the marks of the bitmaps are there from the start.
+-- The events that may lack memory; a Feed tells it by its stop. The stock grows, and the marks of
+-- the bitmaps are there from the start.
 abbrev pub may_lack_memory : World → Event → Bool
 may_lack_memory w Open = true
 may_lack_memory w (PutDown worker) = is_fresh (hand_of (slice_get w.workers worker))

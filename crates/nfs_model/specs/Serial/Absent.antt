@@ -1,6 +1,8 @@
--- How many optional parts a failure of a procedure has in its results, all absent: so many zero words (our profile; RFC 1813 section 3.3 has the results).
+-- How many optional parts a failure of a procedure has in its results, all absent: so many zero
+-- words (our profile; RFC 1813 section 3.3 has the results).
 use Rattle.std.specs.Prelude.{ℕ}
-use Rattle.nfs_model.specs.Types.{Call, Null, Getattr, Setattr, Lookup, Read, Write, Create, Mkdir, Remove, Rmdir, Rename, Readdir, Fsstat, Commit, Census, Grow}
+use Rattle.nfs_model.specs.Types.{Call, Null, Getattr, Setattr, Lookup, Read, Write, Create, Mkdir, Remove}
+use Rattle.nfs_model.specs.Types.{Rmdir, Rename, Readdir, Fsstat, Commit, Census, Grow}
 
 -- attributes are one, attributes before and after are two
 abbrev pub absent_parts : Call → ℕ

@@ -1,6 +1,7 @@
 -- What a call without a home affinity is answered: no state is read (our profile).
 use Rattle.std.specs.Prelude.{ℕ, [], Option, Some, None}
-use Rattle.nfs_model.specs.Types.{Call, Null, Rename, Census, Grow, Answer, NullDone, CensusDone, Failed, BadHandle, CrossVolume, NoEntry}
+use Rattle.nfs_model.specs.Types.{Call, Null, Rename, Census, Grow, Answer, NullDone, CensusDone, Failed}
+use Rattle.nfs_model.specs.Types.{BadHandle, CrossVolume, NoEntry}
 use Rattle.nfs_model.specs.Tree.{Layout}
 use Rattle.nfs_model.specs.Server.{Named}
 use Rattle.nfs_model.specs.Home.{named_by}
@@ -12,10 +13,13 @@ answer_of_two absent None to = Failed BadHandle absent
 answer_of_two absent (Some from) None = Failed BadHandle absent
 answer_of_two absent (Some from) (Some to) = Failed CrossVolume absent
 
--- NULL; XDEV for RENAME over two volumes; NOENT for GROW of an unknown volume; else BADHANDLE. CENSUS always has a home.
+-- NULL; XDEV for RENAME over two volumes; NOENT for GROW of an unknown volume; else BADHANDLE.
+-- CENSUS always has a home.
 abbrev pub answer_without_home : Layout → Call → Answer
 answer_without_home layout Null = NullDone
-answer_without_home layout (Rename from from_name to to_name) = answer_of_two (absent_parts (Rename from from_name to to_name)) (named_by layout from) (named_by layout to)
+answer_without_home layout (Rename from from_name to to_name) =
+    answer_of_two (absent_parts (Rename from from_name to to_name)) (named_by layout from)
+    (named_by layout to)
 answer_without_home layout (Grow volume ranges) = Failed NoEntry 0
 answer_without_home layout Census = CensusDone []
 answer_without_home layout call = Failed BadHandle (absent_parts call)

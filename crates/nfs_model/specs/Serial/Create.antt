@@ -2,12 +2,14 @@
 use Rattle.std.specs.Prelude.{ℕ, ◌+◌, nat_le, Bool, false, List, replicate, Option, Some, None, if◌then◌else◌}
 use Rattle.std.specs.FinMap.{insert, len}
 use Rattle.std.specs.FinSet as sets
-use Rattle.nfs_model.specs.Types.{Moment, Credential, SetAttributes, Keep, CreateMode, Unchecked, Guarded, Exclusive, Answer, MadeDone, Status, Exists, Invalid, TooBig, NoSpace}
+use Rattle.nfs_model.specs.Types.{Moment, Credential, SetAttributes, Keep, CreateMode, Unchecked, Guarded}
+use Rattle.nfs_model.specs.Types.{Exclusive, Answer, MadeDone, Status, Exists, Invalid, TooBig, NoSpace}
 use Rattle.nfs_model.specs.Server.{Attributes, Node, File, Directory, VolumeState, handle_bytes, most_inodes}
 use Rattle.nfs_model.specs.Shown.{shown, wcc}
 use Rattle.nfs_model.specs.Names.{same_name, is_dots, with_name}
 use Rattle.nfs_model.specs.Locate.{Effect, Fails, Tells, Changes, unless, Found, Naming, named_child}
-use Rattle.nfs_model.specs.Serial.Setattr.{has_bad_time, is_past, given, given_mode, time_after, set_file, setattr_fault, with_node}
+use Rattle.nfs_model.specs.Serial.Setattr.{has_bad_time, is_past, given, given_mode, time_after, set_file}
+use Rattle.nfs_model.specs.Serial.Setattr.{setattr_fault, with_node}
 
 -- ---- what CREATE and MKDIR share
 
@@ -44,11 +46,15 @@ with_child n node = record n.volume {
 -- the handle and the attributes of a node in a volume, with its directory before and after
 abbrev pub made_told : Naming → VolumeState → Found → Node → Answer
 made_told n new found directory =
-    MadeDone (handle_bytes new.number found.fileid) (shown new found.fileid found.node) (wcc n.volume n.fileid (Directory n.directory) new directory)
+    MadeDone (handle_bytes new.number found.fileid) (shown new found.fileid found.node)
+    (wcc n.volume n.fileid (Directory n.directory) new directory)
 
 -- a node made
 abbrev pub made : Naming → Node → Effect
-made n node = Changes (made_told n (with_child n node) (record { fileid = n.volume.next; node = node }) (directory_made n)) (with_child n node)
+made n node =
+    Changes
+    (made_told n (with_child n node) (record { fileid = n.volume.next; node = node }) (directory_made n))
+    (with_child n node)
 
 -- ---- the name is there
 
@@ -58,19 +64,23 @@ there_told n new found = made_told (record n { volume = new }) new found (Direct
 
 -- a file that is there, set as SETATTR does without a guard
 abbrev pub set_there : Naming → ℕ → Node → Effect
-set_there n fileid node = Changes (there_told n (with_node n.volume fileid node) (record { fileid = fileid; node = node })) (with_node n.volume fileid node)
+set_there n fileid node =
+    Changes (there_told n (with_node n.volume fileid node) (record { fileid = fileid; node = node }))
+    (with_node n.volume fileid node)
 
 -- whether a file was made with this verifier
 abbrev pub is_verifier : Option (List ℕ) → List ℕ → Bool
 is_verifier None verifier = false
 is_verifier (Some v) verifier = same_name v verifier
 
--- the name is there: GUARDED is EXIST; EXCLUSIVE answers a file of the same verifier; UNCHECKED sets a file
+-- the name is there: GUARDED is EXIST; EXCLUSIVE answers a file of the same verifier; UNCHECKED
+-- sets a file
 abbrev pub create_over : Naming → CreateMode → ℕ → Node → Effect
 create_over n (Guarded set) fileid node = Fails Exists
 create_over n mode fileid (Directory other) = Fails Exists
 create_over n (Exclusive verifier) fileid (File f) =
-    if is_verifier f.verifier verifier then Tells (there_told n n.volume (record { fileid = fileid; node = File f })) else Fails Exists
+    if is_verifier f.verifier verifier
+    then Tells (there_told n n.volume (record { fileid = fileid; node = File f })) else Fails Exists
 create_over n (Unchecked set) fileid (File f) =
     unless (setattr_fault n.volume set None (File f)) (set_there n fileid (File (set_file set n.moment f)))
 
@@ -111,8 +121,10 @@ new_file mode credential moment = File (record {
 -- by whether the name is there
 abbrev pub create_at : Naming → CreateMode → Credential → Option Found → Effect
 create_at n mode credential (Some found) = create_over n mode found.fileid found.node
-create_at n mode credential None = unless (create_fault n.volume (asked_attributes mode)) (made n (new_file mode credential n.moment))
+create_at n mode credential None =
+    unless (create_fault n.volume (asked_attributes mode)) (made n (new_file mode credential n.moment))
 
 -- on a good name: EXIST for `.` and `..`
 abbrev pub create : CreateMode → Credential → Naming → Effect
-create mode credential n = if is_dots n.name then Fails Exists else create_at n mode credential (named_child n)
+create mode credential n =
+    if is_dots n.name then Fails Exists else create_at n mode credential (named_child n)

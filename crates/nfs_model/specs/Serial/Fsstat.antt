@@ -17,4 +17,5 @@ space volume = record {
 
 -- the attributes and the space, or STALE
 abbrev pub fsstat : VolumeState → ℕ → Effect
-fsstat volume fileid = on_node (get volume.nodes fileid) (λ node. Tells (FsstatDone (shown volume fileid node) (space volume)))
+fsstat volume fileid =
+    on_node (get volume.nodes fileid) (λ node. Tells (FsstatDone (shown volume fileid node) (space volume)))

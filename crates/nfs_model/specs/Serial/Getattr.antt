@@ -8,4 +8,5 @@ use Rattle.nfs_model.specs.Locate.{Effect, Tells, on_node}
 
 -- the attributes, or STALE
 abbrev pub getattr : VolumeState → ℕ → Effect
-getattr volume fileid = on_node (get volume.nodes fileid) (λ node. Tells (GetattrDone (shown volume fileid node)))
+getattr volume fileid =
+    on_node (get volume.nodes fileid) (λ node. Tells (GetattrDone (shown volume fileid node)))

@@ -1,5 +1,6 @@
 -- GROW, of the admin program (our profile): spare ranges of an aggregate come into use in a volume.
-use Rattle.std.specs.Prelude.{ℕ, ◌+◌, ◌-◌, ◌*◌, ◌==◌, nat_lt, Option, Some, None, slice_get, slice_set, slice_index_or, if◌then◌else◌}
+use Rattle.std.specs.Prelude.{ℕ, ◌+◌, ◌-◌, ◌*◌, ◌==◌, nat_lt, Option, Some, None, slice_get, slice_set}
+use Rattle.std.specs.Prelude.{slice_index_or, if◌then◌else◌}
 use Rattle.nfs_model.specs.Types.{Answer, GrowDone, Failed, NoEntry, Invalid, TooBig, NoSpace}
 use Rattle.nfs_model.specs.Server.{VolumeState, Server}
 
@@ -20,8 +21,10 @@ abbrev pub grow_volume : Server → ℕ → Option VolumeState → ℕ → Grown
 grow_volume server index None ranges = record { answer = Failed NoEntry 0; server = server }
 grow_volume server index (Some volume) ranges =
     if ranges == 0 then record { answer = Failed Invalid 0; server = server }
-    else if nat_lt 16384 (volume.total + 1024 * ranges) then record { answer = Failed TooBig 0; server = server }
-    else if nat_lt (slice_index_or server.spare volume.aggregate 0) ranges then record { answer = Failed NoSpace 0; server = server }
+    else if nat_lt 16384 (volume.total + 1024 * ranges)
+    then record { answer = Failed TooBig 0; server = server }
+    else if nat_lt (slice_index_or server.spare volume.aggregate 0) ranges
+    then record { answer = Failed NoSpace 0; server = server }
     else record { answer = GrowDone (volume.total + 1024 * ranges); server = grown server index volume ranges }
 
 -- a volume by its number

@@ -18,7 +18,8 @@ looked_up n =
 abbrev pub lookup_told : Naming → Option Found → Effect
 lookup_told n None = Fails NoEntry
 lookup_told n (Some found) =
-    Tells (LookupDone (handle_bytes n.volume.number found.fileid) (shown n.volume found.fileid found.node) (shown n.volume n.fileid (Directory n.directory)))
+    Tells (LookupDone (handle_bytes n.volume.number found.fileid) (shown n.volume found.fileid found.node)
+    (shown n.volume n.fileid (Directory n.directory)))
 
 -- what it comes to on a good name
 abbrev pub lookup : Naming → Effect

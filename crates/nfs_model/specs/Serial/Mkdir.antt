@@ -17,12 +17,19 @@ mkdir_fault volume set =
 
 -- the directory to be made: mode 0755 (octal) if none is given
 abbrev pub new_directory : ℕ → SetAttributes → Credential → Moment → Node
-new_directory parent set credential moment = Directory (record { attributes = new_attributes set 493 credential moment; parent = parent; next = 3; list = [] })
+new_directory parent set credential moment =
+    Directory (record {
+      attributes = new_attributes set 493 credential moment;
+      parent = parent;
+      next = 3;
+      list = [];
+    })
 
 -- by whether the name is there
 abbrev pub mkdir_at : Naming → SetAttributes → Credential → Option Found → Effect
 mkdir_at n set credential (Some found) = Fails Exists
-mkdir_at n set credential None = unless (mkdir_fault n.volume set) (made n (new_directory n.fileid set credential n.moment))
+mkdir_at n set credential None =
+    unless (mkdir_fault n.volume set) (made n (new_directory n.fileid set credential n.moment))
 
 -- on a good name: EXIST for `.` and `..`
 abbrev pub mkdir : SetAttributes → Credential → Naming → Effect

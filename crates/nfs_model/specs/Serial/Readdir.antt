@@ -1,5 +1,6 @@
 -- READDIR (RFC 1813 section 3.3.16).
-use Rattle.std.specs.Prelude.{ℕ, ◌+◌, ◌-◌, ◌*◌, ◌/◌, min, not, ◌&&◌, ◌==◌, nat_lt, nat_le, List, [], ◌∷◌, length, replicate, if◌then◌else◌}
+use Rattle.std.specs.Prelude.{ℕ, ◌+◌, ◌-◌, ◌*◌, ◌/◌, min, not, ◌&&◌, ◌==◌, nat_lt, nat_le, List, [], ◌∷◌}
+use Rattle.std.specs.Prelude.{length, replicate, if◌then◌else◌}
 use Rattle.std.specs.List.{filter}
 use Rattle.std.specs.FinMap.{get}
 use Rattle.nfs_model.specs.Types.{Listed, Shown, ReaddirDone, BadCookie, TooSmall}
@@ -10,7 +11,9 @@ use Rattle.nfs_model.specs.Locate.{Effect, Fails, Tells, on_directory}
 
 -- all entries of a directory: `.` has cookie 1, `..` has cookie 2
 abbrev pub all_listed : ℕ → DirectoryNode → List Listed
-all_listed fileid d = record { cookie = 1; name = dot; fileid = fileid } ∷ (record { cookie = 2; name = dot_dot; fileid = d.parent } ∷ d.list)
+all_listed fileid d =
+    record { cookie = 1; name = dot; fileid = fileid } ∷
+    (record { cookie = 2; name = dot_dot; fileid = d.parent } ∷ d.list)
 
 -- the entries after a cookie
 abbrev pub above_cookie : ℕ → List Listed → List Listed
@@ -43,4 +46,5 @@ readdir_from count directory remaining = paged count directory remaining (fittin
 abbrev pub readdir : ℕ → List ℕ → ℕ → VolumeState → ℕ → Effect
 readdir cookie verifier count volume fileid = on_directory (get volume.nodes fileid) (λ d.
     if not (cookie == 0) && not (same_name verifier (replicate 8 0)) then Fails BadCookie
-    else readdir_from (min count most_bytes) (shown volume fileid (Directory d)) (above_cookie cookie (all_listed fileid d)))
+    else readdir_from (min count most_bytes) (shown volume fileid (Directory d))
+    (above_cookie cookie (all_listed fileid d)))

@@ -13,11 +13,15 @@ directory_left n = Directory (dropped_name n.directory n.name n.moment)
 
 -- the volume without the name and its node
 abbrev pub without_child : Naming → ℕ → VolumeState
-without_child n fileid = record n.volume { nodes = insert (remove n.volume.nodes fileid) n.fileid (directory_left n) }
+without_child n fileid =
+    record n.volume { nodes = insert (remove n.volume.nodes fileid) n.fileid (directory_left n) }
 
 -- a name gone
 abbrev pub gone : Naming → ℕ → Effect
-gone n fileid = Changes (GoneDone (wcc n.volume n.fileid (Directory n.directory) (without_child n fileid) (directory_left n))) (without_child n fileid)
+gone n fileid =
+    Changes
+    (GoneDone (wcc n.volume n.fileid (Directory n.directory) (without_child n fileid) (directory_left n)))
+    (without_child n fileid)
 
 -- a directory is ISDIR
 abbrev pub remove_node : Naming → ℕ → Node → Effect

@@ -1,12 +1,14 @@
 -- RENAME (RFC 1813 section 3.3.14), inside one volume.
-use Rattle.std.specs.Prelude.{ℕ, zero, suc, Bool, true, false, not, ◌&&◌, ◌||◌, ◌==◌, List, [], ◌∷◌, Option, Some, None, if◌then◌else◌}
+use Rattle.std.specs.Prelude.{ℕ, zero, suc, Bool, true, false, not, ◌&&◌, ◌||◌, ◌==◌, List, [], ◌∷◌, Option}
+use Rattle.std.specs.Prelude.{Some, None, if◌then◌else◌}
 use Rattle.std.specs.Ordering.{nat_cmp}
 use Rattle.std.specs.FinMap.{FinMap, get, insert, remove, len}
 use Rattle.nfs_model.specs.Types.{Moment, Listed, RenameDone, NoEntry, Invalid, Exists, Wcc}
 use Rattle.nfs_model.specs.Server.{DirectoryNode, Node, File, Directory, VolumeState}
 use Rattle.nfs_model.specs.Shown.{settled, wcc}
 use Rattle.nfs_model.specs.Names.{same_name, is_dots, name_fault, dropped_name, with_name}
-use Rattle.nfs_model.specs.Locate.{Effect, Fails, Tells, Changes, unless, on_directory, Found, Naming, named_child}
+use Rattle.nfs_model.specs.Locate.{Effect, Fails, Tells, Changes, unless, on_directory, Found, Naming}
+use Rattle.nfs_model.specs.Locate.{named_child}
 
 -- two names of a volume's directories, which may be one directory; both have the call's moment
 pub record Renaming : Type 0 where
@@ -26,15 +28,19 @@ abbrev pub on_parent : Option ℕ → (ℕ → Bool) → Bool
 on_parent None test = false
 on_parent (Some parent) test = test parent
 
--- Whether at most so many steps from a directory to its parent lead to a target. As many as there are nodes are enough, since parents lead to the root, and the root ends the way.
+-- Whether at most so many steps from a directory to its parent lead to a target. As many as there
+-- are nodes are enough, since parents lead to the root, and the root ends the way.
 abbrev pub climbs_to : ℕ → VolumeState → ℕ → ℕ → Bool
 climbs_to zero volume target fileid = fileid == target
-climbs_to (suc n) volume target fileid = (fileid == target) || on_parent (parent_above fileid (get volume.nodes fileid)) (climbs_to n volume target)
+climbs_to (suc n) volume target fileid =
+    (fileid == target) || on_parent (parent_above fileid (get volume.nodes fileid))
+    (climbs_to n volume target)
 
 -- a directory would come into itself or below itself
 abbrev pub goes_below_itself : Renaming → ℕ → Node → Bool
 goes_below_itself r fileid (File f) = false
-goes_below_itself r fileid (Directory d) = climbs_to (len r.from.volume.nodes) r.from.volume fileid r.to.fileid
+goes_below_itself r fileid (Directory d) =
+    climbs_to (len r.from.volume.nodes) r.from.volume fileid r.to.fileid
 
 -- ---- the target
 
@@ -72,11 +78,13 @@ in_directory change (Directory d) = Directory (change d)
 
 -- the entry of a name leaves its directory
 abbrev pub without_entry : Naming → Nodes → Nodes
-without_entry n nodes = changed_node (in_directory (λ d. dropped_name d n.name n.moment)) n.fileid (get nodes n.fileid) nodes
+without_entry n nodes =
+    changed_node (in_directory (λ d. dropped_name d n.name n.moment)) n.fileid (get nodes n.fileid) nodes
 
 -- an entry for a node comes into the directory of a name
 abbrev pub with_entry : Naming → ℕ → Nodes → Nodes
-with_entry n child nodes = changed_node (in_directory (λ d. with_name d n.name child n.moment)) n.fileid (get nodes n.fileid) nodes
+with_entry n child nodes =
+    changed_node (in_directory (λ d. with_name d n.name child n.moment)) n.fileid (get nodes n.fileid) nodes
 
 -- the target goes, with its entry
 abbrev pub without_target : Naming → Option Found → Nodes → Nodes
@@ -85,8 +93,10 @@ without_target to (Some target) nodes = without_entry to (remove nodes target.fi
 
 -- a file settles, a directory gets its new parent; ctime is set
 abbrev pub moved_node : ℕ → Moment → Node → Node
-moved_node parent moment (File f) = File (record (settled f) { attributes = record (settled f).attributes { ctime = moment } })
-moved_node parent moment (Directory d) = Directory (record d { parent = parent; attributes = record d.attributes { ctime = moment } })
+moved_node parent moment (File f) =
+    File (record (settled f) { attributes = record (settled f).attributes { ctime = moment } })
+moved_node parent moment (Directory d) =
+    Directory (record d { parent = parent; attributes = record d.attributes { ctime = moment } })
 
 -- the node that moves is below the directory of to
 abbrev pub with_moved : Naming → ℕ → Nodes → Nodes
@@ -94,11 +104,13 @@ with_moved to child nodes = changed_node (moved_node to.fileid to.moment) child 
 
 -- the target goes, the entry of from goes, that of to comes, the node moves
 abbrev pub renamed_nodes : Renaming → ℕ → Option Found → Nodes → Nodes
-renamed_nodes r child target nodes = with_moved r.to child (with_entry r.to child (without_entry r.from (without_target r.to target nodes)))
+renamed_nodes r child target nodes =
+    with_moved r.to child (with_entry r.to child (without_entry r.from (without_target r.to target nodes)))
 
 -- the volume after the call
 abbrev pub renamed_volume : Renaming → ℕ → Option Found → VolumeState
-renamed_volume r child target = record r.from.volume { nodes = renamed_nodes r child target r.from.volume.nodes }
+renamed_volume r child target =
+    record r.from.volume { nodes = renamed_nodes r child target r.from.volume.nodes }
 
 -- ---- the answer
 
@@ -109,7 +121,9 @@ node_or (Some node) before = node
 
 -- the directory of a name, before the call and in the volume after it
 abbrev pub directory_change : Naming → VolumeState → Wcc
-directory_change n new = wcc n.volume n.fileid (Directory n.directory) new (node_or (get new.nodes n.fileid) (Directory n.directory))
+directory_change n new =
+    wcc n.volume n.fileid (Directory n.directory) new
+    (node_or (get new.nodes n.fileid) (Directory n.directory))
 
 -- both directories, where the volume is so after the call
 abbrev pub rename_told : Renaming → VolumeState → Effect
@@ -144,7 +158,8 @@ rename_in r =
 
 -- STALE and NOTDIR of from's directory, then of to's
 abbrev pub rename : List ℕ → List ℕ → Moment → VolumeState → ℕ → ℕ → Effect
-rename from_name to_name moment volume from_id to_id = on_directory (get volume.nodes from_id) (λ d. on_directory (get volume.nodes to_id) (λ e.
+rename from_name to_name moment volume from_id to_id =
+    on_directory (get volume.nodes from_id) (λ d. on_directory (get volume.nodes to_id) (λ e.
     rename_in (record {
       from = record { volume = volume; fileid = from_id; directory = d; name = from_name; moment = moment };
       to = record { volume = volume; fileid = to_id; directory = e; name = to_name; moment = moment };

@@ -1,8 +1,10 @@
 -- SETATTR (RFC 1813 section 3.3.2), and what it shares with CREATE.
-use Rattle.std.specs.Prelude.{ℕ, ◌-◌, ◌*◌, ◌%◌, Bool, false, ◌||◌, not, nat_le, nat_lt, List, ◌++◌, length, take, replicate, Option, Some, None, is_some, if◌then◌else◌}
+use Rattle.std.specs.Prelude.{ℕ, ◌-◌, ◌*◌, ◌%◌, Bool, false, ◌||◌, not, nat_le, nat_lt, List, ◌++◌, length}
+use Rattle.std.specs.Prelude.{take, replicate, Option, Some, None, is_some, if◌then◌else◌}
 use Rattle.std.specs.FinMap.{get, insert}
 use Rattle.std.specs.FinSet.{retain}
-use Rattle.nfs_model.specs.Types.{Moment, SetTime, Keep, ServerTime, ClientTime, SetAttributes, Status, NotSynchronous, Invalid, TooBig, SetattrDone}
+use Rattle.nfs_model.specs.Types.{Moment, SetTime, Keep, ServerTime, ClientTime, SetAttributes, Status}
+use Rattle.nfs_model.specs.Types.{NotSynchronous, Invalid, TooBig, SetattrDone}
 use Rattle.nfs_model.specs.Server.{Attributes, FileNode, Node, File, Directory, VolumeState, block_size}
 use Rattle.nfs_model.specs.Shown.{same_moment, times, settled, wcc}
 use Rattle.nfs_model.specs.Locate.{Effect, Changes, on_node, unless}
@@ -47,7 +49,11 @@ resized_bytes size bytes = take size bytes ++ replicate (size - length bytes) 0
 -- a file cut or grown: the blocks wholly past the end are freed
 abbrev pub resized : Option ℕ → FileNode → FileNode
 resized None f = f
-resized (Some size) f = record f { bytes = resized_bytes size f.bytes; filled = retain f.filled (λ b. nat_lt (block_size * b) size) }
+resized (Some size) f =
+    record f {
+      bytes = resized_bytes size f.bytes;
+      filled = retain f.filled (λ b. nat_lt (block_size * b) size);
+    }
 
 -- attributes given; a size given sets mtime, and ctime is always set
 abbrev pub set_attributes : SetAttributes → Moment → Attributes → Attributes
@@ -62,7 +68,8 @@ set_attributes set moment a = record {
 
 -- a file that settles and is set
 abbrev pub set_file : SetAttributes → Moment → FileNode → FileNode
-set_file set moment f = record (resized set.size (settled f)) { attributes = set_attributes set moment (settled f).attributes }
+set_file set moment f =
+    record (resized set.size (settled f)) { attributes = set_attributes set moment (settled f).attributes }
 
 -- ---- the procedure
 
@@ -88,7 +95,8 @@ setattr_fault volume set guard node =
 -- a node that is set
 abbrev pub set_node : SetAttributes → Moment → Node → Node
 set_node set moment (File f) = File (set_file set moment f)
-set_node set moment (Directory d) = Directory (record d { attributes = set_attributes set moment d.attributes })
+set_node set moment (Directory d) =
+    Directory (record d { attributes = set_attributes set moment d.attributes })
 
 -- a volume with another node at a fileid
 abbrev pub with_node : VolumeState → ℕ → Node → VolumeState
@@ -96,7 +104,9 @@ with_node volume fileid node = record volume { nodes = insert volume.nodes filei
 
 -- the answer of a node set
 abbrev pub replaced : VolumeState → ℕ → Node → Node → Effect
-replaced volume fileid old new = Changes (SetattrDone (wcc volume fileid old (with_node volume fileid new) new)) (with_node volume fileid new)
+replaced volume fileid old new =
+    Changes (SetattrDone (wcc volume fileid old (with_node volume fileid new) new))
+    (with_node volume fileid new)
 
 -- STALE, then the checks, then the change
 abbrev pub setattr : SetAttributes → Option Moment → Moment → VolumeState → ℕ → Effect

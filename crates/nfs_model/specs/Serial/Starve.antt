@@ -1,6 +1,10 @@
--- Which calls may be told that memory ran out (our profile). They answer SYSTEM_ERR (RFC 5531 section 9) and change nothing.
-use Rattle.std.specs.Prelude.{ℕ, Bool, true, false, ◌&&◌, not, nat_lt, List, [], ◌∷◌, Option, Some, None, is_some}
-use Rattle.nfs_model.specs.Types.{Call, Lookup, Write, Create, Mkdir, Remove, Rmdir, Rename, Answer, ReadDone, WriteDone, MadeDone, RenameDone, ReaddirDone, CensusDone, Reply, Success, Moment, Asked, Ask, Refused, Undecoded}
+-- Which calls may be told that memory ran out (our profile). They answer SYSTEM_ERR (RFC 5531
+-- section 9) and change nothing.
+use Rattle.std.specs.Prelude.{ℕ, Bool, true, false, ◌&&◌, not, nat_lt, List, [], ◌∷◌, Option, Some, None}
+use Rattle.std.specs.Prelude.{is_some}
+use Rattle.nfs_model.specs.Types.{Call, Lookup, Write, Create, Mkdir, Remove, Rmdir, Rename, Answer}
+use Rattle.nfs_model.specs.Types.{ReadDone, WriteDone, MadeDone, RenameDone, ReaddirDone, CensusDone, Reply}
+use Rattle.nfs_model.specs.Types.{Success, Moment, Asked, Ask, Refused, Undecoded}
 use Rattle.nfs_model.specs.Server.{Node, File, Directory, Server}
 use Rattle.nfs_model.specs.Names.{same_name, find_name}
 use Rattle.nfs_model.specs.Locate.{locate, node_named}
@@ -43,15 +47,20 @@ has_name None name = false
 has_name (Some (File f)) name = false
 has_name (Some (Directory d)) name = is_some (find_name name d.list)
 
--- whether a call with this answer takes memory: READ that gives bytes, READDIR, CENSUS, WRITE that fills a block, CREATE, MKDIR and RENAME that add an entry (a CREATE adds one just where the name isn't there)
+-- whether a call with this answer takes memory: READ that gives bytes, READDIR, CENSUS, WRITE that
+-- fills a block, CREATE, MKDIR and RENAME that add an entry (a CREATE adds one just where the name
+-- isn't there)
 abbrev pub takes_memory : Server → Call → Answer → Bool
 takes_memory server call (ReadDone count eof bytes) = is_some_bytes bytes
 takes_memory server call (ReaddirDone directory page eof) = true
 takes_memory server call (CensusDone volumes) = true
-takes_memory server (Write handle offset count written) (WriteDone n verifier) = nat_lt 0 (need_in (node_named (locate server handle)) offset n)
-takes_memory server (Create directory name mode) (MadeDone handle object change) = not (has_name (node_named (locate server directory)) name)
+takes_memory server (Write handle offset count written) (WriteDone n verifier) =
+    nat_lt 0 (need_in (node_named (locate server handle)) offset n)
+takes_memory server (Create directory name mode) (MadeDone handle object change) =
+    not (has_name (node_named (locate server directory)) name)
 takes_memory server (Mkdir directory name set) (MadeDone handle object change) = true
-takes_memory server (Rename from from_name to to_name) (RenameDone from_change to_change) = not (same_name from to && same_name from_name to_name)
+takes_memory server (Rename from from_name to to_name) (RenameDone from_change to_change) =
+    not (same_name from to && same_name from_name to_name)
 takes_memory server call answer = false
 
 -- only where it answers OK
@@ -61,6 +70,7 @@ takes_memory_to_reply server call reply = false
 
 -- what a record asks takes memory on this server
 abbrev pub may_starve_later : Server → Asked → Moment → Bool
-may_starve_later server (Ask call credential) moment = takes_memory_to_reply server call (serve server call credential moment).reply
+may_starve_later server (Ask call credential) moment =
+    takes_memory_to_reply server call (serve server call credential moment).reply
 may_starve_later server (Refused reply) moment = false
 may_starve_later server Undecoded moment = false

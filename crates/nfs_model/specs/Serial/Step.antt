@@ -1,6 +1,9 @@
 -- The answer of the serial server, and the server after it.
 use Rattle.std.specs.Prelude.{ℕ, Bool, true, false, ◌==◌, Option, Some, None, if◌then◌else◌}
-use Rattle.nfs_model.specs.Types.{Moment, Credential, Call, Null, Getattr, Setattr, Lookup, Read, Write, Create, Mkdir, Remove, Rmdir, Rename, Readdir, Fsstat, Commit, Census, Grow, Answer, NullDone, Failed, BadHandle, CrossVolume, Reply, Success, SystemError, Asked, Ask, Refused, Undecoded}
+use Rattle.nfs_model.specs.Types.{Moment, Credential, Call, Null, Getattr, Setattr, Lookup, Read, Write}
+use Rattle.nfs_model.specs.Types.{Create, Mkdir, Remove, Rmdir, Rename, Readdir, Fsstat, Commit, Census}
+use Rattle.nfs_model.specs.Types.{Grow, Answer, NullDone, Failed, BadHandle, CrossVolume, Reply, Success}
+use Rattle.nfs_model.specs.Types.{SystemError, Asked, Ask, Refused, Undecoded}
 use Rattle.nfs_model.specs.Server.{VolumeState, Server, with_volume}
 use Rattle.nfs_model.specs.Locate.{Effect, Fails, Tells, Changes, Located, locate, on_name}
 use Rattle.nfs_model.specs.Serial.Absent.{absent_parts}
@@ -33,7 +36,8 @@ stay server answer = record { reply = Success answer; server = server }
 abbrev pub placed : Server → ℕ → ℕ → Effect → Step
 placed server absent index (Fails status) = stay server (Failed status absent)
 placed server absent index (Tells answer) = stay server answer
-placed server absent index (Changes answer volume) = record { reply = Success answer; server = with_volume server index volume }
+placed server absent index (Changes answer volume) =
+    record { reply = Success answer; server = with_volume server index volume }
 
 -- a call on what a handle names; BADHANDLE comes before all
 abbrev pub on : Server → ℕ → Option Located → (VolumeState → ℕ → Effect) → Step
@@ -49,26 +53,40 @@ on_two server absent (Some from) (Some to) run =
     then placed server absent from.named.volume (run from.volume from.named.fileid to.named.fileid)
     else stay server (Failed CrossVolume absent)
 
--- a call that was decoded, by its procedure (RFC 1813 section 3.3); a failure has so many absent parts
+-- a call that was decoded, by its procedure (RFC 1813 section 3.3); a failure has so many absent
+-- parts
 abbrev pub serve_by : Server → ℕ → Call → Credential → Moment → Step
 serve_by server absent Null credential moment = stay server NullDone
 serve_by server absent (Getattr handle) credential moment = on server absent (locate server handle) getattr
-serve_by server absent (Setattr handle set guard) credential moment = on server absent (locate server handle) (setattr set guard moment)
-serve_by server absent (Lookup directory name) credential moment = on server absent (locate server directory) (on_name name moment lookup)
-serve_by server absent (Read handle offset count) credential moment = on server absent (locate server handle) (read offset count)
+serve_by server absent (Setattr handle set guard) credential moment =
+    on server absent (locate server handle) (setattr set guard moment)
+serve_by server absent (Lookup directory name) credential moment =
+    on server absent (locate server directory) (on_name name moment lookup)
+serve_by server absent (Read handle offset count) credential moment =
+    on server absent (locate server handle) (read offset count)
 serve_by server absent (Write handle offset count written) credential moment =
-    on server absent (locate server handle) (write (record { offset = offset; count = count; written = written; moment = moment }))
-serve_by server absent (Create directory name mode) credential moment = on server absent (locate server directory) (on_name name moment (create mode credential))
-serve_by server absent (Mkdir directory name set) credential moment = on server absent (locate server directory) (on_name name moment (mkdir set credential))
-serve_by server absent (Remove directory name) credential moment = on server absent (locate server directory) (on_name name moment remove_name)
-serve_by server absent (Rmdir directory name) credential moment = on server absent (locate server directory) (on_name name moment rmdir)
+    on server absent (locate server handle)
+    (write (record { offset = offset; count = count; written = written; moment = moment }))
+serve_by server absent (Create directory name mode) credential moment =
+    on server absent (locate server directory) (on_name name moment (create mode credential))
+serve_by server absent (Mkdir directory name set) credential moment =
+    on server absent (locate server directory) (on_name name moment (mkdir set credential))
+serve_by server absent (Remove directory name) credential moment =
+    on server absent (locate server directory) (on_name name moment remove_name)
+serve_by server absent (Rmdir directory name) credential moment =
+    on server absent (locate server directory) (on_name name moment rmdir)
 serve_by server absent (Rename from from_name to to_name) credential moment =
     on_two server absent (locate server from) (locate server to) (rename from_name to_name moment)
-serve_by server absent (Readdir directory cookie verifier count) credential moment = on server absent (locate server directory) (readdir cookie verifier count)
+serve_by server absent (Readdir directory cookie verifier count) credential moment =
+    on server absent (locate server directory) (readdir cookie verifier count)
 serve_by server absent (Fsstat handle) credential moment = on server absent (locate server handle) fsstat
 serve_by server absent (Commit handle) credential moment = on server absent (locate server handle) commit
 serve_by server absent Census credential moment = stay server (census server)
-serve_by server absent (Grow volume ranges) credential moment = record { reply = Success (grow server volume ranges).answer; server = (grow server volume ranges).server }
+serve_by server absent (Grow volume ranges) credential moment =
+    record {
+      reply = Success (grow server volume ranges).answer;
+      server = (grow server volume ranges).server;
+    }
 
 -- a call that was decoded
 abbrev pub serve : Server → Call → Credential → Moment → Step

@@ -1,5 +1,7 @@
--- WRITE (RFC 1813 section 3.3.7). A block is filled as a whole; memory is stable storage, so what is written is committed (our profile).
-use Rattle.std.specs.Prelude.{ℕ, ◌+◌, ◌-◌, ◌/◌, not, nat_lt, ◌==◌, List, [], ◌∷◌, ◌++◌, length, take, drop, replicate, Option, Some, None, if◌then◌else◌}
+-- WRITE (RFC 1813 section 3.3.7). A block is filled as a whole; memory is stable storage, so what
+-- is written is committed (our profile).
+use Rattle.std.specs.Prelude.{ℕ, ◌+◌, ◌-◌, ◌/◌, not, nat_lt, ◌==◌, List, [], ◌∷◌, ◌++◌, length, take, drop}
+use Rattle.std.specs.Prelude.{replicate, Option, Some, None, if◌then◌else◌}
 use Rattle.std.specs.List.{range_with_len, filter}
 use Rattle.std.specs.Ordering.{nat_cmp}
 use Rattle.std.specs.FinMap.{get}
@@ -12,7 +14,9 @@ use Rattle.nfs_model.specs.Serial.Setattr.{with_node}
 
 -- the numbers of the blocks that n bytes at an offset meet
 abbrev pub blocks_met : ℕ → ℕ → List ℕ
-blocks_met offset n = if n == 0 then [] else range_with_len (offset / block_size) (((offset + n - 1) / block_size + 1) - offset / block_size)
+blocks_met offset n =
+    if n == 0 then []
+    else range_with_len (offset / block_size) (((offset + n - 1) / block_size + 1) - offset / block_size)
 
 -- those blocks that aren't filled
 abbrev pub unfilled : FinSet nat_cmp → List ℕ → List ℕ
@@ -28,7 +32,8 @@ write_fault volume offset n = if nat_lt volume.largest (offset + n) then Some To
 
 -- NOSPC exactly where the blocks in files and those needed exceed the volume's total (our profile)
 abbrev pub space_fault : VolumeState → FileNode → ℕ → ℕ → Option Status
-space_fault volume f offset n = if nat_lt volume.total (used volume + need f offset n) then Some NoSpace else None
+space_fault volume f offset n =
+    if nat_lt volume.total (used volume + need f offset n) then Some NoSpace else None
 
 -- a set with these blocks filled
 abbrev pub with_blocks : FinSet nat_cmp → List ℕ → FinSet nat_cmp
@@ -37,7 +42,9 @@ with_blocks filled (b ∷ bs) = insert (with_blocks filled bs) b
 
 -- the bytes with others at an offset; a gap is a hole
 abbrev pub written_bytes : List ℕ → ℕ → List ℕ → List ℕ
-written_bytes bytes offset written = take offset bytes ++ replicate (offset - length bytes) 0 ++ written ++ drop (offset + length written) bytes
+written_bytes bytes offset written =
+    take offset bytes ++ replicate (offset - length bytes) 0 ++ written
+    ++ drop (offset + length written) bytes
 
 -- a file after a write: its bytes, blocks and touch; its stored times stay
 abbrev pub written_file : FileNode → ℕ → List ℕ → Moment → FileNode
@@ -59,15 +66,17 @@ abbrev pub bytes_kept : Writing → List ℕ
 bytes_kept w = take most_bytes w.written
 
 -- at least one byte: FBIG, NOSPC, the change
-abbrev pub write_some : VolumeState → ℕ → FileNode → ℕ → List ℕ → Moment → Effect
-write_some volume fileid f offset written moment =
-    unless (write_fault volume offset (length written))
-    (unless (space_fault volume f offset (length written))
-    (Changes (WriteDone (length written) volume.verifier) (with_node volume fileid (File (written_file f offset written moment)))))
+abbrev pub write_some : VolumeState → ℕ → FileNode → Writing → Effect
+write_some volume fileid f w =
+    unless (write_fault volume w.offset (length (bytes_kept w)))
+    (unless (space_fault volume f w.offset (length (bytes_kept w)))
+    (Changes (WriteDone (length (bytes_kept w)) volume.verifier)
+    (with_node volume fileid (File (written_file f w.offset (bytes_kept w) w.moment)))))
 
--- STALE, INVAL for a directory, INVAL for a count that isn't the data's length; a count of 0 changes nothing; then the rest
+-- STALE, INVAL for a directory, INVAL for a count that isn't the data's length; a count of 0
+-- changes nothing; then the rest
 abbrev pub write : Writing → VolumeState → ℕ → Effect
 write w volume fileid = on_file (get volume.nodes fileid) (λ f.
     if not (w.count == length w.written) then Fails Invalid
     else if w.count == 0 then Tells (WriteDone 0 volume.verifier)
-    else write_some volume fileid f w.offset (bytes_kept w) w.moment)
+    else write_some volume fileid f w)

@@ -1,6 +1,6 @@
 use Rattle.std.proofs.Common.{◌≡◌, ◌≤◌, ◌-◌, length, take, drop, vec_len}
 use Rattle.rpc_record.specs.Machine.{scan}
-use Rattle.rpc_record.specs.Place.{state, IsSound}
+use Rattle.rpc_record.specs.Place.{state, IsPlace}
 use Rattle.rpc_record.proofs.join.join.Given as goal
 
 abbrev pub invariant-loop-taken : goal.invariant-loop-taken
@@ -9,7 +9,7 @@ invariant-loop-taken l = record {
   within : l.taken ≤ length l.bytes;
   kept : take (vec_len l.fn.joined) l.joined.items ≡ l.fn.joined.items;
   size : vec_len l.joined ≡ l.place.joined;
-  sound : IsSound l.place;
+  sound : IsPlace l.place;
 }
 
 abbrev pub decreases-loop-taken : goal.decreases-loop-taken

@@ -1,7 +1,7 @@
 use Rattle.std.proofs.Common.{◌≡◌, ℕ, ◌≤◌, ◌-◌, List, length, drop}
 use Rattle.rpc_record.specs.Machine.{scan}
 use Rattle.rpc_record.specs.declared.place.Place.{Place}
-use Rattle.rpc_record.specs.Place.{state, IsSound}
+use Rattle.rpc_record.specs.Place.{state, IsPlace}
 use Rattle.rpc_record.proofs.place.Place.walk.Given as goal
 
 -- Whatever data was joined before, with some data the walk stands here.
@@ -14,7 +14,7 @@ abbrev pub invariant-loop-taken : goal.invariant-loop-taken
 invariant-loop-taken l = record {
   walked : HasWalked l.fn.self l.bytes l.taken l.self;
   within : l.taken ≤ length l.bytes;
-  sound : IsSound l.self;
+  sound : IsPlace l.self;
 }
 
 abbrev pub decreases-loop-taken : goal.decreases-loop-taken
