@@ -24,13 +24,13 @@ use Rattle.depot_rule.specs.Seats.{OnOne, view_of}
 use Rattle.depot_rule.specs.Plays.{IsOnly}
 use Rattle.depot_rule.proofs.Grants.{at-length}
 use Rattle.depot_rule.proofs.Places.{one-view, of-one}
-use Rattle.depot_rule.proofs.Trees.{cover-excludes, above-smaller}
+use Rattle.depot_rule.specs.lemmas.Trees.{cover-excludes, above-smaller}
 use Rattle.depot.specs.Calls.{IsAmong, IsRead, Refuses, IsExcluded, IsGranted, WasRefused, own_views, known}
 use Rattle.depot.specs.Holds.{untaken, Handled, IsGathered}
 use Rattle.depot.specs.Grants.{IsSeatOf, ListsAs, IsBegun, IsBusy, IsWorn}
 use Rattle.depot.proofs.Moves.{among-later, placed-one}
 use Rattle.depot.proofs.Holding.{is-untaken}
-use Rattle.depot.proofs.Layouts.{parents-tree, number-place, under-place, covers-under, under-covers}
+use Rattle.depot_rule.specs.lemmas.Nodes.{parents-tree, number-place, under-place, covers-under, under-covers}
 
 -- what a taking took was there, and isn't any more
 pub moved-some : {T : Type 0} (before taken after : Option T) (p : T) → taken ≡ Some p → moving.Moved before taken after → (before ≡ Some p) × (after ≡ None)
@@ -152,8 +152,8 @@ module _ {P E : Type 0} where
       pub begun-lists : ListsAs v b g f
       begun-lists k pos lt cover = let t = taken-at k pos lt cover in t.1 ∙ sym t.2
 
-      pub begun-so : (IsExcluded v b → ⊥) → (found : ℕ) → found < worn → IsAmong (record { word = 0; value = found; shares = 0 }) more → (views : List (List (View P E))) → views ≡ ws ∷ [] → IsBegun v b f (known views)
-      begun-so apart found low looked views is = (
+      pub begun-so : (IsExcluded v b → ⊥) → (found : ℕ) → found < worn → (IsOnly v → found ≡ made v) → IsAmong (record { word = 0; value = found; shares = 0 }) more → (views : List (List (View P E))) → views ≡ ws ∷ [] → IsBegun v b f (known views)
+      begun-so apart found low own looked views is = (
         g,
         by_hand.0,
         by_hand.1 ++ more,
@@ -161,7 +161,7 @@ module _ {P E : Type 0} where
         begun-lists,
         granted.3,
         apart,
-        (found, low, among-later (record { word = 0; value = found; shares = 0 }) by_hand.1 more looked),
+        (found, (low, own), among-later (record { word = 0; value = found; shares = 0 }) by_hand.1 more looked),
       )
 
       pub begun-gathered : (IsExcluded v b → ⊥) → IsGathered v → IsGathered begun_view
@@ -196,9 +196,9 @@ module _ {P E : Type 0} where
         t.4,
       )
 
-  pub busy-so : (layout : Layout) (v : View P E) (ps : List ℕ) (b node found k c : ℕ) (ws : List (View P E)) (views : List (List (View P E))) (ticket : ℕ) → ticket < worn → ps ≡ parents layout → b ≡ k → c ≡ node → views ≡ ws ∷ []
+  pub busy-so : (layout : Layout) (v : View P E) (ps : List ℕ) (b node found k c : ℕ) (ws : List (View P E)) (views : List (List (View P E))) (ticket : ℕ) → ticket < worn → (IsOnly v → ticket ≡ made v) → ps ≡ parents layout → b ≡ k → c ≡ node → views ≡ ws ∷ []
       → (more : List Read) × (ws ≡ record v { looked = 1; reads = more ++ v.reads } ∷ []) × IsRead v node found more × Refuses ps b node found × IsAmong (record { word = 0; value = ticket; shares = 0 }) more × (IsOnly v → IsExcluded v b)
       → IsBusy (parents layout) v k c found (known views)
-  busy-so layout v ps b node found k c ws views ticket low parent number at is q =
+  busy-so layout v ps b node found k c ws views ticket low own parent number at is q =
       subst (λ (x : List ℕ × ℕ × ℕ). IsBusy x.0 v x.1 x.2 found (known views)) (λ i. (parent i, number i, sym at i))
-      (q.0, ap known is ∙ ap view_of q.1, q.2, q.3, (ticket, low, q.4), q.5)
+      (q.0, ap known is ∙ ap view_of q.1, q.2, q.3, (ticket, (low, own), q.4), q.5)

@@ -1,9 +1,8 @@
 -- A call that ends: what may be given home, what it stamps, and what its seat has afterwards.
-use Rattle.std.proofs.Common.{◌≡◌, ◌≢◌, ℕ, zero, suc, ◌+◌, ◌<◌, true, false, List, [], ◌∷◌, ◌++◌, length, set, slice_index_or, sym, refl, ap, ◌∙◌, subst, arith, append_assoc, length-append, ⊎_elim, Option, Some, None, IfSome}
+use Rattle.std.proofs.Common.{◌≡◌, ◌≢◌, ℕ, zero, suc, ◌+◌, ◌<◌, true, false, List, [], ◌∷◌, ◌++◌, length, set, slice_index_or, sym, refl, ap, ◌∙◌, subst, arith, append_assoc, ⊎_elim, Option, Some, None, IfSome}
 use Rattle.std.proofs.lemmas.Bool.{cases_Bool}
 use mathlib.Core.Option.{some}
-use mathlib.Core.Logic.{dite}
-use native.Mathlib.Decide.{ℕ_discrete, dec_lt}
+use native.Mathlib.Decide.{dec_lt}
 use lib.ListN.{get_elem?}
 use Rattle.atomic_table.proofs.Lists.{at_set, set_here}
 use Rattle.nfs_model.specs.Tree.{Layout, Affinity}
@@ -20,16 +19,17 @@ use Rattle.depot_rule.specs.Sums.{tally}
 use Rattle.depot_rule.specs.Tree.{IsTree, Covers, Excludes}
 use Rattle.depot_rule.specs.Shares.{Has}
 use Rattle.depot_rule.specs.declared.view.Entry.{Entry}
-use Rattle.depot_rule.specs.History.{Behaviour, covers}
+use Rattle.depot_rule.specs.History.{Behaviour, by_number, covers}
 use Rattle.depot_rule.specs.Seats.{view_of}
 use Rattle.depot_rule.proofs.Places.{one-view}
 use Rattle.depot_rule.proofs.Grants.{at-length}
-use Rattle.depot_rule.proofs.Trees.{cover-excludes}
+use Rattle.depot_rule.specs.lemmas.Trees.{cover-excludes}
 use Rattle.depot.specs.Calls.{known}
 use Rattle.depot.specs.Holds.{Lists, IsGathered}
-use Rattle.depot.specs.Grants.{by_number, entry_of, IsSeatOf, HasWith, IsStep, HasInHand, IsStamped, IsEnded, IsFinished}
-use Rattle.depot.proofs.Holding.{covers-true, true-covers}
-use Rattle.depot.proofs.Layouts.{under-place, covers-under, under-covers}
+use Rattle.depot.specs.Grants.{entry_of, IsSeatOf, HasWith, IsStep, HasInHand, IsStamped, IsEnded, IsFinished}
+use Rattle.depot_rule.specs.lemmas.Covering.{covers-true, true-covers}
+use Rattle.depot_rule.specs.lemmas.Listed.{by-number-at}
+use Rattle.depot_rule.specs.lemmas.Nodes.{under-place, covers-under, under-covers}
 
 some-same : {T : Type 0} (x y : T) → Some x ≡ Some y → x ≡ y
 some-same x y e = cc
@@ -37,31 +37,6 @@ some-same x y e = cc
 all-some : {T : Type 0} (y : Option T) (Q : T → Type 0) → ((p : T) → y ≡ Some p → Q p) → IfSome y Q
 all-some None Q h = tt
 all-some (Some p) Q h = h p refl
-
--- ---- parcels by number
-
-by-number-length : {T : Type 0} (f : ℕ → Option T) (n : ℕ) → length (by_number f n) ≡ n
-by-number-length f zero = refl
-by-number-length f (suc n) = let r = by-number-length f n in let l = length-append (by_number f n) (f n ∷ []) in omega arith
-
-last-at : {T : Type 0} (xs : List (Option T)) (y : Option T) (k : ℕ) → length xs ≡ k → slice_index_or (xs ++ y ∷ []) k None ≡ y
-last-at [] y zero e = refl
-last-at [] y (suc k) e = absurd (omega arith)
-last-at (x ∷ xs) y zero e = absurd (omega arith)
-last-at (x ∷ xs) y (suc k) e = last-at xs y k (omega arith)
-
-earlier-at : {T : Type 0} (xs : List (Option T)) (y : Option T) (k : ℕ) → k < length xs → slice_index_or (xs ++ y ∷ []) k None ≡ slice_index_or xs k None
-earlier-at [] y k l = absurd (omega arith)
-earlier-at (x ∷ xs) y zero l = refl
-earlier-at (x ∷ xs) y (suc k) l = earlier-at xs y k (omega arith)
-
-pub by-number-at : {T : Type 0} (f : ℕ → Option T) (n k : ℕ) → k < n → slice_index_or (by_number f n) k None ≡ f k
-by-number-at f zero k l = absurd (omega arith)
-by-number-at f (suc n) k l =
-    let size = by-number-length f n in
-    dite (ℕ_discrete k n)
-    (λ e. last-at (by_number f n) (f n) k (size ∙ sym e) ∙ ap f (sym e))
-    (λ ne. earlier-at (by_number f n) (f n) k (omega arith) ∙ by-number-at f n k (omega arith))
 
 set-again : {T : Type 0} (xs : List T) (i : ℕ) (x y : T) → set (set xs i x) i y ≡ set xs i y
 set-again [] i x y = refl

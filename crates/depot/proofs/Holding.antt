@@ -1,7 +1,7 @@
 -- What a grant's shelf has, as its parcels are taken and given.
-use Rattle.std.proofs.Common.{◌≡◌, ◌≢◌, ℕ, zero, suc, ◌<◌, eqb, Bool, true, false, ◌&&◌, List, [], ◌∷◌, ◌++◌, length, slice_index_or, sym, refl, ap, ◌∙◌, subst, arith, inl, inr, ⊎_elim, Option, Some, None}
+use Rattle.std.proofs.Common.{◌≡◌, ◌≢◌, ℕ, zero, suc, ◌<◌, eqb, Bool, true, false, ◌&&◌, List, [], ◌∷◌, ◌++◌, length, slice_index_or, sym, refl, ap, ◌∙◌, subst, arith, Option, Some, None}
 use Rattle.std.specs.Prelude.{if◌then◌else◌, nat_lt}
-use Rattle.std.proofs.lemmas.Bool.{and_parts, and_from, or_cases, or_left, or_right, eqb-true, eq-eqb, ltb-true, lt-ltb}
+use Rattle.std.proofs.lemmas.Bool.{and_parts, and_from, eqb-true, eq-eqb, ltb-true, lt-ltb}
 use mathlib.Core.Option.{some, some-injective, some-ne-none}
 use mathlib.Core.Logic.{dite}
 use native.Mathlib.Decide.{ℕ_discrete}
@@ -9,11 +9,12 @@ use lib.ListN.{get_elem?}
 use Rattle.depot_rule.specs.declared.view.View.{View}
 use Rattle.depot_rule.specs.declared.view.Read.{Read}
 use Rattle.depot_rule.specs.Sums.{tally, without}
-use Rattle.depot_rule.specs.Tree.{ancestors, Covers}
+use Rattle.depot_rule.specs.Tree.{Covers}
 use Rattle.depot_rule.specs.Shares.{Has}
 use Rattle.depot_rule.specs.History.{covers}
 use Rattle.depot_rule.specs.Seats.{view_of}
-use Rattle.depot_rule.proofs.Sums.{one-same, one-other, tally-without}
+use Rattle.depot_rule.specs.lemmas.Covering.{covers-true, true-covers}
+use Rattle.depot_rule.specs.lemmas.Sums.{one-same, one-other, tally-without}
 use Rattle.depot.specs.Holds.{listed_by, is_untaken, untaken, Lists}
 
 -- ---- small cases
@@ -43,17 +44,6 @@ pub of-place : {A : Type 0} (xs : List (Option A)) (b : ℕ) (x : A) → get_ele
 of-place [] b x e = absurd (some-ne-none (Some x) (sym e))
 of-place (y ∷ ys) zero x e = some-injective y (Some x) e
 of-place (y ∷ ys) (suc b) x e = of-place ys b x e
-
-pub covers-true : (ps : List ℕ) (b k : ℕ) → covers ps b k ≡ true → Covers ps b k
-covers-true ps b k e = ⊎_elim
-    (λ (h : eqb b k ≡ true). inl (eqb-true b k h))
-    (λ (h : nat_lt 0 (tally b (ancestors ps k)) ≡ true). inr (ltb-true 0 (tally b (ancestors ps k)) h))
-    (or_cases (eqb b k) (nat_lt 0 (tally b (ancestors ps k))) e)
-
-pub true-covers : (ps : List ℕ) (b k : ℕ) → Covers ps b k → covers ps b k ≡ true
-true-covers ps b k = ⊎_elim
-    (λ (e : b ≡ k). or_left (eqb b k) (nat_lt 0 (tally b (ancestors ps k))) (eq-eqb b k e))
-    (λ (u : 0 < tally b (ancestors ps k)). or_right (eqb b k) (nat_lt 0 (tally b (ancestors ps k))) (lt-ltb 0 (tally b (ancestors ps k)) u))
 
 listed-some : {P : Type 0} (o : Option (List (Option P))) (k : ℕ) (p : P) → listed_by o k ≡ Some p → (g : List (Option P)) × (o ≡ Some g) × (slice_index_or g k None ≡ Some p)
 listed-some None k p e = cc

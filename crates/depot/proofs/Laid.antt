@@ -1,5 +1,5 @@
 -- The parcels of a new depot, laid out by the numbers of their nodes.
-use Rattle.std.proofs.Common.{◌≡◌, ℕ, zero, suc, ◌+◌, ◌<◌, ◌≤◌, List, [], ◌∷◌, ◌++◌, length, replicate, get_or, sym, refl, ap, ◌∙◌, arith, Option, Some, None, IfSome, ⊎_elim}
+use Rattle.std.proofs.Common.{◌≡◌, ℕ, zero, suc, ◌<◌, ◌≤◌, List, [], ◌∷◌, length, replicate, get_or, sym, refl, ap, ◌∙◌, arith, Option, Some, None, IfSome, ⊎_elim}
 use Rattle.std.proofs.lemmas.List.{ext_get_or, length-replicate}
 use Rattle.std.proofs.lemmas.Bool.{cases_lt}
 use Rattle.nfs_model.specs.Tree.{Layout, Serial}
@@ -9,27 +9,11 @@ use Rattle.parcel_sets.specs.Exact.{Under, HasExactly, IsPlaced}
 use Rattle.parcel_sets.specs.Moved.{Moved}
 use Rattle.depot_rule.specs.declared.view.View.{View}
 use Rattle.depot_rule.specs.Shares.{opening_view}
-use Rattle.depot.specs.Grants.{by_number}
+use Rattle.depot_rule.specs.History.{by_number}
+use Rattle.depot_rule.specs.lemmas.Listed.{by-number-length, by-number-at}
 use Rattle.depot.specs.Kinds.{AreOfKind}
-use Rattle.depot.proofs.Layouts.{place-node, under-place}
+use Rattle.depot_rule.specs.lemmas.Nodes.{place-node, under-place}
 use Rattle.depot.proofs.Emptied.{under-serial}
-
--- ---- a list of parcels by number
-
-snoc-length : {A : Type 0} (xs : List A) (y : A) → length (xs ++ y ∷ []) ≡ length xs + 1
-snoc-length [] y = refl
-snoc-length (x ∷ xs) y = let r = snoc-length xs y in omega arith
-
-snoc-before : {A : Type 0} (xs : List A) (y d : A) (k : ℕ) → k < length xs → get_or (xs ++ y ∷ []) k d ≡ get_or xs k d
-snoc-before [] y d k h = absurd (omega arith)
-snoc-before (x ∷ xs) y d zero h = refl
-snoc-before (x ∷ xs) y d (suc k) h = snoc-before xs y d k (omega arith)
-
-snoc-last : {A : Type 0} (xs : List A) (y d : A) (k : ℕ) → k ≡ length xs → get_or (xs ++ y ∷ []) k d ≡ y
-snoc-last [] y d zero h = refl
-snoc-last [] y d (suc k) h = absurd (omega arith)
-snoc-last (x ∷ xs) y d zero h = absurd (omega arith)
-snoc-last (x ∷ xs) y d (suc k) h = snoc-last xs y d k (omega arith)
 
 pub nothing-at : {P : Type 0} (n k : ℕ) → get_or {A = Option P} (replicate n None) k None ≡ None
 nothing-at zero k = refl
@@ -37,19 +21,6 @@ nothing-at (suc n) zero = refl
 nothing-at (suc n) (suc k) = nothing-at n k
 
 module _ {P : Type 0} where
-  pub length-by_number : (f : ℕ → Option P) (n : ℕ) → length (by_number f n) ≡ n
-  length-by_number f zero = refl
-  length-by_number f (suc n) = let r = length-by_number f n in let s = snoc-length (by_number f n) (f n) in omega arith
-
-  pub by_number-at : (f : ℕ → Option P) (n k : ℕ) → k < n → get_or (by_number f n) k None ≡ f k
-  by_number-at f zero k h = absurd (omega arith)
-  by_number-at f (suc n) k h =
-      let size = length-by_number f n in
-      ⊎_elim
-      (λ (lt : k < n). snoc-before (by_number f n) (f n) None k (omega arith) ∙ by_number-at f n k lt)
-      (λ (le : n ≤ k). let e : k ≡ n = omega arith in snoc-last (by_number f n) (f n) None k (omega arith) ∙ ap f (sym e))
-      (cases_lt k n)
-
   given-at : (now put before : Option P) → Moved now put before → before ≡ None → now ≡ put
   given-at now None before m none = sym m ∙ none
   given-at now (Some p) before m none = m.0
@@ -57,8 +28,8 @@ module _ {P : Type 0} where
   -- all that was given stands in the list, and nothing else
   pub laid-so : (f : ℕ → Option P) (n : ℕ) (xs : List (Option P)) → length xs ≡ n → ((k : ℕ) → get_or xs k None ≡ f k) → xs ≡ by_number f n
   laid-so f n xs size are =
-      let many = length-by_number f n in
-      ext_get_or None xs (by_number f n) (size ∙ sym many) (λ k h. are k ∙ sym (by_number-at f n k (omega arith)))
+      let many = by-number-length f n in
+      ext_get_or None xs (by_number f n) (size ∙ sym many) (λ k h. are k ∙ sym (by-number-at f n k (omega arith)))
 
   pub given-so : (f : ℕ → Option P) (n : ℕ) (xs before : List (Option P)) → before ≡ replicate n None → ((k : ℕ) → Moved (get_or xs k None) (f k) (get_or before k None)) → (k : ℕ) → get_or xs k None ≡ f k
   given-so f n xs before is moved k = given-at (get_or xs k None) (f k) (get_or before k None) (moved k) (ap (λ (l : List (Option P)). get_or l k None) is ∙ nothing-at n k)

@@ -8,8 +8,8 @@ use Rattle.depot_rule.specs.Tree.{IsTree, ancestors, Excludes}
 use Rattle.depot_rule.specs.Shares.{exclusive, shares, grant_shares, Has}
 use Rattle.depot_rule.specs.Seats.{OnOne, view_of}
 use Rattle.depot_rule.specs.Plays.{IsOnly}
-use Rattle.depot_rule.proofs.Sums.{one-same, one-other}
-use Rattle.depot_rule.proofs.Trees.{ancestors-parent, not-above}
+use Rattle.depot_rule.specs.lemmas.Sums.{one-same, one-other}
+use Rattle.depot_rule.specs.lemmas.Trees.{ancestors-parent, not-above}
 use Rattle.depot_rule.proofs.Places.{one-view, of-one}
 use Rattle.depot.specs.Calls.{IsAmong, read_of, Moved, MovedTo, IsExcluded, FoundClaimed, WasRefused, IsGranted, own_views, known}
 use Rattle.affinity_tree.specs.declared.affinity.Kind.{Kind}

@@ -8,12 +8,14 @@ use Rattle.depot_rule.specs.Tree.{IsTree}
 use Rattle.depot_rule.specs.Shares.{Has, opening_view}
 use Rattle.depot_rule.specs.Rule.{Rule}
 use Rattle.depot_rule.specs.declared.view.Entry.{Entry}
-use Rattle.depot_rule.specs.Sums.{one_if, tally}
+use Rattle.depot_rule.specs.Sums.{total, one_if, tally}
 use Rattle.depot_rule.specs.History.{Behaviour, Legal, SoundThroughout, AreHands, listed, after, entries_of}
 use Rattle.depot_rule.specs.Parcels.{IsParcel}
 use Rattle.depot_rule.specs.Seats.{view_of}
 use Rattle.depot_rule.proofs.Opening.{opens-whole, closes, closes-history, closes-parcels}
 use Rattle.depot_rule.proofs.Places.{one-view}
+use Rattle.depot_rule.proofs.Views.{only-view}
+use Rattle.depot_rule.proofs.Whole.{only-log}
 use Rattle.affinity_tree.specs.declared.affinity.Kind.{Kind}
 use Rattle.depot.specs.Calls.{own_views, known}
 use Rattle.depot.proofs.Moves.{placed-one}
@@ -25,6 +27,7 @@ pub record Whole {P C R B : Type 0} (kind_of : P → Kind) (m : Behaviour P C R 
   pub history : Legal m.steps v.tree (listed v.first) v.seen × SoundThroughout m v.tree (listed v.first) v.seen
       × ((hands : List B) × AreHands m.takes m.gives (entries_of v) hands × m.invariant v.tree (after v.tree (listed v.first) v.seen) hands (length v.seen))
       × ((p : ℕ) → tally p v.mine ≡ one_if (ltb p (length v.seen)))
+  pub entries : (weigh : Entry P C R → ℕ) → total weigh (entries_of v) ≡ total weigh v.seen
   pub left : (k : ℕ) → 0 < k → k < length ps → get_elem? xs k ≡ some (after v.tree (listed v.first) v.seen k)
 
 module _ (P C R B : Type 0) (kind_of : P → Kind) (m : Behaviour P C R B) where
@@ -58,6 +61,8 @@ module _ (P C R B : Type 0) (kind_of : P → Kind) (m : Behaviour P C R B) where
         history = subst (λ (x : List ℕ × List (Option P)). Legal m.steps x.0 (listed x.1) (view_of vs).seen × SoundThroughout m x.0 (listed x.1) (view_of vs).seen
             × ((hands : List B) × AreHands m.takes m.gives (entries_of (view_of vs)) hands × m.invariant x.0 (after x.0 (listed x.1) (view_of vs).seen) hands (length (view_of vs).seen))
             × ((p : ℕ) → tally p (view_of vs).mine ≡ one_if (ltb p (length (view_of vs).seen)))) (λ i. (sym so.tree i, sym mine.opened i)) history;
+        entries = λ weigh. sym (only-view P E ps end.0.words end.0.views r.shares id (view_of vs) at all (λ (u : View P E). total weigh (entries_of u)))
+            ∙ (end.1.0.history.shared weigh ∙ ap (total weigh) (only-log P C R B kind_of m ps first end.0 r end.1.0.history id (view_of vs) at all));
         left = λ k pk lk. end.4 k (after ps (listed first) (view_of vs).seen k) (parcels k pk lk)
             ∙ ap (λ (x : List ℕ × List (Option P)). some (after x.0 (listed x.1) (view_of vs).seen k)) (λ i. (sym so.tree i, sym mine.opened i));
       }

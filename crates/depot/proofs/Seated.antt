@@ -8,7 +8,7 @@ use Rattle.depot_rule.specs.Sums.{tally}
 use Rattle.depot_rule.specs.Tree.{Covers}
 use Rattle.depot_rule.specs.Shares.{opening_view}
 use Rattle.depot_rule.specs.Seats.{if_less, longer, fresh, merge, merged, having_seen, view_of}
-use Rattle.depot_rule.proofs.Sums.{tally-append}
+use Rattle.depot_rule.specs.lemmas.Sums.{tally-append}
 use Rattle.depot_rule.proofs.Joining.{none-held, held-of}
 use Rattle.depot.specs.Calls.{known}
 use Rattle.depot.specs.Holds.{IsGathered}

@@ -14,7 +14,7 @@ use Rattle.depot_rule.specs.Tree.{Covers}
 use Rattle.depot_rule.specs.Shares.{Has}
 use Rattle.depot_rule.specs.Parcels.{has_out}
 use Rattle.depot_rule.specs.History.{Current}
-use Rattle.depot_rule.proofs.Sums.{total-set, total-at}
+use Rattle.depot_rule.specs.lemmas.Sums.{total-set, total-at}
 use Rattle.depot_rule.proofs.Views.{all-one, each-set}
 
 module _ {P E : Type 0} (ps : List ℕ) (f : ℕ → Option P) where

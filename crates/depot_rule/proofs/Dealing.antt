@@ -14,7 +14,7 @@ use Rattle.depot_rule.specs.Shares.{Each, parts, made, due, unsettled, claims, e
 use Rattle.depot_rule.specs.Parcels.{has_out, Carries}
 use Rattle.depot_rule.specs.Rule.{Rule}
 use Rattle.depot_rule.specs.Seats.{longer, having_seen, first_of, others_of}
-use Rattle.depot_rule.proofs.Sums.{one-other, total-set, total-append, over-none}
+use Rattle.depot_rule.specs.lemmas.Sums.{one-other, total-set, total-append, over-none}
 use Rattle.depot_rule.proofs.Views.{All, all-none, all-one, all-append, each-set, each-more}
 use Rattle.depot_rule.proofs.Current.{ListsCurrent}
 use Rattle.depot_rule.proofs.Remembering.{Own, HasHand, dealt}

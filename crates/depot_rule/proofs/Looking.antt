@@ -14,7 +14,7 @@ use Rattle.depot_rule.specs.Sums.{total}
 use Rattle.depot_rule.specs.Shares.{worn, parts, made, due, unsettled, open_grants, claims, entered, shares, IsSound, Shares}
 use Rattle.depot_rule.specs.Rule.{Rule}
 use Rattle.depot_rule.specs.Plays.{Place, LookSays, AlikeSays}
-use Rattle.depot_rule.proofs.Sums.{total-set, total-at, total-plus}
+use Rattle.depot_rule.specs.lemmas.Sums.{total-set, total-at, total-plus}
 use Rattle.depot_rule.proofs.Views.{all-one, each-set, only-view, due-most}
 use Rattle.depot_rule.proofs.Parcels.{stay-keeps}
 use Rattle.depot_rule.proofs.Following.{are-apart}

@@ -7,8 +7,8 @@ use Rattle.depot_rule.specs.declared.view.View.{View}
 use Rattle.depot_rule.specs.Sums.{one_if, tally}
 use Rattle.depot_rule.specs.Tree.{IsTree, ancestors, Excludes}
 use Rattle.depot_rule.specs.Shares.{exclusive, Has, claims, lower, shares, IsSound}
-use Rattle.depot_rule.proofs.Sums.{one-is, one-other, over-some}
-use Rattle.depot_rule.proofs.Trees.{not-above}
+use Rattle.depot_rule.specs.lemmas.Sums.{one-is, one-other, over-some}
+use Rattle.depot_rule.specs.lemmas.Trees.{not-above}
 use Rattle.depot_rule.proofs.Views.{few-shares}
 
 module _ (P E : Type 0) where

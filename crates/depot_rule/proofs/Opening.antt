@@ -14,7 +14,7 @@ use Rattle.depot_rule.specs.Shares.{opening_view, claims, entered, shares, IsSou
 use Rattle.depot_rule.specs.Parcels.{has_out, IsParcel, Carries}
 use Rattle.depot_rule.specs.Rule.{Base, Rule}
 use Rattle.depot_rule.proofs.Views.{all-one, only-view}
-use Rattle.depot_rule.proofs.Sums.{over-none}
+use Rattle.depot_rule.specs.lemmas.Sums.{over-none}
 use Rattle.depot_rule.proofs.Dealing.{bare-counts}
 use Rattle.depot_rule.proofs.Joining.{none-held}
 use Rattle.depot_rule.proofs.Current.{ListsCurrent}

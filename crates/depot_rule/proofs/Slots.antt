@@ -12,7 +12,7 @@ use Rattle.depot_rule.specs.Sums.{one_if, tally, without}
 use Rattle.depot_rule.specs.Tree.{Covers}
 use Rattle.depot_rule.specs.Rule.{Rule}
 use Rattle.depot_rule.specs.Plays.{Place, noted, FetchSays, EmptySays, ReachSays, FillSays}
-use Rattle.depot_rule.proofs.Sums.{one-same, one-other, tally-without}
+use Rattle.depot_rule.specs.lemmas.Sums.{one-same, one-other, tally-without}
 use Rattle.depot_rule.proofs.Grants.{covers-one}
 use Rattle.depot_rule.proofs.Parcels.{slot-keeps}
 use Rattle.depot_rule.proofs.Places.{on-one}

@@ -9,8 +9,8 @@ use Rattle.depot_rule.specs.declared.view.Read.{Read}
 use Rattle.depot_rule.specs.Sums.{total, one_if, tally, over_taken}
 use Rattle.depot_rule.specs.Tree.{ancestors}
 use Rattle.depot_rule.specs.Shares.{exclusive, parts, made, open_grants, due, unsettled, claims, entered, shares, IsSound, Shares}
-use Rattle.depot_rule.proofs.Sums.{one-same, one-other, one-most, total-set, total-at, total-less, fill-at, clear-at, free-at}
-use Rattle.depot_rule.proofs.Trees.{ancestors-once}
+use Rattle.depot_rule.specs.lemmas.Sums.{one-same, one-other, one-most, total-set, total-at, total-less, fill-at, clear-at, free-at}
+use Rattle.depot_rule.specs.lemmas.Trees.{ancestors-once}
 use Rattle.depot_rule.proofs.Views.{all-one, each-set, unsure_in, shares-parts, few-in-word}
 
 module _ (P E : Type 0) where

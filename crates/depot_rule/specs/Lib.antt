@@ -8,3 +8,5 @@ pub mod Plays
 pub mod History
 pub mod Machine
 pub mod Laws
+pub mod Completions
+pub mod lemmas

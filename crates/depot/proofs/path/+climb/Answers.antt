@@ -2,7 +2,7 @@ use Rattle.std.proofs.Common.{arith, ◌<◌, ℕ, [], slice_index, sym, ap, ref
 use Rattle.depot_rule.specs.Sums.{tally}
 use Rattle.depot_rule.specs.Tree.{ancestors}
 use Rattle.depot_rule.specs.Seats.{view_of}
-use Rattle.depot_rule.proofs.Trees.{ancestors-root, not-above}
+use Rattle.depot_rule.specs.lemmas.Trees.{ancestors-root, not-above}
 use Rattle.depot.specs.Calls.{MovedTo}
 use Rattle.depot.proofs.Moves.{same-path, moved-one, moved-path, moved-unsure, entered-parent, claimed-higher, found-claimed}
 use Rattle.depot.proofs.path.+climb.Goals as goal

@@ -55,6 +55,13 @@ free-requires g c =
           (left_at (slots_filled c.gather-held.new.shelf.table.slots) (slots_items c.gather-held.new.shelf.table.slots)) (omega arith) c.gather-held.ensures.exact c.gather-held.ensures.moved;
     }
 
+pub returns-clause-entries : goal.returns-clause-entries
+returns-clause-entries g c =
+    let all : (known c.args.seat.badge.views).parts ≡ 64 = (let p = c.args.seat.parts in let q = c.requires.only in omega arith) in
+    let w = ended-so g.row.M-Parcel.Denot g.row.M-Call.Denot g.row.M-Reply.Denot g.row.M-Batch.Denot g.M.Parcel.HasKind.kind (behaviour g.M.Machine.steps g.M.Machine.takes g.M.Machine.gives g.M.Machine.invariant) c.into_seat-place.result.me.0
+    c.into_seat-place.ensures.2 c.args.seat.one.1 all c.requires.none_open c.close_with.ensures.values.2 in
+    w.entries
+
 pub returns-clause-history : goal.returns-clause-history
 returns-clause-history g c =
     let all : (known c.args.seat.badge.views).parts ≡ 64 = (let p = c.args.seat.parts in let q = c.requires.only in omega arith) in

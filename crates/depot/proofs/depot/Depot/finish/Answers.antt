@@ -1,4 +1,4 @@
-use Rattle.std.proofs.Common.{rules, ◌≡◌, ◌<◌, ◌+◌, ◌∷◌, ◌++◌, ℕ, List, [], length, Option, refl, sym, ap, ◌∙◌, subst, arith}
+use Rattle.std.proofs.Common.{rules, ◌≡◌, ◌<◌, ◌+◌, ◌∷◌, ◌++◌, ℕ, List, [], length, Option, sym, ap, ◌∙◌, subst, arith}
 use Rattle.nfs_model.specs.Tree.{Layout}
 use Rattle.affinity_tree.specs.Affinity.{affinity_of}
 use Rattle.affinity_tree.specs.Layout.{layout_of}
@@ -13,8 +13,10 @@ use Rattle.depot_rule.specs.Shares.{Has}
 use Rattle.depot_rule.specs.Seats.{view_of}
 use Rattle.depot.specs.Calls.{own_views, known}
 use Rattle.depot.specs.Holds.{IsGathered}
-use Rattle.depot.specs.Grants.{by_number, entry_of, IsSeatOf, HasWith, IsStep, HasInHand, IsFinished}
-use Rattle.depot.proofs.Layouts.{parents-tree}
+use Rattle.depot_rule.specs.History.{by_number}
+use Rattle.depot.specs.Grants.{entry_of, IsSeatOf, HasWith, IsStep, HasInHand, IsFinished}
+use Rattle.depot_rule.specs.lemmas.Nodes.{parents-tree}
+use Rattle.depot.proofs.Apart.{apart-of, less-apart}
 use Rattle.depot.proofs.Seated.{gathered-in}
 use Rattle.depot.proofs.Begun.{seat-still}
 use Rattle.depot.proofs.Moves.{no-path}
@@ -171,7 +173,7 @@ returns-clause-seat g c =
     let badge : c.into_badge.result.views ≡ c.give_home-place.result.me.0 ∷ [] = search rules in
     let done : IsFinished (behaviour g.M.Machine.steps g.M.Machine.takes g.M.Machine.gives g.M.Machine.invariant) K n e (known c.into_badge.result.views) = finished-known (behaviour g.M.Machine.steps g.M.Machine.takes g.M.Machine.gives g.M.Machine.invariant) seat.badge.views vs c.stamp_call.new.place.me.0 c.give_home-place.result.me.0 c.into_badge.result.views e stamped.0 is badge stamped.1 c.give_home-place.ensures.ended.1 in
     let now = done.3 in
-    (search rules, refl, seat-still g.M.Parcel.HasKind.kind L K (known c.into_badge.result.views) (ap (λ v. v.tree) now) (ap (λ v. v.first) now) c.requires.seat.1)
+    (search rules, seat-still g.M.Parcel.HasKind.kind L K (known c.into_badge.result.views) (ap (λ v. v.tree) now) (ap (λ v. v.first) now) c.requires.seat.1)
 
 pub invariant_of-seat : goal.invariant_of-seat
 invariant_of-seat g c =
@@ -201,4 +203,5 @@ invariant_of-seat g c =
       parts = ap (λ l. (known l).parts) full ∙ seat.parts;
       gathered = subst IsGathered (sym (ap known badge))
           (ended-gathered (view_of c.stamp_call.new.place.me.0) (view_of c.give_home-place.result.me.0) n tree stamped_all c.give_home-place.ensures.ended.1 c.give_home-place.ensures.apart c.give_home-place.ensures.others);
+      apart = apart-of _ full (less-apart K.tree K.held n seat.apart);
     }

@@ -10,8 +10,10 @@ use Rattle.depot_rule.specs.History.{behaviour}
 use Rattle.depot_rule.specs.Shares.{Has, opening_view}
 use Rattle.depot_rule.proofs.Joining.{none-held}
 use Rattle.depot.specs.Calls.{own_views, known}
-use Rattle.depot.specs.Grants.{by_number, IsSeatOf}
-use Rattle.depot.proofs.Layouts.{parents-tree, parents-few}
+use Rattle.depot_rule.specs.History.{by_number}
+use Rattle.depot.specs.Grants.{IsSeatOf}
+use Rattle.depot_rule.specs.lemmas.Nodes.{parents-tree, parents-few}
+use Rattle.depot.proofs.Apart.{apart-of, none-apart}
 use Rattle.depot.proofs.Opened.{opened-so}
 use Rattle.depot.proofs.Laid.{nothing-at, given-all, given-so, some-at, room-for, are-of-kind, still-placed, back-so, opened-view}
 use Rattle.depot.proofs.depot.Depot.new.Goals as goal
@@ -85,6 +87,7 @@ invariant_of-seat g c =
       idle = (ap (λ l. (known l).unsure) e, ap (λ l. (known l).out) e, ap (λ l. length (known l).path) e, ap (λ l. (known l).stamped) e);
       parts = ap (λ l. (known l).parts) e;
       gathered = λ b k h has. absurd (none-held (length (parents (layout_of c.args.layout))) b h (subst (λ (l : List (List (View g.row.M-Parcel.Denot E))). Has (known l) b h) e has));
+      apart = apart-of _ e (none-apart (parents (layout_of c.args.layout)) (length (parents (layout_of c.args.layout))));
     }
 
 pub returns-in-Ok-clause-made : goal.returns-in-Ok-clause-made
@@ -112,4 +115,4 @@ returns-in-Ok-clause-seat g c =
     let are = given-so f (c.node_count-n.result + 1) c.scatter.new.shelf.parcels.items c.in-Ok-Ok-Ok.shelf.parcels.items c.in-Ok-Ok-Ok.ensures'' c.scatter.ensures.moved in
     let kinds = are-of-kind g.M.Parcel.HasKind.kind (layout_of c.args.layout) f (by_number f (1 + node_count (layout_of c.args.layout))) c.requires.exact
     (λ k. ap (λ (l : List (Option g.row.M-Parcel.Denot)). get_or l k None) (sym laid) ∙ are k) in
-    (c.into_badge.ensures.0 ∙ ok.2, refl, subst (λ (l : List (List (View g.row.M-Parcel.Denot E))). IsSeatOf g.M.Parcel.HasKind.kind (layout_of c.args.layout) (known l)) (sym e) (refl, kinds))
+    (c.into_badge.ensures.0 ∙ ok.2, subst (λ (l : List (List (View g.row.M-Parcel.Denot E))). IsSeatOf g.M.Parcel.HasKind.kind (layout_of c.args.layout) (known l)) (sym e) (refl, kinds))

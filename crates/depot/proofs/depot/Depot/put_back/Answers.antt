@@ -1,4 +1,4 @@
-use Rattle.std.proofs.Common.{rules, ◌≡◌, ◌∷◌, ℕ, [], length, refl, sym, ap, ◌∙◌, subst}
+use Rattle.std.proofs.Common.{rules, ◌≡◌, ◌∷◌, ℕ, [], length, sym, ap, ◌∙◌, subst}
 use Rattle.nfs_model.specs.Tree.{Layout}
 use Rattle.affinity_tree.specs.Affinity.{affinity_of}
 use Rattle.affinity_tree.specs.Layout.{layout_of}
@@ -10,7 +10,8 @@ use Rattle.depot_rule.specs.Seats.{view_of}
 use Rattle.depot.specs.Calls.{own_views, known}
 use Rattle.depot.specs.Holds.{IsGathered}
 use Rattle.depot.specs.Grants.{HasWith, IsEnded}
-use Rattle.depot.proofs.Layouts.{parents-tree}
+use Rattle.depot_rule.specs.lemmas.Nodes.{parents-tree}
+use Rattle.depot.proofs.Apart.{apart-of, less-apart}
 use Rattle.depot.proofs.Seated.{gathered-in}
 use Rattle.depot.proofs.Begun.{seat-still}
 use Rattle.depot.proofs.Ended.{put-gathered, ended-views}
@@ -49,6 +50,7 @@ invariant_of-seat g c =
       idle = (ap (λ l. (known l).unsure) full ∙ seat.idle.0, ap (λ l. (known l).out) full ∙ seat.idle.1, ap (λ l. length (known l).path) full ∙ seat.idle.2, ap (λ l. (known l).stamped) full);
       parts = ap (λ l. (known l).parts) full ∙ seat.parts;
       gathered = subst IsGathered (sym (ap known badge)) (put-gathered seat.badge.views c.into_seat-place.result.me.0 c.give_home-place.result.me.0 n is tree seat.gathered c.give_home-place.ensures.ended.1 c.give_home-place.ensures.apart c.give_home-place.ensures.others);
+      apart = apart-of _ full (less-apart K.tree K.held n seat.apart);
     }
 
 pub returns-clause-seat : goal.returns-clause-seat
@@ -61,4 +63,4 @@ returns-clause-seat g c =
     let badge : c.into_badge.result.views ≡ c.give_home-place.result.me.0 ∷ [] = search rules in
     let ended = subst (λ l. IsEnded (known l) n (view_of c.give_home-place.result.me.0)) (sym is) c.give_home-place.ensures.ended.1 in
     let full = ended-views K n c.give_home-place.result.me.0 c.into_badge.result.views badge c.give_home-place.ensures.ended.0 ended in
-    (search rules, refl, seat-still g.M.Parcel.HasKind.kind L K (known c.into_badge.result.views) (ap (λ l. (known l).tree) full) (ap (λ l. (known l).first) full) c.requires.seat.1)
+    (search rules, seat-still g.M.Parcel.HasKind.kind L K (known c.into_badge.result.views) (ap (λ l. (known l).tree) full) (ap (λ l. (known l).first) full) c.requires.seat.1)
