@@ -27,7 +27,7 @@ use Rattle.engine.proofs.Arriving.{is-at}
 use Rattle.engine.proofs.Lists.{slice_get-last}
 use Rattle.engine.proofs.Records.{not-too-long}
 use Rattle.engine.proofs.Worlds.{Feeds-after, reached-is, reached-quiet, takes-quiet, connection-taken, quiet-scan}
-use Rattle.engine.proofs.Feeding.{IsFed, part-fault}
+use Rattle.engine.proofs.Fed.{IsFed, part-fault}
 
 -- ---- looks
 

@@ -5,13 +5,14 @@ pub mod Worlds
 pub mod Arriving
 pub mod Connections
 pub mod Serving
-pub mod Calls
+pub mod Requests
 pub mod Workers
 pub mod Admitting
-pub mod Feeding
+pub mod Fed
 pub mod Records
 pub mod Full
 pub mod Loops
 pub mod Serves
 pub mod Runs
 pub mod Marking
+pub mod Rooms

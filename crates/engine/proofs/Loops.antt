@@ -13,11 +13,11 @@ use Rattle.engine.specs.declared.connection.ClosedConnection.{ClosedConnection}
 use Rattle.engine.specs.declared.state.State as states
 use Rattle.engine.specs.Numbers.{fault_number}
 use Rattle.engine.specs.Seen.{setup_in, world, connections_of}
-use Rattle.engine.specs.Sound.{IsSound, IsRoomy, AtNoFault, at_no_fault, MayGoOn, IsFree, stands_at, pending}
+use Rattle.engine.specs.Sound.{IsSound, IsRoomy, owed, AtNoFault, at_no_fault, MayGoOn, IsFree, stands_at, pending}
 use Rattle.engine.specs.Feeding.{TakesAll}
 use Rattle.engine.proofs.Worlds.{TakesAll-append, Feeds-after, bytes_taken-none}
 use Rattle.engine.proofs.Connections.{others-closed, all-closed, last-open}
-use Rattle.engine.proofs.Feeding.{fed-open, not-crowded, crowded, feeds-nothing}
+use Rattle.engine.proofs.Fed.{fed-open, not-crowded, crowded, feeds-nothing}
 use Rattle.engine.proofs.Full.{full-stop, full-nothing}
 
 pub goes-on : (setup other : Setup) (c d : ℕ) (w m new : World) (bytes : List ℕ) (taken count : ℕ) → setup ≡ other → c ≡ d → TakesAll other d w (take taken bytes) m → TakesAll setup c m (take count (drop taken bytes)) new
@@ -83,7 +83,7 @@ is_none-map : {A B : Type 0} (f : A → B) (o : Option A) → is_none (option_ma
 is_none-map f None = refl
 is_none-map f (Some x) = refl
 
-taking_is : (s : states.State) (current : Option OpenConnection) (i : ℕ) → IfSome current (λ c. IsRoomy (pending s) c × (vec_len s.past < vec_capacity s.past)) → i ≡ length s.past.items
+taking_is : (s : states.State) (current : Option OpenConnection) (i : ℕ) → IfSome current (λ c. IsRoomy (owed s) c × (vec_len s.past < vec_capacity s.past)) → i ≡ length s.past.items
     → takes_input (setup_in s) (slice_get (connections_of s.past.items current) i) ≡ at_no_fault current
 taking_is s None i h e = closed_takes_none (setup_in s) _ (all-closed s.past.items i)
 taking_is s (Some o) i h e = taken_by (setup_in s) s.past.items o i e ∙ ap (λ (f : Option ℕ). is_none f) h.0.in_step.fault ∙ is_none-map fault_number o.fault

@@ -1,7 +1,13 @@
 -- What holds of an engine's fields beside what is seen of them: what was read is in step with the streams, and what is to come has its room.
-use Rattle.std.specs.Prelude.{Bool, false, is_none, ◌⊎◌, ◌≡◌, ℕ, ◌+◌, ◌*◌, ◌^◌, ◌≤◌, ◌<◌, List, [], ◌∷◌, ◌++◌, length, take, Option, Some, None, option_map, IfSome, IsTrue, vec_len, vec_capacity}
+use Rattle.std.specs.Prelude.{◌==◌, ◌-◌, if◌then◌else◌, Bool, false, is_none, ◌⊎◌, ◌≡◌, ℕ, ◌+◌, ◌^◌, ◌≤◌, ◌<◌, List, [], ◌∷◌, ◌++◌, length, take, Option, Some, None, option_map, IfSome, IsTrue, vec_len, vec_capacity}
 use Rattle.nfs_model.specs.Types as types
 use Rattle.nfs_model.specs.Serial.Starve.{may_starve_at_decoding}
+use Rattle.std.specs.List.{AllByRecursion}
+use Rattle.nfs_model.specs.Tree.{Layout}
+use Rattle.nfs_model.specs.Home.{home}
+use Rattle.nfs_values.specs.Call.{call_of}
+use Rattle.affinity_tree.specs.Affinity.{affinity_of}
+use Rattle.affinity_tree.specs.Layout.{layout_of}
 use Rattle.rpc_record.specs.Machine.{State, Outcome, More, Made, Fault, outcome}
 use Rattle.rpc_record.specs.Stream.{read_stream}
 use Rattle.engine.specs.declared.event.StreamFault.TheVariants.{RecordTooLong}
@@ -9,11 +15,12 @@ use Rattle.engine.specs.declared.connection.OpenConnection.{OpenConnection}
 use Rattle.engine.specs.declared.connection.Arrival.{Arrival}
 use Rattle.engine.specs.declared.connection.Arrival.TheVariants as arrivals
 use Rattle.engine.specs.declared.event.StreamFault.{StreamFault}
+use Rattle.engine.specs.declared.message.Message.{Message}
 use Rattle.engine.specs.declared.message.Running.{Running}
 use Rattle.engine.specs.declared.parcel.VolumeLogical.{VolumeLogical}
 use Rattle.engine.specs.declared.state.State as states
 use Rattle.engine.specs.Numbers.{fault_number}
-use Rattle.engine.specs.Seen.{heard_of}
+use Rattle.engine.specs.Seen.{heard_of, tried}
 use Rattle.engine.specs.Streams.{scan_stream, IsQuiet, Completes}
 
 -- What was read of a connection is in step with its stream.
@@ -47,13 +54,55 @@ IsLent None (Some r) = Unit {0}
 IsLent (Some p) None = Unit {0}
 IsLent (Some p) (Some r) = ⊥
 
--- Each message that waits or runs has its room among the replies.
-pub record IsRoomy (pending : ℕ) (c : OpenConnection) : Type 0 where
+-- the room that a message keeps on a connection
+abbrev pub owed_to : ℕ → Message → ℕ
+owed_to c m = if m.origin.connection == c then m.room else 0
+
+abbrev pub owed_waiting : ℕ → List Message → ℕ
+owed_waiting c [] = 0
+owed_waiting c (m ∷ ms) = owed_to c m + owed_waiting c ms
+
+abbrev pub owed_running : ℕ → Option Running → ℕ
+owed_running c None = 0
+owed_running c (Some r) = owed_to c r.message
+
+-- the room that all messages keep on the connection that was opened last
+abbrev pub owed : states.State → ℕ
+owed s = owed_waiting (vec_len s.past) s.waiting.items + owed_running (vec_len s.past) s.running
+
+-- the replies that are owed have their room
+abbrev pub HasItsRoom : OpenConnection → Type 0
+HasItsRoom c = vec_len c.output + c.owed ≤ vec_capacity c.output
+
+-- and so has one more
+abbrev pub HasRoomForOneMore : OpenConnection → Type 0
+HasRoomForOneMore c = vec_len c.output + (c.owed + 116) ≤ vec_capacity c.output
+
+-- What was read is in step, and each message of the connection that waits or runs keeps the room of its reply.
+pub record IsRoomy (total : ℕ) (c : OpenConnection) : Type 0 where
   pub in_step : IsInStep c
-  pub output : vec_len c.output + 116 * pending ≤ vec_capacity c.output
+  pub owed : c.owed ≡ total
+  pub output : HasItsRoom c
+
+-- one where there is one
+abbrev pub count_open : Option OpenConnection → ℕ
+count_open None = 0
+count_open (Some c) = 1
+
+-- how many connections were opened
+abbrev pub opened : states.State → ℕ
+opened s = vec_len s.past + count_open s.current
+
+-- A message tries the home of its call, keeps room for its reply, and is of one of the connections that were opened.
+pub record IsPlaced (layout : Layout) (connections : ℕ) (m : Message) : Type 0 where
+  pub at_home : affinity_of m.affinity ≡ tried (home layout (call_of m.call))
+  pub room : 116 ≤ m.room
+  pub known : m.origin.connection < connections
 
 pub record IsSound (s : states.State) : Type 0 where
-  pub current : IfSome s.current (λ c. IsRoomy (pending s) c × (vec_len s.past < vec_capacity s.past))
+  pub current : IfSome s.current (λ c. IsRoomy (owed s) c × (vec_len s.past < vec_capacity s.past))
+  pub waiting : AllByRecursion (IsPlaced (layout_of s.layout) (opened s)) s.waiting.items
+  pub running : IfSome s.running (λ r. IsPlaced (layout_of s.layout) (opened s) r.message)
   pub places : pending s ≤ 1024
   pub finished : vec_len s.finished + pending s ≤ vec_capacity s.finished
   pub lent : IsLent s.home s.running
@@ -73,10 +122,43 @@ MayBeWrittenTo None (Some new) = ⊥
 MayBeWrittenTo (Some old) None = ⊥
 MayBeWrittenTo (Some old) (Some new) = IsWrittenTo old new
 
+-- a connection that was written to, or that owes another reply
+abbrev pub IsAnswered : OpenConnection → OpenConnection → Type 0
+IsAnswered old new = new ≡ record old { output = new.output; owed = new.owed }
+
+abbrev pub MayBeAnswered : Option OpenConnection → Option OpenConnection → Type 0
+MayBeAnswered None None = Unit {0}
+MayBeAnswered None (Some new) = ⊥
+MayBeAnswered (Some old) None = ⊥
+MayBeAnswered (Some old) (Some new) = IsAnswered old new
+
 -- a reply was written where its connection is open; all else stays
-pub record Responds (old new : states.State) : Type 0 where
+pub record Responds (connection : ℕ) (old new : states.State) : Type 0 where
+  pub elsewhere : (connection ≡ vec_len old.past → ⊥) → new ≡ old
   pub same : new ≡ record old { current = new.current }
   pub current : MayBeWrittenTo old.current new.current
+
+-- the room for a reply on the connection that was opened last, where it is that one
+abbrev pub HasRoomToReply : states.State → ℕ → Type 0
+HasRoomToReply s connection = connection ≡ vec_len s.past → IfSome s.current (λ c. vec_len c.output + 116 ≤ vec_capacity c.output)
+
+-- a connection that owes less, where it is the one of this number
+abbrev pub less_owed : ℕ → ℕ → ℕ → OpenConnection → OpenConnection
+less_owed number connection room c = if connection == number then record c { owed = c.owed - room } else c
+
+-- the room of a reply is given up on its connection; all else stays
+abbrev pub Releases : ℕ → ℕ → states.State → states.State → Type 0
+Releases connection room old new = new ≡ record old { current = option_map (less_owed (vec_len old.past) connection room) old.current }
+
+-- a connection that owes more
+abbrev pub more_owed : ℕ → OpenConnection → OpenConnection
+more_owed room c = record c { owed = c.owed + room }
+
+-- a message waits last, and its connection owes its room; all else stays
+pub record Waits (m : Message) (old new : states.State) : Type 0 where
+  pub same : new ≡ record old { waiting = new.waiting; current = option_map (more_owed m.room) old.current }
+  pub items : new.waiting.items ≡ old.waiting.items ++ m ∷ []
+  pub len : vec_len new.waiting ≡ vec_len old.waiting + 1
 
 -- one more entry is kept; all else stays
 pub record KeepsEntry (old new : states.State) : Type 0 where
@@ -90,7 +172,7 @@ pub record KeepsEntry (old new : states.State) : Type 0 where
 pub record HasRoomToAdmit (s : states.State) : Type 0 where
   pub waiting : vec_len s.waiting < vec_capacity s.waiting
   pub finished : vec_len s.finished + (pending s + 1) ≤ vec_capacity s.finished
-  pub output : IfSome s.current (λ c. vec_len c.output + 116 * (pending s + 1) ≤ vec_capacity c.output)
+  pub output : IfSome s.current HasRoomForOneMore
 
 -- a connection with perhaps more room for its output
 pub record IsRoomier (old new : OpenConnection) : Type 0 where
@@ -134,7 +216,7 @@ pub record TakesFrom (old new : OpenConnection) (bytes : List ℕ) (taken : ℕ)
   pub stream : new.stream.items ≡ old.stream.items ++ take taken bytes
   pub len : vec_len new.stream ≡ vec_len old.stream + taken
   pub room : vec_capacity old.stream ≤ vec_capacity new.stream
-  pub output : new.output ≡ old.output
+  pub output : (new.output ≡ old.output) × (new.owed ≡ old.owed)
   pub in_step : IsInStep new
   pub faultless : IsFaultless arrival new.fault
 

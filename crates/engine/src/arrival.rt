@@ -28,7 +28,7 @@ pub(crate) fn take_bytes(from: &mut OpenConnection, bytes: &[u8]) -> (usize, Arr
     ensures stream { from.new.stream.items ≡ from.old.stream.items ++ take result.0 bytes.now }
     ensures len { vec_len from.new.stream ≡ vec_len from.old.stream + result.0 }
     ensures room { vec_capacity from.old.stream ≤ vec_capacity from.new.stream }
-    ensures output { from.new.output ≡ from.old.output }
+    ensures output { (from.new.output ≡ from.old.output) × (from.new.owed ≡ from.old.owed) }
     ensures in_step { IsInStep from.new }
     ensures faultless { IsFaultless result.1 from.new.fault }
     ensures within { result.0 ≤ length bytes.now }

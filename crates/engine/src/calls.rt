@@ -8,7 +8,7 @@ ghost use Rattle.engine.specs.Seen.{setup_in, world, answer_of};
 ghost use Rattle.engine.specs.Sound.{IsSound};
 
 use crate::event::{Done, Refusal};
-use crate::finishing::{keep_entry, respond};
+use crate::finishing::{keep_entry, release, respond};
 use crate::message::{Request, Running};
 use crate::served::ServedAnswer;
 use crate::state::{SECOND, STAMPS, State};
@@ -43,7 +43,7 @@ pub(crate) fn begin(
         return Err(Refusal::Busy);
     };
     let message = state.waiting.remove(place);
-    let affinity = work::tried(&message.call, &state.layout);
+    let affinity = message.affinity;
     state.running = Some(Running {
         message,
         moment,
@@ -103,12 +103,13 @@ pub(crate) fn finish(state: &mut State, worker: usize) -> Result<Done, Refusal>
     state.home = Some(held);
     state.stamps += 1;
     let origin = message.origin;
-    let affinity = Some(work::tried(&message.call, &state.layout));
+    let affinity = Some(message.affinity);
     let request = Request::Call {
         call: message.call,
         credential: message.credential,
     };
     let count = respond(state, origin, &Reply::Success(answer.into_answer()));
+    release(state, origin, message.room);
     keep_entry(state, origin, Some(request), affinity, moment);
     Ok(Done::Written {
         connection: origin.connection,

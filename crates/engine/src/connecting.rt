@@ -1,6 +1,6 @@
 //! Connections that are opened and closed.
 
-ghost use Rattle.std.specs.Prelude.{◌≡◌, ◌*◌, ◌<◌, ◌≤◌, [], OnOk, IfOk, vec_len, vec_capacity};
+ghost use Rattle.std.specs.Prelude.{◌≡◌};
 ghost use Rattle.nfs_model.specs.Events.Refusals as events;
 ghost use Rattle.nfs_model.specs.Events.Step.{Events};
 ghost use Rattle.engine.specs.Seen.{setup_in, world, answer_of};
@@ -8,25 +8,8 @@ ghost use Rattle.engine.specs.Sound.{IsSound};
 
 use crate::connection::{ClosedConnection, OpenConnection};
 use crate::event::{Done, Refusal};
-use crate::state::{REPLY_LIMIT, State};
+use crate::state::State;
 use rpc_record::Reassembler;
-use std::alloc::{AllocError, Global};
-
-/// Room for one more closed connection, and for so many replies on a new one.
-fn room_to_open(
-    past: &mut Vec<ClosedConnection>,
-    alloc: Global,
-    replies: usize,
-) -> Result<Vec<u8>, AllocError>
-    requires { replies ≤ 1024 }
-    ensures same { past.new.items ≡ past.old.items }
-    ensures len { vec_len past.new ≡ vec_len past.old }
-    ensures room { OnOk result (vec_len past.new < vec_capacity past.new) }
-    ensures output { IfOk result (λ output. (output.items ≡ []) × (vec_len output ≡ 0) × (116 * replies ≤ vec_capacity output)) }
-{
-    past.try_reserve(1)?;
-    Vec::with_capacity(alloc, REPLY_LIMIT * replies)
-}
 
 /// Opens a connection, where none is open.
 pub(crate) fn open_connection(state: &mut State) -> Result<Done, Refusal>
@@ -38,17 +21,17 @@ pub(crate) fn open_connection(state: &mut State) -> Result<Done, Refusal>
     if state.current.is_some() {
         return Err(Refusal::Full);
     }
-    let replies = state.pending();
-    let Ok(output) = room_to_open(&mut state.past, state.alloc, replies) else {
+    if state.past.try_reserve(1).is_err() {
         return Err(Refusal::NoMemory);
-    };
+    }
     state.current = Some(OpenConnection {
         alloc: state.alloc,
         stream: Vec::new(state.alloc),
         reassembler: Reassembler::new(state.alloc),
         records: 0,
         fault: None,
-        output,
+        output: Vec::new(state.alloc),
+        owed: 0,
     });
     Ok(Done::Opened {
         connection: state.past.len(),

@@ -18,6 +18,8 @@ pub(crate) struct OpenConnection {
     pub(crate) fault: Option<StreamFault>,
     /// All bytes written.
     pub(crate) output: Vec<u8>,
+    /// The room that is kept for the replies to its messages.
+    pub(crate) owed: usize,
 }
 
 /// A connection that was closed.

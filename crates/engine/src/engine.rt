@@ -10,6 +10,7 @@ ghost use Rattle.engine.specs.Sound.{IsSound};
 ghost use Rattle.affinity_tree.specs.Layout.{layout_of};
 ghost use Rattle.engine.specs.Streams.{setup_of};
 
+use crate::calls;
 use crate::connecting::{close_connection, open_connection};
 use crate::event::{Done, Event, Refusal};
 use crate::feeding::feed;

@@ -6,7 +6,7 @@ ghost use Rattle.nfs_model.specs.Events.Refusals as events;
 ghost use Rattle.nfs_model.specs.Events.Step.{Events};
 ghost use Rattle.nfs_model.specs.Events.Feed.{Feeds, heard_in};
 ghost use Rattle.engine.specs.Seen.{setup_in, world, answer_of, heard_of};
-ghost use Rattle.engine.specs.Sound.{IsSound, pending, MayBeWrittenTo, MayBeRoomier, MakesRoom, HasRoomToAdmit, TakesIn, MayTakeFrom, records_of, HasNoRecord, AdmitsNone, stands_at, IsFree, AtNoFault, at_no_fault, MayGoOn, MayBeStreamRoomier};
+ghost use Rattle.engine.specs.Sound.{IsSound, pending, MayBeAnswered, MayBeRoomier, MakesRoom, HasRoomToAdmit, HasItsRoom, HasRoomForOneMore, Waits, count_open, TakesIn, MayTakeFrom, records_of, HasNoRecord, AdmitsNone, stands_at, IsFree, AtNoFault, at_no_fault, MayGoOn, MayBeStreamRoomier};
 ghost use Rattle.engine.specs.Numbers.{stop_number};
 ghost use Rattle.rpc_record.specs.Machine.{outcome};
 ghost use Rattle.engine.specs.Feeding.{FeedsPart, bytes_taken};
@@ -23,17 +23,14 @@ use nfs_values::{Moment, Reply};
 use rpc_record::Look;
 use std::alloc::AllocError;
 
-/// Room for so many replies.
-fn make_room_for_replies(
-    current: &mut Option<OpenConnection>,
-    replies: usize,
-) -> Result<(), AllocError>
-    requires { replies ≤ 1025 }
+/// Room for one more reply beside those that are owed.
+fn make_room_for_reply(current: &mut Option<OpenConnection>) -> Result<(), AllocError>
+    requires { IfSome current.old HasItsRoom }
     ensures same { MayBeRoomier current.old current.new }
-    ensures room { OnOk result (IfSome current.new (λ c. vec_len c.output + 116 * replies ≤ vec_capacity c.output)) }
+    ensures room { OnOk result (IfSome current.new HasRoomForOneMore) }
 {
     match current {
-        Some(last) => last.output.try_reserve(REPLY_LIMIT * replies),
+        Some(last) => last.output.try_reserve(last.owed + REPLY_LIMIT),
         None => Ok(()),
     }
 }
@@ -46,21 +43,35 @@ fn make_room(state: &mut State) -> Result<(), AllocError>
     ensures room { OnOk result (HasRoomToAdmit state.new) }
     ensures sound { IsSound state.new }
 {
-    let replies = state.pending() + 1;
+    let entries = state.pending() + 1;
     state.waiting.try_reserve(1)?;
-    state.finished.try_reserve(replies)?;
-    make_room_for_replies(&mut state.current, replies)
+    state.finished.try_reserve(entries)?;
+    make_room_for_reply(&mut state.current)
+}
+
+/// Lets a message of the open connection wait, which keeps the room of its reply.
+fn wait(state: &mut State, message: Message)
+    requires room { vec_len state.old.waiting < vec_capacity state.old.waiting }
+    requires owed { IfSome state.old.current HasRoomForOneMore }
+    requires small { message.room ≤ 116 }
+    ensures waits { Waits message state.old state.new }
+{
+    if let Some(last) = &mut state.current {
+        last.owed += message.room;
+    }
+    state.waiting.push_reserved(message);
 }
 
 /// Lets the call of a record wait, or answers it where it needs no affinity.
 fn admit(state: &mut State, number: usize, heard: Heard)
     requires sound { IsSound state.old }
     requires room { HasRoomToAdmit state.old }
+    requires connected { count_open state.old.current ≡ 1 }
     requires places { pending state.old < 1024 }
     ensures admitted { world state.new ≡ heard_in (setup_in state.old) (world state.old) (vec_len state.old.past) number (heard_of heard) false }
     ensures setup { setup_in state.new ≡ setup_in state.old }
     ensures past { state.new.past ≡ state.old.past }
-    ensures current { MayBeWrittenTo state.old.current state.new.current }
+    ensures current { MayBeAnswered state.old.current state.new.current }
     ensures sound { IsSound state.new }
 {
     let origin = Origin {
@@ -80,11 +91,16 @@ fn admit(state: &mut State, number: usize, heard: Heard)
             );
         }
         Request::Call { call, credential } => match home_of(call.as_call(), &state.layout) {
-            Some(_) => state.waiting.push_reserved(Message {
-                origin,
-                call,
-                credential,
-            }),
+            Some(affinity) => wait(
+                state,
+                Message {
+                    origin,
+                    call,
+                    credential,
+                    affinity,
+                    room: REPLY_LIMIT,
+                },
+            ),
             None => {
                 respond(state, origin, &Reply::Success(answer_at_once(&call)));
                 keep_entry(
@@ -107,7 +123,7 @@ fn starve(state: &mut State, number: usize, xid: u32)
     ensures starved { (asked : types.Asked) → world state.new ≡ heard_in (setup_in state.old) (world state.old) (vec_len state.old.past) number (record { xid = xid; asked = asked }) true }
     ensures setup { setup_in state.new ≡ setup_in state.old }
     ensures past { state.new.past ≡ state.old.past }
-    ensures current { MayBeWrittenTo state.old.current state.new.current }
+    ensures current { MayBeAnswered state.old.current state.new.current }
     ensures sound { IsSound state.new }
 {
     let origin = Origin {

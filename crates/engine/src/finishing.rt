@@ -7,7 +7,7 @@ ghost use Rattle.nfs_values.specs.Reply.{reply_of};
 ghost use Rattle.rpc_msg.specs.Replies.{IsShort};
 ghost use Rattle.engine.specs.Codec.{reply_record};
 ghost use Rattle.engine.specs.Seen.{world, entry_by};
-ghost use Rattle.engine.specs.Sound.{IsWrittenTo, Responds, KeepsEntry};
+ghost use Rattle.engine.specs.Sound.{HasRoomToReply, IsWrittenTo, Releases, Responds, KeepsEntry};
 
 use crate::connection::OpenConnection;
 use crate::message::{Entry, Origin, Request};
@@ -33,10 +33,10 @@ fn write_to(last: &mut OpenConnection, xid: u32, reply: &Reply) -> usize
 /// record's connection is closed.
 pub(crate) fn respond(state: &mut State, origin: Origin, reply: &Reply) -> usize
     requires short { IsShort (reply_of reply.now) }
-    requires room { IfSome state.old.current (λ c. vec_len c.output + 116 ≤ vec_capacity c.output) }
+    requires room { HasRoomToReply state.old origin.connection }
     ensures written { world state.new ≡ record (world state.old) { connections = changed_at (with_output (reply_record origin.xid (reply_of reply.now))) (world state.old).connections origin.connection } }
     ensures count { result ≡ length (bytes_if_open (slice_get (world state.old).connections origin.connection) (reply_record origin.xid (reply_of reply.now))) }
-    ensures responds { Responds state.old state.new }
+    ensures responds { Responds origin.connection state.old state.new }
 {
     if origin.connection != state.past.len() {
         return 0;
@@ -44,6 +44,19 @@ pub(crate) fn respond(state: &mut State, origin: Origin, reply: &Reply) -> usize
     match &mut state.current {
         Some(last) => write_to(last, origin.xid, reply),
         None => 0,
+    }
+}
+
+/// Gives up the room of a message's reply, which was written where its connection is open.
+pub(crate) fn release(state: &mut State, origin: Origin, room: usize)
+    requires { IfSome state.old.current (λ c. origin.connection ≡ vec_len state.old.past → room ≤ c.owed) }
+    ensures { Releases origin.connection room state.old state.new }
+{
+    if origin.connection != state.past.len() {
+        return;
+    }
+    if let Some(last) = &mut state.current {
+        last.owed -= room;
     }
 }
 

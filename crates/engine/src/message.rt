@@ -33,12 +33,16 @@ pub struct Heard {
     pub request: Request,
 }
 
-/// A call that waits or runs. Each tries the affinity that its call is at home in.
+/// A call that waits or runs.
 #[derive(Drop)]
 pub struct Message {
     pub origin: Origin,
     pub call: ServedCall,
     pub credential: Credential,
+    /// What it tries: the affinity that its call is at home in.
+    pub affinity: Affinity,
+    /// How many bytes its reply may take of the room that its connection has.
+    pub room: usize,
 }
 
 /// A message that a worker has begun, with the parcel that it was lent.

@@ -3,37 +3,25 @@
 ghost use Rattle.std.specs.Prelude.{◌≡◌, List, ℕ};
 ghost use Rattle.nfs_model.specs.Types as types;
 ghost use Rattle.nfs_model.specs.Tree as trees;
-ghost use Rattle.nfs_model.specs.Home.{home};
 ghost use Rattle.nfs_model.specs.ReadOnly.{IsReading};
 ghost use Rattle.nfs_model.specs.Serial.AtOnce.{answer_without_home};
 ghost use Rattle.nfs_model.specs.Shown.{shown};
 ghost use Rattle.nfs_values.specs.Attributes.{shown_of};
 ghost use Rattle.nfs_values.specs.Answer.{answer_of};
 ghost use Rattle.nfs_values.specs.Call.{call_of};
-ghost use Rattle.affinity_tree.specs.Affinity.{affinity_of};
 ghost use Rattle.affinity_tree.specs.Layout.{layout_of};
-ghost use Rattle.engine.specs.Seen.{root_of, tried, volume_of};
+ghost use Rattle.engine.specs.Seen.{root_of, volume_of};
 ghost use Rattle.engine.specs.Served.{IsAnswer};
 ghost use Rattle.engine.specs.Short.{IsShortAnswer};
 
 use crate::parcel::VolumeLogical;
 use crate::served::ServedCall;
-use affinity::{home_of, named_by};
-use affinity_tree::{Affinity, Layout};
+use affinity::named_by;
+use affinity_tree::Layout;
 use nfs_values::{Answer, Attributes, Call, FileKind, Procedure, Status};
 
 /// The fileid of the root directory.
 const ROOT: u64 = 1;
-
-/// The affinity that a waiting call tries. A call without one doesn't wait.
-pub(crate) fn tried(call: &ServedCall, layout: &Layout) -> Affinity
-    ensures { affinity_of result ≡ tried (home (layout_of layout.now) (call_of call.now)) }
-{
-    match home_of(call.as_call(), layout) {
-        Some(affinity) => affinity,
-        None => Affinity::Serial,
-    }
-}
 
 /// What a call without an affinity is answered.
 pub(crate) fn answer_at_once(call: &ServedCall) -> Answer

@@ -2,10 +2,10 @@
 #![tactic(auto)]
 
 mod choice;
+mod commands;
 mod fault;
+mod playing;
 mod printing;
-mod program;
-mod replay;
 #[cfg(test)]
 mod rows;
 mod script;
@@ -14,8 +14,8 @@ mod tests;
 mod words;
 
 pub use choice::Command;
+pub use commands::program;
 pub use fault::Fault;
+pub use playing::replay;
 pub use printing::print_fault;
-pub use program::program;
-pub use replay::replay;
 pub use words::command;

@@ -6,11 +6,12 @@ mod line;
 mod word;
 
 use crate::fault::Fault;
-use crate::script::line::{EventLine, Line, Unread, read_line};
+use crate::script::line::{Line, Unread, read_line};
 use affinity_tree::{
     AggregateSpec, Layout, LayoutFault, MOST_AGGREGATES, MOST_RANGES, MOST_SPARE, MOST_VOLUMES,
     VolumeSpec,
 };
+use engine::Event;
 use std::alloc::Global;
 
 /// What ends a line.
@@ -39,6 +40,11 @@ fn is_volume(
         && (aggregate as usize) < aggregates.len()
         && 1 <= ranges
         && ranges <= MOST_RANGES
+}
+
+/// Whether a line is empty or a comment.
+fn is_skipped(text: &[u8]) -> bool {
+    matches!(text, [] | [b'#', ..])
 }
 
 /// The lines of a script, of which some are read.
@@ -106,24 +112,29 @@ impl<'a> Script<'a> {
     }
 
     /// The next line that is neither empty nor a comment; nothing at the end.
-    fn next_line(&mut self) -> Result<Option<Line>, Fault>
+    fn next_line(&mut self) -> Result<Option<&'a [u8]>, Fault>
         ensures { IfOk result (λ line. IsSome line → length self.new.rest.now < length self.old.rest.now) }
     {
         while let Some(text) = self.next_text()? {
-            match read_line(self.alloc, text) {
-                Ok(None) => {}
-                Ok(Some(line)) => return Ok(Some(line)),
-                Err(Unread::Form) => return Err(self.bad_line()),
-                Err(Unread::NoMemory) => return Err(Fault::NoMemory),
+            if !is_skipped(text) {
+                return Ok(Some(text));
             }
         }
         Ok(None)
     }
 
+    /// What a line says that was read last.
+    fn said<'b>(&self, text: &[u8], bytes: &'b mut Vec<u8>) -> Result<Line<'b>, Fault> {
+        read_line(self.alloc, text, bytes).map_err(|unread| match unread {
+            Unread::Form => self.bad_line(),
+            Unread::NoMemory => Fault::NoMemory,
+        })
+    }
+
     /// The next line of the layout. Where the script ends, the line past its last is bad.
-    fn layout_line(&mut self) -> Result<Line, Fault> {
+    fn layout_line<'b>(&mut self, bytes: &'b mut Vec<u8>) -> Result<Line<'b>, Fault> {
         match self.next_line()? {
-            Some(line) => Ok(line),
+            Some(text) => self.said(text, bytes),
             None => Err(Fault::BadLine {
                 number: self.count + 1,
             }),
@@ -134,8 +145,9 @@ impl<'a> Script<'a> {
     pub(crate) fn read_start(&mut self) -> Result<Start, Fault> {
         let mut aggregates = Vec::new(self.alloc);
         let mut volumes = Vec::new(self.alloc);
+        let mut bytes = Vec::new(self.alloc);
         for _ in 0..LAYOUT_LINES {
-            match self.layout_line()? {
+            match self.layout_line(&mut bytes)? {
                 Line::Aggregate { spare } if is_aggregate(&aggregates, &volumes, spare) => {
                     let specification = AggregateSpec { spare };
                     aggregates
@@ -174,14 +186,19 @@ impl<'a> Script<'a> {
         }
     }
 
-    /// The next event; nothing at the end.
-    pub(crate) fn read_event(&mut self) -> Result<Option<EventLine>, Fault>
+    /// The next event; nothing at the end. The bytes of a feed replace those in the buffer.
+    pub(crate) fn read_event<'b>(
+        &mut self,
+        bytes: &'b mut Vec<u8>,
+    ) -> Result<Option<Event<'b>>, Fault>
         ensures { IfOk result (λ event. IsSome event → length self.new.rest.now < length self.old.rest.now) }
     {
-        match self.next_line()? {
-            None => Ok(None),
-            Some(Line::Event(event)) => Ok(Some(event)),
-            Some(_) => Err(self.bad_line()),
+        let Some(text) = self.next_line()? else {
+            return Ok(None);
+        };
+        match self.said(text, bytes)? {
+            Line::Event(event) => Ok(Some(event)),
+            _ => Err(self.bad_line()),
         }
     }
 }

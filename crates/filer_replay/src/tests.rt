@@ -1,7 +1,7 @@
 use crate::choice::Command;
+use crate::commands::program;
 use crate::fault::Fault;
-use crate::program::program;
-use crate::replay::replay;
+use crate::playing::replay;
 use crate::words::command;
 use affinity_tree::{AggregateSpec, Layout, VolumeSpec};
 use engine::{Engine, Event};
@@ -346,10 +346,11 @@ impl Read for Broken<'_> {
     }
 }
 
-/// A writer that takes so many writes, and then fails.
+/// A writer that takes so many writes, and then fails, as a flush of it does where it is cut.
 #[derive(Drop)]
 struct Closing {
     left: usize,
+    is_cut: bool,
     taken: Vec<u8>,
 }
 
@@ -363,41 +364,48 @@ impl Write for Closing {
     }
 
     fn flush(&mut self) -> io::Result<()> {
+        if self.is_cut {
+            return Err(io::Error::from(io::ErrorKind::BrokenPipe));
+        }
         Ok(())
     }
+}
+
+/// Runs a script whose output fails after so many writes, and answers what was written.
+fn expect_cut(rt: &(impl Abort + AllocGlobal), script: &str, left: usize, is_cut: bool) -> Vec<u8> {
+    let mut out = Closing {
+        left,
+        is_cut,
+        taken: Vec::new(rt.alloc()),
+    };
+    assert_eq!(rt; replay(rt.alloc(), &mut script.as_bytes(), &mut out), 1);
+    let Closing { taken, .. } = out;
+    taken
 }
 
 #[test]
 fn devices_fail(rt: HostRuntime) -> Result<(), Fail> {
     let alloc = rt.alloc();
-    let script = format!(in alloc;
-        "{LAYOUT}open\nfeed 0 {NULL}\nfeed 0 {GETATTR}\nbegin 0 0 1 0\nwork 0\nfinish 0\nclose 1\n"
-    )?;
-    let printed = format!(in alloc;
-        "conn 0\ntaken 44 stop 0\nout 0 {NULL_REPLY}\ntaken 60 stop 0\ngranted logical 0\nreply\nout 0 {GETATTR_REPLY}\nrefused 36\n"
-    )?;
-
     let mut out = Vec::new(alloc);
-    assert_eq!(rt; replay(alloc, &mut Broken(script.as_bytes()), &mut out), 1);
+    assert_eq!(rt; replay(alloc, &mut Broken(LAYOUT.as_bytes()), &mut out), 1);
     assert_eq!(rt; out.as_slice(), b"fault 61\n".as_slice());
 
-    let mut was_cut = false;
-    let mut was_whole = false;
-    for left in 0..64 {
-        let mut out = Closing {
-            left,
-            taken: Vec::new(alloc),
-        };
-        assert_eq!(rt; replay(alloc, &mut script.as_bytes(), &mut out), 1);
-        assert!(rt; printed.as_bytes().starts_with(&out.taken));
-        if out.left > 0 {
-            was_whole = true;
-            assert_eq!(rt; out.taken.as_slice(), printed.as_bytes());
-        } else {
-            was_cut = true;
-        }
+    // 1,000 lines of 9 bytes, which are more than are kept back
+    let mut script = format!(in alloc; "{LAYOUT}open\n")?;
+    let mut printed = format!(in alloc; "conn 0\n")?;
+    for _ in 0..1_000 {
+        script.push_str("close 1\n")?;
+        printed.push_str("refused 36\n")?;
     }
-    assert!(rt; was_cut && was_whole);
+    assert_eq!(rt; expect_cut(&rt, &script, 0, false).len(), 0);
+    let some = expect_cut(&rt, &script, 1, false);
+    assert!(rt; some.len() > 0 && some.len() < printed.len());
+    assert!(rt; printed.as_bytes().starts_with(&some));
+    let script = format!(in alloc; "{LAYOUT}open\n")?;
+    assert_eq!(rt;
+        expect_cut(&rt, &script, 9, true).as_slice(),
+        b"conn 0\n".as_slice()
+    );
     Ok(())
 }
 
@@ -428,6 +436,7 @@ fn command_lines_are_read(rt: HostRuntime) -> Result<(), Fail> {
 
     let mut closed = Closing {
         left: 0,
+        is_cut: false,
         taken: Vec::new(alloc),
     };
     assert_eq!(rt; program(&rt, &["filer"], &mut closed), 2);

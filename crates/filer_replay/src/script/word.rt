@@ -35,6 +35,11 @@ impl<'a> Words<'a> {
         decimal_value(self.word()?).ok_or(Unread::Form)
     }
 
+    /// The next word, as a number of a connection, a worker or a place, by the same rule.
+    pub(crate) fn place(&mut self) -> Result<usize, Unread> {
+        Ok(self.number()? as usize)
+    }
+
     /// The next word, as bytes in lower-case hex; `-` stands for none.
     pub(crate) fn bytes(&mut self, alloc: Global) -> Result<Vec<u8>, Unread> {
         match self.word()? {

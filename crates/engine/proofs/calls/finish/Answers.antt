@@ -8,6 +8,9 @@ use Rattle.nfs_model.specs.Events.Step.{stamped, without_call, entry_of}
 use Rattle.nfs_values.specs.Answer.{answer_of}
 use Rattle.affinity_tree.specs.Layout.{layout_of}
 use Rattle.engine.specs.Seen.{world, setup_in, running_of, outcome_of}
+use Rattle.affinity_tree.specs.Affinity.{affinity_of}
+use Rattle.engine.specs.Sound.{opened}
+use Rattle.engine.proofs.Rooms.{placed-running, release-unseen}
 use Rattle.engine.proofs.Workers.{may-finish, only-there, without-call, finished, worker_of}
 use Rattle.engine.proofs.calls.finish.Goals as goal
 
@@ -22,7 +25,11 @@ returns-clause-events c =
     let answered : r.answer ≡ Some answer = c.in-Some-answer.is ∙ ap Some (sym c.into_answer.ensures.value) in
     let reply : types.Reply = types.Success (answer_of answer) in
     let written = world c.respond-count.new.state in
-    let kept = c.keep_entry.ensures.kept ∙ ap (λ (a : trees.Affinity). record written { finished = written.finished ++ record (entry_of (running_of layout r) false) { affinity = Some a } ∷ [] }) c.tried.ensures in
+    let released = release-unseen r.message.origin.connection r.message.room c.respond-count.new.state c.release.new.state c.release.ensures in
+    let home = (placed-running layout (opened s) s.running r c.requires.running some).at_home in
+    let kept = c.keep_entry.ensures.kept
+    ∙ ap (λ (v : worlds.World). record v { finished = v.finished ++ record (entry_of (running_of layout r) false) { affinity = Some (affinity_of r.message.affinity) } ∷ [] }) released
+    ∙ ap (λ (a : trees.Affinity). record written { finished = written.finished ++ record (entry_of (running_of layout r) false) { affinity = Some a } ∷ [] }) home in
     let before = without-call s c.args.worker r c.take.new.self c.if-worker-ne0.false some c.requires.lent c.take.ensures.after in (
       may-finish s c.args.worker r answer c.if-worker-ne0.false some answered,
       (

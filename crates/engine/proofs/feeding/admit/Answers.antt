@@ -1,4 +1,4 @@
-use Rattle.std.proofs.Common.{◌≡◌, ℕ, None, sym, ap, subst, ◌∙◌}
+use Rattle.std.proofs.Common.{◌≡◌, ℕ, None, refl, sym, ap, subst, ◌∙◌}
 use Rattle.std.specs.Prelude.{option_map}
 use Rattle.nfs_model.specs.Home.{home, home_of_asked}
 use Rattle.nfs_model.specs.Events.Feed as feeds
@@ -8,10 +8,11 @@ use Rattle.nfs_values.specs.Answer.{answer_of}
 use Rattle.nfs_values.specs.Call.{call_of}
 use Rattle.nfs_values.specs.Credential.{credential_of}
 use Rattle.engine.specs.declared.message.Request.{Request}
-use Rattle.engine.specs.Seen.{asked_of, setup_in, world}
+use Rattle.engine.specs.Seen.{asked_of, tried, setup_in, world}
 use Rattle.affinity_tree.specs.Affinity.{affinity_of}
 use Rattle.affinity_tree.specs.Layout.{layout_of}
 use Rattle.engine.proofs.Admitting.{at-once, entries-same}
+use Rattle.engine.proofs.Rooms.{waits-sound}
 use Rattle.engine.proofs.feeding.admit.Goals as goal
 
 pub returns-in-None-clause-admitted : goal.returns-in-None-clause-admitted
@@ -27,3 +28,9 @@ returns-in-None-clause-admitted c =
     (c.keep_entry-in-None.ensures.kept ∙ entries-same (world c.respond-in-None.new.state) c.len.result c.args.number c.args.heard.xid _ c.in-Call.call _ c.in-Call.credential c.in-Call.call-is c.in-Call.credential-is) in
     subst (λ (n : ℕ). kept ≡ feeds.admit (setup_in s) (world s) n c.args.number (record { xid = c.args.heard.xid; asked = asked_of c.args.heard.request }) (home_of_asked layout (asked_of c.args.heard.request))) c.len.ensures
     (subst (λ (r : Request). kept ≡ feeds.admit (setup_in s) (world s) c.len.result c.args.number (record { xid = c.args.heard.xid; asked = asked_of r }) (home_of_asked layout (asked_of r))) (sym c.in-Call.is) once)
+
+pub returns-in-Some-clause-sound : goal.returns-in-Some-clause-sound
+returns-in-Some-clause-sound c =
+    let layout = layout_of c.args.state.now.layout in
+    let at_home = ap (λ (k : Call). home layout (call_of k)) (sym c.as_call.ensures.value) ∙ sym c.home_of.ensures.home ∙ ap (option_map affinity_of) c.in-Some.is in
+    waits-sound c.args.state.now c.wait.new.state _ c.wait.ensures.waits c.requires.sound c.requires.room c.requires.places c.requires.connected c.len.ensures refl (sym (ap tried at_home))

@@ -1,7 +1,7 @@
 use Rattle.std.proofs.Common.{sym, subst, vec_len}
 use Rattle.nfs_model.specs.Events.Feed.{Feeds}
 use Rattle.engine.specs.Seen.{setup_in, world}
-use Rattle.engine.proofs.Feeding.{stream-room-unseen}
+use Rattle.engine.proofs.Fed.{stream-room-unseen}
 use Rattle.engine.proofs.Loops.{stopped-full, stopped-by-memory, not-empty}
 use Rattle.engine.proofs.feeding.feed_open.Goals as goal
 

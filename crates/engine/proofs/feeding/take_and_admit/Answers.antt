@@ -6,7 +6,7 @@ use Rattle.engine.specs.declared.state.State.{State}
 use Rattle.engine.specs.Seen.{heard_of, setup_in, world}
 use Rattle.engine.specs.Sound.{records_of}
 use Rattle.engine.specs.Feeding.{bytes_taken}
-use Rattle.engine.proofs.Feeding.{part, arrived, arrived_as, room-unseen, not-crowded, feeds-nothing, more-admitted, fault-admitted, nothing-admitted, heard-admitted}
+use Rattle.engine.proofs.Fed.{part, arrived, arrived_as, room-unseen, not-crowded, feeds-nothing, more-admitted, fault-admitted, nothing-admitted, heard-admitted}
 use Rattle.engine.proofs.feeding.take_and_admit.Goals as goal
 
 pub returns-then-is_err-clause-feeds : goal.returns-then-is_err-clause-feeds

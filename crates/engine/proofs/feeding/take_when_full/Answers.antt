@@ -6,7 +6,7 @@ use Rattle.engine.specs.declared.connection.Arrival.TheVariants as arrivals
 use Rattle.engine.specs.Seen.{setup_in, world}
 use Rattle.engine.specs.Sound.{AdmitsNone, stands_at}
 use Rattle.engine.specs.Feeding.{TakesAll, bytes_taken}
-use Rattle.engine.proofs.Feeding.{fed, arrived, arrived_as, crowded, part-more, no-bytes}
+use Rattle.engine.proofs.Fed.{fed, arrived, arrived_as, crowded, part-more, no-bytes}
 use Rattle.engine.proofs.Full.{full-stop, full-nothing, full-fault, take-within}
 use Rattle.engine.proofs.feeding.take_when_full.Goals as goal
 

@@ -6,7 +6,7 @@ use Rattle.std.specs.Prelude.{slice_get}
 use Rattle.engine.specs.declared.connection.OpenConnection.{OpenConnection}
 use Rattle.engine.specs.Codec.{reply_record}
 use Rattle.engine.specs.Seen.{world, connections_of}
-use Rattle.engine.proofs.Calls.{others-stay, all-stay, others-get-none, none-gets, last-gets, last-written, written-is}
+use Rattle.engine.proofs.Requests.{others-stay, all-stay, others-get-none, none-gets, last-gets, last-written, written-is}
 use Rattle.engine.proofs.finishing.respond.Goals as goal
 
 pub returns-then-origin-len-clause-written : goal.returns-then-origin-len-clause-written

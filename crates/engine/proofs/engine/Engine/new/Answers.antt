@@ -1,10 +1,12 @@
-use Rattle.std.proofs.Common.{◌≡◌, ◌∙◌, arith, rules, Some, None, ap, refl}
+use Rattle.std.proofs.Common.{◌≡◌, ◌∙◌, arith, rules, Some, None, ap, sym, subst, refl}
 use Rattle.nfs_model.specs.Headline.{Headline, opening_world}
 use Rattle.engine.specs.declared.state.State.{State}
 use Rattle.nfs_model.specs.Server.{Server, opening}
 use Rattle.affinity_tree.specs.Layout.{layout_of}
 use Rattle.engine.specs.Seen.{setup_in, world, kept_by}
 use Rattle.engine.proofs.Serving.{server-opens}
+use Rattle.std.specs.List.{AllByRecursion}
+use Rattle.engine.specs.Sound.{IsPlaced, opened}
 use Rattle.engine.proofs.Runs.{opens}
 use Rattle.engine.proofs.engine.Engine.new.Goals as goal
 
@@ -32,7 +34,7 @@ headline c = opens (begun c) (returns-clause-opening c)
 
 -- src/engine.rt:82:5
 pub invariant_of-result : goal.invariant_of-result
-invariant_of-result c = (record { current = tt; places = omega (arith, c.new-2.ensures.len); finished = omega (arith, c.new-2.ensures.len, c.new-3.ensures.len); lent = tt; stamps = omega (arith) }, headline c)
+invariant_of-result c = (record { current = tt; waiting = subst (AllByRecursion (IsPlaced (layout_of c.args.layout) (opened (begun c)))) (sym c.new-2.ensures.items) tt; running = tt; places = omega (arith, c.new-2.ensures.len); finished = omega (arith, c.new-2.ensures.len, c.new-3.ensures.len); lent = tt; stamps = omega (arith) }, headline c)
 
 -- src/engine.rt:82:5
 pub returns-clause-headline : goal.returns-clause-headline

@@ -4,8 +4,8 @@ ghost use Rattle.std.specs.Prelude.{◌≤◌, IfOk};
 
 use crate::choice::Command;
 use crate::fault::Fault;
+use crate::playing::replay;
 use crate::printing::print_fault;
-use crate::replay::replay;
 use crate::words::command;
 use std::convert::AsStr;
 use std::fs::File;

@@ -17,7 +17,7 @@ use Rattle.engine.specs.declared.state.State.{State}
 use Rattle.engine.specs.Numbers.{fault_number}
 use Rattle.engine.specs.Seen.{closed_of, open_of, connections_of, message_of, running_of, entry_of, setup_in, world}
 use Rattle.affinity_tree.specs.Layout.{layout_of}
-use Rattle.engine.specs.Sound.{Arrives, IsSound, IsRoomy, pending, count_of, MayBeRoomier, MakesRoom, TakesIn, AtNoFault, MayBeStreamRoomier, TakesFrom, MayTakeFrom}
+use Rattle.engine.specs.Sound.{Arrives, IsSound, IsRoomy, owed, pending, count_of, MayBeRoomier, MakesRoom, TakesIn, AtNoFault, MayBeStreamRoomier, TakesFrom, MayTakeFrom}
 use Rattle.engine.specs.Streams.{scan_stream, IsQuiet, Completes}
 use Rattle.engine.specs.Feeding.{TakesAll, with_bytes, bytes_taken}
 use Rattle.engine.proofs.Arriving.{length_taken}
@@ -45,7 +45,7 @@ pub record IsFed (w : World) (c : ℕ) (o : OpenConnection) : Type 0 where
   pub records : length (scan_stream o.stream.items).served ≡ o.records
   pub stands : (read_stream o.stream.items).at ≡ o.reassembler
 
-fed_at : (s : State) (current : Option OpenConnection) → s.current ≡ current → IfSome current (λ c. IsRoomy (pending s) c × (vec_len s.past < vec_capacity s.past)) → AtNoFault current
+fed_at : (s : State) (current : Option OpenConnection) → s.current ≡ current → IfSome current (λ c. IsRoomy (owed s) c × (vec_len s.past < vec_capacity s.past)) → AtNoFault current
     → (o : OpenConnection) × (current ≡ Some o) × IsFed (world s) (vec_len s.past) o
 fed_at s None e h t = absurd t
 fed_at s (Some o) e h t =

@@ -1,6 +1,6 @@
 //! Scripts that are run, with a line printed for each event.
 
-ghost use Rattle.std.specs.Prelude.{◌<◌, ◌≤◌, length};
+ghost use Rattle.std.specs.Prelude.{◌<◌, ◌≤◌, length, IfOk};
 
 use crate::fault::Fault;
 use crate::printing::{print_fault, print_output, say};
@@ -8,7 +8,7 @@ use crate::script::{Script, Start};
 use byteorder::{BigEndian, ByteOrder};
 use engine::{Done, Engine, Event, Refusal};
 use std::alloc::Global;
-use std::io::{Read, Write};
+use std::io::{BufWriter, Read, Write};
 
 /// The bit of a record's header beside its length (RFC 5531 section 11).
 const LAST_FRAGMENT: u32 = 0x8000_0000;
@@ -101,11 +101,29 @@ fn run<W: Write>(alloc: Global, text: &[u8], out: &mut W) -> Result<bool, Fault>
     let mut script = Script::new(alloc, text);
     let Start { layout, verifier } = script.read_start()?;
     let mut engine = Engine::new(alloc, layout, verifier);
+    let mut bytes = Vec::new(alloc);
     let mut refused = false;
-    while let Some(line) = script.read_event()? {
-        refused |= play(&mut engine, line.event(), out)?;
+    while let Some(event) = script.read_event(&mut bytes)? {
+        refused |= play(&mut engine, event, out)?;
     }
     Ok(refused)
+}
+
+/// Runs a script with its lines kept back until there are many of them, or none follows, and
+/// answers the exit status. A fault of the script is printed after the lines before it.
+fn run_buffered<W: Write>(alloc: Global, text: &[u8], out: &mut W) -> Result<u8, Fault>
+    ensures { IfOk result (λ status. status ≤ 1) }
+{
+    let mut buffered = BufWriter::new(alloc, out).map_err(|_| Fault::NoMemory)?;
+    let status = match run(alloc, text, &mut buffered) {
+        Ok(refused) => u8::from(refused),
+        Err(fault) => {
+            print_fault(&mut buffered, fault);
+            1
+        }
+    };
+    buffered.flush().map_err(|_| Fault::Output)?;
+    Ok(status)
 }
 
 /// Reads a script whole.
@@ -122,8 +140,8 @@ fn read_whole<R: Read>(alloc: Global, script: &mut R) -> Result<Vec<u8>, Fault> 
 pub fn replay<R: Read, W: Write>(alloc: Global, script: &mut R, out: &mut W) -> u8
     ensures { result ≤ 1 }
 {
-    match read_whole(alloc, script).and_then(|text| run(alloc, &text, out)) {
-        Ok(refused) => u8::from(refused),
+    match read_whole(alloc, script).and_then(|text| run_buffered(alloc, &text, out)) {
+        Ok(status) => status,
         Err(fault) => {
             print_fault(out, fault);
             1
