@@ -14,9 +14,9 @@ use parcel_sets::Shelf;
 
 /// A call that runs, and the node of the grant whose parcels it takes or gives.
 pub struct Hold<'a, M: Machine> {
-    pub(crate) board: &'a Board<M>,
-    pub(crate) place: Place<M>,
-    pub(crate) node: usize,
+    pub board: &'a Board<M>,
+    pub place: Place<M>,
+    pub node: usize,
     ghost table: { (place.table_id ≡ board.now.table_id)
         × (board.now.table_id.words ≡ length (tree_of board.now.key)) },
     ghost one: { (length place.me.0 ≡ 1) × (length place.me.1 ≡ 0) },

@@ -2,8 +2,8 @@
 //! with a grant of a node's parcels and of those below it, or a word refuses it; it is finished by
 //! one step, which puts its entry into the history, or put back.
 //!
-//! `specs/Words.antt` has the words of the clauses, `specs/Grants.antt` what calls do to a seat, and
-//! `specs/lemmas/` what callers want to know of both.
+//! `specs/Words.antt` has the words of the clauses, `specs/Grants.antt` what calls do to a seat,
+//! and `specs/lemmas/` what callers want to know of both.
 #![tactic(auto)]
 
 mod calls;

@@ -21,7 +21,7 @@ use Rattle.depot_trial.specs.Adding.{Changes, AreEach}
 use Rattle.parcel_sets.specs.Moved.{Moved}
 use Rattle.parcel_sets.specs.NumberIn.{number_in}
 use Rattle.parcel_sets.specs.declared.family.Parcel.{Parcel}
-use Rattle.depot_trial.specs.declared.adding.Change.TheVariants.{Add}
+use Rattle.depot_trial.specs.declared.adding.Change.TheVariants.{Read, Add}
 
 module _ {T : Type 0} (kind : T → Kind) where
   either-way : (x y p : T) (b : Bool) → cond b (Some x) None ≡ Some p → (cond b (Some y) None ≡ Some y) × (kind p ≡ kind x)
@@ -51,6 +51,15 @@ alone-here n x = ap (λ b. cond b (Some x) None) (eq-eqb n n refl)
 pub alone-else : {T : Type 0} (n : ℕ) (x : T) (k : ℕ) → k ≢ n → alone n x k ≡ None
 unfolding alone
 alone-else n x k ne = ap (λ b. cond b (Some x) None) (ne_eqb k n ne)
+
+-- a call read a stripe's number
+pub stripe-read : {P : Type 0} (layout : Layout) (a : Affinity) (held held' : StripeHeld P ℕ ℕ ℕ ℕ ℕ ℕ ℕ) (tree : List ℕ) (found : ℕ) → held' ≡ held → found ≡ held.own
+    → Changes tree (number_of layout a) Read (stripe_parcels layout a held) found (stripe_parcels layout a held')
+unfolding stripe_parcels
+stripe-read layout a held held' tree found same is = (
+  (Stripe held.own, alone-here (number_of layout a) (Stripe held.own), is),
+  λ k. ap (λ (h : StripeHeld _ ℕ ℕ ℕ ℕ ℕ ℕ ℕ). stripe_parcels layout a h k) same,
+)
 
 -- a call added to a stripe's number
 pub stripe-added : {P : Type 0} (layout : Layout) (a : Affinity) (held held' : StripeHeld P ℕ ℕ ℕ ℕ ℕ ℕ ℕ) (tree : List ℕ) (n sum : ℕ) → held'.own ≡ sum → (held.own + n) % 18446744073709551616 ≡ sum

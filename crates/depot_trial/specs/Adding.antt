@@ -6,7 +6,7 @@ use Rattle.parcel_sets.specs.declared.family.Parcel.{Parcel}
 use Rattle.parcel_sets.specs.Exact.{kind_in}
 use Rattle.parcel_sets.specs.NumberIn.{number_in}
 use Rattle.depot_trial.specs.declared.adding.Change.{Change}
-use Rattle.depot_trial.specs.declared.adding.Change.TheVariants.{Touch, Add}
+use Rattle.depot_trial.specs.declared.adding.Change.TheVariants.{Touch, Read, Add}
 use Rattle.depot_rule.specs.Sums.{tally}
 use Rattle.depot_rule.specs.Tree.{ancestors}
 use Rattle.depot_rule.specs.History.{covers}
@@ -45,9 +45,14 @@ adds-local parents a n f g sum f' s = (
 -- what a call does
 abbrev pub Changes : {P : Type 0} → List ℕ → ℕ → Change → (ℕ → Option (Parcel P ℕ ℕ ℕ ℕ ℕ ℕ ℕ)) → ℕ → (ℕ → Option (Parcel P ℕ ℕ ℕ ℕ ℕ ℕ ℕ)) → Type 0
 Changes parents a Touch f reply f' = (reply ≡ 0) × ((k : ℕ) → f' k ≡ f k)
+Changes parents a Read f reply f' = ((p : _) × (f a ≡ Some p) × (reply ≡ number_in p)) × ((k : ℕ) → f' k ≡ f k)
 Changes parents a (Add n) f reply f' = Adds parents a n f reply f'
 
 -- a call reads and writes what its node covers alone
 pub changes-local : {P : Type 0} → IsLocal (Changes {P = P})
 changes-local parents a Touch f g reply f' s = (λ k out. s.1 k, λ same. (s.0, λ k. if-alike (covers parents a k) (f' k) (g k) (λ e. s.1 k ∙ sym (same k (covers-true parents a k e)))))
+changes-local parents a Read f g reply f' s = (
+  λ k out. s.1 k,
+  λ same. ((s.0.0, same a (inl refl) ∙ s.0.1, s.0.2), λ k. if-alike (covers parents a k) (f' k) (g k) (λ e. s.1 k ∙ sym (same k (covers-true parents a k e)))),
+)
 changes-local parents a (Add n) f g reply f' s = adds-local parents a n f g reply f' s

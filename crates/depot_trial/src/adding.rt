@@ -9,10 +9,10 @@ ghost use Rattle.parcel_sets.specs.Sets.{serial_parcels};
 ghost use Rattle.depot.specs.Words.{IsSeatHere, all_parcels};
 ghost use Rattle.depot_trial.specs.Adding.{AreEach};
 
-use affinity_tree::{Affinity, AggregateSpec, Layout, VolumeSpec};
+use affinity_tree::{Affinity, AggregateSpec, Kind, Layout, VolumeSpec};
 use depot::{Depot, Seat};
 use depot_rule::machine::Machine;
-use parcel_sets::{Node, Numbers, Parcel, SerialHeld, SerialNode, VecShelf};
+use parcel_sets::{Node, Numbers, Parcel, SerialHeld, SerialNode, StripeNode, VecShelf};
 use std::alloc::{AllocError, Global};
 
 /// A call on the number of its node.
@@ -20,6 +20,8 @@ use std::alloc::{AllocError, Global};
 pub enum Change {
     /// Nothing changes, and the reply is 0.
     Touch,
+    /// Nothing changes, and the reply is the number.
+    Read,
     /// The number becomes the sum, modulo 2^64, which is the reply.
     Add(u64),
 }
@@ -103,6 +105,27 @@ pub fn split(depot: &Depot<Adding>, seat: Seat<Adding>) -> Option<(Seat<Adding>,
 {
     match depot.split_seat(seat) {
         Ok(two) => Some(two),
+        Err(_) => None,
+    }
+}
+
+/// The number of a stripe, by a call of its own. Nothing where the call wasn't granted.
+pub fn read(depot: &Depot<Adding>, seat: &mut Seat<Adding>, affinity: Affinity) -> Option<u64>
+    requires seat { IsSeatHere depot.now seat.old }
+    ensures seat { IsSeatHere depot.now seat.new }
+{
+    if affinity.kind() != Kind::Stripe {
+        return None;
+    }
+    if !depot.layout().contains(affinity) {
+        return None;
+    }
+    match depot.begin::<StripeNode>(seat, affinity) {
+        Ok(mut grant) => {
+            let found = grant.held().own;
+            depot.finish(seat, grant, &Change::Read, &found);
+            Some(found)
+        }
         Err(_) => None,
     }
 }

@@ -23,7 +23,8 @@ pub enum Move {
 pub struct Lending;
 
 impl Machine for Lending {
-    ghost use Rattle.depot_trial.specs.Lending.{Moves, taken_by, given_by, FewTokens, moves-local, moves-keep};
+    ghost use Rattle.depot_trial.specs.Lending.{Moves, taken_by, given_by, FewTokens};
+    ghost use Rattle.depot_trial.specs.Lending.{moves-local, moves-keep};
 
     type Parcel = Parcel<Numbers>;
 

@@ -14,7 +14,8 @@ use std::alloc::Global;
 use std::thread;
 use std::thread::Threads;
 
-/// Begins a call on a node and, if it is granted, finishes it: nothing changes. Whether it was granted.
+/// Begins a call on a node and, if it is granted, finishes it: nothing changes. Whether it was
+/// granted.
 fn begin_and_finish_once<N: Node<Parcel<Numbers>>>(
     depot: &Depot<Adding>,
     seat: &mut Seat<Adding>,

@@ -1,6 +1,7 @@
-//! Grants of a depot: what excludes what, how many seats there are, and what one call leaves to the next.
+//! Grants of a depot: what excludes what, how many seats there are, and what one call leaves to the
+//! next.
 
-use crate::adding::{open, split};
+use crate::adding::{open, read, split};
 use crate::lending::{give, take};
 use crate::trial::{Found, add, claim, close_joined, holds_beside, look, open_lent, splits};
 use affinity_tree::Affinity;
@@ -80,6 +81,7 @@ fn effects(rt: HostRuntime) -> Result<(), Fail> {
     assert_eq!(rt; add(&depot, &mut one, stripe(0, 2), 7), Some(7));
     depot.meet(&mut one, &mut other);
     assert_eq!(rt; look(&depot, &mut other, stripe(0, 2)), Some(7));
+    assert_eq!(rt; read(&depot, &mut other, stripe(0, 2)), Some(7));
     assert_eq!(rt; look(&depot, &mut other, stripe(0, 3)), Some(0));
     Ok(())
 }

@@ -4,7 +4,7 @@ use Rattle.affinity_tree.specs.Tree.{IsNode}
 use Rattle.parcel_sets.specs.Sets.{stripe_parcels}
 use Rattle.depot_rule.specs.History.{AreHands, behaviour, entries_of}
 use Rattle.depot.specs.Grants.{HasWith}
-use Rattle.depot.specs.Words.{view, layout_in, number_in}
+use Rattle.depot.specs.Words.{view, layout_in, number_in, node_of, held_in}
 use Rattle.depot.specs.lemmas.Seats.{begun-with, begun-entries, finished-entries}
 use Rattle.depot_trial.specs.Lending.{Moves, taken_by, given_by, FewTokens, IsHand}
 use Rattle.depot_trial.proofs.Trials.{stripe-changed}
@@ -14,19 +14,19 @@ use Rattle.depot_trial.proofs.lending.take.Goals as goal
 pub put_back-requires-clause-as_granted : goal.put_back-requires-clause-as_granted
 put_back-requires-clause-as_granted c =
     let L = layout_in c.args.depot.now in let grant = c.in-Ok.grant in
-    subst (λ h. HasWith (view c.begin.new.seat) (number_in L grant) (stripe_parcels L (affinity_of grant.affinity) h)) (sym c.held-held.ensures.value)
+    subst (λ h. HasWith (view c.begin.new.seat) (number_in L grant) (stripe_parcels L (affinity_of (node_of grant)) h)) (sym c.held-held.ensures.value)
     (begun-with (view c.args.seat.now) (view c.begin.new.seat) _ _ c.in-Ok.ensures.granted)
 
 pub finish-requires-clause-step : goal.finish-requires-clause-step
 finish-requires-clause-step c =
     let L = layout_in c.args.depot.now in let grant = c.in-Ok.grant in let v = view c.begin.new.seat in
-    let node : IsNode L (affinity_of grant.affinity) = search rules in
+    let node : IsNode L (affinity_of (node_of grant)) = search rules in
     let enough = c.if-held-count.false in
-    let same : c.held-held.result.now.own ≡ grant.held.own = ap (λ h. h.own) c.held-held.ensures.value in (
+    let same : c.held-held.result.now.own ≡ (held_in grant).own = ap (λ h. h.own) c.held-held.ensures.value in (
       _,
       begun-with (view c.args.seat.now) v _ _ c.in-Ok.ensures.granted,
-      stripe-becomes (λ before now. now + c.args.count ≡ before) L (affinity_of grant.affinity) grant.held _ v.tree
-          (number-in-tree L (affinity_of grant.affinity) v.tree c.begin.ensures.seat.1.0 node) (omega arith),
+      stripe-becomes (λ before now. now + c.args.count ≡ before) L (affinity_of (node_of grant)) (held_in grant) _ v.tree
+          (number-in-tree L (affinity_of (node_of grant)) v.tree c.begin.ensures.seat.1.0 node) (omega arith),
     )
 
 pub finish-requires-clause-hand : goal.finish-requires-clause-hand
@@ -37,7 +37,7 @@ finish-requires-clause-hand c =
     (mine, c.args.count ∷ mine, own, λ weigh. omega arith)
 
 pub finish-requires-clause-exact : goal.finish-requires-clause-exact
-finish-requires-clause-exact c = stripe-changed (layout_in c.args.depot.now) (affinity_of c.in-Ok.grant.affinity) c.in-Ok.grant.held _ c.in-Ok.ensures.exact
+finish-requires-clause-exact c = stripe-changed (layout_in c.args.depot.now) (affinity_of (node_of c.in-Ok.grant)) (held_in c.in-Ok.grant) _ c.in-Ok.ensures.exact
 
 pub returns-else-held-count-clause-taken : goal.returns-else-held-count-clause-taken
 returns-else-held-count-clause-taken c = λ yes_taken hand own.

@@ -39,7 +39,7 @@ new-requires-2 g c =
     let are = given-so f (c.node_count-n.result + 1) c.scatter.new.shelf.parcels.items c.in-Ok-Ok-Ok.shelf.parcels.items c.in-Ok-Ok-Ok.ensures'' c.scatter.ensures.moved in
     opened-so g.row.M-Parcel.Denot g.row.M-Call.Denot g.row.M-Reply.Denot g.row.M-Batch.Denot g.M.Parcel.HasKind.kind (behaviour g.M.Machine.steps g.M.Machine.takes g.M.Machine.gives g.M.Machine.invariant) {ps = parents (layout_of c.args.layout)} {first = c.scatter.new.shelf.parcels.items}
     (ap (λ o. o.parents.items) c.of-key.ensures ∙ c.in-Ok-Ok-Ok.ensures) (ap (λ o. o.parcels.items) c.of-key.ensures) (c.as_slice.ensures.value ∙ c.in-Ok-Ok-Ok.ensures') (omega arith)
-    (parents-tree (layout_of c.args.layout) c.args.layout.lawful) (parents-few c.args.layout.aggregates.items c.args.layout.volumes.items c.args.layout.lawful) (omega arith)
+    (parents-tree (layout_of c.args.layout) c.args.layout.lawful) (parents-few _ _ c.args.layout.lawful) (omega arith)
     (λ k pos lt. let s = some-at g.M.Parcel.HasKind.kind (layout_of c.args.layout) f c.requires.exact k pos lt in (s.0, are k ∙ s.1)) f are c.requires.invariant
 
 pub invariant_of-depot : goal.invariant_of-depot
