@@ -129,3 +129,31 @@ pub fn read(depot: &Depot<Adding>, seat: &mut Seat<Adding>, affinity: Affinity) 
         Err(_) => None,
     }
 }
+
+/// A call that adds to the parcel of a stripe. The sum, where it was granted.
+pub fn add(
+    depot: &Depot<Adding>,
+    seat: &mut Seat<Adding>,
+    affinity: Affinity,
+    number: u64,
+) -> Option<u64>
+    requires seat { IsSeatHere depot.now seat.old }
+    ensures seat { IsSeatHere depot.now seat.new }
+{
+    if affinity.kind() != Kind::Stripe {
+        return None;
+    }
+    if !depot.layout().contains(affinity) {
+        return None;
+    }
+    match depot.begin::<StripeNode>(seat, affinity) {
+        Ok(mut grant) => {
+            let held = grant.held();
+            held.own = held.own.wrapping_add(number);
+            let sum = held.own;
+            depot.finish(seat, grant, &Change::Add(number), &sum);
+            Some(sum)
+        }
+        Err(_) => None,
+    }
+}

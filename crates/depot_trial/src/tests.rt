@@ -1,9 +1,9 @@
 //! Grants of a depot: what excludes what, how many seats there are, and what one call leaves to the
 //! next.
 
-use crate::adding::{open, read, split};
+use crate::adding::{add, open, read, split};
 use crate::lending::{give, take};
-use crate::trial::{Found, add, claim, close_joined, holds_beside, look, open_lent, splits};
+use crate::trial::{Found, claim, close_joined, holds_beside, look, open_lent, splits};
 use affinity_tree::Affinity;
 use parcel_sets::{LogicalNode, RangeNode, SerialNode, StripeNode, VbnNode, VolumeNode};
 use std::sync::atomic::AtomicBool;

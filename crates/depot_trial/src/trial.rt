@@ -4,7 +4,7 @@ ghost use Rattle.std.specs.Prelude.{IfOk, []};
 ghost use Rattle.depot.specs.Words.{view, IsSeatHere};
 ghost use Rattle.depot_trial.specs.Lending.{IsHand};
 
-use crate::adding::{Adding, Change, all_of, volumes};
+use crate::adding::{Adding, all_of, volumes};
 use crate::lending::Lending;
 use affinity_tree::{Affinity, Kind};
 use depot::{Depot, Refusal, Seat};
@@ -84,34 +84,6 @@ where
         Ok(_grant) => Found::Granted,
         Err(Refusal::Busy { node, word: _ }) => Found::Busy(node),
         Err(Refusal::Worn) => Found::Other,
-    }
-}
-
-/// A call that adds to the parcel of a stripe. The sum, where it was granted.
-pub fn add(
-    depot: &Depot<Adding>,
-    seat: &mut Seat<Adding>,
-    affinity: Affinity,
-    number: u64,
-) -> Option<u64>
-    requires seat { IsSeatHere depot.now seat.old }
-    ensures seat { IsSeatHere depot.now seat.new }
-{
-    if affinity.kind() != Kind::Stripe {
-        return None;
-    }
-    if !depot.layout().contains(affinity) {
-        return None;
-    }
-    match depot.begin::<StripeNode>(seat, affinity) {
-        Ok(mut grant) => {
-            let held = grant.held();
-            held.own = held.own.wrapping_add(number);
-            let sum = held.own;
-            depot.finish(seat, grant, &Change::Add(number), &sum);
-            Some(sum)
-        }
-        Err(_) => None,
     }
 }
 
