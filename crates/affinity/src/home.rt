@@ -1,16 +1,18 @@
 //! Where a call is at home.
 
-ghost use Rattle.std.specs.Prelude.{◌≡◌, ◌==◌, ◌||◌, ◌+◌, ◌-◌, ◌*◌, ◌/◌, ◌<◌, ◌≤◌, length, min, option_map, slice_get, IfSome};
-ghost use Rattle.nfs_model.specs.Server.{handle_of};
-ghost use Rattle.nfs_model.specs.Home.{home, home_of_bytes, home_of_volume, logical_of, named_by, span_bytes, stripe_of_span, volume_of};
+ghost use Rattle.std.specs.Prelude.{◌≡◌, ◌==◌, ◌+◌, ◌-◌, ◌/◌, ◌<◌, length, min, option_map};
+ghost use Rattle.std.specs.Prelude.{slice_get, IfSome};
+ghost use Rattle.nfs_model.specs.Home.{home, bytes_home, grow_home, logical_home};
+ghost use Rattle.nfs_model.specs.Home.{named_by, span_bytes, stripe_of_span, volume_home};
 ghost use Rattle.nfs_values.specs.Call.{call_of};
+ghost use Rattle.nfs_values.specs.Handle.{named_of};
 ghost use Rattle.affinity_tree.specs.Affinity.{affinity_of};
 ghost use Rattle.affinity_tree.specs.Layout.{layout_of};
 ghost use Rattle.affinity_tree.specs.Tree.{IsNode};
 
 use affinity_tree::{Affinity, Layout};
 use byteorder::{BigEndian, ByteOrder};
-use nfs_values::{Call, FileHandle};
+use nfs_values::{Call, FileHandle, Fileid, Named, VolumeNumber};
 
 /// The bytes of a span, which lie in one stripe.
 const SPAN: u64 = 262_144;
@@ -18,10 +20,10 @@ const SPAN: u64 = 262_144;
 /// Larger counts of bytes are taken as this.
 const COUNT_LIMIT: u32 = 65_536;
 
-/// The volume and the fileid of a good handle, which has 12 bytes and a volume that the layout has.
-pub fn named_by(handle: &FileHandle, layout: &Layout) -> Option<(u32, u64)>
-    ensures named { result ≡ named_by (layout_of layout.now) handle.now }
-    ensures there { IfSome result (λ h. h.0 < length (layout_of layout.now).volumes) }
+/// What a good handle names, which has 12 bytes and a volume that the layout has.
+pub fn named_by(handle: &FileHandle, layout: &Layout) -> Option<Named>
+    ensures named { option_map named_of result ≡ named_by (layout_of layout.now) handle.now }
+    ensures there { IfSome result (λ n. n.volume.0 < length (layout_of layout.now).volumes) }
 {
     let bytes = handle.as_bytes();
     if bytes.len() != 12 {
@@ -31,7 +33,10 @@ pub fn named_by(handle: &FileHandle, layout: &Layout) -> Option<(u32, u64)>
     if volume as usize >= layout.volume_count() {
         return None;
     }
-    Some((volume, BigEndian::read_u64(&bytes[4..])))
+    Some(Named {
+        volume: VolumeNumber(volume),
+        fileid: Fileid(BigEndian::read_u64(&bytes[4..])),
+    })
 }
 
 /// Whether bytes, as many as a count that isn't 0, lie in one span.
@@ -44,12 +49,15 @@ fn is_in_one_span(offset: u64, count: u32) -> bool
 
 /// The stripe of a file's span.
 #[tactic(auto, using(crate::proofs::Spans::remainder_of_parts))]
-fn stripe_of_span(layout: &Layout, volume: u32, fileid: u64, span: u64) -> Affinity
-    ensures stripe { affinity_of result ≡ stripe_of_span (layout_of layout.now) (volume, fileid) span }
-    ensures node { volume < length (layout_of layout.now).volumes → IsNode (layout_of layout.now) (affinity_of result) }
+fn stripe_of_span(layout: &Layout, named: Named, span: u64) -> Affinity
+    requires { named.volume.0 < length (layout_of layout.now).volumes }
+    ensures stripe { affinity_of result
+        ≡ stripe_of_span (layout_of layout.now) (named_of named) span }
+    ensures node { IsNode (layout_of layout.now) (affinity_of result) }
 {
+    let volume = named.volume.0;
     let stripes = u64::from(layout.stripes_of(volume));
-    let stripe = (fileid % stripes + span % stripes) % stripes;
+    let stripe = (named.fileid.0 % stripes + span % stripes) % stripes;
     Affinity::Stripe {
         volume,
         stripe: stripe as u32,
@@ -58,45 +66,49 @@ fn stripe_of_span(layout: &Layout, volume: u32, fileid: u64, span: u64) -> Affin
 
 /// Where a call on bytes of a file is at home.
 fn home_of_bytes(handle: &FileHandle, offset: u64, count: u32, layout: &Layout) -> Option<Affinity>
-    ensures home { option_map affinity_of result ≡ home_of_bytes (layout_of layout.now) (named_by (layout_of layout.now) handle.now) offset (min count COUNT_LIMIT) }
+    ensures home { let L = layout_of layout.now in option_map affinity_of result
+        ≡ bytes_home L (named_by L handle.now) offset (min count COUNT_LIMIT) }
     ensures node { IfSome result (λ a. IsNode (layout_of layout.now) (affinity_of a)) }
 {
-    let (volume, fileid) = named_by(handle, layout)?;
+    let named = named_by(handle, layout)?;
     let count = count.min(COUNT_LIMIT);
     if count == 0 || is_in_one_span(offset, count) {
-        Some(stripe_of_span(layout, volume, fileid, offset / SPAN))
+        Some(stripe_of_span(layout, named, offset / SPAN))
     } else {
-        Some(Affinity::VolumeLogical(volume))
+        Some(Affinity::VolumeLogical(named.volume.0))
     }
 }
 
 /// Where a call on names and attributes is at home.
 fn home_of_names(handle: &FileHandle, layout: &Layout) -> Option<Affinity>
-    ensures home { option_map affinity_of result ≡ logical_of (named_by (layout_of layout.now) handle.now) }
+    ensures home { option_map affinity_of result
+        ≡ logical_home (named_by (layout_of layout.now) handle.now) }
     ensures node { IfSome result (λ a. IsNode (layout_of layout.now) (affinity_of a)) }
 {
-    let (volume, _) = named_by(handle, layout)?;
-    Some(Affinity::VolumeLogical(volume))
+    let named = named_by(handle, layout)?;
+    Some(Affinity::VolumeLogical(named.volume.0))
 }
 
 /// Where a call on a whole volume is at home.
 fn home_of_status(handle: &FileHandle, layout: &Layout) -> Option<Affinity>
-    ensures home { option_map affinity_of result ≡ volume_of (named_by (layout_of layout.now) handle.now) }
+    ensures home { option_map affinity_of result
+        ≡ volume_home (named_by (layout_of layout.now) handle.now) }
     ensures node { IfSome result (λ a. IsNode (layout_of layout.now) (affinity_of a)) }
 {
-    let (volume, _) = named_by(handle, layout)?;
-    Some(Affinity::Volume(volume))
+    let named = named_by(handle, layout)?;
+    Some(Affinity::Volume(named.volume.0))
 }
 
 /// Where a volume's growth is at home.
-fn home_of_growth(volume: u32, layout: &Layout) -> Option<Affinity>
-    ensures home { option_map affinity_of result ≡ home_of_volume volume (slice_get (layout_of layout.now).volumes volume) }
+fn home_of_growth(volume: VolumeNumber, layout: &Layout) -> Option<Affinity>
+    ensures home { option_map affinity_of result
+        ≡ grow_home (slice_get (layout_of layout.now).volumes volume.0) }
     ensures node { IfSome result (λ a. IsNode (layout_of layout.now) (affinity_of a)) }
 {
-    if volume as usize >= layout.volume_count() {
+    if volume.0 as usize >= layout.volume_count() {
         return None;
     }
-    Some(Affinity::Aggregate(layout.aggregate_of(volume)))
+    Some(Affinity::Aggregate(layout.aggregate_of(volume.0)))
 }
 
 /// The affinity that a call tries first; nothing for a call that is answered without one.

@@ -17,7 +17,7 @@ fn kept_by_handle(handle: &FileHandle) -> u64 {
 }
 
 fn kept_by_target(target: &Target) -> u64 {
-    kept_by_handle(&target.directory).saturating_add(target.name.len() as u64)
+    kept_by_handle(&target.directory).saturating_add(target.name.as_bytes().len() as u64)
 }
 
 /// How many bytes of its record a measured call keeps.

@@ -4,8 +4,8 @@ ghost use Rattle.std.specs.Prelude.{IfOk};
 ghost use Rattle.codec_bench.specs.Fits.{FitsRecord};
 
 use nfs_values::{
-    Answer, Attributes, FileHandle, FileKind, LookupResults, Moment, Procedure, ReadResults, Reply,
-    Verifier, WriteResults,
+    Answer, Attributes, FileHandle, FileKind, Fileid, LookupResults, Moment, Named, Procedure,
+    ReadResults, Reply, Verifier, VolumeNumber, WriteResults,
 };
 use std::alloc::{AllocError, Global};
 
@@ -57,7 +57,7 @@ const FILE: Attributes = Attributes {
     size: DATA as u64,
     used: DATA as u64,
     fsid: 0,
-    fileid: 1,
+    fileid: Fileid(1),
     atime: Moment::START,
     mtime: Moment::START,
     ctime: Moment::START,
@@ -71,7 +71,7 @@ pub fn get_attributes(alloc: Global) -> Result<Sample, AllocError>
         name: "GETATTR",
         procedure: Procedure::GetAttributes,
         record: record(alloc, &[], 0)?,
-        reply: Reply::Success(Answer::GetAttributes(FILE)),
+        reply: Reply::Success(Answer::GetAttributes(Ok(FILE))),
     })
 }
 
@@ -83,11 +83,14 @@ pub fn lookup(alloc: Global) -> Result<Sample, AllocError>
         name: "LOOKUP",
         procedure: Procedure::Lookup,
         record: record(alloc, &[8, 0x6e61_6d65, 0x5f5f_3031], 0)?,
-        reply: Reply::Success(Answer::Lookup(LookupResults {
-            handle: FileHandle::new(&[0, 0, 0, 0, 0, 0, 0, 0, 0, 0, 0, 2]),
+        reply: Reply::Success(Answer::Lookup(Ok(LookupResults {
+            handle: FileHandle::naming(Named {
+                volume: VolumeNumber(0),
+                fileid: Fileid(2),
+            }),
             object: FILE,
             directory: FILE,
-        })),
+        }))),
     })
 }
 
@@ -99,10 +102,10 @@ pub fn write(alloc: Global) -> Result<Sample, AllocError>
         name: "WRITE",
         procedure: Procedure::Write,
         record: record(alloc, &[0, 0, DATA as u32, 2, DATA as u32], DATA)?,
-        reply: Reply::Success(Answer::Write(WriteResults {
+        reply: Reply::Success(Answer::Write(Ok(WriteResults {
             count: DATA as u32,
             verifier: Verifier([0; 8]),
-        })),
+        }))),
     })
 }
 
@@ -114,9 +117,9 @@ pub fn read(alloc: Global) -> Result<Sample, AllocError>
         name: "READ",
         procedure: Procedure::Read,
         record: record(alloc, &[0, 0, DATA as u32], 0)?,
-        reply: Reply::Success(Answer::Read(ReadResults {
+        reply: Reply::Success(Answer::Read(Ok(ReadResults {
             eof: false,
             bytes: vec![in alloc; 7; DATA]?,
-        })),
+        }))),
     })
 }

@@ -5,9 +5,11 @@ use Rattle.std.proofs.lemmas.List.{take_all, take-append-drop, length-map}
 use Rattle.std.proofs.lemmas.Bool.Decides.{nat_tests}
 use Rattle.rpc_record.specs.Stream.{read_stream}
 use Rattle.nfs_model.specs.Tree.{Layout}
+use Rattle.nfs_model.specs.Parts as blocks
 use Rattle.nfs_model.specs.World as worlds
 use Rattle.nfs_model.specs.World.{changed_at, is_crowded, all_running, Setup, World}
-use Rattle.nfs_model.specs.Events.Feed.{Feeds, Fault, completes, heard_in, MayStarveIf}
+use Rattle.nfs_model.specs.Events.Feed.{heard_in, MayStarveIf}
+use Rattle.nfs_laws.specs.Walk.{Walks, AtFault, is_complete}
 use Rattle.engine.specs.declared.connection.OpenConnection.{OpenConnection}
 use Rattle.engine.specs.declared.connection.ClosedConnection.{ClosedConnection}
 use Rattle.engine.specs.declared.connection.Arrival.{Arrival}
@@ -19,7 +21,8 @@ use Rattle.engine.specs.Seen.{closed_of, open_of, connections_of, message_of, ru
 use Rattle.affinity_tree.specs.Layout.{layout_of}
 use Rattle.engine.specs.Sound.{Arrives, IsSound, IsRoomy, owed, pending, count_of, MayBeRoomier, MakesRoom, TakesIn, AtNoFault, MayBeStreamRoomier, TakesFrom, MayTakeFrom}
 use Rattle.engine.specs.Streams.{scan_stream, IsQuiet, Completes}
-use Rattle.engine.specs.Feeding.{TakesAll, with_bytes, bytes_taken}
+use Rattle.engine.specs.Feeding.{TakesAll}
+use Rattle.nfs_model.specs.Events.Feed.{with_bytes, bytes_taken}
 use Rattle.engine.proofs.Arriving.{length_taken}
 use Rattle.engine.proofs.Connections.{last-open, last-changed}
 use Rattle.engine.proofs.Worlds.{bytes_taken-none, takes-quiet, takes-heard, feeds-fault}
@@ -97,7 +100,7 @@ room-unseen old new r =
     ∙ ap (λ ms. record (world old) { waiting = map (message_of (layout_of old.layout)) ms; finished = map entry_of new.finished.items }) r.waiting
     ∙ ap (λ es. record (world old) { finished = map entry_of es }) r.finished
 
-running_count : (layout : Layout) (running : Option Running) → length (all_running (record { running = option_map (running_of layout) running; hand = worlds.Empty } ∷ [])) ≡ count_of running
+running_count : (layout : Layout) (running : Option Running) → length (all_running (record { running = option_map (running_of layout) running; hand = blocks.Empty } ∷ [])) ≡ count_of running
 running_count layout None = refl
 running_count layout (Some r) = refl
 
@@ -121,7 +124,7 @@ crowded s h = ap (nat_le 1024) (crowd-is s) ∙ most_at (pending s) h
 and_false : (b d : Bool) → b ≡ false → (b && d) ≡ false
 and_false b d e = rw e refl
 
-pub feeds-nothing : (setup : Setup) (c : ℕ) (w : World) (bytes : List ℕ) → 0 < length bytes → is_crowded w ≡ false → Feeds setup c w bytes 0 90 w
+pub feeds-nothing : (setup : Setup) (c : ℕ) (w : World) (bytes : List ℕ) → 0 < length bytes → is_crowded w ≡ false → Walks setup c w bytes 0 90 w
 feeds-nothing setup c w [] some room = absurd (omega arith)
 feeds-nothing setup c w (b ∷ bytes) some room = inl (refl, refl, inr (refl, and_false (is_crowded w) _ room))
 
@@ -144,13 +147,13 @@ part-heard s o w c bytes taken told starved may number f room e k =
     subst (λ (n : ℕ). TakesAll (setup_in s) c w (take taken bytes) (heard_in (setup_in s) (bytes_taken w c (take taken bytes)) c n told starved)) number_is
     (takes-heard (layout_of s.layout) s.verifier w c (take taken bytes) (open_of o) told starved may f.there f.sound room k)
 
-pub part-fault : (s : State) (o : OpenConnection) (w : World) (c : ℕ) (bytes : List ℕ) (taken : ℕ) (fault : StreamFault) → IsFed w c o → (is_crowded w && completes (Fault (fault_number fault))) ≡ false
+pub part-fault : (s : State) (o : OpenConnection) (w : World) (c : ℕ) (bytes : List ℕ) (taken : ℕ) (fault : StreamFault) → IsFed w c o → (is_crowded w && is_complete (AtFault (fault_number fault))) ≡ false
     → taken ≤ length bytes → Completes o.stream.items (take taken bytes) (record { served = (scan_stream o.stream.items).served; fault = Some (fault_number fault) })
-    → Feeds (setup_in s) c w bytes taken (fault_number fault) (bytes_taken w c (take taken bytes))
+    → Walks (setup_in s) c w bytes taken (fault_number fault) (bytes_taken w c (take taken bytes))
 part-fault s o w c bytes taken fault f room h k =
     let made = feeds-fault (layout_of s.layout) s.verifier w c (take taken bytes) (drop taken bytes) (open_of o) (fault_number fault) f.there f.sound room k in
-    subst (λ (n : ℕ). Feeds (setup_in s) c w bytes n (fault_number fault) (bytes_taken w c (take taken bytes))) (length_taken taken bytes h)
-    (subst (λ (bs : List ℕ). Feeds (setup_in s) c w bs (length (take taken bytes)) (fault_number fault) (bytes_taken w c (take taken bytes))) (taken-part bytes taken) made)
+    subst (λ (n : ℕ). Walks (setup_in s) c w bytes n (fault_number fault) (bytes_taken w c (take taken bytes))) (length_taken taken bytes h)
+    (subst (λ (bs : List ℕ). Walks (setup_in s) c w bs (length (take taken bytes)) (fault_number fault) (bytes_taken w c (take taken bytes))) (taken-part bytes taken) made)
 
 pub no-bytes : (w : World) (c taken : ℕ) (bytes : List ℕ) → taken ≡ 0 → bytes_taken w c (take taken bytes) ≡ w
 no-bytes w c taken bytes e = ap (λ (n : ℕ). bytes_taken w c (take n bytes)) e ∙ bytes_taken-none w c
@@ -176,17 +179,17 @@ more-admitted s o w new c bytes taken p e a =
 
 pub fault-admitted : (s : State) (o : OpenConnection) (w new : World) (c : ℕ) (bytes : List ℕ) (taken : ℕ) (fault : StreamFault) → IsPart s c o w → new ≡ bytes_taken w c (take taken bytes) → taken ≤ length bytes
     → Completes o.stream.items (take taken bytes) (record { served = (scan_stream o.stream.items).served; fault = Some (fault_number fault) })
-    → Feeds (setup_in s) c (world s) bytes taken (fault_number fault) new
+    → Walks (setup_in s) c (world s) bytes taken (fault_number fault) new
 fault-admitted s o w new c bytes taken fault p e h k =
-    subst (λ (v : World). Feeds (setup_in s) c v bytes taken (fault_number fault) new) p.same
-    (subst (Feeds (setup_in s) c w bytes taken (fault_number fault)) (sym e) (part-fault s o w c bytes taken fault p.fed (and_false (is_crowded w) (completes (Fault (fault_number fault))) p.room) h k))
+    subst (λ (v : World). Walks (setup_in s) c v bytes taken (fault_number fault) new) p.same
+    (subst (Walks (setup_in s) c w bytes taken (fault_number fault)) (sym e) (part-fault s o w c bytes taken fault p.fed (and_false (is_crowded w) (is_complete (AtFault (fault_number fault))) p.room) h k))
 
 pub nothing-admitted : (s : State) (o : OpenConnection) (w new : World) (c : ℕ) (bytes : List ℕ) (taken : ℕ) → IsPart s c o w → 0 < length bytes → new ≡ bytes_taken w c (take taken bytes) → taken ≡ 0
-    → Feeds (setup_in s) c (world s) bytes taken 90 new
+    → Walks (setup_in s) c (world s) bytes taken 90 new
 nothing-admitted s o w new c bytes taken p some e z =
     let none : w ≡ new = sym (e ∙ no-bytes w c taken bytes z) in
-    subst (λ (v : World). Feeds (setup_in s) c v bytes taken 90 new) p.same
-    (subst (λ (n : ℕ). Feeds (setup_in s) c w bytes n 90 new) (sym z) (subst (Feeds (setup_in s) c w bytes 0 90) none (feeds-nothing (setup_in s) c w bytes some p.room)))
+    subst (λ (v : World). Walks (setup_in s) c v bytes taken 90 new) p.same
+    (subst (λ (n : ℕ). Walks (setup_in s) c w bytes n 90 new) (sym z) (subst (Walks (setup_in s) c w bytes 0 90) none (feeds-nothing (setup_in s) c w bytes some p.room)))
 
 pub heard-admitted : (s : State) (o : OpenConnection) (w before new : World) (c d : ℕ) (setup : Setup) (bytes : List ℕ) (taken number : ℕ) (told : worlds.Heard) (starved : Bool) → MayStarveIf starved told.asked → IsPart s c o w → before ≡ bytes_taken w c (take taken bytes)
     → d ≡ c → setup ≡ setup_in s → number ≡ o.records → new ≡ heard_in setup before d number told starved

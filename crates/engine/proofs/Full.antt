@@ -8,8 +8,7 @@ use Rattle.rpc_record.specs.declared.reassembler.Look.{Look}
 use Rattle.rpc_record.specs.declared.reassembler.Look.TheVariants as looks
 use Rattle.nfs_model.specs.World as worlds
 use Rattle.nfs_model.specs.World.{Heard, Scanned, World, Setup, is_crowded}
-use Rattle.nfs_model.specs.Events.Feed.{Reached, Further, Complete, reached, reached_by, completes, Feeds, TakesFault, Stops}
-use Rattle.nfs_model.specs.Events.Feed as feeds
+use Rattle.nfs_laws.specs.Walk.{AtFault, reached, reached_by, is_complete, Walks, Stops}
 use Rattle.engine.specs.declared.connection.OpenConnection.{OpenConnection}
 use Rattle.engine.specs.declared.event.StreamFault.{StreamFault}
 use Rattle.engine.specs.declared.event.StreamFault.TheVariants.{RecordTooLong}
@@ -20,13 +19,13 @@ use Rattle.engine.specs.Seen.{open_of, setup_in}
 use Rattle.affinity_tree.specs.Layout.{layout_of}
 use Rattle.engine.specs.Sound.{HasNoRecord}
 use Rattle.engine.specs.Streams.{scan_stream, served_of, Completes}
-use Rattle.engine.specs.Feeding.{with_bytes, bytes_taken}
+use Rattle.nfs_model.specs.Events.Feed.{with_bytes, bytes_taken}
 use Rattle.engine.proofs.Scanning.{IsAt, joined, scan-goes, scan-faults}
 use Rattle.engine.proofs.Taking.{scanned_with, scan-made}
 use Rattle.engine.proofs.Arriving.{is-at}
 use Rattle.engine.proofs.Lists.{slice_get-last}
 use Rattle.engine.proofs.Records.{not-too-long}
-use Rattle.engine.proofs.Worlds.{Feeds-after, reached-is, reached-quiet, takes-quiet, connection-taken, quiet-scan}
+use Rattle.engine.proofs.Worlds.{Walks-after, reached-is, reached-quiet, takes-quiet, connection-taken, quiet-scan}
 use Rattle.engine.proofs.Fed.{IsFed, part-fault}
 
 -- ---- looks
@@ -66,7 +65,7 @@ take-within (suc n) (suc m) (x ∷ xs) h = ap (λ (zs : List ℕ). x ∷ zs) (ta
 
 -- ---- the byte that would complete a record
 
-completes_at : (served : List Heard) (r : Result Heard ℕ) → ((n : ℕ) → r ≡ Err n → (n == 11) ≡ false) → completes (reached_by (joined served (served_of (r ∷ []) None)) (length served)) ≡ true
+completes_at : (served : List Heard) (r : Result Heard ℕ) → ((n : ℕ) → r ≡ Err n → (n == 11) ≡ false) → is_complete (reached_by (joined served (served_of (r ∷ []) None)) (length served)) ≡ true
 completes_at served (Ok h) f = rw (slice_get-last served h) refl
 completes_at served (Err n) f = ap not (f n refl)
 
@@ -83,7 +82,7 @@ both : (b d : Bool) → b ≡ true → d ≡ true → (b && d) ≡ true
 both b d e f = rw (e, f) refl
 
 full_at : (s : states.State) (o : OpenConnection) (w : World) (c : ℕ) (bytes : List ℕ) (free : ℕ) (made : List ℕ) → IsFed w c o → is_crowded w ≡ true → free < length bytes
-    → Completes o.stream.items (take (suc free) bytes) (scanned_with o.stream.items made) → Feeds (setup_in s) c w bytes free 31 (bytes_taken w c (take free bytes))
+    → Completes o.stream.items (take (suc free) bytes) (scanned_with o.stream.items made) → Walks (setup_in s) c w bytes free 31 (bytes_taken w c (take free bytes))
 full_at s o w c bytes free made f crowd h k =
     let setup = setup_in s in
     let stream = o.stream.items in
@@ -95,18 +94,18 @@ full_at s o w c bytes free made f crowd h k =
     let whole : scan_stream (y.stream ++ k.last ∷ []) ≡ scanned_with stream made = ap scan_stream (append_assoc stream k.front (k.last ∷ []) ∙ ap (λ (xs : List ℕ). stream ++ xs) (sym k.split)) ∙ k.complete in
     let at : reached setup middle c k.last ≡ reached_by (scanned_with stream made) (length (scan_stream stream).served) =
     reached-is (layout_of s.layout) s.verifier middle c k.last y _ there whole ∙ ap (λ (t : Scanned). reached_by (scanned_with stream made) (length t.served)) same in
-    let ends : completes (reached setup middle c k.last) ≡ true = ap completes at ∙ completes_at (scan_stream stream).served (heard made) (not-too-long made) in
-    let stops : Stops middle (reached setup middle c k.last) 0 31 middle = (refl, refl, inl (refl, both (is_crowded middle) (completes (reached setup middle c k.last)) crowd ends)) in
-    let fed : Feeds setup c w (k.front ++ (k.last ∷ drop (suc free) bytes)) (length k.front + 0) 31 middle =
-    Feeds-after setup c w middle middle k.front (k.last ∷ drop (suc free) bytes) 0 31 (takes-quiet (layout_of s.layout) s.verifier w c k.front (open_of o) f.there f.sound k.quiet) (inl stops) in
+    let ends : is_complete (reached setup middle c k.last) ≡ true = ap is_complete at ∙ completes_at (scan_stream stream).served (heard made) (not-too-long made) in
+    let stops : Stops middle (reached setup middle c k.last) 0 31 middle = (refl, refl, inl (refl, both (is_crowded middle) (is_complete (reached setup middle c k.last)) crowd ends)) in
+    let fed : Walks setup c w (k.front ++ (k.last ∷ drop (suc free) bytes)) (length k.front + 0) 31 middle =
+    Walks-after setup c w middle middle k.front (k.last ∷ drop (suc free) bytes) 0 31 (takes-quiet (layout_of s.layout) s.verifier w c k.front (open_of o) f.there f.sound k.quiet) (inl stops) in
     let size : length k.front + 0 ≡ free = omega (arith, ap length front, length-take-le free bytes (omega arith)) in
     let new : middle ≡ bytes_taken w c (take free bytes) = ap (bytes_taken w c) front in
-    subst (Feeds setup c w bytes free 31) new
-    (subst (λ (n : ℕ). Feeds setup c w bytes n 31 middle) size
-    (subst (λ (bs : List ℕ). Feeds setup c w bs (length k.front + 0) 31 middle) (rest-is bytes k.front k.last free k.split) fed))
+    subst (Walks setup c w bytes free 31) new
+    (subst (λ (n : ℕ). Walks setup c w bytes n 31 middle) size
+    (subst (λ (bs : List ℕ). Walks setup c w bs (length k.front + 0) 31 middle) (rest-is bytes k.front k.last free k.split) fed))
 
 pub full-stop : (s : states.State) (o : OpenConnection) (w : World) (c : ℕ) (bytes : List ℕ) (free : ℕ) (at : Option State) → IsFed w c o → at ≡ o.reassembler → is_crowded w ≡ true → free < length bytes
-    → (made : List ℕ) × (outcome at bytes ≡ Made (free + 1) made) → Feeds (setup_in s) c w bytes free 31 (bytes_taken w c (take free bytes))
+    → (made : List ℕ) × (outcome at bytes ≡ Made (free + 1) made) → Walks (setup_in s) c w bytes free 31 (bytes_taken w c (take free bytes))
 full-stop s o w c bytes free at f a crowd h next =
     let i = is-at o.stream.items f.sound in
     let stands : at ≡ Some i.0 = a ∙ sym f.stands ∙ i.1.at in
@@ -122,15 +121,15 @@ false_after true d e = e
 false_after false d e = refl
 
 first_at : (s : states.State) (o : OpenConnection) (w : World) (c b : ℕ) (bytes : List ℕ) (state : State) (next : Next) → IsFed w c o → IsAt o.stream.items state → after state b ≡ next
-    → HasNoRecord (go 1 next (λ t. scan 1 t bytes)) → completes (reached (setup_in s) w c b) ≡ false
+    → HasNoRecord (go 1 next (λ t. scan 1 t bytes)) → is_complete (reached (setup_in s) w c b) ≡ false
 first_at s o w c b bytes state (Goes next) f i a n =
-    ap completes (reached-is (layout_of s.layout) s.verifier w c b (open_of o) _ f.there (scan-goes o.stream.items state next b i a).0 ∙ reached-quiet (scan_stream o.stream.items) f.sound)
+    ap is_complete (reached-is (layout_of s.layout) s.verifier w c b (open_of o) _ f.there (scan-goes o.stream.items state next b i a).0 ∙ reached-quiet (scan_stream o.stream.items) f.sound)
 first_at s o w c b bytes state (Ends made) f i a n = absurd n
 first_at s o w c b bytes state Faults f i a n =
-    ap completes (reached-is (layout_of s.layout) s.verifier w c b (open_of o) _ f.there (scan-faults o.stream.items state b i a).0)
+    ap is_complete (reached-is (layout_of s.layout) s.verifier w c b (open_of o) _ f.there (scan-faults o.stream.items state b i a).0)
 
 pub full-nothing : (s : states.State) (o : OpenConnection) (w : World) (c : ℕ) (bytes : List ℕ) (free : ℕ) (at : Option State) → IsFed w c o → at ≡ o.reassembler → 0 < length bytes → (free ≡ 0 → ⊥)
-    → HasNoRecord (outcome at (take free bytes)) → Feeds (setup_in s) c w bytes 0 90 w
+    → HasNoRecord (outcome at (take free bytes)) → Walks (setup_in s) c w bytes 0 90 w
 full-nothing s o w c [] free at f a h z n = absurd (omega arith)
 full-nothing s o w c (b ∷ bytes) zero at f a h z n = absurd (z refl)
 full-nothing s o w c (b ∷ bytes) (suc free) at f a h z n =
@@ -144,9 +143,9 @@ full-nothing s o w c (b ∷ bytes) (suc free) at f a h z n =
 pub full-fault : (s : states.State) (o : OpenConnection) (w new : World) (c : ℕ) (bytes : List ℕ) (free taken : ℕ) (fault : StreamFault) → IsFed w c o → fault ≡ RecordTooLong → free ≤ length bytes → taken ≤ free
     → new ≡ bytes_taken w c (take taken (take free bytes))
     → Completes o.stream.items (take taken (take free bytes)) (record { served = (scan_stream o.stream.items).served; fault = Some (fault_number fault) })
-    → Feeds (setup_in s) c w bytes taken (fault_number fault) new
+    → Walks (setup_in s) c w bytes taken (fault_number fault) new
 full-fault s o w new c bytes free taken fault f e h t n k =
     let same : take taken (take free bytes) ≡ take taken bytes = take-within taken free bytes t in
-    let room : (is_crowded w && completes (feeds.Fault (fault_number fault))) ≡ false = false_after (is_crowded w) _ (ap (λ (x : StreamFault). completes (feeds.Fault (fault_number x))) e) in
-    subst (Feeds (setup_in s) c w bytes taken (fault_number fault)) (sym (n ∙ ap (bytes_taken w c) same))
+    let room : (is_crowded w && is_complete (AtFault (fault_number fault))) ≡ false = false_after (is_crowded w) _ (ap (λ (x : StreamFault). is_complete (AtFault (fault_number x))) e) in
+    subst (Walks (setup_in s) c w bytes taken (fault_number fault)) (sym (n ∙ ap (bytes_taken w c) same))
     (part-fault s o w c bytes taken fault f room (omega arith) (subst (λ (xs : List ℕ). Completes o.stream.items xs (record { served = (scan_stream o.stream.items).served; fault = Some (fault_number fault) })) same k))

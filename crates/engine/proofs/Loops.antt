@@ -1,11 +1,11 @@
 -- Bytes taken piece by piece.
-use Rattle.std.proofs.Common.{◌≡◌, ℕ, ◌+◌, ◌-◌, ◌<◌, ◌≤◌, Bool, false, List, [], ◌∷◌, ◌++◌, length, take, drop, Option, Some, None, refl, sym, ap, subst, ◌∙◌, arith, inl, inr}
+use Rattle.std.proofs.Common.{true, ◌≡◌, ℕ, ◌+◌, ◌-◌, ◌<◌, ◌≤◌, Bool, false, List, [], ◌∷◌, ◌++◌, length, take, drop, Option, Some, None, refl, sym, ap, subst, ◌∙◌, arith, inl, inr}
 use Rattle.std.specs.Prelude.{◌==◌, slice_get, vec_len, vec_capacity, IfSome, is_none, option_map, if◌then◌else◌}
 use Rattle.std.proofs.Math.Seq.{take-add}
 use Rattle.std.proofs.lemmas.Bool.Decides.{nat_tests}
 use Rattle.std.proofs.lemmas.List.{append-nil, take_all, take-append-drop, length-take-le, length-drop}
 use Rattle.nfs_model.specs.World.{Setup, World, Connection}
-use Rattle.nfs_model.specs.Events.Feed.{Feeds}
+use Rattle.nfs_laws.specs.Walk.{Walks}
 use Rattle.nfs_model.specs.Events.Refusals as events
 use Rattle.nfs_model.specs.Events.Refusals.{takes_input}
 use Rattle.engine.specs.declared.connection.OpenConnection.{OpenConnection}
@@ -15,7 +15,7 @@ use Rattle.engine.specs.Numbers.{fault_number}
 use Rattle.engine.specs.Seen.{setup_in, world, connections_of}
 use Rattle.engine.specs.Sound.{IsSound, IsRoomy, owed, AtNoFault, at_no_fault, MayGoOn, IsFree, stands_at, pending}
 use Rattle.engine.specs.Feeding.{TakesAll}
-use Rattle.engine.proofs.Worlds.{TakesAll-append, Feeds-after, bytes_taken-none}
+use Rattle.engine.proofs.Worlds.{TakesAll-append, Walks-after, bytes_taken-none}
 use Rattle.engine.proofs.Connections.{others-closed, all-closed, last-open}
 use Rattle.engine.proofs.Fed.{fed-open, not-crowded, crowded, feeds-nothing}
 use Rattle.engine.proofs.Full.{full-stop, full-nothing}
@@ -26,36 +26,36 @@ goes-on setup other c d w m new bytes taken count e f p q =
     let r : TakesAll other d m (take count (drop taken bytes)) new = subst (λ (n : ℕ). TakesAll other n m (take count (drop taken bytes)) new) f (subst (λ (x : Setup). TakesAll x c m (take count (drop taken bytes)) new) e q) in
     subst (λ (bs : List ℕ). TakesAll other d w bs new) (sym (take-add taken count bytes)) (TakesAll-append other d w m new (take taken bytes) (take count (drop taken bytes)) p r)
 
-pub stops : (setup other : Setup) (c d : ℕ) (w m new : World) (bytes : List ℕ) (taken count stop : ℕ) → setup ≡ other → c ≡ d → taken ≤ length bytes → TakesAll other d w (take taken bytes) m → Feeds setup c m (drop taken bytes) count stop new
-    → Feeds other d w bytes (taken + count) stop new
+pub stops : (setup other : Setup) (c d : ℕ) (w m new : World) (bytes : List ℕ) (taken count stop : ℕ) → setup ≡ other → c ≡ d → taken ≤ length bytes → TakesAll other d w (take taken bytes) m → Walks setup c m (drop taken bytes) count stop new
+    → Walks other d w bytes (taken + count) stop new
 stops setup other c d w m new bytes taken count stop e f h p q =
-    let r : Feeds other d m (drop taken bytes) count stop new = subst (λ (n : ℕ). Feeds other n m (drop taken bytes) count stop new) f (subst (λ (x : Setup). Feeds x c m (drop taken bytes) count stop new) e q) in
-    let fed = Feeds-after other d w m new (take taken bytes) (drop taken bytes) count stop p r in
+    let r : Walks other d m (drop taken bytes) count stop new = subst (λ (n : ℕ). Walks other n m (drop taken bytes) count stop new) f (subst (λ (x : Setup). Walks x c m (drop taken bytes) count stop new) e q) in
+    let fed = Walks-after other d w m new (take taken bytes) (drop taken bytes) count stop p r in
     let size : length (take taken bytes) ≡ taken = length-take-le taken bytes h in
-    subst (λ (n : ℕ). Feeds other d w bytes (n + count) stop new) size
-    (subst (λ (bs : List ℕ). Feeds other d w bs (length (take taken bytes) + count) stop new) (take-append-drop taken bytes) fed)
+    subst (λ (n : ℕ). Walks other d w bytes (n + count) stop new) size
+    (subst (λ (bs : List ℕ). Walks other d w bs (length (take taken bytes) + count) stop new) (take-append-drop taken bytes) fed)
 
-pub all-taken : (setup : Setup) (c : ℕ) (w new : World) (bytes : List ℕ) (taken : ℕ) → taken ≡ length bytes → TakesAll setup c w (take taken bytes) new → Feeds setup c w bytes taken 0 new
+pub all-taken : (setup : Setup) (c : ℕ) (w new : World) (bytes : List ℕ) (taken : ℕ) → taken ≡ length bytes → TakesAll setup c w (take taken bytes) new → Walks setup c w bytes taken 0 new
 all-taken setup c w new bytes taken e p =
     let whole : take taken bytes ≡ bytes = take_all taken bytes (omega (arith, e)) in
-    let fed : Feeds setup c w (bytes ++ []) (length bytes + 0) 0 new = Feeds-after setup c w new new bytes [] 0 0 (subst (λ (bs : List ℕ). TakesAll setup c w bs new) whole p) (refl, refl, refl) in
+    let fed : Walks setup c w (bytes ++ []) (length bytes + 0) 0 new = Walks-after setup c w new new bytes [] 0 0 (subst (λ (bs : List ℕ). TakesAll setup c w bs new) whole p) (refl, refl, refl) in
     let size : length bytes + 0 ≡ taken = omega (arith, e) in
-    subst (λ (n : ℕ). Feeds setup c w bytes n 0 new) size (subst (λ (bs : List ℕ). Feeds setup c w bs (length bytes + 0) 0 new) (append-nil bytes) fed)
+    subst (λ (n : ℕ). Walks setup c w bytes n 0 new) size (subst (λ (bs : List ℕ). Walks setup c w bs (length bytes + 0) 0 new) (append-nil bytes) fed)
 
 -- ---- before the first byte
 
-pub feeds-none : (setup : Setup) (c : ℕ) (w : World) (bytes : List ℕ) → length bytes ≡ 0 → Feeds setup c w bytes 0 0 w
+pub feeds-none : (setup : Setup) (c : ℕ) (w : World) (bytes : List ℕ) → length bytes ≡ 0 → Walks setup c w bytes 0 0 w
 feeds-none setup c w [] e = (refl, refl, refl)
 feeds-none setup c w (b ∷ bytes) e = absurd (omega arith)
 
-pub stopped-full : (s : states.State) (bytes : List ℕ) → IsSound s → AtNoFault s.current → 0 < length bytes → (pending s ≡ 1024) × IsFree (stands_at s.current) bytes 0 → Feeds (setup_in s) (vec_len s.past) (world s) bytes 0 31 (world s)
+pub stopped-full : (s : states.State) (bytes : List ℕ) → IsSound s → AtNoFault s.current → 0 < length bytes → (pending s ≡ 1024) × IsFree (stands_at s.current) bytes 0 → Walks (setup_in s) (vec_len s.past) (world s) bytes 0 31 (world s)
 stopped-full s bytes h a some p =
     let f = fed-open s h a in
     let w = world s in
-    subst (Feeds (setup_in s) (vec_len s.past) w bytes 0 31) (bytes_taken-none w (vec_len s.past))
+    subst (Walks (setup_in s) (vec_len s.past) w bytes 0 31) (bytes_taken-none w (vec_len s.past))
     (full-stop s f.0 w (vec_len s.past) bytes 0 (stands_at s.current) f.2 (ap stands_at f.1) (crowded s (λ k. omega (arith, k, p.0))) some (p.1.next some))
 
-pub stopped-by-memory : (s : states.State) (bytes : List ℕ) → IsSound s → AtNoFault s.current → 0 < length bytes → MayGoOn s bytes → Feeds (setup_in s) (vec_len s.past) (world s) bytes 0 90 (world s)
+pub stopped-by-memory : (s : states.State) (bytes : List ℕ) → IsSound s → AtNoFault s.current → 0 < length bytes → MayGoOn s bytes → Walks (setup_in s) (vec_len s.past) (world s) bytes 0 90 (world s)
 stopped-by-memory s bytes h a some (inl room) = feeds-nothing (setup_in s) (vec_len s.past) (world s) bytes some (not-crowded s room)
 stopped-by-memory s bytes h a some (inr r) =
     let f = fed-open s h a in
@@ -90,6 +90,13 @@ taking_is s (Some o) i h e = taken_by (setup_in s) s.past.items o i e ∙ ap (λ
 
 pub taking-is : (s : states.State) (i : ℕ) (b : Bool) → IsSound s → i ≡ length s.past.items → b ≡ at_no_fault s.current → if_taking (takes_input (setup_in s) (slice_get (connections_of s.past.items s.current) i)) ≡ if_taking b
 taking-is s i b h e k = ap if_taking (taking_is s s.current i h.current e ∙ sym k)
+
+taken_if : (b : Bool) → if_taking b ≡ None → b ≡ true
+taken_if true e = refl
+taken_if false e = absurd cc
+
+pub takes-input : (s : states.State) (i : ℕ) → if_taking (takes_input (setup_in s) (slice_get (connections_of s.past.items s.current) i)) ≡ None → takes_input (setup_in s) (slice_get (world s).connections i) ≡ true
+takes-input s i e = taken_if (takes_input (setup_in s) (slice_get (connections_of s.past.items s.current) i)) e
 
 pub not-empty : (bytes : List ℕ) → false ≡ (length bytes == 0) → 0 < length bytes
 not-empty bytes e = grind (arith, nat_tests)

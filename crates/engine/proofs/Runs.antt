@@ -1,27 +1,17 @@
 -- Runs of events, and what they keep.
 use Rattle.std.proofs.Common.{◌≡◌, ℕ, ◌+◌, List, [], ◌∷◌, ◌++◌, length, take, map, get_or, true, false, ◌<◌, Result, Ok, Err, refl, sym, subst, arith}
-use Rattle.nfs_model.specs.Tree.{Layout}
 use Rattle.nfs_model.specs.World.{Setup, World}
 use Rattle.nfs_model.specs.Events.Refusals.{Event, Done}
 use Rattle.nfs_model.specs.Events.Step.{Events, Runs}
-use Rattle.nfs_model.specs.Headline.{Headline, opening_world}
-use Rattle.nfs_model.proofs.Opening.{opening_headline}
-use Rattle.nfs_model.proofs.Kept.{keeps}
-use Rattle.nfs_model.proofs.Unchanged.{read_only_agrees}
+use Rattle.nfs_model.specs.Headline.{opening_world}
 use Rattle.engine.specs.Engine.{one_if_refused, RunsRefusing}
-use Rattle.engine.specs.Streams.{setup_of}
 use Rattle.engine.specs.declared.state.State.{State}
 use Rattle.engine.specs.declared.event.Event as happened
 use Rattle.engine.specs.declared.event.Done as dones
 use Rattle.engine.specs.declared.event.Refusal as refusals
 use Rattle.engine.specs.Seen.{setup_in, world, event_of, answer_of}
-use Rattle.affinity_tree.specs.Layout.{layout_of}
 use Rattle.std.specs.Result.{is_err}
 use Rattle.std.proofs.lemmas.List.{map_more}
-use Rattle.engine.proofs.Serves.{is-scan, is-read-only}
-
-pub keeps-headline : (layout : Layout) (verifier : List ℕ) (old : World) (event : Event) (answer : Result Done ℕ) (new : World) → Headline (setup_of layout verifier) old → Events (setup_of layout verifier) old event answer new → Headline (setup_of layout verifier) new
-keeps-headline layout verifier old event answer new h e = keeps (setup_of layout verifier) (read_only_agrees (setup_of layout verifier) (is-read-only layout verifier)) is-scan old event answer new e h
 
 pub runs-on : (setup : Setup) (old : World) (events : List Event) (refused : ℕ) (middle : World) (event : Event) (answer : Result Done ℕ) (new : World)
     → RunsRefusing setup old events refused middle → Events setup middle event answer new → RunsRefusing setup old (events ++ event ∷ []) (refused + one_if_refused answer) new
@@ -33,13 +23,6 @@ runs-on setup old (x ∷ events) refused middle event answer new r e =
 pub runs : (setup : Setup) (old : World) (events : List Event) (refused : ℕ) (new : World) → RunsRefusing setup old events refused new → Runs setup old events new
 runs setup old [] refused new r = r.1
 runs setup old (x ∷ events) refused new r = (r.0, r.1, r.3, runs setup r.1 events r.2 new r.5)
-
-pub keeps-state : (old new : State) (event : Event) (answer : Result Done ℕ) → setup_in new ≡ setup_in old → Headline (setup_in old) (world old) → Events (setup_in old) (world old) event answer (world new) → Headline (setup_in new) (world new)
-keeps-state old new event answer s h e =
-    subst (λ (x : Setup). Headline x (world new)) (sym s) (keeps-headline (layout_of old.layout) old.verifier (world old) event answer (world new) h e)
-
-pub opens : (s : State) → world s ≡ opening_world (setup_in s) → Headline (setup_in s) (world s)
-opens s e = subst (λ (w : World). Headline (setup_in s) w) (sym e) (opening_headline (setup_in s))
 
 pub run-more : (setup : Setup) (old : World) (events : List happened.Event) (i : ℕ) (d : happened.Event) (refused : ℕ) (middle : World) (answer : Result Done ℕ) (after : ℕ) (new : World) → i < length events
     → RunsRefusing setup old (map event_of (take i events)) refused middle → Events setup middle (event_of (get_or events i d)) answer new → after ≡ refused + one_if_refused answer → RunsRefusing setup old (map event_of (take (i + 1) events)) after new

@@ -1,7 +1,7 @@
 -- What the serial server answers a call on the root's parcel.
-use Rattle.std.proofs.Common.{◌≡◌, ℕ, zero, suc, ◌+◌, ◌<◌, Bool, true, false, List, [], ◌∷◌, length, take, drop, Option, Some, None, refl, sym, ap, ◌∙◌, arith, inl, inr}
+use Rattle.std.proofs.Common.{◌≡◌, ℕ, zero, suc, ◌+◌, ◌<◌, Bool, true, false, List, [], ◌∷◌, length, take, Option, Some, None, refl, sym, ap, ◌∙◌, arith, inl, inr}
 use Rattle.std.specs.Prelude.{◌⊎◌, ◌&&◌, ◌==◌, nat_lt, slice_get, if◌then◌else◌}
-use Rattle.std.specs.Int.{w32, w64, from_be_bytes}
+use Rattle.std.specs.Int.{w32, from_be_bytes}
 use Rattle.std.specs.Ordering.{nat_cmp}
 use Rattle.std.specs.declared.cmp.Ordering.{Ordering}
 use Rattle.std.specs.declared.cmp.Ordering.TheVariants.{Less, Equal, Greater}
@@ -10,12 +10,12 @@ use Rattle.std.proofs.lemmas.Bool.Decides.{nat_tests}
 use Rattle.std.proofs.lemmas.Bool.{ltb-true}
 use Rattle.nfs_model.specs.Types as types
 use Rattle.nfs_model.specs.Server as servers
-use Rattle.nfs_model.specs.Server.{handle_of, root_node, opening_volume, opening_volumes, opening}
+use Rattle.nfs_model.specs.Server.{Named, named_read, handle_of, root_node, opening_volume, opening_volumes, opening}
 use Rattle.nfs_model.specs.Shown.{shown}
-use Rattle.nfs_model.specs.Locate.{Served, on_node, told}
+use Rattle.nfs_model.specs.Locate.{Effect, Fails, Tells, located_in, located_by, on_node}
 use Rattle.nfs_model.specs.Serial.Getattr.{getattr}
-use Rattle.nfs_model.specs.Serial.Step.{on_handle, on_volume, put_back}
-use Rattle.nfs_model.proofs.Evaluate.{get_entries, entries_sorted_list}
+use Rattle.nfs_model.specs.Serial.Step.{on, placed, stay}
+use Rattle.nfs_laws.specs.lemmas.Evaluate.{get_entries, entries_sorted_list}
 use Rattle.nfs_model.specs.Tree.{Layout, VolumeLayout}
 use Rattle.engine.specs.declared.parcel.Kept.{Kept}
 use Rattle.engine.specs.Seen.{root_of, volume_of, volumes_from, server_of}
@@ -36,16 +36,17 @@ get_is x q = get_entries (from_sorted ((1, x) ∷ [])) q ∙ ap (λ es. find nat
 
 -- ---- good handles
 
-in_cond : (b d : Bool) (v f : ℕ) (h : ℕ × ℕ) → (if b && d then Some (v, f) else None) ≡ Some h → (d ≡ true) × (v ≡ h.0)
-in_cond true true v f h e = (refl, ap (λ (o : Option (ℕ × ℕ)). elim o as (λ p. ℕ) [ None ↦ 0 | Some p ↦ p.0 ]) e)
-in_cond true false v f h e = absurd cc
-in_cond false d v f h e = absurd cc
+in_cond : (b d : Bool) (n h : Named) → (if b && d then Some n else None) ≡ Some h → (d ≡ true) × (n ≡ h)
+in_cond true true n h e = (refl, cc)
+in_cond true false n h e = absurd cc
+in_cond false d n h e = absurd cc
 
-pub handle-within : (volumes : ℕ) (bytes : List ℕ) (h : ℕ × ℕ) → handle_of volumes bytes ≡ Some h → h.0 < volumes
+pub handle-within : (volumes : ℕ) (bytes : List ℕ) (h : Named) → handle_of volumes bytes ≡ Some h → h.volume < volumes
 handle-within volumes bytes h e =
-    let c = in_cond (length bytes == 12) (nat_lt (from_be_bytes w32 (take 4 bytes)) volumes) (from_be_bytes w32 (take 4 bytes)) (from_be_bytes w64 (drop 4 bytes)) h e in
+    let c = in_cond (length bytes == 12) (nat_lt (from_be_bytes w32 (take 4 bytes)) volumes) (named_read bytes) h e in
     let below : from_be_bytes w32 (take 4 bytes) < volumes = ltb-true (from_be_bytes w32 (take 4 bytes)) volumes c.0 in
-    omega (arith, c.1)
+    let same : from_be_bytes w32 (take 4 bytes) ≡ h.volume = ap (λ (n : Named). n.volume) c.1 in
+    omega (arith, same)
 
 -- ---- the volumes
 
@@ -70,66 +71,70 @@ get-volumes_from verifier root number (v ∷ vs) (suc i) x e =
     get-volumes_from verifier root (number + 1) vs i x e ∙ ap (λ (n : ℕ). Some (volume_of verifier root n x)) moved
 
 -- the volume that a good handle names
-pub volume_at : (layout : Layout) (verifier : List ℕ) (root : Kept) (handle : List ℕ) (h : ℕ × ℕ) → handle_of (length layout.volumes) handle ≡ Some h
-    → (x : VolumeLayout) × (slice_get layout.volumes h.0 ≡ Some x) × (slice_get (server_of layout verifier root).volumes h.0 ≡ Some (volume_of verifier root h.0 x))
+pub volume_at : (layout : Layout) (verifier : List ℕ) (root : Kept) (handle : List ℕ) (h : Named) → handle_of (length layout.volumes) handle ≡ Some h
+    → (x : VolumeLayout) × (slice_get layout.volumes h.volume ≡ Some x) × (slice_get (server_of layout verifier root).volumes h.volume ≡ Some (volume_of verifier root h.volume x))
 volume_at layout verifier root handle h e =
-    let there = volume_there layout.volumes h.0 (handle-within (length layout.volumes) handle h e) in
-    let number : 0 + h.0 ≡ h.0 = omega arith in
-    (there.0, there.1, get-volumes_from verifier root 0 layout.volumes h.0 there.0 there.1 ∙ ap (λ (n : ℕ). Some (volume_of verifier root n there.0)) number)
+    let there = volume_there layout.volumes h.volume (handle-within (length layout.volumes) handle h e) in
+    let number : 0 + h.volume ≡ h.volume = omega arith in
+    (there.0, there.1, get-volumes_from verifier root 0 layout.volumes h.volume there.0 there.1 ∙ ap (λ (n : ℕ). Some (volume_of verifier root n there.0)) number)
 
 -- the server as it begins
 volumes-open : (verifier : List ℕ) (number : ℕ) (vs : List VolumeLayout) (root : Kept) → root_of root ≡ root_node → volumes_from verifier root number vs ≡ opening_volumes verifier number vs
 volumes-open verifier number [] root e = refl
 volumes-open verifier number (v ∷ vs) root e =
     let first : volume_of verifier root number v ≡ opening_volume verifier number v = ap (λ (node : servers.Node). record (opening_volume verifier number v) { nodes = from_sorted ((1, node) ∷ []) }) e in
-    ap (λ (x : servers.Volume). x ∷ volumes_from verifier root (number + 1) vs) first
-    ∙ ap (λ (xs : List servers.Volume). opening_volume verifier number v ∷ xs) (volumes-open verifier (number + 1) vs root e)
+    ap (λ (x : servers.VolumeState). x ∷ volumes_from verifier root (number + 1) vs) first
+    ∙ ap (λ (xs : List servers.VolumeState). opening_volume verifier number v ∷ xs) (volumes-open verifier (number + 1) vs root e)
 
 pub server-opens : (layout : Layout) (verifier : List ℕ) (root : Kept) → root_of root ≡ root_node → server_of layout verifier root ≡ opening layout verifier
-server-opens layout verifier root e = ap (λ (vs : List servers.Volume). record (opening layout verifier) { volumes = vs }) (volumes-open verifier 0 layout.volumes root e)
+server-opens layout verifier root e = ap (λ (vs : List servers.VolumeState). record (opening layout verifier) { volumes = vs }) (volumes-open verifier 0 layout.volumes root e)
 
 -- ---- GETATTR
 
-on_there : (layout : Layout) (verifier : List ℕ) (root : Kept) (h : ℕ × ℕ) (x : VolumeLayout) (s : Served) → slice_get (server_of layout verifier root).volumes h.0 ≡ Some (volume_of verifier root h.0 x) → getattr (volume_of verifier root h.0 x) h.1 ≡ s
-    → on_handle (server_of layout verifier root) 0 (Some h) getattr ≡ put_back (server_of layout verifier root) h.0 s
-on_there layout verifier root h x s e k =
-    ap (λ (o : Option servers.Volume). on_volume (server_of layout verifier root) 0 h.0 o (λ volume. getattr volume h.1)) e
-    ∙ ap (put_back (server_of layout verifier root) h.0) k
+on_there : (layout : Layout) (verifier : List ℕ) (root : Kept) (h : Named) (x : VolumeLayout) (effect : Effect) → slice_get (server_of layout verifier root).volumes h.volume ≡ Some (volume_of verifier root h.volume x)
+    → getattr (volume_of verifier root h.volume x) h.fileid ≡ effect
+    → on (server_of layout verifier root) 0 (located_by (server_of layout verifier root).volumes (Some h)) getattr ≡ placed (server_of layout verifier root) 0 h.volume effect
+on_there layout verifier root h x effect e k =
+    ap (λ (o : Option servers.VolumeState). on (server_of layout verifier root) 0 (located_in h o) getattr) e
+    ∙ ap (placed (server_of layout verifier root) 0 h.volume) k
 
 -- a call on a good handle, whose node is answered so
-on_good : (layout : Layout) (root : Kept) (handle : List ℕ) (h : ℕ × ℕ) (answer : types.Answer) → handle_of (length layout.volumes) handle ≡ Some h
-    → ((verifier : List ℕ) (x : VolumeLayout) → getattr (volume_of verifier root h.0 x) h.1 ≡ told answer) → IsAnswer layout root (types.Getattr handle) answer
-on_good layout root handle h answer e served verifier credential moment =
+on_good : (layout : Layout) (root : Kept) (handle : List ℕ) (h : Named) (effect : Effect) (answer : types.Answer) → handle_of (length layout.volumes) handle ≡ Some h
+    → ((server : servers.Server) (i : ℕ) → placed server 0 i effect ≡ stay server answer)
+    → ((verifier : List ℕ) (x : VolumeLayout) → getattr (volume_of verifier root h.volume x) h.fileid ≡ effect) → IsAnswer layout root (types.Getattr handle) answer
+on_good layout root handle h effect answer e told served verifier credential moment =
+    let server = server_of layout verifier root in
     let there = volume_at layout verifier root handle h e in
     let count = length-volumes_from verifier root 0 layout.volumes in
-    let named : handle_of (length (server_of layout verifier root).volumes) handle ≡ Some h = ap (λ (n : ℕ). handle_of n handle) count ∙ e in
-    ap (λ (o : Option (ℕ × ℕ)). on_handle (server_of layout verifier root) 0 o getattr) named
-    ∙ on_there layout verifier root h there.0 (told answer) there.2 (served verifier there.0)
+    let named : handle_of (length server.volumes) handle ≡ Some h = ap (λ (n : ℕ). handle_of n handle) count ∙ e in
+    ap (λ (o : Option Named). on server 0 (located_by server.volumes o) getattr) named
+    ∙ on_there layout verifier root h there.0 effect there.2 (served verifier there.0)
+    ∙ told server h.volume
 
 -- the root
-getattr-root : (layout : Layout) (root : Kept) (handle : List ℕ) (h : ℕ × ℕ) (answer : types.Answer) → handle_of (length layout.volumes) handle ≡ Some h → h.1 ≡ 1
-    → ((verifier : List ℕ) (x : VolumeLayout) → answer ≡ types.GetattrDone (shown (volume_of verifier root h.0 x) 1 (root_of root))) → IsAnswer layout root (types.Getattr handle) answer
+getattr-root : (layout : Layout) (root : Kept) (handle : List ℕ) (h : Named) (answer : types.Answer) → handle_of (length layout.volumes) handle ≡ Some h → h.fileid ≡ 1
+    → ((verifier : List ℕ) (x : VolumeLayout) → answer ≡ types.GetattrDone (shown (volume_of verifier root h.volume x) 1 (root_of root))) → IsAnswer layout root (types.Getattr handle) answer
 getattr-root layout root handle h answer e f a =
-    on_good layout root handle h answer e (λ (verifier : List ℕ) (x : VolumeLayout).
-    let volume = volume_of verifier root h.0 x in
-    let there : get volume.nodes h.1 ≡ Some (root_of root) = ap (get volume.nodes) f ∙ get_is (root_of root) 1 ∙ found (root_of root) in
-    ap (λ (o : Option servers.Node). on_node 0 o (λ node. told (types.GetattrDone (shown volume h.1 node)))) there
-    ∙ ap (λ (n : ℕ). told (types.GetattrDone (shown volume n (root_of root)))) f
-    ∙ ap told (sym (a verifier x)))
+    on_good layout root handle h (Tells answer) answer e (λ (server : servers.Server) (i : ℕ). refl) (λ (verifier : List ℕ) (x : VolumeLayout).
+    let volume = volume_of verifier root h.volume x in
+    let there : get volume.nodes h.fileid ≡ Some (root_of root) = ap (get volume.nodes) f ∙ get_is (root_of root) 1 ∙ found (root_of root) in
+    ap (λ (o : Option servers.Node). on_node o (λ node. Tells (types.GetattrDone (shown volume h.fileid node)))) there
+    ∙ ap (λ (n : ℕ). Tells (types.GetattrDone (shown volume n (root_of root)))) f
+    ∙ ap Tells (sym (a verifier x)))
 
 -- any other fileid
-getattr-stale : (layout : Layout) (root : Kept) (handle : List ℕ) (h : ℕ × ℕ) (answer : types.Answer) → handle_of (length layout.volumes) handle ≡ Some h → (h.1 ≡ 1 → ⊥) → answer ≡ types.Failed types.Stale 0 → IsAnswer layout root (types.Getattr handle) answer
+getattr-stale : (layout : Layout) (root : Kept) (handle : List ℕ) (h : Named) (answer : types.Answer) → handle_of (length layout.volumes) handle ≡ Some h → (h.fileid ≡ 1 → ⊥) → answer ≡ types.Failed types.Stale 0 → IsAnswer layout root (types.Getattr handle) answer
 getattr-stale layout root handle h answer e f a =
-    on_good layout root handle h answer e (λ (verifier : List ℕ) (x : VolumeLayout).
-    let volume = volume_of verifier root h.0 x in
-    let there : get volume.nodes h.1 ≡ None = get_is (root_of root) h.1 ∙ other_at (root_of root) h.1 (nat_cmp h.1 1) refl f in
-    ap (λ (o : Option servers.Node). on_node 0 o (λ node. told (types.GetattrDone (shown volume h.1 node)))) there ∙ ap told (sym a))
+    on_good layout root handle h (Fails types.Stale) answer e (λ (server : servers.Server) (i : ℕ). ap (stay server) (sym a)) (λ (verifier : List ℕ) (x : VolumeLayout).
+    let volume = volume_of verifier root h.volume x in
+    let there : get volume.nodes h.fileid ≡ None = get_is (root_of root) h.fileid ∙ other_at (root_of root) h.fileid (nat_cmp h.fileid 1) refl f in
+    ap (λ (o : Option servers.Node). on_node o (λ node. Tells (types.GetattrDone (shown volume h.fileid node)))) there)
 
 -- a bad handle
 pub getattr-bad : (layout : Layout) (root : Kept) (handle : List ℕ) → handle_of (length layout.volumes) handle ≡ None → IsAnswer layout root (types.Getattr handle) (types.Failed types.BadHandle 0)
 getattr-bad layout root handle e verifier credential moment =
     let count = length-volumes_from verifier root 0 layout.volumes in
-    ap (λ (o : Option (ℕ × ℕ)). on_handle (server_of layout verifier root) 0 o getattr) (ap (λ (n : ℕ). handle_of n handle) count ∙ e)
+    ap (λ (o : Option Named). on (server_of layout verifier root) 0 (located_by (server_of layout verifier root).volumes o) getattr) (ap (λ (n : ℕ). handle_of n handle) count ∙ e)
 
 -- what is answered of each fileid of a volume
 pub record IsOfFileid (root : Kept) (volume fileid : ℕ) (answer : types.Answer) : Type 0 where
@@ -140,8 +145,8 @@ one_or_not : (n : ℕ) (b : Bool) → (n == 1) ≡ b → (n ≡ 1) ⊎ (n ≡ 1 
 one_or_not n true e = inl (grind (arith, nat_tests))
 one_or_not n false e = inr (λ k. grind (arith, nat_tests))
 
-pub getattr-answer : (layout : Layout) (root : Kept) (handle : List ℕ) (h : ℕ × ℕ) (answer : types.Answer) → handle_of (length layout.volumes) handle ≡ Some h → IsOfFileid root h.0 h.1 answer → IsAnswer layout root (types.Getattr handle) answer
-getattr-answer layout root handle h answer e a = elim (one_or_not h.1 (h.1 == 1) refl) [
+pub getattr-answer : (layout : Layout) (root : Kept) (handle : List ℕ) (h : Named) (answer : types.Answer) → handle_of (length layout.volumes) handle ≡ Some h → IsOfFileid root h.volume h.fileid answer → IsAnswer layout root (types.Getattr handle) answer
+getattr-answer layout root handle h answer e a = elim (one_or_not h.fileid (h.fileid == 1) refl) [
   | inl f ↦ getattr-root layout root handle h answer e f (a.at_root f)
   | inr f ↦ getattr-stale layout root handle h answer e f (a.others f)
 ]

@@ -7,12 +7,15 @@ use Rattle.std.proofs.lemmas.Option.{slice_get-map}
 use Rattle.nfs_model.specs.Types as types
 use Rattle.nfs_model.specs.Tree as trees
 use Rattle.nfs_model.specs.Server as servers
+use Rattle.nfs_model.specs.Work as tasks
+use Rattle.nfs_model.specs.Parts as blocks
 use Rattle.nfs_model.specs.World as worlds
 use Rattle.nfs_model.specs.ReadOnly.{IsReading}
 use Rattle.nfs_model.specs.Serial.Step.{Step, serve, stay}
 use Rattle.nfs_model.specs.Events.Refusals as events
 use Rattle.nfs_model.specs.Events.Refusals.{begin_refusal, is_idle}
-use Rattle.nfs_model.specs.Events.Work.{Works, PartsAfter, move_of}
+use Rattle.nfs_model.specs.Moves.{Stored}
+use Rattle.nfs_model.specs.Work.{Store, Works, PartsAfter, move_of_call}
 use Rattle.nfs_model.specs.Events.Step.{stamped, without_call}
 use Rattle.nfs_model.specs.Replay as replays
 use Rattle.nfs_model.specs.Headline.{opening_parts}
@@ -29,8 +32,8 @@ use Rattle.engine.specs.declared.parcel.Kept.{Kept}
 use Rattle.engine.specs.declared.parcel.VolumeLogical.{VolumeLogical}
 use Rattle.engine.specs.Seen.{message_of, running_of, held_by, kept_by, tried, volume_of, server_of, setup_in, world}
 use Rattle.affinity_tree.specs.Layout.{layout_of}
-use Rattle.nfs_model.specs.Home.{home, logical_of}
-use Rattle.nfs_model.specs.Server.{handle_of}
+use Rattle.nfs_model.specs.Home.{home, logical_home}
+use Rattle.nfs_model.specs.Server.{Named, handle_of}
 use Rattle.engine.proofs.Serving.{volume_at}
 use Rattle.engine.specs.Served.{IsAnswer}
 use Rattle.engine.specs.Sound.{IsLent}
@@ -38,7 +41,7 @@ use Rattle.engine.specs.Sound.{IsLent}
 -- ---- the only worker
 
 abbrev pub worker_of : trees.Layout → Option Running → worlds.Worker
-worker_of layout running = record { running = option_map (running_of layout) running; hand = worlds.Empty }
+worker_of layout running = record { running = option_map (running_of layout) running; hand = blocks.Empty }
 
 pub map-remove : {A B : Type 0} (f : A → B) (xs : List A) (i : ℕ) → map f (remove xs i) ≡ remove (map f xs) i
 map-remove f [] zero = refl
@@ -74,7 +77,7 @@ pub changes-same : (w : worlds.World) (ms ns : List worlds.Message) (ks ls : Lis
 changes-same w ms ns ks ls a b e f g =
     ap (λ (xs : List worlds.Message). changes w xs ks a) e ∙ ap (λ (xs : List worlds.Worker). changes w ns xs a) f ∙ ap (λ (x : servers.Server). changes w ns ls x) g
 
-pub only-changed : (layout : trees.Layout) (old : Option Running) (new : Option worlds.Running) (worker : ℕ) → worker ≡ 0 → record { running = new; hand = worlds.Empty } ∷ [] ≡ worlds.changed_at (worlds.with_running new) (worker_of layout old ∷ []) worker
+pub only-changed : (layout : trees.Layout) (old : Option Running) (new : Option worlds.Running) (worker : ℕ) → worker ≡ 0 → record { running = new; hand = blocks.Empty } ∷ [] ≡ worlds.changed_at (worlds.with_running new) (worker_of layout old ∷ []) worker
 only-changed layout old new worker e = sym (ap (λ (n : ℕ). worlds.changed_at (worlds.with_running new) (worker_of layout old ∷ []) n) e)
 
 pub only-there : (layout : trees.Layout) (running : Option Running) (worker : ℕ) → worker ≡ 0 → slice_get (worker_of layout running ∷ []) worker ≡ Some (worker_of layout running)
@@ -95,10 +98,10 @@ kept-lent home running r h e = ap (λ (o : Option VolumeLogical). kept_by o runn
 pub may-work : (s : State) (worker : ℕ) (r : Running) → worker ≡ 0 → s.running ≡ Some r → r.answer ≡ None → events.refusal (setup_in s) (world s) (events.Work worker) ≡ None
 may-work s worker r e f g = rw (e, f, g) refl
 
-stays_there : (server : servers.Server) (parts : List worlds.Parts) (affinity : trees.Affinity) (call : Call) (credential : types.Credential) → IsReading (call_of call) → move_of server parts affinity (types.Ask (call_of call) credential) ≡ None
-stays_there server parts affinity calls.Null credential h = refl
-stays_there server parts affinity (calls.GetAttributes handle) credential h = refl
-stays_there server parts affinity call credential h = absurd h
+stays_there : (store : Store) (affinity : trees.Affinity) (call : Call) → IsReading (call_of call) → move_of_call store affinity (call_of call) ≡ None
+stays_there store affinity calls.Null h = refl
+stays_there store affinity (calls.GetAttributes handle) h = refl
+stays_there store affinity call h = absurd h
 
 -- a list with an item put where it is
 put_again : {X : Type 0} (xs : List X) (i : ℕ) (x : X) → slice_get xs i ≡ Some x → xs ≡ slice_set xs i x
@@ -106,32 +109,35 @@ put_again [] i x e = refl
 put_again (y ∷ ys) zero x e = let same : y ≡ x = cc in ap (λ z. z ∷ ys) same
 put_again (y ∷ ys) (suc i) x e = ap (λ zs. y ∷ zs) (put_again ys i x e)
 
-parts_of_getattr : (layout : trees.Layout) (verifier : List ℕ) (root : Kept) (handle : List ℕ) (credential : types.Credential) (o : Option (ℕ × ℕ)) → handle_of (length layout.volumes) handle ≡ o
-    → PartsAfter (types.Ask (types.Getattr handle) credential) (tried (logical_of o)) (server_of layout verifier root) (server_of layout verifier root) (map opening_parts layout.volumes) (map opening_parts layout.volumes)
+-- what calls run on, with the parcel at home or lent
+abbrev store_at : trees.Layout → List ℕ → Kept → Store
+store_at layout verifier root = record { server = server_of layout verifier root; parts = map opening_parts layout.volumes }
+
+parts_of_getattr : (layout : trees.Layout) (verifier : List ℕ) (root : Kept) (handle : List ℕ) (credential : types.Credential) (o : Option Named) → handle_of (length layout.volumes) handle ≡ o
+    → PartsAfter (types.Ask (types.Getattr handle) credential) (tried (logical_home o)) (store_at layout verifier root) (store_at layout verifier root)
 parts_of_getattr layout verifier root handle credential None e = refl
 parts_of_getattr layout verifier root handle credential (Some h) e =
     let there = volume_at layout verifier root handle h e in
-    let parts_there : slice_get (map opening_parts layout.volumes) h.0 ≡ Some (opening_parts there.0) = slice_get-map opening_parts layout.volumes h.0 ∙ ap (option_map opening_parts) there.1 in
+    let parts_there : slice_get (map opening_parts layout.volumes) h.volume ≡ Some (opening_parts there.0) = slice_get-map opening_parts layout.volumes h.volume ∙ ap (option_map opening_parts) there.1 in
+    let same : Stored = record { volume = volume_of verifier root h.volume there.0; parts = opening_parts there.0 } in
     record {
-      volume = volume_of verifier root h.0 there.0;
-      new_volume = volume_of verifier root h.0 there.0;
-      parts = opening_parts there.0;
-      new_parts = opening_parts there.0;
-      volume_there = there.2;
-      new_volume_there = there.2;
-      parts_there = parts_there;
+      before = same;
+      after = same;
+      volume_before = there.2;
+      volume_after = there.2;
+      parts_before = parts_there;
       change = refl;
-      all = put_again (map opening_parts layout.volumes) h.0 (opening_parts there.0) parts_there;
+      parts = put_again (map opening_parts layout.volumes) h.volume (opening_parts there.0) parts_there;
     }
 
 parts_stay : (layout : trees.Layout) (verifier : List ℕ) (root : Kept) (call : Call) (credential : types.Credential) → IsReading (call_of call)
-    → PartsAfter (types.Ask (call_of call) credential) (tried (home layout (call_of call))) (server_of layout verifier root) (server_of layout verifier root) (map opening_parts layout.volumes) (map opening_parts layout.volumes)
+    → PartsAfter (types.Ask (call_of call) credential) (tried (home layout (call_of call))) (store_at layout verifier root) (store_at layout verifier root)
 parts_stay layout verifier root calls.Null credential h = refl
 parts_stay layout verifier root (calls.GetAttributes handle) credential h = parts_of_getattr layout verifier root handle credential (handle_of (length layout.volumes) handle) refl
 parts_stay layout verifier root call credential h = absurd h
 
 pub works : (s : State) (r : Running) (answer : types.Answer) → s.running ≡ Some r → IsLent s.home s.running → IsReading (call_of r.message.call) → IsAnswer (layout_of s.layout) r.held.root (call_of r.message.call) answer
-    → Works (world s) (running_of (layout_of s.layout) r) (worlds.Replied (types.Success answer)) (world s).server (world s).parts
+    → Works (worlds.task_of (running_of (layout_of s.layout) r)) (worlds.store_of (world s)) (tasks.Replied (types.Success answer)) (worlds.store_of (world s))
 works s r answer e lent reading h =
     let layout = layout_of s.layout in
     let credential = credential_of r.message.credential in
@@ -140,7 +146,7 @@ works s r answer e lent reading h =
     let same : root ≡ r.held.root = kept-lent s.home s.running r lent e in
     let answered : serve (server_of layout s.verifier root) (call_of r.message.call) credential moment ≡ stay (server_of layout s.verifier root) answer =
     subst (λ (k : Kept). serve (server_of layout s.verifier k) (call_of r.message.call) credential moment ≡ stay (server_of layout s.verifier k) answer) (sym same) (h s.verifier credential moment) in (
-      stays_there (world s).server (world s).parts (tried (home layout (call_of r.message.call))) r.message.call credential reading,
+      stays_there (worlds.store_of (world s)) (tried (home layout (call_of r.message.call))) r.message.call reading,
       ap (λ (t : Step). t.reply) (sym answered),
       ap (λ (t : Step). t.server) (sym answered),
       parts_stay layout s.verifier root r.message.call credential reading,
@@ -159,7 +165,7 @@ without-call s worker r running e some lent none =
     (ap (λ (o : Option Running). worker_of (layout_of s.layout) o ∷ []) none ∙ only-changed (layout_of s.layout) s.running None worker e)
     (ap (server_of (layout_of s.layout) s.verifier) (sym (kept-lent s.home s.running r lent some)))
 
-pub finished : (setup : worlds.Setup) (w before written kept : worlds.World) (e : replays.Entry) (reply : types.Reply)
+pub finished : (setup : worlds.Setup) (w before written kept : worlds.World) (e : replays.FinishedCall) (reply : types.Reply)
     → written ≡ record before { connections = worlds.changed_at (worlds.with_output (setup.codec.reply_record e.xid reply)) before.connections e.connection }
     → kept ≡ record written { finished = written.finished ++ e ∷ [] } → before ≡ w → kept ≡ worlds.finish setup w e reply
 finished setup w before written kept e reply a b d =

@@ -4,9 +4,11 @@ use Rattle.std.specs.Prelude.{slice_get, ◌&&◌}
 use Rattle.std.proofs.lemmas.List.{append-nil}
 use Rattle.nfs_model.specs.Tree.{Layout}
 use Rattle.nfs_model.specs.World.{Heard, Scanned, Setup, World, Connection, is_crowded}
-use Rattle.nfs_model.specs.Events.Feed.{Reached, Further, Complete, Fault, reached_by, reached, stream_in, stream_of, served_count, completes, byte_taken, heard_in, MayStarveIf, Takes, TakesFault, Feeds}
+use Rattle.nfs_model.specs.Events.Feed.{stream_in, stream_of, served_count, heard_in, MayStarveIf}
+use Rattle.nfs_laws.specs.Walk.{Reached, Further, Complete, AtFault, reached_by, reached, is_complete, byte_taken, Takes, TakesFault, Walks}
 use Rattle.engine.specs.Streams.{scan_stream, setup_of, IsQuiet, Completes}
-use Rattle.engine.specs.Feeding.{TakesAll, with_bytes, bytes_taken}
+use Rattle.engine.specs.Feeding.{TakesAll}
+use Rattle.nfs_model.specs.Events.Feed.{with_bytes, bytes_taken}
 use Rattle.engine.proofs.Lists.{changed_at-same, changed_at-twice, changed_at-none, slice_get-changed_at, slice_get-end, slice_get-last}
 
 -- ---- taking in parts
@@ -15,9 +17,9 @@ pub TakesAll-append : (setup : Setup) (c : ℕ) (w middle new : World) (xs ys : 
 TakesAll-append setup c w middle new [] ys p q = subst (λ (v : World). TakesAll setup c v ys new) p q
 TakesAll-append setup c w middle new (x ∷ xs) ys p q = (p.0, p.1, TakesAll-append setup c p.0 middle new xs ys p.2 q)
 
-pub Feeds-after : (setup : Setup) (c : ℕ) (w middle new : World) (xs ys : List ℕ) (taken stop : ℕ) → TakesAll setup c w xs middle → Feeds setup c middle ys taken stop new → Feeds setup c w (xs ++ ys) (length xs + taken) stop new
-Feeds-after setup c w middle new [] ys taken stop p q = subst (λ (n : ℕ). Feeds setup c w ys n stop new) (omega arith) (subst (λ (v : World). Feeds setup c v ys taken stop new) p q)
-Feeds-after setup c w middle new (x ∷ xs) ys taken stop p q = inr (inr (p.0, length xs + taken, omega arith, p.1, Feeds-after setup c p.0 middle new xs ys taken stop p.2 q))
+pub Walks-after : (setup : Setup) (c : ℕ) (w middle new : World) (xs ys : List ℕ) (taken stop : ℕ) → TakesAll setup c w xs middle → Walks setup c middle ys taken stop new → Walks setup c w (xs ++ ys) (length xs + taken) stop new
+Walks-after setup c w middle new [] ys taken stop p q = subst (λ (n : ℕ). Walks setup c w ys n stop new) (omega arith) (subst (λ (v : World). Walks setup c v ys taken stop new) p q)
+Walks-after setup c w middle new (x ∷ xs) ys taken stop p q = inr (inr (p.0, length xs + taken, omega arith, p.1, Walks-after setup c p.0 middle new xs ys taken stop p.2 q))
 
 -- ---- the bytes of a connection
 
@@ -76,7 +78,7 @@ takes-quiet layout verifier w c (b ∷ bytes) x e f q =
       subst (TakesAll setup c (byte_taken w c b) bytes) (bytes_taken-more w c (b ∷ []) bytes) (takes-quiet layout verifier (byte_taken w c b) c bytes y there sound q.1),
     )
 
--- ---- bytes whose last completes something
+-- ---- bytes whose last is_complete something
 
 -- the world before the last byte, and after it
 front_and_last : (w : World) (c : ℕ) (taken front : List ℕ) (last : ℕ) → taken ≡ front ++ last ∷ [] → byte_taken (bytes_taken w c front) c last ≡ bytes_taken w c taken
@@ -114,9 +116,9 @@ takes-heard layout verifier w c taken x h starved may e f crowd k =
 
 -- a fault
 pub feeds-fault : (layout : Layout) (verifier : List ℕ) (w : World) (c : ℕ) (taken rest : List ℕ) (x : Connection) (number : ℕ) → slice_get w.connections c ≡ Some x → (scan_stream x.stream).fault ≡ None
-    → (is_crowded w && completes (Fault number)) ≡ false
+    → (is_crowded w && is_complete (AtFault number)) ≡ false
     → Completes x.stream taken (record { served = (scan_stream x.stream).served; fault = Some number })
-    → Feeds (setup_of layout verifier) c w (taken ++ rest) (length taken) number (bytes_taken w c taken)
+    → Walks (setup_of layout verifier) c w (taken ++ rest) (length taken) number (bytes_taken w c taken)
 feeds-fault layout verifier w c taken rest x number e f room k =
     let setup = setup_of layout verifier in
     let middle : World = bytes_taken w c k.front in
@@ -124,12 +126,12 @@ feeds-fault layout verifier w c taken rest x number e f room k =
     let there : slice_get middle.connections c ≡ Some y = connection-taken w c k.front x e in
     let whole : scan_stream (y.stream ++ k.last ∷ []) ≡ record { served = (scan_stream x.stream).served; fault = Some number } =
     ap scan_stream (append_assoc x.stream k.front (k.last ∷ []) ∙ ap (λ (s : List ℕ). x.stream ++ s) (sym k.split)) ∙ k.complete in
-    let at : reached setup middle c k.last ≡ Fault number = reached-is layout verifier middle c k.last y _ there whole in
+    let at : reached setup middle c k.last ≡ AtFault number = reached-is layout verifier middle c k.last y _ there whole in
     let last : TakesFault middle c k.last (reached setup middle c k.last) 1 number (bytes_taken w c taken) =
     subst (λ (r : Reached). TakesFault middle c k.last r 1 number (bytes_taken w c taken)) (sym at) (room, refl, refl, sym (front_and_last w c taken k.front k.last k.split)) in
-    let fed : Feeds setup c w (k.front ++ (k.last ∷ rest)) (length k.front + 1) number (bytes_taken w c taken) =
-    Feeds-after setup c w middle (bytes_taken w c taken) k.front (k.last ∷ rest) 1 number (takes-quiet layout verifier w c k.front x e f k.quiet) (inr (inl last)) in
+    let fed : Walks setup c w (k.front ++ (k.last ∷ rest)) (length k.front + 1) number (bytes_taken w c taken) =
+    Walks-after setup c w middle (bytes_taken w c taken) k.front (k.last ∷ rest) 1 number (takes-quiet layout verifier w c k.front x e f k.quiet) (inr (inl last)) in
     let bytes : k.front ++ (k.last ∷ rest) ≡ taken ++ rest = sym (append_assoc k.front (k.last ∷ []) rest) ∙ ap (λ (s : List ℕ). s ++ rest) (sym k.split) in
     let count : length k.front + 1 ≡ length taken = omega (arith, ap length k.split, length-append k.front (k.last ∷ [])) in
-    subst (λ (n : ℕ). Feeds setup c w (taken ++ rest) n number (bytes_taken w c taken)) count
-    (subst (λ (bs : List ℕ). Feeds setup c w bs (length k.front + 1) number (bytes_taken w c taken)) bytes fed)
+    subst (λ (n : ℕ). Walks setup c w (taken ++ rest) n number (bytes_taken w c taken)) count
+    (subst (λ (bs : List ℕ). Walks setup c w bs (length k.front + 1) number (bytes_taken w c taken)) bytes fed)

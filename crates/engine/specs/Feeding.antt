@@ -1,7 +1,7 @@
 -- Bytes taken one after another, with more to come.
-use Rattle.std.specs.Prelude.{◌≡◌, ℕ, List, [], ◌∷◌, ◌++◌, take, Option, Some, None}
-use Rattle.nfs_model.specs.World.{Setup, World, Connection, changed_at}
-use Rattle.nfs_model.specs.Events.Feed.{reached, Takes, Feeds}
+use Rattle.std.specs.Prelude.{◌≡◌, ℕ, List, [], ◌∷◌, take, Option, Some, None}
+use Rattle.nfs_model.specs.World.{Setup, World}
+use Rattle.nfs_laws.specs.Walk.{reached, Takes, Walks}
 use Rattle.engine.specs.declared.event.Stop.{Stop}
 use Rattle.engine.specs.Numbers.{stop_number}
 
@@ -10,14 +10,7 @@ abbrev pub TakesAll : Setup → ℕ → World → List ℕ → World → Type 0
 TakesAll setup c w [] new = new ≡ w
 TakesAll setup c w (b ∷ bytes) new = (middle : World) × Takes setup w c b (reached setup w c b) middle × TakesAll setup c middle bytes new
 
-abbrev pub with_bytes : List ℕ → Connection → Connection
-with_bytes bytes x = record x { stream = x.stream ++ bytes }
-
--- the stream of a connection has these bytes more
-abbrev pub bytes_taken : World → ℕ → List ℕ → World
-bytes_taken w c bytes = record w { connections = changed_at (with_bytes bytes) w.connections c }
-
 -- what part of a feed comes to: bytes are taken and more may follow, or taking stopped
 abbrev pub FeedsPart : Setup → ℕ → World → List ℕ → ℕ → Option Stop → World → Type 0
 FeedsPart setup c w bytes taken None new = TakesAll setup c w (take taken bytes) new
-FeedsPart setup c w bytes taken (Some stop) new = Feeds setup c w bytes taken (stop_number stop) new
+FeedsPart setup c w bytes taken (Some stop) new = Walks setup c w bytes taken (stop_number stop) new

@@ -6,6 +6,8 @@ use Rattle.nfs_model.specs.Tree as trees
 use Rattle.nfs_model.specs.Home.{home}
 use Rattle.nfs_model.specs.Server as servers
 use Rattle.nfs_model.specs.Replay as replays
+use Rattle.nfs_model.specs.Parts as blocks
+use Rattle.nfs_model.specs.Work as tasks
 use Rattle.nfs_model.specs.World as worlds
 use Rattle.nfs_model.specs.Headline.{opening_parts}
 use Rattle.nfs_model.specs.Events.Refusals as events
@@ -61,17 +63,17 @@ tried (Some a) = a
 abbrev pub message_of : trees.Layout → Message → worlds.Message
 message_of layout m = record { connection = m.origin.connection; number = m.origin.number; xid = m.origin.xid; asked = types.Ask (call_of m.call) (credential_of m.credential); affinity = tried (home layout (call_of m.call)) }
 
-abbrev pub outcome_of : Answer → worlds.Outcome
-outcome_of answer = worlds.Replied (types.Success (answers.answer_of answer))
+abbrev pub outcome_of : Answer → tasks.Outcome
+outcome_of answer = tasks.Replied (types.Success (answers.answer_of answer))
 
 abbrev pub running_of : trees.Layout → Running → worlds.Running
 running_of layout r = record { message = message_of layout r.message; moment = moment_of r.moment; outcome = option_map outcome_of r.answer }
 
-abbrev pub entry_of : Entry → replays.Entry
+abbrev pub entry_of : Entry → replays.FinishedCall
 entry_of e = record { connection = e.origin.connection; number = e.origin.number; xid = e.origin.xid; asked = asked_in e.request; affinity = option_map affinity_of e.affinity; moment = moment_of e.moment; starved = e.starved }
 
 -- a finished call, starved just where it wasn't decoded
-abbrev pub entry_by : Origin → Option Request → Option Affinity → Moment → replays.Entry
+abbrev pub entry_by : Origin → Option Request → Option Affinity → Moment → replays.FinishedCall
 entry_by origin request affinity moment = record { connection = origin.connection; number = origin.number; xid = origin.xid; asked = asked_in request; affinity = option_map affinity_of affinity; moment = moment_of moment; starved = is_none request }
 
 -- ---- connections
@@ -100,7 +102,7 @@ root_of k = servers.Directory (record {
 })
 
 -- a volume as it begins, but for its root
-abbrev pub volume_of : List ℕ → Kept → ℕ → trees.VolumeLayout → servers.Volume
+abbrev pub volume_of : List ℕ → Kept → ℕ → trees.VolumeLayout → servers.VolumeState
 volume_of verifier k number v = record {
   number = number;
   aggregate = v.aggregate;
@@ -112,7 +114,7 @@ volume_of verifier k number v = record {
 }
 
 -- volumes numbered from a number on
-abbrev pub volumes_from : List ℕ → Kept → ℕ → List trees.VolumeLayout → List servers.Volume
+abbrev pub volumes_from : List ℕ → Kept → ℕ → List trees.VolumeLayout → List servers.VolumeState
 volumes_from verifier k number [] = []
 volumes_from verifier k number (v ∷ vs) = volume_of verifier k number v ∷ volumes_from verifier k (number + 1) vs
 
@@ -138,7 +140,7 @@ abbrev pub world : State → worlds.World
 world s = record {
   connections = connections_of s.past.items s.current;
   waiting = map (message_of (layout_of s.layout)) s.waiting.items;
-  workers = record { running = option_map (running_of (layout_of s.layout)) s.running; hand = worlds.Empty } ∷ [];
+  workers = record { running = option_map (running_of (layout_of s.layout)) s.running; hand = blocks.Empty } ∷ [];
   finished = map entry_of s.finished.items;
   server = server_of (layout_of s.layout) s.verifier (kept_by s.home s.running);
   parts = map opening_parts (layout_of s.layout).volumes;

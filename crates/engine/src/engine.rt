@@ -1,7 +1,7 @@
 //! The engine: connections, calls on their way, and the state that calls run on.
 
 ghost use Rattle.std.specs.Prelude.{◌≡◌, List, ℕ, [], ◌∷◌, map, option_map, slice_get};
-ghost use Rattle.nfs_model.specs.World as worlds;
+ghost use Rattle.nfs_model.specs.Parts as blocks;
 ghost use Rattle.nfs_model.specs.Events.Step.{Events, Runs};
 ghost use Rattle.nfs_model.specs.Headline.{Headline, opening_world};
 ghost use Rattle.engine.specs.Engine.{RunsRefusing, output_in, stream_in};
@@ -18,6 +18,7 @@ use crate::message::{Entry, Running};
 use crate::parcel::VolumeLogical;
 use crate::state::State;
 use affinity_tree::Layout;
+use nfs_laws::laws::{events_keep_headline, opening_meets_headline, readings_agree};
 use std::alloc::Global;
 use std::marker::Model;
 
@@ -54,13 +55,13 @@ impl Model for Engine {
 
     ghost Value = { State };
 
-    ghost use Rattle.nfs_model.specs.Headline.{Headline};
+    ghost use Rattle.nfs_model.specs.Headline.{Kept};
     ghost use Rattle.engine.specs.Seen.{setup_in, world};
     ghost use Rattle.engine.specs.Sound.{IsSound};
 
     ghost view = { λ e. e.state };
 
-    ghost invariant = { λ e. IsSound e.state × Headline (setup_in e.state) (world e.state) };
+    ghost invariant = { λ e. IsSound e.state × Kept (setup_in e.state) (world e.state) };
 }
 
 impl Engine {
@@ -70,6 +71,7 @@ impl Engine {
         ensures opening { (world result) ≡ opening_world (setup_in result) }
         ensures headline { Headline (setup_in result) (world result) }
     {
+        opening_meets_headline();
         Engine {
             state: State {
                 alloc,
@@ -92,6 +94,8 @@ impl Engine {
         ensures setup { setup_in self.new ≡ setup_in self.old }
         ensures headline { Headline (setup_in self.new) (world self.new) }
     {
+        readings_agree();
+        events_keep_headline();
         dispatch(&mut self.state, event)
     }
 
@@ -150,7 +154,7 @@ impl Engine {
 
     /// The message that the worker has begun.
     pub fn running(&self) -> Option<&Running>
-        ensures { (world self.now).workers ≡ (record { running = option_map (λ r. running_of (setup_in self.now).layout r.now) result; hand = worlds.Empty }) ∷ [] }
+        ensures { (world self.now).workers ≡ (record { running = option_map (λ r. running_of (setup_in self.now).layout r.now) result; hand = blocks.Empty }) ∷ [] }
     {
         self.state.running.as_ref()
     }

@@ -4,12 +4,14 @@ ghost use Rattle.std.specs.Prelude.{true, false, ◌≡◌, ◌+◌, ◌-◌, �
 ghost use Rattle.nfs_model.specs.Types as types;
 ghost use Rattle.nfs_model.specs.Events.Refusals as events;
 ghost use Rattle.nfs_model.specs.Events.Step.{Events};
-ghost use Rattle.nfs_model.specs.Events.Feed.{Feeds, heard_in};
+ghost use Rattle.nfs_model.specs.Events.Feed.{heard_in};
+ghost use Rattle.nfs_laws.specs.Walk.{Walks};
 ghost use Rattle.engine.specs.Seen.{setup_in, world, answer_of, heard_of};
 ghost use Rattle.engine.specs.Sound.{IsSound, pending, MayBeAnswered, MayBeRoomier, MakesRoom, HasRoomToAdmit, HasItsRoom, HasRoomForOneMore, Waits, count_open, TakesIn, MayTakeFrom, records_of, HasNoRecord, AdmitsNone, stands_at, IsFree, AtNoFault, at_no_fault, MayGoOn, MayBeStreamRoomier};
 ghost use Rattle.engine.specs.Numbers.{stop_number};
 ghost use Rattle.rpc_record.specs.Machine.{outcome};
-ghost use Rattle.engine.specs.Feeding.{FeedsPart, bytes_taken};
+ghost use Rattle.engine.specs.Feeding.{FeedsPart};
+ghost use Rattle.nfs_model.specs.Events.Feed.{bytes_taken};
 
 use crate::arrival::take_bytes;
 use crate::connection::{Arrival, OpenConnection};
@@ -19,7 +21,9 @@ use crate::message::{Heard, Message, Origin, Request};
 use crate::state::{PLACES, REPLY_LIMIT, State};
 use crate::work::answer_at_once;
 use affinity::home_of;
+use nfs_laws::laws::{feeds_are_walks, without_home_stays};
 use nfs_values::{Moment, Reply};
+use rpc_msg::room_of_reply;
 use rpc_record::Look;
 use std::alloc::AllocError;
 
@@ -91,17 +95,19 @@ fn admit(state: &mut State, number: usize, heard: Heard)
             );
         }
         Request::Call { call, credential } => match home_of(call.as_call(), &state.layout) {
-            Some(affinity) => wait(
-                state,
-                Message {
+            Some(affinity) => {
+                let room = room_of_reply(call.as_call(), state.layout.volume_count() as u32);
+                let message = Message {
                     origin,
                     call,
                     credential,
                     affinity,
-                    room: REPLY_LIMIT,
-                },
-            ),
+                    room,
+                };
+                wait(state, message);
+            }
             None => {
+                without_home_stays();
                 respond(state, origin, &Reply::Success(answer_at_once(&call)));
                 keep_entry(
                     state,
@@ -272,7 +278,7 @@ fn take_some(state: &mut State, bytes: &[u8]) -> (usize, Option<Stop>)
 fn take_all(state: &mut State, bytes: &[u8]) -> (usize, Stop)
     requires sound { IsSound state.old }
     requires taking { TakesIn state.old.current (length bytes.now) }
-    ensures feeds { Feeds (setup_in state.old) (vec_len state.old.past) (world state.old) bytes.now result.0 (stop_number result.1) (world state.new) }
+    ensures walks { Walks (setup_in state.old) (vec_len state.old.past) (world state.old) bytes.now result.0 (stop_number result.1) (world state.new) }
     ensures setup { setup_in state.new ≡ setup_in state.old }
     ensures sound { IsSound state.new }
 {
@@ -316,7 +322,7 @@ fn make_stream_room(current: &mut Option<OpenConnection>, size: usize) -> Result
 fn feed_open(state: &mut State, bytes: &[u8]) -> (usize, Stop)
     requires sound { IsSound state.old }
     requires at { AtNoFault state.old.current }
-    ensures feeds { Feeds (setup_in state.old) (vec_len state.old.past) (world state.old) bytes.now result.0 (stop_number result.1) (world state.new) }
+    ensures walks { Walks (setup_in state.old) (vec_len state.old.past) (world state.old) bytes.now result.0 (stop_number result.1) (world state.new) }
     ensures setup { setup_in state.new ≡ setup_in state.old }
     ensures sound { IsSound state.new }
 {
@@ -356,5 +362,6 @@ pub(crate) fn feed(state: &mut State, connection: usize, bytes: &[u8]) -> Result
         return Err(Refusal::Closed);
     }
     let (taken, stop) = feed_open(state, bytes);
+    feeds_are_walks();
     Ok(Done::Fed { taken, stop })
 }

@@ -7,7 +7,7 @@ ghost use Rattle.nfs_model.specs.ReadOnly.{IsReading};
 ghost use Rattle.nfs_model.specs.Serial.AtOnce.{answer_without_home};
 ghost use Rattle.nfs_model.specs.Shown.{shown};
 ghost use Rattle.nfs_values.specs.Attributes.{shown_of};
-ghost use Rattle.nfs_values.specs.Answer.{answer_of};
+ghost use Rattle.nfs_values.specs.Answer.{answer_of, attributes_shown, result_of};
 ghost use Rattle.nfs_values.specs.Call.{call_of};
 ghost use Rattle.affinity_tree.specs.Layout.{layout_of};
 ghost use Rattle.engine.specs.Seen.{root_of, volume_of};
@@ -18,10 +18,7 @@ use crate::parcel::VolumeLogical;
 use crate::served::ServedCall;
 use affinity::named_by;
 use affinity_tree::Layout;
-use nfs_values::{Answer, Attributes, Call, FileKind, Procedure, Status};
-
-/// The fileid of the root directory.
-const ROOT: u64 = 1;
+use nfs_values::{Answer, Attributes, Call, FileKind, Fileid, Named, Status, VolumeNumber};
 
 /// What a call without an affinity is answered.
 pub(crate) fn answer_at_once(call: &ServedCall) -> Answer
@@ -30,18 +27,17 @@ pub(crate) fn answer_at_once(call: &ServedCall) -> Answer
 {
     match call.as_call() {
         Call::Null => Answer::Null,
-        Call::GetAttributes { .. } => Answer::Failed {
-            procedure: Procedure::GetAttributes,
-            status: Status::BadHandle,
-        },
+        Call::GetAttributes { .. } => Answer::GetAttributes(Err(Status::BadHandle)),
         _ => unreachable!(),
     }
 }
 
 impl VolumeLogical {
     /// The attributes of a volume's root directory, which is empty.
-    fn root_attributes(&self, volume: u32) -> Attributes
-        ensures { (verifier : List ℕ) (v : trees.VolumeLayout) → shown_of result ≡ shown (volume_of verifier self.now.root volume v) 1 (root_of self.now.root) }
+    fn root_attributes(&self, volume: VolumeNumber) -> Attributes
+        ensures { (verifier : List ℕ) (v : trees.VolumeLayout)
+            → shown_of result
+            ≡ shown (volume_of verifier self.now.root volume.0 v) 1 (root_of self.now.root) }
     {
         Attributes {
             kind: FileKind::Directory,
@@ -51,8 +47,8 @@ impl VolumeLogical {
             gid: self.root.gid,
             size: 4_096,
             used: 0,
-            fsid: u64::from(volume),
-            fileid: ROOT,
+            fsid: u64::from(volume.0),
+            fileid: Fileid::ROOT,
             atime: self.root.atime,
             mtime: self.root.mtime,
             ctime: self.root.ctime,
@@ -60,19 +56,21 @@ impl VolumeLogical {
     }
 }
 
-/// What a call on a fileid is answered by the server whose parcel this is.
-fn get_attributes(held: &VolumeLogical, volume: u32, fileid: u64) -> Answer
-    ensures root { fileid ≡ 1 → (verifier : List ℕ) (v : trees.VolumeLayout) → answer_of result ≡ types.GetattrDone (shown (volume_of verifier held.now.root volume v) 1 (root_of held.now.root)) }
-    ensures others { (fileid ≡ 1 → ⊥) → answer_of result ≡ types.Failed types.Stale 0 }
-    ensures short { IsShortAnswer (answer_of result) }
+/// What a call on a node is answered by the server whose parcel this is.
+fn get_attributes(held: &VolumeLogical, named: Named) -> Result<Attributes, Status>
+    ensures root { named.fileid.0 ≡ 1
+        → (verifier : List ℕ) (v : trees.VolumeLayout)
+        → result_of attributes_shown 0 result
+        ≡ types.GetattrDone
+        (shown (volume_of verifier held.now.root named.volume.0 v) 1 (root_of held.now.root)) }
+    ensures others { (named.fileid.0 ≡ 1 → ⊥)
+        → result_of attributes_shown 0 result ≡ types.Failed types.Stale 0 }
+    ensures short { IsShortAnswer (result_of attributes_shown 0 result) }
 {
-    if fileid == ROOT {
-        return Answer::GetAttributes(held.root_attributes(volume));
+    if named.fileid != Fileid::ROOT {
+        return Err(Status::Stale);
     }
-    Answer::Failed {
-        procedure: Procedure::GetAttributes,
-        status: Status::Stale,
-    }
+    Ok(held.root_attributes(named.volume))
 }
 
 /// What a call is answered by the server whose parcel this is.
@@ -84,11 +82,8 @@ pub(crate) fn answer(held: &VolumeLogical, layout: &Layout, call: &Call) -> Answ
     match call {
         Call::Null => Answer::Null,
         Call::GetAttributes { handle } => match named_by(handle, layout) {
-            Some((volume, fileid)) => get_attributes(held, volume, fileid),
-            None => Answer::Failed {
-                procedure: Procedure::GetAttributes,
-                status: Status::BadHandle,
-            },
+            Some(named) => Answer::GetAttributes(get_attributes(held, named)),
+            None => Answer::GetAttributes(Err(Status::BadHandle)),
         },
         _ => unreachable!(),
     }

@@ -1,6 +1,4 @@
 -- What each event answers and does (our profile). A refused event changes nothing.
 pub mod Refusals
 pub mod Feed
-pub mod Blocks
-pub mod Work
 pub mod Step

@@ -1,16 +1,17 @@
 -- What holds after every event.
-use Rattle.std.specs.Prelude.{◌≡◌, ℕ, ◌+◌, ◌*◌, ◌≤◌, Bool, true, false, IsTrue, ◌&&◌, ◌==◌, nat_lt, List, [], ◌∷◌, ◌++◌, length, take, map, replicate, Option, Some, None, IfSome, slice_get, if◌then◌else◌}
+use Rattle.std.specs.Prelude.{◌≡◌, ℕ, ◌+◌, ◌*◌, ◌≤◌, true, false, IsTrue, ◌&&◌, ◌==◌, nat_lt, List, [], ◌∷◌, ◌++◌, length, take, map, replicate, Option, Some, None, IfSome, slice_get, if◌then◌else◌}
 use Rattle.std.specs.List.{AllByRecursion, list_any, range_with_len}
-use Rattle.std.specs.FinSet.{contains, len, from_list, empty}
+use Rattle.std.specs.FinSet.{from_list, empty}
 use Rattle.nfs_model.specs.Types.{Asked, Ask, Refused, Undecoded, Reply}
 use Rattle.nfs_model.specs.Tree.{Affinity, Layout, VolumeLayout, excludes, begins, path}
-use Rattle.nfs_model.specs.Server as servers
-use Rattle.nfs_model.specs.Server.{Server, opening, used}
+use Rattle.nfs_model.specs.Server.{VolumeState, Server, opening}
 use Rattle.nfs_model.specs.Serial.Step.{serial}
 use Rattle.nfs_model.specs.Serial.Starve.{may_starve_at_decoding, may_starve_later}
 use Rattle.nfs_model.specs.Home.{home_of_asked}
-use Rattle.nfs_model.specs.Replay.{Entry, server_after, replay, AreLawful}
-use Rattle.nfs_model.specs.World.{Heard, Codec, Setup, World, Connection, Message, Running, Outcome, Replied, Starved, Moved, Empty, Parts, all_running, tried, hands_blocks}
+use Rattle.nfs_model.specs.Replay.{FinishedCall, server_after, replay, AreLawful}
+use Rattle.nfs_model.specs.Parts.{Parts, Empty, one_if, count, IsPartition, range_blocks}
+use Rattle.nfs_model.specs.Work.{Outcome, Replied, Starved, Moved}
+use Rattle.nfs_model.specs.World.{Heard, Codec, Setup, World, Connection, Message, Running, all_running, affinities, hands_blocks}
 
 -- the server as a run begins
 abbrev pub start : Setup → Server
@@ -18,18 +19,18 @@ start setup = opening setup.layout setup.verifier
 
 -- ---- bytes
 
--- the reply records of a connection's entries
-abbrev pub records_of : Codec → ℕ → List Entry → List Reply → List ℕ
+-- the reply records of a connection's finished calls
+abbrev pub records_of : Codec → ℕ → List FinishedCall → List Reply → List ℕ
 records_of codec c [] rs = []
 records_of codec c (e ∷ es) [] = []
 records_of codec c (e ∷ es) (r ∷ rs) = (if e.connection == c then codec.reply_record e.xid r else []) ++ records_of codec c es rs
 
--- those of a replay of all entries
-abbrev pub replies : Codec → ℕ → Server → List Entry → List ℕ
+-- those of a replay of all finished calls
+abbrev pub replies : Codec → ℕ → Server → List FinishedCall → List ℕ
 replies codec c server es = records_of codec c es (replay server es)
 
--- the entries up to a close
-abbrev pub up_to : Option ℕ → List Entry → List Entry
+-- those finished before a close
+abbrev pub up_to : Option ℕ → List FinishedCall → List FinishedCall
 up_to None es = es
 up_to (Some n) es = take n es
 
@@ -39,15 +40,13 @@ up_to (Some n) es = take n es
 abbrev pub served : Setup → Connection → List Heard
 served setup x = (setup.codec.scan x.stream).served
 
--- how many entries name a record
-abbrev pub tally_finished : ℕ → ℕ → List Entry → ℕ
-tally_finished c n [] = 0
-tally_finished c n (e ∷ es) = (if (e.connection == c) && (e.number == n) then 1 else 0) + tally_finished c n es
+-- how many finished calls are of a record
+abbrev pub tally_finished : ℕ → ℕ → List FinishedCall → ℕ
+tally_finished c n es = count (λ e. (e.connection == c) && (e.number == n)) es
 
--- how many messages name a record
+-- how many messages are of a record
 abbrev pub tally_messages : ℕ → ℕ → List Message → ℕ
-tally_messages c n [] = 0
-tally_messages c n (m ∷ ms) = (if (m.connection == c) && (m.number == n) then 1 else 0) + tally_messages c n ms
+tally_messages c n ms = count (λ m. (m.connection == c) && (m.number == n)) ms
 
 -- the messages that run
 abbrev pub messages : List Running → List Message
@@ -57,15 +56,15 @@ messages rs = map (λ r. r.message) rs
 abbrev pub IsHeard : Setup → World → ℕ → ℕ → ℕ → Asked → Type 0
 IsHeard setup w c n xid asked = (x : Connection) × (slice_get w.connections c ≡ Some x) × (slice_get (served setup x) n ≡ Some (record { xid = xid; asked = asked }))
 
--- an entry that wasn't decoded has its record's xid, and that record has a name or data
-abbrev pub IsOwn : Setup → World → Entry → Asked → Type 0
+-- a call whose decoding was starved has its record's xid, and that record has a name or data
+abbrev pub IsOwn : Setup → World → FinishedCall → Asked → Type 0
 IsOwn setup w e (Ask call credential) = IsHeard setup w e.connection e.number e.xid (Ask call credential)
 IsOwn setup w e (Refused reply) = IsHeard setup w e.connection e.number e.xid (Refused reply)
 IsOwn setup w e Undecoded = (asked : Asked) × IsHeard setup w e.connection e.number e.xid asked × IsTrue (may_starve_at_decoding asked) × (e.starved ≡ true) × (e.affinity ≡ None)
 
--- an entry is of a record
-abbrev pub IsOwnEntry : Setup → World → Entry → Type 0
-IsOwnEntry setup w e = IsOwn setup w e e.asked
+-- a finished call is of a record
+abbrev pub IsOwnCall : Setup → World → FinishedCall → Type 0
+IsOwnCall setup w e = IsOwn setup w e e.asked
 
 -- a message is of a record
 abbrev pub IsOwnMessage : Setup → World → Message → Type 0
@@ -100,26 +99,6 @@ IsOutcome setup server r (Some (Replied reply)) = reply ≡ (serial server r.mes
 IsOutcome setup server r (Some Starved) = IsTrue (may_starve_later server r.message.asked r.moment)
 IsOutcome setup server r (Some (Moved a)) = IsTriedAt setup r.message.asked a
 
--- ---- parts
-
--- 1 where it is so
-abbrev pub one_if : Bool → ℕ
-one_if b = if b then 1 else 0
-
--- how often a number stands in a list
-abbrev pub times_listed : ℕ → List ℕ → ℕ
-times_listed n [] = 0
-times_listed n (b ∷ bs) = one_if (b == n) + times_listed n bs
-
--- in how many places a block number stands
-abbrev pub places : ℕ → Parts → List ℕ → ℕ
-places n p hands = one_if (contains p.files n) + one_if (contains p.stock n) + one_if (contains p.dead n) + one_if (contains p.free n) + times_listed n hands
-
--- each number below total stands in one part, once, and no other does; and those in files are as many as the files fill
-pub record IsPartition (volume : servers.Volume) (p : Parts) (hands : List ℕ) : Type 0 where
-  pub once : (n : ℕ) → places n p hands ≡ one_if (nat_lt n volume.total)
-  pub in_files : len p.files ≡ used volume
-
 -- ---- affinities
 
 -- no two affinities exclude each other
@@ -127,23 +106,33 @@ abbrev pub Apart : Layout → List Affinity → Type 0
 Apart layout [] = Unit {0}
 Apart layout (a ∷ others) = (list_any (excludes layout a) others ≡ false) × Apart layout others
 
--- ---- all of it
+-- ---- the headline
 
--- All of it, after every event, refused ones among them.
+-- What holds after every event, refused ones among them, however the streams are cut and the workers scheduled.
 pub record Headline (setup : Setup) (w : World) : Type 0 where
-  -- the bytes on each connection are the serial server's replies to its calls finished up to its close, in finishing order of all calls, each under its own xid
+  -- The bytes on each connection are the reply records of a serial server's replies to the calls of that connection that were finished before its close, each under its own xid, in finishing order of all calls.
   pub output : (c : ℕ) (x : Connection) → slice_get w.connections c ≡ Some x → x.output ≡ replies setup.codec c (start setup) (up_to x.closed w.finished)
-  -- each record served is finished, waiting or running, just once, and nothing else is
+  -- Each record that a connection's stream serves is a finished call, a waiting message or a running one, and just one of these; and there are no others. So finished calls are distinct records of the streams.
   pub each_once : (c : ℕ) (x : Connection) → slice_get w.connections c ≡ Some x → (n : ℕ)
       → tally_finished c n w.finished + tally_messages c n w.waiting + tally_messages c n (messages (all_running w.workers)) ≡ one_if (nat_lt n (length (served setup x)))
-  -- what is finished, waits or runs asks what its record asks, under its xid
-  pub own_finished : AllByRecursion (IsOwnEntry setup w) w.finished
+  -- What is finished, waits or runs asks what its record asks, under the xid of that record.
+  pub own_finished : AllByRecursion (IsOwnCall setup w) w.finished
   pub own_waiting : AllByRecursion (IsOwnMessage setup w) w.waiting
   pub own_running : AllByRecursion (IsOwnMessage setup w) (messages (all_running w.workers))
-  -- only calls that may starve do
+  -- A call that is finished as starved is one that may lack memory, where it stands among the others.
   pub lawful : AreLawful (start setup) w.finished
-  -- the server is the one after the finished calls and those that were worked
+  -- The server is the serial one after the finished calls, and after those that were worked and aren't finished. So where nothing runs it is that after the finished calls.
   pub state : w.server ≡ server_worked (server_after (start setup) w.finished) (all_running w.workers)
+  -- In every volume each block number below its total is in a file, in the stock, dead, free or in a hand, in just one of these, and no other number is.
+  pub partition : (v : ℕ) (volume : VolumeState) → slice_get w.server.volumes v ≡ Some volume → (p : Parts) × (slice_get w.parts v ≡ Some p) × IsPartition volume p (hands_blocks v w.workers)
+  -- No two running messages exclude each other.
+  pub apart : Apart setup.layout (affinities (all_running w.workers))
+
+-- ---- what events keep
+
+-- The headline, and what it takes to keep it from event to event.
+pub record Kept (setup : Setup) (w : World) : Type 0 where
+  pub headline : Headline setup w
   -- finishing now gives the outcome that was worked
   pub outcomes : AllByRecursion (λ r. IsOutcome setup (server_after (start setup) w.finished) r r.outcome) (all_running w.workers)
   -- a message tries its home, or an affinity above it
@@ -151,16 +140,12 @@ pub record Headline (setup : Setup) (w : World) : Type 0 where
   pub tried_running : AllByRecursion (IsTried setup) (messages (all_running w.workers))
   -- a close counted no more calls than are finished
   pub until : (c : ℕ) (x : Connection) → slice_get w.connections c ≡ Some x → IfSome x.closed (λ n. n ≤ length w.finished)
-  -- block parts partition every volume
-  pub partition : (v : ℕ) (volume : servers.Volume) → slice_get w.server.volumes v ≡ Some volume → (p : Parts) × (slice_get w.parts v ≡ Some p) × IsPartition volume p (hands_blocks v w.workers)
-  -- no two running messages exclude each other
-  pub apart : Apart setup.layout (tried (all_running w.workers))
 
 -- ---- the beginning
 
 -- the parts of a volume as it begins: all is free
 abbrev pub opening_parts : VolumeLayout → Parts
-opening_parts v = record { files = empty; stock = empty; dead = empty; free = from_list (range_with_len 0 (1024 * v.ranges)) }
+opening_parts v = record { files = empty; stock = empty; dead = empty; free = from_list (range_with_len 0 (range_blocks * v.ranges)) }
 
 -- a run as it begins: no connection, and idle workers with empty hands
 abbrev pub opening_world : Setup → World

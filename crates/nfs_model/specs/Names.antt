@@ -41,13 +41,13 @@ abbrev pub without_name : List ℕ → List Listed → List Listed
 without_name name es = filter (λ e. not (same_name e.name name)) es
 
 -- a directory whose entries change: both times are set
-abbrev pub stamped : DirectoryNode → Moment → DirectoryNode
-stamped d moment = record d { attributes = record d.attributes { mtime = moment; ctime = moment } }
+abbrev pub dated : DirectoryNode → Moment → DirectoryNode
+dated d moment = record d { attributes = record d.attributes { mtime = moment; ctime = moment } }
 
 -- a directory with one more entry, under its next cookie
 abbrev pub with_name : DirectoryNode → List ℕ → ℕ → Moment → DirectoryNode
-with_name d name fileid moment = record (stamped d moment) { next = d.next + 1; list = d.list ++ (record { cookie = d.next; name = name; fileid = fileid }) ∷ [] }
+with_name d name fileid moment = record (dated d moment) { next = d.next + 1; list = d.list ++ (record { cookie = d.next; name = name; fileid = fileid }) ∷ [] }
 
 -- a directory without a name
 abbrev pub dropped_name : DirectoryNode → List ℕ → Moment → DirectoryNode
-dropped_name d name moment = record (stamped d moment) { list = without_name name d.list }
+dropped_name d name moment = record (dated d moment) { list = without_name name d.list }

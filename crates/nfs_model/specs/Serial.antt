@@ -1,4 +1,5 @@
 -- The serial server: one case for each procedure, each in a file of its own, in the order of checks of our profile.
+pub mod Absent
 pub mod Getattr
 pub mod Setattr
 pub mod Lookup

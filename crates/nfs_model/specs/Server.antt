@@ -38,7 +38,7 @@ pub data Node : Type 0 where
   Directory : (directory : DirectoryNode) → Node
 
 -- A file system: its nodes by fileid (RFC 1813 section 2.5). Fileids grow and aren't used again.
-pub record Volume : Type 0 where
+pub record VolumeState : Type 0 where
   pub number : ℕ
   pub aggregate : ℕ
   pub total : ℕ  -- blocks
@@ -50,7 +50,7 @@ pub record Volume : Type 0 where
 -- the whole state that calls see
 pub record Server : Type 0 where
   pub spare : List ℕ  -- the spare ranges of each aggregate
-  pub volumes : List Volume
+  pub volumes : List VolumeState
 
 -- ---- numbers of the profile
 
@@ -82,7 +82,7 @@ root_node = Directory (record {
 })
 
 -- a volume as it begins: its root has fileid 1
-abbrev pub opening_volume : List ℕ → ℕ → VolumeLayout → Volume
+abbrev pub opening_volume : List ℕ → ℕ → VolumeLayout → VolumeState
 opening_volume verifier number layout = record {
   number = number;
   aggregate = layout.aggregate;
@@ -94,7 +94,7 @@ opening_volume verifier number layout = record {
 }
 
 -- volumes numbered from a number on
-abbrev pub opening_volumes : List ℕ → ℕ → List VolumeLayout → List Volume
+abbrev pub opening_volumes : List ℕ → ℕ → List VolumeLayout → List VolumeState
 opening_volumes verifier number [] = []
 opening_volumes verifier number (v ∷ vs) = opening_volume verifier number v ∷ opening_volumes verifier (number + 1) vs
 
@@ -115,7 +115,7 @@ blocks_of [] = 0
 blocks_of (e ∷ es) = filled_in e.1 + blocks_of es
 
 -- the blocks in files
-abbrev pub used : Volume → ℕ
+abbrev pub used : VolumeState → ℕ
 used volume = blocks_of (entries volume.nodes)
 
 -- ---- handles
@@ -124,13 +124,22 @@ used volume = blocks_of (entries volume.nodes)
 abbrev pub handle_bytes : ℕ → ℕ → List ℕ
 handle_bytes volume fileid = to_be_bytes w32 volume ++ to_be_bytes w64 fileid
 
--- the volume and the fileid of a good handle, where there are so many volumes
-abbrev pub handle_of : ℕ → List ℕ → Option (ℕ × ℕ)
+-- what a good handle names; a node of that fileid may be gone
+pub record Named : Type 0 where
+  pub volume : ℕ
+  pub fileid : ℕ
+
+-- what 12 bytes name
+abbrev pub named_read : List ℕ → Named
+named_read bytes = record { volume = from_be_bytes w32 (take 4 bytes); fileid = from_be_bytes w64 (drop 4 bytes) }
+
+-- A handle is good where it is 12 bytes that name one of so many volumes.
+abbrev pub handle_of : ℕ → List ℕ → Option Named
 handle_of volumes bytes =
     if (length bytes == 12) && nat_lt (from_be_bytes w32 (take 4 bytes)) volumes
-    then Some (from_be_bytes w32 (take 4 bytes), from_be_bytes w64 (drop 4 bytes))
+    then Some (named_read bytes)
     else None
 
 -- the server with another volume at a place
-abbrev pub with_volume : Server → ℕ → Volume → Server
+abbrev pub with_volume : Server → ℕ → VolumeState → Server
 with_volume server index volume = record server { volumes = slice_set server.volumes index volume }

@@ -4,7 +4,7 @@ use Rattle.std.specs.Ordering.{nat_cmp}
 use Rattle.std.specs.FinMap.{FinMap, get}
 use Rattle.std.specs.FinSet as sets
 use Rattle.nfs_model.specs.Types.{Moment, Listed, Shown, Before, Wcc, Regular, Folder}
-use Rattle.nfs_model.specs.Server.{Attributes, FileNode, Node, File, Directory, Volume, block_size}
+use Rattle.nfs_model.specs.Server.{Attributes, FileNode, Node, File, Directory, VolumeState, block_size}
 
 -- whether a moment is no later than another
 abbrev pub moment_le : Moment → Moment → Bool
@@ -47,7 +47,7 @@ subdirectories nodes [] = 0
 subdirectories nodes (e ∷ es) = (if is_directory_node (get nodes e.fileid) then 1 else 0) + subdirectories nodes es
 
 -- fattr3 of a node (RFC 1813 section 2.6): a file has one link, a directory two and one for each subdirectory
-abbrev pub shown : Volume → ℕ → Node → Shown
+abbrev pub shown : VolumeState → ℕ → Node → Shown
 shown volume fileid (File f) = record {
   kind = Regular;
   mode = f.attributes.mode;
@@ -82,5 +82,5 @@ abbrev pub before_of : Shown → Before
 before_of s = record { size = s.size; mtime = s.mtime; ctime = s.ctime }
 
 -- a node of a volume before, and of the volume after
-abbrev pub wcc : Volume → ℕ → Node → Volume → Node → Wcc
+abbrev pub wcc : VolumeState → ℕ → Node → VolumeState → Node → Wcc
 wcc old fileid node new changed = record { before = before_of (shown old fileid node); after = shown new fileid changed }

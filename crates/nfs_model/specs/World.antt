@@ -1,12 +1,12 @@
 -- What is seen of an engine between two events.
-use Rattle.std.specs.Prelude.{IfSome, ◌≤◌, ◌≡◌, ℕ, ◌+◌, Bool, List, [], ◌∷◌, ◌++◌, ◌==◌, nat_le, zero, suc, length, map, if◌then◌else◌, Option, Some, None}
-use Rattle.std.specs.Ordering.{nat_cmp}
-use Rattle.std.specs.FinSet.{FinSet}
+use Rattle.std.specs.Prelude.{IfSome, ◌≤◌, ◌≡◌, ℕ, ◌+◌, Bool, List, [], ◌∷◌, ◌++◌, nat_le, zero, suc, length, map, Option, Some, None, slice_get}
 use Rattle.std.specs.List.{AllByRecursion}
 use Rattle.nfs_model.specs.Types.{Ask, Refused, Undecoded, Moment, Asked, Reply}
 use Rattle.nfs_model.specs.Tree.{Affinity, Layout}
-use Rattle.nfs_model.specs.Server.{Server}
-use Rattle.nfs_model.specs.Replay.{Entry}
+use Rattle.nfs_model.specs.Server.{VolumeState, Server}
+use Rattle.nfs_model.specs.Replay.{FinishedCall}
+use Rattle.nfs_model.specs.Parts.{Parts, Hand, hand_blocks, Counts, counts}
+use Rattle.nfs_model.specs.Work.{Store, Task, Outcome}
 
 -- ---- what the codecs give
 
@@ -62,42 +62,23 @@ pub record Message : Type 0 where
   pub asked : Asked
   pub affinity : Affinity  -- to be tried
 
--- what work on a message came to
-pub data Outcome : Type 0 where
-  Replied : (reply : Reply) → Outcome
-  Starved : Outcome
-  Moved : (affinity : Affinity) → Outcome
-
 -- a message that a worker has begun
 pub record Running : Type 0 where
   pub message : Message
   pub moment : Moment
-  pub outcome : Option Outcome
-
--- a batch that a worker carries, of a volume
-pub data Hand : Type 0 where
-  Empty : Hand
-  Fresh : (volume : ℕ) (blocks : List ℕ) → Hand
-  Dead : (volume : ℕ) (blocks : List ℕ) → Hand
+  pub outcome : Option Outcome  -- what work came to
 
 -- what a worker runs and carries
 pub record Worker : Type 0 where
   pub running : Option Running
   pub hand : Hand
 
--- the block numbers of a volume, but those in hands
-pub record Parts : Type 0 where
-  pub files : FinSet nat_cmp
-  pub stock : FinSet nat_cmp
-  pub dead : FinSet nat_cmp
-  pub free : FinSet nat_cmp
-
 -- all that is seen
 pub record World : Type 0 where
   pub connections : List Connection
   pub waiting : List Message
   pub workers : List Worker
-  pub finished : List Entry
+  pub finished : List FinishedCall  -- in finishing order
   pub server : Server  -- with the changes of calls that were worked and aren't finished
   pub parts : List Parts  -- of each volume
   pub stamps : ℕ  -- calls finished by a worker, and inner calls made
@@ -114,20 +95,34 @@ abbrev pub all_running : List Worker → List Running
 all_running [] = []
 all_running (k ∷ ks) = with_held k.running (all_running ks)
 
--- the affinities that are tried
-abbrev pub tried : List Running → List Affinity
-tried rs = map (λ r. r.message.affinity) rs
-
--- the blocks of a volume in a hand
-abbrev pub hand_blocks : ℕ → Hand → List ℕ
-hand_blocks volume Empty = []
-hand_blocks volume (Fresh v blocks) = if volume == v then blocks else []
-hand_blocks volume (Dead v blocks) = if volume == v then blocks else []
+-- the affinities under which it runs
+abbrev pub affinities : List Running → List Affinity
+affinities rs = map (λ r. r.message.affinity) rs
 
 -- the blocks of a volume in all hands
 abbrev pub hands_blocks : ℕ → List Worker → List ℕ
 hands_blocks volume [] = []
 hands_blocks volume (k ∷ ks) = hand_blocks volume k.hand ++ hands_blocks volume ks
+
+-- ---- what calls run on
+
+-- the server, and the parts of each volume
+abbrev pub store_of : World → Store
+store_of w = record { server = w.server; parts = w.parts }
+
+-- what a worker works on
+abbrev pub task_of : Running → Task
+task_of r = record { asked = r.message.asked; affinity = r.message.affinity; moment = r.moment }
+
+-- the counts of a volume's parts, if there is such a volume
+abbrev pub counts_if : Option VolumeState → Option Parts → List ℕ → Option Counts
+counts_if None p in_hands = None
+counts_if (Some volume) None in_hands = None
+counts_if (Some volume) (Some p) in_hands = Some (counts volume p in_hands)
+
+-- how many block numbers of a volume are where
+abbrev pub counts_of : World → ℕ → Option Counts
+counts_of w volume = counts_if (slice_get w.server.volumes volume) (slice_get w.parts volume) (hands_blocks volume w.workers)
 
 -- ---- changes
 
@@ -155,7 +150,7 @@ abbrev pub with_output : List ℕ → Connection → Connection
 with_output bytes x = written_to bytes x.closed x
 
 -- a call finished, and its reply written where its connection is open
-abbrev pub finish : Setup → World → Entry → Reply → World
+abbrev pub finish : Setup → World → FinishedCall → Reply → World
 finish setup w e reply = record w {
   finished = w.finished ++ e ∷ [];
   connections = changed_at (with_output (setup.codec.reply_record e.xid reply)) w.connections e.connection;

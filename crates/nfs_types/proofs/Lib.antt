@@ -1,4 +1,5 @@
 pub mod Absent
+pub mod Outcomes
 pub mod Exact
 pub mod Memory
 pub mod Rest

@@ -60,7 +60,7 @@ arguments_shape Grow = growing_shape
 
 -- a name in a directory, as its type has it
 abbrev pub target_of : Target → Value target_shape
-target_of t = (t.directory, t.name.items)
+target_of t = (t.directory, t.name)
 
 -- what arguments ask
 abbrev pub null_call : Value Void → model.Call

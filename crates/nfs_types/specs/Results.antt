@@ -1,7 +1,9 @@
 -- The results of each procedure (RFC 1813 section 3.3) as bytes.
-use Rattle.std.specs.Prelude.{ℕ, zero, suc, Bool, ◌-◌, ◌^◌, List, [], ◌++◌, Some, None, map, replicate}
+use Rattle.std.specs.Prelude.{ℕ, zero, suc, Bool, ◌-◌, ◌^◌, List, [], ◌++◌, Some, None, Result, Ok, Err, map, replicate}
 use Rattle.xdr.specs.Shape.{Shape, Void, Word, Hyper, Boolean, Optional, Chain, Array, Value, spelling}
 use Rattle.nfs_model.specs.Types as model
+use Rattle.nfs_values.specs.declared.status.Status.{Status}
+use Rattle.nfs_values.specs.Status.{status_of}
 use Rattle.nfs_types.specs.Shapes.{◌&◌, handle_shape, any_bytes, verifier_shape, attributes_shape, attributes_value, after_shape, change_shape, change_value, stable_shape}
 
 -- LOOKUP3resok (section 3.3.3): the object's handle and attributes, and the directory's
@@ -84,6 +86,10 @@ abbrev pub absent_parts : ℕ → List ℕ
 absent_parts zero = []
 absent_parts (suc n) = spelling (Optional Void) None ++ absent_parts n
 
+-- a status and the failure arm
+abbrev pub failed : model.Status → ℕ → List ℕ
+failed status absent = spelling Word (model.status_word status) ++ absent_parts absent
+
 -- The bytes of results. In an OK arm each optional part is there, but for the attributes of READ and WRITE; in a failure arm none is (our profile).
 abbrev pub answer_bytes : model.Answer → List ℕ
 answer_bytes model.NullDone = spelling Void tt
@@ -100,4 +106,9 @@ answer_bytes (model.FsstatDone root space) = done fsstat_shape (fsstat_value roo
 answer_bytes (model.CommitDone file verifier) = done commit_shape (commit_value file verifier)
 answer_bytes (model.CensusDone volumes) = spelling census_shape (map count_value volumes)
 answer_bytes (model.GrowDone total) = done Hyper total
-answer_bytes (model.Failed status absent) = spelling Word (model.status_word status) ++ absent_parts absent
+answer_bytes (model.Failed status absent) = failed status absent
+
+-- the bytes of what was done, or of a failure that leaves out so many optional parts
+abbrev pub result_bytes : {R : Type 0} (shape : Shape) → (R → Value shape) → ℕ → Result R Status → List ℕ
+result_bytes shape value absent (Ok r) = done shape (value r)
+result_bytes shape value absent (Err status) = failed (status_of status) absent

@@ -10,7 +10,8 @@ ghost use Rattle.nfs_types.specs.Arguments.{Makes, target_of, asked, asked_by, t
 use crate::bad::Bad;
 use crate::decode::{Decode, StableHow, decode_all};
 use nfs_values::{
-    Call, CreateMode, FileHandle, Moment, Procedure, SetAttributes, Target, Verifier,
+    Call, Cookie, CreateMode, FileHandle, Moment, Name, Procedure, SetAttributes, Target, Verifier,
+    VolumeNumber,
 };
 use std::alloc::Global;
 use xdr::Cursor;
@@ -24,7 +25,10 @@ fn target(alloc: Global, bytes: &[u8]) -> Result<Target, Bad>
     let name = from.opaque(u32::MAX)?;
     from.end()?;
     let name = Vec::from_slice(alloc, name)?;
-    Ok(Target { directory, name })
+    Ok(Target {
+        directory,
+        name: Name::new(name),
+    })
 }
 
 /// A name in a directory and what stands behind it, alike.
@@ -38,7 +42,11 @@ fn target_and<'a, T: Decode<'a> + Drop>(alloc: Global, bytes: &'a [u8]) -> Resul
     let rest = T::decode(&mut from)?;
     from.end()?;
     let name = Vec::from_slice(alloc, name)?;
-    Ok((Target { directory, name }, rest))
+    let target = Target {
+        directory,
+        name: Name::new(name),
+    };
+    Ok((target, rest))
 }
 
 /// NULL (RFC 1813 section 3.3.0).
@@ -140,7 +148,7 @@ fn read_directory(bytes: &[u8]) -> Result<Call, Bad>
     ensures { Makes call_of false result (asked_by listing_shape readdir_call bytes.now) }
 {
     let (directory, (cookie, (verifier, count))) = decode_all::<
-        (FileHandle, (u64, (Verifier, u32))),
+        (FileHandle, (Cookie, (Verifier, u32))),
     >(bytes)?;
     Ok(Call::ReadDirectory {
         directory,
@@ -178,7 +186,7 @@ fn census(bytes: &[u8]) -> Result<Call, Bad>
 fn grow(bytes: &[u8]) -> Result<Call, Bad>
     ensures { Makes call_of false result (asked_by growing_shape grow_call bytes.now) }
 {
-    let (volume, ranges) = decode_all::<(u32, u32)>(bytes)?;
+    let (volume, ranges) = decode_all::<(VolumeNumber, u32)>(bytes)?;
     Ok(Call::Grow { volume, ranges })
 }
 

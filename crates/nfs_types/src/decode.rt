@@ -8,7 +8,9 @@ ghost use Rattle.nfs_values.specs.Set.{time_of, set_of, mode_of};
 ghost use Rattle.nfs_types.specs.Shapes.{handle_shape, verifier_shape, moment_shape, moment_value, time_shape, time_value, set_shape, set_value, create_shape, create_value, stable_shape};
 ghost use Rattle.nfs_types.specs.Stable.{stable_word};
 
-use nfs_values::{CreateMode, FileHandle, Moment, SetAttributes, SetTime, Verifier};
+use nfs_values::{
+    Cookie, CreateMode, FileHandle, Moment, SetAttributes, SetTime, Verifier, VolumeNumber,
+};
 use xdr::{Cursor, Fault};
 
 /// A value of a type of XDR, read without memory. After a fault the cursor is anywhere.
@@ -93,6 +95,26 @@ impl<'a> Decode<'a> for FileHandle {
 
     fn decode(from: &mut Cursor<'a>) -> Result<FileHandle, Fault> {
         Ok(FileHandle::new(from.opaque(64)?))
+    }
+}
+
+impl<'a> Decode<'a> for Cookie {
+    ghost shape = { Hyper };
+
+    ghost value = { λ c. c.0 };
+
+    fn decode(from: &mut Cursor<'a>) -> Result<Cookie, Fault> {
+        Ok(Cookie(from.u64()?))
+    }
+}
+
+impl<'a> Decode<'a> for VolumeNumber {
+    ghost shape = { Word };
+
+    ghost value = { λ v. v.0 };
+
+    fn decode(from: &mut Cursor<'a>) -> Result<VolumeNumber, Fault> {
+        Ok(VolumeNumber(from.u32()?))
     }
 }
 

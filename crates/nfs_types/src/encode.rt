@@ -6,7 +6,10 @@ ghost use Rattle.nfs_values.specs.Attributes.{kind_of, kind_word, shown_of, befo
 ghost use Rattle.nfs_values.specs.Moment.{moment_of};
 ghost use Rattle.nfs_types.specs.Shapes.{handle_shape, any_bytes, verifier_shape, moment_shape, moment_value, kind_shape, device_shape, attributes_shape, attributes_value, prior_shape, prior_value, change_shape, change_value};
 
-use nfs_values::{Attributes, Change, FileHandle, FileKind, Moment, PriorAttributes, Verifier};
+use nfs_values::{
+    Attributes, Change, Cookie, FileHandle, FileKind, Fileid, Moment, Name, PriorAttributes,
+    Verifier, VolumeNumber,
+};
 use xdr::{put_bool, put_fixed, put_opaque, put_u32, put_u64};
 
 /// A value of a type of XDR, whose spelling is shorter than 2^32 bytes.
@@ -135,6 +138,62 @@ impl Encode for FileHandle {
     ghost shape = { handle_shape };
 
     ghost value = { λ h. h };
+
+    fn size(&self) -> usize {
+        size_of_opaque(self.as_bytes())
+    }
+
+    fn write(&self, out: &mut Vec<u8>) {
+        put_opaque(out, self.as_bytes()).unwrap()
+    }
+}
+
+impl Encode for Fileid {
+    ghost shape = { Hyper };
+
+    ghost value = { λ n. n.0 };
+
+    fn size(&self) -> usize {
+        8
+    }
+
+    fn write(&self, out: &mut Vec<u8>) {
+        self.0.write(out)
+    }
+}
+
+impl Encode for Cookie {
+    ghost shape = { Hyper };
+
+    ghost value = { λ n. n.0 };
+
+    fn size(&self) -> usize {
+        8
+    }
+
+    fn write(&self, out: &mut Vec<u8>) {
+        self.0.write(out)
+    }
+}
+
+impl Encode for VolumeNumber {
+    ghost shape = { Word };
+
+    ghost value = { λ n. n.0 };
+
+    fn size(&self) -> usize {
+        4
+    }
+
+    fn write(&self, out: &mut Vec<u8>) {
+        self.0.write(out)
+    }
+}
+
+impl Encode for Name {
+    ghost shape = { any_bytes };
+
+    ghost value = { λ n. n };
 
     fn size(&self) -> usize {
         size_of_opaque(self.as_bytes())

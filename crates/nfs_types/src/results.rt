@@ -1,14 +1,12 @@
 //! Results of calls.
 
 ghost use Rattle.std.specs.Prelude.{◌≡◌, ◌+◌, ◌*◌, ◌≤◌, ◌<◌, ◌^◌, ◌++◌, length, IsOk, OnOk, OnErr, vec_len, vec_capacity};
-ghost use Rattle.nfs_model.specs.Types as model;
 ghost use Rattle.nfs_values.specs.Answer.{answer_of};
-ghost use Rattle.nfs_values.specs.Procedure.{failure_parts};
 ghost use Rattle.nfs_values.specs.Status.{status_of};
-ghost use Rattle.nfs_types.specs.Results.{absent_parts, answer_bytes, done};
+ghost use Rattle.nfs_types.specs.Results.{absent_parts, answer_bytes, done, failed, result_bytes};
 
 use crate::encode::{Encode, write_absent};
-use nfs_values::{Answer, Procedure, Status};
+use nfs_values::{Answer, Status};
 use std::alloc::AllocError;
 
 /// NFS3_OK and the OK arm.
@@ -35,21 +33,49 @@ fn write_absent_parts(count: u32, out: &mut Vec<u8>)
     }
 }
 
-/// A status and the failure arm.
+/// A status and the failure arm, with so many optional parts.
 #[tactic(auto, using(crate::proofs::Absent::absent))]
-fn write_failed(procedure: Procedure, status: Status, out: &mut Vec<u8>)
-    requires { vec_len out.old
-        + length (answer_bytes (model.Failed (status_of status) (failure_parts procedure)))
+fn write_failed(status: Status, parts: u32, out: &mut Vec<u8>)
+    requires few { parts ≤ 2 }
+    requires room { vec_len out.old + length (failed (status_of status) parts)
         ≤ vec_capacity out.old }
-    ensures items { out.new.items
-        ≡ out.old.items
-        ++ answer_bytes (model.Failed (status_of status) (failure_parts procedure)) }
+    ensures items { out.new.items ≡ out.old.items ++ failed (status_of status) parts }
     ensures capacity { vec_capacity out.old ≤ vec_capacity out.new }
 {
     status.word().write(out);
-    write_absent_parts(procedure.failure_parts(), out);
+    write_absent_parts(parts, out);
 }
 
+/// What was done, or a failure whose arm has so many optional parts.
+fn write_either<T: Encode>(outcome: &Result<T, Status>, parts: u32, out: &mut Vec<u8>)
+    requires few { parts ≤ 2 }
+    requires short { length (result_bytes T.shape T.value parts outcome.now) < 2 ^ 32 }
+    requires room { vec_len out.old + length (result_bytes T.shape T.value parts outcome.now)
+        ≤ vec_capacity out.old }
+    ensures items { out.new.items
+        ≡ out.old.items ++ result_bytes T.shape T.value parts outcome.now }
+    ensures capacity { vec_capacity out.old ≤ vec_capacity out.new }
+{
+    match outcome {
+        Ok(arm) => write_done(arm, out),
+        Err(status) => write_failed(*status, parts, out),
+    }
+}
+
+/// How many bytes they take.
+#[tactic(auto, using(crate::proofs::Absent::absent))]
+fn size_of_either<T: Encode>(outcome: &Result<T, Status>, parts: u32) -> usize
+    requires few { parts ≤ 2 }
+    requires short { length (result_bytes T.shape T.value parts outcome.now) < 2 ^ 32 }
+    ensures { result ≡ length (result_bytes T.shape T.value parts outcome.now) }
+{
+    match outcome {
+        Ok(arm) => 4 + arm.size(),
+        Err(_) => 4 + 4 * parts as usize,
+    }
+}
+
+#[tactic(auto, using(crate::proofs::Outcomes::outcomes))]
 fn write_result(answer: &Answer, out: &mut Vec<u8>)
     requires short { length (answer_bytes (answer_of answer.now)) < 2 ^ 32 }
     requires room { vec_len out.old + length (answer_bytes (answer_of answer.now))
@@ -59,41 +85,45 @@ fn write_result(answer: &Answer, out: &mut Vec<u8>)
 {
     match answer {
         Answer::Null => (),
-        Answer::GetAttributes(attributes) => write_done(attributes, out),
-        Answer::SetAttributes(change) | Answer::Removed(change) => write_done(change, out),
-        Answer::Lookup(results) => write_done(results, out),
-        Answer::Read(results) => write_done(results, out),
-        Answer::Write(results) => write_done(results, out),
-        Answer::Made(results) => write_done(results, out),
-        Answer::ReadDirectory(results) => write_done(results, out),
-        Answer::FilesystemStatus(results) => write_done(results, out),
-        Answer::Commit(results) => write_done(results, out),
+        Answer::GetAttributes(outcome) => write_either(outcome, 0, out),
+        Answer::SetAttributes(outcome) => write_either(outcome, 2, out),
+        Answer::Lookup(outcome) => write_either(outcome, 1, out),
+        Answer::Read(outcome) => write_either(outcome, 1, out),
+        Answer::Write(outcome) => write_either(outcome, 2, out),
+        Answer::Create(outcome) => write_either(outcome, 2, out),
+        Answer::MakeDirectory(outcome) => write_either(outcome, 2, out),
+        Answer::Remove(outcome) => write_either(outcome, 2, out),
+        Answer::RemoveDirectory(outcome) => write_either(outcome, 2, out),
+        Answer::ReadDirectory(outcome) => write_either(outcome, 1, out),
+        Answer::FilesystemStatus(outcome) => write_either(outcome, 1, out),
+        Answer::Commit(outcome) => write_either(outcome, 2, out),
         Answer::Census(volumes) => volumes.write(out),
-        Answer::Grow(total) => write_done(total, out),
-        Answer::Failed { procedure, status } => write_failed(*procedure, *status, out),
+        Answer::Grow(outcome) => write_either(outcome, 0, out),
     }
 }
 
 /// How many bytes the results take (RFC 1813 section 3.3).
-#[tactic(auto, using(crate::proofs::Absent::absent))]
+#[tactic(auto, using(crate::proofs::Outcomes::outcomes))]
 pub fn size_of_result(answer: &Answer) -> usize
     requires { length (answer_bytes (answer_of answer.now)) < 2 ^ 32 }
     ensures { result ≡ length (answer_bytes (answer_of answer.now)) }
 {
     match answer {
         Answer::Null => 0,
-        Answer::GetAttributes(attributes) => 4 + attributes.size(),
-        Answer::SetAttributes(change) | Answer::Removed(change) => 4 + change.size(),
-        Answer::Lookup(results) => 4 + results.size(),
-        Answer::Read(results) => 4 + results.size(),
-        Answer::Write(results) => 4 + results.size(),
-        Answer::Made(results) => 4 + results.size(),
-        Answer::ReadDirectory(results) => 4 + results.size(),
-        Answer::FilesystemStatus(results) => 4 + results.size(),
-        Answer::Commit(results) => 4 + results.size(),
+        Answer::GetAttributes(outcome) => size_of_either(outcome, 0),
+        Answer::SetAttributes(outcome) => size_of_either(outcome, 2),
+        Answer::Lookup(outcome) => size_of_either(outcome, 1),
+        Answer::Read(outcome) => size_of_either(outcome, 1),
+        Answer::Write(outcome) => size_of_either(outcome, 2),
+        Answer::Create(outcome) => size_of_either(outcome, 2),
+        Answer::MakeDirectory(outcome) => size_of_either(outcome, 2),
+        Answer::Remove(outcome) => size_of_either(outcome, 2),
+        Answer::RemoveDirectory(outcome) => size_of_either(outcome, 2),
+        Answer::ReadDirectory(outcome) => size_of_either(outcome, 1),
+        Answer::FilesystemStatus(outcome) => size_of_either(outcome, 1),
+        Answer::Commit(outcome) => size_of_either(outcome, 2),
         Answer::Census(volumes) => volumes.size(),
-        Answer::Grow(total) => 4 + total.size(),
-        Answer::Failed { procedure, .. } => 4 + 4 * procedure.failure_parts() as usize,
+        Answer::Grow(outcome) => size_of_either(outcome, 0),
     }
 }
 

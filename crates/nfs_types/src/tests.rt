@@ -2,8 +2,8 @@
 
 use super::*;
 use nfs_values::{
-    Answer, Attributes, Call, CreateMode, Entry, FileKind, Moment, Procedure, ReadDirectoryResults,
-    ReadResults, SetAttributes, SetTime,
+    Answer, Attributes, Call, Cookie, CreateMode, Entry, FileKind, Fileid, Moment, Name, Procedure,
+    ReadDirectoryResults, ReadResults, SetAttributes, SetTime,
 };
 use std::alloc::{AllocError, Global};
 use std::test::Fail;
@@ -53,7 +53,7 @@ fn names_are_copied(rt: HostRuntime) -> Result<(), Fail> {
             return Err("another call".into());
         };
         assert_eq!(rt; target.directory.as_bytes(), [7].as_slice());
-        assert_eq!(rt; target.name.as_slice(), b"ab".as_slice());
+        assert_eq!(rt; target.name.as_bytes(), b"ab".as_slice());
     }
     Ok(())
 }
@@ -83,7 +83,7 @@ fn names_are_made_with_attributes(rt: HostRuntime) -> Result<(), Fail> {
     let Call::Create { target, mode } = decode_args(rt.alloc(), Procedure::Create, &guarded)? else {
         return Err("no CREATE".into());
     };
-    assert_eq!(rt; target.name.as_slice(), b"ab".as_slice());
+    assert_eq!(rt; target.name.as_bytes(), b"ab".as_slice());
     assert_eq!(rt; mode, CreateMode::Guarded(set()));
     let plain = joined(rt.alloc(), &[&TARGET, &SET])?;
     let Call::MakeDirectory { target, set: made } = decode_args(
@@ -94,7 +94,7 @@ fn names_are_made_with_attributes(rt: HostRuntime) -> Result<(), Fail> {
     else {
         return Err("no MKDIR".into());
     };
-    assert_eq!(rt; target.name.as_slice(), b"ab".as_slice());
+    assert_eq!(rt; target.name.as_bytes(), b"ab".as_slice());
     assert_eq!(rt; made, set());
     Ok(())
 }
@@ -122,10 +122,10 @@ fn data_is_copied(rt: HostRuntime) -> Result<(), Fail> {
 
 #[test]
 fn results_are_written(rt: HostRuntime) -> Result<(), Fail> {
-    let read = Answer::Read(ReadResults {
+    let read = Answer::Read(Ok(ReadResults {
         eof: true,
         bytes: [1, 2, 3].to_vec(rt.alloc())?,
-    });
+    }));
     let mut out = Vec::new(rt.alloc());
     encode_result(&mut out, &read)?;
     let wanted = [
@@ -150,22 +150,22 @@ fn entries_are_chained(rt: HostRuntime) -> Result<(), Fail> {
         size: 0,
         used: 0,
         fsid: 0,
-        fileid: 0,
+        fileid: Fileid(0),
         atime: zero,
         mtime: zero,
         ctime: zero,
     };
     let mut entries = Vec::new(rt.alloc());
     entries.push(Entry {
-        fileid: 5,
-        name: b"a".to_vec(rt.alloc())?,
-        cookie: 3,
+        fileid: Fileid(5),
+        name: Name::new(b"a".to_vec(rt.alloc())?),
+        cookie: Cookie(3),
     })?;
-    let listed = Answer::ReadDirectory(ReadDirectoryResults {
+    let listed = Answer::ReadDirectory(Ok(ReadDirectoryResults {
         directory,
         entries,
         eof: true,
-    });
+    }));
     let mut out = Vec::new(rt.alloc());
     encode_result(&mut out, &listed)?;
     let wanted = joined(

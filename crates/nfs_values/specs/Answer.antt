@@ -1,19 +1,53 @@
-use Rattle.std.specs.Prelude.{length, map}
+use Rattle.std.specs.Prelude.{ℕ, Result, Ok, Err, length, map}
 use Rattle.nfs_model.specs.Types as model
+use Rattle.nfs_values.specs.declared.status.Status.{Status}
+use Rattle.nfs_values.specs.declared.attributes.Attributes.{Attributes}
+use Rattle.nfs_values.specs.declared.attributes.Change.{Change}
+use Rattle.nfs_values.specs.declared.answer.LookupResults.{LookupResults}
+use Rattle.nfs_values.specs.declared.answer.ReadResults.{ReadResults}
+use Rattle.nfs_values.specs.declared.answer.WriteResults.{WriteResults}
+use Rattle.nfs_values.specs.declared.answer.MakeResults.{MakeResults}
 use Rattle.nfs_values.specs.declared.answer.Entry.{Entry}
+use Rattle.nfs_values.specs.declared.answer.ReadDirectoryResults.{ReadDirectoryResults}
 use Rattle.nfs_values.specs.declared.answer.FilesystemStatusResults.{FilesystemStatusResults}
+use Rattle.nfs_values.specs.declared.answer.CommitResults.{CommitResults}
 use Rattle.nfs_values.specs.declared.answer.VolumeCount.{VolumeCount}
 use Rattle.nfs_values.specs.declared.answer.Answer.{Answer}
-use Rattle.nfs_values.specs.declared.answer.Answer.TheVariants.{Null, GetAttributes, SetAttributes, Lookup, Read, Write, Made, Removed, ReadDirectory, FilesystemStatus, Commit, Census, Grow, Failed}
+use Rattle.nfs_values.specs.declared.answer.Answer.TheVariants.{Null, GetAttributes, SetAttributes, Lookup, Read, Write, Create, MakeDirectory, Remove, RemoveDirectory, ReadDirectory, FilesystemStatus, Commit, Census, Grow}
 use Rattle.nfs_values.specs.Attributes.{shown_of, change_of}
-use Rattle.nfs_values.specs.Procedure.{failure_parts}
 use Rattle.nfs_values.specs.Status.{status_of}
 
--- an entry of a directory, as the model has it
-abbrev pub entry_of : Entry → model.Listed
-entry_of e = record { cookie = e.cookie; name = e.name.items; fileid = e.fileid }
+-- ---- what was done, as the model has it
 
--- the space of a filesystem, as the model has it
+abbrev pub attributes_shown : Attributes → model.Answer
+attributes_shown a = model.GetattrDone (shown_of a)
+
+abbrev pub attributes_set : Change → model.Answer
+attributes_set change = model.SetattrDone (change_of change)
+
+abbrev pub looked_up : LookupResults → model.Answer
+looked_up r = model.LookupDone r.handle (shown_of r.object) (shown_of r.directory)
+
+abbrev pub bytes_read : ReadResults → model.Answer
+bytes_read r = model.ReadDone (length r.bytes.items) r.eof r.bytes.items
+
+abbrev pub bytes_written : WriteResults → model.Answer
+bytes_written r = model.WriteDone r.count r.verifier.0
+
+abbrev pub node_made : MakeResults → model.Answer
+node_made r = model.MadeDone r.handle (shown_of r.object) (change_of r.directory)
+
+abbrev pub name_gone : Change → model.Answer
+name_gone directory = model.GoneDone (change_of directory)
+
+-- an entry of a directory
+abbrev pub entry_of : Entry → model.Listed
+entry_of e = record { cookie = e.cookie.0; name = e.name; fileid = e.fileid.0 }
+
+abbrev pub entries_listed : ReadDirectoryResults → model.Answer
+entries_listed r = model.ReaddirDone (shown_of r.directory) (map entry_of r.entries.items) r.eof
+
+-- the space of a filesystem
 abbrev pub space_of : FilesystemStatusResults → model.Space
 space_of r = record {
   total_bytes = r.total_bytes;
@@ -22,23 +56,39 @@ space_of r = record {
   free_inodes = r.free_inodes;
 }
 
--- the blocks of a volume, as the model has them
-abbrev pub count_of : VolumeCount → model.VolumeCount
-count_of v = record { volume = v.volume; total = v.total; used = v.used }
+abbrev pub space_told : FilesystemStatusResults → model.Answer
+space_told r = model.FsstatDone (shown_of r.root) (space_of r)
 
--- results, as the model has them
+abbrev pub file_committed : CommitResults → model.Answer
+file_committed r = model.CommitDone (change_of r.file) r.verifier.0
+
+-- the blocks of a volume
+abbrev pub count_of : VolumeCount → model.VolumeCount
+count_of v = record { volume = v.volume.0; total = v.total; used = v.used }
+
+abbrev pub volume_grown : ℕ → model.Answer
+volume_grown total = model.GrowDone total
+
+-- ---- results, as the model has them
+
+-- what was done, or a failure that leaves out so many optional parts; wcc_data has two (RFC 1813 section 3.3)
+abbrev pub result_of : {R : Type 0} → (R → model.Answer) → ℕ → Result R Status → model.Answer
+result_of done absent (Ok r) = done r
+result_of done absent (Err status) = model.Failed (status_of status) absent
+
 abbrev pub answer_of : Answer → model.Answer
 answer_of Null = model.NullDone
-answer_of (GetAttributes attributes) = model.GetattrDone (shown_of attributes)
-answer_of (SetAttributes change) = model.SetattrDone (change_of change)
-answer_of (Lookup r) = model.LookupDone r.handle (shown_of r.object) (shown_of r.directory)
-answer_of (Read r) = model.ReadDone (length r.bytes.items) r.eof r.bytes.items
-answer_of (Write r) = model.WriteDone r.count r.verifier.0
-answer_of (Made r) = model.MadeDone r.handle (shown_of r.object) (change_of r.directory)
-answer_of (Removed directory) = model.GoneDone (change_of directory)
-answer_of (ReadDirectory r) = model.ReaddirDone (shown_of r.directory) (map entry_of r.entries.items) r.eof
-answer_of (FilesystemStatus r) = model.FsstatDone (shown_of r.root) (space_of r)
-answer_of (Commit r) = model.CommitDone (change_of r.file) r.verifier.0
+answer_of (GetAttributes result) = result_of attributes_shown 0 result
+answer_of (SetAttributes result) = result_of attributes_set 2 result
+answer_of (Lookup result) = result_of looked_up 1 result
+answer_of (Read result) = result_of bytes_read 1 result
+answer_of (Write result) = result_of bytes_written 2 result
+answer_of (Create result) = result_of node_made 2 result
+answer_of (MakeDirectory result) = result_of node_made 2 result
+answer_of (Remove result) = result_of name_gone 2 result
+answer_of (RemoveDirectory result) = result_of name_gone 2 result
+answer_of (ReadDirectory result) = result_of entries_listed 1 result
+answer_of (FilesystemStatus result) = result_of space_told 1 result
+answer_of (Commit result) = result_of file_committed 2 result
 answer_of (Census volumes) = model.CensusDone (map count_of volumes.items)
-answer_of (Grow total) = model.GrowDone total
-answer_of (Failed procedure status) = model.Failed (status_of status) (failure_parts procedure)
+answer_of (Grow result) = result_of volume_grown 0 result

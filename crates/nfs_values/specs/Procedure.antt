@@ -32,22 +32,3 @@ is_served Null = true
 is_served GetAttributes = true
 is_served AdminNull = true
 is_served p = false
-
--- how many optional parts the failure arm of its results has (RFC 1813 section 3.3); wcc_data has two
-abbrev pub failure_parts : Procedure → ℕ
-failure_parts Null = 0
-failure_parts GetAttributes = 0
-failure_parts SetAttributes = 2
-failure_parts Lookup = 1
-failure_parts Read = 1
-failure_parts Write = 2
-failure_parts Create = 2
-failure_parts MakeDirectory = 2
-failure_parts Remove = 2
-failure_parts RemoveDirectory = 2
-failure_parts ReadDirectory = 1
-failure_parts FilesystemStatus = 1
-failure_parts Commit = 2
-failure_parts AdminNull = 0
-failure_parts Census = 0
-failure_parts Grow = 0

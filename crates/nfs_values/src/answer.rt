@@ -2,7 +2,8 @@
 
 use crate::attributes::{Attributes, Change};
 use crate::handle::FileHandle;
-use crate::procedure::Procedure;
+use crate::name::Name;
+use crate::number::{Cookie, Fileid, VolumeNumber};
 use crate::status::Status;
 use crate::verifier::Verifier;
 
@@ -39,9 +40,9 @@ pub struct MakeResults {
 /// An entry of a directory (entry3, RFC 1813 section 3.3.16).
 #[derive(Drop)]
 pub struct Entry {
-    pub fileid: u64,
-    pub name: Vec<u8>,
-    pub cookie: u64,
+    pub fileid: Fileid,
+    pub name: Name,
+    pub cookie: Cookie,
 }
 
 /// READDIR3resok (RFC 1813 section 3.3.16); its verifier is zero.
@@ -72,33 +73,33 @@ pub struct CommitResults {
 /// What CENSUS tells of a volume, in blocks.
 #[derive(Clone, Copy, Debug, PartialEq, Eq)]
 pub struct VolumeCount {
-    pub volume: u32,
+    pub volume: VolumeNumber,
     pub total: u64,
     pub used: u64,
 }
 
-/// The results of a call (RFC 1813 section 3.3). A failure gives no optional part.
+/// The results of a call, one variant for each procedure (RFC 1813 section 3.3). A failure gives
+/// none of the optional parts of its arm.
 #[derive(Drop)]
 pub enum Answer {
+    /// NULL of NFS, and of the admin program.
     Null,
-    GetAttributes(Attributes),
-    SetAttributes(Change),
-    Lookup(LookupResults),
-    Read(ReadResults),
-    Write(WriteResults),
-    /// Of CREATE and MKDIR.
-    Made(MakeResults),
-    /// Of REMOVE and RMDIR: the directory.
-    Removed(Change),
-    ReadDirectory(ReadDirectoryResults),
-    FilesystemStatus(FilesystemStatusResults),
-    Commit(CommitResults),
-    /// Of CENSUS: the volumes in order.
+    GetAttributes(Result<Attributes, Status>),
+    SetAttributes(Result<Change, Status>),
+    Lookup(Result<LookupResults, Status>),
+    Read(Result<ReadResults, Status>),
+    Write(Result<WriteResults, Status>),
+    Create(Result<MakeResults, Status>),
+    MakeDirectory(Result<MakeResults, Status>),
+    /// The directory.
+    Remove(Result<Change, Status>),
+    /// The directory.
+    RemoveDirectory(Result<Change, Status>),
+    ReadDirectory(Result<ReadDirectoryResults, Status>),
+    FilesystemStatus(Result<FilesystemStatusResults, Status>),
+    Commit(Result<CommitResults, Status>),
+    /// Of CENSUS of the admin program, which never fails: the volumes in order.
     Census(Vec<VolumeCount>),
-    /// Of GROW: the volume's blocks.
-    Grow(u64),
-    Failed {
-        procedure: Procedure,
-        status: Status,
-    },
+    /// Of GROW of the admin program: the volume's blocks.
+    Grow(Result<u64, Status>),
 }

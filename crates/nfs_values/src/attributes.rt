@@ -3,6 +3,7 @@
 ghost use Rattle.std.specs.Prelude.{◌≡◌};
 
 use crate::moment::Moment;
+use crate::number::Fileid;
 
 /// What a node is (ftype3, RFC 1813 section 2.6).
 #[derive(Clone, Copy, Debug, PartialEq, Eq)]
@@ -33,7 +34,7 @@ pub struct Attributes {
     pub size: u64,
     pub used: u64,
     pub fsid: u64,
-    pub fileid: u64,
+    pub fileid: Fileid,
     pub atime: Moment,
     pub mtime: Moment,
     pub ctime: Moment,

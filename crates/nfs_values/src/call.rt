@@ -2,6 +2,7 @@
 
 use crate::handle::FileHandle;
 use crate::moment::Moment;
+use crate::number::{Cookie, VolumeNumber};
 use crate::set::{CreateMode, SetAttributes};
 use crate::target::Target;
 use crate::verifier::Verifier;
@@ -46,7 +47,7 @@ pub enum Call {
     RemoveDirectory(Target),
     ReadDirectory {
         directory: FileHandle,
-        cookie: u64,
+        cookie: Cookie,
         verifier: Verifier,
         /// The most bytes that the results may take.
         count: u32,
@@ -61,7 +62,7 @@ pub enum Call {
     Census,
     /// GROW of the admin program.
     Grow {
-        volume: u32,
+        volume: VolumeNumber,
         ranges: u32,
     },
 }

@@ -1,8 +1,17 @@
 //! File handles.
 
 ghost use Rattle.std.specs.Prelude.{◌≡◌, ◌-◌, ◌≤◌, ◌++◌, length, replicate};
+ghost use Rattle.nfs_model.specs.Server.{handle_bytes as bytes_naming};
 
+use crate::number::{Fileid, VolumeNumber};
 use std::marker::Model;
+
+/// What a good handle names: a file or directory, which may be gone (our profile).
+#[derive(Clone, Copy, Debug, PartialEq, Eq)]
+pub struct Named {
+    pub volume: VolumeNumber,
+    pub fileid: Fileid,
+}
 
 /// A file handle (nfs_fh3, RFC 1813 section 2.6): at most 64 bytes, kept in place.
 #[derive(Drop)]
@@ -44,6 +53,16 @@ impl FileHandle {
             bytes: with_zeros(bytes),
             size: bytes.len() as u8,
         }
+    }
+
+    /// The handle that names a file or directory: 4 bytes of volume and 8 of fileid (our profile).
+    pub fn naming(named: Named) -> FileHandle
+        ensures { result ≡ bytes_naming named.volume.0 named.fileid.0 }
+    {
+        let mut bytes = [0; 12];
+        bytes[..4].copy_from_slice(&named.volume.0.to_be_bytes());
+        bytes[4..].copy_from_slice(&named.fileid.0.to_be_bytes());
+        FileHandle::new(&bytes)
     }
 
     /// The bytes of a handle.

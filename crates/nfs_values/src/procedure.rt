@@ -46,7 +46,7 @@ pub enum Procedure {
 }
 
 impl Procedure {
-    ghost use Rattle.nfs_values.specs.Procedure.{failure_parts, is_served, numbers_of};
+    ghost use Rattle.nfs_values.specs.Procedure.{is_served, numbers_of};
     ghost use Rattle.nfs_values.specs.declared.procedure.Procedure.{Procedure as Known};
 
     /// The procedure of this number in this program, served or not.
@@ -95,29 +95,5 @@ impl Procedure {
             → numbers_of p ≢ (program, number) }
     {
         Procedure::known(program, number).filter(|p| p.is_served())
-    }
-
-    /// How many optional parts the failure arm of the procedure's results has.
-    pub fn failure_parts(self) -> u32
-        ensures { result ≡ failure_parts self }
-    {
-        match self {
-            Procedure::Null
-            | Procedure::GetAttributes
-            | Procedure::AdminNull
-            | Procedure::Census
-            | Procedure::Grow => 0,
-            Procedure::Lookup
-            | Procedure::Read
-            | Procedure::ReadDirectory
-            | Procedure::FilesystemStatus => 1,
-            Procedure::SetAttributes
-            | Procedure::Write
-            | Procedure::Create
-            | Procedure::MakeDirectory
-            | Procedure::Remove
-            | Procedure::RemoveDirectory
-            | Procedure::Commit => 2,
-        }
     }
 }

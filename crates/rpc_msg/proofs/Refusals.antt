@@ -1,5 +1,5 @@
--- Replies that refuse a record are short.
-use Rattle.std.proofs.Common.{◌≡◌, ℕ, Bool, true, false, cond, eqb, ltb, List, Option, Some, None, Result, Ok, Err, find, subst}
+-- Replies that refuse a record aren't SUCCESS, and their records are short.
+use Rattle.std.proofs.Common.{◌≡◌, ℕ, Bool, true, false, cond, eqb, ltb, ◌≤◌, length, arith, List, Option, Some, None, Result, Ok, Err, find, subst}
 use Rattle.xdr.specs.declared.fault.Fault.{Fault as Unread}
 use Rattle.xdr.specs.declared.fault.Fault.TheVariants as unreads
 use Rattle.xdr.specs.Shape.{Word, Fixed, Value}
@@ -9,16 +9,17 @@ use Rattle.nfs_model.specs.World.{Heard}
 use Rattle.nfs_values.specs.declared.procedure.Procedure.{Procedure}
 use Rattle.nfs_types.specs.Arguments.{asked}
 use Rattle.nfs_types.specs.Shapes.{◌&◌}
-use Rattle.rpc_msg.specs.Replies.{auth_shape, IsShort}
+use Rattle.rpc_msg.specs.Replies.{auth_shape, reply_record, IsRefusal, IsShort}
 use Rattle.rpc_msg.specs.Heads.{◌>>=◌, Stop, Incomplete, Refuse, Body, Head, Call, Refused, Faulty, whole, version_at, numbers_shape, auth_sys_shape, body_of, user_of, acting, credential_at, version_of, procedures, is_numbered, available, of_version, procedure_of, body_at, under, xid_of, head_from, head_of}
+use Rattle.rpc_msg.specs.Room.{refusal_room}
 use Rattle.rpc_msg.specs.Records.{asked_by, heard_from, heard}
 use Rattle.rpc_msg.proofs.Hearing.{same_heard}
 
--- where a call isn't served, the reply is short
+-- where a call isn't served, the reply refuses it
 abbrev IsSound : {A : Type 0} → Result A Stop → Type 0
 IsSound (Ok x) = Unit {0}
 IsSound (Err Incomplete) = Unit {0}
-IsSound (Err (Refuse reply)) = IsShort reply
+IsSound (Err (Refuse reply)) = IsRefusal reply
 
 then_sound : {A B : Type 0} (r : Result A Stop) (f : A → Result B Stop) → IsSound r → ((x : A) → IsSound (f x)) → IsSound (r >>= f)
 then_sound (Ok x) f s t = t x
@@ -74,7 +75,7 @@ call_sound bytes =
 
 abbrev HeadIsSound : Head → Type 0
 HeadIsSound (Call xid procedure credential arguments) = Unit {0}
-HeadIsSound (Refused xid reply) = IsShort reply
+HeadIsSound (Refused xid reply) = IsRefusal reply
 HeadIsSound (Faulty number) = Unit {0}
 
 under_sound : (xid : ℕ) (r : Result Body Stop) → IsSound r → HeadIsSound (under xid r)
@@ -89,20 +90,37 @@ head_sound (Ok m) = elim (eqb m.0.1 0) as (λ b. HeadIsSound (head_from (cond b 
 ]
 head_sound (Err fault) = tt
 
--- a reply that is asked to be given is short
-abbrev AskedIsShort : model.Asked → Type 0
-AskedIsShort (model.Ask call credential) = Unit {0}
-AskedIsShort (model.Refused reply) = IsShort reply
-AskedIsShort model.Undecoded = Unit {0}
+-- a reply that is asked to be given refuses
+abbrev AskedRefuses : model.Asked → Type 0
+AskedRefuses (model.Ask call credential) = Unit {0}
+AskedRefuses (model.Refused reply) = IsRefusal reply
+AskedRefuses model.Undecoded = Unit {0}
 
-asked_short : (credential : model.Credential) (r : Result model.Call Unread) → AskedIsShort (asked_by credential r)
-asked_short credential (Ok call) = tt
-asked_short credential (Err fault) = tt
+asked_refuses : (credential : model.Credential) (r : Result model.Call Unread) → AskedRefuses (asked_by credential r)
+asked_refuses credential (Ok call) = tt
+asked_refuses credential (Err fault) = tt
 
-heard_short : (head : Head) (h : Heard) → HeadIsSound head → heard_from head ≡ Ok h → AskedIsShort h.asked
-heard_short (Call xid procedure credential arguments) h s e = same_heard AskedIsShort _ h e (asked_short credential (asked procedure arguments))
-heard_short (Refused xid reply) h s e = same_heard AskedIsShort _ h e s
-heard_short (Faulty number) h s e = absurd cc
+heard_refuses : (head : Head) (h : Heard) → HeadIsSound head → heard_from head ≡ Ok h → AskedRefuses h.asked
+heard_refuses (Call xid procedure credential arguments) h s e = same_heard AskedRefuses _ h e (asked_refuses credential (asked procedure arguments))
+heard_refuses (Refused xid reply) h s e = same_heard AskedRefuses _ h e s
+heard_refuses (Faulty number) h s e = absurd cc
+
+pub refusal_refuses : (bytes : List ℕ) (h : Heard) (reply : model.Reply) → heard bytes ≡ Ok h → h.asked ≡ model.Refused reply → IsRefusal reply
+refusal_refuses bytes h reply e r = subst AskedRefuses r (heard_refuses (head_of bytes) h (head_sound (read (Word & Word) bytes)) e)
+
+short_refusal : (reply : model.Reply) → IsRefusal reply → IsShort reply
+short_refusal (model.Success answer) r = absurd r
+short_refusal reply r = tt
 
 pub refusal_is_short : (bytes : List ℕ) (h : Heard) (reply : model.Reply) → heard bytes ≡ Ok h → h.asked ≡ model.Refused reply → IsShort reply
-refusal_is_short bytes h reply e r = subst AskedIsShort r (heard_short (head_of bytes) h (head_sound (read (Word & Word) bytes)) e)
+refusal_is_short bytes h reply e r = short_refusal reply (refusal_refuses bytes h reply e r)
+
+pub refusal_fits : (reply : model.Reply) (xid : ℕ) → IsRefusal reply → length (reply_record xid reply) ≤ refusal_room
+refusal_fits (model.Success answer) xid r = absurd r
+refusal_fits model.ProgramUnavailable xid r = omega arith
+refusal_fits (model.ProgramMismatch low high) xid r = omega arith
+refusal_fits model.ProcedureUnavailable xid r = omega arith
+refusal_fits model.GarbageArguments xid r = omega arith
+refusal_fits model.SystemError xid r = omega arith
+refusal_fits (model.RpcMismatch low high) xid r = omega arith
+refusal_fits (model.AuthError number) xid r = omega arith

@@ -21,7 +21,7 @@ use Rattle.rpc_msg.proofs.Steps.{then_ok, sure_is, whole_ok, xid_ok}
 
 -- ---- the credential
 
-IsBytes-front : (a b : List ℕ) → IsBytes (a ++ b) → IsBytes a
+pub IsBytes-front : (a b : List ℕ) → IsBytes (a ++ b) → IsBytes a
 IsBytes-front a b h i =
     elim (cases_lt i (length a)) [
       | inl lt ↦ rw (← get_or_append_left a b 0 i lt) (h i)
@@ -128,7 +128,7 @@ version_found bytes rest fits e =
       | inr h ↦ absurd cc
     ]
 
-procedure_found : (program version number : ℕ) (p : Procedure) → procedure_of program version number ≡ Ok p → (version_of program ≡ Some version) × ((numbers_of p).0 ≡ program) × ((numbers_of p).1 ≡ number) × (is_served p ≡ true)
+pub procedure_found : (program version number : ℕ) (p : Procedure) → procedure_of program version number ≡ Ok p → (version_of program ≡ Some version) × ((numbers_of p).0 ≡ program) × ((numbers_of p).1 ≡ number) × (is_served p ≡ true)
 procedure_found program version number p e =
     let o = of_version_ok (version_of program) version (find (is_numbered program number) procedures) p e in
     let t = both_true (eqb (numbers_of p).0 program) (eqb (numbers_of p).1 number) (find_is (is_numbered program number) procedures p o.1) in

@@ -23,7 +23,7 @@ acts_flavor : (flavor : ℕ) (body : List ℕ) (who : model.Credential) → Acts
 acts_flavor flavor body who (inl h) = omega (arith, h.0)
 acts_flavor flavor body who (inr h) = omega (arith, h.0)
 
-credential_again : (flavor : ℕ) (body : List ℕ) (who : model.Credential) (rest : List ℕ) → length body ≤ 400 → ActsFor (flavor, body) who → credential_at flavor (length body) (padded body ++ rest) ≡ Ok (who, rest)
+pub credential_again : (flavor : ℕ) (body : List ℕ) (who : model.Credential) (rest : List ℕ) → length body ≤ 400 → ActsFor (flavor, body) who → credential_at flavor (length body) (padded body ++ rest) ≡ Ok (who, rest)
 credential_again flavor body who rest short acts =
     let known : ltb 1 flavor ≡ false = le-ltb _ _ (acts_flavor flavor body who acts) in
     let small : ltb 400 (length body) ≡ false = le-ltb _ _ short in

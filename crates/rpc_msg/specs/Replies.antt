@@ -54,6 +54,11 @@ abbrev pub results : model.Reply → List ℕ
 results (model.Success answer) = answer_bytes answer
 results reply = []
 
+-- what isn't SUCCESS: a record is refused, or memory ran out
+abbrev pub IsRefusal : model.Reply → Type 0
+IsRefusal (model.Success answer) = ⊥
+IsRefusal reply = Unit {0}
+
 -- results of no more than one node's attributes; no failure arm has more than four optional parts (RFC 1813 section 3.3)
 abbrev pub IsShort : model.Reply → Type 0
 IsShort (model.Success model.NullDone) = Unit {0}

@@ -1,14 +1,20 @@
 //! What holds of every record and of every reply.
 
-ghost use Rattle.std.specs.Prelude.{◌≡◌, ◌⊎◌, ℕ, ◌≤◌, ◌<◌, List, length, Ok, Err, slice_index};
+ghost use Rattle.std.specs.Prelude.{◌≡◌, ◌⊎◌, ℕ, Bool, ◌≤◌, ◌<◌, List, length, Result, Ok, Err, slice_index};
 ghost use Rattle.nfs_model.specs.Types as model;
 ghost use Rattle.nfs_model.specs.World.{Heard, IsDecoded};
 ghost use Rattle.nfs_model.specs.ReadOnly.{AsksReading};
 ghost use Rattle.nfs_values.specs.declared.procedure.Procedure.{Procedure};
 ghost use Rattle.rpc_msg.specs.Heads.{Call, head_of};
 ghost use Rattle.rpc_msg.specs.Calls.{IsCall};
+ghost use Rattle.rpc_msg.specs.Hearing.{IsHeardAs};
 ghost use Rattle.rpc_msg.specs.Records.{heard};
-ghost use Rattle.rpc_msg.specs.Replies.{reply_record, IsShort};
+ghost use Rattle.rpc_msg.specs.Replies.{reply_record, IsRefusal, IsShort};
+ghost use Rattle.rpc_msg.specs.Room.{IsRoomy, refusal_room, reply_room};
+ghost use Rattle.nfs_model.specs.Server.{Server, opening};
+ghost use Rattle.nfs_model.specs.Tree.{Layout};
+ghost use Rattle.nfs_model.specs.Serial.Step.{serial};
+ghost use Rattle.nfs_model.specs.Serial.AtOnce.{answer_without_home};
 
 /// The record of a reply with at most one node's attributes takes at most 116 bytes.
 pub fn short_replies_are_short()
@@ -17,11 +23,59 @@ pub fn short_replies_are_short()
         → length (reply_record xid reply) ≤ 116 }
 {}
 
+/// The record of the reply to a call takes no more than the call's room: where it runs on any
+/// roomy server, starved or not, and where it is answered without an affinity.
+pub fn replies_fit()
+    ensures served { (volumes : ℕ) (server : Server) (call : model.Call) (who : model.Credential)
+        (moment : model.Moment) (starved : Bool) (xid : ℕ)
+        → IsRoomy volumes server
+        → length (reply_record xid (serial server (model.Ask call who) moment starved).reply)
+        ≤ reply_room volumes call }
+    ensures at_once { (volumes : ℕ) (layout : Layout) (call : model.Call) (xid : ℕ)
+        → length (reply_record xid (model.Success (answer_without_home layout call)))
+        ≤ reply_room volumes call }
+{}
+
+/// A server is roomy as it begins, and each call leaves it so.
+pub fn servers_are_roomy()
+    ensures begins { (layout : Layout) (verifier : List ℕ)
+        → length verifier ≡ 8
+        → IsRoomy (length layout.volumes) (opening layout verifier) }
+    ensures stays { (volumes : ℕ) (server : Server) (asked : model.Asked) (moment : model.Moment)
+        (starved : Bool)
+        → IsRoomy volumes server
+        → IsRoomy volumes (serial server asked moment starved).server }
+{}
+
+/// A reply that refuses a record is no SUCCESS, and the record of such a reply fits its room, as
+/// does that of a reply that says that memory ran out.
+pub fn refusals_fit()
+    ensures refuses { (bytes : List ℕ) (h : Heard) (reply : model.Reply)
+        → heard bytes ≡ Ok h
+        → h.asked ≡ model.Refused reply
+        → IsRefusal reply }
+    ensures room { (reply : model.Reply) (xid : ℕ)
+        → IsRefusal reply
+        → length (reply_record xid reply) ≤ refusal_room }
+{}
+
 /// A record is no call by fault 12 or 13.
 pub fn record_faults()
     ensures { (bytes : List ℕ) (number : ℕ)
         → heard bytes ≡ Err number
         → (number ≡ 12) ⊎ (number ≡ 13) }
+{}
+
+/// A record is heard as a fault, a refusal or a call exactly where its spellings say so (RFC 5531
+/// sections 8.2 and 9).
+pub fn records_are_spelled()
+    ensures found { (bytes : List ℕ)
+        → ((i : ℕ) → slice_index bytes i < 256)
+        → IsHeardAs bytes (heard bytes) }
+    ensures again { (bytes : List ℕ) (r : Result Heard ℕ)
+        → ((i : ℕ) → slice_index bytes i < 256)
+        → IsHeardAs bytes r
+        → heard bytes ≡ r }
 {}
 
 /// A record asks a call or is refused.

@@ -8,6 +8,7 @@ mod items;
 mod laws;
 mod record;
 mod reply;
+mod room;
 mod stop;
 #[cfg(test)]
 mod tests;
@@ -15,9 +16,11 @@ mod tests;
 pub use fault::Fault;
 pub use head::{Head, read_call};
 pub use laws::{
-    call_heads_are_exact, record_faults, records_are_decoded, records_ask_readings,
-    refusals_are_short, short_replies_are_short,
+    call_heads_are_exact, record_faults, records_are_decoded, records_are_spelled,
+    records_ask_readings, refusals_are_short, refusals_fit, replies_fit, servers_are_roomy,
+    short_replies_are_short,
 };
 pub use nfs_values::Procedure as Served;
 pub use record::{Heard, Request, read_record};
 pub use reply::{size_of_reply, write_reply, write_reply_record};
+pub use room::{REFUSAL_ROOM, room_of_reply};

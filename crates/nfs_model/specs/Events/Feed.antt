@@ -1,29 +1,15 @@
--- Bytes taken one after another: what a byte completes, and where taking stops (RFC 5531 section 11 for records).
-use Rattle.std.specs.Prelude.{◌≡◌, ℕ, ◌+◌, Bool, true, false, not, ◌&&◌, ◌==◌, IsTrue, ◌⊎◌, List, [], ◌∷◌, ◌++◌, length, Option, Some, None, slice_get}
+-- What a feed of bytes takes, which records it completes, and where it stops (RFC 5531 section 11 for records).
+use Rattle.std.specs.Prelude.{◌≡◌, ◌<◌, ◌≤◌, ℕ, ◌+◌, Bool, true, false, not, ◌&&◌, ◌==◌, IsTrue, ◌⊎◌, List, [], ◌∷◌, ◌++◌, length, take, drop, Option, Some, None, is_some, slice_get}
 use Rattle.nfs_model.specs.Types.{Asked, Undecoded, SystemError}
 use Rattle.nfs_model.specs.Tree.{Affinity}
 use Rattle.nfs_model.specs.Server.{start_of_times}
 use Rattle.nfs_model.specs.Serial.Step.{serial}
 use Rattle.nfs_model.specs.Serial.Starve.{may_starve_at_decoding}
 use Rattle.nfs_model.specs.Home.{home_of_asked}
-use Rattle.nfs_model.specs.Replay.{Entry}
+use Rattle.nfs_model.specs.Replay.{FinishedCall}
 use Rattle.nfs_model.specs.World.{Heard, Scanned, Setup, World, Connection, changed_at, finish, is_crowded}
 
--- what a byte brings a stream to
-pub data Reached : Type 0 where
-  Further : Reached
-  Complete : (heard : Heard) → Reached
-  Fault : (number : ℕ) → Reached
-
--- by the fault that it reached, if any, and the record that it completed, if any
-abbrev pub reached_at : Option ℕ → Option Heard → Reached
-reached_at (Some number) heard = Fault number
-reached_at None None = Further
-reached_at None (Some heard) = Complete heard
-
--- by a stream's records and the number of the next
-abbrev pub reached_by : Scanned → ℕ → Reached
-reached_by after n = reached_at after.fault (slice_get after.served n)
+-- ---- a connection's stream
 
 -- the bytes taken of a connection, if there is one
 abbrev pub stream_in : Option Connection → List ℕ
@@ -38,42 +24,32 @@ stream_of w c = stream_in (slice_get w.connections c)
 abbrev pub served_count : Setup → World → ℕ → ℕ
 served_count setup w c = length (setup.codec.scan (stream_of w c)).served
 
--- what a byte brings a connection's stream to
-abbrev pub reached : Setup → World → ℕ → ℕ → Reached
-reached setup w c b = reached_by (setup.codec.scan (stream_of w c ++ b ∷ [])) (served_count setup w c)
+-- a connection with more bytes taken
+abbrev pub with_bytes : List ℕ → Connection → Connection
+with_bytes bytes x = record x { stream = x.stream ++ bytes }
 
--- whether a record is complete; a header of a record that is too long (fault 11) completes none
-abbrev pub completes : Reached → Bool
-completes Further = false
-completes (Complete heard) = true
-completes (Fault number) = not (number == 11)
-
--- a connection with one more byte taken
-abbrev pub with_byte : ℕ → Connection → Connection
-with_byte b x = record x { stream = x.stream ++ b ∷ [] }
-
--- a world with one more byte taken
-abbrev pub byte_taken : World → ℕ → ℕ → World
-byte_taken w c b = record w { connections = changed_at (with_byte b) w.connections c }
+-- a world with more bytes taken
+abbrev pub bytes_taken : World → ℕ → List ℕ → World
+bytes_taken w c bytes = record w { connections = changed_at (with_bytes bytes) w.connections c }
 
 -- ---- a record that is complete
 
--- the entry of a record that is answered at once
-abbrev pub entry_at_once : World → ℕ → ℕ → Heard → Entry
-entry_at_once w c number h = record { connection = c; number = number; xid = h.xid; asked = h.asked; affinity = None; moment = start_of_times; starved = false }
+-- a record that is answered at once, as it is finished
+abbrev pub call_at_once : ℕ → ℕ → Heard → FinishedCall
+call_at_once c number h = record { connection = c; number = number; xid = h.xid; asked = h.asked; affinity = None; moment = start_of_times; starved = false }
 
--- the entry of a record whose decoding was starved
-abbrev pub entry_undecoded : ℕ → ℕ → Heard → Entry
-entry_undecoded c number h = record { connection = c; number = number; xid = h.xid; asked = Undecoded; affinity = None; moment = start_of_times; starved = true }
+-- a record whose decoding was starved, as it is finished
+abbrev pub call_undecoded : ℕ → ℕ → Heard → FinishedCall
+call_undecoded c number h = record { connection = c; number = number; xid = h.xid; asked = Undecoded; affinity = None; moment = start_of_times; starved = true }
 
 -- a record without an affinity is answered at once; another waits under its home
 abbrev pub admit : Setup → World → ℕ → ℕ → Heard → Option Affinity → World
-admit setup w c number h None = finish setup w (entry_at_once w c number h) (serial w.server h.asked start_of_times false).reply
+admit setup w c number h None = finish setup w (call_at_once c number h) (serial w.server h.asked start_of_times false).reply
 admit setup w c number h (Some a) = record w { waiting = w.waiting ++ (record { connection = c; number = number; xid = h.xid; asked = h.asked; affinity = a }) ∷ [] }
 
 -- a record complete, with whether its decoding was starved
 abbrev pub heard_in : Setup → World → ℕ → ℕ → Heard → Bool → World
-heard_in setup w c number h true = finish setup w (entry_undecoded c number h) SystemError
+heard_in setup w c number h true = finish setup w (call_undecoded c number h) SystemError
 heard_in setup w c number h false = admit setup w c number h (home_of_asked setup.layout h.asked)
 
 -- decoding is starved only where there is a name or data to be kept
@@ -81,29 +57,60 @@ abbrev pub MayStarveIf : Bool → Asked → Type 0
 MayStarveIf true asked = IsTrue (may_starve_at_decoding asked)
 MayStarveIf false asked = Unit {0}
 
--- ---- the bytes of a feed
+-- records complete in order, the first of this number; each finds a place among those that wait or run
+abbrev pub Hears : Setup → ℕ → World → ℕ → List Heard → World → Type 0
+Hears setup c w number [] new = new ≡ w
+Hears setup c w number (h ∷ more) new =
+    (is_crowded w ≡ false)
+    × ((starved : Bool) × MayStarveIf starved h.asked × Hears setup c (heard_in setup w c number h starved) (number + 1) more new)
 
--- a byte is taken, and taking goes on
-abbrev pub Takes : Setup → World → ℕ → ℕ → Reached → World → Type 0
-Takes setup w c b Further new = new ≡ byte_taken w c b
-Takes setup w c b (Complete h) new = (is_crowded w ≡ false) × ((starved : Bool) × MayStarveIf starved h.asked × (new ≡ heard_in setup (byte_taken w c b) c (served_count setup w c) h starved))
-Takes setup w c b (Fault number) new = ⊥
+-- ---- where taking stops
 
--- a byte is taken, and reaches a fault
-abbrev pub TakesFault : World → ℕ → ℕ → Reached → ℕ → ℕ → World → Type 0
-TakesFault w c b (Fault number) taken stop new = ((is_crowded w && completes (Fault number)) ≡ false) × (taken ≡ 1) × (stop ≡ number) × (new ≡ byte_taken w c b)
-TakesFault w c b Further taken stop new = ⊥
-TakesFault w c b (Complete h) taken stop new = ⊥
+-- a fault of a record that is complete: fault 11 stands at the header of one that is too long
+abbrev pub is_of_record : ℕ → Bool
+is_of_record number = not (number == 11)
 
--- a byte isn't taken: the places are full (31), which is looked at first, or memory ran out (90)
-abbrev pub Stops : World → Reached → ℕ → ℕ → World → Type 0
-Stops w at taken stop new =
-    (taken ≡ 0) × (new ≡ w) × (((stop ≡ 31) × IsTrue (is_crowded w && completes at)) ⊎ ((stop ≡ 90) × ((is_crowded w && completes at) ≡ false)))
+-- by the fault that a byte reached, if any, and the record that it completed, if any
+abbrev pub completes_at : Option ℕ → Option Heard → Bool
+completes_at None more = is_some more
+completes_at (Some number) more = is_of_record number
 
--- The bytes of a feed: all are taken (0), or taking stops before a byte, or at the fault that a byte reaches.
-abbrev pub Feeds : Setup → ℕ → World → List ℕ → ℕ → ℕ → World → Type 0
-Feeds setup c w [] taken stop new = (taken ≡ 0) × (stop ≡ 0) × (new ≡ w)
-Feeds setup c w (b ∷ bs) taken stop new =
-    Stops w (reached setup w c b) taken stop new
-    ⊎ (TakesFault w c b (reached setup w c b) taken stop new
-    ⊎ ((middle : World) × (rest : ℕ) × (taken ≡ rest + 1) × Takes setup w c b (reached setup w c b) middle × Feeds setup c middle bs rest stop new))
+-- whether one more byte completes a record, by what is read before and after it
+abbrev pub completes : Scanned → Scanned → Bool
+completes before after = completes_at after.fault (slice_get after.served (length before.served))
+
+-- whether the next byte would complete a record
+abbrev pub completes_next : Setup → List ℕ → List ℕ → Bool
+completes_next setup stream [] = false
+completes_next setup stream (b ∷ rest) = completes (setup.codec.scan stream) (setup.codec.scan (stream ++ b ∷ []))
+
+-- no place is left, and the next byte would need one: this is looked at before memory
+abbrev pub is_full_at : Setup → World → List ℕ → List ℕ → Bool
+is_full_at setup w stream rest = is_crowded w && completes_next setup stream rest
+
+-- Where taking stops without a fault, with these bytes left: all are taken (0), no place is left for the next record (31), or memory ran out (90).
+abbrev pub StopsSound : Setup → World → List ℕ → List ℕ → ℕ → Type 0
+StopsSound setup w stream rest stop =
+    ((stop ≡ 0) × (rest ≡ []))
+    ⊎ (((stop ≡ 31) × IsTrue (is_full_at setup w stream rest))
+    ⊎ ((stop ≡ 90) × (rest ≡ [] → ⊥) × (is_full_at setup w stream rest ≡ false)))
+
+-- Where taking stops, by the fault that the bytes taken reach, if any: at the fault, which needs a place where it is of a complete record.
+abbrev pub StopsAt : Setup → World → List ℕ → List ℕ → ℕ → Option ℕ → Type 0
+StopsAt setup w stream rest stop None = StopsSound setup w stream rest stop
+StopsAt setup w stream rest stop (Some number) = (stop ≡ number) × ((is_crowded w && is_of_record number) ≡ false)
+
+-- ---- a feed
+
+-- A feed of bytes on a connection: so many are taken, and taking stops with a number.
+pub record Feeds (setup : Setup) (c : ℕ) (w : World) (bytes : List ℕ) (taken stop : ℕ) (new : World) : Type 0 where
+  pub within : taken ≤ length bytes
+  -- they go at most to the end of what reaches a fault
+  pub sound : (n : ℕ) → n < taken → (setup.codec.scan (stream_of w c ++ take n bytes)).fault ≡ None
+  -- the records that they complete
+  pub heard : List Heard
+  pub complete : (setup.codec.scan (stream_of w c ++ take taken bytes)).served ≡ (setup.codec.scan (stream_of w c)).served ++ heard
+  -- the bytes are appended, and the records are answered or wait, in order
+  pub hears : Hears setup c (bytes_taken w c (take taken bytes)) (served_count setup w c) heard new
+  -- why it stops there
+  pub stops : StopsAt setup new (stream_of w c ++ take taken bytes) (drop taken bytes) stop (setup.codec.scan (stream_of w c ++ take taken bytes)).fault

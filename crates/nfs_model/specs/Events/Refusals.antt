@@ -3,8 +3,9 @@ use Rattle.std.specs.Prelude.{ℕ, ◌+◌, ◌/◌, ◌^◌, Bool, true, false,
 use Rattle.std.specs.List.{list_any}
 use Rattle.nfs_model.specs.Types.{Moment}
 use Rattle.nfs_model.specs.Tree.{Affinity, Logical, Vbn, Range, excludes}
-use Rattle.nfs_model.specs.Server.{Volume}
-use Rattle.nfs_model.specs.World.{Setup, World, Connection, Message, Running, Worker, Hand, Empty, Fresh, Dead, all_running, tried}
+use Rattle.nfs_model.specs.Server.{VolumeState}
+use Rattle.nfs_model.specs.Parts.{Hand, Empty, Fresh, Dead, range_blocks, most_ranges, range_of}
+use Rattle.nfs_model.specs.World.{Setup, World, Connection, Message, Running, Worker, all_running, affinities}
 
 -- what may happen to an engine
 pub data Event : Type 0 where
@@ -69,7 +70,7 @@ has_empty_hand (Some k) = is_empty_hand k.hand
 
 -- a running affinity excludes this one
 abbrev pub is_busy : Setup → World → Affinity → Bool
-is_busy setup w affinity = list_any (excludes setup.layout affinity) (tried (all_running w.workers))
+is_busy setup w affinity = list_any (excludes setup.layout affinity) (affinities (all_running w.workers))
 
 -- so many stamps were made that no more can be
 abbrev pub is_worn : World → Bool
@@ -106,9 +107,9 @@ running_of None = None
 running_of (Some k) = k.running
 
 -- a range of a volume that is in use
-abbrev pub is_range_in_use : Option Volume → ℕ → Bool
+abbrev pub is_range_in_use : Option VolumeState → ℕ → Bool
 is_range_in_use None range = false
-is_range_in_use (Some v) range = nat_lt range (v.total / 1024)
+is_range_in_use (Some v) range = nat_lt range (v.total / range_blocks)
 
 -- 41 for a range that isn't in use, after what excludes
 abbrev pub or_not_in_use : Option ℕ → Bool → Option ℕ
@@ -116,15 +117,10 @@ or_not_in_use (Some n) used = Some n
 or_not_in_use None used = if used then None else Some 41
 
 -- 41 for a volume or range that there isn't, before what excludes
-abbrev pub fetch_refusal : Setup → World → ℕ → ℕ → Option Volume → Option ℕ
+abbrev pub fetch_refusal : Setup → World → ℕ → ℕ → Option VolumeState → Option ℕ
 fetch_refusal setup w volume range there =
-    if not (is_some there) || nat_le 16 range then Some 41
+    if not (is_some there) || nat_le most_ranges range then Some 41
     else or_not_in_use (excluded setup w (Range volume range)) (is_range_in_use there range)
-
--- the range of a batch
-abbrev pub range_of : List ℕ → ℕ
-range_of [] = 0
-range_of (b ∷ blocks) = b / 1024
 
 -- 34 for an empty hand; a fresh batch goes to Logical, a dead one to its range
 abbrev pub put_refusal : Setup → World → Hand → Option ℕ

@@ -1,14 +1,15 @@
 -- Events one after another (our profile).
-use Rattle.std.specs.Prelude.{◌≡◌, ℕ, ◌+◌, ◌/◌, Bool, true, false, IsTrue, ◌⊎◌, List, [], ◌∷◌, ◌++◌, length, Option, Some, None, Result, Ok, Err, slice_get}
+use Rattle.std.specs.Prelude.{◌≡◌, ℕ, ◌+◌, ◌/◌, Bool, true, false, IsTrue, ◌⊎◌, List, [], ◌∷◌, ◌++◌, length, Option, Some, None, Result, Ok, Err, slice_get, slice_set}
 use Rattle.std.specs.List.{remove}
 use Rattle.nfs_model.specs.Types.{SystemError}
-use Rattle.nfs_model.specs.Server as servers
-use Rattle.nfs_model.specs.Replay.{Entry}
-use Rattle.nfs_model.specs.World.{Setup, World, Connection, Message, Outcome, Replied, Starved, Moved, Running, Hand, Empty, Fresh, Dead, Worker, Parts, changed_at, with_running, with_hand, finish}
+use Rattle.nfs_model.specs.Server.{VolumeState}
+use Rattle.nfs_model.specs.Replay.{FinishedCall}
+use Rattle.nfs_model.specs.Parts.{Parts, Hand, Empty, Fresh, Dead, range_blocks}
+use Rattle.nfs_model.specs.Moves.{Carrying, Fetches, Culls, PutsDown, Surveys}
+use Rattle.nfs_model.specs.Work.{Store, Outcome, Replied, Starved, Moved, Works}
+use Rattle.nfs_model.specs.World.{Setup, World, Connection, Message, Running, Worker, store_of, task_of, changed_at, with_running, with_hand, finish}
 use Rattle.nfs_model.specs.Events.Refusals.{Event, Open, Feed, Close, Begin, Work, Finish, Fetch, Cull, PutDown, Survey, Done, Opened, Fed, IsClosed, Granted, HasReply, HasMove, IsStarved, Written, IsBack, HandHas, HasPut, Surveyed, refusal, may_lack_memory}
 use Rattle.nfs_model.specs.Events.Feed.{Feeds}
-use Rattle.nfs_model.specs.Events.Work.{Works}
-use Rattle.nfs_model.specs.Events.Blocks.{batch, lowest_batch, fresh_hand, dead_hand, without_free, without_dead, with_stock, with_free, free_counts}
 
 -- a connection as it is opened
 abbrev pub new_connection : Connection
@@ -18,9 +19,13 @@ new_connection = record { stream = []; closed = None; output = [] }
 abbrev pub with_closed : ℕ → Connection → Connection
 with_closed count x = record x { closed = Some count }
 
--- a worker whose message was worked
-abbrev pub with_outcome : Running → Outcome → World → ℕ → World
-with_outcome r o w worker = record w { workers = changed_at (with_running (Some (record r { outcome = Some o }))) w.workers worker }
+-- a worker's message was worked, with what calls run on after it
+abbrev pub worked : World → ℕ → Running → Outcome → Store → World
+worked w worker r o store = record w {
+  workers = changed_at (with_running (Some (record r { outcome = Some o }))) w.workers worker;
+  server = store.server;
+  parts = store.parts;
+}
 
 -- what Work answers
 abbrev pub done_of : Outcome → Done
@@ -30,9 +35,9 @@ done_of (Moved a) = HasMove a
 
 -- ---- finishing
 
--- the entry of a running call
-abbrev pub entry_of : Running → Bool → Entry
-entry_of r starved = record { connection = r.message.connection; number = r.message.number; xid = r.message.xid; asked = r.message.asked; affinity = Some r.message.affinity; moment = r.moment; starved = starved }
+-- a running call as it is finished
+abbrev pub finished_call : Running → Bool → FinishedCall
+finished_call r starved = record { connection = r.message.connection; number = r.message.number; xid = r.message.xid; asked = r.message.asked; affinity = Some r.message.affinity; moment = r.moment; starved = starved }
 
 -- a worker that runs nothing more
 abbrev pub without_call : World → ℕ → World
@@ -44,8 +49,8 @@ stamped w = record w { stamps = w.stamps + 1 }
 
 -- Finish, by the outcome: a moved message waits again, at the end; another is finished
 abbrev pub finished_by : Setup → World → ℕ → Running → Outcome → World
-finished_by setup w worker r (Replied reply) = finish setup (stamped (without_call w worker)) (entry_of r false) reply
-finished_by setup w worker r Starved = finish setup (stamped (without_call w worker)) (entry_of r true) SystemError
+finished_by setup w worker r (Replied reply) = finish setup (stamped (without_call w worker)) (finished_call r false) reply
+finished_by setup w worker r Starved = finish setup (stamped (without_call w worker)) (finished_call r true) SystemError
 finished_by setup w worker r (Moved a) = record (without_call w worker) { waiting = w.waiting ++ (record r.message { affinity = a }) ∷ [] }
 
 -- the bytes that a reply adds, where its connection is open
@@ -66,15 +71,19 @@ told_of setup w r (Moved a) = IsBack
 
 -- ---- inner calls
 
--- an inner call: a hand and the parts of a volume change, under one stamp
-abbrev pub in_hand : World → ℕ → ℕ → Hand → (Parts → Parts) → World
-in_hand w worker volume hand change = record (stamped w) { workers = changed_at (with_hand hand) w.workers worker; parts = changed_at change w.parts volume }
+-- what a worker's inner call works on: its hand, and the parts of a volume
+abbrev pub Carries : World → ℕ → ℕ → Carrying → Type 0
+Carries w worker volume c = (k : Worker) × (slice_get w.workers worker ≡ Some k) × (k.hand ≡ c.hand) × (slice_get w.parts volume ≡ Some c.parts)
 
--- a batch put down: fresh blocks to the stock, dead ones to the bitmaps
-abbrev pub Puts : World → ℕ → Hand → Done → World → Type 0
-Puts w worker Empty done new = ⊥
-Puts w worker (Fresh volume blocks) done new = (done ≡ HasPut (length blocks)) × (new ≡ in_hand w worker volume Empty (with_stock blocks))
-Puts w worker (Dead volume blocks) done new = (done ≡ HasPut (length blocks)) × (new ≡ in_hand w worker volume Empty (with_free blocks))
+-- the world after it, under one stamp
+abbrev pub carried : World → ℕ → ℕ → Carrying → World
+carried w worker volume c = record (stamped w) { workers = changed_at (with_hand c.hand) w.workers worker; parts = slice_set w.parts volume c.parts }
+
+-- the volume of a batch
+abbrev pub hand_volume : Hand → ℕ
+hand_volume Empty = 0
+hand_volume (Fresh volume blocks) = volume
+hand_volume (Dead volume blocks) = volume
 
 -- ---- what an event that isn't refused answers and does
 
@@ -87,23 +96,29 @@ Happens setup w (Begin worker place moment) done new =
     (m : Message) × (slice_get w.waiting place ≡ Some m) × (done ≡ Granted m.affinity)
     × (new ≡ record w { waiting = remove w.waiting place; workers = changed_at (with_running (Some (record { message = m; moment = moment; outcome = None }))) w.workers worker })
 Happens setup w (Work worker) done new =
-    (k : Worker) × (r : Running) × (o : Outcome) × (server : servers.Server) × (parts : List Parts)
-    × (slice_get w.workers worker ≡ Some k) × (k.running ≡ Some r) × Works w r o server parts
-    × (done ≡ done_of o) × (new ≡ record (with_outcome r o w worker) { server = server; parts = parts })
+    (k : Worker) × (r : Running) × (o : Outcome) × (after : Store)
+    × (slice_get w.workers worker ≡ Some k) × (k.running ≡ Some r) × Works (task_of r) (store_of w) o after
+    × (done ≡ done_of o) × (new ≡ worked w worker r o after)
 Happens setup w (Finish worker) done new =
     (k : Worker) × (r : Running) × (o : Outcome)
     × (slice_get w.workers worker ≡ Some k) × (k.running ≡ Some r) × (r.outcome ≡ Some o)
     × (done ≡ told_of setup w r o) × (new ≡ finished_by setup w worker r o)
 Happens setup w (Fetch worker volume range) done new =
-    (p : Parts) × (slice_get w.parts volume ≡ Some p) × (done ≡ HandHas (length (batch range p.free)))
-    × (new ≡ in_hand w worker volume (fresh_hand volume (batch range p.free)) (without_free (batch range p.free)))
+    (before : Carrying) × (after : Carrying) × (count : ℕ)
+    × Carries w worker volume before × Fetches volume range count before after
+    × (done ≡ HandHas count) × (new ≡ carried w worker volume after)
 Happens setup w (Cull worker volume) done new =
-    (p : Parts) × (slice_get w.parts volume ≡ Some p) × (done ≡ HandHas (length (lowest_batch p.dead)))
-    × (new ≡ in_hand w worker volume (dead_hand volume (lowest_batch p.dead)) (without_dead (lowest_batch p.dead)))
-Happens setup w (PutDown worker) done new = (k : Worker) × (slice_get w.workers worker ≡ Some k) × Puts w worker k.hand done new
+    (before : Carrying) × (after : Carrying) × (count : ℕ)
+    × Carries w worker volume before × Culls volume count before after
+    × (done ≡ HandHas count) × (new ≡ carried w worker volume after)
+Happens setup w (PutDown worker) done new =
+    (before : Carrying) × (after : Carrying) × (count : ℕ)
+    × Carries w worker (hand_volume before.hand) before × PutsDown count before after
+    × (done ≡ HasPut count) × (new ≡ carried w worker (hand_volume before.hand) after)
 Happens setup w (Survey worker volume) done new =
-    (p : Parts) × (v : servers.Volume) × (slice_get w.parts volume ≡ Some p) × (slice_get w.server.volumes volume ≡ Some v)
-    × (done ≡ Surveyed (free_counts (v.total / 1024) p.free)) × (new ≡ stamped w)
+    (v : VolumeState) × (p : Parts) × (told : List ℕ)
+    × (slice_get w.server.volumes volume ≡ Some v) × (slice_get w.parts volume ≡ Some p) × Surveys (v.total / range_blocks) p told
+    × (done ≡ Surveyed told) × (new ≡ stamped w)
 
 -- the refusal's number, or 90 for want of memory
 abbrev pub Refuses : Setup → World → Event → ℕ → Type 0

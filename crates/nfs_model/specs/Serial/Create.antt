@@ -1,12 +1,12 @@
 -- CREATE (RFC 1813 section 3.3.8), and what it shares with MKDIR.
 use Rattle.std.specs.Prelude.{ℕ, ◌+◌, nat_le, Bool, false, List, replicate, Option, Some, None, if◌then◌else◌}
-use Rattle.std.specs.FinMap.{get, insert, len}
+use Rattle.std.specs.FinMap.{insert, len}
 use Rattle.std.specs.FinSet as sets
 use Rattle.nfs_model.specs.Types.{Moment, Credential, SetAttributes, Keep, CreateMode, Unchecked, Guarded, Exclusive, Answer, MadeDone, Status, Exists, Invalid, TooBig, NoSpace}
-use Rattle.nfs_model.specs.Server.{Attributes, DirectoryNode, Node, File, Directory, Volume, handle_bytes, most_inodes}
+use Rattle.nfs_model.specs.Server.{Attributes, Node, File, Directory, VolumeState, handle_bytes, most_inodes}
 use Rattle.nfs_model.specs.Shown.{shown, wcc}
-use Rattle.nfs_model.specs.Names.{same_name, is_dots, name_fault, find_name, with_name}
-use Rattle.nfs_model.specs.Locate.{Served, told, changed, failed, unless, on_directory, child}
+use Rattle.nfs_model.specs.Names.{same_name, is_dots, with_name}
+use Rattle.nfs_model.specs.Locate.{Effect, Fails, Tells, Changes, unless, Found, Naming, named_child}
 use Rattle.nfs_model.specs.Serial.Setattr.{has_bad_time, is_past, given, given_mode, time_after, set_file, setattr_fault, with_node}
 
 -- ---- what CREATE and MKDIR share
@@ -27,50 +27,52 @@ new_attributes set mode credential moment = record {
 }
 
 -- no inode is left
-abbrev pub is_full : Volume → Bool
+abbrev pub is_full : VolumeState → Bool
 is_full volume = nat_le most_inodes (len volume.nodes)
 
--- a new node under a name of a directory
-abbrev pub with_child : Volume → ℕ → DirectoryNode → List ℕ → Node → Moment → Volume
-with_child volume fileid d name node moment = record volume {
-  next = volume.next + 1;
-  nodes = insert (insert volume.nodes volume.next node) fileid (Directory (with_name d name volume.next moment));
+-- the directory with the name, which stands for the next fileid
+abbrev pub directory_made : Naming → Node
+directory_made n = Directory (with_name n.directory n.name n.volume.next n.moment)
+
+-- the volume with a new node under the name
+abbrev pub with_child : Naming → Node → VolumeState
+with_child n node = record n.volume {
+  next = n.volume.next + 1;
+  nodes = insert (insert n.volume.nodes n.volume.next node) n.fileid (directory_made n);
 }
 
--- the answer of a node made, with the volume after it
-abbrev pub made_in : Volume → Volume → ℕ → DirectoryNode → List ℕ → Node → Moment → Served
-made_in volume new fileid d name node moment = changed
-    (MadeDone (handle_bytes volume.number volume.next) (shown new volume.next node) (wcc volume fileid (Directory d) new (Directory (with_name d name volume.next moment))))
-    new
+-- the handle and the attributes of a node in a volume, with its directory before and after
+abbrev pub made_told : Naming → VolumeState → Found → Node → Answer
+made_told n new found directory =
+    MadeDone (handle_bytes new.number found.fileid) (shown new found.fileid found.node) (wcc n.volume n.fileid (Directory n.directory) new directory)
 
 -- a node made
-abbrev pub made : Volume → ℕ → DirectoryNode → List ℕ → Node → Moment → Served
-made volume fileid d name node moment = made_in volume (with_child volume fileid d name node moment) fileid d name node moment
+abbrev pub made : Naming → Node → Effect
+made n node = Changes (made_told n (with_child n node) (record { fileid = n.volume.next; node = node }) (directory_made n)) (with_child n node)
 
 -- ---- the name is there
 
--- the answer of a node that is there, in a directory that doesn't change
-abbrev pub there_in : Volume → ℕ → DirectoryNode → ℕ → Node → Answer
-there_in new fileid d child_id node = MadeDone (handle_bytes new.number child_id) (shown new child_id node) (wcc new fileid (Directory d) new (Directory d))
+-- a node that is there, in a directory that doesn't change
+abbrev pub there_told : Naming → VolumeState → Found → Answer
+there_told n new found = made_told (record n { volume = new }) new found (Directory n.directory)
 
--- that answer, with the volume after it
-abbrev pub set_there : Volume → ℕ → DirectoryNode → ℕ → Node → Served
-set_there new fileid d child_id node = changed (there_in new fileid d child_id node) new
+-- a file that is there, set as SETATTR does without a guard
+abbrev pub set_there : Naming → ℕ → Node → Effect
+set_there n fileid node = Changes (there_told n (with_node n.volume fileid node) (record { fileid = fileid; node = node })) (with_node n.volume fileid node)
 
 -- whether a file was made with this verifier
 abbrev pub is_verifier : Option (List ℕ) → List ℕ → Bool
 is_verifier None verifier = false
 is_verifier (Some v) verifier = same_name v verifier
 
--- the name is there: GUARDED is EXIST; EXCLUSIVE answers a file of the same verifier; UNCHECKED sets a file as SETATTR does
-abbrev pub create_over : Volume → ℕ → DirectoryNode → CreateMode → Moment → ℕ → Node → Served
-create_over volume fileid d (Guarded set) moment child_id node = failed Exists 2
-create_over volume fileid d mode moment child_id (Directory other) = failed Exists 2
-create_over volume fileid d (Exclusive verifier) moment child_id (File f) =
-    if is_verifier f.verifier verifier then told (there_in volume fileid d child_id (File f)) else failed Exists 2
-create_over volume fileid d (Unchecked set) moment child_id (File f) =
-    unless (setattr_fault volume set None (File f)) 2
-    (set_there (with_node volume child_id (File (set_file set moment f))) fileid d child_id (File (set_file set moment f)))
+-- the name is there: GUARDED is EXIST; EXCLUSIVE answers a file of the same verifier; UNCHECKED sets a file
+abbrev pub create_over : Naming → CreateMode → ℕ → Node → Effect
+create_over n (Guarded set) fileid node = Fails Exists
+create_over n mode fileid (Directory other) = Fails Exists
+create_over n (Exclusive verifier) fileid (File f) =
+    if is_verifier f.verifier verifier then Tells (there_told n n.volume (record { fileid = fileid; node = File f })) else Fails Exists
+create_over n (Unchecked set) fileid (File f) =
+    unless (setattr_fault n.volume set None (File f)) (set_there n fileid (File (set_file set n.moment f)))
 
 -- ---- it isn't
 
@@ -87,7 +89,7 @@ kept_verifier (Guarded set) = None
 kept_verifier (Exclusive verifier) = Some verifier
 
 -- the first check that fails: the times, the largest size, inodes
-abbrev pub create_fault : Volume → SetAttributes → Option Status
+abbrev pub create_fault : VolumeState → SetAttributes → Option Status
 create_fault volume set =
     if has_bad_time set then Some Invalid
     else if is_past set.size volume.largest then Some TooBig
@@ -107,14 +109,10 @@ new_file mode credential moment = File (record {
 -- ---- the procedure
 
 -- by whether the name is there
-abbrev pub create_at : Volume → ℕ → DirectoryNode → List ℕ → CreateMode → Credential → Moment → Option (ℕ × Node) → Served
-create_at volume fileid d name mode credential moment (Some n) = create_over volume fileid d mode moment n.0 n.1
-create_at volume fileid d name mode credential moment None =
-    unless (create_fault volume (asked_attributes mode)) 2 (made volume fileid d name (new_file mode credential moment) moment)
+abbrev pub create_at : Naming → CreateMode → Credential → Option Found → Effect
+create_at n mode credential (Some found) = create_over n mode found.fileid found.node
+create_at n mode credential None = unless (create_fault n.volume (asked_attributes mode)) (made n (new_file mode credential n.moment))
 
--- STALE, NOTDIR, the name, EXIST for `.` and `..`
-abbrev pub create : Volume → ℕ → List ℕ → CreateMode → Credential → Moment → Served
-create volume fileid name mode credential moment = on_directory 2 (get volume.nodes fileid) (λ d.
-    unless (name_fault name) 2
-    (if is_dots name then failed Exists 2
-    else create_at volume fileid d name mode credential moment (child volume (find_name name d.list))))
+-- on a good name: EXIST for `.` and `..`
+abbrev pub create : CreateMode → Credential → Naming → Effect
+create mode credential n = if is_dots n.name then Fails Exists else create_at n mode credential (named_child n)

@@ -2,12 +2,12 @@
 use Rattle.std.specs.Prelude.{ℕ, ◌-◌, ◌*◌}
 use Rattle.std.specs.FinMap.{get, len}
 use Rattle.nfs_model.specs.Types.{Space, FsstatDone}
-use Rattle.nfs_model.specs.Server.{Volume, used, block_size, most_inodes}
+use Rattle.nfs_model.specs.Server.{VolumeState, used, block_size, most_inodes}
 use Rattle.nfs_model.specs.Shown.{shown}
-use Rattle.nfs_model.specs.Locate.{Served, told, on_node}
+use Rattle.nfs_model.specs.Locate.{Effect, Tells, on_node}
 
 -- the space of a volume; the blocks in files are what is used
-abbrev pub space : Volume → Space
+abbrev pub space : VolumeState → Space
 space volume = record {
   total_bytes = block_size * volume.total;
   free_bytes = block_size * (volume.total - used volume);
@@ -16,5 +16,5 @@ space volume = record {
 }
 
 -- the attributes and the space, or STALE
-abbrev pub fsstat : Volume → ℕ → Served
-fsstat volume fileid = on_node 1 (get volume.nodes fileid) (λ node. told (FsstatDone (shown volume fileid node) (space volume)))
+abbrev pub fsstat : VolumeState → ℕ → Effect
+fsstat volume fileid = on_node (get volume.nodes fileid) (λ node. Tells (FsstatDone (shown volume fileid node) (space volume)))

@@ -2,10 +2,10 @@
 use Rattle.std.specs.Prelude.{ℕ}
 use Rattle.std.specs.FinMap.{get}
 use Rattle.nfs_model.specs.Types.{GetattrDone}
-use Rattle.nfs_model.specs.Server.{Volume}
+use Rattle.nfs_model.specs.Server.{VolumeState}
 use Rattle.nfs_model.specs.Shown.{shown}
-use Rattle.nfs_model.specs.Locate.{Served, told, on_node}
+use Rattle.nfs_model.specs.Locate.{Effect, Tells, on_node}
 
 -- the attributes, or STALE
-abbrev pub getattr : Volume → ℕ → Served
-getattr volume fileid = on_node 0 (get volume.nodes fileid) (λ node. told (GetattrDone (shown volume fileid node)))
+abbrev pub getattr : VolumeState → ℕ → Effect
+getattr volume fileid = on_node (get volume.nodes fileid) (λ node. Tells (GetattrDone (shown volume fileid node)))

@@ -1,7 +1,7 @@
 -- GROW, of the admin program (our profile): spare ranges of an aggregate come into use in a volume.
 use Rattle.std.specs.Prelude.{ℕ, ◌+◌, ◌-◌, ◌*◌, ◌==◌, nat_lt, Option, Some, None, slice_get, slice_set, slice_index_or, if◌then◌else◌}
 use Rattle.nfs_model.specs.Types.{Answer, GrowDone, Failed, NoEntry, Invalid, TooBig, NoSpace}
-use Rattle.nfs_model.specs.Server.{Volume, Server}
+use Rattle.nfs_model.specs.Server.{VolumeState, Server}
 
 -- an answer, and the server after it
 pub record Grown : Type 0 where
@@ -9,14 +9,14 @@ pub record Grown : Type 0 where
   pub server : Server
 
 -- the server after ranges have come into use
-abbrev pub grown : Server → ℕ → Volume → ℕ → Server
+abbrev pub grown : Server → ℕ → VolumeState → ℕ → Server
 grown server index volume ranges = record {
   spare = slice_set server.spare volume.aggregate (slice_index_or server.spare volume.aggregate 0 - ranges);
   volumes = slice_set server.volumes index (record volume { total = volume.total + 1024 * ranges });
 }
 
 -- NOENT, INVAL for no range, FBIG for more than 16 in all, NOSPC for more than the spare ones
-abbrev pub grow_volume : Server → ℕ → Option Volume → ℕ → Grown
+abbrev pub grow_volume : Server → ℕ → Option VolumeState → ℕ → Grown
 grow_volume server index None ranges = record { answer = Failed NoEntry 0; server = server }
 grow_volume server index (Some volume) ranges =
     if ranges == 0 then record { answer = Failed Invalid 0; server = server }

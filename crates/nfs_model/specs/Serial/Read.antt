@@ -2,8 +2,8 @@
 use Rattle.std.specs.Prelude.{ℕ, ◌+◌, min, true, nat_le, List, [], length, take, drop, if◌then◌else◌}
 use Rattle.std.specs.FinMap.{get}
 use Rattle.nfs_model.specs.Types.{Answer, ReadDone}
-use Rattle.nfs_model.specs.Server.{Volume, most_bytes}
-use Rattle.nfs_model.specs.Locate.{Served, told, on_file}
+use Rattle.nfs_model.specs.Server.{VolumeState, most_bytes}
+use Rattle.nfs_model.specs.Locate.{Effect, Tells, on_file}
 
 -- at most so many bytes from offset on
 abbrev pub bytes_at : List ℕ → ℕ → ℕ → List ℕ
@@ -14,7 +14,7 @@ abbrev pub read_of : ℕ → ℕ → List ℕ → Answer
 read_of offset size bytes = ReadDone (length bytes) (nat_le size (offset + length bytes)) bytes
 
 -- STALE, INVAL for a directory; at or past the end, nothing
-abbrev pub read : Volume → ℕ → ℕ → ℕ → Served
-read volume fileid offset count = on_file 1 (get volume.nodes fileid) (λ f.
-    if nat_le (length f.bytes) offset then told (ReadDone 0 true [])
-    else told (read_of offset (length f.bytes) (bytes_at f.bytes offset (min count most_bytes))))
+abbrev pub read : ℕ → ℕ → VolumeState → ℕ → Effect
+read offset count volume fileid = on_file (get volume.nodes fileid) (λ f.
+    if nat_le (length f.bytes) offset then Tells (ReadDone 0 true [])
+    else Tells (read_of offset (length f.bytes) (bytes_at f.bytes offset (min count most_bytes))))

@@ -3,10 +3,10 @@ use Rattle.std.specs.Prelude.{ℕ, ◌+◌, ◌-◌, ◌*◌, ◌/◌, min, not,
 use Rattle.std.specs.List.{filter}
 use Rattle.std.specs.FinMap.{get}
 use Rattle.nfs_model.specs.Types.{Listed, Shown, ReaddirDone, BadCookie, TooSmall}
-use Rattle.nfs_model.specs.Server.{DirectoryNode, Directory, Volume, most_bytes}
+use Rattle.nfs_model.specs.Server.{DirectoryNode, Directory, VolumeState, most_bytes}
 use Rattle.nfs_model.specs.Shown.{shown}
 use Rattle.nfs_model.specs.Names.{same_name, dot, dot_dot}
-use Rattle.nfs_model.specs.Locate.{Served, told, failed, on_directory}
+use Rattle.nfs_model.specs.Locate.{Effect, Fails, Tells, on_directory}
 
 -- all entries of a directory: `.` has cookie 1, `..` has cookie 2
 abbrev pub all_listed : ℕ → DirectoryNode → List Listed
@@ -26,21 +26,21 @@ fitting room [] = []
 fitting room (e ∷ es) = if nat_le (entry_size e) room then e ∷ fitting (room - entry_size e) es else []
 
 -- a page, and whether it is the end
-abbrev pub page_of : Shown → List Listed → List Listed → Served
-page_of directory remaining page = told (ReaddirDone directory page (length page == length remaining))
+abbrev pub page_of : Shown → List Listed → List Listed → Effect
+page_of directory remaining page = Tells (ReaddirDone directory page (length page == length remaining))
 
 -- a page that tells something: an entry, or that none remain
-abbrev pub paged : ℕ → Shown → List Listed → List Listed → Served
-paged count directory [] page = if nat_lt count 104 then failed TooSmall 1 else page_of directory [] page
-paged count directory (e ∷ es) [] = failed TooSmall 1
+abbrev pub paged : ℕ → Shown → List Listed → List Listed → Effect
+paged count directory [] page = if nat_lt count 104 then Fails TooSmall else page_of directory [] page
+paged count directory (e ∷ es) [] = Fails TooSmall
 paged count directory (e ∷ es) (x ∷ xs) = page_of directory (e ∷ es) (x ∷ xs)
 
 -- the page that fits: 104 bytes are for the attributes, the verifier, the end of the list and eof
-abbrev pub readdir_from : ℕ → Shown → List Listed → Served
+abbrev pub readdir_from : ℕ → Shown → List Listed → Effect
 readdir_from count directory remaining = paged count directory remaining (fitting (count - 104) remaining)
 
 -- STALE, NOTDIR, BAD_COOKIE, TOOSMALL
-abbrev pub readdir : Volume → ℕ → ℕ → List ℕ → ℕ → Served
-readdir volume fileid cookie verifier count = on_directory 1 (get volume.nodes fileid) (λ d.
-    if not (cookie == 0) && not (same_name verifier (replicate 8 0)) then failed BadCookie 1
+abbrev pub readdir : ℕ → List ℕ → ℕ → VolumeState → ℕ → Effect
+readdir cookie verifier count volume fileid = on_directory (get volume.nodes fileid) (λ d.
+    if not (cookie == 0) && not (same_name verifier (replicate 8 0)) then Fails BadCookie
     else readdir_from (min count most_bytes) (shown volume fileid (Directory d)) (above_cookie cookie (all_listed fileid d)))

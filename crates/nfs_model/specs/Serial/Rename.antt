@@ -2,11 +2,16 @@
 use Rattle.std.specs.Prelude.{ℕ, zero, suc, Bool, true, false, not, ◌&&◌, ◌||◌, ◌==◌, List, [], ◌∷◌, Option, Some, None, if◌then◌else◌}
 use Rattle.std.specs.Ordering.{nat_cmp}
 use Rattle.std.specs.FinMap.{FinMap, get, insert, remove, len}
-use Rattle.nfs_model.specs.Types.{Moment, Listed, RenameDone, NoEntry, Invalid, Exists}
-use Rattle.nfs_model.specs.Server.{DirectoryNode, Node, File, Directory, Volume}
+use Rattle.nfs_model.specs.Types.{Moment, Listed, RenameDone, NoEntry, Invalid, Exists, Wcc}
+use Rattle.nfs_model.specs.Server.{DirectoryNode, Node, File, Directory, VolumeState}
 use Rattle.nfs_model.specs.Shown.{settled, wcc}
-use Rattle.nfs_model.specs.Names.{same_name, is_dots, name_fault, find_name, dropped_name, with_name}
-use Rattle.nfs_model.specs.Locate.{Served, told, changed, failed, unless, on_directory, child}
+use Rattle.nfs_model.specs.Names.{same_name, is_dots, name_fault, dropped_name, with_name}
+use Rattle.nfs_model.specs.Locate.{Effect, Fails, Tells, Changes, unless, on_directory, Found, Naming, named_child}
+
+-- two names of a volume's directories, which may be one directory; both have the call's moment
+pub record Renaming : Type 0 where
+  pub from : Naming
+  pub to : Naming
 
 -- ---- a directory below itself
 
@@ -22,14 +27,14 @@ on_parent None test = false
 on_parent (Some parent) test = test parent
 
 -- Whether at most so many steps from a directory to its parent lead to a target. As many as there are nodes are enough, since parents lead to the root, and the root ends the way.
-abbrev pub climbs_to : ℕ → Volume → ℕ → ℕ → Bool
+abbrev pub climbs_to : ℕ → VolumeState → ℕ → ℕ → Bool
 climbs_to zero volume target fileid = fileid == target
 climbs_to (suc n) volume target fileid = (fileid == target) || on_parent (parent_above fileid (get volume.nodes fileid)) (climbs_to n volume target)
 
 -- a directory would come into itself or below itself
-abbrev pub goes_below_itself : Volume → ℕ → ℕ → Node → Bool
-goes_below_itself volume to_id child_id (File f) = false
-goes_below_itself volume to_id child_id (Directory d) = climbs_to (len volume.nodes) volume child_id to_id
+abbrev pub goes_below_itself : Renaming → ℕ → Node → Bool
+goes_below_itself r fileid (File f) = false
+goes_below_itself r fileid (Directory d) = climbs_to (len r.from.volume.nodes) r.from.volume fileid r.to.fileid
 
 -- ---- the target
 
@@ -38,96 +43,109 @@ abbrev pub is_empty_list : List Listed → Bool
 is_empty_list [] = true
 is_empty_list (e ∷ es) = false
 
--- the target may go: both aren't directories, or both are and the target is empty
-abbrev pub may_replace : Node → Option (ℕ × Node) → Bool
-may_replace moved None = true
-may_replace (File f) (Some (id, File g)) = true
-may_replace (File f) (Some (id, Directory g)) = false
-may_replace (Directory f) (Some (id, File g)) = false
-may_replace (Directory f) (Some (id, Directory g)) = is_empty_list g.list
+-- a node may take another's place: both aren't directories, or both are and the other is empty
+abbrev pub may_replace : Node → Node → Bool
+may_replace (File f) (File g) = true
+may_replace (File f) (Directory g) = false
+may_replace (Directory f) (File g) = false
+may_replace (Directory f) (Directory g) = is_empty_list g.list
 
--- the nodes without the target
-abbrev pub without_target : FinMap nat_cmp Node → Option (ℕ × Node) → FinMap nat_cmp Node
-without_target nodes None = nodes
-without_target nodes (Some n) = remove nodes n.0
+-- the target may go, if there is one
+abbrev pub may_go : Node → Option Found → Bool
+may_go moved None = true
+may_go moved (Some target) = may_replace moved target.node
 
--- ---- the effect
+-- ---- the nodes of the volume, changed one step after another
 
--- the node that moves: a file settles, a directory gets its new parent; ctime is set
+abbrev pub Nodes : Type 0
+Nodes = FinMap nat_cmp Node
+
+-- a change of the node of a fileid, if it is there
+abbrev pub changed_node : (Node → Node) → ℕ → Option Node → Nodes → Nodes
+changed_node change fileid None nodes = nodes
+changed_node change fileid (Some node) nodes = insert nodes fileid (change node)
+
+-- a change of a node, of directories alone
+abbrev pub in_directory : (DirectoryNode → DirectoryNode) → Node → Node
+in_directory change (File f) = File f
+in_directory change (Directory d) = Directory (change d)
+
+-- the entry of a name leaves its directory
+abbrev pub without_entry : Naming → Nodes → Nodes
+without_entry n nodes = changed_node (in_directory (λ d. dropped_name d n.name n.moment)) n.fileid (get nodes n.fileid) nodes
+
+-- an entry for a node comes into the directory of a name
+abbrev pub with_entry : Naming → ℕ → Nodes → Nodes
+with_entry n child nodes = changed_node (in_directory (λ d. with_name d n.name child n.moment)) n.fileid (get nodes n.fileid) nodes
+
+-- the target goes, with its entry
+abbrev pub without_target : Naming → Option Found → Nodes → Nodes
+without_target to None nodes = nodes
+without_target to (Some target) nodes = without_entry to (remove nodes target.fileid)
+
+-- a file settles, a directory gets its new parent; ctime is set
 abbrev pub moved_node : ℕ → Moment → Node → Node
 moved_node parent moment (File f) = File (record (settled f) { attributes = record (settled f).attributes { ctime = moment } })
 moved_node parent moment (Directory d) = Directory (record d { parent = parent; attributes = record d.attributes { ctime = moment } })
 
--- a directory that gets a name, in place of one that it may have had
-abbrev pub arrived : DirectoryNode → List ℕ → ℕ → Moment → DirectoryNode
-arrived d name child_id moment = with_name (dropped_name d name moment) name child_id moment
+-- the node that moves is below the directory of to
+abbrev pub with_moved : Naming → ℕ → Nodes → Nodes
+with_moved to child nodes = changed_node (moved_node to.fileid to.moment) child (get nodes child) nodes
 
--- the directory of from after the call; true where it is that of to as well
-abbrev pub from_after : Bool → DirectoryNode → List ℕ → List ℕ → ℕ → Moment → DirectoryNode
-from_after true d from_name to_name child_id moment = arrived (dropped_name d from_name moment) to_name child_id moment
-from_after false d from_name to_name child_id moment = dropped_name d from_name moment
-
--- the directory of to after the call; true where it is that of from as well
-abbrev pub to_after : Bool → DirectoryNode → DirectoryNode → List ℕ → List ℕ → ℕ → Moment → DirectoryNode
-to_after true d e from_name to_name child_id moment = arrived (dropped_name d from_name moment) to_name child_id moment
-to_after false d e from_name to_name child_id moment = arrived e to_name child_id moment
-
--- the two directories with their fileids and names, and the moment
-pub record Renaming : Type 0 where
-  pub from_id : ℕ
-  pub from : DirectoryNode
-  pub from_name : List ℕ
-  pub to_id : ℕ
-  pub to : DirectoryNode
-  pub to_name : List ℕ
-  pub moment : Moment
-
--- both are one directory
-abbrev pub is_one : Renaming → Bool
-is_one r = r.from_id == r.to_id
-
--- the directory of from after the call
-abbrev pub new_from : Renaming → ℕ → DirectoryNode
-new_from r child_id = from_after (is_one r) r.from r.from_name r.to_name child_id r.moment
-
--- the directory of to after the call
-abbrev pub new_to : Renaming → ℕ → DirectoryNode
-new_to r child_id = to_after (is_one r) r.from r.to r.from_name r.to_name child_id r.moment
+-- the target goes, the entry of from goes, that of to comes, the node moves
+abbrev pub renamed_nodes : Renaming → ℕ → Option Found → Nodes → Nodes
+renamed_nodes r child target nodes = with_moved r.to child (with_entry r.to child (without_entry r.from (without_target r.to target nodes)))
 
 -- the volume after the call
-abbrev pub renamed_volume : Volume → Renaming → ℕ → Node → Option (ℕ × Node) → Volume
-renamed_volume volume r child_id node target = record volume {
-  nodes = insert (insert (insert (without_target volume.nodes target) child_id (moved_node r.to_id r.moment node)) r.from_id (Directory (new_from r child_id))) r.to_id (Directory (new_to r child_id));
-}
+abbrev pub renamed_volume : Renaming → ℕ → Option Found → VolumeState
+renamed_volume r child target = record r.from.volume { nodes = renamed_nodes r child target r.from.volume.nodes }
 
--- the answer, with the volume after it
-abbrev pub renamed_in : Volume → Volume → Renaming → ℕ → Served
-renamed_in volume new r child_id = changed
-    (RenameDone (wcc volume r.from_id (Directory r.from) new (Directory (new_from r child_id))) (wcc volume r.to_id (Directory r.to) new (Directory (new_to r child_id))))
-    new
+-- ---- the answer
+
+-- a node, or the one before
+abbrev pub node_or : Option Node → Node → Node
+node_or None before = before
+node_or (Some node) before = node
+
+-- the directory of a name, before the call and in the volume after it
+abbrev pub directory_change : Naming → VolumeState → Wcc
+directory_change n new = wcc n.volume n.fileid (Directory n.directory) new (node_or (get new.nodes n.fileid) (Directory n.directory))
+
+-- both directories, where the volume is so after the call
+abbrev pub rename_told : Renaming → VolumeState → Effect
+rename_told r new = Changes (RenameDone (directory_change r.from new) (directory_change r.to new)) new
 
 -- the same entry: OK, and nothing changes
-abbrev pub same_entry : Volume → Renaming → Served
-same_entry volume r = told (RenameDone (wcc volume r.from_id (Directory r.from) volume (Directory r.from)) (wcc volume r.to_id (Directory r.to) volume (Directory r.to)))
+abbrev pub same_told : Renaming → Effect
+same_told r = Tells (RenameDone (directory_change r.from r.from.volume) (directory_change r.to r.to.volume))
+
+-- ---- the procedure
+
+-- both names are of one entry
+abbrev pub is_same_entry : Renaming → Bool
+is_same_entry r = (r.from.fileid == r.to.fileid) && same_name r.from.name r.to.name
 
 -- NOENT, the same entry, INVAL for a directory below itself, EXIST for a target that may not go
-abbrev pub rename_node : Volume → Renaming → Option (ℕ × Node) → Option (ℕ × Node) → Served
-rename_node volume r None target = failed NoEntry 4
-rename_node volume r (Some n) target =
-    if is_one r && same_name r.from_name r.to_name then same_entry volume r
-    else if goes_below_itself volume r.to_id n.0 n.1 then failed Invalid 4
-    else if not (may_replace n.1 target) then failed Exists 4
-    else renamed_in volume (renamed_volume volume r n.0 n.1 target) r n.0
+abbrev pub rename_at : Renaming → Option Found → Option Found → Effect
+rename_at r None target = Fails NoEntry
+rename_at r (Some found) target =
+    if is_same_entry r then same_told r
+    else if goes_below_itself r found.fileid found.node then Fails Invalid
+    else if not (may_go found.node target) then Fails Exists
+    else rename_told r (renamed_volume r found.fileid target)
 
 -- the names of from and of to, INVAL for `.` and `..` in either
-abbrev pub rename_in : Volume → Renaming → Served
-rename_in volume r =
-    unless (name_fault r.from_name) 4
-    (unless (name_fault r.to_name) 4
-    (if is_dots r.from_name || is_dots r.to_name then failed Invalid 4
-    else rename_node volume r (child volume (find_name r.from_name r.from.list)) (child volume (find_name r.to_name r.to.list))))
+abbrev pub rename_in : Renaming → Effect
+rename_in r =
+    unless (name_fault r.from.name)
+    (unless (name_fault r.to.name)
+    (if is_dots r.from.name || is_dots r.to.name then Fails Invalid
+    else rename_at r (named_child r.from) (named_child r.to)))
 
 -- STALE and NOTDIR of from's directory, then of to's
-abbrev pub rename : Volume → ℕ → List ℕ → ℕ → List ℕ → Moment → Served
-rename volume from_id from_name to_id to_name moment = on_directory 4 (get volume.nodes from_id) (λ d. on_directory 4 (get volume.nodes to_id) (λ e.
-    rename_in volume (record { from_id = from_id; from = d; from_name = from_name; to_id = to_id; to = e; to_name = to_name; moment = moment })))
+abbrev pub rename : List ℕ → List ℕ → Moment → VolumeState → ℕ → ℕ → Effect
+rename from_name to_name moment volume from_id to_id = on_directory (get volume.nodes from_id) (λ d. on_directory (get volume.nodes to_id) (λ e.
+    rename_in (record {
+      from = record { volume = volume; fileid = from_id; directory = d; name = from_name; moment = moment };
+      to = record { volume = volume; fileid = to_id; directory = e; name = to_name; moment = moment };
+    })))

@@ -3,9 +3,9 @@ use Rattle.std.specs.Prelude.{ℕ, ◌-◌, ◌*◌, ◌%◌, Bool, false, ◌||
 use Rattle.std.specs.FinMap.{get, insert}
 use Rattle.std.specs.FinSet.{retain}
 use Rattle.nfs_model.specs.Types.{Moment, SetTime, Keep, ServerTime, ClientTime, SetAttributes, Status, NotSynchronous, Invalid, TooBig, SetattrDone}
-use Rattle.nfs_model.specs.Server.{Attributes, FileNode, Node, File, Directory, Volume, block_size}
+use Rattle.nfs_model.specs.Server.{Attributes, FileNode, Node, File, Directory, VolumeState, block_size}
 use Rattle.nfs_model.specs.Shown.{same_moment, times, settled, wcc}
-use Rattle.nfs_model.specs.Locate.{Served, changed, on_node, unless}
+use Rattle.nfs_model.specs.Locate.{Effect, Changes, on_node, unless}
 
 -- ---- what several procedures share
 
@@ -77,7 +77,7 @@ is_sized_directory (File f) size = false
 is_sized_directory (Directory d) size = is_some size
 
 -- the first check that fails: the guard, the times, a directory's size, the largest size
-abbrev pub setattr_fault : Volume → SetAttributes → Option Moment → Node → Option Status
+abbrev pub setattr_fault : VolumeState → SetAttributes → Option Moment → Node → Option Status
 setattr_fault volume set guard node =
     if is_stale_guard guard (times node).ctime then Some NotSynchronous
     else if has_bad_time set then Some Invalid
@@ -91,14 +91,14 @@ set_node set moment (File f) = File (set_file set moment f)
 set_node set moment (Directory d) = Directory (record d { attributes = set_attributes set moment d.attributes })
 
 -- a volume with another node at a fileid
-abbrev pub with_node : Volume → ℕ → Node → Volume
+abbrev pub with_node : VolumeState → ℕ → Node → VolumeState
 with_node volume fileid node = record volume { nodes = insert volume.nodes fileid node }
 
 -- the answer of a node set
-abbrev pub replaced : Volume → ℕ → Node → Node → Served
-replaced volume fileid old new = changed (SetattrDone (wcc volume fileid old (with_node volume fileid new) new)) (with_node volume fileid new)
+abbrev pub replaced : VolumeState → ℕ → Node → Node → Effect
+replaced volume fileid old new = Changes (SetattrDone (wcc volume fileid old (with_node volume fileid new) new)) (with_node volume fileid new)
 
 -- STALE, then the checks, then the change
-abbrev pub setattr : Volume → ℕ → SetAttributes → Option Moment → Moment → Served
-setattr volume fileid set guard moment = on_node 2 (get volume.nodes fileid) (λ node.
-    unless (setattr_fault volume set guard node) 2 (replaced volume fileid node (set_node set moment node)))
+abbrev pub setattr : SetAttributes → Option Moment → Moment → VolumeState → ℕ → Effect
+setattr set guard moment volume fileid = on_node (get volume.nodes fileid) (λ node.
+    unless (setattr_fault volume set guard node) (replaced volume fileid node (set_node set moment node)))

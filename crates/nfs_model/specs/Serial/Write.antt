@@ -5,9 +5,9 @@ use Rattle.std.specs.Ordering.{nat_cmp}
 use Rattle.std.specs.FinMap.{get}
 use Rattle.std.specs.FinSet.{FinSet, contains, insert}
 use Rattle.nfs_model.specs.Types.{Moment, Status, Invalid, TooBig, NoSpace, WriteDone}
-use Rattle.nfs_model.specs.Server.{FileNode, File, Volume, used, block_size, most_bytes}
+use Rattle.nfs_model.specs.Server.{FileNode, File, VolumeState, used, block_size, most_bytes}
 use Rattle.nfs_model.specs.Shown.{touched}
-use Rattle.nfs_model.specs.Locate.{Served, told, changed, failed, unless, on_file}
+use Rattle.nfs_model.specs.Locate.{Effect, Fails, Tells, Changes, unless, on_file}
 use Rattle.nfs_model.specs.Serial.Setattr.{with_node}
 
 -- the numbers of the blocks that n bytes at an offset meet
@@ -23,11 +23,11 @@ abbrev pub need : FileNode → ℕ → ℕ → ℕ
 need f offset n = length (unfilled f.filled (blocks_met offset n))
 
 -- what stands before the question of space
-abbrev pub write_fault : Volume → ℕ → ℕ → Option Status
+abbrev pub write_fault : VolumeState → ℕ → ℕ → Option Status
 write_fault volume offset n = if nat_lt volume.largest (offset + n) then Some TooBig else None
 
 -- NOSPC exactly where the blocks in files and those needed exceed the volume's total (our profile)
-abbrev pub space_fault : Volume → FileNode → ℕ → ℕ → Option Status
+abbrev pub space_fault : VolumeState → FileNode → ℕ → ℕ → Option Status
 space_fault volume f offset n = if nat_lt volume.total (used volume + need f offset n) then Some NoSpace else None
 
 -- a set with these blocks filled
@@ -47,16 +47,27 @@ written_file f offset written moment = record f {
   touch = Some (touched f.touch moment);
 }
 
--- a write of at least one byte
-abbrev pub write_some : Volume → ℕ → FileNode → ℕ → List ℕ → Moment → Served
-write_some volume fileid f offset written moment =
-    unless (write_fault volume offset (length written)) 2
-    (unless (space_fault volume f offset (length written)) 2
-    (changed (WriteDone (length written) volume.verifier) (with_node volume fileid (File (written_file f offset written moment)))))
+-- what a WRITE asks of a file, at a moment
+pub record Writing : Type 0 where
+  pub offset : ℕ
+  pub count : ℕ
+  pub written : List ℕ
+  pub moment : Moment
 
--- STALE, INVAL for a directory, INVAL for a count that isn't the data's length; a count of 0 changes nothing; then FBIG, NOSPC, the change
-abbrev pub write : Volume → ℕ → ℕ → ℕ → List ℕ → Moment → Served
-write volume fileid offset count written moment = on_file 2 (get volume.nodes fileid) (λ f.
-    if not (count == length written) then failed Invalid 2
-    else if count == 0 then told (WriteDone 0 volume.verifier)
-    else write_some volume fileid f offset (take most_bytes written) moment)
+-- the bytes that it writes: the first 65,536
+abbrev pub bytes_kept : Writing → List ℕ
+bytes_kept w = take most_bytes w.written
+
+-- at least one byte: FBIG, NOSPC, the change
+abbrev pub write_some : VolumeState → ℕ → FileNode → ℕ → List ℕ → Moment → Effect
+write_some volume fileid f offset written moment =
+    unless (write_fault volume offset (length written))
+    (unless (space_fault volume f offset (length written))
+    (Changes (WriteDone (length written) volume.verifier) (with_node volume fileid (File (written_file f offset written moment)))))
+
+-- STALE, INVAL for a directory, INVAL for a count that isn't the data's length; a count of 0 changes nothing; then the rest
+abbrev pub write : Writing → VolumeState → ℕ → Effect
+write w volume fileid = on_file (get volume.nodes fileid) (λ f.
+    if not (w.count == length w.written) then Fails Invalid
+    else if w.count == 0 then Tells (WriteDone 0 volume.verifier)
+    else write_some volume fileid f w.offset (bytes_kept w) w.moment)

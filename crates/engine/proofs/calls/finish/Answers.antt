@@ -2,12 +2,13 @@ use Rattle.std.proofs.Common.{◌≡◌, false, [], ◌∷◌, ◌++◌, Some, s
 use Rattle.std.specs.Prelude.{option_map}
 use Rattle.nfs_model.specs.Types as types
 use Rattle.nfs_model.specs.Tree as trees
+use Rattle.nfs_model.specs.Work as tasks
 use Rattle.nfs_model.specs.World as worlds
 use Rattle.nfs_model.specs.Events.Refusals as events
-use Rattle.nfs_model.specs.Events.Step.{stamped, without_call, entry_of}
+use Rattle.nfs_model.specs.Events.Step.{stamped, without_call, finished_call}
 use Rattle.nfs_values.specs.Answer.{answer_of}
 use Rattle.affinity_tree.specs.Layout.{layout_of}
-use Rattle.engine.specs.Seen.{world, setup_in, running_of, outcome_of}
+use Rattle.engine.specs.Seen.{tried, world, setup_in, running_of, outcome_of}
 use Rattle.affinity_tree.specs.Affinity.{affinity_of}
 use Rattle.engine.specs.Sound.{opened}
 use Rattle.engine.proofs.Rooms.{placed-running, release-unseen}
@@ -26,20 +27,20 @@ returns-clause-events c =
     let reply : types.Reply = types.Success (answer_of answer) in
     let written = world c.respond-count.new.state in
     let released = release-unseen r.message.origin.connection r.message.room c.respond-count.new.state c.release.new.state c.release.ensures in
-    let home = (placed-running layout (opened s) s.running r c.requires.running some).at_home in
+    let home = sym (ap tried (placed-running layout (opened s) s.running r c.requires.running some).at_home) in
     let kept = c.keep_entry.ensures.kept
-    ∙ ap (λ (v : worlds.World). record v { finished = v.finished ++ record (entry_of (running_of layout r) false) { affinity = Some (affinity_of r.message.affinity) } ∷ [] }) released
-    ∙ ap (λ (a : trees.Affinity). record written { finished = written.finished ++ record (entry_of (running_of layout r) false) { affinity = Some a } ∷ [] }) home in
+    ∙ ap (λ (v : worlds.World). record v { finished = v.finished ++ record (finished_call (running_of layout r) false) { affinity = Some (affinity_of r.message.affinity) } ∷ [] }) released
+    ∙ ap (λ (a : trees.Affinity). record written { finished = written.finished ++ record (finished_call (running_of layout r) false) { affinity = Some a } ∷ [] }) home in
     let before = without-call s c.args.worker r c.take.new.self c.if-worker-ne0.false some c.requires.lent c.take.ensures.after in (
       may-finish s c.args.worker r answer c.if-worker-ne0.false some answered,
       (
         worker_of layout s.running,
         running_of layout r,
-        worlds.Replied reply,
+        tasks.Replied reply,
         only-there layout s.running c.args.worker c.if-worker-ne0.false,
         ap (option_map (running_of layout)) some,
         ap (option_map outcome_of) answered,
         ap (events.Written r.message.origin.connection) c.respond-count.ensures.count,
-        finished (setup_in s) (stamped (without_call w c.args.worker)) _ _ _ (entry_of (running_of layout r) false) reply c.respond-count.ensures.written kept before,
+        finished (setup_in s) (stamped (without_call w c.args.worker)) _ _ _ (finished_call (running_of layout r) false) reply c.respond-count.ensures.written kept before,
       ),
     )

@@ -1,6 +1,7 @@
 use Rattle.std.proofs.Common.{◌≡◌, Option, Some, None, refl, sym, ap, subst, ◌∙◌}
 use Rattle.std.specs.Prelude.{option_map}
 use Rattle.nfs_model.specs.Types as types
+use Rattle.nfs_model.specs.Work as tasks
 use Rattle.nfs_model.specs.World as worlds
 use Rattle.nfs_values.specs.declared.call.Call.{Call}
 use Rattle.nfs_values.specs.Answer.{answer_of}
@@ -31,9 +32,8 @@ returns-in-Some-clause-events c =
       (
         worker_of layout s.running,
         running_of layout r,
-        worlds.Replied (types.Success answer),
-        w.server,
-        w.parts,
+        tasks.Replied (types.Success answer),
+        worlds.store_of w,
         only-there layout s.running c.args.worker c.if-worker-ne0.false,
         ap (option_map (running_of layout)) some,
         works s r answer some c.requires.lent c.as_call.ensures.served answered,

@@ -8,8 +8,8 @@ use Rattle.engine.proofs.finishing.keep_entry.Goals as goal
 pub returns-clause-kept : goal.returns-clause-kept
 returns-clause-kept c =
     let s = c.args.state.now in
-    let entry : Bool → replays.Entry = λ starved. record (entry_by c.args.origin c.args.request c.args.affinity c.args.moment) { starved = starved } in
+    let entry : Bool → replays.FinishedCall = λ starved. record (entry_by c.args.origin c.args.request c.args.affinity c.args.moment) { starved = starved } in
     let starved : c.is_none-starved.result ≡ is_none c.args.request = search rules in
-    ap (λ (es : List replays.Entry). record (world s) { finished = es })
+    ap (λ (es : List replays.FinishedCall). record (world s) { finished = es })
     (ap (map entry_of) c.push_reserved.ensures.items ∙ map_push entry_of s.finished.items _
     ∙ ap (λ (b : Bool). map entry_of s.finished.items ++ entry b ∷ []) starved)

@@ -1,8 +1,10 @@
-use Rattle.std.proofs.Common.{sym, subst, ◌∙◌}
+use Rattle.std.specs.Option.{option_map}
+use Rattle.std.proofs.Common.{sym, subst, ap, ◌∙◌}
 use Rattle.nfs_model.specs.Types as types
 use Rattle.nfs_values.specs.declared.call.Call.{Call}
 use Rattle.nfs_values.specs.Call.{call_of}
-use Rattle.nfs_values.specs.Answer.{answer_of}
+use Rattle.nfs_values.specs.Handle.{named_of}
+use Rattle.nfs_values.specs.Answer.{attributes_shown, result_of}
 use Rattle.affinity_tree.specs.Layout.{layout_of}
 use Rattle.engine.specs.Served.{IsAnswer}
 use Rattle.engine.proofs.Serving.{getattr-answer, getattr-bad}
@@ -12,12 +14,13 @@ pub returns-in-Some-clause-answer : goal.returns-in-Some-clause-answer
 returns-in-Some-clause-answer c =
     let root = c.args.held.now.root in
     let layout = layout_of c.args.layout.now in
-    subst (λ (k : Call). IsAnswer layout root (call_of k) (answer_of c.get_attributes.result)) (sym c.in-GetAttributes.is)
-    (getattr-answer layout root c.in-GetAttributes.handle _ (answer_of c.get_attributes.result) (sym c.named_by.ensures.named ∙ c.in-Some.is) (record { at_root = c.get_attributes.ensures.root; others = c.get_attributes.ensures.others }))
+    let told = result_of attributes_shown 0 c.get_attributes.result in
+    subst (λ (k : Call). IsAnswer layout root (call_of k) told) (sym c.in-GetAttributes.is)
+    (getattr-answer layout root c.in-GetAttributes.handle _ told (sym c.named_by.ensures.named ∙ ap (option_map named_of) c.in-Some.is) (record { at_root = c.get_attributes.ensures.root; others = c.get_attributes.ensures.others }))
 
 pub returns-in-None-clause-answer : goal.returns-in-None-clause-answer
 returns-in-None-clause-answer c =
     let root = c.args.held.now.root in
     let layout = layout_of c.args.layout.now in
     subst (λ (k : Call). IsAnswer layout root (call_of k) (types.Failed types.BadHandle 0)) (sym c.in-GetAttributes.is)
-    (getattr-bad layout root c.in-GetAttributes.handle (sym c.named_by.ensures.named ∙ c.in-None.is))
+    (getattr-bad layout root c.in-GetAttributes.handle (sym c.named_by.ensures.named ∙ ap (option_map named_of) c.in-None.is))

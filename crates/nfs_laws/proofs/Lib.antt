@@ -1,0 +1,20 @@
+mod Toy
+mod WorkedCalls
+mod WorkedEvents
+pub mod AtOnce
+pub mod Volumes
+pub mod Opening
+pub mod Lists
+pub mod Written
+pub mod Own
+pub mod Once
+pub mod Slots
+pub mod Needs
+pub mod Unchanged
+pub mod KeptByConnections
+pub mod KeptByWorkers
+pub mod Kept
+pub mod KeptByFeed
+pub mod Walked
+pub mod Counting
+pub mod KeptByBlocks

@@ -1,0 +1,125 @@
+-- The number of volumes stays, so a call without a home is answered the same on every server of a run.
+use Rattle.std.proofs.Common.{◌≡◌, ℕ, suc, ◌+◌, ◌*◌, Bool, true, false, List, [], ◌∷◌, length, Option, Some, None, slice_get, refl, sym, ap, ◌∙◌, ◌==◌, if◌then◌else◌, nat_lt}
+use Rattle.std.specs.Prelude.{slice_index_or}
+use Rattle.std.proofs.lemmas.List.{length-set}
+use Rattle.nfs_model.specs.Types.{Moment, Credential, Call, Null, Getattr, Setattr, Lookup, Read, Write, Create, Mkdir, Remove, Rmdir, Rename, Readdir, Fsstat, Commit, Census, Grow, Asked, Ask, Refused, Undecoded, Answer, Failed, GrowDone, Invalid, TooBig, NoSpace}
+use Rattle.nfs_model.specs.Tree.{Layout, VolumeLayout}
+use Rattle.nfs_model.specs.Server.{VolumeState, Server, opening_volumes}
+use Rattle.nfs_model.specs.Locate.{Effect, Fails, Tells, Changes, Located, locate, on_name}
+use Rattle.nfs_model.specs.Serial.Grow.{Grown, grown, grow_volume}
+use Rattle.nfs_model.specs.Serial.Getattr.{getattr}
+use Rattle.nfs_model.specs.Serial.Setattr.{setattr}
+use Rattle.nfs_model.specs.Serial.Lookup.{lookup}
+use Rattle.nfs_model.specs.Serial.Read.{read}
+use Rattle.nfs_model.specs.Serial.Write.{write}
+use Rattle.nfs_model.specs.Serial.Create.{create}
+use Rattle.nfs_model.specs.Serial.Mkdir.{mkdir}
+use Rattle.nfs_model.specs.Serial.Remove.{remove_name}
+use Rattle.nfs_model.specs.Serial.Rmdir.{rmdir}
+use Rattle.nfs_model.specs.Serial.Rename.{rename}
+use Rattle.nfs_model.specs.Serial.Readdir.{readdir}
+use Rattle.nfs_model.specs.Serial.Fsstat.{fsstat}
+use Rattle.nfs_model.specs.Serial.Commit.{commit}
+use Rattle.nfs_model.specs.Serial.Step.{Step, placed, stay, on, on_two, serve, serial}
+use Rattle.nfs_model.specs.Home.{home_of_asked}
+use Rattle.nfs_model.specs.Replay.{FinishedCall, step_of, server_after}
+use Rattle.nfs_model.specs.World.{Setup, Running}
+use Rattle.nfs_model.specs.Work.{Outcome, Replied, Starved, Moved}
+use Rattle.nfs_model.specs.Headline.{start, worked_by, server_worked}
+use Rattle.nfs_laws.proofs.AtOnce.{without_home_stays}
+
+abbrev pub volumes_in : Server → ℕ
+volumes_in server = length server.volumes
+
+module _ (server : Server) where
+  placed_counts : (absent i : ℕ) (x : Effect) → volumes_in (placed server absent i x).server ≡ volumes_in server
+  placed_counts absent i (Fails status) = refl
+  placed_counts absent i (Tells answer) = refl
+  placed_counts absent i (Changes answer v) = length-set server.volumes i v
+
+  on_counts : (absent : ℕ) (l : Option Located) (run : VolumeState → ℕ → Effect) → volumes_in (on server absent l run).server ≡ volumes_in server
+  on_counts absent None run = refl
+  on_counts absent (Some l) run = placed_counts absent l.named.volume (run l.volume l.named.fileid)
+
+  one_counts : (b : Bool) (s : Step) (answer : Answer) → volumes_in s.server ≡ volumes_in server → volumes_in (if b then s else stay server answer).server ≡ volumes_in server
+  one_counts true s answer e = e
+  one_counts false s answer e = refl
+
+  two_counts : (absent : ℕ) (from to : Option Located) (run : VolumeState → ℕ → ℕ → Effect) → volumes_in (on_two server absent from to run).server ≡ volumes_in server
+  two_counts absent None to run = refl
+  two_counts absent (Some from) None run = refl
+  two_counts absent (Some from) (Some to) run =
+      one_counts (from.named.volume == to.named.volume) _ _ (placed_counts absent from.named.volume (run from.volume from.named.fileid to.named.fileid))
+
+  grow_if : (p q r : Bool) (x y z : Answer) (g : Grown) → volumes_in g.server ≡ volumes_in server
+      → volumes_in (if p then record { answer = x; server = server } else if q then record { answer = y; server = server } else if r then record { answer = z; server = server } else g).server ≡ volumes_in server
+  grow_if true q r x y z g e = refl
+  grow_if false true r x y z g e = refl
+  grow_if false false true x y z g e = refl
+  grow_if false false false x y z g e = e
+
+  grow_counts : (i : ℕ) (o : Option VolumeState) (ranges : ℕ) → volumes_in (grow_volume server i o ranges).server ≡ volumes_in server
+  grow_counts i None ranges = refl
+  grow_counts i (Some v) ranges =
+      grow_if (ranges == 0) (nat_lt 16384 (v.total + 1024 * ranges)) (nat_lt (slice_index_or server.spare v.aggregate 0) ranges) (Failed Invalid 0) (Failed TooBig 0) (Failed NoSpace 0)
+      (record { answer = GrowDone (v.total + 1024 * ranges); server = grown server i v ranges }) (length-set server.volumes i (record v { total = v.total + 1024 * ranges }))
+
+  serve_counts : (call : Call) (credential : Credential) (moment : Moment) → volumes_in (serve server call credential moment).server ≡ volumes_in server
+  serve_counts Null credential moment = refl
+  serve_counts (Getattr handle) credential moment = on_counts 0 (locate server handle) getattr
+  serve_counts (Setattr handle set guard) credential moment = on_counts 2 (locate server handle) (setattr set guard moment)
+  serve_counts (Lookup directory name) credential moment = on_counts 1 (locate server directory) (on_name name moment lookup)
+  serve_counts (Read handle offset count) credential moment = on_counts 1 (locate server handle) (read offset count)
+  serve_counts (Write handle offset count written) credential moment =
+      on_counts 2 (locate server handle) (write (record { offset = offset; count = count; written = written; moment = moment }))
+  serve_counts (Create directory name mode) credential moment = on_counts 2 (locate server directory) (on_name name moment (create mode credential))
+  serve_counts (Mkdir directory name set) credential moment = on_counts 2 (locate server directory) (on_name name moment (mkdir set credential))
+  serve_counts (Remove directory name) credential moment = on_counts 2 (locate server directory) (on_name name moment remove_name)
+  serve_counts (Rmdir directory name) credential moment = on_counts 2 (locate server directory) (on_name name moment rmdir)
+  serve_counts (Rename from from_name to to_name) credential moment = two_counts 4 (locate server from) (locate server to) (rename from_name to_name moment)
+  serve_counts (Readdir directory cookie verifier count) credential moment = on_counts 1 (locate server directory) (readdir cookie verifier count)
+  serve_counts (Fsstat handle) credential moment = on_counts 1 (locate server handle) fsstat
+  serve_counts (Commit handle) credential moment = on_counts 2 (locate server handle) commit
+  serve_counts Census credential moment = refl
+  serve_counts (Grow volume ranges) credential moment = grow_counts volume (slice_get server.volumes volume) ranges
+
+  -- a call on the serial server keeps the number of volumes
+  pub serial_counts : (asked : Asked) (moment : Moment) (starved : Bool) → volumes_in (serial server asked moment starved).server ≡ volumes_in server
+  serial_counts asked moment true = refl
+  serial_counts (Ask call credential) moment false = serve_counts call credential moment
+  serial_counts (Refused reply) moment false = refl
+  serial_counts Undecoded moment false = refl
+
+opening_counts : (verifier : List ℕ) (number : ℕ) (layout : List VolumeLayout) → length (opening_volumes verifier number layout) ≡ length layout
+opening_counts verifier number [] = refl
+opening_counts verifier number (v ∷ vs) = ap suc (opening_counts verifier (number + 1) vs)
+
+pub start_counts : (setup : Setup) → length setup.layout.volumes ≡ volumes_in (start setup)
+start_counts setup = sym (opening_counts setup.verifier 0 setup.layout.volumes)
+
+pub after_counts : (server : Server) (es : List FinishedCall) → volumes_in (server_after server es) ≡ volumes_in server
+after_counts server [] = refl
+after_counts server (e ∷ es) = after_counts (step_of server e).server es ∙ serial_counts server e.asked e.moment e.starved
+
+worked_counts : (server : Server) (r : Running) (o : Option Outcome) → volumes_in (worked_by server r o) ≡ volumes_in server
+worked_counts server r None = refl
+worked_counts server r (Some (Replied reply)) = serial_counts server r.message.asked r.moment false
+worked_counts server r (Some Starved) = refl
+worked_counts server r (Some (Moved a)) = refl
+
+pub all_worked_count : (server : Server) (rs : List Running) → volumes_in (server_worked server rs) ≡ volumes_in server
+all_worked_count server [] = refl
+all_worked_count server (r ∷ rs) = all_worked_count (worked_by server r r.outcome) rs ∙ worked_counts server r r.outcome
+
+-- ---- answered at once
+
+module _ (layout : Layout) (a b : Server) (moment : Moment) (in_a : length layout.volumes ≡ volumes_in a) (in_b : length layout.volumes ≡ volumes_in b) where
+  pub at_once_same : (asked : Asked) → home_of_asked layout asked ≡ None → (serial a asked moment false).reply ≡ (serial b asked moment false).reply
+  at_once_same (Ask call credential) e = ap (λ (s : Step). s.reply) (without_home_stays layout a credential moment call in_a e) ∙ sym (ap (λ (s : Step). s.reply) (without_home_stays layout b credential moment call in_b e))
+  at_once_same (Refused reply) e = refl
+  at_once_same Undecoded e = refl
+
+  pub at_once_stays : (asked : Asked) → home_of_asked layout asked ≡ None → (serial b asked moment false).server ≡ b
+  at_once_stays (Ask call credential) e = ap (λ (s : Step). s.server) (without_home_stays layout b credential moment call in_b e)
+  at_once_stays (Refused reply) e = refl
+  at_once_stays Undecoded e = refl

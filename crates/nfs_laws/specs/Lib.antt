@@ -1,0 +1,2 @@
+pub mod Walk
+pub mod lemmas

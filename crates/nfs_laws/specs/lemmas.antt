@@ -1,0 +1,2 @@
+-- Lemmas that other crates cite.
+pub mod Evaluate

@@ -1,0 +1,82 @@
+//! What holds of the definitions.
+
+ghost use Rattle.std.specs.Prelude.{◌≡◌, true, None, Result, List, ℕ, [], ◌∷◌, ◌++◌, length, slice_get};
+ghost use Rattle.nfs_model.specs.Types.{Call, Credential, Moment};
+ghost use Rattle.nfs_model.specs.Tree.{Layout};
+ghost use Rattle.nfs_model.specs.Server.{Server};
+ghost use Rattle.nfs_model.specs.Home.{home};
+ghost use Rattle.nfs_model.specs.Serial.Step.{serve, stay};
+ghost use Rattle.nfs_model.specs.Serial.AtOnce.{answer_without_home};
+ghost use Rattle.nfs_model.specs.World.{Setup, World, IsScan};
+ghost use Rattle.nfs_model.specs.Events.Feed.{Feeds};
+ghost use Rattle.nfs_model.specs.Events.Refusals.{Event, Done, takes_input};
+ghost use Rattle.nfs_model.specs.Events.Step.{Events, Runs};
+ghost use Rattle.nfs_model.specs.Headline.{Kept, opening_world};
+ghost use Rattle.nfs_model.specs.Agreed.{IsAgreed};
+ghost use Rattle.nfs_model.specs.ReadOnly.{IsReadOnly};
+ghost use Rattle.nfs_laws.specs.Walk.{Walks};
+
+/// A run begins within the headline.
+pub fn opening_meets_headline()
+    ensures { (setup : Setup) → Kept setup (opening_world setup) }
+{}
+
+/// A call without a home affinity reads no state and changes nothing.
+pub fn without_home_stays()
+    ensures { (layout : Layout) (server : Server) (credential : Credential) (moment : Moment) (call : Call)
+        → length layout.volumes ≡ length server.volumes
+        → home layout call ≡ None
+        → serve server call credential moment ≡ stay server (answer_without_home layout call) }
+{}
+
+/// An event keeps the headline, refused or not, for any number of workers, where the calls that run
+/// after it don't disturb each other.
+pub fn events_keep_headline()
+    ensures { (setup : Setup) (old : World) (event : Event) (answer : Result Done ℕ) (new : World)
+        → IsScan setup.codec
+        → Kept setup old
+        → IsAgreed setup new
+        → Events setup old event answer new
+        → Kept setup new }
+{}
+
+/// Calls that change nothing don't disturb each other, after any event.
+pub fn readings_agree()
+    ensures { (setup : Setup) (old : World) (event : Event) (answer : Result Done ℕ) (new : World)
+        → IsReadOnly setup
+        → IsScan setup.codec
+        → Kept setup old
+        → Events setup old event answer new
+        → IsAgreed setup new }
+{}
+
+/// So a whole run of such calls keeps the headline, from its beginning on.
+pub fn runs_meet_headline()
+    ensures { (setup : Setup) (events : List Event) (new : World)
+        → IsReadOnly setup
+        → IsScan setup.codec
+        → Runs setup (opening_world setup) events new
+        → Kept setup new }
+{}
+
+/// A run goes on by one event.
+pub fn runs_go_on()
+    ensures { (setup : Setup) (old : World) (events : List Event) (middle : World) (event : Event) (answer : Result Done ℕ) (new : World)
+        → Runs setup old events middle
+        → Events setup middle event answer new
+        → Runs setup old (events ++ event ∷ []) new }
+{}
+
+/// What a feed does can be told byte by byte.
+pub fn feeds_are_walks()
+    ensures walks { (setup : Setup) (w : World) (connection : ℕ) (bytes : List ℕ) (taken stop : ℕ) (new : World)
+        → IsScan setup.codec
+        → takes_input setup (slice_get w.connections connection) ≡ true
+        → Feeds setup connection w bytes taken stop new
+        → Walks setup connection w bytes taken stop new }
+    ensures feeds { (setup : Setup) (w : World) (connection : ℕ) (bytes : List ℕ) (taken stop : ℕ) (new : World)
+        → IsScan setup.codec
+        → takes_input setup (slice_get w.connections connection) ≡ true
+        → Walks setup connection w bytes taken stop new
+        → Feeds setup connection w bytes taken stop new }
+{}

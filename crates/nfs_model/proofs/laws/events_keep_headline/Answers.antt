@@ -1,6 +1,0 @@
-use Rattle.nfs_model.proofs.Unchanged.{read_only_agrees}
-use Rattle.nfs_model.proofs.Kept.{keeps}
-use Rattle.nfs_model.proofs.laws.events_keep_headline.Goals as goal
-
-pub returns : goal.returns
-returns c = λ setup old event answer new only scan h e. keeps setup (read_only_agrees setup only) scan old event answer new e h

@@ -1,0 +1,22 @@
+-- How many optional parts a failure of a procedure has in its results, all absent: so many zero words (our profile; RFC 1813 section 3.3 has the results).
+use Rattle.std.specs.Prelude.{ℕ}
+use Rattle.nfs_model.specs.Types.{Call, Null, Getattr, Setattr, Lookup, Read, Write, Create, Mkdir, Remove, Rmdir, Rename, Readdir, Fsstat, Commit, Census, Grow}
+
+-- attributes are one, attributes before and after are two
+abbrev pub absent_parts : Call → ℕ
+absent_parts Null = 0
+absent_parts (Getattr handle) = 0
+absent_parts (Setattr handle set guard) = 2
+absent_parts (Lookup directory name) = 1
+absent_parts (Read handle offset count) = 1
+absent_parts (Write handle offset count written) = 2
+absent_parts (Create directory name mode) = 2
+absent_parts (Mkdir directory name set) = 2
+absent_parts (Remove directory name) = 2
+absent_parts (Rmdir directory name) = 2
+absent_parts (Rename from from_name to to_name) = 4
+absent_parts (Readdir directory cookie verifier count) = 1
+absent_parts (Fsstat handle) = 1
+absent_parts (Commit handle) = 2
+absent_parts Census = 0
+absent_parts (Grow volume ranges) = 0

@@ -1,0 +1,126 @@
+-- How many bytes the results of each procedure take.
+use Rattle.std.proofs.Common.{◌≡◌, ℕ, ◌+◌, ◌-◌, ◌*◌, ◌≤◌, Bool, true, false, cond, List, [], ◌∷◌, ◌++◌, length, map, replicate, refl, ap, ◌∙◌, arith}
+use Rattle.std.specs.Prelude.{nat_le}
+use Rattle.std.specs.List.{flat_map}
+use Rattle.std.proofs.lemmas.Bool.{leb-true}
+use Rattle.std.proofs.lemmas.List.{length-append, length-replicate}
+use Rattle.xdr.specs.Shape.{Chain, Boolean, word, hyper, flag, padding, padded, linked, spelling}
+use Rattle.nfs_model.specs.Types as model
+use Rattle.nfs_model.specs.Server.{handle_bytes}
+use Rattle.nfs_model.specs.Serial.Readdir.{entry_size, fitting}
+use Rattle.nfs_types.specs.Shapes.{◌&◌}
+use Rattle.nfs_types.specs.Results.{entry_shape, entry_value, count_shape, count_value, answer_bytes}
+use Rattle.nfs_types.proofs.Absent.{length-absent_parts}
+use Rattle.rpc_msg.specs.Replies.{reply_record}
+use Rattle.rpc_msg.specs.Room.{padded_size, lookup_room, made_room, change_room}
+
+-- ---- bytes with their padding
+
+padded_is : (n : ℕ) → n + padding n ≡ padded_size n
+padded_is n = omega arith
+
+padded_more : (n m : ℕ) → n ≤ m → padded_size n ≤ padded_size m
+padded_more n m h = omega arith
+
+pub length-padded : (bytes : List ℕ) → length (padded bytes) ≡ padded_size (length bytes)
+length-padded bytes =
+    length-append bytes (replicate (padding (length bytes)) 0)
+    ∙ ap (λ (k : ℕ). length bytes + k) (length-replicate (padding (length bytes)) 0)
+    ∙ padded_is (length bytes)
+
+-- ---- answers of one size
+
+-- the results take at most so many bytes
+pub record Takes (n : ℕ) (answer : model.Answer) : Type 0 where
+  pub bytes : length (answer_bytes answer) ≤ n
+
+pub getattr_size : (a : model.Shown) → Takes 88 (model.GetattrDone a)
+getattr_size a = record { bytes = omega arith }
+
+pub setattr_size : (w : model.Wcc) → Takes (4 + change_room) (model.SetattrDone w)
+setattr_size w = record { bytes = omega arith }
+
+pub lookup_size : (volume fileid : ℕ) (a b : model.Shown) → Takes lookup_room (model.LookupDone (handle_bytes volume fileid) a b)
+lookup_size volume fileid a b = record { bytes = omega arith }
+
+pub made_size : (volume fileid : ℕ) (a : model.Shown) (w : model.Wcc) → Takes made_room (model.MadeDone (handle_bytes volume fileid) a w)
+made_size volume fileid a w = record { bytes = omega arith }
+
+pub gone_size : (w : model.Wcc) → Takes (4 + change_room) (model.GoneDone w)
+gone_size w = record { bytes = omega arith }
+
+pub rename_size : (v w : model.Wcc) → Takes (4 + change_room + change_room) (model.RenameDone v w)
+rename_size v w = record { bytes = omega arith }
+
+pub fsstat_size : (a : model.Shown) (s : model.Space) → Takes 144 (model.FsstatDone a s)
+fsstat_size a s = record { bytes = omega arith }
+
+pub grow_size : (total : ℕ) → Takes 12 (model.GrowDone total)
+grow_size total = record { bytes = omega arith }
+
+pub failed_size : (status : model.Status) (absent : ℕ) → length (answer_bytes (model.Failed status absent)) ≡ 4 + 4 * absent
+failed_size status absent = omega (arith, length-absent_parts absent)
+
+-- ---- with a verifier of 8 bytes
+
+eight : (verifier : List ℕ) → length verifier ≡ 8 → length (padded verifier) ≡ 8
+eight verifier e = length-padded verifier ∙ ap padded_size e
+
+pub write_size : (count : ℕ) (verifier : List ℕ) → length verifier ≡ 8 → Takes 28 (model.WriteDone count verifier)
+write_size count verifier e = record { bytes = omega (arith, eight verifier e) }
+
+pub commit_size : (w : model.Wcc) (verifier : List ℕ) → length verifier ≡ 8 → Takes (4 + change_room + 8) (model.CommitDone w verifier)
+commit_size w verifier e = record { bytes = omega (arith, eight verifier e) }
+
+-- ---- bytes that were read
+
+pub read_size : (count : ℕ) (eof : Bool) (bytes : List ℕ) (most : ℕ) → length bytes ≤ most → Takes (20 + padded_size most) (model.ReadDone count eof bytes)
+read_size count eof bytes most h = record { bytes = omega (arith, length-padded bytes, padded_more (length bytes) most h) }
+
+-- ---- entries
+
+-- the bytes of entries, without the flags of the list's end
+abbrev pub entries_size : List model.Listed → ℕ
+entries_size [] = 0
+entries_size (e ∷ es) = entry_size e + entries_size es
+
+length-entry : (e : model.Listed) → length (spelling entry_shape (entry_value e)) + 4 ≡ entry_size e
+length-entry e = omega (arith, length-append (padded e.name) (hyper e.cookie), length-padded e.name)
+
+pub length-entries : (es : List model.Listed) → length (linked (λ v. spelling entry_shape v) (map entry_value es)) ≡ 4 + entries_size es
+length-entries [] = refl
+length-entries (e ∷ es) =
+    omega (arith, length-entries es, length-entry e, length-append (spelling entry_shape (entry_value e)) (linked (λ v. spelling entry_shape v) (map entry_value es)))
+
+pub readdir_size : (directory : model.Shown) (page : List model.Listed) (eof : Bool) → length (answer_bytes (model.ReaddirDone directory page eof)) ≡ 108 + entries_size page
+readdir_size directory page eof =
+    let chain = linked (λ v. spelling entry_shape v) (map entry_value page) in
+    let rest = spelling (Chain entry_shape & Boolean) (map entry_value page, eof) in
+    let verifier = padded (replicate 8 0) in
+    let front : length (verifier ++ rest) ≡ 8 + length rest = length-append verifier rest in
+    omega (arith, front, length-entries page, length-append chain (word (flag eof)))
+
+fitting_by : (b : Bool) (e : model.Listed) (rest : List model.Listed) (room : ℕ) → (b ≡ true → entry_size e ≤ room) → entries_size rest ≤ room - entry_size e → entries_size (cond b (e ∷ rest) []) ≤ room
+fitting_by true e rest room h le =
+    let fits : entry_size e ≤ room = h refl in
+    omega (arith, fits, le)
+fitting_by false e rest room h le = omega arith
+
+pub fitting_fits : (es : List model.Listed) (room : ℕ) → entries_size (fitting room es) ≤ room
+fitting_fits [] room = omega arith
+fitting_fits (e ∷ es) room = fitting_by (nat_le (entry_size e) room) e (fitting (room - entry_size e) es) room (leb-true (entry_size e) room) (fitting_fits es (room - entry_size e))
+
+-- ---- counts of volumes
+
+pub length-counts : (volumes : List model.VolumeCount) → length (flat_map (λ v. spelling count_shape v) (map count_value volumes)) ≡ 20 * length volumes
+length-counts [] = refl
+length-counts (v ∷ vs) =
+    omega (arith, length-counts vs, length-append (spelling count_shape (count_value v)) (flat_map (λ v. spelling count_shape v) (map count_value vs)))
+
+pub census_size : (volumes : List model.VolumeCount) → length (answer_bytes (model.CensusDone volumes)) ≡ 4 + 20 * length volumes
+census_size volumes = omega (arith, length-counts volumes)
+
+-- ---- records
+
+pub success_size : (xid : ℕ) (answer : model.Answer) → length (reply_record xid (model.Success answer)) ≡ 28 + length (answer_bytes answer)
+success_size xid answer = omega arith

@@ -1,0 +1,8 @@
+use Rattle.rpc_msg.proofs.Refusals.{refusal_refuses, refusal_fits}
+use Rattle.rpc_msg.proofs.laws.refusals_fit.Goals as goal
+
+pub returns-clause-refuses : goal.returns-clause-refuses
+returns-clause-refuses c = refusal_refuses
+
+pub returns-clause-room : goal.returns-clause-room
+returns-clause-room c = refusal_fits

@@ -1,0 +1,167 @@
+-- What a record is heard as, in words of the spellings that it begins with (RFC 5531 sections 8.2 and 9); the chain of checks that reads it is apart, in Heads.
+use Rattle.std.specs.Prelude.{◌≡◌, ◌≢◌, ℕ, ◌+◌, ◌≤◌, ◌<◌, true, List, ◌++◌, length, ◌⊎◌, Some, None, Result, Ok, Err}
+use Rattle.xdr.specs.Shape.{Shape, Word, Fixed, Value, Fits, Spells, padding, spelling}
+use Rattle.nfs_model.specs.Types as model
+use Rattle.nfs_model.specs.World.{Heard}
+use Rattle.nfs_values.specs.declared.procedure.Procedure.{Procedure}
+use Rattle.nfs_values.specs.Procedure.{is_served, numbers_of}
+use Rattle.nfs_types.specs.Arguments.{Asks}
+use Rattle.nfs_types.specs.Shapes.{◌&◌}
+use Rattle.rpc_msg.specs.Replies.{auth_shape}
+use Rattle.rpc_msg.specs.Heads.{numbers_shape, auth_sys_shape, version_of}
+use Rattle.rpc_msg.specs.Calls.{ActsFor, IsCall, call_shape, call_value}
+
+-- ---- beginnings
+
+-- The bytes begin with the spelling of a value, and these follow.
+pub record Begins (shape : Shape) (v : Value shape) (bytes rest : List ℕ) : Type 0 where
+  pub fits : Fits shape v
+  pub parts : bytes ≡ spelling shape v ++ rest
+
+-- The bytes begin with no spelling of the type.
+abbrev pub BeginsNone : Shape → List ℕ → Type 0
+BeginsNone shape bytes = (v : Value shape) (rest : List ℕ) → Begins shape v bytes rest → ⊥
+
+-- xid, CALL 0, rpcvers 2, and the five words before the body of cred (sections 8.2 and 9)
+abbrev pub Opens : List ℕ → ℕ → Value numbers_shape → List ℕ → Type 0
+Opens bytes xid n rest = Begins (Word & Word & Word & numbers_shape) (xid, (0, (2, n))) bytes rest
+
+-- flavor and length of cred, among those words
+abbrev pub flavor_of : Value numbers_shape → ℕ
+flavor_of n = n.1.1.1.0
+
+abbrev pub size_of : Value numbers_shape → ℕ
+size_of n = n.1.1.1.1
+
+-- the body of a credential, which acts for a user (sections 8.2 and 10.1, appendix A)
+pub record Acts (flavor size : ℕ) (bytes : List ℕ) (who : model.Credential) (rest : List ℕ) : Type 0 where
+  pub body : List ℕ
+  pub small : size ≤ 400
+  pub begins : Begins (Fixed size) body bytes rest
+  pub acts_for : ActsFor (flavor, body) who
+
+-- a head that is all there, and then the arguments (section 9)
+pub record IsHead (bytes : List ℕ) (xid program version number : ℕ) (who : model.Credential) (arguments : List ℕ) : Type 0 where
+  pub cred : Value auth_shape
+  pub verf : Value auth_shape
+  pub acts_for : ActsFor cred who
+  pub begins : Begins call_shape (call_value xid (program, number) version cred verf) bytes arguments
+
+-- ---- faults
+
+-- The head isn't all there: fault 12 (our profile).
+pub data IsIncomplete (bytes : List ℕ) : Type 0 where
+  NoMessage : BeginsNone (Word & Word) bytes → IsIncomplete bytes
+  NoVersion : (xid : ℕ) (rest : List ℕ) → Begins (Word & Word) (xid, 0) bytes rest → BeginsNone Word rest → IsIncomplete bytes
+  NoNumbers : (xid : ℕ) (rest : List ℕ) → Begins (Word & Word & Word) (xid, (0, 2)) bytes rest → BeginsNone numbers_shape rest → IsIncomplete bytes
+  NoBody : (xid : ℕ) (n : Value numbers_shape) (rest : List ℕ) → Opens bytes xid n rest → flavor_of n ≤ 1 → size_of n ≤ 400 → length rest < size_of n + padding (size_of n) → IsIncomplete bytes
+  NoVerifier : (xid : ℕ) (n : Value numbers_shape) (rest more : List ℕ) (who : model.Credential) → Opens bytes xid n rest → Acts (flavor_of n) (size_of n) rest who more → BeginsNone auth_shape more → IsIncomplete bytes
+
+-- The message is no call: fault 13 (our profile; section 9).
+pub record IsNoCall (bytes : List ℕ) : Type 0 where
+  pub xid : ℕ
+  pub kind : ℕ
+  pub rest : List ℕ
+  pub begins : Begins (Word & Word) (xid, kind) bytes rest
+  pub other : kind ≢ 0
+
+-- ---- refusals
+
+-- rpcvers isn't 2: RPC_MISMATCH (section 9)
+pub record IsOfAnotherRpc (bytes : List ℕ) (xid : ℕ) : Type 0 where
+  pub version : ℕ
+  pub rest : List ℕ
+  pub begins : Begins (Word & Word & Word) (xid, (0, version)) bytes rest
+  pub other : version ≢ 2
+
+-- cred is neither AUTH_NONE 0 nor AUTH_SYS 1: AUTH_REJECTEDCRED (sections 9 and 10)
+pub record HasAnotherFlavor (bytes : List ℕ) (xid : ℕ) : Type 0 where
+  pub numbers : Value numbers_shape
+  pub rest : List ℕ
+  pub opens : Opens bytes xid numbers rest
+  pub other : 1 < flavor_of numbers
+
+-- A body of cred is over 400 bytes, or its padding isn't zero (section 8.2), or it is of AUTH_SYS and no authsys_parms (appendix A).
+pub data IsBadBody (flavor size : ℕ) (rest : List ℕ) : Type 0 where
+  TooLong : 400 < size → IsBadBody flavor size rest
+  BadPadding : size ≤ 400 → size + padding size ≤ length rest → BeginsNone (Fixed size) rest → IsBadBody flavor size rest
+  NoUser : (body more : List ℕ) → size ≤ 400 → Begins (Fixed size) body rest more → flavor ≡ 1 → ((v : Value auth_sys_shape) → Spells auth_sys_shape v body → ⊥) → IsBadBody flavor size rest
+
+-- cred is such: AUTH_BADCRED (section 9)
+pub record HasBadCredential (bytes : List ℕ) (xid : ℕ) : Type 0 where
+  pub numbers : Value numbers_shape
+  pub rest : List ℕ
+  pub opens : Opens bytes xid numbers rest
+  pub known : flavor_of numbers ≤ 1
+  pub bad : IsBadBody (flavor_of numbers) (size_of numbers) rest
+
+-- the program isn't served: PROG_UNAVAIL (section 9)
+pub record IsOfNoProgram (bytes : List ℕ) (xid : ℕ) : Type 0 where
+  pub program : ℕ
+  pub version : ℕ
+  pub number : ℕ
+  pub who : model.Credential
+  pub arguments : List ℕ
+  pub head : IsHead bytes xid program version number who arguments
+  pub none : version_of program ≡ None
+
+-- another version of the program is served: PROG_MISMATCH (section 9)
+pub record IsOfAnotherVersion (bytes : List ℕ) (xid served : ℕ) : Type 0 where
+  pub program : ℕ
+  pub version : ℕ
+  pub number : ℕ
+  pub who : model.Credential
+  pub arguments : List ℕ
+  pub head : IsHead bytes xid program version number who arguments
+  pub served_is : version_of program ≡ Some served
+  pub other : version ≢ served
+
+-- no procedure of the number is served: PROC_UNAVAIL (section 9)
+pub record IsOfNoProcedure (bytes : List ℕ) (xid : ℕ) : Type 0 where
+  pub program : ℕ
+  pub version : ℕ
+  pub number : ℕ
+  pub who : model.Credential
+  pub arguments : List ℕ
+  pub head : IsHead bytes xid program version number who arguments
+  pub served_is : version_of program ≡ Some version
+  pub none : (p : Procedure) → is_served p ≡ true → numbers_of p ≢ (program, number)
+
+-- The arguments are no spelling, or bytes are left: GARBAGE_ARGS (section 9).
+pub record HasGarbage (bytes : List ℕ) (xid : ℕ) : Type 0 where
+  pub procedure : Procedure
+  pub who : model.Credential
+  pub arguments : List ℕ
+  pub head : IsCall bytes xid procedure who arguments
+  pub none : (call : model.Call) → Asks procedure arguments call → ⊥
+
+-- ---- calls
+
+-- the record asks a call for a user
+pub record IsAsking (bytes : List ℕ) (xid : ℕ) (call : model.Call) (who : model.Credential) : Type 0 where
+  pub procedure : Procedure
+  pub arguments : List ℕ
+  pub head : IsCall bytes xid procedure who arguments
+  pub asks : Asks procedure arguments call
+
+-- ---- all together
+
+abbrev pub IsRefusedWith : List ℕ → ℕ → model.Reply → Type 0
+IsRefusedWith bytes xid (model.RpcMismatch low high) = (low ≡ 2) × (high ≡ 2) × IsOfAnotherRpc bytes xid
+IsRefusedWith bytes xid (model.AuthError number) = ((number ≡ 1) × HasBadCredential bytes xid) ⊎ ((number ≡ 2) × HasAnotherFlavor bytes xid)
+IsRefusedWith bytes xid model.ProgramUnavailable = IsOfNoProgram bytes xid
+IsRefusedWith bytes xid (model.ProgramMismatch low high) = (low ≡ high) × IsOfAnotherVersion bytes xid low
+IsRefusedWith bytes xid model.ProcedureUnavailable = IsOfNoProcedure bytes xid
+IsRefusedWith bytes xid model.GarbageArguments = HasGarbage bytes xid
+IsRefusedWith bytes xid model.SystemError = ⊥
+IsRefusedWith bytes xid (model.Success answer) = ⊥
+
+abbrev pub Says : List ℕ → ℕ → model.Asked → Type 0
+Says bytes xid (model.Ask call who) = IsAsking bytes xid call who
+Says bytes xid (model.Refused reply) = IsRefusedWith bytes xid reply
+Says bytes xid model.Undecoded = ⊥
+
+-- what a record is heard as, or the number of its fault
+abbrev pub IsHeardAs : List ℕ → Result Heard ℕ → Type 0
+IsHeardAs bytes (Ok h) = Says bytes h.xid h.asked
+IsHeardAs bytes (Err number) = ((number ≡ 12) × IsIncomplete bytes) ⊎ ((number ≡ 13) × IsNoCall bytes)

@@ -1,0 +1,64 @@
+-- The room of a reply: the most bytes that its record takes, whatever the server answers.
+use Rattle.std.specs.Prelude.{◌≡◌, ℕ, ◌+◌, ◌*◌, ◌/◌, min, max, ◌≤◌, length, Some, slice_get}
+use Rattle.nfs_model.specs.Types as model
+use Rattle.nfs_model.specs.Server.{VolumeState, Server, most_bytes}
+
+-- a record's header, and a reply as far as its accept_stat (RFC 5531 sections 9 and 11)
+abbrev pub head_room : ℕ
+head_room = 28
+
+-- what RPC refuses: no arm is longer than two versions (RFC 5531 section 9)
+abbrev pub refusal_room : ℕ
+refusal_room = head_room + 8
+
+-- bytes and their padding (RFC 4506 section 4.10)
+abbrev pub padded_size : ℕ → ℕ
+padded_size n = 4 * ((n + 3) / 4)
+
+-- status, the handle, and one node's attributes twice (RFC 1813 section 3.3.3)
+abbrev pub lookup_room : ℕ
+lookup_room = 4 + 16 + 88 + 88
+
+-- status, no attributes, count, eof and the bytes (RFC 1813 section 3.3.6)
+abbrev pub read_room : ℕ → ℕ
+read_room count = 4 + 4 + 4 + 4 + 4 + padded_size (min count most_bytes)
+
+-- the attributes of a node before and after (RFC 1813 section 2.6)
+abbrev pub change_room : ℕ
+change_room = 28 + 88
+
+-- status, the handle and the attributes of what was made, and its directory's change (RFC 1813 section 3.3.8)
+abbrev pub made_room : ℕ
+made_room = 4 + 20 + 88 + change_room
+
+-- status, and as many bytes as are asked for, or a failure without attributes (RFC 1813 section 3.3.16)
+abbrev pub readdir_room : ℕ → ℕ
+readdir_room count = 4 + max 4 (min count most_bytes)
+
+-- The most bytes of the results of a call, where there are so many volumes (RFC 1813 section 3.3).
+abbrev pub results_room : ℕ → model.Call → ℕ
+results_room volumes model.Null = 0
+results_room volumes (model.Getattr handle) = 4 + 84
+results_room volumes (model.Setattr handle set guard) = 4 + change_room
+results_room volumes (model.Lookup directory name) = lookup_room
+results_room volumes (model.Read handle offset count) = read_room count
+results_room volumes (model.Write handle offset count written) = 4 + 8 + 4 + 4 + 8
+results_room volumes (model.Create directory name mode) = made_room
+results_room volumes (model.Mkdir directory name set) = made_room
+results_room volumes (model.Remove directory name) = 4 + change_room
+results_room volumes (model.Rmdir directory name) = 4 + change_room
+results_room volumes (model.Rename from from_name to to_name) = 4 + change_room + change_room
+results_room volumes (model.Readdir directory cookie verifier count) = readdir_room count
+results_room volumes (model.Fsstat handle) = 4 + 88 + 6 * 8 + 4
+results_room volumes (model.Commit handle) = 4 + change_room + 8
+results_room volumes model.Census = 4 + 20 * volumes
+results_room volumes (model.Grow volume ranges) = 4 + 8
+
+-- the most bytes of the record of the reply to a call, where there are so many volumes
+abbrev pub reply_room : ℕ → model.Call → ℕ
+reply_room volumes call = head_room + results_room volumes call
+
+-- Each write verifier is 8 bytes, and there are at most so many volumes.
+pub record IsRoomy (volumes : ℕ) (server : Server) : Type 0 where
+  pub few : length server.volumes ≤ volumes
+  pub verifiers : (i : ℕ) (volume : VolumeState) → slice_get server.volumes i ≡ Some volume → length volume.verifier ≡ 8

@@ -1,0 +1,59 @@
+//! The room of a reply.
+
+ghost use Rattle.std.specs.Prelude.{◌≡◌, ◌+◌, ◌*◌, ◌≤◌};
+ghost use Rattle.nfs_values.specs.Call.{call_of};
+ghost use Rattle.rpc_msg.specs.Room.{padded_size, reply_room, results_room};
+
+use nfs_values::Call;
+
+/// A record's header, and a reply as far as its accept_stat (RFC 5531 sections 9 and 11).
+const HEAD_ROOM: usize = 28;
+
+/// The most bytes of the record of a reply that refuses a record, or that says that memory ran out.
+pub const REFUSAL_ROOM: usize = 36;
+
+/// Larger counts of bytes are taken as this.
+const COUNT_LIMIT: u32 = 65_536;
+
+/// The attributes of a node before and after, each behind its flag (RFC 1813 section 2.6).
+const CHANGE_ROOM: usize = 28 + 88;
+
+/// Bytes with their padding.
+fn padded_size(count: u32) -> usize
+    ensures { result ≡ padded_size count }
+{
+    (count as usize + 3) / 4 * 4
+}
+
+/// The most bytes of the results of a call, where there are so many volumes.
+fn results_room(call: &Call, volumes: u32) -> usize
+    ensures { result ≡ results_room volumes (call_of call.now) }
+{
+    match call {
+        Call::Null => 0,
+        Call::GetAttributes { .. } => 4 + 84,
+        Call::SetAttributes { .. } => 4 + CHANGE_ROOM,
+        Call::Lookup(_) => 4 + 16 + 88 + 88,
+        Call::Read { count, .. } => 20 + padded_size((*count).min(COUNT_LIMIT)),
+        Call::Write { .. } => 4 + 8 + 4 + 4 + 8,
+        Call::Create { .. } => 4 + 20 + 88 + CHANGE_ROOM,
+        Call::MakeDirectory { .. } => 4 + 20 + 88 + CHANGE_ROOM,
+        Call::Remove(_) => 4 + CHANGE_ROOM,
+        Call::RemoveDirectory(_) => 4 + CHANGE_ROOM,
+        Call::ReadDirectory { count, .. } => 4 + (*count).clamp(4, COUNT_LIMIT) as usize,
+        Call::FilesystemStatus { .. } => 4 + 88 + 6 * 8 + 4,
+        Call::Commit { .. } => 4 + CHANGE_ROOM + 8,
+        Call::Census => 4 + 20 * volumes as usize,
+        Call::Grow { .. } => 4 + 8,
+    }
+}
+
+/// The most bytes that the record of the reply to a call takes, where there are so many volumes:
+/// a READ's by its count, a READDIR's by its count, a CENSUS's by the volumes, and of other calls
+/// always the same. The record of a reply that says that memory ran out fits too.
+pub fn room_of_reply(call: &Call, volumes: u32) -> usize
+    ensures room { result ≡ reply_room volumes (call_of call.now) }
+    ensures most { result ≤ 65_584 + 20 * volumes }
+{
+    HEAD_ROOM + results_room(call, volumes)
+}
