@@ -4,7 +4,7 @@ use mathlib.Core.Option.{some}
 use lib.ListN.{get_elem?}
 use Rattle.atomic_table.proofs.Lists.{at_set}
 use Rattle.depot_rule.specs.declared.view.View.{View}
-use Rattle.depot_rule.specs.Tree.{Excludes}
+use Rattle.affinity_tree.specs.Ancestors.{Excludes}
 use Rattle.depot_rule.specs.Seats.{both_held}
 use Rattle.depot_rule.specs.lemmas.Trees.{excludes-back}
 use Rattle.depot_rule.proofs.Joining.{none-held, held-of}

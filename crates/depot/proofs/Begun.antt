@@ -12,13 +12,12 @@ use Rattle.affinity_tree.specs.Fault.{fault_of}
 use Rattle.affinity_tree.specs.Tree.{IsNode}
 use Rattle.affinity_tree.specs.Under.{IsUnder}
 use Rattle.affinity_tree.specs.Numbers.{number_of, node_count, parents}
-use Rattle.affinity_tree.proofs.Smaller.{length-parents}
+use Rattle.affinity_tree.specs.lemmas.Smaller.{length-parents}
 use Rattle.parcel_sets.specs.Exact.{HasExactly}
 use Rattle.parcel_sets.specs.Moved as moving
 use Rattle.depot_rule.specs.declared.view.View.{View}
 use Rattle.depot_rule.specs.declared.view.Read.{Read}
-use Rattle.depot_rule.specs.Sums.{tally}
-use Rattle.depot_rule.specs.Tree.{IsTree, ancestors, Covers}
+use Rattle.affinity_tree.specs.Ancestors.{tally, IsTree, ancestors, Covers}
 use Rattle.depot_rule.specs.Shares.{worn, Has, made, grant_shares}
 use Rattle.depot_rule.specs.Seats.{OnOne, view_of}
 use Rattle.depot_rule.specs.Plays.{IsOnly}
@@ -30,7 +29,7 @@ use Rattle.depot.specs.Holds.{untaken, Handled, IsGathered}
 use Rattle.depot.specs.Grants.{IsSeatOf, ListsAs, IsBegun, IsBusy, IsWorn}
 use Rattle.depot.proofs.Moves.{among-later, placed-one}
 use Rattle.depot.proofs.Holding.{is-untaken}
-use Rattle.depot_rule.specs.lemmas.Nodes.{parents-tree, number-place, under-place, covers-under, under-covers}
+use Rattle.affinity_tree.specs.lemmas.Standing.{parents-tree, number-place, under-place, covers-under, under-covers}
 
 -- what a taking took was there, and isn't any more
 pub moved-some : {T : Type 0} (before taken after : Option T) (p : T) → taken ≡ Some p → moving.Moved before taken after → (before ≡ Some p) × (after ≡ None)

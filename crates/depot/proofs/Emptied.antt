@@ -15,7 +15,7 @@ use Rattle.parcel_sets.specs.Exact.{Under, HasExactly, IsPlaced}
 use Rattle.parcel_sets.specs.Moved.{Moved}
 use Rattle.depot.specs.Closed.{value_of, if_filled, left_at}
 use Rattle.depot.specs.Kinds.{AreOfKind}
-use Rattle.depot_rule.specs.lemmas.Nodes.{place-node, under-place}
+use Rattle.affinity_tree.specs.lemmas.Standing.{place-node, under-place}
 use Rattle.depot_rule.specs.declared.view.View.{View}
 use Rattle.depot_rule.specs.declared.view.Entry.{Entry}
 use Rattle.depot_rule.specs.History.{Behaviour, listed, after}

@@ -11,12 +11,11 @@ use Rattle.affinity_tree.specs.Fault.{fault_of}
 use Rattle.affinity_tree.specs.Tree.{IsNode}
 use Rattle.affinity_tree.specs.Under.{IsUnder}
 use Rattle.affinity_tree.specs.Numbers.{number_of, node_count, parents}
-use Rattle.affinity_tree.proofs.Smaller.{length-parents}
+use Rattle.affinity_tree.specs.lemmas.Smaller.{length-parents}
 use Rattle.parcel_sets.specs.Exact.{Under, HasExactly}
 use Rattle.depot_rule.specs.declared.view.View.{View}
 use Rattle.depot_rule.specs.declared.view.Read.{Read}
-use Rattle.depot_rule.specs.Sums.{tally}
-use Rattle.depot_rule.specs.Tree.{IsTree, Covers, Excludes}
+use Rattle.affinity_tree.specs.Ancestors.{tally, IsTree, Covers, Excludes}
 use Rattle.depot_rule.specs.Shares.{Has}
 use Rattle.depot_rule.specs.declared.view.Entry.{Entry}
 use Rattle.depot_rule.specs.History.{Behaviour, by_number, covers}
@@ -29,7 +28,7 @@ use Rattle.depot.specs.Holds.{Lists, IsGathered}
 use Rattle.depot.specs.Grants.{entry_of, IsSeatOf, HasWith, IsStep, HasInHand, IsStamped, IsEnded, IsFinished}
 use Rattle.depot_rule.specs.lemmas.Covering.{covers-true, true-covers}
 use Rattle.depot_rule.specs.lemmas.Listed.{by-number-at}
-use Rattle.depot_rule.specs.lemmas.Nodes.{under-place, covers-under, under-covers}
+use Rattle.affinity_tree.specs.lemmas.Standing.{under-place, covers-under, under-covers}
 
 some-same : {T : Type 0} (x y : T) → Some x ≡ Some y → x ≡ y
 some-same x y e = cc

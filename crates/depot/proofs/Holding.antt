@@ -8,8 +8,8 @@ use native.Mathlib.Decide.{ℕ_discrete}
 use lib.ListN.{get_elem?}
 use Rattle.depot_rule.specs.declared.view.View.{View}
 use Rattle.depot_rule.specs.declared.view.Read.{Read}
-use Rattle.depot_rule.specs.Sums.{tally, without}
-use Rattle.depot_rule.specs.Tree.{Covers}
+use Rattle.affinity_tree.specs.Ancestors.{tally, Covers}
+use Rattle.depot_rule.specs.Sums.{without}
 use Rattle.depot_rule.specs.Shares.{Has}
 use Rattle.depot_rule.specs.History.{covers}
 use Rattle.depot_rule.specs.Seats.{view_of}

@@ -5,8 +5,7 @@ use lib.ListN.{get_elem?}
 use Rattle.parcel_sets.specs.Moved.{Moved}
 use Rattle.depot_rule.specs.declared.view.View.{View}
 use Rattle.depot_rule.specs.declared.view.Read.{Read}
-use Rattle.depot_rule.specs.Sums.{tally}
-use Rattle.depot_rule.specs.Tree.{Covers, Excludes}
+use Rattle.affinity_tree.specs.Ancestors.{tally, Covers, Excludes}
 use Rattle.depot_rule.specs.Shares.{Has}
 use Rattle.depot_rule.specs.Parcels.{has_out}
 use Rattle.depot_rule.specs.Seats.{view_of}

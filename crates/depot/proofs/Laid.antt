@@ -12,7 +12,7 @@ use Rattle.depot_rule.specs.Shares.{opening_view}
 use Rattle.depot_rule.specs.History.{by_number}
 use Rattle.depot_rule.specs.lemmas.Listed.{by-number-length, by-number-at}
 use Rattle.depot.specs.Kinds.{AreOfKind}
-use Rattle.depot_rule.specs.lemmas.Nodes.{place-node, under-place}
+use Rattle.affinity_tree.specs.lemmas.Standing.{place-node, under-place}
 use Rattle.depot.proofs.Emptied.{under-serial}
 
 pub nothing-at : {P : Type 0} (n k : ℕ) → get_or {A = Option P} (replicate n None) k None ≡ None

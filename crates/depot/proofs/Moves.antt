@@ -3,8 +3,7 @@ use Rattle.std.proofs.Common.{◌≡◌, ◌≢◌, ℕ, ◌<◌, ◌≤◌, ◌
 use mathlib.Core.Option.{some}
 use Rattle.depot_rule.specs.declared.view.View.{View}
 use Rattle.depot_rule.specs.declared.view.Read.{Read}
-use Rattle.depot_rule.specs.Sums.{tally, one_if}
-use Rattle.depot_rule.specs.Tree.{IsTree, ancestors, Excludes}
+use Rattle.affinity_tree.specs.Ancestors.{tally, one_if, IsTree, ancestors, Excludes}
 use Rattle.depot_rule.specs.Shares.{exclusive, shares, grant_shares, Has}
 use Rattle.depot_rule.specs.Seats.{OnOne, view_of}
 use Rattle.depot_rule.specs.Plays.{IsOnly}

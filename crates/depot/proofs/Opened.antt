@@ -4,11 +4,11 @@ use mathlib.Core.Option.{some}
 use lib.ListN.{get_elem?}
 use Rattle.atomic_table.specs.Table.{opening, Final, Seen}
 use Rattle.depot_rule.specs.declared.view.View.{View}
-use Rattle.depot_rule.specs.Tree.{IsTree}
+use Rattle.affinity_tree.specs.Ancestors.{IsTree, one_if, tally}
 use Rattle.depot_rule.specs.Shares.{Has, opening_view}
 use Rattle.depot_rule.specs.Rule.{Rule}
 use Rattle.depot_rule.specs.declared.view.Entry.{Entry}
-use Rattle.depot_rule.specs.Sums.{total, one_if, tally}
+use Rattle.depot_rule.specs.Sums.{total}
 use Rattle.depot_rule.specs.History.{Behaviour, Legal, SoundThroughout, AreHands, listed, after, entries_of}
 use Rattle.depot_rule.specs.Parcels.{IsParcel}
 use Rattle.depot_rule.specs.Seats.{view_of}

@@ -4,8 +4,7 @@ use mathlib.Core.Option.{some}
 use lib.ListN.{get_elem?}
 use Rattle.depot_rule.specs.declared.view.View.{View}
 use Rattle.depot_rule.specs.declared.view.Read.{Read}
-use Rattle.depot_rule.specs.Sums.{tally}
-use Rattle.depot_rule.specs.Tree.{Covers}
+use Rattle.affinity_tree.specs.Ancestors.{tally, Covers}
 use Rattle.depot_rule.specs.Shares.{opening_view}
 use Rattle.depot_rule.specs.Seats.{if_less, longer, fresh, merge, merged, having_seen, view_of}
 use Rattle.depot_rule.specs.lemmas.Sums.{tally-append}

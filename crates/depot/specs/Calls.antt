@@ -4,8 +4,7 @@ use mathlib.Core.Option.{some}
 use lib.ListN.{get_elem?}
 use Rattle.depot_rule.specs.declared.view.View.{View}
 use Rattle.depot_rule.specs.declared.view.Read.{Read}
-use Rattle.depot_rule.specs.Sums.{tally}
-use Rattle.depot_rule.specs.Tree.{ancestors, Covers, Excludes}
+use Rattle.affinity_tree.specs.Ancestors.{tally, ancestors, Covers, Excludes}
 use Rattle.depot_rule.specs.Shares.{exclusive, grant_shares, shares, Has}
 use Rattle.depot_rule.specs.Parcels.{has_out, IsParcel}
 use Rattle.depot_rule.specs.Seats.{view_of}

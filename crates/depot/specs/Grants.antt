@@ -11,8 +11,8 @@ use Rattle.affinity_tree.specs.Tree.{IsNode}
 use Rattle.depot_rule.specs.declared.view.View.{View}
 use Rattle.depot_rule.specs.declared.view.Read.{Read}
 use Rattle.depot_rule.specs.declared.view.Entry.{Entry}
-use Rattle.depot_rule.specs.Sums.{total, one_if, tally}
-use Rattle.depot_rule.specs.Tree.{Covers}
+use Rattle.affinity_tree.specs.Ancestors.{one_if, tally, Covers}
+use Rattle.depot_rule.specs.Sums.{total}
 use Rattle.depot_rule.specs.History.{Behaviour, by_number, Legal, SoundThroughout, IsHistory, AreHands, entries_of, listed, after}
 use Rattle.depot_rule.specs.Shares.{worn, too_many, made, Has}
 use Rattle.depot_rule.specs.Plays.{IsOnly, with_entry, HasAdded}

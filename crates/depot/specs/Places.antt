@@ -4,7 +4,7 @@ use Rattle.atomic_table.specs.Seated.{TableId}
 use Rattle.atomic_table.specs.declared.shared.Seat.{Seat}
 use Rattle.std.specs.declared.snapshot.Snapshot.{Snapshot}
 use Rattle.depot_rule.specs.declared.view.View.{View}
-use Rattle.depot_rule.specs.Tree.{IsTree, Covers, Excludes}
+use Rattle.affinity_tree.specs.Ancestors.{IsTree, Covers, Excludes}
 use Rattle.depot_rule.specs.Shares.{Has}
 use Rattle.depot_rule.specs.Parcels.{has_out}
 use Rattle.depot.specs.declared.table.Opening.{Opening}

@@ -4,8 +4,7 @@ ghost use Rattle.std.specs.Prelude.{◌≡◌, ◌<◌, ℕ, [], length, Some, N
 ghost use Rattle.affinity_tree.specs.Layout.{layout_of};
 ghost use Rattle.affinity_tree.specs.Fault.{fault_of};
 ghost use Rattle.affinity_tree.specs.Numbers as numbers;
-ghost use Rattle.depot_rule.specs.Sums.{tally};
-ghost use Rattle.depot_rule.specs.Tree.{Covers};
+ghost use Rattle.affinity_tree.specs.Ancestors.{tally, Covers};
 ghost use Rattle.depot_rule.specs.Seats.{view_of};
 ghost use Rattle.depot_rule.specs.History.{behaviour};
 ghost use Rattle.depot.specs.Grants.{HasWith, IsStep, HasInHand, IsStamped, IsEnded};

@@ -1,7 +1,7 @@
 //! The words above a node: entered from the top down, left from the bottom up.
 
 ghost use Rattle.std.specs.Prelude.{◌≡◌, ◌<◌, [], length, OnOk, IfErr};
-ghost use Rattle.depot_rule.specs.Tree.{ancestors};
+ghost use Rattle.affinity_tree.specs.Ancestors.{ancestors};
 ghost use Rattle.depot_rule.specs.Seats.{view_of};
 ghost use Rattle.depot.specs.Calls.{MovedTo, FoundClaimed};
 ghost use Rattle.depot.specs.Places.{tree_of, IsOn, IsTreeOf, IsStill};

@@ -3,8 +3,8 @@
 ghost use Rattle.std.specs.Prelude.{◌≡◌, ◌<◌, ◌∷◌, ◌++◌, ℕ, List, [], length, slice_index_or};
 ghost use Rattle.std.specs.Prelude.{Option, Some, None};
 ghost use Rattle.depot_rule.specs.declared.view.Read.{Read};
-ghost use Rattle.depot_rule.specs.Sums.{tally, without};
-ghost use Rattle.depot_rule.specs.Tree.{Covers};
+ghost use Rattle.affinity_tree.specs.Ancestors.{tally, Covers};
+ghost use Rattle.depot_rule.specs.Sums.{without};
 ghost use Rattle.depot_rule.specs.Shares.{Has};
 ghost use Rattle.depot_rule.specs.Seats.{view_of};
 ghost use Rattle.depot.specs.Places.{tree_of, IsOn};

@@ -1,7 +1,7 @@
 //! The stamp: a call takes effect.
 
 ghost use Rattle.std.specs.Prelude.{◌≡◌, ◌<◌, ℕ, length, slice_index_or, Option, Some, None};
-ghost use Rattle.depot_rule.specs.Tree.{Covers};
+ghost use Rattle.affinity_tree.specs.Ancestors.{Covers};
 ghost use Rattle.depot_rule.specs.Shares.{Has};
 ghost use Rattle.depot_rule.specs.Seats.{view_of};
 ghost use Rattle.depot_rule.specs.History.{behaviour};

@@ -2,8 +2,7 @@
 
 ghost use Rattle.std.specs.Prelude.{◌≡◌, ◌<◌, ◌≤◌, ◌≢◌, ◌∷◌, ℕ, List, [], length};
 ghost use Rattle.std.specs.Prelude.{slice_set, Option, Some, None, IfNone, IfSome};
-ghost use Rattle.depot_rule.specs.Sums.{tally};
-ghost use Rattle.depot_rule.specs.Tree.{ancestors};
+ghost use Rattle.affinity_tree.specs.Ancestors.{tally, ancestors};
 ghost use Rattle.depot_rule.specs.Shares.{exclusive, Has};
 ghost use Rattle.depot_rule.specs.Seats.{view_of};
 ghost use Rattle.depot_rule.specs.Plays.{IsOnly};

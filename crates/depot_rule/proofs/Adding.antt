@@ -9,8 +9,8 @@ use Rattle.atomic_table.specs.Table.{State}
 use Rattle.depot_rule.specs.declared.view.View.{View}
 use Rattle.depot_rule.specs.declared.view.Entry.{Entry}
 use Rattle.depot_rule.specs.declared.view.Read.{Read}
-use Rattle.depot_rule.specs.Sums.{total, one_if, tally}
-use Rattle.depot_rule.specs.Tree.{IsTree, ancestors, Covers}
+use Rattle.affinity_tree.specs.Ancestors.{one_if, tally, IsTree, ancestors, Covers}
+use Rattle.depot_rule.specs.Sums.{total}
 use Rattle.depot_rule.specs.Shares.{Has}
 use Rattle.depot_rule.specs.Parcels.{has_out}
 use Rattle.depot_rule.specs.Rule.{Base}

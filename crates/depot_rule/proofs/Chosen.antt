@@ -5,7 +5,8 @@ use mathlib.Core.Logic.{dite}
 use native.Mathlib.Decide.{ℕ_discrete}
 use Rattle.std.specs.Prelude.{slice_get}
 use Rattle.depot_rule.specs.declared.view.Entry.{Entry}
-use Rattle.depot_rule.specs.Sums.{total, one_if, tally}
+use Rattle.affinity_tree.specs.Ancestors.{one_if, tally}
+use Rattle.depot_rule.specs.Sums.{total}
 use Rattle.depot_rule.specs.Seats.{if_less, put_among, in_order}
 use Rattle.depot_rule.specs.History.{Ascends, StartsWith, batches_of, or_nothing, chosen}
 use Rattle.depot_rule.specs.lemmas.Sums.{one-same, one-is, total-append, tally-append}

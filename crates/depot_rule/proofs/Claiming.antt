@@ -12,8 +12,8 @@ use Rattle.depot_rule.specs.declared.view.View.{View}
 use Rattle.depot_rule.specs.declared.view.Entry.{Entry}
 use Rattle.depot_rule.specs.declared.view.Read.{Read}
 use Rattle.depot_rule.specs.History.{Behaviour, IsHistory, listed, after}
-use Rattle.depot_rule.specs.Sums.{total, tally}
-use Rattle.depot_rule.specs.Tree.{ancestors, Covers, Excludes}
+use Rattle.affinity_tree.specs.Ancestors.{tally, ancestors, Covers, Excludes}
+use Rattle.depot_rule.specs.Sums.{total}
 use Rattle.depot_rule.specs.Shares.{exclusive, Has, claims, entered, shares, Shares}
 use Rattle.depot_rule.specs.Parcels.{has_out, IsParcel, Carries}
 use Rattle.depot_rule.specs.Rule.{Rule}

@@ -5,7 +5,8 @@ use mathlib.Core.Option.{some}
 use lib.ListN.{get_elem?}
 use Rattle.depot_rule.specs.declared.view.View.{View}
 use Rattle.depot_rule.specs.declared.view.Entry.{Entry}
-use Rattle.depot_rule.specs.Sums.{total, one_if, tally}
+use Rattle.affinity_tree.specs.Ancestors.{one_if, tally}
+use Rattle.depot_rule.specs.Sums.{total}
 use Rattle.depot_rule.specs.Shares.{Each, made}
 use Rattle.depot_rule.specs.History.{Behaviour, or_nothing, chosen}
 use Rattle.depot_rule.specs.Laws.{HistoryIsOne, OnlySeatHasAll}

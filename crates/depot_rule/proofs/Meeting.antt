@@ -8,7 +8,8 @@ use lib.ListN.{get_elem?}
 use Rattle.atomic_table.specs.Table.{State}
 use Rattle.depot_rule.specs.declared.view.View.{View}
 use Rattle.depot_rule.specs.declared.view.Entry.{Entry}
-use Rattle.depot_rule.specs.Sums.{total, tally}
+use Rattle.affinity_tree.specs.Ancestors.{tally}
+use Rattle.depot_rule.specs.Sums.{total}
 use Rattle.depot_rule.specs.Seats.{if_less, longer, in_order, having_seen, merge}
 use Rattle.depot_rule.specs.History.{Behaviour, History, chosen, AreHands, StartsWith}
 use Rattle.depot_rule.specs.lemmas.Sums.{one-most, total-two, total-append}

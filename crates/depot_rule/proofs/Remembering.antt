@@ -7,7 +7,8 @@ use Rattle.atomic_table.specs.Table.{State}
 use Rattle.depot_rule.specs.declared.view.View.{View}
 use Rattle.depot_rule.specs.declared.view.Entry.{Entry}
 use Rattle.depot_rule.specs.declared.view.Read.{Read}
-use Rattle.depot_rule.specs.Sums.{total, tally}
+use Rattle.affinity_tree.specs.Ancestors.{tally}
+use Rattle.depot_rule.specs.Sums.{total}
 use Rattle.depot_rule.specs.Shares.{Each}
 use Rattle.depot_rule.specs.Parcels.{has_out}
 use Rattle.depot_rule.specs.History.{Behaviour, Current, History, listed, after, chosen, AreHands, Ascends, StartsWith}

@@ -9,8 +9,8 @@ use Rattle.atomic_table.proofs.Lists.{at_set, set_else, set_here}
 use Rattle.depot_rule.specs.declared.view.View.{View}
 use Rattle.depot_rule.specs.declared.view.Entry.{Entry}
 use Rattle.depot_rule.specs.declared.view.Read.{Read}
-use Rattle.depot_rule.specs.Sums.{total, one_if, tally}
-use Rattle.depot_rule.specs.Tree.{ancestors, Covers}
+use Rattle.affinity_tree.specs.Ancestors.{one_if, tally, ancestors, Covers}
+use Rattle.depot_rule.specs.Sums.{total}
 use Rattle.depot_rule.specs.Shares.{Has, made, due, unsettled, open_grants, claims, lower}
 use Rattle.depot_rule.specs.Parcels.{has_out, IsParcel}
 use Rattle.depot_rule.specs.Rule.{Base, Rule}

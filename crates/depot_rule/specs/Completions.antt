@@ -5,7 +5,7 @@ use Rattle.affinity_tree.specs.Fault.{fault_of}
 use Rattle.affinity_tree.specs.Tree.{IsNode}
 use Rattle.affinity_tree.specs.Numbers.{number_of, parents}
 use Rattle.depot_rule.specs.Sums.{total}
-use Rattle.depot_rule.specs.Tree.{Covers}
+use Rattle.affinity_tree.specs.Ancestors.{Covers}
 use Rattle.depot_rule.specs.History.{patched, Invariant}
 
 -- what has to hold of all parcels, of the batches in all hands and of the count of entries. W is what a machine needs to know of its tree, such as a layout

@@ -5,9 +5,9 @@ use lib.ListN.{get_elem?}
 use Rattle.atomic_table.specs.Table.{State, opening}
 use Rattle.depot_rule.specs.declared.view.View.{View}
 use Rattle.depot_rule.specs.declared.view.Entry.{Entry}
-use Rattle.depot_rule.specs.Sums.{total, one_if, tally}
+use Rattle.affinity_tree.specs.Ancestors.{one_if, tally, IsTree, ancestors, Covers, Excludes}
+use Rattle.depot_rule.specs.Sums.{total}
 use Rattle.depot_rule.specs.History.{Behaviour, History, patched, after}
-use Rattle.depot_rule.specs.Tree.{IsTree, ancestors, Covers, Excludes}
 use Rattle.depot_rule.specs.Shares.{exclusive, too_many, Has, opening_view}
 use Rattle.depot_rule.specs.Parcels.{has_out, IsParcel}
 use Rattle.depot_rule.specs.Rule.{Base, Rule}

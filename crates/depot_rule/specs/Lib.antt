@@ -1,5 +1,4 @@
 pub mod Sums
-pub mod Tree
 pub mod Shares
 pub mod Parcels
 pub mod Rule

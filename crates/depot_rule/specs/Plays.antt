@@ -6,8 +6,8 @@ use Rattle.atomic_table.specs.Table.{Me, Step, rest}
 use Rattle.depot_rule.specs.declared.view.View.{View}
 use Rattle.depot_rule.specs.declared.view.Read.{Read}
 use Rattle.depot_rule.specs.declared.view.Entry.{Entry}
-use Rattle.depot_rule.specs.Sums.{total, tally, without}
-use Rattle.depot_rule.specs.Tree.{ancestors, Covers, Excludes}
+use Rattle.affinity_tree.specs.Ancestors.{tally, ancestors, Covers, Excludes}
+use Rattle.depot_rule.specs.Sums.{total, without}
 use Rattle.depot_rule.specs.Shares.{exclusive, worn, too_many, made, shares, Has}
 use Rattle.depot_rule.specs.Parcels.{has_out, IsParcel}
 use Rattle.depot_rule.specs.Seats.{OnOne, longer, merge}

@@ -3,8 +3,8 @@ use Rattle.std.specs.Prelude.{◌≡◌, ℕ, ◌+◌, ◌*◌, ◌<◌, ◌≤�
 use mathlib.Core.Option.{some}
 use lib.ListN.{get_elem?}
 use Rattle.depot_rule.specs.declared.view.View.{View}
-use Rattle.depot_rule.specs.Sums.{total, one_if, tally, over_taken}
-use Rattle.depot_rule.specs.Tree.{IsTree, ancestors}
+use Rattle.affinity_tree.specs.Ancestors.{one_if, tally, IsTree, ancestors}
+use Rattle.depot_rule.specs.Sums.{total, over_taken}
 
 -- the part of a word that says that the node is claimed
 abbrev pub exclusive : ℕ

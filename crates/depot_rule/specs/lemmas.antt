@@ -2,7 +2,6 @@
 pub mod Sums
 pub mod Trees
 pub mod Covering
-pub mod Nodes
 pub mod Listed
 pub mod Histories
 pub mod Elsewhere

@@ -1,12 +1,5 @@
 //! What follows from the rule, for any seats, grants and schedule.
 
-ghost use Rattle.std.specs.Prelude.{◌≡◌, ◌↔◌, true, None};
-ghost use Rattle.nfs_model.specs.Tree as trees;
-ghost use Rattle.affinity_tree.specs.Fault.{fault_of};
-ghost use Rattle.affinity_tree.specs.Tree.{IsNode};
-ghost use Rattle.affinity_tree.specs.Under.{IsUnder};
-ghost use Rattle.affinity_tree.specs.Numbers.{number_of, parents};
-ghost use Rattle.depot_rule.specs.Tree.{IsTree, Excludes, Covers};
 ghost use Rattle.depot_rule.specs.History.{behaviour};
 ghost use Rattle.depot_rule.specs.Laws.{GrantsAreApart, ParcelsArePlaced, ParcelsAreSingle};
 ghost use Rattle.depot_rule.specs.Laws.{GrantsHaveEntered, ExclusiveIsGranted, OpensWithin};
@@ -65,21 +58,4 @@ pub fn only_seat_has_all<M: Machine>()
 pub fn parcels_stay_elsewhere<P, C, R>()
     ensures put_in { PutInElsewhere P }
     ensures after { StaysElsewhere P C R }
-{}
-
-/// The list of a lawful layout's parents is a tree, in which nodes exclude each other, and are
-/// under each other, just where their numbers say so.
-pub fn numbers_stand_for_nodes()
-    ensures tree { (layout : trees.Layout) → fault_of layout ≡ None → IsTree (parents layout) }
-    ensures excludes { (layout : trees.Layout) (a b : trees.Affinity)
-        → fault_of layout ≡ None
-        → IsNode layout a
-        → IsNode layout b
-        → (Excludes (parents layout) (number_of layout a) (number_of layout b)
-        ↔ (trees.excludes layout a b ≡ true)) }
-    ensures covers { (layout : trees.Layout) (a b : trees.Affinity)
-        → fault_of layout ≡ None
-        → IsNode layout a
-        → IsNode layout b
-        → (Covers (parents layout) (number_of layout a) (number_of layout b) ↔ IsUnder layout a b) }
 {}

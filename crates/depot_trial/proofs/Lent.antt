@@ -1,19 +1,12 @@
 -- What calls that move tokens rest on.
-use Rattle.std.proofs.Common.{◌≡◌, ℕ, zero, suc, ◌+◌, ◌*◌, ◌<◌, ◌≤◌, Bool, true, false, not, List, [], ◌∷◌, ◌++◌, length, refl, sym, ap, ◌∙◌, subst, arith, inl, Option, Some, None}
-use Rattle.std.specs.Prelude.{if◌then◌else◌, nat_le}
-use Rattle.std.proofs.lemmas.Bool.{and_parts, leb-true}
+use Rattle.std.proofs.Common.{◌≡◌, ℕ, zero, suc, ◌+◌, ◌*◌, ◌<◌, ◌≤◌, List, [], ◌∷◌, ◌++◌, length, refl, sym, ap, ◌∙◌, subst, arith, inl, Option, Some, None}
 use mathlib.Core.Logic.{dite}
 use native.Mathlib.Decide.{ℕ_discrete}
 use Rattle.nfs_model.specs.Tree.{Layout, Affinity}
 use Rattle.affinity_tree.specs.Tree.{IsNode}
-use Rattle.affinity_tree.specs.Fault.{fault_of, is_within}
-use Rattle.affinity_tree.specs.declared.specification.AggregateSpec.{AggregateSpec}
-use Rattle.affinity_tree.specs.declared.specification.VolumeSpec.{VolumeSpec}
-use Rattle.affinity_tree.specs.Specification.{layout_in}
-use Rattle.affinity_tree.proofs.Lawful.{few_volumes}
 use Rattle.affinity_tree.specs.Numbers.{number_of, node_count, parents}
-use Rattle.affinity_tree.proofs.Places.{number_positive, number_within, node_count_even}
-use Rattle.affinity_tree.proofs.Smaller.{length-parents}
+use Rattle.affinity_tree.specs.lemmas.Places.{number_positive, number_within}
+use Rattle.affinity_tree.specs.lemmas.Smaller.{length-parents}
 use Rattle.parcel_sets.specs.declared.family.Parcel.{Parcel}
 use Rattle.parcel_sets.specs.declared.family.Parcel.TheVariants.{Stripe}
 use Rattle.parcel_sets.specs.declared.sets.StripeHeld.{StripeHeld}
@@ -82,18 +75,6 @@ hand-fits layout a v held n rest is node own seen =
 
 -- ---- a depot in which each node has so many tokens
 
-rule-kept : (test : Bool) (number : ℕ) (others : Option ℕ) → (if not test then Some number else others) ≡ None → test ≡ true
-rule-kept true number others h = refl
-rule-kept false number others h = cc
-
-pub few-nodes : (aggregates : List AggregateSpec) (volumes : List VolumeSpec) → fault_of (layout_in aggregates volumes) ≡ None → node_count (layout_in aggregates volumes) ≤ 219
-few-nodes aggregates volumes lawful =
-    let layout : Layout = layout_in aggregates volumes in
-    let count = node_count_even aggregates volumes in
-    let eight = few_volumes layout lawful in
-    let test = rule-kept (is_within 1 2 (length layout.spare)) 51 _ lawful in
-    let two = leb-true (length layout.spare) 2 (and_parts (nat_le 1 (length layout.spare)) (nat_le (length layout.spare) 2) test).1 in omega arith
-
 sum-most : (f : ℕ → ℕ) (n : ℕ) → ((k : ℕ) → f k ≤ 1000) → sum_below f n ≤ 1000 * n
 sum-most f zero most = omega arith
 sum-most f (suc n) most = let r = sum-most f n most in let e = most n in omega arith
@@ -102,7 +83,7 @@ tokens-most : {P : Type 0} (n : ℕ) (parcel : Option (Parcel P ℕ ℕ ℕ ℕ 
 tokens-most n None is = omega arith
 tokens-most n (Some p) is = let e = is p refl in omega arith
 
-pub each-few : {P : Type 0} (layout : Layout) (n : ℕ) (f : ℕ → Option (Parcel P ℕ ℕ ℕ ℕ ℕ ℕ ℕ)) → node_count layout ≤ 219 → n ≤ 1000 → AreEach n f → FewTokens (parents layout) f [] 0
+pub each-few : {P : Type 0} (layout : Layout) (n : ℕ) (f : ℕ → Option (Parcel P ℕ ℕ ℕ ℕ ℕ ℕ ℕ)) → node_count layout ≤ 283 → n ≤ 1000 → AreEach n f → FewTokens (parents layout) f [] 0
 each-few layout n f nodes small each =
     let all = sum-most (λ k. tokens_in (f k)) (length (parents layout)) (λ k. let t = tokens-most n (f k) (each k) in let most : tokens_in (f k) ≤ 1000 = omega arith in most) in
     let many = length-parents layout in omega arith

@@ -9,8 +9,8 @@ use Rattle.affinity_tree.specs.declared.affinity.Kind.{Kind}
 use Rattle.affinity_tree.specs.Affinity.{kind_of}
 use Rattle.affinity_tree.specs.Tree.{IsNode}
 use Rattle.affinity_tree.specs.Under.{IsUnder}
-use Rattle.affinity_tree.proofs.Places.{number_positive, number_within}
-use Rattle.affinity_tree.proofs.Numbered.{own_number}
+use Rattle.affinity_tree.specs.lemmas.Places.{number_positive, number_within}
+use Rattle.affinity_tree.specs.lemmas.Numbered.{own_number}
 use Rattle.parcel_sets.specs.Exact.{kind_in, HasExactly, IsPlaced}
 use Rattle.parcel_sets.specs.Places.{alone}
 use Rattle.parcel_sets.specs.Sets.{stripe_parcels}

@@ -7,8 +7,7 @@ use Rattle.parcel_sets.specs.Exact.{kind_in}
 use Rattle.parcel_sets.specs.NumberIn.{number_in}
 use Rattle.depot_trial.specs.declared.adding.Change.{Change}
 use Rattle.depot_trial.specs.declared.adding.Change.TheVariants.{Touch, Read, Add}
-use Rattle.depot_rule.specs.Sums.{tally}
-use Rattle.depot_rule.specs.Tree.{ancestors}
+use Rattle.affinity_tree.specs.Ancestors.{tally, ancestors}
 use Rattle.depot_rule.specs.History.{covers}
 use Rattle.depot_rule.specs.Seats.{if_less}
 use Rattle.depot_rule.specs.Machine.{IsLocal}

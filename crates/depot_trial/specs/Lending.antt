@@ -11,8 +11,8 @@ use Rattle.depot_trial.specs.declared.lending.Move.{Move}
 use Rattle.depot_trial.specs.declared.lending.Move.TheVariants.{Take, Give}
 use Rattle.depot_rule.specs.declared.view.View.{View}
 use Rattle.depot_rule.specs.declared.view.Entry.{Entry}
-use Rattle.depot_rule.specs.Sums.{total, tally}
-use Rattle.depot_rule.specs.Tree.{ancestors}
+use Rattle.affinity_tree.specs.Ancestors.{tally, ancestors}
+use Rattle.depot_rule.specs.Sums.{total}
 use Rattle.depot_rule.specs.Seats.{if_less}
 use Rattle.depot_rule.specs.History.{covers, AreHands, entries_of}
 use Rattle.depot_rule.specs.Machine.{IsLocal, Keeps}

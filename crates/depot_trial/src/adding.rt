@@ -59,10 +59,7 @@ pub fn volumes<const N: usize>(alloc: Global) -> Option<Layout>
     requires few { N ≤ 8 }
 {
     let aggregates = [AggregateSpec { spare: 0 }];
-    let volumes = [VolumeSpec {
-        aggregate: 0,
-        ranges: 1,
-    }; N];
+    let volumes = [VolumeSpec::new(0, 1); N];
     Layout::new(alloc, &aggregates, &volumes).ok()
 }
 

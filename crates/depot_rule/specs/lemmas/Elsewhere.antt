@@ -1,7 +1,7 @@
 -- What is put in at one node leaves what another covers, where the two don't exclude each other.
 use Rattle.std.proofs.Common.{◌≡◌, ℕ, suc, List, [], ◌∷◌, ◌++◌, Option, refl, ap, ◌∙◌}
 use Rattle.depot_rule.specs.declared.view.Entry.{Entry}
-use Rattle.depot_rule.specs.Tree.{IsTree, Covers}
+use Rattle.affinity_tree.specs.Ancestors.{IsTree, Covers}
 use Rattle.depot_rule.specs.History.{listed, put_in, after}
 use Rattle.depot_rule.specs.Laws.{AreElsewhere, PutInElsewhere, StaysElsewhere}
 use Rattle.depot_rule.specs.lemmas.Trees.{cover-excludes}

@@ -1,16 +1,12 @@
 -- Sums over views and over places.
-use Rattle.std.proofs.Common.{◌≡◌, ◌≢◌, ℕ, zero, suc, ◌+◌, ◌*◌, ◌<◌, ◌≤◌, eqb, Bool, true, false, List, [], ◌∷◌, ◌++◌, map, replicate, length, set, sym, refl, ap, ◌∙◌, arith, Option, Some, None, eq-eqb, ne_eqb}
+use Rattle.std.proofs.Common.{◌≡◌, ◌≢◌, ℕ, zero, suc, ◌+◌, ◌*◌, ◌<◌, ◌≤◌, eqb, Bool, true, false, List, [], ◌∷◌, ◌++◌, map, replicate, length, set, sym, refl, ap, ◌∙◌, arith, Option, Some, None, ne_eqb}
 use mathlib.Core.Option.{some, some-injective, some-ne-none}
 use mathlib.Core.Logic.{dite}
 use native.Mathlib.Decide.{ℕ_discrete}
 use lib.ListN.{get_elem?}
-use Rattle.depot_rule.specs.Sums.{total, one_if, tally, over_taken, if_here, without}
-
-pub one-same : (x y : ℕ) → x ≡ y → one_if (eqb x y) ≡ 1
-one-same x y e = ap one_if (eq-eqb x y e)
-
-pub one-other : (x y : ℕ) → x ≢ y → one_if (eqb x y) ≡ 0
-one-other x y e = ap one_if (ne_eqb x y e)
+use Rattle.affinity_tree.specs.Ancestors.{one_if, tally}
+pub use Rattle.affinity_tree.specs.lemmas.Standing.{one-same, one-other}
+use Rattle.depot_rule.specs.Sums.{total, over_taken, if_here, without}
 
 pub one-most : (b : Bool) → one_if b ≤ 1
 one-most true = omega arith

@@ -2,30 +2,9 @@
 use Rattle.std.proofs.Common.{◌≡◌, ◌⊎◌, ℕ, zero, suc, ◌<◌, ◌≤◌, eqb, List, [], ◌∷◌, length, slice_index, sym, ap, ◌∙◌, subst, arith, refl, inl, inr, ⊎_elim}
 use mathlib.Core.Logic.{dite}
 use native.Mathlib.Decide.{ℕ_discrete, dec_lt}
-use Rattle.depot_rule.specs.Sums.{tally}
-use Rattle.depot_rule.specs.Tree.{IsTree, from_parent, upwards, ancestors, Covers, Excludes}
+use Rattle.affinity_tree.specs.Ancestors.{tally, IsTree, from_parent, upwards, ancestors, Covers, Excludes}
+pub use Rattle.affinity_tree.specs.lemmas.Standing.{enough, ancestors-root, ancestors-parent}
 use Rattle.depot_rule.specs.lemmas.Sums.{one-other, one-most}
-
-from-same : (f g : ℕ → List ℕ) (p : ℕ) → (0 < p → f p ≡ g p) → from_parent f p ≡ from_parent g p
-from-same f g zero h = refl
-from-same f g (suc p) h = ap (λ (t : List ℕ). suc p ∷ t) (h (omega arith))
-
--- there are fewer nodes above b than its number
-enough : (ps : List ℕ) → IsTree ps → (m n b : ℕ) → 0 < b → b ≤ m → b ≤ n → upwards ps m b ≡ upwards ps n b
-enough ps t zero n b pos h k = absurd (omega arith)
-enough ps t (suc m) zero b pos h k = absurd (omega arith)
-enough ps t (suc m) (suc n) b pos h k =
-    let l = t b pos in from-same (upwards ps m) (upwards ps n) (slice_index ps b) (λ some_parent. enough ps t m n (slice_index ps b) some_parent (omega arith) (omega arith))
-
-pub ancestors-root : (ps : List ℕ) (b : ℕ) → slice_index ps b ≡ 0 → ancestors ps b ≡ []
-ancestors-root ps zero e = refl
-ancestors-root ps (suc b) e = ap (from_parent (upwards ps b)) e
-
-pub ancestors-parent : (ps : List ℕ) → IsTree ps → (b p : ℕ) → 0 < b → slice_index ps b ≡ p → 0 < p → ancestors ps b ≡ p ∷ ancestors ps p
-ancestors-parent ps t zero p pos e q = absurd (omega arith)
-ancestors-parent ps t (suc b) zero pos e q = absurd (omega arith)
-ancestors-parent ps t (suc b) (suc p) pos e q =
-    let l = t (suc b) pos in ap (from_parent (upwards ps b)) e ∙ ap (λ (r : List ℕ). suc p ∷ r) (enough ps t b (suc p) (suc p) q (omega arith) (omega arith))
 
 from-lower : (f : ℕ → List ℕ) (p a : ℕ) → p < a → ((q : ℕ) → 0 < q → q ≤ a → tally a (f q) ≡ 0) → tally a (from_parent f p) ≡ 0
 from-lower f zero a l r = refl

@@ -3,12 +3,12 @@ use Rattle.nfs_model.specs.Tree.{Layout}
 use Rattle.affinity_tree.specs.Affinity.{affinity_of}
 use Rattle.affinity_tree.specs.Layout.{layout_of}
 use Rattle.affinity_tree.specs.Numbers.{number_of, parents}
-use Rattle.depot_rule.specs.Tree.{IsTree, Covers}
+use Rattle.affinity_tree.specs.Ancestors.{IsTree, Covers}
 use Rattle.depot_rule.specs.Seats.{view_of}
 use Rattle.parcel_sets.specs.Moved.{Moved}
 use Rattle.depot.specs.Holds.{untaken}
 use Rattle.depot.specs.Grants.{HasWith}
-use Rattle.depot_rule.specs.lemmas.Nodes.{parents-tree, number-place}
+use Rattle.affinity_tree.specs.lemmas.Standing.{parents-tree, number-place}
 use Rattle.depot.proofs.Home.{set-home, home-ended, home-else, home-apart}
 use Rattle.depot.proofs.Ended.{given-allowed}
 use Rattle.depot.proofs.homing.give_home.Goals as goal

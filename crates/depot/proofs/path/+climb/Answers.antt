@@ -1,6 +1,5 @@
 use Rattle.std.proofs.Common.{arith, ◌<◌, ℕ, [], slice_index, sym, ap, refl, ◌∙◌}
-use Rattle.depot_rule.specs.Sums.{tally}
-use Rattle.depot_rule.specs.Tree.{ancestors}
+use Rattle.affinity_tree.specs.Ancestors.{tally, ancestors}
 use Rattle.depot_rule.specs.Seats.{view_of}
 use Rattle.depot_rule.specs.lemmas.Trees.{ancestors-root, not-above}
 use Rattle.depot.specs.Calls.{MovedTo}

@@ -1,5 +1,5 @@
 use Rattle.std.proofs.Common.{rules, arith, ◌≡◌, ◌<◌, ◌∷◌, ℕ, [], slice_index, refl, ◌∙◌}
-use Rattle.depot_rule.specs.Tree.{ancestors}
+use Rattle.affinity_tree.specs.Ancestors.{ancestors}
 use Rattle.depot_rule.specs.Seats.{view_of}
 use Rattle.depot_rule.specs.lemmas.Trees.{ancestors-parent, ancestors-root}
 use Rattle.depot.specs.Calls.{MovedTo}

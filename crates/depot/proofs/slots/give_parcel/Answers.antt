@@ -1,7 +1,7 @@
 use Rattle.std.proofs.Common.{rules, arith, ◌≡◌, ◌<◌, ◌∷◌, ℕ, List, length, get_or, Option, None, sym, ap, refl, ◌∙◌, subst}
 use Rattle.atomic_table.specs.Table.{rest}
 use Rattle.depot_rule.specs.History.{behaviour}
-use Rattle.depot_rule.specs.Tree.{Covers}
+use Rattle.affinity_tree.specs.Ancestors.{Covers}
 use Rattle.depot_rule.specs.Seats.{view_of}
 use Rattle.depot_rule.proofs.Places.{one-view, of-one}
 use Rattle.depot_rule.proofs.Slots.{reaches, fills}

@@ -1,6 +1,6 @@
 use Rattle.std.proofs.Common.{rules, arith, ◌<◌, length, ap}
 use Rattle.depot_rule.specs.History.{behaviour}
-use Rattle.depot_rule.specs.Sums.{tally}
+use Rattle.affinity_tree.specs.Ancestors.{tally}
 use Rattle.depot_rule.specs.Seats.{view_of}
 use Rattle.depot_rule.proofs.Places.{one-view, of-one}
 use Rattle.depot_rule.proofs.Claiming.{claims-it}

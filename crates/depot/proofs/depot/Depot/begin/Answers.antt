@@ -7,7 +7,7 @@ use Rattle.depot_rule.specs.declared.view.View.{View}
 use Rattle.depot_rule.specs.declared.view.Read.{Read}
 use Rattle.depot_rule.specs.declared.view.Entry.{Entry}
 use Rattle.depot_rule.specs.History.{behaviour, listed}
-use Rattle.depot_rule.specs.Tree.{IsTree}
+use Rattle.affinity_tree.specs.Ancestors.{IsTree}
 use Rattle.depot_rule.specs.Seats.{view_of}
 use Rattle.depot_rule.proofs.Places.{one-view}
 use Rattle.depot_rule.proofs.Looking.{looks}
@@ -17,7 +17,7 @@ use Rattle.depot.proofs.Moves.{placed-one}
 use Rattle.depot.proofs.Holding.{nothing}
 use Rattle.depot.proofs.Apart.{apart-of, more-apart}
 use Rattle.depot.proofs.Seated.{gathered-of}
-use Rattle.depot_rule.specs.lemmas.Nodes.{parents-tree, number-place}
+use Rattle.affinity_tree.specs.lemmas.Standing.{parents-tree, number-place}
 use Rattle.depot.proofs.Begun.{some-parents, refuses-node, looked-at, worn-so, seat-still, granted-after, all-there, begun-lists, begun-so, begun-gathered, begun-views, refused-after, busy-so}
 use Rattle.depot.proofs.depot.Depot.begin.Goals as goal
 

@@ -3,7 +3,7 @@ use Rattle.std.specs.Mem.Slots.{slots_items, slots_filled, slots_counts}
 use Rattle.nfs_model.specs.Tree.{Serial}
 use Rattle.affinity_tree.specs.Layout.{layout_of}
 use Rattle.affinity_tree.specs.Numbers.{parents, node_count}
-use Rattle.affinity_tree.proofs.Smaller.{length-parents}
+use Rattle.affinity_tree.specs.lemmas.Smaller.{length-parents}
 use Rattle.depot_rule.specs.History.{behaviour}
 use Rattle.depot.specs.Calls.{known}
 use Rattle.depot.specs.Closed.{left_at}

@@ -7,15 +7,14 @@ use Rattle.depot_rule.specs.declared.view.View.{View}
 use Rattle.depot_rule.specs.declared.view.Read.{Read}
 use Rattle.depot_rule.specs.declared.view.Entry.{Entry}
 use Rattle.depot_rule.specs.History.{behaviour}
-use Rattle.depot_rule.specs.Sums.{tally}
-use Rattle.depot_rule.specs.Tree.{IsTree, Covers}
+use Rattle.affinity_tree.specs.Ancestors.{tally, IsTree, Covers}
 use Rattle.depot_rule.specs.Shares.{Has}
 use Rattle.depot_rule.specs.Seats.{view_of}
 use Rattle.depot.specs.Calls.{own_views, known}
 use Rattle.depot.specs.Holds.{IsGathered}
 use Rattle.depot_rule.specs.History.{by_number}
 use Rattle.depot.specs.Grants.{entry_of, IsSeatOf, HasWith, IsStep, HasInHand, IsFinished}
-use Rattle.depot_rule.specs.lemmas.Nodes.{parents-tree}
+use Rattle.affinity_tree.specs.lemmas.Standing.{parents-tree}
 use Rattle.depot.proofs.Apart.{apart-of, less-apart}
 use Rattle.depot.proofs.Seated.{gathered-in}
 use Rattle.depot.proofs.Begun.{seat-still}

@@ -3,7 +3,7 @@ use Rattle.std.proofs.lemmas.List.{length-replicate}
 use Rattle.nfs_model.specs.Tree.{Serial}
 use Rattle.affinity_tree.specs.Layout.{layout_of}
 use Rattle.affinity_tree.specs.Numbers.{number_of, node_count, parents}
-use Rattle.affinity_tree.proofs.Smaller.{length-parents}
+use Rattle.affinity_tree.specs.lemmas.Smaller.{length-parents}
 use Rattle.depot_rule.specs.declared.view.View.{View}
 use Rattle.depot_rule.specs.declared.view.Entry.{Entry}
 use Rattle.depot_rule.specs.History.{behaviour}
@@ -12,7 +12,7 @@ use Rattle.depot_rule.proofs.Joining.{none-held}
 use Rattle.depot.specs.Calls.{own_views, known}
 use Rattle.depot_rule.specs.History.{by_number}
 use Rattle.depot.specs.Grants.{IsSeatOf}
-use Rattle.depot_rule.specs.lemmas.Nodes.{parents-tree, parents-few}
+use Rattle.affinity_tree.specs.lemmas.Standing.{parents-tree, parents-few}
 use Rattle.depot.proofs.Apart.{apart-of, none-apart}
 use Rattle.depot.proofs.Opened.{opened-so}
 use Rattle.depot.proofs.Laid.{nothing-at, given-all, given-so, some-at, room-for, are-of-kind, still-placed, back-so, opened-view}
@@ -39,7 +39,7 @@ new-requires-2 g c =
     let are = given-so f (c.node_count-n.result + 1) c.scatter.new.shelf.parcels.items c.in-Ok-Ok-Ok.shelf.parcels.items c.in-Ok-Ok-Ok.ensures'' c.scatter.ensures.moved in
     opened-so g.row.M-Parcel.Denot g.row.M-Call.Denot g.row.M-Reply.Denot g.row.M-Batch.Denot g.M.Parcel.HasKind.kind (behaviour g.M.Machine.steps g.M.Machine.takes g.M.Machine.gives g.M.Machine.invariant) {ps = parents (layout_of c.args.layout)} {first = c.scatter.new.shelf.parcels.items}
     (ap (λ o. o.parents.items) c.of-key.ensures ∙ c.in-Ok-Ok-Ok.ensures) (ap (λ o. o.parcels.items) c.of-key.ensures) (c.as_slice.ensures.value ∙ c.in-Ok-Ok-Ok.ensures') (omega arith)
-    (parents-tree (layout_of c.args.layout) c.args.layout.lawful) (parents-few _ _ c.args.layout.lawful) (omega arith)
+    (parents-tree (layout_of c.args.layout) c.args.layout.lawful) (let few = parents-few (layout_of c.args.layout) c.args.layout.lawful in omega arith) (omega arith)
     (λ k pos lt. let s = some-at g.M.Parcel.HasKind.kind (layout_of c.args.layout) f c.requires.exact k pos lt in (s.0, are k ∙ s.1)) f are c.requires.invariant
 
 pub invariant_of-depot : goal.invariant_of-depot

@@ -5,12 +5,12 @@ use Rattle.affinity_tree.specs.Layout.{layout_of}
 use Rattle.affinity_tree.specs.Numbers as numbers
 use Rattle.depot_rule.specs.declared.view.View.{View}
 use Rattle.depot_rule.specs.declared.view.Entry.{Entry}
-use Rattle.depot_rule.specs.Tree.{IsTree}
+use Rattle.affinity_tree.specs.Ancestors.{IsTree}
 use Rattle.depot_rule.specs.Seats.{view_of}
 use Rattle.depot.specs.Calls.{own_views, known}
 use Rattle.depot.specs.Holds.{IsGathered}
 use Rattle.depot.specs.Grants.{HasWith, IsEnded}
-use Rattle.depot_rule.specs.lemmas.Nodes.{parents-tree}
+use Rattle.affinity_tree.specs.lemmas.Standing.{parents-tree}
 use Rattle.depot.proofs.Apart.{apart-of, less-apart}
 use Rattle.depot.proofs.Seated.{gathered-in}
 use Rattle.depot.proofs.Begun.{seat-still}
