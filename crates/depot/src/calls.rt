@@ -22,6 +22,8 @@ const WORN: u64 = 1 << 62;
 
 impl<M: Machine> Depot<M> {
     ghost use Rattle.std.specs.Prelude.{IfOk, IfErr};
+    ghost use Rattle.affinity_tree.specs.Affinity.{affinity_of};
+    ghost use Rattle.affinity_tree.specs.Tree.{IsNode};
     ghost use Rattle.depot.specs.Grants.{HasWith, IsBegun, IsAfter, IsStep, HasInHand};
     ghost use Rattle.depot.specs.Grants.{IsEnded, IsFinished, IsRefused};
     ghost use Rattle.depot.specs.Words.{machine_of, layout_in, view, splits_left};
@@ -107,7 +109,7 @@ impl<M: Machine> Depot<M> {
         reply: &M::Reply,
     )
         requires seat { IsSeatHere self.now seat.old }
-        requires node { IsNodeOf (layout_in self.now) N.KIND (node_of grant) }
+        requires node { IsNode (layout_in self.now) (affinity_of (node_of grant)) }
         requires step { let L = layout_in self.now in
             IsStep (machine_of seat.old)
             (view seat.old) (number_in L grant) call.now reply.now (parcels_in N.parcels L grant) }

@@ -67,7 +67,7 @@ stamp_call-requires-clause-fits g c =
     let open_grant = subst (λ l. (h : List (Option g.row.M-Parcel.Denot)) × Has (known l) n h) is (c.requires.step.1.0, c.requires.step.1.1) in
     let still = subst (λ l. IsSeatOf g.M.Parcel.HasKind.kind L (known l)) is c.requires.seat.1 in
     let key : c.args.self.now.table.shared.key.value.parents.items ≡ numbers.parents L = search rules in
-    stamp-fits g.M.Parcel.HasKind.kind L c.args.self.now.layout.lawful (affinity_of c.args.grant.affinity) c.requires.node.0 (view_of vs) still f c.requires.exact c.args.self.now.table.shared.key.value.parents.items key
+    stamp-fits g.M.Parcel.HasKind.kind L c.args.self.now.layout.lawful (affinity_of c.args.grant.affinity) c.requires.node (view_of vs) still f c.requires.exact c.args.self.now.table.shared.key.value.parents.items key
 
 pub give_home-place-requires-clause-ready : goal.give_home-place-requires-clause-ready
 give_home-place-requires-clause-ready g c =
@@ -111,7 +111,7 @@ give_home-place-requires-clause-listed g c =
     let r : Read = record { word = 0; value = stamped.0; shares = 0 } in
     let e : E = entry_of L (affinity_of c.args.grant.affinity) f c.args.call.now c.args.reply.now in
     subst (λ us. HasWith (view_of us) n f) (sym stamped.1.1)
-    (stamped-listed g.M.Parcel.HasKind.kind L c.args.self.now.layout.lawful (affinity_of c.args.grant.affinity) c.requires.node.0 (view_of vs) still f c.requires.exact
+    (stamped-listed g.M.Parcel.HasKind.kind L c.args.self.now.layout.lawful (affinity_of c.args.grant.affinity) c.requires.node (view_of vs) still f c.requires.exact
     open_grant.0 open_grant.1 (r ∷ (view_of vs).reads) (((view_of vs).seen ++ stamped.1.0) ++ e ∷ []) ((view_of vs).mine ++ length ((view_of vs).seen ++ stamped.1.0) ∷ []))
 
 pub give_home-place-requires-clause-taken : goal.give_home-place-requires-clause-taken
@@ -204,3 +204,7 @@ invariant_of-seat g c =
           (ended-gathered (view_of c.stamp_call.new.place.me.0) (view_of c.give_home-place.result.me.0) n tree stamped_all c.give_home-place.ensures.ended.1 c.give_home-place.ensures.apart c.give_home-place.ensures.others);
       apart = apart-of _ full (less-apart K.tree K.held n seat.apart);
     }
+
+pub give_home-place-requires-clause-node : goal.give_home-place-requires-clause-node
+give_home-place-requires-clause-node g c =
+    (c.requires.node, g.met.N.Node.of_kind (layout_of c.args.self.now.layout) (affinity_of c.args.grant.affinity) c.args.grant.held c.requires.node c.requires.exact)
