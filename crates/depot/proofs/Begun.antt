@@ -25,7 +25,8 @@ use Rattle.depot_rule.proofs.Grants.{at-length}
 use Rattle.depot_rule.proofs.Places.{one-view, of-one}
 use Rattle.depot_rule.specs.lemmas.Trees.{cover-excludes, above-smaller}
 use Rattle.depot.specs.Calls.{IsAmong, IsRead, Refuses, IsExcluded, IsGranted, WasRefused, own_views, known}
-use Rattle.depot.specs.Holds.{untaken, Handled, IsGathered}
+use Rattle.depot.specs.Holds.{untaken, Handled, IsGathered, IsApart}
+use Rattle.depot.proofs.Apart.{more-apart}
 use Rattle.depot.specs.Grants.{IsSeatOf, ListsAs, IsBegun, IsBusy, IsWorn}
 use Rattle.depot.proofs.Moves.{among-later, placed-one}
 use Rattle.depot.proofs.Holding.{is-untaken}
@@ -49,17 +50,20 @@ refuses-node layout a ps b node found lawful m parent number r =
     r
 
 module _ {P E : Type 0} where
+  -- what a look at the ticket says of the view before it and the views after it
+  abbrev pub HasLookedAt : View P E → ℕ → List (View P E) → Type 0
+  HasLookedAt v found ws = (found < worn → ws ≡ record v { looked = 1; reads = record { word = 0; value = found; shares = 0 } ∷ v.reads } ∷ [])
+      × (worn ≤ found → ws ≡ record v { reads = record { word = 0; value = found; shares = 0 } ∷ v.reads } ∷ [])
+      × (IsOnly v → found ≡ made v)
+
   -- the ticket was looked at
   pub looked-at : (Z : Type 0) (views : List (List (View P E))) (vs ws : List (View P E)) (found : ℕ) → views ≡ vs ∷ [] → length (own_views views) ≡ 1
       → OnOne (λ v. Z × (found < worn → ws ≡ record v { looked = 1; reads = record { word = 0; value = found; shares = 0 } ∷ v.reads } ∷ [])
       × (worn ≤ found → ws ≡ record v { reads = record { word = 0; value = found; shares = 0 } ∷ v.reads } ∷ []) × (IsOnly v → found ≡ made v)) vs
-      → (found < worn → ws ≡ record (known views) { looked = 1; reads = record { word = 0; value = found; shares = 0 } ∷ (known views).reads } ∷ [])
-      × (worn ≤ found → ws ≡ record (known views) { reads = record { word = 0; value = found; shares = 0 } ∷ (known views).reads } ∷ [])
-      × (IsOnly (known views) → found ≡ made (known views))
+      → HasLookedAt (known views) found ws
   looked-at Z views vs ws found is one did =
       let q = of-one _ vs (view_of vs) (one-view vs (placed-one is one)) did in
-      subst (λ (v : View P E). (found < worn → ws ≡ record v { looked = 1; reads = record { word = 0; value = found; shares = 0 } ∷ v.reads } ∷ [])
-      × (worn ≤ found → ws ≡ record v { reads = record { word = 0; value = found; shares = 0 } ∷ v.reads } ∷ []) × (IsOnly v → found ≡ made v)) (sym (ap known is)) (q.1, q.2, q.3)
+      subst (λ (v : View P E). HasLookedAt v found ws) (sym (ap known is)) (q.1, q.2, q.3)
 
   -- and found at 2^62 or more
   pub worn-so : (v : View P E) (found : ℕ) (views : List (List (View P E))) (ws : List (View P E)) → views ≡ ws ∷ [] → worn ≤ found
@@ -77,11 +81,38 @@ module _ {P E : Type 0} where
   seat-still kind layout v w tree first h =
       (tree ∙ h.0, λ node parcel m at. h.1 node parcel m (ap (λ (f : List (Option P)). slice_index_or f (number_of layout node) None) (sym first) ∙ at))
 
+  -- a grant of b, of which Q holds, after a read
+  abbrev pub GrantedAfter : (P → Kind) → View P E → ℕ → (View P E → List (Option P) → Type 0) → Read → List (View P E) → Type 0
+  GrantedAfter kind v b Q r ws = (q : (g : List (Option P)) × (more : List Read) × IsGranted kind v b g more ws × Q v g) × (IsExcluded v b → ⊥) × IsAmong r q.1
+
+  -- b was refused, after a read
+  abbrev pub RefusedAfter : View P E → List ℕ → ℕ → ℕ → ℕ → Read → List (View P E) → Type 0
+  RefusedAfter v ps b node found r ws = (more : List Read) × (ws ≡ record v { looked = 1; reads = more ++ v.reads } ∷ [])
+      × IsRead v node found more × Refuses ps b node found × IsAmong r more × (IsOnly v → IsExcluded v b)
+
+  -- the view has entered nothing but for its grants, and has nothing out and nothing stamped, as before
+  abbrev pub IsAsIdle : View P E → View P E → Type 0
+  IsAsIdle v w = (w.unsure ≡ v.unsure) × (w.out ≡ v.out) × (w.path ≡ v.path) × (w.stamped ≡ v.stamped) × (w.parts ≡ v.parts) × (w.tree ≡ v.tree) × (w.first ≡ v.first)
+
+  pub idle-as : (v w : View P E) → IsAsIdle v w → (v.unsure ≡ 0) × (v.out ≡ 0) × (length v.path ≡ 0) × (v.stamped ≡ 0)
+      → (w.unsure ≡ 0) × (w.out ≡ 0) × (length w.path ≡ 0) × (w.stamped ≡ 0)
+  idle-as v w still idle = (still.0 ∙ idle.0, still.1 ∙ idle.1, ap length still.2 ∙ idle.2, still.3 ∙ idle.3)
+
+  -- what is known of the seat once its grant's parcels are gathered
+  pub record HasBegun (v : View P E) (b : ℕ) (f : ℕ → Option P) (g : List (Option P)) (views : List (List (View P E))) : Type 0 where
+    pub now : View P E
+    pub full : views ≡ (now ∷ []) ∷ []
+    pub idle : IsAsIdle v now
+    pub begun : IsBegun v b f (known views)
+    pub lists : ListsAs v b g f
+    pub gathered : IsGathered now
+    pub apart : IsApart now
+
   -- a claim after a look
   pub granted-after : (kind : P → Kind) (v : View P E) (b : ℕ) (Q : View P E → List (Option P) → Type 0) → ((rs : List Read) (g : List (Option P)) → Q (record v { looked = 1; reads = rs }) g → Q v g)
       → (r : Read) (vs ws : List (View P E)) → vs ≡ record v { looked = 1; reads = r ∷ v.reads } ∷ []
       → ((g : List (Option P)) × (more : List Read) × IsGranted kind (view_of vs) b g more ws × Q (view_of vs) g) × (IsExcluded (view_of vs) b → ⊥)
-      → (q : (g : List (Option P)) × (more : List Read) × IsGranted kind v b g more ws × Q v g) × (IsExcluded v b → ⊥) × IsAmong r q.1
+      → GrantedAfter kind v b Q r ws
   granted-after kind v b Q still r vs ws is q =
       let t = subst (λ us. ((g : List (Option P)) × (more : List Read) × IsGranted kind (view_of us) b g more ws × Q (view_of us) g) × (IsExcluded (view_of us) b → ⊥)) is q in
       let g = t.0.0 in let more = t.0.1 in let i = t.0.2 in (
@@ -179,12 +210,21 @@ module _ {P E : Type 0} where
           let some_gone : 0 < tally k by_hand.0 = omega arith in some_gone)
           (at_set v.held b c (Some g) (Some h) has)
 
-      pub begun-views : (views : List (List (View P E))) → views ≡ ws ∷ [] → views ≡ (begun_view ∷ []) ∷ []
-      begun-views views is = is ∙ ap (λ us. us ∷ []) begun-is
+      pub begun-all : (IsExcluded v b → ⊥) → (found : ℕ) → found < worn → (IsOnly v → found ≡ made v) → IsAmong (record { word = 0; value = found; shares = 0 }) more
+          → IsGathered v → IsApart v → (views : List (List (View P E))) → views ≡ ws ∷ [] → HasBegun v b f g views
+      begun-all apart found low own looked before apart_before views is = record {
+        now = begun_view;
+        full = is ∙ ap (λ us. us ∷ []) begun-is;
+        idle = (refl, refl, refl, refl, refl, refl, refl);
+        begun = begun-so apart found low own looked views is;
+        lists = begun-lists;
+        gathered = begun-gathered apart before;
+        apart = more-apart v.tree v.held b g (λ c h has ex. apart (c, h, has, ex)) apart_before;
+      }
 
   -- a claim that was refused after a look: nothing but reads was added
   pub refused-after : (v : View P E) (ps : List ℕ) (b node found : ℕ) (r : Read) (vs ws : List (View P E)) → v.path ≡ [] → vs ≡ record v { looked = 1; reads = r ∷ v.reads } ∷ [] → WasRefused ps (view_of vs) b node found ws
-      → (more : List Read) × (ws ≡ record v { looked = 1; reads = more ++ v.reads } ∷ []) × IsRead v node found more × Refuses ps b node found × IsAmong r more × (IsOnly v → IsExcluded v b)
+      → RefusedAfter v ps b node found r ws
   refused-after v ps b node found r vs ws none is q =
       let t = subst (λ us. WasRefused ps (view_of us) b node found ws) is q in (
         t.0 ++ r ∷ [],
@@ -196,7 +236,7 @@ module _ {P E : Type 0} where
       )
 
   pub busy-so : (layout : Layout) (v : View P E) (ps : List ℕ) (b node found k c : ℕ) (ws : List (View P E)) (views : List (List (View P E))) (ticket : ℕ) → ticket < worn → (IsOnly v → ticket ≡ made v) → ps ≡ parents layout → b ≡ k → c ≡ node → views ≡ ws ∷ []
-      → (more : List Read) × (ws ≡ record v { looked = 1; reads = more ++ v.reads } ∷ []) × IsRead v node found more × Refuses ps b node found × IsAmong (record { word = 0; value = ticket; shares = 0 }) more × (IsOnly v → IsExcluded v b)
+      → RefusedAfter v ps b node found (record { word = 0; value = ticket; shares = 0 }) ws
       → IsBusy (parents layout) v k c found (known views)
   busy-so layout v ps b node found k c ws views ticket low own parent number at is q =
       subst (λ (x : List ℕ × ℕ × ℕ). IsBusy x.0 v x.1 x.2 found (known views)) (λ i. (parent i, number i, sym at i))
