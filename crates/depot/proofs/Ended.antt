@@ -24,6 +24,7 @@ use Rattle.depot_rule.proofs.Places.{one-view}
 use Rattle.depot_rule.proofs.Grants.{at-length}
 use Rattle.depot_rule.specs.lemmas.Trees.{cover-excludes}
 use Rattle.depot.specs.Calls.{known}
+use Rattle.depot.proofs.Moves.{no-path}
 use Rattle.depot.specs.Holds.{Lists, IsGathered}
 use Rattle.depot.specs.Grants.{entry_of, IsSeatOf, HasWith, IsStep, HasInHand, IsStamped, IsEnded, IsFinished}
 use Rattle.depot_rule.specs.lemmas.Covering.{covers-true, true-covers}
@@ -168,3 +169,61 @@ module _ {P C R B : Type 0} (m : Behaviour P C R B) where
       → HasInHand m v call reply → (e : Entry P C R) → item ≡ Some e → HasInHand m v e.call e.reply
   stamp-hand layout a v call reply f item said hand e is =
       subst (λ (d : Entry P C R). HasInHand m v d.call d.reply) (some-same (entry_of layout a f call reply) e (sym said ∙ is)) hand
+
+-- ---- what the goals of a call that ends share
+
+module _ {P E : Type 0} where
+  -- a seat that has a grant of b, with the parcels f, and its views while the call runs
+  pub record HasOpen (kind : P → Kind) (layout : Layout) (b : ℕ) (f : ℕ → Option P) (views : List (List (View P E))) (vs : List (View P E)) : Type 0 where
+    pub is : views ≡ vs ∷ []
+    pub listed : HasWith (view_of vs) b f
+    pub still : IsSeatOf kind layout (view_of vs)
+    pub gathered : IsGathered (view_of vs)
+    pub out : (view_of vs).out ≡ 0
+    pub path : (view_of vs).path ≡ []
+
+  pub open-so : (kind : P → Kind) (layout : Layout) (b : ℕ) (f : ℕ → Option P) (views : List (List (View P E))) (vs : List (View P E)) → views ≡ vs ∷ []
+      → HasWith (known views) b f → IsSeatOf kind layout (known views) → IsGathered (known views) → (known views).out ≡ 0 → length (known views).path ≡ 0 → HasOpen kind layout b f views vs
+  open-so kind layout b f views vs is listed still gathered out path = record {
+    is = is;
+    listed = subst (λ l. HasWith (known l) b f) is listed;
+    still = subst (λ l. IsSeatOf kind layout (known l)) is still;
+    gathered = subst (λ l. IsGathered (known l)) is gathered;
+    out = sym (ap (λ l. (known l).out) is) ∙ out;
+    path = no-path is path;
+  }
+
+  -- all that the grant covers is out with the seat
+  pub open-taken : (kind : P → Kind) (layout : Layout) (b : ℕ) (f : ℕ → Option P) (views : List (List (View P E))) (vs : List (View P E)) → HasOpen kind layout b f views vs
+      → (k : ℕ) → 0 < k → k < length (view_of vs).tree → Covers (view_of vs).tree b k → 0 < tally k (view_of vs).gone
+  open-taken kind layout b f views vs o k pos lt cover = o.gathered b k o.listed.0 o.listed.1 pos lt cover
+
+  -- the views once the entry is stamped
+  pub record HasStamped (kind : P → Kind) (layout : Layout) (b : ℕ) (f : ℕ → Option P) (ws : List (View P E)) : Type 0 where
+    pub one : length ws ≡ 1
+    pub out : (view_of ws).out ≡ 0
+    pub path : (view_of ws).path ≡ []
+    pub tree : (view_of ws).tree ≡ parents layout
+    pub listed : HasWith (view_of ws) b f
+    pub gathered : IsGathered (view_of ws)
+
+module _ {P C R B : Type 0} (m : Behaviour P C R B) where
+  pub has-stamped : (kind : P → Kind) (layout : Layout) (lawful : fault_of layout ≡ None) (a : Affinity) → IsNode layout a → (before f : ℕ → Option P) → HasExactly kind layout a f
+      → (call : C) (reply : R) (views : List (List (View P (Entry P C R)))) (vs ws : List (View P (Entry P C R))) → HasOpen kind layout (number_of layout a) before views vs
+      → (ticket : ℕ) → IsStamped m (view_of vs) (entry_of layout a f call reply) ticket ws → HasStamped kind layout (number_of layout a) f ws
+  has-stamped kind layout lawful a node before f exact call reply views vs ws o ticket stamped =
+      let v = view_of vs in
+      let n : ℕ = number_of layout a in
+      let e = entry_of layout a f call reply in
+      let rs : List Read = record { word = 0; value = ticket; shares = 0 } ∷ v.reads in
+      let seen = (v.seen ++ stamped.0) ++ e ∷ [] in let mine = v.mine ++ length (v.seen ++ stamped.0) ∷ [] in
+      record {
+        one = ap length stamped.1;
+        out = ap (λ us. (view_of us).out) stamped.1 ∙ o.out;
+        path = ap (λ us. (view_of us).path) stamped.1 ∙ o.path;
+        tree = ap (λ us. (view_of us).tree) stamped.1 ∙ o.still.0;
+        listed = subst (λ us. HasWith (view_of us) n f) (sym stamped.1)
+            (stamped-listed kind layout lawful a node v o.still f exact o.listed.0 o.listed.1 rs seen mine);
+        gathered = subst (λ us. IsGathered (view_of us)) (sym stamped.1)
+            (stamped-gathered v n o.listed.0 (by_number f (1 + node_count layout)) rs seen mine o.gathered o.listed.1);
+      }
