@@ -1,5 +1,5 @@
 -- Seats between two calls: what becomes of their grants' parcels as they part, join and meet.
-use Rattle.std.proofs.Common.{◌≡◌, ℕ, ◌<◌, Bool, true, false, ltb, List, [], ◌∷◌, ◌++◌, length, sym, refl, ap, ◌∙◌, subst, arith, Option, Some, ⊎_elim}
+use Rattle.std.proofs.Common.{◌≡◌, ℕ, ◌+◌, ◌≤◌, ◌<◌, Bool, true, false, ltb, List, [], ◌∷◌, ◌++◌, length, sym, refl, ap, ◌∙◌, subst, arith, Option, Some, ⊎_elim}
 use mathlib.Core.Option.{some}
 use lib.ListN.{get_elem?}
 use Rattle.depot_rule.specs.declared.view.View.{View}
@@ -9,7 +9,9 @@ use Rattle.depot_rule.specs.Shares.{opening_view}
 use Rattle.depot_rule.specs.Seats.{if_less, longer, fresh, merge, merged, having_seen, view_of}
 use Rattle.depot_rule.specs.lemmas.Sums.{tally-append}
 use Rattle.depot_rule.proofs.Joining.{none-held, held-of}
-use Rattle.depot.specs.Calls.{known}
+use Rattle.depot_rule.specs.Plays.{AreApart, HaveSeenOne, KeepEntries}
+use Rattle.depot.specs.Calls.{own_views, known}
+use Rattle.depot.proofs.Moves.{placed-one}
 use Rattle.depot.specs.Holds.{IsGathered}
 
 if-same : {A : Type 0} (t : Bool) (x : A) → if_less t x x ≡ x
@@ -56,3 +58,41 @@ module _ {P E : Type 0} where
 
   pub gathered-of : {views : List (List (View P E))} (u : View P E) → views ≡ (u ∷ []) ∷ [] → IsGathered u → IsGathered (known views)
   gathered-of u is h = subst (λ l. IsGathered (known l)) (sym is) h
+
+-- ---- what the goals of two seats that meet share
+
+module _ {P E : Type 0} where
+  -- each of the two seats has one view, and the views lie side by side
+  pub record HasMet (first second : List (List (View P E))) (vs ws us : List (View P E)) : Type 0 where
+    pub is : first ≡ vs ∷ []
+    pub other_is : second ≡ ws ∷ []
+    pub one : length vs ≡ 1
+    pub other_one : length ws ≡ 1
+    pub both : us ≡ view_of vs ∷ view_of ws ∷ []
+
+  pub met-so : (first second : List (List (View P E))) (vs ws us : List (View P E)) → first ≡ vs ∷ [] → second ≡ ws ∷ []
+      → length (own_views first) ≡ 1 → length (own_views second) ≡ 1 → us ≡ vs ++ ws → HasMet first second vs ws us
+  met-so first second vs ws us is other_is one other_one joined =
+      let o = placed-one is one in let p = placed-one other_is other_one in
+      record { is = is; other_is = other_is; one = o; other_one = p; both = joined ∙ met-two vs ws o p }
+
+  -- what a load says of two views that lie side by side
+  abbrev pub AreAlike : View P E → View P E → Type 0
+  AreAlike v w = (v.tree ≡ w.tree) × (v.parts + w.parts ≤ 64) × AreApart v w × HaveSeenOne v w × KeepEntries v w
+
+  -- the same of what the seats know
+  pub alike-known : (first second : List (List (View P E))) (vs ws us : List (View P E)) → HasMet first second vs ws us
+      → AreAlike (view_of vs) (view_of ws) → AreAlike (known first) (known second)
+  alike-known first second vs ws us met alike =
+      subst (λ (x : View P E × View P E). AreAlike x.0 x.1) (λ i. (sym (ap known met.is) i, sym (ap known met.other_is) i)) alike
+
+  -- both have seen the longer history
+  abbrev pub told : View P E → View P E → View P E → View P E
+  told v w u = having_seen (longer v.seen w.seen) u
+
+  pub told-known : (first second : List (List (View P E))) (vs ws us : List (View P E)) → HasMet first second vs ws us
+      → (told (view_of vs) (view_of ws) (view_of vs) ≡ told (known first) (known second) (known first)) × (told (view_of vs) (view_of ws) (view_of ws) ≡ told (known first) (known second) (known second))
+  told-known first second vs ws us met = (
+    λ i. told (sym (ap known met.is) i) (sym (ap known met.other_is) i) (sym (ap known met.is) i),
+    λ i. told (sym (ap known met.is) i) (sym (ap known met.other_is) i) (sym (ap known met.other_is) i),
+  )
