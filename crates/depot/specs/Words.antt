@@ -39,6 +39,10 @@ number_at layout affinity = number_of layout (affinity_of affinity)
 
 -- ---- a depot and its seats
 
+-- what a machine's calls do
+abbrev pub served_by : {M P C R B : Type 0} → machines.Ghosts M P C R B → Behaviour P C R B
+served_by G = behaviour G.steps G.takes G.gives G.invariant
+
 -- the layout that the depot was made of
 abbrev pub layout_in : {M P C R B : Type 0} → Depot M P C R B → trees.Layout
 layout_in depot = layout_of depot.layout
@@ -46,7 +50,7 @@ layout_in depot = layout_of depot.layout
 module _ {M P C R B : Type 0} {G : machines.Ghosts M P C R B} {K : kinds.Ghosts P} where
   -- what the depot of the seat serves
   abbrev pub machine_of : Seat M P C R B G K → Behaviour P C R B
-  machine_of seat = behaviour G.steps G.takes G.gives G.invariant
+  machine_of seat = served_by G
 
   -- what the seat knows
   abbrev pub view : Seat M P C R B G K → View P (Entry P C R)

@@ -2,7 +2,7 @@ use Rattle.std.proofs.Common.{rules, arith, ◌≡◌, ℕ, ◌+◌, ◌∷◌, 
 use lib.ListN.{get_elem?}
 use Rattle.depot_rule.specs.declared.view.Entry.{Entry}
 use Rattle.depot_rule.specs.declared.view.View.{View}
-use Rattle.depot_rule.specs.History.{Behaviour, behaviour, entries_of}
+use Rattle.depot_rule.specs.History.{entries_of}
 use Rattle.depot_rule.specs.Sums.{total}
 use Rattle.depot_rule.specs.Seats.{view_of, merge, first_of, others_of}
 use Rattle.depot_rule.proofs.Dealing.{meets, parts-again}
@@ -10,7 +10,7 @@ use Rattle.depot_rule.proofs.Looking.{alikes}
 use Rattle.depot_rule.proofs.Joining.{merges-seats, held-first, held-of, held-second}
 use Rattle.depot.specs.Calls.{known}
 use Rattle.depot.specs.Holds.{IsApart}
-use Rattle.depot.specs.Words.{view}
+use Rattle.depot.specs.Words.{served_by, view}
 use Rattle.depot.proofs.Apart.{Apart, both-apart}
 use Rattle.depot.proofs.Between.{between}
 use Rattle.depot.proofs.Moves.{no-path}
@@ -20,9 +20,6 @@ use Rattle.depot.proofs.meeting.join_seat.Goals.{After-join_seat, After-load, Af
 use Rattle.depot.proofs.meeting.join_seat.Goals as goal
 
 -- ---- what several goals share
-
-abbrev machine : (g : Over) → Behaviour g.row.M-Parcel.Denot g.row.M-Call.Denot g.row.M-Reply.Denot g.row.M-Batch.Denot
-machine g = behaviour g.M.Machine.steps g.M.Machine.takes g.M.Machine.gives g.M.Machine.invariant
 
 met : (g : Over) (c : After-join_seat g) → HasMet c.args.first.badge.views c.args.second.badge.views c.into_seat-place.result.me.0 c.into_seat-other.result.me.0 c.join_seat.new.seat.me.0
 met g c =
@@ -58,7 +55,7 @@ join_seat-requires g c = (
   search rules,
   search rules,
   search rules,
-  meets g.row.M-Parcel.Denot g.row.M-Call.Denot g.row.M-Reply.Denot g.row.M-Batch.Denot g.M.Parcel.HasKind.kind (machine g) c.args.board.now.key.value.parents.items c.args.board.now.key.value.parcels.items
+  meets g.row.M-Parcel.Denot g.row.M-Call.Denot g.row.M-Reply.Denot g.row.M-Batch.Denot g.M.Parcel.HasKind.kind (served_by g.M.Machine) c.args.board.now.key.value.parents.items c.args.board.now.key.value.parcels.items
       _ c.into_seat-place.result.me.0 _ c.into_seat-other.result.me.0,
 )
 
@@ -66,7 +63,7 @@ pub load-requires : goal.load-requires
 load-requires g c = (
   search rules,
   search rules,
-  alikes g.row.M-Parcel.Denot g.row.M-Call.Denot g.row.M-Reply.Denot g.row.M-Batch.Denot g.M.Parcel.HasKind.kind (machine g) c.args.board.now.key.value.parents.items c.args.board.now.key.value.parcels.items
+  alikes g.row.M-Parcel.Denot g.row.M-Call.Denot g.row.M-Reply.Denot g.row.M-Batch.Denot g.M.Parcel.HasKind.kind (served_by g.M.Machine) c.args.board.now.key.value.parents.items c.args.board.now.key.value.parcels.items
       _ _ c.join_seat.new.seat.me,
 )
 
@@ -76,7 +73,7 @@ split_seat-other-requires g c =
     let loaded = ap (λ m. m.0) c.load.ensures.2.0 ∙ m.both in (
       search rules,
       search rules,
-      parts-again g.row.M-Parcel.Denot g.row.M-Call.Denot g.row.M-Reply.Denot g.row.M-Batch.Denot g.M.Parcel.HasKind.kind (machine g) c.args.board.now.key.value.parents.items c.args.board.now.key.value.parcels.items
+      parts-again g.row.M-Parcel.Denot g.row.M-Call.Denot g.row.M-Reply.Denot g.row.M-Batch.Denot g.M.Parcel.HasKind.kind (served_by g.M.Machine) c.args.board.now.key.value.parents.items c.args.board.now.key.value.parcels.items
           _ c.load.new.seat.me.0 (ap length loaded),
     )
 
@@ -90,7 +87,7 @@ join_seat-requires-2 g c =
       search rules,
       search rules,
       search rules,
-      merges-seats g.row.M-Parcel.Denot g.row.M-Call.Denot g.row.M-Reply.Denot g.row.M-Batch.Denot g.M.Parcel.HasKind.kind (machine g) c.args.board.now.key.value.parents.items c.args.board.now.key.value.parcels.items
+      merges-seats g.row.M-Parcel.Denot g.row.M-Call.Denot g.row.M-Reply.Denot g.row.M-Batch.Denot g.M.Parcel.HasKind.kind (served_by g.M.Machine) c.args.board.now.key.value.parents.items c.args.board.now.key.value.parcels.items
           _ c.split_seat-other.new.seat.me.0 _ c.split_seat-other.result.me.0 (ap length p.0) (ap length p.1)
           (ap (λ us. (view_of us).path) p.1 ∙ no-path m.other_is idle.2)
           (ap (λ us. (view_of us).unsure) p.1 ∙ (sym (ap (λ l. (known l).unsure) m.other_is) ∙ idle.0))

@@ -1,18 +1,16 @@
 use Rattle.std.proofs.Common.{rules, ◌≡◌, ◌∷◌, [], length, ap, ◌∙◌}
-use Rattle.depot_rule.specs.History.{Behaviour, behaviour, entries_of}
+use Rattle.depot_rule.specs.History.{entries_of}
 use Rattle.depot_rule.specs.Seats.{view_of, first_of, others_of}
 use Rattle.depot_rule.proofs.Dealing.{meets, parts-again}
 use Rattle.depot_rule.proofs.Looking.{alikes}
 use Rattle.depot.specs.Calls.{known}
+use Rattle.depot.specs.Words.{served_by}
 use Rattle.depot.proofs.Seated.{HasMet, met-so, AreAlike, alike-known, told-known}
 use Rattle.depot.proofs.meeting.meet.Given.{Over}
 use Rattle.depot.proofs.meeting.meet.Goals.{After-join_seat, After-load}
 use Rattle.depot.proofs.meeting.meet.Goals as goal
 
 -- ---- what several goals share
-
-abbrev machine : (g : Over) → Behaviour g.row.M-Parcel.Denot g.row.M-Call.Denot g.row.M-Reply.Denot g.row.M-Batch.Denot
-machine g = behaviour g.M.Machine.steps g.M.Machine.takes g.M.Machine.gives g.M.Machine.invariant
 
 met : (g : Over) (c : After-join_seat g) → HasMet c.args.one.now.badge.views c.args.other.now.badge.views c.into_seat-first.result.me.0 c.into_seat-second.result.me.0 c.join_seat.new.seat.me.0
 met g c =
@@ -32,7 +30,7 @@ join_seat-requires g c = (
   search rules,
   search rules,
   search rules,
-  meets g.row.M-Parcel.Denot g.row.M-Call.Denot g.row.M-Reply.Denot g.row.M-Batch.Denot g.M.Parcel.HasKind.kind (machine g) c.args.board.now.key.value.parents.items c.args.board.now.key.value.parcels.items
+  meets g.row.M-Parcel.Denot g.row.M-Call.Denot g.row.M-Reply.Denot g.row.M-Batch.Denot g.M.Parcel.HasKind.kind (served_by g.M.Machine) c.args.board.now.key.value.parents.items c.args.board.now.key.value.parcels.items
       _ c.into_seat-first.result.me.0 _ c.into_seat-second.result.me.0,
 )
 
@@ -40,7 +38,7 @@ pub load-requires : goal.load-requires
 load-requires g c = (
   search rules,
   search rules,
-  alikes g.row.M-Parcel.Denot g.row.M-Call.Denot g.row.M-Reply.Denot g.row.M-Batch.Denot g.M.Parcel.HasKind.kind (machine g) c.args.board.now.key.value.parents.items c.args.board.now.key.value.parcels.items
+  alikes g.row.M-Parcel.Denot g.row.M-Call.Denot g.row.M-Reply.Denot g.row.M-Batch.Denot g.M.Parcel.HasKind.kind (served_by g.M.Machine) c.args.board.now.key.value.parents.items c.args.board.now.key.value.parcels.items
       _ _ c.join_seat.new.seat.me,
 )
 
@@ -50,7 +48,7 @@ split_seat-second-requires g c =
     let loaded = ap (λ m. m.0) c.load.ensures.2.0 ∙ m.both in (
       search rules,
       search rules,
-      parts-again g.row.M-Parcel.Denot g.row.M-Call.Denot g.row.M-Reply.Denot g.row.M-Batch.Denot g.M.Parcel.HasKind.kind (machine g) c.args.board.now.key.value.parents.items c.args.board.now.key.value.parcels.items
+      parts-again g.row.M-Parcel.Denot g.row.M-Call.Denot g.row.M-Reply.Denot g.row.M-Batch.Denot g.M.Parcel.HasKind.kind (served_by g.M.Machine) c.args.board.now.key.value.parents.items c.args.board.now.key.value.parcels.items
           _ c.load.new.seat.me.0 (ap length loaded),
     )
 

@@ -1,9 +1,9 @@
 use Rattle.std.proofs.Common.{rules, arith, ◌≡◌, ◌+◌, length, sym, ap, ◌∙◌, subst}
-use Rattle.depot_rule.specs.History.{behaviour}
 use Rattle.depot_rule.specs.Seats.{fresh, view_of}
 use Rattle.depot_rule.proofs.Joining.{splits-seat}
 use Rattle.depot.specs.Calls.{own_views, known}
 use Rattle.depot.specs.Holds.{IsGathered, IsApart}
+use Rattle.depot.specs.Words.{served_by}
 use Rattle.depot.proofs.Apart.{none-apart}
 use Rattle.depot.proofs.Seated.{fresh-gathered}
 use Rattle.depot.proofs.meeting.split_seat.Goals as goal
@@ -15,7 +15,7 @@ split_seat-second-requires g c =
     let parts : (view_of c.into_seat-place.result.me.0).parts ≡ c.args.seat.splits + 1 = sym (ap (λ l. (known l).parts) is) ∙ c.args.seat.parts in (
       search rules,
       search rules,
-      splits-seat g.row.M-Parcel.Denot g.row.M-Call.Denot g.row.M-Reply.Denot g.row.M-Batch.Denot g.M.Parcel.HasKind.kind (behaviour g.M.Machine.steps g.M.Machine.takes g.M.Machine.gives g.M.Machine.invariant) c.args.board.now.key.value.parents.items c.args.board.now.key.value.parcels.items
+      splits-seat g.row.M-Parcel.Denot g.row.M-Call.Denot g.row.M-Reply.Denot g.row.M-Batch.Denot g.M.Parcel.HasKind.kind (served_by g.M.Machine) c.args.board.now.key.value.parents.items c.args.board.now.key.value.parcels.items
           _ c.into_seat-place.result.me.0 one (omega arith),
     )
 

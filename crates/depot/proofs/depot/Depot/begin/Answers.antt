@@ -6,13 +6,13 @@ use Rattle.affinity_tree.specs.lemmas.Standing.{parents-tree, number-place}
 use Rattle.depot_rule.specs.declared.view.View.{View}
 use Rattle.depot_rule.specs.declared.view.Read.{Read}
 use Rattle.depot_rule.specs.declared.view.Entry.{Entry}
-use Rattle.depot_rule.specs.History.{Behaviour, behaviour, listed}
+use Rattle.depot_rule.specs.History.{listed}
 use Rattle.depot_rule.specs.Seats.{view_of}
 use Rattle.depot_rule.specs.Shares.{worn}
 use Rattle.depot_rule.proofs.Places.{one-view}
 use Rattle.depot_rule.proofs.Looking.{looks}
 use Rattle.depot.specs.Calls.{known}
-use Rattle.depot.specs.Words.{view, layout_in, number_at}
+use Rattle.depot.specs.Words.{served_by, view, layout_in, number_at}
 use Rattle.depot.specs.Grants.{IsBegun, IsAfter}
 use Rattle.depot.proofs.Moves.{placed-one}
 use Rattle.depot.proofs.Holding.{nothing}
@@ -28,9 +28,6 @@ use Rattle.depot.proofs.depot.Depot.begin.Goals as goal
 abbrev E : Over → Type 0
 E g = Entry g.row.M-Parcel.Denot g.row.M-Call.Denot g.row.M-Reply.Denot
 
-abbrev machine : (g : Over) → Behaviour g.row.M-Parcel.Denot g.row.M-Call.Denot g.row.M-Reply.Denot g.row.M-Batch.Denot
-machine g = behaviour g.M.Machine.steps g.M.Machine.takes g.M.Machine.gives g.M.Machine.invariant
-
 abbrev ticket : ℕ → Read
 ticket found = record { word = 0; value = found; shares = 0 }
 
@@ -40,12 +37,12 @@ looked g c =
     looked-at _ c.args.seat.now.badge.views c.into_seat-place.result.me.0 c.load-ticket.new.seat.me.0 c.load-ticket.result is c.args.seat.now.one.1 c.load-ticket.ensures.2.0
 
 granted : (g : Over) (c : In-Ok g) → GrantedAfter g.M.Parcel.HasKind.kind (view c.args.seat.now) c.number_of-node.result
-    (λ u l. IsAfter (machine g) u c.number_of-node.result (listed l)) (ticket c.load-ticket.result) c.try_claim.new.place.me.0
+    (λ u l. IsAfter (served_by g.M.Machine) u c.number_of-node.result (listed l)) (ticket c.load-ticket.result) c.try_claim.new.place.me.0
 granted g c =
     let is : c.args.seat.now.badge.views ≡ c.into_seat-place.result.me.0 ∷ [] = search rules in
     let low : c.load-ticket.result < worn = search rules in
     let look = looked-at _ c.args.seat.now.badge.views c.into_seat-place.result.me.0 c.load-ticket.new.seat.me.0 c.load-ticket.result is c.args.seat.now.one.1 c.load-ticket.ensures.2.0 in
-    granted-after g.M.Parcel.HasKind.kind (view c.args.seat.now) c.number_of-node.result (λ u l. IsAfter (machine g) u c.number_of-node.result (listed l)) (λ rs l x. x)
+    granted-after g.M.Parcel.HasKind.kind (view c.args.seat.now) c.number_of-node.result (λ u l. IsAfter (served_by g.M.Machine) u c.number_of-node.result (listed l)) (λ rs l x. x)
     (ticket c.load-ticket.result) c.load-ticket.new.seat.me.0 c.try_claim.new.place.me.0 (look.0 low) c.in-Ok.ensures.granted
 
 refused : (g : Over) (c : In-Err g) → RefusedAfter (view c.args.seat.now) c.deref.result.now c.number_of-node.result c.in-Err.busy.node c.in-Err.busy.word
@@ -58,7 +55,7 @@ refused g c =
     c.load-ticket.new.seat.me.0 c.try_claim.new.place.me.0 (nothing (view c.args.seat.now).path c.args.seat.now.idle.2) (look.0 low) c.in-Err.ensures.refused
 
 begun : (g : Over) (c : After-into_badge-in-Ok g) (q : GrantedAfter g.M.Parcel.HasKind.kind (view c.args.seat.now) c.number_of-node.result
-    (λ u l. IsAfter (machine g) u c.number_of-node.result (listed l)) (ticket c.load-ticket.result) c.try_claim.new.place.me.0)
+    (λ u l. IsAfter (served_by g.M.Machine) u c.number_of-node.result (listed l)) (ticket c.load-ticket.result) c.try_claim.new.place.me.0)
     → HasBegun (view c.args.seat.now) c.number_of-node.result (g.N.Node.parcels (layout_in c.args.self.now) (affinity_of c.args.affinity) c.gather-held.result) q.0.0 c.into_badge-in-Ok.result.views
 begun g c q =
     let L = layout_in c.args.self.now in
@@ -81,7 +78,7 @@ load-ticket-requires g c =
     let words : c.args.self.now.table.shared.table_id.words ≡ length (numbers.parents (layout_in c.args.self.now)) = search rules in (
       search rules,
       subst (λ (n : ℕ). 0 < n) (sym words) (some-parents (layout_in c.args.self.now)),
-      looks g.row.M-Parcel.Denot g.row.M-Call.Denot g.row.M-Reply.Denot g.row.M-Batch.Denot g.M.Parcel.HasKind.kind (machine g) key.parents.items key.parcels.items
+      looks g.row.M-Parcel.Denot g.row.M-Call.Denot g.row.M-Reply.Denot g.row.M-Batch.Denot g.M.Parcel.HasKind.kind (served_by g.M.Machine) key.parents.items key.parcels.items
           _ _ c.into_seat-place.result.me (view_of c.into_seat-place.result.me.0) (one-view c.into_seat-place.result.me.0 (placed-one is c.args.seat.now.one.1)),
     )
 
@@ -152,7 +149,7 @@ returns-in-Ok-clause-after g c =
     let h = begun g at.After-into_badge-in-Ok q in
     let seen = q.0.3 in
     let f = g.N.Node.parcels (layout_in c.args.self.now) (affinity_of c.args.affinity) c.gather-held.result in
-    subst (λ (n : ℕ). IsAfter (machine g) (view c.args.seat.now) n f) c.number_of-node.ensures.number
+    subst (λ (n : ℕ). IsAfter (served_by g.M.Machine) (view c.args.seat.now) n f) c.number_of-node.ensures.number
     (seen.0, seen.1, seen.2, seen.3, λ k pos lt cover. sym (h.lists k pos lt cover) ∙ seen.4 k pos lt cover)
 
 pub invariant_of-seat-in-Err : goal.invariant_of-seat-in-Err

@@ -4,9 +4,9 @@ use Rattle.nfs_model.specs.Tree.{Serial}
 use Rattle.affinity_tree.specs.Layout.{layout_of}
 use Rattle.affinity_tree.specs.Numbers.{parents, node_count}
 use Rattle.affinity_tree.specs.lemmas.Smaller.{length-parents}
-use Rattle.depot_rule.specs.History.{behaviour}
 use Rattle.depot.specs.Calls.{known}
 use Rattle.depot.specs.Closed.{left_at}
+use Rattle.depot.specs.Words.{served_by}
 use Rattle.depot.proofs.Opened.{ended-so}
 use Rattle.depot.proofs.Emptied.{whole-some, whole-placed, taken-left, nothing-left}
 use Rattle.depot.proofs.depot.Depot.close.Goals as goal
@@ -14,7 +14,7 @@ use Rattle.depot.proofs.depot.Depot.close.Goals as goal
 pub invariant_of-closed : goal.invariant_of-closed
 invariant_of-closed g c =
     let all : (known c.args.seat.badge.views).parts ≡ 64 = (let p = c.args.seat.parts in let q = c.requires.only in omega arith) in
-    let w = ended-so g.row.M-Parcel.Denot g.row.M-Call.Denot g.row.M-Reply.Denot g.row.M-Batch.Denot g.M.Parcel.HasKind.kind (behaviour g.M.Machine.steps g.M.Machine.takes g.M.Machine.gives g.M.Machine.invariant) c.into_seat-place.result.me.0
+    let w = ended-so g.row.M-Parcel.Denot g.row.M-Call.Denot g.row.M-Reply.Denot g.row.M-Batch.Denot g.M.Parcel.HasKind.kind (served_by g.M.Machine) c.into_seat-place.result.me.0
     c.into_seat-place.ensures.2 c.args.seat.one.1 all c.requires.none_open c.close_with.ensures.values.2 in
     let slots = c.close_with.result.slots in
     let counts = slots_counts slots in
@@ -31,7 +31,7 @@ invariant_of-closed g c =
 pub gather-held-requires-clause-there : goal.gather-held-requires-clause-there
 gather-held-requires-clause-there g c =
     let all : (known c.args.seat.badge.views).parts ≡ 64 = (let p = c.args.seat.parts in let q = c.requires.only in omega arith) in
-    let w = ended-so g.row.M-Parcel.Denot g.row.M-Call.Denot g.row.M-Reply.Denot g.row.M-Batch.Denot g.M.Parcel.HasKind.kind (behaviour g.M.Machine.steps g.M.Machine.takes g.M.Machine.gives g.M.Machine.invariant) c.into_seat-place.result.me.0
+    let w = ended-so g.row.M-Parcel.Denot g.row.M-Call.Denot g.row.M-Reply.Denot g.row.M-Batch.Denot g.M.Parcel.HasKind.kind (served_by g.M.Machine) c.into_seat-place.result.me.0
     c.into_seat-place.ensures.2 c.args.seat.one.1 all c.requires.none_open c.close_with.ensures.values.2 in
     let slots = c.close_with.result.slots in
     let counts = slots_counts slots in
@@ -42,7 +42,7 @@ gather-held-requires-clause-there g c =
 pub free-requires : goal.free-requires
 free-requires g c =
     let all : (known c.args.seat.badge.views).parts ≡ 64 = (let p = c.args.seat.parts in let q = c.requires.only in omega arith) in
-    let w = ended-so g.row.M-Parcel.Denot g.row.M-Call.Denot g.row.M-Reply.Denot g.row.M-Batch.Denot g.M.Parcel.HasKind.kind (behaviour g.M.Machine.steps g.M.Machine.takes g.M.Machine.gives g.M.Machine.invariant) c.into_seat-place.result.me.0
+    let w = ended-so g.row.M-Parcel.Denot g.row.M-Call.Denot g.row.M-Reply.Denot g.row.M-Batch.Denot g.M.Parcel.HasKind.kind (served_by g.M.Machine) c.into_seat-place.result.me.0
     c.into_seat-place.ensures.2 c.args.seat.one.1 all c.requires.none_open c.close_with.ensures.values.2 in
     let slots = c.close_with.result.slots in
     let counts = slots_counts slots in
@@ -58,14 +58,14 @@ free-requires g c =
 pub returns-clause-entries : goal.returns-clause-entries
 returns-clause-entries g c =
     let all : (known c.args.seat.badge.views).parts ≡ 64 = (let p = c.args.seat.parts in let q = c.requires.only in omega arith) in
-    let w = ended-so g.row.M-Parcel.Denot g.row.M-Call.Denot g.row.M-Reply.Denot g.row.M-Batch.Denot g.M.Parcel.HasKind.kind (behaviour g.M.Machine.steps g.M.Machine.takes g.M.Machine.gives g.M.Machine.invariant) c.into_seat-place.result.me.0
+    let w = ended-so g.row.M-Parcel.Denot g.row.M-Call.Denot g.row.M-Reply.Denot g.row.M-Batch.Denot g.M.Parcel.HasKind.kind (served_by g.M.Machine) c.into_seat-place.result.me.0
     c.into_seat-place.ensures.2 c.args.seat.one.1 all c.requires.none_open c.close_with.ensures.values.2 in
     w.entries
 
 pub returns-clause-history : goal.returns-clause-history
 returns-clause-history g c =
     let all : (known c.args.seat.badge.views).parts ≡ 64 = (let p = c.args.seat.parts in let q = c.requires.only in omega arith) in
-    let w = ended-so g.row.M-Parcel.Denot g.row.M-Call.Denot g.row.M-Reply.Denot g.row.M-Batch.Denot g.M.Parcel.HasKind.kind (behaviour g.M.Machine.steps g.M.Machine.takes g.M.Machine.gives g.M.Machine.invariant) c.into_seat-place.result.me.0
+    let w = ended-so g.row.M-Parcel.Denot g.row.M-Call.Denot g.row.M-Reply.Denot g.row.M-Batch.Denot g.M.Parcel.HasKind.kind (served_by g.M.Machine) c.into_seat-place.result.me.0
     c.into_seat-place.ensures.2 c.args.seat.one.1 all c.requires.none_open c.close_with.ensures.values.2 in
     let slots = c.close_with.result.slots in
     let counts = slots_counts slots in

@@ -5,13 +5,12 @@ use Rattle.affinity_tree.specs.Numbers as numbers
 use Rattle.affinity_tree.specs.lemmas.Standing.{parents-tree}
 use Rattle.depot_rule.specs.declared.view.View.{View}
 use Rattle.depot_rule.specs.declared.view.Entry.{Entry}
-use Rattle.depot_rule.specs.History.{Behaviour, behaviour}
 use Rattle.depot_rule.specs.Parcels.{has_out}
 use Rattle.depot_rule.specs.Seats.{view_of}
 use Rattle.depot.specs.Calls.{known}
 use Rattle.depot.specs.Holds.{IsGathered}
 use Rattle.depot.specs.Grants.{IsStep, HasInHand, IsFinished}
-use Rattle.depot.specs.Words.{view, layout_in, node_of, held_in, number_in, parcels_in, entry_with}
+use Rattle.depot.specs.Words.{served_by, view, layout_in, node_of, held_in, number_in, parcels_in, entry_with}
 use Rattle.depot.proofs.Apart.{less-apart}
 use Rattle.depot.proofs.Begun.{seat-still}
 use Rattle.depot.proofs.Between.{between}
@@ -21,9 +20,6 @@ use Rattle.depot.proofs.depot.Depot.finish.Goals.{After-into_seat-place, After-s
 use Rattle.depot.proofs.depot.Depot.finish.Goals as goal
 
 -- ---- what several goals share
-
-abbrev machine : (g : Over) → Behaviour g.row.M-Parcel.Denot g.row.M-Call.Denot g.row.M-Reply.Denot g.row.M-Batch.Denot
-machine g = behaviour g.M.Machine.steps g.M.Machine.takes g.M.Machine.gives g.M.Machine.invariant
 
 start : (g : Over) (c : After-into_seat-place g) → HasOpen g.M.Parcel.HasKind.kind (layout_in c.args.self.now) (number_in (layout_in c.args.self.now) c.args.grant)
     c.requires.step.0 c.args.seat.now.badge.views c.into_seat-place.result.me.0
@@ -37,16 +33,16 @@ stamped : (g : Over) (c : After-stamp_call g) (o : HasOpen g.M.Parcel.HasKind.ki
     → HasStamped g.M.Parcel.HasKind.kind (layout_in c.args.self.now) (number_in (layout_in c.args.self.now) c.args.grant)
     (parcels_in g.N.Node.parcels (layout_in c.args.self.now) c.args.grant) c.stamp_call.new.place.me.0
 stamped g c o =
-    has-stamped (machine g) g.M.Parcel.HasKind.kind (layout_in c.args.self.now) c.args.self.now.layout.lawful (affinity_of (node_of c.args.grant)) c.requires.node
+    has-stamped (served_by g.M.Machine) g.M.Parcel.HasKind.kind (layout_in c.args.self.now) c.args.self.now.layout.lawful (affinity_of (node_of c.args.grant)) c.requires.node
     c.requires.step.0 (parcels_in g.N.Node.parcels (layout_in c.args.self.now) c.args.grant) c.requires.exact c.args.call.now c.args.reply.now c.args.seat.now.badge.views _ _ o
     c.stamp_call.ensures.stamped.0 c.stamp_call.ensures.stamped.1
 
-done : (g : Over) (c : After-into_badge g) → IsFinished (machine g) (view c.args.seat.now) (number_in (layout_in c.args.self.now) c.args.grant)
+done : (g : Over) (c : After-into_badge g) → IsFinished (served_by g.M.Machine) (view c.args.seat.now) (number_in (layout_in c.args.self.now) c.args.grant)
     (entry_with g.N.Node.parcels (layout_in c.args.self.now) c.args.grant c.args.call.now c.args.reply.now) (known c.into_badge.result.views)
 done g c =
     let is : c.args.seat.now.badge.views ≡ c.into_seat-place.result.me.0 ∷ [] = search rules in
     let badge : c.into_badge.result.views ≡ c.give_home-place.result.me.0 ∷ [] = search rules in
-    finished-known (machine g) c.args.seat.now.badge.views c.into_seat-place.result.me.0 c.stamp_call.new.place.me.0 c.give_home-place.result.me.0 c.into_badge.result.views
+    finished-known (served_by g.M.Machine) c.args.seat.now.badge.views c.into_seat-place.result.me.0 c.stamp_call.new.place.me.0 c.give_home-place.result.me.0 c.into_badge.result.views
     (entry_with g.N.Node.parcels (layout_in c.args.self.now) c.args.grant c.args.call.now c.args.reply.now)
     c.stamp_call.ensures.stamped.0 is badge c.stamp_call.ensures.stamped.1 c.give_home-place.ensures.ended.1
 
@@ -59,12 +55,12 @@ pub stamp_call-requires-clause-step : goal.stamp_call-requires-clause-step
 stamp_call-requires-clause-step g c =
     let L = layout_in c.args.self.now in let grant = c.args.grant in
     let o = start g (goal.at.stamp_call-requires-clause-step g c).After-into_seat-place in
-    subst (λ l. IsStep (machine g) (known l) (number_in L grant) c.args.call.now c.args.reply.now (parcels_in g.N.Node.parcels L grant)) o.is c.requires.step
+    subst (λ l. IsStep (served_by g.M.Machine) (known l) (number_in L grant) c.args.call.now c.args.reply.now (parcels_in g.N.Node.parcels L grant)) o.is c.requires.step
 
 pub stamp_call-requires-clause-hand : goal.stamp_call-requires-clause-hand
 stamp_call-requires-clause-hand g c =
     let o = start g (goal.at.stamp_call-requires-clause-hand g c).After-into_seat-place in
-    subst (λ l. HasInHand (machine g) (known l) c.args.call.now c.args.reply.now) o.is c.requires.hand
+    subst (λ l. HasInHand (served_by g.M.Machine) (known l) c.args.call.now c.args.reply.now) o.is c.requires.hand
 
 pub stamp_call-requires-clause-taken : goal.stamp_call-requires-clause-taken
 stamp_call-requires-clause-taken g c =
@@ -121,7 +117,7 @@ invariant_of-seat g c =
     let s = stamped g at.After-stamp_call (start g at.After-into_seat-place) in
     let badge : c.into_badge.result.views ≡ c.give_home-place.result.me.0 ∷ [] = search rules in
     let e = entry_with g.N.Node.parcels L c.args.grant c.args.call.now c.args.reply.now in
-    let full = finished-views (machine g) (view seat) n e c.give_home-place.result.me.0 c.into_badge.result.views badge c.give_home-place.ensures.ended.0 (done g at.After-into_badge) in
+    let full = finished-views (served_by g.M.Machine) (view seat) n e c.give_home-place.result.me.0 c.into_badge.result.views badge c.give_home-place.ensures.ended.0 (done g at.After-into_badge) in
     let tree : IsTree (view_of c.stamp_call.new.place.me.0).tree = subst IsTree (sym s.tree) (parents-tree L c.args.self.now.layout.lawful) in
     let gathered = ended-gathered (view_of c.stamp_call.new.place.me.0) (view_of c.give_home-place.result.me.0) n tree s.gathered
     c.give_home-place.ensures.ended.1 c.give_home-place.ensures.apart c.give_home-place.ensures.others in

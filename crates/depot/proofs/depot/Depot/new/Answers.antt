@@ -6,13 +6,13 @@ use Rattle.affinity_tree.specs.Numbers.{number_of, node_count, parents}
 use Rattle.affinity_tree.specs.lemmas.Smaller.{length-parents}
 use Rattle.depot_rule.specs.declared.view.View.{View}
 use Rattle.depot_rule.specs.declared.view.Entry.{Entry}
-use Rattle.depot_rule.specs.History.{behaviour}
 use Rattle.depot_rule.specs.Shares.{Has, opening_view}
 use Rattle.depot_rule.proofs.Joining.{none-held}
 use Rattle.depot.specs.Calls.{own_views, known}
 use Rattle.depot_rule.specs.History.{by_number}
 use Rattle.depot.specs.Grants.{IsSeatOf}
 use Rattle.affinity_tree.specs.lemmas.Standing.{parents-tree, parents-few}
+use Rattle.depot.specs.Words.{served_by}
 use Rattle.depot.proofs.Apart.{apart-of, none-apart}
 use Rattle.depot.proofs.Opened.{opened-so}
 use Rattle.depot.proofs.Laid.{nothing-at, given-all, given-so, some-at, room-for, are-of-kind, still-placed, back-so, opened-view}
@@ -37,7 +37,7 @@ new-requires-2 g c =
     let made : length c.in-Ok-Ok-Ok.shelf.parcels.items ≡ c.node_count-n.result + 1 = ap length c.in-Ok-Ok-Ok.ensures'' ∙ length-replicate (c.node_count-n.result + 1) None in
     let kept : length c.scatter.new.shelf.parcels.items ≡ length c.in-Ok-Ok-Ok.shelf.parcels.items = c.scatter.ensures.kept in
     let are = given-so f (c.node_count-n.result + 1) c.scatter.new.shelf.parcels.items c.in-Ok-Ok-Ok.shelf.parcels.items c.in-Ok-Ok-Ok.ensures'' c.scatter.ensures.moved in
-    opened-so g.row.M-Parcel.Denot g.row.M-Call.Denot g.row.M-Reply.Denot g.row.M-Batch.Denot g.M.Parcel.HasKind.kind (behaviour g.M.Machine.steps g.M.Machine.takes g.M.Machine.gives g.M.Machine.invariant) {ps = parents (layout_of c.args.layout)} {first = c.scatter.new.shelf.parcels.items}
+    opened-so g.row.M-Parcel.Denot g.row.M-Call.Denot g.row.M-Reply.Denot g.row.M-Batch.Denot g.M.Parcel.HasKind.kind (served_by g.M.Machine) {ps = parents (layout_of c.args.layout)} {first = c.scatter.new.shelf.parcels.items}
     (ap (λ o. o.parents.items) c.of-key.ensures ∙ c.in-Ok-Ok-Ok.ensures) (ap (λ o. o.parcels.items) c.of-key.ensures) (c.as_slice.ensures.value ∙ c.in-Ok-Ok-Ok.ensures') (omega arith)
     (parents-tree (layout_of c.args.layout) c.args.layout.lawful) (let few = parents-few (layout_of c.args.layout) c.args.layout.lawful in omega arith) (omega arith)
     (λ k pos lt. let s = some-at g.M.Parcel.HasKind.kind (layout_of c.args.layout) f c.requires.exact k pos lt in (s.0, are k ∙ s.1)) f are c.requires.invariant
