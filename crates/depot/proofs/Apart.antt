@@ -17,7 +17,8 @@ module _ {G : Type 0} (ps : List ℕ) where
   Apart held = (b c : ℕ) (g h : G) → get_elem? held b ≡ some (Some g) → get_elem? held c ≡ some (Some h) → Excludes ps b c → b ≡ c
 
   -- a grant more, which none of the list excludes
-  pub more-apart : (held : List (Option G)) (b : ℕ) (g : G) → ((c : ℕ) (h : G) → get_elem? held c ≡ some (Some h) → Excludes ps b c → ⊥) → Apart held → Apart (set held b (Some g))
+  pub more-apart : (held : List (Option G)) (b : ℕ) (g : G) → ((c : ℕ) (h : G) → get_elem? held c ≡ some (Some h) → Excludes ps b c → ⊥) → Apart held
+      → Apart (set held b (Some g))
   more-apart held b g none before x y p q hx hy ex = ⊎_elim
       (λ (t : (x ≡ b) × (Some g ≡ Some p)). ⊎_elim
       (λ (u : (y ≡ b) × (Some g ≡ Some q)). t.0 ∙ sym u.0)
@@ -30,13 +31,15 @@ module _ {G : Type 0} (ps : List ℕ) where
       (at_set held b x (Some g) (Some p) hx)
 
   -- a grant that stays, or is no more
-  still-held : (held : List (Option G)) (b x : ℕ) (o : Option G) (p : G) → ((g : G) → o ≡ Some g → (f : G) × (get_elem? held b ≡ some (Some f))) → get_elem? (set held b o) x ≡ some (Some p) → (f : G) × (get_elem? held x ≡ some (Some f))
+  still-held : (held : List (Option G)) (b x : ℕ) (o : Option G) (p : G) → ((g : G) → o ≡ Some g → (f : G) × (get_elem? held b ≡ some (Some f)))
+      → get_elem? (set held b o) x ≡ some (Some p) → (f : G) × (get_elem? held x ≡ some (Some f))
   still-held held b x o p was h = ⊎_elim
       (λ (t : (x ≡ b) × (o ≡ Some p)). let f = was p t.1 in (f.0, subst (λ (n : ℕ). get_elem? held n ≡ some (Some f.0)) (sym t.0) f.1))
       (λ (t : (x ≢ b) × (get_elem? held x ≡ some (Some p))). (p, t.1))
       (at_set held b x o (Some p) h)
 
-  set-apart : (held : List (Option G)) (b : ℕ) (o : Option G) → ((g : G) → o ≡ Some g → (f : G) × (get_elem? held b ≡ some (Some f))) → Apart held → Apart (set held b o)
+  set-apart : (held : List (Option G)) (b : ℕ) (o : Option G) → ((g : G) → o ≡ Some g → (f : G) × (get_elem? held b ≡ some (Some f))) → Apart held
+      → Apart (set held b o)
   set-apart held b o was before x y p q hx hy ex =
       let s = still-held held b x o p was hx in let t = still-held held b y o q was hy in before x y s.0 t.0 s.1 t.1 ex
 

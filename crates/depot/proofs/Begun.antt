@@ -1,5 +1,6 @@
 -- A call that begins: what is there to be gathered, and what is known once it is.
-use Rattle.std.proofs.Common.{◌≡◌, ◌≢◌, ℕ, ◌<◌, ◌≤◌, List, [], ◌∷◌, ◌++◌, length, set, slice_index_or, refl, sym, ap, ◌∙◌, subst, arith, append_assoc, ⊎_elim, Option, Some, None}
+use Rattle.std.proofs.Common.{◌≡◌, ◌≢◌, ℕ, ◌<◌, ◌≤◌, List, [], ◌∷◌, ◌++◌, length, set, slice_index_or, refl, sym, ap, ◌∙◌, subst, arith}
+use Rattle.std.proofs.Common.{append_assoc, ⊎_elim, Option, Some, None}
 use mathlib.Core.Option.{some}
 use mathlib.Core.Logic.{dite}
 use native.Mathlib.Decide.{ℕ_discrete}
@@ -40,12 +41,14 @@ pub some-parents : (layout : Layout) → 0 < length (parents layout)
 some-parents layout = omega arith
 
 -- what refused a claim is a node
-pub refuses-node : (layout : Layout) (a : Affinity) (ps : List ℕ) (b node found : ℕ) → fault_of layout ≡ None → IsNode layout a → ps ≡ parents layout → b ≡ number_of layout a → Refuses ps b node found → (0 < node) × (node ≤ node_count layout)
+pub refuses-node : (layout : Layout) (a : Affinity) (ps : List ℕ) (b node found : ℕ) → fault_of layout ≡ None → IsNode layout a → ps ≡ parents layout
+    → b ≡ number_of layout a → Refuses ps b node found → (0 < node) × (node ≤ node_count layout)
 refuses-node layout a ps b node found lawful m parent number r =
     let size = length-parents layout in
     let place = number-place layout a m in let pos = place.0 in let lt = place.1 in
     let t : IsTree ps = subst IsTree (sym parent) (parents-tree layout lawful) in ⊎_elim
-    (λ (h : (0 < tally node (ancestors ps b)) × (4294967296 ≤ found)). let s = above-smaller ps t node b h.0 in let s0 = s.0 in let s1 = s.1 in (let p : 0 < node = omega arith in p, let q : node ≤ node_count layout = omega arith in q))
+    (λ (h : (0 < tally node (ancestors ps b)) × (4294967296 ≤ found)). let s = above-smaller ps t node b h.0 in let s0 = s.0 in let s1 = s.1
+    in (let p : 0 < node = omega arith in p, let q : node ≤ node_count layout = omega arith in q))
     (λ (h : (node ≡ b) × (found ≢ 0)). let e = h.0 in (let p : 0 < node = omega arith in p, let q : node ≤ node_count layout = omega arith in q))
     r
 
@@ -92,7 +95,8 @@ module _ {P E : Type 0} where
 
   -- the view has entered nothing but for its grants, and has nothing out and nothing stamped, as before
   abbrev pub IsAsIdle : View P E → View P E → Type 0
-  IsAsIdle v w = (w.unsure ≡ v.unsure) × (w.out ≡ v.out) × (w.path ≡ v.path) × (w.stamped ≡ v.stamped) × (w.parts ≡ v.parts) × (w.tree ≡ v.tree) × (w.first ≡ v.first)
+  IsAsIdle v w = (w.unsure ≡ v.unsure) × (w.out ≡ v.out) × (w.path ≡ v.path) × (w.stamped ≡ v.stamped) × (w.parts ≡ v.parts) × (w.tree ≡ v.tree)
+      × (w.first ≡ v.first)
 
   pub idle-as : (v w : View P E) → IsAsIdle v w → (v.unsure ≡ 0) × (v.out ≡ 0) × (length v.path ≡ 0) × (v.stamped ≡ 0)
       → (w.unsure ≡ 0) × (w.out ≡ 0) × (length w.path ≡ 0) × (w.stamped ≡ 0)
@@ -109,18 +113,21 @@ module _ {P E : Type 0} where
     pub apart : IsApart now
 
   -- a claim after a look
-  pub granted-after : (kind : P → Kind) (v : View P E) (b : ℕ) (Q : View P E → List (Option P) → Type 0) → ((rs : List Read) (g : List (Option P)) → Q (record v { looked = 1; reads = rs }) g → Q v g)
+  pub granted-after : (kind : P → Kind) (v : View P E) (b : ℕ) (Q : View P E → List (Option P) → Type 0) → ((rs : List Read) (g : List (Option P))
+      → Q (record v { looked = 1; reads = rs }) g → Q v g)
       → (r : Read) (vs ws : List (View P E)) → vs ≡ record v { looked = 1; reads = r ∷ v.reads } ∷ []
       → ((g : List (Option P)) × (more : List Read) × IsGranted kind (view_of vs) b g more ws × Q (view_of vs) g) × (IsExcluded (view_of vs) b → ⊥)
       → GrantedAfter kind v b Q r ws
   granted-after kind v b Q still r vs ws is q =
-      let t = subst (λ us. ((g : List (Option P)) × (more : List Read) × IsGranted kind (view_of us) b g more ws × Q (view_of us) g) × (IsExcluded (view_of us) b → ⊥)) is q in
+      let t = subst (λ us. ((g : List (Option P)) × (more : List Read) × IsGranted kind (view_of us) b g more ws × Q (view_of us) g)
+      × (IsExcluded (view_of us) b → ⊥)) is q in
       let g = t.0.0 in let more = t.0.1 in let i = t.0.2 in (
         (
           g,
           more ++ r ∷ [],
           (
-            i.0 ∙ ap (λ (rs : List Read). let z : View P E = record v { looked = 0; held = set v.held b (Some g); reads = rs } in z ∷ []) (sym (append_assoc more (r ∷ []) v.reads)),
+            i.0 ∙ ap (λ (rs : List Read). let z : View P E = record v { looked = 0; held = set v.held b (Some g); reads = rs } in z ∷ [])
+                (sym (append_assoc more (r ∷ []) v.reads)),
             i.1,
             i.2,
             i.3,
@@ -131,18 +138,21 @@ module _ {P E : Type 0} where
         among-later r more (r ∷ []) (0, refl),
       )
 
-  module _ (kind : P → Kind) (layout : Layout) (lawful : fault_of layout ≡ None) (a : Affinity) (m : IsNode layout a) (v : View P E) (seat : IsSeatOf kind layout v) (b : ℕ) (number : b ≡ number_of layout a)
+  module _ (kind : P → Kind) (layout : Layout) (lawful : fault_of layout ≡ None) (a : Affinity) (m : IsNode layout a) (v : View P E)
+      (seat : IsSeatOf kind layout v) (b : ℕ) (number : b ≡ number_of layout a)
       (g : List (Option P)) (more : List Read) (vs : List (View P E)) (granted : IsGranted kind v b g more vs) where
     abbrev with : View P E
     with = record v { looked = 0; held = set v.held b (Some g); reads = more ++ v.reads }
 
     -- the parcel of each node under the call's is there to be taken
-    pub found-there : (c : Affinity) → IsUnder layout a c → (p : P) × (untaken with b (number_of layout c) ≡ Some p) × (slice_index_or g (number_of layout c) None ≡ Some p) × (kind p ≡ kind_of c)
+    pub found-there : (c : Affinity) → IsUnder layout a c → (p : P) × (untaken with b (number_of layout c) ≡ Some p)
+        × (slice_index_or g (number_of layout c) None ≡ Some p) × (kind p ≡ kind_of c)
     found-there c under =
         let k : ℕ = number_of layout c in
         let place = under-place layout a c under in
         let lt : k < length v.tree = subst (λ (ps : List ℕ). k < length ps) (sym seat.0) place.1 in
-        let cover : Covers v.tree b k = subst (λ (x : List ℕ × ℕ). Covers x.0 x.1 k) (λ i. (sym seat.0 i, sym number i)) (covers-under layout lawful a c m under) in
+        let cover : Covers v.tree b k = subst (λ (x : List ℕ × ℕ). Covers x.0 x.1 k) (λ i. (sym seat.0 i, sym number i))
+        (covers-under layout lawful a c m under) in
         let parcel = granted.1 k place.0 lt cover in
         let home = granted.2 k place.0 cover in
         let has : Has with b g = set_here v.held b (Some g) (at-length v.held b None granted.3) in
@@ -152,7 +162,8 @@ module _ {P E : Type 0} where
     pub all-there : (c : Affinity) → IsUnder layout a c → (p : P) × (untaken (view_of vs) b (number_of layout c) ≡ Some p) × (kind p ≡ kind_of c)
     all-there c under = let f = found-there c under in (f.0, ap (λ xs. untaken (view_of xs) b (number_of layout c)) granted.0 ∙ f.1, f.3)
 
-    module _ (f : ℕ → Option P) (exact : HasExactly kind layout a f) (b' : ℕ) (same_node : b' ≡ b) (ws : List (View P E)) (moved : (k : ℕ) → moving.Moved (untaken (view_of vs) b k) (f k) (untaken (view_of ws) b' k)) (handled : Handled b vs ws) where
+    module _ (f : ℕ → Option P) (exact : HasExactly kind layout a f) (b' : ℕ) (same_node : b' ≡ b) (ws : List (View P E)) (moved : (k : ℕ)
+        → moving.Moved (untaken (view_of vs) b k) (f k) (untaken (view_of ws) b' k)) (handled : Handled b vs ws) where
       -- the shelf was the grant's
       abbrev by_hand : Handled b (with ∷ []) ws
       by_hand = subst (λ us. Handled b us ws) granted.0 handled
@@ -161,12 +172,19 @@ module _ {P E : Type 0} where
       begun_view = record v { looked = 0; held = set v.held b (Some g); gone = by_hand.0; reads = (by_hand.1 ++ more) ++ v.reads }
 
       begun-is : ws ≡ begun_view ∷ []
-      begun-is = by_hand.2 ∙ ap (λ (rs : List Read). let z : View P E = record v { looked = 0; held = set v.held b (Some g); gone = by_hand.0; reads = rs } in z ∷ []) (sym (append_assoc by_hand.1 more v.reads))
+      begun-is = by_hand.2 ∙ ap (λ (rs : List Read). let z : View P E = record v {
+        looked = 0;
+        held = set v.held b (Some g);
+        gone = by_hand.0;
+        reads = rs;
+      } in z ∷ []) (sym (append_assoc by_hand.1 more v.reads))
 
       -- at each node that b covers the grant lists what was taken, and nothing is there any more
-      taken-at : (k : ℕ) → 0 < k → k < length v.tree → Covers v.tree b k → (p : P) × (slice_index_or g k None ≡ Some p) × (f k ≡ Some p) × (untaken begun_view b k ≡ None)
+      taken-at : (k : ℕ) → 0 < k → k < length v.tree → Covers v.tree b k → (p : P) × (slice_index_or g k None ≡ Some p) × (f k ≡ Some p)
+          × (untaken begun_view b k ≡ None)
       taken-at k pos lt cover =
-          let u = under-covers layout lawful a k m pos (subst (λ (ps : List ℕ). k < length ps) seat.0 lt) (subst (λ (x : List ℕ × ℕ). Covers x.0 x.1 k) (λ i. (seat.0 i, number i)) cover) in
+          let u = under-covers layout lawful a k m pos (subst (λ (ps : List ℕ). k < length ps) seat.0 lt)
+          (subst (λ (x : List ℕ × ℕ). Covers x.0 x.1 k) (λ i. (seat.0 i, number i)) cover) in
           let there = found-there u.0 u.1 in
           let was : untaken (view_of vs) b k ≡ Some there.0 = ap (λ xs. untaken (view_of xs) b k) granted.0 ∙ (ap (untaken with b) (sym u.2) ∙ there.1) in
           let each = exact.each u.0 u.1 in
@@ -182,7 +200,8 @@ module _ {P E : Type 0} where
       pub begun-lists : ListsAs v b g f
       begun-lists k pos lt cover = let t = taken-at k pos lt cover in t.1 ∙ sym t.2
 
-      pub begun-so : (IsExcluded v b → ⊥) → (found : ℕ) → found < worn → (IsOnly v → found ≡ made v) → IsAmong (record { word = 0; value = found; shares = 0 }) more → (views : List (List (View P E))) → views ≡ ws ∷ [] → IsBegun v b f (known views)
+      pub begun-so : (IsExcluded v b → ⊥) → (found : ℕ) → found < worn → (IsOnly v → found ≡ made v)
+          → IsAmong (record { word = 0; value = found; shares = 0 }) more → (views : List (List (View P E))) → views ≡ ws ∷ [] → IsBegun v b f (known views)
       begun-so apart found low own looked views is = (
         g,
         by_hand.0,
@@ -201,7 +220,8 @@ module _ {P E : Type 0} where
           let here : Covers v.tree b k = subst (λ (n : ℕ). Covers v.tree n k) t.0 cover in
           let at = taken-at k pos lt here in
           dite (ℕ_discrete (tally k by_hand.0) 0)
-          (λ z. let there = is-untaken begun_view b k g at.0 pos lt here z (set_here v.held b (Some g) (at-length v.held b None granted.3)) at.1 in absurd (let bad : None ≡ Some at.0 = sym at.3 ∙ there in cc))
+          (λ z. let there = is-untaken begun_view b k g at.0 pos lt here z (set_here v.held b (Some g) (at-length v.held b None granted.3)) at.1
+          in absurd (let bad : None ≡ Some at.0 = sym at.3 ∙ there in cc))
           (λ nz. let some_gone : 0 < tally k by_hand.0 = omega arith in some_gone))
           (λ (t : (c ≢ b) × (get_elem? v.held c ≡ some (Some h))).
           let old = before c k h t.1 pos lt cover in
@@ -210,7 +230,8 @@ module _ {P E : Type 0} where
           let some_gone : 0 < tally k by_hand.0 = omega arith in some_gone)
           (at_set v.held b c (Some g) (Some h) has)
 
-      pub begun-all : (IsExcluded v b → ⊥) → (found : ℕ) → found < worn → (IsOnly v → found ≡ made v) → IsAmong (record { word = 0; value = found; shares = 0 }) more
+      pub begun-all : (IsExcluded v b → ⊥) → (found : ℕ) → found < worn → (IsOnly v → found ≡ made v)
+          → IsAmong (record { word = 0; value = found; shares = 0 }) more
           → IsGathered v → IsApart v → (views : List (List (View P E))) → views ≡ ws ∷ [] → HasBegun v b f g views
       begun-all apart found low own looked before apart_before views is = record {
         now = begun_view;
@@ -223,19 +244,22 @@ module _ {P E : Type 0} where
       }
 
   -- a claim that was refused after a look: nothing but reads was added
-  pub refused-after : (v : View P E) (ps : List ℕ) (b node found : ℕ) (r : Read) (vs ws : List (View P E)) → v.path ≡ [] → vs ≡ record v { looked = 1; reads = r ∷ v.reads } ∷ [] → WasRefused ps (view_of vs) b node found ws
+  pub refused-after : (v : View P E) (ps : List ℕ) (b node found : ℕ) (r : Read) (vs ws : List (View P E)) → v.path ≡ []
+      → vs ≡ record v { looked = 1; reads = r ∷ v.reads } ∷ [] → WasRefused ps (view_of vs) b node found ws
       → RefusedAfter v ps b node found r ws
   refused-after v ps b node found r vs ws none is q =
       let t = subst (λ us. WasRefused ps (view_of us) b node found ws) is q in (
         t.0 ++ r ∷ [],
-        t.1 ∙ ap (λ (x : List ℕ × List Read). let z : View P E = record v { looked = 1; path = x.0; reads = x.1 } in z ∷ []) (λ i. (sym none i, sym (append_assoc t.0 (r ∷ []) v.reads) i)),
+        t.1 ∙ ap (λ (x : List ℕ × List Read). let z : View P E = record v { looked = 1; path = x.0; reads = x.1 } in z ∷ [])
+            (λ i. (sym none i, sym (append_assoc t.0 (r ∷ []) v.reads) i)),
         (t.2.0, at_longer t.0 (r ∷ []) t.2.0 (record { word = node; value = found; shares = grant_shares node v }) t.2.1),
         t.3,
         among-later r t.0 (r ∷ []) (0, refl),
         t.4,
       )
 
-  pub busy-so : (layout : Layout) (v : View P E) (ps : List ℕ) (b node found k c : ℕ) (ws : List (View P E)) (views : List (List (View P E))) (ticket : ℕ) → ticket < worn → (IsOnly v → ticket ≡ made v) → ps ≡ parents layout → b ≡ k → c ≡ node → views ≡ ws ∷ []
+  pub busy-so : (layout : Layout) (v : View P E) (ps : List ℕ) (b node found k c : ℕ) (ws : List (View P E)) (views : List (List (View P E)))
+      (ticket : ℕ) → ticket < worn → (IsOnly v → ticket ≡ made v) → ps ≡ parents layout → b ≡ k → c ≡ node → views ≡ ws ∷ []
       → RefusedAfter v ps b node found (record { word = 0; value = ticket; shares = 0 }) ws
       → IsBusy (parents layout) v k c found (known views)
   busy-so layout v ps b node found k c ws views ticket low own parent number at is q =

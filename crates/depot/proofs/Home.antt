@@ -18,7 +18,8 @@ module _ {P E : Type 0} where
   -- once they are given, none of them is with the seat
   pub set-home : (f : ℕ → Option P) (b n : ℕ) (vs ws : List (View P E)) → n ≡ b → HasWith (view_of vs) b f → (view_of vs).out ≡ 0 → Handled n vs ws
       → ((k : ℕ) → Moved (untaken (view_of ws) n k) (f k) (untaken (view_of vs) n k))
-      → (k : ℕ) (g : List (Option P)) (p : P) → Has (view_of ws) n g → 0 < k → k < length (view_of vs).tree → Covers (view_of vs).tree n k → slice_index_or g k None ≡ Some p → has_out k (view_of ws) ≡ 0
+      → (k : ℕ) (g : List (Option P)) (p : P) → Has (view_of ws) n g → 0 < k → k < length (view_of vs).tree → Covers (view_of vs).tree n k
+      → slice_index_or g k None ≡ Some p → has_out k (view_of ws) ≡ 0
   set-home f b n vs ws is with free handled moved k g p has pos lt cover lists =
       let v : View P E = view_of vs in
       let w : View P E = record v { gone = handled.0; reads = handled.1 ++ v.reads } in
@@ -35,7 +36,8 @@ module _ {P E : Type 0} where
       omega arith
 
   -- and the grant is ended
-  pub home-ended : (b n : ℕ) (vs ws us : List (View P E)) → n ≡ b → Handled n vs ws → (more : List Read) × (us ≡ record (view_of ws) { stamped = 0; held = set (view_of ws).held n None; reads = more ++ (view_of ws).reads } ∷ [])
+  pub home-ended : (b n : ℕ) (vs ws us : List (View P E)) → n ≡ b → Handled n vs ws → (more : List Read)
+      × (us ≡ record (view_of ws) { stamped = 0; held = set (view_of ws).held n None; reads = more ++ (view_of ws).reads } ∷ [])
       → (length us ≡ 1) × IsEnded (view_of vs) b (view_of us)
   home-ended b n vs ws us is handled ended =
       let v : View P E = view_of vs in
@@ -47,19 +49,23 @@ module _ {P E : Type 0} where
           ended.0 ++ handled.1,
           ap view_of ended.1
               ∙ (ap (λ (x : View P E). let z : View P E = record x { stamped = 0; held = set x.held n None; reads = ended.0 ++ x.reads } in z) now
-              ∙ ap (λ (x : ℕ × List Read). let z : View P E = record v { stamped = 0; held = set v.held x.0 None; gone = handled.0; reads = x.1 } in z) (λ i. (is i, sym (append_assoc ended.0 handled.1 v.reads) i))),
+              ∙ ap (λ (x : ℕ × List Read). let z : View P E = record v { stamped = 0; held = set v.held x.0 None; gone = handled.0; reads = x.1 }
+              in z) (λ i. (is i, sym (append_assoc ended.0 handled.1 v.reads) i))),
         ),
       )
 
   -- what other grants have taken is still with the seat
-  pub home-else : (n : ℕ) (vs ws us : List (View P E)) → Handled n vs ws → (more : List Read) × (us ≡ record (view_of ws) { stamped = 0; held = set (view_of ws).held n None; reads = more ++ (view_of ws).reads } ∷ [])
+  pub home-else : (n : ℕ) (vs ws us : List (View P E)) → Handled n vs ws → (more : List Read)
+      × (us ≡ record (view_of ws) { stamped = 0; held = set (view_of ws).held n None; reads = more ++ (view_of ws).reads } ∷ [])
       → (k : ℕ) → (Covers (view_of vs).tree n k → ⊥) → tally k (view_of us).gone ≡ tally k (view_of vs).gone
   home-else n vs ws us handled ended k out = ap (λ xs. tally k (view_of xs).gone) ended.1 ∙ (ap (λ xs. tally k (view_of xs).gone) handled.2 ∙ handled.3 k out)
 
-  pub home-apart : (b n : ℕ) (vs ws : List (View P E)) → n ≡ b → Handled n vs ws → ((c : ℕ) (h : List (Option P)) → Has (view_of ws) c h → Excludes (view_of ws).tree n c → c ≡ n)
+  pub home-apart : (b n : ℕ) (vs ws : List (View P E)) → n ≡ b → Handled n vs ws → ((c : ℕ) (h : List (Option P)) → Has (view_of ws) c h
+      → Excludes (view_of ws).tree n c → c ≡ n)
       → (c : ℕ) (h : List (Option P)) → Has (view_of vs) c h → Excludes (view_of vs).tree b c → c ≡ b
   home-apart b n vs ws is handled apart c h has ex =
       let v : View P E = view_of vs in
       let w : View P E = record v { gone = handled.0; reads = handled.1 ++ v.reads } in
       let now : w ≡ view_of ws = sym (ap view_of handled.2) in
-      apart c h (subst (λ (x : View P E). Has x c h) now has) (subst (λ (x : View P E). Excludes x.tree n c) now (subst (λ (j : ℕ). Excludes v.tree j c) (sym is) ex)) ∙ is
+      apart c h (subst (λ (x : View P E). Has x c h) now has) (subst (λ (x : View P E). Excludes x.tree n c) now
+      (subst (λ (j : ℕ). Excludes v.tree j c) (sym is) ex)) ∙ is

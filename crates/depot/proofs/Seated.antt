@@ -1,5 +1,6 @@
 -- Seats between two calls: what becomes of their grants' parcels as they part, join and meet.
-use Rattle.std.proofs.Common.{◌≡◌, ℕ, ◌+◌, ◌≤◌, ◌<◌, Bool, true, false, ltb, List, [], ◌∷◌, ◌++◌, length, sym, refl, ap, ◌∙◌, subst, arith, Option, Some, ⊎_elim}
+use Rattle.std.proofs.Common.{◌≡◌, ℕ, ◌+◌, ◌≤◌, ◌<◌, Bool, true, false, ltb, List, [], ◌∷◌, ◌++◌, length, sym, refl, ap, ◌∙◌, subst, arith}
+use Rattle.std.proofs.Common.{Option, Some, ⊎_elim}
 use mathlib.Core.Option.{some}
 use lib.ListN.{get_elem?}
 use Rattle.depot_rule.specs.declared.view.View.{View}
@@ -33,7 +34,8 @@ module _ {P E : Type 0} where
       let both = tally-append k v.gone w.gone in ⊎_elim
       (λ (h : get_elem? v.held b ≡ some (Some g)). let t = mine b k g h pos lt cover in (let r : 0 < tally k (v.gone ++ w.gone) = omega arith in r))
       (λ (h : get_elem? w.held b ≡ some (Some g)).
-      let t = others b k g h pos (subst (λ (ps : List ℕ). k < length ps) same lt) (subst (λ (ps : List ℕ). Covers ps b k) same cover) in (let r : 0 < tally k (v.gone ++ w.gone) = omega arith in r))
+      let t = others b k g h pos (subst (λ (ps : List ℕ). k < length ps) same lt) (subst (λ (ps : List ℕ). Covers ps b k) same cover)
+      in (let r : 0 < tally k (v.gone ++ w.gone) = omega arith in r))
       (held-of v.held w.held b g has)
 
   -- two seats that met
@@ -45,7 +47,8 @@ module _ {P E : Type 0} where
   met-two (v ∷ []) (w ∷ u ∷ us) one other = absurd (omega arith)
 
   -- and are merged as if they hadn't met
-  pub merged-view : (v w : View P E) (fs os us : List (View P E)) → fs ≡ having_seen (longer v.seen w.seen) v ∷ [] → os ≡ having_seen (longer v.seen w.seen) w ∷ [] → us ≡ merged fs os → us ≡ merge v w ∷ []
+  pub merged-view : (v w : View P E) (fs os us : List (View P E)) → fs ≡ having_seen (longer v.seen w.seen) v ∷ []
+      → os ≡ having_seen (longer v.seen w.seen) w ∷ [] → us ≡ merged fs os → us ≡ merge v w ∷ []
   merged-view v w fs os us f o is =
       is ∙ (ap (λ (x : List (View P E) × List (View P E)). merged x.0 x.1) (λ i. (f i, o i))
       ∙ ap (λ (s : List E). let z : View P E = record (merge v w) { seen = s } in z ∷ []) (longer-same (longer v.seen w.seen)))
@@ -91,7 +94,8 @@ module _ {P E : Type 0} where
   told v w u = having_seen (longer v.seen w.seen) u
 
   pub told-known : (first second : List (List (View P E))) (vs ws us : List (View P E)) → HasMet first second vs ws us
-      → (told (view_of vs) (view_of ws) (view_of vs) ≡ told (known first) (known second) (known first)) × (told (view_of vs) (view_of ws) (view_of ws) ≡ told (known first) (known second) (known second))
+      → (told (view_of vs) (view_of ws) (view_of vs) ≡ told (known first) (known second) (known first))
+      × (told (view_of vs) (view_of ws) (view_of ws) ≡ told (known first) (known second) (known second))
   told-known first second vs ws us met = (
     λ i. told (sym (ap known met.is) i) (sym (ap known met.other_is) i) (sym (ap known met.is) i),
     λ i. told (sym (ap known met.is) i) (sym (ap known met.other_is) i) (sym (ap known met.other_is) i),

@@ -52,7 +52,8 @@ module _ {P E : Type 0} where
 
   -- b wasn't granted; if there is no other seat, a grant of this one excludes it
   abbrev pub WasRefused : List ℕ → View P E → ℕ → ℕ → ℕ → List (View P E) → Type 0
-  WasRefused parents v b node found vs = (more : List Read) × Moved v [] more vs × IsRead v node found more × Refuses parents b node found × (IsOnly v → IsExcluded v b)
+  WasRefused parents v b node found vs = (more : List Read) × Moved v [] more vs × IsRead v node found more × Refuses parents b node found
+      × (IsOnly v → IsExcluded v b)
 
   -- the view of a seat between two calls
   abbrev pub own_views : List (List (View P E)) → List (View P E)

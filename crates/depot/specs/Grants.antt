@@ -63,9 +63,11 @@ module _ {P E : Type 0} where
   abbrev pub HasRead : View P E → ℕ → List Read → View P E → Type 0
   HasRead v looked more w = w ≡ record v { looked = looked; reads = more ++ v.reads }
 
-  -- b was refused by the word of a node, which this call read: the seat then had no share in it but for its grants. The ticket was low. If it is the only seat, a grant of its own excludes b
+  -- b was refused by the word of a node, which this call read: the seat then had no share in it but for its grants. The
+  -- ticket was low. If it is the only seat, a grant of its own excludes b
   abbrev pub IsBusy : List ℕ → View P E → ℕ → ℕ → ℕ → View P E → Type 0
-  IsBusy tree v b node word w = (more : List Read) × HasRead v 1 more w × IsRead v node word more × Refuses tree b node word × IsLow v more × (IsOnly v → IsExcluded v b)
+  IsBusy tree v b node word w = (more : List Read) × HasRead v 1 more w × IsRead v node word more × Refuses tree b node word × IsLow v more
+      × (IsOnly v → IsExcluded v b)
 
   -- the ticket was read at 2^62 or more. If it is the only seat, it made as many entries
   abbrev pub IsWorn : View P E → View P E → Type 0
@@ -73,11 +75,13 @@ module _ {P E : Type 0} where
 
   -- a call on the node a was refused
   abbrev pub IsRefused : Layout → View P E → codes.Affinity → Refusal → View P E → Type 0
-  IsRefused layout v a (Busy node word) w = IsNode layout (affinity_of node) × IsBusy (parents layout) v (number_of layout (affinity_of a)) (number_of layout (affinity_of node)) word w
+  IsRefused layout v a (Busy node word) w = IsNode layout (affinity_of node) × IsBusy (parents layout) v (number_of layout (affinity_of a))
+      (number_of layout (affinity_of node)) word w
   IsRefused layout v a Worn w = IsWorn v w
 
 module _ {P C R B : Type 0} (m : Behaviour P C R B) where
-  -- the parcels f of the nodes that b covers are as a history left them that begins with what the seat has seen, of fewer than 2^62 + 300,000 entries. For the only seat it is just what it has seen
+  -- the parcels f of the nodes that b covers are as a history left them that begins with what the seat has seen, of
+  -- fewer than 2^62 + 300,000 entries. For the only seat it is just what it has seen
   abbrev pub IsAfter : View P (Entry P C R) → ℕ → (ℕ → Option P) → Type 0
   IsAfter v b f = (log : List (Entry P C R)) × IsHistory m v.tree v.first v log × (length log < too_many) × (IsOnly v → log ≡ v.seen)
       × ((k : ℕ) → 0 < k → k < length v.tree → Covers v.tree b k → f k ≡ after v.tree (listed v.first) log k)
@@ -94,7 +98,11 @@ module _ {P C R B : Type 0} (m : Behaviour P C R B) where
   -- the entry e was stamped
   abbrev pub IsStamped : View P (Entry P C R) → Entry P C R → ℕ → List (View P (Entry P C R)) → Type 0
   IsStamped v e ticket vs = (between : List (Entry P C R))
-      × (vs ≡ record (with_entry v between e) { stamped = e.node; held = slice_set v.held e.node (Some e.left); reads = record { word = 0; value = ticket; shares = 0 } ∷ v.reads } ∷ [])
+      × (vs ≡ record (with_entry v between e) {
+        stamped = e.node;
+        held = slice_set v.held e.node (Some e.left);
+        reads = record { word = 0; value = ticket; shares = 0 } ∷ v.reads;
+      } ∷ [])
       × HasAdded m v between e
 
   -- the grant of b is no more, and the entry e stands in the history after all that was seen, and what others put between
@@ -103,7 +111,8 @@ module _ {P C R B : Type 0} (m : Behaviour P C R B) where
       × (w ≡ record (with_entry v between e) { stamped = 0; held = slice_set v.held b None; gone = gone; reads = more ++ v.reads })
       × HasAdded m v between e
 
-  -- the history of the only seat, at the end: it is legal, with the invariant throughout; the seat's own hand is all hands; each entry is the seat's; and the parcels f are as it left them
+  -- the history of the only seat, at the end: it is legal, with the invariant throughout; the seat's own hand is all
+  -- hands; each entry is the seat's; and the parcels f are as it left them
   abbrev pub IsClosed : View P (Entry P C R) → (ℕ → Option P) → Type 0
   IsClosed v f = Legal m.steps v.tree (listed v.first) v.seen × SoundThroughout m v.tree (listed v.first) v.seen
       × ((hands : List B) × AreHands m.takes m.gives (entries_of v) hands × m.invariant v.tree (after v.tree (listed v.first) v.seen) hands (length v.seen))

@@ -53,7 +53,8 @@ module _ {P E : Type 0} where
       (at_set v.held b c (Some begun.0) (Some g) (sym (ap (λ u. get_elem? u.held c) begun.3) ∙ has))
 
   -- a seat that had no grant has none after one was begun and ended
-  pub ended-none : (v w u : View P E) (b : ℕ) (f : ℕ → Option P) → ((c : ℕ) (g : List (Option P)) → Has v c g → ⊥) → IsBegun v b f w → IsEnded w b u → (c : ℕ) (g : List (Option P)) → Has u c g → ⊥
+  pub ended-none : (v w u : View P E) (b : ℕ) (f : ℕ → Option P) → ((c : ℕ) (g : List (Option P)) → Has v c g → ⊥) → IsBegun v b f w → IsEnded w b u
+      → (c : ℕ) (g : List (Option P)) → Has u c g → ⊥
   ended-none v w u b f none begun ended c g has =
       let other = ended-others w u b ended c g has in none c g (begun-others v w b f begun c g other.0 other.1)
 
@@ -61,14 +62,16 @@ module _ {P C R B : Type 0} (m : Behaviour P C R B) where
   pub finished-entries : (v w : View P (Entry P C R)) (b : ℕ) (e : Entry P C R) → IsFinished m v b e w → entries_of w ≡ entries_of v ++ e ∷ []
   finished-entries v w b e finished = ap entries_of finished.3 ∙ finished.4.2
 
-  pub finished-others : (v w : View P (Entry P C R)) (b : ℕ) (e : Entry P C R) → IsFinished m v b e w → (c : ℕ) (g : List (Option P)) → Has w c g → (c ≢ b) × Has v c g
+  pub finished-others : (v w : View P (Entry P C R)) (b : ℕ) (e : Entry P C R) → IsFinished m v b e w → (c : ℕ) (g : List (Option P)) → Has w c g
+      → (c ≢ b) × Has v c g
   finished-others v w b e finished c g has = ⊎_elim
       (λ (t : (c ≡ b) × (None ≡ Some g)). absurd (let bad : None ≡ Some g = t.1 in let no_way : ⊥ = cc in no_way))
       (λ (t : (c ≢ b) × (get_elem? v.held c ≡ some (Some g))). t)
       (at_set v.held b c None (Some g) (sym (ap (λ u. get_elem? u.held c) finished.3) ∙ has))
 
   -- a seat that had no grant has none after a call was begun and finished
-  pub finished-none : (v w u : View P (Entry P C R)) (b : ℕ) (f : ℕ → Option P) (e : Entry P C R) → ((c : ℕ) (g : List (Option P)) → Has v c g → ⊥) → IsBegun v b f w → IsFinished m w b e u → (c : ℕ) (g : List (Option P)) → Has u c g → ⊥
+  pub finished-none : (v w u : View P (Entry P C R)) (b : ℕ) (f : ℕ → Option P) (e : Entry P C R) → ((c : ℕ) (g : List (Option P)) → Has v c g → ⊥)
+      → IsBegun v b f w → IsFinished m w b e u → (c : ℕ) (g : List (Option P)) → Has u c g → ⊥
   finished-none v w u b f e none begun finished c g has =
       let other = finished-others w u b e finished c g has in none c g (begun-others v w b f begun c g other.0 other.1)
 
@@ -78,10 +81,10 @@ module _ {P C R B : Type 0} (m : Behaviour P C R B) where
   pub begun-hand : (v w : View P (Entry P C R)) (b : ℕ) (f : ℕ → Option P) (call : C) (reply : R) → m.takes call reply ≡ [] → m.gives call reply ≡ []
       → IsBegun v b f w → IsAfter m v b f → HasInHand m w call reply
   begun-hand v w b f call reply no_takes no_gives begun seen =
-      let own = subst (λ (u : View P (Entry P C R)). AreHands m.takes m.gives (entries_of u) seen.1.hand) (sym begun.3) seen.1.own_hand in
-      (
+      let own = subst (λ (u : View P (Entry P C R)). AreHands m.takes m.gives (entries_of u) seen.1.hand) (sym begun.3) seen.1.own_hand in (
         seen.1.hand,
         seen.1.hand,
         own,
-        λ weigh. let a : total weigh (m.takes call reply) ≡ 0 = ap (total weigh) no_takes in let g : total weigh (m.gives call reply) ≡ 0 = ap (total weigh) no_gives in omega arith,
+        λ weigh. let a : total weigh (m.takes call reply) ≡ 0 = ap (total weigh) no_takes in let g : total weigh (m.gives call reply) ≡ 0 = ap
+            (total weigh) no_gives in omega arith,
       )

@@ -21,23 +21,29 @@ use Rattle.depot.proofs.meeting.join_seat.Goals as goal
 
 -- ---- what several goals share
 
-met : (g : Over) (c : After-join_seat g) → HasMet c.args.first.badge.views c.args.second.badge.views c.into_seat-place.result.me.0 c.into_seat-other.result.me.0 c.join_seat.new.seat.me.0
+met : (g : Over) (c : After-join_seat g) → HasMet c.args.first.badge.views c.args.second.badge.views c.into_seat-place.result.me.0
+    c.into_seat-other.result.me.0 c.join_seat.new.seat.me.0
 met g c =
     met-so _ _ c.into_seat-place.result.me.0 c.into_seat-other.result.me.0 _ c.into_seat-place.ensures.2 c.into_seat-other.ensures.2
     c.args.first.one.1 c.args.second.one.1 (ap (λ m. m.0) c.join_seat.ensures.2)
 
-alike : (g : Over) (c : After-load g) (m : HasMet c.args.first.badge.views c.args.second.badge.views c.into_seat-place.result.me.0 c.into_seat-other.result.me.0 c.join_seat.new.seat.me.0)
+alike : (g : Over) (c : After-load g) (m : HasMet c.args.first.badge.views c.args.second.badge.views c.into_seat-place.result.me.0
+    c.into_seat-other.result.me.0 c.join_seat.new.seat.me.0)
     → AreAlike (view_of c.into_seat-place.result.me.0) (view_of c.into_seat-other.result.me.0)
 alike g c m = c.load.ensures.2.1 (view_of c.into_seat-place.result.me.0) (view_of c.into_seat-other.result.me.0) m.both
 
-parted : (g : Over) (c : After-split_seat-other g) (m : HasMet c.args.first.badge.views c.args.second.badge.views c.into_seat-place.result.me.0 c.into_seat-other.result.me.0 c.join_seat.new.seat.me.0)
-    → (c.split_seat-other.new.seat.me.0 ≡ told (view_of c.into_seat-place.result.me.0) (view_of c.into_seat-other.result.me.0) (view_of c.into_seat-place.result.me.0) ∷ [])
-    × (c.split_seat-other.result.me.0 ≡ told (view_of c.into_seat-place.result.me.0) (view_of c.into_seat-other.result.me.0) (view_of c.into_seat-other.result.me.0) ∷ [])
+parted : (g : Over) (c : After-split_seat-other g) (m : HasMet c.args.first.badge.views c.args.second.badge.views c.into_seat-place.result.me.0
+    c.into_seat-other.result.me.0 c.join_seat.new.seat.me.0)
+    → (c.split_seat-other.new.seat.me.0 ≡ told (view_of c.into_seat-place.result.me.0) (view_of c.into_seat-other.result.me.0)
+    (view_of c.into_seat-place.result.me.0) ∷ [])
+    × (c.split_seat-other.result.me.0 ≡ told (view_of c.into_seat-place.result.me.0) (view_of c.into_seat-other.result.me.0)
+    (view_of c.into_seat-other.result.me.0) ∷ [])
 parted g c m =
     let loaded = ap (λ m. m.0) c.load.ensures.2.0 ∙ m.both in
     (ap (λ m. m.0) c.split_seat-other.ensures.2 ∙ ap first_of loaded, ap (λ m. m.0) c.split_seat-other.ensures.4 ∙ ap others_of loaded)
 
-full : (g : Over) (c : After-into_badge g) (m : HasMet c.args.first.badge.views c.args.second.badge.views c.into_seat-place.result.me.0 c.into_seat-other.result.me.0 c.join_seat.new.seat.me.0)
+full : (g : Over) (c : After-into_badge g) (m : HasMet c.args.first.badge.views c.args.second.badge.views c.into_seat-place.result.me.0
+    c.into_seat-other.result.me.0 c.join_seat.new.seat.me.0)
     → c.into_badge.result.views ≡ (merge (view_of c.into_seat-place.result.me.0) (view_of c.into_seat-other.result.me.0) ∷ []) ∷ []
 full g c m =
     let v = view_of c.into_seat-place.result.me.0 in let w = view_of c.into_seat-other.result.me.0 in
@@ -55,7 +61,8 @@ join_seat-requires g c = (
   search rules,
   search rules,
   search rules,
-  meets g.row.M-Parcel.Denot g.row.M-Call.Denot g.row.M-Reply.Denot g.row.M-Batch.Denot g.M.Parcel.HasKind.kind (served_by g.M.Machine) c.args.board.now.key.value.parents.items c.args.board.now.key.value.parcels.items
+  meets g.row.M-Parcel.Denot g.row.M-Call.Denot g.row.M-Reply.Denot g.row.M-Batch.Denot g.M.Parcel.HasKind.kind (served_by g.M.Machine)
+      c.args.board.now.key.value.parents.items c.args.board.now.key.value.parcels.items
       _ c.into_seat-place.result.me.0 _ c.into_seat-other.result.me.0,
 )
 
@@ -63,7 +70,8 @@ pub load-requires : goal.load-requires
 load-requires g c = (
   search rules,
   search rules,
-  alikes g.row.M-Parcel.Denot g.row.M-Call.Denot g.row.M-Reply.Denot g.row.M-Batch.Denot g.M.Parcel.HasKind.kind (served_by g.M.Machine) c.args.board.now.key.value.parents.items c.args.board.now.key.value.parcels.items
+  alikes g.row.M-Parcel.Denot g.row.M-Call.Denot g.row.M-Reply.Denot g.row.M-Batch.Denot g.M.Parcel.HasKind.kind (served_by g.M.Machine)
+      c.args.board.now.key.value.parents.items c.args.board.now.key.value.parcels.items
       _ _ c.join_seat.new.seat.me,
 )
 
@@ -73,7 +81,8 @@ split_seat-other-requires g c =
     let loaded = ap (λ m. m.0) c.load.ensures.2.0 ∙ m.both in (
       search rules,
       search rules,
-      parts-again g.row.M-Parcel.Denot g.row.M-Call.Denot g.row.M-Reply.Denot g.row.M-Batch.Denot g.M.Parcel.HasKind.kind (served_by g.M.Machine) c.args.board.now.key.value.parents.items c.args.board.now.key.value.parcels.items
+      parts-again g.row.M-Parcel.Denot g.row.M-Call.Denot g.row.M-Reply.Denot g.row.M-Batch.Denot g.M.Parcel.HasKind.kind (served_by g.M.Machine)
+          c.args.board.now.key.value.parents.items c.args.board.now.key.value.parcels.items
           _ c.load.new.seat.me.0 (ap length loaded),
     )
 
@@ -87,7 +96,8 @@ join_seat-requires-2 g c =
       search rules,
       search rules,
       search rules,
-      merges-seats g.row.M-Parcel.Denot g.row.M-Call.Denot g.row.M-Reply.Denot g.row.M-Batch.Denot g.M.Parcel.HasKind.kind (served_by g.M.Machine) c.args.board.now.key.value.parents.items c.args.board.now.key.value.parcels.items
+      merges-seats g.row.M-Parcel.Denot g.row.M-Call.Denot g.row.M-Reply.Denot g.row.M-Batch.Denot g.M.Parcel.HasKind.kind (served_by g.M.Machine)
+          c.args.board.now.key.value.parents.items c.args.board.now.key.value.parcels.items
           _ c.split_seat-other.new.seat.me.0 _ c.split_seat-other.result.me.0 (ap length p.0) (ap length p.1)
           (ap (λ us. (view_of us).path) p.1 ∙ no-path m.other_is idle.2)
           (ap (λ us. (view_of us).unsure) p.1 ∙ (sym (ap (λ l. (known l).unsure) m.other_is) ∙ idle.0))
@@ -146,7 +156,8 @@ returns-clause-entries g c =
     let at = goal.at.returns-clause-entries g c in
     let m = met g at.After-join_seat in
     let keep = (alike-known _ _ _ _ _ m (alike g at.After-load m)).4 in
-    λ weigh. ap (λ (u : View g.row.M-Parcel.Denot (Entry g.row.M-Parcel.Denot g.row.M-Call.Denot g.row.M-Reply.Denot)). total weigh (entries_of u)) (returns-clause-joined g c) ∙ keep.2 weigh
+    λ weigh. ap (λ (u : View g.row.M-Parcel.Denot (Entry g.row.M-Parcel.Denot g.row.M-Call.Denot g.row.M-Reply.Denot)). total weigh (entries_of u))
+    (returns-clause-joined g c) ∙ keep.2 weigh
 
 pub returns-clause-grants : goal.returns-clause-grants
 returns-clause-grants g c =

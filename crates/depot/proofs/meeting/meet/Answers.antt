@@ -12,13 +12,16 @@ use Rattle.depot.proofs.meeting.meet.Goals as goal
 
 -- ---- what several goals share
 
-met : (g : Over) (c : After-join_seat g) → HasMet c.args.one.now.badge.views c.args.other.now.badge.views c.into_seat-first.result.me.0 c.into_seat-second.result.me.0 c.join_seat.new.seat.me.0
+met : (g : Over) (c : After-join_seat g) → HasMet c.args.one.now.badge.views c.args.other.now.badge.views c.into_seat-first.result.me.0
+    c.into_seat-second.result.me.0 c.join_seat.new.seat.me.0
 met g c =
     let is : c.args.one.now.badge.views ≡ c.into_seat-first.result.me.0 ∷ [] = search rules in
     let other_is : c.args.other.now.badge.views ≡ c.into_seat-second.result.me.0 ∷ [] = search rules in
-    met-so _ _ c.into_seat-first.result.me.0 c.into_seat-second.result.me.0 _ is other_is c.args.one.now.one.1 c.args.other.now.one.1 (ap (λ m. m.0) c.join_seat.ensures.2)
+    met-so _ _ c.into_seat-first.result.me.0 c.into_seat-second.result.me.0 _ is other_is c.args.one.now.one.1 c.args.other.now.one.1
+    (ap (λ m. m.0) c.join_seat.ensures.2)
 
-alike : (g : Over) (c : After-load g) (m : HasMet c.args.one.now.badge.views c.args.other.now.badge.views c.into_seat-first.result.me.0 c.into_seat-second.result.me.0 c.join_seat.new.seat.me.0)
+alike : (g : Over) (c : After-load g) (m : HasMet c.args.one.now.badge.views c.args.other.now.badge.views c.into_seat-first.result.me.0
+    c.into_seat-second.result.me.0 c.join_seat.new.seat.me.0)
     → AreAlike (known c.args.one.now.badge.views) (known c.args.other.now.badge.views)
 alike g c m = alike-known _ _ _ _ _ m (c.load.ensures.2.1 (view_of c.into_seat-first.result.me.0) (view_of c.into_seat-second.result.me.0) m.both)
 
@@ -30,7 +33,8 @@ join_seat-requires g c = (
   search rules,
   search rules,
   search rules,
-  meets g.row.M-Parcel.Denot g.row.M-Call.Denot g.row.M-Reply.Denot g.row.M-Batch.Denot g.M.Parcel.HasKind.kind (served_by g.M.Machine) c.args.board.now.key.value.parents.items c.args.board.now.key.value.parcels.items
+  meets g.row.M-Parcel.Denot g.row.M-Call.Denot g.row.M-Reply.Denot g.row.M-Batch.Denot g.M.Parcel.HasKind.kind (served_by g.M.Machine)
+      c.args.board.now.key.value.parents.items c.args.board.now.key.value.parcels.items
       _ c.into_seat-first.result.me.0 _ c.into_seat-second.result.me.0,
 )
 
@@ -38,7 +42,8 @@ pub load-requires : goal.load-requires
 load-requires g c = (
   search rules,
   search rules,
-  alikes g.row.M-Parcel.Denot g.row.M-Call.Denot g.row.M-Reply.Denot g.row.M-Batch.Denot g.M.Parcel.HasKind.kind (served_by g.M.Machine) c.args.board.now.key.value.parents.items c.args.board.now.key.value.parcels.items
+  alikes g.row.M-Parcel.Denot g.row.M-Call.Denot g.row.M-Reply.Denot g.row.M-Batch.Denot g.M.Parcel.HasKind.kind (served_by g.M.Machine)
+      c.args.board.now.key.value.parents.items c.args.board.now.key.value.parcels.items
       _ _ c.join_seat.new.seat.me,
 )
 
@@ -48,7 +53,8 @@ split_seat-second-requires g c =
     let loaded = ap (λ m. m.0) c.load.ensures.2.0 ∙ m.both in (
       search rules,
       search rules,
-      parts-again g.row.M-Parcel.Denot g.row.M-Call.Denot g.row.M-Reply.Denot g.row.M-Batch.Denot g.M.Parcel.HasKind.kind (served_by g.M.Machine) c.args.board.now.key.value.parents.items c.args.board.now.key.value.parcels.items
+      parts-again g.row.M-Parcel.Denot g.row.M-Call.Denot g.row.M-Reply.Denot g.row.M-Batch.Denot g.M.Parcel.HasKind.kind (served_by g.M.Machine)
+          c.args.board.now.key.value.parents.items c.args.board.now.key.value.parcels.items
           _ c.load.new.seat.me.0 (ap length loaded),
     )
 

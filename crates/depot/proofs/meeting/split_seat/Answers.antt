@@ -15,7 +15,8 @@ split_seat-second-requires g c =
     let parts : (view_of c.into_seat-place.result.me.0).parts ≡ c.args.seat.splits + 1 = sym (ap (λ l. (known l).parts) is) ∙ c.args.seat.parts in (
       search rules,
       search rules,
-      splits-seat g.row.M-Parcel.Denot g.row.M-Call.Denot g.row.M-Reply.Denot g.row.M-Batch.Denot g.M.Parcel.HasKind.kind (served_by g.M.Machine) c.args.board.now.key.value.parents.items c.args.board.now.key.value.parcels.items
+      splits-seat g.row.M-Parcel.Denot g.row.M-Call.Denot g.row.M-Reply.Denot g.row.M-Batch.Denot g.M.Parcel.HasKind.kind (served_by g.M.Machine)
+          c.args.board.now.key.value.parents.items c.args.board.now.key.value.parcels.items
           _ c.into_seat-place.result.me.0 one (omega arith),
     )
 

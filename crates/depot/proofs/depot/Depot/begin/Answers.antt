@@ -34,15 +34,18 @@ ticket found = record { word = 0; value = found; shares = 0 }
 looked : (g : Over) (c : After-load-ticket g) → HasLookedAt (view c.args.seat.now) c.load-ticket.result c.load-ticket.new.seat.me.0
 looked g c =
     let is : c.args.seat.now.badge.views ≡ c.into_seat-place.result.me.0 ∷ [] = search rules in
-    looked-at _ c.args.seat.now.badge.views c.into_seat-place.result.me.0 c.load-ticket.new.seat.me.0 c.load-ticket.result is c.args.seat.now.one.1 c.load-ticket.ensures.2.0
+    looked-at _ c.args.seat.now.badge.views c.into_seat-place.result.me.0 c.load-ticket.new.seat.me.0 c.load-ticket.result is c.args.seat.now.one.1
+    c.load-ticket.ensures.2.0
 
 granted : (g : Over) (c : In-Ok g) → GrantedAfter g.M.Parcel.HasKind.kind (view c.args.seat.now) c.number_of-node.result
     (λ u l. IsAfter (served_by g.M.Machine) u c.number_of-node.result (listed l)) (ticket c.load-ticket.result) c.try_claim.new.place.me.0
 granted g c =
     let is : c.args.seat.now.badge.views ≡ c.into_seat-place.result.me.0 ∷ [] = search rules in
     let low : c.load-ticket.result < worn = search rules in
-    let look = looked-at _ c.args.seat.now.badge.views c.into_seat-place.result.me.0 c.load-ticket.new.seat.me.0 c.load-ticket.result is c.args.seat.now.one.1 c.load-ticket.ensures.2.0 in
-    granted-after g.M.Parcel.HasKind.kind (view c.args.seat.now) c.number_of-node.result (λ u l. IsAfter (served_by g.M.Machine) u c.number_of-node.result (listed l)) (λ rs l x. x)
+    let look = looked-at _ c.args.seat.now.badge.views c.into_seat-place.result.me.0 c.load-ticket.new.seat.me.0 c.load-ticket.result is
+    c.args.seat.now.one.1 c.load-ticket.ensures.2.0 in
+    granted-after g.M.Parcel.HasKind.kind (view c.args.seat.now) c.number_of-node.result
+    (λ u l. IsAfter (served_by g.M.Machine) u c.number_of-node.result (listed l)) (λ rs l x. x)
     (ticket c.load-ticket.result) c.load-ticket.new.seat.me.0 c.try_claim.new.place.me.0 (look.0 low) c.in-Ok.ensures.granted
 
 refused : (g : Over) (c : In-Err g) → RefusedAfter (view c.args.seat.now) c.deref.result.now c.number_of-node.result c.in-Err.busy.node c.in-Err.busy.word
@@ -50,22 +53,26 @@ refused : (g : Over) (c : In-Err g) → RefusedAfter (view c.args.seat.now) c.de
 refused g c =
     let is : c.args.seat.now.badge.views ≡ c.into_seat-place.result.me.0 ∷ [] = search rules in
     let low : c.load-ticket.result < worn = search rules in
-    let look = looked-at _ c.args.seat.now.badge.views c.into_seat-place.result.me.0 c.load-ticket.new.seat.me.0 c.load-ticket.result is c.args.seat.now.one.1 c.load-ticket.ensures.2.0 in
+    let look = looked-at _ c.args.seat.now.badge.views c.into_seat-place.result.me.0 c.load-ticket.new.seat.me.0 c.load-ticket.result is
+    c.args.seat.now.one.1 c.load-ticket.ensures.2.0 in
     refused-after (view c.args.seat.now) c.deref.result.now c.number_of-node.result c.in-Err.busy.node c.in-Err.busy.word (ticket c.load-ticket.result)
     c.load-ticket.new.seat.me.0 c.try_claim.new.place.me.0 (nothing (view c.args.seat.now).path c.args.seat.now.idle.2) (look.0 low) c.in-Err.ensures.refused
 
 begun : (g : Over) (c : After-into_badge-in-Ok g) (q : GrantedAfter g.M.Parcel.HasKind.kind (view c.args.seat.now) c.number_of-node.result
     (λ u l. IsAfter (served_by g.M.Machine) u c.number_of-node.result (listed l)) (ticket c.load-ticket.result) c.try_claim.new.place.me.0)
-    → HasBegun (view c.args.seat.now) c.number_of-node.result (g.N.Node.parcels (layout_in c.args.self.now) (affinity_of c.args.affinity) c.gather-held.result) q.0.0 c.into_badge-in-Ok.result.views
+    → HasBegun (view c.args.seat.now) c.number_of-node.result (g.N.Node.parcels (layout_in c.args.self.now) (affinity_of c.args.affinity)
+    c.gather-held.result) q.0.0 c.into_badge-in-Ok.result.views
 begun g c q =
     let L = layout_in c.args.self.now in
     let is : c.args.seat.now.badge.views ≡ c.into_seat-place.result.me.0 ∷ [] = search rules in
     let low : c.load-ticket.result < worn = search rules in
-    let look = looked-at _ c.args.seat.now.badge.views c.into_seat-place.result.me.0 c.load-ticket.new.seat.me.0 c.load-ticket.result is c.args.seat.now.one.1 c.load-ticket.ensures.2.0 in
+    let look = looked-at _ c.args.seat.now.badge.views c.into_seat-place.result.me.0 c.load-ticket.new.seat.me.0 c.load-ticket.result is
+    c.args.seat.now.one.1 c.load-ticket.ensures.2.0 in
     let badge : c.into_badge-in-Ok.result.views ≡ c.gather-held.new.shelf.place.me.0 ∷ [] = search rules in
     begun-all g.M.Parcel.HasKind.kind L c.args.self.now.layout.lawful (affinity_of c.args.affinity) c.requires.node.0 (view c.args.seat.now) c.requires.seat.1
     c.number_of-node.result c.number_of-node.ensures.number q.0.0 q.0.1 c.try_claim.new.place.me.0 q.0.2
-    (g.N.Node.parcels L (affinity_of c.args.affinity) c.gather-held.result) c.gather-held.ensures.exact c.gather-held.new.shelf.node c.gather-held.ensures.kept.0
+    (g.N.Node.parcels L (affinity_of c.args.affinity) c.gather-held.result) c.gather-held.ensures.exact c.gather-held.new.shelf.node
+    c.gather-held.ensures.kept.0
     c.gather-held.new.shelf.place.me.0 c.gather-held.ensures.moved c.gather-held.ensures.kept.2
     q.1 c.load-ticket.result low look.2 q.2 c.args.seat.now.gathered c.args.seat.now.apart c.into_badge-in-Ok.result.views badge
 
@@ -78,8 +85,10 @@ load-ticket-requires g c =
     let words : c.args.self.now.table.shared.table_id.words ≡ length (numbers.parents (layout_in c.args.self.now)) = search rules in (
       search rules,
       subst (λ (n : ℕ). 0 < n) (sym words) (some-parents (layout_in c.args.self.now)),
-      looks g.row.M-Parcel.Denot g.row.M-Call.Denot g.row.M-Reply.Denot g.row.M-Batch.Denot g.M.Parcel.HasKind.kind (served_by g.M.Machine) key.parents.items key.parcels.items
-          _ _ c.into_seat-place.result.me (view_of c.into_seat-place.result.me.0) (one-view c.into_seat-place.result.me.0 (placed-one is c.args.seat.now.one.1)),
+      looks g.row.M-Parcel.Denot g.row.M-Call.Denot g.row.M-Reply.Denot g.row.M-Batch.Denot g.M.Parcel.HasKind.kind (served_by g.M.Machine)
+          key.parents.items key.parcels.items
+          _ _ c.into_seat-place.result.me (view_of c.into_seat-place.result.me.0)
+          (one-view c.into_seat-place.result.me.0 (placed-one is c.args.seat.now.one.1)),
     )
 
 pub invariant_of-seat : goal.invariant_of-seat
@@ -94,14 +103,18 @@ pub returns-then-ticket-ge-WORN-clause-seat : goal.returns-then-ticket-ge-WORN-c
 returns-then-ticket-ge-WORN-clause-seat g c =
     let look = looked g (goal.at.returns-then-ticket-ge-WORN-clause-seat g c).After-load-ticket in
     let badge : c.into_badge.result.views ≡ c.load-ticket.new.seat.me.0 ∷ [] = search rules in
-    let now = ap known badge ∙ ap view_of (look.1 c.if-ticket-ge-WORN.true) in
-    (search rules, seat-still g.M.Parcel.HasKind.kind (layout_in c.args.self.now) (view c.args.seat.now) (known c.into_badge.result.views) (ap (λ v. v.tree) now) (ap (λ v. v.first) now) c.requires.seat.1)
+    let now = ap known badge ∙ ap view_of (look.1 c.if-ticket-ge-WORN.true) in (
+      search rules,
+      seat-still g.M.Parcel.HasKind.kind (layout_in c.args.self.now) (view c.args.seat.now) (known c.into_badge.result.views)
+          (ap (λ v. v.tree) now) (ap (λ v. v.first) now) c.requires.seat.1,
+    )
 
 pub returns-then-ticket-ge-WORN-clause-refused : goal.returns-then-ticket-ge-WORN-clause-refused
 returns-then-ticket-ge-WORN-clause-refused g c =
     let look = looked g (goal.at.returns-then-ticket-ge-WORN-clause-refused g c).After-load-ticket in
     let badge : c.into_badge.result.views ≡ c.load-ticket.new.seat.me.0 ∷ [] = search rules in
-    worn-so (view c.args.seat.now) c.load-ticket.result c.into_badge.result.views c.load-ticket.new.seat.me.0 badge c.if-ticket-ge-WORN.true (look.1 c.if-ticket-ge-WORN.true) look.2
+    worn-so (view c.args.seat.now) c.load-ticket.result c.into_badge.result.views c.load-ticket.new.seat.me.0 badge c.if-ticket-ge-WORN.true
+    (look.1 c.if-ticket-ge-WORN.true) look.2
 
 pub try_claim-requires-clause-table : goal.try_claim-requires-clause-table
 try_claim-requires-clause-table g c =
@@ -118,7 +131,8 @@ try_claim-requires-clause-tree g c =
 pub gather-held-requires-clause-there : goal.gather-held-requires-clause-there
 gather-held-requires-clause-there g c =
     let q = granted g (goal.at.gather-held-requires-clause-there g c).In-Ok in
-    all-there g.M.Parcel.HasKind.kind (layout_in c.args.self.now) c.args.self.now.layout.lawful (affinity_of c.args.affinity) c.requires.node.0 (view c.args.seat.now) c.requires.seat.1
+    all-there g.M.Parcel.HasKind.kind (layout_in c.args.self.now) c.args.self.now.layout.lawful (affinity_of c.args.affinity) c.requires.node.0
+    (view c.args.seat.now) c.requires.seat.1
     c.number_of-node.result c.number_of-node.ensures.number q.0.0 q.0.1 c.try_claim.new.place.me.0 q.0.2
 
 pub invariant_of-seat-in-Ok : goal.invariant_of-seat-in-Ok
@@ -126,14 +140,18 @@ invariant_of-seat-in-Ok g c =
     let at = goal.at.invariant_of-seat-in-Ok g c in
     let seat = c.args.seat.now in
     let h = begun g at.After-into_badge-in-Ok (granted g at.In-Ok) in
-    let s = between h.now c.into_badge-in-Ok.result.views seat.splits h.full (idle-as (view seat) h.now h.idle seat.idle) (h.idle.4 ∙ seat.parts) h.gathered h.apart in
+    let s = between h.now c.into_badge-in-Ok.result.views seat.splits h.full (idle-as (view seat) h.now h.idle seat.idle) (h.idle.4 ∙ seat.parts)
+    h.gathered h.apart in
     record { one = s.one; idle = s.idle; parts = s.parts; gathered = s.gathered; apart = s.apart }
 
 pub returns-in-Ok-clause-seat : goal.returns-in-Ok-clause-seat
 returns-in-Ok-clause-seat g c =
     let at = goal.at.returns-in-Ok-clause-seat g c in
-    let h = begun g at.After-into_badge-in-Ok (granted g at.In-Ok) in
-    (search rules, seat-still g.M.Parcel.HasKind.kind (layout_in c.args.self.now) (view c.args.seat.now) (known c.into_badge-in-Ok.result.views) (ap (λ v. v.tree) h.begun.3) (ap (λ v. v.first) h.begun.3) c.requires.seat.1)
+    let h = begun g at.After-into_badge-in-Ok (granted g at.In-Ok) in (
+      search rules,
+      seat-still g.M.Parcel.HasKind.kind (layout_in c.args.self.now) (view c.args.seat.now) (known c.into_badge-in-Ok.result.views)
+          (ap (λ v. v.tree) h.begun.3) (ap (λ v. v.first) h.begun.3) c.requires.seat.1,
+    )
 
 pub returns-in-Ok-clause-granted : goal.returns-in-Ok-clause-granted
 returns-in-Ok-clause-granted g c =
@@ -178,8 +196,11 @@ pub returns-in-Err-clause-seat : goal.returns-in-Err-clause-seat
 returns-in-Err-clause-seat g c =
     let q = refused g (goal.at.returns-in-Err-clause-seat g c).In-Err in
     let badge : c.into_badge-in-Err.result.views ≡ c.try_claim.new.place.me.0 ∷ [] = search rules in
-    let now = ap known badge ∙ ap view_of q.1 in
-    (search rules, seat-still g.M.Parcel.HasKind.kind (layout_in c.args.self.now) (view c.args.seat.now) (known c.into_badge-in-Err.result.views) (ap (λ v. v.tree) now) (ap (λ v. v.first) now) c.requires.seat.1)
+    let now = ap known badge ∙ ap view_of q.1 in (
+      search rules,
+      seat-still g.M.Parcel.HasKind.kind (layout_in c.args.self.now) (view c.args.seat.now) (known c.into_badge-in-Err.result.views)
+          (ap (λ v. v.tree) now) (ap (λ v. v.first) now) c.requires.seat.1,
+    )
 
 pub returns-in-Err-clause-refused : goal.returns-in-Err-clause-refused
 returns-in-Err-clause-refused g c =
@@ -189,7 +210,8 @@ returns-in-Err-clause-refused g c =
     let parent : c.deref.result.now ≡ numbers.parents L = search rules in
     let low : c.load-ticket.result < worn = search rules in (
       c.affinity_at.ensures.node,
-      busy-so L (view c.args.seat.now) c.deref.result.now c.number_of-node.result c.in-Err.busy.node c.in-Err.busy.word (number_at L c.args.affinity) (number_at L c.affinity_at.result)
+      busy-so L (view c.args.seat.now) c.deref.result.now c.number_of-node.result c.in-Err.busy.node c.in-Err.busy.word (number_at L c.args.affinity)
+          (number_at L c.affinity_at.result)
           c.try_claim.new.place.me.0 c.into_badge-in-Err.result.views c.load-ticket.result low (looked g at.After-load-ticket).2
           parent c.number_of-node.ensures.number c.affinity_at.ensures.number badge (refused g at.In-Err),
     )

@@ -21,20 +21,25 @@ use Rattle.depot.proofs.depot.Depot.finish.Goals as goal
 
 -- ---- what several goals share
 
-start : (g : Over) (c : After-into_seat-place g) → HasOpen g.M.Parcel.HasKind.kind (layout_in c.args.self.now) (number_in (layout_in c.args.self.now) c.args.grant)
+start : (g : Over) (c : After-into_seat-place g) → HasOpen g.M.Parcel.HasKind.kind (layout_in c.args.self.now)
+    (number_in (layout_in c.args.self.now) c.args.grant)
     c.requires.step.0 c.args.seat.now.badge.views c.into_seat-place.result.me.0
 start g c =
     let seat = c.args.seat.now in
     let is : seat.badge.views ≡ c.into_seat-place.result.me.0 ∷ [] = search rules in
-    open-so g.M.Parcel.HasKind.kind (layout_in c.args.self.now) _ c.requires.step.0 seat.badge.views _ is c.requires.step.1 c.requires.seat.1 seat.gathered seat.idle.1 seat.idle.2
+    open-so g.M.Parcel.HasKind.kind (layout_in c.args.self.now) _ c.requires.step.0 seat.badge.views _ is c.requires.step.1 c.requires.seat.1
+    seat.gathered seat.idle.1 seat.idle.2
 
-stamped : (g : Over) (c : After-stamp_call g) (o : HasOpen g.M.Parcel.HasKind.kind (layout_in c.args.self.now) (number_in (layout_in c.args.self.now) c.args.grant)
+stamped : (g : Over) (c : After-stamp_call g) (o : HasOpen g.M.Parcel.HasKind.kind (layout_in c.args.self.now)
+    (number_in (layout_in c.args.self.now) c.args.grant)
     c.requires.step.0 c.args.seat.now.badge.views c.into_seat-place.result.me.0)
     → HasStamped g.M.Parcel.HasKind.kind (layout_in c.args.self.now) (number_in (layout_in c.args.self.now) c.args.grant)
     (parcels_in g.N.Node.parcels (layout_in c.args.self.now) c.args.grant) c.stamp_call.new.place.me.0
 stamped g c o =
-    has-stamped (served_by g.M.Machine) g.M.Parcel.HasKind.kind (layout_in c.args.self.now) c.args.self.now.layout.lawful (affinity_of (node_of c.args.grant)) c.requires.node
-    c.requires.step.0 (parcels_in g.N.Node.parcels (layout_in c.args.self.now) c.args.grant) c.requires.exact c.args.call.now c.args.reply.now c.args.seat.now.badge.views _ _ o
+    has-stamped (served_by g.M.Machine) g.M.Parcel.HasKind.kind (layout_in c.args.self.now) c.args.self.now.layout.lawful
+    (affinity_of (node_of c.args.grant)) c.requires.node
+    c.requires.step.0 (parcels_in g.N.Node.parcels (layout_in c.args.self.now) c.args.grant) c.requires.exact c.args.call.now c.args.reply.now
+    c.args.seat.now.badge.views _ _ o
     c.stamp_call.ensures.stamped.0 c.stamp_call.ensures.stamped.1
 
 done : (g : Over) (c : After-into_badge g) → IsFinished (served_by g.M.Machine) (view c.args.seat.now) (number_in (layout_in c.args.self.now) c.args.grant)
@@ -42,7 +47,8 @@ done : (g : Over) (c : After-into_badge g) → IsFinished (served_by g.M.Machine
 done g c =
     let is : c.args.seat.now.badge.views ≡ c.into_seat-place.result.me.0 ∷ [] = search rules in
     let badge : c.into_badge.result.views ≡ c.give_home-place.result.me.0 ∷ [] = search rules in
-    finished-known (served_by g.M.Machine) c.args.seat.now.badge.views c.into_seat-place.result.me.0 c.stamp_call.new.place.me.0 c.give_home-place.result.me.0 c.into_badge.result.views
+    finished-known (served_by g.M.Machine) c.args.seat.now.badge.views c.into_seat-place.result.me.0 c.stamp_call.new.place.me.0
+    c.give_home-place.result.me.0 c.into_badge.result.views
     (entry_with g.N.Node.parcels (layout_in c.args.self.now) c.args.grant c.args.call.now c.args.reply.now)
     c.stamp_call.ensures.stamped.0 is badge c.stamp_call.ensures.stamped.1 c.give_home-place.ensures.ended.1
 
@@ -55,7 +61,8 @@ pub stamp_call-requires-clause-step : goal.stamp_call-requires-clause-step
 stamp_call-requires-clause-step g c =
     let L = layout_in c.args.self.now in let grant = c.args.grant in
     let o = start g (goal.at.stamp_call-requires-clause-step g c).After-into_seat-place in
-    subst (λ l. IsStep (served_by g.M.Machine) (known l) (number_in L grant) c.args.call.now c.args.reply.now (parcels_in g.N.Node.parcels L grant)) o.is c.requires.step
+    subst (λ l. IsStep (served_by g.M.Machine) (known l) (number_in L grant) c.args.call.now c.args.reply.now (parcels_in g.N.Node.parcels L grant))
+    o.is c.requires.step
 
 pub stamp_call-requires-clause-hand : goal.stamp_call-requires-clause-hand
 stamp_call-requires-clause-hand g c =
@@ -76,7 +83,8 @@ stamp_call-requires-clause-fits g c =
     let L = layout_in c.args.self.now in
     let o = start g (goal.at.stamp_call-requires-clause-fits g c).After-into_seat-place in
     let parents : c.args.self.now.table.shared.key.value.parents.items ≡ numbers.parents L = search rules in
-    stamp-fits g.M.Parcel.HasKind.kind L c.args.self.now.layout.lawful (affinity_of (node_of c.args.grant)) c.requires.node (view_of c.into_seat-place.result.me.0) o.still
+    stamp-fits g.M.Parcel.HasKind.kind L c.args.self.now.layout.lawful (affinity_of (node_of c.args.grant)) c.requires.node
+    (view_of c.into_seat-place.result.me.0) o.still
     (parcels_in g.N.Node.parcels L c.args.grant) c.requires.exact c.args.self.now.table.shared.key.value.parents.items parents
 
 pub give_home-place-requires-clause-ready : goal.give_home-place-requires-clause-ready
@@ -88,8 +96,11 @@ give_home-place-requires-clause-ready g c =
     (s.one, c.stamp_call.ensures.seat.1 ∙ none, s.out, s.path, s.tree ∙ sym parents)
 
 pub give_home-place-requires-clause-node : goal.give_home-place-requires-clause-node
-give_home-place-requires-clause-node g c =
-    (c.requires.node, g.met.N.Node.of_kind (layout_in c.args.self.now) (affinity_of (node_of c.args.grant)) (held_in c.args.grant) c.requires.node c.requires.exact)
+give_home-place-requires-clause-node g c = (
+  c.requires.node,
+  g.met.N.Node.of_kind (layout_in c.args.self.now) (affinity_of (node_of c.args.grant)) (held_in c.args.grant) c.requires.node
+      c.requires.exact,
+)
 
 pub give_home-place-requires-clause-listed : goal.give_home-place-requires-clause-listed
 give_home-place-requires-clause-listed g c =
@@ -107,8 +118,11 @@ returns-clause-finished g c = done g (goal.at.returns-clause-finished g c).After
 
 pub returns-clause-seat : goal.returns-clause-seat
 returns-clause-seat g c =
-    let now = (done g (goal.at.returns-clause-seat g c).After-into_badge).3 in
-    (search rules, seat-still g.M.Parcel.HasKind.kind (layout_in c.args.self.now) (view c.args.seat.now) (known c.into_badge.result.views) (ap (λ v. v.tree) now) (ap (λ v. v.first) now) c.requires.seat.1)
+    let now = (done g (goal.at.returns-clause-seat g c).After-into_badge).3 in (
+      search rules,
+      seat-still g.M.Parcel.HasKind.kind (layout_in c.args.self.now) (view c.args.seat.now) (known c.into_badge.result.views)
+          (ap (λ v. v.tree) now) (ap (λ v. v.first) now) c.requires.seat.1,
+    )
 
 pub invariant_of-seat : goal.invariant_of-seat
 invariant_of-seat g c =
@@ -117,7 +131,8 @@ invariant_of-seat g c =
     let s = stamped g at.After-stamp_call (start g at.After-into_seat-place) in
     let badge : c.into_badge.result.views ≡ c.give_home-place.result.me.0 ∷ [] = search rules in
     let e = entry_with g.N.Node.parcels L c.args.grant c.args.call.now c.args.reply.now in
-    let full = finished-views (served_by g.M.Machine) (view seat) n e c.give_home-place.result.me.0 c.into_badge.result.views badge c.give_home-place.ensures.ended.0 (done g at.After-into_badge) in
+    let full = finished-views (served_by g.M.Machine) (view seat) n e c.give_home-place.result.me.0 c.into_badge.result.views badge
+    c.give_home-place.ensures.ended.0 (done g at.After-into_badge) in
     let tree : IsTree (view_of c.stamp_call.new.place.me.0).tree = subst IsTree (sym s.tree) (parents-tree L c.args.self.now.layout.lawful) in
     let gathered = ended-gathered (view_of c.stamp_call.new.place.me.0) (view_of c.give_home-place.result.me.0) n tree s.gathered
     c.give_home-place.ensures.ended.1 c.give_home-place.ensures.apart c.give_home-place.ensures.others in

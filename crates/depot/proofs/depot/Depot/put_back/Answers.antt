@@ -16,17 +16,21 @@ use Rattle.depot.proofs.depot.Depot.put_back.Goals as goal
 
 -- ---- what several goals share
 
-start : (g : Over) (c : After-into_seat-place g) → HasOpen g.M.Parcel.HasKind.kind (layout_in c.args.self.now) (number_in (layout_in c.args.self.now) c.args.grant)
+start : (g : Over) (c : After-into_seat-place g) → HasOpen g.M.Parcel.HasKind.kind (layout_in c.args.self.now)
+    (number_in (layout_in c.args.self.now) c.args.grant)
     (parcels_in g.N.Node.parcels (layout_in c.args.self.now) c.args.grant) c.args.seat.now.badge.views c.into_seat-place.result.me.0
 start g c =
     let seat = c.args.seat.now in
     let is : seat.badge.views ≡ c.into_seat-place.result.me.0 ∷ [] = search rules in
-    open-so g.M.Parcel.HasKind.kind (layout_in c.args.self.now) _ _ seat.badge.views _ is c.requires.as_granted c.requires.seat.1 seat.gathered seat.idle.1 seat.idle.2
+    open-so g.M.Parcel.HasKind.kind (layout_in c.args.self.now) _ _ seat.badge.views _ is c.requires.as_granted c.requires.seat.1 seat.gathered
+    seat.idle.1 seat.idle.2
 
-ended : (g : Over) (c : After-into_badge g) → IsEnded (view c.args.seat.now) (number_in (layout_in c.args.self.now) c.args.grant) (view_of c.give_home-place.result.me.0)
+ended : (g : Over) (c : After-into_badge g) → IsEnded (view c.args.seat.now) (number_in (layout_in c.args.self.now) c.args.grant)
+    (view_of c.give_home-place.result.me.0)
 ended g c =
     let is : c.args.seat.now.badge.views ≡ c.into_seat-place.result.me.0 ∷ [] = search rules in
-    subst (λ l. IsEnded (known l) (number_in (layout_in c.args.self.now) c.args.grant) (view_of c.give_home-place.result.me.0)) (sym is) c.give_home-place.ensures.ended.1
+    subst (λ l. IsEnded (known l) (number_in (layout_in c.args.self.now) c.args.grant) (view_of c.give_home-place.result.me.0))
+    (sym is) c.give_home-place.ensures.ended.1
 
 -- ---- the answers
 
@@ -35,7 +39,8 @@ give_home-place-requires-clause-listed g c = (start g (goal.at.give_home-place-r
 
 pub give_home-place-requires-clause-taken : goal.give_home-place-requires-clause-taken
 give_home-place-requires-clause-taken g c =
-    open-taken g.M.Parcel.HasKind.kind (layout_in c.args.self.now) _ _ c.args.seat.now.badge.views _ (start g (goal.at.give_home-place-requires-clause-taken g c).After-into_seat-place)
+    open-taken g.M.Parcel.HasKind.kind (layout_in c.args.self.now) _ _ c.args.seat.now.badge.views _
+    (start g (goal.at.give_home-place-requires-clause-taken g c).After-into_seat-place)
 
 pub invariant_of-seat : goal.invariant_of-seat
 invariant_of-seat g c =
@@ -43,7 +48,8 @@ invariant_of-seat g c =
     let seat = c.args.seat.now in let n = number_in (layout_in c.args.self.now) c.args.grant in
     let o = start g at.After-into_seat-place in
     let badge : c.into_badge.result.views ≡ c.give_home-place.result.me.0 ∷ [] = search rules in
-    let full = ended-views (view seat) n c.give_home-place.result.me.0 c.into_badge.result.views badge c.give_home-place.ensures.ended.0 (ended g at.After-into_badge) in
+    let full = ended-views (view seat) n c.give_home-place.result.me.0 c.into_badge.result.views badge c.give_home-place.ensures.ended.0
+    (ended g at.After-into_badge) in
     let tree : IsTree (view seat).tree = subst IsTree (sym c.requires.seat.1.0) (parents-tree (layout_in c.args.self.now) c.args.self.now.layout.lawful) in
     let gathered = put-gathered seat.badge.views c.into_seat-place.result.me.0 c.give_home-place.result.me.0 n o.is tree seat.gathered
     c.give_home-place.ensures.ended.1 c.give_home-place.ensures.apart c.give_home-place.ensures.others in
@@ -56,5 +62,8 @@ pub returns-clause-seat : goal.returns-clause-seat
 returns-clause-seat g c =
     let e = ended g (goal.at.returns-clause-seat g c).After-into_badge in
     let badge : c.into_badge.result.views ≡ c.give_home-place.result.me.0 ∷ [] = search rules in
-    let now = ap known badge ∙ e.2 in
-    (search rules, seat-still g.M.Parcel.HasKind.kind (layout_in c.args.self.now) (view c.args.seat.now) (known c.into_badge.result.views) (ap (λ v. v.tree) now) (ap (λ v. v.first) now) c.requires.seat.1)
+    let now = ap known badge ∙ e.2 in (
+      search rules,
+      seat-still g.M.Parcel.HasKind.kind (layout_in c.args.self.now) (view c.args.seat.now) (known c.into_badge.result.views)
+          (ap (λ v. v.tree) now) (ap (λ v. v.first) now) c.requires.seat.1,
+    )
