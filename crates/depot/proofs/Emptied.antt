@@ -1,5 +1,6 @@
 -- Parcels taken from the slots of a table that ended.
-use Rattle.std.proofs.Common.{◌≡◌, ◌≢◌, ℕ, zero, suc, ◌<◌, ◌≤◌, Bool, true, false, List, [], ◌∷◌, length, set, get_or, sym, refl, ap, ◌∙◌, subst, arith, Option, Some, None, inl, inr, ⊎_elim}
+use Rattle.std.proofs.Common.{◌≡◌, ◌≢◌, ℕ, zero, suc, ◌<◌, ◌≤◌, Bool, true, false, List, [], ◌∷◌, length, set, get_or, sym, refl, ap, ◌∙◌}
+use Rattle.std.proofs.Common.{subst, arith, Option, Some, None, inl, inr, ⊎_elim}
 use Rattle.std.proofs.lemmas.List.{get_or_past}
 use Rattle.std.proofs.lemmas.Bool.{false≢true, cases_lt}
 use mathlib.Core.Option as maybe
@@ -15,7 +16,7 @@ use Rattle.parcel_sets.specs.Exact.{Under, HasExactly, IsPlaced}
 use Rattle.parcel_sets.specs.Moved.{Moved}
 use Rattle.depot.specs.Closed.{value_of, if_filled, left_at}
 use Rattle.depot.specs.Kinds.{AreOfKind}
-use Rattle.depot.proofs.Layouts.{place-node, under-place}
+use Rattle.affinity_tree.specs.lemmas.Standing.{place-node, under-place}
 use Rattle.depot_rule.specs.declared.view.View.{View}
 use Rattle.depot_rule.specs.declared.view.Entry.{Entry}
 use Rattle.depot_rule.specs.History.{Behaviour, listed, after}
@@ -38,14 +39,17 @@ module _ {T : Type 0} where
   filled-none false z there some_parcel e = refl
 
   -- what is left at a node is in a slot that is filled
-  pub left-filled : (filled : List Bool) (items : List (Option T)) (k : ℕ) (p : T) → left_at filled items k ≡ Some p → (0 < k) × (get_or filled k false ≡ true) × (value_of (get_elem? items k) ≡ Some p)
+  pub left-filled : (filled : List Bool) (items : List (Option T)) (k : ℕ) (p : T) → left_at filled items k ≡ Some p → (0 < k)
+      × (get_or filled k false ≡ true) × (value_of (get_elem? items k) ≡ Some p)
   left-filled filled items zero p e = absurd cc
   left-filled filled items (suc k) p e = let q = filled-some (get_or filled (suc k) false) (value_of (get_elem? items (suc k))) p e in (omega arith, q.0, q.1)
 
   -- where nothing is left of a parcel that was there, its slot was emptied
-  pub none-left : (filled : List Bool) (items : List (Option T)) (k : ℕ) → 0 < k → k < length items → get_elem? items k ≢ some None → left_at filled items k ≡ None → get_or filled k false ≡ false
+  pub none-left : (filled : List Bool) (items : List (Option T)) (k : ℕ) → 0 < k → k < length items → get_elem? items k ≢ some None
+      → left_at filled items k ≡ None → get_or filled k false ≡ false
   none-left filled items zero pos lt some_parcel e = absurd (omega arith)
-  none-left filled items (suc k) pos lt some_parcel e = filled-none (get_or filled (suc k) false) (get_elem? items (suc k)) (within-there items (suc k) lt) some_parcel e
+  none-left filled items (suc k) pos lt some_parcel e = filled-none (get_or filled (suc k) false) (get_elem? items (suc k))
+      (within-there items (suc k) lt) some_parcel e
 
 pub filled-within : (filled : List Bool) (k : ℕ) → get_or filled k false ≡ true → k < length filled
 filled-within [] k e = absurd (false≢true e)
@@ -53,7 +57,8 @@ filled-within (b ∷ filled) zero e = omega arith
 filled-within (b ∷ filled) (suc k) e = let r = filled-within filled k e in omega arith
 
 -- slot 0 was emptied last
-pub all-empty : (filled : List Bool) → ((k : ℕ) → 0 < k → k < length filled → get_or filled k false ≡ false) → (k : ℕ) → k < length filled → get_or (set filled 0 false) k false ≡ false
+pub all-empty : (filled : List Bool) → ((k : ℕ) → 0 < k → k < length filled → get_or filled k false ≡ false) → (k : ℕ) → k < length filled
+    → get_or (set filled 0 false) k false ≡ false
 all-empty [] others k lt = absurd (omega arith)
 all-empty (b ∷ filled) others zero lt = refl
 all-empty (b ∷ filled) others (suc k) lt = others (suc k) (omega arith) lt
@@ -71,12 +76,14 @@ under-serial layout (Vbn v) m = (m, inr refl)
 under-serial layout (Range v r) m = (m, inr refl)
 
 module _ {P : Type 0} where
-  left-there : (filled : List Bool) (items : List (Option P)) (k : ℕ) (y : Option P) → 0 < k → get_or filled k false ≡ true → get_elem? items k ≡ some y → left_at filled items k ≡ y
+  left-there : (filled : List Bool) (items : List (Option P)) (k : ℕ) (y : Option P) → 0 < k → get_or filled k false ≡ true
+      → get_elem? items k ≡ some y → left_at filled items k ≡ y
   left-there filled items zero y pos full there = absurd (omega arith)
   left-there filled items (suc k) y pos full there = ap (λ (x : Bool × maybe.Option (Option P)). if_filled x.0 (value_of x.1)) (λ i. (full i, there i))
 
   -- no slot but 0 is vacant
-  pub whole-some : {C R B : Type 0} (kind_of : P → Kind) {m : Behaviour P C R B} {ps : List ℕ} {v : View P (Entry P C R)} {xs : List (Option P)} → Whole kind_of m ps v xs → (k : ℕ) → 0 < k → k < length xs → get_elem? xs k ≢ some None
+  pub whole-some : {C R B : Type 0} (kind_of : P → Kind) {m : Behaviour P C R B} {ps : List ℕ} {v : View P (Entry P C R)} {xs : List (Option P)}
+      → Whole kind_of m ps v xs → (k : ℕ) → 0 < k → k < length xs → get_elem? xs k ≢ some None
   whole-some kind_of {xs = xs} w k pos lt e =
       let size = w.size in
       let f = w.filled k pos (omega arith) in
@@ -86,7 +93,8 @@ module _ {P : Type 0} where
       no-parcel p e = cc
 
   -- each node's parcel is left, of its kind
-  pub whole-placed : {C R B : Type 0} (kind_of : P → Kind) (layout : Layout) {m : Behaviour P C R B} {ps : List ℕ} {v : View P (Entry P C R)} {xs : List (Option P)} (filled : List Bool) → ps ≡ parents layout → AreOfKind kind_of layout v.first
+  pub whole-placed : {C R B : Type 0} (kind_of : P → Kind) (layout : Layout) {m : Behaviour P C R B} {ps : List ℕ} {v : View P (Entry P C R)}
+      {xs : List (Option P)} (filled : List Bool) → ps ≡ parents layout → AreOfKind kind_of layout v.first
       → ((k : ℕ) → k < length xs → get_or filled k false ≡ true) → Whole kind_of m ps v xs
       → Under layout Serial (IsPlaced kind_of layout (left_at filled xs))
   whole-placed kind_of layout {xs = xs} filled is kinds full w node under =
@@ -94,12 +102,18 @@ module _ {P : Type 0} where
       let many = ap length is in
       let place = under-place layout Serial node under in
       let lt = place.1 in
-      let f = w.filled (number_of layout node) place.0 (omega arith) in
-      (f.2.0, left-there filled xs (number_of layout node) f.0 place.0 (full (number_of layout node) (omega arith)) f.1 ∙ f.2.1, f.2.2.2 ∙ kinds node f.2.2.0 under.0 f.2.2.1)
+      let f = w.filled (number_of layout node) place.0 (omega arith) in (
+        f.2.0,
+        left-there filled xs (number_of layout node) f.0 place.0 (full (number_of layout node) (omega arith)) f.1 ∙ f.2.1,
+        f.2.2.2
+            ∙ kinds node f.2.2.0 under.0 f.2.2.1,
+      )
 
   -- what was taken of each node is as the history left it
-  pub taken-left : {C R B : Type 0} (kind_of : P → Kind) (layout : Layout) {m : Behaviour P C R B} {ps : List ℕ} (v : View P (Entry P C R)) {xs : List (Option P)} (filled : List Bool) (taken after_all : ℕ → Option P) → ps ≡ parents layout → v.tree ≡ parents layout
-      → ((k : ℕ) → k < length xs → get_or filled k false ≡ true) → Whole kind_of m ps v xs → HasExactly kind_of layout Serial taken → ((k : ℕ) → Moved (left_at filled xs k) (taken k) (after_all k))
+  pub taken-left : {C R B : Type 0} (kind_of : P → Kind) (layout : Layout) {m : Behaviour P C R B} {ps : List ℕ} (v : View P (Entry P C R))
+      {xs : List (Option P)} (filled : List Bool) (taken after_all : ℕ → Option P) → ps ≡ parents layout → v.tree ≡ parents layout
+      → ((k : ℕ) → k < length xs → get_or filled k false ≡ true) → Whole kind_of m ps v xs → HasExactly kind_of layout Serial taken
+      → ((k : ℕ) → Moved (left_at filled xs k) (taken k) (after_all k))
       → (k : ℕ) → 0 < k → k < length v.tree → taken k ≡ after v.tree (listed v.first) v.seen k
   taken-left kind_of layout {ps = ps} v {xs = xs} filled taken after_all is tree full w exact moved k pos lt =
       let size = w.size in
@@ -123,7 +137,8 @@ module _ {P : Type 0} where
   past-none filled items (suc k) le = ap (λ b. if_filled b (value_of (get_elem? items (suc k)))) (get_or_past filled (suc k) false le)
 
   -- once all nodes' parcels were taken, nothing is left
-  pub nothing-left : (kind_of : P → Kind) (layout : Layout) (filled : List Bool) (items : List (Option P)) (taken after : ℕ → Option P) → length filled ≡ length (parents layout)
+  pub nothing-left : (kind_of : P → Kind) (layout : Layout) (filled : List Bool) (items : List (Option P)) (taken after : ℕ → Option P)
+      → length filled ≡ length (parents layout)
       → HasExactly kind_of layout Serial taken → ((k : ℕ) → Moved (left_at filled items k) (taken k) (after k)) → (k : ℕ) → after k ≡ None
   nothing-left kind_of layout filled items taken after size exact moved k = gathered-none (left_at filled items k) (taken k) (after k) (moved k) (before k)
     where
@@ -161,13 +176,17 @@ pub put-root : (filled : List Bool) (n : ℕ) → 0 < n → get_or filled 0 fals
 put-root filled n pos e = other-flag filled n 0 (λ z. omega arith) ∙ e
 
 module _ {T : Type 0} where
-  pub put-there : (filled : List Bool) (items : List (Option T)) (n : ℕ) (p : T) → 0 < n → n < length filled → n < length items → left_at (set filled n true) (set items n (Some p)) n ≡ Some p
+  pub put-there : (filled : List Bool) (items : List (Option T)) (n : ℕ) (p : T) → 0 < n → n < length filled → n < length items
+      → left_at (set filled n true) (set items n (Some p)) n ≡ Some p
   put-there filled items zero p pos lt li = absurd (omega arith)
-  put-there filled items (suc n) p pos lt li = ap (λ (x : Bool × maybe.Option (Option T)). if_filled x.0 (value_of x.1)) (λ i. (own-flag filled (suc n) lt i, set_here items (suc n) (Some p) li i))
+  put-there filled items (suc n) p pos lt li = ap (λ (x : Bool × maybe.Option (Option T)). if_filled x.0 (value_of x.1))
+      (λ i. (own-flag filled (suc n) lt i, set_here items (suc n) (Some p) li i))
 
-  pub put-others : (filled : List Bool) (items : List (Option T)) (n : ℕ) (p : T) (k : ℕ) → k ≢ n → left_at (set filled n true) (set items n (Some p)) k ≡ left_at filled items k
+  pub put-others : (filled : List Bool) (items : List (Option T)) (n : ℕ) (p : T) (k : ℕ) → k ≢ n → left_at (set filled n true)
+      (set items n (Some p)) k ≡ left_at filled items k
   put-others filled items n p zero ne = refl
-  put-others filled items n p (suc k) ne = ap (λ (x : Bool × maybe.Option (Option T)). if_filled x.0 (value_of x.1)) (λ i. (other-flag filled n (suc k) ne i, set_else items n (suc k) (Some p) ne i))
+  put-others filled items n p (suc k) ne = ap (λ (x : Bool × maybe.Option (Option T)). if_filled x.0 (value_of x.1))
+      (λ i. (other-flag filled n (suc k) ne i, set_else items n (suc k) (Some p) ne i))
 
   pub put-parcels : (items : List (Option T)) (n : ℕ) (p : T) (k : ℕ) → get_elem? items k ≢ some None → get_elem? (set items n (Some p)) k ≢ some None
   put-parcels items n p k there e = ⊎_elim

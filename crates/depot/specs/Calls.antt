@@ -4,8 +4,7 @@ use mathlib.Core.Option.{some}
 use lib.ListN.{get_elem?}
 use Rattle.depot_rule.specs.declared.view.View.{View}
 use Rattle.depot_rule.specs.declared.view.Read.{Read}
-use Rattle.depot_rule.specs.Sums.{tally}
-use Rattle.depot_rule.specs.Tree.{ancestors, Covers, Excludes}
+use Rattle.affinity_tree.specs.Ancestors.{tally, ancestors, Covers, Excludes}
 use Rattle.depot_rule.specs.Shares.{exclusive, grant_shares, shares, Has}
 use Rattle.depot_rule.specs.Parcels.{has_out, IsParcel}
 use Rattle.depot_rule.specs.Seats.{view_of}
@@ -53,7 +52,8 @@ module _ {P E : Type 0} where
 
   -- b wasn't granted; if there is no other seat, a grant of this one excludes it
   abbrev pub WasRefused : List ℕ → View P E → ℕ → ℕ → ℕ → List (View P E) → Type 0
-  WasRefused parents v b node found vs = (more : List Read) × Moved v [] more vs × IsRead v node found more × Refuses parents b node found × (IsOnly v → IsExcluded v b)
+  WasRefused parents v b node found vs = (more : List Read) × Moved v [] more vs × IsRead v node found more × Refuses parents b node found
+      × (IsOnly v → IsExcluded v b)
 
   -- the view of a seat between two calls
   abbrev pub own_views : List (List (View P E)) → List (View P E)

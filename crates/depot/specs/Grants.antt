@@ -1,8 +1,9 @@
 -- What the calls on a depot do to a seat's view.
-use Rattle.std.specs.Prelude.{◌≡◌, ℕ, zero, suc, ◌+◌, ◌<◌, ◌≤◌, nat_lt, List, [], ◌∷◌, ◌++◌, length, slice_set, slice_index_or, Option, Some, None}
+use Rattle.std.specs.Prelude.{◌≡◌, ℕ, ◌+◌, ◌<◌, ◌≤◌, nat_lt, List, [], ◌∷◌, ◌++◌, length, slice_set, slice_index_or, Option, Some, None}
 use mathlib.Core.Option.{some}
 use lib.ListN.{get_elem?}
 use Rattle.nfs_model.specs.Tree.{Layout, Affinity}
+use Rattle.affinity_tree.specs.declared.affinity.Affinity as codes
 use Rattle.affinity_tree.specs.Affinity.{affinity_of}
 use Rattle.affinity_tree.specs.declared.affinity.Kind.{Kind}
 use Rattle.affinity_tree.specs.Numbers.{number_of, node_count, parents}
@@ -10,20 +11,15 @@ use Rattle.affinity_tree.specs.Tree.{IsNode}
 use Rattle.depot_rule.specs.declared.view.View.{View}
 use Rattle.depot_rule.specs.declared.view.Read.{Read}
 use Rattle.depot_rule.specs.declared.view.Entry.{Entry}
-use Rattle.depot_rule.specs.Sums.{total, one_if, tally}
-use Rattle.depot_rule.specs.Tree.{Covers}
-use Rattle.depot_rule.specs.History.{Behaviour, Legal, SoundThroughout, IsHistory, AreHands, entries_of, listed, after}
+use Rattle.affinity_tree.specs.Ancestors.{one_if, tally, Covers}
+use Rattle.depot_rule.specs.Sums.{total}
+use Rattle.depot_rule.specs.History.{Behaviour, by_number, Legal, SoundThroughout, IsHistory, AreHands, entries_of, listed, after}
 use Rattle.depot_rule.specs.Shares.{worn, too_many, made, Has}
 use Rattle.depot_rule.specs.Plays.{IsOnly, with_entry, HasAdded}
 use Rattle.depot.specs.Kinds.{AreOfKind}
 use Rattle.depot.specs.Calls.{IsAmong, IsRead, Refuses, IsExcluded}
 use Rattle.depot.specs.declared.grants.Refusal.{Refusal}
 use Rattle.depot.specs.declared.grants.Refusal.TheVariants.{Busy, Worn}
-
--- parcels by node as a list, of so many places
-abbrev pub by_number : {P : Type 0} → (ℕ → Option P) → ℕ → List (Option P)
-by_number f zero = []
-by_number f (suc n) = by_number f n ++ f n ∷ []
 
 -- the entry of a call on a node, with the parcels as it leaves them
 abbrev pub entry_of : {P C R : Type 0} → Layout → Affinity → (ℕ → Option P) → C → R → Entry P C R
@@ -34,6 +30,10 @@ abbrev pub HasLooked : (ℕ → Type 0) → List Read → Type 0
 HasLooked Q more = (ticket : ℕ) × Q ticket × IsAmong (record { word = 0; value = ticket; shares = 0 }) more
 
 module _ {P E : Type 0} where
+  -- the ticket was read as a number below 2^62. For the only seat it is the number of its entries
+  abbrev pub IsLow : View P E → List Read → Type 0
+  IsLow v more = HasLooked (λ ticket. (ticket < worn) × (IsOnly v → ticket ≡ made v)) more
+
   -- what is known of a seat of a depot of this layout: it has the layout's tree, and the parcels at the start were of their nodes' kinds
   abbrev pub IsSeatOf : (P → Kind) → Layout → View P E → Type 0
   IsSeatOf kind layout v = (v.tree ≡ parents layout) × AreOfKind kind layout v.first
@@ -46,14 +46,14 @@ module _ {P E : Type 0} where
   abbrev pub HasWith : View P E → ℕ → (ℕ → Option P) → Type 0
   HasWith v b f = (g : List (Option P)) × Has v b g × ListsAs v b g f
 
-  -- a grant of b, with the parcels f, was added: no open grant of the seat's excluded b, and the ticket was read below 2^62
+  -- a grant of b, with the parcels f, was added: no open grant of the seat's excluded b, and the ticket was low
   abbrev pub IsBegun : View P E → ℕ → (ℕ → Option P) → View P E → Type 0
   IsBegun v b f w = (g : List (Option P)) × (gone : List ℕ) × (more : List Read)
       × (w ≡ record v { looked = 0; held = slice_set v.held b (Some g); gone = gone; reads = more ++ v.reads })
       × ListsAs v b g f
       × (get_elem? v.held b ≡ some None)
       × (IsExcluded v b → ⊥)
-      × HasLooked (λ ticket. ticket < worn) more
+      × IsLow v more
 
   -- the grant of b is no more
   abbrev pub IsEnded : View P E → ℕ → View P E → Type 0
@@ -63,20 +63,25 @@ module _ {P E : Type 0} where
   abbrev pub HasRead : View P E → ℕ → List Read → View P E → Type 0
   HasRead v looked more w = w ≡ record v { looked = looked; reads = more ++ v.reads }
 
-  -- b was refused by the word of a node, which this call read: the seat then had no share in it but for its grants. The ticket was below 2^62. If it is the only seat, a grant of its own excludes b
+  -- b was refused by the word of a node, which this call read: the seat then had no share in it but for its grants. The
+  -- ticket was low. If it is the only seat, a grant of its own excludes b
   abbrev pub IsBusy : List ℕ → View P E → ℕ → ℕ → ℕ → View P E → Type 0
-  IsBusy tree v b node word w = (more : List Read) × HasRead v 1 more w × IsRead v node word more × Refuses tree b node word × HasLooked (λ ticket. ticket < worn) more × (IsOnly v → IsExcluded v b)
+  IsBusy tree v b node word w = (more : List Read) × HasRead v 1 more w × IsRead v node word more × Refuses tree b node word × IsLow v more
+      × (IsOnly v → IsExcluded v b)
 
   -- the ticket was read at 2^62 or more. If it is the only seat, it made as many entries
   abbrev pub IsWorn : View P E → View P E → Type 0
   IsWorn v w = (more : List Read) × HasRead v v.looked more w × HasLooked (λ ticket. worn ≤ ticket) more × (IsOnly v → worn ≤ made v)
 
-  abbrev pub IsRefused : Layout → View P E → Affinity → Refusal → View P E → Type 0
-  IsRefused layout v a (Busy node word) w = IsNode layout (affinity_of node) × IsBusy (parents layout) v (number_of layout a) (number_of layout (affinity_of node)) word w
+  -- a call on the node a was refused
+  abbrev pub IsRefused : Layout → View P E → codes.Affinity → Refusal → View P E → Type 0
+  IsRefused layout v a (Busy node word) w = IsNode layout (affinity_of node) × IsBusy (parents layout) v (number_of layout (affinity_of a))
+      (number_of layout (affinity_of node)) word w
   IsRefused layout v a Worn w = IsWorn v w
 
 module _ {P C R B : Type 0} (m : Behaviour P C R B) where
-  -- the parcels f of the nodes that b covers are as a history left them that begins with what the seat has seen, of fewer than 2^63 entries. For the only seat it is just what it has seen
+  -- the parcels f of the nodes that b covers are as a history left them that begins with what the seat has seen, of
+  -- fewer than 2^62 + 300,000 entries. For the only seat it is just what it has seen
   abbrev pub IsAfter : View P (Entry P C R) → ℕ → (ℕ → Option P) → Type 0
   IsAfter v b f = (log : List (Entry P C R)) × IsHistory m v.tree v.first v log × (length log < too_many) × (IsOnly v → log ≡ v.seen)
       × ((k : ℕ) → 0 < k → k < length v.tree → Covers v.tree b k → f k ≡ after v.tree (listed v.first) log k)
@@ -93,7 +98,11 @@ module _ {P C R B : Type 0} (m : Behaviour P C R B) where
   -- the entry e was stamped
   abbrev pub IsStamped : View P (Entry P C R) → Entry P C R → ℕ → List (View P (Entry P C R)) → Type 0
   IsStamped v e ticket vs = (between : List (Entry P C R))
-      × (vs ≡ record (with_entry v between e) { stamped = e.node; held = slice_set v.held e.node (Some e.left); reads = record { word = 0; value = ticket; shares = 0 } ∷ v.reads } ∷ [])
+      × (vs ≡ record (with_entry v between e) {
+        stamped = e.node;
+        held = slice_set v.held e.node (Some e.left);
+        reads = record { word = 0; value = ticket; shares = 0 } ∷ v.reads;
+      } ∷ [])
       × HasAdded m v between e
 
   -- the grant of b is no more, and the entry e stands in the history after all that was seen, and what others put between
@@ -102,7 +111,8 @@ module _ {P C R B : Type 0} (m : Behaviour P C R B) where
       × (w ≡ record (with_entry v between e) { stamped = 0; held = slice_set v.held b None; gone = gone; reads = more ++ v.reads })
       × HasAdded m v between e
 
-  -- the history of the only seat, at the end: it is legal, with the invariant throughout; the seat's own hand is all hands; each entry is the seat's; and the parcels f are as it left them
+  -- the history of the only seat, at the end: it is legal, with the invariant throughout; the seat's own hand is all
+  -- hands; each entry is the seat's; and the parcels f are as it left them
   abbrev pub IsClosed : View P (Entry P C R) → (ℕ → Option P) → Type 0
   IsClosed v f = Legal m.steps v.tree (listed v.first) v.seen × SoundThroughout m v.tree (listed v.first) v.seen
       × ((hands : List B) × AreHands m.takes m.gives (entries_of v) hands × m.invariant v.tree (after v.tree (listed v.first) v.seen) hands (length v.seen))

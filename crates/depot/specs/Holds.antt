@@ -2,8 +2,7 @@
 use Rattle.std.specs.Prelude.{◌≡◌, ℕ, ◌<◌, ◌==◌, nat_lt, Bool, ◌&&◌, List, [], ◌∷◌, ◌++◌, length, slice_index_or, Option, Some, None, if◌then◌else◌}
 use Rattle.depot_rule.specs.declared.view.View.{View}
 use Rattle.depot_rule.specs.declared.view.Read.{Read}
-use Rattle.depot_rule.specs.Sums.{tally}
-use Rattle.depot_rule.specs.Tree.{Covers}
+use Rattle.affinity_tree.specs.Ancestors.{tally, Covers, Excludes}
 use Rattle.depot_rule.specs.Shares.{Has}
 use Rattle.depot_rule.specs.History.{covers}
 use Rattle.depot_rule.specs.Seats.{view_of}
@@ -33,3 +32,7 @@ module _ {P E : Type 0} where
   -- each parcel of each open grant was taken
   abbrev pub IsGathered : View P E → Type 0
   IsGathered v = (b k : ℕ) (g : List (Option P)) → Has v b g → 0 < k → k < length v.tree → Covers v.tree b k → 0 < tally k v.gone
+
+  -- no grant of the seat excludes another
+  abbrev pub IsApart : View P E → Type 0
+  IsApart v = (b c : ℕ) (g h : List (Option P)) → Has v b g → Has v c h → Excludes v.tree b c → b ≡ c

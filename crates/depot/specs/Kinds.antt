@@ -8,4 +8,5 @@ use Rattle.affinity_tree.specs.Tree.{IsNode}
 
 -- each node's parcel at the start is of the node's kind
 abbrev pub AreOfKind : {P : Type 0} → (P → Kind) → Layout → List (Option P) → Type 0
-AreOfKind kind layout first = (node : Affinity) (parcel : _) → IsNode layout node → slice_index_or first (number_of layout node) None ≡ Some parcel → kind parcel ≡ kind_of node
+AreOfKind kind layout first = (node : Affinity) (parcel : _) → IsNode layout node → slice_index_or first (number_of layout node) None ≡ Some parcel
+    → kind parcel ≡ kind_of node

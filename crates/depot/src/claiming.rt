@@ -1,15 +1,14 @@
 //! A node is claimed with all that it covers, and given up.
 
-ghost use Rattle.std.specs.Prelude.{◌≡◌, ◌<◌, ◌≤◌, ◌≢◌, ◌∷◌, ◌++◌, ℕ, List, [], length, slice_set, slice_index_or, Option, Some, None, OnOk, IfErr};
-ghost use Rattle.depot_rule.specs.declared.view.View.{View};
+ghost use Rattle.std.specs.Prelude.{◌≡◌, ◌<◌, ◌∷◌, ◌++◌, List, [], length, slice_set, None};
+ghost use Rattle.std.specs.Prelude.{OnOk, IfErr};
 ghost use Rattle.depot_rule.specs.declared.view.Read.{Read};
-ghost use Rattle.depot_rule.specs.Tree.{IsTree, ancestors, Covers, Excludes};
 ghost use Rattle.depot_rule.specs.Shares.{Has};
-ghost use Rattle.depot_rule.specs.Parcels.{has_out};
 ghost use Rattle.depot_rule.specs.History.{behaviour, listed};
 ghost use Rattle.depot_rule.specs.Seats.{view_of};
 ghost use Rattle.depot.specs.Calls.{IsGranted, IsExcluded, WasRefused};
 ghost use Rattle.depot.specs.Grants.{IsAfter};
+ghost use Rattle.depot.specs.Places.{tree_of, IsOn, IsTreeOf, IsStill, AreHome, IsAlone};
 
 use crate::path::{Busy, climb, leave_all};
 use crate::steps::{claim, release};
@@ -24,12 +23,18 @@ pub fn try_claim<M: Machine>(
     parents: &[u64],
     node: usize,
 ) -> Result<(), Busy>
-    requires table { (place.old.table_id ≡ board.now.table_id) × (node < board.now.table_id.words) × (board.now.table_id.words ≡ length board.now.key.value.parents.items) }
-    requires tree { (parents.now ≡ board.now.key.value.parents.items) × IsTree parents.now }
-    requires ready { let v = view_of place.old.me.0 in (length place.old.me.0 ≡ 1) × (0 < node) × (v.unsure ≡ 0) × (v.path ≡ []) × (v.tree ≡ parents.now) × (v.looked ≡ 1) }
-    ensures seat { (place.new.table_id ≡ place.old.table_id) × (place.new.me.1 ≡ place.old.me.1) }
-    ensures granted { let v = view_of place.old.me.0 in OnOk result (((g : _) × (more : List Read) × IsGranted M.Parcel.kind v node g more place.new.me.0 × IsAfter (behaviour M.steps M.takes M.gives M.invariant) v node (listed g)) × (IsExcluded v node → ⊥)) }
-    ensures refused { IfErr result (λ busy. WasRefused parents.now (view_of place.old.me.0) node busy.node busy.word place.new.me.0) }
+    requires table { IsOn place.old.table_id board.now.table_id (tree_of board.now.key) node }
+    requires tree { IsTreeOf parents.now (tree_of board.now.key) }
+    requires ready { let v = view_of place.old.me.0 in
+        (length place.old.me.0 ≡ 1) × (0 < node) × (v.unsure ≡ 0) × (v.path ≡ [])
+        × (v.tree ≡ parents.now) × (v.looked ≡ 1) }
+    ensures seat { IsStill place.old place.new }
+    ensures granted { let v = view_of place.old.me.0 in OnOk result (
+        ((g : _) × (more : List Read) × IsGranted M.Parcel.kind v node g more place.new.me.0
+        × IsAfter (behaviour M.steps M.takes M.gives M.invariant) v node (listed g))
+        × (IsExcluded v node → ⊥)) }
+    ensures refused { IfErr result (λ busy.
+        WasRefused parents.now (view_of place.old.me.0) node busy.node busy.word place.new.me.0) }
 {
     climb(board, place, parents, node)?;
     let word = claim(board, place, node);
@@ -42,14 +47,20 @@ pub fn try_claim<M: Machine>(
 
 /// Ends a grant whose parcels are all at home.
 pub fn give_up<M: Machine>(board: &Board<M>, place: &mut Place<M>, parents: &[u64], node: usize)
-    requires table { (place.old.table_id ≡ board.now.table_id) × (node < board.now.table_id.words) × (board.now.table_id.words ≡ length board.now.key.value.parents.items) }
-    requires tree { (parents.now ≡ board.now.key.value.parents.items) × IsTree parents.now }
-    requires ready { let v = view_of place.old.me.0 in (length place.old.me.0 ≡ 1) × (0 < node) × (v.path ≡ []) × (v.tree ≡ parents.now) }
-    requires granted { let v = view_of place.old.me.0 in (g : _) × Has v node g }
-    requires home { let v = view_of place.old.me.0 in (k : ℕ) (g : List (Option _)) (p : _) → Has v node g → 0 < k → k < length board.now.key.value.parents.items → Covers board.now.key.value.parents.items node k → slice_index_or g k None ≡ Some p → has_out k v ≡ 0 }
-    ensures seat { (place.new.table_id ≡ place.old.table_id) × (place.new.me.1 ≡ place.old.me.1) }
-    ensures apart { let v = view_of place.old.me.0 in (c : ℕ) (h : List (Option _)) → Has v c h → Excludes v.tree node c → c ≡ node }
-    ensures ended { let v = view_of place.old.me.0 in (more : List Read) × (place.new.me.0 ≡ record v { stamped = 0; held = slice_set v.held node None; reads = more ++ v.reads } ∷ []) }
+    requires table { IsOn place.old.table_id board.now.table_id (tree_of board.now.key) node }
+    requires tree { IsTreeOf parents.now (tree_of board.now.key) }
+    requires ready { let v = view_of place.old.me.0 in
+        (length place.old.me.0 ≡ 1) × (0 < node) × (v.path ≡ []) × (v.tree ≡ parents.now) }
+    requires granted { (g : _) × Has (view_of place.old.me.0) node g }
+    requires home { AreHome (tree_of board.now.key) node (view_of place.old.me.0) }
+    ensures seat { IsStill place.old place.new }
+    ensures apart { IsAlone (view_of place.old.me.0) node }
+    ensures ended { let v = view_of place.old.me.0 in (more : List Read)
+        × (place.new.me.0 ≡ record v {
+          stamped = 0;
+          held = slice_set v.held node None;
+          reads = more ++ v.reads;
+        } ∷ []) }
 {
     release(board, place, node);
     leave_all(board, place, parents, node);

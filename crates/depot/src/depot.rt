@@ -1,14 +1,12 @@
 //! The depot, made and shared.
 
-ghost use Rattle.std.specs.Prelude.{◌≡◌, ◌<◌, ◌≤◌, ℕ, List, length, replicate, slice_index_or, Option, Some, None, IfOk, IfErr};
-ghost use Rattle.nfs_model.specs.Tree as trees;
-ghost use Rattle.affinity_tree.specs.declared.affinity.Kind.TheVariants as kinds;
+ghost use Rattle.std.specs.Prelude.{◌≡◌, ℕ, length, replicate, IfOk};
 ghost use Rattle.affinity_tree.specs.Layout.{layout_of};
 ghost use Rattle.affinity_tree.specs.Numbers as numbers;
-ghost use Rattle.depot_rule.specs.Tree.{IsTree};
 
 use crate::closed::ClosedTable;
-use crate::seats::{Seat, join_seat, meet, split_seat};
+use crate::meeting::{join_seat, meet, split_seat};
+use crate::seats::{Seat, TooManySeats};
 use crate::table::{DepotRule, Key, Opening, Place, ViewsOf};
 use affinity_tree::{Affinity, Layout};
 use atomic_table::Table;
@@ -47,19 +45,18 @@ fn parents_of(alloc: Global, layout: &Layout) -> Result<Vec<u64>, AllocError>
 }
 
 impl<M: Machine> Depot<M> {
-    ghost use Rattle.std.specs.Prelude.{◌+◌, []};
-    ghost use Rattle.std.specs.Mem.Slots.{slots_items, slots_len};
-    ghost use mathlib.Core.Option.{some};
-    ghost use lib.ListN.{get_elem?};
-    ghost use Rattle.depot_rule.specs.Shares.{Has, opening_view};
-    ghost use Rattle.depot_rule.specs.Parcels.{IsParcel};
-    ghost use Rattle.depot_rule.specs.Seats.{fresh, merge, longer, having_seen};
-    ghost use Rattle.depot_rule.specs.Plays.{AreApart, HaveSeenOne};
+    ghost use Rattle.std.specs.Prelude.{◌⊎◌, ◌<◌, ◌+◌, [], IfErr};
+    ghost use Rattle.nfs_model.specs.Tree as trees;
+    ghost use Rattle.affinity_tree.specs.declared.affinity.Kind.TheVariants as kinds;
     ghost use Rattle.parcel_sets.specs.Exact.{HasExactly};
-    ghost use Rattle.depot.specs.Calls.{known};
     ghost use Rattle.depot_rule.specs.Sums.{total};
-    ghost use Rattle.depot_rule.specs.History.{behaviour, entries_of};
-    ghost use Rattle.depot.specs.Grants.{by_number, IsSeatOf, IsClosed};
+    ghost use Rattle.depot_rule.specs.Shares.{Has};
+    ghost use Rattle.depot_rule.specs.Seats.{fresh, merge};
+    ghost use Rattle.depot_rule.specs.Plays.{AreApart, HaveSeenOne};
+    ghost use Rattle.depot_rule.specs.History.{entries_of};
+    ghost use Rattle.depot.specs.Grants.{IsClosed};
+    ghost use Rattle.depot.specs.Words.{machine_of, layout_in, view, splits_left, IsSeatHere};
+    ghost use Rattle.depot.specs.Words.{HasTold, all_parcels, first_view, HasGrants, HasNoGrant};
 
     /// A depot of a layout with the parcels of all nodes, and its first seat. Without memory the
     /// parcels come back.
@@ -69,11 +66,17 @@ impl<M: Machine> Depot<M> {
         parcels: N::Held,
     ) -> Result<(Depot<M>, Seat<M>), N::Held>
         requires root { N.KIND ≡ kinds.Serial }
-        requires exact { HasExactly M.Parcel.kind (layout_of layout) trees.Serial (N.parcels (layout_of layout) trees.Serial parcels) }
-        requires invariant { M.invariant (numbers.parents (layout_of layout)) (N.parcels (layout_of layout) trees.Serial parcels) [] 0 }
-        ensures made { IfOk result (λ made. (layout_of made.0.layout ≡ layout_of layout) × (known made.1.badge.views ≡ opening_view (numbers.parents (layout_of layout)) (by_number (N.parcels (layout_of layout) trees.Serial parcels) (1 + numbers.node_count (layout_of layout))))) }
-        ensures seat { IfOk result (λ made. (made.1.badge.table_id ≡ made.0.table.shared.table_id) × (made.1.splits ≡ 63) × IsSeatOf M.Parcel.kind (layout_of layout) (known made.1.badge.views)) }
-        ensures refused { IfErr result (λ back. (k : ℕ) → N.parcels (layout_of layout) trees.Serial back k ≡ N.parcels (layout_of layout) trees.Serial parcels k) }
+        requires exact { let L = layout_of layout in
+            HasExactly M.Parcel.kind L trees.Serial (all_parcels N.parcels L parcels) }
+        requires invariant { let L = layout_of layout in
+            M.invariant (numbers.parents L) (all_parcels N.parcels L parcels) [] 0 }
+        ensures made { IfOk result (λ made. (layout_in made.0 ≡ layout_of layout)
+            × (view made.1
+            ≡ first_view (layout_of layout) (all_parcels N.parcels (layout_of layout) parcels))) }
+        ensures seat { IfOk result (λ made. IsSeatHere made.0 made.1) }
+        ensures only { IfOk result (λ made. splits_left made.1 ≡ 63) }
+        ensures refused { let L = layout_of layout in IfErr result (λ back. (k : ℕ)
+            → all_parcels N.parcels L back k ≡ all_parcels N.parcels L parcels k) }
     {
         let n = layout.node_count() + 1;
         let (Ok(parents), Ok(words), Ok(mut shelf)) = (
@@ -114,45 +117,63 @@ impl<M: Machine> Depot<M> {
 
     /// The layout that the depot was made of.
     pub fn layout(&self) -> &Layout
-        ensures { result.now ≡ self.now.layout }
+        ensures { layout_of result.now ≡ layout_in self.now }
     {
         &self.layout
     }
 
-    /// Splits a second seat off, which has seen the same and has nothing open. A seat with no split left comes back.
-    pub fn split_seat(&self, seat: Seat<M>) -> Result<(Seat<M>, Seat<M>), Seat<M>>
-        requires table { (seat.badge.table_id ≡ self.now.table.shared.table_id) }
-        ensures table { IfOk result (λ two. (two.0.badge.table_id ≡ seat.badge.table_id) × (two.1.badge.table_id ≡ seat.badge.table_id)) }
-        ensures split { IfOk result (λ two. (0 < seat.splits) × (known two.0.badge.views ≡ record (known seat.badge.views) { parts = seat.splits }) × (known two.1.badge.views ≡ fresh (known seat.badge.views))) }
-        ensures splits { IfOk result (λ two. (two.0.splits + 1 ≡ seat.splits) × (two.1.splits ≡ 0)) }
-        ensures refused { IfErr result (λ same. (seat.splits ≡ 0) × (same ≡ seat)) }
+    /// Splits a second seat off, which has seen the same and has nothing open. A seat with no split
+    /// left comes back.
+    pub fn split_seat(&self, seat: Seat<M>) -> Result<(Seat<M>, Seat<M>), TooManySeats<M>>
+        requires seat { IsSeatHere self.now seat }
+        ensures first { IfOk result (λ two. IsSeatHere self.now two.0) }
+        ensures second { IfOk result (λ two. IsSeatHere self.now two.1) }
+        ensures split { IfOk result (λ two. (0 < splits_left seat)
+            × (view two.0 ≡ record (view seat) { parts = splits_left seat })
+            × (view two.1 ≡ fresh (view seat))) }
+        ensures splits { IfOk result (λ two. (splits_left two.0 + 1 ≡ splits_left seat)
+            × (splits_left two.1 ≡ 0)) }
+        ensures refused { IfErr result (λ refused. (splits_left seat ≡ 0) × (refused.seat ≡ seat)) }
     {
-        split_seat(&self.table.shared, seat)
+        match split_seat(&self.table.shared, seat) {
+            Ok(two) => Ok(two),
+            Err(seat) => Err(TooManySeats { seat }),
+        }
     }
 
-    /// Makes one seat of two, with the splits of both and one more, and the grants and entries of both.
+    /// Makes one seat of two, with the splits of both and one more, and the grants and entries of
+    /// both.
     pub fn join_seat(&self, first: Seat<M>, second: Seat<M>) -> Seat<M>
-        requires table { (first.badge.table_id ≡ self.now.table.shared.table_id) × (second.badge.table_id ≡ self.now.table.shared.table_id) }
-        ensures table { result.badge.table_id ≡ first.badge.table_id }
-        ensures joined { known result.badge.views ≡ merge (known first.badge.views) (known second.badge.views) }
-        ensures apart { AreApart (known first.badge.views) (known second.badge.views) }
-        ensures grants { ((b : ℕ) (g : _) → Has (known first.badge.views) b g → Has (known result.badge.views) b g) × ((b : ℕ) (g : _) → Has (known second.badge.views) b g → Has (known result.badge.views) b g) }
-        ensures one_history { HaveSeenOne (known first.badge.views) (known second.badge.views) }
-        ensures entries { (weigh : _ → ℕ) → total weigh (entries_of (known result.badge.views)) ≡ total weigh (entries_of (known first.badge.views)) + total weigh (entries_of (known second.badge.views)) }
-        ensures splits { result.splits ≡ first.splits + second.splits + 1 }
+        requires first { IsSeatHere self.now first }
+        requires second { IsSeatHere self.now second }
+        ensures seat { IsSeatHere self.now result }
+        ensures joined { view result ≡ merge (view first) (view second) }
+        ensures apart { AreApart (view first) (view second) }
+        ensures grants { HasGrants (view first) result × HasGrants (view second) result }
+        ensures no_other { (b : ℕ) (g : _)
+            → Has (view result) b g
+            → Has (view first) b g ⊎ Has (view second) b g }
+        ensures one_history { HaveSeenOne (view first) (view second) }
+        ensures entries { (weigh : _ → ℕ) → total weigh (entries_of (view result))
+            ≡ total weigh (entries_of (view first)) + total weigh (entries_of (view second)) }
+        ensures splits { splits_left result ≡ splits_left first + splits_left second + 1 }
     {
         join_seat(&self.table.shared, first, second)
     }
 
     /// Two seats tell each other what they have seen.
     pub fn meet(&self, one: &mut Seat<M>, other: &mut Seat<M>)
-        requires table { (one.old.badge.table_id ≡ self.now.table.shared.table_id) × (other.old.badge.table_id ≡ self.now.table.shared.table_id) }
-        ensures table { (one.new.badge.table_id ≡ one.old.badge.table_id) × (other.new.badge.table_id ≡ other.old.badge.table_id) }
-        ensures one { known one.new.badge.views ≡ having_seen (longer (known one.old.badge.views).seen (known other.old.badge.views).seen) (known one.old.badge.views) }
-        ensures other { known other.new.badge.views ≡ having_seen (longer (known one.old.badge.views).seen (known other.old.badge.views).seen) (known other.old.badge.views) }
-        ensures one_history { HaveSeenOne (known one.old.badge.views) (known other.old.badge.views) }
-        ensures entries { (entries_of (known one.new.badge.views) ≡ entries_of (known one.old.badge.views)) × (entries_of (known other.new.badge.views) ≡ entries_of (known other.old.badge.views)) }
-        ensures splits { (one.new.splits ≡ one.old.splits) × (other.new.splits ≡ other.old.splits) }
+        requires one { IsSeatHere self.now one.old }
+        requires other { IsSeatHere self.now other.old }
+        ensures one_here { IsSeatHere self.now one.new }
+        ensures other_here { IsSeatHere self.now other.new }
+        ensures one { HasTold one.old other.old one.old one.new }
+        ensures other { HasTold one.old other.old other.old other.new }
+        ensures one_history { HaveSeenOne (view one.old) (view other.old) }
+        ensures entries { (entries_of (view one.new) ≡ entries_of (view one.old))
+            × (entries_of (view other.new) ≡ entries_of (view other.old)) }
+        ensures splits { (splits_left one.new ≡ splits_left one.old)
+            × (splits_left other.new ≡ splits_left other.old) }
     {
         meet(&self.table.shared, one, other);
     }
@@ -160,11 +181,15 @@ impl<M: Machine> Depot<M> {
     /// Ends the depot. Its only seat, which has no grant, gets all parcels.
     pub fn close<N: Node<M::Parcel>>(self, seat: Seat<M>) -> N::Held
         requires root { N.KIND ≡ kinds.Serial }
-        requires seat { (seat.badge.table_id ≡ self.table.shared.table_id) × IsSeatOf M.Parcel.kind (layout_of self.layout) (known seat.badge.views) }
-        requires only { seat.splits ≡ 63 }
-        requires none_open { (b : ℕ) (g : _) → Has (known seat.badge.views) b g → ⊥ }
-        ensures exact { HasExactly M.Parcel.kind (layout_of self.layout) trees.Serial (N.parcels (layout_of self.layout) trees.Serial result) }
-        ensures history { IsClosed (behaviour M.steps M.takes M.gives M.invariant) (known seat.badge.views) (N.parcels (layout_of self.layout) trees.Serial result) }
+        requires seat { IsSeatHere self seat }
+        requires only { splits_left seat ≡ 63 }
+        requires none_open { HasNoGrant seat }
+        ensures exact { HasExactly M.Parcel.kind (layout_in self) trees.Serial
+            (all_parcels N.parcels (layout_in self) result) }
+        ensures entries { (weigh : _ → ℕ)
+            → total weigh (entries_of (view seat)) ≡ total weigh (view seat).seen }
+        ensures history { IsClosed (machine_of seat)
+            (view seat) (all_parcels N.parcels (layout_in self) result) }
     {
         let Depot {
             table,

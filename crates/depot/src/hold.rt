@@ -1,8 +1,9 @@
 //! A grant's parcels as a shelf, from which sets are put together.
 
-ghost use Rattle.std.specs.Prelude.{◌≡◌, ℕ, [], length};
+ghost use Rattle.std.specs.Prelude.{◌≡◌, length};
 ghost use Rattle.depot_rule.specs.Seats.{view_of};
 ghost use Rattle.std.proofs.Common.{refl, sym, ◌∙◌, subst};
+ghost use Rattle.depot.specs.Places.{tree_of};
 ghost use Rattle.depot.specs.Holds.{untaken, Lists, Handled};
 ghost use Rattle.depot.specs.Handling.{handled-itself, handled-on, lists-still};
 
@@ -13,13 +14,14 @@ use parcel_sets::Shelf;
 
 /// A call that runs, and the node of the grant whose parcels it takes or gives.
 pub struct Hold<'a, M: Machine> {
-    pub(crate) board: &'a Board<M>,
-    pub(crate) place: Place<M>,
-    pub(crate) node: usize,
-    ghost table: { (place.table_id ≡ board.now.table_id) × (board.now.table_id.words ≡ length board.now.key.value.parents.items) },
+    pub board: &'a Board<M>,
+    pub place: Place<M>,
+    pub node: usize,
+    ghost table: { (place.table_id ≡ board.now.table_id)
+        × (board.now.table_id.words ≡ length (tree_of board.now.key)) },
     ghost one: { (length place.me.0 ≡ 1) × (length place.me.1 ≡ 0) },
     ghost free: { (view_of place.me.0).out ≡ 0 },
-    ghost tree: { (view_of place.me.0).tree ≡ board.now.key.value.parents.items },
+    ghost tree: { (view_of place.me.0).tree ≡ tree_of board.now.key },
 }
 
 impl<'a, M: Machine> Shelf<M::Parcel> for Hold<'a, M> {
@@ -27,13 +29,21 @@ impl<'a, M: Machine> Shelf<M::Parcel> for Hold<'a, M> {
 
     ghost allows = { λ hold k p. Lists (view_of hold.place.me.0) hold.node k p };
 
-    ghost keeps = { λ old new. (new.node ≡ old.node) × (new.place.table_id ≡ old.place.table_id) × Handled old.node old.place.me.0 new.place.me.0 };
+    ghost keeps = { λ old new. (new.node ≡ old.node) × (new.place.table_id ≡ old.place.table_id)
+        × Handled old.node old.place.me.0 new.place.me.0 };
 
     ghost keeps_itself = { λ s. (refl, refl, handled-itself s.node s.place.me.0 s.one.0) };
 
-    ghost keeps_on = { λ s t u h k. (k.0 ∙ h.0, k.1 ∙ h.1, handled-on s.node s.place.me.0 t.place.me.0 u.place.me.0 h.2 (subst (λ b. Handled b t.place.me.0 u.place.me.0) h.0 k.2)) };
+    ghost keeps_on = { λ s t u h k. (
+      k.0 ∙ h.0,
+      k.1 ∙ h.1,
+      handled-on s.node s.place.me.0 t.place.me.0 u.place.me.0 h.2
+          (subst (λ b. Handled b t.place.me.0 u.place.me.0) h.0 k.2),
+    ) };
 
-    ghost keeps_allowing = { λ s t node parcel h l. subst (λ b. Lists (view_of t.place.me.0) b node parcel) (sym h.0) (lists-still s.node node parcel s.place.me.0 t.place.me.0 h.2 l) };
+    ghost keeps_allowing = { λ s t node parcel h l.
+        subst (λ b. Lists (view_of t.place.me.0) b node parcel) (sym h.0)
+        (lists-still s.node node parcel s.place.me.0 t.place.me.0 h.2 l) };
 
     fn take(&mut self, node: usize) -> M::Parcel {
         take_parcel(self.board, &mut self.place, node)

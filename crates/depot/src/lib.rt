@@ -1,25 +1,28 @@
-//! Grants of the parcels of a tree, to threads, without a lock and without memory. A call begins with
-//! a grant of a node's parcels and of those below it, or a word refuses it; it is finished by one
-//! step, which puts its entry into the history, or put back.
+//! Grants of the parcels of a tree, to threads, without a lock and without memory. A call begins
+//! with a grant of a node's parcels and of those below it, or a word refuses it; it is finished by
+//! one step, which puts its entry into the history, or put back.
+//!
+//! `specs/Words.antt` has the words of the clauses, `specs/Grants.antt` what calls do to a seat,
+//! and `specs/lemmas/` what callers want to know of both.
 #![tactic(auto)]
 
-pub mod adding;
-pub mod claiming;
+mod calls;
+mod claiming;
 mod closed;
-pub mod depot;
-pub mod grants;
-pub mod hold;
+mod depot;
+mod grants;
+mod hold;
+mod homing;
 pub mod laws;
-pub mod lending;
-pub mod measure;
-pub mod path;
-pub mod plays;
-pub mod seats;
-pub mod slots;
-pub mod stamps;
-pub mod steps;
-pub mod table;
-#[cfg(test)]
-mod tests;
-#[cfg(test)]
-mod trial;
+mod meeting;
+mod path;
+mod plays;
+mod seats;
+mod slots;
+mod stamps;
+mod steps;
+mod table;
+
+pub use depot::Depot;
+pub use grants::{Grant, Refusal};
+pub use seats::{Seat, TooManySeats};

@@ -1,10 +1,10 @@
 //! The words above a node: entered from the top down, left from the bottom up.
 
-ghost use Rattle.std.specs.Prelude.{◌≡◌, ◌<◌, ◌≤◌, ◌≢◌, ◌∷◌, ℕ, List, [], length, slice_index, Option, Some, None, OnOk, IfErr};
-ghost use Rattle.depot_rule.specs.declared.view.View.{View};
-ghost use Rattle.depot_rule.specs.Tree.{IsTree, ancestors};
+ghost use Rattle.std.specs.Prelude.{◌≡◌, ◌<◌, [], length, OnOk, IfErr};
+ghost use Rattle.affinity_tree.specs.Ancestors.{ancestors};
 ghost use Rattle.depot_rule.specs.Seats.{view_of};
 ghost use Rattle.depot.specs.Calls.{MovedTo, FoundClaimed};
+ghost use Rattle.depot.specs.Places.{tree_of, IsOn, IsTreeOf, IsStill};
 
 use crate::steps::{enter, leave};
 use crate::table::{Board, Place};
@@ -24,12 +24,15 @@ pub fn climb<M: Machine>(
     parents: &[u64],
     node: usize,
 ) -> Result<(), Busy>
-    requires table { (place.old.table_id ≡ board.now.table_id) × (node < board.now.table_id.words) × (board.now.table_id.words ≡ length board.now.key.value.parents.items) }
-    requires tree { (parents.now ≡ board.now.key.value.parents.items) × IsTree parents.now }
-    requires ready { let v = view_of place.old.me.0 in (length place.old.me.0 ≡ 1) × (0 < node) × (v.unsure ≡ 0) × (v.path ≡ []) }
-    ensures seat { (place.new.table_id ≡ place.old.table_id) × (place.new.me.1 ≡ place.old.me.1) }
-    ensures entered { OnOk result (MovedTo (view_of place.old.me.0) (ancestors parents.now node) place.new.me.0) }
-    ensures claimed { IfErr result (λ busy. FoundClaimed parents.now (view_of place.old.me.0) node busy.node busy.word place.new.me.0) }
+    requires table { IsOn place.old.table_id board.now.table_id (tree_of board.now.key) node }
+    requires tree { IsTreeOf parents.now (tree_of board.now.key) }
+    requires ready { let v = view_of place.old.me.0 in
+        (length place.old.me.0 ≡ 1) × (0 < node) × (v.unsure ≡ 0) × (v.path ≡ []) }
+    ensures seat { IsStill place.old place.new }
+    ensures entered { OnOk result
+        (MovedTo (view_of place.old.me.0) (ancestors parents.now node) place.new.me.0) }
+    ensures claimed { IfErr result (λ busy.
+        FoundClaimed parents.now (view_of place.old.me.0) node busy.node busy.word place.new.me.0) }
 {
     let parent = parents[node] as usize;
     if parent == 0 {
@@ -50,10 +53,11 @@ pub fn climb<M: Machine>(
 
 /// Leaves the words of the nodes above a node.
 pub fn leave_all<M: Machine>(board: &Board<M>, place: &mut Place<M>, parents: &[u64], node: usize)
-    requires table { (place.old.table_id ≡ board.now.table_id) × (node < board.now.table_id.words) × (board.now.table_id.words ≡ length board.now.key.value.parents.items) }
-    requires tree { (parents.now ≡ board.now.key.value.parents.items) × IsTree parents.now }
-    requires ready { let v = view_of place.old.me.0 in (length place.old.me.0 ≡ 1) × (0 < node) × (v.path ≡ ancestors parents.now node) }
-    ensures seat { (place.new.table_id ≡ place.old.table_id) × (place.new.me.1 ≡ place.old.me.1) }
+    requires table { IsOn place.old.table_id board.now.table_id (tree_of board.now.key) node }
+    requires tree { IsTreeOf parents.now (tree_of board.now.key) }
+    requires ready { let v = view_of place.old.me.0 in
+        (length place.old.me.0 ≡ 1) × (0 < node) × (v.path ≡ ancestors parents.now node) }
+    ensures seat { IsStill place.old place.new }
     ensures left { MovedTo (view_of place.old.me.0) [] place.new.me.0 }
 {
     let above = parents[node] as usize;

@@ -1,15 +1,12 @@
 //! The stamp: a call takes effect.
 
-ghost use Rattle.std.specs.Prelude.{◌≡◌, ◌<◌, ◌++◌, ◌∷◌, ℕ, List, [], length, slice_set, slice_index_or, Option, Some, None};
-ghost use Rattle.depot_rule.specs.declared.view.View.{View};
-ghost use Rattle.depot_rule.specs.declared.view.Read.{Read};
-ghost use Rattle.depot_rule.specs.Tree.{Covers};
+ghost use Rattle.std.specs.Prelude.{◌≡◌, ◌<◌, ℕ, length, slice_index_or, Option, Some, None};
+ghost use Rattle.affinity_tree.specs.Ancestors.{Covers};
 ghost use Rattle.depot_rule.specs.Shares.{Has};
-ghost use Rattle.depot_rule.specs.Parcels.{has_out};
 ghost use Rattle.depot_rule.specs.Seats.{view_of};
-ghost use Rattle.depot_rule.specs.Plays.{IsOnly};
-ghost use Rattle.depot_rule.specs.History.{behaviour, Legal, listed, entries_of};
+ghost use Rattle.depot_rule.specs.History.{behaviour};
 ghost use Rattle.depot.specs.Grants.{IsStep, HasInHand, IsStamped};
+ghost use Rattle.depot.specs.Places.{tree_of, IsStill, AreOut, Fits};
 
 use crate::table::{Board, EntryOf, Place, ViewsOf};
 use atomic_table::Play;
@@ -37,18 +34,26 @@ impl<M: Machine, J: Said<EntryOf<M>>> Play<Option<M::Parcel>, ViewsOf<M>> for St
     ghost then = { StampSays (behaviour M.steps M.takes M.gives M.invariant) J.item };
 }
 
-/// Stamps the entry that was picked, of a grant all of whose parcels are taken. The answer is the ticket.
+/// Stamps the entry that was picked, of a grant all of whose parcels are taken. The answer is the
+/// ticket.
 pub fn stamp_as<M: Machine, J: Said<EntryOf<M>>>(board: &Board<M>, place: &mut Place<M>) -> u64
     requires table { (place.old.table_id ≡ board.now.table_id) × (0 < board.now.table_id.words) }
     requires one { (length place.old.me.0 ≡ 1) × ((view_of place.old.me.0).stamped ≡ 0) }
-    requires granted { let v = view_of place.old.me.0 in (e : _) × (g : _) × (J.item ≡ Some e) × Has v e.node g
-        × ((k : ℕ) → 0 < k → k < length board.now.key.value.parents.items → Covers board.now.key.value.parents.items e.node k → 0 < has_out k v)
-        × ((k : ℕ) → 0 < k → k < length board.now.key.value.parents.items → Covers board.now.key.value.parents.items e.node k → (p : _) × (slice_index_or e.left k None ≡ Some p) × ((q : _) → slice_index_or v.first k None ≡ Some q → M.Parcel.kind p ≡ M.Parcel.kind q)) }
-    requires step { let v = view_of place.old.me.0 in (e : _) → J.item ≡ Some e → (f' : ℕ → Option _) × IsStep (behaviour M.steps M.takes M.gives M.invariant) v e.node e.call e.reply f'
-        × ((k : ℕ) → 0 < k → k < length v.tree → Covers v.tree e.node k → f' k ≡ slice_index_or e.left k None) }
-    requires hand { let v = view_of place.old.me.0 in (e : _) → J.item ≡ Some e → HasInHand (behaviour M.steps M.takes M.gives M.invariant) v e.call e.reply }
-    ensures seat { (place.new.table_id ≡ place.old.table_id) × (place.new.me.1 ≡ place.old.me.1) }
-    ensures stamped { (e : _) → J.item ≡ Some e → IsStamped (behaviour M.steps M.takes M.gives M.invariant) (view_of place.old.me.0) e result place.new.me.0 }
+    requires granted { let v = view_of place.old.me.0 in (e : _) × (g : _)
+        × (J.item ≡ Some e)
+        × Has v e.node g
+        × AreOut (tree_of board.now.key) e.node v
+        × Fits M.Parcel.kind (tree_of board.now.key) e.node e.left v }
+    requires step { let v = view_of place.old.me.0 in (e : _) → J.item ≡ Some e
+        → (f' : ℕ → Option _)
+        × IsStep (behaviour M.steps M.takes M.gives M.invariant) v e.node e.call e.reply f'
+        × ((k : ℕ) → 0 < k → k < length v.tree → Covers v.tree e.node k
+        → f' k ≡ slice_index_or e.left k None) }
+    requires hand { let v = view_of place.old.me.0 in (e : _) → J.item ≡ Some e
+        → HasInHand (behaviour M.steps M.takes M.gives M.invariant) v e.call e.reply }
+    ensures seat { IsStill place.old place.new }
+    ensures stamped { let v = view_of place.old.me.0 in (e : _) → J.item ≡ Some e
+        → IsStamped (behaviour M.steps M.takes M.gives M.invariant) v e result place.new.me.0 }
 {
     board.fetch_add::<Stamp<M, J>>(place, 0, 1)
 }

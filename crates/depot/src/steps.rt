@@ -1,16 +1,15 @@
 //! Steps on words.
 
-ghost use Rattle.std.specs.Prelude.{◌≡◌, ◌<◌, ◌≤◌, ◌≢◌, ◌∷◌, ℕ, List, [], length, slice_set, slice_index_or, Option, Some, None, IfNone, IfSome};
-ghost use Rattle.depot_rule.specs.declared.view.View.{View};
-ghost use Rattle.depot_rule.specs.Sums.{tally};
-ghost use Rattle.depot_rule.specs.Tree.{ancestors, Covers, Excludes};
+ghost use Rattle.std.specs.Prelude.{◌≡◌, ◌<◌, ◌≤◌, ◌≢◌, ◌∷◌, ℕ, List, [], length};
+ghost use Rattle.std.specs.Prelude.{slice_set, Option, Some, None, IfNone, IfSome};
+ghost use Rattle.affinity_tree.specs.Ancestors.{tally, ancestors};
 ghost use Rattle.depot_rule.specs.Shares.{exclusive, Has};
 ghost use Rattle.depot_rule.specs.Seats.{view_of};
 ghost use Rattle.depot_rule.specs.Plays.{IsOnly};
-ghost use Rattle.depot_rule.specs.Parcels.{has_out};
 ghost use Rattle.depot_rule.specs.History.{behaviour, listed};
 ghost use Rattle.depot.specs.Calls.{read_of, Moved, IsGranted, IsExcluded};
 ghost use Rattle.depot.specs.Grants.{IsAfter};
+ghost use Rattle.depot.specs.Places.{tree_of, IsOn, IsStill, AreHome, IsAlone};
 
 use crate::plays::{BackOut, Claim, Enter, Leave, Release};
 use crate::table::{Board, Place};
@@ -19,13 +18,19 @@ use depot_rule::machine::Machine;
 /// The part of a word that says that its node is claimed.
 pub const EXCLUSIVE: u64 = 1 << 32;
 
-/// Enters the word of a node. Where it is found claimed it is left again, and the answer is what was found.
+/// Enters the word of a node. Where it is found claimed it is left again, and the answer is what
+/// was found.
 pub fn enter<M: Machine>(board: &Board<M>, place: &mut Place<M>, node: usize) -> Option<u64>
-    requires table { (place.old.table_id ≡ board.now.table_id) × (node < board.now.table_id.words) × (board.now.table_id.words ≡ length board.now.key.value.parents.items) }
-    requires ready { let v = view_of place.old.me.0 in (length place.old.me.0 ≡ 1) × (0 < node) × (v.unsure ≡ 0) × (tally node v.path ≡ 0) }
-    ensures seat { (place.new.table_id ≡ place.old.table_id) × (place.new.me.1 ≡ place.old.me.1) }
-    ensures entered { let v = view_of place.old.me.0 in IfNone result ((found : ℕ) × Moved v (node ∷ v.path) (read_of node found v ∷ []) place.new.me.0) }
-    ensures claimed { let v = view_of place.old.me.0 in IfSome result (λ found. (exclusive ≤ found) × ((last : _) × Moved v v.path (last ∷ read_of node found v ∷ []) place.new.me.0) × (IsOnly v → (g : _) × Has v node g)) }
+    requires table { IsOn place.old.table_id board.now.table_id (tree_of board.now.key) node }
+    requires ready { let v = view_of place.old.me.0 in
+        (length place.old.me.0 ≡ 1) × (0 < node) × (v.unsure ≡ 0) × (tally node v.path ≡ 0) }
+    ensures seat { IsStill place.old place.new }
+    ensures entered { let v = view_of place.old.me.0 in IfNone result
+        ((found : ℕ) × Moved v (node ∷ v.path) (read_of node found v ∷ []) place.new.me.0) }
+    ensures claimed { let v = view_of place.old.me.0 in IfSome result (λ found.
+        (exclusive ≤ found)
+        × ((last : _) × Moved v v.path (last ∷ read_of node found v ∷ []) place.new.me.0)
+        × (IsOnly v → (g : _) × Has v node g)) }
 {
     let found = board.fetch_add::<Enter>(place, node, 1);
     if found < EXCLUSIVE {
@@ -37,34 +42,54 @@ pub fn enter<M: Machine>(board: &Board<M>, place: &mut Place<M>, node: usize) ->
 
 /// Leaves the word that was entered last.
 pub fn leave<M: Machine>(board: &Board<M>, place: &mut Place<M>, node: usize)
-    requires table { (place.old.table_id ≡ board.now.table_id) × (node < board.now.table_id.words) × (board.now.table_id.words ≡ length board.now.key.value.parents.items) }
-    requires ready { let v = view_of place.old.me.0 in (length place.old.me.0 ≡ 1) × (0 < node) × ((rest : List ℕ) × (v.path ≡ node ∷ rest)) }
-    ensures seat { (place.new.table_id ≡ place.old.table_id) × (place.new.me.1 ≡ place.old.me.1) }
-    ensures left { let v = view_of place.old.me.0 in (rest : List ℕ) → v.path ≡ node ∷ rest → (found : ℕ) × Moved v rest (read_of node found v ∷ []) place.new.me.0 }
+    requires table { IsOn place.old.table_id board.now.table_id (tree_of board.now.key) node }
+    requires ready { let v = view_of place.old.me.0 in
+        (length place.old.me.0 ≡ 1) × (0 < node) × ((rest : List ℕ) × (v.path ≡ node ∷ rest)) }
+    ensures seat { IsStill place.old place.new }
+    ensures left { let v = view_of place.old.me.0 in
+        (rest : List ℕ)
+        → v.path ≡ node ∷ rest
+        → (found : ℕ) × Moved v rest (read_of node found v ∷ []) place.new.me.0 }
 {
     board.fetch_sub::<Leave>(place, node, 1);
 }
 
-/// Claims a node whose words above are entered. The answer is what its word was: 0 where there is now a grant.
+/// Claims a node whose words above are entered. The answer is what its word was: 0 where there is
+/// now a grant.
 pub fn claim<M: Machine>(board: &Board<M>, place: &mut Place<M>, node: usize) -> u64
-    requires table { (place.old.table_id ≡ board.now.table_id) × (node < board.now.table_id.words) × (board.now.table_id.words ≡ length board.now.key.value.parents.items) }
-    requires ready { let v = view_of place.old.me.0 in (length place.old.me.0 ≡ 1) × (0 < node) × (v.unsure ≡ 0) × (v.path ≡ ancestors board.now.key.value.parents.items node) × (v.looked ≡ 1) }
-    ensures seat { (place.new.table_id ≡ place.old.table_id) × (place.new.me.1 ≡ place.old.me.1) }
-    ensures granted { let v = view_of place.old.me.0 in result ≡ 0 → ((g : _) × IsGranted M.Parcel.kind (record v { path = [] }) node g (read_of node 0 v ∷ []) place.new.me.0 × IsAfter (behaviour M.steps M.takes M.gives M.invariant) v node (listed g)) × (IsExcluded v node → ⊥) }
-    ensures refused { let v = view_of place.old.me.0 in result ≢ 0 → Moved v v.path (read_of node result v ∷ []) place.new.me.0 × (IsOnly v → IsExcluded v node) }
+    requires table { IsOn place.old.table_id board.now.table_id (tree_of board.now.key) node }
+    requires ready { let v = view_of place.old.me.0 in
+        (length place.old.me.0 ≡ 1) × (0 < node) × (v.unsure ≡ 0)
+        × (v.path ≡ ancestors (tree_of board.now.key) node) × (v.looked ≡ 1) }
+    ensures seat { IsStill place.old place.new }
+    ensures granted { let v = view_of place.old.me.0 in result ≡ 0 →
+        ((g : _)
+        × IsGranted M.Parcel.kind (record v { path = [] }) node g
+        (read_of node 0 v ∷ []) place.new.me.0
+        × IsAfter (behaviour M.steps M.takes M.gives M.invariant) v node (listed g))
+        × (IsExcluded v node → ⊥) }
+    ensures refused { let v = view_of place.old.me.0 in result ≢ 0 →
+        Moved v v.path (read_of node result v ∷ []) place.new.me.0
+        × (IsOnly v → IsExcluded v node) }
 {
     board.compare_exchange::<Claim<M>>(place, node, 0, EXCLUSIVE)
 }
 
 /// Gives up a grant whose parcels are all at home. The words above its node are still entered.
 pub fn release<M: Machine>(board: &Board<M>, place: &mut Place<M>, node: usize)
-    requires table { (place.old.table_id ≡ board.now.table_id) × (node < board.now.table_id.words) × (board.now.table_id.words ≡ length board.now.key.value.parents.items) }
-    requires ready { let v = view_of place.old.me.0 in (length place.old.me.0 ≡ 1) × (0 < node) × (v.path ≡ []) }
-    requires granted { let v = view_of place.old.me.0 in (g : _) × Has v node g }
-    requires home { let v = view_of place.old.me.0 in (k : ℕ) (g : List (Option _)) (p : _) → Has v node g → 0 < k → k < length board.now.key.value.parents.items → Covers board.now.key.value.parents.items node k → slice_index_or g k None ≡ Some p → has_out k v ≡ 0 }
-    ensures seat { (place.new.table_id ≡ place.old.table_id) × (place.new.me.1 ≡ place.old.me.1) }
-    ensures apart { let v = view_of place.old.me.0 in (c : ℕ) (h : List (Option _)) → Has v c h → Excludes v.tree node c → c ≡ node }
-    ensures released { let v = view_of place.old.me.0 in (found : ℕ) × (place.new.me.0 ≡ record v { path = ancestors v.tree node; stamped = 0; held = slice_set v.held node None; reads = read_of node found v ∷ v.reads } ∷ []) }
+    requires table { IsOn place.old.table_id board.now.table_id (tree_of board.now.key) node }
+    requires ready { let v = view_of place.old.me.0 in
+        (length place.old.me.0 ≡ 1) × (0 < node) × (v.path ≡ []) }
+    requires granted { (g : _) × Has (view_of place.old.me.0) node g }
+    requires home { AreHome (tree_of board.now.key) node (view_of place.old.me.0) }
+    ensures seat { IsStill place.old place.new }
+    ensures apart { IsAlone (view_of place.old.me.0) node }
+    ensures released { let v = view_of place.old.me.0 in (found : ℕ) × (place.new.me.0 ≡ record v {
+      path = ancestors v.tree node;
+      stamped = 0;
+      held = slice_set v.held node None;
+      reads = read_of node found v ∷ v.reads;
+    } ∷ []) }
 {
     board.fetch_sub::<Release>(place, node, EXCLUSIVE);
 }

@@ -31,7 +31,8 @@ impl<M: Machine> TableRule<Option<M::Parcel>, ViewsOf<M>, Key<M>> for DepotRule<
     ghost use Rattle.depot_rule.specs.Rule.{Rule};
     ghost use Rattle.depot_rule.specs.Shares.{opening_view};
 
-    ghost holds = { λ key s. Rule M.Parcel.kind (behaviour M.steps M.takes M.gives M.invariant) key.value.parents.items key.value.parcels.items s };
+    ghost holds = { λ key s. Rule M.Parcel.kind (behaviour M.steps M.takes M.gives M.invariant)
+        key.value.parents.items key.value.parcels.items s };
 
     ghost first = { λ key. opening_view key.value.parents.items key.value.parcels.items ∷ [] };
 }

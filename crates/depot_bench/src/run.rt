@@ -4,7 +4,7 @@ ghost use Rattle.std.specs.Prelude.{◌≤◌};
 
 use crate::lock;
 use affinity_tree::Affinity;
-use depot::measure::Bench;
+use depot_trial::measure::Bench;
 use std::alloc::AllocError;
 use std::io;
 use std::rt::Clock;

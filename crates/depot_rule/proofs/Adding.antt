@@ -9,19 +9,19 @@ use Rattle.atomic_table.specs.Table.{State}
 use Rattle.depot_rule.specs.declared.view.View.{View}
 use Rattle.depot_rule.specs.declared.view.Entry.{Entry}
 use Rattle.depot_rule.specs.declared.view.Read.{Read}
-use Rattle.depot_rule.specs.Sums.{total, one_if, tally}
-use Rattle.depot_rule.specs.Tree.{IsTree, ancestors, Covers}
+use Rattle.affinity_tree.specs.Ancestors.{one_if, tally, IsTree, ancestors, Covers}
+use Rattle.depot_rule.specs.Sums.{total}
 use Rattle.depot_rule.specs.Shares.{Has}
 use Rattle.depot_rule.specs.Parcels.{has_out}
 use Rattle.depot_rule.specs.Rule.{Base}
 use Rattle.depot_rule.specs.Seats.{if_less}
 use Rattle.depot_rule.specs.Machine.{IsLocal, Keeps}
 use Rattle.depot_rule.specs.History.{Behaviour, Current, History, covers, patched, listed, put_in, after, Legal, SoundThroughout, chosen, AreHands, StartsWith}
-use Rattle.depot_rule.proofs.Sums.{one-same, one-other, total-set, total-at, total-append, tally-append}
-use Rattle.depot_rule.proofs.Trees.{above-smaller, covers-below}
+use Rattle.depot_rule.specs.lemmas.Sums.{one-same, one-other, total-set, total-at, total-append, tally-append}
+use Rattle.depot_rule.specs.lemmas.Trees.{above-smaller, covers-below}
 use Rattle.depot_rule.proofs.Views.{all-one, each-set, each-moved}
 use Rattle.depot_rule.proofs.Grants.{covers-one}
-use Rattle.depot_rule.proofs.Histories.{after-snoc, legal-snoc, moved-snoc, starts-itself, starts-more}
+use Rattle.depot_rule.specs.lemmas.Histories.{after-snoc, legal-snoc, moved-snoc, starts-itself, starts-more}
 use Rattle.depot_rule.proofs.Current.{current-granted}
 use Rattle.depot_rule.proofs.Chosen.{chosen-within, chosen-snoc, ascends-snoc}
 use Rattle.depot_rule.proofs.Remembering.{Own, HasHand}

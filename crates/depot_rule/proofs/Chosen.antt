@@ -5,10 +5,11 @@ use mathlib.Core.Logic.{dite}
 use native.Mathlib.Decide.{ℕ_discrete}
 use Rattle.std.specs.Prelude.{slice_get}
 use Rattle.depot_rule.specs.declared.view.Entry.{Entry}
-use Rattle.depot_rule.specs.Sums.{total, one_if, tally}
+use Rattle.affinity_tree.specs.Ancestors.{one_if, tally}
+use Rattle.depot_rule.specs.Sums.{total}
 use Rattle.depot_rule.specs.Seats.{if_less, put_among, in_order}
 use Rattle.depot_rule.specs.History.{Ascends, StartsWith, batches_of, or_nothing, chosen}
-use Rattle.depot_rule.proofs.Sums.{one-same, one-is, total-append, tally-append}
+use Rattle.depot_rule.specs.lemmas.Sums.{one-same, one-is, total-append, tally-append}
 
 module _ {A : Type 0} where
   get-start : (start rest : List A) (p : ℕ) → p < length start → slice_get (start ++ rest) p ≡ slice_get start p

@@ -12,19 +12,19 @@ use Rattle.depot_rule.specs.declared.view.View.{View}
 use Rattle.depot_rule.specs.declared.view.Entry.{Entry}
 use Rattle.depot_rule.specs.declared.view.Read.{Read}
 use Rattle.depot_rule.specs.History.{Behaviour, IsHistory, listed, after}
-use Rattle.depot_rule.specs.Sums.{total, tally}
-use Rattle.depot_rule.specs.Tree.{ancestors, Covers, Excludes}
+use Rattle.affinity_tree.specs.Ancestors.{tally, ancestors, Covers, Excludes}
+use Rattle.depot_rule.specs.Sums.{total}
 use Rattle.depot_rule.specs.Shares.{exclusive, Has, claims, entered, shares, Shares}
 use Rattle.depot_rule.specs.Parcels.{has_out, IsParcel, Carries}
 use Rattle.depot_rule.specs.Rule.{Rule}
 use Rattle.depot_rule.specs.Plays.{Place, noted, ClaimSays, ReleaseSays}
 use Rattle.depot_rule.proofs.Views.{finds-own, few-entries}
-use Rattle.depot_rule.proofs.Sums.{total-at}
+use Rattle.depot_rule.specs.lemmas.Sums.{total-at}
 use Rattle.depot_rule.proofs.Grants.{at-length, claims-own, lower-own}
 use Rattle.depot_rule.proofs.Only.{own-or-below}
 use Rattle.depot_rule.proofs.Words.{claim-keeps, release-keeps, read-keeps}
 use Rattle.depot_rule.proofs.Parcels.{stay-keeps, untaken}
-use Rattle.depot_rule.proofs.Trees.{covers-below}
+use Rattle.depot_rule.specs.lemmas.Trees.{covers-below}
 use Rattle.depot_rule.proofs.Following.{are-apart}
 use Rattle.depot_rule.proofs.Places.{on-one}
 use Rattle.depot_rule.proofs.Current.{current-stays, current-granted}
@@ -141,7 +141,7 @@ module _ (P C R B : Type 0) (kind_of : P → Kind) (m : Behaviour P C R B) where
               (
                 h.log,
                 subst (λ (z : List ℕ × List (Option P)). IsHistory m z.0 z.1 v h.log) (λ i. (sym so.tree i, sym ca.opened i)) (is-history P C R B m ps first s h id v at),
-                (let n = history-length P C R B kind_of m ps first s whole in let f = few-entries P E ps s.words s.views r.shares in let few : length h.log < 9223372036854775808 = omega arith in few),
+                (let n = history-length P C R B kind_of m ps first s whole in let f = few-entries P E ps s.words s.views r.shares in let few : length h.log < 4611686018427687904 = omega arith in few),
                 (λ all_parts. only-log P C R B kind_of m ps first s r h id v at all_parts),
                 (λ k pk lk ck.
                     lists k pk (subst (λ (t : List ℕ). k < length t) so.tree lk) (subst (λ (t : List ℕ). Covers t b k) so.tree ck)

@@ -5,11 +5,12 @@ use mathlib.Core.Option.{some}
 use lib.ListN.{get_elem?}
 use Rattle.depot_rule.specs.declared.view.View.{View}
 use Rattle.depot_rule.specs.declared.view.Entry.{Entry}
-use Rattle.depot_rule.specs.Sums.{total, one_if, tally}
+use Rattle.affinity_tree.specs.Ancestors.{one_if, tally}
+use Rattle.depot_rule.specs.Sums.{total}
 use Rattle.depot_rule.specs.Shares.{Each, made}
 use Rattle.depot_rule.specs.History.{Behaviour, or_nothing, chosen}
 use Rattle.depot_rule.specs.Laws.{HistoryIsOne, OnlySeatHasAll}
-use Rattle.depot_rule.proofs.Sums.{one-same}
+use Rattle.depot_rule.specs.lemmas.Sums.{one-same}
 use Rattle.atomic_table.specs.Table.{State}
 use Rattle.depot_rule.specs.Rule.{Rule}
 use Rattle.depot_rule.proofs.Views.{few-entries}
@@ -54,7 +55,7 @@ history-length P C R B kind_of m ps first s r =
 pub is-one : (P C R B : Type 0) (kind_of : P → Kind) (m : Behaviour P C R B) → HistoryIsOne kind_of m
 is-one P C R B kind_of m ps first s r =
     let count = history-length P C R B kind_of m ps first s r in let f = few-entries P (Entry P C R) ps s.words s.views r.base.shares in
-    (r.history, r.base.shares.ticket ∙ count, (let few : length r.history.log < 9223372036854775808 = omega arith in few))
+    (r.history, r.base.shares.ticket ∙ count, (let few : length r.history.log < 4611686018427687904 = omega arith in few))
 
 pub has-all : (P C R B : Type 0) (kind_of : P → Kind) (m : Behaviour P C R B) → OnlySeatHasAll kind_of m
 has-all P C R B kind_of m ps first s r id v at all =

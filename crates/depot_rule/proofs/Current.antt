@@ -9,12 +9,12 @@ use Rattle.atomic_table.specs.Table.{State}
 use Rattle.atomic_table.proofs.Lists.{at_set, set_else, set_here}
 use Rattle.depot_rule.specs.declared.view.View.{View}
 use Rattle.depot_rule.specs.declared.view.Read.{Read}
-use Rattle.depot_rule.specs.Sums.{total, one_if, tally}
-use Rattle.depot_rule.specs.Tree.{Covers}
+use Rattle.affinity_tree.specs.Ancestors.{one_if, tally, Covers}
+use Rattle.depot_rule.specs.Sums.{total}
 use Rattle.depot_rule.specs.Shares.{Has}
 use Rattle.depot_rule.specs.Parcels.{has_out}
 use Rattle.depot_rule.specs.History.{Current}
-use Rattle.depot_rule.proofs.Sums.{total-set, total-at}
+use Rattle.depot_rule.specs.lemmas.Sums.{total-set, total-at}
 use Rattle.depot_rule.proofs.Views.{all-one, each-set}
 
 module _ {P E : Type 0} (ps : List ℕ) (f : ℕ → Option P) where

@@ -8,13 +8,13 @@ use Rattle.atomic_table.proofs.Lists.{set_else}
 use Rattle.depot_rule.specs.declared.view.View.{View}
 use Rattle.depot_rule.specs.declared.view.Entry.{Entry}
 use Rattle.depot_rule.specs.History.{Behaviour, listed, after, chosen, StartsWith}
-use Rattle.depot_rule.specs.Sums.{total, one_if, tally, over_taken}
-use Rattle.depot_rule.specs.Tree.{ancestors}
+use Rattle.affinity_tree.specs.Ancestors.{one_if, tally, ancestors}
+use Rattle.depot_rule.specs.Sums.{total, over_taken}
 use Rattle.depot_rule.specs.Shares.{Each, parts, made, due, unsettled, claims, entered, shares, IsSound}
 use Rattle.depot_rule.specs.Parcels.{has_out, Carries}
 use Rattle.depot_rule.specs.Rule.{Rule}
 use Rattle.depot_rule.specs.Seats.{longer, having_seen, first_of, others_of}
-use Rattle.depot_rule.proofs.Sums.{one-other, total-set, total-append, over-none}
+use Rattle.depot_rule.specs.lemmas.Sums.{one-other, total-set, total-append, over-none}
 use Rattle.depot_rule.proofs.Views.{All, all-none, all-one, all-append, each-set, each-more}
 use Rattle.depot_rule.proofs.Current.{ListsCurrent}
 use Rattle.depot_rule.proofs.Remembering.{Own, HasHand, dealt}

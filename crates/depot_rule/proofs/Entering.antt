@@ -8,7 +8,7 @@ use Rattle.depot_rule.specs.declared.view.View.{View}
 use Rattle.depot_rule.specs.declared.view.Read.{Read}
 use Rattle.depot_rule.specs.declared.view.Entry.{Entry}
 use Rattle.depot_rule.specs.History.{Behaviour}
-use Rattle.depot_rule.specs.Sums.{tally}
+use Rattle.affinity_tree.specs.Ancestors.{tally}
 use Rattle.depot_rule.specs.Shares.{exclusive}
 use Rattle.depot_rule.specs.Parcels.{Parcels}
 use Rattle.depot_rule.specs.Rule.{Base, Rule}

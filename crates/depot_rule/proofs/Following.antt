@@ -5,13 +5,13 @@ use mathlib.Core.Logic.{dite}
 use native.Mathlib.Decide.{ℕ_discrete}
 use lib.ListN.{get_elem?}
 use Rattle.depot_rule.specs.declared.view.View.{View}
-use Rattle.depot_rule.specs.Sums.{total, one_if, tally}
-use Rattle.depot_rule.specs.Tree.{ancestors, Covers}
+use Rattle.affinity_tree.specs.Ancestors.{one_if, tally, ancestors, Covers}
+use Rattle.depot_rule.specs.Sums.{total}
 use Rattle.depot_rule.specs.Shares.{exclusive, claims, entered, shares, Shares}
 use Rattle.depot_rule.specs.Parcels.{has_out}
 use Rattle.depot_rule.specs.Laws.{IsOpen, GrantsAreApart, ParcelsArePlaced, ParcelsAreSingle, GrantsHaveEntered, ExclusiveIsGranted}
-use Rattle.depot_rule.proofs.Sums.{one-is, total-at, total-some, total-one, over-some}
-use Rattle.depot_rule.proofs.Trees.{above-smaller}
+use Rattle.depot_rule.specs.lemmas.Sums.{one-is, total-at, total-some, total-one, over-some}
+use Rattle.depot_rule.specs.lemmas.Trees.{above-smaller}
 use Rattle.depot_rule.proofs.Views.{few-in-word}
 use Rattle.depot_rule.proofs.Words.{word-is, claimed}
 use Rattle.depot_rule.proofs.Grants.{at-length, claims-own, lower-own, covers-one}

@@ -5,11 +5,11 @@ use mathlib.Core.Logic.{dite}
 use native.Mathlib.Decide.{ℕ_discrete}
 use lib.ListN.{get_elem?}
 use Rattle.depot_rule.specs.declared.view.View.{View}
-use Rattle.depot_rule.specs.Sums.{total, one_if, tally}
-use Rattle.depot_rule.specs.Tree.{ancestors, Covers}
+use Rattle.affinity_tree.specs.Ancestors.{one_if, tally, ancestors, Covers}
+use Rattle.depot_rule.specs.Sums.{total}
 use Rattle.depot_rule.specs.Shares.{claims, lower, entered, IsSound, Shares}
-use Rattle.depot_rule.proofs.Sums.{one-same, total-at, total-two, over-at}
-use Rattle.depot_rule.proofs.Trees.{cover-excludes}
+use Rattle.depot_rule.specs.lemmas.Sums.{one-same, total-at, total-two, over-at}
+use Rattle.depot_rule.specs.lemmas.Trees.{cover-excludes}
 
 pub at-length : {A : Type 0} (l : List A) (i : ℕ) (x : A) → get_elem? l i ≡ some x → i < length l
 at-length [] i x e = absurd (some-ne-none x (sym e))

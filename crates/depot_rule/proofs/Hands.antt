@@ -8,7 +8,7 @@ use Rattle.depot_rule.specs.declared.view.Entry.{Entry}
 use Rattle.depot_rule.specs.Sums.{total}
 use Rattle.depot_rule.specs.Shares.{Each}
 use Rattle.depot_rule.specs.History.{Behaviour, History, IsHistory, batches_of, chosen, AreHands}
-use Rattle.depot_rule.proofs.Sums.{total-set, total-append, total-same}
+use Rattle.depot_rule.specs.lemmas.Sums.{total-set, total-append, total-same}
 use Rattle.depot_rule.proofs.Views.{All, all-none, each-set}
 use Rattle.depot_rule.proofs.Chosen.{moved-weigh}
 use Rattle.depot_rule.proofs.Remembering.{HasHand}

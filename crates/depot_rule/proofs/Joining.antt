@@ -9,13 +9,13 @@ use Rattle.atomic_table.specs.Table.{State, Joins, Splits}
 use Rattle.depot_rule.specs.declared.view.View.{View}
 use Rattle.depot_rule.specs.declared.view.Entry.{Entry}
 use Rattle.depot_rule.specs.History.{Behaviour}
-use Rattle.depot_rule.specs.Sums.{one_if, tally, over_taken}
-use Rattle.depot_rule.specs.Tree.{ancestors, Covers}
+use Rattle.affinity_tree.specs.Ancestors.{one_if, tally, ancestors, Covers}
+use Rattle.depot_rule.specs.Sums.{over_taken}
 use Rattle.depot_rule.specs.Shares.{claims, lower, entered, shares}
 use Rattle.depot_rule.specs.Parcels.{has_out}
 use Rattle.depot_rule.specs.Rule.{Rule}
 use Rattle.depot_rule.specs.Seats.{if_less, put_among, in_order, both_held, merge, fresh, merged, parted, fresh_of, view_of}
-use Rattle.depot_rule.proofs.Sums.{one-other, over-none, tally-append}
+use Rattle.depot_rule.specs.lemmas.Sums.{one-other, over-none, tally-append}
 use Rattle.depot_rule.proofs.Views.{all-one}
 use Rattle.depot_rule.proofs.Grants.{covers-one}
 use Rattle.depot_rule.proofs.Dealing.{joined, parted_in, bare-counts}

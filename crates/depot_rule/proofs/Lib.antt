@@ -1,5 +1,3 @@
-pub mod Sums
-pub mod Trees
 pub mod Views
 pub mod Words
 pub mod Grants
@@ -15,7 +13,6 @@ pub mod Opening
 pub mod Following
 pub mod Looking
 pub mod Stamping
-pub mod Histories
 pub mod Current
 pub mod Chosen
 pub mod Remembering

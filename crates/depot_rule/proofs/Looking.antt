@@ -14,11 +14,11 @@ use Rattle.depot_rule.specs.Sums.{total}
 use Rattle.depot_rule.specs.Shares.{worn, parts, made, due, unsettled, open_grants, claims, entered, shares, IsSound, Shares}
 use Rattle.depot_rule.specs.Rule.{Rule}
 use Rattle.depot_rule.specs.Plays.{Place, LookSays, AlikeSays}
-use Rattle.depot_rule.proofs.Sums.{total-set, total-at, total-plus}
+use Rattle.depot_rule.specs.lemmas.Sums.{total-set, total-at, total-plus}
 use Rattle.depot_rule.proofs.Views.{all-one, each-set, only-view, due-most}
 use Rattle.depot_rule.proofs.Parcels.{stay-keeps}
 use Rattle.depot_rule.proofs.Following.{are-apart}
-use Rattle.depot_rule.specs.Tree.{Excludes}
+use Rattle.affinity_tree.specs.Ancestors.{Excludes}
 use Rattle.depot_rule.proofs.Places.{on-one}
 use Rattle.depot_rule.proofs.Meeting.{first-chosen, second-chosen, merged-weigh}
 use Rattle.depot_rule.proofs.Remembering.{still}

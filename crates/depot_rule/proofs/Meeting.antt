@@ -8,10 +8,11 @@ use lib.ListN.{get_elem?}
 use Rattle.atomic_table.specs.Table.{State}
 use Rattle.depot_rule.specs.declared.view.View.{View}
 use Rattle.depot_rule.specs.declared.view.Entry.{Entry}
-use Rattle.depot_rule.specs.Sums.{total, tally}
+use Rattle.affinity_tree.specs.Ancestors.{tally}
+use Rattle.depot_rule.specs.Sums.{total}
 use Rattle.depot_rule.specs.Seats.{if_less, longer, in_order, having_seen, merge}
 use Rattle.depot_rule.specs.History.{Behaviour, History, chosen, AreHands, StartsWith}
-use Rattle.depot_rule.proofs.Sums.{one-most, total-two, total-append}
+use Rattle.depot_rule.specs.lemmas.Sums.{one-most, total-two, total-append}
 use Rattle.depot_rule.proofs.Chosen.{chosen-within, weigh-in-order, moved-weigh, tally-in-order, ascends-in-order}
 use Rattle.depot_rule.proofs.Remembering.{Own, HasHand}
 

@@ -4,11 +4,10 @@ use mathlib.Core.Logic.{dite}
 use native.Mathlib.Decide.{ℕ_discrete}
 use lib.ListN.{get_elem?}
 use Rattle.depot_rule.specs.declared.view.View.{View}
-use Rattle.depot_rule.specs.Sums.{one_if, tally}
-use Rattle.depot_rule.specs.Tree.{IsTree, ancestors, Excludes}
+use Rattle.affinity_tree.specs.Ancestors.{one_if, tally, IsTree, ancestors, Excludes}
 use Rattle.depot_rule.specs.Shares.{exclusive, Has, claims, lower, shares, IsSound}
-use Rattle.depot_rule.proofs.Sums.{one-is, one-other, over-some}
-use Rattle.depot_rule.proofs.Trees.{not-above}
+use Rattle.depot_rule.specs.lemmas.Sums.{one-is, one-other, over-some}
+use Rattle.depot_rule.specs.lemmas.Trees.{not-above}
 use Rattle.depot_rule.proofs.Views.{few-shares}
 
 module _ (P E : Type 0) where

@@ -7,14 +7,14 @@ use lib.ListN.{get_elem?}
 use Rattle.atomic_table.specs.Table.{State, opening}
 use Rattle.depot_rule.specs.declared.view.View.{View}
 use Rattle.depot_rule.specs.declared.view.Entry.{Entry}
-use Rattle.depot_rule.specs.Sums.{total, one_if, tally}
-use Rattle.depot_rule.specs.Tree.{IsTree}
+use Rattle.affinity_tree.specs.Ancestors.{one_if, tally, IsTree}
+use Rattle.depot_rule.specs.Sums.{total}
 use Rattle.depot_rule.specs.History.{Behaviour, Legal, SoundThroughout, AreHands, StartsWith, listed, after, batches_of, chosen, entries_of}
 use Rattle.depot_rule.specs.Shares.{opening_view, claims, entered, shares, IsSound}
 use Rattle.depot_rule.specs.Parcels.{has_out, IsParcel, Carries}
 use Rattle.depot_rule.specs.Rule.{Base, Rule}
 use Rattle.depot_rule.proofs.Views.{all-one, only-view}
-use Rattle.depot_rule.proofs.Sums.{over-none}
+use Rattle.depot_rule.specs.lemmas.Sums.{over-none}
 use Rattle.depot_rule.proofs.Dealing.{bare-counts}
 use Rattle.depot_rule.proofs.Joining.{none-held}
 use Rattle.depot_rule.proofs.Current.{ListsCurrent}

@@ -9,13 +9,13 @@ use Rattle.atomic_table.specs.Table.{State}
 use Rattle.atomic_table.proofs.Lists.{set_else, set_here}
 use Rattle.depot_rule.specs.declared.view.View.{View}
 use Rattle.depot_rule.specs.declared.view.Read.{Read}
-use Rattle.depot_rule.specs.Sums.{total, one_if, tally}
-use Rattle.depot_rule.specs.Tree.{ancestors, Covers}
+use Rattle.affinity_tree.specs.Ancestors.{one_if, tally, ancestors, Covers}
+use Rattle.depot_rule.specs.Sums.{total}
 use Rattle.depot_rule.specs.Shares.{claims, entered, shares}
 use Rattle.depot_rule.specs.Parcels.{has_out, Carries, Parcels}
 use Rattle.depot_rule.specs.Rule.{Base}
-use Rattle.depot_rule.proofs.Sums.{total-set, total-at, total-zero}
-use Rattle.depot_rule.proofs.Trees.{cover-excludes}
+use Rattle.depot_rule.specs.lemmas.Sums.{total-set, total-at, total-zero}
+use Rattle.depot_rule.specs.lemmas.Trees.{cover-excludes}
 use Rattle.depot_rule.proofs.Views.{all-one, each-set, each-moved}
 use Rattle.depot_rule.proofs.Words.{read-keeps}
 use Rattle.depot_rule.proofs.Grants.{claims-own, lower-own, covers-one}

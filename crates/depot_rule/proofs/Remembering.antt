@@ -7,12 +7,13 @@ use Rattle.atomic_table.specs.Table.{State}
 use Rattle.depot_rule.specs.declared.view.View.{View}
 use Rattle.depot_rule.specs.declared.view.Entry.{Entry}
 use Rattle.depot_rule.specs.declared.view.Read.{Read}
-use Rattle.depot_rule.specs.Sums.{total, tally}
+use Rattle.affinity_tree.specs.Ancestors.{tally}
+use Rattle.depot_rule.specs.Sums.{total}
 use Rattle.depot_rule.specs.Shares.{Each}
 use Rattle.depot_rule.specs.Parcels.{has_out}
 use Rattle.depot_rule.specs.History.{Behaviour, Current, History, listed, after, chosen, AreHands, Ascends, StartsWith}
 use Rattle.depot_rule.proofs.Current.{ListsCurrent, current-stays}
-use Rattle.depot_rule.proofs.Sums.{total-set}
+use Rattle.depot_rule.specs.lemmas.Sums.{total-set}
 use Rattle.depot_rule.proofs.Views.{all-one, each-set}
 
 module _ (P C R B : Type 0) (m : Behaviour P C R B) (ps : List ℕ) (first : List (Option P)) where

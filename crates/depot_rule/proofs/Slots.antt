@@ -8,11 +8,11 @@ use Rattle.depot_rule.specs.declared.view.View.{View}
 use Rattle.depot_rule.specs.declared.view.Entry.{Entry}
 use Rattle.depot_rule.specs.declared.view.Read.{Read}
 use Rattle.depot_rule.specs.History.{Behaviour, listed, after}
-use Rattle.depot_rule.specs.Sums.{one_if, tally, without}
-use Rattle.depot_rule.specs.Tree.{Covers}
+use Rattle.affinity_tree.specs.Ancestors.{one_if, tally, Covers}
+use Rattle.depot_rule.specs.Sums.{without}
 use Rattle.depot_rule.specs.Rule.{Rule}
 use Rattle.depot_rule.specs.Plays.{Place, noted, FetchSays, EmptySays, ReachSays, FillSays}
-use Rattle.depot_rule.proofs.Sums.{one-same, one-other, tally-without}
+use Rattle.depot_rule.specs.lemmas.Sums.{one-same, one-other, tally-without}
 use Rattle.depot_rule.proofs.Grants.{covers-one}
 use Rattle.depot_rule.proofs.Parcels.{slot-keeps}
 use Rattle.depot_rule.proofs.Places.{on-one}

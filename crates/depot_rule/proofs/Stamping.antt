@@ -9,16 +9,17 @@ use Rattle.atomic_table.proofs.Lists.{at_set, set_else, set_here}
 use Rattle.depot_rule.specs.declared.view.View.{View}
 use Rattle.depot_rule.specs.declared.view.Entry.{Entry}
 use Rattle.depot_rule.specs.declared.view.Read.{Read}
-use Rattle.depot_rule.specs.Sums.{total, one_if, tally}
-use Rattle.depot_rule.specs.Tree.{ancestors, Covers}
+use Rattle.affinity_tree.specs.Ancestors.{one_if, tally, ancestors, Covers}
+use Rattle.depot_rule.specs.Sums.{total}
 use Rattle.depot_rule.specs.Shares.{Has, made, due, unsettled, open_grants, claims, lower}
 use Rattle.depot_rule.specs.Parcels.{has_out, IsParcel}
 use Rattle.depot_rule.specs.Rule.{Base, Rule}
 use Rattle.depot_rule.specs.Machine.{IsLocal, Keeps}
 use Rattle.depot_rule.specs.History.{Behaviour, Legal, SoundThroughout, listed, chosen, AreHands}
 use Rattle.depot_rule.specs.Plays.{Place, StampSays}
-use Rattle.depot_rule.proofs.Sums.{total-set, over-other}
+use Rattle.depot_rule.specs.lemmas.Sums.{total-set, over-other}
 use Rattle.depot_rule.proofs.Views.{few-entries}
+use Rattle.depot_rule.proofs.Counting.{history-length}
 use Rattle.depot_rule.proofs.Grants.{at-length}
 use Rattle.std.proofs.lemmas.Bool.{lt-ltb}
 use Rattle.depot_rule.proofs.Parcels.{stay-keeps}
@@ -124,6 +125,9 @@ module _ (P C R B : Type 0) (kind_of : P → Kind) (m : Behaviour P C R B) where
                   (stamp-throughout P C R B kind_of m local steady ps first s r h id v at e g here once f f' step_of before left own own' mine change s.words rs),
               ap (λ (l : List E). chosen (l ++ e ∷ []) (v.mine ++ length l ∷ [])) seen.1 ∙ chosen_now P C R B kind_of m local steady ps first s r h id v at e g here once f f' step_of before left own own' mine change s.words rs,
               (λ all_parts. nothing-more v.seen seen.0 (seen.1 ∙ only-log P C R B kind_of m ps first s r h id v at all_parts)),
+              (let count = history-length P C R B kind_of m ps first s whole in let few = few-entries P E ps s.words s.views r.shares in
+                  let one_more = length-append (v.seen ++ seen.0) (e ∷ []) in let size : length (v.seen ++ seen.0) ≡ length h.log = ap (λ (l : List E). length l) seen.1 in
+                  omega arith),
             ),
           ),
           refl,

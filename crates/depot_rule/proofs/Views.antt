@@ -4,11 +4,11 @@ use mathlib.Core.Option.{some, some-injective, some-ne-none}
 use lib.ListN.{get_elem?}
 use Rattle.atomic_table.proofs.Lists.{at_set, at_snoc}
 use Rattle.depot_rule.specs.declared.view.View.{View}
-use Rattle.depot_rule.specs.Sums.{total, one_if, tally, over_taken}
-use Rattle.depot_rule.specs.Tree.{IsTree, ancestors}
+use Rattle.affinity_tree.specs.Ancestors.{one_if, tally, IsTree, ancestors}
+use Rattle.depot_rule.specs.Sums.{total, over_taken}
 use Rattle.depot_rule.specs.Shares.{exclusive, Each, parts, made, open_grants, due, unsettled, claims, lower, entered, shares, IsSound, Shares}
-use Rattle.depot_rule.proofs.Sums.{one-most, total-most, total-less, total-alone, total-parts, over-most}
-use Rattle.depot_rule.proofs.Trees.{ancestors-once}
+use Rattle.depot_rule.specs.lemmas.Sums.{one-most, total-most, total-less, total-alone, total-parts, over-most}
+use Rattle.depot_rule.specs.lemmas.Trees.{ancestors-once}
 
 module _ {V : Type 0} where
   -- Q holds of each view of one seat

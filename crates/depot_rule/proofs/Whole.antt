@@ -8,7 +8,7 @@ use lib.ListN.{get_elem?}
 use Rattle.atomic_table.specs.Table.{State}
 use Rattle.depot_rule.specs.declared.view.View.{View}
 use Rattle.depot_rule.specs.declared.view.Entry.{Entry}
-use Rattle.depot_rule.specs.Sums.{one_if, tally}
+use Rattle.affinity_tree.specs.Ancestors.{one_if, tally}
 use Rattle.depot_rule.specs.Rule.{Base}
 use Rattle.depot_rule.specs.History.{Behaviour, History}
 use Rattle.depot_rule.proofs.Views.{only-view}

@@ -6,11 +6,11 @@ use native.Mathlib.Decide.{ℕ_discrete}
 use lib.ListN.{get_elem?}
 use Rattle.depot_rule.specs.declared.view.View.{View}
 use Rattle.depot_rule.specs.declared.view.Read.{Read}
-use Rattle.depot_rule.specs.Sums.{total, one_if, tally, over_taken}
-use Rattle.depot_rule.specs.Tree.{ancestors}
+use Rattle.affinity_tree.specs.Ancestors.{one_if, tally, ancestors}
+use Rattle.depot_rule.specs.Sums.{total, over_taken}
 use Rattle.depot_rule.specs.Shares.{exclusive, parts, made, open_grants, due, unsettled, claims, entered, shares, IsSound, Shares}
-use Rattle.depot_rule.proofs.Sums.{one-same, one-other, one-most, total-set, total-at, total-less, fill-at, clear-at, free-at}
-use Rattle.depot_rule.proofs.Trees.{ancestors-once}
+use Rattle.depot_rule.specs.lemmas.Sums.{one-same, one-other, one-most, total-set, total-at, total-less, fill-at, clear-at, free-at}
+use Rattle.depot_rule.specs.lemmas.Trees.{ancestors-once}
 use Rattle.depot_rule.proofs.Views.{all-one, each-set, unsure_in, shares-parts, few-in-word}
 
 module _ (P E : Type 0) where

@@ -1,12 +1,12 @@
 -- The one history: a list of entries, each of which put parcels in. Each parcel is as the history left it.
-use Rattle.std.specs.Prelude.{◌≡◌, ℕ, ◌+◌, ◌<◌, ◌==◌, nat_lt, Bool, ◌||◌, List, [], ◌∷◌, ◌++◌, length, slice_index_or, slice_get, Option, Some, None}
+use Rattle.std.specs.Prelude.{◌≡◌, ℕ, zero, suc, ◌+◌, ◌<◌, ◌==◌, nat_lt, Bool, ◌||◌, List, [], ◌∷◌, ◌++◌, length, slice_index_or, slice_get, Option, Some, None}
 use mathlib.Core.Option.{some}
 use lib.ListN.{get_elem?}
 use Rattle.atomic_table.specs.Table.{State}
 use Rattle.depot_rule.specs.declared.view.View.{View}
 use Rattle.depot_rule.specs.declared.view.Entry.{Entry}
-use Rattle.depot_rule.specs.Sums.{total, one_if, tally}
-use Rattle.depot_rule.specs.Tree.{ancestors, Covers}
+use Rattle.affinity_tree.specs.Ancestors.{one_if, tally, ancestors, Covers}
+use Rattle.depot_rule.specs.Sums.{total}
 use Rattle.depot_rule.specs.Shares.{Each, Has}
 use Rattle.depot_rule.specs.Parcels.{has_out}
 use Rattle.depot_rule.specs.Seats.{if_less}
@@ -22,6 +22,11 @@ patched parents a inner outer k = if_less (covers parents a k) (inner k) (outer 
 -- parcels by node, of a list
 abbrev pub listed : {P : Type 0} → List (Option P) → ℕ → Option P
 listed ys k = slice_index_or ys k None
+
+-- parcels by node as a list, of so many places
+abbrev pub by_number : {P : Type 0} → (ℕ → Option P) → ℕ → List (Option P)
+by_number f zero = []
+by_number f (suc n) = by_number f n ++ f n ∷ []
 
 -- numbers in ascending order
 abbrev pub Ascends : List ℕ → Type 0

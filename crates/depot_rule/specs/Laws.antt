@@ -1,13 +1,13 @@
 -- What follows from the rule.
-use Rattle.std.specs.Prelude.{◌≡◌, ◌⊎◌, ℕ, ◌<◌, ◌≤◌, nat_lt, List, [], ◌∷◌, length, replicate, slice_index, slice_index_or, Option, Some, None}
+use Rattle.std.specs.Prelude.{◌≡◌, ◌⊎◌, ℕ, ◌<◌, ◌≤◌, nat_lt, List, [], ◌∷◌, ◌++◌, length, replicate, slice_index, slice_index_or, Option, Some, None}
 use mathlib.Core.Option.{some}
 use lib.ListN.{get_elem?}
 use Rattle.atomic_table.specs.Table.{State, opening}
 use Rattle.depot_rule.specs.declared.view.View.{View}
 use Rattle.depot_rule.specs.declared.view.Entry.{Entry}
-use Rattle.depot_rule.specs.Sums.{total, one_if, tally}
-use Rattle.depot_rule.specs.History.{Behaviour, History}
-use Rattle.depot_rule.specs.Tree.{IsTree, ancestors, Covers, Excludes}
+use Rattle.affinity_tree.specs.Ancestors.{one_if, tally, IsTree, ancestors, Covers, Excludes}
+use Rattle.depot_rule.specs.Sums.{total}
+use Rattle.depot_rule.specs.History.{Behaviour, History, patched, after}
 use Rattle.depot_rule.specs.Shares.{exclusive, too_many, Has, opening_view}
 use Rattle.depot_rule.specs.Parcels.{has_out, IsParcel}
 use Rattle.depot_rule.specs.Rule.{Base, Rule}
@@ -20,6 +20,20 @@ IsOpen views j i b = (vs : List _) × (v : View _ _) × (g : List (Option _)) ×
 -- the parcel of k is at home
 abbrev pub IsAtHome : {P E : Type 0} → (P → Kind) → List (Option P) → State (Option P) (List (View P E)) → ℕ → Type 0
 IsAtHome kind_of first s k = (y : Option _) × (get_elem? s.homes k ≡ some (some y)) × IsParcel kind_of first k y
+
+-- no entry is of a node that a excludes
+abbrev pub AreElsewhere : {P C R : Type 0} → List ℕ → ℕ → List (Entry P C R) → Type 0
+AreElsewhere parents a es = (i : ℕ) (e : _) → get_elem? es i ≡ some e → Excludes parents a e.node → ⊥
+
+-- what is put in at b changes nothing that a covers, where a doesn't exclude b
+abbrev pub PutInElsewhere : Type 0 → Type 0
+PutInElsewhere P = (parents : List ℕ) → IsTree parents → (a b k : ℕ) (inner outer : ℕ → Option P)
+    → (Excludes parents a b → ⊥) → Covers parents a k → patched parents b inner outer k ≡ outer k
+
+-- entries of such nodes, which a history has besides, change nothing that a covers
+abbrev pub StaysElsewhere : Type 0 → Type 0 → Type 0 → Type 0
+StaysElsewhere P C R = (parents : List ℕ) → IsTree parents → (f : ℕ → Option P) (es more : List (Entry P C R)) (a k : ℕ)
+    → AreElsewhere parents a more → Covers parents a k → after parents f (es ++ more) k ≡ after parents f es k
 
 module _ (P E : Type 0) where
   -- two grants that exclude each other are one and the same
@@ -61,7 +75,7 @@ module _ (P E : Type 0) where
       → (k : ℕ) → 0 < k → k < length parents → IsAtHome kind_of first s k
 
 module _ {P C R B : Type 0} (kind_of : P → Kind) (m : Behaviour P C R B) where
-  -- there is one history of all seats (`History`), and the ticket says how long it is: fewer than 2^63 entries
+  -- there is one history of all seats (`History`), and the ticket says how long it is: fewer than 2^62 + 300,000 entries
   abbrev pub HistoryIsOne : Type 0
   HistoryIsOne = (parents : List ℕ) (first : List (Option P)) (s : State (Option P) (List (View P (Entry P C R)))) → Rule kind_of m parents first s
       → (h : History m parents first s) × (slice_index s.words 0 ≡ length h.log) × (length h.log < too_many)

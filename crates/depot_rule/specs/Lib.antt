@@ -1,5 +1,4 @@
 pub mod Sums
-pub mod Tree
 pub mod Shares
 pub mod Parcels
 pub mod Rule
@@ -8,3 +7,5 @@ pub mod Plays
 pub mod History
 pub mod Machine
 pub mod Laws
+pub mod Completions
+pub mod lemmas

@@ -1,7 +1,7 @@
 -- The laws of what a depot serves.
 use Rattle.std.specs.Prelude.{◌≡◌, ℕ, ◌+◌, List, Option}
 use Rattle.depot_rule.specs.Sums.{total}
-use Rattle.depot_rule.specs.Tree.{Covers}
+use Rattle.affinity_tree.specs.Ancestors.{Covers}
 use Rattle.depot_rule.specs.History.{patched, Steps, Invariant}
 
 -- A call at a reads and writes only parcels that a covers: the others stay, and whatever they are it does the same

@@ -4,8 +4,8 @@ use mathlib.Core.Option.{some}
 use mathlib.Core.Option as maybe
 use lib.ListN.{get_elem?}
 use Rattle.depot_rule.specs.declared.view.View.{View}
-use Rattle.depot_rule.specs.Sums.{total, one_if, tally}
-use Rattle.depot_rule.specs.Tree.{Covers}
+use Rattle.affinity_tree.specs.Ancestors.{one_if, tally, Covers}
+use Rattle.depot_rule.specs.Sums.{total}
 use Rattle.depot_rule.specs.Shares.{Each, Has}
 use Rattle.affinity_tree.specs.declared.affinity.Kind.{Kind}
 

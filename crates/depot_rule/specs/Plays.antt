@@ -6,8 +6,8 @@ use Rattle.atomic_table.specs.Table.{Me, Step, rest}
 use Rattle.depot_rule.specs.declared.view.View.{View}
 use Rattle.depot_rule.specs.declared.view.Read.{Read}
 use Rattle.depot_rule.specs.declared.view.Entry.{Entry}
-use Rattle.depot_rule.specs.Sums.{total, tally, without}
-use Rattle.depot_rule.specs.Tree.{ancestors, Covers, Excludes}
+use Rattle.affinity_tree.specs.Ancestors.{tally, ancestors, Covers, Excludes}
+use Rattle.depot_rule.specs.Sums.{total, without}
 use Rattle.depot_rule.specs.Shares.{exclusive, worn, too_many, made, shares, Has}
 use Rattle.depot_rule.specs.Parcels.{has_out, IsParcel}
 use Rattle.depot_rule.specs.Seats.{OnOne, longer, merge}
@@ -111,12 +111,13 @@ module _ {P C R B : Type 0} where
       × ((log : List (Entry P C R)) × IsHistory m v.tree v.first v log × (length log < too_many) × (IsOnly v → log ≡ v.seen) × ((k : ℕ) → 0 < k → k < length v.tree → Covers v.tree st.word k → slice_index_or g k None ≡ after v.tree (listed v.first) log k)))
       × (found ≢ 0 → (vs ≡ record v { reads = noted st found v } ∷ []) × (IsOnly v → (c : ℕ) × (h : List (Option P)) × Has v c h × Excludes v.tree st.word c))) me me'
 
-  -- the seat's history is what it had seen, what others put between, and e; it is legal, with the machine's invariant throughout, and the seat's own entries are those that it had, and e. For the only seat nothing is between
+  -- the seat's history is what it had seen, what others put between, and e, fewer than 2^62 + 300,000 entries; it is legal, with the machine's invariant throughout, and the seat's own entries are those that it had, and e. For the only seat nothing is between
   abbrev pub HasAdded : Behaviour P C R B → View P (Entry P C R) → List (Entry P C R) → Entry P C R → Type 0
   HasAdded m v between e = Legal m.steps v.tree (listed v.first) (with_entry v between e).seen
       × SoundThroughout m v.tree (listed v.first) (with_entry v between e).seen
       × (entries_of (with_entry v between e) ≡ entries_of v ++ e ∷ [])
       × (IsOnly v → between ≡ [])
+      × (length (with_entry v between e).seen < too_many)
 
   -- fetch_add of 1 on the ticket, for the entry e: the grant of its node lists from then on what the entry left, and the entry stands in the history after all that was seen and what others put between
   abbrev pub StampSays : Behaviour P C R B → Option (Entry P C R) → Step (Option P) → Place P (Entry P C R) → ℕ → Place P (Entry P C R) → Type 0

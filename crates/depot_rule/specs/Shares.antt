@@ -3,8 +3,8 @@ use Rattle.std.specs.Prelude.{◌≡◌, ℕ, ◌+◌, ◌*◌, ◌<◌, ◌≤�
 use mathlib.Core.Option.{some}
 use lib.ListN.{get_elem?}
 use Rattle.depot_rule.specs.declared.view.View.{View}
-use Rattle.depot_rule.specs.Sums.{total, one_if, tally, over_taken}
-use Rattle.depot_rule.specs.Tree.{IsTree, ancestors}
+use Rattle.affinity_tree.specs.Ancestors.{one_if, tally, IsTree, ancestors}
+use Rattle.depot_rule.specs.Sums.{total, over_taken}
 
 -- the part of a word that says that the node is claimed
 abbrev pub exclusive : ℕ
@@ -14,9 +14,9 @@ exclusive = 4294967296
 abbrev pub worn : ℕ
 worn = 4611686018427387904
 
--- more entries than there ever are: 2^63
+-- more entries than there ever are: 2^62 + 300,000
 abbrev pub too_many : ℕ
-too_many = 9223372036854775808
+too_many = 4611686018427687904
 
 -- more rights to an entry than all seats have: a view has one for its look and one for each of at most 1,024 grants, and there are at most 64 views
 abbrev pub most_rights : ℕ

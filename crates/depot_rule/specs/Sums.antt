@@ -6,15 +6,6 @@ abbrev pub total : {A : Type 0} → (A → ℕ) → List A → ℕ
 total f [] = 0
 total f (x ∷ xs) = f x + total f xs
 
-abbrev pub one_if : Bool → ℕ
-one_if true = 1
-one_if false = 0
-
--- how often a stands in the list
-abbrev pub tally : ℕ → List ℕ → ℕ
-tally a [] = 0
-tally a (x ∷ xs) = one_if (x == a) + tally a xs
-
 -- f of each place that is taken, added up; the list's first place is the k-th
 abbrev pub over_taken : {A : Type 0} → (ℕ → ℕ) → ℕ → List (Option A) → ℕ
 over_taken f k [] = 0

@@ -1,7 +1,10 @@
 //! What follows from the rule, for any seats, grants and schedule.
 
 ghost use Rattle.depot_rule.specs.History.{behaviour};
-ghost use Rattle.depot_rule.specs.Laws.{GrantsAreApart, ParcelsArePlaced, ParcelsAreSingle, GrantsHaveEntered, ExclusiveIsGranted, OpensWithin, ClosesWhole, HistoryIsOne, OnlySeatHasAll};
+ghost use Rattle.depot_rule.specs.Laws.{GrantsAreApart, ParcelsArePlaced, ParcelsAreSingle};
+ghost use Rattle.depot_rule.specs.Laws.{GrantsHaveEntered, ExclusiveIsGranted, OpensWithin};
+ghost use Rattle.depot_rule.specs.Laws.{ClosesWhole, HistoryIsOne, OnlySeatHasAll};
+ghost use Rattle.depot_rule.specs.Laws.{PutInElsewhere, StaysElsewhere};
 
 use crate::machine::Machine;
 
@@ -48,4 +51,11 @@ pub fn history_is_one<M: Machine>()
 /// The only seat has seen the whole history, and made each entry of it.
 pub fn only_seat_has_all<M: Machine>()
     ensures { OnlySeatHasAll M.Parcel.kind (behaviour M.steps M.takes M.gives M.invariant) }
+{}
+
+/// What a call leaves changes nothing under a node that its own doesn't exclude: the parcels of a
+/// call that runs are as in a history to which such calls were added meanwhile.
+pub fn parcels_stay_elsewhere<P, C, R>()
+    ensures put_in { PutInElsewhere P }
+    ensures after { StaysElsewhere P C R }
 {}

@@ -16,7 +16,8 @@ pub trait Machine {
     type Batch;
 
     // Of the tree, the call's node, the call, the parcels before, its reply and the parcels after.
-    ghost steps: { List ℕ → ℕ → Self.Call → (ℕ → Option Self.Parcel) → Self.Reply → (ℕ → Option Self.Parcel) → Type 0 };
+    ghost steps: { List ℕ → ℕ → Self.Call → (ℕ → Option Self.Parcel)
+        → Self.Reply → (ℕ → Option Self.Parcel) → Type 0 };
 
     // The batches that a call takes into its seat's hand, and those that it gives from it.
     ghost takes: { Self.Call → Self.Reply → List Self.Batch };
@@ -24,7 +25,8 @@ pub trait Machine {
     ghost gives: { Self.Call → Self.Reply → List Self.Batch };
 
     // Of the tree, all parcels, the batches in all hands, and the count of entries.
-    ghost invariant: { List ℕ → (ℕ → Option Self.Parcel) → List Self.Batch → ℕ → Type 0 };
+    ghost invariant: { List ℕ → (ℕ → Option Self.Parcel)
+        → List Self.Batch → ℕ → Type 0 };
 
     ghost local: { IsLocal steps };
 

@@ -1,18 +1,22 @@
 use Rattle.std.proofs.Common.{arith, ◌<◌, ℕ, [], slice_index, sym, ap, refl, ◌∙◌}
-use Rattle.depot_rule.specs.Sums.{tally}
-use Rattle.depot_rule.specs.Tree.{ancestors}
+use Rattle.affinity_tree.specs.Ancestors.{tally, ancestors}
 use Rattle.depot_rule.specs.Seats.{view_of}
-use Rattle.depot_rule.proofs.Trees.{ancestors-root, not-above}
+use Rattle.depot_rule.specs.lemmas.Trees.{ancestors-root, not-above}
 use Rattle.depot.specs.Calls.{MovedTo}
 use Rattle.depot.proofs.Moves.{same-path, moved-one, moved-path, moved-unsure, entered-parent, claimed-higher, found-claimed}
 use Rattle.depot.proofs.path.+climb.Goals as goal
 
 pub returns-then-parent-eq0-clause-entered : goal.returns-then-parent-eq0-clause-entered
-returns-then-parent-eq0-clause-entered g t c = ([], same-path c.requires.ready.0 (c.requires.ready.3 ∙ sym (ancestors-root c.args.parents.now c.args.node c.if-parent-eq0.true)))
+returns-then-parent-eq0-clause-entered g t c = (
+  [],
+  same-path c.requires.ready.0 (c.requires.ready.3
+      ∙ sym (ancestors-root c.args.parents.now c.args.node c.if-parent-eq0.true)),
+)
 
 pub returns-in-Err-clause-claimed : goal.returns-in-Err-clause-claimed
 returns-in-Err-clause-claimed g t c =
-    claimed-higher c.args.parents.now c.requires.tree.1 (view_of c.args.place.now.me.0) c.args.node (slice_index c.args.parents.now c.args.node) c.in-Err.busy.node c.in-Err.busy.word
+    claimed-higher c.args.parents.now c.requires.tree.1 (view_of c.args.place.now.me.0) c.args.node (slice_index c.args.parents.now c.args.node)
+    c.in-Err.busy.node c.in-Err.busy.word
     c.requires.ready.1 refl (omega arith) c.in-Err.ensures.claimed
 
 pub enter-requires-clause-ready : goal.enter-requires-clause-ready
@@ -28,11 +32,13 @@ enter-requires-clause-ready g t c =
 pub returns-in-None-clause-entered : goal.returns-in-None-clause-entered
 returns-in-None-clause-entered g t c =
     let p : ℕ = slice_index c.args.parents.now c.args.node in
-    entered-parent c.args.parents.now c.requires.tree.1 (view_of c.args.place.now.me.0) c.args.node p c.requires.ready.1 refl (omega arith) c.in-Ok.ensures.entered c.in-None.ensures.entered
+    entered-parent c.args.parents.now c.requires.tree.1 (view_of c.args.place.now.me.0) c.args.node p c.requires.ready.1 refl (omega arith)
+    c.in-Ok.ensures.entered c.in-None.ensures.entered
 
 pub returns-in-Some-clause-claimed : goal.returns-in-Some-clause-claimed
 returns-in-Some-clause-claimed g t c =
     let p : ℕ = slice_index c.args.parents.now c.args.node in
     let claimed = c.in-Some.ensures.claimed in
-    found-claimed c.args.parents.now c.requires.tree.1 (view_of c.args.place.now.me.0) c.args.node p c.in-Some.word c.requires.ready.1 refl (omega arith) c.requires.ready.2
+    found-claimed c.args.parents.now c.requires.tree.1 (view_of c.args.place.now.me.0) c.args.node p c.in-Some.word c.requires.ready.1 refl
+    (omega arith) c.requires.ready.2
     c.in-Ok.ensures.entered claimed.0 claimed.1 claimed.2 c.leave_all.ensures.left

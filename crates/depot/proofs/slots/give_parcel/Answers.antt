@@ -1,10 +1,10 @@
 use Rattle.std.proofs.Common.{rules, arith, ◌≡◌, ◌<◌, ◌∷◌, ℕ, List, length, get_or, Option, None, sym, ap, refl, ◌∙◌, subst}
 use Rattle.atomic_table.specs.Table.{rest}
-use Rattle.depot_rule.specs.History.{behaviour}
-use Rattle.depot_rule.specs.Tree.{Covers}
+use Rattle.affinity_tree.specs.Ancestors.{Covers}
 use Rattle.depot_rule.specs.Seats.{view_of}
 use Rattle.depot_rule.proofs.Places.{one-view, of-one}
 use Rattle.depot_rule.proofs.Slots.{reaches, fills}
+use Rattle.depot.specs.Words.{served_by}
 use Rattle.depot.proofs.Moves.{hand-free}
 use Rattle.depot.proofs.slots.give_parcel.Goals as goal
 
@@ -14,8 +14,10 @@ load-requires g c =
     let lt : c.args.node < length ps = omega arith in (
       search rules,
       search rules,
-      reaches g.row.M-Parcel.Denot g.row.M-Call.Denot g.row.M-Reply.Denot g.row.M-Batch.Denot g.M.Parcel.HasKind.kind (behaviour g.M.Machine.steps g.M.Machine.takes g.M.Machine.gives g.M.Machine.invariant) ps c.args.board.now.key.value.parcels.items
-          _ _ c.args.place.now.me (view_of c.args.place.now.me.0) c.args.node (one-view c.args.place.now.me.0 c.requires.ready.0) c.requires.ready.2 lt c.requires.ready.3 c.requires.ready.4,
+      reaches g.row.M-Parcel.Denot g.row.M-Call.Denot g.row.M-Reply.Denot g.row.M-Batch.Denot g.M.Parcel.HasKind.kind (served_by g.M.Machine) ps
+          c.args.board.now.key.value.parcels.items
+          _ _ c.args.place.now.me (view_of c.args.place.now.me.0) c.args.node (one-view c.args.place.now.me.0 c.requires.ready.0) c.requires.ready.2
+          lt c.requires.ready.3 c.requires.ready.4,
     )
 
 pub load-requires-in-None : goal.load-requires-in-None
@@ -29,8 +31,10 @@ load-requires-in-None g c =
     = ap (λ m. m.1) now ∙ ap (λ (y : Option g.row.M-Parcel.Denot). (c.args.node, y) ∷ rest c.load.new.seat.me.1) (sym q.4) in (
       search rules,
       search rules,
-      fills g.row.M-Parcel.Denot g.row.M-Call.Denot g.row.M-Reply.Denot g.row.M-Batch.Denot g.M.Parcel.HasKind.kind (behaviour g.M.Machine.steps g.M.Machine.takes g.M.Machine.gives g.M.Machine.invariant) ps c.args.board.now.key.value.parcels.items
-          _ _ c.exchange.new.seat.me _ c.args.node q.0 q.1 _ (ap (λ m. m.0) now ∙ did) held c.requires.ready.2 lt refl q.2 (subst (λ (t : List ℕ). Covers t q.0 c.args.node) c.requires.ready.5 q.3),
+      fills g.row.M-Parcel.Denot g.row.M-Call.Denot g.row.M-Reply.Denot g.row.M-Batch.Denot g.M.Parcel.HasKind.kind (served_by g.M.Machine) ps
+          c.args.board.now.key.value.parcels.items
+          _ _ c.exchange.new.seat.me _ c.args.node q.0 q.1 _ (ap (λ m. m.0) now ∙ did) held c.requires.ready.2 lt refl q.2
+          (subst (λ (t : List ℕ). Covers t q.0 c.args.node) c.requires.ready.5 q.3),
     )
 
 pub returns-clause-given : goal.returns-clause-given

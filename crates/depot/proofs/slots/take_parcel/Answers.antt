@@ -1,10 +1,10 @@
 use Rattle.std.proofs.Common.{rules, arith, ◌<◌, ◌∷◌, ℕ, List, length, get_or, Option, None, sym, ap, refl, ◌∙◌, subst}
 use Rattle.atomic_table.specs.Table.{rest}
-use Rattle.depot_rule.specs.History.{behaviour}
-use Rattle.depot_rule.specs.Tree.{Covers}
+use Rattle.affinity_tree.specs.Ancestors.{Covers}
 use Rattle.depot_rule.specs.Seats.{view_of}
 use Rattle.depot_rule.proofs.Places.{one-view, of-one}
 use Rattle.depot_rule.proofs.Slots.{fetches, empties}
+use Rattle.depot.specs.Words.{served_by}
 use Rattle.depot.proofs.Moves.{hand-free}
 use Rattle.depot.proofs.slots.take_parcel.Goals as goal
 
@@ -15,8 +15,10 @@ load-requires g c =
     let q = c.requires.granted in (
       search rules,
       search rules,
-      fetches g.row.M-Parcel.Denot g.row.M-Call.Denot g.row.M-Reply.Denot g.row.M-Batch.Denot g.M.Parcel.HasKind.kind (behaviour g.M.Machine.steps g.M.Machine.takes g.M.Machine.gives g.M.Machine.invariant) ps c.args.board.now.key.value.parcels.items
-          _ _ c.args.place.now.me (view_of c.args.place.now.me.0) c.args.node q.0 q.1 (one-view c.args.place.now.me.0 c.requires.ready.0) c.requires.ready.2 lt c.requires.ready.3 c.requires.ready.4
+      fetches g.row.M-Parcel.Denot g.row.M-Call.Denot g.row.M-Reply.Denot g.row.M-Batch.Denot g.M.Parcel.HasKind.kind (served_by g.M.Machine) ps
+          c.args.board.now.key.value.parcels.items
+          _ _ c.args.place.now.me (view_of c.args.place.now.me.0) c.args.node q.0 q.1 (one-view c.args.place.now.me.0 c.requires.ready.0)
+          c.requires.ready.2 lt c.requires.ready.3 c.requires.ready.4
           q.3 (subst (λ (t : List ℕ). Covers t q.0 c.args.node) c.requires.ready.5 q.4),
     )
 
@@ -36,7 +38,8 @@ load-requires-2 g c =
     let now = c.exchange-found.ensures.3 in (
       search rules,
       search rules,
-      empties g.row.M-Parcel.Denot g.row.M-Call.Denot g.row.M-Reply.Denot g.row.M-Batch.Denot g.M.Parcel.HasKind.kind (behaviour g.M.Machine.steps g.M.Machine.takes g.M.Machine.gives g.M.Machine.invariant) ps c.args.board.now.key.value.parcels.items
+      empties g.row.M-Parcel.Denot g.row.M-Call.Denot g.row.M-Reply.Denot g.row.M-Batch.Denot g.M.Parcel.HasKind.kind (served_by g.M.Machine) ps
+          c.args.board.now.key.value.parcels.items
           _ _ c.exchange-found.new.seat.me _ c.args.node _ (ap (λ m. m.0) now ∙ did) (ap (λ m. m.1) now) c.requires.ready.2 lt refl,
     )
 

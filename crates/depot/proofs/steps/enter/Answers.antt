@@ -1,8 +1,8 @@
 use Rattle.std.proofs.Common.{rules, arith, ◌<◌, length, refl}
-use Rattle.depot_rule.specs.History.{behaviour}
 use Rattle.depot_rule.specs.Seats.{view_of}
 use Rattle.depot_rule.proofs.Places.{one-view, of-one}
 use Rattle.depot_rule.proofs.Entering.{enters, backs-out}
+use Rattle.depot.specs.Words.{served_by}
 use Rattle.depot.proofs.Moves.{calm-again}
 use Rattle.depot.proofs.steps.enter.Goals as goal
 
@@ -11,8 +11,10 @@ fetch_add-found-requires g c =
     let lt : c.args.node < length c.args.board.now.key.value.parents.items = omega arith in (
       search rules,
       search rules,
-      enters g.row.M-Parcel.Denot g.row.M-Call.Denot g.row.M-Reply.Denot g.row.M-Batch.Denot g.M.Parcel.HasKind.kind (behaviour g.M.Machine.steps g.M.Machine.takes g.M.Machine.gives g.M.Machine.invariant) c.args.board.now.key.value.parents.items c.args.board.now.key.value.parcels.items
-          _ _ c.args.place.now.me (view_of c.args.place.now.me.0) c.args.node (one-view c.args.place.now.me.0 c.requires.ready.0) c.requires.ready.1 lt c.requires.ready.2 c.requires.ready.3,
+      enters g.row.M-Parcel.Denot g.row.M-Call.Denot g.row.M-Reply.Denot g.row.M-Batch.Denot g.M.Parcel.HasKind.kind (served_by g.M.Machine)
+          c.args.board.now.key.value.parents.items c.args.board.now.key.value.parcels.items
+          _ _ c.args.place.now.me (view_of c.args.place.now.me.0) c.args.node (one-view c.args.place.now.me.0 c.requires.ready.0) c.requires.ready.1
+          lt c.requires.ready.2 c.requires.ready.3,
     )
 
 pub fetch_sub-requires : goal.fetch_sub-requires
@@ -22,7 +24,8 @@ fetch_sub-requires g c =
     let vain = did.1 c.if-found-lt-EXCLUSIVE.false in (
       search rules,
       search rules,
-      backs-out g.row.M-Parcel.Denot g.row.M-Call.Denot g.row.M-Reply.Denot g.row.M-Batch.Denot g.M.Parcel.HasKind.kind (behaviour g.M.Machine.steps g.M.Machine.takes g.M.Machine.gives g.M.Machine.invariant) c.args.board.now.key.value.parents.items c.args.board.now.key.value.parcels.items
+      backs-out g.row.M-Parcel.Denot g.row.M-Call.Denot g.row.M-Reply.Denot g.row.M-Batch.Denot g.M.Parcel.HasKind.kind (served_by g.M.Machine)
+          c.args.board.now.key.value.parents.items c.args.board.now.key.value.parcels.items
           _ _ c.fetch_add-found.new.seat.me _ c.args.node vain.0 c.requires.ready.1 lt refl,
     )
 

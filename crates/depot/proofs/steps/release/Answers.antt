@@ -1,8 +1,8 @@
 use Rattle.std.proofs.Common.{rules, arith, ◌<◌, length}
-use Rattle.depot_rule.specs.History.{behaviour}
 use Rattle.depot_rule.specs.Seats.{view_of}
 use Rattle.depot_rule.proofs.Places.{one-view, of-one}
 use Rattle.depot_rule.proofs.Claiming.{releases}
+use Rattle.depot.specs.Words.{served_by}
 use Rattle.depot.proofs.steps.release.Goals as goal
 
 pub fetch_sub-requires : goal.fetch_sub-requires
@@ -10,8 +10,11 @@ fetch_sub-requires g c =
     let lt : c.args.node < length c.args.board.now.key.value.parents.items = omega arith in (
       search rules,
       search rules,
-      releases g.row.M-Parcel.Denot g.row.M-Call.Denot g.row.M-Reply.Denot g.row.M-Batch.Denot g.M.Parcel.HasKind.kind (behaviour g.M.Machine.steps g.M.Machine.takes g.M.Machine.gives g.M.Machine.invariant) c.args.board.now.key.value.parents.items c.args.board.now.key.value.parcels.items
-          _ _ c.args.place.now.me (view_of c.args.place.now.me.0) c.args.node c.requires.granted.0 (one-view c.args.place.now.me.0 c.requires.ready.0) c.requires.ready.1 lt c.requires.ready.2 c.requires.granted.1 (λ k p. c.requires.home k c.requires.granted.0 p c.requires.granted.1),
+      releases g.row.M-Parcel.Denot g.row.M-Call.Denot g.row.M-Reply.Denot g.row.M-Batch.Denot g.M.Parcel.HasKind.kind (served_by g.M.Machine)
+          c.args.board.now.key.value.parents.items c.args.board.now.key.value.parcels.items
+          _ _ c.args.place.now.me (view_of c.args.place.now.me.0) c.args.node c.requires.granted.0
+          (one-view c.args.place.now.me.0 c.requires.ready.0) c.requires.ready.1 lt c.requires.ready.2 c.requires.granted.1
+          (λ k p. c.requires.home k c.requires.granted.0 p c.requires.granted.1),
     )
 
 pub returns-clause-released : goal.returns-clause-released

@@ -8,7 +8,8 @@ free-requires g c =
     let before = c.args.self.table.slots in
     let lengths = c.args.self.lengths in
     let others : (k : ℕ) → 0 < k → k < length (slots_filled before) → get_or (slots_filled before) k false ≡ false
-    = λ k pos lt. (let l : k < slots_len before = (let e = lengths.1 in omega arith) in let i : k < length (slots_items before) = (let e = lengths.0 in omega arith) in
+    = λ k pos lt. (let l : k < slots_len before = (let e = lengths.1 in omega arith) in let i : k < length
+    (slots_items before) = (let e = lengths.0 in omega arith) in
     none-left (slots_filled before) (slots_items before) k pos i (c.args.self.parcels k pos l) (c.requires.empty k)) in
     let same = c.take.ensures.others in
     let len = same.2 in

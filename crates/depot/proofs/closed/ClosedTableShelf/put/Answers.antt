@@ -10,7 +10,8 @@ pub invariant_of-self : goal.invariant_of-self
 invariant_of-self g c =
     let slots = c.args.self.now.table.slots in
     let root : slice_index_or (slots_filled c.put.new.self) 0 false ≡ true
-    = ap (λ (l : List Bool). slice_index_or l 0 false) c.put.ensures.filled ∙ put-root (slots_filled slots) c.args.node c.requires.allowed.0 c.args.self.now.root in
+    = ap (λ (l : List Bool). slice_index_or l 0 false) c.put.ensures.filled ∙ put-root (slots_filled slots) c.args.node c.requires.allowed.0
+    c.args.self.now.root in
     let parcels = λ (k : ℕ) (pos : 0 < k) (lt : k < slots_len c.put.new.self).
     subst (λ l. get_elem? l k ≡ some None → ⊥) (sym c.put.ensures.items)
     (put-parcels (slots_items slots) c.args.node c.args.parcel k (c.args.self.now.parcels k pos (subst (λ (n : ℕ). k < n) (search rules) lt))) in

@@ -1,204 +1,142 @@
-use Rattle.std.proofs.Common.{rules, ◌≡◌, ◌<◌, ◌+◌, ◌∷◌, ◌++◌, ℕ, List, [], length, Option, refl, sym, ap, ◌∙◌, subst, arith}
-use Rattle.nfs_model.specs.Tree.{Layout}
+use Rattle.std.proofs.Common.{rules, ◌≡◌, ◌<◌, ◌+◌, ◌∷◌, ℕ, List, [], length, refl, sym, ap, ◌∙◌, subst, arith}
 use Rattle.affinity_tree.specs.Affinity.{affinity_of}
-use Rattle.affinity_tree.specs.Layout.{layout_of}
+use Rattle.affinity_tree.specs.Ancestors.{tally, IsTree, Covers}
 use Rattle.affinity_tree.specs.Numbers as numbers
+use Rattle.affinity_tree.specs.lemmas.Standing.{parents-tree}
 use Rattle.depot_rule.specs.declared.view.View.{View}
-use Rattle.depot_rule.specs.declared.view.Read.{Read}
 use Rattle.depot_rule.specs.declared.view.Entry.{Entry}
-use Rattle.depot_rule.specs.History.{behaviour}
-use Rattle.depot_rule.specs.Sums.{tally}
-use Rattle.depot_rule.specs.Tree.{IsTree, Covers}
-use Rattle.depot_rule.specs.Shares.{Has}
+use Rattle.depot_rule.specs.Parcels.{has_out}
 use Rattle.depot_rule.specs.Seats.{view_of}
-use Rattle.depot.specs.Calls.{own_views, known}
+use Rattle.depot.specs.Calls.{known}
 use Rattle.depot.specs.Holds.{IsGathered}
-use Rattle.depot.specs.Grants.{by_number, entry_of, IsSeatOf, HasWith, IsStep, HasInHand, IsFinished}
-use Rattle.depot.proofs.Layouts.{parents-tree}
-use Rattle.depot.proofs.Seated.{gathered-in}
+use Rattle.depot.specs.Grants.{IsStep, HasInHand, IsFinished}
+use Rattle.depot.specs.Words.{served_by, view, layout_in, node_of, held_in, number_in, parcels_in, entry_with}
+use Rattle.depot.proofs.Apart.{less-apart}
 use Rattle.depot.proofs.Begun.{seat-still}
-use Rattle.depot.proofs.Moves.{no-path}
-use Rattle.depot.proofs.Ended.{stamp-fits, stamped-listed, stamped-gathered, ended-gathered, finished-known, finished-views}
+use Rattle.depot.proofs.Between.{between}
+use Rattle.depot.proofs.Ended.{HasOpen, open-so, open-taken, HasStamped, has-stamped, stamp-fits, ended-gathered, finished-known, finished-views}
+use Rattle.depot.proofs.depot.Depot.finish.Given.{Over}
+use Rattle.depot.proofs.depot.Depot.finish.Goals.{After-into_seat-place, After-stamp_call, After-into_badge}
 use Rattle.depot.proofs.depot.Depot.finish.Goals as goal
 
-pub stamp_call-requires-clause-tree : goal.stamp_call-requires-clause-tree
-stamp_call-requires-clause-tree g c =
+-- ---- what several goals share
+
+start : (g : Over) (c : After-into_seat-place g) → HasOpen g.M.Parcel.HasKind.kind (layout_in c.args.self.now)
+    (number_in (layout_in c.args.self.now) c.args.grant)
+    c.requires.step.0 c.args.seat.now.badge.views c.into_seat-place.result.me.0
+start g c =
+    let seat = c.args.seat.now in
+    let is : seat.badge.views ≡ c.into_seat-place.result.me.0 ∷ [] = search rules in
+    open-so g.M.Parcel.HasKind.kind (layout_in c.args.self.now) _ c.requires.step.0 seat.badge.views _ is c.requires.step.1 c.requires.seat.1
+    seat.gathered seat.idle.1 seat.idle.2
+
+stamped : (g : Over) (c : After-stamp_call g) (o : HasOpen g.M.Parcel.HasKind.kind (layout_in c.args.self.now)
+    (number_in (layout_in c.args.self.now) c.args.grant)
+    c.requires.step.0 c.args.seat.now.badge.views c.into_seat-place.result.me.0)
+    → HasStamped g.M.Parcel.HasKind.kind (layout_in c.args.self.now) (number_in (layout_in c.args.self.now) c.args.grant)
+    (parcels_in g.N.Node.parcels (layout_in c.args.self.now) c.args.grant) c.stamp_call.new.place.me.0
+stamped g c o =
+    has-stamped (served_by g.M.Machine) g.M.Parcel.HasKind.kind (layout_in c.args.self.now) c.args.self.now.layout.lawful
+    (affinity_of (node_of c.args.grant)) c.requires.node
+    c.requires.step.0 (parcels_in g.N.Node.parcels (layout_in c.args.self.now) c.args.grant) c.requires.exact c.args.call.now c.args.reply.now
+    c.args.seat.now.badge.views _ _ o
+    c.stamp_call.ensures.stamped.0 c.stamp_call.ensures.stamped.1
+
+done : (g : Over) (c : After-into_badge g) → IsFinished (served_by g.M.Machine) (view c.args.seat.now) (number_in (layout_in c.args.self.now) c.args.grant)
+    (entry_with g.N.Node.parcels (layout_in c.args.self.now) c.args.grant c.args.call.now c.args.reply.now) (known c.into_badge.result.views)
+done g c =
     let is : c.args.seat.now.badge.views ≡ c.into_seat-place.result.me.0 ∷ [] = search rules in
-    sym (ap (λ l. (known l).tree) is) ∙ c.requires.seat.1.0
+    let badge : c.into_badge.result.views ≡ c.give_home-place.result.me.0 ∷ [] = search rules in
+    finished-known (served_by g.M.Machine) c.args.seat.now.badge.views c.into_seat-place.result.me.0 c.stamp_call.new.place.me.0
+    c.give_home-place.result.me.0 c.into_badge.result.views
+    (entry_with g.N.Node.parcels (layout_in c.args.self.now) c.args.grant c.args.call.now c.args.reply.now)
+    c.stamp_call.ensures.stamped.0 is badge c.stamp_call.ensures.stamped.1 c.give_home-place.ensures.ended.1
+
+-- ---- the answers
+
+pub stamp_call-requires-clause-tree : goal.stamp_call-requires-clause-tree
+stamp_call-requires-clause-tree g c = let o = start g (goal.at.stamp_call-requires-clause-tree g c).After-into_seat-place in o.still.0
 
 pub stamp_call-requires-clause-step : goal.stamp_call-requires-clause-step
 stamp_call-requires-clause-step g c =
-    let L : Layout = layout_of c.args.self.now.layout in
-    let is : c.args.seat.now.badge.views ≡ c.into_seat-place.result.me.0 ∷ [] = search rules in
-    subst (λ l. IsStep (behaviour g.M.Machine.steps g.M.Machine.takes g.M.Machine.gives g.M.Machine.invariant) (known l) (numbers.number_of L (affinity_of c.args.grant.affinity)) c.args.call.now c.args.reply.now (g.N.Node.parcels L (affinity_of c.args.grant.affinity) c.args.grant.held)) is c.requires.step
+    let L = layout_in c.args.self.now in let grant = c.args.grant in
+    let o = start g (goal.at.stamp_call-requires-clause-step g c).After-into_seat-place in
+    subst (λ l. IsStep (served_by g.M.Machine) (known l) (number_in L grant) c.args.call.now c.args.reply.now (parcels_in g.N.Node.parcels L grant))
+    o.is c.requires.step
 
 pub stamp_call-requires-clause-hand : goal.stamp_call-requires-clause-hand
 stamp_call-requires-clause-hand g c =
-    let is : c.args.seat.now.badge.views ≡ c.into_seat-place.result.me.0 ∷ [] = search rules in
-    subst (λ l. HasInHand (behaviour g.M.Machine.steps g.M.Machine.takes g.M.Machine.gives g.M.Machine.invariant) (known l) c.args.call.now c.args.reply.now) is c.requires.hand
+    let o = start g (goal.at.stamp_call-requires-clause-hand g c).After-into_seat-place in
+    subst (λ l. HasInHand (served_by g.M.Machine) (known l) c.args.call.now c.args.reply.now) o.is c.requires.hand
 
 pub stamp_call-requires-clause-taken : goal.stamp_call-requires-clause-taken
 stamp_call-requires-clause-taken g c =
-    let L : Layout = layout_of c.args.self.now.layout in
-    let seat = c.args.seat.now in
-    let n : ℕ = numbers.number_of L (affinity_of c.args.grant.affinity) in
-    let E : Type 0 = Entry g.row.M-Parcel.Denot g.row.M-Call.Denot g.row.M-Reply.Denot in
-    let f : ℕ → Option g.row.M-Parcel.Denot = g.N.Node.parcels L (affinity_of c.args.grant.affinity) c.args.grant.held in
-    let K : View g.row.M-Parcel.Denot E = known seat.badge.views in
-    let vs : List (View g.row.M-Parcel.Denot E) = c.into_seat-place.result.me.0 in
-    let is : seat.badge.views ≡ vs ∷ [] = search rules in
-    let open_grant = subst (λ l. (h : List (Option g.row.M-Parcel.Denot)) × Has (known l) n h) is (c.requires.step.1.0, c.requires.step.1.1) in
-    let still = subst (λ l. IsSeatOf g.M.Parcel.HasKind.kind L (known l)) is c.requires.seat.1 in
-    let key : c.args.self.now.table.shared.key.value.parents.items ≡ (view_of vs).tree = (let k : c.args.self.now.table.shared.key.value.parents.items ≡ numbers.parents L = search rules in k ∙ sym still.0) in
-    λ k pos lt cover.
-    let t = gathered-in is seat.gathered n k open_grant.0 open_grant.1 pos (subst (λ (ps : List ℕ). k < length ps) key lt) (subst (λ (ps : List ℕ). Covers ps n k) key cover) in omega arith
+    let L = layout_in c.args.self.now in
+    let o = start g (goal.at.stamp_call-requires-clause-taken g c).After-into_seat-place in
+    let v = view_of c.into_seat-place.result.me.0 in
+    let parents : c.args.self.now.table.shared.key.value.parents.items ≡ numbers.parents L = search rules in
+    subst (λ (ps : List ℕ). (k : ℕ) → 0 < k → k < length ps → Covers ps (number_in L c.args.grant) k → 0 < has_out k v) (o.still.0 ∙ sym parents)
+    (λ k pos lt cover. let t = open-taken g.M.Parcel.HasKind.kind L _ _ c.args.seat.now.badge.views _ o k pos lt cover in omega arith)
 
 pub stamp_call-requires-clause-fits : goal.stamp_call-requires-clause-fits
 stamp_call-requires-clause-fits g c =
-    let L : Layout = layout_of c.args.self.now.layout in
-    let seat = c.args.seat.now in
-    let n : ℕ = numbers.number_of L (affinity_of c.args.grant.affinity) in
-    let E : Type 0 = Entry g.row.M-Parcel.Denot g.row.M-Call.Denot g.row.M-Reply.Denot in
-    let f : ℕ → Option g.row.M-Parcel.Denot = g.N.Node.parcels L (affinity_of c.args.grant.affinity) c.args.grant.held in
-    let K : View g.row.M-Parcel.Denot E = known seat.badge.views in
-    let vs : List (View g.row.M-Parcel.Denot E) = c.into_seat-place.result.me.0 in
-    let is : seat.badge.views ≡ vs ∷ [] = search rules in
-    let open_grant = subst (λ l. (h : List (Option g.row.M-Parcel.Denot)) × Has (known l) n h) is (c.requires.step.1.0, c.requires.step.1.1) in
-    let still = subst (λ l. IsSeatOf g.M.Parcel.HasKind.kind L (known l)) is c.requires.seat.1 in
-    let key : c.args.self.now.table.shared.key.value.parents.items ≡ numbers.parents L = search rules in
-    stamp-fits g.M.Parcel.HasKind.kind L c.args.self.now.layout.lawful (affinity_of c.args.grant.affinity) c.requires.node.0 (view_of vs) still f c.requires.exact c.args.self.now.table.shared.key.value.parents.items key
+    let L = layout_in c.args.self.now in
+    let o = start g (goal.at.stamp_call-requires-clause-fits g c).After-into_seat-place in
+    let parents : c.args.self.now.table.shared.key.value.parents.items ≡ numbers.parents L = search rules in
+    stamp-fits g.M.Parcel.HasKind.kind L c.args.self.now.layout.lawful (affinity_of (node_of c.args.grant)) c.requires.node
+    (view_of c.into_seat-place.result.me.0) o.still
+    (parcels_in g.N.Node.parcels L c.args.grant) c.requires.exact c.args.self.now.table.shared.key.value.parents.items parents
 
 pub give_home-place-requires-clause-ready : goal.give_home-place-requires-clause-ready
 give_home-place-requires-clause-ready g c =
-    let L : Layout = layout_of c.args.self.now.layout in
-    let seat = c.args.seat.now in
-    let n : ℕ = numbers.number_of L (affinity_of c.args.grant.affinity) in
-    let E : Type 0 = Entry g.row.M-Parcel.Denot g.row.M-Call.Denot g.row.M-Reply.Denot in
-    let f : ℕ → Option g.row.M-Parcel.Denot = g.N.Node.parcels L (affinity_of c.args.grant.affinity) c.args.grant.held in
-    let K : View g.row.M-Parcel.Denot E = known seat.badge.views in
-    let vs : List (View g.row.M-Parcel.Denot E) = c.into_seat-place.result.me.0 in
-    let is : seat.badge.views ≡ vs ∷ [] = search rules in
-    let open_grant = subst (λ l. (h : List (Option g.row.M-Parcel.Denot)) × Has (known l) n h) is (c.requires.step.1.0, c.requires.step.1.1) in
-    let still = subst (λ l. IsSeatOf g.M.Parcel.HasKind.kind L (known l)) is c.requires.seat.1 in
-    let left : List (Option g.row.M-Parcel.Denot) = by_number f (1 + numbers.node_count L) in
-    let stamped = c.stamp_call.ensures.stamped in
-    let r : Read = record { word = 0; value = stamped.0; shares = 0 } in
-    let e : E = entry_of L (affinity_of c.args.grant.affinity) f c.args.call.now c.args.reply.now in
+    let at = goal.at.give_home-place-requires-clause-ready g c in
+    let s = stamped g at.After-stamp_call (start g at.After-into_seat-place) in
     let none : c.into_seat-place.result.me.1 ≡ [] = search rules in
-    let parents : c.deref.result.now ≡ numbers.parents L = search rules in (
-      ap length stamped.1.1,
-      c.stamp_call.ensures.seat.1 ∙ none,
-      ap (λ us. (view_of us).out) stamped.1.1 ∙ (sym (ap (λ l. (known l).out) is) ∙ seat.idle.1),
-      ap (λ us. (view_of us).path) stamped.1.1 ∙ no-path is seat.idle.2,
-      ap (λ us. (view_of us).tree) stamped.1.1 ∙ (still.0 ∙ sym parents),
-    )
+    let parents : c.deref.result.now ≡ numbers.parents (layout_in c.args.self.now) = search rules in
+    (s.one, c.stamp_call.ensures.seat.1 ∙ none, s.out, s.path, s.tree ∙ sym parents)
+
+pub give_home-place-requires-clause-node : goal.give_home-place-requires-clause-node
+give_home-place-requires-clause-node g c = (
+  c.requires.node,
+  g.met.N.Node.of_kind (layout_in c.args.self.now) (affinity_of (node_of c.args.grant)) (held_in c.args.grant) c.requires.node
+      c.requires.exact,
+)
 
 pub give_home-place-requires-clause-listed : goal.give_home-place-requires-clause-listed
 give_home-place-requires-clause-listed g c =
-    let L : Layout = layout_of c.args.self.now.layout in
-    let seat = c.args.seat.now in
-    let n : ℕ = numbers.number_of L (affinity_of c.args.grant.affinity) in
-    let E : Type 0 = Entry g.row.M-Parcel.Denot g.row.M-Call.Denot g.row.M-Reply.Denot in
-    let f : ℕ → Option g.row.M-Parcel.Denot = g.N.Node.parcels L (affinity_of c.args.grant.affinity) c.args.grant.held in
-    let K : View g.row.M-Parcel.Denot E = known seat.badge.views in
-    let vs : List (View g.row.M-Parcel.Denot E) = c.into_seat-place.result.me.0 in
-    let is : seat.badge.views ≡ vs ∷ [] = search rules in
-    let open_grant = subst (λ l. (h : List (Option g.row.M-Parcel.Denot)) × Has (known l) n h) is (c.requires.step.1.0, c.requires.step.1.1) in
-    let still = subst (λ l. IsSeatOf g.M.Parcel.HasKind.kind L (known l)) is c.requires.seat.1 in
-    let left : List (Option g.row.M-Parcel.Denot) = by_number f (1 + numbers.node_count L) in
-    let stamped = c.stamp_call.ensures.stamped in
-    let r : Read = record { word = 0; value = stamped.0; shares = 0 } in
-    let e : E = entry_of L (affinity_of c.args.grant.affinity) f c.args.call.now c.args.reply.now in
-    subst (λ us. HasWith (view_of us) n f) (sym stamped.1.1)
-    (stamped-listed g.M.Parcel.HasKind.kind L c.args.self.now.layout.lawful (affinity_of c.args.grant.affinity) c.requires.node.0 (view_of vs) still f c.requires.exact
-    open_grant.0 open_grant.1 (r ∷ (view_of vs).reads) (((view_of vs).seen ++ stamped.1.0) ++ e ∷ []) ((view_of vs).mine ++ length ((view_of vs).seen ++ stamped.1.0) ∷ []))
+    let at = goal.at.give_home-place-requires-clause-listed g c in
+    (stamped g at.After-stamp_call (start g at.After-into_seat-place)).listed
 
 pub give_home-place-requires-clause-taken : goal.give_home-place-requires-clause-taken
 give_home-place-requires-clause-taken g c =
-    let L : Layout = layout_of c.args.self.now.layout in
-    let seat = c.args.seat.now in
-    let n : ℕ = numbers.number_of L (affinity_of c.args.grant.affinity) in
-    let E : Type 0 = Entry g.row.M-Parcel.Denot g.row.M-Call.Denot g.row.M-Reply.Denot in
-    let f : ℕ → Option g.row.M-Parcel.Denot = g.N.Node.parcels L (affinity_of c.args.grant.affinity) c.args.grant.held in
-    let K : View g.row.M-Parcel.Denot E = known seat.badge.views in
-    let vs : List (View g.row.M-Parcel.Denot E) = c.into_seat-place.result.me.0 in
-    let is : seat.badge.views ≡ vs ∷ [] = search rules in
-    let open_grant = subst (λ l. (h : List (Option g.row.M-Parcel.Denot)) × Has (known l) n h) is (c.requires.step.1.0, c.requires.step.1.1) in
-    let still = subst (λ l. IsSeatOf g.M.Parcel.HasKind.kind L (known l)) is c.requires.seat.1 in
-    let left : List (Option g.row.M-Parcel.Denot) = by_number f (1 + numbers.node_count L) in
-    let stamped = c.stamp_call.ensures.stamped in
-    let r : Read = record { word = 0; value = stamped.0; shares = 0 } in
-    let e : E = entry_of L (affinity_of c.args.grant.affinity) f c.args.call.now c.args.reply.now in
-    subst (λ us. (k : ℕ) → 0 < k → k < length (view_of us).tree → Covers (view_of us).tree n k → 0 < tally k (view_of us).gone) (sym stamped.1.1)
-    (λ k pos lt cover. gathered-in is seat.gathered n k open_grant.0 open_grant.1 pos lt cover)
+    let at = goal.at.give_home-place-requires-clause-taken g c in
+    let s = stamped g at.After-stamp_call (start g at.After-into_seat-place) in
+    λ k pos lt cover. s.gathered (number_in (layout_in c.args.self.now) c.args.grant) k s.listed.0 s.listed.1 pos lt cover
 
 pub returns-clause-finished : goal.returns-clause-finished
-returns-clause-finished g c =
-    let L : Layout = layout_of c.args.self.now.layout in
-    let seat = c.args.seat.now in
-    let n : ℕ = numbers.number_of L (affinity_of c.args.grant.affinity) in
-    let E : Type 0 = Entry g.row.M-Parcel.Denot g.row.M-Call.Denot g.row.M-Reply.Denot in
-    let f : ℕ → Option g.row.M-Parcel.Denot = g.N.Node.parcels L (affinity_of c.args.grant.affinity) c.args.grant.held in
-    let K : View g.row.M-Parcel.Denot E = known seat.badge.views in
-    let vs : List (View g.row.M-Parcel.Denot E) = c.into_seat-place.result.me.0 in
-    let is : seat.badge.views ≡ vs ∷ [] = search rules in
-    let open_grant = subst (λ l. (h : List (Option g.row.M-Parcel.Denot)) × Has (known l) n h) is (c.requires.step.1.0, c.requires.step.1.1) in
-    let still = subst (λ l. IsSeatOf g.M.Parcel.HasKind.kind L (known l)) is c.requires.seat.1 in
-    let left : List (Option g.row.M-Parcel.Denot) = by_number f (1 + numbers.node_count L) in
-    let stamped = c.stamp_call.ensures.stamped in
-    let r : Read = record { word = 0; value = stamped.0; shares = 0 } in
-    let e : E = entry_of L (affinity_of c.args.grant.affinity) f c.args.call.now c.args.reply.now in
-    let badge : c.into_badge.result.views ≡ c.give_home-place.result.me.0 ∷ [] = search rules in
-    let done : IsFinished (behaviour g.M.Machine.steps g.M.Machine.takes g.M.Machine.gives g.M.Machine.invariant) K n e (known c.into_badge.result.views) = finished-known (behaviour g.M.Machine.steps g.M.Machine.takes g.M.Machine.gives g.M.Machine.invariant) seat.badge.views vs c.stamp_call.new.place.me.0 c.give_home-place.result.me.0 c.into_badge.result.views e stamped.0 is badge stamped.1 c.give_home-place.ensures.ended.1 in
-    done
+returns-clause-finished g c = done g (goal.at.returns-clause-finished g c).After-into_badge
 
 pub returns-clause-seat : goal.returns-clause-seat
 returns-clause-seat g c =
-    let L : Layout = layout_of c.args.self.now.layout in
-    let seat = c.args.seat.now in
-    let n : ℕ = numbers.number_of L (affinity_of c.args.grant.affinity) in
-    let E : Type 0 = Entry g.row.M-Parcel.Denot g.row.M-Call.Denot g.row.M-Reply.Denot in
-    let f : ℕ → Option g.row.M-Parcel.Denot = g.N.Node.parcels L (affinity_of c.args.grant.affinity) c.args.grant.held in
-    let K : View g.row.M-Parcel.Denot E = known seat.badge.views in
-    let vs : List (View g.row.M-Parcel.Denot E) = c.into_seat-place.result.me.0 in
-    let is : seat.badge.views ≡ vs ∷ [] = search rules in
-    let open_grant = subst (λ l. (h : List (Option g.row.M-Parcel.Denot)) × Has (known l) n h) is (c.requires.step.1.0, c.requires.step.1.1) in
-    let still = subst (λ l. IsSeatOf g.M.Parcel.HasKind.kind L (known l)) is c.requires.seat.1 in
-    let left : List (Option g.row.M-Parcel.Denot) = by_number f (1 + numbers.node_count L) in
-    let stamped = c.stamp_call.ensures.stamped in
-    let r : Read = record { word = 0; value = stamped.0; shares = 0 } in
-    let e : E = entry_of L (affinity_of c.args.grant.affinity) f c.args.call.now c.args.reply.now in
-    let badge : c.into_badge.result.views ≡ c.give_home-place.result.me.0 ∷ [] = search rules in
-    let done : IsFinished (behaviour g.M.Machine.steps g.M.Machine.takes g.M.Machine.gives g.M.Machine.invariant) K n e (known c.into_badge.result.views) = finished-known (behaviour g.M.Machine.steps g.M.Machine.takes g.M.Machine.gives g.M.Machine.invariant) seat.badge.views vs c.stamp_call.new.place.me.0 c.give_home-place.result.me.0 c.into_badge.result.views e stamped.0 is badge stamped.1 c.give_home-place.ensures.ended.1 in
-    let now = done.3 in
-    (search rules, refl, seat-still g.M.Parcel.HasKind.kind L K (known c.into_badge.result.views) (ap (λ v. v.tree) now) (ap (λ v. v.first) now) c.requires.seat.1)
+    let now = (done g (goal.at.returns-clause-seat g c).After-into_badge).3 in (
+      search rules,
+      seat-still g.M.Parcel.HasKind.kind (layout_in c.args.self.now) (view c.args.seat.now) (known c.into_badge.result.views)
+          (ap (λ v. v.tree) now) (ap (λ v. v.first) now) c.requires.seat.1,
+    )
 
 pub invariant_of-seat : goal.invariant_of-seat
 invariant_of-seat g c =
-    let L : Layout = layout_of c.args.self.now.layout in
-    let seat = c.args.seat.now in
-    let n : ℕ = numbers.number_of L (affinity_of c.args.grant.affinity) in
-    let E : Type 0 = Entry g.row.M-Parcel.Denot g.row.M-Call.Denot g.row.M-Reply.Denot in
-    let f : ℕ → Option g.row.M-Parcel.Denot = g.N.Node.parcels L (affinity_of c.args.grant.affinity) c.args.grant.held in
-    let K : View g.row.M-Parcel.Denot E = known seat.badge.views in
-    let vs : List (View g.row.M-Parcel.Denot E) = c.into_seat-place.result.me.0 in
-    let is : seat.badge.views ≡ vs ∷ [] = search rules in
-    let open_grant = subst (λ l. (h : List (Option g.row.M-Parcel.Denot)) × Has (known l) n h) is (c.requires.step.1.0, c.requires.step.1.1) in
-    let still = subst (λ l. IsSeatOf g.M.Parcel.HasKind.kind L (known l)) is c.requires.seat.1 in
-    let left : List (Option g.row.M-Parcel.Denot) = by_number f (1 + numbers.node_count L) in
-    let stamped = c.stamp_call.ensures.stamped in
-    let r : Read = record { word = 0; value = stamped.0; shares = 0 } in
-    let e : E = entry_of L (affinity_of c.args.grant.affinity) f c.args.call.now c.args.reply.now in
+    let at = goal.at.invariant_of-seat g c in
+    let L = layout_in c.args.self.now in let seat = c.args.seat.now in let n = number_in L c.args.grant in
+    let s = stamped g at.After-stamp_call (start g at.After-into_seat-place) in
     let badge : c.into_badge.result.views ≡ c.give_home-place.result.me.0 ∷ [] = search rules in
-    let done : IsFinished (behaviour g.M.Machine.steps g.M.Machine.takes g.M.Machine.gives g.M.Machine.invariant) K n e (known c.into_badge.result.views) = finished-known (behaviour g.M.Machine.steps g.M.Machine.takes g.M.Machine.gives g.M.Machine.invariant) seat.badge.views vs c.stamp_call.new.place.me.0 c.give_home-place.result.me.0 c.into_badge.result.views e stamped.0 is badge stamped.1 c.give_home-place.ensures.ended.1 in
-    let full = finished-views (behaviour g.M.Machine.steps g.M.Machine.takes g.M.Machine.gives g.M.Machine.invariant) K n e c.give_home-place.result.me.0 c.into_badge.result.views badge c.give_home-place.ensures.ended.0 done in
-    let stamped_all : IsGathered (view_of c.stamp_call.new.place.me.0) = subst (λ us. IsGathered (view_of us)) (sym stamped.1.1)
-    (stamped-gathered (view_of vs) n open_grant.0 left (r ∷ (view_of vs).reads) (((view_of vs).seen ++ stamped.1.0) ++ e ∷ []) ((view_of vs).mine ++ length ((view_of vs).seen ++ stamped.1.0) ∷ []) (gathered-in is seat.gathered) open_grant.1) in
-    let tree : IsTree (view_of c.stamp_call.new.place.me.0).tree = subst IsTree (sym (ap (λ us. (view_of us).tree) stamped.1.1 ∙ still.0)) (parents-tree L c.args.self.now.layout.lawful) in
-    record {
-      one = (ap length full, ap (λ l. length (own_views l)) full);
-      idle = (ap (λ l. (known l).unsure) full ∙ seat.idle.0, ap (λ l. (known l).out) full ∙ seat.idle.1, ap (λ l. length (known l).path) full ∙ seat.idle.2, ap (λ l. (known l).stamped) full);
-      parts = ap (λ l. (known l).parts) full ∙ seat.parts;
-      gathered = subst IsGathered (sym (ap known badge))
-          (ended-gathered (view_of c.stamp_call.new.place.me.0) (view_of c.give_home-place.result.me.0) n tree stamped_all c.give_home-place.ensures.ended.1 c.give_home-place.ensures.apart c.give_home-place.ensures.others);
-    }
+    let e = entry_with g.N.Node.parcels L c.args.grant c.args.call.now c.args.reply.now in
+    let full = finished-views (served_by g.M.Machine) (view seat) n e c.give_home-place.result.me.0 c.into_badge.result.views badge
+    c.give_home-place.ensures.ended.0 (done g at.After-into_badge) in
+    let tree : IsTree (view_of c.stamp_call.new.place.me.0).tree = subst IsTree (sym s.tree) (parents-tree L c.args.self.now.layout.lawful) in
+    let gathered = ended-gathered (view_of c.stamp_call.new.place.me.0) (view_of c.give_home-place.result.me.0) n tree s.gathered
+    c.give_home-place.ensures.ended.1 c.give_home-place.ensures.apart c.give_home-place.ensures.others in
+    let now = sym (ap known badge) ∙ ap known full in
+    let b = between _ c.into_badge.result.views seat.splits full (seat.idle.0, seat.idle.1, seat.idle.2, refl) seat.parts
+    (subst IsGathered now gathered) (less-apart (view seat).tree (view seat).held n seat.apart) in
+    record { one = b.one; idle = b.idle; parts = b.parts; gathered = b.gathered; apart = b.apart }

@@ -7,14 +7,22 @@ use Rattle.depot.proofs.hold.HoldShelfParcel.put.Goals as goal
 pub give_parcel-requires-clause-ready : goal.give_parcel-requires-clause-ready
 give_parcel-requires-clause-ready g c =
     let hold = c.args.self.now in
-    let l = c.requires.allowed in
-    (hold.one.0, nothing hold.place.me.1 hold.one.1, l.0, hold.free, given-away (view_of hold.place.me.0) hold.node c.args.node c.args.parcel l c.requires.vacant, hold.tree)
+    let l = c.requires.allowed in (
+      hold.one.0,
+      nothing hold.place.me.1 hold.one.1,
+      l.0,
+      hold.free,
+      given-away (view_of hold.place.me.0) hold.node c.args.node c.args.parcel l
+          c.requires.vacant,
+      hold.tree,
+    )
 
 pub returns-clause-there : goal.returns-clause-there
 returns-clause-there g c =
     let hold = c.args.self.now in
     let given = c.give_parcel.ensures.given in
-    given-there (view_of hold.place.me.0) hold.node c.args.node given.0 c.give_parcel.new.place.me.0 given.1 c.give_parcel.ensures.once c.args.parcel c.requires.allowed
+    given-there (view_of hold.place.me.0) hold.node c.args.node given.0 c.give_parcel.new.place.me.0 given.1 c.give_parcel.ensures.once c.args.parcel
+    c.requires.allowed
 
 pub returns-clause-others : goal.returns-clause-others
 returns-clause-others g c =

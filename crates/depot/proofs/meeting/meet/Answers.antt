@@ -1,0 +1,83 @@
+use Rattle.std.proofs.Common.{rules, ◌≡◌, ◌∷◌, [], length, ap, ◌∙◌}
+use Rattle.depot_rule.specs.History.{entries_of}
+use Rattle.depot_rule.specs.Seats.{view_of, first_of, others_of}
+use Rattle.depot_rule.proofs.Dealing.{meets, parts-again}
+use Rattle.depot_rule.proofs.Looking.{alikes}
+use Rattle.depot.specs.Calls.{known}
+use Rattle.depot.specs.Words.{served_by}
+use Rattle.depot.proofs.Seated.{HasMet, met-so, AreAlike, alike-known, told-known}
+use Rattle.depot.proofs.meeting.meet.Given.{Over}
+use Rattle.depot.proofs.meeting.meet.Goals.{After-join_seat, After-load}
+use Rattle.depot.proofs.meeting.meet.Goals as goal
+
+-- ---- what several goals share
+
+met : (g : Over) (c : After-join_seat g) → HasMet c.args.one.now.badge.views c.args.other.now.badge.views c.into_seat-first.result.me.0
+    c.into_seat-second.result.me.0 c.join_seat.new.seat.me.0
+met g c =
+    let is : c.args.one.now.badge.views ≡ c.into_seat-first.result.me.0 ∷ [] = search rules in
+    let other_is : c.args.other.now.badge.views ≡ c.into_seat-second.result.me.0 ∷ [] = search rules in
+    met-so _ _ c.into_seat-first.result.me.0 c.into_seat-second.result.me.0 _ is other_is c.args.one.now.one.1 c.args.other.now.one.1
+    (ap (λ m. m.0) c.join_seat.ensures.2)
+
+alike : (g : Over) (c : After-load g) (m : HasMet c.args.one.now.badge.views c.args.other.now.badge.views c.into_seat-first.result.me.0
+    c.into_seat-second.result.me.0 c.join_seat.new.seat.me.0)
+    → AreAlike (known c.args.one.now.badge.views) (known c.args.other.now.badge.views)
+alike g c m = alike-known _ _ _ _ _ m (c.load.ensures.2.1 (view_of c.into_seat-first.result.me.0) (view_of c.into_seat-second.result.me.0) m.both)
+
+-- ---- the answers
+
+pub join_seat-requires : goal.join_seat-requires
+join_seat-requires g c = (
+  search rules,
+  search rules,
+  search rules,
+  search rules,
+  meets g.row.M-Parcel.Denot g.row.M-Call.Denot g.row.M-Reply.Denot g.row.M-Batch.Denot g.M.Parcel.HasKind.kind (served_by g.M.Machine)
+      c.args.board.now.key.value.parents.items c.args.board.now.key.value.parcels.items
+      _ c.into_seat-first.result.me.0 _ c.into_seat-second.result.me.0,
+)
+
+pub load-requires : goal.load-requires
+load-requires g c = (
+  search rules,
+  search rules,
+  alikes g.row.M-Parcel.Denot g.row.M-Call.Denot g.row.M-Reply.Denot g.row.M-Batch.Denot g.M.Parcel.HasKind.kind (served_by g.M.Machine)
+      c.args.board.now.key.value.parents.items c.args.board.now.key.value.parcels.items
+      _ _ c.join_seat.new.seat.me,
+)
+
+pub split_seat-second-requires : goal.split_seat-second-requires
+split_seat-second-requires g c =
+    let m = met g (goal.at.split_seat-second-requires g c).After-join_seat in
+    let loaded = ap (λ m. m.0) c.load.ensures.2.0 ∙ m.both in (
+      search rules,
+      search rules,
+      parts-again g.row.M-Parcel.Denot g.row.M-Call.Denot g.row.M-Reply.Denot g.row.M-Batch.Denot g.M.Parcel.HasKind.kind (served_by g.M.Machine)
+          c.args.board.now.key.value.parents.items c.args.board.now.key.value.parcels.items
+          _ c.load.new.seat.me.0 (ap length loaded),
+    )
+
+pub returns-clause-one : goal.returns-clause-one
+returns-clause-one g c =
+    let m = met g (goal.at.returns-clause-one g c).After-join_seat in
+    let badge : c.into_badge.result.views ≡ c.split_seat-second.new.seat.me.0 ∷ [] = search rules in
+    let first = ap (λ m. m.0) c.split_seat-second.ensures.2 ∙ ap first_of (ap (λ m. m.0) c.load.ensures.2.0 ∙ m.both) in
+    ap known badge ∙ (ap view_of first ∙ (told-known _ _ _ _ _ m).0)
+
+pub returns-clause-other : goal.returns-clause-other
+returns-clause-other g c =
+    let m = met g (goal.at.returns-clause-other g c).After-join_seat in
+    let badge : c.into_badge-2.result.views ≡ c.split_seat-second.result.me.0 ∷ [] = search rules in
+    let second = ap (λ m. m.0) c.split_seat-second.ensures.4 ∙ ap others_of (ap (λ m. m.0) c.load.ensures.2.0 ∙ m.both) in
+    ap known badge ∙ (ap view_of second ∙ (told-known _ _ _ _ _ m).1)
+
+pub returns-clause-one_history : goal.returns-clause-one_history
+returns-clause-one_history g c =
+    let at = goal.at.returns-clause-one_history g c in (alike g at.After-load (met g at.After-join_seat)).3
+
+pub returns-clause-entries : goal.returns-clause-entries
+returns-clause-entries g c =
+    let at = goal.at.returns-clause-entries g c in
+    let keep = (alike g at.After-load (met g at.After-join_seat)).4 in
+    (ap (λ v. entries_of v) (returns-clause-one g c) ∙ keep.0, ap (λ v. entries_of v) (returns-clause-other g c) ∙ keep.1)

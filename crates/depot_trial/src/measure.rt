@@ -1,0 +1,173 @@
+//! What measurements do with a depot: four seats of one, and threads that begin and finish calls.
+
+ghost use Rattle.std.specs.Prelude.{◌≤◌};
+ghost use Rattle.depot.specs.Words.{layout_in, IsSeatHere, IsNodeOf};
+
+use crate::adding::{Adding, Change, open, split};
+use affinity_tree::{Affinity, Kind};
+use depot::{Depot, Seat};
+use parcel_sets::{
+    AggregateNode, LogicalNode, Node, Numbers, Parcel, RangeNode, SerialNode, StripeNode, VbnNode,
+    VolumeNode,
+};
+use std::alloc::Global;
+use std::thread;
+use std::thread::Threads;
+
+/// Begins a call on a node and, if it is granted, finishes it: nothing changes. Whether it was
+/// granted.
+fn begin_and_finish_once<N: Node<Parcel<Numbers>>>(
+    depot: &Depot<Adding>,
+    seat: &mut Seat<Adding>,
+    affinity: Affinity,
+) -> bool
+    requires seat { IsSeatHere depot.now seat.old }
+    requires node { IsNodeOf (layout_in depot.now) N.KIND affinity }
+    ensures seat { IsSeatHere depot.now seat.new }
+{
+    match depot.begin::<N>(seat, affinity) {
+        Ok(grant) => {
+            depot.finish(seat, grant, &Change::Touch, &0);
+            true
+        }
+        Err(_) => false,
+    }
+}
+
+/// So many calls of a seat on a node, one after another. How many were granted; none at a node of
+/// another kind, or one that isn't there.
+fn begin_and_finish<N: Node<Parcel<Numbers>>>(
+    depot: &Depot<Adding>,
+    mut seat: Seat<Adding>,
+    affinity: Affinity,
+    count: u32,
+) -> u32
+    requires seat { IsSeatHere depot.now seat }
+    ensures most { result ≤ count }
+{
+    if affinity.kind() != N::KIND {
+        return 0;
+    }
+    if !depot.layout().contains(affinity) {
+        return 0;
+    }
+    let mut refused = 0;
+    for _call in 0..count {
+        if !begin_and_finish_once::<N>(depot, &mut seat, affinity) {
+            refused += 1;
+        }
+    }
+    count - refused
+}
+
+/// So many calls of a seat on a node of whichever kind. How many were granted.
+fn calls(depot: &Depot<Adding>, seat: Seat<Adding>, affinity: Affinity, count: u32) -> u32
+    requires seat { IsSeatHere depot.now seat }
+    ensures most { result ≤ count }
+{
+    match affinity.kind() {
+        Kind::Serial => begin_and_finish::<SerialNode>(depot, seat, affinity, count),
+        Kind::Aggregate => begin_and_finish::<AggregateNode>(depot, seat, affinity, count),
+        Kind::Volume => begin_and_finish::<VolumeNode>(depot, seat, affinity, count),
+        Kind::VolumeLogical => begin_and_finish::<LogicalNode>(depot, seat, affinity, count),
+        Kind::Stripe => begin_and_finish::<StripeNode>(depot, seat, affinity, count),
+        Kind::VolumeVbn => begin_and_finish::<VbnNode>(depot, seat, affinity, count),
+        Kind::Range => begin_and_finish::<RangeNode>(depot, seat, affinity, count),
+    }
+}
+
+/// The calls of two threads, each with a seat and a node of its own. How many were granted.
+fn two_threads<R: Threads + Sync>(
+    rt: &R,
+    depot: &Depot<Adding>,
+    first: Seat<Adding>,
+    second: Seat<Adding>,
+    nodes: [Affinity; 2],
+    count: u32,
+) -> u64
+    requires first { IsSeatHere depot.now first }
+    requires second { IsSeatHere depot.now second }
+{
+    let [here, there] = nodes;
+    let (one, other) = thread::join(
+        rt,
+        move || calls(depot, first, here, count),
+        move || calls(depot, second, there, count),
+    );
+    u64::from(one) + u64::from(other)
+}
+
+/// A depot with four volumes in which each parcel is 0, and four seats of it.
+#[derive(Drop)]
+pub struct Bench {
+    depot: Depot<Adding>,
+    first: Seat<Adding>,
+    second: Seat<Adding>,
+    third: Seat<Adding>,
+    fourth: Seat<Adding>,
+    ghost first_seat: { IsSeatHere depot first },
+    ghost second_seat: { IsSeatHere depot second },
+    ghost third_seat: { IsSeatHere depot third },
+    ghost fourth_seat: { IsSeatHere depot fourth },
+}
+
+impl Bench {
+    /// Nothing where memory ran out.
+    pub fn open(alloc: Global) -> Option<Bench> {
+        let (depot, seat) = open::<4>(alloc)?;
+        let (first, second) = split(&depot, seat)?;
+        let (first, third) = split(&depot, first)?;
+        let (first, fourth) = split(&depot, first)?;
+        Some(Bench {
+            depot,
+            first,
+            second,
+            third,
+            fourth,
+        })
+    }
+
+    /// So many calls by one thread. How many were granted.
+    pub fn one_thread(self, nodes: [Affinity; 4], count: u32) -> u64 {
+        let Bench { depot, first, .. } = self;
+        let [node, _, _, _] = nodes;
+        u64::from(calls(&depot, first, node, count))
+    }
+
+    /// So many calls by each of two threads.
+    pub fn two_threads<R: Threads + Sync>(self, rt: &R, nodes: [Affinity; 4], count: u32) -> u64 {
+        let Bench {
+            depot,
+            first,
+            second,
+            ..
+        } = self;
+        let [one, two, _, _] = nodes;
+        two_threads(rt, &depot, first, second, [one, two], count)
+    }
+
+    /// So many calls by each of four threads.
+    pub fn four_threads<R: Threads + Sync>(self, rt: &R, nodes: [Affinity; 4], count: u32) -> u64 {
+        let Bench {
+            depot,
+            first,
+            second,
+            third,
+            fourth,
+        } = self;
+        let depot = &depot;
+        let [one, two, three, four] = nodes;
+        let (here, there) = thread::join(
+            rt,
+            move || -> u64
+                requires first { IsSeatHere depot.now first }
+                requires second { IsSeatHere depot.now second }
+            { two_threads(rt, depot, first, second, [one, two], count) },
+            move || -> u64
+                requires third { IsSeatHere depot.now third }
+                requires fourth { IsSeatHere depot.now fourth }
+            { two_threads(rt, depot, third, fourth, [three, four], count) },
+        );
+        here.saturating_add(there)
+    }
+}
