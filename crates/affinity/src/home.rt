@@ -1,8 +1,9 @@
 //! Where a call is at home.
 
-ghost use Rattle.std.specs.Prelude.{◌≡◌, ◌==◌, ◌||◌, ◌+◌, ◌-◌, ◌*◌, ◌/◌, ◌<◌, ◌≤◌, length, min, option_map, slice_get, IfSome};
-ghost use Rattle.nfs_model.specs.Server.{handle_of};
-ghost use Rattle.nfs_model.specs.Home.{home, bytes_home, grow_home, logical_home, named_by, span_bytes, stripe_of_span, volume_home};
+ghost use Rattle.std.specs.Prelude.{◌≡◌, ◌==◌, ◌+◌, ◌-◌, ◌/◌, ◌<◌, length, min, option_map};
+ghost use Rattle.std.specs.Prelude.{slice_get, IfSome};
+ghost use Rattle.nfs_model.specs.Home.{home, bytes_home, grow_home, logical_home};
+ghost use Rattle.nfs_model.specs.Home.{named_by, span_bytes, stripe_of_span, volume_home};
 ghost use Rattle.nfs_values.specs.Call.{call_of};
 ghost use Rattle.nfs_values.specs.Handle.{named_of};
 ghost use Rattle.affinity_tree.specs.Affinity.{affinity_of};
@@ -49,10 +50,10 @@ fn is_in_one_span(offset: u64, count: u32) -> bool
 /// The stripe of a file's span.
 #[tactic(auto, using(crate::proofs::Spans::remainder_of_parts))]
 fn stripe_of_span(layout: &Layout, named: Named, span: u64) -> Affinity
+    requires { named.volume.0 < length (layout_of layout.now).volumes }
     ensures stripe { affinity_of result
         ≡ stripe_of_span (layout_of layout.now) (named_of named) span }
-    ensures node { named.volume.0 < length (layout_of layout.now).volumes
-        → IsNode (layout_of layout.now) (affinity_of result) }
+    ensures node { IsNode (layout_of layout.now) (affinity_of result) }
 {
     let volume = named.volume.0;
     let stripes = u64::from(layout.stripes_of(volume));
@@ -65,7 +66,8 @@ fn stripe_of_span(layout: &Layout, named: Named, span: u64) -> Affinity
 
 /// Where a call on bytes of a file is at home.
 fn home_of_bytes(handle: &FileHandle, offset: u64, count: u32, layout: &Layout) -> Option<Affinity>
-    ensures home { option_map affinity_of result ≡ bytes_home (layout_of layout.now) (named_by (layout_of layout.now) handle.now) offset (min count COUNT_LIMIT) }
+    ensures home { let L = layout_of layout.now in option_map affinity_of result
+        ≡ bytes_home L (named_by L handle.now) offset (min count COUNT_LIMIT) }
     ensures node { IfSome result (λ a. IsNode (layout_of layout.now) (affinity_of a)) }
 {
     let named = named_by(handle, layout)?;
@@ -79,7 +81,8 @@ fn home_of_bytes(handle: &FileHandle, offset: u64, count: u32, layout: &Layout) 
 
 /// Where a call on names and attributes is at home.
 fn home_of_names(handle: &FileHandle, layout: &Layout) -> Option<Affinity>
-    ensures home { option_map affinity_of result ≡ logical_home (named_by (layout_of layout.now) handle.now) }
+    ensures home { option_map affinity_of result
+        ≡ logical_home (named_by (layout_of layout.now) handle.now) }
     ensures node { IfSome result (λ a. IsNode (layout_of layout.now) (affinity_of a)) }
 {
     let named = named_by(handle, layout)?;
@@ -88,7 +91,8 @@ fn home_of_names(handle: &FileHandle, layout: &Layout) -> Option<Affinity>
 
 /// Where a call on a whole volume is at home.
 fn home_of_status(handle: &FileHandle, layout: &Layout) -> Option<Affinity>
-    ensures home { option_map affinity_of result ≡ volume_home (named_by (layout_of layout.now) handle.now) }
+    ensures home { option_map affinity_of result
+        ≡ volume_home (named_by (layout_of layout.now) handle.now) }
     ensures node { IfSome result (λ a. IsNode (layout_of layout.now) (affinity_of a)) }
 {
     let named = named_by(handle, layout)?;
@@ -97,7 +101,8 @@ fn home_of_status(handle: &FileHandle, layout: &Layout) -> Option<Affinity>
 
 /// Where a volume's growth is at home.
 fn home_of_growth(volume: VolumeNumber, layout: &Layout) -> Option<Affinity>
-    ensures home { option_map affinity_of result ≡ grow_home (slice_get (layout_of layout.now).volumes volume.0) }
+    ensures home { option_map affinity_of result
+        ≡ grow_home (slice_get (layout_of layout.now).volumes volume.0) }
     ensures node { IfSome result (λ a. IsNode (layout_of layout.now) (affinity_of a)) }
 {
     if volume.0 as usize >= layout.volume_count() {

@@ -9,19 +9,16 @@ use nfs_values::{
 use std::alloc::Global;
 use std::test::Fail;
 
-/// A layout of two volumes, each on its own aggregate.
+/// A layout of two volumes, each on its own aggregate: one of 8 stripes, one of 16.
 fn two_volumes(alloc: Global) -> Result<Layout, Fail> {
     let aggregates = [AggregateSpec { spare: 1 }, AggregateSpec { spare: 0 }];
-    let volumes = [
-        VolumeSpec {
-            aggregate: 1,
-            ranges: 1,
-        },
-        VolumeSpec {
-            aggregate: 0,
-            ranges: 16,
-        },
-    ];
+    let wide = VolumeSpec {
+        aggregate: 0,
+        ranges: 16,
+        stripes: 16,
+        mib: 64,
+    };
+    let volumes = [VolumeSpec::new(1, 1), wide];
     Layout::new(alloc, &aggregates, &volumes).map_err(|_fault| "fault".into())
 }
 
@@ -156,6 +153,23 @@ fn spans(rt: HostRuntime) -> Result<(), Fail> {
         };
         assert_eq!(rt; home_of(&read, &layout), Some(wanted));
         assert_eq!(rt; home_of(&write, &layout), Some(wanted));
+    }
+    Ok(())
+}
+
+#[test]
+fn spans_of_16_stripes(rt: HostRuntime) -> Result<(), Fail> {
+    let layout = two_volumes(rt.alloc())?;
+    // the span of file 2, and its stripe
+    let rows: [(u64, u32); 4] = [(0, 2), (8, 10), (13, 15), (14, 0)];
+    for (span, stripe) in rows {
+        let read = Call::Read {
+            handle: handle(1, 2),
+            offset: span * 262_144,
+            count: 1,
+        };
+        let wanted = Affinity::Stripe { volume: 1, stripe };
+        assert_eq!(rt; home_of(&read, &layout), Some(wanted));
     }
     Ok(())
 }

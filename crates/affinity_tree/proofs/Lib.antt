@@ -1,10 +1,2 @@
-pub mod Mapped
-pub mod Ways
-pub mod Lawful
-pub mod Sharing
-pub mod Places
-pub mod Parents
-pub mod Numbered
-pub mod Smaller
-pub mod Chains
+pub mod Tested
 pub mod Worked

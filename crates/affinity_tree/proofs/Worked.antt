@@ -2,6 +2,7 @@
 use Rattle.std.proofs.Common.{◌≡◌, ℕ, true, false, [], ◌∷◌, replicate, slice_index, Some, None, refl}
 use Rattle.nfs_model.specs.Tree.{Layout, VolumeLayout, Aggregate, Volume, Logical, Stripe, Range}
 use Rattle.affinity_tree.specs.Fault.{fault_of}
+use Rattle.affinity_tree.specs.Largest.{largest_of}
 use Rattle.affinity_tree.specs.Tree.{is_above, parent_of}
 use Rattle.affinity_tree.specs.Numbers.{node_count, number_of, parents}
 
@@ -53,7 +54,7 @@ volume_on_second_aggregate = refl
 it_breaks_no_rule : fault_of two_volumes ≡ None
 it_breaks_no_rule = refl
 
-largest_breaks_no_rule : fault_of (eight_volumes 8) ≡ None
+largest_breaks_no_rule : fault_of (eight_volumes 16) ≡ None
 largest_breaks_no_rule = refl
 
 unknown_aggregate_before_bad_ranges : fault_of (record { spare = 129 ∷ []; volumes = volume_on 0 17 8 ∷ volume_on 1 1 8 ∷ [] }) ≡ Some 53
@@ -61,3 +62,34 @@ unknown_aggregate_before_bad_ranges = refl
 
 bad_ranges_before_spare_ones : fault_of (record { spare = 129 ∷ []; volumes = volume_on 0 0 8 ∷ [] }) ≡ Some 54
 bad_ranges_before_spare_ones = refl
+
+abbrev one_volume : ℕ → ℕ → Layout
+one_volume stripes mebibytes = record { spare = 128 ∷ []; volumes = record { aggregate = 0; ranges = 16; stripes = stripes; mebibytes = mebibytes } ∷ [] }
+
+spare_ones_before_stripes : fault_of (record { spare = 129 ∷ []; volumes = volume_on 0 16 9 ∷ [] }) ≡ Some 55
+spare_ones_before_stripes = refl
+
+stripes_before_the_largest_file : fault_of (one_volume 12 17) ≡ Some 56
+stripes_before_the_largest_file = refl
+
+files_of_32_mebibytes : fault_of (one_volume 16 32) ≡ Some 57
+files_of_32_mebibytes = refl
+
+files_of_64_mebibytes : fault_of (one_volume 8 64) ≡ None
+files_of_64_mebibytes = refl
+
+their_largest_size : largest_of (one_volume 8 64) 0 ≡ 67108864
+their_largest_size = refl
+
+the_ordinary_largest_size : largest_of (one_volume 8 16) 0 ≡ 16777216
+the_ordinary_largest_size = refl
+
+-- an ordinary volume before one of 16 stripes
+abbrev mixed : Layout
+mixed = record { spare = 0 ∷ []; volumes = volume_on 0 1 8 ∷ volume_on 0 1 16 ∷ volume_on 0 1 8 ∷ [] }
+
+third_volume_after_16_stripes : number_of mixed (Volume 2) ≡ 65
+third_volume_after_16_stripes = refl
+
+parent_of_the_sixteenth_stripe : slice_index (parents mixed) (number_of mixed (Stripe 1 15)) ≡ number_of mixed (Logical 1)
+parent_of_the_sixteenth_stripe = refl

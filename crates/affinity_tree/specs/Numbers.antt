@@ -1,5 +1,5 @@
 -- The nodes of a layout by number: a parent has a smaller number than its children, and 0 is no node's.
-use Rattle.std.specs.Prelude.{◌≡◌, ℕ, zero, suc, ◌+◌, ◌<◌, List, [], ◌∷◌, ◌++◌, length, replicate, slice_index, Option, Some, None}
+use Rattle.std.specs.Prelude.{ℕ, zero, suc, ◌+◌, List, [], ◌∷◌, ◌++◌, length, replicate, Option, Some, None}
 use Rattle.nfs_model.specs.Tree.{Layout, VolumeLayout, Affinity, Serial, Aggregate, Volume, Logical, Stripe, Vbn, Range, stripes_of}
 
 -- a volume's nodes: itself, Logical, its stripes, Vbn and 16 ranges
@@ -46,8 +46,3 @@ parents_from first (v ∷ vs) = volume_parents first v ++ parents_from (first + 
 -- the tree as a list: by each node's number the number of its parent; 0 at Serial, which has none, and at 0, which is no node's
 abbrev pub parents : Layout → List ℕ
 parents layout = 0 ∷ 0 ∷ (replicate (length layout.spare) 1 ++ parents_from (2 + length layout.spare) layout.volumes)
-
--- f lists the numbers above each number, the nearest first, where each number's parent is in the list
-pub record ListsAbove (parents : List ℕ) (f : ℕ → List ℕ) : Type 0 where
-  pub root : (n : ℕ) → slice_index parents n ≡ 0 → f n ≡ []
-  pub child : (n p : ℕ) → 0 < n → 0 < p → slice_index parents n ≡ p → f n ≡ p ∷ f p

@@ -33,7 +33,8 @@ pub enum Kind {
     Range,
 }
 
-/// What is of one kind of node.
+/// A type whose values are each of one kind of node, as a machine's parcels are.
 pub trait HasKind {
+    // The kind of the nodes that may have it.
     ghost kind: { Self → Kind };
 }

@@ -18,6 +18,10 @@ pub enum LayoutFault {
     RangeCount,
     /// An aggregate has more than 128 spare ranges.
     SpareRanges,
+    /// A volume has neither 8 nor 16 stripes.
+    StripeCount,
+    /// The largest files of a volume have neither 16 nor 64 mebibytes.
+    FileLimit,
     /// Memory ran out.
     NoMemory,
 }
@@ -43,6 +47,8 @@ impl LayoutFault {
             LayoutFault::UnknownAggregate => 53,
             LayoutFault::RangeCount => 54,
             LayoutFault::SpareRanges => 55,
+            LayoutFault::StripeCount => 56,
+            LayoutFault::FileLimit => 57,
             LayoutFault::NoMemory => 90,
         }
     }

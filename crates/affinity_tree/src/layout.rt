@@ -6,11 +6,11 @@ ghost use Rattle.affinity_tree.specs.Fault.{fault_of};
 
 use crate::fault::LayoutFault;
 use crate::rules::check;
-use crate::specification::{AggregateSpec, VolumeSpec};
+use crate::specification::{AggregateSpec, MIB, STRIPES, VolumeSpec};
 use std::alloc::Global;
 
-/// The stripes of a volume.
-const STRIPES: u32 = 8;
+/// The bytes of a mebibyte.
+const MEBIBYTE: u64 = 1_048_576;
 
 /// The aggregates and volumes of a run, fixed for as long as it lasts.
 #[derive(Debug, Drop)]
@@ -25,18 +25,20 @@ impl Layout {
     ghost use Rattle.nfs_model.specs.Tree.{aggregate_of, stripes_of};
     ghost use Rattle.affinity_tree.specs.Specification.{spare_of, volume_of};
     ghost use Rattle.affinity_tree.specs.Fault.{rule_broken};
+    ghost use Rattle.affinity_tree.specs.Largest.{largest_of, mebibytes_in};
     ghost use Rattle.affinity_tree.specs.Layout.{layout_of};
 
-    /// A layout of these aggregates and volumes, each with 8 stripes. It is refused for the first
-    /// rule that it breaks.
+    /// A layout of these aggregates and volumes. It is refused for the first rule that it breaks.
     pub fn new(
         alloc: Global,
         aggregates: &[AggregateSpec],
         volumes: &[VolumeSpec],
     ) -> Result<Layout, LayoutFault>
-        ensures ok { IfOk result (λ layout. layout_of layout ≡ layout_in aggregates.now volumes.now) }
+        ensures ok { IfOk result (λ layout.
+            layout_of layout ≡ layout_in aggregates.now volumes.now) }
         ensures lawful { OnOk result (fault_of (layout_in aggregates.now volumes.now) ≡ None) }
-        ensures err { IfErr result (λ fault. rule_broken fault ≡ fault_of (layout_in aggregates.now volumes.now)) }
+        ensures err { IfErr result (λ fault.
+            rule_broken fault ≡ fault_of (layout_in aggregates.now volumes.now)) }
     {
         check(aggregates, volumes)?;
         Ok(Layout {
@@ -76,10 +78,11 @@ impl Layout {
     }
 
     /// The aggregate of a volume; 0 for a volume that isn't there.
-    #[tactic(auto, using(crate::proofs::Lawful::aggregate_known))]
+    #[tactic(auto, using(crate::specs::lemmas::Lawful::aggregate_known))]
     pub fn aggregate_of(&self, volume: u32) -> u32
         ensures aggregate { result ≡ aggregate_of (layout_of self.now) volume }
-        ensures known { volume < length (layout_of self.now).volumes → result < length (layout_of self.now).spare }
+        ensures known { volume < length (layout_of self.now).volumes
+            → result < length (layout_of self.now).spare }
     {
         match self.volume(volume) {
             Some(specification) => specification.aggregate,
@@ -87,13 +90,37 @@ impl Layout {
         }
     }
 
-    /// The number of stripes of a volume.
+    /// How many stripes a volume has, 8 or 16; 8 for a volume that isn't there.
     pub fn stripes_of(&self, volume: u32) -> u32
         ensures stripes { result ≡ stripes_of (layout_of self.now) volume }
         ensures some { 0 < result }
         ensures most { result ≤ 16 }
     {
-        let _ = self.volume(volume);
-        STRIPES
+        match self.volume(volume) {
+            Some(specification) => specification.stripes,
+            None => STRIPES,
+        }
+    }
+
+    /// The largest size of a volume's files in bytes, 16 or 64 mebibytes; 16 for a volume that
+    /// isn't there.
+    pub fn largest_of(&self, volume: u32) -> u64
+        ensures largest { result ≡ largest_of (layout_of self.now) volume }
+        ensures some { 0 < result }
+        ensures most { result ≤ 67108864 }
+    {
+        MEBIBYTE * u64::from(self.mebibytes_of(volume))
+    }
+
+    /// The mebibytes of a volume's largest files.
+    fn mebibytes_of(&self, volume: u32) -> u32
+        ensures mebibytes { result ≡ mebibytes_in (slice_get (layout_of self.now).volumes volume) }
+        ensures some { 0 < result }
+        ensures most { result ≤ 64 }
+    {
+        match self.volume(volume) {
+            Some(specification) => specification.mib,
+            None => MIB,
+        }
     }
 }

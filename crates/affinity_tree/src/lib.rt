@@ -1,5 +1,5 @@
-//! The tree of affinities: what a call runs on, which affinities exclude each other, and the layouts
-//! that a run may have.
+//! The tree of affinities: what a call runs on, which affinities exclude each other, and the
+//! layouts that a run may have.
 #![tactic(auto)]
 
 mod affinity;
@@ -18,4 +18,4 @@ pub use affinity::{Affinity, HasKind, Kind};
 pub use fault::LayoutFault;
 pub use layout::Layout;
 pub use rules::{MOST_AGGREGATES, MOST_RANGES, MOST_SPARE, MOST_VOLUMES};
-pub use specification::{AggregateSpec, VolumeSpec};
+pub use specification::{AggregateSpec, MIB, MOST_MIB, MOST_STRIPES, STRIPES, VolumeSpec};

@@ -9,12 +9,10 @@ ghost use Rattle.affinity_tree.specs.Tree.{IsNode};
 
 use crate::affinity::Affinity;
 use crate::layout::Layout;
+use crate::rules::MOST_RANGES;
 
-/// The ranges of a volume's part of the tree, in use or not.
-const RANGES: u32 = 16;
-
-/// The nodes of a volume.
-const VOLUME_NODES: usize = 27;
+/// A volume's nodes beside its stripes: itself, its names, its block numbers and their ranges.
+const OTHER_NODES: usize = 3 + MOST_RANGES as usize;
 
 impl Layout {
     fn has_volume(&self, volume: u32) -> bool
@@ -36,32 +34,41 @@ impl Layout {
                 self.has_volume(volume) && stripe < self.stripes_of(volume)
             }
             Affinity::VolumeVbn(volume) => self.has_volume(volume),
-            Affinity::Range { volume, range } => self.has_volume(volume) && range < RANGES,
+            Affinity::Range { volume, range } => self.has_volume(volume) && range < MOST_RANGES,
         }
     }
 
     /// How many nodes there are: they have the numbers from 1 to this one.
-    #[tactic(auto, using(crate::proofs::Places::nodes_before_even))]
     pub fn node_count(&self) -> usize
         ensures count { result ≡ node_count (layout_of self.now) }
-        ensures most { result ≤ 219 }
+        ensures most { result ≤ 283 }
     {
-        1 + self.aggregate_count() + VOLUME_NODES * self.volume_count()
+        self.volume_number(self.volume_count()) - 1
+    }
+
+    /// How many nodes a volume has.
+    fn volume_nodes(&self, volume: u32) -> usize
+        ensures nodes { result ≡ 19 + stripes_of (layout_of self.now) volume }
+        ensures most { result ≤ 35 }
+    {
+        OTHER_NODES + self.stripes_of(volume) as usize
     }
 
     /// The number of a volume's own node; past the last volume, the first number that is no node's.
-    #[tactic(auto, using(crate::proofs::Places::nodes_before_even))]
     fn volume_number(&self, volume: usize) -> usize
         requires { volume ≤ length (layout_of self.now).volumes }
         ensures number { result ≡ volume_number (layout_of self.now) volume }
-        ensures places { result ≡ 2 + length (layout_of self.now).spare + 27 * volume }
-        ensures most { result ≤ 220 }
+        ensures most { result ≤ 284 }
     {
-        2 + self.aggregate_count() + VOLUME_NODES * volume
+        let mut number = 2 + self.aggregate_count();
+        for earlier in 0..volume {
+            number += self.volume_nodes(earlier as u32);
+        }
+        number
     }
 
     /// The number of a node. A parent has a smaller number than its children.
-    #[tactic(auto, using(crate::proofs::Places::number_within))]
+    #[tactic(auto, using(crate::specs::lemmas::Places::number_within))]
     pub fn number_of(&self, affinity: Affinity) -> usize
         requires { IsNode (layout_of self.now) (affinity_of affinity) }
         ensures number { result ≡ number_of (layout_of self.now) (affinity_of affinity) }
@@ -93,7 +100,8 @@ impl Layout {
         requires there { volume < length (layout_of self.now).volumes }
         requires place { place < 19 + stripes_of (layout_of self.now) volume }
         ensures node { IsNode (layout_of self.now) (affinity_of result) }
-        ensures number { number_of (layout_of self.now) (affinity_of result) ≡ volume_number (layout_of self.now) volume + place }
+        ensures number { number_of (layout_of self.now) (affinity_of result)
+            ≡ volume_number (layout_of self.now) volume + place }
     {
         let stripes = self.stripes_of(volume) as usize;
         if place == 0 {
@@ -131,8 +139,15 @@ impl Layout {
         if number < first {
             return Affinity::Aggregate((number - 2) as u32);
         }
-        let volume = (number - first) / VOLUME_NODES;
-        self.node_in_volume(volume as u32, (number - first) % VOLUME_NODES)
+        let mut place = number - first;
+        for volume in 0..self.volume_count() as u32 {
+            let nodes = self.volume_nodes(volume);
+            if place < nodes {
+                return self.node_in_volume(volume, place);
+            }
+            place -= nodes;
+        }
+        unreachable!()
     }
 
     /// The number of a node's parent; 0 for the root, which has none.

@@ -5,7 +5,8 @@ ghost use Rattle.nfs_model.specs.Tree as trees;
 ghost use Rattle.nfs_model.specs.Tree.{excludes};
 ghost use Rattle.affinity_tree.specs.Affinity.{affinity_of, kind_of};
 ghost use Rattle.affinity_tree.specs.Layout.{layout_of};
-ghost use Rattle.affinity_tree.specs.Tree.{IsNode, IsParent, covers, is_above, parent_of, volume_in};
+ghost use Rattle.affinity_tree.specs.Tree.{IsNode, IsParent};
+ghost use Rattle.affinity_tree.specs.Tree.{covers, is_above, parent_of, volume_in};
 ghost use Rattle.affinity_tree.specs.Under.{ShareParcel};
 
 use crate::affinity::{Affinity, Kind};
@@ -29,10 +30,13 @@ impl Affinity {
 
     /// The next affinity towards the root, which has none.
     pub fn parent(self, layout: &Layout) -> Option<Affinity>
-        ensures parent { option_map affinity_of result ≡ parent_of (layout_of layout.now) (affinity_of self) }
-        ensures way { IfSome result (λ p. IsParent (layout_of layout.now) (affinity_of p) (affinity_of self)) }
+        ensures parent { option_map affinity_of result
+            ≡ parent_of (layout_of layout.now) (affinity_of self) }
+        ensures way { IfSome result (λ p.
+            IsParent (layout_of layout.now) (affinity_of p) (affinity_of self)) }
         ensures root { IsNone result ↔ (self ≡ Affinity.Serial) }
-        ensures node { IsNode (layout_of layout.now) (affinity_of self) → IfSome result (λ p. IsNode (layout_of layout.now) (affinity_of p)) }
+        ensures node { IsNode (layout_of layout.now) (affinity_of self)
+            → IfSome result (λ p. IsNode (layout_of layout.now) (affinity_of p)) }
     {
         match self {
             Affinity::Serial => None,
@@ -61,7 +65,8 @@ impl Affinity {
 
     /// Whether an aggregate is this one or above it.
     fn is_in_aggregate(self, aggregate: u32, layout: &Layout) -> bool
-        ensures { result ≡ covers (layout_of layout.now) (trees.Aggregate aggregate) (affinity_of self) }
+        ensures { result
+            ≡ covers (layout_of layout.now) (trees.Aggregate aggregate) (affinity_of self) }
     {
         match self {
             Affinity::Serial => false,
@@ -101,12 +106,15 @@ impl Affinity {
         self.covers(other, layout) && !other.covers(self, layout)
     }
 
-    /// Whether it is another or one of the two is above the other: just then a parcel is under both.
+    /// Whether it is another or one of the two is above the other: just then a parcel is under
+    /// both.
     pub fn excludes(self, other: Affinity, layout: &Layout) -> bool
-        ensures excludes { result ≡ excludes (layout_of layout.now) (affinity_of self) (affinity_of other) }
+        ensures excludes { result
+            ≡ excludes (layout_of layout.now) (affinity_of self) (affinity_of other) }
         ensures shared { IsNode (layout_of layout.now) (affinity_of self)
             → IsNode (layout_of layout.now) (affinity_of other)
-            → (IsTrue result ↔ ShareParcel (layout_of layout.now) (affinity_of self) (affinity_of other)) }
+            → (IsTrue result
+            ↔ ShareParcel (layout_of layout.now) (affinity_of self) (affinity_of other)) }
     {
         self.meets(other, layout)
     }

@@ -6,6 +6,8 @@ use Rattle.std.specs.List.{AllByRecursion}
 use Rattle.nfs_model.specs.Tree.{Layout}
 use Rattle.nfs_model.specs.Home.{home}
 use Rattle.nfs_values.specs.Call.{call_of}
+use Rattle.rpc_msg.specs.Room.{reply_room}
+use Rattle.nfs_model.specs.ReadOnly.{IsReading}
 use Rattle.affinity_tree.specs.Affinity.{affinity_of}
 use Rattle.affinity_tree.specs.Layout.{layout_of}
 use Rattle.rpc_record.specs.Machine.{State, Outcome, More, Made, Fault, outcome}
@@ -20,7 +22,7 @@ use Rattle.engine.specs.declared.message.Running.{Running}
 use Rattle.engine.specs.declared.parcel.VolumeLogical.{VolumeLogical}
 use Rattle.engine.specs.declared.state.State as states
 use Rattle.engine.specs.Numbers.{fault_number}
-use Rattle.engine.specs.Seen.{heard_of, tried}
+use Rattle.engine.specs.Seen.{heard_of}
 use Rattle.engine.specs.Streams.{scan_stream, IsQuiet, Completes}
 
 -- What was read of a connection is in step with its stream.
@@ -93,10 +95,11 @@ count_open (Some c) = 1
 abbrev pub opened : states.State → ℕ
 opened s = vec_len s.past + count_open s.current
 
--- A message tries the home of its call, keeps room for its reply, and is of one of the connections that were opened.
+-- A message tries the home of its call, keeps the room of its reply, and is of one of the connections that were opened.
 pub record IsPlaced (layout : Layout) (connections : ℕ) (m : Message) : Type 0 where
-  pub at_home : affinity_of m.affinity ≡ tried (home layout (call_of m.call))
-  pub room : 116 ≤ m.room
+  pub served : IsReading (call_of m.call)
+  pub at_home : home layout (call_of m.call) ≡ Some (affinity_of m.affinity)
+  pub room : m.room ≡ reply_room (length layout.volumes) (call_of m.call)
   pub known : m.origin.connection < connections
 
 pub record IsSound (s : states.State) : Type 0 where

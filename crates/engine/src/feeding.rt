@@ -23,6 +23,7 @@ use crate::work::answer_at_once;
 use affinity::home_of;
 use nfs_laws::laws::{feeds_are_walks, without_home_stays};
 use nfs_values::{Moment, Reply};
+use rpc_msg::room_of_reply;
 use rpc_record::Look;
 use std::alloc::AllocError;
 
@@ -94,16 +95,17 @@ fn admit(state: &mut State, number: usize, heard: Heard)
             );
         }
         Request::Call { call, credential } => match home_of(call.as_call(), &state.layout) {
-            Some(affinity) => wait(
-                state,
-                Message {
+            Some(affinity) => {
+                let room = room_of_reply(call.as_call(), state.layout.volume_count() as u32);
+                let message = Message {
                     origin,
                     call,
                     credential,
                     affinity,
-                    room: REPLY_LIMIT,
-                },
-            ),
+                    room,
+                };
+                wait(state, message);
+            }
             None => {
                 without_home_stays();
                 respond(state, origin, &Reply::Success(answer_at_once(&call)));

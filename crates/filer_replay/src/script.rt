@@ -156,7 +156,7 @@ impl<'a> Script<'a> {
                 }
                 Line::Volume { aggregate, ranges }
                     if is_volume(&aggregates, &volumes, aggregate, ranges) => {
-                    let specification = VolumeSpec { aggregate, ranges };
+                    let specification = VolumeSpec::new(aggregate, ranges);
                     volumes
                         .push(specification)
                         .map_err(|_full| Fault::NoMemory)?;

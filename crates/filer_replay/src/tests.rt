@@ -311,10 +311,7 @@ fn lists_of_events_are_played(rt: HostRuntime) -> Result<(), Fail> {
         return Err("a reply in bad hex".into());
     };
     let aggregate = AggregateSpec { spare: 1 };
-    let volume = VolumeSpec {
-        aggregate: 0,
-        ranges: 1,
-    };
+    let volume = VolumeSpec::new(0, 1);
     let layout = Layout::new(alloc, &[aggregate], &[volume]).map_err(|_fault| "fault")?;
     let fed = Event::Feed {
         connection: 0,

@@ -19,7 +19,8 @@ module _ {T : Type 0} where
   weaker (Some x) Q Z over h = over x h
 
   -- what is allowed on one shelf is so on another
-  pub allowed-over : (s : ℕ → Option T) (Q Z : ℕ → T → Type 0) → ((k : ℕ) (x : T) → Q k x → Z k x) → ((k : ℕ) → IfSome (s k) (Q k)) → (k : ℕ) → IfSome (s k) (Z k)
+  pub allowed-over : (s : ℕ → Option T) (Q Z : ℕ → T → Type 0) → ((k : ℕ) (x : T) → Q k x → Z k x) → ((k : ℕ) → IfSome (s k) (Q k)) → (k : ℕ)
+      → IfSome (s k) (Z k)
   allowed-over s Q Z over h k = weaker (s k) (Q k) (Z k) (over k) (h k)
 
   pub allowed-alone : (Q : ℕ → T → Type 0) (n : ℕ) (x : T) → ((k : ℕ) → IfSome (alone n x k) (Q k)) → Q n x
@@ -28,14 +29,16 @@ module _ {T : Type 0} where
   pub allowed-first : (Q : ℕ → T → Type 0) (s t : ℕ → Option T) → ((k : ℕ) → IfSome (or_else (s k) (t k)) (Q k)) → (k : ℕ) → IfSome (s k) (Q k)
   allowed-first Q s t h k = first (s k) (t k) (Q k) (h k)
 
-  pub allowed-second : (Q : ℕ → T → Type 0) (s t : ℕ → Option T) → ((k : ℕ) → (s k ≡ None) ⊎ (t k ≡ None)) → ((k : ℕ) → IfSome (or_else (s k) (t k)) (Q k)) → (k : ℕ) → IfSome (t k) (Q k)
+  pub allowed-second : (Q : ℕ → T → Type 0) (s t : ℕ → Option T) → ((k : ℕ) → (s k ≡ None) ⊎ (t k ≡ None))
+      → ((k : ℕ) → IfSome (or_else (s k) (t k)) (Q k)) → (k : ℕ) → IfSome (t k) (Q k)
   allowed-second Q s t apart h k = second (s k) (t k) (Q k) (apart k) (h k)
 
   -- a node's own parcel stands before the others
   pub allowed-own : (Q : ℕ → T → Type 0) (n : ℕ) (x : T) (t : ℕ → Option T) → ((k : ℕ) → IfSome (or_else (alone n x k) (t k)) (Q k)) → Q n x
   allowed-own Q n x t h = allowed-alone Q n x (allowed-first Q (alone n x) t h)
 
-  pub allowed-rest : (Q : ℕ → T → Type 0) (n : ℕ) (x : T) (t : ℕ → Option T) → t n ≡ None → ((k : ℕ) → IfSome (or_else (alone n x k) (t k)) (Q k)) → (k : ℕ) → IfSome (t k) (Q k)
+  pub allowed-rest : (Q : ℕ → T → Type 0) (n : ℕ) (x : T) (t : ℕ → Option T) → t n ≡ None → ((k : ℕ) → IfSome (or_else (alone n x k) (t k)) (Q k))
+      → (k : ℕ) → IfSome (t k) (Q k)
   allowed-rest Q n x t none h =
       allowed-second Q (alone n x) t
       (λ k. ⊎_elim
@@ -71,6 +74,7 @@ module _ {T H : Type 0} (p : ℕ → H → ℕ → Option T) where
 
 -- what is allowed of a place is so of what was taken from it, and on a later shelf
 pub allowed-taken : {T H : Type 0} (f : H → ℕ → Option T) (Q Z : ℕ → T → Type 0) (o : Option (Option H)) (place : Option H) → o ≡ Some place
-    → ((k : ℕ) (x : T) → Q k x → Z k x) → ((k : ℕ) → IfSome (in_place (λ held. f held k) o) (Q k)) → (k : ℕ) → IfSome (in_place (λ held. f held k) (Some place)) (Z k)
+    → ((k : ℕ) (x : T) → Q k x → Z k x) → ((k : ℕ) → IfSome (in_place (λ held. f held k) o) (Q k)) → (k : ℕ)
+    → IfSome (in_place (λ held. f held k) (Some place)) (Z k)
 allowed-taken f Q Z o place e over h k =
     subst (λ o. IfSome (in_place (λ held. f held k) o) (Z k)) e (weaker (in_place (λ held. f held k) o) (Q k) (Z k) (over k) (h k))

@@ -4,9 +4,9 @@ use Rattle.std.proofs.lemmas.Bool.{and_parts, eqb-true}
 use Rattle.nfs_model.specs.Tree.{Layout, Affinity, Serial, Aggregate, Volume, Logical, Stripe, Vbn, Range, stripes_of, aggregate_of, begins}
 use Rattle.affinity_tree.specs.Tree.{IsNode, covers}
 use Rattle.affinity_tree.specs.Numbers.{number_of}
-use Rattle.affinity_tree.proofs.Sharing.{covers_from}
-pub use Rattle.parcel_sets.specs.Within.{range-from, stripe-from, vbn-from, logical-from, volume-from, aggregate-from, serial-from}
-use Rattle.parcel_sets.specs.Below.{OnLogical, OnVbn, OnVolume, OnAggregate, OnSerial}
+use Rattle.affinity_tree.specs.lemmas.Sharing.{covers_from}
+pub use Rattle.parcel_sets.specs.lemmas.Within.{range-from, stripe-from, vbn-from, logical-from, volume-from, aggregate-from, serial-from}
+use Rattle.parcel_sets.specs.lemmas.Below.{OnLogical, OnVbn, OnVolume, OnAggregate, OnSerial}
 use Rattle.parcel_sets.specs.Exact.{Under, HasParcel, IsVacant, HasExactly, kind_in}
 use Rattle.parcel_sets.specs.Moved.{Moved}
 use Rattle.parcel_sets.specs.Sets.{range_parcels, stripe_parcels, vbn_parcels, logical_parcels, volume_parcels, aggregate_parcels, serial_parcels}
@@ -39,7 +39,8 @@ module _ (layout : Layout) (Q : Affinity → Type 0) (v : ℕ) where
   volume-to_covered on Serial node h = absurd (let no : false ≡ true = h in cc)
   volume-to_covered on (Aggregate a) node h = absurd (too_short (aggregate_of layout v) v a [] h)
   volume-to_covered on (Volume w) node h = subst (λ n. Q (Volume n)) (second (aggregate_of layout v) (aggregate_of layout w) v w [] [] h).0 on.own
-  volume-to_covered on (Logical w) node h = subst (λ n. Q (Logical n)) (second (aggregate_of layout v) (aggregate_of layout w) v w [] (0 ∷ []) h).0 on.logical.own
+  volume-to_covered on (Logical w) node h = subst (λ n. Q (Logical n)) (second (aggregate_of layout v) (aggregate_of layout w) v w [] (0 ∷ []) h).0
+      on.logical.own
   volume-to_covered on (Stripe w i) node h =
       let same : v ≡ w = (second (aggregate_of layout v) (aggregate_of layout w) v w [] (0 ∷ i ∷ []) h).0 in
       subst (λ n. Q (Stripe n i)) same (on.logical.stripes i (subst (λ n. i < stripes_of layout n) (sym same) node.1))
@@ -55,12 +56,15 @@ module _ (layout : Layout) (Q : Affinity → Type 0) (v : ℕ) where
   logical-to_covered on Serial node h = absurd (let no : false ≡ true = h in cc)
   logical-to_covered on (Aggregate a) node h = absurd (too_short (aggregate_of layout v) v a (0 ∷ []) h)
   logical-to_covered on (Volume w) node h = absurd (let no : false ≡ true = (second (aggregate_of layout v) (aggregate_of layout w) v w (0 ∷ []) [] h).1 in cc)
-  logical-to_covered on (Logical w) node h = subst (λ n. Q (Logical n)) (second (aggregate_of layout v) (aggregate_of layout w) v w (0 ∷ []) (0 ∷ []) h).0 on.own
+  logical-to_covered on (Logical w) node h = subst (λ n. Q (Logical n))
+      (second (aggregate_of layout v) (aggregate_of layout w) v w (0 ∷ []) (0 ∷ []) h).0 on.own
   logical-to_covered on (Stripe w i) node h =
       let same : v ≡ w = (second (aggregate_of layout v) (aggregate_of layout w) v w (0 ∷ []) (0 ∷ i ∷ []) h).0 in
       subst (λ n. Q (Stripe n i)) same (on.stripes i (subst (λ n. i < stripes_of layout n) (sym same) node.1))
-  logical-to_covered on (Vbn w) node h = absurd (let no : false ≡ true = (second (aggregate_of layout v) (aggregate_of layout w) v w (0 ∷ []) (1 ∷ []) h).1 in cc)
-  logical-to_covered on (Range w r) node h = absurd (let no : false ≡ true = (second (aggregate_of layout v) (aggregate_of layout w) v w (0 ∷ []) (1 ∷ r ∷ []) h).1 in cc)
+  logical-to_covered on (Vbn w) node h = absurd
+      (let no : false ≡ true = (second (aggregate_of layout v) (aggregate_of layout w) v w (0 ∷ []) (1 ∷ []) h).1 in cc)
+  logical-to_covered on (Range w r) node h = absurd
+      (let no : false ≡ true = (second (aggregate_of layout v) (aggregate_of layout w) v w (0 ∷ []) (1 ∷ r ∷ []) h).1 in cc)
 
   pub logical-to : OnLogical layout Q v → Under layout (Logical v) Q
   logical-to on b under = logical-to_covered on b under.0 (covers_from layout (Logical v) b under.1)
@@ -69,8 +73,10 @@ module _ (layout : Layout) (Q : Affinity → Type 0) (v : ℕ) where
   vbn-to_covered on Serial node h = absurd (let no : false ≡ true = h in cc)
   vbn-to_covered on (Aggregate a) node h = absurd (too_short (aggregate_of layout v) v a (1 ∷ []) h)
   vbn-to_covered on (Volume w) node h = absurd (let no : false ≡ true = (second (aggregate_of layout v) (aggregate_of layout w) v w (1 ∷ []) [] h).1 in cc)
-  vbn-to_covered on (Logical w) node h = absurd (let no : false ≡ true = (second (aggregate_of layout v) (aggregate_of layout w) v w (1 ∷ []) (0 ∷ []) h).1 in cc)
-  vbn-to_covered on (Stripe w i) node h = absurd (let no : false ≡ true = (second (aggregate_of layout v) (aggregate_of layout w) v w (1 ∷ []) (0 ∷ i ∷ []) h).1 in cc)
+  vbn-to_covered on (Logical w) node h = absurd
+      (let no : false ≡ true = (second (aggregate_of layout v) (aggregate_of layout w) v w (1 ∷ []) (0 ∷ []) h).1 in cc)
+  vbn-to_covered on (Stripe w i) node h = absurd
+      (let no : false ≡ true = (second (aggregate_of layout v) (aggregate_of layout w) v w (1 ∷ []) (0 ∷ i ∷ []) h).1 in cc)
   vbn-to_covered on (Vbn w) node h = subst (λ n. Q (Vbn n)) (second (aggregate_of layout v) (aggregate_of layout w) v w (1 ∷ []) (1 ∷ []) h).0 on.own
   vbn-to_covered on (Range w r) node h =
       subst (λ n. Q (Range n r)) (second (aggregate_of layout v) (aggregate_of layout w) v w (1 ∷ []) (1 ∷ r ∷ []) h).0 (on.ranges r node.1)
@@ -81,10 +87,14 @@ module _ (layout : Layout) (Q : Affinity → Type 0) (v : ℕ) where
 range-to_covered : (layout : Layout) (Q : Affinity → Type 0) (v r : ℕ) → Q (Range v r) → (b : Affinity) → covers layout (Range v r) b ≡ true → Q b
 range-to_covered layout Q v r q Serial h = absurd (let no : false ≡ true = h in cc)
 range-to_covered layout Q v r q (Aggregate a) h = absurd (too_short (aggregate_of layout v) v a (1 ∷ r ∷ []) h)
-range-to_covered layout Q v r q (Volume w) h = absurd (let no : false ≡ true = (second (aggregate_of layout v) (aggregate_of layout w) v w (1 ∷ r ∷ []) [] h).1 in cc)
-range-to_covered layout Q v r q (Logical w) h = absurd (let no : false ≡ true = (second (aggregate_of layout v) (aggregate_of layout w) v w (1 ∷ r ∷ []) (0 ∷ []) h).1 in cc)
-range-to_covered layout Q v r q (Stripe w i) h = absurd (let no : false ≡ true = (second (aggregate_of layout v) (aggregate_of layout w) v w (1 ∷ r ∷ []) (0 ∷ i ∷ []) h).1 in cc)
-range-to_covered layout Q v r q (Vbn w) h = absurd (let no : false ≡ true = (second (aggregate_of layout v) (aggregate_of layout w) v w (1 ∷ r ∷ []) (1 ∷ []) h).1 in cc)
+range-to_covered layout Q v r q (Volume w) h = absurd
+    (let no : false ≡ true = (second (aggregate_of layout v) (aggregate_of layout w) v w (1 ∷ r ∷ []) [] h).1 in cc)
+range-to_covered layout Q v r q (Logical w) h = absurd
+    (let no : false ≡ true = (second (aggregate_of layout v) (aggregate_of layout w) v w (1 ∷ r ∷ []) (0 ∷ []) h).1 in cc)
+range-to_covered layout Q v r q (Stripe w i) h = absurd
+    (let no : false ≡ true = (second (aggregate_of layout v) (aggregate_of layout w) v w (1 ∷ r ∷ []) (0 ∷ i ∷ []) h).1 in cc)
+range-to_covered layout Q v r q (Vbn w) h = absurd
+    (let no : false ≡ true = (second (aggregate_of layout v) (aggregate_of layout w) v w (1 ∷ r ∷ []) (1 ∷ []) h).1 in cc)
 range-to_covered layout Q v r q (Range w s) h =
     let both = second (aggregate_of layout v) (aggregate_of layout w) v w (1 ∷ r ∷ []) (1 ∷ s ∷ []) h in
     subst (λ n. Q (Range w n)) (sym (first_step r s [] both.1)) (subst (λ n. Q (Range n r)) both.0 q)
@@ -92,13 +102,17 @@ range-to_covered layout Q v r q (Range w s) h =
 stripe-to_covered : (layout : Layout) (Q : Affinity → Type 0) (v i : ℕ) → Q (Stripe v i) → (b : Affinity) → covers layout (Stripe v i) b ≡ true → Q b
 stripe-to_covered layout Q v i q Serial h = absurd (let no : false ≡ true = h in cc)
 stripe-to_covered layout Q v i q (Aggregate a) h = absurd (too_short (aggregate_of layout v) v a (0 ∷ i ∷ []) h)
-stripe-to_covered layout Q v i q (Volume w) h = absurd (let no : false ≡ true = (second (aggregate_of layout v) (aggregate_of layout w) v w (0 ∷ i ∷ []) [] h).1 in cc)
-stripe-to_covered layout Q v i q (Logical w) h = absurd (let no : false ≡ true = (second (aggregate_of layout v) (aggregate_of layout w) v w (0 ∷ i ∷ []) (0 ∷ []) h).1 in cc)
+stripe-to_covered layout Q v i q (Volume w) h = absurd
+    (let no : false ≡ true = (second (aggregate_of layout v) (aggregate_of layout w) v w (0 ∷ i ∷ []) [] h).1 in cc)
+stripe-to_covered layout Q v i q (Logical w) h = absurd
+    (let no : false ≡ true = (second (aggregate_of layout v) (aggregate_of layout w) v w (0 ∷ i ∷ []) (0 ∷ []) h).1 in cc)
 stripe-to_covered layout Q v i q (Stripe w j) h =
     let both = second (aggregate_of layout v) (aggregate_of layout w) v w (0 ∷ i ∷ []) (0 ∷ j ∷ []) h in
     subst (λ n. Q (Stripe w n)) (sym (first_step i j [] both.1)) (subst (λ n. Q (Stripe n i)) both.0 q)
-stripe-to_covered layout Q v i q (Vbn w) h = absurd (let no : false ≡ true = (second (aggregate_of layout v) (aggregate_of layout w) v w (0 ∷ i ∷ []) (1 ∷ []) h).1 in cc)
-stripe-to_covered layout Q v i q (Range w r) h = absurd (let no : false ≡ true = (second (aggregate_of layout v) (aggregate_of layout w) v w (0 ∷ i ∷ []) (1 ∷ r ∷ []) h).1 in cc)
+stripe-to_covered layout Q v i q (Vbn w) h = absurd
+    (let no : false ≡ true = (second (aggregate_of layout v) (aggregate_of layout w) v w (0 ∷ i ∷ []) (1 ∷ []) h).1 in cc)
+stripe-to_covered layout Q v i q (Range w r) h = absurd
+    (let no : false ≡ true = (second (aggregate_of layout v) (aggregate_of layout w) v w (0 ∷ i ∷ []) (1 ∷ r ∷ []) h).1 in cc)
 
 pub range-to : (layout : Layout) (Q : Affinity → Type 0) (v r : ℕ) → Q (Range v r) → Under layout (Range v r) Q
 range-to layout Q v r q b under = range-to_covered layout Q v r q b (covers_from layout (Range v r) b under.1)
@@ -140,7 +154,8 @@ taken-there a (Some y) b x e d m = sym m.0 ∙ e
 
 module _ {P R B S L V A X : Type 0} (layout : Layout) (f s g : ℕ → Option (Parcel P R B S L V A X)) (moved : (k : ℕ) → Moved (f k) (s k) (g k)) where
   has-taken : (b : Affinity) → HasParcel layout f b → IsVacant layout g b → HasParcel layout s b
-  has-taken b has gone = (has.0, taken-there (f (number_of layout b)) (s (number_of layout b)) (g (number_of layout b)) has.0 has.1 gone (moved (number_of layout b)), has.2)
+  has-taken b has gone =
+      (has.0, taken-there (f (number_of layout b)) (s (number_of layout b)) (g (number_of layout b)) has.0 has.1 gone (moved (number_of layout b)), has.2)
 
   logical-taken : (v : ℕ) → OnLogical layout (HasParcel layout f) v → OnLogical layout (IsVacant layout g) v → OnLogical layout (HasParcel layout s) v
   logical-taken v has gone = record {
@@ -177,36 +192,47 @@ module _ {P R B S L V A X : Type 0} (layout : Layout) (f g : ℕ → Option (Par
   pub range-exact : (v r : ℕ) → IsNode layout (Range v r) → (held : RangeHeld P R B S L V A X) → HasParcel layout f (Range v r) → IsVacant layout g (Range v r)
       → ((k : ℕ) → Moved (f k) (range_parcels layout (Range v r) held k) (g k)) → HasExactly kind_in layout (Range v r) (range_parcels layout (Range v r) held)
   range-exact v r there held has gone moved = record {
-    each = range-to layout (HasParcel layout (range_parcels layout (Range v r) held)) v r (has-taken layout f (range_parcels layout (Range v r) held) g moved (Range v r) has gone);
+    each = range-to layout (HasParcel layout (range_parcels layout (Range v r) held)) v r
+        (has-taken layout f (range_parcels layout (Range v r) held) g moved (Range v r) has gone);
     no_other = λ k under. range-none layout k v r held (range-from layout (λ b. k ≢ number_of layout b) v r there under);
   }
 
-  pub stripe-exact : (v i : ℕ) → IsNode layout (Stripe v i) → (held : StripeHeld P R B S L V A X) → HasParcel layout f (Stripe v i) → IsVacant layout g (Stripe v i)
-      → ((k : ℕ) → Moved (f k) (stripe_parcels layout (Stripe v i) held k) (g k)) → HasExactly kind_in layout (Stripe v i) (stripe_parcels layout (Stripe v i) held)
+  pub stripe-exact : (v i : ℕ) → IsNode layout (Stripe v i) → (held : StripeHeld P R B S L V A X) → HasParcel layout f (Stripe v i)
+      → IsVacant layout g (Stripe v i)
+      → ((k : ℕ) → Moved (f k) (stripe_parcels layout (Stripe v i) held k) (g k))
+      → HasExactly kind_in layout (Stripe v i) (stripe_parcels layout (Stripe v i) held)
   stripe-exact v i there held has gone moved = record {
-    each = stripe-to layout (HasParcel layout (stripe_parcels layout (Stripe v i) held)) v i (has-taken layout f (stripe_parcels layout (Stripe v i) held) g moved (Stripe v i) has gone);
+    each = stripe-to layout (HasParcel layout (stripe_parcels layout (Stripe v i) held)) v i
+        (has-taken layout f (stripe_parcels layout (Stripe v i) held) g moved (Stripe v i) has gone);
     no_other = λ k under. stripe-none layout k v i held (stripe-from layout (λ b. k ≢ number_of layout b) v i there under);
   }
 
-  pub aggregate-exact : (a : ℕ) → a < length layout.spare → (held : AggrHeld P R B S L V A X) → OnAggregate layout (HasParcel layout f) a → OnAggregate layout (IsVacant layout g) a
-      → ((k : ℕ) → Moved (f k) (aggregate_parcels layout (Aggregate a) held k) (g k)) → HasExactly kind_in layout (Aggregate a) (aggregate_parcels layout (Aggregate a) held)
+  pub aggregate-exact : (a : ℕ) → a < length layout.spare → (held : AggrHeld P R B S L V A X) → OnAggregate layout (HasParcel layout f) a
+      → OnAggregate layout (IsVacant layout g) a
+      → ((k : ℕ) → Moved (f k) (aggregate_parcels layout (Aggregate a) held k) (g k))
+      → HasExactly kind_in layout (Aggregate a) (aggregate_parcels layout (Aggregate a) held)
   aggregate-exact a there held has gone moved = record {
-    each = aggregate-to layout (HasParcel layout (aggregate_parcels layout (Aggregate a) held)) a (aggregate-taken layout f (aggregate_parcels layout (Aggregate a) held) g moved a has gone);
+    each = aggregate-to layout (HasParcel layout (aggregate_parcels layout (Aggregate a) held)) a
+        (aggregate-taken layout f (aggregate_parcels layout (Aggregate a) held) g moved a has gone);
     no_other = λ k under. aggregate-none layout k a held (aggregate-from layout (λ b. k ≢ number_of layout b) a there under);
   }
 
-  pub serial-exact : ((v : ℕ) → v < length layout.volumes → aggregate_of layout v < length layout.spare) → (held : SerialHeld P R B S L V A X) → OnSerial layout (HasParcel layout f) → OnSerial layout (IsVacant layout g)
+  pub serial-exact : ((v : ℕ) → v < length layout.volumes → aggregate_of layout v < length layout.spare) → (held : SerialHeld P R B S L V A X)
+      → OnSerial layout (HasParcel layout f) → OnSerial layout (IsVacant layout g)
       → ((k : ℕ) → Moved (f k) (serial_parcels layout Serial held k) (g k)) → HasExactly kind_in layout Serial (serial_parcels layout Serial held)
   serial-exact known held has gone moved = record {
-    each = serial-to layout (HasParcel layout (serial_parcels layout Serial held)) known (serial-taken layout f (serial_parcels layout Serial held) g moved has gone);
+    each = serial-to layout (HasParcel layout (serial_parcels layout Serial held)) known
+        (serial-taken layout f (serial_parcels layout Serial held) g moved has gone);
     no_other = λ k under. serial-none layout k held (serial-from layout (λ b. k ≢ number_of layout b) under);
   }
 
 module _ {P R B S L V A X : Type 0} (layout : Layout) (v : ℕ) (there : v < length layout.volumes) (f g : ℕ → Option (Parcel P R B S L V A X)) where
   pub logical-exact : (held : LogicalHeld P R B S L V A X) → OnLogical layout (HasParcel layout f) v → OnLogical layout (IsVacant layout g) v
-      → ((k : ℕ) → Moved (f k) (logical_parcels layout (Logical v) held k) (g k)) → HasExactly kind_in layout (Logical v) (logical_parcels layout (Logical v) held)
+      → ((k : ℕ) → Moved (f k) (logical_parcels layout (Logical v) held k) (g k))
+      → HasExactly kind_in layout (Logical v) (logical_parcels layout (Logical v) held)
   logical-exact held has gone moved = record {
-    each = logical-to layout (HasParcel layout (logical_parcels layout (Logical v) held)) v (logical-taken layout f (logical_parcels layout (Logical v) held) g moved v has gone);
+    each = logical-to layout (HasParcel layout (logical_parcels layout (Logical v) held)) v
+        (logical-taken layout f (logical_parcels layout (Logical v) held) g moved v has gone);
     no_other = λ k under. logical-none layout k v held (logical-from layout (λ b. k ≢ number_of layout b) v there under);
   }
 
@@ -220,6 +246,7 @@ module _ {P R B S L V A X : Type 0} (layout : Layout) (v : ℕ) (there : v < len
   pub volume-exact : (held : VolumeHeld P R B S L V A X) → OnVolume layout (HasParcel layout f) v → OnVolume layout (IsVacant layout g) v
       → ((k : ℕ) → Moved (f k) (volume_parcels layout (Volume v) held k) (g k)) → HasExactly kind_in layout (Volume v) (volume_parcels layout (Volume v) held)
   volume-exact held has gone moved = record {
-    each = volume-to layout (HasParcel layout (volume_parcels layout (Volume v) held)) v (volume-taken layout f (volume_parcels layout (Volume v) held) g moved v has gone);
+    each = volume-to layout (HasParcel layout (volume_parcels layout (Volume v) held)) v
+        (volume-taken layout f (volume_parcels layout (Volume v) held) g moved v has gone);
     no_other = λ k under. volume-none layout k v held (volume-from layout (λ b. k ≢ number_of layout b) v there under);
   }

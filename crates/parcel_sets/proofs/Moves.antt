@@ -57,10 +57,12 @@ module _ {T : Type 0} where
     moved-none xs f k = refl
 
 -- a parcel was taken at a number, told in two ways
-pub taken-at : {T : Type 0} (f g : ℕ → Option T) (n m : ℕ) (x : T) → n ≡ m → f n ≡ Some x → g n ≡ None → ((k : ℕ) → k ≢ n → g k ≡ f k) → (k : ℕ) → Moved (f k) (alone m x k) (g k)
+pub taken-at : {T : Type 0} (f g : ℕ → Option T) (n m : ℕ) (x : T) → n ≡ m → f n ≡ Some x → g n ≡ None → ((k : ℕ) → k ≢ n → g k ≡ f k) → (k : ℕ)
+    → Moved (f k) (alone m x k) (g k)
 taken-at f g n m x e there gone others k = subst (λ j. Moved (f k) (alone j x k) (g k)) e (moved-alone f g n x there gone others k)
 
-pub given-at : {T : Type 0} (f g : ℕ → Option T) (n m : ℕ) (x : T) → n ≡ m → f m ≡ None → g n ≡ Some x → ((k : ℕ) → k ≢ n → g k ≡ f k) → (k : ℕ) → Moved (g k) (alone m x k) (f k)
+pub given-at : {T : Type 0} (f g : ℕ → Option T) (n m : ℕ) (x : T) → n ≡ m → f m ≡ None → g n ≡ Some x → ((k : ℕ) → k ≢ n → g k ≡ f k) → (k : ℕ)
+    → Moved (g k) (alone m x k) (f k)
 given-at f g n m x e vacant there others k = subst (λ j. Moved (g k) (alone j x k) (f k)) e (given-alone f g n x (ap f e ∙ vacant) there others k)
 
 module _ {T : Type 0} (f g h : ℕ → Option T) (s t : ℕ → Option T) where
@@ -82,8 +84,10 @@ module _ {T H : Type 0} (u : ℕ → Bool) (p : ℕ → H → ℕ → Option T) 
   gathered-step xs ys i place f g h there others before step k =
       subst (λ o. Moved (f k) o (h k))
       (sym (in_places-any u (λ j held. p j held k) ys i place there
-      ∙ ap (λ o. or_else o (if u i then in_place (λ held. p i held k) (Some place) else None)) (in_places-same u (λ j held. p j held k) xs ys i (λ j l. others j (λ (same : j ≡ i). let no : ⊥ = omega arith in no)))))
-      (moved-both (f k) (in_places u (λ j held. p j held k) xs i) (g k) (if u i then in_place (λ held. p i held k) (Some place) else None) (h k) (before k) (step k))
+      ∙ ap (λ o. or_else o (if u i then in_place (λ held. p i held k) (Some place) else None))
+      (in_places-same u (λ j held. p j held k) xs ys i (λ j l. others j (λ (same : j ≡ i). let no : ⊥ = omega arith in no)))))
+      (moved-both (f k) (in_places u (λ j held. p j held k) xs i) (g k) (if u i then in_place (λ held. p i held k) (Some place) else None) (h k)
+      (before k) (step k))
 
   -- what is in a place more was given back, if the place is in use
   pub scattered-any : (xs : List (Option H)) (i : ℕ) (place : Option H) (f g h : ℕ → Option T)
@@ -93,4 +97,5 @@ module _ {T H : Type 0} (u : ℕ → Bool) (p : ℕ → H → ℕ → Option T) 
       → (k : ℕ) → Moved (h k) (in_places u (λ j held. p j held k) xs (i + 1)) (f k)
   scattered-any xs i place f g h there before step k =
       subst (λ o. Moved (h k) o (f k)) (sym (in_places-any u (λ j held. p j held k) xs i place there))
-      (given-both (f k) (in_places u (λ j held. p j held k) xs i) (g k) (if u i then in_place (λ held. p i held k) (Some place) else None) (h k) (before k) (step k))
+      (given-both (f k) (in_places u (λ j held. p j held k) xs i) (g k) (if u i then in_place (λ held. p i held k) (Some place) else None) (h k)
+      (before k) (step k))

@@ -28,5 +28,6 @@ module _ {P R B S L V A X : Type 0} where
   is_serial (Serial y) e n = n y refl
   is_serial _ e n = cc
 
-  pub has_kept : (layout : Layout) (f g : ℕ → Option (Parcel P R B S L V A X)) (node : Affinity) → g (number_of layout node) ≡ f (number_of layout node) → HasParcel layout f node → HasParcel layout g node
+  pub has_kept : (layout : Layout) (f g : ℕ → Option (Parcel P R B S L V A X)) (node : Affinity)
+      → g (number_of layout node) ≡ f (number_of layout node) → HasParcel layout f node → HasParcel layout g node
   has_kept layout f g node e has = (has.0, e ∙ has.1, has.2)

@@ -1,6 +1,7 @@
 -- The nodes below a node whose set has places for theirs. Only functions within the crate speak of them.
-use Rattle.std.specs.Prelude.{ℕ, ◌==◌, Bool, true, length}
+use Rattle.std.specs.Prelude.{◌≡◌, ℕ, ◌<◌, ◌==◌, Bool, true, List, Option, None, length, if◌then◌else◌}
 use Rattle.nfs_model.specs.Tree.{Layout, Affinity, Serial, Aggregate, Volume, Logical, Stripe, Vbn, Range, stripes_of, aggregate_of}
+use Rattle.parcel_sets.specs.Places.{in_place, in_places}
 
 -- the node of a place; a node without places has itself there
 abbrev pub child : Affinity → ℕ → Affinity
@@ -41,3 +42,16 @@ has_child layout (Logical v) i = true
 has_child layout (Stripe v j) i = true
 has_child layout (Vbn v) i = true
 has_child layout (Range v r) i = true
+
+-- a fact of the node of each place that is in use
+abbrev pub EachChild : Layout → Affinity → (Affinity → Type 0) → Type 0
+EachChild layout parent Q = (i : ℕ) → i < children layout parent → has_child layout parent i ≡ true → Q (child parent i)
+
+module _ {H T : Type 0} (parcels : Layout → Affinity → H → ℕ → Option T) (layout : Layout) (parent : Affinity) where
+  -- the parcels of the set in a place, if the place is in use
+  abbrev pub child_parcels : ℕ → Option (Option H) → ℕ → Option T
+  child_parcels i place k = if has_child layout parent i then in_place (λ held. parcels layout (child parent i) held k) place else None
+
+  -- the parcels of the sets in all places that are in use
+  abbrev pub children_parcels : List (Option H) → ℕ → Option T
+  children_parcels places k = in_places (λ i. has_child layout parent i) (λ i held. parcels layout (child parent i) held k) places (children layout parent)

@@ -37,5 +37,13 @@ module _ {T : Type 0} (kind : T → Kind) where
     pub each : Under layout affinity (IsPlaced layout f)
     pub no_other : (k : ℕ) → Under layout affinity (λ node. k ≢ number_of layout node) → f k ≡ None
 
+-- each node under an affinity has its parcel, of its kind
+abbrev pub AllPlaced : {T : Type 0} → (T → Kind) → Layout → Affinity → (ℕ → Option T) → Type 0
+AllPlaced kind layout affinity f = Under layout affinity (IsPlaced kind layout f)
+
+-- no node under an affinity has one
+abbrev pub AllVacant : {T : Type 0} → Layout → Affinity → (ℕ → Option T) → Type 0
+AllVacant layout affinity f = Under layout affinity (IsVacant layout f)
+
 abbrev pub HasParcel : {P R B S L V A X : Type 0} → Layout → (ℕ → Option (Parcel P R B S L V A X)) → Affinity → Type 0
 HasParcel layout f node = IsPlaced kind_in layout f node

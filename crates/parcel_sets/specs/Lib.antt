@@ -1,9 +1,8 @@
 pub mod Places
 pub mod Moved
 pub mod Sets
-pub mod Below
 pub mod Children
 pub mod Exact
+pub mod Filled
 pub mod NumberIn
-pub mod Nothing
-pub mod Within
+pub mod lemmas

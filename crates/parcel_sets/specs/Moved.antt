@@ -1,7 +1,15 @@
 -- What it is that a parcel moved.
-use Rattle.std.specs.Prelude.{◌≡◌, Option, Some, None}
+use Rattle.std.specs.Prelude.{◌≡◌, ℕ, Option, Some, None, IfSome}
 
 -- At one node: what is taken was there before and isn't there after; where nothing is taken all is as before. Read the other way round it is a giving.
 abbrev pub Moved : {T : Type 0} → Option T → Option T → Option T → Type 0
 Moved before (Some taken) after = (before ≡ Some taken) × (after ≡ None)
 Moved before None after = after ≡ before
+
+-- a set's parcels, by the numbers of their nodes, moved; and nothing else did
+abbrev pub AllMoved : {T : Type 0} → (ℕ → Option T) → (ℕ → Option T) → (ℕ → Option T) → Type 0
+AllMoved before taken after = (k : ℕ) → Moved (before k) (taken k) (after k)
+
+-- each parcel of a set may be given to its node
+abbrev pub AllAllowed : {T : Type 0} → (ℕ → T → Type 0) → (ℕ → Option T) → Type 0
+AllAllowed allows given = (k : ℕ) → IfSome (given k) (allows k)

@@ -47,7 +47,8 @@ module _ {P R B S L V A X : Type 0} where
   logical_parcels layout affinity held k =
       or_else
       (alone (number_of layout affinity) (Logical held.own) k)
-      (in_places (λ i. true) (λ i stripe. stripe_parcels layout (trees.Stripe (volume_of affinity) i) stripe k) held.stripes.at (stripes_of layout (volume_of affinity)))
+      (in_places (λ i. true) (λ i stripe. stripe_parcels layout (trees.Stripe (volume_of affinity) i) stripe k) held.stripes.at
+      (stripes_of layout (volume_of affinity)))
 
   unfoldable pub volume_parcels : Layout → Affinity → VolumeHeld P R B S L V A X → ℕ → Option (Parcel P R B S L V A X)
   volume_parcels layout affinity held k =
@@ -62,7 +63,8 @@ module _ {P R B S L V A X : Type 0} where
   aggregate_parcels layout affinity held k =
       or_else
       (alone (number_of layout affinity) (Aggregate held.own) k)
-      (in_places (λ v. aggregate_of layout v == aggregate_number affinity) (λ v volume. volume_parcels layout (trees.Volume v) volume k) held.volumes.at (length layout.volumes))
+      (in_places (λ v. aggregate_of layout v == aggregate_number affinity) (λ v volume. volume_parcels layout (trees.Volume v) volume k)
+      held.volumes.at (length layout.volumes))
 
   unfoldable pub serial_parcels : Layout → Affinity → SerialHeld P R B S L V A X → ℕ → Option (Parcel P R B S L V A X)
   serial_parcels layout affinity held k =

@@ -5,10 +5,7 @@ ghost use Rattle.affinity_tree.specs.Affinity.{affinity_of};
 ghost use Rattle.affinity_tree.specs.Layout.{layout_of};
 ghost use Rattle.parcel_sets.specs.Children.{child, children, has_child, most_children};
 
-use affinity_tree::{Affinity, Layout};
-
-/// The ranges of a volume, in use or not.
-const RANGES: u32 = 16;
+use affinity_tree::{Affinity, Layout, MOST_RANGES};
 
 /// The node of a place.
 pub(crate) fn child(parent: Affinity, index: u32) -> Affinity
@@ -42,7 +39,7 @@ pub(crate) fn child_count(layout: &Layout, parent: Affinity) -> u32
         Affinity::Volume(_) => 0,
         Affinity::VolumeLogical(volume) => layout.stripes_of(volume),
         Affinity::Stripe { .. } => 0,
-        Affinity::VolumeVbn(_) => RANGES,
+        Affinity::VolumeVbn(_) => MOST_RANGES,
         Affinity::Range { .. } => 0,
     }
 }

@@ -1,14 +1,15 @@
 //! Sets are put together from parcels that are taken from a shelf.
 
-ghost use Rattle.std.specs.Prelude.{◌≡◌, ◌<◌, ◌≤◌, ℕ, true, Some, None, if◌then◌else◌};
+ghost use Rattle.std.specs.Prelude.{◌≡◌, ◌≤◌, ℕ, true, Some};
 ghost use Rattle.affinity_tree.specs.Affinity.{affinity_of, kind_of};
 ghost use Rattle.affinity_tree.specs.Numbers.{number_of};
 ghost use Rattle.affinity_tree.specs.Tree.{IsNode};
 ghost use Rattle.affinity_tree.specs.Layout.{layout_of};
-ghost use Rattle.parcel_sets.specs.Children.{child, children, has_child, most_children};
-ghost use Rattle.parcel_sets.specs.Exact.{HasParcel, IsPlaced, IsVacant, Under, kind_in};
-ghost use Rattle.parcel_sets.specs.Moved.{Moved};
-ghost use Rattle.parcel_sets.specs.Places.{alone, in_place, in_places};
+ghost use Rattle.parcel_sets.specs.Children.{EachChild, child, has_child, most_children};
+ghost use Rattle.parcel_sets.specs.Children.{child_parcels, children_parcels};
+ghost use Rattle.parcel_sets.specs.Exact.{AllPlaced, AllVacant, HasParcel, kind_in};
+ghost use Rattle.parcel_sets.specs.Moved.{AllMoved};
+ghost use Rattle.parcel_sets.specs.Places.{alone};
 
 use crate::children::{child, child_count, has_child};
 use crate::family::{Family, Parcel};
@@ -26,7 +27,9 @@ pub(crate) fn take_parcel<P: Family, S: Shelf<Parcel<P>>>(
     requires node { IsNode (layout_of layout.now) (affinity_of affinity) }
     requires there { HasParcel (layout_of layout.now) (S.at shelf.old) (affinity_of affinity) }
     ensures kind { kind_in result ≡ kind_of (affinity_of affinity) }
-    ensures moved { (k : ℕ) → Moved (S.at shelf.old k) (alone (number_of (layout_of layout.now) (affinity_of affinity)) result k) (S.at shelf.new k) }
+    ensures moved { AllMoved (S.at shelf.old)
+        (alone (number_of (layout_of layout.now) (affinity_of affinity)) result)
+        (S.at shelf.new) }
     ensures kept { S.keeps shelf.old shelf.new }
 {
     shelf.take(layout.number_of(affinity))
@@ -40,9 +43,11 @@ pub(crate) fn gather_at<T: HasKind, K: Node<T>, S: Shelf<T>>(
 ) -> K::Held
     requires node { IsNode (layout_of layout.now) (affinity_of affinity) }
     requires kind { kind_of (affinity_of affinity) ≡ K.KIND }
-    requires there { Under (layout_of layout.now) (affinity_of affinity) (IsPlaced T.kind (layout_of layout.now) (S.at shelf.old)) }
-    ensures moved { (k : ℕ) → Moved (S.at shelf.old k) (K.parcels (layout_of layout.now) (affinity_of affinity) result k) (S.at shelf.new k) }
-    ensures gone { Under (layout_of layout.now) (affinity_of affinity) (IsVacant (layout_of layout.now) (S.at shelf.new)) }
+    requires there { AllPlaced T.kind (layout_of layout.now) (affinity_of affinity)
+        (S.at shelf.old) }
+    ensures moved { AllMoved (S.at shelf.old)
+        (K.parcels (layout_of layout.now) (affinity_of affinity) result) (S.at shelf.new) }
+    ensures gone { AllVacant (layout_of layout.now) (affinity_of affinity) (S.at shelf.new) }
     ensures kept { S.keeps shelf.old shelf.new }
 {
     K::gather(shelf, layout, affinity)
@@ -57,9 +62,14 @@ fn gather_child<T: HasKind, K: Node<T>, S: Shelf<T>>(
 ) -> Option<K::Held>
     requires node { IsNode (layout_of layout.now) (child (affinity_of parent) index) }
     requires kind { kind_of (child (affinity_of parent) index) ≡ K.KIND }
-    requires there { has_child (layout_of layout.now) (affinity_of parent) index ≡ true → Under (layout_of layout.now) (child (affinity_of parent) index) (IsPlaced T.kind (layout_of layout.now) (S.at shelf.old)) }
-    ensures moved { (k : ℕ) → Moved (S.at shelf.old k) (if has_child (layout_of layout.now) (affinity_of parent) index then in_place (λ held. K.parcels (layout_of layout.now) (child (affinity_of parent) index) held k) (Some result) else None) (S.at shelf.new k) }
-    ensures gone { has_child (layout_of layout.now) (affinity_of parent) index ≡ true → Under (layout_of layout.now) (child (affinity_of parent) index) (IsVacant (layout_of layout.now) (S.at shelf.new)) }
+    requires there { has_child (layout_of layout.now) (affinity_of parent) index ≡ true
+        → AllPlaced T.kind (layout_of layout.now) (child (affinity_of parent) index)
+        (S.at shelf.old) }
+    ensures moved { AllMoved (S.at shelf.old)
+        (child_parcels K.parcels (layout_of layout.now) (affinity_of parent) index (Some result))
+        (S.at shelf.new) }
+    ensures gone { has_child (layout_of layout.now) (affinity_of parent) index ≡ true
+        → AllVacant (layout_of layout.now) (child (affinity_of parent) index) (S.at shelf.new) }
     ensures kept { S.keeps shelf.old shelf.new }
 {
     if !has_child(layout, parent, index) {
@@ -78,9 +88,13 @@ pub(crate) fn gather_children<T: HasKind, K: Node<T>, C: Slots<K::Held>, S: Shel
     requires node { IsNode (layout_of layout.now) (affinity_of parent) }
     requires kind { (i : ℕ) → kind_of (child (affinity_of parent) i) ≡ K.KIND }
     requires room { most_children (affinity_of parent) ≤ C.room }
-    requires there { (i : ℕ) → i < children (layout_of layout.now) (affinity_of parent) → has_child (layout_of layout.now) (affinity_of parent) i ≡ true → Under (layout_of layout.now) (child (affinity_of parent) i) (IsPlaced T.kind (layout_of layout.now) (S.at shelf.old)) }
-    ensures moved { (k : ℕ) → Moved (S.at shelf.old k) (in_places (λ i. has_child (layout_of layout.now) (affinity_of parent) i) (λ i held. K.parcels (layout_of layout.now) (child (affinity_of parent) i) held k) (C.at places.new) (children (layout_of layout.now) (affinity_of parent))) (S.at shelf.new k) }
-    ensures gone { (i : ℕ) → i < children (layout_of layout.now) (affinity_of parent) → has_child (layout_of layout.now) (affinity_of parent) i ≡ true → Under (layout_of layout.now) (child (affinity_of parent) i) (IsVacant (layout_of layout.now) (S.at shelf.new)) }
+    requires there { EachChild (layout_of layout.now) (affinity_of parent)
+        (λ node. AllPlaced T.kind (layout_of layout.now) node (S.at shelf.old)) }
+    ensures moved { AllMoved (S.at shelf.old)
+        (children_parcels K.parcels (layout_of layout.now) (affinity_of parent) (C.at places.new))
+        (S.at shelf.new) }
+    ensures gone { EachChild (layout_of layout.now) (affinity_of parent)
+        (λ node. AllVacant (layout_of layout.now) node (S.at shelf.new)) }
     ensures kept { S.keeps shelf.old shelf.new }
 {
     for index in 0..child_count(layout, parent) {

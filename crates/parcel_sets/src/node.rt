@@ -1,14 +1,14 @@
 //! The kinds of node.
 
-ghost use Rattle.std.specs.Prelude.{◌≡◌, ◌≢◌, ℕ, Option, None, IfSome};
+ghost use Rattle.std.specs.Prelude.{◌≡◌, ◌≢◌, ℕ, Option, None};
 ghost use Rattle.nfs_model.specs.Tree as trees;
 ghost use Rattle.affinity_tree.specs.declared.affinity.Kind.{Kind};
 ghost use Rattle.affinity_tree.specs.Affinity.{affinity_of, kind_of};
 ghost use Rattle.affinity_tree.specs.Numbers.{number_of};
 ghost use Rattle.affinity_tree.specs.Tree.{IsNode};
 ghost use Rattle.affinity_tree.specs.Layout.{layout_of};
-ghost use Rattle.parcel_sets.specs.Exact.{kind_in, Under, HasExactly, IsPlaced, IsVacant};
-ghost use Rattle.parcel_sets.specs.Moved.{Moved};
+ghost use Rattle.parcel_sets.specs.Exact.{AllPlaced, AllVacant, HasExactly, Under, kind_in};
+ghost use Rattle.parcel_sets.specs.Moved.{AllAllowed, AllMoved};
 
 use crate::family::{Family, Parcel};
 use crate::shelf::Shelf;
@@ -31,23 +31,43 @@ pub trait Node<T: HasKind> {
     // The parcels of a set by the numbers of their nodes.
     ghost parcels: { trees.Layout → trees.Affinity → Self.Held → ℕ → Option T };
 
+    // The two sets have something in the same places, here and below.
+    ghost alike: { Self.Held → Self.Held → Type 0 };
+
     /// Puts a node's set together from a shelf. No memory is taken.
     fn gather<S: Shelf<T>>(shelf: &mut S, layout: &Layout, affinity: Affinity) -> Self::Held
         requires node { IsNode (layout_of layout.now) (affinity_of affinity) }
         requires kind { kind_of (affinity_of affinity) ≡ KIND }
-        requires there { Under (layout_of layout.now) (affinity_of affinity) (IsPlaced T.kind (layout_of layout.now) (S.at shelf.old)) }
-        ensures exact { HasExactly T.kind (layout_of layout.now) (affinity_of affinity) (parcels (layout_of layout.now) (affinity_of affinity) result) }
-        ensures moved { (k : ℕ) → Moved (S.at shelf.old k) (parcels (layout_of layout.now) (affinity_of affinity) result k) (S.at shelf.new k) }
+        requires there { AllPlaced T.kind (layout_of layout.now) (affinity_of affinity)
+            (S.at shelf.old) }
+        ensures exact { HasExactly T.kind (layout_of layout.now) (affinity_of affinity)
+            (parcels (layout_of layout.now) (affinity_of affinity) result) }
+        ensures moved { AllMoved (S.at shelf.old)
+            (parcels (layout_of layout.now) (affinity_of affinity) result) (S.at shelf.new) }
         ensures kept { S.keeps shelf.old shelf.new };
 
     /// Gives the parcels of a set back to a shelf, each at its node. No memory is taken.
     fn scatter<S: Shelf<T>>(shelf: &mut S, layout: &Layout, affinity: Affinity, held: Self::Held)
         requires node { IsNode (layout_of layout.now) (affinity_of affinity) }
         requires kind { kind_of (affinity_of affinity) ≡ KIND }
-        requires vacant { Under (layout_of layout.now) (affinity_of affinity) (IsVacant (layout_of layout.now) (S.at shelf.old)) }
-        requires allowed { (k : ℕ) → IfSome (parcels (layout_of layout.now) (affinity_of affinity) held k) (S.allows shelf.old k) }
-        ensures moved { (k : ℕ) → Moved (S.at shelf.new k) (parcels (layout_of layout.now) (affinity_of affinity) held k) (S.at shelf.old k) }
+        requires vacant { AllVacant (layout_of layout.now) (affinity_of affinity) (S.at shelf.old) }
+        requires allowed { AllAllowed (S.allows shelf.old)
+            (parcels (layout_of layout.now) (affinity_of affinity) held) }
+        ensures moved { AllMoved (S.at shelf.new)
+            (parcels (layout_of layout.now) (affinity_of affinity) held) (S.at shelf.old) }
         ensures kept { S.keeps shelf.old shelf.new };
+
+    // A set that has exactly the parcels under a node is of the node's kind.
+    ghost of_kind: { (layout : trees.Layout) (affinity : trees.Affinity) (held : Self.Held)
+        → IsNode layout affinity
+        → HasExactly T.kind layout affinity (parcels layout affinity held)
+        → kind_of affinity ≡ KIND };
+
+    // It still has exactly those once its parcels have changed and its places haven't.
+    ghost stays_exact: { (layout : trees.Layout) (affinity : trees.Affinity) (old new : Self.Held)
+        → alike old new
+        → HasExactly T.kind layout affinity (parcels layout affinity old)
+        → HasExactly T.kind layout affinity (parcels layout affinity new) };
 
     // A set has no parcel of another node.
     ghost within: { (layout : trees.Layout) (affinity : trees.Affinity) (held : Self.Held) (k : ℕ)

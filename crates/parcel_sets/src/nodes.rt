@@ -1,8 +1,19 @@
 //! A type for each kind of node.
 
 ghost use Rattle.affinity_tree.specs.declared.affinity.Kind.TheVariants as kinds;
-ghost use Rattle.parcel_sets.specs.Sets.{range_parcels, vbn_parcels, stripe_parcels, logical_parcels, volume_parcels, aggregate_parcels, serial_parcels};
-ghost use Rattle.parcel_sets.specs.Within.{range-within, vbn-within, stripe-within, logical-within, volume-within, aggregate-within, serial-within};
+ghost use Rattle.parcel_sets.specs.Sets.{range_parcels, vbn_parcels, stripe_parcels};
+ghost use Rattle.parcel_sets.specs.Sets.{logical_parcels, volume_parcels};
+ghost use Rattle.parcel_sets.specs.Sets.{aggregate_parcels, serial_parcels};
+ghost use Rattle.parcel_sets.specs.Filled.{range_alike, vbn_alike, stripe_alike, logical_alike};
+ghost use Rattle.parcel_sets.specs.Filled.{volume_alike, aggregate_alike, serial_alike};
+ghost use Rattle.parcel_sets.specs.lemmas.Sorts.{range-kind, vbn-kind, stripe-kind, logical-kind};
+ghost use Rattle.parcel_sets.specs.lemmas.Sorts.{volume-kind, aggregate-kind, serial-kind};
+ghost use Rattle.parcel_sets.specs.lemmas.Exactly.{range-exact, vbn-exact, stripe-exact};
+ghost use Rattle.parcel_sets.specs.lemmas.Exactly.{logical-exact, volume-exact};
+ghost use Rattle.parcel_sets.specs.lemmas.Exactly.{aggregate-exact, serial-exact};
+ghost use Rattle.parcel_sets.specs.lemmas.Within.{range-within, vbn-within, stripe-within};
+ghost use Rattle.parcel_sets.specs.lemmas.Within.{logical-within, volume-within};
+ghost use Rattle.parcel_sets.specs.lemmas.Within.{aggregate-within, serial-within};
 
 use crate::family::{Family, Parcel};
 use crate::gather::{gather_at, gather_children, take_parcel};
@@ -24,6 +35,8 @@ impl<P: Family> Node<Parcel<P>> for SerialNode {
     const KIND: Kind = Kind::Serial;
 
     ghost parcels = { serial_parcels };
+
+    ghost alike = { serial_alike };
 
     fn gather<S: Shelf<Parcel<P>>>(
         shelf: &mut S,
@@ -59,6 +72,10 @@ impl<P: Family> Node<Parcel<P>> for SerialNode {
         );
     }
 
+    ghost of_kind = { serial-kind };
+
+    ghost stays_exact = { serial-exact };
+
     ghost within = { serial-within };
 }
 
@@ -73,6 +90,8 @@ impl<P: Family> Node<Parcel<P>> for AggregateNode {
     const KIND: Kind = Kind::Aggregate;
 
     ghost parcels = { aggregate_parcels };
+
+    ghost alike = { aggregate_alike };
 
     fn gather<S: Shelf<Parcel<P>>>(
         shelf: &mut S,
@@ -120,6 +139,10 @@ impl<P: Family> Node<Parcel<P>> for AggregateNode {
         );
     }
 
+    ghost of_kind = { aggregate-kind };
+
+    ghost stays_exact = { aggregate-exact };
+
     ghost within = { aggregate-within };
 }
 
@@ -134,6 +157,8 @@ impl<P: Family> Node<Parcel<P>> for VolumeNode {
     const KIND: Kind = Kind::Volume;
 
     ghost parcels = { volume_parcels };
+
+    ghost alike = { volume_alike };
 
     fn gather<S: Shelf<Parcel<P>>>(
         shelf: &mut S,
@@ -175,6 +200,10 @@ impl<P: Family> Node<Parcel<P>> for VolumeNode {
         scatter_at::<Parcel<P>, VbnNode, S>(shelf, layout, Affinity::VolumeVbn(volume), vbn);
     }
 
+    ghost of_kind = { volume-kind };
+
+    ghost stays_exact = { volume-exact };
+
     ghost within = { volume-within };
 }
 
@@ -189,6 +218,8 @@ impl<P: Family> Node<Parcel<P>> for LogicalNode {
     const KIND: Kind = Kind::VolumeLogical;
 
     ghost parcels = { logical_parcels };
+
+    ghost alike = { logical_alike };
 
     fn gather<S: Shelf<Parcel<P>>>(
         shelf: &mut S,
@@ -236,6 +267,10 @@ impl<P: Family> Node<Parcel<P>> for LogicalNode {
         );
     }
 
+    ghost of_kind = { logical-kind };
+
+    ghost stays_exact = { logical-exact };
+
     ghost within = { logical-within };
 }
 
@@ -250,6 +285,8 @@ impl<P: Family> Node<Parcel<P>> for StripeNode {
     const KIND: Kind = Kind::Stripe;
 
     ghost parcels = { stripe_parcels };
+
+    ghost alike = { stripe_alike };
 
     fn gather<S: Shelf<Parcel<P>>>(
         shelf: &mut S,
@@ -283,6 +320,10 @@ impl<P: Family> Node<Parcel<P>> for StripeNode {
         );
     }
 
+    ghost of_kind = { stripe-kind };
+
+    ghost stays_exact = { stripe-exact };
+
     ghost within = { stripe-within };
 }
 
@@ -297,6 +338,8 @@ impl<P: Family> Node<Parcel<P>> for VbnNode {
     const KIND: Kind = Kind::VolumeVbn;
 
     ghost parcels = { vbn_parcels };
+
+    ghost alike = { vbn_alike };
 
     fn gather<S: Shelf<Parcel<P>>>(
         shelf: &mut S,
@@ -338,6 +381,10 @@ impl<P: Family> Node<Parcel<P>> for VbnNode {
         );
     }
 
+    ghost of_kind = { vbn-kind };
+
+    ghost stays_exact = { vbn-exact };
+
     ghost within = { vbn-within };
 }
 
@@ -352,6 +399,8 @@ impl<P: Family> Node<Parcel<P>> for RangeNode {
     const KIND: Kind = Kind::Range;
 
     ghost parcels = { range_parcels };
+
+    ghost alike = { range_alike };
 
     fn gather<S: Shelf<Parcel<P>>>(
         shelf: &mut S,
@@ -384,6 +433,10 @@ impl<P: Family> Node<Parcel<P>> for RangeNode {
             Parcel::Range(held.own),
         );
     }
+
+    ghost of_kind = { range-kind };
+
+    ghost stays_exact = { range-exact };
 
     ghost within = { range-within };
 }

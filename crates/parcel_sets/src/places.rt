@@ -8,36 +8,6 @@ pub struct Places<T, const N: usize> {
     pub at: [Option<T>; N],
 }
 
-impl<T: Drop, const N: usize> Places<T, N> {
-    /// Puts a value into a place.
-    pub fn put(&mut self, place: usize, value: T)
-        requires { place < N }
-        ensures there { slice_get self.new.at place ≡ Some (Some value) }
-        ensures others { (i : ℕ) → i ≢ place → slice_get self.new.at i ≡ slice_get self.old.at i }
-    {
-        self.at[place] = Some(value);
-    }
-
-    /// Puts a value into a place, or nothing.
-    pub fn set(&mut self, place: usize, value: Option<T>)
-        requires { place < N }
-        ensures there { slice_get self.new.at place ≡ Some value }
-        ensures others { (i : ℕ) → i ≢ place → slice_get self.new.at i ≡ slice_get self.old.at i }
-    {
-        self.at[place] = value;
-    }
-
-    /// Takes what is in a place.
-    pub fn take(&mut self, place: usize) -> Option<T>
-        requires { place < N }
-        ensures taken { slice_get self.old.at place ≡ Some result }
-        ensures left { slice_get self.new.at place ≡ Some None }
-        ensures others { (i : ℕ) → i ≢ place → slice_get self.new.at i ≡ slice_get self.old.at i }
-    {
-        self.at[place].take()
-    }
-}
-
 /// Places by number, of any type, so that what goes over them is proved without their size.
 pub(crate) trait Slots<H> {
     ghost room: { ℕ };
@@ -49,13 +19,15 @@ pub(crate) trait Slots<H> {
     fn fill(&mut self, place: usize, value: Option<H>)
         requires { place < room }
         ensures there { slice_get (at self.new) place ≡ Some value }
-        ensures others { (i : ℕ) → i ≢ place → slice_get (at self.new) i ≡ slice_get (at self.old) i };
+        ensures others { (i : ℕ) → i ≢ place
+            → slice_get (at self.new) i ≡ slice_get (at self.old) i };
 
     /// Takes what is in a place.
     fn empty(&mut self, place: usize) -> Option<H>
         requires { place < room }
         ensures taken { slice_get (at self.old) place ≡ Some result }
-        ensures others { (i : ℕ) → i ≢ place → slice_get (at self.new) i ≡ slice_get (at self.old) i };
+        ensures others { (i : ℕ) → i ≢ place
+            → slice_get (at self.new) i ≡ slice_get (at self.old) i };
 }
 
 impl<H: Drop, const N: usize> Slots<H> for Places<H, N> {

@@ -34,5 +34,8 @@ pub trait Shelf<T> {
 
     ghost keeps_on: { (s t u : Self) → keeps s t → keeps t u → keeps s u };
 
-    ghost keeps_allowing: { (s t : Self) (node : ℕ) (parcel : T) → keeps s t → allows s node parcel → allows t node parcel };
+    ghost keeps_allowing: { (s t : Self) (node : ℕ) (parcel : T)
+        → keeps s t
+        → allows s node parcel
+        → allows t node parcel };
 }

@@ -1,5 +1,5 @@
-use Rattle.affinity_tree.proofs.Sharing.{shares_from, excludes_from}
-use Rattle.affinity_tree.proofs.Chains.{excludes-cases, excludes_by}
+use Rattle.affinity_tree.specs.lemmas.Sharing.{shares_from, excludes_from}
+use Rattle.affinity_tree.specs.lemmas.Chains.{excludes-cases, excludes_by}
 use Rattle.affinity_tree.proofs.laws.exclusion_is_sharing.Goals as goal
 
 pub returns-clause-above : goal.returns-clause-above

@@ -1,5 +1,5 @@
-use Rattle.affinity_tree.proofs.Places.{number_positive, number_within}
-use Rattle.affinity_tree.proofs.Numbered.{own_number, some_node}
+use Rattle.affinity_tree.specs.lemmas.Places.{number_positive, number_within}
+use Rattle.affinity_tree.specs.lemmas.Numbered.{own_number, some_node}
 use Rattle.affinity_tree.proofs.laws.numbers_are_their_own.Goals as goal
 
 pub returns-clause-within : goal.returns-clause-within

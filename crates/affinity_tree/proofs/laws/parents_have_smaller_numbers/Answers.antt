@@ -1,5 +1,5 @@
-use Rattle.affinity_tree.proofs.Parents.{parent_at}
-use Rattle.affinity_tree.proofs.Smaller.{length-parents, parent_smaller}
+use Rattle.affinity_tree.specs.lemmas.Parents.{parent_at}
+use Rattle.affinity_tree.specs.lemmas.Smaller.{length-parents, parent_smaller}
 use Rattle.affinity_tree.proofs.laws.parents_have_smaller_numbers.Goals as goal
 
 pub returns-clause-size : goal.returns-clause-size

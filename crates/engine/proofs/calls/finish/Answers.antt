@@ -8,7 +8,7 @@ use Rattle.nfs_model.specs.Events.Refusals as events
 use Rattle.nfs_model.specs.Events.Step.{stamped, without_call, finished_call}
 use Rattle.nfs_values.specs.Answer.{answer_of}
 use Rattle.affinity_tree.specs.Layout.{layout_of}
-use Rattle.engine.specs.Seen.{world, setup_in, running_of, outcome_of}
+use Rattle.engine.specs.Seen.{tried, world, setup_in, running_of, outcome_of}
 use Rattle.affinity_tree.specs.Affinity.{affinity_of}
 use Rattle.engine.specs.Sound.{opened}
 use Rattle.engine.proofs.Rooms.{placed-running, release-unseen}
@@ -27,7 +27,7 @@ returns-clause-events c =
     let reply : types.Reply = types.Success (answer_of answer) in
     let written = world c.respond-count.new.state in
     let released = release-unseen r.message.origin.connection r.message.room c.respond-count.new.state c.release.new.state c.release.ensures in
-    let home = (placed-running layout (opened s) s.running r c.requires.running some).at_home in
+    let home = sym (ap tried (placed-running layout (opened s) s.running r c.requires.running some).at_home) in
     let kept = c.keep_entry.ensures.kept
     ∙ ap (λ (v : worlds.World). record v { finished = v.finished ++ record (finished_call (running_of layout r) false) { affinity = Some (affinity_of r.message.affinity) } ∷ [] }) released
     ∙ ap (λ (a : trees.Affinity). record written { finished = written.finished ++ record (finished_call (running_of layout r) false) { affinity = Some a } ∷ [] }) home in

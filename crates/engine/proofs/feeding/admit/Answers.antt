@@ -1,5 +1,6 @@
-use Rattle.std.proofs.Common.{◌≡◌, ℕ, None, refl, sym, ap, subst, ◌∙◌}
-use Rattle.std.specs.Prelude.{option_map}
+use Rattle.std.proofs.Common.{◌≡◌, ℕ, None, sym, ap, subst, ◌∙◌}
+use Rattle.std.specs.Prelude.{length, option_map}
+use Rattle.rpc_msg.specs.Room.{reply_room}
 use Rattle.nfs_model.specs.Home.{home, home_of_asked}
 use Rattle.nfs_model.specs.Events.Feed as feeds
 use Rattle.nfs_model.specs.Serial.AtOnce.{answer_without_home}
@@ -8,7 +9,7 @@ use Rattle.nfs_values.specs.Answer.{answer_of}
 use Rattle.nfs_values.specs.Call.{call_of}
 use Rattle.nfs_values.specs.Credential.{credential_of}
 use Rattle.engine.specs.declared.message.Request.{Request}
-use Rattle.engine.specs.Seen.{asked_of, tried, setup_in, world}
+use Rattle.engine.specs.Seen.{asked_of, setup_in, world}
 use Rattle.affinity_tree.specs.Affinity.{affinity_of}
 use Rattle.affinity_tree.specs.Layout.{layout_of}
 use Rattle.engine.proofs.Admitting.{at-once, entries-same}
@@ -33,4 +34,6 @@ pub returns-in-Some-clause-sound : goal.returns-in-Some-clause-sound
 returns-in-Some-clause-sound c =
     let layout = layout_of c.args.state.now.layout in
     let at_home = ap (λ (k : Call). home layout (call_of k)) (sym c.as_call.ensures.value) ∙ sym c.home_of.ensures.home ∙ ap (option_map affinity_of) c.in-Some.is in
-    waits-sound c.args.state.now c.wait.new.state _ c.wait.ensures.waits c.requires.sound c.requires.room c.requires.places c.requires.connected c.len.ensures refl (sym (ap tried at_home))
+    let size = c.room_of_reply-room.ensures.room ∙ ap (λ (n : ℕ). reply_room n (call_of c.as_call-in-Some.result.now)) c.volume_count.ensures.count
+    ∙ ap (λ (k : Call). reply_room (length layout.volumes) (call_of k)) c.as_call-in-Some.ensures.value in
+    waits-sound c.args.state.now c.wait.new.state _ c.wait.ensures.waits c.requires.sound c.requires.room c.requires.places c.requires.connected c.len.ensures c.as_call.ensures.served size at_home

@@ -10,5 +10,6 @@ take-requires g c = (c.requires.there.0, ap (g.S.Shelf.at c.args.shelf.now) c.nu
 
 pub returns-clause-moved : goal.returns-clause-moved
 returns-clause-moved g c =
-    taken-at (g.S.Shelf.at c.args.shelf.now) (g.S.Shelf.at c.take.new.self) c.number_of.result (number_of (layout_of c.args.layout.now) (affinity_of c.args.affinity)) c.take.result
+    taken-at (g.S.Shelf.at c.args.shelf.now) (g.S.Shelf.at c.take.new.self) c.number_of.result
+    (number_of (layout_of c.args.layout.now) (affinity_of c.args.affinity)) c.take.result
     c.number_of.ensures.number c.take.ensures.there c.take.ensures.gone c.take.ensures.others

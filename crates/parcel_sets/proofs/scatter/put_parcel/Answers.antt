@@ -13,5 +13,6 @@ put-requires-clause-allowed g c = subst (λ n. g.S.Shelf.allows c.args.shelf.now
 
 pub returns-clause-moved : goal.returns-clause-moved
 returns-clause-moved g c =
-    given-at (g.S.Shelf.at c.args.shelf.now) (g.S.Shelf.at c.put.new.self) c.number_of.result (number_of (layout_of c.args.layout.now) (affinity_of c.args.affinity)) c.args.parcel
+    given-at (g.S.Shelf.at c.args.shelf.now) (g.S.Shelf.at c.put.new.self) c.number_of.result
+    (number_of (layout_of c.args.layout.now) (affinity_of c.args.affinity)) c.args.parcel
     c.number_of.ensures.number c.requires.vacant c.put.ensures.there c.put.ensures.others

@@ -1,6 +1,6 @@
 use Rattle.affinity_tree.specs.Affinity.{affinity_of}
 use Rattle.affinity_tree.specs.Layout.{layout_of}
-use Rattle.affinity_tree.proofs.Sharing.{tells}
+use Rattle.affinity_tree.specs.lemmas.Sharing.{tells}
 use Rattle.affinity_tree.proofs.affinity.Affinity.excludes.Goals as goal
 
 pub returns-clause-shared : goal.returns-clause-shared

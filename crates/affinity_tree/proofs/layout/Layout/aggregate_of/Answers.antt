@@ -1,7 +1,7 @@
 use Rattle.std.proofs.Common.{◌≡◌, ap, arith}
 use Rattle.nfs_model.specs.Tree.{aggregate_of, aggregate_in}
 use Rattle.affinity_tree.specs.Layout.{layout_of}
-use Rattle.affinity_tree.proofs.Lawful.{aggregate_known}
+use Rattle.affinity_tree.specs.lemmas.Lawful.{aggregate_known}
 use Rattle.affinity_tree.proofs.layout.Layout.aggregate_of.Goals as goal
 
 pub returns-in-Some-clause-known : goal.returns-in-Some-clause-known

@@ -2,7 +2,7 @@ use Rattle.std.proofs.Common.{◌∙◌, sym, ap, slice_index}
 use Rattle.affinity_tree.specs.Affinity.{affinity_of}
 use Rattle.affinity_tree.specs.Layout.{layout_of}
 use Rattle.affinity_tree.specs.Numbers.{number_or_none, parents}
-use Rattle.affinity_tree.proofs.Parents.{parent_at}
+use Rattle.affinity_tree.specs.lemmas.Parents.{parent_at}
 use Rattle.affinity_tree.proofs.layout.Layout.parent_number.Goals as goal
 
 pub returns-in-Some-clause-parent : goal.returns-in-Some-clause-parent

@@ -24,15 +24,21 @@ unreachable-requires-in_default-take_parcel g c =
 
 pub take_parcel-requires-clause-node : goal.take_parcel-requires-clause-node
 take_parcel-requires-clause-node g c =
-    at-node (layout_of c.args.layout.now) (affinity_of c.args.affinity) (trees.Aggregate c.in-Aggregate.aggregate) (ap affinity_of c.in-Aggregate.is) c.requires.node
+    at-node (layout_of c.args.layout.now) (affinity_of c.args.affinity) (trees.Aggregate c.in-Aggregate.aggregate) (ap affinity_of c.in-Aggregate.is)
+    c.requires.node
 
 pub take_parcel-requires-clause-there : goal.take_parcel-requires-clause-there
 take_parcel-requires-clause-there g c =
-    (aggregate-from (layout_of c.args.layout.now) (HasParcel (layout_of c.args.layout.now) (g.S.Shelf.at c.args.shelf.now)) c.in-Aggregate.aggregate (at-node (layout_of c.args.layout.now) (affinity_of c.args.affinity) (trees.Aggregate c.in-Aggregate.aggregate) (ap affinity_of c.in-Aggregate.is) c.requires.node) (at-under (layout_of c.args.layout.now) (affinity_of c.args.affinity) (trees.Aggregate c.in-Aggregate.aggregate) (ap affinity_of c.in-Aggregate.is) (HasParcel (layout_of c.args.layout.now) (g.S.Shelf.at c.args.shelf.now)) c.requires.there)).own
+    (aggregate-from (layout_of c.args.layout.now) (HasParcel (layout_of c.args.layout.now) (g.S.Shelf.at c.args.shelf.now)) c.in-Aggregate.aggregate
+    (at-node (layout_of c.args.layout.now) (affinity_of c.args.affinity) (trees.Aggregate c.in-Aggregate.aggregate)
+    (ap affinity_of c.in-Aggregate.is) c.requires.node)
+    (at-under (layout_of c.args.layout.now) (affinity_of c.args.affinity) (trees.Aggregate c.in-Aggregate.aggregate)
+    (ap affinity_of c.in-Aggregate.is) (HasParcel (layout_of c.args.layout.now) (g.S.Shelf.at c.args.shelf.now)) c.requires.there)).own
 
 pub gather_children-requires-clause-node : goal.gather_children-requires-clause-node
 gather_children-requires-clause-node g c =
-    at-node (layout_of c.args.layout.now) (affinity_of c.args.affinity) (trees.Aggregate c.in-Aggregate.aggregate) (ap affinity_of c.in-Aggregate.is) c.requires.node
+    at-node (layout_of c.args.layout.now) (affinity_of c.args.affinity) (trees.Aggregate c.in-Aggregate.aggregate) (ap affinity_of c.in-Aggregate.is)
+    c.requires.node
 
 pub gather_children-requires-clause-kind : goal.gather_children-requires-clause-kind
 gather_children-requires-clause-kind g c =
@@ -40,18 +46,40 @@ gather_children-requires-clause-kind g c =
 
 pub gather_children-requires-clause-there : goal.gather_children-requires-clause-there
 gather_children-requires-clause-there g c =
-    children-after (layout_of c.args.layout.now) (IsPlaced kind_in (layout_of c.args.layout.now)) (placed_kept kind_in (layout_of c.args.layout.now)) (g.S.Shelf.at c.args.shelf.now) (g.S.Shelf.at c.take_parcel.new.shelf) (trees.Aggregate c.in-Aggregate.aggregate) (at-node (layout_of c.args.layout.now) (affinity_of c.args.affinity) (trees.Aggregate c.in-Aggregate.aggregate) (ap affinity_of c.in-Aggregate.is) c.requires.node) (taken-others (g.S.Shelf.at c.args.shelf.now) (g.S.Shelf.at c.take_parcel.new.shelf) (number_of (layout_of c.args.layout.now) (trees.Aggregate c.in-Aggregate.aggregate)) (parcels.Aggregate c.in-Aggregate-take_parcel.own) c.in-Aggregate-take_parcel.ensures.moved) (at-under (layout_of c.args.layout.now) (affinity_of c.args.affinity) (trees.Aggregate c.in-Aggregate.aggregate) (ap affinity_of c.in-Aggregate.is) (IsPlaced kind_in (layout_of c.args.layout.now) (g.S.Shelf.at c.args.shelf.now)) c.requires.there)
+    children-after (layout_of c.args.layout.now) (IsPlaced kind_in (layout_of c.args.layout.now)) (placed_kept kind_in (layout_of c.args.layout.now))
+    (g.S.Shelf.at c.args.shelf.now) (g.S.Shelf.at c.take_parcel.new.shelf) (trees.Aggregate c.in-Aggregate.aggregate)
+    (at-node (layout_of c.args.layout.now) (affinity_of c.args.affinity) (trees.Aggregate c.in-Aggregate.aggregate)
+    (ap affinity_of c.in-Aggregate.is) c.requires.node)
+    (taken-others (g.S.Shelf.at c.args.shelf.now) (g.S.Shelf.at c.take_parcel.new.shelf)
+    (number_of (layout_of c.args.layout.now) (trees.Aggregate c.in-Aggregate.aggregate)) (parcels.Aggregate c.in-Aggregate-take_parcel.own)
+    c.in-Aggregate-take_parcel.ensures.moved)
+    (at-under (layout_of c.args.layout.now) (affinity_of c.args.affinity) (trees.Aggregate c.in-Aggregate.aggregate)
+    (ap affinity_of c.in-Aggregate.is) (IsPlaced kind_in (layout_of c.args.layout.now) (g.S.Shelf.at c.args.shelf.now)) c.requires.there)
 
 pub returns-clause-exact : goal.returns-clause-exact
 returns-clause-exact g c =
-    at-exact (layout_of c.args.layout.now) (affinity_of c.args.affinity) (trees.Aggregate c.in-Aggregate.aggregate) (ap affinity_of c.in-Aggregate.is) aggregate_parcels record { own = c.in-Aggregate-take_parcel.own; volumes = c.gather_children.new.places } kind_in
-    (aggregate-gathered (layout_of c.args.layout.now) c.in-Aggregate.aggregate (at-node (layout_of c.args.layout.now) (affinity_of c.args.affinity) (trees.Aggregate c.in-Aggregate.aggregate) (ap affinity_of c.in-Aggregate.is) c.requires.node) record { own = c.in-Aggregate-take_parcel.own; volumes = c.gather_children.new.places } (g.S.Shelf.at c.args.shelf.now) (g.S.Shelf.at c.take_parcel.new.shelf) (g.S.Shelf.at c.gather_children.new.shelf) c.in-Aggregate-take_parcel.ensures.moved c.gather_children.ensures.moved c.gather_children.ensures.gone (at-under (layout_of c.args.layout.now) (affinity_of c.args.affinity) (trees.Aggregate c.in-Aggregate.aggregate) (ap affinity_of c.in-Aggregate.is) (HasParcel (layout_of c.args.layout.now) (g.S.Shelf.at c.args.shelf.now)) c.requires.there))
+    at-exact (layout_of c.args.layout.now) (affinity_of c.args.affinity) (trees.Aggregate c.in-Aggregate.aggregate) (ap affinity_of c.in-Aggregate.is)
+    aggregate_parcels record { own = c.in-Aggregate-take_parcel.own; volumes = c.gather_children.new.places } kind_in
+    (aggregate-gathered (layout_of c.args.layout.now) c.in-Aggregate.aggregate
+    (at-node (layout_of c.args.layout.now) (affinity_of c.args.affinity) (trees.Aggregate c.in-Aggregate.aggregate)
+    (ap affinity_of c.in-Aggregate.is) c.requires.node) record { own = c.in-Aggregate-take_parcel.own; volumes = c.gather_children.new.places }
+    (g.S.Shelf.at c.args.shelf.now) (g.S.Shelf.at c.take_parcel.new.shelf) (g.S.Shelf.at c.gather_children.new.shelf)
+    c.in-Aggregate-take_parcel.ensures.moved c.gather_children.ensures.moved c.gather_children.ensures.gone
+    (at-under (layout_of c.args.layout.now) (affinity_of c.args.affinity) (trees.Aggregate c.in-Aggregate.aggregate)
+    (ap affinity_of c.in-Aggregate.is) (HasParcel (layout_of c.args.layout.now) (g.S.Shelf.at c.args.shelf.now)) c.requires.there))
 
 pub returns-clause-moved : goal.returns-clause-moved
 returns-clause-moved g c =
-    at-taken (layout_of c.args.layout.now) (affinity_of c.args.affinity) (trees.Aggregate c.in-Aggregate.aggregate) (ap affinity_of c.in-Aggregate.is) aggregate_parcels record { own = c.in-Aggregate-take_parcel.own; volumes = c.gather_children.new.places } (g.S.Shelf.at c.args.shelf.now) (g.S.Shelf.at c.gather_children.new.shelf)
-    (aggregate-taken (layout_of c.args.layout.now) c.in-Aggregate.aggregate (at-node (layout_of c.args.layout.now) (affinity_of c.args.affinity) (trees.Aggregate c.in-Aggregate.aggregate) (ap affinity_of c.in-Aggregate.is) c.requires.node) record { own = c.in-Aggregate-take_parcel.own; volumes = c.gather_children.new.places } (g.S.Shelf.at c.args.shelf.now) (g.S.Shelf.at c.take_parcel.new.shelf) (g.S.Shelf.at c.gather_children.new.shelf) c.in-Aggregate-take_parcel.ensures.moved c.gather_children.ensures.moved)
+    at-taken (layout_of c.args.layout.now) (affinity_of c.args.affinity) (trees.Aggregate c.in-Aggregate.aggregate) (ap affinity_of c.in-Aggregate.is)
+    aggregate_parcels record { own = c.in-Aggregate-take_parcel.own; volumes = c.gather_children.new.places } (g.S.Shelf.at c.args.shelf.now)
+    (g.S.Shelf.at c.gather_children.new.shelf)
+    (aggregate-taken (layout_of c.args.layout.now) c.in-Aggregate.aggregate
+    (at-node (layout_of c.args.layout.now) (affinity_of c.args.affinity) (trees.Aggregate c.in-Aggregate.aggregate)
+    (ap affinity_of c.in-Aggregate.is) c.requires.node) record { own = c.in-Aggregate-take_parcel.own; volumes = c.gather_children.new.places }
+    (g.S.Shelf.at c.args.shelf.now) (g.S.Shelf.at c.take_parcel.new.shelf) (g.S.Shelf.at c.gather_children.new.shelf)
+    c.in-Aggregate-take_parcel.ensures.moved c.gather_children.ensures.moved)
 
 pub returns-clause-kept : goal.returns-clause-kept
 returns-clause-kept g c =
-    g.met.S.Shelf.keeps_on c.args.shelf.now c.take_parcel.new.shelf c.gather_children.new.shelf c.in-Aggregate-take_parcel.ensures.kept c.gather_children.ensures.kept
+    g.met.S.Shelf.keeps_on c.args.shelf.now c.take_parcel.new.shelf c.gather_children.new.shelf c.in-Aggregate-take_parcel.ensures.kept
+    c.gather_children.ensures.kept

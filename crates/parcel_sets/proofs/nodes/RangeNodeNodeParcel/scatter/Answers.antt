@@ -12,17 +12,28 @@ use Rattle.parcel_sets.proofs.nodes.RangeNodeNodeParcel.scatter.Goals as goal
 
 pub put_parcel-requires-clause-node : goal.put_parcel-requires-clause-node
 put_parcel-requires-clause-node g c =
-    at-node (layout_of c.args.layout.now) (affinity_of c.args.affinity) (trees.Range c.in-Range.volume c.in-Range.range) (ap affinity_of c.in-Range.is) c.requires.node
+    at-node (layout_of c.args.layout.now) (affinity_of c.args.affinity) (trees.Range c.in-Range.volume c.in-Range.range)
+    (ap affinity_of c.in-Range.is) c.requires.node
 
 pub put_parcel-requires-clause-vacant : goal.put_parcel-requires-clause-vacant
 put_parcel-requires-clause-vacant g c =
-    range-from (layout_of c.args.layout.now) (IsVacant (layout_of c.args.layout.now) (g.S.Shelf.at c.args.shelf.now)) c.in-Range.volume c.in-Range.range (at-node (layout_of c.args.layout.now) (affinity_of c.args.affinity) (trees.Range c.in-Range.volume c.in-Range.range) (ap affinity_of c.in-Range.is) c.requires.node) (at-under (layout_of c.args.layout.now) (affinity_of c.args.affinity) (trees.Range c.in-Range.volume c.in-Range.range) (ap affinity_of c.in-Range.is) (IsVacant (layout_of c.args.layout.now) (g.S.Shelf.at c.args.shelf.now)) c.requires.vacant)
+    range-from (layout_of c.args.layout.now) (IsVacant (layout_of c.args.layout.now) (g.S.Shelf.at c.args.shelf.now)) c.in-Range.volume
+    c.in-Range.range (at-node (layout_of c.args.layout.now) (affinity_of c.args.affinity) (trees.Range c.in-Range.volume c.in-Range.range)
+    (ap affinity_of c.in-Range.is) c.requires.node)
+    (at-under (layout_of c.args.layout.now) (affinity_of c.args.affinity) (trees.Range c.in-Range.volume c.in-Range.range)
+    (ap affinity_of c.in-Range.is) (IsVacant (layout_of c.args.layout.now) (g.S.Shelf.at c.args.shelf.now)) c.requires.vacant)
 
 pub put_parcel-requires-clause-allowed : goal.put_parcel-requires-clause-allowed
 put_parcel-requires-clause-allowed g c =
-    range_allowed (layout_of c.args.layout.now) (g.S.Shelf.allows c.args.shelf.now) c.in-Range.volume c.in-Range.range c.args.held (at-allowed (layout_of c.args.layout.now) (affinity_of c.args.affinity) (trees.Range c.in-Range.volume c.in-Range.range) (ap affinity_of c.in-Range.is) range_parcels c.args.held (g.S.Shelf.allows c.args.shelf.now) c.requires.allowed)
+    range_allowed (layout_of c.args.layout.now) (g.S.Shelf.allows c.args.shelf.now) c.in-Range.volume c.in-Range.range c.args.held
+    (at-allowed (layout_of c.args.layout.now) (affinity_of c.args.affinity) (trees.Range c.in-Range.volume c.in-Range.range)
+    (ap affinity_of c.in-Range.is) range_parcels c.args.held (g.S.Shelf.allows c.args.shelf.now) c.requires.allowed)
 
 pub returns-clause-moved : goal.returns-clause-moved
 returns-clause-moved g c =
-    at-taken (layout_of c.args.layout.now) (affinity_of c.args.affinity) (trees.Range c.in-Range.volume c.in-Range.range) (ap affinity_of c.in-Range.is) range_parcels c.args.held (g.S.Shelf.at c.put_parcel.new.shelf) (g.S.Shelf.at c.args.shelf.now)
-    (range-scattered (layout_of c.args.layout.now) c.in-Range.volume c.in-Range.range (at-node (layout_of c.args.layout.now) (affinity_of c.args.affinity) (trees.Range c.in-Range.volume c.in-Range.range) (ap affinity_of c.in-Range.is) c.requires.node) c.args.held (g.S.Shelf.at c.args.shelf.now) (g.S.Shelf.at c.put_parcel.new.shelf) c.put_parcel.ensures.moved)
+    at-taken (layout_of c.args.layout.now) (affinity_of c.args.affinity) (trees.Range c.in-Range.volume c.in-Range.range)
+    (ap affinity_of c.in-Range.is) range_parcels c.args.held (g.S.Shelf.at c.put_parcel.new.shelf) (g.S.Shelf.at c.args.shelf.now)
+    (range-scattered (layout_of c.args.layout.now) c.in-Range.volume c.in-Range.range
+    (at-node (layout_of c.args.layout.now) (affinity_of c.args.affinity) (trees.Range c.in-Range.volume c.in-Range.range)
+    (ap affinity_of c.in-Range.is) c.requires.node) c.args.held (g.S.Shelf.at c.args.shelf.now) (g.S.Shelf.at c.put_parcel.new.shelf)
+    c.put_parcel.ensures.moved)

@@ -3,7 +3,7 @@ use Rattle.nfs_model.specs.Tree as trees
 use Rattle.affinity_tree.specs.Affinity.{affinity_of}
 use Rattle.affinity_tree.specs.Layout.{layout_of}
 use Rattle.affinity_tree.specs.Numbers.{number_of}
-use Rattle.affinity_tree.proofs.Lawful.{aggregate_known}
+use Rattle.affinity_tree.specs.lemmas.Lawful.{aggregate_known}
 use Rattle.parcel_sets.specs.Exact.{HasParcel, IsPlaced, kind_in}
 use Rattle.parcel_sets.specs.Sets.{serial_parcels}
 use Rattle.parcel_sets.specs.declared.family.Parcel.TheVariants as parcels
@@ -25,7 +25,9 @@ take_parcel-requires-clause-node g c =
 
 pub take_parcel-requires-clause-there : goal.take_parcel-requires-clause-there
 take_parcel-requires-clause-there g c =
-    (serial-from (layout_of c.args.layout.now) (HasParcel (layout_of c.args.layout.now) (g.S.Shelf.at c.args.shelf.now)) (at-under (layout_of c.args.layout.now) (affinity_of c.args._affinity) trees.Serial (root_is (affinity_of c.args._affinity) c.requires.kind) (HasParcel (layout_of c.args.layout.now) (g.S.Shelf.at c.args.shelf.now)) c.requires.there)).own
+    (serial-from (layout_of c.args.layout.now) (HasParcel (layout_of c.args.layout.now) (g.S.Shelf.at c.args.shelf.now))
+    (at-under (layout_of c.args.layout.now) (affinity_of c.args._affinity) trees.Serial (root_is (affinity_of c.args._affinity) c.requires.kind)
+    (HasParcel (layout_of c.args.layout.now) (g.S.Shelf.at c.args.shelf.now)) c.requires.there)).own
 
 pub gather_children-requires-clause-node : goal.gather_children-requires-clause-node
 gather_children-requires-clause-node g c =
@@ -37,17 +39,32 @@ gather_children-requires-clause-kind g c =
 
 pub gather_children-requires-clause-there : goal.gather_children-requires-clause-there
 gather_children-requires-clause-there g c =
-    children-after (layout_of c.args.layout.now) (IsPlaced kind_in (layout_of c.args.layout.now)) (placed_kept kind_in (layout_of c.args.layout.now)) (g.S.Shelf.at c.args.shelf.now) (g.S.Shelf.at c.take_parcel.new.shelf) trees.Serial tt (taken-others (g.S.Shelf.at c.args.shelf.now) (g.S.Shelf.at c.take_parcel.new.shelf) (number_of (layout_of c.args.layout.now) trees.Serial) (parcels.Serial c.in-Serial.own) c.in-Serial.ensures.moved) (at-under (layout_of c.args.layout.now) (affinity_of c.args._affinity) trees.Serial (root_is (affinity_of c.args._affinity) c.requires.kind) (IsPlaced kind_in (layout_of c.args.layout.now) (g.S.Shelf.at c.args.shelf.now)) c.requires.there)
+    children-after (layout_of c.args.layout.now) (IsPlaced kind_in (layout_of c.args.layout.now)) (placed_kept kind_in (layout_of c.args.layout.now))
+    (g.S.Shelf.at c.args.shelf.now) (g.S.Shelf.at c.take_parcel.new.shelf) trees.Serial tt
+    (taken-others (g.S.Shelf.at c.args.shelf.now) (g.S.Shelf.at c.take_parcel.new.shelf) (number_of (layout_of c.args.layout.now) trees.Serial)
+    (parcels.Serial c.in-Serial.own) c.in-Serial.ensures.moved)
+    (at-under (layout_of c.args.layout.now) (affinity_of c.args._affinity) trees.Serial (root_is (affinity_of c.args._affinity) c.requires.kind)
+    (IsPlaced kind_in (layout_of c.args.layout.now) (g.S.Shelf.at c.args.shelf.now)) c.requires.there)
 
 pub returns-clause-exact : goal.returns-clause-exact
 returns-clause-exact g c =
-    at-exact (layout_of c.args.layout.now) (affinity_of c.args._affinity) trees.Serial (root_is (affinity_of c.args._affinity) c.requires.kind) serial_parcels record { own = c.in-Serial.own; aggregates = c.gather_children.new.places } kind_in
-    (serial-gathered (layout_of c.args.layout.now) record { own = c.in-Serial.own; aggregates = c.gather_children.new.places } (g.S.Shelf.at c.args.shelf.now) (g.S.Shelf.at c.take_parcel.new.shelf) (g.S.Shelf.at c.gather_children.new.shelf) (λ v. aggregate_known (layout_of c.args.layout.now) v c.args.layout.now.lawful) c.in-Serial.ensures.moved c.gather_children.ensures.moved c.gather_children.ensures.gone (at-under (layout_of c.args.layout.now) (affinity_of c.args._affinity) trees.Serial (root_is (affinity_of c.args._affinity) c.requires.kind) (HasParcel (layout_of c.args.layout.now) (g.S.Shelf.at c.args.shelf.now)) c.requires.there))
+    at-exact (layout_of c.args.layout.now) (affinity_of c.args._affinity) trees.Serial (root_is (affinity_of c.args._affinity) c.requires.kind)
+    serial_parcels record { own = c.in-Serial.own; aggregates = c.gather_children.new.places } kind_in
+    (serial-gathered (layout_of c.args.layout.now) record { own = c.in-Serial.own; aggregates = c.gather_children.new.places }
+    (g.S.Shelf.at c.args.shelf.now) (g.S.Shelf.at c.take_parcel.new.shelf) (g.S.Shelf.at c.gather_children.new.shelf)
+    (λ v. aggregate_known (layout_of c.args.layout.now) v c.args.layout.now.lawful) c.in-Serial.ensures.moved c.gather_children.ensures.moved
+    c.gather_children.ensures.gone
+    (at-under (layout_of c.args.layout.now) (affinity_of c.args._affinity) trees.Serial (root_is (affinity_of c.args._affinity) c.requires.kind)
+    (HasParcel (layout_of c.args.layout.now) (g.S.Shelf.at c.args.shelf.now)) c.requires.there))
 
 pub returns-clause-moved : goal.returns-clause-moved
 returns-clause-moved g c =
-    at-taken (layout_of c.args.layout.now) (affinity_of c.args._affinity) trees.Serial (root_is (affinity_of c.args._affinity) c.requires.kind) serial_parcels record { own = c.in-Serial.own; aggregates = c.gather_children.new.places } (g.S.Shelf.at c.args.shelf.now) (g.S.Shelf.at c.gather_children.new.shelf)
-    (serial-taken (layout_of c.args.layout.now) record { own = c.in-Serial.own; aggregates = c.gather_children.new.places } (g.S.Shelf.at c.args.shelf.now) (g.S.Shelf.at c.take_parcel.new.shelf) (g.S.Shelf.at c.gather_children.new.shelf) c.in-Serial.ensures.moved c.gather_children.ensures.moved)
+    at-taken (layout_of c.args.layout.now) (affinity_of c.args._affinity) trees.Serial (root_is (affinity_of c.args._affinity) c.requires.kind)
+    serial_parcels record { own = c.in-Serial.own; aggregates = c.gather_children.new.places } (g.S.Shelf.at c.args.shelf.now)
+    (g.S.Shelf.at c.gather_children.new.shelf)
+    (serial-taken (layout_of c.args.layout.now) record { own = c.in-Serial.own; aggregates = c.gather_children.new.places }
+    (g.S.Shelf.at c.args.shelf.now) (g.S.Shelf.at c.take_parcel.new.shelf) (g.S.Shelf.at c.gather_children.new.shelf) c.in-Serial.ensures.moved
+    c.gather_children.ensures.moved)
 
 pub returns-clause-kept : goal.returns-clause-kept
 returns-clause-kept g c =

@@ -23,11 +23,15 @@ put_parcel-requires-clause-node g c =
 
 pub put_parcel-requires-clause-vacant : goal.put_parcel-requires-clause-vacant
 put_parcel-requires-clause-vacant g c =
-    (serial-from (layout_of c.args.layout.now) (IsVacant (layout_of c.args.layout.now) (g.S.Shelf.at c.args.shelf.now)) (at-under (layout_of c.args.layout.now) (affinity_of c.args._affinity) trees.Serial (root_is (affinity_of c.args._affinity) c.requires.kind) (IsVacant (layout_of c.args.layout.now) (g.S.Shelf.at c.args.shelf.now)) c.requires.vacant)).own
+    (serial-from (layout_of c.args.layout.now) (IsVacant (layout_of c.args.layout.now) (g.S.Shelf.at c.args.shelf.now))
+    (at-under (layout_of c.args.layout.now) (affinity_of c.args._affinity) trees.Serial (root_is (affinity_of c.args._affinity) c.requires.kind)
+    (IsVacant (layout_of c.args.layout.now) (g.S.Shelf.at c.args.shelf.now)) c.requires.vacant)).own
 
 pub put_parcel-requires-clause-allowed : goal.put_parcel-requires-clause-allowed
 put_parcel-requires-clause-allowed g c =
-    serial_own_allowed (layout_of c.args.layout.now) (g.S.Shelf.allows c.args.shelf.now) c.args.held (at-allowed (layout_of c.args.layout.now) (affinity_of c.args._affinity) trees.Serial (root_is (affinity_of c.args._affinity) c.requires.kind) serial_parcels c.args.held (g.S.Shelf.allows c.args.shelf.now) c.requires.allowed)
+    serial_own_allowed (layout_of c.args.layout.now) (g.S.Shelf.allows c.args.shelf.now) c.args.held
+    (at-allowed (layout_of c.args.layout.now) (affinity_of c.args._affinity) trees.Serial (root_is (affinity_of c.args._affinity) c.requires.kind)
+    serial_parcels c.args.held (g.S.Shelf.allows c.args.shelf.now) c.requires.allowed)
 
 pub scatter_children-requires-clause-node : goal.scatter_children-requires-clause-node
 scatter_children-requires-clause-node g c =
@@ -39,17 +43,29 @@ scatter_children-requires-clause-kind g c =
 
 pub scatter_children-requires-clause-vacant : goal.scatter_children-requires-clause-vacant
 scatter_children-requires-clause-vacant g c =
-    children-after (layout_of c.args.layout.now) (IsVacant (layout_of c.args.layout.now)) (vacant_kept (layout_of c.args.layout.now)) (g.S.Shelf.at c.args.shelf.now) (g.S.Shelf.at c.put_parcel.new.shelf) trees.Serial tt (given-others (g.S.Shelf.at c.args.shelf.now) (g.S.Shelf.at c.put_parcel.new.shelf) (number_of (layout_of c.args.layout.now) trees.Serial) (parcels.Serial c.args.held.own) c.put_parcel.ensures.moved) (at-under (layout_of c.args.layout.now) (affinity_of c.args._affinity) trees.Serial (root_is (affinity_of c.args._affinity) c.requires.kind) (IsVacant (layout_of c.args.layout.now) (g.S.Shelf.at c.args.shelf.now)) c.requires.vacant)
+    children-after (layout_of c.args.layout.now) (IsVacant (layout_of c.args.layout.now)) (vacant_kept (layout_of c.args.layout.now))
+    (g.S.Shelf.at c.args.shelf.now) (g.S.Shelf.at c.put_parcel.new.shelf) trees.Serial tt
+    (given-others (g.S.Shelf.at c.args.shelf.now) (g.S.Shelf.at c.put_parcel.new.shelf) (number_of (layout_of c.args.layout.now) trees.Serial)
+    (parcels.Serial c.args.held.own) c.put_parcel.ensures.moved)
+    (at-under (layout_of c.args.layout.now) (affinity_of c.args._affinity) trees.Serial (root_is (affinity_of c.args._affinity) c.requires.kind)
+    (IsVacant (layout_of c.args.layout.now) (g.S.Shelf.at c.args.shelf.now)) c.requires.vacant)
 
 pub scatter_children-requires-clause-allowed : goal.scatter_children-requires-clause-allowed
 scatter_children-requires-clause-allowed g c =
-    λ i l used. allowed-over (λ k. in_place (λ set. aggregate_parcels (layout_of c.args.layout.now) (trees.Aggregate i) set k) (slice_get c.args.held.aggregates.at i)) (g.S.Shelf.allows c.args.shelf.now) (g.S.Shelf.allows c.put_parcel.new.shelf) (λ k x. g.met.S.Shelf.keeps_allowing c.args.shelf.now c.put_parcel.new.shelf k x c.put_parcel.ensures.kept)
-    (aggregates_allowed (layout_of c.args.layout.now) (g.S.Shelf.allows c.args.shelf.now) c.args.held (at-allowed (layout_of c.args.layout.now) (affinity_of c.args._affinity) trees.Serial (root_is (affinity_of c.args._affinity) c.requires.kind) serial_parcels c.args.held (g.S.Shelf.allows c.args.shelf.now) c.requires.allowed) i l)
+    λ i l used. allowed-over
+    (λ k. in_place (λ set. aggregate_parcels (layout_of c.args.layout.now) (trees.Aggregate i) set k) (slice_get c.args.held.aggregates.at i))
+    (g.S.Shelf.allows c.args.shelf.now) (g.S.Shelf.allows c.put_parcel.new.shelf)
+    (λ k x. g.met.S.Shelf.keeps_allowing c.args.shelf.now c.put_parcel.new.shelf k x c.put_parcel.ensures.kept)
+    (aggregates_allowed (layout_of c.args.layout.now) (g.S.Shelf.allows c.args.shelf.now) c.args.held
+    (at-allowed (layout_of c.args.layout.now) (affinity_of c.args._affinity) trees.Serial (root_is (affinity_of c.args._affinity) c.requires.kind)
+    serial_parcels c.args.held (g.S.Shelf.allows c.args.shelf.now) c.requires.allowed) i l)
 
 pub returns-clause-moved : goal.returns-clause-moved
 returns-clause-moved g c =
-    at-taken (layout_of c.args.layout.now) (affinity_of c.args._affinity) trees.Serial (root_is (affinity_of c.args._affinity) c.requires.kind) serial_parcels c.args.held (g.S.Shelf.at c.scatter_children.new.shelf) (g.S.Shelf.at c.args.shelf.now)
-    (serial-scattered (layout_of c.args.layout.now) c.args.held (g.S.Shelf.at c.args.shelf.now) (g.S.Shelf.at c.put_parcel.new.shelf) (g.S.Shelf.at c.scatter_children.new.shelf) c.put_parcel.ensures.moved c.scatter_children.ensures.moved)
+    at-taken (layout_of c.args.layout.now) (affinity_of c.args._affinity) trees.Serial (root_is (affinity_of c.args._affinity) c.requires.kind)
+    serial_parcels c.args.held (g.S.Shelf.at c.scatter_children.new.shelf) (g.S.Shelf.at c.args.shelf.now)
+    (serial-scattered (layout_of c.args.layout.now) c.args.held (g.S.Shelf.at c.args.shelf.now) (g.S.Shelf.at c.put_parcel.new.shelf)
+    (g.S.Shelf.at c.scatter_children.new.shelf) c.put_parcel.ensures.moved c.scatter_children.ensures.moved)
 
 pub returns-clause-kept : goal.returns-clause-kept
 returns-clause-kept g c =

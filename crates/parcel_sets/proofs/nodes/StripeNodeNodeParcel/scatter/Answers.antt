@@ -12,17 +12,28 @@ use Rattle.parcel_sets.proofs.nodes.StripeNodeNodeParcel.scatter.Goals as goal
 
 pub put_parcel-requires-clause-node : goal.put_parcel-requires-clause-node
 put_parcel-requires-clause-node g c =
-    at-node (layout_of c.args.layout.now) (affinity_of c.args.affinity) (trees.Stripe c.in-Stripe.volume c.in-Stripe.stripe) (ap affinity_of c.in-Stripe.is) c.requires.node
+    at-node (layout_of c.args.layout.now) (affinity_of c.args.affinity) (trees.Stripe c.in-Stripe.volume c.in-Stripe.stripe)
+    (ap affinity_of c.in-Stripe.is) c.requires.node
 
 pub put_parcel-requires-clause-vacant : goal.put_parcel-requires-clause-vacant
 put_parcel-requires-clause-vacant g c =
-    stripe-from (layout_of c.args.layout.now) (IsVacant (layout_of c.args.layout.now) (g.S.Shelf.at c.args.shelf.now)) c.in-Stripe.volume c.in-Stripe.stripe (at-node (layout_of c.args.layout.now) (affinity_of c.args.affinity) (trees.Stripe c.in-Stripe.volume c.in-Stripe.stripe) (ap affinity_of c.in-Stripe.is) c.requires.node) (at-under (layout_of c.args.layout.now) (affinity_of c.args.affinity) (trees.Stripe c.in-Stripe.volume c.in-Stripe.stripe) (ap affinity_of c.in-Stripe.is) (IsVacant (layout_of c.args.layout.now) (g.S.Shelf.at c.args.shelf.now)) c.requires.vacant)
+    stripe-from (layout_of c.args.layout.now) (IsVacant (layout_of c.args.layout.now) (g.S.Shelf.at c.args.shelf.now)) c.in-Stripe.volume
+    c.in-Stripe.stripe (at-node (layout_of c.args.layout.now) (affinity_of c.args.affinity) (trees.Stripe c.in-Stripe.volume c.in-Stripe.stripe)
+    (ap affinity_of c.in-Stripe.is) c.requires.node)
+    (at-under (layout_of c.args.layout.now) (affinity_of c.args.affinity) (trees.Stripe c.in-Stripe.volume c.in-Stripe.stripe)
+    (ap affinity_of c.in-Stripe.is) (IsVacant (layout_of c.args.layout.now) (g.S.Shelf.at c.args.shelf.now)) c.requires.vacant)
 
 pub put_parcel-requires-clause-allowed : goal.put_parcel-requires-clause-allowed
 put_parcel-requires-clause-allowed g c =
-    stripe_allowed (layout_of c.args.layout.now) (g.S.Shelf.allows c.args.shelf.now) c.in-Stripe.volume c.in-Stripe.stripe c.args.held (at-allowed (layout_of c.args.layout.now) (affinity_of c.args.affinity) (trees.Stripe c.in-Stripe.volume c.in-Stripe.stripe) (ap affinity_of c.in-Stripe.is) stripe_parcels c.args.held (g.S.Shelf.allows c.args.shelf.now) c.requires.allowed)
+    stripe_allowed (layout_of c.args.layout.now) (g.S.Shelf.allows c.args.shelf.now) c.in-Stripe.volume c.in-Stripe.stripe c.args.held
+    (at-allowed (layout_of c.args.layout.now) (affinity_of c.args.affinity) (trees.Stripe c.in-Stripe.volume c.in-Stripe.stripe)
+    (ap affinity_of c.in-Stripe.is) stripe_parcels c.args.held (g.S.Shelf.allows c.args.shelf.now) c.requires.allowed)
 
 pub returns-clause-moved : goal.returns-clause-moved
 returns-clause-moved g c =
-    at-taken (layout_of c.args.layout.now) (affinity_of c.args.affinity) (trees.Stripe c.in-Stripe.volume c.in-Stripe.stripe) (ap affinity_of c.in-Stripe.is) stripe_parcels c.args.held (g.S.Shelf.at c.put_parcel.new.shelf) (g.S.Shelf.at c.args.shelf.now)
-    (stripe-scattered (layout_of c.args.layout.now) c.in-Stripe.volume c.in-Stripe.stripe (at-node (layout_of c.args.layout.now) (affinity_of c.args.affinity) (trees.Stripe c.in-Stripe.volume c.in-Stripe.stripe) (ap affinity_of c.in-Stripe.is) c.requires.node) c.args.held (g.S.Shelf.at c.args.shelf.now) (g.S.Shelf.at c.put_parcel.new.shelf) c.put_parcel.ensures.moved)
+    at-taken (layout_of c.args.layout.now) (affinity_of c.args.affinity) (trees.Stripe c.in-Stripe.volume c.in-Stripe.stripe)
+    (ap affinity_of c.in-Stripe.is) stripe_parcels c.args.held (g.S.Shelf.at c.put_parcel.new.shelf) (g.S.Shelf.at c.args.shelf.now)
+    (stripe-scattered (layout_of c.args.layout.now) c.in-Stripe.volume c.in-Stripe.stripe
+    (at-node (layout_of c.args.layout.now) (affinity_of c.args.affinity) (trees.Stripe c.in-Stripe.volume c.in-Stripe.stripe)
+    (ap affinity_of c.in-Stripe.is) c.requires.node) c.args.held (g.S.Shelf.at c.args.shelf.now) (g.S.Shelf.at c.put_parcel.new.shelf)
+    c.put_parcel.ensures.moved)

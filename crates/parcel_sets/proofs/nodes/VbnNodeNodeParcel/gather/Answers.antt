@@ -28,7 +28,10 @@ take_parcel-requires-clause-node g c =
 
 pub take_parcel-requires-clause-there : goal.take_parcel-requires-clause-there
 take_parcel-requires-clause-there g c =
-    (vbn-from (layout_of c.args.layout.now) (HasParcel (layout_of c.args.layout.now) (g.S.Shelf.at c.args.shelf.now)) c.in-VolumeVbn.volume (at-node (layout_of c.args.layout.now) (affinity_of c.args.affinity) (trees.Vbn c.in-VolumeVbn.volume) (ap affinity_of c.in-VolumeVbn.is) c.requires.node) (at-under (layout_of c.args.layout.now) (affinity_of c.args.affinity) (trees.Vbn c.in-VolumeVbn.volume) (ap affinity_of c.in-VolumeVbn.is) (HasParcel (layout_of c.args.layout.now) (g.S.Shelf.at c.args.shelf.now)) c.requires.there)).own
+    (vbn-from (layout_of c.args.layout.now) (HasParcel (layout_of c.args.layout.now) (g.S.Shelf.at c.args.shelf.now)) c.in-VolumeVbn.volume
+    (at-node (layout_of c.args.layout.now) (affinity_of c.args.affinity) (trees.Vbn c.in-VolumeVbn.volume) (ap affinity_of c.in-VolumeVbn.is)
+    c.requires.node) (at-under (layout_of c.args.layout.now) (affinity_of c.args.affinity) (trees.Vbn c.in-VolumeVbn.volume)
+    (ap affinity_of c.in-VolumeVbn.is) (HasParcel (layout_of c.args.layout.now) (g.S.Shelf.at c.args.shelf.now)) c.requires.there)).own
 
 pub gather_children-requires-clause-node : goal.gather_children-requires-clause-node
 gather_children-requires-clause-node g c =
@@ -40,17 +43,35 @@ gather_children-requires-clause-kind g c =
 
 pub gather_children-requires-clause-there : goal.gather_children-requires-clause-there
 gather_children-requires-clause-there g c =
-    children-after (layout_of c.args.layout.now) (IsPlaced kind_in (layout_of c.args.layout.now)) (placed_kept kind_in (layout_of c.args.layout.now)) (g.S.Shelf.at c.args.shelf.now) (g.S.Shelf.at c.take_parcel.new.shelf) (trees.Vbn c.in-VolumeVbn.volume) (at-node (layout_of c.args.layout.now) (affinity_of c.args.affinity) (trees.Vbn c.in-VolumeVbn.volume) (ap affinity_of c.in-VolumeVbn.is) c.requires.node) (taken-others (g.S.Shelf.at c.args.shelf.now) (g.S.Shelf.at c.take_parcel.new.shelf) (number_of (layout_of c.args.layout.now) (trees.Vbn c.in-VolumeVbn.volume)) (parcels.Vbn c.in-Vbn.own) c.in-Vbn.ensures.moved) (at-under (layout_of c.args.layout.now) (affinity_of c.args.affinity) (trees.Vbn c.in-VolumeVbn.volume) (ap affinity_of c.in-VolumeVbn.is) (IsPlaced kind_in (layout_of c.args.layout.now) (g.S.Shelf.at c.args.shelf.now)) c.requires.there)
+    children-after (layout_of c.args.layout.now) (IsPlaced kind_in (layout_of c.args.layout.now)) (placed_kept kind_in (layout_of c.args.layout.now))
+    (g.S.Shelf.at c.args.shelf.now) (g.S.Shelf.at c.take_parcel.new.shelf) (trees.Vbn c.in-VolumeVbn.volume)
+    (at-node (layout_of c.args.layout.now) (affinity_of c.args.affinity) (trees.Vbn c.in-VolumeVbn.volume) (ap affinity_of c.in-VolumeVbn.is)
+    c.requires.node) (taken-others (g.S.Shelf.at c.args.shelf.now) (g.S.Shelf.at c.take_parcel.new.shelf)
+    (number_of (layout_of c.args.layout.now) (trees.Vbn c.in-VolumeVbn.volume)) (parcels.Vbn c.in-Vbn.own) c.in-Vbn.ensures.moved)
+    (at-under (layout_of c.args.layout.now) (affinity_of c.args.affinity) (trees.Vbn c.in-VolumeVbn.volume) (ap affinity_of c.in-VolumeVbn.is)
+    (IsPlaced kind_in (layout_of c.args.layout.now) (g.S.Shelf.at c.args.shelf.now)) c.requires.there)
 
 pub returns-clause-exact : goal.returns-clause-exact
 returns-clause-exact g c =
-    at-exact (layout_of c.args.layout.now) (affinity_of c.args.affinity) (trees.Vbn c.in-VolumeVbn.volume) (ap affinity_of c.in-VolumeVbn.is) vbn_parcels record { own = c.in-Vbn.own; ranges = c.gather_children.new.places } kind_in
-    (vbn-gathered (layout_of c.args.layout.now) c.in-VolumeVbn.volume (at-node (layout_of c.args.layout.now) (affinity_of c.args.affinity) (trees.Vbn c.in-VolumeVbn.volume) (ap affinity_of c.in-VolumeVbn.is) c.requires.node) record { own = c.in-Vbn.own; ranges = c.gather_children.new.places } (g.S.Shelf.at c.args.shelf.now) (g.S.Shelf.at c.take_parcel.new.shelf) (g.S.Shelf.at c.gather_children.new.shelf) c.in-Vbn.ensures.moved c.gather_children.ensures.moved c.gather_children.ensures.gone (at-under (layout_of c.args.layout.now) (affinity_of c.args.affinity) (trees.Vbn c.in-VolumeVbn.volume) (ap affinity_of c.in-VolumeVbn.is) (HasParcel (layout_of c.args.layout.now) (g.S.Shelf.at c.args.shelf.now)) c.requires.there))
+    at-exact (layout_of c.args.layout.now) (affinity_of c.args.affinity) (trees.Vbn c.in-VolumeVbn.volume) (ap affinity_of c.in-VolumeVbn.is)
+    vbn_parcels record { own = c.in-Vbn.own; ranges = c.gather_children.new.places } kind_in
+    (vbn-gathered (layout_of c.args.layout.now) c.in-VolumeVbn.volume
+    (at-node (layout_of c.args.layout.now) (affinity_of c.args.affinity) (trees.Vbn c.in-VolumeVbn.volume) (ap affinity_of c.in-VolumeVbn.is)
+    c.requires.node) record { own = c.in-Vbn.own; ranges = c.gather_children.new.places } (g.S.Shelf.at c.args.shelf.now)
+    (g.S.Shelf.at c.take_parcel.new.shelf) (g.S.Shelf.at c.gather_children.new.shelf) c.in-Vbn.ensures.moved c.gather_children.ensures.moved
+    c.gather_children.ensures.gone
+    (at-under (layout_of c.args.layout.now) (affinity_of c.args.affinity) (trees.Vbn c.in-VolumeVbn.volume) (ap affinity_of c.in-VolumeVbn.is)
+    (HasParcel (layout_of c.args.layout.now) (g.S.Shelf.at c.args.shelf.now)) c.requires.there))
 
 pub returns-clause-moved : goal.returns-clause-moved
 returns-clause-moved g c =
-    at-taken (layout_of c.args.layout.now) (affinity_of c.args.affinity) (trees.Vbn c.in-VolumeVbn.volume) (ap affinity_of c.in-VolumeVbn.is) vbn_parcels record { own = c.in-Vbn.own; ranges = c.gather_children.new.places } (g.S.Shelf.at c.args.shelf.now) (g.S.Shelf.at c.gather_children.new.shelf)
-    (vbn-taken (layout_of c.args.layout.now) c.in-VolumeVbn.volume (at-node (layout_of c.args.layout.now) (affinity_of c.args.affinity) (trees.Vbn c.in-VolumeVbn.volume) (ap affinity_of c.in-VolumeVbn.is) c.requires.node) record { own = c.in-Vbn.own; ranges = c.gather_children.new.places } (g.S.Shelf.at c.args.shelf.now) (g.S.Shelf.at c.take_parcel.new.shelf) (g.S.Shelf.at c.gather_children.new.shelf) c.in-Vbn.ensures.moved c.gather_children.ensures.moved)
+    at-taken (layout_of c.args.layout.now) (affinity_of c.args.affinity) (trees.Vbn c.in-VolumeVbn.volume) (ap affinity_of c.in-VolumeVbn.is)
+    vbn_parcels record { own = c.in-Vbn.own; ranges = c.gather_children.new.places } (g.S.Shelf.at c.args.shelf.now)
+    (g.S.Shelf.at c.gather_children.new.shelf)
+    (vbn-taken (layout_of c.args.layout.now) c.in-VolumeVbn.volume
+    (at-node (layout_of c.args.layout.now) (affinity_of c.args.affinity) (trees.Vbn c.in-VolumeVbn.volume) (ap affinity_of c.in-VolumeVbn.is)
+    c.requires.node) record { own = c.in-Vbn.own; ranges = c.gather_children.new.places } (g.S.Shelf.at c.args.shelf.now)
+    (g.S.Shelf.at c.take_parcel.new.shelf) (g.S.Shelf.at c.gather_children.new.shelf) c.in-Vbn.ensures.moved c.gather_children.ensures.moved)
 
 pub returns-clause-kept : goal.returns-clause-kept
 returns-clause-kept g c =

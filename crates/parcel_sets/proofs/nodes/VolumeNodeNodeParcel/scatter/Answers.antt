@@ -26,11 +26,16 @@ put_parcel-requires-clause-node g c =
 
 pub put_parcel-requires-clause-vacant : goal.put_parcel-requires-clause-vacant
 put_parcel-requires-clause-vacant g c =
-    (volume-from (layout_of c.args.layout.now) (IsVacant (layout_of c.args.layout.now) (g.S.Shelf.at c.args.shelf.now)) c.in-Volume.volume (at-node (layout_of c.args.layout.now) (affinity_of c.args.affinity) (trees.Volume c.in-Volume.volume) (ap affinity_of c.in-Volume.is) c.requires.node) (at-under (layout_of c.args.layout.now) (affinity_of c.args.affinity) (trees.Volume c.in-Volume.volume) (ap affinity_of c.in-Volume.is) (IsVacant (layout_of c.args.layout.now) (g.S.Shelf.at c.args.shelf.now)) c.requires.vacant)).own
+    (volume-from (layout_of c.args.layout.now) (IsVacant (layout_of c.args.layout.now) (g.S.Shelf.at c.args.shelf.now)) c.in-Volume.volume
+    (at-node (layout_of c.args.layout.now) (affinity_of c.args.affinity) (trees.Volume c.in-Volume.volume) (ap affinity_of c.in-Volume.is)
+    c.requires.node) (at-under (layout_of c.args.layout.now) (affinity_of c.args.affinity) (trees.Volume c.in-Volume.volume)
+    (ap affinity_of c.in-Volume.is) (IsVacant (layout_of c.args.layout.now) (g.S.Shelf.at c.args.shelf.now)) c.requires.vacant)).own
 
 pub put_parcel-requires-clause-allowed : goal.put_parcel-requires-clause-allowed
 put_parcel-requires-clause-allowed g c =
-    volume_own_allowed (layout_of c.args.layout.now) (g.S.Shelf.allows c.args.shelf.now) c.in-Volume.volume c.args.held (at-allowed (layout_of c.args.layout.now) (affinity_of c.args.affinity) (trees.Volume c.in-Volume.volume) (ap affinity_of c.in-Volume.is) volume_parcels c.args.held (g.S.Shelf.allows c.args.shelf.now) c.requires.allowed)
+    volume_own_allowed (layout_of c.args.layout.now) (g.S.Shelf.allows c.args.shelf.now) c.in-Volume.volume c.args.held
+    (at-allowed (layout_of c.args.layout.now) (affinity_of c.args.affinity) (trees.Volume c.in-Volume.volume) (ap affinity_of c.in-Volume.is)
+    volume_parcels c.args.held (g.S.Shelf.allows c.args.shelf.now) c.requires.allowed)
 
 pub scatter_at-requires-clause-node : goal.scatter_at-requires-clause-node
 scatter_at-requires-clause-node g c =
@@ -42,12 +47,24 @@ scatter_at-requires-clause-kind g c =
 
 pub scatter_at-requires-clause-vacant : goal.scatter_at-requires-clause-vacant
 scatter_at-requires-clause-vacant g c =
-    logical-to (layout_of c.args.layout.now) (IsVacant (layout_of c.args.layout.now) (g.S.Shelf.at c.put_parcel.new.shelf)) c.in-Volume.volume (logical-after (layout_of c.args.layout.now) (IsVacant (layout_of c.args.layout.now)) (vacant_kept (layout_of c.args.layout.now)) (g.S.Shelf.at c.args.shelf.now) (g.S.Shelf.at c.put_parcel.new.shelf) c.in-Volume.volume (given-others (g.S.Shelf.at c.args.shelf.now) (g.S.Shelf.at c.put_parcel.new.shelf) (number_of (layout_of c.args.layout.now) (trees.Volume c.in-Volume.volume)) (parcels.Volume c.args.held.own) c.put_parcel.ensures.moved) (volume-from (layout_of c.args.layout.now) (IsVacant (layout_of c.args.layout.now) (g.S.Shelf.at c.args.shelf.now)) c.in-Volume.volume (at-node (layout_of c.args.layout.now) (affinity_of c.args.affinity) (trees.Volume c.in-Volume.volume) (ap affinity_of c.in-Volume.is) c.requires.node) (at-under (layout_of c.args.layout.now) (affinity_of c.args.affinity) (trees.Volume c.in-Volume.volume) (ap affinity_of c.in-Volume.is) (IsVacant (layout_of c.args.layout.now) (g.S.Shelf.at c.args.shelf.now)) c.requires.vacant)).logical)
+    logical-to (layout_of c.args.layout.now) (IsVacant (layout_of c.args.layout.now) (g.S.Shelf.at c.put_parcel.new.shelf)) c.in-Volume.volume
+    (logical-after (layout_of c.args.layout.now) (IsVacant (layout_of c.args.layout.now)) (vacant_kept (layout_of c.args.layout.now))
+    (g.S.Shelf.at c.args.shelf.now) (g.S.Shelf.at c.put_parcel.new.shelf) c.in-Volume.volume
+    (given-others (g.S.Shelf.at c.args.shelf.now) (g.S.Shelf.at c.put_parcel.new.shelf)
+    (number_of (layout_of c.args.layout.now) (trees.Volume c.in-Volume.volume)) (parcels.Volume c.args.held.own) c.put_parcel.ensures.moved)
+    (volume-from (layout_of c.args.layout.now) (IsVacant (layout_of c.args.layout.now) (g.S.Shelf.at c.args.shelf.now)) c.in-Volume.volume
+    (at-node (layout_of c.args.layout.now) (affinity_of c.args.affinity) (trees.Volume c.in-Volume.volume) (ap affinity_of c.in-Volume.is)
+    c.requires.node) (at-under (layout_of c.args.layout.now) (affinity_of c.args.affinity) (trees.Volume c.in-Volume.volume)
+    (ap affinity_of c.in-Volume.is) (IsVacant (layout_of c.args.layout.now) (g.S.Shelf.at c.args.shelf.now)) c.requires.vacant)).logical)
 
 pub scatter_at-requires-clause-allowed : goal.scatter_at-requires-clause-allowed
 scatter_at-requires-clause-allowed g c =
-    allowed-over (logical_parcels (layout_of c.args.layout.now) (trees.Logical c.in-Volume.volume) c.args.held.logical) (g.S.Shelf.allows c.args.shelf.now) (g.S.Shelf.allows c.put_parcel.new.shelf) (λ k x. g.met.S.Shelf.keeps_allowing c.args.shelf.now c.put_parcel.new.shelf k x c.put_parcel.ensures.kept)
-    (logical_allowed (layout_of c.args.layout.now) (g.S.Shelf.allows c.args.shelf.now) c.in-Volume.volume c.args.held (at-allowed (layout_of c.args.layout.now) (affinity_of c.args.affinity) (trees.Volume c.in-Volume.volume) (ap affinity_of c.in-Volume.is) volume_parcels c.args.held (g.S.Shelf.allows c.args.shelf.now) c.requires.allowed))
+    allowed-over (logical_parcels (layout_of c.args.layout.now) (trees.Logical c.in-Volume.volume) c.args.held.logical)
+    (g.S.Shelf.allows c.args.shelf.now) (g.S.Shelf.allows c.put_parcel.new.shelf)
+    (λ k x. g.met.S.Shelf.keeps_allowing c.args.shelf.now c.put_parcel.new.shelf k x c.put_parcel.ensures.kept)
+    (logical_allowed (layout_of c.args.layout.now) (g.S.Shelf.allows c.args.shelf.now) c.in-Volume.volume c.args.held
+    (at-allowed (layout_of c.args.layout.now) (affinity_of c.args.affinity) (trees.Volume c.in-Volume.volume) (ap affinity_of c.in-Volume.is)
+    volume_parcels c.args.held (g.S.Shelf.allows c.args.shelf.now) c.requires.allowed))
 
 pub scatter_at-requires-2-clause-node : goal.scatter_at-requires-2-clause-node
 scatter_at-requires-2-clause-node g c =
@@ -60,18 +77,39 @@ scatter_at-requires-2-clause-kind g c =
 pub scatter_at-requires-2-clause-vacant : goal.scatter_at-requires-2-clause-vacant
 scatter_at-requires-2-clause-vacant g c =
     vbn-to (layout_of c.args.layout.now) (IsVacant (layout_of c.args.layout.now) (g.S.Shelf.at c.scatter_at.new.shelf)) c.in-Volume.volume
-    (vbn-after-logical (layout_of c.args.layout.now) (IsVacant (layout_of c.args.layout.now)) (vacant_kept (layout_of c.args.layout.now)) (g.S.Shelf.at c.put_parcel.new.shelf) (g.S.Shelf.at c.scatter_at.new.shelf) c.in-Volume.volume (λ k out. sym (moved-same (g.S.Shelf.at c.scatter_at.new.shelf k) (logical_parcels (layout_of c.args.layout.now) (trees.Logical c.in-Volume.volume) c.args.held.logical k) (g.S.Shelf.at c.put_parcel.new.shelf k) (logical-none (layout_of c.args.layout.now) k c.in-Volume.volume c.args.held.logical out) (c.scatter_at.ensures.moved k)))
-    (vbn-after (layout_of c.args.layout.now) (IsVacant (layout_of c.args.layout.now)) (vacant_kept (layout_of c.args.layout.now)) (g.S.Shelf.at c.args.shelf.now) (g.S.Shelf.at c.put_parcel.new.shelf) c.in-Volume.volume (given-others (g.S.Shelf.at c.args.shelf.now) (g.S.Shelf.at c.put_parcel.new.shelf) (number_of (layout_of c.args.layout.now) (trees.Volume c.in-Volume.volume)) (parcels.Volume c.args.held.own) c.put_parcel.ensures.moved) (volume-from (layout_of c.args.layout.now) (IsVacant (layout_of c.args.layout.now) (g.S.Shelf.at c.args.shelf.now)) c.in-Volume.volume (at-node (layout_of c.args.layout.now) (affinity_of c.args.affinity) (trees.Volume c.in-Volume.volume) (ap affinity_of c.in-Volume.is) c.requires.node) (at-under (layout_of c.args.layout.now) (affinity_of c.args.affinity) (trees.Volume c.in-Volume.volume) (ap affinity_of c.in-Volume.is) (IsVacant (layout_of c.args.layout.now) (g.S.Shelf.at c.args.shelf.now)) c.requires.vacant)).vbn))
+    (vbn-after-logical (layout_of c.args.layout.now) (IsVacant (layout_of c.args.layout.now)) (vacant_kept (layout_of c.args.layout.now))
+    (g.S.Shelf.at c.put_parcel.new.shelf) (g.S.Shelf.at c.scatter_at.new.shelf) c.in-Volume.volume
+    (λ k out. sym (moved-same (g.S.Shelf.at c.scatter_at.new.shelf k)
+    (logical_parcels (layout_of c.args.layout.now) (trees.Logical c.in-Volume.volume) c.args.held.logical k)
+    (g.S.Shelf.at c.put_parcel.new.shelf k) (logical-none (layout_of c.args.layout.now) k c.in-Volume.volume c.args.held.logical out)
+    (c.scatter_at.ensures.moved k)))
+    (vbn-after (layout_of c.args.layout.now) (IsVacant (layout_of c.args.layout.now)) (vacant_kept (layout_of c.args.layout.now))
+    (g.S.Shelf.at c.args.shelf.now) (g.S.Shelf.at c.put_parcel.new.shelf) c.in-Volume.volume
+    (given-others (g.S.Shelf.at c.args.shelf.now) (g.S.Shelf.at c.put_parcel.new.shelf)
+    (number_of (layout_of c.args.layout.now) (trees.Volume c.in-Volume.volume)) (parcels.Volume c.args.held.own) c.put_parcel.ensures.moved)
+    (volume-from (layout_of c.args.layout.now) (IsVacant (layout_of c.args.layout.now) (g.S.Shelf.at c.args.shelf.now)) c.in-Volume.volume
+    (at-node (layout_of c.args.layout.now) (affinity_of c.args.affinity) (trees.Volume c.in-Volume.volume) (ap affinity_of c.in-Volume.is)
+    c.requires.node) (at-under (layout_of c.args.layout.now) (affinity_of c.args.affinity) (trees.Volume c.in-Volume.volume)
+    (ap affinity_of c.in-Volume.is) (IsVacant (layout_of c.args.layout.now) (g.S.Shelf.at c.args.shelf.now)) c.requires.vacant)).vbn))
 
 pub scatter_at-requires-2-clause-allowed : goal.scatter_at-requires-2-clause-allowed
 scatter_at-requires-2-clause-allowed g c =
-    allowed-over (vbn_parcels (layout_of c.args.layout.now) (trees.Vbn c.in-Volume.volume) c.args.held.vbn) (g.S.Shelf.allows c.args.shelf.now) (g.S.Shelf.allows c.scatter_at.new.shelf) (λ k x h. g.met.S.Shelf.keeps_allowing c.put_parcel.new.shelf c.scatter_at.new.shelf k x c.scatter_at.ensures.kept (g.met.S.Shelf.keeps_allowing c.args.shelf.now c.put_parcel.new.shelf k x c.put_parcel.ensures.kept h))
-    (vbn_allowed (layout_of c.args.layout.now) (g.S.Shelf.allows c.args.shelf.now) c.in-Volume.volume c.args.held (at-allowed (layout_of c.args.layout.now) (affinity_of c.args.affinity) (trees.Volume c.in-Volume.volume) (ap affinity_of c.in-Volume.is) volume_parcels c.args.held (g.S.Shelf.allows c.args.shelf.now) c.requires.allowed))
+    allowed-over (vbn_parcels (layout_of c.args.layout.now) (trees.Vbn c.in-Volume.volume) c.args.held.vbn) (g.S.Shelf.allows c.args.shelf.now)
+    (g.S.Shelf.allows c.scatter_at.new.shelf)
+    (λ k x h. g.met.S.Shelf.keeps_allowing c.put_parcel.new.shelf c.scatter_at.new.shelf k x c.scatter_at.ensures.kept
+    (g.met.S.Shelf.keeps_allowing c.args.shelf.now c.put_parcel.new.shelf k x c.put_parcel.ensures.kept h))
+    (vbn_allowed (layout_of c.args.layout.now) (g.S.Shelf.allows c.args.shelf.now) c.in-Volume.volume c.args.held
+    (at-allowed (layout_of c.args.layout.now) (affinity_of c.args.affinity) (trees.Volume c.in-Volume.volume) (ap affinity_of c.in-Volume.is)
+    volume_parcels c.args.held (g.S.Shelf.allows c.args.shelf.now) c.requires.allowed))
 
 pub returns-clause-moved : goal.returns-clause-moved
 returns-clause-moved g c =
-    at-taken (layout_of c.args.layout.now) (affinity_of c.args.affinity) (trees.Volume c.in-Volume.volume) (ap affinity_of c.in-Volume.is) volume_parcels c.args.held (g.S.Shelf.at c.scatter_at-2.new.shelf) (g.S.Shelf.at c.args.shelf.now)
-    (volume-scattered (layout_of c.args.layout.now) c.in-Volume.volume (at-node (layout_of c.args.layout.now) (affinity_of c.args.affinity) (trees.Volume c.in-Volume.volume) (ap affinity_of c.in-Volume.is) c.requires.node) c.args.held (g.S.Shelf.at c.args.shelf.now) (g.S.Shelf.at c.put_parcel.new.shelf) (g.S.Shelf.at c.scatter_at.new.shelf) (g.S.Shelf.at c.scatter_at-2.new.shelf) c.put_parcel.ensures.moved c.scatter_at.ensures.moved c.scatter_at-2.ensures.moved)
+    at-taken (layout_of c.args.layout.now) (affinity_of c.args.affinity) (trees.Volume c.in-Volume.volume) (ap affinity_of c.in-Volume.is)
+    volume_parcels c.args.held (g.S.Shelf.at c.scatter_at-2.new.shelf) (g.S.Shelf.at c.args.shelf.now)
+    (volume-scattered (layout_of c.args.layout.now) c.in-Volume.volume
+    (at-node (layout_of c.args.layout.now) (affinity_of c.args.affinity) (trees.Volume c.in-Volume.volume) (ap affinity_of c.in-Volume.is)
+    c.requires.node) c.args.held (g.S.Shelf.at c.args.shelf.now) (g.S.Shelf.at c.put_parcel.new.shelf) (g.S.Shelf.at c.scatter_at.new.shelf)
+    (g.S.Shelf.at c.scatter_at-2.new.shelf) c.put_parcel.ensures.moved c.scatter_at.ensures.moved c.scatter_at-2.ensures.moved)
 
 pub returns-clause-kept : goal.returns-clause-kept
 returns-clause-kept g c =

@@ -1,0 +1,14 @@
+mod Evaluate
+mod Cases
+mod Attributes
+mod Making
+mod Leaving
+mod Pages
+mod Renaming
+mod Bytes
+mod Administration
+mod Homes
+mod Numbers
+mod Toy
+mod Happening
+mod Moving
