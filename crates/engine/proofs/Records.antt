@@ -10,9 +10,9 @@ use Rattle.nfs_values.specs.Reply.{reply_of}
 use Rattle.rpc_msg.specs.Records as records
 use Rattle.rpc_msg.specs.Replies.{IsShort}
 use Rattle.rpc_msg.specs.Replies as replies
-use Rattle.rpc_msg.proofs.Sizes.{short}
-use Rattle.rpc_msg.proofs.Refusals.{refusal_is_short}
-use Rattle.rpc_msg.proofs.Hearing.{fault_of_record, record_is_decoded, record_asks_reading}
+use Rattle.rpc_msg.specs.lemmas.Sizes.{short}
+use Rattle.rpc_msg.specs.lemmas.Refusals.{refusal_is_short}
+use Rattle.rpc_msg.specs.lemmas.Hearing.{fault_of_record, record_is_decoded, record_asks_reading}
 use Rattle.rpc_msg.specs.Seen as told
 use Rattle.rpc_msg.specs.declared.fault.Fault.{Fault}
 use Rattle.rpc_msg.specs.declared.fault.Fault.TheVariants as faults

@@ -6,15 +6,15 @@ use Rattle.xdr.specs.declared.fault.Fault.{Fault as Unread}
 use Rattle.xdr.specs.declared.fault.Fault.TheVariants as unreads
 use Rattle.xdr.specs.Shape.{Shape, Word, Fixed, Value, Spells, word, padded, padding, spelling}
 use Rattle.xdr.specs.Reading.{Reads, fixed_at, read, all_of}
-use Rattle.xdr.proofs.Items.{IsBytes}
-use Rattle.xdr.proofs.Shapes.{again, all_found}
+use Rattle.xdr.specs.lemmas.Items.{IsBytes}
+use Rattle.xdr.specs.lemmas.Shapes.{again, all_found}
 use Rattle.nfs_model.specs.Types as model
 use Rattle.nfs_model.specs.World.{Heard}
 use Rattle.nfs_values.specs.declared.procedure.Procedure.{Procedure}
 use Rattle.nfs_values.specs.Procedure.{numbers_of}
 use Rattle.nfs_types.specs.Arguments.{Asks, asked}
 use Rattle.nfs_types.specs.Shapes.{◌&◌}
-use Rattle.nfs_types.proofs.Exact.{asked_found, asked_again}
+use Rattle.nfs_types.specs.lemmas.Exact.{asked_found, asked_again}
 use Rattle.rpc_msg.specs.Replies.{auth_shape}
 use Rattle.rpc_msg.specs.Heads.{◌>>=◌, Stop, Body, whole, numbers_shape, auth_sys_shape, body_of, user_of, acting, credential_at, procedure_of, body_at}
 use Rattle.rpc_msg.specs.Heads.{under, xid_of, head_from, Refuse, bad_credential}
@@ -23,7 +23,7 @@ use Rattle.rpc_msg.specs.Records.{asked_by, heard_from, heard}
 use Rattle.rpc_msg.specs.Hearing.{Begins, BeginsNone, Opens, flavor_of, size_of, Acts, IsHead, IsIncomplete, NoMessage, NoVersion, NoNumbers, NoBody}
 use Rattle.rpc_msg.specs.Hearing.{NoVerifier, IsNoCall, IsOfAnotherRpc, HasAnotherFlavor, IsBadBody, TooLong, BadPadding, NoUser, HasBadCredential}
 use Rattle.rpc_msg.specs.Hearing.{IsOfNoProgram, IsOfAnotherVersion, IsOfNoProcedure, HasGarbage, IsAsking, IsRefusedWith, Says, IsHeardAs}
-use Rattle.rpc_msg.proofs.Numbered.{none_numbered}
+use Rattle.rpc_msg.specs.lemmas.Numbered.{none_numbered}
 use Rattle.rpc_msg.proofs.Saying.{begun, read_again, fixed_short}
 use Rattle.rpc_msg.proofs.Spelled.{IsBytes-front, from_version, from_numbers, from_credential, from_verifier, joined}
 use Rattle.rpc_msg.proofs.SpelledAgain.{credential_again, call_again}

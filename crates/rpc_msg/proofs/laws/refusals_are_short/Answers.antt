@@ -1,4 +1,4 @@
-use Rattle.rpc_msg.proofs.Refusals.{refusal_is_short}
+use Rattle.rpc_msg.specs.lemmas.Refusals.{refusal_is_short}
 use Rattle.rpc_msg.proofs.laws.refusals_are_short.Goals as goal
 
 pub returns : goal.returns

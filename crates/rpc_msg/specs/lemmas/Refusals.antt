@@ -15,7 +15,7 @@ use Rattle.rpc_msg.specs.Heads.{user_of, acting, credential_at, version_of, proc
 use Rattle.rpc_msg.specs.Heads.{xid_of, head_from, head_of}
 use Rattle.rpc_msg.specs.Room.{refusal_room}
 use Rattle.rpc_msg.specs.Records.{asked_by, heard_from, heard}
-use Rattle.rpc_msg.proofs.Hearing.{same_heard}
+use Rattle.rpc_msg.specs.lemmas.Hearing.{same_heard}
 
 -- where a call isn't served, the reply refuses it
 abbrev IsSound : {A : Type 0} → Result A Stop → Type 0

@@ -1,9 +1,9 @@
 -- Arguments are asked exactly where they are spelled.
 use Rattle.std.proofs.Common.{◌≡◌, ℕ, List, Ok, refl, sym, ap, ◌∙◌}
 use Rattle.xdr.specs.Reading.{all_of}
-use Rattle.xdr.proofs.Steps.{bind_ok, ok_is}
-use Rattle.xdr.proofs.Items.{IsBytes}
-use Rattle.xdr.proofs.Shapes.{all_found, all_again}
+use Rattle.xdr.specs.lemmas.Steps.{bind_ok, ok_is}
+use Rattle.xdr.specs.lemmas.Items.{IsBytes}
+use Rattle.xdr.specs.lemmas.Shapes.{all_found, all_again}
 use Rattle.nfs_model.specs.Types as model
 use Rattle.nfs_values.specs.declared.procedure.Procedure.{Procedure}
 use Rattle.nfs_values.specs.declared.procedure.Procedure.TheVariants.{Null, GetAttributes, SetAttributes, Lookup, Read, Write, Create, MakeDirectory, Remove}

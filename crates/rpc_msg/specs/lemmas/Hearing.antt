@@ -11,10 +11,10 @@ use Rattle.nfs_values.specs.declared.procedure.Procedure.TheVariants.{Null, GetA
 use Rattle.nfs_values.specs.Procedure.{is_served}
 use Rattle.nfs_types.specs.Arguments.{asked, arguments_shape, call_from}
 use Rattle.nfs_types.specs.Shapes.{◌&◌}
-use Rattle.nfs_types.proofs.Exact.{asked_is}
+use Rattle.nfs_types.specs.lemmas.Exact.{asked_is}
 use Rattle.rpc_msg.specs.Heads.{Stop, Incomplete, Refuse, Body, Head, Call, Refused, Faulty, xid_of, body_at, under, head_from, head_of}
 use Rattle.rpc_msg.specs.Records.{asked_by, heard_from, heard}
-use Rattle.rpc_msg.proofs.Serving.{HeadServes, head_serves}
+use Rattle.rpc_msg.specs.lemmas.Serving.{HeadServes, head_serves}
 
 -- ---- faults
 

@@ -5,8 +5,8 @@ use Rattle.std.specs.List.{flat_map, AllByRecursion}
 use Rattle.std.proofs.lemmas.List.{length-append}
 use Rattle.xdr.specs.Shape.{word, flag, linked}
 use Rattle.xdr.specs.Reading.{◌>>=◌, Reads, boolean_at, items_at, links_at}
-use Rattle.xdr.proofs.Steps.{bind_ok, chosen, ok_is}
-use Rattle.xdr.proofs.Items.{Splits, Splits-then, Found, Again, boolean_found, boolean_again}
+use Rattle.xdr.specs.lemmas.Steps.{bind_ok, chosen, ok_is}
+use Rattle.xdr.specs.lemmas.Items.{Splits, Splits-then, Found, Again, boolean_found, boolean_again}
 
 pub items_found : {A : Type 0} (item : List ℕ → Reads A) (spell : A → List ℕ) (fits : A → Type 0) → Found item spell fits → (n : ℕ)
     → Found (items_at item n) (flat_map spell) (λ xs. AllByRecursion fits xs × (length xs ≡ n))

@@ -7,8 +7,8 @@ use Rattle.std.proofs.lemmas.Bool.{eqb-true, eqb-false, eq-eqb, ne_eqb}
 use Rattle.xdr.specs.declared.fault.Fault.TheVariants.{BadEnum}
 use Rattle.xdr.specs.Shape.{Shape, Case, NoCase, Value, word, spelling, discriminant, Fits}
 use Rattle.xdr.specs.Reading.{◌>>=◌, Reads, number_at, is_union, read}
-use Rattle.xdr.proofs.Steps.{bind_ok, chosen, ok_is}
-use Rattle.xdr.proofs.Items.{Splits, Splits-then, Found, Again, word_found, word_again}
+use Rattle.xdr.specs.lemmas.Steps.{bind_ok, chosen, ok_is}
+use Rattle.xdr.specs.lemmas.Items.{Splits, Splits-then, Found, Again, word_found, word_again}
 
 -- the value of an option of which a fact holds
 pub some_and : (o : Option ℕ) (P : ℕ → Type 0) → IsSomeAnd o P → (x : ℕ) × (o ≡ Some x) × P x

@@ -7,8 +7,8 @@ use Rattle.std.proofs.lemmas.List.{take_at, drop_at, take-append-drop, length-ap
 use Rattle.xdr.specs.declared.fault.Fault.TheVariants.{Short, BadPad}
 use Rattle.xdr.specs.Shape.{word, padding, padded, counted}
 use Rattle.xdr.specs.Reading.{length_at, fixed_at, opaque_at}
-use Rattle.xdr.proofs.Steps.{bind_ok, chosen, ok_is}
-use Rattle.xdr.proofs.Items.{IsBytes-drop, Splits, Splits-then, Found, Again, length_found, length_again}
+use Rattle.xdr.specs.lemmas.Steps.{bind_ok, chosen, ok_is}
+use Rattle.xdr.specs.lemmas.Items.{IsBytes-drop, Splits, Splits-then, Found, Again, length_found, length_again}
 
 and_parts : (a b : Bool) → (a && b) ≡ true → (a ≡ true) × (b ≡ true)
 and_parts true b e = (refl, e)

@@ -1,7 +1,7 @@
 -- How long replies are.
 use Rattle.std.proofs.Common.{ℕ, ◌≤◌, length, arith}
 use Rattle.nfs_model.specs.Types as model
-use Rattle.nfs_types.proofs.Absent.{length-absent_parts}
+use Rattle.nfs_types.specs.lemmas.Absent.{length-absent_parts}
 use Rattle.rpc_msg.specs.Replies.{reply_record, IsShort}
 
 -- at most the attributes of one node

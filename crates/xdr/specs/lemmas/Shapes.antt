@@ -9,12 +9,12 @@ use Rattle.xdr.specs.declared.fault.Fault.TheVariants.{LeftOver}
 use Rattle.xdr.specs.Shape.{Shape, Void, Word, Hyper, Boolean, Choice, Fixed, Opaque, Pair, Array, Case, NoCase, Optional, Chain, Value, word, flag, linked}
 use Rattle.xdr.specs.Shape.{spelling, Fits, Spells}
 use Rattle.xdr.specs.Reading.{◌>>=◌, boolean_at, length_at, items_at, read, all_read, all_of}
-use Rattle.xdr.proofs.Steps.{bind_ok, chosen, ok_is}
-use Rattle.xdr.proofs.Items.{IsBytes, Splits, Splits-then, Found, Again, wide64, number_found, number_again, word_found, word_again, boolean_found}
-use Rattle.xdr.proofs.Items.{boolean_again, choice_found, choice_again, length_found, length_again}
-use Rattle.xdr.proofs.Bytes.{fixed_found, fixed_again, opaque_found, opaque_again}
-use Rattle.xdr.proofs.Lists.{items_found, items_again, links_found, links_again, length-linked}
-use Rattle.xdr.proofs.Unions.{case_found, case_again}
+use Rattle.xdr.specs.lemmas.Steps.{bind_ok, chosen, ok_is}
+use Rattle.xdr.specs.lemmas.Items.{IsBytes, Splits, Splits-then, Found, Again, wide64, number_found, number_again, word_found, word_again, boolean_found}
+use Rattle.xdr.specs.lemmas.Items.{boolean_again, choice_found, choice_again, length_found, length_again}
+use Rattle.xdr.specs.lemmas.Bytes.{fixed_found, fixed_again, opaque_found, opaque_again}
+use Rattle.xdr.specs.lemmas.Lists.{items_found, items_again, links_found, links_again, length-linked}
+use Rattle.xdr.specs.lemmas.Unions.{case_found, case_again}
 
 pub found : (shape : Shape) → Found (read shape) (spelling shape) (Fits shape)
 found Void bytes x fits e =

@@ -9,7 +9,7 @@ use Rattle.std.proofs.lemmas.Nat.{be_bytes_4, be_bytes_8, from_be_bytes-to_be_by
 use Rattle.xdr.specs.declared.fault.Fault.TheVariants.{Short, BadBool, BadEnum, TooLong}
 use Rattle.xdr.specs.Shape.{word, flag}
 use Rattle.xdr.specs.Reading.{Reads, number_at, boolean_of, boolean_at, choice_at, length_at}
-use Rattle.xdr.proofs.Steps.{bind_ok, guard_ok, chosen, ok_is}
+use Rattle.xdr.specs.lemmas.Steps.{bind_ok, guard_ok, chosen, ok_is}
 
 abbrev pub IsBytes : List ℕ → Type 0
 IsBytes bytes = (i : ℕ) → get_or bytes i 0 < 256

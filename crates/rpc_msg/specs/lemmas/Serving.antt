@@ -7,7 +7,7 @@ use Rattle.nfs_values.specs.Procedure.{all_procedures, is_served}
 use Rattle.rpc_msg.specs.Replies.{auth_shape}
 use Rattle.rpc_msg.specs.Heads.{◌>>=◌, Stop, Incomplete, Refuse, Body, Head, Call, Refused, Faulty, whole, version_at, numbers_shape, credential_at}
 use Rattle.rpc_msg.specs.Heads.{version_of, procedures, is_numbered, available, of_version, procedure_of, xid_of, body_at, under, head_from}
-use Rattle.rpc_msg.proofs.Numbered.{FoundIs, found_is}
+use Rattle.rpc_msg.specs.lemmas.Numbered.{FoundIs, found_is}
 
 abbrev FoundServes : Result Procedure Stop → Type 0
 FoundServes (Ok procedure) = is_served procedure ≡ true
