@@ -5,7 +5,7 @@ ghost use Rattle.std.specs.Prelude.{IfSome, vec_len, vec_capacity};
 ghost use Rattle.nfs_model.specs.World.{changed_at, with_output};
 ghost use Rattle.nfs_model.specs.Events.Step.{bytes_if_open};
 ghost use Rattle.nfs_values.specs.Reply.{reply_of};
-ghost use Rattle.rpc_msg.specs.Replies.{IsShort};
+ghost use Rattle.engine.specs.Short.{IsShort};
 ghost use Rattle.engine.specs.Codec.{reply_record};
 ghost use Rattle.engine.specs.Seen.{world, entry_by};
 ghost use Rattle.engine.specs.Sound.{HasRoomToReply, IsWrittenTo, Releases, Responds, KeepsEntry};

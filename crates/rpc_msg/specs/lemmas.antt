@@ -3,4 +3,3 @@ pub mod Numbered
 pub mod Serving
 pub mod Hearing
 pub mod Refusals
-pub mod Sizes

@@ -10,19 +10,12 @@ ghost use Rattle.rpc_msg.specs.Heads.{Call, head_of};
 ghost use Rattle.rpc_msg.specs.Calls.{IsCall};
 ghost use Rattle.rpc_msg.specs.Hearing.{IsHeardAs};
 ghost use Rattle.rpc_msg.specs.Records.{heard};
-ghost use Rattle.rpc_msg.specs.Replies.{reply_record, IsRefusal, IsShort};
+ghost use Rattle.rpc_msg.specs.Replies.{reply_record, IsRefusal};
 ghost use Rattle.rpc_msg.specs.Room.{IsRoomy, refusal_room, reply_room};
 ghost use Rattle.nfs_model.specs.Server.{Server, opening};
 ghost use Rattle.nfs_model.specs.Tree.{Layout};
 ghost use Rattle.nfs_model.specs.Serial.Step.{serial};
 ghost use Rattle.nfs_model.specs.Serial.AtOnce.{answer_without_home};
-
-/// The record of a reply with at most one node's attributes takes at most 116 bytes.
-pub fn short_replies_are_short()
-    ensures { (xid : ℕ) (reply : model.Reply)
-        → IsShort reply
-        → length (reply_record xid reply) ≤ 116 }
-{}
 
 /// The record of the reply to a call takes no more than the call's room: where it runs on any
 /// roomy server, starved or not, and where it is answered without an affinity.
@@ -91,14 +84,6 @@ pub fn records_ask_readings()
     ensures { (bytes : List ℕ) (h : Heard)
         → heard bytes ≡ Ok h
         → AsksReading h.asked }
-{}
-
-/// A reply that refuses a record is short.
-pub fn refusals_are_short()
-    ensures { (bytes : List ℕ) (h : Heard) (reply : model.Reply)
-        → heard bytes ≡ Ok h
-        → h.asked ≡ model.Refused reply
-        → IsShort reply }
 {}
 
 /// A head says a call exactly where the bytes spell one that is served, and then its arguments.

@@ -9,7 +9,7 @@ use Rattle.nfs_model.specs.World.{Heard}
 use Rattle.nfs_values.specs.declared.procedure.Procedure.{Procedure}
 use Rattle.nfs_types.specs.Arguments.{asked}
 use Rattle.nfs_types.specs.Shapes.{◌&◌}
-use Rattle.rpc_msg.specs.Replies.{auth_shape, reply_record, IsRefusal, IsShort}
+use Rattle.rpc_msg.specs.Replies.{auth_shape, reply_record, IsRefusal}
 use Rattle.rpc_msg.specs.Heads.{◌>>=◌, Stop, Incomplete, Refuse, Body, Head, Call, Refused, Faulty, whole, version_at, numbers_shape, auth_sys_shape, body_of}
 use Rattle.rpc_msg.specs.Heads.{user_of, acting, credential_at, version_of, procedures, is_numbered, available, of_version, procedure_of, body_at, under}
 use Rattle.rpc_msg.specs.Heads.{xid_of, head_from, head_of}
@@ -111,13 +111,6 @@ heard_refuses (Faulty number) h s e = absurd cc
 
 pub refusal_refuses : (bytes : List ℕ) (h : Heard) (reply : model.Reply) → heard bytes ≡ Ok h → h.asked ≡ model.Refused reply → IsRefusal reply
 refusal_refuses bytes h reply e r = subst AskedRefuses r (heard_refuses (head_of bytes) h (head_sound (read (Word & Word) bytes)) e)
-
-short_refusal : (reply : model.Reply) → IsRefusal reply → IsShort reply
-short_refusal (model.Success answer) r = absurd r
-short_refusal reply r = tt
-
-pub refusal_is_short : (bytes : List ℕ) (h : Heard) (reply : model.Reply) → heard bytes ≡ Ok h → h.asked ≡ model.Refused reply → IsShort reply
-refusal_is_short bytes h reply e r = short_refusal reply (refusal_refuses bytes h reply e r)
 
 pub refusal_fits : (reply : model.Reply) (xid : ℕ) → IsRefusal reply → length (reply_record xid reply) ≤ refusal_room
 refusal_fits (model.Success answer) xid r = absurd r

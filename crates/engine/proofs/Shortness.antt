@@ -1,8 +1,9 @@
--- How long replies are.
+-- Replies that are short.
 use Rattle.std.proofs.Common.{ℕ, ◌≤◌, length, arith}
 use Rattle.nfs_model.specs.Types as model
 use Rattle.nfs_types.specs.lemmas.Absent.{length-absent_parts}
-use Rattle.rpc_msg.specs.Replies.{reply_record, IsShort}
+use Rattle.rpc_msg.specs.Replies.{reply_record, IsRefusal}
+use Rattle.engine.specs.Short.{IsShort}
 
 -- at most the attributes of one node
 pub short : (xid : ℕ) (reply : model.Reply) → IsShort reply → length (reply_record xid reply) ≤ 116
@@ -17,3 +18,7 @@ short xid (model.GarbageArguments) s = omega arith
 short xid (model.SystemError) s = omega arith
 short xid (model.RpcMismatch low high) s = omega arith
 short xid (model.AuthError number) s = omega arith
+
+pub short_refusal : (reply : model.Reply) → IsRefusal reply → IsShort reply
+short_refusal (model.Success answer) r = absurd r
+short_refusal reply r = tt
