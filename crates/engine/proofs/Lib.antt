@@ -16,3 +16,4 @@ pub mod Serves
 pub mod Runs
 pub mod Marking
 pub mod Rooms
+pub mod Shortness

@@ -8,11 +8,11 @@ use Rattle.nfs_model.specs.ReadOnly.{AsksReading, IsReading}
 use Rattle.nfs_values.specs.declared.reply.Reply.{Reply}
 use Rattle.nfs_values.specs.Reply.{reply_of}
 use Rattle.rpc_msg.specs.Records as records
-use Rattle.rpc_msg.specs.Replies.{IsShort}
 use Rattle.rpc_msg.specs.Replies as replies
-use Rattle.rpc_msg.proofs.Sizes.{short}
-use Rattle.rpc_msg.proofs.Refusals.{refusal_is_short}
-use Rattle.rpc_msg.proofs.Hearing.{fault_of_record, record_is_decoded, record_asks_reading}
+use Rattle.rpc_msg.specs.lemmas.Refusals.{refusal_refuses}
+use Rattle.engine.specs.Short.{IsShort}
+use Rattle.engine.proofs.Shortness.{short, short_refusal}
+use Rattle.rpc_msg.specs.lemmas.Hearing.{fault_of_record, record_is_decoded, record_asks_reading}
 use Rattle.rpc_msg.specs.Seen as told
 use Rattle.rpc_msg.specs.declared.fault.Fault.{Fault}
 use Rattle.rpc_msg.specs.declared.fault.Fault.TheVariants as faults
@@ -44,7 +44,7 @@ pub heard-is-reading : (bytes : List ℕ) (xid : ℕ) (call : types.Call) (crede
 heard-is-reading bytes xid call credential e = record_asks_reading bytes (record { xid = xid; asked = types.Ask call credential }) e
 
 pub refused-is-short : (bytes : List ℕ) (xid : ℕ) (reply : types.Reply) → records.heard bytes ≡ Ok (record { xid = xid; asked = types.Refused reply }) → IsShort reply
-refused-is-short bytes xid reply e = refusal_is_short bytes (record { xid = xid; asked = types.Refused reply }) reply e refl
+refused-is-short bytes xid reply e = short_refusal reply (refusal_refuses bytes (record { xid = xid; asked = types.Refused reply }) reply e refl)
 
 -- ---- replies
 

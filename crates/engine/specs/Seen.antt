@@ -61,7 +61,7 @@ tried None = trees.Serial
 tried (Some a) = a
 
 abbrev pub message_of : trees.Layout → Message → worlds.Message
-message_of layout m = record { connection = m.origin.connection; number = m.origin.number; xid = m.origin.xid; asked = types.Ask (call_of m.call) (credential_of m.credential); affinity = tried (home layout (call_of m.call)) }
+message_of layout m = record { connection = m.origin.connection.0; number = m.origin.number; xid = m.origin.xid; asked = types.Ask (call_of m.call) (credential_of m.credential); affinity = tried (home layout (call_of m.call)) }
 
 abbrev pub outcome_of : Answer → tasks.Outcome
 outcome_of answer = tasks.Replied (types.Success (answers.answer_of answer))
@@ -70,11 +70,11 @@ abbrev pub running_of : trees.Layout → Running → worlds.Running
 running_of layout r = record { message = message_of layout r.message; moment = moment_of r.moment; outcome = option_map outcome_of r.answer }
 
 abbrev pub entry_of : Entry → replays.FinishedCall
-entry_of e = record { connection = e.origin.connection; number = e.origin.number; xid = e.origin.xid; asked = asked_in e.request; affinity = option_map affinity_of e.affinity; moment = moment_of e.moment; starved = e.starved }
+entry_of e = record { connection = e.origin.connection.0; number = e.origin.number; xid = e.origin.xid; asked = asked_in e.request; affinity = option_map affinity_of e.affinity; moment = moment_of e.moment; starved = e.starved }
 
 -- a finished call, starved just where it wasn't decoded
 abbrev pub entry_by : Origin → Option Request → Option Affinity → Moment → replays.FinishedCall
-entry_by origin request affinity moment = record { connection = origin.connection; number = origin.number; xid = origin.xid; asked = asked_in request; affinity = option_map affinity_of affinity; moment = moment_of moment; starved = is_none request }
+entry_by origin request affinity moment = record { connection = origin.connection.0; number = origin.number; xid = origin.xid; asked = asked_in request; affinity = option_map affinity_of affinity; moment = moment_of moment; starved = is_none request }
 
 -- ---- connections
 

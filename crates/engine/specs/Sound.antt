@@ -58,7 +58,7 @@ IsLent (Some p) (Some r) = ⊥
 
 -- the room that a message keeps on a connection
 abbrev pub owed_to : ℕ → Message → ℕ
-owed_to c m = if m.origin.connection == c then m.room else 0
+owed_to c m = if m.origin.connection.0 == c then m.room else 0
 
 abbrev pub owed_waiting : ℕ → List Message → ℕ
 owed_waiting c [] = 0
@@ -100,7 +100,7 @@ pub record IsPlaced (layout : Layout) (connections : ℕ) (m : Message) : Type 0
   pub served : IsReading (call_of m.call)
   pub at_home : home layout (call_of m.call) ≡ Some (affinity_of m.affinity)
   pub room : m.room ≡ reply_room (length layout.volumes) (call_of m.call)
-  pub known : m.origin.connection < connections
+  pub known : m.origin.connection.0 < connections
 
 pub record IsSound (s : states.State) : Type 0 where
   pub current : IfSome s.current (λ c. IsRoomy (owed s) c × (vec_len s.past < vec_capacity s.past))

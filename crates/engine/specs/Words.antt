@@ -82,11 +82,11 @@ FeedsAll old bytes taken stop new = Walks (setup_in old) (vec_len old.past) (wor
 
 -- the record of a reply is written to its connection, where that is open
 abbrev pub HasWritten : Origin → types.Reply → State → State → Type 0
-HasWritten origin reply old new = world new ≡ record (world old) { connections = changed_at (with_output (reply_record origin.xid reply)) (world old).connections origin.connection }
+HasWritten origin reply old new = world new ≡ record (world old) { connections = changed_at (with_output (reply_record origin.xid reply)) (world old).connections origin.connection.0 }
 
 -- how many bytes that is
 abbrev pub written_count : Origin → types.Reply → State → ℕ
-written_count origin reply old = length (bytes_if_open (slice_get (world old).connections origin.connection) (reply_record origin.xid reply))
+written_count origin reply old = length (bytes_if_open (slice_get (world old).connections origin.connection.0) (reply_record origin.xid reply))
 
 -- a call is kept as finished
 abbrev pub HasFinished : Origin → Option Request → Option Affinity → Moment → State → State → Type 0

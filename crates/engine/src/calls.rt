@@ -113,7 +113,7 @@ pub(crate) fn finish(state: &mut State, worker: usize) -> Result<Done, Refusal>
     release(state, origin, message.room);
     keep_entry(state, origin, Some(request), affinity, moment);
     Ok(Done::Written {
-        connection: origin.connection,
+        connection: origin.connection.0,
         count,
     })
 }

@@ -29,7 +29,7 @@ use crate::state::{PLACES, REPLY_LIMIT, State};
 use crate::work::answer_at_once;
 use affinity::home_of;
 use nfs_laws::laws::{feeds_are_walks, without_home_stays};
-use nfs_values::{Moment, Reply};
+use nfs_values::{ConnectionNumber, Moment, Reply};
 use rpc_msg::room_of_reply;
 use rpc_record::Look;
 use std::alloc::AllocError;
@@ -86,7 +86,7 @@ fn admit(state: &mut State, number: usize, heard: Heard)
     ensures sound { IsSound state.new }
 {
     let origin = Origin {
-        connection: state.past.len(),
+        connection: ConnectionNumber(state.past.len()),
         number,
         xid: heard.xid,
     };
@@ -140,7 +140,7 @@ fn starve(state: &mut State, number: usize, xid: u32)
     ensures sound { IsSound state.new }
 {
     let origin = Origin {
-        connection: state.past.len(),
+        connection: ConnectionNumber(state.past.len()),
         number,
         xid,
     };

@@ -5,7 +5,7 @@ ghost use Rattle.std.specs.Prelude.{IfSome, vec_len, vec_capacity};
 ghost use Rattle.nfs_model.specs.World.{changed_at, with_output};
 ghost use Rattle.nfs_model.specs.Events.Step.{bytes_if_open};
 ghost use Rattle.nfs_values.specs.Reply.{reply_of};
-ghost use Rattle.rpc_msg.specs.Replies.{IsShort};
+ghost use Rattle.engine.specs.Short.{IsShort};
 ghost use Rattle.engine.specs.Codec.{reply_record};
 ghost use Rattle.engine.specs.Seen.{world, entry_by};
 ghost use Rattle.engine.specs.Sound.{HasRoomToReply, IsWrittenTo, Releases, Responds, KeepsEntry};
@@ -36,12 +36,12 @@ fn write_to(last: &mut OpenConnection, xid: u32, reply: &Reply) -> usize
 /// record's connection is closed.
 pub(crate) fn respond(state: &mut State, origin: Origin, reply: &Reply) -> usize
     requires short { IsShort (reply_of reply.now) }
-    requires room { HasRoomToReply state.old origin.connection }
+    requires room { HasRoomToReply state.old origin.connection.0 }
     ensures written { HasWritten origin (reply_of reply.now) state.old state.new }
     ensures count { result ≡ written_count origin (reply_of reply.now) state.old }
-    ensures responds { Responds origin.connection state.old state.new }
+    ensures responds { Responds origin.connection.0 state.old state.new }
 {
-    if origin.connection != state.past.len() {
+    if origin.connection.0 != state.past.len() {
         return 0;
     }
     match &mut state.current {
@@ -53,10 +53,10 @@ pub(crate) fn respond(state: &mut State, origin: Origin, reply: &Reply) -> usize
 /// Gives up the room of a message's reply, which was written where its connection is open.
 pub(crate) fn release(state: &mut State, origin: Origin, room: usize)
     requires { IfSome state.old.current
-        (λ c. origin.connection ≡ vec_len state.old.past → room ≤ c.owed) }
-    ensures { Releases origin.connection room state.old state.new }
+        (λ c. origin.connection.0 ≡ vec_len state.old.past → room ≤ c.owed) }
+    ensures { Releases origin.connection.0 room state.old state.new }
 {
-    if origin.connection != state.past.len() {
+    if origin.connection.0 != state.past.len() {
         return;
     }
     if let Some(last) = &mut state.current {

@@ -3,12 +3,12 @@
 use crate::parcel::VolumeLogical;
 use crate::served::{Refused, ServedAnswer, ServedCall};
 use affinity_tree::Affinity;
-use nfs_values::{Credential, Moment};
+use nfs_values::{ConnectionNumber, Credential, Moment};
 
 /// The record that a call came in.
 #[derive(Clone, Copy, Debug, PartialEq, Eq)]
 pub struct Origin {
-    pub connection: usize,
+    pub connection: ConnectionNumber,
     /// Its place among the records that the connection served, from 0.
     pub number: usize,
     pub xid: u32,

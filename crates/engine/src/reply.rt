@@ -2,7 +2,7 @@
 
 ghost use Rattle.std.specs.Prelude.{◌≡◌, ◌+◌, ◌≤◌, ◌++◌, vec_len, vec_capacity};
 ghost use Rattle.nfs_values.specs.Reply.{reply_of};
-ghost use Rattle.rpc_msg.specs.Replies.{IsShort};
+ghost use Rattle.engine.specs.Short.{IsShort};
 ghost use Rattle.engine.specs.Codec.{reply_record};
 
 use nfs_values::Reply;

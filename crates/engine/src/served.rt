@@ -6,8 +6,7 @@ ghost use Rattle.nfs_model.specs.ReadOnly.{IsReading};
 ghost use Rattle.nfs_values.specs.Answer.{answer_of};
 ghost use Rattle.nfs_values.specs.Call.{call_of};
 ghost use Rattle.nfs_values.specs.Reply.{reply_of};
-ghost use Rattle.rpc_msg.specs.Replies.{IsShort};
-ghost use Rattle.engine.specs.Short.{IsShortAnswer};
+ghost use Rattle.engine.specs.Short.{IsShort, IsShortAnswer};
 
 use nfs_values::{Answer, Call, Reply};
 use std::marker::Model;
@@ -95,7 +94,7 @@ impl Model for Refused {
     ghost Value = { Reply };
 
     ghost use Rattle.nfs_values.specs.Reply.{reply_of};
-    ghost use Rattle.rpc_msg.specs.Replies.{IsShort};
+    ghost use Rattle.engine.specs.Short.{IsShort};
 
     ghost view = { λ r. r.reply };
 

@@ -1,5 +1,3 @@
-pub mod Absent
-pub mod Outcomes
-pub mod Exact
 pub mod Memory
+pub mod Outcomes
 pub mod Rest

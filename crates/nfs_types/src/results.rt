@@ -23,7 +23,7 @@ fn write_done<T: Encode>(arm: &T, out: &mut Vec<u8>)
 }
 
 /// So many optional parts that are absent.
-#[tactic(auto, using(crate::proofs::Absent::absent))]
+#[tactic(auto, using(crate::specs::lemmas::Absent::absent))]
 fn write_absent_parts(count: u32, out: &mut Vec<u8>)
     requires { vec_len out.old + 4 * count ≤ vec_capacity out.old }
     ensures items { out.new.items ≡ out.old.items ++ absent_parts count }
@@ -35,7 +35,7 @@ fn write_absent_parts(count: u32, out: &mut Vec<u8>)
 }
 
 /// A status and the failure arm, with so many optional parts.
-#[tactic(auto, using(crate::proofs::Absent::absent))]
+#[tactic(auto, using(crate::specs::lemmas::Absent::absent))]
 fn write_failed(status: Status, parts: u32, out: &mut Vec<u8>)
     requires few { parts ≤ 2 }
     requires room { vec_len out.old + length (failed (status_of status) parts)
@@ -64,7 +64,7 @@ fn write_either<T: Encode>(outcome: &Result<T, Status>, parts: u32, out: &mut Ve
 }
 
 /// How many bytes they take.
-#[tactic(auto, using(crate::proofs::Absent::absent))]
+#[tactic(auto, using(crate::specs::lemmas::Absent::absent))]
 fn size_of_either<T: Encode>(outcome: &Result<T, Status>, parts: u32) -> usize
     requires few { parts ≤ 2 }
     requires short { length (result_bytes T.shape T.value parts outcome.now) < 2 ^ 32 }

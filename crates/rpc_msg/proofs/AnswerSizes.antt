@@ -10,7 +10,7 @@ use Rattle.nfs_model.specs.Server.{handle_bytes}
 use Rattle.nfs_model.specs.Serial.Readdir.{entry_size, fitting}
 use Rattle.nfs_types.specs.Shapes.{◌&◌}
 use Rattle.nfs_types.specs.Results.{entry_shape, entry_value, count_shape, count_value, answer_bytes}
-use Rattle.nfs_types.proofs.Absent.{length-absent_parts}
+use Rattle.nfs_types.specs.lemmas.Absent.{length-absent_parts}
 use Rattle.rpc_msg.specs.Replies.{reply_record}
 use Rattle.rpc_msg.specs.Room.{padded_size, lookup_room, made_room, change_room}
 

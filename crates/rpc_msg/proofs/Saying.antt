@@ -6,15 +6,15 @@ use Rattle.xdr.specs.declared.fault.Fault.{Fault as Unread}
 use Rattle.xdr.specs.declared.fault.Fault.TheVariants as unreads
 use Rattle.xdr.specs.Shape.{Shape, Word, Fixed, Value, padded, padding, spelling}
 use Rattle.xdr.specs.Reading.{Reads, fixed_at, read, all_of}
-use Rattle.xdr.proofs.Items.{IsBytes}
-use Rattle.xdr.proofs.Shapes.{found, again, all_found, all_again}
-use Rattle.xdr.proofs.Steps.{chosen}
+use Rattle.xdr.specs.lemmas.Items.{IsBytes}
+use Rattle.xdr.specs.lemmas.Shapes.{found, again, all_found, all_again}
+use Rattle.xdr.specs.lemmas.Steps.{chosen}
 use Rattle.nfs_model.specs.Types as model
 use Rattle.nfs_values.specs.declared.procedure.Procedure.{Procedure}
 use Rattle.nfs_values.specs.Procedure.{numbers_of}
 use Rattle.nfs_types.specs.Arguments.{asked}
 use Rattle.nfs_types.specs.Shapes.{◌&◌}
-use Rattle.nfs_types.proofs.Exact.{asked_found, asked_again}
+use Rattle.nfs_types.specs.lemmas.Exact.{asked_found, asked_again}
 use Rattle.rpc_msg.specs.Replies.{auth_shape}
 use Rattle.rpc_msg.specs.Heads.{◌>>=◌, Stop, Body, whole, numbers_shape, auth_sys_shape, nobody, body_of, user_of, acting, bad_credential}
 use Rattle.rpc_msg.specs.Heads.{rejected_credential, version_of, procedures, is_numbered, available, of_version, procedure_of, under, xid_of, head_from}
@@ -23,7 +23,7 @@ use Rattle.rpc_msg.specs.Calls.{IsCall, call_shape, call_value}
 use Rattle.rpc_msg.specs.Records.{asked_by, heard_from, heard}
 use Rattle.rpc_msg.specs.Hearing.{Begins, BeginsNone, Opens, flavor_of, size_of, Acts, IsHead, NoMessage, NoVersion, NoNumbers, NoBody, NoVerifier, TooLong}
 use Rattle.rpc_msg.specs.Hearing.{BadPadding, NoUser, HasBadCredential, IsHeardAs}
-use Rattle.rpc_msg.proofs.Numbered.{some_numbered}
+use Rattle.rpc_msg.specs.lemmas.Numbered.{some_numbered}
 use Rattle.rpc_msg.proofs.Spelled.{IsBytes-front, procedure_found, from_version, from_numbers, from_credential, from_verifier, joined}
 
 -- ---- beginnings

@@ -6,15 +6,15 @@ use Rattle.xdr.specs.declared.fault.Fault.{Fault as Unread}
 use Rattle.xdr.specs.declared.fault.Fault.TheVariants as unreads
 use Rattle.xdr.specs.Shape.{Shape, Word, Fixed, Value, Spells, word, padded, padding, spelling}
 use Rattle.xdr.specs.Reading.{Reads, fixed_at, read, all_of}
-use Rattle.xdr.proofs.Items.{IsBytes}
-use Rattle.xdr.proofs.Shapes.{again, all_found}
+use Rattle.xdr.specs.lemmas.Items.{IsBytes}
+use Rattle.xdr.specs.lemmas.Shapes.{again, all_found}
 use Rattle.nfs_model.specs.Types as model
 use Rattle.nfs_model.specs.World.{Heard}
 use Rattle.nfs_values.specs.declared.procedure.Procedure.{Procedure}
 use Rattle.nfs_values.specs.Procedure.{numbers_of}
 use Rattle.nfs_types.specs.Arguments.{Asks, asked}
 use Rattle.nfs_types.specs.Shapes.{◌&◌}
-use Rattle.nfs_types.proofs.Exact.{asked_found, asked_again}
+use Rattle.nfs_types.specs.lemmas.Exact.{asked_found, asked_again}
 use Rattle.rpc_msg.specs.Replies.{auth_shape}
 use Rattle.rpc_msg.specs.Heads.{◌>>=◌, Stop, Body, whole, numbers_shape, auth_sys_shape, body_of, user_of, acting, credential_at, procedure_of, body_at}
 use Rattle.rpc_msg.specs.Heads.{under, xid_of, head_from, Refuse, bad_credential}
@@ -23,8 +23,9 @@ use Rattle.rpc_msg.specs.Records.{asked_by, heard_from, heard}
 use Rattle.rpc_msg.specs.Hearing.{Begins, BeginsNone, Opens, flavor_of, size_of, Acts, IsHead, IsIncomplete, NoMessage, NoVersion, NoNumbers, NoBody}
 use Rattle.rpc_msg.specs.Hearing.{NoVerifier, IsNoCall, IsOfAnotherRpc, HasAnotherFlavor, IsBadBody, TooLong, BadPadding, NoUser, HasBadCredential}
 use Rattle.rpc_msg.specs.Hearing.{IsOfNoProgram, IsOfAnotherVersion, IsOfNoProcedure, HasGarbage, IsAsking, IsRefusedWith, Says, IsHeardAs}
-use Rattle.rpc_msg.proofs.Numbered.{none_numbered}
-use Rattle.rpc_msg.proofs.Saying.{begun, read_again, fixed_short}
+use Rattle.rpc_msg.specs.Hearing.{AsksFor, Exactly, Refuses}
+use Rattle.rpc_msg.specs.lemmas.Numbered.{none_numbered}
+use Rattle.rpc_msg.proofs.Saying.{heard_is, begun, read_again, fixed_short}
 use Rattle.rpc_msg.proofs.Spelled.{IsBytes-front, from_version, from_numbers, from_credential, from_verifier, joined}
 use Rattle.rpc_msg.proofs.SpelledAgain.{credential_again, call_again}
 
@@ -262,3 +263,72 @@ pub heard_again : (bytes : List ℕ) (r : Result Heard ℕ) → IsBytes bytes �
 heard_again bytes (Ok h) fits s = says_again bytes h.xid h.asked fits s
 heard_again bytes (Err number) fits (inl s) = rw s.0 (incomplete_again bytes fits s.1)
 heard_again bytes (Err number) fits (inr s) = rw s.0 (no_call_again bytes s.1)
+
+-- ---- each case
+
+exactly : (bytes : List ℕ) (r : Result Heard ℕ) → IsBytes bytes → Exactly (heard bytes ≡ r) (IsHeardAs bytes r)
+exactly bytes r fits = (λ e. subst (IsHeardAs bytes) e (heard_is bytes fits), heard_again bytes r fits)
+
+pub exactly_incomplete : (bytes : List ℕ) → IsBytes bytes → Exactly (heard bytes ≡ Err 12) (IsIncomplete bytes)
+exactly_incomplete bytes fits =
+    let both = exactly bytes (Err 12) fits in (
+      λ e. elim (both.0 e) [
+        | inl h ↦ h.1
+        | inr h ↦ absurd (omega (arith, h.0))
+      ],
+      λ c. both.1 (inl (refl, c)),
+    )
+
+pub exactly_no_call : (bytes : List ℕ) → IsBytes bytes → Exactly (heard bytes ≡ Err 13) (IsNoCall bytes)
+exactly_no_call bytes fits =
+    let both = exactly bytes (Err 13) fits in (
+      λ e. elim (both.0 e) [
+        | inl h ↦ absurd (omega (arith, h.0))
+        | inr h ↦ h.1
+      ],
+      λ c. both.1 (inr (refl, c)),
+    )
+
+pub exactly_bad : (bytes : List ℕ) (xid : ℕ) → IsBytes bytes → Exactly (Refuses bytes xid (model.AuthError 1)) (HasBadCredential bytes xid)
+exactly_bad bytes xid fits =
+    let both = exactly bytes (refused xid (model.AuthError 1)) fits in (
+      λ e. elim (both.0 e) [
+        | inl h ↦ h.1
+        | inr h ↦ absurd (omega (arith, h.0))
+      ],
+      λ c. both.1 (inl (refl, c)),
+    )
+
+pub exactly_rejected : (bytes : List ℕ) (xid : ℕ) → IsBytes bytes → Exactly (Refuses bytes xid (model.AuthError 2)) (HasAnotherFlavor bytes xid)
+exactly_rejected bytes xid fits =
+    let both = exactly bytes (refused xid (model.AuthError 2)) fits in (
+      λ e. elim (both.0 e) [
+        | inl h ↦ absurd (omega (arith, h.0))
+        | inr h ↦ h.1
+      ],
+      λ c. both.1 (inr (refl, c)),
+    )
+
+pub exactly_rpc : (bytes : List ℕ) (xid : ℕ) → IsBytes bytes → Exactly (Refuses bytes xid (model.RpcMismatch 2 2)) (IsOfAnotherRpc bytes xid)
+exactly_rpc bytes xid fits =
+    let both = exactly bytes (refused xid (model.RpcMismatch 2 2)) fits in
+    (λ e. (both.0 e).2, λ c. both.1 (refl, refl, c))
+
+pub exactly_program : (bytes : List ℕ) (xid : ℕ) → IsBytes bytes → Exactly (Refuses bytes xid model.ProgramUnavailable) (IsOfNoProgram bytes xid)
+exactly_program bytes xid fits = exactly bytes (refused xid model.ProgramUnavailable) fits
+
+pub exactly_version : (bytes : List ℕ) (xid served : ℕ) → IsBytes bytes
+    → Exactly (Refuses bytes xid (model.ProgramMismatch served served)) (IsOfAnotherVersion bytes xid served)
+exactly_version bytes xid served fits =
+    let both = exactly bytes (refused xid (model.ProgramMismatch served served)) fits in
+    (λ e. (both.0 e).1, λ c. both.1 (refl, c))
+
+pub exactly_procedure : (bytes : List ℕ) (xid : ℕ) → IsBytes bytes → Exactly (Refuses bytes xid model.ProcedureUnavailable) (IsOfNoProcedure bytes xid)
+exactly_procedure bytes xid fits = exactly bytes (refused xid model.ProcedureUnavailable) fits
+
+pub exactly_garbage : (bytes : List ℕ) (xid : ℕ) → IsBytes bytes → Exactly (Refuses bytes xid model.GarbageArguments) (HasGarbage bytes xid)
+exactly_garbage bytes xid fits = exactly bytes (refused xid model.GarbageArguments) fits
+
+pub exactly_call : (bytes : List ℕ) (xid : ℕ) (call : model.Call) (who : model.Credential) → IsBytes bytes
+    → Exactly (AsksFor bytes xid call who) (IsAsking bytes xid call who)
+exactly_call bytes xid call who fits = exactly bytes (Ok (record { xid = xid; asked = model.Ask call who })) fits

@@ -7,9 +7,9 @@ use Rattle.xdr.specs.declared.fault.Fault.{Fault as Unread}
 use Rattle.xdr.specs.declared.fault.Fault.TheVariants as unreads
 use Rattle.xdr.specs.Shape.{Shape, Word, Fixed, Value, Fits, word, padded, padding, spelling}
 use Rattle.xdr.specs.Reading.{Reads, read, all_of}
-use Rattle.xdr.proofs.Items.{IsBytes, Splits}
-use Rattle.xdr.proofs.Shapes.{found, all_found}
-use Rattle.xdr.proofs.Steps.{chosen}
+use Rattle.xdr.specs.lemmas.Items.{IsBytes, Splits}
+use Rattle.xdr.specs.lemmas.Shapes.{found, all_found}
+use Rattle.xdr.specs.lemmas.Steps.{chosen}
 use Rattle.nfs_model.specs.Types as model
 use Rattle.nfs_values.specs.declared.procedure.Procedure.{Procedure}
 use Rattle.nfs_values.specs.Procedure.{all_procedures, is_served, numbers_of}
@@ -19,7 +19,7 @@ use Rattle.rpc_msg.specs.Heads.{◌>>=◌, Stop, Incomplete, Refuse, Body, Call,
 use Rattle.rpc_msg.specs.Heads.{acting, bad_credential, rejected_credential, credential_at, version_of, procedures, is_numbered, available, of_version}
 use Rattle.rpc_msg.specs.Heads.{procedure_of, body_at, under, xid_at, head_from, head_of}
 use Rattle.rpc_msg.specs.Calls.{ActsFor, IsCall, call_shape, call_value}
-use Rattle.rpc_msg.proofs.Numbered.{FoundIs, found_is}
+use Rattle.rpc_msg.specs.lemmas.Numbered.{FoundIs, found_is}
 use Rattle.rpc_msg.proofs.Steps.{then_ok, sure_is, whole_ok, xid_ok}
 
 -- ---- the credential

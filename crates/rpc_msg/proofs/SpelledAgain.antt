@@ -3,7 +3,7 @@ use Rattle.std.proofs.Common.{◌≡◌, ℕ, ◌≤◌, true, false, eqb, ltb, 
 use Rattle.std.proofs.lemmas.Bool.{le-ltb, eq-eqb}
 use Rattle.xdr.specs.Shape.{Word, Fixed, Value, Fits, word, padded, spelling}
 use Rattle.xdr.specs.Reading.{read}
-use Rattle.xdr.proofs.Shapes.{again, all_again}
+use Rattle.xdr.specs.lemmas.Shapes.{again, all_again}
 use Rattle.nfs_model.specs.Types as model
 use Rattle.nfs_values.specs.declared.procedure.Procedure.{Procedure}
 use Rattle.nfs_values.specs.Procedure.{is_served, numbers_of}
@@ -12,7 +12,7 @@ use Rattle.rpc_msg.specs.Replies.{auth_shape}
 use Rattle.rpc_msg.specs.Heads.{Call, whole, version_at, numbers_shape, auth_sys_shape, acting, credential_at, version_of, procedure_of, body_at, under}
 use Rattle.rpc_msg.specs.Heads.{xid_at, head_from, head_of}
 use Rattle.rpc_msg.specs.Calls.{ActsFor, IsCall}
-use Rattle.rpc_msg.proofs.Numbered.{find_again}
+use Rattle.rpc_msg.specs.lemmas.Numbered.{find_again}
 use Rattle.rpc_msg.proofs.Steps.{then_is}
 use Rattle.rpc_msg.proofs.Spelled.{from_version, from_numbers, from_credential, from_verifier, body_shape, body_value, joined}
 

@@ -2,7 +2,7 @@
 use Rattle.std.proofs.Common.{◌≡◌, ℕ, eqb, List, Result, Ok, Err, refl, inl, inr}
 use Rattle.std.proofs.lemmas.Bool.{eqb-true}
 use Rattle.xdr.specs.Reading.{Reads}
-use Rattle.xdr.proofs.Steps.{chosen}
+use Rattle.xdr.specs.lemmas.Steps.{chosen}
 use Rattle.rpc_msg.specs.Heads.{◌>>=◌, Stop, whole, xid_of}
 
 pub then_ok : {A B : Type 0} (r : Result A Stop) (f : A → Result B Stop) (y : B) → (r >>= f) ≡ Ok y → (x : A) × (r ≡ Ok x) × (f x ≡ Ok y)

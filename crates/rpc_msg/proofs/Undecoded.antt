@@ -3,14 +3,14 @@ use Rattle.std.proofs.Common.{◌≡◌, ℕ, true, List, Result, Ok, refl, sym,
 use Rattle.xdr.specs.declared.fault.Fault.{Fault as Unread}
 use Rattle.xdr.specs.Shape.{Value}
 use Rattle.xdr.specs.Reading.{all_of}
-use Rattle.xdr.proofs.Steps.{bind_ok, ok_is}
+use Rattle.xdr.specs.lemmas.Steps.{bind_ok, ok_is}
 use Rattle.nfs_model.specs.Types as model
 use Rattle.nfs_model.specs.Serial.Starve.{has_bytes}
 use Rattle.nfs_values.specs.declared.procedure.Procedure.{Procedure}
 use Rattle.nfs_values.specs.declared.procedure.Procedure.TheVariants.{Null, GetAttributes, SetAttributes, Lookup, Read, Write, Create, MakeDirectory, Remove}
 use Rattle.nfs_values.specs.declared.procedure.Procedure.TheVariants.{RemoveDirectory, ReadDirectory, FilesystemStatus, Commit, AdminNull, Census, Grow}
 use Rattle.nfs_types.specs.Arguments.{arguments_shape, call_from, asked, takes_memory}
-use Rattle.nfs_types.proofs.Exact.{asked_is}
+use Rattle.nfs_types.specs.lemmas.Exact.{asked_is}
 use Rattle.rpc_msg.specs.declared.record.Request.TheVariants as requests
 use Rattle.rpc_msg.specs.Heads.{Call}
 use Rattle.rpc_msg.specs.Records.{asked_by, heard_from}

@@ -1,5 +1,5 @@
 -- What a record is heard as, in words of the spellings that it begins with (RFC 5531 sections 8.2 and 9); the chain of checks that reads it is apart, in Heads.
-use Rattle.std.specs.Prelude.{◌≡◌, ◌≢◌, ℕ, ◌+◌, ◌≤◌, ◌<◌, true, List, ◌++◌, length, ◌⊎◌, Some, None, Result, Ok, Err}
+use Rattle.std.specs.Prelude.{◌≡◌, ◌≢◌, ℕ, ◌+◌, ◌≤◌, ◌<◌, true, List, ◌++◌, length, ◌⊎◌, Some, None, Result, Ok, Err, slice_index}
 use Rattle.xdr.specs.Shape.{Shape, Word, Fixed, Value, Fits, Spells, padding, spelling}
 use Rattle.nfs_model.specs.Types as model
 use Rattle.nfs_model.specs.World.{Heard}
@@ -9,6 +9,7 @@ use Rattle.nfs_types.specs.Arguments.{Asks}
 use Rattle.nfs_types.specs.Shapes.{◌&◌}
 use Rattle.rpc_msg.specs.Replies.{auth_shape}
 use Rattle.rpc_msg.specs.Heads.{numbers_shape, auth_sys_shape, version_of}
+use Rattle.rpc_msg.specs.Records.{heard}
 use Rattle.rpc_msg.specs.Calls.{ActsFor, IsCall, call_shape, call_value}
 
 -- ---- beginnings
@@ -165,3 +166,20 @@ Says bytes xid model.Undecoded = ⊥
 abbrev pub IsHeardAs : List ℕ → Result Heard ℕ → Type 0
 IsHeardAs bytes (Ok h) = Says bytes h.xid h.asked
 IsHeardAs bytes (Err number) = ((number ≡ 12) × IsIncomplete bytes) ⊎ ((number ≡ 13) × IsNoCall bytes)
+
+-- ---- what laws say
+
+abbrev pub AreBytes : List ℕ → Type 0
+AreBytes bytes = (i : ℕ) → slice_index bytes i < 256
+
+-- both hold or neither
+abbrev pub Exactly : Type 0 → Type 0 → Type 0
+Exactly a b = (a → b) × (b → a)
+
+-- the record is refused with this reply
+abbrev pub Refuses : List ℕ → ℕ → model.Reply → Type 0
+Refuses bytes xid reply = heard bytes ≡ Ok (record { xid = xid; asked = model.Refused reply })
+
+-- the record asks this call
+abbrev pub AsksFor : List ℕ → ℕ → model.Call → model.Credential → Type 0
+AsksFor bytes xid call who = heard bytes ≡ Ok (record { xid = xid; asked = model.Ask call who })

@@ -5,3 +5,4 @@ pub mod Calls
 pub mod Records
 pub mod Hearing
 pub mod Seen
+pub mod lemmas

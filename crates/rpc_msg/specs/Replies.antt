@@ -1,5 +1,5 @@
 -- The reply of RPC as bytes (RFC 5531 section 9).
-use Rattle.std.specs.Prelude.{ℕ, ◌≤◌, true, List, [], ◌++◌}
+use Rattle.std.specs.Prelude.{ℕ, true, List, [], ◌++◌}
 use Rattle.xdr.specs.Shape.{Shape, Word, Opaque, Value, spelling}
 use Rattle.rpc_record.specs.Records.{fragment}
 use Rattle.nfs_model.specs.Types as model
@@ -58,11 +58,3 @@ results reply = []
 abbrev pub IsRefusal : model.Reply → Type 0
 IsRefusal (model.Success answer) = ⊥
 IsRefusal reply = Unit {0}
-
--- results of no more than one node's attributes; no failure arm has more than four optional parts (RFC 1813 section 3.3)
-abbrev pub IsShort : model.Reply → Type 0
-IsShort (model.Success model.NullDone) = Unit {0}
-IsShort (model.Success (model.GetattrDone attributes)) = Unit {0}
-IsShort (model.Success (model.Failed status absent)) = absent ≤ 4
-IsShort (model.Success answer) = ⊥
-IsShort reply = Unit {0}

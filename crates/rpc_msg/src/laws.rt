@@ -8,21 +8,18 @@ ghost use Rattle.nfs_model.specs.ReadOnly.{AsksReading};
 ghost use Rattle.nfs_values.specs.declared.procedure.Procedure.{Procedure};
 ghost use Rattle.rpc_msg.specs.Heads.{Call, head_of};
 ghost use Rattle.rpc_msg.specs.Calls.{IsCall};
-ghost use Rattle.rpc_msg.specs.Hearing.{IsHeardAs};
+ghost use Rattle.rpc_msg.specs.Hearing.{AreBytes, AsksFor, Exactly, HasAnotherFlavor};
+ghost use Rattle.rpc_msg.specs.Hearing.{HasBadCredential, HasGarbage, IsAsking};
+ghost use Rattle.rpc_msg.specs.Hearing.{IsHeardAs, IsIncomplete, IsNoCall, IsOfAnotherRpc};
+ghost use Rattle.rpc_msg.specs.Hearing.{IsOfAnotherVersion, IsOfNoProcedure};
+ghost use Rattle.rpc_msg.specs.Hearing.{IsOfNoProgram, Refuses};
 ghost use Rattle.rpc_msg.specs.Records.{heard};
-ghost use Rattle.rpc_msg.specs.Replies.{reply_record, IsRefusal, IsShort};
+ghost use Rattle.rpc_msg.specs.Replies.{reply_record, IsRefusal};
 ghost use Rattle.rpc_msg.specs.Room.{IsRoomy, refusal_room, reply_room};
 ghost use Rattle.nfs_model.specs.Server.{Server, opening};
 ghost use Rattle.nfs_model.specs.Tree.{Layout};
 ghost use Rattle.nfs_model.specs.Serial.Step.{serial};
 ghost use Rattle.nfs_model.specs.Serial.AtOnce.{answer_without_home};
-
-/// The record of a reply with at most one node's attributes takes at most 116 bytes.
-pub fn short_replies_are_short()
-    ensures { (xid : ℕ) (reply : model.Reply)
-        → IsShort reply
-        → length (reply_record xid reply) ≤ 116 }
-{}
 
 /// The record of the reply to a call takes no more than the call's room: where it runs on any
 /// roomy server, starved or not, and where it is answered without an affinity.
@@ -68,15 +65,64 @@ pub fn record_faults()
 {}
 
 /// A record is heard as a fault, a refusal or a call exactly where its spellings say so (RFC 5531
-/// sections 8.2 and 9).
+/// sections 8.2 and 9). The laws below are its cases, one by one.
 pub fn records_are_spelled()
-    ensures found { (bytes : List ℕ)
-        → ((i : ℕ) → slice_index bytes i < 256)
-        → IsHeardAs bytes (heard bytes) }
+    ensures found { (bytes : List ℕ) → AreBytes bytes → IsHeardAs bytes (heard bytes) }
     ensures again { (bytes : List ℕ) (r : Result Heard ℕ)
-        → ((i : ℕ) → slice_index bytes i < 256)
+        → AreBytes bytes
         → IsHeardAs bytes r
         → heard bytes ≡ r }
+{}
+
+/// A record is fault 12 exactly where its head isn't all there, and fault 13 exactly where it is
+/// no call (RFC 5531 section 9).
+pub fn faults_are_spelled()
+    ensures incomplete { (bytes : List ℕ)
+        → AreBytes bytes
+        → Exactly (heard bytes ≡ Err 12) (IsIncomplete bytes) }
+    ensures no_call { (bytes : List ℕ)
+        → AreBytes bytes
+        → Exactly (heard bytes ≡ Err 13) (IsNoCall bytes) }
+{}
+
+/// AUTH_BADCRED exactly where the credential's body is bad, and AUTH_REJECTEDCRED exactly where
+/// its flavor isn't known (RFC 5531 sections 8.2 and 9, appendix A).
+pub fn credentials_are_spelled()
+    ensures bad { (bytes : List ℕ) (xid : ℕ)
+        → AreBytes bytes
+        → Exactly (Refuses bytes xid (model.AuthError 1)) (HasBadCredential bytes xid) }
+    ensures rejected { (bytes : List ℕ) (xid : ℕ)
+        → AreBytes bytes
+        → Exactly (Refuses bytes xid (model.AuthError 2)) (HasAnotherFlavor bytes xid) }
+{}
+
+/// RPC_MISMATCH, PROG_UNAVAIL, PROG_MISMATCH and PROC_UNAVAIL, each exactly where the head names
+/// what isn't served (RFC 5531 section 9).
+pub fn versions_are_spelled()
+    ensures rpc { (bytes : List ℕ) (xid : ℕ)
+        → AreBytes bytes
+        → Exactly (Refuses bytes xid (model.RpcMismatch 2 2)) (IsOfAnotherRpc bytes xid) }
+    ensures program { (bytes : List ℕ) (xid : ℕ)
+        → AreBytes bytes
+        → Exactly (Refuses bytes xid model.ProgramUnavailable) (IsOfNoProgram bytes xid) }
+    ensures version { (bytes : List ℕ) (xid served : ℕ)
+        → AreBytes bytes
+        → Exactly (Refuses bytes xid (model.ProgramMismatch served served))
+        (IsOfAnotherVersion bytes xid served) }
+    ensures procedure { (bytes : List ℕ) (xid : ℕ)
+        → AreBytes bytes
+        → Exactly (Refuses bytes xid model.ProcedureUnavailable) (IsOfNoProcedure bytes xid) }
+{}
+
+/// GARBAGE_ARGS exactly where the arguments are no spelling or bytes are left, and a call exactly
+/// where they spell it (RFC 5531 section 9).
+pub fn arguments_are_spelled()
+    ensures garbage { (bytes : List ℕ) (xid : ℕ)
+        → AreBytes bytes
+        → Exactly (Refuses bytes xid model.GarbageArguments) (HasGarbage bytes xid) }
+    ensures call { (bytes : List ℕ) (xid : ℕ) (call : model.Call) (who : model.Credential)
+        → AreBytes bytes
+        → Exactly (AsksFor bytes xid call who) (IsAsking bytes xid call who) }
 {}
 
 /// A record asks a call or is refused.
@@ -91,14 +137,6 @@ pub fn records_ask_readings()
     ensures { (bytes : List ℕ) (h : Heard)
         → heard bytes ≡ Ok h
         → AsksReading h.asked }
-{}
-
-/// A reply that refuses a record is short.
-pub fn refusals_are_short()
-    ensures { (bytes : List ℕ) (h : Heard) (reply : model.Reply)
-        → heard bytes ≡ Ok h
-        → h.asked ≡ model.Refused reply
-        → IsShort reply }
 {}
 
 /// A head says a call exactly where the bytes spell one that is served, and then its arguments.

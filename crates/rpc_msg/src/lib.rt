@@ -16,9 +16,9 @@ mod tests;
 pub use fault::Fault;
 pub use head::{Head, read_call};
 pub use laws::{
-    call_heads_are_exact, record_faults, records_are_decoded, records_are_spelled,
-    records_ask_readings, refusals_are_short, refusals_fit, replies_fit, servers_are_roomy,
-    short_replies_are_short,
+    arguments_are_spelled, call_heads_are_exact, credentials_are_spelled, faults_are_spelled,
+    record_faults, records_are_decoded, records_are_spelled, records_ask_readings, refusals_fit,
+    replies_fit, servers_are_roomy, versions_are_spelled,
 };
 pub use nfs_values::Procedure as Served;
 pub use record::{Heard, Request, read_record};

@@ -1,3 +1,4 @@
 pub mod Fault
 pub mod Shape
 pub mod Reading
+pub mod lemmas

@@ -26,11 +26,17 @@ returns-clause-events c =
     let answered : r.answer ≡ Some answer = c.in-Some-answer.is ∙ ap Some (sym c.into_answer.ensures.value) in
     let reply : types.Reply = types.Success (answer_of answer) in
     let written = world c.respond-count.new.state in
-    let released = release-unseen r.message.origin.connection r.message.room c.respond-count.new.state c.release.new.state c.release.ensures in
+    let released = release-unseen r.message.origin.connection.0 r.message.room c.respond-count.new.state c.release.new.state c.release.ensures in
     let home = sym (ap tried (placed-running layout (opened s) s.running r c.requires.running some).at_home) in
     let kept = c.keep_entry.ensures.kept
-    ∙ ap (λ (v : worlds.World). record v { finished = v.finished ++ record (finished_call (running_of layout r) false) { affinity = Some (affinity_of r.message.affinity) } ∷ [] }) released
-    ∙ ap (λ (a : trees.Affinity). record written { finished = written.finished ++ record (finished_call (running_of layout r) false) { affinity = Some a } ∷ [] }) home in
+    ∙ ap (λ (v : worlds.World). record v {
+      finished = v.finished ++ record
+          (finished_call (running_of layout r) false) { affinity = Some (affinity_of r.message.affinity) } ∷ [];
+    }) released
+    ∙ ap (λ (a : trees.Affinity). record written {
+      finished = written.finished ++ record
+          (finished_call (running_of layout r) false) { affinity = Some a } ∷ [];
+    }) home in
     let before = without-call s c.args.worker r c.take.new.self c.if-worker-ne0.false some c.requires.lent c.take.ensures.after in (
       may-finish s c.args.worker r answer c.if-worker-ne0.false some answered,
       (
@@ -40,7 +46,8 @@ returns-clause-events c =
         only-there layout s.running c.args.worker c.if-worker-ne0.false,
         ap (option_map (running_of layout)) some,
         ap (option_map outcome_of) answered,
-        ap (events.Written r.message.origin.connection) c.respond-count.ensures.count,
-        finished (setup_in s) (stamped (without_call w c.args.worker)) _ _ _ (finished_call (running_of layout r) false) reply c.respond-count.ensures.written kept before,
+        ap (events.Written r.message.origin.connection.0) c.respond-count.ensures.count,
+        finished (setup_in s) (stamped (without_call w c.args.worker)) _ _ _
+            (finished_call (running_of layout r) false) reply c.respond-count.ensures.written kept before,
       ),
     )

@@ -1,4 +1,4 @@
-use Rattle.nfs_types.proofs.Exact.{asked_found, asked_again}
+use Rattle.nfs_types.specs.lemmas.Exact.{asked_found, asked_again}
 use Rattle.nfs_types.proofs.laws.arguments_are_exact.Goals as goal
 
 pub returns-clause-found : goal.returns-clause-found

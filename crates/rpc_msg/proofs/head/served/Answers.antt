@@ -1,6 +1,6 @@
 use Rattle.std.proofs.Common.{refl, rules}
 use Rattle.std.proofs.lemmas.Bool.Decides.{nat_tests}
-use Rattle.rpc_msg.proofs.Numbered.{none_numbered}
+use Rattle.rpc_msg.specs.lemmas.Numbered.{none_numbered}
 use Rattle.rpc_msg.proofs.head.served.Goals as goal
 
 pub returns-in-None : goal.returns-in-None

@@ -1,4 +1,4 @@
-use Rattle.rpc_msg.proofs.Hearing.{record_asks_reading}
+use Rattle.rpc_msg.specs.lemmas.Hearing.{record_asks_reading}
 use Rattle.rpc_msg.proofs.laws.records_ask_readings.Goals as goal
 
 pub returns : goal.returns

@@ -1,4 +1,4 @@
-use Rattle.xdr.proofs.Shapes.{one_value}
+use Rattle.xdr.specs.lemmas.Shapes.{one_value}
 use Rattle.xdr.proofs.laws.one_spelling.Goals as goal
 
 pub returns : goal.returns

@@ -1,4 +1,4 @@
-use Rattle.xdr.proofs.Shapes.{all_found, all_again}
+use Rattle.xdr.specs.lemmas.Shapes.{all_found, all_again}
 use Rattle.xdr.proofs.laws.reading_all_is_exact.Goals as goal
 
 pub returns-clause-found : goal.returns-clause-found

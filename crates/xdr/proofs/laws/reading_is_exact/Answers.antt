@@ -1,4 +1,4 @@
-use Rattle.xdr.proofs.Shapes.{found, again}
+use Rattle.xdr.specs.lemmas.Shapes.{found, again}
 use Rattle.xdr.proofs.laws.reading_is_exact.Goals as goal
 
 pub returns-clause-found : goal.returns-clause-found

@@ -1,0 +1,3 @@
+-- Lemmas alone, which no reader has to believe: for crates above.
+pub mod Exact
+pub mod Absent

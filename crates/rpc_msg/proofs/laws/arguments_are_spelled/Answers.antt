@@ -1,0 +1,8 @@
+use Rattle.rpc_msg.proofs.SayingAgain.{exactly_garbage, exactly_call}
+use Rattle.rpc_msg.proofs.laws.arguments_are_spelled.Goals as goal
+
+pub returns-clause-garbage : goal.returns-clause-garbage
+returns-clause-garbage c = exactly_garbage
+
+pub returns-clause-call : goal.returns-clause-call
+returns-clause-call c = exactly_call

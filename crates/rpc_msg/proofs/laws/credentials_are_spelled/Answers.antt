@@ -1,0 +1,8 @@
+use Rattle.rpc_msg.proofs.SayingAgain.{exactly_bad, exactly_rejected}
+use Rattle.rpc_msg.proofs.laws.credentials_are_spelled.Goals as goal
+
+pub returns-clause-bad : goal.returns-clause-bad
+returns-clause-bad c = exactly_bad
+
+pub returns-clause-rejected : goal.returns-clause-rejected
+returns-clause-rejected c = exactly_rejected

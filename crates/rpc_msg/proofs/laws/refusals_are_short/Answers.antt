@@ -1,5 +1,0 @@
-use Rattle.rpc_msg.proofs.Refusals.{refusal_is_short}
-use Rattle.rpc_msg.proofs.laws.refusals_are_short.Goals as goal
-
-pub returns : goal.returns
-returns c = refusal_is_short

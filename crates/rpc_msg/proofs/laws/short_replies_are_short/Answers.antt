@@ -1,5 +1,0 @@
-use Rattle.rpc_msg.proofs.Sizes.{short}
-use Rattle.rpc_msg.proofs.laws.short_replies_are_short.Goals as goal
-
-pub returns : goal.returns
-returns c = short

@@ -1,0 +1,14 @@
+use Rattle.rpc_msg.proofs.SayingAgain.{exactly_rpc, exactly_program, exactly_version, exactly_procedure}
+use Rattle.rpc_msg.proofs.laws.versions_are_spelled.Goals as goal
+
+pub returns-clause-rpc : goal.returns-clause-rpc
+returns-clause-rpc c = exactly_rpc
+
+pub returns-clause-program : goal.returns-clause-program
+returns-clause-program c = exactly_program
+
+pub returns-clause-version : goal.returns-clause-version
+returns-clause-version c = exactly_version
+
+pub returns-clause-procedure : goal.returns-clause-procedure
+returns-clause-procedure c = exactly_procedure
