@@ -8,3 +8,4 @@ pub mod Served
 pub mod Short
 pub mod Sound
 pub mod Engine
+pub mod Words

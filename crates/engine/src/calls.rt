@@ -6,6 +6,7 @@ ghost use Rattle.nfs_model.specs.Events.Step.{Events};
 ghost use Rattle.nfs_values.specs.Moment.{moment_of};
 ghost use Rattle.engine.specs.Seen.{setup_in, world, answer_of};
 ghost use Rattle.engine.specs.Sound.{IsSound};
+ghost use Rattle.engine.specs.Words.{Does, HasItsSetup};
 
 use crate::event::{Done, Refusal};
 use crate::finishing::{keep_entry, release, respond};
@@ -23,8 +24,8 @@ pub(crate) fn begin(
     moment: Moment,
 ) -> Result<Done, Refusal>
     requires { IsSound state.old }
-    ensures events { Events (setup_in state.old) (world state.old) (events.Begin worker place (moment_of moment)) (answer_of result) (world state.new) }
-    ensures setup { setup_in state.new ≡ setup_in state.old }
+    ensures events { Does state.old (events.Begin worker place (moment_of moment)) result state.new }
+    ensures setup { HasItsSetup state.old state.new }
     ensures sound { IsSound state.new }
 {
     if worker != 0 || state.running.is_some() {
@@ -56,8 +57,8 @@ pub(crate) fn begin(
 /// Works the message that the worker has begun.
 pub(crate) fn work(state: &mut State, worker: usize) -> Result<Done, Refusal>
     requires { IsSound state.old }
-    ensures events { Events (setup_in state.old) (world state.old) (events.Work worker) (answer_of result) (world state.new) }
-    ensures setup { setup_in state.new ≡ setup_in state.old }
+    ensures events { Does state.old (events.Work worker) result state.new }
+    ensures setup { HasItsSetup state.old state.new }
     ensures sound { IsSound state.new }
 {
     if worker != 0 {
@@ -76,8 +77,8 @@ pub(crate) fn work(state: &mut State, worker: usize) -> Result<Done, Refusal>
 /// Finishes the message that the worker has worked: its parcel goes home.
 pub(crate) fn finish(state: &mut State, worker: usize) -> Result<Done, Refusal>
     requires { IsSound state.old }
-    ensures events { Events (setup_in state.old) (world state.old) (events.Finish worker) (answer_of result) (world state.new) }
-    ensures setup { setup_in state.new ≡ setup_in state.old }
+    ensures events { Does state.old (events.Finish worker) result state.new }
+    ensures setup { HasItsSetup state.old state.new }
     ensures sound { IsSound state.new }
 {
     if worker != 0 {

@@ -5,6 +5,7 @@ ghost use Rattle.nfs_model.specs.Events.Refusals as events;
 ghost use Rattle.nfs_model.specs.Events.Step.{Events};
 ghost use Rattle.engine.specs.Seen.{setup_in, world, answer_of};
 ghost use Rattle.engine.specs.Sound.{IsSound};
+ghost use Rattle.engine.specs.Words.{Does, HasItsSetup};
 
 use crate::connection::{ClosedConnection, OpenConnection};
 use crate::event::{Done, Refusal};
@@ -14,8 +15,8 @@ use rpc_record::Reassembler;
 /// Opens a connection, where none is open.
 pub(crate) fn open_connection(state: &mut State) -> Result<Done, Refusal>
     requires { IsSound state.old }
-    ensures events { Events (setup_in state.old) (world state.old) events.Open (answer_of result) (world state.new) }
-    ensures setup { setup_in state.new ≡ setup_in state.old }
+    ensures events { Does state.old events.Open result state.new }
+    ensures setup { HasItsSetup state.old state.new }
     ensures sound { IsSound state.new }
 {
     if state.current.is_some() {
@@ -41,8 +42,8 @@ pub(crate) fn open_connection(state: &mut State) -> Result<Done, Refusal>
 /// Closes the open connection.
 pub(crate) fn close_connection(state: &mut State, connection: usize) -> Result<Done, Refusal>
     requires { IsSound state.old }
-    ensures events { Events (setup_in state.old) (world state.old) (events.Close connection) (answer_of result) (world state.new) }
-    ensures setup { setup_in state.new ≡ setup_in state.old }
+    ensures events { Does state.old (events.Close connection) result state.new }
+    ensures setup { HasItsSetup state.old state.new }
     ensures sound { IsSound state.new }
 {
     if connection != state.past.len() {

@@ -9,6 +9,7 @@ ghost use Rattle.engine.specs.Seen.{setup_in, world, event_of, answer_of, runnin
 ghost use Rattle.engine.specs.Sound.{IsSound};
 ghost use Rattle.affinity_tree.specs.Layout.{layout_of};
 ghost use Rattle.engine.specs.Streams.{setup_of};
+ghost use Rattle.engine.specs.Words.{RunsThis, Does, HasRun, HasPlayed, HasHeadline, HasItsSetup};
 
 use crate::calls;
 use crate::connecting::{close_connection, open_connection};
@@ -25,8 +26,8 @@ use std::marker::Model;
 /// Takes one event.
 fn dispatch(state: &mut State, event: Event<'_>) -> Result<Done, Refusal>
     requires { IsSound state.old }
-    ensures events { Events (setup_in state.old) (world state.old) (event_of event.entry) (answer_of result) (world state.new) }
-    ensures setup { setup_in state.new ≡ setup_in state.old }
+    ensures events { Does state.old (event_of event.entry) result state.new }
+    ensures setup { HasItsSetup state.old state.new }
     ensures sound { IsSound state.new }
 {
     match event {
@@ -69,7 +70,7 @@ impl Engine {
     pub fn new(alloc: Global, layout: Layout, verifier: [u8; 8]) -> Engine
         ensures setup { setup_in result ≡ setup_of (layout_of layout) verifier }
         ensures opening { (world result) ≡ opening_world (setup_in result) }
-        ensures headline { Headline (setup_in result) (world result) }
+        ensures headline { HasHeadline result }
     {
         opening_meets_headline();
         Engine {
@@ -90,9 +91,9 @@ impl Engine {
 
     /// Takes one event. A refused one changes nothing.
     pub fn step(&mut self, event: Event<'_>) -> Result<Done, Refusal>
-        ensures events { Events (setup_in self.old) (world self.old) (event_of event.entry) (answer_of result) (world self.new) }
-        ensures setup { setup_in self.new ≡ setup_in self.old }
-        ensures headline { Headline (setup_in self.new) (world self.new) }
+        ensures events { Does self.old (event_of event.entry) result self.new }
+        ensures setup { HasItsSetup self.old self.new }
+        ensures headline { HasHeadline self.new }
     {
         readings_agree();
         events_keep_headline();
@@ -101,9 +102,9 @@ impl Engine {
 
     /// Takes events, and answers how many were refused.
     pub fn run(&mut self, events: &[Event<'_>]) -> usize
-        ensures runs { RunsRefusing (setup_in self.old) (world self.old) (map event_of events.now) result (world self.new) }
-        ensures setup { setup_in self.new ≡ setup_in self.old }
-        ensures headline { Headline (setup_in self.new) (world self.new) }
+        ensures runs { HasRun self.old events.now result self.new }
+        ensures setup { HasItsSetup self.old self.new }
+        ensures headline { HasHeadline self.new }
     {
         let _ = &self.state;
         let mut refused = 0;
@@ -118,8 +119,8 @@ impl Engine {
     /// A new engine after these events.
     pub fn play(alloc: Global, layout: Layout, verifier: [u8; 8], events: &[Event<'_>]) -> Engine
         ensures setup { setup_in result ≡ setup_of (layout_of layout) verifier }
-        ensures runs { Runs (setup_in result) (opening_world (setup_in result)) (map event_of events.now) (world result) }
-        ensures headline { Headline (setup_in result) (world result) }
+        ensures runs { HasPlayed events.now result }
+        ensures headline { HasHeadline result }
     {
         let mut engine = Engine::new(alloc, layout, verifier);
         engine.run(events);
@@ -154,7 +155,7 @@ impl Engine {
 
     /// The message that the worker has begun.
     pub fn running(&self) -> Option<&Running>
-        ensures { (world self.now).workers ≡ (record { running = option_map (λ r. running_of (setup_in self.now).layout r.now) result; hand = blocks.Empty }) ∷ [] }
+        ensures { RunsThis self.now (option_map (λ r. r.now) result) }
     {
         self.state.running.as_ref()
     }

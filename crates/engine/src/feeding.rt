@@ -1,17 +1,24 @@
 //! Bytes that an engine takes.
 
-ghost use Rattle.std.specs.Prelude.{true, false, ◌≡◌, ◌+◌, ◌-◌, ◌*◌, ◌<◌, ◌≤◌, length, take, None, IfSome, OnOk, vec_len, vec_capacity};
+ghost use Rattle.std.specs.Prelude.{true, false, ◌≡◌, ◌+◌, ◌<◌, ◌≤◌, length, take, None};
+ghost use Rattle.std.specs.Prelude.{IfSome, OnOk, vec_len, vec_capacity};
 ghost use Rattle.nfs_model.specs.Types as types;
 ghost use Rattle.nfs_model.specs.Events.Refusals as events;
 ghost use Rattle.nfs_model.specs.Events.Step.{Events};
 ghost use Rattle.nfs_model.specs.Events.Feed.{heard_in};
 ghost use Rattle.nfs_laws.specs.Walk.{Walks};
 ghost use Rattle.engine.specs.Seen.{setup_in, world, answer_of, heard_of};
-ghost use Rattle.engine.specs.Sound.{IsSound, pending, MayBeAnswered, MayBeRoomier, MakesRoom, HasRoomToAdmit, HasItsRoom, HasRoomForOneMore, Waits, count_open, TakesIn, MayTakeFrom, records_of, HasNoRecord, AdmitsNone, stands_at, IsFree, AtNoFault, at_no_fault, MayGoOn, MayBeStreamRoomier};
+ghost use Rattle.engine.specs.Sound.{IsSound, pending, MayBeAnswered, MayBeRoomier, MakesRoom};
+ghost use Rattle.engine.specs.Sound.{HasRoomToAdmit, HasItsRoom, HasRoomForOneMore, Waits};
+ghost use Rattle.engine.specs.Sound.{count_open, TakesIn, MayTakeFrom, records_of, HasNoRecord};
+ghost use Rattle.engine.specs.Sound.{AdmitsNone, stands_at, IsFree, AtNoFault, at_no_fault};
+ghost use Rattle.engine.specs.Sound.{MayGoOn, MayBeStreamRoomier};
 ghost use Rattle.engine.specs.Numbers.{stop_number};
 ghost use Rattle.rpc_record.specs.Machine.{outcome};
 ghost use Rattle.engine.specs.Feeding.{FeedsPart};
 ghost use Rattle.nfs_model.specs.Events.Feed.{bytes_taken};
+ghost use Rattle.engine.specs.Words.{Does, HasItsSetup, HasHeard, HasStarved, HasTaken};
+ghost use Rattle.engine.specs.Words.{FeedsSome, MayTakeMore, FeedsAll};
 
 use crate::arrival::take_bytes;
 use crate::connection::{Arrival, OpenConnection};
@@ -72,8 +79,8 @@ fn admit(state: &mut State, number: usize, heard: Heard)
     requires room { HasRoomToAdmit state.old }
     requires connected { count_open state.old.current ≡ 1 }
     requires places { pending state.old < 1024 }
-    ensures admitted { world state.new ≡ heard_in (setup_in state.old) (world state.old) (vec_len state.old.past) number (heard_of heard) false }
-    ensures setup { setup_in state.new ≡ setup_in state.old }
+    ensures admitted { HasHeard number (heard_of heard) false state.old state.new }
+    ensures setup { HasItsSetup state.old state.new }
     ensures past { state.new.past ≡ state.old.past }
     ensures current { MayBeAnswered state.old.current state.new.current }
     ensures sound { IsSound state.new }
@@ -126,8 +133,8 @@ fn starve(state: &mut State, number: usize, xid: u32)
     requires sound { IsSound state.old }
     requires room { HasRoomToAdmit state.old }
     requires places { pending state.old < 1024 }
-    ensures starved { (asked : types.Asked) → world state.new ≡ heard_in (setup_in state.old) (world state.old) (vec_len state.old.past) number (record { xid = xid; asked = asked }) true }
-    ensures setup { setup_in state.new ≡ setup_in state.old }
+    ensures starved { HasStarved number xid state.old state.new }
+    ensures setup { HasItsSetup state.old state.new }
     ensures past { state.new.past ≡ state.old.past }
     ensures current { MayBeAnswered state.old.current state.new.current }
     ensures sound { IsSound state.new }
@@ -146,10 +153,11 @@ fn take_in(state: &mut State, bytes: &[u8]) -> (usize, Arrival)
     requires sound { IsSound state.old }
     requires taking { TakesIn state.old.current (length bytes.now) }
     ensures took { MayTakeFrom state.old.current state.new.current bytes.now result.0 result.1 }
-    ensures taken { world state.new ≡ bytes_taken (world state.old) (vec_len state.old.past) (take result.0 bytes.now) }
+    ensures taken { HasTaken (take result.0 bytes.now) state.old state.new }
     ensures same { state.new ≡ record state.old { current = state.new.current } }
     ensures within { result.0 ≤ length bytes.now }
-    ensures none { HasNoRecord (outcome (stands_at state.old.current) bytes.now) → AdmitsNone result.1 }
+    ensures none { HasNoRecord (outcome (stands_at state.old.current) bytes.now)
+        → AdmitsNone result.1 }
     ensures sound { IsSound state.new }
 {
     match &mut state.current {
@@ -174,10 +182,10 @@ fn take_and_admit(state: &mut State, bytes: &[u8]) -> (usize, Option<Stop>)
     requires taking { TakesIn state.old.current (length bytes.now) }
     requires some { 0 < length bytes.now }
     requires places { pending state.old < 1024 }
-    ensures feeds { FeedsPart (setup_in state.old) (vec_len state.old.past) (world state.old) bytes.now result.0 result.1 (world state.new) }
+    ensures feeds { FeedsSome state.old bytes.now result.0 result.1 state.new }
     ensures within { result.0 ≤ length bytes.now }
-    ensures goes_on { result.1 ≡ None → (0 < result.0) × TakesIn state.new.current (length bytes.now - result.0) }
-    ensures setup { setup_in state.new ≡ setup_in state.old }
+    ensures goes_on { MayTakeMore bytes.now result.0 result.1 state.new }
+    ensures setup { HasItsSetup state.old state.new }
     ensures past { state.new.past ≡ state.old.past }
     ensures sound { IsSound state.new }
 {
@@ -229,10 +237,10 @@ fn take_when_full(state: &mut State, bytes: &[u8]) -> (usize, Option<Stop>)
     requires taking { TakesIn state.old.current (length bytes.now) }
     requires some { 0 < length bytes.now }
     requires full { pending state.old ≡ 1024 }
-    ensures feeds { FeedsPart (setup_in state.old) (vec_len state.old.past) (world state.old) bytes.now result.0 result.1 (world state.new) }
+    ensures feeds { FeedsSome state.old bytes.now result.0 result.1 state.new }
     ensures within { result.0 ≤ length bytes.now }
-    ensures goes_on { result.1 ≡ None → (0 < result.0) × TakesIn state.new.current (length bytes.now - result.0) }
-    ensures setup { setup_in state.new ≡ setup_in state.old }
+    ensures goes_on { MayTakeMore bytes.now result.0 result.1 state.new }
+    ensures setup { HasItsSetup state.old state.new }
     ensures past { state.new.past ≡ state.old.past }
     ensures sound { IsSound state.new }
 {
@@ -260,10 +268,10 @@ fn take_some(state: &mut State, bytes: &[u8]) -> (usize, Option<Stop>)
     requires sound { IsSound state.old }
     requires taking { TakesIn state.old.current (length bytes.now) }
     requires some { 0 < length bytes.now }
-    ensures feeds { FeedsPart (setup_in state.old) (vec_len state.old.past) (world state.old) bytes.now result.0 result.1 (world state.new) }
+    ensures feeds { FeedsSome state.old bytes.now result.0 result.1 state.new }
     ensures within { result.0 ≤ length bytes.now }
-    ensures goes_on { result.1 ≡ None → (0 < result.0) × TakesIn state.new.current (length bytes.now - result.0) }
-    ensures setup { setup_in state.new ≡ setup_in state.old }
+    ensures goes_on { MayTakeMore bytes.now result.0 result.1 state.new }
+    ensures setup { HasItsSetup state.old state.new }
     ensures past { state.new.past ≡ state.old.past }
     ensures sound { IsSound state.new }
 {
@@ -278,8 +286,8 @@ fn take_some(state: &mut State, bytes: &[u8]) -> (usize, Option<Stop>)
 fn take_all(state: &mut State, bytes: &[u8]) -> (usize, Stop)
     requires sound { IsSound state.old }
     requires taking { TakesIn state.old.current (length bytes.now) }
-    ensures walks { Walks (setup_in state.old) (vec_len state.old.past) (world state.old) bytes.now result.0 (stop_number result.1) (world state.new) }
-    ensures setup { setup_in state.new ≡ setup_in state.old }
+    ensures walks { FeedsAll state.old bytes.now result.0 result.1 state.new }
+    ensures setup { HasItsSetup state.old state.new }
     ensures sound { IsSound state.new }
 {
     let mut taken = 0;
@@ -297,7 +305,8 @@ fn take_all(state: &mut State, bytes: &[u8]) -> (usize, Stop)
 fn is_stopped(state: &State, bytes: &[u8]) -> bool
     requires sound { IsSound state.now }
     requires at { AtNoFault state.now.current }
-    ensures stopped { result ≡ true → (pending state.now ≡ 1024) × IsFree (stands_at state.now.current) bytes.now 0 }
+    ensures stopped { result ≡ true
+        → (pending state.now ≡ 1024) × IsFree (stands_at state.now.current) bytes.now 0 }
     ensures goes_on { result ≡ false → MayGoOn state.now bytes.now }
 {
     if state.pending() < PLACES {
@@ -322,8 +331,8 @@ fn make_stream_room(current: &mut Option<OpenConnection>, size: usize) -> Result
 fn feed_open(state: &mut State, bytes: &[u8]) -> (usize, Stop)
     requires sound { IsSound state.old }
     requires at { AtNoFault state.old.current }
-    ensures walks { Walks (setup_in state.old) (vec_len state.old.past) (world state.old) bytes.now result.0 (stop_number result.1) (world state.new) }
-    ensures setup { setup_in state.new ≡ setup_in state.old }
+    ensures walks { FeedsAll state.old bytes.now result.0 result.1 state.new }
+    ensures setup { HasItsSetup state.old state.new }
     ensures sound { IsSound state.new }
 {
     if bytes.is_empty() {
@@ -351,8 +360,8 @@ fn takes_input(current: &Option<OpenConnection>) -> bool
 /// Takes bytes on a connection that is open and at no fault.
 pub(crate) fn feed(state: &mut State, connection: usize, bytes: &[u8]) -> Result<Done, Refusal>
     requires { IsSound state.old }
-    ensures events { Events (setup_in state.old) (world state.old) (events.Feed connection bytes.now) (answer_of result) (world state.new) }
-    ensures setup { setup_in state.new ≡ setup_in state.old }
+    ensures events { Does state.old (events.Feed connection bytes.now) result state.new }
+    ensures setup { HasItsSetup state.old state.new }
     ensures sound { IsSound state.new }
 {
     if connection != state.past.len() {

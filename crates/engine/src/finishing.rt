@@ -1,6 +1,7 @@
 //! Calls that are finished: their replies, and their entries.
 
-ghost use Rattle.std.specs.Prelude.{◌≡◌, ◌+◌, ◌≤◌, ◌<◌, ◌++◌, ◌∷◌, [], length, slice_get, IfSome, vec_len, vec_capacity};
+ghost use Rattle.std.specs.Prelude.{◌≡◌, ◌+◌, ◌≤◌, ◌<◌, ◌++◌, length};
+ghost use Rattle.std.specs.Prelude.{IfSome, vec_len, vec_capacity};
 ghost use Rattle.nfs_model.specs.World.{changed_at, with_output};
 ghost use Rattle.nfs_model.specs.Events.Step.{bytes_if_open};
 ghost use Rattle.nfs_values.specs.Reply.{reply_of};
@@ -8,6 +9,7 @@ ghost use Rattle.rpc_msg.specs.Replies.{IsShort};
 ghost use Rattle.engine.specs.Codec.{reply_record};
 ghost use Rattle.engine.specs.Seen.{world, entry_by};
 ghost use Rattle.engine.specs.Sound.{HasRoomToReply, IsWrittenTo, Releases, Responds, KeepsEntry};
+ghost use Rattle.engine.specs.Words.{HasWritten, written_count, HasFinished};
 
 use crate::connection::OpenConnection;
 use crate::message::{Entry, Origin, Request};
@@ -20,7 +22,8 @@ use nfs_values::{Moment, Reply};
 fn write_to(last: &mut OpenConnection, xid: u32, reply: &Reply) -> usize
     requires short { IsShort (reply_of reply.now) }
     requires room { vec_len last.old.output + 116 ≤ vec_capacity last.old.output }
-    ensures output { last.new.output.items ≡ last.old.output.items ++ reply_record xid (reply_of reply.now) }
+    ensures output { last.new.output.items
+        ≡ last.old.output.items ++ reply_record xid (reply_of reply.now) }
     ensures count { result ≡ length (reply_record xid (reply_of reply.now)) }
     ensures written { IsWrittenTo last.old last.new }
 {
@@ -34,8 +37,8 @@ fn write_to(last: &mut OpenConnection, xid: u32, reply: &Reply) -> usize
 pub(crate) fn respond(state: &mut State, origin: Origin, reply: &Reply) -> usize
     requires short { IsShort (reply_of reply.now) }
     requires room { HasRoomToReply state.old origin.connection }
-    ensures written { world state.new ≡ record (world state.old) { connections = changed_at (with_output (reply_record origin.xid (reply_of reply.now))) (world state.old).connections origin.connection } }
-    ensures count { result ≡ length (bytes_if_open (slice_get (world state.old).connections origin.connection) (reply_record origin.xid (reply_of reply.now))) }
+    ensures written { HasWritten origin (reply_of reply.now) state.old state.new }
+    ensures count { result ≡ written_count origin (reply_of reply.now) state.old }
     ensures responds { Responds origin.connection state.old state.new }
 {
     if origin.connection != state.past.len() {
@@ -49,7 +52,8 @@ pub(crate) fn respond(state: &mut State, origin: Origin, reply: &Reply) -> usize
 
 /// Gives up the room of a message's reply, which was written where its connection is open.
 pub(crate) fn release(state: &mut State, origin: Origin, room: usize)
-    requires { IfSome state.old.current (λ c. origin.connection ≡ vec_len state.old.past → room ≤ c.owed) }
+    requires { IfSome state.old.current
+        (λ c. origin.connection ≡ vec_len state.old.past → room ≤ c.owed) }
     ensures { Releases origin.connection room state.old state.new }
 {
     if origin.connection != state.past.len() {
@@ -70,7 +74,7 @@ pub(crate) fn keep_entry(
     moment: Moment,
 )
     requires { vec_len state.old.finished < vec_capacity state.old.finished }
-    ensures kept { world state.new ≡ record (world state.old) { finished = (world state.old).finished ++ entry_by origin request affinity moment ∷ [] } }
+    ensures kept { HasFinished origin request affinity moment state.old state.new }
     ensures keeps { KeepsEntry state.old state.new }
 {
     let starved = request.is_none();

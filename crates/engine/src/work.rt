@@ -22,7 +22,8 @@ use nfs_values::{Answer, Attributes, Call, FileKind, Fileid, Named, Status, Volu
 
 /// What a call without an affinity is answered.
 pub(crate) fn answer_at_once(call: &ServedCall) -> Answer
-    ensures answer { (layout : trees.Layout) → answer_of result ≡ answer_without_home layout (call_of call.now) }
+    ensures answer { (layout : trees.Layout)
+        → answer_of result ≡ answer_without_home layout (call_of call.now) }
     ensures short { IsShortAnswer (answer_of result) }
 {
     match call.as_call() {
@@ -76,7 +77,8 @@ fn get_attributes(held: &VolumeLogical, named: Named) -> Result<Attributes, Stat
 /// What a call is answered by the server whose parcel this is.
 pub(crate) fn answer(held: &VolumeLogical, layout: &Layout, call: &Call) -> Answer
     requires { IsReading (call_of call.now) }
-    ensures answer { IsAnswer (layout_of layout.now) held.now.root (call_of call.now) (answer_of result) }
+    ensures answer { IsAnswer (layout_of layout.now) held.now.root
+        (call_of call.now) (answer_of result) }
     ensures short { IsShortAnswer (answer_of result) }
 {
     match call {

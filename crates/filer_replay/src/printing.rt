@@ -1,6 +1,7 @@
 //! The lines that are printed.
 
-ghost use Rattle.std.specs.Prelude.{◌≡◌, ◌≤◌, ◌==◌, [], ◌∷◌, ◌++◌, length, codes, if◌then◌else◌, IfSome, IfErr, OnOk};
+ghost use Rattle.std.specs.Prelude.{◌≡◌, ◌≤◌, ◌==◌, [], ◌∷◌, ◌++◌, length, codes};
+ghost use Rattle.std.specs.Prelude.{if◌then◌else◌, IfSome, IfErr, OnOk};
 ghost use Rattle.std.specs.Fmt.{decimal};
 ghost use Rattle.std.specs.Io.KnownBytes.{Appends};
 ghost use Rattle.hex.specs.Hex.{encode_lower};
@@ -27,7 +28,8 @@ pub(crate) fn say<W: Write, D: Display + Drop>(out: &mut W, line: D) -> Result<(
 /// Prints a piece in lower-case hex, in one write.
 fn print_piece<W: Write>(out: &mut W, piece: &[u8]) -> Result<(), Fault>
     requires { length piece.now ≤ PIECE }
-    ensures digits { OnOk result (Appends (W.contents out.old) (W.contents out.new) (encode_lower piece.now)) }
+    ensures digits { OnOk result
+        (Appends (W.contents out.old) (W.contents out.new) (encode_lower piece.now)) }
     ensures err { IfErr result (λ fault. fault ≡ Fault.Output) }
 {
     let mut digits = [0; DIGITS];
@@ -38,7 +40,8 @@ fn print_piece<W: Write>(out: &mut W, piece: &[u8]) -> Result<(), Fault>
 
 /// Prints bytes in lower-case hex.
 fn print_hex<W: Write>(out: &mut W, bytes: &[u8]) -> Result<(), Fault>
-    ensures digits { OnOk result (Appends (W.contents out.old) (W.contents out.new) (encode_lower bytes.now)) }
+    ensures digits { OnOk result
+        (Appends (W.contents out.old) (W.contents out.new) (encode_lower bytes.now)) }
     ensures err { IfErr result (λ fault. fault ≡ Fault.Output) }
 {
     let mut rest = bytes;

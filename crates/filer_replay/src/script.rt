@@ -1,6 +1,7 @@
 //! Scripts: lines of a layout, then lines of events.
 
-ghost use Rattle.std.specs.Prelude.{◌≡◌, ◌≢◌, ◌+◌, ◌<◌, ◌≤◌, ◌^◌, ◌⊎◌, [], ◌∷◌, ◌++◌, length, Contains, IsTrue, ◌↔◌, IfOk, IfErr, IsSome, IfSome};
+ghost use Rattle.std.specs.Prelude.{◌≡◌, ◌+◌, ◌<◌, ◌≤◌, ◌^◌, ◌⊎◌, ◌↔◌, [], ◌∷◌, ◌++◌};
+ghost use Rattle.std.specs.Prelude.{length, Contains, IsTrue, IfOk, IfErr, IsSome, IfSome};
 
 mod line;
 mod word;
@@ -34,7 +35,9 @@ fn is_volume(
     aggregate: u32,
     ranges: u32,
 ) -> bool
-    ensures { IsTrue result ↔ (length volumes.now < 8) × (aggregate < length aggregates.now) × (1 ≤ ranges) × (ranges ≤ 16) }
+    ensures { IsTrue result
+        ↔ (length volumes.now < 8) × (aggregate < length aggregates.now)
+        × (1 ≤ ranges) × (ranges ≤ 16) }
 {
     volumes.len() < MOST_VOLUMES
         && (aggregate as usize) < aggregates.len()
@@ -90,12 +93,17 @@ impl<'a> Script<'a> {
     /// The next line without its line feed; nothing at the end. A last line without a line feed is
     /// bad.
     fn next_text(&mut self) -> Result<Option<&'a [u8]>, Fault>
-        ensures end { IfOk result (λ text. text ≡ None → (self.old.rest.now ≡ []) × (self.new ≡ self.old)) }
-        ensures line { IfOk result (λ text. IfSome text (λ line. self.old.rest.now ≡ line.now ++ 10 ∷ self.new.rest.now)) }
+        ensures end { IfOk result (λ text. text ≡ None
+            → (self.old.rest.now ≡ []) × (self.new ≡ self.old)) }
+        ensures line { IfOk result (λ text. IfSome text
+            (λ line. self.old.rest.now ≡ line.now ++ 10 ∷ self.new.rest.now)) }
         ensures whole { IfOk result (λ text. IfSome text (λ line. ¬ Contains line.now 10)) }
-        ensures count { IfOk result (λ text. IfSome text (λ _. self.new.count ≡ self.old.count + 1)) }
-        ensures shorter { IfOk result (λ text. IfSome text (λ _. length self.new.rest.now < length self.old.rest.now)) }
-        ensures err { IfErr result (λ fault. (fault ≡ Fault.BadLine (self.old.count + 1)) × ¬ Contains self.old.rest.now 10) }
+        ensures count { IfOk result (λ text. IfSome text
+            (λ _. self.new.count ≡ self.old.count + 1)) }
+        ensures shorter { IfOk result (λ text. IfSome text
+            (λ _. length self.new.rest.now < length self.old.rest.now)) }
+        ensures err { IfErr result (λ fault. (fault ≡ Fault.BadLine (self.old.count + 1))
+            × ¬ Contains self.old.rest.now 10) }
     {
         let rest = self.rest;
         if rest.is_empty() {
@@ -113,7 +121,8 @@ impl<'a> Script<'a> {
 
     /// The next line that is neither empty nor a comment; nothing at the end.
     fn next_line(&mut self) -> Result<Option<&'a [u8]>, Fault>
-        ensures { IfOk result (λ line. IsSome line → length self.new.rest.now < length self.old.rest.now) }
+        ensures { IfOk result (λ line. IsSome line
+            → length self.new.rest.now < length self.old.rest.now) }
     {
         while let Some(text) = self.next_text()? {
             if !is_skipped(text) {
@@ -176,8 +185,10 @@ impl<'a> Script<'a> {
 
     /// The layout of these; the line read last is bad where they are none.
     fn layout(&self, aggregates: &[AggregateSpec], volumes: &[VolumeSpec]) -> Result<Layout, Fault>
-        ensures layout { IfOk result (λ layout. layout_of layout ≡ layout_in aggregates.now volumes.now) }
-        ensures bad { IfErr result (λ fault. (fault ≡ Fault.NoMemory) ⊎ (fault ≡ Fault.BadLine self.now.count)) }
+        ensures layout { IfOk result
+            (λ layout. layout_of layout ≡ layout_in aggregates.now volumes.now) }
+        ensures bad { IfErr result
+            (λ fault. (fault ≡ Fault.NoMemory) ⊎ (fault ≡ Fault.BadLine self.now.count)) }
     {
         match Layout::new(self.alloc, aggregates, volumes) {
             Ok(layout) => Ok(layout),
@@ -191,7 +202,8 @@ impl<'a> Script<'a> {
         &mut self,
         bytes: &'b mut Vec<u8>,
     ) -> Result<Option<Event<'b>>, Fault>
-        ensures { IfOk result (λ event. IsSome event → length self.new.rest.now < length self.old.rest.now) }
+        ensures { IfOk result (λ event. IsSome event
+            → length self.new.rest.now < length self.old.rest.now) }
     {
         let Some(text) = self.next_line()? else {
             return Ok(None);

@@ -1,7 +1,9 @@
 -- A call without a home affinity is answered at once: it reads no state and changes nothing.
-use Rattle.std.proofs.Common.{◌≡◌, ℕ, zero, suc, Bool, true, false, List, [], ◌∷◌, length, Option, Some, None, is_some, slice_get, refl, sym, ap, ◌∙◌, subst, min, arith, ◌==◌, ◌&&◌, ◌<◌, if◌then◌else◌}
+use Rattle.std.proofs.Common.{◌≡◌, ℕ, zero, suc, Bool, true, false, List, [], ◌∷◌, length, Option, Some, None, is_some, slice_get, refl, sym, ap, ◌∙◌, subst}
+use Rattle.std.proofs.Common.{min, arith, ◌==◌, ◌&&◌, ◌<◌, if◌then◌else◌}
 use Rattle.std.proofs.lemmas.Bool.{ltb-true}
-use Rattle.nfs_model.specs.Types.{Moment, Credential, Call, Null, Getattr, Setattr, Lookup, Read, Write, Create, Mkdir, Remove, Rmdir, Rename, Readdir, Fsstat, Commit, Census, Grow, Failed, CrossVolume, BadHandle, NoEntry, Success}
+use Rattle.nfs_model.specs.Types.{Moment, Credential, Call, Null, Getattr, Setattr, Lookup, Read, Write, Create, Mkdir, Remove, Rmdir, Rename, Readdir}
+use Rattle.nfs_model.specs.Types.{Fsstat, Commit, Census, Grow, Failed, CrossVolume, BadHandle, NoEntry, Success}
 use Rattle.nfs_model.specs.Tree.{Layout, VolumeLayout, Affinity, Logical}
 use Rattle.nfs_model.specs.Server.{VolumeState, Server, Named, named_read, handle_of, most_bytes}
 use Rattle.nfs_model.specs.Serial.Rename.{rename}
@@ -24,7 +26,8 @@ module _ (server : Server) (absent : ℕ) (run : VolumeState → ℕ → Effect)
   in_a_span true x y e = cc
   in_a_span false x y e = cc
 
-  bytes_answered : (layout : Layout) (h : Option Named) (offset n : ℕ) → bytes_home layout h offset n ≡ None → on server absent (located_by server.volumes h) run ≡ stay server (Failed BadHandle absent)
+  bytes_answered : (layout : Layout) (h : Option Named) (offset n : ℕ) → bytes_home layout h offset n ≡ None
+      → on server absent (located_by server.volumes h) run ≡ stay server (Failed BadHandle absent)
   bytes_answered layout None offset n e = refl
   bytes_answered layout (Some h) offset n e = absurd (in_a_span _ _ _ e)
 
@@ -66,14 +69,16 @@ module _ (server : Server) (absent : ℕ) (run : VolumeState → ℕ → ℕ →
   one_answered from (Some l) = refl
 
   both_answered : (from to : Named) → IsGood server.volumes from → IsGood server.volumes to → rename_home (Some from) (Some to) ≡ None
-      → on_two server absent (located_in from (slice_get server.volumes from.volume)) (located_in to (slice_get server.volumes to.volume)) run ≡ stay server (Failed CrossVolume absent)
+      → on_two server absent (located_in from (slice_get server.volumes from.volume)) (located_in to (slice_get server.volumes to.volume)) run ≡ stay server
+      (Failed CrossVolume absent)
   both_answered from to f t e =
       ap (λ (o : Option VolumeState). on_two server absent (located_in from o) (located_in to (slice_get server.volumes to.volume)) run) f.there
       ∙ ap (λ (o : Option VolumeState). on_two server absent (located_in from (Some f.volume)) (located_in to o) run) t.there
       ∙ two_in_one (from.volume == to.volume) (Logical from.volume) (placed server absent from.volume (run f.volume from.fileid to.fileid)) e
 
   two_answered : (from to : Option Named) → ((h : Named) → from ≡ Some h → IsGood server.volumes h) → ((h : Named) → to ≡ Some h → IsGood server.volumes h)
-      → rename_home from to ≡ None → on_two server absent (located_by server.volumes from) (located_by server.volumes to) run ≡ stay server (answer_of_two absent from to)
+      → rename_home from to ≡ None → on_two server absent (located_by server.volumes from) (located_by server.volumes to) run ≡ stay server
+      (answer_of_two absent from to)
   two_answered None to f t e = refl
   two_answered (Some from) None f t e = one_answered from (located_in from (slice_get server.volumes from.volume))
   two_answered (Some from) (Some to) f t e = both_answered from to (f from refl) (t to refl) e
@@ -92,17 +97,21 @@ same_there (x ∷ xs) (y ∷ ys) zero e = refl
 same_there (x ∷ xs) (y ∷ ys) (suc i) e = same_there xs ys i (omega arith)
 
 module _ (layout : Layout) (server : Server) (credential : Credential) (moment : Moment) where
-  here : (F : Option Named → Option Affinity) (handle : List ℕ) → length layout.volumes ≡ length server.volumes → F (handle_of (length layout.volumes) handle) ≡ None → F (handle_of (length server.volumes) handle) ≡ None
+  here : (F : Option Named → Option Affinity) (handle : List ℕ) → length layout.volumes ≡ length server.volumes
+      → F (handle_of (length layout.volumes) handle) ≡ None → F (handle_of (length server.volumes) handle) ≡ None
   here F handle volumes e = subst (λ n. F (handle_of n handle) ≡ None) volumes e
 
   -- A call without a home affinity reads no state and changes nothing.
-  pub without_home_stays : (call : Call) → length layout.volumes ≡ length server.volumes → home layout call ≡ None → serve server call credential moment ≡ stay server (answer_without_home layout call)
+  pub without_home_stays : (call : Call) → length layout.volumes ≡ length server.volumes → home layout call ≡ None
+      → serve server call credential moment ≡ stay server (answer_without_home layout call)
   without_home_stays Null n e = refl
   without_home_stays (Getattr handle) n e = logical_answered server _ _ _ (here logical_home handle n e)
   without_home_stays (Setattr handle set guard) n e = logical_answered server _ _ _ (here logical_home handle n e)
   without_home_stays (Lookup directory name) n e = logical_answered server _ _ _ (here logical_home directory n e)
-  without_home_stays (Read handle offset count) n e = bytes_answered server _ _ layout _ offset _ (here (λ h. bytes_home layout h offset (min count most_bytes)) handle n e)
-  without_home_stays (Write handle offset count written) n e = bytes_answered server _ _ layout _ offset _ (here (λ h. bytes_home layout h offset (min count most_bytes)) handle n e)
+  without_home_stays (Read handle offset count) n e = bytes_answered server _ _ layout _ offset _
+      (here (λ h. bytes_home layout h offset (min count most_bytes)) handle n e)
+  without_home_stays (Write handle offset count written) n e = bytes_answered server _ _ layout _ offset _
+      (here (λ h. bytes_home layout h offset (min count most_bytes)) handle n e)
   without_home_stays (Create directory name mode) n e = logical_answered server _ _ _ (here logical_home directory n e)
   without_home_stays (Mkdir directory name set) n e = logical_answered server _ _ _ (here logical_home directory n e)
   without_home_stays (Remove directory name) n e = logical_answered server _ _ _ (here logical_home directory n e)
@@ -117,4 +126,6 @@ module _ (layout : Layout) (server : Server) (credential : Credential) (moment :
   without_home_stays (Commit handle) n e = logical_answered server _ _ _ (here logical_home handle n e)
   without_home_stays Census n e = absurd cc
   without_home_stays (Grow volume ranges) n e =
-      ap (λ (g : Grown). record { reply = Success g.answer; server = g.server }) (grow_answered server volume ranges (slice_get layout.volumes volume) (slice_get server.volumes volume) (same_there layout.volumes server.volumes volume n) e)
+      ap (λ (g : Grown). record { reply = Success g.answer; server = g.server })
+      (grow_answered server volume ranges (slice_get layout.volumes volume) (slice_get server.volumes volume)
+      (same_there layout.volumes server.volumes volume n) e)

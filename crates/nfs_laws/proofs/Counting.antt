@@ -1,5 +1,6 @@
 -- How often a number stands in a batch, and in a set that a batch leaves or comes into.
-use Rattle.std.proofs.Common.{◌≡◌, ℕ, zero, suc, ◌+◌, ◌*◌, ◌≤◌, Bool, true, false, not, cond, List, [], ◌∷◌, ◌++◌, map, take, refl, sym, ap, ◌∙◌, arith, nat_eq, nat_lt, nat_le}
+use Rattle.std.proofs.Common.{◌≡◌, ℕ, zero, suc, ◌+◌, ◌*◌, ◌≤◌, Bool, true, false, not, cond, List, [], ◌∷◌, ◌++◌, map, take, refl, sym, ap, ◌∙◌, arith}
+use Rattle.std.proofs.Common.{nat_eq, nat_lt, nat_le}
 use Rattle.std.specs.Prelude.{◌==◌, ◌&&◌, ◌||◌}
 use Rattle.std.specs.List.{AllByRecursion, range_with_len, filter, list_any}
 use Rattle.std.specs.Ordering.{nat_cmp}
@@ -33,7 +34,8 @@ take_fewer n (suc m) [] = omega arith
 take_fewer n (suc m) (x ∷ xs) = omega (arith, take_fewer n m xs)
 
 -- one number passes a test or not, and all others as before
-passing : (n x t : ℕ) (rest : List ℕ) (c d q : Bool) → (x == n) ≡ d → (d ≡ true → c ≡ q) → times_listed n rest ≡ cond q t 0 → times_listed n (cond c (x ∷ rest) rest) ≡ cond q (one_if d + t) 0
+passing : (n x t : ℕ) (rest : List ℕ) (c d q : Bool) → (x == n) ≡ d → (d ≡ true → c ≡ q) → times_listed n rest ≡ cond q t 0
+    → times_listed n (cond c (x ∷ rest) rest) ≡ cond q (one_if d + t) 0
 passing n x t rest true d true e same h = let f : one_if (x == n) ≡ one_if d = ap (λ (b : Bool). one_if b) e in omega arith
 passing n x t rest true true false e same h = absurd (let f : true ≡ false = same refl in cc)
 passing n x t rest true false false e same h = let f : one_if (x == n) ≡ 0 = ap (λ (b : Bool). one_if b) e in omega arith
@@ -47,7 +49,8 @@ no_times false = refl
 
 times_listed-filter : (p : ℕ → Bool) (n : ℕ) (xs : List ℕ) → times_listed n (filter p xs) ≡ cond (p n) (times_listed n xs) 0
 times_listed-filter p n [] = sym (no_times (p n))
-times_listed-filter p n (x ∷ xs) = passing n x (times_listed n xs) (filter p xs) (p x) (x == n) (p n) refl (λ e. ap p (eqb-true x n e)) (times_listed-filter p n xs)
+times_listed-filter p n (x ∷ xs) =
+    passing n x (times_listed n xs) (filter p xs) (p x) (x == n) (p n) refl (λ e. ap p (eqb-true x n e)) (times_listed-filter p n xs)
 
 most_if : (b : Bool) (t : ℕ) → t ≤ 1 → cond b t 0 ≤ one_if b
 most_if true t h = h
@@ -57,7 +60,13 @@ most_if false t h = omega arith
 pub batch_within : (range n : ℕ) (s : FinSet nat_cmp) → times_listed n (batch range s) ≤ one_if (contains s n)
 unfolding in_range
 batch_within range n s =
-    omega (arith, take_fewer n 64 (filter (contains s) (range_with_len (1024 * range) 1024)), times_listed-filter (contains s) n (range_with_len (1024 * range) 1024), most_if (contains s n) _ (range_once n (1024 * range) 1024))
+    omega (
+      arith,
+      take_fewer n 64 (filter (contains s) (range_with_len (1024 * range) 1024)),
+      times_listed-filter (contains s) n
+          (range_with_len (1024 * range) 1024),
+      most_if (contains s n) _ (range_once n (1024 * range) 1024),
+    )
 
 first_within : (n m : ℕ) (xss : List (List ℕ)) → AllByRecursion (λ xs. times_listed n xs ≤ m) xss → times_listed n (first_filled xss) ≤ m
 first_within n m [] p = omega arith
@@ -89,14 +98,18 @@ taken_away : (c : Bool) (t : ℕ) → t ≤ one_if c → one_if (c && not (nat_l
 taken_away c t h = grind (arith, nat_tests)
 
 -- a batch of a set leaves it
-pub batch_leaves : (s : FinSet nat_cmp) (xs : List ℕ) (n : ℕ) → times_listed n xs ≤ one_if (contains s n) → one_if (contains (difference s (from_list xs)) n) + times_listed n xs ≡ one_if (contains s n)
+pub batch_leaves : (s : FinSet nat_cmp) (xs : List ℕ) (n : ℕ) → times_listed n xs ≤ one_if (contains s n)
+    → one_if (contains (difference s (from_list xs)) n) + times_listed n xs ≡ one_if (contains s n)
 batch_leaves s xs n h =
-    ap (λ (b : Bool). one_if b + times_listed n xs) (contains-difference nat_cmp_total s (from_list xs) n ∙ ap (λ (b : Bool). contains s n && not b) (contains_listed xs n)) ∙ taken_away (contains s n) (times_listed n xs) h
+    ap (λ (b : Bool). one_if b + times_listed n xs) (contains-difference nat_cmp_total s (from_list xs) n
+    ∙ ap (λ (b : Bool). contains s n && not b) (contains_listed xs n)) ∙ taken_away (contains s n) (times_listed n xs) h
 
 put_to : (c : Bool) (t : ℕ) → one_if c + t ≤ 1 → one_if (c || nat_lt 0 t) ≡ one_if c + t
 put_to c t h = grind (arith, nat_tests)
 
 -- a batch that isn't in a set comes into it
-pub batch_comes : (s : FinSet nat_cmp) (xs : List ℕ) (n : ℕ) → one_if (contains s n) + times_listed n xs ≤ 1 → one_if (contains (union s (from_list xs)) n) ≡ one_if (contains s n) + times_listed n xs
+pub batch_comes : (s : FinSet nat_cmp) (xs : List ℕ) (n : ℕ) → one_if (contains s n) + times_listed n xs ≤ 1
+    → one_if (contains (union s (from_list xs)) n) ≡ one_if (contains s n) + times_listed n xs
 batch_comes s xs n h =
-    ap (λ (b : Bool). one_if b) (contains-union nat_cmp_total s (from_list xs) n ∙ ap (λ (b : Bool). contains s n || b) (contains_listed xs n)) ∙ put_to (contains s n) (times_listed n xs) h
+    ap (λ (b : Bool). one_if b) (contains-union nat_cmp_total s (from_list xs) n ∙ ap (λ (b : Bool). contains s n || b) (contains_listed xs n))
+    ∙ put_to (contains s n) (times_listed n xs) h

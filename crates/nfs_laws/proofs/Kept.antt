@@ -5,7 +5,9 @@ use Rattle.nfs_model.specs.Tree.{Logical}
 use Rattle.nfs_model.specs.World.{Setup, World, Message, Running, Worker, IsScan}
 use Rattle.nfs_model.specs.Parts.{Hand, Empty, Fresh, Dead}
 use Rattle.nfs_model.specs.Work.{Outcome}
-use Rattle.nfs_model.specs.Events.Refusals.{Event, Open, Feed, Close, Begin, Work, Finish, Fetch, Cull, PutDown, Survey, Done, is_open, is_idle, is_busy, is_bad_moment, takes_input, begin_refusal, work_refusal, running_of, excluded, fetch_refusal, has_empty_hand, is_empty_hand, refusal}
+use Rattle.nfs_model.specs.Events.Refusals.{Event, Open, Feed, Close, Begin, Work, Finish, Fetch, Cull, PutDown, Survey, Done, is_open, is_idle, is_busy}
+use Rattle.nfs_model.specs.Events.Refusals.{is_bad_moment, takes_input, begin_refusal, work_refusal, running_of, excluded, fetch_refusal, has_empty_hand}
+use Rattle.nfs_model.specs.Events.Refusals.{is_empty_hand, refusal}
 use Rattle.nfs_model.specs.Events.Step.{Happens, Events, Runs}
 use Rattle.nfs_model.specs.Headline.{Kept}
 use Rattle.nfs_laws.proofs.Lists.{none_is}
@@ -40,7 +42,8 @@ idle_at w i None e t = absurd cc
 idle_at w i (Some k) e t = record { worker = k; there = e; idle = none_is k.running t }
 
 -- a message that begins isn't excluded
-begun_free : (setup : Setup) (w : World) (place : ℕ) (m : Message) (moment : _) → slice_get w.waiting place ≡ Some m → begin_refusal setup w moment (slice_get w.waiting place) ≡ None → is_busy setup w m.affinity ≡ false
+begun_free : (setup : Setup) (w : World) (place : ℕ) (m : Message) (moment : _) → slice_get w.waiting place ≡ Some m
+    → begin_refusal setup w moment (slice_get w.waiting place) ≡ None → is_busy setup w m.affinity ≡ false
 begun_free setup w place m moment at e =
     let f : begin_refusal setup w moment (Some m) ≡ None = ap (λ (o : Option Message). begin_refusal setup w moment o) (sym at) ∙ e in
     (allowed_unless (is_busy setup w m.affinity) 21 _ (allowed_unless (is_bad_moment moment) 37 (excluded setup w m.affinity) f).1).0
@@ -50,7 +53,8 @@ no_outcome None e = refl
 no_outcome (Some x) e = absurd cc
 
 -- a message that is worked wasn't
-worked_once : (w : World) (i : ℕ) (k : Worker) (r : Running) → slice_get w.workers i ≡ Some k → k.running ≡ Some r → work_refusal (running_of (slice_get w.workers i)) ≡ None → r.outcome ≡ None
+worked_once : (w : World) (i : ℕ) (k : Worker) (r : Running) → slice_get w.workers i ≡ Some k → k.running ≡ Some r
+    → work_refusal (running_of (slice_get w.workers i)) ≡ None → r.outcome ≡ None
 worked_once w i k r there runs e =
     let f : work_refusal (Some r) ≡ None = ap (λ (o : Option Running). work_refusal o) (sym (ap (λ (o : Option Worker). running_of o) there ∙ runs)) ∙ e in
     no_outcome r.outcome (allowed_unless (is_some r.outcome) 34 None f).0
@@ -74,7 +78,8 @@ second_true : (a b : Bool) → (a && b) ≡ true → b ≡ true
 second_true true b e = e
 second_true false b e = absurd cc
 
-empty_handed : (w : World) (i : ℕ) (rest : Option ℕ) → (if is_idle (slice_get w.workers i) && has_empty_hand (slice_get w.workers i) then rest else Some 33) ≡ None → HasEmptyHand w i
+empty_handed : (w : World) (i : ℕ) (rest : Option ℕ)
+    → (if is_idle (slice_get w.workers i) && has_empty_hand (slice_get w.workers i) then rest else Some 33) ≡ None → HasEmptyHand w i
 empty_handed w i rest e =
     empty_at w i (slice_get w.workers i) refl
     (second_true (is_idle (slice_get w.workers i)) (has_empty_hand (slice_get w.workers i))
@@ -83,7 +88,8 @@ empty_handed w i rest e =
 -- ---- each event
 
 module _ (setup : Setup) (scan : IsScan setup.codec) where
-  happens_kept : (w : World) (event : Event) (done : Done) (new : World) → refusal setup w event ≡ None → NeedsAgreed setup event new → Happens setup w event done new → Kept setup w → Kept setup new
+  happens_kept : (w : World) (event : Event) (done : Done) (new : World) → refusal setup w event ≡ None → NeedsAgreed setup event new
+      → Happens setup w event done new → Kept setup w → Kept setup new
   happens_kept w Open done new allowed agreed p h = subst (λ (v : World). Kept setup v) (sym p.1) (keeps_open setup w scan h)
   happens_kept w (Feed c bytes) done new allowed agreed p h =
       let takes = (allowed_if (takes_input setup (slice_get w.connections c)) 36 None allowed).0 in
@@ -93,11 +99,13 @@ module _ (setup : Setup) (scan : IsScan setup.codec) where
   happens_kept w (Begin worker place moment) done new allowed agreed p h =
       let free = allowed_if (is_idle (slice_get w.workers worker)) 33 (begin_refusal setup w moment (slice_get w.waiting place)) allowed in
       let k = idle_at w worker (slice_get w.workers worker) refl free.0 in
-      subst (λ (v : World). Kept setup v) (sym p.3) (keeps_begin setup w worker k.worker place p.0 moment k.there k.idle p.1 (begun_free setup w place p.0 moment p.1 free.1) h)
+      subst (λ (v : World). Kept setup v) (sym p.3)
+      (keeps_begin setup w worker k.worker place p.0 moment k.there k.idle p.1 (begun_free setup w place p.0 moment p.1 free.1) h)
   happens_kept w (Work worker) done new allowed agreed p h =
       subst (λ (v : World). Kept setup v) (sym p.8) (keeps_work setup w worker p.0 p.1 p.2 p.3 (subst (λ (v : World). IsAgreed setup v) p.8 agreed) p.4 p.5 h)
   happens_kept w (Finish worker) done new allowed agreed p h =
-      subst (λ (v : World). Kept setup v) (sym p.7) (keeps_finish setup w worker p.0 p.1 p.2 (subst (λ (v : World). IsAgreed setup v) p.7 agreed) scan p.3 p.4 p.5 h)
+      subst (λ (v : World). Kept setup v) (sym p.7)
+      (keeps_finish setup w worker p.0 p.1 p.2 (subst (λ (v : World). IsAgreed setup v) p.7 agreed) scan p.3 p.4 p.5 h)
   happens_kept w (Fetch worker volume range) done new allowed agreed p h =
       let k = empty_handed w worker (fetch_refusal setup w volume range (slice_get w.server.volumes volume)) allowed in
       keeps_fetched setup w worker volume range p.2 k.worker p.0 p.1 new k.there k.empty p.3.3 p.4 p.6 h
@@ -122,7 +130,8 @@ needs_agreed setup (Survey worker volume) new a = tt
 
 module _ (setup : Setup) (scan : IsScan setup.codec) where
   -- whatever an event is answered
-  pub keeps : (w : World) (event : Event) (answer : Result Done ℕ) (new : World) → Kept setup w → IsAgreed setup new → Events setup w event answer new → Kept setup new
+  pub keeps : (w : World) (event : Event) (answer : Result Done ℕ) (new : World) → Kept setup w → IsAgreed setup new → Events setup w event answer new
+      → Kept setup new
   keeps w event (Ok done) new h agreed e = happens_kept setup scan w event done new e.0 (needs_agreed setup event new agreed) e.1 h
   keeps w event (Err number) new h agreed e = subst (λ (v : World). Kept setup v) (sym e.1) h
 
@@ -132,7 +141,8 @@ module _ (setup : Setup) (only : IsReadOnly setup) (scan : IsScan setup.codec) w
   keeps_reading w event (Ok done) new h e = happens_kept setup scan w event done new e.0 (readings_agree setup only w h event done new e.1) e.1 h
   keeps_reading w event (Err number) new h e = subst (λ (v : World). Kept setup v) (sym e.1) h
 
-  pub readings_meet_the_premise : (w : World) (event : Event) (answer : Result Done ℕ) (new : World) → Kept setup w → Events setup w event answer new → IsAgreed setup new
+  pub readings_meet_the_premise : (w : World) (event : Event) (answer : Result Done ℕ) (new : World) → Kept setup w → Events setup w event answer new
+      → IsAgreed setup new
   readings_meet_the_premise w event answer new h e =
       let k = keeps_reading w event answer new h e in
       record { state = k.headline.state; outcomes = k.outcomes; partition = k.headline.partition }

@@ -21,7 +21,8 @@ keeps_open setup w scan h =
     let none : (n : ℕ) → total_in w new_count n ≡ 0 = λ n.
     let a = tally_finished_none new_count n w.finished (entries_elsewhere setup w w.finished h.headline.own_finished) in
     let b = tally_messages_none new_count n w.waiting (messages_elsewhere setup w w.waiting h.headline.own_waiting) in
-    let c = tally_messages_none new_count n (messages (all_running w.workers)) (messages_elsewhere setup w (messages (all_running w.workers)) h.headline.own_running) in
+    let c = tally_messages_none new_count n (messages (all_running w.workers))
+    (messages_elsewhere setup w (messages (all_running w.workers)) h.headline.own_running) in
     omega (arith, a, b, c) in
     record {
       headline = record {

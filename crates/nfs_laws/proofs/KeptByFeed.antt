@@ -17,7 +17,8 @@ use Rattle.nfs_laws.specs.Walk.{Reached, Further, Complete, AtFault, reached_at,
 use Rattle.nfs_model.specs.Headline.{Kept, start, served, messages, tally_finished, server_worked, IsHeard, IsOwnCall, IsOwnMessage, IsOutcome, IsTried}
 use Rattle.nfs_model.specs.Parts.{one_if}
 use Rattle.nfs_laws.proofs.Lists.{All-push, Some_same, none_is, slice_get-append, slice_get_next, slice_get-changed_at}
-use Rattle.nfs_laws.proofs.Written.{AreLawful-push, server_after-push, replies_finish, until_finish, replies_changed, until_changed, written_stream, written_closed}
+use Rattle.nfs_laws.proofs.Written.{AreLawful-push, server_after-push, replies_finish, until_finish, replies_changed, until_changed, written_stream}
+use Rattle.nfs_laws.proofs.Written.{written_closed}
 use Rattle.nfs_laws.proofs.Own.{IsLater, later_changed, later_then, own_later, own_of_heard, entries_later, messages_later}
 use Rattle.nfs_laws.proofs.Once.{total_in, once_changed, once_heard, tally_finished-append, tally_messages-append}
 use Rattle.nfs_laws.proofs.Needs.{IsAtOnce, at_once}
@@ -35,7 +36,8 @@ module _ (old : List Heard) where
   at_next : (new more : List Heard) → new ≡ old ++ more → slice_get new (length old) ≡ slice_get more 0
   at_next new more e = ap (λ (hs : List Heard). slice_get hs (length old)) e ∙ slice_get_next old more
 
-  brought : (r : Reached) (fault : Option ℕ) (new more : List Heard) → new ≡ old ++ more → length more ≤ 1 → IfSome fault (λ number. more ≡ []) → reached_at fault (slice_get more 0) ≡ r → Brings r fault old new
+  brought : (r : Reached) (fault : Option ℕ) (new more : List Heard) → new ≡ old ++ more → length more ≤ 1 → IfSome fault (λ number. more ≡ [])
+      → reached_at fault (slice_get more 0) ≡ r → Brings r fault old new
   brought Further (Some number) new more e few none is = absurd cc
   brought Further None new [] e few none is = (refl, e ∙ append-nil old)
   brought Further None new (h ∷ more) e few none is = absurd cc
@@ -45,7 +47,11 @@ module _ (old : List Heard) where
   brought (Complete h) None new (x ∷ (y ∷ more)) e few none is = absurd (omega arith)
   brought (AtFault number) None new [] e few none is = absurd cc
   brought (AtFault number) None new (h ∷ more) e few none is = absurd cc
-  brought (AtFault number) (Some n) new more e few none is = (ap Some (let same : n ≡ number = cc in same), e ∙ ap (λ (hs : List Heard). old ++ hs) none ∙ append-nil old)
+  brought (AtFault number) (Some n) new more e few none is = (
+    ap Some (let same : n ≡ number = cc in same),
+    e ∙ ap (λ (hs : List Heard). old ++ hs) none
+        ∙ append-nil old,
+  )
 
 -- ---- a connection that takes input
 
@@ -78,23 +84,27 @@ brings setup w c b t r scan is =
     let here : reached_by (setup.codec.scan (x.stream ++ b ∷ [])) (length (served setup x)) ≡ r =
     ap (λ (s : List ℕ). reached_by (setup.codec.scan (s ++ b ∷ [])) (length (setup.codec.scan s).served)) (sym came) ∙ is in
     brought (served setup x) r (setup.codec.scan (x.stream ++ b ∷ [])).fault (served setup (with_byte b x)) more.0 more.1 more.2 more.3
-    (ap (λ (o : Option Heard). reached_at (setup.codec.scan (x.stream ++ b ∷ [])).fault o) (sym (at_next (served setup x) (served setup (with_byte b x)) more.0 more.1)) ∙ here)
+    (ap (λ (o : Option Heard). reached_at (setup.codec.scan (x.stream ++ b ∷ [])).fault o)
+    (sym (at_next (served setup x) (served setup (with_byte b x)) more.0 more.1)) ∙ here)
 
 -- the connection of a place is one
 is_that : (w : World) (c : ℕ) (x y : Connection) → slice_get w.connections c ≡ Some x → slice_get w.connections c ≡ Some y → x ≡ y
 is_that w c x y e f = Some_same x y (sym e ∙ f)
 
-byte_later : (setup : Setup) (w : World) (c b : ℕ) (t : IsTaking setup w c) (more : List Heard) → served setup (with_byte b t.connection) ≡ served setup t.connection ++ more
+byte_later : (setup : Setup) (w : World) (c b : ℕ) (t : IsTaking setup w c) (more : List Heard)
+    → served setup (with_byte b t.connection) ≡ served setup t.connection ++ more
     → IsLater setup w.connections (changed_at (with_byte b) w.connections c)
 byte_later setup w c b t more longer =
     later_changed setup w.connections (with_byte b) c (λ y at n h q.
     let same : t.connection ≡ y = is_that w c t.connection y t.there at in
     subst (λ (z : Connection). slice_get (served setup (with_byte b z)) n ≡ Some h) same
-    (ap (λ (hs : List Heard). slice_get hs n) longer ∙ slice_get-append (served setup t.connection) more n h (subst (λ (z : Connection). slice_get (served setup z) n ≡ Some h) (sym same) q)))
+    (ap (λ (hs : List Heard). slice_get hs n) longer
+    ∙ slice_get-append (served setup t.connection) more n h (subst (λ (z : Connection). slice_get (served setup z) n ≡ Some h) (sym same) q)))
 
 -- ---- a byte that brings no record
 
-byte_kept : (setup : Setup) (w : World) (c b : ℕ) (t : IsTaking setup w c) → served setup (with_byte b t.connection) ≡ served setup t.connection → Kept setup w → Kept setup (byte_taken w c b)
+byte_kept : (setup : Setup) (w : World) (c b : ℕ) (t : IsTaking setup w c) → served setup (with_byte b t.connection) ≡ served setup t.connection
+    → Kept setup w → Kept setup (byte_taken w c b)
 byte_kept setup w c b t same h =
     let new : World = byte_taken w c b in
     let later = byte_later setup w c b t [] (same ∙ sym (append-nil (served setup t.connection))) in
@@ -140,9 +150,11 @@ module _ (setup : Setup) (w : World) (c b number : ℕ) (heard : Heard) (now : I
         ∙ slice_get_next (served setup now.taking.connection) (heard ∷ []),
   )
 
-  now_longer : (x : Connection) → slice_get w.connections c ≡ Some x → (served setup (with_byte b x) ≡ served setup x ++ heard ∷ []) × (number ≡ length (served setup x))
+  now_longer : (x : Connection) → slice_get w.connections c ≡ Some x
+      → (served setup (with_byte b x) ≡ served setup x ++ heard ∷ []) × (number ≡ length (served setup x))
   now_longer x at =
-      subst (λ (z : Connection). (served setup (with_byte b z) ≡ served setup z ++ heard ∷ []) × (number ≡ length (served setup z))) (is_that w c now.taking.connection x now.taking.there at) (now.longer, now.numbered)
+      subst (λ (z : Connection). (served setup (with_byte b z) ≡ served setup z ++ heard ∷ []) × (number ≡ length (served setup z)))
+      (is_that w c now.taking.connection x now.taking.there at) (now.longer, now.numbered)
 
 both_true : (a b : Bool) → a ≡ true → b ≡ true → (a && b) ≡ true
 both_true true b e f = f
@@ -153,7 +165,8 @@ begins_refl [] = refl
 begins_refl (x ∷ xs) = both_true (x == x) (begins xs xs) (eq-eqb x x refl) (begins_refl xs)
 
 -- it waits under its home
-wait_kept : (setup : Setup) (w : World) (c b number : ℕ) (heard : Heard) (a : Affinity) → IsHeardNow setup w c b number heard → home_of_asked setup.layout heard.asked ≡ Some a → Kept setup w
+wait_kept : (setup : Setup) (w : World) (c b number : ℕ) (heard : Heard) (a : Affinity) → IsHeardNow setup w c b number heard
+    → home_of_asked setup.layout heard.asked ≡ Some a → Kept setup w
     → Kept setup (admit setup (byte_taken w c b) c number heard (Some a))
 wait_kept setup w c b number heard a now home h =
     let m : Message = record { connection = c; number = number; xid = heard.xid; asked = heard.asked; affinity = a } in
@@ -166,7 +179,8 @@ wait_kept setup w c b number heard a now home h =
             (λ i n. omega (arith, tally_messages-append i n w.waiting (m ∷ [])))
             h.headline.each_once;
         own_finished = entries_later setup w new later w.finished h.headline.own_finished;
-        own_waiting = All-push (IsOwnMessage setup new) w.waiting m (messages_later setup w new later w.waiting h.headline.own_waiting) (now_own setup w c b number heard now);
+        own_waiting = All-push (IsOwnMessage setup new) w.waiting m (messages_later setup w new later w.waiting h.headline.own_waiting)
+            (now_own setup w c b number heard now);
         own_running = messages_later setup w new later (messages (all_running w.workers)) h.headline.own_running;
         lawful = h.headline.lawful;
         state = h.headline.state;
@@ -188,7 +202,8 @@ answer_kept setup w c b number heard e reply now on_it of_it own right stays law
     let write : Connection → Connection = with_output (setup.codec.reply_record e.xid reply) in
     let middle : World = byte_taken w c b in
     let new : World = finish setup middle e reply in
-    let keeps : (x : Connection) → served setup (write x) ≡ served setup x = λ x. ap (λ (bytes : List ℕ). (setup.codec.scan bytes).served) (written_stream (setup.codec.reply_record e.xid reply) x.closed x) in
+    let keeps : (x : Connection) → served setup (write x) ≡ served setup x = λ x. ap (λ (bytes : List ℕ). (setup.codec.scan bytes).served)
+    (written_stream (setup.codec.reply_record e.xid reply) x.closed x) in
     let written = later_changed setup middle.connections write e.connection (λ x at n y q. ap (λ (hs : List Heard). slice_get hs n) (keeps x) ∙ q) in
     let later = later_then setup w.connections middle.connections new.connections (now_later setup w c b number heard now) written in
     let same : server_after (start setup) (w.finished ++ e ∷ []) ≡ done setup w = server_after-push (start setup) w.finished e ∙ stays in
@@ -200,10 +215,12 @@ answer_kept setup w c b number heard e reply now on_it of_it own right stays law
         each_once = once_changed setup middle.connections (total_in new) (total_in new) write e.connection (λ x at. keeps x) (λ i n. refl)
             (once_heard setup w.connections (total_in w) (total_in new) (with_byte b) c number heard (now_longer setup w c b number heard now)
             (λ i n.
-            let one : tally_finished i n (e ∷ []) ≡ one_if ((c == i) && (number == n)) + 0 = ap (λ (k : ℕ). one_if ((k == i) && (e.number == n)) + 0) on_it ∙ ap (λ (k : ℕ). one_if ((c == i) && (k == n)) + 0) of_it in
+            let one : tally_finished i n (e ∷ []) ≡ one_if ((c == i) && (number == n)) + 0 = ap (λ (k : ℕ). one_if ((k == i) && (e.number == n)) + 0) on_it
+            ∙ ap (λ (k : ℕ). one_if ((c == i) && (k == n)) + 0) of_it in
             omega (arith, tally_finished-append i n w.finished (e ∷ []), one))
             h.headline.each_once);
-        own_finished = All-push (IsOwnCall setup new) w.finished e (entries_later setup w new later w.finished h.headline.own_finished) (own_later setup middle new written e e.asked own);
+        own_finished = All-push (IsOwnCall setup new) w.finished e (entries_later setup w new later w.finished h.headline.own_finished)
+            (own_later setup middle new written e e.asked own);
         own_waiting = messages_later setup w new later w.waiting h.headline.own_waiting;
         own_running = messages_later setup w new later (messages (all_running w.workers)) h.headline.own_running;
         lawful = AreLawful-push (start setup) w.finished e h.headline.lawful lawful;
@@ -283,27 +300,32 @@ record IsFeeding (setup : Setup) (w : World) (c : ℕ) : Type 0 where
 pub numbered_at : (setup : Setup) (w : World) (c : ℕ) (t : IsTaking setup w c) → served_count setup w c ≡ length (served setup t.connection)
 numbered_at setup w c t = ap (λ (o : Option Connection). length (setup.codec.scan (stream_in o)).served) t.there
 
-takes_kept : (setup : Setup) (w : World) (c b : ℕ) (r : Reached) (new : World) → IsScan setup.codec → IsFeeding setup w c → reached setup w c b ≡ r → Takes setup w c b r new → IsFeeding setup new c
+takes_kept : (setup : Setup) (w : World) (c b : ℕ) (r : Reached) (new : World) → IsScan setup.codec → IsFeeding setup w c → reached setup w c b ≡ r
+    → Takes setup w c b r new → IsFeeding setup new c
 takes_kept setup w c b Further new scan f is takes =
     let byte = brings setup w c b f.taking Further scan is in
-    subst (λ (v : World). IsFeeding setup v c) (sym takes) (record { kept = byte_kept setup w c b f.taking byte.1 f.kept; taking = taking_byte setup w c b f.taking byte.0 })
+    subst (λ (v : World). IsFeeding setup v c) (sym takes)
+    (record { kept = byte_kept setup w c b f.taking byte.1 f.kept; taking = taking_byte setup w c b f.taking byte.0 })
 takes_kept setup w c b (Complete heard) new scan f is takes =
     let byte = brings setup w c b f.taking (Complete heard) scan is in
     let starved = takes.1.0 in
     let number = served_count setup w c in
     subst (λ (v : World). IsFeeding setup v c) (sym takes.1.2) (record {
-      kept = heard_kept setup w c b number heard starved scan (record { taking = f.taking; longer = byte.1; numbered = numbered_at setup w c f.taking }) takes.1.1 f.kept;
+      kept = heard_kept setup w c b number heard starved scan
+          (record { taking = f.taking; longer = byte.1; numbered = numbered_at setup w c f.taking }) takes.1.1 f.kept;
       taking = taking_heard setup w c b f.taking byte.0 number heard starved;
     })
 takes_kept setup w c b (AtFault number) new scan f is takes = absurd takes
 
-fault_kept : (setup : Setup) (w : World) (c b : ℕ) (r : Reached) (taken stop : ℕ) (new : World) → IsScan setup.codec → IsFeeding setup w c → reached setup w c b ≡ r → TakesFault w c b r taken stop new → Kept setup new
+fault_kept : (setup : Setup) (w : World) (c b : ℕ) (r : Reached) (taken stop : ℕ) (new : World) → IsScan setup.codec → IsFeeding setup w c
+    → reached setup w c b ≡ r → TakesFault w c b r taken stop new → Kept setup new
 fault_kept setup w c b Further taken stop new scan f is takes = absurd takes
 fault_kept setup w c b (Complete heard) taken stop new scan f is takes = absurd takes
 fault_kept setup w c b (AtFault number) taken stop new scan f is takes =
     subst (λ (v : World). Kept setup v) (sym takes.3) (byte_kept setup w c b f.taking (brings setup w c b f.taking (AtFault number) scan is).1 f.kept)
 
-feeds_kept : (setup : Setup) (c : ℕ) (bytes : List ℕ) (w : World) (taken stop : ℕ) (new : World) → IsScan setup.codec → IsFeeding setup w c → Walks setup c w bytes taken stop new → Kept setup new
+feeds_kept : (setup : Setup) (c : ℕ) (bytes : List ℕ) (w : World) (taken stop : ℕ) (new : World) → IsScan setup.codec → IsFeeding setup w c
+    → Walks setup c w bytes taken stop new → Kept setup new
 feeds_kept setup c [] w taken stop new scan f feeds = subst (λ (v : World). Kept setup v) (sym feeds.2) f.kept
 feeds_kept setup c (b ∷ bytes) w taken stop new scan f (inl stops) = subst (λ (v : World). Kept setup v) (sym stops.1) f.kept
 feeds_kept setup c (b ∷ bytes) w taken stop new scan f (inr (inl fault)) = fault_kept setup w c b (reached setup w c b) taken stop new scan f refl fault
@@ -313,4 +335,5 @@ feeds_kept setup c (b ∷ bytes) w taken stop new scan f (inr (inr more)) =
 -- the bytes of a feed
 pub keeps_walk : (setup : Setup) (w : World) (c : ℕ) (bytes : List ℕ) (taken stop : ℕ) (new : World)
     → IsScan setup.codec → takes_input setup (slice_get w.connections c) ≡ true → Walks setup c w bytes taken stop new → Kept setup w → Kept setup new
-keeps_walk setup w c bytes taken stop new scan takes feeds h = feeds_kept setup c bytes w taken stop new scan (record { kept = h; taking = taking setup w c takes }) feeds
+keeps_walk setup w c bytes taken stop new scan takes feeds h =
+    feeds_kept setup c bytes w taken stop new scan (record { kept = h; taking = taking setup w c takes }) feeds

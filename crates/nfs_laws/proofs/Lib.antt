@@ -1,6 +1,4 @@
 mod Toy
-mod WorkedCalls
-mod WorkedEvents
 pub mod AtOnce
 pub mod Volumes
 pub mod Opening
@@ -16,5 +14,6 @@ pub mod KeptByWorkers
 pub mod Kept
 pub mod KeptByFeed
 pub mod Walked
+pub mod Batches
 pub mod Counting
 pub mod KeptByBlocks

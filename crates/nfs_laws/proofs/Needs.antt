@@ -27,7 +27,8 @@ pub record IsAtOnce (setup : Setup) (w : World) (asked : Asked) : Type 0 where
 pub at_once : (setup : Setup) (w : World) → Kept setup w → (asked : Asked) → home_of_asked setup.layout asked ≡ None → IsAtOnce setup w asked
 at_once setup w h asked home =
     let in_done : length setup.layout.volumes ≡ volumes_in (done setup w) = start_counts setup ∙ sym (after_counts (start setup) w.finished) in
-    let in_server : length setup.layout.volumes ≡ volumes_in w.server = in_done ∙ sym (all_worked_count (done setup w) (all_running w.workers)) ∙ sym (ap (λ (s : Server). volumes_in s) h.headline.state) in
+    let in_server : length setup.layout.volumes ≡ volumes_in w.server = in_done ∙ sym (all_worked_count (done setup w) (all_running w.workers))
+    ∙ sym (ap (λ (s : Server). volumes_in s) h.headline.state) in
     record {
       reply = at_once_same setup.layout w.server (done setup w) start_of_times in_server in_done asked home;
       stays = at_once_stays setup.layout w.server (done setup w) start_of_times in_server in_done asked home;

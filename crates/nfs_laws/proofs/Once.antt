@@ -20,7 +20,8 @@ pub tally_messages-append : (c n : ℕ) (xs ys : List Message) → tally_message
 tally_messages-append c n [] ys = omega arith
 tally_messages-append c n (x ∷ xs) ys = omega (arith, tally_messages-append c n xs ys)
 
-pub tally_messages-remove : (c n : ℕ) (xs : List Message) (i : ℕ) (m : Message) → slice_get xs i ≡ Some m → tally_messages c n xs ≡ tally_messages c n (remove xs i) + tally_messages c n (m ∷ [])
+pub tally_messages-remove : (c n : ℕ) (xs : List Message) (i : ℕ) (m : Message) → slice_get xs i ≡ Some m
+    → tally_messages c n xs ≡ tally_messages c n (remove xs i) + tally_messages c n (m ∷ [])
 tally_messages-remove c n [] i m e = absurd cc
 tally_messages-remove c n (y ∷ xs) zero m e =
     subst (λ (z : Message). tally_messages c n (y ∷ xs) ≡ tally_messages c n xs + tally_messages c n (z ∷ [])) (Some_same y m e) (omega arith)

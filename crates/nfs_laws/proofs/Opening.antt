@@ -1,5 +1,6 @@
 -- The opening world meets the headline.
-use Rattle.std.proofs.Common.{◌≡◌, ℕ, zero, suc, ◌+◌, ◌*◌, Bool, false, ◌&&◌, ◌||◌, List, [], ◌∷◌, map, replicate, Option, Some, None, slice_get, refl, sym, subst, ap, ◌∙◌, nat_eq, nat_lt, nat_le, arith}
+use Rattle.std.proofs.Common.{◌≡◌, ℕ, zero, suc, ◌+◌, ◌*◌, Bool, false, ◌&&◌, ◌||◌, List, [], ◌∷◌, map, replicate, Option, Some, None, slice_get, refl, sym}
+use Rattle.std.proofs.Common.{subst, ap, ◌∙◌, nat_eq, nat_lt, nat_le, arith}
 use Rattle.std.proofs.lemmas.Bool.Decides.{nat_tests}
 use Rattle.std.specs.List.{range_with_len, list_any}
 use Rattle.std.specs.Ordering.{nat_cmp}
@@ -40,10 +41,12 @@ opening_partition verifier k l = record {
   in_files = set_len_empty ∙ sym (ap (λ es. servers.blocks_of es) (entries_sorted_list ((1, servers.root_node) ∷ []) refl));
 }
 
-partition_at : (verifier : List ℕ) (k : ℕ) (ls : List VolumeLayout) (v : ℕ) (volume : servers.VolumeState) → slice_get (servers.opening_volumes verifier k ls) v ≡ Some volume
+partition_at : (verifier : List ℕ) (k : ℕ) (ls : List VolumeLayout) (v : ℕ) (volume : servers.VolumeState)
+    → slice_get (servers.opening_volumes verifier k ls) v ≡ Some volume
     → (p : Parts) × (slice_get (map opening_parts ls) v ≡ Some p) × IsPartition volume p []
 partition_at verifier k [] v volume e = absurd (cc)
-partition_at verifier k (l ∷ ls) zero volume e = (opening_parts l, refl, subst (λ x. IsPartition x (opening_parts l) []) (some_is _ _ e) (opening_partition verifier k l))
+partition_at verifier k (l ∷ ls) zero volume e =
+    (opening_parts l, refl, subst (λ x. IsPartition x (opening_parts l) []) (some_is _ _ e) (opening_partition verifier k l))
 partition_at verifier k (l ∷ ls) (suc v) volume e = partition_at verifier (k + 1) ls v volume e
 
 abbrev idle : Worker
@@ -67,7 +70,8 @@ opening_headline setup = record {
     own_running = subst (λ rs. AllByRecursion (IsOwnMessage setup (opening_world setup)) (messages rs)) (sym (none_running setup.workers)) tt;
     lawful = tt;
     state = ap (λ rs. server_worked (start setup) rs) (sym (none_running setup.workers));
-    partition = λ v volume e. subst (λ hands. (p : Parts) × (slice_get (map opening_parts setup.layout.volumes) v ≡ Some p) × IsPartition volume p hands) (sym (no_hands v setup.workers)) (partition_at setup.verifier 0 setup.layout.volumes v volume e);
+    partition = λ v volume e. subst (λ hands. (p : Parts) × (slice_get (map opening_parts setup.layout.volumes) v ≡ Some p) × IsPartition volume p hands)
+        (sym (no_hands v setup.workers)) (partition_at setup.verifier 0 setup.layout.volumes v volume e);
     apart = subst (λ rs. Apart setup.layout (affinities rs)) (sym (none_running setup.workers)) tt;
   };
   outcomes = subst (λ rs. AllByRecursion (λ r. IsOutcome setup (start setup) r r.outcome) rs) (sym (none_running setup.workers)) tt;

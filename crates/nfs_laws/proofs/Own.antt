@@ -21,7 +21,8 @@ pub later_pushed : (setup : Setup) (connections more : List Connection) → IsLa
 later_pushed setup connections more c x e = (x, slice_get-append connections more c x e, λ n h q. q)
 
 pub later_changed : (setup : Setup) (connections : List Connection) (f : Connection → Connection) (k : ℕ)
-    → ((x : Connection) → slice_get connections k ≡ Some x → (n : ℕ) (h : Heard) → slice_get (served setup x) n ≡ Some h → slice_get (served setup (f x)) n ≡ Some h)
+    → ((x : Connection) → slice_get connections k ≡ Some x → (n : ℕ) (h : Heard) → slice_get (served setup x) n ≡ Some h
+    → slice_get (served setup (f x)) n ≡ Some h)
     → IsLater setup connections (changed_at f connections k)
 later_changed setup connections f k keeps c x e =
     elim (eqb_tells c k) [
@@ -55,10 +56,12 @@ module _ (setup : Setup) (old new : World) (later : IsLater setup old.connection
   messages_later ms p = All-weaker (IsOwnMessage setup old) (IsOwnMessage setup new) (λ m h. heard_later m.connection m.number m.xid m.asked h) ms p
 
 -- an entry of a record that is heard is of it
-pub own_of_heard : (setup : Setup) (w : World) (e : FinishedCall) (asked : Asked) → IsScan setup.codec → IsHeard setup w e.connection e.number e.xid asked → IsOwn setup w e asked
+pub own_of_heard : (setup : Setup) (w : World) (e : FinishedCall) (asked : Asked) → IsScan setup.codec → IsHeard setup w e.connection e.number e.xid asked
+    → IsOwn setup w e asked
 own_of_heard setup w e (Ask call credential) scan h = h
 own_of_heard setup w e (Refused reply) scan h = h
-own_of_heard setup w e Undecoded scan h = absurd (All-get (λ (x : Heard). IsDecoded x.asked) (served setup h.0) e.number (record { xid = e.xid; asked = Undecoded }) h.2 (scan.decoded h.0.stream))
+own_of_heard setup w e Undecoded scan h =
+    absurd (All-get (λ (x : Heard). IsDecoded x.asked) (served setup h.0) e.number (record { xid = e.xid; asked = Undecoded }) h.2 (scan.decoded h.0.stream))
 
 -- ---- the connection of an entry is there
 
@@ -70,8 +73,13 @@ own_below setup w e (Ask call credential) h = heard_below setup w e.connection e
 own_below setup w e (Refused reply) h = heard_below setup w e.connection e.number e.xid (Refused reply) h
 own_below setup w e Undecoded h = heard_below setup w e.connection e.number e.xid h.0 h.1
 
-pub entries_elsewhere : (setup : Setup) (w : World) (es : List FinishedCall) → AllByRecursion (IsOwnCall setup w) es → AllByRecursion (λ e. e.connection ≡ length w.connections → ⊥) es
-entries_elsewhere setup w es p = All-weaker (IsOwnCall setup w) (λ e. e.connection ≡ length w.connections → ⊥) (λ e h same. let below = own_below setup w e e.asked h in omega arith) es p
+pub entries_elsewhere : (setup : Setup) (w : World) (es : List FinishedCall) → AllByRecursion (IsOwnCall setup w) es
+    → AllByRecursion (λ e. e.connection ≡ length w.connections → ⊥) es
+entries_elsewhere setup w es p =
+    All-weaker (IsOwnCall setup w) (λ e. e.connection ≡ length w.connections → ⊥) (λ e h same. let below = own_below setup w e e.asked h in omega arith) es p
 
-pub messages_elsewhere : (setup : Setup) (w : World) (ms : List Message) → AllByRecursion (IsOwnMessage setup w) ms → AllByRecursion (λ m. m.connection ≡ length w.connections → ⊥) ms
-messages_elsewhere setup w ms p = All-weaker (IsOwnMessage setup w) (λ m. m.connection ≡ length w.connections → ⊥) (λ m h same. let below = heard_below setup w m.connection m.number m.xid m.asked h in omega arith) ms p
+pub messages_elsewhere : (setup : Setup) (w : World) (ms : List Message) → AllByRecursion (IsOwnMessage setup w) ms
+    → AllByRecursion (λ m. m.connection ≡ length w.connections → ⊥) ms
+messages_elsewhere setup w ms p =
+    All-weaker (IsOwnMessage setup w) (λ m. m.connection ≡ length w.connections → ⊥)
+    (λ m h same. let below = heard_below setup w m.connection m.number m.xid m.asked h in omega arith) ms p

@@ -41,7 +41,8 @@ slot (x ∷ workers) (suc i) k e =
       before = with_held x.running rest.before;
       after = rest.after;
       was = ap (λ (rs : List Running). with_held x.running rs) rest.was ∙ with_held-append x.running rest.before (with_held k.running rest.after);
-      becomes = λ running. ap (λ (rs : List Running). with_held x.running rs) (rest.becomes running) ∙ with_held-append x.running rest.before (with_held running rest.after);
+      becomes = λ running. ap (λ (rs : List Running). with_held x.running rs) (rest.becomes running)
+          ∙ with_held-append x.running rest.before (with_held running rest.after);
       hands = λ v running. ap (λ (bs : List ℕ). hand_blocks v x.hand ++ bs) (rest.hands v running);
     }
 
@@ -53,15 +54,18 @@ messages-between xs ys r = map-append (λ q. q.message) xs (r ∷ ys)
 pub affinities-append : (xs ys : List Running) → affinities (xs ++ ys) ≡ affinities xs ++ affinities ys
 affinities-append xs ys = map-append (λ q. q.message.affinity) xs ys
 
-pub tally-between : (c n : ℕ) (xs ys : List Running) (r : Running) → tally_messages c n (messages (xs ++ r ∷ ys)) ≡ tally_messages c n (messages (xs ++ ys)) + tally_messages c n (r.message ∷ [])
+pub tally-between : (c n : ℕ) (xs ys : List Running) (r : Running)
+    → tally_messages c n (messages (xs ++ r ∷ ys)) ≡ tally_messages c n (messages (xs ++ ys)) + tally_messages c n (r.message ∷ [])
 tally-between c n [] ys r = omega arith
 tally-between c n (x ∷ xs) ys r = omega (arith, tally-between c n xs ys r)
 
-pub messages_between : (P : Message → Type 0) (xs ys : List Running) (r : Running) → P r.message → AllByRecursion P (messages (xs ++ ys)) → AllByRecursion P (messages (xs ++ r ∷ ys))
+pub messages_between : (P : Message → Type 0) (xs ys : List Running) (r : Running) → P r.message → AllByRecursion P (messages (xs ++ ys))
+    → AllByRecursion P (messages (xs ++ r ∷ ys))
 messages_between P [] ys r h p = (h, p)
 messages_between P (x ∷ xs) ys r h p = (p.0, messages_between P xs ys r h p.1)
 
-pub messages_without : (P : Message → Type 0) (xs ys : List Running) (r : Running) → AllByRecursion P (messages (xs ++ r ∷ ys)) → AllByRecursion P (messages (xs ++ ys))
+pub messages_without : (P : Message → Type 0) (xs ys : List Running) (r : Running) → AllByRecursion P (messages (xs ++ r ∷ ys))
+    → AllByRecursion P (messages (xs ++ ys))
 messages_without P [] ys r p = p.1
 messages_without P (x ∷ xs) ys r p = (p.0, messages_without P xs ys r p.1)
 
@@ -76,7 +80,8 @@ server_worked-append s [] ys = refl
 server_worked-append s (x ∷ xs) ys = server_worked-append (worked_by s x x.outcome) xs ys
 
 -- a call that changes nothing yet, between others
-pub server_worked-between : (s : Server) (xs ys : List Running) (r : Running) → ((t : Server) → worked_by t r r.outcome ≡ t) → server_worked s (xs ++ r ∷ ys) ≡ server_worked s (xs ++ ys)
+pub server_worked-between : (s : Server) (xs ys : List Running) (r : Running) → ((t : Server) → worked_by t r r.outcome ≡ t)
+    → server_worked s (xs ++ r ∷ ys) ≡ server_worked s (xs ++ ys)
 server_worked-between s xs ys r same =
     server_worked-append s xs (r ∷ ys) ∙ ap (λ (t : Server). server_worked t ys) (same (server_worked s xs)) ∙ sym (server_worked-append s xs ys)
 
@@ -99,15 +104,21 @@ any_parts p xs ys e = or_false (list_any p xs) (list_any p ys) (sym (list_any-ap
 any_joined : (p : Affinity → Bool) (xs ys : List Affinity) → list_any p xs ≡ false → list_any p ys ≡ false → list_any p (xs ++ ys) ≡ false
 any_joined p xs ys e f = list_any-append p xs ys ∙ or_none (list_any p xs) (list_any p ys) e f
 
-pub Apart-between : (layout : Layout) (xs ys : List Affinity) (a : Affinity) → Apart layout (xs ++ ys) → list_any (excludes layout a) (xs ++ ys) ≡ false → Apart layout (xs ++ a ∷ ys)
+pub Apart-between : (layout : Layout) (xs ys : List Affinity) (a : Affinity) → Apart layout (xs ++ ys) → list_any (excludes layout a) (xs ++ ys) ≡ false
+    → Apart layout (xs ++ a ∷ ys)
 Apart-between layout [] ys a p e = (e, p)
 Apart-between layout (x ∷ xs) ys a p e =
     let none = or_false (excludes layout a x) (list_any (excludes layout a) (xs ++ ys)) e in
-    let others = any_parts (excludes layout x) xs ys p.0 in
-    (any_joined (excludes layout x) xs (a ∷ ys) others.0 (or_none (excludes layout x a) (list_any (excludes layout x) ys) (excludes_comm layout x a ∙ none.0) others.1), Apart-between layout xs ys a p.1 none.1)
+    let others = any_parts (excludes layout x) xs ys p.0 in (
+      any_joined (excludes layout x) xs (a ∷ ys) others.0 (or_none (excludes layout x a) (list_any (excludes layout x) ys) (excludes_comm layout x a
+          ∙ none.0) others.1),
+      Apart-between layout xs ys a p.1 none.1,
+    )
 
 pub Apart-without : (layout : Layout) (xs ys : List Affinity) (a : Affinity) → Apart layout (xs ++ a ∷ ys) → Apart layout (xs ++ ys)
 Apart-without layout [] ys a p = p.1
 Apart-without layout (x ∷ xs) ys a p =
-    let others = any_parts (excludes layout x) xs (a ∷ ys) p.0 in
-    (any_joined (excludes layout x) xs ys others.0 (or_false (excludes layout x a) (list_any (excludes layout x) ys) others.1).1, Apart-without layout xs ys a p.1)
+    let others = any_parts (excludes layout x) xs (a ∷ ys) p.0 in (
+      any_joined (excludes layout x) xs ys others.0 (or_false (excludes layout x a) (list_any (excludes layout x) ys) others.1).1,
+      Apart-without layout xs ys a p.1,
+    )

@@ -56,7 +56,8 @@ first_grows : (p : Bool) (b : ℕ) → Grows (toy_scan []) (record_if p b (toy_s
 first_grows true b = ([], refl, omega arith, refl)
 first_grows false b = (record { xid = b; asked = asked_by b } ∷ [], refl, omega arith, tt)
 
-later_grows : (p : Bool) (x : ℕ) (old new : Scanned) → (record_if p x old).fault ≡ None → (old.fault ≡ None → Grows old new) → Grows (record_if p x old) (record_if p x new)
+later_grows : (p : Bool) (x : ℕ) (old new : Scanned) → (record_if p x old).fault ≡ None → (old.fault ≡ None → Grows old new)
+    → Grows (record_if p x old) (record_if p x new)
 later_grows true x old new e g = absurd cc
 later_grows false x old new e g =
     let grows = g e in

@@ -44,7 +44,8 @@ placed_stays server absent i (Fails status) k = refl
 placed_stays server absent i (Tells answer) k = refl
 placed_stays server absent i (Changes answer volume) k = absurd k
 
-on_stays : (server : Server) (absent : ℕ) (l : Option Located) (run : VolumeState → ℕ → Effect) → ((v : VolumeState) (i : ℕ) → Keeps (run v i)) → (on server absent l run).server ≡ server
+on_stays : (server : Server) (absent : ℕ) (l : Option Located) (run : VolumeState → ℕ → Effect) → ((v : VolumeState) (i : ℕ) → Keeps (run v i))
+    → (on server absent l run).server ≡ server
 on_stays server absent None run same = refl
 on_stays server absent (Some l) run same = placed_stays server absent l.named.volume (run l.volume l.named.fileid) (same l.volume l.named.fileid)
 
@@ -56,7 +57,8 @@ served_stays server Null moment h c = refl
 served_stays server (Getattr handle) moment h c = on_stays server 0 (locate server handle) getattr getattr_told
 served_stays server call moment h c = absurd h
 
-pub serial_stays : (server : Server) (asked : Asked) (moment : Moment) (starved : Bool) → AsksReading asked → (serial server asked moment starved).server ≡ server
+pub serial_stays : (server : Server) (asked : Asked) (moment : Moment) (starved : Bool) → AsksReading asked
+    → (serial server asked moment starved).server ≡ server
 serial_stays server asked moment true h = refl
 serial_stays server (Ask call credential) moment false h = served_stays server call moment h credential
 serial_stays server (Refused reply) moment false h = refl
@@ -103,13 +105,15 @@ slice_set_same xs i x e = ap (λ y. slice_set xs i y) (sym (get_or_from_slice_ge
 
 getattr_parts : (v : Option ℕ) (handle : List ℕ) (affinity : Affinity) (old new : Store) → PartsAt v (Getattr handle) affinity old new → new.parts ≡ old.parts
 getattr_parts None handle affinity old new p = p
-getattr_parts (Some v) handle affinity old new p = p.parts ∙ ap (λ q. slice_set old.parts v q) p.change ∙ slice_set_same old.parts v p.before.parts p.parts_before
+getattr_parts (Some v) handle affinity old new p =
+    p.parts ∙ ap (λ q. slice_set old.parts v q) p.change ∙ slice_set_same old.parts v p.before.parts p.parts_before
 
 null_parts : (v : Option ℕ) (affinity : Affinity) (old new : Store) → PartsAt v Null affinity old new → new.parts ≡ old.parts
 null_parts None affinity old new p = p
 null_parts (Some v) affinity old new p = p.parts ∙ ap (λ q. slice_set old.parts v q) p.change ∙ slice_set_same old.parts v p.before.parts p.parts_before
 
-call_parts : (call : Call) (affinity : Affinity) (old new : Store) → IsReading call → PartsAt (changed_volume call affinity) call affinity old new → new.parts ≡ old.parts
+call_parts : (call : Call) (affinity : Affinity) (old new : Store) → IsReading call → PartsAt (changed_volume call affinity) call affinity old new
+    → new.parts ≡ old.parts
 call_parts Null affinity old new h p = null_parts (changed_volume Null affinity) affinity old new p
 call_parts (Getattr handle) affinity old new h p = getattr_parts (changed_volume (Getattr handle) affinity) handle affinity old new p
 call_parts call affinity old new h p = absurd h
@@ -130,7 +134,8 @@ does_not_move store affinity a (Refused reply) h e = cc
 does_not_move store affinity a Undecoded h e = cc
 
 -- an outcome speaks of the message and the moment alone
-outcome_of : (setup : Setup) (s : Server) (r : Running) (o : Outcome) → IsOutcome setup s r (Some o) → IsOutcome setup s (record r { outcome = Some o }) (Some o)
+outcome_of : (setup : Setup) (s : Server) (r : Running) (o : Outcome) → IsOutcome setup s r (Some o)
+    → IsOutcome setup s (record r { outcome = Some o }) (Some o)
 outcome_of setup s r (Replied reply) p = p
 outcome_of setup s r Starved p = p
 outcome_of setup s r (Moved a) p = p
@@ -140,11 +145,13 @@ module _ (setup : Setup) (only : IsReadOnly setup) (w : World) (h : Kept setup w
   done_is = after_stays (start setup) w.finished (entries_read setup only w w.finished h.headline.own_finished)
 
   server_is : w.server ≡ start setup
-  server_is = h.headline.state ∙ all_worked_stay (done setup w) (all_running w.workers) (running_read setup only w (all_running w.workers) h.headline.own_running) ∙ done_is
+  server_is = h.headline.state ∙ all_worked_stay (done setup w) (all_running w.workers)
+      (running_read setup only w (all_running w.workers) h.headline.own_running) ∙ done_is
 
   module _ (before after : List Running) (r : Running) (running : all_running w.workers ≡ before ++ r ∷ after) where
     all_read : AllByRecursion (λ q. AsksReading q.message.asked) (before ++ r ∷ after)
-    all_read = subst (λ (rs : List Running). AllByRecursion (λ q. AsksReading q.message.asked) rs) running (running_read setup only w (all_running w.workers) h.headline.own_running)
+    all_read = subst (λ (rs : List Running). AllByRecursion (λ q. AsksReading q.message.asked) rs) running
+        (running_read setup only w (all_running w.workers) h.headline.own_running)
 
     reads : AsksReading r.message.asked
     reads = All-there (λ q. AsksReading q.message.asked) before after r all_read
@@ -153,10 +160,12 @@ module _ (setup : Setup) (only : IsReadOnly setup) (w : World) (h : Kept setup w
     others_read = All-without (λ q. AsksReading q.message.asked) before after r all_read
 
     state_with : (o : Outcome) → start setup ≡ server_worked (done setup w) (before ++ record r { outcome = Some o } ∷ after)
-    state_with o = sym (all_worked_stay (done setup w) (before ++ record r { outcome = Some o } ∷ after) (All-between (λ q. AsksReading q.message.asked) before after (record r { outcome = Some o }) reads others_read) ∙ done_is)
+    state_with o = sym (all_worked_stay (done setup w) (before ++ record r { outcome = Some o } ∷ after)
+        (All-between (λ q. AsksReading q.message.asked) before after (record r { outcome = Some o }) reads others_read) ∙ done_is)
 
 -- the worker that calls are worked and finished by
-module _ (setup : Setup) (only : IsReadOnly setup) (w : World) (h : Kept setup w) (i : ℕ) (k : Worker) (r : Running) (there : slice_get w.workers i ≡ Some k) (runs : k.running ≡ Some r) where
+module _ (setup : Setup) (only : IsReadOnly setup) (w : World) (h : Kept setup w) (i : ℕ) (k : Worker) (r : Running) (there : slice_get w.workers i ≡ Some k)
+    (runs : k.running ≡ Some r) where
   s : Slot w.workers i k
   s = slot w.workers i k there
 
@@ -167,20 +176,27 @@ module _ (setup : Setup) (only : IsReadOnly setup) (w : World) (h : Kept setup w
   reading = reads setup only w h s.before s.after r was
 
   others : AllByRecursion (λ q. IsOutcome setup (done setup w) q q.outcome) (s.before ++ s.after)
-  others = All-without (λ q. IsOutcome setup (done setup w) q q.outcome) s.before s.after r (subst (λ (rs : List Running). AllByRecursion (λ q. IsOutcome setup (done setup w) q q.outcome) rs) was h.outcomes)
+  others = All-without (λ q. IsOutcome setup (done setup w) q q.outcome) s.before s.after r
+      (subst (λ (rs : List Running). AllByRecursion (λ q. IsOutcome setup (done setup w) q q.outcome) rs) was h.outcomes)
 
   -- a call that came to something, and changed nothing
-  agreed_with : (o : Outcome) (store : Store) → store.server ≡ w.server → store.parts ≡ w.parts → IsOutcome setup (done setup w) r (Some o) → IsAgreed setup (worked w i r o store)
+  agreed_with : (o : Outcome) (store : Store) → store.server ≡ w.server → store.parts ≡ w.parts → IsOutcome setup (done setup w) r (Some o)
+      → IsAgreed setup (worked w i r o store)
   agreed_with o store same same_parts outcome =
       let q : Running = record r { outcome = Some o } in
       let now : all_running (changed_at (with_running (Some q)) w.workers i) ≡ s.before ++ q ∷ s.after = s.becomes (Some q) in
       record {
-        state = same ∙ server_is setup only w h ∙ state_with setup only w h s.before s.after r was o ∙ ap (λ (rs : List Running). server_worked (done setup w) rs) (sym now);
+        state = same ∙ server_is setup only w h ∙ state_with setup only w h s.before s.after r was o
+            ∙ ap (λ (rs : List Running). server_worked (done setup w) rs) (sym now);
         outcomes = subst (λ (rs : List Running). AllByRecursion (λ x. IsOutcome setup (done setup w) x x.outcome) rs) (sym now)
             (All-between (λ x. IsOutcome setup (done setup w) x x.outcome) s.before s.after q (outcome_of setup (done setup w) r o outcome) others);
         partition = λ v volume e.
-            let found = h.headline.partition v volume (subst (λ (t : Server). slice_get t.volumes v ≡ Some volume) same e) in
-            (found.0, ap (λ (ps : List Parts). slice_get ps v) same_parts ∙ found.1, subst (λ (blocks : List ℕ). IsPartition volume found.0 blocks) (sym (s.hands v (Some q))) found.2);
+            let found = h.headline.partition v volume (subst (λ (t : Server). slice_get t.volumes v ≡ Some volume) same e) in (
+              found.0,
+              ap (λ (ps : List Parts). slice_get ps v) same_parts
+                  ∙ found.1,
+              subst (λ (blocks : List ℕ). IsPartition volume found.0 blocks) (sym (s.hands v (Some q))) found.2,
+            );
       }
 
   agreed_worked : (o : Outcome) (store : Store) → Works (task_of r) (store_of w) o store → IsAgreed setup (worked w i r o store)
@@ -189,7 +205,8 @@ module _ (setup : Setup) (only : IsReadOnly setup) (w : World) (h : Kept setup w
       agreed_with Starved store (ap (λ (x : Store). x.server) k.2) (ap (λ (x : Store). x.parts) k.2)
       (subst (λ (t : Server). IsTrue (may_starve_later t r.message.asked r.moment)) (server_is setup only w h ∙ sym (done_is setup only w h)) k.1)
   agreed_worked (Replied reply) store k =
-      agreed_with (Replied reply) store (k.2 ∙ serial_stays w.server r.message.asked r.moment false reading) (parts_stay r.message.asked r.message.affinity (store_of w) store reading k.3)
+      agreed_with (Replied reply) store (k.2 ∙ serial_stays w.server r.message.asked r.moment false reading)
+      (parts_stay r.message.asked r.message.affinity (store_of w) store reading k.3)
       (k.1 ∙ ap (λ (t : Server). (serial t r.message.asked r.moment false).reply) (server_is setup only w h ∙ sym (done_is setup only w h)))
 
   -- a call that is finished
@@ -201,8 +218,10 @@ module _ (setup : Setup) (only : IsReadOnly setup) (w : World) (h : Kept setup w
       record {
         state = server_is setup only w h
             ∙ sym (ap (λ (rs : List Running). server_worked (server_after (start setup) (w.finished ++ finished_call r starved ∷ [])) rs) now
-            ∙ all_worked_stay (server_after (start setup) (w.finished ++ finished_call r starved ∷ [])) (s.before ++ s.after) (others_read setup only w h s.before s.after r was) ∙ same ∙ done_is setup only w h);
-        outcomes = subst (λ (rs : List Running). AllByRecursion (λ x. IsOutcome setup (server_after (start setup) (w.finished ++ finished_call r starved ∷ [])) x x.outcome) rs) (sym now)
+            ∙ all_worked_stay (server_after (start setup) (w.finished ++ finished_call r starved ∷ [])) (s.before ++ s.after)
+            (others_read setup only w h s.before s.after r was) ∙ same ∙ done_is setup only w h);
+        outcomes = subst (λ (rs : List Running). AllByRecursion
+            (λ x. IsOutcome setup (server_after (start setup) (w.finished ++ finished_call r starved ∷ [])) x x.outcome) rs) (sym now)
             (subst (λ (t : Server). AllByRecursion (λ x. IsOutcome setup t x x.outcome) (s.before ++ s.after)) (sym same) others);
         partition = λ v volume e.
             let found = h.headline.partition v volume e in
@@ -215,7 +234,8 @@ module _ (setup : Setup) (only : IsReadOnly setup) (w : World) (h : Kept setup w
       let now : all_running (changed_at (with_running None) w.workers i) ≡ s.before ++ s.after = s.becomes None in
       record {
         state = server_is setup only w h
-            ∙ sym (ap (λ (rs : List Running). server_worked (done setup w) rs) now ∙ all_worked_stay (done setup w) (s.before ++ s.after) (others_read setup only w h s.before s.after r was) ∙ done_is setup only w h);
+            ∙ sym (ap (λ (rs : List Running). server_worked (done setup w) rs) now
+            ∙ all_worked_stay (done setup w) (s.before ++ s.after) (others_read setup only w h s.before s.after r was) ∙ done_is setup only w h);
         outcomes = subst (λ (rs : List Running). AllByRecursion (λ x. IsOutcome setup (done setup w) x x.outcome) rs) (sym now) others;
         partition = λ v volume e.
             let found = h.headline.partition v volume e in
@@ -228,7 +248,8 @@ module _ (setup : Setup) (only : IsReadOnly setup) (w : World) (h : Kept setup w
   agreed_finished (Moved a) is = agreed_moved a is
 
 -- calls that change nothing agree
-pub readings_agree : (setup : Setup) → IsReadOnly setup → (w : World) → Kept setup w → (event : Event) (done : Done) (new : World) → Happens setup w event done new → NeedsAgreed setup event new
+pub readings_agree : (setup : Setup) → IsReadOnly setup → (w : World) → Kept setup w → (event : Event) (done : Done) (new : World)
+    → Happens setup w event done new → NeedsAgreed setup event new
 readings_agree setup only w h (Work worker) done new p =
     subst (λ (v : World). IsAgreed setup v) (sym p.8) (agreed_worked setup only w h worker p.0 p.1 p.4 p.5 p.2 p.3 p.6)
 readings_agree setup only w h (Finish worker) done new p =

@@ -1,8 +1,10 @@
 -- The number of volumes stays, so a call without a home is answered the same on every server of a run.
-use Rattle.std.proofs.Common.{◌≡◌, ℕ, suc, ◌+◌, ◌*◌, Bool, true, false, List, [], ◌∷◌, length, Option, Some, None, slice_get, refl, sym, ap, ◌∙◌, ◌==◌, if◌then◌else◌, nat_lt}
+use Rattle.std.proofs.Common.{◌≡◌, ℕ, suc, ◌+◌, ◌*◌, Bool, true, false, List, [], ◌∷◌, length, Option, Some, None, slice_get, refl, sym, ap, ◌∙◌, ◌==◌}
+use Rattle.std.proofs.Common.{if◌then◌else◌, nat_lt}
 use Rattle.std.specs.Prelude.{slice_index_or}
 use Rattle.std.proofs.lemmas.List.{length-set}
-use Rattle.nfs_model.specs.Types.{Moment, Credential, Call, Null, Getattr, Setattr, Lookup, Read, Write, Create, Mkdir, Remove, Rmdir, Rename, Readdir, Fsstat, Commit, Census, Grow, Asked, Ask, Refused, Undecoded, Answer, Failed, GrowDone, Invalid, TooBig, NoSpace}
+use Rattle.nfs_model.specs.Types.{Moment, Credential, Call, Null, Getattr, Setattr, Lookup, Read, Write, Create, Mkdir, Remove, Rmdir, Rename, Readdir}
+use Rattle.nfs_model.specs.Types.{Fsstat, Commit, Census, Grow, Asked, Ask, Refused, Undecoded, Answer, Failed, GrowDone, Invalid, TooBig, NoSpace}
 use Rattle.nfs_model.specs.Tree.{Layout, VolumeLayout}
 use Rattle.nfs_model.specs.Server.{VolumeState, Server, opening_volumes}
 use Rattle.nfs_model.specs.Locate.{Effect, Fails, Tells, Changes, Located, locate, on_name}
@@ -41,18 +43,21 @@ module _ (server : Server) where
   on_counts absent None run = refl
   on_counts absent (Some l) run = placed_counts absent l.named.volume (run l.volume l.named.fileid)
 
-  one_counts : (b : Bool) (s : Step) (answer : Answer) → volumes_in s.server ≡ volumes_in server → volumes_in (if b then s else stay server answer).server ≡ volumes_in server
+  one_counts : (b : Bool) (s : Step) (answer : Answer) → volumes_in s.server ≡ volumes_in server
+      → volumes_in (if b then s else stay server answer).server ≡ volumes_in server
   one_counts true s answer e = e
   one_counts false s answer e = refl
 
-  two_counts : (absent : ℕ) (from to : Option Located) (run : VolumeState → ℕ → ℕ → Effect) → volumes_in (on_two server absent from to run).server ≡ volumes_in server
+  two_counts : (absent : ℕ) (from to : Option Located) (run : VolumeState → ℕ → ℕ → Effect)
+      → volumes_in (on_two server absent from to run).server ≡ volumes_in server
   two_counts absent None to run = refl
   two_counts absent (Some from) None run = refl
   two_counts absent (Some from) (Some to) run =
       one_counts (from.named.volume == to.named.volume) _ _ (placed_counts absent from.named.volume (run from.volume from.named.fileid to.named.fileid))
 
   grow_if : (p q r : Bool) (x y z : Answer) (g : Grown) → volumes_in g.server ≡ volumes_in server
-      → volumes_in (if p then record { answer = x; server = server } else if q then record { answer = y; server = server } else if r then record { answer = z; server = server } else g).server ≡ volumes_in server
+      → volumes_in (if p then record { answer = x; server = server } else if q then record { answer = y; server = server } else if r then record
+      { answer = z; server = server } else g).server ≡ volumes_in server
   grow_if true q r x y z g e = refl
   grow_if false true r x y z g e = refl
   grow_if false false true x y z g e = refl
@@ -61,8 +66,10 @@ module _ (server : Server) where
   grow_counts : (i : ℕ) (o : Option VolumeState) (ranges : ℕ) → volumes_in (grow_volume server i o ranges).server ≡ volumes_in server
   grow_counts i None ranges = refl
   grow_counts i (Some v) ranges =
-      grow_if (ranges == 0) (nat_lt 16384 (v.total + 1024 * ranges)) (nat_lt (slice_index_or server.spare v.aggregate 0) ranges) (Failed Invalid 0) (Failed TooBig 0) (Failed NoSpace 0)
-      (record { answer = GrowDone (v.total + 1024 * ranges); server = grown server i v ranges }) (length-set server.volumes i (record v { total = v.total + 1024 * ranges }))
+      grow_if (ranges == 0) (nat_lt 16384 (v.total + 1024 * ranges)) (nat_lt (slice_index_or server.spare v.aggregate 0) ranges) (Failed Invalid 0)
+      (Failed TooBig 0) (Failed NoSpace 0)
+      (record { answer = GrowDone (v.total + 1024 * ranges); server = grown server i v ranges })
+      (length-set server.volumes i (record v { total = v.total + 1024 * ranges }))
 
   serve_counts : (call : Call) (credential : Credential) (moment : Moment) → volumes_in (serve server call credential moment).server ≡ volumes_in server
   serve_counts Null credential moment = refl
@@ -115,7 +122,8 @@ all_worked_count server (r ∷ rs) = all_worked_count (worked_by server r r.outc
 
 module _ (layout : Layout) (a b : Server) (moment : Moment) (in_a : length layout.volumes ≡ volumes_in a) (in_b : length layout.volumes ≡ volumes_in b) where
   pub at_once_same : (asked : Asked) → home_of_asked layout asked ≡ None → (serial a asked moment false).reply ≡ (serial b asked moment false).reply
-  at_once_same (Ask call credential) e = ap (λ (s : Step). s.reply) (without_home_stays layout a credential moment call in_a e) ∙ sym (ap (λ (s : Step). s.reply) (without_home_stays layout b credential moment call in_b e))
+  at_once_same (Ask call credential) e = ap (λ (s : Step). s.reply) (without_home_stays layout a credential moment call in_a e)
+      ∙ sym (ap (λ (s : Step). s.reply) (without_home_stays layout b credential moment call in_b e))
   at_once_same (Refused reply) e = refl
   at_once_same Undecoded e = refl
 

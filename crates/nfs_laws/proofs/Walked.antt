@@ -1,5 +1,6 @@
 -- A feed as it is defined, and as it is told byte by byte: each says the other.
-use Rattle.std.proofs.Common.{◌≡◌, ℕ, zero, suc, ◌+◌, ◌<◌, ◌≤◌, Bool, true, false, List, [], ◌∷◌, ◌++◌, length, take, drop, Option, Some, None, refl, sym, ap, subst, ◌∙◌, arith, append_assoc, length-append, inl, inr}
+use Rattle.std.proofs.Common.{◌≡◌, ℕ, zero, suc, ◌+◌, ◌<◌, ◌≤◌, Bool, true, false, List, [], ◌∷◌, ◌++◌, length, take, drop, Option, Some, None, refl, sym, ap}
+use Rattle.std.proofs.Common.{subst, ◌∙◌, arith, append_assoc, length-append, inl, inr}
 use Rattle.std.specs.Prelude.{slice_get, IsTrue, ◌⊎◌, ◌&&◌}
 use Rattle.std.proofs.lemmas.List.{append-nil}
 use Rattle.nfs_model.specs.Types.{Reply, SystemError}
@@ -10,7 +11,8 @@ use Rattle.nfs_model.specs.Home.{home_of_asked}
 use Rattle.nfs_model.specs.Replay.{FinishedCall}
 use Rattle.nfs_model.specs.World.{Heard, Setup, World, Connection, IsScan, changed_at, written_to, with_output, finish, is_crowded}
 use Rattle.nfs_model.specs.Events.Refusals.{takes_input}
-use Rattle.nfs_model.specs.Events.Feed.{stream_in, stream_of, with_bytes, bytes_taken, call_at_once, call_undecoded, admit, heard_in, Hears, completes_at, completes_next, is_full_at, StopsSound, StopsAt, Feeds}
+use Rattle.nfs_model.specs.Events.Feed.{stream_in, stream_of, with_bytes, bytes_taken, call_at_once, call_undecoded, admit, heard_in, Hears, completes_at}
+use Rattle.nfs_model.specs.Events.Feed.{completes_next, is_full_at, StopsSound, StopsAt, Feeds}
 use Rattle.nfs_laws.specs.Walk.{Reached, Further, Complete, AtFault, reached_at, reached, is_complete, with_byte, byte_taken, Takes, TakesFault, Stops, Walks}
 use Rattle.nfs_laws.proofs.Lists.{slice_get-changed_at}
 use Rattle.nfs_laws.proofs.Written.{written_stream}
@@ -38,13 +40,15 @@ taken_none w c =
 taken_more : (w : World) (c : ℕ) (xs ys : List ℕ) → bytes_taken (bytes_taken w c xs) c ys ≡ bytes_taken w c (xs ++ ys)
 taken_more w c xs ys =
     ap (λ (cs : List Connection). record w { connections = cs })
-    (changed_twice (with_bytes xs) (with_bytes ys) (with_bytes (xs ++ ys)) w.connections c (λ x. ap (λ (s : List ℕ). record x { stream = s }) (append_assoc x.stream xs ys)))
+    (changed_twice (with_bytes xs) (with_bytes ys) (with_bytes (xs ++ ys)) w.connections c
+    (λ x. ap (λ (s : List ℕ). record x { stream = s }) (append_assoc x.stream xs ys)))
 
 written_then : (bytes out : List ℕ) (o : Option ℕ) (x : Connection) → written_to out o (with_bytes bytes x) ≡ with_bytes bytes (written_to out o x)
 written_then bytes out None x = refl
 written_then bytes out (Some n) x = refl
 
-finish_taken : (setup : Setup) (w : World) (c : ℕ) (bytes : List ℕ) (e : FinishedCall) (reply : Reply) → e.connection ≡ c → finish setup (bytes_taken w c bytes) e reply ≡ bytes_taken (finish setup w e reply) c bytes
+finish_taken : (setup : Setup) (w : World) (c : ℕ) (bytes : List ℕ) (e : FinishedCall) (reply : Reply) → e.connection ≡ c
+    → finish setup (bytes_taken w c bytes) e reply ≡ bytes_taken (finish setup w e reply) c bytes
 finish_taken setup w c bytes e reply on_it =
     let write : Connection → Connection = with_output (setup.codec.reply_record e.xid reply) in
     let both : Connection → Connection = λ x. with_bytes bytes (write x) in
@@ -52,13 +56,16 @@ finish_taken setup w c bytes e reply on_it =
     changed_twice (with_bytes bytes) write both w.connections c (λ x. written_then bytes (setup.codec.reply_record e.xid reply) x.closed x)
     ∙ sym (changed_twice write (with_bytes bytes) both w.connections c (λ x. refl)) in
     ap (λ (cs : List Connection). record w { finished = w.finished ++ e ∷ []; connections = cs })
-    (subst (λ (k : ℕ). changed_at write (changed_at (with_bytes bytes) w.connections c) k ≡ changed_at (with_bytes bytes) (changed_at write w.connections k) c) (sym on_it) one)
+    (subst (λ (k : ℕ). changed_at write (changed_at (with_bytes bytes) w.connections c) k ≡ changed_at (with_bytes bytes)
+    (changed_at write w.connections k) c) (sym on_it) one)
 
-admit_taken : (setup : Setup) (w : World) (c number : ℕ) (bytes : List ℕ) (h : Heard) (home : Option Affinity) → admit setup (bytes_taken w c bytes) c number h home ≡ bytes_taken (admit setup w c number h home) c bytes
+admit_taken : (setup : Setup) (w : World) (c number : ℕ) (bytes : List ℕ) (h : Heard) (home : Option Affinity)
+    → admit setup (bytes_taken w c bytes) c number h home ≡ bytes_taken (admit setup w c number h home) c bytes
 admit_taken setup w c number bytes h None = finish_taken setup w c bytes (call_at_once c number h) (serial w.server h.asked start_of_times false).reply refl
 admit_taken setup w c number bytes h (Some a) = refl
 
-heard_taken : (setup : Setup) (w : World) (c number : ℕ) (bytes : List ℕ) (h : Heard) (starved : Bool) → heard_in setup (bytes_taken w c bytes) c number h starved ≡ bytes_taken (heard_in setup w c number h starved) c bytes
+heard_taken : (setup : Setup) (w : World) (c number : ℕ) (bytes : List ℕ) (h : Heard) (starved : Bool)
+    → heard_in setup (bytes_taken w c bytes) c number h starved ≡ bytes_taken (heard_in setup w c number h starved) c bytes
 heard_taken setup w c number bytes h true = finish_taken setup w c bytes (call_undecoded c number h) SystemError refl
 heard_taken setup w c number bytes h false = admit_taken setup w c number bytes h (home_of_asked setup.layout h.asked)
 
@@ -69,7 +76,8 @@ stream_there setup w c t = ap (λ (o : Option Connection). stream_in o) t.there
 
 stream_byte : (setup : Setup) (w : World) (c b : ℕ) (t : IsTaking setup w c) → stream_of (byte_taken w c b) c ≡ stream_of w c ++ b ∷ []
 stream_byte setup w c b t =
-    ap (λ (o : Option Connection). stream_in o) (slice_get-changed_at (with_byte b) w.connections c t.connection t.there) ∙ ap (λ (s : List ℕ). s ++ b ∷ []) (sym (stream_there setup w c t))
+    ap (λ (o : Option Connection). stream_in o) (slice_get-changed_at (with_byte b) w.connections c t.connection t.there)
+    ∙ ap (λ (s : List ℕ). s ++ b ∷ []) (sym (stream_there setup w c t))
 
 stream_written : (out : List ℕ) (cs : List Connection) (c : ℕ) → stream_in (slice_get (changed_at (with_output out) cs c) c) ≡ stream_in (slice_get cs c)
 stream_written out [] c = refl
@@ -88,7 +96,8 @@ stream_heard setup w c number h false = stream_admit setup w c number h (home_of
 
 no_more : (xs ys : List Heard) → xs ≡ xs ++ ys → ys ≡ []
 no_more xs [] e = refl
-no_more xs (y ∷ ys) e = let n : length xs ≡ length xs + length (y ∷ ys) = ap (λ (zs : List Heard). length zs) e ∙ length-append xs (y ∷ ys) in absurd (omega (arith, n))
+no_more xs (y ∷ ys) e =
+    let n : length xs ≡ length xs + length (y ∷ ys) = ap (λ (zs : List Heard). length zs) e ∙ length-append xs (y ∷ ys) in absurd (omega (arith, n))
 
 tail_same : (x y : Heard) (xs ys : List Heard) → x ∷ xs ≡ y ∷ ys → xs ≡ ys
 tail_same x y xs ys e = cc
@@ -110,11 +119,15 @@ record From (setup : Setup) (c : ℕ) (w : World) (came bytes : List ℕ) (taken
   hears : Hears setup c (bytes_taken w c (take taken bytes)) (length (setup.codec.scan came).served) heard new
   stops : StopsAt setup new (came ++ take taken bytes) (drop taken bytes) stop (setup.codec.scan (came ++ take taken bytes)).fault
 
-of_feed : (setup : Setup) (c : ℕ) (w : World) (bytes : List ℕ) (taken stop : ℕ) (new : World) → Feeds setup c w bytes taken stop new → From setup c w (stream_of w c) bytes taken stop new
-of_feed setup c w bytes taken stop new f = record { within = f.within; sound = f.sound; heard = f.heard; complete = f.complete; hears = f.hears; stops = f.stops }
+of_feed : (setup : Setup) (c : ℕ) (w : World) (bytes : List ℕ) (taken stop : ℕ) (new : World) → Feeds setup c w bytes taken stop new
+    → From setup c w (stream_of w c) bytes taken stop new
+of_feed setup c w bytes taken stop new f =
+    record { within = f.within; sound = f.sound; heard = f.heard; complete = f.complete; hears = f.hears; stops = f.stops }
 
-to_feed : (setup : Setup) (c : ℕ) (w : World) (bytes : List ℕ) (taken stop : ℕ) (new : World) → From setup c w (stream_of w c) bytes taken stop new → Feeds setup c w bytes taken stop new
-to_feed setup c w bytes taken stop new f = record { within = f.within; sound = f.sound; heard = f.heard; complete = f.complete; hears = f.hears; stops = f.stops }
+to_feed : (setup : Setup) (c : ℕ) (w : World) (bytes : List ℕ) (taken stop : ℕ) (new : World) → From setup c w (stream_of w c) bytes taken stop new
+    → Feeds setup c w bytes taken stop new
+to_feed setup c w bytes taken stop new f =
+    record { within = f.within; sound = f.sound; heard = f.heard; complete = f.complete; hears = f.hears; stops = f.stops }
 
 complete_is : (fault : Option ℕ) (more : Option Heard) → is_complete (reached_at fault more) ≡ completes_at fault more
 complete_is None None = refl
@@ -124,7 +137,8 @@ complete_is (Some number) more = refl
 -- the next byte completes a record, told in both ways
 next_is : (setup : Setup) (w : World) (c b : ℕ) (bytes : List ℕ) → is_complete (reached setup w c b) ≡ completes_next setup (stream_of w c) (b ∷ bytes)
 next_is setup w c b bytes =
-    complete_is (setup.codec.scan (stream_of w c ++ b ∷ [])).fault (slice_get (setup.codec.scan (stream_of w c ++ b ∷ [])).served (length (setup.codec.scan (stream_of w c)).served))
+    complete_is (setup.codec.scan (stream_of w c ++ b ∷ [])).fault
+    (slice_get (setup.codec.scan (stream_of w c ++ b ∷ [])).served (length (setup.codec.scan (stream_of w c)).served))
 
 -- ---- nothing is taken
 
@@ -136,14 +150,16 @@ module _ (setup : Setup) (c : ℕ) (w : World) (came bytes : List ℕ) (stop : �
     heard = [];
     complete = ap (λ (s : List ℕ). (setup.codec.scan s).served) (append-nil came) ∙ sym (append-nil (setup.codec.scan came).served);
     hears = sym (taken_none w c);
-    stops = subst (λ (s : List ℕ). StopsAt setup w s bytes stop (setup.codec.scan s).fault) (sym (append-nil came)) (subst (λ (o : Option ℕ). StopsAt setup w came bytes stop o) (sym sound) stops);
+    stops = subst (λ (s : List ℕ). StopsAt setup w s bytes stop (setup.codec.scan s).fault) (sym (append-nil came))
+        (subst (λ (o : Option ℕ). StopsAt setup w came bytes stop o) (sym sound) stops);
   }
 
   none_from : (new : World) → From setup c w came bytes 0 stop new → (new ≡ w) × StopsSound setup w came bytes stop
   none_from new f =
       let none : f.heard ≡ [] =
       no_more (setup.codec.scan came).served f.heard (ap (λ (s : List ℕ). (setup.codec.scan s).served) (sym (append-nil came)) ∙ f.complete) in
-      let same : new ≡ w = subst (λ (hs : List Heard). Hears setup c (bytes_taken w c []) (length (setup.codec.scan came).served) hs new) none f.hears ∙ taken_none w c in (
+      let same : new ≡ w = subst (λ (hs : List Heard). Hears setup c (bytes_taken w c []) (length (setup.codec.scan came).served) hs new) none f.hears
+      ∙ taken_none w c in (
         same,
         subst (λ (v : World). StopsSound setup v came bytes stop) same
             (subst (λ (o : Option ℕ). StopsAt setup new came bytes stop o) sound
@@ -168,7 +184,8 @@ module _ (setup : Setup) (c : ℕ) (w middle : World) (came : List ℕ) (b : ℕ
         (ap (λ (s : List ℕ). (setup.codec.scan s).fault) (append-nil came) ∙ sound)
         (λ n l. ap (λ (s : List ℕ). (setup.codec.scan s).fault) (sym (one_byte came b (take n bytes))) ∙ f.sound n l);
     heard = first ++ f.heard;
-    complete = ap (λ (s : List ℕ). (setup.codec.scan s).served) (sym (one_byte came b (take rest bytes))) ∙ f.complete ∙ ap (λ (hs : List Heard). hs ++ f.heard) one
+    complete = ap (λ (s : List ℕ). (setup.codec.scan s).served) (sym (one_byte came b (take rest bytes))) ∙ f.complete
+        ∙ ap (λ (hs : List Heard). hs ++ f.heard) one
         ∙ append_assoc (setup.codec.scan came).served first f.heard;
     hears = hears;
     stops = subst (λ (s : List ℕ). StopsAt setup new s (drop rest bytes) stop (setup.codec.scan s).fault) (one_byte came b (take rest bytes)) f.stops;
@@ -182,7 +199,8 @@ module _ (setup : Setup) (c : ℕ) (w middle : World) (came : List ℕ) (b : ℕ
     within = omega (arith, f.within);
     sound = λ n l. ap (λ (s : List ℕ). (setup.codec.scan s).fault) (one_byte came b (take n bytes)) ∙ f.sound (suc n) (omega (arith, l));
     heard = more;
-    complete = ap (λ (s : List ℕ). (setup.codec.scan s).served) (one_byte came b (take rest bytes)) ∙ f.complete ∙ ap (λ (hs : List Heard). (setup.codec.scan came).served ++ hs) is
+    complete = ap (λ (s : List ℕ). (setup.codec.scan s).served) (one_byte came b (take rest bytes)) ∙ f.complete
+        ∙ ap (λ (hs : List Heard). (setup.codec.scan came).served ++ hs) is
         ∙ sym (append_assoc (setup.codec.scan came).served first more) ∙ ap (λ (hs : List Heard). hs ++ more) (sym one);
     hears = hears;
     stops = subst (λ (s : List ℕ). StopsAt setup new s (drop rest bytes) stop (setup.codec.scan s).fault) (sym (one_byte came b (take rest bytes))) f.stops;
@@ -191,9 +209,11 @@ module _ (setup : Setup) (c : ℕ) (w middle : World) (came : List ℕ) (b : ℕ
 -- ---- from the walk
 
 module _ (setup : Setup) (scan : IsScan setup.codec) (c : ℕ) where
-  stop_told : (w : World) (b : ℕ) (bytes : List ℕ) (taken stop : ℕ) (new : World) → IsTaking setup w c → Stops w (reached setup w c b) taken stop new → Feeds setup c w (b ∷ bytes) taken stop new
+  stop_told : (w : World) (b : ℕ) (bytes : List ℕ) (taken stop : ℕ) (new : World) → IsTaking setup w c → Stops w (reached setup w c b) taken stop new
+      → Feeds setup c w (b ∷ bytes) taken stop new
   stop_told w b bytes taken stop new t s =
-      let full : (is_crowded w && is_complete (reached setup w c b)) ≡ is_full_at setup w (stream_of w c) (b ∷ bytes) = ap (λ (d : Bool). is_crowded w && d) (next_is setup w c b bytes) in
+      let full : (is_crowded w && is_complete (reached setup w c b)) ≡ is_full_at setup w (stream_of w c) (b ∷ bytes) = ap (λ (d : Bool). is_crowded w && d)
+      (next_is setup w c b bytes) in
       let sound : (setup.codec.scan (stream_of w c)).fault ≡ None = ap (λ (x : List ℕ). (setup.codec.scan x).fault) (stream_there setup w c t) ∙ t.sound in
       let stops : StopsSound setup w (stream_of w c) (b ∷ bytes) stop = elim s.2 [
         | inl p ↦ inr (inl (p.0, subst (λ (d : Bool). IsTrue d) full p.1))
@@ -205,14 +225,17 @@ module _ (setup : Setup) (scan : IsScan setup.codec) (c : ℕ) where
 
   -- what a byte brings, in the words of the stream before it
   brings_here : (w : World) (b : ℕ) (t : IsTaking setup w c) (r : Reached) → reached setup w c b ≡ r
-      → Brings r (setup.codec.scan (stream_of w c ++ b ∷ [])).fault (setup.codec.scan (stream_of w c)).served (setup.codec.scan (stream_of w c ++ b ∷ [])).served
+      → Brings r (setup.codec.scan (stream_of w c ++ b ∷ [])).fault (setup.codec.scan (stream_of w c)).served
+      (setup.codec.scan (stream_of w c ++ b ∷ [])).served
   brings_here w b t r is =
-      subst (λ (s : List ℕ). Brings r (setup.codec.scan (s ++ b ∷ [])).fault (setup.codec.scan s).served (setup.codec.scan (s ++ b ∷ [])).served) (sym (stream_there setup w c t)) (brings setup w c b t r scan is)
+      subst (λ (s : List ℕ). Brings r (setup.codec.scan (s ++ b ∷ [])).fault (setup.codec.scan s).served (setup.codec.scan (s ++ b ∷ [])).served)
+      (sym (stream_there setup w c t)) (brings setup w c b t r scan is)
 
   sound_here : (w : World) (t : IsTaking setup w c) → (setup.codec.scan (stream_of w c)).fault ≡ None
   sound_here w t = ap (λ (s : List ℕ). (setup.codec.scan s).fault) (stream_there setup w c t) ∙ t.sound
 
-  fault_told : (w : World) (b : ℕ) (bytes : List ℕ) (r : Reached) (taken stop : ℕ) (new : World) → IsTaking setup w c → reached setup w c b ≡ r → TakesFault w c b r taken stop new → Feeds setup c w (b ∷ bytes) taken stop new
+  fault_told : (w : World) (b : ℕ) (bytes : List ℕ) (r : Reached) (taken stop : ℕ) (new : World) → IsTaking setup w c → reached setup w c b ≡ r
+      → TakesFault w c b r taken stop new → Feeds setup c w (b ∷ bytes) taken stop new
   fault_told w b bytes Further taken stop new t is f = absurd f
   fault_told w b bytes (Complete h) taken stop new t is f = absurd f
   fault_told w b bytes (AtFault number) taken stop new t is f =
@@ -222,7 +245,8 @@ module _ (setup : Setup) (scan : IsScan setup.codec) (c : ℕ) where
       (subst (λ (v : World). Feeds setup c w (b ∷ bytes) 1 stop v) (sym f.3)
       (to_feed setup c w (b ∷ bytes) 1 stop (byte_taken w c b) (record {
         within = omega arith;
-        sound = below (λ n. (setup.codec.scan (came ++ take n (b ∷ bytes))).fault ≡ None) 0 (ap (λ (s : List ℕ). (setup.codec.scan s).fault) (append-nil came) ∙ sound_here w t) (λ n l. absurd (omega (arith, l)));
+        sound = below (λ n. (setup.codec.scan (came ++ take n (b ∷ bytes))).fault ≡ None) 0
+            (ap (λ (s : List ℕ). (setup.codec.scan s).fault) (append-nil came) ∙ sound_here w t) (λ n l. absurd (omega (arith, l)));
         heard = [];
         complete = byte.1 ∙ sym (append-nil (setup.codec.scan came).served);
         hears = refl;
@@ -230,25 +254,31 @@ module _ (setup : Setup) (scan : IsScan setup.codec) (c : ℕ) where
       })))
 
   -- the connection goes on taking input
-  goes_on : (w : World) (b : ℕ) (r : Reached) (middle : World) → IsTaking setup w c → reached setup w c b ≡ r → Takes setup w c b r middle → IsTaking setup middle c
-  goes_on w b Further middle t is takes = subst (λ (v : World). IsTaking setup v c) (sym takes) (taking_byte setup w c b t (brings setup w c b t Further scan is).0)
+  goes_on : (w : World) (b : ℕ) (r : Reached) (middle : World) → IsTaking setup w c → reached setup w c b ≡ r → Takes setup w c b r middle
+      → IsTaking setup middle c
+  goes_on w b Further middle t is takes = subst (λ (v : World). IsTaking setup v c) (sym takes)
+      (taking_byte setup w c b t (brings setup w c b t Further scan is).0)
   goes_on w b (Complete h) middle t is takes =
-      subst (λ (v : World). IsTaking setup v c) (sym takes.1.2) (taking_heard setup w c b t (brings setup w c b t (Complete h) scan is).0 (length (setup.codec.scan (stream_of w c)).served) h takes.1.0)
+      subst (λ (v : World). IsTaking setup v c) (sym takes.1.2)
+      (taking_heard setup w c b t (brings setup w c b t (Complete h) scan is).0 (length (setup.codec.scan (stream_of w c)).served) h takes.1.0)
   goes_on w b (AtFault number) middle t is takes = absurd takes
 
   -- the world of a byte that completes a record
   heard_more : (w : World) (b number : ℕ) (bytes : List ℕ) (h : Heard) (starved : Bool)
       → bytes_taken (heard_in setup (byte_taken w c b) c number h starved) c bytes ≡ heard_in setup (bytes_taken w c (b ∷ bytes)) c number h starved
   heard_more w b number bytes h starved =
-      sym (heard_taken setup (byte_taken w c b) c number bytes h starved) ∙ ap (λ (v : World). heard_in setup v c number h starved) (taken_more w c (b ∷ []) bytes)
+      sym (heard_taken setup (byte_taken w c b) c number bytes h starved)
+      ∙ ap (λ (v : World). heard_in setup v c number h starved) (taken_more w c (b ∷ []) bytes)
 
-  stream_more : (w : World) (b number : ℕ) (t : IsTaking setup w c) (h : Heard) (starved : Bool) → stream_of (heard_in setup (byte_taken w c b) c number h starved) c ≡ stream_of w c ++ b ∷ []
+  stream_more : (w : World) (b number : ℕ) (t : IsTaking setup w c) (h : Heard) (starved : Bool)
+      → stream_of (heard_in setup (byte_taken w c b) c number h starved) c ≡ stream_of w c ++ b ∷ []
   stream_more w b number t h starved = stream_heard setup (byte_taken w c b) c number h starved ∙ stream_byte setup w c b t
 
   one_more : (old new : List Heard) (h : Heard) → new ≡ old ++ h ∷ [] → length new ≡ length old + 1
   one_more old new h e = ap (λ (hs : List Heard). length hs) e ∙ length-append old (h ∷ [])
 
-  more_told : (w middle : World) (b : ℕ) (bytes : List ℕ) (r : Reached) (rest stop : ℕ) (new : World) → IsTaking setup w c → reached setup w c b ≡ r → Takes setup w c b r middle
+  more_told : (w middle : World) (b : ℕ) (bytes : List ℕ) (r : Reached) (rest stop : ℕ) (new : World) → IsTaking setup w c → reached setup w c b ≡ r
+      → Takes setup w c b r middle
       → Feeds setup c middle bytes rest stop new → From setup c w (stream_of w c) (b ∷ bytes) (suc rest) stop new
   more_told w middle b bytes Further rest stop new t is takes feeds =
       let came = stream_of w c in
@@ -258,7 +288,8 @@ module _ (setup : Setup) (scan : IsScan setup.codec) (c : ℕ) where
       (of_feed setup c (byte_taken w c b) bytes rest stop new (subst (λ (v : World). Feeds setup c v bytes rest stop new) takes feeds)) in
       from_more setup c w (byte_taken w c b) came b bytes rest stop new [] (sound_here w t) (byte.1 ∙ sym (append-nil (setup.codec.scan came).served)) f
       (subst (λ (k : ℕ). Hears setup c (bytes_taken w c (b ∷ take rest bytes)) k f.heard new) (ap (λ (hs : List Heard). length hs) byte.1)
-      (subst (λ (v : World). Hears setup c v (length (setup.codec.scan (came ++ b ∷ [])).served) f.heard new) (taken_more w c (b ∷ []) (take rest bytes)) f.hears))
+      (subst (λ (v : World). Hears setup c v (length (setup.codec.scan (came ++ b ∷ [])).served) f.heard new)
+      (taken_more w c (b ∷ []) (take rest bytes)) f.hears))
   more_told w middle b bytes (Complete h) rest stop new t is takes feeds =
       let came = stream_of w c in
       let number = length (setup.codec.scan came).served in
@@ -273,13 +304,16 @@ module _ (setup : Setup) (scan : IsScan setup.codec) (c : ℕ) where
         (
           starved,
           takes.1.1,
-          subst (λ (k : ℕ). Hears setup c (heard_in setup (bytes_taken w c (b ∷ take rest bytes)) c number h starved) k f.heard new) (one_more (setup.codec.scan came).served (setup.codec.scan (came ++ b ∷ [])).served h byte.1)
-              (subst (λ (v : World). Hears setup c v (length (setup.codec.scan (came ++ b ∷ [])).served) f.heard new) (heard_more w b number (take rest bytes) h starved) f.hears),
+          subst (λ (k : ℕ). Hears setup c (heard_in setup (bytes_taken w c (b ∷ take rest bytes)) c number h starved) k f.heard new)
+              (one_more (setup.codec.scan came).served (setup.codec.scan (came ++ b ∷ [])).served h byte.1)
+              (subst (λ (v : World). Hears setup c v (length (setup.codec.scan (came ++ b ∷ [])).served) f.heard new)
+              (heard_more w b number (take rest bytes) h starved) f.hears),
         ),
       )
   more_told w middle b bytes (AtFault number) rest stop new t is takes feeds = absurd takes
 
-  feed_walked : (bytes : List ℕ) (w : World) (taken stop : ℕ) (new : World) → IsTaking setup w c → Walks setup c w bytes taken stop new → Feeds setup c w bytes taken stop new
+  feed_walked : (bytes : List ℕ) (w : World) (taken stop : ℕ) (new : World) → IsTaking setup w c → Walks setup c w bytes taken stop new
+      → Feeds setup c w bytes taken stop new
   feed_walked [] w taken stop new t walk =
       subst (λ (k : ℕ). Feeds setup c w [] k stop new) (sym walk.0)
       (subst (λ (v : World). Feeds setup c w [] 0 stop v) (sym walk.2)
@@ -290,7 +324,8 @@ module _ (setup : Setup) (scan : IsScan setup.codec) (c : ℕ) where
       let count : taken ≡ suc m.1 = omega (arith, m.2) in
       subst (λ (k : ℕ). Feeds setup c w (b ∷ bytes) k stop new) (sym count)
       (to_feed setup c w (b ∷ bytes) (suc m.1) stop new
-      (more_told w m.0 b bytes (reached setup w c b) m.1 stop new t refl m.3 (feed_walked bytes m.0 m.1 stop new (goes_on w b (reached setup w c b) m.0 t refl m.3) m.4)))
+      (more_told w m.0 b bytes (reached setup w c b) m.1 stop new t refl m.3
+      (feed_walked bytes m.0 m.1 stop new (goes_on w b (reached setup w c b) m.0 t refl m.3) m.4)))
 
   -- ---- to the walk
 
@@ -302,21 +337,25 @@ module _ (setup : Setup) (scan : IsScan setup.codec) (c : ℕ) where
   grown (suc k) came (b ∷ bytes) sound =
       let now : (setup.codec.scan came).fault ≡ None = ap (λ (s : List ℕ). (setup.codec.scan s).fault) (sym (append-nil came)) ∙ sound 0 (omega arith) in
       let one = scan.further came b now in
-      let later = grown k (came ++ b ∷ []) bytes (λ n l. ap (λ (s : List ℕ). (setup.codec.scan s).fault) (one_byte came b (take n bytes)) ∙ sound (suc n) (omega (arith, l))) in (
+      let later = grown k (came ++ b ∷ []) bytes (λ n l. ap (λ (s : List ℕ). (setup.codec.scan s).fault) (one_byte came b (take n bytes))
+      ∙ sound (suc n) (omega (arith, l))) in (
         one.0 ++ later.0,
         ap (λ (s : List ℕ). (setup.codec.scan s).served) (sym (one_byte came b (take k bytes))) ∙ later.1 ∙ ap (λ (hs : List Heard). hs ++ later.0) one.1
             ∙ append_assoc (setup.codec.scan came).served one.0 later.0,
       )
 
   -- the records of a byte and of the others
-  heard_split : (w : World) (b : ℕ) (bytes : List ℕ) (rest stop : ℕ) (new : World) (first : List Heard) → (setup.codec.scan (stream_of w c ++ b ∷ [])).served ≡ (setup.codec.scan (stream_of w c)).served ++ first
+  heard_split : (w : World) (b : ℕ) (bytes : List ℕ) (rest stop : ℕ) (new : World) (first : List Heard)
+      → (setup.codec.scan (stream_of w c ++ b ∷ [])).served ≡ (setup.codec.scan (stream_of w c)).served ++ first
       → (f : From setup c w (stream_of w c) (b ∷ bytes) (suc rest) stop new) → (more : List Heard) × (f.heard ≡ first ++ more)
   heard_split w b bytes rest stop new first one f =
       let came = stream_of w c in
-      let later = grown rest (came ++ b ∷ []) bytes (λ n l. ap (λ (s : List ℕ). (setup.codec.scan s).fault) (one_byte came b (take n bytes)) ∙ f.sound (suc n) (omega (arith, l))) in (
+      let later = grown rest (came ++ b ∷ []) bytes (λ n l. ap (λ (s : List ℕ). (setup.codec.scan s).fault) (one_byte came b (take n bytes))
+      ∙ f.sound (suc n) (omega (arith, l))) in (
         later.0,
         same_after (setup.codec.scan came).served f.heard (first ++ later.0)
-            (sym f.complete ∙ ap (λ (s : List ℕ). (setup.codec.scan s).served) (sym (one_byte came b (take rest bytes))) ∙ later.1 ∙ ap (λ (hs : List Heard). hs ++ later.0) one
+            (sym f.complete ∙ ap (λ (s : List ℕ). (setup.codec.scan s).served) (sym (one_byte came b (take rest bytes))) ∙ later.1
+            ∙ ap (λ (hs : List Heard). hs ++ later.0) one
             ∙ append_assoc (setup.codec.scan came).served first later.0),
       )
 
@@ -329,7 +368,8 @@ module _ (setup : Setup) (scan : IsScan setup.codec) (c : ℕ) where
   none_left w came stop (inr (inl p)) = absurd (no_place (is_crowded w) p.1)
   none_left w came stop (inr (inr p)) = absurd (p.1 refl)
 
-  stops_before : (w : World) (b : ℕ) (bytes : List ℕ) (stop : ℕ) (new : World) → new ≡ w → StopsSound setup w (stream_of w c) (b ∷ bytes) stop → Stops w (reached setup w c b) 0 stop new
+  stops_before : (w : World) (b : ℕ) (bytes : List ℕ) (stop : ℕ) (new : World) → new ≡ w → StopsSound setup w (stream_of w c) (b ∷ bytes) stop
+      → Stops w (reached setup w c b) 0 stop new
   stops_before w b bytes stop new same (inl p) = let e : b ∷ bytes ≡ [] = p.1 in absurd cc
   stops_before w b bytes stop new same (inr (inl p)) =
       (refl, same, inl (p.0, subst (λ (d : Bool). IsTrue d) (sym (ap (λ (d : Bool). is_crowded w && d) (next_is setup w c b bytes))) p.1))
@@ -344,7 +384,8 @@ module _ (setup : Setup) (scan : IsScan setup.codec) (c : ℕ) where
       let came = stream_of w c in
       let byte = brings_here w b t (AtFault number) is in
       let none : f.heard ≡ [] = no_more (setup.codec.scan came).served f.heard (sym byte.1 ∙ f.complete) in
-      let same : new ≡ byte_taken w c b = subst (λ (hs : List Heard). Hears setup c (byte_taken w c b) (length (setup.codec.scan came).served) hs new) none f.hears in
+      let same : new ≡ byte_taken w c b = subst
+      (λ (hs : List Heard). Hears setup c (byte_taken w c b) (length (setup.codec.scan came).served) hs new) none f.hears in
       let stops : StopsAt setup (byte_taken w c b) (came ++ b ∷ []) bytes stop (Some number) =
       subst (λ (v : World). StopsAt setup v (came ++ b ∷ []) bytes stop (Some number)) same
       (subst (λ (o : Option ℕ). StopsAt setup new (came ++ b ∷ []) bytes stop o) byte.0 f.stops) in
@@ -385,10 +426,12 @@ module _ (setup : Setup) (scan : IsScan setup.codec) (c : ℕ) where
       subst (λ (hs : List Heard). Hears setup c (bytes_taken w c (b ∷ take rest bytes)) number hs new) split.1 f.hears in
       let starved = hears.1.0 in
       let after = heard_in setup (byte_taken w c b) c number h starved in
-      let takes : Takes setup w c b (reached setup w c b) after = subst (λ (r : Reached). Takes setup w c b r after) (sym is) (hears.0, (starved, hears.1.1, refl)) in
+      let takes : Takes setup w c b (reached setup w c b) after = subst (λ (r : Reached). Takes setup w c b r after) (sym is)
+      (hears.0, (starved, hears.1.1, refl)) in
       let feeds : From setup c after (came ++ b ∷ []) bytes rest stop new =
       more_from setup c w after came b bytes rest stop new (h ∷ []) split.0 byte.1 f split.1
-      (subst (λ (k : ℕ). Hears setup c (bytes_taken after c (take rest bytes)) k split.0 new) (sym (one_more (setup.codec.scan came).served (setup.codec.scan (came ++ b ∷ [])).served h byte.1))
+      (subst (λ (k : ℕ). Hears setup c (bytes_taken after c (take rest bytes)) k split.0 new)
+      (sym (one_more (setup.codec.scan came).served (setup.codec.scan (came ++ b ∷ [])).served h byte.1))
       (subst (λ (v : World). Hears setup c v (number + 1) split.0 new) (sym (heard_more w b number (take rest bytes) h starved)) hears.1.2)) in
       record {
         middle = after;
@@ -399,12 +442,15 @@ module _ (setup : Setup) (scan : IsScan setup.codec) (c : ℕ) where
 
   -- by what the byte reached
   steps : (w : World) (b : ℕ) (bytes : List ℕ) (r : Reached) (rest stop : ℕ) (new : World) → IsTaking setup w c → reached setup w c b ≡ r
-      → From setup c w (stream_of w c) (b ∷ bytes) (suc rest) stop new → TakesFault w c b (reached setup w c b) (suc rest) stop new ⊎ Goes w b bytes rest stop new
+      → From setup c w (stream_of w c) (b ∷ bytes) (suc rest) stop new
+      → TakesFault w c b (reached setup w c b) (suc rest) stop new ⊎ Goes w b bytes rest stop new
   steps w b bytes Further rest stop new t is f = inr (goes_further w b bytes rest stop new t is f)
   steps w b bytes (Complete h) rest stop new t is f = inr (goes_heard w b bytes h rest stop new t is f)
-  steps w b bytes (AtFault number) rest stop new t is f = inl (subst (λ (r : Reached). TakesFault w c b r (suc rest) stop new) (sym is) (stops_at w b bytes number rest stop new t is f))
+  steps w b bytes (AtFault number) rest stop new t is f = inl
+      (subst (λ (r : Reached). TakesFault w c b r (suc rest) stop new) (sym is) (stops_at w b bytes number rest stop new t is f))
 
-  walk_fed : (bytes : List ℕ) (w : World) (taken stop : ℕ) (new : World) → IsTaking setup w c → From setup c w (stream_of w c) bytes taken stop new → Walks setup c w bytes taken stop new
+  walk_fed : (bytes : List ℕ) (w : World) (taken stop : ℕ) (new : World) → IsTaking setup w c → From setup c w (stream_of w c) bytes taken stop new
+      → Walks setup c w bytes taken stop new
   walk_fed [] w (suc taken) stop new t f = let l = f.within in absurd (omega (arith, l))
   walk_fed [] w zero stop new t f =
       let none = none_from setup c w (stream_of w c) [] stop (sound_here w t) new f in
@@ -420,7 +466,8 @@ module _ (setup : Setup) (scan : IsScan setup.codec) (c : ℕ) where
 
 -- ---- both
 
-module _ (setup : Setup) (w : World) (c : ℕ) (bytes : List ℕ) (taken stop : ℕ) (new : World) (scan : IsScan setup.codec) (takes : takes_input setup (slice_get w.connections c) ≡ true) where
+module _ (setup : Setup) (w : World) (c : ℕ) (bytes : List ℕ) (taken stop : ℕ) (new : World) (scan : IsScan setup.codec)
+    (takes : takes_input setup (slice_get w.connections c) ≡ true) where
   pub walk_of_feed : Feeds setup c w bytes taken stop new → Walks setup c w bytes taken stop new
   walk_of_feed f = walk_fed setup scan c bytes w taken stop new (taking setup w c takes) (of_feed setup c w bytes taken stop new f)
 

@@ -40,12 +40,14 @@ byte_taken w c b = bytes_taken w c (b ∷ [])
 -- a byte is taken, and taking goes on
 abbrev pub Takes : Setup → World → ℕ → ℕ → Reached → World → Type 0
 Takes setup w c b Further new = new ≡ byte_taken w c b
-Takes setup w c b (Complete h) new = (is_crowded w ≡ false) × ((starved : Bool) × MayStarveIf starved h.asked × (new ≡ heard_in setup (byte_taken w c b) c (served_count setup w c) h starved))
+Takes setup w c b (Complete h) new =
+    (is_crowded w ≡ false) × ((starved : Bool) × MayStarveIf starved h.asked × (new ≡ heard_in setup (byte_taken w c b) c (served_count setup w c) h starved))
 Takes setup w c b (AtFault number) new = ⊥
 
 -- a byte is taken, and reaches a fault
 abbrev pub TakesFault : World → ℕ → ℕ → Reached → ℕ → ℕ → World → Type 0
-TakesFault w c b (AtFault number) taken stop new = ((is_crowded w && is_complete (AtFault number)) ≡ false) × (taken ≡ 1) × (stop ≡ number) × (new ≡ byte_taken w c b)
+TakesFault w c b (AtFault number) taken stop new =
+    ((is_crowded w && is_complete (AtFault number)) ≡ false) × (taken ≡ 1) × (stop ≡ number) × (new ≡ byte_taken w c b)
 TakesFault w c b Further taken stop new = ⊥
 TakesFault w c b (Complete h) taken stop new = ⊥
 

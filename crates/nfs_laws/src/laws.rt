@@ -1,12 +1,16 @@
 //! What holds of the definitions.
 
 ghost use Rattle.std.specs.Prelude.{◌≡◌, true, None, Result, List, ℕ, [], ◌∷◌, ◌++◌, length, slice_get};
+ghost use Rattle.std.specs.Ordering.{nat_cmp};
+ghost use Rattle.std.specs.FinSet.{FinSet};
 ghost use Rattle.nfs_model.specs.Types.{Call, Credential, Moment};
 ghost use Rattle.nfs_model.specs.Tree.{Layout};
 ghost use Rattle.nfs_model.specs.Server.{Server};
 ghost use Rattle.nfs_model.specs.Home.{home};
 ghost use Rattle.nfs_model.specs.Serial.Step.{serve, stay};
 ghost use Rattle.nfs_model.specs.Serial.AtOnce.{answer_without_home};
+ghost use Rattle.nfs_model.specs.Parts.{IsBatch};
+ghost use Rattle.nfs_model.specs.Moves.{batch, lowest_batch};
 ghost use Rattle.nfs_model.specs.World.{Setup, World, IsScan};
 ghost use Rattle.nfs_model.specs.Events.Feed.{Feeds};
 ghost use Rattle.nfs_model.specs.Events.Refusals.{Event, Done, takes_input};
@@ -23,7 +27,8 @@ pub fn opening_meets_headline()
 
 /// A call without a home affinity reads no state and changes nothing.
 pub fn without_home_stays()
-    ensures { (layout : Layout) (server : Server) (credential : Credential) (moment : Moment) (call : Call)
+    ensures { (layout : Layout) (server : Server) (credential : Credential) (moment : Moment)
+        (call : Call)
         → length layout.volumes ≡ length server.volumes
         → home layout call ≡ None
         → serve server call credential moment ≡ stay server (answer_without_home layout call) }
@@ -32,7 +37,8 @@ pub fn without_home_stays()
 /// An event keeps the headline, refused or not, for any number of workers, where the calls that run
 /// after it don't disturb each other.
 pub fn events_keep_headline()
-    ensures { (setup : Setup) (old : World) (event : Event) (answer : Result Done ℕ) (new : World)
+    ensures { (setup : Setup) (old : World) (event : Event) (answer : Result Done ℕ)
+        (new : World)
         → IsScan setup.codec
         → Kept setup old
         → IsAgreed setup new
@@ -42,7 +48,8 @@ pub fn events_keep_headline()
 
 /// Calls that change nothing don't disturb each other, after any event.
 pub fn readings_agree()
-    ensures { (setup : Setup) (old : World) (event : Event) (answer : Result Done ℕ) (new : World)
+    ensures { (setup : Setup) (old : World) (event : Event) (answer : Result Done ℕ)
+        (new : World)
         → IsReadOnly setup
         → IsScan setup.codec
         → Kept setup old
@@ -61,7 +68,8 @@ pub fn runs_meet_headline()
 
 /// A run goes on by one event.
 pub fn runs_go_on()
-    ensures { (setup : Setup) (old : World) (events : List Event) (middle : World) (event : Event) (answer : Result Done ℕ) (new : World)
+    ensures { (setup : Setup) (old : World) (events : List Event) (middle : World)
+        (event : Event) (answer : Result Done ℕ) (new : World)
         → Runs setup old events middle
         → Events setup middle event answer new
         → Runs setup old (events ++ event ∷ []) new }
@@ -69,14 +77,24 @@ pub fn runs_go_on()
 
 /// What a feed does can be told byte by byte.
 pub fn feeds_are_walks()
-    ensures walks { (setup : Setup) (w : World) (connection : ℕ) (bytes : List ℕ) (taken stop : ℕ) (new : World)
+    ensures walks { (setup : Setup) (w : World) (connection : ℕ) (bytes : List ℕ)
+        (taken stop : ℕ) (new : World)
         → IsScan setup.codec
         → takes_input setup (slice_get w.connections connection) ≡ true
         → Feeds setup connection w bytes taken stop new
         → Walks setup connection w bytes taken stop new }
-    ensures feeds { (setup : Setup) (w : World) (connection : ℕ) (bytes : List ℕ) (taken stop : ℕ) (new : World)
+    ensures feeds { (setup : Setup) (w : World) (connection : ℕ) (bytes : List ℕ)
+        (taken stop : ℕ) (new : World)
         → IsScan setup.codec
         → takes_input setup (slice_get w.connections connection) ≡ true
         → Walks setup connection w bytes taken stop new
         → Feeds setup connection w bytes taken stop new }
+{}
+
+/// What Fetch and Cull take is a batch: at most 64 numbers of one range, ascending.
+pub fn batches_are_of_one_range()
+    ensures fetched { (range : ℕ) (blocks : FinSet nat_cmp)
+        → IsBatch range (batch range blocks) }
+    ensures culled { (blocks : FinSet nat_cmp)
+        → (range : ℕ) × IsBatch range (lowest_batch blocks) }
 {}

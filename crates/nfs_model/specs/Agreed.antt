@@ -11,8 +11,13 @@ use Rattle.nfs_model.specs.Headline.{start, server_worked, IsOutcome}
 abbrev pub done : Setup → World → Server
 done setup w = server_after (start setup) w.finished
 
--- The server is the one after the finished calls and those that were worked, each outcome is the one that finishing now would give, and block parts partition every volume.
+-- The server is the one after the finished calls and those that were worked, each outcome is the
+-- one that finishing now would give, and block parts partition every volume.
 pub record IsAgreed (setup : Setup) (w : World) : Type 0 where
   pub state : w.server ≡ server_worked (done setup w) (all_running w.workers)
-  pub outcomes : AllByRecursion (λ r. IsOutcome setup (done setup w) r r.outcome) (all_running w.workers)
-  pub partition : (v : ℕ) (volume : VolumeState) → slice_get w.server.volumes v ≡ Some volume → (p : Parts) × (slice_get w.parts v ≡ Some p) × IsPartition volume p (hands_blocks v w.workers)
+  pub outcomes : AllByRecursion
+      (λ r. IsOutcome setup (done setup w) r r.outcome)
+      (all_running w.workers)
+  pub partition : (v : ℕ) (volume : VolumeState) → slice_get w.server.volumes v ≡ Some volume
+      → (p : Parts) × (slice_get w.parts v ≡ Some p)
+      × IsPartition volume p (hands_blocks v w.workers)

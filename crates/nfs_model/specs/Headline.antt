@@ -52,15 +52,25 @@ tally_messages c n ms = count (λ m. (m.connection == c) && (m.number == n)) ms
 abbrev pub messages : List Running → List Message
 messages rs = map (λ r. r.message) rs
 
+-- in how many places of a world a record stands: finished, waiting or running
+abbrev pub times_held : World → ℕ → ℕ → ℕ
+times_held w c n =
+    tally_finished c n w.finished + tally_messages c n w.waiting
+    + tally_messages c n (messages (all_running w.workers))
+
 -- the record that is named has this xid and asks this
 abbrev pub IsHeard : Setup → World → ℕ → ℕ → ℕ → Asked → Type 0
-IsHeard setup w c n xid asked = (x : Connection) × (slice_get w.connections c ≡ Some x) × (slice_get (served setup x) n ≡ Some (record { xid = xid; asked = asked }))
+IsHeard setup w c n xid asked =
+    (x : Connection) × (slice_get w.connections c ≡ Some x)
+    × (slice_get (served setup x) n ≡ Some (record { xid = xid; asked = asked }))
 
 -- a call whose decoding was starved has its record's xid, and that record has a name or data
 abbrev pub IsOwn : Setup → World → FinishedCall → Asked → Type 0
 IsOwn setup w e (Ask call credential) = IsHeard setup w e.connection e.number e.xid (Ask call credential)
 IsOwn setup w e (Refused reply) = IsHeard setup w e.connection e.number e.xid (Refused reply)
-IsOwn setup w e Undecoded = (asked : Asked) × IsHeard setup w e.connection e.number e.xid asked × IsTrue (may_starve_at_decoding asked) × (e.starved ≡ true) × (e.affinity ≡ None)
+IsOwn setup w e Undecoded =
+    (asked : Asked) × IsHeard setup w e.connection e.number e.xid asked
+    × IsTrue (may_starve_at_decoding asked) × (e.starved ≡ true) × (e.affinity ≡ None)
 
 -- a finished call is of a record
 abbrev pub IsOwnCall : Setup → World → FinishedCall → Type 0
@@ -86,7 +96,9 @@ server_worked server (r ∷ rs) = server_worked (worked_by server r r.outcome) r
 
 -- an affinity is the home of what is asked, or above it
 abbrev pub IsTriedAt : Setup → Asked → Affinity → Type 0
-IsTriedAt setup asked affinity = (home : Affinity) × (home_of_asked setup.layout asked ≡ Some home) × IsTrue (begins (path setup.layout affinity) (path setup.layout home))
+IsTriedAt setup asked affinity =
+    (home : Affinity) × (home_of_asked setup.layout asked ≡ Some home)
+    × IsTrue (begins (path setup.layout affinity) (path setup.layout home))
 
 -- a message tries its home, or above it
 abbrev pub IsTried : Setup → Message → Type 0
@@ -108,23 +120,36 @@ Apart layout (a ∷ others) = (list_any (excludes layout a) others ≡ false) ×
 
 -- ---- the headline
 
--- What holds after every event, refused ones among them, however the streams are cut and the workers scheduled.
+-- What holds after every event, refused ones among them: for every cutting of the streams and every
+-- list of scheduler steps.
 pub record Headline (setup : Setup) (w : World) : Type 0 where
-  -- The bytes on each connection are the reply records of a serial server's replies to the calls of that connection that were finished before its close, each under its own xid, in finishing order of all calls.
-  pub output : (c : ℕ) (x : Connection) → slice_get w.connections c ≡ Some x → x.output ≡ replies setup.codec c (start setup) (up_to x.closed w.finished)
-  -- Each record that a connection's stream serves is a finished call, a waiting message or a running one, and just one of these; and there are no others. So finished calls are distinct records of the streams.
+  -- The bytes on each connection are the reply records of a serial server's replies to that
+  -- connection's calls that were finished before its close, in finishing order of all calls, each
+  -- under its own xid.
+  pub output : (c : ℕ) (x : Connection) → slice_get w.connections c ≡ Some x
+      → x.output ≡ replies setup.codec c (start setup) (up_to x.closed w.finished)
+  -- Finished calls are distinct records of the streams: each record that a connection's stream
+  -- serves is finished, waits or runs, and stands in just one of these places; and a number that is
+  -- no record's stands in none.
   pub each_once : (c : ℕ) (x : Connection) → slice_get w.connections c ≡ Some x → (n : ℕ)
-      → tally_finished c n w.finished + tally_messages c n w.waiting + tally_messages c n (messages (all_running w.workers)) ≡ one_if (nat_lt n (length (served setup x)))
-  -- What is finished, waits or runs asks what its record asks, under the xid of that record.
+      → times_held w c n ≡ one_if (nat_lt n (length (served setup x)))
+  -- What is finished, waits or runs is of a connection that there is, and of a record of its stream:
+  -- it asks what that record asks, under that record's xid.
   pub own_finished : AllByRecursion (IsOwnCall setup w) w.finished
   pub own_waiting : AllByRecursion (IsOwnMessage setup w) w.waiting
   pub own_running : AllByRecursion (IsOwnMessage setup w) (messages (all_running w.workers))
-  -- A call that is finished as starved is one that may lack memory, where it stands among the others.
+  -- A call that is finished as starved is one that may lack memory where it stands in that order.
   pub lawful : AreLawful (start setup) w.finished
-  -- The server is the serial one after the finished calls, and after those that were worked and aren't finished. So where nothing runs it is that after the finished calls.
-  pub state : w.server ≡ server_worked (server_after (start setup) w.finished) (all_running w.workers)
-  -- In every volume each block number below its total is in a file, in the stock, dead, free or in a hand, in just one of these, and no other number is.
-  pub partition : (v : ℕ) (volume : VolumeState) → slice_get w.server.volumes v ≡ Some volume → (p : Parts) × (slice_get w.parts v ≡ Some p) × IsPartition volume p (hands_blocks v w.workers)
+  -- The server is the serial one after the finished calls, and then after those that were worked and
+  -- aren't finished yet. So where nothing runs, it is the serial one after the finished calls.
+  pub state : w.server
+      ≡ server_worked (server_after (start setup) w.finished) (all_running w.workers)
+  -- Block parts partition every volume: each number below its total is in a file, in the stock, dead,
+  -- free or in a hand, in just one of these, and no other number is; in files are as many as its
+  -- files fill.
+  pub partition : (v : ℕ) (volume : VolumeState) → slice_get w.server.volumes v ≡ Some volume
+      → (p : Parts) × (slice_get w.parts v ≡ Some p)
+      × IsPartition volume p (hands_blocks v w.workers)
   -- No two running messages exclude each other.
   pub apart : Apart setup.layout (affinities (all_running w.workers))
 
@@ -134,12 +159,15 @@ pub record Headline (setup : Setup) (w : World) : Type 0 where
 pub record Kept (setup : Setup) (w : World) : Type 0 where
   pub headline : Headline setup w
   -- finishing now gives the outcome that was worked
-  pub outcomes : AllByRecursion (λ r. IsOutcome setup (server_after (start setup) w.finished) r r.outcome) (all_running w.workers)
+  pub outcomes : AllByRecursion
+      (λ r. IsOutcome setup (server_after (start setup) w.finished) r r.outcome)
+      (all_running w.workers)
   -- a message tries its home, or an affinity above it
   pub tried_waiting : AllByRecursion (IsTried setup) w.waiting
   pub tried_running : AllByRecursion (IsTried setup) (messages (all_running w.workers))
   -- a close counted no more calls than are finished
-  pub until : (c : ℕ) (x : Connection) → slice_get w.connections c ≡ Some x → IfSome x.closed (λ n. n ≤ length w.finished)
+  pub until : (c : ℕ) (x : Connection) → slice_get w.connections c ≡ Some x
+      → IfSome x.closed (λ n. n ≤ length w.finished)
 
 -- ---- the beginning
 

@@ -5,7 +5,7 @@ use Rattle.nfs_model.specs.Server.{handle_bytes}
 use Rattle.nfs_model.specs.Serial.Create.{no_attributes}
 use Rattle.std.specs.FinSet as sets
 use Rattle.nfs_model.specs.Serial.Step.{serial}
-use Rattle.nfs_rows.proofs.Evaluate.{evaluate}
+use Rattle.nfs_laws.specs.lemmas.Evaluate.{evaluate}
 use Rattle.nfs_rows.proofs.Cases.{verifier, start, at, nobody, h, root, fails, no_blocks, block_0, file, touched_file, with_file, narrow, root_shown, file_shown, before, changed}
 
 -- ---- handles

@@ -4,7 +4,7 @@ use Rattle.nfs_model.specs.Types.{Getattr, Read, Write, Ask, Success, GetattrDon
 use Rattle.nfs_model.specs.Shown.{touched}
 use Rattle.nfs_model.specs.Serial.Write.{blocks_met, write_fault}
 use Rattle.nfs_model.specs.Serial.Step.{serial}
-use Rattle.nfs_rows.proofs.Evaluate.{evaluate}
+use Rattle.nfs_laws.specs.lemmas.Evaluate.{evaluate}
 use Rattle.nfs_rows.proofs.Cases.{verifier, start, at, nobody, h, root, fails, a, write_at, entry, no_blocks, block_0, file, touched_file, root_with, volume_with, small, with_file, narrow, tight, file_shown}
 
 -- ---- READ

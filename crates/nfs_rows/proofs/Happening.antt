@@ -11,7 +11,7 @@ use Rattle.nfs_model.specs.World.{Setup, World, Connection, Message, Running, Wo
 use Rattle.nfs_model.specs.Headline.{opening_world}
 use Rattle.nfs_model.specs.Events.Refusals.{Open, Feed, Close, Begin, Work, Finish, Fetch, Cull, PutDown, Survey, Opened, Fed, IsClosed, Granted, HasMove, IsStarved, Written, IsBack, HasPut, refusal, may_lack_memory}
 use Rattle.nfs_model.specs.Events.Step.{Events, Happens, new_connection}
-use Rattle.nfs_rows.proofs.Evaluate.{evaluate}
+use Rattle.nfs_laws.specs.lemmas.Evaluate.{evaluate}
 use Rattle.nfs_rows.proofs.Cases.{layout, verifier, at, holding, with_file, file, no_blocks}
 use Rattle.nfs_rows.proofs.Toy.{asked, scan, toy}
 
@@ -73,7 +73,16 @@ sixty_four_connections_are_all = refl
 closed_connections_do_not_count : refusal setup (record opened { connections = record (heard []) { closed = Some 0 } ∷ replicate 63 new_connection }) Open ≡ None
 closed_connections_do_not_count = refl
 
-close_counts_the_finished_calls : Events setup opened (Close 0) (Ok IsClosed) (record opened { connections = record (heard []) { closed = Some 0 } ∷ [] })
+-- a connection on which one call was answered
+abbrev answered_one : World
+answered_one = record opened {
+  connections = record (heard (7 ∷ [])) { output = 7 ∷ [] } ∷ [];
+  finished = record { connection = 0; number = 0; xid = 7; asked = asked 7; affinity = None; moment = start_of_times; starved = false } ∷ [];
+}
+
+close_counts_the_finished_calls : Events setup answered_one (Close 0) (Ok IsClosed) (record answered_one {
+  connections = record { stream = 7 ∷ []; closed = Some 1; output = 7 ∷ [] } ∷ [];
+})
 close_counts_the_finished_calls = (refl, (refl, refl))
 
 close_of_an_unknown_connection : refusal setup opened (Close 1) ≡ Some 36

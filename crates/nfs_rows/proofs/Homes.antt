@@ -6,7 +6,7 @@ use Rattle.nfs_model.specs.Home.{home, home_of_asked}
 use Rattle.nfs_model.specs.Serial.Starve.{may_starve_at_decoding, may_starve_later}
 use Rattle.nfs_model.specs.Server.{handle_bytes}
 use Rattle.nfs_model.specs.Serial.Create.{no_attributes}
-use Rattle.nfs_rows.proofs.Evaluate.{evaluate}
+use Rattle.nfs_laws.specs.lemmas.Evaluate.{evaluate}
 use Rattle.nfs_rows.proofs.Cases.{one_range, layout, start, at, nobody, h, root, a, b, d, x, write_at, sized, entry, no_blocks, block_0, file, exclusive_file, directory, root_with, holding, with_file, tight}
 
 getattr_is_of_logical : home layout (Getattr root) ≡ Some (Logical 0)
@@ -122,6 +122,9 @@ home_goes_by_the_count_and_not_the_data = refl
 
 write_of_70000_bytes_is_cut : home layout (Write (h 2) 0 70000 []) ≡ Some (Stripe 0 2)
 write_of_70000_bytes_is_cut = refl
+
+count_of_a_write_is_cut : home layout (Write (h 2) 196608 70000 []) ≡ Some (Stripe 0 2)
+count_of_a_write_is_cut = refl
 
 cut_count_ends_with_the_span : home layout (Read (h 2) 196608 4294967295) ≡ Some (Stripe 0 2)
 cut_count_ends_with_the_span = refl

@@ -2,7 +2,7 @@
 use Rattle.std.proofs.Common.{◌≡◌, false, [], ◌∷◌, replicate, refl}
 use Rattle.nfs_model.specs.Types.{Getattr, Lookup, Remove, Rmdir, Fsstat, Ask, Success, GoneDone, FsstatDone, NoEntry, Access, Exists, NotDirectory, IsDirectory, Invalid, NameTooLong, NotEmpty, Stale, BadHandle}
 use Rattle.nfs_model.specs.Serial.Step.{serial}
-use Rattle.nfs_rows.proofs.Evaluate.{evaluate}
+use Rattle.nfs_laws.specs.lemmas.Evaluate.{evaluate}
 use Rattle.nfs_rows.proofs.Cases.{start, at, nobody, h, root, fails, a, d, f, no_blocks, block_0, file, with_file, with_tree, root_shown, before, changed}
 
 -- ---- REMOVE

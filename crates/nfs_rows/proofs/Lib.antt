@@ -1,4 +1,3 @@
-mod Evaluate
 mod Cases
 mod Attributes
 mod Making
@@ -12,3 +11,4 @@ mod Numbers
 mod Toy
 mod Happening
 mod Moving
+mod Answering

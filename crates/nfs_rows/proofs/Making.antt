@@ -9,7 +9,7 @@ use Rattle.std.proofs.Common.{ap}
 use Rattle.nfs_model.specs.Serial.Create.{no_attributes, is_full, create_fault}
 use Rattle.nfs_model.specs.Serial.Mkdir.{mkdir_fault}
 use Rattle.nfs_model.specs.Serial.Step.{serial}
-use Rattle.nfs_rows.proofs.Evaluate.{evaluate}
+use Rattle.nfs_laws.specs.lemmas.Evaluate.{evaluate}
 use Rattle.nfs_rows.proofs.Cases.{start, at, nobody, h, root, fails, a, b, d, e, f, no_blocks, block_0, file, exclusive_file, small, with_file, narrow, with_tree, root_shown, directory_shown, file_shown, before, changed}
 
 -- ---- LOOKUP

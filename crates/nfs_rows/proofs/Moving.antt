@@ -7,7 +7,7 @@ use Rattle.std.specs.FinSet as sets
 use Rattle.nfs_model.specs.Tree.{Affinity, Logical, Stripe, Volume}
 use Rattle.nfs_model.specs.Server.{Server}
 use Rattle.nfs_model.specs.Work.{Store, Task, move_of}
-use Rattle.nfs_rows.proofs.Evaluate.{evaluate}
+use Rattle.nfs_laws.specs.lemmas.Evaluate.{evaluate}
 use Rattle.nfs_rows.proofs.Cases.{at, nobody, h, write_at, sized, no_blocks, block_0, file, with_file, narrow, tight}
 
 -- ---- a WRITE, with so many blocks in the stock, free and dead

@@ -7,11 +7,11 @@ use Rattle.std.specs.Cmp.{nat_cmp_total}
 use Rattle.std.specs.FinSet as sets
 use Rattle.std.specs.FinSet.{FinSet, contains, union, difference, insert, from_list}
 use Rattle.nfs_model.specs.Types.{Setattr, Write, Create, Mkdir, Remove, Rename, Grow, Unchecked}
-use Rattle.nfs_model.specs.Tree.{Logical, Stripe, Aggregate}
+use Rattle.nfs_model.specs.Tree.{Volume, Logical, Stripe, Aggregate}
 use Rattle.nfs_model.specs.Serial.Create.{no_attributes}
 use Rattle.nfs_model.specs.Parts.{Parts, Hand, Empty, Fresh, Dead, IsBatch, counts}
 use Rattle.nfs_model.specs.Moves.{Carried, FilledInVolume, Emptied, Stored, PartsChange, in_range, batch, first_filled, lowest_batch, fresh_hand, dead_hand, fetched, culled, Carrying, Fetches, Culls, PutsDown, Surveys}
-use Rattle.nfs_rows.proofs.Evaluate.{evaluate}
+use Rattle.nfs_laws.specs.lemmas.Evaluate.{evaluate}
 use Rattle.nfs_rows.proofs.Cases.{root, h, a, b, entry, root_with, volume_with, file}
 
 -- ---- small sets
@@ -120,6 +120,9 @@ under_volume_the_stock_comes_first = record {
   free = go _ (just 2) (just 2) (union (just 0) (just 1)) (simp evaluate refl) (whole (just 2));
   dead = go _ none (just 3) (union (union (just 0) (just 1)) (just 2)) (simp evaluate refl) (nothing_of (just 3));
 }
+
+blocks_of_a_write_under_volume : PartsChange (Write (h 2) 4096 2 (7 ∷ (8 ∷ []))) (Volume 0) (holds (just 0) one_of_each) (holds (insert (both 0 1) 2) by_stock_and_free)
+blocks_of_a_write_under_volume = simp evaluate under_volume_the_stock_comes_first
 
 dead_stay_where_others_are_enough : among by_stock_and_free.dead ≡ false ∷ (false ∷ (false ∷ (true ∷ [])))
 dead_stay_where_others_are_enough = simp (evaluate, in_difference) refl

@@ -1,9 +1,9 @@
 -- READDIR (RFC 1813 section 3.3.16).
 use Rattle.std.proofs.Common.{◌≡◌, true, false, [], ◌∷◌, replicate, refl}
-use Rattle.nfs_model.specs.Types.{Unchecked, Create, Remove, Readdir, Ask, Success, ReaddirDone, NotDirectory, Stale, BadHandle, BadCookie, TooSmall}
+use Rattle.nfs_model.specs.Types.{Unchecked, Create, Mkdir, Remove, Readdir, Ask, Success, ReaddirDone, NotDirectory, Stale, BadHandle, BadCookie, TooSmall}
 use Rattle.nfs_model.specs.Serial.Create.{no_attributes}
 use Rattle.nfs_model.specs.Serial.Step.{serial}
-use Rattle.nfs_rows.proofs.Evaluate.{evaluate}
+use Rattle.nfs_laws.specs.lemmas.Evaluate.{evaluate}
 use Rattle.nfs_rows.proofs.Cases.{start, at, nobody, h, root, fails, a, b, d, entry, no_blocks, file, root_with, holding, with_file, with_four, root_shown, directory_shown}
 
 readdir_of_a_bad_handle :
@@ -109,6 +109,16 @@ cookie_of_an_entry_that_is_gone :
     (serial (serial with_four (Ask (Remove root b) nobody) (at 2) false).server (Ask (Readdir root 4 (replicate 8 0) 512) nobody) (at 3) false).reply
     ≡ Success (ReaddirDone (root_shown 3 2) (entry 5 d 4 ∷ []) true)
 cookie_of_an_entry_that_is_gone = simp evaluate refl
+
+first_cookie_is_3 :
+    (serial (serial start (Ask (Create root a (Unchecked no_attributes)) nobody) (at 1) false).server (Ask (Readdir root 2 (replicate 8 0) 512) nobody) (at 2) false).reply
+    ≡ Success (ReaddirDone (root_shown 2 1) (entry 3 a 2 ∷ []) true)
+first_cookie_is_3 = simp evaluate refl
+
+first_cookie_of_a_made_directory_is_3 :
+    (serial (serial (serial start (Ask (Mkdir root d no_attributes) nobody) (at 1) false).server (Ask (Create (h 2) a (Unchecked no_attributes)) nobody) (at 2) false).server (Ask (Readdir (h 2) 2 (replicate 8 0) 512) nobody) (at 3) false).reply
+    ≡ Success (ReaddirDone (record (directory_shown 2 2 2) { atime = at 1 }) (entry 3 a 3 ∷ []) true)
+first_cookie_of_a_made_directory_is_3 = simp evaluate refl
 
 name_made_again_has_a_new_cookie :
     (serial (serial (serial with_four (Ask (Remove root a) nobody) (at 2) false).server (Ask (Create root a (Unchecked no_attributes)) nobody) (at 3) false).server (Ask (Readdir root 3 (replicate 8 0) 512) nobody) (at 4) false).reply

@@ -4,7 +4,7 @@ use Rattle.nfs_model.specs.Types.{Unchecked, Exclusive, Getattr, Lookup, Create,
 use Rattle.nfs_model.specs.Server.{handle_bytes}
 use Rattle.nfs_model.specs.Serial.Create.{no_attributes}
 use Rattle.nfs_model.specs.Serial.Step.{serial}
-use Rattle.nfs_rows.proofs.Evaluate.{evaluate}
+use Rattle.nfs_laws.specs.lemmas.Evaluate.{evaluate}
 use Rattle.nfs_rows.proofs.Cases.{start, at, nobody, h, root, fails, a, b, d, e, x, entry, block_0, touched_file, exclusive_file, with_file, with_four, root_shown, directory_shown, file_shown, before, changed}
 
 -- ---- checks in order

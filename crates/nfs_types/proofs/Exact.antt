@@ -6,7 +6,8 @@ use Rattle.xdr.proofs.Items.{IsBytes}
 use Rattle.xdr.proofs.Shapes.{all_found, all_again}
 use Rattle.nfs_model.specs.Types as model
 use Rattle.nfs_values.specs.declared.procedure.Procedure.{Procedure}
-use Rattle.nfs_values.specs.declared.procedure.Procedure.TheVariants.{Null, GetAttributes, SetAttributes, Lookup, Read, Write, Create, MakeDirectory, Remove, RemoveDirectory, ReadDirectory, FilesystemStatus, Commit, AdminNull, Census, Grow}
+use Rattle.nfs_values.specs.declared.procedure.Procedure.TheVariants.{Null, GetAttributes, SetAttributes, Lookup, Read, Write, Create, MakeDirectory, Remove}
+use Rattle.nfs_values.specs.declared.procedure.Procedure.TheVariants.{RemoveDirectory, ReadDirectory, FilesystemStatus, Commit, AdminNull, Census, Grow}
 use Rattle.nfs_types.specs.Arguments.{arguments_shape, call_from, Asks, asked_by, asked}
 
 pub asked_is : (procedure : Procedure) (bytes : List ℕ) → asked procedure bytes ≡ asked_by (arguments_shape procedure) (call_from procedure) bytes

@@ -12,46 +12,62 @@ use Rattle.nfs_values.specs.declared.answer.MakeResults.{MakeResults}
 use Rattle.nfs_values.specs.declared.answer.ReadDirectoryResults.{ReadDirectoryResults}
 use Rattle.nfs_values.specs.declared.answer.FilesystemStatusResults.{FilesystemStatusResults}
 use Rattle.nfs_values.specs.declared.answer.CommitResults.{CommitResults}
-use Rattle.nfs_values.specs.Answer.{entry_of, space_of, attributes_shown, attributes_set, looked_up, bytes_read, bytes_written, node_made, name_gone, entries_listed, space_told, file_committed, volume_grown, result_of}
+use Rattle.nfs_values.specs.Answer.{entry_of, space_of, attributes_shown, attributes_set, looked_up, bytes_read, bytes_written, node_made, name_gone}
+use Rattle.nfs_values.specs.Answer.{entries_listed, space_told, file_committed, volume_grown, result_of}
 use Rattle.nfs_values.specs.Attributes.{shown_of, change_of}
 use Rattle.nfs_types.specs.Shapes.{attributes_shape, attributes_value, change_shape, change_value}
-use Rattle.nfs_types.specs.Results.{lookup_shape, lookup_value, read_shape, read_value, write_shape, write_value, made_shape, made_value, readdir_shape, readdir_value, fsstat_shape, fsstat_value, commit_shape, commit_value, answer_bytes, done, result_bytes}
+use Rattle.nfs_types.specs.Results.{lookup_shape, lookup_value, read_shape, read_value, write_shape, write_value, made_shape, made_value, readdir_shape}
+use Rattle.nfs_types.specs.Results.{readdir_value, fsstat_shape, fsstat_value, commit_shape, commit_value, answer_bytes, done, result_bytes}
 
-arm : {R : Type 0} (shape : Shape) (value : R → Value shape) (told : R → model.Answer) (absent : ℕ) → ((r : R) → answer_bytes (told r) ≡ done shape (value r)) → (result : Result R Status) → answer_bytes (result_of told absent result) ≡ result_bytes shape value absent result
+arm : {R : Type 0} (shape : Shape) (value : R → Value shape) (told : R → model.Answer) (absent : ℕ)
+    → ((r : R) → answer_bytes (told r) ≡ done shape (value r)) → (result : Result R Status)
+    → answer_bytes (result_of told absent result) ≡ result_bytes shape value absent result
 arm shape value told absent h (Ok r) = h r
 arm shape value told absent h (Err status) = refl
 
-pub shown_bytes : (result : Result Attributes Status) → answer_bytes (result_of attributes_shown 0 result) ≡ result_bytes attributes_shape (λ a. attributes_value (shown_of a)) 0 result
+pub shown_bytes : (result : Result Attributes Status)
+    → answer_bytes (result_of attributes_shown 0 result) ≡ result_bytes attributes_shape (λ a. attributes_value (shown_of a)) 0 result
 shown_bytes = arm attributes_shape (λ a. attributes_value (shown_of a)) attributes_shown 0 (λ r. refl)
 
-pub set_bytes : (result : Result Change Status) → answer_bytes (result_of attributes_set 2 result) ≡ result_bytes change_shape (λ c. change_value (change_of c)) 2 result
+pub set_bytes : (result : Result Change Status)
+    → answer_bytes (result_of attributes_set 2 result) ≡ result_bytes change_shape (λ c. change_value (change_of c)) 2 result
 set_bytes = arm change_shape (λ c. change_value (change_of c)) attributes_set 2 (λ r. refl)
 
-pub found_bytes : (result : Result LookupResults Status) → answer_bytes (result_of looked_up 1 result) ≡ result_bytes lookup_shape (λ r. lookup_value r.handle (shown_of r.object) (shown_of r.directory)) 1 result
+pub found_bytes : (result : Result LookupResults Status)
+    → answer_bytes (result_of looked_up 1 result) ≡ result_bytes lookup_shape (λ r. lookup_value r.handle (shown_of r.object) (shown_of r.directory)) 1 result
 found_bytes = arm lookup_shape (λ r. lookup_value r.handle (shown_of r.object) (shown_of r.directory)) looked_up 1 (λ r. refl)
 
-pub read_bytes : (result : Result ReadResults Status) → answer_bytes (result_of bytes_read 1 result) ≡ result_bytes read_shape (λ r. read_value (length r.bytes.items) r.eof r.bytes.items) 1 result
+pub read_bytes : (result : Result ReadResults Status)
+    → answer_bytes (result_of bytes_read 1 result) ≡ result_bytes read_shape (λ r. read_value (length r.bytes.items) r.eof r.bytes.items) 1 result
 read_bytes = arm read_shape (λ r. read_value (length r.bytes.items) r.eof r.bytes.items) bytes_read 1 (λ r. refl)
 
-pub written_bytes : (result : Result WriteResults Status) → answer_bytes (result_of bytes_written 2 result) ≡ result_bytes write_shape (λ r. write_value r.count r.verifier.0) 2 result
+pub written_bytes : (result : Result WriteResults Status)
+    → answer_bytes (result_of bytes_written 2 result) ≡ result_bytes write_shape (λ r. write_value r.count r.verifier.0) 2 result
 written_bytes = arm write_shape (λ r. write_value r.count r.verifier.0) bytes_written 2 (λ r. refl)
 
-pub made_bytes : (result : Result MakeResults Status) → answer_bytes (result_of node_made 2 result) ≡ result_bytes made_shape (λ r. made_value r.handle (shown_of r.object) (change_of r.directory)) 2 result
+pub made_bytes : (result : Result MakeResults Status)
+    → answer_bytes (result_of node_made 2 result) ≡ result_bytes made_shape (λ r. made_value r.handle (shown_of r.object) (change_of r.directory)) 2 result
 made_bytes = arm made_shape (λ r. made_value r.handle (shown_of r.object) (change_of r.directory)) node_made 2 (λ r. refl)
 
-pub gone_bytes : (result : Result Change Status) → answer_bytes (result_of name_gone 2 result) ≡ result_bytes change_shape (λ c. change_value (change_of c)) 2 result
+pub gone_bytes : (result : Result Change Status)
+    → answer_bytes (result_of name_gone 2 result) ≡ result_bytes change_shape (λ c. change_value (change_of c)) 2 result
 gone_bytes = arm change_shape (λ c. change_value (change_of c)) name_gone 2 (λ r. refl)
 
-pub listed_bytes : (result : Result ReadDirectoryResults Status) → answer_bytes (result_of entries_listed 1 result) ≡ result_bytes readdir_shape (λ r. readdir_value (shown_of r.directory) (map entry_of r.entries.items) r.eof) 1 result
+pub listed_bytes : (result : Result ReadDirectoryResults Status)
+    → answer_bytes (result_of entries_listed 1 result) ≡ result_bytes readdir_shape
+    (λ r. readdir_value (shown_of r.directory) (map entry_of r.entries.items) r.eof) 1 result
 listed_bytes = arm readdir_shape (λ r. readdir_value (shown_of r.directory) (map entry_of r.entries.items) r.eof) entries_listed 1 (λ r. refl)
 
-pub space_bytes : (result : Result FilesystemStatusResults Status) → answer_bytes (result_of space_told 1 result) ≡ result_bytes fsstat_shape (λ r. fsstat_value (shown_of r.root) (space_of r)) 1 result
+pub space_bytes : (result : Result FilesystemStatusResults Status)
+    → answer_bytes (result_of space_told 1 result) ≡ result_bytes fsstat_shape (λ r. fsstat_value (shown_of r.root) (space_of r)) 1 result
 space_bytes = arm fsstat_shape (λ r. fsstat_value (shown_of r.root) (space_of r)) space_told 1 (λ r. refl)
 
-pub committed_bytes : (result : Result CommitResults Status) → answer_bytes (result_of file_committed 2 result) ≡ result_bytes commit_shape (λ r. commit_value (change_of r.file) r.verifier.0) 2 result
+pub committed_bytes : (result : Result CommitResults Status)
+    → answer_bytes (result_of file_committed 2 result) ≡ result_bytes commit_shape (λ r. commit_value (change_of r.file) r.verifier.0) 2 result
 committed_bytes = arm commit_shape (λ r. commit_value (change_of r.file) r.verifier.0) file_committed 2 (λ r. refl)
 
 pub grown_bytes : (result : Result ℕ Status) → answer_bytes (result_of volume_grown 0 result) ≡ result_bytes Hyper (λ n. n) 0 result
 grown_bytes = arm Hyper (λ n. n) volume_grown 0 (λ r. refl)
 
-pub ruleset outcomes = (shown_bytes, set_bytes, found_bytes, read_bytes, written_bytes, made_bytes, gone_bytes, listed_bytes, space_bytes, committed_bytes, grown_bytes)
+pub ruleset outcomes =
+    (shown_bytes, set_bytes, found_bytes, read_bytes, written_bytes, made_bytes, gone_bytes, listed_bytes, space_bytes, committed_bytes, grown_bytes)

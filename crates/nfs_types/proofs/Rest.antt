@@ -15,7 +15,8 @@ entries_spelled entries = spelling (Chain entry_shape) (map entry_value (map ent
 abbrev pub entry_spelled : Entry → List ℕ
 entry_spelled entry = spelling entry_shape (entry_value (entry_of entry))
 
-pub entries_more : (entries : List Entry) (i : ℕ) (x : Entry) → i < length entries → x ≡ get_or entries i x → entries_spelled (drop i entries) ≡ word 1 ++ (entry_spelled x ++ entries_spelled (drop (i + 1) entries))
+pub entries_more : (entries : List Entry) (i : ℕ) (x : Entry) → i < length entries → x ≡ get_or entries i x
+    → entries_spelled (drop i entries) ≡ word 1 ++ (entry_spelled x ++ entries_spelled (drop (i + 1) entries))
 entries_more entries i x lt e =
     at_drop_more entries_spelled entries i x lt
     ∙ ap (λ (y : Entry). entries_spelled (y ∷ drop (i + 1) entries)) (sym e)
@@ -27,7 +28,8 @@ counts_spelled volumes = flat_map (λ v. spelling count_shape v) (map count_valu
 abbrev pub count_spelled : VolumeCount → List ℕ
 count_spelled volume = spelling count_shape (count_value (count_of volume))
 
-pub counts_more : (volumes : List VolumeCount) (i : ℕ) (d : VolumeCount) → i < length volumes → counts_spelled (drop i volumes) ≡ count_spelled (get_or volumes i d) ++ counts_spelled (drop (i + 1) volumes)
+pub counts_more : (volumes : List VolumeCount) (i : ℕ) (d : VolumeCount) → i < length volumes
+    → counts_spelled (drop i volumes) ≡ count_spelled (get_or volumes i d) ++ counts_spelled (drop (i + 1) volumes)
 counts_more volumes i d lt = at_drop_more counts_spelled volumes i d lt
 
 -- one more item is written

@@ -5,7 +5,13 @@ ghost use Rattle.xdr.specs.Shape.{Void, Pair};
 ghost use Rattle.xdr.specs.Reading.{all_of};
 ghost use Rattle.nfs_values.specs.Call.{call_of};
 ghost use Rattle.nfs_types.specs.Shapes.{handle_shape, target_shape};
-ghost use Rattle.nfs_types.specs.Arguments.{Makes, target_of, asked, asked_by, takes_memory, setattr_shape, range_shape, writing_shape, creating_shape, making_shape, listing_shape, growing_shape, null_call, getattr_call, setattr_call, lookup_call, read_call, write_call, create_call, mkdir_call, remove_call, rmdir_call, readdir_call, fsstat_call, commit_call, census_call, grow_call};
+ghost use Rattle.nfs_types.specs.Arguments.{Makes, target_of, asked, asked_by, takes_memory};
+ghost use Rattle.nfs_types.specs.Arguments.{setattr_shape, range_shape, writing_shape};
+ghost use Rattle.nfs_types.specs.Arguments.{creating_shape, making_shape, listing_shape};
+ghost use Rattle.nfs_types.specs.Arguments.{growing_shape, null_call, getattr_call, setattr_call};
+ghost use Rattle.nfs_types.specs.Arguments.{lookup_call, read_call, write_call, create_call};
+ghost use Rattle.nfs_types.specs.Arguments.{mkdir_call, remove_call, rmdir_call, readdir_call};
+ghost use Rattle.nfs_types.specs.Arguments.{fsstat_call, commit_call, census_call, grow_call};
 
 use crate::bad::Bad;
 use crate::decode::{Decode, StableHow, decode_all};

@@ -3,7 +3,9 @@
 ghost use Rattle.std.specs.Prelude.{length};
 ghost use Rattle.nfs_values.specs.Attributes.{shown_of, change_of};
 ghost use Rattle.nfs_values.specs.Answer.{space_of};
-ghost use Rattle.nfs_types.specs.Results.{lookup_shape, lookup_value, read_shape, read_value, write_shape, write_value, made_shape, made_value, fsstat_shape, fsstat_value, commit_shape, commit_value};
+ghost use Rattle.nfs_types.specs.Results.{lookup_shape, lookup_value, read_shape, read_value};
+ghost use Rattle.nfs_types.specs.Results.{write_shape, write_value, made_shape, made_value};
+ghost use Rattle.nfs_types.specs.Results.{fsstat_shape, fsstat_value, commit_shape, commit_value};
 
 use crate::encode::{Encode, size_of_present, write_absent, write_present};
 use nfs_values::{

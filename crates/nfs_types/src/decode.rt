@@ -5,7 +5,9 @@ ghost use Rattle.xdr.specs.Shape.{Shape, Value, Void, Word, Hyper, Pair, Optiona
 ghost use Rattle.xdr.specs.Reading.{Gives, GivesAll, all_of, read};
 ghost use Rattle.nfs_values.specs.Moment.{moment_of};
 ghost use Rattle.nfs_values.specs.Set.{time_of, set_of, mode_of};
-ghost use Rattle.nfs_types.specs.Shapes.{handle_shape, verifier_shape, moment_shape, moment_value, time_shape, time_value, set_shape, set_value, create_shape, create_value, stable_shape};
+ghost use Rattle.nfs_types.specs.Shapes.{handle_shape, verifier_shape, moment_shape, moment_value};
+ghost use Rattle.nfs_types.specs.Shapes.{time_shape, time_value, set_shape, set_value};
+ghost use Rattle.nfs_types.specs.Shapes.{create_shape, create_value, stable_shape};
 ghost use Rattle.nfs_types.specs.Stable.{stable_word};
 
 use nfs_values::{

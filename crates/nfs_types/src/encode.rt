@@ -1,10 +1,15 @@
 //! Values that are written where room for them was made.
 
-ghost use Rattle.std.specs.Prelude.{◌≡◌, ◌+◌, ◌≤◌, ◌<◌, ◌^◌, ◌++◌, length, Some, None, vec_len, vec_capacity};
-ghost use Rattle.xdr.specs.Shape.{Shape, Value, Void, Word, Hyper, Boolean, Optional, counted, padded, spelling};
+ghost use Rattle.std.specs.Prelude.{◌≡◌, ◌+◌, ◌≤◌, ◌<◌, ◌^◌, ◌++◌, length, Some, None, vec_len};
+ghost use Rattle.std.specs.Prelude.{vec_capacity};
+ghost use Rattle.xdr.specs.Shape.{Shape, Value, Void, Word, Hyper, Boolean, Optional, counted};
+ghost use Rattle.xdr.specs.Shape.{padded, spelling};
 ghost use Rattle.nfs_values.specs.Attributes.{kind_of, kind_word, shown_of, before_of, change_of};
 ghost use Rattle.nfs_values.specs.Moment.{moment_of};
-ghost use Rattle.nfs_types.specs.Shapes.{handle_shape, any_bytes, verifier_shape, moment_shape, moment_value, kind_shape, device_shape, attributes_shape, attributes_value, prior_shape, prior_value, change_shape, change_value};
+ghost use Rattle.nfs_types.specs.Shapes.{handle_shape, any_bytes, verifier_shape, moment_shape};
+ghost use Rattle.nfs_types.specs.Shapes.{moment_value, kind_shape, device_shape, attributes_shape};
+ghost use Rattle.nfs_types.specs.Shapes.{attributes_value, prior_shape, prior_value, change_shape};
+ghost use Rattle.nfs_types.specs.Shapes.{change_value};
 
 use nfs_values::{
     Attributes, Change, Cookie, FileHandle, FileKind, Fileid, Moment, Name, PriorAttributes,

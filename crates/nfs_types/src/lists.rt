@@ -1,11 +1,13 @@
 //! Lists in results.
 
-ghost use Rattle.std.specs.Prelude.{◌≡◌, ◌+◌, ◌≤◌, ◌<◌, ◌^◌, ◌++◌, length, map, vec_len, vec_capacity};
+ghost use Rattle.std.specs.Prelude.{◌≡◌, ◌+◌, ◌≤◌, ◌<◌, ◌^◌, ◌++◌, length, map, vec_len};
+ghost use Rattle.std.specs.Prelude.{vec_capacity};
 ghost use Rattle.std.specs.List.{flat_map};
 ghost use Rattle.xdr.specs.Shape.{Chain, spelling};
 ghost use Rattle.nfs_values.specs.Attributes.{shown_of};
 ghost use Rattle.nfs_values.specs.Answer.{entry_of, count_of};
-ghost use Rattle.nfs_types.specs.Results.{entry_shape, entry_value, readdir_shape, readdir_value, count_shape, count_value, census_shape};
+ghost use Rattle.nfs_types.specs.Results.{entry_shape, entry_value, readdir_shape, readdir_value};
+ghost use Rattle.nfs_types.specs.Results.{count_shape, count_value, census_shape};
 
 use crate::encode::{Encode, size_of_present, write_present};
 use nfs_values::{Entry, ReadDirectoryResults, Verifier, VolumeCount};
@@ -63,7 +65,8 @@ fn write_entries(entries: &[Entry], out: &mut Vec<u8>)
 impl Encode for ReadDirectoryResults {
     ghost shape = { readdir_shape };
 
-    ghost value = { λ r. readdir_value (shown_of r.directory) (map entry_of r.entries.items) r.eof };
+    ghost value = { λ r.
+        readdir_value (shown_of r.directory) (map entry_of r.entries.items) r.eof };
 
     fn size(&self) -> usize {
         size_of_present(&self.directory) + 8 + size_of_entries(&self.entries) + 4

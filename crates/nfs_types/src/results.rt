@@ -1,6 +1,7 @@
 //! Results of calls.
 
-ghost use Rattle.std.specs.Prelude.{◌≡◌, ◌+◌, ◌*◌, ◌≤◌, ◌<◌, ◌^◌, ◌++◌, length, IsOk, OnOk, OnErr, vec_len, vec_capacity};
+ghost use Rattle.std.specs.Prelude.{◌≡◌, ◌+◌, ◌*◌, ◌≤◌, ◌<◌, ◌^◌, ◌++◌, length, IsOk, OnOk, OnErr};
+ghost use Rattle.std.specs.Prelude.{vec_len, vec_capacity};
 ghost use Rattle.nfs_values.specs.Answer.{answer_of};
 ghost use Rattle.nfs_values.specs.Status.{status_of};
 ghost use Rattle.nfs_types.specs.Results.{absent_parts, answer_bytes, done, failed, result_bytes};

@@ -90,9 +90,16 @@ length-entry e = omega (arith, length-append (padded e.name) (hyper e.cookie), l
 pub length-entries : (es : List model.Listed) → length (linked (λ v. spelling entry_shape v) (map entry_value es)) ≡ 4 + entries_size es
 length-entries [] = refl
 length-entries (e ∷ es) =
-    omega (arith, length-entries es, length-entry e, length-append (spelling entry_shape (entry_value e)) (linked (λ v. spelling entry_shape v) (map entry_value es)))
+    omega (
+      arith,
+      length-entries es,
+      length-entry e,
+      length-append (spelling entry_shape (entry_value e))
+          (linked (λ v. spelling entry_shape v) (map entry_value es)),
+    )
 
-pub readdir_size : (directory : model.Shown) (page : List model.Listed) (eof : Bool) → length (answer_bytes (model.ReaddirDone directory page eof)) ≡ 108 + entries_size page
+pub readdir_size : (directory : model.Shown) (page : List model.Listed) (eof : Bool)
+    → length (answer_bytes (model.ReaddirDone directory page eof)) ≡ 108 + entries_size page
 readdir_size directory page eof =
     let chain = linked (λ v. spelling entry_shape v) (map entry_value page) in
     let rest = spelling (Chain entry_shape & Boolean) (map entry_value page, eof) in
@@ -100,7 +107,8 @@ readdir_size directory page eof =
     let front : length (verifier ++ rest) ≡ 8 + length rest = length-append verifier rest in
     omega (arith, front, length-entries page, length-append chain (word (flag eof)))
 
-fitting_by : (b : Bool) (e : model.Listed) (rest : List model.Listed) (room : ℕ) → (b ≡ true → entry_size e ≤ room) → entries_size rest ≤ room - entry_size e → entries_size (cond b (e ∷ rest) []) ≤ room
+fitting_by : (b : Bool) (e : model.Listed) (rest : List model.Listed) (room : ℕ) → (b ≡ true → entry_size e ≤ room) → entries_size rest ≤ room - entry_size e
+    → entries_size (cond b (e ∷ rest) []) ≤ room
 fitting_by true e rest room h le =
     let fits : entry_size e ≤ room = h refl in
     omega (arith, fits, le)
@@ -108,7 +116,8 @@ fitting_by false e rest room h le = omega arith
 
 pub fitting_fits : (es : List model.Listed) (room : ℕ) → entries_size (fitting room es) ≤ room
 fitting_fits [] room = omega arith
-fitting_fits (e ∷ es) room = fitting_by (nat_le (entry_size e) room) e (fitting (room - entry_size e) es) room (leb-true (entry_size e) room) (fitting_fits es (room - entry_size e))
+fitting_fits (e ∷ es) room =
+    fitting_by (nat_le (entry_size e) room) e (fitting (room - entry_size e) es) room (leb-true (entry_size e) room) (fitting_fits es (room - entry_size e))
 
 -- ---- counts of volumes
 

@@ -1,16 +1,19 @@
 -- The reply to a call has its room, and the server after it is as roomy.
-use Rattle.std.proofs.Common.{◌≡◌, ℕ, zero, suc, ◌+◌, ◌-◌, ◌*◌, ◌≤◌, Bool, true, false, cond, List, [], ◌∷◌, length, map, take, drop, Option, Some, None, refl, sym, ap, ◌∙◌, arith}
+use Rattle.std.proofs.Common.{◌≡◌, ℕ, zero, suc, ◌+◌, ◌-◌, ◌*◌, ◌≤◌, Bool, true, false, cond, List, [], ◌∷◌, length, map, take, drop, Option, Some, None}
+use Rattle.std.proofs.Common.{refl, sym, ap, ◌∙◌, arith}
 use Rattle.std.specs.Prelude.{min, max, not, ◌==◌, nat_le, nat_lt, slice_get, slice_set}
 use Rattle.std.specs.FinMap.{get}
 use Rattle.std.proofs.lemmas.Bool.{ltb-false}
 use Rattle.std.proofs.lemmas.List.{length-set, length-take}
 use Rattle.nfs_model.specs.Types as model
-use Rattle.nfs_model.specs.Server.{opening_volume, opening_volumes, opening, FileNode, DirectoryNode, Node, File, Directory, VolumeState, Server, Named, handle_of, most_bytes}
+use Rattle.nfs_model.specs.Server.{opening_volume, opening_volumes, opening, FileNode, DirectoryNode, Node, File, Directory, VolumeState, Server, Named}
+use Rattle.nfs_model.specs.Server.{handle_of, most_bytes}
 use Rattle.nfs_model.specs.Tree.{Layout, VolumeLayout}
 use Rattle.nfs_model.specs.Home.{named_by}
 use Rattle.nfs_model.specs.Shown.{shown}
 use Rattle.nfs_model.specs.Names.{is_dots, name_fault, same_name, dot, dot_dot}
-use Rattle.nfs_model.specs.Locate.{Effect, Fails, Tells, Changes, unless, on_node, on_directory, on_file, Located, located_in, located_by, locate, Found, Naming, named_child, on_name}
+use Rattle.nfs_model.specs.Locate.{Effect, Fails, Tells, Changes, unless, on_node, on_directory, on_file, Located, located_in, located_by, locate, Found}
+use Rattle.nfs_model.specs.Locate.{Naming, named_child, on_name}
 use Rattle.nfs_model.specs.Serial.Setattr.{setattr}
 use Rattle.nfs_model.specs.Serial.Getattr.{getattr}
 use Rattle.nfs_model.specs.Serial.Lookup.{looked_up, lookup_told, lookup}
@@ -30,7 +33,8 @@ use Rattle.nfs_model.specs.Serial.Step.{Step, stay, placed, on, on_two, serve, s
 use Rattle.nfs_model.specs.Serial.AtOnce.{answer_of_two, answer_without_home}
 use Rattle.rpc_msg.specs.Replies.{reply_record}
 use Rattle.rpc_msg.specs.Room.{lookup_room, read_room, readdir_room, change_room, made_room, results_room, reply_room, IsRoomy}
-use Rattle.rpc_msg.proofs.AnswerSizes.{Takes, getattr_size, setattr_size, lookup_size, made_size, gone_size, rename_size, fsstat_size, grow_size, failed_size, write_size, commit_size, read_size, entries_size, readdir_size, fitting_fits, census_size, success_size}
+use Rattle.rpc_msg.proofs.AnswerSizes.{Takes, getattr_size, setattr_size, lookup_size, made_size, gone_size, rename_size, fsstat_size, grow_size, failed_size}
+use Rattle.rpc_msg.proofs.AnswerSizes.{write_size, commit_size, read_size, entries_size, readdir_size, fitting_fits, census_size, success_size}
 
 -- ---- what a call on a volume comes to
 
@@ -48,7 +52,8 @@ tells : (n : ℕ) (old : VolumeState) (answer : model.Answer) → Takes n answer
 unfolding Fits
 tells n old answer t = t
 
-changes : (n : ℕ) (old : VolumeState) (answer : model.Answer) (new : VolumeState) → Takes n answer → new.verifier ≡ old.verifier → Fits n old (Changes answer new)
+changes : (n : ℕ) (old : VolumeState) (answer : model.Answer) (new : VolumeState) → Takes n answer → new.verifier ≡ old.verifier
+    → Fits n old (Changes answer new)
 unfolding Fits
 changes n old answer new t e = (t, e)
 
@@ -64,7 +69,8 @@ node_fits : (n : ℕ) (old : VolumeState) (o : Option Node) (run : Node → Effe
 node_fits n old None run f = fails n old model.Stale
 node_fits n old (Some node) run f = f node
 
-directory_fits : (n : ℕ) (old : VolumeState) (o : Option Node) (run : DirectoryNode → Effect) → ((d : DirectoryNode) → Fits n old (run d)) → Fits n old (on_directory o run)
+directory_fits : (n : ℕ) (old : VolumeState) (o : Option Node) (run : DirectoryNode → Effect) → ((d : DirectoryNode) → Fits n old (run d))
+    → Fits n old (on_directory o run)
 directory_fits n old None run f = fails n old model.Stale
 directory_fits n old (Some (File g)) run f = fails n old model.NotDirectory
 directory_fits n old (Some (Directory d)) run f = f d
@@ -74,7 +80,8 @@ file_fits n old None run f = fails n old model.Stale
 file_fits n old (Some (File g)) run f = f g
 file_fits n old (Some (Directory d)) run f = fails n old model.Invalid
 
-name_fits : (n : ℕ) (name : List ℕ) (moment : model.Moment) (run : Naming → Effect) (volume : VolumeState) (fileid : ℕ) → ((x : Naming) → Fits n x.volume (run x)) → Fits n volume (on_name name moment run volume fileid)
+name_fits : (n : ℕ) (name : List ℕ) (moment : model.Moment) (run : Naming → Effect) (volume : VolumeState) (fileid : ℕ)
+    → ((x : Naming) → Fits n x.volume (run x)) → Fits n volume (on_name name moment run volume fileid)
 name_fits n name moment run volume fileid f =
     directory_fits n volume (get volume.nodes fileid) _ (λ d.
     unless_fits n volume (name_fault name) _ (f (record { volume = volume; fileid = fileid; directory = d; name = name; moment = moment })))
@@ -84,8 +91,10 @@ name_fits n name moment run volume fileid f =
 getattr_fits : (volume : VolumeState) (fileid : ℕ) → Fits 88 volume (getattr volume fileid)
 getattr_fits volume fileid = node_fits 88 volume (get volume.nodes fileid) _ (λ node. tells _ _ _ (getattr_size (shown volume fileid node)))
 
-setattr_fits : (set : model.SetAttributes) (guard : Option model.Moment) (moment : model.Moment) (volume : VolumeState) (fileid : ℕ) → Fits (4 + change_room) volume (setattr set guard moment volume fileid)
-setattr_fits set guard moment volume fileid = node_fits (4 + change_room) volume (get volume.nodes fileid) _ (λ node. unless_fits (4 + change_room) volume _ _ (changes _ _ _ _ (setattr_size _) refl))
+setattr_fits : (set : model.SetAttributes) (guard : Option model.Moment) (moment : model.Moment) (volume : VolumeState) (fileid : ℕ)
+    → Fits (4 + change_room) volume (setattr set guard moment volume fileid)
+setattr_fits set guard moment volume fileid =
+    node_fits (4 + change_room) volume (get volume.nodes fileid) _ (λ node. unless_fits (4 + change_room) volume _ _ (changes _ _ _ _ (setattr_size _) refl))
 
 found_fits : (n : Naming) (o : Option Found) → Fits lookup_room n.volume (lookup_told n o)
 found_fits n None = fails _ _ _
@@ -100,16 +109,20 @@ read_at_fits offset count volume f = omega (arith, length-take (min count most_b
 read_fits : (offset count : ℕ) (volume : VolumeState) (fileid : ℕ) → Fits (read_room count) volume (read offset count volume fileid)
 read_fits offset count volume fileid =
     file_fits (read_room count) volume (get volume.nodes fileid) _ (λ f.
-    if_fits (read_room count) volume (nat_le (length f.bytes) offset) _ _ (tells _ _ _ (read_size 0 true [] (min count most_bytes) (omega arith))) (tells _ _ _ (read_size _ _ _ _ (read_at_fits offset count volume f))))
+    if_fits (read_room count) volume (nat_le (length f.bytes) offset) _ _ (tells _ _ _ (read_size 0 true [] (min count most_bytes) (omega arith)))
+    (tells _ _ _ (read_size _ _ _ _ (read_at_fits offset count volume f))))
 
-write_some_fits : (volume : VolumeState) (fileid : ℕ) (f : FileNode) (offset : ℕ) (written : List ℕ) (moment : model.Moment) → length volume.verifier ≡ 8 → Fits 28 volume (write_some volume fileid f offset written moment)
+write_some_fits : (volume : VolumeState) (fileid : ℕ) (f : FileNode) (offset : ℕ) (written : List ℕ) (moment : model.Moment) → length volume.verifier ≡ 8
+    → Fits 28 volume (write_some volume fileid f offset written moment)
 write_some_fits volume fileid f offset written moment e =
-    unless_fits 28 volume (write_fault volume offset (length written)) _ (unless_fits 28 volume (space_fault volume f offset (length written)) _ (changes _ _ _ _ (write_size _ volume.verifier e) refl))
+    unless_fits 28 volume (write_fault volume offset (length written)) _
+    (unless_fits 28 volume (space_fault volume f offset (length written)) _ (changes _ _ _ _ (write_size _ volume.verifier e) refl))
 
 write_fits : (w : Writing) (volume : VolumeState) (fileid : ℕ) → length volume.verifier ≡ 8 → Fits 28 volume (write w volume fileid)
 write_fits w volume fileid e =
     file_fits 28 volume (get volume.nodes fileid) _ (λ f.
-    if_fits 28 volume (not (w.count == length w.written)) _ _ (fails _ _ _) (if_fits 28 volume (w.count == 0) _ _ (tells _ _ _ (write_size 0 volume.verifier e)) (write_some_fits volume fileid f w.offset _ w.moment e)))
+    if_fits 28 volume (not (w.count == length w.written)) _ _ (fails _ _ _)
+    (if_fits 28 volume (w.count == 0) _ _ (tells _ _ _ (write_size 0 volume.verifier e)) (write_some_fits volume fileid f w.offset _ w.moment e)))
 
 create_over_fits : (n : Naming) (mode : model.CreateMode) (fileid : ℕ) (node : Node) → Fits made_room n.volume (create_over n mode fileid node)
 create_over_fits n (model.Guarded set) fileid node = fails _ _ _
@@ -118,14 +131,16 @@ create_over_fits n (model.Exclusive verifier) fileid (Directory other) = fails _
 create_over_fits n (model.Exclusive verifier) fileid (File f) = if_fits made_room n.volume _ _ _ (tells _ _ _ (made_size _ _ _ _)) (fails _ _ _)
 create_over_fits n (model.Unchecked set) fileid (File f) = unless_fits made_room n.volume _ _ (changes _ _ _ _ (made_size _ _ _ _) refl)
 
-create_at_fits : (n : Naming) (mode : model.CreateMode) (credential : model.Credential) (o : Option Found) → Fits made_room n.volume (create_at n mode credential o)
+create_at_fits : (n : Naming) (mode : model.CreateMode) (credential : model.Credential) (o : Option Found)
+    → Fits made_room n.volume (create_at n mode credential o)
 create_at_fits n mode credential (Some found) = create_over_fits n mode found.fileid found.node
 create_at_fits n mode credential None = unless_fits made_room n.volume _ _ (changes _ _ _ _ (made_size _ _ _ _) refl)
 
 create_fits : (mode : model.CreateMode) (credential : model.Credential) (n : Naming) → Fits made_room n.volume (create mode credential n)
 create_fits mode credential n = if_fits made_room n.volume (is_dots n.name) _ _ (fails _ _ _) (create_at_fits n mode credential (named_child n))
 
-mkdir_at_fits : (n : Naming) (set : model.SetAttributes) (credential : model.Credential) (o : Option Found) → Fits made_room n.volume (mkdir_at n set credential o)
+mkdir_at_fits : (n : Naming) (set : model.SetAttributes) (credential : model.Credential) (o : Option Found)
+    → Fits made_room n.volume (mkdir_at n set credential o)
 mkdir_at_fits n set credential (Some found) = fails _ _ _
 mkdir_at_fits n set credential None = unless_fits made_room n.volume _ _ (changes _ _ _ _ (made_size _ _ _ _) refl)
 
@@ -181,9 +196,11 @@ rename_at_fits r (Some found) to =
 rename_in_fits : (r : Renaming) → Fits rename_room r.from.volume (rename_in r)
 rename_in_fits r =
     unless_fits rename_room r.from.volume (name_fault r.from.name) _
-    (unless_fits rename_room r.from.volume (name_fault r.to.name) _ (if_fits rename_room r.from.volume _ _ _ (fails _ _ _) (rename_at_fits r (named_child r.from) (named_child r.to))))
+    (unless_fits rename_room r.from.volume (name_fault r.to.name) _
+    (if_fits rename_room r.from.volume _ _ _ (fails _ _ _) (rename_at_fits r (named_child r.from) (named_child r.to))))
 
-rename_fits : (from_name to_name : List ℕ) (moment : model.Moment) (volume : VolumeState) (from to : ℕ) → Fits rename_room volume (rename from_name to_name moment volume from to)
+rename_fits : (from_name to_name : List ℕ) (moment : model.Moment) (volume : VolumeState) (from to : ℕ)
+    → Fits rename_room volume (rename from_name to_name moment volume from to)
 rename_fits from_name to_name moment volume from to =
     directory_fits rename_room volume (get volume.nodes from) _ (λ d.
     directory_fits rename_room volume (get volume.nodes to) _ (λ e.
@@ -200,7 +217,8 @@ within : (n : ℕ) → 4 + n ≤ readdir_of n
 within n = omega arith
 
 -- a page within a count
-page_fits : (count : ℕ) (volume : VolumeState) (directory : model.Shown) (remaining page : List model.Listed) → 104 + entries_size page ≤ count → Fits (readdir_of count) volume (page_of directory remaining page)
+page_fits : (count : ℕ) (volume : VolumeState) (directory : model.Shown) (remaining page : List model.Listed) → 104 + entries_size page ≤ count
+    → Fits (readdir_of count) volume (page_of directory remaining page)
 page_fits count volume directory remaining page h =
     tells _ _ _ (record { bytes = omega (arith, h, within count, readdir_size directory page (length page == length remaining)) })
 
@@ -208,7 +226,8 @@ if_knowing : (n : ℕ) (old : VolumeState) (b : Bool) (e d : Effect) → (b ≡ 
 if_knowing n old true e d f g = f refl
 if_knowing n old false e d f g = g refl
 
-paged_fits : (count : ℕ) (volume : VolumeState) (directory : model.Shown) (remaining page : List model.Listed) → entries_size page ≤ count - 104 → Fits (readdir_of count) volume (paged count directory remaining page)
+paged_fits : (count : ℕ) (volume : VolumeState) (directory : model.Shown) (remaining page : List model.Listed) → entries_size page ≤ count - 104
+    → Fits (readdir_of count) volume (paged count directory remaining page)
 paged_fits count volume directory [] page h =
     if_knowing (readdir_of count) volume (nat_lt count 104) _ _ (λ e. fails _ _ _) (λ e.
     let enough : 104 ≤ count = ltb-false count 104 e in
@@ -217,7 +236,8 @@ paged_fits count volume directory (e ∷ es) [] h = fails _ _ _
 paged_fits count volume directory (e ∷ es) (x ∷ xs) h =
     page_fits count volume directory (e ∷ es) (x ∷ xs) (omega (arith, h))
 
-readdir_fits : (cookie : ℕ) (verifier : List ℕ) (count : ℕ) (volume : VolumeState) (fileid : ℕ) → Fits (readdir_room count) volume (readdir cookie verifier count volume fileid)
+readdir_fits : (cookie : ℕ) (verifier : List ℕ) (count : ℕ) (volume : VolumeState) (fileid : ℕ)
+    → Fits (readdir_room count) volume (readdir cookie verifier count volume fileid)
 readdir_fits cookie verifier count volume fileid =
     directory_fits (readdir_room count) volume (get volume.nodes fileid) _ (λ d.
     if_fits (readdir_room count) volume _ _ _ (fails _ _ _) (paged_fits (min count most_bytes) volume _ _ _ (fitting_fits _ (min count most_bytes - 104))))
@@ -241,8 +261,10 @@ success_fits n answer t xid = omega (arith, t.bytes, success_size xid answer)
 stay_fits : (n volumes : ℕ) (server : Server) (answer : model.Answer) → Takes n answer → IsRoomy volumes server → StepFits n volumes (stay server answer)
 stay_fits n volumes server answer h r = record { reply = success_fits n answer h; server = r }
 
-failed_fits : (n volumes : ℕ) (server : Server) (status : model.Status) (absent : ℕ) → 4 + 4 * absent ≤ n → IsRoomy volumes server → StepFits n volumes (stay server (model.Failed status absent))
-failed_fits n volumes server status absent h r = stay_fits n volumes server (model.Failed status absent) (record { bytes = omega (arith, h, failed_size status absent) }) r
+failed_fits : (n volumes : ℕ) (server : Server) (status : model.Status) (absent : ℕ) → 4 + 4 * absent ≤ n → IsRoomy volumes server
+    → StepFits n volumes (stay server (model.Failed status absent))
+failed_fits n volumes server status absent h r =
+    stay_fits n volumes server (model.Failed status absent) (record { bytes = omega (arith, h, failed_size status absent) }) r
 
 abbrev AllEight : List VolumeState → Type 0
 AllEight vs = (i : ℕ) (v : VolumeState) → slice_get vs i ≡ Some v → length v.verifier ≡ 8
@@ -256,16 +278,22 @@ set_eight (x ∷ xs) zero new e a (suc i) v h = a (suc i) v h
 set_eight (x ∷ xs) (suc j) new e a zero v h = a zero v h
 set_eight (x ∷ xs) (suc j) new e a (suc i) v h = set_eight xs j new e (λ k w g. a (suc k) w g) i v h
 
-set_roomy : (volumes : ℕ) (server : Server) (spare : List ℕ) (j : ℕ) (new : VolumeState) → length new.verifier ≡ 8 → IsRoomy volumes server → IsRoomy volumes (record { spare = spare; volumes = slice_set server.volumes j new })
+set_roomy : (volumes : ℕ) (server : Server) (spare : List ℕ) (j : ℕ) (new : VolumeState) → length new.verifier ≡ 8 → IsRoomy volumes server
+    → IsRoomy volumes (record { spare = spare; volumes = slice_set server.volumes j new })
 set_roomy volumes server spare j new e r =
     record { few = omega (arith, r.few, length-set server.volumes j new); verifiers = set_eight server.volumes j new e r.verifiers }
 
-placed_fits : (n volumes : ℕ) (server : Server) (absent index : ℕ) (old : VolumeState) (e : Effect) → slice_get server.volumes index ≡ Some old → Fits n old e → 4 + 4 * absent ≤ n → IsRoomy volumes server → StepFits n volumes (placed server absent index e)
+placed_fits : (n volumes : ℕ) (server : Server) (absent index : ℕ) (old : VolumeState) (e : Effect) → slice_get server.volumes index ≡ Some old
+    → Fits n old e → 4 + 4 * absent ≤ n → IsRoomy volumes server → StepFits n volumes (placed server absent index e)
 unfolding Fits
 placed_fits n volumes server absent index old (Fails status) i f h r = failed_fits n volumes server status absent h r
 placed_fits n volumes server absent index old (Tells answer) i f h r = stay_fits n volumes server answer f r
 placed_fits n volumes server absent index old (Changes answer new) i f h r =
-    record { reply = success_fits n answer f.0; server = set_roomy volumes server server.spare index new (ap (λ (v : List ℕ). length v) f.1 ∙ r.verifiers index old i) r }
+    record {
+      reply = success_fits n answer f.0;
+      server = set_roomy volumes server server.spare index new (ap (λ (v : List ℕ). length v) f.1
+          ∙ r.verifiers index old i) r;
+    }
 
 -- what is located is a volume of the server
 abbrev IsIn : List VolumeState → Option Located → Type 0
@@ -280,19 +308,26 @@ located : (vs : List VolumeState) (o : Option Named) → IsIn vs (located_by vs 
 located vs None = tt
 located vs (Some handle) = in_place vs handle (slice_get vs handle.volume) refl
 
-on_located : (n volumes : ℕ) (server : Server) (absent : ℕ) (o : Option Located) (run : VolumeState → ℕ → Effect) → IsIn server.volumes o → ((volume : VolumeState) (fileid : ℕ) → length volume.verifier ≡ 8 → Fits n volume (run volume fileid)) → 4 + 4 * absent ≤ n → IsRoomy volumes server → StepFits n volumes (on server absent o run)
+on_located : (n volumes : ℕ) (server : Server) (absent : ℕ) (o : Option Located) (run : VolumeState → ℕ → Effect) → IsIn server.volumes o
+    → ((volume : VolumeState) (fileid : ℕ) → length volume.verifier ≡ 8 → Fits n volume (run volume fileid)) → 4 + 4 * absent ≤ n → IsRoomy volumes server
+    → StepFits n volumes (on server absent o run)
 on_located n volumes server absent None run i f h r = failed_fits n volumes server model.BadHandle absent h r
 on_located n volumes server absent (Some l) run i f h r =
     placed_fits n volumes server absent l.named.volume l.volume _ i (f l.volume l.named.fileid (r.verifiers l.named.volume l.volume i)) h r
 
-on_fits : (n volumes : ℕ) (server : Server) (absent : ℕ) (bytes : List ℕ) (run : VolumeState → ℕ → Effect) → ((volume : VolumeState) (fileid : ℕ) → length volume.verifier ≡ 8 → Fits n volume (run volume fileid)) → 4 + 4 * absent ≤ n → IsRoomy volumes server → StepFits n volumes (on server absent (locate server bytes) run)
-on_fits n volumes server absent bytes run = on_located n volumes server absent (locate server bytes) run (located server.volumes (handle_of (length server.volumes) bytes))
+on_fits : (n volumes : ℕ) (server : Server) (absent : ℕ) (bytes : List ℕ) (run : VolumeState → ℕ → Effect)
+    → ((volume : VolumeState) (fileid : ℕ) → length volume.verifier ≡ 8 → Fits n volume (run volume fileid)) → 4 + 4 * absent ≤ n → IsRoomy volumes server
+    → StepFits n volumes (on server absent (locate server bytes) run)
+on_fits n volumes server absent bytes run =
+    on_located n volumes server absent (locate server bytes) run (located server.volumes (handle_of (length server.volumes) bytes))
 
 if_step : (n volumes : ℕ) (b : Bool) (s t : Step) → StepFits n volumes s → StepFits n volumes t → StepFits n volumes (cond b s t)
 if_step n volumes true s t f g = f
 if_step n volumes false s t f g = g
 
-two_located : (n volumes : ℕ) (server : Server) (absent : ℕ) (from to : Option Located) (run : VolumeState → ℕ → ℕ → Effect) → IsIn server.volumes from → ((volume : VolumeState) (a b : ℕ) → Fits n volume (run volume a b)) → 4 + 4 * absent ≤ n → IsRoomy volumes server → StepFits n volumes (on_two server absent from to run)
+two_located : (n volumes : ℕ) (server : Server) (absent : ℕ) (from to : Option Located) (run : VolumeState → ℕ → ℕ → Effect) → IsIn server.volumes from
+    → ((volume : VolumeState) (a b : ℕ) → Fits n volume (run volume a b)) → 4 + 4 * absent ≤ n → IsRoomy volumes server
+    → StepFits n volumes (on_two server absent from to run)
 two_located n volumes server absent None to run i f h r = failed_fits n volumes server model.BadHandle absent h r
 two_located n volumes server absent (Some from) None run i f h r = failed_fits n volumes server model.BadHandle absent h r
 two_located n volumes server absent (Some from) (Some to) run i f h r =
@@ -307,22 +342,29 @@ record GrownFits (volumes : ℕ) (g : Grown) : Type 0 where
   answer : Takes 12 g.answer
   server : IsRoomy volumes g.server
 
-grown_failed : (volumes : ℕ) (server : Server) (status : model.Status) → IsRoomy volumes server → GrownFits volumes (record { answer = model.Failed status 0; server = server })
+grown_failed : (volumes : ℕ) (server : Server) (status : model.Status) → IsRoomy volumes server
+    → GrownFits volumes (record { answer = model.Failed status 0; server = server })
 grown_failed volumes server status r = record { answer = record { bytes = omega (arith, failed_size status 0) }; server = r }
 
 if_grown : (volumes : ℕ) (b : Bool) (g h : Grown) → GrownFits volumes g → GrownFits volumes h → GrownFits volumes (cond b g h)
 if_grown volumes true g h f k = f
 if_grown volumes false g h f k = k
 
-grow_at_fits : (volumes : ℕ) (server : Server) (index : ℕ) (o : Option VolumeState) (ranges : ℕ) → slice_get server.volumes index ≡ o → IsRoomy volumes server → GrownFits volumes (grow_volume server index o ranges)
+grow_at_fits : (volumes : ℕ) (server : Server) (index : ℕ) (o : Option VolumeState) (ranges : ℕ) → slice_get server.volumes index ≡ o
+    → IsRoomy volumes server → GrownFits volumes (grow_volume server index o ranges)
 grow_at_fits volumes server index None ranges e r = grown_failed volumes server model.NoEntry r
 grow_at_fits volumes server index (Some volume) ranges e r =
     if_grown volumes _ _ _ (grown_failed volumes server model.Invalid r)
     (if_grown volumes _ _ _ (grown_failed volumes server model.TooBig r)
     (if_grown volumes _ _ _ (grown_failed volumes server model.NoSpace r)
-    (record { answer = grow_size (volume.total + 1024 * ranges); server = set_roomy volumes server _ index (record volume { total = volume.total + 1024 * ranges }) (r.verifiers index volume e) r })))
+    (record {
+      answer = grow_size (volume.total + 1024 * ranges);
+      server = set_roomy volumes server _ index
+          (record volume { total = volume.total + 1024 * ranges }) (r.verifiers index volume e) r;
+    })))
 
-grow_fits : (volumes : ℕ) (server : Server) (index ranges : ℕ) → IsRoomy volumes server → StepFits 12 volumes (record { reply = model.Success (grow server index ranges).answer; server = (grow server index ranges).server })
+grow_fits : (volumes : ℕ) (server : Server) (index ranges : ℕ) → IsRoomy volumes server
+    → StepFits 12 volumes (record { reply = model.Success (grow server index ranges).answer; server = (grow server index ranges).server })
 grow_fits volumes server index ranges r =
     let g = grow_at_fits volumes server index (slice_get server.volumes index) ranges refl r in
     record { reply = success_fits 12 (grow server index ranges).answer g.answer; server = g.server }
@@ -336,33 +378,49 @@ length-census (v ∷ vs) = ap suc (length-census vs)
 census_fits : (volumes : ℕ) (server : Server) → IsRoomy volumes server → Takes (4 + 20 * volumes) (census server)
 census_fits volumes server r = record { bytes = omega (arith, r.few, length-census server.volumes, census_size (map count_of server.volumes)) }
 
-serve_fits : (volumes : ℕ) (server : Server) (call : model.Call) (who : model.Credential) (moment : model.Moment) → IsRoomy volumes server → StepFits (results_room volumes call) volumes (serve server call who moment)
+serve_fits : (volumes : ℕ) (server : Server) (call : model.Call) (who : model.Credential) (moment : model.Moment) → IsRoomy volumes server
+    → StepFits (results_room volumes call) volumes (serve server call who moment)
 serve_fits volumes server model.Null who moment r = stay_fits 0 volumes server model.NullDone (record { bytes = omega arith }) r
 serve_fits volumes server (model.Getattr handle) who moment r = on_fits 88 volumes server 0 handle _ (λ v f e. getattr_fits v f) (omega arith) r
-serve_fits volumes server (model.Setattr handle set guard) who moment r = on_fits (4 + change_room) volumes server 2 handle _ (λ v f e. setattr_fits set guard moment v f) (omega arith) r
-serve_fits volumes server (model.Lookup directory name) who moment r = on_fits lookup_room volumes server 1 directory _ (λ v f e. name_fits lookup_room name moment _ v f lookup_fits) (omega arith) r
-serve_fits volumes server (model.Read handle offset count) who moment r = on_fits (read_room count) volumes server 1 handle _ (λ v f e. read_fits offset count v f) (omega arith) r
-serve_fits volumes server (model.Write handle offset count written) who moment r = on_fits 28 volumes server 2 handle _ (λ v f e. write_fits (record { offset = offset; count = count; written = written; moment = moment }) v f e) (omega arith) r
-serve_fits volumes server (model.Create directory name mode) who moment r = on_fits made_room volumes server 2 directory _ (λ v f e. name_fits made_room name moment _ v f (create_fits mode who)) (omega arith) r
-serve_fits volumes server (model.Mkdir directory name set) who moment r = on_fits made_room volumes server 2 directory _ (λ v f e. name_fits made_room name moment _ v f (mkdir_fits set who)) (omega arith) r
-serve_fits volumes server (model.Remove directory name) who moment r = on_fits (4 + change_room) volumes server 2 directory _ (λ v f e. name_fits (4 + change_room) name moment _ v f remove_fits) (omega arith) r
-serve_fits volumes server (model.Rmdir directory name) who moment r = on_fits (4 + change_room) volumes server 2 directory _ (λ v f e. name_fits (4 + change_room) name moment _ v f rmdir_fits) (omega arith) r
+serve_fits volumes server (model.Setattr handle set guard) who moment r =
+    on_fits (4 + change_room) volumes server 2 handle _ (λ v f e. setattr_fits set guard moment v f) (omega arith) r
+serve_fits volumes server (model.Lookup directory name) who moment r =
+    on_fits lookup_room volumes server 1 directory _ (λ v f e. name_fits lookup_room name moment _ v f lookup_fits) (omega arith) r
+serve_fits volumes server (model.Read handle offset count) who moment r =
+    on_fits (read_room count) volumes server 1 handle _ (λ v f e. read_fits offset count v f) (omega arith) r
+serve_fits volumes server (model.Write handle offset count written) who moment r =
+    on_fits 28 volumes server 2 handle _ (λ v f e. write_fits (record { offset = offset; count = count; written = written; moment = moment }) v f e)
+    (omega arith) r
+serve_fits volumes server (model.Create directory name mode) who moment r =
+    on_fits made_room volumes server 2 directory _ (λ v f e. name_fits made_room name moment _ v f (create_fits mode who)) (omega arith) r
+serve_fits volumes server (model.Mkdir directory name set) who moment r =
+    on_fits made_room volumes server 2 directory _ (λ v f e. name_fits made_room name moment _ v f (mkdir_fits set who)) (omega arith) r
+serve_fits volumes server (model.Remove directory name) who moment r =
+    on_fits (4 + change_room) volumes server 2 directory _ (λ v f e. name_fits (4 + change_room) name moment _ v f remove_fits) (omega arith) r
+serve_fits volumes server (model.Rmdir directory name) who moment r =
+    on_fits (4 + change_room) volumes server 2 directory _ (λ v f e. name_fits (4 + change_room) name moment _ v f rmdir_fits) (omega arith) r
 serve_fits volumes server (model.Rename from from_name to to_name) who moment r =
-    two_located rename_room volumes server 4 (locate server from) (locate server to) _ (located server.volumes (handle_of (length server.volumes) from)) (λ v a b. rename_fits from_name to_name moment v a b) (omega arith) r
-serve_fits volumes server (model.Readdir directory cookie verifier count) who moment r = on_fits (readdir_room count) volumes server 1 directory _ (λ v f e. readdir_fits cookie verifier count v f) (omega arith) r
+    two_located rename_room volumes server 4 (locate server from) (locate server to) _ (located server.volumes (handle_of (length server.volumes) from))
+    (λ v a b. rename_fits from_name to_name moment v a b) (omega arith) r
+serve_fits volumes server (model.Readdir directory cookie verifier count) who moment r =
+    on_fits (readdir_room count) volumes server 1 directory _ (λ v f e. readdir_fits cookie verifier count v f) (omega arith) r
 serve_fits volumes server (model.Fsstat handle) who moment r = on_fits 144 volumes server 1 handle _ (λ v f e. fsstat_fits v f) (omega arith) r
-serve_fits volumes server (model.Commit handle) who moment r = on_fits (4 + change_room + 8) volumes server 2 handle _ (λ v f e. commit_fits v f e) (omega arith) r
+serve_fits volumes server (model.Commit handle) who moment r =
+    on_fits (4 + change_room + 8) volumes server 2 handle _ (λ v f e. commit_fits v f e) (omega arith) r
 serve_fits volumes server model.Census who moment r = stay_fits (4 + 20 * volumes) volumes server (census server) (census_fits volumes server r) r
 serve_fits volumes server (model.Grow volume ranges) who moment r = grow_fits volumes server volume ranges r
 
-serial_fits : (volumes : ℕ) (server : Server) (call : model.Call) (who : model.Credential) (moment : model.Moment) (starved : Bool) → IsRoomy volumes server → StepFits (results_room volumes call) volumes (serial server (model.Ask call who) moment starved)
+serial_fits : (volumes : ℕ) (server : Server) (call : model.Call) (who : model.Credential) (moment : model.Moment) (starved : Bool) → IsRoomy volumes server
+    → StepFits (results_room volumes call) volumes (serial server (model.Ask call who) moment starved)
 serial_fits volumes server call who moment true r = record { reply = λ xid. omega arith; server = r }
 serial_fits volumes server call who moment false r = serve_fits volumes server call who moment r
 
-pub reply_fits : (volumes : ℕ) (server : Server) (call : model.Call) (who : model.Credential) (moment : model.Moment) (starved : Bool) (xid : ℕ) → IsRoomy volumes server → length (reply_record xid (serial server (model.Ask call who) moment starved).reply) ≤ reply_room volumes call
+pub reply_fits : (volumes : ℕ) (server : Server) (call : model.Call) (who : model.Credential) (moment : model.Moment) (starved : Bool) (xid : ℕ)
+    → IsRoomy volumes server → length (reply_record xid (serial server (model.Ask call who) moment starved).reply) ≤ reply_room volumes call
 reply_fits volumes server call who moment starved xid r = (serial_fits volumes server call who moment starved r).reply xid
 
-pub room_stays : (volumes : ℕ) (server : Server) (asked : model.Asked) (moment : model.Moment) (starved : Bool) → IsRoomy volumes server → IsRoomy volumes (serial server asked moment starved).server
+pub room_stays : (volumes : ℕ) (server : Server) (asked : model.Asked) (moment : model.Moment) (starved : Bool) → IsRoomy volumes server
+    → IsRoomy volumes (serial server asked moment starved).server
 room_stays volumes server asked moment true r = r
 room_stays volumes server (model.Ask call who) moment false r = (serve_fits volumes server call who moment r).server
 room_stays volumes server (model.Refused reply) moment false r = r
@@ -387,7 +445,8 @@ opening_is_roomy layout verifier e =
 
 -- ---- what is answered at once
 
-at_once : (volumes : ℕ) (call : model.Call) (status : model.Status) (absent : ℕ) → 4 + 4 * absent ≤ results_room volumes call → Takes (results_room volumes call) (model.Failed status absent)
+at_once : (volumes : ℕ) (call : model.Call) (status : model.Status) (absent : ℕ) → 4 + 4 * absent ≤ results_room volumes call
+    → Takes (results_room volumes call) (model.Failed status absent)
 at_once volumes call status absent h = record { bytes = omega (arith, h, failed_size status absent) }
 
 two_at_once : (from to : Option Named) → Takes rename_room (answer_of_two 4 from to)
@@ -401,17 +460,20 @@ answer_at_once volumes layout (model.Getattr handle) = at_once volumes (model.Ge
 answer_at_once volumes layout (model.Setattr handle set guard) = at_once volumes (model.Setattr handle set guard) model.BadHandle 2 (omega arith)
 answer_at_once volumes layout (model.Lookup directory name) = at_once volumes (model.Lookup directory name) model.BadHandle 1 (omega arith)
 answer_at_once volumes layout (model.Read handle offset count) = at_once volumes (model.Read handle offset count) model.BadHandle 1 (omega arith)
-answer_at_once volumes layout (model.Write handle offset count written) = at_once volumes (model.Write handle offset count written) model.BadHandle 2 (omega arith)
+answer_at_once volumes layout (model.Write handle offset count written) =
+    at_once volumes (model.Write handle offset count written) model.BadHandle 2 (omega arith)
 answer_at_once volumes layout (model.Create directory name mode) = at_once volumes (model.Create directory name mode) model.BadHandle 2 (omega arith)
 answer_at_once volumes layout (model.Mkdir directory name set) = at_once volumes (model.Mkdir directory name set) model.BadHandle 2 (omega arith)
 answer_at_once volumes layout (model.Remove directory name) = at_once volumes (model.Remove directory name) model.BadHandle 2 (omega arith)
 answer_at_once volumes layout (model.Rmdir directory name) = at_once volumes (model.Rmdir directory name) model.BadHandle 2 (omega arith)
 answer_at_once volumes layout (model.Rename from from_name to to_name) = two_at_once (named_by layout from) (named_by layout to)
-answer_at_once volumes layout (model.Readdir directory cookie verifier count) = at_once volumes (model.Readdir directory cookie verifier count) model.BadHandle 1 (omega arith)
+answer_at_once volumes layout (model.Readdir directory cookie verifier count) =
+    at_once volumes (model.Readdir directory cookie verifier count) model.BadHandle 1 (omega arith)
 answer_at_once volumes layout (model.Fsstat handle) = at_once volumes (model.Fsstat handle) model.BadHandle 1 (omega arith)
 answer_at_once volumes layout (model.Commit handle) = at_once volumes (model.Commit handle) model.BadHandle 2 (omega arith)
 answer_at_once volumes layout model.Census = record { bytes = omega arith }
 answer_at_once volumes layout (model.Grow volume ranges) = at_once volumes (model.Grow volume ranges) model.NoEntry 0 (omega arith)
 
-pub reply_at_once_fits : (volumes : ℕ) (layout : Layout) (call : model.Call) (xid : ℕ) → length (reply_record xid (model.Success (answer_without_home layout call))) ≤ reply_room volumes call
+pub reply_at_once_fits : (volumes : ℕ) (layout : Layout) (call : model.Call) (xid : ℕ)
+    → length (reply_record xid (model.Success (answer_without_home layout call))) ≤ reply_room volumes call
 reply_at_once_fits volumes layout call xid = success_fits (results_room volumes call) (answer_without_home layout call) (answer_at_once volumes layout call) xid

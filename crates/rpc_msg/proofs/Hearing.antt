@@ -53,16 +53,19 @@ asks_decoded credential (Ok call) = tt
 asks_decoded credential (Err fault) = tt
 
 -- with a procedure that is served
-asks_reading : (procedure : Procedure) → is_served procedure ≡ true → (credential : model.Credential) (r : Result (Value (arguments_shape procedure)) Unread) → AsksReading (asked_by credential (r >>= λ v. Ok (call_from procedure v)))
+asks_reading : (procedure : Procedure) → is_served procedure ≡ true → (credential : model.Credential) (r : Result (Value (arguments_shape procedure)) Unread)
+    → AsksReading (asked_by credential (r >>= λ v. Ok (call_from procedure v)))
 asks_reading procedure served credential (Err fault) = tt
 asks_reading Null served credential (Ok v) = tt
 asks_reading GetAttributes served credential (Ok v) = tt
 asks_reading AdminNull served credential (Ok v) = tt
 asks_reading procedure served credential (Ok v) = absurd cc
 
-asked_reading : (procedure : Procedure) → is_served procedure ≡ true → (credential : model.Credential) (bytes : List ℕ) → AsksReading (asked_by credential (asked procedure bytes))
+asked_reading : (procedure : Procedure) → is_served procedure ≡ true → (credential : model.Credential) (bytes : List ℕ)
+    → AsksReading (asked_by credential (asked procedure bytes))
 asked_reading procedure served credential bytes =
-    subst (λ (r : Result model.Call Unread). AsksReading (asked_by credential r)) (sym (asked_is procedure bytes)) (asks_reading procedure served credential (all_of (arguments_shape procedure) bytes))
+    subst (λ (r : Result model.Call Unread). AsksReading (asked_by credential r)) (sym (asked_is procedure bytes))
+    (asks_reading procedure served credential (all_of (arguments_shape procedure) bytes))
 
 -- what holds of what is asked, where it is told
 abbrev pub told : Heard → Result Heard ℕ

@@ -14,7 +14,8 @@ abbrev pub FoundIs : (Procedure → Bool) → Option Procedure → Type 0
 FoundIs keep (Some p) = keep p ≡ true
 FoundIs keep None = Unit {0}
 
-found_first : (keep test : Procedure → Bool) (b : Bool) (p : Procedure) (others : List Procedure) → keep p ≡ b → FoundIs keep (find test others) → FoundIs keep (find test (cond b (p ∷ others) others))
+found_first : (keep test : Procedure → Bool) (b : Bool) (p : Procedure) (others : List Procedure) → keep p ≡ b → FoundIs keep (find test others)
+    → FoundIs keep (find test (cond b (p ∷ others) others))
 found_first keep test true p others e h = elim (test p) as (λ c. FoundIs keep (cond c (Some p) (find test others))) [
   | true ↦ e
   | false ↦ h
@@ -25,7 +26,8 @@ pub found_is : (keep test : Procedure → Bool) (ps : List Procedure) → FoundI
 found_is keep test [] = tt
 found_is keep test (p ∷ ps) = found_first keep test (keep p) p (filter keep ps) refl (found_is keep test ps)
 
-none_first : (test : Procedure → Bool) (b : Bool) (p : Procedure) (others : List Procedure) → ((b ≡ true) → test p ≡ false) → find test others ≡ None → find test (cond b (p ∷ others) others) ≡ None
+none_first : (test : Procedure → Bool) (b : Bool) (p : Procedure) (others : List Procedure) → ((b ≡ true) → test p ≡ false) → find test others ≡ None
+    → find test (cond b (p ∷ others) others) ≡ None
 none_first test true p others h e = rw (h refl) e
 none_first test false p others h e = e
 
@@ -47,10 +49,12 @@ unequal true false h = refl
 unequal true true h = absurd (h refl refl)
 
 -- no procedure that is served has the numbers
-pub none_numbered : (program number : ℕ) → ((p : Procedure) → is_served p ≡ true → numbers_of p ≢ (program, number)) → find (is_numbered program number) procedures ≡ None
+pub none_numbered : (program number : ℕ) → ((p : Procedure) → is_served p ≡ true → numbers_of p ≢ (program, number))
+    → find (is_numbered program number) procedures ≡ None
 none_numbered program number h =
     find-none is_served (is_numbered program number) all_procedures (λ p s.
-    unequal (eqb (numbers_of p).0 program) (eqb (numbers_of p).1 number) (λ e d. h p s (same_pair (numbers_of p) program number (eqb-true _ _ e) (eqb-true _ _ d))))
+    unequal (eqb (numbers_of p).0 program) (eqb (numbers_of p).1 number)
+    (λ e d. h p s (same_pair (numbers_of p) program number (eqb-true _ _ e) (eqb-true _ _ d))))
 
 -- one that is served is found by its numbers
 pub find_again : (p : Procedure) → is_served p ≡ true → find (is_numbered (numbers_of p).0 (numbers_of p).1) procedures ≡ Some p
@@ -59,5 +63,6 @@ find_again GetAttributes s = refl
 find_again AdminNull s = refl
 find_again p s = absurd cc
 
-pub some_numbered : (program number : ℕ) (p : Procedure) → numbers_of p ≡ (program, number) → is_served p ≡ true → find (is_numbered program number) procedures ≡ Some p
+pub some_numbered : (program number : ℕ) (p : Procedure) → numbers_of p ≡ (program, number) → is_served p ≡ true
+    → find (is_numbered program number) procedures ≡ Some p
 some_numbered program number p e s = subst (λ (n : ℕ × ℕ). find (is_numbered n.0 n.1) procedures ≡ Some p) e (find_again p s)

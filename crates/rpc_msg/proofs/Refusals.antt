@@ -10,7 +10,9 @@ use Rattle.nfs_values.specs.declared.procedure.Procedure.{Procedure}
 use Rattle.nfs_types.specs.Arguments.{asked}
 use Rattle.nfs_types.specs.Shapes.{◌&◌}
 use Rattle.rpc_msg.specs.Replies.{auth_shape, reply_record, IsRefusal, IsShort}
-use Rattle.rpc_msg.specs.Heads.{◌>>=◌, Stop, Incomplete, Refuse, Body, Head, Call, Refused, Faulty, whole, version_at, numbers_shape, auth_sys_shape, body_of, user_of, acting, credential_at, version_of, procedures, is_numbered, available, of_version, procedure_of, body_at, under, xid_of, head_from, head_of}
+use Rattle.rpc_msg.specs.Heads.{◌>>=◌, Stop, Incomplete, Refuse, Body, Head, Call, Refused, Faulty, whole, version_at, numbers_shape, auth_sys_shape, body_of}
+use Rattle.rpc_msg.specs.Heads.{user_of, acting, credential_at, version_of, procedures, is_numbered, available, of_version, procedure_of, body_at, under}
+use Rattle.rpc_msg.specs.Heads.{xid_of, head_from, head_of}
 use Rattle.rpc_msg.specs.Room.{refusal_room}
 use Rattle.rpc_msg.specs.Records.{asked_by, heard_from, heard}
 use Rattle.rpc_msg.proofs.Hearing.{same_heard}
@@ -58,7 +60,8 @@ credential_sound : (flavor size : ℕ) (bytes : List ℕ) → IsSound (credentia
 credential_sound flavor size bytes =
     if_sound (ltb 1 flavor) _ _ tt
     (if_sound (ltb 400 size) _ _ tt
-    (then_sound (body_of (read (Fixed size) bytes)) _ (body_sound (read (Fixed size) bytes)) (λ b. then_sound (acting flavor b.0) _ (acting_sound flavor b.0) (λ c. tt))))
+    (then_sound (body_of (read (Fixed size) bytes)) _ (body_sound (read (Fixed size) bytes))
+    (λ b. then_sound (acting flavor b.0) _ (acting_sound flavor b.0) (λ c. tt))))
 
 version_sound : (bytes : List ℕ) → IsSound (version_at bytes)
 version_sound bytes = then_sound (whole (read Word bytes)) _ (whole_sound (read Word bytes)) (λ v. if_sound (eqb v.0 2) _ _ tt tt)
@@ -69,7 +72,8 @@ call_sound bytes =
     then_sound (whole (read numbers_shape rest)) _ (whole_sound (read numbers_shape rest)) (λ n.
     then_sound (credential_at n.0.1.1.1.0 n.0.1.1.1.1 n.1) _ (credential_sound n.0.1.1.1.0 n.0.1.1.1.1 n.1) (λ c.
     then_sound (whole (read auth_shape c.1)) _ (whole_sound (read auth_shape c.1)) (λ v.
-    then_sound (procedure_of n.0.0 n.0.1.0 n.0.1.1.0) _ (of_version_sound (version_of n.0.0) n.0.1.0 (find (is_numbered n.0.0 n.0.1.1.0) procedures)) (λ p. tt)))))
+    then_sound (procedure_of n.0.0 n.0.1.0 n.0.1.1.0) _ (of_version_sound (version_of n.0.0) n.0.1.0 (find (is_numbered n.0.0 n.0.1.1.0) procedures))
+    (λ p. tt)))))
 
 -- ---- the head and the record
 

@@ -1,5 +1,6 @@
 -- What is heard of a record is what its spellings say.
-use Rattle.std.proofs.Common.{◌≡◌, ◌≢◌, ℕ, ◌+◌, ◌<◌, ◌≤◌, ◌^◌, Bool, true, false, cond, eqb, ltb, List, ◌++◌, length, replicate, Option, Some, None, Result, Ok, Err, find, refl, sym, ap, subst, ◌∙◌, append_assoc, arith, inl, inr}
+use Rattle.std.proofs.Common.{◌≡◌, ◌≢◌, ℕ, ◌+◌, ◌<◌, ◌≤◌, ◌^◌, Bool, true, false, cond, eqb, ltb, List, ◌++◌, length, replicate, Option, Some, None, Result}
+use Rattle.std.proofs.Common.{Ok, Err, find, refl, sym, ap, subst, ◌∙◌, append_assoc, arith, inl, inr}
 use Rattle.std.proofs.lemmas.Bool.{ltb-true, ltb-false, eqb-true, eqb-false}
 use Rattle.xdr.specs.declared.fault.Fault.{Fault as Unread}
 use Rattle.xdr.specs.declared.fault.Fault.TheVariants as unreads
@@ -15,10 +16,13 @@ use Rattle.nfs_types.specs.Arguments.{asked}
 use Rattle.nfs_types.specs.Shapes.{◌&◌}
 use Rattle.nfs_types.proofs.Exact.{asked_found, asked_again}
 use Rattle.rpc_msg.specs.Replies.{auth_shape}
-use Rattle.rpc_msg.specs.Heads.{◌>>=◌, Stop, Body, whole, numbers_shape, auth_sys_shape, nobody, body_of, user_of, acting, bad_credential, rejected_credential, version_of, procedures, is_numbered, available, of_version, procedure_of, under, xid_of, head_from, Refuse}
+use Rattle.rpc_msg.specs.Heads.{◌>>=◌, Stop, Body, whole, numbers_shape, auth_sys_shape, nobody, body_of, user_of, acting, bad_credential}
+use Rattle.rpc_msg.specs.Heads.{rejected_credential, version_of, procedures, is_numbered, available, of_version, procedure_of, under, xid_of, head_from}
+use Rattle.rpc_msg.specs.Heads.{Refuse}
 use Rattle.rpc_msg.specs.Calls.{IsCall, call_shape, call_value}
 use Rattle.rpc_msg.specs.Records.{asked_by, heard_from, heard}
-use Rattle.rpc_msg.specs.Hearing.{Begins, BeginsNone, Opens, flavor_of, size_of, Acts, IsHead, NoMessage, NoVersion, NoNumbers, NoBody, NoVerifier, TooLong, BadPadding, NoUser, HasBadCredential, IsHeardAs}
+use Rattle.rpc_msg.specs.Hearing.{Begins, BeginsNone, Opens, flavor_of, size_of, Acts, IsHead, NoMessage, NoVersion, NoNumbers, NoBody, NoVerifier, TooLong}
+use Rattle.rpc_msg.specs.Hearing.{BadPadding, NoUser, HasBadCredential, IsHeardAs}
 use Rattle.rpc_msg.proofs.Numbered.{some_numbered}
 use Rattle.rpc_msg.proofs.Spelled.{IsBytes-front, procedure_found, from_version, from_numbers, from_credential, from_verifier, joined}
 
@@ -86,18 +90,37 @@ no_call : (r : Result model.Call Unread) (call : model.Call) (fault : Unread) �
 no_call (Ok c) call fault e f = absurd cc
 no_call (Err g) call fault e f = absurd cc
 
-call_told : (bytes : List ℕ) (xid : ℕ) (p : Procedure) (who : model.Credential) (arguments : List ℕ) → IsBytes arguments → IsCall bytes xid p who arguments → (r : Result model.Call Unread) → asked p arguments ≡ r → IsHeardAs bytes (Ok (record { xid = xid; asked = asked_by who r }))
+call_told : (bytes : List ℕ) (xid : ℕ) (p : Procedure) (who : model.Credential) (arguments : List ℕ) → IsBytes arguments → IsCall bytes xid p who arguments
+    → (r : Result model.Call Unread) → asked p arguments ≡ r → IsHeardAs bytes (Ok (record { xid = xid; asked = asked_by who r }))
 call_told bytes xid p who arguments fits c (Ok call) e = record { procedure = p; arguments = arguments; head = c; asks = asked_found p arguments call fits e }
 call_told bytes xid p who arguments fits c (Err fault) e =
-    record { procedure = p; who = who; arguments = arguments; head = c; none = λ call a. no_call (asked p arguments) call fault e (asked_again p arguments call a) }
+    record {
+      procedure = p;
+      who = who;
+      arguments = arguments;
+      head = c;
+      none = λ call a. no_call (asked p arguments) call fault e
+          (asked_again p arguments call a);
+    }
 
 -- a head that is all there, of a procedure that is served
-made_call : (bytes : List ℕ) (xid program version number : ℕ) (who : model.Credential) (arguments : List ℕ) (p : Procedure) → IsHead bytes xid program version number who arguments → procedure_of program version number ≡ Ok p → IsCall bytes xid p who arguments
+made_call : (bytes : List ℕ) (xid program version number : ℕ) (who : model.Credential) (arguments : List ℕ) (p : Procedure)
+    → IsHead bytes xid program version number who arguments → procedure_of program version number ≡ Ok p → IsCall bytes xid p who arguments
 made_call bytes xid program version number who arguments p h e =
     let ps = procedure_found program version number p e in
     let G : ℕ → ℕ → Type 0 = λ a b. Begins call_shape (call_value xid (a, b) version h.cred h.verf) bytes arguments in
     let both : G (numbers_of p).0 (numbers_of p).1 = subst (λ (b : ℕ). G (numbers_of p).0 b) (sym ps.2) (subst (λ (a : ℕ). G a number) (sym ps.1) h.begins) in
-    record { version = version; cred = h.cred; verf = h.verf; served = ps.3; version_is = ap version_of ps.1 ∙ ps.0; acts_for = h.acts_for; fits = both.fits; bytes_are = both.parts }
+    record {
+      version = version;
+      cred = h.cred;
+      verf = h.verf;
+      served = ps.3;
+      version_is = ap version_of ps.1
+          ∙ ps.0;
+      acts_for = h.acts_for;
+      fits = both.fits;
+      bytes_are = both.parts;
+    }
 
 abbrev ends : model.Credential → List ℕ → Procedure → Result Body Stop
 ends who arguments p = Ok (record { procedure = p; credential = who; arguments = arguments })
@@ -107,7 +130,8 @@ none_found None p e f = absurd cc
 none_found (Some q) p e f = absurd cc
 
 -- the procedure, where the version is served or not
-agreed_told : (bytes : List ℕ) (xid program version number served : ℕ) (who : model.Credential) (arguments : List ℕ) → IsBytes arguments → IsHead bytes xid program version number who arguments → version_of program ≡ Some served
+agreed_told : (bytes : List ℕ) (xid program version number served : ℕ) (who : model.Credential) (arguments : List ℕ) → IsBytes arguments
+    → IsHead bytes xid program version number who arguments → version_of program ≡ Some served
     → (b : Bool) → eqb version served ≡ b → (f : Option Procedure) → find (is_numbered program number) procedures ≡ f
     → Told bytes xid (cond b (available f) (Err (Refuse (model.ProgramMismatch served served))) >>= ends who arguments)
 agreed_told bytes xid program version number served who arguments fits h e true same (Some p) f =
@@ -125,10 +149,23 @@ agreed_told bytes xid program version number served who arguments fits h e true 
       served_is = e ∙ ap (λ (n : ℕ). Some n) (sym version_is);
       none = λ p s n. none_found (find (is_numbered program number) procedures) p f (some_numbered program number p n s);
     }
-agreed_told bytes xid program version number served who arguments fits h e false other f g =
-    (refl, record { program = program; version = version; number = number; who = who; arguments = arguments; head = h; served_is = e; other = eqb-false version served other })
+agreed_told bytes xid program version number served who arguments fits h e false other f g = (
+  refl,
+  record {
+    program = program;
+    version = version;
+    number = number;
+    who = who;
+    arguments = arguments;
+    head = h;
+    served_is = e;
+    other = eqb-false
+        version served other;
+  },
+)
 
-procedure_told : (bytes : List ℕ) (xid program version number : ℕ) (who : model.Credential) (arguments : List ℕ) → IsBytes arguments → IsHead bytes xid program version number who arguments
+procedure_told : (bytes : List ℕ) (xid program version number : ℕ) (who : model.Credential) (arguments : List ℕ) → IsBytes arguments
+    → IsHead bytes xid program version number who arguments
     → (o : Option ℕ) → version_of program ≡ o → Told bytes xid (of_version o version (find (is_numbered program number) procedures) >>= ends who arguments)
 procedure_told bytes xid program version number who arguments fits h None e =
     record { program = program; version = version; number = number; who = who; arguments = arguments; head = h; none = e }
@@ -136,7 +173,9 @@ procedure_told bytes xid program version number who arguments fits h (Some serve
     agreed_told bytes xid program version number served who arguments fits h e (eqb version served) refl (find (is_numbered program number) procedures) refl
 
 -- the verifier
-whole_head : (bytes : List ℕ) (xid : ℕ) (n : Value numbers_shape) (rest more arguments : List ℕ) (who : model.Credential) (verf : Value auth_shape) → Opens bytes xid n rest → Acts (flavor_of n) (size_of n) rest who more → Begins auth_shape verf more arguments → IsHead bytes xid n.0 n.1.0 n.1.1.0 who arguments
+whole_head : (bytes : List ℕ) (xid : ℕ) (n : Value numbers_shape) (rest more arguments : List ℕ) (who : model.Credential) (verf : Value auth_shape)
+    → Opens bytes xid n rest → Acts (flavor_of n) (size_of n) rest who more → Begins auth_shape verf more arguments
+    → IsHead bytes xid n.0 n.1.0 n.1.1.0 who arguments
 whole_head bytes xid n rest more arguments who verf o a v =
     let size_is : size_of n ≡ length a.body = sym a.begins.fits in
     let front : List ℕ → List ℕ = λ t. spelling (Word & Word & Word & numbers_shape) (xid, (0, (2, n))) ++ t in
@@ -151,10 +190,23 @@ whole_head bytes xid n rest more arguments who verf o a v =
       cred = (flavor_of n, a.body);
       verf = verf;
       acts_for = a.acts_for;
-      begins = record { fits = (f.0, (f.1.0, (f.1.1.0, (f.1.1.1.0, (f.1.1.1.1.0, (f.1.1.1.1.1.0, ((f.1.1.1.1.1.1.0, (short, body_fits)), v.fits))))))); parts = parts };
+      begins = record {
+        fits = (
+          f.0,
+          (
+            f.1.0,
+            (
+              f.1.1.0,
+              (f.1.1.1.0, (f.1.1.1.1.0, (f.1.1.1.1.1.0, ((f.1.1.1.1.1.1.0, (short, body_fits)), v.fits)))),
+            ),
+          ),
+        );
+        parts = parts;
+      };
     }
 
-verifier_told : (bytes : List ℕ) (xid : ℕ) (n : Value numbers_shape) (rest more : List ℕ) (who : model.Credential) → IsBytes more → Opens bytes xid n rest → Acts (flavor_of n) (size_of n) rest who more
+verifier_told : (bytes : List ℕ) (xid : ℕ) (n : Value numbers_shape) (rest more : List ℕ) (who : model.Credential) → IsBytes more → Opens bytes xid n rest
+    → Acts (flavor_of n) (size_of n) rest who more
     → (r : Reads (Value auth_shape)) → read auth_shape more ≡ r → Told bytes xid (whole r >>= from_verifier (n, rest) (who, more))
 verifier_told bytes xid n rest more who fits o a (Err fault) e = inl (refl, NoVerifier xid n rest more who o a (none_begun auth_shape more fault e))
 verifier_told bytes xid n rest more who fits o a (Ok v) e =
@@ -169,18 +221,33 @@ no_user (Err g) v fault e f = absurd cc
 abbrev after_body : Value numbers_shape → List ℕ → List ℕ → List ℕ → Result model.Credential Stop → Result Body Stop
 after_body n rest body more r = (r >>= λ c. Ok (c, more)) >>= from_credential (n, rest)
 
-user_told : (bytes : List ℕ) (xid : ℕ) (n : Value numbers_shape) (rest body more : List ℕ) → IsBytes more → IsBytes body → Opens bytes xid n rest → size_of n ≤ 400 → Begins (Fixed (size_of n)) body rest more → flavor_of n ≡ 1
+user_told : (bytes : List ℕ) (xid : ℕ) (n : Value numbers_shape) (rest body more : List ℕ) → IsBytes more → IsBytes body → Opens bytes xid n rest
+    → size_of n ≤ 400 → Begins (Fixed (size_of n)) body rest more → flavor_of n ≡ 1
     → (r : Result (Value auth_sys_shape) Unread) → all_of auth_sys_shape body ≡ r → Told bytes xid (after_body n rest body more (user_of r))
 user_told bytes xid n rest body more fits body_fits o small b one (Ok v) e =
-    verifier_told bytes xid n rest more _ fits o (record { body = body; small = small; begins = b; acts_for = inr (one, (v, all_found auth_sys_shape body v body_fits e, refl)) }) (read auth_shape more) refl
+    verifier_told bytes xid n rest more _ fits o
+    (record { body = body; small = small; begins = b; acts_for = inr (one, (v, all_found auth_sys_shape body v body_fits e, refl)) })
+    (read auth_shape more) refl
 user_told bytes xid n rest body more fits body_fits o small b one (Err fault) e =
     let known : flavor_of n ≤ 1 = omega (arith, one) in
-    inl (refl, record { numbers = n; rest = rest; opens = o; known = known; bad = NoUser body more small b one (λ v s. no_user (all_of auth_sys_shape body) v fault e (all_again auth_sys_shape body v s)) })
+    inl (
+      refl,
+      record {
+        numbers = n;
+        rest = rest;
+        opens = o;
+        known = known;
+        bad = NoUser body more small b one
+            (λ v s. no_user (all_of auth_sys_shape body) v fault e (all_again auth_sys_shape body v s));
+      },
+    )
 
-acting_told : (bytes : List ℕ) (xid : ℕ) (n : Value numbers_shape) (rest body more : List ℕ) → IsBytes more → IsBytes body → Opens bytes xid n rest → size_of n ≤ 400 → Begins (Fixed (size_of n)) body rest more → flavor_of n ≤ 1
+acting_told : (bytes : List ℕ) (xid : ℕ) (n : Value numbers_shape) (rest body more : List ℕ) → IsBytes more → IsBytes body → Opens bytes xid n rest
+    → size_of n ≤ 400 → Begins (Fixed (size_of n)) body rest more → flavor_of n ≤ 1
     → (b : Bool) → eqb (flavor_of n) 0 ≡ b → Told bytes xid (after_body n rest body more (cond b (Ok nobody) (user_of (all_of auth_sys_shape body))))
 acting_told bytes xid n rest body more fits body_fits o small b known true e =
-    verifier_told bytes xid n rest more nobody fits o (record { body = body; small = small; begins = b; acts_for = inl (eqb-true (flavor_of n) 0 e, refl) }) (read auth_shape more) refl
+    verifier_told bytes xid n rest more nobody fits o (record { body = body; small = small; begins = b; acts_for = inl (eqb-true (flavor_of n) 0 e, refl) })
+    (read auth_shape more) refl
 acting_told bytes xid n rest body more fits body_fits o small b known false e =
     let other = eqb-false (flavor_of n) 0 e in
     user_told bytes xid n rest body more fits body_fits o small b (omega (arith, known, other)) (all_of auth_sys_shape body) refl
@@ -188,9 +255,17 @@ acting_told bytes xid n rest body more fits body_fits o small b known false e =
 abbrev in_body : Value numbers_shape → List ℕ → Reads (List ℕ) → Result Body Stop
 in_body n rest r = (body_of r >>= λ b. acting (flavor_of n) b.0 >>= λ c. Ok (c, b.1)) >>= from_credential (n, rest)
 
-bad_padding : (bytes : List ℕ) (xid : ℕ) (n : Value numbers_shape) (rest : List ℕ) → Opens bytes xid n rest → flavor_of n ≤ 1 → size_of n ≤ 400 → (fault : Unread) → fault ≢ unreads.Short → read (Fixed (size_of n)) rest ≡ Err fault → HasBadCredential bytes xid
+bad_padding : (bytes : List ℕ) (xid : ℕ) (n : Value numbers_shape) (rest : List ℕ) → Opens bytes xid n rest → flavor_of n ≤ 1 → size_of n ≤ 400
+    → (fault : Unread) → fault ≢ unreads.Short → read (Fixed (size_of n)) rest ≡ Err fault → HasBadCredential bytes xid
 bad_padding bytes xid n rest o known small fault other e =
-    record { numbers = n; rest = rest; opens = o; known = known; bad = BadPadding small (fixed_long (size_of n) rest fault other e) (none_begun (Fixed (size_of n)) rest fault e) }
+    record {
+      numbers = n;
+      rest = rest;
+      opens = o;
+      known = known;
+      bad = BadPadding small (fixed_long (size_of n) rest fault other e)
+          (none_begun (Fixed (size_of n)) rest fault e);
+    }
 
 body_told : (bytes : List ℕ) (xid : ℕ) (n : Value numbers_shape) (rest : List ℕ) → IsBytes rest → Opens bytes xid n rest → flavor_of n ≤ 1 → size_of n ≤ 400
     → (r : Reads (List ℕ)) → read (Fixed (size_of n)) rest ≡ r → Told bytes xid (in_body n rest r)
@@ -200,20 +275,29 @@ body_told bytes xid n rest fits o known small (Ok x) e =
     let body_fits = IsBytes-front x.0 (zeros ++ x.1) (subst IsBytes (b.begins.parts ∙ append_assoc x.0 zeros x.1) fits) in
     acting_told bytes xid n rest x.0 x.1 b.rest_fits body_fits o small b.begins known (eqb (flavor_of n) 0) refl
 body_told bytes xid n rest fits o known small (Err unreads.Short) e = inl (refl, NoBody xid n rest o known small (fixed_short (size_of n) rest e))
-body_told bytes xid n rest fits o known small (Err unreads.BadBool) e = inl (refl, bad_padding bytes xid n rest o known small unreads.BadBool (λ s. absurd cc) e)
-body_told bytes xid n rest fits o known small (Err unreads.BadEnum) e = inl (refl, bad_padding bytes xid n rest o known small unreads.BadEnum (λ s. absurd cc) e)
+body_told bytes xid n rest fits o known small (Err unreads.BadBool) e =
+    inl (refl, bad_padding bytes xid n rest o known small unreads.BadBool (λ s. absurd cc) e)
+body_told bytes xid n rest fits o known small (Err unreads.BadEnum) e =
+    inl (refl, bad_padding bytes xid n rest o known small unreads.BadEnum (λ s. absurd cc) e)
 body_told bytes xid n rest fits o known small (Err unreads.BadPad) e = inl (refl, bad_padding bytes xid n rest o known small unreads.BadPad (λ s. absurd cc) e)
-body_told bytes xid n rest fits o known small (Err unreads.TooLong) e = inl (refl, bad_padding bytes xid n rest o known small unreads.TooLong (λ s. absurd cc) e)
-body_told bytes xid n rest fits o known small (Err unreads.LeftOver) e = inl (refl, bad_padding bytes xid n rest o known small unreads.LeftOver (λ s. absurd cc) e)
+body_told bytes xid n rest fits o known small (Err unreads.TooLong) e =
+    inl (refl, bad_padding bytes xid n rest o known small unreads.TooLong (λ s. absurd cc) e)
+body_told bytes xid n rest fits o known small (Err unreads.LeftOver) e =
+    inl (refl, bad_padding bytes xid n rest o known small unreads.LeftOver (λ s. absurd cc) e)
 
 size_told : (bytes : List ℕ) (xid : ℕ) (n : Value numbers_shape) (rest : List ℕ) → IsBytes rest → Opens bytes xid n rest → flavor_of n ≤ 1
-    → (b : Bool) → ltb 400 (size_of n) ≡ b → Told bytes xid (cond b (Err bad_credential) (body_of (read (Fixed (size_of n)) rest) >>= λ b. acting (flavor_of n) b.0 >>= λ c. Ok (c, b.1)) >>= from_credential (n, rest))
-size_told bytes xid n rest fits o known true e = inl (refl, record { numbers = n; rest = rest; opens = o; known = known; bad = TooLong (ltb-true 400 (size_of n) e) })
+    → (b : Bool) → ltb 400 (size_of n) ≡ b → Told bytes xid
+    (cond b (Err bad_credential) (body_of (read (Fixed (size_of n)) rest) >>= λ b. acting (flavor_of n) b.0 >>= λ c. Ok (c, b.1)) >>= from_credential
+    (n, rest))
+size_told bytes xid n rest fits o known true e =
+    inl (refl, record { numbers = n; rest = rest; opens = o; known = known; bad = TooLong (ltb-true 400 (size_of n) e) })
 size_told bytes xid n rest fits o known false e = body_told bytes xid n rest fits o known (ltb-false 400 (size_of n) e) (read (Fixed (size_of n)) rest) refl
 
 flavor_told : (bytes : List ℕ) (xid : ℕ) (n : Value numbers_shape) (rest : List ℕ) → IsBytes rest → Opens bytes xid n rest
     → (b : Bool) → ltb 1 (flavor_of n) ≡ b
-    → Told bytes xid (cond b (Err rejected_credential) (cond (ltb 400 (size_of n)) (Err bad_credential) (body_of (read (Fixed (size_of n)) rest) >>= λ b. acting (flavor_of n) b.0 >>= λ c. Ok (c, b.1))) >>= from_credential (n, rest))
+    → Told bytes xid (cond b (Err rejected_credential)
+    (cond (ltb 400 (size_of n)) (Err bad_credential)
+    (body_of (read (Fixed (size_of n)) rest) >>= λ b. acting (flavor_of n) b.0 >>= λ c. Ok (c, b.1))) >>= from_credential (n, rest))
 flavor_told bytes xid n rest fits o true e = inr (refl, record { numbers = n; rest = rest; opens = o; other = ltb-true 1 (flavor_of n) e })
 flavor_told bytes xid n rest fits o false e = size_told bytes xid n rest fits o (ltb-false 1 (flavor_of n) e) (ltb 400 (size_of n)) refl
 
@@ -223,14 +307,17 @@ numbers_told : (bytes : List ℕ) (xid : ℕ) (rest : List ℕ) → IsBytes rest
 numbers_told bytes xid rest fits b (Err fault) e = inl (refl, NoNumbers xid rest b (none_begun numbers_shape rest fault e))
 numbers_told bytes xid rest fits b (Ok n) e =
     let c = begun numbers_shape rest n fits e in
-    let parts : bytes ≡ spelling (Word & Word & Word & numbers_shape) (xid, (0, (2, n.0))) ++ n.1 = b.parts ∙ ap (λ (t : List ℕ). spelling (Word & Word & Word) (xid, (0, 2)) ++ t) c.begins.parts in
-    flavor_told bytes xid n.0 n.1 c.rest_fits (record { fits = (b.fits.0, (b.fits.1.0, (b.fits.1.1, c.begins.fits))); parts = parts }) (ltb 1 (flavor_of n.0)) refl
+    let parts : bytes ≡ spelling (Word & Word & Word & numbers_shape) (xid, (0, (2, n.0))) ++ n.1 = b.parts
+    ∙ ap (λ (t : List ℕ). spelling (Word & Word & Word) (xid, (0, 2)) ++ t) c.begins.parts in
+    flavor_told bytes xid n.0 n.1 c.rest_fits (record { fits = (b.fits.0, (b.fits.1.0, (b.fits.1.1, c.begins.fits))); parts = parts })
+    (ltb 1 (flavor_of n.0)) refl
 
 -- the version of RPC
 rpc_told : (bytes : List ℕ) (xid version : ℕ) (rest : List ℕ) → IsBytes rest → Begins (Word & Word & Word) (xid, (0, version)) bytes rest
     → (b : Bool) → eqb version 2 ≡ b → Told bytes xid (cond b (Ok rest) (Err (Refuse (model.RpcMismatch 2 2))) >>= from_version)
 rpc_told bytes xid version rest fits b true e =
-    numbers_told bytes xid rest fits (subst (λ (n : ℕ). Begins (Word & Word & Word) (xid, (0, n)) bytes rest) (eqb-true version 2 e) b) (read numbers_shape rest) refl
+    numbers_told bytes xid rest fits (subst (λ (n : ℕ). Begins (Word & Word & Word) (xid, (0, n)) bytes rest) (eqb-true version 2 e) b)
+    (read numbers_shape rest) refl
 rpc_told bytes xid version rest fits b false e = (refl, refl, record { version = version; rest = rest; begins = b; other = eqb-false version 2 e })
 
 version_told : (bytes : List ℕ) (xid : ℕ) (rest : List ℕ) → IsBytes rest → Begins (Word & Word) (xid, 0) bytes rest
@@ -238,7 +325,8 @@ version_told : (bytes : List ℕ) (xid : ℕ) (rest : List ℕ) → IsBytes rest
 version_told bytes xid rest fits b (Err fault) e = inl (refl, NoVersion xid rest b (none_begun Word rest fault e))
 version_told bytes xid rest fits b (Ok v) e =
     let c = begun Word rest v fits e in
-    let parts : bytes ≡ spelling (Word & Word & Word) (xid, (0, v.0)) ++ v.1 = b.parts ∙ ap (λ (t : List ℕ). spelling (Word & Word) (xid, 0) ++ t) c.begins.parts in
+    let parts : bytes ≡ spelling (Word & Word & Word) (xid, (0, v.0)) ++ v.1 = b.parts
+    ∙ ap (λ (t : List ℕ). spelling (Word & Word) (xid, 0) ++ t) c.begins.parts in
     rpc_told bytes xid v.0 v.1 c.rest_fits (record { fits = (b.fits.0, (b.fits.1, c.begins.fits)); parts = parts }) (eqb v.0 2) refl
 
 -- the message

@@ -1,5 +1,6 @@
 -- What the spellings of a record say is what is heard of it.
-use Rattle.std.proofs.Common.{◌≡◌, ℕ, ◌+◌, ◌<◌, ◌≤◌, Bool, true, false, cond, eqb, ltb, List, ◌++◌, length, replicate, Result, Ok, Err, refl, sym, ap, subst, ◌∙◌, append_assoc, arith, inl, inr}
+use Rattle.std.proofs.Common.{◌≡◌, ℕ, ◌+◌, ◌<◌, ◌≤◌, Bool, true, false, cond, eqb, ltb, List, ◌++◌, length, replicate, Result, Ok, Err, refl, sym, ap, subst}
+use Rattle.std.proofs.Common.{◌∙◌, append_assoc, arith, inl, inr}
 use Rattle.std.proofs.lemmas.Bool.{lt-ltb, le-ltb, eq-eqb, ne_eqb}
 use Rattle.xdr.specs.declared.fault.Fault.{Fault as Unread}
 use Rattle.xdr.specs.declared.fault.Fault.TheVariants as unreads
@@ -15,10 +16,13 @@ use Rattle.nfs_types.specs.Arguments.{Asks, asked}
 use Rattle.nfs_types.specs.Shapes.{◌&◌}
 use Rattle.nfs_types.proofs.Exact.{asked_found, asked_again}
 use Rattle.rpc_msg.specs.Replies.{auth_shape}
-use Rattle.rpc_msg.specs.Heads.{◌>>=◌, Stop, Body, whole, numbers_shape, auth_sys_shape, body_of, user_of, acting, credential_at, procedure_of, body_at, under, xid_of, head_from, Refuse, bad_credential}
+use Rattle.rpc_msg.specs.Heads.{◌>>=◌, Stop, Body, whole, numbers_shape, auth_sys_shape, body_of, user_of, acting, credential_at, procedure_of, body_at}
+use Rattle.rpc_msg.specs.Heads.{under, xid_of, head_from, Refuse, bad_credential}
 use Rattle.rpc_msg.specs.Calls.{IsCall, call_shape, call_value}
 use Rattle.rpc_msg.specs.Records.{asked_by, heard_from, heard}
-use Rattle.rpc_msg.specs.Hearing.{Begins, BeginsNone, Opens, flavor_of, size_of, Acts, IsHead, IsIncomplete, NoMessage, NoVersion, NoNumbers, NoBody, NoVerifier, IsNoCall, IsOfAnotherRpc, HasAnotherFlavor, IsBadBody, TooLong, BadPadding, NoUser, HasBadCredential, IsOfNoProgram, IsOfAnotherVersion, IsOfNoProcedure, HasGarbage, IsAsking, IsRefusedWith, Says, IsHeardAs}
+use Rattle.rpc_msg.specs.Hearing.{Begins, BeginsNone, Opens, flavor_of, size_of, Acts, IsHead, IsIncomplete, NoMessage, NoVersion, NoNumbers, NoBody}
+use Rattle.rpc_msg.specs.Hearing.{NoVerifier, IsNoCall, IsOfAnotherRpc, HasAnotherFlavor, IsBadBody, TooLong, BadPadding, NoUser, HasBadCredential}
+use Rattle.rpc_msg.specs.Hearing.{IsOfNoProgram, IsOfAnotherVersion, IsOfNoProcedure, HasGarbage, IsAsking, IsRefusedWith, Says, IsHeardAs}
 use Rattle.rpc_msg.proofs.Numbered.{none_numbered}
 use Rattle.rpc_msg.proofs.Saying.{begun, read_again, fixed_short}
 use Rattle.rpc_msg.proofs.Spelled.{IsBytes-front, from_version, from_numbers, from_credential, from_verifier, joined}
@@ -44,7 +48,8 @@ rest_bytes shape v bytes rest fits b = (begun shape bytes (v, rest) fits (read_a
 abbrev told : ℕ → Result Body Stop → Result Heard ℕ
 told xid r = heard_from (under xid r)
 
-at_kind : (bytes : List ℕ) (xid kind : ℕ) (rest : List ℕ) → Begins (Word & Word) (xid, kind) bytes rest → heard bytes ≡ heard_from (head_from (cond (eqb kind 0) (Ok (xid, rest)) (Err 13)))
+at_kind : (bytes : List ℕ) (xid kind : ℕ) (rest : List ℕ) → Begins (Word & Word) (xid, kind) bytes rest
+    → heard bytes ≡ heard_from (head_from (cond (eqb kind 0) (Ok (xid, rest)) (Err 13)))
 at_kind bytes xid kind rest b = ap (λ (r : Reads (ℕ × ℕ)). heard_from (head_from (xid_of r))) (read_again (Word & Word) (xid, kind) bytes rest b)
 
 at_call : (bytes : List ℕ) (xid : ℕ) (rest : List ℕ) → Begins (Word & Word) (xid, 0) bytes rest → heard bytes ≡ told xid (body_at rest)
@@ -53,7 +58,8 @@ at_call bytes xid rest b = at_kind bytes xid 0 rest b
 abbrev by_version : Reads ℕ → Result Body Stop
 by_version r = (whole r >>= λ v. cond (eqb v.0 2) (Ok v.1) (Err (Refuse (model.RpcMismatch 2 2)))) >>= from_version
 
-at_version : (bytes : List ℕ) (xid version : ℕ) (rest : List ℕ) → Begins (Word & Word & Word) (xid, (0, version)) bytes rest → heard bytes ≡ told xid (cond (eqb version 2) (Ok rest) (Err (Refuse (model.RpcMismatch 2 2))) >>= from_version)
+at_version : (bytes : List ℕ) (xid version : ℕ) (rest : List ℕ) → Begins (Word & Word & Word) (xid, (0, version)) bytes rest
+    → heard bytes ≡ told xid (cond (eqb version 2) (Ok rest) (Err (Refuse (model.RpcMismatch 2 2))) >>= from_version)
 at_version bytes xid version rest b =
     at_call bytes xid (word version ++ rest) (record { fits = (b.fits.0, b.fits.1.0); parts = b.parts })
     ∙ ap (λ (r : Reads ℕ). told xid (by_version r)) (again Word version rest b.fits.1.1)
@@ -66,18 +72,21 @@ at_opened bytes xid n rest b =
     at_numbers bytes xid (spelling numbers_shape n ++ rest) (record { fits = (b.fits.0, (b.fits.1.0, b.fits.1.1.0)); parts = b.parts })
     ∙ ap (λ (r : Reads (Value numbers_shape)). told xid (whole r >>= from_numbers)) (again numbers_shape n rest b.fits.1.1.1)
 
-acts_at : (flavor size : ℕ) (bytes : List ℕ) (who : model.Credential) (rest : List ℕ) → Acts flavor size bytes who rest → credential_at flavor size bytes ≡ Ok (who, rest)
+acts_at : (flavor size : ℕ) (bytes : List ℕ) (who : model.Credential) (rest : List ℕ) → Acts flavor size bytes who rest
+    → credential_at flavor size bytes ≡ Ok (who, rest)
 acts_at flavor size bytes who rest a =
     let short : length a.body ≤ 400 = omega (arith, a.small, a.begins.fits) in
     subst (λ (n : ℕ). credential_at flavor n bytes ≡ Ok (who, rest)) a.begins.fits
     (ap (credential_at flavor (length a.body)) a.begins.parts ∙ credential_again flavor a.body who rest short a.acts_for)
 
-at_acting : (bytes : List ℕ) (xid : ℕ) (n : Value numbers_shape) (rest : List ℕ) (who : model.Credential) (more : List ℕ) → Opens bytes xid n rest → Acts (flavor_of n) (size_of n) rest who more → heard bytes ≡ told xid (from_credential (n, rest) (who, more))
+at_acting : (bytes : List ℕ) (xid : ℕ) (n : Value numbers_shape) (rest : List ℕ) (who : model.Credential) (more : List ℕ) → Opens bytes xid n rest
+    → Acts (flavor_of n) (size_of n) rest who more → heard bytes ≡ told xid (from_credential (n, rest) (who, more))
 at_acting bytes xid n rest who more o a =
     at_opened bytes xid n rest o
     ∙ ap (λ (r : Result (model.Credential × List ℕ) Stop). told xid (r >>= from_credential (n, rest))) (acts_at (flavor_of n) (size_of n) rest who more a)
 
-at_head : (bytes : List ℕ) (xid program version number : ℕ) (who : model.Credential) (arguments : List ℕ) → IsHead bytes xid program version number who arguments
+at_head : (bytes : List ℕ) (xid program version number : ℕ) (who : model.Credential) (arguments : List ℕ)
+    → IsHead bytes xid program version number who arguments
     → heard bytes ≡ told xid (procedure_of program version number >>= λ p. Ok (record { procedure = p; credential = who; arguments = arguments }))
 at_head bytes xid program version number who arguments h =
     let size = length h.cred.1 in
@@ -87,9 +96,15 @@ at_head bytes xid program version number who arguments h =
     let f = h.begins.fits in
     let c = f.1.1.1.1.1.1.0 in
     let parts : bytes ≡ spelling (Word & Word & Word & numbers_shape) (xid, (0, (2, n))) ++ rest =
-    h.begins.parts ∙ ap (λ (t : List ℕ). spelling (Word & Word) (xid, 0) ++ t) (sym (joined program version number h.cred.0 size h.cred.1 h.verf arguments refl)) in
-    let opens : Opens bytes xid n rest = record { fits = (f.0, (f.1.0, (f.1.1.0, (f.1.1.1.0, (f.1.1.1.1.0, (f.1.1.1.1.1.0, (c.0, c.1.1))))))); parts = parts } in
-    let acts : Acts h.cred.0 size rest who more = record { body = h.cred.1; small = c.1.0; begins = record { fits = refl; parts = refl }; acts_for = h.acts_for } in
+    h.begins.parts ∙ ap (λ (t : List ℕ). spelling (Word & Word) (xid, 0) ++ t)
+    (sym (joined program version number h.cred.0 size h.cred.1 h.verf arguments refl)) in
+    let opens : Opens bytes xid n rest = record {
+      fits =
+          (f.0, (f.1.0, (f.1.1.0, (f.1.1.1.0, (f.1.1.1.1.0, (f.1.1.1.1.1.0, (c.0, c.1.1)))))));
+      parts = parts;
+    } in
+    let acts : Acts h.cred.0 size rest who more = record
+    { body = h.cred.1; small = c.1.0; begins = record { fits = refl; parts = refl }; acts_for = h.acts_for } in
     at_acting bytes xid n rest who more opens acts
     ∙ ap (λ (r : Reads (Value auth_shape)). told xid (whole r >>= from_verifier (n, rest) (who, more))) (again auth_shape h.verf arguments f.1.1.1.1.1.1.1)
 
@@ -111,12 +126,14 @@ short_fixed size bytes h =
     let s : ltb (length bytes) (size + padding size) ≡ true = lt-ltb _ _ h in
     rw s refl
 
-bad_body : (flavor size : ℕ) (rest : List ℕ) → IsBytes rest → size + padding size ≤ length rest → BeginsNone (Fixed size) rest → (r : Reads (List ℕ)) → read (Fixed size) rest ≡ r → body_read flavor r ≡ Err bad_credential
+bad_body : (flavor size : ℕ) (rest : List ℕ) → IsBytes rest → size + padding size ≤ length rest → BeginsNone (Fixed size) rest → (r : Reads (List ℕ))
+    → read (Fixed size) rest ≡ r → body_read flavor r ≡ Err bad_credential
 bad_body flavor size rest fits long none (Ok x) e = absurd (none x.0 x.1 (begun (Fixed size) rest x fits e).begins)
 bad_body flavor size rest fits long none (Err unreads.Short) e = absurd (omega (arith, long, fixed_short size rest e))
 bad_body flavor size rest fits long none (Err fault) e = refl
 
-bad_user : (body : List ℕ) → IsBytes body → ((v : Value auth_sys_shape) → Spells auth_sys_shape v body → ⊥) → (r : Result (Value auth_sys_shape) Unread) → all_of auth_sys_shape body ≡ r → user_of r ≡ Err bad_credential
+bad_user : (body : List ℕ) → IsBytes body → ((v : Value auth_sys_shape) → Spells auth_sys_shape v body → ⊥) → (r : Result (Value auth_sys_shape) Unread)
+    → all_of auth_sys_shape body ≡ r → user_of r ≡ Err bad_credential
 bad_user body fits none (Ok v) e = absurd (none v (all_found auth_sys_shape body v fits e))
 bad_user body fits none (Err fault) e = refl
 
@@ -125,9 +142,11 @@ bad_at flavor size rest fits known (TooLong long) =
     let k : ltb 1 flavor ≡ false = le-ltb _ _ known in
     let s : ltb 400 size ≡ true = lt-ltb _ _ long in
     rw (k, s) refl
-bad_at flavor size rest fits known (BadPadding small long none) = at_body flavor size rest known small ∙ bad_body flavor size rest fits long none (read (Fixed size) rest) refl
+bad_at flavor size rest fits known (BadPadding small long none) =
+    at_body flavor size rest known small ∙ bad_body flavor size rest fits long none (read (Fixed size) rest) refl
 bad_at flavor size rest fits known (NoUser body more small b one none) =
-    let body_fits = IsBytes-front body (replicate (padding (length body)) 0 ++ more) (subst IsBytes (b.parts ∙ append_assoc body (replicate (padding (length body)) 0) more) fits) in
+    let body_fits = IsBytes-front body (replicate (padding (length body)) 0 ++ more) (subst IsBytes (b.parts
+    ∙ append_assoc body (replicate (padding (length body)) 0) more) fits) in
     let no : acting flavor body ≡ Err bad_credential = rw one (bad_user body body_fits none (all_of auth_sys_shape body) refl) in
     at_body flavor size rest known small
     ∙ ap (body_read flavor) (read_again (Fixed size) body rest more b)
@@ -141,14 +160,17 @@ incomplete_again bytes fits (NoVersion xid rest b none) =
     at_call bytes xid rest b ∙ ap (λ (r : Reads ℕ). told xid (by_version r)) (fault_of Word rest (rest_bytes (Word & Word) (xid, 0) bytes rest fits b) none).1
 incomplete_again bytes fits (NoNumbers xid rest b none) =
     at_numbers bytes xid rest b
-    ∙ ap (λ (r : Reads (Value numbers_shape)). told xid (whole r >>= from_numbers)) (fault_of numbers_shape rest (rest_bytes (Word & Word & Word) (xid, (0, 2)) bytes rest fits b) none).1
+    ∙ ap (λ (r : Reads (Value numbers_shape)). told xid (whole r >>= from_numbers))
+    (fault_of numbers_shape rest (rest_bytes (Word & Word & Word) (xid, (0, 2)) bytes rest fits b) none).1
 incomplete_again bytes fits (NoBody xid n rest o known small short) =
     at_opened bytes xid n rest o
-    ∙ ap (λ (r : Result (model.Credential × List ℕ) Stop). told xid (r >>= from_credential (n, rest))) (at_body (flavor_of n) (size_of n) rest known small ∙ ap (body_read (flavor_of n)) (short_fixed (size_of n) rest short))
+    ∙ ap (λ (r : Result (model.Credential × List ℕ) Stop). told xid (r >>= from_credential (n, rest))) (at_body (flavor_of n) (size_of n) rest known small
+    ∙ ap (body_read (flavor_of n)) (short_fixed (size_of n) rest short))
 incomplete_again bytes fits (NoVerifier xid n rest more who o a none) =
     let rest_fits = rest_bytes (Word & Word & Word & numbers_shape) (xid, (0, (2, n))) bytes rest fits o in
     let more_fits = rest_bytes (Fixed (size_of n)) a.body rest more rest_fits a.begins in
-    at_acting bytes xid n rest who more o a ∙ ap (λ (r : Reads (Value auth_shape)). told xid (whole r >>= from_verifier (n, rest) (who, more))) (fault_of auth_shape more more_fits none).1
+    at_acting bytes xid n rest who more o a ∙ ap (λ (r : Reads (Value auth_shape)). told xid (whole r >>= from_verifier (n, rest) (who, more)))
+    (fault_of auth_shape more more_fits none).1
 
 no_call_again : (bytes : List ℕ) → IsNoCall bytes → heard bytes ≡ Err 13
 no_call_again bytes c =
@@ -163,7 +185,8 @@ refused xid reply = Ok (record { xid = xid; asked = model.Refused reply })
 rpc_again : (bytes : List ℕ) (xid : ℕ) → IsOfAnotherRpc bytes xid → heard bytes ≡ refused xid (model.RpcMismatch 2 2)
 rpc_again bytes xid r =
     let other : eqb r.version 2 ≡ false = ne_eqb r.version 2 r.other in
-    at_version bytes xid r.version r.rest r.begins ∙ ap (λ (b : Bool). told xid (cond b (Ok r.rest) (Err (Refuse (model.RpcMismatch 2 2))) >>= from_version)) other
+    at_version bytes xid r.version r.rest r.begins
+    ∙ ap (λ (b : Bool). told xid (cond b (Ok r.rest) (Err (Refuse (model.RpcMismatch 2 2))) >>= from_version)) other
 
 flavor_again : (bytes : List ℕ) (xid : ℕ) → HasAnotherFlavor bytes xid → heard bytes ≡ refused xid (model.AuthError 2)
 flavor_again bytes xid f =
@@ -174,7 +197,8 @@ bad_again : (bytes : List ℕ) (xid : ℕ) → IsBytes bytes → HasBadCredentia
 bad_again bytes xid fits c =
     let rest_fits = rest_bytes (Word & Word & Word & numbers_shape) (xid, (0, (2, c.numbers))) bytes c.rest fits c.opens in
     at_opened bytes xid c.numbers c.rest c.opens
-    ∙ ap (λ (r : Result (model.Credential × List ℕ) Stop). told xid (r >>= from_credential (c.numbers, c.rest))) (bad_at (flavor_of c.numbers) (size_of c.numbers) c.rest rest_fits c.known c.bad)
+    ∙ ap (λ (r : Result (model.Credential × List ℕ) Stop). told xid (r >>= from_credential (c.numbers, c.rest)))
+    (bad_at (flavor_of c.numbers) (size_of c.numbers) c.rest rest_fits c.known c.bad)
 
 program_again : (bytes : List ℕ) (xid : ℕ) → IsOfNoProgram bytes xid → heard bytes ≡ refused xid model.ProgramUnavailable
 program_again bytes xid p = at_head bytes xid p.program p.version p.number p.who p.arguments p.head ∙ rw p.none refl
@@ -191,22 +215,28 @@ none_again bytes xid p =
 
 -- ---- arguments
 
-call_bytes : (bytes : List ℕ) (xid : ℕ) (p : Procedure) (who : model.Credential) (arguments : List ℕ) → IsBytes bytes → IsCall bytes xid p who arguments → IsBytes arguments
-call_bytes bytes xid p who arguments fits c = rest_bytes call_shape (call_value xid (numbers_of p) c.version c.cred c.verf) bytes arguments fits (record { fits = c.fits; parts = c.bytes_are })
+call_bytes : (bytes : List ℕ) (xid : ℕ) (p : Procedure) (who : model.Credential) (arguments : List ℕ) → IsBytes bytes → IsCall bytes xid p who arguments
+    → IsBytes arguments
+call_bytes bytes xid p who arguments fits c =
+    rest_bytes call_shape (call_value xid (numbers_of p) c.version c.cred c.verf) bytes arguments fits (record { fits = c.fits; parts = c.bytes_are })
 
-garbage_by : (p : Procedure) (arguments : List ℕ) (who : model.Credential) → IsBytes arguments → ((call : model.Call) → Asks p arguments call → ⊥) → (r : Result model.Call Unread) → asked p arguments ≡ r → asked_by who r ≡ model.Refused model.GarbageArguments
+garbage_by : (p : Procedure) (arguments : List ℕ) (who : model.Credential) → IsBytes arguments → ((call : model.Call) → Asks p arguments call → ⊥)
+    → (r : Result model.Call Unread) → asked p arguments ≡ r → asked_by who r ≡ model.Refused model.GarbageArguments
 garbage_by p arguments who fits none (Ok call) e = absurd (none call (asked_found p arguments call fits e))
 garbage_by p arguments who fits none (Err fault) e = refl
 
-at_arguments : (bytes : List ℕ) (xid : ℕ) (p : Procedure) (who : model.Credential) (arguments : List ℕ) (a : model.Asked) → IsCall bytes xid p who arguments → asked_by who (asked p arguments) ≡ a → heard bytes ≡ Ok (record { xid = xid; asked = a })
-at_arguments bytes xid p who arguments a c e = ap heard_from (call_again bytes xid p who arguments c) ∙ ap (λ (b : model.Asked). Ok (record { xid = xid; asked = b })) e
+at_arguments : (bytes : List ℕ) (xid : ℕ) (p : Procedure) (who : model.Credential) (arguments : List ℕ) (a : model.Asked) → IsCall bytes xid p who arguments
+    → asked_by who (asked p arguments) ≡ a → heard bytes ≡ Ok (record { xid = xid; asked = a })
+at_arguments bytes xid p who arguments a c e =
+    ap heard_from (call_again bytes xid p who arguments c) ∙ ap (λ (b : model.Asked). Ok (record { xid = xid; asked = b })) e
 
 garbage_again : (bytes : List ℕ) (xid : ℕ) → IsBytes bytes → HasGarbage bytes xid → heard bytes ≡ refused xid model.GarbageArguments
 garbage_again bytes xid fits g =
     at_arguments bytes xid g.procedure g.who g.arguments _ g.head
     (garbage_by g.procedure g.arguments g.who (call_bytes bytes xid g.procedure g.who g.arguments fits g.head) g.none (asked g.procedure g.arguments) refl)
 
-asking_again : (bytes : List ℕ) (xid : ℕ) (call : model.Call) (who : model.Credential) → IsAsking bytes xid call who → heard bytes ≡ Ok (record { xid = xid; asked = model.Ask call who })
+asking_again : (bytes : List ℕ) (xid : ℕ) (call : model.Call) (who : model.Credential) → IsAsking bytes xid call who
+    → heard bytes ≡ Ok (record { xid = xid; asked = model.Ask call who })
 asking_again bytes xid call who a =
     at_arguments bytes xid a.procedure who a.arguments _ a.head (ap (asked_by who) (asked_again a.procedure a.arguments call a.asks))
 

@@ -5,7 +5,8 @@ use Rattle.nfs_model.specs.Types as model
 use Rattle.nfs_values.specs.declared.procedure.Procedure.{Procedure}
 use Rattle.nfs_values.specs.Procedure.{all_procedures, is_served}
 use Rattle.rpc_msg.specs.Replies.{auth_shape}
-use Rattle.rpc_msg.specs.Heads.{◌>>=◌, Stop, Incomplete, Refuse, Body, Head, Call, Refused, Faulty, whole, version_at, numbers_shape, credential_at, version_of, procedures, is_numbered, available, of_version, procedure_of, xid_of, body_at, under, head_from}
+use Rattle.rpc_msg.specs.Heads.{◌>>=◌, Stop, Incomplete, Refuse, Body, Head, Call, Refused, Faulty, whole, version_at, numbers_shape, credential_at}
+use Rattle.rpc_msg.specs.Heads.{version_of, procedures, is_numbered, available, of_version, procedure_of, xid_of, body_at, under, head_from}
 use Rattle.rpc_msg.proofs.Numbered.{FoundIs, found_is}
 
 abbrev FoundServes : Result Procedure Stop → Type 0
@@ -16,12 +17,14 @@ available_serves : (procedure : Option Procedure) → FoundIs is_served procedur
 available_serves (Some procedure) f = f
 available_serves None f = tt
 
-version_serves : (served : Option ℕ) (version : ℕ) (procedure : Option Procedure) → FoundIs is_served procedure → FoundServes (of_version served version procedure)
+version_serves : (served : Option ℕ) (version : ℕ) (procedure : Option Procedure) → FoundIs is_served procedure
+    → FoundServes (of_version served version procedure)
 version_serves None version procedure f = tt
-version_serves (Some served) version procedure f = elim (eqb version served) as (λ b. FoundServes (cond b (available procedure) (Err (Refuse (model.ProgramMismatch served served))))) [
-  | true ↦ available_serves procedure f
-  | false ↦ tt
-]
+version_serves (Some served) version procedure f =
+    elim (eqb version served) as (λ b. FoundServes (cond b (available procedure) (Err (Refuse (model.ProgramMismatch served served))))) [
+      | true ↦ available_serves procedure f
+      | false ↦ tt
+    ]
 
 abbrev BodyServes : Result Body Stop → Type 0
 BodyServes (Ok body) = is_served body.procedure ≡ true
@@ -31,7 +34,8 @@ then_serves : {A : Type 0} (r : Result A Stop) (f : A → Result Body Stop) → 
 then_serves (Ok x) f h = h x
 then_serves (Err stop) f h = tt
 
-ends_serving : (r : Result Procedure Stop) (credential : model.Credential) (arguments : List ℕ) → FoundServes r → BodyServes (r >>= λ p. Ok (record { procedure = p; credential = credential; arguments = arguments }))
+ends_serving : (r : Result Procedure Stop) (credential : model.Credential) (arguments : List ℕ) → FoundServes r
+    → BodyServes (r >>= λ p. Ok (record { procedure = p; credential = credential; arguments = arguments }))
 ends_serving (Ok procedure) credential arguments s = s
 ends_serving (Err stop) credential arguments s = tt
 
@@ -42,7 +46,8 @@ body_serves bytes =
     then_serves (credential_at n.0.1.1.1.0 n.0.1.1.1.1 n.1) _ (λ c.
     then_serves (whole (read auth_shape c.1)) _ (λ v.
     ends_serving (procedure_of n.0.0 n.0.1.0 n.0.1.1.0) c.0 v.1
-    (version_serves (version_of n.0.0) n.0.1.0 (find (is_numbered n.0.0 n.0.1.1.0) procedures) (found_is is_served (is_numbered n.0.0 n.0.1.1.0) all_procedures))))))
+    (version_serves (version_of n.0.0) n.0.1.0 (find (is_numbered n.0.0 n.0.1.1.0) procedures)
+    (found_is is_served (is_numbered n.0.0 n.0.1.1.0) all_procedures))))))
 
 abbrev pub HeadServes : Head → Type 0
 HeadServes (Call xid procedure credential arguments) = is_served procedure ≡ true

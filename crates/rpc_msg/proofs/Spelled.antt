@@ -1,5 +1,6 @@
 -- A head that says a call is the spelling of one.
-use Rattle.std.proofs.Common.{◌≡◌, ℕ, ◌^◌, ◌<◌, ◌≤◌, Bool, true, false, cond, eqb, ltb, ◌&&◌, List, [], ◌∷◌, ◌++◌, length, replicate, Option, Some, None, Result, Ok, Err, find, refl, sym, ap, subst, ◌∙◌, append_assoc, arith, inl, inr}
+use Rattle.std.proofs.Common.{◌≡◌, ℕ, ◌^◌, ◌<◌, ◌≤◌, Bool, true, false, cond, eqb, ltb, ◌&&◌, List, [], ◌∷◌, ◌++◌, length, replicate, Option, Some, None}
+use Rattle.std.proofs.Common.{Result, Ok, Err, find, refl, sym, ap, subst, ◌∙◌, append_assoc, arith, inl, inr}
 use Rattle.std.proofs.lemmas.Bool.{cases_lt, ltb-false, eqb-true, eqb-false}
 use Rattle.std.proofs.lemmas.List.{get_or_append_left, get_or_past}
 use Rattle.xdr.specs.declared.fault.Fault.{Fault as Unread}
@@ -14,7 +15,9 @@ use Rattle.nfs_values.specs.declared.procedure.Procedure.{Procedure}
 use Rattle.nfs_values.specs.Procedure.{all_procedures, is_served, numbers_of}
 use Rattle.nfs_types.specs.Shapes.{◌&◌}
 use Rattle.rpc_msg.specs.Replies.{auth_shape}
-use Rattle.rpc_msg.specs.Heads.{◌>>=◌, Stop, Incomplete, Refuse, Body, Call, whole, version_at, numbers_shape, auth_sys_shape, nobody, user, body_of, user_of, acting, bad_credential, rejected_credential, credential_at, version_of, procedures, is_numbered, available, of_version, procedure_of, body_at, under, xid_at, head_from, head_of}
+use Rattle.rpc_msg.specs.Heads.{◌>>=◌, Stop, Incomplete, Refuse, Body, Call, whole, version_at, numbers_shape, auth_sys_shape, nobody, user, body_of, user_of}
+use Rattle.rpc_msg.specs.Heads.{acting, bad_credential, rejected_credential, credential_at, version_of, procedures, is_numbered, available, of_version}
+use Rattle.rpc_msg.specs.Heads.{procedure_of, body_at, under, xid_at, head_from, head_of}
 use Rattle.rpc_msg.specs.Calls.{ActsFor, IsCall, call_shape, call_value}
 use Rattle.rpc_msg.proofs.Numbered.{FoundIs, found_is}
 use Rattle.rpc_msg.proofs.Steps.{then_ok, sure_is, whole_ok, xid_ok}
@@ -58,7 +61,8 @@ record CredentialIs (flavor size : ℕ) (bytes : List ℕ) (who : model.Credenti
 abbrev within : ℕ → List ℕ × List ℕ → Result (model.Credential × List ℕ) Stop
 within flavor b = acting flavor b.0 >>= λ c. Ok (c, b.1)
 
-credential_found : (flavor size : ℕ) (bytes : List ℕ) (x : model.Credential × List ℕ) → IsBytes bytes → credential_at flavor size bytes ≡ Ok x → CredentialIs flavor size bytes x.0 x.1
+credential_found : (flavor size : ℕ) (bytes : List ℕ) (x : model.Credential × List ℕ) → IsBytes bytes → credential_at flavor size bytes ≡ Ok x
+    → CredentialIs flavor size bytes x.0 x.1
 credential_found flavor size bytes x fits e =
     let rest = body_of (read (Fixed size) bytes) >>= within flavor in
     elim (chosen (ltb 1 flavor) (Err rejected_credential) (cond (ltb 400 size) (Err bad_credential) rest) (Ok x) e) [
@@ -73,7 +77,14 @@ credential_found flavor size bytes x fits e =
             let body_fits = IsBytes-front b.0.0 (zeros ++ b.0.1) (subst IsBytes (f.0.parts ∙ append_assoc b.0.0 zeros b.0.1) fits) in
             let made : model.Credential × List ℕ = (a.0, b.0.1) in
             subst (λ (y : model.Credential × List ℕ). CredentialIs flavor size bytes y.0 y.1) (sure_is made x a.2)
-            (record { body = b.0.0; small = ltb-false 400 size k.0; size_is = f.1; acts = acts_found flavor b.0.0 a.0 (ltb-false 1 flavor h.0) body_fits a.1; splits = f.0 })
+            (record {
+              body = b.0.0;
+              small = ltb-false 400 size k.0;
+              size_is = f.1;
+              acts = acts_found flavor b.0.0 a.0
+                  (ltb-false 1 flavor h.0) body_fits a.1;
+              splits = f.0;
+            })
       ]
     ]
 
@@ -97,7 +108,8 @@ available_ok : (o : Option Procedure) (p : Procedure) → available o ≡ Ok p �
 available_ok (Some q) p e = cc
 available_ok None p e = absurd cc
 
-of_version_ok : (served : Option ℕ) (version : ℕ) (o : Option Procedure) (p : Procedure) → of_version served version o ≡ Ok p → (served ≡ Some version) × (o ≡ Some p)
+of_version_ok : (served : Option ℕ) (version : ℕ) (o : Option Procedure) (p : Procedure) → of_version served version o ≡ Ok p
+    → (served ≡ Some version) × (o ≡ Some p)
 of_version_ok None version o p e = absurd cc
 of_version_ok (Some served) version o p e =
     elim (chosen (eqb version served) (available o) (Err (Refuse (model.ProgramMismatch served served))) (Ok p) e) [
@@ -124,11 +136,13 @@ version_found bytes rest fits e =
     let v = then_ok (whole (read Word bytes)) (λ v. cond (eqb v.0 2) (Ok v.1) (Err (Refuse (model.RpcMismatch 2 2)))) rest e in
     let f = found Word bytes v.0 fits (whole_ok (read Word bytes) v.0 v.1) in
     elim (chosen (eqb v.0.0 2) (Ok v.0.1) (Err (Refuse (model.RpcMismatch 2 2))) (Ok rest) v.2) [
-      | inl h ↦ subst (λ (r : List ℕ). Splits bytes (word 2) r) (sure_is v.0.1 rest h.1) (subst (λ (n : ℕ). Splits bytes (word n) v.0.1) (eqb-true v.0.0 2 h.0) f.0)
+      | inl h ↦
+          subst (λ (r : List ℕ). Splits bytes (word 2) r) (sure_is v.0.1 rest h.1) (subst (λ (n : ℕ). Splits bytes (word n) v.0.1) (eqb-true v.0.0 2 h.0) f.0)
       | inr h ↦ absurd cc
     ]
 
-pub procedure_found : (program version number : ℕ) (p : Procedure) → procedure_of program version number ≡ Ok p → (version_of program ≡ Some version) × ((numbers_of p).0 ≡ program) × ((numbers_of p).1 ≡ number) × (is_served p ≡ true)
+pub procedure_found : (program version number : ℕ) (p : Procedure) → procedure_of program version number ≡ Ok p
+    → (version_of program ≡ Some version) × ((numbers_of p).0 ≡ program) × ((numbers_of p).1 ≡ number) × (is_served p ≡ true)
 procedure_found program version number p e =
     let o = of_version_ok (version_of program) version (find (is_numbered program number) procedures) p e in
     let t = both_true (eqb (numbers_of p).0 program) (eqb (numbers_of p).1 number) (find_is (is_numbered program number) procedures p o.1) in
@@ -145,7 +159,8 @@ pub joined : (program version number flavor size : ℕ) (body : List ℕ) (verf 
     → word 2 ++ (spelling numbers_shape (program, (version, (number, (flavor, size)))) ++ (padded body ++ (spelling auth_shape verf ++ rest)))
     ≡ spelling body_shape (2, (program, (version, (number, ((flavor, body), verf))))) ++ rest
 joined program version number flavor size body verf rest e =
-    rw e (ap (λ (t : List ℕ). word 2 ++ (spelling numbers_shape (program, (version, (number, (flavor, length body)))) ++ t)) (sym (append_assoc (padded body) (spelling auth_shape verf) rest)))
+    rw e (ap (λ (t : List ℕ). word 2 ++ (spelling numbers_shape (program, (version, (number, (flavor, length body)))) ++ t))
+    (sym (append_assoc (padded body) (spelling auth_shape verf) rest)))
 
 record BodyIs (bytes : List ℕ) (body : Body) : Type 0 where
   version : ℕ
@@ -179,19 +194,34 @@ body_found bytes body fits e =
     let size_is : size ≡ length cs.body = sym cs.size_is in
     let parts : bytes ≡ spelling body_shape (2, (program, (version, (number, (cred, w.0.0))))) ++ w.0.1 =
     vs.parts
-    ∙ ap (λ (t : List ℕ). word 2 ++ t) (ns.0.parts ∙ ap (λ (t : List ℕ). spelling numbers_shape n.0.0 ++ t) (cs.splits.parts ∙ ap (λ (t : List ℕ). padded cs.body ++ t) ws.0.parts))
+    ∙ ap (λ (t : List ℕ). word 2 ++ t) (ns.0.parts
+    ∙ ap (λ (t : List ℕ). spelling numbers_shape n.0.0 ++ t) (cs.splits.parts ∙ ap (λ (t : List ℕ). padded cs.body ++ t) ws.0.parts))
     ∙ joined program version number flavor size cs.body w.0.0 w.0.1 size_is in
     let short : length cs.body ≤ 400 = omega (arith, cs.small) in
     let two : 2 < 2 ^ 32 = omega arith in
-    let all_fit : Fits body_shape (2, (program, (version, (number, (cred, w.0.0))))) = (two, (ns.1.0, (ns.1.1.0, (ns.1.1.1.0, ((ns.1.1.1.1.0, (short, omega arith)), ws.1))))) in
-    let G : ℕ → ℕ → Type 0 = λ a b. Fits body_shape (body_value (a, b) version cred w.0.0) × (bytes ≡ spelling body_shape (body_value (a, b) version cred w.0.0) ++ w.0.1) in
-    let both : G (numbers_of p.0).0 (numbers_of p.0).1 = subst (λ (b : ℕ). G (numbers_of p.0).0 b) (sym ps.2) (subst (λ (a : ℕ). G a number) (sym ps.1) (all_fit, parts)) in
+    let all_fit : Fits body_shape (2, (program, (version, (number, (cred, w.0.0))))) =
+    (two, (ns.1.0, (ns.1.1.0, (ns.1.1.1.0, ((ns.1.1.1.1.0, (short, omega arith)), ws.1))))) in
+    let G : ℕ → ℕ → Type 0 = λ a b. Fits body_shape (body_value (a, b) version cred w.0.0) ×
+    (bytes ≡ spelling body_shape (body_value (a, b) version cred w.0.0) ++ w.0.1) in
+    let both : G (numbers_of p.0).0 (numbers_of p.0).1 = subst (λ (b : ℕ). G (numbers_of p.0).0 b) (sym ps.2)
+    (subst (λ (a : ℕ). G a number) (sym ps.1) (all_fit, parts)) in
     subst (λ (b : Body). BodyIs bytes b) (sure_is made body p.2)
-    (record { version = version; cred = cred; verf = w.0.0; served = ps.3; version_is = ap version_of ps.1 ∙ ps.0; acts_for = cs.acts; fits = both.0; bytes_are = both.1 })
+    (record {
+      version = version;
+      cred = cred;
+      verf = w.0.0;
+      served = ps.3;
+      version_is = ap version_of ps.1
+          ∙ ps.0;
+      acts_for = cs.acts;
+      fits = both.0;
+      bytes_are = both.1;
+    })
 
 -- ---- the head
 
-under_ok : (x : ℕ) (r : Result Body Stop) (xid : ℕ) (p : Procedure) (c : model.Credential) (a : List ℕ) → under x r ≡ Call xid p c a → (x ≡ xid) × (r ≡ Ok (record { procedure = p; credential = c; arguments = a }))
+under_ok : (x : ℕ) (r : Result Body Stop) (xid : ℕ) (p : Procedure) (c : model.Credential) (a : List ℕ) → under x r ≡ Call xid p c a
+    → (x ≡ xid) × (r ≡ Ok (record { procedure = p; credential = c; arguments = a }))
 under_ok x (Ok b) xid p c a e =
     let p-is : b.procedure ≡ p = cc in
     let c-is : b.credential ≡ c = cc in
@@ -200,16 +230,29 @@ under_ok x (Ok b) xid p c a e =
 under_ok x (Err Incomplete) xid p c a e = absurd cc
 under_ok x (Err (Refuse reply)) xid p c a e = absurd cc
 
-head_ok : (r : Result (ℕ × List ℕ) ℕ) (xid : ℕ) (p : Procedure) (c : model.Credential) (a : List ℕ) → head_from r ≡ Call xid p c a → (m : ℕ × List ℕ) × (r ≡ Ok m) × (under m.0 (body_at m.1) ≡ Call xid p c a)
+head_ok : (r : Result (ℕ × List ℕ) ℕ) (xid : ℕ) (p : Procedure) (c : model.Credential) (a : List ℕ) → head_from r ≡ Call xid p c a
+    → (m : ℕ × List ℕ) × (r ≡ Ok m) × (under m.0 (body_at m.1) ≡ Call xid p c a)
 head_ok (Ok m) xid p c a e = (m, refl, e)
 head_ok (Err number) xid p c a e = absurd cc
 
-pub call_found : (bytes : List ℕ) (xid : ℕ) (p : Procedure) (who : model.Credential) (arguments : List ℕ) → IsBytes bytes → head_of bytes ≡ Call xid p who arguments → IsCall bytes xid p who arguments
+pub call_found : (bytes : List ℕ) (xid : ℕ) (p : Procedure) (who : model.Credential) (arguments : List ℕ) → IsBytes bytes
+    → head_of bytes ≡ Call xid p who arguments → IsCall bytes xid p who arguments
 call_found bytes xid p who arguments fits e =
     let h = head_ok (xid_at bytes) xid p who arguments e in
     let f = found (Word & Word) bytes ((h.0.0, 0), h.0.1) fits (xid_ok (read (Word & Word) bytes) h.0 h.1) in
     let u = under_ok h.0.0 (body_at h.0.1) xid p who arguments h.2 in
     let b = body_found h.0.1 (record { procedure = p; credential = who; arguments = arguments }) f.0.rest_fits u.1 in
-    let parts : bytes ≡ spelling call_shape (call_value h.0.0 (numbers_of p) b.version b.cred b.verf) ++ arguments = f.0.parts ∙ ap (λ (t : List ℕ). spelling (Word & Word) (h.0.0, 0) ++ t) b.bytes_are in
+    let parts : bytes ≡ spelling call_shape (call_value h.0.0 (numbers_of p) b.version b.cred b.verf) ++ arguments = f.0.parts
+    ∙ ap (λ (t : List ℕ). spelling (Word & Word) (h.0.0, 0) ++ t) b.bytes_are in
     subst (λ (x : ℕ). IsCall bytes x p who arguments) u.0
-    (record { version = b.version; cred = b.cred; verf = b.verf; served = b.served; version_is = b.version_is; acts_for = b.acts_for; fits = (f.1.0, (f.1.1, b.fits)); bytes_are = parts })
+    (record {
+      version = b.version;
+      cred = b.cred;
+      verf = b.verf;
+      served = b.served;
+      version_is = b.version_is;
+      acts_for = b.acts_for;
+      fits =
+          (f.1.0, (f.1.1, b.fits));
+      bytes_are = parts;
+    })

@@ -9,7 +9,8 @@ use Rattle.nfs_values.specs.declared.procedure.Procedure.{Procedure}
 use Rattle.nfs_values.specs.Procedure.{is_served, numbers_of}
 use Rattle.nfs_types.specs.Shapes.{◌&◌}
 use Rattle.rpc_msg.specs.Replies.{auth_shape}
-use Rattle.rpc_msg.specs.Heads.{Call, whole, version_at, numbers_shape, auth_sys_shape, acting, credential_at, version_of, procedure_of, body_at, under, xid_at, head_from, head_of}
+use Rattle.rpc_msg.specs.Heads.{Call, whole, version_at, numbers_shape, auth_sys_shape, acting, credential_at, version_of, procedure_of, body_at, under}
+use Rattle.rpc_msg.specs.Heads.{xid_at, head_from, head_of}
 use Rattle.rpc_msg.specs.Calls.{ActsFor, IsCall}
 use Rattle.rpc_msg.proofs.Numbered.{find_again}
 use Rattle.rpc_msg.proofs.Steps.{then_is}
@@ -23,13 +24,15 @@ acts_flavor : (flavor : ℕ) (body : List ℕ) (who : model.Credential) → Acts
 acts_flavor flavor body who (inl h) = omega (arith, h.0)
 acts_flavor flavor body who (inr h) = omega (arith, h.0)
 
-pub credential_again : (flavor : ℕ) (body : List ℕ) (who : model.Credential) (rest : List ℕ) → length body ≤ 400 → ActsFor (flavor, body) who → credential_at flavor (length body) (padded body ++ rest) ≡ Ok (who, rest)
+pub credential_again : (flavor : ℕ) (body : List ℕ) (who : model.Credential) (rest : List ℕ) → length body ≤ 400 → ActsFor (flavor, body) who
+    → credential_at flavor (length body) (padded body ++ rest) ≡ Ok (who, rest)
 credential_again flavor body who rest short acts =
     let known : ltb 1 flavor ≡ false = le-ltb _ _ (acts_flavor flavor body who acts) in
     let small : ltb 400 (length body) ≡ false = le-ltb _ _ short in
     rw (known, small, again (Fixed (length body)) body rest refl, acts_again flavor body who acts) refl
 
-procedure_again : (p : Procedure) (version : ℕ) → is_served p ≡ true → version_of (numbers_of p).0 ≡ Some version → procedure_of (numbers_of p).0 version (numbers_of p).1 ≡ Ok p
+procedure_again : (p : Procedure) (version : ℕ) → is_served p ≡ true → version_of (numbers_of p).0 ≡ Some version
+    → procedure_of (numbers_of p).0 version (numbers_of p).1 ≡ Ok p
 procedure_again p version served e =
     let same : eqb version version ≡ true = eq-eqb version version refl in
     rw (e, find_again p served, same) refl
@@ -39,7 +42,8 @@ body_again : (p : Procedure) (version : ℕ) (cred verf : Value auth_shape) (who
     → version_of (numbers_of p).0 ≡ Some version
     → ActsFor cred who
     → Fits body_shape (body_value (numbers_of p) version cred verf)
-    → body_at (spelling body_shape (body_value (numbers_of p) version cred verf) ++ arguments) ≡ Ok (record { procedure = p; credential = who; arguments = arguments })
+    → body_at (spelling body_shape (body_value (numbers_of p) version cred verf) ++ arguments) ≡ Ok
+    (record { procedure = p; credential = who; arguments = arguments })
 body_again p version cred verf who arguments served version_is acts fits =
     let r4 = spelling auth_shape verf ++ arguments in
     let r3 = padded cred.1 ++ r4 in
@@ -53,9 +57,11 @@ body_again p version cred verf who arguments served version_is acts fits =
     ∙ then_is (whole (read numbers_shape r2)) from_numbers (numbers, r3) (ap whole (again numbers_shape numbers r3 numbers_fit))
     ∙ then_is (credential_at cred.0 (length cred.1) r3) (from_credential (numbers, r3)) (who, r4) (credential_again cred.0 cred.1 who r4 short.0 acts)
     ∙ then_is (whole (read auth_shape r4)) (from_verifier (numbers, r3) (who, r4)) (verf, arguments) (ap whole (again auth_shape verf arguments fits.1.1.1.1.1))
-    ∙ then_is (procedure_of (numbers_of p).0 version (numbers_of p).1) (λ q. Ok (record { procedure = q; credential = who; arguments = arguments })) p (procedure_again p version served version_is)
+    ∙ then_is (procedure_of (numbers_of p).0 version (numbers_of p).1) (λ q. Ok (record { procedure = q; credential = who; arguments = arguments })) p
+    (procedure_again p version served version_is)
 
-pub call_again : (bytes : List ℕ) (xid : ℕ) (p : Procedure) (who : model.Credential) (arguments : List ℕ) → IsCall bytes xid p who arguments → head_of bytes ≡ Call xid p who arguments
+pub call_again : (bytes : List ℕ) (xid : ℕ) (p : Procedure) (who : model.Credential) (arguments : List ℕ) → IsCall bytes xid p who arguments
+    → head_of bytes ≡ Call xid p who arguments
 call_again bytes xid p who arguments c =
     let after = spelling body_shape (body_value (numbers_of p) c.version c.cred c.verf) ++ arguments in
     let xid_read : xid_at (spelling (Word & Word) (xid, 0) ++ after) ≡ Ok (xid, after) = rw (again (Word & Word) (xid, 0) after (c.fits.0, c.fits.1.0)) refl in

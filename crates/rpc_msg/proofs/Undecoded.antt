@@ -7,7 +7,8 @@ use Rattle.xdr.proofs.Steps.{bind_ok, ok_is}
 use Rattle.nfs_model.specs.Types as model
 use Rattle.nfs_model.specs.Serial.Starve.{has_bytes}
 use Rattle.nfs_values.specs.declared.procedure.Procedure.{Procedure}
-use Rattle.nfs_values.specs.declared.procedure.Procedure.TheVariants.{Null, GetAttributes, SetAttributes, Lookup, Read, Write, Create, MakeDirectory, Remove, RemoveDirectory, ReadDirectory, FilesystemStatus, Commit, AdminNull, Census, Grow}
+use Rattle.nfs_values.specs.declared.procedure.Procedure.TheVariants.{Null, GetAttributes, SetAttributes, Lookup, Read, Write, Create, MakeDirectory, Remove}
+use Rattle.nfs_values.specs.declared.procedure.Procedure.TheVariants.{RemoveDirectory, ReadDirectory, FilesystemStatus, Commit, AdminNull, Census, Grow}
 use Rattle.nfs_types.specs.Arguments.{arguments_shape, call_from, asked, takes_memory}
 use Rattle.nfs_types.proofs.Exact.{asked_is}
 use Rattle.rpc_msg.specs.declared.record.Request.TheVariants as requests
@@ -39,6 +40,15 @@ asked_has_bytes procedure bytes call e =
     let p = bind_ok (all_of (arguments_shape procedure) bytes) (λ v. Ok (call_from procedure v)) call (sym (asked_is procedure bytes) ∙ e) in
     subst (λ (c : model.Call). has_bytes c ≡ takes_memory procedure) (ok_is (call_from procedure p.0) call p.2) (bytes_from procedure p.0)
 
-pub undecoded : (xid : ℕ) (procedure : Procedure) (who : model.Credential) (arguments : List ℕ) → (takes_memory procedure ≡ true) × ((call : model.Call) × (asked procedure arguments ≡ Ok call)) → Tells xid requests.Undecoded (heard_from (Call xid procedure who arguments))
-undecoded xid procedure who arguments m =
-    (m.1.0, (who, asked_has_bytes procedure arguments m.1.0 m.1.1 ∙ m.0, ap (λ (r : Result model.Call Unread). Ok (record { xid = xid; asked = asked_by who r })) m.1.1))
+pub undecoded : (xid : ℕ) (procedure : Procedure) (who : model.Credential) (arguments : List ℕ)
+    → (takes_memory procedure ≡ true) × ((call : model.Call) × (asked procedure arguments ≡ Ok call))
+    → Tells xid requests.Undecoded (heard_from (Call xid procedure who arguments))
+undecoded xid procedure who arguments m = (
+  m.1.0,
+  (
+    who,
+    asked_has_bytes procedure arguments m.1.0 m.1.1
+        ∙ m.0,
+    ap (λ (r : Result model.Call Unread). Ok (record { xid = xid; asked = asked_by who r })) m.1.1,
+  ),
+)

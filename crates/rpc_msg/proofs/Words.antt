@@ -10,13 +10,15 @@ passed-cons first (Ok x) = refl
 passed-cons first (Err fault) = refl
 
 -- one word of those that are left
-pub word_passed : (n i : ℕ) (bytes : List ℕ) (x : ℕ × List ℕ) → i < n → read Word bytes ≡ Ok x → passed (items_at (λ rest. read Word rest) (n - i) bytes) ≡ passed (items_at (λ rest. read Word rest) (n - (i + 1)) x.1)
+pub word_passed : (n i : ℕ) (bytes : List ℕ) (x : ℕ × List ℕ) → i < n → read Word bytes ≡ Ok x
+    → passed (items_at (λ rest. read Word rest) (n - i) bytes) ≡ passed (items_at (λ rest. read Word rest) (n - (i + 1)) x.1)
 word_passed n i bytes x lt e =
     let left : n - i ≡ suc (n - (i + 1)) = omega arith in
     rw (left, e) (passed-cons x.0 (items_at (λ rest. read Word rest) (n - (i + 1)) x.1))
 
 -- none is left
-pub word_missing : (n i : ℕ) (bytes : List ℕ) (fault : Fault) → i < n → read Word bytes ≡ Err fault → passed (items_at (λ rest. read Word rest) (n - i) bytes) ≡ Err fault
+pub word_missing : (n i : ℕ) (bytes : List ℕ) (fault : Fault) → i < n → read Word bytes ≡ Err fault
+    → passed (items_at (λ rest. read Word rest) (n - i) bytes) ≡ Err fault
 word_missing n i bytes fault lt e =
     let left : n - i ≡ suc (n - (i + 1)) = omega arith in
     rw (left, e) refl

@@ -3,7 +3,8 @@
 ghost use Rattle.xdr.specs.Shape.{Word, Fixed, Array};
 ghost use Rattle.xdr.specs.Reading.{Gives, items_at, read, all_of};
 ghost use Rattle.nfs_values.specs.Credential.{credential_of};
-ghost use Rattle.rpc_msg.specs.Heads.{acting, auth_sys_shape, bad_credential, body_of, credential_at, user_of as user_from};
+ghost use Rattle.rpc_msg.specs.Heads.{acting, auth_sys_shape, bad_credential, body_of};
+ghost use Rattle.rpc_msg.specs.Heads.{credential_at, user_of as user_from};
 ghost use Rattle.rpc_msg.specs.Seen.{Says, passed, stop_of, with_rest};
 
 use crate::items::fixed;

@@ -5,8 +5,10 @@ ghost use Rattle.xdr.specs.Shape.{Word, Pair};
 ghost use Rattle.xdr.specs.Reading.{read};
 ghost use Rattle.nfs_values.specs.Credential.{credential_of};
 ghost use Rattle.rpc_msg.specs.Replies.{auth_shape};
-ghost use Rattle.rpc_msg.specs.Heads.{body_at, head_of, numbers_shape, procedure_of, version_at, version_of, whole, xid_at};
-ghost use Rattle.rpc_msg.specs.Seen.{Says, auth_value, body_of, fault_number, head_seen, numbers_value, stop_of, with_rest};
+ghost use Rattle.rpc_msg.specs.Heads.{body_at, head_of, numbers_shape, procedure_of, version_at};
+ghost use Rattle.rpc_msg.specs.Heads.{version_of, whole, xid_at};
+ghost use Rattle.rpc_msg.specs.Seen.{Says, auth_value, body_of, fault_number, head_seen};
+ghost use Rattle.rpc_msg.specs.Seen.{numbers_value, stop_of, with_rest};
 
 use crate::credential::read_credential;
 use crate::fault::Fault;

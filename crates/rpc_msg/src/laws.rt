@@ -1,6 +1,7 @@
 //! What holds of every record and of every reply.
 
-ghost use Rattle.std.specs.Prelude.{◌≡◌, ◌⊎◌, ℕ, Bool, ◌≤◌, ◌<◌, List, length, Result, Ok, Err, slice_index};
+ghost use Rattle.std.specs.Prelude.{◌≡◌, ◌⊎◌, ℕ, Bool, ◌≤◌, ◌<◌, List, length, Result, Ok, Err};
+ghost use Rattle.std.specs.Prelude.{slice_index};
 ghost use Rattle.nfs_model.specs.Types as model;
 ghost use Rattle.nfs_model.specs.World.{Heard, IsDecoded};
 ghost use Rattle.nfs_model.specs.ReadOnly.{AsksReading};

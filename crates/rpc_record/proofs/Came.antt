@@ -15,7 +15,8 @@ use Rattle.rpc_record.proofs.Standing as standing
 -- where what came stands
 pub come_stands : (came : List ℕ) (s : State) → HasCome came (Some s) → Stands came s
 come_stands came s h =
-    subst (standing.Says 0 [] came) h.1 (scan_says 0 [] start came h.0 (record { parts = []; joined_is = refl; came_is = refl; short = omega arith; bytes = tt; small = omega arith }))
+    subst (standing.Says 0 [] came) h.1 (scan_says 0 [] start came h.0
+    (record { parts = []; joined_is = refl; came_is = refl; short = omega arith; bytes = tt; small = omega arith }))
 
 -- more bytes, without a record or a fault
 pub come_more : (came bytes : List ℕ) (s u : State) → HasCome came (Some s) → AreBytes bytes → scan 0 s bytes ≡ More u → HasCome (came ++ bytes) (Some u)
@@ -23,21 +24,24 @@ come_more came bytes s u h b e =
     (AreBytes-append came bytes h.0 b, scan-append 0 start came bytes s h.1 ∙ more_any 0 (0 + length came) s bytes u e)
 
 -- a record's end
-come_made : (came bytes made : List ℕ) (s : State) (n : ℕ) → HasCome came (Some s) → AreBytes bytes → scan 0 s bytes ≡ Made n made → (n ≤ length bytes) × IsRecord made (came ++ take n bytes)
+come_made : (came bytes made : List ℕ) (s : State) (n : ℕ) → HasCome came (Some s) → AreBytes bytes → scan 0 s bytes ≡ Made n made
+    → (n ≤ length bytes) × IsRecord made (came ++ take n bytes)
 come_made came bytes made s n h b e =
     let says : standing.Says 0 came bytes (Made n made) = subst (standing.Says 0 came bytes) e (scan_says 0 came s bytes b (come_stands came s h)) in
     let same : says.0 ≡ n = omega (arith, says.1) in
     (omega (arith, says.2), subst (λ (k : ℕ). IsRecord made (came ++ take k bytes)) same says.3)
 
 -- a header at fault
-come_fault : (came bytes : List ℕ) (s : State) (n : ℕ) → HasCome came (Some s) → AreBytes bytes → scan 0 s bytes ≡ Fault n → (n ≤ length bytes) × IsAtFault (came ++ take n bytes)
+come_fault : (came bytes : List ℕ) (s : State) (n : ℕ) → HasCome came (Some s) → AreBytes bytes → scan 0 s bytes ≡ Fault n
+    → (n ≤ length bytes) × IsAtFault (came ++ take n bytes)
 come_fault came bytes s n h b e =
     let says : standing.Says 0 came bytes (Fault n) = subst (standing.Says 0 came bytes) e (scan_says 0 came s bytes b (come_stands came s h)) in
     let same : says.0 ≡ n = omega (arith, says.1) in
     (omega (arith, says.2), subst (λ (k : ℕ). IsAtFault (came ++ take k bytes)) same says.3)
 
 -- What a feed by the machine says in the words of whole streams.
-pub feeds_say : (came bytes : List ℕ) (old new : Option State) (taken : ℕ) (step : Step) → ((i : ℕ) → get_or bytes i 0 < 256) → Feeds old bytes taken step new → HasCome came old → Says came bytes taken step new
+pub feeds_say : (came bytes : List ℕ) (old new : Option State) (taken : ℕ) (step : Step) → ((i : ℕ) → get_or bytes i 0 < 256)
+    → Feeds old bytes taken step new → HasCome came old → Says came bytes taken step new
 feeds_say came bytes None new taken step b f h = absurd h
 feeds_say came bytes (Some s) new taken (steps.Record made) b f h =
     let m = come_made came bytes made.items s taken h (are_bytes bytes b) f.2 in

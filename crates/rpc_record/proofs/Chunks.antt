@@ -1,5 +1,6 @@
 -- Bytes of one fragment's data, all at once.
-use Rattle.std.proofs.Common.{◌≡◌, ℕ, suc, ◌+◌, ◌-◌, ◌<◌, ◌≤◌, Bool, false, cond, eqb, List, [], ◌∷◌, ◌++◌, length, take, drop, refl, sym, ap, ◌∙◌, append_assoc, arith, length-take, min}
+use Rattle.std.proofs.Common.{◌≡◌, ℕ, suc, ◌+◌, ◌-◌, ◌<◌, ◌≤◌, Bool, false, cond, eqb, List, [], ◌∷◌, ◌++◌, length, take, drop, refl, sym, ap, ◌∙◌}
+use Rattle.std.proofs.Common.{append_assoc, arith, length-take, min}
 use Rattle.std.proofs.lemmas.Bool.Decides.{nat_tests}
 use Rattle.std.proofs.lemmas.List.{take-append-drop}
 use Rattle.rpc_record.specs.Machine.{State, InData, Next, Goes, after_fragment, after, scan}
@@ -16,10 +17,12 @@ more_left : (left : ℕ) → 2 ≤ left → eqb left 1 ≡ false
 more_left left h = grind (arith, nat_tests)
 
 -- a beginning of the missing data
-pub data_run : (part rest joined : List ℕ) (t left : ℕ) (last : Bool) → 0 < length part → length part ≤ left → scan t (InData joined left last) (part ++ rest) ≡ rest_of (t + length part) (after_data (joined ++ part) (left - length part) last) rest
+pub data_run : (part rest joined : List ℕ) (t left : ℕ) (last : Bool) → 0 < length part → length part ≤ left
+    → scan t (InData joined left last) (part ++ rest) ≡ rest_of (t + length part) (after_data (joined ++ part) (left - length part) last) rest
 data_run [] rest joined t left last some h = absurd (omega arith)
 data_run (b ∷ []) rest joined t left last some h =
-    ap (λ (v : Bool). rest_of (t + 1) (cond v (after_fragment (joined ++ b ∷ []) last) (Goes (InData (joined ++ b ∷ []) (left - 1) last))) rest) (sym (one_left left (omega arith)))
+    ap (λ (v : Bool). rest_of (t + 1) (cond v (after_fragment (joined ++ b ∷ []) last) (Goes (InData (joined ++ b ∷ []) (left - 1) last))) rest)
+    (sym (one_left left (omega arith)))
 data_run (b ∷ c ∷ part) rest joined t left last some h =
     let turn : after (InData joined left last) b ≡ Goes (InData (joined ++ b ∷ []) (left - 1) last) = rw (more_left left (omega arith)) refl in
     ap (λ (n : Next). rest_of (t + 1) n (c ∷ part ++ rest)) turn
@@ -29,7 +32,8 @@ data_run (b ∷ c ∷ part) rest joined t left last some h =
     ∙ ap (λ (k : ℕ). rest_of (t + suc (suc (length part))) (after_data (joined ++ b ∷ c ∷ part) k last) rest) (omega arith)
 
 -- the same, where the bytes may go on past the fragment
-pub data_taken : (bytes joined : List ℕ) (n t left : ℕ) (last : Bool) → 0 < n → n ≤ left → n ≤ length bytes → scan t (InData joined left last) bytes ≡ rest_of (t + n) (after_data (joined ++ take n bytes) (left - n) last) (drop n bytes)
+pub data_taken : (bytes joined : List ℕ) (n t left : ℕ) (last : Bool) → 0 < n → n ≤ left → n ≤ length bytes
+    → scan t (InData joined left last) bytes ≡ rest_of (t + n) (after_data (joined ++ take n bytes) (left - n) last) (drop n bytes)
 data_taken bytes joined n t left last some h k =
     let len : length (take n bytes) ≡ n = omega (arith, length-take {A = ℕ}) in
     ap (scan t (InData joined left last)) (sym (take-append-drop n bytes))

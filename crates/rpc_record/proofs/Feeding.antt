@@ -1,5 +1,6 @@
 -- What feeding and looking say of a stream that the caller keeps.
-use Rattle.std.proofs.Common.{Bool, true, false, cond, ◌≡◌, ℕ, ◌<◌, ◌≤◌, ◌⊎◌, inl, inr, List, [], ◌∷◌, ◌++◌, length, take, refl, sym, ap, subst, ◌∙◌, arith, Option, Some, None, IsSome}
+use Rattle.std.proofs.Common.{Bool, true, false, cond, ◌≡◌, ℕ, ◌<◌, ◌≤◌, ◌⊎◌, inl, inr, List, [], ◌∷◌, ◌++◌, length, take, refl, sym, ap, subst, ◌∙◌, arith}
+use Rattle.std.proofs.Common.{Option, Some, None, IsSome}
 use Rattle.std.proofs.lemmas.List.{append-nil}
 use Rattle.std.proofs.Math.Seq.{take-length}
 use Rattle.rpc_record.specs.Machine.{State, Outcome, More, Made, Fault, scan, outcome, IsMore}
@@ -12,20 +13,23 @@ use Rattle.rpc_record.proofs.Scans.{IsBefore, scan-take}
 use Rattle.rpc_record.proofs.Streams.{ReadsTo, reads_to, more_read, made_read, fault_read}
 
 -- an answer to bytes that lead to no record and no fault
-pub feeds_more : (failed : Bool) (s new : State) (now : Option State) (bytes : List ℕ) (taken : ℕ) → IsSome now → cond failed None (Some s) ≡ now → scan 0 s bytes ≡ More new → taken ≡ length bytes
+pub feeds_more : (failed : Bool) (s new : State) (now : Option State) (bytes : List ℕ) (taken : ℕ) → IsSome now → cond failed None (Some s) ≡ now
+    → scan 0 s bytes ≡ More new → taken ≡ length bytes
     → Feeds now bytes taken steps.More (cond failed None (Some new))
 feeds_more true s new now bytes taken some v e all = let none : IsSome {T = State} None = subst (λ (o : Option State). IsSome o) (sym v) some in absurd cc
 feeds_more false s new now bytes taken some v e all = (all, (new, ap (λ (o : Option State). outcome o bytes) (sym v) ∙ e, refl))
 
 -- Bytes that lead to no record and no fault are all taken, if there is memory.
-pub more_answers : (bytes : List ℕ) (old new : Option State) (taken : ℕ) (step : Step) → IsMore (outcome old bytes) → Feeds old bytes taken step new → ((step ≡ steps.More) × (taken ≡ length bytes)) ⊎ ((step ≡ steps.NoMemory) × (taken ≡ 0) × (new ≡ old))
+pub more_answers : (bytes : List ℕ) (old new : Option State) (taken : ℕ) (step : Step) → IsMore (outcome old bytes) → Feeds old bytes taken step new
+    → ((step ≡ steps.More) × (taken ≡ length bytes)) ⊎ ((step ≡ steps.NoMemory) × (taken ≡ 0) × (new ≡ old))
 more_answers bytes old new taken (steps.Record made) more f = let wrong : Made taken made.items ≡ More more.0 = sym f.2 ∙ more.1 in absurd cc
 more_answers bytes old new taken steps.More more f = inl (refl, f.0)
 more_answers bytes old new taken steps.Fault more f = let wrong : Fault taken ≡ More more.0 = sym f.1 ∙ more.1 in absurd cc
 more_answers bytes old new taken steps.NoMemory more f = inr (refl, f.0, f.2)
 
 -- the same, by the answer alone
-pub more_gives_nothing : (bytes : List ℕ) (old new : Option State) (taken : ℕ) (step : Step) → IsMore (outcome old bytes) → Feeds old bytes taken step new → GivesNothing step
+pub more_gives_nothing : (bytes : List ℕ) (old new : Option State) (taken : ℕ) (step : Step) → IsMore (outcome old bytes) → Feeds old bytes taken step new
+    → GivesNothing step
 more_gives_nothing bytes old new taken (steps.Record made) more f = let wrong : Made taken made.items ≡ More more.0 = sym f.2 ∙ more.1 in absurd cc
 more_gives_nothing bytes old new taken steps.More more f = tt
 more_gives_nothing bytes old new taken steps.Fault more f = let wrong : Fault taken ≡ More more.0 = sym f.1 ∙ more.1 in absurd cc
@@ -42,7 +46,8 @@ fewer_scanned : (bytes : List ℕ) (s : State) (o : Outcome) (n : ℕ) → scan 
 fewer_scanned bytes s o n e h = scan-take 0 n s bytes o e (subst (λ (k : ℕ). IsBefore k o) (omega arith) h)
 
 -- Fewer bytes than a feed takes lead to no record and no fault.
-pub feeds_fewer : (bytes : List ℕ) (old new : Option State) (taken n : ℕ) (step : Step) → Feeds old bytes taken step new → n < taken → IsMore (outcome old (take n bytes))
+pub feeds_fewer : (bytes : List ℕ) (old new : Option State) (taken n : ℕ) (step : Step) → Feeds old bytes taken step new → n < taken
+    → IsMore (outcome old (take n bytes))
 feeds_fewer bytes None new taken n (steps.Record made) f h = let wrong : Fault 0 ≡ Made taken made.items = f.2 in absurd cc
 feeds_fewer bytes None new taken n steps.More f h = let wrong : Fault 0 ≡ More f.1.0 = f.1.1 in absurd cc
 feeds_fewer bytes None new taken n steps.Fault f h = absurd (omega (arith, h, fault_at 0 taken f.1))
@@ -75,13 +80,15 @@ none_taken : (stream bytes : List ℕ) (n : ℕ) → n ≡ 0 → stream ++ take 
 none_taken stream bytes n e = ap (λ (k : ℕ). stream ++ take k bytes) e ∙ append-nil stream
 
 -- no record more
-no_more_records : (r : Reading) (records : List (List ℕ)) (new at : Option State) → r ≡ record { records = records; at = at } → new ≡ at → r ≡ record { records = records ++ []; at = new }
+no_more_records : (r : Reading) (records : List (List ℕ)) (new at : Option State) → r ≡ record { records = records; at = at } → new ≡ at
+    → r ≡ record { records = records ++ []; at = new }
 no_more_records r records new at e same =
     e ∙ ap (λ (o : Option State). record { records = records; at = o }) (sym same)
     ∙ ap (λ (all : List (List ℕ)). record { records = all; at = new }) (sym (append-nil records))
 
 -- where nothing was taken, nothing is read
-nothing_read : (stream bytes : List ℕ) (n : ℕ) (old new : Option State) → (read_stream stream).at ≡ old → n ≡ 0 → new ≡ old → read_stream (stream ++ take n bytes) ≡ record { records = (read_stream stream).records ++ []; at = new }
+nothing_read : (stream bytes : List ℕ) (n : ℕ) (old new : Option State) → (read_stream stream).at ≡ old → n ≡ 0 → new ≡ old
+    → read_stream (stream ++ take n bytes) ≡ record { records = (read_stream stream).records ++ []; at = new }
 nothing_read stream bytes n old new at none same =
     no_more_records (read_stream (stream ++ take n bytes)) (read_stream stream).records new old
     (ap read_stream (none_taken stream bytes n none) ∙ ap (λ (o : Option State). record { records = (read_stream stream).records; at = o }) at) same
@@ -118,19 +125,23 @@ look_within bytes None = omega arith
 look_within bytes (Some s) = outcome_within bytes s (scan 0 s bytes) (reads_to 0 s bytes)
 
 -- A look tells what a feed takes and answers.
-pub feeds_tell : (old new : Option State) (bytes : List ℕ) (taken : ℕ) (step : Step) → Feeds old bytes taken step new → Tells (look_at bytes (outcome old bytes)) taken step
+pub feeds_tell : (old new : Option State) (bytes : List ℕ) (taken : ℕ) (step : Step) → Feeds old bytes taken step new
+    → Tells (look_at bytes (outcome old bytes)) taken step
 feeds_tell old new bytes taken (steps.Record made) f = ap (look_at bytes) f.2
 feeds_tell old new bytes taken steps.More f = ap (look_at bytes) f.1.1 ∙ ap (λ (k : ℕ). (k, looks.More)) (sym f.0)
 feeds_tell old new bytes taken steps.Fault f = ap (look_at bytes) f.1
 feeds_tell old new bytes taken steps.NoMemory f = tt
 
 -- what an outcome says of the stream
-outcome_foreseen : (stream bytes : List ℕ) (s : State) (o : Outcome) → (read_stream stream).at ≡ Some s → scan 0 s bytes ≡ o → Foresees stream bytes (look_at bytes o).0 (look_at bytes o).1
+outcome_foreseen : (stream bytes : List ℕ) (s : State) (o : Outcome) → (read_stream stream).at ≡ Some s → scan 0 s bytes ≡ o
+    → Foresees stream bytes (look_at bytes o).0 (look_at bytes o).1
 outcome_foreseen stream bytes s (More u) at e = (refl, (u, more_read stream bytes s u at e))
 outcome_foreseen stream bytes s (Made n made) at e = let r = made_read stream bytes made s n at e in (r.0, r.1, (made, r.2))
 outcome_foreseen stream bytes s (Fault n) at e = let r = fault_read stream bytes s n at e in (r.1, r.2)
 
 -- what a look says of the stream
-pub look_foresees : (stream bytes : List ℕ) (old : Option State) → (read_stream stream).at ≡ old → Foresees stream bytes (look_at bytes (outcome old bytes)).0 (look_at bytes (outcome old bytes)).1
-look_foresees stream bytes None at = (omega arith, ap read_stream (none_taken stream bytes 0 refl) ∙ ap (λ (o : Option State). record { records = (read_stream stream).records; at = o }) at)
+pub look_foresees : (stream bytes : List ℕ) (old : Option State) → (read_stream stream).at ≡ old
+    → Foresees stream bytes (look_at bytes (outcome old bytes)).0 (look_at bytes (outcome old bytes)).1
+look_foresees stream bytes None at =
+    (omega arith, ap read_stream (none_taken stream bytes 0 refl) ∙ ap (λ (o : Option State). record { records = (read_stream stream).records; at = o }) at)
 look_foresees stream bytes (Some s) at = outcome_foreseen stream bytes s (scan 0 s bytes) at refl

@@ -1,5 +1,6 @@
 -- The scan finds the records that a stream spells, and no others.
-use Rattle.std.proofs.Common.{◌≡◌, ℕ, suc, ◌+◌, ◌-◌, ◌%◌, ◌^◌, ◌<◌, ◌≤◌, Bool, true, false, cond, eqb, ltb, List, [], ◌∷◌, ◌++◌, length, refl, sym, ap, ◌∙◌, append_assoc, arith, length-append}
+use Rattle.std.proofs.Common.{◌≡◌, ℕ, suc, ◌+◌, ◌-◌, ◌%◌, ◌^◌, ◌<◌, ◌≤◌, Bool, true, false, cond, eqb, ltb, List, [], ◌∷◌, ◌++◌, length, refl, sym, ap, ◌∙◌}
+use Rattle.std.proofs.Common.{append_assoc, arith, length-append}
 use Rattle.std.specs.Prelude.{nat_le}
 use Rattle.std.specs.List.{concat}
 use Rattle.std.specs.Int.{w32, to_be_bytes}
@@ -16,14 +17,16 @@ same_at : (t u : ℕ) (n : Next) (bytes : List ℕ) → t ≡ u → rest_of t n 
 same_at t u n bytes e = ap (λ (k : ℕ). rest_of k n bytes) e
 
 -- all of a fragment's data
-data_ends : (part rest joined : List ℕ) (t : ℕ) (last : Bool) → 0 < length part → scan t (InData joined (length part) last) (part ++ rest) ≡ rest_of (t + length part) (after_fragment (joined ++ part) last) rest
+data_ends : (part rest joined : List ℕ) (t : ℕ) (last : Bool) → 0 < length part
+    → scan t (InData joined (length part) last) (part ++ rest) ≡ rest_of (t + length part) (after_fragment (joined ++ part) last) rest
 data_ends part rest joined t last some =
     let none_left : length part - length part ≡ 0 = omega arith in
     data_run part rest joined t (length part) last some (omega arith)
     ∙ ap (λ (left : ℕ). rest_of (t + length part) (after_data (joined ++ part) left last) rest) none_left
 
 -- a whole header
-header_run : (number t : ℕ) (joined rest : List ℕ) → number < 2 ^ 32 → scan t (InHeader joined []) (to_be_bytes w32 number ++ rest) ≡ rest_of (t + 4) (after_header joined number) rest
+header_run : (number t : ℕ) (joined rest : List ℕ) → number < 2 ^ 32
+    → scan t (InHeader joined []) (to_be_bytes w32 number ++ rest) ≡ rest_of (t + 4) (after_header joined number) rest
 header_run number t joined rest lt =
     ap (λ (k : ℕ). rest_of (t + 1 + 1 + 1 + 1) (after_header joined k) rest) (from_be_bytes-to_be_bytes_4 number lt)
     ∙ same_at (t + 1 + 1 + 1 + 1) (t + 4) (after_header joined number) rest (omega arith)
@@ -44,13 +47,15 @@ number_fits n true h = omega arith
 number_fits n false h = omega arith
 
 -- a header within the limit
-entered : (joined : List ℕ) (n : ℕ) (last : Bool) → length joined + n ≤ limit → after_header joined (n + cond last last_bit 0) ≡ cond (eqb n 0) (after_fragment joined last) (Goes (InData joined n last))
+entered : (joined : List ℕ) (n : ℕ) (last : Bool) → length joined + n ≤ limit
+    → after_header joined (n + cond last last_bit 0) ≡ cond (eqb n 0) (after_fragment joined last) (Goes (InData joined n last))
 entered joined n last h =
     let small : ltb limit (length joined + n) ≡ false = grind (arith, nat_tests) in
     rw (size_is n last (omega arith), last_is n last (omega arith), small) refl
 
 -- a whole fragment
-fragment_run : (p rest : List ℕ) (t : ℕ) (joined : List ℕ) (last : Bool) → length joined + length p ≤ limit → scan t (InHeader joined []) (fragment last p ++ rest) ≡ rest_of (t + length (fragment last p)) (after_fragment (joined ++ p) last) rest
+fragment_run : (p rest : List ℕ) (t : ℕ) (joined : List ℕ) (last : Bool) → length joined + length p ≤ limit
+    → scan t (InHeader joined []) (fragment last p ++ rest) ≡ rest_of (t + length (fragment last p)) (after_fragment (joined ++ p) last) rest
 fragment_run [] rest t joined last h =
     header_run (0 + cond last last_bit 0) t joined rest (number_fits 0 last (omega arith))
     ∙ ap (λ (n : Next). rest_of (t + 4) n rest) (entered joined 0 last h)
@@ -65,8 +70,10 @@ fragment_run (b ∷ p) rest t joined last h =
     ∙ same_at (t + 4 + suc (length p)) (t + length (fragment last (b ∷ p))) (after_fragment (joined ++ b ∷ p) last) rest (omega arith)
 
 -- fragments that are not the last
-front_run : (parts : List (List ℕ)) (rest : List ℕ) (t : ℕ) (joined : List ℕ) → length joined + length (concat parts) ≤ limit → scan t (InHeader joined []) (front parts ++ rest) ≡ scan (t + length (front parts)) (InHeader (joined ++ concat parts) []) rest
-front_run [] rest t joined h = ap (λ (j : List ℕ). scan t (InHeader j []) rest) (sym (append-nil joined)) ∙ ap (λ (k : ℕ). scan k (InHeader (joined ++ []) []) rest) (omega arith)
+front_run : (parts : List (List ℕ)) (rest : List ℕ) (t : ℕ) (joined : List ℕ) → length joined + length (concat parts) ≤ limit
+    → scan t (InHeader joined []) (front parts ++ rest) ≡ scan (t + length (front parts)) (InHeader (joined ++ concat parts) []) rest
+front_run [] rest t joined h =
+    ap (λ (j : List ℕ). scan t (InHeader j []) rest) (sym (append-nil joined)) ∙ ap (λ (k : ℕ). scan k (InHeader (joined ++ []) []) rest) (omega arith)
 front_run (p ∷ parts) rest t joined h =
     let f = fragment false p in
     let len : length (concat (p ∷ parts)) ≡ length p + length (concat parts) = length-append p (concat parts) in
@@ -123,5 +130,6 @@ no_fault_yet bytes s e begun after parts f =
 -- Before a header at fault no record is whole, nor with what comes after it.
 pub no_record_at_fault : (bytes begun after : List ℕ) → bytes ≡ begun ++ after → IsAtFault begun → HasNoRecord bytes
 no_record_at_fault bytes begun after parts f made spelled others whole r =
-    let both : Fault (length begun) ≡ Made (length spelled) made = sym (fault_found begun after f) ∙ ap (scan 0 (InHeader [] [])) (sym parts ∙ whole) ∙ found made spelled others r in
+    let both : Fault (length begun) ≡ Made (length spelled) made = sym (fault_found begun after f) ∙ ap (scan 0 (InHeader [] [])) (sym parts ∙ whole)
+    ∙ found made spelled others r in
     absurd cc

@@ -7,7 +7,8 @@ state_is : (s u : State) → More s ≡ More u → s ≡ u
 state_is s u e = cc
 
 -- past one byte
-more_next : (t : ℕ) (n : Next) (xs ys : List ℕ) (u : State) → ((v : State) → scan (t + 1) v xs ≡ More u → scan (t + 1) v (xs ++ ys) ≡ scan (t + 1 + length xs) u ys)
+more_next : (t : ℕ) (n : Next) (xs ys : List ℕ) (u : State)
+    → ((v : State) → scan (t + 1) v xs ≡ More u → scan (t + 1) v (xs ++ ys) ≡ scan (t + 1 + length xs) u ys)
     → go (t + 1) n (λ v. scan (t + 1) v xs) ≡ More u → go (t + 1) n (λ v. scan (t + 1) v (xs ++ ys)) ≡ scan (t + suc (length xs)) u ys
 more_next t (Goes v) xs ys u f e = f v e ∙ ap (λ (k : ℕ). scan k u ys) (omega arith)
 more_next t (Ends m) xs ys u f e = absurd cc
@@ -41,7 +42,8 @@ before_is : (n m : ℕ) (o : Outcome) → n ≡ m → IsBefore n o → IsBefore 
 before_is n m o e h = subst (λ (k : ℕ). IsBefore k o) e h
 
 -- past one byte
-before_next : (t j : ℕ) (n : Next) (xs : List ℕ) (o : Outcome) → ((v : State) → scan (t + 1) v xs ≡ o → (u : State) × (scan (t + 1) v (take j xs) ≡ More u)) → go (t + 1) n (λ v. scan (t + 1) v xs) ≡ o → IsBefore (t + suc j) o
+before_next : (t j : ℕ) (n : Next) (xs : List ℕ) (o : Outcome) → ((v : State) → scan (t + 1) v xs ≡ o → (u : State) × (scan (t + 1) v (take j xs) ≡ More u))
+    → go (t + 1) n (λ v. scan (t + 1) v xs) ≡ o → IsBefore (t + suc j) o
     → (u : State) × (go (t + 1) n (λ v. scan (t + 1) v (take j xs)) ≡ More u)
 before_next t j (Goes v) xs o f e h = f v e
 before_next t j (Ends m) xs o f e h = let h2 : IsBefore (t + suc j) (Made (t + 1) m) = subst (IsBefore (t + suc j)) (sym e) h in absurd (omega (arith, h2))

@@ -1,5 +1,6 @@
 -- What the scan finds is spelled so.
-use Rattle.std.proofs.Common.{◌≡◌, ℕ, suc, ◌+◌, ◌-◌, ◌%◌, ◌^◌, ◌<◌, ◌≤◌, ◌≢◌, Bool, true, false, cond, eqb, ltb, List, [], ◌∷◌, ◌++◌, length, take, refl, sym, ap, subst, ◌∙◌, append_assoc, arith, length-append}
+use Rattle.std.proofs.Common.{◌≡◌, ℕ, suc, ◌+◌, ◌-◌, ◌%◌, ◌^◌, ◌<◌, ◌≤◌, ◌≢◌, Bool, true, false, cond, eqb, ltb, List, [], ◌∷◌, ◌++◌, length, take, refl, sym}
+use Rattle.std.proofs.Common.{ap, subst, ◌∙◌, append_assoc, arith, length-append}
 use Rattle.std.specs.Prelude.{nat_le}
 use Rattle.std.specs.List.{concat}
 use Rattle.std.specs.Int.{w32, to_be_bytes, from_be_bytes}
@@ -10,7 +11,8 @@ use Rattle.std.proofs.lemmas.Nat.{be_bytes_4}
 use Rattle.rpc_record.specs.Stream.{AreBytes}
 use Rattle.rpc_record.proofs.Bytes.{AreBytes-append, below}
 use Rattle.rpc_record.specs.Records.{limit, last_bit, header, fragment, front, IsRecord, IsAtFault}
-use Rattle.rpc_record.specs.Machine.{State, InHeader, InData, Next, Goes, Ends, Faults, Outcome, More, Made, Fault, after_fragment, after_header, after, go, scan}
+use Rattle.rpc_record.specs.Machine.{State, InHeader, InData, Next, Goes, Ends, Faults, Outcome, More, Made, Fault, after_fragment, after_header, after, go}
+use Rattle.rpc_record.specs.Machine.{scan}
 
 -- bytes that end in fewer than four of a header
 pub record HeaderStands (came joined header : List ℕ) : Type 0 where
@@ -51,10 +53,12 @@ concat-push (q ∷ parts) p = ap (λ (x : List ℕ). q ++ x) (concat-push parts 
 -- one fragment more
 front-push : (parts : List (List ℕ)) (p : List ℕ) → front (parts ++ p ∷ []) ≡ front parts ++ fragment false p
 front-push [] p = append-nil _
-front-push (q ∷ parts) p = ap (λ (x : List ℕ). fragment false q ++ x) (front-push parts p) ∙ sym (append_assoc (fragment false q) (front parts) (fragment false p))
+front-push (q ∷ parts) p =
+    ap (λ (x : List ℕ). fragment false q ++ x) (front-push parts p) ∙ sym (append_assoc (fragment false q) (front parts) (fragment false p))
 
 -- at a fragment's end
-ended : (parts : List (List ℕ)) (p came : List ℕ) (last : Bool) → length (concat parts) + length p ≤ limit → came ≡ front parts ++ fragment last p → Leads came (after_fragment (concat parts ++ p) last)
+ended : (parts : List (List ℕ)) (p came : List ℕ) (last : Bool) → length (concat parts) + length p ≤ limit → came ≡ front parts ++ fragment last p
+    → Leads came (after_fragment (concat parts ++ p) last)
 ended parts p came true h e = record { parts = parts; last = p; joined = refl; small = omega (arith, length-append (concat parts) p); bytes_are = e }
 ended parts p came false h e = record {
   parts = parts ++ p ∷ [];
@@ -80,17 +84,30 @@ number_is : (number : ℕ) → number < 2 ^ 32 → number ≡ number % last_bit 
 number_is number h = number_by (nat_le last_bit number) number h refl
 
 -- at a header's end
-entered : (parts : List (List ℕ)) (came : List ℕ) (number : ℕ) → number < 2 ^ 32 → length (concat parts) ≤ limit → came ≡ front parts ++ to_be_bytes w32 number → Leads came (after_header (concat parts) number)
+entered : (parts : List (List ℕ)) (came : List ℕ) (number : ℕ) → number < 2 ^ 32 → length (concat parts) ≤ limit
+    → came ≡ front parts ++ to_be_bytes w32 number → Leads came (after_header (concat parts) number)
 entered parts came number fits small e =
     let size = number % last_bit in
     let last = nat_le last_bit number in
     let split : number ≡ size + cond last last_bit 0 = number_is number fits in
-    cond_leads (ltb limit (length (concat parts) + size)) Faults (cond (eqb size 0) (after_fragment (concat parts) last) (Goes (InData (concat parts) size last))) came
-    (λ big. record { parts = parts; last = last; size = size; fits = omega arith; before = small; above = ltb-true _ _ big; bytes_are = e ∙ ap (λ (n : ℕ). front parts ++ to_be_bytes w32 n) split })
+    cond_leads (ltb limit (length (concat parts) + size)) Faults
+    (cond (eqb size 0) (after_fragment (concat parts) last) (Goes (InData (concat parts) size last))) came
+    (λ big. record {
+      parts = parts;
+      last = last;
+      size = size;
+      fits = omega arith;
+      before = small;
+      above = ltb-true _ _ big;
+      bytes_are = e
+          ∙ ap (λ (n : ℕ). front parts ++ to_be_bytes w32 n) split;
+    })
     (λ room. cond_leads (eqb size 0) (after_fragment (concat parts) last) (Goes (InData (concat parts) size last)) came
     (λ none. let zero_size : size ≡ 0 = eqb-true _ _ none in
     subst (λ (j : List ℕ). Leads came (after_fragment j last)) (append-nil (concat parts))
-    (ended parts [] came last (omega arith) (e ∙ ap (λ (n : ℕ). front parts ++ to_be_bytes w32 n) (split ∙ ap (λ (k : ℕ). k + cond last last_bit 0) zero_size) ∙ ap (λ (x : List ℕ). front parts ++ x) (sym (append-nil _)))))
+    (ended parts [] came last (omega arith) (e
+    ∙ ap (λ (n : ℕ). front parts ++ to_be_bytes w32 n) (split ∙ ap (λ (k : ℕ). k + cond last last_bit 0) zero_size)
+    ∙ ap (λ (x : List ℕ). front parts ++ x) (sym (append-nil _)))))
     (λ some. let positive : 0 < size = grind (arith, nat_tests) in
     record {
       parts = parts;
@@ -116,23 +133,44 @@ leads came (InHeader joined header) b lt h =
     let fits : number < 2 ^ 32 = omega (arith, below bytes all 0, below bytes all 1, below bytes all 2, below bytes all 3) in
     let spelled : to_be_bytes w32 number ≡ bytes = be_bytes_4 bytes number len (below bytes all) refl in
     subst (λ (j : List ℕ). Leads (came ++ b ∷ []) (after_header j number)) (sym h.joined_is)
-    (entered h.parts (came ++ b ∷ []) number fits (omega (arith, ap length h.joined_is, h.small)) (now ∙ ap (λ (x : List ℕ). front h.parts ++ x) (sym spelled))))
+    (entered h.parts (came ++ b ∷ []) number fits (omega (arith, ap length h.joined_is, h.small)) (now
+    ∙ ap (λ (x : List ℕ). front h.parts ++ x) (sym spelled))))
     (λ short.
     let less : length header ≢ 3 = eqb-false (length header) 3 short in
-    record { parts = h.parts; joined_is = h.joined_is; came_is = now; short = omega (arith, length-append header (b ∷ []), h.short); bytes = AreBytes-append header (b ∷ []) h.bytes (lt, tt); small = h.small })
+    record {
+      parts = h.parts;
+      joined_is = h.joined_is;
+      came_is = now;
+      short = omega
+          (arith, length-append header (b ∷ []), h.short);
+      bytes = AreBytes-append header (b ∷ []) h.bytes (lt, tt);
+      small = h.small;
+    })
 leads came (InData joined left last) b lt h =
     let part = h.part ++ b ∷ [] in
     let head = header last h.size in
-    let now : came ++ b ∷ [] ≡ front h.parts ++ (head ++ part) = ap (λ (x : List ℕ). x ++ b ∷ []) h.came_is ∙ append_assoc (front h.parts) (head ++ h.part) (b ∷ []) ∙ ap (λ (x : List ℕ). front h.parts ++ x) (append_assoc head h.part (b ∷ [])) in
+    let now : came ++ b ∷ [] ≡ front h.parts ++ (head ++ part) = ap (λ (x : List ℕ). x ++ b ∷ []) h.came_is
+    ∙ append_assoc (front h.parts) (head ++ h.part) (b ∷ []) ∙ ap (λ (x : List ℕ). front h.parts ++ x) (append_assoc head h.part (b ∷ [])) in
     let joins : joined ++ b ∷ [] ≡ concat h.parts ++ part = ap (λ (x : List ℕ). x ++ b ∷ []) h.joined_is ∙ append_assoc (concat h.parts) h.part (b ∷ []) in
     cond_leads (eqb left 1) (after_fragment (joined ++ b ∷ []) last) (Goes (InData (joined ++ b ∷ []) (left - 1) last)) (came ++ b ∷ [])
     (λ full.
     let len : h.size ≡ length part = omega (arith, length-append h.part (b ∷ []), eqb-true left 1 full, h.size_is) in
     subst (λ (j : List ℕ). Leads (came ++ b ∷ []) (after_fragment j last)) (sym joins)
-    (ended h.parts part (came ++ b ∷ []) last (omega (arith, h.small, len)) (now ∙ ap (λ (n : ℕ). front h.parts ++ (to_be_bytes w32 (n + cond last last_bit 0) ++ part)) len)))
+    (ended h.parts part (came ++ b ∷ []) last (omega (arith, h.small, len)) (now
+    ∙ ap (λ (n : ℕ). front h.parts ++ (to_be_bytes w32 (n + cond last last_bit 0) ++ part)) len)))
     (λ more.
     let less : left ≢ 1 = eqb-false left 1 more in
-    record { parts = h.parts; part = part; size = h.size; joined_is = joins; came_is = now; size_is = omega (arith, length-append h.part (b ∷ []), h.size_is, h.some); some = omega (arith, h.some); small = h.small })
+    record {
+      parts = h.parts;
+      part = part;
+      size = h.size;
+      joined_is = joins;
+      came_is = now;
+      size_is = omega
+          (arith, length-append h.part (b ∷ []), h.size_is, h.some);
+      some = omega (arith, h.some);
+      small = h.small;
+    })
 
 -- the next byte is one that has come
 cons-front : (came : List ℕ) (b : ℕ) (bytes : List ℕ) → (came ++ b ∷ []) ++ bytes ≡ came ++ b ∷ bytes
@@ -151,7 +189,8 @@ says-cons t came b bytes (Made n made) h = (suc h.0, omega (arith, h.1), omega (
 says-cons t came b bytes (Fault n) h = (suc h.0, omega (arith, h.1), omega (arith, h.2), subst IsAtFault (cons-front came b (take h.0 bytes)) h.3)
 
 -- past one byte
-next_says : (n : Next) (t : ℕ) (came bytes : List ℕ) → ((next : State) → Stands came next → Says t came bytes (scan t next bytes)) → Leads came n → Says t came bytes (go t n (λ next. scan t next bytes))
+next_says : (n : Next) (t : ℕ) (came bytes : List ℕ) → ((next : State) → Stands came next → Says t came bytes (scan t next bytes)) → Leads came n
+    → Says t came bytes (go t n (λ next. scan t next bytes))
 next_says (Goes s) t came bytes f h = f s h
 next_says (Ends made) t came bytes f h = (0, omega arith, omega arith, subst (IsRecord made) (sym (append-nil came)) h)
 next_says Faults t came bytes f h = (0, omega arith, omega arith, subst IsAtFault (sym (append-nil came)) h)
@@ -160,4 +199,5 @@ next_says Faults t came bytes f h = (0, omega arith, omega arith, subst IsAtFaul
 pub scan_says : (t : ℕ) (came : List ℕ) (s : State) (bytes : List ℕ) → AreBytes bytes → Stands came s → Says t came bytes (scan t s bytes)
 scan_says t came s [] f h = subst (λ (x : List ℕ). Stands x s) (sym (append-nil came)) h
 scan_says t came s (b ∷ bytes) f h =
-    says-cons t came b bytes (scan t s (b ∷ bytes)) (next_says (after s b) (t + 1) (came ++ b ∷ []) bytes (λ next p. scan_says (t + 1) (came ++ b ∷ []) next bytes f.1 p) (leads came s b f.0 h))
+    says-cons t came b bytes (scan t s (b ∷ bytes))
+    (next_says (after s b) (t + 1) (came ++ b ∷ []) bytes (λ next p. scan_says (t + 1) (came ++ b ∷ []) next bytes f.1 p) (leads came s b f.0 h))

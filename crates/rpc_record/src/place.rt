@@ -1,6 +1,7 @@
 ghost use Rattle.std.specs.Prelude.{◌≡◌, ◌+◌, ◌-◌, ◌<◌, ◌≤◌, List, ℕ, length};
 ghost use Rattle.rpc_record.specs.Machine.{scan, after, after_fragment, after_header};
-ghost use Rattle.rpc_record.specs.Place.{state, next_of, IsSound, Turns, joined_by, after_data, walk_to};
+ghost use Rattle.rpc_record.specs.Place.{state, next_of, IsSound, Turns, joined_by, after_data};
+ghost use Rattle.rpc_record.specs.Place.{walk_to};
 
 use byteorder::{BigEndian, ByteOrder};
 
@@ -49,7 +50,8 @@ impl Place {
     /// A fragment's end.
     fn end_fragment(&mut self, last: bool) -> Turn
         requires { IsSound self.old }
-        ensures next { (joined : List ℕ) → next_of result joined self.new ≡ after_fragment joined last }
+        ensures next { (joined : List ℕ)
+            → next_of result joined self.new ≡ after_fragment joined last }
         ensures joined { self.new.joined ≡ self.old.joined }
         ensures sound { IsSound self.new }
     {

@@ -1,7 +1,9 @@
-ghost use Rattle.std.specs.Prelude.{◌≡◌, ◌≤◌, ◌<◌, ◌++◌, List, ℕ, length, take, Option, Some, None, IsSome};
+ghost use Rattle.std.specs.Prelude.{◌≡◌, ◌≤◌, ◌<◌, ◌++◌, List, ℕ, length, take, Option, Some, None};
+ghost use Rattle.std.specs.Prelude.{IsSome};
 ghost use Rattle.rpc_record.specs.Machine.{State, start, outcome, IsMore};
 ghost use Rattle.rpc_record.specs.Stream.{read_stream};
-ghost use Rattle.rpc_record.specs.Feeds.{Feeds, GoesOn, Foresees, HasCome, Says, GivesNothing, given, look_at, Tells};
+ghost use Rattle.rpc_record.specs.Feeds.{Feeds, GoesOn, Foresees, HasCome, Says, GivesNothing};
+ghost use Rattle.rpc_record.specs.Feeds.{given, look_at, Tells};
 ghost use Rattle.rpc_record.specs.declared.reassembler.Step.{Step};
 ghost use Rattle.rpc_record.specs.declared.reassembler.Step.TheVariants as steps;
 

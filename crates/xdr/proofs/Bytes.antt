@@ -1,5 +1,6 @@
 -- Bytes and their padding.
-use Rattle.std.proofs.Common.{◌≡◌, ℕ, zero, suc, ◌+◌, ◌^◌, ◌<◌, ◌≤◌, Bool, true, false, cond, ltb, eqb, List, [], ◌∷◌, ◌++◌, length, take, drop, replicate, Ok, Err, refl, sym, ap, subst, ◌∙◌, append_assoc, arith, ◌&&◌, inl, inr}
+use Rattle.std.proofs.Common.{◌≡◌, ℕ, zero, suc, ◌+◌, ◌^◌, ◌<◌, ◌≤◌, Bool, true, false, cond, ltb, eqb, List, [], ◌∷◌, ◌++◌, length, take, drop, replicate}
+use Rattle.std.proofs.Common.{Ok, Err, refl, sym, ap, subst, ◌∙◌, append_assoc, arith, ◌&&◌, inl, inr}
 use Rattle.std.specs.List.{list_all}
 use Rattle.std.proofs.lemmas.Bool.{ltb-false, le-ltb, eqb-true}
 use Rattle.std.proofs.lemmas.List.{take_at, drop_at, take-append-drop, length-append, length-take, length-drop, length-replicate}
@@ -23,7 +24,8 @@ are_zeros : (n : ℕ) → list_all (λ b. eqb b 0) (replicate n 0) ≡ true
 are_zeros zero = refl
 are_zeros (suc n) = are_zeros n
 
-padded_parts : (n : ℕ) (bytes : List ℕ) → take (padding n) (drop n bytes) ≡ replicate (padding n) 0 → length (take n bytes) ≡ n → bytes ≡ padded (take n bytes) ++ drop (padding n) (drop n bytes)
+padded_parts : (n : ℕ) (bytes : List ℕ) → take (padding n) (drop n bytes) ≡ replicate (padding n) 0 → length (take n bytes) ≡ n
+    → bytes ≡ padded (take n bytes) ++ drop (padding n) (drop n bytes)
 padded_parts n bytes zeros front =
     let text = take n bytes in
     let behind = drop n bytes in
@@ -36,18 +38,23 @@ padded_parts n bytes zeros front =
 pub fixed_found : (n : ℕ) → Found (fixed_at n) padded (λ bytes. length bytes ≡ n)
 unfolding fixed_at
 fixed_found n bytes x fits e =
-    elim (chosen (ltb (length bytes) (n + padding n)) (Err Short) (cond (list_all (λ b. eqb b 0) (take (padding n) (drop n bytes))) (Ok (take n bytes, drop (padding n) (drop n bytes))) (Err BadPad)) (Ok x) e) [
+    elim (chosen (ltb (length bytes) (n + padding n)) (Err Short)
+    (cond (list_all (λ b. eqb b 0) (take (padding n) (drop n bytes))) (Ok (take n bytes, drop (padding n) (drop n bytes))) (Err BadPad)) (Ok x) e) [
       | inl h ↦ absurd cc
-      | inr h ↦ elim (chosen (list_all (λ b. eqb b 0) (take (padding n) (drop n bytes))) (Ok (take n bytes, drop (padding n) (drop n bytes))) (Err BadPad) (Ok x) h.1) [
-        | inl k ↦
-            let long : n + padding n ≤ length bytes = ltb-false _ _ h.0 in
-            let front : length (take n bytes) ≡ n = omega (arith, length-take n bytes) in
-            let zeros : take (padding n) (drop n bytes) ≡ replicate (padding n) 0 = zeros_are _ k.0 ∙ ap (λ (m : ℕ). replicate m 0) (omega (arith, length-take (padding n) (drop n bytes), length-drop n bytes)) in
-            let parts = padded_parts n bytes zeros front in
-            let made : List ℕ × List ℕ = (take n bytes, drop (padding n) (drop n bytes)) in
-            subst (λ (y : List ℕ × List ℕ). Splits bytes (padded y.0) y.1 × (length y.0 ≡ n)) (ok_is made x k.1) (record { parts = parts; rest_fits = IsBytes-drop (padding n) (drop n bytes) (IsBytes-drop n bytes fits) }, front)
-        | inr k ↦ absurd cc
-      ]
+      | inr h ↦
+          elim (chosen (list_all (λ b. eqb b 0) (take (padding n) (drop n bytes))) (Ok (take n bytes, drop (padding n) (drop n bytes))) (Err BadPad)
+          (Ok x) h.1) [
+            | inl k ↦
+                let long : n + padding n ≤ length bytes = ltb-false _ _ h.0 in
+                let front : length (take n bytes) ≡ n = omega (arith, length-take n bytes) in
+                let zeros : take (padding n) (drop n bytes) ≡ replicate (padding n) 0 = zeros_are _ k.0
+                ∙ ap (λ (m : ℕ). replicate m 0) (omega (arith, length-take (padding n) (drop n bytes), length-drop n bytes)) in
+                let parts = padded_parts n bytes zeros front in
+                let made : List ℕ × List ℕ = (take n bytes, drop (padding n) (drop n bytes)) in
+                subst (λ (y : List ℕ × List ℕ). Splits bytes (padded y.0) y.1 × (length y.0 ≡ n)) (ok_is made x k.1)
+                (record { parts = parts; rest_fits = IsBytes-drop (padding n) (drop n bytes) (IsBytes-drop n bytes fits) }, front)
+            | inr k ↦ absurd cc
+          ]
     ]
 
 -- as many bytes as there are
@@ -58,8 +65,17 @@ all_again bytes rest =
     let zs = replicate (padding n) 0 in
     let all : padded bytes ++ rest ≡ bytes ++ (zs ++ rest) = append_assoc bytes zs rest in
     let len : length zs ≡ padding n = length-replicate (padding n) 0 in
-    let long : ltb (length (bytes ++ (zs ++ rest))) (n + padding n) ≡ false = le-ltb _ _ (omega (arith, length-append bytes (zs ++ rest), length-append zs rest)) in
-    ap (fixed_at n) all ∙ rw (long, drop_at bytes (zs ++ rest) n refl, take_at bytes (zs ++ rest) n refl, take_at zs rest (padding n) len, drop_at zs rest (padding n) len, are_zeros (padding n)) refl
+    let long : ltb (length (bytes ++ (zs ++ rest))) (n + padding n) ≡ false = le-ltb _ _
+    (omega (arith, length-append bytes (zs ++ rest), length-append zs rest)) in
+    ap (fixed_at n) all ∙ rw (
+      long,
+      drop_at bytes (zs ++ rest) n refl,
+      take_at bytes (zs ++ rest) n refl,
+      take_at zs rest (padding n) len,
+      drop_at zs rest
+          (padding n) len,
+      are_zeros (padding n),
+    ) refl
 
 pub fixed_again : (n : ℕ) → Again (fixed_at n) padded (λ bytes. length bytes ≡ n)
 fixed_again n bytes rest fits = subst (λ (n : ℕ). fixed_at n (padded bytes ++ rest) ≡ Ok (bytes, rest)) fits (all_again bytes rest)
@@ -76,4 +92,5 @@ opaque_found most bytes x fits e =
 pub opaque_again : (most : ℕ) → Again (opaque_at most) counted (λ bytes. (length bytes ≤ most) × (length bytes < 2 ^ 32))
 unfolding opaque_at
 opaque_again most bytes rest fits =
-    ap (opaque_at most) (append_assoc (word (length bytes)) (padded bytes) rest) ∙ rw (length_again most (length bytes) (padded bytes ++ rest) fits) (all_again bytes rest)
+    ap (opaque_at most) (append_assoc (word (length bytes)) (padded bytes) rest)
+    ∙ rw (length_again most (length bytes) (padded bytes ++ rest) fits) (all_again bytes rest)

@@ -1,5 +1,6 @@
 -- What reading an item takes, and numbers.
-use Rattle.std.proofs.Common.{◌≡◌, ℕ, ◌+◌, ◌^◌, ◌<◌, ◌≤◌, Bool, true, false, cond, ltb, eqb, List, ◌++◌, length, get_or, take, drop, Ok, Err, refl, sym, ap, subst, ◌∙◌, append_assoc, arith, inl, inr}
+use Rattle.std.proofs.Common.{◌≡◌, ℕ, ◌+◌, ◌^◌, ◌<◌, ◌≤◌, Bool, true, false, cond, ltb, eqb, List, ◌++◌, length, get_or, take, drop, Ok, Err, refl, sym, ap}
+use Rattle.std.proofs.Common.{subst, ◌∙◌, append_assoc, arith, inl, inr}
 use Rattle.std.specs.List.{list_any}
 use Rattle.std.specs.Int.{Width, w32, w64, byte_len, from_be_bytes, to_be_bytes}
 use Rattle.std.proofs.lemmas.Bool.{cases_lt, ltb-false, le-ltb, eqb-true}
@@ -71,8 +72,11 @@ number_found w limit wide bytes x fits e =
     let long : byte_len w ≤ length bytes = ltb-false _ _ g.0 in
     let n-is : from_be_bytes w (take (byte_len w) bytes) ≡ n = ap (λ (p : ℕ × List ℕ). p.0) g.1 in
     let rest-is : drop (byte_len w) bytes ≡ rest = ap (λ (p : ℕ × List ℕ). p.1) g.1 in
-    let front : to_be_bytes w n ≡ take (byte_len w) bytes = rw (← n-is) (wide.back (take (byte_len w) bytes) (omega (arith, length-take (byte_len w) bytes)) (IsBytes-take (byte_len w) bytes fits)) in
-    (record { parts = rw (front, ← rest-is) (sym (take-append-drop (byte_len w) bytes)); rest_fits = rw (← rest-is) (IsBytes-drop (byte_len w) bytes fits) }, rw (← n-is) (wide.below (take (byte_len w) bytes) (IsBytes-take (byte_len w) bytes fits)))
+    let front : to_be_bytes w n ≡ take (byte_len w) bytes = rw (← n-is)
+    (wide.back (take (byte_len w) bytes) (omega (arith, length-take (byte_len w) bytes)) (IsBytes-take (byte_len w) bytes fits)) in (
+      record { parts = rw (front, ← rest-is) (sym (take-append-drop (byte_len w) bytes)); rest_fits = rw (← rest-is) (IsBytes-drop (byte_len w) bytes fits) },
+      rw (← n-is) (wide.below (take (byte_len w) bytes) (IsBytes-take (byte_len w) bytes fits)),
+    )
 
 pub number_again : (w : Width) (limit : ℕ) (wide : IsWide w limit) → Again (number_at w) (to_be_bytes w) (λ n. n < limit)
 number_again w limit wide n rest lt =
@@ -122,7 +126,9 @@ choice_found numbers bytes x fits e =
     let b = bind_ok (number_at w32 bytes) (λ n. cond (list_any (λ m. eqb m n.0) numbers) (Ok n) (Err BadEnum)) x e in
     let t = word_found bytes b.0 fits b.1 in
     elim (chosen (list_any (λ m. eqb m b.0.0) numbers) (Ok b.0) (Err BadEnum) (Ok x) b.2) [
-      | inl h ↦ subst (λ (y : ℕ × List ℕ). Splits bytes (word y.0) y.1 × ((list_any (λ m. eqb m y.0) numbers ≡ true) × (y.0 < 2 ^ 32))) (ok_is b.0 x h.1) (t.0, (h.0, t.1))
+      | inl h ↦
+          subst (λ (y : ℕ × List ℕ). Splits bytes (word y.0) y.1 × ((list_any (λ m. eqb m y.0) numbers ≡ true) × (y.0 < 2 ^ 32))) (ok_is b.0 x h.1)
+          (t.0, (h.0, t.1))
       | inr h ↦ absurd cc
     ]
 

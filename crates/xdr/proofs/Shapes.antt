@@ -1,14 +1,17 @@
 -- What is read is the spelling, and a spelling is read, for every shape.
-use Rattle.std.proofs.Common.{◌≡◌, ℕ, ◌^◌, ◌<◌, Bool, true, false, if◌then◌else◌, List, [], ◌∷◌, ◌++◌, length, Some, None, Ok, Err, eqb, suc, refl, sym, ap, subst, ◌∙◌, append_assoc, arith, inl, inr}
+use Rattle.std.proofs.Common.{◌≡◌, ℕ, ◌^◌, ◌<◌, Bool, true, false, if◌then◌else◌, List, [], ◌∷◌, ◌++◌, length, Some, None, Ok, Err, eqb, suc, refl, sym, ap}
+use Rattle.std.proofs.Common.{subst, ◌∙◌, append_assoc, arith, inl, inr}
 use Rattle.std.specs.List.{flat_map}
 use Rattle.std.specs.Int.{w64}
 use Rattle.std.proofs.lemmas.List.{length-append, append-nil}
 use Rattle.std.proofs.lemmas.Bool.{eqb-true}
 use Rattle.xdr.specs.declared.fault.Fault.TheVariants.{LeftOver}
-use Rattle.xdr.specs.Shape.{Shape, Void, Word, Hyper, Boolean, Choice, Fixed, Opaque, Pair, Array, Case, NoCase, Optional, Chain, Value, word, flag, linked, spelling, Fits, Spells}
+use Rattle.xdr.specs.Shape.{Shape, Void, Word, Hyper, Boolean, Choice, Fixed, Opaque, Pair, Array, Case, NoCase, Optional, Chain, Value, word, flag, linked}
+use Rattle.xdr.specs.Shape.{spelling, Fits, Spells}
 use Rattle.xdr.specs.Reading.{◌>>=◌, boolean_at, length_at, items_at, read, all_read, all_of}
 use Rattle.xdr.proofs.Steps.{bind_ok, chosen, ok_is}
-use Rattle.xdr.proofs.Items.{IsBytes, Splits, Splits-then, Found, Again, wide64, number_found, number_again, word_found, word_again, boolean_found, boolean_again, choice_found, choice_again, length_found, length_again}
+use Rattle.xdr.proofs.Items.{IsBytes, Splits, Splits-then, Found, Again, wide64, number_found, number_again, word_found, word_again, boolean_found}
+use Rattle.xdr.proofs.Items.{boolean_again, choice_found, choice_again, length_found, length_again}
 use Rattle.xdr.proofs.Bytes.{fixed_found, fixed_again, opaque_found, opaque_again}
 use Rattle.xdr.proofs.Lists.{items_found, items_again, links_found, links_again, length-linked}
 use Rattle.xdr.proofs.Unions.{case_found, case_again}
@@ -35,8 +38,10 @@ found (Array most a) bytes x fits e =
     let p = bind_ok (length_at most bytes) (λ n. items_at (λ rest. read a rest) n.0 n.1) x e in
     let t = length_found most bytes p.0 fits p.1 in
     let f = items_found (λ rest. read a rest) (λ v. spelling a v) (λ v. Fits a v) (λ b y h k. found a b y h k) p.0.0 p.0.1 x t.0.rest_fits p.2 in
-    let both = Splits-then bytes (word p.0.0) p.0.1 (flat_map (λ v. spelling a v) x.0) x.1 t.0 f.0 in
-    (subst (λ (n : ℕ). Splits bytes (word n ++ flat_map (λ v. spelling a v) x.0) x.1) (sym f.1.1) both, (omega (arith, f.1.1, t.1.0), omega (arith, f.1.1, t.1.1), f.1.0))
+    let both = Splits-then bytes (word p.0.0) p.0.1 (flat_map (λ v. spelling a v) x.0) x.1 t.0 f.0 in (
+      subst (λ (n : ℕ). Splits bytes (word n ++ flat_map (λ v. spelling a v) x.0) x.1) (sym f.1.1) both,
+      (omega (arith, f.1.1, t.1.0), omega (arith, f.1.1, t.1.1), f.1.0),
+    )
 found (Case number arm others) bytes x fits e = case_found number arm others (λ b y h k. found arm b y h k) (λ b y h k. found others b y h k) bytes x fits e
 found NoCase bytes x fits e = absurd x.0
 found (Optional a) bytes x fits e =
@@ -55,7 +60,8 @@ found (Optional a) bytes x fits e =
           let none : Splits bytes (word 0) b.0.1 = subst (λ (c : Bool). Splits bytes (word (flag c)) b.0.1) h.0 t.0 in
           subst G (ok_is made x h.1) (none, tt)
     ]
-found (Chain a) bytes x fits e = links_found (λ rest. read a rest) (λ v. spelling a v) (λ v. Fits a v) (λ b y h k. found a b y h k) (length bytes) bytes x fits e
+found (Chain a) bytes x fits e =
+    links_found (λ rest. read a rest) (λ v. spelling a v) (λ v. Fits a v) (λ b y h k. found a b y h k) (length bytes) bytes x fits e
 
 pub again : (shape : Shape) → Again (read shape) (spelling shape) (Fits shape)
 again Void v rest fits = refl
@@ -105,7 +111,8 @@ all_again shape bytes v s =
     ap (all_of shape) whole ∙ rw (again shape v [] s.0) refl
 
 -- no spelling of a type begins another of that type
-pub one_value : (shape : Shape) (v w : Value shape) (x y : List ℕ) → Fits shape v → Fits shape w → spelling shape v ++ x ≡ spelling shape w ++ y → (v ≡ w) × (x ≡ y)
+pub one_value : (shape : Shape) (v w : Value shape) (x y : List ℕ) → Fits shape v → Fits shape w → spelling shape v ++ x ≡ spelling shape w ++ y
+    → (v ≡ w) × (x ≡ y)
 one_value shape v w x y p q e =
     let same = ok_is (v, x) (w, y) (sym (again shape v x p) ∙ ap (read shape) e ∙ again shape w y q) in
     (ap (λ (p : Value shape × List ℕ). p.0) same, ap (λ (p : Value shape × List ℕ). p.1) same)

@@ -1,5 +1,6 @@
 -- The number before a union's arm.
-use Rattle.std.proofs.Common.{◌≡◌, ◌≢◌, ℕ, ◌<◌, ◌^◌, true, false, if◌then◌else◌, eqb, List, ◌++◌, ◌⊎◌, Option, Some, None, Ok, Err, refl, sym, ap, subst, ◌∙◌, append_assoc, inl, inr}
+use Rattle.std.proofs.Common.{◌≡◌, ◌≢◌, ℕ, ◌<◌, ◌^◌, true, false, if◌then◌else◌, eqb, List, ◌++◌, ◌⊎◌, Option, Some, None, Ok, Err, refl, sym, ap, subst, ◌∙◌}
+use Rattle.std.proofs.Common.{append_assoc, inl, inr}
 use Rattle.std.specs.Option.{IsSomeAnd}
 use Rattle.std.specs.Int.{w32}
 use Rattle.std.proofs.lemmas.Bool.{eqb-true, eqb-false, eq-eqb, ne_eqb}
@@ -22,10 +23,13 @@ arm_of number arm others bytes n =
     else Err BadEnum
 
 -- the first arm, or one of the others
-pub arm_is : (number : ℕ) (arm others : Shape) (bytes : List ℕ) (n : ℕ × List ℕ) (x : Value (Case number arm others) × List ℕ) → arm_of number arm others bytes n ≡ Ok x
-    → ((n.0 ≡ number) × ((y : Value arm × List ℕ) × (read arm n.1 ≡ Ok y) × (x ≡ (inl y.0, y.1)))) ⊎ ((n.0 ≢ number) × (is_union others ≡ true) × ((y : Value others × List ℕ) × (read others bytes ≡ Ok y) × (x ≡ (inr y.0, y.1))))
+pub arm_is : (number : ℕ) (arm others : Shape) (bytes : List ℕ) (n : ℕ × List ℕ) (x : Value (Case number arm others) × List ℕ)
+    → arm_of number arm others bytes n ≡ Ok x
+    → ((n.0 ≡ number) × ((y : Value arm × List ℕ) × (read arm n.1 ≡ Ok y) × (x ≡ (inl y.0, y.1)))) ⊎
+    ((n.0 ≢ number) × (is_union others ≡ true) × ((y : Value others × List ℕ) × (read others bytes ≡ Ok y) × (x ≡ (inr y.0, y.1))))
 arm_is number arm others bytes n x e =
-    elim (chosen (eqb n.0 number) (read arm n.1 >>= λ x. Ok (inl x.0, x.1)) (if is_union others then (read others bytes >>= λ x. Ok (inr x.0, x.1)) else Err BadEnum) (Ok x) e) [
+    elim (chosen (eqb n.0 number) (read arm n.1 >>= λ x. Ok (inl x.0, x.1))
+    (if is_union others then (read others bytes >>= λ x. Ok (inr x.0, x.1)) else Err BadEnum) (Ok x) e) [
       | inl h ↦
           let q = bind_ok (read arm n.1) (λ x. Ok (inl x.0, x.1)) x h.1 in
           let made : Value (Case number arm others) × List ℕ = (inl q.0.0, q.0.1) in
@@ -40,7 +44,8 @@ arm_is number arm others bytes n x e =
     ]
 
 -- what is read behind a number has that number
-pub discriminant_is : (shape : Shape) (bytes : List ℕ) (n : ℕ × List ℕ) (x : Value shape × List ℕ) → is_union shape ≡ true → number_at w32 bytes ≡ Ok n → read shape bytes ≡ Ok x → discriminant shape x.0 ≡ Some n.0
+pub discriminant_is : (shape : Shape) (bytes : List ℕ) (n : ℕ × List ℕ) (x : Value shape × List ℕ) → is_union shape ≡ true → number_at w32 bytes ≡ Ok n
+    → read shape bytes ≡ Ok x → discriminant shape x.0 ≡ Some n.0
 discriminant_is (Case number arm others) bytes n x u at e =
     let p = bind_ok (number_at w32 bytes) (arm_of number arm others bytes) x e in
     let same : n ≡ p.0 = ok_is n p.0 (sym at ∙ p.1) in
@@ -54,20 +59,27 @@ discriminant_is NoCase bytes n x u at e =
 discriminant_is shape bytes n x u at e = absurd cc
 
 -- a union's spelling begins with its number
-pub number_before : (shape : Shape) (v : Value shape) (rest : List ℕ) (n : ℕ) → discriminant shape v ≡ Some n → Fits shape v → (after : List ℕ) × (number_at w32 (spelling shape v ++ rest) ≡ Ok (n, after)) × (is_union shape ≡ true)
+pub number_before : (shape : Shape) (v : Value shape) (rest : List ℕ) (n : ℕ) → discriminant shape v ≡ Some n → Fits shape v
+    → (after : List ℕ) × (number_at w32 (spelling shape v ++ rest) ≡ Ok (n, after)) × (is_union shape ≡ true)
 number_before (Case number arm others) (inl v) rest n e fits =
-    let same : number ≡ n = cc in
-    (spelling arm v ++ rest, ap (number_at w32) (append_assoc (word number) (spelling arm v) rest) ∙ word_again number (spelling arm v ++ rest) fits.0 ∙ ap (λ (m : ℕ). Ok (m, spelling arm v ++ rest)) same, refl)
+    let same : number ≡ n = cc in (
+      spelling arm v ++ rest,
+      ap (number_at w32) (append_assoc (word number) (spelling arm v) rest) ∙ word_again number (spelling arm v ++ rest) fits.0
+          ∙ ap (λ (m : ℕ). Ok (m, spelling arm v ++ rest)) same,
+      refl,
+    )
 number_before (Case number arm others) (inr v) rest n e fits =
     let b = number_before others v rest n e fits.1 in (b.0, b.1, refl)
 number_before NoCase v rest n e fits = absurd fits
 number_before shape v rest n e fits = absurd cc
 
-pub case_found : (number : ℕ) (arm others : Shape) → Found (read arm) (spelling arm) (Fits arm) → Found (read others) (spelling others) (Fits others) → Found (read (Case number arm others)) (spelling (Case number arm others)) (Fits (Case number arm others))
+pub case_found : (number : ℕ) (arm others : Shape) → Found (read arm) (spelling arm) (Fits arm) → Found (read others) (spelling others) (Fits others)
+    → Found (read (Case number arm others)) (spelling (Case number arm others)) (Fits (Case number arm others))
 case_found number arm others one more bytes x fits e =
     let p = bind_ok (number_at w32 bytes) (arm_of number arm others bytes) x e in
     let t = word_found bytes p.0 fits p.1 in
-    let G : Value (Case number arm others) × List ℕ → Type 0 = λ y. Splits bytes (spelling (Case number arm others) y.0) y.1 × Fits (Case number arm others) y.0 in
+    let G : Value (Case number arm others) × List ℕ
+    → Type 0 = λ y. Splits bytes (spelling (Case number arm others) y.0) y.1 × Fits (Case number arm others) y.0 in
     elim (arm_is number arm others bytes p.0 x p.2) [
       | inl h ↦
           let s = one p.0.1 h.1.0 t.0.rest_fits h.1.1 in
@@ -79,7 +91,8 @@ case_found number arm others one more bytes x fits e =
           subst G (sym h.2.2) (s.0, (subst (λ (o : Option ℕ). IsSomeAnd o (λ n. n ≢ number)) (sym d) h.0, s.1))
     ]
 
-pub case_again : (number : ℕ) (arm others : Shape) → Again (read arm) (spelling arm) (Fits arm) → Again (read others) (spelling others) (Fits others) → Again (read (Case number arm others)) (spelling (Case number arm others)) (Fits (Case number arm others))
+pub case_again : (number : ℕ) (arm others : Shape) → Again (read arm) (spelling arm) (Fits arm) → Again (read others) (spelling others) (Fits others)
+    → Again (read (Case number arm others)) (spelling (Case number arm others)) (Fits (Case number arm others))
 case_again number arm others one more (inl v) rest fits =
     let same : eqb number number ≡ true = eq-eqb number number refl in
     ap (read (Case number arm others)) (append_assoc (word number) (spelling arm v) rest)

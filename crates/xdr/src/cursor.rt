@@ -94,7 +94,8 @@ impl<'a> Cursor<'a> {
     /// A value of an enumeration (RFC 4506, section 4.3), one of `numbers`.
     #[tactic(auto, unfolding(crate::specs::Reading::choice_at))]
     pub fn choice(&mut self, numbers: &[u32]) -> Result<u32, Fault>
-        ensures takes { Takes (λ x. x) result (read (Choice numbers.now) self.old) self.old self.new }
+        ensures takes { Takes (λ x. x) result
+            (read (Choice numbers.now) self.old) self.old self.new }
         ensures among { IfOk result (λ n. list_any (λ m. m == n) numbers.now ≡ true) }
     {
         let before = self.rest;

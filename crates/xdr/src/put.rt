@@ -1,6 +1,7 @@
 //! Writing items behind the bytes of a vector. Each call appends its whole item or nothing.
 
-ghost use Rattle.std.specs.Prelude.{◌≡◌, ◌+◌, ◌≤◌, ◌<◌, ◌^◌, ◌++◌, length, IsOk, OnOk, OnErr, vec_len, vec_capacity};
+ghost use Rattle.std.specs.Prelude.{◌≡◌, ◌+◌, ◌≤◌, ◌<◌, ◌^◌, ◌++◌, length, IsOk, OnOk, OnErr};
+ghost use Rattle.std.specs.Prelude.{vec_len, vec_capacity};
 ghost use Rattle.xdr.specs.Shape.{padding, padded, counted, spelling, Word, Hyper, Boolean};
 
 use byteorder::{BigEndian, ByteOrder};

@@ -1,13 +1,12 @@
 -- The kind of node that a set is of.
-use Rattle.std.proofs.Common.{◌≡◌, ℕ, cond, Option, Some, None, refl, sym, ap, ◌∙◌, inl}
-use Rattle.std.proofs.lemmas.Bool.{eq-eqb}
+use Rattle.std.proofs.Common.{◌≡◌, ℕ, Option, Some, refl, sym, ap, ◌∙◌, inl}
 use Rattle.nfs_model.specs.Tree.{Layout, Affinity}
 use Rattle.affinity_tree.specs.declared.affinity.Kind.TheVariants as kinds
 use Rattle.affinity_tree.specs.Affinity.{kind_of}
 use Rattle.affinity_tree.specs.Tree.{IsNode}
 use Rattle.affinity_tree.specs.Numbers.{number_of}
 use Rattle.parcel_sets.specs.Exact.{kind_in, HasExactly}
-use Rattle.parcel_sets.specs.Places.{alone, or_else}
+use Rattle.parcel_sets.specs.lemmas.At.{range-own, vbn-own, stripe-own, logical-own, volume-own, aggregate-own, serial-own}
 use Rattle.parcel_sets.specs.Sets.{range_parcels, vbn_parcels, stripe_parcels, logical_parcels, volume_parcels, aggregate_parcels, serial_parcels}
 use Rattle.parcel_sets.specs.declared.family.Parcel.{Parcel}
 use Rattle.parcel_sets.specs.declared.family.Parcel.TheVariants.{Range, Vbn, Stripe, Logical, Volume, Aggregate, Serial}
@@ -18,13 +17,6 @@ use Rattle.parcel_sets.specs.declared.sets.LogicalHeld.{LogicalHeld}
 use Rattle.parcel_sets.specs.declared.sets.VolumeHeld.{VolumeHeld}
 use Rattle.parcel_sets.specs.declared.sets.AggrHeld.{AggrHeld}
 use Rattle.parcel_sets.specs.declared.sets.SerialHeld.{SerialHeld}
-
-alone-here : {T : Type 0} (n : ℕ) (x : T) → alone n x n ≡ Some x
-unfolding alone
-alone-here n x = ap (λ b. cond b (Some x) None) (eq-eqb n n refl)
-
-first-some : {T : Type 0} (o others : Option T) (x : T) → o ≡ Some x → or_else o others ≡ Some x
-first-some o others x e = ap (λ y. or_else y others) e
 
 same-inside : {T : Type 0} (x y : T) → Some x ≡ Some y → x ≡ y
 same-inside x y e = cc
@@ -38,50 +30,27 @@ module _ {P R B S L V A X : Type 0} (layout : Layout) (a : Affinity) where
       sym own.2 ∙ ap kind_in (same-inside own.0 p (sym own.1 ∙ at))
 
   pub range-kind : (held : RangeHeld P R B S L V A X) → IsNode layout a → HasExactly kind_in layout a (range_parcels layout a held) → kind_of a ≡ kinds.Range
-  unfolding range_parcels
-  range-kind held node exact =
-      kind-here (range_parcels layout a held) (Range held.own) node exact
-      (alone-here (number_of layout a) (Range held.own))
+  range-kind held node exact = kind-here (range_parcels layout a held) (Range held.own) node exact (range-own layout a held)
 
   pub stripe-kind : (held : StripeHeld P R B S L V A X) → IsNode layout a → HasExactly kind_in layout a (stripe_parcels layout a held)
       → kind_of a ≡ kinds.Stripe
-  unfolding stripe_parcels
-  stripe-kind held node exact =
-      kind-here (stripe_parcels layout a held) (Stripe held.own) node exact
-      (alone-here (number_of layout a) (Stripe held.own))
+  stripe-kind held node exact = kind-here (stripe_parcels layout a held) (Stripe held.own) node exact (stripe-own layout a held)
 
   pub vbn-kind : (held : VbnHeld P R B S L V A X) → IsNode layout a → HasExactly kind_in layout a (vbn_parcels layout a held) → kind_of a ≡ kinds.VolumeVbn
-  unfolding vbn_parcels
-  vbn-kind held node exact =
-      kind-here (vbn_parcels layout a held) (Vbn held.own) node exact
-      (first-some (alone (number_of layout a) (Vbn held.own) (number_of layout a)) _ (Vbn held.own) (alone-here (number_of layout a) (Vbn held.own)))
+  vbn-kind held node exact = kind-here (vbn_parcels layout a held) (Vbn held.own) node exact (vbn-own layout a held)
 
   pub logical-kind : (held : LogicalHeld P R B S L V A X) → IsNode layout a → HasExactly kind_in layout a (logical_parcels layout a held)
       → kind_of a ≡ kinds.VolumeLogical
-  unfolding logical_parcels
-  logical-kind held node exact =
-      kind-here (logical_parcels layout a held) (Logical held.own) node exact
-      (first-some (alone (number_of layout a) (Logical held.own) (number_of layout a)) _ (Logical held.own)
-      (alone-here (number_of layout a) (Logical held.own)))
+  logical-kind held node exact = kind-here (logical_parcels layout a held) (Logical held.own) node exact (logical-own layout a held)
 
   pub volume-kind : (held : VolumeHeld P R B S L V A X) → IsNode layout a → HasExactly kind_in layout a (volume_parcels layout a held)
       → kind_of a ≡ kinds.Volume
-  unfolding volume_parcels
-  volume-kind held node exact =
-      kind-here (volume_parcels layout a held) (Volume held.own) node exact
-      (first-some (alone (number_of layout a) (Volume held.own) (number_of layout a)) _ (Volume held.own) (alone-here (number_of layout a) (Volume held.own)))
+  volume-kind held node exact = kind-here (volume_parcels layout a held) (Volume held.own) node exact (volume-own layout a held)
 
   pub aggregate-kind : (held : AggrHeld P R B S L V A X) → IsNode layout a → HasExactly kind_in layout a (aggregate_parcels layout a held)
       → kind_of a ≡ kinds.Aggregate
-  unfolding aggregate_parcels
-  aggregate-kind held node exact =
-      kind-here (aggregate_parcels layout a held) (Aggregate held.own) node exact
-      (first-some (alone (number_of layout a) (Aggregate held.own) (number_of layout a)) _ (Aggregate held.own)
-      (alone-here (number_of layout a) (Aggregate held.own)))
+  aggregate-kind held node exact = kind-here (aggregate_parcels layout a held) (Aggregate held.own) node exact (aggregate-own layout a held)
 
   pub serial-kind : (held : SerialHeld P R B S L V A X) → IsNode layout a → HasExactly kind_in layout a (serial_parcels layout a held)
       → kind_of a ≡ kinds.Serial
-  unfolding serial_parcels
-  serial-kind held node exact =
-      kind-here (serial_parcels layout a held) (Serial held.own) node exact
-      (first-some (alone (number_of layout a) (Serial held.own) (number_of layout a)) _ (Serial held.own) (alone-here (number_of layout a) (Serial held.own)))
+  serial-kind held node exact = kind-here (serial_parcels layout a held) (Serial held.own) node exact (serial-own layout a held)

@@ -13,4 +13,5 @@ returns-in_err-u32 c =
 
 pub loop-word-preserved : goal.loop-word-preserved
 loop-word-preserved c =
-    sym (word_passed c.args.count c.loop-word._word c.loop-word.from (c.in_ok-u32.field-0, c.u32.new.self) (omega arith) c.in_ok-u32.ensures) ∙ c.loop-word.invariant
+    sym (word_passed c.args.count c.loop-word._word c.loop-word.from (c.in_ok-u32.field-0, c.u32.new.self) (omega arith) c.in_ok-u32.ensures)
+    ∙ c.loop-word.invariant

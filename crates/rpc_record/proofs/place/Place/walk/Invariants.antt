@@ -6,7 +6,9 @@ use Rattle.rpc_record.proofs.place.Place.walk.Given as goal
 
 -- Whatever data was joined before, with some data the walk stands here.
 abbrev HasWalked : Place → List ℕ → ℕ → Place → Type 0
-HasWalked old bytes taken new = (joined : List ℕ) → length joined ≡ old.joined → (now : List ℕ) × (length now ≡ new.joined) × (scan 0 (state joined old) bytes ≡ scan taken (state now new) (drop taken bytes))
+HasWalked old bytes taken new =
+    (joined : List ℕ) → length joined ≡ old.joined
+    → (now : List ℕ) × (length now ≡ new.joined) × (scan 0 (state joined old) bytes ≡ scan taken (state now new) (drop taken bytes))
 
 abbrev pub invariant-loop-taken : goal.invariant-loop-taken
 invariant-loop-taken l = record {

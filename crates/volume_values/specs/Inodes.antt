@@ -1,0 +1,65 @@
+-- The inodes of a volume: attributes, and what a reply shows beside them (RFC 1813 section 2.6).
+use Rattle.std.specs.Prelude.{ℕ, ◌+◌, ◌-◌, List, Option, Some, None}
+use Rattle.std.specs.Ordering.{nat_cmp}
+use Rattle.std.specs.FinMap.{FinMap, get, insert, remove}
+use Rattle.nfs_model.specs.Types.{Moment}
+use Rattle.nfs_model.specs.Server.{Attributes}
+use Rattle.nfs_model.specs.Shown.{effective_attributes}
+
+-- what an inode is of
+pub data InodeKind : Type 0 where
+  -- a regular file: its size in bytes, how many of its blocks are filled, the verifier of its exclusive creation
+  RegularFile : (size filled : ℕ) (verifier : Option (List ℕ)) → InodeKind
+  -- a directory: its parent's fileid, and how many of its entries are directories
+  Folder : (parent subdirectories : ℕ) → InodeKind
+
+pub record Inode : Type 0 where
+  pub attributes : Attributes
+  pub kind : InodeKind
+
+pub record InodesValue : Type 0 where
+  pub next : ℕ  -- the next fileid
+  pub used : ℕ  -- the filled blocks of all files
+  pub inodes : FinMap nat_cmp Inode
+
+-- ---- what is asked
+
+abbrev pub inode_of : InodesValue → ℕ → Option Inode
+inode_of v fileid = get v.inodes fileid
+
+-- the filled blocks of an inode; a directory has none
+abbrev pub filled_blocks : InodeKind → ℕ
+filled_blocks (RegularFile size filled verifier) = filled
+filled_blocks (Folder parent subdirectories) = 0
+
+-- the attributes as they hold, where a file was touched at a moment since its times were last set
+abbrev pub attributes_held : Option Moment → Inode → Attributes
+attributes_held touch inode = effective_attributes touch inode.attributes
+
+-- ---- what changes them
+
+-- a touch becomes the stored times
+abbrev pub settled_inode : Option Moment → Inode → Inode
+settled_inode touch inode = record inode { attributes = effective_attributes touch inode.attributes }
+
+-- the used count where an inode takes another's place
+abbrev pub used_after : ℕ → Option Inode → Inode → ℕ
+used_after used None new = used + filled_blocks new.kind
+used_after used (Some old) new = used - filled_blocks old.kind + filled_blocks new.kind
+
+-- an inode set, where there is one
+abbrev pub inode_set : ℕ → Inode → InodesValue → InodesValue
+inode_set fileid inode v = record v { used = used_after v.used (get v.inodes fileid) inode; inodes = insert v.inodes fileid inode }
+
+-- one more inode, under the next fileid
+abbrev pub inode_created : Inode → InodesValue → InodesValue
+inode_created inode v = record { next = v.next + 1; used = v.used + filled_blocks inode.kind; inodes = insert v.inodes v.next inode }
+
+-- the used count without an inode
+abbrev pub used_without : ℕ → Option Inode → ℕ
+used_without used None = used
+used_without used (Some inode) = used - filled_blocks inode.kind
+
+-- an inode gone; its fileid isn't given again
+abbrev pub inode_dropped : ℕ → InodesValue → InodesValue
+inode_dropped fileid v = record v { used = used_without v.used (get v.inodes fileid); inodes = remove v.inodes fileid }

@@ -1,0 +1,5 @@
+pub mod Directories
+pub mod Inodes
+pub mod Stripes
+pub mod Ranges
+pub mod Codes

@@ -1,0 +1,52 @@
+-- Block numbers that are in no file: free in the bitmaps of the ranges, in the stock, or dead (our profile).
+use Rattle.std.specs.Prelude.{◌≡◌, IsTrue, ℕ, ◌*◌, Bool, true, false, List, take, min}
+use Rattle.std.specs.List.{AllByRecursion, range_with_len}
+use Rattle.std.specs.Ordering.{nat_cmp}
+use Rattle.std.specs.FinSet as sets
+use Rattle.std.specs.FinSet.{FinSet, contains, union, difference, from_list}
+use Rattle.nfs_model.specs.Parts.{range_blocks, most_carried, IsBatch}
+use Rattle.nfs_model.specs.Moves.{in_range}
+
+-- a range of 1,024 block numbers
+pub record RangeValue : Type 0 where
+  pub number : ℕ
+  pub is_used : Bool
+  pub free : FinSet nat_cmp
+
+-- a range as it is made, not in use
+abbrev pub unused_range : ℕ → RangeValue
+unused_range number = record { number = number; is_used = false; free = sets.empty }
+
+-- all numbers of a range
+abbrev pub range_numbers : ℕ → List ℕ
+range_numbers number = range_with_len (range_blocks * number) range_blocks
+
+-- ---- what is asked
+
+-- its free numbers, lowest first
+abbrev pub free_numbers : RangeValue → List ℕ
+free_numbers r = in_range r.number r.free
+
+-- at most n of them, and 64, the lowest
+abbrev pub lowest : ℕ → RangeValue → List ℕ
+lowest n r = take (min n most_carried) (free_numbers r)
+
+-- ---- what changes it
+
+-- numbers taken
+abbrev pub taken : List ℕ → RangeValue → RangeValue
+taken blocks r = record r { free = difference r.free (from_list blocks) }
+
+-- a batch may be given: it is of the range, which is in use, and none of it is free
+pub record MayBeGiven (blocks : List ℕ) (r : RangeValue) : Type 0 where
+  pub used : IsTrue r.is_used
+  pub batch : IsBatch r.number blocks
+  pub apart : AllByRecursion (λ b. contains r.free b ≡ false) blocks
+
+-- numbers given
+abbrev pub given : List ℕ → RangeValue → RangeValue
+given blocks r = record r { free = union r.free (from_list blocks) }
+
+-- the range comes into use, all its numbers free
+abbrev pub put_in_use : RangeValue → RangeValue
+put_in_use r = record r { is_used = true; free = from_list (range_numbers r.number) }
