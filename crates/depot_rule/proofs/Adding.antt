@@ -1,5 +1,6 @@
 -- The stamp adds an entry to the history.
-use Rattle.std.proofs.Common.{◌≡◌, ◌≢◌, ◌⊎◌, ℕ, ◌+◌, ◌<◌, eqb, ltb, Bool, true, false, ◌||◌, List, [], ◌∷◌, ◌++◌, length, get_or, set, sym, refl, ap, ◌∙◌, subst, arith, length-append, eq-eqb, inl, inr, ⊎_elim, Option, Some, None}
+use Rattle.std.proofs.Common.{◌≡◌, ◌≢◌, ◌⊎◌, ℕ, ◌+◌, ◌<◌, eqb, ltb, Bool, true, false, ◌||◌, List, [], ◌∷◌, ◌++◌, length, get_or, set, sym}
+use Rattle.std.proofs.Common.{refl, ap, ◌∙◌, subst, arith, length-append, eq-eqb, inl, inr, ⊎_elim, Option, Some, None}
 use Rattle.std.proofs.lemmas.Bool.{lt-ltb, le-ltb, ltb-true, eqb-true}
 use mathlib.Core.Option.{some}
 use mathlib.Core.Logic.{dite}
@@ -82,7 +83,8 @@ module _ {P : Type 0} where
   pub patched-out : (ps : List ℕ) (a k : ℕ) (inner outer : ℕ → Option P) → (Covers ps a k → ⊥) → patched ps a inner outer k ≡ outer k
   patched-out ps a k inner outer apart = if-others (covers ps a k) (inner k) (outer k) (outer k) (λ e. absurd (apart (covers-so ps a k e))) (λ e. refl)
 
-  pub patched-alike : (ps : List ℕ) (a : ℕ) (one other outer : ℕ → Option P) → ((k : ℕ) → Covers ps a k → one k ≡ other k) → patched ps a one outer ≡ patched ps a other outer
+  pub patched-alike : (ps : List ℕ) (a : ℕ) (one other outer : ℕ → Option P) → ((k : ℕ) → Covers ps a k → one k ≡ other k)
+      → patched ps a one outer ≡ patched ps a other outer
   patched-alike ps a one other outer same = λ i k. at k i
     where
       pick : (b : Bool) (x y z : Option P) → (b ≡ true → x ≡ y) → if_less b x z ≡ if_less b y z
@@ -97,15 +99,19 @@ pub covered-node : (ps : List ℕ) → IsTree ps → (a k : ℕ) → 0 < a → a
 covered-node ps t a k pos lt c = (positive, covers-below ps a k positive lt c)
   where
     positive : 0 < k
-    positive = ⊎_elim (λ (e : a ≡ k). let p : 0 < k = omega arith in p) (λ (h : 0 < tally a (ancestors ps k)). let s = above-smaller ps t a k h in let s1 = s.1 in let p : 0 < k = omega arith in p) c
+    positive = ⊎_elim (λ (e : a ≡ k). let p : 0 < k = omega arith in p) (λ (h : 0 < tally a (ancestors ps k)).
+        let s = above-smaller ps t a k h in let s1 = s.1 in let p : 0 < k = omega arith in p) c
 
 -- one place more
 one-below : (p n : ℕ) → one_if (ltb p n) + one_if (eqb n p) ≡ one_if (ltb p (n + 1))
 one-below p n = dite (ℕ_discrete n p)
-    (λ e. let a = one-same n p e in let b : one_if (ltb p n) ≡ 0 = ap one_if (le-ltb p n (omega arith)) in let c : one_if (ltb p (n + 1)) ≡ 1 = ap one_if (lt-ltb p (n + 1) (omega arith)) in omega arith)
+    (λ e. let a = one-same n p e in let b : one_if (ltb p n) ≡ 0 = ap one_if (le-ltb p n (omega arith)) in let c : one_if (ltb p (n + 1)) ≡ 1 = ap
+    one_if (lt-ltb p (n + 1) (omega arith)) in omega arith)
     (λ ne. let a = one-other n p ne in dite (dec_lt p n)
-    (λ lt. let b : one_if (ltb p n) ≡ 1 = ap one_if (lt-ltb p n lt) in let c : one_if (ltb p (n + 1)) ≡ 1 = ap one_if (lt-ltb p (n + 1) (omega arith)) in omega arith)
-    (λ ge. let b : one_if (ltb p n) ≡ 0 = ap one_if (le-ltb p n (omega arith)) in let c : one_if (ltb p (n + 1)) ≡ 0 = ap one_if (le-ltb p (n + 1) (omega arith)) in omega arith))
+    (λ lt. let b : one_if (ltb p n) ≡ 1 = ap one_if (lt-ltb p n lt) in let c : one_if (ltb p (n + 1)) ≡ 1 = ap one_if
+    (lt-ltb p (n + 1) (omega arith)) in omega arith)
+    (λ ge. let b : one_if (ltb p n) ≡ 0 = ap one_if (le-ltb p n (omega arith)) in let c : one_if (ltb p (n + 1)) ≡ 0 = ap one_if
+    (le-ltb p (n + 1) (omega arith)) in omega arith))
 
 module _ (P C R B : Type 0) (kind_of : P → Kind) (m : Behaviour P C R B) where
   abbrev E : Type 0
@@ -125,14 +131,16 @@ module _ (P C R B : Type 0) (kind_of : P → Kind) (m : Behaviour P C R B) where
       let there = (local ps e.node e.call f F e.reply f' step).1 (λ k c. before k (node k c).0 (node k c).1 c) in
       subst (λ g. m.steps ps e.node e.call F e.reply g) (patched-alike ps e.node f' (listed e.left) F (λ k c. left k (node k c).0 (node k c).1 c)) there
 
-  module _ (local : IsLocal m.steps) (keeps : Keeps m.steps m.takes m.gives m.invariant) (ps : List ℕ) (first : G) (s : State (Option P) (List (View P E))) (r : Base kind_of ps first s) (h : History m ps first s)
+  module _ (local : IsLocal m.steps) (keeps : Keeps m.steps m.takes m.gives m.invariant) (ps : List ℕ) (first : G)
+      (s : State (Option P) (List (View P E))) (r : Base kind_of ps first s) (h : History m ps first s)
       (id : ℕ) (v : View P E) (at : get_elem? s.views id ≡ some (v ∷ [])) (e : E) (g : G) (here : Has v e.node g)
       (once : (k : ℕ) → 0 < k → k < length ps → Covers ps e.node k → has_out k v ≡ 1)
       (f f' : ℕ → Option P) (step : m.steps ps e.node e.call f e.reply f')
       (before : (k : ℕ) → 0 < k → k < length ps → Covers ps e.node k → get_or g k None ≡ f k)
       (left : (k : ℕ) → 0 < k → k < length ps → Covers ps e.node k → f' k ≡ get_or e.left k None)
       (own own' : List B) (mine : AreHands m.takes m.gives (chosen v.seen v.mine) own)
-      (change : (weigh : B → ℕ) → total weigh (m.gives e.call e.reply) + total weigh own' ≡ total weigh (m.takes e.call e.reply) + total weigh own) (words : List ℕ) (rs : List Read) where
+      (change : (weigh : B → ℕ) → total weigh (m.gives e.call e.reply) + total weigh own' ≡ total weigh (m.takes e.call e.reply) + total weigh own)
+      (words : List ℕ) (rs : List Read) where
     abbrev F : ℕ → Option P
     F = after ps (listed first) h.log
 
@@ -169,14 +177,18 @@ module _ (P C R B : Type 0) (kind_of : P → Kind) (m : Behaviour P C R B) where
     chosen_now = chosen-snoc h.log e v.mine within ∙ ap (λ l. l ++ e ∷ []) (chosen-within h.log v.seen v.mine seen_before (h.own id (v ∷ []) at 0 v refl).1)
 
     -- the parcels of other grants aren't the call's
-    apart : (j i c k : ℕ) (us : List (View P E)) (u : View P E) (l : G) → get_elem? s.views j ≡ some us → get_elem? us i ≡ some u → Has u c l → (j ≡ id → c ≢ e.node) → Covers ps c k → Covers ps e.node k → ⊥
+    apart : (j i c k : ℕ) (us : List (View P E)) (u : View P E) (l : G) → get_elem? s.views j ≡ some us → get_elem? us i ≡ some u → Has u c l
+        → (j ≡ id → c ≢ e.node) → Covers ps c k → Covers ps e.node k → ⊥
     apart j i c k us u l aj ai has other cover covered =
-        let q = covers-one P E ps s.words s.views r.shares j id i 0 c e.node k us (v ∷ []) u v l g ((r.parcels.carries j us aj i u ai).nodes c l has).0 node.0 aj ai has at refl here cover covered in
+        let q = covers-one P E ps s.words s.views r.shares j id i 0 c e.node k us (v ∷ []) u v l g
+        ((r.parcels.carries j us aj i u ai).nodes c l has).0 node.0 aj ai has at refl here cover covered in
         other q.0 q.2
 
     now : Current ps (put_in ps e F) record { words = words; homes = s.homes; views = set s.views id (stamped ∷ []) }
     now = current-granted ps (put_in ps e F) s words id e.node v stamped e.left at (λ k. refl) refl
-        (λ k pk lk z. h.current.now k pk lk z ∙ ap (λ y. some (some y)) (sym (patched-out ps e.node k (listed e.left) F (λ c. let o = once k pk lk c in let t = total-at (total (has_out k)) s.views id (v ∷ []) at in absurd (omega arith)))))
+        (λ k pk lk z. h.current.now k pk lk z
+        ∙ ap (λ y. some (some y)) (sym (patched-out ps e.node k (listed e.left) F (λ c. let o = once k pk lk c in let t = total-at
+        (total (has_out k)) s.views id (v ∷ []) at in absurd (omega arith)))))
         (λ j us aj i u ai c k l has other cover pk lk. h.current.granted j us aj i u ai c k l has cover pk lk
         ∙ sym (patched-out ps e.node k (listed e.left) F (λ covered. apart j i c k us u l aj ai has other cover covered)))
         (λ k c pk lk. sym (patched-in ps e.node k (listed e.left) F c))
@@ -199,11 +211,13 @@ module _ (P C R B : Type 0) (kind_of : P → Kind) (m : Behaviour P C R B) where
         (keeps ps e.node e.call F e.reply (put_in ps e F) h.hands hands (length h.log) h.sound stepped balance)
 
     hands_now : AreHands m.takes m.gives log hands
-    hands_now weigh = let a = moved-snoc m.gives weigh h.log e in let b = moved-snoc m.takes weigh h.log e in let c = balance weigh in let q = h.all_hands weigh in omega arith
+    hands_now weigh = let a = moved-snoc m.gives weigh h.log e in let b = moved-snoc m.takes weigh h.log e in let c = balance weigh
+        in let q = h.all_hands weigh in omega arith
 
     pub stamp-throughout : SoundThroughout m ps (listed first) log
     stamp-throughout earlier later is = ⊎_elim
-        (λ (t : earlier ≡ log). subst (λ (l : List E). (some_hands : List B) × AreHands m.takes m.gives l some_hands × m.invariant ps (after ps (listed first) l) some_hands (length l)) (sym t) (hands, hands_now, sound_now))
+        (λ (t : earlier ≡ log). subst (λ (l : List E). (some_hands : List B) × AreHands m.takes m.gives l some_hands
+        × m.invariant ps (after ps (listed first) l) some_hands (length l)) (sym t) (hands, hands_now, sound_now))
         (λ (t : (more : List E) × (earlier ++ more ≡ h.log)). h.throughout earlier t.0 t.1)
         (last-or-before earlier later h.log e is)
 
@@ -211,22 +225,28 @@ module _ (P C R B : Type 0) (kind_of : P → Kind) (m : Behaviour P C R B) where
     stamp-remembers = record {
       log = log;
       legal = stamp-legal;
-      current = subst (λ z. Current ps z record { words = words; homes = s.homes; views = set s.views id (stamped ∷ []) }) (sym (after-snoc ps (listed first) h.log e)) now;
-      seen = each-moved (λ (u : View P E). StartsWith h.log u.seen) (λ (u : View P E). StartsWith log u.seen) s.views id (stamped ∷ []) (λ j us ne aj i u ai old. starts-more h.log (e ∷ []) u.seen old) h.seen
+      current = subst (λ z. Current ps z record { words = words; homes = s.homes; views = set s.views id (stamped ∷ []) })
+          (sym (after-snoc ps (listed first) h.log e)) now;
+      seen = each-moved (λ (u : View P E). StartsWith h.log u.seen) (λ (u : View P E). StartsWith log u.seen) s.views id (stamped ∷ [])
+          (λ j us ne aj i u ai old. starts-more h.log (e ∷ []) u.seen old) h.seen
           (all-one (λ (u : View P E). StartsWith log u.seen) stamped (starts-itself log));
-      mine = λ p. let t = total-set (total (λ (u : View P E). tally p u.mine)) s.views id (v ∷ []) (stamped ∷ []) at in let q = h.mine p in let a = tally-append p v.mine (length h.log ∷ []) in
-          let b = one-below p (length h.log) in let n : one_if (ltb p (length log)) ≡ one_if (ltb p (length h.log + 1)) = ap (λ z. one_if (ltb p z)) longer in omega arith;
+      mine = λ p. let t = total-set (total (λ (u : View P E). tally p u.mine)) s.views id (v ∷ []) (stamped ∷ []) at in let q = h.mine p
+          in let a = tally-append p v.mine (length h.log ∷ []) in
+          let b = one-below p (length h.log) in let n : one_if (ltb p (length log)) ≡ one_if (ltb p (length h.log + 1)) = ap (λ z. one_if (ltb p z))
+          longer in omega arith;
       own = each-set (Own P C R B m ps first) s.views id (stamped ∷ []) h.own (all-one (Own P C R B m ps first) stamped (
         ascends-snoc v.mine (length h.log) (h.own id (v ∷ []) at 0 v refl).0 within,
         (λ p some_p. let a = tally-append p v.mine (length h.log ∷ []) in dite (ℕ_discrete (length h.log) p) (λ is. let n = longer in omega arith)
             (λ ne. let z = one-other (length h.log) p ne in let w = within p (omega arith) in let n = longer in omega arith)),
       ));
-      shared = λ weigh. let t = total-set (total (λ (u : View P E). total weigh (chosen u.seen u.mine))) s.views id (v ∷ []) (stamped ∷ []) at in let q = h.shared weigh in
+      shared = λ weigh. let t = total-set (total (λ (u : View P E). total weigh (chosen u.seen u.mine))) s.views id (v ∷ []) (stamped ∷ []) at
+          in let q = h.shared weigh in
           let c : total weigh (chosen log (v.mine ++ length h.log ∷ [])) ≡ total weigh (chosen v.seen v.mine ++ e ∷ []) = ap (total weigh) chosen_now in
           let a = total-append weigh (chosen v.seen v.mine) (e ∷ []) in let b = total-append weigh h.log (e ∷ []) in omega arith;
       hand = each-set (HasHand P C R B m ps first) s.views id (stamped ∷ []) h.hand (all-one (HasHand P C R B m ps first) stamped (
         own',
-        subst (λ l. AreHands m.takes m.gives l own') (sym chosen_now) (λ weigh. let a = moved-snoc m.gives weigh (chosen v.seen v.mine) e in let b = moved-snoc m.takes weigh (chosen v.seen v.mine) e in
+        subst (λ l. AreHands m.takes m.gives l own') (sym chosen_now) (λ weigh. let a = moved-snoc m.gives weigh (chosen v.seen v.mine) e
+            in let b = moved-snoc m.takes weigh (chosen v.seen v.mine) e in
             let c = change weigh in let i = mine weigh in omega arith),
       ));
       hands = hands;

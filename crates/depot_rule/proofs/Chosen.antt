@@ -1,5 +1,6 @@
 -- A seat's own entries: those at its places in what it has seen.
-use Rattle.std.proofs.Common.{◌≡◌, ◌⊎◌, ℕ, zero, suc, ◌+◌, ◌<◌, ◌≤◌, eqb, ltb, Bool, true, false, List, [], ◌∷◌, ◌++◌, length, sym, refl, ap, ◌∙◌, arith, inl, inr, ⊎_elim, Option, Some, None}
+use Rattle.std.proofs.Common.{◌≡◌, ◌⊎◌, ℕ, zero, suc, ◌+◌, ◌<◌, ◌≤◌, eqb, ltb, Bool, true, false, List, [], ◌∷◌, ◌++◌, length, sym, refl}
+use Rattle.std.proofs.Common.{ap, ◌∙◌, arith, inl, inr, ⊎_elim, Option, Some, None}
 use Rattle.std.proofs.lemmas.Bool.{ltb-true, ltb-false}
 use mathlib.Core.Logic.{dite}
 use native.Mathlib.Decide.{ℕ_discrete}
@@ -42,7 +43,8 @@ module _ {A : Type 0} where
   chosen-append xs (p ∷ ps) qs = ap (or_nothing (slice_get xs p)) (chosen-append xs ps qs) ∙ or-append (slice_get xs p) (chosen xs ps) (chosen xs qs)
 
   -- an entry more, at the end, in the seat's own place
-  pub chosen-snoc : (xs : List A) (x : A) (ps : List ℕ) → ((p : ℕ) → 0 < tally p ps → p < length xs) → chosen (xs ++ x ∷ []) (ps ++ length xs ∷ []) ≡ chosen xs ps ++ x ∷ []
+  pub chosen-snoc : (xs : List A) (x : A) (ps : List ℕ) → ((p : ℕ) → 0 < tally p ps → p < length xs) → chosen (xs ++ x ∷ []) (ps ++ length xs ∷ [])
+      ≡ chosen xs ps ++ x ∷ []
   chosen-snoc xs x ps within =
       chosen-append (xs ++ x ∷ []) ps (length xs ∷ [])
       ∙ (λ i. chosen-start xs (x ∷ []) ps within i ++ or_nothing (get-last xs x i) [])
@@ -51,11 +53,13 @@ module _ {A : Type 0} where
   weigh-or weigh None xs = omega arith
   weigh-or weigh (Some x) xs = omega arith
 
-  weigh-less : (weigh : A → ℕ) (zs : List A) (b : Bool) (xs ys : List ℕ) (n : ℕ) → total weigh (chosen zs xs) ≡ n → total weigh (chosen zs ys) ≡ n → total weigh (chosen zs (if_less b xs ys)) ≡ n
+  weigh-less : (weigh : A → ℕ) (zs : List A) (b : Bool) (xs ys : List ℕ) (n : ℕ) → total weigh (chosen zs xs) ≡ n → total weigh (chosen zs ys) ≡ n
+      → total weigh (chosen zs (if_less b xs ys)) ≡ n
   weigh-less weigh zs true xs ys n e f = e
   weigh-less weigh zs false xs ys n e f = f
 
-  weigh-put : (weigh : A → ℕ) (zs : List A) (p : ℕ) (qs : List ℕ) → total weigh (chosen zs (put_among p qs)) ≡ total weigh (or_nothing (slice_get zs p) []) + total weigh (chosen zs qs)
+  weigh-put : (weigh : A → ℕ) (zs : List A) (p : ℕ) (qs : List ℕ) → total weigh (chosen zs (put_among p qs)) ≡ total weigh
+      (or_nothing (slice_get zs p) []) + total weigh (chosen zs qs)
   weigh-put weigh zs p [] = omega arith
   weigh-put weigh zs p (q ∷ qs) =
       let r = weigh-put weigh zs p qs in
@@ -65,15 +69,19 @@ module _ {A : Type 0} where
       weigh-less weigh zs (ltb q p) (q ∷ put_among p qs) (p ∷ q ∷ qs) _ (omega arith) (omega arith)
 
   -- the entries at the places of two lists, however weighed
-  pub weigh-in-order : (weigh : A → ℕ) (zs : List A) (ps qs : List ℕ) → total weigh (chosen zs (in_order ps qs)) ≡ total weigh (chosen zs ps) + total weigh (chosen zs qs)
+  pub weigh-in-order : (weigh : A → ℕ) (zs : List A) (ps qs : List ℕ) → total weigh (chosen zs (in_order ps qs)) ≡ total weigh (chosen zs ps) + total
+      weigh (chosen zs qs)
   weigh-in-order weigh zs [] qs = omega arith
   weigh-in-order weigh zs (p ∷ ps) qs =
-      let r = weigh-in-order weigh zs ps qs in let a = weigh-put weigh zs p (in_order ps qs) in let b = weigh-or weigh (slice_get zs p) (chosen zs ps) in omega arith
+      let r = weigh-in-order weigh zs ps qs in let a = weigh-put weigh zs p (in_order ps qs) in let b = weigh-or weigh (slice_get zs p)
+      (chosen zs ps) in omega arith
 
 -- batches of entries weigh as much as the entries do
-pub moved-weigh : {P C R B : Type 0} (batches : C → R → List B) (weigh : B → ℕ) (es : List (Entry P C R)) → total weigh (batches_of batches es) ≡ total (λ (e : Entry P C R). total weigh (batches e.call e.reply)) es
+pub moved-weigh : {P C R B : Type 0} (batches : C → R → List B) (weigh : B → ℕ) (es : List (Entry P C R))
+    → total weigh (batches_of batches es) ≡ total (λ (e : Entry P C R). total weigh (batches e.call e.reply)) es
 moved-weigh batches weigh [] = refl
-moved-weigh batches weigh (e ∷ es) = let a = total-append weigh (batches e.call e.reply) (batches_of batches es) in let r = moved-weigh batches weigh es in omega arith
+moved-weigh batches weigh (e ∷ es) = let a = total-append weigh (batches e.call e.reply) (batches_of batches es) in let r = moved-weigh batches weigh
+    es in omega arith
 
 tally-less : (p : ℕ) (b : Bool) (xs ys : List ℕ) (n : ℕ) → tally p xs ≡ n → tally p ys ≡ n → tally p (if_less b xs ys) ≡ n
 tally-less p true xs ys n e f = e
@@ -117,7 +125,8 @@ ascends-put x (y ∷ ys) a none = ascends-less (ltb y x) (y ∷ put_among x ys) 
     ))
     (λ not. let ge = ltb-false y x not in (
       (λ z some. ⊎_elim
-          (λ (h : 0 < one_if (eqb y z)). let e = one-is y z h in dite (ℕ_discrete x y) (λ same. let one = one-same y x (sym same) in absurd (omega arith)) (λ other. let lt : x < z = omega arith in lt))
+          (λ (h : 0 < one_if (eqb y z)). let e = one-is y z h in dite (ℕ_discrete x y) (λ same. let one = one-same y x (sym same) in absurd
+          (omega arith)) (λ other. let lt : x < z = omega arith in lt))
           (λ (h : 0 < tally z ys). let up = a.0 z h in let lt : x < z = omega arith in lt)
           (either-some (one_if (eqb y z)) (tally z ys) some)),
       a,

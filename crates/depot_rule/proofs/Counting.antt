@@ -33,7 +33,8 @@ chosen-ones xs (p ∷ ps) within =
     let one = one-same p p refl in
     let here = get-some xs p (within p (omega arith)) in
     let r = chosen-ones xs ps (λ q some_q. within q (omega arith)) in
-    let e : total (λ x. 1) (or_nothing (slice_get xs p) (chosen xs ps)) ≡ total (λ x. 1) (or_nothing (Some here.0) (chosen xs ps)) = ap (λ o. total (λ x. 1) (or_nothing o (chosen xs ps))) here.1 in omega arith
+    let e : total (λ x. 1) (or_nothing (slice_get xs p) (chosen xs ps)) ≡ total (λ x. 1) (or_nothing (Some here.0) (chosen xs ps)) = ap
+    (λ o. total (λ x. 1) (or_nothing o (chosen xs ps))) here.1 in omega arith
 
 module _ {V : Type 0} (f g : V → ℕ) where
   total-one-seat : (vs : List V) → ((i : ℕ) (v : V) → get_elem? vs i ≡ some v → f v ≡ g v) → total f vs ≡ total g vs
@@ -44,7 +45,8 @@ module _ {V : Type 0} (f g : V → ℕ) where
   total-each [] same = refl
   total-each (vs ∷ views) same = let a = total-one-seat vs (same 0 vs refl) in let r = total-each views (λ j us e. same (suc j) us e) in omega arith
 
-pub history-length : (P C R B : Type 0) (kind_of : P → Kind) (m : Behaviour P C R B) (ps : List ℕ) (first : List (Option P)) (s : State (Option P) (List (View P (Entry P C R)))) (r : Rule kind_of m ps first s) → total (total made) s.views ≡ length r.history.log
+pub history-length : (P C R B : Type 0) (kind_of : P → Kind) (m : Behaviour P C R B) (ps : List ℕ) (first : List (Option P))
+    (s : State (Option P) (List (View P (Entry P C R)))) (r : Rule kind_of m ps first s) → total (total made) s.views ≡ length r.history.log
 history-length P C R B kind_of m ps first s r =
     let h = r.history in
     let each = total-each (λ (v : View P (Entry P C R)). total (λ x. 1) (chosen v.seen v.mine)) (λ (v : View P (Entry P C R)). length v.mine) s.views

@@ -23,7 +23,8 @@ module _ {P E : Type 0} (ps : List ℕ) (f : ℕ → Option P) where
   ListsCurrent v = (b k : ℕ) (g : List (Option P)) → Has v b g → Covers ps b k → 0 < k → k < length ps → get_or g k None ≡ f k
 
   -- no slot moves, and no grant is new
-  pub current-stays : (s : State (Option P) (List (View P E))) (c : Current ps f s) (words : List ℕ) (id : ℕ) (v w : View P E) → get_elem? s.views id ≡ some (v ∷ [])
+  pub current-stays : (s : State (Option P) (List (View P E))) (c : Current ps f s) (words : List ℕ) (id : ℕ) (v w : View P E)
+      → get_elem? s.views id ≡ some (v ∷ [])
       → ((k : ℕ) → has_out k w ≡ has_out k v) → ((b : ℕ) (g : List (Option P)) → Has w b g → Has v b g)
       → Current ps f record { words = words; homes = s.homes; views = set s.views id (w ∷ []) }
   current-stays s c words id v w at same old = record {
@@ -32,10 +33,12 @@ module _ {P E : Type 0} (ps : List ℕ) (f : ℕ → Option P) where
   }
 
   -- a grant lists other parcels than before, or is new: they are as g has them
-  pub current-granted : (s : State (Option P) (List (View P E))) (words : List ℕ) (id b : ℕ) (v w : View P E) (left : List (Option P)) → get_elem? s.views id ≡ some (v ∷ [])
+  pub current-granted : (s : State (Option P) (List (View P E))) (words : List ℕ) (id b : ℕ) (v w : View P E) (left : List (Option P))
+      → get_elem? s.views id ≡ some (v ∷ [])
       → ((k : ℕ) → has_out k w ≡ has_out k v) → w.held ≡ set v.held b (Some left)
       → ((k : ℕ) → 0 < k → k < length ps → total (total (has_out k)) s.views ≡ 0 → get_elem? s.homes k ≡ some (some (f k)))
-      → ((j : ℕ) (us : List (View P E)) → get_elem? s.views j ≡ some us → (i : ℕ) (u : View P E) → get_elem? us i ≡ some u → (c k : ℕ) (h : List (Option P)) → Has u c h → (j ≡ id → c ≢ b) → Covers ps c k → 0 < k → k < length ps → get_or h k None ≡ f k)
+      → ((j : ℕ) (us : List (View P E)) → get_elem? s.views j ≡ some us → (i : ℕ) (u : View P E) → get_elem? us i ≡ some u
+      → (c k : ℕ) (h : List (Option P)) → Has u c h → (j ≡ id → c ≢ b) → Covers ps c k → 0 < k → k < length ps → get_or h k None ≡ f k)
       → ((k : ℕ) → Covers ps b k → 0 < k → k < length ps → get_or left k None ≡ f k)
       → Current ps f record { words = words; homes = s.homes; views = set s.views id (w ∷ []) }
   current-granted s words id b v w left at same held home others lists = record {
@@ -53,7 +56,8 @@ module _ {P E : Type 0} (ps : List ℕ) (f : ℕ → Option P) where
   }
 
   -- one slot changes, of a node that a grant of the seat covers
-  pub current-slot : (s : State (Option P) (List (View P E))) (c : Current ps f s) (words : List ℕ) (id b k : ℕ) (v : View P E) (g : List (Option P)) (out : ℕ) (gone : List ℕ) (rs : List Read) (x : maybe.Option (Option P))
+  pub current-slot : (s : State (Option P) (List (View P E))) (c : Current ps f s) (words : List ℕ) (id b k : ℕ) (v : View P E) (g : List (Option P))
+      (out : ℕ) (gone : List ℕ) (rs : List Read) (x : maybe.Option (Option P))
       → get_elem? s.views id ≡ some (v ∷ []) → get_elem? v.held b ≡ some (Some g) → Covers ps b k → 0 < k → k < length ps → length s.homes ≡ length ps
       → ((m : ℕ) → 0 < m → m ≢ k → (tally m gone ≡ tally m v.gone) × (one_if (eqb out m) ≡ one_if (eqb v.out m)))
       → (tally k gone + one_if (eqb out k) ≡ 0 → x ≡ some (get_or g k None))
@@ -63,7 +67,9 @@ module _ {P E : Type 0} (ps : List ℕ) (f : ℕ → Option P) where
         now = λ m pm lm z. let t = total-set (total (has_out m)) s.views id (v ∷ []) (w ∷ []) at in dite (ℕ_discrete m k)
             (λ e. let tk : has_out m w ≡ has_out k w = ap (λ (n : ℕ). has_out n w) e in
             let n = total-at (total (has_out m)) s.views id (v ∷ []) at in
-            ap (get_elem? (set s.homes k x)) e ∙ (set_here s.homes k x (omega arith) ∙ ap some (back (omega arith) ∙ ap some (c.granted id (v ∷ []) at 0 v refl b k g here covers pos lt ∙ ap f (sym e)))))
+            ap (get_elem? (set s.homes k x)) e
+            ∙ (set_here s.homes k x (omega arith)
+            ∙ ap some (back (omega arith) ∙ ap some (c.granted id (v ∷ []) at 0 v refl b k g here covers pos lt ∙ ap f (sym e)))))
             (λ ne. let q = else_same m pm ne in let q0 = q.0 in let q1 = q.1 in set_else s.homes k m x ne ∙ c.now m pm lm (omega arith));
         granted = each-set ListsCurrent s.views id (w ∷ []) c.granted (all-one ListsCurrent w (c.granted id (v ∷ []) at 0 v refl));
       }

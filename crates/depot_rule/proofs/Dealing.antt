@@ -23,12 +23,14 @@ use Rattle.affinity_tree.specs.declared.affinity.Kind.{Kind}
 
 module _ {V : Type 0} where
   -- one seat has what two had
-  total-joined : (f : V → ℕ) (views : List (List V)) (id other : ℕ) (vs ws both : List V) → get_elem? views id ≡ some vs → get_elem? (set views id both) other ≡ some ws
+  total-joined : (f : V → ℕ) (views : List (List V)) (id other : ℕ) (vs ws both : List V) → get_elem? views id ≡ some vs
+      → get_elem? (set views id both) other ≡ some ws
       → total f both ≡ total f vs + total f ws → total (total f) (set (set views id both) other []) ≡ total (total f) views
   total-joined f views id other vs ws both at at' e =
       let a = total-set (total f) views id vs both at in let b = total-set (total f) (set views id both) other ws [] at' in omega arith
 
-  joined-less : (f : V → ℕ) (views : List (List V)) (id other : ℕ) (vs ws both : List V) → get_elem? views id ≡ some vs → get_elem? (set views id both) other ≡ some ws
+  joined-less : (f : V → ℕ) (views : List (List V)) (id other : ℕ) (vs ws both : List V) → get_elem? views id ≡ some vs
+      → get_elem? (set views id both) other ≡ some ws
       → total f both ≤ total f vs + total f ws → total (total f) (set (set views id both) other []) ≤ total (total f) views
   joined-less f views id other vs ws both at at' e =
       let a = total-set (total f) views id vs both at in let b = total-set (total f) (set views id both) other ws [] at' in omega arith
@@ -53,19 +55,29 @@ module _ (P C R B : Type 0) (kind_of : P → Kind) (m : Behaviour P C R B) where
 
   -- f adds up to as much as before, for each f that the rule speaks of, or to no more
   abbrev Agree : ((View P E → ℕ) → Type 0) → ((View P E → ℕ) → Type 0) → Type 0
-  Agree same less = same parts × ((a : ℕ) → 0 < a → same (shares a)) × ((a : ℕ) → 0 < a → same (claims a)) × ((a : ℕ) → 0 < a → same (entered a)) × ((k : ℕ) → 0 < k → same (has_out k)) × same made
-      × ((p : ℕ) → same (λ (v : View P E). tally p v.mine)) × ((weigh : E → ℕ) → same (λ (v : View P E). total weigh (chosen v.seen v.mine))) × same unsettled × less due
+  Agree same less = same parts × ((a : ℕ) → 0 < a → same (shares a)) × ((a : ℕ) → 0 < a → same (claims a)) × ((a : ℕ) → 0 < a → same (entered a))
+      × ((k : ℕ) → 0 < k → same (has_out k)) × same made
+      × ((p : ℕ) → same (λ (v : View P E). tally p v.mine)) × ((weigh : E → ℕ) → same (λ (v : View P E). total weigh (chosen v.seen v.mine)))
+      × same unsettled × less due
 
   -- what the rule says of each view alone
   abbrev Sound : (ps : List ℕ) (first : List (Option P)) (s : St) → Rule kind_of m ps first s → View P E → Type 0
-  Sound ps first s r v = IsSound ps v × Carries kind_of ps first s.homes v × ListsCurrent ps (after ps (listed first) r.history.log) v × StartsWith r.history.log v.seen × Own P C R B m ps first v × HasHand P C R B m ps first v
+  Sound ps first s r v = IsSound ps v × Carries kind_of ps first s.homes v × ListsCurrent ps (after ps (listed first) r.history.log) v
+      × StartsWith r.history.log v.seen × Own P C R B m ps first v × HasHand P C R B m ps first v
 
   -- of the views of all seats
   abbrev AreSound : (ps : List ℕ) (first : List (Option P)) (s : St) → Rule kind_of m ps first s → List (List (View P E)) → Type 0
   AreSound ps first s r views = Each (Sound ps first s r) views
 
   pub sound-views : (ps : List ℕ) (first : List (Option P)) (s : St) (r : Rule kind_of m ps first s) → AreSound ps first s r s.views
-  sound-views ps first s r j vs at i v in_vs = (r.base.shares.sound j vs at i v in_vs, r.base.parcels.carries j vs at i v in_vs, r.history.current.granted j vs at i v in_vs, r.history.seen j vs at i v in_vs, r.history.own j vs at i v in_vs, r.history.hand j vs at i v in_vs)
+  sound-views ps first s r j vs at i v in_vs = (
+    r.base.shares.sound j vs at i v in_vs,
+    r.base.parcels.carries j vs at i v in_vs,
+    r.history.current.granted j vs at i v in_vs,
+    r.history.seen j vs at i v in_vs,
+    r.history.own j vs at i v in_vs,
+    r.history.hand j vs at i v in_vs,
+  )
 
   -- the rule sees the views added up, and each alone
   redealt : (ps : List ℕ) (first : List (Option P)) (s : St) (r : Rule kind_of m ps first s) (views : List (List (View P E)))
@@ -82,7 +94,8 @@ module _ (P C R B : Type 0) (kind_of : P → Kind) (m : Behaviour P C R B) where
         counted = λ a p l. r.shares.counted a p l ∙ sym (same.1 a p);
         ticket = r.shares.ticket ∙ sym same.5;
         bounded = let q = r.shares.bounded in let d = same.9 in let t = same.8 in omega arith;
-        alone = λ a p l h. let c = same.2 a p in let e = same.3 a p in let q = r.shares.alone a p l (omega arith) in let q0 = q.0 in let q1 = q.1 in (omega arith, omega arith);
+        alone = λ a p l h. let c = same.2 a p in let e = same.3 a p in let q = r.shares.alone a p l (omega arith) in let q0 = q.0 in let q1 = q.1
+            in (omega arith, omega arith);
         sound = λ j vs at i v in_vs. (sound j vs at i v in_vs).0;
       };
       parcels = record {
@@ -91,7 +104,8 @@ module _ (P C R B : Type 0) (kind_of : P → Kind) (m : Behaviour P C R B) where
         carries = λ j vs at i v in_vs. (sound j vs at i v in_vs).1;
       };
     };
-    history = dealt P C R B m ps first s whole.history views same.4 (λ j vs at i v in_vs. (sound j vs at i v in_vs).2) (λ j vs at i v in_vs. (sound j vs at i v in_vs).3) same.6
+    history = dealt P C R B m ps first s whole.history views same.4 (λ j vs at i v in_vs. (sound j vs at i v in_vs).2)
+        (λ j vs at i v in_vs. (sound j vs at i v in_vs).3) same.6
         (λ j vs at i v in_vs. (sound j vs at i v in_vs).4) same.7 (λ j vs at i v in_vs. (sound j vs at i v in_vs).5);
   }
 
@@ -114,11 +128,13 @@ module _ (P C R B : Type 0) (kind_of : P → Kind) (m : Behaviour P C R B) where
         total-joined unsettled s.views id other vs ws both at at' q.0.8,
         joined-less due s.views id other vs ws both at at' q.0.9,
       )
-      (each-set (Sound ps first s r) (set s.views id both) other [] (each-set (Sound ps first s r) s.views id both (sound-views ps first s r) q.1) (all-none (Sound ps first s r)))
+      (each-set (Sound ps first s r) (set s.views id both) other [] (each-set (Sound ps first s r) s.views id both (sound-views ps first s r) q.1)
+      (all-none (Sound ps first s r)))
 
   pub parted_in : (ps : List ℕ) (first : List (Option P)) (id : ℕ) (vs left right : List (View P E))
       → ((s : St) (r : Rule kind_of m ps first s) → get_elem? s.views id ≡ some vs
-      → Agree (λ f. total f left + total f right ≡ total f vs) (λ f. total f left + total f right ≤ total f vs) × All (Sound ps first s r) left × All (Sound ps first s r) right)
+      → Agree (λ f. total f left + total f right ≡ total f vs) (λ f. total f left + total f right ≤ total f vs) × All (Sound ps first s r) left
+      × All (Sound ps first s r) right)
       → Splits (Rule kind_of m ps first) id vs left right
   parted_in ps first id vs left right go s r at =
       let q = go s r at in
@@ -140,11 +156,21 @@ module _ (P C R B : Type 0) (kind_of : P → Kind) (m : Behaviour P C R B) where
   seen-sound : (ps : List ℕ) (es : List E) (v : View P E) → IsSound ps v → IsSound ps (having_seen es v)
   seen-sound ps es v s = record { some_part = s.some_part; tree = s.tree; wide = s.wide; once = s.once; looked = s.looked }
 
-  seen-carries : (ps : List ℕ) (first : List (Option P)) (homes : List (maybe.Option (Option P))) (es : List E) (v : View P E) → Carries kind_of ps first homes v → Carries kind_of ps first homes (having_seen es v)
-  seen-carries ps first homes es v c = record { opened = c.opened; nodes = c.nodes; single = c.single; cover = c.cover; whole = c.whole; there = c.there; empty = c.empty }
+  seen-carries : (ps : List ℕ) (first : List (Option P)) (homes : List (maybe.Option (Option P))) (es : List E) (v : View P E)
+      → Carries kind_of ps first homes v → Carries kind_of ps first homes (having_seen es v)
+  seen-carries ps first homes es v c = record {
+    opened = c.opened;
+    nodes = c.nodes;
+    single = c.single;
+    cover = c.cover;
+    whole = c.whole;
+    there = c.there;
+    empty = c.empty;
+  }
 
   -- two seats meet: their views lie side by side
-  pub meets : (ps : List ℕ) (first : List (Option P)) (id : ℕ) (vs : List (View P E)) (other : ℕ) (ws : List (View P E)) → Joins (Rule kind_of m ps first) id vs other ws (vs ++ ws) []
+  pub meets : (ps : List ℕ) (first : List (Option P)) (id : ℕ) (vs : List (View P E)) (other : ℕ) (ws : List (View P E))
+      → Joins (Rule kind_of m ps first) id vs other ws (vs ++ ws) []
   meets ps first id vs other ws = joined ps first id vs other ws (vs ++ ws) (λ s r at at' ne.
       let adds : (f : View P E → ℕ) → total f (vs ++ ws) ≡ total f vs + total f ws = λ f. total-append f vs ws in (
         (
@@ -163,7 +189,8 @@ module _ (P C R B : Type 0) (kind_of : P → Kind) (m : Behaviour P C R B) where
       ))
 
   -- and part again, each with the longer history
-  pub parts-again : (ps : List ℕ) (first : List (Option P)) (id : ℕ) (vs : List (View P E)) → length vs ≡ 2 → Splits (Rule kind_of m ps first) id vs (first_of vs) (others_of vs)
+  pub parts-again : (ps : List ℕ) (first : List (Option P)) (id : ℕ) (vs : List (View P E)) → length vs ≡ 2 → Splits (Rule kind_of m ps first) id vs
+      (first_of vs) (others_of vs)
   parts-again ps first id [] two = absurd (omega arith)
   parts-again ps first id (v ∷ []) two = absurd (omega arith)
   parts-again ps first id (v ∷ w ∷ u ∷ us) two = absurd (omega arith)
@@ -183,8 +210,10 @@ module _ (P C R B : Type 0) (kind_of : P → Kind) (m : Behaviour P C R B) where
           omega arith,
           (λ p. omega arith),
           (λ weigh.
-              let x : total weigh (chosen es v.mine) ≡ total weigh (chosen v.seen v.mine) = ap (total weigh) (first-chosen P C R B m ps first s h id (v ∷ w ∷ []) 0 v at refl id (v ∷ w ∷ []) 1 w at refl) in
-              let y : total weigh (chosen es w.mine) ≡ total weigh (chosen w.seen w.mine) = ap (total weigh) (second-chosen P C R B m ps first s h id (v ∷ w ∷ []) 0 v at refl id (v ∷ w ∷ []) 1 w at refl) in omega arith),
+              let x : total weigh (chosen es v.mine) ≡ total weigh (chosen v.seen v.mine) = ap (total weigh)
+              (first-chosen P C R B m ps first s h id (v ∷ w ∷ []) 0 v at refl id (v ∷ w ∷ []) 1 w at refl) in
+              let y : total weigh (chosen es w.mine) ≡ total weigh (chosen w.seen w.mine) = ap (total weigh)
+              (second-chosen P C R B m ps first s h id (v ∷ w ∷ []) 0 v at refl id (v ∷ w ∷ []) 1 w at refl) in omega arith),
           omega arith,
           omega arith,
         ),
@@ -199,6 +228,8 @@ module _ (P E : Type 0) (kind_of : P → Kind) where
   bare-counts v a pos u p h g n e =
       let z = one-other v.unsure a (λ q. omega arith) in let z' = one-other v.out a (λ q. omega arith) in
       let no_path : tally a v.path ≡ 0 = ap (tally a) p in let none_gone : tally a v.gone ≡ 0 = ap (tally a) g in
-      let c : claims a v ≡ 0 = ap (λ (l : List (Option (List (Option P)))). over_taken (λ b. one_if (eqb b a)) 0 l) e ∙ over-none (List (Option P)) (λ b. one_if (eqb b a)) 0 n in
-      let l : over_taken (λ b. tally a (ancestors v.tree b)) 0 v.held ≡ 0 = ap (λ (l : List (Option (List (Option P)))). over_taken (λ b. tally a (ancestors v.tree b)) 0 l) e ∙ over-none (List (Option P)) (λ b. tally a (ancestors v.tree b)) 0 n in
+      let c : claims a v ≡ 0 = ap (λ (l : List (Option (List (Option P)))). over_taken (λ b. one_if (eqb b a)) 0 l) e ∙ over-none (List (Option P))
+      (λ b. one_if (eqb b a)) 0 n in
+      let l : over_taken (λ b. tally a (ancestors v.tree b)) 0 v.held ≡ 0 = ap (λ (l : List (Option (List (Option P)))). over_taken
+      (λ b. tally a (ancestors v.tree b)) 0 l) e ∙ over-none (List (Option P)) (λ b. tally a (ancestors v.tree b)) 0 n in
       (omega arith, omega arith, omega arith, omega arith)

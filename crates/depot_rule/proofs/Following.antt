@@ -24,7 +24,8 @@ module _ (P E : Type 0) where
       let one : (k : ℕ) → Covers ps b k → Covers ps b' k → (j ≡ j') × (i ≡ i') × (b ≡ b')
       = λ k c c'. covers-one P E ps s.words s.views r.shares j j' i i' b b' k o.0 o'.0 o.1 o'.1 o.2 o'.2 pb pb' o.3 o.4 o.5 o'.3 o'.4 o'.5 c c' in
       ⊎_elim (λ (e : b ≡ b'). one b' (inl e) (inl refl))
-      (λ (t : (0 < tally b (ancestors ps b')) ⊎ (0 < tally b' (ancestors ps b))). ⊎_elim (λ (u : 0 < tally b (ancestors ps b')). one b' (inr u) (inl refl)) (λ (u : 0 < tally b' (ancestors ps b)). one b (inl refl) (inr u)) t) ex
+      (λ (t : (0 < tally b (ancestors ps b')) ⊎ (0 < tally b' (ancestors ps b))). ⊎_elim (λ (u : 0 < tally b (ancestors ps b')). one b' (inr u)
+      (inl refl)) (λ (u : 0 < tally b' (ancestors ps b)). one b (inl refl) (inr u)) t) ex
 
   pub are-placed : ParcelsArePlaced P E
   are-placed kind_of ps first s r k pk lk = dite (ℕ_discrete (total (total (has_out k)) s.views) 0)
@@ -35,17 +36,22 @@ module _ (P E : Type 0) where
 
   pub are-single : ParcelsAreSingle P E
   are-single kind_of ps first s r k pk =
-      let open-at : (j : ℕ) (vs : List (View P E)) → get_elem? s.views j ≡ some vs → (i : ℕ) (v : View P E) → get_elem? vs i ≡ some v → 0 < has_out k v → (b : ℕ) × IsOpen s.views j i b × Covers ps b k
+      let open-at : (j : ℕ) (vs : List (View P E)) → get_elem? s.views j ≡ some vs → (i : ℕ) (v : View P E) → get_elem? vs i ≡ some v
+      → 0 < has_out k v → (b : ℕ) × IsOpen s.views j i b × Covers ps b k
       = λ j vs at i v in_vs h. let c = (r.parcels.carries j vs at i v in_vs).cover k pk h in (c.0, (vs, v, c.1, at, in_vs, c.2), c.3) in
-      let same : (j j' i i' b b' : ℕ) → IsOpen s.views j i b → IsOpen s.views j' i' b' → Covers ps b k → Covers ps b' k → (j ≡ j') × (i ≡ i') × (b ≡ b') = λ j j' i i' b b' o o' c c'.
-      covers-one P E ps s.words s.views r.shares j j' i i' b b' k o.0 o'.0 o.1 o'.1 o.2 o'.2 ((r.parcels.carries j o.0 o.3 i o.1 o.4).nodes b o.2 o.5).0 ((r.parcels.carries j' o'.0 o'.3 i' o'.1 o'.4).nodes b' o'.2 o'.5).0 o.3 o.4 o.5 o'.3 o'.4 o'.5 c c' in
+      let same : (j j' i i' b b' : ℕ) → IsOpen s.views j i b → IsOpen s.views j' i' b' → Covers ps b k → Covers ps b' k → (j ≡ j') × (i ≡ i')
+      × (b ≡ b') = λ j j' i i' b b' o o' c c'.
+      covers-one P E ps s.words s.views r.shares j j' i i' b b' k o.0 o'.0 o.1 o'.1 o.2 o'.2
+      ((r.parcels.carries j o.0 o.3 i o.1 o.4).nodes b o.2 o.5).0 ((r.parcels.carries j' o'.0 o'.3 i' o'.1 o'.4).nodes b' o'.2 o'.5).0 o.3 o.4
+      o.5 o'.3 o'.4 o'.5 c c' in
       total-one (total (has_out k)) s.views
       (λ j vs at. total-one (has_out k) vs (λ i v in_vs. (r.parcels.carries j vs at i v in_vs).single k pk)
       (λ i i' v v' e e' h h'. let o = open-at j vs at i v e h in let o' = open-at j vs at i' v' e' h' in (same j j i i' o.0 o'.0 o.1 o'.1 o.2 o'.2).1))
       (λ j j' vs vs' at at' h h'. let u = total-some (has_out k) vs h in let u' = total-some (has_out k) vs' h' in
       let o = open-at j vs at u.0 u.1 u.2 u.3 in let o' = open-at j' vs' at' u'.0 u'.1 u'.2 u'.3 in (same j j' u.0 u'.0 o.0 o'.0 o.1 o'.1 o.2 o'.2).0)
 
-  free-word : (ps ws : List ℕ) (views : List (List (View P E))) (r : Shares ps ws views) (a : ℕ) → 0 < a → a < length ps → total (total (claims a)) views ≡ 0 → get_or ws a 0 < exclusive
+  free-word : (ps ws : List ℕ) (views : List (List (View P E))) (r : Shares ps ws views) (a : ℕ) → 0 < a → a < length ps
+      → total (total (claims a)) views ≡ 0 → get_or ws a 0 < exclusive
   free-word ps ws views r a pa lt z = let w = word-is P E ps ws views r a pa lt in let f = few-in-word P E ps ws views r a in omega arith
 
   pub have-entered : GrantsHaveEntered P E

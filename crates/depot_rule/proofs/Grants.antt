@@ -24,15 +24,19 @@ module _ (P E : Type 0) where
   pub claims-own : (v : View P E) (b : ℕ) (g : List (Option P)) → get_elem? v.held b ≡ some (Some g) → 1 ≤ claims b v
   claims-own v b g here = let o = over-at (λ c. one_if (eqb c b)) v.held b g here in let one = one-same b b refl in omega arith
 
-  pub lower-own : (ps : List ℕ) (v : View P E) → IsSound ps v → (a b : ℕ) (g : List (Option P)) → get_elem? v.held b ≡ some (Some g) → tally a (ancestors ps b) ≤ lower a v
+  pub lower-own : (ps : List ℕ) (v : View P E) → IsSound ps v → (a b : ℕ) (g : List (Option P)) → get_elem? v.held b ≡ some (Some g)
+      → tally a (ancestors ps b) ≤ lower a v
   lower-own ps v s a b g here =
-      let o = over-at (λ c. tally a (ancestors v.tree c)) v.held b g here in let t : tally a (ancestors v.tree b) ≡ tally a (ancestors ps b) = ap (λ (q : List ℕ). tally a (ancestors q b)) s.tree in omega arith
+      let o = over-at (λ c. tally a (ancestors v.tree c)) v.held b g here in let t : tally a (ancestors v.tree b) ≡ tally a (ancestors ps b) = ap
+      (λ (q : List ℕ). tally a (ancestors q b)) s.tree in omega arith
 
   pub claimed-once : (ps ws : List ℕ) (views : Views) (r : Shares ps ws views) (a : ℕ) → 0 < a → a < length ps → total (total (claims a)) views ≤ 1
-  claimed-once ps ws views r a pos lt = dite (ℕ_discrete (total (total (claims a)) views) 0) (λ z. omega arith) (λ nz. let l = r.alone a pos lt (omega arith) in let one = l.0 in omega arith)
+  claimed-once ps ws views r a pos lt = dite (ℕ_discrete (total (total (claims a)) views) 0) (λ z. omega arith) (λ nz.
+      let l = r.alone a pos lt (omega arith) in let one = l.0 in omega arith)
 
   -- no grant's node is above another's, in any two views
-  pub apart : (ps ws : List ℕ) (views : Views) (r : Shares ps ws views) (j k x y a b : ℕ) (vs us : List (View P E)) (v u : View P E) (g h : List (Option P)) → 0 < a
+  pub apart : (ps ws : List ℕ) (views : Views) (r : Shares ps ws views) (j k x y a b : ℕ) (vs us : List (View P E)) (v u : View P E)
+      (g h : List (Option P)) → 0 < a
       → get_elem? views j ≡ some vs → get_elem? vs x ≡ some v → get_elem? v.held a ≡ some (Some g)
       → get_elem? views k ≡ some us → get_elem? us y ≡ some u → get_elem? u.held b ≡ some (Some h)
       → tally a (ancestors ps b) ≡ 0
@@ -45,7 +49,8 @@ module _ (P E : Type 0) where
       let e' = total-at (entered a) us y u in_us in let e'' = total-at (total (entered a)) views k us at' in omega arith
 
   -- two grants that cover one node are one grant
-  pub covers-one : (ps ws : List ℕ) (views : Views) (r : Shares ps ws views) (j j' i i' b c k : ℕ) (vs us : List (View P E)) (v u : View P E) (g h : List (Option P)) → 0 < b → 0 < c
+  pub covers-one : (ps ws : List ℕ) (views : Views) (r : Shares ps ws views) (j j' i i' b c k : ℕ) (vs us : List (View P E)) (v u : View P E)
+      (g h : List (Option P)) → 0 < b → 0 < c
       → get_elem? views j ≡ some vs → get_elem? vs i ≡ some v → get_elem? v.held b ≡ some (Some g)
       → get_elem? views j' ≡ some us → get_elem? us i' ≡ some u → get_elem? u.held c ≡ some (Some h)
       → Covers ps b k → Covers ps c k
@@ -68,5 +73,6 @@ module _ (P E : Type 0) where
       (λ ne. let two = total-two (total (claims b)) views j j' vs us at at' ne in absurd (omega arith)))
       (λ (o : (0 < tally b (ancestors ps c)) ⊎ (0 < tally c (ancestors ps b))). ⊎_elim
       (λ (t : 0 < tally b (ancestors ps c)). let z = apart ps ws views r j j' i i' b c vs us v u g h pb at in_vs here at' in_us there in absurd (omega arith))
-      (λ (t : 0 < tally c (ancestors ps b)). let z = apart ps ws views r j' j i' i c b us vs u v h g pc at' in_us there at in_vs here in absurd (omega arith)) o)
+      (λ (t : 0 < tally c (ancestors ps b)). let z = apart ps ws views r j' j i' i c b us vs u v h g pc at' in_us there at in_vs here in absurd
+      (omega arith)) o)
       (cover-excludes ps r.tree b c k cb cc')

@@ -1,5 +1,6 @@
 -- A look at the ticket, as the table asks for it.
-use Rattle.std.proofs.Common.{◌≡◌, ◌⊎◌, ◌++◌, inl, inr, ⊎_elim, ℕ, ◌+◌, ◌≤◌, List, [], ◌∷◌, get_or, set, sym, refl, ap, ◌∙◌, subst, arith, Option, length-set, get_or-set_other}
+use Rattle.std.proofs.Common.{◌≡◌, ◌⊎◌, ◌++◌, inl, inr, ⊎_elim, ℕ, ◌+◌, ◌≤◌, List, [], ◌∷◌, get_or, set, sym, refl, ap, ◌∙◌, subst, arith}
+use Rattle.std.proofs.Common.{Option, length-set, get_or-set_other}
 use mathlib.Core.Option.{none, some}
 use mathlib.Core.Logic.{dite}
 use native.Mathlib.Decide.{dec_lt}
@@ -44,17 +45,21 @@ one-began xs ys log a b = began xs ys a.0 b.0 (a.1 ∙ sym b.1)
 module _ (P E : Type 0) where
   -- the ticket is no node's word
   pub ticket-keeps : (ps ws : List ℕ) (views : List (List (View P E))) (r : Shares ps ws views) (x id : ℕ) (v w : View P E) → get_elem? views id ≡ some (v ∷ [])
-      → w.parts ≡ v.parts → get_or (set ws 0 x) 0 0 ≡ total (total made) (set views id (w ∷ [])) → total (total due) (set views id (w ∷ [])) ≤ 4611686018427515904 + total (total unsettled) (set views id (w ∷ [])) → IsSound ps w → ((a : ℕ) → (shares a w ≡ shares a v) × (claims a w ≡ claims a v) × (entered a w ≡ entered a v))
+      → w.parts ≡ v.parts → get_or (set ws 0 x) 0 0 ≡ total (total made) (set views id (w ∷ [])) → total (total due) (set views id (w ∷ []))
+      ≤ 4611686018427515904 + total (total unsettled) (set views id (w ∷ [])) → IsSound ps w
+      → ((a : ℕ) → (shares a w ≡ shares a v) × (claims a w ≡ claims a v) × (entered a w ≡ entered a v))
       → Shares ps (set ws 0 x) (set views id (w ∷ []))
   ticket-keeps ps ws views r x id v w at same next few_due sound others = record {
     tree = r.tree;
     few = r.few;
     as_many = length-set ws 0 x ∙ r.as_many;
     seats = let t = total-set (total parts) views id (v ∷ []) (w ∷ []) at in let q = r.seats in omega arith;
-    counted = λ a p l. let t = total-set (total (shares a)) views id (v ∷ []) (w ∷ []) at in let o = others a in let o0 = o.0 in let q = r.counted a p l in let g = get_or-set_other ws 0 a x 0 (λ e. omega arith) in omega arith;
+    counted = λ a p l. let t = total-set (total (shares a)) views id (v ∷ []) (w ∷ []) at in let o = others a in let o0 = o.0 in let q = r.counted a
+        p l in let g = get_or-set_other ws 0 a x 0 (λ e. omega arith) in omega arith;
     ticket = next;
     bounded = few_due;
-    alone = λ a p l some_claim. let t = total-set (total (entered a)) views id (v ∷ []) (w ∷ []) at in let u = total-set (total (claims a)) views id (v ∷ []) (w ∷ []) at in
+    alone = λ a p l some_claim. let t = total-set (total (entered a)) views id (v ∷ []) (w ∷ []) at in let u = total-set (total (claims a)) views id
+        (v ∷ []) (w ∷ []) at in
         let o = others a in let o1 = o.1 in let o2 = o.2 in let q = r.alone a p l (omega arith) in let q0 = q.0 in let q1 = q.1 in (omega arith, omega arith);
     sound = each-set (IsSound ps) views id (w ∷ []) r.sound (all-one (IsSound ps) w sound);
   }
@@ -64,9 +69,19 @@ module _ (P C R B : Type 0) (kind_of : P → Kind) (m : Behaviour P C R B) where
   E = Entry P C R
 
   -- the view may be allowed one call more
-  look-keeps : (ps : List ℕ) (first : List (Option P)) (s : State (Option P) (List (View P E))) (whole : Rule kind_of m ps first s) (id : ℕ) (v : View P E) (looked : ℕ) → get_elem? s.views id ≡ some (v ∷ []) → looked ≤ 1
-      → total (total due) (set s.views id (record v { looked = looked; reads = record { word = 0; value = get_or s.words 0 0; shares = 0 } ∷ v.reads } ∷ [])) ≤ 4611686018427515904 + total (total unsettled) (set s.views id (record v { looked = looked; reads = record { word = 0; value = get_or s.words 0 0; shares = 0 } ∷ v.reads } ∷ []))
-      → Rule kind_of m ps first record { words = set s.words 0 (get_or s.words 0 0); homes = s.homes; views = set s.views id (record v { looked = looked; reads = record { word = 0; value = get_or s.words 0 0; shares = 0 } ∷ v.reads } ∷ []) }
+  look-keeps : (ps : List ℕ) (first : List (Option P)) (s : State (Option P) (List (View P E))) (whole : Rule kind_of m ps first s) (id : ℕ)
+      (v : View P E) (looked : ℕ) → get_elem? s.views id ≡ some (v ∷ []) → looked ≤ 1
+      → total (total due) (set s.views id (record v {
+        looked = looked;
+        reads = record { word = 0; value = get_or s.words 0 0; shares = 0 } ∷ v.reads;
+      } ∷ [])) ≤ 4611686018427515904 + total (total unsettled)
+      (set s.views id (record v { looked = looked; reads = record { word = 0; value = get_or s.words 0 0; shares = 0 } ∷ v.reads } ∷ []))
+      → Rule kind_of m ps first record {
+        words = set s.words 0 (get_or s.words 0 0);
+        homes = s.homes;
+        views = set s.views id
+            (record v { looked = looked; reads = record { word = 0; value = get_or s.words 0 0; shares = 0 } ∷ v.reads } ∷ []);
+      }
   look-keeps ps first s whole id v looked at one few_due =
       let r = whole.base in
       let rs : List Read = record { word = 0; value = get_or s.words 0 0; shares = 0 } ∷ v.reads in
@@ -76,7 +91,8 @@ module _ (P C R B : Type 0) (kind_of : P → Kind) (m : Behaviour P C R B) where
       let as_many : total (total made) (set s.views id (w ∷ [])) ≡ total (total made) s.views = omega arith in
       record {
         base = record {
-          shares = ticket-keeps P E ps s.words s.views r.shares (get_or s.words 0 0) id v w at refl (ap (λ l. get_or l 0 0) (same-word s.words) ∙ r.shares.ticket ∙ sym as_many) few_due
+          shares = ticket-keeps P E ps s.words s.views r.shares (get_or s.words 0 0) id v w at refl (ap (λ l. get_or l 0 0) (same-word s.words)
+              ∙ r.shares.ticket ∙ sym as_many) few_due
               (record { some_part = so.some_part; tree = so.tree; wide = so.wide; once = so.once; looked = one }) (λ a. (refl, refl, refl));
           parcels = stay-keeps P E kind_of ps first s r id v w at (λ k. refl)
               (record { opened = ca.opened; nodes = ca.nodes; single = ca.single; cover = ca.cover; whole = ca.whole; there = ca.there; empty = ca.empty });
@@ -98,11 +114,22 @@ module _ (P C R B : Type 0) (kind_of : P → Kind) (m : Behaviour P C R B) where
         tt,
         look-keeps ps first s whole id v 1 at (omega arith)
             (let most = due-most P E ps s.words s.views r.shares in
-            let d = total-plus (total (λ (u : View P E). made u)) (total (λ (u : View P E). u.looked + open_grants u)) (total due) (λ us. total-plus (λ (u : View P E). made u) (λ (u : View P E). u.looked + open_grants u) due (λ u. omega arith) us) s.views in
+            let d = total-plus (total (λ (u : View P E). made u)) (total (λ (u : View P E). u.looked + open_grants u)) (total due)
+            (λ us. total-plus (λ (u : View P E). made u) (λ (u : View P E). u.looked + open_grants u) due (λ u. omega arith) us) s.views in
             let rest = total-set (total (λ (u : View P E). u.looked + open_grants u)) s.views id (v ∷ []) (record v { looked = 1 } ∷ []) at in
-            let here = total-set (total due) s.views id (v ∷ []) (record v { looked = 1; reads = record { word = 0; value = x; shares = 0 } ∷ v.reads } ∷ []) at in
+            let here = total-set (total due) s.views id (v ∷ [])
+            (record v { looked = 1; reads = record { word = 0; value = x; shares = 0 } ∷ v.reads } ∷ []) at in
             let so = r.shares.sound id (v ∷ []) at 0 v refl in let l = so.looked in omega arith),
-        (on-one _ me.0 v one (refl, (λ _. refl), (λ high. absurd (omega arith)), λ all. ticket ∙ only-view P E ps s.words s.views r.shares id v at all made), refl),
+        (
+          on-one _ me.0 v one (
+            refl,
+            (λ _. refl),
+            (λ high. absurd (omega arith)),
+            λ all. ticket ∙ only-view P E ps s.words s.views r.shares id v at
+                all made,
+          ),
+          refl,
+        ),
       ))
       (λ high. (
         record v { reads = record { word = 0; value = x; shares = 0 } ∷ v.reads } ∷ [],
@@ -134,7 +161,8 @@ module _ (P C R B : Type 0) (kind_of : P → Kind) (m : Behaviour P C R B) where
             so.tree ∙ sym so'.tree,
             (let fit : v.parts + w.parts ≤ 64 = omega arith in fit),
             (λ b c g h has has' ex.
-                let same = are-apart P E kind_of ps first s r id 0 b id 1 c (v ∷ w ∷ [], v, g, at', refl, has) (v ∷ w ∷ [], w, h, at', refl, has') (subst (λ (q : List ℕ). Excludes q b c) so.tree ex) in
+                let same = are-apart P E kind_of ps first s r id 0 b id 1 c (v ∷ w ∷ [], v, g, at', refl, has) (v ∷ w ∷ [], w, h, at', refl, has')
+                (subst (λ (q : List ℕ). Excludes q b c) so.tree ex) in
                 let bad = same.1 in absurd (omega arith)),
             one-began v.seen w.seen whole.history.log (whole.history.seen id (v ∷ w ∷ []) at' 0 v refl) (whole.history.seen id (v ∷ w ∷ []) at' 1 w refl),
             (

@@ -1,5 +1,6 @@
 -- The beginning and the end of a depot.
-use Rattle.std.proofs.Common.{◌≡◌, ℕ, zero, suc, ◌<◌, ◌≤◌, ltb, List, [], ◌∷◌, ◌++◌, map, length, replicate, get_or, sym, refl, ap, ◌∙◌, subst, arith, Option, Some, None}
+use Rattle.std.proofs.Common.{◌≡◌, ℕ, zero, suc, ◌<◌, ◌≤◌, ltb, List, [], ◌∷◌, ◌++◌, map, length, replicate, get_or, sym, refl, ap, ◌∙◌}
+use Rattle.std.proofs.Common.{subst, arith, Option, Some, None}
 use Rattle.std.proofs.lemmas.List.{length-replicate}
 use Rattle.std.proofs.lemmas.Bool.{le-ltb}
 use mathlib.Core.Option.{some, some-injective, some-ne-none}
@@ -37,7 +38,8 @@ length-map : {A B : Type 0} (f : A → B) (xs : List A) → length (map f xs) �
 length-map f [] = refl
 length-map f (x ∷ xs) = let r = length-map f xs in omega arith
 
-each-one : {V : Type 0} (Q : V → Type 0) (v : V) → Q v → (j : ℕ) (vs : List V) → get_elem? ((v ∷ []) ∷ []) j ≡ some vs → (i : ℕ) (u : V) → get_elem? vs i ≡ some u → Q u
+each-one : {V : Type 0} (Q : V → Type 0) (v : V) → Q v → (j : ℕ) (vs : List V) → get_elem? ((v ∷ []) ∷ []) j ≡ some vs → (i : ℕ) (u : V)
+    → get_elem? vs i ≡ some u → Q u
 each-one Q v q zero vs e = subst (λ (zs : List _). (i : ℕ) (u : _) → get_elem? zs i ≡ some u → Q u) (some-injective (v ∷ []) vs e) (all-one Q v q)
 each-one Q v q (suc j) vs e = absurd (some-ne-none vs (sym e))
 
@@ -56,7 +58,8 @@ module _ (P E : Type 0) (kind_of : P → Kind) where
       → Base {E = E} kind_of ps first (opening (replicate (length ps) 0) first (opening_view ps first ∷ []))
   opens ps first tree few wide there =
       let v : View P E = opening_view ps first in
-      let bare : (a : ℕ) → 0 < a → (shares a v ≡ 0) × (claims a v ≡ 0) × (entered a v ≡ 0) × (has_out a v ≡ 0) = λ a p. bare-counts P E kind_of v a p refl refl refl refl (length ps) refl in
+      let bare : (a : ℕ) → 0 < a → (shares a v ≡ 0) × (claims a v ≡ 0) × (entered a v ≡ 0) × (has_out a v ≡ 0) = λ a p. bare-counts P E kind_of v a p
+      refl refl refl refl (length ps) refl in
       record {
         shares = record {
           tree = tree;
@@ -67,7 +70,13 @@ module _ (P E : Type 0) (kind_of : P → Kind) where
           ticket = zero-word (length ps) 0;
           bounded = let o = over-none (List (Option P)) (λ b. 1) 0 (length ps) in omega arith;
           alone = λ a p l h. let q = bare a p in let q1 = q.1 in absurd (omega arith);
-          sound = each-one (IsSound ps) v (record { some_part = omega arith; tree = refl; wide = length-replicate (length ps) None; once = λ a. omega arith; looked = omega arith });
+          sound = each-one (IsSound ps) v (record {
+            some_part = omega arith;
+            tree = refl;
+            wide = length-replicate (length ps) None;
+            once = λ a. omega arith;
+            looked = omega arith;
+          });
         };
         parcels = record {
           slots = length-map some first ∙ wide;
@@ -85,7 +94,8 @@ module _ (P E : Type 0) (kind_of : P → Kind) where
       }
 
   -- where the only seat has no grant, each parcel is in its slot
-  pub closes : (ps : List ℕ) (first : List (Option P)) (s : State (Option P) (List (View P E))) (r : Base kind_of ps first s) (id : ℕ) (v : View P E) → get_elem? s.views id ≡ some (v ∷ []) → v.parts ≡ 64
+  pub closes : (ps : List ℕ) (first : List (Option P)) (s : State (Option P) (List (View P E))) (r : Base kind_of ps first s) (id : ℕ) (v : View P E)
+      → get_elem? s.views id ≡ some (v ∷ []) → v.parts ≡ 64
       → ((b : ℕ) (g : List (Option P)) → get_elem? v.held b ≡ some (Some g) → ⊥)
       → (k : ℕ) → 0 < k → k < length ps → (y : Option P) × (get_elem? s.homes k ≡ some (some y)) × IsParcel kind_of first k y
   closes ps first s r id v at all none_open k p l =
@@ -120,18 +130,21 @@ module _ (P C R B : Type 0) (kind_of : P → Kind) (m : Behaviour P C R B) where
           hands = [];
           all_hands = λ weigh. refl;
           sound = sound;
-          throughout = λ earlier later e. subst (λ (l : List E). (hands : List B) × AreHands m.takes m.gives l hands × m.invariant ps (after ps (listed first) l) hands (length l)) (sym (none-before earlier later e)) ([], (λ weigh. refl), sound);
+          throughout = λ earlier later e. subst (λ (l : List E). (hands : List B) × AreHands m.takes m.gives l hands
+              × m.invariant ps (after ps (listed first) l) hands (length l)) (sym (none-before earlier later e)) ([], (λ weigh. refl), sound);
         };
       }
 
   -- the only seat, which has no grant: all parcels are at home as its history left them, and that history is the whole one, each entry of it the seat's
-  module _ (ps : List ℕ) (first : List (Option P)) (s : State (Option P) (List (View P E))) (r : Rule kind_of m ps first s) (id : ℕ) (v : View P E) (at : get_elem? s.views id ≡ some (v ∷ [])) (all : v.parts ≡ 64) where
+  module _ (ps : List ℕ) (first : List (Option P)) (s : State (Option P) (List (View P E))) (r : Rule kind_of m ps first s) (id : ℕ) (v : View P E)
+      (at : get_elem? s.views id ≡ some (v ∷ [])) (all : v.parts ≡ 64) where
     all_seen : r.history.log ≡ v.seen
     all_seen = only-log P C R B kind_of m ps first s r.base r.history id v at all
 
     -- the seat's entries weigh as much as all
     own-weigh : (weigh : E → ℕ) → total weigh (chosen v.seen v.mine) ≡ total weigh v.seen
-    own-weigh weigh = sym (only-view P E ps s.words s.views r.base.shares id v at all (λ (u : View P E). total weigh (chosen u.seen u.mine))) ∙ (r.history.shared weigh ∙ ap (total weigh) all_seen)
+    own-weigh weigh = sym (only-view P E ps s.words s.views r.base.shares id v at all (λ (u : View P E). total weigh (chosen u.seen u.mine)))
+        ∙ (r.history.shared weigh ∙ ap (total weigh) all_seen)
 
     own-hands : AreHands m.takes m.gives (chosen v.seen v.mine) r.history.hands
     own-hands weigh =
@@ -139,8 +152,10 @@ module _ (P C R B : Type 0) (kind_of : P → Kind) (m : Behaviour P C R B) where
         let g = own-weigh (λ (d : E). total weigh (m.gives d.call d.reply)) in let t = own-weigh (λ (d : E). total weigh (m.takes d.call d.reply)) in
         let g_own = moved-weigh m.gives weigh (chosen v.seen v.mine) in let t_own = moved-weigh m.takes weigh (chosen v.seen v.mine) in
         let g_all = moved-weigh m.gives weigh v.seen in let t_all = moved-weigh m.takes weigh v.seen in
-        let g_log : total weigh (batches_of m.gives r.history.log) ≡ total weigh (batches_of m.gives v.seen) = ap (λ (l : List E). total weigh (batches_of m.gives l)) all_seen in
-        let t_log : total weigh (batches_of m.takes r.history.log) ≡ total weigh (batches_of m.takes v.seen) = ap (λ (l : List E). total weigh (batches_of m.takes l)) all_seen in omega arith
+        let g_log : total weigh (batches_of m.gives r.history.log) ≡ total weigh (batches_of m.gives v.seen) = ap
+        (λ (l : List E). total weigh (batches_of m.gives l)) all_seen in
+        let t_log : total weigh (batches_of m.takes r.history.log) ≡ total weigh (batches_of m.takes v.seen) = ap
+        (λ (l : List E). total weigh (batches_of m.takes l)) all_seen in omega arith
 
     pub closes-history : Legal m.steps ps (listed first) v.seen × SoundThroughout m ps (listed first) v.seen
         × ((hands : List B) × AreHands m.takes m.gives (entries_of v) hands × m.invariant ps (after ps (listed first) v.seen) hands (length v.seen))
@@ -152,8 +167,10 @@ module _ (P C R B : Type 0) (kind_of : P → Kind) (m : Behaviour P C R B) where
       (λ p. only-mine P C R B kind_of m ps first s r.base r.history id v at all p ∙ ap (λ (l : List E). one_if (ltb p (length l))) all_seen),
     )
 
-    pub closes-parcels : ((b : ℕ) (g : List (Option P)) → get_elem? v.held b ≡ some (Some g) → ⊥) → (k : ℕ) → 0 < k → k < length ps → get_elem? s.homes k ≡ some (some (after ps (listed first) v.seen k))
+    pub closes-parcels : ((b : ℕ) (g : List (Option P)) → get_elem? v.held b ≡ some (Some g) → ⊥) → (k : ℕ) → 0 < k → k < length ps
+        → get_elem? s.homes k ≡ some (some (after ps (listed first) v.seen k))
     closes-parcels none_open k pk lk =
         let ca = r.base.parcels.carries id (v ∷ []) at 0 v refl in
-        r.history.current.now k pk lk (only-view P E ps s.words s.views r.base.shares id v at all (has_out k) ∙ none-then (has_out k v) (λ h. let c = ca.cover k pk h in none_open c.0 c.1 c.2))
+        r.history.current.now k pk lk (only-view P E ps s.words s.views r.base.shares id v at all (has_out k)
+        ∙ none-then (has_out k v) (λ h. let c = ca.cover k pk h in none_open c.0 c.1 c.2))
         ∙ ap (λ (l : List E). some (some (after ps (listed first) l k))) all_seen

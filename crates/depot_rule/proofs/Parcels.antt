@@ -1,5 +1,6 @@
 -- Where the parcels are: what a claim finds, and steps that move one slot or none.
-use Rattle.std.proofs.Common.{◌≡◌, ◌≢◌, ◌⊎◌, ℕ, ◌+◌, ◌<◌, ◌≤◌, eqb, List, [], ◌∷◌, length, get_or, set, sym, refl, ap, ◌∙◌, subst, arith, Option, Some, None, length-set, ⊎_elim}
+use Rattle.std.proofs.Common.{◌≡◌, ◌≢◌, ◌⊎◌, ℕ, ◌+◌, ◌<◌, ◌≤◌, eqb, List, [], ◌∷◌, length, get_or, set, sym, refl, ap, ◌∙◌, subst, arith}
+use Rattle.std.proofs.Common.{Option, Some, None, length-set, ⊎_elim}
 use mathlib.Core.Option.{none, some, some-injective, some-ne-none}
 use mathlib.Core.Option as maybe
 use mathlib.Core.Logic.{dite}
@@ -26,17 +27,20 @@ module _ (P E : Type 0) (kind_of : P → Kind) where
   St = State (Option P) (List (View P E))
 
   -- a step that moves no slot
-  pub stay-keeps : (ps : List ℕ) (first : List (Option P)) (s : St) (r : Base kind_of ps first s) (id : ℕ) (v w : View P E) → get_elem? s.views id ≡ some (v ∷ [])
+  pub stay-keeps : (ps : List ℕ) (first : List (Option P)) (s : St) (r : Base kind_of ps first s) (id : ℕ) (v w : View P E)
+      → get_elem? s.views id ≡ some (v ∷ [])
       → ((k : ℕ) → has_out k w ≡ has_out k v) → Carries kind_of ps first s.homes w
       → Parcels kind_of ps first s.homes (set s.views id (w ∷ []))
   stay-keeps ps first s r id v w at same mine = record {
     slots = r.parcels.slots;
-    home = λ k pk lk none_taken. let t = total-set (total (has_out k)) s.views id (v ∷ []) (w ∷ []) at in let e = same k in r.parcels.home k pk lk (omega arith);
+    home = λ k pk lk none_taken. let t = total-set (total (has_out k)) s.views id (v ∷ []) (w ∷ []) at in let e = same k in r.parcels.home k pk lk
+        (omega arith);
     carries = each-set (Carries kind_of ps first s.homes) s.views id (w ∷ []) r.parcels.carries (all-one (Carries kind_of ps first s.homes) w mine);
   }
 
   -- where b's word is 0 and the words above it are entered, no seat has a parcel that b covers
-  pub untaken : (ps : List ℕ) (first : List (Option P)) (s : St) (r : Base kind_of ps first s) (id b k : ℕ) (v : View P E) → get_elem? s.views id ≡ some (v ∷ []) → 0 < b → b < length ps
+  pub untaken : (ps : List ℕ) (first : List (Option P)) (s : St) (r : Base kind_of ps first s) (id b k : ℕ) (v : View P E)
+      → get_elem? s.views id ≡ some (v ∷ []) → 0 < b → b < length ps
       → ((a : ℕ) → tally a v.path ≡ tally a (ancestors ps b)) → get_or s.words b 0 ≡ 0 → 0 < k → Covers ps b k → total (total (has_out k)) s.views ≡ 0
   untaken ps first s r id b k v at pb lb all free pk cover = total-zero (total (has_out k)) s.views (λ j us aj. total-zero (has_out k) us (λ i u ai.
       let cu = r.parcels.carries j us aj i u ai in
@@ -59,7 +63,8 @@ module _ (P E : Type 0) (kind_of : P → Kind) where
 
   -- what is in the slot of k changes; a view that doesn't cover k is as before
   carries-else : (ps : List ℕ) (first : List (Option P)) (homes : List (maybe.Option (Option P))) (k : ℕ) (x : maybe.Option (Option P)) (u : View P E)
-      → ((c : ℕ) (h : List (Option P)) → get_elem? u.held c ≡ some (Some h) → Covers ps c k → ⊥) → Carries kind_of ps first homes u → Carries kind_of ps first (set homes k x) u
+      → ((c : ℕ) (h : List (Option P)) → get_elem? u.held c ≡ some (Some h) → Covers ps c k → ⊥) → Carries kind_of ps first homes u
+      → Carries kind_of ps first (set homes k x) u
   carries-else ps first homes k x u not cu = record {
     opened = cu.opened;
     nodes = cu.nodes;
@@ -75,20 +80,27 @@ module _ (P E : Type 0) (kind_of : P → Kind) where
   }
 
   -- one slot changes, of a node that a grant of the seat covers: x is there from then on
-  pub slot-keeps : (ps : List ℕ) (first : List (Option P)) (s : St) (r : Base kind_of ps first s) (id b k : ℕ) (v : View P E) (g : List (Option P)) (out : ℕ) (gone : List ℕ) (rs : List Read) (x : maybe.Option (Option P))
+  pub slot-keeps : (ps : List ℕ) (first : List (Option P)) (s : St) (r : Base kind_of ps first s) (id b k : ℕ) (v : View P E) (g : List (Option P))
+      (out : ℕ) (gone : List ℕ) (rs : List Read) (x : maybe.Option (Option P))
       → get_elem? s.views id ≡ some (v ∷ []) → get_elem? v.held b ≡ some (Some g) → Covers ps b k → 0 < k → k < length ps
       → ((m : ℕ) → 0 < m → m ≢ k → (tally m gone ≡ tally m v.gone) × (one_if (eqb out m) ≡ one_if (eqb v.out m)))
       → tally k gone + one_if (eqb out k) ≤ 1
       → (tally k gone + one_if (eqb out k) ≡ 0 → x ≡ some (get_or g k None))
       → (0 < tally k gone → x ≡ some None)
-      → Base kind_of ps first record { words = set s.words k (get_or s.words k 0); homes = set s.homes k x; views = set s.views id (record v { out = out; gone = gone; reads = rs } ∷ []) }
+      → Base kind_of ps first record {
+        words = set s.words k (get_or s.words k 0);
+        homes = set s.homes k x;
+        views = set s.views id
+            (record v { out = out; gone = gone; reads = rs } ∷ []);
+      }
   slot-keeps ps first s r id b k v g out gone rs x at here covers pos lt else_same most back gone_empty =
       let ca = r.parcels.carries id (v ∷ []) at 0 v refl in
       let w : View P E = record v { out = out; gone = gone; reads = rs } in
       let node = ca.nodes b g here in
       let wide = r.parcels.slots in
       let one_grant : (c : ℕ) (h : List (Option P)) → get_elem? v.held c ≡ some (Some h) → Covers ps c k → g ≡ h = λ c h hc ck.
-      let q = covers-one P E ps s.words s.views r.shares id id 0 0 b c k (v ∷ []) (v ∷ []) v v g h node.0 (ca.nodes c h hc).0 at refl here at refl hc covers ck in
+      let q = covers-one P E ps s.words s.views r.shares id id 0 0 b c k (v ∷ []) (v ∷ []) v v g h node.0 (ca.nodes c h hc).0 at refl here at refl hc
+      covers ck in
       let hc' : get_elem? v.held b ≡ some (Some h) = ap (get_elem? v.held) q.2 ∙ hc in let both : some (Some g) ≡ some (Some h) = sym here ∙ hc' in cc in
       let now : get_elem? (set s.homes k x) k ≡ some x = set_here s.homes k x (omega arith) in
       let mine : Carries kind_of ps first (set s.homes k x) w = record {
@@ -116,12 +128,21 @@ module _ (P E : Type 0) (kind_of : P → Kind) where
           slots = length-set s.homes k x ∙ r.parcels.slots;
           home = λ m pm lm none_taken. let t = total-set (total (has_out m)) s.views id (v ∷ []) (w ∷ []) at in dite (ℕ_discrete m k)
               (λ e. let tk : has_out m w ≡ has_out k w = ap (λ (z : ℕ). has_out z w) e in
-              let n = total-at (total (has_out m)) s.views id (v ∷ []) at in
-              (get_or g m None, ap (get_elem? (set s.homes k x)) e ∙ (now ∙ ap some (back (omega arith) ∙ ap (λ (z : ℕ). some (get_or g z None)) (sym e))), ca.whole b m g here (subst (Covers ps b) (sym e) covers) pm lm))
-              (λ ne. let q = else_same m pm ne in let q0 = q.0 in let q1 = q.1 in let h = r.parcels.home m pm lm (omega arith) in (h.0, set_else s.homes k m x ne ∙ h.1, h.2));
+              let n = total-at (total (has_out m)) s.views id (v ∷ []) at in (
+                get_or g m None,
+                ap (get_elem? (set s.homes k x)) e
+                    ∙ (now ∙ ap some (back (omega arith) ∙ ap (λ (z : ℕ). some (get_or g z None)) (sym e))),
+                ca.whole b m g here (subst (Covers ps b) (sym e) covers) pm lm,
+              ))
+              (λ ne. let q = else_same m pm ne in let q0 = q.0 in let q1 = q.1 in let h = r.parcels.home m pm lm (omega arith) in (
+                h.0,
+                set_else s.homes k m x ne ∙ h.1,
+                h.2,
+              ));
           carries = each-moved (Carries kind_of ps first s.homes) (Carries kind_of ps first (set s.homes k x)) s.views id (w ∷ [])
               (λ j us ne aj i u ai cu. carries-else ps first s.homes k x u (λ c h hc ck.
-              let q = covers-one P E ps s.words s.views r.shares id j 0 i b c k (v ∷ []) us v u g h node.0 (cu.nodes c h hc).0 at refl here aj ai hc covers ck in ne (sym q.0)) cu)
+              let q = covers-one P E ps s.words s.views r.shares id j 0 i b c k (v ∷ []) us v u g h node.0 (cu.nodes c h hc).0 at refl here aj ai hc
+              covers ck in ne (sym q.0)) cu)
               r.parcels.carries (all-one (Carries kind_of ps first (set s.homes k x)) w mine);
         };
       }

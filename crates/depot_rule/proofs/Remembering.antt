@@ -32,19 +32,41 @@ module _ (P C R B : Type 0) (m : Behaviour P C R B) (ps : List ℕ) (first : Lis
   HasHand v = (hand : List B) × AreHands m.takes m.gives (chosen v.seen v.mine) hand
 
   -- a seat's step that changes neither what it has seen nor its own entries
-  pub remembers : (s : St) (h : History m ps first s) (words : List ℕ) (homes : List (maybe.Option (Option P))) (id : ℕ) (v : View P E) (looked stamped : ℕ) (path : List ℕ) (unsure : ℕ) (held : List (Option (List (Option P)))) (out : ℕ) (gone : List ℕ) (rs : List Read)
+  pub remembers : (s : St) (h : History m ps first s) (words : List ℕ) (homes : List (maybe.Option (Option P))) (id : ℕ) (v : View P E)
+      (looked stamped : ℕ) (path : List ℕ) (unsure : ℕ) (held : List (Option (List (Option P)))) (out : ℕ) (gone : List ℕ) (rs : List Read)
       → get_elem? s.views id ≡ some (v ∷ [])
-      → Current ps (after ps (listed first) h.log) record { words = words; homes = homes; views = set s.views id (record v { looked = looked; stamped = stamped; path = path; unsure = unsure; held = held; out = out; gone = gone; reads = rs } ∷ []) }
-      → History m ps first record { words = words; homes = homes; views = set s.views id (record v { looked = looked; stamped = stamped; path = path; unsure = unsure; held = held; out = out; gone = gone; reads = rs } ∷ []) }
+      → Current ps (after ps (listed first) h.log) record {
+        words = words;
+        homes = homes;
+        views = set s.views id
+            (record v { looked = looked; stamped = stamped; path = path; unsure = unsure; held = held; out = out; gone = gone; reads = rs } ∷ []);
+      }
+      → History m ps first record {
+        words = words;
+        homes = homes;
+        views = set s.views id
+            (record v { looked = looked; stamped = stamped; path = path; unsure = unsure; held = held; out = out; gone = gone; reads = rs } ∷ []);
+      }
   remembers s h words homes id v looked stamped path unsure held out gone rs at current =
-      let w : View P E = record v { looked = looked; stamped = stamped; path = path; unsure = unsure; held = held; out = out; gone = gone; reads = rs } in record {
+      let w : View P E = record v {
+        looked = looked;
+        stamped = stamped;
+        path = path;
+        unsure = unsure;
+        held = held;
+        out = out;
+        gone = gone;
+        reads = rs;
+      } in record {
         log = h.log;
         legal = h.legal;
         current = current;
-        seen = each-set (λ (u : View P E). StartsWith h.log u.seen) s.views id (w ∷ []) h.seen (all-one (λ (u : View P E). StartsWith h.log u.seen) w (h.seen id (v ∷ []) at 0 v refl));
+        seen = each-set (λ (u : View P E). StartsWith h.log u.seen) s.views id (w ∷ []) h.seen (all-one (λ (u : View P E). StartsWith h.log u.seen) w
+            (h.seen id (v ∷ []) at 0 v refl));
         mine = λ p. let t = total-set (total (λ (u : View P E). tally p u.mine)) s.views id (v ∷ []) (w ∷ []) at in let q = h.mine p in omega arith;
         own = each-set Own s.views id (w ∷ []) h.own (all-one Own w (h.own id (v ∷ []) at 0 v refl));
-        shared = λ weigh. let t = total-set (total (λ (u : View P E). total weigh (chosen u.seen u.mine))) s.views id (v ∷ []) (w ∷ []) at in let q = h.shared weigh in omega arith;
+        shared = λ weigh. let t = total-set (total (λ (u : View P E). total weigh (chosen u.seen u.mine))) s.views id (v ∷ [])
+            (w ∷ []) at in let q = h.shared weigh in omega arith;
         hand = each-set HasHand s.views id (w ∷ []) h.hand (all-one HasHand w (h.hand id (v ∷ []) at 0 v refl));
         hands = h.hands;
         all_hands = h.all_hands;
@@ -59,7 +81,8 @@ module _ (P C R B : Type 0) (m : Behaviour P C R B) (ps : List ℕ) (first : Lis
       → Each (λ (v : View P E). StartsWith h.log v.seen) views
       → ((p : ℕ) → total (total (λ (v : View P E). tally p v.mine)) views ≡ total (total (λ (v : View P E). tally p v.mine)) s.views)
       → Each Own views
-      → ((weigh : E → ℕ) → total (total (λ (v : View P E). total weigh (chosen v.seen v.mine))) views ≡ total (total (λ (v : View P E). total weigh (chosen v.seen v.mine))) s.views)
+      → ((weigh : E → ℕ) → total (total (λ (v : View P E). total weigh (chosen v.seen v.mine))) views ≡ total
+      (total (λ (v : View P E). total weigh (chosen v.seen v.mine))) s.views)
       → Each HasHand views
       → History m ps first record { words = s.words; homes = s.homes; views = views }
   dealt s h views taken lists seen mine own shared hand = record {
@@ -78,8 +101,15 @@ module _ (P C R B : Type 0) (m : Behaviour P C R B) (ps : List ℕ) (first : Lis
   }
 
   -- no grant and no slot changes
-  pub still : (s : St) (h : History m ps first s) (words : List ℕ) (id : ℕ) (v : View P E) (looked : ℕ) (path : List ℕ) (unsure : ℕ) (rs : List Read) → get_elem? s.views id ≡ some (v ∷ [])
-      → History m ps first record { words = words; homes = s.homes; views = set s.views id (record v { looked = looked; path = path; unsure = unsure; reads = rs } ∷ []) }
+  pub still : (s : St) (h : History m ps first s) (words : List ℕ) (id : ℕ) (v : View P E) (looked : ℕ) (path : List ℕ) (unsure : ℕ) (rs : List Read)
+      → get_elem? s.views id ≡ some (v ∷ [])
+      → History m ps first record {
+        words = words;
+        homes = s.homes;
+        views = set s.views id
+            (record v { looked = looked; path = path; unsure = unsure; reads = rs } ∷ []);
+      }
   still s h words id v looked path unsure rs at =
       remembers s h words s.homes id v looked v.stamped path unsure v.held v.out v.gone rs at
-      (current-stays ps (after ps (listed first) h.log) s h.current words id v (record v { looked = looked; path = path; unsure = unsure; reads = rs }) at (λ k. refl) (λ b g has. has))
+      (current-stays ps (after ps (listed first) h.log) s h.current words id v
+      (record v { looked = looked; path = path; unsure = unsure; reads = rs }) at (λ k. refl) (λ b g has. has))

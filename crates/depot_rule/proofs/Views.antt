@@ -1,5 +1,6 @@
 -- The views of all seats: what holds of each, and what a view adds to the words.
-use Rattle.std.proofs.Common.{◌≡◌, ◌≢◌, ℕ, zero, suc, ◌+◌, ◌*◌, ◌<◌, ◌≤◌, eqb, ltb, List, [], ◌∷◌, ◌++◌, length, get_or, set, sym, refl, ◌∙◌, subst, arith, ⊎_elim}
+use Rattle.std.proofs.Common.{◌≡◌, ◌≢◌, ℕ, zero, suc, ◌+◌, ◌*◌, ◌<◌, ◌≤◌, eqb, ltb, List, [], ◌∷◌, ◌++◌, length, get_or, set, sym, refl}
+use Rattle.std.proofs.Common.{◌∙◌, subst, arith, ⊎_elim}
 use mathlib.Core.Option.{some, some-injective, some-ne-none}
 use lib.ListN.{get_elem?}
 use Rattle.atomic_table.proofs.Lists.{at_set, at_snoc}
@@ -34,13 +35,15 @@ module _ {V : Type 0} where
       (λ (t : (j ≢ id) × (get_elem? views j ≡ some us)). each j us t.1) (at_set views id j ws us e)
 
   -- those of the others may become something else
-  pub each-moved : (Q R : V → Type 0) (views : List (List V)) (id : ℕ) (ws : List V) → ((j : ℕ) (us : List V) → j ≢ id → get_elem? views j ≡ some us → (i : ℕ) (u : V) → get_elem? us i ≡ some u → Q u → R u) → Each Q views → All R ws → Each R (set views id ws)
+  pub each-moved : (Q R : V → Type 0) (views : List (List V)) (id : ℕ) (ws : List V) → ((j : ℕ) (us : List V) → j ≢ id → get_elem? views j ≡ some us
+      → (i : ℕ) (u : V) → get_elem? us i ≡ some u → Q u → R u) → Each Q views → All R ws → Each R (set views id ws)
   each-moved Q R views id ws go each all j us e = ⊎_elim
       (λ (t : (j ≡ id) × (ws ≡ us)). subst (All R) t.1 all)
       (λ (t : (j ≢ id) × (get_elem? views j ≡ some us)). λ i u d. go j us t.0 t.1 i u d (each j us t.1 i u d)) (at_set views id j ws us e)
 
   pub each-more : (Q : V → Type 0) (views : List (List V)) (ws : List V) → Each Q views → All Q ws → Each Q (views ++ ws ∷ [])
-  each-more Q views ws each all j us e = ⊎_elim (λ (t : get_elem? views j ≡ some us). each j us t) (λ (t : ws ≡ us). subst (All Q) t all) (at_snoc views ws us j e)
+  each-more Q views ws each all j us e = ⊎_elim (λ (t : get_elem? views j ≡ some us). each j us t) (λ (t : ws ≡ us). subst (All Q) t all)
+      (at_snoc views ws us j e)
 
 module _ (P E : Type 0) where
   abbrev pub unsure_in : ℕ → View P E → ℕ
@@ -55,14 +58,17 @@ module _ (P E : Type 0) where
   pub lower-most : (ps : List ℕ) → IsTree ps → (a : ℕ) (v : View P E) → IsSound ps v → lower a v ≤ length ps
   lower-most ps t a v s =
       let o : over_taken (λ b. tally a (ancestors v.tree b)) 0 v.held ≤ length v.held
-      = over-most (λ b. tally a (ancestors v.tree b)) 0 v.held (λ b. subst (λ (q : List ℕ). tally a (ancestors q b) ≤ 1) (sym s.tree) (ancestors-once ps t a b)) in
+      = over-most (λ b. tally a (ancestors v.tree b)) 0 v.held (λ b. subst (λ (q : List ℕ). tally a (ancestors q b) ≤ 1) (sym s.tree)
+      (ancestors-once ps t a b)) in
       let w = s.wide in omega arith
 
   pub few-shares : (ps : List ℕ) → IsTree ps → length ps ≤ 1024 → (a : ℕ) (v : View P E) → IsSound ps v → entered a v + unsure_in a v ≤ 2000 * parts v
-  few-shares ps t few a v s = let u = one-most (eqb v.unsure a) in let p = s.once a in let l = lower-most ps t a v s in let some_part = s.some_part in omega arith
+  few-shares ps t few a v s = let u = one-most (eqb v.unsure a) in let p = s.once a in let l = lower-most ps t a v s in let some_part = s.some_part
+      in omega arith
 
   -- the shares in a word never reach its exclusive part
-  pub few-in-word : (ps ws : List ℕ) (views : List (List (View P E))) (r : Shares ps ws views) (a : ℕ) → total (total (λ (v : View P E). entered a v + unsure_in a v)) views ≤ 128000
+  pub few-in-word : (ps ws : List ℕ) (views : List (List (View P E))) (r : Shares ps ws views) (a : ℕ)
+      → total (total (λ (v : View P E). entered a v + unsure_in a v)) views ≤ 128000
   few-in-word ps ws views r a =
       let b = total-most (total (λ (v : View P E). entered a v + unsure_in a v)) (total parts) views
       (λ j vs e. total-most (λ (v : View P E). entered a v + unsure_in a v) parts vs (λ i v d. few-shares ps r.tree r.few a v (r.sound j vs e i v d))) in
@@ -70,9 +76,11 @@ module _ (P E : Type 0) where
 
   -- a view's rights to add entries are few, and so are all entries
   pub few-due : (ps : List ℕ) → length ps ≤ 1024 → (v : View P E) → IsSound ps v → v.looked + open_grants v ≤ 2000 * parts v
-  few-due ps few v s = let o = over-most (λ b. 1) 0 v.held (λ b. omega arith) in let w = s.wide in let l = s.looked in let some_part = s.some_part in omega arith
+  few-due ps few v s = let o = over-most (λ b. 1) 0 v.held (λ b. omega arith) in let w = s.wide in let l = s.looked in let some_part = s.some_part
+      in omega arith
 
-  pub due-most : (ps ws : List ℕ) (views : List (List (View P E))) (r : Shares ps ws views) → total (total (λ (v : View P E). v.looked + open_grants v)) views ≤ 128000
+  pub due-most : (ps ws : List ℕ) (views : List (List (View P E))) (r : Shares ps ws views)
+      → total (total (λ (v : View P E). v.looked + open_grants v)) views ≤ 128000
   due-most ps ws views r =
       let b = total-most (total (λ (v : View P E). v.looked + open_grants v)) (total parts) views
       (λ j vs e. total-most (λ (v : View P E). v.looked + open_grants v) parts vs (λ i v d. few-due ps r.few v (r.sound j vs e i v d))) in
@@ -81,7 +89,8 @@ module _ (P E : Type 0) where
   pub unsettled-most : (ps ws : List ℕ) (views : List (List (View P E))) (r : Shares ps ws views) → total (total unsettled) views ≤ 128000
   unsettled-most ps ws views r =
       let b = total-most (total unsettled) (total parts) views
-      (λ j vs e. total-most unsettled parts vs (λ i v d. let o = one-most (ltb 0 v.stamped) in let some_part = (r.sound j vs e i v d).some_part in omega arith)) in
+      (λ j vs e. total-most unsettled parts vs (λ i v d. let o = one-most (ltb 0 v.stamped) in let some_part = (r.sound j vs e i v d).some_part
+      in omega arith)) in
       let s = r.seats in omega arith
 
   pub made-less : (views : List (List (View P E))) → total (total made) views ≤ total (total due) views
@@ -95,11 +104,14 @@ module _ (P E : Type 0) where
   none-left [] f some_part z = refl
   none-left (v ∷ vs) f some_part z = let p = some_part 0 v refl in absurd (omega arith)
 
-  pub only-view : (ps ws : List ℕ) (views : List (List (View P E))) (r : Shares ps ws views) (id : ℕ) (v : View P E) → get_elem? views id ≡ some (v ∷ []) → v.parts ≡ 64 → (f : View P E → ℕ) → total (total f) views ≡ f v
+  pub only-view : (ps ws : List ℕ) (views : List (List (View P E))) (r : Shares ps ws views) (id : ℕ) (v : View P E)
+      → get_elem? views id ≡ some (v ∷ []) → v.parts ≡ 64 → (f : View P E → ℕ) → total (total f) views ≡ f v
   only-view ps ws views r id v at all f =
       let q = r.seats in
-      let e = total-alone (total f) (total parts) views id (v ∷ []) at (omega arith) (λ j us d z. none-left us f (λ i u h. (r.sound j us d i u h).some_part) z) in omega arith
+      let e = total-alone (total f) (total parts) views id (v ∷ []) at (omega arith)
+      (λ j us d z. none-left us f (λ i u h. (r.sound j us d i u h).some_part) z) in omega arith
 
   -- a seat with all parts finds its own shares
-  pub finds-own : (ps ws : List ℕ) (views : List (List (View P E))) (r : Shares ps ws views) (a id : ℕ) (v : View P E) → get_elem? views id ≡ some (v ∷ []) → 0 < a → a < length ps → v.parts ≡ 64 → get_or ws a 0 ≡ shares a v
+  pub finds-own : (ps ws : List ℕ) (views : List (List (View P E))) (r : Shares ps ws views) (a id : ℕ) (v : View P E)
+      → get_elem? views id ≡ some (v ∷ []) → 0 < a → a < length ps → v.parts ≡ 64 → get_or ws a 0 ≡ shares a v
   finds-own ps ws views r a id v at pos lt all = r.counted a pos lt ∙ only-view ps ws views r id v at all (shares a)

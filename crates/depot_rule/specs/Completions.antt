@@ -17,7 +17,8 @@ abbrev pub Deed : Type 0 → Type 0 → Type 0 → Type 0 → Type 1
 Deed W P C R = W → ℕ → C → (ℕ → Option P) → R → (ℕ → Option P) → Type 0
 
 module _ {W P C R B : Type 0} (HasTree : W → List ℕ → Type 0) (good : Whole W P B) (takes gives : C → R → List B) (deed : Deed W P C R) where
-  -- in each tree with these parents, and whatever the parcels are that a doesn't cover: where all is as it has to be, with any hands, the call does its deed and all is so again, with the hands after it
+  -- in each tree with these parents, and whatever the parcels are that a doesn't cover: where all is as it has to be,
+  -- with any hands, the call does its deed and all is so again, with the hands after it
   abbrev pub DoesRight : List ℕ → ℕ → C → (ℕ → Option P) → R → (ℕ → Option P) → Type 0
   DoesRight ps a call f reply f' = (tree : W) → HasTree tree ps
       → (g : ℕ → Option P) (hands hands' : List B) (n : ℕ)

@@ -68,7 +68,8 @@ behaviour steps takes gives invariant = record { steps = steps; takes = takes; g
 -- parcels at home, and those that grants list, are as f has them
 pub record Current {P E : Type 0} (parents : List ℕ) (f : ℕ → Option P) (s : State (Option P) (List (View P E))) : Type 0 where
   pub now : (k : ℕ) → 0 < k → k < length parents → total (total (has_out k)) s.views ≡ 0 → get_elem? s.homes k ≡ some (some (f k))
-  pub granted : Each (λ (v : View P E). (b k : ℕ) (g : List (Option P)) → Has v b g → Covers parents b k → 0 < k → k < length parents → slice_index_or g k None ≡ f k) s.views
+  pub granted : Each (λ (v : View P E). (b k : ℕ) (g : List (Option P)) → Has v b g → Covers parents b k → 0 < k → k < length parents
+      → slice_index_or g k None ≡ f k) s.views
 
 -- the entries that a seat made
 abbrev pub entries_of : {P E : Type 0} → View P E → List E
@@ -104,7 +105,8 @@ module _ {P C R : Type 0} where
       → (hands : List _) × AreHands m.takes m.gives earlier hands × m.invariant parents (after parents f earlier) hands (length earlier)
 
   -- the third pass: of the whole state, for a machine
-  pub record History {B : Type 0} (m : Behaviour P C R B) (parents : List ℕ) (first : List (Option P)) (s : State (Option P) (List (View P (Entry P C R)))) : Type 0 where
+  pub record History {B : Type 0} (m : Behaviour P C R B) (parents : List ℕ) (first : List (Option P))
+      (s : State (Option P) (List (View P (Entry P C R)))) : Type 0 where
     pub log : List (Entry P C R)
     pub legal : Legal m.steps parents (listed first) log
     pub current : Current parents (after parents (listed first) log) s
@@ -116,15 +118,19 @@ module _ {P C R : Type 0} where
     pub own : Each (λ (v : View P (Entry P C R)). Ascends v.mine × ((p : ℕ) → 0 < tally p v.mine → p < length v.seen)) s.views
     -- the entries of all seats are those of the log, however entries are weighed
     pub shared : (weigh : Entry P C R → ℕ) → total (total (λ (v : View P (Entry P C R)). total weigh (entries_of v))) s.views ≡ total weigh log
-    -- each seat's hand has what its entries took and didn't give, and all hands what all entries took and didn't give; of these the machine's invariant holds now, as it held of the hands at each place before
+    -- each seat's hand has what its entries took and didn't give, and all hands what all entries took and didn't give;
+    -- of these the machine's invariant holds now, as it held of the hands at each place before
     pub hand : Each (λ (v : View P (Entry P C R)). (hand : List B) × AreHands m.takes m.gives (entries_of v) hand) s.views
     pub hands : List B
     pub all_hands : AreHands m.takes m.gives log hands
     pub sound : m.invariant parents (after parents (listed first) log) hands (length log)
     pub throughout : SoundThroughout m parents (listed first) log
 
-  -- a history that a seat may know of that has seen so much, and has its own entries at these places: it begins with what was seen, and is legal, and the machine's invariant holds throughout. At its end all hands are the seat's hand and the others'
-  pub record SoundHistory {B : Type 0} (m : Behaviour P C R B) (parents : List ℕ) (first : List (Option P)) (seen : List (Entry P C R)) (mine : List ℕ) (log : List (Entry P C R)) : Type 0 where
+  -- a history that a seat may know of that has seen so much, and has its own entries at these places: it begins with
+  -- what was seen, and is legal, and the machine's invariant holds throughout. At its end all hands are the seat's hand
+  -- and the others'
+  pub record SoundHistory {B : Type 0} (m : Behaviour P C R B) (parents : List ℕ) (first : List (Option P)) (seen : List (Entry P C R))
+      (mine : List ℕ) (log : List (Entry P C R)) : Type 0 where
     pub begins : StartsWith log seen
     pub legal : Legal m.steps parents (listed first) log
     pub hands : List B

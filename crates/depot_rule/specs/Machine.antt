@@ -12,6 +12,7 @@ IsLocal steps = (parents : List ℕ) (a : ℕ) (c : _) (f g : ℕ → Option _) 
 
 -- A call keeps what has to hold of all parcels, of all batches in hands (in any order) and of the count of entries
 abbrev pub Keeps : {P C R B : Type 0} → Steps P C R → (C → R → List B) → (C → R → List B) → Invariant P B → Type 0
-Keeps steps takes gives invariant = (parents : List ℕ) (a : ℕ) (c : _) (f : ℕ → Option _) (r : _) (f' : ℕ → Option _) (hands hands' : List _) (n : ℕ) → invariant parents f hands n → steps parents a c f r f'
+Keeps steps takes gives invariant = (parents : List ℕ) (a : ℕ) (c : _) (f : ℕ → Option _) (r : _) (f' : ℕ → Option _) (hands hands' : List _) (n : ℕ)
+    → invariant parents f hands n → steps parents a c f r f'
     → ((weigh : _ → ℕ) → total weigh (gives c r) + total weigh hands' ≡ total weigh (takes c r) + total weigh hands)
     → invariant parents f' hands' (n + 1)

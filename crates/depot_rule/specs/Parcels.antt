@@ -26,15 +26,19 @@ module _ {P E : Type 0} where
     -- what the seat has is covered by one of its grants
     pub cover : (k : ℕ) → 0 < k → 0 < has_out k v → (b : ℕ) × (g : List (Option P)) × Has v b g × Covers parents b k
     -- a grant has a parcel for each node that it covers
-    pub whole : (b k : ℕ) (g : List (Option P)) → Has v b g → Covers parents b k → 0 < k → k < length parents → IsParcel kind_of first k (slice_index_or g k None)
+    pub whole : (b k : ℕ) (g : List (Option P)) → Has v b g → Covers parents b k → 0 < k → k < length parents
+        → IsParcel kind_of first k (slice_index_or g k None)
     -- what it covers and hasn't taken lies in its slot as it was granted
-    pub there : (b k : ℕ) (g : List (Option P)) → Has v b g → Covers parents b k → 0 < k → k < length parents → has_out k v ≡ 0 → get_elem? homes k ≡ some (some (slice_index_or g k None))
+    pub there : (b k : ℕ) (g : List (Option P)) → Has v b g → Covers parents b k → 0 < k → k < length parents → has_out k v ≡ 0
+        → get_elem? homes k ≡ some (some (slice_index_or g k None))
     -- its slot is home, empty, where the seat has the parcel alone
     pub empty : (k : ℕ) → 0 < k → 0 < tally k v.gone → get_elem? homes k ≡ some (some None)
 
   -- the second pass: of what lies in the slots, and of all views
-  pub record Parcels (kind_of : P → Kind) (parents : List ℕ) (first : List (Option P)) (homes : List (maybe.Option (Option P))) (views : List (List (View P E))) : Type 0 where
+  pub record Parcels (kind_of : P → Kind) (parents : List ℕ) (first : List (Option P)) (homes : List (maybe.Option (Option P)))
+      (views : List (List (View P E))) : Type 0 where
     pub slots : length homes ≡ length parents
     -- a parcel that no seat has is at home
-    pub home : (k : ℕ) → 0 < k → k < length parents → total (total (has_out k)) views ≡ 0 → (y : Option P) × (get_elem? homes k ≡ some (some y)) × IsParcel kind_of first k y
+    pub home : (k : ℕ) → 0 < k → k < length parents → total (total (has_out k)) views ≡ 0 → (y : Option P) × (get_elem? homes k ≡ some (some y))
+        × IsParcel kind_of first k y
     pub carries : Each (Carries kind_of parents first homes) views

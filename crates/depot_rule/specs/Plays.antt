@@ -47,7 +47,12 @@ module _ {P E : Type 0} where
 
   -- fetch_sub of 2^32: the grant ends, which no other grant of the seat excluded, no grant is stamped any more, and its shares are to be left
   abbrev pub ReleaseSays : Step (Option P) → Place P E → ℕ → Place P E → Type 0
-  ReleaseSays st me found me' = Goes (λ v vs. (vs ≡ record v { stamped = 0; path = ancestors v.tree st.word; held = slice_set v.held st.word None; reads = noted st found v } ∷ [])
+  ReleaseSays st me found me' = Goes (λ v vs. (vs ≡ record v {
+    stamped = 0;
+    path = ancestors v.tree st.word;
+    held = slice_set v.held st.word None;
+    reads = noted st found v;
+  } ∷ [])
       × ((c : ℕ) (h : List (Option P)) → Has v c h → Excludes v.tree st.word c → c ≡ st.word)) me me'
 
   -- a load of the node's word, by which its slot goes out with what the grant lists
@@ -90,16 +95,20 @@ module _ {P E : Type 0} where
   KeepEntries v w = (chosen (longer v.seen w.seen) v.mine ≡ entries_of v) × (chosen (longer v.seen w.seen) w.mine ≡ entries_of w)
       × ((weigh : E → ℕ) → total weigh (entries_of (merge v w)) ≡ total weigh (entries_of v) + total weigh (entries_of w))
 
-  -- a load by which two seats that met are found to be of one tree and one history, with at most 64 parts, no grant of the one to exclude a grant of the other, and each to keep its entries
+  -- a load by which two seats that met are found to be of one tree and one history, with at most 64 parts, no grant of
+  -- the one to exclude a grant of the other, and each to keep its entries
   abbrev pub AlikeSays : Step (Option P) → Place P E → ℕ → Place P E → Type 0
-  AlikeSays st me found me' = (me' ≡ me) × ((v w : View P E) → me.0 ≡ v ∷ w ∷ [] → (v.tree ≡ w.tree) × (v.parts + w.parts ≤ 64) × AreApart v w × HaveSeenOne v w × KeepEntries v w)
+  AlikeSays st me found me' = (me' ≡ me) × ((v w : View P E) → me.0 ≡ v ∷ w ∷ [] → (v.tree ≡ w.tree) × (v.parts + w.parts ≤ 64) × AreApart v w
+      × HaveSeenOne v w × KeepEntries v w)
 
   -- the view has seen what others put between, and its own entry e after that
   abbrev pub with_entry : View P E → List E → E → View P E
   with_entry v between e = record v { seen = (v.seen ++ between) ++ e ∷ []; mine = v.mine ++ length (v.seen ++ between) ∷ [] }
 
 module _ {P C R B : Type 0} where
-  -- compare_exchange of 0 by 2^32: where 0 was found there is a grant, with a parcel for each node that it covers, none of them taken, each as a sound history left it, and the shares entered are the grant's. For the only seat that history is what it has seen. The look is used up. Where another number was found nothing changes
+  -- compare_exchange of 0 by 2^32: where 0 was found there is a grant, with a parcel for each node that it covers, none
+  -- of them taken, each as a sound history left it, and the shares entered are the grant's. For the only seat that
+  -- history is what it has seen. The look is used up. Where another number was found nothing changes
   abbrev pub ClaimSays : (P → Kind) → Behaviour P C R B → Step (Option P) → Place P (Entry P C R) → ℕ → Place P (Entry P C R) → Type 0
   ClaimSays kind_of m st me found me' = Goes (λ v vs.
       (found ≡ 0 → (g : List (Option P))
@@ -108,10 +117,14 @@ module _ {P C R B : Type 0} where
       × ((c : ℕ) (h : List (Option P)) → Has v c h → Excludes v.tree st.word c → ⊥)
       × ((k : ℕ) → 0 < k → Covers v.tree st.word k → has_out k v ≡ 0)
       × (get_elem? v.held st.word ≡ some None)
-      × ((log : List (Entry P C R)) × IsHistory m v.tree v.first v log × (length log < too_many) × (IsOnly v → log ≡ v.seen) × ((k : ℕ) → 0 < k → k < length v.tree → Covers v.tree st.word k → slice_index_or g k None ≡ after v.tree (listed v.first) log k)))
-      × (found ≢ 0 → (vs ≡ record v { reads = noted st found v } ∷ []) × (IsOnly v → (c : ℕ) × (h : List (Option P)) × Has v c h × Excludes v.tree st.word c))) me me'
+      × ((log : List (Entry P C R)) × IsHistory m v.tree v.first v log × (length log < too_many) × (IsOnly v → log ≡ v.seen)
+      × ((k : ℕ) → 0 < k → k < length v.tree → Covers v.tree st.word k → slice_index_or g k None ≡ after v.tree (listed v.first) log k)))
+      × (found ≢ 0 → (vs ≡ record v { reads = noted st found v } ∷ []) × (IsOnly v → (c : ℕ) × (h : List (Option P)) × Has v c h
+      × Excludes v.tree st.word c))) me me'
 
-  -- the seat's history is what it had seen, what others put between, and e, fewer than 2^62 + 300,000 entries; it is legal, with the machine's invariant throughout, and the seat's own entries are those that it had, and e. For the only seat nothing is between
+  -- the seat's history is what it had seen, what others put between, and e, fewer than 2^62 + 300,000 entries; it is
+  -- legal, with the machine's invariant throughout, and the seat's own entries are those that it had, and e. For the
+  -- only seat nothing is between
   abbrev pub HasAdded : Behaviour P C R B → View P (Entry P C R) → List (Entry P C R) → Entry P C R → Type 0
   HasAdded m v between e = Legal m.steps v.tree (listed v.first) (with_entry v between e).seen
       × SoundThroughout m v.tree (listed v.first) (with_entry v between e).seen
@@ -119,9 +132,14 @@ module _ {P C R B : Type 0} where
       × (IsOnly v → between ≡ [])
       × (length (with_entry v between e).seen < too_many)
 
-  -- fetch_add of 1 on the ticket, for the entry e: the grant of its node lists from then on what the entry left, and the entry stands in the history after all that was seen and what others put between
+  -- fetch_add of 1 on the ticket, for the entry e: the grant of its node lists from then on what the entry left, and
+  -- the entry stands in the history after all that was seen and what others put between
   abbrev pub StampSays : Behaviour P C R B → Option (Entry P C R) → Step (Option P) → Place P (Entry P C R) → ℕ → Place P (Entry P C R) → Type 0
   StampSays m item st me found me' = IfSome item (λ e. OnOne (λ v. (between : List (Entry P C R))
-      × (me'.0 ≡ record (with_entry v between e) { stamped = e.node; held = slice_set v.held e.node (Some e.left); reads = record { word = 0; value = found; shares = 0 } ∷ v.reads } ∷ [])
+      × (me'.0 ≡ record (with_entry v between e) {
+        stamped = e.node;
+        held = slice_set v.held e.node (Some e.left);
+        reads = record { word = 0; value = found; shares = 0 } ∷ v.reads;
+      } ∷ [])
       × HasAdded m v between e) me.0)
       × (me'.1 ≡ me.1)

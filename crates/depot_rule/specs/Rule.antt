@@ -14,6 +14,7 @@ pub record Base {P E : Type 0} (kind_of : P → Kind) (parents : List ℕ) (firs
   pub parcels : Parcels kind_of parents first s.homes s.views
 
 -- all three, for a machine
-pub record Rule {P C R B : Type 0} (kind_of : P → Kind) (m : Behaviour P C R B) (parents : List ℕ) (first : List (Option P)) (s : State (Option P) (List (View P (Entry P C R)))) : Type 0 where
+pub record Rule {P C R B : Type 0} (kind_of : P → Kind) (m : Behaviour P C R B) (parents : List ℕ) (first : List (Option P))
+    (s : State (Option P) (List (View P (Entry P C R)))) : Type 0 where
   pub base : Base kind_of parents first s
   pub history : History m parents first s

@@ -48,7 +48,18 @@ module _ {P E : Type 0} where
   parted (v ∷ vs) = record v { parts = v.parts - 1 } ∷ vs
 
   abbrev pub fresh : View P E → View P E
-  fresh v = record v { parts = 1; unsure = 0; looked = 0; stamped = 0; path = []; held = replicate (length v.tree) None; out = 0; gone = []; reads = []; mine = [] }
+  fresh v = record v {
+    parts = 1;
+    unsure = 0;
+    looked = 0;
+    stamped = 0;
+    path = [];
+    held = replicate (length v.tree) None;
+    out = 0;
+    gone = [];
+    reads = [];
+    mine = [];
+  }
 
   abbrev pub fresh_of : List (View P E) → List (View P E)
   fresh_of [] = []
@@ -56,7 +67,15 @@ module _ {P E : Type 0} where
 
   -- two views between calls as one. A right to an entry is dropped; the second has nothing entered, out or stamped
   abbrev pub merge : View P E → View P E → View P E
-  merge v w = record v { parts = v.parts + w.parts; looked = 0; held = both_held v.held w.held; gone = v.gone ++ w.gone; reads = v.reads ++ w.reads; seen = longer v.seen w.seen; mine = in_order v.mine w.mine }
+  merge v w = record v {
+    parts = v.parts + w.parts;
+    looked = 0;
+    held = both_held v.held w.held;
+    gone = v.gone ++ w.gone;
+    reads = v.reads ++ w.reads;
+    seen = longer v.seen w.seen;
+    mine = in_order v.mine w.mine;
+  }
 
   abbrev pub merged : List (View P E) → List (View P E) → List (View P E)
   merged [] ws = ws

@@ -28,7 +28,22 @@ Each Q views = (j : ℕ) (vs : List _) → get_elem? views j ≡ some vs → (i 
 
 -- the first seat's view: all parts, nothing entered, granted or seen
 abbrev pub opening_view : {P E : Type 0} → List ℕ → List (Option P) → View P E
-opening_view parents first = record { parts = 64; tree = parents; unsure = 0; looked = 0; stamped = 0; path = []; held = replicate (length parents) None; out = 0; gone = []; reads = []; first = first; seen = []; mine = [] }
+opening_view parents first = record {
+  parts = 64;
+  tree = parents;
+  unsure = 0;
+  looked = 0;
+  stamped = 0;
+  path = [];
+  held = replicate (length parents)
+      None;
+  out = 0;
+  gone = [];
+  reads = [];
+  first = first;
+  seen = [];
+  mine = [];
+}
 
 module _ {P E : Type 0} where
   -- the view has a grant of b, with the parcels g by node
@@ -93,5 +108,6 @@ module _ {P E : Type 0} where
     pub ticket : slice_index words 0 ≡ total (total made) views
     pub bounded : total (total due) views ≤ (worn + most_rights) + total (total unsettled) views
     -- a node that is claimed is claimed once, and no share in it was found free
-    pub alone : (a : ℕ) → 0 < a → a < length parents → 0 < total (total (claims a)) views → (total (total (claims a)) views ≡ 1) × (total (total (entered a)) views ≡ 0)
+    pub alone : (a : ℕ) → 0 < a → a < length parents → 0 < total (total (claims a)) views → (total (total (claims a)) views ≡ 1)
+        × (total (total (entered a)) views ≡ 0)
     pub sound : Each (IsSound parents) views

@@ -1,5 +1,6 @@
 -- What the tests' calls rest on.
-use Rattle.std.proofs.Common.{◌≡◌, ◌≢◌, ℕ, zero, suc, ◌+◌, ◌%◌, ◌<◌, ◌≤◌, ◌==◌, Bool, true, false, cond, List, length, replicate, set, get_or, sym, refl, ap, ◌∙◌, subst, arith, eq-eqb, ne_eqb, Option, Some, None}
+use Rattle.std.proofs.Common.{◌≡◌, ◌≢◌, ℕ, zero, suc, ◌+◌, ◌%◌, ◌<◌, ◌≤◌, ◌==◌, Bool, true, false, cond, List, length, replicate, set}
+use Rattle.std.proofs.Common.{get_or, sym, refl, ap, ◌∙◌, subst, arith, eq-eqb, ne_eqb, Option, Some, None}
 use Rattle.std.proofs.Math.Arith.{lt_of_le-ne}
 use Rattle.std.proofs.lemmas.List.{get_or-set_same, get_or-set_other}
 use mathlib.Core.Logic.{dite}
@@ -32,7 +33,8 @@ module _ {T : Type 0} (kind : T → Kind) where
   neither-way x y true e = absurd cc
   neither-way x y false e = refl
 
-  alone-swap : (layout : Layout) (a : Affinity) (n : ℕ) (x y : T) → kind x ≡ kind y → HasExactly kind layout a (alone n x) → HasExactly kind layout a (alone n y)
+  alone-swap : (layout : Layout) (a : Affinity) (n : ℕ) (x y : T) → kind x ≡ kind y → HasExactly kind layout a (alone n x)
+      → HasExactly kind layout a (alone n y)
   unfolding alone
   alone-swap layout a n x y same exact = record {
     each = λ node under. (let t = exact.each node under in let q = either-way x y t.0 (number_of layout node == n) t.1 in (y, q.0, sym same ∙ (sym q.1 ∙ t.2)));
@@ -40,7 +42,8 @@ module _ {T : Type 0} (kind : T → Kind) where
   }
 
 -- a stripe's parcel was changed
-pub stripe-changed : {P R B S L V A X : Type 0} (layout : Layout) (a : Affinity) (held held' : StripeHeld P R B S L V A X) → HasExactly kind_in layout a (stripe_parcels layout a held) → HasExactly kind_in layout a (stripe_parcels layout a held')
+pub stripe-changed : {P R B S L V A X : Type 0} (layout : Layout) (a : Affinity) (held held' : StripeHeld P R B S L V A X)
+    → HasExactly kind_in layout a (stripe_parcels layout a held) → HasExactly kind_in layout a (stripe_parcels layout a held')
 unfolding stripe_parcels
 stripe-changed layout a held held' exact = alone-swap kind_in layout a (number_of layout a) (Stripe held.own) (Stripe held'.own) refl exact
 
@@ -53,7 +56,8 @@ unfolding alone
 alone-else n x k ne = ap (λ b. cond b (Some x) None) (ne_eqb k n ne)
 
 -- a call read a stripe's number
-pub stripe-read : {P : Type 0} (layout : Layout) (a : Affinity) (held held' : StripeHeld P ℕ ℕ ℕ ℕ ℕ ℕ ℕ) (tree : List ℕ) (found : ℕ) → held' ≡ held → found ≡ held.own
+pub stripe-read : {P : Type 0} (layout : Layout) (a : Affinity) (held held' : StripeHeld P ℕ ℕ ℕ ℕ ℕ ℕ ℕ) (tree : List ℕ) (found : ℕ) → held' ≡ held
+    → found ≡ held.own
     → Changes tree (number_of layout a) Read (stripe_parcels layout a held) found (stripe_parcels layout a held')
 unfolding stripe_parcels
 stripe-read layout a held held' tree found same is = (
@@ -62,7 +66,8 @@ stripe-read layout a held held' tree found same is = (
 )
 
 -- a call added to a stripe's number
-pub stripe-added : {P : Type 0} (layout : Layout) (a : Affinity) (held held' : StripeHeld P ℕ ℕ ℕ ℕ ℕ ℕ ℕ) (tree : List ℕ) (n sum : ℕ) → held'.own ≡ sum → (held.own + n) % 18446744073709551616 ≡ sum
+pub stripe-added : {P : Type 0} (layout : Layout) (a : Affinity) (held held' : StripeHeld P ℕ ℕ ℕ ℕ ℕ ℕ ℕ) (tree : List ℕ) (n sum : ℕ)
+    → held'.own ≡ sum → (held.own + n) % 18446744073709551616 ≡ sum
     → Changes tree (number_of layout a) (Add n) (stripe_parcels layout a held) sum (stripe_parcels layout a held')
 unfolding stripe_parcels
 stripe-added layout a held held' tree n sum is added = (
@@ -80,15 +85,22 @@ module _ {T : Type 0} (kind : T → Kind) (layout : Layout) where
   pub none-below : (xs : List (Option T)) → LaidBelow 1 xs
   none-below xs a m lt = let pos = number_positive layout a in absurd (omega arith)
 
-  pub laid-more : (xs : List (Option T)) (n : ℕ) (p : T) (b : Affinity) → IsNode layout b → number_of layout b ≡ n → kind p ≡ kind_of b → n < length xs → LaidBelow n xs → LaidBelow (n + 1) (set xs n (Some p))
+  pub laid-more : (xs : List (Option T)) (n : ℕ) (p : T) (b : Affinity) → IsNode layout b → number_of layout b ≡ n → kind p ≡ kind_of b
+      → n < length xs → LaidBelow n xs → LaidBelow (n + 1) (set xs n (Some p))
   laid-more xs n p b mb is same lt before a m below =
       dite (ℕ_discrete (number_of layout a) n)
       (λ e.
       let ab : b ≡ a = own_number layout b a mb m (is ∙ sym e) in
       (p, ap (λ (k : ℕ). get_or (set xs n (Some p)) k None) e ∙ get_or-set_same xs n (Some p) None lt, same ∙ ap kind_of ab))
-      (λ ne. let q = before a m (lt_of_le-ne (let l : number_of layout a ≤ n = omega arith in l) ne) in (q.0, get_or-set_other xs n (number_of layout a) (Some p) None ne ∙ q.1, q.2))
+      (λ ne. let q = before a m (lt_of_le-ne (let l : number_of layout a ≤ n = omega arith in l) ne) in (
+        q.0,
+        get_or-set_other xs n
+            (number_of layout a) (Some p) None ne ∙ q.1,
+        q.2,
+      ))
 
-  pub laid-all : (xs : List (Option T)) (n : ℕ) → node_count layout < n → LaidBelow n xs → (node : Affinity) → IsUnder layout Serial node → IsPlaced kind layout (λ k. get_or xs k None) node
+  pub laid-all : (xs : List (Option T)) (n : ℕ) → node_count layout < n → LaidBelow n xs → (node : Affinity) → IsUnder layout Serial node
+      → IsPlaced kind layout (λ k. get_or xs k None) node
   laid-all xs n many laid node under = let within = number_within layout node under.0 in laid node under.0 (omega arith)
 
 -- ---- parcels of one number
@@ -102,11 +114,14 @@ module _ {P : Type 0} (n : ℕ) where
   pub none-each : (count : ℕ) (xs : List (Option (Parcel P ℕ ℕ ℕ ℕ ℕ ℕ ℕ))) → xs ≡ replicate count None → AreEach n (λ k. get_or xs k None)
   none-each count xs is k p e = absurd (let none : get_or xs k None ≡ None = ap (λ (ys : List (Option _)). get_or ys k None) is ∙ nothing-at count k in cc)
 
-  pub more-each : (xs : List (Option (Parcel P ℕ ℕ ℕ ℕ ℕ ℕ ℕ))) (i : ℕ) (q : Parcel P ℕ ℕ ℕ ℕ ℕ ℕ ℕ) → number_in q ≡ n → i < length xs → AreEach n (λ k. get_or xs k None) → AreEach n (λ k. get_or (set xs i (Some q)) k None)
+  pub more-each : (xs : List (Option (Parcel P ℕ ℕ ℕ ℕ ℕ ℕ ℕ))) (i : ℕ) (q : Parcel P ℕ ℕ ℕ ℕ ℕ ℕ ℕ) → number_in q ≡ n → i < length xs
+      → AreEach n (λ k. get_or xs k None) → AreEach n (λ k. get_or (set xs i (Some q)) k None)
   more-each xs i q is lt before k p e = dite (ℕ_discrete k i)
-      (λ here. let there : Some q ≡ Some p = sym (ap (λ (j : ℕ). get_or (set xs i (Some q)) j None) here ∙ get_or-set_same xs i (Some q) None lt) ∙ e in let same : p ≡ q = cc in ap number_in same ∙ is)
+      (λ here. let there : Some q ≡ Some p = sym (ap (λ (j : ℕ). get_or (set xs i (Some q)) j None) here ∙ get_or-set_same xs i (Some q) None lt)
+      ∙ e in let same : p ≡ q = cc in ap number_in same ∙ is)
       (λ else. before k p (sym (get_or-set_other xs i k (Some q) None else) ∙ e))
 
   -- parcels that were taken are as they were
-  pub taken-each : (before taken after : ℕ → Option (Parcel P ℕ ℕ ℕ ℕ ℕ ℕ ℕ)) → ((k : ℕ) → Moved (before k) (taken k) (after k)) → AreEach n before → AreEach n taken
+  pub taken-each : (before taken after : ℕ → Option (Parcel P ℕ ℕ ℕ ℕ ℕ ℕ ℕ)) → ((k : ℕ) → Moved (before k) (taken k) (after k)) → AreEach n before
+      → AreEach n taken
   taken-each before taken after moved each k p e = each k p (subst (λ (t : Option (Parcel P ℕ ℕ ℕ ℕ ℕ ℕ ℕ)). Moved (before k) t (after k)) e (moved k)).0

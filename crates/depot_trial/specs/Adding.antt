@@ -20,7 +20,8 @@ module _ {P : Type 0} where
 
   -- the number of the call's node becomes the reply, the sum of what it was and what the call adds modulo 2^64; all others stay
   abbrev pub Adds : List ℕ → ℕ → ℕ → (ℕ → Option (Parcel P ℕ ℕ ℕ ℕ ℕ ℕ ℕ)) → ℕ → (ℕ → Option (Parcel P ℕ ℕ ℕ ℕ ℕ ℕ ℕ)) → Type 0
-  Adds parents a n f sum f' = ((p q : _) × (f a ≡ Some p) × (f' a ≡ Some q) × (kind_in q ≡ kind_in p) × (number_in q ≡ sum) × ((number_in p + n) % 18446744073709551616 ≡ sum))
+  Adds parents a n f sum f' = ((p q : _) × (f a ≡ Some p) × (f' a ≡ Some q) × (kind_in q ≡ kind_in p) × (number_in q ≡ sum)
+      × ((number_in p + n) % 18446744073709551616 ≡ sum))
       × ((k : ℕ) → k ≢ a → f' k ≡ f k)
 
 -- a call reads and writes the number of its own node alone
@@ -49,7 +50,14 @@ Changes parents a (Add n) f reply f' = Adds parents a n f reply f'
 
 -- a call reads and writes what its node covers alone
 pub changes-local : {P : Type 0} → IsLocal (Changes {P = P})
-changes-local parents a Touch f g reply f' s = (λ k out. s.1 k, λ same. (s.0, λ k. if-alike (covers parents a k) (f' k) (g k) (λ e. s.1 k ∙ sym (same k (covers-true parents a k e)))))
+changes-local parents a Touch f g reply f' s = (
+  λ k out. s.1 k,
+  λ same. (
+    s.0,
+    λ k. if-alike (covers parents a k) (f' k) (g k)
+        (λ e. s.1 k ∙ sym (same k (covers-true parents a k e))),
+  ),
+)
 changes-local parents a Read f g reply f' s = (
   λ k out. s.1 k,
   λ same. ((s.0.0, same a (inl refl) ∙ s.0.1, s.0.2), λ k. if-alike (covers parents a k) (f' k) (g k) (λ e. s.1 k ∙ sym (same k (covers-true parents a k e)))),

@@ -63,7 +63,8 @@ module _ {P : Type 0} where
 
 -- ---- a call reads and writes the tokens of its own node alone
 
-becomes-local : {P : Type 0} (Q : ℕ → ℕ → Type 0) → IsLocal {P = Parcel P ℕ ℕ ℕ ℕ ℕ ℕ ℕ} {C = Unit {0}} {R = Unit {0}} (λ parents a c f r f'. Becomes {P = P} Q parents a f f')
+becomes-local : {P : Type 0} (Q : ℕ → ℕ → Type 0) → IsLocal {P = Parcel P ℕ ℕ ℕ ℕ ℕ ℕ ℕ} {C = Unit {0}} {R = Unit {0}}
+    (λ parents a c f r f'. Becomes {P = P} Q parents a f f')
 becomes-local Q parents a c f g r f' s = (
   λ k no. s.2 k (λ e. no (inl (sym e))),
   λ same. (

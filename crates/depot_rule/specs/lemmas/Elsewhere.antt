@@ -16,7 +16,8 @@ module _ {P C R : Type 0} where
   after-append ps f [] more = refl
   after-append ps f (e ∷ es) more = after-append ps (put_in ps e f) es more
 
-  pub after-elsewhere : (ps : List ℕ) → IsTree ps → (f : ℕ → Option P) (more : List (Entry P C R)) (a k : ℕ) → AreElsewhere ps a more → Covers ps a k → after ps f more k ≡ f k
+  pub after-elsewhere : (ps : List ℕ) → IsTree ps → (f : ℕ → Option P) (more : List (Entry P C R)) (a k : ℕ) → AreElsewhere ps a more → Covers ps a k
+      → after ps f more k ≡ f k
   after-elsewhere ps tree f [] a k apart cover = refl
   after-elsewhere ps tree f (e ∷ es) a k apart cover =
       after-elsewhere ps tree (put_in ps e f) es a k (λ i d at. apart (suc i) d at) cover

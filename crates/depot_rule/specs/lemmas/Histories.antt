@@ -10,7 +10,8 @@ module _ {P C R : Type 0} where
   after-snoc ps f [] e = refl
   after-snoc ps f (d ∷ es) e = after-snoc ps (put_in ps d f) es e
 
-  pub legal-snoc : (steps : List ℕ → ℕ → C → (ℕ → Option P) → R → (ℕ → Option P) → Type 0) (ps : List ℕ) (f : ℕ → Option P) (es : List (Entry P C R)) (e : Entry P C R)
+  pub legal-snoc : (steps : List ℕ → ℕ → C → (ℕ → Option P) → R → (ℕ → Option P) → Type 0) (ps : List ℕ) (f : ℕ → Option P) (es : List (Entry P C R))
+      (e : Entry P C R)
       → Legal steps ps f es → steps ps e.node e.call (after ps f es) e.reply (put_in ps e (after ps f es)) → Legal steps ps f (es ++ e ∷ [])
   legal-snoc steps ps f [] e l s = (s, tt)
   legal-snoc steps ps f (d ∷ es) e l s = (l.0, legal-snoc steps ps (put_in ps d f) es e l.1 s)

@@ -1,5 +1,6 @@
 -- Sums over views and over places.
-use Rattle.std.proofs.Common.{◌≡◌, ◌≢◌, ℕ, zero, suc, ◌+◌, ◌*◌, ◌<◌, ◌≤◌, eqb, Bool, true, false, List, [], ◌∷◌, ◌++◌, map, replicate, length, set, sym, refl, ap, ◌∙◌, arith, Option, Some, None, ne_eqb}
+use Rattle.std.proofs.Common.{◌≡◌, ◌≢◌, ℕ, zero, suc, ◌+◌, ◌*◌, ◌<◌, ◌≤◌, eqb, Bool, true, false, List, [], ◌∷◌, ◌++◌, map, replicate}
+use Rattle.std.proofs.Common.{length, set, sym, refl, ap, ◌∙◌, arith, Option, Some, None, ne_eqb}
 use mathlib.Core.Option.{some, some-injective, some-ne-none}
 use mathlib.Core.Logic.{dite}
 use native.Mathlib.Decide.{ℕ_discrete}
@@ -48,7 +49,8 @@ module _ {A : Type 0} where
   total-zero f (x ∷ xs) h = let a = h 0 x refl in let r = total-zero f xs (λ j y e. h (suc j) y e) in omega arith
 
   -- where g is all in one element, and f is 0 of each in which g is 0, f is all in that element too
-  pub total-alone : (f g : A → ℕ) (l : List A) (i : ℕ) (x : A) → get_elem? l i ≡ some x → total g l ≡ g x → ((j : ℕ) (y : A) → get_elem? l j ≡ some y → g y ≡ 0 → f y ≡ 0) → total f l ≡ f x
+  pub total-alone : (f g : A → ℕ) (l : List A) (i : ℕ) (x : A) → get_elem? l i ≡ some x → total g l ≡ g x → ((j : ℕ) (y : A) → get_elem? l j ≡ some y
+      → g y ≡ 0 → f y ≡ 0) → total f l ≡ f x
   total-alone f g [] i x e all h = absurd (some-ne-none x (sym e))
   total-alone f g (z ∷ zs) zero x e all h =
       let is : f z ≡ f x = ap f (some-injective z x e) in
@@ -71,7 +73,8 @@ module _ {A : Type 0} where
   total-one f [] most two = omega arith
   total-one f (x ∷ xs) most two = let m = most 0 x refl in dite (ℕ_discrete (f x) 0)
       (λ z. let r = total-one f xs (λ i y e. most (suc i) y e) (λ i j y w e d p q. let t = two (suc i) (suc j) y w e d p q in omega arith) in omega arith)
-      (λ nz. let r = total-zero f xs (λ j y e. dite (ℕ_discrete (f y) 0) (λ z. z) (λ ny. absurd (let t = two 0 (suc j) x y refl e (omega arith) (omega arith) in omega arith))) in omega arith)
+      (λ nz. let r = total-zero f xs (λ j y e. dite (ℕ_discrete (f y) 0) (λ z. z)
+      (λ ny. absurd (let t = two 0 (suc j) x y refl e (omega arith) (omega arith) in omega arith))) in omega arith)
 
   pub total-append : (f : A → ℕ) (xs ys : List A) → total f (xs ++ ys) ≡ total f xs + total f ys
   total-append f [] ys = omega arith
@@ -113,7 +116,8 @@ tally-without k m (x ∷ xs) h = by_test (eqb x k) refl (tally-without k m xs)
 
 module _ {A : Type 0} where
   -- a place that is filled counts from then on
-  pub over-fill : (f : ℕ → ℕ) (k : ℕ) (l : List (Option A)) (i : ℕ) (x : A) → get_elem? l i ≡ some None → over_taken f k (set l i (Some x)) ≡ over_taken f k l + f (k + i)
+  pub over-fill : (f : ℕ → ℕ) (k : ℕ) (l : List (Option A)) (i : ℕ) (x : A) → get_elem? l i ≡ some None
+      → over_taken f k (set l i (Some x)) ≡ over_taken f k l + f (k + i)
   over-fill f k [] i x e = absurd (some-ne-none None (sym e))
   over-fill f k (None ∷ ys) zero x e = let z : f (k + 0) ≡ f k = ap f (omega arith) in omega arith
   over-fill f k (Some y ∷ ys) zero x e = absurd (cc)
@@ -121,7 +125,8 @@ module _ {A : Type 0} where
   over-fill f k (Some y ∷ ys) (suc i) x e = let r = over-fill f (suc k) ys i x e in let z : f (suc k + i) ≡ f (k + suc i) = ap f (omega arith) in omega arith
 
   -- and one that is emptied no more
-  pub over-clear : (f : ℕ → ℕ) (k : ℕ) (l : List (Option A)) (i : ℕ) (x : A) → get_elem? l i ≡ some (Some x) → over_taken f k (set l i None) + f (k + i) ≡ over_taken f k l
+  pub over-clear : (f : ℕ → ℕ) (k : ℕ) (l : List (Option A)) (i : ℕ) (x : A) → get_elem? l i ≡ some (Some x) → over_taken f k (set l i None) + f
+      (k + i) ≡ over_taken f k l
   over-clear f k [] i x e = absurd (some-ne-none (Some x) (sym e))
   over-clear f k (Some y ∷ ys) zero x e = let z : f (k + 0) ≡ f k = ap f (omega arith) in omega arith
   over-clear f k (None ∷ ys) zero x e = absurd (cc)
@@ -129,7 +134,8 @@ module _ {A : Type 0} where
   over-clear f k (Some y ∷ ys) (suc i) x e = let r = over-clear f (suc k) ys i x e in let z : f (suc k + i) ≡ f (k + suc i) = ap f (omega arith) in omega arith
 
   -- what stands at a taken place doesn't count, only that it is taken
-  pub over-other : (f : ℕ → ℕ) (k : ℕ) (l : List (Option A)) (i : ℕ) (x y : A) → get_elem? l i ≡ some (Some x) → over_taken f k (set l i (Some y)) ≡ over_taken f k l
+  pub over-other : (f : ℕ → ℕ) (k : ℕ) (l : List (Option A)) (i : ℕ) (x y : A) → get_elem? l i ≡ some (Some x)
+      → over_taken f k (set l i (Some y)) ≡ over_taken f k l
   over-other f k [] i x y e = absurd (some-ne-none (Some x) (sym e))
   over-other f k (Some z ∷ zs) zero x y e = refl
   over-other f k (None ∷ zs) zero x y e = absurd (cc)
@@ -165,9 +171,19 @@ module _ {A : Type 0} where
   -- what counts stands at some place
   some-from : (f : ℕ → ℕ) (k : ℕ) (l : List (Option A)) → 0 < over_taken f k l → (i : ℕ) × (x : A) × (get_elem? l i ≡ some (Some x)) × (0 < f (k + i))
   some-from f k [] h = absurd (omega arith)
-  some-from f k (None ∷ ys) h = let r = some-from f (suc k) ys h in (suc r.0, r.1, r.2, (let z : f (suc k + r.0) ≡ f (k + suc r.0) = ap f (omega arith) in let p = r.3 in omega arith))
+  some-from f k (None ∷ ys) h = let r = some-from f (suc k) ys h in (
+    suc r.0,
+    r.1,
+    r.2,
+    (let z : f (suc k + r.0) ≡ f (k + suc r.0) = ap f (omega arith) in let p = r.3 in omega arith),
+  )
   some-from f k (Some y ∷ ys) h = dite (ℕ_discrete (f k) 0)
-      (λ z. let r = some-from f (suc k) ys (omega arith) in (suc r.0, r.1, r.2, (let e : f (suc k + r.0) ≡ f (k + suc r.0) = ap f (omega arith) in let p = r.3 in omega arith)))
+      (λ z. let r = some-from f (suc k) ys (omega arith) in (
+        suc r.0,
+        r.1,
+        r.2,
+        (let e : f (suc k + r.0) ≡ f (k + suc r.0) = ap f (omega arith) in let p = r.3 in omega arith),
+      ))
       (λ nz. (0, y, refl, (let e : f (k + 0) ≡ f k = ap f (omega arith) in omega arith)))
 
   pub over-some : (f : ℕ → ℕ) (l : List (Option A)) → 0 < over_taken f 0 l → (i : ℕ) × (x : A) × (get_elem? l i ≡ some (Some x)) × (0 < f i)

@@ -13,7 +13,8 @@ from-lower f (suc p) a l r = let z = one-other (suc p) a (λ e. omega arith) in 
 -- what is above b has a smaller number
 lower-above : (ps : List ℕ) → IsTree ps → (m b a : ℕ) → 0 < b → b ≤ a → tally a (upwards ps m b) ≡ 0
 lower-above ps t zero b a pos h = refl
-lower-above ps t (suc m) b a pos h = let l = t b pos in from-lower (upwards ps m) (slice_index ps b) a (omega arith) (λ q qpos le. lower-above ps t m q a qpos le)
+lower-above ps t (suc m) b a pos h = let l = t b pos in from-lower (upwards ps m) (slice_index ps b) a (omega arith)
+    (λ q qpos le. lower-above ps t m q a qpos le)
 
 -- no node is above itself
 pub not-above : (ps : List ℕ) → IsTree ps → (b : ℕ) → tally b (ancestors ps b) ≡ 0
@@ -28,7 +29,8 @@ from-once f (suc p) a r z = dite (ℕ_discrete (suc p) a)
 
 once-above : (ps : List ℕ) → IsTree ps → (m b a : ℕ) → 0 < b → tally a (upwards ps m b) ≤ 1
 once-above ps t zero b a pos = omega arith
-once-above ps t (suc m) b a pos = from-once (upwards ps m) (slice_index ps b) a (λ q qpos. once-above ps t m q a qpos) (λ q qpos le. lower-above ps t m q a qpos le)
+once-above ps t (suc m) b a pos = from-once (upwards ps m) (slice_index ps b) a (λ q qpos. once-above ps t m q a qpos)
+    (λ q qpos le. lower-above ps t m q a qpos le)
 
 -- each node above stands there once
 pub ancestors-once : (ps : List ℕ) → IsTree ps → (a b : ℕ) → tally a (ancestors ps b) ≤ 1
@@ -55,7 +57,8 @@ line-above ps t (suc m) k b c pos le hb hc = let l = t k pos in let p : ℕ = sl
 -- two nodes that cover one node exclude each other
 pub cover-excludes : (ps : List ℕ) → IsTree ps → (b c k : ℕ) → Covers ps b k → Covers ps c k → Excludes ps b c
 cover-excludes ps t b c k = ⊎_elim
-    (λ (e : b ≡ k). ⊎_elim (λ (e' : c ≡ k). inl (e ∙ sym e')) (λ (u : 0 < tally c (ancestors ps k)). inr (inr (subst (λ (z : ℕ). 0 < tally c (ancestors ps z)) (sym e) u))))
+    (λ (e : b ≡ k). ⊎_elim (λ (e' : c ≡ k). inl (e ∙ sym e')) (λ (u : 0 < tally c (ancestors ps k)). inr
+    (inr (subst (λ (z : ℕ). 0 < tally c (ancestors ps z)) (sym e) u))))
     (λ (u : 0 < tally b (ancestors ps k)). ⊎_elim
     (λ (e : c ≡ k). inr (inl (subst (λ (z : ℕ). 0 < tally b (ancestors ps z)) (sym e) u)))
     (λ (w : 0 < tally c (ancestors ps k)). both k u w))
@@ -76,15 +79,22 @@ zero-above ps (suc m) b = from-zero (upwards ps m) (slice_index ps b) (λ q. zer
 pub above-smaller : (ps : List ℕ) → IsTree ps → (a b : ℕ) → 0 < tally a (ancestors ps b) → (0 < a) × (a < b)
 above-smaller ps t a zero h = absurd (omega arith)
 above-smaller ps t zero (suc b) h = let z = zero-above ps (suc b) (suc b) in absurd (omega arith)
-above-smaller ps t (suc a) (suc b) h = elim (dec_lt (suc a) (suc b)) [ yes l ↦ (omega arith, l) | no n ↦ let z = lower-above ps t (suc b) (suc b) (suc a) (omega arith) (omega arith) in absurd (omega arith) ]
+above-smaller ps t (suc a) (suc b) h = elim (dec_lt (suc a) (suc b)) [
+  | yes l ↦ (omega arith, l)
+  | no n ↦ let z = lower-above ps t (suc b) (suc b)
+      (suc a) (omega arith) (omega arith) in absurd (omega arith)
+]
 
-from-above : (ps : List ℕ) (f : ℕ → List ℕ) (p b c : ℕ) → (0 < p → f p ≡ ancestors ps p) → (0 < p → 0 < tally b (f p) → 0 < tally c (ancestors ps b) → 0 < tally c (f p)) → 0 < tally b (from_parent f p) → 0 < tally c (ancestors ps b) → 0 < tally c (from_parent f p)
+from-above : (ps : List ℕ) (f : ℕ → List ℕ) (p b c : ℕ) → (0 < p → f p ≡ ancestors ps p) → (0 < p → 0 < tally b (f p) → 0 < tally c (ancestors ps b)
+    → 0 < tally c (f p)) → 0 < tally b (from_parent f p) → 0 < tally c (ancestors ps b) → 0 < tally c (from_parent f p)
 from-above ps f zero b c same further hb hc = absurd (omega arith)
 from-above ps f (suc p) b c same further hb hc = dite (ℕ_discrete (suc p) b)
-    (λ e. let u : 0 < tally c (f (suc p)) = subst (λ (z : List ℕ). 0 < tally c z) (sym (same (omega arith))) (subst (λ (z : ℕ). 0 < tally c (ancestors ps z)) (sym e) hc) in omega arith)
+    (λ e. let u : 0 < tally c (f (suc p)) = subst (λ (z : List ℕ). 0 < tally c z) (sym (same (omega arith)))
+    (subst (λ (z : ℕ). 0 < tally c (ancestors ps z)) (sym e) hc) in omega arith)
     (λ ne. let o = one-other (suc p) b ne in let u = further (omega arith) (omega arith) hc in omega arith)
 
-above-above : (ps : List ℕ) → IsTree ps → (m k b c : ℕ) → 0 < k → k ≤ m → 0 < tally b (upwards ps m k) → 0 < tally c (ancestors ps b) → 0 < tally c (upwards ps m k)
+above-above : (ps : List ℕ) → IsTree ps → (m k b c : ℕ) → 0 < k → k ≤ m → 0 < tally b (upwards ps m k) → 0 < tally c (ancestors ps b)
+    → 0 < tally c (upwards ps m k)
 above-above ps t zero k b c pos le hb hc = absurd (omega arith)
 above-above ps t (suc m) k b c pos le hb hc = let l = t k pos in let p : ℕ = slice_index ps k in
     from-above ps (upwards ps m) p b c (λ some_parent. enough ps t m p p some_parent (omega arith) (omega arith))
@@ -101,7 +111,8 @@ covers-below ps b k pos lt c = elim (dec_lt k (length ps)) [
   | yes l ↦ l
   | no n ↦ absurd (⊎_elim
       (λ (e : b ≡ k). n (let l : k < length ps = omega arith in l))
-      (λ (u : 0 < tally b (ancestors ps k)). let none : tally b (ancestors ps k) ≡ 0 = ap (tally b) (ancestors-root ps k (beyond ps k (omega arith))) in let no : ⊥ = absurd (omega arith) in no)
+      (λ (u : 0 < tally b (ancestors ps k)). let none : tally b (ancestors ps k) ≡ 0 = ap (tally b) (ancestors-root ps k (beyond ps k (omega arith)))
+      in let no : ⊥ = absurd (omega arith) in no)
       c)
 ]
 

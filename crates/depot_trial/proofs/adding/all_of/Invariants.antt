@@ -8,4 +8,5 @@ use Rattle.depot_trial.proofs.adding.all_of.Given as goal
 
 -- the nodes so far have their parcels, each of which is the number
 abbrev pub invariant-loop-number : goal.invariant-loop-number
-invariant-loop-number l = (length l.shelf.parcels.items ≡ 1 + node_count (layout_of l.layout)) × LaidBelow kind_in (layout_of l.layout) l.number l.shelf.parcels.items × AreEach l.each (λ k. get_or l.shelf.parcels.items k None)
+invariant-loop-number l = (length l.shelf.parcels.items ≡ 1 + node_count (layout_of l.layout)) × LaidBelow kind_in (layout_of l.layout) l.number
+    l.shelf.parcels.items × AreEach l.each (λ k. get_or l.shelf.parcels.items k None)

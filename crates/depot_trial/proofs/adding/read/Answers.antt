@@ -19,4 +19,5 @@ finish-requires-clause-hand c =
     begun-hand _ (view c.args.seat.now) (view c.begin.new.seat) _ _ Read 0 refl refl c.in-Ok.ensures.granted c.in-Ok.ensures.after
 
 pub finish-requires-clause-exact : goal.finish-requires-clause-exact
-finish-requires-clause-exact c = stripe-changed (layout_in c.args.depot.now) (affinity_of (node_of c.in-Ok.grant)) (held_in c.in-Ok.grant) _ c.in-Ok.ensures.exact
+finish-requires-clause-exact c = stripe-changed (layout_in c.args.depot.now) (affinity_of (node_of c.in-Ok.grant)) (held_in c.in-Ok.grant) _
+    c.in-Ok.ensures.exact

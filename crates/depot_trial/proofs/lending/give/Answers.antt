@@ -13,7 +13,8 @@ pub overflow_add-held : goal.overflow_add-held
 overflow_add-held c =
     let L = layout_in c.args.depot.now in let grant = c.in-Ok.grant in
     let node : IsNode L (affinity_of (node_of grant)) = search rules in
-    let fits = hand-fits L (affinity_of (node_of grant)) (view c.args.seat.now) (held_in grant) c.args.count c.requires.hand.0 c.requires.seat.1.0 node c.requires.hand.1 c.in-Ok.ensures.after in
+    let fits = hand-fits L (affinity_of (node_of grant)) (view c.args.seat.now) (held_in grant) c.args.count c.requires.hand.0 c.requires.seat.1.0
+    node c.requires.hand.1 c.in-Ok.ensures.after in
     let same : c.held-held.result.now.own ≡ (held_in grant).own = ap (λ h. h.own) c.held-held.ensures.value in omega arith
 
 pub finish-requires-clause-step : goal.finish-requires-clause-step
@@ -35,7 +36,8 @@ finish-requires-clause-hand c =
     (mine, c.requires.hand.0, own, λ weigh. omega arith)
 
 pub finish-requires-clause-exact : goal.finish-requires-clause-exact
-finish-requires-clause-exact c = stripe-changed (layout_in c.args.depot.now) (affinity_of (node_of c.in-Ok.grant)) (held_in c.in-Ok.grant) _ c.in-Ok.ensures.exact
+finish-requires-clause-exact c = stripe-changed (layout_in c.args.depot.now) (affinity_of (node_of c.in-Ok.grant)) (held_in c.in-Ok.grant) _
+    c.in-Ok.ensures.exact
 
 pub returns-in-Ok-clause-given : goal.returns-in-Ok-clause-given
 returns-in-Ok-clause-given c = λ yes_given rest own.

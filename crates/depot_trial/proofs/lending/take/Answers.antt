@@ -37,7 +37,8 @@ finish-requires-clause-hand c =
     (mine, c.args.count ∷ mine, own, λ weigh. omega arith)
 
 pub finish-requires-clause-exact : goal.finish-requires-clause-exact
-finish-requires-clause-exact c = stripe-changed (layout_in c.args.depot.now) (affinity_of (node_of c.in-Ok.grant)) (held_in c.in-Ok.grant) _ c.in-Ok.ensures.exact
+finish-requires-clause-exact c = stripe-changed (layout_in c.args.depot.now) (affinity_of (node_of c.in-Ok.grant)) (held_in c.in-Ok.grant) _
+    c.in-Ok.ensures.exact
 
 pub returns-else-held-count-clause-taken : goal.returns-else-held-count-clause-taken
 returns-else-held-count-clause-taken c = λ yes_taken hand own.

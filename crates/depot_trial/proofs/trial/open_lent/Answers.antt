@@ -9,7 +9,8 @@ use Rattle.depot_trial.proofs.trial.open_lent.Goals as goal
 
 pub new-requires-clause-invariant : goal.new-requires-clause-invariant
 new-requires-clause-invariant c =
-    each-few (layout_of c.in_ok-layout.layout) 7 (serial_parcels (layout_of c.in_ok-layout.layout) Serial c.in_ok-parcels.parcels) (few_nodes (layout_of c.in_ok-layout.layout) c.in_ok-layout.layout.lawful) (omega arith) c.in_ok-parcels.ensures.numbers
+    each-few (layout_of c.in_ok-layout.layout) 7 (serial_parcels (layout_of c.in_ok-layout.layout) Serial c.in_ok-parcels.parcels)
+    (few_nodes (layout_of c.in_ok-layout.layout) c.in_ok-layout.layout.lawful) (omega arith) c.in_ok-parcels.ensures.numbers
 
 pub returns-in-Ok-clause-hand : goal.returns-in-Ok-clause-hand
 returns-in-Ok-clause-hand c = hand-opened _ _ (view c.in-Ok.made.1) c.in-Ok.ensures.made.1

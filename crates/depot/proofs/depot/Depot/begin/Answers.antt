@@ -3,7 +3,6 @@ use Rattle.affinity_tree.specs.Affinity.{affinity_of}
 use Rattle.affinity_tree.specs.Ancestors.{IsTree}
 use Rattle.affinity_tree.specs.Numbers as numbers
 use Rattle.affinity_tree.specs.lemmas.Standing.{parents-tree, number-place}
-use Rattle.depot_rule.specs.declared.view.View.{View}
 use Rattle.depot_rule.specs.declared.view.Read.{Read}
 use Rattle.depot_rule.specs.declared.view.Entry.{Entry}
 use Rattle.depot_rule.specs.History.{listed}

@@ -1,10 +1,8 @@
-use Rattle.std.proofs.Common.{rules, ◌≡◌, ◌<◌, ◌+◌, ◌∷◌, ℕ, List, [], length, refl, sym, ap, ◌∙◌, subst, arith}
+use Rattle.std.proofs.Common.{rules, ◌≡◌, ◌<◌, ◌∷◌, ℕ, List, [], length, refl, sym, ap, ◌∙◌, subst, arith}
 use Rattle.affinity_tree.specs.Affinity.{affinity_of}
-use Rattle.affinity_tree.specs.Ancestors.{tally, IsTree, Covers}
+use Rattle.affinity_tree.specs.Ancestors.{IsTree, Covers}
 use Rattle.affinity_tree.specs.Numbers as numbers
 use Rattle.affinity_tree.specs.lemmas.Standing.{parents-tree}
-use Rattle.depot_rule.specs.declared.view.View.{View}
-use Rattle.depot_rule.specs.declared.view.Entry.{Entry}
 use Rattle.depot_rule.specs.Parcels.{has_out}
 use Rattle.depot_rule.specs.Seats.{view_of}
 use Rattle.depot.specs.Calls.{known}
