@@ -1,7 +1,7 @@
 //! Messages that a worker begins, works and finishes.
 
 ghost use Rattle.std.specs.Prelude.{◌≡◌, option_map};
-ghost use Rattle.nfs_model.specs.Events.Refusals as events;
+ghost use Rattle.nfs_model.specs.Events.Refusals as event;
 ghost use Rattle.nfs_model.specs.Events.Step.{Events};
 ghost use Rattle.nfs_values.specs.Moment.{moment_of};
 ghost use Rattle.engine.specs.Seen.{setup_in, world, answer_of};
@@ -24,7 +24,7 @@ pub(crate) fn begin(
     moment: Moment,
 ) -> Result<Done, Refusal>
     requires { IsSound state.old }
-    ensures events { Does state.old (events.Begin worker place (moment_of moment)) result state.new }
+    ensures events { Does state.old (event.Begin worker place (moment_of moment)) result state.new }
     ensures setup { HasItsSetup state.old state.new }
     ensures sound { IsSound state.new }
 {
@@ -57,7 +57,7 @@ pub(crate) fn begin(
 /// Works the message that the worker has begun.
 pub(crate) fn work(state: &mut State, worker: usize) -> Result<Done, Refusal>
     requires { IsSound state.old }
-    ensures events { Does state.old (events.Work worker) result state.new }
+    ensures events { Does state.old (event.Work worker) result state.new }
     ensures setup { HasItsSetup state.old state.new }
     ensures sound { IsSound state.new }
 {
@@ -77,7 +77,7 @@ pub(crate) fn work(state: &mut State, worker: usize) -> Result<Done, Refusal>
 /// Finishes the message that the worker has worked: its parcel goes home.
 pub(crate) fn finish(state: &mut State, worker: usize) -> Result<Done, Refusal>
     requires { IsSound state.old }
-    ensures events { Does state.old (events.Finish worker) result state.new }
+    ensures events { Does state.old (event.Finish worker) result state.new }
     ensures setup { HasItsSetup state.old state.new }
     ensures sound { IsSound state.new }
 {

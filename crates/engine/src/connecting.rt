@@ -1,7 +1,7 @@
 //! Connections that are opened and closed.
 
 ghost use Rattle.std.specs.Prelude.{◌≡◌};
-ghost use Rattle.nfs_model.specs.Events.Refusals as events;
+ghost use Rattle.nfs_model.specs.Events.Refusals as event;
 ghost use Rattle.nfs_model.specs.Events.Step.{Events};
 ghost use Rattle.engine.specs.Seen.{setup_in, world, answer_of};
 ghost use Rattle.engine.specs.Sound.{IsSound};
@@ -15,7 +15,7 @@ use rpc_record::Reassembler;
 /// Opens a connection, where none is open.
 pub(crate) fn open_connection(state: &mut State) -> Result<Done, Refusal>
     requires { IsSound state.old }
-    ensures events { Does state.old events.Open result state.new }
+    ensures events { Does state.old event.Open result state.new }
     ensures setup { HasItsSetup state.old state.new }
     ensures sound { IsSound state.new }
 {

@@ -93,13 +93,8 @@ fn admit(state: &mut State, number: usize, heard: Heard)
     match heard.request {
         Request::Refused(reply) => {
             respond(state, origin, reply.as_reply());
-            keep_entry(
-                state,
-                origin,
-                Some(Request::Refused(reply)),
-                None,
-                Moment::START,
-            );
+            let request = Some(Request::Refused(reply));
+            keep_entry(state, origin, request, None, Moment::START);
         }
         Request::Call { call, credential } => match home_of(call.as_call(), &state.layout) {
             Some(affinity) => {
@@ -116,13 +111,8 @@ fn admit(state: &mut State, number: usize, heard: Heard)
             None => {
                 without_home_stays();
                 respond(state, origin, &Reply::Success(answer_at_once(&call)));
-                keep_entry(
-                    state,
-                    origin,
-                    Some(Request::Call { call, credential }),
-                    None,
-                    Moment::START,
-                );
+                let request = Some(Request::Call { call, credential });
+                keep_entry(state, origin, request, None, Moment::START);
             }
         },
     }
