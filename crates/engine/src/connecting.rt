@@ -42,7 +42,7 @@ pub(crate) fn open_connection(state: &mut State) -> Result<Done, Refusal>
 /// Closes the open connection.
 pub(crate) fn close_connection(state: &mut State, connection: usize) -> Result<Done, Refusal>
     requires { IsSound state.old }
-    ensures events { Does state.old (events.Close connection) result state.new }
+    ensures events { Does state.old (event.Close connection) result state.new }
     ensures setup { HasItsSetup state.old state.new }
     ensures sound { IsSound state.new }
 {

@@ -3,7 +3,7 @@
 ghost use Rattle.std.specs.Prelude.{true, false, ◌≡◌, ◌+◌, ◌<◌, ◌≤◌, length, take, None};
 ghost use Rattle.std.specs.Prelude.{IfSome, OnOk, vec_len, vec_capacity};
 ghost use Rattle.nfs_model.specs.Types as types;
-ghost use Rattle.nfs_model.specs.Events.Refusals as events;
+ghost use Rattle.nfs_model.specs.Events.Refusals as event;
 ghost use Rattle.nfs_model.specs.Events.Step.{Events};
 ghost use Rattle.nfs_model.specs.Events.Feed.{heard_in};
 ghost use Rattle.nfs_laws.specs.Walk.{Walks};
@@ -350,7 +350,7 @@ fn takes_input(current: &Option<OpenConnection>) -> bool
 /// Takes bytes on a connection that is open and at no fault.
 pub(crate) fn feed(state: &mut State, connection: usize, bytes: &[u8]) -> Result<Done, Refusal>
     requires { IsSound state.old }
-    ensures events { Does state.old (events.Feed connection bytes.now) result state.new }
+    ensures events { Does state.old (event.Feed connection bytes.now) result state.new }
     ensures setup { HasItsSetup state.old state.new }
     ensures sound { IsSound state.new }
 {
