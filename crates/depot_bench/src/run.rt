@@ -1,66 +1,14 @@
 //! How many calls are granted and finished in a second.
 
-ghost use Rattle.std.specs.Prelude.{◌≤◌};
-
 use crate::lock;
 use affinity_tree::Affinity;
-use depot_trial::measure::Bench;
+use depot_trial::measure::{Bench, Crew, NAMES, STRIPES};
 use std::alloc::AllocError;
 use std::io;
 use std::rt::Clock;
 use std::sync::{Mutex, Wait};
 use std::thread::Threads;
 use std::time::{Duration, Instant};
-
-/// How many threads make calls.
-#[derive(Clone, Copy)]
-enum Crew {
-    One,
-    Two,
-    Four,
-}
-
-impl Crew {
-    const ALL: [Crew; 3] = [Crew::One, Crew::Two, Crew::Four];
-
-    fn size(self) -> u64
-        ensures { result ≤ 4 }
-    {
-        match self {
-            Crew::One => 1,
-            Crew::Two => 2,
-            Crew::Four => 4,
-        }
-    }
-}
-
-/// A stripe of volume 0 for each thread.
-const STRIPES: [Affinity; 4] = [
-    Affinity::Stripe {
-        volume: 0,
-        stripe: 0,
-    },
-    Affinity::Stripe {
-        volume: 0,
-        stripe: 1,
-    },
-    Affinity::Stripe {
-        volume: 0,
-        stripe: 2,
-    },
-    Affinity::Stripe {
-        volume: 0,
-        stripe: 3,
-    },
-];
-
-/// The names of a volume for each thread.
-const NAMES: [Affinity; 4] = [
-    Affinity::VolumeLogical(0),
-    Affinity::VolumeLogical(1),
-    Affinity::VolumeLogical(2),
-    Affinity::VolumeLogical(3),
-];
 
 /// How many of these were done in a second.
 fn per_second(calls: u64, time: Duration) -> u64 {
@@ -79,11 +27,7 @@ fn depot_rate<R: Clock + AllocGlobal + Threads + Sync>(
 ) -> io::Result<(u64, u64)> {
     let bench = Bench::open(rt.alloc()).ok_or(AllocError)?;
     let start = Instant::now(rt)?;
-    let granted = match crew {
-        Crew::One => bench.one_thread(nodes, count),
-        Crew::Two => bench.two_threads(rt, nodes, count),
-        Crew::Four => bench.four_threads(rt, nodes, count),
-    };
+    let granted = bench.calls(rt, crew, nodes, count);
     let time = start.elapsed(rt)?;
     Ok((granted, per_second(granted, time)))
 }
@@ -114,9 +58,9 @@ fn measure<R: Clock + Print + AllocGlobal + Threads + Wait + Sync>(
         let added = lock_rate(rt, crew, count)?;
         let ratio = u128::from(finished) * 1000 / u128::from(added.max(1));
         let (whole, thousandths) = (ratio / 1000, ratio % 1000);
-        println!(rt;
-            "{name}, threads {threads}: {granted} granted, {finished} begun and finished a second, {added} under a lock, ratio {whole}.{thousandths:03}"
-        )?;
+        print!(rt; "{name}, threads {threads}: {granted} granted, ")?;
+        print!(rt; "{finished} begun and finished a second, ")?;
+        println!(rt; "{added} under a lock, ratio {whole}.{thousandths:03}")?;
     }
     Ok(())
 }

@@ -14,6 +14,57 @@ use std::alloc::Global;
 use std::thread;
 use std::thread::Threads;
 
+/// How many threads make calls.
+#[derive(Clone, Copy)]
+pub enum Crew {
+    One,
+    Two,
+    Four,
+}
+
+impl Crew {
+    pub const ALL: [Crew; 3] = [Crew::One, Crew::Two, Crew::Four];
+
+    /// Their number.
+    pub fn size(self) -> u64
+        ensures { result ≤ 4 }
+    {
+        match self {
+            Crew::One => 1,
+            Crew::Two => 2,
+            Crew::Four => 4,
+        }
+    }
+}
+
+/// A stripe of volume 0 for each thread.
+pub const STRIPES: [Affinity; 4] = [
+    Affinity::Stripe {
+        volume: 0,
+        stripe: 0,
+    },
+    Affinity::Stripe {
+        volume: 0,
+        stripe: 1,
+    },
+    Affinity::Stripe {
+        volume: 0,
+        stripe: 2,
+    },
+    Affinity::Stripe {
+        volume: 0,
+        stripe: 3,
+    },
+];
+
+/// The names of a volume for each thread.
+pub const NAMES: [Affinity; 4] = [
+    Affinity::VolumeLogical(0),
+    Affinity::VolumeLogical(1),
+    Affinity::VolumeLogical(2),
+    Affinity::VolumeLogical(3),
+];
+
 /// Begins a call on a node and, if it is granted, finishes it: nothing changes. Whether it was
 /// granted.
 fn begin_and_finish_once<N: Node<Parcel<Numbers>>>(
@@ -127,15 +178,30 @@ impl Bench {
         })
     }
 
+    /// So many calls by each thread of a crew, each on its node. How many were granted.
+    pub fn calls<R: Threads + Sync>(
+        self,
+        rt: &R,
+        crew: Crew,
+        nodes: [Affinity; 4],
+        count: u32,
+    ) -> u64 {
+        match crew {
+            Crew::One => self.one_thread(nodes, count),
+            Crew::Two => self.two_threads(rt, nodes, count),
+            Crew::Four => self.four_threads(rt, nodes, count),
+        }
+    }
+
     /// So many calls by one thread. How many were granted.
-    pub fn one_thread(self, nodes: [Affinity; 4], count: u32) -> u64 {
+    fn one_thread(self, nodes: [Affinity; 4], count: u32) -> u64 {
         let Bench { depot, first, .. } = self;
         let [node, _, _, _] = nodes;
         u64::from(calls(&depot, first, node, count))
     }
 
     /// So many calls by each of two threads.
-    pub fn two_threads<R: Threads + Sync>(self, rt: &R, nodes: [Affinity; 4], count: u32) -> u64 {
+    fn two_threads<R: Threads + Sync>(self, rt: &R, nodes: [Affinity; 4], count: u32) -> u64 {
         let Bench {
             depot,
             first,
@@ -147,7 +213,7 @@ impl Bench {
     }
 
     /// So many calls by each of four threads.
-    pub fn four_threads<R: Threads + Sync>(self, rt: &R, nodes: [Affinity; 4], count: u32) -> u64 {
+    fn four_threads<R: Threads + Sync>(self, rt: &R, nodes: [Affinity; 4], count: u32) -> u64 {
         let Bench {
             depot,
             first,

@@ -3,6 +3,7 @@
 
 use crate::adding::{add, open, read, split};
 use crate::lending::{give, take};
+use crate::measure::{Bench, Crew, STRIPES};
 use crate::trial::{Found, claim, close_joined, holds_beside, look, open_lent, splits};
 use affinity_tree::Affinity;
 use parcel_sets::{LogicalNode, RangeNode, SerialNode, StripeNode, VbnNode, VolumeNode};
@@ -111,5 +112,15 @@ fn two_threads(rt: HostRuntime) -> Result<(), Fail> {
         || holds_beside(depot, other, stripe(0, 3), &second, &first),
     );
     assert!(rt; here && there);
+    Ok(())
+}
+
+#[test]
+fn crews(rt: HostRuntime) -> Result<(), Fail> {
+    for crew in Crew::ALL {
+        let bench = Bench::open(rt.alloc()).ok_or("no depot")?;
+        let granted = bench.calls(&rt, crew, STRIPES, 10);
+        assert_eq!(rt; granted, 10 * crew.size());
+    }
     Ok(())
 }
