@@ -130,6 +130,7 @@ hand_kept setup w i v k hand change there balanced h =
       outcomes = subst (λ (rs : List Running). AllByRecursion (λ r. IsOutcome setup (done setup w) r r.outcome) rs) (sym same) h.outcomes;
       tried_waiting = h.tried_waiting;
       tried_running = subst (λ (rs : List Running). AllByRecursion (IsTried setup) (messages rs)) (sym same) h.tried_running;
+      tried_finished = h.tried_finished;
       until = h.until;
     }
 
@@ -278,5 +279,6 @@ keeps_survey setup w h = record {
   outcomes = h.outcomes;
   tried_waiting = h.tried_waiting;
   tried_running = h.tried_running;
+  tried_finished = h.tried_finished;
   until = h.until;
 }

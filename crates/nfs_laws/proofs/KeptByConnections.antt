@@ -41,6 +41,7 @@ keeps_open setup w scan h =
       outcomes = h.outcomes;
       tried_waiting = h.tried_waiting;
       tried_running = h.tried_running;
+      tried_finished = h.tried_finished;
       until = pushed_all (λ c x. IfSome x.closed (λ n. n ≤ length w.finished)) w.connections new_connection h.until tt;
     }
 
@@ -70,6 +71,7 @@ keeps_close setup w k open_there h =
       outcomes = h.outcomes;
       tried_waiting = h.tried_waiting;
       tried_running = h.tried_running;
+      tried_finished = h.tried_finished;
       until = changed_all (λ c x. IfSome x.closed (λ n. n ≤ length w.finished)) close w.connections k (λ c x at ne. h.until c x at) (λ x at. omega arith);
     }
 

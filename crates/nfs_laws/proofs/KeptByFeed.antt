@@ -14,7 +14,7 @@ use Rattle.nfs_model.specs.World.{Heard, Setup, World, Connection, Message, IsSc
 use Rattle.nfs_model.specs.Events.Refusals.{takes_input}
 use Rattle.nfs_model.specs.Events.Feed.{stream_in, stream_of, served_count, call_at_once, call_undecoded, admit, heard_in, MayStarveIf}
 use Rattle.nfs_laws.specs.Walk.{Reached, Further, Complete, AtFault, reached_at, reached_by, reached, with_byte, byte_taken, Takes, TakesFault, Walks}
-use Rattle.nfs_model.specs.Headline.{Kept, start, served, messages, tally_finished, server_worked, IsHeard, IsOwnCall, IsOwnMessage, IsOutcome, IsTried}
+use Rattle.nfs_model.specs.Headline.{Kept, start, served, messages, tally_finished, server_worked, IsHeard, IsOwnCall, IsOwnMessage, IsOutcome, IsTried, HasRunAsItSays}
 use Rattle.nfs_model.specs.Parts.{one_if}
 use Rattle.nfs_laws.proofs.Lists.{All-push, Some_same, none_is, slice_get-append, slice_get_next, slice_get-changed_at}
 use Rattle.nfs_laws.proofs.Written.{AreLawful-push, server_after-push, replies_finish, until_finish, replies_changed, until_changed, written_stream}
@@ -125,6 +125,7 @@ byte_kept setup w c b t same h =
       outcomes = h.outcomes;
       tried_waiting = h.tried_waiting;
       tried_running = h.tried_running;
+      tried_finished = h.tried_finished;
       until = until_changed w.connections w.finished (with_byte b) c (λ x. refl) h.until;
     }
 
@@ -190,15 +191,16 @@ wait_kept setup w c b number heard a now home h =
       outcomes = h.outcomes;
       tried_waiting = All-push (IsTried setup) w.waiting m h.tried_waiting (a, home, begins_refl (path setup.layout a));
       tried_running = h.tried_running;
+      tried_finished = h.tried_finished;
       until = until_changed w.connections w.finished (with_byte b) c (λ x. refl) h.until;
     }
 
 -- it is answered at once, by an entry that changes nothing
 answer_kept : (setup : Setup) (w : World) (c b number : ℕ) (heard : Heard) (e : FinishedCall) (reply : Reply) → IsHeardNow setup w c b number heard
     → e.connection ≡ c → e.number ≡ number → IsOwnCall setup (byte_taken w c b) e
-    → reply ≡ (step_of (done setup w) e).reply → (step_of (done setup w) e).server ≡ done setup w → IsLawful (done setup w) e e.starved → Kept setup w
+    → reply ≡ (step_of (done setup w) e).reply → (step_of (done setup w) e).server ≡ done setup w → IsLawful (done setup w) e e.starved → HasRunAsItSays setup e → Kept setup w
     → Kept setup (finish setup (byte_taken w c b) e reply)
-answer_kept setup w c b number heard e reply now on_it of_it own right stays lawful h =
+answer_kept setup w c b number heard e reply now on_it of_it own right stays lawful ran h =
     let write : Connection → Connection = with_output (setup.codec.reply_record e.xid reply) in
     let middle : World = byte_taken w c b in
     let new : World = finish setup middle e reply in
@@ -231,6 +233,7 @@ answer_kept setup w c b number heard e reply now on_it of_it own right stays law
       outcomes = subst (λ (s : Server). AllByRecursion (λ r. IsOutcome setup s r r.outcome) (all_running w.workers)) (sym same) h.outcomes;
       tried_waiting = h.tried_waiting;
       tried_running = h.tried_running;
+      tried_finished = All-push (HasRunAsItSays setup) w.finished e h.tried_finished ran;
       until = until_finish middle.connections w.finished e (setup.codec.reply_record e.xid reply) e.connection until_now;
     }
 
@@ -243,7 +246,7 @@ admit_kept setup w c b number heard None scan now home h =
     let once : IsAtOnce setup w heard.asked = at_once setup w h heard.asked home in
     answer_kept setup w c b number heard e (serial w.server heard.asked start_of_times false).reply now refl refl
     (own_of_heard setup (byte_taken w c b) e heard.asked scan (now_own setup w c b number heard now))
-    once.reply once.stays tt h
+    once.reply once.stays tt (home, refl) h
 admit_kept setup w c b number heard (Some a) scan now home h = wait_kept setup w c b number heard a now home h
 
 heard_kept : (setup : Setup) (w : World) (c b number : ℕ) (heard : Heard) (starved : Bool) → IsScan setup.codec → IsHeardNow setup w c b number heard
@@ -251,7 +254,7 @@ heard_kept : (setup : Setup) (w : World) (c b number : ℕ) (heard : Heard) (sta
 heard_kept setup w c b number heard true scan now may h =
     answer_kept setup w c b number heard (call_undecoded c number heard) SystemError now refl refl
     (heard.asked, now_own setup w c b number heard now, may, refl, refl)
-    refl refl refl h
+    refl refl refl (refl, refl) h
 heard_kept setup w c b number heard false scan now may h = admit_kept setup w c b number heard (home_of_asked setup.layout heard.asked) scan now refl h
 
 -- ---- bytes one after another

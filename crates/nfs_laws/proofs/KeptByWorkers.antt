@@ -12,7 +12,7 @@ use Rattle.nfs_model.specs.Parts.{Parts}
 use Rattle.nfs_model.specs.Work.{Store, Outcome, Replied, Starved, Moved}
 use Rattle.nfs_model.specs.Events.Refusals.{is_busy}
 use Rattle.nfs_model.specs.Events.Step.{worked, finished_call, without_call, stamped, finished_by}
-use Rattle.nfs_model.specs.Headline.{Kept, start, served, messages, tally_finished, tally_messages, server_worked, worked_by, IsOwnCall, IsOwnMessage}
+use Rattle.nfs_model.specs.Headline.{Kept, start, served, messages, tally_finished, tally_messages, server_worked, worked_by, IsOwnCall, IsOwnMessage, HasRunAsItSays}
 use Rattle.nfs_model.specs.Headline.{IsOutcome, IsTried, Apart}
 use Rattle.nfs_model.specs.Parts.{IsPartition}
 use Rattle.nfs_laws.proofs.Lists.{All-get, All-remove, All-push, All-between, All-without, All-there}
@@ -77,6 +77,7 @@ keeps_begin setup w i k place m moment there idle at free h =
       tried_running = subst (λ (rs : List Running). AllByRecursion (IsTried setup) (messages rs)) (sym now)
           (messages_between (IsTried setup) s.before s.after r (All-get (IsTried setup) w.waiting place m at h.tried_waiting)
           (subst (λ (rs : List Running). AllByRecursion (IsTried setup) (messages rs)) was h.tried_running));
+      tried_finished = h.tried_finished;
       until = h.until;
     }
 
@@ -113,6 +114,7 @@ keeps_work setup w i k r o store agreed there runs h =
       outcomes = agreed.outcomes;
       tried_waiting = h.tried_waiting;
       tried_running = subst (λ (ms : List Message). AllByRecursion (IsTried setup) ms) (sym same_messages) h.tried_running;
+      tried_finished = h.tried_finished;
       until = h.until;
     }
 
@@ -164,6 +166,9 @@ keeps_finished setup w i k r starved reply s scan was h right lawful agreed =
       tried_running = subst (λ (rs : List Running). AllByRecursion (IsTried setup) (messages rs)) (sym now)
           (messages_without (IsTried setup) s.before s.after r
           (subst (λ (rs : List Running). AllByRecursion (IsTried setup) (messages rs)) was h.tried_running));
+      tried_finished = All-push (HasRunAsItSays setup) w.finished e h.tried_finished
+          (messages_there (IsTried setup) s.before s.after r
+          (subst (λ (rs : List Running). AllByRecursion (IsTried setup) (messages rs)) was h.tried_running));
       until = until_finish w.connections w.finished e (setup.codec.reply_record e.xid reply) e.connection h.until;
     }
 
@@ -207,6 +212,7 @@ keeps_moved setup w i k r a s was moved h =
       tried_running = subst (λ (rs : List Running). AllByRecursion (IsTried setup) (messages rs)) (sym now)
           (messages_without (IsTried setup) s.before s.after r
           (subst (λ (rs : List Running). AllByRecursion (IsTried setup) (messages rs)) was h.tried_running));
+      tried_finished = h.tried_finished;
       until = h.until;
     }
 

@@ -77,5 +77,6 @@ opening_headline setup = record {
   outcomes = subst (λ rs. AllByRecursion (λ r. IsOutcome setup (start setup) r r.outcome) rs) (sym (none_running setup.workers)) tt;
   tried_waiting = tt;
   tried_running = subst (λ rs. AllByRecursion (IsTried setup) (messages rs)) (sym (none_running setup.workers)) tt;
+  tried_finished = tt;
   until = λ c x e. absurd (cc);
 }

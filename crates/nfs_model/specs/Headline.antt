@@ -1,10 +1,10 @@
--- What holds after every event.
+-- What holds after every event (our profile; records of a stream: RFC 5531 section 11).
 use Rattle.std.specs.Prelude.{◌≡◌, ℕ, ◌+◌, ◌*◌, ◌≤◌, true, false, IsTrue, ◌&&◌, ◌==◌, nat_lt, List, [], ◌∷◌, ◌++◌, length, take, map, replicate, Option, Some, None, IfSome, slice_get, if◌then◌else◌}
 use Rattle.std.specs.List.{AllByRecursion, list_any, range_with_len}
 use Rattle.std.specs.FinSet.{from_list, empty}
-use Rattle.nfs_model.specs.Types.{Asked, Ask, Refused, Undecoded, Reply}
+use Rattle.nfs_model.specs.Types.{Asked, Ask, Refused, Undecoded, Reply, Moment}
 use Rattle.nfs_model.specs.Tree.{Affinity, Layout, VolumeLayout, excludes, begins, path}
-use Rattle.nfs_model.specs.Server.{VolumeState, Server, opening}
+use Rattle.nfs_model.specs.Server.{VolumeState, Server, opening, start_of_times}
 use Rattle.nfs_model.specs.Serial.Step.{serial}
 use Rattle.nfs_model.specs.Serial.Starve.{may_starve_at_decoding, may_starve_later}
 use Rattle.nfs_model.specs.Home.{home_of_asked}
@@ -104,6 +104,14 @@ IsTriedAt setup asked affinity =
 abbrev pub IsTried : Setup → Message → Type 0
 IsTried setup m = IsTriedAt setup m.asked m.affinity
 
+-- a finished call ran under its home, or above it; one that ran under no affinity has no home, and no moment
+abbrev pub HasRun : Setup → Asked → Moment → Option Affinity → Type 0
+HasRun setup asked moment None = (home_of_asked setup.layout asked ≡ None) × (moment ≡ start_of_times)
+HasRun setup asked moment (Some a) = IsTriedAt setup asked a
+
+abbrev pub HasRunAsItSays : Setup → FinishedCall → Type 0
+HasRunAsItSays setup e = HasRun setup e.asked e.moment e.affinity
+
 -- an outcome is the one that finishing now would give
 abbrev pub IsOutcome : Setup → Server → Running → Option Outcome → Type 0
 IsOutcome setup server r None = Unit {0}
@@ -121,7 +129,8 @@ Apart layout (a ∷ others) = (list_any (excludes layout a) others ≡ false) ×
 -- ---- the headline
 
 -- What holds after every event, refused ones among them: for every cutting of the streams and every
--- list of scheduler steps.
+-- list of scheduler steps. When a connection was closed, and what was fed on it, is what the events
+-- say (`Runs` in Events.Step): this record alone doesn't tie the world to them.
 pub record Headline (setup : Setup) (w : World) : Type 0 where
   -- The bytes on each connection are the reply records of a serial server's replies to that
   -- connection's calls that were finished before its close, in finishing order of all calls, each
@@ -165,6 +174,8 @@ pub record Kept (setup : Setup) (w : World) : Type 0 where
   -- a message tries its home, or an affinity above it
   pub tried_waiting : AllByRecursion (IsTried setup) w.waiting
   pub tried_running : AllByRecursion (IsTried setup) (messages (all_running w.workers))
+  -- a finished call ran where it could, at its moment
+  pub tried_finished : AllByRecursion (HasRunAsItSays setup) w.finished
   -- a close counted no more calls than are finished
   pub until : (c : ℕ) (x : Connection) → slice_get w.connections c ≡ Some x
       → IfSome x.closed (λ n. n ≤ length w.finished)
