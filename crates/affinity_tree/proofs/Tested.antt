@@ -7,7 +7,7 @@ use Rattle.std.proofs.lemmas.List.Folds.{list_all-map}
 use Rattle.std.proofs.lemmas.List.{length-map}
 use Rattle.affinity_tree.specs.declared.specification.AggregateSpec.{AggregateSpec}
 use Rattle.affinity_tree.specs.declared.specification.VolumeSpec.{VolumeSpec}
-use Rattle.affinity_tree.specs.Specification.{layout_in, spare_of, volume_of}
+use Rattle.affinity_tree.specs.Specification.{layout_in, spare_of, volume_asked}
 use Rattle.affinity_tree.specs.Fault.{fault_of, is_known, is_limited, is_sized, is_spare, is_striped, is_within}
 
 -- the first test that fails
@@ -23,10 +23,10 @@ first_of aggregates volumes known sized spare striped limited =
     else None
 
 module _ (aggregates : List AggregateSpec) (volumes : List VolumeSpec) where
-  known : list_all (is_known (length (map spare_of aggregates))) (map volume_of volumes) ≡ list_all (λ v. is_known (length aggregates) (volume_of v)) volumes
+  known : list_all (is_known (length (map spare_of aggregates))) (map volume_asked volumes) ≡ list_all (λ v. is_known (length aggregates) (volume_asked v)) volumes
   known =
-      ap (λ (n : ℕ). list_all (is_known n) (map volume_of volumes)) (length-map aggregates spare_of)
-      ∙ list_all-map (is_known (length aggregates)) volume_of volumes
+      ap (λ (n : ℕ). list_all (is_known n) (map volume_asked volumes)) (length-map aggregates spare_of)
+      ∙ list_all-map (is_known (length aggregates)) volume_asked volumes
 
   within : (low high n : ℕ) → low ≤ n → n ≤ high → is_within low high n ≡ true
   within low high n h k = and_from (nat_le low n) (nat_le n high) (le-leb low n h) (le-leb n high k)
@@ -37,18 +37,18 @@ module _ (aggregates : List AggregateSpec) (volumes : List VolumeSpec) where
       → length aggregates ≤ 2
       → 1 ≤ length volumes
       → length volumes ≤ 8
-      → list_all (λ v. is_known (length aggregates) (volume_of v)) volumes ≡ c
-      → list_all (λ v. is_sized (volume_of v)) volumes ≡ d
+      → list_all (λ v. is_known (length aggregates) (volume_asked v)) volumes ≡ c
+      → list_all (λ v. is_sized (volume_asked v)) volumes ≡ d
       → list_all (λ a. is_spare (spare_of a)) aggregates ≡ e
-      → list_all (λ v. is_striped (volume_of v)) volumes ≡ f
-      → list_all (λ v. is_limited (volume_of v)) volumes ≡ g
+      → list_all (λ v. is_striped (volume_asked v)) volumes ≡ f
+      → list_all (λ v. is_limited (volume_asked v)) volumes ≡ g
       → fault_of (layout_in aggregates volumes) ≡ first_of true true c d e f g
   fault_by c d e f g one_aggregate two_aggregates one_volume eight_volumes ec ed ee ef eg = λ j.
       first_of
       ((ap (is_within 1 2) (length-map aggregates spare_of) ∙ within 1 2 (length aggregates) one_aggregate two_aggregates) j)
-      ((ap (is_within 1 8) (length-map volumes volume_of) ∙ within 1 8 (length volumes) one_volume eight_volumes) j)
+      ((ap (is_within 1 8) (length-map volumes volume_asked) ∙ within 1 8 (length volumes) one_volume eight_volumes) j)
       ((known ∙ ec) j)
-      ((list_all-map is_sized volume_of volumes ∙ ed) j)
+      ((list_all-map is_sized volume_asked volumes ∙ ed) j)
       ((list_all-map is_spare spare_of aggregates ∙ ee) j)
-      ((list_all-map is_striped volume_of volumes ∙ ef) j)
-      ((list_all-map is_limited volume_of volumes ∙ eg) j)
+      ((list_all-map is_striped volume_asked volumes ∙ ef) j)
+      ((list_all-map is_limited volume_asked volumes ∙ eg) j)

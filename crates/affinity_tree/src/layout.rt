@@ -23,7 +23,7 @@ pub struct Layout {
 impl Layout {
     ghost use Rattle.std.specs.Prelude.{◌<◌, ◌≤◌, length, slice_get, option_map, IfOk, IfErr, OnOk};
     ghost use Rattle.nfs_model.specs.Tree.{aggregate_of, stripes_of};
-    ghost use Rattle.affinity_tree.specs.Specification.{spare_of, volume_of};
+    ghost use Rattle.affinity_tree.specs.Specification.{spare_of, volume_asked};
     ghost use Rattle.affinity_tree.specs.Fault.{rule_broken};
     ghost use Rattle.affinity_tree.specs.Largest.{largest_of, mebibytes_in};
     ghost use Rattle.affinity_tree.specs.Layout.{layout_of};
@@ -72,7 +72,7 @@ impl Layout {
 
     /// A volume by its number.
     pub fn volume(&self, volume: u32) -> Option<VolumeSpec>
-        ensures { option_map volume_of result ≡ slice_get (layout_of self.now).volumes volume }
+        ensures { option_map volume_asked result ≡ slice_get (layout_of self.now).volumes volume }
     {
         self.volumes.get(volume as usize).copied()
     }

@@ -2,7 +2,7 @@
 
 ghost use Rattle.std.specs.Prelude.{◌≡◌, ◌≢◌, None, IfErr, OnOk};
 ghost use Rattle.std.specs.List.{list_all};
-ghost use Rattle.affinity_tree.specs.Specification.{layout_in, spare_of, volume_of};
+ghost use Rattle.affinity_tree.specs.Specification.{layout_in, spare_of, volume_asked};
 ghost use Rattle.affinity_tree.specs.Fault.{fault_of, rule_broken};
 ghost use Rattle.affinity_tree.specs.Fault.{is_known, is_limited, is_sized, is_spare, is_striped};
 
@@ -23,14 +23,14 @@ pub const MOST_RANGES: u32 = 16;
 
 /// Whether each volume is on an aggregate that is there.
 fn are_known(volumes: &[VolumeSpec], aggregates: usize) -> bool
-    ensures { result ≡ list_all (λ v. is_known aggregates (volume_of v)) volumes.now }
+    ensures { result ≡ list_all (λ v. is_known aggregates (volume_asked v)) volumes.now }
 {
     volumes.iter().all(|v| (v.aggregate as usize) < aggregates)
 }
 
 /// Whether each volume has 1 to 16 ranges.
 fn are_sized(volumes: &[VolumeSpec]) -> bool
-    ensures { result ≡ list_all (λ v. is_sized (volume_of v)) volumes.now }
+    ensures { result ≡ list_all (λ v. is_sized (volume_asked v)) volumes.now }
 {
     volumes
         .iter()
@@ -46,7 +46,7 @@ fn are_spare(aggregates: &[AggregateSpec]) -> bool
 
 /// Whether each volume has 8 or 16 stripes.
 fn are_striped(volumes: &[VolumeSpec]) -> bool
-    ensures { result ≡ list_all (λ v. is_striped (volume_of v)) volumes.now }
+    ensures { result ≡ list_all (λ v. is_striped (volume_asked v)) volumes.now }
 {
     volumes
         .iter()
@@ -55,7 +55,7 @@ fn are_striped(volumes: &[VolumeSpec]) -> bool
 
 /// Whether the largest files of each volume have 16 or 64 mebibytes.
 fn are_limited(volumes: &[VolumeSpec]) -> bool
-    ensures { result ≡ list_all (λ v. is_limited (volume_of v)) volumes.now }
+    ensures { result ≡ list_all (λ v. is_limited (volume_asked v)) volumes.now }
 {
     volumes.iter().all(|v| v.mib == MIB || v.mib == MOST_MIB)
 }

@@ -1,7 +1,7 @@
 //! What a layout is made from.
 
 ghost use Rattle.std.specs.Prelude.{◌≡◌};
-ghost use Rattle.affinity_tree.specs.Specification.{ordinary, volume_of};
+ghost use Rattle.affinity_tree.specs.Specification.{ordinary, volume_asked};
 
 /// The stripes of an ordinary volume.
 pub const STRIPES: u32 = 8;
@@ -37,7 +37,7 @@ pub struct VolumeSpec {
 impl VolumeSpec {
     /// An ordinary volume: of 8 stripes, with files of at most 16 mebibytes.
     pub fn new(aggregate: u32, ranges: u32) -> VolumeSpec
-        ensures { volume_of result ≡ ordinary aggregate ranges }
+        ensures { volume_asked result ≡ ordinary aggregate ranges }
     {
         VolumeSpec {
             aggregate,

@@ -28,9 +28,9 @@ use Rattle.nfs_values.specs.Moment.{moment_of}
 use Rattle.engine.specs.declared.message.Message.{Message}
 use Rattle.engine.specs.declared.message.Running.{Running}
 use Rattle.engine.specs.declared.state.State.{State}
-use Rattle.engine.specs.declared.parcel.Kept.{Kept}
+use Rattle.engine.specs.declared.parcel.NodeAttributes.{NodeAttributes}
 use Rattle.engine.specs.declared.parcel.VolumeLogical.{VolumeLogical}
-use Rattle.engine.specs.Seen.{message_of, running_of, held_by, kept_by, tried, volume_of, server_of, setup_in, world}
+use Rattle.engine.specs.Seen.{message_of, running_of, held_by, kept_by, tried, volume_seen, server_of, setup_in, world}
 use Rattle.affinity_tree.specs.Layout.{layout_of}
 use Rattle.nfs_model.specs.Home.{home, logical_home}
 use Rattle.nfs_model.specs.Server.{Named, handle_of}
@@ -110,16 +110,16 @@ put_again (y ∷ ys) zero x e = let same : y ≡ x = cc in ap (λ z. z ∷ ys) s
 put_again (y ∷ ys) (suc i) x e = ap (λ zs. y ∷ zs) (put_again ys i x e)
 
 -- what calls run on, with the parcel at home or lent
-abbrev store_at : trees.Layout → List ℕ → Kept → Store
+abbrev store_at : trees.Layout → List ℕ → NodeAttributes → Store
 store_at layout verifier root = record { server = server_of layout verifier root; parts = map opening_parts layout.volumes }
 
-parts_of_getattr : (layout : trees.Layout) (verifier : List ℕ) (root : Kept) (handle : List ℕ) (credential : types.Credential) (o : Option Named) → handle_of (length layout.volumes) handle ≡ o
+parts_of_getattr : (layout : trees.Layout) (verifier : List ℕ) (root : NodeAttributes) (handle : List ℕ) (credential : types.Credential) (o : Option Named) → handle_of (length layout.volumes) handle ≡ o
     → PartsAfter (types.Ask (types.Getattr handle) credential) (tried (logical_home o)) (store_at layout verifier root) (store_at layout verifier root)
 parts_of_getattr layout verifier root handle credential None e = refl
 parts_of_getattr layout verifier root handle credential (Some h) e =
     let there = volume_at layout verifier root handle h e in
     let parts_there : slice_get (map opening_parts layout.volumes) h.volume ≡ Some (opening_parts there.0) = slice_get-map opening_parts layout.volumes h.volume ∙ ap (option_map opening_parts) there.1 in
-    let same : Stored = record { volume = volume_of verifier root h.volume there.0; parts = opening_parts there.0 } in
+    let same : Stored = record { volume = volume_seen verifier root h.volume there.0; parts = opening_parts there.0 } in
     record {
       before = same;
       after = same;
@@ -130,7 +130,7 @@ parts_of_getattr layout verifier root handle credential (Some h) e =
       parts = put_again (map opening_parts layout.volumes) h.volume (opening_parts there.0) parts_there;
     }
 
-parts_stay : (layout : trees.Layout) (verifier : List ℕ) (root : Kept) (call : Call) (credential : types.Credential) → IsReading (call_of call)
+parts_stay : (layout : trees.Layout) (verifier : List ℕ) (root : NodeAttributes) (call : Call) (credential : types.Credential) → IsReading (call_of call)
     → PartsAfter (types.Ask (call_of call) credential) (tried (home layout (call_of call))) (store_at layout verifier root) (store_at layout verifier root)
 parts_stay layout verifier root calls.Null credential h = refl
 parts_stay layout verifier root (calls.GetAttributes handle) credential h = parts_of_getattr layout verifier root handle credential (handle_of (length layout.volumes) handle) refl
@@ -145,7 +145,7 @@ works s r answer e lent reading h =
     let root = kept_by s.home s.running in
     let same : root ≡ r.held.root = kept-lent s.home s.running r lent e in
     let answered : serve (server_of layout s.verifier root) (call_of r.message.call) credential moment ≡ stay (server_of layout s.verifier root) answer =
-    subst (λ (k : Kept). serve (server_of layout s.verifier k) (call_of r.message.call) credential moment ≡ stay (server_of layout s.verifier k) answer) (sym same) (h s.verifier credential moment) in (
+    subst (λ (k : NodeAttributes). serve (server_of layout s.verifier k) (call_of r.message.call) credential moment ≡ stay (server_of layout s.verifier k) answer) (sym same) (h s.verifier credential moment) in (
       stays_there (worlds.store_of (world s)) (tried (home layout (call_of r.message.call))) r.message.call reading,
       ap (λ (t : Step). t.reply) (sym answered),
       ap (λ (t : Step). t.server) (sym answered),

@@ -34,8 +34,8 @@ use Rattle.engine.specs.declared.message.Origin.{Origin}
 use Rattle.engine.specs.declared.message.Heard.{Heard}
 use Rattle.engine.specs.declared.message.Message.{Message}
 use Rattle.engine.specs.declared.message.Running.{Running}
-use Rattle.engine.specs.declared.message.Entry.{Entry}
-use Rattle.engine.specs.declared.parcel.Kept.{Kept}
+use Rattle.engine.specs.declared.message.FinishedCall.{FinishedCall}
+use Rattle.engine.specs.declared.parcel.NodeAttributes.{NodeAttributes}
 use Rattle.engine.specs.declared.parcel.VolumeLogical as parcels
 use Rattle.engine.specs.declared.state.State.{State}
 use Rattle.engine.specs.Numbers.{stop_number, refusal_number}
@@ -69,7 +69,7 @@ outcome_of answer = tasks.Replied (types.Success (answers.answer_of answer))
 abbrev pub running_of : trees.Layout → Running → worlds.Running
 running_of layout r = record { message = message_of layout r.message; moment = moment_of r.moment; outcome = option_map outcome_of r.answer }
 
-abbrev pub entry_of : Entry → replays.FinishedCall
+abbrev pub entry_of : FinishedCall → replays.FinishedCall
 entry_of e = record { connection = e.origin.connection.0; number = e.origin.number; xid = e.origin.xid; asked = asked_in e.request; affinity = option_map affinity_of e.affinity; moment = moment_of e.moment; starved = e.starved }
 
 -- a finished call, starved just where it wasn't decoded
@@ -93,7 +93,7 @@ connections_of past current = map closed_of past ++ last_of current
 
 -- ---- the server
 
-abbrev pub root_of : Kept → servers.Node
+abbrev pub root_of : NodeAttributes → servers.Node
 root_of k = servers.Directory (record {
   attributes = record { mode = k.mode; uid = k.uid; gid = k.gid; atime = moment_of k.atime; mtime = moment_of k.mtime; ctime = moment_of k.ctime };
   parent = 1;
@@ -102,8 +102,8 @@ root_of k = servers.Directory (record {
 })
 
 -- a volume as it begins, but for its root
-abbrev pub volume_of : List ℕ → Kept → ℕ → trees.VolumeLayout → servers.VolumeState
-volume_of verifier k number v = record {
+abbrev pub volume_seen : List ℕ → NodeAttributes → ℕ → trees.VolumeLayout → servers.VolumeState
+volume_seen verifier k number v = record {
   number = number;
   aggregate = v.aggregate;
   total = 1024 * v.ranges;
@@ -114,20 +114,20 @@ volume_of verifier k number v = record {
 }
 
 -- volumes numbered from a number on
-abbrev pub volumes_from : List ℕ → Kept → ℕ → List trees.VolumeLayout → List servers.VolumeState
+abbrev pub volumes_from : List ℕ → NodeAttributes → ℕ → List trees.VolumeLayout → List servers.VolumeState
 volumes_from verifier k number [] = []
-volumes_from verifier k number (v ∷ vs) = volume_of verifier k number v ∷ volumes_from verifier k (number + 1) vs
+volumes_from verifier k number (v ∷ vs) = volume_seen verifier k number v ∷ volumes_from verifier k (number + 1) vs
 
 -- the server of which the parcel is all that calls change: the root of every volume
-abbrev pub server_of : trees.Layout → List ℕ → Kept → servers.Server
+abbrev pub server_of : trees.Layout → List ℕ → NodeAttributes → servers.Server
 server_of layout verifier k = record { spare = layout.spare; volumes = volumes_from verifier k 0 layout.volumes }
 
 -- the parcel, at home or lent
-abbrev pub held_by : Option Running → Kept
+abbrev pub held_by : Option Running → NodeAttributes
 held_by None = record { mode = 0; uid = 0; gid = 0; atime = record { seconds = 0; nanoseconds = 0 }; mtime = record { seconds = 0; nanoseconds = 0 }; ctime = record { seconds = 0; nanoseconds = 0 } }
 held_by (Some r) = r.held.root
 
-abbrev pub kept_by : Option parcels.VolumeLogical → Option Running → Kept
+abbrev pub kept_by : Option parcels.VolumeLogical → Option Running → NodeAttributes
 kept_by None running = held_by running
 kept_by (Some p) running = p.root
 

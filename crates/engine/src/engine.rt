@@ -15,7 +15,7 @@ use crate::calls;
 use crate::connecting::{close_connection, open_connection};
 use crate::event::{Done, Event, Refusal};
 use crate::feeding::feed;
-use crate::message::{Entry, Running};
+use crate::message::{FinishedCall, Running};
 use crate::parcel::VolumeLogical;
 use crate::state::State;
 use affinity_tree::Layout;
@@ -161,7 +161,7 @@ impl Engine {
     }
 
     /// The calls that are finished, in finishing order.
-    pub fn finished(&self) -> &[Entry]
+    pub fn finished(&self) -> &[FinishedCall]
         ensures { map entry_of result.now ≡ (world self.now).finished }
     {
         &self.state.finished

@@ -12,7 +12,7 @@ ghost use Rattle.engine.specs.Sound.{HasRoomToReply, IsWrittenTo, Releases, Resp
 ghost use Rattle.engine.specs.Words.{HasWritten, written_count, HasFinished};
 
 use crate::connection::OpenConnection;
-use crate::message::{Entry, Origin, Request};
+use crate::message::{FinishedCall, Origin, Request};
 use crate::reply::put_reply;
 use crate::state::State;
 use affinity_tree::Affinity;
@@ -78,7 +78,7 @@ pub(crate) fn keep_entry(
     ensures keeps { KeepsEntry state.old state.new }
 {
     let starved = request.is_none();
-    state.finished.push_reserved(Entry {
+    state.finished.push_reserved(FinishedCall {
         origin,
         request,
         affinity,

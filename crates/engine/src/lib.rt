@@ -20,5 +20,5 @@ mod work;
 
 pub use engine::Engine;
 pub use event::{Done, Event, Refusal, Stop, StreamFault};
-pub use message::{Entry, Heard, Message, Origin, Request, Running};
+pub use message::{FinishedCall, Heard, Message, Origin, Request, Running};
 pub use served::{Refused, ServedAnswer, ServedCall};

@@ -57,7 +57,7 @@ pub struct Running {
 
 /// A finished call.
 #[derive(Drop)]
-pub struct Entry {
+pub struct FinishedCall {
     pub origin: Origin,
     /// Nothing where memory for its name or data ran out.
     pub request: Option<Request>,

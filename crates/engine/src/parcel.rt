@@ -4,7 +4,7 @@ use nfs_values::Moment;
 
 /// The attributes that are kept of a node.
 #[derive(Clone, Copy, Debug, PartialEq, Eq)]
-pub(crate) struct Kept {
+pub(crate) struct NodeAttributes {
     pub(crate) mode: u32,
     pub(crate) uid: u32,
     pub(crate) gid: u32,
@@ -16,13 +16,13 @@ pub(crate) struct Kept {
 /// The parcel of the affinity Volume Logical: so far, its root directory.
 #[derive(Drop)]
 pub(crate) struct VolumeLogical {
-    pub(crate) root: Kept,
+    pub(crate) root: NodeAttributes,
 }
 
 impl VolumeLogical {
     /// The root directory as a volume begins with it: mode 0755, of the superuser, at time 0.
     pub(crate) const OPENING: VolumeLogical = VolumeLogical {
-        root: Kept {
+        root: NodeAttributes {
             mode: 0o755,
             uid: 0,
             gid: 0,

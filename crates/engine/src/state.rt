@@ -3,7 +3,7 @@
 ghost use Rattle.std.specs.Prelude.{◌≡◌, ◌≤◌};
 
 use crate::connection::{ClosedConnection, OpenConnection};
-use crate::message::{Entry, Message, Running};
+use crate::message::{FinishedCall, Message, Running};
 use crate::parcel::VolumeLogical;
 use affinity_tree::Layout;
 use std::alloc::Global;
@@ -33,7 +33,7 @@ pub(crate) struct State {
     /// The parcel, where it isn't lent to the running message: one for all volumes, since no call
     /// changes any of them yet.
     pub(crate) home: Option<VolumeLogical>,
-    pub(crate) finished: Vec<Entry>,
+    pub(crate) finished: Vec<FinishedCall>,
     /// How many calls with an affinity were finished.
     pub(crate) stamps: u64,
 }

@@ -10,7 +10,7 @@ ghost use Rattle.nfs_values.specs.Attributes.{shown_of};
 ghost use Rattle.nfs_values.specs.Answer.{answer_of, attributes_shown, result_of};
 ghost use Rattle.nfs_values.specs.Call.{call_of};
 ghost use Rattle.affinity_tree.specs.Layout.{layout_of};
-ghost use Rattle.engine.specs.Seen.{root_of, volume_of};
+ghost use Rattle.engine.specs.Seen.{root_of, volume_seen};
 ghost use Rattle.engine.specs.Served.{IsAnswer};
 ghost use Rattle.engine.specs.Short.{IsShortAnswer};
 
@@ -38,7 +38,7 @@ impl VolumeLogical {
     fn root_attributes(&self, volume: VolumeNumber) -> Attributes
         ensures { (verifier : List ℕ) (v : trees.VolumeLayout)
             → shown_of result
-            ≡ shown (volume_of verifier self.now.root volume.0 v) 1 (root_of self.now.root) }
+            ≡ shown (volume_seen verifier self.now.root volume.0 v) 1 (root_of self.now.root) }
     {
         Attributes {
             kind: FileKind::Directory,
@@ -63,7 +63,7 @@ fn get_attributes(held: &VolumeLogical, named: Named) -> Result<Attributes, Stat
         → (verifier : List ℕ) (v : trees.VolumeLayout)
         → result_of attributes_shown 0 result
         ≡ types.GetattrDone
-        (shown (volume_of verifier held.now.root named.volume.0 v) 1 (root_of held.now.root)) }
+        (shown (volume_seen verifier held.now.root named.volume.0 v) 1 (root_of held.now.root)) }
     ensures others { (named.fileid.0 ≡ 1 → ⊥)
         → result_of attributes_shown 0 result ≡ types.Failed types.Stale 0 }
     ensures short { IsShortAnswer (result_of attributes_shown 0 result) }

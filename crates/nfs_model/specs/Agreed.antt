@@ -1,4 +1,6 @@
--- What calls that run at one time have to meet: they don't disturb each other.
+-- What an event has to leave where calls run at one time (our profile). A step that changes
+-- something and disturbs no other running call leaves it; that such steps do is for those who serve
+-- them to show.
 use Rattle.std.specs.Prelude.{◌≡◌, ℕ, Some, slice_get}
 use Rattle.std.specs.List.{AllByRecursion}
 use Rattle.nfs_model.specs.Server.{VolumeState, Server}

@@ -1,5 +1,5 @@
 -- What the procedures share: what a call on a volume comes to, the first check that fails, and the
--- node that a handle or a name stands for.
+-- node that a handle or a name stands for (RFC 1813 sections 2.5 and 2.6).
 use Rattle.std.specs.Prelude.{ℕ, List, length, Option, Some, None, slice_get}
 use Rattle.std.specs.FinMap.{get}
 use Rattle.nfs_model.specs.Types.{Answer, Status, Stale, NotDirectory, Invalid, Moment, Listed}

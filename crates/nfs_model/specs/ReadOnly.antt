@@ -1,4 +1,4 @@
--- A run whose codec serves only calls that change nothing.
+-- A run whose codec serves only calls that change nothing (our profile).
 use Rattle.std.specs.Prelude.{ℕ, List}
 use Rattle.std.specs.List.{AllByRecursion}
 use Rattle.nfs_model.specs.Types.{Call, Null, Getattr, Asked, Ask, Refused, Undecoded}

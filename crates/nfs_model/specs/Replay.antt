@@ -1,4 +1,4 @@
--- The finished calls, one after another, on the serial server.
+-- The finished calls, one after another, on the serial server (our profile).
 use Rattle.std.specs.Prelude.{◌≡◌, ℕ, Bool, true, false, IsTrue, List, [], ◌∷◌, Option, Some, None}
 use Rattle.nfs_model.specs.Types.{Moment, Asked, Undecoded, Reply}
 use Rattle.nfs_model.specs.Tree.{Affinity}

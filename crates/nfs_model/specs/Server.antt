@@ -1,4 +1,4 @@
--- The server as a client could know it: volumes of named nodes, files as lists of bytes.
+-- The server without its parts: volumes of named nodes, files as lists of bytes.
 use Rattle.std.specs.Prelude.{ℕ, ◌+◌, ◌*◌, List, [], ◌∷◌, length, take, drop, Option, Some, None, slice_set}
 use Rattle.std.specs.Prelude.{nat_lt, ◌==◌, ◌&&◌, if◌then◌else◌, ◌++◌}
 use Rattle.std.specs.Int.{w32, w64, to_be_bytes, from_be_bytes}

@@ -160,7 +160,7 @@ pub data Answer : Type 0 where
   GoneDone : (directory : Wcc) → Answer
   RenameDone : (from to : Wcc) → Answer
   ReaddirDone : (directory : Shown) (page : List Listed) (eof : Bool) → Answer
-  FsstatDone : (root : Shown) (space : Space) → Answer
+  FsstatDone : (object : Shown) (space : Space) → Answer
   CommitDone : (file : Wcc) (verifier : List ℕ) → Answer
   CensusDone : (volumes : List VolumeCount) → Answer
   GrowDone : (total : ℕ) → Answer

@@ -68,7 +68,7 @@ abbrev pub ready_at : Option Located → ℕ → ℕ → ℕ → Option Ready
 ready_at there offset given n = ready there (node_named there) offset given n
 
 -- a ready WRITE moves from a Stripe where it would extend or fill, from Logical where the stock is
--- short, from Volume where what it may have is only in hands
+-- short, from Volume where it fits and stock, free and dead together are short, since the rest is in hands
 abbrev pub move_by : Option Parts → Affinity → Ready → Option Affinity
 move_by parts (Stripe v i) r = if r.extends || nat_lt 0 r.need then Some (Logical v) else None
 move_by None affinity r = None

@@ -1,4 +1,4 @@
--- What is seen of an engine between two events.
+-- What is seen of an engine between two events (our profile).
 use Rattle.std.specs.Prelude.{IfSome, ◌≤◌, ◌≡◌, ℕ, ◌+◌, Bool, List, [], ◌∷◌, ◌++◌, nat_le, zero, suc}
 use Rattle.std.specs.Prelude.{length, map, Option, Some, None, slice_get}
 use Rattle.std.specs.List.{AllByRecursion}

@@ -15,7 +15,7 @@ refusal_room = head_room + 8
 abbrev pub padded_size : ℕ → ℕ
 padded_size n = 4 * ((n + 3) / 4)
 
--- status, the handle, and one node's attributes twice (RFC 1813 section 3.3.3)
+-- status, the handle, and the attributes of the object and of the directory (RFC 1813 section 3.3.3)
 abbrev pub lookup_room : ℕ
 lookup_room = 4 + 16 + 88 + 88
 

@@ -135,7 +135,7 @@ hand_of None = Empty
 hand_of (Some k) = k.hand
 
 -- The number of a refusal, want of memory aside: 31 at the most connections, 36 for a connection
--- that takes no more, 33 for a worker that isn't there or isn't idle.
+-- that takes no more, 33 for a worker that isn't there or isn't idle, or whose hand has to be empty and isn't.
 abbrev pub refusal : Setup → World → Event → Option ℕ
 refusal setup w Open = if nat_le setup.connections (open_count w.connections) then Some 31 else None
 refusal setup w (Feed connection bytes) =

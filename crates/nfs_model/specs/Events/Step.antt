@@ -124,7 +124,7 @@ hand_volume (Dead volume blocks) = volume
 
 -- ---- what an event that isn't refused answers and does
 
--- what an event that isn't refused answers and does
+-- the answer and the world after it; of Begin, Work and Finish also whose call it is
 abbrev pub Happens : Setup → World → Event → Done → World → Type 0
 Happens setup w Open done new =
     (done ≡ Opened (length w.connections))

@@ -1,4 +1,5 @@
--- The answer of the serial server, and the server after it.
+-- The answer of the serial server, and the server after it (RFC 1813 section 3.3; GROW and CENSUS
+-- are our profile).
 use Rattle.std.specs.Prelude.{ℕ, Bool, true, false, ◌==◌, Option, Some, None, if◌then◌else◌}
 use Rattle.nfs_model.specs.Types.{Moment, Credential, Call, Null, Getattr, Setattr, Lookup, Read, Write}
 use Rattle.nfs_model.specs.Types.{Create, Mkdir, Remove, Rmdir, Rename, Readdir, Fsstat, Commit, Census}
