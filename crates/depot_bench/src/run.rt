@@ -114,9 +114,10 @@ fn measure<R: Clock + Print + AllocGlobal + Threads + Wait + Sync>(
         let added = lock_rate(rt, crew, count)?;
         let ratio = u128::from(finished) * 1000 / u128::from(added.max(1));
         let (whole, thousandths) = (ratio / 1000, ratio % 1000);
-        println!(rt;
-            "{name}, threads {threads}: {granted} granted, {finished} begun and finished a second, {added} under a lock, ratio {whole}.{thousandths:03}"
+        print!(rt;
+            "{name}, threads {threads}: {granted} granted, {finished} begun and finished a second, "
         )?;
+        println!(rt; "{added} under a lock, ratio {whole}.{thousandths:03}")?;
     }
     Ok(())
 }
