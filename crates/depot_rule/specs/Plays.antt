@@ -79,7 +79,8 @@ module _ {P E : Type 0} where
   abbrev pub Counts : View P E → ℕ → Type 0
   Counts v n = (n ≡ made v) × (n ≡ length v.seen)
 
-  -- a load of the ticket, in which no seat has shares: below 2^62 a call may begin. For the only seat it counts the entries that it made, which are all that it has seen
+  -- a load of the ticket, in which no seat has shares: below 2^62 a call may begin. For the only seat it counts the
+  -- entries that it made, which are all that it has seen
   abbrev pub LookSays : Step (Option P) → Place P E → ℕ → Place P E → Type 0
   LookSays st me found me' = Goes (λ v vs. (st.word ≡ 0)
       × (found < worn → vs ≡ record v { looked = 1; reads = record { word = 0; value = found; shares = 0 } ∷ v.reads } ∷ [])
