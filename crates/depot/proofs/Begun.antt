@@ -21,7 +21,7 @@ use Rattle.depot_rule.specs.declared.view.Read.{Read}
 use Rattle.affinity_tree.specs.Ancestors.{tally, IsTree, ancestors, Covers}
 use Rattle.depot_rule.specs.Shares.{worn, Has, made, grant_shares}
 use Rattle.depot_rule.specs.Seats.{OnOne, view_of}
-use Rattle.depot_rule.specs.Plays.{IsOnly}
+use Rattle.depot_rule.specs.Plays.{IsOnly, Counts}
 use Rattle.depot_rule.proofs.Grants.{at-length}
 use Rattle.depot_rule.proofs.Places.{one-view, of-one}
 use Rattle.depot_rule.specs.lemmas.Trees.{cover-excludes, above-smaller}
@@ -57,12 +57,12 @@ module _ {P E : Type 0} where
   abbrev pub HasLookedAt : View P E → ℕ → List (View P E) → Type 0
   HasLookedAt v found ws = (found < worn → ws ≡ record v { looked = 1; reads = record { word = 0; value = found; shares = 0 } ∷ v.reads } ∷ [])
       × (worn ≤ found → ws ≡ record v { reads = record { word = 0; value = found; shares = 0 } ∷ v.reads } ∷ [])
-      × (IsOnly v → found ≡ made v)
+      × (IsOnly v → Counts v found)
 
   -- the ticket was looked at
   pub looked-at : (Z : Type 0) (views : List (List (View P E))) (vs ws : List (View P E)) (found : ℕ) → views ≡ vs ∷ [] → length (own_views views) ≡ 1
       → OnOne (λ v. Z × (found < worn → ws ≡ record v { looked = 1; reads = record { word = 0; value = found; shares = 0 } ∷ v.reads } ∷ [])
-      × (worn ≤ found → ws ≡ record v { reads = record { word = 0; value = found; shares = 0 } ∷ v.reads } ∷ []) × (IsOnly v → found ≡ made v)) vs
+      × (worn ≤ found → ws ≡ record v { reads = record { word = 0; value = found; shares = 0 } ∷ v.reads } ∷ []) × (IsOnly v → Counts v found)) vs
       → HasLookedAt (known views) found ws
   looked-at Z views vs ws found is one did =
       let q = of-one _ vs (view_of vs) (one-view vs (placed-one is one)) did in
@@ -70,13 +70,14 @@ module _ {P E : Type 0} where
 
   -- and found at 2^62 or more
   pub worn-so : (v : View P E) (found : ℕ) (views : List (List (View P E))) (ws : List (View P E)) → views ≡ ws ∷ [] → worn ≤ found
-      → ws ≡ record v { reads = record { word = 0; value = found; shares = 0 } ∷ v.reads } ∷ [] → (IsOnly v → found ≡ made v)
+      → ws ≡ record v { reads = record { word = 0; value = found; shares = 0 } ∷ v.reads } ∷ [] → (IsOnly v → Counts v found)
       → IsWorn v (known views)
   worn-so v found views ws is high looked own = (
     record { word = 0; value = found; shares = 0 } ∷ [],
     ap known is ∙ ap view_of looked,
     (found, high, (0, refl)),
-    λ only. let count = own only in let enough : worn ≤ made v = omega arith in enough,
+    λ only. let count = own only in let made_so = count.0 in let seen_so = count.1 in
+        (let enough : worn ≤ made v = omega arith in enough, let enough : worn ≤ length v.seen = omega arith in enough),
   )
 
   -- a seat whose tree and first parcels are as before is of the same depot
@@ -200,7 +201,7 @@ module _ {P E : Type 0} where
       pub begun-lists : ListsAs v b g f
       begun-lists k pos lt cover = let t = taken-at k pos lt cover in t.1 ∙ sym t.2
 
-      pub begun-so : (IsExcluded v b → ⊥) → (found : ℕ) → found < worn → (IsOnly v → found ≡ made v)
+      pub begun-so : (IsExcluded v b → ⊥) → (found : ℕ) → found < worn → (IsOnly v → Counts v found)
           → IsAmong (record { word = 0; value = found; shares = 0 }) more → (views : List (List (View P E))) → views ≡ ws ∷ [] → IsBegun v b f (known views)
       begun-so apart found low own looked views is = (
         g,
@@ -230,7 +231,7 @@ module _ {P E : Type 0} where
           let some_gone : 0 < tally k by_hand.0 = omega arith in some_gone)
           (at_set v.held b c (Some g) (Some h) has)
 
-      pub begun-all : (IsExcluded v b → ⊥) → (found : ℕ) → found < worn → (IsOnly v → found ≡ made v)
+      pub begun-all : (IsExcluded v b → ⊥) → (found : ℕ) → found < worn → (IsOnly v → Counts v found)
           → IsAmong (record { word = 0; value = found; shares = 0 }) more
           → IsGathered v → IsApart v → (views : List (List (View P E))) → views ≡ ws ∷ [] → HasBegun v b f g views
       begun-all apart found low own looked before apart_before views is = record {
@@ -259,7 +260,7 @@ module _ {P E : Type 0} where
       )
 
   pub busy-so : (layout : Layout) (v : View P E) (ps : List ℕ) (b node found k c : ℕ) (ws : List (View P E)) (views : List (List (View P E)))
-      (ticket : ℕ) → ticket < worn → (IsOnly v → ticket ≡ made v) → ps ≡ parents layout → b ≡ k → c ≡ node → views ≡ ws ∷ []
+      (ticket : ℕ) → ticket < worn → (IsOnly v → Counts v ticket) → ps ≡ parents layout → b ≡ k → c ≡ node → views ≡ ws ∷ []
       → RefusedAfter v ps b node found (record { word = 0; value = ticket; shares = 0 }) ws
       → IsBusy (parents layout) v k c found (known views)
   busy-so layout v ps b node found k c ws views ticket low own parent number at is q =

@@ -15,7 +15,7 @@ use Rattle.affinity_tree.specs.Ancestors.{one_if, tally, Covers}
 use Rattle.depot_rule.specs.Sums.{total}
 use Rattle.depot_rule.specs.History.{Behaviour, by_number, Legal, SoundThroughout, IsHistory, AreHands, entries_of, listed, after}
 use Rattle.depot_rule.specs.Shares.{worn, too_many, made, Has}
-use Rattle.depot_rule.specs.Plays.{IsOnly, with_entry, HasAdded}
+use Rattle.depot_rule.specs.Plays.{IsOnly, Counts, with_entry, HasAdded}
 use Rattle.depot.specs.Kinds.{AreOfKind}
 use Rattle.depot.specs.Calls.{IsAmong, IsRead, Refuses, IsExcluded}
 use Rattle.depot.specs.declared.grants.Refusal.{Refusal}
@@ -30,9 +30,9 @@ abbrev pub HasLooked : (ℕ → Type 0) → List Read → Type 0
 HasLooked Q more = (ticket : ℕ) × Q ticket × IsAmong (record { word = 0; value = ticket; shares = 0 }) more
 
 module _ {P E : Type 0} where
-  -- the ticket was read as a number below 2^62. For the only seat it is the number of its entries
+  -- the ticket was read as a number below 2^62. For the only seat it is the number of its entries, which are all that it has seen
   abbrev pub IsLow : View P E → List Read → Type 0
-  IsLow v more = HasLooked (λ ticket. (ticket < worn) × (IsOnly v → ticket ≡ made v)) more
+  IsLow v more = HasLooked (λ ticket. (ticket < worn) × (IsOnly v → Counts v ticket)) more
 
   -- what is known of a seat of a depot of this layout: it has the layout's tree, and the parcels at the start were of their nodes' kinds
   abbrev pub IsSeatOf : (P → Kind) → Layout → View P E → Type 0
@@ -69,9 +69,10 @@ module _ {P E : Type 0} where
   IsBusy tree v b node word w = (more : List Read) × HasRead v 1 more w × IsRead v node word more × Refuses tree b node word × IsLow v more
       × (IsOnly v → IsExcluded v b)
 
-  -- the ticket was read at 2^62 or more. If it is the only seat, it made as many entries
+  -- the ticket was read at 2^62 or more. If it is the only seat, it made as many entries, which are all that it has seen
   abbrev pub IsWorn : View P E → View P E → Type 0
-  IsWorn v w = (more : List Read) × HasRead v v.looked more w × HasLooked (λ ticket. worn ≤ ticket) more × (IsOnly v → worn ≤ made v)
+  IsWorn v w = (more : List Read) × HasRead v v.looked more w × HasLooked (λ ticket. worn ≤ ticket) more
+      × (IsOnly v → (worn ≤ made v) × (worn ≤ length v.seen))
 
   -- a call on the node a was refused
   abbrev pub IsRefused : Layout → View P E → codes.Affinity → Refusal → View P E → Type 0

@@ -1,5 +1,5 @@
 -- A look at the ticket, as the table asks for it.
-use Rattle.std.proofs.Common.{◌≡◌, ◌⊎◌, ◌++◌, inl, inr, ⊎_elim, ℕ, ◌+◌, ◌≤◌, List, [], ◌∷◌, get_or, set, sym, refl, ap, ◌∙◌, subst, arith}
+use Rattle.std.proofs.Common.{◌≡◌, ◌⊎◌, ◌++◌, inl, inr, ⊎_elim, ℕ, ◌+◌, ◌≤◌, List, [], ◌∷◌, length, get_or, set, sym, refl, ap, ◌∙◌, subst, arith}
 use Rattle.std.proofs.Common.{Option, length-set, get_or-set_other}
 use mathlib.Core.Option.{none, some}
 use mathlib.Core.Logic.{dite}
@@ -14,10 +14,12 @@ use Rattle.depot_rule.specs.History.{Behaviour, StartsWith}
 use Rattle.depot_rule.specs.Sums.{total}
 use Rattle.depot_rule.specs.Shares.{worn, parts, made, due, unsettled, open_grants, claims, entered, shares, IsSound, Shares}
 use Rattle.depot_rule.specs.Rule.{Rule}
-use Rattle.depot_rule.specs.Plays.{Place, LookSays, AlikeSays}
+use Rattle.depot_rule.specs.Plays.{Place, IsOnly, Counts, LookSays, AlikeSays}
 use Rattle.depot_rule.specs.lemmas.Sums.{total-set, total-at, total-plus}
 use Rattle.depot_rule.proofs.Views.{all-one, each-set, only-view, due-most}
 use Rattle.depot_rule.proofs.Parcels.{stay-keeps}
+use Rattle.depot_rule.proofs.Counting.{history-length}
+use Rattle.depot_rule.proofs.Whole.{only-log}
 use Rattle.depot_rule.proofs.Following.{are-apart}
 use Rattle.affinity_tree.specs.Ancestors.{Excludes}
 use Rattle.depot_rule.proofs.Places.{on-one}
@@ -100,6 +102,15 @@ module _ (P C R B : Type 0) (kind_of : P → Kind) (m : Behaviour P C R B) where
         history = still P C R B m ps first s whole.history _ id v looked v.path v.unsure rs at;
       }
 
+  -- the ticket counts the only seat's entries
+  only-counts : (ps : List ℕ) (first : List (Option P)) (s : State (Option P) (List (View P E))) (whole : Rule kind_of m ps first s) (id : ℕ) (v : View P E)
+      → get_elem? s.views id ≡ some (v ∷ []) → IsOnly v → Counts v (get_or s.words 0 0)
+  only-counts ps first s whole id v at all = (
+    whole.base.shares.ticket ∙ only-view P E ps s.words s.views whole.base.shares id v at all made,
+    whole.base.shares.ticket ∙ (history-length P C R B kind_of m ps first s whole
+        ∙ ap (λ (l : List E). length l) (only-log P C R B kind_of m ps first s whole.base whole.history id v at all)),
+  )
+
   pub looks : (ps : List ℕ) (first : List (Option P)) (slots id : ℕ) (me : Place P E) (v : View P E) → me.0 ≡ v ∷ []
       → Allows (Rule kind_of m ps first) slots id me 0 (λ x. x) (LookSays (step slots 0 0 0 none) me)
   looks ps first slots id me v one s whole _ at' small =
@@ -125,8 +136,7 @@ module _ (P C R B : Type 0) (kind_of : P → Kind) (m : Behaviour P C R B) where
             refl,
             (λ _. refl),
             (λ high. absurd (omega arith)),
-            λ all. ticket ∙ only-view P E ps s.words s.views r.shares id v at
-                all made,
+            only-counts ps first s whole id v at,
           ),
           refl,
         ),
@@ -139,7 +149,7 @@ module _ (P C R B : Type 0) (kind_of : P → Kind) (m : Behaviour P C R B) where
             (let here = total-set (total due) s.views id (v ∷ []) (record v { reads = record { word = 0; value = x; shares = 0 } ∷ v.reads } ∷ []) at in
             let same = total-set (total unsettled) s.views id (v ∷ []) (record v { reads = record { word = 0; value = x; shares = 0 } ∷ v.reads } ∷ []) at in
             let q = r.shares.bounded in omega arith),
-        (on-one _ me.0 v one (refl, (λ low. absurd (high low)), (λ _. refl), λ all. ticket ∙ only-view P E ps s.words s.views r.shares id v at all made), refl),
+        (on-one _ me.0 v one (refl, (λ low. absurd (high low)), (λ _. refl), only-counts ps first s whole id v at), refl),
       ))
 
   -- two seats that met are of the table's tree

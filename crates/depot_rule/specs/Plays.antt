@@ -75,12 +75,17 @@ module _ {P E : Type 0} where
   abbrev pub FillSays : Step (Option P) → Place P E → ℕ → Place P E → Type 0
   FillSays st me found me' = OnOne (λ v. me'.0 ≡ record v { out = 0; reads = noted st found v } ∷ []) me.0 × (me'.1 ≡ rest me.1)
 
-  -- a load of the ticket, in which no seat has shares: below 2^62 a call may begin. For the only seat it counts the entries that it made
+  -- the number is that of the entries that the view made, and that of all entries that it has seen
+  abbrev pub Counts : View P E → ℕ → Type 0
+  Counts v n = (n ≡ made v) × (n ≡ length v.seen)
+
+  -- a load of the ticket, in which no seat has shares: below 2^62 a call may begin. For the only seat it counts the
+  -- entries that it made, which are all that it has seen
   abbrev pub LookSays : Step (Option P) → Place P E → ℕ → Place P E → Type 0
   LookSays st me found me' = Goes (λ v vs. (st.word ≡ 0)
       × (found < worn → vs ≡ record v { looked = 1; reads = record { word = 0; value = found; shares = 0 } ∷ v.reads } ∷ [])
       × (worn ≤ found → vs ≡ record v { reads = record { word = 0; value = found; shares = 0 } ∷ v.reads } ∷ [])
-      × (IsOnly v → found ≡ made v)) me me'
+      × (IsOnly v → Counts v found)) me me'
 
   -- no grant of the one excludes a grant of the other
   abbrev pub AreApart : View P E → View P E → Type 0
