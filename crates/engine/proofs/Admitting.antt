@@ -26,26 +26,36 @@ entry_at c number xid asked = record { connection = c; number = number; xid = xi
 -- a call without a home affinity reads no state, as the law has it
 abbrev pub StaysWithoutHome : Type 0
 StaysWithoutHome = (layout : trees.Layout) (server : servers.Server) (credential : types.Credential) (moment : types.Moment) (call : types.Call)
-    → length layout.volumes ≡ length server.volumes → home layout call ≡ None → serve server call credential moment ≡ stay server (answer_without_home layout call)
+    → length layout.volumes ≡ length server.volumes → home layout call ≡ None
+    → serve server call credential moment ≡ stay server (answer_without_home layout call)
 
 pub at-once : (s : State) (c number xid : ℕ) (call : types.Call) (credential : types.Credential) (answer : types.Answer) (written kept : worlds.World)
     → StaysWithoutHome
     → home (layout_of s.layout) call ≡ None → answer ≡ answer_without_home (layout_of s.layout) call
-    → written ≡ record (world s) { connections = worlds.changed_at (worlds.with_output ((setup_in s).codec.reply_record xid (types.Success answer))) (world s).connections c }
+    → written ≡ record (world s) {
+      connections = worlds.changed_at (worlds.with_output ((setup_in s).codec.reply_record xid (types.Success answer)))
+          (world s).connections c;
+    }
     → kept ≡ record written { finished = written.finished ++ entry_at c number xid (types.Ask call credential) ∷ [] }
-    → kept ≡ admit (setup_in s) (world s) c number (record { xid = xid; asked = types.Ask call credential }) (home_of_asked (layout_of s.layout) (types.Ask call credential))
+    → kept ≡ admit (setup_in s) (world s) c number (record { xid = xid; asked = types.Ask call credential })
+    (home_of_asked (layout_of s.layout) (types.Ask call credential))
 at-once s c number xid call credential answer written kept law h a e f =
     let setup = setup_in s in
     let w = world s in
     let asked : types.Asked = types.Ask call credential in
-    let stays : serve w.server call credential start_of_times ≡ stay w.server (answer_without_home (layout_of s.layout) call) = law (layout_of s.layout) w.server credential start_of_times call (sym (length-volumes_from s.verifier (kept_by s.home s.running) 0 (layout_of s.layout).volumes)) h in
-    let reply : types.Success answer ≡ (serial w.server asked start_of_times false).reply = ap (λ (x : types.Answer). types.Success x) a ∙ sym (ap (λ (t : Step). t.reply) stays) in
-    let done : kept ≡ worlds.finish setup w (entry_at c number xid asked) (types.Success answer) = finished setup w w written kept (entry_at c number xid asked) (types.Success answer) e f refl in
+    let stays : serve w.server call credential start_of_times ≡ stay w.server (answer_without_home (layout_of s.layout) call) = law
+    (layout_of s.layout) w.server credential start_of_times call
+    (sym (length-volumes_from s.verifier (kept_by s.home s.running) 0 (layout_of s.layout).volumes)) h in
+    let reply : types.Success answer ≡ (serial w.server asked start_of_times false).reply = ap (λ (x : types.Answer). types.Success x) a
+    ∙ sym (ap (λ (t : Step). t.reply) stays) in
+    let done : kept ≡ worlds.finish setup w (entry_at c number xid asked) (types.Success answer) = finished setup w w written kept
+    (entry_at c number xid asked) (types.Success answer) e f refl in
     subst (λ (o : Option trees.Affinity). kept ≡ admit setup w c number (record { xid = xid; asked = asked }) o) (sym h)
     (done ∙ ap (worlds.finish setup w (entry_at c number xid asked)) reply)
 
 pub entries-same : (w : worlds.World) (c number xid : ℕ) (a b : Call) (f g : Credential) → a ≡ b → f ≡ g
-    → record w { finished = w.finished ++ entry_at c number xid (types.Ask (call_of a) (credential_of f)) ∷ [] } ≡ record w { finished = w.finished ++ entry_at c number xid (types.Ask (call_of b) (credential_of g)) ∷ [] }
+    → record w { finished = w.finished ++ entry_at c number xid (types.Ask (call_of a) (credential_of f)) ∷ [] }
+    ≡ record w { finished = w.finished ++ entry_at c number xid (types.Ask (call_of b) (credential_of g)) ∷ [] }
 entries-same w c number xid a b f g e k =
     ap (λ (x : Call). record w { finished = w.finished ++ entry_at c number xid (types.Ask (call_of x) (credential_of f)) ∷ [] }) e
     ∙ ap (λ (x : Credential). record w { finished = w.finished ++ entry_at c number xid (types.Ask (call_of b) (credential_of x)) ∷ [] }) k

@@ -1,5 +1,6 @@
 -- What a reassembler answered, as what the stream came to.
-use Rattle.std.proofs.Common.{◌≡◌, ℕ, suc, ◌+◌, ◌≤◌, ◌<◌, List, [], ◌∷◌, ◌++◌, length, take, Option, Some, None, Result, Ok, Err, refl, sym, ap, subst, ◌∙◌, arith, length-append}
+use Rattle.std.proofs.Common.{◌≡◌, ℕ, suc, ◌+◌, ◌≤◌, ◌<◌, List, [], ◌∷◌, ◌++◌, length, take, Option, Some, None, Result, Ok, Err, refl, sym, ap, subst, ◌∙◌}
+use Rattle.std.proofs.Common.{arith, length-append}
 use Rattle.std.specs.Prelude.{map, option_map, vec_len}
 use Rattle.std.proofs.lemmas.List.{append-nil, take_all, length-take-le}
 use Rattle.rpc_record.specs.Machine.{State}
@@ -38,7 +39,8 @@ at_some (Err n ∷ rs) None e = absurd cc
 pub is-at : (stream : List ℕ) → (scan_stream stream).fault ≡ None → (state : State) × IsAt stream state
 is-at stream e = let s = at_some (map heard (read_stream stream).records) (read_stream stream).at e in (s.0, record { at = s.1; sound = e })
 
-ended : (stream bytes : List ℕ) (taken : ℕ) (scanned : Scanned) (at : Option State) → EndsAt stream bytes 0 taken scanned at → TookTo stream bytes taken at × ((0 < taken) × Completes stream (take taken bytes) scanned)
+ended : (stream bytes : List ℕ) (taken : ℕ) (scanned : Scanned) (at : Option State) → EndsAt stream bytes 0 taken scanned at
+    → TookTo stream bytes taken at × ((0 < taken) × Completes stream (take taken bytes) scanned)
 ended stream bytes taken scanned at e =
     let count : suc e.before ≡ taken = omega (arith, e.count) in (
       record {
@@ -48,7 +50,8 @@ ended stream bytes taken scanned at e =
       (omega (arith, e.count), subst (λ (n : ℕ). Completes stream (take n bytes) scanned) count e.completes),
     )
 
-pub took : (stream bytes : List ℕ) (taken : ℕ) (step : Step) (state : State) (new : Option State) → IsAt stream state → Feeds (Some state) bytes taken step new → TookTo stream bytes taken new × Took stream bytes taken step
+pub took : (stream bytes : List ℕ) (taken : ℕ) (step : Step) (state : State) (new : Option State) → IsAt stream state
+    → Feeds (Some state) bytes taken step new → TookTo stream bytes taken new × Took stream bytes taken step
 took stream bytes taken (steps.Record made) state new h f =
     let e = ended stream bytes taken _ _ (scan-made stream bytes made.items state 0 taken h f.2) in
     (record { within = e.0.within; to = e.0.to ∙ sym f.3 }, e.1)
@@ -68,7 +71,8 @@ took stream bytes taken steps.NoMemory state new h f =
     )
 
 -- the same, of a connection that is in step and at no fault
-pub took_from : (c : OpenConnection) (bytes : List ℕ) (taken : ℕ) (step : Step) (new : Option State) → IsInStep c → c.fault ≡ None → Feeds c.reassembler bytes taken step new
+pub took_from : (c : OpenConnection) (bytes : List ℕ) (taken : ℕ) (step : Step) (new : Option State) → IsInStep c → c.fault ≡ None
+    → Feeds c.reassembler bytes taken step new
     → TookTo c.stream.items bytes taken new × Took c.stream.items bytes taken step
 took_from c bytes taken step new h e f =
     let sound : (scan_stream c.stream.items).fault ≡ None = h.fault ∙ ap (option_map fault_number) e in
@@ -77,7 +81,8 @@ took_from c bytes taken step new h e f =
     took c.stream.items bytes taken step s.0 new s.1 (subst (λ (o : Option State). Feeds o bytes taken step new) at f)
 
 -- a connection that is in step with what it has read
-pub in-step : (c : OpenConnection) (whole : List ℕ) → c.stream.items ≡ whole → (read_stream whole).at ≡ c.reassembler → (scan_stream whole).fault ≡ option_map fault_number c.fault → length (scan_stream whole).served ≡ c.records → c.records ≤ vec_len c.stream → IsInStep c
+pub in-step : (c : OpenConnection) (whole : List ℕ) → c.stream.items ≡ whole → (read_stream whole).at ≡ c.reassembler
+    → (scan_stream whole).fault ≡ option_map fault_number c.fault → length (scan_stream whole).served ≡ c.records → c.records ≤ vec_len c.stream → IsInStep c
 in-step c whole e at fault records few =
     let back : whole ≡ c.stream.items = sym e in
     record {
@@ -91,7 +96,8 @@ in-step c whole e at fault records few =
 abbrev pub read_to : List ℕ → Result Heard ℕ → Scanned
 read_to stream r = joined (scan_stream stream).served (served_of (r ∷ []) None)
 
-pub made_as : (stream taken : List ℕ) (made : List ℕ) (r : Result Heard ℕ) → heard made ≡ r → Completes stream taken (scanned_with stream made) → Completes stream taken (read_to stream r)
+pub made_as : (stream taken : List ℕ) (made : List ℕ) (r : Result Heard ℕ) → heard made ≡ r → Completes stream taken (scanned_with stream made)
+    → Completes stream taken (read_to stream r)
 made_as stream taken made r e k = subst (λ (q : Result Heard ℕ). Completes stream taken (read_to stream q)) e k
 
 -- nothing served is added by a fault
@@ -104,12 +110,14 @@ no_more stream number = ap (λ (hs : List Heard). record { served = hs; fault = 
 pub ended-as : (stream taken : List ℕ) (number : ℕ) → Completes stream taken (read_to stream (Err number)) → Completes stream taken (ended_by stream number)
 ended-as stream taken number k = subst (Completes stream taken) (no_more stream number) k
 
-pub took_as : (c : OpenConnection) (bytes : List ℕ) (taken : ℕ) (step as_this : Step) (new : Option State) → IsInStep c → c.fault ≡ None → step ≡ as_this → Feeds c.reassembler bytes taken step new
+pub took_as : (c : OpenConnection) (bytes : List ℕ) (taken : ℕ) (step as_this : Step) (new : Option State) → IsInStep c → c.fault ≡ None → step ≡ as_this
+    → Feeds c.reassembler bytes taken step new
     → TookTo c.stream.items bytes taken new × Took c.stream.items bytes taken as_this
 took_as c bytes taken step as_this new h e is f = took_from c bytes taken as_this new h e (subst (λ (s : Step). Feeds c.reassembler bytes taken s new) is f)
 
 -- what was read of the record that a step gave
-pub read_as : (stream taken record_bytes given : List ℕ) (s : Result Heard ℕ) → given ≡ record_bytes → heard given ≡ s → Completes stream taken (scanned_with stream record_bytes) → Completes stream taken (read_to stream s)
+pub read_as : (stream taken record_bytes given : List ℕ) (s : Result Heard ℕ) → given ≡ record_bytes → heard given ≡ s
+    → Completes stream taken (scanned_with stream record_bytes) → Completes stream taken (read_to stream s)
 read_as stream taken record_bytes given s g e k = made_as stream taken record_bytes s (ap heard (sym g) ∙ e) k
 
 pub scan_at : (stream taken : List ℕ) (scanned : Scanned) → Completes stream taken scanned → scan_stream (stream ++ taken) ≡ scanned

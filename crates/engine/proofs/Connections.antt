@@ -41,21 +41,24 @@ all-closed [] i = refl
 all-closed (c ∷ past) zero = refl
 all-closed (c ∷ past) (suc i) = all-closed past i
 
-pub last-changed : (f : worlds.Connection → worlds.Connection) (past : List ClosedConnection) (o : OpenConnection) → changed_at f (connections_of past (Some o)) (length past) ≡ map closed_of past ++ f (open_of o) ∷ []
+pub last-changed : (f : worlds.Connection → worlds.Connection) (past : List ClosedConnection) (o : OpenConnection)
+    → changed_at f (connections_of past (Some o)) (length past) ≡ map closed_of past ++ f (open_of o) ∷ []
 last-changed f [] o = refl
 last-changed f (c ∷ past) o = ap (λ (cs : List worlds.Connection). closed_of c ∷ cs) (last-changed f past o)
 
 pub closed-last : (n : ℕ) (past : List ClosedConnection) (o : OpenConnection) (c : ClosedConnection) → closed_of c ≡ with_closed n (open_of o)
     → connections_of (past ++ c ∷ []) None ≡ changed_at (with_closed n) (connections_of past (Some o)) (length past)
 closed-last n past o c e =
-    append-nil (map closed_of (past ++ c ∷ [])) ∙ map_push closed_of past c ∙ ap (λ (x : worlds.Connection). map closed_of past ++ x ∷ []) e ∙ sym (last-changed (with_closed n) past o)
+    append-nil (map closed_of (past ++ c ∷ [])) ∙ map_push closed_of past c ∙ ap (λ (x : worlds.Connection). map closed_of past ++ x ∷ []) e
+    ∙ sym (last-changed (with_closed n) past o)
 
 -- ---- what opening and closing answer
 
 abbrev pub only_one : ℕ → Option ℕ
 only_one n = if nat_le 1 n then Some 31 else None
 
-pub full : (past : List ClosedConnection) (current : Option OpenConnection) (o : OpenConnection) → current ≡ Some o → only_one (open_count (connections_of past current)) ≡ Some 31
+pub full : (past : List ClosedConnection) (current : Option OpenConnection) (o : OpenConnection) → current ≡ Some o
+    → only_one (open_count (connections_of past current)) ≡ Some 31
 full past current o e = rw (e, one-open past o) refl
 
 pub not-full : (past : List ClosedConnection) (current : Option OpenConnection) → current ≡ None → only_one (open_count (connections_of past current)) ≡ None
@@ -64,26 +67,32 @@ not-full past current e = rw (e, none-open past) refl
 pub next-number : (past : List ClosedConnection) (current : Option OpenConnection) → current ≡ None → length (connections_of past current) ≡ length past
 next-number past current e = rw e (count-closed past)
 
-pub next-opened : (past : List ClosedConnection) (current : Option OpenConnection) (o : OpenConnection) → current ≡ None → connections_of past (Some o) ≡ connections_of past current ++ open_of o ∷ []
+pub next-opened : (past : List ClosedConnection) (current : Option OpenConnection) (o : OpenConnection) → current ≡ None
+    → connections_of past (Some o) ≡ connections_of past current ++ open_of o ∷ []
 next-opened past current o e = rw e (opened-more past o)
 
 abbrev pub if_open : Bool → Option ℕ
 if_open b = if b then None else Some 36
 
-pub not-open : (past : List ClosedConnection) (current : Option OpenConnection) (i : ℕ) → i ≢ length past → if_open (is_open (slice_get (connections_of past current) i)) ≡ Some 36
+pub not-open : (past : List ClosedConnection) (current : Option OpenConnection) (i : ℕ) → i ≢ length past
+    → if_open (is_open (slice_get (connections_of past current) i)) ≡ Some 36
 not-open past current i e = ap if_open (others-closed past current i e)
 
-pub none-there : (past : List ClosedConnection) (current : Option OpenConnection) (i : ℕ) → current ≡ None → if_open (is_open (slice_get (connections_of past current) i)) ≡ Some 36
+pub none-there : (past : List ClosedConnection) (current : Option OpenConnection) (i : ℕ) → current ≡ None
+    → if_open (is_open (slice_get (connections_of past current) i)) ≡ Some 36
 none-there past current i e = rw e (ap if_open (all-closed past i))
 
-pub there : (past : List ClosedConnection) (current : Option OpenConnection) (o : OpenConnection) (i : ℕ) → current ≡ Some o → i ≡ length past → if_open (is_open (slice_get (connections_of past current) i)) ≡ None
+pub there : (past : List ClosedConnection) (current : Option OpenConnection) (o : OpenConnection) (i : ℕ) → current ≡ Some o → i ≡ length past
+    → if_open (is_open (slice_get (connections_of past current) i)) ≡ None
 there past current o i e k = rw (e, k, last-open past o) refl
 
-pub now-closed : (n i : ℕ) (past longer : List ClosedConnection) (current : Option OpenConnection) (o : OpenConnection) (c : ClosedConnection) → current ≡ Some o → i ≡ length past → longer ≡ past ++ c ∷ [] → closed_of c ≡ with_closed n (open_of o)
+pub now-closed : (n i : ℕ) (past longer : List ClosedConnection) (current : Option OpenConnection) (o : OpenConnection) (c : ClosedConnection)
+    → current ≡ Some o → i ≡ length past → longer ≡ past ++ c ∷ [] → closed_of c ≡ with_closed n (open_of o)
     → connections_of longer None ≡ changed_at (with_closed n) (connections_of past current) i
 now-closed n i past longer current o c e k l w = rw (e, k, l) (closed-last n past o c w)
 
-pub full-if : (past : List ClosedConnection) (current : Option OpenConnection) → is_some current ≡ true → only_one (open_count (connections_of past current)) ≡ Some 31
+pub full-if : (past : List ClosedConnection) (current : Option OpenConnection) → is_some current ≡ true
+    → only_one (open_count (connections_of past current)) ≡ Some 31
 full-if past None e = absurd cc
 full-if past (Some o) e = full past (Some o) o refl
 
@@ -94,10 +103,12 @@ none-if (Some o) e = absurd cc
 pub new-is : (o : OpenConnection) → o.stream.items ≡ [] → o.output.items ≡ [] → open_of o ≡ new_connection
 new-is o e f = rw (e, f) refl
 
-pub now-open : (past more : List ClosedConnection) (current : Option OpenConnection) (o : OpenConnection) → current ≡ None → more ≡ past → o.stream.items ≡ [] → o.output.items ≡ []
+pub now-open : (past more : List ClosedConnection) (current : Option OpenConnection) (o : OpenConnection) → current ≡ None → more ≡ past
+    → o.stream.items ≡ [] → o.output.items ≡ []
     → connections_of more (Some o) ≡ connections_of past current ++ new_connection ∷ []
 now-open past more current o e m f g =
-    ap (λ (p : List ClosedConnection). connections_of p (Some o)) m ∙ next-opened past current o e ∙ ap (λ (x : worlds.Connection). connections_of past current ++ x ∷ []) (new-is o f g)
+    ap (λ (p : List ClosedConnection). connections_of p (Some o)) m ∙ next-opened past current o e
+    ∙ ap (λ (x : worlds.Connection). connections_of past current ++ x ∷ []) (new-is o f g)
 
 pub count-mapped : {A B : Type 0} (f : A → B) (xs : List A) (n : ℕ) → length xs ≡ n → n ≡ length (map f xs)
 count-mapped f xs n e = sym (length-map xs f ∙ e)

@@ -1,5 +1,6 @@
 -- What part of a feed comes to.
-use Rattle.std.proofs.Common.{◌≡◌, ℕ, ◌+◌, ◌<◌, ◌≤◌, Bool, true, false, List, [], ◌∷◌, ◌++◌, length, take, drop, Option, Some, None, refl, sym, ap, subst, ◌∙◌, arith, inl, inr}
+use Rattle.std.proofs.Common.{◌≡◌, ℕ, ◌+◌, ◌<◌, ◌≤◌, Bool, true, false, List, [], ◌∷◌, ◌++◌, length, take, drop, Option, Some, None, refl, sym, ap, subst}
+use Rattle.std.proofs.Common.{◌∙◌, arith, inl, inr}
 use Rattle.std.specs.Prelude.{map, slice_get, option_map, IfSome, vec_len, vec_capacity, nat_le, ◌&&◌}
 use Rattle.std.proofs.lemmas.List.{take_all, take-append-drop, length-map}
 use Rattle.std.proofs.lemmas.Bool.Decides.{nat_tests}
@@ -19,7 +20,8 @@ use Rattle.engine.specs.declared.state.State.{State}
 use Rattle.engine.specs.Numbers.{fault_number}
 use Rattle.engine.specs.Seen.{closed_of, open_of, connections_of, message_of, running_of, entry_of, setup_in, world}
 use Rattle.affinity_tree.specs.Layout.{layout_of}
-use Rattle.engine.specs.Sound.{Arrives, IsSound, IsRoomy, owed, pending, count_of, MayBeRoomier, MakesRoom, TakesIn, AtNoFault, MayBeStreamRoomier, TakesFrom, MayTakeFrom}
+use Rattle.engine.specs.Sound.{Arrives, IsSound, IsRoomy, owed, pending, count_of, MayBeRoomier, MakesRoom, TakesIn, AtNoFault, MayBeStreamRoomier, TakesFrom}
+use Rattle.engine.specs.Sound.{MayTakeFrom}
 use Rattle.engine.specs.Streams.{scan_stream, IsQuiet, Completes}
 use Rattle.engine.specs.Feeding.{TakesAll}
 use Rattle.nfs_model.specs.Events.Feed.{with_bytes, bytes_taken}
@@ -29,14 +31,16 @@ use Rattle.engine.proofs.Worlds.{bytes_taken-none, takes-quiet, takes-heard, fee
 
 -- ---- the open connection, and bytes that it took
 
-pub last-becomes : (f : worlds.Connection → worlds.Connection) (past : List ClosedConnection) (old new : OpenConnection) (current : Option OpenConnection) (i : ℕ) → current ≡ Some old → i ≡ length past → open_of new ≡ f (open_of old)
+pub last-becomes : (f : worlds.Connection → worlds.Connection) (past : List ClosedConnection) (old new : OpenConnection) (current : Option OpenConnection)
+    (i : ℕ) → current ≡ Some old → i ≡ length past → open_of new ≡ f (open_of old)
     → connections_of past (Some new) ≡ changed_at f (connections_of past current) i
 last-becomes f past old new current i e k w =
     ap (λ (x : worlds.Connection). map closed_of past ++ x ∷ []) w ∙ sym (last-changed f past old)
     ∙ ap (λ (o : Option OpenConnection). changed_at f (connections_of past o) (length past)) (sym e)
     ∙ ap (λ (n : ℕ). changed_at f (connections_of past current) n) (sym k)
 
-pub open-taken : (old new : OpenConnection) (bytes : List ℕ) → new.stream.items ≡ old.stream.items ++ bytes → new.output ≡ old.output → open_of new ≡ with_bytes bytes (open_of old)
+pub open-taken : (old new : OpenConnection) (bytes : List ℕ) → new.stream.items ≡ old.stream.items ++ bytes → new.output ≡ old.output
+    → open_of new ≡ with_bytes bytes (open_of old)
 open-taken old new bytes e f =
     ap (λ (s : List ℕ). record { stream = s; closed = None; output = new.output.items }) e
     ∙ ap (λ out. record { stream = old.stream.items ++ bytes; closed = None; output = out.items }) f
@@ -48,7 +52,8 @@ pub record IsFed (w : World) (c : ℕ) (o : OpenConnection) : Type 0 where
   pub records : length (scan_stream o.stream.items).served ≡ o.records
   pub stands : (read_stream o.stream.items).at ≡ o.reassembler
 
-fed_at : (s : State) (current : Option OpenConnection) → s.current ≡ current → IfSome current (λ c. IsRoomy (owed s) c × (vec_len s.past < vec_capacity s.past)) → AtNoFault current
+fed_at : (s : State) (current : Option OpenConnection) → s.current ≡ current
+    → IfSome current (λ c. IsRoomy (owed s) c × (vec_len s.past < vec_capacity s.past)) → AtNoFault current
     → (o : OpenConnection) × (current ≡ Some o) × IsFed (world s) (vec_len s.past) o
 fed_at s None e h t = absurd t
 fed_at s (Some o) e h t =
@@ -56,7 +61,8 @@ fed_at s (Some o) e h t =
       o,
       refl,
       record {
-        there = ap (λ (k : ℕ). slice_get (connections_of s.past.items s.current) k) number ∙ ap (λ (k : Option OpenConnection). slice_get (connections_of s.past.items k) (length s.past.items)) e ∙ last-open s.past.items o;
+        there = ap (λ (k : ℕ). slice_get (connections_of s.past.items s.current) k) number
+            ∙ ap (λ (k : Option OpenConnection). slice_get (connections_of s.past.items k) (length s.past.items)) e ∙ last-open s.past.items o;
         sound = h.0.in_step.fault ∙ ap (option_map fault_number) t;
         records = h.0.in_step.records;
         stands = h.0.in_step.reassembler;
@@ -73,15 +79,19 @@ fed s n h t = fed_at s s.current refl h.current (no-fault s.current n t)
 pub fed-open : (s : State) → IsSound s → AtNoFault s.current → (o : OpenConnection) × (s.current ≡ Some o) × IsFed (world s) (vec_len s.past) o
 fed-open s h t = fed_at s s.current refl h.current t
 
-took_from : (o : OpenConnection) (after : Option OpenConnection) (bytes : List ℕ) (taken : ℕ) (arrival : Arrival) → MayTakeFrom (Some o) after bytes taken arrival → (new : OpenConnection) × TakesFrom o new bytes taken arrival
+took_from : (o : OpenConnection) (after : Option OpenConnection) (bytes : List ℕ) (taken : ℕ) (arrival : Arrival)
+    → MayTakeFrom (Some o) after bytes taken arrival → (new : OpenConnection) × TakesFrom o new bytes taken arrival
 took_from o None bytes taken arrival t = absurd t
 took_from o (Some new) bytes taken arrival t = (new, t)
 
 -- how the bytes of the connection that is fed arrived
-pub arrived : (before after : Option OpenConnection) (o : OpenConnection) (bytes : List ℕ) (taken : ℕ) (arrival : Arrival) → before ≡ Some o → MayTakeFrom before after bytes taken arrival → Arrives o.stream.items bytes taken arrival
-arrived before after o bytes taken arrival e t = (took_from o after bytes taken arrival (subst (λ (b : Option OpenConnection). MayTakeFrom b after bytes taken arrival) e t)).1.arrives
+pub arrived : (before after : Option OpenConnection) (o : OpenConnection) (bytes : List ℕ) (taken : ℕ) (arrival : Arrival) → before ≡ Some o
+    → MayTakeFrom before after bytes taken arrival → Arrives o.stream.items bytes taken arrival
+arrived before after o bytes taken arrival e t =
+    (took_from o after bytes taken arrival (subst (λ (b : Option OpenConnection). MayTakeFrom b after bytes taken arrival) e t)).1.arrives
 
-pub arrived_as : (stream bytes : List ℕ) (taken : ℕ) (arrival as_this : Arrival) → arrival ≡ as_this → Arrives stream bytes taken arrival → Arrives stream bytes taken as_this
+pub arrived_as : (stream bytes : List ℕ) (taken : ℕ) (arrival as_this : Arrival) → arrival ≡ as_this → Arrives stream bytes taken arrival
+    → Arrives stream bytes taken as_this
 arrived_as stream bytes taken arrival as_this e a = subst (λ (x : Arrival). Arrives stream bytes taken x) e a
 
 -- ---- what is not seen
@@ -96,11 +106,14 @@ roomier past (Some a) (Some b) r =
 pub room-unseen : (old new : State) → MakesRoom old new → world new ≡ world old
 room-unseen old new r =
     ap world r.same
-    ∙ ap (λ (cs : List worlds.Connection). record (world old) { connections = cs; waiting = map (message_of (layout_of old.layout)) new.waiting.items; finished = map entry_of new.finished.items }) (roomier old.past.items old.current new.current r.current)
+    ∙ ap (λ (cs : List worlds.Connection). record
+    (world old) { connections = cs; waiting = map (message_of (layout_of old.layout)) new.waiting.items; finished = map entry_of new.finished.items })
+    (roomier old.past.items old.current new.current r.current)
     ∙ ap (λ ms. record (world old) { waiting = map (message_of (layout_of old.layout)) ms; finished = map entry_of new.finished.items }) r.waiting
     ∙ ap (λ es. record (world old) { finished = map entry_of es }) r.finished
 
-running_count : (layout : Layout) (running : Option Running) → length (all_running (record { running = option_map (running_of layout) running; hand = blocks.Empty } ∷ [])) ≡ count_of running
+running_count : (layout : Layout) (running : Option Running)
+    → length (all_running (record { running = option_map (running_of layout) running; hand = blocks.Empty } ∷ [])) ≡ count_of running
 running_count layout None = refl
 running_count layout (Some r) = refl
 
@@ -133,13 +146,15 @@ feeds-nothing setup c w (b ∷ bytes) some room = inl (refl, refl, inr (refl, an
 taken-part : (bytes : List ℕ) (n : ℕ) → take n bytes ++ drop n bytes ≡ bytes
 taken-part bytes n = take-append-drop n bytes
 
-pub part-more : (s : State) (o : OpenConnection) (w : World) (c : ℕ) (bytes : List ℕ) (taken : ℕ) → IsFed w c o → (taken ≡ length bytes) × IsQuiet o.stream.items bytes
+pub part-more : (s : State) (o : OpenConnection) (w : World) (c : ℕ) (bytes : List ℕ) (taken : ℕ) → IsFed w c o
+    → (taken ≡ length bytes) × IsQuiet o.stream.items bytes
     → TakesAll (setup_in s) c w (take taken bytes) (bytes_taken w c (take taken bytes))
 part-more s o w c bytes taken f a =
     let whole : bytes ≡ take taken bytes = sym (take_all taken bytes (omega (arith, a.0))) in
     takes-quiet (layout_of s.layout) s.verifier w c (take taken bytes) (open_of o) f.there f.sound (subst (IsQuiet o.stream.items) whole a.1)
 
-pub part-heard : (s : State) (o : OpenConnection) (w : World) (c : ℕ) (bytes : List ℕ) (taken : ℕ) (told : worlds.Heard) (starved : Bool) → MayStarveIf starved told.asked → (number : ℕ) → IsFed w c o → is_crowded w ≡ false → number ≡ o.records
+pub part-heard : (s : State) (o : OpenConnection) (w : World) (c : ℕ) (bytes : List ℕ) (taken : ℕ) (told : worlds.Heard) (starved : Bool)
+    → MayStarveIf starved told.asked → (number : ℕ) → IsFed w c o → is_crowded w ≡ false → number ≡ o.records
     → Completes o.stream.items (take taken bytes) (record { served = (scan_stream o.stream.items).served ++ told ∷ []; fault = None })
     → TakesAll (setup_in s) c w (take taken bytes) (heard_in (setup_in s) (bytes_taken w c (take taken bytes)) c number told starved)
 part-heard s o w c bytes taken told starved may number f room e k =
@@ -147,13 +162,16 @@ part-heard s o w c bytes taken told starved may number f room e k =
     subst (λ (n : ℕ). TakesAll (setup_in s) c w (take taken bytes) (heard_in (setup_in s) (bytes_taken w c (take taken bytes)) c n told starved)) number_is
     (takes-heard (layout_of s.layout) s.verifier w c (take taken bytes) (open_of o) told starved may f.there f.sound room k)
 
-pub part-fault : (s : State) (o : OpenConnection) (w : World) (c : ℕ) (bytes : List ℕ) (taken : ℕ) (fault : StreamFault) → IsFed w c o → (is_crowded w && is_complete (AtFault (fault_number fault))) ≡ false
-    → taken ≤ length bytes → Completes o.stream.items (take taken bytes) (record { served = (scan_stream o.stream.items).served; fault = Some (fault_number fault) })
+pub part-fault : (s : State) (o : OpenConnection) (w : World) (c : ℕ) (bytes : List ℕ) (taken : ℕ) (fault : StreamFault) → IsFed w c o
+    → (is_crowded w && is_complete (AtFault (fault_number fault))) ≡ false
+    → taken ≤ length bytes → Completes o.stream.items (take taken bytes)
+    (record { served = (scan_stream o.stream.items).served; fault = Some (fault_number fault) })
     → Walks (setup_in s) c w bytes taken (fault_number fault) (bytes_taken w c (take taken bytes))
 part-fault s o w c bytes taken fault f room h k =
     let made = feeds-fault (layout_of s.layout) s.verifier w c (take taken bytes) (drop taken bytes) (open_of o) (fault_number fault) f.there f.sound room k in
     subst (λ (n : ℕ). Walks (setup_in s) c w bytes n (fault_number fault) (bytes_taken w c (take taken bytes))) (length_taken taken bytes h)
-    (subst (λ (bs : List ℕ). Walks (setup_in s) c w bs (length (take taken bytes)) (fault_number fault) (bytes_taken w c (take taken bytes))) (taken-part bytes taken) made)
+    (subst (λ (bs : List ℕ). Walks (setup_in s) c w bs (length (take taken bytes)) (fault_number fault) (bytes_taken w c (take taken bytes)))
+    (taken-part bytes taken) made)
 
 pub no-bytes : (w : World) (c taken : ℕ) (bytes : List ℕ) → taken ≡ 0 → bytes_taken w c (take taken bytes) ≡ w
 no-bytes w c taken bytes e = ap (λ (n : ℕ). bytes_taken w c (take n bytes)) e ∙ bytes_taken-none w c
@@ -171,27 +189,33 @@ pub record IsPart (s : State) (c : ℕ) (o : OpenConnection) (w : World) : Type 
   pub same : w ≡ world s
   pub room : is_crowded w ≡ false
 
-pub more-admitted : (s : State) (o : OpenConnection) (w new : World) (c : ℕ) (bytes : List ℕ) (taken : ℕ) → IsPart s c o w → new ≡ bytes_taken w c (take taken bytes) → (taken ≡ length bytes) × IsQuiet o.stream.items bytes
+pub more-admitted : (s : State) (o : OpenConnection) (w new : World) (c : ℕ) (bytes : List ℕ) (taken : ℕ) → IsPart s c o w
+    → new ≡ bytes_taken w c (take taken bytes) → (taken ≡ length bytes) × IsQuiet o.stream.items bytes
     → TakesAll (setup_in s) c (world s) (take taken bytes) new
 more-admitted s o w new c bytes taken p e a =
     subst (λ (v : World). TakesAll (setup_in s) c v (take taken bytes) new) p.same
     (subst (TakesAll (setup_in s) c w (take taken bytes)) (sym e) (part-more s o w c bytes taken p.fed a))
 
-pub fault-admitted : (s : State) (o : OpenConnection) (w new : World) (c : ℕ) (bytes : List ℕ) (taken : ℕ) (fault : StreamFault) → IsPart s c o w → new ≡ bytes_taken w c (take taken bytes) → taken ≤ length bytes
+pub fault-admitted : (s : State) (o : OpenConnection) (w new : World) (c : ℕ) (bytes : List ℕ) (taken : ℕ) (fault : StreamFault) → IsPart s c o w
+    → new ≡ bytes_taken w c (take taken bytes) → taken ≤ length bytes
     → Completes o.stream.items (take taken bytes) (record { served = (scan_stream o.stream.items).served; fault = Some (fault_number fault) })
     → Walks (setup_in s) c (world s) bytes taken (fault_number fault) new
 fault-admitted s o w new c bytes taken fault p e h k =
     subst (λ (v : World). Walks (setup_in s) c v bytes taken (fault_number fault) new) p.same
-    (subst (Walks (setup_in s) c w bytes taken (fault_number fault)) (sym e) (part-fault s o w c bytes taken fault p.fed (and_false (is_crowded w) (is_complete (AtFault (fault_number fault))) p.room) h k))
+    (subst (Walks (setup_in s) c w bytes taken (fault_number fault)) (sym e)
+    (part-fault s o w c bytes taken fault p.fed (and_false (is_crowded w) (is_complete (AtFault (fault_number fault))) p.room) h k))
 
-pub nothing-admitted : (s : State) (o : OpenConnection) (w new : World) (c : ℕ) (bytes : List ℕ) (taken : ℕ) → IsPart s c o w → 0 < length bytes → new ≡ bytes_taken w c (take taken bytes) → taken ≡ 0
+pub nothing-admitted : (s : State) (o : OpenConnection) (w new : World) (c : ℕ) (bytes : List ℕ) (taken : ℕ) → IsPart s c o w → 0 < length bytes
+    → new ≡ bytes_taken w c (take taken bytes) → taken ≡ 0
     → Walks (setup_in s) c (world s) bytes taken 90 new
 nothing-admitted s o w new c bytes taken p some e z =
     let none : w ≡ new = sym (e ∙ no-bytes w c taken bytes z) in
     subst (λ (v : World). Walks (setup_in s) c v bytes taken 90 new) p.same
-    (subst (λ (n : ℕ). Walks (setup_in s) c w bytes n 90 new) (sym z) (subst (Walks (setup_in s) c w bytes 0 90) none (feeds-nothing (setup_in s) c w bytes some p.room)))
+    (subst (λ (n : ℕ). Walks (setup_in s) c w bytes n 90 new) (sym z)
+    (subst (Walks (setup_in s) c w bytes 0 90) none (feeds-nothing (setup_in s) c w bytes some p.room)))
 
-pub heard-admitted : (s : State) (o : OpenConnection) (w before new : World) (c d : ℕ) (setup : Setup) (bytes : List ℕ) (taken number : ℕ) (told : worlds.Heard) (starved : Bool) → MayStarveIf starved told.asked → IsPart s c o w → before ≡ bytes_taken w c (take taken bytes)
+pub heard-admitted : (s : State) (o : OpenConnection) (w before new : World) (c d : ℕ) (setup : Setup) (bytes : List ℕ) (taken number : ℕ)
+    (told : worlds.Heard) (starved : Bool) → MayStarveIf starved told.asked → IsPart s c o w → before ≡ bytes_taken w c (take taken bytes)
     → d ≡ c → setup ≡ setup_in s → number ≡ o.records → new ≡ heard_in setup before d number told starved
     → Completes o.stream.items (take taken bytes) (record { served = (scan_stream o.stream.items).served ++ told ∷ []; fault = None })
     → TakesAll (setup_in s) c (world s) (take taken bytes) new
@@ -214,12 +238,14 @@ part old new n m h t room =
 
 -- ---- room for a stream
 
-stream_roomier : (past : List ClosedConnection) (old new : Option OpenConnection) → MayBeStreamRoomier old new → connections_of past new ≡ connections_of past old
+stream_roomier : (past : List ClosedConnection) (old new : Option OpenConnection) → MayBeStreamRoomier old new
+    → connections_of past new ≡ connections_of past old
 stream_roomier past None None r = refl
 stream_roomier past None (Some b) r = absurd r
 stream_roomier past (Some a) None r = absurd r
 stream_roomier past (Some a) (Some b) r =
     ap (λ (x : worlds.Connection). map closed_of past ++ x ∷ []) (ap open_of r.same ∙ ap (λ (xs : List ℕ). record (open_of a) { stream = xs }) r.items)
 
-pub stream-room-unseen : (s : State) (current : Option OpenConnection) → MayBeStreamRoomier s.current current → record (world s) { connections = connections_of s.past.items current } ≡ world s
+pub stream-room-unseen : (s : State) (current : Option OpenConnection) → MayBeStreamRoomier s.current current
+    → record (world s) { connections = connections_of s.past.items current } ≡ world s
 stream-room-unseen s current r = ap (λ (cs : List worlds.Connection). record (world s) { connections = cs }) (stream_roomier s.past.items s.current current r)

@@ -1,5 +1,6 @@
 -- Bytes that are taken where the places are full.
-use Rattle.std.proofs.Common.{◌≡◌, ℕ, zero, suc, ◌+◌, ◌<◌, ◌≤◌, Bool, true, false, List, [], ◌∷◌, ◌++◌, length, take, drop, Option, Some, None, Result, Ok, Err, refl, sym, ap, subst, ◌∙◌, append_assoc, arith, inl, inr, length-append}
+use Rattle.std.proofs.Common.{◌≡◌, ℕ, zero, suc, ◌+◌, ◌<◌, ◌≤◌, Bool, true, false, List, [], ◌∷◌, ◌++◌, length, take, drop, Option, Some, None, Result, Ok}
+use Rattle.std.proofs.Common.{Err, refl, sym, ap, subst, ◌∙◌, append_assoc, arith, inl, inr, length-append}
 use Rattle.std.specs.Prelude.{slice_get, ◌&&◌, not, ◌==◌}
 use Rattle.std.proofs.lemmas.List.{take-append-drop, length-take-le}
 use Rattle.rpc_record.specs.Machine.{State, Next, Goes, Ends, Faults, Outcome, More, Made, Fault, IsMore, after, go, scan, outcome}
@@ -35,7 +36,8 @@ look-record bytes (More s) told e r = absurd cc
 look-record bytes (Made n made) told e r = (made, ap (λ (t : ℕ × Look). Made t.0 made) (sym e))
 look-record bytes (Fault n) told e r = absurd cc
 
-later_at : (t n : ℕ) (made bytes : List ℕ) (next : Next) → ((s : State) → scan (t + 1) s bytes ≡ Made n made → t + 1 < n) → go (t + 1) next (λ s. scan (t + 1) s bytes) ≡ Made n made → t < n
+later_at : (t n : ℕ) (made bytes : List ℕ) (next : Next) → ((s : State) → scan (t + 1) s bytes ≡ Made n made → t + 1 < n)
+    → go (t + 1) next (λ s. scan (t + 1) s bytes) ≡ Made n made → t < n
 later_at t n made bytes (Goes s) rest e = let l = rest s e in omega arith
 later_at t n made bytes (Ends m) rest e = let same : t + 1 ≡ n = cc in omega arith
 later_at t n made bytes Faults rest e = absurd cc
@@ -65,7 +67,8 @@ take-within (suc n) (suc m) (x ∷ xs) h = ap (λ (zs : List ℕ). x ∷ zs) (ta
 
 -- ---- the byte that would complete a record
 
-completes_at : (served : List Heard) (r : Result Heard ℕ) → ((n : ℕ) → r ≡ Err n → (n == 11) ≡ false) → is_complete (reached_by (joined served (served_of (r ∷ []) None)) (length served)) ≡ true
+completes_at : (served : List Heard) (r : Result Heard ℕ) → ((n : ℕ) → r ≡ Err n → (n == 11) ≡ false)
+    → is_complete (reached_by (joined served (served_of (r ∷ []) None)) (length served)) ≡ true
 completes_at served (Ok h) f = rw (slice_get-last served h) refl
 completes_at served (Err n) f = ap not (f n refl)
 
@@ -73,16 +76,21 @@ front-is : (bytes front : List ℕ) (last free : ℕ) → free < length bytes �
 front-is bytes front last free h e =
     let long : length (take (suc free) bytes) ≡ suc free = length-take-le (suc free) bytes (omega arith) in
     let size : length front ≡ free = omega (arith, long, ap length e, length-append front (last ∷ [])) in
-    sym (take-front front (last ∷ [])) ∙ ap (take (length front)) (sym e) ∙ ap (λ (n : ℕ). take n (take (suc free) bytes)) size ∙ take-within free (suc free) bytes (omega arith)
+    sym (take-front front (last ∷ [])) ∙ ap (take (length front)) (sym e) ∙ ap (λ (n : ℕ). take n (take (suc free) bytes)) size
+    ∙ take-within free (suc free) bytes (omega arith)
 
 rest-is : (bytes front : List ℕ) (last free : ℕ) → take (suc free) bytes ≡ front ++ last ∷ [] → front ++ (last ∷ drop (suc free) bytes) ≡ bytes
-rest-is bytes front last free e = sym (append_assoc front (last ∷ []) (drop (suc free) bytes)) ∙ ap (λ (xs : List ℕ). xs ++ drop (suc free) bytes) (sym e) ∙ take-append-drop (suc free) bytes
+rest-is bytes front last free e =
+    sym (append_assoc front (last ∷ []) (drop (suc free) bytes)) ∙ ap (λ (xs : List ℕ). xs ++ drop (suc free) bytes) (sym e)
+    ∙ take-append-drop (suc free) bytes
 
 both : (b d : Bool) → b ≡ true → d ≡ true → (b && d) ≡ true
 both b d e f = rw (e, f) refl
 
-full_at : (s : states.State) (o : OpenConnection) (w : World) (c : ℕ) (bytes : List ℕ) (free : ℕ) (made : List ℕ) → IsFed w c o → is_crowded w ≡ true → free < length bytes
-    → Completes o.stream.items (take (suc free) bytes) (scanned_with o.stream.items made) → Walks (setup_in s) c w bytes free 31 (bytes_taken w c (take free bytes))
+full_at : (s : states.State) (o : OpenConnection) (w : World) (c : ℕ) (bytes : List ℕ) (free : ℕ) (made : List ℕ) → IsFed w c o → is_crowded w ≡ true
+    → free < length bytes
+    → Completes o.stream.items (take (suc free) bytes) (scanned_with o.stream.items made)
+    → Walks (setup_in s) c w bytes free 31 (bytes_taken w c (take free bytes))
 full_at s o w c bytes free made f crowd h k =
     let setup = setup_in s in
     let stream = o.stream.items in
@@ -91,20 +99,26 @@ full_at s o w c bytes free made f crowd h k =
     let y : worlds.Connection = with_bytes k.front (open_of o) in
     let there : slice_get middle.connections c ≡ Some y = connection-taken w c k.front (open_of o) f.there in
     let same : scan_stream y.stream ≡ scan_stream stream = quiet-scan stream k.front k.quiet in
-    let whole : scan_stream (y.stream ++ k.last ∷ []) ≡ scanned_with stream made = ap scan_stream (append_assoc stream k.front (k.last ∷ []) ∙ ap (λ (xs : List ℕ). stream ++ xs) (sym k.split)) ∙ k.complete in
+    let whole : scan_stream (y.stream ++ k.last ∷ []) ≡ scanned_with stream made = ap scan_stream (append_assoc stream k.front (k.last ∷ [])
+    ∙ ap (λ (xs : List ℕ). stream ++ xs) (sym k.split)) ∙ k.complete in
     let at : reached setup middle c k.last ≡ reached_by (scanned_with stream made) (length (scan_stream stream).served) =
-    reached-is (layout_of s.layout) s.verifier middle c k.last y _ there whole ∙ ap (λ (t : Scanned). reached_by (scanned_with stream made) (length t.served)) same in
-    let ends : is_complete (reached setup middle c k.last) ≡ true = ap is_complete at ∙ completes_at (scan_stream stream).served (heard made) (not-too-long made) in
-    let stops : Stops middle (reached setup middle c k.last) 0 31 middle = (refl, refl, inl (refl, both (is_crowded middle) (is_complete (reached setup middle c k.last)) crowd ends)) in
+    reached-is (layout_of s.layout) s.verifier middle c k.last y _ there whole
+    ∙ ap (λ (t : Scanned). reached_by (scanned_with stream made) (length t.served)) same in
+    let ends : is_complete (reached setup middle c k.last) ≡ true = ap is_complete at
+    ∙ completes_at (scan_stream stream).served (heard made) (not-too-long made) in
+    let stops : Stops middle (reached setup middle c k.last) 0 31 middle =
+    (refl, refl, inl (refl, both (is_crowded middle) (is_complete (reached setup middle c k.last)) crowd ends)) in
     let fed : Walks setup c w (k.front ++ (k.last ∷ drop (suc free) bytes)) (length k.front + 0) 31 middle =
-    Walks-after setup c w middle middle k.front (k.last ∷ drop (suc free) bytes) 0 31 (takes-quiet (layout_of s.layout) s.verifier w c k.front (open_of o) f.there f.sound k.quiet) (inl stops) in
+    Walks-after setup c w middle middle k.front (k.last ∷ drop (suc free) bytes) 0 31
+    (takes-quiet (layout_of s.layout) s.verifier w c k.front (open_of o) f.there f.sound k.quiet) (inl stops) in
     let size : length k.front + 0 ≡ free = omega (arith, ap length front, length-take-le free bytes (omega arith)) in
     let new : middle ≡ bytes_taken w c (take free bytes) = ap (bytes_taken w c) front in
     subst (Walks setup c w bytes free 31) new
     (subst (λ (n : ℕ). Walks setup c w bytes n 31 middle) size
     (subst (λ (bs : List ℕ). Walks setup c w bs (length k.front + 0) 31 middle) (rest-is bytes k.front k.last free k.split) fed))
 
-pub full-stop : (s : states.State) (o : OpenConnection) (w : World) (c : ℕ) (bytes : List ℕ) (free : ℕ) (at : Option State) → IsFed w c o → at ≡ o.reassembler → is_crowded w ≡ true → free < length bytes
+pub full-stop : (s : states.State) (o : OpenConnection) (w : World) (c : ℕ) (bytes : List ℕ) (free : ℕ) (at : Option State) → IsFed w c o
+    → at ≡ o.reassembler → is_crowded w ≡ true → free < length bytes
     → (made : List ℕ) × (outcome at bytes ≡ Made (free + 1) made) → Walks (setup_in s) c w bytes free 31 (bytes_taken w c (take free bytes))
 full-stop s o w c bytes free at f a crowd h next =
     let i = is-at o.stream.items f.sound in
@@ -112,7 +126,8 @@ full-stop s o w c bytes free at f a crowd h next =
     let scanned : scan 0 i.0 bytes ≡ Made (free + 1) next.0 = ap (λ (x : Option State). outcome x bytes) (sym stands) ∙ next.1 in
     let e = scan-made o.stream.items bytes next.0 i.0 0 (free + 1) i.1 scanned in
     let count : e.before ≡ free = omega (arith, e.count) in
-    full_at s o w c bytes free next.0 f crowd h (subst (λ (n : ℕ). Completes o.stream.items (take (suc n) bytes) (scanned_with o.stream.items next.0)) count e.completes)
+    full_at s o w c bytes free next.0 f crowd h
+    (subst (λ (n : ℕ). Completes o.stream.items (take (suc n) bytes) (scanned_with o.stream.items next.0)) count e.completes)
 
 -- ---- the first byte, where some are free
 
@@ -120,15 +135,18 @@ false_after : (b d : Bool) → d ≡ false → (b && d) ≡ false
 false_after true d e = e
 false_after false d e = refl
 
-first_at : (s : states.State) (o : OpenConnection) (w : World) (c b : ℕ) (bytes : List ℕ) (state : State) (next : Next) → IsFed w c o → IsAt o.stream.items state → after state b ≡ next
+first_at : (s : states.State) (o : OpenConnection) (w : World) (c b : ℕ) (bytes : List ℕ) (state : State) (next : Next) → IsFed w c o
+    → IsAt o.stream.items state → after state b ≡ next
     → HasNoRecord (go 1 next (λ t. scan 1 t bytes)) → is_complete (reached (setup_in s) w c b) ≡ false
 first_at s o w c b bytes state (Goes next) f i a n =
-    ap is_complete (reached-is (layout_of s.layout) s.verifier w c b (open_of o) _ f.there (scan-goes o.stream.items state next b i a).0 ∙ reached-quiet (scan_stream o.stream.items) f.sound)
+    ap is_complete (reached-is (layout_of s.layout) s.verifier w c b (open_of o) _ f.there (scan-goes o.stream.items state next b i a).0
+    ∙ reached-quiet (scan_stream o.stream.items) f.sound)
 first_at s o w c b bytes state (Ends made) f i a n = absurd n
 first_at s o w c b bytes state Faults f i a n =
     ap is_complete (reached-is (layout_of s.layout) s.verifier w c b (open_of o) _ f.there (scan-faults o.stream.items state b i a).0)
 
-pub full-nothing : (s : states.State) (o : OpenConnection) (w : World) (c : ℕ) (bytes : List ℕ) (free : ℕ) (at : Option State) → IsFed w c o → at ≡ o.reassembler → 0 < length bytes → (free ≡ 0 → ⊥)
+pub full-nothing : (s : states.State) (o : OpenConnection) (w : World) (c : ℕ) (bytes : List ℕ) (free : ℕ) (at : Option State) → IsFed w c o
+    → at ≡ o.reassembler → 0 < length bytes → (free ≡ 0 → ⊥)
     → HasNoRecord (outcome at (take free bytes)) → Walks (setup_in s) c w bytes 0 90 w
 full-nothing s o w c [] free at f a h z n = absurd (omega arith)
 full-nothing s o w c (b ∷ bytes) zero at f a h z n = absurd (z refl)
@@ -140,12 +158,16 @@ full-nothing s o w c (b ∷ bytes) (suc free) at f a h z n =
 
 -- ---- a fault among the free bytes
 
-pub full-fault : (s : states.State) (o : OpenConnection) (w new : World) (c : ℕ) (bytes : List ℕ) (free taken : ℕ) (fault : StreamFault) → IsFed w c o → fault ≡ RecordTooLong → free ≤ length bytes → taken ≤ free
+pub full-fault : (s : states.State) (o : OpenConnection) (w new : World) (c : ℕ) (bytes : List ℕ) (free taken : ℕ) (fault : StreamFault) → IsFed w c o
+    → fault ≡ RecordTooLong → free ≤ length bytes → taken ≤ free
     → new ≡ bytes_taken w c (take taken (take free bytes))
     → Completes o.stream.items (take taken (take free bytes)) (record { served = (scan_stream o.stream.items).served; fault = Some (fault_number fault) })
     → Walks (setup_in s) c w bytes taken (fault_number fault) new
 full-fault s o w new c bytes free taken fault f e h t n k =
     let same : take taken (take free bytes) ≡ take taken bytes = take-within taken free bytes t in
-    let room : (is_crowded w && is_complete (AtFault (fault_number fault))) ≡ false = false_after (is_crowded w) _ (ap (λ (x : StreamFault). is_complete (AtFault (fault_number x))) e) in
+    let room : (is_crowded w && is_complete (AtFault (fault_number fault))) ≡ false = false_after (is_crowded w) _
+    (ap (λ (x : StreamFault). is_complete (AtFault (fault_number x))) e) in
     subst (Walks (setup_in s) c w bytes taken (fault_number fault)) (sym (n ∙ ap (bytes_taken w c) same))
-    (part-fault s o w c bytes taken fault f room (omega arith) (subst (λ (xs : List ℕ). Completes o.stream.items xs (record { served = (scan_stream o.stream.items).served; fault = Some (fault_number fault) })) same k))
+    (part-fault s o w c bytes taken fault f room (omega arith)
+    (subst (λ (xs : List ℕ). Completes o.stream.items xs
+    (record { served = (scan_stream o.stream.items).served; fault = Some (fault_number fault) })) same k))

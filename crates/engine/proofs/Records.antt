@@ -40,10 +40,12 @@ heard-reading bytes h e = record_asks_reading bytes h (sym (heard-is bytes) ∙ 
 
 -- ---- with the procedures that are served
 
-pub heard-is-reading : (bytes : List ℕ) (xid : ℕ) (call : types.Call) (credential : types.Credential) → records.heard bytes ≡ Ok (record { xid = xid; asked = types.Ask call credential }) → IsReading call
+pub heard-is-reading : (bytes : List ℕ) (xid : ℕ) (call : types.Call) (credential : types.Credential)
+    → records.heard bytes ≡ Ok (record { xid = xid; asked = types.Ask call credential }) → IsReading call
 heard-is-reading bytes xid call credential e = record_asks_reading bytes (record { xid = xid; asked = types.Ask call credential }) e
 
-pub refused-is-short : (bytes : List ℕ) (xid : ℕ) (reply : types.Reply) → records.heard bytes ≡ Ok (record { xid = xid; asked = types.Refused reply }) → IsShort reply
+pub refused-is-short : (bytes : List ℕ) (xid : ℕ) (reply : types.Reply) → records.heard bytes ≡ Ok (record { xid = xid; asked = types.Refused reply })
+    → IsShort reply
 refused-is-short bytes xid reply e = short_refusal reply (refusal_refuses bytes (record { xid = xid; asked = types.Refused reply }) reply e refl)
 
 -- ---- replies

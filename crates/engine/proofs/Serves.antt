@@ -16,11 +16,13 @@ use Rattle.engine.proofs.Records.{heard-decoded, heard-reading}
 
 -- ---- every call that is served
 
-all_from : (P : Heard → Type 0) (r : Result Heard ℕ) (others : List (Result Heard ℕ)) (fault : Option ℕ) → ((h : Heard) → r ≡ Ok h → P h) → AllByRecursion P (served_of others fault).served → AllByRecursion P (served_of (r ∷ others) fault).served
+all_from : (P : Heard → Type 0) (r : Result Heard ℕ) (others : List (Result Heard ℕ)) (fault : Option ℕ) → ((h : Heard) → r ≡ Ok h → P h)
+    → AllByRecursion P (served_of others fault).served → AllByRecursion P (served_of (r ∷ others) fault).served
 all_from P (Ok h) others fault f rest = (f h refl, rest)
 all_from P (Err n) others fault f rest = tt
 
-pub all_served : (P : Heard → Type 0) → ((bytes : List ℕ) (h : Heard) → heard bytes ≡ Ok h → P h) → (records : List (List ℕ)) (fault : Option ℕ) → AllByRecursion P (served_of (map heard records) fault).served
+pub all_served : (P : Heard → Type 0) → ((bytes : List ℕ) (h : Heard) → heard bytes ≡ Ok h → P h) → (records : List (List ℕ)) (fault : Option ℕ)
+    → AllByRecursion P (served_of (map heard records) fault).served
 all_served P f [] fault = tt
 all_served P f (bytes ∷ records) fault = all_from P (heard bytes) (map heard records) fault (λ h e. f bytes h e) (all_served P f records fault)
 
@@ -44,9 +46,11 @@ adds_read old (Err n) = ([], refl, omega arith, refl)
 adds_fault : (old : Scanned) → Adds old (record { served = old.served; fault = Some 11 })
 adds_fault old = ([], sym (append-nil old.served), omega arith, refl)
 
-adds_at : (stream : List ℕ) (state : State) (b : ℕ) (next : Next) → IsAt stream state → after state b ≡ next → Adds (scan_stream stream) (scan_stream (stream ++ b ∷ []))
+adds_at : (stream : List ℕ) (state : State) (b : ℕ) (next : Next) → IsAt stream state → after state b ≡ next
+    → Adds (scan_stream stream) (scan_stream (stream ++ b ∷ []))
 adds_at stream state b (Goes to) h e = adds_none (scan_stream stream) (scan_stream (stream ++ b ∷ [])) (scan-goes stream state to b h e).0
-adds_at stream state b (Ends made) h e = subst (Adds (scan_stream stream)) (sym (scan-whole stream state b made h e).0) (adds_read (scan_stream stream) (heard made))
+adds_at stream state b (Ends made) h e =
+    subst (Adds (scan_stream stream)) (sym (scan-whole stream state b made h e).0) (adds_read (scan_stream stream) (heard made))
 adds_at stream state b Faults h e = subst (Adds (scan_stream stream)) (sym (scan-faults stream state b h e).0) (adds_fault (scan_stream stream))
 
 further_at : (stream : List ℕ) (b : ℕ) → (scan_stream stream).fault ≡ None → Adds (scan_stream stream) (scan_stream (stream ++ b ∷ []))

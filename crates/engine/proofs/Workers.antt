@@ -49,7 +49,8 @@ map-remove f [] (suc i) = refl
 map-remove f (x ∷ xs) zero = refl
 map-remove f (x ∷ xs) (suc i) = ap (λ ys. f x ∷ ys) (map-remove f xs i)
 
-pub message-there : (layout : trees.Layout) (ms : List Message) (place : ℕ) (m : Message) → slice_get ms place ≡ Some m → slice_get (map (message_of layout) ms) place ≡ Some (message_of layout m)
+pub message-there : (layout : trees.Layout) (ms : List Message) (place : ℕ) (m : Message) → slice_get ms place ≡ Some m
+    → slice_get (map (message_of layout) ms) place ≡ Some (message_of layout m)
 message-there layout ms place m e = slice_get-map (message_of layout) ms place ∙ ap (option_map (message_of layout)) e
 
 -- ---- Begin
@@ -73,14 +74,18 @@ may-begin s worker place moment m e r g t n =
 abbrev pub changes : worlds.World → List worlds.Message → List worlds.Worker → servers.Server → worlds.World
 changes w messages workers server = record w { waiting = messages; workers = workers; server = server }
 
-pub changes-same : (w : worlds.World) (ms ns : List worlds.Message) (ks ls : List worlds.Worker) (a b : servers.Server) → ms ≡ ns → ks ≡ ls → a ≡ b → changes w ms ks a ≡ changes w ns ls b
+pub changes-same : (w : worlds.World) (ms ns : List worlds.Message) (ks ls : List worlds.Worker) (a b : servers.Server) → ms ≡ ns → ks ≡ ls → a ≡ b
+    → changes w ms ks a ≡ changes w ns ls b
 changes-same w ms ns ks ls a b e f g =
-    ap (λ (xs : List worlds.Message). changes w xs ks a) e ∙ ap (λ (xs : List worlds.Worker). changes w ns xs a) f ∙ ap (λ (x : servers.Server). changes w ns ls x) g
+    ap (λ (xs : List worlds.Message). changes w xs ks a) e ∙ ap (λ (xs : List worlds.Worker). changes w ns xs a) f
+    ∙ ap (λ (x : servers.Server). changes w ns ls x) g
 
-pub only-changed : (layout : trees.Layout) (old : Option Running) (new : Option worlds.Running) (worker : ℕ) → worker ≡ 0 → record { running = new; hand = blocks.Empty } ∷ [] ≡ worlds.changed_at (worlds.with_running new) (worker_of layout old ∷ []) worker
+pub only-changed : (layout : trees.Layout) (old : Option Running) (new : Option worlds.Running) (worker : ℕ) → worker ≡ 0
+    → record { running = new; hand = blocks.Empty } ∷ [] ≡ worlds.changed_at (worlds.with_running new) (worker_of layout old ∷ []) worker
 only-changed layout old new worker e = sym (ap (λ (n : ℕ). worlds.changed_at (worlds.with_running new) (worker_of layout old ∷ []) n) e)
 
-pub only-there : (layout : trees.Layout) (running : Option Running) (worker : ℕ) → worker ≡ 0 → slice_get (worker_of layout running ∷ []) worker ≡ Some (worker_of layout running)
+pub only-there : (layout : trees.Layout) (running : Option Running) (worker : ℕ) → worker ≡ 0
+    → slice_get (worker_of layout running ∷ []) worker ≡ Some (worker_of layout running)
 only-there layout running worker e = ap (λ (n : ℕ). slice_get (worker_of layout running ∷ []) n) e
 
 -- ---- the parcel
@@ -90,12 +95,14 @@ lent-away None running r h e = refl
 lent-away (Some p) None r h e = absurd cc
 lent-away (Some p) (Some q) r h e = absurd h
 
-pub kept-lent : (home : Option VolumeLogical) (running : Option Running) (r : Running) → IsLent home running → running ≡ Some r → kept_by home running ≡ r.held.root
+pub kept-lent : (home : Option VolumeLogical) (running : Option Running) (r : Running) → IsLent home running → running ≡ Some r
+    → kept_by home running ≡ r.held.root
 kept-lent home running r h e = ap (λ (o : Option VolumeLogical). kept_by o running) (lent-away home running r h e) ∙ ap held_by e
 
 -- ---- Work
 
-pub may-work : (s : State) (worker : ℕ) (r : Running) → worker ≡ 0 → s.running ≡ Some r → r.answer ≡ None → events.refusal (setup_in s) (world s) (events.Work worker) ≡ None
+pub may-work : (s : State) (worker : ℕ) (r : Running) → worker ≡ 0 → s.running ≡ Some r → r.answer ≡ None
+    → events.refusal (setup_in s) (world s) (events.Work worker) ≡ None
 may-work s worker r e f g = rw (e, f, g) refl
 
 stays_there : (store : Store) (affinity : trees.Affinity) (call : Call) → IsReading (call_of call) → move_of_call store affinity (call_of call) ≡ None
@@ -113,12 +120,14 @@ put_again (y ∷ ys) (suc i) x e = ap (λ zs. y ∷ zs) (put_again ys i x e)
 abbrev store_at : trees.Layout → List ℕ → NodeAttributes → Store
 store_at layout verifier root = record { server = server_of layout verifier root; parts = map opening_parts layout.volumes }
 
-parts_of_getattr : (layout : trees.Layout) (verifier : List ℕ) (root : NodeAttributes) (handle : List ℕ) (credential : types.Credential) (o : Option Named) → handle_of (length layout.volumes) handle ≡ o
+parts_of_getattr : (layout : trees.Layout) (verifier : List ℕ) (root : NodeAttributes) (handle : List ℕ) (credential : types.Credential) (o : Option Named)
+    → handle_of (length layout.volumes) handle ≡ o
     → PartsAfter (types.Ask (types.Getattr handle) credential) (tried (logical_home o)) (store_at layout verifier root) (store_at layout verifier root)
 parts_of_getattr layout verifier root handle credential None e = refl
 parts_of_getattr layout verifier root handle credential (Some h) e =
     let there = volume_at layout verifier root handle h e in
-    let parts_there : slice_get (map opening_parts layout.volumes) h.volume ≡ Some (opening_parts there.0) = slice_get-map opening_parts layout.volumes h.volume ∙ ap (option_map opening_parts) there.1 in
+    let parts_there : slice_get (map opening_parts layout.volumes) h.volume ≡ Some
+    (opening_parts there.0) = slice_get-map opening_parts layout.volumes h.volume ∙ ap (option_map opening_parts) there.1 in
     let same : Stored = record { volume = volume_seen verifier root h.volume there.0; parts = opening_parts there.0 } in
     record {
       before = same;
@@ -133,10 +142,12 @@ parts_of_getattr layout verifier root handle credential (Some h) e =
 parts_stay : (layout : trees.Layout) (verifier : List ℕ) (root : NodeAttributes) (call : Call) (credential : types.Credential) → IsReading (call_of call)
     → PartsAfter (types.Ask (call_of call) credential) (tried (home layout (call_of call))) (store_at layout verifier root) (store_at layout verifier root)
 parts_stay layout verifier root calls.Null credential h = refl
-parts_stay layout verifier root (calls.GetAttributes handle) credential h = parts_of_getattr layout verifier root handle credential (handle_of (length layout.volumes) handle) refl
+parts_stay layout verifier root (calls.GetAttributes handle) credential h =
+    parts_of_getattr layout verifier root handle credential (handle_of (length layout.volumes) handle) refl
 parts_stay layout verifier root call credential h = absurd h
 
-pub works : (s : State) (r : Running) (answer : types.Answer) → s.running ≡ Some r → IsLent s.home s.running → IsReading (call_of r.message.call) → IsAnswer (layout_of s.layout) r.held.root (call_of r.message.call) answer
+pub works : (s : State) (r : Running) (answer : types.Answer) → s.running ≡ Some r → IsLent s.home s.running → IsReading (call_of r.message.call)
+    → IsAnswer (layout_of s.layout) r.held.root (call_of r.message.call) answer
     → Works (worlds.task_of (running_of (layout_of s.layout) r)) (worlds.store_of (world s)) (tasks.Replied (types.Success answer)) (worlds.store_of (world s))
 works s r answer e lent reading h =
     let layout = layout_of s.layout in
@@ -145,7 +156,8 @@ works s r answer e lent reading h =
     let root = kept_by s.home s.running in
     let same : root ≡ r.held.root = kept-lent s.home s.running r lent e in
     let answered : serve (server_of layout s.verifier root) (call_of r.message.call) credential moment ≡ stay (server_of layout s.verifier root) answer =
-    subst (λ (k : NodeAttributes). serve (server_of layout s.verifier k) (call_of r.message.call) credential moment ≡ stay (server_of layout s.verifier k) answer) (sym same) (h s.verifier credential moment) in (
+    subst (λ (k : NodeAttributes). serve (server_of layout s.verifier k) (call_of r.message.call) credential moment ≡ stay
+    (server_of layout s.verifier k) answer) (sym same) (h s.verifier credential moment) in (
       stays_there (worlds.store_of (world s)) (tried (home layout (call_of r.message.call))) r.message.call reading,
       ap (λ (t : Step). t.reply) (sym answered),
       ap (λ (t : Step). t.server) (sym answered),
@@ -154,12 +166,15 @@ works s r answer e lent reading h =
 
 -- ---- Finish
 
-pub may-finish : (s : State) (worker : ℕ) (r : Running) (answer : Answer) → worker ≡ 0 → s.running ≡ Some r → r.answer ≡ Some answer → events.refusal (setup_in s) (world s) (events.Finish worker) ≡ None
+pub may-finish : (s : State) (worker : ℕ) (r : Running) (answer : Answer) → worker ≡ 0 → s.running ≡ Some r → r.answer ≡ Some answer
+    → events.refusal (setup_in s) (world s) (events.Finish worker) ≡ None
 may-finish s worker r answer e f g = rw (e, f, g) refl
 
 -- the world without the worker's message
-pub without-call : (s : State) (worker : ℕ) (r : Running) (running : Option Running) → worker ≡ 0 → s.running ≡ Some r → IsLent s.home s.running → running ≡ None
-    → changes (stamped (world s)) (world s).waiting (worker_of (layout_of s.layout) running ∷ []) (server_of (layout_of s.layout) s.verifier r.held.root) ≡ stamped (without_call (world s) worker)
+pub without-call : (s : State) (worker : ℕ) (r : Running) (running : Option Running) → worker ≡ 0 → s.running ≡ Some r → IsLent s.home s.running
+    → running ≡ None
+    → changes (stamped (world s)) (world s).waiting (worker_of (layout_of s.layout) running ∷ []) (server_of (layout_of s.layout) s.verifier r.held.root)
+    ≡ stamped (without_call (world s) worker)
 without-call s worker r running e some lent none =
     changes-same (stamped (world s)) (world s).waiting (world s).waiting _ _ _ _ refl
     (ap (λ (o : Option Running). worker_of (layout_of s.layout) o ∷ []) none ∙ only-changed (layout_of s.layout) s.running None worker e)

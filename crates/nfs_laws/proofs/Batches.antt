@@ -83,7 +83,8 @@ batch_is range blocks =
     }
 
 -- one of these ranges, or no block
-first_is : (blocks : FinSet nat_cmp) (ranges : List ℕ) (batches : List (List ℕ)) → AllByRecursion (λ xs. (range : ℕ) × IsBatch range xs) batches → (range : ℕ) × IsBatch range (first_filled batches)
+first_is : (blocks : FinSet nat_cmp) (ranges : List ℕ) (batches : List (List ℕ)) → AllByRecursion (λ xs. (range : ℕ) × IsBatch range xs) batches
+    → (range : ℕ) × IsBatch range (first_filled batches)
 first_is blocks ranges [] q = (0, record { few = omega arith; ascending = tt; of_range = tt })
 first_is blocks ranges ([] ∷ batches) q = first_is blocks ranges batches q.1
 first_is blocks ranges ((x ∷ xs) ∷ batches) q = q.0
@@ -94,4 +95,6 @@ all_batches blocks (r ∷ ranges) = ((r, batch_is r blocks), all_batches blocks 
 
 pub lowest_is : (blocks : FinSet nat_cmp) → (range : ℕ) × IsBatch range (lowest_batch blocks)
 unfolding lowest_batch
-lowest_is blocks = first_is blocks (range_with_len 0 most_ranges) (map (λ r. batch r blocks) (range_with_len 0 most_ranges)) (all_batches blocks (range_with_len 0 most_ranges))
+lowest_is blocks =
+    first_is blocks (range_with_len 0 most_ranges) (map (λ r. batch r blocks) (range_with_len 0 most_ranges))
+    (all_batches blocks (range_with_len 0 most_ranges))

@@ -14,7 +14,8 @@ use Rattle.nfs_model.specs.World.{Heard, Setup, World, Connection, Message, IsSc
 use Rattle.nfs_model.specs.Events.Refusals.{takes_input}
 use Rattle.nfs_model.specs.Events.Feed.{stream_in, stream_of, served_count, call_at_once, call_undecoded, admit, heard_in, MayStarveIf}
 use Rattle.nfs_laws.specs.Walk.{Reached, Further, Complete, AtFault, reached_at, reached_by, reached, with_byte, byte_taken, Takes, TakesFault, Walks}
-use Rattle.nfs_model.specs.Headline.{Kept, start, served, messages, tally_finished, server_worked, IsHeard, IsOwnCall, IsOwnMessage, IsOutcome, IsTried, HasRunAsItSays}
+use Rattle.nfs_model.specs.Headline.{Kept, start, served, messages, tally_finished, server_worked, IsHeard, IsOwnCall, IsOwnMessage, IsOutcome, IsTried}
+use Rattle.nfs_model.specs.Headline.{HasRunAsItSays}
 use Rattle.nfs_model.specs.Parts.{one_if}
 use Rattle.nfs_laws.proofs.Lists.{All-push, Some_same, none_is, slice_get-append, slice_get_next, slice_get-changed_at}
 use Rattle.nfs_laws.proofs.Written.{AreLawful-push, server_after-push, replies_finish, until_finish, replies_changed, until_changed, written_stream}
@@ -198,7 +199,8 @@ wait_kept setup w c b number heard a now home h =
 -- it is answered at once, by an entry that changes nothing
 answer_kept : (setup : Setup) (w : World) (c b number : ℕ) (heard : Heard) (e : FinishedCall) (reply : Reply) → IsHeardNow setup w c b number heard
     → e.connection ≡ c → e.number ≡ number → IsOwnCall setup (byte_taken w c b) e
-    → reply ≡ (step_of (done setup w) e).reply → (step_of (done setup w) e).server ≡ done setup w → IsLawful (done setup w) e e.starved → HasRunAsItSays setup e → Kept setup w
+    → reply ≡ (step_of (done setup w) e).reply → (step_of (done setup w) e).server ≡ done setup w → IsLawful (done setup w) e e.starved
+    → HasRunAsItSays setup e → Kept setup w
     → Kept setup (finish setup (byte_taken w c b) e reply)
 answer_kept setup w c b number heard e reply now on_it of_it own right stays lawful ran h =
     let write : Connection → Connection = with_output (setup.codec.reply_record e.xid reply) in

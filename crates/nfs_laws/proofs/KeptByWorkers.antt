@@ -12,7 +12,8 @@ use Rattle.nfs_model.specs.Parts.{Parts}
 use Rattle.nfs_model.specs.Work.{Store, Outcome, Replied, Starved, Moved}
 use Rattle.nfs_model.specs.Events.Refusals.{is_busy}
 use Rattle.nfs_model.specs.Events.Step.{worked, finished_call, without_call, stamped, finished_by}
-use Rattle.nfs_model.specs.Headline.{Kept, start, served, messages, tally_finished, tally_messages, server_worked, worked_by, IsOwnCall, IsOwnMessage, HasRunAsItSays}
+use Rattle.nfs_model.specs.Headline.{Kept, start, served, messages, tally_finished, tally_messages, server_worked, worked_by, IsOwnCall, IsOwnMessage}
+use Rattle.nfs_model.specs.Headline.{HasRunAsItSays}
 use Rattle.nfs_model.specs.Headline.{IsOutcome, IsTried, Apart}
 use Rattle.nfs_model.specs.Parts.{IsPartition}
 use Rattle.nfs_laws.proofs.Lists.{All-get, All-remove, All-push, All-between, All-without, All-there}

@@ -1,6 +1,7 @@
 -- GROW and CENSUS of the admin program (our profile), refusals and want of memory.
 use Rattle.std.proofs.Common.{◌≡◌, true, false, [], ◌∷◌, refl}
-use Rattle.nfs_model.specs.Types.{Census, Grow, Ask, Refused, Undecoded, Success, SystemError, GarbageArguments, CensusDone, GrowDone, NoEntry, Invalid, TooBig, NoSpace}
+use Rattle.nfs_model.specs.Types.{Census, Grow, Ask, Refused, Undecoded, Success, SystemError, GarbageArguments, CensusDone, GrowDone, NoEntry, Invalid}
+use Rattle.nfs_model.specs.Types.{TooBig, NoSpace}
 use Rattle.nfs_model.specs.Serial.Step.{serial}
 use Rattle.nfs_laws.specs.lemmas.Evaluate.{evaluate}
 use Rattle.nfs_rows.proofs.Cases.{start, at, nobody, fails, block_0, file, with_file}

@@ -1,12 +1,14 @@
 -- GETATTR, SETATTR, COMMIT and FSSTAT (RFC 1813 sections 3.3.1, 3.3.2, 3.3.21 and 3.3.18).
 use Rattle.std.proofs.Common.{◌≡◌, true, false, [], ◌∷◌, ◌++◌, replicate, Some, None, refl}
-use Rattle.nfs_model.specs.Types.{ServerTime, ClientTime, Null, Getattr, Setattr, Read, Write, Fsstat, Commit, Ask, Success, NullDone, GetattrDone, SetattrDone, ReadDone, FsstatDone, CommitDone, Invalid, TooBig, Stale, BadHandle, NotSynchronous}
+use Rattle.nfs_model.specs.Types.{ServerTime, ClientTime, Null, Getattr, Setattr, Read, Write, Fsstat, Commit, Ask, Success, NullDone, GetattrDone}
+use Rattle.nfs_model.specs.Types.{SetattrDone, ReadDone, FsstatDone, CommitDone, Invalid, TooBig, Stale, BadHandle, NotSynchronous}
 use Rattle.nfs_model.specs.Server.{handle_bytes}
 use Rattle.nfs_model.specs.Serial.Create.{no_attributes}
 use Rattle.std.specs.FinSet as sets
 use Rattle.nfs_model.specs.Serial.Step.{serial}
 use Rattle.nfs_laws.specs.lemmas.Evaluate.{evaluate}
-use Rattle.nfs_rows.proofs.Cases.{verifier, start, at, nobody, h, root, fails, no_blocks, block_0, file, touched_file, with_file, narrow, root_shown, file_shown, before, changed}
+use Rattle.nfs_rows.proofs.Cases.{verifier, start, at, nobody, h, root, fails, no_blocks, block_0, file, touched_file, with_file, narrow, root_shown}
+use Rattle.nfs_rows.proofs.Cases.{file_shown, before, changed}
 
 -- ---- handles
 
@@ -78,22 +80,27 @@ guard_of_the_touch :
 guard_of_the_touch = simp evaluate refl
 
 guard_comes_before_times :
-    (serial (with_file (file [] no_blocks)) (Ask (Setattr (h 2) (record no_attributes { atime = ClientTime (record { seconds = 1; nanoseconds = 1000000000 }) }) (Some (at 5))) nobody) (at 2) false).reply
+    (serial (with_file (file [] no_blocks)) (Ask
+    (Setattr (h 2) (record no_attributes { atime = ClientTime (record { seconds = 1; nanoseconds = 1000000000 }) }) (Some (at 5))) nobody) (at 2) false).reply
     ≡ fails NotSynchronous 2
 guard_comes_before_times = simp evaluate refl
 
 atime_of_a_whole_second :
-    (serial (with_file (file [] no_blocks)) (Ask (Setattr (h 2) (record no_attributes { atime = ClientTime (record { seconds = 1; nanoseconds = 1000000000 }) }) None) nobody) (at 2) false).reply
+    (serial (with_file (file [] no_blocks)) (Ask
+    (Setattr (h 2) (record no_attributes { atime = ClientTime (record { seconds = 1; nanoseconds = 1000000000 }) }) None) nobody) (at 2) false).reply
     ≡ fails Invalid 2
 atime_of_a_whole_second = simp evaluate refl
 
 mtime_of_a_whole_second :
-    (serial (with_file (file [] no_blocks)) (Ask (Setattr (h 2) (record no_attributes { mtime = ClientTime (record { seconds = 1; nanoseconds = 1000000000 }) }) None) nobody) (at 2) false).reply
+    (serial (with_file (file [] no_blocks)) (Ask
+    (Setattr (h 2) (record no_attributes { mtime = ClientTime (record { seconds = 1; nanoseconds = 1000000000 }) }) None) nobody) (at 2) false).reply
     ≡ fails Invalid 2
 mtime_of_a_whole_second = simp evaluate refl
 
 times_come_before_the_largest_size :
-    (serial (narrow (file [] no_blocks)) (Ask (Setattr (h 2) (record no_attributes { size = Some 9; mtime = ClientTime (record { seconds = 1; nanoseconds = 1000000000 }) }) None) nobody) (at 2) false).reply
+    (serial (narrow (file [] no_blocks)) (Ask
+    (Setattr (h 2) (record no_attributes { size = Some 9; mtime = ClientTime (record { seconds = 1; nanoseconds = 1000000000 }) }) None) nobody)
+    (at 2) false).reply
     ≡ fails Invalid 2
 times_come_before_the_largest_size = simp evaluate refl
 
@@ -135,12 +142,15 @@ owners_are_set :
 owners_are_set = simp evaluate refl
 
 times_of_the_server :
-    (serial (with_file (file [] no_blocks)) (Ask (Setattr (h 2) (record no_attributes { atime = ServerTime; mtime = ServerTime }) None) nobody) (at 2) false).reply
+    (serial (with_file (file [] no_blocks)) (Ask (Setattr (h 2) (record no_attributes { atime = ServerTime; mtime = ServerTime }) None) nobody)
+    (at 2) false).reply
     ≡ Success (SetattrDone (changed (before 0 1 1) (record (file_shown 2 0 0 2 2) { atime = at 2 })))
 times_of_the_server = simp evaluate refl
 
 times_of_the_client :
-    (serial (with_file (file [] no_blocks)) (Ask (Setattr (h 2) (record no_attributes { atime = ClientTime (at 7); mtime = ClientTime (record { seconds = 1; nanoseconds = 999999999 }) }) None) nobody) (at 2) false).reply
+    (serial (with_file (file [] no_blocks)) (Ask
+    (Setattr (h 2) (record no_attributes { atime = ClientTime (at 7); mtime = ClientTime (record { seconds = 1; nanoseconds = 999999999 }) }) None) nobody)
+    (at 2) false).reply
     ≡ Success (SetattrDone (changed (before 0 1 1) (record (file_shown 2 0 0 1 2) { atime = at 7; mtime = record { seconds = 1; nanoseconds = 999999999 } })))
 times_of_the_client = simp evaluate refl
 
@@ -155,7 +165,8 @@ size_as_it_is_sets_mtime :
 size_as_it_is_sets_mtime = simp evaluate refl
 
 mtime_given_beside_a_size :
-    (serial (with_file (file (1 ∷ (2 ∷ (3 ∷ []))) block_0)) (Ask (Setattr (h 2) (record no_attributes { size = Some 1; mtime = ClientTime (at 7) }) None) nobody) (at 2) false).reply
+    (serial (with_file (file (1 ∷ (2 ∷ (3 ∷ []))) block_0))
+    (Ask (Setattr (h 2) (record no_attributes { size = Some 1; mtime = ClientTime (at 7) }) None) nobody) (at 2) false).reply
     ≡ Success (SetattrDone (changed (before 3 1 1) (file_shown 2 1 4096 7 2)))
 mtime_given_beside_a_size = simp evaluate refl
 
@@ -170,22 +181,27 @@ growing_fills_nothing :
 growing_fills_nothing = simp evaluate refl
 
 cut_at_a_block_frees_the_next :
-    (serial (with_file (file (replicate 5000 1) (sets.insert block_0 1))) (Ask (Setattr (h 2) (record no_attributes { size = Some 4096 }) None) nobody) (at 2) false).reply
+    (serial (with_file (file (replicate 5000 1) (sets.insert block_0 1))) (Ask (Setattr (h 2) (record no_attributes { size = Some 4096 }) None) nobody)
+    (at 2) false).reply
     ≡ Success (SetattrDone (changed (before 5000 1 1) (file_shown 2 4096 4096 2 2)))
 cut_at_a_block_frees_the_next = simp evaluate refl
 
 cut_past_a_block_keeps_the_next :
-    (serial (with_file (file (replicate 5000 1) (sets.insert block_0 1))) (Ask (Setattr (h 2) (record no_attributes { size = Some 4097 }) None) nobody) (at 2) false).reply
+    (serial (with_file (file (replicate 5000 1) (sets.insert block_0 1))) (Ask (Setattr (h 2) (record no_attributes { size = Some 4097 }) None) nobody)
+    (at 2) false).reply
     ≡ Success (SetattrDone (changed (before 5000 1 1) (file_shown 2 4097 8192 2 2)))
 cut_past_a_block_keeps_the_next = simp evaluate refl
 
 cut_bytes_are_zero_after_growing :
-    (serial (serial (serial (with_file (file (1 ∷ (2 ∷ (3 ∷ []))) block_0)) (Ask (Setattr (h 2) (record no_attributes { size = Some 1 }) None) nobody) (at 2) false).server (Ask (Setattr (h 2) (record no_attributes { size = Some 4 }) None) nobody) (at 3) false).server (Ask (Read (h 2) 0 9) nobody) (at 4) false).reply
+    (serial (serial (serial (with_file (file (1 ∷ (2 ∷ (3 ∷ []))) block_0)) (Ask (Setattr (h 2) (record no_attributes { size = Some 1 }) None) nobody)
+    (at 2) false).server (Ask (Setattr (h 2) (record no_attributes { size = Some 4 }) None) nobody) (at 3) false).server (Ask (Read (h 2) 0 9) nobody)
+    (at 4) false).reply
     ≡ Success (ReadDone 4 true (1 ∷ replicate 3 0))
 cut_bytes_are_zero_after_growing = simp evaluate refl
 
 settling_ends_the_touch :
-    (serial (serial (serial (with_file (touched_file 9 (1 ∷ []) block_0)) (Ask (Setattr (h 2) (record no_attributes { mode = Some 420 }) None) nobody) (at 11) false).server (Ask (Write (h 2) 0 1 (2 ∷ [])) nobody) (at 10) false).server (Ask (Getattr (h 2)) nobody) (at 12) false).reply
+    (serial (serial (serial (with_file (touched_file 9 (1 ∷ []) block_0)) (Ask (Setattr (h 2) (record no_attributes { mode = Some 420 }) None) nobody)
+    (at 11) false).server (Ask (Write (h 2) 0 1 (2 ∷ [])) nobody) (at 10) false).server (Ask (Getattr (h 2)) nobody) (at 12) false).reply
     ≡ Success (GetattrDone (file_shown 2 1 4096 10 10))
 settling_ends_the_touch = simp evaluate refl
 

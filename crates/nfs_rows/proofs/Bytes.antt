@@ -5,7 +5,8 @@ use Rattle.nfs_model.specs.Shown.{touched}
 use Rattle.nfs_model.specs.Serial.Write.{blocks_met, write_fault}
 use Rattle.nfs_model.specs.Serial.Step.{serial}
 use Rattle.nfs_laws.specs.lemmas.Evaluate.{evaluate}
-use Rattle.nfs_rows.proofs.Cases.{verifier, start, at, nobody, h, root, fails, a, write_at, entry, no_blocks, block_0, file, touched_file, root_with, volume_with, small, with_file, narrow, tight, file_shown}
+use Rattle.nfs_rows.proofs.Cases.{verifier, start, at, nobody, h, root, fails, a, write_at, entry, no_blocks, block_0, file, touched_file, root_with}
+use Rattle.nfs_rows.proofs.Cases.{volume_with, small, with_file, narrow, tight, file_shown}
 
 -- ---- READ
 
@@ -65,7 +66,8 @@ read_of_an_empty_file :
 read_of_an_empty_file = simp evaluate refl
 
 read_leaves_atime :
-    (serial (serial (with_file (file (1 ∷ (2 ∷ (3 ∷ []))) block_0)) (Ask (Read (h 2) 0 3) nobody) (at 5) false).server (Ask (Getattr (h 2)) nobody) (at 6) false).reply
+    (serial (serial (with_file (file (1 ∷ (2 ∷ (3 ∷ []))) block_0)) (Ask (Read (h 2) 0 3) nobody) (at 5) false).server (Ask (Getattr (h 2)) nobody)
+    (at 6) false).reply
     ≡ Success (GetattrDone (file_shown 2 3 4096 1 1))
 read_leaves_atime = simp evaluate refl
 
@@ -152,12 +154,14 @@ write_over_two_blocks_with_one_left :
 write_over_two_blocks_with_one_left = simp evaluate refl
 
 write_over_two_blocks_with_two_left :
-    (serial (serial (tight (file [] no_blocks) (file [] no_blocks)) (Ask (write_at 3 4095 (7 ∷ (8 ∷ []))) nobody) (at 9) false).server (Ask (Getattr (h 3)) nobody) (at 10) false).reply
+    (serial (serial (tight (file [] no_blocks) (file [] no_blocks)) (Ask (write_at 3 4095 (7 ∷ (8 ∷ []))) nobody) (at 9) false).server
+    (Ask (Getattr (h 3)) nobody) (at 10) false).reply
     ≡ Success (GetattrDone (file_shown 3 4097 8192 9 9))
 write_over_two_blocks_with_two_left = simp evaluate refl
 
 write_over_two_blocks_of_which_one_is_filled :
-    (serial (serial (tight (file (1 ∷ []) block_0) (file [] no_blocks)) (Ask (write_at 2 4095 (7 ∷ (8 ∷ []))) nobody) (at 9) false).server (Ask (Getattr (h 2)) nobody) (at 10) false).reply
+    (serial (serial (tight (file (1 ∷ []) block_0) (file [] no_blocks)) (Ask (write_at 2 4095 (7 ∷ (8 ∷ []))) nobody) (at 9) false).server
+    (Ask (Getattr (h 2)) nobody) (at 10) false).reply
     ≡ Success (GetattrDone (file_shown 2 4097 8192 9 9))
 write_over_two_blocks_of_which_one_is_filled = simp evaluate refl
 
@@ -167,54 +171,64 @@ overwrite_needs_no_space :
 overwrite_needs_no_space = simp evaluate refl
 
 refused_write_changes_nothing :
-    (serial (serial (tight (file (1 ∷ []) block_0) (file (1 ∷ []) block_0)) (Ask (write_at 2 4096 (7 ∷ [])) nobody) (at 9) false).server (Ask (Getattr (h 2)) nobody) (at 10) false).reply
+    (serial (serial (tight (file (1 ∷ []) block_0) (file (1 ∷ []) block_0)) (Ask (write_at 2 4096 (7 ∷ [])) nobody) (at 9) false).server
+    (Ask (Getattr (h 2)) nobody) (at 10) false).reply
     ≡ Success (GetattrDone (file_shown 2 1 4096 1 1))
 refused_write_changes_nothing = simp evaluate refl
 
 -- ---- WRITE: what it does
 
 written_bytes_are_read :
-    (serial (serial (with_file (file (1 ∷ (2 ∷ (3 ∷ []))) block_0)) (Ask (write_at 2 1 (7 ∷ [])) nobody) (at 9) false).server (Ask (Read (h 2) 0 9) nobody) (at 10) false).reply
+    (serial (serial (with_file (file (1 ∷ (2 ∷ (3 ∷ []))) block_0)) (Ask (write_at 2 1 (7 ∷ [])) nobody) (at 9) false).server (Ask (Read (h 2) 0 9) nobody)
+    (at 10) false).reply
     ≡ Success (ReadDone 3 true (1 ∷ (7 ∷ (3 ∷ []))))
 written_bytes_are_read = simp evaluate refl
 
 write_past_the_end_leaves_a_hole :
-    (serial (serial (with_file (file (1 ∷ (2 ∷ (3 ∷ []))) block_0)) (Ask (write_at 2 5 (7 ∷ [])) nobody) (at 9) false).server (Ask (Read (h 2) 0 9) nobody) (at 10) false).reply
+    (serial (serial (with_file (file (1 ∷ (2 ∷ (3 ∷ []))) block_0)) (Ask (write_at 2 5 (7 ∷ [])) nobody) (at 9) false).server (Ask (Read (h 2) 0 9) nobody)
+    (at 10) false).reply
     ≡ Success (ReadDone 6 true (1 ∷ (2 ∷ (3 ∷ (0 ∷ (0 ∷ (7 ∷ [])))))))
 write_past_the_end_leaves_a_hole = simp evaluate refl
 
 write_sets_mtime_and_ctime :
-    (serial (serial (with_file (file (1 ∷ (2 ∷ (3 ∷ []))) block_0)) (Ask (write_at 2 1 (7 ∷ [])) nobody) (at 9) false).server (Ask (Getattr (h 2)) nobody) (at 10) false).reply
+    (serial (serial (with_file (file (1 ∷ (2 ∷ (3 ∷ []))) block_0)) (Ask (write_at 2 1 (7 ∷ [])) nobody) (at 9) false).server (Ask (Getattr (h 2)) nobody)
+    (at 10) false).reply
     ≡ Success (GetattrDone (file_shown 2 3 4096 9 9))
 write_sets_mtime_and_ctime = simp evaluate refl
 
 hole_uses_no_block :
-    (serial (serial (with_file (file [] no_blocks)) (Ask (write_at 2 8192 (7 ∷ [])) nobody) (at 9) false).server (Ask (Getattr (h 2)) nobody) (at 10) false).reply
+    (serial (serial (with_file (file [] no_blocks)) (Ask (write_at 2 8192 (7 ∷ [])) nobody) (at 9) false).server (Ask (Getattr (h 2)) nobody)
+    (at 10) false).reply
     ≡ Success (GetattrDone (file_shown 2 8193 4096 9 9))
 hole_uses_no_block = simp evaluate refl
 
 later_touch_stands :
-    (serial (serial (with_file (touched_file 9 (1 ∷ []) block_0)) (Ask (write_at 2 0 (7 ∷ [])) nobody) (at 5) false).server (Ask (Getattr (h 2)) nobody) (at 10) false).reply
+    (serial (serial (with_file (touched_file 9 (1 ∷ []) block_0)) (Ask (write_at 2 0 (7 ∷ [])) nobody) (at 5) false).server (Ask (Getattr (h 2)) nobody)
+    (at 10) false).reply
     ≡ Success (GetattrDone (file_shown 2 1 4096 9 9))
 later_touch_stands = simp evaluate refl
 
 earlier_touch_goes :
-    (serial (serial (with_file (touched_file 9 (1 ∷ []) block_0)) (Ask (write_at 2 0 (7 ∷ [])) nobody) (at 10) false).server (Ask (Getattr (h 2)) nobody) (at 10) false).reply
+    (serial (serial (with_file (touched_file 9 (1 ∷ []) block_0)) (Ask (write_at 2 0 (7 ∷ [])) nobody) (at 10) false).server (Ask (Getattr (h 2)) nobody)
+    (at 10) false).reply
     ≡ Success (GetattrDone (file_shown 2 1 4096 10 10))
 earlier_touch_goes = simp evaluate refl
 
 first_touch_may_be_earlier_than_the_stored_times :
-    (serial (serial (with_file (file (1 ∷ (2 ∷ (3 ∷ []))) block_0)) (Ask (write_at 2 0 (7 ∷ [])) nobody) (at 0) false).server (Ask (Getattr (h 2)) nobody) (at 10) false).reply
+    (serial (serial (with_file (file (1 ∷ (2 ∷ (3 ∷ []))) block_0)) (Ask (write_at 2 0 (7 ∷ [])) nobody) (at 0) false).server (Ask (Getattr (h 2)) nobody)
+    (at 10) false).reply
     ≡ Success (GetattrDone (file_shown 2 3 4096 0 0))
 first_touch_may_be_earlier_than_the_stored_times = simp evaluate refl
 
 count_over_65536_is_cut :
-    (serial (small 1024 65536 3 ((1, root_with 4 (entry 3 a 2 ∷ [])) ∷ ((2, file [] no_blocks) ∷ []))) (Ask (Write (h 2) 0 70000 (replicate 70000 7)) nobody) (at 9) false).reply
+    (serial (small 1024 65536 3 ((1, root_with 4 (entry 3 a 2 ∷ [])) ∷ ((2, file [] no_blocks) ∷ []))) (Ask (Write (h 2) 0 70000 (replicate 70000 7)) nobody)
+    (at 9) false).reply
     ≡ Success (WriteDone 65536 verifier)
 count_over_65536_is_cut = simp evaluate refl
 
 cut_count_is_what_has_to_fit :
-    (serial (small 1024 65536 3 ((1, root_with 4 (entry 3 a 2 ∷ [])) ∷ ((2, file [] no_blocks) ∷ []))) (Ask (Write (h 2) 1 70000 (replicate 70000 7)) nobody) (at 9) false).reply
+    (serial (small 1024 65536 3 ((1, root_with 4 (entry 3 a 2 ∷ [])) ∷ ((2, file [] no_blocks) ∷ []))) (Ask (Write (h 2) 1 70000 (replicate 70000 7)) nobody)
+    (at 9) false).reply
     ≡ fails TooBig 2
 cut_count_is_what_has_to_fit = simp evaluate refl
 
@@ -234,11 +248,14 @@ last_byte_of_a_block_and_the_next_meet_two = refl
 
 -- ---- the later of two moments
 
-same_second_goes_by_nanoseconds : touched (Some (record { seconds = 9; nanoseconds = 5 })) (record { seconds = 9; nanoseconds = 3 }) ≡ record { seconds = 9; nanoseconds = 5 }
+same_second_goes_by_nanoseconds : touched (Some (record { seconds = 9; nanoseconds = 5 })) (record { seconds = 9; nanoseconds = 3 })
+    ≡ record { seconds = 9; nanoseconds = 5 }
 same_second_goes_by_nanoseconds = refl
 
-later_nanosecond_stands : touched (Some (record { seconds = 9; nanoseconds = 3 })) (record { seconds = 9; nanoseconds = 5 }) ≡ record { seconds = 9; nanoseconds = 5 }
+later_nanosecond_stands : touched (Some (record { seconds = 9; nanoseconds = 3 })) (record { seconds = 9; nanoseconds = 5 })
+    ≡ record { seconds = 9; nanoseconds = 5 }
 later_nanosecond_stands = refl
 
-later_second_stands : touched (Some (record { seconds = 9; nanoseconds = 5 })) (record { seconds = 10; nanoseconds = 3 }) ≡ record { seconds = 10; nanoseconds = 3 }
+later_second_stands : touched (Some (record { seconds = 9; nanoseconds = 5 })) (record { seconds = 10; nanoseconds = 3 })
+    ≡ record { seconds = 10; nanoseconds = 3 }
 later_second_stands = refl

@@ -4,7 +4,8 @@ use Rattle.std.specs.Ordering.{nat_cmp}
 use Rattle.std.specs.FinMap.{from_sorted}
 use Rattle.std.specs.FinSet.{FinSet}
 use Rattle.std.specs.FinSet as sets
-use Rattle.nfs_model.specs.Types.{Moment, Credential, Call, Create, Mkdir, Write, Unchecked, Reply, Success, Failed, Status, Shown, Regular, Folder, Before, Wcc, Listed, SetAttributes}
+use Rattle.nfs_model.specs.Types.{Moment, Credential, Call, Create, Mkdir, Write, Unchecked, Reply, Success, Failed, Status, Shown, Regular, Folder, Before}
+use Rattle.nfs_model.specs.Types.{Wcc, Listed, SetAttributes}
 use Rattle.nfs_model.specs.Tree.{Layout, VolumeLayout}
 use Rattle.nfs_model.specs.Server.{Attributes, Node, File, Directory, VolumeState, Server, opening, opening_volume, handle_bytes}
 use Rattle.nfs_model.specs.Serial.Create.{no_attributes}
@@ -112,11 +113,18 @@ directory parent next list = Directory (record { attributes = record stored { mo
 
 -- the root, changed at 1 second
 abbrev pub root_with : ℕ → List Listed → Node
-root_with next list = Directory (record { attributes = record { mode = 493; uid = 0; gid = 0; atime = at 0; mtime = at 1; ctime = at 1 }; parent = 1; next = next; list = list })
+root_with next list =
+    Directory (record {
+      attributes = record { mode = 493; uid = 0; gid = 0; atime = at 0; mtime = at 1; ctime = at 1 };
+      parent = 1;
+      next = next;
+      list = list;
+    })
 
 -- volume 0 of so many blocks, with files of so many bytes at most, by its next fileid and its nodes
 abbrev pub volume_with : ℕ → ℕ → ℕ → List (ℕ × Node) → VolumeState
-volume_with total largest next nodes = record { number = 0; aggregate = 0; total = total; largest = largest; verifier = verifier; next = next; nodes = from_sorted nodes }
+volume_with total largest next nodes =
+    record { number = 0; aggregate = 0; total = total; largest = largest; verifier = verifier; next = next; nodes = from_sorted nodes }
 
 -- a server of that volume, and of another as it begins
 abbrev pub small : ℕ → ℕ → ℕ → List (ℕ × Node) → Server
@@ -150,15 +158,60 @@ tight first second = small 2 16777216 4 ((1, root_with 5 (entry 3 a 2 ∷ (entry
 
 -- the root of volume 0, with so many links, changed at so many seconds
 abbrev pub root_shown : ℕ → ℕ → Shown
-root_shown links seconds = record { kind = Folder; mode = 493; links = links; uid = 0; gid = 0; size = 4096; used = 0; fsid = 0; fileid = 1; atime = at 0; mtime = at seconds; ctime = at seconds }
+root_shown links seconds =
+    record {
+      kind = Folder;
+      mode = 493;
+      links = links;
+      uid = 0;
+      gid = 0;
+      size = 4096;
+      used = 0;
+      fsid = 0;
+      fileid = 1;
+      atime = at 0;
+      mtime = at seconds;
+      ctime
+          = at seconds;
+    }
 
 -- a directory that nobody made
 abbrev pub directory_shown : ℕ → ℕ → ℕ → Shown
-directory_shown fileid links seconds = record { kind = Folder; mode = 493; links = links; uid = 65534; gid = 65534; size = 4096; used = 0; fsid = 0; fileid = fileid; atime = at seconds; mtime = at seconds; ctime = at seconds }
+directory_shown fileid links seconds =
+    record {
+      kind = Folder;
+      mode = 493;
+      links = links;
+      uid = 65534;
+      gid = 65534;
+      size = 4096;
+      used = 0;
+      fsid = 0;
+      fileid = fileid;
+      atime = at seconds;
+      mtime
+          = at seconds;
+      ctime = at seconds;
+    }
 
 -- a file that nobody made, at 1 second
 abbrev pub file_shown : ℕ → ℕ → ℕ → ℕ → ℕ → Shown
-file_shown fileid size used mtime ctime = record { kind = Regular; mode = 420; links = 1; uid = 65534; gid = 65534; size = size; used = used; fsid = 0; fileid = fileid; atime = at 1; mtime = at mtime; ctime = at ctime }
+file_shown fileid size used mtime ctime =
+    record {
+      kind = Regular;
+      mode = 420;
+      links = 1;
+      uid = 65534;
+      gid = 65534;
+      size = size;
+      used = used;
+      fsid = 0;
+      fileid = fileid;
+      atime = at 1;
+      mtime = at
+          mtime;
+      ctime = at ctime;
+    }
 
 abbrev pub before : ℕ → ℕ → ℕ → Before
 before size mtime ctime = record { size = size; mtime = at mtime; ctime = at ctime }

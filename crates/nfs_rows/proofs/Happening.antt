@@ -9,7 +9,8 @@ use Rattle.nfs_model.specs.Parts.{Parts, Hand, Empty, Fresh, Dead}
 use Rattle.nfs_model.specs.Work.{Outcome, Starved, Moved}
 use Rattle.nfs_model.specs.World.{Setup, World, Connection, Message, Running, Worker, counts_of}
 use Rattle.nfs_model.specs.Headline.{opening_world}
-use Rattle.nfs_model.specs.Events.Refusals.{Open, Feed, Close, Begin, Work, Finish, Fetch, Cull, PutDown, Survey, Opened, Fed, IsClosed, Granted, HasMove, IsStarved, Written, IsBack, HasPut, refusal, may_lack_memory}
+use Rattle.nfs_model.specs.Events.Refusals.{Open, Feed, Close, Begin, Work, Finish, Fetch, Cull, PutDown, Survey, Opened, Fed, IsClosed, Granted, HasMove}
+use Rattle.nfs_model.specs.Events.Refusals.{IsStarved, Written, IsBack, HasPut, refusal, may_lack_memory}
 use Rattle.nfs_model.specs.Events.Step.{Events, Happens, new_connection}
 use Rattle.nfs_laws.specs.lemmas.Evaluate.{evaluate}
 use Rattle.nfs_rows.proofs.Cases.{layout, verifier, at, holding, with_file, file, no_blocks}
@@ -64,13 +65,15 @@ worn w = record w { stamps = 2 ^ 62 }
 first_connection_is_0 : Events setup (opening_world setup) Open (Ok (Opened 0)) (record (opening_world setup) { connections = new_connection ∷ [] })
 first_connection_is_0 = (refl, (refl, refl))
 
-number_of_a_closed_connection_is_not_given_again : Happens setup (record opened { connections = record (heard []) { closed = Some 0 } ∷ [] }) Open (Opened 1) (record opened { connections = record (heard []) { closed = Some 0 } ∷ (new_connection ∷ []) })
+number_of_a_closed_connection_is_not_given_again : Happens setup (record opened { connections = record (heard []) { closed = Some 0 } ∷ [] }) Open (Opened 1)
+    (record opened { connections = record (heard []) { closed = Some 0 } ∷ (new_connection ∷ []) })
 number_of_a_closed_connection_is_not_given_again = (refl, refl)
 
 sixty_four_connections_are_all : refusal setup (record opened { connections = replicate 64 new_connection }) Open ≡ Some 31
 sixty_four_connections_are_all = refl
 
-closed_connections_do_not_count : refusal setup (record opened { connections = record (heard []) { closed = Some 0 } ∷ replicate 63 new_connection }) Open ≡ None
+closed_connections_do_not_count : refusal setup (record opened { connections = record (heard []) { closed = Some 0 } ∷ replicate 63 new_connection }) Open
+    ≡ None
 closed_connections_do_not_count = refl
 
 -- a connection on which one call was answered
@@ -116,28 +119,59 @@ first_alone P p zero l = p
 first_alone P p (suc n) l = absurd (omega (arith, l))
 
 null_as_the_1025th_record_waits_for_a_place : Happens setup crowded (Feed 0 (7 ∷ [])) (Fed 0 31) crowded
-null_as_the_1025th_record_waits_for_a_place = (0, 31, refl, record { within = omega arith; sound = none_before _; heard = []; complete = refl; hears = refl; stops = inr (inl (refl, refl)) })
+null_as_the_1025th_record_waits_for_a_place =
+    (0, 31, refl, record { within = omega arith; sound = none_before _; heard = []; complete = refl; hears = refl; stops = inr (inl (refl, refl)) })
 
 fault_of_a_record_waits_for_a_place : Happens setup crowded (Feed 0 (255 ∷ [])) (Fed 0 31) crowded
-fault_of_a_record_waits_for_a_place = (0, 31, refl, record { within = omega arith; sound = none_before _; heard = []; complete = refl; hears = refl; stops = inr (inl (refl, refl)) })
+fault_of_a_record_waits_for_a_place =
+    (0, 31, refl, record { within = omega arith; sound = none_before _; heard = []; complete = refl; hears = refl; stops = inr (inl (refl, refl)) })
 
 -- a running call takes a place too
-running_calls_take_places : Happens setup (waiting (replicate 1023 (message 200 (Logical 0))) (with_workers (runs (begun 200 (Logical 0))) idle)) (Feed 0 (7 ∷ [])) (Fed 0 31)
+running_calls_take_places : Happens setup (waiting (replicate 1023 (message 200 (Logical 0))) (with_workers (runs (begun 200 (Logical 0))) idle))
+    (Feed 0 (7 ∷ [])) (Fed 0 31)
     (waiting (replicate 1023 (message 200 (Logical 0))) (with_workers (runs (begun 200 (Logical 0))) idle))
-running_calls_take_places = (0, 31, refl, record { within = omega arith; sound = none_before _; heard = []; complete = refl; hears = refl; stops = inr (inl (refl, refl)) })
+running_calls_take_places =
+    (0, 31, refl, record { within = omega arith; sound = none_before _; heard = []; complete = refl; hears = refl; stops = inr (inl (refl, refl)) })
 
 fault_of_a_header_needs_no_place : Happens setup crowded (Feed 0 (250 ∷ (7 ∷ []))) (Fed 1 11) (record crowded { connections = heard (250 ∷ []) ∷ [] })
-fault_of_a_header_needs_no_place = (1, 11, refl, record { within = omega arith; sound = first_alone _ refl; heard = []; complete = refl; hears = refl; stops = (refl, refl) })
+fault_of_a_header_needs_no_place =
+    (1, 11, refl, record { within = omega arith; sound = first_alone _ refl; heard = []; complete = refl; hears = refl; stops = (refl, refl) })
 
 want_of_memory_stops_a_feed : Happens setup opened (Feed 0 (7 ∷ [])) (Fed 0 90) opened
-want_of_memory_stops_a_feed = (0, 90, refl, record { within = omega arith; sound = none_before _; heard = []; complete = refl; hears = refl; stops = inr (inr (refl, (λ e. let k : (7 ∷ []) ≡ [] = e in absurd cc), refl)) })
+want_of_memory_stops_a_feed = (
+  0,
+  90,
+  refl,
+  record {
+    within = omega arith;
+    sound = none_before _;
+    heard = [];
+    complete = refl;
+    hears = refl;
+    stops = inr
+        (inr (refl, (λ e. let k : (7 ∷ []) ≡ [] = e in absurd cc), refl));
+  },
+)
 
 -- a name that there is no memory for: the call is finished at once, and isn't known
 starved_decoding_is_finished_at_once : Happens setup opened (Feed 0 (206 ∷ [])) (Fed 1 0) (record opened {
   connections = record (heard (206 ∷ [])) { output = 206 ∷ [] } ∷ [];
   finished = record { connection = 0; number = 0; xid = 206; asked = Undecoded; affinity = None; moment = start_of_times; starved = true } ∷ [];
 })
-starved_decoding_is_finished_at_once = (1, 0, refl, record { within = omega arith; sound = first_alone _ refl; heard = record { xid = 206; asked = asked 206 } ∷ []; complete = refl; hears = (refl, (true, refl, refl)); stops = inl (refl, refl) })
+starved_decoding_is_finished_at_once = (
+  1,
+  0,
+  refl,
+  record {
+    within = omega arith;
+    sound = first_alone _ refl;
+    heard = record { xid = 206; asked = asked 206 } ∷ [];
+    complete = refl;
+    hears =
+        (refl, (true, refl, refl));
+    stops = inl (refl, refl);
+  },
+)
 
 -- two records of one feed, under numbers that follow one another
 records_are_numbered_in_order : Happens setup opened (Feed 0 (7 ∷ (200 ∷ []))) (Fed 2 0) (record opened {
@@ -208,10 +242,12 @@ census_is_excluded : refusal setup read_runs (Begin 1 2 (at 1)) ≡ Some 21
 census_is_excluded = refl
 
 getattr_of_the_other_volume_begins : Events setup read_runs (Begin 1 1 (at 2)) (Ok (Granted (Logical 1)))
-    (waiting (message 202 (Volume 0) ∷ (message 204 Serial ∷ [])) (with_workers (runs (begun 201 (Stripe 0 2))) (runs (record (begun 203 (Logical 1)) { moment = at 2 }))))
+    (waiting (message 202 (Volume 0) ∷ (message 204 Serial ∷ []))
+    (with_workers (runs (begun 201 (Stripe 0 2))) (runs (record (begun 203 (Logical 1)) { moment = at 2 }))))
 getattr_of_the_other_volume_begins = (refl, (message 203 (Logical 1), refl, refl, refl))
 
-two_stripes_of_a_volume_run_at_one_time : refusal setup (waiting (message 205 (Stripe 0 3) ∷ []) (with_workers (runs (begun 201 (Stripe 0 2))) idle)) (Begin 1 0 (at 1)) ≡ None
+two_stripes_of_a_volume_run_at_one_time : refusal setup (waiting (message 205 (Stripe 0 3) ∷ []) (with_workers (runs (begun 201 (Stripe 0 2))) idle))
+    (Begin 1 0 (at 1)) ≡ None
 two_stripes_of_a_volume_run_at_one_time = refl
 
 -- ---- Work and Finish
@@ -240,27 +276,32 @@ write_in_its_stripe_moves : Happens setup (empty_file (with_workers (runs (begun
 write_in_its_stripe_moves = (_, begun 205 (Stripe 0 2), Moved (Logical 0), _, refl, refl, (simp evaluate refl, refl), refl, refl)
 
 -- it waits again, behind the others, and is neither finished nor stamped
-moved_call_waits_again : Events setup (waiting (message 200 (Logical 0) ∷ []) (with_workers (runs (came_to (Moved (Logical 0)) (begun 205 (Stripe 0 2)))) idle)) (Finish 0) (Ok IsBack)
+moved_call_waits_again : Events setup (waiting (message 200 (Logical 0) ∷ [])
+    (with_workers (runs (came_to (Moved (Logical 0)) (begun 205 (Stripe 0 2)))) idle)) (Finish 0) (Ok IsBack)
     (waiting (message 200 (Logical 0) ∷ (message 205 (Logical 0) ∷ [])) (with_workers idle idle))
 moved_call_waits_again = (refl, (_, _, _, refl, refl, refl, refl, refl))
 
 -- READDIR may lack memory: nothing changes
-starved_work_changes_nothing : Happens setup (with_workers (runs (begun 207 (Logical 0))) idle) (Work 0) IsStarved (with_workers (runs (came_to Starved (begun 207 (Logical 0)))) idle)
+starved_work_changes_nothing : Happens setup (with_workers (runs (begun 207 (Logical 0))) idle) (Work 0) IsStarved
+    (with_workers (runs (came_to Starved (begun 207 (Logical 0)))) idle)
 starved_work_changes_nothing = (_, begun 207 (Logical 0), Starved, _, refl, refl, (refl, simp evaluate refl, refl), refl, refl)
 
-starved_call_is_finished : Events setup (with_workers (runs (came_to Starved (begun 207 (Logical 0)))) idle) (Finish 0) (Ok (Written 0 1)) (record (with_workers idle idle) {
-  connections = record (heard []) { output = 207 ∷ [] } ∷ [];
-  finished = record { connection = 0; number = 0; xid = 207; asked = asked 207; affinity = Some (Logical 0); moment = at 1; starved = true } ∷ [];
-  stamps = 1;
-})
+starved_call_is_finished : Events setup (with_workers (runs (came_to Starved (begun 207 (Logical 0)))) idle) (Finish 0) (Ok (Written 0 1))
+    (record (with_workers idle idle) {
+      connections = record (heard []) { output = 207 ∷ [] } ∷ [];
+      finished = record { connection = 0; number = 0; xid = 207; asked = asked 207; affinity = Some (Logical 0); moment = at 1; starved = true } ∷ [];
+      stamps = 1;
+    })
 starved_call_is_finished = (refl, (_, _, _, refl, refl, refl, refl, refl))
 
 -- Close, then Finish: finished and stamped, and nothing is written
-finish_after_close_writes_nothing : Events setup (record (with_workers (runs (came_to Starved (begun 207 (Logical 0)))) idle) { connections = record (heard []) { closed = Some 0 } ∷ [] }) (Finish 0) (Ok (Written 0 0)) (record (with_workers idle idle) {
-  connections = record (heard []) { closed = Some 0 } ∷ [];
-  finished = record { connection = 0; number = 0; xid = 207; asked = asked 207; affinity = Some (Logical 0); moment = at 1; starved = true } ∷ [];
-  stamps = 1;
-})
+finish_after_close_writes_nothing : Events setup
+    (record (with_workers (runs (came_to Starved (begun 207 (Logical 0)))) idle) { connections = record (heard []) { closed = Some 0 } ∷ [] }) (Finish 0)
+    (Ok (Written 0 0)) (record (with_workers idle idle) {
+      connections = record (heard []) { closed = Some 0 } ∷ [];
+      finished = record { connection = 0; number = 0; xid = 207; asked = asked 207; affinity = Some (Logical 0); moment = at 1; starved = true } ∷ [];
+      stamps = 1;
+    })
 finish_after_close_writes_nothing = (refl, (_, _, _, refl, refl, refl, refl, refl))
 
 -- ---- Fetch, Cull, PutDown and Survey: the refusals in order
@@ -354,9 +395,18 @@ parts p w = record w { parts = p ∷ [] }
 -- a batch put down leaves the hand, and is stamped
 batch_is_put_down : Happens setup (parts (record { files = empty; stock = empty; dead = empty; free = empty }) full_hand) (PutDown 0) (HasPut 1)
     (record (parts (record { files = empty; stock = union empty (from_list (3 ∷ [])); dead = empty; free = empty }) (with_workers idle idle)) { stamps = 1 })
-batch_is_put_down = (record { parts = record { files = empty; stock = empty; dead = empty; free = empty }; hand = Fresh 0 (3 ∷ []) }, _, 1, (_, refl, refl, refl), (refl, refl), refl, refl)
+batch_is_put_down = (
+  record { parts = record { files = empty; stock = empty; dead = empty; free = empty }; hand = Fresh 0 (3 ∷ []) },
+  _,
+  1,
+  (_, refl, refl, refl),
+  (refl, refl),
+  refl,
+  refl,
+)
 
-hands_are_counted : counts_of (record (parts (record { files = empty; stock = empty; dead = empty; free = empty }) full_hand) { server = holding 2 [] }) 0 ≡ Some (record { files = 0; stock = 0; dead = 0; free = 0; hands = 1; total = 1024 })
+hands_are_counted : counts_of (record (parts (record { files = empty; stock = empty; dead = empty; free = empty }) full_hand) { server = holding 2 [] }) 0
+    ≡ Some (record { files = 0; stock = 0; dead = 0; free = 0; hands = 1; total = 1024 })
 hands_are_counted = simp evaluate refl
 
 -- ---- want of memory

@@ -1,13 +1,15 @@
 -- The home of a call, exclusion, and which calls may lack memory (our profile).
 use Rattle.std.proofs.Common.{◌≡◌, true, false, [], ◌∷◌, replicate, Some, None, refl}
-use Rattle.nfs_model.specs.Types.{Unchecked, Guarded, Exclusive, Null, Getattr, Setattr, Lookup, Read, Write, Create, Mkdir, Remove, Rmdir, Rename, Readdir, Fsstat, Commit, Census, Grow, Ask, Refused, GarbageArguments}
+use Rattle.nfs_model.specs.Types.{Unchecked, Guarded, Exclusive, Null, Getattr, Setattr, Lookup, Read, Write, Create, Mkdir, Remove, Rmdir, Rename, Readdir}
+use Rattle.nfs_model.specs.Types.{Fsstat, Commit, Census, Grow, Ask, Refused, GarbageArguments}
 use Rattle.nfs_model.specs.Tree.{Serial, Aggregate, Volume, Logical, Stripe, Vbn, Range, excludes}
 use Rattle.nfs_model.specs.Home.{home, home_of_asked}
 use Rattle.nfs_model.specs.Serial.Starve.{may_starve_at_decoding, may_starve_later}
 use Rattle.nfs_model.specs.Server.{handle_bytes}
 use Rattle.nfs_model.specs.Serial.Create.{no_attributes}
 use Rattle.nfs_laws.specs.lemmas.Evaluate.{evaluate}
-use Rattle.nfs_rows.proofs.Cases.{one_range, layout, start, at, nobody, h, root, a, b, d, x, write_at, sized, entry, no_blocks, block_0, file, exclusive_file, directory, root_with, holding, with_file, tight}
+use Rattle.nfs_rows.proofs.Cases.{one_range, layout, start, at, nobody, h, root, a, b, d, x, write_at, sized, entry, no_blocks, block_0, file, exclusive_file}
+use Rattle.nfs_rows.proofs.Cases.{directory, root_with, holding, with_file, tight}
 
 getattr_is_of_logical : home layout (Getattr root) ≡ Some (Logical 0)
 getattr_is_of_logical = refl
@@ -256,7 +258,8 @@ write_that_fills_may_starve = simp evaluate refl
 overwrite_may_not : may_starve_later (with_file (file (1 ∷ (2 ∷ (3 ∷ []))) block_0)) (Ask (write_at 2 0 (1 ∷ [])) nobody) (at 1) ≡ false
 overwrite_may_not = simp evaluate refl
 
-extending_write_that_fills_nothing_may_not : may_starve_later (with_file (file (1 ∷ (2 ∷ (3 ∷ []))) block_0)) (Ask (write_at 2 3 (1 ∷ [])) nobody) (at 1) ≡ false
+extending_write_that_fills_nothing_may_not : may_starve_later (with_file (file (1 ∷ (2 ∷ (3 ∷ []))) block_0)) (Ask (write_at 2 3 (1 ∷ [])) nobody) (at 1)
+    ≡ false
 extending_write_that_fills_nothing_may_not = simp evaluate refl
 
 write_of_nothing_may_not : may_starve_later (with_file (file [] no_blocks)) (Ask (write_at 2 0 []) nobody) (at 1) ≡ false
@@ -304,7 +307,8 @@ lookup_may_not_starve = simp evaluate refl
 remove_may_not_starve : may_starve_later (with_file (file (1 ∷ (2 ∷ (3 ∷ []))) block_0)) (Ask (Remove root a) nobody) (at 1) ≡ false
 remove_may_not_starve = simp evaluate refl
 
-rmdir_may_not_starve : may_starve_later (holding 3 ((1, root_with 4 (entry 3 d 2 ∷ [])) ∷ ((2, directory 1 3 []) ∷ []))) (Ask (Rmdir root d) nobody) (at 1) ≡ false
+rmdir_may_not_starve : may_starve_later (holding 3 ((1, root_with 4 (entry 3 d 2 ∷ [])) ∷ ((2, directory 1 3 []) ∷ []))) (Ask (Rmdir root d) nobody) (at 1)
+    ≡ false
 rmdir_may_not_starve = simp evaluate refl
 
 fsstat_may_not_starve : may_starve_later start (Ask (Fsstat root) nobody) (at 1) ≡ false

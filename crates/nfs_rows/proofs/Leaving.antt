@@ -1,6 +1,7 @@
 -- REMOVE and RMDIR (RFC 1813 sections 3.3.12 and 3.3.13).
 use Rattle.std.proofs.Common.{◌≡◌, false, [], ◌∷◌, replicate, refl}
-use Rattle.nfs_model.specs.Types.{Getattr, Lookup, Remove, Rmdir, Fsstat, Ask, Success, GoneDone, FsstatDone, NoEntry, Access, Exists, NotDirectory, IsDirectory, Invalid, NameTooLong, NotEmpty, Stale, BadHandle}
+use Rattle.nfs_model.specs.Types.{Getattr, Lookup, Remove, Rmdir, Fsstat, Ask, Success, GoneDone, FsstatDone, NoEntry, Access, Exists, NotDirectory}
+use Rattle.nfs_model.specs.Types.{IsDirectory, Invalid, NameTooLong, NotEmpty, Stale, BadHandle}
 use Rattle.nfs_model.specs.Serial.Step.{serial}
 use Rattle.nfs_laws.specs.lemmas.Evaluate.{evaluate}
 use Rattle.nfs_rows.proofs.Cases.{start, at, nobody, h, root, fails, a, d, f, no_blocks, block_0, file, with_file, with_tree, root_shown, before, changed}
@@ -68,17 +69,20 @@ removed_file :
 removed_file = simp evaluate refl
 
 removed_file_is_stale :
-    (serial (serial (with_file (file (1 ∷ (2 ∷ (3 ∷ []))) block_0)) (Ask (Remove root a) nobody) (at 2) false).server (Ask (Getattr (h 2)) nobody) (at 3) false).reply
+    (serial (serial (with_file (file (1 ∷ (2 ∷ (3 ∷ []))) block_0)) (Ask (Remove root a) nobody) (at 2) false).server (Ask (Getattr (h 2)) nobody)
+    (at 3) false).reply
     ≡ fails Stale 0
 removed_file_is_stale = simp evaluate refl
 
 removed_name_is_gone :
-    (serial (serial (with_file (file (1 ∷ (2 ∷ (3 ∷ []))) block_0)) (Ask (Remove root a) nobody) (at 2) false).server (Ask (Lookup root a) nobody) (at 3) false).reply
+    (serial (serial (with_file (file (1 ∷ (2 ∷ (3 ∷ []))) block_0)) (Ask (Remove root a) nobody) (at 2) false).server (Ask (Lookup root a) nobody)
+    (at 3) false).reply
     ≡ fails NoEntry 1
 removed_name_is_gone = simp evaluate refl
 
 removed_blocks_are_space :
-    (serial (serial (with_file (file (1 ∷ (2 ∷ (3 ∷ []))) block_0)) (Ask (Remove root a) nobody) (at 2) false).server (Ask (Fsstat root) nobody) (at 3) false).reply
+    (serial (serial (with_file (file (1 ∷ (2 ∷ (3 ∷ []))) block_0)) (Ask (Remove root a) nobody) (at 2) false).server (Ask (Fsstat root) nobody)
+    (at 3) false).reply
     ≡ Success (FsstatDone (root_shown 2 2) (record { total_bytes = 4194304; free_bytes = 4194304; inodes = 65536; free_inodes = 65535 }))
 removed_blocks_are_space = simp evaluate refl
 
@@ -150,6 +154,7 @@ removed_directory :
 removed_directory = simp evaluate refl
 
 removed_directory_is_stale :
-    (serial (serial (serial with_tree (Ask (Remove (h 2) f) nobody) (at 2) false).server (Ask (Rmdir root d) nobody) (at 3) false).server (Ask (Getattr (h 2)) nobody) (at 4) false).reply
+    (serial (serial (serial with_tree (Ask (Remove (h 2) f) nobody) (at 2) false).server (Ask (Rmdir root d) nobody) (at 3) false).server
+    (Ask (Getattr (h 2)) nobody) (at 4) false).reply
     ≡ fails Stale 0
 removed_directory_is_stale = simp evaluate refl

@@ -1,6 +1,7 @@
 -- LOOKUP, CREATE and MKDIR (RFC 1813 sections 3.3.3, 3.3.8 and 3.3.9).
 use Rattle.std.proofs.Common.{◌≡◌, ℕ, true, false, [], ◌∷◌, replicate, Some, None, refl}
-use Rattle.nfs_model.specs.Types.{ServerTime, ClientTime, Unchecked, Guarded, Exclusive, Setattr, Lookup, Create, Mkdir, Remove, Ask, Success, LookupDone, MadeDone, NoEntry, Access, Exists, NotDirectory, Invalid, TooBig, NoSpace, NameTooLong, Stale, BadHandle}
+use Rattle.nfs_model.specs.Types.{ServerTime, ClientTime, Unchecked, Guarded, Exclusive, Setattr, Lookup, Create, Mkdir, Remove, Ask, Success, LookupDone}
+use Rattle.nfs_model.specs.Types.{MadeDone, NoEntry, Access, Exists, NotDirectory, Invalid, TooBig, NoSpace, NameTooLong, Stale, BadHandle}
 use Rattle.nfs_model.specs.Server.{VolumeState, most_inodes}
 use Rattle.nfs_model.specs.Types.{Status}
 use Rattle.std.specs.Prelude.{Bool, Option, nat_le, nat_lt, if◌then◌else◌}
@@ -10,7 +11,8 @@ use Rattle.nfs_model.specs.Serial.Create.{no_attributes, is_full, create_fault}
 use Rattle.nfs_model.specs.Serial.Mkdir.{mkdir_fault}
 use Rattle.nfs_model.specs.Serial.Step.{serial}
 use Rattle.nfs_laws.specs.lemmas.Evaluate.{evaluate}
-use Rattle.nfs_rows.proofs.Cases.{start, at, nobody, h, root, fails, a, b, d, e, f, no_blocks, block_0, file, exclusive_file, small, with_file, narrow, with_tree, root_shown, directory_shown, file_shown, before, changed}
+use Rattle.nfs_rows.proofs.Cases.{start, at, nobody, h, root, fails, a, b, d, e, f, no_blocks, block_0, file, exclusive_file, small, with_file, narrow}
+use Rattle.nfs_rows.proofs.Cases.{with_tree, root_shown, directory_shown, file_shown, before, changed}
 
 -- ---- LOOKUP
 
@@ -132,7 +134,8 @@ create_of_dot_dot :
 create_of_dot_dot = simp evaluate refl
 
 guarded_creation_of_a_name_that_is_there :
-    (serial (with_file (file [] no_blocks)) (Ask (Create (h 1) a (Guarded (record no_attributes { atime = ClientTime (record { seconds = 1; nanoseconds = 1000000000 }) }))) nobody) (at 2) false).reply
+    (serial (with_file (file [] no_blocks)) (Ask
+    (Create (h 1) a (Guarded (record no_attributes { atime = ClientTime (record { seconds = 1; nanoseconds = 1000000000 }) }))) nobody) (at 2) false).reply
     ≡ fails Exists 2
 guarded_creation_of_a_name_that_is_there = simp evaluate refl
 
@@ -167,12 +170,15 @@ unchecked_creation_over_a_file_settles :
 unchecked_creation_over_a_file_settles = simp evaluate refl
 
 unchecked_creation_cuts :
-    (serial (with_file (file (1 ∷ (2 ∷ (3 ∷ []))) block_0)) (Ask (Create (h 1) a (Unchecked (record no_attributes { size = Some 0 }))) nobody) (at 2) false).reply
+    (serial (with_file (file (1 ∷ (2 ∷ (3 ∷ []))) block_0)) (Ask (Create (h 1) a (Unchecked (record no_attributes { size = Some 0 }))) nobody)
+    (at 2) false).reply
     ≡ Success (MadeDone (h 2) (file_shown 2 0 0 2 2) (changed (before 4096 1 1) (root_shown 2 1)))
 unchecked_creation_cuts = simp evaluate refl
 
 unchecked_creation_over_a_file_with_a_bad_time :
-    (serial (with_file (file (1 ∷ (2 ∷ (3 ∷ []))) block_0)) (Ask (Create (h 1) a (Unchecked (record no_attributes { mtime = ClientTime (record { seconds = 1; nanoseconds = 1000000000 }) }))) nobody) (at 2) false).reply
+    (serial (with_file (file (1 ∷ (2 ∷ (3 ∷ []))) block_0))
+    (Ask (Create (h 1) a (Unchecked (record no_attributes { mtime = ClientTime (record { seconds = 1; nanoseconds = 1000000000 }) }))) nobody)
+    (at 2) false).reply
     ≡ fails Invalid 2
 unchecked_creation_over_a_file_with_a_bad_time = simp evaluate refl
 
@@ -182,7 +188,9 @@ unchecked_creation_over_a_file_past_the_largest :
 unchecked_creation_over_a_file_past_the_largest = simp evaluate refl
 
 creation_with_a_bad_time :
-    (serial (narrow (file [] no_blocks)) (Ask (Create (h 1) b (Unchecked (record no_attributes { size = Some 9; atime = ClientTime (record { seconds = 1; nanoseconds = 1000000000 }) }))) nobody) (at 2) false).reply
+    (serial (narrow (file [] no_blocks)) (Ask
+    (Create (h 1) b (Unchecked (record no_attributes { size = Some 9; atime = ClientTime (record { seconds = 1; nanoseconds = 1000000000 }) }))) nobody)
+    (at 2) false).reply
     ≡ fails Invalid 2
 creation_with_a_bad_time = simp evaluate refl
 
@@ -199,7 +207,16 @@ file_by_default :
 file_by_default = simp evaluate refl
 
 file_as_given :
-    (serial (narrow (file [] no_blocks)) (Ask (Create (h 1) b (Unchecked (record no_attributes { mode = Some 65535; uid = Some 7; gid = Some 8; size = Some 8; atime = ClientTime (at 5); mtime = ClientTime (at 6) }))) nobody) (at 2) false).reply
+    (serial (narrow (file [] no_blocks)) (Ask
+    (Create (h 1) b (Unchecked (record no_attributes {
+      mode = Some 65535;
+      uid = Some 7;
+      gid = Some 8;
+      size = Some 8;
+      atime = ClientTime
+          (at 5);
+      mtime = ClientTime (at 6);
+    }))) nobody) (at 2) false).reply
     ≡ Success (MadeDone (h 3) (record (file_shown 3 8 0 6 2) { mode = 4095; uid = 7; gid = 8; atime = at 5 }) (changed (before 4096 1 1) (root_shown 2 2)))
 file_as_given = simp evaluate refl
 
@@ -209,7 +226,8 @@ file_of_an_exclusive_creation :
 file_of_an_exclusive_creation = simp evaluate refl
 
 verifier_lives_through_setattr :
-    (serial (serial (serial start (Ask (Create (h 1) f (Exclusive (replicate 8 17))) nobody) (at 7) false).server (Ask (Setattr (h 2) no_attributes None) nobody) (at 8) false).server (Ask (Create (h 1) f (Exclusive (replicate 8 17))) nobody) (at 9) false).reply
+    (serial (serial (serial start (Ask (Create (h 1) f (Exclusive (replicate 8 17))) nobody) (at 7) false).server
+    (Ask (Setattr (h 2) no_attributes None) nobody) (at 8) false).server (Ask (Create (h 1) f (Exclusive (replicate 8 17))) nobody) (at 9) false).reply
     ≡ Success (MadeDone (h 2) (record (file_shown 2 0 0 7 8) { atime = at 7 }) (changed (before 4096 7 7) (root_shown 2 7)))
 verifier_lives_through_setattr = simp evaluate refl
 
@@ -219,7 +237,8 @@ file_below_a_directory :
 file_below_a_directory = simp evaluate refl
 
 fileids_are_not_used_again :
-    (serial (serial (with_file (file [] no_blocks)) (Ask (Remove root a) nobody) (at 2) false).server (Ask (Create (h 1) a (Unchecked no_attributes)) nobody) (at 3) false).reply
+    (serial (serial (with_file (file [] no_blocks)) (Ask (Remove root a) nobody) (at 2) false).server (Ask (Create (h 1) a (Unchecked no_attributes)) nobody)
+    (at 3) false).reply
     ≡ Success (MadeDone (h 3) (record (file_shown 3 0 0 3 3) { atime = at 3 }) (changed (before 4096 2 2) (root_shown 2 3)))
 fileids_are_not_used_again = simp evaluate refl
 
@@ -276,7 +295,8 @@ mkdir_of_a_name_that_is_there :
 mkdir_of_a_name_that_is_there = simp evaluate refl
 
 mkdir_with_a_bad_time :
-    (serial start (Ask (Mkdir (h 1) a (record no_attributes { mtime = ClientTime (record { seconds = 1; nanoseconds = 1000000000 }) })) nobody) (at 2) false).reply
+    (serial start (Ask (Mkdir (h 1) a (record no_attributes { mtime = ClientTime (record { seconds = 1; nanoseconds = 1000000000 }) })) nobody)
+    (at 2) false).reply
     ≡ fails Invalid 2
 mkdir_with_a_bad_time = simp evaluate refl
 
@@ -291,12 +311,20 @@ directory_by_default :
 directory_by_default = simp evaluate refl
 
 directory_as_given :
-    (serial start (Ask (Mkdir (h 1) d (record no_attributes { mode = Some 448; uid = Some 7; gid = Some 8; atime = ClientTime (at 5); mtime = ServerTime })) nobody) (at 2) false).reply
+    (serial start (Ask (Mkdir (h 1) d (record no_attributes {
+      mode = Some 448;
+      uid = Some 7;
+      gid = Some 8;
+      atime = ClientTime
+          (at 5);
+      mtime = ServerTime;
+    })) nobody) (at 2) false).reply
     ≡ Success (MadeDone (h 2) (record (directory_shown 2 2 2) { mode = 448; uid = 7; gid = 8; atime = at 5 }) (changed (before 4096 0 0) (root_shown 3 2)))
 directory_as_given = simp evaluate refl
 
 parent_of_a_made_directory :
-    (serial (serial (serial start (Ask (Mkdir (h 1) d no_attributes) nobody) (at 2) false).server (Ask (Mkdir (h 2) e no_attributes) nobody) (at 3) false).server (Ask (Lookup (h 3) (46 ∷ (46 ∷ []))) nobody) (at 4) false).reply
+    (serial (serial (serial start (Ask (Mkdir (h 1) d no_attributes) nobody) (at 2) false).server (Ask (Mkdir (h 2) e no_attributes) nobody)
+    (at 3) false).server (Ask (Lookup (h 3) (46 ∷ (46 ∷ []))) nobody) (at 4) false).reply
     ≡ Success (LookupDone (h 2) (record (directory_shown 2 3 3) { atime = at 2 }) (directory_shown 3 2 3))
 parent_of_a_made_directory = simp evaluate refl
 
@@ -317,7 +345,8 @@ full_volume_has_no_space_for_a_file v full = ap if_full full
 full_volume_has_no_space_for_a_directory : (v : VolumeState) → is_full v ≡ true → mkdir_fault v no_attributes ≡ Some NoSpace
 full_volume_has_no_space_for_a_directory v full = ap if_full full
 
-times_come_before_the_inodes : (v : VolumeState) → create_fault v (record no_attributes { atime = ClientTime (record { seconds = 1; nanoseconds = 1000000000 }) }) ≡ Some Invalid
+times_come_before_the_inodes : (v : VolumeState)
+    → create_fault v (record no_attributes { atime = ClientTime (record { seconds = 1; nanoseconds = 1000000000 }) }) ≡ Some Invalid
 times_come_before_the_inodes v = refl
 
 largest_size_comes_before_the_inodes : (v : VolumeState) → v.largest ≡ 8 → create_fault v (record no_attributes { size = Some 9 }) ≡ Some TooBig

@@ -10,7 +10,8 @@ use Rattle.nfs_model.specs.Types.{Setattr, Write, Create, Mkdir, Remove, Rename,
 use Rattle.nfs_model.specs.Tree.{Volume, Logical, Stripe, Aggregate}
 use Rattle.nfs_model.specs.Serial.Create.{no_attributes}
 use Rattle.nfs_model.specs.Parts.{Parts, Hand, Empty, Fresh, Dead, IsBatch, counts}
-use Rattle.nfs_model.specs.Moves.{Carried, FilledInVolume, Emptied, Stored, PartsChange, in_range, batch, first_filled, lowest_batch, fresh_hand, dead_hand, fetched, culled, Carrying, Fetches, Culls, PutsDown, Surveys}
+use Rattle.nfs_model.specs.Moves.{Carried, FilledInVolume, Emptied, Stored, PartsChange, in_range, batch, first_filled, lowest_batch, fresh_hand, dead_hand}
+use Rattle.nfs_model.specs.Moves.{fetched, culled, Carrying, Fetches, Culls, PutsDown, Surveys}
 use Rattle.nfs_laws.specs.lemmas.Evaluate.{evaluate}
 use Rattle.nfs_rows.proofs.Cases.{root, h, a, b, entry, root_with, volume_with, file}
 
@@ -58,7 +59,8 @@ abbrev holds : FinSet nat_cmp → Parts → Stored
 holds filled p = record { volume = volume_with 4 16777216 3 ((1, root_with 4 (entry 3 a 2 ∷ [])) ∷ ((2, file [] filled) ∷ [])); parts = p }
 
 -- blocks go from one set to another
-abbrev go : (n : ℕ) (blocks old_from old_to : FinSet nat_cmp) → sets.len blocks ≡ n → IsTrue (sets.is_subset blocks old_from) → Carried n old_from old_to (difference old_from blocks) (union old_to blocks)
+abbrev go : (n : ℕ) (blocks old_from old_to : FinSet nat_cmp) → sets.len blocks ≡ n → IsTrue (sets.is_subset blocks old_from)
+    → Carried n old_from old_to (difference old_from blocks) (union old_to blocks)
 go n blocks old_from old_to count there = record { blocks = blocks; count = count; there = there; left = refl; reached = refl }
 
 -- ---- calls
@@ -99,7 +101,8 @@ abbrev by_stock : Parts
 by_stock = parts (union (just 0) (just 1)) (difference (both 1 2) (just 1)) none (just 3)
 
 under_logical_the_stock_is_filled : PartsChange (Write (h 2) 4096 1 (7 ∷ [])) (Logical 0) (holds (just 0) one_filled) (holds (both 0 1) by_stock)
-under_logical_the_stock_is_filled = simp evaluate (record { stock = go 1 (just 1) (both 1 2) (just 0) (simp evaluate refl) (but_one (just 1) 2); free = refl; dead = refl })
+under_logical_the_stock_is_filled =
+    simp evaluate (record { stock = go 1 (just 1) (both 1 2) (just 0) (simp evaluate refl) (but_one (just 1) 2); free = refl; dead = refl })
 
 in_a_stripe_nothing_is_filled : PartsChange (Write (h 2) 0 1 (7 ∷ [])) (Stripe 0 2) (holds (just 0) one_filled) (holds (just 0) one_filled)
 in_a_stripe_nothing_is_filled = (simp evaluate refl, refl)
@@ -110,7 +113,8 @@ one_of_each = parts (just 0) (just 1) (just 3) (just 2)
 
 -- two blocks: one of the stock, one that was free
 abbrev by_stock_and_free : Parts
-by_stock_and_free = parts (union (union (union (just 0) (just 1)) (just 2)) none) (difference (just 1) (just 1)) (difference (just 3) none) (difference (just 2) (just 2))
+by_stock_and_free =
+    parts (union (union (union (just 0) (just 1)) (just 2)) none) (difference (just 1) (just 1)) (difference (just 3) none) (difference (just 2) (just 2))
 
 under_volume_the_stock_comes_first : FilledInVolume 2 one_of_each by_stock_and_free
 under_volume_the_stock_comes_first = record {
@@ -121,14 +125,17 @@ under_volume_the_stock_comes_first = record {
   dead = go _ none (just 3) (union (union (just 0) (just 1)) (just 2)) (simp evaluate refl) (nothing_of (just 3));
 }
 
-blocks_of_a_write_under_volume : PartsChange (Write (h 2) 4096 2 (7 ∷ (8 ∷ []))) (Volume 0) (holds (just 0) one_of_each) (holds (insert (both 0 1) 2) by_stock_and_free)
+blocks_of_a_write_under_volume : PartsChange (Write (h 2) 4096 2 (7 ∷ (8 ∷ []))) (Volume 0) (holds (just 0) one_of_each)
+    (holds (insert (both 0 1) 2) by_stock_and_free)
 blocks_of_a_write_under_volume = simp evaluate under_volume_the_stock_comes_first
 
 dead_stay_where_others_are_enough : among by_stock_and_free.dead ≡ false ∷ (false ∷ (false ∷ (true ∷ [])))
 dead_stay_where_others_are_enough = simp (evaluate, in_difference) refl
 
 -- three: the dead one too
-under_volume_the_dead_come_last : FilledInVolume 3 one_of_each (parts (union (union (union (just 0) (just 1)) (just 2)) (just 3)) (difference (just 1) (just 1)) (difference (just 3) (just 3)) (difference (just 2) (just 2)))
+under_volume_the_dead_come_last : FilledInVolume 3 one_of_each
+    (parts (union (union (union (just 0) (just 1)) (just 2)) (just 3)) (difference (just 1) (just 1)) (difference (just 3) (just 3))
+    (difference (just 2) (just 2)))
 under_volume_the_dead_come_last = record {
   by_stock = union (just 0) (just 1);
   by_free = union (union (just 0) (just 1)) (just 2);
@@ -194,28 +201,36 @@ abbrev three_five : List ℕ
 three_five = 3 ∷ (5 ∷ [])
 
 -- a batch that is known, in place of what it is computed from
-fetches : (range : ℕ) (p : Parts) (blocks : List ℕ) → batch range p.free ≡ blocks → Fetches 0 range (length blocks) (carries p Empty) (carries (record p { free = difference p.free (of blocks) }) (fresh_hand 0 blocks))
+fetches : (range : ℕ) (p : Parts) (blocks : List ℕ) → batch range p.free ≡ blocks
+    → Fetches 0 range (length blocks) (carries p Empty) (carries (record p { free = difference p.free (of blocks) }) (fresh_hand 0 blocks))
 fetches range p blocks e = (sym (ap (λ (bs : List ℕ). length bs) e), sym (ap (λ (bs : List ℕ). fetched 0 bs p) e))
 
-culls : (p : Parts) (blocks : List ℕ) → lowest_batch p.dead ≡ blocks → Culls 0 (length blocks) (carries p Empty) (carries (record p { dead = difference p.dead (of blocks) }) (dead_hand 0 blocks))
+culls : (p : Parts) (blocks : List ℕ) → lowest_batch p.dead ≡ blocks
+    → Culls 0 (length blocks) (carries p Empty) (carries (record p { dead = difference p.dead (of blocks) }) (dead_hand 0 blocks))
 culls p blocks e = (sym (ap (λ (bs : List ℕ). length bs) e), sym (ap (λ (bs : List ℕ). culled 0 bs p) e))
 
-free_blocks_are_fetched : Fetches 0 0 2 (carries (parts none none none (of some)) Empty) (carries (parts none none none (difference (of some) (of three_five))) (Fresh 0 three_five))
+free_blocks_are_fetched : Fetches 0 0 2 (carries (parts none none none (of some)) Empty)
+    (carries (parts none none none (difference (of some) (of three_five))) (Fresh 0 three_five))
 free_blocks_are_fetched = fetches 0 (parts none none none (of some)) three_five lowest_of_a_range_are_a_batch
 
-nothing_free_leaves_the_hand_empty : Fetches 0 2 0 (carries (parts none none none (of some)) Empty) (carries (parts none none none (difference (of some) (of []))) Empty)
+nothing_free_leaves_the_hand_empty : Fetches 0 2 0 (carries (parts none none none (of some)) Empty)
+    (carries (parts none none none (difference (of some) (of []))) Empty)
 nothing_free_leaves_the_hand_empty = fetches 2 (parts none none none (of some)) [] (batch_is 2 some)
 
-dead_blocks_are_culled : Culls 0 2 (carries (parts none none (of some) none) Empty) (carries (parts none none (difference (of some) (of three_five)) none) (Dead 0 three_five))
+dead_blocks_are_culled : Culls 0 2 (carries (parts none none (of some) none) Empty)
+    (carries (parts none none (difference (of some) (of three_five)) none) (Dead 0 three_five))
 dead_blocks_are_culled = culls (parts none none (of some) none) three_five (lowest_batch_is some)
 
-nothing_dead_leaves_the_hand_empty : Culls 0 0 (carries (parts none none (of []) none) Empty) (carries (parts none none (difference (of []) (of [])) none) Empty)
+nothing_dead_leaves_the_hand_empty : Culls 0 0 (carries (parts none none (of []) none) Empty)
+    (carries (parts none none (difference (of []) (of [])) none) Empty)
 nothing_dead_leaves_the_hand_empty = culls (parts none none (of []) none) [] (lowest_batch_is [])
 
-fresh_batch_comes_to_the_stock : PutsDown 2 (carries (parts none (just 1) none none) (Fresh 0 three_five)) (carries (parts none (union (just 1) (of three_five)) none none) Empty)
+fresh_batch_comes_to_the_stock : PutsDown 2 (carries (parts none (just 1) none none) (Fresh 0 three_five))
+    (carries (parts none (union (just 1) (of three_five)) none none) Empty)
 fresh_batch_comes_to_the_stock = (refl, refl)
 
-dead_batch_comes_to_the_bitmaps : PutsDown 2 (carries (parts none none none (just 1)) (Dead 0 three_five)) (carries (parts none none none (union (just 1) (of three_five))) Empty)
+dead_batch_comes_to_the_bitmaps : PutsDown 2 (carries (parts none none none (just 1)) (Dead 0 three_five))
+    (carries (parts none none none (union (just 1) (of three_five))) Empty)
 dead_batch_comes_to_the_bitmaps = (refl, refl)
 
 free_blocks_are_surveyed : Surveys 2 (parts none none none (of some)) (2 ∷ (1 ∷ []))
@@ -234,5 +249,6 @@ descending_are_no_batch q = let k = q.ascending.0 in omega (arith, k)
 
 -- ---- what is told
 
-parts_are_counted : counts (volume_with 4 16777216 3 ((1, root_with 4 (entry 3 a 2 ∷ [])) ∷ ((2, file [] (just 0)) ∷ []))) (parts (just 0) (both 1 2) none none) (3 ∷ []) ≡ record { files = 1; stock = 2; dead = 0; free = 0; hands = 1; total = 4 }
+parts_are_counted : counts (volume_with 4 16777216 3 ((1, root_with 4 (entry 3 a 2 ∷ [])) ∷ ((2, file [] (just 0)) ∷ [])))
+    (parts (just 0) (both 1 2) none none) (3 ∷ []) ≡ record { files = 1; stock = 2; dead = 0; free = 0; hands = 1; total = 4 }
 parts_are_counted = simp evaluate refl

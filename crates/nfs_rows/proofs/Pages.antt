@@ -4,7 +4,8 @@ use Rattle.nfs_model.specs.Types.{Unchecked, Create, Mkdir, Remove, Readdir, Ask
 use Rattle.nfs_model.specs.Serial.Create.{no_attributes}
 use Rattle.nfs_model.specs.Serial.Step.{serial}
 use Rattle.nfs_laws.specs.lemmas.Evaluate.{evaluate}
-use Rattle.nfs_rows.proofs.Cases.{start, at, nobody, h, root, fails, a, b, d, entry, no_blocks, file, root_with, holding, with_file, with_four, root_shown, directory_shown}
+use Rattle.nfs_rows.proofs.Cases.{start, at, nobody, h, root, fails, a, b, d, entry, no_blocks, file, root_with, holding, with_file, with_four, root_shown}
+use Rattle.nfs_rows.proofs.Cases.{directory_shown}
 
 readdir_of_a_bad_handle :
     (serial start (Ask (Readdir (replicate 11 0) 0 (replicate 8 0) 512) nobody) (at 1) false).reply
@@ -69,17 +70,20 @@ cookie_past_all_entries :
 cookie_past_all_entries = simp evaluate refl
 
 name_of_five_bytes_takes_eight :
-    (serial (holding 3 ((1, root_with 4 (entry 3 (replicate 5 97) 2 ∷ [])) ∷ ((2, file [] no_blocks) ∷ []))) (Ask (Readdir root 2 (replicate 8 0) 136) nobody) (at 1) false).reply
+    (serial (holding 3 ((1, root_with 4 (entry 3 (replicate 5 97) 2 ∷ [])) ∷ ((2, file [] no_blocks) ∷ [])))
+    (Ask (Readdir root 2 (replicate 8 0) 136) nobody) (at 1) false).reply
     ≡ Success (ReaddirDone (root_shown 2 1) (entry 3 (replicate 5 97) 2 ∷ []) true)
 name_of_five_bytes_takes_eight = simp evaluate refl
 
 name_of_five_bytes_takes_no_less :
-    (serial (holding 3 ((1, root_with 4 (entry 3 (replicate 5 97) 2 ∷ [])) ∷ ((2, file [] no_blocks) ∷ []))) (Ask (Readdir root 2 (replicate 8 0) 135) nobody) (at 1) false).reply
+    (serial (holding 3 ((1, root_with 4 (entry 3 (replicate 5 97) 2 ∷ [])) ∷ ((2, file [] no_blocks) ∷ [])))
+    (Ask (Readdir root 2 (replicate 8 0) 135) nobody) (at 1) false).reply
     ≡ fails TooSmall 1
 name_of_five_bytes_takes_no_less = simp evaluate refl
 
 name_of_four_bytes_takes_four :
-    (serial (holding 3 ((1, root_with 4 (entry 3 (replicate 4 97) 2 ∷ [])) ∷ ((2, file [] no_blocks) ∷ []))) (Ask (Readdir root 2 (replicate 8 0) 132) nobody) (at 1) false).reply
+    (serial (holding 3 ((1, root_with 4 (entry 3 (replicate 4 97) 2 ∷ [])) ∷ ((2, file [] no_blocks) ∷ [])))
+    (Ask (Readdir root 2 (replicate 8 0) 132) nobody) (at 1) false).reply
     ≡ Success (ReaddirDone (root_shown 2 1) (entry 3 (replicate 4 97) 2 ∷ []) true)
 name_of_four_bytes_takes_four = simp evaluate refl
 
@@ -111,16 +115,19 @@ cookie_of_an_entry_that_is_gone :
 cookie_of_an_entry_that_is_gone = simp evaluate refl
 
 first_cookie_is_3 :
-    (serial (serial start (Ask (Create root a (Unchecked no_attributes)) nobody) (at 1) false).server (Ask (Readdir root 2 (replicate 8 0) 512) nobody) (at 2) false).reply
+    (serial (serial start (Ask (Create root a (Unchecked no_attributes)) nobody) (at 1) false).server (Ask (Readdir root 2 (replicate 8 0) 512) nobody)
+    (at 2) false).reply
     ≡ Success (ReaddirDone (root_shown 2 1) (entry 3 a 2 ∷ []) true)
 first_cookie_is_3 = simp evaluate refl
 
 first_cookie_of_a_made_directory_is_3 :
-    (serial (serial (serial start (Ask (Mkdir root d no_attributes) nobody) (at 1) false).server (Ask (Create (h 2) a (Unchecked no_attributes)) nobody) (at 2) false).server (Ask (Readdir (h 2) 2 (replicate 8 0) 512) nobody) (at 3) false).reply
+    (serial (serial (serial start (Ask (Mkdir root d no_attributes) nobody) (at 1) false).server (Ask (Create (h 2) a (Unchecked no_attributes)) nobody)
+    (at 2) false).server (Ask (Readdir (h 2) 2 (replicate 8 0) 512) nobody) (at 3) false).reply
     ≡ Success (ReaddirDone (record (directory_shown 2 2 2) { atime = at 1 }) (entry 3 a 3 ∷ []) true)
 first_cookie_of_a_made_directory_is_3 = simp evaluate refl
 
 name_made_again_has_a_new_cookie :
-    (serial (serial (serial with_four (Ask (Remove root a) nobody) (at 2) false).server (Ask (Create root a (Unchecked no_attributes)) nobody) (at 3) false).server (Ask (Readdir root 3 (replicate 8 0) 512) nobody) (at 4) false).reply
+    (serial (serial (serial with_four (Ask (Remove root a) nobody) (at 2) false).server (Ask (Create root a (Unchecked no_attributes)) nobody)
+    (at 3) false).server (Ask (Readdir root 3 (replicate 8 0) 512) nobody) (at 4) false).reply
     ≡ Success (ReaddirDone (root_shown 3 3) (entry 4 b 3 ∷ (entry 5 d 4 ∷ (entry 6 a 6 ∷ []))) true)
 name_made_again_has_a_new_cookie = simp evaluate refl

@@ -1,11 +1,13 @@
 -- RENAME (RFC 1813 section 3.3.14).
 use Rattle.std.proofs.Common.{◌≡◌, true, false, [], ◌∷◌, replicate, refl}
-use Rattle.nfs_model.specs.Types.{Unchecked, Exclusive, Getattr, Lookup, Create, Mkdir, Rename, Readdir, Ask, Success, GetattrDone, LookupDone, MadeDone, RenameDone, ReaddirDone, NoEntry, Access, Exists, CrossVolume, NotDirectory, Invalid, NameTooLong, Stale, BadHandle}
+use Rattle.nfs_model.specs.Types.{Unchecked, Exclusive, Getattr, Lookup, Create, Mkdir, Rename, Readdir, Ask, Success, GetattrDone, LookupDone, MadeDone}
+use Rattle.nfs_model.specs.Types.{RenameDone, ReaddirDone, NoEntry, Access, Exists, CrossVolume, NotDirectory, Invalid, NameTooLong, Stale, BadHandle}
 use Rattle.nfs_model.specs.Server.{handle_bytes}
 use Rattle.nfs_model.specs.Serial.Create.{no_attributes}
 use Rattle.nfs_model.specs.Serial.Step.{serial}
 use Rattle.nfs_laws.specs.lemmas.Evaluate.{evaluate}
-use Rattle.nfs_rows.proofs.Cases.{start, at, nobody, h, root, fails, a, b, d, e, x, entry, block_0, touched_file, exclusive_file, with_file, with_four, root_shown, directory_shown, file_shown, before, changed}
+use Rattle.nfs_rows.proofs.Cases.{start, at, nobody, h, root, fails, a, b, d, e, x, entry, block_0, touched_file, exclusive_file, with_file, with_four}
+use Rattle.nfs_rows.proofs.Cases.{root_shown, directory_shown, file_shown, before, changed}
 
 -- ---- checks in order
 
@@ -152,12 +154,14 @@ rename_takes_a_new_cookie :
 rename_takes_a_new_cookie = simp evaluate refl
 
 cookie_of_a_rename_is_not_used_again :
-    (serial (serial (serial with_four (Ask (Rename root a root x) nobody) (at 2) false).server (Ask (Create root a (Unchecked no_attributes)) nobody) (at 3) false).server (Ask (Readdir root 5 (replicate 8 0) 512) nobody) (at 4) false).reply
+    (serial (serial (serial with_four (Ask (Rename root a root x) nobody) (at 2) false).server (Ask (Create root a (Unchecked no_attributes)) nobody)
+    (at 3) false).server (Ask (Readdir root 5 (replicate 8 0) 512) nobody) (at 4) false).reply
     ≡ Success (ReaddirDone (root_shown 3 3) (entry 6 x 2 ∷ (entry 7 a 6 ∷ [])) true)
 cookie_of_a_rename_is_not_used_again = simp evaluate refl
 
 rename_settles_the_file :
-    (serial (serial (with_file (touched_file 9 (1 ∷ []) block_0)) (Ask (Rename root a root b) nobody) (at 10) false).server (Ask (Getattr (h 2)) nobody) (at 11) false).reply
+    (serial (serial (with_file (touched_file 9 (1 ∷ []) block_0)) (Ask (Rename root a root b) nobody) (at 10) false).server (Ask (Getattr (h 2)) nobody)
+    (at 11) false).reply
     ≡ Success (GetattrDone (file_shown 2 1 4096 9 10))
 rename_settles_the_file = simp evaluate refl
 
@@ -182,11 +186,13 @@ rename_over_an_empty_directory :
 rename_over_an_empty_directory = simp evaluate refl
 
 replaced_directory_is_stale :
-    (serial (serial (serial with_four (Ask (Mkdir root x no_attributes) nobody) (at 2) false).server (Ask (Rename (h 4) e root x) nobody) (at 3) false).server (Ask (Getattr (h 6)) nobody) (at 4) false).reply
+    (serial (serial (serial with_four (Ask (Mkdir root x no_attributes) nobody) (at 2) false).server (Ask (Rename (h 4) e root x) nobody)
+    (at 3) false).server (Ask (Getattr (h 6)) nobody) (at 4) false).reply
     ≡ fails Stale 0
 replaced_directory_is_stale = simp evaluate refl
 
 verifier_lives_through_rename :
-    (serial (serial (with_file (exclusive_file 1)) (Ask (Rename root a root b) nobody) (at 2) false).server (Ask (Create root b (Exclusive (replicate 8 1))) nobody) (at 3) false).reply
+    (serial (serial (with_file (exclusive_file 1)) (Ask (Rename root a root b) nobody) (at 2) false).server
+    (Ask (Create root b (Exclusive (replicate 8 1))) nobody) (at 3) false).reply
     ≡ Success (MadeDone (h 2) (file_shown 2 0 0 1 2) (changed (before 4096 2 2) (root_shown 2 2)))
 verifier_lives_through_rename = simp evaluate refl

@@ -1,4 +1,5 @@
--- What a call without a home affinity is answered: no state is read (our profile).
+-- What a call without a home affinity is answered: no state is read (our profile). Of a call that has
+-- a home nothing is said here: the serial server answers it.
 use Rattle.std.specs.Prelude.{ℕ, [], Option, Some, None}
 use Rattle.nfs_model.specs.Types.{Call, Null, Rename, Census, Grow, Answer, NullDone, CensusDone, Failed}
 use Rattle.nfs_model.specs.Types.{BadHandle, CrossVolume, NoEntry}

@@ -25,8 +25,10 @@ returns-clause-events c =
     let message = c.remove-message.result in
     let begun : Running = record { message = message; moment = c.args.moment; held = c.in-Some.held; answer = None } in
     let there : slice_get s.waiting.items c.args.place ≡ Some message =
-    slice_get-get_or s.waiting.items c.args.place message (omega (arith, c.if-place-len.false, c.len.ensures, s.waiting.ok.0)) ∙ ap Some (sym c.remove-message.ensures.value) in (
-      may-begin s c.args.worker c.args.place (moment_of c.args.moment) message c.if-worker-ne0.false idle there c.if-moment-ge-SECOND.false c.if-state-ge-STAMPS.false,
+    slice_get-get_or s.waiting.items c.args.place message (omega (arith, c.if-place-len.false, c.len.ensures, s.waiting.ok.0))
+    ∙ ap Some (sym c.remove-message.ensures.value) in (
+      may-begin s c.args.worker c.args.place (moment_of c.args.moment) message c.if-worker-ne0.false idle there c.if-moment-ge-SECOND.false
+          c.if-state-ge-STAMPS.false,
       (
         message_of layout message,
         message-there layout s.waiting.items c.args.place message there,
@@ -34,7 +36,8 @@ returns-clause-events c =
         changes-same (world s) (map (message_of layout) c.remove-message.new.self.items) (remove (map (message_of layout) s.waiting.items) c.args.place) _ _ _ _
             (ap (map (message_of layout)) c.remove-message.ensures.items ∙ map-remove (message_of layout) s.waiting.items c.args.place)
             (only-changed layout s.running _ c.args.worker c.if-worker-ne0.false)
-            (ap (server_of layout s.verifier) (ap (λ (o : Option VolumeLogical). kept_by o (Some begun)) c.take.ensures.after ∙ sym (ap (λ (o : Option VolumeLogical). kept_by o s.running) (sym c.take.ensures.value ∙ c.in-Some.is)))),
+            (ap (server_of layout s.verifier) (ap (λ (o : Option VolumeLogical). kept_by o (Some begun)) c.take.ensures.after
+            ∙ sym (ap (λ (o : Option VolumeLogical). kept_by o s.running) (sym c.take.ensures.value ∙ c.in-Some.is)))),
       ),
     )
 
@@ -44,11 +47,14 @@ returns-clause-sound c =
     let layout = layout_of s.layout in
     let message = c.remove-message.result in
     let there : slice_get s.waiting.items c.args.place ≡ Some message =
-    slice_get-get_or s.waiting.items c.args.place message (omega (arith, c.if-place-len.false, c.len.ensures, s.waiting.ok.0)) ∙ ap Some (sym c.remove-message.ensures.value) in
-    let owes = owed-begun (vec_len s.past) s.waiting.items c.remove-message.new.self.items c.args.place message s.running there c.remove-message.ensures.items (none-if s.running (sym c.if-is_some.ensures)) in
+    slice_get-get_or s.waiting.items c.args.place message (omega (arith, c.if-place-len.false, c.len.ensures, s.waiting.ok.0))
+    ∙ ap Some (sym c.remove-message.ensures.value) in
+    let owes = owed-begun (vec_len s.past) s.waiting.items c.remove-message.new.self.items c.args.place message s.running there
+    c.remove-message.ensures.items (none-if s.running (sym c.if-is_some.ensures)) in
     record {
       current = subst (λ (n : ℕ). IfSome s.current (λ (o : OpenConnection). IsRoomy n o × (vec_len s.past < vec_capacity s.past))) owes c.requires.current;
-      waiting = subst (AllByRecursion (IsPlaced layout (opened s))) (sym c.remove-message.ensures.items) (placed-remove layout (opened s) s.waiting.items c.args.place c.requires.waiting);
+      waiting = subst (AllByRecursion (IsPlaced layout (opened s))) (sym c.remove-message.ensures.items)
+          (placed-remove layout (opened s) s.waiting.items c.args.place c.requires.waiting);
       running = placed-at layout (opened s) s.waiting.items c.args.place message c.requires.waiting there;
       places = search rules;
       finished = search rules;

@@ -40,6 +40,7 @@ returns-in-Some-clause-events c =
         refl,
         changes-same w w.waiting w.waiting _ _ _ _ refl
             (only-changed layout s.running (Some (running_of layout worked)) c.args.worker c.if-worker-ne0.false)
-            (ap (server_of layout s.verifier) (ap (λ (o : Option VolumeLogical). kept_by o (Some worked)) (lent-away s.home s.running r c.requires.lent some) ∙ sym (kept-lent s.home s.running r c.requires.lent some))),
+            (ap (server_of layout s.verifier) (ap (λ (o : Option VolumeLogical). kept_by o (Some worked)) (lent-away s.home s.running r c.requires.lent some)
+            ∙ sym (kept-lent s.home s.running r c.requires.lent some))),
       ),
     )

@@ -25,14 +25,17 @@ returns-clause-events c =
     let s = c.args.state.now in
     let some = sym c.take.ensures.value ∙ c.in-Some.is in
     let number : c.args.connection ≡ length s.past.items = omega (arith, c.if-connection-len.false, c.len.ensures, s.past.ok.0) in
-    let count : c.len-finished.result ≡ length (map entry_of s.finished.items) = count-mapped entry_of s.finished.items c.len-finished.result (omega (arith, c.len-finished.ensures, s.finished.ok.0)) in
+    let count : c.len-finished.result ≡ length (map entry_of s.finished.items) = count-mapped entry_of s.finished.items c.len-finished.result
+    (omega (arith, c.len-finished.ensures, s.finished.ok.0)) in
     let closed : ClosedConnection = record { stream = c.in-Some.last.stream; output = c.in-Some.last.output; finished = c.len-finished.result } in
-    let seen : closed_of closed ≡ with_closed (length (map entry_of s.finished.items)) (open_of c.in-Some.last) = ap (λ (n : ℕ). with_closed n (open_of c.in-Some.last)) count in (
+    let seen : closed_of closed ≡ with_closed (length (map entry_of s.finished.items)) (open_of c.in-Some.last) = ap
+    (λ (n : ℕ). with_closed n (open_of c.in-Some.last)) count in (
       there s.past.items s.current c.in-Some.last c.args.connection some number,
       (
         refl,
         ap (λ (cs : List worlds.Connection). record (world s) { connections = cs })
             (ap (connections_of c.push_reserved.new.self.items) c.take.ensures.after
-            ∙ now-closed (length (map entry_of s.finished.items)) c.args.connection s.past.items c.push_reserved.new.self.items s.current c.in-Some.last closed some number c.push_reserved.ensures.items seen),
+            ∙ now-closed (length (map entry_of s.finished.items)) c.args.connection s.past.items c.push_reserved.new.self.items s.current c.in-Some.last
+            closed some number c.push_reserved.ensures.items seen),
       ),
     )

@@ -8,13 +8,19 @@ use Rattle.engine.proofs.feeding.feed.Goals as goal
 
 pub returns-then-connection-len-clause-events : goal.returns-then-connection-len-clause-events
 returns-then-connection-len-clause-events c =
-    let s = c.args.state.now in
-    (inl (refused-elsewhere (setup_in s) s.past.items s.current c.args.connection (λ e. c.if-connection-len.true (omega (arith, e, c.len.ensures, s.past.ok.0)))), refl)
+    let s = c.args.state.now in (
+      inl (refused-elsewhere (setup_in s) s.past.items s.current c.args.connection
+          (λ e. c.if-connection-len.true (omega (arith, e, c.len.ensures, s.past.ok.0)))),
+      refl,
+    )
 
 pub returns-then-not-takes_input-clause-events : goal.returns-then-not-takes_input-clause-events
 returns-then-not-takes_input-clause-events c =
-    let s = c.args.state.now in
-    (inl (taking-is s c.args.connection false c.requires (omega (arith, c.if-connection-len.false, c.len.ensures, s.past.ok.0)) c.if-not-takes_input.ensures), refl)
+    let s = c.args.state.now in (
+      inl (taking-is s c.args.connection false c.requires
+          (omega (arith, c.if-connection-len.false, c.len.ensures, s.past.ok.0)) c.if-not-takes_input.ensures),
+      refl,
+    )
 
 pub returns-clause-events : goal.returns-clause-events
 returns-clause-events c =
@@ -22,7 +28,17 @@ returns-clause-events c =
     let taken = c.feed_open-taken.result.0 in
     let stop = stop_number c.feed_open-taken.result.1 in
     let new = world c.feed_open-taken.new.state in
-    let taking = taking-is s c.args.connection true c.requires (omega (arith, c.if-connection-len.false, c.len.ensures, s.past.ok.0)) c.if-not-takes_input.ensures in
+    let taking = taking-is s c.args.connection true c.requires
+    (omega (arith, c.if-connection-len.false, c.len.ensures, s.past.ok.0)) c.if-not-takes_input.ensures in
     let walks : Walks (setup_in s) c.args.connection (world s) c.args.bytes.now taken stop new =
-    subst (λ (n : ℕ). Walks (setup_in s) n (world s) c.args.bytes.now taken stop new) (sym (c.if-connection-len.false ∙ c.len.ensures)) c.feed_open-taken.ensures.walks in
-    (taking, (taken, stop, refl, c.feeds_are_walks.ensures.feeds (setup_in s) (world s) c.args.connection c.args.bytes.now taken stop new is-scan (takes-input s c.args.connection taking) walks))
+    subst (λ (n : ℕ). Walks (setup_in s) n (world s) c.args.bytes.now taken stop new) (sym (c.if-connection-len.false
+    ∙ c.len.ensures)) c.feed_open-taken.ensures.walks in (
+      taking,
+      (
+        taken,
+        stop,
+        refl,
+        c.feeds_are_walks.ensures.feeds (setup_in s) (world s) c.args.connection c.args.bytes.now taken stop new is-scan
+            (takes-input s c.args.connection taking) walks,
+      ),
+    )

@@ -7,10 +7,13 @@ use Rattle.engine.proofs.feeding.feed_open.Goals as goal
 
 pub returns-then-is_stopped-clause-walks : goal.returns-then-is_stopped-clause-walks
 returns-then-is_stopped-clause-walks c =
-    stopped-full c.args.state.now c.args.bytes.now c.requires.sound c.requires.at (not-empty c.args.bytes.now c.if-is_empty.ensures) (c.is_stopped.ensures.stopped c.if-is_stopped.true)
+    stopped-full c.args.state.now c.args.bytes.now c.requires.sound c.requires.at (not-empty c.args.bytes.now c.if-is_empty.ensures)
+    (c.is_stopped.ensures.stopped c.if-is_stopped.true)
 
 pub returns-then-is_err-clause-walks : goal.returns-then-is_err-clause-walks
 returns-then-is_err-clause-walks c =
     let s = c.args.state.now in
-    subst (Walks (setup_in s) (vec_len s.past) (world s) c.args.bytes.now 0 90) (sym (stream-room-unseen s c.make_stream_room.new.current c.make_stream_room.ensures.same))
-    (stopped-by-memory s c.args.bytes.now c.requires.sound c.requires.at (not-empty c.args.bytes.now c.if-is_empty.ensures) (c.is_stopped.ensures.goes_on c.if-is_stopped.false))
+    subst (Walks (setup_in s) (vec_len s.past) (world s) c.args.bytes.now 0 90)
+    (sym (stream-room-unseen s c.make_stream_room.new.current c.make_stream_room.ensures.same))
+    (stopped-by-memory s c.args.bytes.now c.requires.sound c.requires.at (not-empty c.args.bytes.now c.if-is_empty.ensures)
+    (c.is_stopped.ensures.goes_on c.if-is_stopped.false))

@@ -17,9 +17,13 @@ returns-in-Some-clause-walks c =
     let w = world c.take_some-count.new.state in
     let count = c.take_some-count.result.0 in
     let rest = the-rest c.args.bytes.now c.loop-taken.taken in
-    let some = subst (λ (o : Option Stop). FeedsPart (setup_in m) (vec_len m.past) (world m) (take (length c.args.bytes.now - c.loop-taken.taken) (drop c.loop-taken.taken c.args.bytes.now)) count o w) c.in-Some.is c.take_some-count.ensures.feeds in
-    stops (setup_in m) (setup_in s) (vec_len m.past) (vec_len s.past) (world s) (world m) w c.args.bytes.now c.loop-taken.taken count (stop_number c.in-Some.stop)
-    i.setup (ap (λ p. vec_len p) i.past) i.within i.all (subst (λ (bs : List ℕ). Walks (setup_in m) (vec_len m.past) (world m) bs count (stop_number c.in-Some.stop) w) rest some)
+    let some = subst (λ (o : Option Stop). FeedsPart (setup_in m) (vec_len m.past) (world m)
+    (take (length c.args.bytes.now - c.loop-taken.taken)
+    (drop c.loop-taken.taken c.args.bytes.now)) count o w) c.in-Some.is c.take_some-count.ensures.feeds in
+    stops (setup_in m) (setup_in s) (vec_len m.past) (vec_len s.past) (world s) (world m) w c.args.bytes.now c.loop-taken.taken count
+    (stop_number c.in-Some.stop)
+    i.setup (ap (λ p. vec_len p) i.past) i.within i.all
+    (subst (λ (bs : List ℕ). Walks (setup_in m) (vec_len m.past) (world m) bs count (stop_number c.in-Some.stop) w) rest some)
 
 pub loop-taken-preserved : goal.loop-taken-preserved
 loop-taken-preserved c =
@@ -31,11 +35,14 @@ loop-taken-preserved c =
     let taken = c.loop-taken.taken in
     let rest = the-rest c.args.bytes.now taken in
     let size = rest-length c.args.bytes.now taken in
-    let none = subst (λ (o : Option Stop). FeedsPart (setup_in m) (vec_len m.past) (world m) (take (length c.args.bytes.now - taken) (drop taken c.args.bytes.now)) count o w) c.in_default.is c.take_some-count.ensures.feeds in
-    let left : length (take (length c.args.bytes.now - taken) (drop taken c.args.bytes.now)) - count ≡ length c.args.bytes.now - (taken + count) = omega (arith, size) in
+    let none = subst (λ (o : Option Stop). FeedsPart (setup_in m) (vec_len m.past) (world m)
+    (take (length c.args.bytes.now - taken) (drop taken c.args.bytes.now)) count o w) c.in_default.is c.take_some-count.ensures.feeds in
+    let left : length (take (length c.args.bytes.now - taken) (drop taken c.args.bytes.now)) - count ≡ length c.args.bytes.now - (taken + count) = omega
+    (arith, size) in
     record {
       within = omega (arith, size, c.take_some-count.ensures.within, i.within);
-      all = goes-on (setup_in m) (setup_in s) (vec_len m.past) (vec_len s.past) (world s) (world m) w c.args.bytes.now taken count i.setup (ap (λ p. vec_len p) i.past) i.all
+      all = goes-on (setup_in m) (setup_in s) (vec_len m.past) (vec_len s.past) (world s) (world m) w c.args.bytes.now taken count i.setup
+          (ap (λ p. vec_len p) i.past) i.all
           (subst (λ (bs : List ℕ). TakesAll (setup_in m) (vec_len m.past) (world m) (take count bs) w) rest none);
       sound = c.take_some-count.ensures.sound;
       taking = subst (TakesIn c.take_some-count.new.state.current) left (c.take_some-count.ensures.goes_on c.in_default.is).1;
@@ -46,4 +53,5 @@ loop-taken-preserved c =
 pub returns-clause-walks : goal.returns-clause-walks
 returns-clause-walks c =
     let s = c.args.state.now in
-    all-taken (setup_in s) (vec_len s.past) (world s) (world c.loop-taken.state) c.args.bytes.now c.loop-taken.taken (omega (arith, c.loop-taken.invariant.within, c.loop-taken-test.false)) c.loop-taken.invariant.all
+    all-taken (setup_in s) (vec_len s.past) (world s) (world c.loop-taken.state) c.args.bytes.now c.loop-taken.taken
+    (omega (arith, c.loop-taken.invariant.within, c.loop-taken-test.false)) c.loop-taken.invariant.all

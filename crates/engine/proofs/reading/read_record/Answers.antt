@@ -40,7 +40,8 @@ returns-in-Call c =
     let bytes = c.args.bytes.now in
     let h = subst (λ (r : Result Heard Fault). Hears r (records.heard bytes)) c.in-Ok.is c.read_record.ensures in
     let q = subst (λ (r : Request). Tells c.in-Ok.field-0.xid r (records.heard bytes)) c.in-Call.is h in
-    heard-is bytes ∙ q ∙ ap (λ (k : Call). Ok (record { xid = c.in-Ok.field-0.xid; asked = types.Ask (call_of k) (credential_of c.in-Call.credential) })) (sym c.new.ensures)
+    heard-is bytes ∙ q ∙ ap (λ (k : Call). Ok (record { xid = c.in-Ok.field-0.xid; asked = types.Ask (call_of k) (credential_of c.in-Call.credential) }))
+    (sym c.new.ensures)
 
 pub returns-in-Refused : goal.returns-in-Refused
 returns-in-Refused c =

@@ -16,7 +16,8 @@ returns-in-Some-clause-answer c =
     let layout = layout_of c.args.layout.now in
     let told = result_of attributes_shown 0 c.get_attributes.result in
     subst (λ (k : Call). IsAnswer layout root (call_of k) told) (sym c.in-GetAttributes.is)
-    (getattr-answer layout root c.in-GetAttributes.handle _ told (sym c.named_by.ensures.named ∙ ap (option_map named_of) c.in-Some.is) (record { at_root = c.get_attributes.ensures.root; others = c.get_attributes.ensures.others }))
+    (getattr-answer layout root c.in-GetAttributes.handle _ told (sym c.named_by.ensures.named
+    ∙ ap (option_map named_of) c.in-Some.is) (record { at_root = c.get_attributes.ensures.root; others = c.get_attributes.ensures.others }))
 
 pub returns-in-None-clause-answer : goal.returns-in-None-clause-answer
 returns-in-None-clause-answer c =

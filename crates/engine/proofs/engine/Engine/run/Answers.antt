@@ -20,7 +20,8 @@ few c = elim c.if-is_err.branch [
 -- src/engine.rt:119:9
 pub loop-event-preserved : goal.loop-event-preserved
 loop-event-preserved c = (
-  run-more-from c.args.self.now c.loop-event.self c.step.new.self c.args.events.now c.loop-event.event-index _ c.loop-event.refused (answer_of c.step.result) c.if-is_err.refused c.loop-event-test.true c.loop-event.invariant.0 c.loop-event.invariant.1 c.step.ensures.events (counted c),
+  run-more-from c.args.self.now c.loop-event.self c.step.new.self c.args.events.now c.loop-event.event-index _ c.loop-event.refused
+      (answer_of c.step.result) c.if-is_err.refused c.loop-event-test.true c.loop-event.invariant.0 c.loop-event.invariant.1 c.step.ensures.events (counted c),
   c.step.ensures.setup ∙ c.loop-event.invariant.1,
   few c,
   c.step.ensures.headline,

@@ -14,8 +14,10 @@ kept c =
     let event = event_of c.args.event in
     let answer = answer_of c.dispatch.result in
     let was : Kept (setup_in s) (world s) = c.self.invariant.1 in
-    let agreed = c.readings_agree.ensures (setup_in s) (world s) event answer new (is-read-only (layout_of s.layout) s.verifier) is-scan was c.dispatch.ensures.events in
-    subst (λ (x : Setup). Kept x new) (sym c.dispatch.ensures.setup) (c.events_keep_headline.ensures (setup_in s) (world s) event answer new is-scan was agreed c.dispatch.ensures.events)
+    let agreed = c.readings_agree.ensures (setup_in s) (world s) event answer new
+    (is-read-only (layout_of s.layout) s.verifier) is-scan was c.dispatch.ensures.events in
+    subst (λ (x : Setup). Kept x new) (sym c.dispatch.ensures.setup)
+    (c.events_keep_headline.ensures (setup_in s) (world s) event answer new is-scan was agreed c.dispatch.ensures.events)
 
 pub invariant_of-self : goal.invariant_of-self
 invariant_of-self c = (c.dispatch.ensures.sound, kept c)
