@@ -1,0 +1,10 @@
+//! Directories: entries in the order of their cookies, and an index of them by name.
+#![tactic(auto)]
+
+mod directory;
+mod entries;
+mod page;
+mod search;
+
+pub use directory::Directory;
+pub use page::Page;
