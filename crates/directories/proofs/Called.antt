@@ -17,7 +17,8 @@ name-inside es [] place name n = absurd (grind (arith, n))
 name-inside es (x ∷ index) zero name n = omega arith
 name-inside es (x ∷ index) (suc place) name n = let r = name-inside es index place name n in omega (arith, r)
 
-name-place : (es : List Listed) (index : List Cookie) (place : ℕ) (name : List ℕ) → name_at es index place ≡ Some name → slice_get index place ≡ Some (read_at index place)
+name-place : (es : List Listed) (index : List Cookie) (place : ℕ) (name : List ℕ) → name_at es index place ≡ Some name
+    → slice_get index place ≡ Some (read_at index place)
 name-place es index place name n = at-place index place (name-inside es index place name n)
 
 element-at : (index : List Cookie) (i : ℕ) (c : Cookie) → i < length index → c ≡ get_or index i c → slice_get index i ≡ Some c
@@ -26,11 +27,13 @@ element-at (x ∷ index) zero c l is = ap (λ (y : Cookie). Some y) (sym is)
 element-at (x ∷ index) (suc i) c l is = element-at index i c (omega (arith, l)) is
 
 -- the cookie that is read at the place of a name
-cookie-place : (es : List Listed) (index : List Cookie) (place : ℕ) (c : Cookie) (name : List ℕ) → name_at es index place ≡ Some name → c ≡ get_or index place c
+cookie-place : (es : List Listed) (index : List Cookie) (place : ℕ) (c : Cookie) (name : List ℕ) → name_at es index place ≡ Some name
+    → c ≡ get_or index place c
     → slice_get index place ≡ Some c
 cookie-place es index place c name n is = element-at index place c (name-inside es index place name n) is
 
-pub name-known : (d : DirectoryValue) (index : List Cookie) (place : ℕ) (c : Cookie) (name : List ℕ) → IsIndexed d index → name_at d.list index place ≡ Some name
+pub name-known : (d : DirectoryValue) (index : List Cookie) (place : ℕ) (c : Cookie) (name : List ℕ) → IsIndexed d index
+    → name_at d.list index place ≡ Some name
     → c ≡ get_or index place c → has d.list c.0 ≡ true
 name-known d index place c name x n is = known-here d.list index place c x.index (cookie-place d.list index place c name n is)
 
@@ -46,7 +49,8 @@ found-some d index place name x n = by (under (read_at index place).0 d.list) re
   where
     by : (o : Option Listed) → o ≡ under (read_at index place).0 d.list → is_some (found d name) ≡ true
     by None p = let k = known-here d.list index place (read_at index place) x.index (name-place d.list index place name n) in absurd (grind (arith, p, k))
-    by (Some e) p = ap (λ (o : Option Listed). is_some o) (found-there d index place (read_at index place) e name x n (name-place d.list index place name n) (sym p))
+    by (Some e) p = ap (λ (o : Option Listed). is_some o)
+        (found-there d index place (read_at index place) e name x n (name-place d.list index place name n) (sym p))
 
 pub fileid-nowhere : (d : DirectoryValue) (index : List Cookie) (place : ℕ) (name : List ℕ) → IsIndexed d index → IsPlace d.list index name place
     → option_map (λ (l : Listed). l.fileid) None ≡ fileid_found d name
@@ -57,14 +61,18 @@ pub found-none : (d : DirectoryValue) (index : List Cookie) (place : ℕ) (name 
 found-none d index place name x p = ap (λ (o : Option Listed). is_some o) (sym (found-nowhere d index place name x p))
 
 -- nothing is removed where the name isn't there
-pub removed-none : (d : DirectoryValue) (index : List Cookie) (place : ℕ) (name : List ℕ) → IsIndexed d index → IsPlace d.list index name place → d ≡ removed name d
-removed-none d index place name x p = ap (λ (l : List Listed). record d { list = l }) (sym (without-absent d.list name (found-nowhere d index place name x p)))
+pub removed-none : (d : DirectoryValue) (index : List Cookie) (place : ℕ) (name : List ℕ) → IsIndexed d index → IsPlace d.list index name place
+    → d ≡ removed name d
+removed-none d index place name x p = ap (λ (l : List Listed). record d { list = l })
+    (sym (without-absent d.list name (found-nowhere d index place name x p)))
 
-pub removed-some : (d : DirectoryValue) (index : List Cookie) (place : ℕ) (c : Cookie) (name : List ℕ) → IsIndexed d index → name_at d.list index place ≡ Some name
+pub removed-some : (d : DirectoryValue) (index : List Cookie) (place : ℕ) (c : Cookie) (name : List ℕ) → IsIndexed d index
+    → name_at d.list index place ≡ Some name
     → c ≡ get_or index place c → dropped c.0 d ≡ removed name d
 removed-some d index place c name x n is = dropped-removed d index place c name x n (cookie-place d.list index place c name n is)
 
-pub still-indexed : (d : DirectoryValue) (index : List Cookie) (place : ℕ) (c : Cookie) (name : List ℕ) → IsIndexed d index → name_at d.list index place ≡ Some name
+pub still-indexed : (d : DirectoryValue) (index : List Cookie) (place : ℕ) (c : Cookie) (name : List ℕ) → IsIndexed d index
+    → name_at d.list index place ≡ Some name
     → c ≡ get_or index place c → IsIndexed (dropped c.0 d) (remove index place)
 still-indexed d index place c name x n is = indexed-dropped d index place c x (cookie-place d.list index place c name n is)
 

@@ -23,7 +23,8 @@ rises-top low (e ∷ es) next h = let r = rises-top (e.cookie + 1) es next h.1 i
 
 none-at-next : (low : ℕ) (es : List Listed) (next : ℕ) → Rises low es next → has es next ≡ false
 none-at-next low [] next h = refl
-none-at-next low (e ∷ es) next h = let t = rises-top (e.cookie + 1) es next h.1 in let r = none-at-next (e.cookie + 1) es next h.1 in grind (arith, nat_tests, t, r)
+none-at-next low (e ∷ es) next h = let t = rises-top (e.cookie + 1) es next h.1 in let r = none-at-next (e.cookie + 1) es next h.1 in grind
+    (arith, nat_tests, t, r)
 
 has-push : (es : List Listed) (e : Listed) (k : ℕ) → has (es ++ e ∷ []) k ≡ (has es k || (e.cookie == k))
 has-push [] e k = by (e.cookie == k)
@@ -67,7 +68,8 @@ listed-insert xs zero c k = or-turned (c.0 == k) (is_listed xs k)
 listed-insert [] (suc i) c k = or-turned (c.0 == k) false
 listed-insert (x ∷ xs) (suc i) c k = by (x.0 == k) (listed-insert xs i c k)
   where
-    by : (b : Bool) → is_listed (insert xs i c) k ≡ (is_listed xs k || (c.0 == k)) → (b || is_listed (insert xs i c) k) ≡ ((b || is_listed xs k) || (c.0 == k))
+    by : (b : Bool) → is_listed (insert xs i c) k ≡ (is_listed xs k || (c.0 == k))
+        → (b || is_listed (insert xs i c) k) ≡ ((b || is_listed xs k) || (c.0 == k))
     by true r = refl
     by false r = r
 
@@ -88,11 +90,14 @@ all-known P (x ∷ xs) h = (h x (grind (arith, nat_tests)), all-known P xs (λ c
 abbrev pub new_entry : DirectoryValue → List ℕ → ℕ → Listed
 new_entry d name fileid = record { cookie = d.next; name = name; fileid = fileid }
 
-names-kept : (es : List Listed) (index : List Cookie) (e : Listed) → IsIndex es index → AllByRecursion (λ c. name_under (es ++ e ∷ []) c ≡ name_under es c) index
+names-kept : (es : List Listed) (index : List Cookie) (e : Listed) → IsIndex es index
+    → AllByRecursion (λ c. name_under (es ++ e ∷ []) c ≡ name_under es c) index
 names-kept es index e x =
-    all-known (λ c. name_under (es ++ e ∷ []) c ≡ name_under es c) index (λ c t. ap (λ (o : Option Listed). name_in o) (under-push es e c.0 (x.same c.0 ∙ t)))
+    all-known (λ c. name_under (es ++ e ∷ []) c ≡ name_under es c) index
+    (λ c t. ap (λ (o : Option Listed). name_in o) (under-push es e c.0 (x.same c.0 ∙ t)))
 
-index-added : (d : DirectoryValue) (index : List Cookie) (place : ℕ) (c : Cookie) (name : List ℕ) (fileid : ℕ) → IsIndexed d index → IsPlace d.list index name place
+index-added : (d : DirectoryValue) (index : List Cookie) (place : ℕ) (c : Cookie) (name : List ℕ) (fileid : ℕ) → IsIndexed d index
+    → IsPlace d.list index name place
     → c.0 ≡ d.next → IsIndex (added name fileid d).list (insert index place c)
 index-added d index place c name fileid x p is =
     let e = new_entry d name fileid in
@@ -100,11 +105,13 @@ index-added d index place c name fileid x p is =
     let g = name_under (d.list ++ e ∷ []) in
     let kept = names-kept d.list index e x.index in
     let here : g c ≡ name =
-    ap (λ (o : Option Listed). name_in o) (under-pushed d.list e c.0 (subst (λ k. has d.list k ≡ false) (sym is) (none-at-next 3 d.list d.next x.directory.cookies)) (sym is)) in
+    ap (λ (o : Option Listed). name_in o)
+    (under-pushed d.list e c.0 (subst (λ k. has d.list k ≡ false) (sym is) (none-at-next 3 d.list d.next x.directory.cookies)) (sym is)) in
     let agrees = λ (y : Cookie). g y ≡ f y in
     record {
       count = let i = length-insert index place c in let l = length-append d.list (e ∷ []) in let s = x.index.count in omega (arith, i, l, s);
-      same = λ k. has-push d.list e k ∙ (ap (λ b. b || (e.cookie == k)) (x.index.same k) ∙ (ap (λ n. is_listed index k || (n == k)) (sym is) ∙ sym (listed-insert index place c k)));
+      same = λ k. has-push d.list e k
+          ∙ (ap (λ b. b || (e.cookie == k)) (x.index.same k) ∙ (ap (λ n. is_listed index k || (n == k)) (sym is) ∙ sym (listed-insert index place c k)));
       sorted =
           sorted-insert g index place c name (sorted-agree f g index kept x.index.sorted) here
           (all-agree f g (take place index) name Less (all-take agrees index place kept) p.before)
@@ -140,7 +147,8 @@ different es x y l = by (x.0 == y.0) refl
         let e : Less ≡ Equal = sym l ∙ (ap (λ n. name_cmp n (name_under es y)) names ∙ with-itself (name_under es y)) in absurd (grind (arith, e))
     by false p = refl
 
-index-kept : (es : List Listed) (x : Cookie) (xs : List Cookie) → AllByRecursion (λ y. name_cmp (name_under es x) (name_under es y) ≡ Less) xs → index_without x.0 xs ≡ xs
+index-kept : (es : List Listed) (x : Cookie) (xs : List Cookie) → AllByRecursion (λ y. name_cmp (name_under es x) (name_under es y) ≡ Less) xs
+    → index_without x.0 xs ≡ xs
 index-kept es x [] a = refl
 index-kept es x (y ∷ xs) a =
     let o : (y.0 == x.0) ≡ false = (let d = different es x y a.0 in grind (arith, nat_tests, d)) in rw o (ap (λ l. y ∷ l) (index-kept es x xs a.1))
@@ -180,7 +188,8 @@ has-without [] k q = by (q == k)
     by false = refl
 has-without (x ∷ es) k q = by (x.cookie == k) refl (x.cookie == q) refl (q == k) refl (has-without es k q)
   where
-    by : (a : Bool) → a ≡ (x.cookie == k) → (b : Bool) → b ≡ (x.cookie == q) → (c : Bool) → c ≡ (q == k) → has (without k es) q ≡ (if q == k then false else has es q)
+    by : (a : Bool) → a ≡ (x.cookie == k) → (b : Bool) → b ≡ (x.cookie == q) → (c : Bool) → c ≡ (q == k)
+        → has (without k es) q ≡ (if q == k then false else has es q)
         → has (if not a then x ∷ without k es else without k es) q ≡ (if c then false else is_some (if b then Some x else under q es))
     by true p true s true u r = rw (← u) at r
     by true p false s true u r = rw (← u) at r
@@ -199,7 +208,8 @@ listed-without [] k q = by (q == k)
     by false = refl
 listed-without (x ∷ xs) k q = by (x.0 == k) refl (x.0 == q) refl (q == k) refl (listed-without xs k q)
   where
-    by : (a : Bool) → a ≡ (x.0 == k) → (b : Bool) → b ≡ (x.0 == q) → (c : Bool) → c ≡ (q == k) → is_listed (index_without k xs) q ≡ (if q == k then false else is_listed xs q)
+    by : (a : Bool) → a ≡ (x.0 == k) → (b : Bool) → b ≡ (x.0 == q) → (c : Bool) → c ≡ (q == k)
+        → is_listed (index_without k xs) q ≡ (if q == k then false else is_listed xs q)
         → is_listed (if not a then x ∷ index_without k xs else index_without k xs) q ≡ (if c then false else (b || is_listed xs q))
     by true p true s true u r = rw (← u) at r
     by true p false s true u r = rw (← u) at r
@@ -239,8 +249,10 @@ indexed-dropped d index place c x g =
       directory = record { cookies = rises-without 3 d.list d.next c.0 x.directory.cookies; names = differ-without d.list c.0 x.directory.names };
       index = record {
         count =
-            let a = length-removed index place c g in let b = length-without 3 d.list d.next c.0 x.directory.cookies there in let s = x.index.count in omega (arith, a, b, s);
-        same = λ q. has-without d.list c.0 q ∙ (ap (λ b. if q == c.0 then false else b) (x.index.same q) ∙ (sym (listed-without index c.0 q) ∙ ap (λ l. is_listed l q) (sym gone)));
+            let a = length-removed index place c g in let b = length-without 3 d.list d.next c.0 x.directory.cookies there in let s = x.index.count in
+            omega (arith, a, b, s);
+        same = λ q. has-without d.list c.0 q
+            ∙ (ap (λ b. if q == c.0 then false else b) (x.index.same q) ∙ (sym (listed-without index c.0 q) ∙ ap (λ l. is_listed l q) (sym gone)));
         sorted =
             subst (λ l. NamesRise (without c.0 d.list) l) (sym gone)
             (sorted-agree (name_under d.list) (name_under (without c.0 d.list)) (index_without c.0 index) (names-left d.list c.0 index)
@@ -249,7 +261,8 @@ indexed-dropped d index place c x g =
     }
 
 -- the entry of a name is the one that is dropped
-pub dropped-removed : (d : DirectoryValue) (index : List Cookie) (place : ℕ) (c : Cookie) (name : List ℕ) → IsIndexed d index → name_at d.list index place ≡ Some name
+pub dropped-removed : (d : DirectoryValue) (index : List Cookie) (place : ℕ) (c : Cookie) (name : List ℕ) → IsIndexed d index
+    → name_at d.list index place ≡ Some name
     → slice_get index place ≡ Some c → dropped c.0 d ≡ removed name d
 dropped-removed d index place c name x n g = by (under c.0 d.list) refl
   where

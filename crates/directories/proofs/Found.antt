@@ -15,7 +15,8 @@ use Rattle.directories.proofs.Names.{found-under, find-under}
 
 pub listed-here : (index : List Cookie) (i : ℕ) (c : Cookie) → slice_get index i ≡ Some c → is_listed index c.0 ≡ true
 listed-here [] i c s = absurd (grind (arith, s))
-listed-here (x ∷ index) zero c s = let same : x ≡ c = grind (arith, s) in subst (λ (y : Cookie). is_listed (x ∷ index) y.0 ≡ true) same (grind (arith, nat_tests))
+listed-here (x ∷ index) zero c s = let same : x ≡ c = grind (arith, s) in subst (λ (y : Cookie). is_listed (x ∷ index) y.0 ≡ true) same
+    (grind (arith, nat_tests))
 listed-here (x ∷ index) (suc i) c s = let r = listed-here index i c s in grind (arith, nat_tests, r)
 
 pub known-here : (es : List Listed) (index : List Cookie) (i : ℕ) (c : Cookie) → IsIndex es index → slice_get index i ≡ Some c → has es c.0 ≡ true

@@ -30,7 +30,8 @@ greater-middle es index name i s l h = all-after (name_under es) index i (read_a
 pub equal-middle : (es : List Listed) (index : List Cookie) (name : List ℕ) (i : ℕ) → i < length index
     → name_cmp (name_under es (read_at index i)) name ≡ Equal → name_at es index i ≡ Some name
 equal-middle es index name i l h =
-    ap (λ (o : Option Cookie). option_map (name_under es) o) (at-place index i l) ∙ ap (λ (n : List ℕ). Some n) (same-names (name_under es (read_at index i)) name h)
+    ap (λ (o : Option Cookie). option_map (name_under es) o) (at-place index i l)
+    ∙ ap (λ (n : List ℕ). Some n) (same-names (name_under es (read_at index i)) name h)
 
 -- one more name compared, and at most half is left
 pub one-more : (compared size rest most : ℕ) → 0 < size → rest ≤ size / 2 → compared + binary_digits size ≤ most → compared + 1 + binary_digits rest ≤ most

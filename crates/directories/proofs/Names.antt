@@ -41,11 +41,13 @@ module _ (P : Listed → Type 0) where
 -- an entry is what its name finds
 pub found-under : (es : List Listed) (cookie : ℕ) (e : Listed) → NamesDiffer es → under cookie es ≡ Some e → find_name e.name es ≡ Some e
 found-under [] cookie e d u = absurd (grind (arith, u))
-found-under (x ∷ es) cookie e d u = by (x.cookie == cookie) (all-under (λ (y : Listed). same_name y.name x.name ≡ false) es cookie e d.0) (found-under es cookie e d.1) u
+found-under (x ∷ es) cookie e d u = by (x.cookie == cookie) (all-under (λ (y : Listed). same_name y.name x.name ≡ false) es cookie e d.0)
+    (found-under es cookie e d.1) u
   where
     by : (b : Bool) → (under cookie es ≡ Some e → same_name e.name x.name ≡ false) → (under cookie es ≡ Some e → find_name e.name es ≡ Some e)
         → (if b then Some x else under cookie es) ≡ Some e → (if same_name x.name e.name then Some x else find_name e.name es) ≡ Some e
-    by true o r s = let same : x ≡ e = grind (arith, s) in subst (λ (y : Listed). (if same_name x.name y.name then Some x else find_name y.name es) ≡ Some y) same (rw (same-itself x.name) refl)
+    by true o r s = let same : x ≡ e = grind (arith, s) in subst
+        (λ (y : Listed). (if same_name x.name y.name then Some x else find_name y.name es) ≡ Some y) same (rw (same-itself x.name) refl)
     by false o r s = rw (same-turned x.name e.name ∙ o s) (r s)
 
 -- what a name finds is under its cookie, and has the name
@@ -58,7 +60,8 @@ find-under low (x ∷ es) next name e h f = by (same_name x.name name) refl (fin
         → (if b then Some x else find_name name es) ≡ Some e → ((if x.cookie == e.cookie then Some x else under e.cookie es) ≡ Some e) × (e.name ≡ name)
     by true p r s =
         let same : x ≡ e = grind (arith, s) in
-        subst (λ (y : Listed). ((if x.cookie == y.cookie then Some x else under y.cookie es) ≡ Some y) × (y.name ≡ name)) same (grind (arith, nat_tests), same-is x.name name (sym p))
+        subst (λ (y : Listed). ((if x.cookie == y.cookie then Some x else under y.cookie es) ≡ Some y) × (y.name ≡ name)) same
+        (grind (arith, nat_tests), same-is x.name name (sym p))
     by false p r s =
         let u = r s in
         let there : has es e.cookie ≡ true = ap (λ (o : Option Listed). is_some o) u.0 in
@@ -84,11 +87,13 @@ pub without-same : (low : ℕ) (es : List Listed) (next cookie : ℕ) (e : Liste
     → without cookie es ≡ without_name e.name es
 without-same low [] next cookie e h d u = refl
 without-same low (x ∷ es) next cookie e h d u =
-    by (x.cookie == cookie) refl (all-under (λ (y : Listed). same_name y.name x.name ≡ false) es cookie e d.0) (without-same (x.cookie + 1) es next cookie e h.1 d.1) u
+    by (x.cookie == cookie) refl (all-under (λ (y : Listed). same_name y.name x.name ≡ false) es cookie e d.0)
+    (without-same (x.cookie + 1) es next cookie e h.1 d.1) u
   where
     by : (b : Bool) → b ≡ (x.cookie == cookie) → (under cookie es ≡ Some e → same_name e.name x.name ≡ false)
         → (under cookie es ≡ Some e → without cookie es ≡ without_name e.name es) → (if b then Some x else under cookie es) ≡ Some e
-        → (if not b then x ∷ without cookie es else without cookie es) ≡ (if not (same_name x.name e.name) then x ∷ without_name e.name es else without_name e.name es)
+        → (if not b then x ∷ without cookie es else without cookie es) ≡
+        (if not (same_name x.name e.name) then x ∷ without_name e.name es else without_name e.name es)
     by true p o r s =
         let same : x ≡ e = grind (arith, s) in
         let here : x.cookie ≡ cookie = grind (arith, nat_tests, p) in
@@ -115,7 +120,8 @@ pub differ-push : (es : List Listed) (e : Listed) → NamesDiffer es → find_na
 differ-push [] e d f = (tt, tt)
 differ-push (x ∷ es) e d f = by (same_name x.name e.name) refl (differ-push es e d.1) f
   where
-    by : (b : Bool) → b ≡ same_name x.name e.name → (find_name e.name es ≡ None → NamesDiffer (es ++ e ∷ [])) → (if b then Some x else find_name e.name es) ≡ None
+    by : (b : Bool) → b ≡ same_name x.name e.name → (find_name e.name es ≡ None → NamesDiffer (es ++ e ∷ []))
+        → (if b then Some x else find_name e.name es) ≡ None
         → NamesDiffer (x ∷ (es ++ e ∷ []))
     by true p r s = absurd (grind (arith, s))
     by false p r s = (only-push es x e d.0 (same-turned e.name x.name ∙ sym p), r s)

@@ -76,7 +76,8 @@ module _ {K : Type 0} (f : K → List ℕ) where
   unfolding IsStrictlySortedBy
   all-before [] i x name s g l = tt
   all-before (y ∷ xs) zero x name s g l = let same : y ≡ x = grind (arith, g) in (subst (λ z. name_cmp (f z) name ≡ Less) (sym same) l, tt)
-  all-before (y ∷ xs) (suc i) x name s g l = (less-less (f y) (f x) name (all-at (λ z. name_cmp (f y) (f z) ≡ Less) xs i x s.0 g) l, all-before xs i x name s.1 g l)
+  all-before (y ∷ xs) (suc i) x name s g l =
+      (less-less (f y) (f x) name (all-at (λ z. name_cmp (f y) (f z) ≡ Less) xs i x s.0 g) l, all-before xs i x name s.1 g l)
 
   pub all-after : (xs : List K) (i : ℕ) (x : K) (name : List ℕ) → IsStrictlySortedBy (on f name_cmp) xs → slice_get xs i ≡ Some x
       → name_cmp (f x) name ≡ Greater → AllAre name Greater (drop i xs)
@@ -84,14 +85,21 @@ module _ {K : Type 0} (f : K → List ℕ) where
   all-after [] i x name s g l = absurd (grind (arith, g))
   all-after (y ∷ xs) zero x name s g l =
       let same : y ≡ x = grind (arith, g) in
-      let here : name_cmp (f y) name ≡ Greater = subst (λ z. name_cmp (f z) name ≡ Greater) (sym same) l in
-      (here, all-so (λ z. name_cmp (f y) (f z) ≡ Less) (λ z. name_cmp (f z) name ≡ Greater) (λ z p. turned-greater name (f z) (less-less name (f y) (f z) (turned-less (f y) name here) p)) xs s.0)
+      let here : name_cmp (f y) name ≡ Greater = subst (λ z. name_cmp (f z) name ≡ Greater) (sym same) l in (
+        here,
+        all-so (λ z. name_cmp (f y) (f z) ≡ Less) (λ z. name_cmp (f z) name ≡ Greater)
+            (λ z p. turned-greater name (f z) (less-less name (f y) (f z) (turned-less (f y) name here) p)) xs s.0,
+      )
   all-after (y ∷ xs) (suc i) x name s g l = all-after xs i x name s.1 g l
 
   pub sorted-insert : (xs : List K) (i : ℕ) (x : K) (name : List ℕ) → IsStrictlySortedBy (on f name_cmp) xs → f x ≡ name
       → AllAre name Less (take i xs) → AllAre name Greater (drop i xs) → IsStrictlySortedBy (on f name_cmp) (insert xs i x)
   unfolding IsStrictlySortedBy
-  sorted-insert xs zero x name s e b a = (all-so (λ z. name_cmp (f z) name ≡ Greater) (λ z. name_cmp (f x) (f z) ≡ Less) (λ z p. subst (λ n. name_cmp n (f z) ≡ Less) (sym e) (turned-less (f z) name p)) xs a, s)
+  sorted-insert xs zero x name s e b a = (
+    all-so (λ z. name_cmp (f z) name ≡ Greater) (λ z. name_cmp (f x) (f z) ≡ Less)
+        (λ z p. subst (λ n. name_cmp n (f z) ≡ Less) (sym e) (turned-less (f z) name p)) xs a,
+    s,
+  )
   sorted-insert [] (suc i) x name s e b a = (tt, tt)
   sorted-insert (y ∷ xs) (suc i) x name s e b a =
       (all-insert (λ z. name_cmp (f y) (f z) ≡ Less) xs i x s.0 (subst (λ n. name_cmp (f y) n ≡ Less) (sym e) b.0), sorted-insert xs i x name s.1 e b.1 a)

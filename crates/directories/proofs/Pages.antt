@@ -43,8 +43,10 @@ pub one-copied : (copied : List Entry) (left i : ℕ) (es : List Entry) (room : 
 one-copied copied left i es room e x size h l is s f same =
     let rest = drop (suc i) (listed es) in
     let head : fitting left (drop i (listed es)) ≡ entry_of e ∷ fitting (left - size) rest =
-    ap (λ d. fitting left d) (drop-listed es i e l is) ∙ (fits-one left (entry_of e) rest (omega (arith, s, f)) ∙ ap (λ n. entry_of e ∷ fitting (left - n) rest) (sym s)) in
-    rw (add-one, listed-append copied (x ∷ []), append_assoc) (ap (λ y. listed copied ++ y ∷ fitting (left - size) rest) same ∙ (ap (λ l. listed copied ++ l) (sym head) ∙ h))
+    ap (λ d. fitting left d) (drop-listed es i e l is)
+    ∙ (fits-one left (entry_of e) rest (omega (arith, s, f)) ∙ ap (λ n. entry_of e ∷ fitting (left - n) rest) (sym s)) in
+    rw (add-one, listed-append copied (x ∷ []), append_assoc)
+    (ap (λ y. listed copied ++ y ∷ fitting (left - size) rest) same ∙ (ap (λ l. listed copied ++ l) (sym head) ∙ h))
 
 pub full-page : (copied : List Entry) (left i : ℕ) (es : List Entry) (room : ℕ) (e : Entry) (size : ℕ) → SoFar copied left i es room → i < length es
     → e ≡ get_or es i e → size ≡ entry_size (entry_of e) → left < size → listed copied ≡ fitting room (listed es)
@@ -53,7 +55,8 @@ full-page copied left i es room e size h l is s f =
     ap (λ d. fitting left d) (drop-listed es i e l is) ∙ fits-none left (entry_of e) (drop (suc i) (listed es)) (omega (arith, s, f)) in
     sym (append-nil (listed copied)) ∙ (ap (λ l. listed copied ++ l) (sym none) ∙ h)
 
-pub last-page : (copied : List Entry) (left i : ℕ) (es : List Entry) (room : ℕ) → SoFar copied left i es room → length es ≤ i → listed copied ≡ fitting room (listed es)
+pub last-page : (copied : List Entry) (left i : ℕ) (es : List Entry) (room : ℕ) → SoFar copied left i es room → length es ≤ i
+    → listed copied ≡ fitting room (listed es)
 last-page copied left i es room h l =
     let none : fitting left (drop i (listed es)) ≡ [] = ap (λ d. fitting left d) (drop-all es i l) in
     sym (append-nil (listed copied)) ∙ (ap (λ l. listed copied ++ l) (sym none) ∙ h)

@@ -20,9 +20,11 @@ rises-push low (x ∷ es) next e is h = (h.0, rises-push (x.cookie + 1) es next 
 pub rises-without : (low : ℕ) (es : List Listed) (next cookie : ℕ) → Rises low es next → Rises low (without cookie es) next
 rises-without low [] next cookie h = h
 rises-without low (e ∷ es) next cookie h =
-    by (not (e.cookie == cookie)) (h.0, rises-without (e.cookie + 1) es next cookie h.1) (rises-without low es next cookie (rises-weaker (e.cookie + 1) low es next (let a = h.0 in omega arith) h.1))
+    by (not (e.cookie == cookie)) (h.0, rises-without (e.cookie + 1) es next cookie h.1)
+    (rises-without low es next cookie (rises-weaker (e.cookie + 1) low es next (let a = h.0 in omega arith) h.1))
   where
-    by : (b : Bool) → Rises low (e ∷ without cookie es) next → Rises low (without cookie es) next → Rises low (if b then e ∷ without cookie es else without cookie es) next
+    by : (b : Bool) → Rises low (e ∷ without cookie es) next → Rises low (without cookie es) next
+        → Rises low (if b then e ∷ without cookie es else without cookie es) next
     by true p q = p
     by false p q = q
 
@@ -80,7 +82,8 @@ above-at cookie (suc i) (e ∷ es) b a = by (nat_lt cookie e.cookie) (λ p. abov
 -- ---- the entry under a cookie
 
 -- it is the first one above the cookie before
-at-head : (low : ℕ) (es : List Listed) (next cookie : ℕ) → Rises low es next → has es (suc cookie) ≡ true → under (suc cookie) es ≡ slice_get (above_cookie cookie es) 0
+at-head : (low : ℕ) (es : List Listed) (next cookie : ℕ) → Rises low es next → has es (suc cookie) ≡ true
+    → under (suc cookie) es ≡ slice_get (above_cookie cookie es) 0
 at-head low [] next cookie h t = refl
 at-head low (e ∷ es) next cookie h t =
     let m = at-least (e.cookie + 1) es next (suc cookie) h.1 in let r = at-head (e.cookie + 1) es next cookie h.1 in grind (arith, nat_tests, m, r)
@@ -98,7 +101,8 @@ pub under-is : (cookie : ℕ) (es : List Listed) (e : Listed) → under cookie e
 under-is cookie [] e u = absurd (grind (arith, u))
 under-is cookie (x ∷ es) e u = by (x.cookie == cookie) refl (under-is cookie es e) u
   where
-    by : (b : Bool) → b ≡ (x.cookie == cookie) → (under cookie es ≡ Some e → e.cookie ≡ cookie) → (if b then Some x else under cookie es) ≡ Some e → e.cookie ≡ cookie
+    by : (b : Bool) → b ≡ (x.cookie == cookie) → (under cookie es ≡ Some e → e.cookie ≡ cookie) → (if b then Some x else under cookie es) ≡ Some e
+        → e.cookie ≡ cookie
     by true p r s = let same : x ≡ e = grind (arith, s) in subst (λ (y : Listed). y.cookie ≡ cookie) same (grind (arith, nat_tests, p))
     by false p r s = r s
 
@@ -106,7 +110,8 @@ under-is cookie (x ∷ es) e u = by (x.cookie == cookie) refl (under-is cookie e
 
 pub without-none : (low : ℕ) (es : List Listed) (next cookie : ℕ) → Rises low es next → cookie < low → without cookie es ≡ es
 without-none low [] next cookie h l = refl
-without-none low (e ∷ es) next cookie h l = let a = h.0 in let r = without-none (e.cookie + 1) es next cookie h.1 (omega arith) in grind (arith, nat_tests, r)
+without-none low (e ∷ es) next cookie h l = let a = h.0 in let r = without-none (e.cookie + 1) es next cookie h.1 (omega arith) in grind
+    (arith, nat_tests, r)
 
 pub remove-at : (low : ℕ) (es : List Listed) (next cookie i : ℕ) (e : Listed) → Rises low es next → slice_get es i ≡ Some e → e.cookie ≡ cookie
     → remove es i ≡ without cookie es

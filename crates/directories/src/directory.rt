@@ -83,6 +83,13 @@ impl Directory {
         self.entries.len() == 0
     }
 
+    /// The cookie that the next entry takes.
+    pub fn next_cookie(&self) -> Cookie
+        ensures { result.0 ≡ self.now.next }
+    {
+        self.entries.next_cookie()
+    }
+
     /// The fileid of the entry with a name.
     pub fn find(&self, name: &[u8]) -> Option<Fileid>
         ensures { fileid_number result ≡ fileid_found self.now name.now }

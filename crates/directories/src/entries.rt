@@ -66,6 +66,13 @@ impl Entries {
         self.list.len()
     }
 
+    /// The cookie that the next entry takes.
+    pub fn next_cookie(&self) -> Cookie
+        ensures { result.0 ≡ self.now.next }
+    {
+        self.next
+    }
+
     /// The entry under a cookie that has one.
     pub fn at(&self, cookie: Cookie) -> &Entry
         requires { has self.now.list cookie.0 ≡ true }

@@ -5,6 +5,8 @@ mod directory;
 mod entries;
 mod page;
 mod search;
+#[cfg(test)]
+mod tests;
 
 pub use directory::Directory;
 pub use page::Page;

@@ -13,4 +13,5 @@ returns-then-size-left c =
     c.size_of-size.result c.loop-entry.invariant c.loop-entry-test.true c.entry-item.is c.size_of-size.ensures c.if-size-left.true
 
 pub returns : goal.returns
-returns c = last-page c.loop-entry.copied.items c.loop-entry.left c.loop-entry.entry-index c.args.entries.now c.args.room c.loop-entry.invariant c.loop-entry-test.false
+returns c = last-page c.loop-entry.copied.items c.loop-entry.left c.loop-entry.entry-index c.args.entries.now c.args.room c.loop-entry.invariant
+    c.loop-entry-test.false

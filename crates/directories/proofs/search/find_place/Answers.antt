@@ -32,7 +32,8 @@ loop-low-preserved c =
       ordered = omega (arith, c.loop-low.invariant, c.loop-low-test.true);
       within = omega (arith, inside);
       before = c.loop-low.invariant.before;
-      after = greater-middle c.args.entries.now.list c.args.index.now c.args.name.now middle c.requires.sorted inside (sym c.compare.ensures ∙ c.in-Greater.is);
+      after = greater-middle c.args.entries.now.list c.args.index.now c.args.name.now middle c.requires.sorted inside
+          (sym c.compare.ensures ∙ c.in-Greater.is);
       room = c.loop-low.invariant.room;
       counted =
           one-more c.loop-low.compared (c.loop-low.high - c.loop-low.low) _ _ (omega (arith, c.loop-low-test.true))
@@ -47,5 +48,6 @@ returns-in-Equal-clause-there c =
 
 pub returns-in-Equal-clause-compared : goal.returns-in-Equal-clause-compared
 returns-in-Equal-clause-compared c =
-    let more = one-more c.loop-low.compared (c.loop-low.high - c.loop-low.low) 0 _ (omega (arith, c.loop-low-test.true)) (omega arith) c.loop-low.invariant.counted in
+    let more = one-more c.loop-low.compared (c.loop-low.high - c.loop-low.low) 0 _ (omega (arith, c.loop-low-test.true))
+    (omega arith) c.loop-low.invariant.counted in
     omega (arith, more)

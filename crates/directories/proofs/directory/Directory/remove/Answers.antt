@@ -5,12 +5,14 @@ use Rattle.directories.proofs.directory.Directory.remove.Goals as goal
 pub returns-then-not-search-clause-there : goal.returns-then-not-search-clause-there
 returns-then-not-search-clause-there c =
     let place = rw c.deref.ensures.value at c.find_place-search.ensures.absent (is-false _ c.if-not-search.true) in
-    rw (← c.self.view_is) (found-none c.self.inside.entries c.self.inside.by_name.items c.find_place-search.result.place c.args.name.now c.self.invariant place)
+    rw (← c.self.view_is) (found-none c.self.inside.entries c.self.inside.by_name.items c.find_place-search.result.place c.args.name.now c.self.invariant
+    place)
 
 pub returns-then-not-search-clause-left : goal.returns-then-not-search-clause-left
 returns-then-not-search-clause-left c =
     let place = rw c.deref.ensures.value at c.find_place-search.ensures.absent (is-false _ c.if-not-search.true) in
-    rw (← c.self.view_is) (removed-none c.self.inside.entries c.self.inside.by_name.items c.find_place-search.result.place c.args.name.now c.self.invariant place)
+    rw (← c.self.view_is) (removed-none c.self.inside.entries c.self.inside.by_name.items c.find_place-search.result.place c.args.name.now c.self.invariant
+    place)
 
 pub remove-cookie-requires : goal.remove-cookie-requires
 remove-cookie-requires c =
@@ -23,17 +25,20 @@ pub invariant_of-self : goal.invariant_of-self
 invariant_of-self c =
     let there = rw c.deref.ensures.value at c.find_place-search.ensures.there (is-true _ c.if-not-search.false) in
     rw (c.remove.ensures, c.remove-cookie.ensures.items)
-    (still-indexed c.self.inside.entries c.self.inside.by_name.items c.find_place-search.result.place c.remove-cookie.result c.args.name.now c.self.invariant there
+    (still-indexed c.self.inside.entries c.self.inside.by_name.items c.find_place-search.result.place c.remove-cookie.result c.args.name.now
+    c.self.invariant there
     c.remove-cookie.ensures.value)
 
 pub returns-clause-there : goal.returns-clause-there
 returns-clause-there c =
     let there = rw c.deref.ensures.value at c.find_place-search.ensures.there (is-true _ c.if-not-search.false) in
-    rw (← c.self.view_is) (sym (found-some c.self.inside.entries c.self.inside.by_name.items c.find_place-search.result.place c.args.name.now c.self.invariant there))
+    rw (← c.self.view_is) (sym (found-some c.self.inside.entries c.self.inside.by_name.items c.find_place-search.result.place c.args.name.now
+    c.self.invariant there))
 
 pub returns-clause-left : goal.returns-clause-left
 returns-clause-left c =
     let there = rw c.deref.ensures.value at c.find_place-search.ensures.there (is-true _ c.if-not-search.false) in
     rw (c.remove.ensures, ← c.self.view_is)
-    (removed-some c.self.inside.entries c.self.inside.by_name.items c.find_place-search.result.place c.remove-cookie.result c.args.name.now c.self.invariant there
+    (removed-some c.self.inside.entries c.self.inside.by_name.items c.find_place-search.result.place c.remove-cookie.result c.args.name.now
+    c.self.invariant there
     c.remove-cookie.ensures.value)
