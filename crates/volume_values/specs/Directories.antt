@@ -1,6 +1,7 @@
 -- A directory: its entries, but `.` and `..`, by rising cookies (RFC 1813 section 3.3.16).
 use Rattle.std.specs.Prelude.{◌≡◌, ◌≤◌, ℕ, ◌+◌, Bool, false, ◌==◌, List, [], ◌∷◌, ◌++◌, length, Option}
 use Rattle.std.specs.List.{AllByRecursion}
+use Rattle.std.specs.Option.{option_map}
 use Rattle.nfs_model.specs.Types.{Listed}
 use Rattle.nfs_model.specs.Names.{same_name, find_name, without_name}
 use Rattle.nfs_model.specs.Serial.Readdir.{above_cookie, fitting}
@@ -18,6 +19,10 @@ empty_directory = record { next = 3; list = [] }
 -- the entry of a name
 abbrev pub found : DirectoryValue → List ℕ → Option Listed
 found d name = find_name name d.list
+
+-- the fileid of a name
+abbrev pub fileid_found : DirectoryValue → List ℕ → Option ℕ
+fileid_found d name = option_map (λ (e : Listed). e.fileid) (found d name)
 
 -- a page of entries
 pub record Page : Type 0 where

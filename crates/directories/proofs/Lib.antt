@@ -1,0 +1,10 @@
+pub mod Rising
+pub mod Places
+pub mod Orders
+pub mod Names
+pub mod Found
+pub mod Halved
+pub mod Middle
+pub mod Changed
+pub mod Called
+pub mod Pages

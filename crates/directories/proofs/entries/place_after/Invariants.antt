@@ -1,0 +1,15 @@
+use Rattle.std.proofs.Common.{◌-◌, ◌≡◌, ◌≤◌, length, drop, take, []}
+use Rattle.nfs_model.specs.Serial.Readdir.{above_cookie}
+use Rattle.directories.specs.Entries.{listed}
+use Rattle.directories.proofs.entries.place_after.Given as goal
+
+abbrev pub invariant-loop-low : goal.invariant-loop-low
+invariant-loop-low l = record {
+  ordered : l.low ≤ l.high;
+  within : l.high ≤ length l.list;
+  before : above_cookie l.cookie.0 (take l.low (listed l.list)) ≡ [];
+  after : above_cookie l.cookie.0 (drop l.high (listed l.list)) ≡ drop l.high (listed l.list);
+}
+
+abbrev pub decreases-loop-low : goal.decreases-loop-low
+decreases-loop-low l = l.high - l.low

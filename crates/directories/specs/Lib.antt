@@ -1,0 +1,3 @@
+pub mod Entries
+pub mod Index
+pub mod Digits

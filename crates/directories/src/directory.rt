@@ -1,0 +1,160 @@
+//! A directory: its entries, and an index of them by name.
+
+ghost use Rattle.std.specs.Prelude.{
+  ◌≡◌,
+  ◌==◌,
+  ◌<◌,
+  ◌≤◌,
+  ◌^◌,
+  ℕ,
+  length,
+  None,
+  is_some,
+  IfOk,
+  OnOk,
+  OnErr,
+};
+ghost use Rattle.std.specs.List.{insert};
+ghost use Rattle.std.specs.Vec.{vec_len, vec_capacity};
+ghost use Rattle.volume_values.specs.Directories.{
+  empty_directory,
+  found,
+  fileid_found,
+  page,
+  added,
+  removed,
+};
+ghost use Rattle.directories.specs.Digits.{binary_digits};
+ghost use Rattle.directories.specs.Entries.{page_value};
+ghost use Rattle.directories.specs.Index.{fileid_number};
+
+use crate::entries::Entries;
+use crate::page::Page;
+use crate::search::find_place;
+use nfs_values::{Cookie, Fileid, Name};
+use std::alloc::{AllocError, Global};
+use std::marker::Model;
+
+/// A directory: its entries but `.` and `..`, by rising cookies from 3 on. No two have one name,
+/// and no cookie is given twice (RFC 1813 section 3.3.16).
+#[derive(Drop)]
+pub struct Directory {
+    entries: Entries,
+    /// The cookies of the entries in the order of the names' bytes.
+    by_name: Vec<Cookie>,
+}
+
+impl Model for Directory {
+    ghost use Rattle.volume_values.specs.Directories.{DirectoryValue};
+    ghost use Rattle.volume_values.specs.Codes.{coded_directory};
+    ghost use Rattle.directories.specs.Index.{IsIndexed};
+
+    ghost Value = { DirectoryValue };
+
+    ghost coded = { coded_directory };
+
+    ghost view = { λ d. d.entries };
+
+    ghost invariant = { λ d. IsIndexed d.entries d.by_name.items };
+}
+
+impl Directory {
+    /// A directory without entries. It takes no memory.
+    pub fn new(alloc: Global) -> Directory
+        ensures { result ≡ empty_directory }
+    {
+        Directory {
+            entries: Entries::new(alloc),
+            by_name: Vec::new(alloc),
+        }
+    }
+
+    /// The number of entries.
+    pub fn len(&self) -> usize
+        ensures { result ≡ length self.now.list }
+    {
+        self.entries.len()
+    }
+
+    /// Whether there is no entry.
+    pub fn is_empty(&self) -> bool
+        ensures { result ≡ (length self.now.list == 0) }
+    {
+        self.entries.len() == 0
+    }
+
+    /// The cookie that the next entry takes.
+    pub fn next_cookie(&self) -> Cookie
+        ensures { result.0 ≡ self.now.next }
+    {
+        self.entries.next_cookie()
+    }
+
+    /// The fileid of the entry with a name.
+    pub fn find(&self, name: &[u8]) -> Option<Fileid>
+        ensures { fileid_number result ≡ fileid_found self.now name.now }
+    {
+        self.find_counted(name).0
+    }
+
+    /// The fileid of the entry with a name, and how many names were compared: no more than the
+    /// number of entries has binary digits.
+    pub fn find_counted(&self, name: &[u8]) -> (Option<Fileid>, usize)
+        ensures answer { fileid_number result.0 ≡ fileid_found self.now name.now }
+        ensures compared { result.1 ≤ binary_digits (length self.now.list) }
+    {
+        let search = find_place(&self.entries, &self.by_name, name);
+        if !search.is_there {
+            return (None, search.compared);
+        }
+        let cookie = self.by_name[search.place];
+        (Some(self.entries.at(cookie).fileid), search.compared)
+    }
+
+    /// Adds an entry, which takes the next cookie. Where there is no memory for it nothing
+    /// changes, and the name is dropped.
+    pub fn add(&mut self, name: Name, fileid: Fileid) -> Result<(), AllocError>
+        requires cookies { self.old.next < 2 ^ 63 }
+        requires absent { found self.old name ≡ None }
+        ensures ok { OnOk result (self.new ≡ added name fileid.0 self.old) }
+        ensures err { OnErr result (self.new ≡ self.old) }
+    {
+        let place = find_place(&self.entries, &self.by_name, name.as_bytes()).place;
+        self.by_name.try_reserve(1)?;
+        let cookie = self.entries.add(name, fileid)?;
+        put_at(&mut self.by_name, place, cookie);
+        Ok(())
+    }
+
+    /// Removes the entry with a name, and tells whether there was one. It takes no memory.
+    pub fn remove(&mut self, name: &[u8]) -> bool
+        ensures there { result ≡ is_some (found self.old name.now) }
+        ensures left { self.new ≡ removed name.now self.old }
+    {
+        let search = find_place(&self.entries, &self.by_name, name);
+        if !search.is_there {
+            return false;
+        }
+        let cookie = self.by_name.remove(search.place);
+        self.entries.remove(cookie);
+        true
+    }
+
+    /// The entries after a cookie, as many as fit into a number of bytes, and whether none
+    /// remains after them. An entry takes 24 bytes and its name, padded to a multiple of 4
+    /// (entry3 with the mark of another item, RFC 1813 section 3.3.16).
+    pub fn page(&self, alloc: Global, cookie: Cookie, room: usize) -> Result<Page, AllocError>
+        ensures { IfOk result (λ p. page_value p ≡ page self.now cookie.0 room) }
+    {
+        self.entries.page(alloc, cookie, room)
+    }
+}
+
+/// Puts a cookie into an index that has room for one more.
+fn put_at(index: &mut Vec<Cookie>, place: usize, cookie: Cookie)
+    requires place { place ≤ vec_len index.old }
+    requires room { vec_len index.old < vec_capacity index.old }
+    ensures { index.new.items ≡ insert index.old.items place cookie }
+{
+    index.insert(place, cookie).unwrap();
+}

@@ -1,0 +1,12 @@
+//! Directories: entries in the order of their cookies, and an index of them by name.
+#![tactic(auto)]
+
+mod directory;
+mod entries;
+mod page;
+mod search;
+#[cfg(test)]
+mod tests;
+
+pub use directory::Directory;
+pub use page::Page;

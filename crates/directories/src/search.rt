@@ -1,0 +1,61 @@
+//! Search by name.
+
+ghost use Rattle.std.specs.Prelude.{◌≡◌, ◌≤◌, length, true, false, Some};
+ghost use Rattle.directories.specs.Entries.{has};
+ghost use Rattle.directories.specs.Digits.{binary_digits};
+ghost use Rattle.directories.specs.Index.{IsIndex, IsPlace, name_at, name_cmp, name_under};
+
+use crate::entries::Entries;
+use nfs_values::Cookie;
+use std::cmp::Ordering;
+
+/// What a search for a name has found.
+#[derive(Clone, Copy, Debug, PartialEq, Eq)]
+pub struct Search {
+    /// Where in the index the name is, or where it belongs.
+    pub place: usize,
+    pub is_there: bool,
+    /// How many names were compared.
+    pub compared: usize,
+}
+
+/// Searches an index for a name by halving.
+pub fn find_place(entries: &Entries, index: &[Cookie], name: &[u8]) -> Search
+    requires { IsIndex entries.now.list index.now }
+    ensures within { result.place ≤ length index.now }
+    ensures there { result.is_there ≡ true → name_at entries.now.list index.now result.place ≡ Some name.now }
+    ensures absent { result.is_there ≡ false → IsPlace entries.now.list index.now name.now result.place }
+    ensures compared { result.compared ≤ binary_digits (length index.now) }
+{
+    let mut low = 0;
+    let mut high = index.len();
+    let mut compared = 0;
+    while low < high {
+        let middle = low + (high - low) / 2;
+        compared += 1;
+        match compare(entries, index[middle], name) {
+            Ordering::Less => low = middle + 1,
+            Ordering::Greater => high = middle,
+            Ordering::Equal => {
+                return Search {
+                    place: middle,
+                    is_there: true,
+                    compared,
+                };
+            }
+        }
+    }
+    Search {
+        place: low,
+        is_there: false,
+        compared,
+    }
+}
+
+/// How the name under a cookie that has one compares with another.
+fn compare(entries: &Entries, cookie: Cookie, name: &[u8]) -> Ordering
+    requires { has entries.now.list cookie.0 ≡ true }
+    ensures { result ≡ name_cmp (name_under entries.now.list cookie) name.now }
+{
+    entries.at(cookie).name.as_bytes().cmp(name)
+}
