@@ -85,7 +85,8 @@ fn calls_are_answered(rt: HostRuntime) -> Result<(), Fail> {
 
     let events = format!(in alloc; "open\nfeed 0 {NULL}\nfeed 0 {GETATTR}\n{run}")?;
     let printed = format!(in alloc;
-        "conn 0\ntaken 44 stop 0\nout 0 {NULL_REPLY}\ntaken 60 stop 0\n{begun}out 0 {GETATTR_REPLY}\n"
+        "conn 0\ntaken 44 stop 0\nout 0 {NULL_REPLY}\ntaken 60 stop 0\n{begun}out 0 \
+        {GETATTR_REPLY}\n"
     )?;
     expect_events(&rt, &events, 0, &printed)?;
 
@@ -104,7 +105,8 @@ fn calls_are_answered(rt: HostRuntime) -> Result<(), Fail> {
     // two replies in one feed are two lines
     let events = format!(in alloc; "open\nfeed 0 {NULL}{NULL}\nclose 0\nopen\nfeed 1 {NULL}\n")?;
     let printed = format!(in alloc;
-        "conn 0\ntaken 88 stop 0\nout 0 {NULL_REPLY}\nout 0 {NULL_REPLY}\nclosed 0\nconn 1\ntaken 44 stop 0\nout 1 {NULL_REPLY}\n"
+        "conn 0\ntaken 88 stop 0\nout 0 {NULL_REPLY}\nout 0 {NULL_REPLY}\nclosed 0\nconn 1\n\
+        taken 44 stop 0\nout 1 {NULL_REPLY}\n"
     )?;
     expect_events(&rt, &events, 0, &printed)?;
     Ok(())
@@ -128,10 +130,12 @@ fn streams_are_cut_anyhow(rt: HostRuntime) -> Result<(), Fail> {
 fn faults_and_closes_end_a_connection(rt: HostRuntime) -> Result<(), Fail> {
     let alloc = rt.alloc();
     let events = format!(in alloc;
-        "open\nfeed 0 {GETATTR}{GETATTR}80020001\nbegin 0 0 1 0\nwork 0\nfinish 0\nbegin 0 0 1 0\nclose 0\nwork 0\nfinish 0\nfeed 0 -\n"
+        "open\nfeed 0 {GETATTR}{GETATTR}80020001\nbegin 0 0 1 0\nwork 0\nfinish 0\nbegin 0 0 1 \
+        0\nclose 0\nwork 0\nfinish 0\nfeed 0 -\n"
     )?;
     let printed = format!(in alloc;
-        "conn 0\ntaken 124 stop 11\ngranted logical 0\nreply\nout 0 {GETATTR_REPLY}\ngranted logical 0\nclosed 0\nreply\nout 0 -\nrefused 36\n"
+        "conn 0\ntaken 124 stop 11\ngranted logical 0\nreply\nout 0 {GETATTR_REPLY}\ngranted \
+        logical 0\nclosed 0\nreply\nout 0 -\nrefused 36\n"
     )?;
     expect_events(&rt, &events, 1, &printed)?;
 
@@ -156,10 +160,16 @@ fn faults_and_closes_end_a_connection(rt: HostRuntime) -> Result<(), Fail> {
 fn events_are_refused(rt: HostRuntime) -> Result<(), Fail> {
     let alloc = rt.alloc();
     let events = format!(in alloc;
-        "close 0\nfeed 4294967295 00\nwork 0\nfinish 0\nbegin 0 0 1 0\nbegin 1 0 1 0\nopen\nopen\nfeed 1 -\nfeed 0 -\nfeed 0 {GETATTR}{GETATTR}\nbegin 0 2 1 0\nbegin 0 0 1 1000000000\nbegin 0 0 1 999999999\nbegin 0 0 1 0\nwork 1\nfinish 1\nfinish 0\nwork 0\nwork 0\nfinish 0\nfinish 0\nclose 0\nclose 0\nfeed 0 00\n"
+        "close 0\nfeed 4294967295 00\nwork 0\nfinish 0\nbegin 0 0 1 0\nbegin 1 0 1 0\nopen\n\
+        open\nfeed 1 -\nfeed 0 -\nfeed 0 {GETATTR}{GETATTR}\nbegin 0 2 1 0\nbegin 0 0 1 \
+        1000000000\nbegin 0 0 1 999999999\nbegin 0 0 1 0\nwork 1\nfinish 1\nfinish 0\nwork 0\n\
+        work 0\nfinish 0\nfinish 0\nclose 0\nclose 0\nfeed 0 00\n"
     )?;
     let printed = format!(in alloc;
-        "refused 36\nrefused 36\nrefused 34\nrefused 34\nrefused 32\nrefused 33\nconn 0\nrefused 31\nrefused 36\ntaken 0 stop 0\ntaken 120 stop 0\nrefused 32\nrefused 37\ngranted logical 0\nrefused 33\nrefused 34\nrefused 34\nrefused 35\nreply\nrefused 34\nout 0 {GETATTR_REPLY}\nrefused 34\nclosed 0\nrefused 36\nrefused 36\n"
+        "refused 36\nrefused 36\nrefused 34\nrefused 34\nrefused 32\nrefused 33\nconn 0\nrefused \
+        31\nrefused 36\ntaken 0 stop 0\ntaken 120 stop 0\nrefused 32\nrefused 37\ngranted \
+        logical 0\nrefused 33\nrefused 34\nrefused 34\nrefused 35\nreply\nrefused 34\nout 0 \
+        {GETATTR_REPLY}\nrefused 34\nclosed 0\nrefused 36\nrefused 36\n"
     )?;
     expect_events(&rt, &events, 1, &printed)?;
     Ok(())
@@ -174,7 +184,8 @@ fn a_full_engine_takes_no_record_more(rt: HostRuntime) -> Result<(), Fail> {
     }
     events.push_str("\nfeed 0 01\nbegin 0 1023 1 0\nwork 0\nfinish 0\nfeed 0 01\n")?;
     let printed = format!(in alloc;
-        "conn 0\ntaken 61499 stop 31\ntaken 0 stop 31\ngranted logical 0\nreply\nout 0 {GETATTR_REPLY}\ntaken 1 stop 0\n"
+        "conn 0\ntaken 61499 stop 31\ntaken 0 stop 31\ngranted logical 0\nreply\nout 0 \
+        {GETATTR_REPLY}\ntaken 1 stop 0\n"
     )?;
     expect_events(&rt, &events, 0, &printed)?;
     Ok(())
@@ -195,7 +206,8 @@ fn bad_lines_end_a_script(rt: HostRuntime) -> Result<(), Fail> {
         ("aggregate 1\naggregate 1\naggregate 1\n", 3),
         ("aggregate 1\naggregate 1\nvolume 2 1\n", 3),
         (
-            "aggregate 1\nvolume 0 1\nvolume 0 1\nvolume 0 1\nvolume 0 1\nvolume 0 1\nvolume 0 1\nvolume 0 1\nvolume 0 1\nvolume 0 1\n",
+            "aggregate 1\nvolume 0 1\nvolume 0 1\nvolume 0 1\nvolume 0 1\nvolume 0 1\nvolume 0 \
+            1\nvolume 0 1\nvolume 0 1\nvolume 0 1\n",
             10,
         ),
         ("volume 0 1\n", 1),
