@@ -65,7 +65,7 @@ join-listed (x ∷ index) (suc place) cookie a b = by (x.0 == cookie) (λ t. joi
     by true r p = absurd (grind (arith, p))
     by false r p = r p
 
-pub found-nowhere : (d : DirectoryValue) (index : List Cookie) (place : ℕ) (name : List ℕ) → IsIndexed d index → IsPlace d.list index name place
+pub found-nowhere : (d : DirectoryValue) (index : List Cookie) (place : ℕ) (name : List ℕ) → IsIndexed d index → IsPlace d index name place
     → found d name ≡ None
 found-nowhere d index place name x p = by (find_name name d.list) refl
   where
