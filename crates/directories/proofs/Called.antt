@@ -52,16 +52,16 @@ found-some d index place name x n = by (under (read_at index place).0 d.list) re
     by (Some e) p = ap (λ (o : Option Listed). is_some o)
         (found-there d index place (read_at index place) e name x n (name-place d.list index place name n) (sym p))
 
-pub fileid-nowhere : (d : DirectoryValue) (index : List Cookie) (place : ℕ) (name : List ℕ) → IsIndexed d index → IsPlace d.list index name place
+pub fileid-nowhere : (d : DirectoryValue) (index : List Cookie) (place : ℕ) (name : List ℕ) → IsIndexed d index → IsPlace d index name place
     → option_map (λ (l : Listed). l.fileid) None ≡ fileid_found d name
 fileid-nowhere d index place name x p = ap (λ (o : Option Listed). option_map (λ (l : Listed). l.fileid) o) (sym (found-nowhere d index place name x p))
 
-pub found-none : (d : DirectoryValue) (index : List Cookie) (place : ℕ) (name : List ℕ) → IsIndexed d index → IsPlace d.list index name place
+pub found-none : (d : DirectoryValue) (index : List Cookie) (place : ℕ) (name : List ℕ) → IsIndexed d index → IsPlace d index name place
     → false ≡ is_some (found d name)
 found-none d index place name x p = ap (λ (o : Option Listed). is_some o) (sym (found-nowhere d index place name x p))
 
 -- nothing is removed where the name isn't there
-pub removed-none : (d : DirectoryValue) (index : List Cookie) (place : ℕ) (name : List ℕ) → IsIndexed d index → IsPlace d.list index name place
+pub removed-none : (d : DirectoryValue) (index : List Cookie) (place : ℕ) (name : List ℕ) → IsIndexed d index → IsPlace d index name place
     → d ≡ removed name d
 removed-none d index place name x p = ap (λ (l : List Listed). record d { list = l })
     (sym (without-absent d.list name (found-nowhere d index place name x p)))
@@ -78,7 +78,7 @@ still-indexed d index place c name x n is = indexed-dropped d index place c x (c
 
 -- a name that isn't there has a place in the index
 pub place-of-absent : (d : DirectoryValue) (index : List Cookie) (place : ℕ) (name : List ℕ) (is_there : Bool) → IsIndexed d index → found d name ≡ None
-    → (is_there ≡ true → name_at d.list index place ≡ Some name) → (is_there ≡ false → IsPlace d.list index name place) → IsPlace d.list index name place
+    → (is_there ≡ true → name_at d.list index place ≡ Some name) → (is_there ≡ false → IsPlace d index name place) → IsPlace d index name place
 place-of-absent d index place name false x f t a = a refl
 place-of-absent d index place name true x f t a = let s = found-some d index place name x (t refl) in absurd (grind (arith, s, f))
 

@@ -1,5 +1,6 @@
 -- An index after a name is added or removed.
-use Rattle.std.proofs.Common.{◌≡◌, refl, sym, subst, ◌∙◌, ap, ℕ, zero, suc, ◌+◌, ◌≤◌, Bool, true, false, ◌==◌, ◌||◌, not, List, [], ◌∷◌, ◌++◌, length, take, drop, Option, Some, None, is_some, arith, if◌then◌else◌, length-append}
+use Rattle.std.proofs.Common.{◌≡◌, refl, sym, subst, ◌∙◌, ap, ℕ, zero, suc, ◌+◌, ◌≤◌, Bool, true, false, ◌==◌}
+use Rattle.std.proofs.Common.{◌||◌, not, List, [], ◌∷◌, ◌++◌, length, take, drop, Option, Some, None, is_some, arith, if◌then◌else◌, length-append}
 use Rattle.std.specs.List.{AllByRecursion, slice_get, filter, insert, remove}
 use Rattle.std.specs.List.Sorted.{IsStrictlySortedBy}
 use Rattle.std.specs.declared.cmp.Ordering.TheVariants.{Less, Equal, Greater}
@@ -7,7 +8,7 @@ use Rattle.std.proofs.lemmas.Bool.Decides.{nat_tests}
 use Rattle.nfs_model.specs.Types.{Listed}
 use Rattle.nfs_model.specs.Names.{without_name}
 use Rattle.nfs_values.specs.declared.number.Cookie.{Cookie}
-use Rattle.volume_values.specs.Directories.{DirectoryValue, Rises, found, added, removed, empty_directory}
+use Rattle.volume_values.specs.Directories.{DirectoryValue, Rises, found, added, removed, entry_added, empty_directory}
 use Rattle.directories.specs.Entries.{under, has, without, dropped}
 use Rattle.directories.specs.Index.{name_cmp, name_in, name_under, name_at, is_listed, IsIndex, IsIndexed, IsPlace, NamesRise}
 use Rattle.directories.proofs.Orders.{with-itself, all-at, all-take, all-drop, all-agree, sorted-agree, sorted-insert, sorted-filter}
@@ -86,10 +87,6 @@ all-known P (x ∷ xs) h = (h x (grind (arith, nat_tests)), all-known P xs (λ c
     by true b t = refl
     by false b t = t
 
--- the entry that `added` puts to the end
-abbrev pub new_entry : DirectoryValue → List ℕ → ℕ → Listed
-new_entry d name fileid = record { cookie = d.next; name = name; fileid = fileid }
-
 names-kept : (es : List Listed) (index : List Cookie) (e : Listed) → IsIndex es index
     → AllByRecursion (λ c. name_under (es ++ e ∷ []) c ≡ name_under es c) index
 names-kept es index e x =
@@ -97,10 +94,10 @@ names-kept es index e x =
     (λ c t. ap (λ (o : Option Listed). name_in o) (under-push es e c.0 (x.same c.0 ∙ t)))
 
 index-added : (d : DirectoryValue) (index : List Cookie) (place : ℕ) (c : Cookie) (name : List ℕ) (fileid : ℕ) → IsIndexed d index
-    → IsPlace d.list index name place
+    → IsPlace d index name place
     → c.0 ≡ d.next → IsIndex (added name fileid d).list (insert index place c)
 index-added d index place c name fileid x p is =
-    let e = new_entry d name fileid in
+    let e = entry_added name fileid d in
     let f = name_under d.list in
     let g = name_under (d.list ++ e ∷ []) in
     let kept = names-kept d.list index e x.index in
@@ -119,11 +116,11 @@ index-added d index place c name fileid x p is =
     }
 
 pub indexed-added : (d : DirectoryValue) (index : List Cookie) (place : ℕ) (c : Cookie) (name : List ℕ) (fileid : ℕ) → IsIndexed d index
-    → IsPlace d.list index name place → found d name ≡ None → c.0 ≡ d.next → IsIndexed (added name fileid d) (insert index place c)
+    → IsPlace d index name place → found d name ≡ None → c.0 ≡ d.next → IsIndexed (added name fileid d) (insert index place c)
 indexed-added d index place c name fileid x p f is = record {
   directory = record {
-    cookies = rises-push 3 d.list d.next (new_entry d name fileid) refl x.directory.cookies;
-    names = differ-push d.list (new_entry d name fileid) x.directory.names f;
+    cookies = rises-push 3 d.list d.next (entry_added name fileid d) refl x.directory.cookies;
+    names = differ-push d.list (entry_added name fileid d) x.directory.names f;
   };
   index = index-added d index place c name fileid x p is;
 }

@@ -1,5 +1,6 @@
 -- What a search by name finds.
-use Rattle.std.proofs.Common.{◌≡◌, refl, sym, subst, ◌∙◌, ap, ℕ, zero, suc, Bool, true, false, ◌==◌, ◌||◌, List, [], ◌∷◌, take, drop, Option, Some, None, is_some, arith}
+use Rattle.std.proofs.Common.{◌≡◌, refl, sym, subst, ◌∙◌, ap, ℕ, zero, suc, Bool, true, false}
+use Rattle.std.proofs.Common.{◌==◌, ◌||◌, List, [], ◌∷◌, take, drop, Option, Some, None, is_some, arith}
 use Rattle.std.specs.List.{slice_get}
 use Rattle.std.proofs.lemmas.Bool.Decides.{nat_tests}
 use Rattle.std.specs.declared.cmp.Ordering.{Ordering}
@@ -65,7 +66,7 @@ join-listed (x ∷ index) (suc place) cookie a b = by (x.0 == cookie) (λ t. joi
     by true r p = absurd (grind (arith, p))
     by false r p = r p
 
-pub found-nowhere : (d : DirectoryValue) (index : List Cookie) (place : ℕ) (name : List ℕ) → IsIndexed d index → IsPlace d.list index name place
+pub found-nowhere : (d : DirectoryValue) (index : List Cookie) (place : ℕ) (name : List ℕ) → IsIndexed d index → IsPlace d index name place
     → found d name ≡ None
 found-nowhere d index place name x p = by (find_name name d.list) refl
   where

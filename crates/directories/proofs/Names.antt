@@ -1,29 +1,15 @@
 -- Names that are the same, and entries whose names differ.
-use Rattle.std.proofs.Common.{◌≡◌, refl, sym, subst, ◌∙◌, ap, ℕ, ◌+◌, Bool, true, false, ◌==◌, ◌&&◌, not, List, [], ◌∷◌, ◌++◌, Option, Some, None, is_some, arith, if◌then◌else◌, nat_eq}
+use Rattle.std.proofs.Common.{◌≡◌, refl, sym, subst, ◌∙◌, ap, ℕ, ◌+◌, Bool, true, false}
+use Rattle.std.proofs.Common.{◌==◌, not, List, [], ◌∷◌, ◌++◌, Option, Some, None, is_some, arith, if◌then◌else◌}
 use Rattle.std.specs.List.{AllByRecursion}
-use Rattle.std.specs.Cmp.Lexicographic.{pointwise, same_text, nat_list_eq_equiv}
 use Rattle.std.proofs.lemmas.Bool.Decides.{nat_tests}
 use Rattle.nfs_model.specs.Types.{Listed}
 use Rattle.nfs_model.specs.Names.{same_name, find_name, without_name}
 use Rattle.volume_values.specs.Directories.{Rises, IsOnlyOne, NamesDiffer}
+use Rattle.volume_values.specs.lemmas.Directories.{same-itself, same-turned, same-is}
 use Rattle.directories.specs.Entries.{under, has, without}
 use Rattle.directories.proofs.Orders.{all-filter}
 use Rattle.directories.proofs.Rising.{at-least, without-none}
-
-pub same-pointwise : (x y : List ℕ) → same_name x y ≡ pointwise nat_eq x y
-same-pointwise [] [] = refl
-same-pointwise [] (c ∷ y) = refl
-same-pointwise (b ∷ x) [] = refl
-same-pointwise (b ∷ x) (c ∷ y) = ap (λ t. (b == c) && t) (same-pointwise x y)
-
-pub same-itself : (x : List ℕ) → same_name x x ≡ true
-same-itself x = same-pointwise x x ∙ nat_list_eq_equiv.refl x
-
-pub same-turned : (x y : List ℕ) → same_name x y ≡ same_name y x
-same-turned x y = same-pointwise x y ∙ (nat_list_eq_equiv.symm x y ∙ sym (same-pointwise y x))
-
-pub same-is : (x y : List ℕ) → same_name x y ≡ true → x ≡ y
-same-is x y e = same_text x y (sym e ∙ same-pointwise x y)
 
 -- ---- what is under a cookie is in the list
 

@@ -1,5 +1,6 @@
 -- Entries by their places.
-use Rattle.std.proofs.Common.{◌≡◌, refl, sym, ◌∙◌, ap, ℕ, zero, suc, ◌+◌, ◌-◌, ◌<◌, ◌≤◌, true, List, [], ◌∷◌, ◌++◌, length, take, drop, Option, Some, None, is_some, get_or, arith, add-one}
+use Rattle.std.proofs.Common.{◌≡◌, refl, sym, ◌∙◌, ap, ℕ, zero, suc, ◌+◌, ◌-◌, ◌<◌, ◌≤◌, true}
+use Rattle.std.proofs.Common.{List, [], ◌∷◌, ◌++◌, length, take, drop, Option, Some, None, is_some, get_or, arith, add-one}
 use Rattle.std.specs.List.{slice_get, remove}
 use Rattle.nfs_model.specs.Types.{Listed}
 use Rattle.nfs_model.specs.Serial.Readdir.{above_cookie}

@@ -52,10 +52,14 @@ pub record IsIndexed (d : DirectoryValue) (by_name : List Cookie) : Type 0 where
   pub directory : IsDirectory d
   pub index : IsIndex d.list by_name
 
--- Where a name is or belongs in an index.
-pub record IsPlace (es : List Listed) (index : List Cookie) (name : List ℕ) (place : ℕ) : Type 0 where
-  pub before : AllCompare es name Less (take place index)
-  pub after : AllCompare es name Greater (drop place index)
+-- a name is at a place of an index
+abbrev pub IsAt : DirectoryValue → List Cookie → List ℕ → ℕ → Type 0
+IsAt d index name place = name_at d.list index place ≡ Some name
+
+-- A name isn't in an index, and belongs at a place of it.
+pub record IsPlace (d : DirectoryValue) (index : List Cookie) (name : List ℕ) (place : ℕ) : Type 0 where
+  pub before : AllCompare d.list name Less (take place index)
+  pub after : AllCompare d.list name Greater (drop place index)
 
 -- a fileid as a number
 abbrev pub fileid_number : Option Fileid → Option ℕ

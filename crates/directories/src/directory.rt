@@ -17,6 +17,7 @@ ghost use Rattle.std.specs.Prelude.{
 ghost use Rattle.std.specs.List.{insert};
 ghost use Rattle.std.specs.Vec.{vec_len, vec_capacity};
 ghost use Rattle.volume_values.specs.Directories.{
+  IsDirectory,
   empty_directory,
   found,
   fileid_found,
@@ -85,7 +86,8 @@ impl Directory {
 
     /// The cookie that the next entry takes.
     pub fn next_cookie(&self) -> Cookie
-        ensures { result.0 ≡ self.now.next }
+        ensures cookie { result.0 ≡ self.now.next }
+        ensures directory { IsDirectory self.now }
     {
         self.entries.next_cookie()
     }

@@ -3,7 +3,7 @@
 ghost use Rattle.std.specs.Prelude.{◌≡◌, ◌≤◌, length, true, false, Some};
 ghost use Rattle.directories.specs.Entries.{has};
 ghost use Rattle.directories.specs.Digits.{binary_digits};
-ghost use Rattle.directories.specs.Index.{IsIndex, IsPlace, name_at, name_cmp, name_under};
+ghost use Rattle.directories.specs.Index.{IsIndex, IsAt, IsPlace, name_cmp, name_under};
 
 use crate::entries::Entries;
 use nfs_values::Cookie;
@@ -23,8 +23,8 @@ pub struct Search {
 pub fn find_place(entries: &Entries, index: &[Cookie], name: &[u8]) -> Search
     requires { IsIndex entries.now.list index.now }
     ensures within { result.place ≤ length index.now }
-    ensures there { result.is_there ≡ true → name_at entries.now.list index.now result.place ≡ Some name.now }
-    ensures absent { result.is_there ≡ false → IsPlace entries.now.list index.now name.now result.place }
+    ensures there { result.is_there ≡ true → IsAt entries.now index.now name.now result.place }
+    ensures absent { result.is_there ≡ false → IsPlace entries.now index.now name.now result.place }
     ensures compared { result.compared ≤ binary_digits (length index.now) }
 {
     let mut low = 0;

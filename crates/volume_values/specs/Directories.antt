@@ -39,9 +39,13 @@ page d cookie room = page_of room (above_cookie cookie d.list)
 
 -- ---- what changes it
 
--- one more entry, under the next cookie
+-- the entry that a name gets: under the next cookie
+abbrev pub entry_added : List ℕ → ℕ → DirectoryValue → Listed
+entry_added name fileid d = record { cookie = d.next; name = name; fileid = fileid }
+
+-- one more entry
 abbrev pub added : List ℕ → ℕ → DirectoryValue → DirectoryValue
-added name fileid d = record { next = d.next + 1; list = d.list ++ (record { cookie = d.next; name = name; fileid = fileid }) ∷ [] }
+added name fileid d = record { next = d.next + 1; list = d.list ++ (entry_added name fileid d) ∷ [] }
 
 -- the entry of a name gone; its cookie isn't given again
 abbrev pub removed : List ℕ → DirectoryValue → DirectoryValue

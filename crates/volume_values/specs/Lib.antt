@@ -3,3 +3,4 @@ pub mod Inodes
 pub mod Stripes
 pub mod Ranges
 pub mod Codes
+pub mod lemmas

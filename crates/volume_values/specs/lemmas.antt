@@ -1,0 +1,2 @@
+-- Lemmas alone, which no reader has to believe: laws of the changes, for proofs above.
+pub mod Directories
