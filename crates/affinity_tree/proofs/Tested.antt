@@ -23,7 +23,8 @@ first_of aggregates volumes known sized spare striped limited =
     else None
 
 module _ (aggregates : List AggregateSpec) (volumes : List VolumeSpec) where
-  known : list_all (is_known (length (map spare_of aggregates))) (map volume_asked volumes) ≡ list_all (λ v. is_known (length aggregates) (volume_asked v)) volumes
+  known : list_all (is_known (length (map spare_of aggregates))) (map volume_asked volumes)
+      ≡ list_all (λ v. is_known (length aggregates) (volume_asked v)) volumes
   known =
       ap (λ (n : ℕ). list_all (is_known n) (map volume_asked volumes)) (length-map aggregates spare_of)
       ∙ list_all-map (is_known (length aggregates)) volume_asked volumes

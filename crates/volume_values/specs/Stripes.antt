@@ -1,8 +1,7 @@
 -- A stripe of a volume: a card of every inode, and the blocks of the spans that lie in it (our profile).
-use Rattle.std.specs.Prelude.{◌≡◌, ℕ, ◌+◌, ◌-◌, ◌*◌, ◌/◌, ◌%◌, ◌<◌, ◌≤◌, Bool, true, false, not, ◌&&◌, ◌==◌, nat_lt, nat_le, List, [], ◌∷◌, ◌++◌, length, take, drop, replicate, map, Option, Some, None, option_map, slice_index_or, if◌then◌else◌}
+use Rattle.std.specs.Prelude.{ℕ, ◌+◌, ◌/◌, ◌%◌, List, map, Option, Some, None, slice_index_or}
 use Rattle.std.specs.Ordering.{nat_cmp, ordering_then}
 use Rattle.std.specs.declared.cmp.Ordering.{Ordering}
-use Rattle.std.specs.FinMap as maps
 use Rattle.std.specs.FinMap.{FinMap, get, insert, remove}
 use Rattle.std.specs.List.{range_with_len}
 use Rattle.nfs_model.specs.Types.{Moment}

@@ -1,10 +1,10 @@
 -- What is found after a name is added or removed.
-use Rattle.std.proofs.Common.{◌≡◌, refl, sym, subst, ◌∙◌, ap, ℕ, suc, ◌+◌, ◌≤◌, Bool, true, false, ◌==◌, ◌&&◌}
-use Rattle.std.proofs.Common.{not, nat_eq, List, [], ◌∷◌, ◌++◌, length, Option, Some, None, if◌then◌else◌, arith}
+use Rattle.std.proofs.Common.{◌≡◌, refl, sym, subst, ◌∙◌, ap, ℕ, ◌+◌, Bool, true, false, ◌==◌, ◌&&◌}
+use Rattle.std.proofs.Common.{not, nat_eq, List, [], ◌∷◌, ◌++◌, length, Some, None, if◌then◌else◌, arith}
 use Rattle.std.specs.Cmp.Lexicographic.{pointwise, same_text, nat_list_eq_equiv}
 use Rattle.nfs_model.specs.Types.{Listed}
 use Rattle.nfs_model.specs.Names.{same_name, find_name, without_name}
-use Rattle.volume_values.specs.Directories.{DirectoryValue, found, added, removed, entry_added, IsOnlyOne, NamesDiffer, Rises, IsDirectory}
+use Rattle.volume_values.specs.Directories.{DirectoryValue, found, added, removed, entry_added, IsOnlyOne, NamesDiffer, IsDirectory}
 
 -- ---- names that are the same
 
