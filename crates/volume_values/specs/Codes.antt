@@ -23,7 +23,7 @@ coded_moment = code_by (ℕ × ℕ) (coded× coded_ℕ coded_ℕ) (λ m. (m.seco
 abbrev pub coded_listed : Coded Listed
 coded_listed =
     code_by (ℕ × (List ℕ × ℕ)) (coded× coded_ℕ (coded× (coded_list coded_ℕ) coded_ℕ)) (λ e. (e.cookie, (e.name, e.fileid)))
-        (λ p. record { cookie = p.0; name = p.1.0; fileid = p.1.1 }) (λ _. refl)
+    (λ p. record { cookie = p.0; name = p.1.0; fileid = p.1.1 }) (λ _. refl)
 
 abbrev pub coded_directory : Coded DirectoryValue
 coded_directory = code_by (ℕ × List Listed) (coded× coded_ℕ (coded_list coded_listed)) (λ d. (d.next, d.list)) (λ p. record { next = p.0; list = p.1 }) (λ _. refl)
@@ -33,8 +33,8 @@ coded_directory = code_by (ℕ × List Listed) (coded× coded_ℕ (coded_list co
 abbrev pub coded_attributes : Coded Attributes
 coded_attributes =
     code_by ((ℕ × (ℕ × ℕ)) × (Moment × (Moment × Moment))) (coded× (coded× coded_ℕ (coded× coded_ℕ coded_ℕ)) (coded× coded_moment (coded× coded_moment coded_moment)))
-        (λ a. ((a.mode, (a.uid, a.gid)), (a.atime, (a.mtime, a.ctime))))
-        (λ p. record { mode = p.0.0; uid = p.0.1.0; gid = p.0.1.1; atime = p.1.0; mtime = p.1.1.0; ctime = p.1.1.1 }) (λ _. refl)
+    (λ a. ((a.mode, (a.uid, a.gid)), (a.atime, (a.mtime, a.ctime))))
+    (λ p. record { mode = p.0.0; uid = p.0.1.0; gid = p.0.1.1; atime = p.1.0; mtime = p.1.1.0; ctime = p.1.1.1 }) (λ _. refl)
 
 abbrev pub FileOrFolder : Type 0
 FileOrFolder = (ℕ × (ℕ × Option (List ℕ))) ⊎ (ℕ × ℕ)
@@ -60,7 +60,7 @@ coded_inode = code_by (Attributes × InodeKind) (coded× coded_attributes coded_
 abbrev pub coded_inodes : Coded InodesValue
 coded_inodes =
     code_by (ℕ × (ℕ × FinMap nat_cmp Inode)) (coded× coded_ℕ (coded× coded_ℕ (maps.code coded_ℕ coded_inode)))
-        (λ v. (v.next, (v.used, v.inodes))) (λ p. record { next = p.0; used = p.1.0; inodes = p.1.1 }) (λ _. refl)
+    (λ v. (v.next, (v.used, v.inodes))) (λ p. record { next = p.0; used = p.1.0; inodes = p.1.1 }) (λ _. refl)
 
 -- ---- stripes
 
@@ -85,13 +85,13 @@ coded_block = code_by (ℕ × List ℕ) (coded× coded_ℕ (coded_list coded_ℕ
 abbrev pub coded_stripe : Coded StripeValue
 coded_stripe =
     code_by ((List ℕ × (ℕ × ℕ)) × (FinMap nat_cmp Card × FinMap place_cmp Block))
-        (coded× (coded× (coded_list coded_ℕ) (coded× coded_ℕ coded_ℕ)) (coded× (maps.code coded_ℕ coded_card) (maps.code (coded× coded_ℕ coded_ℕ) coded_block)))
-        (λ s. ((s.verifier, (s.stripes, s.largest)), (s.cards, s.blocks)))
-        (λ p. record { verifier = p.0.0; stripes = p.0.1.0; largest = p.0.1.1; cards = p.1.0; blocks = p.1.1 }) (λ _. refl)
+    (coded× (coded× (coded_list coded_ℕ) (coded× coded_ℕ coded_ℕ)) (coded× (maps.code coded_ℕ coded_card) (maps.code (coded× coded_ℕ coded_ℕ) coded_block)))
+    (λ s. ((s.verifier, (s.stripes, s.largest)), (s.cards, s.blocks)))
+    (λ p. record { verifier = p.0.0; stripes = p.0.1.0; largest = p.0.1.1; cards = p.1.0; blocks = p.1.1 }) (λ _. refl)
 
 -- ---- ranges
 
 abbrev pub coded_range : Coded RangeValue
 coded_range =
     code_by (ℕ × (Bool × FinSet nat_cmp)) (coded× coded_ℕ (coded× coded_bool (sets.code coded_ℕ)))
-        (λ r. (r.number, (r.is_used, r.free))) (λ p. record { number = p.0; is_used = p.1.0; free = p.1.1 }) (λ _. refl)
+    (λ r. (r.number, (r.is_used, r.free))) (λ p. record { number = p.0; is_used = p.1.0; free = p.1.1 }) (λ _. refl)

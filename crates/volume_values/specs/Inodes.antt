@@ -42,14 +42,17 @@ attributes_held touch inode = effective_attributes touch inode.attributes
 abbrev pub settled_inode : Option Moment → Inode → Inode
 settled_inode touch inode = record inode { attributes = effective_attributes touch inode.attributes }
 
--- the used count where an inode takes another's place
-abbrev pub used_after : ℕ → Option Inode → Inode → ℕ
-used_after used None new = used + filled_blocks new.kind
-used_after used (Some old) new = used - filled_blocks old.kind + filled_blocks new.kind
+-- an inode in the place of an old one, if there is one
+abbrev pub inode_replaced : Option Inode → ℕ → Inode → InodesValue → InodesValue
+inode_replaced None fileid inode v = v
+inode_replaced (Some old) fileid inode v = record v {
+  used = v.used - filled_blocks old.kind + filled_blocks inode.kind;
+  inodes = insert v.inodes fileid inode;
+}
 
--- an inode set, where there is one
+-- an inode set, where there is one of this fileid; else nothing changes
 abbrev pub inode_set : ℕ → Inode → InodesValue → InodesValue
-inode_set fileid inode v = record v { used = used_after v.used (get v.inodes fileid) inode; inodes = insert v.inodes fileid inode }
+inode_set fileid inode v = inode_replaced (get v.inodes fileid) fileid inode v
 
 -- one more inode, under the next fileid
 abbrev pub inode_created : Inode → InodesValue → InodesValue

@@ -1,5 +1,5 @@
--- Block numbers that are in no file: free in the bitmaps of the ranges, in the stock, or dead (our profile).
-use Rattle.std.specs.Prelude.{◌≡◌, IsTrue, ℕ, ◌*◌, Bool, true, false, List, take, min}
+-- A range of a volume's block numbers: which of them are free in its bitmap (our profile).
+use Rattle.std.specs.Prelude.{◌≡◌, IsTrue, ℕ, ◌*◌, Bool, true, false, List, take, min, if◌then◌else◌}
 use Rattle.std.specs.List.{AllByRecursion, range_with_len}
 use Rattle.std.specs.Ordering.{nat_cmp}
 use Rattle.std.specs.FinSet as sets
@@ -37,7 +37,8 @@ lowest n r = take (min n most_carried) (free_numbers r)
 abbrev pub taken : List ℕ → RangeValue → RangeValue
 taken blocks r = record r { free = difference r.free (from_list blocks) }
 
--- a batch may be given: it is of the range, which is in use, and none of it is free
+-- a batch may be given: it is of the range, which is in use, and none of it is free. What is given
+-- back was taken from there, so that a range that isn't in use is given nothing
 pub record MayBeGiven (blocks : List ℕ) (r : RangeValue) : Type 0 where
   pub used : IsTrue r.is_used
   pub batch : IsBatch r.number blocks
@@ -47,6 +48,6 @@ pub record MayBeGiven (blocks : List ℕ) (r : RangeValue) : Type 0 where
 abbrev pub given : List ℕ → RangeValue → RangeValue
 given blocks r = record r { free = union r.free (from_list blocks) }
 
--- the range comes into use, all its numbers free
+-- a range that isn't in use comes into use, all its numbers free
 abbrev pub put_in_use : RangeValue → RangeValue
-put_in_use r = record r { is_used = true; free = from_list (range_numbers r.number) }
+put_in_use r = if r.is_used then r else record r { is_used = true; free = from_list (range_numbers r.number) }

@@ -6,6 +6,7 @@ use Rattle.std.specs.FinMap.{FinMap, get, insert, remove}
 use Rattle.std.specs.List.{range_with_len}
 use Rattle.nfs_model.specs.Types.{Moment}
 use Rattle.nfs_model.specs.Server.{block_size}
+use Rattle.nfs_model.specs.Home.{span_bytes}
 use Rattle.nfs_model.specs.Shown.{touched}
 
 -- ---- its parts
@@ -37,9 +38,9 @@ pub record StripeValue : Type 0 where
 
 -- ---- bytes
 
--- the blocks of a span, which lie in one stripe
+-- how many blocks a span has
 abbrev pub span_blocks : ℕ
-span_blocks = 64
+span_blocks = span_bytes / block_size
 
 -- the stripe of a file's block, of so many
 abbrev pub stripe_of : ℕ → ℕ → ℕ → ℕ
@@ -75,14 +76,24 @@ abbrev pub card_settled : Card → Card
 card_settled (OfFile size touch) = OfFile size None
 card_settled OfFolder = OfFolder
 
--- a card set
-abbrev pub card_set : ℕ → Card → StripeValue → StripeValue
-card_set fileid card s = record s { cards = insert s.cards fileid card }
+-- the touch on a card
+abbrev pub touch_of : Option Card → Option Moment
+touch_of (Some (OfFile size touch)) = touch
+touch_of (Some OfFolder) = None
+touch_of None = None
+
+-- a file's card with a size, where there is one or not: the touch stays
+abbrev pub file_card_set : ℕ → ℕ → StripeValue → StripeValue
+file_card_set fileid size s = record s { cards = insert s.cards fileid (OfFile size (touch_of (get s.cards fileid))) }
+
+-- a directory's card
+abbrev pub folder_card_set : ℕ → StripeValue → StripeValue
+folder_card_set fileid s = record s { cards = insert s.cards fileid OfFolder }
 
 -- a card gone
 abbrev pub card_dropped : ℕ → StripeValue → StripeValue
 card_dropped fileid s = record s { cards = remove s.cards fileid }
 
--- a block put where none is
+-- a block put, in the place of the one that was there, if any
 abbrev pub block_put : ℕ → ℕ → Block → StripeValue → StripeValue
 block_put fileid block b s = record s { blocks = insert s.blocks (fileid, block) b }

@@ -74,7 +74,7 @@ find-left (x ∷ es) name other o = by (same_name x.name name) refl (find-left e
   where
     by : (b : Bool) → b ≡ same_name x.name name → find_name other (without_name name es) ≡ find_name other es
         → find_name other (if not b then x ∷ without_name name es else without_name name es)
-            ≡ (if same_name x.name other then Some x else find_name other es)
+        ≡ (if same_name x.name other then Some x else find_name other es)
     by true p r =
         let otherwise : same_name x.name other ≡ false = subst (λ n. same_name n other ≡ false) (sym (same-is x.name name (sym p))) o in
         rw otherwise r
