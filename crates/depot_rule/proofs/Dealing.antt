@@ -10,7 +10,7 @@ use Rattle.depot_rule.specs.declared.view.Entry.{Entry}
 use Rattle.depot_rule.specs.History.{Behaviour, listed, after, chosen, StartsWith}
 use Rattle.affinity_tree.specs.Ancestors.{one_if, tally, ancestors}
 use Rattle.depot_rule.specs.Sums.{total, over_taken}
-use Rattle.depot_rule.specs.Shares.{Each, parts, made, due, unsettled, claims, entered, shares, IsSound}
+use Rattle.depot_rule.specs.Shares.{Each, parts, made, due, unsettled, claims, entered, shares, IsWellFormed}
 use Rattle.depot_rule.specs.Parcels.{has_out, Carries}
 use Rattle.depot_rule.specs.Rule.{Rule}
 use Rattle.depot_rule.specs.Seats.{longer, having_seen, first_of, others_of}
@@ -62,7 +62,7 @@ module _ (P C R B : Type 0) (kind_of : P → Kind) (m : Behaviour P C R B) where
 
   -- what the rule says of each view alone
   abbrev Sound : (ps : List ℕ) (first : List (Option P)) (s : St) → Rule kind_of m ps first s → View P E → Type 0
-  Sound ps first s r v = IsSound ps v × Carries kind_of ps first s.homes v × ListsCurrent ps (after ps (listed first) r.history.log) v
+  Sound ps first s r v = IsWellFormed ps v × Carries kind_of ps first s.homes v × ListsCurrent ps (after ps (listed first) r.history.log) v
       × StartsWith r.history.log v.seen × Own P C R B m ps first v × HasHand P C R B m ps first v
 
   -- of the views of all seats
@@ -153,7 +153,7 @@ module _ (P C R B : Type 0) (kind_of : P → Kind) (m : Behaviour P C R B) where
       (each-more (Sound ps first s r) (set s.views id left) right (each-set (Sound ps first s r) s.views id left (sound-views ps first s r) q.1) q.2)
 
   -- a view that has seen more
-  seen-sound : (ps : List ℕ) (es : List E) (v : View P E) → IsSound ps v → IsSound ps (having_seen es v)
+  seen-sound : (ps : List ℕ) (es : List E) (v : View P E) → IsWellFormed ps v → IsWellFormed ps (having_seen es v)
   seen-sound ps es v s = record { some_part = s.some_part; tree = s.tree; wide = s.wide; once = s.once; looked = s.looked }
 
   seen-carries : (ps : List ℕ) (first : List (Option P)) (homes : List (maybe.Option (Option P))) (es : List E) (v : View P E)

@@ -7,7 +7,7 @@ use lib.ListN.{get_elem?}
 use Rattle.depot_rule.specs.declared.view.View.{View}
 use Rattle.affinity_tree.specs.Ancestors.{one_if, tally, ancestors, Covers}
 use Rattle.depot_rule.specs.Sums.{total}
-use Rattle.depot_rule.specs.Shares.{claims, lower, entered, IsSound, Shares}
+use Rattle.depot_rule.specs.Shares.{claims, lower, entered, IsWellFormed, Shares}
 use Rattle.depot_rule.specs.lemmas.Sums.{one-same, total-at, total-two, over-at}
 use Rattle.depot_rule.specs.lemmas.Trees.{cover-excludes}
 
@@ -24,7 +24,7 @@ module _ (P E : Type 0) where
   pub claims-own : (v : View P E) (b : ℕ) (g : List (Option P)) → get_elem? v.held b ≡ some (Some g) → 1 ≤ claims b v
   claims-own v b g here = let o = over-at (λ c. one_if (eqb c b)) v.held b g here in let one = one-same b b refl in omega arith
 
-  pub lower-own : (ps : List ℕ) (v : View P E) → IsSound ps v → (a b : ℕ) (g : List (Option P)) → get_elem? v.held b ≡ some (Some g)
+  pub lower-own : (ps : List ℕ) (v : View P E) → IsWellFormed ps v → (a b : ℕ) (g : List (Option P)) → get_elem? v.held b ≡ some (Some g)
       → tally a (ancestors ps b) ≤ lower a v
   lower-own ps v s a b g here =
       let o = over-at (λ c. tally a (ancestors v.tree c)) v.held b g here in let t : tally a (ancestors v.tree b) ≡ tally a (ancestors ps b) = ap

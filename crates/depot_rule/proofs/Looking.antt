@@ -12,7 +12,7 @@ use Rattle.depot_rule.specs.declared.view.Entry.{Entry}
 use Rattle.depot_rule.specs.declared.view.Read.{Read}
 use Rattle.depot_rule.specs.History.{Behaviour, StartsWith}
 use Rattle.depot_rule.specs.Sums.{total}
-use Rattle.depot_rule.specs.Shares.{worn, parts, made, due, unsettled, open_grants, claims, entered, shares, IsSound, Shares}
+use Rattle.depot_rule.specs.Shares.{worn, parts, made, due, unsettled, open_grants, claims, entered, shares, IsWellFormed, Shares}
 use Rattle.depot_rule.specs.Rule.{Rule}
 use Rattle.depot_rule.specs.Plays.{Place, IsOnly, Counts, LookSays, AlikeSays}
 use Rattle.depot_rule.specs.lemmas.Sums.{total-set, total-at, total-plus}
@@ -48,7 +48,7 @@ module _ (P E : Type 0) where
   -- the ticket is no node's word
   pub ticket-keeps : (ps ws : List ℕ) (views : List (List (View P E))) (r : Shares ps ws views) (x id : ℕ) (v w : View P E) → get_elem? views id ≡ some (v ∷ [])
       → w.parts ≡ v.parts → get_or (set ws 0 x) 0 0 ≡ total (total made) (set views id (w ∷ [])) → total (total due) (set views id (w ∷ []))
-      ≤ 4611686018427515904 + total (total unsettled) (set views id (w ∷ [])) → IsSound ps w
+      ≤ 4611686018427515904 + total (total unsettled) (set views id (w ∷ [])) → IsWellFormed ps w
       → ((a : ℕ) → (shares a w ≡ shares a v) × (claims a w ≡ claims a v) × (entered a w ≡ entered a v))
       → Shares ps (set ws 0 x) (set views id (w ∷ []))
   ticket-keeps ps ws views r x id v w at same next few_due sound others = record {
@@ -63,7 +63,7 @@ module _ (P E : Type 0) where
     alone = λ a p l some_claim. let t = total-set (total (entered a)) views id (v ∷ []) (w ∷ []) at in let u = total-set (total (claims a)) views id
         (v ∷ []) (w ∷ []) at in
         let o = others a in let o1 = o.1 in let o2 = o.2 in let q = r.alone a p l (omega arith) in let q0 = q.0 in let q1 = q.1 in (omega arith, omega arith);
-    sound = each-set (IsSound ps) views id (w ∷ []) r.sound (all-one (IsSound ps) w sound);
+    sound = each-set (IsWellFormed ps) views id (w ∷ []) r.sound (all-one (IsWellFormed ps) w sound);
   }
 
 module _ (P C R B : Type 0) (kind_of : P → Kind) (m : Behaviour P C R B) where

@@ -5,14 +5,14 @@ use native.Mathlib.Decide.{ℕ_discrete}
 use lib.ListN.{get_elem?}
 use Rattle.depot_rule.specs.declared.view.View.{View}
 use Rattle.affinity_tree.specs.Ancestors.{one_if, tally, IsTree, ancestors, Excludes}
-use Rattle.depot_rule.specs.Shares.{exclusive, Has, claims, lower, shares, IsSound}
+use Rattle.depot_rule.specs.Shares.{exclusive, Has, claims, lower, shares, IsWellFormed}
 use Rattle.depot_rule.specs.lemmas.Sums.{one-is, one-other, over-some}
 use Rattle.depot_rule.specs.lemmas.Trees.{not-above}
 use Rattle.depot_rule.proofs.Views.{few-shares}
 
 module _ (P E : Type 0) where
   -- a word that is all its own, found exclusive: it has a grant of that very node
-  pub own-claim : (ps : List ℕ) → IsTree ps → length ps ≤ 1024 → (a : ℕ) (v : View P E) → IsSound ps v → exclusive ≤ shares a v → v.parts ≡ 64
+  pub own-claim : (ps : List ℕ) → IsTree ps → length ps ≤ 1024 → (a : ℕ) (v : View P E) → IsWellFormed ps v → exclusive ≤ shares a v → v.parts ≡ 64
       → (g : List (Option P)) × Has v a g
   own-claim ps t few a v s full all =
       let f = few-shares P E ps t few a v s in
@@ -20,7 +20,7 @@ module _ (P E : Type 0) where
       (r.1, ap (get_elem? v.held) (sym (one-is r.0 a r.3)) ∙ r.2)
 
   -- the node's own word, found not 0: it has a grant of the node or of one below
-  pub own-or-below : (ps : List ℕ) → IsTree ps → (b : ℕ) (v : View P E) → IsSound ps v → ((a : ℕ) → tally a v.path ≡ tally a (ancestors ps b))
+  pub own-or-below : (ps : List ℕ) → IsTree ps → (b : ℕ) (v : View P E) → IsWellFormed ps v → ((a : ℕ) → tally a v.path ≡ tally a (ancestors ps b))
       → v.unsure ≡ 0 → 0 < b → shares b v ≢ 0
       → (c : ℕ) × (g : List (Option P)) × Has v c g × Excludes ps b c
   own-or-below ps t b v s path calm pos busy =

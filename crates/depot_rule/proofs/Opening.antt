@@ -11,7 +11,7 @@ use Rattle.depot_rule.specs.declared.view.Entry.{Entry}
 use Rattle.affinity_tree.specs.Ancestors.{one_if, tally, IsTree}
 use Rattle.depot_rule.specs.Sums.{total}
 use Rattle.depot_rule.specs.History.{Behaviour, Legal, SoundThroughout, AreHands, StartsWith, listed, after, batches_of, chosen, entries_of}
-use Rattle.depot_rule.specs.Shares.{opening_view, claims, entered, shares, IsSound}
+use Rattle.depot_rule.specs.Shares.{opening_view, claims, entered, shares, IsWellFormed}
 use Rattle.depot_rule.specs.Parcels.{has_out, IsParcel, Carries}
 use Rattle.depot_rule.specs.Rule.{Base, Rule}
 use Rattle.depot_rule.proofs.Views.{all-one, only-view}
@@ -70,7 +70,7 @@ module _ (P E : Type 0) (kind_of : P → Kind) where
           ticket = zero-word (length ps) 0;
           bounded = let o = over-none (List (Option P)) (λ b. 1) 0 (length ps) in omega arith;
           alone = λ a p l h. let q = bare a p in let q1 = q.1 in absurd (omega arith);
-          sound = each-one (IsSound ps) v (record {
+          sound = each-one (IsWellFormed ps) v (record {
             some_part = omega arith;
             tree = refl;
             wide = length-replicate (length ps) None;

@@ -7,7 +7,7 @@ use Rattle.atomic_table.proofs.Lists.{at_set, at_snoc}
 use Rattle.depot_rule.specs.declared.view.View.{View}
 use Rattle.affinity_tree.specs.Ancestors.{one_if, tally, IsTree, ancestors}
 use Rattle.depot_rule.specs.Sums.{total, over_taken}
-use Rattle.depot_rule.specs.Shares.{exclusive, Each, parts, made, open_grants, due, unsettled, claims, lower, entered, shares, IsSound, Shares}
+use Rattle.depot_rule.specs.Shares.{exclusive, Each, parts, made, open_grants, due, unsettled, claims, lower, entered, shares, IsWellFormed, Shares}
 use Rattle.depot_rule.specs.lemmas.Sums.{one-most, total-most, total-less, total-alone, total-parts, over-most}
 use Rattle.depot_rule.specs.lemmas.Trees.{ancestors-once}
 
@@ -55,14 +55,14 @@ module _ (P E : Type 0) where
   shares-parts a views = total-parts (total (λ (v : View P E). entered a v + unsure_in a v)) (total (claims a)) (total (shares a))
       (λ vs. total-parts (λ (v : View P E). entered a v + unsure_in a v) (claims a) (shares a) (λ v. refl) vs) views
 
-  pub lower-most : (ps : List ℕ) → IsTree ps → (a : ℕ) (v : View P E) → IsSound ps v → lower a v ≤ length ps
+  pub lower-most : (ps : List ℕ) → IsTree ps → (a : ℕ) (v : View P E) → IsWellFormed ps v → lower a v ≤ length ps
   lower-most ps t a v s =
       let o : over_taken (λ b. tally a (ancestors v.tree b)) 0 v.held ≤ length v.held
       = over-most (λ b. tally a (ancestors v.tree b)) 0 v.held (λ b. subst (λ (q : List ℕ). tally a (ancestors q b) ≤ 1) (sym s.tree)
       (ancestors-once ps t a b)) in
       let w = s.wide in omega arith
 
-  pub few-shares : (ps : List ℕ) → IsTree ps → length ps ≤ 1024 → (a : ℕ) (v : View P E) → IsSound ps v → entered a v + unsure_in a v ≤ 2000 * parts v
+  pub few-shares : (ps : List ℕ) → IsTree ps → length ps ≤ 1024 → (a : ℕ) (v : View P E) → IsWellFormed ps v → entered a v + unsure_in a v ≤ 2000 * parts v
   few-shares ps t few a v s = let u = one-most (eqb v.unsure a) in let p = s.once a in let l = lower-most ps t a v s in let some_part = s.some_part
       in omega arith
 
@@ -75,7 +75,7 @@ module _ (P E : Type 0) where
       let s = r.seats in omega arith
 
   -- a view's rights to add entries are few, and so are all entries
-  pub few-due : (ps : List ℕ) → length ps ≤ 1024 → (v : View P E) → IsSound ps v → v.looked + open_grants v ≤ 2000 * parts v
+  pub few-due : (ps : List ℕ) → length ps ≤ 1024 → (v : View P E) → IsWellFormed ps v → v.looked + open_grants v ≤ 2000 * parts v
   few-due ps few v s = let o = over-most (λ b. 1) 0 v.held (λ b. omega arith) in let w = s.wide in let l = s.looked in let some_part = s.some_part
       in omega arith
 

@@ -9,7 +9,7 @@ use Rattle.depot_rule.specs.declared.view.View.{View}
 use Rattle.depot_rule.specs.declared.view.Read.{Read}
 use Rattle.affinity_tree.specs.Ancestors.{one_if, tally, ancestors}
 use Rattle.depot_rule.specs.Sums.{total, over_taken}
-use Rattle.depot_rule.specs.Shares.{exclusive, parts, made, open_grants, due, unsettled, claims, entered, shares, IsSound, Shares}
+use Rattle.depot_rule.specs.Shares.{exclusive, parts, made, open_grants, due, unsettled, claims, entered, shares, IsWellFormed, Shares}
 use Rattle.depot_rule.specs.lemmas.Sums.{one-same, one-other, one-most, total-set, total-at, total-less, fill-at, clear-at, free-at}
 use Rattle.depot_rule.specs.lemmas.Trees.{ancestors-once}
 use Rattle.depot_rule.proofs.Views.{all-one, each-set, unsure_in, shares-parts, few-in-word}
@@ -44,7 +44,7 @@ module _ (P E : Type 0) where
   -- the seat id's step on the word i, which makes it x
   pub step-keeps : (ps ws : List ℕ) (views : Views) (r : Shares ps ws views) (i x id : ℕ) (v w : View P E) → get_elem? views id ≡ some (v ∷ [])
       → 0 < i → i < length ps
-      → w.parts ≡ v.parts → made w ≡ made v → due w + unsettled v ≤ due v + unsettled w → IsSound ps w
+      → w.parts ≡ v.parts → made w ≡ made v → due w + unsettled v ≤ due v + unsettled w → IsWellFormed ps w
       → x + shares i v ≡ get_or ws i 0 + shares i w
       → ((a : ℕ) → 0 < a → a ≢ i → (shares a w ≡ shares a v) × (claims a w ≡ claims a v) × (entered a w ≡ entered a v))
       → (0 < total (total (claims i)) (set views id (w ∷ [])) → (total (total (claims i)) (set views id (w ∷ [])) ≡ 1)
@@ -72,7 +72,7 @@ module _ (P E : Type 0) where
         (v ∷ []) (w ∷ []) at in
         let o = others a p ne in let o1 = o.1 in let o2 = o.2 in
         let q = r.alone a p l (omega arith) in let q0 = q.0 in let q1 = q.1 in (omega arith, omega arith));
-    sound = each-set (IsSound ps) views id (w ∷ []) r.sound (all-one (IsSound ps) w sound);
+    sound = each-set (IsWellFormed ps) views id (w ∷ []) r.sound (all-one (IsWellFormed ps) w sound);
   }
 
   -- a word found free of a claim is entered

@@ -89,7 +89,7 @@ module _ {P E : Type 0} where
   shares a v = (entered a v + one_if (v.unsure == a)) + exclusive * claims a v
 
   -- of one view: it has a part, knows the tree, has a place for each node, entered no word twice, and looked for one call at most
-  pub record IsSound (parents : List ℕ) (v : View P E) : Type 0 where
+  pub record IsWellFormed (parents : List ℕ) (v : View P E) : Type 0 where
     pub some_part : 0 < v.parts
     pub tree : v.tree ≡ parents
     pub wide : length v.held ≡ length parents
@@ -110,4 +110,4 @@ module _ {P E : Type 0} where
     -- a node that is claimed is claimed once, and no share in it was found free
     pub alone : (a : ℕ) → 0 < a → a < length parents → 0 < total (total (claims a)) views → (total (total (claims a)) views ≡ 1)
         × (total (total (entered a)) views ≡ 0)
-    pub sound : Each (IsSound parents) views
+    pub sound : Each (IsWellFormed parents) views

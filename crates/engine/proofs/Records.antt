@@ -14,8 +14,8 @@ use Rattle.engine.specs.Short.{IsShort}
 use Rattle.engine.proofs.Shortness.{short, short_refusal}
 use Rattle.rpc_msg.specs.lemmas.Hearing.{fault_of_record, record_is_decoded, record_asks_reading}
 use Rattle.rpc_msg.specs.Seen as told
-use Rattle.rpc_msg.specs.declared.fault.Fault.{Fault}
-use Rattle.rpc_msg.specs.declared.fault.Fault.TheVariants as faults
+use Rattle.rpc_msg.specs.declared.fault.RecordFault.{RecordFault}
+use Rattle.rpc_msg.specs.declared.fault.RecordFault.TheVariants as faults
 use Rattle.engine.specs.Numbers.{fault_number}
 use Rattle.engine.specs.Records.{fault_of}
 use Rattle.engine.specs.Codec.{heard, reply_record}
@@ -59,6 +59,6 @@ record-short xid reply s = short xid (reply_of reply) s
 
 -- ---- what was read
 
-pub numbers-same : (fault : Fault) → fault_number (fault_of fault) ≡ told.fault_number fault
+pub numbers-same : (fault : RecordFault) → fault_number (fault_of fault) ≡ told.fault_number fault
 numbers-same faults.BadHeader = refl
 numbers-same faults.NotACall = refl

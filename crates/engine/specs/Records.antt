@@ -3,8 +3,8 @@ use Rattle.std.specs.Prelude.{◌≡◌, ℕ, Result, Ok, Err, IsTrue}
 use Rattle.nfs_model.specs.Types as types
 use Rattle.nfs_model.specs.Serial.Starve.{may_starve_at_decoding}
 use Rattle.nfs_model.specs.World as worlds
-use Rattle.rpc_msg.specs.declared.fault.Fault.{Fault}
-use Rattle.rpc_msg.specs.declared.fault.Fault.TheVariants as faults
+use Rattle.rpc_msg.specs.declared.fault.RecordFault.{RecordFault}
+use Rattle.rpc_msg.specs.declared.fault.RecordFault.TheVariants as faults
 use Rattle.engine.specs.declared.event.StreamFault.{StreamFault}
 use Rattle.engine.specs.declared.event.StreamFault.TheVariants.{BadHeader, NotACall}
 use Rattle.engine.specs.declared.reading.RecordRead.{RecordRead}
@@ -18,6 +18,6 @@ IsReadAs (reads.Heard h) heard = heard ≡ Ok (heard_of h)
 IsReadAs (reads.Undecoded xid) heard = (asked : types.Asked) × IsTrue (may_starve_at_decoding asked) × (heard ≡ Ok (record { xid = xid; asked = asked }))
 IsReadAs (reads.Fault fault) heard = heard ≡ Err (fault_number fault)
 
-abbrev pub fault_of : Fault → StreamFault
+abbrev pub fault_of : RecordFault → StreamFault
 fault_of faults.BadHeader = BadHeader
 fault_of faults.NotACall = NotACall

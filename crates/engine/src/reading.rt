@@ -19,12 +19,12 @@ pub(crate) enum RecordRead {
 }
 
 /// The fault of a stream that a record's fault is.
-fn stream_fault(fault: rpc_msg::Fault) -> StreamFault
+fn stream_fault(fault: rpc_msg::RecordFault) -> StreamFault
     ensures { result ≡ fault_of fault }
 {
     match fault {
-        rpc_msg::Fault::BadHeader => StreamFault::BadHeader,
-        rpc_msg::Fault::NotACall => StreamFault::NotACall,
+        rpc_msg::RecordFault::BadHeader => StreamFault::BadHeader,
+        rpc_msg::RecordFault::NotACall => StreamFault::NotACall,
     }
 }
 

@@ -3,16 +3,16 @@
 //! `filer replay FILE` runs a script of events, and prints a line for each.
 #![tactic(auto)]
 
-use filer_replay::{Fault, print_fault, program};
+use filer_replay::{ProgramFault, print_fault, program};
 use std::alloc::AllocError;
 use std::process::ExitCode;
 use std::{env, io};
 
 /// The words of the command line.
-fn arguments(rt: &(impl env::Env + AllocGlobal)) -> Result<Vec<String>, Fault> {
+fn arguments(rt: &(impl env::Env + AllocGlobal)) -> Result<Vec<String>, ProgramFault> {
     let mut words = Vec::new(rt.alloc());
-    for word in env::args(rt).map_err(|error| Fault::of_words(&error))? {
-        words.push(word).map_err(|_| Fault::NoMemory)?;
+    for word in env::args(rt).map_err(|error| ProgramFault::of_words(&error))? {
+        words.push(word).map_err(|_| ProgramFault::NoMemory)?;
     }
     Ok(words)
 }

@@ -3,7 +3,7 @@
 ghost use Rattle.std.specs.Prelude.{◌≤◌, IfOk};
 
 use crate::choice::Command;
-use crate::fault::Fault;
+use crate::fault::ProgramFault;
 use crate::playing::replay;
 use crate::printing::print_fault;
 use crate::words::command;
@@ -17,12 +17,12 @@ fn run<R: Files + AllocGlobal, S: AsStr, W: Write>(
     rt: &R,
     words: &[S],
     out: &mut W,
-) -> Result<u8, Fault>
+) -> Result<u8, ProgramFault>
     ensures { IfOk result (λ status. status ≤ 1) }
 {
     match command(rt.alloc(), words)? {
         Command::Replay { path } => {
-            let mut file = File::open(rt, path).map_err(|error| Fault::of_file(&error))?;
+            let mut file = File::open(rt, path).map_err(|error| ProgramFault::of_file(&error))?;
             Ok(replay(rt.alloc(), &mut file, out))
         }
     }

@@ -7,7 +7,7 @@ use thiserror::Error;
 
 /// What ends a command; the text is the line that is printed.
 #[derive(Clone, Copy, Debug, PartialEq, Eq, Error)]
-pub enum Fault {
+pub enum ProgramFault {
     /// The command line can't be parsed, or asks for help.
     #[error("fault 60")]
     CommandLine,
@@ -25,31 +25,34 @@ pub enum Fault {
     Output,
 }
 
-impl Fault {
+impl ProgramFault {
     /// Why the command line can't be read.
-    pub fn of_words(error: &io::Error) -> Fault {
+    pub fn of_words(error: &io::Error) -> ProgramFault {
         match error.kind() {
-            io::ErrorKind::OutOfMemory => Fault::NoMemory,
-            _ => Fault::CommandLine,
+            io::ErrorKind::OutOfMemory => ProgramFault::NoMemory,
+            _ => ProgramFault::CommandLine,
         }
     }
 
     /// Why a file can't be read.
-    pub fn of_file(error: &io::Error) -> Fault {
+    pub fn of_file(error: &io::Error) -> ProgramFault {
         match error.kind() {
-            io::ErrorKind::OutOfMemory => Fault::NoMemory,
-            _ => Fault::File,
+            io::ErrorKind::OutOfMemory => ProgramFault::NoMemory,
+            _ => ProgramFault::File,
         }
     }
 
     /// The exit status of the program.
     pub fn status(self) -> u8
-        ensures command_line { self ≡ Fault.CommandLine → result ≡ 2 }
-        ensures others { self ≢ Fault.CommandLine → result ≡ 1 }
+        ensures command_line { self ≡ ProgramFault.CommandLine → result ≡ 2 }
+        ensures others { self ≢ ProgramFault.CommandLine → result ≡ 1 }
     {
         match self {
-            Fault::CommandLine => 2,
-            Fault::File | Fault::NoMemory | Fault::BadLine { .. } | Fault::Output => 1,
+            ProgramFault::CommandLine => 2,
+            ProgramFault::File
+            | ProgramFault::NoMemory
+            | ProgramFault::BadLine { .. }
+            | ProgramFault::Output => 1,
         }
     }
 }

@@ -15,7 +15,7 @@ mod words;
 
 pub use choice::Command;
 pub use commands::program;
-pub use fault::Fault;
+pub use fault::ProgramFault;
 pub use playing::replay;
 pub use printing::print_fault;
 pub use words::command;

@@ -2,7 +2,7 @@
 
 ghost use Rattle.std.specs.Prelude.{◌<◌, ◌≤◌, length, IfOk};
 
-use crate::fault::Fault;
+use crate::fault::ProgramFault;
 use crate::printing::{print_fault, print_output, say};
 use crate::script::{Script, Start};
 use byteorder::{BigEndian, ByteOrder};
@@ -27,7 +27,11 @@ fn record_len(bytes: &[u8]) -> usize
 }
 
 /// Prints the records that were written to a connection, each as a line.
-fn print_records<W: Write>(out: &mut W, connection: usize, records: &[u8]) -> Result<(), Fault> {
+fn print_records<W: Write>(
+    out: &mut W,
+    connection: usize,
+    records: &[u8],
+) -> Result<(), ProgramFault> {
     let mut rest = records;
     while !rest.is_empty() {
         let (record, others) = rest.split_at(record_len(rest));
@@ -52,7 +56,7 @@ fn print_done<W: Write>(
     before: usize,
     done: Done,
     out: &mut W,
-) -> Result<(), Fault> {
+) -> Result<(), ProgramFault> {
     match (event, done) {
         (_, Done::Opened { connection }) => say(out, format_args!("conn {connection}")),
         (Event::Feed { connection, .. }, Done::Fed { taken, stop }) => {
@@ -81,7 +85,11 @@ fn print_done<W: Write>(
 }
 
 /// Gives an event to the engine, and prints its line. Answers whether it was refused.
-fn play<W: Write>(engine: &mut Engine, event: Event<'_>, out: &mut W) -> Result<bool, Fault> {
+fn play<W: Write>(
+    engine: &mut Engine,
+    event: Event<'_>,
+    out: &mut W,
+) -> Result<bool, ProgramFault> {
     let before = output_before(engine, event);
     match engine.step(event) {
         Ok(done) => {
@@ -97,7 +105,7 @@ fn play<W: Write>(engine: &mut Engine, event: Event<'_>, out: &mut W) -> Result<
 }
 
 /// Runs a script up to its end, and answers whether an event was refused.
-fn run<W: Write>(alloc: Global, text: &[u8], out: &mut W) -> Result<bool, Fault> {
+fn run<W: Write>(alloc: Global, text: &[u8], out: &mut W) -> Result<bool, ProgramFault> {
     let mut script = Script::new(alloc, text);
     let Start { layout, verifier } = script.read_start()?;
     let mut engine = Engine::new(alloc, layout, verifier);
@@ -111,10 +119,10 @@ fn run<W: Write>(alloc: Global, text: &[u8], out: &mut W) -> Result<bool, Fault>
 
 /// Runs a script with its lines kept back until there are many of them, or none follows, and
 /// answers the exit status. A fault of the script is printed after the lines before it.
-fn run_buffered<W: Write>(alloc: Global, text: &[u8], out: &mut W) -> Result<u8, Fault>
+fn run_buffered<W: Write>(alloc: Global, text: &[u8], out: &mut W) -> Result<u8, ProgramFault>
     ensures { IfOk result (λ status. status ≤ 1) }
 {
-    let mut buffered = BufWriter::new(alloc, out).map_err(|_| Fault::NoMemory)?;
+    let mut buffered = BufWriter::new(alloc, out).map_err(|_| ProgramFault::NoMemory)?;
     let status = match run(alloc, text, &mut buffered) {
         Ok(refused) => u8::from(refused),
         Err(fault) => {
@@ -122,16 +130,16 @@ fn run_buffered<W: Write>(alloc: Global, text: &[u8], out: &mut W) -> Result<u8,
             1
         }
     };
-    buffered.flush().map_err(|_| Fault::Output)?;
+    buffered.flush().map_err(|_| ProgramFault::Output)?;
     Ok(status)
 }
 
 /// Reads a script whole.
-fn read_whole<R: Read>(alloc: Global, script: &mut R) -> Result<Vec<u8>, Fault> {
+fn read_whole<R: Read>(alloc: Global, script: &mut R) -> Result<Vec<u8>, ProgramFault> {
     let mut text = Vec::new(alloc);
     match script.read_to_end(&mut text) {
         Ok(_) => Ok(text),
-        Err(error) => Err(Fault::of_file(&error)),
+        Err(error) => Err(ProgramFault::of_file(&error)),
     }
 }
 

@@ -6,7 +6,7 @@ ghost use Rattle.std.specs.Fmt.{decimal};
 ghost use Rattle.std.specs.Io.KnownBytes.{Appends};
 ghost use Rattle.hex.specs.Hex.{encode_lower};
 
-use crate::fault::Fault;
+use crate::fault::ProgramFault;
 use std::fmt::Display;
 use std::io::Write;
 
@@ -17,32 +17,32 @@ const PIECE: usize = 256;
 const DIGITS: usize = 512;
 
 /// Prints a line.
-pub(crate) fn say<W: Write, D: Display + Drop>(out: &mut W, line: D) -> Result<(), Fault>
+pub(crate) fn say<W: Write, D: Display + Drop>(out: &mut W, line: D) -> Result<(), ProgramFault>
     ensures line { OnOk result (IfSome (D.output line)
         (λ text. Appends (W.contents out.old) (W.contents out.new) (text ++ 10 ∷ []))) }
-    ensures err { IfErr result (λ fault. fault ≡ Fault.Output) }
+    ensures err { IfErr result (λ fault. fault ≡ ProgramFault.Output) }
 {
-    writeln!(out, "{line}").map_err(|_| Fault::Output)
+    writeln!(out, "{line}").map_err(|_| ProgramFault::Output)
 }
 
 /// Prints a piece in lower-case hex, in one write.
-fn print_piece<W: Write>(out: &mut W, piece: &[u8]) -> Result<(), Fault>
+fn print_piece<W: Write>(out: &mut W, piece: &[u8]) -> Result<(), ProgramFault>
     requires { length piece.now ≤ PIECE }
     ensures digits { OnOk result
         (Appends (W.contents out.old) (W.contents out.new) (encode_lower piece.now)) }
-    ensures err { IfErr result (λ fault. fault ≡ Fault.Output) }
+    ensures err { IfErr result (λ fault. fault ≡ ProgramFault.Output) }
 {
     let mut digits = [0; DIGITS];
     let spelled = &mut digits[..2 * piece.len()];
     hex::encode_to_slice(piece, spelled).unwrap();
-    out.write_all(spelled).map_err(|_| Fault::Output)
+    out.write_all(spelled).map_err(|_| ProgramFault::Output)
 }
 
 /// Prints bytes in lower-case hex.
-fn print_hex<W: Write>(out: &mut W, bytes: &[u8]) -> Result<(), Fault>
+fn print_hex<W: Write>(out: &mut W, bytes: &[u8]) -> Result<(), ProgramFault>
     ensures digits { OnOk result
         (Appends (W.contents out.old) (W.contents out.new) (encode_lower bytes.now)) }
-    ensures err { IfErr result (λ fault. fault ≡ Fault.Output) }
+    ensures err { IfErr result (λ fault. fault ≡ ProgramFault.Output) }
 {
     let mut rest = bytes;
     while !rest.is_empty() {
@@ -59,24 +59,24 @@ pub(crate) fn print_output<W: Write>(
     out: &mut W,
     connection: usize,
     bytes: &[u8],
-) -> Result<(), Fault>
+) -> Result<(), ProgramFault>
     ensures line { OnOk result (Appends (W.contents out.old) (W.contents out.new)
         (codes "out " ++ decimal connection ++ codes " "
         ++ (if length bytes.now == 0 then codes "-" else encode_lower bytes.now) ++ 10 ∷ [])) }
-    ensures err { IfErr result (λ fault. fault ≡ Fault.Output) }
+    ensures err { IfErr result (λ fault. fault ≡ ProgramFault.Output) }
 {
     if bytes.is_empty() {
         return say(out, format_args!("out {connection} -"));
     }
-    write!(out, "out {connection} ").map_err(|_| Fault::Output)?;
+    write!(out, "out {connection} ").map_err(|_| ProgramFault::Output)?;
     print_hex(out, bytes)?;
-    out.write_all(b"\n").map_err(|_| Fault::Output)
+    out.write_all(b"\n").map_err(|_| ProgramFault::Output)
 }
 
 /// Prints a fault, unless the output is what failed. The exit status tells of one that can't be
 /// printed.
-pub fn print_fault<W: Write>(out: &mut W, fault: Fault) {
-    if fault != Fault::Output {
+pub fn print_fault<W: Write>(out: &mut W, fault: ProgramFault) {
+    if fault != ProgramFault::Output {
         let _ = say(out, fault);
     }
 }

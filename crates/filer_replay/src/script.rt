@@ -6,7 +6,7 @@ ghost use Rattle.std.specs.Prelude.{length, Contains, IsTrue, IfOk, IfErr, IsSom
 mod line;
 mod word;
 
-use crate::fault::Fault;
+use crate::fault::ProgramFault;
 use crate::script::line::{Line, Unread, read_line};
 use affinity_tree::{
     AggregateSpec, Layout, LayoutFault, MOST_AGGREGATES, MOST_RANGES, MOST_SPARE, MOST_VOLUMES,
@@ -84,15 +84,15 @@ impl<'a> Script<'a> {
     }
 
     /// That the line read last is of no form that a line may have there.
-    fn bad_line(&self) -> Fault
-        ensures { result ≡ Fault.BadLine self.now.count }
+    fn bad_line(&self) -> ProgramFault
+        ensures { result ≡ ProgramFault.BadLine self.now.count }
     {
-        Fault::BadLine { number: self.count }
+        ProgramFault::BadLine { number: self.count }
     }
 
     /// The next line without its line feed; nothing at the end. A last line without a line feed is
     /// bad.
-    fn next_text(&mut self) -> Result<Option<&'a [u8]>, Fault>
+    fn next_text(&mut self) -> Result<Option<&'a [u8]>, ProgramFault>
         ensures end { IfOk result (λ text. text ≡ None
             → (self.old.rest.now ≡ []) × (self.new ≡ self.old)) }
         ensures line { IfOk result (λ text. IfSome text
@@ -102,7 +102,7 @@ impl<'a> Script<'a> {
             (λ _. self.new.count ≡ self.old.count + 1)) }
         ensures shorter { IfOk result (λ text. IfSome text
             (λ _. length self.new.rest.now < length self.old.rest.now)) }
-        ensures err { IfErr result (λ fault. (fault ≡ Fault.BadLine (self.old.count + 1))
+        ensures err { IfErr result (λ fault. (fault ≡ ProgramFault.BadLine (self.old.count + 1))
             × ¬ Contains self.old.rest.now 10) }
     {
         let rest = self.rest;
@@ -110,7 +110,7 @@ impl<'a> Script<'a> {
             return Ok(None);
         }
         let Some(end) = rest.iter().position(|byte| *byte == LINE_FEED) else {
-            return Err(Fault::BadLine {
+            return Err(ProgramFault::BadLine {
                 number: self.count + 1,
             });
         };
@@ -120,7 +120,7 @@ impl<'a> Script<'a> {
     }
 
     /// The next line that is neither empty nor a comment; nothing at the end.
-    fn next_line(&mut self) -> Result<Option<&'a [u8]>, Fault>
+    fn next_line(&mut self) -> Result<Option<&'a [u8]>, ProgramFault>
         ensures { IfOk result (λ line. IsSome line
             → length self.new.rest.now < length self.old.rest.now) }
     {
@@ -133,25 +133,25 @@ impl<'a> Script<'a> {
     }
 
     /// What a line says that was read last.
-    fn said<'b>(&self, text: &[u8], bytes: &'b mut Vec<u8>) -> Result<Line<'b>, Fault> {
+    fn said<'b>(&self, text: &[u8], bytes: &'b mut Vec<u8>) -> Result<Line<'b>, ProgramFault> {
         read_line(self.alloc, text, bytes).map_err(|unread| match unread {
             Unread::Form => self.bad_line(),
-            Unread::NoMemory => Fault::NoMemory,
+            Unread::NoMemory => ProgramFault::NoMemory,
         })
     }
 
     /// The next line of the layout. Where the script ends, the line past its last is bad.
-    fn layout_line<'b>(&mut self, bytes: &'b mut Vec<u8>) -> Result<Line<'b>, Fault> {
+    fn layout_line<'b>(&mut self, bytes: &'b mut Vec<u8>) -> Result<Line<'b>, ProgramFault> {
         match self.next_line()? {
             Some(text) => self.said(text, bytes),
-            None => Err(Fault::BadLine {
+            None => Err(ProgramFault::BadLine {
                 number: self.count + 1,
             }),
         }
     }
 
     /// The layout, up to the line that starts its engine: aggregates, then volumes, then that line.
-    pub(crate) fn read_start(&mut self) -> Result<Start, Fault> {
+    pub(crate) fn read_start(&mut self) -> Result<Start, ProgramFault> {
         let mut aggregates = Vec::new(self.alloc);
         let mut volumes = Vec::new(self.alloc);
         let mut bytes = Vec::new(self.alloc);
@@ -161,14 +161,14 @@ impl<'a> Script<'a> {
                     let specification = AggregateSpec { spare };
                     aggregates
                         .push(specification)
-                        .map_err(|_full| Fault::NoMemory)?;
+                        .map_err(|_full| ProgramFault::NoMemory)?;
                 }
                 Line::Volume { aggregate, ranges }
                     if is_volume(&aggregates, &volumes, aggregate, ranges) => {
                     let specification = VolumeSpec::new(aggregate, ranges);
                     volumes
                         .push(specification)
-                        .map_err(|_full| Fault::NoMemory)?;
+                        .map_err(|_full| ProgramFault::NoMemory)?;
                 }
                 Line::Start {
                     workers: 1,
@@ -184,15 +184,19 @@ impl<'a> Script<'a> {
     }
 
     /// The layout of these; the line read last is bad where they are none.
-    fn layout(&self, aggregates: &[AggregateSpec], volumes: &[VolumeSpec]) -> Result<Layout, Fault>
+    fn layout(
+        &self,
+        aggregates: &[AggregateSpec],
+        volumes: &[VolumeSpec],
+    ) -> Result<Layout, ProgramFault>
         ensures layout { IfOk result
             (λ layout. layout_of layout ≡ layout_in aggregates.now volumes.now) }
         ensures bad { IfErr result
-            (λ fault. (fault ≡ Fault.NoMemory) ⊎ (fault ≡ Fault.BadLine self.now.count)) }
+            (λ fault. (fault ≡ ProgramFault.NoMemory) ⊎ (fault ≡ ProgramFault.BadLine self.now.count)) }
     {
         match Layout::new(self.alloc, aggregates, volumes) {
             Ok(layout) => Ok(layout),
-            Err(LayoutFault::NoMemory) => Err(Fault::NoMemory),
+            Err(LayoutFault::NoMemory) => Err(ProgramFault::NoMemory),
             Err(_) => Err(self.bad_line()),
         }
     }
@@ -201,7 +205,7 @@ impl<'a> Script<'a> {
     pub(crate) fn read_event<'b>(
         &mut self,
         bytes: &'b mut Vec<u8>,
-    ) -> Result<Option<Event<'b>>, Fault>
+    ) -> Result<Option<Event<'b>>, ProgramFault>
         ensures { IfOk result (λ event. IsSome event
             → length self.new.rest.now < length self.old.rest.now) }
     {

@@ -1,6 +1,6 @@
 use crate::choice::Command;
 use crate::commands::program;
-use crate::fault::Fault;
+use crate::fault::ProgramFault;
 use crate::playing::replay;
 use crate::words::command;
 use affinity_tree::{AggregateSpec, Layout, VolumeSpec};
@@ -437,7 +437,7 @@ fn command_lines_are_read(rt: HostRuntime) -> Result<(), Fail> {
         &["filer", "serve", "--listen", "127.0.0.1:0"],
     ];
     for words in refused {
-        assert_eq!(rt; command(alloc, words), Err(Fault::CommandLine));
+        assert_eq!(rt; command(alloc, words), Err(ProgramFault::CommandLine));
         let mut out = Vec::new(alloc);
         assert_eq!(rt; program(&rt, words, &mut out), 2);
         assert_eq!(rt; out.as_slice(), b"fault 60\n".as_slice());

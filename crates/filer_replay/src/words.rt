@@ -1,7 +1,7 @@
 //! The command line.
 
 use crate::choice::Command;
-use crate::fault::Fault;
+use crate::fault::ProgramFault;
 use clap::error::ErrorKind;
 use clap::{Arg, ArgAction, ArgMatches, Error};
 use std::alloc::{AllocError, Global};
@@ -19,28 +19,28 @@ fn declared<'a>(alloc: Global) -> Result<clap::Command<'a>, AllocError> {
 }
 
 /// What was parsed, as a command.
-fn chosen<'a>(matches: &ArgMatches<'a>) -> Result<Command<'a>, Fault> {
+fn chosen<'a>(matches: &ArgMatches<'a>) -> Result<Command<'a>, ProgramFault> {
     let Some(("replay", inner)) = matches.subcommand() else {
-        return Err(Fault::CommandLine);
+        return Err(ProgramFault::CommandLine);
     };
     match inner.get_str("FILE") {
         Some(path) => Ok(Command::Replay { path }),
-        None => Err(Fault::CommandLine),
+        None => Err(ProgramFault::CommandLine),
     }
 }
 
-fn fault_of(error: &Error) -> Fault {
+fn fault_of(error: &Error) -> ProgramFault {
     match error.kind() {
-        ErrorKind::OutOfMemory => Fault::NoMemory,
-        _ => Fault::CommandLine,
+        ErrorKind::OutOfMemory => ProgramFault::NoMemory,
+        _ => ProgramFault::CommandLine,
     }
 }
 
 /// The command that the words ask for; the first word is the program's name.
 ///
 /// `CommandLine` where the words are no command or ask for help, `NoMemory` where memory ran out.
-pub fn command<'a, S: AsStr>(alloc: Global, words: &'a [S]) -> Result<Command<'a>, Fault> {
-    let declared = declared(alloc).map_err(|_| Fault::NoMemory)?;
+pub fn command<'a, S: AsStr>(alloc: Global, words: &'a [S]) -> Result<Command<'a>, ProgramFault> {
+    let declared = declared(alloc).map_err(|_| ProgramFault::NoMemory)?;
     match declared.try_get_matches_from(words) {
         Ok(matches) => chosen(&matches),
         Err(error) => Err(fault_of(&error)),

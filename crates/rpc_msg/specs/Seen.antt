@@ -8,8 +8,8 @@ use Rattle.nfs_model.specs.Serial.Starve.{has_bytes}
 use Rattle.nfs_values.specs.Call.{call_of}
 use Rattle.nfs_values.specs.Credential.{credential_of}
 use Rattle.nfs_values.specs.Reply.{reply_of}
-use Rattle.rpc_msg.specs.declared.fault.Fault.{Fault}
-use Rattle.rpc_msg.specs.declared.fault.Fault.TheVariants.{BadHeader, NotACall}
+use Rattle.rpc_msg.specs.declared.fault.RecordFault.{RecordFault}
+use Rattle.rpc_msg.specs.declared.fault.RecordFault.TheVariants.{BadHeader, NotACall}
 use Rattle.rpc_msg.specs.declared.stop.Stop.{Stop}
 use Rattle.rpc_msg.specs.declared.stop.Stop.TheVariants as stops
 use Rattle.rpc_msg.specs.declared.head.Body.{Body}
@@ -25,7 +25,7 @@ use Rattle.rpc_msg.specs.declared.record.Request.TheVariants as requests
 use Rattle.rpc_msg.specs.Heads as heads
 
 -- BadHeader and NotACall (our profile)
-abbrev pub fault_number : Fault → ℕ
+abbrev pub fault_number : RecordFault → ℕ
 fault_number BadHeader = 12
 fault_number NotACall = 13
 
@@ -68,6 +68,6 @@ Tells xid (requests.Refused reply) heard = heard ≡ Ok (record { xid = xid; ask
 Tells xid requests.Undecoded heard =
     (call : model.Call) × ((credential : model.Credential) × (has_bytes call ≡ true) × (heard ≡ Ok (record { xid = xid; asked = model.Ask call credential })))
 
-abbrev pub Hears : Result Heard Fault → Result world.Heard ℕ → Type 0
+abbrev pub Hears : Result Heard RecordFault → Result world.Heard ℕ → Type 0
 Hears (Ok h) heard = Tells h.xid h.request heard
 Hears (Err fault) heard = heard ≡ Err (fault_number fault)

@@ -4,14 +4,14 @@ ghost use Rattle.std.specs.Prelude.{◌≡◌};
 
 /// Why a record is neither answered nor refused.
 #[derive(Clone, Copy, Debug, PartialEq, Eq)]
-pub enum Fault {
+pub enum RecordFault {
     /// The head of the call isn't all there.
     BadHeader = 12,
     /// The message is no call.
     NotACall = 13,
 }
 
-impl Fault {
+impl RecordFault {
     ghost use Rattle.rpc_msg.specs.Seen.{fault_number};
 
     /// The number by which a fault is told, 12 or 13.

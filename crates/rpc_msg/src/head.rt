@@ -11,7 +11,7 @@ ghost use Rattle.rpc_msg.specs.Seen.{Says, auth_value, body_of, fault_number, he
 ghost use Rattle.rpc_msg.specs.Seen.{numbers_value, stop_of, with_rest};
 
 use crate::credential::read_credential;
-use crate::fault::Fault;
+use crate::fault::RecordFault;
 use crate::items::{opaque, word};
 use crate::stop::Stop;
 use nfs_values::{ADMIN_PROGRAM, Credential, NFS_PROGRAM, Procedure, Reply};
@@ -44,7 +44,7 @@ pub enum Head<'a> {
         reply: Reply,
     },
     /// No call.
-    Fault(Fault),
+    Fault(RecordFault),
 }
 
 /// What follows the message type of a call that is served.
@@ -56,13 +56,13 @@ struct Body<'a> {
 }
 
 /// The number of a call, and what stands behind its message type.
-fn read_xid(bytes: &[u8]) -> Result<(u32, &[u8]), Fault>
+fn read_xid(bytes: &[u8]) -> Result<(u32, &[u8]), RecordFault>
     ensures { Says (with_rest (λ x. x)) fault_number result (xid_at bytes.now) }
 {
-    let (xid, rest) = word(bytes).map_err(|_fault| Fault::BadHeader)?;
-    let (kind, rest) = word(rest).map_err(|_fault| Fault::BadHeader)?;
+    let (xid, rest) = word(bytes).map_err(|_fault| RecordFault::BadHeader)?;
+    let (kind, rest) = word(rest).map_err(|_fault| RecordFault::BadHeader)?;
     if kind != CALL {
-        return Err(Fault::NotACall);
+        return Err(RecordFault::NotACall);
     }
     Ok((xid, rest))
 }
@@ -187,6 +187,6 @@ pub fn read_call(bytes: &[u8]) -> Head<'_>
             arguments,
         },
         Err(Stop::Refuse(reply)) => Head::Refuse { xid, reply },
-        Err(Stop::Incomplete) => Head::Fault(Fault::BadHeader),
+        Err(Stop::Incomplete) => Head::Fault(RecordFault::BadHeader),
     }
 }

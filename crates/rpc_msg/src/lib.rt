@@ -13,7 +13,7 @@ mod stop;
 #[cfg(test)]
 mod tests;
 
-pub use fault::Fault;
+pub use fault::RecordFault;
 pub use head::{Head, read_call};
 pub use laws::{
     arguments_are_spelled, call_heads_are_exact, credentials_are_spelled, faults_are_spelled,

@@ -5,7 +5,7 @@ ghost use Rattle.rpc_msg.specs.Heads.{Call as Asks};
 ghost use Rattle.rpc_msg.specs.Records.{heard, heard_from};
 ghost use Rattle.rpc_msg.specs.Seen.{Hears, Tells};
 
-use crate::fault::Fault;
+use crate::fault::RecordFault;
 use crate::head::{Head, read_call};
 use nfs_types::{Bad, decode_args};
 use nfs_values::{Call, Credential, Procedure, Reply};
@@ -47,7 +47,7 @@ fn decode(
 }
 
 /// Reads a whole record (RFC 5531 section 9). Only names and data take memory.
-pub fn read_record(alloc: Global, bytes: &[u8]) -> Result<Heard, Fault>
+pub fn read_record(alloc: Global, bytes: &[u8]) -> Result<Heard, RecordFault>
     ensures { Hears result (heard bytes.now) }
 {
     match read_call(bytes) {

@@ -125,9 +125,9 @@ fn lengths_of_401(rt: HostRuntime) -> Result<(), Fail> {
         )
     );
     let cut = bytes_of(rt.alloc(), &[9, 0, 2, 0x000186a3, 3, 0, 0])?;
-    assert!(rt; matches!(read_call(&cut), Head::Fault(Fault::BadHeader)));
+    assert!(rt; matches!(read_call(&cut), Head::Fault(RecordFault::BadHeader)));
     let verifier = bytes_of(rt.alloc(), &[9, 0, 2, 0x000186a3, 3, 0, 0, 0, 0, 0x191])?;
-    assert!(rt; matches!(read_call(&verifier), Head::Fault(Fault::BadHeader)));
+    assert!(rt; matches!(read_call(&verifier), Head::Fault(RecordFault::BadHeader)));
     Ok(())
 }
 
@@ -136,13 +136,13 @@ fn faults(rt: HostRuntime) -> Result<(), Fail> {
     assert!(rt;
         matches!(
             read_call(&[0, 0, 0, 1, 0, 0, 0]),
-            Head::Fault(Fault::BadHeader)
+            Head::Fault(RecordFault::BadHeader)
         )
     );
     assert!(rt;
         matches!(
             read_call(&[0, 0, 0, 1, 0, 0, 0, 1]),
-            Head::Fault(Fault::NotACall)
+            Head::Fault(RecordFault::NotACall)
         )
     );
     Ok(())

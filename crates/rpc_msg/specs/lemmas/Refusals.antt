@@ -18,55 +18,55 @@ use Rattle.rpc_msg.specs.Records.{asked_by, heard_from, heard}
 use Rattle.rpc_msg.specs.lemmas.Hearing.{same_heard}
 
 -- where a call isn't served, the reply refuses it
-abbrev IsSound : {A : Type 0} → Result A Stop → Type 0
-IsSound (Ok x) = Unit {0}
-IsSound (Err Incomplete) = Unit {0}
-IsSound (Err (Refuse reply)) = IsRefusal reply
+abbrev StopsByRefusal : {A : Type 0} → Result A Stop → Type 0
+StopsByRefusal (Ok x) = Unit {0}
+StopsByRefusal (Err Incomplete) = Unit {0}
+StopsByRefusal (Err (Refuse reply)) = IsRefusal reply
 
-then_sound : {A B : Type 0} (r : Result A Stop) (f : A → Result B Stop) → IsSound r → ((x : A) → IsSound (f x)) → IsSound (r >>= f)
+then_sound : {A B : Type 0} (r : Result A Stop) (f : A → Result B Stop) → StopsByRefusal r → ((x : A) → StopsByRefusal (f x)) → StopsByRefusal (r >>= f)
 then_sound (Ok x) f s t = t x
 then_sound (Err Incomplete) f s t = tt
 then_sound (Err (Refuse reply)) f s t = s
 
-if_sound : {A : Type 0} (b : Bool) (r s : Result A Stop) → IsSound r → IsSound s → IsSound (cond b r s)
+if_sound : {A : Type 0} (b : Bool) (r s : Result A Stop) → StopsByRefusal r → StopsByRefusal s → StopsByRefusal (cond b r s)
 if_sound true r s x y = x
 if_sound false r s x y = y
 
-whole_sound : {A : Type 0} (r : Reads A) → IsSound (whole r)
+whole_sound : {A : Type 0} (r : Reads A) → StopsByRefusal (whole r)
 whole_sound (Ok x) = tt
 whole_sound (Err fault) = tt
 
-body_sound : (r : Reads (List ℕ)) → IsSound (body_of r)
+body_sound : (r : Reads (List ℕ)) → StopsByRefusal (body_of r)
 body_sound (Ok x) = tt
 body_sound (Err unreads.Short) = tt
 body_sound (Err fault) = tt
 
-user_sound : (r : Result (Value auth_sys_shape) Unread) → IsSound (user_of r)
+user_sound : (r : Result (Value auth_sys_shape) Unread) → StopsByRefusal (user_of r)
 user_sound (Ok v) = tt
 user_sound (Err fault) = tt
 
-available_sound : (procedure : Option Procedure) → IsSound (available procedure)
+available_sound : (procedure : Option Procedure) → StopsByRefusal (available procedure)
 available_sound (Some procedure) = tt
 available_sound None = tt
 
-of_version_sound : (served : Option ℕ) (version : ℕ) (procedure : Option Procedure) → IsSound (of_version served version procedure)
+of_version_sound : (served : Option ℕ) (version : ℕ) (procedure : Option Procedure) → StopsByRefusal (of_version served version procedure)
 of_version_sound None version procedure = tt
 of_version_sound (Some served) version procedure = if_sound (eqb version served) _ _ (available_sound procedure) tt
 
-acting_sound : (flavor : ℕ) (body : List ℕ) → IsSound (acting flavor body)
+acting_sound : (flavor : ℕ) (body : List ℕ) → StopsByRefusal (acting flavor body)
 acting_sound flavor body = if_sound (eqb flavor 0) _ _ tt (user_sound (all_of auth_sys_shape body))
 
-credential_sound : (flavor size : ℕ) (bytes : List ℕ) → IsSound (credential_at flavor size bytes)
+credential_sound : (flavor size : ℕ) (bytes : List ℕ) → StopsByRefusal (credential_at flavor size bytes)
 credential_sound flavor size bytes =
     if_sound (ltb 1 flavor) _ _ tt
     (if_sound (ltb 400 size) _ _ tt
     (then_sound (body_of (read (Fixed size) bytes)) _ (body_sound (read (Fixed size) bytes))
     (λ b. then_sound (acting flavor b.0) _ (acting_sound flavor b.0) (λ c. tt))))
 
-version_sound : (bytes : List ℕ) → IsSound (version_at bytes)
+version_sound : (bytes : List ℕ) → StopsByRefusal (version_at bytes)
 version_sound bytes = then_sound (whole (read Word bytes)) _ (whole_sound (read Word bytes)) (λ v. if_sound (eqb v.0 2) _ _ tt tt)
 
-call_sound : (bytes : List ℕ) → IsSound (body_at bytes)
+call_sound : (bytes : List ℕ) → StopsByRefusal (body_at bytes)
 call_sound bytes =
     then_sound (version_at bytes) _ (version_sound bytes) (λ rest.
     then_sound (whole (read numbers_shape rest)) _ (whole_sound (read numbers_shape rest)) (λ n.
@@ -82,7 +82,7 @@ HeadIsSound (Call xid procedure credential arguments) = Unit {0}
 HeadIsSound (Refused xid reply) = IsRefusal reply
 HeadIsSound (Faulty number) = Unit {0}
 
-under_sound : (xid : ℕ) (r : Result Body Stop) → IsSound r → HeadIsSound (under xid r)
+under_sound : (xid : ℕ) (r : Result Body Stop) → StopsByRefusal r → HeadIsSound (under xid r)
 under_sound xid (Ok body) s = tt
 under_sound xid (Err Incomplete) s = tt
 under_sound xid (Err (Refuse reply)) s = s
