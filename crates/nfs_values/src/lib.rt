@@ -26,7 +26,7 @@ pub use credential::Credential;
 pub use handle::{FileHandle, Named};
 pub use moment::Moment;
 pub use name::Name;
-pub use number::{ConnectionNumber, Cookie, Fileid, VolumeNumber, WorkerNumber};
+pub use number::{BlockNumber, ConnectionNumber, Cookie, Fileid, VolumeNumber, WorkerNumber};
 pub use procedure::{ADMIN_PROGRAM, NFS_PROGRAM, Procedure};
 pub use reply::{AuthFault, Reply};
 pub use set::{CreateMode, SetAttributes, SetTime};

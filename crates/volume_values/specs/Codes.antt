@@ -14,6 +14,7 @@ use Rattle.volume_values.specs.Directories.{DirectoryValue}
 use Rattle.volume_values.specs.Inodes.{InodeKind, RegularFile, Folder, Inode, InodesValue}
 use Rattle.volume_values.specs.Stripes.{Card, OfFile, OfFolder, Block, place_cmp, StripeValue}
 use Rattle.volume_values.specs.Ranges.{RangeValue}
+use Rattle.volume_values.specs.Logical.{LogicalValue}
 
 abbrev pub coded_moment : Coded Moment
 coded_moment = code_by (ℕ × ℕ) (coded× coded_ℕ coded_ℕ) (λ m. (m.seconds, m.nanoseconds)) (λ p. record { seconds = p.0; nanoseconds = p.1 }) (λ _. refl)
@@ -95,3 +96,21 @@ abbrev pub coded_range : Coded RangeValue
 coded_range =
     code_by (ℕ × (Bool × FinSet nat_cmp)) (coded× coded_ℕ (coded× coded_bool (sets.code coded_ℕ)))
     (λ r. (r.number, (r.is_used, r.free))) (λ p. record { number = p.0; is_used = p.1.0; free = p.1.1 }) (λ _. refl)
+
+-- ---- what Volume Logical has
+
+abbrev pub coded_logical : Coded LogicalValue
+coded_logical =
+    code_by ((List ℕ × (ℕ × ℕ)) × (InodesValue × (FinMap nat_cmp DirectoryValue × (FinSet nat_cmp × FinSet nat_cmp))))
+    (coded× (coded× (coded_list coded_ℕ) (coded× coded_ℕ coded_ℕ))
+      (coded× coded_inodes (coded× (maps.code coded_ℕ coded_directory) (coded× (sets.code coded_ℕ) (sets.code coded_ℕ)))))
+    (λ l. ((l.verifier, (l.stripes, l.largest)), (l.inodes, (l.directories, (l.stock, l.dead)))))
+    (λ p. record {
+      verifier = p.0.0;
+      stripes = p.0.1.0;
+      largest = p.0.1.1;
+      inodes = p.1.0;
+      directories = p.1.1.0;
+      stock = p.1.1.1.0;
+      dead = p.1.1.1.1;
+    }) (λ _. refl)

@@ -1,7 +1,7 @@
 -- The inodes of a volume: attributes, and what a reply shows beside them (RFC 1813 section 2.6).
-use Rattle.std.specs.Prelude.{ℕ, ◌+◌, ◌-◌, List, Option, Some, None}
+use Rattle.std.specs.Prelude.{◌≡◌, ℕ, ◌+◌, ◌-◌, ◌<◌, List, [], ◌∷◌, Option, Some, None}
 use Rattle.std.specs.Ordering.{nat_cmp}
-use Rattle.std.specs.FinMap.{FinMap, get, insert, remove}
+use Rattle.std.specs.FinMap.{FinMap, get, insert, remove, entries}
 use Rattle.nfs_model.specs.Types.{Moment}
 use Rattle.nfs_model.specs.Server.{Attributes}
 use Rattle.nfs_model.specs.Shown.{effective_attributes}
@@ -36,6 +36,11 @@ filled_blocks (Folder parent subdirectories) = 0
 abbrev pub attributes_held : Option Moment → Inode → Attributes
 attributes_held touch inode = effective_attributes touch inode.attributes
 
+-- the filled blocks of inodes
+abbrev pub blocks_filled : List (ℕ × Inode) → ℕ
+blocks_filled [] = 0
+blocks_filled (e ∷ es) = filled_blocks e.1.kind + blocks_filled es
+
 -- ---- what changes them
 
 -- a touch becomes the stored times
@@ -66,3 +71,10 @@ used_without used (Some inode) = used - filled_blocks inode.kind
 -- an inode gone; its fileid isn't given again
 abbrev pub inode_dropped : ℕ → InodesValue → InodesValue
 inode_dropped fileid v = record v { used = used_without v.used (get v.inodes fileid); inodes = remove v.inodes fileid }
+
+-- ---- what holds of them
+
+-- Fileids are below the next one, and the used count is that of all filled blocks.
+pub record IsInodes (v : InodesValue) : Type 0 where
+  pub fileids : (fileid : ℕ) (inode : Inode) → get v.inodes fileid ≡ Some inode → fileid < v.next
+  pub filled : v.used ≡ blocks_filled (entries v.inodes)

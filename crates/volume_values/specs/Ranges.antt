@@ -1,10 +1,10 @@
 -- A range of a volume's block numbers: which of them are free in its bitmap (our profile).
-use Rattle.std.specs.Prelude.{◌≡◌, IsTrue, ℕ, ◌*◌, Bool, true, false, List, take, min, if◌then◌else◌}
+use Rattle.std.specs.Prelude.{◌≡◌, IsTrue, ℕ, ◌*◌, ◌/◌, ◌<◌, Bool, true, false, List, take, min, if◌then◌else◌}
 use Rattle.std.specs.List.{AllByRecursion, range_with_len}
 use Rattle.std.specs.Ordering.{nat_cmp}
 use Rattle.std.specs.FinSet as sets
 use Rattle.std.specs.FinSet.{FinSet, contains, union, difference, from_list}
-use Rattle.nfs_model.specs.Parts.{range_blocks, most_carried, IsBatch}
+use Rattle.nfs_model.specs.Parts.{range_blocks, most_carried, most_ranges, IsBatch}
 use Rattle.nfs_model.specs.Moves.{in_range}
 
 -- a range of 1,024 block numbers
@@ -33,9 +33,17 @@ lowest n r = take (min n most_carried) (free_numbers r)
 
 -- ---- what changes it
 
+-- block numbers added to a set
+abbrev pub with_numbers : List ℕ → FinSet nat_cmp → FinSet nat_cmp
+with_numbers blocks set = union set (from_list blocks)
+
+-- block numbers taken from a set
+abbrev pub without_numbers : List ℕ → FinSet nat_cmp → FinSet nat_cmp
+without_numbers blocks set = difference set (from_list blocks)
+
 -- numbers taken
 abbrev pub taken : List ℕ → RangeValue → RangeValue
-taken blocks r = record r { free = difference r.free (from_list blocks) }
+taken blocks r = record r { free = without_numbers blocks r.free }
 
 -- a batch may be given: it is of the range, which is in use, and none of it is free. What is given
 -- back was taken from there, so that a range that isn't in use is given nothing
@@ -46,8 +54,19 @@ pub record MayBeGiven (blocks : List ℕ) (r : RangeValue) : Type 0 where
 
 -- numbers given
 abbrev pub given : List ℕ → RangeValue → RangeValue
-given blocks r = record r { free = union r.free (from_list blocks) }
+given blocks r = record r { free = with_numbers blocks r.free }
 
 -- a range that isn't in use comes into use, all its numbers free
 abbrev pub put_in_use : RangeValue → RangeValue
 put_in_use r = if r.is_used then r else record r { is_used = true; free = from_list (range_numbers r.number) }
+
+-- ---- what holds of it
+
+-- Its free numbers are its own, and none is free where it isn't in use.
+pub record IsRange (r : RangeValue) : Type 0 where
+  pub own : (b : ℕ) → contains r.free b ≡ true → b / range_blocks ≡ r.number
+  pub used : r.is_used ≡ false → r.free ≡ sets.empty
+
+-- A set of block numbers has none past the 16 ranges that a volume has at most.
+pub record IsOfVolume (set : FinSet nat_cmp) : Type 0 where
+  pub below : (b : ℕ) → contains set b ≡ true → b < most_ranges * range_blocks

@@ -1,13 +1,18 @@
 -- A stripe of a volume: a card of every inode, and the blocks of the spans that lie in it (our profile).
-use Rattle.std.specs.Prelude.{ℕ, ◌+◌, ◌/◌, ◌%◌, List, map, Option, Some, None, slice_index_or}
+use Rattle.std.specs.Prelude.{◌≡◌, ℕ, ◌+◌, ◌-◌, ◌*◌, ◌/◌, ◌%◌, Bool, true, false, ◌==◌, ◌&&◌, not, nat_lt}
+use Rattle.std.specs.Prelude.{nat_le, List, map, length, replicate, Option, Some, None, is_some, slice_index_or}
+use Rattle.std.specs.Prelude.{if◌then◌else◌}
 use Rattle.std.specs.Ordering.{nat_cmp, ordering_then}
 use Rattle.std.specs.declared.cmp.Ordering.{Ordering}
-use Rattle.std.specs.FinMap.{FinMap, get, insert, remove}
-use Rattle.std.specs.List.{range_with_len}
+use Rattle.std.specs.FinMap.{FinMap, get, insert, remove, retain_keys, entries}
+use Rattle.std.specs.FinMap as maps
+use Rattle.std.specs.List.{range_with_len, filter, list_all}
 use Rattle.nfs_model.specs.Types.{Moment}
 use Rattle.nfs_model.specs.Server.{block_size}
 use Rattle.nfs_model.specs.Home.{span_bytes}
 use Rattle.nfs_model.specs.Shown.{touched}
+use Rattle.nfs_model.specs.Serial.Write.{blocks_met}
+use Rattle.volume_values.specs.Maps.{map_values, changed_at}
 
 -- ---- its parts
 
@@ -59,12 +64,30 @@ byte_at s fileid at = byte_of (get s.blocks (fileid, at / block_size)) (at % blo
 abbrev pub bytes_read : StripeValue → ℕ → ℕ → ℕ → List ℕ
 bytes_read s fileid offset n = map (byte_at s fileid) (range_with_len offset n)
 
--- ---- what changes it
+-- ---- what is asked
 
--- a file's size on its card, where it has one
-abbrev pub card_sized : ℕ → Card → Card
-card_sized size (OfFile old touch) = OfFile size touch
-card_sized size OfFolder = OfFolder
+-- whether a card is of a file that reaches to an end
+abbrev pub reaches : ℕ → Option Card → Bool
+reaches end None = false
+reaches end (Some OfFolder) = false
+reaches end (Some (OfFile size touch)) = nat_le end size
+
+-- whether a block of a file is there
+abbrev pub is_filled : StripeValue → ℕ → ℕ → Bool
+is_filled s fileid block = is_some (get s.blocks (fileid, block))
+
+-- whether a write of n bytes at an offset neither extends the file nor fills a hole
+abbrev pub stays_within : ℕ → ℕ → ℕ → StripeValue → Bool
+stays_within fileid offset n s =
+    reaches (offset + n) (get s.cards fileid) && list_all (is_filled s fileid) (blocks_met offset n)
+
+-- the touch on a card
+abbrev pub touch_of : Option Card → Option Moment
+touch_of (Some (OfFile size touch)) = touch
+touch_of (Some OfFolder) = None
+touch_of None = None
+
+-- ---- what changes its cards
 
 -- a file's card with a write at a moment
 abbrev pub card_touched : Moment → Card → Card
@@ -76,11 +99,9 @@ abbrev pub card_settled : Card → Card
 card_settled (OfFile size touch) = OfFile size None
 card_settled OfFolder = OfFolder
 
--- the touch on a card
-abbrev pub touch_of : Option Card → Option Moment
-touch_of (Some (OfFile size touch)) = touch
-touch_of (Some OfFolder) = None
-touch_of None = None
+-- a touch taken, where there is one
+abbrev pub touch_taken : ℕ → StripeValue → StripeValue
+touch_taken fileid s = record s { cards = changed_at card_settled fileid s.cards }
 
 -- a file's card with a size, where there is one or not: the touch stays
 abbrev pub file_card_set : ℕ → ℕ → StripeValue → StripeValue
@@ -94,6 +115,63 @@ folder_card_set fileid s = record s { cards = insert s.cards fileid OfFolder }
 abbrev pub card_dropped : ℕ → StripeValue → StripeValue
 card_dropped fileid s = record s { cards = remove s.cards fileid }
 
--- a block put, in the place of the one that was there, if any
-abbrev pub block_put : ℕ → ℕ → Block → StripeValue → StripeValue
-block_put fileid block b s = record s { blocks = insert s.blocks (fileid, block) b }
+-- ---- what changes its blocks
+
+-- a block of zeros
+abbrev pub zero_block : ℕ → Block
+zero_block number = record { number = number; bytes = replicate block_size 0 }
+
+-- a block of zeros put at a place
+abbrev pub block_inserted : ℕ → ℕ → ℕ → StripeValue → StripeValue
+block_inserted fileid block number s = record s { blocks = insert s.blocks (fileid, block) (zero_block number) }
+
+-- a byte of a file, after others are written at an offset
+abbrev pub byte_written : ℕ → List ℕ → ℕ → ℕ → ℕ
+byte_written offset written at old = if nat_le offset at then slice_index_or written (at - offset) old else old
+
+-- a file's block with a byte at each place of the file, by what was there
+abbrev pub block_mapped : (ℕ → ℕ → ℕ) → ℕ → Block → Block
+block_mapped change block b = record b {
+  bytes = map (λ i. change (block_size * block + i) (slice_index_or b.bytes i 0)) (range_with_len 0 block_size);
+}
+
+-- all blocks of a file with such bytes
+abbrev pub file_mapped : (ℕ → ℕ → ℕ) → ℕ → Place → Block → Block
+file_mapped change fileid place b = if place.0 == fileid then block_mapped change place.1 b else b
+
+-- bytes written at an offset, at a moment, into blocks that are there
+abbrev pub overwritten : ℕ → ℕ → List ℕ → Moment → StripeValue → StripeValue
+overwritten fileid offset written moment s = record s {
+  cards = changed_at (card_touched moment) fileid s.cards;
+  blocks = map_values (file_mapped (byte_written offset written) fileid) s.blocks;
+}
+
+-- a byte of a file that is cut to a size
+abbrev pub byte_cut : ℕ → ℕ → ℕ → ℕ
+byte_cut size at old = if nat_lt at size then old else 0
+
+-- whether a place is of a file, and the block lies wholly past a size
+abbrev pub is_past : ℕ → ℕ → Place → Bool
+is_past fileid size place = (place.0 == fileid) && nat_le size (block_size * place.1)
+
+-- a file's blocks cut to a size: those past it gone, and zeros in the rest of the last
+abbrev pub cut : ℕ → ℕ → StripeValue → StripeValue
+cut fileid size s = record s {
+  blocks = map_values (file_mapped (byte_cut size) fileid) (retain_keys s.blocks (λ p. not (is_past fileid size p)));
+}
+
+-- the numbers of the blocks that a cut frees
+abbrev pub numbers_freed : ℕ → ℕ → StripeValue → List ℕ
+numbers_freed fileid size s =
+    map (λ (e : Place × Block). e.1.number) (filter (λ (e : Place × Block). is_past fileid size e.0) (entries s.blocks))
+
+-- ---- what holds of it
+
+-- A block has 4,096 bytes.
+pub record IsStripe (s : StripeValue) : Type 0 where
+  pub long : (place : Place) (b : Block) → get s.blocks place ≡ Some b → length b.bytes ≡ block_size
+
+-- a stripe as it is made
+abbrev pub empty_stripe : List ℕ → ℕ → ℕ → StripeValue
+empty_stripe verifier stripes largest =
+    record { verifier = verifier; stripes = stripes; largest = largest; cards = maps.empty; blocks = maps.empty }

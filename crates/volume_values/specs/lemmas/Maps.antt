@@ -1,0 +1,26 @@
+-- Look-ups in a map whose values were changed.
+use Rattle.std.proofs.Common.{◌≡◌, ℕ, Bool, true, false, cond, List, [], ◌∷◌, map, Option, Some, None, refl, sym, ap, ◌∙◌, Ordering}
+use Rattle.std.specs.declared.cmp.Ordering.TheVariants.{Less, Equal, Greater}
+use Rattle.std.specs.Ordering.{is_eq}
+use Rattle.std.specs.Option.{option_map}
+use Rattle.std.specs.Cmp.{IsTotalOrder}
+use Rattle.std.specs.FinMap.{FinMap, from_entries, entries, get, find, get-from_entries, get-entries, IsAntisymmetric}
+use Rattle.volume_values.specs.Maps.{map_values}
+
+module _ {K X Y : Type 0} {R : K → K → Ordering} where
+  find-map : IsAntisymmetric R → (g : K → X → Y) (q : K) (es : List (K × X))
+      → find R q (map (λ (e : K × X). (e.0, g e.0 e.1)) es) ≡ option_map (g q) (find R q es)
+  find-map same g q [] = refl
+  find-map same g q (e ∷ es) = by (R q e.0) refl (find-map same g q es)
+    where
+      by : (r : Ordering) → R q e.0 ≡ r → find R q (map (λ (x : K × X). (x.0, g x.0 x.1)) es) ≡ option_map (g q) (find R q es)
+          → cond (is_eq r) (Some (g e.0 e.1)) (find R q (map (λ (x : K × X). (x.0, g x.0 x.1)) es)) ≡ option_map (g q) (cond (is_eq r) (Some e.1) (find R q es))
+      by Less h rest = rest
+      by Equal h rest = ap (λ k. Some (g k e.1)) (sym (same q e.0 h))
+      by Greater h rest = rest
+
+  -- what is found under a key is what was, changed
+  pub get-map_values : IsTotalOrder R → IsAntisymmetric R → (g : K → X → Y) (m : FinMap R X) (q : K)
+      → get (map_values g m) q ≡ option_map (g q) (get m q)
+  unfolding map_values
+  get-map_values o same g m q = get-from_entries o _ q ∙ find-map same g q (entries m) ∙ ap (option_map (g q)) (sym (get-entries m q))
