@@ -9,7 +9,7 @@ use Rattle.nfs_model.specs.Tree.{Layout}
 use Rattle.nfs_model.specs.Parts as blocks
 use Rattle.nfs_model.specs.World as worlds
 use Rattle.nfs_model.specs.World.{changed_at, is_crowded, all_running, Setup, World}
-use Rattle.nfs_model.specs.Events.Feed.{heard_in, MayStarveIf}
+use Rattle.nfs_model.specs.Events.Feed.{feeding, heard_in, MayStarveIf}
 use Rattle.nfs_laws.specs.Walk.{Walks, AtFault, is_complete}
 use Rattle.engine.specs.declared.connection.OpenConnection.{OpenConnection}
 use Rattle.engine.specs.declared.connection.ClosedConnection.{ClosedConnection}
@@ -137,7 +137,7 @@ crowded s h = ap (nat_le 1024) (crowd-is s) ∙ most_at (pending s) h
 and_false : (b d : Bool) → b ≡ false → (b && d) ≡ false
 and_false b d e = rw e refl
 
-pub feeds-nothing : (setup : Setup) (c : ℕ) (w : World) (bytes : List ℕ) → 0 < length bytes → is_crowded w ≡ false → Walks setup c w bytes 0 90 w
+pub feeds-nothing : (setup : Setup) (c : ℕ) (w : World) (bytes : List ℕ) → 0 < length bytes → is_crowded w ≡ false → Walks setup (feeding c bytes 0 90) w w
 feeds-nothing setup c w [] some room = absurd (omega arith)
 feeds-nothing setup c w (b ∷ bytes) some room = inl (refl, refl, inr (refl, and_false (is_crowded w) _ room))
 
@@ -166,11 +166,11 @@ pub part-fault : (s : State) (o : OpenConnection) (w : World) (c : ℕ) (bytes :
     → (is_crowded w && is_complete (AtFault (fault_number fault))) ≡ false
     → taken ≤ length bytes → Completes o.stream.items (take taken bytes)
     (record { served = (scan_stream o.stream.items).served; fault = Some (fault_number fault) })
-    → Walks (setup_in s) c w bytes taken (fault_number fault) (bytes_taken w c (take taken bytes))
+    → Walks (setup_in s) (feeding c bytes taken (fault_number fault)) w (bytes_taken w c (take taken bytes))
 part-fault s o w c bytes taken fault f room h k =
     let made = feeds-fault (layout_of s.layout) s.verifier w c (take taken bytes) (drop taken bytes) (open_of o) (fault_number fault) f.there f.sound room k in
-    subst (λ (n : ℕ). Walks (setup_in s) c w bytes n (fault_number fault) (bytes_taken w c (take taken bytes))) (length_taken taken bytes h)
-    (subst (λ (bs : List ℕ). Walks (setup_in s) c w bs (length (take taken bytes)) (fault_number fault) (bytes_taken w c (take taken bytes)))
+    subst (λ (n : ℕ). Walks (setup_in s) (feeding c bytes n (fault_number fault)) w (bytes_taken w c (take taken bytes))) (length_taken taken bytes h)
+    (subst (λ (bs : List ℕ). Walks (setup_in s) (feeding c bs (length (take taken bytes)) (fault_number fault)) w (bytes_taken w c (take taken bytes)))
     (taken-part bytes taken) made)
 
 pub no-bytes : (w : World) (c taken : ℕ) (bytes : List ℕ) → taken ≡ 0 → bytes_taken w c (take taken bytes) ≡ w
@@ -199,20 +199,20 @@ more-admitted s o w new c bytes taken p e a =
 pub fault-admitted : (s : State) (o : OpenConnection) (w new : World) (c : ℕ) (bytes : List ℕ) (taken : ℕ) (fault : StreamFault) → IsPart s c o w
     → new ≡ bytes_taken w c (take taken bytes) → taken ≤ length bytes
     → Completes o.stream.items (take taken bytes) (record { served = (scan_stream o.stream.items).served; fault = Some (fault_number fault) })
-    → Walks (setup_in s) c (world s) bytes taken (fault_number fault) new
+    → Walks (setup_in s) (feeding c bytes taken (fault_number fault)) (world s) new
 fault-admitted s o w new c bytes taken fault p e h k =
-    subst (λ (v : World). Walks (setup_in s) c v bytes taken (fault_number fault) new) p.same
-    (subst (Walks (setup_in s) c w bytes taken (fault_number fault)) (sym e)
+    subst (λ (v : World). Walks (setup_in s) (feeding c bytes taken (fault_number fault)) v new) p.same
+    (subst (Walks (setup_in s) (feeding c bytes taken (fault_number fault)) w) (sym e)
     (part-fault s o w c bytes taken fault p.fed (and_false (is_crowded w) (is_complete (AtFault (fault_number fault))) p.room) h k))
 
 pub nothing-admitted : (s : State) (o : OpenConnection) (w new : World) (c : ℕ) (bytes : List ℕ) (taken : ℕ) → IsPart s c o w → 0 < length bytes
     → new ≡ bytes_taken w c (take taken bytes) → taken ≡ 0
-    → Walks (setup_in s) c (world s) bytes taken 90 new
+    → Walks (setup_in s) (feeding c bytes taken 90) (world s) new
 nothing-admitted s o w new c bytes taken p some e z =
     let none : w ≡ new = sym (e ∙ no-bytes w c taken bytes z) in
-    subst (λ (v : World). Walks (setup_in s) c v bytes taken 90 new) p.same
-    (subst (λ (n : ℕ). Walks (setup_in s) c w bytes n 90 new) (sym z)
-    (subst (Walks (setup_in s) c w bytes 0 90) none (feeds-nothing (setup_in s) c w bytes some p.room)))
+    subst (λ (v : World). Walks (setup_in s) (feeding c bytes taken 90) v new) p.same
+    (subst (λ (n : ℕ). Walks (setup_in s) (feeding c bytes n 90) w new) (sym z)
+    (subst (Walks (setup_in s) (feeding c bytes 0 90) w) none (feeds-nothing (setup_in s) c w bytes some p.room)))
 
 pub heard-admitted : (s : State) (o : OpenConnection) (w before new : World) (c d : ℕ) (setup : Setup) (bytes : List ℕ) (taken number : ℕ)
     (told : worlds.Heard) (starved : Bool) → MayStarveIf starved told.asked → IsPart s c o w → before ≡ bytes_taken w c (take taken bytes)

@@ -20,7 +20,7 @@ use Rattle.engine.specs.Seen.{open_of, setup_in}
 use Rattle.affinity_tree.specs.Layout.{layout_of}
 use Rattle.engine.specs.Sound.{HasNoRecord}
 use Rattle.engine.specs.Streams.{scan_stream, served_of, Completes}
-use Rattle.nfs_model.specs.Events.Feed.{with_bytes, bytes_taken}
+use Rattle.nfs_model.specs.Events.Feed.{feeding, with_bytes, bytes_taken}
 use Rattle.engine.proofs.Scanning.{IsAt, joined, scan-goes, scan-faults}
 use Rattle.engine.proofs.Taking.{scanned_with, scan-made}
 use Rattle.engine.proofs.Arriving.{is-at}
@@ -90,7 +90,7 @@ both b d e f = rw (e, f) refl
 full_at : (s : states.State) (o : OpenConnection) (w : World) (c : ℕ) (bytes : List ℕ) (free : ℕ) (made : List ℕ) → IsFed w c o → is_crowded w ≡ true
     → free < length bytes
     → Completes o.stream.items (take (suc free) bytes) (scanned_with o.stream.items made)
-    → Walks (setup_in s) c w bytes free 31 (bytes_taken w c (take free bytes))
+    → Walks (setup_in s) (feeding c bytes free 31) w (bytes_taken w c (take free bytes))
 full_at s o w c bytes free made f crowd h k =
     let setup = setup_in s in
     let stream = o.stream.items in
@@ -108,18 +108,18 @@ full_at s o w c bytes free made f crowd h k =
     ∙ completes_at (scan_stream stream).served (heard made) (not-too-long made) in
     let stops : Stops middle (reached setup middle c k.last) 0 31 middle =
     (refl, refl, inl (refl, both (is_crowded middle) (is_complete (reached setup middle c k.last)) crowd ends)) in
-    let fed : Walks setup c w (k.front ++ (k.last ∷ drop (suc free) bytes)) (length k.front + 0) 31 middle =
+    let fed : Walks setup (feeding c (k.front ++ (k.last ∷ drop (suc free) bytes)) (length k.front + 0) 31) w middle =
     Walks-after setup c w middle middle k.front (k.last ∷ drop (suc free) bytes) 0 31
     (takes-quiet (layout_of s.layout) s.verifier w c k.front (open_of o) f.there f.sound k.quiet) (inl stops) in
     let size : length k.front + 0 ≡ free = omega (arith, ap length front, length-take-le free bytes (omega arith)) in
     let new : middle ≡ bytes_taken w c (take free bytes) = ap (bytes_taken w c) front in
-    subst (Walks setup c w bytes free 31) new
-    (subst (λ (n : ℕ). Walks setup c w bytes n 31 middle) size
-    (subst (λ (bs : List ℕ). Walks setup c w bs (length k.front + 0) 31 middle) (rest-is bytes k.front k.last free k.split) fed))
+    subst (Walks setup (feeding c bytes free 31) w) new
+    (subst (λ (n : ℕ). Walks setup (feeding c bytes n 31) w middle) size
+    (subst (λ (bs : List ℕ). Walks setup (feeding c bs (length k.front + 0) 31) w middle) (rest-is bytes k.front k.last free k.split) fed))
 
 pub full-stop : (s : states.State) (o : OpenConnection) (w : World) (c : ℕ) (bytes : List ℕ) (free : ℕ) (at : Option State) → IsFed w c o
     → at ≡ o.reassembler → is_crowded w ≡ true → free < length bytes
-    → (made : List ℕ) × (outcome at bytes ≡ Made (free + 1) made) → Walks (setup_in s) c w bytes free 31 (bytes_taken w c (take free bytes))
+    → (made : List ℕ) × (outcome at bytes ≡ Made (free + 1) made) → Walks (setup_in s) (feeding c bytes free 31) w (bytes_taken w c (take free bytes))
 full-stop s o w c bytes free at f a crowd h next =
     let i = is-at o.stream.items f.sound in
     let stands : at ≡ Some i.0 = a ∙ sym f.stands ∙ i.1.at in
@@ -147,7 +147,7 @@ first_at s o w c b bytes state Faults f i a n =
 
 pub full-nothing : (s : states.State) (o : OpenConnection) (w : World) (c : ℕ) (bytes : List ℕ) (free : ℕ) (at : Option State) → IsFed w c o
     → at ≡ o.reassembler → 0 < length bytes → (free ≡ 0 → ⊥)
-    → HasNoRecord (outcome at (take free bytes)) → Walks (setup_in s) c w bytes 0 90 w
+    → HasNoRecord (outcome at (take free bytes)) → Walks (setup_in s) (feeding c bytes 0 90) w w
 full-nothing s o w c [] free at f a h z n = absurd (omega arith)
 full-nothing s o w c (b ∷ bytes) zero at f a h z n = absurd (z refl)
 full-nothing s o w c (b ∷ bytes) (suc free) at f a h z n =
@@ -162,12 +162,12 @@ pub full-fault : (s : states.State) (o : OpenConnection) (w new : World) (c : �
     → fault ≡ RecordTooLong → free ≤ length bytes → taken ≤ free
     → new ≡ bytes_taken w c (take taken (take free bytes))
     → Completes o.stream.items (take taken (take free bytes)) (record { served = (scan_stream o.stream.items).served; fault = Some (fault_number fault) })
-    → Walks (setup_in s) c w bytes taken (fault_number fault) new
+    → Walks (setup_in s) (feeding c bytes taken (fault_number fault)) w new
 full-fault s o w new c bytes free taken fault f e h t n k =
     let same : take taken (take free bytes) ≡ take taken bytes = take-within taken free bytes t in
     let room : (is_crowded w && is_complete (AtFault (fault_number fault))) ≡ false = false_after (is_crowded w) _
     (ap (λ (x : StreamFault). is_complete (AtFault (fault_number x))) e) in
-    subst (Walks (setup_in s) c w bytes taken (fault_number fault)) (sym (n ∙ ap (bytes_taken w c) same))
+    subst (Walks (setup_in s) (feeding c bytes taken (fault_number fault)) w) (sym (n ∙ ap (bytes_taken w c) same))
     (part-fault s o w c bytes taken fault f room (omega arith)
     (subst (λ (xs : List ℕ). Completes o.stream.items xs
     (record { served = (scan_stream o.stream.items).served; fault = Some (fault_number fault) })) same k))

@@ -6,6 +6,7 @@ use Rattle.std.proofs.Math.Seq.{take-add}
 use Rattle.std.proofs.lemmas.Bool.Decides.{nat_tests}
 use Rattle.std.proofs.lemmas.List.{append-nil, take_all, take-append-drop, length-take-le, length-drop}
 use Rattle.nfs_model.specs.World.{Setup, World, Connection}
+use Rattle.nfs_model.specs.Events.Feed.{feeding}
 use Rattle.nfs_laws.specs.Walk.{Walks}
 use Rattle.nfs_model.specs.Events.Refusals as events
 use Rattle.nfs_model.specs.Events.Refusals.{takes_input}
@@ -31,41 +32,41 @@ goes-on setup other c d w m new bytes taken count e f p q =
     (TakesAll-append other d w m new (take taken bytes) (take count (drop taken bytes)) p r)
 
 pub stops : (setup other : Setup) (c d : ℕ) (w m new : World) (bytes : List ℕ) (taken count stop : ℕ) → setup ≡ other → c ≡ d → taken ≤ length bytes
-    → TakesAll other d w (take taken bytes) m → Walks setup c m (drop taken bytes) count stop new
-    → Walks other d w bytes (taken + count) stop new
+    → TakesAll other d w (take taken bytes) m → Walks setup (feeding c (drop taken bytes) count stop) m new
+    → Walks other (feeding d bytes (taken + count) stop) w new
 stops setup other c d w m new bytes taken count stop e f h p q =
-    let r : Walks other d m (drop taken bytes) count stop new = subst (λ (n : ℕ). Walks other n m (drop taken bytes) count stop new) f
-    (subst (λ (x : Setup). Walks x c m (drop taken bytes) count stop new) e q) in
+    let r : Walks other (feeding d (drop taken bytes) count stop) m new = subst (λ (n : ℕ). Walks other (feeding n (drop taken bytes) count stop) m new) f
+    (subst (λ (x : Setup). Walks x (feeding c (drop taken bytes) count stop) m new) e q) in
     let fed = Walks-after other d w m new (take taken bytes) (drop taken bytes) count stop p r in
     let size : length (take taken bytes) ≡ taken = length-take-le taken bytes h in
-    subst (λ (n : ℕ). Walks other d w bytes (n + count) stop new) size
-    (subst (λ (bs : List ℕ). Walks other d w bs (length (take taken bytes) + count) stop new) (take-append-drop taken bytes) fed)
+    subst (λ (n : ℕ). Walks other (feeding d bytes (n + count) stop) w new) size
+    (subst (λ (bs : List ℕ). Walks other (feeding d bs (length (take taken bytes) + count) stop) w new) (take-append-drop taken bytes) fed)
 
 pub all-taken : (setup : Setup) (c : ℕ) (w new : World) (bytes : List ℕ) (taken : ℕ) → taken ≡ length bytes → TakesAll setup c w (take taken bytes) new
-    → Walks setup c w bytes taken 0 new
+    → Walks setup (feeding c bytes taken 0) w new
 all-taken setup c w new bytes taken e p =
     let whole : take taken bytes ≡ bytes = take_all taken bytes (omega (arith, e)) in
-    let fed : Walks setup c w (bytes ++ []) (length bytes + 0) 0 new = Walks-after setup c w new new bytes [] 0 0
+    let fed : Walks setup (feeding c (bytes ++ []) (length bytes + 0) 0) w new = Walks-after setup c w new new bytes [] 0 0
     (subst (λ (bs : List ℕ). TakesAll setup c w bs new) whole p) (refl, refl, refl) in
     let size : length bytes + 0 ≡ taken = omega (arith, e) in
-    subst (λ (n : ℕ). Walks setup c w bytes n 0 new) size (subst (λ (bs : List ℕ). Walks setup c w bs (length bytes + 0) 0 new) (append-nil bytes) fed)
+    subst (λ (n : ℕ). Walks setup (feeding c bytes n 0) w new) size (subst (λ (bs : List ℕ). Walks setup (feeding c bs (length bytes + 0) 0) w new) (append-nil bytes) fed)
 
 -- ---- before the first byte
 
-pub feeds-none : (setup : Setup) (c : ℕ) (w : World) (bytes : List ℕ) → length bytes ≡ 0 → Walks setup c w bytes 0 0 w
+pub feeds-none : (setup : Setup) (c : ℕ) (w : World) (bytes : List ℕ) → length bytes ≡ 0 → Walks setup (feeding c bytes 0 0) w w
 feeds-none setup c w [] e = (refl, refl, refl)
 feeds-none setup c w (b ∷ bytes) e = absurd (omega arith)
 
 pub stopped-full : (s : states.State) (bytes : List ℕ) → IsSound s → AtNoFault s.current → 0 < length bytes
-    → (pending s ≡ 1024) × IsFree (stands_at s.current) bytes 0 → Walks (setup_in s) (vec_len s.past) (world s) bytes 0 31 (world s)
+    → (pending s ≡ 1024) × IsFree (stands_at s.current) bytes 0 → Walks (setup_in s) (feeding (vec_len s.past) bytes 0 31) (world s) (world s)
 stopped-full s bytes h a some p =
     let f = fed-open s h a in
     let w = world s in
-    subst (Walks (setup_in s) (vec_len s.past) w bytes 0 31) (bytes_taken-none w (vec_len s.past))
+    subst (Walks (setup_in s) (feeding (vec_len s.past) bytes 0 31) w) (bytes_taken-none w (vec_len s.past))
     (full-stop s f.0 w (vec_len s.past) bytes 0 (stands_at s.current) f.2 (ap stands_at f.1) (crowded s (λ k. omega (arith, k, p.0))) some (p.1.next some))
 
 pub stopped-by-memory : (s : states.State) (bytes : List ℕ) → IsSound s → AtNoFault s.current → 0 < length bytes → MayGoOn s bytes
-    → Walks (setup_in s) (vec_len s.past) (world s) bytes 0 90 (world s)
+    → Walks (setup_in s) (feeding (vec_len s.past) bytes 0 90) (world s) (world s)
 stopped-by-memory s bytes h a some (inl room) = feeds-nothing (setup_in s) (vec_len s.past) (world s) bytes some (not-crowded s room)
 stopped-by-memory s bytes h a some (inr r) =
     let f = fed-open s h a in

@@ -19,7 +19,7 @@ use Rattle.nfs_model.specs.World as worlds
 use Rattle.engine.specs.declared.state.State.{State}
 use Rattle.engine.specs.declared.connection.Arrival.{Arrival}
 use Rattle.affinity_tree.specs.Layout.{layout_of}
-use Rattle.engine.specs.Seen.{tried, open_of, last_of, closed_of, world}
+use Rattle.engine.specs.Seen.{or_serial, open_of, last_of, closed_of, world}
 use Rattle.engine.specs.Sound.{IsPlaced, IsInStep, IsRoomy, IsWrittenTo, IsAnswered, MayBeWrittenTo, MayBeAnswered, HasRoomForOneMore, HasRoomToAdmit}
 use Rattle.engine.specs.Sound.{IsSound, MayTakeFrom, Releases, Waits, count_open, opened, pending, less_owed, more_owed, owed_to, owed_waiting, owed_running}
 
@@ -31,8 +31,8 @@ placed-at layout n (x ∷ xs) zero m all e = let same : x ≡ m = cc in subst (I
 placed-at layout n (x ∷ xs) (suc i) m all e = placed-at layout n xs i m all.1 e
 
 pub placed-home : (layout : Layout) (n : ℕ) (ms : List Message) (i : ℕ) (m : Message) → AllByRecursion (IsPlaced layout n) ms → slice_get ms i ≡ Some m
-    → affinity_of m.affinity ≡ tried (home layout (call_of m.call))
-placed-home layout n ms i m all e = sym (ap tried (placed-at layout n ms i m all e).at_home)
+    → affinity_of m.affinity ≡ or_serial (home layout (call_of m.call))
+placed-home layout n ms i m all e = sym (ap or_serial (placed-at layout n ms i m all e).at_home)
 
 -- and of those that are left without it
 pub placed-remove : (layout : Layout) (n : ℕ) (ms : List Message) (i : ℕ) → AllByRecursion (IsPlaced layout n) ms
@@ -50,7 +50,7 @@ placed-more layout n (x ∷ xs) m all p = (all.0, placed-more layout n xs m all.
 
 -- where more connections were opened
 pub placed-later : (layout : Layout) (n k : ℕ) (m : Message) → n ≤ k → IsPlaced layout n m → IsPlaced layout k m
-placed-later layout n k m h p = record { served = p.served; at_home = p.at_home; room = p.room; known = omega (arith, h, p.known) }
+placed-later layout n k m h p = record { reading = p.reading; at_home = p.at_home; room = p.room; known = omega (arith, h, p.known) }
 
 pub all-placed-later : (layout : Layout) (n k : ℕ) (ms : List Message) → n ≤ k → AllByRecursion (IsPlaced layout n) ms → AllByRecursion (IsPlaced layout k) ms
 all-placed-later layout n k [] h all = all
@@ -107,7 +107,7 @@ pub nothing-owed-running : (layout : Layout) (n : ℕ) (running : Option Running
 nothing-owed-running layout n None h = refl
 nothing-owed-running layout n (Some r) h = owed-to-other n r.message (λ e. let k = h.known in omega (arith, e, k))
 
--- what waits of the calls that are served is GETATTR, whose reply takes 116 bytes
+-- what waits of the calls that are offered is GETATTR, whose reply takes 116 bytes
 pub room-waiting : (layout : Layout) (volumes : ℕ) (call : types.Call) (a : Affinity) → IsReading call → home layout call ≡ Some a
     → reply_room volumes call ≡ 116
 room-waiting layout volumes types.Null a reading e = absurd cc
@@ -115,7 +115,7 @@ room-waiting layout volumes (types.Getattr handle) a reading e = refl
 room-waiting layout volumes call a reading e = absurd reading
 
 pub placed-room : (layout : Layout) (n : ℕ) (m : Message) → IsPlaced layout n m → m.room ≡ 116
-placed-room layout n m p = p.room ∙ room-waiting layout (length layout.volumes) (call_of m.call) (affinity_of m.affinity) p.served p.at_home
+placed-room layout n m p = p.room ∙ room-waiting layout (length layout.volumes) (call_of m.call) (affinity_of m.affinity) p.reading p.at_home
 
 -- ---- connections
 
@@ -221,9 +221,9 @@ room-kept total room most n (Some c) e h r =
 pub waits-sound : (old new : State) (m : Message) → Waits m old new → IsSound old → HasRoomToAdmit old → pending old < 1024 → count_open old.current ≡ 1
     → m.origin.connection.0 ≡ vec_len old.past → IsReading (call_of m.call) → m.room ≡ reply_room (length (layout_of old.layout).volumes) (call_of m.call)
     → home (layout_of old.layout) (call_of m.call) ≡ Some (affinity_of m.affinity) → IsSound new
-waits-sound old new m w sound room few connected own served size at_home =
+waits-sound old new m w sound room few connected own reading size at_home =
     let small : m.room ≡ 116 = size ∙ room-waiting (layout_of old.layout) (length (layout_of old.layout).volumes) (call_of m.call)
-    (affinity_of m.affinity) served at_home in
+    (affinity_of m.affinity) reading at_home in
     let last : State = record old { waiting = new.waiting; current = option_map (more_owed m.room) old.current } in
     let opened_same = same-open m.room old.current in
     let count = w.len in
@@ -233,7 +233,7 @@ waits-sound old new m w sound room few connected own served size at_home =
     let to = owed-to-own (vec_len old.past) m own in
     omega (arith, more, to) in
     let placed : IsPlaced (layout_of old.layout)
-    (opened last) m = record { served = served; at_home = at_home; room = size; known = omega (arith, own, opened_same, connected) } in
+    (opened last) m = record { reading = reading; at_home = at_home; room = size; known = omega (arith, own, opened_same, connected) } in
     let few_places = sound.places in
     let entries = room.finished in
     subst IsSound (sym w.same) (record {

@@ -20,7 +20,7 @@ use Rattle.nfs_laws.specs.lemmas.Evaluate.{get_entries, entries_sorted_list}
 use Rattle.nfs_model.specs.Tree.{Layout, VolumeLayout}
 use Rattle.engine.specs.declared.parcel.NodeAttributes.{NodeAttributes}
 use Rattle.engine.specs.Seen.{root_of, volume_seen, volumes_from, server_of}
-use Rattle.engine.specs.Served.{IsAnswer}
+use Rattle.engine.specs.Offered.{IsAnswer}
 
 -- ---- the only node
 

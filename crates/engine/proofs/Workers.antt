@@ -16,7 +16,7 @@ use Rattle.nfs_model.specs.Events.Refusals as events
 use Rattle.nfs_model.specs.Events.Refusals.{begin_refusal, is_idle}
 use Rattle.nfs_model.specs.Moves.{Stored}
 use Rattle.nfs_model.specs.Work.{Store, Works, PartsAfter, move_of_call}
-use Rattle.nfs_model.specs.Events.Step.{stamped, without_call}
+use Rattle.nfs_model.specs.Events.Step.{stamp_added, without_call}
 use Rattle.nfs_model.specs.Replay as replays
 use Rattle.nfs_model.specs.Headline.{opening_parts}
 use Rattle.nfs_values.specs.declared.call.Call.{Call}
@@ -30,12 +30,12 @@ use Rattle.engine.specs.declared.message.Running.{Running}
 use Rattle.engine.specs.declared.state.State.{State}
 use Rattle.engine.specs.declared.parcel.NodeAttributes.{NodeAttributes}
 use Rattle.engine.specs.declared.parcel.VolumeLogical.{VolumeLogical}
-use Rattle.engine.specs.Seen.{message_of, running_of, held_by, kept_by, tried, volume_seen, server_of, setup_in, world}
+use Rattle.engine.specs.Seen.{message_of, running_of, held_by, kept_by, or_serial, volume_seen, server_of, setup_in, world}
 use Rattle.affinity_tree.specs.Layout.{layout_of}
 use Rattle.nfs_model.specs.Home.{home, logical_home}
 use Rattle.nfs_model.specs.Server.{Named, handle_of}
 use Rattle.engine.proofs.Serving.{volume_at}
-use Rattle.engine.specs.Served.{IsAnswer}
+use Rattle.engine.specs.Offered.{IsAnswer}
 use Rattle.engine.specs.Sound.{IsLent}
 
 -- ---- the only worker
@@ -122,7 +122,7 @@ store_at layout verifier root = record { server = server_of layout verifier root
 
 parts_of_getattr : (layout : trees.Layout) (verifier : List ℕ) (root : NodeAttributes) (handle : List ℕ) (credential : types.Credential) (o : Option Named)
     → handle_of (length layout.volumes) handle ≡ o
-    → PartsAfter (types.Ask (types.Getattr handle) credential) (tried (logical_home o)) (store_at layout verifier root) (store_at layout verifier root)
+    → PartsAfter (types.Ask (types.Getattr handle) credential) (or_serial (logical_home o)) (store_at layout verifier root) (store_at layout verifier root)
 parts_of_getattr layout verifier root handle credential None e = refl
 parts_of_getattr layout verifier root handle credential (Some h) e =
     let there = volume_at layout verifier root handle h e in
@@ -140,7 +140,7 @@ parts_of_getattr layout verifier root handle credential (Some h) e =
     }
 
 parts_stay : (layout : trees.Layout) (verifier : List ℕ) (root : NodeAttributes) (call : Call) (credential : types.Credential) → IsReading (call_of call)
-    → PartsAfter (types.Ask (call_of call) credential) (tried (home layout (call_of call))) (store_at layout verifier root) (store_at layout verifier root)
+    → PartsAfter (types.Ask (call_of call) credential) (or_serial (home layout (call_of call))) (store_at layout verifier root) (store_at layout verifier root)
 parts_stay layout verifier root calls.Null credential h = refl
 parts_stay layout verifier root (calls.GetAttributes handle) credential h =
     parts_of_getattr layout verifier root handle credential (handle_of (length layout.volumes) handle) refl
@@ -158,7 +158,7 @@ works s r answer e lent reading h =
     let answered : serve (server_of layout s.verifier root) (call_of r.message.call) credential moment ≡ stay (server_of layout s.verifier root) answer =
     subst (λ (k : NodeAttributes). serve (server_of layout s.verifier k) (call_of r.message.call) credential moment ≡ stay
     (server_of layout s.verifier k) answer) (sym same) (h s.verifier credential moment) in (
-      stays_there (worlds.store_of (world s)) (tried (home layout (call_of r.message.call))) r.message.call reading,
+      stays_there (worlds.store_of (world s)) (or_serial (home layout (call_of r.message.call))) r.message.call reading,
       ap (λ (t : Step). t.reply) (sym answered),
       ap (λ (t : Step). t.server) (sym answered),
       parts_stay layout s.verifier root r.message.call credential reading,
@@ -173,10 +173,10 @@ may-finish s worker r answer e f g = rw (e, f, g) refl
 -- the world without the worker's message
 pub without-call : (s : State) (worker : ℕ) (r : Running) (running : Option Running) → worker ≡ 0 → s.running ≡ Some r → IsLent s.home s.running
     → running ≡ None
-    → changes (stamped (world s)) (world s).waiting (worker_of (layout_of s.layout) running ∷ []) (server_of (layout_of s.layout) s.verifier r.held.root)
-    ≡ stamped (without_call (world s) worker)
+    → changes (stamp_added (world s)) (world s).waiting (worker_of (layout_of s.layout) running ∷ []) (server_of (layout_of s.layout) s.verifier r.held.root)
+    ≡ stamp_added (without_call (world s) worker)
 without-call s worker r running e some lent none =
-    changes-same (stamped (world s)) (world s).waiting (world s).waiting _ _ _ _ refl
+    changes-same (stamp_added (world s)) (world s).waiting (world s).waiting _ _ _ _ refl
     (ap (λ (o : Option Running). worker_of (layout_of s.layout) o ∷ []) none ∙ only-changed (layout_of s.layout) s.running None worker e)
     (ap (server_of (layout_of s.layout) s.verifier) (sym (kept-lent s.home s.running r lent some)))
 

@@ -5,7 +5,7 @@ use Rattle.std.specs.Prelude.{slice_get, ◌&&◌}
 use Rattle.std.proofs.lemmas.List.{append-nil}
 use Rattle.nfs_model.specs.Tree.{Layout}
 use Rattle.nfs_model.specs.World.{Heard, Scanned, Setup, World, Connection, is_crowded}
-use Rattle.nfs_model.specs.Events.Feed.{stream_in, stream_of, served_count, heard_in, MayStarveIf}
+use Rattle.nfs_model.specs.Events.Feed.{feeding, stream_in, stream_of, served_count, heard_in, MayStarveIf}
 use Rattle.nfs_laws.specs.Walk.{Reached, Further, Complete, AtFault, reached_by, reached, is_complete, byte_taken, Takes, TakesFault, Walks}
 use Rattle.engine.specs.Streams.{scan_stream, setup_of, IsQuiet, Completes}
 use Rattle.engine.specs.Feeding.{TakesAll}
@@ -20,9 +20,9 @@ TakesAll-append setup c w middle new [] ys p q = subst (λ (v : World). TakesAll
 TakesAll-append setup c w middle new (x ∷ xs) ys p q = (p.0, p.1, TakesAll-append setup c p.0 middle new xs ys p.2 q)
 
 pub Walks-after : (setup : Setup) (c : ℕ) (w middle new : World) (xs ys : List ℕ) (taken stop : ℕ) → TakesAll setup c w xs middle
-    → Walks setup c middle ys taken stop new → Walks setup c w (xs ++ ys) (length xs + taken) stop new
+    → Walks setup (feeding c ys taken stop) middle new → Walks setup (feeding c (xs ++ ys) (length xs + taken) stop) w new
 Walks-after setup c w middle new [] ys taken stop p q =
-    subst (λ (n : ℕ). Walks setup c w ys n stop new) (omega arith) (subst (λ (v : World). Walks setup c v ys taken stop new) p q)
+    subst (λ (n : ℕ). Walks setup (feeding c ys n stop) w new) (omega arith) (subst (λ (v : World). Walks setup (feeding c ys taken stop) v new) p q)
 Walks-after setup c w middle new (x ∷ xs) ys taken stop p q =
     inr (inr (p.0, length xs + taken, omega arith, p.1, Walks-after setup c p.0 middle new xs ys taken stop p.2 q))
 
@@ -135,7 +135,7 @@ pub feeds-fault : (layout : Layout) (verifier : List ℕ) (w : World) (c : ℕ) 
     → slice_get w.connections c ≡ Some x → (scan_stream x.stream).fault ≡ None
     → (is_crowded w && is_complete (AtFault number)) ≡ false
     → Completes x.stream taken (record { served = (scan_stream x.stream).served; fault = Some number })
-    → Walks (setup_of layout verifier) c w (taken ++ rest) (length taken) number (bytes_taken w c taken)
+    → Walks (setup_of layout verifier) (feeding c (taken ++ rest) (length taken) number) w (bytes_taken w c taken)
 feeds-fault layout verifier w c taken rest x number e f room k =
     let setup = setup_of layout verifier in
     let middle : World = bytes_taken w c k.front in
@@ -147,10 +147,10 @@ feeds-fault layout verifier w c taken rest x number e f room k =
     let last : TakesFault middle c k.last (reached setup middle c k.last) 1 number (bytes_taken w c taken) =
     subst (λ (r : Reached). TakesFault middle c k.last r 1 number (bytes_taken w c taken)) (sym at)
     (room, refl, refl, sym (front_and_last w c taken k.front k.last k.split)) in
-    let fed : Walks setup c w (k.front ++ (k.last ∷ rest)) (length k.front + 1) number (bytes_taken w c taken) =
+    let fed : Walks setup (feeding c (k.front ++ (k.last ∷ rest)) (length k.front + 1) number) w (bytes_taken w c taken) =
     Walks-after setup c w middle (bytes_taken w c taken) k.front (k.last ∷ rest) 1 number (takes-quiet layout verifier w c k.front x e f k.quiet)
     (inr (inl last)) in
     let bytes : k.front ++ (k.last ∷ rest) ≡ taken ++ rest = sym (append_assoc k.front (k.last ∷ []) rest) ∙ ap (λ (s : List ℕ). s ++ rest) (sym k.split) in
     let count : length k.front + 1 ≡ length taken = omega (arith, ap length k.split, length-append k.front (k.last ∷ [])) in
-    subst (λ (n : ℕ). Walks setup c w (taken ++ rest) n number (bytes_taken w c taken)) count
-    (subst (λ (bs : List ℕ). Walks setup c w bs (length k.front + 1) number (bytes_taken w c taken)) bytes fed)
+    subst (λ (n : ℕ). Walks setup (feeding c (taken ++ rest) n number) w (bytes_taken w c taken)) count
+    (subst (λ (bs : List ℕ). Walks setup (feeding c bs (length k.front + 1) number) w (bytes_taken w c taken)) bytes fed)

@@ -1,6 +1,7 @@
 -- Bytes taken one after another, with more to come.
 use Rattle.std.specs.Prelude.{◌≡◌, ℕ, List, [], ◌∷◌, take, Option, Some, None}
 use Rattle.nfs_model.specs.World.{Setup, World}
+use Rattle.nfs_model.specs.Events.Feed.{feeding}
 use Rattle.nfs_laws.specs.Walk.{reached, Takes, Walks}
 use Rattle.engine.specs.declared.event.Stop.{Stop}
 use Rattle.engine.specs.Numbers.{stop_number}
@@ -13,4 +14,4 @@ TakesAll setup c w (b ∷ bytes) new = (middle : World) × Takes setup w c b (re
 -- what part of a feed comes to: bytes are taken and more may follow, or taking stopped
 abbrev pub FeedsPart : Setup → ℕ → World → List ℕ → ℕ → Option Stop → World → Type 0
 FeedsPart setup c w bytes taken None new = TakesAll setup c w (take taken bytes) new
-FeedsPart setup c w bytes taken (Some stop) new = Walks setup c w bytes taken (stop_number stop) new
+FeedsPart setup c w bytes taken (Some stop) new = Walks setup (feeding c bytes taken (stop_number stop)) w new

@@ -4,7 +4,7 @@ pub mod Feeding
 pub mod Numbers
 pub mod Seen
 pub mod Records
-pub mod Served
+pub mod Offered
 pub mod Short
 pub mod Sound
 pub mod Engine

@@ -56,12 +56,12 @@ abbrev pub heard_of : Heard → worlds.Heard
 heard_of h = record { xid = h.xid; asked = asked_of h.request }
 
 -- the affinity that a call tries that waits; one that has none doesn't wait
-abbrev pub tried : Option trees.Affinity → trees.Affinity
-tried None = trees.Serial
-tried (Some a) = a
+abbrev pub or_serial : Option trees.Affinity → trees.Affinity
+or_serial None = trees.Serial
+or_serial (Some a) = a
 
 abbrev pub message_of : trees.Layout → Message → worlds.Message
-message_of layout m = record { connection = m.origin.connection.0; number = m.origin.number; xid = m.origin.xid; asked = types.Ask (call_of m.call) (credential_of m.credential); affinity = tried (home layout (call_of m.call)) }
+message_of layout m = record { connection = m.origin.connection.0; number = m.origin.number; xid = m.origin.xid; asked = types.Ask (call_of m.call) (credential_of m.credential); affinity = or_serial (home layout (call_of m.call)) }
 
 abbrev pub outcome_of : Answer → tasks.Outcome
 outcome_of answer = tasks.Replied (types.Success (answers.answer_of answer))

@@ -97,7 +97,7 @@ opened s = vec_len s.past + count_open s.current
 
 -- A message tries the home of its call, keeps the room of its reply, and is of one of the connections that were opened.
 pub record IsPlaced (layout : Layout) (connections : ℕ) (m : Message) : Type 0 where
-  pub served : IsReading (call_of m.call)
+  pub reading : IsReading (call_of m.call)
   pub at_home : home layout (call_of m.call) ≡ Some (affinity_of m.affinity)
   pub room : m.room ≡ reply_room (length layout.volumes) (call_of m.call)
   pub known : m.origin.connection.0 < connections

@@ -6,7 +6,7 @@ use Rattle.nfs_model.specs.World.{changed_at, with_output}
 use Rattle.nfs_model.specs.Parts as blocks
 use Rattle.nfs_model.specs.Headline.{Headline, opening_world}
 use Rattle.nfs_model.specs.Events.Refusals as events
-use Rattle.nfs_model.specs.Events.Feed.{bytes_taken, heard_in}
+use Rattle.nfs_model.specs.Events.Feed.{feeding, bytes_taken, heard_in}
 use Rattle.nfs_model.specs.Events.Step.{Events, Runs, bytes_if_open}
 use Rattle.nfs_laws.specs.Walk.{Walks}
 use Rattle.nfs_values.specs.declared.moment.Moment.{Moment}
@@ -76,7 +76,7 @@ MayTakeMore bytes taken stop new = stop ≡ None → (0 < taken) × TakesIn new.
 
 -- so many of the bytes were taken, byte by byte, and this stopped it
 abbrev pub FeedsAll : State → List ℕ → ℕ → Stop → State → Type 0
-FeedsAll old bytes taken stop new = Walks (setup_in old) (vec_len old.past) (world old) bytes taken (stop_number stop) (world new)
+FeedsAll old bytes taken stop new = Walks (setup_in old) (feeding (vec_len old.past) bytes taken (stop_number stop)) (world old) (world new)
 
 -- ---- what is finished
 

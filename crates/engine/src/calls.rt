@@ -11,7 +11,7 @@ ghost use Rattle.engine.specs.Words.{Does, HasItsSetup};
 use crate::event::{Done, Refusal};
 use crate::finishing::{keep_entry, release, respond};
 use crate::message::{Request, Running};
-use crate::served::ServedAnswer;
+use crate::asked::OfferedAnswer;
 use crate::state::{SECOND, STAMPS, State};
 use crate::work;
 use nfs_values::{Moment, Reply};
@@ -67,7 +67,7 @@ pub(crate) fn work(state: &mut State, worker: usize) -> Result<Done, Refusal>
     match &mut state.running {
         Some(running) if running.answer.is_none() => {
             let answer = work::answer(&running.held, &state.layout, running.message.call.as_call());
-            running.answer = Some(ServedAnswer::new(answer));
+            running.answer = Some(OfferedAnswer::new(answer));
             Ok(Done::Replied)
         }
         _ => Err(Refusal::NoWork),

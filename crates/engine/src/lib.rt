@@ -2,6 +2,7 @@
 #![tactic(auto)]
 
 mod arrival;
+mod asked;
 mod calls;
 mod connecting;
 mod connection;
@@ -14,11 +15,10 @@ mod message;
 mod parcel;
 mod reading;
 mod reply;
-mod served;
 mod state;
 mod work;
 
+pub use asked::{OfferedAnswer, OfferedCall, Refused};
 pub use engine::Engine;
 pub use event::{Done, Event, Refusal, Stop, StreamFault};
 pub use message::{FinishedCall, Heard, Message, Origin, Request, Running};
-pub use served::{Refused, ServedAnswer, ServedCall};

@@ -1,7 +1,7 @@
 //! Calls on their way: waiting, running and finished.
 
 use crate::parcel::VolumeLogical;
-use crate::served::{Refused, ServedAnswer, ServedCall};
+use crate::asked::{Refused, OfferedAnswer, OfferedCall};
 use affinity_tree::Affinity;
 use nfs_values::{ConnectionNumber, Credential, Moment};
 
@@ -19,7 +19,7 @@ pub struct Origin {
 pub enum Request {
     /// A call, and whom it acts for.
     Call {
-        call: ServedCall,
+        call: OfferedCall,
         credential: Credential,
     },
     /// A call message that is refused.
@@ -37,7 +37,7 @@ pub struct Heard {
 #[derive(Drop)]
 pub struct Message {
     pub origin: Origin,
-    pub call: ServedCall,
+    pub call: OfferedCall,
     pub credential: Credential,
     /// What it tries: the affinity that its call is at home in.
     pub affinity: Affinity,
@@ -52,7 +52,7 @@ pub struct Running {
     pub moment: Moment,
     pub(crate) held: VolumeLogical,
     /// What it is answered, once the message is worked.
-    pub answer: Option<ServedAnswer>,
+    pub answer: Option<OfferedAnswer>,
 }
 
 /// A finished call.

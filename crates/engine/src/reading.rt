@@ -6,7 +6,7 @@ ghost use Rattle.engine.specs.Records.{IsReadAs, fault_of};
 
 use crate::event::StreamFault;
 use crate::message::{Heard, Request};
-use crate::served::{Refused, ServedCall};
+use crate::asked::{Refused, OfferedCall};
 use std::alloc::Global;
 
 /// What was read of a record.
@@ -38,7 +38,7 @@ pub(crate) fn read_record(alloc: Global, bytes: &[u8]) -> RecordRead
             rpc_msg::Request::Call { call, credential } => RecordRead::Heard(Heard {
                 xid,
                 request: Request::Call {
-                    call: ServedCall::new(call),
+                    call: OfferedCall::new(call),
                     credential,
                 },
             }),

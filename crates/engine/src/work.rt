@@ -11,17 +11,17 @@ ghost use Rattle.nfs_values.specs.Answer.{answer_of, attributes_shown, result_of
 ghost use Rattle.nfs_values.specs.Call.{call_of};
 ghost use Rattle.affinity_tree.specs.Layout.{layout_of};
 ghost use Rattle.engine.specs.Seen.{root_of, volume_seen};
-ghost use Rattle.engine.specs.Served.{IsAnswer};
+ghost use Rattle.engine.specs.Offered.{IsAnswer};
 ghost use Rattle.engine.specs.Short.{IsShortAnswer};
 
 use crate::parcel::VolumeLogical;
-use crate::served::ServedCall;
+use crate::asked::OfferedCall;
 use affinity::named_by;
 use affinity_tree::Layout;
 use nfs_values::{Answer, Attributes, Call, FileKind, Fileid, Named, Status, VolumeNumber};
 
 /// What a call without an affinity is answered.
-pub(crate) fn answer_at_once(call: &ServedCall) -> Answer
+pub(crate) fn answer_at_once(call: &OfferedCall) -> Answer
     ensures answer { (layout : trees.Layout)
         → answer_of result ≡ answer_without_home layout (call_of call.now) }
     ensures short { IsShortAnswer (answer_of result) }

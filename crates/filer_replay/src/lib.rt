@@ -6,11 +6,7 @@ mod commands;
 mod fault;
 mod playing;
 mod printing;
-#[cfg(test)]
-mod rows;
 mod script;
-#[cfg(test)]
-mod tests;
 mod words;
 
 pub use choice::Command;

@@ -191,8 +191,8 @@ impl<'a> Script<'a> {
     ) -> Result<Layout, ProgramFault>
         ensures layout { IfOk result
             (λ layout. layout_of layout ≡ layout_in aggregates.now volumes.now) }
-        ensures bad { IfErr result
-            (λ fault. (fault ≡ ProgramFault.NoMemory) ⊎ (fault ≡ ProgramFault.BadLine self.now.count)) }
+        ensures bad { IfErr result (λ fault. (fault ≡ ProgramFault.NoMemory)
+            ⊎ (fault ≡ ProgramFault.BadLine self.now.count)) }
     {
         match Layout::new(self.alloc, aggregates, volumes) {
             Ok(layout) => Ok(layout),

@@ -10,7 +10,7 @@ use Rattle.nfs_model.specs.World.{Setup, World, Running, Worker, all_running, af
 use Rattle.nfs_model.specs.Parts.{Hand, Empty, Fresh, Dead, Parts, hand_blocks}
 use Rattle.nfs_model.specs.Moves.{Carrying, batch, lowest_batch, fresh_hand, dead_hand, without_free, without_dead, with_stock, with_free, put_down, Fetches}
 use Rattle.nfs_model.specs.Moves.{Culls, PutsDown}
-use Rattle.nfs_model.specs.Events.Step.{stamped, Carries, carried, hand_volume}
+use Rattle.nfs_model.specs.Events.Step.{stamp_added, Carries, carried, hand_volume}
 use Rattle.nfs_model.specs.Headline.{Kept, messages, tally_finished, tally_messages, server_worked, IsOwnMessage, IsOutcome, IsTried, Apart}
 use Rattle.nfs_model.specs.Parts.{IsPartition, one_if, times_listed, places}
 use Rattle.nfs_laws.proofs.Lists.{Some_same, slice_get-changed_at, slice_get-changed_elsewhere}
@@ -53,7 +53,7 @@ hand_among u n workers i k e = omega (arith, hands_replaced u n Empty workers i 
 
 -- a hand and the parts of a volume change, under one stamp
 abbrev in_hand : World → ℕ → ℕ → Hand → (Parts → Parts) → World
-in_hand w worker volume hand change = record (stamped w) { workers = changed_at (with_hand hand) w.workers worker; parts = changed_at change w.parts volume }
+in_hand w worker volume hand change = record (stamp_added w) { workers = changed_at (with_hand hand) w.workers worker; parts = changed_at change w.parts volume }
 
 set_changed : {X : Type 0} (f : X → X) (xs : List X) (i : ℕ) (x : X) → slice_get xs i ≡ Some x → slice_set xs i (f x) ≡ changed_at f xs i
 set_changed f [] i x e = refl
@@ -63,7 +63,7 @@ set_changed f (y ∷ xs) (suc i) x e = ap (λ (zs : List _). y ∷ zs) (set_chan
 carried_is : (w : World) (i v : ℕ) (hand : Hand) (change : Parts → Parts) (p : Parts) → slice_get w.parts v ≡ Some p
     → carried w i v (record { parts = change p; hand = hand }) ≡ in_hand w i v hand change
 carried_is w i v hand change p e =
-    ap (λ (ps : List Parts). record (stamped w) { workers = changed_at (with_hand hand) w.workers i; parts = ps }) (set_changed change w.parts v p e)
+    ap (λ (ps : List Parts). record (stamp_added w) { workers = changed_at (with_hand hand) w.workers i; parts = ps }) (set_changed change w.parts v p e)
 
 -- what it has to keep: the files, and in how many places a number stands, with the worker's hand
 record IsBalanced (w : World) (i v : ℕ) (k : Worker) (hand : Hand) (change : Parts → Parts) : Type 0 where
@@ -263,7 +263,7 @@ keeps_put_down setup w i count before after new carries puts is h =
     (put_kept setup w i carries.0 before.hand carries.1 carries.2 h)
 
 -- a survey changes nothing but the count of stamps
-pub keeps_survey : (setup : Setup) (w : World) → Kept setup w → Kept setup (stamped w)
+pub keeps_survey : (setup : Setup) (w : World) → Kept setup w → Kept setup (stamp_added w)
 keeps_survey setup w h = record {
   headline = record {
     output = h.headline.output;

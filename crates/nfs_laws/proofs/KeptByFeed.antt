@@ -12,7 +12,7 @@ use Rattle.nfs_model.specs.Home.{home_of_asked}
 use Rattle.nfs_model.specs.Replay.{FinishedCall, step_of, server_after, IsLawful}
 use Rattle.nfs_model.specs.World.{Heard, Setup, World, Connection, Message, IsScan, all_running, with_output, changed_at, finish}
 use Rattle.nfs_model.specs.Events.Refusals.{takes_input}
-use Rattle.nfs_model.specs.Events.Feed.{stream_in, stream_of, served_count, call_at_once, call_undecoded, admit, heard_in, MayStarveIf}
+use Rattle.nfs_model.specs.Events.Feed.{feeding, stream_in, stream_of, served_count, call_at_once, call_undecoded, admit, heard_in, MayStarveIf}
 use Rattle.nfs_laws.specs.Walk.{Reached, Further, Complete, AtFault, reached_at, reached_by, reached, with_byte, byte_taken, Takes, TakesFault, Walks}
 use Rattle.nfs_model.specs.Headline.{Kept, start, served, messages, tally_finished, server_worked, IsHeard, IsOwnCall, IsOwnMessage, IsOutcome, IsTried}
 use Rattle.nfs_model.specs.Headline.{HasRunAsItSays}
@@ -330,7 +330,7 @@ fault_kept setup w c b (AtFault number) taken stop new scan f is takes =
     subst (λ (v : World). Kept setup v) (sym takes.3) (byte_kept setup w c b f.taking (brings setup w c b f.taking (AtFault number) scan is).1 f.kept)
 
 feeds_kept : (setup : Setup) (c : ℕ) (bytes : List ℕ) (w : World) (taken stop : ℕ) (new : World) → IsScan setup.codec → IsFeeding setup w c
-    → Walks setup c w bytes taken stop new → Kept setup new
+    → Walks setup (feeding c bytes taken stop) w new → Kept setup new
 feeds_kept setup c [] w taken stop new scan f feeds = subst (λ (v : World). Kept setup v) (sym feeds.2) f.kept
 feeds_kept setup c (b ∷ bytes) w taken stop new scan f (inl stops) = subst (λ (v : World). Kept setup v) (sym stops.1) f.kept
 feeds_kept setup c (b ∷ bytes) w taken stop new scan f (inr (inl fault)) = fault_kept setup w c b (reached setup w c b) taken stop new scan f refl fault
@@ -339,6 +339,6 @@ feeds_kept setup c (b ∷ bytes) w taken stop new scan f (inr (inr more)) =
 
 -- the bytes of a feed
 pub keeps_walk : (setup : Setup) (w : World) (c : ℕ) (bytes : List ℕ) (taken stop : ℕ) (new : World)
-    → IsScan setup.codec → takes_input setup (slice_get w.connections c) ≡ true → Walks setup c w bytes taken stop new → Kept setup w → Kept setup new
+    → IsScan setup.codec → takes_input setup (slice_get w.connections c) ≡ true → Walks setup (feeding c bytes taken stop) w new → Kept setup w → Kept setup new
 keeps_walk setup w c bytes taken stop new scan takes feeds h =
     feeds_kept setup c bytes w taken stop new scan (record { kept = h; taking = taking setup w c takes }) feeds

@@ -11,7 +11,7 @@ use Rattle.nfs_model.specs.World.{with_running, with_output, changed_at, finish}
 use Rattle.nfs_model.specs.Parts.{Parts}
 use Rattle.nfs_model.specs.Work.{Store, Outcome, Replied, Starved, Moved}
 use Rattle.nfs_model.specs.Events.Refusals.{is_busy}
-use Rattle.nfs_model.specs.Events.Step.{worked, finished_call, without_call, stamped, finished_by}
+use Rattle.nfs_model.specs.Events.Step.{worked, finished_call, without_call, stamp_added, finished_by}
 use Rattle.nfs_model.specs.Headline.{Kept, start, served, messages, tally_finished, tally_messages, server_worked, worked_by, IsOwnCall, IsOwnMessage}
 use Rattle.nfs_model.specs.Headline.{HasRunAsItSays}
 use Rattle.nfs_model.specs.Headline.{IsOutcome, IsTried, Apart}
@@ -125,12 +125,12 @@ keeps_work setup w i k r o store agreed there runs h =
 keeps_finished : (setup : Setup) (w : World) (i : ℕ) (k : Worker) (r : Running) (starved : Bool) (reply : Reply) (s : Slot w.workers i k)
     → IsScan setup.codec → all_running w.workers ≡ s.before ++ r ∷ s.after → Kept setup w
     → reply ≡ (step_of (done setup w) (finished_call r starved)).reply → IsLawful (done setup w) (finished_call r starved) starved
-    → IsAgreed setup (finish setup (stamped (without_call w i)) (finished_call r starved) reply)
-    → Kept setup (finish setup (stamped (without_call w i)) (finished_call r starved) reply)
+    → IsAgreed setup (finish setup (stamp_added (without_call w i)) (finished_call r starved) reply)
+    → Kept setup (finish setup (stamp_added (without_call w i)) (finished_call r starved) reply)
 keeps_finished setup w i k r starved reply s scan was h right lawful agreed =
     let e : FinishedCall = finished_call r starved in
     let write : Connection → Connection = with_output (setup.codec.reply_record e.xid reply) in
-    let new : World = finish setup (stamped (without_call w i)) e reply in
+    let new : World = finish setup (stamp_added (without_call w i)) e reply in
     let now : all_running (changed_at (with_running None) w.workers i) ≡ s.before ++ s.after = s.becomes None in
     let keeps : (x : Connection) → served setup (write x) ≡ served setup x = λ x. ap (λ (bytes : List ℕ). (setup.codec.scan bytes).served)
     (written_stream (setup.codec.reply_record e.xid reply) x.closed x) in

@@ -18,7 +18,7 @@ use Rattle.nfs_model.specs.Parts.{Parts, IsPartition}
 use Rattle.nfs_model.specs.Work.{Store, Outcome, Replied, Starved, Moved, Works, PartsAt, PartsAfter, changed_volume, move_of_call, move_of_asked}
 use Rattle.nfs_model.specs.World.{Heard, Setup, World, Running, Worker, all_running, with_held, with_running, changed_at, finish, store_of, task_of}
 use Rattle.nfs_model.specs.Events.Refusals.{Event, Open, Feed, Close, Begin, Work, Finish, Fetch, Cull, PutDown, Survey, Done}
-use Rattle.nfs_model.specs.Events.Step.{worked, finished_call, stamped, without_call, finished_by, Happens}
+use Rattle.nfs_model.specs.Events.Step.{worked, finished_call, stamp_added, without_call, finished_by, Happens}
 use Rattle.nfs_model.specs.Headline.{Kept, start, served, messages, worked_by, server_worked, IsHeard, IsOwn, IsOwnCall, IsOwnMessage, IsOutcome}
 use Rattle.nfs_model.specs.Agreed.{done, IsAgreed}
 use Rattle.nfs_model.specs.ReadOnly.{IsReading, AsksReading, IsReadOnly}
@@ -210,7 +210,7 @@ module _ (setup : Setup) (only : IsReadOnly setup) (w : World) (h : Kept setup w
       (k.1 ∙ ap (λ (t : Server). (serial t r.message.asked r.moment false).reply) (server_is setup only w h ∙ sym (done_is setup only w h)))
 
   -- a call that is finished
-  agreed_without : (starved : Bool) (reply : Reply) → IsAgreed setup (finish setup (stamped (without_call w i)) (finished_call r starved) reply)
+  agreed_without : (starved : Bool) (reply : Reply) → IsAgreed setup (finish setup (stamp_added (without_call w i)) (finished_call r starved) reply)
   agreed_without starved reply =
       let now : all_running (changed_at (with_running None) w.workers i) ≡ s.before ++ s.after = s.becomes None in
       let same : server_after (start setup) (w.finished ++ finished_call r starved ∷ []) ≡ done setup w =

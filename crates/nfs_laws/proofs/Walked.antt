@@ -11,8 +11,8 @@ use Rattle.nfs_model.specs.Home.{home_of_asked}
 use Rattle.nfs_model.specs.Replay.{FinishedCall}
 use Rattle.nfs_model.specs.World.{Heard, Setup, World, Connection, IsScan, changed_at, written_to, with_output, finish, is_crowded}
 use Rattle.nfs_model.specs.Events.Refusals.{takes_input}
-use Rattle.nfs_model.specs.Events.Feed.{stream_in, stream_of, with_bytes, bytes_taken, call_at_once, call_undecoded, admit, heard_in, Hears, completes_at}
-use Rattle.nfs_model.specs.Events.Feed.{completes_next, is_full_at, StopsSound, StopsAt, Feeds}
+use Rattle.nfs_model.specs.Events.Feed.{feeding, stream_in, stream_of, with_bytes, bytes_taken, call_at_once, call_undecoded, admit, heard_in, Hears, completes_at}
+use Rattle.nfs_model.specs.Events.Feed.{completes_next, is_full_at, StopsSound, StopsAt, halt, Feeds, feeding}
 use Rattle.nfs_laws.specs.Walk.{Reached, Further, Complete, AtFault, reached_at, reached, is_complete, with_byte, byte_taken, Takes, TakesFault, Stops, Walks}
 use Rattle.nfs_laws.proofs.Lists.{slice_get-changed_at}
 use Rattle.nfs_laws.proofs.Written.{written_stream}
@@ -117,15 +117,15 @@ record From (setup : Setup) (c : ℕ) (w : World) (came bytes : List ℕ) (taken
   heard : List Heard
   complete : (setup.codec.scan (came ++ take taken bytes)).served ≡ (setup.codec.scan came).served ++ heard
   hears : Hears setup c (bytes_taken w c (take taken bytes)) (length (setup.codec.scan came).served) heard new
-  stops : StopsAt setup new (came ++ take taken bytes) (drop taken bytes) stop (setup.codec.scan (came ++ take taken bytes)).fault
+  stops : StopsAt setup new (halt (came ++ take taken bytes) (drop taken bytes) stop) (setup.codec.scan (came ++ take taken bytes)).fault
 
-of_feed : (setup : Setup) (c : ℕ) (w : World) (bytes : List ℕ) (taken stop : ℕ) (new : World) → Feeds setup c w bytes taken stop new
+of_feed : (setup : Setup) (c : ℕ) (w : World) (bytes : List ℕ) (taken stop : ℕ) (new : World) → Feeds setup (feeding c bytes taken stop) w new
     → From setup c w (stream_of w c) bytes taken stop new
 of_feed setup c w bytes taken stop new f =
     record { within = f.within; sound = f.sound; heard = f.heard; complete = f.complete; hears = f.hears; stops = f.stops }
 
 to_feed : (setup : Setup) (c : ℕ) (w : World) (bytes : List ℕ) (taken stop : ℕ) (new : World) → From setup c w (stream_of w c) bytes taken stop new
-    → Feeds setup c w bytes taken stop new
+    → Feeds setup (feeding c bytes taken stop) w new
 to_feed setup c w bytes taken stop new f =
     record { within = f.within; sound = f.sound; heard = f.heard; complete = f.complete; hears = f.hears; stops = f.stops }
 
@@ -143,27 +143,27 @@ next_is setup w c b bytes =
 -- ---- nothing is taken
 
 module _ (setup : Setup) (c : ℕ) (w : World) (came bytes : List ℕ) (stop : ℕ) (sound : (setup.codec.scan came).fault ≡ None) where
-  from_none : StopsSound setup w came bytes stop → From setup c w came bytes 0 stop w
+  from_none : StopsSound setup w (halt came bytes stop) → From setup c w came bytes 0 stop w
   from_none stops = record {
     within = omega arith;
     sound = λ n l. absurd (omega (arith, l));
     heard = [];
     complete = ap (λ (s : List ℕ). (setup.codec.scan s).served) (append-nil came) ∙ sym (append-nil (setup.codec.scan came).served);
     hears = sym (taken_none w c);
-    stops = subst (λ (s : List ℕ). StopsAt setup w s bytes stop (setup.codec.scan s).fault) (sym (append-nil came))
-        (subst (λ (o : Option ℕ). StopsAt setup w came bytes stop o) (sym sound) stops);
+    stops = subst (λ (s : List ℕ). StopsAt setup w (halt s bytes stop) (setup.codec.scan s).fault) (sym (append-nil came))
+        (subst (λ (o : Option ℕ). StopsAt setup w (halt came bytes stop) o) (sym sound) stops);
   }
 
-  none_from : (new : World) → From setup c w came bytes 0 stop new → (new ≡ w) × StopsSound setup w came bytes stop
+  none_from : (new : World) → From setup c w came bytes 0 stop new → (new ≡ w) × StopsSound setup w (halt came bytes stop)
   none_from new f =
       let none : f.heard ≡ [] =
       no_more (setup.codec.scan came).served f.heard (ap (λ (s : List ℕ). (setup.codec.scan s).served) (sym (append-nil came)) ∙ f.complete) in
       let same : new ≡ w = subst (λ (hs : List Heard). Hears setup c (bytes_taken w c []) (length (setup.codec.scan came).served) hs new) none f.hears
       ∙ taken_none w c in (
         same,
-        subst (λ (v : World). StopsSound setup v came bytes stop) same
-            (subst (λ (o : Option ℕ). StopsAt setup new came bytes stop o) sound
-            (subst (λ (s : List ℕ). StopsAt setup new s bytes stop (setup.codec.scan s).fault) (append-nil came) f.stops)),
+        subst (λ (v : World). StopsSound setup v (halt came bytes stop)) same
+            (subst (λ (o : Option ℕ). StopsAt setup new (halt came bytes stop) o) sound
+            (subst (λ (s : List ℕ). StopsAt setup new (halt s bytes stop) (setup.codec.scan s).fault) (append-nil came) f.stops)),
       )
 
 -- ---- a byte, and then others
@@ -188,7 +188,7 @@ module _ (setup : Setup) (c : ℕ) (w middle : World) (came : List ℕ) (b : ℕ
         ∙ ap (λ (hs : List Heard). hs ++ f.heard) one
         ∙ append_assoc (setup.codec.scan came).served first f.heard;
     hears = hears;
-    stops = subst (λ (s : List ℕ). StopsAt setup new s (drop rest bytes) stop (setup.codec.scan s).fault) (one_byte came b (take rest bytes)) f.stops;
+    stops = subst (λ (s : List ℕ). StopsAt setup new (halt s (drop rest bytes) stop) (setup.codec.scan s).fault) (one_byte came b (take rest bytes)) f.stops;
   }
 
   more_from : (more : List Heard) → (setup.codec.scan (came ++ b ∷ [])).served ≡ (setup.codec.scan came).served ++ first
@@ -203,24 +203,24 @@ module _ (setup : Setup) (c : ℕ) (w middle : World) (came : List ℕ) (b : ℕ
         ∙ ap (λ (hs : List Heard). (setup.codec.scan came).served ++ hs) is
         ∙ sym (append_assoc (setup.codec.scan came).served first more) ∙ ap (λ (hs : List Heard). hs ++ more) (sym one);
     hears = hears;
-    stops = subst (λ (s : List ℕ). StopsAt setup new s (drop rest bytes) stop (setup.codec.scan s).fault) (sym (one_byte came b (take rest bytes))) f.stops;
+    stops = subst (λ (s : List ℕ). StopsAt setup new (halt s (drop rest bytes) stop) (setup.codec.scan s).fault) (sym (one_byte came b (take rest bytes))) f.stops;
   }
 
 -- ---- from the walk
 
 module _ (setup : Setup) (scan : IsScan setup.codec) (c : ℕ) where
   stop_told : (w : World) (b : ℕ) (bytes : List ℕ) (taken stop : ℕ) (new : World) → IsTaking setup w c → Stops w (reached setup w c b) taken stop new
-      → Feeds setup c w (b ∷ bytes) taken stop new
+      → Feeds setup (feeding c (b ∷ bytes) taken stop) w new
   stop_told w b bytes taken stop new t s =
       let full : (is_crowded w && is_complete (reached setup w c b)) ≡ is_full_at setup w (stream_of w c) (b ∷ bytes) = ap (λ (d : Bool). is_crowded w && d)
       (next_is setup w c b bytes) in
       let sound : (setup.codec.scan (stream_of w c)).fault ≡ None = ap (λ (x : List ℕ). (setup.codec.scan x).fault) (stream_there setup w c t) ∙ t.sound in
-      let stops : StopsSound setup w (stream_of w c) (b ∷ bytes) stop = elim s.2 [
+      let stops : StopsSound setup w (halt (stream_of w c) (b ∷ bytes) stop) = elim s.2 [
         | inl p ↦ inr (inl (p.0, subst (λ (d : Bool). IsTrue d) full p.1))
         | inr p ↦ inr (inr (p.0, (λ e. absurd cc), sym full ∙ p.1))
       ] in
-      subst (λ (k : ℕ). Feeds setup c w (b ∷ bytes) k stop new) (sym s.0)
-      (subst (λ (v : World). Feeds setup c w (b ∷ bytes) 0 stop v) (sym s.1)
+      subst (λ (k : ℕ). Feeds setup (feeding c (b ∷ bytes) k stop) w new) (sym s.0)
+      (subst (λ (v : World). Feeds setup (feeding c (b ∷ bytes) 0 stop) w v) (sym s.1)
       (to_feed setup c w (b ∷ bytes) 0 stop w (from_none setup c w (stream_of w c) (b ∷ bytes) stop sound stops)))
 
   -- what a byte brings, in the words of the stream before it
@@ -235,14 +235,14 @@ module _ (setup : Setup) (scan : IsScan setup.codec) (c : ℕ) where
   sound_here w t = ap (λ (s : List ℕ). (setup.codec.scan s).fault) (stream_there setup w c t) ∙ t.sound
 
   fault_told : (w : World) (b : ℕ) (bytes : List ℕ) (r : Reached) (taken stop : ℕ) (new : World) → IsTaking setup w c → reached setup w c b ≡ r
-      → TakesFault w c b r taken stop new → Feeds setup c w (b ∷ bytes) taken stop new
+      → TakesFault w c b r taken stop new → Feeds setup (feeding c (b ∷ bytes) taken stop) w new
   fault_told w b bytes Further taken stop new t is f = absurd f
   fault_told w b bytes (Complete h) taken stop new t is f = absurd f
   fault_told w b bytes (AtFault number) taken stop new t is f =
       let came = stream_of w c in
       let byte = brings_here w b t (AtFault number) is in
-      subst (λ (k : ℕ). Feeds setup c w (b ∷ bytes) k stop new) (sym f.1)
-      (subst (λ (v : World). Feeds setup c w (b ∷ bytes) 1 stop v) (sym f.3)
+      subst (λ (k : ℕ). Feeds setup (feeding c (b ∷ bytes) k stop) w new) (sym f.1)
+      (subst (λ (v : World). Feeds setup (feeding c (b ∷ bytes) 1 stop) w v) (sym f.3)
       (to_feed setup c w (b ∷ bytes) 1 stop (byte_taken w c b) (record {
         within = omega arith;
         sound = below (λ n. (setup.codec.scan (came ++ take n (b ∷ bytes))).fault ≡ None) 0
@@ -250,7 +250,7 @@ module _ (setup : Setup) (scan : IsScan setup.codec) (c : ℕ) where
         heard = [];
         complete = byte.1 ∙ sym (append-nil (setup.codec.scan came).served);
         hears = refl;
-        stops = subst (λ (o : Option ℕ). StopsAt setup (byte_taken w c b) (came ++ b ∷ []) bytes stop o) (sym byte.0) (f.2, f.0);
+        stops = subst (λ (o : Option ℕ). StopsAt setup (byte_taken w c b) (halt (came ++ b ∷ []) bytes stop) o) (sym byte.0) (f.2, f.0);
       })))
 
   -- the connection goes on taking input
@@ -279,13 +279,13 @@ module _ (setup : Setup) (scan : IsScan setup.codec) (c : ℕ) where
 
   more_told : (w middle : World) (b : ℕ) (bytes : List ℕ) (r : Reached) (rest stop : ℕ) (new : World) → IsTaking setup w c → reached setup w c b ≡ r
       → Takes setup w c b r middle
-      → Feeds setup c middle bytes rest stop new → From setup c w (stream_of w c) (b ∷ bytes) (suc rest) stop new
+      → Feeds setup (feeding c bytes rest stop) middle new → From setup c w (stream_of w c) (b ∷ bytes) (suc rest) stop new
   more_told w middle b bytes Further rest stop new t is takes feeds =
       let came = stream_of w c in
       let byte = brings_here w b t Further is in
       let f : From setup c (byte_taken w c b) (came ++ b ∷ []) bytes rest stop new =
       subst (λ (s : List ℕ). From setup c (byte_taken w c b) s bytes rest stop new) (stream_byte setup w c b t)
-      (of_feed setup c (byte_taken w c b) bytes rest stop new (subst (λ (v : World). Feeds setup c v bytes rest stop new) takes feeds)) in
+      (of_feed setup c (byte_taken w c b) bytes rest stop new (subst (λ (v : World). Feeds setup (feeding c bytes rest stop) v new) takes feeds)) in
       from_more setup c w (byte_taken w c b) came b bytes rest stop new [] (sound_here w t) (byte.1 ∙ sym (append-nil (setup.codec.scan came).served)) f
       (subst (λ (k : ℕ). Hears setup c (bytes_taken w c (b ∷ take rest bytes)) k f.heard new) (ap (λ (hs : List Heard). length hs) byte.1)
       (subst (λ (v : World). Hears setup c v (length (setup.codec.scan (came ++ b ∷ [])).served) f.heard new)
@@ -298,7 +298,7 @@ module _ (setup : Setup) (scan : IsScan setup.codec) (c : ℕ) where
       let after = heard_in setup (byte_taken w c b) c number h starved in
       let f : From setup c after (came ++ b ∷ []) bytes rest stop new =
       subst (λ (s : List ℕ). From setup c after s bytes rest stop new) (stream_more w b number t h starved)
-      (of_feed setup c after bytes rest stop new (subst (λ (v : World). Feeds setup c v bytes rest stop new) takes.1.2 feeds)) in
+      (of_feed setup c after bytes rest stop new (subst (λ (v : World). Feeds setup (feeding c bytes rest stop) v new) takes.1.2 feeds)) in
       from_more setup c w after came b bytes rest stop new (h ∷ []) (sound_here w t) byte.1 f (
         takes.0,
         (
@@ -312,17 +312,17 @@ module _ (setup : Setup) (scan : IsScan setup.codec) (c : ℕ) where
       )
   more_told w middle b bytes (AtFault number) rest stop new t is takes feeds = absurd takes
 
-  feed_walked : (bytes : List ℕ) (w : World) (taken stop : ℕ) (new : World) → IsTaking setup w c → Walks setup c w bytes taken stop new
-      → Feeds setup c w bytes taken stop new
+  feed_walked : (bytes : List ℕ) (w : World) (taken stop : ℕ) (new : World) → IsTaking setup w c → Walks setup (feeding c bytes taken stop) w new
+      → Feeds setup (feeding c bytes taken stop) w new
   feed_walked [] w taken stop new t walk =
-      subst (λ (k : ℕ). Feeds setup c w [] k stop new) (sym walk.0)
-      (subst (λ (v : World). Feeds setup c w [] 0 stop v) (sym walk.2)
+      subst (λ (k : ℕ). Feeds setup (feeding c [] k stop) w new) (sym walk.0)
+      (subst (λ (v : World). Feeds setup (feeding c [] 0 stop) w v) (sym walk.2)
       (to_feed setup c w [] 0 stop w (from_none setup c w (stream_of w c) [] stop (sound_here w t) (inl (walk.1, refl)))))
   feed_walked (b ∷ bytes) w taken stop new t (inl s) = stop_told w b bytes taken stop new t s
   feed_walked (b ∷ bytes) w taken stop new t (inr (inl f)) = fault_told w b bytes (reached setup w c b) taken stop new t refl f
   feed_walked (b ∷ bytes) w taken stop new t (inr (inr m)) =
       let count : taken ≡ suc m.1 = omega (arith, m.2) in
-      subst (λ (k : ℕ). Feeds setup c w (b ∷ bytes) k stop new) (sym count)
+      subst (λ (k : ℕ). Feeds setup (feeding c (b ∷ bytes) k stop) w new) (sym count)
       (to_feed setup c w (b ∷ bytes) (suc m.1) stop new
       (more_told w m.0 b bytes (reached setup w c b) m.1 stop new t refl m.3
       (feed_walked bytes m.0 m.1 stop new (goes_on w b (reached setup w c b) m.0 t refl m.3) m.4)))
@@ -363,12 +363,12 @@ module _ (setup : Setup) (scan : IsScan setup.codec) (c : ℕ) where
   no_place true p = cc
   no_place false p = cc
 
-  none_left : (w : World) (came : List ℕ) (stop : ℕ) → StopsSound setup w came [] stop → stop ≡ 0
+  none_left : (w : World) (came : List ℕ) (stop : ℕ) → StopsSound setup w (halt came [] stop) → stop ≡ 0
   none_left w came stop (inl p) = p.0
   none_left w came stop (inr (inl p)) = absurd (no_place (is_crowded w) p.1)
   none_left w came stop (inr (inr p)) = absurd (p.1 refl)
 
-  stops_before : (w : World) (b : ℕ) (bytes : List ℕ) (stop : ℕ) (new : World) → new ≡ w → StopsSound setup w (stream_of w c) (b ∷ bytes) stop
+  stops_before : (w : World) (b : ℕ) (bytes : List ℕ) (stop : ℕ) (new : World) → new ≡ w → StopsSound setup w (halt (stream_of w c) (b ∷ bytes) stop)
       → Stops w (reached setup w c b) 0 stop new
   stops_before w b bytes stop new same (inl p) = let e : b ∷ bytes ≡ [] = p.1 in absurd cc
   stops_before w b bytes stop new same (inr (inl p)) =
@@ -386,9 +386,9 @@ module _ (setup : Setup) (scan : IsScan setup.codec) (c : ℕ) where
       let none : f.heard ≡ [] = no_more (setup.codec.scan came).served f.heard (sym byte.1 ∙ f.complete) in
       let same : new ≡ byte_taken w c b = subst
       (λ (hs : List Heard). Hears setup c (byte_taken w c b) (length (setup.codec.scan came).served) hs new) none f.hears in
-      let stops : StopsAt setup (byte_taken w c b) (came ++ b ∷ []) bytes stop (Some number) =
-      subst (λ (v : World). StopsAt setup v (came ++ b ∷ []) bytes stop (Some number)) same
-      (subst (λ (o : Option ℕ). StopsAt setup new (came ++ b ∷ []) bytes stop o) byte.0 f.stops) in
+      let stops : StopsAt setup (byte_taken w c b) (halt (came ++ b ∷ []) bytes stop) (Some number) =
+      subst (λ (v : World). StopsAt setup v (halt (came ++ b ∷ []) bytes stop) (Some number)) same
+      (subst (λ (o : Option ℕ). StopsAt setup new (halt (came ++ b ∷ []) bytes stop) o) byte.0 f.stops) in
       (stops.1, refl, stops.0, same)
 
   -- a byte is taken, and the rest is fed
@@ -450,7 +450,7 @@ module _ (setup : Setup) (scan : IsScan setup.codec) (c : ℕ) where
       (subst (λ (r : Reached). TakesFault w c b r (suc rest) stop new) (sym is) (stops_at w b bytes number rest stop new t is f))
 
   walk_fed : (bytes : List ℕ) (w : World) (taken stop : ℕ) (new : World) → IsTaking setup w c → From setup c w (stream_of w c) bytes taken stop new
-      → Walks setup c w bytes taken stop new
+      → Walks setup (feeding c bytes taken stop) w new
   walk_fed [] w (suc taken) stop new t f = let l = f.within in absurd (omega (arith, l))
   walk_fed [] w zero stop new t f =
       let none = none_from setup c w (stream_of w c) [] stop (sound_here w t) new f in
@@ -468,8 +468,8 @@ module _ (setup : Setup) (scan : IsScan setup.codec) (c : ℕ) where
 
 module _ (setup : Setup) (w : World) (c : ℕ) (bytes : List ℕ) (taken stop : ℕ) (new : World) (scan : IsScan setup.codec)
     (takes : takes_input setup (slice_get w.connections c) ≡ true) where
-  pub walk_of_feed : Feeds setup c w bytes taken stop new → Walks setup c w bytes taken stop new
+  pub walk_of_feed : Feeds setup (feeding c bytes taken stop) w new → Walks setup (feeding c bytes taken stop) w new
   walk_of_feed f = walk_fed setup scan c bytes w taken stop new (taking setup w c takes) (of_feed setup c w bytes taken stop new f)
 
-  pub feed_of_walk : Walks setup c w bytes taken stop new → Feeds setup c w bytes taken stop new
+  pub feed_of_walk : Walks setup (feeding c bytes taken stop) w new → Feeds setup (feeding c bytes taken stop) w new
   feed_of_walk walk = feed_walked setup scan c bytes w taken stop new (taking setup w c takes) walk

@@ -1,7 +1,7 @@
 -- A feed told byte by byte: what a byte brings the stream to, and where taking stops. It says the same as `Feeds`, for a program that takes bytes one after another.
 use Rattle.std.specs.Prelude.{◌≡◌, ℕ, ◌+◌, Bool, true, false, ◌&&◌, IsTrue, ◌⊎◌, List, [], ◌∷◌, ◌++◌, Option, Some, None, slice_get}
 use Rattle.nfs_model.specs.World.{Heard, Scanned, Setup, World, Connection, is_crowded}
-use Rattle.nfs_model.specs.Events.Feed.{stream_of, served_count, with_bytes, bytes_taken, heard_in, MayStarveIf, is_of_record}
+use Rattle.nfs_model.specs.Events.Feed.{stream_of, served_count, with_bytes, bytes_taken, heard_in, MayStarveIf, is_of_record, Feeding}
 
 -- what a byte brings a stream to
 pub data Reached : Type 0 where
@@ -56,10 +56,16 @@ abbrev pub Stops : World → Reached → ℕ → ℕ → World → Type 0
 Stops w at taken stop new =
     (taken ≡ 0) × (new ≡ w) × (((stop ≡ 31) × IsTrue (is_crowded w && is_complete at)) ⊎ ((stop ≡ 90) × ((is_crowded w && is_complete at) ≡ false)))
 
--- The bytes of a feed: all are taken (0), or taking stops before a byte, or at the fault that a byte reaches.
-abbrev pub Walks : Setup → ℕ → World → List ℕ → ℕ → ℕ → World → Type 0
-Walks setup c w [] taken stop new = (taken ≡ 0) × (stop ≡ 0) × (new ≡ w)
-Walks setup c w (b ∷ bs) taken stop new =
-    Stops w (reached setup w c b) taken stop new
-    ⊎ (TakesFault w c b (reached setup w c b) taken stop new
-    ⊎ ((middle : World) × (rest : ℕ) × (taken ≡ rest + 1) × Takes setup w c b (reached setup w c b) middle × Walks setup c middle bs rest stop new))
+module _ (setup : Setup) (c stop : ℕ) (new : World) where
+  -- The bytes of a feed that are left, of which so many are taken: all are (0), or taking stops before
+  -- a byte, or at the fault that a byte reaches.
+  abbrev pub WalksOver : World → List ℕ → ℕ → Type 0
+  WalksOver w [] taken = (taken ≡ 0) × (stop ≡ 0) × (new ≡ w)
+  WalksOver w (b ∷ bs) taken =
+      Stops w (reached setup w c b) taken stop new
+      ⊎ (TakesFault w c b (reached setup w c b) taken stop new
+      ⊎ ((middle : World) × (rest : ℕ) × (taken ≡ rest + 1) × Takes setup w c b (reached setup w c b) middle × WalksOver middle bs rest))
+
+-- a feed, byte by byte
+abbrev pub Walks : Setup → Feeding → World → World → Type 0
+Walks setup f w new = WalksOver setup f.connection f.stop new w f.bytes f.taken

@@ -13,7 +13,7 @@ ghost use Rattle.nfs_model.specs.Serial.AtOnce.{answer_without_home};
 ghost use Rattle.nfs_model.specs.Parts.{IsBatch};
 ghost use Rattle.nfs_model.specs.Moves.{batch, lowest_batch};
 ghost use Rattle.nfs_model.specs.World.{Setup, World, IsScan};
-ghost use Rattle.nfs_model.specs.Events.Feed.{Feeds};
+ghost use Rattle.nfs_model.specs.Events.Feed.{feeding, Feeds};
 ghost use Rattle.nfs_model.specs.Events.Refusals.{Event, Done, takes_input};
 ghost use Rattle.nfs_model.specs.Events.Step.{Events, Runs};
 ghost use Rattle.nfs_model.specs.Headline.{Kept, opening_world};
@@ -95,14 +95,14 @@ pub fn feeds_are_walks()
         (taken stop : ℕ) (new : World)
         → IsScan setup.codec
         → takes_input setup (slice_get w.connections connection) ≡ true
-        → Feeds setup connection w bytes taken stop new
-        → Walks setup connection w bytes taken stop new }
+        → Feeds setup (feeding connection bytes taken stop) w new
+        → Walks setup (feeding connection bytes taken stop) w new }
     ensures feeds { (setup : Setup) (w : World) (connection : ℕ) (bytes : List ℕ)
         (taken stop : ℕ) (new : World)
         → IsScan setup.codec
         → takes_input setup (slice_get w.connections connection) ≡ true
-        → Walks setup connection w bytes taken stop new
-        → Feeds setup connection w bytes taken stop new }
+        → Walks setup (feeding connection bytes taken stop) w new
+        → Feeds setup (feeding connection bytes taken stop) w new }
 {}
 
 /// What Fetch and Cull take is a batch: at most 64 numbers of one range, ascending.

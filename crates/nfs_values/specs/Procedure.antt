@@ -26,9 +26,9 @@ numbers_of AdminNull = (0x20000001, 0)
 numbers_of Census = (0x20000001, 1)
 numbers_of Grow = (0x20000001, 2)
 
--- the procedures that are served so far
-abbrev pub is_served : Procedure → Bool
-is_served Null = true
-is_served GetAttributes = true
-is_served AdminNull = true
-is_served p = false
+-- the procedures that are offered so far
+abbrev pub is_offered : Procedure → Bool
+is_offered Null = true
+is_offered GetAttributes = true
+is_offered AdminNull = true
+is_offered p = false

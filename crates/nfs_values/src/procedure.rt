@@ -8,7 +8,7 @@ pub const NFS_PROGRAM: u32 = 100003;
 /// The program number of the admin calls (our profile).
 pub const ADMIN_PROGRAM: u32 = 0x2000_0001;
 
-/// A procedure, served or not.
+/// A procedure, offered or not.
 #[derive(Clone, Copy, Debug, PartialEq, Eq)]
 pub enum Procedure {
     /// NULL of NFS (RFC 1813 section 3.3.0).
@@ -46,10 +46,10 @@ pub enum Procedure {
 }
 
 impl Procedure {
-    ghost use Rattle.nfs_values.specs.Procedure.{is_served, numbers_of};
+    ghost use Rattle.nfs_values.specs.Procedure.{is_offered, numbers_of};
     ghost use Rattle.nfs_values.specs.declared.procedure.Procedure.{Procedure as Known};
 
-    /// The procedure of this number in this program, served or not.
+    /// The procedure of this number in this program, offered or not.
     pub fn known(program: u32, number: u32) -> Option<Procedure>
         ensures found { IfSome result (λ p. numbers_of p ≡ (program, number)) }
         ensures none { result ≡ None → (p : Known) → numbers_of p ≢ (program, number) }
@@ -76,8 +76,8 @@ impl Procedure {
     }
 
     /// Whether calls of the procedure are answered.
-    pub fn is_served(self) -> bool
-        ensures { result ≡ is_served self }
+    pub fn is_offered(self) -> bool
+        ensures { result ≡ is_offered self }
     {
         matches!(
             self,
@@ -85,15 +85,15 @@ impl Procedure {
         )
     }
 
-    /// The procedure of this number in this program that is served.
+    /// The procedure of this number in this program that is offered.
     pub fn of(program: u32, number: u32) -> Option<Procedure>
         ensures found { IfSome result
-            (λ p. (numbers_of p ≡ (program, number)) × (is_served p ≡ true)) }
+            (λ p. (numbers_of p ≡ (program, number)) × (is_offered p ≡ true)) }
         ensures none { result ≡ None
             → (p : Known)
-            → is_served p ≡ true
+            → is_offered p ≡ true
             → numbers_of p ≢ (program, number) }
     {
-        Procedure::known(program, number).filter(|p| p.is_served())
+        Procedure::known(program, number).filter(|p| p.is_offered())
     }
 }

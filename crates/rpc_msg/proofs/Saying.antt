@@ -103,7 +103,7 @@ call_told bytes xid p who arguments fits c (Err fault) e =
           (asked_again p arguments call a);
     }
 
--- a head that is all there, of a procedure that is served
+-- a head that is all there, of a procedure that is offered
 made_call : (bytes : List ℕ) (xid program version number : ℕ) (who : model.Credential) (arguments : List ℕ) (p : Procedure)
     → IsHead bytes xid program version number who arguments → procedure_of program version number ≡ Ok p → IsCall bytes xid p who arguments
 made_call bytes xid program version number who arguments p h e =
@@ -114,7 +114,7 @@ made_call bytes xid program version number who arguments p h e =
       version = version;
       cred = h.cred;
       verf = h.verf;
-      served = ps.3;
+      offered = ps.3;
       version_is = ap version_of ps.1
           ∙ ps.0;
       acts_for = h.acts_for;
@@ -129,16 +129,16 @@ none_found : (o : Option Procedure) (p : Procedure) → o ≡ None → o ≡ Som
 none_found None p e f = absurd cc
 none_found (Some q) p e f = absurd cc
 
--- the procedure, where the version is served or not
-agreed_told : (bytes : List ℕ) (xid program version number served : ℕ) (who : model.Credential) (arguments : List ℕ) → IsBytes arguments
-    → IsHead bytes xid program version number who arguments → version_of program ≡ Some served
-    → (b : Bool) → eqb version served ≡ b → (f : Option Procedure) → find (is_numbered program number) procedures ≡ f
-    → Told bytes xid (cond b (available f) (Err (Refuse (model.ProgramMismatch served served))) >>= ends who arguments)
-agreed_told bytes xid program version number served who arguments fits h e true same (Some p) f =
+-- the procedure, where the version is offered or not
+agreed_told : (bytes : List ℕ) (xid program version number offered : ℕ) (who : model.Credential) (arguments : List ℕ) → IsBytes arguments
+    → IsHead bytes xid program version number who arguments → version_of program ≡ Some offered
+    → (b : Bool) → eqb version offered ≡ b → (f : Option Procedure) → find (is_numbered program number) procedures ≡ f
+    → Told bytes xid (cond b (available f) (Err (Refuse (model.ProgramMismatch offered offered))) >>= ends who arguments)
+agreed_told bytes xid program version number offered who arguments fits h e true same (Some p) f =
     let found_p : procedure_of program version number ≡ Ok p = rw (e, same, f) refl in
     call_told bytes xid p who arguments fits (made_call bytes xid program version number who arguments p h found_p) (asked p arguments) refl
-agreed_told bytes xid program version number served who arguments fits h e true same None f =
-    let version_is : version ≡ served = eqb-true version served same in
+agreed_told bytes xid program version number offered who arguments fits h e true same None f =
+    let version_is : version ≡ offered = eqb-true version offered same in
     record {
       program = program;
       version = version;
@@ -149,7 +149,7 @@ agreed_told bytes xid program version number served who arguments fits h e true 
       served_is = e ∙ ap (λ (n : ℕ). Some n) (sym version_is);
       none = λ p s n. none_found (find (is_numbered program number) procedures) p f (some_numbered program number p n s);
     }
-agreed_told bytes xid program version number served who arguments fits h e false other f g = (
+agreed_told bytes xid program version number offered who arguments fits h e false other f g = (
   refl,
   record {
     program = program;
@@ -160,7 +160,7 @@ agreed_told bytes xid program version number served who arguments fits h e false
     head = h;
     served_is = e;
     other = eqb-false
-        version served other;
+        version offered other;
   },
 )
 
@@ -169,8 +169,8 @@ procedure_told : (bytes : List ℕ) (xid program version number : ℕ) (who : mo
     → (o : Option ℕ) → version_of program ≡ o → Told bytes xid (of_version o version (find (is_numbered program number) procedures) >>= ends who arguments)
 procedure_told bytes xid program version number who arguments fits h None e =
     record { program = program; version = version; number = number; who = who; arguments = arguments; head = h; none = e }
-procedure_told bytes xid program version number who arguments fits h (Some served) e =
-    agreed_told bytes xid program version number served who arguments fits h e (eqb version served) refl (find (is_numbered program number) procedures) refl
+procedure_told bytes xid program version number who arguments fits h (Some offered) e =
+    agreed_told bytes xid program version number offered who arguments fits h e (eqb version offered) refl (find (is_numbered program number) procedures) refl
 
 -- the verifier
 whole_head : (bytes : List ℕ) (xid : ℕ) (n : Value numbers_shape) (rest more arguments : List ℕ) (who : model.Credential) (verf : Value auth_shape)

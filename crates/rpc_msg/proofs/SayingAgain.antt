@@ -204,9 +204,9 @@ bad_again bytes xid fits c =
 program_again : (bytes : List ℕ) (xid : ℕ) → IsOfNoProgram bytes xid → heard bytes ≡ refused xid model.ProgramUnavailable
 program_again bytes xid p = at_head bytes xid p.program p.version p.number p.who p.arguments p.head ∙ rw p.none refl
 
-other_again : (bytes : List ℕ) (xid served : ℕ) → IsOfAnotherVersion bytes xid served → heard bytes ≡ refused xid (model.ProgramMismatch served served)
-other_again bytes xid served v =
-    let other : eqb v.version served ≡ false = ne_eqb v.version served v.other in
+other_again : (bytes : List ℕ) (xid offered : ℕ) → IsOfAnotherVersion bytes xid offered → heard bytes ≡ refused xid (model.ProgramMismatch offered offered)
+other_again bytes xid offered v =
+    let other : eqb v.version offered ≡ false = ne_eqb v.version offered v.other in
     at_head bytes xid v.program v.version v.number v.who v.arguments v.head ∙ rw (v.served_is, other) refl
 
 none_again : (bytes : List ℕ) (xid : ℕ) → IsOfNoProcedure bytes xid → heard bytes ≡ refused xid model.ProcedureUnavailable
@@ -317,10 +317,10 @@ exactly_rpc bytes xid fits =
 pub exactly_program : (bytes : List ℕ) (xid : ℕ) → IsBytes bytes → Exactly (Refuses bytes xid model.ProgramUnavailable) (IsOfNoProgram bytes xid)
 exactly_program bytes xid fits = exactly bytes (refused xid model.ProgramUnavailable) fits
 
-pub exactly_version : (bytes : List ℕ) (xid served : ℕ) → IsBytes bytes
-    → Exactly (Refuses bytes xid (model.ProgramMismatch served served)) (IsOfAnotherVersion bytes xid served)
-exactly_version bytes xid served fits =
-    let both = exactly bytes (refused xid (model.ProgramMismatch served served)) fits in
+pub exactly_version : (bytes : List ℕ) (xid offered : ℕ) → IsBytes bytes
+    → Exactly (Refuses bytes xid (model.ProgramMismatch offered offered)) (IsOfAnotherVersion bytes xid offered)
+exactly_version bytes xid offered fits =
+    let both = exactly bytes (refused xid (model.ProgramMismatch offered offered)) fits in
     (λ e. (both.0 e).1, λ c. both.1 (refl, c))
 
 pub exactly_procedure : (bytes : List ℕ) (xid : ℕ) → IsBytes bytes → Exactly (Refuses bytes xid model.ProcedureUnavailable) (IsOfNoProcedure bytes xid)

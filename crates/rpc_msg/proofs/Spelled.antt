@@ -12,7 +12,7 @@ use Rattle.xdr.specs.lemmas.Shapes.{found, all_found}
 use Rattle.xdr.specs.lemmas.Steps.{chosen}
 use Rattle.nfs_model.specs.Types as model
 use Rattle.nfs_values.specs.declared.procedure.Procedure.{Procedure}
-use Rattle.nfs_values.specs.Procedure.{all_procedures, is_served, numbers_of}
+use Rattle.nfs_values.specs.Procedure.{all_procedures, is_offered, numbers_of}
 use Rattle.nfs_types.specs.Shapes.{◌&◌}
 use Rattle.rpc_msg.specs.Replies.{auth_shape}
 use Rattle.rpc_msg.specs.Heads.{◌>>=◌, Stop, Incomplete, Refuse, Body, Call, whole, version_at, numbers_shape, auth_sys_shape, nobody, user, body_of, user_of}
@@ -108,12 +108,12 @@ available_ok : (o : Option Procedure) (p : Procedure) → available o ≡ Ok p �
 available_ok (Some q) p e = cc
 available_ok None p e = absurd cc
 
-of_version_ok : (served : Option ℕ) (version : ℕ) (o : Option Procedure) (p : Procedure) → of_version served version o ≡ Ok p
-    → (served ≡ Some version) × (o ≡ Some p)
+of_version_ok : (offered : Option ℕ) (version : ℕ) (o : Option Procedure) (p : Procedure) → of_version offered version o ≡ Ok p
+    → (offered ≡ Some version) × (o ≡ Some p)
 of_version_ok None version o p e = absurd cc
-of_version_ok (Some served) version o p e =
-    elim (chosen (eqb version served) (available o) (Err (Refuse (model.ProgramMismatch served served))) (Ok p) e) [
-      | inl h ↦ (ap (λ (n : ℕ). Some n) (sym (eqb-true version served h.0)), available_ok o p h.1)
+of_version_ok (Some offered) version o p e =
+    elim (chosen (eqb version offered) (available o) (Err (Refuse (model.ProgramMismatch offered offered))) (Ok p) e) [
+      | inl h ↦ (ap (λ (n : ℕ). Some n) (sym (eqb-true version offered h.0)), available_ok o p h.1)
       | inr h ↦ absurd cc
     ]
 
@@ -142,11 +142,11 @@ version_found bytes rest fits e =
     ]
 
 pub procedure_found : (program version number : ℕ) (p : Procedure) → procedure_of program version number ≡ Ok p
-    → (version_of program ≡ Some version) × ((numbers_of p).0 ≡ program) × ((numbers_of p).1 ≡ number) × (is_served p ≡ true)
+    → (version_of program ≡ Some version) × ((numbers_of p).0 ≡ program) × ((numbers_of p).1 ≡ number) × (is_offered p ≡ true)
 procedure_found program version number p e =
     let o = of_version_ok (version_of program) version (find (is_numbered program number) procedures) p e in
     let t = both_true (eqb (numbers_of p).0 program) (eqb (numbers_of p).1 number) (find_is (is_numbered program number) procedures p o.1) in
-    (o.0, eqb-true _ _ t.0, eqb-true _ _ t.1, subst (FoundIs is_served) o.1 (found_is is_served (is_numbered program number) all_procedures))
+    (o.0, eqb-true _ _ t.0, eqb-true _ _ t.1, subst (FoundIs is_offered) o.1 (found_is is_offered (is_numbered program number) all_procedures))
 
 -- rpcvers 2, prog, vers, proc, cred and verf
 abbrev pub body_shape : Shape
@@ -166,7 +166,7 @@ record BodyIs (bytes : List ℕ) (body : Body) : Type 0 where
   version : ℕ
   cred : Value auth_shape
   verf : Value auth_shape
-  served : is_served body.procedure ≡ true
+  offered : is_offered body.procedure ≡ true
   version_is : version_of (numbers_of body.procedure).0 ≡ Some version
   acts_for : ActsFor cred body.credential
   fits : Fits body_shape (body_value (numbers_of body.procedure) version cred verf)
@@ -210,7 +210,7 @@ body_found bytes body fits e =
       version = version;
       cred = cred;
       verf = w.0.0;
-      served = ps.3;
+      offered = ps.3;
       version_is = ap version_of ps.1
           ∙ ps.0;
       acts_for = cs.acts;
@@ -249,7 +249,7 @@ call_found bytes xid p who arguments fits e =
       version = b.version;
       cred = b.cred;
       verf = b.verf;
-      served = b.served;
+      offered = b.offered;
       version_is = b.version_is;
       acts_for = b.acts_for;
       fits =

@@ -1,4 +1,4 @@
--- The spelling of a call that is served is heard as that call.
+-- The spelling of a call that is offered is heard as that call.
 use Rattle.std.proofs.Common.{◌≡◌, ℕ, ◌≤◌, true, false, eqb, ltb, List, ◌++◌, length, Some, Ok, refl, sym, ap, ◌∙◌, arith, inl, inr}
 use Rattle.std.proofs.lemmas.Bool.{le-ltb, eq-eqb}
 use Rattle.xdr.specs.Shape.{Word, Fixed, Value, Fits, word, padded, spelling}
@@ -6,7 +6,7 @@ use Rattle.xdr.specs.Reading.{read}
 use Rattle.xdr.specs.lemmas.Shapes.{again, all_again}
 use Rattle.nfs_model.specs.Types as model
 use Rattle.nfs_values.specs.declared.procedure.Procedure.{Procedure}
-use Rattle.nfs_values.specs.Procedure.{is_served, numbers_of}
+use Rattle.nfs_values.specs.Procedure.{is_offered, numbers_of}
 use Rattle.nfs_types.specs.Shapes.{◌&◌}
 use Rattle.rpc_msg.specs.Replies.{auth_shape}
 use Rattle.rpc_msg.specs.Heads.{Call, whole, version_at, numbers_shape, auth_sys_shape, acting, credential_at, version_of, procedure_of, body_at, under}
@@ -31,20 +31,20 @@ credential_again flavor body who rest short acts =
     let small : ltb 400 (length body) ≡ false = le-ltb _ _ short in
     rw (known, small, again (Fixed (length body)) body rest refl, acts_again flavor body who acts) refl
 
-procedure_again : (p : Procedure) (version : ℕ) → is_served p ≡ true → version_of (numbers_of p).0 ≡ Some version
+procedure_again : (p : Procedure) (version : ℕ) → is_offered p ≡ true → version_of (numbers_of p).0 ≡ Some version
     → procedure_of (numbers_of p).0 version (numbers_of p).1 ≡ Ok p
-procedure_again p version served e =
+procedure_again p version offered e =
     let same : eqb version version ≡ true = eq-eqb version version refl in
-    rw (e, find_again p served, same) refl
+    rw (e, find_again p offered, same) refl
 
 body_again : (p : Procedure) (version : ℕ) (cred verf : Value auth_shape) (who : model.Credential) (arguments : List ℕ)
-    → is_served p ≡ true
+    → is_offered p ≡ true
     → version_of (numbers_of p).0 ≡ Some version
     → ActsFor cred who
     → Fits body_shape (body_value (numbers_of p) version cred verf)
     → body_at (spelling body_shape (body_value (numbers_of p) version cred verf) ++ arguments) ≡ Ok
     (record { procedure = p; credential = who; arguments = arguments })
-body_again p version cred verf who arguments served version_is acts fits =
+body_again p version cred verf who arguments offered version_is acts fits =
     let r4 = spelling auth_shape verf ++ arguments in
     let r3 = padded cred.1 ++ r4 in
     let numbers : Value numbers_shape = ((numbers_of p).0, (version, ((numbers_of p).1, (cred.0, length cred.1)))) in
@@ -58,7 +58,7 @@ body_again p version cred verf who arguments served version_is acts fits =
     ∙ then_is (credential_at cred.0 (length cred.1) r3) (from_credential (numbers, r3)) (who, r4) (credential_again cred.0 cred.1 who r4 short.0 acts)
     ∙ then_is (whole (read auth_shape r4)) (from_verifier (numbers, r3) (who, r4)) (verf, arguments) (ap whole (again auth_shape verf arguments fits.1.1.1.1.1))
     ∙ then_is (procedure_of (numbers_of p).0 version (numbers_of p).1) (λ q. Ok (record { procedure = q; credential = who; arguments = arguments })) p
-    (procedure_again p version served version_is)
+    (procedure_again p version offered version_is)
 
 pub call_again : (bytes : List ℕ) (xid : ℕ) (p : Procedure) (who : model.Credential) (arguments : List ℕ) → IsCall bytes xid p who arguments
     → head_of bytes ≡ Call xid p who arguments
@@ -67,4 +67,4 @@ call_again bytes xid p who arguments c =
     let xid_read : xid_at (spelling (Word & Word) (xid, 0) ++ after) ≡ Ok (xid, after) = rw (again (Word & Word) (xid, 0) after (c.fits.0, c.fits.1.0)) refl in
     ap head_of c.bytes_are
     ∙ ap head_from xid_read
-    ∙ ap (under xid) (body_again p c.version c.cred c.verf who arguments c.served c.version_is c.acts_for c.fits.1.1)
+    ∙ ap (under xid) (body_again p c.version c.cred c.verf who arguments c.offered c.version_is c.acts_for c.fits.1.1)

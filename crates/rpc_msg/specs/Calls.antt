@@ -1,9 +1,9 @@
--- A call that is served, as one message (RFC 5531 section 9).
+-- A call that is offered, as one message (RFC 5531 section 9).
 use Rattle.std.specs.Prelude.{◌≡◌, ℕ, true, List, ◌++◌, ◌⊎◌, Some}
 use Rattle.xdr.specs.Shape.{Shape, Word, Value, Fits, Spells, spelling}
 use Rattle.nfs_model.specs.Types as model
 use Rattle.nfs_values.specs.declared.procedure.Procedure.{Procedure}
-use Rattle.nfs_values.specs.Procedure.{is_served, numbers_of}
+use Rattle.nfs_values.specs.Procedure.{is_offered, numbers_of}
 use Rattle.nfs_types.specs.Shapes.{◌&◌}
 use Rattle.rpc_msg.specs.Replies.{auth_shape}
 use Rattle.rpc_msg.specs.Heads.{auth_sys_shape, nobody, user, version_of}
@@ -19,12 +19,12 @@ call_value xid numbers version cred verf = (xid, (0, (2, (numbers.0, (version, (
 abbrev pub ActsFor : Value auth_shape → model.Credential → Type 0
 ActsFor cred who = ((cred.0 ≡ 0) × (who ≡ nobody)) ⊎ ((cred.0 ≡ 1) × ((v : Value auth_sys_shape) × Spells auth_sys_shape v cred.1 × (who ≡ user v)))
 
--- The bytes spell a call of a procedure that is served, and then its arguments.
+-- The bytes spell a call of a procedure that is offered, and then its arguments.
 pub record IsCall (bytes : List ℕ) (xid : ℕ) (procedure : Procedure) (who : model.Credential) (arguments : List ℕ) : Type 0 where
   pub version : ℕ
   pub cred : Value auth_shape
   pub verf : Value auth_shape
-  pub served : is_served procedure ≡ true
+  pub offered : is_offered procedure ≡ true
   pub version_is : version_of (numbers_of procedure).0 ≡ Some version
   pub acts_for : ActsFor cred who
   pub fits : Fits call_shape (call_value xid (numbers_of procedure) version cred verf)

@@ -7,11 +7,11 @@ use Rattle.xdr.specs.Shape.{Shape, Word, Fixed, Opaque, Array, Value}
 use Rattle.xdr.specs.Reading.{Reads, read, all_of}
 use Rattle.nfs_model.specs.Types as model
 use Rattle.nfs_values.specs.declared.procedure.Procedure.{Procedure}
-use Rattle.nfs_values.specs.Procedure.{all_procedures, is_served, numbers_of}
+use Rattle.nfs_values.specs.Procedure.{all_procedures, is_offered, numbers_of}
 use Rattle.nfs_types.specs.Shapes.{◌&◌}
 use Rattle.rpc_msg.specs.Replies.{auth_shape}
 
--- why a call isn't served: its head isn't all there, or this reply refuses it
+-- why a call isn't offered: its head isn't all there, or this reply refuses it
 pub data Stop : Type 0 where
   Incomplete : Stop
   Refuse : (reply : model.Reply) → Stop
@@ -90,13 +90,13 @@ credential_at flavor size bytes =
 
 -- ---- 6. the procedure (section 9); before it stands verf, an opaque_auth (section 8.2)
 
--- the version of a program that is served: NFS (RFC 1813 section 2.2) and the admin program (our profile)
+-- the version of a program that is offered: NFS (RFC 1813 section 2.2) and the admin program (our profile)
 abbrev pub version_of : ℕ → Option ℕ
 version_of program = if program == 100003 then Some 3 else if program == 536870913 then Some 1 else None
 
--- the procedures that are served so far
+-- the procedures that are offered so far
 abbrev pub procedures : List Procedure
-procedures = filter is_served all_procedures
+procedures = filter is_offered all_procedures
 
 abbrev pub is_numbered : ℕ → ℕ → Procedure → Bool
 is_numbered program number procedure = ((numbers_of procedure).0 == program) && ((numbers_of procedure).1 == number)
@@ -109,14 +109,14 @@ available None = Err (Refuse model.ProcedureUnavailable)
 -- PROG_UNAVAIL, PROG_MISMATCH or PROC_UNAVAIL
 abbrev pub of_version : Option ℕ → ℕ → Option Procedure → Result Procedure Stop
 of_version None version procedure = Err (Refuse model.ProgramUnavailable)
-of_version (Some served) version procedure = if version == served then available procedure else Err (Refuse (model.ProgramMismatch served served))
+of_version (Some offered) version procedure = if version == offered then available procedure else Err (Refuse (model.ProgramMismatch offered offered))
 
 abbrev pub procedure_of : ℕ → ℕ → ℕ → Result Procedure Stop
 procedure_of program version number = of_version (version_of program) version (find (is_numbered program number) procedures)
 
 -- ---- the whole head
 
--- what follows xid and msg_type in a call that is served
+-- what follows xid and msg_type in a call that is offered
 pub record Body : Type 0 where
   pub procedure : Procedure
   pub credential : model.Credential

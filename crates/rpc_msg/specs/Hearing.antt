@@ -4,7 +4,7 @@ use Rattle.xdr.specs.Shape.{Shape, Word, Fixed, Value, Fits, Spells, padding, sp
 use Rattle.nfs_model.specs.Types as model
 use Rattle.nfs_model.specs.World.{Heard}
 use Rattle.nfs_values.specs.declared.procedure.Procedure.{Procedure}
-use Rattle.nfs_values.specs.Procedure.{is_served, numbers_of}
+use Rattle.nfs_values.specs.Procedure.{is_offered, numbers_of}
 use Rattle.nfs_types.specs.Arguments.{Asks}
 use Rattle.nfs_types.specs.Shapes.{◌&◌}
 use Rattle.rpc_msg.specs.Replies.{auth_shape}
@@ -96,7 +96,7 @@ pub record HasBadCredential (bytes : List ℕ) (xid : ℕ) : Type 0 where
   pub known : flavor_of numbers ≤ 1
   pub bad : IsBadBody (flavor_of numbers) (size_of numbers) rest
 
--- the program isn't served: PROG_UNAVAIL (section 9)
+-- the program isn't offered: PROG_UNAVAIL (section 9)
 pub record IsOfNoProgram (bytes : List ℕ) (xid : ℕ) : Type 0 where
   pub program : ℕ
   pub version : ℕ
@@ -106,18 +106,18 @@ pub record IsOfNoProgram (bytes : List ℕ) (xid : ℕ) : Type 0 where
   pub head : IsHead bytes xid program version number who arguments
   pub none : version_of program ≡ None
 
--- another version of the program is served: PROG_MISMATCH (section 9)
-pub record IsOfAnotherVersion (bytes : List ℕ) (xid served : ℕ) : Type 0 where
+-- another version of the program is offered: PROG_MISMATCH (section 9)
+pub record IsOfAnotherVersion (bytes : List ℕ) (xid offered : ℕ) : Type 0 where
   pub program : ℕ
   pub version : ℕ
   pub number : ℕ
   pub who : model.Credential
   pub arguments : List ℕ
   pub head : IsHead bytes xid program version number who arguments
-  pub served_is : version_of program ≡ Some served
-  pub other : version ≢ served
+  pub served_is : version_of program ≡ Some offered
+  pub other : version ≢ offered
 
--- no procedure of the number is served: PROC_UNAVAIL (section 9)
+-- no procedure of the number is offered: PROC_UNAVAIL (section 9)
 pub record IsOfNoProcedure (bytes : List ℕ) (xid : ℕ) : Type 0 where
   pub program : ℕ
   pub version : ℕ
@@ -126,7 +126,7 @@ pub record IsOfNoProcedure (bytes : List ℕ) (xid : ℕ) : Type 0 where
   pub arguments : List ℕ
   pub head : IsHead bytes xid program version number who arguments
   pub served_is : version_of program ≡ Some version
-  pub none : (p : Procedure) → is_served p ≡ true → numbers_of p ≢ (program, number)
+  pub none : (p : Procedure) → is_offered p ≡ true → numbers_of p ≢ (program, number)
 
 -- The arguments are no spelling, or bytes are left: GARBAGE_ARGS (section 9).
 pub record HasGarbage (bytes : List ℕ) (xid : ℕ) : Type 0 where

@@ -31,7 +31,7 @@ const ADMIN_VERSION: u32 = 1;
 /// What the head of a record says.
 #[derive(Drop)]
 pub enum Head<'a> {
-    /// A call that is served. Its arguments are the bytes behind the head.
+    /// A call that is offered. Its arguments are the bytes behind the head.
     Call {
         xid: u32,
         procedure: Procedure,
@@ -47,7 +47,7 @@ pub enum Head<'a> {
     Fault(RecordFault),
 }
 
-/// What follows the message type of a call that is served.
+/// What follows the message type of a call that is offered.
 #[derive(Drop)]
 struct Body<'a> {
     procedure: Procedure,
@@ -117,7 +117,7 @@ fn read_auth(bytes: &[u8]) -> Result<((u32, &[u8]), &[u8]), Stop>
     Ok(((flavor, body), rest))
 }
 
-/// The version that is served of a program.
+/// The version that is offered of a program.
 fn version_of(program: u32) -> Option<u32>
     ensures { result ≡ version_of program }
 {
@@ -129,16 +129,16 @@ fn version_of(program: u32) -> Option<u32>
 }
 
 /// The procedure of this number in this version of a program.
-fn served(program: u32, version: u32, number: u32) -> Result<Procedure, Stop>
+fn offered(program: u32, version: u32, number: u32) -> Result<Procedure, Stop>
     ensures { Says (λ p. p) stop_of result (procedure_of program version number) }
 {
-    let Some(served) = version_of(program) else {
+    let Some(offered) = version_of(program) else {
         return Err(Stop::Refuse(Reply::ProgramUnavailable));
     };
-    if version != served {
+    if version != offered {
         return Err(Stop::Refuse(Reply::ProgramMismatch {
-            low: served,
-            high: served,
+            low: offered,
+            high: offered,
         }));
     }
     match Procedure::of(program, number) {
@@ -155,7 +155,7 @@ fn read_call_body(bytes: &[u8]) -> Result<Body<'_>, Stop>
     let (numbers, rest) = read_numbers(rest)?;
     let (credential, rest) = read_credential(numbers.flavor, numbers.size, rest)?;
     let (_verifier, arguments) = read_auth(rest)?;
-    let procedure = served(numbers.program, numbers.version, numbers.procedure)?;
+    let procedure = offered(numbers.program, numbers.version, numbers.procedure)?;
     Ok(Body {
         procedure,
         credential,

@@ -24,7 +24,7 @@ ghost use Rattle.nfs_model.specs.Serial.AtOnce.{answer_without_home};
 /// The record of the reply to a call takes no more than the call's room: where it runs on any
 /// roomy server, starved or not, and where it is answered without an affinity.
 pub fn replies_fit()
-    ensures served { (volumes : ℕ) (server : Server) (call : model.Call) (who : model.Credential)
+    ensures offered { (volumes : ℕ) (server : Server) (call : model.Call) (who : model.Credential)
         (moment : model.Moment) (starved : Bool) (xid : ℕ)
         → IsRoomy volumes server
         → length (reply_record xid (serial server (model.Ask call who) moment starved).reply)
@@ -97,7 +97,7 @@ pub fn credentials_are_spelled()
 {}
 
 /// RPC_MISMATCH, PROG_UNAVAIL, PROG_MISMATCH and PROC_UNAVAIL, each exactly where the head names
-/// what isn't served (RFC 5531 section 9).
+/// what isn't offered (RFC 5531 section 9).
 pub fn versions_are_spelled()
     ensures rpc { (bytes : List ℕ) (xid : ℕ)
         → AreBytes bytes
@@ -105,10 +105,10 @@ pub fn versions_are_spelled()
     ensures program { (bytes : List ℕ) (xid : ℕ)
         → AreBytes bytes
         → Exactly (Refuses bytes xid model.ProgramUnavailable) (IsOfNoProgram bytes xid) }
-    ensures version { (bytes : List ℕ) (xid served : ℕ)
+    ensures version { (bytes : List ℕ) (xid offered : ℕ)
         → AreBytes bytes
-        → Exactly (Refuses bytes xid (model.ProgramMismatch served served))
-        (IsOfAnotherVersion bytes xid served) }
+        → Exactly (Refuses bytes xid (model.ProgramMismatch offered offered))
+        (IsOfAnotherVersion bytes xid offered) }
     ensures procedure { (bytes : List ℕ) (xid : ℕ)
         → AreBytes bytes
         → Exactly (Refuses bytes xid model.ProcedureUnavailable) (IsOfNoProcedure bytes xid) }
@@ -132,14 +132,14 @@ pub fn records_are_decoded()
         → IsDecoded h.asked }
 {}
 
-/// A record asks nothing that changes anything, with the procedures that are served.
+/// A record asks nothing that changes anything, with the procedures that are offered.
 pub fn records_ask_readings()
     ensures { (bytes : List ℕ) (h : Heard)
         → heard bytes ≡ Ok h
         → AsksReading h.asked }
 {}
 
-/// A head says a call exactly where the bytes spell one that is served, and then its arguments.
+/// A head says a call exactly where the bytes spell one that is offered, and then its arguments.
 pub fn call_heads_are_exact()
     ensures found { (bytes : List ℕ) (xid : ℕ) (procedure : Procedure) (who : model.Credential)
         (arguments : List ℕ)

@@ -5,7 +5,7 @@ ghost use Rattle.rpc_msg.specs.declared.stop.Stop.TheVariants as stops;
 
 use nfs_values::Reply;
 
-/// Why a call isn't served.
+/// Why a call isn't offered.
 #[derive(Drop)]
 pub(crate) enum Stop {
     /// Its head isn't all there.

@@ -39,13 +39,13 @@ fn null_of_a_user(rt: HostRuntime) -> Result<(), Fail> {
 
 #[test]
 fn admin_null(rt: HostRuntime) -> Result<(), Fail> {
-    let served = bytes_of(rt.alloc(), &[9, 0, 2, 0x20000001, 1, 0, 0, 0, 0, 0])?;
+    let offered = bytes_of(rt.alloc(), &[9, 0, 2, 0x20000001, 1, 0, 0, 0, 0, 0])?;
     let Head::Call {
         xid,
         procedure,
         credential,
         arguments,
-    } = read_call(&served)
+    } = read_call(&offered)
     else {
         return Err(Fail::from("no call"));
     };

@@ -116,35 +116,60 @@ completes_next setup stream (b ∷ rest) =
 abbrev pub is_full_at : Setup → World → List ℕ → List ℕ → Bool
 is_full_at setup w stream rest = is_crowded w && completes_next setup stream rest
 
--- Where taking stops without a fault, with these bytes left: all are taken (0), no place is left
--- for the next record (31), or memory ran out (90).
-abbrev pub StopsSound : Setup → World → List ℕ → List ℕ → ℕ → Type 0
-StopsSound setup w stream rest stop =
-    ((stop ≡ 0) × (rest ≡ []))
-    ⊎ (((stop ≡ 31) × IsTrue (is_full_at setup w stream rest))
-    ⊎ ((stop ≡ 90) × (rest ≡ [] → ⊥) × (is_full_at setup w stream rest ≡ false)))
+-- where taking stands: the bytes of the stream that came, those of the feed that are left, and the
+-- number with which it stops
+pub record Halt : Type 0 where
+  pub came : List ℕ
+  pub left : List ℕ
+  pub stop : ℕ
+
+abbrev pub halt : List ℕ → List ℕ → ℕ → Halt
+halt came left stop = record { came = came; left = left; stop = stop }
+
+-- Where taking stops without a fault: all are taken (0), no place is left for the next record (31),
+-- or memory ran out (90).
+abbrev pub StopsSound : Setup → World → Halt → Type 0
+StopsSound setup w h =
+    ((h.stop ≡ 0) × (h.left ≡ []))
+    ⊎ (((h.stop ≡ 31) × IsTrue (is_full_at setup w h.came h.left))
+    ⊎ ((h.stop ≡ 90) × (h.left ≡ [] → ⊥) × (is_full_at setup w h.came h.left ≡ false)))
 
 -- Where taking stops, by the fault that the bytes taken reach, if any: at the fault, which needs a
 -- place where it is of a complete record.
-abbrev pub StopsAt : Setup → World → List ℕ → List ℕ → ℕ → Option ℕ → Type 0
-StopsAt setup w stream rest stop None = StopsSound setup w stream rest stop
-StopsAt setup w stream rest stop (Some number) =
-    (stop ≡ number) × ((is_crowded w && is_of_record number) ≡ false)
+abbrev pub StopsAt : Setup → World → Halt → Option ℕ → Type 0
+StopsAt setup w h None = StopsSound setup w h
+StopsAt setup w h (Some number) = (h.stop ≡ number) × ((is_crowded w && is_of_record number) ≡ false)
 
 -- ---- a feed
 
--- A feed of bytes on a connection: so many are taken, and taking stops with a number.
-pub record Feeds (setup : Setup) (c : ℕ) (w : World) (bytes : List ℕ) (taken stop : ℕ)
-    (new : World) : Type 0 where
-  pub within : taken ≤ length bytes
+-- bytes for a connection, of which so many are taken, and the number with which taking stops
+pub record Feeding : Type 0 where
+  pub connection : ℕ
+  pub bytes : List ℕ
+  pub taken : ℕ
+  pub stop : ℕ
+
+abbrev pub feeding : ℕ → List ℕ → ℕ → ℕ → Feeding
+feeding connection bytes taken stop =
+    record { connection = connection; bytes = bytes; taken = taken; stop = stop }
+
+-- the connection's stream with the bytes that are taken
+abbrev pub stream_fed : Feeding → World → List ℕ
+stream_fed f w = stream_of w f.connection ++ take f.taken f.bytes
+
+-- A feed of bytes on a connection.
+pub record Feeds (setup : Setup) (f : Feeding) (w new : World) : Type 0 where
+  pub within : f.taken ≤ length f.bytes
   -- they go at most to the end of what reaches a fault
-  pub sound : (n : ℕ) → n < taken → (setup.codec.scan (stream_of w c ++ take n bytes)).fault ≡ None
+  pub sound : (n : ℕ) → n < f.taken
+      → (setup.codec.scan (stream_of w f.connection ++ take n f.bytes)).fault ≡ None
   -- the records that they complete
   pub heard : List Heard
-  pub complete : (setup.codec.scan (stream_of w c ++ take taken bytes)).served
-      ≡ (setup.codec.scan (stream_of w c)).served ++ heard
+  pub complete : (setup.codec.scan (stream_fed f w)).served
+      ≡ (setup.codec.scan (stream_of w f.connection)).served ++ heard
   -- the bytes are appended, and the records are answered or wait, in order
-  pub hears : Hears setup c (bytes_taken w c (take taken bytes)) (served_count setup w c) heard new
+  pub hears : Hears setup f.connection (bytes_taken w f.connection (take f.taken f.bytes))
+      (served_count setup w f.connection) heard new
   -- why it stops there
-  pub stops : StopsAt setup new (stream_of w c ++ take taken bytes) (drop taken bytes) stop
-      (setup.codec.scan (stream_of w c ++ take taken bytes)).fault
+  pub stops : StopsAt setup new (halt (stream_fed f w) (drop f.taken f.bytes) f.stop)
+      (setup.codec.scan (stream_fed f w)).fault

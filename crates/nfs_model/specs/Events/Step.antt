@@ -14,7 +14,7 @@ use Rattle.nfs_model.specs.Events.Refusals.{Event, Open, Feed, Close, Begin, Wor
 use Rattle.nfs_model.specs.Events.Refusals.{PutDown, Survey, Done, Opened, Fed, IsClosed, Granted, HasReply}
 use Rattle.nfs_model.specs.Events.Refusals.{HasMove, IsStarved, Written, IsBack, HandHas, HasPut, Surveyed}
 use Rattle.nfs_model.specs.Events.Refusals.{refusal, may_lack_memory}
-use Rattle.nfs_model.specs.Events.Feed.{Feeds}
+use Rattle.nfs_model.specs.Events.Feed.{Feeds, feeding}
 
 -- a connection as it is opened
 abbrev pub new_connection : Connection
@@ -65,15 +65,15 @@ abbrev pub without_call : World → ℕ → World
 without_call w worker = record w { workers = changed_at (with_running None) w.workers worker }
 
 -- one more stamp
-abbrev pub stamped : World → World
-stamped w = record w { stamps = w.stamps + 1 }
+abbrev pub stamp_added : World → World
+stamp_added w = record w { stamps = w.stamps + 1 }
 
 -- Finish, by the outcome: a moved message waits again, at the end; another is finished
 abbrev pub finished_by : Setup → World → ℕ → Running → Outcome → World
 finished_by setup w worker r (Replied reply) =
-    finish setup (stamped (without_call w worker)) (finished_call r false) reply
+    finish setup (stamp_added (without_call w worker)) (finished_call r false) reply
 finished_by setup w worker r Starved =
-    finish setup (stamped (without_call w worker)) (finished_call r true) SystemError
+    finish setup (stamp_added (without_call w worker)) (finished_call r true) SystemError
 finished_by setup w worker r (Moved a) =
     record (without_call w worker) { waiting = w.waiting ++ (record r.message { affinity = a }) ∷ [] }
 
@@ -111,7 +111,7 @@ Carries w worker volume c =
 -- the world after it, under one stamp
 abbrev pub carried : World → ℕ → ℕ → Carrying → World
 carried w worker volume c =
-    record (stamped w) {
+    record (stamp_added w) {
       workers = changed_at (with_hand c.hand) w.workers worker;
       parts = slice_set w.parts volume c.parts;
     }
@@ -130,7 +130,7 @@ Happens setup w Open done new =
     (done ≡ Opened (length w.connections))
     × (new ≡ record w { connections = w.connections ++ new_connection ∷ [] })
 Happens setup w (Feed connection bytes) done new =
-    (taken : ℕ) × (stop : ℕ) × (done ≡ Fed taken stop) × Feeds setup connection w bytes taken stop new
+    (taken : ℕ) × (stop : ℕ) × (done ≡ Fed taken stop) × Feeds setup (feeding connection bytes taken stop) w new
 Happens setup w (Close connection) done new =
     (done ≡ IsClosed)
     × (new ≡ record w { connections = changed_at (with_closed (length w.finished)) w.connections connection })
@@ -161,7 +161,7 @@ Happens setup w (Survey worker volume) done new =
     (v : VolumeState) × (p : Parts) × (told : List ℕ)
     × (slice_get w.server.volumes volume ≡ Some v) × (slice_get w.parts volume ≡ Some p)
     × Surveys (v.total / range_blocks) p told
-    × (done ≡ Surveyed told) × (new ≡ stamped w)
+    × (done ≡ Surveyed told) × (new ≡ stamp_added w)
 
 -- the refusal's number, or 90 for want of memory
 abbrev pub Refuses : Setup → World → Event → ℕ → Type 0

@@ -8,7 +8,7 @@ use Rattle.nfs_model.specs.World.{Heard, IsDecoded}
 use Rattle.nfs_model.specs.ReadOnly.{AsksReading}
 use Rattle.nfs_values.specs.declared.procedure.Procedure.{Procedure}
 use Rattle.nfs_values.specs.declared.procedure.Procedure.TheVariants.{Null, GetAttributes, AdminNull}
-use Rattle.nfs_values.specs.Procedure.{is_served}
+use Rattle.nfs_values.specs.Procedure.{is_offered}
 use Rattle.nfs_types.specs.Arguments.{asked, arguments_shape, call_from}
 use Rattle.nfs_types.specs.Shapes.{◌&◌}
 use Rattle.nfs_types.specs.lemmas.Exact.{asked_is}
@@ -52,20 +52,20 @@ asks_decoded : (credential : model.Credential) (r : Result model.Call Unread) �
 asks_decoded credential (Ok call) = tt
 asks_decoded credential (Err fault) = tt
 
--- with a procedure that is served
-asks_reading : (procedure : Procedure) → is_served procedure ≡ true → (credential : model.Credential) (r : Result (Value (arguments_shape procedure)) Unread)
+-- with a procedure that is offered
+asks_reading : (procedure : Procedure) → is_offered procedure ≡ true → (credential : model.Credential) (r : Result (Value (arguments_shape procedure)) Unread)
     → AsksReading (asked_by credential (r >>= λ v. Ok (call_from procedure v)))
-asks_reading procedure served credential (Err fault) = tt
-asks_reading Null served credential (Ok v) = tt
-asks_reading GetAttributes served credential (Ok v) = tt
-asks_reading AdminNull served credential (Ok v) = tt
-asks_reading procedure served credential (Ok v) = absurd cc
+asks_reading procedure offered credential (Err fault) = tt
+asks_reading Null offered credential (Ok v) = tt
+asks_reading GetAttributes offered credential (Ok v) = tt
+asks_reading AdminNull offered credential (Ok v) = tt
+asks_reading procedure offered credential (Ok v) = absurd cc
 
-asked_reading : (procedure : Procedure) → is_served procedure ≡ true → (credential : model.Credential) (bytes : List ℕ)
+asked_reading : (procedure : Procedure) → is_offered procedure ≡ true → (credential : model.Credential) (bytes : List ℕ)
     → AsksReading (asked_by credential (asked procedure bytes))
-asked_reading procedure served credential bytes =
+asked_reading procedure offered credential bytes =
     subst (λ (r : Result model.Call Unread). AsksReading (asked_by credential r)) (sym (asked_is procedure bytes))
-    (asks_reading procedure served credential (all_of (arguments_shape procedure) bytes))
+    (asks_reading procedure offered credential (all_of (arguments_shape procedure) bytes))
 
 -- what holds of what is asked, where it is told
 abbrev pub told : Heard → Result Heard ℕ

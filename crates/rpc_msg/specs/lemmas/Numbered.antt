@@ -1,10 +1,10 @@
--- The procedures that are served, by their numbers.
+-- The procedures that are offered, by their numbers.
 use Rattle.std.proofs.Common.{◌≡◌, ◌≢◌, ℕ, Bool, true, false, cond, ◌&&◌, eqb, List, [], ◌∷◌, Option, Some, None, find, refl, subst}
 use Rattle.std.specs.List.{filter}
 use Rattle.std.proofs.lemmas.Bool.{eqb-true}
 use Rattle.nfs_values.specs.declared.procedure.Procedure.{Procedure}
 use Rattle.nfs_values.specs.declared.procedure.Procedure.TheVariants.{Null, GetAttributes, AdminNull}
-use Rattle.nfs_values.specs.Procedure.{all_procedures, is_served, numbers_of}
+use Rattle.nfs_values.specs.Procedure.{all_procedures, is_offered, numbers_of}
 use Rattle.rpc_msg.specs.Heads.{is_numbered, procedures}
 
 -- ---- what is found among those that are kept
@@ -48,21 +48,21 @@ unequal false y h = refl
 unequal true false h = refl
 unequal true true h = absurd (h refl refl)
 
--- no procedure that is served has the numbers
-pub none_numbered : (program number : ℕ) → ((p : Procedure) → is_served p ≡ true → numbers_of p ≢ (program, number))
+-- no procedure that is offered has the numbers
+pub none_numbered : (program number : ℕ) → ((p : Procedure) → is_offered p ≡ true → numbers_of p ≢ (program, number))
     → find (is_numbered program number) procedures ≡ None
 none_numbered program number h =
-    find-none is_served (is_numbered program number) all_procedures (λ p s.
+    find-none is_offered (is_numbered program number) all_procedures (λ p s.
     unequal (eqb (numbers_of p).0 program) (eqb (numbers_of p).1 number)
     (λ e d. h p s (same_pair (numbers_of p) program number (eqb-true _ _ e) (eqb-true _ _ d))))
 
--- one that is served is found by its numbers
-pub find_again : (p : Procedure) → is_served p ≡ true → find (is_numbered (numbers_of p).0 (numbers_of p).1) procedures ≡ Some p
+-- one that is offered is found by its numbers
+pub find_again : (p : Procedure) → is_offered p ≡ true → find (is_numbered (numbers_of p).0 (numbers_of p).1) procedures ≡ Some p
 find_again Null s = refl
 find_again GetAttributes s = refl
 find_again AdminNull s = refl
 find_again p s = absurd cc
 
-pub some_numbered : (program number : ℕ) (p : Procedure) → numbers_of p ≡ (program, number) → is_served p ≡ true
+pub some_numbered : (program number : ℕ) (p : Procedure) → numbers_of p ≡ (program, number) → is_offered p ≡ true
     → find (is_numbered program number) procedures ≡ Some p
 some_numbered program number p e s = subst (λ (n : ℕ × ℕ). find (is_numbered n.0 n.1) procedures ≡ Some p) e (find_again p s)

@@ -17,7 +17,7 @@ use Rattle.rpc_msg.specs.Room.{refusal_room}
 use Rattle.rpc_msg.specs.Records.{asked_by, heard_from, heard}
 use Rattle.rpc_msg.specs.lemmas.Hearing.{same_heard}
 
--- where a call isn't served, the reply refuses it
+-- where a call isn't offered, the reply refuses it
 abbrev StopsByRefusal : {A : Type 0} → Result A Stop → Type 0
 StopsByRefusal (Ok x) = Unit {0}
 StopsByRefusal (Err Incomplete) = Unit {0}
@@ -49,9 +49,9 @@ available_sound : (procedure : Option Procedure) → StopsByRefusal (available p
 available_sound (Some procedure) = tt
 available_sound None = tt
 
-of_version_sound : (served : Option ℕ) (version : ℕ) (procedure : Option Procedure) → StopsByRefusal (of_version served version procedure)
+of_version_sound : (offered : Option ℕ) (version : ℕ) (procedure : Option Procedure) → StopsByRefusal (of_version offered version procedure)
 of_version_sound None version procedure = tt
-of_version_sound (Some served) version procedure = if_sound (eqb version served) _ _ (available_sound procedure) tt
+of_version_sound (Some offered) version procedure = if_sound (eqb version offered) _ _ (available_sound procedure) tt
 
 acting_sound : (flavor : ℕ) (body : List ℕ) → StopsByRefusal (acting flavor body)
 acting_sound flavor body = if_sound (eqb flavor 0) _ _ tt (user_sound (all_of auth_sys_shape body))

@@ -1,33 +1,33 @@
--- A head that says a call names a procedure that is served.
+-- A head that says a call names a procedure that is offered.
 use Rattle.std.proofs.Common.{◌≡◌, ℕ, true, false, cond, eqb, List, Option, Some, None, Result, Ok, Err, find}
 use Rattle.xdr.specs.Reading.{Reads, read}
 use Rattle.nfs_model.specs.Types as model
 use Rattle.nfs_values.specs.declared.procedure.Procedure.{Procedure}
-use Rattle.nfs_values.specs.Procedure.{all_procedures, is_served}
+use Rattle.nfs_values.specs.Procedure.{all_procedures, is_offered}
 use Rattle.rpc_msg.specs.Replies.{auth_shape}
 use Rattle.rpc_msg.specs.Heads.{◌>>=◌, Stop, Incomplete, Refuse, Body, Head, Call, Refused, Faulty, whole, version_at, numbers_shape, credential_at}
 use Rattle.rpc_msg.specs.Heads.{version_of, procedures, is_numbered, available, of_version, procedure_of, xid_of, body_at, under, head_from}
 use Rattle.rpc_msg.specs.lemmas.Numbered.{FoundIs, found_is}
 
 abbrev FoundServes : Result Procedure Stop → Type 0
-FoundServes (Ok procedure) = is_served procedure ≡ true
+FoundServes (Ok procedure) = is_offered procedure ≡ true
 FoundServes (Err stop) = Unit {0}
 
-available_serves : (procedure : Option Procedure) → FoundIs is_served procedure → FoundServes (available procedure)
+available_serves : (procedure : Option Procedure) → FoundIs is_offered procedure → FoundServes (available procedure)
 available_serves (Some procedure) f = f
 available_serves None f = tt
 
-version_serves : (served : Option ℕ) (version : ℕ) (procedure : Option Procedure) → FoundIs is_served procedure
-    → FoundServes (of_version served version procedure)
+version_serves : (offered : Option ℕ) (version : ℕ) (procedure : Option Procedure) → FoundIs is_offered procedure
+    → FoundServes (of_version offered version procedure)
 version_serves None version procedure f = tt
-version_serves (Some served) version procedure f =
-    elim (eqb version served) as (λ b. FoundServes (cond b (available procedure) (Err (Refuse (model.ProgramMismatch served served))))) [
+version_serves (Some offered) version procedure f =
+    elim (eqb version offered) as (λ b. FoundServes (cond b (available procedure) (Err (Refuse (model.ProgramMismatch offered offered))))) [
       | true ↦ available_serves procedure f
       | false ↦ tt
     ]
 
 abbrev BodyServes : Result Body Stop → Type 0
-BodyServes (Ok body) = is_served body.procedure ≡ true
+BodyServes (Ok body) = is_offered body.procedure ≡ true
 BodyServes (Err stop) = Unit {0}
 
 then_serves : {A : Type 0} (r : Result A Stop) (f : A → Result Body Stop) → ((x : A) → BodyServes (f x)) → BodyServes (r >>= f)
@@ -47,10 +47,10 @@ body_serves bytes =
     then_serves (whole (read auth_shape c.1)) _ (λ v.
     ends_serving (procedure_of n.0.0 n.0.1.0 n.0.1.1.0) c.0 v.1
     (version_serves (version_of n.0.0) n.0.1.0 (find (is_numbered n.0.0 n.0.1.1.0) procedures)
-    (found_is is_served (is_numbered n.0.0 n.0.1.1.0) all_procedures))))))
+    (found_is is_offered (is_numbered n.0.0 n.0.1.1.0) all_procedures))))))
 
 abbrev pub HeadServes : Head → Type 0
-HeadServes (Call xid procedure credential arguments) = is_served procedure ≡ true
+HeadServes (Call xid procedure credential arguments) = is_offered procedure ≡ true
 HeadServes (Refused xid reply) = Unit {0}
 HeadServes (Faulty number) = Unit {0}
 

@@ -5,10 +5,10 @@ use Rattle.nfs_model.specs.Tree as trees
 use Rattle.nfs_model.specs.Work as tasks
 use Rattle.nfs_model.specs.World as worlds
 use Rattle.nfs_model.specs.Events.Refusals as events
-use Rattle.nfs_model.specs.Events.Step.{stamped, without_call, finished_call}
+use Rattle.nfs_model.specs.Events.Step.{stamp_added, without_call, finished_call}
 use Rattle.nfs_values.specs.Answer.{answer_of}
 use Rattle.affinity_tree.specs.Layout.{layout_of}
-use Rattle.engine.specs.Seen.{tried, world, setup_in, running_of, outcome_of}
+use Rattle.engine.specs.Seen.{or_serial, world, setup_in, running_of, outcome_of}
 use Rattle.affinity_tree.specs.Affinity.{affinity_of}
 use Rattle.engine.specs.Sound.{opened}
 use Rattle.engine.proofs.Rooms.{placed-running, release-unseen}
@@ -27,7 +27,7 @@ returns-clause-events c =
     let reply : types.Reply = types.Success (answer_of answer) in
     let written = world c.respond-count.new.state in
     let released = release-unseen r.message.origin.connection.0 r.message.room c.respond-count.new.state c.release.new.state c.release.ensures in
-    let home = sym (ap tried (placed-running layout (opened s) s.running r c.requires.running some).at_home) in
+    let home = sym (ap or_serial (placed-running layout (opened s) s.running r c.requires.running some).at_home) in
     let kept = c.keep_entry.ensures.kept
     ∙ ap (λ (v : worlds.World). record v {
       finished = v.finished ++ record
@@ -47,7 +47,7 @@ returns-clause-events c =
         ap (option_map (running_of layout)) some,
         ap (option_map outcome_of) answered,
         ap (events.Written r.message.origin.connection.0) c.respond-count.ensures.count,
-        finished (setup_in s) (stamped (without_call w c.args.worker)) _ _ _
+        finished (setup_in s) (stamp_added (without_call w c.args.worker)) _ _ _
             (finished_call (running_of layout r) false) reply c.respond-count.ensures.written kept before,
       ),
     )

@@ -7,7 +7,7 @@ use Rattle.nfs_values.specs.declared.call.Call.{Call}
 use Rattle.nfs_values.specs.Answer.{answer_of}
 use Rattle.nfs_values.specs.Call.{call_of}
 use Rattle.affinity_tree.specs.Layout.{layout_of}
-use Rattle.engine.specs.Served.{IsAnswer}
+use Rattle.engine.specs.Offered.{IsAnswer}
 use Rattle.engine.specs.Seen.{world, running_of, server_of, kept_by}
 use Rattle.engine.specs.declared.message.Running.{Running}
 use Rattle.engine.specs.declared.parcel.VolumeLogical.{VolumeLogical}
@@ -36,7 +36,7 @@ returns-in-Some-clause-events c =
         worlds.store_of w,
         only-there layout s.running c.args.worker c.if-worker-ne0.false,
         ap (option_map (running_of layout)) some,
-        works s r answer some c.requires.lent c.as_call.ensures.served answered,
+        works s r answer some c.requires.lent c.as_call.ensures.reading answered,
         refl,
         changes-same w w.waiting w.waiting _ _ _ _ refl
             (only-changed layout s.running (Some (running_of layout worked)) c.args.worker c.if-worker-ne0.false)

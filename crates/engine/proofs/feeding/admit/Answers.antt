@@ -45,4 +45,4 @@ returns-in-Some-clause-sound c =
     let size = c.room_of_reply-room.ensures.room ∙ ap (λ (n : ℕ). reply_room n (call_of c.as_call-in-Some.result.now)) c.volume_count.ensures.count
     ∙ ap (λ (k : Call). reply_room (length layout.volumes) (call_of k)) c.as_call-in-Some.ensures.value in
     waits-sound c.args.state.now c.wait.new.state _ c.wait.ensures.waits c.requires.sound c.requires.room c.requires.places c.requires.connected
-    c.len.ensures c.as_call.ensures.served size at_home
+    c.len.ensures c.as_call.ensures.reading size at_home

@@ -1,4 +1,5 @@
 use Rattle.std.proofs.Common.{ℕ, true, false, refl, sym, subst, ◌∙◌, arith, inl}
+use Rattle.nfs_model.specs.Events.Feed.{feeding}
 use Rattle.nfs_laws.specs.Walk.{Walks}
 use Rattle.engine.specs.Numbers.{stop_number}
 use Rattle.engine.specs.Seen.{setup_in, world}
@@ -30,8 +31,8 @@ returns-clause-events c =
     let new = world c.feed_open-taken.new.state in
     let taking = taking-is s c.args.connection true c.requires
     (omega (arith, c.if-connection-len.false, c.len.ensures, s.past.ok.0)) c.if-not-takes_input.ensures in
-    let walks : Walks (setup_in s) c.args.connection (world s) c.args.bytes.now taken stop new =
-    subst (λ (n : ℕ). Walks (setup_in s) n (world s) c.args.bytes.now taken stop new) (sym (c.if-connection-len.false
+    let walks : Walks (setup_in s) (feeding c.args.connection c.args.bytes.now taken stop) (world s) new =
+    subst (λ (n : ℕ). Walks (setup_in s) (feeding n c.args.bytes.now taken stop) (world s) new) (sym (c.if-connection-len.false
     ∙ c.len.ensures)) c.feed_open-taken.ensures.walks in (
       taking,
       (

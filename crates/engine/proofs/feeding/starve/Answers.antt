@@ -2,7 +2,7 @@ use Rattle.std.proofs.Common.{◌≡◌, ℕ, refl, subst}
 use Rattle.nfs_model.specs.Types as types
 use Rattle.nfs_model.specs.Replay as replays
 use Rattle.nfs_model.specs.World as worlds
-use Rattle.nfs_model.specs.Events.Feed.{call_undecoded}
+use Rattle.nfs_model.specs.Events.Feed.{feeding, call_undecoded}
 use Rattle.engine.specs.Seen.{setup_in, world}
 use Rattle.engine.proofs.Workers.{finished}
 use Rattle.engine.proofs.feeding.starve.Goals as goal

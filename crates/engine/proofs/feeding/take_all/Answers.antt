@@ -3,6 +3,7 @@ use Rattle.std.specs.Prelude.{Option}
 use Rattle.engine.specs.declared.event.Stop.{Stop}
 use Rattle.engine.specs.Numbers.{stop_number}
 use Rattle.engine.specs.Seen.{setup_in, world}
+use Rattle.nfs_model.specs.Events.Feed.{feeding}
 use Rattle.nfs_laws.specs.Walk.{Walks}
 use Rattle.engine.specs.Sound.{TakesIn}
 use Rattle.engine.specs.Feeding.{FeedsPart, TakesAll}
@@ -23,7 +24,7 @@ returns-in-Some-clause-walks c =
     stops (setup_in m) (setup_in s) (vec_len m.past) (vec_len s.past) (world s) (world m) w c.args.bytes.now c.loop-taken.taken count
     (stop_number c.in-Some.stop)
     i.setup (ap (λ p. vec_len p) i.past) i.within i.all
-    (subst (λ (bs : List ℕ). Walks (setup_in m) (vec_len m.past) (world m) bs count (stop_number c.in-Some.stop) w) rest some)
+    (subst (λ (bs : List ℕ). Walks (setup_in m) (feeding (vec_len m.past) bs count (stop_number c.in-Some.stop)) (world m) w) rest some)
 
 pub loop-taken-preserved : goal.loop-taken-preserved
 loop-taken-preserved c =

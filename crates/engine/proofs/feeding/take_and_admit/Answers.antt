@@ -5,7 +5,7 @@ use Rattle.engine.specs.declared.connection.Arrival.TheVariants as arrivals
 use Rattle.engine.specs.declared.state.State.{State}
 use Rattle.engine.specs.Seen.{heard_of, setup_in, world}
 use Rattle.engine.specs.Sound.{records_of}
-use Rattle.nfs_model.specs.Events.Feed.{bytes_taken}
+use Rattle.nfs_model.specs.Events.Feed.{feeding, bytes_taken}
 use Rattle.engine.proofs.Fed.{part, arrived, arrived_as, room-unseen, not-crowded, feeds-nothing, more-admitted, fault-admitted, nothing-admitted}
 use Rattle.engine.proofs.Fed.{heard-admitted}
 use Rattle.engine.proofs.feeding.take_and_admit.Goals as goal
@@ -13,7 +13,7 @@ use Rattle.engine.proofs.feeding.take_and_admit.Goals as goal
 pub returns-then-is_err-clause-feeds : goal.returns-then-is_err-clause-feeds
 returns-then-is_err-clause-feeds c =
     let s = c.args.state.now in
-    subst (Walks (setup_in s) (vec_len s.past) (world s) c.args.bytes.now 0 90) (sym (room-unseen s c.make_room.new.state c.make_room.ensures.same))
+    subst (Walks (setup_in s) (feeding (vec_len s.past) c.args.bytes.now 0 90) (world s)) (sym (room-unseen s c.make_room.new.state c.make_room.ensures.same))
     (feeds-nothing (setup_in s) (vec_len s.past) (world s) c.args.bytes.now c.requires.some (not-crowded s c.requires.places))
 
 pub returns-in-NoMemory-clause-feeds : goal.returns-in-NoMemory-clause-feeds

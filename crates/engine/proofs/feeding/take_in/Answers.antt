@@ -1,7 +1,7 @@
 use Rattle.std.proofs.Common.{List, arith, ap, take}
 use Rattle.nfs_model.specs.World as worlds
 use Rattle.engine.specs.Seen.{world}
-use Rattle.nfs_model.specs.Events.Feed.{with_bytes}
+use Rattle.nfs_model.specs.Events.Feed.{feeding, with_bytes}
 use Rattle.engine.proofs.Fed.{last-becomes, open-taken}
 use Rattle.engine.proofs.feeding.take_in.Goals as goal
 

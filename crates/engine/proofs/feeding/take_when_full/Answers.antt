@@ -6,7 +6,7 @@ use Rattle.engine.specs.declared.connection.Arrival.TheVariants as arrivals
 use Rattle.engine.specs.Seen.{setup_in, world}
 use Rattle.engine.specs.Sound.{AdmitsNone, stands_at}
 use Rattle.engine.specs.Feeding.{TakesAll}
-use Rattle.nfs_model.specs.Events.Feed.{bytes_taken}
+use Rattle.nfs_model.specs.Events.Feed.{feeding, bytes_taken}
 use Rattle.engine.proofs.Fed.{fed, arrived, arrived_as, crowded, part-more, no-bytes}
 use Rattle.engine.proofs.Full.{full-stop, full-nothing, full-fault, take-within}
 use Rattle.engine.proofs.feeding.take_when_full.Goals as goal
@@ -22,8 +22,8 @@ returns-then-free-eq0-clause-feeds c =
     let stop = full-stop s f.0 w (vec_len s.past) c.args.bytes.now free (stands_at s.current) f.2 at crowd
     (omega (arith, c.requires.some, c.if-free-eq0.true)) (c.free_bytes-free.ensures.next (omega (arith, c.requires.some, c.if-free-eq0.true))) in
     let none : bytes_taken w (vec_len s.past) (take free c.args.bytes.now) ≡ w = no-bytes w (vec_len s.past) free c.args.bytes.now c.if-free-eq0.true in
-    subst (λ (n : ℕ). Walks (setup_in s) (vec_len s.past) w c.args.bytes.now n 31 w) c.if-free-eq0.true
-    (subst (Walks (setup_in s) (vec_len s.past) w c.args.bytes.now free 31) none stop)
+    subst (λ (n : ℕ). Walks (setup_in s) (feeding (vec_len s.past) c.args.bytes.now n 31) w w) c.if-free-eq0.true
+    (subst (Walks (setup_in s) (feeding (vec_len s.past) c.args.bytes.now free 31) w) none stop)
 
 pub returns-in-NoMemory-clause-feeds : goal.returns-in-NoMemory-clause-feeds
 returns-in-NoMemory-clause-feeds c =
@@ -39,8 +39,8 @@ returns-in-NoMemory-clause-feeds c =
     let nothing = full-nothing s f.0 w (vec_len s.past) c.args.bytes.now free
     (stands_at s.current) f.2 at c.requires.some c.if-free-eq0.false c.free_bytes-free.ensures.none in
     let none : w ≡ world c.take_in-taken.new.state = sym (c.take_in-taken.ensures.taken ∙ no-bytes w (vec_len s.past) c.take_in-taken.result.0 given zero) in
-    subst (λ (n : ℕ). Walks (setup_in s) (vec_len s.past) w c.args.bytes.now n 90 (world c.take_in-taken.new.state)) (sym zero)
-    (subst (Walks (setup_in s) (vec_len s.past) w c.args.bytes.now 0 90) none nothing)
+    subst (λ (n : ℕ). Walks (setup_in s) (feeding (vec_len s.past) c.args.bytes.now n 90) w (world c.take_in-taken.new.state)) (sym zero)
+    (subst (Walks (setup_in s) (feeding (vec_len s.past) c.args.bytes.now 0 90) w) none nothing)
 
 pub returns-in-Fault-clause-feeds : goal.returns-in-Fault-clause-feeds
 returns-in-Fault-clause-feeds c =
@@ -74,8 +74,8 @@ returns-then-free-bytes-clause-feeds c =
     (c.free_bytes-free.ensures.next c.if-free-bytes.true) in
     let new : bytes_taken w (vec_len s.past) given ≡ world c.take_in-taken.new.state =
     sym (c.take_in-taken.ensures.taken ∙ ap (bytes_taken w (vec_len s.past)) (take_all c.take_in-taken.result.0 given (omega (arith, k.0)))) in
-    subst (λ (n : ℕ). Walks (setup_in s) (vec_len s.past) w c.args.bytes.now n 31 (world c.take_in-taken.new.state)) (sym all)
-    (subst (Walks (setup_in s) (vec_len s.past) w c.args.bytes.now free 31) new stop)
+    subst (λ (n : ℕ). Walks (setup_in s) (feeding (vec_len s.past) c.args.bytes.now n 31) w (world c.take_in-taken.new.state)) (sym all)
+    (subst (Walks (setup_in s) (feeding (vec_len s.past) c.args.bytes.now free 31) w) new stop)
 
 pub returns-else-free-bytes-clause-feeds : goal.returns-else-free-bytes-clause-feeds
 returns-else-free-bytes-clause-feeds c =

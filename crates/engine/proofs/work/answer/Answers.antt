@@ -6,7 +6,7 @@ use Rattle.nfs_values.specs.Call.{call_of}
 use Rattle.nfs_values.specs.Handle.{named_of}
 use Rattle.nfs_values.specs.Answer.{attributes_shown, result_of}
 use Rattle.affinity_tree.specs.Layout.{layout_of}
-use Rattle.engine.specs.Served.{IsAnswer}
+use Rattle.engine.specs.Offered.{IsAnswer}
 use Rattle.engine.proofs.Serving.{getattr-answer, getattr-bad}
 use Rattle.engine.proofs.work.answer.Goals as goal
 

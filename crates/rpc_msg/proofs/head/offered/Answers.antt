@@ -1,7 +1,7 @@
 use Rattle.std.proofs.Common.{refl, rules}
 use Rattle.std.proofs.lemmas.Bool.Decides.{nat_tests}
 use Rattle.rpc_msg.specs.lemmas.Numbered.{none_numbered}
-use Rattle.rpc_msg.proofs.head.served.Goals as goal
+use Rattle.rpc_msg.proofs.head.offered.Goals as goal
 
 pub returns-in-None : goal.returns-in-None
 returns-in-None c =

@@ -1,4 +1,4 @@
-//! What is asked and answered, with the procedures that are served so far. What the types hold
+//! What is asked and answered, with the procedures that are offered so far. What the types hold
 //! widens with that set.
 
 ghost use Rattle.std.specs.Prelude.{◌≡◌};
@@ -11,13 +11,13 @@ ghost use Rattle.engine.specs.Short.{IsShort, IsShortAnswer};
 use nfs_values::{Answer, Call, Reply};
 use std::marker::Model;
 
-/// A call of a procedure that is served.
+/// A call of a procedure that is offered.
 #[derive(Drop)]
-pub struct ServedCall {
+pub struct OfferedCall {
     call: Call,
 }
 
-impl Model for ServedCall {
+impl Model for OfferedCall {
     ghost use Rattle.nfs_values.specs.declared.call.Call.{Call};
 
     ghost Value = { Call };
@@ -30,29 +30,29 @@ impl Model for ServedCall {
     ghost invariant = { λ s. IsReading (call_of s.call) };
 }
 
-impl ServedCall {
-    pub(crate) fn new(call: Call) -> ServedCall
+impl OfferedCall {
+    pub(crate) fn new(call: Call) -> OfferedCall
         requires { IsReading (call_of call) }
         ensures { result ≡ call }
     {
-        ServedCall { call }
+        OfferedCall { call }
     }
 
     pub fn as_call(&self) -> &Call
         ensures value { result.now ≡ self.now }
-        ensures served { IsReading (call_of self.now) }
+        ensures reading { IsReading (call_of self.now) }
     {
         &self.call
     }
 }
 
-/// An answer to a call that is served.
+/// An answer to a call that is offered.
 #[derive(Drop)]
-pub struct ServedAnswer {
+pub struct OfferedAnswer {
     answer: Answer,
 }
 
-impl Model for ServedAnswer {
+impl Model for OfferedAnswer {
     ghost use Rattle.nfs_values.specs.declared.answer.Answer.{Answer};
 
     ghost Value = { Answer };
@@ -65,19 +65,19 @@ impl Model for ServedAnswer {
     ghost invariant = { λ s. IsShortAnswer (answer_of s.answer) };
 }
 
-impl ServedAnswer {
-    pub(crate) fn new(answer: Answer) -> ServedAnswer
+impl OfferedAnswer {
+    pub(crate) fn new(answer: Answer) -> OfferedAnswer
         requires { IsShortAnswer (answer_of answer) }
         ensures { result ≡ answer }
     {
-        ServedAnswer { answer }
+        OfferedAnswer { answer }
     }
 
     pub fn into_answer(self) -> Answer
         ensures value { result ≡ self }
         ensures short { IsShortAnswer (answer_of self) }
     {
-        let ServedAnswer { answer } = self;
+        let OfferedAnswer { answer } = self;
         answer
     }
 }

@@ -1,0 +1,133 @@
+//! Records typed from the standard, each with its reply or the stop that it leads to. Words are in
+//! hex, and spaces are for reading.
+
+use crate::events::{expect, joined};
+use crate::texts::LAYOUT;
+use std::alloc::{AllocError, Global};
+use std::test::Fail;
+
+/// A record that is fed, what is printed of it, and the reply where it is answered at once.
+#[derive(Clone, Copy)]
+struct Head {
+    record: &'static str,
+    printed: &'static str,
+    reply: Option<&'static str>,
+}
+
+/// Heads that are answered, credentials, and what ends a stream.
+const HEADS: [Head; 14] = [
+    // RPC version 3, and no credential there
+    Head {
+        record: "8000000c 00000003 00000000 00000003",
+        printed: "conn 0\ntaken 16 stop 0\nout 0 ",
+        reply: Some("80000018 00000003 00000001 00000001 00000000 00000002 00000002"),
+    },
+    // version 2 of NFS, procedure 99, program 100005
+    Head {
+        record: "80000028 00000005 00000000 00000002 000186a3 00000002 00000000 00000000 00000000 \
+        00000000 00000000",
+        printed: "conn 0\ntaken 44 stop 0\nout 0 ",
+        reply: Some("80000020 00000005 00000001 00000000 00000000 00000000 00000002 00000003 00000003"),
+    },
+    Head {
+        record: "80000028 00000005 00000000 00000002 000186a3 00000003 00000063 00000000 00000000 \
+        00000000 00000000",
+        printed: "conn 0\ntaken 44 stop 0\nout 0 ",
+        reply: Some("80000018 00000005 00000001 00000000 00000000 00000000 00000003"),
+    },
+    Head {
+        record: "80000028 00000005 00000000 00000002 000186a5 00000003 00000000 00000000 00000000 \
+        00000000 00000000",
+        printed: "conn 0\ntaken 44 stop 0\nout 0 ",
+        reply: Some("80000018 00000005 00000001 00000000 00000000 00000000 00000001"),
+    },
+    // NULL of the admin program, and its version 2
+    Head {
+        record: "80000028 00000009 00000000 00000002 20000001 00000001 00000000 00000000 00000000 \
+        00000000 00000000",
+        printed: "conn 0\ntaken 44 stop 0\nout 0 ",
+        reply: Some("80000018 00000009 00000001 00000000 00000000 00000000 00000000"),
+    },
+    Head {
+        record: "80000028 00000009 00000000 00000002 20000001 00000002 00000000 00000000 00000000 \
+        00000000 00000000",
+        printed: "conn 0\ntaken 44 stop 0\nout 0 ",
+        reply: Some("80000020 00000009 00000001 00000000 00000000 00000000 00000002 00000001 00000001"),
+    },
+    // AUTH_SYS of uid 1000 and gid 100
+    Head {
+        record: "8000003c 00000009 00000000 00000002 000186a3 00000003 00000000 00000001 00000014 \
+        00000000 00000000 000003e8 00000064 00000000 00000000 00000000",
+        printed: "conn 0\ntaken 64 stop 0\nout 0 ",
+        reply: Some("80000018 00000009 00000001 00000000 00000000 00000000 00000000"),
+    },
+    // AUTH_SYS with 17 groups, and flavor 6
+    Head {
+        record: "80000080 00000009 00000000 00000002 000186a3 00000003 00000000 00000001 00000058 \
+        00000000 00000000 00000000 00000000 00000011 00000000 00000000 00000000 00000000 \
+        00000000 00000000 00000000 00000000 00000000 00000000 00000000 00000000 00000000 \
+        00000000 00000000 00000000 00000000 00000000 00000000",
+        printed: "conn 0\ntaken 132 stop 0\nout 0 ",
+        reply: Some("80000014 00000009 00000001 00000001 00000001 00000001"),
+    },
+    Head {
+        record: "80000028 00000009 00000000 00000002 000186a3 00000003 00000000 00000006 00000000 \
+        00000000 00000000",
+        printed: "conn 0\ntaken 44 stop 0\nout 0 ",
+        reply: Some("80000014 00000009 00000001 00000001 00000001 00000002"),
+    },
+    // a record that ends after a credential's length of 401
+    Head {
+        record: "80000020 00000009 00000000 00000002 000186a3 00000003 00000000 00000000 00000191",
+        printed: "conn 0\ntaken 36 stop 0\nout 0 ",
+        reply: Some("80000014 00000009 00000001 00000001 00000001 00000001"),
+    },
+    // seven bytes, and a message that is no call
+    Head {
+        record: "80000007 00000001000000",
+        printed: "conn 0\ntaken 11 stop 12\n",
+        reply: None,
+    },
+    Head {
+        record: "80000008 00000001 00000001",
+        printed: "conn 0\ntaken 12 stop 13\n",
+        reply: None,
+    },
+    // no length of a credential, and a verifier's length of 401
+    Head {
+        record: "8000001c 00000009 00000000 00000002 000186a3 00000003 00000000 00000000",
+        printed: "conn 0\ntaken 32 stop 12\n",
+        reply: None,
+    },
+    Head {
+        record: "80000028 00000009 00000000 00000002 000186a3 00000003 00000000 00000000 00000000 \
+        00000000 00000191",
+        printed: "conn 0\ntaken 44 stop 12\n",
+        reply: None,
+    },
+];
+
+/// Text without its spaces.
+fn squeezed(alloc: Global, text: &str) -> Result<String, AllocError> {
+    let mut digits = String::new(alloc);
+    for part in text.split(' ') {
+        digits.push_str(part)?;
+    }
+    Ok(digits)
+}
+
+#[test]
+fn heads_are_answered(rt: HostRuntime) -> Result<(), Fail> {
+    let alloc = rt.alloc();
+    for head in HEADS {
+        let record = squeezed(alloc, head.record)?;
+        let script = joined(alloc, &[LAYOUT, "open\nfeed 0 ", &record, "\n"])?;
+        let mut printed = String::from_str(alloc, head.printed)?;
+        if let Some(reply) = head.reply {
+            printed.push_str(&squeezed(alloc, reply)?)?;
+            printed.push_str("\n")?;
+        }
+        expect(&rt, script.as_bytes(), 0, &printed);
+    }
+    Ok(())
+}

@@ -1,0 +1,17 @@
+//! Scripts, command lines and lists of events, with what each gives, typed from the standards.
+#![tactic(auto)]
+
+#[cfg(test)]
+mod devices;
+#[cfg(test)]
+mod events;
+#[cfg(test)]
+mod heads;
+#[cfg(test)]
+mod lines;
+#[cfg(test)]
+mod lists;
+#[cfg(test)]
+mod streams;
+#[cfg(test)]
+mod texts;
