@@ -24,12 +24,7 @@ pub(crate) fn joined(alloc: Global, pieces: &[&str]) -> Result<String, AllocErro
 }
 
 /// Runs a script, and looks at its status and at all that it prints.
-pub(crate) fn expect(
-    rt: &(impl Abort + AllocGlobal),
-    script: &[u8],
-    status: u8,
-    printed: &str,
-) {
+pub(crate) fn expect(rt: &(impl Abort + AllocGlobal), script: &[u8], status: u8, printed: &str) {
     let mut reader = script;
     let mut out = Vec::new(rt.alloc());
     assert_eq!(rt; replay(rt.alloc(), &mut reader, &mut out), status);
@@ -40,11 +35,22 @@ pub(crate) fn expect(
 const ROWS: [Row; 11] = [
     // calls are answered
     Row {
-        script: &[LAYOUT, "open\nfeed 0 ", NULL, "\nfeed 0 ", GETATTR, "\n", RUN],
+        script: &[
+            LAYOUT,
+            "open\nfeed 0 ",
+            NULL,
+            "\nfeed 0 ",
+            GETATTR,
+            "\n",
+            RUN,
+        ],
         status: 0,
         printed: &[
-            "conn 0\ntaken 44 stop 0\nout 0 ", NULL_REPLY,
-            "\ntaken 60 stop 0\ngranted logical 0\nreply\nout 0 ", GETATTR_REPLY, "\n"
+            "conn 0\ntaken 44 stop 0\nout 0 ",
+            NULL_REPLY,
+            "\ntaken 60 stop 0\ngranted logical 0\nreply\nout 0 ",
+            GETATTR_REPLY,
+            "\n",
         ],
     },
     Row {
@@ -61,36 +67,56 @@ const ROWS: [Row; 11] = [
         script: &[LAYOUT, "open\nfeed 0 ", ABSENT, "\n", RUN],
         status: 0,
         printed: &[
-            "conn 0\ntaken 60 stop 0\ngranted logical 0\nreply\nout 0 ", ABSENT_REPLY, "\n"
+            "conn 0\ntaken 60 stop 0\ngranted logical 0\nreply\nout 0 ",
+            ABSENT_REPLY,
+            "\n",
         ],
     },
     // two replies in one feed are two lines
     Row {
         script: &[
-            LAYOUT, "open\nfeed 0 ", NULL, NULL, "\nclose 0\nopen\nfeed 1 ", NULL, "\n"
+            LAYOUT,
+            "open\nfeed 0 ",
+            NULL,
+            NULL,
+            "\nclose 0\nopen\nfeed 1 ",
+            NULL,
+            "\n",
         ],
         status: 0,
         printed: &[
-            "conn 0\ntaken 88 stop 0\nout 0 ", NULL_REPLY, "\nout 0 ", NULL_REPLY,
-            "\nclosed 0\nconn 1\ntaken 44 stop 0\nout 1 ", NULL_REPLY, "\n"
+            "conn 0\ntaken 88 stop 0\nout 0 ",
+            NULL_REPLY,
+            "\nout 0 ",
+            NULL_REPLY,
+            "\nclosed 0\nconn 1\ntaken 44 stop 0\nout 1 ",
+            NULL_REPLY,
+            "\n",
         ],
     },
     // a fault ends a connection, whose earlier calls are answered; a close ends it before its call
     Row {
         script: &[
-            LAYOUT, "open\nfeed 0 ", GETATTR, GETATTR, "80020001\n", RUN,
-            "begin 0 0 1 0\nclose 0\nwork 0\nfinish 0\nfeed 0 -\n"
+            LAYOUT,
+            "open\nfeed 0 ",
+            GETATTR,
+            GETATTR,
+            "80020001\n",
+            RUN,
+            "begin 0 0 1 0\nclose 0\nwork 0\nfinish 0\nfeed 0 -\n",
         ],
         status: 1,
         printed: &[
-            "conn 0\ntaken 124 stop 11\ngranted logical 0\nreply\nout 0 ", GETATTR_REPLY,
-            "\ngranted logical 0\nclosed 0\nreply\nout 0 -\nrefused 36\n"
+            "conn 0\ntaken 124 stop 11\ngranted logical 0\nreply\nout 0 ",
+            GETATTR_REPLY,
+            "\ngranted logical 0\nclosed 0\nreply\nout 0 -\nrefused 36\n",
         ],
     },
     // a record of 7 bytes, then nothing more is taken
     Row {
         script: &[
-            LAYOUT, "open\nfeed 0 8000000700000001000000\nfeed 0 -\nclose 0\n"
+            LAYOUT,
+            "open\nfeed 0 8000000700000001000000\nfeed 0 -\nclose 0\n",
         ],
         status: 1,
         printed: &["conn 0\ntaken 11 stop 12\nrefused 36\nclosed 0\n"],
@@ -103,19 +129,23 @@ const ROWS: [Row; 11] = [
     // refusals
     Row {
         script: &[
-            LAYOUT, "close 0\nfeed 4294967295 00\nwork 0\nfinish 0\nbegin 0 0 1 0\n\
-            begin 1 0 1 0\nopen\nopen\nfeed 1 -\nfeed 0 -\nfeed 0 ", GETATTR, GETATTR,
+            LAYOUT,
+            "close 0\nfeed 4294967295 00\nwork 0\nfinish 0\nbegin 0 0 1 0\n\
+            begin 1 0 1 0\nopen\nopen\nfeed 1 -\nfeed 0 -\nfeed 0 ",
+            GETATTR,
+            GETATTR,
             "\nbegin 0 2 1 0\nbegin 0 0 1 1000000000\nbegin 0 0 1 999999999\nbegin 0 0 1 0\n\
             work 1\nfinish 1\nfinish 0\nwork 0\nwork 0\nfinish 0\nfinish 0\nclose 0\nclose 0\n\
-            feed 0 00\n"
+            feed 0 00\n",
         ],
         status: 1,
         printed: &[
             "refused 36\nrefused 36\nrefused 34\nrefused 34\nrefused 32\nrefused 33\nconn 0\n\
             refused 31\nrefused 36\ntaken 0 stop 0\ntaken 120 stop 0\nrefused 32\nrefused 37\n\
             granted logical 0\nrefused 33\nrefused 34\nrefused 34\nrefused 35\nreply\n\
-            refused 34\nout 0 ", GETATTR_REPLY,
-            "\nrefused 34\nclosed 0\nrefused 36\nrefused 36\n"
+            refused 34\nout 0 ",
+            GETATTR_REPLY,
+            "\nrefused 34\nclosed 0\nrefused 36\nrefused 36\n",
         ],
     },
     // every volume of the largest layout has its root
@@ -123,11 +153,16 @@ const ROWS: [Row; 11] = [
         script: &[
             "aggregate 128\naggregate 0\nvolume 1 16\nvolume 1 16\nvolume 0 1\nvolume 1 16\n\
             volume 1 16\nvolume 1 16\nvolume 1 16\nvolume 1 16\nstart 1 0102030405060708\n\
-            open\nfeed 0 ", GETATTR_OF_7, "\n", RUN
+            open\nfeed 0 ",
+            GETATTR_OF_7,
+            "\n",
+            RUN,
         ],
         status: 0,
         printed: &[
-            "conn 0\ntaken 60 stop 0\ngranted logical 7\nreply\nout 0 ", GETATTR_OF_7_REPLY, "\n"
+            "conn 0\ntaken 60 stop 0\ngranted logical 7\nreply\nout 0 ",
+            GETATTR_OF_7_REPLY,
+            "\n",
         ],
     },
     Row {

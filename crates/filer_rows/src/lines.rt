@@ -32,11 +32,26 @@ const LAYOUTS: [(&str, &str); 29] = [
     ("aggregate 1\nvolume 0 1\n", "bad line 3\n"),
     ("start 1 0102030405060708\n", "bad line 1\n"),
     ("aggregate 1\nstart 1 0102030405060708\n", "bad line 2\n"),
-    ("aggregate 1\nvolume 0 1\nstart 0 0102030405060708\n", "bad line 3\n"),
-    ("aggregate 1\nvolume 0 1\nstart 2 0102030405060708\n", "bad line 3\n"),
-    ("aggregate 1\nvolume 0 1\nstart 1 01020304050607\n", "bad line 3\n"),
-    ("aggregate 1\nvolume 0 1\nstart 1 010203040506070\n", "bad line 3\n"),
-    ("aggregate 1\nvolume 0 1\nstart 1 01020304050607AB\n", "bad line 3\n"),
+    (
+        "aggregate 1\nvolume 0 1\nstart 0 0102030405060708\n",
+        "bad line 3\n",
+    ),
+    (
+        "aggregate 1\nvolume 0 1\nstart 2 0102030405060708\n",
+        "bad line 3\n",
+    ),
+    (
+        "aggregate 1\nvolume 0 1\nstart 1 01020304050607\n",
+        "bad line 3\n",
+    ),
+    (
+        "aggregate 1\nvolume 0 1\nstart 1 010203040506070\n",
+        "bad line 3\n",
+    ),
+    (
+        "aggregate 1\nvolume 0 1\nstart 1 01020304050607AB\n",
+        "bad line 3\n",
+    ),
     ("aggregate 1\nvolume 0 1\nstart 1 -\n", "bad line 3\n"),
     (
         "aggregate 1\nvolume 0 1\nstart 1 0102030405060708\n# no line feed",
