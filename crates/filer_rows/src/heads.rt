@@ -1,5 +1,5 @@
-//! Records typed from the standard, each with its reply or the stop that it leads to. Each text is a
-//! word, in hex.
+//! Records typed from the standard, each with its reply or the stop that it leads to. Each text is
+//! a word, in hex.
 
 use crate::events::{expect, joined};
 use crate::texts::LAYOUT;
