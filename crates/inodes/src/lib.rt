@@ -1,0 +1,8 @@
+//! Inodes of a volume: attributes and kinds by fileid.
+#![tactic(auto)]
+
+mod inode;
+mod inodes;
+
+pub use inode::{Inode, InodeKind, StoredAttributes};
+pub use inodes::Inodes;
