@@ -8,11 +8,15 @@ use Rattle.std.specs.FinMap.{FinMap, get, insert, remove, empty, from_sorted, ge
 use Rattle.nfs_model.specs.Types.{Moment}
 use Rattle.nfs_values.specs.declared.number.Fileid.{Fileid}
 use Rattle.volume_values.specs.Inodes as values
-use Rattle.volume_values.specs.Inodes.{IsInodes, InodesValue, filled_blocks, settled_inode, inode_settled, inode_replaced, inode_set, inode_created, inode_dropped, used_without, opening_inodes, root_inode}
-use Rattle.volume_values.specs.lemmas.Inodes.{filled-within}
+use Rattle.volume_values.specs.Inodes.{IsInodes, InodesValue, filled_blocks, settled_inode, inode_settled, inode_replaced, inode_set, inode_created, inode_dropped, inode_unmade, used_without, opening_inodes, root_inode}
+use Rattle.volume_values.specs.lemmas.Inodes.{filled-within, unmade-is}
 use Rattle.inodes.specs.declared.inode.Inode.{Inode}
 use Rattle.inodes.specs.Inode.{inode_value, kind_value, inode_map, inodes_value}
 use Rattle.inodes.proofs.Tables.{found, get-found, inserted, removed, replaced, unchanged, changed}
+
+-- what is equal to inodes is inodes
+pub kept : (v w : InodesValue) → v ≡ w → IsInodes w → IsInodes v
+kept v w e i = subst IsInodes (sym e) i
 
 first-alone : insert (empty {R = nat_cmp}) 1 root_inode ≡ from_sorted ((1, root_inode) ∷ [])
 first-alone = same_map nat_cmp_total nat_cmp-IsAntisymmetric (insert empty 1 root_inode) (from_sorted ((1, root_inode) ∷ [])) (λ q.
@@ -31,7 +35,7 @@ module _ (next : Fileid) (used : ℕ) (old new : List (ℕ × Inode)) where
 
   pub settled : (k : ℕ) (touch : Option Moment)
       → ((q : ℕ) → option_map inode_value (found new q)
-        ≡ (if q == k then option_map (λ (x : Inode). settled_inode touch (inode_value x)) (found old q) else option_map inode_value (found old q)))
+      ≡ (if q == k then option_map (λ (x : Inode). settled_inode touch (inode_value x)) (found old q) else option_map inode_value (found old q)))
       → inodes_value next used new ≡ inode_settled k touch (inodes_value next used old)
   settled k touch h = ap (λ m. record { next = next.0; used = used; inodes = m }) (changed (settled_inode touch) old new k h)
 
@@ -68,3 +72,7 @@ module _ (next : Fileid) (used : ℕ) (old new : List (ℕ × Inode)) where
   dropped-nothing k h f =
       ap (λ m. record { next = next.0; used = used; inodes = m }) (removed old new k f)
       ∙ ap (λ o. record { next = next.0; used = used_without used o; inodes = remove (inode_map old) k }) (sym (has k None h))
+
+-- what is left without the inode made last
+pub unmade : (v w : InodesValue) → w ≡ inode_dropped (v.next - 1) v → IsInodes v → IsInodes (record w { next = v.next - 1 })
+unmade v w e i = kept (record w { next = v.next - 1 }) (inode_unmade v) (ap (λ (x : InodesValue). record x { next = v.next - 1 }) e) (unmade-is v i)

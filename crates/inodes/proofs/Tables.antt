@@ -106,6 +106,7 @@ changed g old new k h = same new (changed_at g k (inode_map old)) (λ q. h q ∙
     both : (o : Option Inode) → option_map (λ (x : Inode). g (inode_value x)) o ≡ option_map g (option_map inode_value o)
     both None = refl
     both (Some x) = refl
+
     by : (q : ℕ) (b : Bool) → b ≡ (q == k)
         → (if b then option_map (λ (x : Inode). g (inode_value x)) (found old q) else option_map inode_value (found old q))
         ≡ (if b then option_map g (get (inode_map old) k) else get (inode_map old) q)

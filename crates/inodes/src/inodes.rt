@@ -6,6 +6,8 @@ ghost use Rattle.std.specs.Prelude.{
   ◌<◌,
   ◌^◌,
   ◌&&◌,
+  ◌-◌,
+  true,
   ℕ,
   None,
   Some,
@@ -28,6 +30,7 @@ ghost use Rattle.volume_values.specs.Inodes.{
   inode_set,
   inode_created,
   inode_dropped,
+  inode_unmade,
 };
 ghost use Rattle.inodes.specs.Inode.{inode_value, HasSettled};
 
@@ -146,6 +149,18 @@ impl Inodes {
         if let Some(inode) = self.by_fileid.remove(&fileid.0) {
             self.used -= u64::from(inode.kind.filled());
         }
+    }
+
+    /// Undoes the creation that came last, for a call that couldn't get all its memory: the
+    /// inode is gone, and its fileid, which nobody was told, is the next again. It takes no
+    /// memory.
+    pub fn undo_create(&mut self)
+        requires { is_some (inode_of self.old (self.old.next - 1)) ≡ true }
+        ensures { self.new ≡ inode_unmade self.old }
+    {
+        let fileid = Fileid(self.next.0 - 1);
+        self.drop_node(fileid);
+        self.next = fileid;
     }
 }
 

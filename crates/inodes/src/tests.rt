@@ -37,6 +37,13 @@ fn create(inodes: &mut Inodes, inode: Inode) -> Result<Fileid, AllocError> {
     inodes.create(inode)
 }
 
+/// Sets an inode where the condition for it holds.
+fn set(inodes: &mut Inodes, fileid: Fileid, inode: Inode) {
+    if inodes.used() < 1 << 62 {
+        inodes.set(fileid, inode);
+    }
+}
+
 #[test]
 fn three_files(rt: HostRuntime) -> Result<(), Fail> {
     let mut inodes = Inodes::new(rt.alloc())?;
@@ -50,6 +57,11 @@ fn three_files(rt: HostRuntime) -> Result<(), Fail> {
     inodes.drop_node(Fileid(2));
     inodes.drop_node(Fileid(2));
     assert_eq!(rt; inodes.get(Fileid(2)), None);
+    assert_eq!(rt; (inodes.len(), inodes.used()), (3, 16));
+    assert_eq!(rt; create(&mut inodes, file(1, 1))?, Fileid(5));
+    if inodes.get(Fileid(inodes.next_fileid().0 - 1)).is_some() {
+        inodes.undo_create();
+    }
     assert_eq!(rt; (inodes.len(), inodes.used()), (3, 16));
     assert_eq!(rt; create(&mut inodes, file(1, 1))?, Fileid(5));
 
@@ -67,5 +79,24 @@ fn three_files(rt: HostRuntime) -> Result<(), Fail> {
         inodes.get(Fileid(3)).map(|inode| inode.attributes),
         Some(held)
     );
+
+    set(&mut inodes, Fileid(3), file(4096, 1));
+    set(&mut inodes, Fileid(2), file(4096, 1));
+    assert_eq!(rt; (inodes.len(), inodes.used()), (4, 18));
+    assert_eq!(rt; inodes.get(Fileid(3)), Some(file(4096, 1)));
+    assert_eq!(rt; inodes.get(Fileid(2)), None);
+    assert_eq!(rt; inodes.get(Fileid(4)), Some(file(65536, 16)));
+    Ok(())
+}
+
+#[test]
+fn as_many_as_a_volume_has(rt: HostRuntime) -> Result<(), Fail> {
+    let mut inodes = Inodes::new(rt.alloc())?;
+    for number in 2..65537 {
+        assert_eq!(rt; create(&mut inodes, file(number, 0))?, Fileid(number));
+    }
+    assert_eq!(rt; inodes.len(), 65536);
+    assert_eq!(rt; inodes.get(Fileid(40000)), Some(file(40000, 0)));
+    assert_eq!(rt; inodes.get(Fileid(65537)), None);
     Ok(())
 }

@@ -87,6 +87,10 @@ used_without used (Some inode) = used - filled_blocks inode.kind
 abbrev pub inode_dropped : ℕ → InodesValue → InodesValue
 inode_dropped fileid v = record v { used = used_without v.used (get v.inodes fileid); inodes = remove v.inodes fileid }
 
+-- the inode made last gone as if it had never been made: its fileid is the next again
+abbrev pub inode_unmade : InodesValue → InodesValue
+inode_unmade v = record (inode_dropped (v.next - 1) v) { next = v.next - 1 }
+
 -- ---- what holds of them
 
 -- Fileids are below the next one, and the used count is that of all filled blocks.

@@ -11,11 +11,12 @@ use Rattle.std.specs.FinMap.{FinMap, get, insert, remove, entries, len, find, pu
 use Rattle.std.specs.FinMap.{get-insert, get-remove, get-from_sorted, get-entries, entries-insert, entries-from_sorted}
 use Rattle.std.specs.FinMap.{len-insert, len-remove, same_map, nat_cmp-IsAntisymmetric}
 use Rattle.std.specs.FinMap.Entries.{by_order}
+use Rattle.std.proofs.lemmas.Bool.Decides.{nat_tests}
 use Rattle.std.proofs.lemmas.Map.Views.{exact_unsigned_eq}
 use Rattle.nfs_model.specs.Types.{Moment}
 use Rattle.volume_values.specs.Maps.{changed_value, changed_at}
 use Rattle.volume_values.specs.Inodes.{Inode, InodesValue, inode_of, filled_blocks, blocks_filled, settled_inode, inode_settled}
-use Rattle.volume_values.specs.Inodes.{inode_replaced, inode_set, inode_created, used_without, inode_dropped, IsInodes, opening_inodes, root_inode}
+use Rattle.volume_values.specs.Inodes.{inode_replaced, inode_set, inode_created, used_without, inode_dropped, inode_unmade, IsInodes, opening_inodes, root_inode}
 
 -- ---- maps by numbers
 
@@ -45,6 +46,15 @@ module _ {X : Type 0} where
 
   pub remove-absent : (m : FinMap nat_cmp X) (k : ℕ) → get m k ≡ None → remove m k ≡ m
   remove-absent m k h = same (remove m k) m (λ q. get-remove_at m k q ∙ as_before m k q None h)
+
+  -- what was put in can be taken out again
+  pub remove-inserted : (m : FinMap nat_cmp X) (k : ℕ) (x : X) → get m k ≡ None → remove (insert m k x) k ≡ m
+  remove-inserted m k x h = same (remove (insert m k x) k) m (λ q.
+      get-remove_at (insert m k x) k q ∙ (ap (λ o. if q == k then None else o) (get-insert_at m k x q) ∙ (by (q == k) (get m q) ∙ as_before m k q None h)))
+    where
+      by : (b : Bool) (o : Option X) → (if b then None else (if b then Some x else o)) ≡ (if b then None else o)
+      by true o = refl
+      by false o = refl
 
   insert-removed : (m : FinMap nat_cmp X) (k : ℕ) (x : X) → insert (remove m k) k x ≡ insert m k x
   insert-removed m k x = same (insert (remove m k) k x) (insert m k x) (λ q.
@@ -281,3 +291,33 @@ dropped-is v fileid i = record {
     by : (o : Option Inode) → get v.inodes fileid ≡ o → used_without v.used o ≡ blocks_filled (entries (remove v.inodes fileid))
     by None h = i.filled ∙ ap (λ m. blocks_filled (entries m)) (sym (remove-absent v.inodes fileid h))
     by (Some old) h = let s = filled-split v.inodes fileid old h in let u = i.filled in omega (arith, s, u)
+
+pub unmade-is : (v : InodesValue) → IsInodes v → IsInodes (inode_unmade v)
+unmade-is v i = record {
+  fileids = λ f y h. by f y (f == (v.next - 1)) refl (sym (get-remove_at v.inodes (v.next - 1) f) ∙ h);
+  filled = (dropped-is v (v.next - 1) i).filled;
+}
+  where
+    by : (f : ℕ) (y : Inode) (b : Bool) → b ≡ (f == (v.next - 1)) → (if b then None else get v.inodes f) ≡ Some y → f < v.next - 1
+    by f y true p g = absurd (grind (arith, g))
+    by f y false p g = let l = i.fileids f y g in grind (arith, nat_tests, p, l)
+
+-- one made and unmade leaves all as it was
+pub unmade-created : (v : InodesValue) (inode : Inode) → IsInodes v → inode_unmade (inode_created inode v) ≡ v
+unmade-created v inode i =
+    let made = insert v.inodes v.next inode in
+    let last : v.next + 1 - 1 ≡ v.next = omega arith in
+    let found : get made (v.next + 1 - 1) ≡ Some inode = ap (get made) last ∙ inode-created-there v inode in
+    let gone : v.used + filled_blocks inode.kind - filled_blocks inode.kind ≡ v.used = omega arith in
+    let back : remove made v.next ≡ v.inodes = remove-inserted v.inodes v.next inode (next-absent v i) in
+    λ x. record {
+      next = last x;
+      used = (ap (used_without (v.used + filled_blocks inode.kind)) found ∙ gone) x;
+      inodes = (ap (remove made) last ∙ back) x;
+    }
+
+-- the fileid that was given last has an inode after a creation
+pub made-last : (v : InodesValue) (inode : Inode) → is_some (inode_of (inode_created inode v) ((inode_created inode v).next - 1)) ≡ true
+made-last v inode =
+    let last : v.next + 1 - 1 ≡ v.next = omega arith in
+    ap (λ q. is_some (inode_of (inode_created inode v) q)) last ∙ ap (λ o. is_some o) (inode-created-there v inode)

@@ -1,7 +1,7 @@
 use Rattle.std.proofs.Common.{◌∙◌}
 use Rattle.volume_values.specs.lemmas.Inodes.{set-is}
 use Rattle.inodes.specs.Inode.{inode_value, inodes_value}
-use Rattle.inodes.proofs.Changes.{within, set, set-nothing}
+use Rattle.inodes.proofs.Changes.{kept, within, set, set-nothing}
 use Rattle.inodes.proofs.inodes.Inodes.set.Goals as goal
 
 pub overflow_sub-left : goal.overflow_sub-left
@@ -12,7 +12,7 @@ overflow_sub-left c =
 pub invariant_of-self : goal.invariant_of-self
 invariant_of-self c =
     let old = c.self.inside.by_fileid.entries in
-    rw (set c.self.inside.next c.self.inside.used old c.replace.new.inodes.entries c.args.fileid.0 c.args.inode c.in-Some.old c.from.result
+    kept _ _ (set c.self.inside.next c.self.inside.used old c.replace.new.inodes.entries c.args.fileid.0 c.args.inode c.in-Some.old c.from.result
     c.from-in-Some.result (c.from.ensures ∙ c.filled.ensures) (c.from-in-Some.ensures ∙ c.filled-in-Some.ensures) c.in-Some.ensures.old
     c.in-Some.ensures.others)
     (set-is (inodes_value c.self.inside.next c.self.inside.used old) c.args.fileid.0 (inode_value c.args.inode) c.self.invariant)
@@ -20,7 +20,7 @@ invariant_of-self c =
 pub invariant_of-self-in_default : goal.invariant_of-self-in_default
 invariant_of-self-in_default c =
     let old = c.self.inside.by_fileid.entries in
-    rw (set-nothing c.self.inside.next c.self.inside.used old c.replace.new.inodes.entries c.args.fileid.0 c.args.inode c.in_default.ensures.old
+    kept _ _ (set-nothing c.self.inside.next c.self.inside.used old c.replace.new.inodes.entries c.args.fileid.0 c.args.inode c.in_default.ensures.old
     c.in_default.ensures.others)
     (set-is (inodes_value c.self.inside.next c.self.inside.used old) c.args.fileid.0 (inode_value c.args.inode) c.self.invariant)
 
