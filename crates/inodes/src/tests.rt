@@ -44,6 +44,14 @@ fn set(inodes: &mut Inodes, fileid: Fileid, inode: Inode) {
     }
 }
 
+/// Undoes a creation where the condition for it holds.
+fn undo_create(inodes: &mut Inodes) {
+    let next = inodes.next_fileid().0;
+    if next > 0 && inodes.get(Fileid(next - 1)).is_some() {
+        inodes.undo_create();
+    }
+}
+
 #[test]
 fn three_files(rt: HostRuntime) -> Result<(), Fail> {
     let mut inodes = Inodes::new(rt.alloc())?;
@@ -59,9 +67,7 @@ fn three_files(rt: HostRuntime) -> Result<(), Fail> {
     assert_eq!(rt; inodes.get(Fileid(2)), None);
     assert_eq!(rt; (inodes.len(), inodes.used()), (3, 16));
     assert_eq!(rt; create(&mut inodes, file(1, 1))?, Fileid(5));
-    if inodes.get(Fileid(inodes.next_fileid().0 - 1)).is_some() {
-        inodes.undo_create();
-    }
+    undo_create(&mut inodes);
     assert_eq!(rt; (inodes.len(), inodes.used()), (3, 16));
     assert_eq!(rt; create(&mut inodes, file(1, 1))?, Fileid(5));
 
