@@ -15,7 +15,7 @@ use Rattle.std.proofs.lemmas.Cmp.{eq_by_cmp_equiv}
 use Rattle.std.proofs.lemmas.Map.Views.{exact_unsigned_eq}
 use Rattle.volume_values.specs.Inodes as values
 use Rattle.volume_values.specs.Maps.{changed_at}
-use Rattle.volume_values.specs.lemmas.Inodes.{get-changed_at}
+use Rattle.volume_values.specs.lemmas.Numbered.{get-changed_at}
 use Rattle.inodes.specs.declared.inode.Inode.{Inode}
 use Rattle.inodes.specs.Inode.{inode_value, inode_map}
 

@@ -1,89 +1,25 @@
 -- What is found after an inode is made, set, settled or dropped, and that fileids stay below the next one and the used
 -- count that of all filled blocks.
 use Rattle.std.proofs.Common.{◌≡◌, refl, sym, ap, ◌∙◌, ℕ, ◌+◌, ◌-◌, ◌<◌, ◌≤◌, Bool, true, false, cond, ◌==◌}
-use Rattle.std.proofs.Common.{◌&&◌, List, [], ◌∷◌, length, Option, Some, None, is_some, if◌then◌else◌, arith, eq-eqb}
+use Rattle.std.proofs.Common.{◌&&◌, List, [], ◌∷◌, length, Option, Some, None, is_some, if◌then◌else◌, arith}
 use Rattle.std.specs.declared.cmp.Ordering.{Ordering}
 use Rattle.std.specs.declared.cmp.Ordering.TheVariants.{Less, Equal, Greater}
 use Rattle.std.specs.Option.{option_map}
 use Rattle.std.specs.Ordering.{nat_cmp, is_eq}
 use Rattle.std.specs.Cmp.{nat_cmp_total, unsigned_tied}
 use Rattle.std.specs.FinMap.{FinMap, get, insert, remove, entries, len, find, put}
-use Rattle.std.specs.FinMap.{get-insert, get-remove, get-from_sorted, get-entries, entries-insert, entries-from_sorted, len-entries}
-use Rattle.std.specs.FinMap.{len-insert, len-remove, same_map, nat_cmp-IsAntisymmetric}
+use Rattle.std.specs.FinMap.{get-from_sorted, get-entries, entries-insert, entries-from_sorted, len-entries}
+use Rattle.std.specs.FinMap.{len-insert, len-remove}
 use Rattle.std.specs.FinMap.Entries.{by_order}
 use Rattle.std.proofs.lemmas.Bool.Decides.{nat_tests}
 use Rattle.std.proofs.lemmas.Map.Views.{exact_unsigned_eq}
 use Rattle.nfs_model.specs.Types.{Moment}
-use Rattle.volume_values.specs.Maps.{changed_value, changed_at}
+use Rattle.volume_values.specs.Maps.{changed_value}
+use Rattle.volume_values.specs.lemmas.Numbered.{itself, get-insert_at, get-remove_at, get-changed_at, len-changed_at, insert-same, insert-twice}
+use Rattle.volume_values.specs.lemmas.Numbered.{insert-removed, removed-absent, remove-inserted, remove-absent}
 use Rattle.volume_values.specs.Inodes.{Inode, InodesValue, inode_of, filled_blocks, blocks_filled, settled_inode, inode_settled}
 use Rattle.volume_values.specs.Inodes.{inode_replaced, inode_set, inode_created, used_without, inode_dropped, inode_unmade}
 use Rattle.volume_values.specs.Inodes.{IsInodes, opening_inodes, root_inode}
-
--- ---- maps by numbers
-
-pub itself : (k : ℕ) → (k == k) ≡ true
-itself k = eq-eqb k k refl
-
-module _ {X : Type 0} where
-  get-insert_at : (m : FinMap nat_cmp X) (k : ℕ) (x : X) (q : ℕ) → get (insert m k x) q ≡ (if q == k then Some x else get m q)
-  get-insert_at m k x q = get-insert nat_cmp_total m k x q ∙ ap (λ b. cond b (Some x) (get m q)) (unsigned_tied q k)
-
-  get-remove_at : (m : FinMap nat_cmp X) (k q : ℕ) → get (remove m k) q ≡ (if q == k then None else get m q)
-  get-remove_at m k q = get-remove nat_cmp_total m k q ∙ ap (λ b. cond b None (get m q)) (unsigned_tied q k)
-
-  same : (m n : FinMap nat_cmp X) → ((q : ℕ) → get m q ≡ get n q) → m ≡ n
-  same m n h = same_map nat_cmp_total nat_cmp-IsAntisymmetric m n h
-
-  -- a key that has what it is given answers as before
-  pub as_before : (m : FinMap nat_cmp X) (k q : ℕ) (o : Option X) → get m k ≡ o → (if q == k then o else get m q) ≡ get m q
-  as_before m k q o h = by (q == k) refl
-    where
-      by : (b : Bool) → b ≡ (q == k) → (if b then o else get m q) ≡ get m q
-      by true p = sym h ∙ ap (get m) (sym (exact_unsigned_eq q k (sym p)))
-      by false p = refl
-
-  pub insert-same : (m : FinMap nat_cmp X) (k : ℕ) (x : X) → get m k ≡ Some x → insert m k x ≡ m
-  insert-same m k x h = same (insert m k x) m (λ q. get-insert_at m k x q ∙ as_before m k q (Some x) h)
-
-  pub remove-absent : (m : FinMap nat_cmp X) (k : ℕ) → get m k ≡ None → remove m k ≡ m
-  remove-absent m k h = same (remove m k) m (λ q. get-remove_at m k q ∙ as_before m k q None h)
-
-  -- what was put in can be taken out again
-  pub remove-inserted : (m : FinMap nat_cmp X) (k : ℕ) (x : X) → get m k ≡ None → remove (insert m k x) k ≡ m
-  remove-inserted m k x h = same (remove (insert m k x) k) m (λ q.
-      get-remove_at (insert m k x) k q ∙ (ap (λ o. if q == k then None else o) (get-insert_at m k x q) ∙ (by (q == k) (get m q) ∙ as_before m k q None h)))
-    where
-      by : (b : Bool) (o : Option X) → (if b then None else (if b then Some x else o)) ≡ (if b then None else o)
-      by true o = refl
-      by false o = refl
-
-  insert-twice : (m : FinMap nat_cmp X) (k : ℕ) (x y : X) → insert (insert m k x) k y ≡ insert m k y
-  insert-twice m k x y = same (insert (insert m k x) k y) (insert m k y) (λ q.
-      get-insert_at (insert m k x) k y q ∙ (ap (λ o. if q == k then Some y else o) (get-insert_at m k x q)
-      ∙ (by (q == k) (get m q) ∙ sym (get-insert_at m k y q))))
-    where
-      by : (b : Bool) (o : Option X) → (if b then Some y else (if b then Some x else o)) ≡ (if b then Some y else o)
-      by true o = refl
-      by false o = refl
-
-  insert-removed : (m : FinMap nat_cmp X) (k : ℕ) (x : X) → insert (remove m k) k x ≡ insert m k x
-  insert-removed m k x = same (insert (remove m k) k x) (insert m k x) (λ q.
-      get-insert_at (remove m k) k x q ∙ (ap (λ o. if q == k then Some x else o) (get-remove_at m k q)
-      ∙ (by (q == k) (get m q) ∙ sym (get-insert_at m k x q))))
-    where
-      by : (b : Bool) (o : Option X) → (if b then Some x else (if b then None else o)) ≡ (if b then Some x else o)
-      by true o = refl
-      by false o = refl
-
-  removed-absent : (m : FinMap nat_cmp X) (k : ℕ) → get (remove m k) k ≡ None
-  removed-absent m k = get-remove_at m k k ∙ ap (λ b. if b then None else get m k) (itself k)
-
-  pub get-changed_at : (g : X → X) (k : ℕ) (m : FinMap nat_cmp X) (q : ℕ) → get (changed_at g k m) q ≡ (if q == k then option_map g (get m k) else get m q)
-  get-changed_at g k m q = by (get m k) refl
-    where
-      by : (o : Option X) → get m k ≡ o → get (changed_value g o k m) q ≡ (if q == k then option_map g o else get m q)
-      by None h = sym (as_before m k q None h)
-      by (Some x) h = get-insert_at m k (g x) q
 
 -- ---- the blocks of inodes
 
@@ -284,12 +220,7 @@ len-set v fileid inode = by (get v.inodes fileid) refl
     by (Some old) h = len-insert nat_cmp_total v.inodes fileid inode ∙ ap (λ o. cond (is_some o) (len v.inodes) (len v.inodes + 1)) h
 
 pub len-settled : (v : InodesValue) (fileid : ℕ) (touch : Option Moment) → len (inode_settled fileid touch v).inodes ≡ len v.inodes
-len-settled v fileid touch = by (get v.inodes fileid) refl
-  where
-    by : (o : Option Inode) → get v.inodes fileid ≡ o → len (changed_value (settled_inode touch) o fileid v.inodes) ≡ len v.inodes
-    by None h = refl
-    by (Some old) h =
-        len-insert nat_cmp_total v.inodes fileid (settled_inode touch old) ∙ ap (λ o. cond (is_some o) (len v.inodes) (len v.inodes + 1)) h
+len-settled v fileid touch = len-changed_at (settled_inode touch) fileid v.inodes
 
 pub len-dropped : (v : InodesValue) (fileid : ℕ)
     → len (inode_dropped fileid v).inodes ≡ (if is_some (inode_of v fileid) then len v.inodes - 1 else len v.inodes)
