@@ -8,10 +8,10 @@ ghost use Rattle.engine.specs.Seen.{setup_in, world, answer_of};
 ghost use Rattle.engine.specs.Sound.{IsSound};
 ghost use Rattle.engine.specs.Words.{Does, HasItsSetup};
 
+use crate::asked::OfferedAnswer;
 use crate::event::{Done, Refusal};
 use crate::finishing::{keep_entry, release, respond};
 use crate::message::{Request, Running};
-use crate::asked::OfferedAnswer;
 use crate::state::{SECOND, STAMPS, State};
 use crate::work;
 use nfs_values::{Moment, Reply};

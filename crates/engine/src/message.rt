@@ -1,7 +1,7 @@
 //! Calls on their way: waiting, running and finished.
 
+use crate::asked::{OfferedAnswer, OfferedCall, Refused};
 use crate::parcel::VolumeLogical;
-use crate::asked::{Refused, OfferedAnswer, OfferedCall};
 use affinity_tree::Affinity;
 use nfs_values::{ConnectionNumber, Credential, Moment};
 

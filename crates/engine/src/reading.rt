@@ -4,9 +4,9 @@ ghost use Rattle.std.specs.Prelude.{◌≡◌};
 ghost use Rattle.engine.specs.Codec.{heard};
 ghost use Rattle.engine.specs.Records.{IsReadAs, fault_of};
 
+use crate::asked::{OfferedCall, Refused};
 use crate::event::StreamFault;
 use crate::message::{Heard, Request};
-use crate::asked::{Refused, OfferedCall};
 use std::alloc::Global;
 
 /// What was read of a record.

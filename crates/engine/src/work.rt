@@ -14,8 +14,8 @@ ghost use Rattle.engine.specs.Seen.{root_of, volume_seen};
 ghost use Rattle.engine.specs.Offered.{IsAnswer};
 ghost use Rattle.engine.specs.Short.{IsShortAnswer};
 
-use crate::parcel::VolumeLogical;
 use crate::asked::OfferedCall;
+use crate::parcel::VolumeLogical;
 use affinity::named_by;
 use affinity_tree::Layout;
 use nfs_values::{Answer, Attributes, Call, FileKind, Fileid, Named, Status, VolumeNumber};

@@ -103,7 +103,7 @@ abbrev pub coded_logical : Coded LogicalValue
 coded_logical =
     code_by ((List ℕ × (ℕ × ℕ)) × (InodesValue × (FinMap nat_cmp DirectoryValue × (FinSet nat_cmp × FinSet nat_cmp))))
     (coded× (coded× (coded_list coded_ℕ) (coded× coded_ℕ coded_ℕ))
-      (coded× coded_inodes (coded× (maps.code coded_ℕ coded_directory) (coded× (sets.code coded_ℕ) (sets.code coded_ℕ)))))
+    (coded× coded_inodes (coded× (maps.code coded_ℕ coded_directory) (coded× (sets.code coded_ℕ) (sets.code coded_ℕ)))))
     (λ l. ((l.verifier, (l.stripes, l.largest)), (l.inodes, (l.directories, (l.stock, l.dead)))))
     (λ p. record {
       verifier = p.0.0;
