@@ -1,0 +1,4 @@
+pub mod Rising
+pub mod Bits
+pub mod Counted
+pub mod Single
