@@ -1,4 +1,5 @@
 pub mod Rising
 pub mod Bits
+pub mod Taken
 pub mod Counted
 pub mod Single
