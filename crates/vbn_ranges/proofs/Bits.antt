@@ -18,7 +18,7 @@ use Rattle.vbn_ranges.proofs.Rising.{is_in, Rising, rising-weaker, rising-append
 
 -- ---- one word
 
-odd : (size first word : ℕ) → word % 2 ≡ 1 → bits_from (suc size) first word ≡ first ∷ bits_from size (first + 1) (word / 2)
+pub odd : (size first word : ℕ) → word % 2 ≡ 1 → bits_from (suc size) first word ≡ first ∷ bits_from size (first + 1) (word / 2)
 unfolding bits_from
 odd size first word e = ap (λ n. if n == 1 then first ∷ bits_from size (first + 1) (word / 2) else bits_from size (first + 1) (word / 2)) e
 

@@ -1,5 +1,6 @@
 -- How many bits of words are set.
-use Rattle.std.proofs.Common.{◌≡◌, refl, sym, ap, subst, ◌∙◌, ℕ, ◌+◌, ◌*◌, ◌^◌, ◌<◌, ◌≤◌, List, [], ◌∷◌, length, map, get_or, arith, w64}
+use Rattle.std.proofs.Common.{◌≡◌, refl, sym, ap, subst, ◌∙◌, ℕ, ◌+◌, ◌*◌, ◌^◌, ◌<◌, ◌≤◌, List, [], ◌∷◌, length, map, take, get_or, arith, w64}
+use Rattle.std.proofs.Math.Seq.{take-length}
 use mir.Val.{Fits}
 use lib.Count.{ones}
 use lib.Lanes.{sum_l, fold_l, Steps}
@@ -22,16 +23,19 @@ same-numbers : (ns : List ℕ) → map (λ n. n) ns ≡ ns
 same-numbers [] = refl
 same-numbers (n ∷ ns) = ap (λ ms. n ∷ ms) (same-numbers ns)
 
+lanes : (words : List ℕ) → length words ≡ 16 → map (λ n. n) (map ones (take 16 words)) ≡ map ones words
+lanes words n = same-numbers (map ones (take 16 words)) ∙ ap (map ones) (ap (λ k. take k words) (sym n) ∙ take-length words)
+
 pub sum-fits : (words : List ℕ) → length words ≡ 16 → ((k : ℕ) → get_or words k 0 < 2 ^ 64)
-    → Steps (λ s x. Fits w64 (s + x)) (λ s x. s + x) 0 (map (λ n. n) (map ones words))
+    → Steps (λ s x. Fits w64 (s + x)) (λ s x. s + x) 0 (map (λ n. n) (map ones (take 16 words)))
 sum-fits words n l =
-    subst (λ ns. Steps (λ s x. Fits w64 (s + x)) (λ s x. s + x) 0 ns) (sym (same-numbers (map ones words)))
+    subst (λ ns. Steps (λ s x. Fits w64 (s + x)) (λ s x. s + x) 0 ns) (sym (lanes words n))
     (sum_fits w64 0 (map ones words) (let few = sum-few words l in omega arith))
 
-pub sum-is : (first : ℕ) (words : List ℕ) → ((k : ℕ) → get_or words k 0 < 2 ^ 64)
-    → fold_l (λ s x. s + x) 0 (map (λ n. n) (map ones words)) ≡ length (members first words)
-sum-is first words l =
+pub sum-is : (first : ℕ) (words : List ℕ) → length words ≡ 16 → ((k : ℕ) → get_or words k 0 < 2 ^ 64)
+    → fold_l (λ s x. s + x) 0 (map (λ n. n) (map ones (take 16 words))) ≡ length (members first words)
+sum-is first words n l =
     let is = members-count first words l in
-    let sum : fold_l (λ s x. s + x) 0 (map (λ n. n) (map ones words)) ≡ 0 + sum_l (map ones words) =
-        ap (fold_l (λ s x. s + x) 0) (same-numbers (map ones words)) ∙ fold-sum 0 (map ones words) in
+    let sum : fold_l (λ s x. s + x) 0 (map (λ n. n) (map ones (take 16 words))) ≡ 0 + sum_l (map ones words) =
+        ap (fold_l (λ s x. s + x) 0) (lanes words n) ∙ fold-sum 0 (map ones words) in
     omega arith

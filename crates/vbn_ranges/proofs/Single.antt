@@ -25,7 +25,7 @@ has-is words place =
     ∙ ap (λ n. not (eqb n 0)) (and_pow word k)
     ∙ tested (bit_at word k) (2 ^ k) (bit_at-lt word k) (pow_pos k)
 
-same : (a b : ℕ) → (a ≡ b) ⊎ (a ≡ b → ⊥)
+pub same : (a b : ℕ) → (a ≡ b) ⊎ (a ≡ b → ⊥)
 same a b = ⊎_elim (λ l. inr (λ e. omega arith)) (λ l. ⊎_elim (λ m. inr (λ e. omega arith)) (λ m. inl (omega arith)) (cases_lt b a)) (cases_lt a b)
 
 itself : (n place : ℕ) (t : Bool) → n ≡ place → true ≡ (n == place || t)

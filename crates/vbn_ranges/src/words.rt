@@ -1,6 +1,6 @@
 //! Sets of numbers as the bits of 16 words.
 
-ghost use Rattle.std.specs.Prelude.{◌≡◌, ◌==◌, ◌||◌, ◌<◌, ◌*◌, ◌^◌, ℕ, slice_index, take, drop, min, length};
+ghost use Rattle.std.specs.Prelude.{◌≡◌, ◌==◌, ◌||◌, ◌<◌, ◌*◌, ℕ, take, drop, min, length};
 ghost use Rattle.std.specs.List.{prefix_len};
 ghost use Rattle.nfs_model.specs.Parts.{most_carried, most_ranges, range_blocks};
 ghost use Rattle.vbn_ranges.specs.Words.{members, has_bit};
@@ -23,12 +23,12 @@ pub fn first_filled(words: &[u64; 16]) -> usize
     }
 }
 
-/// The number of bits that are set.
-pub fn count(words: &[u64; 16]) -> usize
-    requires { (k : ℕ) → slice_index words.now k < 2 ^ 64 }
+/// The number of bits of 16 words that are set.
+pub fn count(words: &[u64]) -> usize
+    requires { length words.now ≡ 16 }
     ensures { (first : ℕ) → result ≡ length (members first words.now) }
 {
-    u64x16::from_array(*words).count_ones().strict_reduce_sum() as usize
+    u64x16::from_slice(words).count_ones().strict_reduce_sum() as usize
 }
 
 /// Whether a bit is set.
