@@ -4,5 +4,7 @@ pub mod Taken
 pub mod Marked
 pub mod Each
 pub mod Ranged
+pub mod Stocked
+pub mod DeadSets
 pub mod Counted
 pub mod Single

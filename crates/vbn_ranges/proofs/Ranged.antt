@@ -14,7 +14,7 @@ use Rattle.vbn_ranges.specs.Batch.{IsOfOneRange, batch_range}
 use Rattle.vbn_ranges.proofs.Rising.{is_in, Rising, within-rising}
 use Rattle.vbn_ranges.proofs.Marked.{with-none}
 
-not-both : (t : Bool) → t ≡ true → t ≡ false → ⊥
+pub not-both : (t : Bool) → t ≡ true → t ≡ false → ⊥
 not-both true a b = cc
 not-both false a b = cc
 
