@@ -6,5 +6,7 @@ pub mod Each
 pub mod Ranged
 pub mod Stocked
 pub mod DeadSets
+pub mod DeadTaken
+pub mod DeadCounts
 pub mod Counted
 pub mod Single

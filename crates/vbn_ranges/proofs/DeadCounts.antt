@@ -1,0 +1,192 @@
+-- How many numbers are dead, and the batch of the lowest.
+use Rattle.std.proofs.Common.{◌≡◌, refl, sym, ap, subst, ◌∙◌, ℕ, zero, suc, ◌+◌, ◌-◌, ◌*◌, ◌/◌, ◌<◌, ◌≤◌, Bool, true, false, not, ◌||◌, ◌&&◌, nat_eq, cond}
+use Rattle.std.proofs.Common.{List, [], ◌∷◌, ◌++◌, length, take, map, get_or, Option, Some, None, ◌⊎◌, inl, inr, ⊎_elim, add-zero, arith}
+use Rattle.std.specs.List.{list_any, filter, range_with_len}
+use Rattle.std.specs.Ordering.{nat_cmp, eq_by_cmp}
+use Rattle.std.specs.Cmp.{nat_cmp_total}
+use Rattle.std.specs.FinSet as sets
+use Rattle.std.specs.FinSet.{FinSet, contains, len, from_list, remove, insert, contains-remove, contains-insert, len-remove, len-insert, empty_of_len}
+use Rattle.std.specs.FinSet.{contains-empty, contains-union, contains-difference, contains-from_list_nat, same_set, nat_cmp-IsAntisymmetric}
+use borrow.Author.Tests.{eqb-true}
+use Rattle.nfs_model.specs.Parts.{range_blocks, most_ranges}
+use Rattle.nfs_model.specs.Moves.{in_range, batch, first_filled, lowest_batch}
+use Rattle.volume_values.specs.Ranges.{with_numbers, without_numbers}
+use Rattle.vbn_ranges.specs.Batch.{first_of}
+use Rattle.vbn_ranges.specs.Marks.{MarksValue, lowest_marked}
+use Rattle.vbn_ranges.specs.Dead.{all_of, AreNumbered, AreDead, lowest_dead}
+use Rattle.vbn_ranges.proofs.Rising.{is_in, Rising, rising-weaker, not-below, in-head}
+use Rattle.vbn_ranges.proofs.Ranged.{not-both}
+use Rattle.vbn_ranges.proofs.DeadSets.{in-all, in-union, without-none, lowest-rising, lowest-in}
+
+-- ---- counts
+
+or-false : (t : Bool) → (t || false) ≡ t
+or-false true = refl
+or-false false = refl
+
+ties : (q b : ℕ) → eq_by_cmp nat_cmp q b ≡ nat_eq b q
+ties q b =
+    sym (contains-insert nat_cmp_total sets.empty b q ∙ ap (λ t. eq_by_cmp nat_cmp q b || t) (contains-empty nat_cmp q) ∙ or-false (eq_by_cmp nat_cmp q b))
+    ∙ contains-from_list_nat (b ∷ []) q
+    ∙ or-false (nat_eq b q)
+
+swap : (a b : Bool) → (a || (b || false)) ≡ (b || a)
+swap true true = refl
+swap true false = refl
+swap false true = refl
+swap false false = refl
+
+with-one : (b : ℕ) (s : FinSet nat_cmp) → with_numbers (b ∷ []) s ≡ insert s b
+with-one b s =
+    same_set nat_cmp_total nat_cmp-IsAntisymmetric _ _
+    (λ q. contains-union nat_cmp_total s (from_list (b ∷ [])) q
+    ∙ ap (λ t. contains s q || t) (contains-from_list_nat (b ∷ []) q)
+    ∙ swap (contains s q) (nat_eq b q)
+    ∙ sym (contains-insert nat_cmp_total s b q ∙ ap (λ t. t || contains s q) (ties q b)))
+
+pub len-with : (b : ℕ) (s : FinSet nat_cmp) → contains s b ≡ false → len (with_numbers (b ∷ []) s) ≡ len s + 1
+len-with b s e = ap len (with-one b s) ∙ len-insert nat_cmp_total s b ∙ ap (λ t. cond t (len s) (len s + 1)) e
+
+already : (a : Bool) (b : Bool) → (b ≡ true → a ≡ true) → (a || (b || false)) ≡ a
+already true b h = refl
+already false true h = sym (h refl)
+already false false h = refl
+
+pub with-same : (b : ℕ) (s : FinSet nat_cmp) → contains s b ≡ true → s ≡ with_numbers (b ∷ []) s
+with-same b s e =
+    same_set nat_cmp_total nat_cmp-IsAntisymmetric _ _
+    (λ q. sym (contains-union nat_cmp_total s (from_list (b ∷ [])) q
+    ∙ ap (λ t. contains s q || t) (contains-from_list_nat (b ∷ []) q)
+    ∙ already (contains s q) (nat_eq b q) (λ t. ap (contains s) (sym (eqb-true b q t)) ∙ e)))
+
+fewer : (a b c : Bool) → (a && not (b || c)) ≡ (not b && (a && not c))
+fewer true true c = refl
+fewer true false c = refl
+fewer false true c = refl
+fewer false false c = refl
+
+without-more : (b : ℕ) (bs : List ℕ) (s : FinSet nat_cmp) → without_numbers (b ∷ bs) s ≡ remove (without_numbers bs s) b
+without-more b bs s =
+    same_set nat_cmp_total nat_cmp-IsAntisymmetric _ _
+    (λ q. contains-difference nat_cmp_total s (from_list (b ∷ bs)) q
+    ∙ ap (λ t. contains s q && not t) (contains-from_list_nat (b ∷ bs) q)
+    ∙ fewer (contains s q) (nat_eq b q) (is_in bs q)
+    ∙ sym (contains-remove nat_cmp_total (without_numbers bs s) b q
+    ∙ (λ i. not (ties q b i) && contains (without_numbers bs s) q)
+    ∙ ap (λ t. not (nat_eq b q) && t) (contains-difference nat_cmp_total s (from_list bs) q
+    ∙ ap (λ t. contains s q && not t) (contains-from_list_nat bs q))))
+
+some-len : (s : FinSet nat_cmp) (b : ℕ) → contains s b ≡ true → 0 < len s
+some-len s b e = by (len s) refl
+  where
+    by : (n : ℕ) → len s ≡ n → 0 < n
+    by zero z = absurd (not-both _ e (ap (λ t. contains t b) (empty_of_len s z) ∙ contains-empty nat_cmp b))
+    by (suc n) z = omega arith
+
+or-true : (a : Bool) → (a || true) ≡ true
+or-true true = refl
+or-true false = refl
+
+pub len-without : (low high : ℕ) (bs : List ℕ) (s : FinSet nat_cmp) → Rising low high bs → ((q : ℕ) → is_in bs q ≡ true → contains s q ≡ true)
+    → len (without_numbers bs s) + length bs ≡ len s
+len-without low high [] s h c = let same = ap len (without-none s) in omega arith
+len-without low high (b ∷ bs) s h c =
+    let rest = len-without (b + 1) high bs s h.1 (λ q t. c q (ap (λ u. nat_eq b q || u) t ∙ or-true (nat_eq b q))) in
+    let there : contains (without_numbers bs s) b ≡ true =
+        contains-difference nat_cmp_total s (from_list bs) b
+        ∙ (λ i. c b (in-head b bs b refl) i && not (contains-from_list_nat bs b i))
+        ∙ ap not (not-below (b + 1) high bs b h.1 (omega arith)) in
+    let some = some-len (without_numbers bs s) b there in
+    let less : len (without_numbers (b ∷ bs) s) ≡ len (without_numbers bs s) - 1 =
+        ap len (without-more b bs s)
+        ∙ len-remove nat_cmp_total (without_numbers bs s) b
+        ∙ ap (λ t. cond t (len (without_numbers bs s) - 1) (len (without_numbers bs s))) there in
+    omega arith
+
+-- ---- what is taken
+
+rising-filled : (x : List ℕ) (rest : List (List ℕ)) (low high : ℕ) → Rising low high x → ((h : ℕ) × Rising 0 h (first_filled rest))
+    → (h : ℕ) × Rising 0 h (first_filled (x ∷ rest))
+rising-filled [] rest low high r s = s
+rising-filled (b ∷ bs) rest low high r s = (high, rising-weaker low 0 high (b ∷ bs) (omega arith) r)
+
+rising-dead : (n : ℕ) (marks : List MarksValue) → (h : ℕ) × Rising 0 h (lowest_dead n marks)
+rising-dead n [] = (0, omega arith)
+rising-dead n (m ∷ marks) = rising-filled (lowest_marked n m) (map (lowest_marked n) marks) _ _ (lowest-rising n m) (rising-dead n marks)
+
+in-filled : (x : List ℕ) (rest : List (List ℕ)) (q : ℕ) → is_in (first_filled (x ∷ rest)) q ≡ true → (is_in x q ≡ true) ⊎ (is_in (first_filled rest) q ≡ true)
+in-filled [] rest q t = inr t
+in-filled (b ∷ bs) rest q t = inl t
+
+in-dead : (n : ℕ) (marks : List MarksValue) (q : ℕ) → is_in (lowest_dead n marks) q ≡ true → contains (all_of marks) q ≡ true
+in-dead n [] q t = absurd (not-both true refl (sym t))
+in-dead n (m ∷ marks) q t =
+    in-union m marks q
+    ∙ ⊎_elim (λ e. ap (λ u. u || contains (all_of marks) q) (lowest-in n m q e))
+    (λ e. ap (λ u. contains m.set q || u) (in-dead n marks q e) ∙ or-true (contains m.set q))
+    (in-filled (lowest_marked n m) (map (lowest_marked n) marks) q t)
+
+pub len-taken : (n : ℕ) (marks : List MarksValue) → len (without_numbers (lowest_dead n marks) (all_of marks)) + length (lowest_dead n marks) ≡ len (all_of marks)
+len-taken n marks = let r = rising-dead n marks in len-without 0 r.0 (lowest_dead n marks) (all_of marks) r.1 (in-dead n marks)
+
+-- ---- the batch
+
+filter-agree : (p r : ℕ → Bool) (n low high : ℕ) → low + n ≡ high → ((q : ℕ) → low ≤ q → q < high → p q ≡ r q)
+    → filter p (range_with_len low n) ≡ filter r (range_with_len low n)
+filter-agree p r zero low high e a = refl
+filter-agree p r (suc n) low high e a =
+    λ i. cond (a low (omega arith) (omega arith) i) (low ∷ filter-agree p r n (low + 1) high (omega arith) (λ q l u. a q (omega arith) u) i)
+    (filter-agree p r n (low + 1) high (omega arith) (λ q l u. a q (omega arith) u) i)
+
+in-range-agree : (range : ℕ) (s t : FinSet nat_cmp) → ((q : ℕ) → q / range_blocks ≡ range → contains s q ≡ contains t q) → in_range range s ≡ in_range range t
+unfolding in_range
+in-range-agree range s t a =
+    filter-agree (contains s) (contains t) range_blocks (range_blocks * range) (range_blocks * range + range_blocks) refl (λ q l u. a q (omega arith))
+
+batches : (whole : FinSet nat_cmp) (from : ℕ) (marks : List MarksValue) → AreNumbered from marks
+    → ((i : ℕ) (d : MarksValue) (q : ℕ) → i < length marks → q / range_blocks ≡ from + i → contains whole q ≡ contains (get_or marks i d).set q)
+    → map (λ r. batch r whole) (range_with_len from (length marks)) ≡ map (lowest_marked 64) marks
+batches whole from [] h a = refl
+batches whole from (m ∷ marks) h a =
+    let number = h.0 in
+    (λ i. take 64 (in-range-agree from whole m.set (λ q e. a 0 m q (omega arith) (omega arith)) i) ∷ map (λ r. batch r whole) (range_with_len (from + 1) (length marks)))
+    ∙ (λ i. take 64 (in_range (sym number i) m.set)
+      ∷ batches whole (from + 1) marks h.1.1 (λ k d q l e. a (suc k) d q (omega arith) (omega arith)) i)
+
+pub lowest-batch-is : (marks : List MarksValue) → AreNumbered 0 marks → length marks ≡ most_ranges → lowest_batch (all_of marks) ≡ lowest_dead 64 marks
+unfolding lowest_batch
+lowest-batch-is marks h n =
+    ap (λ (k : ℕ). first_filled (map (λ r. batch r (all_of marks)) (range_with_len 0 k))) (sym n)
+    ∙ ap first_filled (batches (all_of marks) 0 marks h (λ i d q l e. in-all 0 i marks d q h l e))
+
+-- ---- the lowest number alone
+
+first-of-filled : (xs : List ℕ) (a b : List (List ℕ)) → first_of (first_filled a) ≡ first_of (first_filled b)
+    → first_of (first_filled (take 1 xs ∷ a)) ≡ first_of (first_filled (take 64 xs ∷ b))
+first-of-filled [] a b e = e
+first-of-filled (x ∷ xs) a b e = refl
+
+pub first-dead : (marks : List MarksValue) → first_of (lowest_dead 1 marks) ≡ first_of (lowest_dead 64 marks)
+first-dead [] = refl
+first-dead (m ∷ marks) = first-of-filled (in_range m.range m.set) (map (lowest_marked 1) marks) (map (lowest_marked 64) marks) (first-dead marks)
+
+one-filled : (xs : List ℕ) (a : List (List ℕ)) → length (first_filled a) ≤ 1 → length (first_filled (take 1 xs ∷ a)) ≤ 1
+one-filled [] a l = l
+one-filled (x ∷ xs) a l = omega arith
+
+one-dead : (marks : List MarksValue) → length (lowest_dead 1 marks) ≤ 1
+one-dead [] = omega arith
+one-dead (m ∷ marks) = one-filled (in_range m.range m.set) (map (lowest_marked 1) marks) (one-dead marks)
+
+single : (bs : List ℕ) (b : ℕ) → length bs ≤ 1 → first_of bs ≡ Some b → bs ≡ b ∷ []
+single [] b l e = absurd cc
+single (c ∷ []) b l e = let same : c ≡ b = cc in ap (λ n. n ∷ []) same
+single (c ∷ (d ∷ bs)) b l e = absurd (omega arith)
+
+pub one-taken : (marks : List MarksValue) (b : ℕ) → first_of (lowest_dead 1 marks) ≡ Some b → lowest_dead 1 marks ≡ b ∷ []
+one-taken marks b e = single (lowest_dead 1 marks) b (one-dead marks) e
+
+-- nothing is taken only where nothing is dead
+pub none-dead : (bs : List ℕ) → first_of bs ≡ None → bs ≡ []
+none-dead [] e = refl
+none-dead (b ∷ bs) e = absurd cc
