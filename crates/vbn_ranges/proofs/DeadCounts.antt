@@ -1,6 +1,6 @@
 -- How many numbers are dead, and the batch of the lowest.
 use Rattle.std.proofs.Common.{◌≡◌, refl, sym, ap, subst, ◌∙◌, ℕ, zero, suc, ◌+◌, ◌-◌, ◌*◌, ◌/◌, ◌<◌, ◌≤◌, Bool, true, false, not, ◌||◌, ◌&&◌, nat_eq, cond}
-use Rattle.std.proofs.Common.{List, [], ◌∷◌, ◌++◌, length, take, map, get_or, Option, Some, None, ◌⊎◌, inl, inr, ⊎_elim, add-zero, arith}
+use Rattle.std.proofs.Common.{List, [], ◌∷◌, ◌++◌, length, take, drop, min, map, get_or, Option, Some, None, ◌⊎◌, inl, inr, ⊎_elim, add-zero, arith}
 use Rattle.std.specs.List.{list_any, filter, range_with_len}
 use Rattle.std.specs.Ordering.{nat_cmp, eq_by_cmp}
 use Rattle.std.specs.Cmp.{nat_cmp_total}
@@ -8,12 +8,13 @@ use Rattle.std.specs.FinSet as sets
 use Rattle.std.specs.FinSet.{FinSet, contains, len, from_list, remove, insert, contains-remove, contains-insert, len-remove, len-insert, empty_of_len}
 use Rattle.std.specs.FinSet.{contains-empty, contains-union, contains-difference, contains-from_list_nat, same_set, nat_cmp-IsAntisymmetric}
 use borrow.Author.Tests.{eqb-true}
-use Rattle.nfs_model.specs.Parts.{range_blocks, most_ranges}
-use Rattle.nfs_model.specs.Moves.{in_range, batch, first_filled, lowest_batch}
-use Rattle.volume_values.specs.Ranges.{with_numbers, without_numbers}
+use Rattle.std.proofs.lemmas.Bool.{cases_lt}
+use Rattle.nfs_model.specs.Parts.{range_blocks, most_ranges, most_carried}
+use Rattle.nfs_model.specs.Moves.{in_range, first_filled, lowest_batch}
+use Rattle.volume_values.specs.Ranges.{with_numbers, without_numbers, IsOfVolume}
 use Rattle.vbn_ranges.specs.Batch.{first_of}
 use Rattle.vbn_ranges.specs.Marks.{MarksValue, lowest_marked}
-use Rattle.vbn_ranges.specs.Dead.{all_of, AreNumbered, AreDead, lowest_dead}
+use Rattle.vbn_ranges.specs.Dead.{all_of, AreNumbered, AreDead, lowest_dead, lowest_of}
 use Rattle.vbn_ranges.proofs.Rising.{is_in, Rising, rising-weaker, not-below, in-head}
 use Rattle.vbn_ranges.proofs.Ranged.{not-both}
 use Rattle.vbn_ranges.proofs.DeadSets.{in-all, in-union, without-none, lowest-rising, lowest-in}
@@ -143,21 +144,79 @@ unfolding in_range
 in-range-agree range s t a =
     filter-agree (contains s) (contains t) range_blocks (range_blocks * range) (range_blocks * range + range_blocks) refl (λ q l u. a q (omega arith))
 
-batches : (whole : FinSet nat_cmp) (from : ℕ) (marks : List MarksValue) → AreNumbered from marks
+batches : (n : ℕ) (whole : FinSet nat_cmp) (from : ℕ) (marks : List MarksValue) → AreNumbered from marks
     → ((i : ℕ) (d : MarksValue) (q : ℕ) → i < length marks → q / range_blocks ≡ from + i → contains whole q ≡ contains (get_or marks i d).set q)
-    → map (λ r. batch r whole) (range_with_len from (length marks)) ≡ map (lowest_marked 64) marks
-batches whole from [] h a = refl
-batches whole from (m ∷ marks) h a =
+    → map (λ r. take (min n most_carried) (in_range r whole)) (range_with_len from (length marks)) ≡ map (lowest_marked n) marks
+batches n whole from [] h a = refl
+batches n whole from (m ∷ marks) h a =
+    let k = min n most_carried in
     let number = h.0 in
-    (λ i. take 64 (in-range-agree from whole m.set (λ q e. a 0 m q (omega arith) (omega arith)) i) ∷ map (λ r. batch r whole) (range_with_len (from + 1) (length marks)))
-    ∙ (λ i. take 64 (in_range (sym number i) m.set)
-      ∷ batches whole (from + 1) marks h.1.1 (λ k d q l e. a (suc k) d q (omega arith) (omega arith)) i)
+    (λ i. take k (in-range-agree from whole m.set (λ q e. a 0 m q (omega arith) (omega arith)) i)
+      ∷ map (λ r. take k (in_range r whole)) (range_with_len (from + 1) (length marks)))
+    ∙ (λ i. take k (in_range (sym number i) m.set)
+      ∷ batches n whole (from + 1) marks h.1.1 (λ j d q l e. a (suc j) d q (omega arith) (omega arith)) i)
 
-pub lowest-batch-is : (marks : List MarksValue) → AreNumbered 0 marks → length marks ≡ most_ranges → lowest_batch (all_of marks) ≡ lowest_dead 64 marks
-unfolding lowest_batch
-lowest-batch-is marks h n =
-    ap (λ (k : ℕ). first_filled (map (λ r. batch r (all_of marks)) (range_with_len 0 k))) (sym n)
-    ∙ ap first_filled (batches (all_of marks) 0 marks h (λ i d q l e. in-all 0 i marks d q h l e))
+lowest-of-is : (n : ℕ) (marks : List MarksValue) → AreNumbered 0 marks → length marks ≡ most_ranges → lowest_of n (all_of marks) ≡ lowest_dead n marks
+unfolding lowest_of
+lowest-of-is n marks h s =
+    ap (λ (k : ℕ). first_filled (map (λ r. take (min n most_carried) (in_range r (all_of marks))) (range_with_len 0 k))) (sym s)
+    ∙ ap first_filled (batches n (all_of marks) 0 marks h (λ i d q l e. in-all 0 i marks d q h l e))
+
+pub lowest-batch-is : (set : FinSet nat_cmp) → lowest_of 64 set ≡ lowest_batch set
+unfolding lowest_of lowest_batch
+lowest-batch-is set = refl
+
+-- ---- a step of all dead blocks
+
+refilled : (n : ℕ) (new rest : List MarksValue) → length new ≡ n → take n (new ++ rest) ≡ new
+refilled zero [] rest e = refl
+refilled (suc n) [] rest e = absurd (omega arith)
+refilled zero (m ∷ new) rest e = absurd (omega arith)
+refilled (suc n) (m ∷ new) rest e = ap (λ (ms : List MarksValue). m ∷ ms) (refilled n new rest (omega arith))
+
+-- what is taken from the marks of all ranges
+pub record TakenFrom (n : ℕ) (old new : List MarksValue) (blocks : List ℕ) : Type 0 where
+  pub batch : blocks ≡ lowest_dead n old
+  pub left : all_of new ≡ without_numbers (lowest_dead n old) (all_of old)
+  pub numbered : AreNumbered 0 new
+  pub size : length new ≡ length old
+
+pub taken-from : (n : ℕ) (lent old new : List MarksValue) (blocks : List ℕ) → lent ≡ old → blocks ≡ lowest_dead n lent
+    → all_of new ≡ without_numbers (lowest_dead n lent) (all_of lent) → AreNumbered 0 new → length new ≡ length lent → TakenFrom n old new blocks
+taken-from n lent old new blocks same b l h s =
+    subst (λ (ms : List MarksValue). TakenFrom n ms new blocks) same (record { batch = b; left = l; numbered = h; size = s })
+
+pub fits-count : (n count : ℕ) (old new : List MarksValue) (blocks : List ℕ) → AreDead old count → TakenFrom n old new blocks → length blocks ≤ count
+fits-count n count old new blocks h t =
+    let all = len-taken n old in
+    let counted = h.counted in
+    let size = ap length t.batch in
+    omega arith
+
+pub still-dead : (n count : ℕ) (old new : List MarksValue) (blocks : List ℕ) → AreDead old count → TakenFrom n old new blocks
+    → AreDead (take (length old) (new ++ drop (length new) old)) (count - length blocks)
+still-dead n count old new blocks h t =
+    subst (λ (ms : List MarksValue). AreDead ms (count - length blocks)) (sym (refilled (length old) new (drop (length new) old) t.size))
+    (record {
+      all_ranges = t.size ∙ h.all_ranges;
+      numbered = t.numbered;
+      counted =
+        let all = len-taken n old in
+        let counted = h.counted in
+        let size = ap length t.batch in
+        let left = ap len t.left in
+        omega arith;
+    })
+
+pub lowest-taken-is : (n count : ℕ) (old new : List MarksValue) (blocks : List ℕ) → AreDead old count → TakenFrom n old new blocks → blocks ≡ lowest_of n (all_of old)
+lowest-taken-is n count old new blocks h t = t.batch ∙ sym (lowest-of-is n old h.numbered h.all_ranges)
+
+pub lowest-left : (n count : ℕ) (old new : List MarksValue) (blocks : List ℕ) → AreDead old count → TakenFrom n old new blocks
+    → all_of (take (length old) (new ++ drop (length new) old)) ≡ without_numbers (lowest_of n (all_of old)) (all_of old)
+lowest-left n count old new blocks h t =
+    ap all_of (refilled (length old) new (drop (length new) old) t.size)
+    ∙ t.left
+    ∙ ap (λ (bs : List ℕ). without_numbers bs (all_of old)) (sym (lowest-of-is n old h.numbered h.all_ranges))
 
 -- ---- the lowest number alone
 
@@ -166,27 +225,80 @@ first-of-filled : (xs : List ℕ) (a b : List (List ℕ)) → first_of (first_fi
 first-of-filled [] a b e = e
 first-of-filled (x ∷ xs) a b e = refl
 
-pub first-dead : (marks : List MarksValue) → first_of (lowest_dead 1 marks) ≡ first_of (lowest_dead 64 marks)
-first-dead [] = refl
-first-dead (m ∷ marks) = first-of-filled (in_range m.range m.set) (map (lowest_marked 1) marks) (map (lowest_marked 64) marks) (first-dead marks)
+first-of-ranges : (f : ℕ → List ℕ) (rs : List ℕ) → first_of (first_filled (map (λ r. take 1 (f r)) rs)) ≡ first_of (first_filled (map (λ r. take 64 (f r)) rs))
+first-of-ranges f [] = refl
+first-of-ranges f (r ∷ rs) = first-of-filled (f r) (map (λ r. take 1 (f r)) rs) (map (λ r. take 64 (f r)) rs) (first-of-ranges f rs)
+
+pub first-lowest : (set : FinSet nat_cmp) → first_of (lowest_of 1 set) ≡ first_of (lowest_of 64 set)
+unfolding lowest_of
+first-lowest set = first-of-ranges (λ r. in_range r set) (range_with_len 0 most_ranges)
 
 one-filled : (xs : List ℕ) (a : List (List ℕ)) → length (first_filled a) ≤ 1 → length (first_filled (take 1 xs ∷ a)) ≤ 1
 one-filled [] a l = l
 one-filled (x ∷ xs) a l = omega arith
 
-one-dead : (marks : List MarksValue) → length (lowest_dead 1 marks) ≤ 1
-one-dead [] = omega arith
-one-dead (m ∷ marks) = one-filled (in_range m.range m.set) (map (lowest_marked 1) marks) (one-dead marks)
+one-of-ranges : (f : ℕ → List ℕ) (rs : List ℕ) → length (first_filled (map (λ r. take 1 (f r)) rs)) ≤ 1
+one-of-ranges f [] = omega arith
+one-of-ranges f (r ∷ rs) = one-filled (f r) (map (λ r. take 1 (f r)) rs) (one-of-ranges f rs)
 
 single : (bs : List ℕ) (b : ℕ) → length bs ≤ 1 → first_of bs ≡ Some b → bs ≡ b ∷ []
 single [] b l e = absurd cc
-single (c ∷ []) b l e = let same : c ≡ b = cc in ap (λ n. n ∷ []) same
+single (c ∷ []) b l e = let same : c ≡ b = cc in ap (λ (n : ℕ). n ∷ []) same
 single (c ∷ (d ∷ bs)) b l e = absurd (omega arith)
 
-pub one-taken : (marks : List MarksValue) (b : ℕ) → first_of (lowest_dead 1 marks) ≡ Some b → lowest_dead 1 marks ≡ b ∷ []
-one-taken marks b e = single (lowest_dead 1 marks) b (one-dead marks) e
+pub lowest-one : (set : FinSet nat_cmp) (b : ℕ) → first_of (lowest_of 1 set) ≡ Some b → lowest_of 1 set ≡ b ∷ []
+unfolding lowest_of
+lowest-one set b e = single (lowest_of 1 set) b (one-of-ranges (λ r. in_range r set) (range_with_len 0 most_ranges)) e
 
--- nothing is taken only where nothing is dead
-pub none-dead : (bs : List ℕ) → first_of bs ≡ None → bs ≡ []
-none-dead [] e = refl
-none-dead (b ∷ bs) e = absurd cc
+-- ---- nothing is taken only where nothing is dead
+
+no-first : (bs : List ℕ) → first_of bs ≡ None → bs ≡ []
+no-first [] e = refl
+no-first (b ∷ bs) e = absurd cc
+
+none-filled : (x : List ℕ) (rest : List (List ℕ)) → first_filled (x ∷ rest) ≡ [] → (x ≡ []) × (first_filled rest ≡ [])
+none-filled [] rest e = (refl, e)
+none-filled (b ∷ bs) rest e = absurd cc
+
+none-of-range : (f : ℕ → List ℕ) (n from r : ℕ) → from ≤ r → r < from + n → first_filled (map f (range_with_len from n)) ≡ [] → f r ≡ []
+none-of-range f zero from r l u e = absurd (omega arith)
+none-of-range f (suc n) from r l u e =
+    let parts = none-filled (f from) (map f (range_with_len (from + 1) n)) e in
+    ⊎_elim (λ more. none-of-range f n (from + 1) r (omega arith) (omega arith) parts.1)
+    (λ here. let same : from ≡ r = omega arith in subst (λ (k : ℕ). f k ≡ []) same parts.0) (cases_lt from r)
+
+filter-keeps : (p : ℕ → Bool) (n low q : ℕ) → low ≤ q → q < low + n → p q ≡ true → is_in (filter p (range_with_len low n)) q ≡ true
+filter-keeps p zero low q l u e = absurd (omega arith)
+filter-keeps p (suc n) low q l u e =
+    ⊎_elim (λ more. later (p low) (filter-keeps p n (low + 1) q (omega arith) (omega arith) e))
+    (λ here. let same : low ≡ q = omega arith in ap (λ t. is_in (cond t (low ∷ rest) rest) q) (ap p same ∙ e) ∙ in-head low rest q same) (cases_lt low q)
+  where
+    rest : List ℕ
+    rest = filter p (range_with_len (low + 1) n)
+    later : (t : Bool) → is_in rest q ≡ true → is_in (cond t (low ∷ rest) rest) q ≡ true
+    later true i = ap (λ u. nat_eq low q || u) i ∙ or-true (nat_eq low q)
+    later false i = i
+
+none-taken : (xs : List ℕ) → take 1 xs ≡ [] → xs ≡ []
+none-taken [] e = refl
+none-taken (x ∷ xs) e = absurd cc
+
+there : (set : FinSet nat_cmp) (q : ℕ) → contains set q ≡ true → is_in (in_range (q / range_blocks) set) q ≡ true
+unfolding in_range
+there set q e = filter-keeps (contains set) range_blocks (range_blocks * (q / range_blocks)) q (omega arith) (omega arith) e
+
+if-never : (t : Bool) → (t ≡ true → ⊥) → t ≡ false
+if-never true h = absurd (h refl)
+if-never false h = refl
+
+pub none-lowest : (set : FinSet nat_cmp) → IsOfVolume set → first_of (lowest_of 1 set) ≡ None → set ≡ sets.empty
+unfolding lowest_of
+none-lowest set v e =
+    same_set nat_cmp_total nat_cmp-IsAntisymmetric _ _
+    (λ q. if-never (contains set q)
+      (λ t.
+        let low = v.below q t in
+        let none = none-taken (in_range (q / range_blocks) set)
+            (none-of-range (λ r. take 1 (in_range r set)) most_ranges 0 (q / range_blocks) (omega arith) (omega arith) (no-first (lowest_of 1 set) e)) in
+        not-both _ (there set q t) (ap (λ (bs : List ℕ). is_in bs q) none))
+    ∙ sym (contains-empty nat_cmp q))

@@ -1,6 +1,6 @@
 use Rattle.std.proofs.Common.{◌∙◌, sym, ap, length, add-one, arith}
 use Rattle.vbn_ranges.proofs.DeadTaken.{taken-here, nothing-here, nothing-taken}
-use Rattle.vbn_ranges.proofs.dead.take_lowest.Goals as goal
+use Rattle.vbn_ranges.proofs.dead.take_first.Goals as goal
 
 pub returns-then-not-is_empty-clause-batch : goal.returns-then-not-is_empty-clause-batch
 returns-then-not-is_empty-clause-batch c =
