@@ -267,7 +267,7 @@ none-of-range f (suc n) from r l u e =
     ⊎_elim (λ more. none-of-range f n (from + 1) r (omega arith) (omega arith) parts.1)
     (λ here. let same : from ≡ r = omega arith in subst (λ (k : ℕ). f k ≡ []) same parts.0) (cases_lt from r)
 
-filter-keeps : (p : ℕ → Bool) (n low q : ℕ) → low ≤ q → q < low + n → p q ≡ true → is_in (filter p (range_with_len low n)) q ≡ true
+pub filter-keeps : (p : ℕ → Bool) (n low q : ℕ) → low ≤ q → q < low + n → p q ≡ true → is_in (filter p (range_with_len low n)) q ≡ true
 filter-keeps p zero low q l u e = absurd (omega arith)
 filter-keeps p (suc n) low q l u e =
     ⊎_elim (λ more. later (p low) (filter-keeps p n (low + 1) q (omega arith) (omega arith) e))

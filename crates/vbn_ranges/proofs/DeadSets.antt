@@ -175,7 +175,7 @@ still-marks blocks m h b t = h b (and-left (contains m.set b) _ (sym (contains-d
 
 -- ---- the lowest of a range
 
-filter-rises : (p : ℕ → Bool) (n low high : ℕ) → low + n ≡ high → Rising low high (filter p (range_with_len low n))
+pub filter-rises : (p : ℕ → Bool) (n low high : ℕ) → low + n ≡ high → Rising low high (filter p (range_with_len low n))
 filter-rises p zero low high e = omega arith
 filter-rises p (suc n) low high e = by (p low) (filter-rises p n (low + 1) high (omega arith))
   where
@@ -184,7 +184,7 @@ filter-rises p (suc n) low high e = by (p low) (filter-rises p n (low + 1) high 
     by true r = (omega arith, r)
     by false r = rising-weaker (low + 1) low high _ (omega arith) r
 
-filter-in : (p : ℕ → Bool) (xs : List ℕ) (q : ℕ) → is_in (filter p xs) q ≡ true → p q ≡ true
+pub filter-in : (p : ℕ → Bool) (xs : List ℕ) (q : ℕ) → is_in (filter p xs) q ≡ true → p q ≡ true
 filter-in p [] q t = absurd (not-both true refl (sym t))
 filter-in p (x ∷ xs) q t = by (p x) refl (filter-in p xs q) t
   where

@@ -8,5 +8,6 @@ pub mod Stocked
 pub mod DeadSets
 pub mod DeadTaken
 pub mod DeadCounts
+pub mod DeadMarked
 pub mod Counted
 pub mod Single

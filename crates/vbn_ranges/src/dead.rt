@@ -99,6 +99,9 @@ impl DeadBlocks {
         ensures left { IfSome result (λ b. self.new ≡ without_numbers (b.0 ∷ []) self.old) }
         ensures none { IfNone result (self.old ≡ sets.empty × self.new ≡ self.old) }
     {
+        if self.count == 0 {
+            return None;
+        }
         let batch = self.take_lowest(1);
         batch.as_slice().first().copied()
     }
