@@ -1,7 +1,7 @@
 -- How many numbers are dead, and the batch of the lowest.
 use Rattle.std.proofs.Common.{◌≡◌, refl, sym, ap, subst, ◌∙◌, ℕ, zero, suc, ◌+◌, ◌-◌, ◌*◌, ◌/◌, ◌<◌, ◌≤◌, Bool, true, false, not, ◌||◌, ◌&&◌, nat_eq, cond}
 use Rattle.std.proofs.Common.{List, [], ◌∷◌, ◌++◌, length, take, drop, min, map, get_or, Option, Some, None, ◌⊎◌, inl, inr, ⊎_elim, add-zero, arith}
-use Rattle.std.specs.List.{list_any, filter, range_with_len}
+use Rattle.std.specs.List.{list_any, filter, range_with_len, slice_get}
 use Rattle.std.specs.Ordering.{nat_cmp, eq_by_cmp}
 use Rattle.std.specs.Cmp.{nat_cmp_total}
 use Rattle.std.specs.FinSet as sets
@@ -12,7 +12,9 @@ use Rattle.std.proofs.lemmas.Bool.{cases_lt}
 use Rattle.nfs_model.specs.Parts.{range_blocks, most_ranges, most_carried}
 use Rattle.nfs_model.specs.Moves.{in_range, first_filled, lowest_batch}
 use Rattle.volume_values.specs.Ranges.{with_numbers, without_numbers, IsOfVolume}
-use Rattle.vbn_ranges.specs.Batch.{first_of}
+use Rattle.nfs_values.specs.declared.number.BlockNumber.{BlockNumber}
+use Rattle.std.specs.Option.{IfSome, IfNone, option_map}
+use Rattle.vbn_ranges.specs.Batch.{numbers, first_of}
 use Rattle.vbn_ranges.specs.Marks.{MarksValue, lowest_marked}
 use Rattle.vbn_ranges.specs.Dead.{all_of, AreNumbered, AreDead, lowest_dead, lowest_of}
 use Rattle.vbn_ranges.proofs.Rising.{is_in, Rising, rising-weaker, not-below, in-head}
@@ -302,3 +304,36 @@ none-lowest set v e =
             (none-of-range (λ r. take 1 (in_range r set)) most_ranges 0 (q / range_blocks) (omega arith) (omega arith) (no-first (lowest_of 1 set) e)) in
         not-both _ (there set q t) (ap (λ (bs : List ℕ). is_in bs q) none))
     ∙ sym (contains-empty nat_cmp q))
+
+-- ---- the first of a batch
+
+firsts : (blocks : List BlockNumber) → option_map (λ (b : BlockNumber). b.0) (slice_get blocks 0) ≡ first_of (numbers blocks)
+firsts [] = refl
+firsts (b ∷ blocks) = refl
+
+pub first-is : (r : Option BlockNumber) (blocks : List BlockNumber) (lowest : List ℕ) → r ≡ slice_get blocks 0 → numbers blocks ≡ lowest
+    → option_map (λ (b : BlockNumber). b.0) r ≡ first_of lowest
+first-is r blocks lowest e f = ap (option_map (λ (b : BlockNumber). b.0)) e ∙ firsts blocks ∙ ap first_of f
+
+pub one-left : (r : Option BlockNumber) (set new : FinSet nat_cmp) → option_map (λ (b : BlockNumber). b.0) r ≡ first_of (lowest_of 1 set)
+    → new ≡ without_numbers (lowest_of 1 set) set → IfSome r (λ b. new ≡ without_numbers (b.0 ∷ []) set)
+one-left None set new e l = tt
+one-left (Some b) set new e l = l ∙ ap (λ (bs : List ℕ). without_numbers bs set) (lowest-one set b.0 (sym e))
+
+pub none-left : (r : Option BlockNumber) (set new : FinSet nat_cmp) → IsOfVolume set → option_map (λ (b : BlockNumber). b.0) r ≡ first_of (lowest_of 1 set)
+    → new ≡ without_numbers (lowest_of 1 set) set → IfNone r ((set ≡ sets.empty) × (new ≡ set))
+none-left None set new v e l =
+    (none-lowest set v (sym e), l ∙ ap (λ (bs : List ℕ). without_numbers bs set) (no-first (lowest_of 1 set) (sym e)) ∙ without-none set)
+none-left (Some b) set new v e l = tt
+
+never-first : (bs : List ℕ) → ((q : ℕ) → is_in bs q ≡ true → ⊥) → first_of bs ≡ None
+never-first [] h = refl
+never-first (b ∷ bs) h = absurd (h b (in-head b bs b refl))
+
+pub empty-first : (marks : List MarksValue) (count : ℕ) → AreDead marks count → count ≡ 0 → (all_of marks ≡ sets.empty) × (None ≡ first_of (lowest_batch (all_of marks)))
+empty-first marks count h z =
+    let none : all_of marks ≡ sets.empty = empty_of_len (all_of marks) (sym h.counted ∙ z) in
+    (none,
+     sym (ap first_of (sym (lowest-batch-is (all_of marks)) ∙ lowest-of-is 64 marks h.numbered h.all_ranges)
+     ∙ never-first (lowest_dead 64 marks)
+     (λ q t. not-both _ (in-dead 64 marks q t) (ap (λ s. contains s q) none ∙ contains-empty nat_cmp q))))
