@@ -47,9 +47,7 @@ impl Model for Range {
 
     ghost view = { λ r. record { number = r.free.range; is_used = r.is_used; free = r.free.set } };
 
-    ghost invariant = {
-        λ r. IsRange (record { number = r.free.range; is_used = r.is_used; free = r.free.set })
-    };
+    ghost invariant = { λ r. IsRange (record { number = r.free.range; is_used = r.is_used; free = r.free.set }) };
 }
 
 impl Range {

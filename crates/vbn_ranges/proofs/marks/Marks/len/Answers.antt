@@ -3,7 +3,6 @@ use Rattle.nfs_model.specs.Moves.{in_range}
 use Rattle.vbn_ranges.proofs.Marked.{in-range-is}
 use Rattle.vbn_ranges.proofs.marks.Marks.len.Goals as goal
 
-
 pub returns : goal.returns
 returns c =
     c.count.ensures (1024 * c.self.inside.range)
