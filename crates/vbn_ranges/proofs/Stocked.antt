@@ -20,7 +20,9 @@ use Rattle.nfs_model.specs.Parts.{IsAscending}
 use Rattle.volume_values.specs.Ranges.{with_numbers, without_numbers}
 use Rattle.vbn_ranges.specs.Batch.{numbers, IsOfOneRange}
 use Rattle.vbn_ranges.specs.Stock.{AreApart}
-use Rattle.vbn_ranges.proofs.Rising.{is_in, in-head, in-tail}
+use Rattle.vbn_ranges.specs.Words.{members, set_of}
+use Rattle.vbn_ranges.proofs.Rising.{is_in, in-head, in-tail, ascending}
+use Rattle.vbn_ranges.proofs.Bits.{members-rising}
 use Rattle.vbn_ranges.proofs.Single.{same}
 use Rattle.vbn_ranges.proofs.Ranged.{not-both}
 
@@ -78,6 +80,10 @@ len-apart (b ∷ bs) h =
     sym (len-insert nat_cmp_total (from_list bs) b
     ∙ ap (λ t. cond t (len (from_list {R = nat_cmp} bs)) (len (from_list {R = nat_cmp} bs) + 1)) (contains-from_list_nat bs b ∙ h.0)) in
     omega arith
+
+pub len-members : (first : ℕ) (words : List ℕ) → length (members first words) ≡ len (set_of first words)
+len-members first words =
+    len-apart (members first words) (ascending-apart (members first words) (ascending first _ (members first words) (members-rising first _ words refl)))
 
 -- ---- more of them
 
