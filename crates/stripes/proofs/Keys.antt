@@ -67,15 +67,15 @@ key-within fileid span i p within same =
 
 -- ---- the order of keys
 
-abbrev le-key : Place → Place → Type 0
+abbrev pub le-key : Place → Place → Type 0
 le-key a b = is_gt (place_cmp a b) ≡ false
 
-after-file : (a b : Place) → b.0 < a.0 → le-key a b → ⊥
+pub after-file : (a b : Place) → b.0 < a.0 → le-key a b → ⊥
 after-file a b h le =
     let e : nat_cmp a.0 b.0 ≡ Greater = sym (nat_cmp_is a.0 b.0 Greater h) in
     let no : true ≡ false = sym (ap (λ r. is_gt (ordering_then r (nat_cmp a.1 b.1))) e) ∙ le in cc
 
-after-span : (a b : Place) → a.0 ≡ b.0 → b.1 < a.1 → le-key a b → ⊥
+pub after-span : (a b : Place) → a.0 ≡ b.0 → b.1 < a.1 → le-key a b → ⊥
 after-span a b same h le =
     let e : nat_cmp a.0 b.0 ≡ Equal = sym (nat_cmp_is a.0 b.0 Equal same) in
     let g : nat_cmp a.1 b.1 ≡ Greater = sym (nat_cmp_is a.1 b.1 Greater h) in
@@ -104,3 +104,8 @@ none-of-file o k f from t within first other = not-some o (λ some. elim (cases_
       | inl h ↦ after-file k (f, t) h (first some)
       | inr h ↦ after-file (f, from) k (let g : k.0 < f = omega arith in g) within
     ])
+
+pub key-apart : (k q : Place) → is_at (place_cmp k) q ≡ false → k.0 ≡ q.0 → k.1 ≡ q.1 → ⊥
+key-apart k q other a b =
+    let is : is_at (place_cmp k) q ≡ true = key-test k q ∙ ap (λ t. t && (k.1 == q.1)) (eq-eqb _ _ a) ∙ eq-eqb _ _ b in
+    let no : true ≡ false = sym is ∙ other in cc

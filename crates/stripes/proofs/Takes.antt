@@ -29,7 +29,7 @@ stays-same k old new changes q = elim (key-cases k q) [
   ]
 
 -- a place is known by what is left when it is divided
-place-mod : (places : Places) (b : ℕ) → place_of places (b % span_blocks) ≡ place_of places b
+pub place-mod : (places : Places) (b : ℕ) → place_of places (b % span_blocks) ≡ place_of places b
 place-mod places b = ap (λ i. get_or places i None) (let e : b % span_blocks % span_blocks ≡ b % span_blocks = omega arith in e)
 
 -- what is left of an array, which may be gone

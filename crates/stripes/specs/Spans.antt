@@ -1,15 +1,16 @@
 -- The blocks of files by spans, each an array of 64 places.
-use Rattle.std.specs.Prelude.{◌≡◌, ℕ, zero, suc, ◌+◌, ◌-◌, ◌*◌, ◌/◌, ◌%◌, ◌<◌, ◌≤◌, Bool, true, false, ⊤, ◌==◌, ◌&&◌, nat_le, nat_lt, if◌then◌else◌}
+use Rattle.std.specs.Prelude.{◌≡◌, ℕ, zero, suc, ◌+◌, ◌-◌, ◌*◌, ◌/◌, ◌%◌, ◌<◌, ◌≤◌, Bool, true, false, not, ⊤, ◌==◌, ◌&&◌, nat_le, nat_lt, if◌then◌else◌}
 use Rattle.std.specs.Prelude.{List, [], ◌∷◌, ◌++◌, map, length, Option, Some, None, is_some, slice_index_or}
-use Rattle.std.specs.List.{range_with_len, list_all}
+use Rattle.std.specs.List.{range_with_len, list_all, filter}
 use Rattle.std.specs.Option.{option_map}
 use Rattle.std.specs.Map.{lookup}
 use Rattle.std.specs.BTreeMap.{is_at}
-use Rattle.std.specs.FinMap.{FinMap, from_entries}
+use Rattle.std.specs.FinMap.{FinMap, from_entries, entries, get, retain_keys}
+use Rattle.volume_values.specs.Maps.{map_values}
 use Rattle.nfs_model.specs.Server.{block_size}
 use Rattle.nfs_model.specs.Home.{span_bytes}
 use Rattle.nfs_model.specs.Serial.Write.{blocks_met}
-use Rattle.volume_values.specs.Stripes.{Block, Place, place_cmp, span_blocks, byte_of, byte_written, byte_cut, block_mapped}
+use Rattle.volume_values.specs.Stripes.{Block, Place, place_cmp, span_blocks, byte_of, byte_written, byte_cut, block_mapped, file_mapped, is_past}
 
 -- the places of a span
 abbrev pub Places : Type 0
@@ -202,3 +203,23 @@ pub record FreesFirst (fileid first : ℕ) (block : Block) (old new : Spans) : T
   pub there : block_at old (fileid, number) ≡ Some block
   pub gone : (p : Place) → block_at new p ≡ (if is_at (place_cmp (fileid, number)) p then None else block_at old p)
   pub filled : AllFilled new
+
+-- ---- words on blocks
+
+-- the numbers of a file's blocks that lie wholly past a size
+abbrev pub numbers_past : ℕ → ℕ → FinMap place_cmp Block → List ℕ
+numbers_past fileid size blocks =
+    map (λ (e : Place × Block). e.1.number) (filter (λ (e : Place × Block). is_past fileid size e.0) (entries blocks))
+
+-- a file's blocks cut to a size
+abbrev pub cut_blocks : ℕ → ℕ → FinMap place_cmp Block → FinMap place_cmp Block
+cut_blocks fileid size blocks = map_values (file_mapped (byte_cut size) fileid) (retain_keys blocks (λ p. not (is_past fileid size p)))
+
+-- n bytes of a file from an offset on
+abbrev pub blocks_read : FinMap place_cmp Block → ℕ → ℕ → ℕ → List ℕ
+blocks_read blocks fileid offset n =
+    map (λ at. byte_of (get blocks (fileid, at / block_size)) (at % block_size)) (range_with_len offset n)
+
+-- Blocks have 4,096 bytes.
+abbrev pub IsLong : FinMap place_cmp Block → Type 0
+IsLong blocks = (p : Place) (b : Block) → get blocks p ≡ Some b → length b.bytes ≡ block_size

@@ -1,11 +1,5 @@
-//! A stripe of a volume: the cards of all inodes, and the blocks of the spans that lie in it.
+//! A stripe
 #![tactic(auto)]
-
 mod block;
 mod span;
 mod spans;
-mod stripe;
-#[cfg(test)]
-mod tests;
-
-pub use stripe::Stripe;
