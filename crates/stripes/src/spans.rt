@@ -1,4 +1,4 @@
-//! The blocks of files, by spans.
+//! Spans of files, by fileids and numbers.
 
 ghost use Rattle.std.specs.Prelude.{
   ◌≡◌,
@@ -53,66 +53,17 @@ ghost use Rattle.stripes.specs.Spans.{
   There,
 };
 
-use crate::block::{BLOCK_BYTES, Block};
-use crate::span::{SPAN_BLOCKS, SPAN_BYTES, Span, put_zeros};
-use nfs_values::BlockNumber;
+use crate::block::Block;
+use crate::span::{SPAN_BLOCKS, SPAN_BYTES, Span};
 use std::alloc::{AllocError, Global};
 use std::collections::BTreeMap;
-use std::marker::Model;
 
 /// Spans by fileid and number, each with a block at least.
-type SpanMap = BTreeMap<(u64, u64), Span>;
-
-/// The blocks of files.
-#[derive(Drop)]
-pub struct Blocks {
-    alloc: Global,
-    spans: SpanMap,
-}
-
-impl Blocks {
-    /// No block. It takes no memory.
-    pub fn new(alloc: Global) -> Blocks {
-        Blocks {
-            alloc,
-            spans: BTreeMap::new(alloc),
-        }
-    }
-
-    /// Appends n bytes of a file from an offset on, which lie in one span.
-    pub fn read(&self, fileid: u64, offset: u64, n: usize, into: &mut Vec<u8>) {
-        match self.spans.get(&(fileid, offset / SPAN_BYTES)) {
-            Some(span) => span.read(offset, n, into),
-            None => put_zeros(into, n),
-        }
-    }
-
-    /// Writes bytes at an offset of a file, which lie in one span, where each of their blocks is
-    /// filled, and tells whether it did.
-    pub fn overwrite(&mut self, fileid: u64, offset: u64, written: &[u8]) -> bool {
-        overwrite_in(&mut self.spans, fileid, offset, written)
-    }
-
-    /// Fills a block with zeros.
-    pub fn insert(&mut self, fileid: u64, block: u64, number: BlockNumber) -> Result<(), AllocError> {
-        let zeros = Block::zero(self.alloc, number)?;
-        insert_in(&mut self.spans, self.alloc, fileid, block, zeros)
-    }
-
-    /// Takes a file's first block that lies wholly past a size, and tells its number. Where there
-    /// is none it zeroes the rest of the block in which the size lies.
-    pub fn cut(&mut self, fileid: u64, size: u64) -> Option<BlockNumber> {
-        if let Some(block) = take_from(&mut self.spans, fileid, size.div_ceil(BLOCK_BYTES)) {
-            return Some(block.number());
-        }
-        zero_tail(&mut self.spans, fileid, size);
-        None
-    }
-}
+pub type SpanMap = BTreeMap<(u64, u64), Span>;
 
 /// Writes bytes at an offset of a file where each of their blocks is filled, and tells whether it
 /// did.
-fn overwrite_in(spans: &mut SpanMap, fileid: u64, offset: u64, written: &[u8]) -> bool
+pub fn overwrite_in(spans: &mut SpanMap, fileid: u64, offset: u64, written: &[u8]) -> bool
     requires some { 0 < length written.now }
     requires span { offset % span_bytes + length written.now ≤ span_bytes }
     ensures answer { result ≡ span_is_filled offset (length written.now)
@@ -144,7 +95,7 @@ fn write_filled(span: &mut Span, offset: u64, written: &[u8]) -> bool
 }
 
 /// Puts a block at its place.
-fn insert_in(
+pub fn insert_in(
     spans: &mut SpanMap,
     alloc: Global,
     fileid: u64,
@@ -183,7 +134,7 @@ fn add_span(
 }
 
 /// Takes a file's first block from a number on.
-fn take_from(spans: &mut SpanMap, fileid: u64, first: u64) -> Option<Block>
+pub fn take_from(spans: &mut SpanMap, fileid: u64, first: u64) -> Option<Block>
     requires { AllFilled spans.old.entries }
     ensures taken { IfSome result
         (λ block. FreesFirst fileid first block spans.old.entries spans.new.entries) }
@@ -288,7 +239,7 @@ fn next_span(spans: &SpanMap, fileid: u64, from: u64) -> Option<u64>
 }
 
 /// Zeroes the rest of the block in which a size lies, if it is there.
-fn zero_tail(spans: &mut SpanMap, fileid: u64, size: u64)
+pub fn zero_tail(spans: &mut SpanMap, fileid: u64, size: u64)
     ensures { ChangesSpan (Where (CutsSpan size)) (fileid, size / span_bytes)
         spans.old.entries spans.new.entries }
 {
