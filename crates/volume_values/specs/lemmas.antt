@@ -3,3 +3,4 @@ pub mod Directories
 pub mod Maps
 pub mod Numbered
 pub mod Inodes
+pub mod Entries

@@ -1,0 +1,12 @@
+//! A stripe of a volume: the cards of all inodes, and the blocks of the spans that lie in it.
+#![tactic(auto)]
+
+mod block;
+mod blocks;
+mod span;
+mod spans;
+mod stripe;
+#[cfg(test)]
+mod tests;
+
+pub use stripe::Stripe;
