@@ -1,15 +1,14 @@
 -- The numbers of blocks past a size, in the order of their places.
-use Rattle.std.proofs.Common.{◌≡◌, ℕ, ◌+◌, ◌*◌, ◌/◌, ◌<◌, ◌≤◌, ◌==◌, ◌&&◌, Bool, true, false, not, cond, List, [], ◌∷◌, map, refl, sym, ap, ◌∙◌, inl, inr, arith, subst, Option, Some, None, IsSome, is_some, eq-eqb, nat_le, Ordering}
-use Rattle.std.proofs.lemmas.Bool.{cases_eq, cases_lt}
+use Rattle.std.proofs.Common.{◌≡◌, Bool, true, false, cond, List, [], ◌∷◌, refl, sym, ap, ◌∙◌, inl, inr, Option, Some, None, is_some, Ordering}
 use Rattle.std.specs.List.{filter}
 use Rattle.std.specs.declared.cmp.Ordering.TheVariants.{Less, Equal, Greater}
-use Rattle.std.specs.Ordering.{eq_by_cmp, is_eq, is_gt}
+use Rattle.std.specs.Ordering.{eq_by_cmp}
 use Rattle.std.specs.BTreeMap.{is_at}
 use Rattle.std.specs.FinMap.{FinMap, get, insert, entries, find, get-entries, get-insert, entries-insert, same_map}
 use Rattle.std.specs.FinMap.Entries.{put, by_order}
 use Rattle.volume_values.specs.Stripes.{Block, Place, place_cmp}
 use Rattle.volume_values.specs.lemmas.Entries.{place_total, place_same}
-use Rattle.stripes.proofs.Keys.{key-cases, key-itself, key-turned, key-same}
+use Rattle.stripes.proofs.Keys.{key-cases, key-itself, key-turned}
 
 abbrev Entry : Type 0
 Entry = Place × Block
@@ -46,6 +45,7 @@ filter-first test k v (e ∷ es) passes other before =
   where
     rest : List Entry
     rest = filter (λ (x : Entry). test x.0) es
+
     by : (r : Ordering) → place_cmp k e.0 ≡ r → filter (λ (x : Entry). test x.0) (put place_cmp k v es) ≡ (k, v) ∷ rest
         → filter (λ (x : Entry). test x.0) (by_order r ((k, v) ∷ e ∷ es) ((e.0, v) ∷ es) (e ∷ put place_cmp k v es))
         ≡ (k, v) ∷ filter (λ (x : Entry). test x.0) (e ∷ es)
@@ -63,30 +63,38 @@ pub freed-first : (test : Place → Bool) (k : Place) (v : Block) (old new : Fin
 freed-first test k v old new passes there gone first =
     ap (λ m. filter (λ (e : Entry). test e.0) (entries m)) again ∙ ap (filter (λ (e : Entry). test e.0)) (entries-insert place_total new k v)
     ∙ filter-first test k v (entries new) passes
-      (λ q f h. let same = place_same k q h in absurd (let no : false ≡ true = sym (ap is_some (left q) ∙ ap (λ t. is_some (cond t None (get old q)))
-        (ap (λ p. is_at (place_cmp k) p) (sym same) ∙ key-itself k)) ∙ f in cc))
-      (λ q f h. by (test q) (test q) refl (λ t. absurd (let no : false ≡ true = sym (ap is_some (left q ∙ ap (cond (is_at (place_cmp k) q) None) (first q t h)) ∙ neither (is_at (place_cmp k) q)) ∙ f in cc)))
+    (λ q f h. let same = place_same k q h in absurd (let no : false ≡ true = sym (ap is_some (left q) ∙ ap (λ t. is_some (cond t None (get old q)))
+    (ap (λ p. is_at (place_cmp k) p) (sym same) ∙ key-itself k)) ∙ f in cc))
+    (λ q f h. by (test q) (test q) refl (λ t. absurd (let no : false ≡ true = sym
+    (ap is_some (left q ∙ ap (cond (is_at (place_cmp k) q) None) (first q t h)) ∙ neither (is_at (place_cmp k) q)) ∙ f in cc)))
   where
     left : (q : Place) → find place_cmp q (entries new) ≡ cond (is_at (place_cmp k) q) None (get old q)
     left q = sym (get-entries new q) ∙ gone q
+
     nothing : Option Block
     nothing = None
+
     neither : (t : Bool) → is_some (cond t nothing nothing) ≡ false
     neither true = refl
     neither false = refl
+
     by : (t x : Bool) → x ≡ t → (x ≡ true → x ≡ false) → x ≡ false
     by true x e h = h e
     by false x e h = e
+
     again : old ≡ insert new k v
     again = same_map place_total place_same _ _ (λ q. elim (key-cases k q) [
-        | inl same ↦ ap (get old) (sym same) ∙ there ∙ sym (get-insert place_total new k v q ∙ ap (λ t. cond t (Some v) (get new q)) (sym (key-turned k q) ∙ ap (λ p. is_at (place_cmp k) p) (sym same) ∙ key-itself k))
-        | inr other ↦ sym (get-insert place_total new k v q ∙ ap (λ t. cond t (Some v) (get new q)) (sym (key-turned k q) ∙ other)
+      | inl same ↦ ap (get old) (sym same) ∙ there ∙ sym (get-insert place_total new k v q
+          ∙ ap (λ t. cond t (Some v) (get new q)) (sym (key-turned k q) ∙ ap (λ p. is_at (place_cmp k) p) (sym same) ∙ key-itself k))
+      | inr other ↦ sym (get-insert place_total new k v q ∙ ap (λ t. cond t (Some v) (get new q)) (sym (key-turned k q) ∙ other)
           ∙ gone q ∙ ap (λ t. cond t None (get old q)) other)
-      ])
+    ])
 
 -- none is past a size
-pub freed-none : (test : Place → Bool) (m : FinMap place_cmp Block) → ((q : Place) → test q ≡ true → get m q ≡ None) → filter (λ (e : Entry). test e.0) (entries m) ≡ []
-freed-none test m none = filter-none test (entries m) (λ q f. by (test q) (test q) refl (λ t. absurd (let no : false ≡ true = sym (ap is_some (sym (get-entries m q) ∙ none q t)) ∙ f in cc)))
+pub freed-none : (test : Place → Bool) (m : FinMap place_cmp Block) → ((q : Place) → test q ≡ true → get m q ≡ None)
+    → filter (λ (e : Entry). test e.0) (entries m) ≡ []
+freed-none test m none = filter-none test (entries m) (λ q f. by (test q) (test q) refl
+    (λ t. absurd (let no : false ≡ true = sym (ap is_some (sym (get-entries m q) ∙ none q t)) ∙ f in cc)))
   where
     by : (t x : Bool) → x ≡ t → (x ≡ true → x ≡ false) → x ≡ false
     by true x e h = h e

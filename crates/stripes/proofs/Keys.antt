@@ -1,5 +1,6 @@
 -- Places as keys.
-use Rattle.std.proofs.Common.{◌≡◌, ◌≢◌, ◌⊎◌, ℕ, ◌+◌, ◌*◌, ◌/◌, ◌%◌, ◌<◌, ◌≤◌, ◌==◌, ◌&&◌, Bool, true, false, cond, refl, sym, ap, ◌∙◌, inl, inr, arith, Ordering, subst, eq-eqb, Option, Some, None, IsSome}
+use Rattle.std.proofs.Common.{◌≡◌, ◌⊎◌, ℕ, ◌+◌, ◌*◌, ◌/◌, ◌%◌, ◌<◌, ◌≤◌, ◌==◌, ◌&&◌, Bool, true, false, refl, sym, ap, ◌∙◌, inl, inr, arith, Ordering, eq-eqb}
+use Rattle.std.proofs.Common.{Option, Some, None, IsSome}
 use Rattle.std.specs.declared.cmp.Ordering.TheVariants.{Less, Equal, Greater}
 use Rattle.std.specs.Ordering.{nat_cmp, is_eq, is_gt, eq_by_cmp, ordering_then}
 use Rattle.std.specs.Cmp.{unsigned_tied, eq_by_cmp_equiv, nat_cmp_is}
@@ -44,12 +45,13 @@ pub key-itself : (k : Place) → is_at (place_cmp k) k ≡ true
 key-itself k = key-test k k ∙ ap (λ b. b && (k.1 == k.1)) (eq-eqb k.0 k.0 refl) ∙ eq-eqb k.1 k.1 refl
 
 -- a block of another span is another block
-pub key-other : (fileid number : ℕ) (p : Place) → is_at (place_cmp (span_of (fileid, number))) (span_of p) ≡ false → is_at (place_cmp (fileid, number)) p ≡ false
+pub key-other : (fileid number : ℕ) (p : Place) → is_at (place_cmp (span_of (fileid, number))) (span_of p) ≡ false
+    → is_at (place_cmp (fileid, number)) p ≡ false
 key-other fileid number p apart = by (is_at (place_cmp (fileid, number)) p) refl
   where
     by : (b : Bool) → is_at (place_cmp (fileid, number)) p ≡ b → is_at (place_cmp (fileid, number)) p ≡ false
     by true e = absurd (let same = key-same (fileid, number) p e in
-      let no : true ≡ false = sym (key-itself (span_of p)) ∙ sym (ap (λ q. is_at (place_cmp (span_of q)) (span_of p)) same) ∙ apart in cc)
+        let no : true ≡ false = sym (key-itself (span_of p)) ∙ sym (ap (λ q. is_at (place_cmp (span_of q)) (span_of p)) same) ∙ apart in cc)
     by false e = e
 
 -- in one span, a block is known by its place
@@ -101,9 +103,9 @@ none-before o k f t first same below = not-some o (λ some. after-span k (f, t) 
 pub none-of-file : (o : Option Places) (k : Place) (f from t : ℕ) → is_gt (place_cmp (f, from) k) ≡ false
     → (IsSome o → is_gt (place_cmp k (f, t)) ≡ false) → (k.0 ≡ f → ⊥) → o ≡ None
 none-of-file o k f from t within first other = not-some o (λ some. elim (cases_lt f k.0) [
-      | inl h ↦ after-file k (f, t) h (first some)
-      | inr h ↦ after-file (f, from) k (let g : k.0 < f = omega arith in g) within
-    ])
+  | inl h ↦ after-file k (f, t) h (first some)
+  | inr h ↦ after-file (f, from) k (let g : k.0 < f = omega arith in g) within
+])
 
 pub key-apart : (k q : Place) → is_at (place_cmp k) q ≡ false → k.0 ≡ q.0 → k.1 ≡ q.1 → ⊥
 key-apart k q other a b =

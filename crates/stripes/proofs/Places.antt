@@ -1,5 +1,6 @@
 -- Places of a span's array, as the code reads and writes them.
-use Rattle.std.proofs.Common.{◌≡◌, ◌≢◌, eq-eqb, ℕ, zero, suc, ◌+◌, ◌-◌, ◌*◌, ◌/◌, ◌%◌, ◌<◌, ◌≤◌, ◌==◌, Bool, true, false, cond, List, [], ◌∷◌, length, get_or, set, replicate, refl, sym, ap, ◌∙◌, arith, Option, Some, None, is_some, inl, inr}
+use Rattle.std.proofs.Common.{◌≡◌, ◌≢◌, eq-eqb, ℕ, zero, suc, ◌%◌, ◌<◌, ◌==◌, false, cond, [], ◌∷◌, length, get_or, set, replicate, refl, sym, ap, ◌∙◌, arith}
+use Rattle.std.proofs.Common.{Option, Some, None, inl, inr}
 use Rattle.std.proofs.lemmas.Bool.{cases_eq, cases_lt}
 use Rattle.std.proofs.lemmas.Bool.Decides.{nat_tests}
 use Rattle.std.proofs.lemmas.List.{get_or-set_same, get_or-set_other, get_or-replicate, get_or_past, length-replicate}
@@ -23,9 +24,9 @@ none_here = None
 
 nothing-there : (n i : ℕ) → get_or (replicate n none_here) i None ≡ None
 nothing-there n i = elim (cases_lt i n) [
-    | inl below ↦ get_or-replicate n i none_here None below
-    | inr past ↦ get_or_past (replicate n none_here) i None (omega (arith, length-replicate n none_here))
-  ]
+  | inl below ↦ get_or-replicate n i none_here None below
+  | inr past ↦ get_or_past (replicate n none_here) i None (omega (arith, length-replicate n none_here))
+]
 
 -- a block put among no others
 pub put-alone : (xs : Places) (i number b : ℕ) (block : Block) → xs ≡ replicate 64 none_here → i ≡ number % span_blocks
@@ -34,8 +35,8 @@ put-alone xs i number b block none h =
     let long : length xs ≡ 64 = ap length none ∙ length-replicate 64 none_here in
     elim (cases_eq (b % span_blocks) (number % span_blocks)) [
       | inl same ↦ ap (λ j. get_or (set xs i (Some block)) j None) (same ∙ sym h) ∙ get_or-set_same xs i (Some block) None (omega arith)
-        ∙ sym (ap (λ t. cond t (Some block) none_here) (eq-eqb _ _ same))
+          ∙ sym (ap (λ t. cond t (Some block) none_here) (eq-eqb _ _ same))
       | inr other ↦ get_or-set_other xs i (b % span_blocks) (Some block) None (λ e. other (e ∙ h))
-        ∙ ap (λ l. get_or l (b % span_blocks) None) none ∙ nothing-there 64 (b % span_blocks)
-        ∙ sym (ap (λ t. cond t (Some block) none_here) (unlike _ _ other))
+          ∙ ap (λ l. get_or l (b % span_blocks) None) none ∙ nothing-there 64 (b % span_blocks)
+          ∙ sym (ap (λ t. cond t (Some block) none_here) (unlike _ _ other))
     ]

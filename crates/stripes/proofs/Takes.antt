@@ -1,11 +1,13 @@
 -- Blocks that are taken out of the arrays.
-use Rattle.std.proofs.Common.{◌≡◌, ◌≢◌, ◌⊎◌, ℕ, ◌+◌, ◌*◌, ◌/◌, ◌%◌, ◌<◌, ◌≤◌, ◌==◌, Bool, true, false, cond, refl, sym, ap, ◌∙◌, inl, inr, arith, subst, Option, Some, None, IsSome, IfSome, IfNone, is_some, get_or}
-use Rattle.std.proofs.lemmas.Bool.{cases_eq, cases_lt}
+use Rattle.std.proofs.Common.{◌≡◌, ℕ, ◌+◌, ◌*◌, ◌/◌, ◌%◌, ◌<◌, ◌≤◌, ◌==◌, Bool, true, false, cond, refl, sym, ap, ◌∙◌, inl, inr, arith, subst, Option, Some}
+use Rattle.std.proofs.Common.{None, IfSome, IfNone, get_or}
+use Rattle.std.proofs.lemmas.Bool.{cases_lt}
 use Rattle.std.proofs.lemmas.Option.{same_Some}
 use Rattle.std.specs.BTreeMap.{is_at}
 use Rattle.volume_values.specs.Stripes.{Block, Place, place_cmp, span_blocks}
-use Rattle.stripes.specs.Spans.{Places, Spans, place_of, place_in, span_of, block_at, span_at, AllFilled, SameSpans, ChangesSpan, Where, There, Drops, Stays, Takes, TakesFirst, TakesNone, TakesBlock, IsFirst, HasNone, HasBlock, HasNoneFrom, FreesFirst}
-use Rattle.stripes.proofs.Keys.{key-cases, key-same, key-itself, key-other, key-within}
+use Rattle.stripes.specs.Spans.{Places, Spans, place_of, place_in, span_of, block_at, span_at, AllFilled, SameSpans, ChangesSpan, Where, There, Drops, Stays}
+use Rattle.stripes.specs.Spans.{Takes, TakesFirst, TakesNone, IsFirst, HasBlock, HasNoneFrom, FreesFirst}
+use Rattle.stripes.proofs.Keys.{key-cases, key-other, key-within}
 
 -- the block of a file in a span
 pub block-in-span : (spans : Spans) (f s b : ℕ) (o : Option Places) → b / span_blocks ≡ s → span_at spans (f, s) ≡ o → block_at spans (f, b) ≡ place_in o b
@@ -24,9 +26,9 @@ same-array (Some a) (Some b) h = ap Some h
 -- an array that stays
 pub stays-same : (k : Place) (old new : Spans) → ChangesSpan (Where Stays) k old new → SameSpans old new
 stays-same k old new changes q = elim (key-cases k q) [
-    | inl e ↦ subst (λ q. span_at new q ≡ span_at old q) e (same-array (span_at old k) (span_at new k) changes.here)
-    | inr n ↦ changes.others q n
-  ]
+  | inl e ↦ subst (λ q. span_at new q ≡ span_at old q) e (same-array (span_at old k) (span_at new k) changes.here)
+  | inr n ↦ changes.others q n
+]
 
 -- a place is known by what is left when it is divided
 pub place-mod : (places : Places) (b : ℕ) → place_of places (b % span_blocks) ≡ place_of places b
@@ -46,14 +48,14 @@ left-of f s from block old None t = record {
   first = t.1.first;
   there = t.1.taken.there;
   gone = λ b. sym (sym (place-mod t.0 b) ∙ t.1.empty refl (b % span_blocks) (omega arith) (omega arith)) ∙ t.1.taken.gone b;
-  filled = λ places e. absurd (cc)
+  filled = λ places e. absurd (cc);
 }
 left-of f s from block old (Some new) t = record {
   place = t.place;
   first = t.first;
   there = t.taken.there;
   gone = t.taken.gone;
-  filled = λ places e. subst HasBlock (same_Some _ _ e) (t.filled refl)
+  filled = λ places e. subst HasBlock (same_Some _ _ e) (t.filled refl);
 }
 
 -- the first block of a span from a place on is the file's first from there on
@@ -67,21 +69,24 @@ frees-in f s from block old new few changes filled = by (span_at old (f, s)) ref
       number = span_blocks * s + left.place;
       from = let h = left.first.after in omega arith;
       before = λ b first below. block-in-span old f s b (Some a) (let h = left.first.within in omega arith) e ∙ sym (place-mod a b)
-        ∙ left.first.before (b % span_blocks) (let h = left.first.within in omega arith) (let h = left.first.within in omega arith);
+          ∙ left.first.before (b % span_blocks) (let h = left.first.within in omega arith) (let h = left.first.within in omega arith);
       there = block-in-span old f s (span_blocks * s + left.place) (Some a) (let h = left.first.within in omega arith) e
-        ∙ ap (λ i. get_or a i None) (let g = left.first.within in let h : (span_blocks * s + left.place) % span_blocks ≡ left.place % span_blocks = omega arith in h) ∙ left.there;
+          ∙ ap (λ i. get_or a i None) (let g = left.first.within in let h :
+          (span_blocks * s + left.place) % span_blocks ≡ left.place % span_blocks = omega arith in h) ∙ left.there;
       gone = λ p. elim (key-cases (f, s) (span_of p)) [
         | inl same ↦ ap (λ k. place_in (span_at new k) p.1) (sym same) ∙ left.gone p.1
-          ∙ ap (λ t. cond t None (place_of a p.1)) (sym (key-within f s left.place p left.first.within same))
-          ∙ ap (cond (is_at (place_cmp (f, span_blocks * s + left.place)) p) None) (sym (ap (λ k. place_in (span_at old k) p.1) (sym same) ∙ ap (λ o. place_in o p.1) e))
+            ∙ ap (λ t. cond t None (place_of a p.1)) (sym (key-within f s left.place p left.first.within same))
+            ∙ ap (cond (is_at (place_cmp (f, span_blocks * s + left.place)) p) None)
+            (sym (ap (λ k. place_in (span_at old k) p.1) (sym same) ∙ ap (λ o. place_in o p.1) e))
         | inr other ↦ ap (λ o. place_in o p.1) (changes.others (span_of p) other)
-          ∙ ap (λ t. cond t None (block_at old p)) (sym (key-other f (span_blocks * s + left.place) p
-            (ap (λ t. is_at (place_cmp (f, t)) (span_of p)) (let g = left.first.within in let h : (span_blocks * s + left.place) / span_blocks ≡ s = omega arith in h) ∙ other)))
+            ∙ ap (λ t. cond t None (block_at old p)) (sym (key-other f (span_blocks * s + left.place) p
+            (ap (λ t. is_at (place_cmp (f, t)) (span_of p)) (let g = left.first.within in let h :
+            (span_blocks * s + left.place) / span_blocks ≡ s = omega arith in h) ∙ other)))
       ];
       filled = λ k places h. elim (key-cases (f, s) k) [
         | inl same ↦ left.filled places (ap (span_at new) same ∙ h)
         | inr other ↦ filled k places (sym (changes.others k other) ∙ h)
-      ]
+      ];
     }
 
 -- no block before it is there
@@ -96,11 +101,12 @@ frees-from f first after block old mid new le same none frees = record {
   ];
   there = sym (same-blocks old mid same (f, frees.number)) ∙ frees.there;
   gone = λ p. frees.gone p ∙ ap (cond (is_at (place_cmp (f, frees.number)) p) None) (same-blocks old mid same p);
-  filled = frees.filled
+  filled = frees.filled;
 }
 
 -- an array without blocks from a place on
-pub none-in : (spans : Spans) (f s from b : ℕ) (o : Option Places) → span_at spans (f, s) ≡ o → TakesNone from o → b / span_blocks ≡ s → from ≤ b % span_blocks
+pub none-in : (spans : Spans) (f s from b : ℕ) (o : Option Places) → span_at spans (f, s) ≡ o → TakesNone from o → b / span_blocks ≡ s
+    → from ≤ b % span_blocks
     → block_at spans (f, b) ≡ None
 none-in spans f s from b None h none e le = block-in-span spans f s b None e h
 none-in spans f s from b (Some a) h none e le =
@@ -125,7 +131,7 @@ pub takes-last : (from : ℕ) (block : Block) (e : Bool) (k : Place) (old mid ne
     → ChangesSpan Drops k mid new → ChangesSpan (Takes from block) k old new
 takes-last from block e k old mid new is changes drops = record {
   here = none-left from block e _ (span_at mid k) _ is changes.here drops.here;
-  others = λ q other. drops.others q other ∙ changes.others q other
+  others = λ q other. drops.others q other ∙ changes.others q other;
 }
 
 -- what follows of what is taken, and where nothing is
@@ -142,15 +148,16 @@ pub frees-after : (f s next : ℕ) (block : Block) (old new : Spans) → s + 1 �
     → AllFilled old → ChangesSpan (Takes 0 block) (f, next) old new → FreesFirst f (span_blocks * (s + 1)) block old new
 frees-after f s next block old new le none filled changes =
     frees-from f (span_blocks * (s + 1)) (span_blocks * next + 0) block old old new (omega arith) (λ k. refl)
-      (λ b from below. block-in-span old f (b / span_blocks) b None refl (none (b / span_blocks) (omega arith) (omega arith)))
-      (frees-in f next 0 block old new (omega arith) changes filled)
+    (λ b from below. block-in-span old f (b / span_blocks) b None refl (none (b / span_blocks) (omega arith) (omega arith)))
+    (frees-in f next 0 block old new (omega arith) changes filled)
 
 -- a file's first block in the span of a number
-pub frees-at : (f first : ℕ) (block : Block) (old new : Spans) → AllFilled old → ChangesSpan (Takes (first % span_blocks) block) (f, first / span_blocks) old new
+pub frees-at : (f first : ℕ) (block : Block) (old new : Spans) → AllFilled old
+    → ChangesSpan (Takes (first % span_blocks) block) (f, first / span_blocks) old new
     → FreesFirst f first block old new
 frees-at f first block old new filled changes =
     subst (λ n. FreesFirst f n block old new) (let e : span_blocks * (first / span_blocks) + first % span_blocks ≡ first = omega arith in e)
-      (frees-in f (first / span_blocks) (first % span_blocks) block old new (omega arith) changes filled)
+    (frees-in f (first / span_blocks) (first % span_blocks) block old new (omega arith) changes filled)
 
 none-until : (f first b : ℕ) (old : Spans) → TakesNone (first % span_blocks) (span_at old (f, first / span_blocks)) → first ≤ b
     → b < span_blocks * (first / span_blocks + 1) → block_at old (f, b) ≡ None
@@ -158,14 +165,16 @@ none-until f first b old none from below =
     none-in old f (first / span_blocks) (first % span_blocks) b (span_at old (f, first / span_blocks)) refl none (omega arith) (omega arith)
 
 -- a file's first block past the span of a number
-pub frees-later : (f first : ℕ) (block : Block) (old mid new : Spans) → SameSpans old mid → TakesNone (first % span_blocks) (span_at old (f, first / span_blocks))
+pub frees-later : (f first : ℕ) (block : Block) (old mid new : Spans) → SameSpans old mid
+    → TakesNone (first % span_blocks) (span_at old (f, first / span_blocks))
     → FreesFirst f (span_blocks * (first / span_blocks + 1)) block mid new → FreesFirst f first block old new
 frees-later f first block old mid new same none =
-    frees-from f first (span_blocks * (first / span_blocks + 1)) block old mid new (omega arith) same (λ b from below. none-until f first b old none from below)
+    frees-from f first (span_blocks * (first / span_blocks + 1)) block old mid new (omega arith) same
+    (λ b from below. none-until f first b old none from below)
 
 pub none-later : (f first : ℕ) (old mid : Spans) → SameSpans old mid → TakesNone (first % span_blocks) (span_at old (f, first / span_blocks))
     → HasNoneFrom f (span_blocks * (first / span_blocks + 1)) mid → HasNoneFrom f first old
 none-later f first old mid same none after b from = elim (cases_lt b (span_blocks * (first / span_blocks + 1))) [
-    | inl h ↦ none-until f first b old none from h
-    | inr h ↦ sym (same-blocks old mid same (f, b)) ∙ after b h
-  ]
+  | inl h ↦ none-until f first b old none from h
+  | inr h ↦ sym (same-blocks old mid same (f, b)) ∙ after b h
+]

@@ -87,7 +87,8 @@ PutsBlock number block old new =
 abbrev pub WritesBlocks : ℕ → ℕ → ℕ → List ℕ → Places → Places → Type 0
 WritesBlocks first past offset written old new =
     (b : ℕ) → b / span_blocks ≡ offset / span_bytes
-      → place_of new b ≡ (if nat_le first b && nat_lt b past then option_map (block_mapped (byte_written offset written) b) (place_of old b) else place_of old b)
+    → place_of new b ≡ (if nat_le first b && nat_lt b past then option_map (block_mapped (byte_written offset written) b)
+    (place_of old b) else place_of old b)
 
 -- bytes written at an offset, into the blocks that they meet
 abbrev pub WritesSpan : ℕ → List ℕ → Places → Places → Type 0
@@ -97,7 +98,8 @@ WritesSpan offset written = WritesBlocks (offset / block_size) (last_met offset 
 abbrev pub CutsSpan : ℕ → Places → Places → Type 0
 CutsSpan size old new =
     (b : ℕ) → place_of new b
-      ≡ (if b % span_blocks == (size / block_size) % span_blocks then option_map (block_mapped (byte_cut size) (size / block_size)) (place_of old b) else place_of old b)
+    ≡ (if b % span_blocks == (size / block_size) % span_blocks then option_map (block_mapped (byte_cut size) (size / block_size))
+    (place_of old b) else place_of old b)
 
 -- No block is at a place or after it.
 abbrev pub HasNone : ℕ → Places → Type 0

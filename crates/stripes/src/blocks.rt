@@ -91,8 +91,8 @@ impl Blocks {
         requires span { offset % span_bytes + length written.now ≤ span_bytes }
         ensures answer { result ≡ list_all (λ b. is_some (get self.old (fileid, b)))
             (blocks_met offset (length written.now)) }
-        ensures written { IsTrue result
-            → self.new ≡ map_values (file_mapped (byte_written offset written.now) fileid) self.old }
+        ensures written { IsTrue result → self.new
+            ≡ map_values (file_mapped (byte_written offset written.now) fileid) self.old }
         ensures kept { result ≡ false → self.new ≡ self.old }
         ensures long { IsLong self.new }
     {
@@ -101,7 +101,8 @@ impl Blocks {
 
     /// Fills a block with zeros.
     pub fn insert(&mut self, fileid: u64, block: u64, number: BlockNumber) -> Result<(), AllocError>
-        ensures ok { OnOk result (self.new ≡ insert self.old (fileid, block) (zero_block number.0)) }
+        ensures ok { OnOk result
+            (self.new ≡ insert self.old (fileid, block) (zero_block number.0)) }
         ensures err { OnErr result (self.new ≡ self.old) }
         ensures long { IsLong self.new }
     {

@@ -252,7 +252,8 @@ fn write_into(place: &mut Option<Block>, number: u64, offset: u64, written: &[u8
     requires fits { block_size * number < 2 ^ 64 }
     requires met { block_size * number < offset + length written.now }
     requires reached { offset < block_size * number + block_size }
-    ensures { place.new ≡ option_map (block_mapped (byte_written offset written.now) number) place.old }
+    ensures { place.new
+        ≡ option_map (block_mapped (byte_written offset written.now) number) place.old }
 {
     if let Some(block) = place {
         block.write(number, offset, written);

@@ -141,7 +141,12 @@ pub fn take_from(spans: &mut SpanMap, fileid: u64, first: u64) -> Option<Block>
     ensures none { IfNone result (HasNoneFrom fileid first spans.old.entries) }
     ensures kept { IfNone result (SameSpans spans.old.entries spans.new.entries) }
 {
-    match take_in(spans, fileid, first / SPAN_BLOCKS, (first % SPAN_BLOCKS) as usize) {
+    match take_in(
+        spans,
+        fileid,
+        first / SPAN_BLOCKS,
+        (first % SPAN_BLOCKS) as usize,
+    ) {
         Some(block) => Some(block),
         None => take_after(spans, fileid, first / SPAN_BLOCKS),
     }
@@ -187,12 +192,7 @@ fn drop_span(spans: &mut SpanMap, fileid: u64, number: u64)
 }
 
 /// Takes the first block of a span from a place on, and tells whether it was the last.
-fn take_block(
-    spans: &mut SpanMap,
-    fileid: u64,
-    number: u64,
-    from: usize,
-) -> Option<(Block, bool)>
+fn take_block(spans: &mut SpanMap, fileid: u64, number: u64, from: usize) -> Option<(Block, bool)>
     requires { from ≤ span_blocks }
     ensures taken { IfSome result (λ r. ChangesSpan (There (TakesFirst from r.0 r.1))
         (fileid, number) spans.old.entries spans.new.entries) }
@@ -227,13 +227,7 @@ fn next_span(spans: &SpanMap, fileid: u64, from: u64) -> Option<u64>
         → span_at spans.now.entries (fileid, t) ≡ None) }
 {
     match spans.range((fileid, from)..).next() {
-        Some((key, _)) => {
-            if key.0 == fileid {
-                Some(key.1)
-            } else {
-                None
-            }
-        }
+        Some((key, _)) => { if key.0 == fileid { Some(key.1) } else { None } }
         None => None,
     }
 }

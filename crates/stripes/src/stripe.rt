@@ -67,7 +67,13 @@ impl Model for Stripe {
 
     ghost coded = { coded_stripe };
 
-    ghost view = { λ s. record { verifier = s.verifier.0; stripes = s.stripes; largest = s.largest; cards = s.cards; blocks = s.blocks } };
+    ghost view = { λ s. record {
+      verifier = s.verifier.0;
+      stripes = s.stripes;
+      largest = s.largest;
+      cards = s.cards;
+      blocks = s.blocks;
+    } };
 
     ghost invariant = { λ s. IsLong s.blocks };
 }
@@ -174,13 +180,7 @@ impl Stripe {
     /// Writes bytes at an offset of a file, which lie in one span, at a moment, and tells whether
     /// it did. Where the write would extend the file or fill a hole nothing changes. It takes no
     /// memory.
-    pub fn overwrite(
-        &mut self,
-        fileid: Fileid,
-        offset: u64,
-        written: &[u8],
-        moment: Moment,
-    ) -> bool
+    pub fn overwrite(&mut self, fileid: Fileid, offset: u64, written: &[u8], moment: Moment) -> bool
         requires some { 0 < length written.now }
         requires span { offset % span_bytes + length written.now ≤ span_bytes }
         ensures answer { result ≡ stays_within fileid.0 offset (length written.now) self.old }
@@ -218,7 +218,8 @@ impl Stripe {
     pub fn cut(&mut self, fileid: Fileid, size: u64) -> Option<BlockNumber>
         ensures freed { IfSome result (λ n. numbers_freed fileid.0 size self.old
             ≡ n.0 ∷ numbers_freed fileid.0 size self.new) }
-        ensures rest { IfSome result (λ _. cut fileid.0 size self.new ≡ cut fileid.0 size self.old) }
+        ensures rest { IfSome result
+            (λ _. cut fileid.0 size self.new ≡ cut fileid.0 size self.old) }
         ensures none { IfNone result (numbers_freed fileid.0 size self.old ≡ []) }
         ensures done { IfNone result (self.new ≡ cut fileid.0 size self.old) }
     {

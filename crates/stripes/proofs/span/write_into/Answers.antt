@@ -1,4 +1,4 @@
-use Rattle.std.proofs.Common.{◌≡◌, ◌∙◌, ap, sym, Some}
+use Rattle.std.proofs.Common.{◌∙◌, ap, sym, Some}
 use Rattle.std.specs.Option.{option_map}
 use Rattle.volume_values.specs.Stripes.{block_mapped, byte_written}
 use Rattle.stripes.proofs.span.write_into.Goals as goal

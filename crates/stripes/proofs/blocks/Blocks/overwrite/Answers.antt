@@ -1,10 +1,9 @@
-use Rattle.std.proofs.Common.{◌≡◌, length, is_some, sym, ap, ◌∙◌}
+use Rattle.std.proofs.Common.{length, is_some, ap, ◌∙◌}
 use Rattle.std.specs.List.{list_all}
 use Rattle.std.specs.FinMap.{get}
 use Rattle.nfs_model.specs.Serial.Write.{blocks_met}
 use Rattle.volume_values.specs.Maps.{map_values}
 use Rattle.volume_values.specs.Stripes.{file_mapped, byte_written}
-use Rattle.stripes.specs.Spans.{IsSpans}
 use Rattle.stripes.proofs.Takes.{stays-same}
 use Rattle.stripes.proofs.Words.{written-blocks}
 use Rattle.stripes.proofs.Called.{filled-answer, write-spans, long-blocks, same-of}
@@ -35,4 +34,4 @@ pub returns-clause-long : goal.returns-clause-long
 returns-clause-long c =
     long-blocks c.overwrite_in.new.spans.entries
     (write-spans c.overwrite_in.result c.args.fileid c.args.offset c.args.written.now c.self.inside.spans.entries c.overwrite_in.new.spans.entries
-      c.requires.some c.requires.span c.self.invariant c.overwrite_in.ensures.written c.overwrite_in.ensures.kept)
+    c.requires.some c.requires.span c.self.invariant c.overwrite_in.ensures.written c.overwrite_in.ensures.kept)

@@ -7,7 +7,7 @@ invariant-loop-done l = record {
   within : l.done ≤ l.n;
   bytes : l.into.items ≡ l.initial.into.items ++ span_read l.self-inside.places.value l.offset l.done;
   len : vec_len l.into ≡ vec_len l.initial.into + l.done;
-  capacity : vec_capacity l.initial.into ≤ vec_capacity l.into
+  capacity : vec_capacity l.initial.into ≤ vec_capacity l.into;
 }
 
 abbrev pub decreases-loop-done : goal.decreases-loop-done

@@ -6,5 +6,5 @@ use Rattle.stripes.proofs.span.Span.write.Given as goal
 abbrev pub invariant-loop-block : goal.invariant-loop-block
 invariant-loop-block l = record {
   count : length l.self-inside.places.value ≡ span_blocks;
-  written : WritesBlocks l.first l.block l.offset l.written l.initial.self-inside.places.value l.self-inside.places.value
+  written : WritesBlocks l.first l.block l.offset l.written l.initial.self-inside.places.value l.self-inside.places.value;
 }
