@@ -1,12 +1,12 @@
 -- Marks on the block numbers of a range.
-use Rattle.std.specs.Prelude.{◌≡◌, refl, ℕ, ◌/◌, ◌*◌, true, List, take, min}
+use Rattle.std.specs.Prelude.{Bool, ◌≡◌, refl, ℕ, ◌/◌, ◌*◌, true, List, take, min}
 use Rattle.std.specs.Coded.{Coded, code_by, coded×, coded_ℕ}
 use Rattle.std.specs.Ordering.{nat_cmp}
 use Rattle.std.specs.FinSet as sets
 use Rattle.std.specs.FinSet.{FinSet, contains, from_list}
 use Rattle.nfs_model.specs.Parts.{range_blocks, most_carried}
 use Rattle.nfs_model.specs.Moves.{in_range}
-use Rattle.volume_values.specs.Ranges.{range_numbers, with_numbers, without_numbers}
+use Rattle.volume_values.specs.Ranges.{RangeValue, range_numbers, with_numbers, without_numbers}
 use Rattle.vbn_ranges.specs.Words.{set_of}
 
 -- a range, and which of its numbers are marked
@@ -46,3 +46,7 @@ unmarked blocks m = record m { set = without_numbers blocks m.set }
 -- The marked numbers are of the range.
 abbrev pub IsMarks : MarksValue → Type 0
 IsMarks m = (b : ℕ) → contains m.set b ≡ true → b / range_blocks ≡ m.range
+
+-- the range whose free numbers are marked
+abbrev pub range_value : Bool → MarksValue → RangeValue
+range_value is_used marks = record { number = marks.range; is_used = is_used; free = marks.set }

@@ -16,14 +16,14 @@ pub struct Batch {
 }
 
 impl Model for Batch {
-    ghost use Rattle.std.specs.Prelude.{◌≤◌, ℕ, List, take, length};
-    ghost use Rattle.vbn_ranges.specs.Batch.{numbers, IsOfOneRange};
+    ghost use Rattle.std.specs.Prelude.{ℕ, List};
+    ghost use Rattle.vbn_ranges.specs.Batch.{first_numbers, AreInPlace};
 
     ghost Value = { List ℕ };
 
-    ghost view = { λ b. numbers (take b.count b.blocks) };
+    ghost view = { λ b. first_numbers b.count b.blocks };
 
-    ghost invariant = { λ b. (b.count ≤ length b.blocks) × IsOfOneRange (numbers (take b.count b.blocks)) };
+    ghost invariant = { λ b. AreInPlace b.count b.blocks };
 }
 
 impl Batch {

@@ -128,7 +128,8 @@ impl DeadBlocks {
 fn take_first(ranges: &mut [Marks], most: usize) -> Batch
     requires { AreNumbered 0 ranges.old }
     ensures batch { result ≡ lowest_dead most ranges.old }
-    ensures left { all_of ranges.new ≡ without_numbers (lowest_dead most ranges.old) (all_of ranges.old) }
+    ensures left { all_of ranges.new
+        ≡ without_numbers (lowest_dead most ranges.old) (all_of ranges.old) }
     ensures numbered { AreNumbered 0 ranges.new }
     ensures length { length ranges.new ≡ length ranges.old }
 {

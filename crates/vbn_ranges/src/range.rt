@@ -41,14 +41,15 @@ pub struct Range {
 impl Model for Range {
     ghost use Rattle.volume_values.specs.Ranges.{RangeValue, IsRange};
     ghost use Rattle.volume_values.specs.Codes.{coded_range};
+    ghost use Rattle.vbn_ranges.specs.Marks.{range_value};
 
     ghost Value = { RangeValue };
 
     ghost coded = { coded_range };
 
-    ghost view = { λ r. record { number = r.free.range; is_used = r.is_used; free = r.free.set } };
+    ghost view = { λ r. range_value r.is_used r.free };
 
-    ghost invariant = { λ r. IsRange (record { number = r.free.range; is_used = r.is_used; free = r.free.set }) };
+    ghost invariant = { λ r. IsRange (range_value r.is_used r.free) };
 }
 
 impl Range {
