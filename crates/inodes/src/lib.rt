@@ -1,0 +1,10 @@
+//! Inodes of a volume: attributes and kinds by fileid.
+#![tactic(auto)]
+
+mod inode;
+mod inodes;
+#[cfg(test)]
+mod tests;
+
+pub use inode::{Inode, InodeKind, StoredAttributes};
+pub use inodes::Inodes;
