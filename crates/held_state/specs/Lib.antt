@@ -12,3 +12,4 @@ pub mod Promises
 pub mod Sets
 pub mod Calls
 pub mod Opening
+pub mod lemmas
