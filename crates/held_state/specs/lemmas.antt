@@ -2,3 +2,4 @@
 pub mod Each
 pub mod Lens
 pub mod Lenses
+pub mod Opening
