@@ -12,4 +12,5 @@ pub mod Promises
 pub mod Sets
 pub mod Calls
 pub mod Opening
+pub mod Commute
 pub mod lemmas

@@ -1,5 +1,5 @@
 -- Where the block numbers of a volume are (our profile): in the blocks of its stripes, in the stock, dead, free, or in a hand.
-use Rattle.std.specs.Prelude.{◌≡◌, ℕ, ◌+◌, ◌*◌, nat_lt, List, [], ◌∷◌, map}
+use Rattle.std.specs.Prelude.{◌≡◌, ℕ, ◌+◌, ◌*◌, nat_lt, List, [], ◌∷◌, ◌++◌, map}
 use Rattle.std.specs.Ordering.{nat_cmp}
 use Rattle.std.specs.FinMap.{entries}
 use Rattle.std.specs.FinSet.{FinSet, contains, empty, union, from_list}
@@ -17,9 +17,13 @@ use Rattle.held_state.specs.Tree.{ranges_used, volume_of}
 abbrev pub numbers_in : StripeValue → List ℕ
 numbers_in s = map (λ (e : Place × Block). e.1.number) (entries s.blocks)
 
+-- of the blocks of some stripes
+abbrev pub all_numbers : List StripeValue → List ℕ
+all_numbers [] = []
+all_numbers (s ∷ stripes) = numbers_in s ++ all_numbers stripes
+
 abbrev pub files_in : List StripeValue → FinSet nat_cmp
-files_in [] = empty
-files_in (s ∷ stripes) = union (from_list (numbers_in s)) (files_in stripes)
+files_in stripes = from_list (all_numbers stripes)
 
 abbrev pub free_in : List RangeValue → FinSet nat_cmp
 free_in [] = empty

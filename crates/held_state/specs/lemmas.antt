@@ -3,3 +3,5 @@ pub mod Each
 pub mod Lens
 pub mod Lenses
 pub mod Opening
+pub mod Commuting
+pub mod Alike
