@@ -2,3 +2,4 @@
 pub mod Directories
 pub mod Maps
 pub mod Inodes
+pub mod Entries

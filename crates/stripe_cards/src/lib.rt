@@ -1,0 +1,10 @@
+//! The cards of a stripe: for each inode of a volume what its stripes have to know of it.
+#![tactic(auto)]
+
+mod card;
+mod cards;
+#[cfg(test)]
+mod tests;
+
+pub use card::Card;
+pub use cards::Cards;

@@ -1,0 +1,121 @@
+-- The blocks of files by spans, each an array of 64 places.
+use Rattle.std.specs.Prelude.{◌≡◌, ℕ, zero, suc, ◌+◌, ◌-◌, ◌*◌, ◌/◌, ◌%◌, ◌<◌, ◌≤◌, Bool, true, ◌==◌, ◌&&◌, nat_le, nat_lt, if◌then◌else◌}
+use Rattle.std.specs.Prelude.{List, [], ◌∷◌, ◌++◌, map, length, Option, Some, None, is_some, slice_index_or}
+use Rattle.std.specs.List.{range_with_len}
+use Rattle.std.specs.Option.{option_map}
+use Rattle.std.specs.Map.{lookup}
+use Rattle.std.specs.BTreeMap.{is_at}
+use Rattle.std.specs.FinMap.{FinMap, from_entries}
+use Rattle.nfs_model.specs.Server.{block_size}
+use Rattle.nfs_model.specs.Home.{span_bytes}
+use Rattle.volume_values.specs.Stripes.{Block, Place, place_cmp, span_blocks, byte_of, byte_written, byte_cut, block_mapped}
+
+-- the places of a span
+abbrev pub Places : Type 0
+Places = List (Option Block)
+
+-- arrays by their file and span
+abbrev pub Spans : Type 0
+Spans = List (Place × Places)
+
+-- the block of a number in a span's array
+abbrev pub place_of : Places → ℕ → Option Block
+place_of places block = slice_index_or places (block % span_blocks) None
+
+-- the same, where there may be no array
+abbrev pub place_in : Option Places → ℕ → Option Block
+place_in None block = None
+place_in (Some places) block = place_of places block
+
+-- the span of a file's block
+abbrev pub span_of : Place → Place
+span_of p = (p.0, p.1 / span_blocks)
+
+-- a file's block
+abbrev pub block_at : Spans → Place → Option Block
+block_at spans p = place_in (lookup (is_at (place_cmp (span_of p))) spans) p.1
+
+-- n places of a file from a block on
+abbrev pub places_from : ℕ → ℕ → ℕ → List Place
+places_from fileid block zero = []
+places_from fileid block (suc n) = (fileid, block) ∷ places_from fileid (block + 1) n
+
+-- the places of all spans
+unfoldable pub all_places : Spans → List Place
+all_places [] = []
+all_places (e ∷ es) = places_from e.0.0 (span_blocks * e.0.1) span_blocks ++ all_places es
+
+-- an entry, where there is a value
+abbrev pub with_entry : Place → Option Block → List (Place × Block) → List (Place × Block)
+with_entry p None es = es
+with_entry p (Some b) es = (p, b) ∷ es
+
+-- the entries of those places that have a value
+abbrev pub present : (Place → Option Block) → List Place → List (Place × Block)
+present f [] = []
+present f (p ∷ ps) = with_entry p (f p) (present f ps)
+
+-- the blocks of all spans
+unfoldable pub blocks_of : Spans → FinMap place_cmp Block
+blocks_of spans = from_entries (present (block_at spans) (all_places spans))
+
+-- ---- a span's array
+
+-- a byte of a span, and n of them from an offset on
+abbrev pub span_byte : Places → ℕ → ℕ
+span_byte places at = byte_of (place_of places (at / block_size)) (at % block_size)
+
+abbrev pub span_read : Places → ℕ → ℕ → List ℕ
+span_read places offset n = map (span_byte places) (range_with_len offset n)
+
+-- the last of n bytes from an offset on is in this block
+abbrev pub last_met : ℕ → ℕ → ℕ
+last_met offset n = (offset + n - 1) / block_size
+
+-- a block put at its place
+abbrev pub PutsBlock : ℕ → Block → Places → Places → Type 0
+PutsBlock number block old new =
+    (b : ℕ) → place_of new b ≡ (if b % span_blocks == number % span_blocks then Some block else place_of old b)
+
+-- bytes written at an offset, into the blocks from a first one to before another
+abbrev pub WritesBlocks : ℕ → ℕ → ℕ → List ℕ → Places → Places → Type 0
+WritesBlocks first past offset written old new =
+    (b : ℕ) → b / span_blocks ≡ offset / span_bytes
+      → place_of new b ≡ (if nat_le first b && nat_lt b past then option_map (block_mapped (byte_written offset written) b) (place_of old b) else place_of old b)
+
+-- bytes written at an offset, into the blocks that they meet
+abbrev pub WritesSpan : ℕ → List ℕ → Places → Places → Type 0
+WritesSpan offset written = WritesBlocks (offset / block_size) (last_met offset (length written) + 1) offset written
+
+-- a block cut at a size
+abbrev pub CutsSpan : ℕ → Places → Places → Type 0
+CutsSpan size old new =
+    (b : ℕ) → place_of new b
+      ≡ (if b % span_blocks == (size / block_size) % span_blocks then option_map (block_mapped (byte_cut size) (size / block_size)) (place_of old b) else place_of old b)
+
+-- No block is at a place or after it.
+abbrev pub HasNone : ℕ → Places → Type 0
+HasNone from places = (i : ℕ) → from ≤ i → i < span_blocks → place_of places i ≡ None
+
+-- A block is somewhere.
+abbrev pub HasBlock : Places → Type 0
+HasBlock places = (i : ℕ) × (i < span_blocks) × (is_some (place_of places i) ≡ true)
+
+-- The first block from a place on is at another.
+pub record IsFirst (from i : ℕ) (places : Places) : Type 0 where
+  pub within : i < span_blocks
+  pub after : from ≤ i
+  pub there : is_some (place_of places i) ≡ true
+  pub before : (j : ℕ) → from ≤ j → j < i → place_of places j ≡ None
+
+-- A block is taken from its place.
+pub record TakesBlock (i : ℕ) (block : Block) (old new : Places) : Type 0 where
+  pub there : place_of old i ≡ Some block
+  pub gone : (b : ℕ) → place_of new b ≡ (if b % span_blocks == i then None else place_of old b)
+
+-- ---- all spans
+
+-- Blocks have 4,096 bytes, and a span's array has a block.
+pub record IsSpans (spans : Spans) : Type 0 where
+  pub long : (p : Place) (b : Block) → block_at spans p ≡ Some b → length b.bytes ≡ block_size
+  pub filled : (k : Place) (places : Places) → lookup (is_at (place_cmp k)) spans ≡ Some places → HasBlock places

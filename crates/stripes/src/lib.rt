@@ -1,0 +1,11 @@
+//! A stripe of a volume: the cards of all inodes, and the blocks of the spans that lie in it.
+#![tactic(auto)]
+
+mod block;
+mod span;
+mod spans;
+mod stripe;
+#[cfg(test)]
+mod tests;
+
+pub use stripe::Stripe;

@@ -1,0 +1,232 @@
+//! A stripe.
+
+ghost use Rattle.std.specs.Prelude.{
+  ◌≡◌,
+  ◌+◌,
+  ◌%◌,
+  ◌<◌,
+  ◌≤◌,
+  ◌++◌,
+  ◌∷◌,
+  [],
+  length,
+  false,
+  IsTrue,
+  IsOk,
+  IsSome,
+  IfSome,
+  IfNone,
+  OnOk,
+  OnErr,
+};
+ghost use Rattle.std.specs.FinMap.{get};
+ghost use Rattle.std.specs.Option.{option_map};
+ghost use Rattle.std.specs.Vec.{vec_len, vec_capacity};
+ghost use Rattle.nfs_model.specs.Home.{span_bytes};
+ghost use Rattle.nfs_values.specs.Moment.{moment_of};
+ghost use Rattle.volume_values.specs.Stripes.{
+  empty_stripe,
+  bytes_read,
+  stays_within,
+  touch_of,
+  touch_taken,
+  file_card_set,
+  folder_card_set,
+  card_dropped,
+  block_inserted,
+  overwritten,
+  cut,
+  numbers_freed,
+};
+ghost use Rattle.stripe_cards.specs.Cards.{card_of};
+
+use crate::spans::Blocks;
+use nfs_values::{BlockNumber, Fileid, Moment, Verifier};
+use std::alloc::{AllocError, Global};
+use std::marker::Model;
+use stripe_cards::{Card, Cards};
+
+/// A stripe of a volume: a card of each inode, and the blocks of the spans that lie in it.
+#[derive(Drop)]
+pub struct Stripe {
+    verifier: Verifier,
+    stripes: u32,
+    largest: u64,
+    cards: Cards,
+    blocks: Blocks,
+}
+
+impl Model for Stripe {
+    ghost use Rattle.volume_values.specs.Stripes.{StripeValue, IsStripe};
+    ghost use Rattle.volume_values.specs.Codes.{coded_stripe};
+
+    ghost Value = { StripeValue };
+
+    ghost coded = { coded_stripe };
+
+    ghost view = { λ s. record { verifier = s.verifier.0; stripes = s.stripes; largest = s.largest; cards = s.cards; blocks = s.blocks } };
+}
+
+impl Stripe {
+    /// A stripe of a volume with so many stripes and a largest size of a file, with the write
+    /// verifier of the run. It takes no memory.
+    pub fn new(alloc: Global, verifier: Verifier, stripes: u32, largest: u64) -> Stripe
+        ensures { result ≡ empty_stripe verifier.0 stripes largest }
+    {
+        Stripe {
+            verifier,
+            stripes,
+            largest,
+            cards: Cards::new(alloc),
+            blocks: Blocks::new(alloc),
+        }
+    }
+
+    /// The write verifier (writeverf3, RFC 1813 section 3.3.7).
+    pub fn verifier(&self) -> Verifier
+        ensures { result.0 ≡ self.now.verifier }
+    {
+        self.verifier
+    }
+
+    /// How many stripes the volume has.
+    pub fn stripes(&self) -> u32
+        ensures { result ≡ self.now.stripes }
+    {
+        self.stripes
+    }
+
+    /// The largest size of a file of the volume, in bytes.
+    pub fn largest(&self) -> u64
+        ensures { result ≡ self.now.largest }
+    {
+        self.largest
+    }
+
+    /// The card of an inode.
+    pub fn card(&self, fileid: Fileid) -> Option<Card>
+        ensures { option_map card_of result ≡ get self.now.cards fileid.0 }
+    {
+        self.cards.get(fileid)
+    }
+
+    /// Sets the card of a file to a size; the touch stays. Memory is needed only for a card that
+    /// isn't there, and where there is none for it nothing changes.
+    pub fn set_file_card(&mut self, fileid: Fileid, size: u64) -> Result<(), AllocError>
+        ensures ok { OnOk result (self.new ≡ file_card_set fileid.0 size self.old) }
+        ensures err { OnErr result (self.new ≡ self.old) }
+        ensures succeeds { IsSome (get self.old.cards fileid.0) → IsOk result }
+    {
+        self.cards.set_file(fileid, size)
+    }
+
+    /// Sets the card of a directory. Memory is needed only for a card that isn't there, and where
+    /// there is none for it nothing changes.
+    pub fn set_directory_card(&mut self, fileid: Fileid) -> Result<(), AllocError>
+        ensures ok { OnOk result (self.new ≡ folder_card_set fileid.0 self.old) }
+        ensures err { OnErr result (self.new ≡ self.old) }
+        ensures succeeds { IsSome (get self.old.cards fileid.0) → IsOk result }
+    {
+        self.cards.set_directory(fileid)
+    }
+
+    /// Sets the size on the card of a file that is there; the touch stays. It takes no memory.
+    pub fn set_size(&mut self, fileid: Fileid, size: u64)
+        requires { IsSome (get self.old.cards fileid.0) }
+        ensures { self.new ≡ file_card_set fileid.0 size self.old }
+    {
+        self.cards.set_size(fileid, size);
+    }
+
+    /// Removes the card of an inode. It takes no memory.
+    pub fn drop_card(&mut self, fileid: Fileid)
+        ensures { self.new ≡ card_dropped fileid.0 self.old }
+    {
+        self.cards.remove(fileid);
+    }
+
+    /// Takes the touch of a file: the latest moment of a write to this stripe since it was last
+    /// taken. It takes no memory.
+    pub fn take_touch(&mut self, fileid: Fileid) -> Option<Moment>
+        ensures touch { option_map moment_of result ≡ touch_of (get self.old.cards fileid.0) }
+        ensures taken { self.new ≡ touch_taken fileid.0 self.old }
+    {
+        self.cards.take_touch(fileid)
+    }
+
+    /// Appends n bytes of a file from an offset on, which lie in one span. A hole reads as zeros,
+    /// and so does what lies past the file's size. It takes no memory.
+    pub fn read(&self, fileid: Fileid, offset: u64, n: usize, into: &mut Vec<u8>)
+        requires span { offset % span_bytes + n ≤ span_bytes }
+        requires room { vec_len into.old + n ≤ vec_capacity into.old }
+        ensures bytes { into.new.items ≡ into.old.items ++ bytes_read self.now fileid.0 offset n }
+        ensures capacity { vec_capacity into.old ≤ vec_capacity into.new }
+    {
+        self.blocks.read(fileid.0, offset, n, into);
+    }
+
+    /// Writes bytes at an offset of a file, which lie in one span, at a moment, and tells whether
+    /// it did. Where the write would extend the file or fill a hole nothing changes. It takes no
+    /// memory.
+    pub fn overwrite(
+        &mut self,
+        fileid: Fileid,
+        offset: u64,
+        written: &[u8],
+        moment: Moment,
+    ) -> bool
+        requires some { 0 < length written.now }
+        requires span { offset % span_bytes + length written.now ≤ span_bytes }
+        ensures answer { result ≡ stays_within fileid.0 offset (length written.now) self.old }
+        ensures written { IsTrue result
+            → self.new ≡ overwritten fileid.0 offset written.now (moment_of moment) self.old }
+        ensures kept { result ≡ false → self.new ≡ self.old }
+    {
+        if !reaches(self.cards.get(fileid), offset, written.len()) {
+            return false;
+        }
+        if !self.blocks.overwrite(fileid.0, offset, written) {
+            return false;
+        }
+        self.cards.touch(fileid, moment);
+        true
+    }
+
+    /// Fills a block of a file with zeros; its number in the volume is given. Where there is no
+    /// memory for it nothing changes.
+    pub fn insert_block(
+        &mut self,
+        fileid: Fileid,
+        block: u64,
+        number: BlockNumber,
+    ) -> Result<(), AllocError>
+        ensures ok { OnOk result (self.new ≡ block_inserted fileid.0 block number.0 self.old) }
+        ensures err { OnErr result (self.new ≡ self.old) }
+    {
+        self.blocks.insert(fileid.0, block, number)
+    }
+
+    /// Cuts a file to a size in steps, to be called until it answers `None`. Each step frees a
+    /// block that lies wholly past the size, and gives its number; the last sets the rest of the
+    /// block in which the size lies to zero. It takes no memory.
+    pub fn cut(&mut self, fileid: Fileid, size: u64) -> Option<BlockNumber>
+        ensures freed { IfSome result (λ n. numbers_freed fileid.0 size self.old
+            ≡ n.0 ∷ numbers_freed fileid.0 size self.new) }
+        ensures rest { IfSome result (λ _. cut fileid.0 size self.new ≡ cut fileid.0 size self.old) }
+        ensures none { IfNone result (numbers_freed fileid.0 size self.old ≡ []) }
+        ensures done { IfNone result (self.new ≡ cut fileid.0 size self.old) }
+    {
+        self.blocks.cut(fileid.0, size)
+    }
+}
+
+/// Whether a card is of a file that has n bytes from an offset on.
+fn reaches(card: Option<Card>, offset: u64, n: usize) -> bool
+    ensures { result ≡ reaches (offset + n) (option_map card_of card) }
+{
+    match card {
+        Some(Card::File { size, .. }) => offset <= size && n as u64 <= size - offset,
+        Some(Card::Directory) => false,
+        None => false,
+    }
+}
