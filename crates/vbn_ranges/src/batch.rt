@@ -1,0 +1,80 @@
+//! Batches of block numbers.
+
+ghost use Rattle.std.specs.Prelude.{◌≡◌, ◌==◌, ◌<◌, ◌++◌, ◌∷◌, [], length};
+ghost use Rattle.std.specs.Option.{option_map};
+ghost use Rattle.nfs_model.specs.Parts.{most_carried, range_of, IsBatch};
+ghost use Rattle.vbn_ranges.specs.Batch.{numbers, IsOfOneRange, batch_range};
+
+use nfs_values::BlockNumber;
+use std::marker::Model;
+
+/// At most 64 block numbers of one range, ascending.
+#[derive(Drop)]
+pub struct Batch {
+    blocks: [BlockNumber; 64],
+    count: usize,
+}
+
+impl Model for Batch {
+    ghost use Rattle.std.specs.Prelude.{◌≤◌, ℕ, List, take, length};
+    ghost use Rattle.vbn_ranges.specs.Batch.{numbers, IsOfOneRange};
+
+    ghost Value = { List ℕ };
+
+    ghost view = { λ b. numbers (take b.count b.blocks) };
+
+    ghost invariant = { λ b. (b.count ≤ length b.blocks) × IsOfOneRange (numbers (take b.count b.blocks)) };
+}
+
+impl Batch {
+    /// No block.
+    pub fn new() -> Batch
+        ensures { result ≡ [] }
+    {
+        Batch {
+            blocks: [BlockNumber(0); 64],
+            count: 0,
+        }
+    }
+
+    /// The number of blocks.
+    pub fn len(&self) -> usize
+        ensures value { result ≡ length self.now }
+        ensures batch { IsOfOneRange self.now }
+    {
+        self.count
+    }
+
+    /// Whether there is no block.
+    pub fn is_empty(&self) -> bool
+        ensures { result ≡ (length self.now == 0) }
+    {
+        self.count == 0
+    }
+
+    /// The range of the blocks; without a block there is none.
+    pub fn range(&self) -> Option<u32>
+        ensures { result ≡ batch_range self.now }
+    {
+        let first = self.as_slice().first()?;
+        Some(first.0 / 1024)
+    }
+
+    /// The blocks, ascending.
+    pub fn as_slice(&self) -> &[BlockNumber]
+        ensures value { numbers result.now ≡ self.now }
+        ensures batch { IsOfOneRange self.now }
+    {
+        &self.blocks[..self.count]
+    }
+
+    /// Adds a block after the others.
+    pub(crate) fn push(&mut self, block: BlockNumber)
+        requires room { length self.old < most_carried }
+        requires batch { IsOfOneRange (self.old ++ block.0 ∷ []) }
+        ensures { self.new ≡ self.old ++ block.0 ∷ [] }
+    {
+        self.blocks[self.count] = block;
+        self.count += 1;
+    }
+}

@@ -1,0 +1,18 @@
+//! Block numbers of a volume: ranges, the stock, and dead blocks.
+#![tactic(auto)]
+
+mod batch;
+mod dead;
+mod fault;
+mod marks;
+mod range;
+mod stock;
+#[cfg(test)]
+mod tests;
+mod words;
+
+pub use batch::Batch;
+pub use dead::DeadBlocks;
+pub use fault::RangeFault;
+pub use range::Range;
+pub use stock::Stock;

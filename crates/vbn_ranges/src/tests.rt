@@ -1,0 +1,109 @@
+//! Ranges at the edges of their words, the stock, and dead blocks of two ranges.
+
+use super::*;
+use nfs_values::BlockNumber;
+use std::alloc::{AllocError, Global};
+use std::test::Fail;
+
+/// The numbers of a batch.
+fn numbers(alloc: Global, batch: &Batch) -> Result<Vec<u32>, AllocError> {
+    let mut list = Vec::new(alloc);
+    for block in batch.as_slice() {
+        list.push(block.0)?;
+    }
+    Ok(list)
+}
+
+/// The numbers of a batch that is taken, none where it is refused.
+fn take(alloc: Global, range: &mut Range, n: usize) -> Result<Vec<u32>, AllocError> {
+    match range.take(n) {
+        Ok(batch) => numbers(alloc, &batch),
+        Err(_) => Ok(Vec::new(alloc)),
+    }
+}
+
+/// A range in use, of which only some blocks are free.
+fn range_with(alloc: Global, free: &[u32]) -> Result<Range, AllocError> {
+    let mut range = Range::new(0);
+    range.put_in_use();
+    let mut dead = DeadBlocks::new(alloc)?;
+    for _ in 0..16 {
+        let _ = range.take(64);
+    }
+    for number in free {
+        if *number < 16384 {
+            dead.mark(BlockNumber(*number));
+        }
+    }
+    let _ = range.give(&dead.take_batch());
+    Ok(range)
+}
+
+#[test]
+fn lowest_free(rt: HostRuntime) -> Result<(), Fail> {
+    let alloc = rt.alloc();
+    let mut range = range_with(alloc, &[1023, 63, 128, 64, 127])?;
+    assert_eq!(rt; range.free_count(), 5);
+    assert_eq!(rt; take(alloc, &mut range, 4)?.as_slice(), [63, 64, 127, 128].as_slice());
+    assert_eq!(rt; take(alloc, &mut range, 4)?.as_slice(), [1023].as_slice());
+    assert_eq!(rt; range.free_count(), 0);
+    Ok(())
+}
+
+#[test]
+fn refusals(rt: HostRuntime) -> Result<(), Fail> {
+    let alloc = rt.alloc();
+    let mut range = Range::new(15);
+    assert!(rt; matches!(range.take(1), Err(RangeFault::NoSuchRange)));
+    assert_eq!(rt; (RangeFault::NoSuchRange.number(), RangeFault::NotHeld.number()), (41, 42));
+    range.put_in_use();
+    assert!(rt; take(alloc, &mut range, 0)?.is_empty());
+    assert_eq!(rt; range.free_count(), 1024);
+    let Ok(batch) = range.take(200) else {
+        return Err(Fail::from(AllocError));
+    };
+    assert_eq!(rt; (batch.len(), range.free_count()), (64, 960));
+    assert_eq!(rt; batch.as_slice()[0], BlockNumber(15360));
+    assert_eq!(rt; batch.as_slice()[63], BlockNumber(15423));
+    assert_eq!(rt; range.give(&batch), Ok(()));
+    assert_eq!(rt; range.give(&batch), Err(RangeFault::NotHeld));
+    assert_eq!(rt; Range::new(15).give(&batch), Err(RangeFault::NotHeld));
+    assert_eq!(rt; range.free_count(), 1024);
+    Ok(())
+}
+
+#[test]
+fn dead_of_two_ranges(rt: HostRuntime) -> Result<(), Fail> {
+    let alloc = rt.alloc();
+    let mut dead = DeadBlocks::new(alloc)?;
+    for number in 2000..2100 {
+        dead.mark(BlockNumber(number));
+    }
+    dead.mark(BlockNumber(2047));
+    assert_eq!(rt; dead.len(), 100);
+    assert_eq!(rt; numbers(alloc, &dead.take_batch())?.len(), 48);
+    assert_eq!(rt; dead.take(), Some(BlockNumber(2048)));
+    assert_eq!(rt; numbers(alloc, &dead.take_batch())?.as_slice()[0], 2049);
+    assert_eq!(rt; dead.take(), None);
+    assert!(rt; dead.is_empty());
+    Ok(())
+}
+
+#[test]
+fn stock_of_a_batch(rt: HostRuntime) -> Result<(), Fail> {
+    let alloc = rt.alloc();
+    let mut range = Range::new(0);
+    range.put_in_use();
+    let mut stock = Stock::new(alloc);
+    assert_eq!(rt; stock.take(), None);
+    if let Ok(batch) = range.take(2) {
+        if stock.is_empty() {
+            stock.put(&batch)?;
+        }
+    }
+    assert_eq!(rt; stock.len(), 2);
+    assert!(rt; stock.take().is_some());
+    assert!(rt; stock.take().is_some());
+    assert!(rt; stock.is_empty());
+    Ok(())
+}
