@@ -1,5 +1,5 @@
 -- Steps at nodes of which neither is the other or above it.
-use Rattle.std.specs.Prelude.{◌≡◌, ℕ, List, Option}
+use Rattle.std.specs.Prelude.{ℕ, List, Option}
 use Rattle.affinity_tree.specs.Ancestors.{IsTree, Excludes}
 use Rattle.depot_rule.specs.History.{Steps}
 

@@ -56,11 +56,15 @@ abbrev pub volume_or_none : Option VolumeContents → VolumeContents
 volume_or_none None = no_volume
 volume_or_none (Some p) = p
 
+-- with another volume at a number
+abbrev pub with_contents : FilerContents → ℕ → VolumeContents → FilerContents
+with_contents c v p = record c { volumes = slice_set c.volumes v p }
+
 -- a part of a volume, as a part of all
 abbrev pub in_volume : {S : Type 0} → ℕ → Part VolumeContents S → Part FilerContents S
 in_volume v part = record {
   of = λ c. part.of (volume_or_none (volume_at c v));
-  put = λ s c. record c { volumes = slice_set c.volumes v (part.put s (volume_or_none (volume_at c v))) };
+  put = λ s c. with_contents c v (part.put s (volume_or_none (volume_at c v)));
 }
 
 -- under an Aggregate: its spare ranges, and by number the volumes on it; at the numbers of others there is nothing

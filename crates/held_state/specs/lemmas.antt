@@ -5,3 +5,4 @@ pub mod Lenses
 pub mod Opening
 pub mod Commuting
 pub mod Alike
+pub mod Steps

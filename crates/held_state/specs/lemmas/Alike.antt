@@ -1,16 +1,15 @@
 -- Which of two layouts with one list of parents is taken changes nothing.
-use Rattle.std.proofs.Common.{◌≡◌, ℕ, zero, suc, ◌+◌, ◌-◌, ◌==◌, ◌||◌, ◌/◌, ◌%◌, Bool, true, false, IsTrue, List, [], ◌∷◌, length, Option, Some, None, refl, sym, ap, ◌∙◌, subst, arith}
-use Rattle.std.specs.Prelude.{min, slice_get, is_some, if◌then◌else◌, nat_lt}
+use Rattle.std.proofs.Common.{◌≡◌, ℕ, zero, suc, ◌+◌, ◌-◌, ◌==◌, ◌||◌, ◌/◌, ◌%◌, IsTrue, List, [], ◌∷◌, length, Option, Some, None, refl, sym, ap, ◌∙◌, subst, arith}
+use Rattle.std.specs.Prelude.{min, slice_get, is_some, if◌then◌else◌}
 use Rattle.nfs_model.specs.Types.{Call, Null, Getattr, Setattr, Lookup, Read, Write, Create, Mkdir, Remove, Rmdir, Rename, Readdir, Fsstat, Commit, Census, Grow}
 use Rattle.nfs_model.specs.Types.{Asked, Ask, Refused, Undecoded}
-use Rattle.nfs_model.specs.Tree.{Layout, VolumeLayout, Affinity, Serial, Aggregate, Volume, Logical, Stripe, Vbn, Range, path, begins, stripes_of, aggregate_of, aggregate_in}
+use Rattle.nfs_model.specs.Tree.{Layout, VolumeLayout, Affinity, Serial, Aggregate, Volume, Logical, Stripe, Vbn, Range, path, begins, aggregate_in}
 use Rattle.nfs_model.specs.Server.{Named, handle_of, most_bytes}
-use Rattle.nfs_model.specs.Home.{home, home_of_asked, named_by, logical_home, volume_home, bytes_home, rename_home, grow_home, stripe_of_span, span_bytes}
+use Rattle.nfs_model.specs.Home.{home, home_of_asked, named_by, logical_home, volume_home, bytes_home, rename_home, grow_home, span_bytes}
 use Rattle.nfs_model.specs.Parts.{most_ranges}
 use Rattle.affinity_tree.specs.Alike.{AreAlike}
-use Rattle.affinity_tree.specs.Tree.{covers}
 use Rattle.held_state.specs.Parcels.{FilerParcel}
-use Rattle.held_state.specs.Contents.{VolumeContents, FilerContents, each, logical_in, stripe_in, range_in, spare_in, contents_of, filer_contents}
+use Rattle.held_state.specs.Contents.{FilerContents, each, logical_in, stripe_in, range_in, spare_in, contents_of, filer_contents}
 use Rattle.held_state.specs.Work.{Work, Serve, Inner, WorkReply, Replied, Took, Gave, Surveyed}
 use Rattle.held_state.specs.Deeds.{IsHomeOrAbove, Does}
 

@@ -1,10 +1,10 @@
 -- Local steps at nodes that don't exclude each other commute.
-use Rattle.std.proofs.Common.{◌≡◌, ℕ, Bool, true, false, List, Option, refl, sym, ◌∙◌, subst}
-use Rattle.affinity_tree.specs.Ancestors.{IsTree, Covers, Excludes}
+use Rattle.std.proofs.Common.{◌≡◌, ℕ, Bool, true, false, Option, refl, sym, ◌∙◌, subst}
+use Rattle.affinity_tree.specs.Ancestors.{Covers}
 use Rattle.depot_rule.specs.Seats.{if_less}
 use Rattle.depot_rule.specs.History.{covers, patched, Steps}
 use Rattle.depot_rule.specs.Machine.{IsLocal}
-use Rattle.depot_rule.specs.lemmas.Covering.{covers-true, true-covers, patched-in, patched-out}
+use Rattle.depot_rule.specs.lemmas.Covering.{covers-true, true-covers, patched-out}
 use Rattle.depot_rule.specs.lemmas.Trees.{cover-excludes}
 use Rattle.held_state.specs.Commute.{Commute}
 
