@@ -1,0 +1,35 @@
+//! Lists of events, given to an engine.
+
+use crate::texts::{getattr, getattr_reply, null, null_reply};
+use affinity_tree::{AggregateSpec, Layout, VolumeSpec};
+use engine::{Engine, Event};
+use std::test::Fail;
+
+#[test]
+fn lists_of_events_are_played(rt: HostRuntime) -> Result<(), Fail> {
+    let alloc = rt.alloc();
+    let Ok(call) = hex::decode(alloc, NULL.as_bytes()) else {
+        return Err("a call in bad hex".into());
+    };
+    let Ok(reply) = hex::decode(alloc, NULL_REPLY.as_bytes()) else {
+        return Err("a reply in bad hex".into());
+    };
+    let aggregate = AggregateSpec { spare: 1 };
+    let volume = VolumeSpec::new(0, 1);
+    let layout = Layout::new(alloc, &[aggregate], &[volume]).map_err(|_fault| "fault")?;
+    let fed = Event::Feed {
+        connection: 0,
+        bytes: &call,
+    };
+    let mut engine = Engine::play(alloc, layout, [0; 8], &[Event::Open, fed]);
+    assert_eq!(rt; engine.output(0), reply.as_slice());
+    assert_eq!(rt; engine.stream(0), call.as_slice());
+    assert_eq!(rt; engine.finished().len(), 1);
+    assert!(rt; engine.running().is_none());
+    assert_eq!(rt;
+        engine.run(&[Event::Open, fed, Event::Work { worker: 0 }]),
+        2
+    );
+    assert_eq!(rt; engine.finished().len(), 2);
+    Ok(())
+}
