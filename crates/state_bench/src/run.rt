@@ -1,0 +1,23 @@
+//! How long the calls of a volume take.
+
+use crate::clock::measure;
+use crate::finds::{Finds, Renewals};
+use crate::gets::Gets;
+use std::alloc::Global;
+use std::io;
+use std::rt::Clock;
+
+/// Measures names in directories.
+fn names<R: Clock + Print>(rt: &R, alloc: Global, passes: u32) -> io::Result<()> {
+    measure(rt, "find in 10 names", &mut Finds::new(alloc, 10)?, passes)?;
+    measure(rt, "find in 1000 names", &mut Finds::new(alloc, 1000)?, passes)?;
+    measure(rt, "find in 65000 names", &mut Finds::new(alloc, 65_000)?, passes)?;
+    measure(rt, "remove and add in 65000 names", &mut Renewals::new(alloc)?, passes)
+}
+
+/// Measures each kind of call.
+pub fn run(rt: &(impl Clock + Print + AllocGlobal), passes: u32) -> io::Result<()> {
+    let alloc = rt.alloc();
+    names(rt, alloc, passes)?;
+    measure(rt, "get in 65000 inodes", &mut Gets::new(alloc)?, passes)
+}
