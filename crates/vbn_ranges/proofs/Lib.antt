@@ -6,5 +6,8 @@ pub mod Each
 pub mod Ranged
 pub mod Stocked
 pub mod DeadSets
+pub mod DeadTaken
+pub mod DeadCounts
+pub mod DeadMarked
 pub mod Counted
 pub mod Single
