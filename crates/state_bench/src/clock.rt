@@ -37,9 +37,10 @@ impl Fastest {
     }
 
     /// How many tenths of a nanosecond it took to do it once.
-    fn tenths_each(self) -> u128 {
+    fn tenths_each(self) -> u64 {
         let nanoseconds = u64::try_from(self.time.as_nanos()).unwrap_or(u64::MAX);
-        u128::from(nanoseconds) * 10 / u128::from(self.done.max(1))
+        let tenths = u128::from(nanoseconds) * 10 / u128::from(self.done.max(1));
+        u64::try_from(tenths).unwrap_or(u64::MAX)
     }
 }
 
@@ -78,7 +79,7 @@ pub fn measure_beside<R: Clock + Print>(
     let (tenths, tenths_plain) = (fastest.tenths_each(), fastest_plain.tenths_each());
     let (whole, tenth) = (tenths / 10, tenths % 10);
     let (whole_plain, tenth_plain) = (tenths_plain / 10, tenths_plain % 10);
-    let ratio = tenths_plain * 1000 / tenths.max(1);
+    let ratio = u128::from(tenths_plain) * 1000 / u128::from(tenths.max(1));
     let (ratio, thousandths) = (ratio / 1000, ratio % 1000);
     print!(rt; "{name}: {whole}.{tenth} ns, ")?;
     println!(rt; "plain {whole_plain}.{tenth_plain} ns, ratio {ratio}.{thousandths:03}")

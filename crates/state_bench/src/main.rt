@@ -6,6 +6,7 @@
 //! Without its argument it prints nothing.
 #![tactic(auto)]
 
+mod batches;
 mod clock;
 mod finds;
 mod gets;

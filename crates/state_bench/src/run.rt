@@ -1,5 +1,6 @@
 //! How long the calls of a volume take.
 
+use crate::batches::{Deaths, Takes};
 use crate::clock::measure;
 use crate::finds::{Finds, Renewals};
 use crate::gets::Gets;
@@ -19,5 +20,7 @@ fn names<R: Clock + Print>(rt: &R, alloc: Global, passes: u32) -> io::Result<()>
 pub fn run(rt: &(impl Clock + Print + AllocGlobal), passes: u32) -> io::Result<()> {
     let alloc = rt.alloc();
     names(rt, alloc, passes)?;
-    measure(rt, "get in 65000 inodes", &mut Gets::new(alloc)?, passes)
+    measure(rt, "get in 65000 inodes", &mut Gets::new(alloc)?, passes)?;
+    measure(rt, "take and give of 64 blocks", &mut Takes::new(), passes)?;
+    measure(rt, "64 dead blocks marked and taken", &mut Deaths::new(alloc)?, passes)
 }
