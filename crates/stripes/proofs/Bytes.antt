@@ -54,7 +54,7 @@ part-written part written ys start offset at skipped n a s e met reached is =
         ]
       ])
 
-byte_kept : (size at old : ℕ) → at < size → byte_cut size at old ≡ old
+pub byte_kept : (size at old : ℕ) → at < size → byte_cut size at old ≡ old
 byte_kept size at old h = grind (arith, nat_tests)
 
 byte_zero : (size at old : ℕ) → size ≤ at → byte_cut size at old ≡ 0

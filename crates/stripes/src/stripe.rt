@@ -25,6 +25,7 @@ ghost use Rattle.std.specs.Vec.{vec_len, vec_capacity};
 ghost use Rattle.nfs_model.specs.Home.{span_bytes};
 ghost use Rattle.nfs_values.specs.Moment.{moment_of};
 ghost use Rattle.volume_values.specs.Stripes.{
+  IsStripe,
   empty_stripe,
   bytes_read,
   stays_within,
@@ -35,12 +36,13 @@ ghost use Rattle.volume_values.specs.Stripes.{
   card_dropped,
   block_inserted,
   overwritten,
+  reaches,
   cut,
   numbers_freed,
 };
 ghost use Rattle.stripe_cards.specs.Cards.{card_of};
 
-use crate::spans::Blocks;
+use crate::blocks::Blocks;
 use nfs_values::{BlockNumber, Fileid, Moment, Verifier};
 use std::alloc::{AllocError, Global};
 use std::marker::Model;
@@ -57,14 +59,17 @@ pub struct Stripe {
 }
 
 impl Model for Stripe {
-    ghost use Rattle.volume_values.specs.Stripes.{StripeValue, IsStripe};
+    ghost use Rattle.volume_values.specs.Stripes.{StripeValue};
     ghost use Rattle.volume_values.specs.Codes.{coded_stripe};
+    ghost use Rattle.stripes.specs.Spans.{IsLong};
 
     ghost Value = { StripeValue };
 
     ghost coded = { coded_stripe };
 
     ghost view = { λ s. record { verifier = s.verifier.0; stripes = s.stripes; largest = s.largest; cards = s.cards; blocks = s.blocks } };
+
+    ghost invariant = { λ s. IsLong s.blocks };
 }
 
 impl Stripe {
@@ -105,7 +110,8 @@ impl Stripe {
 
     /// The card of an inode.
     pub fn card(&self, fileid: Fileid) -> Option<Card>
-        ensures { option_map card_of result ≡ get self.now.cards fileid.0 }
+        ensures card { option_map card_of result ≡ get self.now.cards fileid.0 }
+        ensures stripe { IsStripe self.now }
     {
         self.cards.get(fileid)
     }
