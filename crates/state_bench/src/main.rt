@@ -8,6 +8,7 @@
 
 mod batches;
 mod clock;
+mod copies;
 mod finds;
 mod gets;
 mod run;
