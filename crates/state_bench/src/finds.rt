@@ -112,7 +112,9 @@ impl Work for Renewals {
             let place = self.next % NAMES as usize;
             self.next = place + 1;
             if let Some(name) = self.finds.names.get(place) {
-                if self.finds.directory.remove(name) && add(self.alloc, &mut self.finds.directory, name)? {
+                if self.finds.directory.remove(name)
+                    && add(self.alloc, &mut self.finds.directory, name)?
+                {
                     done = done.wrapping_add(1);
                 }
             }

@@ -12,9 +12,24 @@ use std::rt::Clock;
 /// Measures names in directories.
 fn names<R: Clock + Print>(rt: &R, alloc: Global, passes: u32) -> io::Result<()> {
     measure(rt, "find in 10 names", &mut Finds::new(alloc, 10)?, passes)?;
-    measure(rt, "find in 1000 names", &mut Finds::new(alloc, 1000)?, passes)?;
-    measure(rt, "find in 65000 names", &mut Finds::new(alloc, 65_000)?, passes)?;
-    measure(rt, "remove and add in 65000 names", &mut Renewals::new(alloc)?, passes)
+    measure(
+        rt,
+        "find in 1000 names",
+        &mut Finds::new(alloc, 1000)?,
+        passes,
+    )?;
+    measure(
+        rt,
+        "find in 65000 names",
+        &mut Finds::new(alloc, 65_000)?,
+        passes,
+    )?;
+    measure(
+        rt,
+        "remove and add in 65000 names",
+        &mut Renewals::new(alloc)?,
+        passes,
+    )
 }
 
 /// Measures reads and overwrites of so many bytes.
@@ -36,5 +51,10 @@ pub fn run(rt: &(impl Clock + Print + AllocGlobal), passes: u32) -> io::Result<(
     bytes(rt, alloc, 4096, passes)?;
     bytes(rt, alloc, 65_536, passes)?;
     measure(rt, "take and give of 64 blocks", &mut Takes::new(), passes)?;
-    measure(rt, "64 dead blocks marked and taken", &mut Deaths::new(alloc)?, passes)
+    measure(
+        rt,
+        "64 dead blocks marked and taken",
+        &mut Deaths::new(alloc)?,
+        passes,
+    )
 }
