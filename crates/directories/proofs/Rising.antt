@@ -123,3 +123,13 @@ remove-at low (x ∷ es) next cookie zero e h s is =
     let r = without-none (x.cookie + 1) es next cookie h.1 (omega arith) in grind (arith, nat_tests, r)
 remove-at low (x ∷ es) next cookie (suc i) e h s is =
     let m = at-low (x.cookie + 1) es next i e h.1 s in let r = remove-at (x.cookie + 1) es next cookie i e h.1 s is in grind (arith, nat_tests, r)
+
+-- the entry with a cookie is the one under it
+pub under-at : (low : ℕ) (es : List Listed) (next cookie i : ℕ) (e : Listed) → Rises low es next → slice_get es i ≡ Some e → e.cookie ≡ cookie
+    → under cookie es ≡ slice_get es i
+under-at low [] next cookie i e h s is = absurd (grind (arith, s))
+under-at low (x ∷ es) next cookie zero e h s is =
+    let same : x ≡ e = grind (arith, s) in
+    let here : x.cookie ≡ cookie = ap (λ (y : Listed). y.cookie) same ∙ is in grind (arith, nat_tests)
+under-at low (x ∷ es) next cookie (suc i) e h s is =
+    let m = at-low (x.cookie + 1) es next i e h.1 s in let r = under-at (x.cookie + 1) es next cookie i e h.1 s is in grind (arith, nat_tests, m, r)

@@ -73,12 +73,12 @@ impl Entries {
         self.next
     }
 
-    /// The entry under a cookie that has one.
-    pub fn at(&self, cookie: Cookie) -> &Entry
+    /// The entry under a cookie that has one. Where it is at the place guessed there is no search.
+    pub fn at(&self, cookie: Cookie, guess: u32) -> &Entry
         requires { has self.now.list cookie.0 ≡ true }
         ensures { under cookie.0 self.now.list ≡ Some (entry_of result.now) }
     {
-        &self.list[place_of(&self.list, cookie)]
+        &self.list[place_of(&self.list, cookie, guess)]
     }
 
     /// Adds an entry under the next cookie, which is the result. Where there is no memory for
@@ -99,12 +99,13 @@ impl Entries {
         Ok(cookie)
     }
 
-    /// Removes the entry under a cookie that has one.
-    pub fn remove(&mut self, cookie: Cookie)
+    /// Removes the entry under a cookie that has one. Where it is at the place guessed there is no
+    /// search.
+    pub fn remove(&mut self, cookie: Cookie, guess: u32)
         requires { has self.old.list cookie.0 ≡ true }
         ensures { self.new ≡ dropped cookie.0 self.old }
     {
-        let place = place_of(&self.list, cookie);
+        let place = place_of(&self.list, cookie, guess);
         self.list.remove(place);
     }
 
@@ -119,13 +120,17 @@ impl Entries {
     }
 }
 
-/// The place of the entry under a cookie that has one.
-fn place_of(list: &[Entry], cookie: Cookie) -> usize
+/// The place of the entry under a cookie that has one: the place guessed, or else by a search.
+fn place_of(list: &[Entry], cookie: Cookie, guess: u32) -> usize
     requires rising { IsRising (listed list.now) }
     requires there { has (listed list.now) cookie.0 ≡ true }
     ensures within { result < length list.now }
     ensures place { under cookie.0 (listed list.now) ≡ slice_get (listed list.now) result }
 {
+    let place = guess as usize;
+    if place < list.len() && list[place].cookie.0 == cookie.0 {
+        return place;
+    }
     place_after(list, Cookie(cookie.0 - 1))
 }
 

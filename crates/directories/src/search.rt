@@ -19,8 +19,8 @@ pub struct Search {
     pub compared: usize,
 }
 
-/// Searches an index for a name by halving.
-pub fn find_place(entries: &Entries, index: &[Cookie], name: &[u8]) -> Search
+/// Searches an index for a name by halving, with a guess of each entry's place.
+pub fn find_place(entries: &Entries, index: &[Cookie], places: &[u32], name: &[u8]) -> Search
     requires { IsIndex entries.now.list index.now }
     ensures within { result.place ≤ length index.now }
     ensures there { result.is_there ≡ true → IsAt entries.now index.now name.now result.place }
@@ -33,7 +33,7 @@ pub fn find_place(entries: &Entries, index: &[Cookie], name: &[u8]) -> Search
     while low < high {
         let middle = low + (high - low) / 2;
         compared += 1;
-        match compare(entries, index[middle], name) {
+        match compare(entries, index[middle], guess_at(places, middle), name) {
             Ordering::Less => low = middle + 1,
             Ordering::Greater => high = middle,
             Ordering::Equal => {
@@ -52,10 +52,15 @@ pub fn find_place(entries: &Entries, index: &[Cookie], name: &[u8]) -> Search
     }
 }
 
+/// The guess at a place of an index.
+pub fn guess_at(places: &[u32], place: usize) -> u32 {
+    places.get(place).copied().unwrap_or(0)
+}
+
 /// How the name under a cookie that has one compares with another.
-fn compare(entries: &Entries, cookie: Cookie, name: &[u8]) -> Ordering
+fn compare(entries: &Entries, cookie: Cookie, guess: u32, name: &[u8]) -> Ordering
     requires { has entries.now.list cookie.0 ≡ true }
     ensures { result ≡ name_cmp (name_under entries.now.list cookie) name.now }
 {
-    entries.at(cookie).name.as_bytes().cmp(name)
+    entries.at(cookie, guess).name.as_bytes().cmp(name)
 }

@@ -1,0 +1,16 @@
+pub mod Parcels
+pub mod Contents
+pub mod Tree
+pub mod Names
+pub mod WellFormed
+pub mod Partition
+pub mod Sound
+pub mod Work
+pub mod Deeds
+pub mod Parts
+pub mod Promises
+pub mod Sets
+pub mod Calls
+pub mod Opening
+pub mod Commute
+pub mod lemmas

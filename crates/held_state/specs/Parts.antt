@@ -1,0 +1,95 @@
+-- What is under a node, as a part of a volume or of all that is stored (our profile).
+use Rattle.std.specs.Prelude.{ℕ, ◌==◌, List, [], ◌∷◌, map, Option, Some, None, slice_index_or, slice_set, if◌then◌else◌}
+use Rattle.volume_values.specs.Logical.{LogicalValue}
+use Rattle.volume_values.specs.Stripes.{StripeValue}
+use Rattle.volume_values.specs.Ranges.{RangeValue}
+use Rattle.held_state.specs.Parcels.{no_logical}
+use Rattle.held_state.specs.Contents.{VolumeContents, FilerContents, volume_at}
+use Rattle.held_state.specs.Tree.{stripe_at}
+use Rattle.held_state.specs.WellFormed.{range_at}
+
+-- a part S of a whole W: what a whole has of it, and the whole with another in its place
+pub record Part (W S : Type 0) : Type 0 where
+  pub of : W → S
+  pub put : S → W → W
+
+-- ---- the parts of a volume
+
+-- under Logical: its own, and the stripes
+pub record LogicalSet : Type 0 where
+  pub own : LogicalValue
+  pub stripes : List StripeValue
+
+-- under Volume: what is under Logical, and the ranges
+pub record VolumeSet : Type 0 where
+  pub logical : LogicalSet
+  pub ranges : List RangeValue
+
+abbrev pub stripe_part : ℕ → Part VolumeContents StripeValue
+stripe_part i = record { of = λ p. stripe_at p.stripes i; put = λ s p. record p { stripes = slice_set p.stripes i s } }
+
+abbrev pub range_part : ℕ → Part VolumeContents RangeValue
+range_part r = record { of = λ p. range_at p.ranges r; put = λ x p. record p { ranges = slice_set p.ranges r x } }
+
+abbrev pub vbn_part : Part VolumeContents (List RangeValue)
+vbn_part = record { of = λ p. p.ranges; put = λ ranges p. record p { ranges = ranges } }
+
+abbrev pub logical_part : Part VolumeContents LogicalSet
+logical_part = record {
+  of = λ p. record { own = p.logical; stripes = p.stripes };
+  put = λ set p. record p { logical = set.own; stripes = set.stripes };
+}
+
+abbrev pub volume_part : Part VolumeContents VolumeSet
+volume_part = record {
+  of = λ p. record { logical = logical_part.of p; ranges = p.ranges };
+  put = λ set p. record p { logical = set.logical.own; stripes = set.logical.stripes; ranges = set.ranges };
+}
+
+-- ---- the parts of all that is stored
+
+-- where there is no volume
+abbrev pub no_volume : VolumeContents
+no_volume = record { number = 0; aggregate = 0; logical = no_logical; stripes = []; ranges = [] }
+
+abbrev pub volume_or_none : Option VolumeContents → VolumeContents
+volume_or_none None = no_volume
+volume_or_none (Some p) = p
+
+-- with another volume at a number
+abbrev pub with_contents : FilerContents → ℕ → VolumeContents → FilerContents
+with_contents c v p = record c { volumes = slice_set c.volumes v p }
+
+-- a part of a volume, as a part of all
+abbrev pub in_volume : {S : Type 0} → ℕ → Part VolumeContents S → Part FilerContents S
+in_volume v part = record {
+  of = λ c. part.of (volume_or_none (volume_at c v));
+  put = λ s c. with_contents c v (part.put s (volume_or_none (volume_at c v)));
+}
+
+-- under an Aggregate: its spare ranges, and by number the volumes on it; at the numbers of others there is nothing
+pub record AggregateSet : Type 0 where
+  pub spare : ℕ
+  pub volumes : List (Option VolumeSet)
+
+abbrev pub set_on : ℕ → VolumeContents → Option VolumeSet
+set_on a p = if p.aggregate == a then Some (volume_part.of p) else None
+
+abbrev pub put_if : Option VolumeSet → VolumeContents → VolumeContents
+put_if None p = p
+put_if (Some set) p = volume_part.put set p
+
+abbrev pub put_each : List (Option VolumeSet) → List VolumeContents → List VolumeContents
+put_each [] volumes = volumes
+put_each (set ∷ sets) [] = []
+put_each (set ∷ sets) (p ∷ volumes) = put_if set p ∷ put_each sets volumes
+
+abbrev pub aggregate_part : ℕ → Part FilerContents AggregateSet
+aggregate_part a = record {
+  of = λ c. record { spare = slice_index_or c.spare a 0; volumes = map (set_on a) c.volumes };
+  put = λ set c. record { spare = slice_set c.spare a set.spare; volumes = put_each set.volumes c.volumes };
+}
+
+-- under Serial: all
+abbrev pub serial_part : Part FilerContents FilerContents
+serial_part = record { of = λ c. c; put = λ new c. new }

@@ -1,0 +1,86 @@
+//! The fastest of several passes.
+
+use std::alloc::AllocError;
+use std::io;
+use std::rt::Clock;
+use std::time::{Duration, Instant};
+
+/// What is measured.
+pub trait Work {
+    /// Does it many times over, and answers how many times it was done.
+    fn pass(&mut self) -> Result<u64, AllocError>;
+}
+
+/// The time of the fastest pass so far, and how many times it did its work.
+#[derive(Clone, Copy)]
+struct Fastest {
+    time: Duration,
+    done: u64,
+}
+
+const NOT_YET: Fastest = Fastest {
+    time: Duration::MAX,
+    done: 0,
+};
+
+impl Fastest {
+    /// The faster of this and one more pass.
+    fn or_pass(self, rt: &impl Clock, work: &mut impl Work) -> io::Result<Fastest> {
+        let start = Instant::now(rt)?;
+        let done = work.pass()?;
+        let time = start.elapsed(rt)?;
+        if time < self.time {
+            Ok(Fastest { time, done })
+        } else {
+            Ok(self)
+        }
+    }
+
+    /// How many tenths of a nanosecond it took to do it once.
+    fn tenths_each(self) -> u64 {
+        let nanoseconds = u64::try_from(self.time.as_nanos()).unwrap_or(u64::MAX);
+        let tenths = u128::from(nanoseconds) * 10 / u128::from(self.done.max(1));
+        u64::try_from(tenths).unwrap_or(u64::MAX)
+    }
+}
+
+/// Prints how long it took to do some work once.
+pub fn measure<R: Clock + Print>(
+    rt: &R,
+    name: &str,
+    work: &mut impl Work,
+    passes: u32,
+) -> io::Result<()> {
+    let mut fastest = NOT_YET;
+    for _pass in 0..passes {
+        fastest = fastest.or_pass(rt, work)?;
+    }
+    let tenths = fastest.tenths_each();
+    let (whole, tenth) = (tenths / 10, tenths % 10);
+    let done = fastest.done;
+    println!(rt; "{name}: {whole}.{tenth} ns, {done} in a pass")
+}
+
+/// Prints how long it took to do some work once, and beside it plain work, with the ratio of their
+/// speeds. Their passes take turns.
+pub fn measure_beside<R: Clock + Print>(
+    rt: &R,
+    name: &str,
+    work: &mut impl Work,
+    plain: &mut impl Work,
+    passes: u32,
+) -> io::Result<()> {
+    let mut fastest = NOT_YET;
+    let mut fastest_plain = NOT_YET;
+    for _pass in 0..passes {
+        fastest = fastest.or_pass(rt, work)?;
+        fastest_plain = fastest_plain.or_pass(rt, plain)?;
+    }
+    let (tenths, tenths_plain) = (fastest.tenths_each(), fastest_plain.tenths_each());
+    let (whole, tenth) = (tenths / 10, tenths % 10);
+    let (whole_plain, tenth_plain) = (tenths_plain / 10, tenths_plain % 10);
+    let ratio = u128::from(tenths_plain) * 1000 / u128::from(tenths.max(1));
+    let (ratio, thousandths) = (ratio / 1000, ratio % 1000);
+    print!(rt; "{name}: {whole}.{tenth} ns, ")?;
+    println!(rt; "plain {whole_plain}.{tenth_plain} ns, ratio {ratio}.{thousandths:03}")
+}

@@ -1,0 +1,124 @@
+//! Names in directories.
+
+ghost use Rattle.std.specs.Prelude.{◌<◌};
+
+use crate::clock::Work;
+use directories::Directory;
+use nfs_values::{Fileid, Name};
+use std::alloc::{AllocError, Global};
+
+/// How many names a pass has.
+const NAMES: u32 = 65_000;
+
+/// `file`, eight digits, `.txt`.
+type NameBytes = [u8; 16];
+
+/// The decimal digit of a number at a power of ten.
+fn digit(number: u32, power: u32) -> u8
+    requires { 0 < power }
+{
+    b'0' + (number / power % 10) as u8
+}
+
+/// The name of a number.
+fn name(number: u32) -> NameBytes {
+    let mut bytes = *b"file00000000.txt";
+    bytes[7] = digit(number, 10_000);
+    bytes[8] = digit(number, 1_000);
+    bytes[9] = digit(number, 100);
+    bytes[10] = digit(number, 10);
+    bytes[11] = digit(number, 1);
+    bytes
+}
+
+/// So many names of the numbers below a size, each a step from the one before.
+fn names(alloc: Global, count: u32, size: u32, step: u32) -> Result<Vec<NameBytes>, AllocError>
+    requires { 0 < size }
+{
+    let mut names = Vec::new(alloc);
+    for i in 0..count {
+        let number = u64::from(i) * u64::from(step) % u64::from(size);
+        names.push(name(number as u32))?;
+    }
+    Ok(names)
+}
+
+/// Adds a name that isn't there.
+fn add(alloc: Global, directory: &mut Directory, name: &[u8]) -> Result<bool, AllocError> {
+    if directory.find(name).is_some() || directory.next_cookie().0 >= 1 << 62 {
+        return Ok(false);
+    }
+    directory.add(Name::new(Vec::from_slice(alloc, name)?), Fileid(2))?;
+    Ok(true)
+}
+
+/// Names to be found in a directory.
+#[derive(Drop)]
+pub struct Finds {
+    directory: Directory,
+    names: Vec<NameBytes>,
+}
+
+impl Finds {
+    /// In a directory of so many names.
+    pub fn new(alloc: Global, size: u32) -> Result<Finds, AllocError>
+        requires { 0 < size }
+    {
+        let mut directory = Directory::new(alloc);
+        for name in &names(alloc, size, size, 25_717)? {
+            add(alloc, &mut directory, name)?;
+        }
+        Ok(Finds {
+            directory,
+            names: names(alloc, NAMES, size, 40_503)?,
+        })
+    }
+}
+
+impl Work for Finds {
+    fn pass(&mut self) -> Result<u64, AllocError> {
+        let mut found = 0_u64;
+        for name in &self.names {
+            if self.directory.find(name).is_some() {
+                found = found.wrapping_add(1);
+            }
+        }
+        Ok(found)
+    }
+}
+
+/// Names of a large directory to be removed and added anew.
+#[derive(Drop)]
+pub struct Renewals {
+    alloc: Global,
+    finds: Finds,
+    next: usize,
+}
+
+impl Renewals {
+    pub fn new(alloc: Global) -> Result<Renewals, AllocError> {
+        Ok(Renewals {
+            alloc,
+            finds: Finds::new(alloc, NAMES)?,
+            next: 0,
+        })
+    }
+}
+
+impl Work for Renewals {
+    fn pass(&mut self) -> Result<u64, AllocError> {
+        let mut done = 0_u64;
+        for _name in 0..500 {
+            let place = self.next % NAMES as usize;
+            self.next = place + 1;
+            if let Some(name) = self.finds.names.get(place) {
+                if self.finds.directory.remove(name)
+                    && add(self.alloc, &mut self.finds.directory, name)?
+                {
+                    done = done.wrapping_add(1);
+                }
+            }
+        }
+        Ok(done)
+    }
+}

@@ -1,0 +1,60 @@
+//! How long the calls of a volume take.
+
+use crate::batches::{Deaths, Takes};
+use crate::clock::{measure, measure_beside};
+use crate::copies::{Overwrites, PlainOverwrites, PlainReads, Reads};
+use crate::finds::{Finds, Renewals};
+use crate::gets::Gets;
+use std::alloc::Global;
+use std::io;
+use std::rt::Clock;
+
+/// Measures names in directories.
+fn names<R: Clock + Print>(rt: &R, alloc: Global, passes: u32) -> io::Result<()> {
+    measure(rt, "find in 10 names", &mut Finds::new(alloc, 10)?, passes)?;
+    measure(
+        rt,
+        "find in 1000 names",
+        &mut Finds::new(alloc, 1000)?,
+        passes,
+    )?;
+    measure(
+        rt,
+        "find in 65000 names",
+        &mut Finds::new(alloc, 65_000)?,
+        passes,
+    )?;
+    measure(
+        rt,
+        "remove and add in 65000 names",
+        &mut Renewals::new(alloc)?,
+        passes,
+    )
+}
+
+/// Measures reads and overwrites of so many bytes.
+fn bytes<R: Clock + Print>(rt: &R, alloc: Global, size: usize, passes: u32) -> io::Result<()> {
+    let (mut reads, mut plain) = (Reads::new(alloc, size)?, PlainReads::new(alloc, size)?);
+    print!(rt; "{size} bytes, ")?;
+    measure_beside(rt, "read", &mut reads, &mut plain, passes)?;
+    let mut overwrites = Overwrites::new(alloc, size)?;
+    let mut plain = PlainOverwrites::new(alloc, size)?;
+    print!(rt; "{size} bytes, ")?;
+    measure_beside(rt, "overwrite", &mut overwrites, &mut plain, passes)
+}
+
+/// Measures each kind of call.
+pub fn run(rt: &(impl Clock + Print + AllocGlobal), passes: u32) -> io::Result<()> {
+    let alloc = rt.alloc();
+    names(rt, alloc, passes)?;
+    measure(rt, "get in 65000 inodes", &mut Gets::new(alloc)?, passes)?;
+    bytes(rt, alloc, 4096, passes)?;
+    bytes(rt, alloc, 65_536, passes)?;
+    measure(rt, "take and give of 64 blocks", &mut Takes::new(), passes)?;
+    measure(
+        rt,
+        "64 dead blocks marked and taken",
+        &mut Deaths::new(alloc)?,
+        passes,
+    )
+}
