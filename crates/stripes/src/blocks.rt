@@ -28,7 +28,7 @@ ghost use Rattle.volume_values.specs.Stripes.{zero_block, file_mapped, byte_writ
 ghost use Rattle.stripes.specs.Spans.{blocks_read, numbers_past, cut_blocks, IsLong};
 
 use crate::block::{BLOCK_BYTES, Block};
-use crate::span::{SPAN_BYTES, put_zeros};
+use crate::span::{SPAN_BLOCKS, SPAN_BYTES, put_zeros};
 use crate::spans::{SpanMap, insert_in, overwrite_in, take_from, zero_tail};
 use nfs_values::BlockNumber;
 use std::alloc::{AllocError, Global};
@@ -68,6 +68,16 @@ impl Blocks {
         Blocks {
             alloc,
             spans: BTreeMap::new(alloc),
+        }
+    }
+
+    /// Whether a block of a file is filled.
+    pub fn is_filled(&self, fileid: u64, block: u64) -> bool
+        ensures { result ≡ is_some (get self.now (fileid, block)) }
+    {
+        match self.spans.get(&(fileid, block / SPAN_BLOCKS)) {
+            Some(span) => span.has(block),
+            None => false,
         }
     }
 
