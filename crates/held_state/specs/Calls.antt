@@ -1,6 +1,7 @@
 -- What a call on a handle comes to on the one volume that the handle names: what a handler promises in place of `Works`.
-use Rattle.std.specs.Prelude.{◌≡◌, ℕ, IsTrue, List, length, Option, Some, None}
-use Rattle.nfs_model.specs.Types.{Call, Write, Answer, Failed, Success}
+use Rattle.std.specs.Prelude.{◌≡◌, ℕ, Bool, true, IsTrue, List, [], length, Option, Some, None}
+use Rattle.nfs_model.specs.Types.{Call, Getattr, Setattr, Lookup, Read, Write, Create, Mkdir, Remove, Rmdir, Rename, Readdir, Fsstat, Commit}
+use Rattle.nfs_model.specs.Types.{Credential, Moment, Asked, Ask, Answer, Failed, Reply, Success, SystemError}
 use Rattle.nfs_model.specs.Tree.{Affinity}
 use Rattle.nfs_model.specs.Server.{Server, VolumeState}
 use Rattle.nfs_model.specs.Locate.{Effect, Fails, Tells, Changes, Located, locate}
@@ -9,15 +10,35 @@ use Rattle.nfs_model.specs.Serial.Starve.{takes_memory}
 use Rattle.nfs_model.specs.Moves.{PartsChange}
 use Rattle.nfs_model.specs.Work.{Outcome, Replied, Starved, Moved, move_if, ready_at}
 use Rattle.held_state.specs.Contents.{VolumeContents}
-use Rattle.held_state.specs.Tree.{volume_of}
+use Rattle.held_state.specs.Tree.{ranges_used, volume_of}
+use Rattle.nfs_model.specs.Replay.{FinishedCall}
 use Rattle.held_state.specs.Partition.{parts_of, stored}
+use Rattle.held_state.specs.Work as works
+use Rattle.held_state.specs.Work.{InnerCall, WorkReply, InnerMoves}
+use Rattle.held_state.specs.Deeds.{outcome_of}
 
--- what is asked of a volume under a node: the call, its handle with the fileid that it names there, and the serial server's
--- procedure for it
+-- the handle by which a call comes to its volume: its only one, or the first
+abbrev pub handle_in : Call → List ℕ
+handle_in (Getattr handle) = handle
+handle_in (Setattr handle set guard) = handle
+handle_in (Lookup directory name) = directory
+handle_in (Read handle offset count) = handle
+handle_in (Write handle offset count written) = handle
+handle_in (Create directory name mode) = directory
+handle_in (Mkdir directory name set) = directory
+handle_in (Remove directory name) = directory
+handle_in (Rmdir directory name) = directory
+handle_in (Rename from from_name to to_name) = from
+handle_in (Readdir directory cookie verifier count) = directory
+handle_in (Fsstat handle) = handle
+handle_in (Commit handle) = handle
+handle_in other = []
+
+-- what is asked of a volume under a node: the call, the fileid that its handle names there, and the serial server's procedure
+-- for it
 pub record VolumeCall : Type 0 where
   pub call : Call
   pub node : Affinity
-  pub handle : List ℕ
   pub fileid : ℕ
   pub run : VolumeState → Effect
 
@@ -52,7 +73,8 @@ move_on c p = move_of_located c.call c p
 
 -- it may starve on each server that has this volume where the handle says
 abbrev pub MayStarveOn : VolumeCall → VolumeContents → Type 0
-MayStarveOn c p = (server : Server) → locate server c.handle ≡ Some (located_on c p) → IsTrue (takes_memory server c.call (answer_on c p))
+MayStarveOn c p = (server : Server)
+    → locate server (handle_in c.call) ≡ Some (located_on c p) → IsTrue (takes_memory server c.call (answer_on c p))
 
 -- The outcome on one volume. A move changes nothing, nor does a starved call; a reply is the serial server's, so is the volume
 -- after it, and its block numbers moved lawfully.
@@ -64,3 +86,24 @@ WorksOn c old (Replied reply) new =
     × (reply ≡ Success (answer_on c old))
     × (volume_of new ≡ volume_after (volume_of old) (c.run (volume_of old)))
     × PartsChange c.call c.node (stored old) (stored new)
+
+-- the call as it is finished
+abbrev pub finished_as : VolumeCall → ℕ → ℕ → ℕ → Credential → Moment → Bool → FinishedCall
+finished_as c connection number xid credential moment starved = record {
+  connection = connection;
+  number = number;
+  xid = xid;
+  asked = Ask c.call credential;
+  affinity = Some c.node;
+  moment = moment;
+  starved = starved;
+}
+
+-- what an entry of such a call does on the volume
+abbrev pub ServesOn : VolumeCall → Bool → VolumeContents → WorkReply → VolumeContents → Type 0
+ServesOn c starved old (works.Replied reply) new = WorksOn c old (outcome_of starved reply) new × (starved ≡ true → reply ≡ SystemError)
+ServesOn c starved old reply new = ⊥
+
+-- what an inner call does on the volume
+abbrev pub CarriesOn : InnerCall → VolumeContents → WorkReply → VolumeContents → Type 0
+CarriesOn call old reply new = (volume_of new ≡ volume_of old) × InnerMoves call (ranges_used old.ranges) (parts_of old) reply (parts_of new)

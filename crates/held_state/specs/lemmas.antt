@@ -6,3 +6,4 @@ pub mod Opening
 pub mod Commuting
 pub mod Alike
 pub mod Steps
+pub mod Served
