@@ -7,3 +7,4 @@ pub mod Commuting
 pub mod Alike
 pub mod Steps
 pub mod Served
+pub mod Kinds

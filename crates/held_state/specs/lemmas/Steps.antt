@@ -98,6 +98,16 @@ sound-later p hands hands' made same s = record {
   partition = λ n. let e = same n in let o = s.partition n in omega (arith, e, o);
 }
 
+-- what has to hold goes by the weight of hands: it holds of any hands that weigh as much
+pub sound-by-weight : (c : FilerContents) (hands others : List Hand) (made : ℕ) → ((weigh : Hand → ℕ) → total weigh others ≡ total weigh hands)
+    → AreSound c hands made → AreSound c others made
+sound-by-weight c hands others made same sound v p there =
+    let s = sound v p there in (s.0, record {
+      well_formed = s.1.well_formed;
+      young = s.1.young;
+      partition = λ n. let e = same (times_in_hand p.number n) in let o = s.1.partition n in omega (arith, e, o);
+    })
+
 -- these hands carry nothing of other volumes
 abbrev pub AreOf : ℕ → List Hand → Type 0
 AreOf v hands = (u : ℕ) → u ≢ v → (n : ℕ) → total (times_in_hand u n) hands ≡ 0
