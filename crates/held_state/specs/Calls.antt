@@ -1,7 +1,7 @@
 -- What a call on a handle comes to on the one volume that the handle names: what a handler promises in place of `Works`.
 use Rattle.std.specs.Prelude.{◌≡◌, ℕ, Bool, true, IsTrue, List, [], length, Option, Some, None}
 use Rattle.nfs_model.specs.Types.{Call, Getattr, Setattr, Lookup, Read, Write, Create, Mkdir, Remove, Rmdir, Rename, Readdir, Fsstat, Commit}
-use Rattle.nfs_model.specs.Types.{Credential, Moment, Asked, Ask, Answer, Failed, Reply, Success, SystemError}
+use Rattle.nfs_model.specs.Types.{Credential, Moment, Ask, Answer, Failed, Success, SystemError}
 use Rattle.nfs_model.specs.Tree.{Affinity}
 use Rattle.nfs_model.specs.Server.{Server, VolumeState}
 use Rattle.nfs_model.specs.Locate.{Effect, Fails, Tells, Changes, Located, locate}

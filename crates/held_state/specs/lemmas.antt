@@ -8,3 +8,5 @@ pub mod Alike
 pub mod Steps
 pub mod Served
 pub mod Kinds
+pub mod Mapped
+pub mod Counted

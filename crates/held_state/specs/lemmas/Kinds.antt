@@ -1,5 +1,5 @@
 -- For each kind of node: where a handler's change of its set is right, putting in the set's parcels is a step.
-use Rattle.std.proofs.Common.{◌≡◌, ◌≢◌, ℕ, ◌<◌, List, length, Option, Some, None, refl, sym, ◌∙◌, subst}
+use Rattle.std.proofs.Common.{◌≡◌, ◌≢◌, ℕ, ◌<◌, length, Option, None, refl, sym, ◌∙◌, subst}
 use Rattle.nfs_model.specs.Tree.{Layout, Affinity, Serial, Aggregate, Volume, Logical, Stripe, Vbn, Range, stripes_of}
 use Rattle.affinity_tree.specs.Ancestors.{Covers}
 use Rattle.affinity_tree.specs.Fault.{fault_of}
@@ -9,7 +9,6 @@ use Rattle.affinity_tree.specs.lemmas.Standing.{covers-under}
 use Rattle.parcel_sets.specs.Exact.{Under}
 use Rattle.parcel_sets.specs.Sets.{range_parcels, vbn_parcels, stripe_parcels, logical_parcels, volume_parcels, aggregate_parcels, serial_parcels}
 use Rattle.parcel_sets.specs.lemmas.Within.{range-within, vbn-within, stripe-within, logical-within, volume-within, aggregate-within, serial-within}
-use Rattle.held_state.specs.Parcels.{FilerParcel}
 use Rattle.held_state.specs.Contents.{FilerContents}
 use Rattle.held_state.specs.Work.{Work, WorkReply, takes, gives}
 use Rattle.held_state.specs.Deeds.{Does, FilerSteps}

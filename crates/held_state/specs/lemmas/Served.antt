@@ -1,26 +1,24 @@
 -- What is done on one volume is done on all that is stored.
-use Rattle.std.proofs.Common.{◌≡◌, ◌≢◌, ℕ, zero, suc, ◌+◌, ◌<◌, Bool, true, false, IsTrue, List, [], ◌∷◌, length, map, Option, Some, None, refl, sym, ap, ◌∙◌, subst, arith}
+use Rattle.std.proofs.Common.{◌≡◌, ℕ, zero, suc, ◌<◌, Bool, true, false, IsTrue, List, [], ◌∷◌, length, map, Some, refl, sym, ap, ◌∙◌, subst, arith}
 use Rattle.std.specs.Prelude.{slice_get, slice_set}
 use Rattle.std.proofs.lemmas.List.{length-map}
 use Rattle.nfs_model.specs.Types.{Call, Null, Getattr, Setattr, Lookup, Read, Write, Create, Mkdir, Remove, Rmdir, Rename, Readdir, Fsstat, Commit, Census, Grow}
 use Rattle.nfs_model.specs.Types.{Credential, Moment, Ask, Reply, Success}
-use Rattle.nfs_model.specs.Tree.{Layout, Affinity}
+use Rattle.nfs_model.specs.Tree.{Layout}
 use Rattle.nfs_model.specs.Server as servers
 use Rattle.nfs_model.specs.Server.{Named, Server, handle_of, with_volume}
-use Rattle.nfs_model.specs.Locate.{Effect, Fails, Tells, Changes, Located, located_in, located_by, locate}
+use Rattle.nfs_model.specs.Locate.{Effect, Fails, Tells, Changes, located_in, located_by, locate}
 use Rattle.nfs_model.specs.Serial.Absent.{absent_parts}
 use Rattle.nfs_model.specs.Serial.Step.{Step, placed, serve}
-use Rattle.nfs_model.specs.Serial.Starve.{takes_memory, takes_memory_to_reply, may_starve_later}
-use Rattle.nfs_model.specs.Parts.{Parts}
-use Rattle.nfs_model.specs.Work as works
+use Rattle.nfs_model.specs.Serial.Starve.{takes_memory_to_reply}
 use Rattle.nfs_model.specs.Work.{Store, Works, ready_at, move_if, parts_at, volume_above, move_of_call, changed_volume, PartsAt}
 use Rattle.held_state.specs.Contents.{VolumeContents, FilerContents, volume_at}
 use Rattle.held_state.specs.Tree.{volume_of, server_of}
 use Rattle.held_state.specs.Partition.{parts_of, all_parts, stored}
 use Rattle.held_state.specs.Parts.{with_contents}
 use Rattle.held_state.specs.Promises.{IsLaidOut}
-use Rattle.held_state.specs.Work.{InnerCall, Work, Serve, Inner, WorkReply, Replied, Took, Gave, Surveyed, inner_node, inner_volume}
-use Rattle.held_state.specs.Deeds.{IsHomeOrAbove, store_of, task_of, outcome_of, Serves, Carries, Does}
+use Rattle.held_state.specs.Work.{InnerCall, Serve, Inner, WorkReply, Replied, Took, Gave, Surveyed, inner_node, inner_volume}
+use Rattle.held_state.specs.Deeds.{IsHomeOrAbove, store_of, task_of, outcome_of, Does}
 use Rattle.held_state.specs.Calls.{VolumeCall, handle_in, located_on, answer_of, volume_after, answer_on, move_of_located, move_on, WorksOn, ServesOn, CarriesOn, finished_as}
 use Rattle.held_state.specs.lemmas.Each.{get-there}
 
