@@ -58,6 +58,6 @@ abbrev pub times_in_hand : ℕ → ℕ → Hand → ℕ
 times_in_hand v n hand = times_listed n (hand_blocks v hand)
 
 -- Each number below total stands in one place, once, and no other does.
-abbrev pub IsPartition : VolumeContents → List Hand → Type 0
-IsPartition p hands =
+abbrev pub StandOnce : VolumeContents → List Hand → Type 0
+StandOnce p hands =
     (n : ℕ) → times_in n p + total (times_in_hand p.number n) hands ≡ one_if (nat_lt n (range_blocks * ranges_used p.ranges))

@@ -1,7 +1,7 @@
 -- Lemmas alone, which no reader has to believe: laws of these definitions, for proofs above.
 pub mod Each
-pub mod Lens
-pub mod Lenses
+pub mod Seen
+pub mod SeenSets
 pub mod Opening
 pub mod Commuting
 pub mod Alike

@@ -1,10 +1,11 @@
 -- The inodes of a volume: attributes, and what a reply shows beside them (RFC 1813 section 2.6).
 use Rattle.std.specs.Prelude.{◌≡◌, ℕ, ◌+◌, ◌-◌, ◌<◌, List, [], ◌∷◌, Option, Some, None}
 use Rattle.std.specs.Ordering.{nat_cmp}
-use Rattle.std.specs.FinMap.{FinMap, get, insert, remove, entries}
+use Rattle.std.specs.FinMap.{FinMap, get, insert, remove, entries, from_sorted}
 use Rattle.nfs_model.specs.Types.{Moment}
-use Rattle.nfs_model.specs.Server.{Attributes}
-use Rattle.nfs_model.specs.Shown.{effective_attributes}
+use Rattle.nfs_model.specs.Server.{Attributes, root_node}
+use Rattle.nfs_model.specs.Shown.{effective_attributes, times}
+use Rattle.volume_values.specs.Maps.{changed_at}
 
 -- what an inode is of
 pub data InodeKind : Type 0 where
@@ -21,6 +22,16 @@ pub record InodesValue : Type 0 where
   pub next : ℕ  -- the next fileid
   pub used : ℕ  -- the filled blocks of all files
   pub inodes : FinMap nat_cmp Inode
+
+-- ---- the beginning
+
+-- the root of a volume, its own parent, with the attributes that it begins with
+abbrev pub root_inode : Inode
+root_inode = record { attributes = times root_node; kind = Folder 1 0 }
+
+-- a volume's inodes as it begins: its root alone
+abbrev pub opening_inodes : InodesValue
+opening_inodes = record { next = 2; used = 0; inodes = from_sorted ((1, root_inode) ∷ []) }
 
 -- ---- what is asked
 
@@ -47,6 +58,10 @@ blocks_filled (e ∷ es) = filled_blocks e.1.kind + blocks_filled es
 abbrev pub settled_inode : Option Moment → Inode → Inode
 settled_inode touch inode = record inode { attributes = effective_attributes touch inode.attributes }
 
+-- a touch becomes the stored times of an inode, where there is one of this fileid; else nothing changes
+abbrev pub inode_settled : ℕ → Option Moment → InodesValue → InodesValue
+inode_settled fileid touch v = record v { inodes = changed_at (settled_inode touch) fileid v.inodes }
+
 -- an inode in the place of an old one, if there is one
 abbrev pub inode_replaced : Option Inode → ℕ → Inode → InodesValue → InodesValue
 inode_replaced None fileid inode v = v
@@ -71,6 +86,10 @@ used_without used (Some inode) = used - filled_blocks inode.kind
 -- an inode gone; its fileid isn't given again
 abbrev pub inode_dropped : ℕ → InodesValue → InodesValue
 inode_dropped fileid v = record v { used = used_without v.used (get v.inodes fileid); inodes = remove v.inodes fileid }
+
+-- the inode made last gone as if it had never been made: its fileid is the next again
+abbrev pub inode_unmade : InodesValue → InodesValue
+inode_unmade v = record (inode_dropped (v.next - 1) v) { next = v.next - 1 }
 
 -- ---- what holds of them
 

@@ -19,7 +19,7 @@ use Rattle.volume_values.specs.Ranges.{RangeValue}
 use Rattle.held_state.specs.Contents.{VolumeContents}
 use Rattle.held_state.specs.Tree.{file_filled, node_by, node_of, ranges_used, volume_of}
 use Rattle.held_state.specs.WellFormed.{WellFormed}
-use Rattle.held_state.specs.Partition.{numbers_in, all_numbers, free_in, parts_of, times_in_stripe, times_in_hand, IsPartition}
+use Rattle.held_state.specs.Partition.{numbers_in, all_numbers, free_in, parts_of, times_in_stripe, times_in_hand, StandOnce}
 use Rattle.held_state.specs.lemmas.Mapped.{entries-map_values, total-entries}
 
 -- ---- lists of numbers
@@ -132,8 +132,8 @@ at-most-one : (b : Bool) → one_if b ≤ 1
 at-most-one true = omega arith
 at-most-one false = omega arith
 
-module _ (p : VolumeContents) (hands : List Hand) (in_hands : List ℕ) (well : WellFormed p) (partition : IsPartition p hands)
-    (carried : (n : ℕ) → times_listed n in_hands ≡ total (times_in_hand p.number n) hands) where
+module _ (p : VolumeContents) (hands : List Hand) (in_hands : List ℕ) (well : WellFormed p) (partition : StandOnce p hands)
+    (batches_in : (n : ℕ) → times_listed n in_hands ≡ total (times_in_hand p.number n) hands) where
   -- the block parts of a sound volume partition it, as the model says
   pub partition-is : parts.IsPartition (volume_of p) (parts_of p) in_hands
   partition-is = record {
@@ -143,7 +143,7 @@ module _ (p : VolumeContents) (hands : List Hand) (in_hands : List ℕ) (well : 
         let listed = all-times n p.stripes in
         let files = listed-times n (all_numbers p.stripes) (omega arith) in
         let free = free-times n p.ranges (omega arith) in
-        let c = carried n in
+        let c = batches_in n in
         omega arith;
     in_files =
         len-listed (all_numbers p.stripes)

@@ -3,7 +3,7 @@ use Rattle.std.proofs.Common.{◌≡◌, ℕ, zero, suc, ◌<◌, Bool, true, fa
 use Rattle.std.specs.Prelude.{slice_get, slice_set}
 use Rattle.std.proofs.lemmas.List.{length-map}
 use Rattle.nfs_model.specs.Types.{Call, Null, Getattr, Setattr, Lookup, Read, Write, Create, Mkdir, Remove, Rmdir, Rename, Readdir, Fsstat, Commit, Census, Grow}
-use Rattle.nfs_model.specs.Types.{Credential, Moment, Ask, Reply, Success}
+use Rattle.nfs_model.specs.Types.{Credential, Moment, Reply, Success}
 use Rattle.nfs_model.specs.Tree.{Layout}
 use Rattle.nfs_model.specs.Server as servers
 use Rattle.nfs_model.specs.Server.{Named, Server, handle_of, with_volume}
@@ -15,11 +15,11 @@ use Rattle.nfs_model.specs.Work.{Store, Works, ready_at, move_if, parts_at, volu
 use Rattle.held_state.specs.Contents.{VolumeContents, FilerContents, volume_at}
 use Rattle.held_state.specs.Tree.{volume_of, server_of}
 use Rattle.held_state.specs.Partition.{parts_of, all_parts, stored}
-use Rattle.held_state.specs.Parts.{with_contents}
+use Rattle.held_state.specs.Lenses.{with_contents}
 use Rattle.held_state.specs.Promises.{IsLaidOut}
-use Rattle.held_state.specs.Work.{InnerCall, Serve, Inner, WorkReply, Replied, Took, Gave, Surveyed, inner_node, inner_volume}
-use Rattle.held_state.specs.Deeds.{IsHomeOrAbove, store_of, task_of, outcome_of, Does}
-use Rattle.held_state.specs.Calls.{VolumeCall, handle_in, located_on, answer_of, volume_after, answer_on, move_of_located, move_on, WorksOn, ServesOn, CarriesOn, finished_as}
+use Rattle.held_state.specs.Jobs.{InnerCall, Serve, Inner, JobReply, Replied, Took, Gave, Surveyed, inner_node, inner_volume}
+use Rattle.held_state.specs.Deeds.{stored_all, task_at, outcome_of, Does}
+use Rattle.held_state.specs.Calls.{VolumeCall, handle_in, located_on, answer_of, volume_left, answer_on, move_of_located, move_on, WorksOn, ServesOn, DoesInnerOn, finished_as, IsCallOn}
 use Rattle.held_state.specs.lemmas.Each.{get-there}
 
 -- ---- one place of a list
@@ -72,8 +72,8 @@ module _ (c : FilerContents) (v : ℕ) (p : VolumeContents) (there : volume_at c
 
 -- ---- inner calls
 
-pub inner-lift : (layout : Layout) (call : InnerCall) (reply : WorkReply) (c : FilerContents) (p after : VolumeContents)
-    → volume_at c (inner_volume call) ≡ Some p → CarriesOn call p reply after
+pub inner-lift : (layout : Layout) (call : InnerCall) (reply : JobReply) (c : FilerContents) (p after : VolumeContents)
+    → volume_at c (inner_volume call) ≡ Some p → DoesInnerOn call p reply after
     → Does layout (inner_node call) (Inner call) c reply (with_contents c (inner_volume call) after)
 inner-lift layout call reply c p after there does = record {
   under = refl;
@@ -94,7 +94,7 @@ placed-reply server absent v (Tells answer) = refl
 placed-reply server absent v (Changes answer volume) = refl
 
 placed-server : (server : Server) (absent v : ℕ) (e : Effect) (old : servers.VolumeState) → slice_get server.volumes v ≡ Some old
-    → (placed server absent v e).server ≡ with_volume server v (volume_after old e)
+    → (placed server absent v e).server ≡ with_volume server v (volume_left old e)
 placed-server server absent v (Fails status) old there = λ j. record server { volumes = sym (set-same server.volumes v old there) j }
 placed-server server absent v (Tells answer) old there = λ j. record server { volumes = sym (set-same server.volumes v old there) j }
 placed-server server absent v (Changes answer volume) old there = refl
@@ -122,16 +122,28 @@ move-by store q p located parts = by q.call located
     by Census e = refl
     by (Grow volume ranges) e = refl
 
--- A call on a volume, and what has to be known of it: its handle names a fileid there, it is made under a node of the volume at or
--- above its home, and the serial server serves it by its procedure.
-pub record IsCallOn (layout : Layout) (v : ℕ) (q : VolumeCall) (credential : Credential) (moment : Moment) : Type 0 where
-  pub good : handle_of (length layout.volumes) (handle_in q.call) ≡ Some (record { volume = v; fileid = q.fileid })
-  pub tried : IsHomeOrAbove layout (Ask q.call credential) q.node
-  pub under : volume_above q.node ≡ Some v
-  pub changes : changed_volume q.call q.node ≡ Some v
-  pub served : (server : Server) (volume : servers.VolumeState) → length server.volumes ≡ length layout.volumes
-      → locate server (handle_in q.call) ≡ Some (record { named = record { volume = v; fileid = q.fileid }; volume = volume })
-      → serve server q.call credential moment ≡ placed server (absent_parts q.call) v (q.run volume)
+-- a call with a handle isn't GROW, so it changes the parts of the volume above its node
+changes-above : (volumes : ℕ) (q : VolumeCall) (named : Named) → handle_of volumes (handle_in q.call) ≡ Some named
+    → changed_volume q.call q.node ≡ volume_above q.node
+changes-above volumes q named good = by q.call good
+  where
+    by : (call : Call) → handle_of volumes (handle_in call) ≡ Some named → changed_volume call q.node ≡ volume_above q.node
+    by Null e = refl
+    by (Getattr handle) e = refl
+    by (Setattr handle set guard) e = refl
+    by (Lookup directory name) e = refl
+    by (Read handle offset count) e = refl
+    by (Write handle offset count written) e = refl
+    by (Create directory name mode) e = refl
+    by (Mkdir directory name set) e = refl
+    by (Remove directory name) e = refl
+    by (Rmdir directory name) e = refl
+    by (Rename from from_name to to_name) e = refl
+    by (Readdir directory cookie verifier count) e = refl
+    by (Fsstat handle) e = refl
+    by (Commit handle) e = refl
+    by Census e = refl
+    by (Grow volume ranges) e = absurd cc
 
 module _ (layout : Layout) (v : ℕ) (q : VolumeCall) (connection number xid : ℕ) (credential : Credential) (moment : Moment)
     (is : IsCallOn layout v q credential moment)
@@ -147,21 +159,20 @@ module _ (layout : Layout) (v : ℕ) (q : VolumeCall) (connection number xid : �
       ∙ ap (λ (n : ℕ). Some (record { named = record { volume = n; fileid = q.fileid }; volume = volume_of p })) (sym numbered)
 
   step : serve (server_of c) q.call credential moment ≡ placed (server_of c) (absent_parts q.call) v (q.run (volume_of p))
-  step = is.served (server_of c) (volume_of p) count
-      (located ∙ ap (λ (n : ℕ). Some (record { named = record { volume = n; fileid = q.fileid }; volume = volume_of p })) numbered)
+  step = is.served (server_of c) (volume_of p) count (server-there c v p there)
 
-  stays : move_of_call (store_of c) q.node q.call ≡ move_on q p
-  stays = move-by (store_of c) q p located (ap (parts_at (all_parts c)) is.under ∙ parts-there c v p there)
+  stays : move_of_call (stored_all c) q.node q.call ≡ move_on q p
+  stays = move-by (stored_all c) q p located (ap (parts_at (all_parts c)) is.under ∙ parts-there c v p there)
 
   told : (serve (server_of c) q.call credential moment).reply ≡ Success (answer_on q p)
   told = ap (λ (s : Step). s.reply) step ∙ placed-reply (server_of c) (absent_parts q.call) v (q.run (volume_of p))
 
   works-by : (starved : Bool) (reply : Reply) (after : VolumeContents) → WorksOn q p (outcome_of starved reply) after
-      → Works (task_of (finished_as q connection number xid credential moment starved) q.node) (store_of c) (outcome_of starved reply) (store_of (with_contents c v after))
+      → Works (task_at (finished_as q connection number xid credential moment starved) q.node) (stored_all c) (outcome_of starved reply) (stored_all (with_contents c v after))
   works-by true reply after w = (
     stays ∙ w.0,
     subst IsTrue (sym (ap (takes_memory_to_reply (server_of c) q.call) told)) (w.1 (server_of c) located),
-    ap store_of (ap (with_contents c v) w.2 ∙ contents-stay c v p there),
+    ap stored_all (ap (with_contents c v) w.2 ∙ contents-stay c v p there),
   )
   works-by false reply after w = (
     stays ∙ w.0,
@@ -169,7 +180,7 @@ module _ (layout : Layout) (v : ℕ) (q : VolumeCall) (connection number xid : �
     server-set c v p there after ∙ ap (with_volume (server_of c) v) w.2
         ∙ sym (placed-server (server_of c) (absent_parts q.call) v (q.run (volume_of p)) (volume_of p) (server-there c v p there))
         ∙ ap (λ (s : Step). s.server) (sym step),
-    subst (λ o. PartsAt o q.call q.node (store_of c) (store_of (with_contents c v after))) (sym is.changes) (record {
+    subst (λ o. PartsAt o q.call q.node (stored_all c) (stored_all (with_contents c v after))) (sym (changes-above (length layout.volumes) q _ is.good ∙ is.under)) (record {
       before = stored p;
       after = stored after;
       volume_before = server-there c v p there;
@@ -181,7 +192,7 @@ module _ (layout : Layout) (v : ℕ) (q : VolumeCall) (connection number xid : �
   )
 
   -- an entry of the call on its volume is one of all that is stored
-  pub serve-lift : (starved : Bool) (reply : WorkReply) (after : VolumeContents) → ServesOn q starved p reply after
+  pub serve-lift : (starved : Bool) (reply : JobReply) (after : VolumeContents) → ServesOn q starved p reply after
       → Does layout q.node (Serve (finished_as q connection number xid credential moment starved)) c reply (with_contents c v after)
   serve-lift starved (Replied reply) after does = record {
     affinity = refl;
