@@ -10,6 +10,8 @@ use Rattle.depot_rule.specs.History.{patched}
 use Rattle.held_state.specs.Parcels.{FilerParcel}
 use Rattle.held_state.specs.Contents.{VolumeContents, FilerContents, volume_at, filer_contents}
 use Rattle.held_state.specs.Sound.{IsSound, AreSound}
+use Rattle.held_state.specs.Jobs.{Job, JobReply, takes, gives}
+use Rattle.held_state.specs.Deeds.{Does}
 use Rattle.held_state.specs.Lenses.{Lens}
 
 -- what comes into all hands and what leaves them, however hands are weighed
@@ -54,6 +56,10 @@ RightOnAll layout lens deed taken given old reply new = RightOn lens (IsLaidOut 
 
 abbrev pub HasAll : {S : Type 0} → Layout → Lens FilerContents S → List Hand → S → Type 0
 HasAll layout lens given set = HasWhole lens (IsLaidOut layout) AreSound given set
+
+-- right for an entry under a node, whose part of all that is stored this is
+abbrev pub IsRight : {S : Type 0} → Layout → Affinity → Lens FilerContents S → Job → S → JobReply → S → Type 0
+IsRight layout node lens work old reply new = RightOnAll layout lens (Does layout node work) (takes work reply) (gives work reply) old reply new
 
 -- ---- parts and parcels by number
 

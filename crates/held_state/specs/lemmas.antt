@@ -10,3 +10,4 @@ pub mod Served
 pub mod Kinds
 pub mod Mapped
 pub mod Counted
+pub mod Limits

@@ -33,7 +33,7 @@ pub all-times : (n : ℕ) (stripes : List StripeValue) → times_listed n (all_n
 all-times n [] = refl
 all-times n (s ∷ stripes) = let both = times-append n (numbers_in s) (all_numbers stripes) in let others = all-times n stripes in omega arith
 
-all-length : (stripes : List StripeValue) → length (all_numbers stripes) ≡ total (λ (s : StripeValue). len s.blocks) stripes
+pub all-length : (stripes : List StripeValue) → length (all_numbers stripes) ≡ total (λ (s : StripeValue). len s.blocks) stripes
 all-length [] = refl
 all-length (s ∷ stripes) =
     let both = length-append (numbers_in s) (all_numbers stripes) in

@@ -9,11 +9,10 @@ use Rattle.affinity_tree.specs.lemmas.Standing.{covers-under}
 use Rattle.parcel_sets.specs.Exact.{Under}
 use Rattle.parcel_sets.specs.Sets.{range_parcels, vbn_parcels, stripe_parcels, logical_parcels, volume_parcels, aggregate_parcels, serial_parcels}
 use Rattle.parcel_sets.specs.lemmas.Within.{range-within, vbn-within, stripe-within, logical-within, volume-within, aggregate-within, serial-within}
-use Rattle.held_state.specs.Contents.{FilerContents}
-use Rattle.held_state.specs.Jobs.{Job, JobReply, takes, gives}
-use Rattle.held_state.specs.Deeds.{Does, FilerSteps}
-use Rattle.held_state.specs.Lenses.{Lens, stripe_lens, range_lens, vbn_lens, logical_lens, volume_lens, in_volume, aggregate_lens, serial_lens}
-use Rattle.held_state.specs.Promises.{RightOnAll}
+use Rattle.held_state.specs.Jobs.{Job, JobReply}
+use Rattle.held_state.specs.Deeds.{FilerSteps}
+use Rattle.held_state.specs.Lenses.{stripe_lens, range_lens, vbn_lens, logical_lens, volume_lens, in_volume, aggregate_lens, serial_lens}
+use Rattle.held_state.specs.Promises.{IsRight}
 use Rattle.held_state.specs.Sets.{FilerRange, FilerStripe, FilerVbn, FilerLogical, FilerVolume, FilerAggregate, FilerSerial}
 use Rattle.held_state.specs.Sets.{vbn_set, logical_set, volume_set, aggregate_set, serial_set}
 use Rattle.held_state.specs.lemmas.SeenSets.{stripe-seen, range-seen, vbn-seen, logical-seen, volume-seen, aggregate-seen, serial-seen}
@@ -27,10 +26,6 @@ nothing-outside layout lawful a there f g none also k out =
     let under : Under layout a (λ b. k ≢ number_of layout b) =
         λ b below e. out (subst (Covers (parents layout) (number_of layout a)) (sym e) (covers-under layout lawful a b there below)) in
     also k under ∙ sym (none k under)
-
--- right on a node's part of all that is stored, for an entry
-abbrev pub IsRight : {S : Type 0} → Layout → Affinity → Lens FilerContents S → Job → S → JobReply → S → Type 0
-IsRight layout node lens work old reply new = RightOnAll layout lens (Does layout node work) (takes work reply) (gives work reply) old reply new
 
 module _ {P : Type 0} (layout : Layout) (lawful : fault_of layout ≡ None) (work : Job) (reply : JobReply) where
   module _ (v : ℕ) (on : v < length layout.volumes) where

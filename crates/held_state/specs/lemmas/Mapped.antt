@@ -1,5 +1,5 @@
 -- The entries of a map whose values were changed, and sums over the entries of a map.
-use Rattle.std.proofs.Common.{◌≡◌, ℕ, Bool, true, false, cond, ◌&&◌, List, [], ◌∷◌, length, map, Some, None, refl, sym, ap, ◌∙◌, subst, arith, Ordering}
+use Rattle.std.proofs.Common.{◌≡◌, ℕ, ◌+◌, ◌≤◌, Bool, true, false, cond, ◌&&◌, List, [], ◌∷◌, length, map, Some, None, refl, sym, ap, ◌∙◌, subst, arith, Ordering}
 use Rattle.std.specs.Prelude.{T}
 use Rattle.std.specs.declared.cmp.Ordering.TheVariants.{Less, Equal, Greater}
 use Rattle.std.specs.Ordering.{is_lt, is_eq}
@@ -72,3 +72,21 @@ module _ {K X : Type 0} {R : K → K → Ordering} (o : IsTotalOrder R) (same : 
   -- sums over the entries that are found under their keys
   pub total-entries : (m : FinMap R X) → ((k : K) (x : X) → get m k ≡ Some x → f (k, x) ≡ g (k, x)) → total f (entries m) ≡ total g (entries m)
   total-entries m h = list-same (entries m) (entries_sorted m) (λ k x is. h k x (get-entries m k ∙ is))
+
+-- what is found is among what is summed
+module _ {K X : Type 0} {R : K → K → Ordering} (same : IsAntisymmetric R) (f : K × X → ℕ) where
+  list-at-least : (es : List (K × X)) (k : K) (x : X) → find R k es ≡ Some x → f (k, x) ≤ total f es
+  list-at-least [] k x is = absurd cc
+  list-at-least (e ∷ es) k x is = by (R k e.0) refl (list-at-least es k x) is
+    where
+      by : (r : Ordering) → R k e.0 ≡ r → (find R k es ≡ Some x → f (k, x) ≤ total f es) → cond (is_eq r) (Some e.1) (find R k es) ≡ Some x
+          → f (k, x) ≤ f e + total f es
+      by Less tied others h = let more = others h in omega (arith, more)
+      by Greater tied others h = let more = others h in omega (arith, more)
+      by Equal tied others h =
+          let value : e.1 ≡ x = cc in
+          let here : f (k, x) ≡ f e = (λ j. f (same k e.0 tied j, sym value j)) in
+          omega (arith, here)
+
+  pub entry-at-least : (m : FinMap R X) (k : K) (x : X) → get m k ≡ Some x → f (k, x) ≤ total f (entries m)
+  entry-at-least m k x is = list-at-least (entries m) k x (sym (get-entries m k) ∙ is)

@@ -13,7 +13,7 @@ use Rattle.depot_rule.specs.Sums.{total}
 use Rattle.depot_rule.specs.History.{patched}
 use Rattle.held_state.specs.Parcels.{FilerParcel}
 use Rattle.held_state.specs.Contents.{VolumeContents, FilerContents, each, contents_of, volume_at, filer_contents}
-use Rattle.held_state.specs.Partition.{times_in_hand}
+use Rattle.held_state.specs.Partition.{times_in_hand, AreOf}
 use Rattle.held_state.specs.Sound.{IsSound, AreSound}
 use Rattle.held_state.specs.Jobs.{Job, JobReply, takes, gives}
 use Rattle.held_state.specs.Deeds.{Does, ParcelsDo, FilerSteps}
@@ -107,10 +107,6 @@ sound-by-weight c hands others made same sound v p there =
       young = s.1.young;
       partition = λ n. let e = same (times_in_hand p.number n) in let o = s.1.partition n in omega (arith, e, o);
     })
-
--- these hands carry nothing of other volumes
-abbrev pub AreOf : ℕ → List Hand → Type 0
-AreOf v hands = (u : ℕ) → u ≢ v → (n : ℕ) → total (times_in_hand u n) hands ≡ 0
 
 module _ {S R : Type 0} (layout : Layout) (v : ℕ) (on : v < length layout.volumes) (lens : Lens VolumeContents S) where
   -- what is right on a volume is right on all that is stored, where the volume's deed is one of all
