@@ -13,4 +13,5 @@ pub mod Sets
 pub mod Calls
 pub mod Opening
 pub mod Commute
+pub mod Laws
 pub mod lemmas

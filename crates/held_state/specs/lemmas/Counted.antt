@@ -47,17 +47,17 @@ pub any-times : (n : ℕ) (bs : List ℕ) → times_listed n bs ≤ 1 → one_if
 any-times n [] h = refl
 any-times n (b ∷ bs) h = ⊎_elim
     (λ (e : b ≡ n).
-      let test = eq-eqb b n e in
-      let one : one_if (b == n) ≡ 1 = ap one_if test in
-      let any : one_if (nat_eq b n || list_any (λ y. nat_eq y n) bs) ≡ 1 = ap (λ (x : Bool). one_if (x || list_any (λ y. nat_eq y n) bs)) test in
-      omega arith)
+    let test = eq-eqb b n e in
+    let one : one_if (b == n) ≡ 1 = ap one_if test in
+    let any : one_if (nat_eq b n || list_any (λ y. nat_eq y n) bs) ≡ 1 = ap (λ (x : Bool). one_if (x || list_any (λ y. nat_eq y n) bs)) test in
+    omega arith)
     (λ (ne : b ≢ n).
-      let test = ne_eqb b n ne in
-      let none : one_if (b == n) ≡ 0 = ap one_if test in
-      let any : one_if (nat_eq b n || list_any (λ y. nat_eq y n) bs) ≡ one_if (list_any (λ y. nat_eq y n) bs) =
-          ap (λ (x : Bool). one_if (x || list_any (λ y. nat_eq y n) bs)) test in
-      let others = any-times n bs (omega arith) in
-      omega arith)
+    let test = ne_eqb b n ne in
+    let none : one_if (b == n) ≡ 0 = ap one_if test in
+    let any : one_if (nat_eq b n || list_any (λ y. nat_eq y n) bs) ≡ one_if (list_any (λ y. nat_eq y n) bs) =
+    ap (λ (x : Bool). one_if (x || list_any (λ y. nat_eq y n) bs)) test in
+    let others = any-times n bs (omega arith) in
+    omega arith)
     (cases_eq b n)
 
 pub listed-times : (n : ℕ) (bs : List ℕ) → times_listed n bs ≤ 1 → one_if (contains (from_list {R = nat_cmp} bs) n) ≡ times_listed n bs
@@ -92,7 +92,7 @@ free-times n (r ∷ ranges) h =
     let others = free-times n ranges (omega arith) in
     let both = both-once (contains r.free n) (contains (free_in ranges) n) (omega arith) in
     ap one_if (contains-union nat_cmp_total r.free (free_in ranges) n) ∙ (both ∙ (let sum : one_if (contains r.free n) + one_if (contains (free_in ranges) n)
-        ≡ one_if (contains r.free n) + total (λ (x : RangeValue). one_if (contains x.free n)) ranges = omega arith in sum))
+    ≡ one_if (contains r.free n) + total (λ (x : RangeValue). one_if (contains x.free n)) ranges = omega arith in sum))
 
 -- ---- used blocks
 
@@ -148,9 +148,9 @@ module _ (p : VolumeContents) (hands : List Hand) (in_hands : List ℕ) (well : 
     in_files =
         len-listed (all_numbers p.stripes)
         (λ n.
-          let o = partition n in
-          let most = at-most-one (nat_lt n (range_blocks * ranges_used p.ranges)) in
-          let listed = all-times n p.stripes in
-          let l : times_listed n (all_numbers p.stripes) ≤ 1 = omega arith in l)
+        let o = partition n in
+        let most = at-most-one (nat_lt n (range_blocks * ranges_used p.ranges)) in
+        let listed = all-times n p.stripes in
+        let l : times_listed n (all_numbers p.stripes) ≤ 1 = omega arith in l)
         ∙ all-length p.stripes ∙ sym well.used ∙ sym (used-is p well);
   }

@@ -24,7 +24,7 @@ nothing-outside : {T : Type 0} (layout : Layout) (lawful : fault_of layout ≡ N
     → (k : ℕ) → (Covers (parents layout) (number_of layout a) k → ⊥) → g k ≡ f k
 nothing-outside layout lawful a there f g none also k out =
     let under : Under layout a (λ b. k ≢ number_of layout b) =
-        λ b below e. out (subst (Covers (parents layout) (number_of layout a)) (sym e) (covers-under layout lawful a b there below)) in
+    λ b below e. out (subst (Covers (parents layout) (number_of layout a)) (sym e) (covers-under layout lawful a b there below)) in
     also k under ∙ sym (none k under)
 
 module _ {P : Type 0} (layout : Layout) (lawful : fault_of layout ≡ None) (work : Job) (reply : JobReply) where

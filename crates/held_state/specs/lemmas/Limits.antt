@@ -65,15 +65,15 @@ few-below zero ns h =
     let none = none-at-all ns (λ n. let most = h n in let below : one_if (nat_lt n 0) ≡ 0 = ap one_if (le-ltb n 0 (omega arith)) in omega arith) in omega arith
 few-below (suc t) ns h =
     let others = few-below t (without_it t ns) (λ n.
-          let most = h n in
-          let fewer = times-without t n ns in
-          ⊎_elim
-          (λ (e : n ≡ t). let gone = times-gone t ns in let same : times_listed n (without_it t ns) ≡ times_listed t (without_it t ns) = ap (λ (k : ℕ). times_listed k (without_it t ns)) e in omega arith)
-          (λ (ne : n ≢ t). ⊎_elim
-            (λ (less : n < t). let below : one_if (nat_lt n t) ≡ 1 = ap one_if (lt-ltb n t less) in let also : one_if (nat_lt n (suc t)) ≡ 1 = ap one_if (lt-ltb n (suc t) (omega arith)) in omega arith)
-            (λ (more : t ≤ n). let past : one_if (nat_lt n (suc t)) ≡ 0 = ap one_if (le-ltb n (suc t) (omega (arith, ne))) in omega arith)
-            (cases_lt n t))
-          (cases_eq n t)) in
+    let most = h n in
+    let fewer = times-without t n ns in
+    ⊎_elim
+    (λ (e : n ≡ t). let gone = times-gone t ns in let same : times_listed n (without_it t ns) ≡ times_listed t (without_it t ns) = ap (λ (k : ℕ). times_listed k (without_it t ns)) e in omega arith)
+    (λ (ne : n ≢ t). ⊎_elim
+    (λ (less : n < t). let below : one_if (nat_lt n t) ≡ 1 = ap one_if (lt-ltb n t less) in let also : one_if (nat_lt n (suc t)) ≡ 1 = ap one_if (lt-ltb n (suc t) (omega arith)) in omega arith)
+    (λ (more : t ≤ n). let past : one_if (nat_lt n (suc t)) ≡ 0 = ap one_if (le-ltb n (suc t) (omega (arith, ne))) in omega arith)
+    (cases_lt n t))
+    (cases_eq n t)) in
     let all = unfolded-length t ns in
     let once = h t in
     let here : one_if (nat_lt t (suc t)) ≡ 1 = ap one_if (lt-ltb t (suc t) (omega arith)) in
@@ -161,11 +161,11 @@ module _ (inodes : InodeMap) (directories : DirectoryMap) (named : AreNamed inod
   unfolding fileids
   few-entries =
       let most = few-keys (fileids d.list) inodes (λ n.
-            let here = times-fileids n d.list in
-            let all = entry-at-least nat_cmp-IsAntisymmetric (λ (e : ℕ × DirectoryValue). times_in_list n e.1.list) directories fileid d there in
-            let once = named.once n in
-            let some = at-most (is_some (get inodes n)) (not (n == root)) in
-            omega arith) in
+      let here = times-fileids n d.list in
+      let all = entry-at-least nat_cmp-IsAntisymmetric (λ (e : ℕ × DirectoryValue). times_in_list n e.1.list) directories fileid d there in
+      let once = named.once n in
+      let some = at-most (is_some (get inodes n)) (not (n == root)) in
+      omega arith) in
       let size = length-map d.list (λ (e : Listed). e.fileid) in
       omega arith
     where

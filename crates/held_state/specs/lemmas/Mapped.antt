@@ -61,7 +61,7 @@ module _ {K X : Type 0} {R : K → K → Ordering} (o : IsTotalOrder R) (same : 
       let below = first-test (below_all R e.0 es) (is_sorted R es) sorted in
       let here : f e ≡ g e = h e.0 e.1 (ap (λ r. cond (is_eq r) (Some e.1) (find R e.0 es)) (tied_itself o e.0)) in
       let others = list-same es (second-test (below_all R e.0 es) (is_sorted R es) sorted)
-          (λ k x is. h k x (past (R k e.0) k x refl (below-none e.0 es below) is)) in
+      (λ k x is. h k x (past (R k e.0) k x refl (below-none e.0 es below) is)) in
       omega (arith, here, others)
     where
       past : (r : Ordering) (k : K) (x : X) → R k e.0 ≡ r → find R e.0 es ≡ None → find R k es ≡ Some x → cond (is_eq r) (Some e.1) (find R k es) ≡ Some x

@@ -58,18 +58,18 @@ listed-once a (suc n) q =
     let next = same-below q (a + 1 + n) (a + suc n) (omega arith) in
     ⊎_elim
     (λ (e : a ≡ q).
-      let here : one_if (nat_eq a q || list_any (λ y. nat_eq y q) (range_with_len (a + 1) n)) ≡ 1 =
-          ap (λ (b : Bool). one_if (b || list_any (λ y. nat_eq y q) (range_with_len (a + 1) n))) (eq-eqb a q e) in
-      let low = none-below q a (omega arith) in
-      let high = one-below q (a + suc n) (omega arith) in
-      omega arith)
+    let here : one_if (nat_eq a q || list_any (λ y. nat_eq y q) (range_with_len (a + 1) n)) ≡ 1 =
+    ap (λ (b : Bool). one_if (b || list_any (λ y. nat_eq y q) (range_with_len (a + 1) n))) (eq-eqb a q e) in
+    let low = none-below q a (omega arith) in
+    let high = one-below q (a + suc n) (omega arith) in
+    omega arith)
     (λ (ne : a ≢ q).
-      let here : one_if (nat_eq a q || list_any (λ y. nat_eq y q) (range_with_len (a + 1) n)) ≡ one_if (list_any (λ y. nat_eq y q) (range_with_len (a + 1) n)) =
-          ap (λ (b : Bool). one_if (b || list_any (λ y. nat_eq y q) (range_with_len (a + 1) n))) (ne_eqb a q ne) in
-      ⊎_elim
-      (λ (less : q < a). let low = one-below q a less in let high = one-below q (a + 1) (omega arith) in omega arith)
-      (λ (more : a ≤ q). let low = none-below q a more in let high = none-below q (a + 1) (omega (arith, ne)) in omega arith)
-      (cases_lt q a))
+    let here : one_if (nat_eq a q || list_any (λ y. nat_eq y q) (range_with_len (a + 1) n)) ≡ one_if (list_any (λ y. nat_eq y q) (range_with_len (a + 1) n)) =
+    ap (λ (b : Bool). one_if (b || list_any (λ y. nat_eq y q) (range_with_len (a + 1) n))) (ne_eqb a q ne) in
+    ⊎_elim
+    (λ (less : q < a). let low = one-below q a less in let high = one-below q (a + 1) (omega arith) in omega arith)
+    (λ (more : a ≤ q). let low = none-below q a more in let high = none-below q (a + 1) (omega (arith, ne)) in omega arith)
+    (cases_lt q a))
     (cases_eq a q)
 
 -- ---- ranges
@@ -85,7 +85,7 @@ module _ (u : ℕ) where
   none-used from zero more = refl
   none-used from (suc n) more =
       let here : ranges_used (each (opening_range u) from (suc n)) ≡ 0 + ranges_used (each (opening_range u) (from + 1) n) =
-          ap (λ (x : RangeValue). (if x.is_used then 1 else 0) + ranges_used (each (opening_range u) (from + 1) n)) (opening-unused u from more) in
+      ap (λ (x : RangeValue). (if x.is_used then 1 else 0) + ranges_used (each (opening_range u) (from + 1) n)) (opening-unused u from more) in
       let others = none-used (from + 1) n (omega arith) in
       omega arith
 
@@ -94,17 +94,17 @@ module _ (u : ℕ) where
   all-used from zero low high = omega arith
   all-used from (suc n) low high = ⊎_elim
       (λ (less : from < u).
-        let here : ranges_used (each (opening_range u) from (suc n)) ≡ 1 + ranges_used (each (opening_range u) (from + 1) n) =
-            ap (λ (x : RangeValue). (if x.is_used then 1 else 0) + ranges_used (each (opening_range u) (from + 1) n)) (opening-used u from less) in
-        let others = all-used (from + 1) n (omega arith) (omega arith) in
-        omega arith)
+      let here : ranges_used (each (opening_range u) from (suc n)) ≡ 1 + ranges_used (each (opening_range u) (from + 1) n) =
+      ap (λ (x : RangeValue). (if x.is_used then 1 else 0) + ranges_used (each (opening_range u) (from + 1) n)) (opening-used u from less) in
+      let others = all-used (from + 1) n (omega arith) (omega arith) in
+      omega arith)
       (λ (more : u ≤ from). let none = none-used from (suc n) more in omega arith)
       (cases_lt from u)
 
   free-in : (q r : ℕ) → r < u → one_if (contains (opening_range u r).free q) + one_if (nat_lt q (range_blocks * r)) ≡ one_if (nat_lt q (range_blocks * (r + 1)))
   free-in q r less =
       let here : one_if (contains (opening_range u r).free q) ≡ one_if (list_any (λ y. nat_eq y q) (range_numbers r)) =
-          ap (λ (x : RangeValue). one_if (contains x.free q)) (opening-used u r less) ∙ ap one_if (contains-from_list_nat (range_numbers r) q) in
+      ap (λ (x : RangeValue). one_if (contains x.free q)) (opening-used u r less) ∙ ap one_if (contains-from_list_nat (range_numbers r) q) in
       let once = listed-once (range_blocks * r) range_blocks q in
       let next = same-below q (range_blocks * r + range_blocks) (range_blocks * (r + 1)) (omega arith) in
       omega arith
@@ -123,13 +123,13 @@ module _ (u : ℕ) where
   all-free q from zero low high = let same = same-below q (range_blocks * from) (range_blocks * u) (omega arith) in omega arith
   all-free q from (suc n) low high = ⊎_elim
       (λ (less : from < u).
-        let here = free-in q from less in
-        let others = all-free q (from + 1) n (omega arith) (omega arith) in
-        omega arith)
+      let here = free-in q from less in
+      let others = all-free q (from + 1) n (omega arith) (omega arith) in
+      omega arith)
       (λ (more : u ≤ from).
-        let none = none-free q from (suc n) more in
-        let same = same-below q (range_blocks * from) (range_blocks * u) (omega arith) in
-        omega arith)
+      let none = none-free q from (suc n) more in
+      let same = same-below q (range_blocks * from) (range_blocks * u) (omega arith) in
+      omega arith)
       (cases_lt from u)
 
 -- ---- maps of the root alone
@@ -242,8 +242,8 @@ none-filled : (s : StripeValue) → s.blocks ≡ maps.empty → (n fileid : ℕ)
 none-filled s bare n fileid =
     let stripes : List StripeValue = each (λ k. s) 0 n in
     let all : (block : ℕ) → is_filled (home_stripe stripes fileid block) fileid block ≡ false = λ block.
-        stripe-any (λ t. is_filled t fileid block ≡ false) s 0 n (stripe_of (length stripes) fileid block)
-        (ap is_some (no-block s bare fileid block)) (ap is_some (get-empty place_cmp (fileid, block))) in
+    stripe-any (λ t. is_filled t fileid block ≡ false) s 0 n (stripe_of (length stripes) fileid block)
+    (ap is_some (no-block s bare fileid block)) (ap is_some (get-empty place_cmp (fileid, block))) in
     ap sets.len ((λ j. sets.retain (from_list (range_with_len 0 most_file_blocks)) (λ block. all block j))
     ∙ none-retained (from_list (range_with_len 0 most_file_blocks)))
     ∙ sets.len-empty nat_cmp
@@ -256,16 +256,16 @@ in-own r b h =
     let once = listed-once (range_blocks * r) range_blocks b in
     ⊎_elim
     (λ (less : b < range_blocks * r).
-      let low = one-below b (range_blocks * r) less in
-      let high = one-below b (range_blocks * r + range_blocks) (omega arith) in
-      absurd (omega arith))
+    let low = one-below b (range_blocks * r) less in
+    let high = one-below b (range_blocks * r + range_blocks) (omega arith) in
+    absurd (omega arith))
     (λ (more : range_blocks * r ≤ b). ⊎_elim
-      (λ (less : b < range_blocks * r + range_blocks). omega arith)
-      (λ (past : range_blocks * r + range_blocks ≤ b).
-        let low = none-below b (range_blocks * r) more in
-        let high = none-below b (range_blocks * r + range_blocks) past in
-        absurd (omega arith))
-      (cases_lt b (range_blocks * r + range_blocks)))
+    (λ (less : b < range_blocks * r + range_blocks). omega arith)
+    (λ (past : range_blocks * r + range_blocks ≤ b).
+    let low = none-below b (range_blocks * r) more in
+    let high = none-below b (range_blocks * r + range_blocks) past in
+    absurd (omega arith))
+    (cases_lt b (range_blocks * r + range_blocks)))
     (cases_lt b (range_blocks * r))
 
 range-fits : (u r : ℕ) → RangeFits u r (opening_range u r)
@@ -442,7 +442,7 @@ volume-opens : (layout : Layout) (verifier : List ℕ) (v : ℕ) (x : VolumeLayo
 volume-opens layout verifier v x lawful there =
     let used = in-use layout lawful verifier v (get-there layout.volumes v x there) in
     let total : range_blocks * ranges_used (opening_contents layout verifier v).ranges ≡ 1024 * x.ranges =
-        ap (λ (k : ℕ). 1024 * k) (used ∙ ap ranges_in there) in
+    ap (λ (k : ℕ). 1024 * k) (used ∙ ap ranges_in there) in
     let largest : largest_of layout v ≡ 1048576 * x.mebibytes = ap (λ o. 1048576 * mebibytes_in o) there in
     λ j. record {
       number = v;

@@ -235,8 +235,8 @@ module _ {P : Type 0} (layout : Layout) (lawful : fault_of layout ≡ None) wher
   on-aggregate a v on e held f is =
       let known = aggregate_known layout v lawful on in
       let found : (k : ℕ) → IsOfVolume layout v k → aggregate_parcels layout (Aggregate a) held k
-              ≡ in_place (λ volume. volume_parcels layout (Volume v) volume k) (slice_get held.volumes.at v) =
-          λ k of. ap (λ (b : ℕ). aggregate_parcels layout (Aggregate b) held k) (sym e) ∙ aggregate-volume layout v k held on known of in
+      ≡ in_place (λ volume. volume_parcels layout (Volume v) volume k) (slice_get held.volumes.at v) =
+      λ k of. ap (λ (b : ℕ). aggregate_parcels layout (Aggregate b) held k) (sym e) ∙ aggregate-volume layout v k held on known of in
       record {
         logical = is.logical ∙ found (number_of layout (Logical v)) (omega arith, omega arith);
         stripes = λ i less. is.stripes i less ∙ found (number_of layout (Stripe v i)) (omega arith, omega arith);

@@ -54,9 +54,8 @@ module _ {P S : Type 0} (layout : Layout) (lawful : fault_of layout ≡ None) (n
         let next : ℕ → Option (FilerParcel P) = patched ps a after g in
         let stored = is.put g in
         let done = right c hands hands' made (was.has g agree) (laid-out layout g)
-            (subst (λ (x : FilerContents). AreSound x hands made) (filer-same m layout same g) sound) moved in
-        let later : filer_contents m next ≡ lens.put new c = filer-same m layout same next ∙ stored in
-        (
+        (subst (λ (x : FilerContents). AreSound x hands made) (filer-same m layout same g) sound) moved in
+        let later : filer_contents m next ≡ lens.put new c = filer-same m layout same next ∙ stored in (
           λ other inside numbered.
               let one : other ≡ node = own_number layout other node ((same.node other).0 inside) there (sym (same.number other) ∙ numbered) in
               subst (λ (b : Affinity). ParcelsDo m b work g reply next) (sym one)
@@ -102,11 +101,14 @@ sound-later p hands hands' made same s = record {
 pub sound-by-weight : (c : FilerContents) (hands others : List Hand) (made : ℕ) → ((weigh : Hand → ℕ) → total weigh others ≡ total weigh hands)
     → AreSound c hands made → AreSound c others made
 sound-by-weight c hands others made same sound v p there =
-    let s = sound v p there in (s.0, record {
-      well_formed = s.1.well_formed;
-      young = s.1.young;
-      partition = λ n. let e = same (times_in_hand p.number n) in let o = s.1.partition n in omega (arith, e, o);
-    })
+    let s = sound v p there in (
+      s.0,
+      record {
+        well_formed = s.1.well_formed;
+        young = s.1.young;
+        partition = λ n. let e = same (times_in_hand p.number n) in let o = s.1.partition n in omega (arith, e, o);
+      },
+    )
 
 module _ {S R : Type 0} (layout : Layout) (v : ℕ) (on : v < length layout.volumes) (lens : Lens VolumeContents S) where
   -- what is right on a volume is right on all that is stored, where the volume's deed is one of all
@@ -126,20 +128,21 @@ module _ {S R : Type 0} (layout : Layout) (v : ℕ) (on : v < length layout.volu
       let done = right p hands hands' made (ap lens.of (sym here) ∙ has) s.0 s.1 moved in
       let after : VolumeContents = lens.put new p in
       let same : with_contents c v after ≡ (in_volume v lens).put new c = ap (λ q. with_contents c v (lens.put new q)) (sym here) in
-      subst (λ (x : FilerContents). deed c reply x × AreSound x hands' (made + 1)) same
-      (
+      subst (λ (x : FilerContents). deed c reply x × AreSound x hands' (made + 1)) same (
         lift c p after laid found.1 s.0 (numbered new p ∙ s.0) done.0,
         λ u q e. ⊎_elim
             (λ (is : (u ≡ v) × (q ≡ after)). subst (λ (x : VolumeContents). (x.number ≡ u) × IsSound x hands' (made + 1)) (sym is.1) (numbered new p ∙ s.0 ∙ sym is.0, done.1))
             (λ (is : (u ≢ v) × (slice_get c.volumes u ≡ Some q)).
-              let t = sound u q is.1 in
-              (t.0, sound-later q hands hands' made
+            let t = sound u q is.1 in (
+              t.0,
+              sound-later q hands hands' made
                   (λ n.
-                    let w = moved (times_in_hand q.number n) in
-                    let other : q.number ≢ v = (λ h. is.0 (sym t.0 ∙ h)) in
-                    let none_from = from q.number other n in
-                    let none_to = to q.number other n in
-                    omega arith)
-                  t.1))
+                  let w = moved (times_in_hand q.number n) in
+                  let other : q.number ≢ v = (λ h. is.0 (sym t.0 ∙ h)) in
+                  let none_from = from q.number other n in
+                  let none_to = to q.number other n in
+                  omega arith)
+                  t.1,
+            ))
             (get-set c.volumes v after u q e),
       )
