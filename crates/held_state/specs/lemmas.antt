@@ -11,3 +11,4 @@ pub mod Kinds
 pub mod Mapped
 pub mod Counted
 pub mod Limits
+pub mod Known
