@@ -12,3 +12,4 @@ pub mod Mapped
 pub mod Counted
 pub mod Limits
 pub mod Known
+pub mod Getting

@@ -1,20 +1,16 @@
 -- What a handler and its caller know from what they are given: the number of stripes, the stripe of a call's bytes, what workers
 -- carry.
-use Rattle.std.proofs.Common.{◌≡◌, ℕ, ◌+◌, ◌-◌, ◌/◌, ◌%◌, ◌==◌, ◌||◌, Bool, true, false, IsTrue, List, [], ◌∷◌, ◌++◌, length, map, Option, Some, None}
-use Rattle.std.proofs.Common.{refl, sym, ap, ◌∙◌, subst, arith, eqb, inl, inr, ◌⊎◌, ⊎_elim}
+use Rattle.std.proofs.Common.{◌≡◌, ℕ, ◌+◌, ◌-◌, ◌/◌, ◌%◌, ◌==◌, ◌||◌, Bool, true, false, List, [], ◌∷◌, ◌++◌, length, map, Some}
+use Rattle.std.proofs.Common.{refl, sym, ap, ◌∙◌, subst, arith, inl, inr, ◌⊎◌, ⊎_elim}
 use Rattle.std.specs.Prelude.{if◌then◌else◌}
-use Rattle.std.proofs.lemmas.Bool.{and_parts, eqb-true, or_cases}
-use Rattle.nfs_model.specs.Tree.{Layout, Affinity, Stripe, Logical, path, begins, stripes_of, aggregate_of}
-use Rattle.nfs_model.specs.Server.{Named, block_size}
+use Rattle.std.proofs.lemmas.Bool.{eqb-true, or_cases}
+use Rattle.nfs_model.specs.Tree.{Layout, Affinity, Stripe, Logical, path, stripes_of, aggregate_of}
 use Rattle.nfs_model.specs.Home.{bytes_home, span_bytes}
-use Rattle.nfs_model.specs.Parts.{Hand, hand_blocks, count, times_listed, one_if}
+use Rattle.nfs_model.specs.Parts.{Hand, hand_blocks, times_listed}
 use Rattle.nfs_model.specs.World.{Worker, hands_blocks}
 use Rattle.affinity_tree.specs.Tree.{covers}
 use Rattle.affinity_tree.specs.lemmas.Ways.{begins-length}
 use Rattle.depot_rule.specs.Sums.{total}
-use Rattle.volume_values.specs.Logical.{LogicalValue}
-use Rattle.volume_values.specs.Stripes.{stripe_of}
-use Rattle.held_state.specs.Contents.{each}
 use Rattle.held_state.specs.Partition.{times_in_hand}
 use Rattle.held_state.specs.Lenses.{LogicalSet, VolumeSet, logical_lens, volume_lens}
 use Rattle.held_state.specs.Promises.{HasVolume}
