@@ -13,3 +13,4 @@ pub mod Counted
 pub mod Limits
 pub mod Known
 pub mod Getting
+pub mod Kept
