@@ -14,3 +14,4 @@ pub mod Limits
 pub mod Known
 pub mod Getting
 pub mod Kept
+pub mod Setting

@@ -64,7 +64,7 @@ module _ (f : ℕ) where
       λ j. later ((card-taken s q ∙ ap (λ (b : Bool). if b then None else touch_of (get s.cards q)) ne) j) (touch-stays stripes q ne j)
 
   -- what a card shows stays
-  shown-stays : (s : StripeValue) (q : ℕ) → option_map size_shown (get (touch_taken f s).cards q) ≡ option_map size_shown (get s.cards q)
+  pub shown-stays : (s : StripeValue) (q : ℕ) → option_map size_shown (get (touch_taken f s).cards q) ≡ option_map size_shown (get s.cards q)
   shown-stays s q = ap (option_map size_shown) (get-changed_at card_settled f s.cards q) ∙ by (q == f) refl (get s.cards f) refl
     where
       card : (c : Card) → size_shown (card_settled c) ≡ size_shown c
@@ -85,7 +85,7 @@ module _ (f : ℕ) where
   stripe-taken (s ∷ stripes) zero less = refl
   stripe-taken (s ∷ stripes) (suc i) less = stripe-taken stripes i (omega arith)
 
-  total-taken : (g : StripeValue → ℕ) → ((s : StripeValue) → g (touch_taken f s) ≡ g s) → (stripes : List StripeValue) → total g (touches_taken f stripes) ≡ total g stripes
+  pub total-taken : (g : StripeValue → ℕ) → ((s : StripeValue) → g (touch_taken f s) ≡ g s) → (stripes : List StripeValue) → total g (touches_taken f stripes) ≡ total g stripes
   total-taken g same [] = refl
   total-taken g same (s ∷ stripes) = let here = same s in let others = total-taken g same stripes in omega arith
 
@@ -98,13 +98,13 @@ SameKinds new old = (q : ℕ) → option_map (λ (i : Inode). i.kind) (get new q
 abbrev kind_of : Option Inode → Option InodeKind
 kind_of o = option_map (λ (i : Inode). i.kind) o
 
-size-same : (o p : Option Inode) → kind_of o ≡ kind_of p → size_of o ≡ size_of p
+pub size-same : (o p : Option Inode) → kind_of o ≡ kind_of p → size_of o ≡ size_of p
 size-same None None e = refl
 size-same None (Some b) e = absurd cc
 size-same (Some a) None e = absurd cc
 size-same (Some a) (Some b) e = let k : a.kind ≡ b.kind = cc in ap size_in k
 
-shown-same : (o p : Option Inode) → kind_of o ≡ kind_of p
+pub shown-same : (o p : Option Inode) → kind_of o ≡ kind_of p
     → option_map (λ (inode : Inode). size_in inode.kind) o ≡ option_map (λ (inode : Inode). size_in inode.kind) p
 shown-same None None e = refl
 shown-same None (Some b) e = absurd cc
