@@ -15,3 +15,4 @@ pub mod Known
 pub mod Getting
 pub mod Kept
 pub mod Setting
+pub mod Setattr

@@ -114,7 +114,7 @@ module _ (stripes : List StripeValue) (directories : DirectoryMap) (f : ℕ) whe
   abbrev taken : List StripeValue
   taken = touches_taken f stripes
 
-  this-node : (a b : Attributes) (kind : InodeKind) → node_by taken (get directories f) f a kind ≡ with_attributes a (node_by stripes (get directories f) f b kind)
+  pub this-node : (a b : Attributes) (kind : InodeKind) → node_by taken (get directories f) f a kind ≡ with_attributes a (node_by stripes (get directories f) f b kind)
   this-node a b (RegularFile size filled verifier) = λ j. File (record {
     attributes = a;
     bytes = bytes-stay f stripes f size j;
