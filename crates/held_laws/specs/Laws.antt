@@ -1,25 +1,27 @@
 -- What follows from the definitions.
-use Rattle.std.specs.Prelude.{◌≡◌, ℕ, ◌<◌, ◌≤◌, ◌*◌, List, [], length, Option, Some, None}
+use Rattle.std.specs.Prelude.{◌≡◌, ℕ, Bool, ◌<◌, ◌≤◌, ◌*◌, List, [], length, Option, Some, None}
 use Rattle.std.specs.FinMap.{get, len}
+use Rattle.nfs_model.specs.Types.{Credential, Moment}
 use Rattle.nfs_model.specs.Tree.{Layout, Serial, Aggregate, Volume, Logical, Stripe, Vbn, Range, stripes_of}
 use Rattle.nfs_model.specs.Server.{opening}
 use Rattle.nfs_model.specs.Parts as parts
 use Rattle.nfs_model.specs.Parts.{Hand, times_listed, range_blocks}
 use Rattle.affinity_tree.specs.Fault.{fault_of}
-use Rattle.affinity_tree.specs.Numbers.{parents}
+use Rattle.affinity_tree.specs.Numbers.{parents, number_of}
 use Rattle.depot_rule.specs.Machine.{IsLocal, Keeps}
 use Rattle.depot_rule.specs.Sums.{total}
 use Rattle.parcel_sets.specs.Sets.{range_parcels, vbn_parcels, stripe_parcels, logical_parcels, volume_parcels, aggregate_parcels, serial_parcels}
 use Rattle.volume_values.specs.Directories.{DirectoryValue}
 use Rattle.held_state.specs.Parcels.{FilerParcel}
-use Rattle.held_state.specs.Contents.{VolumeContents, filer_contents}
+use Rattle.held_state.specs.Contents.{VolumeContents, FilerContents, volume_at, filer_contents}
 use Rattle.held_state.specs.Tree.{ranges_used, volume_of, tree}
-use Rattle.held_state.specs.Partition.{parts_of, times_in_hand}
+use Rattle.held_state.specs.Partition.{parts_of, times_in_hand, AreOf}
 use Rattle.held_state.specs.Sound.{IsSound, AllSound, IsFiler}
-use Rattle.held_state.specs.Jobs.{takes, gives}
-use Rattle.held_state.specs.Deeds.{FilerSteps}
-use Rattle.held_state.specs.Lenses.{stripe_lens, range_lens, vbn_lens, logical_lens, volume_lens, aggregate_lens, serial_lens, in_volume}
-use Rattle.held_state.specs.Promises.{IsSeenBy}
+use Rattle.held_state.specs.Jobs.{InnerCall, Job, Serve, Inner, JobReply, takes, gives, inner_node, inner_volume}
+use Rattle.held_state.specs.Deeds.{Does, FilerSteps}
+use Rattle.held_state.specs.Lenses.{Lens, with_contents, stripe_lens, range_lens, vbn_lens, logical_lens, volume_lens, aggregate_lens, serial_lens, in_volume}
+use Rattle.held_state.specs.Promises.{RightOnVolume, RightOnAll, IsLaidOut, IsRight, IsSeenBy}
+use Rattle.held_state.specs.Calls.{VolumeCall, IsCallOn, ServesOn, DoesInnerOn, finished_as}
 use Rattle.held_state.specs.Sets.{FilerRange, FilerStripe, FilerVbn, FilerLogical, FilerVolume, FilerAggregate, FilerSerial}
 use Rattle.held_state.specs.Sets.{vbn_set, logical_set, volume_set, aggregate_set, serial_set}
 use Rattle.held_state.specs.Opening.{AreOpening}
@@ -103,3 +105,65 @@ module _ (P : Type 0) where
   abbrev pub RootsAreSeen : Type 0
   RootsAreSeen = (layout : Layout) → fault_of layout ≡ None → (held : FilerSerial P)
       → IsSeenBy layout Serial serial_lens (serial_parcels layout Serial held) (serial_set layout held)
+
+  -- ---- handlers: where a set's change is right, putting in the set's parcels is a step
+
+  abbrev pub StripeMakesStep : Type 0
+  StripeMakesStep = (layout : Layout) → fault_of layout ≡ None → (work : Job) (reply : JobReply) → (v i : ℕ) → v < length layout.volumes → i < stripes_of layout v → (old new : FilerStripe P)
+      → IsRight layout (Stripe v i) (in_volume v (stripe_lens i)) work old.own reply new.own
+      → FilerSteps (parents layout) (number_of layout (Stripe v i)) work (stripe_parcels layout (Stripe v i) old) reply (stripe_parcels layout (Stripe v i) new)
+
+  abbrev pub RangeMakesStep : Type 0
+  RangeMakesStep = (layout : Layout) → fault_of layout ≡ None → (work : Job) (reply : JobReply) → (v r : ℕ) → v < length layout.volumes → r < 16 → (old new : FilerRange P)
+      → IsRight layout (Range v r) (in_volume v (range_lens r)) work old.own reply new.own
+      → FilerSteps (parents layout) (number_of layout (Range v r)) work (range_parcels layout (Range v r) old) reply (range_parcels layout (Range v r) new)
+
+  abbrev pub VbnMakesStep : Type 0
+  VbnMakesStep = (layout : Layout) → fault_of layout ≡ None → (work : Job) (reply : JobReply) → (v : ℕ) → v < length layout.volumes → (old new : FilerVbn P)
+      → IsRight layout (Vbn v) (in_volume v vbn_lens) work (vbn_set old) reply (vbn_set new)
+      → FilerSteps (parents layout) (number_of layout (Vbn v)) work (vbn_parcels layout (Vbn v) old) reply (vbn_parcels layout (Vbn v) new)
+
+  abbrev pub LogicalMakesStep : Type 0
+  LogicalMakesStep = (layout : Layout) → fault_of layout ≡ None → (work : Job) (reply : JobReply) → (v : ℕ) → v < length layout.volumes → (old new : FilerLogical P)
+      → IsRight layout (Logical v) (in_volume v logical_lens) work (logical_set (stripes_of layout v) old) reply (logical_set (stripes_of layout v) new)
+      → FilerSteps (parents layout) (number_of layout (Logical v)) work (logical_parcels layout (Logical v) old) reply (logical_parcels layout (Logical v) new)
+
+  abbrev pub VolumeMakesStep : Type 0
+  VolumeMakesStep = (layout : Layout) → fault_of layout ≡ None → (work : Job) (reply : JobReply) → (v : ℕ) → v < length layout.volumes → (old new : FilerVolume P)
+      → IsRight layout (Volume v) (in_volume v volume_lens) work (volume_set (stripes_of layout v) old) reply (volume_set (stripes_of layout v) new)
+      → FilerSteps (parents layout) (number_of layout (Volume v)) work (volume_parcels layout (Volume v) old) reply (volume_parcels layout (Volume v) new)
+
+  abbrev pub AggregateMakesStep : Type 0
+  AggregateMakesStep = (layout : Layout) → fault_of layout ≡ None → (work : Job) (reply : JobReply) → (a : ℕ) → a < length layout.spare → (old new : FilerAggregate P)
+      → IsRight layout (Aggregate a) (aggregate_lens a) work (aggregate_set layout a old) reply (aggregate_set layout a new)
+      → FilerSteps (parents layout) (number_of layout (Aggregate a)) work (aggregate_parcels layout (Aggregate a) old) reply (aggregate_parcels layout (Aggregate a) new)
+
+  abbrev pub SerialMakesStep : Type 0
+  SerialMakesStep = (layout : Layout) → fault_of layout ≡ None → (work : Job) (reply : JobReply) → (old new : FilerSerial P)
+      → IsRight layout Serial serial_lens work (serial_set layout old) reply (serial_set layout new)
+      → FilerSteps (parents layout) (number_of layout Serial) work (serial_parcels layout Serial old) reply (serial_parcels layout Serial new)
+
+-- ---- what is done on a volume
+
+-- what is right on a volume is right on all that is stored, where the volume's deed is one of all
+abbrev pub VolumeIsRight : Type 0 → Type 0 → Type 1
+VolumeIsRight S R = (layout : Layout) (v : ℕ) → v < length layout.volumes → (lens : Lens VolumeContents S)
+    (deed : FilerContents → R → FilerContents → Type 0) (on_volume : VolumeContents → R → VolumeContents → Type 0) (taken given : List Hand) (old : S) (reply : R) (new : S)
+    → ((s : S) (p : VolumeContents) → (lens.put s p).number ≡ p.number) → AreOf v taken → AreOf v given
+    → ((c : FilerContents) (p after : VolumeContents) → IsLaidOut layout c → volume_at c v ≡ Some p → p.number ≡ v → after.number ≡ v
+    → on_volume p reply after → deed c reply (with_contents c v after))
+    → RightOnVolume v lens on_volume taken given old reply new → RightOnAll layout (in_volume v lens) deed taken given old reply new
+
+-- a call on a volume is one on all that is stored
+abbrev pub ServesAll : Type 0
+ServesAll = (layout : Layout) (v : ℕ) (q : VolumeCall) (connection number xid : ℕ) (credential : Credential) (moment : Moment)
+    → IsCallOn layout v q credential moment
+    → (c : FilerContents) → IsLaidOut layout c → (p : VolumeContents) → volume_at c v ≡ Some p → p.number ≡ v
+    → (starved : Bool) (reply : JobReply) (after : VolumeContents) → ServesOn q starved p reply after
+    → Does layout q.node (Serve (finished_as q connection number xid credential moment starved)) c reply (with_contents c v after)
+
+-- and so is an inner call
+abbrev pub InnerDoesAll : Type 0
+InnerDoesAll = (layout : Layout) (call : InnerCall) (reply : JobReply) (c : FilerContents) (p after : VolumeContents)
+    → volume_at c (inner_volume call) ≡ Some p → DoesInnerOn call p reply after
+    → Does layout (inner_node call) (Inner call) c reply (with_contents c (inner_volume call) after)

@@ -7,6 +7,10 @@ ghost use Rattle.held_laws.specs.Laws.{LayoutsAgree, SoundByWeight};
 ghost use Rattle.held_laws.specs.Laws.{StripesAreSeen, RangesAreSeen, VbnsAreSeen};
 ghost use Rattle.held_laws.specs.Laws.{LogicalsAreSeen, VolumesAreSeen};
 ghost use Rattle.held_laws.specs.Laws.{AggregatesAreSeen, RootsAreSeen};
+ghost use Rattle.held_laws.specs.Laws.{StripeMakesStep, RangeMakesStep, VbnMakesStep};
+ghost use Rattle.held_laws.specs.Laws.{LogicalMakesStep, VolumeMakesStep};
+ghost use Rattle.held_laws.specs.Laws.{AggregateMakesStep, SerialMakesStep};
+ghost use Rattle.held_laws.specs.Laws.{ServesAll, InnerDoesAll};
 
 /// The parcels as a run begins are sound, with no hands and no entries, and stand for the server
 /// as it begins.
@@ -48,4 +52,22 @@ pub fn sets_are_seen<P>()
     ensures volume { VolumesAreSeen P }
     ensures aggregate { AggregatesAreSeen P }
     ensures serial { RootsAreSeen P }
+{}
+
+/// Where a handler's change of a typed set is right, putting in the set's parcels is a step of the
+/// filer.
+pub fn handlers_make_steps<P>()
+    ensures stripe { StripeMakesStep P }
+    ensures range { RangeMakesStep P }
+    ensures vbn { VbnMakesStep P }
+    ensures logical { LogicalMakesStep P }
+    ensures volume { VolumeMakesStep P }
+    ensures aggregate { AggregateMakesStep P }
+    ensures serial { SerialMakesStep P }
+{}
+
+/// What is done on one volume is done on all that is stored.
+pub fn volumes_tell_all()
+    ensures serves { ServesAll }
+    ensures inner { InnerDoesAll }
 {}
