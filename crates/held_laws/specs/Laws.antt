@@ -1,9 +1,10 @@
 -- What follows from the definitions.
-use Rattle.std.specs.Prelude.{◌≡◌, ℕ, Bool, ◌<◌, ◌≤◌, ◌*◌, List, [], length, Option, Some, None}
+use Rattle.std.specs.Prelude.{◌≡◌, ℕ, Bool, ◌<◌, ◌≤◌, ◌*◌, List, [], length, map, Option, Some, None}
 use Rattle.std.specs.FinMap.{get, len}
 use Rattle.nfs_model.specs.Types.{Credential, Moment}
 use Rattle.nfs_model.specs.Tree.{Layout, Serial, Aggregate, Volume, Logical, Stripe, Vbn, Range, stripes_of}
 use Rattle.nfs_model.specs.Server.{opening}
+use Rattle.nfs_model.specs.Headline.{opening_parts}
 use Rattle.nfs_model.specs.Parts as parts
 use Rattle.nfs_model.specs.Parts.{Hand, times_listed, range_blocks}
 use Rattle.affinity_tree.specs.Fault.{fault_of}
@@ -15,12 +16,12 @@ use Rattle.volume_values.specs.Directories.{DirectoryValue}
 use Rattle.held_state.specs.Parcels.{FilerParcel}
 use Rattle.held_state.specs.Contents.{VolumeContents, FilerContents, volume_at, filer_contents}
 use Rattle.held_state.specs.Tree.{ranges_used, volume_of, tree}
-use Rattle.held_state.specs.Partition.{parts_of, times_in_hand, AreOf}
+use Rattle.held_state.specs.Partition.{parts_of, all_parts, times_in_hand}
 use Rattle.held_state.specs.Sound.{IsSound, AllSound, IsFiler}
 use Rattle.held_state.specs.Jobs.{InnerCall, Job, Serve, Inner, JobReply, takes, gives, inner_node, inner_volume}
 use Rattle.held_state.specs.Deeds.{Does, FilerSteps}
-use Rattle.held_state.specs.Lenses.{Lens, with_contents, stripe_lens, range_lens, vbn_lens, logical_lens, volume_lens, aggregate_lens, serial_lens, in_volume}
-use Rattle.held_state.specs.Promises.{RightOnVolume, RightOnAll, IsLaidOut, IsRight, IsSeenBy}
+use Rattle.held_state.specs.Lenses.{with_contents, stripe_lens, range_lens, vbn_lens, logical_lens, volume_lens, aggregate_lens, serial_lens, in_volume}
+use Rattle.held_state.specs.Promises.{IsLaidOut, IsRight, IsSeenBy}
 use Rattle.held_state.specs.Calls.{VolumeCall, IsCallOn, ServesOn, DoesInnerOn, finished_as}
 use Rattle.held_state.specs.Sets.{FilerRange, FilerStripe, FilerVbn, FilerLogical, FilerVolume, FilerAggregate, FilerSerial}
 use Rattle.held_state.specs.Sets.{vbn_set, logical_set, volume_set, aggregate_set, serial_set}
@@ -55,6 +56,11 @@ module _ (P : Type 0) where
   abbrev pub OpensAsServer : Type 0
   OpensAsServer = (layout : Layout) (verifier : List ℕ) (f : ℕ → Option (FilerParcel P)) → fault_of layout ≡ None → AreOpening layout verifier f
       → tree layout f ≡ opening layout verifier
+
+  -- with all block numbers below total free
+  abbrev pub OpensFree : Type 0
+  OpensFree = (layout : Layout) (verifier : List ℕ) (f : ℕ → Option (FilerParcel P)) → fault_of layout ≡ None → AreOpening layout verifier f
+      → all_parts (filer_contents layout f) ≡ map opening_parts layout.volumes
 
   -- ---- steps
 
@@ -144,15 +150,6 @@ module _ (P : Type 0) where
       → FilerSteps (parents layout) (number_of layout Serial) work (serial_parcels layout Serial old) reply (serial_parcels layout Serial new)
 
 -- ---- what is done on a volume
-
--- what is right on a volume is right on all that is stored, where the volume's deed is one of all
-abbrev pub VolumeIsRight : Type 0 → Type 0 → Type 1
-VolumeIsRight S R = (layout : Layout) (v : ℕ) → v < length layout.volumes → (lens : Lens VolumeContents S)
-    (deed : FilerContents → R → FilerContents → Type 0) (on_volume : VolumeContents → R → VolumeContents → Type 0) (taken given : List Hand) (old : S) (reply : R) (new : S)
-    → ((s : S) (p : VolumeContents) → (lens.put s p).number ≡ p.number) → AreOf v taken → AreOf v given
-    → ((c : FilerContents) (p after : VolumeContents) → IsLaidOut layout c → volume_at c v ≡ Some p → p.number ≡ v → after.number ≡ v
-    → on_volume p reply after → deed c reply (with_contents c v after))
-    → RightOnVolume v lens on_volume taken given old reply new → RightOnAll layout (in_volume v lens) deed taken given old reply new
 
 -- a call on a volume is one on all that is stored
 abbrev pub ServesAll : Type 0

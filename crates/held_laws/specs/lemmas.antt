@@ -2,6 +2,7 @@
 pub mod Each
 pub mod Seen
 pub mod SeenSets
+pub mod OpeningRanges
 pub mod Opening
 pub mod Commuting
 pub mod Alike

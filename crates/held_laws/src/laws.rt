@@ -1,7 +1,7 @@
 //! What follows from the definitions. The functions do nothing: their contracts are theorems.
 
 ghost use Rattle.held_laws.specs.Laws.{PartsPartition, UsedFits, EntriesFit};
-ghost use Rattle.held_laws.specs.Laws.{OpensSound, OpensAsServer};
+ghost use Rattle.held_laws.specs.Laws.{OpensSound, OpensAsServer, OpensFree};
 ghost use Rattle.held_laws.specs.Laws.{StepsAreLocal, StepsKeep, StepsCommute};
 ghost use Rattle.held_laws.specs.Laws.{LayoutsAgree, SoundByWeight};
 ghost use Rattle.held_laws.specs.Laws.{StripesAreSeen, RangesAreSeen, VbnsAreSeen};
@@ -13,10 +13,11 @@ ghost use Rattle.held_laws.specs.Laws.{AggregateMakesStep, SerialMakesStep};
 ghost use Rattle.held_laws.specs.Laws.{ServesAll, InnerDoesAll};
 
 /// The parcels as a run begins are sound, with no hands and no entries, and stand for the server
-/// as it begins.
+/// as it begins, with all block numbers below total free.
 pub fn begins_sound<P>()
     ensures sound { OpensSound P }
     ensures server { OpensAsServer P }
+    ensures free { OpensFree P }
 {}
 
 /// A filer's steps are a machine's, and steps at nodes that don't exclude each other commute.

@@ -1,5 +1,5 @@
 use Rattle.std.proofs.Common.{refl}
-use Rattle.held_laws.specs.lemmas.Opening.{opening-sound, opening-tree}
+use Rattle.held_laws.specs.lemmas.Opening.{opening-sound, opening-tree, opening-parts}
 use Rattle.held_laws.proofs.laws.begins_sound.Goals as goal
 
 pub returns-clause-sound : goal.returns-clause-sound
@@ -7,3 +7,6 @@ returns-clause-sound g c = λ layout verifier f lawful is. (layout, (lawful, ref
 
 pub returns-clause-server : goal.returns-clause-server
 returns-clause-server g c = λ layout verifier f lawful is. opening-tree layout lawful verifier f is
+
+pub returns-clause-free : goal.returns-clause-free
+returns-clause-free g c = λ layout verifier f lawful is. opening-parts layout lawful verifier f is
