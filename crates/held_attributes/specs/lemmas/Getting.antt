@@ -37,7 +37,8 @@ module _ (p : VolumeContents) where
   folder-node : (q : ℕ) → is_directory_node (get (volume_of p).nodes q) ≡ is_folder (get p.logical.inodes.inodes q)
   folder-node q = ap is_directory_node (node-at q) ∙ by (get p.logical.inodes.inodes q)
     where
-      kind : (a : Inode) (k : InodeKind) → is_directory_node (Some (node_by p.stripes (get p.logical.directories q) q a.attributes k)) ≡ is_folder (Some (record a { kind = k }))
+      kind : (a : Inode) (k : InodeKind)
+          → is_directory_node (Some (node_by p.stripes (get p.logical.directories q) q a.attributes k)) ≡ is_folder (Some (record a { kind = k }))
       kind a (RegularFile size filled verifier) = refl
       kind a (Folder parent subdirectories) = refl
 
@@ -49,7 +50,8 @@ module _ (p : VolumeContents) where
   pub subdirectories-are : (list : List Listed) → subdirectories (volume_of p).nodes list ≡ folders_listed p.logical.inodes.inodes list
   subdirectories-are [] = refl
   subdirectories-are (e ∷ list) =
-      let here : one_if (is_directory_node (get (volume_of p).nodes e.fileid)) ≡ one_if (is_folder (get p.logical.inodes.inodes e.fileid)) = ap one_if (folder-node e.fileid) in
+      let here : one_if (is_directory_node (get (volume_of p).nodes e.fileid))
+      ≡ one_if (is_folder (get p.logical.inodes.inodes e.fileid)) = ap one_if (folder-node e.fileid) in
       let others = subdirectories-are list in
       omega (arith, here, others)
 
@@ -116,7 +118,8 @@ getattr-right v fileid handle node set =
   where
     told : (p : VolumeContents) (hands : List Hand) (made : ℕ) → IsSound p hands made → (o : Option Inode) → get p.logical.inodes.inodes fileid ≡ o
         → getattr_answer p.number fileid o (file_touch p.stripes fileid)
-        ≡ answer_of 0 (on_node (option_map (node_of p.stripes p.logical.directories fileid) o) (λ node. Tells (GetattrDone (shown (volume_of p) fileid node))))
+        ≡ answer_of 0 (on_node (option_map (node_of p.stripes p.logical.directories fileid) o)
+        (λ node. Tells (GetattrDone (shown (volume_of p) fileid node))))
     told p hands made sound None e = refl
     told p hands made sound (Some inode) e = ap GetattrDone (sym (node-shown p sound.well_formed fileid inode e))
 

@@ -17,7 +17,8 @@ use Rattle.volume_values.specs.Stripes.{Card, OfFile, OfFolder, StripeValue, byt
 use Rattle.volume_values.specs.lemmas.Inodes.{inode-set-there, inode-set-other}
 use Rattle.volume_values.specs.lemmas.Numbered.{get-changed_at}
 use Rattle.held_state.specs.Tree.{stripe_at, home_stripe, file_bytes, file_filled, file_touch, later, most_file_blocks}
-use Rattle.held_state.specs.Names.{root, InodeMap, DirectoryMap, size_in, size_of, parent_in, parent_directory, subdirectories_in, subdirectories_of, is_folder, parent_or}
+use Rattle.held_state.specs.Names.{root, InodeMap, DirectoryMap, size_in, size_of, parent_in, parent_directory, subdirectories_in, subdirectories_of}
+use Rattle.held_state.specs.Names.{is_folder, parent_or}
 use Rattle.held_state.specs.Names.{directory_above, folders_listed, AreNamed}
 use Rattle.held_state.specs.WellFormed.{size_shown}
 use Rattle.held_state.specs.Changes.{touches_taken}
@@ -31,13 +32,15 @@ module _ (f : ℕ) where
   blocks-stay (s ∷ stripes) zero = refl
   blocks-stay (s ∷ stripes) (suc i) = blocks-stay stripes i
 
-  homes-stay : (stripes : List StripeValue) (fileid block : ℕ) → (home_stripe (touches_taken f stripes) fileid block).blocks ≡ (home_stripe stripes fileid block).blocks
+  homes-stay : (stripes : List StripeValue) (fileid block : ℕ)
+      → (home_stripe (touches_taken f stripes) fileid block).blocks ≡ (home_stripe stripes fileid block).blocks
   homes-stay stripes fileid block =
       ap (λ (n : ℕ). (stripe_at (touches_taken f stripes) (stripe_of n fileid block)).blocks) (length-map stripes (touch_taken f))
       ∙ blocks-stay stripes (stripe_of (length stripes) fileid block)
 
   pub bytes-stay : (stripes : List StripeValue) (fileid size : ℕ) → file_bytes (touches_taken f stripes) fileid size ≡ file_bytes stripes fileid size
-  bytes-stay stripes fileid size = λ j. map (λ k. byte_of (get (homes-stay stripes fileid (k / block_size) j) (fileid, k / block_size)) (k % block_size)) (range_with_len 0 size)
+  bytes-stay stripes fileid size = λ j. map
+      (λ k. byte_of (get (homes-stay stripes fileid (k / block_size) j) (fileid, k / block_size)) (k % block_size)) (range_with_len 0 size)
 
   pub filled-stays : (stripes : List StripeValue) (fileid : ℕ) → file_filled (touches_taken f stripes) fileid ≡ file_filled stripes fileid
   filled-stays stripes fileid =
@@ -85,7 +88,8 @@ module _ (f : ℕ) where
   stripe-taken (s ∷ stripes) zero less = refl
   stripe-taken (s ∷ stripes) (suc i) less = stripe-taken stripes i (omega arith)
 
-  pub total-taken : (g : StripeValue → ℕ) → ((s : StripeValue) → g (touch_taken f s) ≡ g s) → (stripes : List StripeValue) → total g (touches_taken f stripes) ≡ total g stripes
+  pub total-taken : (g : StripeValue → ℕ) → ((s : StripeValue) → g (touch_taken f s) ≡ g s) → (stripes : List StripeValue)
+      → total g (touches_taken f stripes) ≡ total g stripes
   total-taken g same [] = refl
   total-taken g same (s ∷ stripes) = let here = same s in let others = total-taken g same stripes in omega arith
 

@@ -27,7 +27,8 @@ use Rattle.held_state.specs.Jobs.{Replied}
 use Rattle.held_state.specs.Lenses.{LogicalSet, logical_lens}
 use Rattle.held_state.specs.Promises.{RightOnVolume}
 use Rattle.held_state.specs.Calls.{VolumeCall, ServesOn, answer_of, volume_left}
-use Rattle.held_state.specs.Changes.{touches_taken, attributes_now, shown_inode, without_size, setattr_check, inode_after, LogicalAnswer, setattr_checked, setattr_inode, setattr_logical}
+use Rattle.held_state.specs.Changes.{touches_taken, attributes_now, shown_inode, without_size, setattr_check, inode_after, LogicalAnswer}
+use Rattle.held_state.specs.Changes.{setattr_checked, setattr_inode, setattr_logical}
 use Rattle.held_laws.specs.lemmas.Counted.{used-is}
 use Rattle.held_attributes.specs.lemmas.Getting.{node-at, node-shown}
 use Rattle.held_attributes.specs.lemmas.Kept.{touch-gone}
@@ -53,7 +54,8 @@ pub union-empty : (s : FinSet nat_cmp) → union s sets.empty ≡ s
 union-empty s = sets.same_set nat_cmp_total nat_cmp-IsAntisymmetric (union s sets.empty) s
     (λ q. sets.contains-union nat_cmp_total s sets.empty q ∙ ap (λ b. contains s q || b) (sets.contains-empty nat_cmp q) ∙ or-nothing (contains s q))
 
-pub emptied-none : (old new : Parts) (n : ℕ) → n ≡ 0 → new.files ≡ old.files → new.dead ≡ old.dead → new.stock ≡ old.stock → new.free ≡ old.free → Emptied n old new
+pub emptied-none : (old new : Parts) (n : ℕ) → n ≡ 0 → new.files ≡ old.files → new.dead ≡ old.dead → new.stock ≡ old.stock → new.free ≡ old.free
+    → Emptied n old new
 emptied-none old new n none files dead stock free = record {
   dead = record {
     blocks = sets.empty;
@@ -86,7 +88,8 @@ module _ (p : VolumeContents) (f : ℕ) where
   times-now : (inode : Inode) → times (node_of p.stripes p.logical.directories f inode) ≡ attributes_now (file_touch p.stripes f) inode.attributes inode.kind
   times-now inode = by inode.kind
     where
-      by : (kind : InodeKind) → times (node_by p.stripes (get p.logical.directories f) f inode.attributes kind) ≡ attributes_now (file_touch p.stripes f) inode.attributes kind
+      by : (kind : InodeKind) → times (node_by p.stripes (get p.logical.directories f) f inode.attributes kind)
+          ≡ attributes_now (file_touch p.stripes f) inode.attributes kind
       by (RegularFile size filled verifier) = refl
       by (Folder parent subdirectories) = refl
 
@@ -116,7 +119,8 @@ module _ (p : VolumeContents) (f : ℕ) where
 
     -- and so are the attributes after it
     shown-after : (hands : List Hand) (made : ℕ) → IsSound after hands made
-        → shown (with_node (volume_of p) f (set_node (without_size set) moment node)) f (set_node (without_size set) moment node) ≡ shown_inode p.number f next None
+        → shown (with_node (volume_of p) f (set_node (without_size set) moment node)) f (set_node (without_size set) moment node)
+        ≡ shown_inode p.number f next None
     shown-after hands made sound =
         let same : node_of after.stripes after.logical.directories f next ≡ set_node (without_size set) moment node =
         this-node p.stripes p.logical.directories f next.attributes old.attributes old.kind ∙ node-after in
@@ -124,12 +128,14 @@ module _ (p : VolumeContents) (f : ℕ) where
         ∙ node-shown after sound.well_formed f next there-after
         ∙ ap (shown_inode p.number f next) (touch-gone f p.stripes)
 
-    emptied : (hands hands' : List Hand) (made made' : ℕ) → IsSound p hands made → IsSound after hands' made' → Emptied (used (volume_of p) - used (volume_of after)) (parts_of p) (parts_of after)
+    emptied : (hands hands' : List Hand) (made made' : ℕ) → IsSound p hands made → IsSound after hands' made'
+        → Emptied (used (volume_of p) - used (volume_of after)) (parts_of p) (parts_of after)
     emptied hands hands' made made' sound later =
         let old_used = used-is p sound.well_formed in
         let new_used = used-is after later.well_formed in
         let same = used-set-same p.logical.inodes f old next sound.well_formed.logical.inodes there refl in
-        emptied-none (parts_of p) (parts_of after) (used (volume_of p) - used (volume_of after)) (omega arith) (ap from_list (numbers-stay f p.stripes)) refl refl refl
+        emptied-none (parts_of p) (parts_of after) (used (volume_of p) - used (volume_of after)) (omega arith) (ap from_list
+        (numbers-stay f p.stripes)) refl refl refl
 
 -- ---- the procedure
 
@@ -138,7 +144,8 @@ module _ (v f : ℕ) (handle : List ℕ) (node : Affinity) (set : SetAttributes)
   call = setattr_call handle node f (without_size set) guard moment
 
   abbrev Right : VolumeContents → List Hand → ℕ → LogicalAnswer → Type 0
-  Right p hands made told = ServesOn call false p (Replied (Success told.answer)) (logical_lens.put told.set p) × IsSound (logical_lens.put told.set p) hands made
+  Right p hands made told = ServesOn call false p (Replied (Success told.answer)) (logical_lens.put told.set p)
+      × IsSound (logical_lens.put told.set p) hands made
 
   module _ (p : VolumeContents) (hands hands' : List Hand) (made : ℕ) (sound : IsSound p hands made)
       (weigh : (n : ℕ) → total (times_in_hand p.number n) hands' ≡ total (times_in_hand p.number n) hands) where
@@ -196,7 +203,8 @@ module _ (v f : ℕ) (handle : List ℕ) (node : Affinity) (set : SetAttributes)
           ((refl, ap (λ e. Success (answer_of 2 e)) (sym run), ap (volume_left (volume_of p)) (sym run), unchanged), λ e. absurd cc),
           sound-later p hands hands' made weigh sound,
         )
-    by-inode (Some old) there = checked old there (setattr_check (without_size set) guard (attributes_now (file_touch p.stripes f) old.attributes old.kind).ctime) refl
+    by-inode (Some old) there = checked old there (setattr_check (without_size set) guard (attributes_now
+        (file_touch p.stripes f) old.attributes old.kind).ctime) refl
 
   -- SETATTR without a size
   pub setattr-right : (s : LogicalSet) → RightOnVolume v logical_lens (ServesOn call false) [] [] s

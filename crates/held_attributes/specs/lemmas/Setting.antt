@@ -28,7 +28,8 @@ use Rattle.held_state.specs.Partition.{times_in_stripe, times_in_hand}
 use Rattle.held_state.specs.Sound.{IsSound}
 use Rattle.held_state.specs.Lenses.{logical_lens}
 use Rattle.held_state.specs.Changes.{touches_taken, node_set}
-use Rattle.held_attributes.specs.lemmas.Kept.{SameKinds, set-kinds, named-same, size-same, shown-same, shown-stays, stripe-taken, total-taken, filled-stays, bytes-stay, touch-gone, touch-stays}
+use Rattle.held_attributes.specs.lemmas.Kept.{SameKinds, set-kinds, named-same, size-same, shown-same, shown-stays, stripe-taken, total-taken}
+use Rattle.held_attributes.specs.lemmas.Kept.{filled-stays, bytes-stay, touch-gone, touch-stays}
 
 -- the volume after it
 abbrev pub set_in : ℕ → Inode → VolumeContents → VolumeContents
@@ -43,7 +44,8 @@ module _ (p : VolumeContents) (f : ℕ) (old inode : Inode) (there : get p.logic
     verifier = fits.verifier;
     stripes = fits.stripes;
     largest = fits.largest;
-    cards = λ q. shown-stays f s q ∙ fits.cards q ∙ sym (shown-same (get (inode_set f inode p.logical.inodes).inodes q) (get p.logical.inodes.inodes q) (kinds q));
+    cards = λ q. shown-stays f s q ∙ fits.cards q
+        ∙ sym (shown-same (get (inode_set f inode p.logical.inodes).inodes q) (get p.logical.inodes.inodes q) (kinds q));
     long = record { long = fits.long.long };
     blocks = λ fileid block b e.
         let was = fits.blocks fileid block b e in
@@ -60,7 +62,8 @@ module _ (p : VolumeContents) (f : ℕ) (old inode : Inode) (there : get p.logic
           let found : get (inode_set f inode p.logical.inodes).inodes q ≡ Some inode =
           ap (get (inode_set f inode p.logical.inodes).inodes) is ∙ inode-set-there p.logical.inodes f old inode there in
           let value : x ≡ inode = (let s = sym e ∙ found in cc) in
-          ap (λ (i : Inode). filled_blocks i.kind) value ∙ ap filled_blocks same ∙ well.filled f old there ∙ ap (λ (k : ℕ). sets.len (file_filled p.stripes k)) (sym is)
+          ap (λ (i : Inode). filled_blocks i.kind) value ∙ ap filled_blocks same ∙ well.filled f old there
+          ∙ ap (λ (k : ℕ). sets.len (file_filled p.stripes k)) (sym is)
       by false h = well.filled q x (sym (inode-set-other p.logical.inodes f inode q h) ∙ e)
 
   well-set : WellFormed p → WellFormed (set_in f inode p)
@@ -114,7 +117,8 @@ module _ (stripes : List StripeValue) (directories : DirectoryMap) (f : ℕ) whe
   abbrev taken : List StripeValue
   taken = touches_taken f stripes
 
-  pub this-node : (a b : Attributes) (kind : InodeKind) → node_by taken (get directories f) f a kind ≡ with_attributes a (node_by stripes (get directories f) f b kind)
+  pub this-node : (a b : Attributes) (kind : InodeKind)
+      → node_by taken (get directories f) f a kind ≡ with_attributes a (node_by stripes (get directories f) f b kind)
   this-node a b (RegularFile size filled verifier) = λ j. File (record {
     attributes = a;
     bytes = bytes-stay f stripes f size j;
@@ -149,11 +153,13 @@ module _ (stripes : List StripeValue) (directories : DirectoryMap) (f : ℕ) whe
       other q (Some x) ne = ap Some (other-node q ne x.attributes x.kind)
 
       by : (q : ℕ) (b : Bool) → (q == f) ≡ b → option_map (node_of taken directories q) (get (inode_set f inode v).inodes q)
-          ≡ (if b then Some (with_attributes inode.attributes (node_of stripes directories f old)) else get (map_values (node_of stripes directories) v.inodes) q)
+          ≡ (if b then Some (with_attributes inode.attributes (node_of stripes directories f old)) else get (map_values
+          (node_of stripes directories) v.inodes) q)
       by q true h =
           ap (λ (k : ℕ). option_map (node_of taken directories k) (get (inode_set f inode v).inodes k)) (eqb-true q f h)
           ∙ ap (option_map (node_of taken directories f)) (inode-set-there v f old inode there)
-          ∙ ap Some (this-node inode.attributes old.attributes inode.kind ∙ ap (λ k. with_attributes inode.attributes (node_by stripes (get directories f) f old.attributes k)) same)
+          ∙ ap Some (this-node inode.attributes old.attributes inode.kind
+          ∙ ap (λ k. with_attributes inode.attributes (node_by stripes (get directories f) f old.attributes k)) same)
       by q false h =
           ap (option_map (node_of taken directories q)) (inode-set-other v f inode q h)
           ∙ other q (get v.inodes q) h

@@ -19,7 +19,8 @@ module _ {P C R : Type 0} (steps : Steps P C R) (local : IsLocal steps) where
         g,
         second.1 (λ k cover. sym (first.0 k (λ x. not_both k x cover))),
         subst (λ (h : ℕ → Option P). steps ps a c g r h)
-            (λ i k. same k (covers ps a k) (covers ps b k) (λ e. covers-true ps a k e) (λ e. true-covers ps a k e) (λ e. covers-true ps b k e) (λ e. true-covers ps b k e)
+            (λ i k. same k (covers ps a k) (covers ps b k) (λ e. covers-true ps a k e) (λ e. true-covers ps a k e) (λ e. covers-true ps b k e)
+            (λ e. true-covers ps b k e)
             first.0 second.0 not_both i)
             (again.1 (λ k cover. patched-out ps b f'' f k (λ y. not_both k cover y))),
       )

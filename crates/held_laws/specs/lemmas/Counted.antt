@@ -72,9 +72,11 @@ len-listed (b ∷ bs) once =
     let others = len-listed bs (λ n. let more = once n in let l : times_listed n bs ≤ 1 = omega arith in l) in
     let none = listed-times b bs (omega arith) in
     let gone : one_if (contains (from_list {R = nat_cmp} bs) b) ≡ 0 = omega arith in
-    sets.len-insert nat_cmp_total (from_list bs) b ∙ by (contains (from_list {R = nat_cmp} bs) b) gone ∙ (let size : sets.len (from_list {R = nat_cmp} bs) + 1 ≡ length (b ∷ bs) = omega arith in size)
+    sets.len-insert nat_cmp_total (from_list bs) b ∙ by (contains (from_list {R = nat_cmp} bs) b) gone
+    ∙ (let size : sets.len (from_list {R = nat_cmp} bs) + 1 ≡ length (b ∷ bs) = omega arith in size)
   where
-    by : (c : Bool) → one_if c ≡ 0 → cond c (sets.len (from_list {R = nat_cmp} bs)) (sets.len (from_list {R = nat_cmp} bs) + 1) ≡ sets.len (from_list {R = nat_cmp} bs) + 1
+    by : (c : Bool) → one_if c ≡ 0
+        → cond c (sets.len (from_list {R = nat_cmp} bs)) (sets.len (from_list {R = nat_cmp} bs) + 1) ≡ sets.len (from_list {R = nat_cmp} bs) + 1
     by true e = absurd (omega arith)
     by false e = refl
 
@@ -100,7 +102,8 @@ filled-total : (es : List (ℕ × Inode)) → blocks_filled es ≡ total (λ (e 
 filled-total [] = refl
 filled-total (e ∷ es) = let others = filled-total es in omega arith
 
-blocks-total : (g : ℕ → Inode → Node) (es : List (ℕ × Inode)) → blocks_of (map (λ (e : ℕ × Inode). (e.0, g e.0 e.1)) es) ≡ total (λ (e : ℕ × Inode). filled_in (g e.0 e.1)) es
+blocks-total : (g : ℕ → Inode → Node) (es : List (ℕ × Inode))
+    → blocks_of (map (λ (e : ℕ × Inode). (e.0, g e.0 e.1)) es) ≡ total (λ (e : ℕ × Inode). filled_in (g e.0 e.1)) es
 blocks-total g [] = refl
 blocks-total g (e ∷ es) = let others = blocks-total g es in omega arith
 

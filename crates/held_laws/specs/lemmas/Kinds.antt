@@ -31,10 +31,12 @@ module _ {P : Type 0} (layout : Layout) (lawful : fault_of layout ≡ None) (wor
   module _ (v : ℕ) (on : v < length layout.volumes) where
     pub stripe-step : (i : ℕ) → i < stripes_of layout v → (old new : FilerStripe P)
         → IsRight layout (Stripe v i) (in_volume v (stripe_lens i)) work old.own reply new.own
-        → FilerSteps (parents layout) (number_of layout (Stripe v i)) work (stripe_parcels layout (Stripe v i) old) reply (stripe_parcels layout (Stripe v i) new)
+        → FilerSteps (parents layout) (number_of layout (Stripe v i)) work (stripe_parcels layout (Stripe v i) old) reply (stripe_parcels layout
+        (Stripe v i) new)
     stripe-step i less old new right =
         let a : Affinity = Stripe v i in
-        step-by layout lawful a (on, less) (in_volume v (stripe_lens i)) work reply old.own new.own (stripe_parcels layout a old) (stripe_parcels layout a new)
+        step-by layout lawful a (on, less) (in_volume v (stripe_lens i)) work reply old.own new.own (stripe_parcels layout a old)
+        (stripe_parcels layout a new)
         (stripe-seen layout lawful v on i less old) (stripe-seen layout lawful v on i less new)
         (nothing-outside layout lawful a (on, less) (stripe_parcels layout a old) (stripe_parcels layout a new)
         (λ k. stripe-within layout a old k (on, less) refl) (λ k. stripe-within layout a new k (on, less) refl)) right
@@ -60,7 +62,8 @@ module _ {P : Type 0} (layout : Layout) (lawful : fault_of layout ≡ None) (wor
 
     pub logical-step : (old new : FilerLogical P)
         → IsRight layout (Logical v) (in_volume v logical_lens) work (logical_set (stripes_of layout v) old) reply (logical_set (stripes_of layout v) new)
-        → FilerSteps (parents layout) (number_of layout (Logical v)) work (logical_parcels layout (Logical v) old) reply (logical_parcels layout (Logical v) new)
+        → FilerSteps (parents layout) (number_of layout (Logical v)) work (logical_parcels layout (Logical v) old) reply (logical_parcels layout
+        (Logical v) new)
     logical-step old new right =
         let a : Affinity = Logical v in
         let n : ℕ = stripes_of layout v in

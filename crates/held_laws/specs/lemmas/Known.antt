@@ -48,7 +48,8 @@ pub lie-in : (layout : Layout) (v i fileid offset n : ℕ) (home : Affinity)
     → bytes_home layout (Some (record { volume = v; fileid = fileid })) offset n ≡ Some home → covers layout (Stripe v i) home ≡ true
     → LieIn (stripes_of layout v) i fileid offset n
 lie-in layout v i fileid offset n home is under =
-    by ((n == 0) || (offset / span_bytes == (offset + n - 1) / span_bytes)) (λ h. or_cases (n == 0) (offset / span_bytes == (offset + n - 1) / span_bytes) h) is
+    by ((n == 0) || (offset / span_bytes == (offset + n - 1) / span_bytes))
+    (λ h. or_cases (n == 0) (offset / span_bytes == (offset + n - 1) / span_bytes) h) is
   where
     by : (b : Bool) → (b ≡ true → ((n == 0) ≡ true) ⊎ ((offset / span_bytes == (offset + n - 1) / span_bytes) ≡ true))
         → (if b then Some (Stripe v ((fileid + offset / span_bytes) % stripes_of layout v)) else Some (Logical v)) ≡ Some home
@@ -56,12 +57,14 @@ lie-in layout v i fileid offset n home is under =
     by true one e = record {
       span = ⊎_elim
           (λ (none : (n == 0) ≡ true). inl (eqb-true n 0 none))
-          (λ (same : (offset / span_bytes == (offset + n - 1) / span_bytes) ≡ true). inr (eqb-true (offset / span_bytes) ((offset + n - 1) / span_bytes) same))
+          (λ (same : (offset / span_bytes == (offset + n - 1) / span_bytes)
+          ≡ true). inr (eqb-true (offset / span_bytes) ((offset + n - 1) / span_bytes) same))
           (one refl);
       stripe =
           let k : ℕ = (fileid + offset / span_bytes) % stripes_of layout v in
           let here : home ≡ Stripe v k = cc in
-          let last : i ≡ k = fourth (aggregate_of layout v) v 0 i (aggregate_of layout v) v 0 k (subst (λ b. covers layout (Stripe v i) b ≡ true) here under) in
+          let last : i ≡ k = fourth (aggregate_of layout v) v 0 i (aggregate_of layout v) v 0 k (subst (λ b. covers layout (Stripe v i) b
+          ≡ true) here under) in
           ap (λ (s : ℕ). (fileid + s) % stripes_of layout v) (span-of offset) ∙ sym last;
     }
     by false one e =

@@ -1,5 +1,6 @@
 -- Limits that follow where a volume is sound: what sums and conditions of the code rest on.
-use Rattle.std.proofs.Common.{◌≡◌, ◌≢◌, ℕ, zero, suc, ◌+◌, ◌-◌, ◌*◌, ◌<◌, ◌≤◌, ◌==◌, Bool, true, false, cond, not, ◌&&◌, List, [], ◌∷◌, length, map, Some, None}
+use Rattle.std.proofs.Common.{◌≡◌, ◌≢◌, ℕ, zero, suc, ◌+◌, ◌-◌, ◌*◌, ◌<◌, ◌≤◌, ◌==◌, Bool, true, false, cond, not, ◌&&◌, List, [], ◌∷◌, length, map}
+use Rattle.std.proofs.Common.{Some, None}
 use Rattle.std.proofs.Common.{refl, sym, ap, ◌∙◌, arith, eq-eqb, nat_lt, ⊎_elim, inl, inr, ◌⊎◌}
 use Rattle.std.specs.Prelude.{is_some, if◌then◌else◌}
 use Rattle.std.proofs.lemmas.Bool.{cases_eq, cases_lt, lt-ltb, le-ltb, eqb-true}
@@ -62,15 +63,18 @@ none-at-all (b ∷ ns) h = let here : one_if (b == b) ≡ 1 = ap one_if (eq-eqb 
 -- of numbers below t, each at most once, there are at most t
 pub few-below : (t : ℕ) (ns : List ℕ) → ((n : ℕ) → times_listed n ns ≤ one_if (nat_lt n t)) → length ns ≤ t
 few-below zero ns h =
-    let none = none-at-all ns (λ n. let most = h n in let below : one_if (nat_lt n 0) ≡ 0 = ap one_if (le-ltb n 0 (omega arith)) in omega arith) in omega arith
+    let none = none-at-all ns (λ n. let most = h n in
+    let below : one_if (nat_lt n 0) ≡ 0 = ap one_if (le-ltb n 0 (omega arith)) in omega arith) in omega arith
 few-below (suc t) ns h =
     let others = few-below t (without_it t ns) (λ n.
     let most = h n in
     let fewer = times-without t n ns in
     ⊎_elim
-    (λ (e : n ≡ t). let gone = times-gone t ns in let same : times_listed n (without_it t ns) ≡ times_listed t (without_it t ns) = ap (λ (k : ℕ). times_listed k (without_it t ns)) e in omega arith)
+    (λ (e : n ≡ t). let gone = times-gone t ns in
+    let same : times_listed n (without_it t ns) ≡ times_listed t (without_it t ns) = ap (λ (k : ℕ). times_listed k (without_it t ns)) e in omega arith)
     (λ (ne : n ≢ t). ⊎_elim
-    (λ (less : n < t). let below : one_if (nat_lt n t) ≡ 1 = ap one_if (lt-ltb n t less) in let also : one_if (nat_lt n (suc t)) ≡ 1 = ap one_if (lt-ltb n (suc t) (omega arith)) in omega arith)
+    (λ (less : n < t). let below : one_if (nat_lt n t) ≡ 1 = ap one_if (lt-ltb n t less) in
+    let also : one_if (nat_lt n (suc t)) ≡ 1 = ap one_if (lt-ltb n (suc t) (omega arith)) in omega arith)
     (λ (more : t ≤ n). let past : one_if (nat_lt n (suc t)) ≡ 0 = ap one_if (le-ltb n (suc t) (omega (arith, ne))) in omega arith)
     (cases_lt n t))
     (cases_eq n t)) in
@@ -85,7 +89,8 @@ module _ (p : VolumeContents) (hands : List Hand) (well : WellFormed p) (once : 
   -- no more blocks are used than there are
   pub used-fits : p.logical.inodes.used ≤ range_blocks * ranges_used p.ranges
   used-fits =
-      let most = few-below (range_blocks * ranges_used p.ranges) (all_numbers p.stripes) (λ n. let o = once n in let listed = all-times n p.stripes in omega arith) in
+      let most = few-below (range_blocks * ranges_used p.ranges) (all_numbers p.stripes) (λ n. let o = once n in
+      let listed = all-times n p.stripes in omega arith) in
       let size = all-length p.stripes in
       let used = well.used in
       omega arith
@@ -132,14 +137,16 @@ few-keys {X} (x ∷ xs) m h =
     some-len zero e = inl (ap (λ k. get k x) (empty_of_len m e) ∙ get-empty nat_cmp x)
     some-len (suc n) e = inr (omega arith)
 
-    found : (b : Bool) → is_some (get m x) ≡ b → 1 ≤ one_if b → len (remove m x) ≡ cond b (len m - 1) (len m) → length xs ≤ len (remove m x) → suc (length xs) ≤ len m
+    found : (b : Bool) → is_some (get m x) ≡ b → 1 ≤ one_if b → len (remove m x) ≡ cond b (len m - 1) (len m) → length xs ≤ len (remove m x)
+        → suc (length xs) ≤ len m
     found false is some size others = absurd (omega arith)
     found true is some size others = ⊎_elim
         (λ (gone : get m x ≡ None). let no : is_some (get m x) ≡ false = ap is_some gone in absurd cc)
         (λ (more : 0 < len m). omega arith)
         (some-len (len m) refl)
 
-module _ (inodes : InodeMap) (directories : DirectoryMap) (named : AreNamed inodes directories) (fileid : ℕ) (d : DirectoryValue) (there : get directories fileid ≡ Some d) where
+module _ (inodes : InodeMap) (directories : DirectoryMap) (named : AreNamed inodes directories) (fileid : ℕ) (d : DirectoryValue)
+    (there : get directories fileid ≡ Some d) where
   fileids : List Listed → List ℕ
   fileids list = map (λ (e : Listed). e.fileid) list
 

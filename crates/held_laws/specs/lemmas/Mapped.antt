@@ -1,10 +1,12 @@
 -- The entries of a map whose values were changed, and sums over the entries of a map.
-use Rattle.std.proofs.Common.{◌≡◌, ℕ, ◌+◌, ◌≤◌, Bool, true, false, cond, ◌&&◌, List, [], ◌∷◌, length, map, Some, None, refl, sym, ap, ◌∙◌, subst, arith, Ordering}
+use Rattle.std.proofs.Common.{◌≡◌, ℕ, ◌+◌, ◌≤◌, Bool, true, false, cond, ◌&&◌, List, [], ◌∷◌, length, map, Some, None, refl, sym, ap, ◌∙◌, subst}
+use Rattle.std.proofs.Common.{arith, Ordering}
 use Rattle.std.specs.Prelude.{T}
 use Rattle.std.specs.declared.cmp.Ordering.TheVariants.{Less, Equal, Greater}
 use Rattle.std.specs.Ordering.{is_lt, is_eq}
 use Rattle.std.specs.Cmp.{IsTotalOrder, tied_itself}
-use Rattle.std.specs.FinMap.{FinMap, from_entries, from_sorted, entries, entries_sorted, get, len, find, is_sorted, get-entries, get-from_entries, get-from_sorted}
+use Rattle.std.specs.FinMap.{FinMap, from_entries, from_sorted, entries, entries_sorted, get, len, find, is_sorted, get-entries, get-from_entries}
+use Rattle.std.specs.FinMap.{get-from_sorted}
 use Rattle.std.specs.FinMap.{entries-from_sorted, len-entries, same_map, IsAntisymmetric}
 use Rattle.std.specs.FinMap.Entries.{below_all}
 use Rattle.std.proofs.lemmas.List.{length-map}
@@ -48,7 +50,8 @@ module _ {K X Y : Type 0} {R : K → K → Ordering} (g : K → X → Y) where
 module _ {K X : Type 0} {R : K → K → Ordering} (o : IsTotalOrder R) (same : IsAntisymmetric R) (f g : K × X → ℕ) where
   below-none : (q : K) (es : List (K × X)) → T (below_all R q es) → find R q es ≡ None
   below-none q [] h = refl
-  below-none q (e ∷ es) h = by (R q e.0) (first-test (is_lt (R q e.0)) (below_all R q es) h) (below-none q es (second-test (is_lt (R q e.0)) (below_all R q es) h))
+  below-none q (e ∷ es) h = by (R q e.0) (first-test (is_lt (R q e.0)) (below_all R q es) h) (below-none q es (second-test (is_lt (R q e.0))
+      (below_all R q es) h))
     where
       by : (r : Ordering) → T (is_lt r) → find R q es ≡ None → cond (is_eq r) (Some e.1) (find R q es) ≡ None
       by Less t none = none

@@ -1,5 +1,6 @@
 -- The parcels as a run begins are sound, and stand for the server as it begins.
-use Rattle.std.proofs.Common.{◌≡◌, ℕ, zero, suc, ◌+◌, ◌*◌, ◌/◌, ◌<◌, ◌≤◌, ◌==◌, Bool, true, false, not, ◌&&◌, cond, List, [], ◌∷◌, ◌++◌, length, map, Option, Some, None}
+use Rattle.std.proofs.Common.{◌≡◌, ℕ, zero, suc, ◌+◌, ◌*◌, ◌/◌, ◌<◌, ◌≤◌, ◌==◌, Bool, true, false, not, ◌&&◌, cond, List, [], ◌∷◌, ◌++◌, length, map}
+use Rattle.std.proofs.Common.{Option, Some, None}
 use Rattle.std.proofs.Common.{refl, sym, ap, ◌∙◌, subst, arith, eqb, nat_lt, nat_eq, inl, inr, ⊎_elim}
 use Rattle.std.specs.Prelude.{if◌then◌else◌, slice_get, slice_index_or, is_some, IfSome, nat_le}
 use Rattle.std.proofs.lemmas.Bool.{cases_lt, lt-ltb, le-ltb, eqb-true, leb-true, and_parts}
@@ -32,7 +33,8 @@ use Rattle.volume_values.specs.Stripes.{OfFolder, Block, Place, place_cmp, Strip
 use Rattle.held_state.specs.Parcels.{FilerParcel, no_stripe, no_range}
 use Rattle.held_state.specs.Contents.{VolumeContents, at, contents_of, logical_in, stripe_in, range_in, spare_in}
 use Rattle.held_state.specs.Tree.{stripe_at, file_filled, home_stripe, most_file_blocks, node_of, node_by, volume_of, tree}
-use Rattle.held_state.specs.Names.{root, size_of, size_in, parent_directory, is_folder, subdirectories_of, DirectoryFits, AreNamed, IsLogical, InodeMap, DirectoryMap}
+use Rattle.held_state.specs.Names.{root, size_of, size_in, parent_directory, is_folder, subdirectories_of, DirectoryFits, AreNamed, IsLogical}
+use Rattle.held_state.specs.Names.{InodeMap, DirectoryMap}
 use Rattle.held_state.specs.WellFormed.{size_shown, StripeFits, RangeFits, WellFormed}
 use Rattle.held_state.specs.Partition.{StandOnce, times_in_stripe}
 use Rattle.held_state.specs.Sound.{IsSound, AllSound}
@@ -79,7 +81,8 @@ opening-named = record {
         children = tt;
         links = of-root subdirectories_of root;
       }));
-  once = λ q. ap (λ (es : List (ℕ × DirectoryValue)). total (λ (d : ℕ × DirectoryValue). count (λ (e : Listed). e.fileid == q) d.1.list) es) (single-entries empty_directory)
+  once = λ q. ap (λ (es : List (ℕ × DirectoryValue)). total (λ (d : ℕ
+      × DirectoryValue). count (λ (e : Listed). e.fileid == q) d.1.list) es) (single-entries empty_directory)
       ∙ sym (of-root (λ o. one_if (is_some o && not (q == root))) q ∙ unnamed (q == root));
   rooted = λ q e. (0, folder-root (eqb q root) q (λ h. eqb-true q root h) (sym (of-root is_folder q) ∙ e));
 }
@@ -208,7 +211,8 @@ opening-fits verifier stripes largest i = record {
   blocks = λ fileid block b e. let none = get-empty {X = Block} place_cmp (fileid, block) in absurd cc;
 }
   where
-    same : (b : Bool) → option_map size_shown (cond b (Some OfFolder) None) ≡ option_map (λ (inode : Inode). size_in inode.kind) (cond b (Some root_inode) None)
+    same : (b : Bool) → option_map size_shown (cond b (Some OfFolder) None)
+        ≡ option_map (λ (inode : Inode). size_in inode.kind) (cond b (Some root_inode) None)
     same true = refl
     same false = refl
 
@@ -229,7 +233,8 @@ contents-open layout verifier f is v on = λ j. record {
   number = v;
   aggregate = aggregate_of layout v;
   logical = logical_in (is (trees.Logical v) on j);
-  stripes = each-same (λ i. stripe_in (at layout f (trees.Stripe v i))) (λ i. opening_stripe verifier (stripes_of layout v) (largest_of layout v)) 0 (stripes_of layout v)
+  stripes = each-same (λ i. stripe_in (at layout f (trees.Stripe v i)))
+      (λ i. opening_stripe verifier (stripes_of layout v) (largest_of layout v)) 0 (stripes_of layout v)
       (λ i low high. ap stripe_in (is (trees.Stripe v i) (on, omega arith))) j;
   ranges = each-same (λ r. range_in (at layout f (trees.Range v r))) (opening_range (ranges_in (slice_get layout.volumes v))) 0 most_ranges
       (λ r low high. ap range_in (is (trees.Range v r) (on, omega arith))) j;
@@ -254,7 +259,8 @@ ranges-some layout h v on = at-least layout.volumes v on (sized layout h)
     at-least : (volumes : List VolumeLayout) (v : ℕ) → v < length volumes → list_all is_sized volumes ≡ true → 0 < ranges_in (slice_get volumes v)
     at-least [] v on e = absurd (omega arith)
     at-least (x ∷ xs) zero on e =
-        let some = leb-true 1 x.ranges (and_parts (nat_le 1 x.ranges) (nat_le x.ranges 16) (and_parts (is_sized x) (list_all is_sized xs) e).0).0 in omega arith
+        let some = leb-true 1 x.ranges (and_parts (nat_le 1 x.ranges) (nat_le x.ranges 16) (and_parts (is_sized x)
+        (list_all is_sized xs) e).0).0 in omega arith
     at-least (x ∷ xs) (suc v) on e = at-least xs v (omega arith) (and_parts (is_sized x) (list_all is_sized xs) e).1
 
 ranges-most : (layout : Layout) → fault_of layout ≡ None → (v : ℕ) → ranges_in (slice_get layout.volumes v) ≤ 16
@@ -327,7 +333,8 @@ module _ (layout : Layout) (lawful : fault_of layout ≡ None) (verifier : List 
 
 -- ---- all volumes
 
-module _ {P : Type 0} (layout : Layout) (lawful : fault_of layout ≡ None) (verifier : List ℕ) (f : ℕ → Option (FilerParcel P)) (is : AreOpening layout verifier f) where
+module _ {P : Type 0} (layout : Layout) (lawful : fault_of layout ≡ None) (verifier : List ℕ) (f : ℕ
+    → Option (FilerParcel P)) (is : AreOpening layout verifier f) where
   pub opening-sound : AllSound layout f [] 0
   opening-sound v p at_v =
       let count : ℕ = length layout.volumes in
@@ -385,7 +392,8 @@ each-listed (x ∷ xs) h from same =
     λ j. (ap h here ∙ same 0 (omega arith)) j
     ∷ each-listed xs h (from + 1) (λ i less. let next : from + 1 + i ≡ from + suc i = omega arith in ap h next ∙ same (suc i) (omega arith)) j
 
-module _ {P : Type 0} (layout : Layout) (lawful : fault_of layout ≡ None) (verifier : List ℕ) (f : ℕ → Option (FilerParcel P)) (is : AreOpening layout verifier f) where
+module _ {P : Type 0} (layout : Layout) (lawful : fault_of layout ≡ None) (verifier : List ℕ) (f : ℕ
+    → Option (FilerParcel P)) (is : AreOpening layout verifier f) where
   pub opening-tree : tree layout f ≡ opening layout verifier
   opening-tree = λ j. record {
     spare = each-listed layout.spare (λ a. spare_in (at layout f (trees.Aggregate a))) 0
@@ -413,17 +421,19 @@ no-numbers-in s bare from (suc n) = λ j. none-listed s bare j ++ no-numbers-in 
 
 -- all numbers below total are free, and no other
 opening-free : (u : ℕ) → u ≤ 16 → free_in (each (opening_range u) 0 most_ranges) ≡ from_list (range_with_len 0 (range_blocks * u))
-opening-free u most = sets.same_set nat_cmp_total nat_cmp-IsAntisymmetric (free_in (each (opening_range u) 0 most_ranges)) (from_list (range_with_len 0 (range_blocks * u)))
+opening-free u most = sets.same_set nat_cmp_total nat_cmp-IsAntisymmetric (free_in (each (opening_range u) 0 most_ranges)) (from_list
+    (range_with_len 0 (range_blocks * u)))
     (λ q.
-      let free = all-free u q 0 most_ranges (omega arith) (omega arith) in
-      let low = none-below q (range_blocks * 0) (omega arith) in
-      let at_most = at-most-one (nat_lt q (range_blocks * u)) in
-      let counted = free-times q (each (opening_range u) 0 most_ranges) (omega arith) in
-      let listed = listed-once 0 (range_blocks * u) q in
-      let start = none-below q 0 (omega arith) in
-      let end = same-below q (0 + range_blocks * u) (range_blocks * u) (omega arith) in
-      let has = ap one_if (contains-from_list_nat (range_with_len 0 (range_blocks * u)) q) in
-      one-same-bool (contains (free_in (each (opening_range u) 0 most_ranges)) q) (contains (from_list {R = nat_cmp} (range_with_len 0 (range_blocks * u))) q) (omega arith))
+    let free = all-free u q 0 most_ranges (omega arith) (omega arith) in
+    let low = none-below q (range_blocks * 0) (omega arith) in
+    let at_most = at-most-one (nat_lt q (range_blocks * u)) in
+    let counted = free-times q (each (opening_range u) 0 most_ranges) (omega arith) in
+    let listed = listed-once 0 (range_blocks * u) q in
+    let start = none-below q 0 (omega arith) in
+    let end = same-below q (0 + range_blocks * u) (range_blocks * u) (omega arith) in
+    let has = ap one_if (contains-from_list_nat (range_with_len 0 (range_blocks * u)) q) in
+    one-same-bool (contains (free_in (each (opening_range u) 0 most_ranges)) q) (contains (from_list {R = nat_cmp} (range_with_len 0
+    (range_blocks * u))) q) (omega arith))
   where
     at-most-one : (b : Bool) → one_if b ≤ 1
     at-most-one true = omega arith
@@ -437,7 +447,8 @@ each-mapped g h (x ∷ xs) from same =
     λ j. (ap h here ∙ same 0 x refl) j
     ∷ each-mapped g h xs (from + 1) (λ i y e. let next : from + 1 + i ≡ from + suc i = omega arith in ap h next ∙ same (suc i) y e) j
 
-module _ {P : Type 0} (layout : Layout) (lawful : fault_of layout ≡ None) (verifier : List ℕ) (f : ℕ → Option (FilerParcel P)) (is : AreOpening layout verifier f) where
+module _ {P : Type 0} (layout : Layout) (lawful : fault_of layout ≡ None) (verifier : List ℕ) (f : ℕ
+    → Option (FilerParcel P)) (is : AreOpening layout verifier f) where
   -- the parts are as a run begins
   pub opening-parts : all_parts (filer_contents layout f) ≡ map opening_parts layout.volumes
   opening-parts =
@@ -453,4 +464,10 @@ module _ {P : Type 0} (layout : Layout) (lawful : fault_of layout ≡ None) (ver
         dead = sets.empty;
         free = opening-free (ranges_in (slice_get layout.volumes i)) (ranges-most layout lawful i) j;
       })
-      ∙ ap (λ (o : Option VolumeLayout). record { files = sets.empty; stock = sets.empty; dead = sets.empty; free = from_list (range_with_len 0 (range_blocks * ranges_in o)) }) e)
+      ∙ ap (λ (o : Option VolumeLayout). record {
+        files = sets.empty;
+        stock = sets.empty;
+        dead = sets.empty;
+        free = from_list (range_with_len 0
+            (range_blocks * ranges_in o));
+      }) e)

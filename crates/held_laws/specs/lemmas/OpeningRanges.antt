@@ -75,7 +75,8 @@ module _ (u : ℕ) where
       (λ (more : u ≤ from). let none = none-used from (suc n) more in omega arith)
       (cases_lt from u)
 
-  free-in : (q r : ℕ) → r < u → one_if (contains (opening_range u r).free q) + one_if (nat_lt q (range_blocks * r)) ≡ one_if (nat_lt q (range_blocks * (r + 1)))
+  free-in : (q r : ℕ) → r < u → one_if (contains (opening_range u r).free q) + one_if (nat_lt q (range_blocks * r))
+      ≡ one_if (nat_lt q (range_blocks * (r + 1)))
   free-in q r less =
       let here : one_if (contains (opening_range u r).free q) ≡ one_if (list_any (λ y. nat_eq y q) (range_numbers r)) =
       ap (λ (x : RangeValue). one_if (contains x.free q)) (opening-used u r less) ∙ ap one_if (contains-from_list_nat (range_numbers r) q) in

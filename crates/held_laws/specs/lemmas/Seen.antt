@@ -13,7 +13,8 @@ use Rattle.affinity_tree.specs.lemmas.Standing.{covers-under, under-number}
 use Rattle.depot_rule.specs.History.{patched}
 use Rattle.depot_rule.specs.lemmas.Covering.{patched-in, patched-out}
 use Rattle.held_state.specs.Parcels.{FilerParcel}
-use Rattle.held_state.specs.Contents.{VolumeContents, FilerContents, each, logical_in, stripe_in, range_in, spare_in, at, contents_of, volume_at, filer_contents}
+use Rattle.held_state.specs.Contents.{VolumeContents, FilerContents, each, logical_in, stripe_in, range_in, spare_in, at, contents_of, volume_at}
+use Rattle.held_state.specs.Contents.{filer_contents}
 use Rattle.held_state.specs.Lenses.{Lens, in_volume, volume_or_none}
 use Rattle.held_state.specs.Promises.{IsSeenBy}
 use Rattle.held_laws.specs.lemmas.Each.{each-same, each-set, each-get}
@@ -30,7 +31,8 @@ module _ {P S : Type 0} (layout : Layout) (lawful : fault_of layout ≡ None) (a
   -- what makes a lens
   pub seen-by : (parcels : ℕ → Option (FilerParcel P)) (set : S)
       → ((f : ℕ → Option (FilerParcel P)) → AgreeUnder layout a f parcels → lens.of (filer_contents layout f) ≡ set)
-      → ((f g : ℕ → Option (FilerParcel P)) → AgreeElsewhere layout a g f → filer_contents layout g ≡ lens.put (lens.of (filer_contents layout g)) (filer_contents layout f))
+      → ((f g : ℕ → Option (FilerParcel P)) → AgreeElsewhere layout a g f
+      → filer_contents layout g ≡ lens.put (lens.of (filer_contents layout g)) (filer_contents layout f))
       → IsSeenBy layout a lens parcels set
   seen-by parcels set under elsewhere =
       let ps : List ℕ = parents layout in
@@ -89,7 +91,8 @@ module _ {P S : Type 0} (layout : Layout) (lawful : fault_of layout ≡ None) (a
 
   pub below-volume-seen : (parcels : ℕ → Option (FilerParcel P)) (set : S)
       → ((f : ℕ → Option (FilerParcel P)) → AgreeUnder layout a f parcels → lens.of (contents_of layout f v) ≡ set)
-      → ((f g : ℕ → Option (FilerParcel P)) → AgreeElsewhere layout a g f → contents_of layout g v ≡ lens.put (lens.of (contents_of layout g v)) (contents_of layout f v))
+      → ((f g : ℕ → Option (FilerParcel P)) → AgreeElsewhere layout a g f
+      → contents_of layout g v ≡ lens.put (lens.of (contents_of layout g v)) (contents_of layout f v))
       → IsSeenBy layout a (in_volume v lens) parcels set
   below-volume-seen parcels set under elsewhere = seen-by layout lawful a there (in_volume v lens) parcels set
       (λ f same. ap lens.of (volume-here f) ∙ under f same)

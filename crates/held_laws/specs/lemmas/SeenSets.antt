@@ -51,12 +51,14 @@ below layout a b more node e =
 -- ---- what is in a place
 
 module _ {P : Type 0} where
-  stripe-placed : (o : Option (Option (FilerStripe P))) → stripe_in {P = P} (in_place (λ (s : FilerStripe P). Some (parcels.Stripe s.own)) o) ≡ stripe_value (in_one o)
+  stripe-placed : (o : Option (Option (FilerStripe P)))
+      → stripe_in {P = P} (in_place (λ (s : FilerStripe P). Some (parcels.Stripe s.own)) o) ≡ stripe_value (in_one o)
   stripe-placed None = refl
   stripe-placed (Some None) = refl
   stripe-placed (Some (Some s)) = refl
 
-  range-placed : (o : Option (Option (FilerRange P))) → range_in {P = P} (in_place (λ (r : FilerRange P). Some (parcels.Range r.own)) o) ≡ range_value (in_one o)
+  range-placed : (o : Option (Option (FilerRange P)))
+      → range_in {P = P} (in_place (λ (r : FilerRange P). Some (parcels.Range r.own)) o) ≡ range_value (in_one o)
   range-placed None = refl
   range-placed (Some None) = refl
   range-placed (Some (Some r)) = refl
@@ -254,7 +256,8 @@ module _ {P : Type 0} (layout : Layout) (lawful : fault_of layout ≡ None) wher
         spare = (each-index (λ b. spare_in (at layout f (Aggregate b))) 0 (length layout.spare) a less
             ∙ ap spare_in (same node (below layout node node [] less refl) ∙ aggregate-own layout node held)) j;
         volumes = (each-map (set_on a) (contents_of layout f) 0 count
-            ∙ each-same (λ v. set_on a (contents_of layout f v)) (λ v. if aggregate_of layout v == a then Some (volume_placed layout (Some held) v) else None) 0 count
+            ∙ each-same (λ v. set_on a (contents_of layout f v))
+            (λ v. if aggregate_of layout v == a then Some (volume_placed layout (Some held) v) else None) 0 count
             (λ v low high. chosen-same (aggregate_of layout v) a (volume_lens.of (contents_of layout f v)) (volume_placed layout (Some held) v)
             (λ e. volume-in-place layout v f (slice_get held.volumes.at v) (on-aggregate a v (omega arith) e held f
             (volume-is node v (omega arith) (λ more. below-it a v e more) f q same))))) j;
@@ -308,9 +311,11 @@ module _ {P : Type 0} (layout : Layout) (lawful : fault_of layout ≡ None) wher
       seen-by layout lawful Serial tt serial_lens q (serial_set layout held)
       (λ f same. λ j. record {
         spare = each-same (λ a. spare_in (at layout f (Aggregate a))) (λ a. spare_value (placed held.aggregates.at a)) 0 (length layout.spare)
-            (λ a low high. ap spare_in (same (Aggregate a) (omega arith, covers-cases layout Serial (Aggregate a) refl) ∙ serial-aggregate layout a held (omega arith))
+            (λ a low high. ap spare_in (same (Aggregate a) (omega arith, covers-cases layout Serial (Aggregate a) refl)
+            ∙ serial-aggregate layout a held (omega arith))
             ∙ spare-placed (slice_get held.aggregates.at a)) j;
-        volumes = each-same (contents_of layout f) (λ v. volume_with layout v (volume_placed layout (placed held.aggregates.at (aggregate_of layout v)) v)) 0 (length layout.volumes)
+        volumes = each-same (contents_of layout f)
+            (λ v. volume_with layout v (volume_placed layout (placed held.aggregates.at (aggregate_of layout v)) v)) 0 (length layout.volumes)
             (λ v low high. ap (volume_with layout v) (volume-of-aggregate v (omega arith) f (slice_get held.aggregates.at (aggregate_of layout v))
             (on-serial v (omega arith) held f (volume-is Serial v (omega arith) (λ more. refl) f q same)))) j;
       })

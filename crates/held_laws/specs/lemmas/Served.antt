@@ -2,7 +2,8 @@
 use Rattle.std.proofs.Common.{◌≡◌, ℕ, zero, suc, ◌<◌, Bool, true, false, IsTrue, List, [], ◌∷◌, length, map, Some, refl, sym, ap, ◌∙◌, subst, arith}
 use Rattle.std.specs.Prelude.{slice_get, slice_set}
 use Rattle.std.proofs.lemmas.List.{length-map}
-use Rattle.nfs_model.specs.Types.{Call, Null, Getattr, Setattr, Lookup, Read, Write, Create, Mkdir, Remove, Rmdir, Rename, Readdir, Fsstat, Commit, Census, Grow}
+use Rattle.nfs_model.specs.Types.{Call, Null, Getattr, Setattr, Lookup, Read, Write, Create, Mkdir, Remove, Rmdir, Rename, Readdir, Fsstat, Commit}
+use Rattle.nfs_model.specs.Types.{Census, Grow}
 use Rattle.nfs_model.specs.Types.{Credential, Moment, Reply, Success}
 use Rattle.nfs_model.specs.Tree.{Layout}
 use Rattle.nfs_model.specs.Server as servers
@@ -19,7 +20,8 @@ use Rattle.held_state.specs.Lenses.{with_contents}
 use Rattle.held_state.specs.Promises.{IsLaidOut}
 use Rattle.held_state.specs.Jobs.{InnerCall, Serve, Inner, JobReply, Replied, Took, Gave, Surveyed, inner_node, inner_volume}
 use Rattle.held_state.specs.Deeds.{stored_all, task_at, outcome_of, Does}
-use Rattle.held_state.specs.Calls.{VolumeCall, handle_in, located_on, answer_of, volume_left, answer_on, move_of_located, move_on, WorksOn, ServesOn, DoesInnerOn, finished_as, IsCallOn}
+use Rattle.held_state.specs.Calls.{VolumeCall, handle_in, located_on, answer_of, volume_left, answer_on, move_of_located, move_on, WorksOn, ServesOn}
+use Rattle.held_state.specs.Calls.{DoesInnerOn, finished_as, IsCallOn}
 use Rattle.held_laws.specs.lemmas.Each.{get-there}
 
 -- ---- one place of a list
@@ -65,7 +67,10 @@ module _ (c : FilerContents) (v : ℕ) (p : VolumeContents) (there : volume_at c
 
   server-stays : (after : VolumeContents) → volume_of after ≡ volume_of p → server_of (with_contents c v after) ≡ server_of c
   server-stays after same = server-set after
-      ∙ (λ j. record (server_of c) { volumes = (ap (slice_set (server_of c).volumes v) same ∙ set-same (server_of c).volumes v (volume_of p) server-there) j })
+      ∙ (λ j. record (server_of c) {
+        volumes = (ap (slice_set (server_of c).volumes v) same
+            ∙ set-same (server_of c).volumes v (volume_of p) server-there) j;
+      })
 
   contents-here : (after : VolumeContents) → volume_at (with_contents c v after) v ≡ Some after
   contents-here after = set-here c.volumes v after (get-there c.volumes v p there)
@@ -168,7 +173,8 @@ module _ (layout : Layout) (v : ℕ) (q : VolumeCall) (connection number xid : �
   told = ap (λ (s : Step). s.reply) step ∙ placed-reply (server_of c) (absent_parts q.call) v (q.run (volume_of p))
 
   works-by : (starved : Bool) (reply : Reply) (after : VolumeContents) → WorksOn q p (outcome_of starved reply) after
-      → Works (task_at (finished_as q connection number xid credential moment starved) q.node) (stored_all c) (outcome_of starved reply) (stored_all (with_contents c v after))
+      → Works (task_at (finished_as q connection number xid credential moment starved) q.node) (stored_all c) (outcome_of starved reply)
+      (stored_all (with_contents c v after))
   works-by true reply after w = (
     stays ∙ w.0,
     subst IsTrue (sym (ap (takes_memory_to_reply (server_of c) q.call) told)) (w.1 (server_of c) located),
@@ -180,15 +186,16 @@ module _ (layout : Layout) (v : ℕ) (q : VolumeCall) (connection number xid : �
     server-set c v p there after ∙ ap (with_volume (server_of c) v) w.2
         ∙ sym (placed-server (server_of c) (absent_parts q.call) v (q.run (volume_of p)) (volume_of p) (server-there c v p there))
         ∙ ap (λ (s : Step). s.server) (sym step),
-    subst (λ o. PartsAt o q.call q.node (stored_all c) (stored_all (with_contents c v after))) (sym (changes-above (length layout.volumes) q _ is.good ∙ is.under)) (record {
-      before = stored p;
-      after = stored after;
-      volume_before = server-there c v p there;
-      volume_after = map-get volume_of (with_contents c v after).volumes v after (contents-here c v p there after);
-      parts_before = parts-there c v p there;
-      change = w.3;
-      parts = parts-set c v p there after;
-    }),
+    subst (λ o. PartsAt o q.call q.node (stored_all c) (stored_all (with_contents c v after))) (sym (changes-above
+        (length layout.volumes) q _ is.good ∙ is.under)) (record {
+          before = stored p;
+          after = stored after;
+          volume_before = server-there c v p there;
+          volume_after = map-get volume_of (with_contents c v after).volumes v after (contents-here c v p there after);
+          parts_before = parts-there c v p there;
+          change = w.3;
+          parts = parts-set c v p there after;
+        }),
   )
 
   -- an entry of the call on its volume is one of all that is stored
@@ -201,7 +208,8 @@ module _ (layout : Layout) (v : ℕ) (q : VolumeCall) (connection number xid : �
     starved = λ e. (does.1 e, unchanged starved reply after e does.0);
   }
     where
-      unchanged : (starved : Bool) (reply : Reply) (after : VolumeContents) → starved ≡ true → WorksOn q p (outcome_of starved reply) after → with_contents c v after ≡ c
+      unchanged : (starved : Bool) (reply : Reply) (after : VolumeContents) → starved ≡ true → WorksOn q p (outcome_of starved reply) after
+          → with_contents c v after ≡ c
       unchanged true reply after e w = ap (with_contents c v) w.2 ∙ contents-stay c v p there
       unchanged false reply after e w = absurd cc
   serve-lift starved (Took hand) after does = absurd does

@@ -1,5 +1,6 @@
 -- From what a handler promises of the part that it holds to a step of the filer.
-use Rattle.std.proofs.Common.{◌≡◌, ◌≢◌, ℕ, zero, suc, ◌+◌, ◌<◌, ◌⊎◌, inl, inr, ⊎_elim, List, [], ◌∷◌, length, Option, Some, None, refl, sym, ap, ◌∙◌, subst, arith}
+use Rattle.std.proofs.Common.{◌≡◌, ◌≢◌, ℕ, zero, suc, ◌+◌, ◌<◌, ◌⊎◌, inl, inr, ⊎_elim, List, [], ◌∷◌, length, Option, Some, None, refl, sym, ap, ◌∙◌}
+use Rattle.std.proofs.Common.{subst, arith}
 use Rattle.std.specs.Prelude.{slice_get, slice_set}
 use Rattle.nfs_model.specs.Tree.{Layout, Affinity, stripes_of}
 use Rattle.nfs_model.specs.Parts.{Hand}
@@ -131,7 +132,8 @@ module _ {S R : Type 0} (layout : Layout) (v : ℕ) (on : v < length layout.volu
       subst (λ (x : FilerContents). deed c reply x × AreSound x hands' (made + 1)) same (
         lift c p after laid found.1 s.0 (numbered new p ∙ s.0) done.0,
         λ u q e. ⊎_elim
-            (λ (is : (u ≡ v) × (q ≡ after)). subst (λ (x : VolumeContents). (x.number ≡ u) × IsSound x hands' (made + 1)) (sym is.1) (numbered new p ∙ s.0 ∙ sym is.0, done.1))
+            (λ (is : (u ≡ v) × (q ≡ after)). subst (λ (x : VolumeContents). (x.number ≡ u)
+            × IsSound x hands' (made + 1)) (sym is.1) (numbered new p ∙ s.0 ∙ sym is.0, done.1))
             (λ (is : (u ≢ v) × (slice_get c.volumes u ≡ Some q)).
             let t = sound u q is.1 in (
               t.0,
