@@ -13,3 +13,4 @@ pub mod Mapped
 pub mod Counted
 pub mod Limits
 pub mod Known
+pub mod Delivering

@@ -68,8 +68,8 @@ Does layout node (Inner call) old reply new = DoesInner node call old reply new
 -- the same of parcels by number
 abbrev pub ParcelsDo : {P : Type 0} → Layout → Affinity → Job → (ℕ → Option (FilerParcel P)) → JobReply
     → (ℕ → Option (FilerParcel P)) → Type 0
-ParcelsDo layout node work f reply f' = Does layout node work (filer_contents layout f) reply (filer_contents layout f')
+ParcelsDo layout node job f reply f' = Does layout node job (filer_contents layout f) reply (filer_contents layout f')
 
 -- the steps of a filer: whatever the other parcels are, an entry does its deed, and all stays sound
 abbrev pub FilerSteps : {P : Type 0} → Steps (FilerParcel P) Job JobReply
-FilerSteps {P} parents a work f reply f' = StepsRight IsLayoutOf (AllSound {P = P}) takes gives (at_node ParcelsDo) parents a work f reply f'
+FilerSteps {P} parents a job f reply f' = StepsRight IsLayoutOf (AllSound {P = P}) takes gives (at_node ParcelsDo) parents a job f reply f'
