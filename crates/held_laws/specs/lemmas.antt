@@ -14,3 +14,4 @@ pub mod Counted
 pub mod Limits
 pub mod Known
 pub mod Delivering
+pub mod Lawful
