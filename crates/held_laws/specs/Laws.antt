@@ -9,6 +9,8 @@ use Rattle.nfs_model.specs.Parts as parts
 use Rattle.nfs_model.specs.Parts.{Hand, times_listed, range_blocks}
 use Rattle.affinity_tree.specs.Fault.{fault_of}
 use Rattle.affinity_tree.specs.Numbers.{parents, number_of}
+use Rattle.depot_rule.specs.declared.view.Entry.{Entry}
+use Rattle.depot_rule.specs.History.{after, Legal, SoundThroughout, behaviour}
 use Rattle.depot_rule.specs.Machine.{IsLocal, Keeps}
 use Rattle.depot_rule.specs.Sums.{total}
 use Rattle.parcel_sets.specs.Sets.{range_parcels, vbn_parcels, stripe_parcels, logical_parcels, volume_parcels, aggregate_parcels, serial_parcels}
@@ -20,6 +22,7 @@ use Rattle.held_state.specs.Partition.{parts_of, all_parts, times_in_hand}
 use Rattle.held_state.specs.Sound.{IsSound, AllSound, IsFiler}
 use Rattle.held_state.specs.Jobs.{InnerCall, Job, Serve, Inner, JobReply, takes, gives, inner_node, inner_volume}
 use Rattle.held_state.specs.Deeds.{Does, FilerSteps}
+use Rattle.held_state.specs.Replayed.{calls_of, replies_of, Replays}
 use Rattle.held_state.specs.Lenses.{with_contents, stripe_lens, range_lens, vbn_lens, logical_lens, volume_lens, aggregate_lens, serial_lens, in_volume}
 use Rattle.held_state.specs.Promises.{IsLaidOut, IsRight, IsSeenBy}
 use Rattle.held_state.specs.Calls.{VolumeCall, IsCallOn, ServesOn, DoesInnerOn, finished_as}
@@ -72,6 +75,13 @@ module _ (P : Type 0) where
 
   abbrev pub StepsCommute : Type 0
   StepsCommute = Commute (FilerSteps {P = P})
+
+  -- The parcels that a legal history leaves, in which all is sound throughout, stand for the serial server after its finished
+  -- calls, whose replies are the serial server's.
+  abbrev pub HistoriesReplay : Type 0
+  HistoriesReplay = (layout : Layout) → fault_of layout ≡ None → (f : ℕ → Option (FilerParcel P)) (log : List (Entry (FilerParcel P) Job JobReply))
+      → Legal FilerSteps (parents layout) f log → SoundThroughout (behaviour FilerSteps takes gives IsFiler) (parents layout) f log
+      → Replays (tree layout f) (tree layout (after (parents layout) f log)) (calls_of log) (replies_of log)
 
   -- which of two layouts of one tree is taken changes nothing
   abbrev pub LayoutsAgree : Type 0

@@ -15,3 +15,4 @@ pub mod Limits
 pub mod Known
 pub mod Delivering
 pub mod Lawful
+pub mod Replays
