@@ -1,8 +1,9 @@
 -- The parcels as a run begins are sound, and stand for the server as it begins.
-use Rattle.std.proofs.Common.{◌≡◌, ◌≢◌, ℕ, zero, suc, ◌+◌, ◌*◌, ◌/◌, ◌<◌, ◌≤◌, ◌==◌, Bool, true, false, not, ◌&&◌, ◌||◌, cond, List, [], ◌∷◌, length, map, Option, Some, None}
-use Rattle.std.proofs.Common.{refl, sym, ap, ◌∙◌, subst, arith, eqb, eq-eqb, ne_eqb, nat_lt, nat_eq, inl, inr, ⊎_elim}
+use Rattle.std.proofs.Common.{◌≡◌, ℕ, zero, suc, ◌+◌, ◌*◌, ◌/◌, ◌<◌, ◌≤◌, ◌==◌, Bool, true, false, not, ◌&&◌, cond, List, [], ◌∷◌, ◌++◌, length, map}
+use Rattle.std.proofs.Common.{Option, Some, None}
+use Rattle.std.proofs.Common.{refl, sym, ap, ◌∙◌, subst, arith, eqb, nat_lt, nat_eq, inl, inr, ⊎_elim}
 use Rattle.std.specs.Prelude.{if◌then◌else◌, slice_get, slice_index_or, is_some, IfSome, nat_le}
-use Rattle.std.proofs.lemmas.Bool.{cases_lt, cases_eq, lt-ltb, le-ltb, eqb-true, leb-true, and_parts}
+use Rattle.std.proofs.lemmas.Bool.{cases_lt, lt-ltb, le-ltb, eqb-true, leb-true, and_parts}
 use Rattle.std.specs.List.{range_with_len, list_any, list_all}
 use Rattle.std.specs.Option.{option_map}
 use Rattle.std.specs.Ordering.{nat_cmp}
@@ -13,8 +14,8 @@ use Rattle.std.specs.FinSet as sets
 use Rattle.std.specs.FinSet.{contains, from_list, contains-from_list_nat, contains-empty}
 use Rattle.nfs_model.specs.Parts.{one_if, range_blocks, most_ranges}
 use Rattle.depot_rule.specs.Sums.{total}
-use Rattle.volume_values.specs.Ranges.{RangeValue, unused_range, put_in_use, range_numbers}
-use Rattle.held_state.specs.Contents.{each}
+use Rattle.volume_values.specs.Ranges.{RangeValue, range_numbers}
+use Rattle.held_state.specs.Contents.{filer_contents, each}
 use Rattle.held_state.specs.Tree.{ranges_used}
 use Rattle.affinity_tree.specs.Fault.{fault_of, is_within, is_known, is_sized}
 use Rattle.affinity_tree.specs.Largest.{largest_of, mebibytes_in}
@@ -27,110 +28,22 @@ use Rattle.nfs_model.specs.Parts.{count}
 use Rattle.volume_values.specs.Maps.{map_values}
 use Rattle.volume_values.specs.lemmas.Maps.{get-map_values}
 use Rattle.volume_values.specs.Directories.{DirectoryValue, empty_directory}
-use Rattle.volume_values.specs.Inodes.{Inode, IsInodes, filled_blocks, blocks_filled}
+use Rattle.volume_values.specs.Inodes.{Inode, IsInodes, root_inode, filled_blocks, blocks_filled}
 use Rattle.volume_values.specs.Stripes.{OfFolder, Block, Place, place_cmp, StripeValue, stripe_of, is_filled}
 use Rattle.held_state.specs.Parcels.{FilerParcel, no_stripe, no_range}
 use Rattle.held_state.specs.Contents.{VolumeContents, at, contents_of, logical_in, stripe_in, range_in, spare_in}
 use Rattle.held_state.specs.Tree.{stripe_at, file_filled, home_stripe, most_file_blocks, node_of, node_by, volume_of, tree}
-use Rattle.held_state.specs.Names.{root, size_of, size_in, parent_of, is_folder, subdirectories_of, DirectoryFits, AreNamed, IsLogical, InodeMap, DirectoryMap}
+use Rattle.held_state.specs.Names.{root, size_of, size_in, parent_directory, is_folder, subdirectories_of, DirectoryFits, AreNamed, IsLogical}
+use Rattle.held_state.specs.Names.{InodeMap, DirectoryMap}
 use Rattle.held_state.specs.WellFormed.{size_shown, StripeFits, RangeFits, WellFormed}
-use Rattle.held_state.specs.Partition.{IsPartition, times_in_stripe}
+use Rattle.held_state.specs.Partition.{StandOnce, times_in_stripe}
 use Rattle.held_state.specs.Sound.{IsSound, AllSound}
-use Rattle.held_state.specs.Opening.{root_inode, opening_logical, opening_stripe, opening_range, ranges_in, AreOpening}
-use Rattle.held_state.specs.lemmas.Each.{each-same, each-get, each-index, each-length, each-map, get-there}
-
--- ---- counts below a number
-
-one-below : (q n : ℕ) → q < n → one_if (nat_lt q n) ≡ 1
-one-below q n less = ap one_if (lt-ltb q n less)
-
-none-below : (q n : ℕ) → n ≤ q → one_if (nat_lt q n) ≡ 0
-none-below q n more = ap one_if (le-ltb q n more)
-
-same-below : (q m n : ℕ) → m ≡ n → one_if (nat_lt q m) ≡ one_if (nat_lt q n)
-same-below q m n e = ap (λ (x : ℕ). one_if (nat_lt q x)) e
-
--- how often a number stands among n numbers from a on
-listed-once : (a n q : ℕ) → one_if (list_any (λ y. nat_eq y q) (range_with_len a n)) + one_if (nat_lt q a) ≡ one_if (nat_lt q (a + n))
-listed-once a zero q = let same = same-below q a (a + 0) (omega arith) in omega arith
-listed-once a (suc n) q =
-    let others = listed-once (a + 1) n q in
-    let next = same-below q (a + 1 + n) (a + suc n) (omega arith) in
-    ⊎_elim
-    (λ (e : a ≡ q).
-      let here : one_if (nat_eq a q || list_any (λ y. nat_eq y q) (range_with_len (a + 1) n)) ≡ 1 =
-          ap (λ (b : Bool). one_if (b || list_any (λ y. nat_eq y q) (range_with_len (a + 1) n))) (eq-eqb a q e) in
-      let low = none-below q a (omega arith) in
-      let high = one-below q (a + suc n) (omega arith) in
-      omega arith)
-    (λ (ne : a ≢ q).
-      let here : one_if (nat_eq a q || list_any (λ y. nat_eq y q) (range_with_len (a + 1) n)) ≡ one_if (list_any (λ y. nat_eq y q) (range_with_len (a + 1) n)) =
-          ap (λ (b : Bool). one_if (b || list_any (λ y. nat_eq y q) (range_with_len (a + 1) n))) (ne_eqb a q ne) in
-      ⊎_elim
-      (λ (less : q < a). let low = one-below q a less in let high = one-below q (a + 1) (omega arith) in omega arith)
-      (λ (more : a ≤ q). let low = none-below q a more in let high = none-below q (a + 1) (omega (arith, ne)) in omega arith)
-      (cases_lt q a))
-    (cases_eq a q)
-
--- ---- ranges
-
-opening-used : (u r : ℕ) → r < u → opening_range u r ≡ put_in_use (unused_range r)
-opening-used u r less = ap (λ (b : Bool). if b then put_in_use (unused_range r) else unused_range r) (lt-ltb r u less)
-
-opening-unused : (u r : ℕ) → u ≤ r → opening_range u r ≡ unused_range r
-opening-unused u r more = ap (λ (b : Bool). if b then put_in_use (unused_range r) else unused_range r) (le-ltb r u more)
-
-module _ (u : ℕ) where
-  none-used : (from n : ℕ) → u ≤ from → ranges_used (each (opening_range u) from n) ≡ 0
-  none-used from zero more = refl
-  none-used from (suc n) more =
-      let here : ranges_used (each (opening_range u) from (suc n)) ≡ 0 + ranges_used (each (opening_range u) (from + 1) n) =
-          ap (λ (x : RangeValue). (if x.is_used then 1 else 0) + ranges_used (each (opening_range u) (from + 1) n)) (opening-unused u from more) in
-      let others = none-used (from + 1) n (omega arith) in
-      omega arith
-
-  -- as many are in use as were asked
-  pub all-used : (from n : ℕ) → from ≤ u → u ≤ from + n → ranges_used (each (opening_range u) from n) + from ≡ u
-  all-used from zero low high = omega arith
-  all-used from (suc n) low high = ⊎_elim
-      (λ (less : from < u).
-        let here : ranges_used (each (opening_range u) from (suc n)) ≡ 1 + ranges_used (each (opening_range u) (from + 1) n) =
-            ap (λ (x : RangeValue). (if x.is_used then 1 else 0) + ranges_used (each (opening_range u) (from + 1) n)) (opening-used u from less) in
-        let others = all-used (from + 1) n (omega arith) (omega arith) in
-        omega arith)
-      (λ (more : u ≤ from). let none = none-used from (suc n) more in omega arith)
-      (cases_lt from u)
-
-  free-in : (q r : ℕ) → r < u → one_if (contains (opening_range u r).free q) + one_if (nat_lt q (range_blocks * r)) ≡ one_if (nat_lt q (range_blocks * (r + 1)))
-  free-in q r less =
-      let here : one_if (contains (opening_range u r).free q) ≡ one_if (list_any (λ y. nat_eq y q) (range_numbers r)) =
-          ap (λ (x : RangeValue). one_if (contains x.free q)) (opening-used u r less) ∙ ap one_if (contains-from_list_nat (range_numbers r) q) in
-      let once = listed-once (range_blocks * r) range_blocks q in
-      let next = same-below q (range_blocks * r + range_blocks) (range_blocks * (r + 1)) (omega arith) in
-      omega arith
-
-  none-in : (q r : ℕ) → u ≤ r → one_if (contains (opening_range u r).free q) ≡ 0
-  none-in q r more = ap (λ (x : RangeValue). one_if (contains x.free q)) (opening-unused u r more) ∙ ap one_if (contains-empty nat_cmp q)
-
-  none-free : (q from n : ℕ) → u ≤ from → total (λ (x : RangeValue). one_if (contains x.free q)) (each (opening_range u) from n) ≡ 0
-  none-free q from zero more = refl
-  none-free q from (suc n) more = let here = none-in q from more in let others = none-free q (from + 1) n (omega arith) in omega arith
-
-  -- each number below the end of those in use is free once
-  pub all-free : (q from n : ℕ) → from ≤ u → u ≤ from + n
-      → total (λ (x : RangeValue). one_if (contains x.free q)) (each (opening_range u) from n) + one_if (nat_lt q (range_blocks * from))
-      ≡ one_if (nat_lt q (range_blocks * u))
-  all-free q from zero low high = let same = same-below q (range_blocks * from) (range_blocks * u) (omega arith) in omega arith
-  all-free q from (suc n) low high = ⊎_elim
-      (λ (less : from < u).
-        let here = free-in q from less in
-        let others = all-free q (from + 1) n (omega arith) (omega arith) in
-        omega arith)
-      (λ (more : u ≤ from).
-        let none = none-free q from (suc n) more in
-        let same = same-below q (range_blocks * from) (range_blocks * u) (omega arith) in
-        omega arith)
-      (cases_lt from u)
+use Rattle.held_state.specs.Opening.{opening_logical, opening_stripe, opening_range, ranges_in, AreOpening}
+use Rattle.held_laws.specs.lemmas.Each.{each-same, each-get, each-index, each-length, each-map, get-there}
+use Rattle.held_laws.specs.lemmas.OpeningRanges.{one-below, none-below, same-below, listed-once, opening-used, opening-unused, all-used, all-free}
+use Rattle.held_laws.specs.lemmas.Counted.{free-times}
+use Rattle.held_state.specs.Partition.{all_numbers, free_in, numbers_in, parts_of, all_parts}
+use Rattle.nfs_model.specs.Headline.{opening_parts}
 
 -- ---- maps of the root alone
 
@@ -160,7 +73,7 @@ of-root f q = ap f (single-get root_inode q)
 
 opening-named : AreNamed root_inodes root_directories
 opening-named = record {
-  root_there = of-root parent_of root;
+  root_there = of-root parent_directory root;
   folders = λ q. ap is_some (single-get empty_directory q) ∙ same (eqb q root) ∙ sym (of-root is_folder q);
   fits = λ q d e. let is = single-is empty_directory d q e in
       subst (λ x. DirectoryFits root_inodes q x) (sym is.1) (subst (λ (k : ℕ). DirectoryFits root_inodes k empty_directory) (sym is.0) (record {
@@ -168,7 +81,8 @@ opening-named = record {
         children = tt;
         links = of-root subdirectories_of root;
       }));
-  once = λ q. ap (λ (es : List (ℕ × DirectoryValue)). total (λ (d : ℕ × DirectoryValue). count (λ (e : Listed). e.fileid == q) d.1.list) es) (single-entries empty_directory)
+  once = λ q. ap (λ (es : List (ℕ × DirectoryValue)). total (λ (d : ℕ
+      × DirectoryValue). count (λ (e : Listed). e.fileid == q) d.1.list) es) (single-entries empty_directory)
       ∙ sym (of-root (λ o. one_if (is_some o && not (q == root))) q ∙ unnamed (q == root));
   rooted = λ q e. (0, folder-root (eqb q root) q (λ h. eqb-true q root h) (sym (of-root is_folder q) ∙ e));
 }
@@ -212,13 +126,16 @@ module _ (s : StripeValue) (bare : s.blocks ≡ maps.empty) where
   no-block : (fileid block : ℕ) → get s.blocks (fileid, block) ≡ None
   no-block fileid block = ap (λ m. get m (fileid, block)) bare ∙ get-empty place_cmp (fileid, block)
 
-  no-numbers : (q : ℕ) → times_in_stripe q s ≡ 0
-  no-numbers q = ap (λ (es : List (Place × Block)). count (λ b. b == q) (map (λ (e : Place × Block). e.1.number) es)) (no-items (entries s.blocks)
+  none-listed : numbers_in s ≡ []
+  none-listed = ap (λ (es : List (Place × Block)). map (λ (e : Place × Block). e.1.number) es) (no-items (entries s.blocks)
       (sym (len-entries s.blocks) ∙ ap (λ m. maps.len m) bare ∙ maps.len-empty place_cmp Block))
     where
       no-items : (xs : List (Place × Block)) → length xs ≡ 0 → xs ≡ []
       no-items [] e = refl
       no-items (x ∷ xs) e = absurd (omega arith)
+
+no-numbers : (s : StripeValue) → s.blocks ≡ maps.empty → (q : ℕ) → times_in_stripe q s ≡ 0
+no-numbers s bare q = ap (λ ns. count (λ b. b == q) ns) (none-listed s bare)
 
 total-none : {A : Type 0} (f : A → ℕ) (g : ℕ → A) (from n : ℕ) → ((i : ℕ) → f (g i) ≡ 0) → total f (each g from n) ≡ 0
 total-none f g from zero h = refl
@@ -242,8 +159,8 @@ none-filled : (s : StripeValue) → s.blocks ≡ maps.empty → (n fileid : ℕ)
 none-filled s bare n fileid =
     let stripes : List StripeValue = each (λ k. s) 0 n in
     let all : (block : ℕ) → is_filled (home_stripe stripes fileid block) fileid block ≡ false = λ block.
-        stripe-any (λ t. is_filled t fileid block ≡ false) s 0 n (stripe_of (length stripes) fileid block)
-        (ap is_some (no-block s bare fileid block)) (ap is_some (get-empty place_cmp (fileid, block))) in
+    stripe-any (λ t. is_filled t fileid block ≡ false) s 0 n (stripe_of (length stripes) fileid block)
+    (ap is_some (no-block s bare fileid block)) (ap is_some (get-empty place_cmp (fileid, block))) in
     ap sets.len ((λ j. sets.retain (from_list (range_with_len 0 most_file_blocks)) (λ block. all block j))
     ∙ none-retained (from_list (range_with_len 0 most_file_blocks)))
     ∙ sets.len-empty nat_cmp
@@ -256,16 +173,16 @@ in-own r b h =
     let once = listed-once (range_blocks * r) range_blocks b in
     ⊎_elim
     (λ (less : b < range_blocks * r).
-      let low = one-below b (range_blocks * r) less in
-      let high = one-below b (range_blocks * r + range_blocks) (omega arith) in
-      absurd (omega arith))
+    let low = one-below b (range_blocks * r) less in
+    let high = one-below b (range_blocks * r + range_blocks) (omega arith) in
+    absurd (omega arith))
     (λ (more : range_blocks * r ≤ b). ⊎_elim
-      (λ (less : b < range_blocks * r + range_blocks). omega arith)
-      (λ (past : range_blocks * r + range_blocks ≤ b).
-        let low = none-below b (range_blocks * r) more in
-        let high = none-below b (range_blocks * r + range_blocks) past in
-        absurd (omega arith))
-      (cases_lt b (range_blocks * r + range_blocks)))
+    (λ (less : b < range_blocks * r + range_blocks). omega arith)
+    (λ (past : range_blocks * r + range_blocks ≤ b).
+    let low = none-below b (range_blocks * r) more in
+    let high = none-below b (range_blocks * r + range_blocks) past in
+    absurd (omega arith))
+    (cases_lt b (range_blocks * r + range_blocks)))
     (cases_lt b (range_blocks * r))
 
 range-fits : (u r : ℕ) → RangeFits u r (opening_range u r)
@@ -294,7 +211,8 @@ opening-fits verifier stripes largest i = record {
   blocks = λ fileid block b e. let none = get-empty {X = Block} place_cmp (fileid, block) in absurd cc;
 }
   where
-    same : (b : Bool) → option_map size_shown (cond b (Some OfFolder) None) ≡ option_map (λ (inode : Inode). size_in inode.kind) (cond b (Some root_inode) None)
+    same : (b : Bool) → option_map size_shown (cond b (Some OfFolder) None)
+        ≡ option_map (λ (inode : Inode). size_in inode.kind) (cond b (Some root_inode) None)
     same true = refl
     same false = refl
 
@@ -315,7 +233,8 @@ contents-open layout verifier f is v on = λ j. record {
   number = v;
   aggregate = aggregate_of layout v;
   logical = logical_in (is (trees.Logical v) on j);
-  stripes = each-same (λ i. stripe_in (at layout f (trees.Stripe v i))) (λ i. opening_stripe verifier (stripes_of layout v) (largest_of layout v)) 0 (stripes_of layout v)
+  stripes = each-same (λ i. stripe_in (at layout f (trees.Stripe v i)))
+      (λ i. opening_stripe verifier (stripes_of layout v) (largest_of layout v)) 0 (stripes_of layout v)
       (λ i low high. ap stripe_in (is (trees.Stripe v i) (on, omega arith))) j;
   ranges = each-same (λ r. range_in (at layout f (trees.Range v r))) (opening_range (ranges_in (slice_get layout.volumes v))) 0 most_ranges
       (λ r low high. ap range_in (is (trees.Range v r) (on, omega arith))) j;
@@ -334,6 +253,16 @@ sized layout h = by (is_within 1 2 (length layout.spare)) (is_within 1 8 (length
     by true false c d others e = absurd cc
     by false b c d others e = absurd cc
 
+ranges-some : (layout : Layout) → fault_of layout ≡ None → (v : ℕ) → v < length layout.volumes → 0 < ranges_in (slice_get layout.volumes v)
+ranges-some layout h v on = at-least layout.volumes v on (sized layout h)
+  where
+    at-least : (volumes : List VolumeLayout) (v : ℕ) → v < length volumes → list_all is_sized volumes ≡ true → 0 < ranges_in (slice_get volumes v)
+    at-least [] v on e = absurd (omega arith)
+    at-least (x ∷ xs) zero on e =
+        let some = leb-true 1 x.ranges (and_parts (nat_le 1 x.ranges) (nat_le x.ranges 16) (and_parts (is_sized x)
+        (list_all is_sized xs) e).0).0 in omega arith
+    at-least (x ∷ xs) (suc v) on e = at-least xs v (omega arith) (and_parts (is_sized x) (list_all is_sized xs) e).1
+
 ranges-most : (layout : Layout) → fault_of layout ≡ None → (v : ℕ) → ranges_in (slice_get layout.volumes v) ≤ 16
 ranges-most layout h v = at-most layout.volumes v (sized layout h)
   where
@@ -342,7 +271,7 @@ ranges-most layout h v = at-most layout.volumes v (sized layout h)
     at-most (x ∷ xs) zero e = leb-true x.ranges 16 (and_parts (nat_le 1 x.ranges) (nat_le x.ranges 16) (and_parts (is_sized x) (list_all is_sized xs) e).0).1
     at-most (x ∷ xs) (suc v) e = at-most xs v (and_parts (is_sized x) (list_all is_sized xs) e).1
 
-module _ (layout : Layout) (lawful : fault_of layout ≡ None) (verifier : List ℕ) (v : ℕ) where
+module _ (layout : Layout) (lawful : fault_of layout ≡ None) (verifier : List ℕ) (v : ℕ) (on : v < length layout.volumes) where
   abbrev n : ℕ
   n = stripes_of layout v
 
@@ -375,13 +304,14 @@ module _ (layout : Layout) (lawful : fault_of layout ≡ None) (verifier : List 
         let is = single-is root_inode inode q e in
         ap (λ (x : Inode). filled_blocks x.kind) is.1 ∙ sym (none-filled first refl n q);
     sixteen = each-length (opening_range u) 0 most_ranges;
+    some = (let used = in-use in let least = ranges-some layout lawful v on in omega arith);
     ranges = λ r less.
         let long = each-length (opening_range u) 0 most_ranges in
         subst (λ (x : RangeValue). RangeFits (ranges_used p.ranges) r x) (sym (each-index (opening_range u) no_range most_ranges r (omega arith)))
         (subst (λ (k : ℕ). RangeFits k r (opening_range u r)) (sym in-use) (range-fits u r));
   }
 
-  opening-partition : IsPartition p []
+  opening-partition : StandOnce p []
   opening-partition q =
       let most = ranges-most layout lawful v in
       let stripes = total-none (times_in_stripe q) (λ i. first) 0 n (λ i. no-numbers first refl q) in
@@ -403,7 +333,8 @@ module _ (layout : Layout) (lawful : fault_of layout ≡ None) (verifier : List 
 
 -- ---- all volumes
 
-module _ {P : Type 0} (layout : Layout) (lawful : fault_of layout ≡ None) (verifier : List ℕ) (f : ℕ → Option (FilerParcel P)) (is : AreOpening layout verifier f) where
+module _ {P : Type 0} (layout : Layout) (lawful : fault_of layout ≡ None) (verifier : List ℕ) (f : ℕ
+    → Option (FilerParcel P)) (is : AreOpening layout verifier f) where
   pub opening-sound : AllSound layout f [] 0
   opening-sound v p at_v =
       let count : ℕ = length layout.volumes in
@@ -412,7 +343,7 @@ module _ {P : Type 0} (layout : Layout) (lawful : fault_of layout ≡ None) (ver
       let on : v < count = omega arith in
       let same : contents_of layout f v ≡ p = (let e = sym (each-get (contents_of layout f) count v on) ∙ at_v in cc) in
       let opens : p ≡ opening_contents layout verifier v = sym same ∙ contents-open layout verifier f is v on in
-      subst (λ (x : VolumeContents). (x.number ≡ v) × IsSound x [] 0) (sym opens) (refl, opening-is-sound layout lawful verifier v)
+      subst (λ (x : VolumeContents). (x.number ≡ v) × IsSound x [] 0) (sym opens) (refl, opening-is-sound layout lawful verifier v on)
 
 root-nodes : (stripes : List StripeValue) → map_values (node_of stripes root_directories) root_inodes ≡ from_sorted ((root, root_node) ∷ [])
 root-nodes stripes = same_map nat_cmp_total nat_cmp-IsAntisymmetric _ _ (λ q.
@@ -430,9 +361,9 @@ root-nodes stripes = same_map nat_cmp_total nat_cmp-IsAntisymmetric _ _ (λ q.
 volume-opens : (layout : Layout) (verifier : List ℕ) (v : ℕ) (x : VolumeLayout) → fault_of layout ≡ None → slice_get layout.volumes v ≡ Some x
     → volume_of (opening_contents layout verifier v) ≡ opening_volume verifier v x
 volume-opens layout verifier v x lawful there =
-    let used = in-use layout lawful verifier v in
+    let used = in-use layout lawful verifier v (get-there layout.volumes v x there) in
     let total : range_blocks * ranges_used (opening_contents layout verifier v).ranges ≡ 1024 * x.ranges =
-        ap (λ (k : ℕ). 1024 * k) (used ∙ ap ranges_in there) in
+    ap (λ (k : ℕ). 1024 * k) (used ∙ ap ranges_in there) in
     let largest : largest_of layout v ≡ 1048576 * x.mebibytes = ap (λ o. 1048576 * mebibytes_in o) there in
     λ j. record {
       number = v;
@@ -461,7 +392,8 @@ each-listed (x ∷ xs) h from same =
     λ j. (ap h here ∙ same 0 (omega arith)) j
     ∷ each-listed xs h (from + 1) (λ i less. let next : from + 1 + i ≡ from + suc i = omega arith in ap h next ∙ same (suc i) (omega arith)) j
 
-module _ {P : Type 0} (layout : Layout) (lawful : fault_of layout ≡ None) (verifier : List ℕ) (f : ℕ → Option (FilerParcel P)) (is : AreOpening layout verifier f) where
+module _ {P : Type 0} (layout : Layout) (lawful : fault_of layout ≡ None) (verifier : List ℕ) (f : ℕ
+    → Option (FilerParcel P)) (is : AreOpening layout verifier f) where
   pub opening-tree : tree layout f ≡ opening layout verifier
   opening-tree = λ j. record {
     spare = each-listed layout.spare (λ a. spare_in (at layout f (trees.Aggregate a))) 0
@@ -474,3 +406,68 @@ module _ {P : Type 0} (layout : Layout) (lawful : fault_of layout ≡ None) (ver
         subst (λ (k : ℕ). volume_of (contents_of layout f k) ≡ opening_volume verifier k x) here
         (ap volume_of (contents-open layout verifier f is i less) ∙ volume-opens layout verifier i x lawful e))) j;
   }
+
+-- ---- where the block numbers are
+
+one-same-bool : (a b : Bool) → one_if a ≡ one_if b → a ≡ b
+one-same-bool true true e = refl
+one-same-bool true false e = absurd (omega arith)
+one-same-bool false true e = absurd (omega arith)
+one-same-bool false false e = refl
+
+no-numbers-in : (s : StripeValue) → s.blocks ≡ maps.empty → (from n : ℕ) → all_numbers (each (λ i. s) from n) ≡ []
+no-numbers-in s bare from zero = refl
+no-numbers-in s bare from (suc n) = λ j. none-listed s bare j ++ no-numbers-in s bare (from + 1) n j
+
+-- all numbers below total are free, and no other
+opening-free : (u : ℕ) → u ≤ 16 → free_in (each (opening_range u) 0 most_ranges) ≡ from_list (range_with_len 0 (range_blocks * u))
+opening-free u most = sets.same_set nat_cmp_total nat_cmp-IsAntisymmetric (free_in (each (opening_range u) 0 most_ranges)) (from_list
+    (range_with_len 0 (range_blocks * u)))
+    (λ q.
+    let free = all-free u q 0 most_ranges (omega arith) (omega arith) in
+    let low = none-below q (range_blocks * 0) (omega arith) in
+    let at_most = at-most-one (nat_lt q (range_blocks * u)) in
+    let counted = free-times q (each (opening_range u) 0 most_ranges) (omega arith) in
+    let listed = listed-once 0 (range_blocks * u) q in
+    let start = none-below q 0 (omega arith) in
+    let end = same-below q (0 + range_blocks * u) (range_blocks * u) (omega arith) in
+    let has = ap one_if (contains-from_list_nat (range_with_len 0 (range_blocks * u)) q) in
+    one-same-bool (contains (free_in (each (opening_range u) 0 most_ranges)) q) (contains (from_list {R = nat_cmp} (range_with_len 0
+    (range_blocks * u))) q) (omega arith))
+  where
+    at-most-one : (b : Bool) → one_if b ≤ 1
+    at-most-one true = omega arith
+    at-most-one false = omega arith
+
+each-mapped : {A B : Type 0} (g : A → B) (h : ℕ → B) (xs : List A) (from : ℕ) → ((i : ℕ) (x : A) → slice_get xs i ≡ Some x → h (from + i) ≡ g x)
+    → each h from (length xs) ≡ map g xs
+each-mapped g h [] from same = refl
+each-mapped g h (x ∷ xs) from same =
+    let here : from ≡ from + 0 = omega arith in
+    λ j. (ap h here ∙ same 0 x refl) j
+    ∷ each-mapped g h xs (from + 1) (λ i y e. let next : from + 1 + i ≡ from + suc i = omega arith in ap h next ∙ same (suc i) y e) j
+
+module _ {P : Type 0} (layout : Layout) (lawful : fault_of layout ≡ None) (verifier : List ℕ) (f : ℕ
+    → Option (FilerParcel P)) (is : AreOpening layout verifier f) where
+  -- the parts are as a run begins
+  pub opening-parts : all_parts (filer_contents layout f) ≡ map opening_parts layout.volumes
+  opening-parts =
+      each-map parts_of (contents_of layout f) 0 (length layout.volumes)
+      ∙ each-mapped opening_parts (λ v. parts_of (contents_of layout f v)) layout.volumes 0 (λ i x e.
+      let less = get-there layout.volumes i x e in
+      let here : 0 + i ≡ i = omega arith in
+      ap (λ (k : ℕ). parts_of (contents_of layout f k)) here
+      ∙ ap parts_of (contents-open layout verifier f is i less)
+      ∙ (λ j. record {
+        files = from_list (no-numbers-in (opening_stripe verifier (stripes_of layout i) (largest_of layout i)) refl 0 (stripes_of layout i) j);
+        stock = sets.empty;
+        dead = sets.empty;
+        free = opening-free (ranges_in (slice_get layout.volumes i)) (ranges-most layout lawful i) j;
+      })
+      ∙ ap (λ (o : Option VolumeLayout). record {
+        files = sets.empty;
+        stock = sets.empty;
+        dead = sets.empty;
+        free = from_list (range_with_len 0
+            (range_blocks * ranges_in o));
+      }) e)

@@ -1,7 +1,9 @@
 -- Which of two layouts with one list of parents is taken changes nothing.
-use Rattle.std.proofs.Common.{◌≡◌, ℕ, zero, suc, ◌+◌, ◌-◌, ◌==◌, ◌||◌, ◌/◌, ◌%◌, IsTrue, List, [], ◌∷◌, length, Option, Some, None, refl, sym, ap, ◌∙◌, subst, arith}
+use Rattle.std.proofs.Common.{◌≡◌, ℕ, zero, suc, ◌+◌, ◌-◌, ◌==◌, ◌||◌, ◌/◌, ◌%◌, IsTrue, List, [], ◌∷◌, length, Option, Some, None, refl, sym, ap}
+use Rattle.std.proofs.Common.{◌∙◌, subst, arith}
 use Rattle.std.specs.Prelude.{min, slice_get, is_some, if◌then◌else◌}
-use Rattle.nfs_model.specs.Types.{Call, Null, Getattr, Setattr, Lookup, Read, Write, Create, Mkdir, Remove, Rmdir, Rename, Readdir, Fsstat, Commit, Census, Grow}
+use Rattle.nfs_model.specs.Types.{Call, Null, Getattr, Setattr, Lookup, Read, Write, Create, Mkdir, Remove, Rmdir, Rename, Readdir, Fsstat, Commit}
+use Rattle.nfs_model.specs.Types.{Census, Grow}
 use Rattle.nfs_model.specs.Types.{Asked, Ask, Refused, Undecoded}
 use Rattle.nfs_model.specs.Tree.{Layout, VolumeLayout, Affinity, Serial, Aggregate, Volume, Logical, Stripe, Vbn, Range, path, begins, aggregate_in}
 use Rattle.nfs_model.specs.Server.{Named, handle_of, most_bytes}
@@ -10,7 +12,7 @@ use Rattle.nfs_model.specs.Parts.{most_ranges}
 use Rattle.affinity_tree.specs.Alike.{AreAlike}
 use Rattle.held_state.specs.Parcels.{FilerParcel}
 use Rattle.held_state.specs.Contents.{FilerContents, each, logical_in, stripe_in, range_in, spare_in, contents_of, filer_contents}
-use Rattle.held_state.specs.Work.{Work, Serve, Inner, WorkReply, Replied, Took, Gave, Surveyed}
+use Rattle.held_state.specs.Jobs.{Job, Serve, Inner, JobReply, Replied, Took, Gave, Surveyed}
 use Rattle.held_state.specs.Deeds.{IsHomeOrAbove, Does}
 
 module _ {P : Type 0} (l m : Layout) (s : AreAlike l m) (f : ℕ → Option (FilerParcel P)) where
@@ -93,7 +95,8 @@ module _ (l m : Layout) (s : AreAlike l m) where
       (h.0, sym (home-of-asked-same asked) ∙ h.1, subst IsTrue (λ j. begins (path-same node j) (path-same h.0 j)) h.2)
 
   -- an entry does in the one what it does in the other
-  pub does-same : (node : Affinity) (work : Work) (old : FilerContents) (reply : WorkReply) (new : FilerContents) → Does l node work old reply new → Does m node work old reply new
+  pub does-same : (node : Affinity) (job : Job) (old : FilerContents) (reply : JobReply) (new : FilerContents) → Does l node job old reply new
+      → Does m node job old reply new
   does-same node (Serve call) old (Replied reply) new d = record {
     affinity = d.affinity;
     tried = tried-same call.asked node d.tried;

@@ -1,8 +1,0 @@
--- Lemmas alone, which no reader has to believe: laws of these definitions, for proofs above.
-pub mod Each
-pub mod Lens
-pub mod Lenses
-pub mod Opening
-pub mod Commuting
-pub mod Alike
-pub mod Steps
