@@ -1,1 +1,3 @@
 mod DirectoryMaps
+mod Laid
+mod Begun

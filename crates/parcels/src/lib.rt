@@ -5,11 +5,13 @@
 mod directory_map;
 mod files;
 mod logical;
+mod opening;
 mod range;
 mod stripe;
 
 pub use directory_map::DirectoryMap;
 pub use files::Files;
 pub use logical::{Logical, LogicalParcel};
+pub use opening::opening_parcels;
 pub use range::RangeParcel;
 pub use stripe::StripeParcel;
