@@ -2,5 +2,12 @@ pub mod Rising
 pub mod Bits
 pub mod Taken
 pub mod Marked
+pub mod Each
+pub mod Ranged
+pub mod Stocked
+pub mod DeadSets
+pub mod DeadTaken
+pub mod DeadCounts
+pub mod DeadMarked
 pub mod Counted
 pub mod Single

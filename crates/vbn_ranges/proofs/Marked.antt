@@ -15,7 +15,7 @@ use Rattle.nfs_model.specs.Moves.{in_range}
 use Rattle.volume_values.specs.Ranges.{range_numbers, with_numbers, without_numbers}
 use Rattle.vbn_ranges.specs.Words.{bits_from, members, set_of, has_bit}
 use Rattle.vbn_ranges.specs.Marks.{MarksValue, marks_of, no_marks, all_marks, lowest_marked, marked, unmarked, IsMarks}
-use Rattle.vbn_ranges.proofs.Rising.{is_in, Rising, rising-weaker, filter-rising, not-below, not-above, set-left}
+use Rattle.vbn_ranges.proofs.Rising.{is_in, Rising, rising-weaker, filter-rising, not-below, within-rising, set-left}
 use Rattle.vbn_ranges.proofs.Bits.{odd, bits-zero, members-rising, members-in, zero-whole}
 use lib.Pow.{pow_pos}
 use Rattle.vbn_ranges.proofs.Single.{same}
@@ -41,11 +41,6 @@ is-marked range words block e =
     sym (contains-from_list_nat (members (range_blocks * range) words) block
     ∙ ap (is_in (members (range_blocks * range) words)) (sym number)
     ∙ members-in (range_blocks * range) words (block % range_blocks))
-
-within-rising : (low high : ℕ) (bs : List ℕ) (q : ℕ) → Rising low high bs → is_in bs q ≡ true → (low ≤ q) × (q < high)
-within-rising low high bs q h t =
-    (⊎_elim (λ l. absurd (let n = not-below low high bs q h l in cc)) (λ l. l) (cases_lt q low),
-     ⊎_elim (λ l. l) (λ l. absurd (let n = not-above low high bs q h l in cc)) (cases_lt q high))
 
 pub are-marks : (range : ℕ) (words : List ℕ) → length words ≡ 16 → IsMarks (marks_of range words)
 are-marks range words n b t =

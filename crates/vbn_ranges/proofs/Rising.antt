@@ -73,6 +73,11 @@ not-above low high (b ∷ bs) q h l =
     let above = rising-bounds (b + 1) high bs h.1 in
     in-tail b bs q (λ e. omega arith) ∙ not-above (b + 1) high bs q h.1 l
 
+pub within-rising : (low high : ℕ) (bs : List ℕ) (q : ℕ) → Rising low high bs → is_in bs q ≡ true → (low ≤ q) × (q < high)
+within-rising low high bs q h t =
+    (⊎_elim (λ l. absurd (let n = not-below low high bs q h l in cc)) (λ l. l) (cases_lt q low),
+     ⊎_elim (λ l. l) (λ l. absurd (let n = not-above low high bs q h l in cc)) (cases_lt q high))
+
 kept-if : (p : ℕ → Bool) (q : ℕ) (bs : List ℕ) (t : Bool) → p q ≡ t → cond (p q) (q ∷ bs) bs ≡ cond t (q ∷ bs) bs
 kept-if p q bs t is = ap (λ u. cond u (q ∷ bs) bs) is
 

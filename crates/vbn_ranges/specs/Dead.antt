@@ -1,11 +1,11 @@
 -- The dead blocks of a volume, by their ranges.
-use Rattle.std.specs.Prelude.{◌≡◌, ℕ, ◌+◌, List, [], ◌∷◌, map, length}
+use Rattle.std.specs.Prelude.{◌≡◌, ℕ, ◌+◌, List, [], ◌∷◌, map, length, take, min}
 use Rattle.std.specs.List.{range_with_len}
 use Rattle.std.specs.Ordering.{nat_cmp}
 use Rattle.std.specs.FinSet as sets
 use Rattle.std.specs.FinSet.{FinSet, union, len}
-use Rattle.nfs_model.specs.Parts.{most_ranges}
-use Rattle.nfs_model.specs.Moves.{first_filled}
+use Rattle.nfs_model.specs.Parts.{most_ranges, most_carried}
+use Rattle.nfs_model.specs.Moves.{first_filled, in_range}
 use Rattle.vbn_ranges.specs.Marks.{MarksValue, IsMarks, lowest_marked}
 
 -- all marked numbers
@@ -27,3 +27,7 @@ pub record AreDead (marks : List MarksValue) (count : ℕ) : Type 0 where
 -- at most n, and 64, of the lowest marked numbers of the first range that has one
 abbrev pub lowest_dead : ℕ → List MarksValue → List ℕ
 lowest_dead n marks = first_filled (map (lowest_marked n) marks)
+
+-- at most n, and 64, of the lowest numbers of the range of the lowest
+unfoldable pub lowest_of : ℕ → FinSet nat_cmp → List ℕ
+lowest_of n set = first_filled (map (λ r. take (min n most_carried) (in_range r set)) (range_with_len 0 most_ranges))

@@ -19,7 +19,7 @@ ghost use Rattle.nfs_model.specs.Parts.{most_ranges, range_blocks};
 ghost use Rattle.nfs_model.specs.Moves.{lowest_batch};
 ghost use Rattle.volume_values.specs.Ranges.{with_numbers, without_numbers, IsOfVolume};
 ghost use Rattle.vbn_ranges.specs.Batch.{first_of};
-ghost use Rattle.vbn_ranges.specs.Dead.{all_of, lowest_dead, AreNumbered};
+ghost use Rattle.vbn_ranges.specs.Dead.{all_of, lowest_dead, lowest_of, AreNumbered};
 
 use crate::batch::Batch;
 use crate::marks::Marks;
@@ -99,10 +99,11 @@ impl DeadBlocks {
         ensures left { IfSome result (λ b. self.new ≡ without_numbers (b.0 ∷ []) self.old) }
         ensures none { IfNone result (self.old ≡ sets.empty × self.new ≡ self.old) }
     {
-        let batch = take_lowest(&mut self.ranges, 1);
-        let block = *batch.as_slice().first()?;
-        self.count -= 1;
-        Some(block)
+        if self.count == 0 {
+            return None;
+        }
+        let batch = self.take_lowest(1);
+        batch.as_slice().first().copied()
     }
 
     /// Takes the 64 lowest blocks of the range of the lowest, or all of that range if they are
@@ -111,14 +112,22 @@ impl DeadBlocks {
         ensures batch { result ≡ lowest_batch self.old }
         ensures left { self.new ≡ without_numbers (lowest_batch self.old) self.old }
     {
-        let batch = take_lowest(&mut self.ranges, 64);
+        self.take_lowest(64)
+    }
+
+    /// Takes the lowest blocks of the range of the lowest, at most so many and 64.
+    fn take_lowest(&mut self, most: usize) -> Batch
+        ensures batch { result ≡ lowest_of most self.old }
+        ensures left { self.new ≡ without_numbers (lowest_of most self.old) self.old }
+    {
+        let batch = take_first(&mut self.ranges, most);
         self.count -= batch.len();
         batch
     }
 }
 
 /// Takes the lowest blocks of the first range that has one, at most so many and 64.
-fn take_lowest(ranges: &mut [Marks], most: usize) -> Batch
+fn take_first(ranges: &mut [Marks], most: usize) -> Batch
     requires { AreNumbered 0 ranges.old }
     ensures batch { result ≡ lowest_dead most ranges.old }
     ensures left {

@@ -1,0 +1,8 @@
+use Rattle.std.proofs.Common.{subst}
+use Rattle.volume_values.specs.Ranges.{IsOfVolume}
+use Rattle.vbn_ranges.proofs.DeadSets.{of-volume}
+use Rattle.vbn_ranges.proofs.DeadCounts.{none-lowest}
+use Rattle.vbn_ranges.proofs.dead.DeadBlocks.len.Goals as goal
+
+pub returns-clause-volume : goal.returns-clause-volume
+returns-clause-volume c = subst IsOfVolume c.self.view_is (of-volume c.self.inside.ranges.items c.self.inside.count c.self.invariant)

@@ -1,0 +1,10 @@
+use Rattle.std.proofs.Common.{◌∙◌, ap, List, ℕ}
+use Rattle.volume_values.specs.Ranges.{without_numbers}
+use Rattle.vbn_ranges.proofs.DeadCounts.{lowest-batch-is}
+use Rattle.vbn_ranges.proofs.dead.DeadBlocks.take_batch.Goals as goal
+
+pub returns-clause-batch : goal.returns-clause-batch
+returns-clause-batch c = c.take_lowest.ensures.batch ∙ lowest-batch-is c.args.self.now
+
+pub returns-clause-left : goal.returns-clause-left
+returns-clause-left c = c.take_lowest.ensures.left ∙ ap (λ (bs : List ℕ). without_numbers bs c.args.self.now) (lowest-batch-is c.args.self.now)
