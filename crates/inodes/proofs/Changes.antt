@@ -1,14 +1,14 @@
 -- What the calls do to the values: each change of the table with the next fileid and the used count.
-use Rattle.std.proofs.Common.{◌≡◌, refl, sym, subst, ap, ◌∙◌, ℕ, ◌+◌, ◌-◌, ◌≤◌, ◌==◌, ◌&&◌, true, false, cond, List, [], ◌∷◌, Option, Some, None, if◌then◌else◌}
+use Rattle.std.proofs.Common.{◌≡◌, sym, subst, ap, ◌∙◌, ℕ, ◌+◌, ◌-◌, ◌≤◌, ◌==◌, ◌&&◌, true, false, cond, List, [], ◌∷◌, Option, Some, None, if◌then◌else◌}
 use Rattle.std.specs.BTreeMap.{is_at}
 use Rattle.std.specs.Option.{option_map}
 use Rattle.std.specs.Ordering.{nat_cmp, eq_by_cmp}
 use Rattle.std.specs.Cmp.{nat_cmp_total}
-use Rattle.std.specs.FinMap.{FinMap, get, insert, remove, empty, from_sorted, get-empty, get-insert, get-from_sorted, same_map, nat_cmp-IsAntisymmetric}
+use Rattle.std.specs.FinMap.{get, insert, remove, empty, from_sorted, get-empty, get-insert, get-from_sorted, same_map, nat_cmp-IsAntisymmetric}
 use Rattle.nfs_model.specs.Types.{Moment}
 use Rattle.nfs_values.specs.declared.number.Fileid.{Fileid}
-use Rattle.volume_values.specs.Inodes as values
-use Rattle.volume_values.specs.Inodes.{IsInodes, InodesValue, filled_blocks, settled_inode, inode_settled, inode_replaced, inode_set, inode_created, inode_dropped, inode_unmade, used_without, opening_inodes, root_inode}
+use Rattle.volume_values.specs.Inodes.{IsInodes, InodesValue, filled_blocks, opening_inodes, root_inode}
+use Rattle.volume_values.specs.Inodes.{settled_inode, inode_settled, inode_replaced, inode_set, inode_created, inode_dropped, inode_unmade, used_without}
 use Rattle.volume_values.specs.lemmas.Inodes.{filled-within, unmade-is}
 use Rattle.inodes.specs.declared.inode.Inode.{Inode}
 use Rattle.inodes.specs.Inode.{inode_value, kind_value, inode_map, inodes_value}

@@ -1,20 +1,21 @@
 -- The entries of a table as a map of values.
-use Rattle.std.proofs.Common.{◌≡◌, refl, sym, ap, ◌∙◌, ℕ, suc, ◌+◌, ◌-◌, ◌<◌, ◌≤◌, ◌==◌, ◌&&◌, Bool, true, false, cond, List, [], ◌∷◌, length, map, Option, Some, None, is_some, if◌then◌else◌, arith}
+use Rattle.std.proofs.Common.{◌≡◌, refl, sym, ap, ◌∙◌, ℕ, ◌+◌, ◌==◌, ◌&&◌, Bool, true, false, cond, List, [], ◌∷◌}
+use Rattle.std.proofs.Common.{length, map, Option, Some, None, is_some, if◌then◌else◌, arith}
 use Rattle.std.specs.List.{AllByRecursion}
 use Rattle.std.specs.List.Sorted.{IsStrictlySortedBy}
 use Rattle.std.specs.Map.{lookup, keys_of}
 use Rattle.std.specs.BTreeMap.{is_at}
 use Rattle.std.specs.Option.{option_map}
 use Rattle.std.specs.Ordering.{nat_cmp, is_eq, eq_by_cmp}
-use Rattle.std.specs.declared.cmp.Ordering.{Ordering}
 use Rattle.std.specs.declared.cmp.Ordering.TheVariants.{Less}
 use Rattle.std.specs.Cmp.{nat_cmp_total, unsigned_ties}
-use Rattle.std.specs.FinMap.{FinMap, find, get, insert, remove, len, from_entries, get-from_entries, get-insert, get-remove, len-empty, len-insert, same_map, nat_cmp-IsAntisymmetric}
+use Rattle.std.specs.FinMap.{FinMap, find, get, insert, remove, len}
+use Rattle.std.specs.FinMap.{get-from_entries, get-insert, get-remove, len-empty, len-insert, same_map, nat_cmp-IsAntisymmetric}
 use Rattle.std.proofs.lemmas.Cmp.{eq_by_cmp_equiv}
 use Rattle.std.proofs.lemmas.Map.Views.{exact_unsigned_eq}
 use Rattle.volume_values.specs.Inodes as values
 use Rattle.volume_values.specs.Maps.{changed_at}
-use Rattle.volume_values.specs.lemmas.Inodes.{get-changed_at}
+use Rattle.volume_values.specs.lemmas.Numbered.{get-changed_at}
 use Rattle.inodes.specs.declared.inode.Inode.{Inode}
 use Rattle.inodes.specs.Inode.{inode_value, inode_map}
 
@@ -50,7 +51,8 @@ len-found [] s = len-empty nat_cmp values.Inode
 len-found (e ∷ es) s =
     let absent : get (inode_map es) e.0 ≡ None = get-found es e.0 ∙ ap (option_map inode_value) (none-after e.0 es s.0) in
     let rest = len-found es s.1 in
-    let all = len-insert nat_cmp_total (inode_map es) e.0 (inode_value e.1) ∙ ap (λ o. cond (is_some o) (len (inode_map es)) (len (inode_map es) + 1)) absent in
+    let before = len (inode_map es) in
+    let all = len-insert nat_cmp_total (inode_map es) e.0 (inode_value e.1) ∙ ap (λ o. cond (is_some o) before (before + 1)) absent in
     omega (arith, rest, all)
 
 -- ---- changes
@@ -62,7 +64,7 @@ same es m h = same_map nat_cmp_total nat_cmp-IsAntisymmetric (inode_map es) m (�
 turned : (k q : ℕ) → eq_by_cmp nat_cmp q k ≡ eq_by_cmp nat_cmp k q
 turned k q = (eq_by_cmp_equiv nat_cmp_total).symm q k
 
-mapped-cond : (b : Bool) (x : Option Inode) (y : Option Inode) → option_map inode_value (cond b x y) ≡ cond b (option_map inode_value x) (option_map inode_value y)
+mapped-cond : (b : Bool) (x y : Option Inode) → option_map inode_value (cond b x y) ≡ cond b (option_map inode_value x) (option_map inode_value y)
 mapped-cond true x y = refl
 mapped-cond false x y = refl
 
@@ -99,7 +101,8 @@ unchanged old new k x h = same new (inode_map old) (λ q. ap (option_map inode_v
 
 -- a table with an inode settled, where there is one
 pub changed : (g : values.Inode → values.Inode) (old new : List (ℕ × Inode)) (k : ℕ)
-    → ((q : ℕ) → option_map inode_value (found new q) ≡ (if q == k then option_map (λ (x : Inode). g (inode_value x)) (found old q) else option_map inode_value (found old q)))
+    → ((q : ℕ) → option_map inode_value (found new q)
+    ≡ (if q == k then option_map (λ (x : Inode). g (inode_value x)) (found old q) else option_map inode_value (found old q)))
     → inode_map new ≡ changed_at g k (inode_map old)
 changed g old new k h = same new (changed_at g k (inode_map old)) (λ q. h q ∙ (by q (q == k) refl ∙ sym (get-changed_at g k (inode_map old) q)))
   where

@@ -47,7 +47,7 @@ impl StoredAttributes {
     ghost use Rattle.inodes.specs.Inode.{attributes_value};
 
     /// The attributes with a touch, if there is one, as mtime and ctime.
-    pub fn touched(self, touch: Option<Moment>) -> StoredAttributes
+    pub fn with_touch(self, touch: Option<Moment>) -> StoredAttributes
         ensures { attributes_value result ≡
             effective_attributes (option_map moment_of touch) (attributes_value self) }
     {
@@ -106,7 +106,7 @@ impl Inode {
         ensures { attributes_value result ≡
             attributes_held (option_map moment_of touch) (inode_value self) }
     {
-        self.attributes.touched(touch)
+        self.attributes.with_touch(touch)
     }
 
     /// The inode with a touch, if there is one, as its stored mtime and ctime.
@@ -115,7 +115,7 @@ impl Inode {
             settled_inode (option_map moment_of touch) (inode_value self) }
     {
         Inode {
-            attributes: self.attributes.touched(touch),
+            attributes: self.attributes.with_touch(touch),
             kind: self.kind,
         }
     }

@@ -98,7 +98,7 @@ impl Inodes {
         self.next
     }
 
-    /// The filled blocks of all files.
+    /// The filled blocks of all files. A volume has at most 16,384 blocks.
     pub fn used(&self) -> u64
         ensures { result ≡ self.now.used }
     {

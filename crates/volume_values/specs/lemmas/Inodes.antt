@@ -1,78 +1,25 @@
 -- What is found after an inode is made, set, settled or dropped, and that fileids stay below the next one and the used
 -- count that of all filled blocks.
 use Rattle.std.proofs.Common.{◌≡◌, refl, sym, ap, ◌∙◌, ℕ, ◌+◌, ◌-◌, ◌<◌, ◌≤◌, Bool, true, false, cond, ◌==◌}
-use Rattle.std.proofs.Common.{◌&&◌, List, [], ◌∷◌, Option, Some, None, is_some, if◌then◌else◌, arith, eq-eqb}
+use Rattle.std.proofs.Common.{◌&&◌, List, [], ◌∷◌, length, Option, Some, None, is_some, if◌then◌else◌, arith}
 use Rattle.std.specs.declared.cmp.Ordering.{Ordering}
 use Rattle.std.specs.declared.cmp.Ordering.TheVariants.{Less, Equal, Greater}
 use Rattle.std.specs.Option.{option_map}
 use Rattle.std.specs.Ordering.{nat_cmp, is_eq}
 use Rattle.std.specs.Cmp.{nat_cmp_total, unsigned_tied}
 use Rattle.std.specs.FinMap.{FinMap, get, insert, remove, entries, len, find, put}
-use Rattle.std.specs.FinMap.{get-insert, get-remove, get-from_sorted, get-entries, entries-insert, entries-from_sorted}
-use Rattle.std.specs.FinMap.{len-insert, len-remove, same_map, nat_cmp-IsAntisymmetric}
+use Rattle.std.specs.FinMap.{get-from_sorted, get-entries, entries-insert, entries-from_sorted, len-entries}
+use Rattle.std.specs.FinMap.{len-insert, len-remove}
 use Rattle.std.specs.FinMap.Entries.{by_order}
 use Rattle.std.proofs.lemmas.Bool.Decides.{nat_tests}
 use Rattle.std.proofs.lemmas.Map.Views.{exact_unsigned_eq}
 use Rattle.nfs_model.specs.Types.{Moment}
-use Rattle.volume_values.specs.Maps.{changed_value, changed_at}
+use Rattle.volume_values.specs.Maps.{changed_value}
+use Rattle.volume_values.specs.lemmas.Numbered.{itself, get-insert_at, get-remove_at, get-changed_at, len-changed_at, insert-same, insert-twice}
+use Rattle.volume_values.specs.lemmas.Numbered.{insert-removed, removed-absent, remove-inserted, remove-absent}
 use Rattle.volume_values.specs.Inodes.{Inode, InodesValue, inode_of, filled_blocks, blocks_filled, settled_inode, inode_settled}
-use Rattle.volume_values.specs.Inodes.{inode_replaced, inode_set, inode_created, used_without, inode_dropped, inode_unmade, IsInodes, opening_inodes, root_inode}
-
--- ---- maps by numbers
-
-pub itself : (k : ℕ) → (k == k) ≡ true
-itself k = eq-eqb k k refl
-
-module _ {X : Type 0} where
-  get-insert_at : (m : FinMap nat_cmp X) (k : ℕ) (x : X) (q : ℕ) → get (insert m k x) q ≡ (if q == k then Some x else get m q)
-  get-insert_at m k x q = get-insert nat_cmp_total m k x q ∙ ap (λ b. cond b (Some x) (get m q)) (unsigned_tied q k)
-
-  get-remove_at : (m : FinMap nat_cmp X) (k q : ℕ) → get (remove m k) q ≡ (if q == k then None else get m q)
-  get-remove_at m k q = get-remove nat_cmp_total m k q ∙ ap (λ b. cond b None (get m q)) (unsigned_tied q k)
-
-  same : (m n : FinMap nat_cmp X) → ((q : ℕ) → get m q ≡ get n q) → m ≡ n
-  same m n h = same_map nat_cmp_total nat_cmp-IsAntisymmetric m n h
-
-  -- a key that has what it is given answers as before
-  pub as_before : (m : FinMap nat_cmp X) (k q : ℕ) (o : Option X) → get m k ≡ o → (if q == k then o else get m q) ≡ get m q
-  as_before m k q o h = by (q == k) refl
-    where
-      by : (b : Bool) → b ≡ (q == k) → (if b then o else get m q) ≡ get m q
-      by true p = sym h ∙ ap (get m) (sym (exact_unsigned_eq q k (sym p)))
-      by false p = refl
-
-  pub insert-same : (m : FinMap nat_cmp X) (k : ℕ) (x : X) → get m k ≡ Some x → insert m k x ≡ m
-  insert-same m k x h = same (insert m k x) m (λ q. get-insert_at m k x q ∙ as_before m k q (Some x) h)
-
-  pub remove-absent : (m : FinMap nat_cmp X) (k : ℕ) → get m k ≡ None → remove m k ≡ m
-  remove-absent m k h = same (remove m k) m (λ q. get-remove_at m k q ∙ as_before m k q None h)
-
-  -- what was put in can be taken out again
-  pub remove-inserted : (m : FinMap nat_cmp X) (k : ℕ) (x : X) → get m k ≡ None → remove (insert m k x) k ≡ m
-  remove-inserted m k x h = same (remove (insert m k x) k) m (λ q.
-      get-remove_at (insert m k x) k q ∙ (ap (λ o. if q == k then None else o) (get-insert_at m k x q) ∙ (by (q == k) (get m q) ∙ as_before m k q None h)))
-    where
-      by : (b : Bool) (o : Option X) → (if b then None else (if b then Some x else o)) ≡ (if b then None else o)
-      by true o = refl
-      by false o = refl
-
-  insert-removed : (m : FinMap nat_cmp X) (k : ℕ) (x : X) → insert (remove m k) k x ≡ insert m k x
-  insert-removed m k x = same (insert (remove m k) k x) (insert m k x) (λ q.
-      get-insert_at (remove m k) k x q ∙ (ap (λ o. if q == k then Some x else o) (get-remove_at m k q) ∙ (by (q == k) (get m q) ∙ sym (get-insert_at m k x q))))
-    where
-      by : (b : Bool) (o : Option X) → (if b then Some x else (if b then None else o)) ≡ (if b then Some x else o)
-      by true o = refl
-      by false o = refl
-
-  removed-absent : (m : FinMap nat_cmp X) (k : ℕ) → get (remove m k) k ≡ None
-  removed-absent m k = get-remove_at m k k ∙ ap (λ b. if b then None else get m k) (itself k)
-
-  pub get-changed_at : (g : X → X) (k : ℕ) (m : FinMap nat_cmp X) (q : ℕ) → get (changed_at g k m) q ≡ (if q == k then option_map g (get m k) else get m q)
-  get-changed_at g k m q = by (get m k) refl
-    where
-      by : (o : Option X) → get m k ≡ o → get (changed_value g o k m) q ≡ (if q == k then option_map g o else get m q)
-      by None h = sym (as_before m k q None h)
-      by (Some x) h = get-insert_at m k (g x) q
+use Rattle.volume_values.specs.Inodes.{inode_replaced, inode_set, inode_created, used_without, inode_dropped, inode_unmade}
+use Rattle.volume_values.specs.Inodes.{IsInodes, opening_inodes, root_inode}
 
 -- ---- the blocks of inodes
 
@@ -86,7 +33,8 @@ filled-put k x (e ∷ es) h = by (nat_cmp k e.0) (filled-put k x es) h
   where
     by : (r : Ordering) → (find nat_cmp k es ≡ None → blocks_filled (put nat_cmp k x es) ≡ filled_blocks x.kind + blocks_filled es)
         → cond (is_eq r) (Some e.1) (find nat_cmp k es) ≡ None
-        → blocks_filled (by_order r ((k, x) ∷ e ∷ es) ((e.0, x) ∷ es) (e ∷ put nat_cmp k x es)) ≡ filled_blocks x.kind + (filled_blocks e.1.kind + blocks_filled es)
+        → blocks_filled (by_order r ((k, x) ∷ e ∷ es) ((e.0, x) ∷ es) (e ∷ put nat_cmp k x es))
+        ≡ filled_blocks x.kind + (filled_blocks e.1.kind + blocks_filled es)
     by Less rest g = refl
     by Equal rest g = absurd (grind (arith, g))
     by Greater rest g = past (filled_blocks e.1.kind) (blocks_filled (put nat_cmp k x es)) (filled_blocks x.kind) (blocks_filled es) (rest g)
@@ -109,6 +57,9 @@ pub filled-within : (v : InodesValue) (fileid : ℕ) (inode : Inode) → IsInode
 filled-within v fileid inode i h = let s = filled-split v.inodes fileid inode h in let u = i.filled in omega (arith, s, u)
 
 -- ---- what is found
+
+pub inode-opening : (q : ℕ) → inode_of opening_inodes q ≡ (if q == 1 then Some root_inode else None)
+inode-opening q = get-from_sorted nat_cmp ((1, root_inode) ∷ []) q tt ∙ ap (λ b. cond b (Some root_inode) None) (unsigned_tied q 1)
 
 -- nothing stands under the next fileid
 pub next-absent : (v : InodesValue) → IsInodes v → inode_of v v.next ≡ None
@@ -143,7 +94,8 @@ inode-set v fileid inode q = by (get v.inodes fileid)
         and true = refl
         and false = refl
 
-pub inode-set-there : (v : InodesValue) (fileid : ℕ) (old inode : Inode) → inode_of v fileid ≡ Some old → inode_of (inode_set fileid inode v) fileid ≡ Some inode
+pub inode-set-there : (v : InodesValue) (fileid : ℕ) (old inode : Inode) → inode_of v fileid ≡ Some old
+    → inode_of (inode_set fileid inode v) fileid ≡ Some inode
 inode-set-there v fileid old inode h = inode-set v fileid inode fileid ∙ rw (itself fileid, h) refl
 
 pub inode-set-absent : (v : InodesValue) (fileid : ℕ) (inode : Inode) → inode_of v fileid ≡ None → inode_set fileid inode v ≡ v
@@ -193,7 +145,69 @@ inode-dropped-there v fileid = removed-absent v.inodes fileid
 pub inode-dropped-other : (v : InodesValue) (fileid q : ℕ) → (q == fileid) ≡ false → inode_of (inode_dropped fileid v) q ≡ inode_of v q
 inode-dropped-other v fileid q o = inode-dropped v fileid q ∙ ap (λ b. if b then None else inode_of v q) o
 
+-- ---- changes that change nothing, or nothing more
+
+pub inode-settled-absent : (v : InodesValue) (fileid : ℕ) (touch : Option Moment) → inode_of v fileid ≡ None → inode_settled fileid touch v ≡ v
+inode-settled-absent v fileid touch h = ap (λ o. record v { inodes = changed_value (settled_inode touch) o fileid v.inodes }) h
+
+pub inode-dropped-absent : (v : InodesValue) (fileid : ℕ) → inode_of v fileid ≡ None → inode_dropped fileid v ≡ v
+inode-dropped-absent v fileid h =
+    (λ i. record v { used = used_without v.used (h i); inodes = remove v.inodes fileid })
+    ∙ ap (λ m. record v { inodes = m }) (remove-absent v.inodes fileid h)
+
+pub inode-set-same : (v : InodesValue) (fileid : ℕ) (inode : Inode) → IsInodes v → inode_of v fileid ≡ Some inode → inode_set fileid inode v ≡ v
+inode-set-same v fileid inode i h =
+    let w = filled-within v fileid inode i h in
+    let u : v.used - filled_blocks inode.kind + filled_blocks inode.kind ≡ v.used = omega (arith, w) in
+    ap (λ o. inode_replaced o fileid inode v) h ∙ (λ x. record v { used = u x; inodes = insert-same v.inodes fileid inode h x })
+
+-- of two inodes set one after the other the last stays
+pub inode-set-twice : (v : InodesValue) (fileid : ℕ) (one two : Inode) → inode_set fileid two (inode_set fileid one v) ≡ inode_set fileid two v
+inode-set-twice v fileid one two = by (get v.inodes fileid) refl
+  where
+    by : (o : Option Inode) → get v.inodes fileid ≡ o
+        → inode_set fileid two (inode_replaced o fileid one v) ≡ inode_replaced o fileid two v
+    by None h = inode-set-absent v fileid two h
+    by (Some old) h =
+        let used = v.used - filled_blocks old.kind in
+        let there : get (insert v.inodes fileid one) fileid ≡ Some one =
+        get-insert_at v.inodes fileid one fileid ∙ ap (λ b. if b then Some one else get v.inodes fileid) (itself fileid) in
+        let u : used + filled_blocks one.kind - filled_blocks one.kind + filled_blocks two.kind ≡ used + filled_blocks two.kind = omega arith in
+        ap (λ o. inode_replaced o fileid two (inode_replaced (Some old) fileid one v)) there
+        ∙ (λ x. record v { used = u x; inodes = insert-twice v.inodes fileid one two x })
+
+-- ---- what is next, and what is used
+
+pub next-set : (v : InodesValue) (fileid : ℕ) (inode : Inode) → (inode_set fileid inode v).next ≡ v.next
+next-set v fileid inode = by (get v.inodes fileid)
+  where
+    by : (o : Option Inode) → (inode_replaced o fileid inode v).next ≡ v.next
+    by None = refl
+    by (Some old) = refl
+
+pub used-set : (v : InodesValue) (fileid : ℕ) (old inode : Inode) → IsInodes v → inode_of v fileid ≡ Some old
+    → (inode_set fileid inode v).used + filled_blocks old.kind ≡ v.used + filled_blocks inode.kind
+used-set v fileid old inode i h =
+    let w = filled-within v fileid old i h in
+    let set = ap (λ o. (inode_replaced o fileid inode v).used) h in
+    omega (arith, w, set)
+
+-- an inode set with as many filled blocks as before
+pub used-set-same : (v : InodesValue) (fileid : ℕ) (old inode : Inode) → IsInodes v → inode_of v fileid ≡ Some old
+    → filled_blocks inode.kind ≡ filled_blocks old.kind → (inode_set fileid inode v).used ≡ v.used
+used-set-same v fileid old inode i h f = let u = used-set v fileid old inode i h in omega (arith, u, f)
+
+pub used-dropped : (v : InodesValue) (fileid : ℕ) (inode : Inode) → IsInodes v → inode_of v fileid ≡ Some inode
+    → (inode_dropped fileid v).used + filled_blocks inode.kind ≡ v.used
+used-dropped v fileid inode i h =
+    let w = filled-within v fileid inode i h in
+    let left = ap (λ o. used_without v.used o) h in
+    omega (arith, w, left)
+
 -- ---- how many
+
+pub len-opening : len opening_inodes.inodes ≡ 1
+len-opening = len-entries opening_inodes.inodes ∙ ap length (entries-from_sorted nat_cmp ((1, root_inode) ∷ []) tt)
 
 pub len-created : (v : InodesValue) (inode : Inode) → IsInodes v → len (inode_created inode v).inodes ≡ len v.inodes + 1
 len-created v inode i = len-insert nat_cmp_total v.inodes v.next inode ∙ ap (λ o. cond (is_some o) (len v.inodes) (len v.inodes + 1)) (next-absent v i)
@@ -206,14 +220,10 @@ len-set v fileid inode = by (get v.inodes fileid) refl
     by (Some old) h = len-insert nat_cmp_total v.inodes fileid inode ∙ ap (λ o. cond (is_some o) (len v.inodes) (len v.inodes + 1)) h
 
 pub len-settled : (v : InodesValue) (fileid : ℕ) (touch : Option Moment) → len (inode_settled fileid touch v).inodes ≡ len v.inodes
-len-settled v fileid touch = by (get v.inodes fileid) refl
-  where
-    by : (o : Option Inode) → get v.inodes fileid ≡ o → len (changed_value (settled_inode touch) o fileid v.inodes) ≡ len v.inodes
-    by None h = refl
-    by (Some old) h =
-        len-insert nat_cmp_total v.inodes fileid (settled_inode touch old) ∙ ap (λ o. cond (is_some o) (len v.inodes) (len v.inodes + 1)) h
+len-settled v fileid touch = len-changed_at (settled_inode touch) fileid v.inodes
 
-pub len-dropped : (v : InodesValue) (fileid : ℕ) → len (inode_dropped fileid v).inodes ≡ (if is_some (inode_of v fileid) then len v.inodes - 1 else len v.inodes)
+pub len-dropped : (v : InodesValue) (fileid : ℕ)
+    → len (inode_dropped fileid v).inodes ≡ (if is_some (inode_of v fileid) then len v.inodes - 1 else len v.inodes)
 len-dropped v fileid = len-remove nat_cmp_total v.inodes fileid
 
 -- ---- what holds stays so
@@ -237,11 +247,11 @@ fileids-remove m k bound old f y h = by (f == k) (sym (get-remove_at m k f) ∙ 
 
 pub opening-is : IsInodes opening_inodes
 opening-is = record {
-  fileids = λ f y h. by f y (f == 1) refl (sym (ap (λ b. cond b (Some root_inode) None) (unsigned_tied f 1)) ∙ (sym (get-from_sorted nat_cmp ((1, root_inode) ∷ []) f tt) ∙ h));
+  fileids = λ f y h. by f y (f == 1) refl (sym (inode-opening f) ∙ h);
   filled = sym (ap blocks_filled (entries-from_sorted nat_cmp ((1, root_inode) ∷ []) tt));
 }
   where
-    by : (f : ℕ) (y : Inode) (b : Bool) → b ≡ (f == 1) → cond b (Some root_inode) None ≡ Some y → f < 2
+    by : (f : ℕ) (y : Inode) (b : Bool) → b ≡ (f == 1) → (if b then Some root_inode else None) ≡ Some y → f < 2
     by f y true p g = let e = exact_unsigned_eq f 1 (sym p) in omega (arith, e)
     by f y false p g = absurd (grind (arith, g))
 
@@ -251,7 +261,8 @@ created-is v inode i = record {
   filled = let f = filled-insert v.inodes v.next inode (next-absent v i) in let u = i.filled in omega (arith, f, u);
 }
 
-pub replaced-is : (v : InodesValue) (fileid : ℕ) (old inode : Inode) → inode_of v fileid ≡ Some old → IsInodes v → IsInodes (inode_replaced (Some old) fileid inode v)
+replaced-is : (v : InodesValue) (fileid : ℕ) (old inode : Inode) → inode_of v fileid ≡ Some old → IsInodes v
+    → IsInodes (inode_replaced (Some old) fileid inode v)
 replaced-is v fileid old inode h i = record {
   fileids = fileids-insert v.inodes fileid v.next inode (i.fileids fileid old h) i.fileids;
   filled =

@@ -1,4 +1,4 @@
-use Rattle.std.proofs.Common.{◌≡◌, sym}
+use Rattle.std.proofs.Common.{sym}
 use Rattle.inodes.proofs.Tables.{len-found}
 use Rattle.inodes.proofs.inodes.Inodes.len.Goals as goal
 
