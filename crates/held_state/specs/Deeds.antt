@@ -1,5 +1,4 @@
--- What an entry of the history does with what is stored, told of the server that this stands for and of where the block
--- numbers are.
+-- What an entry of the history does: to the server that the parcels stand for, and to the places of block numbers.
 use Rattle.std.specs.Prelude.{◌≡◌, ℕ, Bool, true, false, IsTrue, Option, Some, slice_set}
 use Rattle.nfs_model.specs.Types.{Asked, Reply, SystemError}
 use Rattle.nfs_model.specs.Tree.{Layout, Affinity}
@@ -15,21 +14,21 @@ use Rattle.held_state.specs.Contents.{FilerContents, VolumeContents, volume_at, 
 use Rattle.held_state.specs.Tree.{server_of, ranges_used}
 use Rattle.held_state.specs.Partition.{parts_of, all_parts}
 use Rattle.held_state.specs.Sound.{AllSound}
-use Rattle.held_state.specs.Work.{InnerCall, Work, Serve, Inner, WorkReply, Replied, takes, gives, inner_node, inner_volume, InnerMoves}
+use Rattle.held_state.specs.Jobs.{InnerCall, Job, Serve, Inner, JobReply, Replied, takes, gives, inner_node, inner_volume, InnerMoves}
 
 -- ---- calls that records ask for
 
--- a node is the home of what is asked, or above it
+-- a node is the home of what is asked, or above it (a call on a handle runs at its home, or moved up to Logical or Volume)
 abbrev pub IsHomeOrAbove : Layout → Asked → Affinity → Type 0
 IsHomeOrAbove layout asked node = (home : Affinity) × (home_of_asked layout asked ≡ Some home) × IsTrue (covers layout node home)
 
 -- what calls run on, as it is stored
-abbrev pub store_of : FilerContents → Store
-store_of c = record { server = server_of c; parts = all_parts c }
+abbrev pub stored_all : FilerContents → Store
+stored_all c = record { server = server_of c; parts = all_parts c }
 
 -- what is worked on for a finished call, under a node
-abbrev pub task_of : FinishedCall → Affinity → Task
-task_of call node = record { asked = call.asked; affinity = node; moment = call.moment }
+abbrev pub task_at : FinishedCall → Affinity → Task
+task_at call node = record { asked = call.asked; affinity = node; moment = call.moment }
 
 -- what work came to
 abbrev pub outcome_of : Bool → Reply → Outcome
@@ -43,13 +42,13 @@ pub record Serves (layout : Layout) (node : Affinity) (call : FinishedCall)
     (old : FilerContents) (reply : Reply) (new : FilerContents) : Type 0 where
   pub affinity : call.affinity ≡ Some node
   pub tried : IsHomeOrAbove layout call.asked node
-  pub works : Works (task_of call node) (store_of old) (outcome_of call.starved reply) (store_of new)
+  pub works : Works (task_at call node) (stored_all old) (outcome_of call.starved reply) (stored_all new)
   pub starved : call.starved ≡ true → (reply ≡ SystemError) × (new ≡ old)
 
 -- ---- inner calls
 
 -- An inner call ran under its node. It left the server, and the parts of the other volumes; those of its own it moved.
-pub record Carries (node : Affinity) (call : InnerCall) (old : FilerContents) (reply : WorkReply) (new : FilerContents) : Type 0 where
+pub record DoesInner (node : Affinity) (call : InnerCall) (old : FilerContents) (reply : JobReply) (new : FilerContents) : Type 0 where
   pub under : node ≡ inner_node call
   pub server : server_of new ≡ server_of old
   pub before : VolumeContents
@@ -61,16 +60,16 @@ pub record Carries (node : Affinity) (call : InnerCall) (old : FilerContents) (r
 
 -- ---- both
 
-abbrev pub Does : Layout → Affinity → Work → FilerContents → WorkReply → FilerContents → Type 0
+abbrev pub Does : Layout → Affinity → Job → FilerContents → JobReply → FilerContents → Type 0
 Does layout node (Serve call) old (Replied reply) new = Serves layout node call old reply new
 Does layout node (Serve call) old reply new = ⊥
-Does layout node (Inner call) old reply new = Carries node call old reply new
+Does layout node (Inner call) old reply new = DoesInner node call old reply new
 
 -- the same of parcels by number
-abbrev pub ParcelsDo : {P : Type 0} → Layout → Affinity → Work → (ℕ → Option (FilerParcel P)) → WorkReply
+abbrev pub ParcelsDo : {P : Type 0} → Layout → Affinity → Job → (ℕ → Option (FilerParcel P)) → JobReply
     → (ℕ → Option (FilerParcel P)) → Type 0
 ParcelsDo layout node work f reply f' = Does layout node work (filer_contents layout f) reply (filer_contents layout f')
 
 -- the steps of a filer: whatever the other parcels are, an entry does its deed, and all stays sound
-abbrev pub FilerSteps : {P : Type 0} → Steps (FilerParcel P) Work WorkReply
+abbrev pub FilerSteps : {P : Type 0} → Steps (FilerParcel P) Job JobReply
 FilerSteps {P} parents a work f reply f' = StepsRight IsLayoutOf (AllSound {P = P}) takes gives (at_node ParcelsDo) parents a work f reply f'

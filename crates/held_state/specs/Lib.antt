@@ -5,12 +5,13 @@ pub mod Names
 pub mod WellFormed
 pub mod Partition
 pub mod Sound
-pub mod Work
+pub mod Jobs
 pub mod Deeds
-pub mod Parts
+pub mod Lenses
 pub mod Promises
 pub mod Sets
 pub mod Calls
 pub mod Opening
 pub mod Commute
+pub mod Laws
 pub mod lemmas

@@ -29,9 +29,9 @@ abbrev pub size_in : InodeKind → Option ℕ
 size_in (RegularFile size filled verifier) = Some size
 size_in (Folder parent subdirectories) = None
 
-abbrev pub parent_in : InodeKind → Option ℕ
-parent_in (RegularFile size filled verifier) = None
-parent_in (Folder parent subdirectories) = Some parent
+abbrev pub parent_kept : InodeKind → Option ℕ
+parent_kept (RegularFile size filled verifier) = None
+parent_kept (Folder parent subdirectories) = Some parent
 
 abbrev pub subdirectories_in : InodeKind → Option ℕ
 subdirectories_in (RegularFile size filled verifier) = None
@@ -43,9 +43,9 @@ size_of None = None
 size_of (Some inode) = size_in inode.kind
 
 -- the parent of a directory that is there
-abbrev pub parent_of : Option Inode → Option ℕ
-parent_of None = None
-parent_of (Some inode) = parent_in inode.kind
+abbrev pub parent_directory : Option Inode → Option ℕ
+parent_directory None = None
+parent_directory (Some inode) = parent_kept inode.kind
 
 -- how many subdirectories the inode of a directory says that it has
 abbrev pub subdirectories_of : Option Inode → Option ℕ
@@ -54,7 +54,7 @@ subdirectories_of (Some inode) = subdirectories_in inode.kind
 
 -- whether a directory is there
 abbrev pub is_folder : Option Inode → Bool
-is_folder inode = is_some (parent_of inode)
+is_folder inode = is_some (parent_directory inode)
 
 -- ---- names
 
@@ -67,8 +67,8 @@ abbrev pub times_named : ℕ → DirectoryMap → ℕ
 times_named fileid directories = total (λ (d : ℕ × DirectoryValue). times_in_list fileid d.1.list) (entries directories)
 
 -- whether it has to be named: an inode but the root
-abbrev pub has_name : InodeMap → ℕ → Bool
-has_name inodes fileid = is_some (get inodes fileid) && not (fileid == root)
+abbrev pub is_named : InodeMap → ℕ → Bool
+is_named inodes fileid = is_some (get inodes fileid) && not (fileid == root)
 
 -- how many of a directory's entries are directories
 abbrev pub folders_listed : InodeMap → List Listed → ℕ
@@ -78,7 +78,7 @@ folders_listed inodes list = count (λ (e : Listed). is_folder (get inodes e.fil
 -- it as its parent; its inode counts its subdirectories, which are links to it.
 pub record DirectoryFits (inodes : InodeMap) (fileid : ℕ) (d : DirectoryValue) : Type 0 where
   pub list : IsDirectory d
-  pub children : AllByRecursion (λ (e : Listed). IfSome (parent_of (get inodes e.fileid)) (λ parent. parent ≡ fileid)) d.list
+  pub children : AllByRecursion (λ (e : Listed). IfSome (parent_directory (get inodes e.fileid)) (λ parent. parent ≡ fileid)) d.list
   pub links : subdirectories_of (get inodes fileid) ≡ Some (folders_listed inodes d.list)
 
 -- ---- the way to the root
@@ -89,24 +89,24 @@ parent_or None fileid = fileid
 parent_or (Some parent) fileid = parent
 
 -- the directory so many steps above one
-abbrev pub above : InodeMap → ℕ → ℕ → ℕ
-above inodes zero fileid = fileid
-above inodes (suc n) fileid = above inodes n (parent_or (parent_of (get inodes fileid)) fileid)
+abbrev pub directory_above : InodeMap → ℕ → ℕ → ℕ
+directory_above inodes zero fileid = fileid
+directory_above inodes (suc n) fileid = directory_above inodes n (parent_or (parent_directory (get inodes fileid)) fileid)
 
 -- following parents reaches the root
 abbrev pub ReachesRoot : InodeMap → ℕ → Type 0
-ReachesRoot inodes fileid = (steps : ℕ) × (above inodes steps fileid ≡ root)
+ReachesRoot inodes fileid = (steps : ℕ) × (directory_above inodes steps fileid ≡ root)
 
 -- ---- all of it
 
 pub record AreNamed (inodes : InodeMap) (directories : DirectoryMap) : Type 0 where
   -- the root is a directory, and its own parent
-  pub root_there : parent_of (get inodes root) ≡ Some root
+  pub root_there : parent_directory (get inodes root) ≡ Some root
   -- just the directories have entries
   pub folders : (fileid : ℕ) → is_some (get directories fileid) ≡ is_folder (get inodes fileid)
   pub fits : (fileid : ℕ) (d : DirectoryValue) → get directories fileid ≡ Some d → DirectoryFits inodes fileid d
   -- every inode but the root stands in exactly one entry, and every entry names an inode but the root
-  pub once : (fileid : ℕ) → times_named fileid directories ≡ one_if (has_name inodes fileid)
+  pub once : (fileid : ℕ) → times_named fileid directories ≡ one_if (is_named inodes fileid)
   -- following parents from any directory reaches the root
   pub rooted : (fileid : ℕ) → is_folder (get inodes fileid) ≡ true → ReachesRoot inodes fileid
 

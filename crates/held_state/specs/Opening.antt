@@ -3,15 +3,13 @@
 use Rattle.std.specs.Prelude.{◌≡◌, ℕ, nat_lt, List, [], ◌∷◌, Option, Some, None, slice_get, slice_index_or, if◌then◌else◌}
 use Rattle.std.specs.FinMap.{from_sorted}
 use Rattle.std.specs.FinSet as sets
-use Rattle.nfs_model.specs.Shown.{times}
-use Rattle.nfs_model.specs.Server.{root_node}
 use Rattle.nfs_model.specs.Tree as trees
 use Rattle.nfs_model.specs.Tree.{Layout, VolumeLayout, Affinity, stripes_of}
 use Rattle.affinity_tree.specs.Tree.{IsNode}
 use Rattle.affinity_tree.specs.Largest.{largest_of}
 use Rattle.parcel_sets.specs.declared.family.Parcel.TheVariants.{Range, Vbn, Stripe, Logical, Volume, Aggregate, Serial}
 use Rattle.volume_values.specs.Directories.{empty_directory}
-use Rattle.volume_values.specs.Inodes.{Inode, Folder}
+use Rattle.volume_values.specs.Inodes.{opening_inodes}
 use Rattle.volume_values.specs.Logical.{LogicalValue}
 use Rattle.volume_values.specs.Stripes.{StripeValue, OfFolder, empty_stripe}
 use Rattle.volume_values.specs.Ranges.{RangeValue, unused_range, put_in_use}
@@ -19,17 +17,13 @@ use Rattle.held_state.specs.Parcels.{FilerParcel}
 use Rattle.held_state.specs.Contents.{at}
 use Rattle.held_state.specs.Names.{root}
 
--- the root as it begins, its own parent
-abbrev pub root_inode : Inode
-root_inode = record { attributes = times root_node; kind = Folder root 0 }
-
 -- of a volume of so many stripes and this largest size
 abbrev pub opening_logical : List ℕ → ℕ → ℕ → LogicalValue
 opening_logical verifier stripes largest = record {
   verifier = verifier;
   stripes = stripes;
   largest = largest;
-  inodes = record { next = 2; used = 0; inodes = from_sorted ((root, root_inode) ∷ []) };
+  inodes = opening_inodes;
   directories = from_sorted ((root, empty_directory) ∷ []);
   stock = sets.empty;
   dead = sets.empty;

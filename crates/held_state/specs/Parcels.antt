@@ -2,6 +2,7 @@
 use Rattle.std.specs.Prelude.{ℕ, []}
 use Rattle.std.specs.FinMap as maps
 use Rattle.std.specs.FinSet as sets
+use Rattle.nfs_model.specs.Parts.{most_ranges}
 use Rattle.parcel_sets.specs.declared.family.Parcel.{Parcel}
 use Rattle.volume_values.specs.Stripes.{StripeValue, empty_stripe}
 use Rattle.volume_values.specs.Ranges.{RangeValue, unused_range}
@@ -14,8 +15,9 @@ FilerParcel P = Parcel P RangeValue (Unit {0}) StripeValue LogicalValue (Unit {0
 
 -- ---- what stands where a node has no parcel of its kind, so that the words below are of all parcels
 
+-- with a number that no range has
 abbrev pub no_range : RangeValue
-no_range = unused_range 0
+no_range = unused_range most_ranges
 
 abbrev pub no_stripe : StripeValue
 no_stripe = empty_stripe [] 0 0

@@ -1,5 +1,5 @@
 -- Where the block numbers of a volume are (our profile): in the blocks of its stripes, in the stock, dead, free, or in a hand.
-use Rattle.std.specs.Prelude.{◌≡◌, ℕ, ◌+◌, ◌*◌, nat_lt, List, [], ◌∷◌, ◌++◌, map}
+use Rattle.std.specs.Prelude.{◌≡◌, ◌≢◌, ℕ, ◌+◌, ◌*◌, nat_lt, List, [], ◌∷◌, ◌++◌, map}
 use Rattle.std.specs.Ordering.{nat_cmp}
 use Rattle.std.specs.FinMap.{entries}
 use Rattle.std.specs.FinSet.{FinSet, contains, empty, union, from_list}
@@ -58,6 +58,10 @@ abbrev pub times_in_hand : ℕ → ℕ → Hand → ℕ
 times_in_hand v n hand = times_listed n (hand_blocks v hand)
 
 -- Each number below total stands in one place, once, and no other does.
-abbrev pub IsPartition : VolumeContents → List Hand → Type 0
-IsPartition p hands =
+abbrev pub StandOnce : VolumeContents → List Hand → Type 0
+StandOnce p hands =
     (n : ℕ) → times_in n p + total (times_in_hand p.number n) hands ≡ one_if (nat_lt n (range_blocks * ranges_used p.ranges))
+
+-- these hands carry nothing of other volumes
+abbrev pub AreOf : ℕ → List Hand → Type 0
+AreOf v hands = (u : ℕ) → u ≢ v → (n : ℕ) → total (times_in_hand u n) hands ≡ 0

@@ -14,7 +14,7 @@ use Rattle.volume_values.specs.Ranges.{RangeValue}
 use Rattle.volume_values.specs.Logical.{LogicalValue}
 use Rattle.held_state.specs.Parcels.{no_range, no_stripe, no_logical}
 use Rattle.held_state.specs.Contents.{VolumeContents, FilerContents, each}
-use Rattle.held_state.specs.Parts.{LogicalSet, VolumeSet, AggregateSet}
+use Rattle.held_state.specs.Lenses.{LogicalSet, VolumeSet, AggregateSet}
 
 -- the sets of a filer's parcels, whose Vbn, Volume and Serial have nothing of their own
 abbrev pub FilerRange : Type 0 → Type 0
@@ -76,6 +76,19 @@ module _ {P : Type 0} where
 
   abbrev pub volume_set : ℕ → FilerVolume P → VolumeSet
   volume_set n held = record { logical = logical_set n held.logical; ranges = vbn_set held.vbn }
+
+  -- The number of stripes is that which the parcel gave before a call, for the set before it and for the set after it.
+  abbrev pub logical_before : FilerLogical P → LogicalSet
+  logical_before old = logical_set old.own.stripes old
+
+  abbrev pub logical_after : FilerLogical P → FilerLogical P → LogicalSet
+  logical_after old new = logical_set old.own.stripes new
+
+  abbrev pub volume_before : FilerVolume P → VolumeSet
+  volume_before old = volume_set old.logical.own.stripes old
+
+  abbrev pub volume_after : FilerVolume P → FilerVolume P → VolumeSet
+  volume_after old new = volume_set old.logical.own.stripes new
 
   abbrev pub volume_value : ℕ → Option (FilerVolume P) → VolumeSet
   volume_value n None = record {

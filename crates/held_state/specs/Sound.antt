@@ -10,7 +10,7 @@ use Rattle.depot_rule.specs.Completions.{Whole, IsGood, IsLayoutOf}
 use Rattle.held_state.specs.Parcels.{FilerParcel}
 use Rattle.held_state.specs.Contents.{VolumeContents, FilerContents, volume_at, filer_contents}
 use Rattle.held_state.specs.WellFormed.{WellFormed}
-use Rattle.held_state.specs.Partition.{IsPartition}
+use Rattle.held_state.specs.Partition.{StandOnce}
 
 -- An entry makes at most one node, and one entry of a directory: so with fewer than 2^62 entries no fileid and no cookie
 -- comes to 2^63.
@@ -22,7 +22,7 @@ pub record IsYoung (l : LogicalValue) (made : ℕ) : Type 0 where
 pub record IsSound (p : VolumeContents) (hands : List Hand) (made : ℕ) : Type 0 where
   pub well_formed : WellFormed p
   pub young : IsYoung p.logical made
-  pub partition : IsPartition p hands
+  pub partition : StandOnce p hands
 
 -- of all volumes, each of which stands at the place of its number
 abbrev pub AreSound : FilerContents → List Hand → ℕ → Type 0

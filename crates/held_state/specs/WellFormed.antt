@@ -71,5 +71,7 @@ pub record WellFormed (p : VolumeContents) : Type 0 where
   pub used : p.logical.inodes.used ≡ total (λ (s : StripeValue). len s.blocks) p.stripes
   pub filled : (fileid : ℕ) (inode : Inode) → get p.logical.inodes.inodes fileid ≡ Some inode
       → filled_blocks inode.kind ≡ sets.len (file_filled p.stripes fileid)
+  -- 16 ranges, of which 1 to 16 are in use
   pub sixteen : length p.ranges ≡ most_ranges
+  pub some : 0 < ranges_used p.ranges
   pub ranges : (r : ℕ) → r < length p.ranges → RangeFits (ranges_used p.ranges) r (range_at p.ranges r)

@@ -1,8 +1,13 @@
 -- Lemmas alone, which no reader has to believe: laws of these definitions, for proofs above.
 pub mod Each
-pub mod Lens
-pub mod Lenses
+pub mod Seen
+pub mod SeenSets
 pub mod Opening
 pub mod Commuting
 pub mod Alike
 pub mod Steps
+pub mod Served
+pub mod Kinds
+pub mod Mapped
+pub mod Counted
+pub mod Limits

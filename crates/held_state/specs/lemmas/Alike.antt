@@ -10,7 +10,7 @@ use Rattle.nfs_model.specs.Parts.{most_ranges}
 use Rattle.affinity_tree.specs.Alike.{AreAlike}
 use Rattle.held_state.specs.Parcels.{FilerParcel}
 use Rattle.held_state.specs.Contents.{FilerContents, each, logical_in, stripe_in, range_in, spare_in, contents_of, filer_contents}
-use Rattle.held_state.specs.Work.{Work, Serve, Inner, WorkReply, Replied, Took, Gave, Surveyed}
+use Rattle.held_state.specs.Jobs.{Job, Serve, Inner, JobReply, Replied, Took, Gave, Surveyed}
 use Rattle.held_state.specs.Deeds.{IsHomeOrAbove, Does}
 
 module _ {P : Type 0} (l m : Layout) (s : AreAlike l m) (f : ℕ → Option (FilerParcel P)) where
@@ -93,7 +93,7 @@ module _ (l m : Layout) (s : AreAlike l m) where
       (h.0, sym (home-of-asked-same asked) ∙ h.1, subst IsTrue (λ j. begins (path-same node j) (path-same h.0 j)) h.2)
 
   -- an entry does in the one what it does in the other
-  pub does-same : (node : Affinity) (work : Work) (old : FilerContents) (reply : WorkReply) (new : FilerContents) → Does l node work old reply new → Does m node work old reply new
+  pub does-same : (node : Affinity) (work : Job) (old : FilerContents) (reply : JobReply) (new : FilerContents) → Does l node work old reply new → Does m node work old reply new
   does-same node (Serve call) old (Replied reply) new d = record {
     affinity = d.affinity;
     tried = tried-same call.asked node d.tried;

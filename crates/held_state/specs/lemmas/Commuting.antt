@@ -15,14 +15,13 @@ module _ {P C R : Type 0} (steps : Steps P C R) (local : IsLocal steps) where
       let g : ℕ → Option P = patched ps b f'' f in
       let second = local ps b d f' f s f'' two in
       let not_both : (k : ℕ) → Covers ps a k → Covers ps b k → ⊥ = λ k x y. apart (cover-excludes ps tree a b k x y) in
-      let again = local ps a c f g r f' one in
-      (
+      let again = local ps a c f g r f' one in (
         g,
         second.1 (λ k cover. sym (first.0 k (λ x. not_both k x cover))),
         subst (λ (h : ℕ → Option P). steps ps a c g r h)
-        (λ i k. same k (covers ps a k) (covers ps b k) (λ e. covers-true ps a k e) (λ e. true-covers ps a k e) (λ e. covers-true ps b k e) (λ e. true-covers ps b k e)
-        first.0 second.0 not_both i)
-        (again.1 (λ k cover. patched-out ps b f'' f k (λ y. not_both k cover y))),
+            (λ i k. same k (covers ps a k) (covers ps b k) (λ e. covers-true ps a k e) (λ e. true-covers ps a k e) (λ e. covers-true ps b k e) (λ e. true-covers ps b k e)
+            first.0 second.0 not_both i)
+            (again.1 (λ k cover. patched-out ps b f'' f k (λ y. not_both k cover y))),
       )
     where
       same : (k : ℕ) (x y : Bool) → (x ≡ true → Covers ps a k) → (Covers ps a k → x ≡ true) → (y ≡ true → Covers ps b k) → (Covers ps b k → y ≡ true)

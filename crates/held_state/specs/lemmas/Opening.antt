@@ -27,16 +27,16 @@ use Rattle.nfs_model.specs.Parts.{count}
 use Rattle.volume_values.specs.Maps.{map_values}
 use Rattle.volume_values.specs.lemmas.Maps.{get-map_values}
 use Rattle.volume_values.specs.Directories.{DirectoryValue, empty_directory}
-use Rattle.volume_values.specs.Inodes.{Inode, IsInodes, filled_blocks, blocks_filled}
+use Rattle.volume_values.specs.Inodes.{Inode, IsInodes, root_inode, filled_blocks, blocks_filled}
 use Rattle.volume_values.specs.Stripes.{OfFolder, Block, Place, place_cmp, StripeValue, stripe_of, is_filled}
 use Rattle.held_state.specs.Parcels.{FilerParcel, no_stripe, no_range}
 use Rattle.held_state.specs.Contents.{VolumeContents, at, contents_of, logical_in, stripe_in, range_in, spare_in}
 use Rattle.held_state.specs.Tree.{stripe_at, file_filled, home_stripe, most_file_blocks, node_of, node_by, volume_of, tree}
-use Rattle.held_state.specs.Names.{root, size_of, size_in, parent_of, is_folder, subdirectories_of, DirectoryFits, AreNamed, IsLogical, InodeMap, DirectoryMap}
+use Rattle.held_state.specs.Names.{root, size_of, size_in, parent_directory, is_folder, subdirectories_of, DirectoryFits, AreNamed, IsLogical, InodeMap, DirectoryMap}
 use Rattle.held_state.specs.WellFormed.{size_shown, StripeFits, RangeFits, WellFormed}
-use Rattle.held_state.specs.Partition.{IsPartition, times_in_stripe}
+use Rattle.held_state.specs.Partition.{StandOnce, times_in_stripe}
 use Rattle.held_state.specs.Sound.{IsSound, AllSound}
-use Rattle.held_state.specs.Opening.{root_inode, opening_logical, opening_stripe, opening_range, ranges_in, AreOpening}
+use Rattle.held_state.specs.Opening.{opening_logical, opening_stripe, opening_range, ranges_in, AreOpening}
 use Rattle.held_state.specs.lemmas.Each.{each-same, each-get, each-index, each-length, each-map, get-there}
 
 -- ---- counts below a number
@@ -58,18 +58,18 @@ listed-once a (suc n) q =
     let next = same-below q (a + 1 + n) (a + suc n) (omega arith) in
     ⊎_elim
     (λ (e : a ≡ q).
-      let here : one_if (nat_eq a q || list_any (λ y. nat_eq y q) (range_with_len (a + 1) n)) ≡ 1 =
-          ap (λ (b : Bool). one_if (b || list_any (λ y. nat_eq y q) (range_with_len (a + 1) n))) (eq-eqb a q e) in
-      let low = none-below q a (omega arith) in
-      let high = one-below q (a + suc n) (omega arith) in
-      omega arith)
+    let here : one_if (nat_eq a q || list_any (λ y. nat_eq y q) (range_with_len (a + 1) n)) ≡ 1 =
+    ap (λ (b : Bool). one_if (b || list_any (λ y. nat_eq y q) (range_with_len (a + 1) n))) (eq-eqb a q e) in
+    let low = none-below q a (omega arith) in
+    let high = one-below q (a + suc n) (omega arith) in
+    omega arith)
     (λ (ne : a ≢ q).
-      let here : one_if (nat_eq a q || list_any (λ y. nat_eq y q) (range_with_len (a + 1) n)) ≡ one_if (list_any (λ y. nat_eq y q) (range_with_len (a + 1) n)) =
-          ap (λ (b : Bool). one_if (b || list_any (λ y. nat_eq y q) (range_with_len (a + 1) n))) (ne_eqb a q ne) in
-      ⊎_elim
-      (λ (less : q < a). let low = one-below q a less in let high = one-below q (a + 1) (omega arith) in omega arith)
-      (λ (more : a ≤ q). let low = none-below q a more in let high = none-below q (a + 1) (omega (arith, ne)) in omega arith)
-      (cases_lt q a))
+    let here : one_if (nat_eq a q || list_any (λ y. nat_eq y q) (range_with_len (a + 1) n)) ≡ one_if (list_any (λ y. nat_eq y q) (range_with_len (a + 1) n)) =
+    ap (λ (b : Bool). one_if (b || list_any (λ y. nat_eq y q) (range_with_len (a + 1) n))) (ne_eqb a q ne) in
+    ⊎_elim
+    (λ (less : q < a). let low = one-below q a less in let high = one-below q (a + 1) (omega arith) in omega arith)
+    (λ (more : a ≤ q). let low = none-below q a more in let high = none-below q (a + 1) (omega (arith, ne)) in omega arith)
+    (cases_lt q a))
     (cases_eq a q)
 
 -- ---- ranges
@@ -85,7 +85,7 @@ module _ (u : ℕ) where
   none-used from zero more = refl
   none-used from (suc n) more =
       let here : ranges_used (each (opening_range u) from (suc n)) ≡ 0 + ranges_used (each (opening_range u) (from + 1) n) =
-          ap (λ (x : RangeValue). (if x.is_used then 1 else 0) + ranges_used (each (opening_range u) (from + 1) n)) (opening-unused u from more) in
+      ap (λ (x : RangeValue). (if x.is_used then 1 else 0) + ranges_used (each (opening_range u) (from + 1) n)) (opening-unused u from more) in
       let others = none-used (from + 1) n (omega arith) in
       omega arith
 
@@ -94,17 +94,17 @@ module _ (u : ℕ) where
   all-used from zero low high = omega arith
   all-used from (suc n) low high = ⊎_elim
       (λ (less : from < u).
-        let here : ranges_used (each (opening_range u) from (suc n)) ≡ 1 + ranges_used (each (opening_range u) (from + 1) n) =
-            ap (λ (x : RangeValue). (if x.is_used then 1 else 0) + ranges_used (each (opening_range u) (from + 1) n)) (opening-used u from less) in
-        let others = all-used (from + 1) n (omega arith) (omega arith) in
-        omega arith)
+      let here : ranges_used (each (opening_range u) from (suc n)) ≡ 1 + ranges_used (each (opening_range u) (from + 1) n) =
+      ap (λ (x : RangeValue). (if x.is_used then 1 else 0) + ranges_used (each (opening_range u) (from + 1) n)) (opening-used u from less) in
+      let others = all-used (from + 1) n (omega arith) (omega arith) in
+      omega arith)
       (λ (more : u ≤ from). let none = none-used from (suc n) more in omega arith)
       (cases_lt from u)
 
   free-in : (q r : ℕ) → r < u → one_if (contains (opening_range u r).free q) + one_if (nat_lt q (range_blocks * r)) ≡ one_if (nat_lt q (range_blocks * (r + 1)))
   free-in q r less =
       let here : one_if (contains (opening_range u r).free q) ≡ one_if (list_any (λ y. nat_eq y q) (range_numbers r)) =
-          ap (λ (x : RangeValue). one_if (contains x.free q)) (opening-used u r less) ∙ ap one_if (contains-from_list_nat (range_numbers r) q) in
+      ap (λ (x : RangeValue). one_if (contains x.free q)) (opening-used u r less) ∙ ap one_if (contains-from_list_nat (range_numbers r) q) in
       let once = listed-once (range_blocks * r) range_blocks q in
       let next = same-below q (range_blocks * r + range_blocks) (range_blocks * (r + 1)) (omega arith) in
       omega arith
@@ -123,13 +123,13 @@ module _ (u : ℕ) where
   all-free q from zero low high = let same = same-below q (range_blocks * from) (range_blocks * u) (omega arith) in omega arith
   all-free q from (suc n) low high = ⊎_elim
       (λ (less : from < u).
-        let here = free-in q from less in
-        let others = all-free q (from + 1) n (omega arith) (omega arith) in
-        omega arith)
+      let here = free-in q from less in
+      let others = all-free q (from + 1) n (omega arith) (omega arith) in
+      omega arith)
       (λ (more : u ≤ from).
-        let none = none-free q from (suc n) more in
-        let same = same-below q (range_blocks * from) (range_blocks * u) (omega arith) in
-        omega arith)
+      let none = none-free q from (suc n) more in
+      let same = same-below q (range_blocks * from) (range_blocks * u) (omega arith) in
+      omega arith)
       (cases_lt from u)
 
 -- ---- maps of the root alone
@@ -160,7 +160,7 @@ of-root f q = ap f (single-get root_inode q)
 
 opening-named : AreNamed root_inodes root_directories
 opening-named = record {
-  root_there = of-root parent_of root;
+  root_there = of-root parent_directory root;
   folders = λ q. ap is_some (single-get empty_directory q) ∙ same (eqb q root) ∙ sym (of-root is_folder q);
   fits = λ q d e. let is = single-is empty_directory d q e in
       subst (λ x. DirectoryFits root_inodes q x) (sym is.1) (subst (λ (k : ℕ). DirectoryFits root_inodes k empty_directory) (sym is.0) (record {
@@ -242,8 +242,8 @@ none-filled : (s : StripeValue) → s.blocks ≡ maps.empty → (n fileid : ℕ)
 none-filled s bare n fileid =
     let stripes : List StripeValue = each (λ k. s) 0 n in
     let all : (block : ℕ) → is_filled (home_stripe stripes fileid block) fileid block ≡ false = λ block.
-        stripe-any (λ t. is_filled t fileid block ≡ false) s 0 n (stripe_of (length stripes) fileid block)
-        (ap is_some (no-block s bare fileid block)) (ap is_some (get-empty place_cmp (fileid, block))) in
+    stripe-any (λ t. is_filled t fileid block ≡ false) s 0 n (stripe_of (length stripes) fileid block)
+    (ap is_some (no-block s bare fileid block)) (ap is_some (get-empty place_cmp (fileid, block))) in
     ap sets.len ((λ j. sets.retain (from_list (range_with_len 0 most_file_blocks)) (λ block. all block j))
     ∙ none-retained (from_list (range_with_len 0 most_file_blocks)))
     ∙ sets.len-empty nat_cmp
@@ -256,16 +256,16 @@ in-own r b h =
     let once = listed-once (range_blocks * r) range_blocks b in
     ⊎_elim
     (λ (less : b < range_blocks * r).
-      let low = one-below b (range_blocks * r) less in
-      let high = one-below b (range_blocks * r + range_blocks) (omega arith) in
-      absurd (omega arith))
+    let low = one-below b (range_blocks * r) less in
+    let high = one-below b (range_blocks * r + range_blocks) (omega arith) in
+    absurd (omega arith))
     (λ (more : range_blocks * r ≤ b). ⊎_elim
-      (λ (less : b < range_blocks * r + range_blocks). omega arith)
-      (λ (past : range_blocks * r + range_blocks ≤ b).
-        let low = none-below b (range_blocks * r) more in
-        let high = none-below b (range_blocks * r + range_blocks) past in
-        absurd (omega arith))
-      (cases_lt b (range_blocks * r + range_blocks)))
+    (λ (less : b < range_blocks * r + range_blocks). omega arith)
+    (λ (past : range_blocks * r + range_blocks ≤ b).
+    let low = none-below b (range_blocks * r) more in
+    let high = none-below b (range_blocks * r + range_blocks) past in
+    absurd (omega arith))
+    (cases_lt b (range_blocks * r + range_blocks)))
     (cases_lt b (range_blocks * r))
 
 range-fits : (u r : ℕ) → RangeFits u r (opening_range u r)
@@ -334,6 +334,15 @@ sized layout h = by (is_within 1 2 (length layout.spare)) (is_within 1 8 (length
     by true false c d others e = absurd cc
     by false b c d others e = absurd cc
 
+ranges-some : (layout : Layout) → fault_of layout ≡ None → (v : ℕ) → v < length layout.volumes → 0 < ranges_in (slice_get layout.volumes v)
+ranges-some layout h v on = at-least layout.volumes v on (sized layout h)
+  where
+    at-least : (volumes : List VolumeLayout) (v : ℕ) → v < length volumes → list_all is_sized volumes ≡ true → 0 < ranges_in (slice_get volumes v)
+    at-least [] v on e = absurd (omega arith)
+    at-least (x ∷ xs) zero on e =
+        let some = leb-true 1 x.ranges (and_parts (nat_le 1 x.ranges) (nat_le x.ranges 16) (and_parts (is_sized x) (list_all is_sized xs) e).0).0 in omega arith
+    at-least (x ∷ xs) (suc v) on e = at-least xs v (omega arith) (and_parts (is_sized x) (list_all is_sized xs) e).1
+
 ranges-most : (layout : Layout) → fault_of layout ≡ None → (v : ℕ) → ranges_in (slice_get layout.volumes v) ≤ 16
 ranges-most layout h v = at-most layout.volumes v (sized layout h)
   where
@@ -342,7 +351,7 @@ ranges-most layout h v = at-most layout.volumes v (sized layout h)
     at-most (x ∷ xs) zero e = leb-true x.ranges 16 (and_parts (nat_le 1 x.ranges) (nat_le x.ranges 16) (and_parts (is_sized x) (list_all is_sized xs) e).0).1
     at-most (x ∷ xs) (suc v) e = at-most xs v (and_parts (is_sized x) (list_all is_sized xs) e).1
 
-module _ (layout : Layout) (lawful : fault_of layout ≡ None) (verifier : List ℕ) (v : ℕ) where
+module _ (layout : Layout) (lawful : fault_of layout ≡ None) (verifier : List ℕ) (v : ℕ) (on : v < length layout.volumes) where
   abbrev n : ℕ
   n = stripes_of layout v
 
@@ -375,13 +384,14 @@ module _ (layout : Layout) (lawful : fault_of layout ≡ None) (verifier : List 
         let is = single-is root_inode inode q e in
         ap (λ (x : Inode). filled_blocks x.kind) is.1 ∙ sym (none-filled first refl n q);
     sixteen = each-length (opening_range u) 0 most_ranges;
+    some = (let used = in-use in let least = ranges-some layout lawful v on in omega arith);
     ranges = λ r less.
         let long = each-length (opening_range u) 0 most_ranges in
         subst (λ (x : RangeValue). RangeFits (ranges_used p.ranges) r x) (sym (each-index (opening_range u) no_range most_ranges r (omega arith)))
         (subst (λ (k : ℕ). RangeFits k r (opening_range u r)) (sym in-use) (range-fits u r));
   }
 
-  opening-partition : IsPartition p []
+  opening-partition : StandOnce p []
   opening-partition q =
       let most = ranges-most layout lawful v in
       let stripes = total-none (times_in_stripe q) (λ i. first) 0 n (λ i. no-numbers first refl q) in
@@ -412,7 +422,7 @@ module _ {P : Type 0} (layout : Layout) (lawful : fault_of layout ≡ None) (ver
       let on : v < count = omega arith in
       let same : contents_of layout f v ≡ p = (let e = sym (each-get (contents_of layout f) count v on) ∙ at_v in cc) in
       let opens : p ≡ opening_contents layout verifier v = sym same ∙ contents-open layout verifier f is v on in
-      subst (λ (x : VolumeContents). (x.number ≡ v) × IsSound x [] 0) (sym opens) (refl, opening-is-sound layout lawful verifier v)
+      subst (λ (x : VolumeContents). (x.number ≡ v) × IsSound x [] 0) (sym opens) (refl, opening-is-sound layout lawful verifier v on)
 
 root-nodes : (stripes : List StripeValue) → map_values (node_of stripes root_directories) root_inodes ≡ from_sorted ((root, root_node) ∷ [])
 root-nodes stripes = same_map nat_cmp_total nat_cmp-IsAntisymmetric _ _ (λ q.
@@ -430,9 +440,9 @@ root-nodes stripes = same_map nat_cmp_total nat_cmp-IsAntisymmetric _ _ (λ q.
 volume-opens : (layout : Layout) (verifier : List ℕ) (v : ℕ) (x : VolumeLayout) → fault_of layout ≡ None → slice_get layout.volumes v ≡ Some x
     → volume_of (opening_contents layout verifier v) ≡ opening_volume verifier v x
 volume-opens layout verifier v x lawful there =
-    let used = in-use layout lawful verifier v in
+    let used = in-use layout lawful verifier v (get-there layout.volumes v x there) in
     let total : range_blocks * ranges_used (opening_contents layout verifier v).ranges ≡ 1024 * x.ranges =
-        ap (λ (k : ℕ). 1024 * k) (used ∙ ap ranges_in there) in
+    ap (λ (k : ℕ). 1024 * k) (used ∙ ap ranges_in there) in
     let largest : largest_of layout v ≡ 1048576 * x.mebibytes = ap (λ o. 1048576 * mebibytes_in o) there in
     λ j. record {
       number = v;

@@ -13,12 +13,12 @@ use Rattle.depot_rule.specs.Sums.{total}
 use Rattle.depot_rule.specs.History.{patched}
 use Rattle.held_state.specs.Parcels.{FilerParcel}
 use Rattle.held_state.specs.Contents.{VolumeContents, FilerContents, each, contents_of, volume_at, filer_contents}
-use Rattle.held_state.specs.Partition.{times_in_hand}
+use Rattle.held_state.specs.Partition.{times_in_hand, AreOf}
 use Rattle.held_state.specs.Sound.{IsSound, AreSound}
-use Rattle.held_state.specs.Work.{Work, WorkReply, takes, gives}
+use Rattle.held_state.specs.Jobs.{Job, JobReply, takes, gives}
 use Rattle.held_state.specs.Deeds.{Does, ParcelsDo, FilerSteps}
-use Rattle.held_state.specs.Parts.{Part, in_volume, volume_or_none, with_contents}
-use Rattle.held_state.specs.Promises.{RightOnVolume, RightOnAll, IsLaidOut, IsLens}
+use Rattle.held_state.specs.Lenses.{Lens, in_volume, volume_or_none, with_contents}
+use Rattle.held_state.specs.Promises.{RightOnVolume, RightOnAll, IsLaidOut, IsSeenBy}
 use Rattle.held_state.specs.lemmas.Each.{each-get, each-length, get-there}
 use Rattle.held_state.specs.lemmas.Alike.{filer-same, does-same}
 
@@ -37,12 +37,12 @@ laid-out layout f = record {
 
 -- ---- a step
 
-module _ {P S : Type 0} (layout : Layout) (lawful : fault_of layout ≡ None) (node : Affinity) (there : IsNode layout node) (part : Part FilerContents S) where
+module _ {P S : Type 0} (layout : Layout) (lawful : fault_of layout ≡ None) (node : Affinity) (there : IsNode layout node) (lens : Lens FilerContents S) where
   -- where a part's change is right, putting in its parcels is a step
-  pub step-by : (work : Work) (reply : WorkReply) (old new : S) (before after : ℕ → Option (FilerParcel P))
-      → IsLens layout node part before old → IsLens layout node part after new
+  pub step-by : (work : Job) (reply : JobReply) (old new : S) (before after : ℕ → Option (FilerParcel P))
+      → IsSeenBy layout node lens before old → IsSeenBy layout node lens after new
       → ((k : ℕ) → (Covers (parents layout) (number_of layout node) k → ⊥) → after k ≡ before k)
-      → RightOnAll layout part (Does layout node work) (takes work reply) (gives work reply) old reply new
+      → RightOnAll layout lens (Does layout node work) (takes work reply) (gives work reply) old reply new
       → FilerSteps (parents layout) (number_of layout node) work before reply after
   step-by work reply old new before after was is others right = record {
     others = others;
@@ -54,15 +54,14 @@ module _ {P S : Type 0} (layout : Layout) (lawful : fault_of layout ≡ None) (n
         let next : ℕ → Option (FilerParcel P) = patched ps a after g in
         let stored = is.put g in
         let done = right c hands hands' made (was.has g agree) (laid-out layout g)
-            (subst (λ (x : FilerContents). AreSound x hands made) (filer-same m layout same g) sound) moved in
-        let later : filer_contents m next ≡ part.put new c = filer-same m layout same next ∙ stored in
-        (
+        (subst (λ (x : FilerContents). AreSound x hands made) (filer-same m layout same g) sound) moved in
+        let later : filer_contents m next ≡ lens.put new c = filer-same m layout same next ∙ stored in (
           λ other inside numbered.
               let one : other ≡ node = own_number layout other node ((same.node other).0 inside) there (sym (same.number other) ∙ numbered) in
               subst (λ (b : Affinity). ParcelsDo m b work g reply next) (sym one)
               (subst (λ (x : FilerContents). Does m node work x reply (filer_contents m next)) (sym (filer-same m layout same g))
               (subst (λ (x : FilerContents). Does m node work c reply x) (sym later)
-              (does-same layout m (alike layout m (sym of.1)) node work c reply (part.put new c) done.0))),
+              (does-same layout m (alike layout m (sym of.1)) node work c reply (lens.put new c) done.0))),
           subst (λ (x : FilerContents). AreSound x hands' (made + 1)) (sym later) done.1,
         );
   }
@@ -98,42 +97,52 @@ sound-later p hands hands' made same s = record {
   partition = λ n. let e = same n in let o = s.partition n in omega (arith, e, o);
 }
 
--- these hands carry nothing of other volumes
-abbrev pub AreOf : ℕ → List Hand → Type 0
-AreOf v hands = (u : ℕ) → u ≢ v → (n : ℕ) → total (times_in_hand u n) hands ≡ 0
+-- what has to hold goes by the weight of hands: it holds of any hands that weigh as much
+pub sound-by-weight : (c : FilerContents) (hands others : List Hand) (made : ℕ) → ((weigh : Hand → ℕ) → total weigh others ≡ total weigh hands)
+    → AreSound c hands made → AreSound c others made
+sound-by-weight c hands others made same sound v p there =
+    let s = sound v p there in (
+      s.0,
+      record {
+        well_formed = s.1.well_formed;
+        young = s.1.young;
+        partition = λ n. let e = same (times_in_hand p.number n) in let o = s.1.partition n in omega (arith, e, o);
+      },
+    )
 
-module _ {S R : Type 0} (layout : Layout) (v : ℕ) (on : v < length layout.volumes) (part : Part VolumeContents S) where
+module _ {S R : Type 0} (layout : Layout) (v : ℕ) (on : v < length layout.volumes) (lens : Lens VolumeContents S) where
   -- what is right on a volume is right on all that is stored, where the volume's deed is one of all
   pub volume-right : (deed : FilerContents → R → FilerContents → Type 0) (on_volume : VolumeContents → R → VolumeContents → Type 0)
       (taken given : List Hand) (old : S) (reply : R) (new : S)
-      → ((s : S) (p : VolumeContents) → (part.put s p).number ≡ p.number)
+      → ((s : S) (p : VolumeContents) → (lens.put s p).number ≡ p.number)
       → AreOf v taken → AreOf v given
       → ((c : FilerContents) (p after : VolumeContents) → IsLaidOut layout c → volume_at c v ≡ Some p → p.number ≡ v → after.number ≡ v
       → on_volume p reply after → deed c reply (with_contents c v after))
-      → RightOnVolume v part on_volume taken given old reply new
-      → RightOnAll layout (in_volume v part) deed taken given old reply new
+      → RightOnVolume v lens on_volume taken given old reply new
+      → RightOnAll layout (in_volume v lens) deed taken given old reply new
   volume-right deed on_volume taken given old reply new numbered from to lift right c hands hands' made has laid sound moved =
       let found = get-some c.volumes v (let count = laid.volumes in omega arith) in
       let p : VolumeContents = found.0 in
       let here : volume_or_none (volume_at c v) ≡ p = ap volume_or_none found.1 in
       let s = sound v p found.1 in
-      let done = right p hands hands' made (ap part.of (sym here) ∙ has) s.0 s.1 moved in
-      let after : VolumeContents = part.put new p in
-      let same : with_contents c v after ≡ (in_volume v part).put new c = ap (λ q. with_contents c v (part.put new q)) (sym here) in
-      subst (λ (x : FilerContents). deed c reply x × AreSound x hands' (made + 1)) same
-      (
+      let done = right p hands hands' made (ap lens.of (sym here) ∙ has) s.0 s.1 moved in
+      let after : VolumeContents = lens.put new p in
+      let same : with_contents c v after ≡ (in_volume v lens).put new c = ap (λ q. with_contents c v (lens.put new q)) (sym here) in
+      subst (λ (x : FilerContents). deed c reply x × AreSound x hands' (made + 1)) same (
         lift c p after laid found.1 s.0 (numbered new p ∙ s.0) done.0,
         λ u q e. ⊎_elim
             (λ (is : (u ≡ v) × (q ≡ after)). subst (λ (x : VolumeContents). (x.number ≡ u) × IsSound x hands' (made + 1)) (sym is.1) (numbered new p ∙ s.0 ∙ sym is.0, done.1))
             (λ (is : (u ≢ v) × (slice_get c.volumes u ≡ Some q)).
-              let t = sound u q is.1 in
-              (t.0, sound-later q hands hands' made
+            let t = sound u q is.1 in (
+              t.0,
+              sound-later q hands hands' made
                   (λ n.
-                    let w = moved (times_in_hand q.number n) in
-                    let other : q.number ≢ v = (λ h. is.0 (sym t.0 ∙ h)) in
-                    let none_from = from q.number other n in
-                    let none_to = to q.number other n in
-                    omega arith)
-                  t.1))
+                  let w = moved (times_in_hand q.number n) in
+                  let other : q.number ≢ v = (λ h. is.0 (sym t.0 ∙ h)) in
+                  let none_from = from q.number other n in
+                  let none_to = to q.number other n in
+                  omega arith)
+                  t.1,
+            ))
             (get-set c.volumes v after u q e),
       )

@@ -9,7 +9,7 @@ use Rattle.held_state.specs.Tree.{stripe_at}
 use Rattle.held_state.specs.WellFormed.{range_at}
 
 -- a part S of a whole W: what a whole has of it, and the whole with another in its place
-pub record Part (W S : Type 0) : Type 0 where
+pub record Lens (W S : Type 0) : Type 0 where
   pub of : W → S
   pub put : S → W → W
 
@@ -25,24 +25,24 @@ pub record VolumeSet : Type 0 where
   pub logical : LogicalSet
   pub ranges : List RangeValue
 
-abbrev pub stripe_part : ℕ → Part VolumeContents StripeValue
-stripe_part i = record { of = λ p. stripe_at p.stripes i; put = λ s p. record p { stripes = slice_set p.stripes i s } }
+abbrev pub stripe_lens : ℕ → Lens VolumeContents StripeValue
+stripe_lens i = record { of = λ p. stripe_at p.stripes i; put = λ s p. record p { stripes = slice_set p.stripes i s } }
 
-abbrev pub range_part : ℕ → Part VolumeContents RangeValue
-range_part r = record { of = λ p. range_at p.ranges r; put = λ x p. record p { ranges = slice_set p.ranges r x } }
+abbrev pub range_lens : ℕ → Lens VolumeContents RangeValue
+range_lens r = record { of = λ p. range_at p.ranges r; put = λ x p. record p { ranges = slice_set p.ranges r x } }
 
-abbrev pub vbn_part : Part VolumeContents (List RangeValue)
-vbn_part = record { of = λ p. p.ranges; put = λ ranges p. record p { ranges = ranges } }
+abbrev pub vbn_lens : Lens VolumeContents (List RangeValue)
+vbn_lens = record { of = λ p. p.ranges; put = λ ranges p. record p { ranges = ranges } }
 
-abbrev pub logical_part : Part VolumeContents LogicalSet
-logical_part = record {
+abbrev pub logical_lens : Lens VolumeContents LogicalSet
+logical_lens = record {
   of = λ p. record { own = p.logical; stripes = p.stripes };
   put = λ set p. record p { logical = set.own; stripes = set.stripes };
 }
 
-abbrev pub volume_part : Part VolumeContents VolumeSet
-volume_part = record {
-  of = λ p. record { logical = logical_part.of p; ranges = p.ranges };
+abbrev pub volume_lens : Lens VolumeContents VolumeSet
+volume_lens = record {
+  of = λ p. record { logical = logical_lens.of p; ranges = p.ranges };
   put = λ set p. record p { logical = set.logical.own; stripes = set.logical.stripes; ranges = set.ranges };
 }
 
@@ -61,10 +61,10 @@ abbrev pub with_contents : FilerContents → ℕ → VolumeContents → FilerCon
 with_contents c v p = record c { volumes = slice_set c.volumes v p }
 
 -- a part of a volume, as a part of all
-abbrev pub in_volume : {S : Type 0} → ℕ → Part VolumeContents S → Part FilerContents S
-in_volume v part = record {
-  of = λ c. part.of (volume_or_none (volume_at c v));
-  put = λ s c. with_contents c v (part.put s (volume_or_none (volume_at c v)));
+abbrev pub in_volume : {S : Type 0} → ℕ → Lens VolumeContents S → Lens FilerContents S
+in_volume v lens = record {
+  of = λ c. lens.of (volume_or_none (volume_at c v));
+  put = λ s c. with_contents c v (lens.put s (volume_or_none (volume_at c v)));
 }
 
 -- under an Aggregate: its spare ranges, and by number the volumes on it; at the numbers of others there is nothing
@@ -73,23 +73,23 @@ pub record AggregateSet : Type 0 where
   pub volumes : List (Option VolumeSet)
 
 abbrev pub set_on : ℕ → VolumeContents → Option VolumeSet
-set_on a p = if p.aggregate == a then Some (volume_part.of p) else None
+set_on a p = if p.aggregate == a then Some (volume_lens.of p) else None
 
 abbrev pub put_if : Option VolumeSet → VolumeContents → VolumeContents
 put_if None p = p
-put_if (Some set) p = volume_part.put set p
+put_if (Some set) p = volume_lens.put set p
 
 abbrev pub put_each : List (Option VolumeSet) → List VolumeContents → List VolumeContents
 put_each [] volumes = volumes
 put_each (set ∷ sets) [] = []
 put_each (set ∷ sets) (p ∷ volumes) = put_if set p ∷ put_each sets volumes
 
-abbrev pub aggregate_part : ℕ → Part FilerContents AggregateSet
-aggregate_part a = record {
+abbrev pub aggregate_lens : ℕ → Lens FilerContents AggregateSet
+aggregate_lens a = record {
   of = λ c. record { spare = slice_index_or c.spare a 0; volumes = map (set_on a) c.volumes };
   put = λ set c. record { spare = slice_set c.spare a set.spare; volumes = put_each set.volumes c.volumes };
 }
 
 -- under Serial: all
-abbrev pub serial_part : Part FilerContents FilerContents
-serial_part = record { of = λ c. c; put = λ new c. new }
+abbrev pub serial_lens : Lens FilerContents FilerContents
+serial_lens = record { of = λ c. c; put = λ new c. new }

@@ -14,8 +14,8 @@ use Rattle.depot_rule.specs.History.{patched}
 use Rattle.depot_rule.specs.lemmas.Covering.{patched-in, patched-out}
 use Rattle.held_state.specs.Parcels.{FilerParcel}
 use Rattle.held_state.specs.Contents.{VolumeContents, FilerContents, each, logical_in, stripe_in, range_in, spare_in, at, contents_of, volume_at, filer_contents}
-use Rattle.held_state.specs.Parts.{Part, in_volume, volume_or_none}
-use Rattle.held_state.specs.Promises.{IsLens}
+use Rattle.held_state.specs.Lenses.{Lens, in_volume, volume_or_none}
+use Rattle.held_state.specs.Promises.{IsSeenBy}
 use Rattle.held_state.specs.lemmas.Each.{each-same, each-set, each-get}
 
 module _ {P : Type 0} (layout : Layout) (a : Affinity) where
@@ -26,13 +26,13 @@ module _ {P : Type 0} (layout : Layout) (a : Affinity) where
   abbrev pub AgreeElsewhere : (ℕ → Option (FilerParcel P)) → (ℕ → Option (FilerParcel P)) → Type 0
   AgreeElsewhere f g = (b : Affinity) → IsNode layout b → (covers layout a b ≡ true → ⊥) → at layout f b ≡ at layout g b
 
-module _ {P S : Type 0} (layout : Layout) (lawful : fault_of layout ≡ None) (a : Affinity) (there : IsNode layout a) (part : Part FilerContents S) where
+module _ {P S : Type 0} (layout : Layout) (lawful : fault_of layout ≡ None) (a : Affinity) (there : IsNode layout a) (lens : Lens FilerContents S) where
   -- what makes a lens
-  pub lens-by : (parcels : ℕ → Option (FilerParcel P)) (set : S)
-      → ((f : ℕ → Option (FilerParcel P)) → AgreeUnder layout a f parcels → part.of (filer_contents layout f) ≡ set)
-      → ((f g : ℕ → Option (FilerParcel P)) → AgreeElsewhere layout a g f → filer_contents layout g ≡ part.put (part.of (filer_contents layout g)) (filer_contents layout f))
-      → IsLens layout a part parcels set
-  lens-by parcels set under elsewhere =
+  pub seen-by : (parcels : ℕ → Option (FilerParcel P)) (set : S)
+      → ((f : ℕ → Option (FilerParcel P)) → AgreeUnder layout a f parcels → lens.of (filer_contents layout f) ≡ set)
+      → ((f g : ℕ → Option (FilerParcel P)) → AgreeElsewhere layout a g f → filer_contents layout g ≡ lens.put (lens.of (filer_contents layout g)) (filer_contents layout f))
+      → IsSeenBy layout a lens parcels set
+  seen-by parcels set under elsewhere =
       let ps : List ℕ = parents layout in
       let n : ℕ = number_of layout a in
       record {
@@ -41,7 +41,7 @@ module _ {P S : Type 0} (layout : Layout) (lawful : fault_of layout ≡ None) (a
             let g : ℕ → Option (FilerParcel P) = patched ps n parcels f in
             elsewhere f g (λ b node out. patched-out ps n parcels f (number_of layout b)
             (λ c. out (covers_from layout a b (under-number layout lawful a b there node c).1)))
-            ∙ ap (λ s. part.put s (filer_contents layout f))
+            ∙ ap (λ s. lens.put s (filer_contents layout f))
             (under g (λ b below. patched-in ps n parcels f (number_of layout b) (covers-under layout lawful a b there below)));
       }
 
@@ -83,19 +83,19 @@ module _ {P : Type 0} (layout : Layout) (a : Affinity) (v : ℕ) (rest : List �
 
 -- a lens on a volume is one on all that is stored
 module _ {P S : Type 0} (layout : Layout) (lawful : fault_of layout ≡ None) (a : Affinity) (there : IsNode layout a)
-    (v : ℕ) (on : v < length layout.volumes) (rest : List ℕ) (way : path layout a ≡ aggregate_of layout v ∷ v ∷ rest) (part : Part VolumeContents S) where
+    (v : ℕ) (on : v < length layout.volumes) (rest : List ℕ) (way : path layout a ≡ aggregate_of layout v ∷ v ∷ rest) (lens : Lens VolumeContents S) where
   volume-here : (f : ℕ → Option (FilerParcel P)) → volume_or_none (volume_at (filer_contents layout f) v) ≡ contents_of layout f v
   volume-here f = ap volume_or_none (each-get (contents_of layout f) (length layout.volumes) v on)
 
-  pub volume-lens : (parcels : ℕ → Option (FilerParcel P)) (set : S)
-      → ((f : ℕ → Option (FilerParcel P)) → AgreeUnder layout a f parcels → part.of (contents_of layout f v) ≡ set)
-      → ((f g : ℕ → Option (FilerParcel P)) → AgreeElsewhere layout a g f → contents_of layout g v ≡ part.put (part.of (contents_of layout g v)) (contents_of layout f v))
-      → IsLens layout a (in_volume v part) parcels set
-  volume-lens parcels set under elsewhere = lens-by layout lawful a there (in_volume v part) parcels set
-      (λ f same. ap part.of (volume-here f) ∙ under f same)
+  pub below-volume-seen : (parcels : ℕ → Option (FilerParcel P)) (set : S)
+      → ((f : ℕ → Option (FilerParcel P)) → AgreeUnder layout a f parcels → lens.of (contents_of layout f v) ≡ set)
+      → ((f g : ℕ → Option (FilerParcel P)) → AgreeElsewhere layout a g f → contents_of layout g v ≡ lens.put (lens.of (contents_of layout g v)) (contents_of layout f v))
+      → IsSeenBy layout a (in_volume v lens) parcels set
+  below-volume-seen parcels set under elsewhere = seen-by layout lawful a there (in_volume v lens) parcels set
+      (λ f same. ap lens.of (volume-here f) ∙ under f same)
       (λ f g same. let count : ℕ = length layout.volumes in λ j. record {
         spare = other-spares layout a v rest way f g same j;
         volumes = (each-set (contents_of layout f) (contents_of layout g) count v on (λ w less ne. other-volumes layout a v rest way f g same w less ne)
             ∙ ap (slice_set (each (contents_of layout f) 0 count) v)
-            (elsewhere f g same ∙ (λ i. part.put (part.of (sym (volume-here g) i)) (sym (volume-here f) i)))) j;
+            (elsewhere f g same ∙ (λ i. lens.put (lens.of (sym (volume-here g) i)) (sym (volume-here f) i)))) j;
       })

@@ -20,14 +20,14 @@ use Rattle.parcel_sets.specs.lemmas.At.{IsOfVolume, range-own, stripe-own, logic
 use Rattle.parcel_sets.specs.lemmas.At.{volume-vbn, aggregate-volume, serial-volume, serial-aggregate}
 use Rattle.held_state.specs.Parcels.{FilerParcel, no_range, no_stripe}
 use Rattle.held_state.specs.Contents.{VolumeContents, each, logical_in, stripe_in, range_in, spare_in, at, contents_of}
-use Rattle.held_state.specs.Parts.{VolumeSet, stripe_part, range_part, vbn_part, logical_part, volume_part, in_volume}
-use Rattle.held_state.specs.Parts.{set_on, put_if, put_each, aggregate_part, serial_part}
-use Rattle.held_state.specs.Promises.{IsLens}
+use Rattle.held_state.specs.Lenses.{VolumeSet, stripe_lens, range_lens, vbn_lens, logical_lens, volume_lens, in_volume}
+use Rattle.held_state.specs.Lenses.{set_on, put_if, put_each, aggregate_lens, serial_lens}
+use Rattle.held_state.specs.Promises.{IsSeenBy}
 use Rattle.held_state.specs.Sets.{FilerRange, FilerStripe, FilerVbn, FilerLogical, FilerVolume, FilerAggregate, FilerSerial, in_one, placed}
 use Rattle.held_state.specs.Sets.{range_value, stripe_value, vbn_set, logical_set, volume_set, volume_value, volume_placed, aggregate_set, spare_value}
 use Rattle.held_state.specs.Sets.{volume_with, serial_set}
 use Rattle.held_state.specs.lemmas.Each.{each-same, each-set, each-index, each-map}
-use Rattle.held_state.specs.lemmas.Lens.{AgreeUnder, lens-by, volume-lens, volume-stays}
+use Rattle.held_state.specs.lemmas.Seen.{AgreeUnder, seen-by, below-volume-seen, volume-stays}
 
 -- ---- ways
 
@@ -70,13 +70,13 @@ module _ {P : Type 0} where
 -- ---- kinds below a volume
 
 module _ {P : Type 0} (layout : Layout) (lawful : fault_of layout ≡ None) (v : ℕ) (on : v < length layout.volumes) where
-  pub stripe-lens : (i : ℕ) → i < stripes_of layout v → (held : FilerStripe P)
-      → IsLens layout (Stripe v i) (in_volume v (stripe_part i)) (stripe_parcels layout (Stripe v i) held) held.own
-  stripe-lens i less held =
+  pub stripe-seen : (i : ℕ) → i < stripes_of layout v → (held : FilerStripe P)
+      → IsSeenBy layout (Stripe v i) (in_volume v (stripe_lens i)) (stripe_parcels layout (Stripe v i) held) held.own
+  stripe-seen i less held =
       let a : Affinity = Stripe v i in
       let n : ℕ = stripes_of layout v in
       let own : (ℕ → Option (FilerParcel P)) → ℕ → _ = λ f k. stripe_in (at layout f (Stripe v k)) in
-      volume-lens layout lawful a (on, less) v on (0 ∷ i ∷ []) refl (stripe_part i) (stripe_parcels layout a held) held.own
+      below-volume-seen layout lawful a (on, less) v on (0 ∷ i ∷ []) refl (stripe_lens i) (stripe_parcels layout a held) held.own
       (λ f same. each-index (own f) no_stripe n i less ∙ ap stripe_in (same a (below layout a a [] (on, less) refl) ∙ stripe-own layout a held))
       (λ f g same. λ j. record (contents_of layout g v) {
         logical = logical_in (same (Logical v) on (λ h. let long = begins-length (path layout a) (path layout (Logical v)) h in omega arith) j);
@@ -88,12 +88,12 @@ module _ {P : Type 0} (layout : Layout) (lawful : fault_of layout ≡ None) (v :
             (λ h. let no = (third (aggregate_of layout v) v 0 (aggregate_of layout v) v 1 (i ∷ []) (r ∷ []) h).0 in absurd cc))) j;
       })
 
-  pub range-lens : (r : ℕ) → r < 16 → (held : FilerRange P)
-      → IsLens layout (Range v r) (in_volume v (range_part r)) (range_parcels layout (Range v r) held) held.own
-  range-lens r less held =
+  pub range-seen : (r : ℕ) → r < 16 → (held : FilerRange P)
+      → IsSeenBy layout (Range v r) (in_volume v (range_lens r)) (range_parcels layout (Range v r) held) held.own
+  range-seen r less held =
       let a : Affinity = Range v r in
       let own : (ℕ → Option (FilerParcel P)) → ℕ → _ = λ f k. range_in (at layout f (Range v k)) in
-      volume-lens layout lawful a (on, less) v on (1 ∷ r ∷ []) refl (range_part r) (range_parcels layout a held) held.own
+      below-volume-seen layout lawful a (on, less) v on (1 ∷ r ∷ []) refl (range_lens r) (range_parcels layout a held) held.own
       (λ f same. each-index (own f) no_range most_ranges r less ∙ ap range_in (same a (below layout a a [] (on, less) refl) ∙ range-own layout a held))
       (λ f g same. λ j. record (contents_of layout g v) {
         logical = logical_in (same (Logical v) on (λ h. let long = begins-length (path layout a) (path layout (Logical v)) h in omega arith) j);
@@ -105,10 +105,10 @@ module _ {P : Type 0} (layout : Layout) (lawful : fault_of layout ≡ None) (v :
             ∙ ap (slice_set (each (own f) 0 most_ranges) r) (sym (each-index (own g) no_range most_ranges r less))) j;
       })
 
-  pub vbn-lens : (held : FilerVbn P) → IsLens layout (Vbn v) (in_volume v vbn_part) (vbn_parcels layout (Vbn v) held) (vbn_set held)
-  vbn-lens held =
+  pub vbn-seen : (held : FilerVbn P) → IsSeenBy layout (Vbn v) (in_volume v vbn_lens) (vbn_parcels layout (Vbn v) held) (vbn_set held)
+  vbn-seen held =
       let a : Affinity = Vbn v in
-      volume-lens layout lawful a on v on (1 ∷ []) refl vbn_part (vbn_parcels layout a held) (vbn_set held)
+      below-volume-seen layout lawful a on v on (1 ∷ []) refl vbn_lens (vbn_parcels layout a held) (vbn_set held)
       (λ f same. each-same (λ r. range_in (at layout f (Range v r))) (λ r. range_value (placed held.ranges.at r)) 0 most_ranges
       (λ r low high. ap range_in (same (Range v r) (below layout a (Range v r) (r ∷ []) (on, omega arith) refl) ∙ vbn-range layout v r held (omega arith))
       ∙ range-placed (slice_get held.ranges.at r)))
@@ -120,11 +120,11 @@ module _ {P : Type 0} (layout : Layout) (lawful : fault_of layout ≡ None) (v :
             (λ h. let no = (third (aggregate_of layout v) v 1 (aggregate_of layout v) v 0 [] (i ∷ []) h).0 in absurd cc))) j;
       })
 
-  pub logical-lens : (held : FilerLogical P)
-      → IsLens layout (Logical v) (in_volume v logical_part) (logical_parcels layout (Logical v) held) (logical_set (stripes_of layout v) held)
-  logical-lens held =
+  pub logical-seen : (held : FilerLogical P)
+      → IsSeenBy layout (Logical v) (in_volume v logical_lens) (logical_parcels layout (Logical v) held) (logical_set (stripes_of layout v) held)
+  logical-seen held =
       let a : Affinity = Logical v in
-      volume-lens layout lawful a on v on (0 ∷ []) refl logical_part (logical_parcels layout a held) (logical_set (stripes_of layout v) held)
+      below-volume-seen layout lawful a on v on (0 ∷ []) refl logical_lens (logical_parcels layout a held) (logical_set (stripes_of layout v) held)
       (λ f same. λ j. record {
         own = logical_in ((same a (below layout a a [] on refl) ∙ logical-own layout a held) j);
         stripes = each-same (λ i. stripe_in (at layout f (Stripe v i))) (λ i. stripe_value (placed held.stripes.at i)) 0 (stripes_of layout v)
@@ -148,7 +148,7 @@ pub record VolumeIs {P : Type 0} (layout : Layout) (v : ℕ) (f q : ℕ → Opti
 
 module _ {P : Type 0} (layout : Layout) (v : ℕ) where
   pub volume-values : (f : ℕ → Option (FilerParcel P)) (held : FilerVolume P) → VolumeIs layout v f (volume_parcels layout (Volume v) held)
-      → volume_part.of (contents_of layout f v) ≡ volume_set (stripes_of layout v) held
+      → volume_lens.of (contents_of layout f v) ≡ volume_set (stripes_of layout v) held
   volume-values f held is = λ j. record {
     logical = record {
       own = logical_in ((is.logical
@@ -170,7 +170,7 @@ module _ {P : Type 0} (layout : Layout) (v : ℕ) where
   }
 
   volume-missing : (f : ℕ → Option (FilerParcel P)) → VolumeIs layout v f (λ k. None)
-      → volume_part.of (contents_of layout f v) ≡ volume_value {P = P} (stripes_of layout v) None
+      → volume_lens.of (contents_of layout f v) ≡ volume_value {P = P} (stripes_of layout v) None
   volume-missing f is = λ j. record {
     logical = record {
       own = logical_in (is.logical j);
@@ -183,7 +183,7 @@ module _ {P : Type 0} (layout : Layout) (v : ℕ) where
 
   pub volume-in-place : (f : ℕ → Option (FilerParcel P)) (o : Option (Option (FilerVolume P)))
       → VolumeIs layout v f (λ k. in_place (λ held. volume_parcels layout (Volume v) held k) o)
-      → volume_part.of (contents_of layout f v) ≡ volume_value (stripes_of layout v) (in_one o)
+      → volume_lens.of (contents_of layout f v) ≡ volume_value (stripes_of layout v) (in_one o)
   volume-in-place f None is = volume-missing f is
   volume-in-place f (Some None) is = volume-missing f is
   volume-in-place f (Some (Some held)) is = volume-values f held is
@@ -201,8 +201,8 @@ put-each h c from zero = refl
 put-each h c from (suc n) = ap (λ rest. put_if (h from) (c from) ∷ rest) (put-each h c (from + 1) n)
 
 -- a choice put in
-put-chosen : (b : Bool) (new old : VolumeContents) → volume_part.put (volume_part.of new) old ≡ new → (b ≡ false → old ≡ new)
-    → put_if (if b then Some (volume_part.of new) else None) old ≡ new
+put-chosen : (b : Bool) (new old : VolumeContents) → volume_lens.put (volume_lens.of new) old ≡ new → (b ≡ false → old ≡ new)
+    → put_if (if b then Some (volume_lens.of new) else None) old ≡ new
 put-chosen true new old e stays = e
 put-chosen false new old e stays = stays refl
 
@@ -216,12 +216,12 @@ module _ {P : Type 0} (layout : Layout) (lawful : fault_of layout ≡ None) wher
     ranges = λ r less. same (Range v r) ((on, less), covers-cases layout a (Range v r) (all (1 ∷ r ∷ [])));
   }
 
-  pub volume-lens-of : (v : ℕ) (on : v < length layout.volumes) (held : FilerVolume P)
-      → IsLens layout (Volume v) (in_volume v volume_part) (volume_parcels layout (Volume v) held) (volume_set (stripes_of layout v) held)
-  volume-lens-of v on held =
+  pub volume-seen : (v : ℕ) (on : v < length layout.volumes) (held : FilerVolume P)
+      → IsSeenBy layout (Volume v) (in_volume v volume_lens) (volume_parcels layout (Volume v) held) (volume_set (stripes_of layout v) held)
+  volume-seen v on held =
       let a : Affinity = Volume v in
       let q : ℕ → Option (FilerParcel P) = volume_parcels layout a held in
-      volume-lens layout lawful a on v on [] refl volume_part q (volume_set (stripes_of layout v) held)
+      below-volume-seen layout lawful a on v on [] refl volume_lens q (volume_set (stripes_of layout v) held)
       (λ f same. volume-values layout v f held
       (volume-is a v on (λ more. begins-longer (path layout a) (path layout a) more (begins-self (path layout a))) f q same))
       (λ f g same. refl)
@@ -235,27 +235,27 @@ module _ {P : Type 0} (layout : Layout) (lawful : fault_of layout ≡ None) wher
   on-aggregate a v on e held f is =
       let known = aggregate_known layout v lawful on in
       let found : (k : ℕ) → IsOfVolume layout v k → aggregate_parcels layout (Aggregate a) held k
-              ≡ in_place (λ volume. volume_parcels layout (Volume v) volume k) (slice_get held.volumes.at v) =
-          λ k of. ap (λ (b : ℕ). aggregate_parcels layout (Aggregate b) held k) (sym e) ∙ aggregate-volume layout v k held on known of in
+      ≡ in_place (λ volume. volume_parcels layout (Volume v) volume k) (slice_get held.volumes.at v) =
+      λ k of. ap (λ (b : ℕ). aggregate_parcels layout (Aggregate b) held k) (sym e) ∙ aggregate-volume layout v k held on known of in
       record {
         logical = is.logical ∙ found (number_of layout (Logical v)) (omega arith, omega arith);
         stripes = λ i less. is.stripes i less ∙ found (number_of layout (Stripe v i)) (omega arith, omega arith);
         ranges = λ r less. is.ranges r less ∙ found (number_of layout (Range v r)) (omega arith, omega arith);
       }
 
-  pub aggregate-lens : (a : ℕ) → a < length layout.spare → (held : FilerAggregate P)
-      → IsLens layout (Aggregate a) (aggregate_part a) (aggregate_parcels layout (Aggregate a) held) (aggregate_set layout a held)
-  aggregate-lens a less held =
+  pub aggregate-seen : (a : ℕ) → a < length layout.spare → (held : FilerAggregate P)
+      → IsSeenBy layout (Aggregate a) (aggregate_lens a) (aggregate_parcels layout (Aggregate a) held) (aggregate_set layout a held)
+  aggregate-seen a less held =
       let node : Affinity = Aggregate a in
       let q : ℕ → Option (FilerParcel P) = aggregate_parcels layout node held in
       let count : ℕ = length layout.volumes in
-      lens-by layout lawful node less (aggregate_part a) q (aggregate_set layout a held)
+      seen-by layout lawful node less (aggregate_lens a) q (aggregate_set layout a held)
       (λ f same. λ j. record {
         spare = (each-index (λ b. spare_in (at layout f (Aggregate b))) 0 (length layout.spare) a less
             ∙ ap spare_in (same node (below layout node node [] less refl) ∙ aggregate-own layout node held)) j;
         volumes = (each-map (set_on a) (contents_of layout f) 0 count
             ∙ each-same (λ v. set_on a (contents_of layout f v)) (λ v. if aggregate_of layout v == a then Some (volume_placed layout (Some held) v) else None) 0 count
-            (λ v low high. chosen-same (aggregate_of layout v) a (volume_part.of (contents_of layout f v)) (volume_placed layout (Some held) v)
+            (λ v low high. chosen-same (aggregate_of layout v) a (volume_lens.of (contents_of layout f v)) (volume_placed layout (Some held) v)
             (λ e. volume-in-place layout v f (slice_get held.volumes.at v) (on-aggregate a v (omega arith) e held f
             (volume-is node v (omega arith) (λ more. below-it a v e more) f q same))))) j;
       })
@@ -296,16 +296,16 @@ module _ {P : Type 0} (layout : Layout) (lawful : fault_of layout ≡ None) wher
 
   volume-of-aggregate : (v : ℕ) → v < length layout.volumes → (f : ℕ → Option (FilerParcel P)) (o : Option (Option (FilerAggregate P)))
       → VolumeIs layout v f (λ k. in_place (λ aggregate. aggregate_parcels layout (Aggregate (aggregate_of layout v)) aggregate k) o)
-      → volume_part.of (contents_of layout f v) ≡ volume_placed layout (in_one o) v
+      → volume_lens.of (contents_of layout f v) ≡ volume_placed layout (in_one o) v
   volume-of-aggregate v on f None is = volume-missing layout v f is
   volume-of-aggregate v on f (Some None) is = volume-missing layout v f is
   volume-of-aggregate v on f (Some (Some held)) is =
       volume-in-place layout v f (slice_get held.volumes.at v) (on-aggregate (aggregate_of layout v) v on refl held f is)
 
-  pub serial-lens : (held : FilerSerial P) → IsLens layout Serial serial_part (serial_parcels layout Serial held) (serial_set layout held)
-  serial-lens held =
+  pub serial-seen : (held : FilerSerial P) → IsSeenBy layout Serial serial_lens (serial_parcels layout Serial held) (serial_set layout held)
+  serial-seen held =
       let q : ℕ → Option (FilerParcel P) = serial_parcels layout Serial held in
-      lens-by layout lawful Serial tt serial_part q (serial_set layout held)
+      seen-by layout lawful Serial tt serial_lens q (serial_set layout held)
       (λ f same. λ j. record {
         spare = each-same (λ a. spare_in (at layout f (Aggregate a))) (λ a. spare_value (placed held.aggregates.at a)) 0 (length layout.spare)
             (λ a low high. ap spare_in (same (Aggregate a) (omega arith, covers-cases layout Serial (Aggregate a) refl) ∙ serial-aggregate layout a held (omega arith))

@@ -1,0 +1,105 @@
+-- What follows from the definitions.
+use Rattle.std.specs.Prelude.{◌≡◌, ℕ, ◌<◌, ◌≤◌, ◌*◌, List, [], length, Option, Some, None}
+use Rattle.std.specs.FinMap.{get, len}
+use Rattle.nfs_model.specs.Tree.{Layout, Serial, Aggregate, Volume, Logical, Stripe, Vbn, Range, stripes_of}
+use Rattle.nfs_model.specs.Server.{opening}
+use Rattle.nfs_model.specs.Parts as parts
+use Rattle.nfs_model.specs.Parts.{Hand, times_listed, range_blocks}
+use Rattle.affinity_tree.specs.Fault.{fault_of}
+use Rattle.affinity_tree.specs.Numbers.{parents}
+use Rattle.depot_rule.specs.Machine.{IsLocal, Keeps}
+use Rattle.depot_rule.specs.Sums.{total}
+use Rattle.parcel_sets.specs.Sets.{range_parcels, vbn_parcels, stripe_parcels, logical_parcels, volume_parcels, aggregate_parcels, serial_parcels}
+use Rattle.volume_values.specs.Directories.{DirectoryValue}
+use Rattle.held_state.specs.Parcels.{FilerParcel}
+use Rattle.held_state.specs.Contents.{VolumeContents, filer_contents}
+use Rattle.held_state.specs.Tree.{ranges_used, volume_of, tree}
+use Rattle.held_state.specs.Partition.{parts_of, times_in_hand}
+use Rattle.held_state.specs.Sound.{IsSound, AllSound, IsFiler}
+use Rattle.held_state.specs.Jobs.{takes, gives}
+use Rattle.held_state.specs.Deeds.{FilerSteps}
+use Rattle.held_state.specs.Lenses.{stripe_lens, range_lens, vbn_lens, logical_lens, volume_lens, aggregate_lens, serial_lens, in_volume}
+use Rattle.held_state.specs.Promises.{IsSeenBy}
+use Rattle.held_state.specs.Sets.{FilerRange, FilerStripe, FilerVbn, FilerLogical, FilerVolume, FilerAggregate, FilerSerial}
+use Rattle.held_state.specs.Sets.{vbn_set, logical_set, volume_set, aggregate_set, serial_set}
+use Rattle.held_state.specs.Opening.{AreOpening}
+use Rattle.held_state.specs.Commute.{Commute}
+
+-- ---- a volume
+
+-- the block parts of a sound volume partition it, as the model says, with what is listed of it in hands
+abbrev pub PartsPartition : Type 0
+PartsPartition = (p : VolumeContents) (hands : List Hand) (made : ℕ) (in_hands : List ℕ) → IsSound p hands made
+    → ((n : ℕ) → times_listed n in_hands ≡ total (times_in_hand p.number n) hands) → parts.IsPartition (volume_of p) (parts_of p) in_hands
+
+-- no more blocks are used than there are
+abbrev pub UsedFits : Type 0
+UsedFits = (p : VolumeContents) (hands : List Hand) (made : ℕ) → IsSound p hands made → p.logical.inodes.used ≤ range_blocks * ranges_used p.ranges
+
+-- no directory has more entries than there are inodes
+abbrev pub EntriesFit : Type 0
+EntriesFit = (p : VolumeContents) (hands : List Hand) (made : ℕ) → IsSound p hands made
+    → (fileid : ℕ) (d : DirectoryValue) → get p.logical.directories fileid ≡ Some d → length d.list ≤ len p.logical.inodes.inodes
+
+module _ (P : Type 0) where
+  -- ---- the beginning
+
+  -- the parcels as a run begins are sound, with no hands and no entries
+  abbrev pub OpensSound : Type 0
+  OpensSound = (layout : Layout) (verifier : List ℕ) (f : ℕ → Option (FilerParcel P)) → fault_of layout ≡ None → AreOpening layout verifier f
+      → IsFiler (parents layout) f [] 0
+
+  -- and stand for the server as it begins
+  abbrev pub OpensAsServer : Type 0
+  OpensAsServer = (layout : Layout) (verifier : List ℕ) (f : ℕ → Option (FilerParcel P)) → fault_of layout ≡ None → AreOpening layout verifier f
+      → tree layout f ≡ opening layout verifier
+
+  -- ---- steps
+
+  abbrev pub StepsAreLocal : Type 0
+  StepsAreLocal = IsLocal (FilerSteps {P = P})
+
+  abbrev pub StepsKeep : Type 0
+  StepsKeep = Keeps (FilerSteps {P = P}) takes gives IsFiler
+
+  abbrev pub StepsCommute : Type 0
+  StepsCommute = Commute (FilerSteps {P = P})
+
+  -- which of two layouts of one tree is taken changes nothing
+  abbrev pub LayoutsAgree : Type 0
+  LayoutsAgree = (l m : Layout) → parents l ≡ parents m → (f : ℕ → Option (FilerParcel P)) → filer_contents l f ≡ filer_contents m f
+
+  -- what has to hold goes by the weight of hands
+  abbrev pub SoundByWeight : Type 0
+  SoundByWeight = (layout : Layout) (f : ℕ → Option (FilerParcel P)) (hands others : List Hand) (made : ℕ)
+      → ((weigh : Hand → ℕ) → total weigh others ≡ total weigh hands) → AllSound layout f hands made → AllSound layout f others made
+
+  -- ---- sets
+
+  abbrev pub StripesAreSeen : Type 0
+  StripesAreSeen = (layout : Layout) → fault_of layout ≡ None → (v i : ℕ) → v < length layout.volumes → i < stripes_of layout v → (held : FilerStripe P)
+      → IsSeenBy layout (Stripe v i) (in_volume v (stripe_lens i)) (stripe_parcels layout (Stripe v i) held) held.own
+
+  abbrev pub RangesAreSeen : Type 0
+  RangesAreSeen = (layout : Layout) → fault_of layout ≡ None → (v r : ℕ) → v < length layout.volumes → r < 16 → (held : FilerRange P)
+      → IsSeenBy layout (Range v r) (in_volume v (range_lens r)) (range_parcels layout (Range v r) held) held.own
+
+  abbrev pub VbnsAreSeen : Type 0
+  VbnsAreSeen = (layout : Layout) → fault_of layout ≡ None → (v : ℕ) → v < length layout.volumes → (held : FilerVbn P)
+      → IsSeenBy layout (Vbn v) (in_volume v vbn_lens) (vbn_parcels layout (Vbn v) held) (vbn_set held)
+
+  abbrev pub LogicalsAreSeen : Type 0
+  LogicalsAreSeen = (layout : Layout) → fault_of layout ≡ None → (v : ℕ) → v < length layout.volumes → (held : FilerLogical P)
+      → IsSeenBy layout (Logical v) (in_volume v logical_lens) (logical_parcels layout (Logical v) held) (logical_set (stripes_of layout v) held)
+
+  abbrev pub VolumesAreSeen : Type 0
+  VolumesAreSeen = (layout : Layout) → fault_of layout ≡ None → (v : ℕ) → v < length layout.volumes → (held : FilerVolume P)
+      → IsSeenBy layout (Volume v) (in_volume v volume_lens) (volume_parcels layout (Volume v) held) (volume_set (stripes_of layout v) held)
+
+  abbrev pub AggregatesAreSeen : Type 0
+  AggregatesAreSeen = (layout : Layout) → fault_of layout ≡ None → (a : ℕ) → a < length layout.spare → (held : FilerAggregate P)
+      → IsSeenBy layout (Aggregate a) (aggregate_lens a) (aggregate_parcels layout (Aggregate a) held) (aggregate_set layout a held)
+
+  abbrev pub RootsAreSeen : Type 0
+  RootsAreSeen = (layout : Layout) → fault_of layout ≡ None → (held : FilerSerial P)
+      → IsSeenBy layout Serial serial_lens (serial_parcels layout Serial held) (serial_set layout held)
