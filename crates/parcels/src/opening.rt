@@ -3,6 +3,7 @@
 ghost use Rattle.std.specs.Prelude.{◌≡◌, ◌<◌, [], IfOk, slice_get, slice_index_or};
 ghost use Rattle.affinity_tree.specs.Affinity.{affinity_of};
 ghost use Rattle.affinity_tree.specs.Layout.{layout_of};
+ghost use Rattle.affinity_tree.specs.Numbers.{parents};
 ghost use Rattle.affinity_tree.specs.Tree.{IsNode};
 ghost use Rattle.nfs_model.specs.Tree as trees;
 ghost use Rattle.nfs_model.specs.Parts.{most_ranges};
@@ -17,7 +18,7 @@ ghost use Rattle.held_state.specs.Opening.{
   opening_parcel,
   AreOpening,
 };
-ghost use Rattle.held_state.specs.Sound.{AllSound};
+ghost use Rattle.held_state.specs.Sound.{IsFiler};
 ghost use Rattle.held_state.specs.Tree.{tree};
 
 use crate::directory_map::DirectoryMap;
@@ -47,7 +48,7 @@ pub fn opening_parcels(
     ensures opening { let L = layout_of layout.now in IfOk result (λ held.
         AreOpening L verifier.0 (serial_parcels L trees.Serial held)) }
     ensures sound { let L = layout_of layout.now in IfOk result (λ held.
-        AllSound L (serial_parcels L trees.Serial held) [] 0) }
+        IsFiler (parents L) (serial_parcels L trees.Serial held) [] 0) }
     ensures server { let L = layout_of layout.now in IfOk result (λ held.
         tree L (serial_parcels L trees.Serial held) ≡ opening L verifier.0) }
 {
