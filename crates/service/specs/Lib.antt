@@ -1,0 +1,3 @@
+pub mod Hands
+pub mod Jobs
+pub mod Getattr
