@@ -84,7 +84,8 @@ impl Cards {
     /// Sets the size of a file whose card is there; the touch stays. It takes no memory.
     pub fn set_size(&mut self, fileid: Fileid, size: u64)
         requires { IsSome (get self.old fileid.0) }
-        ensures { self.new ≡ insert self.old fileid.0 (OfFile size (touch_of (get self.old fileid.0))) }
+        ensures { self.new
+            ≡ insert self.old fileid.0 (OfFile size (touch_of (get self.old fileid.0))) }
     {
         resize_at(&mut self.by_fileid, fileid.0, size);
     }

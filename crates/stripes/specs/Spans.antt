@@ -1,14 +1,16 @@
 -- The blocks of files by spans, each an array of 64 places.
-use Rattle.std.specs.Prelude.{◌≡◌, ℕ, zero, suc, ◌+◌, ◌-◌, ◌*◌, ◌/◌, ◌%◌, ◌<◌, ◌≤◌, Bool, true, ◌==◌, ◌&&◌, nat_le, nat_lt, if◌then◌else◌}
+use Rattle.std.specs.Prelude.{◌≡◌, ℕ, zero, suc, ◌+◌, ◌-◌, ◌*◌, ◌/◌, ◌%◌, ◌<◌, ◌≤◌, Bool, true, false, not, ⊤, ◌==◌, ◌&&◌, nat_le, nat_lt, if◌then◌else◌}
 use Rattle.std.specs.Prelude.{List, [], ◌∷◌, ◌++◌, map, length, Option, Some, None, is_some, slice_index_or}
-use Rattle.std.specs.List.{range_with_len}
+use Rattle.std.specs.List.{range_with_len, list_all, filter}
 use Rattle.std.specs.Option.{option_map}
 use Rattle.std.specs.Map.{lookup}
 use Rattle.std.specs.BTreeMap.{is_at}
-use Rattle.std.specs.FinMap.{FinMap, from_entries}
+use Rattle.std.specs.FinMap.{FinMap, from_entries, entries, get, retain_keys}
+use Rattle.volume_values.specs.Maps.{map_values}
 use Rattle.nfs_model.specs.Server.{block_size}
 use Rattle.nfs_model.specs.Home.{span_bytes}
-use Rattle.volume_values.specs.Stripes.{Block, Place, place_cmp, span_blocks, byte_of, byte_written, byte_cut, block_mapped}
+use Rattle.nfs_model.specs.Serial.Write.{blocks_met}
+use Rattle.volume_values.specs.Stripes.{Block, Place, place_cmp, span_blocks, byte_of, byte_written, byte_cut, block_mapped, file_mapped, is_past}
 
 -- the places of a span
 abbrev pub Places : Type 0
@@ -72,6 +74,10 @@ span_read places offset n = map (span_byte places) (range_with_len offset n)
 abbrev pub last_met : ℕ → ℕ → ℕ
 last_met offset n = (offset + n - 1) / block_size
 
+-- whether each block of n bytes from an offset on is filled
+abbrev pub span_is_filled : ℕ → ℕ → Option Places → Bool
+span_is_filled offset n places = list_all (λ b. is_some (place_in places b)) (blocks_met offset n)
+
 -- a block put at its place
 abbrev pub PutsBlock : ℕ → Block → Places → Places → Type 0
 PutsBlock number block old new =
@@ -81,7 +87,8 @@ PutsBlock number block old new =
 abbrev pub WritesBlocks : ℕ → ℕ → ℕ → List ℕ → Places → Places → Type 0
 WritesBlocks first past offset written old new =
     (b : ℕ) → b / span_blocks ≡ offset / span_bytes
-      → place_of new b ≡ (if nat_le first b && nat_lt b past then option_map (block_mapped (byte_written offset written) b) (place_of old b) else place_of old b)
+    → place_of new b ≡ (if nat_le first b && nat_lt b past then option_map (block_mapped (byte_written offset written) b)
+    (place_of old b) else place_of old b)
 
 -- bytes written at an offset, into the blocks that they meet
 abbrev pub WritesSpan : ℕ → List ℕ → Places → Places → Type 0
@@ -91,7 +98,8 @@ WritesSpan offset written = WritesBlocks (offset / block_size) (last_met offset 
 abbrev pub CutsSpan : ℕ → Places → Places → Type 0
 CutsSpan size old new =
     (b : ℕ) → place_of new b
-      ≡ (if b % span_blocks == (size / block_size) % span_blocks then option_map (block_mapped (byte_cut size) (size / block_size)) (place_of old b) else place_of old b)
+    ≡ (if b % span_blocks == (size / block_size) % span_blocks then option_map (block_mapped (byte_cut size) (size / block_size))
+    (place_of old b) else place_of old b)
 
 -- No block is at a place or after it.
 abbrev pub HasNone : ℕ → Places → Type 0
@@ -115,7 +123,105 @@ pub record TakesBlock (i : ℕ) (block : Block) (old new : Places) : Type 0 wher
 
 -- ---- all spans
 
+-- the array under a file and a span
+abbrev pub span_at : Spans → Place → Option Places
+span_at spans k = lookup (is_at (place_cmp k)) spans
+
+-- Each span's array has a block.
+abbrev pub AllFilled : Spans → Type 0
+AllFilled spans = (k : Place) (places : Places) → span_at spans k ≡ Some places → HasBlock places
+
 -- Blocks have 4,096 bytes, and a span's array has a block.
 pub record IsSpans (spans : Spans) : Type 0 where
   pub long : (p : Place) (b : Block) → block_at spans p ≡ Some b → length b.bytes ≡ block_size
-  pub filled : (k : Place) (places : Places) → lookup (is_at (place_cmp k)) spans ≡ Some places → HasBlock places
+  pub filled : AllFilled spans
+
+-- ---- what is done to the arrays
+
+-- All arrays are the same.
+abbrev pub SameSpans : Spans → Spans → Type 0
+SameSpans old new = (k : Place) → span_at new k ≡ span_at old k
+
+-- The array under a key is changed so, and the others are the same.
+pub record ChangesSpan (Q : Option Places → Option Places → Type 0) (k : Place) (old new : Spans) : Type 0 where
+  pub here : Q (span_at old k) (span_at new k)
+  pub others : (q : Place) → is_at (place_cmp k) q ≡ false → span_at new q ≡ span_at old q
+
+-- an array changed, where there is one
+abbrev pub Where : (Places → Places → Type 0) → Option Places → Option Places → Type 0
+Where Q None None = ⊤
+Where Q None (Some new) = ⊥
+Where Q (Some old) None = ⊥
+Where Q (Some old) (Some new) = Q old new
+
+-- an array that is there changed
+abbrev pub There : (Places → Places → Type 0) → Option Places → Option Places → Type 0
+There Q None new = ⊥
+There Q (Some old) None = ⊥
+There Q (Some old) (Some new) = Q old new
+
+-- an array gone, if it was there
+abbrev pub Drops : Option Places → Option Places → Type 0
+Drops old new = new ≡ None
+
+-- a block put into an array, where there is one or not
+abbrev pub Puts : ℕ → Block → Option Places → Option Places → Type 0
+Puts number block old None = ⊥
+Puts number block None (Some new) = PutsBlock number block [] new
+Puts number block (Some old) (Some new) = PutsBlock number block old new
+
+-- the same array
+abbrev pub Stays : Places → Places → Type 0
+Stays old new = new ≡ old
+
+-- The first block from a place on is taken out of an array, and it is told whether none is left.
+pub record TakesFirst (from : ℕ) (block : Block) (is_empty : Bool) (old new : Places) : Type 0 where
+  pub place : ℕ
+  pub first : IsFirst from place old
+  pub taken : TakesBlock place block old new
+  pub empty : is_empty ≡ true → HasNone 0 new
+  pub filled : is_empty ≡ false → HasBlock new
+
+-- The first block from a place on is taken out of an array, which goes with its last block.
+abbrev pub Takes : ℕ → Block → Option Places → Option Places → Type 0
+Takes from block None new = ⊥
+Takes from block (Some old) None = (left : Places) × TakesFirst from block true old left
+Takes from block (Some old) (Some new) = TakesFirst from block false old new
+
+-- No block is at a place of an array or after it.
+abbrev pub TakesNone : ℕ → Option Places → Type 0
+TakesNone from None = ⊤
+TakesNone from (Some places) = HasNone from places
+
+-- A file has no block from a number on.
+abbrev pub HasNoneFrom : ℕ → ℕ → Spans → Type 0
+HasNoneFrom fileid first spans = (b : ℕ) → first ≤ b → block_at spans (fileid, b) ≡ None
+
+-- A file's first block from a number on is gone.
+pub record FreesFirst (fileid first : ℕ) (block : Block) (old new : Spans) : Type 0 where
+  pub number : ℕ
+  pub from : first ≤ number
+  pub before : (b : ℕ) → first ≤ b → b < number → block_at old (fileid, b) ≡ None
+  pub there : block_at old (fileid, number) ≡ Some block
+  pub gone : (p : Place) → block_at new p ≡ (if is_at (place_cmp (fileid, number)) p then None else block_at old p)
+  pub filled : AllFilled new
+
+-- ---- words on blocks
+
+-- the numbers of a file's blocks that lie wholly past a size
+abbrev pub numbers_past : ℕ → ℕ → FinMap place_cmp Block → List ℕ
+numbers_past fileid size blocks =
+    map (λ (e : Place × Block). e.1.number) (filter (λ (e : Place × Block). is_past fileid size e.0) (entries blocks))
+
+-- a file's blocks cut to a size
+abbrev pub cut_blocks : ℕ → ℕ → FinMap place_cmp Block → FinMap place_cmp Block
+cut_blocks fileid size blocks = map_values (file_mapped (byte_cut size) fileid) (retain_keys blocks (λ p. not (is_past fileid size p)))
+
+-- n bytes of a file from an offset on
+abbrev pub blocks_read : FinMap place_cmp Block → ℕ → ℕ → ℕ → List ℕ
+blocks_read blocks fileid offset n =
+    map (λ at. byte_of (get blocks (fileid, at / block_size)) (at % block_size)) (range_with_len offset n)
+
+-- Blocks have 4,096 bytes.
+abbrev pub IsLong : FinMap place_cmp Block → Type 0
+IsLong blocks = (p : Place) (b : Block) → get blocks p ≡ Some b → length b.bytes ≡ block_size

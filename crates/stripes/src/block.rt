@@ -71,7 +71,11 @@ impl Block {
     pub fn cut(&mut self, size: u64)
         ensures { self.new ≡ block_mapped (byte_cut size) (size / block_size) self.old }
     {
-        cut_part(&mut self.bytes[..], BLOCK_BYTES * (size / BLOCK_BYTES), size);
+        cut_part(
+            &mut self.bytes[..],
+            BLOCK_BYTES * (size / BLOCK_BYTES),
+            size,
+        );
     }
 }
 

@@ -2,6 +2,7 @@
 #![tactic(auto)]
 
 mod block;
+mod blocks;
 mod span;
 mod spans;
 mod stripe;

@@ -67,7 +67,9 @@ pub struct Span {
 }
 
 impl Model for Span {
+    ghost use Rattle.std.specs.Prelude.{◌≡◌, length};
     ghost use Rattle.std.specs.Coded.{coded_list, coded_option};
+    ghost use Rattle.volume_values.specs.Stripes.{span_blocks};
     ghost use Rattle.volume_values.specs.Codes.{coded_block};
     ghost use Rattle.stripes.specs.Spans.{Places};
 
@@ -76,6 +78,8 @@ impl Model for Span {
     ghost coded = { coded_list (coded_option coded_block) };
 
     ghost view = { λ s. s.places.value };
+
+    ghost invariant = { λ s. length s.places.value ≡ span_blocks };
 }
 
 /// The place of a block in its span.
@@ -218,11 +222,19 @@ fn append(place: &Option<Block>, start: usize, size: usize, into: &mut Vec<u8>)
     ensures capacity { vec_capacity into.old ≤ vec_capacity into.new }
 {
     match place {
-        Some(block) => into
-            .extend_from_slice(&block.bytes()[start..start + size])
-            .unwrap(),
+        Some(block) => keep(into, &block.bytes()[start..start + size]),
         None => put_zeros(into, size),
     }
+}
+
+/// Appends bytes.
+fn keep(into: &mut Vec<u8>, bytes: &[u8])
+    requires { vec_len into.old + length bytes.now ≤ vec_capacity into.old }
+    ensures items { into.new.items ≡ into.old.items ++ bytes.now }
+    ensures len { vec_len into.new ≡ vec_len into.old + length bytes.now }
+    ensures capacity { vec_capacity into.old ≤ vec_capacity into.new }
+{
+    into.extend_from_slice(bytes).unwrap();
 }
 
 /// Appends zeros.
@@ -240,7 +252,8 @@ fn write_into(place: &mut Option<Block>, number: u64, offset: u64, written: &[u8
     requires fits { block_size * number < 2 ^ 64 }
     requires met { block_size * number < offset + length written.now }
     requires reached { offset < block_size * number + block_size }
-    ensures { place.new ≡ option_map (block_mapped (byte_written offset written.now) number) place.old }
+    ensures { place.new
+        ≡ option_map (block_mapped (byte_written offset written.now) number) place.old }
 {
     if let Some(block) = place {
         block.write(number, offset, written);

@@ -1,88 +1,78 @@
-//! The blocks of files, by spans.
+//! Spans of files, by fileids and numbers.
 
 ghost use Rattle.std.specs.Prelude.{
   ◌≡◌,
   ◌+◌,
+  ◌*◌,
+  ◌^◌,
+  ◌/◌,
   ◌%◌,
+  ◌<◌,
   ◌≤◌,
   ◌++◌,
   ◌∷◌,
   [],
   ℕ,
   length,
+  map,
+  true,
   false,
-  is_some,
+  Some,
+  None,
   IsTrue,
-  IfOk,
+  IsSome,
   IfSome,
   IfNone,
   OnOk,
   OnErr,
 };
-ghost use Rattle.std.specs.FinMap.{empty, get};
+ghost use Rattle.std.specs.FinMap.{empty};
+ghost use Rattle.std.specs.List.{range_with_len, list_all};
 ghost use Rattle.std.specs.Vec.{vec_len, vec_capacity};
 ghost use Rattle.nfs_model.specs.Home.{span_bytes};
-ghost use Rattle.volume_values.specs.Stripes.{Block};
-ghost use Rattle.stripes.specs.Spans.{};
+ghost use Rattle.nfs_model.specs.Serial.Write.{blocks_met};
+ghost use Rattle.volume_values.specs.Stripes.{span_blocks};
+ghost use Rattle.stripes.specs.Spans.{
+  span_at,
+  span_is_filled,
+  AllFilled,
+  SameSpans,
+  ChangesSpan,
+  Where,
+  Puts,
+  Takes,
+  HasNone,
+  HasNoneFrom,
+  FreesFirst,
+  Stays,
+  TakesFirst,
+  TakesNone,
+  WritesSpan,
+  CutsSpan,
+  Drops,
+  There,
+};
 
-use crate::block::{BLOCK_BYTES, Block};
-use crate::span::{SPAN_BLOCKS, SPAN_BYTES, Span, put_zeros};
-use nfs_values::BlockNumber;
+use crate::block::Block;
+use crate::span::{SPAN_BLOCKS, SPAN_BYTES, Span};
 use std::alloc::{AllocError, Global};
 use std::collections::BTreeMap;
-use std::marker::Model;
 
 /// Spans by fileid and number, each with a block at least.
-type SpanMap = BTreeMap<(u64, u64), Span>;
+pub type SpanMap = BTreeMap<(u64, u64), Span>;
 
-/// The blocks of files.
-#[derive(Drop)]
-pub struct Blocks {
-    alloc: Global,
-    spans: SpanMap,
-}
-
-impl Blocks {
-    /// No block. It takes no memory.
-    pub fn new(alloc: Global) -> Blocks {
-        Blocks {
-            alloc,
-            spans: BTreeMap::new(alloc),
-        }
-    }
-
-    /// Appends n bytes of a file from an offset on, which lie in one span.
-    pub fn read(&self, fileid: u64, offset: u64, n: usize, into: &mut Vec<u8>) {
-        match self.spans.get(&(fileid, offset / SPAN_BYTES)) {
-            Some(span) => span.read(offset, n, into),
-            None => put_zeros(into, n),
-        }
-    }
-
-    /// Writes bytes at an offset of a file, which lie in one span, where each of their blocks is
-    /// filled, and tells whether it did.
-    pub fn overwrite(&mut self, fileid: u64, offset: u64, written: &[u8]) -> bool {
-        overwrite_in(&mut self.spans, fileid, offset, written)
-    }
-
-    /// Fills a block with zeros.
-    pub fn insert(&mut self, fileid: u64, block: u64, number: BlockNumber) -> Result<(), AllocError> {
-        let zeros = Block::zero(self.alloc, number)?;
-        insert_in(&mut self.spans, self.alloc, fileid, block, zeros)
-    }
-
-    /// Takes a file's first block that lies wholly past a size, and tells its number. Where there
-    /// is none it zeroes the rest of the block in which the size lies.
-    pub fn cut(&mut self, fileid: u64, size: u64) -> Option<BlockNumber> {
-        if let Some((_, block)) = take_from(&mut self.spans, fileid, size.div_ceil(BLOCK_BYTES)) {
-            return Some(block.number());
-        }
-        zero_tail(&mut self.spans, fileid, size);
-        None
-    }
-}
-
-fn overwrite_in(spans: &mut SpanMap, fileid: u64, offset: u64, written: &[u8]) -> bool {
+/// Writes bytes at an offset of a file where each of their blocks is filled, and tells whether it
+/// did.
+pub fn overwrite_in(spans: &mut SpanMap, fileid: u64, offset: u64, written: &[u8]) -> bool
+    requires some { 0 < length written.now }
+    requires span { offset % span_bytes + length written.now ≤ span_bytes }
+    ensures answer { result ≡ span_is_filled offset (length written.now)
+        (span_at spans.old.entries (fileid, offset / span_bytes)) }
+    ensures written { IsTrue result → ChangesSpan (Where (WritesSpan offset written.now))
+        (fileid, offset / span_bytes) spans.old.entries spans.new.entries }
+    ensures kept { result ≡ false → ChangesSpan (Where Stays) (fileid, offset / span_bytes)
+        spans.old.entries spans.new.entries }
+{
     match spans.get_mut(&(fileid, offset / SPAN_BYTES)) {
         Some(span) => write_filled(span, offset, written),
         None => false,
@@ -90,7 +80,13 @@ fn overwrite_in(spans: &mut SpanMap, fileid: u64, offset: u64, written: &[u8]) -
 }
 
 /// Writes bytes at an offset where each of their blocks is filled, and tells whether it did.
-fn write_filled(span: &mut Span, offset: u64, written: &[u8]) -> bool {
+fn write_filled(span: &mut Span, offset: u64, written: &[u8]) -> bool
+    requires some { 0 < length written.now }
+    requires span { offset % span_bytes + length written.now ≤ span_bytes }
+    ensures answer { result ≡ span_is_filled offset (length written.now) (Some span.old) }
+    ensures written { IsTrue result → WritesSpan offset written.now span.old span.new }
+    ensures kept { result ≡ false → span.new ≡ span.old }
+{
     if !span.is_filled(offset, written.len()) {
         return false;
     }
@@ -99,61 +95,148 @@ fn write_filled(span: &mut Span, offset: u64, written: &[u8]) -> bool {
 }
 
 /// Puts a block at its place.
-fn insert_in(
+pub fn insert_in(
     spans: &mut SpanMap,
     alloc: Global,
     fileid: u64,
     number: u64,
     block: Block,
-) -> Result<(), AllocError> {
-    let key = (fileid, number / SPAN_BLOCKS);
-    if let Some(span) = spans.get_mut(&key) {
-        span.put(number, block);
-        return Ok(());
+) -> Result<(), AllocError>
+    ensures ok { OnOk result (ChangesSpan (Puts number block) (fileid, number / span_blocks)
+        spans.old.entries spans.new.entries) }
+    ensures err { OnErr result (SameSpans spans.old.entries spans.new.entries) }
+{
+    match spans.get_mut(&(fileid, number / SPAN_BLOCKS)) {
+        Some(span) => {
+            span.put(number, block);
+            Ok(())
+        }
+        None => add_span(spans, alloc, fileid, number, block),
     }
+}
+
+/// Adds a span with one block.
+fn add_span(
+    spans: &mut SpanMap,
+    alloc: Global,
+    fileid: u64,
+    number: u64,
+    block: Block,
+) -> Result<(), AllocError>
+    requires { span_at spans.old.entries (fileid, number / span_blocks) ≡ None }
+    ensures ok { OnOk result (ChangesSpan (Puts number block) (fileid, number / span_blocks)
+        spans.old.entries spans.new.entries) }
+    ensures err { OnErr result (SameSpans spans.old.entries spans.new.entries) }
+{
     let span = Span::new(alloc, number, block)?;
-    spans.insert(key, span)?;
+    spans.insert((fileid, number / SPAN_BLOCKS), span)?;
     Ok(())
 }
 
 /// Takes a file's first block from a number on.
-fn take_from(spans: &mut SpanMap, fileid: u64, first: u64) -> Option<(u64, Block)> {
-    let span = first / SPAN_BLOCKS;
-    let from = (first % SPAN_BLOCKS) as usize;
-    if let Some(taken) = take_in(spans, fileid, span, from) {
-        return Some(taken);
+pub fn take_from(spans: &mut SpanMap, fileid: u64, first: u64) -> Option<Block>
+    requires { AllFilled spans.old.entries }
+    ensures taken { IfSome result
+        (λ block. FreesFirst fileid first block spans.old.entries spans.new.entries) }
+    ensures none { IfNone result (HasNoneFrom fileid first spans.old.entries) }
+    ensures kept { IfNone result (SameSpans spans.old.entries spans.new.entries) }
+{
+    match take_in(
+        spans,
+        fileid,
+        first / SPAN_BLOCKS,
+        (first % SPAN_BLOCKS) as usize,
+    ) {
+        Some(block) => Some(block),
+        None => take_after(spans, fileid, first / SPAN_BLOCKS),
     }
-    let span = next_span(spans, fileid, span + 1)?;
-    take_in(spans, fileid, span, 0)
+}
+
+/// Takes a file's first block in the spans after one.
+fn take_after(spans: &mut SpanMap, fileid: u64, span: u64) -> Option<Block>
+    requires filled { AllFilled spans.old.entries }
+    requires span { span < 2 ^ 63 }
+    ensures taken { IfSome result (λ block. FreesFirst fileid (span_blocks * (span + 1)) block
+        spans.old.entries spans.new.entries) }
+    ensures none { IfNone result
+        (HasNoneFrom fileid (span_blocks * (span + 1)) spans.old.entries) }
+    ensures kept { IfNone result (SameSpans spans.old.entries spans.new.entries) }
+{
+    match next_span(spans, fileid, span + 1) {
+        Some(next) => take_in(spans, fileid, next, 0),
+        None => None,
+    }
 }
 
 /// Takes the first block of a span from a place on, and the span with its last block.
-fn take_in(spans: &mut SpanMap, fileid: u64, number: u64, from: usize) -> Option<(u64, Block)> {
-    let span = spans.get_mut(&(fileid, number))?;
-    let (place, block) = span.take_first(from)?;
-    let is_empty = span.is_empty();
-    if is_empty {
-        spans.remove(&(fileid, number));
+fn take_in(spans: &mut SpanMap, fileid: u64, number: u64, from: usize) -> Option<Block>
+    requires { from ≤ span_blocks }
+    ensures taken { IfSome result (λ block. ChangesSpan (Takes from block) (fileid, number)
+        spans.old.entries spans.new.entries) }
+    ensures none { IfNone result (TakesNone from (span_at spans.old.entries (fileid, number))) }
+    ensures kept { IfNone result (SameSpans spans.old.entries spans.new.entries) }
+{
+    let (block, is_empty) = take_block(spans, fileid, number, from)?;
+    if !is_empty {
+        return Some(block);
     }
-    Some((SPAN_BLOCKS * number + place as u64, block))
+    drop_span(spans, fileid, number);
+    Some(block)
+}
+
+/// Drops a span.
+fn drop_span(spans: &mut SpanMap, fileid: u64, number: u64)
+    ensures { ChangesSpan Drops (fileid, number) spans.old.entries spans.new.entries }
+{
+    spans.remove(&(fileid, number));
+}
+
+/// Takes the first block of a span from a place on, and tells whether it was the last.
+fn take_block(spans: &mut SpanMap, fileid: u64, number: u64, from: usize) -> Option<(Block, bool)>
+    requires { from ≤ span_blocks }
+    ensures taken { IfSome result (λ r. ChangesSpan (There (TakesFirst from r.0 r.1))
+        (fileid, number) spans.old.entries spans.new.entries) }
+    ensures none { IfNone result (TakesNone from (span_at spans.old.entries (fileid, number))) }
+    ensures kept { IfNone result (ChangesSpan (Where Stays) (fileid, number)
+        spans.old.entries spans.new.entries) }
+{
+    match spans.get_mut(&(fileid, number)) {
+        Some(span) => take_first(span, from),
+        None => None,
+    }
+}
+
+/// Takes the first block of a span from a place on, and tells whether it was the last.
+fn take_first(span: &mut Span, from: usize) -> Option<(Block, bool)>
+    requires { from ≤ span_blocks }
+    ensures taken { IfSome result (λ r. TakesFirst from r.0 r.1 span.old span.new) }
+    ensures none { IfNone result (HasNone from span.old) }
+    ensures kept { IfNone result (span.new ≡ span.old) }
+{
+    let (_, block) = span.take_first(from)?;
+    Some((block, span.is_empty()))
 }
 
 /// A file's first span from a number on.
-fn next_span(spans: &SpanMap, fileid: u64, from: u64) -> Option<u64> {
+fn next_span(spans: &SpanMap, fileid: u64, from: u64) -> Option<u64>
+    ensures after { IfSome result (λ s. from ≤ s) }
+    ensures there { IfSome result (λ s. IsSome (span_at spans.now.entries (fileid, s))) }
+    ensures first { IfSome result (λ s. (t : ℕ) → from ≤ t → t < s
+        → span_at spans.now.entries (fileid, t) ≡ None) }
+    ensures none { IfNone result ((t : ℕ) → from ≤ t
+        → span_at spans.now.entries (fileid, t) ≡ None) }
+{
     match spans.range((fileid, from)..).next() {
-        Some((key, _)) => {
-            if key.0 == fileid {
-                Some(key.1)
-            } else {
-                None
-            }
-        }
+        Some((key, _)) => { if key.0 == fileid { Some(key.1) } else { None } }
         None => None,
     }
 }
 
 /// Zeroes the rest of the block in which a size lies, if it is there.
-fn zero_tail(spans: &mut SpanMap, fileid: u64, size: u64) {
+pub fn zero_tail(spans: &mut SpanMap, fileid: u64, size: u64)
+    ensures { ChangesSpan (Where (CutsSpan size)) (fileid, size / span_bytes)
+        spans.old.entries spans.new.entries }
+{
     if let Some(span) = spans.get_mut(&(fileid, size / SPAN_BYTES)) {
         span.cut(size);
     }

@@ -25,6 +25,7 @@ ghost use Rattle.std.specs.Vec.{vec_len, vec_capacity};
 ghost use Rattle.nfs_model.specs.Home.{span_bytes};
 ghost use Rattle.nfs_values.specs.Moment.{moment_of};
 ghost use Rattle.volume_values.specs.Stripes.{
+  IsStripe,
   empty_stripe,
   bytes_read,
   stays_within,
@@ -35,12 +36,13 @@ ghost use Rattle.volume_values.specs.Stripes.{
   card_dropped,
   block_inserted,
   overwritten,
+  reaches,
   cut,
   numbers_freed,
 };
 ghost use Rattle.stripe_cards.specs.Cards.{card_of};
 
-use crate::spans::Blocks;
+use crate::blocks::Blocks;
 use nfs_values::{BlockNumber, Fileid, Moment, Verifier};
 use std::alloc::{AllocError, Global};
 use std::marker::Model;
@@ -57,14 +59,23 @@ pub struct Stripe {
 }
 
 impl Model for Stripe {
-    ghost use Rattle.volume_values.specs.Stripes.{StripeValue, IsStripe};
+    ghost use Rattle.volume_values.specs.Stripes.{StripeValue};
     ghost use Rattle.volume_values.specs.Codes.{coded_stripe};
+    ghost use Rattle.stripes.specs.Spans.{IsLong};
 
     ghost Value = { StripeValue };
 
     ghost coded = { coded_stripe };
 
-    ghost view = { λ s. record { verifier = s.verifier.0; stripes = s.stripes; largest = s.largest; cards = s.cards; blocks = s.blocks } };
+    ghost view = { λ s. record {
+      verifier = s.verifier.0;
+      stripes = s.stripes;
+      largest = s.largest;
+      cards = s.cards;
+      blocks = s.blocks;
+    } };
+
+    ghost invariant = { λ s. IsLong s.blocks };
 }
 
 impl Stripe {
@@ -105,7 +116,8 @@ impl Stripe {
 
     /// The card of an inode.
     pub fn card(&self, fileid: Fileid) -> Option<Card>
-        ensures { option_map card_of result ≡ get self.now.cards fileid.0 }
+        ensures card { option_map card_of result ≡ get self.now.cards fileid.0 }
+        ensures stripe { IsStripe self.now }
     {
         self.cards.get(fileid)
     }
@@ -168,13 +180,7 @@ impl Stripe {
     /// Writes bytes at an offset of a file, which lie in one span, at a moment, and tells whether
     /// it did. Where the write would extend the file or fill a hole nothing changes. It takes no
     /// memory.
-    pub fn overwrite(
-        &mut self,
-        fileid: Fileid,
-        offset: u64,
-        written: &[u8],
-        moment: Moment,
-    ) -> bool
+    pub fn overwrite(&mut self, fileid: Fileid, offset: u64, written: &[u8], moment: Moment) -> bool
         requires some { 0 < length written.now }
         requires span { offset % span_bytes + length written.now ≤ span_bytes }
         ensures answer { result ≡ stays_within fileid.0 offset (length written.now) self.old }
@@ -212,7 +218,8 @@ impl Stripe {
     pub fn cut(&mut self, fileid: Fileid, size: u64) -> Option<BlockNumber>
         ensures freed { IfSome result (λ n. numbers_freed fileid.0 size self.old
             ≡ n.0 ∷ numbers_freed fileid.0 size self.new) }
-        ensures rest { IfSome result (λ _. cut fileid.0 size self.new ≡ cut fileid.0 size self.old) }
+        ensures rest { IfSome result
+            (λ _. cut fileid.0 size self.new ≡ cut fileid.0 size self.old) }
         ensures none { IfNone result (numbers_freed fileid.0 size self.old ≡ []) }
         ensures done { IfNone result (self.new ≡ cut fileid.0 size self.old) }
     {

@@ -14,7 +14,8 @@ module _ {K X Y : Type 0} {R : K → K → Ordering} where
   find-map same g q (e ∷ es) = by (R q e.0) refl (find-map same g q es)
     where
       by : (r : Ordering) → R q e.0 ≡ r → find R q (map (λ (x : K × X). (x.0, g x.0 x.1)) es) ≡ option_map (g q) (find R q es)
-          → cond (is_eq r) (Some (g e.0 e.1)) (find R q (map (λ (x : K × X). (x.0, g x.0 x.1)) es)) ≡ option_map (g q) (cond (is_eq r) (Some e.1) (find R q es))
+          → cond (is_eq r) (Some (g e.0 e.1)) (find R q (map (λ (x : K × X). (x.0, g x.0 x.1)) es)) ≡ option_map (g q)
+              (cond (is_eq r) (Some e.1) (find R q es))
       by Less h rest = rest
       by Equal h rest = ap (λ k. Some (g k e.1)) (sym (same q e.0 h))
       by Greater h rest = rest

@@ -1,4 +1,4 @@
-use Rattle.std.proofs.Common.{◌≡◌, ◌+◌, ◌-◌, length, refl, ap, ◌∙◌, arith}
+use Rattle.std.proofs.Common.{◌-◌, length, refl, arith}
 use Rattle.stripes.proofs.Bytes.{part-cut}
 use Rattle.stripes.proofs.block.cut_part.Goals as goal
 

@@ -8,7 +8,8 @@ use Rattle.stripe_cards.proofs.cards.Cards.set_file.Goals as goal
 pub returns-clause-ok : goal.returns-clause-ok
 returns-clause-ok c =
     on_ok (λ puts. put-cards c.args.fileid.0 _ c.self.inside.by_fileid c.put.new.by_fileid puts
-    ∙ ap (λ touch. insert (cards_of c.self.inside.by_fileid.entries) c.args.fileid.0 (OfFile c.args.size touch)) (c.touch_on-touch.ensures ∙ ap touch_of c.get.ensures)
+    ∙ ap (λ touch. insert (cards_of c.self.inside.by_fileid.entries) c.args.fileid.0 (OfFile c.args.size touch))
+        (c.touch_on-touch.ensures ∙ ap touch_of c.get.ensures)
     ∙ ap (λ m. insert m c.args.fileid.0 (OfFile c.args.size (touch_of (get c.args.self.now c.args.fileid.0)))) c.self.view_is) c.put.result c.put.ensures.ok
 
 pub returns-clause-err : goal.returns-clause-err

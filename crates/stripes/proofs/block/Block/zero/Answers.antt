@@ -1,5 +1,3 @@
-use Rattle.std.proofs.Common.{◌≡◌}
-use Rattle.volume_values.specs.Stripes.{Block}
 use Rattle.stripes.proofs.block.Block.zero.Goals as goal
 
 pub returns : goal.returns

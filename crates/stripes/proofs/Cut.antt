@@ -1,0 +1,191 @@
+-- The blocks of all spans, after what a cut does to the arrays.
+use Rattle.std.proofs.Common.{◌≡◌, ◌≢◌, ◌⊎◌, min, ℕ, ◌+◌, ◌*◌, ◌/◌, ◌%◌, ◌<◌, ◌≤◌, ◌&&◌, Bool, true, false, not, cond, [], ◌∷◌, length, map, refl, sym, ap}
+use Rattle.std.proofs.Common.{◌∙◌, inl, inr, arith, subst, Option, Some, None, is_some, nat_le, eq-eqb}
+use Rattle.std.proofs.lemmas.Bool.{cases_eq, cases_lt}
+use Rattle.std.proofs.lemmas.Bool.Decides.{nat_tests}
+use Rattle.std.proofs.lemmas.Option.{same_Some}
+use Rattle.std.specs.declared.cmp.Ordering.TheVariants.{Greater}
+use Rattle.std.specs.Ordering.{is_gt}
+use Rattle.std.specs.Option.{option_map}
+use Rattle.std.specs.BTreeMap.{is_at}
+use Rattle.std.specs.FinMap.{FinMap, get, retain_keys, get-retain_keys, same_map}
+use Rattle.nfs_model.specs.Server.{block_size}
+use Rattle.nfs_model.specs.Home.{span_bytes}
+use Rattle.volume_values.specs.Maps.{map_values}
+use Rattle.volume_values.specs.lemmas.Entries.{place_total, place_same}
+use Rattle.volume_values.specs.Stripes.{Block, Place, place_cmp, span_blocks, block_mapped, file_mapped, byte_cut, is_past}
+use Rattle.stripes.specs.Spans.{Places, Spans, place_of, span_of, block_at, span_at, blocks_of, AllFilled, IsSpans, ChangesSpan, Where, CutsSpan, HasBlock}
+use Rattle.stripes.specs.Spans.{HasNoneFrom, FreesFirst, numbers_past, cut_blocks}
+use Rattle.stripes.proofs.Keys.{key-cases, key-apart, upto-span}
+use Rattle.stripes.proofs.Places.{unlike}
+use Rattle.stripes.proofs.Bytes.{byte_kept}
+use Rattle.stripes.proofs.Mapped.{place-same, place-of-file}
+use Rattle.stripes.proofs.Law.{get-blocks_of}
+use Rattle.stripes.proofs.Freed.{freed-first, freed-none}
+use Rattle.stripes.proofs.Words.{at-array, at-other, file-long, file-mapped, some-kept}
+
+-- a first block past a size
+pub record IsPastFrom (size first : ℕ) : Type 0 where
+  pub from : (b : ℕ) → size ≤ block_size * b → first ≤ b
+  pub past : (b : ℕ) → first ≤ b → size ≤ block_size * b
+
+past-place : (f size : ℕ) (p : Place) → is_past f size p ≡ true → (p.0 ≡ f) × (size ≤ block_size * p.1)
+past-place f size p h = elim (cases_eq p.0 f) [
+  | inl e ↦ (
+    e,
+    let g : nat_le size (block_size * p.1) ≡ true = ap (λ t. t && nat_le size (block_size * p.1)) (sym (eq-eqb p.0 f e))
+        ∙ h in grind (arith, nat_tests),
+  )
+  | inr n ↦ absurd (let no : false ≡ true = sym (ap (λ t. t && nat_le size (block_size * p.1)) (unlike p.0 f n)) ∙ h in cc)
+]
+
+is-past : (f size b : ℕ) → size ≤ block_size * b → is_past f size (f, b) ≡ true
+is-past f size b h = ap (λ t. t && nat_le size (block_size * b)) (eq-eqb f f refl)
+    ∙ (let e : nat_le size (block_size * b) ≡ true = grind (arith, nat_tests) in e)
+
+get-retained : (f size : ℕ) (m : FinMap place_cmp Block) (q : Place)
+    → get (retain_keys m (λ p. not (is_past f size p))) q ≡ cond (not (is_past f size q)) (get m q) None
+get-retained f size m q = get-retain_keys m (λ p. not (is_past f size p)) q (λ x e. ap (λ p. not (is_past f size p)) (sym (place_same q x e)))
+
+module _ (f size first : ℕ) (block : Block) (old new : Spans) where
+  -- the numbers past the size, one of which is gone
+  pub freed-numbers : IsPastFrom size first → FreesFirst f first block old new
+      → numbers_past f size (blocks_of old) ≡ block.number ∷ numbers_past f size (blocks_of new)
+  freed-numbers past frees =
+      ap (map (λ (e : Place × Block). e.1.number)) (freed-first (is_past f size) (f, frees.number) block (blocks_of old) (blocks_of new)
+      (is-past f size frees.number (past.past frees.number frees.from))
+      (get-blocks_of old (f, frees.number) ∙ frees.there)
+      (λ q. get-blocks_of new q ∙ frees.gone q ∙ ap (cond (is_at (place_cmp (f, frees.number)) q) None) (sym (get-blocks_of old q)))
+      (λ q h after. let is = past-place f size q h in get-blocks_of old q ∙ ap (λ t. block_at old (t, q.1)) is.0
+      ∙ frees.before q.1 (past.from q.1 is.1) (before q is.0 after)))
+    where
+      before : (q : Place) → q.0 ≡ f → place_cmp (f, frees.number) q ≡ Greater → q.1 < frees.number
+      before q e after = elim (cases_lt q.1 frees.number) [
+        | inl h ↦ h
+        | inr h ↦ absurd (let no : true ≡ false = sym (ap is_gt after) ∙ ap (λ t. is_gt (place_cmp (f, frees.number) (t, q.1))) e
+            ∙ upto-span f frees.number q.1 h in cc)
+      ]
+
+  pub freed-cut : IsPastFrom size first → FreesFirst f first block old new → cut_blocks f size (blocks_of new) ≡ cut_blocks f size (blocks_of old)
+  freed-cut past frees = ap (map_values (file_mapped (byte_cut size) f)) (same_map place_total place_same _ _ (λ q.
+      get-retained f size (blocks_of new) q ∙ elim (key-cases (f, frees.number) q) [
+        | inl same ↦ let gone : not (is_past f size q) ≡ false = ap (λ k. not (is_past f size k)) (sym same)
+            ∙ ap not (is-past f size frees.number (past.past frees.number frees.from)) in
+            ap (λ t. cond t (get (blocks_of new) q) None) gone ∙ sym (ap (λ t. cond t (get (blocks_of old) q) None) gone)
+        | inr other ↦ ap (λ o. cond (not (is_past f size q)) o None) (get-blocks_of new q ∙ frees.gone q
+            ∙ ap (λ t. cond t None (block_at old q)) other ∙ sym (get-blocks_of old q))
+      ] ∙ sym (get-retained f size (blocks_of old) q)))
+
+  pub freed-spans : IsSpans old → FreesFirst f first block old new → IsSpans new
+  freed-spans is frees = record {
+    long = λ p b e. by p b (is_at (place_cmp (f, frees.number)) p) (sym (frees.gone p) ∙ e);
+    filled = frees.filled;
+  }
+    where
+      by : (p : Place) (b : Block) (t : Bool) → cond t None (block_at old p) ≡ Some b → length b.bytes ≡ block_size
+      by p b true e = absurd (cc)
+      by p b false e = is.long p b e
+
+-- ---- the rest of the last block
+
+-- a place whose bytes a cut leaves as they are, or which has none
+cut-same : (f size first : ℕ) (old : Spans) (p : Place) → IsSpans old → IsPastFrom size first → HasNoneFrom f first old
+    → (p.0 ≡ f → p.1 ≡ size / block_size → ⊥)
+    → option_map (file_mapped (byte_cut size) f p) (block_at old p) ≡ block_at old p
+cut-same f size first old p is past none other = elim (cases_eq p.0 f) [
+  | inr n ↦ place-same (byte_cut size) f p (block_at old p) (is.long p) (λ e. absurd (n e))
+  | inl e ↦ elim (cases_lt p.1 (size / block_size)) [
+    | inl h ↦ place-same (byte_cut size) f p (block_at old p) (is.long p) (λ e i x below. byte_kept size (block_size * p.1 + i) x (omega arith))
+    | inr h ↦
+        let gone : block_at old p ≡ None = ap (λ t. block_at old (t, p.1)) e
+        ∙ none p.1 (past.from p.1 (let g : p.1 ≢ size / block_size = other e in omega arith)) in
+        ap (option_map (file_mapped (byte_cut size) f p)) gone ∙ sym gone
+  ]
+]
+
+module _ (f size first : ℕ) (old new : Spans) where
+  cut-at : IsSpans old → IsPastFrom size first → HasNoneFrom f first old → ChangesSpan (Where (CutsSpan size)) (f, size / span_bytes) old new
+      → (p : Place) → block_at new p ≡ option_map (file_mapped (byte_cut size) f p) (block_at old p)
+  cut-at is past none changes p = elim (key-cases (f, size / span_bytes) (span_of p)) [
+    | inl same ↦ by (span_at old (f, size / span_bytes)) (span_at new (f, size / span_bytes)) refl refl changes.here same
+    | inr other ↦ at-other _ _ p old new changes other ∙ sym (cut-same f size first old p is past none
+        (λ e h. key-apart (f, size / span_bytes) (span_of p) other (sym e) (omega arith)))
+  ]
+    where
+      by : (o n : Option Places) → span_at old (f, size / span_bytes) ≡ o → span_at new (f, size / span_bytes) ≡ n → Where (CutsSpan size) o n
+          → (f, size / span_bytes) ≡ span_of p → block_at new p ≡ option_map (file_mapped (byte_cut size) f p) (block_at old p)
+      by None None eo en h same = at-array new _ p None same en ∙ sym (ap (option_map (file_mapped (byte_cut size) f p)) (at-array old _ p None same eo))
+      by None (Some b) eo en h same = absurd h
+      by (Some a) None eo en h same = absurd h
+      by (Some a) (Some b) eo en h same =
+          let before = at-array old _ p (Some a) same eo in
+          let file : p.0 ≡ f = sym (ap (λ (q : Place). q.0) same) in
+          let span : size / span_bytes ≡ p.1 / span_blocks = ap (λ (q : Place). q.1) same in
+          at-array new _ p (Some b) same en ∙ h p.1 ∙ elim (cases_eq (p.1 % span_blocks) ((size / block_size) % span_blocks)) [
+            | inl e ↦ let number : p.1 ≡ size / block_size = omega arith in
+                ap (λ t. cond t (option_map (block_mapped (byte_cut size) (size / block_size)) (place_of a p.1)) (place_of a p.1)) (eq-eqb _ _ e)
+                ∙ ap (λ n. option_map (block_mapped (byte_cut size) n) (place_of a p.1)) (sym number)
+                ∙ sym (place-of-file (byte_cut size) f p (place_of a p.1) file) ∙ sym (ap (option_map (file_mapped (byte_cut size) f p)) before)
+            | inr n ↦ ap (λ t. cond t (option_map (block_mapped (byte_cut size) (size / block_size)) (place_of a p.1)) (place_of a p.1)) (unlike _ _ n)
+                ∙ sym before ∙ sym (cut-same f size first old p is past none (λ e g. n (ap (λ m. m % span_blocks) g)))
+          ]
+
+  cut-filled : AllFilled old → ChangesSpan (Where (CutsSpan size)) (f, size / span_bytes) old new → AllFilled new
+  cut-filled filled changes k places e = elim (key-cases (f, size / span_bytes) k) [
+    | inl same ↦ by (span_at old (f, size / span_bytes)) (span_at new (f, size / span_bytes)) refl (ap (span_at new) same ∙ e) changes.here
+    | inr other ↦ filled k places (sym (changes.others k other) ∙ e)
+  ]
+    where
+      by : (o n : Option Places) → span_at old (f, size / span_bytes) ≡ o → n ≡ Some places → Where (CutsSpan size) o n → HasBlock places
+      by None None eo en h = absurd (cc)
+      by None (Some b) eo en h = absurd h
+      by (Some a) None eo en h = absurd h
+      by (Some a) (Some b) eo en h =
+          let there = filled (f, size / span_bytes) a eo in
+          subst HasBlock (same_Some _ _ en) (
+            there.0,
+            there.1,
+            ap is_some (h there.0) ∙ some-kept _ (block_mapped (byte_cut size) (size / block_size)) (place_of a there.0) ∙ there.2,
+          )
+
+  pub tail-spans : IsSpans old → IsPastFrom size first → HasNoneFrom f first old → ChangesSpan (Where (CutsSpan size)) (f, size / span_bytes) old new
+      → IsSpans new
+  tail-spans is past none changes = record {
+    long = file-long (byte_cut size) f old new is (cut-at is past none changes);
+    filled = cut-filled is.filled changes;
+  }
+
+  -- where no block is past the size, that is the cut
+  pub tail-cut : IsSpans old → IsPastFrom size first → HasNoneFrom f first old → ChangesSpan (Where (CutsSpan size)) (f, size / span_bytes) old new
+      → blocks_of new ≡ cut_blocks f size (blocks_of old)
+  tail-cut is past none changes =
+      file-mapped (byte_cut size) f old new (cut-at is past none changes)
+      ∙ ap (map_values (file_mapped (byte_cut size) f)) (same_map place_total place_same _ _ (λ q.
+      elim (kept-or-none q) [
+        | inl keep ↦ sym (get-retained f size (blocks_of old) q ∙ ap (λ t. cond t (get (blocks_of old) q) None) keep)
+        | inr gone ↦ gone ∙ sym (get-retained f size (blocks_of old) q ∙ ap (λ o. cond (not (is_past f size q)) o None) gone
+            ∙ either (not (is_past f size q)))
+      ]))
+    where
+      nothing : Option Block
+      nothing = None
+
+      either : (t : Bool) → cond t nothing nothing ≡ None
+      either true = refl
+      either false = refl
+
+      kept-or-none : (q : Place) → (not (is_past f size q) ≡ true) ⊎ (get (blocks_of old) q ≡ None)
+      kept-or-none q = by (is_past f size q) refl
+        where
+          by : (t : Bool) → is_past f size q ≡ t → (not (is_past f size q) ≡ true) ⊎ (get (blocks_of old) q ≡ None)
+          by true e = let is = past-place f size q e in
+              inr (get-blocks_of old q ∙ ap (λ t. block_at old (t, q.1)) is.0 ∙ none q.1 (past.from q.1 is.1))
+          by false e = inl (ap not e)
+
+  pub tail-numbers : IsPastFrom size first → HasNoneFrom f first old → numbers_past f size (blocks_of old) ≡ []
+  tail-numbers past none = ap (map (λ (e : Place × Block). e.1.number)) (freed-none (is_past f size) (blocks_of old) (λ q h.
+      let is = past-place f size q h in get-blocks_of old q ∙ ap (λ t. block_at old (t, q.1)) is.0 ∙ none q.1 (past.from q.1 is.1)))
+
+-- the first block past a size
+pub past-from : (size : ℕ) → IsPastFrom size (size / block_size + min 1 (size % block_size))
+past-from size = record { from = λ b h. omega arith; past = λ b h. omega arith }

@@ -1,0 +1,180 @@
+-- Blocks that are taken out of the arrays.
+use Rattle.std.proofs.Common.{◌≡◌, ℕ, ◌+◌, ◌*◌, ◌/◌, ◌%◌, ◌<◌, ◌≤◌, ◌==◌, Bool, true, false, cond, refl, sym, ap, ◌∙◌, inl, inr, arith, subst, Option, Some}
+use Rattle.std.proofs.Common.{None, IfSome, IfNone, get_or}
+use Rattle.std.proofs.lemmas.Bool.{cases_lt}
+use Rattle.std.proofs.lemmas.Option.{same_Some}
+use Rattle.std.specs.BTreeMap.{is_at}
+use Rattle.volume_values.specs.Stripes.{Block, Place, place_cmp, span_blocks}
+use Rattle.stripes.specs.Spans.{Places, Spans, place_of, place_in, span_of, block_at, span_at, AllFilled, SameSpans, ChangesSpan, Where, There, Drops, Stays}
+use Rattle.stripes.specs.Spans.{Takes, TakesFirst, TakesNone, IsFirst, HasBlock, HasNoneFrom, FreesFirst}
+use Rattle.stripes.proofs.Keys.{key-cases, key-other, key-within}
+
+-- the block of a file in a span
+pub block-in-span : (spans : Spans) (f s b : ℕ) (o : Option Places) → b / span_blocks ≡ s → span_at spans (f, s) ≡ o → block_at spans (f, b) ≡ place_in o b
+block-in-span spans f s b o e h = ap (λ t. place_in (span_at spans (f, t)) b) e ∙ ap (λ p. place_in p b) h
+
+-- arrays that are the same have the same blocks
+pub same-blocks : (old new : Spans) → SameSpans old new → (p : Place) → block_at new p ≡ block_at old p
+same-blocks old new same p = ap (λ o. place_in o p.1) (same (span_of p))
+
+same-array : (o n : Option Places) → Where Stays o n → n ≡ o
+same-array None None h = refl
+same-array None (Some b) h = absurd h
+same-array (Some a) None h = absurd h
+same-array (Some a) (Some b) h = ap Some h
+
+-- an array that stays
+pub stays-same : (k : Place) (old new : Spans) → ChangesSpan (Where Stays) k old new → SameSpans old new
+stays-same k old new changes q = elim (key-cases k q) [
+  | inl e ↦ subst (λ q. span_at new q ≡ span_at old q) e (same-array (span_at old k) (span_at new k) changes.here)
+  | inr n ↦ changes.others q n
+]
+
+-- a place is known by what is left when it is divided
+pub place-mod : (places : Places) (b : ℕ) → place_of places (b % span_blocks) ≡ place_of places b
+place-mod places b = ap (λ i. get_or places i None) (let e : b % span_blocks % span_blocks ≡ b % span_blocks = omega arith in e)
+
+-- what is left of an array, which may be gone
+record Left (f s from : ℕ) (block : Block) (old : Places) (left : Option Places) : Type 0 where
+  place : ℕ
+  first : IsFirst from place old
+  there : place_of old place ≡ Some block
+  gone : (b : ℕ) → place_in left b ≡ cond (b % span_blocks == place) None (place_of old b)
+  filled : (places : Places) → left ≡ Some places → HasBlock places
+
+left-of : (f s from : ℕ) (block : Block) (old : Places) (n : Option Places) → Takes from block (Some old) n → Left f s from block old n
+left-of f s from block old None t = record {
+  place = t.1.place;
+  first = t.1.first;
+  there = t.1.taken.there;
+  gone = λ b. sym (sym (place-mod t.0 b) ∙ t.1.empty refl (b % span_blocks) (omega arith) (omega arith)) ∙ t.1.taken.gone b;
+  filled = λ places e. absurd (cc);
+}
+left-of f s from block old (Some new) t = record {
+  place = t.place;
+  first = t.first;
+  there = t.taken.there;
+  gone = t.taken.gone;
+  filled = λ places e. subst HasBlock (same_Some _ _ e) (t.filled refl);
+}
+
+-- the first block of a span from a place on is the file's first from there on
+pub frees-in : (f s from : ℕ) (block : Block) (old new : Spans) → from ≤ span_blocks → ChangesSpan (Takes from block) (f, s) old new → AllFilled old
+    → FreesFirst f (span_blocks * s + from) block old new
+frees-in f s from block old new few changes filled = by (span_at old (f, s)) refl changes.here
+  where
+    by : (o : Option Places) → span_at old (f, s) ≡ o → Takes from block o (span_at new (f, s)) → FreesFirst f (span_blocks * s + from) block old new
+    by None e t = absurd t
+    by (Some a) e t = let left = left-of f s from block a (span_at new (f, s)) t in record {
+      number = span_blocks * s + left.place;
+      from = let h = left.first.after in omega arith;
+      before = λ b first below. block-in-span old f s b (Some a) (let h = left.first.within in omega arith) e ∙ sym (place-mod a b)
+          ∙ left.first.before (b % span_blocks) (let h = left.first.within in omega arith) (let h = left.first.within in omega arith);
+      there = block-in-span old f s (span_blocks * s + left.place) (Some a) (let h = left.first.within in omega arith) e
+          ∙ ap (λ i. get_or a i None) (let g = left.first.within in let h :
+          (span_blocks * s + left.place) % span_blocks ≡ left.place % span_blocks = omega arith in h) ∙ left.there;
+      gone = λ p. elim (key-cases (f, s) (span_of p)) [
+        | inl same ↦ ap (λ k. place_in (span_at new k) p.1) (sym same) ∙ left.gone p.1
+            ∙ ap (λ t. cond t None (place_of a p.1)) (sym (key-within f s left.place p left.first.within same))
+            ∙ ap (cond (is_at (place_cmp (f, span_blocks * s + left.place)) p) None)
+            (sym (ap (λ k. place_in (span_at old k) p.1) (sym same) ∙ ap (λ o. place_in o p.1) e))
+        | inr other ↦ ap (λ o. place_in o p.1) (changes.others (span_of p) other)
+            ∙ ap (λ t. cond t None (block_at old p)) (sym (key-other f (span_blocks * s + left.place) p
+            (ap (λ t. is_at (place_cmp (f, t)) (span_of p)) (let g = left.first.within in let h :
+            (span_blocks * s + left.place) / span_blocks ≡ s = omega arith in h) ∙ other)))
+      ];
+      filled = λ k places h. elim (key-cases (f, s) k) [
+        | inl same ↦ left.filled places (ap (span_at new) same ∙ h)
+        | inr other ↦ filled k places (sym (changes.others k other) ∙ h)
+      ];
+    }
+
+-- no block before it is there
+pub frees-from : (f first after : ℕ) (block : Block) (old mid new : Spans) → first ≤ after → SameSpans old mid
+    → ((b : ℕ) → first ≤ b → b < after → block_at old (f, b) ≡ None) → FreesFirst f after block mid new → FreesFirst f first block old new
+frees-from f first after block old mid new le same none frees = record {
+  number = frees.number;
+  from = let h = frees.from in omega arith;
+  before = λ b from below. elim (cases_lt b after) [
+    | inl h ↦ none b from h
+    | inr h ↦ sym (same-blocks old mid same (f, b)) ∙ frees.before b h below
+  ];
+  there = sym (same-blocks old mid same (f, frees.number)) ∙ frees.there;
+  gone = λ p. frees.gone p ∙ ap (cond (is_at (place_cmp (f, frees.number)) p) None) (same-blocks old mid same p);
+  filled = frees.filled;
+}
+
+-- an array without blocks from a place on
+pub none-in : (spans : Spans) (f s from b : ℕ) (o : Option Places) → span_at spans (f, s) ≡ o → TakesNone from o → b / span_blocks ≡ s
+    → from ≤ b % span_blocks
+    → block_at spans (f, b) ≡ None
+none-in spans f s from b None h none e le = block-in-span spans f s b None e h
+none-in spans f s from b (Some a) h none e le =
+    block-in-span spans f s b (Some a) e h ∙ sym (place-mod a b) ∙ none (b % span_blocks) le (omega arith)
+
+left-there : (from : ℕ) (block : Block) (e : Bool) (o n : Option Places) → e ≡ false → There (TakesFirst from block e) o n → Takes from block o n
+left-there from block e None n is t = absurd t
+left-there from block e (Some a) None is t = absurd t
+left-there from block e (Some a) (Some b) is t = subst (λ e. TakesFirst from block e a b) is t
+
+none-left : (from : ℕ) (block : Block) (e : Bool) (o m n : Option Places) → e ≡ true → There (TakesFirst from block e) o m → n ≡ None → Takes from block o n
+none-left from block e None m n is t gone = absurd t
+none-left from block e (Some a) None n is t gone = absurd t
+none-left from block e (Some a) (Some b) n is t gone = subst (Takes from block (Some a)) (sym gone) (b, subst (λ e. TakesFirst from block e a b) is t)
+
+-- an array of which blocks are left, and one of which none is left
+pub takes-some : (from : ℕ) (block : Block) (e : Bool) (k : Place) (old new : Spans) → e ≡ false → ChangesSpan (There (TakesFirst from block e)) k old new
+    → ChangesSpan (Takes from block) k old new
+takes-some from block e k old new is changes = record { here = left-there from block e _ _ is changes.here; others = changes.others }
+
+pub takes-last : (from : ℕ) (block : Block) (e : Bool) (k : Place) (old mid new : Spans) → e ≡ true → ChangesSpan (There (TakesFirst from block e)) k old mid
+    → ChangesSpan Drops k mid new → ChangesSpan (Takes from block) k old new
+takes-last from block e k old mid new is changes drops = record {
+  here = none-left from block e _ (span_at mid k) _ is changes.here drops.here;
+  others = λ q other. drops.others q other ∙ changes.others q other;
+}
+
+-- what follows of what is taken, and where nothing is
+pub after-some : {A : Type 0} {P Q : A → Type 0} → ((x : A) → P x → Q x) → (o : Option A) → IfSome o P → IfSome o Q
+after-some f None h = h
+after-some f (Some x) h = f x h
+
+pub after-none : {A P Q : Type 0} → (P → Q) → (o : Option A) → IfNone o P → IfNone o Q
+after-none f None h = f h
+after-none f (Some x) h = h
+
+-- a file's first block in a span on which no span before is there
+pub frees-after : (f s next : ℕ) (block : Block) (old new : Spans) → s + 1 ≤ next → ((t : ℕ) → s + 1 ≤ t → t < next → span_at old (f, t) ≡ None)
+    → AllFilled old → ChangesSpan (Takes 0 block) (f, next) old new → FreesFirst f (span_blocks * (s + 1)) block old new
+frees-after f s next block old new le none filled changes =
+    frees-from f (span_blocks * (s + 1)) (span_blocks * next + 0) block old old new (omega arith) (λ k. refl)
+    (λ b from below. block-in-span old f (b / span_blocks) b None refl (none (b / span_blocks) (omega arith) (omega arith)))
+    (frees-in f next 0 block old new (omega arith) changes filled)
+
+-- a file's first block in the span of a number
+pub frees-at : (f first : ℕ) (block : Block) (old new : Spans) → AllFilled old
+    → ChangesSpan (Takes (first % span_blocks) block) (f, first / span_blocks) old new
+    → FreesFirst f first block old new
+frees-at f first block old new filled changes =
+    subst (λ n. FreesFirst f n block old new) (let e : span_blocks * (first / span_blocks) + first % span_blocks ≡ first = omega arith in e)
+    (frees-in f (first / span_blocks) (first % span_blocks) block old new (omega arith) changes filled)
+
+none-until : (f first b : ℕ) (old : Spans) → TakesNone (first % span_blocks) (span_at old (f, first / span_blocks)) → first ≤ b
+    → b < span_blocks * (first / span_blocks + 1) → block_at old (f, b) ≡ None
+none-until f first b old none from below =
+    none-in old f (first / span_blocks) (first % span_blocks) b (span_at old (f, first / span_blocks)) refl none (omega arith) (omega arith)
+
+-- a file's first block past the span of a number
+pub frees-later : (f first : ℕ) (block : Block) (old mid new : Spans) → SameSpans old mid
+    → TakesNone (first % span_blocks) (span_at old (f, first / span_blocks))
+    → FreesFirst f (span_blocks * (first / span_blocks + 1)) block mid new → FreesFirst f first block old new
+frees-later f first block old mid new same none =
+    frees-from f first (span_blocks * (first / span_blocks + 1)) block old mid new (omega arith) same
+    (λ b from below. none-until f first b old none from below)
+
+pub none-later : (f first : ℕ) (old mid : Spans) → SameSpans old mid → TakesNone (first % span_blocks) (span_at old (f, first / span_blocks))
+    → HasNoneFrom f (span_blocks * (first / span_blocks + 1)) mid → HasNoneFrom f first old
+none-later f first old mid same none after b from = elim (cases_lt b (span_blocks * (first / span_blocks + 1))) [
+  | inl h ↦ none-until f first b old none from h
+  | inr h ↦ sym (same-blocks old mid same (f, b)) ∙ after b h
+]

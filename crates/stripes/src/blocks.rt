@@ -1,0 +1,132 @@
+//! The blocks of files.
+
+ghost use Rattle.std.specs.Prelude.{
+  ◌≡◌,
+  ◌+◌,
+  ◌%◌,
+  ◌<◌,
+  ◌≤◌,
+  ◌++◌,
+  ◌∷◌,
+  [],
+  length,
+  false,
+  is_some,
+  IsTrue,
+  IfSome,
+  IfNone,
+  OnOk,
+  OnErr,
+};
+ghost use Rattle.std.specs.FinMap.{empty, get, insert};
+ghost use Rattle.std.specs.List.{list_all};
+ghost use Rattle.std.specs.Vec.{vec_len, vec_capacity};
+ghost use Rattle.nfs_model.specs.Home.{span_bytes};
+ghost use Rattle.nfs_model.specs.Serial.Write.{blocks_met};
+ghost use Rattle.volume_values.specs.Maps.{map_values};
+ghost use Rattle.volume_values.specs.Stripes.{zero_block, file_mapped, byte_written};
+ghost use Rattle.stripes.specs.Spans.{blocks_read, numbers_past, cut_blocks, IsLong};
+
+use crate::block::{BLOCK_BYTES, Block};
+use crate::span::{SPAN_BYTES, put_zeros};
+use crate::spans::{SpanMap, insert_in, overwrite_in, take_from, zero_tail};
+use nfs_values::BlockNumber;
+use std::alloc::{AllocError, Global};
+use std::collections::BTreeMap;
+use std::marker::Model;
+
+/// The blocks of files, by fileids and their numbers in the files.
+#[derive(Drop)]
+pub struct Blocks {
+    alloc: Global,
+    spans: SpanMap,
+}
+
+impl Model for Blocks {
+    ghost use Rattle.std.specs.FinMap.{FinMap};
+    ghost use Rattle.std.specs.FinMap as maps;
+    ghost use Rattle.std.specs.Coded.{coded×, coded_ℕ};
+    ghost use Rattle.volume_values.specs.Stripes.{place_cmp};
+    ghost use Rattle.volume_values.specs.Stripes as values;
+    ghost use Rattle.volume_values.specs.Codes.{coded_block};
+    ghost use Rattle.stripes.specs.Spans.{blocks_of, IsSpans};
+
+    ghost Value = { FinMap place_cmp values.Block };
+
+    ghost coded = { maps.code (coded× coded_ℕ coded_ℕ) coded_block };
+
+    ghost view = { λ b. blocks_of b.spans.entries };
+
+    ghost invariant = { λ b. IsSpans b.spans.entries };
+}
+
+impl Blocks {
+    /// No block. It takes no memory.
+    pub fn new(alloc: Global) -> Blocks
+        ensures { result ≡ empty }
+    {
+        Blocks {
+            alloc,
+            spans: BTreeMap::new(alloc),
+        }
+    }
+
+    /// Appends n bytes of a file from an offset on, which lie in one span.
+    pub fn read(&self, fileid: u64, offset: u64, n: usize, into: &mut Vec<u8>)
+        requires span { offset % span_bytes + n ≤ span_bytes }
+        requires room { vec_len into.old + n ≤ vec_capacity into.old }
+        ensures bytes { into.new.items ≡ into.old.items ++ blocks_read self.now fileid offset n }
+        ensures capacity { vec_capacity into.old ≤ vec_capacity into.new }
+    {
+        match self.spans.get(&(fileid, offset / SPAN_BYTES)) {
+            Some(span) => span.read(offset, n, into),
+            None => put_zeros(into, n),
+        }
+    }
+
+    /// Writes bytes at an offset of a file, which lie in one span, where each of their blocks is
+    /// filled, and tells whether it did.
+    pub fn overwrite(&mut self, fileid: u64, offset: u64, written: &[u8]) -> bool
+        requires some { 0 < length written.now }
+        requires span { offset % span_bytes + length written.now ≤ span_bytes }
+        ensures answer { result ≡ list_all (λ b. is_some (get self.old (fileid, b)))
+            (blocks_met offset (length written.now)) }
+        ensures written { IsTrue result → self.new
+            ≡ map_values (file_mapped (byte_written offset written.now) fileid) self.old }
+        ensures kept { result ≡ false → self.new ≡ self.old }
+        ensures long { IsLong self.new }
+    {
+        overwrite_in(&mut self.spans, fileid, offset, written)
+    }
+
+    /// Fills a block with zeros.
+    pub fn insert(&mut self, fileid: u64, block: u64, number: BlockNumber) -> Result<(), AllocError>
+        ensures ok { OnOk result
+            (self.new ≡ insert self.old (fileid, block) (zero_block number.0)) }
+        ensures err { OnErr result (self.new ≡ self.old) }
+        ensures long { IsLong self.new }
+    {
+        let zeros = Block::zero(self.alloc, number)?;
+        insert_in(&mut self.spans, self.alloc, fileid, block, zeros)
+    }
+
+    /// Takes a file's first block that lies wholly past a size, and tells its number. Where there
+    /// is none it zeroes the rest of the block in which the size lies.
+    pub fn cut(&mut self, fileid: u64, size: u64) -> Option<BlockNumber>
+        ensures freed { IfSome result
+            (λ n. numbers_past fileid size self.old ≡ n.0 ∷ numbers_past fileid size self.new) }
+        ensures rest { IfSome result
+            (λ _. cut_blocks fileid size self.new ≡ cut_blocks fileid size self.old) }
+        ensures none { IfNone result (numbers_past fileid size self.old ≡ []) }
+        ensures done { IfNone result (self.new ≡ cut_blocks fileid size self.old) }
+        ensures long { IsLong self.new }
+    {
+        match take_from(&mut self.spans, fileid, size.div_ceil(BLOCK_BYTES)) {
+            Some(block) => Some(block.number()),
+            None => {
+                zero_tail(&mut self.spans, fileid, size);
+                None
+            }
+        }
+    }
+}
