@@ -11,6 +11,7 @@ pub mod Lenses
 pub mod Promises
 pub mod Sets
 pub mod Calls
+pub mod Changes
 pub mod Opening
 pub mod Commute
 pub mod Laws

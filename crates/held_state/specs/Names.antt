@@ -29,9 +29,9 @@ abbrev pub size_in : InodeKind → Option ℕ
 size_in (RegularFile size filled verifier) = Some size
 size_in (Folder parent subdirectories) = None
 
-abbrev pub parent_kept : InodeKind → Option ℕ
-parent_kept (RegularFile size filled verifier) = None
-parent_kept (Folder parent subdirectories) = Some parent
+abbrev pub parent_in : InodeKind → Option ℕ
+parent_in (RegularFile size filled verifier) = None
+parent_in (Folder parent subdirectories) = Some parent
 
 abbrev pub subdirectories_in : InodeKind → Option ℕ
 subdirectories_in (RegularFile size filled verifier) = None
@@ -45,7 +45,7 @@ size_of (Some inode) = size_in inode.kind
 -- the parent of a directory that is there
 abbrev pub parent_directory : Option Inode → Option ℕ
 parent_directory None = None
-parent_directory (Some inode) = parent_kept inode.kind
+parent_directory (Some inode) = parent_in inode.kind
 
 -- how many subdirectories the inode of a directory says that it has
 abbrev pub subdirectories_of : Option Inode → Option ℕ

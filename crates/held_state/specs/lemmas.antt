@@ -11,3 +11,8 @@ pub mod Kinds
 pub mod Mapped
 pub mod Counted
 pub mod Limits
+pub mod Known
+pub mod Getting
+pub mod Kept
+pub mod Setting
+pub mod Setattr

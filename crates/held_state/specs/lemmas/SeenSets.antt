@@ -40,7 +40,7 @@ third a b c d e f r q h =
     let two = way-step b e (c ∷ r) (f ∷ q) one.1 in
     way-step c f r q two.1
 
-fourth : (a b c i d e f k : ℕ) → begins (a ∷ b ∷ c ∷ i ∷ []) (d ∷ e ∷ f ∷ k ∷ []) ≡ true → i ≡ k
+pub fourth : (a b c i d e f k : ℕ) → begins (a ∷ b ∷ c ∷ i ∷ []) (d ∷ e ∷ f ∷ k ∷ []) ≡ true → i ≡ k
 fourth a b c i d e f k h = (way-step i k [] [] (third a b c d e f (i ∷ []) (k ∷ []) h).1).0
 
 -- a node whose way goes on from a's is under a
