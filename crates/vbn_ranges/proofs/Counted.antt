@@ -6,7 +6,7 @@ use lib.Count.{ones}
 use lib.Lanes.{sum_l, fold_l, Steps}
 use Rattle.std.proofs.lemmas.Simd.{sum_fits, fold-sum}
 use Rattle.vbn_ranges.specs.Words.{members}
-use Rattle.vbn_ranges.proofs.Rising.{Rising, rising-bounds}
+use Rattle.vbn_ranges.proofs.Rising.{Rising}
 use Rattle.vbn_ranges.proofs.Bits.{members-count, members-rising}
 
 pub rising-length : (low high : ℕ) (bs : List ℕ) → Rising low high bs → low + length bs ≤ high
@@ -37,5 +37,5 @@ pub sum-is : (first : ℕ) (words : List ℕ) → length words ≡ 16 → ((k : 
 sum-is first words n l =
     let is = members-count first words l in
     let sum : fold_l (λ s x. s + x) 0 (map (λ n. n) (map ones (take 16 words))) ≡ 0 + sum_l (map ones words) =
-        ap (fold_l (λ s x. s + x) 0) (lanes words n) ∙ fold-sum 0 (map ones words) in
+    ap (fold_l (λ s x. s + x) 0) (lanes words n) ∙ fold-sum 0 (map ones words) in
     omega arith

@@ -1,7 +1,7 @@
 -- How many numbers are dead, and the batch of the lowest.
 use Rattle.std.proofs.Common.{◌≡◌, refl, sym, ap, subst, ◌∙◌, ℕ, zero, suc, ◌+◌, ◌-◌, ◌*◌, ◌/◌, ◌<◌, ◌≤◌, Bool, true, false, not, ◌||◌, ◌&&◌, nat_eq, cond}
-use Rattle.std.proofs.Common.{List, [], ◌∷◌, ◌++◌, length, take, drop, min, map, get_or, Option, Some, None, ◌⊎◌, inl, inr, ⊎_elim, add-zero, arith}
-use Rattle.std.specs.List.{list_any, filter, range_with_len, slice_get}
+use Rattle.std.proofs.Common.{List, [], ◌∷◌, ◌++◌, length, take, drop, min, map, get_or, Option, Some, None, ◌⊎◌, inl, inr, ⊎_elim, arith}
+use Rattle.std.specs.List.{filter, range_with_len, slice_get}
 use Rattle.std.specs.Ordering.{nat_cmp, eq_by_cmp}
 use Rattle.std.specs.Cmp.{nat_cmp_total}
 use Rattle.std.specs.FinSet as sets
@@ -96,14 +96,14 @@ len-without low high [] s h c = let same = ap len (without-none s) in omega arit
 len-without low high (b ∷ bs) s h c =
     let rest = len-without (b + 1) high bs s h.1 (λ q t. c q (ap (λ u. nat_eq b q || u) t ∙ or-true (nat_eq b q))) in
     let there : contains (without_numbers bs s) b ≡ true =
-        contains-difference nat_cmp_total s (from_list bs) b
-        ∙ (λ i. c b (in-head b bs b refl) i && not (contains-from_list_nat bs b i))
-        ∙ ap not (not-below (b + 1) high bs b h.1 (omega arith)) in
+    contains-difference nat_cmp_total s (from_list bs) b
+    ∙ (λ i. c b (in-head b bs b refl) i && not (contains-from_list_nat bs b i))
+    ∙ ap not (not-below (b + 1) high bs b h.1 (omega arith)) in
     let some = some-len (without_numbers bs s) b there in
     let less : len (without_numbers (b ∷ bs) s) ≡ len (without_numbers bs s) - 1 =
-        ap len (without-more b bs s)
-        ∙ len-remove nat_cmp_total (without_numbers bs s) b
-        ∙ ap (λ t. cond t (len (without_numbers bs s) - 1) (len (without_numbers bs s))) there in
+    ap len (without-more b bs s)
+    ∙ len-remove nat_cmp_total (without_numbers bs s) b
+    ∙ ap (λ t. cond t (len (without_numbers bs s) - 1) (len (without_numbers bs s))) there in
     omega arith
 
 -- ---- what is taken
@@ -117,7 +117,8 @@ rising-dead : (n : ℕ) (marks : List MarksValue) → (h : ℕ) × Rising 0 h (l
 rising-dead n [] = (0, omega arith)
 rising-dead n (m ∷ marks) = rising-filled (lowest_marked n m) (map (lowest_marked n) marks) _ _ (lowest-rising n m) (rising-dead n marks)
 
-in-filled : (x : List ℕ) (rest : List (List ℕ)) (q : ℕ) → is_in (first_filled (x ∷ rest)) q ≡ true → (is_in x q ≡ true) ⊎ (is_in (first_filled rest) q ≡ true)
+in-filled : (x : List ℕ) (rest : List (List ℕ)) (q : ℕ) → is_in (first_filled (x ∷ rest)) q ≡ true
+    → (is_in x q ≡ true) ⊎ (is_in (first_filled rest) q ≡ true)
 in-filled [] rest q t = inr t
 in-filled (b ∷ bs) rest q t = inl t
 
@@ -129,7 +130,8 @@ in-dead n (m ∷ marks) q t =
     (λ e. ap (λ u. contains m.set q || u) (in-dead n marks q e) ∙ or-true (contains m.set q))
     (in-filled (lowest_marked n m) (map (lowest_marked n) marks) q t)
 
-pub len-taken : (n : ℕ) (marks : List MarksValue) → len (without_numbers (lowest_dead n marks) (all_of marks)) + length (lowest_dead n marks) ≡ len (all_of marks)
+pub len-taken : (n : ℕ) (marks : List MarksValue)
+    → len (without_numbers (lowest_dead n marks) (all_of marks)) + length (lowest_dead n marks) ≡ len (all_of marks)
 len-taken n marks = let r = rising-dead n marks in len-without 0 r.0 (lowest_dead n marks) (all_of marks) r.1 (in-dead n marks)
 
 -- ---- the batch
@@ -141,7 +143,8 @@ filter-agree p r (suc n) low high e a =
     λ i. cond (a low (omega arith) (omega arith) i) (low ∷ filter-agree p r n (low + 1) high (omega arith) (λ q l u. a q (omega arith) u) i)
     (filter-agree p r n (low + 1) high (omega arith) (λ q l u. a q (omega arith) u) i)
 
-in-range-agree : (range : ℕ) (s t : FinSet nat_cmp) → ((q : ℕ) → q / range_blocks ≡ range → contains s q ≡ contains t q) → in_range range s ≡ in_range range t
+in-range-agree : (range : ℕ) (s t : FinSet nat_cmp) → ((q : ℕ) → q / range_blocks ≡ range → contains s q ≡ contains t q)
+    → in_range range s ≡ in_range range t
 unfolding in_range
 in-range-agree range s t a =
     filter-agree (contains s) (contains t) range_blocks (range_blocks * range) (range_blocks * range + range_blocks) refl (λ q l u. a q (omega arith))
@@ -154,9 +157,9 @@ batches n whole from (m ∷ marks) h a =
     let k = min n most_carried in
     let number = h.0 in
     (λ i. take k (in-range-agree from whole m.set (λ q e. a 0 m q (omega arith) (omega arith)) i)
-      ∷ map (λ r. take k (in_range r whole)) (range_with_len (from + 1) (length marks)))
+    ∷ map (λ r. take k (in_range r whole)) (range_with_len (from + 1) (length marks)))
     ∙ (λ i. take k (in_range (sym number i) m.set)
-      ∷ batches n whole (from + 1) marks h.1.1 (λ j d q l e. a (suc j) d q (omega arith) (omega arith)) i)
+    ∷ batches n whole (from + 1) marks h.1.1 (λ j d q l e. a (suc j) d q (omega arith) (omega arith)) i)
 
 lowest-of-is : (n : ℕ) (marks : List MarksValue) → AreNumbered 0 marks → length marks ≡ most_ranges → lowest_of n (all_of marks) ≡ lowest_dead n marks
 unfolding lowest_of
@@ -203,14 +206,15 @@ still-dead n count old new blocks h t =
       all_ranges = t.size ∙ h.all_ranges;
       numbered = t.numbered;
       counted =
-        let all = len-taken n old in
-        let counted = h.counted in
-        let size = ap length t.batch in
-        let left = ap len t.left in
-        omega arith;
+          let all = len-taken n old in
+          let counted = h.counted in
+          let size = ap length t.batch in
+          let left = ap len t.left in
+          omega arith;
     })
 
-pub lowest-taken-is : (n count : ℕ) (old new : List MarksValue) (blocks : List ℕ) → AreDead old count → TakenFrom n old new blocks → blocks ≡ lowest_of n (all_of old)
+pub lowest-taken-is : (n count : ℕ) (old new : List MarksValue) (blocks : List ℕ) → AreDead old count → TakenFrom n old new blocks
+    → blocks ≡ lowest_of n (all_of old)
 lowest-taken-is n count old new blocks h t = t.batch ∙ sym (lowest-of-is n old h.numbered h.all_ranges)
 
 pub lowest-left : (n count : ℕ) (old new : List MarksValue) (blocks : List ℕ) → AreDead old count → TakenFrom n old new blocks
@@ -227,7 +231,8 @@ first-of-filled : (xs : List ℕ) (a b : List (List ℕ)) → first_of (first_fi
 first-of-filled [] a b e = e
 first-of-filled (x ∷ xs) a b e = refl
 
-first-of-ranges : (f : ℕ → List ℕ) (rs : List ℕ) → first_of (first_filled (map (λ r. take 1 (f r)) rs)) ≡ first_of (first_filled (map (λ r. take 64 (f r)) rs))
+first-of-ranges : (f : ℕ → List ℕ) (rs : List ℕ)
+    → first_of (first_filled (map (λ r. take 1 (f r)) rs)) ≡ first_of (first_filled (map (λ r. take 64 (f r)) rs))
 first-of-ranges f [] = refl
 first-of-ranges f (r ∷ rs) = first-of-filled (f r) (map (λ r. take 1 (f r)) rs) (map (λ r. take 64 (f r)) rs) (first-of-ranges f rs)
 
@@ -277,6 +282,7 @@ filter-keeps p (suc n) low q l u e =
   where
     rest : List ℕ
     rest = filter p (range_with_len (low + 1) n)
+
     later : (t : Bool) → is_in rest q ≡ true → is_in (cond t (low ∷ rest) rest) q ≡ true
     later true i = ap (λ u. nat_eq low q || u) i ∙ or-true (nat_eq low q)
     later false i = i
@@ -298,11 +304,11 @@ unfolding lowest_of
 none-lowest set v e =
     same_set nat_cmp_total nat_cmp-IsAntisymmetric _ _
     (λ q. if-never (contains set q)
-      (λ t.
-        let low = v.below q t in
-        let none = none-taken (in_range (q / range_blocks) set)
-            (none-of-range (λ r. take 1 (in_range r set)) most_ranges 0 (q / range_blocks) (omega arith) (omega arith) (no-first (lowest_of 1 set) e)) in
-        not-both _ (there set q t) (ap (λ (bs : List ℕ). is_in bs q) none))
+    (λ t.
+    let low = v.below q t in
+    let none = none-taken (in_range (q / range_blocks) set)
+    (none-of-range (λ r. take 1 (in_range r set)) most_ranges 0 (q / range_blocks) (omega arith) (omega arith) (no-first (lowest_of 1 set) e)) in
+    not-both _ (there set q t) (ap (λ (bs : List ℕ). is_in bs q) none))
     ∙ sym (contains-empty nat_cmp q))
 
 -- ---- the first of a batch
@@ -330,10 +336,12 @@ never-first : (bs : List ℕ) → ((q : ℕ) → is_in bs q ≡ true → ⊥) �
 never-first [] h = refl
 never-first (b ∷ bs) h = absurd (h b (in-head b bs b refl))
 
-pub empty-first : (marks : List MarksValue) (count : ℕ) → AreDead marks count → count ≡ 0 → (all_of marks ≡ sets.empty) × (None ≡ first_of (lowest_batch (all_of marks)))
+pub empty-first : (marks : List MarksValue) (count : ℕ) → AreDead marks count → count ≡ 0
+    → (all_of marks ≡ sets.empty) × (None ≡ first_of (lowest_batch (all_of marks)))
 empty-first marks count h z =
-    let none : all_of marks ≡ sets.empty = empty_of_len (all_of marks) (sym h.counted ∙ z) in
-    (none,
-     sym (ap first_of (sym (lowest-batch-is (all_of marks)) ∙ lowest-of-is 64 marks h.numbered h.all_ranges)
-     ∙ never-first (lowest_dead 64 marks)
-     (λ q t. not-both _ (in-dead 64 marks q t) (ap (λ s. contains s q) none ∙ contains-empty nat_cmp q))))
+    let none : all_of marks ≡ sets.empty = empty_of_len (all_of marks) (sym h.counted ∙ z) in (
+      none,
+      sym (ap first_of (sym (lowest-batch-is (all_of marks)) ∙ lowest-of-is 64 marks h.numbered h.all_ranges)
+          ∙ never-first (lowest_dead 64 marks)
+          (λ q t. not-both _ (in-dead 64 marks q t) (ap (λ s. contains s q) none ∙ contains-empty nat_cmp q))),
+    )

@@ -1,23 +1,22 @@
 -- No dead blocks, and one more.
-use Rattle.std.proofs.Common.{◌≡◌, refl, sym, ap, subst, ◌∙◌, ℕ, zero, suc, ◌+◌, ◌*◌, ◌/◌, ◌<◌, ◌≤◌, ◌^◌, Bool, true, false, ◌||◌, nat_eq}
+use Rattle.std.proofs.Common.{◌≡◌, refl, sym, ap, subst, ◌∙◌, ℕ, zero, suc, ◌+◌, ◌*◌, ◌/◌, ◌<◌, ◌≤◌, Bool, true, false, ◌||◌, nat_eq}
 use Rattle.std.proofs.Common.{List, [], ◌∷◌, ◌++◌, length, map, get_or, ◌⊎◌, inl, inr, ⊎_elim, zero-add, add-zero, arith}
 use Rattle.std.proofs.Math.ListN.{set}
 use Rattle.std.proofs.lemmas.List.{set-get_or, length-set}
-use Rattle.std.proofs.lemmas.Bool.{cases_lt}
 use Rattle.std.specs.List.{filter, range_with_len}
 use Rattle.std.specs.Ordering.{nat_cmp}
 use Rattle.std.specs.Cmp.{nat_cmp_total}
 use Rattle.std.specs.FinSet as sets
-use Rattle.std.specs.FinSet.{FinSet, contains, union, len, from_list, len-empty, contains-empty, contains-union, contains-from_list_nat, same_set, nat_cmp-IsAntisymmetric}
+use Rattle.std.specs.FinSet.{FinSet, contains, union, len, from_list, len-empty, contains-empty, contains-union, contains-from_list_nat}
+use Rattle.std.specs.FinSet.{same_set, nat_cmp-IsAntisymmetric}
 use borrow.Author.Tests.{eqb-true}
 use Rattle.nfs_model.specs.Parts.{range_blocks, most_ranges}
-use Rattle.volume_values.specs.Ranges.{with_numbers, IsOfVolume}
+use Rattle.volume_values.specs.Ranges.{with_numbers}
 use Rattle.vbn_ranges.specs.Marks.{MarksValue, IsMarks, no_marks, marked}
-use Rattle.vbn_ranges.specs.Dead.{all_of, AreNumbered, AreDead}
-use Rattle.vbn_ranges.proofs.Rising.{is_in, Rising, ascending}
+use Rattle.vbn_ranges.specs.Dead.{all_of, AreDead}
+use Rattle.vbn_ranges.proofs.Rising.{is_in, ascending}
 use Rattle.vbn_ranges.proofs.Counted.{rising-length}
 use Rattle.vbn_ranges.proofs.Stocked.{ascending-apart, len-apart}
-use Rattle.vbn_ranges.proofs.Ranged.{not-both}
 use Rattle.vbn_ranges.proofs.DeadSets.{in-all, of-volume, numbered-at, numbered-set, none-numbered, all-marked-more, filter-rises, filter-in}
 use Rattle.vbn_ranges.proofs.DeadCounts.{len-with, with-same, filter-keeps}
 
@@ -62,10 +61,10 @@ few-below n s h =
     let rises = filter-rises (contains s) n 0 n (omega arith) in
     let few = rising-length 0 n bs rises in
     let is : s ≡ from_list bs =
-        same_set nat_cmp_total nat_cmp-IsAntisymmetric _ _
-        (λ q. same-if (contains s q) (is_in bs q) (λ t. let low = h q t in filter-keeps (contains s) n 0 q (omega arith) (omega arith) t)
-        (filter-in (contains s) (range_with_len 0 n) q)
-        ∙ sym (contains-from_list_nat bs q)) in
+    same_set nat_cmp_total nat_cmp-IsAntisymmetric _ _
+    (λ q. same-if (contains s q) (is_in bs q) (λ t. let low = h q t in filter-keeps (contains s) n 0 q (omega arith) (omega arith) t)
+    (filter-in (contains s) (range_with_len 0 n) q)
+    ∙ sym (contains-from_list_nat bs q)) in
     let size = ap len is in
     let long = len-apart bs (ascending-apart bs (ascending 0 n bs rises)) in
     omega arith
@@ -91,12 +90,18 @@ marks-at marks count block m h l e =
     let size = h.all_ranges in
     let there : block / range_blocks < length marks = omega arith in
     let at = numbered-at 0 (block / range_blocks) marks m h.numbered there in
-    record { there = there; range = sym (ap (λ (x : MarksValue). x.range) e ∙ at.0 ∙ zero-add (block / range_blocks)); same = e; marks_of = subst IsMarks (sym e) at.1 }
+    record {
+      there = there;
+      range = sym (ap (λ (x : MarksValue). x.range) e ∙ at.0 ∙ zero-add (block / range_blocks));
+      same = e;
+      marks_of = subst IsMarks (sym e) at.1;
+    }
 
 marked-at : (marks : List MarksValue) (count block : ℕ) (m : MarksValue) → AreDead marks count → IsMarksOf marks block m
     → contains (all_of marks) block ≡ contains m.set block
 marked-at marks count block m h o =
-    in-all 0 (block / range_blocks) marks m block h.numbered o.there (sym (zero-add (block / range_blocks))) ∙ ap (λ (x : MarksValue). contains x.set block) (sym o.same)
+    in-all 0 (block / range_blocks) marks m block h.numbered o.there (sym (zero-add (block / range_blocks)))
+    ∙ ap (λ (x : MarksValue). contains x.set block) (sym o.same)
 
 all-with : (marks : List MarksValue) (block : ℕ) (m new : MarksValue) → IsMarksOf marks block m → new ≡ marked (block ∷ []) m
     → all_of (set marks (block / range_blocks) new) ≡ with_numbers (block ∷ []) (all_of marks)
@@ -112,9 +117,11 @@ one-marked block m e h b t =
     either : (x y : Bool) → (x || y) ≡ true → (x ≡ true) ⊎ (y ≡ true)
     either true y e = inl refl
     either false y e = inr e
+
     or-false : (x : Bool) → (x || false) ≡ x
     or-false true = refl
     or-false false = refl
+
     only : contains {R = nat_cmp} (from_list (block ∷ [])) b ≡ true → block ≡ b
     only is = eqb-true block b (sym (contains-from_list_nat (block ∷ []) b ∙ or-false (nat_eq block b)) ∙ is)
 
@@ -123,12 +130,13 @@ pub one-dead : (marks : List MarksValue) (count block : ℕ) (m new : MarksValue
 one-dead marks count block m new h o e absent =
     record {
       all_ranges = length-set marks (block / range_blocks) new ∙ h.all_ranges;
-      numbered = numbered-set 0 (block / range_blocks) marks new h.numbered (ap (λ (x : MarksValue). x.range) e ∙ sym o.range ∙ sym (zero-add (block / range_blocks)))
+      numbered = numbered-set 0 (block / range_blocks) marks new h.numbered
+          (ap (λ (x : MarksValue). x.range) e ∙ sym o.range ∙ sym (zero-add (block / range_blocks)))
           (subst IsMarks (sym e) (one-marked block m o.range o.marks_of));
       counted =
-        let more = ap len (all-with marks block m new o e) ∙ len-with block (all_of marks) (marked-at marks count block m h o ∙ absent) in
-        let counted = h.counted in
-        omega arith;
+          let more = ap len (all-with marks block m new o e) ∙ len-with block (all_of marks) (marked-at marks count block m h o ∙ absent) in
+          let counted = h.counted in
+          omega arith;
     }
 
 pub dead-with : (marks : List MarksValue) (block : ℕ) (m new : MarksValue) → IsMarksOf marks block m → new ≡ marked (block ∷ []) m

@@ -1,25 +1,22 @@
 -- The marks of all ranges as one set.
-use Rattle.std.proofs.Common.{◌≡◌, refl, sym, ap, subst, ◌∙◌, ℕ, zero, suc, ◌+◌, ◌-◌, ◌*◌, ◌/◌, ◌<◌, ◌≤◌, Bool, true, false, not, ◌||◌, ◌&&◌, nat_eq, cond}
-use Rattle.std.proofs.Common.{List, [], ◌∷◌, ◌++◌, length, take, drop, map, get_or, Option, Some, None, min, ◌⊎◌, inl, inr, ⊎_elim, add-zero, arith}
+use Rattle.std.proofs.Common.{◌≡◌, refl, sym, ap, subst, ◌∙◌, ℕ, zero, suc, ◌+◌, ◌*◌, ◌/◌, ◌<◌, ◌≤◌, Bool, true, false, not, ◌||◌, ◌&&◌, nat_eq, cond}
+use Rattle.std.proofs.Common.{List, [], ◌∷◌, ◌++◌, length, drop, map, get_or, min, ◌⊎◌, inl, inr, ⊎_elim, arith}
 use Rattle.std.proofs.Math.ListN.{set}
-use Rattle.std.specs.List.{AllByRecursion, list_any, filter, range_with_len}
+use Rattle.std.specs.List.{filter, range_with_len}
 use Rattle.std.specs.Ordering.{nat_cmp}
 use Rattle.std.specs.Cmp.{nat_cmp_total}
-use Rattle.std.specs.FinSet as sets
-use Rattle.std.specs.FinSet.{FinSet, contains, union, len, from_list, remove, insert, contains-remove, contains-insert, len-remove, len-insert, empty_of_len}
-use Rattle.std.specs.FinSet.{contains-empty, contains-union, contains-difference, contains-from_list_nat, same_set, nat_cmp-IsAntisymmetric, len-empty}
+use Rattle.std.specs.FinSet.{FinSet, contains, union, from_list}
+use Rattle.std.specs.FinSet.{contains-empty, contains-union, contains-difference, contains-from_list_nat, same_set, nat_cmp-IsAntisymmetric}
 use Rattle.std.proofs.lemmas.Bool.{cases_lt}
-use Rattle.std.proofs.lemmas.Bool.Decides.{nat_tests}
 use Rattle.std.proofs.lemmas.List.{take-append-drop}
 use Rattle.std.proofs.lemmas.List.Folds.{list_any-append}
 use borrow.Author.Tests.{eqb-true}
-use Rattle.nfs_model.specs.Parts.{range_blocks, most_carried, most_ranges}
-use Rattle.nfs_model.specs.Moves.{in_range, batch, first_filled, lowest_batch}
+use Rattle.nfs_model.specs.Parts.{range_blocks, most_carried}
+use Rattle.nfs_model.specs.Moves.{in_range, first_filled}
 use Rattle.volume_values.specs.Ranges.{with_numbers, without_numbers, IsOfVolume}
-use Rattle.vbn_ranges.specs.Batch.{first_of}
 use Rattle.vbn_ranges.specs.Marks.{MarksValue, no_marks, lowest_marked, marked, unmarked, IsMarks}
 use Rattle.vbn_ranges.specs.Dead.{all_of, AreNumbered, AreDead, lowest_dead}
-use Rattle.vbn_ranges.proofs.Rising.{is_in, Rising, rising-weaker, rising-front, rising-bounds, in-head, in-tail, not-below, within-rising}
+use Rattle.vbn_ranges.proofs.Rising.{is_in, Rising, rising-weaker, rising-front, within-rising}
 use Rattle.vbn_ranges.proofs.Ranged.{not-both}
 
 -- ---- which numbers are there
@@ -41,7 +38,8 @@ below-all from (m ∷ marks) q h l =
     in-union m marks q
     ∙ (λ i. elsewhere m q h.1.0 (λ e. omega arith) i || below-all (from + 1) marks q h.1.1 (omega arith) i)
 
-above-all : (from : ℕ) (marks : List MarksValue) (q : ℕ) → AreNumbered from marks → from + length marks ≤ q / range_blocks → contains (all_of marks) q ≡ false
+above-all : (from : ℕ) (marks : List MarksValue) (q : ℕ) → AreNumbered from marks → from + length marks ≤ q / range_blocks
+    → contains (all_of marks) q ≡ false
 above-all from [] q h l = contains-empty nat_cmp q
 above-all from (m ∷ marks) q h l =
     let number = h.0 in
@@ -65,8 +63,8 @@ in-all from (suc i) (m ∷ marks) d q h l e =
 pub of-volume : (marks : List MarksValue) (count : ℕ) → AreDead marks count → IsOfVolume (all_of marks)
 of-volume marks count h = record {
   below = λ b t.
-    ⊎_elim (λ l. omega arith)
-    (λ l. let size = h.all_ranges in absurd (not-both _ t (above-all 0 marks b h.numbered (omega arith)))) (cases_lt (b / range_blocks) 16);
+      ⊎_elim (λ l. omega arith)
+      (λ l. let size = h.all_ranges in absurd (not-both _ t (above-all 0 marks b h.numbered (omega arith)))) (cases_lt (b / range_blocks) 16);
 }
 
 -- ---- the marks of one range
@@ -77,7 +75,8 @@ numbered-at from i [] d h l = absurd (omega arith)
 numbered-at from zero (m ∷ marks) d h l = (let number = h.0 in omega arith, h.1.0)
 numbered-at from (suc i) (m ∷ marks) d h l = let r = numbered-at (from + 1) i marks d h.1.1 (omega arith) in (let number = r.0 in omega arith, r.1)
 
-pub numbered-set : (from i : ℕ) (marks : List MarksValue) (m : MarksValue) → AreNumbered from marks → m.range ≡ from + i → IsMarks m → AreNumbered from (set marks i m)
+pub numbered-set : (from i : ℕ) (marks : List MarksValue) (m : MarksValue) → AreNumbered from marks → m.range ≡ from + i → IsMarks m
+    → AreNumbered from (set marks i m)
 numbered-set from i [] m h e k = tt
 numbered-set from zero (x ∷ marks) m h e k = (omega arith, (k, h.1.1))
 numbered-set from (suc i) (x ∷ marks) m h e k = (h.0, (h.1.0, numbered-set (from + 1) i marks m h.1.1 (omega arith) k))
@@ -191,6 +190,7 @@ filter-in p (x ∷ xs) q t = by (p x) refl (filter-in p xs q) t
     either : (a b : Bool) → (a || b) ≡ true → (a ≡ true) ⊎ (b ≡ true)
     either true b e = inl refl
     either false b e = inr e
+
     by : (s : Bool) → p x ≡ s → (is_in (filter p xs) q ≡ true → p q ≡ true) → is_in (cond s (x ∷ filter p xs) (filter p xs)) q ≡ true → p q ≡ true
     by true e r t = ⊎_elim (λ is. subst (λ (n : ℕ). p n ≡ true) (eqb-true x q is) e) r (either (nat_eq x q) (is_in (filter p xs) q) t)
     by false e r t = r t
@@ -216,7 +216,8 @@ pub lowest-in : (n : ℕ) (m : MarksValue) (q : ℕ) → is_in (lowest_marked n 
 lowest-in n m q t =
     let k = min n most_carried in
     in-range-in m q
-    (subst (λ (bs : List ℕ). is_in bs q ≡ true) (take-append-drop k (in_range m.range m.set)) (in-front (lowest_marked n m) (drop k (in_range m.range m.set)) q t))
+    (subst (λ (bs : List ℕ). is_in bs q ≡ true) (take-append-drop k (in_range m.range m.set))
+    (in-front (lowest_marked n m) (drop k (in_range m.range m.set)) q t))
 
 pub lowest-of : (n : ℕ) (m : MarksValue) (q : ℕ) → is_in (lowest_marked n m) q ≡ true → q / range_blocks ≡ m.range
 lowest-of n m q t =
@@ -244,7 +245,8 @@ filled-some (b ∷ bs) rest h = refl
 filled-none : (x : List ℕ) (rest : List (List ℕ)) → x ≡ [] → first_filled (x ∷ rest) ≡ first_filled rest
 filled-none x rest e = ap (λ (y : List ℕ). first_filled (y ∷ rest)) e
 
-pub lowest-here : (n k : ℕ) (marks : List MarksValue) (d : MarksValue) → EmptyBefore n k marks → k < length marks → (lowest_marked n (get_or marks k d) ≡ [] → ⊥)
+pub lowest-here : (n k : ℕ) (marks : List MarksValue) (d : MarksValue) → EmptyBefore n k marks → k < length marks
+    → (lowest_marked n (get_or marks k d) ≡ [] → ⊥)
     → lowest_dead n marks ≡ lowest_marked n (get_or marks k d)
 lowest-here n k [] d h l e = absurd (omega arith)
 lowest-here n zero (m ∷ marks) d h l e = filled-some (lowest_marked n m) (map (lowest_marked n) marks) e

@@ -1,5 +1,5 @@
 -- The lowest of the ranges taken.
-use Rattle.std.proofs.Common.{◌≡◌, refl, sym, ap, subst, ◌∙◌, ℕ, zero, suc, ◌+◌, ◌<◌, ◌≤◌, Bool, true, false, ◌==◌, List, [], ◌∷◌, length, get_or, arith}
+use Rattle.std.proofs.Common.{◌≡◌, refl, sym, ap, subst, ◌∙◌, ℕ, suc, ◌<◌, ◌≤◌, true, false, ◌==◌, List, [], ◌∷◌, length, get_or, arith}
 use Rattle.std.proofs.Math.ListN.{set}
 use Rattle.std.proofs.lemmas.List.{set-get_or}
 use Rattle.std.proofs.lemmas.Bool.Decides.{nat_tests}
@@ -28,14 +28,16 @@ taken-here n i marks old d new blocks s h empty l b e some =
     let m = get_or marks i d in
     let numbered = subst (AreNumbered 0) (sym s) h in
     let at = numbered-at 0 i marks d numbered l in
-    let here : lowest_dead n old ≡ lowest_marked n m = ap (lowest_dead n) (sym s) ∙ lowest-here n i marks d empty l (not-empty blocks (lowest_marked n m) b some) in
+    let here : lowest_dead n old ≡ lowest_marked n m =
+    ap (lowest_dead n) (sym s) ∙ lowest-here n i marks d empty l (not-empty blocks (lowest_marked n m) b some) in
     record {
       batch = b ∙ sym here;
       left =
-        ap (λ (x : MarksValue). all_of (set marks i x)) e
-        ∙ all-marked-less 0 i marks d (lowest_marked n m) numbered l (λ q t. lowest-of n m q t ∙ at.0)
-        ∙ (λ j. without_numbers (sym here j) (all_of (s j)));
-      numbered = numbered-set 0 i marks new numbered (ap (λ (x : MarksValue). x.range) e ∙ at.0) (subst IsMarks (sym e) (still-marks (lowest_marked n m) m at.1));
+          ap (λ (x : MarksValue). all_of (set marks i x)) e
+          ∙ all-marked-less 0 i marks d (lowest_marked n m) numbered l (λ q t. lowest-of n m q t ∙ at.0)
+          ∙ (λ j. without_numbers (sym here j) (all_of (s j)));
+      numbered = numbered-set 0 i marks new numbered (ap (λ (x : MarksValue). x.range) e ∙ at.0)
+          (subst IsMarks (sym e) (still-marks (lowest_marked n m) m at.1));
     }
 
 none-left : (m : MarksValue) → unmarked [] m ≡ m

@@ -1,21 +1,21 @@
 -- Words as the marks of a range.
-use Rattle.std.proofs.Common.{◌≡◌, refl, sym, ap, subst, ◌∙◌, ℕ, zero, suc, ◌+◌, ◌-◌, ◌*◌, ◌/◌, ◌%◌, ◌^◌, ◌<◌, ◌≤◌, Bool, true, false, not, ◌||◌, nat_eq, ◌==◌}
-use Rattle.std.proofs.Common.{List, [], ◌∷◌, ◌++◌, length, take, drop, replicate, ◌⊎◌, ⊎_elim, min, add-zero, zero-add, arith}
+use Rattle.std.proofs.Common.{◌≡◌, refl, sym, ap, subst, ◌∙◌, ℕ, zero, suc, ◌+◌, ◌-◌, ◌*◌, ◌/◌, ◌%◌, ◌^◌, ◌<◌, ◌≤◌, Bool, true, false}
+use Rattle.std.proofs.Common.{◌||◌, nat_eq, ◌==◌}
+use Rattle.std.proofs.Common.{List, [], ◌∷◌, ◌++◌, length, take, drop, replicate, ⊎_elim, min, add-zero, zero-add, arith}
 use Rattle.std.proofs.lemmas.List.{take-append-drop}
 use Rattle.std.proofs.lemmas.Bool.{cases_lt}
 use Rattle.std.proofs.lemmas.Bool.Decides.{nat_tests}
 use Rattle.std.proofs.lemmas.List.Folds.{list_any-append}
-use Rattle.std.specs.List.{range_with_len, list_any}
+use Rattle.std.specs.List.{range_with_len}
 use Rattle.std.specs.Ordering.{nat_cmp}
 use Rattle.std.specs.Cmp.{nat_cmp_total}
-use Rattle.std.specs.FinSet as sets
-use Rattle.std.specs.FinSet.{FinSet, contains, union, from_list, contains-union, contains-from_list_nat, same_set, nat_cmp-IsAntisymmetric}
+use Rattle.std.specs.FinSet.{FinSet, contains, from_list, contains-union, contains-from_list_nat, same_set, nat_cmp-IsAntisymmetric}
 use Rattle.nfs_model.specs.Parts.{range_blocks, most_carried}
 use Rattle.nfs_model.specs.Moves.{in_range}
-use Rattle.volume_values.specs.Ranges.{range_numbers, with_numbers, without_numbers}
+use Rattle.volume_values.specs.Ranges.{with_numbers, without_numbers}
 use Rattle.vbn_ranges.specs.Words.{bits_from, members, set_of, has_bit}
-use Rattle.vbn_ranges.specs.Marks.{MarksValue, marks_of, no_marks, all_marks, lowest_marked, marked, unmarked, IsMarks}
-use Rattle.vbn_ranges.proofs.Rising.{is_in, Rising, rising-weaker, filter-rising, not-below, within-rising, set-left}
+use Rattle.vbn_ranges.specs.Marks.{MarksValue, marks_of, no_marks, all_marks, marked, unmarked, IsMarks}
+use Rattle.vbn_ranges.proofs.Rising.{is_in, Rising, filter-rising, not-below, within-rising, set-left}
 use Rattle.vbn_ranges.proofs.Bits.{odd, bits-zero, members-rising, members-in, zero-whole}
 use lib.Pow.{pow_pos}
 use Rattle.vbn_ranges.proofs.Single.{same}
@@ -56,6 +56,7 @@ hit n place low block t e =
     here : (n place low block : ℕ) (t : Bool) → low + place ≡ block → n ≡ place → (n == place || t) ≡ (t || (nat_eq block (low + n) || false))
     here n place low block true e is = grind (arith, nat_tests)
     here n place low block false e is = grind (arith, nat_tests)
+
     there : (n place low block : ℕ) (t : Bool) → low + place ≡ block → (n ≡ place → ⊥) → (n == place || t) ≡ (t || (nat_eq block (low + n) || false))
     there n place low block true e is = grind (arith, nat_tests)
     there n place low block false e is = grind (arith, nat_tests)
@@ -72,13 +73,13 @@ inserted-at : (low place block : ℕ) (words new : List ℕ) → low + place ≡
 inserted-at low place block words new e bits q =
     ⊎_elim
     (λ l. below-hit q low block _ _ (not-below low _ (members low new) q (members-rising low _ new refl) l)
-      (not-below low _ (members low words) q (members-rising low _ words refl) l) l (omega arith))
+    (not-below low _ (members low words) q (members-rising low _ words refl) l) l (omega arith))
     (λ l.
-      let n = q - low in
-      let number : low + n ≡ q = omega arith in
-      subst (λ (k : ℕ). is_in (members low new) k ≡ (is_in (members low words) k || is_in (block ∷ []) k)) number
-      (members-in low new n ∙ bits n ∙ hit n place low block (has_bit words n) e
-      ∙ ap (λ t. t || is_in (block ∷ []) (low + n)) (sym (members-in low words n)))) (cases_lt q low)
+    let n = q - low in
+    let number : low + n ≡ q = omega arith in
+    subst (λ (k : ℕ). is_in (members low new) k ≡ (is_in (members low words) k || is_in (block ∷ []) k)) number
+    (members-in low new n ∙ bits n ∙ hit n place low block (has_bit words n) e
+    ∙ ap (λ t. t || is_in (block ∷ []) (low + n)) (sym (members-in low words n)))) (cases_lt q low)
 
 pub inserted : (range : ℕ) (words new : List ℕ) (block : ℕ) → block / range_blocks ≡ range
     → ((n : ℕ) → has_bit new n ≡ (n == block % range_blocks || has_bit words n)) → marks_of range new ≡ marked (block ∷ []) (marks_of range words)

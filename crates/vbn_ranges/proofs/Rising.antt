@@ -1,10 +1,10 @@
 -- Lists of numbers that rise within bounds, and their sets.
-use Rattle.std.proofs.Common.{◌≡◌, refl, sym, ap, subst, ◌∙◌, ℕ, zero, suc, ◌+◌, ◌*◌, ◌/◌, ◌<◌, ◌≤◌, Bool, true, false, not, ◌&&◌, ◌||◌, cond, nat_eq}
-use Rattle.std.proofs.Common.{List, [], ◌∷◌, ◌++◌, length, take, drop, ◌⊎◌, ⊎_elim, arith}
+use Rattle.std.proofs.Common.{◌≡◌, refl, sym, ap, ◌∙◌, ℕ, zero, suc, ◌+◌, ◌*◌, ◌/◌, ◌<◌, ◌≤◌, Bool, true, false, not, ◌&&◌, cond, nat_eq}
+use Rattle.std.proofs.Common.{List, [], ◌∷◌, ◌++◌, ⊎_elim, arith}
 use Rattle.std.specs.List.{AllByRecursion, list_any, filter, range_with_len}
 use Rattle.std.specs.Ordering.{nat_cmp}
 use Rattle.std.specs.Cmp.{nat_cmp_total}
-use Rattle.std.specs.FinSet.{FinSet, contains, difference, from_list, contains-difference, contains-from_list_nat, same_set}
+use Rattle.std.specs.FinSet.{from_list, contains-difference, contains-from_list_nat, same_set}
 use Rattle.std.specs.FinSet.{nat_cmp-IsAntisymmetric}
 use Rattle.std.proofs.lemmas.Bool.Decides.{nat_tests}
 use Rattle.std.proofs.lemmas.Bool.{cases_lt}
@@ -74,9 +74,10 @@ not-above low high (b ∷ bs) q h l =
     in-tail b bs q (λ e. omega arith) ∙ not-above (b + 1) high bs q h.1 l
 
 pub within-rising : (low high : ℕ) (bs : List ℕ) (q : ℕ) → Rising low high bs → is_in bs q ≡ true → (low ≤ q) × (q < high)
-within-rising low high bs q h t =
-    (⊎_elim (λ l. absurd (let n = not-below low high bs q h l in cc)) (λ l. l) (cases_lt q low),
-     ⊎_elim (λ l. l) (λ l. absurd (let n = not-above low high bs q h l in cc)) (cases_lt q high))
+within-rising low high bs q h t = (
+  ⊎_elim (λ l. absurd (let n = not-below low high bs q h l in cc)) (λ l. l) (cases_lt q low),
+  ⊎_elim (λ l. l) (λ l. absurd (let n = not-above low high bs q h l in cc)) (cases_lt q high),
+)
 
 kept-if : (p : ℕ → Bool) (q : ℕ) (bs : List ℕ) (t : Bool) → p q ≡ t → cond (p q) (q ∷ bs) bs ≡ cond t (q ∷ bs) bs
 kept-if p q bs t is = ap (λ u. cond u (q ∷ bs) bs) is
@@ -93,15 +94,15 @@ filter-rising p (suc n) low high [] s h e =
 filter-rising p (suc n) low high (b ∷ bs) s h e =
     ⊎_elim
     (λ l. kept-if p low _ false (e low (omega arith) (omega arith) ∙ not-below b high (b ∷ bs) low (omega arith, h.1) l)
-      ∙ filter-rising p n (low + 1) high (b ∷ bs) (omega arith) (omega arith, h.1) (λ q k u. e q (omega arith) u))
+    ∙ filter-rising p n (low + 1) high (b ∷ bs) (omega arith) (omega arith, h.1) (λ q k u. e q (omega arith) u))
     (λ l.
-      let a = h.0 in
-      let same : b ≡ low = omega arith in
-      kept-if p low _ true (e low (omega arith) (omega arith) ∙ in-head b bs low same)
-      ∙ ap (λ c. low ∷ c)
-      (filter-rising p n (low + 1) high bs (omega arith) (rising-weaker (b + 1) (low + 1) high bs (omega arith) h.1)
-      (λ q k u. e q (omega arith) u ∙ in-tail b bs q (λ is. omega arith)))
-      ∙ ap (λ c. c ∷ bs) (sym same)) (cases_lt low b)
+    let a = h.0 in
+    let same : b ≡ low = omega arith in
+    kept-if p low _ true (e low (omega arith) (omega arith) ∙ in-head b bs low same)
+    ∙ ap (λ c. low ∷ c)
+    (filter-rising p n (low + 1) high bs (omega arith) (rising-weaker (b + 1) (low + 1) high bs (omega arith) h.1)
+    (λ q k u. e q (omega arith) u ∙ in-tail b bs q (λ is. omega arith)))
+    ∙ ap (λ c. c ∷ bs) (sym same)) (cases_lt low b)
 
 -- ---- their sets
 
@@ -114,11 +115,14 @@ left-in low high [] cs q h = and-true (is_in cs q)
 left-in low high (b ∷ bs) cs q h =
     ⊎_elim
     (λ l. left-in (b + 1) high bs cs q h.1
-      ∙ (λ i. sym (in-tail b (bs ++ cs) q (λ e. omega arith)) i && not (sym (in-tail b bs q (λ e. omega arith)) i)))
+    ∙ (λ i. sym (in-tail b (bs ++ cs) q (λ e. omega arith)) i && not (sym (in-tail b bs q (λ e. omega arith)) i)))
     (λ l. none (not-below (b + 1) high cs q (rising-back (b + 1) high bs cs h.1) (omega arith)) l) (cases_lt b q)
   where
     none : is_in cs q ≡ false → q ≤ b → is_in cs q ≡ (is_in (b ∷ (bs ++ cs)) q && not (is_in (b ∷ bs) q))
-    none e l = e ∙ ⊎_elim (λ m. sym (ap (λ t. t && not (is_in (b ∷ bs) q)) (not-below b high (b ∷ (bs ++ cs)) q (omega arith, h.1) m))) (λ m. sym (λ i. in-head b (bs ++ cs) q (omega arith) i && not (in-head b bs q (omega arith) i))) (cases_lt q b)
+    none e l =
+        e
+        ∙ ⊎_elim (λ m. sym (ap (λ t. t && not (is_in (b ∷ bs) q)) (not-below b high (b ∷ (bs ++ cs)) q (omega arith, h.1) m)))
+        (λ m. sym (λ i. in-head b (bs ++ cs) q (omega arith) i && not (in-head b bs q (omega arith) i))) (cases_lt q b)
 
 -- taken from the front
 pub set-left : (low high : ℕ) (bs cs : List ℕ) → Rising low high (bs ++ cs)

@@ -1,5 +1,5 @@
 -- One bit of words.
-use Rattle.std.proofs.Common.{◌≡◌, refl, sym, ap, subst, ◌∙◌, ℕ, zero, suc, ◌+◌, ◌*◌, ◌/◌, ◌%◌, ◌^◌, ◌<◌, ◌≤◌, Bool, true, false, not, ◌||◌, eqb}
+use Rattle.std.proofs.Common.{◌≡◌, sym, ap, ◌∙◌, ℕ, zero, suc, ◌*◌, ◌/◌, ◌%◌, ◌^◌, ◌<◌, Bool, true, not, ◌||◌, eqb}
 use Rattle.std.proofs.Common.{List, length, get_or, ◌⊎◌, inl, inr, ⊎_elim, arith, bit_and, bit_or, w64, ◌==◌}
 use Rattle.std.proofs.Math.ListN.{set}
 use Rattle.std.specs.Int.{bit_at}
@@ -43,13 +43,13 @@ insert-is words place l n =
     let new = bit_or word (1 * 2 ^ k % 2 ^ 64) in
     ⊎_elim
     (λ e.
-      let read : get_or (set words i new) (n / 64) 0 ≡ new = ap (λ j. get_or (set words i new) j 0) e ∙ get_or-set_same words i new 0 l in
-      ap (λ w. bit_at w (n % 64) == 1) read
-      ∙ ⊎_elim
-      (λ f. ap (λ b. b == 1) (ap (bit_at new) f ∙ bit_at_set_same w64 word k (omega arith)) ∙ itself n place (has_bit words n) (omega arith))
-      (λ f. ap (λ b. b == 1) (bit_at_set_other w64 word k (omega arith) (n % 64) f)
-        ∙ ap (λ j. bit_at (get_or words j 0) (n % 64) == 1) (sym e)
-        ∙ another n place (has_bit words n) (λ is. f (ap (λ m. m % 64) is))) (same (n % 64) k))
+    let read : get_or (set words i new) (n / 64) 0 ≡ new = ap (λ j. get_or (set words i new) j 0) e ∙ get_or-set_same words i new 0 l in
+    ap (λ w. bit_at w (n % 64) == 1) read
+    ∙ ⊎_elim
+    (λ f. ap (λ b. b == 1) (ap (bit_at new) f ∙ bit_at_set_same w64 word k (omega arith)) ∙ itself n place (has_bit words n) (omega arith))
+    (λ f. ap (λ b. b == 1) (bit_at_set_other w64 word k (omega arith) (n % 64) f)
+    ∙ ap (λ j. bit_at (get_or words j 0) (n % 64) == 1) (sym e)
+    ∙ another n place (has_bit words n) (λ is. f (ap (λ m. m % 64) is))) (same (n % 64) k))
     (λ e.
-      ap (λ w. bit_at w (n % 64) == 1) (get_or-set_other words i (n / 64) new 0 e)
-      ∙ another n place (has_bit words n) (λ is. e (ap (λ m. m / 64) is))) (same (n / 64) i)
+    ap (λ w. bit_at w (n % 64) == 1) (get_or-set_other words i (n / 64) new 0 e)
+    ∙ another n place (has_bit words n) (λ is. e (ap (λ m. m / 64) is))) (same (n / 64) i)

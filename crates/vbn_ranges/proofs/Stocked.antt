@@ -1,15 +1,16 @@
 -- Lists without doubles as sets.
-use Rattle.std.proofs.Common.{◌≡◌, refl, sym, ap, subst, ◌∙◌, ℕ, zero, suc, ◌+◌, ◌<◌, ◌≤◌, Bool, true, false, not, ◌||◌, ◌&&◌, nat_eq, cond, if◌then◌else◌}
-use Rattle.std.proofs.Common.{List, [], ◌∷◌, ◌++◌, length, Option, Some, None, Result, Ok, Err, is_ok, ◌⊎◌, ⊎_elim, arith}
+use Rattle.std.proofs.Common.{◌≡◌, refl, sym, ap, subst, ◌∙◌, ℕ, ◌+◌, ◌<◌, ◌≤◌, Bool, true, false, not, ◌||◌, ◌&&◌, nat_eq, cond, if◌then◌else◌}
+use Rattle.std.proofs.Common.{List, [], ◌∷◌, ◌++◌, length, Option, Some, None, Result, Ok, Err, is_ok, ⊎_elim, arith}
 use Rattle.std.proofs.lemmas.List.{append-nil}
 use Rattle.std.specs.Result.{OnOk}
 use Rattle.std.specs.declared.alloc.AllocError.{AllocError}
-use Rattle.std.specs.List.{AllByRecursion, list_any}
+use Rattle.std.specs.List.{AllByRecursion}
 use Rattle.std.specs.Option.{IsSome, IsNone, IfSome, option_to_list}
 use Rattle.std.specs.Ordering.{nat_cmp}
 use Rattle.std.specs.Cmp.{nat_cmp_total}
 use Rattle.std.specs.FinSet as sets
-use Rattle.std.specs.FinSet.{FinSet, contains, len, from_list, len-empty, len-insert, contains-empty, contains-union, contains-difference, contains-from_list_nat, same_set}
+use Rattle.std.specs.FinSet.{contains, len, from_list, len-empty, len-insert, contains-empty, contains-union, contains-difference}
+use Rattle.std.specs.FinSet.{contains-from_list_nat, same_set}
 use Rattle.std.specs.FinSet.{nat_cmp-IsAntisymmetric}
 use Rattle.std.proofs.lemmas.Bool.Decides.{nat_tests}
 use Rattle.std.proofs.lemmas.List.{map-append}
@@ -19,7 +20,9 @@ use Rattle.nfs_model.specs.Parts.{IsAscending}
 use Rattle.volume_values.specs.Ranges.{with_numbers, without_numbers}
 use Rattle.vbn_ranges.specs.Batch.{numbers, IsOfOneRange}
 use Rattle.vbn_ranges.specs.Stock.{AreApart}
-use Rattle.vbn_ranges.proofs.Rising.{is_in, in-head, in-tail}
+use Rattle.vbn_ranges.specs.Words.{members, set_of}
+use Rattle.vbn_ranges.proofs.Rising.{is_in, in-head, in-tail, ascending}
+use Rattle.vbn_ranges.proofs.Bits.{members-rising}
 use Rattle.vbn_ranges.proofs.Single.{same}
 use Rattle.vbn_ranges.proofs.Ranged.{not-both}
 
@@ -74,9 +77,13 @@ len-apart [] h = sym (len-empty nat_cmp)
 len-apart (b ∷ bs) h =
     let rest = len-apart bs h.1 in
     let more : len (from_list {R = nat_cmp} bs) + 1 ≡ len (from_list {R = nat_cmp} (b ∷ bs)) =
-        sym (len-insert nat_cmp_total (from_list bs) b
-        ∙ ap (λ t. cond t (len (from_list {R = nat_cmp} bs)) (len (from_list {R = nat_cmp} bs) + 1)) (contains-from_list_nat bs b ∙ h.0)) in
+    sym (len-insert nat_cmp_total (from_list bs) b
+    ∙ ap (λ t. cond t (len (from_list {R = nat_cmp} bs)) (len (from_list {R = nat_cmp} bs) + 1)) (contains-from_list_nat bs b ∙ h.0)) in
     omega arith
+
+pub len-members : (first : ℕ) (words : List ℕ) → length (members first words) ≡ len (set_of first words)
+len-members first words =
+    len-apart (members first words) (ascending-apart (members first words) (ascending first _ (members first words) (members-rising first _ words refl)))
 
 -- ---- more of them
 
@@ -93,7 +100,8 @@ none-there bs [] h = tt
 none-there bs (c ∷ cs) h = (sym (contains-from_list_nat bs c) ∙ h.0, none-there bs cs h.1)
 
 pub put-apart : (r : Bool) (old other new : List BlockNumber) (batch : List ℕ) → new ≡ (if r then old ++ other else old) → AreApart (numbers old)
-    → numbers other ≡ batch → IsOfOneRange batch → AllByRecursion (λ c. contains (from_list {R = nat_cmp} (numbers old)) c ≡ false) batch → AreApart (numbers new)
+    → numbers other ≡ batch → IsOfOneRange batch → AllByRecursion (λ c. contains (from_list {R = nat_cmp} (numbers old)) c ≡ false) batch
+    → AreApart (numbers new)
 put-apart false old other new batch e h is one n = subst (λ (bs : List BlockNumber). AreApart (numbers bs)) (sym e) h
 put-apart true old other new batch e h is one n =
     subst (λ (bs : List BlockNumber). AreApart (numbers bs)) (sym e)
@@ -116,7 +124,9 @@ or-true false = refl
 
 last-there : (bs : List ℕ) (c : ℕ) → contains (from_list {R = nat_cmp} (bs ++ c ∷ [])) c ≡ true
 last-there bs c =
-    contains-from_list_nat (bs ++ c ∷ []) c ∙ list_any-append (λ b. nat_eq b c) bs (c ∷ []) ∙ ap (λ t. is_in bs c || t) (in-head c [] c refl) ∙ or-true (is_in bs c)
+    contains-from_list_nat (bs ++ c ∷ []) c
+    ∙ list_any-append (λ b. nat_eq b c) bs (c ∷ [])
+    ∙ ap (λ t. is_in bs c || t) (in-head c [] c refl) ∙ or-true (is_in bs c)
 
 kept-in : (t : Bool) → t ≡ ((t || false) && true)
 kept-in true = refl
@@ -166,3 +176,8 @@ pop-empty [] new None e v = (λ n. refl, λ n. refl)
 pop-empty (b ∷ old) new None e v = absurd (let some = v (omega arith) in cc)
 pop-empty old new (Some b) e v =
     (λ n. absurd cc, λ n. absurd (not-both _ (pop-there old new (Some b) e) (ap (λ s. contains s b.0) n ∙ contains-empty nat_cmp b.0)))
+
+-- an empty stock has none of them
+pub none-of-empty : (bs : List ℕ) → AllByRecursion (λ b. contains {R = nat_cmp} sets.empty b ≡ false) bs
+none-of-empty [] = tt
+none-of-empty (b ∷ bs) = (contains-empty nat_cmp b, none-of-empty bs)

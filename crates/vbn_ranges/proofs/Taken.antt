@@ -4,13 +4,14 @@ use Rattle.std.proofs.Common.{List, [], ◌∷◌, ◌++◌, length, take, drop,
 use Rattle.std.proofs.Math.ListN.{set}
 use Rattle.std.specs.List.{AllByRecursion}
 use lib.Count.{count_trailing_zeros}
-use Rattle.nfs_model.specs.Parts.{range_blocks, most_carried, IsBatch}
+use Rattle.nfs_model.specs.Parts.{range_blocks, most_carried}
 use Rattle.vbn_ranges.specs.Words.{members}
 use Rattle.vbn_ranges.specs.Batch.{IsOfOneRange}
 use Rattle.vbn_ranges.proofs.Rising.{Rising, rising-front, ascending, of_range}
 use Rattle.vbn_ranges.proofs.Bits.{ZeroBefore, lowest-member, members-rising}
 
-pub one-range : (range : ℕ) (bs : List ℕ) → length bs ≤ most_carried → Rising (range_blocks * range) (range_blocks * range + range_blocks) bs → IsOfOneRange bs
+pub one-range : (range : ℕ) (bs : List ℕ) → length bs ≤ most_carried → Rising (range_blocks * range) (range_blocks * range + range_blocks) bs
+    → IsOfOneRange bs
 one-range range [] l h = record { few = omega arith; ascending = tt; of_range = tt }
 one-range range (b ∷ bs) l h =
     let all = of_range range (range_blocks * range) (range_blocks * range + range_blocks) (b ∷ bs) (omega arith) (omega arith) h in
@@ -37,7 +38,8 @@ lowest_at range place words = range * 1024 + place * 64 + count_trailing_zeros 6
 abbrev pub without_lowest : ℕ → List ℕ → List ℕ
 without_lowest place words = set words place (bit_and (get_or words place 0) (get_or words place 0 - 1))
 
-pub one-more : (range place : ℕ) (words batch whole : List ℕ) → batch ++ members (range_blocks * range) words ≡ whole → ZeroBefore place words → place < length words
+pub one-more : (range place : ℕ) (words batch whole : List ℕ) → batch ++ members (range_blocks * range) words ≡ whole → ZeroBefore place words
+    → place < length words
     → 0 < get_or words place 0 → get_or words place 0 < 2 ^ 64
     → (batch ++ lowest_at range place words ∷ []) ++ members (range_blocks * range) (without_lowest place words) ≡ whole
 one-more range place words batch whole e z l p u =

@@ -2,7 +2,7 @@
 use Rattle.std.specs.Prelude.{ℕ, List, map, Option, None, Some, []}
 use Rattle.std.specs.Prelude.{◌∷◌}
 use Rattle.nfs_values.specs.declared.number.BlockNumber.{BlockNumber}
-use Rattle.nfs_model.specs.Parts.{range_blocks, range_of, IsBatch}
+use Rattle.nfs_model.specs.Parts.{range_of, IsBatch}
 
 abbrev pub numbers : List BlockNumber → List ℕ
 numbers blocks = map (λ (b : BlockNumber). b.0) blocks

@@ -93,9 +93,7 @@ impl DeadBlocks {
 
     /// Takes the lowest block, if there is one.
     pub fn take(&mut self) -> Option<BlockNumber>
-        ensures lowest {
-            option_map (λ b. b.0) result ≡ first_of (lowest_batch self.old)
-        }
+        ensures lowest { option_map (λ b. b.0) result ≡ first_of (lowest_batch self.old) }
         ensures left { IfSome result (λ b. self.new ≡ without_numbers (b.0 ∷ []) self.old) }
         ensures none { IfNone result (self.old ≡ sets.empty × self.new ≡ self.old) }
     {
@@ -130,9 +128,7 @@ impl DeadBlocks {
 fn take_first(ranges: &mut [Marks], most: usize) -> Batch
     requires { AreNumbered 0 ranges.old }
     ensures batch { result ≡ lowest_dead most ranges.old }
-    ensures left {
-        all_of ranges.new ≡ without_numbers (lowest_dead most ranges.old) (all_of ranges.old)
-    }
+    ensures left { all_of ranges.new ≡ without_numbers (lowest_dead most ranges.old) (all_of ranges.old) }
     ensures numbered { AreNumbered 0 ranges.new }
     ensures length { length ranges.new ≡ length ranges.old }
 {

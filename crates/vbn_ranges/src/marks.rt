@@ -2,7 +2,7 @@
 
 ghost use Rattle.std.specs.Prelude.{◌≡◌, ◌<◌, ◌/◌, ◌==◌, ◌∷◌, [], length};
 ghost use Rattle.std.specs.List.{AllByRecursion, list_any};
-ghost use Rattle.std.specs.FinSet.{contains};
+ghost use Rattle.std.specs.FinSet.{contains, len};
 ghost use Rattle.nfs_model.specs.Parts.{most_ranges, range_blocks};
 ghost use Rattle.nfs_model.specs.Moves.{in_range};
 ghost use Rattle.vbn_ranges.specs.Batch.{numbers};
@@ -75,7 +75,8 @@ impl Marks {
 
     /// How many numbers are marked.
     pub fn len(&self) -> usize
-        ensures { result ≡ length (in_range self.now.range self.now.set) }
+        ensures listed { result ≡ length (in_range self.now.range self.now.set) }
+        ensures counted { result ≡ len self.now.set }
     {
         words::count(&self.words)
     }

@@ -12,6 +12,7 @@ ghost use Rattle.std.specs.Prelude.{
   OnErr,
   IsTrue,
 };
+ghost use Rattle.std.specs.FinSet.{len};
 ghost use Rattle.nfs_model.specs.Parts.{most_ranges};
 ghost use Rattle.volume_values.specs.Ranges.{
   unused_range,
@@ -47,9 +48,7 @@ impl Model for Range {
 
     ghost view = { λ r. record { number = r.free.range; is_used = r.is_used; free = r.free.set } };
 
-    ghost invariant = {
-        λ r. IsRange (record { number = r.free.range; is_used = r.is_used; free = r.free.set })
-    };
+    ghost invariant = { λ r. IsRange (record { number = r.free.range; is_used = r.is_used; free = r.free.set }) };
 }
 
 impl Range {
@@ -82,7 +81,8 @@ impl Range {
 
     /// How many of its blocks are free.
     pub fn free_count(&self) -> usize
-        ensures { result ≡ length (free_numbers self.now) }
+        ensures listed { result ≡ length (free_numbers self.now) }
+        ensures counted { result ≡ len self.now.free }
     {
         self.free.len()
     }

@@ -50,13 +50,9 @@ pub fn insert(words: &mut [u64; 16], place: usize)
 /// Takes the lowest bits that are set, at most so many and 64, as block numbers of a range.
 pub fn take_lowest(words: &mut [u64; 16], range: u32, most: usize) -> Batch
     requires { range < most_ranges }
-    ensures batch {
-        result ≡ take (min most most_carried) (members (range_blocks * range) words.old)
-    }
-    ensures left {
-        members (range_blocks * range) words.new
-            ≡ drop (min most most_carried) (members (range_blocks * range) words.old)
-    }
+    ensures batch { result ≡ take (min most most_carried) (members (range_blocks * range) words.old) }
+    ensures left { members (range_blocks * range) words.new
+        ≡ drop (min most most_carried) (members (range_blocks * range) words.old) }
 {
     let first = range * 1024;
     let most = most.min(64);

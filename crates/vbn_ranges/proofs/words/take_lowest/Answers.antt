@@ -1,4 +1,5 @@
-use Rattle.std.proofs.Common.{◌≡◌, ◌==◌, refl, ap, ◌∙◌, ◌++◌, ◌*◌, ◌^◌, ◌<◌, subst, sym, arith, length-set, add-one, get_or, length, inl, inr, ◌⊎◌, min, ℕ, rules, [], List}
+use Rattle.std.proofs.Common.{◌==◌, ap, ◌∙◌, ◌++◌, ◌*◌, ◌^◌, ◌<◌, subst, sym, arith, length-set, add-one, get_or, length, inl}
+use Rattle.std.proofs.Common.{ℕ, rules}
 use Rattle.std.proofs.lemmas.List.{length_push}
 use Rattle.std.proofs.lemmas.List.Sums.{prefix_len-le-length}
 use Rattle.vbn_ranges.specs.Words.{members}
@@ -34,7 +35,7 @@ push-requires-clause-batch c =
     let batch = c.loop-place.batch in
     let fits : get_or words place 0 < 2 ^ 64 = omega arith in
     let joined = one-more c.args.range place words batch _ c.loop-place.invariant.joined c.loop-place.invariant.zero (omega arith) (omega arith)
-        fits in
+    fits in
     let size = length_push batch (lowest_at c.args.range place words) in
     front-batch c.args.range c.args.words.now _ (members (1024 * c.args.range) (without_lowest place words)) c.told-words joined (omega arith)
 
@@ -47,7 +48,7 @@ loop-place-preserved c =
     let fits : get_or words place 0 < 2 ^ 64 = omega arith in
     record {
       joined = ap (λ bs. bs ++ members (1024 * c.args.range) (without_lowest place words)) c.push.ensures
-        ∙ one-more c.args.range place words batch _ c.loop-place.invariant.joined c.loop-place.invariant.zero (omega arith) (omega arith) fits;
+          ∙ one-more c.args.range place words batch _ c.loop-place.invariant.joined c.loop-place.invariant.zero (omega arith) (omega arith) fits;
       zero = zero-set place words _ c.loop-place.invariant.zero;
       few = let more = ap length c.push.ensures in omega arith;
       words = length-set words place _ ∙ c.loop-place.invariant.words;

@@ -1,4 +1,4 @@
-use Rattle.std.proofs.Common.{◌≡◌, ◌-◌, ◌+◌, ◌*◌, ◌≤◌, ◌++◌, length, min}
+use Rattle.std.proofs.Common.{◌≡◌, ◌-◌, ◌+◌, ◌*◌, ◌≤◌, ◌++◌, length}
 use Rattle.nfs_model.specs.Parts.{range_blocks}
 use Rattle.vbn_ranges.specs.Words.{members}
 use Rattle.vbn_ranges.proofs.Bits.{ZeroBefore}

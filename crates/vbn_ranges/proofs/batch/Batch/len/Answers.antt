@@ -1,4 +1,4 @@
-use Rattle.std.proofs.Common.{◌≡◌, ap, sym, ◌∙◌, length, take, map, ℕ, arith, length-take}
+use Rattle.std.proofs.Common.{◌≡◌, ap, sym, ◌∙◌, length, take, arith, length-take}
 use Rattle.std.proofs.lemmas.List.{length-map}
 use Rattle.vbn_ranges.proofs.batch.Batch.len.Goals as goal
 

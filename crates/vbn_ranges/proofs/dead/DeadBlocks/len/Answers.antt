@@ -1,7 +1,6 @@
 use Rattle.std.proofs.Common.{subst}
 use Rattle.volume_values.specs.Ranges.{IsOfVolume}
 use Rattle.vbn_ranges.proofs.DeadSets.{of-volume}
-use Rattle.vbn_ranges.proofs.DeadCounts.{none-lowest}
 use Rattle.vbn_ranges.proofs.dead.DeadBlocks.len.Goals as goal
 
 pub returns-clause-volume : goal.returns-clause-volume

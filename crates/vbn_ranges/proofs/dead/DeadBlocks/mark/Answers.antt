@@ -1,13 +1,15 @@
-use Rattle.std.proofs.Common.{◌≡◌, ◌∙◌, ◌∷◌, [], ap, sym, arith}
+use Rattle.std.proofs.Common.{◌∙◌, ◌∷◌, [], ap, sym, arith}
 use Rattle.volume_values.specs.Ranges.{with_numbers}
-use Rattle.vbn_ranges.proofs.DeadMarked.{IsMarksOf, marks-at, few-dead, one-dead, dead-with, dead-already}
+use Rattle.vbn_ranges.proofs.DeadMarked.{marks-at, few-dead, one-dead, dead-with, dead-already}
 use Rattle.vbn_ranges.proofs.dead.DeadBlocks.mark.Goals as goal
 
 pub contains-requires : goal.contains-requires
-contains-requires c = (marks-at c.self.inside.ranges.items c.self.inside.count c.args.block.0 _ c.self.invariant c.requires c.index_mut-marks.ensures.value).range
+contains-requires c =
+    (marks-at c.self.inside.ranges.items c.self.inside.count c.args.block.0 _ c.self.invariant c.requires c.index_mut-marks.ensures.value).range
 
 pub insert-requires : goal.insert-requires
-insert-requires c = (marks-at c.self.inside.ranges.items c.self.inside.count c.args.block.0 _ c.self.invariant c.requires c.index_mut-marks.ensures.value).range
+insert-requires c =
+    (marks-at c.self.inside.ranges.items c.self.inside.count c.args.block.0 _ c.self.invariant c.requires c.index_mut-marks.ensures.value).range
 
 pub overflow_add-self : goal.overflow_add-self
 overflow_add-self c = let few = few-dead c.self.inside.ranges.items c.self.inside.count c.self.invariant in record { fits = omega arith }

@@ -1,7 +1,6 @@
-use Rattle.std.proofs.Common.{◌≡◌, ◌≤◌, ◌-◌, ◌∙◌, ◌++◌, ap, sym, subst, ℕ, List, length, take, drop, vec_len, rules}
+use Rattle.std.proofs.Common.{◌≡◌, ◌≤◌, ◌-◌, ◌∙◌, ◌++◌, ap, sym, subst, ℕ, length, take, drop, vec_len, rules}
 use Rattle.volume_values.specs.Ranges.{without_numbers}
-use Rattle.vbn_ranges.specs.Marks.{MarksValue}
-use Rattle.vbn_ranges.specs.Dead.{AreNumbered, AreDead, all_of, lowest_dead, lowest_of}
+use Rattle.vbn_ranges.specs.Dead.{AreDead, all_of, lowest_of}
 use Rattle.vbn_ranges.proofs.DeadCounts.{TakenFrom, taken-from, fits-count, still-dead, lowest-taken-is, lowest-left}
 use Rattle.vbn_ranges.proofs.dead.DeadBlocks.take_lowest.Goals as goal
 
@@ -9,9 +8,9 @@ pub overflow_sub-self : goal.overflow_sub-self
 overflow_sub-self c =
     let old = c.self.inside.ranges.items in
     let taken : TakenFrom c.args.most old c.take_first-batch.new.ranges c.take_first-batch.result =
-        taken-from c.args.most _ old _ _ c.deref_mut.ensures.value c.take_first-batch.ensures.batch c.take_first-batch.ensures.left
-        c.take_first-batch.ensures.numbered
-        c.take_first-batch.ensures.length in
+    taken-from c.args.most _ old _ _ c.deref_mut.ensures.value c.take_first-batch.ensures.batch c.take_first-batch.ensures.left
+    c.take_first-batch.ensures.numbered
+    c.take_first-batch.ensures.length in
     subst (λ (n : ℕ). n ≤ c.self.inside.count) (sym c.len.ensures.value) (fits-count _ _ _ _ _ c.self.invariant taken)
 
 pub invariant_of-self : goal.invariant_of-self
@@ -20,9 +19,9 @@ invariant_of-self c =
     let new = c.take_first-batch.new.ranges in
     let size : vec_len c.self.inside.ranges ≡ length old = search rules in
     let taken : TakenFrom c.args.most old new c.take_first-batch.result =
-        taken-from c.args.most _ old _ _ c.deref_mut.ensures.value c.take_first-batch.ensures.batch c.take_first-batch.ensures.left
-        c.take_first-batch.ensures.numbered
-        c.take_first-batch.ensures.length in
+    taken-from c.args.most _ old _ _ c.deref_mut.ensures.value c.take_first-batch.ensures.batch c.take_first-batch.ensures.left
+    c.take_first-batch.ensures.numbered
+    c.take_first-batch.ensures.length in
     subst (λ (k : ℕ). AreDead (take k (new ++ drop (length new) old)) (c.self.inside.count - c.len.result)) (sym size)
     (subst (λ (k : ℕ). AreDead (take (length old) (new ++ drop (length new) old)) (c.self.inside.count - k)) (sym c.len.ensures.value)
     (still-dead _ _ _ _ _ c.self.invariant taken))
@@ -31,9 +30,9 @@ pub returns-clause-batch : goal.returns-clause-batch
 returns-clause-batch c =
     let old = c.self.inside.ranges.items in
     let taken : TakenFrom c.args.most old c.take_first-batch.new.ranges c.take_first-batch.result =
-        taken-from c.args.most _ old _ _ c.deref_mut.ensures.value c.take_first-batch.ensures.batch c.take_first-batch.ensures.left
-        c.take_first-batch.ensures.numbered
-        c.take_first-batch.ensures.length in
+    taken-from c.args.most _ old _ _ c.deref_mut.ensures.value c.take_first-batch.ensures.batch c.take_first-batch.ensures.left
+    c.take_first-batch.ensures.numbered
+    c.take_first-batch.ensures.length in
     lowest-taken-is _ _ _ _ _ c.self.invariant taken ∙ ap (lowest_of c.args.most) c.self.view_is
 
 pub returns-clause-left : goal.returns-clause-left
@@ -42,9 +41,9 @@ returns-clause-left c =
     let new = c.take_first-batch.new.ranges in
     let size : vec_len c.self.inside.ranges ≡ length old = search rules in
     let taken : TakenFrom c.args.most old new c.take_first-batch.result =
-        taken-from c.args.most _ old _ _ c.deref_mut.ensures.value c.take_first-batch.ensures.batch c.take_first-batch.ensures.left
-        c.take_first-batch.ensures.numbered
-        c.take_first-batch.ensures.length in
+    taken-from c.args.most _ old _ _ c.deref_mut.ensures.value c.take_first-batch.ensures.batch c.take_first-batch.ensures.left
+    c.take_first-batch.ensures.numbered
+    c.take_first-batch.ensures.length in
     ap (λ (k : ℕ). all_of (take k (new ++ drop (length new) old))) size
     ∙ lowest-left _ _ _ _ _ c.self.invariant taken
     ∙ ap (λ s. without_numbers (lowest_of c.args.most s) s) c.self.view_is

@@ -1,6 +1,5 @@
-use Rattle.std.proofs.Common.{◌≡◌, ap, ◌∙◌, sym}
+use Rattle.std.proofs.Common.{ap, ◌∙◌, sym}
 use Rattle.std.specs.FinSet.{contains}
-use Rattle.nfs_model.specs.Parts.{range_blocks}
 use Rattle.vbn_ranges.proofs.Marked.{is-marked}
 use Rattle.vbn_ranges.proofs.marks.Marks.contains.Goals as goal
 

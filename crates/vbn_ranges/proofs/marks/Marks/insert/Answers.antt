@@ -1,4 +1,4 @@
-use Rattle.std.proofs.Common.{◌≡◌, ◌∷◌, [], ap, ◌∙◌, sym}
+use Rattle.std.proofs.Common.{◌∷◌, [], ap, ◌∙◌, sym}
 use Rattle.vbn_ranges.specs.Marks.{marked}
 use Rattle.vbn_ranges.proofs.Marked.{inserted}
 use Rattle.vbn_ranges.proofs.marks.Marks.insert.Goals as goal

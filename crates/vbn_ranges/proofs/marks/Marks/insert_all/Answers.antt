@@ -1,4 +1,4 @@
-use Rattle.std.proofs.Common.{◌≡◌, ◌∙◌, ◌/◌, ◌∷◌, [], ap, sym, subst, ℕ, List, take, get_or, add-one}
+use Rattle.std.proofs.Common.{◌≡◌, ◌∙◌, ◌/◌, ◌∷◌, [], ap, sym, ℕ, List, take, get_or, add-one}
 use Rattle.nfs_model.specs.Parts.{range_blocks}
 use Rattle.vbn_ranges.specs.Batch.{numbers}
 use Rattle.vbn_ranges.specs.Marks.{MarksValue, marked}

@@ -1,6 +1,5 @@
-use Rattle.std.proofs.Common.{◌≡◌, ◌∙◌, ◌*◌, ap, sym, min, take, List, ℕ}
-use Rattle.nfs_model.specs.Parts.{range_blocks, most_carried}
-use Rattle.vbn_ranges.specs.Words.{members}
+use Rattle.std.proofs.Common.{◌∙◌, ap, sym, min, take, List, ℕ}
+use Rattle.nfs_model.specs.Parts.{most_carried}
 use Rattle.vbn_ranges.specs.Marks.{lowest_marked, unmarked, marks_of}
 use Rattle.vbn_ranges.proofs.Marked.{in-range-is, lowest-taken}
 use Rattle.vbn_ranges.proofs.marks.Marks.take_lowest.Goals as goal

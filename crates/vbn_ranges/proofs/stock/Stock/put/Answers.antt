@@ -1,4 +1,4 @@
-use Rattle.std.proofs.Common.{◌≡◌, ◌∙◌, ap, sym, subst, false, is_ok}
+use Rattle.std.proofs.Common.{◌≡◌, sym, subst, false, is_ok}
 use Rattle.std.specs.List.{AllByRecursion}
 use Rattle.std.specs.FinSet.{contains}
 use Rattle.vbn_ranges.proofs.Stocked.{put-apart, put-there}

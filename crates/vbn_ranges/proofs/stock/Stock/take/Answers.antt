@@ -1,9 +1,5 @@
 use Rattle.std.proofs.Common.{◌≡◌, ◌<◌, subst, length, vec_len, ℕ, rules}
 use Rattle.std.specs.Option.{IsSome}
-use Rattle.std.specs.FinSet as sets
-use Rattle.std.specs.FinSet.{contains, from_list}
-use Rattle.volume_values.specs.Ranges.{without_numbers}
-use Rattle.vbn_ranges.specs.Batch.{numbers}
 use Rattle.vbn_ranges.proofs.Stocked.{pop-apart, pop-there, pop-left, pop-empty}
 use Rattle.vbn_ranges.proofs.stock.Stock.take.Goals as goal
 
