@@ -1,3 +1,4 @@
 pub mod Hands
 pub mod Jobs
 pub mod Getattr
+pub mod lemmas
