@@ -14,5 +14,3 @@ pub mod Calls
 pub mod Changes
 pub mod Opening
 pub mod Commute
-pub mod Laws
-pub mod lemmas

@@ -1,0 +1,187 @@
+-- What stays where a file's touches are taken, and where an inode is set of the same kind.
+use Rattle.std.proofs.Common.{◌≡◌, ℕ, zero, suc, ◌<◌, ◌==◌, ◌/◌, ◌%◌, ◌&&◌, not, Bool, true, false, List, [], ◌∷◌, length, map, Option, Some, None}
+use Rattle.std.proofs.Common.{refl, sym, ap, ◌∙◌, subst, arith, eq-eqb}
+use Rattle.std.specs.Prelude.{if◌then◌else◌, is_some, IfSome}
+use Rattle.std.proofs.lemmas.List.{length-map}
+use Rattle.std.proofs.lemmas.Bool.{eqb-true}
+use Rattle.std.specs.List.{AllByRecursion, range_with_len}
+use Rattle.std.specs.Option.{option_map}
+use Rattle.std.specs.FinMap.{get}
+use Rattle.std.specs.FinSet as sets
+use Rattle.nfs_model.specs.Types.{Listed}
+use Rattle.nfs_model.specs.Server.{block_size}
+use Rattle.nfs_model.specs.Parts.{one_if}
+use Rattle.depot_rule.specs.Sums.{total}
+use Rattle.volume_values.specs.Inodes.{InodeKind, Inode, InodesValue, inode_of, inode_set}
+use Rattle.volume_values.specs.Stripes.{Card, OfFile, OfFolder, StripeValue, byte_of, card_settled, touch_taken, touch_of, stripe_of}
+use Rattle.volume_values.specs.lemmas.Inodes.{inode-set-there, inode-set-other}
+use Rattle.volume_values.specs.lemmas.Numbered.{get-changed_at}
+use Rattle.held_state.specs.Tree.{stripe_at, home_stripe, file_bytes, file_filled, file_touch, later, most_file_blocks}
+use Rattle.held_state.specs.Names.{root, InodeMap, DirectoryMap, size_in, size_of, parent_in, parent_directory, subdirectories_in, subdirectories_of}
+use Rattle.held_state.specs.Names.{is_folder, parent_or}
+use Rattle.held_state.specs.Names.{directory_above, folders_listed, AreNamed}
+use Rattle.held_state.specs.WellFormed.{size_shown}
+use Rattle.held_state.specs.Changes.{touches_taken}
+
+-- ---- touches taken
+
+module _ (f : ℕ) where
+  -- no block changes, in any stripe
+  blocks-stay : (stripes : List StripeValue) (i : ℕ) → (stripe_at (touches_taken f stripes) i).blocks ≡ (stripe_at stripes i).blocks
+  blocks-stay [] i = refl
+  blocks-stay (s ∷ stripes) zero = refl
+  blocks-stay (s ∷ stripes) (suc i) = blocks-stay stripes i
+
+  homes-stay : (stripes : List StripeValue) (fileid block : ℕ)
+      → (home_stripe (touches_taken f stripes) fileid block).blocks ≡ (home_stripe stripes fileid block).blocks
+  homes-stay stripes fileid block =
+      ap (λ (n : ℕ). (stripe_at (touches_taken f stripes) (stripe_of n fileid block)).blocks) (length-map stripes (touch_taken f))
+      ∙ blocks-stay stripes (stripe_of (length stripes) fileid block)
+
+  pub bytes-stay : (stripes : List StripeValue) (fileid size : ℕ) → file_bytes (touches_taken f stripes) fileid size ≡ file_bytes stripes fileid size
+  bytes-stay stripes fileid size = λ j. map
+      (λ k. byte_of (get (homes-stay stripes fileid (k / block_size) j) (fileid, k / block_size)) (k % block_size)) (range_with_len 0 size)
+
+  pub filled-stays : (stripes : List StripeValue) (fileid : ℕ) → file_filled (touches_taken f stripes) fileid ≡ file_filled stripes fileid
+  filled-stays stripes fileid =
+      λ j. sets.retain (sets.from_list (range_with_len 0 most_file_blocks)) (λ b. is_some (get (homes-stay stripes fileid b j) (fileid, b)))
+
+  -- the file's own touch is gone, and no other
+  card-taken : (s : StripeValue) (q : ℕ) → touch_of (get (touch_taken f s).cards q) ≡ (if q == f then None else touch_of (get s.cards q))
+  card-taken s q = ap touch_of (get-changed_at card_settled f s.cards q) ∙ by (q == f) (get s.cards f)
+    where
+      by : (b : Bool) (o : Option Card) → touch_of (if b then option_map card_settled o else get s.cards q) ≡ (if b then None else touch_of (get s.cards q))
+      by true None = refl
+      by true (Some (OfFile size touch)) = refl
+      by true (Some OfFolder) = refl
+      by false o = refl
+
+  pub touch-gone : (stripes : List StripeValue) → file_touch (touches_taken f stripes) f ≡ None
+  touch-gone [] = refl
+  touch-gone (s ∷ stripes) =
+      λ j. later ((card-taken s f ∙ ap (λ (b : Bool). if b then None else touch_of (get s.cards f)) (eq-eqb f f refl)) j) (touch-gone stripes j)
+
+  pub touch-stays : (stripes : List StripeValue) (q : ℕ) → (q == f) ≡ false → file_touch (touches_taken f stripes) q ≡ file_touch stripes q
+  touch-stays [] q ne = refl
+  touch-stays (s ∷ stripes) q ne =
+      λ j. later ((card-taken s q ∙ ap (λ (b : Bool). if b then None else touch_of (get s.cards q)) ne) j) (touch-stays stripes q ne j)
+
+  -- what a card shows stays
+  pub shown-stays : (s : StripeValue) (q : ℕ) → option_map size_shown (get (touch_taken f s).cards q) ≡ option_map size_shown (get s.cards q)
+  shown-stays s q = ap (option_map size_shown) (get-changed_at card_settled f s.cards q) ∙ by (q == f) refl (get s.cards f) refl
+    where
+      card : (c : Card) → size_shown (card_settled c) ≡ size_shown c
+      card (OfFile size touch) = refl
+      card OfFolder = refl
+
+      there : (o : Option Card) → option_map size_shown (option_map card_settled o) ≡ option_map size_shown o
+      there None = refl
+      there (Some c) = ap Some (card c)
+
+      by : (b : Bool) → (q == f) ≡ b → (o : Option Card) → get s.cards f ≡ o
+          → option_map size_shown (if b then option_map card_settled o else get s.cards q) ≡ option_map size_shown (get s.cards q)
+      by true e o is = there o ∙ ap (option_map size_shown) (sym is ∙ ap (get s.cards) (sym (eqb-true q f e)))
+      by false e o is = refl
+
+  pub stripe-taken : (stripes : List StripeValue) (i : ℕ) → i < length stripes → stripe_at (touches_taken f stripes) i ≡ touch_taken f (stripe_at stripes i)
+  stripe-taken [] i less = absurd (omega arith)
+  stripe-taken (s ∷ stripes) zero less = refl
+  stripe-taken (s ∷ stripes) (suc i) less = stripe-taken stripes i (omega arith)
+
+  pub total-taken : (g : StripeValue → ℕ) → ((s : StripeValue) → g (touch_taken f s) ≡ g s) → (stripes : List StripeValue)
+      → total g (touches_taken f stripes) ≡ total g stripes
+  total-taken g same [] = refl
+  total-taken g same (s ∷ stripes) = let here = same s in let others = total-taken g same stripes in omega arith
+
+-- ---- kinds that stay
+
+-- the same inodes, each of the same kind
+abbrev pub SameKinds : InodeMap → InodeMap → Type 0
+SameKinds new old = (q : ℕ) → option_map (λ (i : Inode). i.kind) (get new q) ≡ option_map (λ (i : Inode). i.kind) (get old q)
+
+abbrev kind_of : Option Inode → Option InodeKind
+kind_of o = option_map (λ (i : Inode). i.kind) o
+
+pub size-same : (o p : Option Inode) → kind_of o ≡ kind_of p → size_of o ≡ size_of p
+size-same None None e = refl
+size-same None (Some b) e = absurd cc
+size-same (Some a) None e = absurd cc
+size-same (Some a) (Some b) e = let k : a.kind ≡ b.kind = cc in ap size_in k
+
+pub shown-same : (o p : Option Inode) → kind_of o ≡ kind_of p
+    → option_map (λ (inode : Inode). size_in inode.kind) o ≡ option_map (λ (inode : Inode). size_in inode.kind) p
+shown-same None None e = refl
+shown-same None (Some b) e = absurd cc
+shown-same (Some a) None e = absurd cc
+shown-same (Some a) (Some b) e = let k : a.kind ≡ b.kind = cc in ap (λ x. Some (size_in x)) k
+
+parent-same : (o p : Option Inode) → kind_of o ≡ kind_of p → parent_directory o ≡ parent_directory p
+parent-same None None e = refl
+parent-same None (Some b) e = absurd cc
+parent-same (Some a) None e = absurd cc
+parent-same (Some a) (Some b) e = let k : a.kind ≡ b.kind = cc in ap parent_in k
+
+subdirectories-same : (o p : Option Inode) → kind_of o ≡ kind_of p → subdirectories_of o ≡ subdirectories_of p
+subdirectories-same None None e = refl
+subdirectories-same None (Some b) e = absurd cc
+subdirectories-same (Some a) None e = absurd cc
+subdirectories-same (Some a) (Some b) e = let k : a.kind ≡ b.kind = cc in ap subdirectories_in k
+
+some-same : (o p : Option Inode) → kind_of o ≡ kind_of p → is_some o ≡ is_some p
+some-same None None e = refl
+some-same None (Some b) e = absurd cc
+some-same (Some a) None e = absurd cc
+some-same (Some a) (Some b) e = refl
+
+module _ (new old : InodeMap) (same : SameKinds new old) where
+  folders-same : (list : List Listed) → folders_listed new list ≡ folders_listed old list
+  folders-same [] = refl
+  folders-same (e ∷ list) =
+      let here : one_if (is_folder (get new e.fileid)) ≡ one_if (is_folder (get old e.fileid)) =
+      ap (λ o. one_if (is_some o)) (parent-same (get new e.fileid) (get old e.fileid) (same e.fileid)) in
+      let others = folders-same list in
+      omega arith
+
+  abbrev IsChildOf : InodeMap → ℕ → Listed → Type 0
+  IsChildOf inodes fileid e = IfSome (parent_directory (get inodes e.fileid)) (λ parent. parent ≡ fileid)
+
+  children-same : (fileid : ℕ) (list : List Listed) → AllByRecursion (IsChildOf old fileid) list → AllByRecursion (IsChildOf new fileid) list
+  children-same fileid [] all = tt
+  children-same fileid (e ∷ list) all = (
+    subst (λ o. IfSome o (λ parent. parent ≡ fileid)) (sym (parent-same (get new e.fileid) (get old e.fileid) (same e.fileid))) all.0,
+    children-same fileid list all.1,
+  )
+
+  above-same : (n q : ℕ) → directory_above new n q ≡ directory_above old n q
+  above-same zero q = refl
+  above-same (suc n) q =
+      above-same n (parent_or (parent_directory (get new q)) q)
+      ∙ ap (λ o. directory_above old n (parent_or o q)) (parent-same (get new q) (get old q) (same q))
+
+  -- names stay lawful
+  pub named-same : (directories : DirectoryMap) → AreNamed old directories → AreNamed new directories
+  named-same directories named = record {
+    root_there = parent-same (get new root) (get old root) (same root) ∙ named.root_there;
+    folders = λ q. named.folders q ∙ sym (ap (λ o. is_some o) (parent-same (get new q) (get old q) (same q)));
+    fits = λ q d e. let fits = named.fits q d e in record {
+      list = fits.list;
+      children = children-same q d.list fits.children;
+      links = subdirectories-same (get new q) (get old q) (same q) ∙ fits.links ∙ ap Some (sym (folders-same d.list));
+    };
+    once = λ q. named.once q ∙ sym (ap (λ b. one_if (b && not (q == root))) (some-same (get new q) (get old q) (same q)));
+    rooted = λ q e.
+        let reaches = named.rooted q (sym (ap (λ o. is_some o) (parent-same (get new q) (get old q) (same q))) ∙ e) in
+        (reaches.0, above-same reaches.0 q ∙ reaches.1);
+  }
+
+-- an inode set of the kind that was there
+pub set-kinds : (v : InodesValue) (fileid : ℕ) (old inode : Inode) → inode_of v fileid ≡ Some old → inode.kind ≡ old.kind
+    → SameKinds (inode_set fileid inode v).inodes v.inodes
+set-kinds v fileid old inode there same q = by (q == fileid) refl
+  where
+    by : (b : Bool) → (q == fileid) ≡ b → kind_of (get (inode_set fileid inode v).inodes q) ≡ kind_of (get v.inodes q)
+    by true e =
+        let is : q ≡ fileid = eqb-true q fileid e in
+        ap (λ (k : ℕ). kind_of (get (inode_set fileid inode v).inodes k)) is ∙ ap kind_of (inode-set-there v fileid old inode there)
+        ∙ ap Some same ∙ sym (ap (λ (k : ℕ). kind_of (get v.inodes k)) is ∙ ap kind_of there)
+    by false e = ap kind_of (inode-set-other v fileid inode q e)
