@@ -5,7 +5,8 @@ ghost use Rattle.std.specs.Option.{option_map};
 ghost use Rattle.nfs_values.specs.Attributes.{shown_of};
 ghost use Rattle.nfs_values.specs.Moment.{moment_of};
 ghost use Rattle.inodes.specs.Inode.{attributes_value, kind_value};
-ghost use Rattle.service.specs.Getattr.{shown_by, HasFewLinks};
+ghost use Rattle.held_state.specs.Changes.{shown_kind};
+ghost use Rattle.service.specs.Getattr.{HasFewLinks};
 
 use inodes::{Inode, InodeKind};
 use nfs_values::{Attributes, FileKind, Fileid, Moment, VolumeNumber};
@@ -18,7 +19,7 @@ pub(crate) fn shown(
     touch: Option<Moment>,
 ) -> Attributes
     requires few { HasFewLinks (kind_value inode.kind) }
-    ensures { shown_of result ≡ shown_by volume.0 fileid.0
+    ensures { shown_of result ≡ shown_kind volume.0 fileid.0
         (attributes_value inode.attributes) (kind_value inode.kind) (option_map moment_of touch) }
 {
     let stored = inode.attributes;

@@ -23,9 +23,9 @@ use Rattle.held_state.specs.Lenses.{LogicalSet, logical_lens, in_volume, volume_
 use Rattle.held_state.specs.Promises.{HasVolume, IsSeenBy}
 use Rattle.held_state.specs.Sets.{FilerLogical, logical_set, logical_before}
 use Rattle.held_state.specs.Sound.{IsFiler, AreSound}
-use Rattle.held_state.specs.lemmas.Alike.{filer-same}
-use Rattle.held_state.specs.lemmas.SeenSets.{logical-seen}
-use Rattle.held_state.specs.lemmas.Steps.{laid-out}
+use Rattle.held_laws.specs.lemmas.Alike.{filer-same}
+use Rattle.held_laws.specs.lemmas.SeenSets.{logical-seen}
+use Rattle.held_laws.specs.lemmas.Steps.{laid-out}
 use Rattle.service.specs.Jobs.{job_steps, job_takes, job_gives}
 use Rattle.service.specs.declared.job.Job.{Job}
 use Rattle.service.specs.declared.job.JobReply.{JobReply}

@@ -25,10 +25,11 @@ use Rattle.held_state.specs.Sets.{FilerLogical, logical_set}
 use Rattle.held_state.specs.Jobs.{Serve, JobReply, Replied}
 use Rattle.held_state.specs.Deeds.{Does, FilerSteps}
 use Rattle.held_state.specs.Calls.{VolumeCall, IsCallOn, ServesOn, finished_as}
-use Rattle.held_state.specs.lemmas.Steps.{volume-right}
-use Rattle.held_state.specs.lemmas.Served.{serve-lift}
-use Rattle.held_state.specs.lemmas.Kinds.{logical-step}
-use Rattle.service.specs.Getattr.{getattr_on, TellsAttributes}
+use Rattle.held_laws.specs.lemmas.Steps.{volume-right}
+use Rattle.held_laws.specs.lemmas.Served.{serve-lift}
+use Rattle.held_laws.specs.lemmas.Kinds.{logical-step}
+use Rattle.held_attributes.specs.Laws.{getattr_call}
+use Rattle.service.specs.Getattr.{TellsAttributes}
 
 -- what is right on a call's volume is right for an entry under the call's node
 pub serve-right : {S : Type 0} (layout : Layout) (v : ℕ) (on : v < length layout.volumes) (lens : Lens VolumeContents S)
@@ -44,8 +45,8 @@ serve-right layout v on lens numbered q connection number xid credential moment 
 -- ---- GETATTR
 
 module _ (layout : Layout) (v fileid : ℕ) (handle : List ℕ) (named : handle_of (length layout.volumes) handle ≡ Some (record { volume = v; fileid = fileid })) where
-  pub getattr-call : (credential : Credential) (moment : Moment) → IsCallOn layout v (getattr_on v handle fileid) credential moment
-  getattr-call credential moment = record {
+  pub getattr-is-call : (credential : Credential) (moment : Moment) → IsCallOn layout v (getattr_call handle (Logical v) fileid) credential moment
+  getattr-is-call credential moment = record {
     good = named;
     under = refl;
     tried = (Logical v, ap logical_home named, own (aggregate_of layout v));
@@ -62,10 +63,10 @@ module _ (layout : Layout) (v fileid : ℕ) (handle : List ℕ) (named : handle_
   pub getattr-step : {P : Type 0} → fault_of layout ≡ None → v < length layout.volumes → (connection number xid : ℕ) (credential : Credential) (moment : Moment)
       → (old new : FilerLogical P) (told : Result Attributes Status)
       → TellsAttributes v fileid (logical_set (stripes_of layout v) old) told (logical_set (stripes_of layout v) new)
-      → FilerSteps (parents layout) (number_of layout (Logical v)) (Serve (finished_as (getattr_on v handle fileid) connection number xid credential moment false))
+      → FilerSteps (parents layout) (number_of layout (Logical v)) (Serve (finished_as (getattr_call handle (Logical v) fileid) connection number xid credential moment false))
       (logical_parcels layout (Logical v) old) (Replied (Success (answer_of (GetAttributes told)))) (logical_parcels layout (Logical v) new)
   getattr-step lawful on_v connection number xid credential moment old new told right =
-      logical-step layout lawful (Serve (finished_as (getattr_on v handle fileid) connection number xid credential moment false))
+      logical-step layout lawful (Serve (finished_as (getattr_call handle (Logical v) fileid) connection number xid credential moment false))
       (Replied (Success (answer_of (GetAttributes told)))) v on_v old new
-      (serve-right layout v on_v logical_lens (λ s p. refl) (getattr_on v handle fileid) connection number xid credential moment false (getattr-call credential moment)
+      (serve-right layout v on_v logical_lens (λ s p. refl) (getattr_call handle (Logical v) fileid) connection number xid credential moment false (getattr-is-call credential moment)
       (logical_set (stripes_of layout v) old) (Success (answer_of (GetAttributes told))) (logical_set (stripes_of layout v) new) (right handle))

@@ -8,7 +8,8 @@ use Rattle.volume_values.specs.Logical.{LogicalValue}
 use Rattle.inodes.specs.Inode.{inode_value}
 use Rattle.held_state.specs.Sets.{logical_before}
 use Rattle.held_state.specs.Tree.{file_touch}
-use Rattle.service.proofs.Getting.{told_of, getattr-right, whole-few, whole-links}
+use Rattle.held_state.specs.Changes.{getattr_answer}
+use Rattle.service.proofs.Getting.{tells, whole-links}
 use Rattle.service.proofs.attributes.get_attributes.Goals as goal
 
 pub shown-requires : goal.shown-requires
@@ -19,16 +20,16 @@ shown-requires c = record {
 
 pub returns-in-Some : goal.returns-in-Some
 returns-in-Some c = record {
-  right = getattr-right c.args.volume.0 c.args.fileid.0 (logical_before c.args.held.now) (Ok c.shown.result)
+  right = tells c.args.volume.0 c.args.fileid.0 (logical_before c.args.held.now) (Ok c.shown.result)
       (ap GetattrDone c.shown.ensures
-      ∙ ap (λ (t : Option Moment). told_of c.args.volume.0 c.args.fileid.0 (Some (inode_value c.in-Some.inode)) t) c.latest_touch.ensures
-      ∙ ap (λ (o : Option Inode). told_of c.args.volume.0 c.args.fileid.0 o (file_touch (logical_before c.args.held.now).stripes c.args.fileid.0))
+      ∙ ap (λ (t : Option Moment). getattr_answer c.args.volume.0 c.args.fileid.0 (Some (inode_value c.in-Some.inode)) t) c.latest_touch.ensures
+      ∙ ap (λ (o : Option Inode). getattr_answer c.args.volume.0 c.args.fileid.0 o (file_touch (logical_before c.args.held.now).stripes c.args.fileid.0))
       (c.in-Some.ensures ∙ ap (λ (l : LogicalValue). inode_of l.inodes c.args.fileid.0) c.get.ensures));
 }
 
 pub returns-in-None : goal.returns-in-None
 returns-in-None c = record {
-  right = getattr-right c.args.volume.0 c.args.fileid.0 (logical_before c.args.held.now) (Err Stale)
-      (ap (λ (o : Option Inode). told_of c.args.volume.0 c.args.fileid.0 o (file_touch (logical_before c.args.held.now).stripes c.args.fileid.0))
+  right = tells c.args.volume.0 c.args.fileid.0 (logical_before c.args.held.now) (Err Stale)
+      (ap (λ (o : Option Inode). getattr_answer c.args.volume.0 c.args.fileid.0 o (file_touch (logical_before c.args.held.now).stripes c.args.fileid.0))
       (c.in-None.ensures ∙ ap (λ (l : LogicalValue). inode_of l.inodes c.args.fileid.0) c.get.ensures));
 }
