@@ -1,11 +1,25 @@
 -- What a depot grants is a part of some sound whole.
-use Rattle.std.proofs.Common.{◌≡◌, ℕ, zero, suc, ◌<◌, ◌≤◌, List, [], ◌∷◌, length, Option, Some, None, refl, sym, ap, ◌∙◌, subst, arith, ⊎_elim}
+use Rattle.std.proofs.Common.{◌≡◌, ℕ, zero, suc, ◌<◌, ◌≤◌, List, [], ◌∷◌, length, Option, Some, None, refl, sym, ap, ◌∙◌, subst, arith, ⊎_elim, Result}
 use Rattle.std.proofs.lemmas.Bool.{cases_lt}
 use Rattle.std.proofs.lemmas.List.{get_or_past}
 use Rattle.std.specs.Prelude.{slice_get}
 use Rattle.nfs_model.specs.Tree as trees
 use Rattle.nfs_model.specs.Tree.{Layout, Logical, stripes_of}
 use Rattle.nfs_model.specs.Parts.{Hand}
+use Rattle.nfs_model.specs.Server.{handle_of}
+use Rattle.affinity_tree.specs.declared.affinity.Affinity as codes
+use Rattle.affinity_tree.specs.declared.affinity.Affinity.TheVariants.{VolumeLogical}
+use Rattle.affinity_tree.specs.Affinity.{affinity_of}
+use Rattle.nfs_values.specs.Credential.{credential_of}
+use Rattle.nfs_values.specs.Handle.{named_of}
+use Rattle.nfs_values.specs.Moment.{moment_of}
+use Rattle.nfs_values.specs.declared.attributes.Attributes.{Attributes}
+use Rattle.nfs_values.specs.declared.handle.Named.{Named}
+use Rattle.nfs_values.specs.declared.status.Status.{Status}
+use Rattle.service.specs.Getattr.{TellsAttributes}
+use Rattle.service.specs.lemmas.Serving.{getattr-step}
+use Rattle.service_trial.specs.declared.asker.Asker.{Asker}
+use Rattle.service_trial.specs.Driving.{getattr_job, getattr_reply}
 use Rattle.affinity_tree.specs.Ancestors.{Covers, tally, ancestors}
 use Rattle.affinity_tree.specs.Fault.{fault_of}
 use Rattle.affinity_tree.specs.Numbers.{number_of, parents}
@@ -15,8 +29,8 @@ use Rattle.parcel_sets.specs.Sets.{logical_parcels}
 use Rattle.depot_rule.specs.declared.view.View.{View}
 use Rattle.depot_rule.specs.declared.view.Entry.{Entry}
 use Rattle.depot_rule.specs.Sums.{total}
-use Rattle.depot_rule.specs.History.{behaviour, after, listed}
-use Rattle.depot.specs.Grants.{IsAfter}
+use Rattle.depot_rule.specs.History.{Behaviour, behaviour, after, listed}
+use Rattle.depot.specs.Grants.{HasWith, IsAfter, IsStep}
 use Rattle.held_state.specs.Parcels.{FilerParcel}
 use Rattle.held_state.specs.Contents.{VolumeContents, FilerContents, volume_at, filer_contents}
 use Rattle.held_state.specs.Lenses.{LogicalSet, logical_lens, in_volume, volume_or_none}
@@ -103,3 +117,35 @@ module _ {P : Type 0} (layout : Layout) (lawful : fault_of layout ≡ None) (v :
           s.1,
         ),
       )
+
+module _ {P : Type 0} (layout : Layout) (lawful : fault_of layout ≡ None) (named : Named) (on : named.volume.0 < length layout.volumes)
+    (a : codes.Affinity) (is : a ≡ VolumeLogical named.volume.0) where
+  -- the same where the node is told by the code
+  pub granted-at : (w : View (FilerParcel P) (Entry (FilerParcel P) Job JobReply)) → w.tree ≡ parents layout → (held : FilerLogical P)
+      → IsAfter (behaviour job_steps job_takes job_gives IsFiler) w (number_of layout (affinity_of a)) (logical_parcels layout (affinity_of a) held)
+      → (held.own.stripes ≡ stripes_of layout named.volume.0) × HasVolume named.volume.0 logical_lens [] (logical_before held)
+  granted-at w of held seen =
+      granted-volume layout lawful named.volume.0 on w of held
+      (subst (λ (x : codes.Affinity). IsAfter (behaviour job_steps job_takes job_gives IsFiler) w (number_of layout (affinity_of x)) (logical_parcels layout (affinity_of x) held)) is seen)
+
+  -- GETATTR of the granted set is a step, which leaves the set as it was
+  pub getattr-is-step : (asker : Asker) (handle : List ℕ) → handle_of (length layout.volumes) handle ≡ Some (named_of named)
+      → (w : View (FilerParcel P) (Entry (FilerParcel P) Job JobReply)) → w.tree ≡ parents layout
+      → (held new : FilerLogical P) → new ≡ held → held.own.stripes ≡ stripes_of layout named.volume.0
+      → HasWith w (number_of layout (affinity_of a)) (logical_parcels layout (affinity_of a) held)
+      → (told : Result Attributes Status) → TellsAttributes named.volume.0 named.fileid.0 (logical_before held) told (logical_before held)
+      → IsStep (behaviour job_steps job_takes job_gives IsFiler) w (number_of layout (affinity_of a)) (getattr_job asker handle named) (getattr_reply told) (logical_parcels layout (affinity_of a) new)
+  getattr-is-step asker handle good w of held new same own has told right =
+      subst (λ (h : FilerLogical P). IsStep (behaviour job_steps job_takes job_gives IsFiler) w (number_of layout (affinity_of a)) (getattr_job asker handle named) (getattr_reply told)
+      (logical_parcels layout (affinity_of a) h)) (sym same)
+      (subst (λ (x : codes.Affinity). IsStep (behaviour job_steps job_takes job_gives IsFiler) w (number_of layout (affinity_of x)) (getattr_job asker handle named) (getattr_reply told)
+      (logical_parcels layout (affinity_of x) held)) (sym is)
+      (
+        logical_parcels layout (Logical named.volume.0) held,
+        subst (λ (x : codes.Affinity). HasWith w (number_of layout (affinity_of x)) (logical_parcels layout (affinity_of x) held)) is has,
+        subst (λ (ps : List ℕ). job_steps ps (number_of layout (Logical named.volume.0)) (getattr_job asker handle named) (logical_parcels layout (Logical named.volume.0) held)
+        (getattr_reply told) (logical_parcels layout (Logical named.volume.0) held)) (sym of)
+        (getattr-step layout named.volume.0 named.fileid.0 handle good lawful on asker.connection.0 asker.number asker.xid (credential_of asker.credential)
+        (moment_of asker.moment) held held told
+        (subst (λ (n : ℕ). TellsAttributes named.volume.0 named.fileid.0 (logical_set n held) told (logical_set n held)) own right)),
+      ))
