@@ -48,5 +48,5 @@ module _ (verifier : List ℕ) (stripes largest : ℕ) where
       → logical_of inodes directories stock dead ≡ opening_logical verifier stripes largest
   logical-begun inodes none directories d stock dead inodes_are nothing empty with_root no_stock no_dead =
       let directories_are : directories ≡ from_sorted ((root, empty_directory) ∷ []) =
-          with_root ∙ (λ j. insert (nothing j) root (empty j)) ∙ single-insert root empty_directory in
+      with_root ∙ (λ j. insert (nothing j) root (empty j)) ∙ single-insert root empty_directory in
       λ j. logical_of (inodes_are j) (directories_are j) (no_stock j) (no_dead j)

@@ -38,7 +38,7 @@ few-links p well fileid inode there = by inode.kind refl
         listed None e = absurd (let no : false ≡ true = sym (ap is_some e) ∙ (well.logical.named.folders fileid ∙ folder) in cc)
         listed (Some d) e =
             let counted : Some subs ≡ Some (folders_listed p.logical.inodes.inodes d.list) =
-                sym (ap subdirectories_of there ∙ ap subdirectories_in is) ∙ (well.logical.named.fits fileid d e).links in
+            sym (ap subdirectories_of there ∙ ap subdirectories_in is) ∙ (well.logical.named.fits fileid d e).links in
             let same : subs ≡ folders_listed p.logical.inodes.inodes d.list = cc in
             let most = few-folders p.logical.inodes.inodes p.logical.directories well.logical.named fileid d e in
             let few = well.logical.few in

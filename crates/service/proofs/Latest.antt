@@ -48,8 +48,8 @@ touch-place {P} held fileid (suc n) touch one next place some below before long 
     let f : ℕ → StripeValue = λ i. stripe_value (placed held.stripes.at i) in
     let found : slice_get held.stripes.at n ≡ Some (slice_index_or held.stripes.at n place) = place-there held.stripes.at n place (omega arith) in
     let same : stripe_value (slice_index_or held.stripes.at (suc n - 1) place) ≡ f n =
-        ap (λ (k : ℕ). stripe_value (slice_index_or held.stripes.at k place)) down
-        ∙ ap (λ (o : Option (Option (FilerStripe P))). stripe_value (in_one o)) (sym found) in
+    ap (λ (k : ℕ). stripe_value (slice_index_or held.stripes.at k place)) down
+    ∙ ap (λ (o : Option (Option (FilerStripe P))). stripe_value (in_one o)) (sym found) in
     subst (λ (k : ℕ). IsTouchFrom f fileid held.own.stripes k next) (sym down)
     (touch-more f fileid held.own.stripes n touch next (omega arith) (subst (λ (k : ℕ). IsTouchFrom f fileid held.own.stripes k touch) (sym here) before)
     (later_is ∙ ap (λ t. later t touch) (is ∙ ap (λ (s : StripeValue). touch_of (get s.cards fileid)) same)))

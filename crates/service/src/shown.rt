@@ -41,7 +41,14 @@ pub(crate) fn shown(
             subdirectories,
         } => {
             let links = 2 + subdirectories;
-            (FileKind::Directory, links, 4_096, 0, stored.mtime, stored.ctime)
+            (
+                FileKind::Directory,
+                links,
+                4_096,
+                0,
+                stored.mtime,
+                stored.ctime,
+            )
         }
     };
     Attributes {

@@ -102,8 +102,7 @@ module _ {P : Type 0} (layout : Layout) (lawful : fault_of layout ≡ None) (v :
       let here : logical_lens.of p ≡ logical_set (stripes_of layout v) held = ap (λ o. logical_lens.of (volume_or_none o)) (sym found.1) ∙ has in
       let s = sound v p found.1 in
       let own : held.own.stripes ≡ stripes_of layout v =
-          ap (λ (x : LogicalSet). x.own.stripes) (sym here) ∙ sym s.1.well_formed.as_many ∙ (laid.volume v p found.1).1 in
-      (
+      ap (λ (x : LogicalSet). x.own.stripes) (sym here) ∙ sym s.1.well_formed.as_many ∙ (laid.volume v p found.1).1 in (
         own,
         (
           p,
@@ -139,13 +138,12 @@ module _ {P : Type 0} (layout : Layout) (lawful : fault_of layout ≡ None) (nam
       subst (λ (h : FilerLogical P). IsStep (behaviour job_steps job_takes job_gives IsFiler) w (number_of layout (affinity_of a)) (getattr_job asker handle named) (getattr_reply told)
       (logical_parcels layout (affinity_of a) h)) (sym same)
       (subst (λ (x : codes.Affinity). IsStep (behaviour job_steps job_takes job_gives IsFiler) w (number_of layout (affinity_of x)) (getattr_job asker handle named) (getattr_reply told)
-      (logical_parcels layout (affinity_of x) held)) (sym is)
-      (
+      (logical_parcels layout (affinity_of x) held)) (sym is) (
         logical_parcels layout (Logical named.volume.0) held,
         subst (λ (x : codes.Affinity). HasWith w (number_of layout (affinity_of x)) (logical_parcels layout (affinity_of x) held)) is has,
         subst (λ (ps : List ℕ). job_steps ps (number_of layout (Logical named.volume.0)) (getattr_job asker handle named) (logical_parcels layout (Logical named.volume.0) held)
-        (getattr_reply told) (logical_parcels layout (Logical named.volume.0) held)) (sym of)
-        (getattr-step layout named.volume.0 named.fileid.0 handle good lawful on asker.connection.0 asker.number asker.xid (credential_of asker.credential)
-        (moment_of asker.moment) held held told
-        (subst (λ (n : ℕ). TellsAttributes named.volume.0 named.fileid.0 (logical_set n held) told (logical_set n held)) own right)),
+            (getattr_reply told) (logical_parcels layout (Logical named.volume.0) held)) (sym of)
+            (getattr-step layout named.volume.0 named.fileid.0 handle good lawful on asker.connection.0 asker.number asker.xid (credential_of asker.credential)
+            (moment_of asker.moment) held held told
+            (subst (λ (n : ℕ). TellsAttributes named.volume.0 named.fileid.0 (logical_set n held) told (logical_set n held)) own right)),
       ))

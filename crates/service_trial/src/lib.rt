@@ -3,6 +3,8 @@
 
 mod asker;
 mod driving;
+#[cfg(test)]
+mod tests;
 
 pub use asker::Asker;
 pub use driving::{open, serve_get_attributes};

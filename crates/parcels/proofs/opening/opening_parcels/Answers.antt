@@ -41,7 +41,7 @@ returns-clause-opening c =
     let count = c.node_count-number-end.ensures.count in
     let done = c.loop-number-test.false in
     laid-taken (layout_of c.args.layout.now) c.args.verifier.0 c.loop-number.shelf.parcels.items c.loop-number.number
-        (omega arith) c.loop-number.invariant.1 _ _ c.gather.ensures.moved c.gather.ensures.exact
+    (omega arith) c.loop-number.invariant.1 _ _ c.gather.ensures.moved c.gather.ensures.exact
 
 pub returns-clause-sound : goal.returns-clause-sound
 returns-clause-sound c =

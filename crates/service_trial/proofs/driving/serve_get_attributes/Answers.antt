@@ -19,7 +19,7 @@ get_attributes-told-requires c =
     let L = layout_in c.args.depot.now in
     let on = subst (λ (l : Layout). c.in_ok-named.named.volume.0 < length l.volumes) c.layout.ensures c.in_ok-named.ensures.there in
     let granted = granted-at L c.args.depot.now.layout.lawful c.in_ok-named.named on c.in-Ok.grant.affinity c.in-Ok.ensures.node
-        (view c.args.seat.now) c.requires.seat.1.0 c.in-Ok.grant.held c.in-Ok.ensures.after in
+    (view c.args.seat.now) c.requires.seat.1.0 c.in-Ok.grant.held c.in-Ok.ensures.after in
     record { whole = subst (λ h. HasVolume c.in_ok-named.named.volume.0 logical_lens [] (logical_before h)) (sym c.held.ensures.value) granted.1 }
 
 pub finish-requires-clause-step : goal.finish-requires-clause-step
@@ -27,7 +27,7 @@ finish-requires-clause-step c =
     let L = layout_in c.args.depot.now in
     let on = subst (λ (l : Layout). c.in_ok-named.named.volume.0 < length l.volumes) c.layout.ensures c.in_ok-named.ensures.there in
     let granted = granted-at L c.args.depot.now.layout.lawful c.in_ok-named.named on c.in-Ok.grant.affinity c.in-Ok.ensures.node
-        (view c.args.seat.now) c.requires.seat.1.0 c.in-Ok.grant.held c.in-Ok.ensures.after in
+    (view c.args.seat.now) c.requires.seat.1.0 c.in-Ok.grant.held c.in-Ok.ensures.after in
     getattr-is-step L c.args.depot.now.layout.lawful c.in_ok-named.named on c.in-Ok.grant.affinity c.in-Ok.ensures.node c.args.asker c.args.handle
     (ap (λ (l : Layout). handle_of (length l.volumes) c.args.handle) (sym c.layout.ensures) ∙ sym c.in_ok-named.ensures.named)
     (view c.begin.new.seat) c.begin.ensures.seat.1.0 c.in-Ok.grant.held c.held.result.now c.held.ensures.value granted.0
