@@ -1,0 +1,3 @@
+mod DirectoryMaps
+mod Laid
+mod Begun

@@ -1,0 +1,10 @@
+use Rattle.std.proofs.Common.{ap, ◌∙◌}
+use Rattle.volume_values.specs.Directories.{removed}
+use Rattle.volume_values.specs.Maps.{changed_at}
+use Rattle.parcels.proofs.DirectoryMaps.{changed-directory}
+use Rattle.parcels.proofs.directory_map.DirectoryMap.remove_entry.Goals as goal
+
+pub returns : goal.returns
+returns c =
+    changed-directory (removed c.args.name.now) c.args.directory.0 c.self.inside.by_fileid c.remove_at.new.by_fileid c.remove_at.ensures
+    ∙ ap (changed_at (removed c.args.name.now) c.args.directory.0) c.self.view_is

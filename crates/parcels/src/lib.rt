@@ -1,0 +1,17 @@
+//! The parcels of a filer: what each node of the tree holds, and the parcels of a layout as a run
+//! begins.
+#![tactic(auto)]
+
+mod directory_map;
+mod files;
+mod logical;
+mod opening;
+mod range;
+mod stripe;
+
+pub use directory_map::DirectoryMap;
+pub use files::Files;
+pub use logical::{Logical, LogicalParcel};
+pub use opening::opening_parcels;
+pub use range::RangeParcel;
+pub use stripe::StripeParcel;

@@ -1,0 +1,80 @@
+-- Entries of the history, as the definitions have them.
+use Rattle.std.specs.Prelude.{ℕ, List, Option, Some}
+use Rattle.nfs_model.specs.Types as types
+use Rattle.nfs_model.specs.Parts.{Hand}
+use Rattle.nfs_model.specs.Replay as replay
+use Rattle.affinity_tree.specs.Affinity.{affinity_of}
+use Rattle.nfs_values.specs.Call.{call_of}
+use Rattle.nfs_values.specs.Credential.{credential_of}
+use Rattle.nfs_values.specs.Moment.{moment_of}
+use Rattle.nfs_values.specs.Reply.{reply_of}
+use Rattle.depot_rule.specs.Machine.{IsLocal, Keeps}
+use Rattle.depot_rule.specs.lemmas.Completions.{right-local, right-keeps}
+use Rattle.depot_rule.specs.Completions.{IsLayoutOf, at_node}
+use Rattle.held_state.specs.Parcels.{FilerParcel}
+use Rattle.held_state.specs.Sound.{AllSound, IsFiler}
+use Rattle.held_state.specs.Jobs as jobs
+use Rattle.held_state.specs.Jobs.{takes, gives}
+use Rattle.held_state.specs.Deeds.{FilerSteps, ParcelsDo}
+use Rattle.service.specs.declared.job.Asked.{Asked}
+use Rattle.service.specs.declared.job.Asked.TheVariants.{Call, Refused, Undecoded}
+use Rattle.service.specs.declared.job.ServedCall.{ServedCall}
+use Rattle.service.specs.declared.job.InnerCall.{InnerCall}
+use Rattle.service.specs.declared.job.InnerCall.TheVariants.{Fetch, Deliver, Cull, Free, Survey}
+use Rattle.service.specs.declared.job.Job.{Job}
+use Rattle.service.specs.declared.job.Job.TheVariants.{Serve, Inner}
+use Rattle.service.specs.declared.job.JobReply.{JobReply}
+use Rattle.service.specs.declared.job.JobReply.TheVariants.{Replied, Took, Gave, Surveyed}
+
+abbrev pub asked_of : Asked → types.Asked
+asked_of (Call call credential) = types.Ask (call_of call) (credential_of credential)
+asked_of (Refused reply) = types.Refused (reply_of reply)
+asked_of Undecoded = types.Undecoded
+
+abbrev pub finished_of : ServedCall → replay.FinishedCall
+finished_of c = record {
+  connection = c.connection.0;
+  number = c.number;
+  xid = c.xid;
+  asked = asked_of c.asked;
+  affinity = Some (affinity_of c.affinity);
+  moment = moment_of c.moment;
+  starved = c.starved;
+}
+
+abbrev pub inner_of : InnerCall → jobs.InnerCall
+inner_of (Fetch volume range) = jobs.Fetch volume.0 range
+inner_of (Deliver volume) = jobs.Deliver volume.0
+inner_of (Cull volume) = jobs.Cull volume.0
+inner_of (Free volume range) = jobs.Free volume.0 range
+inner_of (Survey volume) = jobs.Survey volume.0
+
+abbrev pub job_of : Job → jobs.Job
+job_of (Serve call) = jobs.Serve (finished_of call)
+job_of (Inner call) = jobs.Inner (inner_of call)
+
+abbrev pub job_reply_of : JobReply → jobs.JobReply
+job_reply_of (Replied reply) = jobs.Replied (reply_of reply)
+job_reply_of (Took batch) = jobs.Took batch
+job_reply_of (Gave batch) = jobs.Gave batch
+job_reply_of (Surveyed counts) = jobs.Surveyed counts.items
+
+-- ---- the machine
+
+abbrev pub job_steps : {P : Type 0} → List ℕ → ℕ → Job → (ℕ → Option (FilerParcel P)) → JobReply → (ℕ → Option (FilerParcel P)) → Type 0
+job_steps parents a job f reply f' = FilerSteps parents a (job_of job) f (job_reply_of reply) f'
+
+-- the batches that an entry takes into its seat's hand, and those that it gives from it
+abbrev pub job_takes : Job → JobReply → List Hand
+job_takes job reply = takes (job_of job) (job_reply_of reply)
+
+abbrev pub job_gives : Job → JobReply → List Hand
+job_gives job reply = gives (job_of job) (job_reply_of reply)
+
+pub jobs-local : {P : Type 0} → IsLocal (job_steps {P = P})
+jobs-local {P} ps a job f g reply f' step =
+    right-local IsLayoutOf (AllSound {P = P}) takes gives (at_node ParcelsDo) ps a (job_of job) f g (job_reply_of reply) f' step
+
+pub jobs-keep : {P : Type 0} → Keeps (job_steps {P = P}) job_takes job_gives IsFiler
+jobs-keep {P} ps a job f reply f' hands hands' n sound step moved =
+    right-keeps IsLayoutOf (AllSound {P = P}) takes gives (at_node ParcelsDo) ps a (job_of job) f (job_reply_of reply) f' hands hands' n sound step moved

@@ -1,0 +1,4 @@
+pub mod Hands
+pub mod Jobs
+pub mod Getattr
+pub mod lemmas

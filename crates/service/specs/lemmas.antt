@@ -1,0 +1,2 @@
+-- Lemmas alone, which no reader has to believe: from a handler's promise to a step of the machine.
+pub mod Serving

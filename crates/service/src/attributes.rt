@@ -1,0 +1,30 @@
+//! GETATTR.
+
+ghost use Rattle.std.specs.Prelude.{[]};
+ghost use Rattle.held_state.specs.Lenses.{logical_lens};
+ghost use Rattle.held_state.specs.Promises.{HasVolume};
+ghost use Rattle.held_state.specs.Sets.{logical_before};
+ghost use Rattle.service.specs.Getattr.{TellsAttributes};
+
+use crate::shown::shown;
+use crate::touches::latest_touch;
+use nfs_values::{Attributes, Fileid, Status, VolumeNumber};
+use parcel_sets::LogicalHeld;
+use parcels::Files;
+
+/// GETATTR (RFC 1813 section 3.3.1), on the parcels of a volume's names and attributes: the
+/// attributes of the node of a fileid, or STALE where there is none. It takes no memory.
+pub fn get_attributes(
+    held: &LogicalHeld<Files>,
+    volume: VolumeNumber,
+    fileid: Fileid,
+) -> Result<Attributes, Status>
+    requires whole { HasVolume volume.0 logical_lens [] (logical_before held.now) }
+    ensures right { TellsAttributes volume.0 fileid.0
+        (logical_before held.now) result (logical_before held.now) }
+{
+    match held.own.get().inodes.get(fileid) {
+        Some(inode) => Ok(shown(volume, fileid, inode, latest_touch(held, fileid))),
+        None => Err(Status::Stale),
+    }
+}

@@ -1,0 +1,43 @@
+//! What a hand carries, as a history has it.
+
+ghost use Rattle.std.specs.Prelude.{◌≡◌};
+
+use parcel_sets::Hand;
+use std::marker::Model;
+use vbn_ranges::Batch;
+
+/// A hand that an inner call filled, or emptied.
+#[derive(Drop)]
+pub struct BatchInHand {
+    hand: Hand<Batch>,
+}
+
+impl Model for BatchInHand {
+    ghost use Rattle.nfs_model.specs.Parts as parts;
+    ghost use Rattle.service.specs.Hands.{hand_of, coded_hand};
+
+    ghost Value = { parts.Hand };
+
+    ghost coded = { coded_hand };
+
+    ghost view = { λ b. hand_of b.hand };
+}
+
+impl BatchInHand {
+    ghost use Rattle.service.specs.Hands.{hand_of};
+
+    /// What a hand carries.
+    pub fn new(hand: Hand<Batch>) -> BatchInHand
+        ensures { result ≡ hand_of hand }
+    {
+        BatchInHand { hand }
+    }
+
+    /// The hand.
+    pub fn into_hand(self) -> Hand<Batch>
+        ensures { hand_of result ≡ self }
+    {
+        let BatchInHand { hand } = self;
+        hand
+    }
+}

@@ -1,0 +1,65 @@
+//! What a depot of a filer's parcels runs.
+
+use crate::batch::BatchInHand;
+use affinity_tree::Affinity;
+use nfs_values::{Call, ConnectionNumber, Credential, Moment, Reply, VolumeNumber};
+
+/// What a record asks.
+#[derive(Drop)]
+pub enum Asked {
+    /// A call, and whom it acts for.
+    Call { call: Call, credential: Credential },
+    /// A call message that is refused by this reply.
+    Refused(Reply),
+    /// A call whose name or data there was no memory for.
+    Undecoded,
+}
+
+/// A call that a record asked for, as it is finished.
+#[derive(Drop)]
+pub struct ServedCall {
+    pub connection: ConnectionNumber,
+    /// Its place among the records that the connection served, from 0.
+    pub number: usize,
+    pub xid: u32,
+    pub asked: Asked,
+    /// The node that it ran on.
+    pub affinity: Affinity,
+    pub moment: Moment,
+    /// Whether memory ran out, so that it changed nothing and was answered so.
+    pub starved: bool,
+}
+
+/// A worker's call with its hand.
+#[derive(Clone, Copy, Debug, PartialEq, Eq)]
+pub enum InnerCall {
+    /// Free blocks of a range come into the hand.
+    Fetch { volume: VolumeNumber, range: u32 },
+    /// What is in the hand comes into the volume's stock.
+    Deliver { volume: VolumeNumber },
+    /// Dead blocks come into the hand.
+    Cull { volume: VolumeNumber },
+    /// What is in the hand comes back to its range.
+    Free { volume: VolumeNumber, range: u32 },
+    /// How many blocks are free.
+    Survey { volume: VolumeNumber },
+}
+
+/// An entry of the history.
+#[derive(Drop)]
+pub enum Job {
+    Serve(ServedCall),
+    Inner(InnerCall),
+}
+
+/// What came of it.
+#[derive(Drop)]
+pub enum JobReply {
+    Replied(Reply),
+    /// The batch that came into the hand.
+    Took(BatchInHand),
+    /// The batch that left it.
+    Gave(BatchInHand),
+    /// The free blocks of each range in use.
+    Surveyed(Vec<u32>),
+}

@@ -1,0 +1,36 @@
+//! The machine.
+
+use crate::batch::BatchInHand;
+use crate::job::{Job, JobReply};
+use depot_rule::machine::Machine;
+use parcel_sets::Parcel;
+use parcels::Files;
+
+/// Calls on the parcels of a filer: whatever the other parcels are, each does what the serial
+/// server does, and all that has to hold of them stays so.
+pub struct Service;
+
+impl Machine for Service {
+    ghost use Rattle.held_state.specs.Sound.{IsFiler};
+    ghost use Rattle.service.specs.Jobs.{job_steps, job_takes, job_gives, jobs-local, jobs-keep};
+
+    type Parcel = Parcel<Files>;
+
+    type Call = Job;
+
+    type Reply = JobReply;
+
+    type Batch = BatchInHand;
+
+    ghost steps = { job_steps };
+
+    ghost takes = { job_takes };
+
+    ghost gives = { job_gives };
+
+    ghost invariant = { IsFiler };
+
+    ghost local = { jobs-local };
+
+    ghost keeps = { jobs-keep };
+}

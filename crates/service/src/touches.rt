@@ -1,0 +1,79 @@
+//! Touches of a file: its latest writes, stripe by stripe.
+
+ghost use Rattle.std.specs.Prelude.{◌≡◌, ◌≤◌, ℕ, length};
+ghost use Rattle.std.specs.FinMap.{get};
+ghost use Rattle.std.specs.Option.{option_map};
+ghost use Rattle.nfs_model.specs.Shown.{moment_le};
+ghost use Rattle.nfs_values.specs.Moment.{moment_of};
+ghost use Rattle.volume_values.specs.Stripes.{touch_of};
+ghost use Rattle.stripe_cards.specs.Cards.{card_of};
+ghost use Rattle.held_state.specs.Sets.{logical_before, stripe_value};
+ghost use Rattle.held_state.specs.Tree.{file_touch, later};
+
+use nfs_values::{Fileid, Moment};
+use parcel_sets::{LogicalHeld, StripeHeld};
+use parcels::Files;
+use stripe_cards::Card;
+
+/// The latest touch of a file in the stripes of its volume.
+pub(crate) fn latest_touch(held: &LogicalHeld<Files>, fileid: Fileid) -> Option<Moment>
+    requires few { held.now.own.stripes ≤ 16 }
+    ensures { option_map moment_of result
+        ≡ file_touch (logical_before held.now).stripes fileid.0 }
+{
+    let mut touch = None;
+    let mut left = held.own.get().stripes as usize;
+    while left > 0 {
+        left -= 1;
+        touch = later(touch_in(&held.stripes.at[left], fileid), touch);
+    }
+    touch
+}
+
+/// The touch of a file in the stripe in a place.
+fn touch_in(place: &Option<StripeHeld<Files>>, fileid: Fileid) -> Option<Moment>
+    ensures { option_map moment_of result
+        ≡ touch_of (get (stripe_value place.now).cards fileid.0) }
+{
+    match place {
+        Some(stripe) => touch_on(stripe.own.get().card(fileid)),
+        None => None,
+    }
+}
+
+/// The touch on a card.
+fn touch_on(card: Option<Card>) -> Option<Moment>
+    ensures { option_map moment_of result ≡ touch_of (option_map card_of card) }
+{
+    match card {
+        Some(Card::File { size: _, touch }) => touch,
+        Some(Card::Directory) => None,
+        None => None,
+    }
+}
+
+/// The later of two touches.
+fn later(one: Option<Moment>, other: Option<Moment>) -> Option<Moment>
+    ensures { option_map moment_of result
+        ≡ later (option_map moment_of one) (option_map moment_of other) }
+{
+    let Some(first) = one else {
+        return other;
+    };
+    let Some(second) = other else {
+        return one;
+    };
+    if is_no_later(first, second) {
+        Some(second)
+    } else {
+        Some(first)
+    }
+}
+
+/// Whether a moment is no later than another.
+fn is_no_later(one: Moment, other: Moment) -> bool
+    ensures { result ≡ moment_le (moment_of one) (moment_of other) }
+{
+    one.seconds < other.seconds
+        || one.seconds == other.seconds && one.nanoseconds <= other.nanoseconds
+}
