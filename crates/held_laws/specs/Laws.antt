@@ -9,6 +9,8 @@ use Rattle.nfs_model.specs.Parts as parts
 use Rattle.nfs_model.specs.Parts.{Hand, times_listed, range_blocks}
 use Rattle.affinity_tree.specs.Fault.{fault_of}
 use Rattle.affinity_tree.specs.Numbers.{parents, number_of}
+use Rattle.depot_rule.specs.declared.view.Entry.{Entry}
+use Rattle.depot_rule.specs.History.{after, Legal, SoundThroughout, behaviour}
 use Rattle.depot_rule.specs.Machine.{IsLocal, Keeps}
 use Rattle.depot_rule.specs.Sums.{total}
 use Rattle.parcel_sets.specs.Sets.{range_parcels, vbn_parcels, stripe_parcels, logical_parcels, volume_parcels, aggregate_parcels, serial_parcels}
@@ -20,6 +22,7 @@ use Rattle.held_state.specs.Partition.{parts_of, all_parts, times_in_hand}
 use Rattle.held_state.specs.Sound.{IsSound, AllSound, IsFiler}
 use Rattle.held_state.specs.Jobs.{InnerCall, Job, Serve, Inner, JobReply, takes, gives, inner_node, inner_volume}
 use Rattle.held_state.specs.Deeds.{Does, FilerSteps}
+use Rattle.held_state.specs.Replayed.{calls_of, replies_of, Replays}
 use Rattle.held_state.specs.Lenses.{with_contents, stripe_lens, range_lens, vbn_lens, logical_lens, volume_lens, aggregate_lens, serial_lens, in_volume}
 use Rattle.held_state.specs.Promises.{IsLaidOut, IsRight, IsSeenBy}
 use Rattle.held_state.specs.Calls.{VolumeCall, IsCallOn, ServesOn, DoesInnerOn, finished_as}
@@ -73,6 +76,13 @@ module _ (P : Type 0) where
   abbrev pub StepsCommute : Type 0
   StepsCommute = Commute (FilerSteps {P = P})
 
+  -- The parcels that a legal history leaves, in which all is sound throughout, stand for the serial server after its finished
+  -- calls, whose replies are the serial server's.
+  abbrev pub HistoriesReplay : Type 0
+  HistoriesReplay = (layout : Layout) → fault_of layout ≡ None → (f : ℕ → Option (FilerParcel P)) (log : List (Entry (FilerParcel P) Job JobReply))
+      → Legal FilerSteps (parents layout) f log → SoundThroughout (behaviour FilerSteps takes gives IsFiler) (parents layout) f log
+      → Replays (tree layout f) (tree layout (after (parents layout) f log)) (calls_of log) (replies_of log)
+
   -- which of two layouts of one tree is taken changes nothing
   abbrev pub LayoutsAgree : Type 0
   LayoutsAgree = (l m : Layout) → parents l ≡ parents m → (f : ℕ → Option (FilerParcel P)) → filer_contents l f ≡ filer_contents m f
@@ -115,47 +125,47 @@ module _ (P : Type 0) where
   -- ---- handlers: where a set's change is right, putting in the set's parcels is a step
 
   abbrev pub StripeMakesStep : Type 0
-  StripeMakesStep = (layout : Layout) → fault_of layout ≡ None → (work : Job) (reply : JobReply) → (v i : ℕ) → v < length layout.volumes
+  StripeMakesStep = (layout : Layout) → fault_of layout ≡ None → (job : Job) (reply : JobReply) → (v i : ℕ) → v < length layout.volumes
       → i < stripes_of layout v → (old new : FilerStripe P)
-      → IsRight layout (Stripe v i) (in_volume v (stripe_lens i)) work old.own reply new.own
-      → FilerSteps (parents layout) (number_of layout (Stripe v i)) work (stripe_parcels layout (Stripe v i) old) reply (stripe_parcels layout
+      → IsRight layout (Stripe v i) (in_volume v (stripe_lens i)) job old.own reply new.own
+      → FilerSteps (parents layout) (number_of layout (Stripe v i)) job (stripe_parcels layout (Stripe v i) old) reply (stripe_parcels layout
       (Stripe v i) new)
 
   abbrev pub RangeMakesStep : Type 0
-  RangeMakesStep = (layout : Layout) → fault_of layout ≡ None → (work : Job) (reply : JobReply) → (v r : ℕ) → v < length layout.volumes → r < 16
+  RangeMakesStep = (layout : Layout) → fault_of layout ≡ None → (job : Job) (reply : JobReply) → (v r : ℕ) → v < length layout.volumes → r < 16
       → (old new : FilerRange P)
-      → IsRight layout (Range v r) (in_volume v (range_lens r)) work old.own reply new.own
-      → FilerSteps (parents layout) (number_of layout (Range v r)) work (range_parcels layout (Range v r) old) reply (range_parcels layout (Range v r) new)
+      → IsRight layout (Range v r) (in_volume v (range_lens r)) job old.own reply new.own
+      → FilerSteps (parents layout) (number_of layout (Range v r)) job (range_parcels layout (Range v r) old) reply (range_parcels layout (Range v r) new)
 
   abbrev pub VbnMakesStep : Type 0
-  VbnMakesStep = (layout : Layout) → fault_of layout ≡ None → (work : Job) (reply : JobReply) → (v : ℕ) → v < length layout.volumes → (old new : FilerVbn P)
-      → IsRight layout (Vbn v) (in_volume v vbn_lens) work (vbn_set old) reply (vbn_set new)
-      → FilerSteps (parents layout) (number_of layout (Vbn v)) work (vbn_parcels layout (Vbn v) old) reply (vbn_parcels layout (Vbn v) new)
+  VbnMakesStep = (layout : Layout) → fault_of layout ≡ None → (job : Job) (reply : JobReply) → (v : ℕ) → v < length layout.volumes → (old new : FilerVbn P)
+      → IsRight layout (Vbn v) (in_volume v vbn_lens) job (vbn_set old) reply (vbn_set new)
+      → FilerSteps (parents layout) (number_of layout (Vbn v)) job (vbn_parcels layout (Vbn v) old) reply (vbn_parcels layout (Vbn v) new)
 
   abbrev pub LogicalMakesStep : Type 0
-  LogicalMakesStep = (layout : Layout) → fault_of layout ≡ None → (work : Job) (reply : JobReply) → (v : ℕ) → v < length layout.volumes
+  LogicalMakesStep = (layout : Layout) → fault_of layout ≡ None → (job : Job) (reply : JobReply) → (v : ℕ) → v < length layout.volumes
       → (old new : FilerLogical P)
-      → IsRight layout (Logical v) (in_volume v logical_lens) work (logical_set (stripes_of layout v) old) reply (logical_set (stripes_of layout v) new)
-      → FilerSteps (parents layout) (number_of layout (Logical v)) work (logical_parcels layout (Logical v) old) reply (logical_parcels layout
+      → IsRight layout (Logical v) (in_volume v logical_lens) job (logical_set (stripes_of layout v) old) reply (logical_set (stripes_of layout v) new)
+      → FilerSteps (parents layout) (number_of layout (Logical v)) job (logical_parcels layout (Logical v) old) reply (logical_parcels layout
       (Logical v) new)
 
   abbrev pub VolumeMakesStep : Type 0
-  VolumeMakesStep = (layout : Layout) → fault_of layout ≡ None → (work : Job) (reply : JobReply) → (v : ℕ) → v < length layout.volumes
+  VolumeMakesStep = (layout : Layout) → fault_of layout ≡ None → (job : Job) (reply : JobReply) → (v : ℕ) → v < length layout.volumes
       → (old new : FilerVolume P)
-      → IsRight layout (Volume v) (in_volume v volume_lens) work (volume_set (stripes_of layout v) old) reply (volume_set (stripes_of layout v) new)
-      → FilerSteps (parents layout) (number_of layout (Volume v)) work (volume_parcels layout (Volume v) old) reply (volume_parcels layout (Volume v) new)
+      → IsRight layout (Volume v) (in_volume v volume_lens) job (volume_set (stripes_of layout v) old) reply (volume_set (stripes_of layout v) new)
+      → FilerSteps (parents layout) (number_of layout (Volume v)) job (volume_parcels layout (Volume v) old) reply (volume_parcels layout (Volume v) new)
 
   abbrev pub AggregateMakesStep : Type 0
-  AggregateMakesStep = (layout : Layout) → fault_of layout ≡ None → (work : Job) (reply : JobReply) → (a : ℕ) → a < length layout.spare
+  AggregateMakesStep = (layout : Layout) → fault_of layout ≡ None → (job : Job) (reply : JobReply) → (a : ℕ) → a < length layout.spare
       → (old new : FilerAggregate P)
-      → IsRight layout (Aggregate a) (aggregate_lens a) work (aggregate_set layout a old) reply (aggregate_set layout a new)
-      → FilerSteps (parents layout) (number_of layout (Aggregate a)) work (aggregate_parcels layout (Aggregate a) old) reply
+      → IsRight layout (Aggregate a) (aggregate_lens a) job (aggregate_set layout a old) reply (aggregate_set layout a new)
+      → FilerSteps (parents layout) (number_of layout (Aggregate a)) job (aggregate_parcels layout (Aggregate a) old) reply
       (aggregate_parcels layout (Aggregate a) new)
 
   abbrev pub SerialMakesStep : Type 0
-  SerialMakesStep = (layout : Layout) → fault_of layout ≡ None → (work : Job) (reply : JobReply) → (old new : FilerSerial P)
-      → IsRight layout Serial serial_lens work (serial_set layout old) reply (serial_set layout new)
-      → FilerSteps (parents layout) (number_of layout Serial) work (serial_parcels layout Serial old) reply (serial_parcels layout Serial new)
+  SerialMakesStep = (layout : Layout) → fault_of layout ≡ None → (job : Job) (reply : JobReply) → (old new : FilerSerial P)
+      → IsRight layout Serial serial_lens job (serial_set layout old) reply (serial_set layout new)
+      → FilerSteps (parents layout) (number_of layout Serial) job (serial_parcels layout Serial old) reply (serial_parcels layout Serial new)
 
 -- ---- what is done on a volume
 

@@ -13,3 +13,6 @@ pub mod Mapped
 pub mod Counted
 pub mod Limits
 pub mod Known
+pub mod Delivering
+pub mod Lawful
+pub mod Replays

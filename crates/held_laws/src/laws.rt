@@ -2,7 +2,7 @@
 
 ghost use Rattle.held_laws.specs.Laws.{PartsPartition, UsedFits, EntriesFit};
 ghost use Rattle.held_laws.specs.Laws.{OpensSound, OpensAsServer, OpensFree};
-ghost use Rattle.held_laws.specs.Laws.{StepsAreLocal, StepsKeep, StepsCommute};
+ghost use Rattle.held_laws.specs.Laws.{StepsAreLocal, StepsKeep, StepsCommute, HistoriesReplay};
 ghost use Rattle.held_laws.specs.Laws.{LayoutsAgree, SoundByWeight};
 ghost use Rattle.held_laws.specs.Laws.{StripesAreSeen, RangesAreSeen, VbnsAreSeen};
 ghost use Rattle.held_laws.specs.Laws.{LogicalsAreSeen, VolumesAreSeen};
@@ -25,6 +25,12 @@ pub fn steps_are_lawful<P>()
     ensures local { StepsAreLocal P }
     ensures keeps { StepsKeep P }
     ensures commute { StepsCommute P }
+{}
+
+/// The parcels that a legal history leaves stand for the serial server after its finished calls,
+/// and the replies to them are the serial server's.
+pub fn histories_replay<P>()
+    ensures { HistoriesReplay P }
 {}
 
 /// Which of two layouts of one tree is taken changes nothing, nor does the order of hands.

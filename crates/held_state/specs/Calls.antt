@@ -94,7 +94,8 @@ MayStarveOn c p = (server : Server)
     → locate server (handle_in c.call) ≡ Some (located_on c p) → IsTrue (takes_memory server c.call (answer_on c p))
 
 -- The outcome on one volume. A move changes nothing, nor does a starved call; a reply is the serial server's, so is the volume
--- after it, and its block numbers moved lawfully.
+-- after it, and its block numbers moved lawfully. (Of a move a handler says too that its set is as it was: a volume doesn't show
+-- all that a set has.)
 abbrev pub WorksOn : VolumeCall → VolumeContents → Outcome → VolumeContents → Type 0
 WorksOn c old (Moved node) new = (move_on c old ≡ Some node) × (new ≡ old)
 WorksOn c old Starved new = (move_on c old ≡ None) × MayStarveOn c old × (new ≡ old)

@@ -1,5 +1,5 @@
 -- What an entry of the history does: to the server that the parcels stand for, and to the places of block numbers.
-use Rattle.std.specs.Prelude.{◌≡◌, ℕ, Bool, true, false, IsTrue, Option, Some, slice_set}
+use Rattle.std.specs.Prelude.{◌≡◌, ℕ, ◌<◌, Bool, true, false, IsTrue, length, Option, Some, slice_set}
 use Rattle.nfs_model.specs.Types.{Asked, Reply, SystemError}
 use Rattle.nfs_model.specs.Tree.{Layout, Affinity}
 use Rattle.nfs_model.specs.Home.{home_of_asked}
@@ -68,8 +68,9 @@ Does layout node (Inner call) old reply new = DoesInner node call old reply new
 -- the same of parcels by number
 abbrev pub ParcelsDo : {P : Type 0} → Layout → Affinity → Job → (ℕ → Option (FilerParcel P)) → JobReply
     → (ℕ → Option (FilerParcel P)) → Type 0
-ParcelsDo layout node work f reply f' = Does layout node work (filer_contents layout f) reply (filer_contents layout f')
+ParcelsDo layout node job f reply f' = Does layout node job (filer_contents layout f) reply (filer_contents layout f')
 
--- the steps of a filer: whatever the other parcels are, an entry does its deed, and all stays sound
+-- The steps of a filer: a is a node's number, and whatever the other parcels are, an entry does its deed, and all stays sound.
 abbrev pub FilerSteps : {P : Type 0} → Steps (FilerParcel P) Job JobReply
-FilerSteps {P} parents a work f reply f' = StepsRight IsLayoutOf (AllSound {P = P}) takes gives (at_node ParcelsDo) parents a work f reply f'
+FilerSteps {P} parents a job f reply f' =
+    (0 < a) × (a < length parents) × StepsRight IsLayoutOf (AllSound {P = P}) takes gives (at_node ParcelsDo) parents a job f reply f'

@@ -37,13 +37,13 @@ batches_in (Dead volume blocks) = Dead volume blocks ∷ []
 
 -- the batch that an entry took into its seat's hand
 abbrev pub takes : Job → JobReply → List Hand
-takes work (Took hand) = batches_in hand
-takes work reply = []
+takes job (Took hand) = batches_in hand
+takes job reply = []
 
 -- the batch that it gave from it
 abbrev pub gives : Job → JobReply → List Hand
-gives work (Gave hand) = batches_in hand
-gives work reply = []
+gives job (Gave hand) = batches_in hand
+gives job reply = []
 
 -- ---- inner calls
 

@@ -7,6 +7,7 @@ pub mod Partition
 pub mod Sound
 pub mod Jobs
 pub mod Deeds
+pub mod Replayed
 pub mod Lenses
 pub mod Promises
 pub mod Sets

@@ -59,7 +59,7 @@ HasAll layout lens given set = HasWhole lens (IsLaidOut layout) AreSound given s
 
 -- right for an entry under a node, whose part of all that is stored this is
 abbrev pub IsRight : {S : Type 0} → Layout → Affinity → Lens FilerContents S → Job → S → JobReply → S → Type 0
-IsRight layout node lens work old reply new = RightOnAll layout lens (Does layout node work) (takes work reply) (gives work reply) old reply new
+IsRight layout node lens job old reply new = RightOnAll layout lens (Does layout node job) (takes job reply) (gives job reply) old reply new
 
 -- ---- parts and parcels by number
 

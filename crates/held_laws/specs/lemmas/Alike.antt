@@ -95,8 +95,8 @@ module _ (l m : Layout) (s : AreAlike l m) where
       (h.0, sym (home-of-asked-same asked) ∙ h.1, subst IsTrue (λ j. begins (path-same node j) (path-same h.0 j)) h.2)
 
   -- an entry does in the one what it does in the other
-  pub does-same : (node : Affinity) (work : Job) (old : FilerContents) (reply : JobReply) (new : FilerContents) → Does l node work old reply new
-      → Does m node work old reply new
+  pub does-same : (node : Affinity) (job : Job) (old : FilerContents) (reply : JobReply) (new : FilerContents) → Does l node job old reply new
+      → Does m node job old reply new
   does-same node (Serve call) old (Replied reply) new d = record {
     affinity = d.affinity;
     tried = tried-same call.asked node d.tried;

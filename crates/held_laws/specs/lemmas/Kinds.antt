@@ -27,80 +27,80 @@ nothing-outside layout lawful a there f g none also k out =
     λ b below e. out (subst (Covers (parents layout) (number_of layout a)) (sym e) (covers-under layout lawful a b there below)) in
     also k under ∙ sym (none k under)
 
-module _ {P : Type 0} (layout : Layout) (lawful : fault_of layout ≡ None) (work : Job) (reply : JobReply) where
+module _ {P : Type 0} (layout : Layout) (lawful : fault_of layout ≡ None) (job : Job) (reply : JobReply) where
   module _ (v : ℕ) (on : v < length layout.volumes) where
     pub stripe-step : (i : ℕ) → i < stripes_of layout v → (old new : FilerStripe P)
-        → IsRight layout (Stripe v i) (in_volume v (stripe_lens i)) work old.own reply new.own
-        → FilerSteps (parents layout) (number_of layout (Stripe v i)) work (stripe_parcels layout (Stripe v i) old) reply (stripe_parcels layout
+        → IsRight layout (Stripe v i) (in_volume v (stripe_lens i)) job old.own reply new.own
+        → FilerSteps (parents layout) (number_of layout (Stripe v i)) job (stripe_parcels layout (Stripe v i) old) reply (stripe_parcels layout
         (Stripe v i) new)
     stripe-step i less old new right =
         let a : Affinity = Stripe v i in
-        step-by layout lawful a (on, less) (in_volume v (stripe_lens i)) work reply old.own new.own (stripe_parcels layout a old)
+        step-by layout lawful a (on, less) (in_volume v (stripe_lens i)) job reply old.own new.own (stripe_parcels layout a old)
         (stripe_parcels layout a new)
         (stripe-seen layout lawful v on i less old) (stripe-seen layout lawful v on i less new)
         (nothing-outside layout lawful a (on, less) (stripe_parcels layout a old) (stripe_parcels layout a new)
         (λ k. stripe-within layout a old k (on, less) refl) (λ k. stripe-within layout a new k (on, less) refl)) right
 
     pub range-step : (r : ℕ) → r < 16 → (old new : FilerRange P)
-        → IsRight layout (Range v r) (in_volume v (range_lens r)) work old.own reply new.own
-        → FilerSteps (parents layout) (number_of layout (Range v r)) work (range_parcels layout (Range v r) old) reply (range_parcels layout (Range v r) new)
+        → IsRight layout (Range v r) (in_volume v (range_lens r)) job old.own reply new.own
+        → FilerSteps (parents layout) (number_of layout (Range v r)) job (range_parcels layout (Range v r) old) reply (range_parcels layout (Range v r) new)
     range-step r less old new right =
         let a : Affinity = Range v r in
-        step-by layout lawful a (on, less) (in_volume v (range_lens r)) work reply old.own new.own (range_parcels layout a old) (range_parcels layout a new)
+        step-by layout lawful a (on, less) (in_volume v (range_lens r)) job reply old.own new.own (range_parcels layout a old) (range_parcels layout a new)
         (range-seen layout lawful v on r less old) (range-seen layout lawful v on r less new)
         (nothing-outside layout lawful a (on, less) (range_parcels layout a old) (range_parcels layout a new)
         (λ k. range-within layout a old k (on, less) refl) (λ k. range-within layout a new k (on, less) refl)) right
 
-    pub vbn-step : (old new : FilerVbn P) → IsRight layout (Vbn v) (in_volume v vbn_lens) work (vbn_set old) reply (vbn_set new)
-        → FilerSteps (parents layout) (number_of layout (Vbn v)) work (vbn_parcels layout (Vbn v) old) reply (vbn_parcels layout (Vbn v) new)
+    pub vbn-step : (old new : FilerVbn P) → IsRight layout (Vbn v) (in_volume v vbn_lens) job (vbn_set old) reply (vbn_set new)
+        → FilerSteps (parents layout) (number_of layout (Vbn v)) job (vbn_parcels layout (Vbn v) old) reply (vbn_parcels layout (Vbn v) new)
     vbn-step old new right =
         let a : Affinity = Vbn v in
-        step-by layout lawful a on (in_volume v vbn_lens) work reply (vbn_set old) (vbn_set new) (vbn_parcels layout a old) (vbn_parcels layout a new)
+        step-by layout lawful a on (in_volume v vbn_lens) job reply (vbn_set old) (vbn_set new) (vbn_parcels layout a old) (vbn_parcels layout a new)
         (vbn-seen layout lawful v on old) (vbn-seen layout lawful v on new)
         (nothing-outside layout lawful a on (vbn_parcels layout a old) (vbn_parcels layout a new)
         (λ k. vbn-within layout a old k on refl) (λ k. vbn-within layout a new k on refl)) right
 
     pub logical-step : (old new : FilerLogical P)
-        → IsRight layout (Logical v) (in_volume v logical_lens) work (logical_set (stripes_of layout v) old) reply (logical_set (stripes_of layout v) new)
-        → FilerSteps (parents layout) (number_of layout (Logical v)) work (logical_parcels layout (Logical v) old) reply (logical_parcels layout
+        → IsRight layout (Logical v) (in_volume v logical_lens) job (logical_set (stripes_of layout v) old) reply (logical_set (stripes_of layout v) new)
+        → FilerSteps (parents layout) (number_of layout (Logical v)) job (logical_parcels layout (Logical v) old) reply (logical_parcels layout
         (Logical v) new)
     logical-step old new right =
         let a : Affinity = Logical v in
         let n : ℕ = stripes_of layout v in
-        step-by layout lawful a on (in_volume v logical_lens) work reply (logical_set n old) (logical_set n new)
+        step-by layout lawful a on (in_volume v logical_lens) job reply (logical_set n old) (logical_set n new)
         (logical_parcels layout a old) (logical_parcels layout a new)
         (logical-seen layout lawful v on old) (logical-seen layout lawful v on new)
         (nothing-outside layout lawful a on (logical_parcels layout a old) (logical_parcels layout a new)
         (λ k. logical-within layout a old k on refl) (λ k. logical-within layout a new k on refl)) right
 
     pub volume-step : (old new : FilerVolume P)
-        → IsRight layout (Volume v) (in_volume v volume_lens) work (volume_set (stripes_of layout v) old) reply (volume_set (stripes_of layout v) new)
-        → FilerSteps (parents layout) (number_of layout (Volume v)) work (volume_parcels layout (Volume v) old) reply (volume_parcels layout (Volume v) new)
+        → IsRight layout (Volume v) (in_volume v volume_lens) job (volume_set (stripes_of layout v) old) reply (volume_set (stripes_of layout v) new)
+        → FilerSteps (parents layout) (number_of layout (Volume v)) job (volume_parcels layout (Volume v) old) reply (volume_parcels layout (Volume v) new)
     volume-step old new right =
         let a : Affinity = Volume v in
         let n : ℕ = stripes_of layout v in
-        step-by layout lawful a on (in_volume v volume_lens) work reply (volume_set n old) (volume_set n new)
+        step-by layout lawful a on (in_volume v volume_lens) job reply (volume_set n old) (volume_set n new)
         (volume_parcels layout a old) (volume_parcels layout a new)
         (volume-seen layout lawful v on old) (volume-seen layout lawful v on new)
         (nothing-outside layout lawful a on (volume_parcels layout a old) (volume_parcels layout a new)
         (λ k. volume-within layout a old k on refl) (λ k. volume-within layout a new k on refl)) right
 
   pub aggregate-step : (a : ℕ) → a < length layout.spare → (old new : FilerAggregate P)
-      → IsRight layout (Aggregate a) (aggregate_lens a) work (aggregate_set layout a old) reply (aggregate_set layout a new)
-      → FilerSteps (parents layout) (number_of layout (Aggregate a)) work (aggregate_parcels layout (Aggregate a) old) reply
+      → IsRight layout (Aggregate a) (aggregate_lens a) job (aggregate_set layout a old) reply (aggregate_set layout a new)
+      → FilerSteps (parents layout) (number_of layout (Aggregate a)) job (aggregate_parcels layout (Aggregate a) old) reply
       (aggregate_parcels layout (Aggregate a) new)
   aggregate-step a less old new right =
       let node : Affinity = Aggregate a in
-      step-by layout lawful node less (aggregate_lens a) work reply (aggregate_set layout a old) (aggregate_set layout a new)
+      step-by layout lawful node less (aggregate_lens a) job reply (aggregate_set layout a old) (aggregate_set layout a new)
       (aggregate_parcels layout node old) (aggregate_parcels layout node new)
       (aggregate-seen layout lawful a less old) (aggregate-seen layout lawful a less new)
       (nothing-outside layout lawful node less (aggregate_parcels layout node old) (aggregate_parcels layout node new)
       (λ k. aggregate-within layout node old k less refl) (λ k. aggregate-within layout node new k less refl)) right
 
-  pub serial-step : (old new : FilerSerial P) → IsRight layout Serial serial_lens work (serial_set layout old) reply (serial_set layout new)
-      → FilerSteps (parents layout) (number_of layout Serial) work (serial_parcels layout Serial old) reply (serial_parcels layout Serial new)
+  pub serial-step : (old new : FilerSerial P) → IsRight layout Serial serial_lens job (serial_set layout old) reply (serial_set layout new)
+      → FilerSteps (parents layout) (number_of layout Serial) job (serial_parcels layout Serial old) reply (serial_parcels layout Serial new)
   serial-step old new right =
-      step-by layout lawful Serial tt serial_lens work reply (serial_set layout old) (serial_set layout new)
+      step-by layout lawful Serial tt serial_lens job reply (serial_set layout old) (serial_set layout new)
       (serial_parcels layout Serial old) (serial_parcels layout Serial new)
       (serial-seen layout lawful old) (serial-seen layout lawful new)
       (nothing-outside layout lawful Serial tt (serial_parcels layout Serial old) (serial_parcels layout Serial new)

@@ -10,6 +10,7 @@ use Rattle.affinity_tree.specs.Tree.{IsNode}
 use Rattle.affinity_tree.specs.Numbers.{number_of, parents}
 use Rattle.affinity_tree.specs.lemmas.Alike.{alike}
 use Rattle.affinity_tree.specs.lemmas.Numbered.{own_number}
+use Rattle.affinity_tree.specs.lemmas.Standing.{number-place}
 use Rattle.depot_rule.specs.Sums.{total}
 use Rattle.depot_rule.specs.History.{patched}
 use Rattle.held_state.specs.Parcels.{FilerParcel}
@@ -40,32 +41,39 @@ laid-out layout f = record {
 
 module _ {P S : Type 0} (layout : Layout) (lawful : fault_of layout ≡ None) (node : Affinity) (there : IsNode layout node) (lens : Lens FilerContents S) where
   -- where a part's change is right, putting in its parcels is a step
-  pub step-by : (work : Job) (reply : JobReply) (old new : S) (before after : ℕ → Option (FilerParcel P))
+  pub step-by : (job : Job) (reply : JobReply) (old new : S) (before after : ℕ → Option (FilerParcel P))
       → IsSeenBy layout node lens before old → IsSeenBy layout node lens after new
       → ((k : ℕ) → (Covers (parents layout) (number_of layout node) k → ⊥) → after k ≡ before k)
-      → RightOnAll layout lens (Does layout node work) (takes work reply) (gives work reply) old reply new
-      → FilerSteps (parents layout) (number_of layout node) work before reply after
-  step-by work reply old new before after was is others right = record {
-    others = others;
-    right = λ m of g hands hands' made agree sound moved.
-        let ps : List ℕ = parents layout in
-        let a : ℕ = number_of layout node in
-        let same = alike m layout of.1 in
-        let c : FilerContents = filer_contents layout g in
-        let next : ℕ → Option (FilerParcel P) = patched ps a after g in
-        let stored = is.put g in
-        let done = right c hands hands' made (was.has g agree) (laid-out layout g)
-        (subst (λ (x : FilerContents). AreSound x hands made) (filer-same m layout same g) sound) moved in
-        let later : filer_contents m next ≡ lens.put new c = filer-same m layout same next ∙ stored in (
-          λ other inside numbered.
-              let one : other ≡ node = own_number layout other node ((same.node other).0 inside) there (sym (same.number other) ∙ numbered) in
-              subst (λ (b : Affinity). ParcelsDo m b work g reply next) (sym one)
-              (subst (λ (x : FilerContents). Does m node work x reply (filer_contents m next)) (sym (filer-same m layout same g))
-              (subst (λ (x : FilerContents). Does m node work c reply x) (sym later)
-              (does-same layout m (alike layout m (sym of.1)) node work c reply (lens.put new c) done.0))),
-          subst (λ (x : FilerContents). AreSound x hands' (made + 1)) (sym later) done.1,
-        );
-  }
+      → RightOnAll layout lens (Does layout node job) (takes job reply) (gives job reply) old reply new
+      → FilerSteps (parents layout) (number_of layout node) job before reply after
+  step-by job reply old new before after was is others right = (
+    place.0,
+    place.1,
+    record {
+      others = others;
+      right = λ m of g hands hands' made agree sound moved.
+          let ps : List ℕ = parents layout in
+          let a : ℕ = number_of layout node in
+          let same = alike m layout of.1 in
+          let c : FilerContents = filer_contents layout g in
+          let next : ℕ → Option (FilerParcel P) = patched ps a after g in
+          let stored = is.put g in
+          let done = right c hands hands' made (was.has g agree) (laid-out layout g)
+          (subst (λ (x : FilerContents). AreSound x hands made) (filer-same m layout same g) sound) moved in
+          let later : filer_contents m next ≡ lens.put new c = filer-same m layout same next ∙ stored in (
+            λ other inside numbered.
+                let one : other ≡ node = own_number layout other node ((same.node other).0 inside) there (sym (same.number other) ∙ numbered) in
+                subst (λ (b : Affinity). ParcelsDo m b job g reply next) (sym one)
+                (subst (λ (x : FilerContents). Does m node job x reply (filer_contents m next)) (sym (filer-same m layout same g))
+                (subst (λ (x : FilerContents). Does m node job c reply x) (sym later)
+                (does-same layout m (alike layout m (sym of.1)) node job c reply (lens.put new c) done.0))),
+            subst (λ (x : FilerContents). AreSound x hands' (made + 1)) (sym later) done.1,
+          );
+    },
+  )
+    where
+      place : (0 < number_of layout node) × (number_of layout node < length (parents layout))
+      place = number-place layout node there
 
 -- ---- a part of a volume
 

@@ -2,10 +2,10 @@ use Rattle.held_laws.specs.lemmas.Kinds.{stripe-step, range-step, vbn-step, logi
 use Rattle.held_laws.proofs.laws.handlers_make_steps.Goals as goal
 
 pub returns-clause-stripe : goal.returns-clause-stripe
-returns-clause-stripe g c = λ layout lawful work reply v i on less old new right. stripe-step layout lawful work reply v on i less old new right
+returns-clause-stripe g c = λ layout lawful job reply v i on less old new right. stripe-step layout lawful job reply v on i less old new right
 
 pub returns-clause-range : goal.returns-clause-range
-returns-clause-range g c = λ layout lawful work reply v r on less old new right. range-step layout lawful work reply v on r less old new right
+returns-clause-range g c = λ layout lawful job reply v r on less old new right. range-step layout lawful job reply v on r less old new right
 
 pub returns-clause-vbn : goal.returns-clause-vbn
 returns-clause-vbn g c = vbn-step
