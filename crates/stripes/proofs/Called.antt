@@ -10,13 +10,13 @@ use Rattle.nfs_model.specs.Home.{span_bytes}
 use Rattle.nfs_model.specs.Serial.Write.{blocks_met}
 use Rattle.volume_values.specs.Stripes.{Block, span_blocks, byte_of}
 use Rattle.stripes.specs.Spans.{Places, Spans, place_in, span_at, span_read, span_byte, span_is_filled, last_met, blocks_of, blocks_read, IsSpans, IsLong}
-use Rattle.stripes.specs.Spans.{SameSpans, ChangesSpan, Where, Stays, WritesSpan, CutsSpan, Puts, HasNoneFrom, cut_blocks}
+use Rattle.stripes.specs.Spans.{SameSpans, ChangesSpan, Where, Stays, WritesSpan, CutsSpan, Puts, HasNoneFrom, cut_blocks, IsFirstPast}
 use Rattle.stripes.proofs.Ranges.{same-maps, blocks-met}
 use Rattle.stripes.proofs.Law.{get-blocks_of, same-blocks_of}
 use Rattle.stripes.proofs.Takes.{same-blocks, stays-same, block-in-span}
 use Rattle.stripes.proofs.Words.{written-spans}
 use Rattle.stripes.proofs.Inserted.{put-spans}
-use Rattle.stripes.proofs.Cut.{IsPastFrom, tail-spans, tail-cut}
+use Rattle.stripes.proofs.Cut.{tail-spans, tail-cut}
 
 pub long-blocks : (spans : Spans) → IsSpans spans → IsLong (blocks_of spans)
 long-blocks spans is p b e = is.long p b (sym (get-blocks_of spans p) ∙ e)
@@ -89,12 +89,12 @@ on_err f (Err e) p = f p
 none-still : (f first : ℕ) (old mid : Spans) → SameSpans old mid → HasNoneFrom f first old → HasNoneFrom f first mid
 none-still f first old mid same none b from = same-blocks old mid same (f, b) ∙ none b from
 
-pub last-spans : (f size first : ℕ) (old mid new : Spans) → IsSpans old → IsPastFrom size first → SameSpans old mid → HasNoneFrom f first old
+pub last-spans : (f size first : ℕ) (old mid new : Spans) → IsSpans old → IsFirstPast size first → SameSpans old mid → HasNoneFrom f first old
     → ChangesSpan (Where (CutsSpan size)) (f, size / span_bytes) mid new → IsSpans new
 last-spans f size first old mid new is past same none changes =
     tail-spans f size first mid new (same-is old mid same is) past (none-still f first old mid same none) changes
 
-pub last-cut : (f size first : ℕ) (old mid new : Spans) → IsSpans old → IsPastFrom size first → SameSpans old mid → HasNoneFrom f first old
+pub last-cut : (f size first : ℕ) (old mid new : Spans) → IsSpans old → IsFirstPast size first → SameSpans old mid → HasNoneFrom f first old
     → ChangesSpan (Where (CutsSpan size)) (f, size / span_bytes) mid new → blocks_of new ≡ cut_blocks f size (blocks_of old)
 last-cut f size first old mid new is past same none changes =
     tail-cut f size first mid new (same-is old mid same is) past (none-still f first old mid same none) changes

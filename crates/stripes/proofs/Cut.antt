@@ -15,7 +15,7 @@ use Rattle.volume_values.specs.Maps.{map_values}
 use Rattle.volume_values.specs.lemmas.Entries.{place_total, place_same}
 use Rattle.volume_values.specs.Stripes.{Block, Place, place_cmp, span_blocks, block_mapped, file_mapped, byte_cut, is_past}
 use Rattle.stripes.specs.Spans.{Places, Spans, place_of, span_of, block_at, span_at, blocks_of, AllFilled, IsSpans, ChangesSpan, Where, CutsSpan, HasBlock}
-use Rattle.stripes.specs.Spans.{HasNoneFrom, FreesFirst, numbers_past, cut_blocks}
+use Rattle.stripes.specs.Spans.{HasNoneFrom, FreesFirst, numbers_past, cut_blocks, IsFirstPast}
 use Rattle.stripes.proofs.Keys.{key-cases, key-apart, upto-span}
 use Rattle.stripes.proofs.Places.{unlike}
 use Rattle.stripes.proofs.Bytes.{byte_kept}
@@ -23,11 +23,6 @@ use Rattle.stripes.proofs.Mapped.{place-same, place-of-file}
 use Rattle.stripes.proofs.Law.{get-blocks_of}
 use Rattle.stripes.proofs.Freed.{freed-first, freed-none}
 use Rattle.stripes.proofs.Words.{at-array, at-other, file-long, file-mapped, some-kept}
-
--- a first block past a size
-pub record IsPastFrom (size first : ℕ) : Type 0 where
-  pub from : (b : ℕ) → size ≤ block_size * b → first ≤ b
-  pub past : (b : ℕ) → first ≤ b → size ≤ block_size * b
 
 past-place : (f size : ℕ) (p : Place) → is_past f size p ≡ true → (p.0 ≡ f) × (size ≤ block_size * p.1)
 past-place f size p h = elim (cases_eq p.0 f) [
@@ -49,7 +44,7 @@ get-retained f size m q = get-retain_keys m (λ p. not (is_past f size p)) q (λ
 
 module _ (f size first : ℕ) (block : Block) (old new : Spans) where
   -- the numbers past the size, one of which is gone
-  pub freed-numbers : IsPastFrom size first → FreesFirst f first block old new
+  pub freed-numbers : IsFirstPast size first → FreesFirst f first block old new
       → numbers_past f size (blocks_of old) ≡ block.number ∷ numbers_past f size (blocks_of new)
   freed-numbers past frees =
       ap (map (λ (e : Place × Block). e.1.number)) (freed-first (is_past f size) (f, frees.number) block (blocks_of old) (blocks_of new)
@@ -66,7 +61,7 @@ module _ (f size first : ℕ) (block : Block) (old new : Spans) where
             ∙ upto-span f frees.number q.1 h in cc)
       ]
 
-  pub freed-cut : IsPastFrom size first → FreesFirst f first block old new → cut_blocks f size (blocks_of new) ≡ cut_blocks f size (blocks_of old)
+  pub freed-cut : IsFirstPast size first → FreesFirst f first block old new → cut_blocks f size (blocks_of new) ≡ cut_blocks f size (blocks_of old)
   freed-cut past frees = ap (map_values (file_mapped (byte_cut size) f)) (same_map place_total place_same _ _ (λ q.
       get-retained f size (blocks_of new) q ∙ elim (key-cases (f, frees.number) q) [
         | inl same ↦ let gone : not (is_past f size q) ≡ false = ap (λ k. not (is_past f size k)) (sym same)
@@ -89,7 +84,7 @@ module _ (f size first : ℕ) (block : Block) (old new : Spans) where
 -- ---- the rest of the last block
 
 -- a place whose bytes a cut leaves as they are, or which has none
-cut-same : (f size first : ℕ) (old : Spans) (p : Place) → IsSpans old → IsPastFrom size first → HasNoneFrom f first old
+cut-same : (f size first : ℕ) (old : Spans) (p : Place) → IsSpans old → IsFirstPast size first → HasNoneFrom f first old
     → (p.0 ≡ f → p.1 ≡ size / block_size → ⊥)
     → option_map (file_mapped (byte_cut size) f p) (block_at old p) ≡ block_at old p
 cut-same f size first old p is past none other = elim (cases_eq p.0 f) [
@@ -104,7 +99,7 @@ cut-same f size first old p is past none other = elim (cases_eq p.0 f) [
 ]
 
 module _ (f size first : ℕ) (old new : Spans) where
-  cut-at : IsSpans old → IsPastFrom size first → HasNoneFrom f first old → ChangesSpan (Where (CutsSpan size)) (f, size / span_bytes) old new
+  cut-at : IsSpans old → IsFirstPast size first → HasNoneFrom f first old → ChangesSpan (Where (CutsSpan size)) (f, size / span_bytes) old new
       → (p : Place) → block_at new p ≡ option_map (file_mapped (byte_cut size) f p) (block_at old p)
   cut-at is past none changes p = elim (key-cases (f, size / span_bytes) (span_of p)) [
     | inl same ↦ by (span_at old (f, size / span_bytes)) (span_at new (f, size / span_bytes)) refl refl changes.here same
@@ -148,7 +143,7 @@ module _ (f size first : ℕ) (old new : Spans) where
             ap is_some (h there.0) ∙ some-kept _ (block_mapped (byte_cut size) (size / block_size)) (place_of a there.0) ∙ there.2,
           )
 
-  pub tail-spans : IsSpans old → IsPastFrom size first → HasNoneFrom f first old → ChangesSpan (Where (CutsSpan size)) (f, size / span_bytes) old new
+  pub tail-spans : IsSpans old → IsFirstPast size first → HasNoneFrom f first old → ChangesSpan (Where (CutsSpan size)) (f, size / span_bytes) old new
       → IsSpans new
   tail-spans is past none changes = record {
     long = file-long (byte_cut size) f old new is (cut-at is past none changes);
@@ -156,7 +151,7 @@ module _ (f size first : ℕ) (old new : Spans) where
   }
 
   -- where no block is past the size, that is the cut
-  pub tail-cut : IsSpans old → IsPastFrom size first → HasNoneFrom f first old → ChangesSpan (Where (CutsSpan size)) (f, size / span_bytes) old new
+  pub tail-cut : IsSpans old → IsFirstPast size first → HasNoneFrom f first old → ChangesSpan (Where (CutsSpan size)) (f, size / span_bytes) old new
       → blocks_of new ≡ cut_blocks f size (blocks_of old)
   tail-cut is past none changes =
       file-mapped (byte_cut size) f old new (cut-at is past none changes)
@@ -182,10 +177,10 @@ module _ (f size first : ℕ) (old new : Spans) where
               inr (get-blocks_of old q ∙ ap (λ t. block_at old (t, q.1)) is.0 ∙ none q.1 (past.from q.1 is.1))
           by false e = inl (ap not e)
 
-  pub tail-numbers : IsPastFrom size first → HasNoneFrom f first old → numbers_past f size (blocks_of old) ≡ []
+  pub tail-numbers : IsFirstPast size first → HasNoneFrom f first old → numbers_past f size (blocks_of old) ≡ []
   tail-numbers past none = ap (map (λ (e : Place × Block). e.1.number)) (freed-none (is_past f size) (blocks_of old) (λ q h.
       let is = past-place f size q h in get-blocks_of old q ∙ ap (λ t. block_at old (t, q.1)) is.0 ∙ none q.1 (past.from q.1 is.1)))
 
 -- the first block past a size
-pub past-from : (size : ℕ) → IsPastFrom size (size / block_size + min 1 (size % block_size))
+pub past-from : (size : ℕ) → IsFirstPast size (size / block_size + min 1 (size % block_size))
 past-from size = record { from = λ b h. omega arith; past = λ b h. omega arith }

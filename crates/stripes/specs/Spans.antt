@@ -208,6 +208,11 @@ pub record FreesFirst (fileid first : ℕ) (block : Block) (old new : Spans) : T
 
 -- ---- words on blocks
 
+-- The blocks from a number on are those that lie wholly past a size.
+pub record IsFirstPast (size first : ℕ) : Type 0 where
+  pub from : (b : ℕ) → size ≤ block_size * b → first ≤ b
+  pub past : (b : ℕ) → first ≤ b → size ≤ block_size * b
+
 -- the numbers of a file's blocks that lie wholly past a size
 abbrev pub numbers_past : ℕ → ℕ → FinMap place_cmp Block → List ℕ
 numbers_past fileid size blocks =

@@ -25,10 +25,16 @@ ghost use Rattle.nfs_model.specs.Home.{span_bytes};
 ghost use Rattle.nfs_model.specs.Serial.Write.{blocks_met};
 ghost use Rattle.volume_values.specs.Maps.{map_values};
 ghost use Rattle.volume_values.specs.Stripes.{zero_block, file_mapped, byte_written};
-ghost use Rattle.stripes.specs.Spans.{blocks_read, numbers_past, cut_blocks, IsLong};
+ghost use Rattle.stripes.specs.Spans.{
+  blocks_read,
+  numbers_past,
+  cut_blocks,
+  IsLong,
+  IsFirstPast,
+};
 
 use crate::block::{BLOCK_BYTES, Block};
-use crate::span::{SPAN_BYTES, put_zeros};
+use crate::span::{SPAN_BLOCKS, SPAN_BYTES, put_zeros};
 use crate::spans::{SpanMap, insert_in, overwrite_in, take_from, zero_tail};
 use nfs_values::BlockNumber;
 use std::alloc::{AllocError, Global};
@@ -68,6 +74,16 @@ impl Blocks {
         Blocks {
             alloc,
             spans: BTreeMap::new(alloc),
+        }
+    }
+
+    /// Whether a block of a file is filled.
+    pub fn is_filled(&self, fileid: u64, block: u64) -> bool
+        ensures { result ≡ is_some (get self.now (fileid, block)) }
+    {
+        match self.spans.get(&(fileid, block / SPAN_BLOCKS)) {
+            Some(span) => span.has(block),
+            None => false,
         }
     }
 
@@ -121,7 +137,7 @@ impl Blocks {
         ensures done { IfNone result (self.new ≡ cut_blocks fileid size self.old) }
         ensures long { IsLong self.new }
     {
-        match take_from(&mut self.spans, fileid, size.div_ceil(BLOCK_BYTES)) {
+        match take_from(&mut self.spans, fileid, first_past(size)) {
             Some(block) => Some(block.number()),
             None => {
                 zero_tail(&mut self.spans, fileid, size);
@@ -129,4 +145,11 @@ impl Blocks {
             }
         }
     }
+}
+
+/// The number of a file's first block that lies wholly past a size.
+fn first_past(size: u64) -> u64
+    ensures { IsFirstPast size result }
+{
+    size.div_ceil(BLOCK_BYTES)
 }

@@ -141,6 +141,13 @@ impl Span {
         }
     }
 
+    /// Whether a block is there.
+    pub fn has(&self, block: u64) -> bool
+        ensures { result ≡ is_some (place_of self.now block) }
+    {
+        self.places[place(block)].is_some()
+    }
+
     /// Whether each block of n bytes from an offset on is filled.
     pub fn is_filled(&self, offset: u64, n: usize) -> bool
         requires some { 0 < n }

@@ -28,6 +28,7 @@ ghost use Rattle.volume_values.specs.Stripes.{
   IsStripe,
   empty_stripe,
   bytes_read,
+  is_filled,
   stays_within,
   touch_of,
   touch_taken,
@@ -166,8 +167,15 @@ impl Stripe {
         self.cards.take_touch(fileid)
     }
 
-    /// Appends n bytes of a file from an offset on, which lie in one span. A hole reads as zeros,
-    /// and so does what lies past the file's size. It takes no memory.
+    /// Whether a block of a file is filled, and no hole. It takes no memory.
+    pub fn is_filled(&self, fileid: Fileid, block: u64) -> bool
+        ensures { result ≡ is_filled self.now fileid.0 block }
+    {
+        self.blocks.is_filled(fileid.0, block)
+    }
+
+    /// Appends n bytes of a file from an offset on, which lie in one span, whatever the file's
+    /// size. A hole reads as zeros. It takes no memory.
     pub fn read(&self, fileid: Fileid, offset: u64, n: usize, into: &mut Vec<u8>)
         requires span { offset % span_bytes + n ≤ span_bytes }
         requires room { vec_len into.old + n ≤ vec_capacity into.old }
@@ -198,8 +206,8 @@ impl Stripe {
         true
     }
 
-    /// Fills a block of a file with zeros; its number in the volume is given. Where there is no
-    /// memory for it nothing changes.
+    /// Fills a block of a file with zeros; its number in the volume is given. A block that was
+    /// there is dropped, and its number forgotten. Where there is no memory nothing changes.
     pub fn insert_block(
         &mut self,
         fileid: Fileid,

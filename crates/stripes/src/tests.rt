@@ -32,6 +32,7 @@ fn hole_and_cut(rt: HostRuntime) -> Result<(), Fail> {
     stripe.set_file_card(FILE, 8195)?;
     assert!(rt; !stripe.overwrite(FILE, 8192, b"xxx", moment));
     stripe.insert_block(FILE, 2, BlockNumber(7))?;
+    assert!(rt; stripe.is_filled(FILE, 2) && !stripe.is_filled(FILE, 1));
     assert!(rt; !stripe.overwrite(FILE, 8191, b"xxxx", moment));
     assert!(rt; !stripe.overwrite(FILE, 8192, b"xxxx", moment));
     assert!(rt; stripe.overwrite(FILE, 8192, b"xxx", moment));

@@ -1,50 +1,50 @@
 use Rattle.std.proofs.Common.{◌∷◌, sym, ap, subst, ◌∙◌}
 use Rattle.stripes.specs.Spans.{blocks_of, numbers_past, cut_blocks}
-use Rattle.stripes.proofs.Cut.{IsPastFrom, past-from, freed-numbers, freed-cut, freed-spans, tail-numbers}
+use Rattle.stripes.proofs.Cut.{freed-numbers, freed-cut, freed-spans, tail-numbers}
 use Rattle.stripes.proofs.Called.{long-blocks, last-spans, last-cut}
 use Rattle.stripes.proofs.blocks.Blocks.cut.Goals as goal
 
 pub returns-in-Some-clause-freed : goal.returns-in-Some-clause-freed
 returns-in-Some-clause-freed c =
     sym (ap (numbers_past c.args.fileid c.args.size) c.self.view_is)
-    ∙ freed-numbers c.args.fileid c.args.size c.div_ceil.result c.in-Some.block c.self.inside.spans.entries c.take_from.new.spans.entries
-    (subst (IsPastFrom c.args.size) (sym c.div_ceil.ensures) (past-from c.args.size)) c.in-Some.ensures.taken
+    ∙ freed-numbers c.args.fileid c.args.size c.first_past.result c.in-Some.block c.self.inside.spans.entries c.take_from.new.spans.entries
+    c.first_past.ensures c.in-Some.ensures.taken
     ∙ ap (λ n. n ∷ numbers_past c.args.fileid c.args.size (blocks_of c.take_from.new.spans.entries)) (sym c.number.ensures)
 
 pub returns-in-Some-clause-rest : goal.returns-in-Some-clause-rest
 returns-in-Some-clause-rest c =
-    freed-cut c.args.fileid c.args.size c.div_ceil.result c.in-Some.block c.self.inside.spans.entries c.take_from.new.spans.entries
-    (subst (IsPastFrom c.args.size) (sym c.div_ceil.ensures) (past-from c.args.size)) c.in-Some.ensures.taken
+    freed-cut c.args.fileid c.args.size c.first_past.result c.in-Some.block c.self.inside.spans.entries c.take_from.new.spans.entries
+    c.first_past.ensures c.in-Some.ensures.taken
     ∙ ap (cut_blocks c.args.fileid c.args.size) c.self.view_is
 
 pub returns-in-Some-clause-long : goal.returns-in-Some-clause-long
 returns-in-Some-clause-long c =
     long-blocks c.take_from.new.spans.entries
-    (freed-spans c.args.fileid c.args.size c.div_ceil.result c.in-Some.block c.self.inside.spans.entries c.take_from.new.spans.entries c.self.invariant
+    (freed-spans c.args.fileid c.args.size c.first_past.result c.in-Some.block c.self.inside.spans.entries c.take_from.new.spans.entries c.self.invariant
     c.in-Some.ensures.taken)
 
 pub invariant_of-self-in-None : goal.invariant_of-self-in-None
 invariant_of-self-in-None c =
-    last-spans c.args.fileid c.args.size c.div_ceil.result c.self.inside.spans.entries c.take_from.new.spans.entries c.zero_tail.new.spans.entries
+    last-spans c.args.fileid c.args.size c.first_past.result c.self.inside.spans.entries c.take_from.new.spans.entries c.zero_tail.new.spans.entries
     c.self.invariant
-    (subst (IsPastFrom c.args.size) (sym c.div_ceil.ensures) (past-from c.args.size)) c.in-None.ensures.kept c.in-None.ensures.none c.zero_tail.ensures
+    c.first_past.ensures c.in-None.ensures.kept c.in-None.ensures.none c.zero_tail.ensures
 
 pub returns-in-None-clause-none : goal.returns-in-None-clause-none
 returns-in-None-clause-none c =
     sym (ap (numbers_past c.args.fileid c.args.size) c.self.view_is)
-    ∙ tail-numbers c.args.fileid c.args.size c.div_ceil.result c.self.inside.spans.entries c.take_from.new.spans.entries
-    (subst (IsPastFrom c.args.size) (sym c.div_ceil.ensures) (past-from c.args.size)) c.in-None.ensures.none
+    ∙ tail-numbers c.args.fileid c.args.size c.first_past.result c.self.inside.spans.entries c.take_from.new.spans.entries
+    c.first_past.ensures c.in-None.ensures.none
 
 pub returns-in-None-clause-done : goal.returns-in-None-clause-done
 returns-in-None-clause-done c =
-    last-cut c.args.fileid c.args.size c.div_ceil.result c.self.inside.spans.entries c.take_from.new.spans.entries c.zero_tail.new.spans.entries
+    last-cut c.args.fileid c.args.size c.first_past.result c.self.inside.spans.entries c.take_from.new.spans.entries c.zero_tail.new.spans.entries
     c.self.invariant
-    (subst (IsPastFrom c.args.size) (sym c.div_ceil.ensures) (past-from c.args.size)) c.in-None.ensures.kept c.in-None.ensures.none c.zero_tail.ensures
+    c.first_past.ensures c.in-None.ensures.kept c.in-None.ensures.none c.zero_tail.ensures
     ∙ ap (cut_blocks c.args.fileid c.args.size) c.self.view_is
 
 pub returns-in-None-clause-long : goal.returns-in-None-clause-long
 returns-in-None-clause-long c =
     long-blocks c.zero_tail.new.spans.entries
-    (last-spans c.args.fileid c.args.size c.div_ceil.result c.self.inside.spans.entries c.take_from.new.spans.entries c.zero_tail.new.spans.entries
+    (last-spans c.args.fileid c.args.size c.first_past.result c.self.inside.spans.entries c.take_from.new.spans.entries c.zero_tail.new.spans.entries
     c.self.invariant
-    (subst (IsPastFrom c.args.size) (sym c.div_ceil.ensures) (past-from c.args.size)) c.in-None.ensures.kept c.in-None.ensures.none c.zero_tail.ensures)
+    c.first_past.ensures c.in-None.ensures.kept c.in-None.ensures.none c.zero_tail.ensures)
