@@ -9,13 +9,12 @@ use Rattle.nfs_values.specs.Credential.{credential_of}
 use Rattle.nfs_values.specs.Moment.{moment_of}
 use Rattle.nfs_values.specs.Reply.{reply_of}
 use Rattle.depot_rule.specs.Machine.{IsLocal, Keeps}
-use Rattle.depot_rule.specs.lemmas.Completions.{right-local, right-keeps}
-use Rattle.depot_rule.specs.Completions.{IsLayoutOf, at_node}
 use Rattle.held_state.specs.Parcels.{FilerParcel}
-use Rattle.held_state.specs.Sound.{AllSound, IsFiler}
+use Rattle.held_state.specs.Sound.{IsFiler}
 use Rattle.held_state.specs.Jobs as jobs
 use Rattle.held_state.specs.Jobs.{takes, gives}
-use Rattle.held_state.specs.Deeds.{FilerSteps, ParcelsDo}
+use Rattle.held_state.specs.Deeds.{FilerSteps}
+use Rattle.held_laws.specs.lemmas.Lawful.{steps-local, steps-keep}
 use Rattle.service.specs.declared.job.Asked.{Asked}
 use Rattle.service.specs.declared.job.Asked.TheVariants.{Call, Refused, Undecoded}
 use Rattle.service.specs.declared.job.ServedCall.{ServedCall}
@@ -72,9 +71,8 @@ abbrev pub job_gives : Job → JobReply → List Hand
 job_gives job reply = gives (job_of job) (job_reply_of reply)
 
 pub jobs-local : {P : Type 0} → IsLocal (job_steps {P = P})
-jobs-local {P} ps a job f g reply f' step =
-    right-local IsLayoutOf (AllSound {P = P}) takes gives (at_node ParcelsDo) ps a (job_of job) f g (job_reply_of reply) f' step
+jobs-local ps a job f g reply f' step = steps-local ps a (job_of job) f g (job_reply_of reply) f' step
 
 pub jobs-keep : {P : Type 0} → Keeps (job_steps {P = P}) job_takes job_gives IsFiler
-jobs-keep {P} ps a job f reply f' hands hands' n sound step moved =
-    right-keeps IsLayoutOf (AllSound {P = P}) takes gives (at_node ParcelsDo) ps a (job_of job) f (job_reply_of reply) f' hands hands' n sound step moved
+jobs-keep ps a job f reply f' hands hands' made sound step moved =
+    steps-keep ps a (job_of job) f (job_reply_of reply) f' hands hands' made sound step moved

@@ -1,8 +1,7 @@
 //! Batches of block numbers.
 
 ghost use Rattle.std.specs.Prelude.{◌≡◌, ◌==◌, ◌<◌, ◌++◌, ◌∷◌, [], length};
-ghost use Rattle.std.specs.Option.{option_map};
-ghost use Rattle.nfs_model.specs.Parts.{most_carried, range_of, IsBatch};
+ghost use Rattle.nfs_model.specs.Parts.{most_carried};
 ghost use Rattle.vbn_ranges.specs.Batch.{numbers, IsOfOneRange, batch_range};
 
 use nfs_values::BlockNumber;

@@ -1,6 +1,6 @@
 //! Marks on the block numbers of a range.
 
-ghost use Rattle.std.specs.Prelude.{◌≡◌, ◌<◌, ◌/◌, ◌==◌, ◌∷◌, [], length};
+ghost use Rattle.std.specs.Prelude.{◌≡◌, ◌<◌, ◌/◌, ◌∷◌, [], length};
 ghost use Rattle.std.specs.List.{AllByRecursion, list_any};
 ghost use Rattle.std.specs.FinSet.{contains, len};
 ghost use Rattle.nfs_model.specs.Parts.{most_ranges, range_blocks};

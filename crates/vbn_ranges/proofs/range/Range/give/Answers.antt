@@ -1,4 +1,4 @@
-use Rattle.std.proofs.Common.{◌≡◌, ◌∙◌, refl, sym, subst, true, List, ℕ, Some}
+use Rattle.std.proofs.Common.{◌≡◌, ◌∙◌, refl, sym, subst, true, List, ℕ, Some, arith}
 use Rattle.std.specs.List.{list_any}
 use Rattle.std.specs.FinSet.{contains}
 use Rattle.nfs_model.specs.Parts.{IsBatch}
@@ -20,7 +20,7 @@ returns-in_default-clause-ok c = given-none c.args.batch.now c.args.self.now (sy
 pub has_any-requires : goal.has_any-requires
 has_any-requires c =
     (of-it c.self.inside.free c.args.batch.now _ _ _ c.as_slice-blocks.ensures.batch (sym c.range.ensures ∙ c.in-Some.is)
-    c.if-range.false c.range-2.ensures.value c.as_slice-blocks.ensures.value).of_range
+    (omega arith) c.range-2.ensures.value c.as_slice-blocks.ensures.value).of_range
 
 pub returns-then-has_any-clause-held : goal.returns-then-has_any-clause-held
 returns-then-has_any-clause-held c =
@@ -34,11 +34,11 @@ returns-then-has_any-clause-held c =
 pub insert_all-requires : goal.insert_all-requires
 insert_all-requires c =
     (of-it c.self.inside.free c.args.batch.now _ _ _ c.as_slice-blocks.ensures.batch (sym c.range.ensures ∙ c.in-Some.is)
-    c.if-range.false c.range-2.ensures.value c.as_slice-blocks.ensures.value).of_range
+    (omega arith) c.range-2.ensures.value c.as_slice-blocks.ensures.value).of_range
 
 pub invariant_of-self : goal.invariant_of-self
 invariant_of-self c =
-    let batch = of-it c.self.inside.free c.args.batch.now _ _ _ c.as_slice-blocks.ensures.batch (sym c.range.ensures ∙ c.in-Some.is) c.if-range.false
+    let batch = of-it c.self.inside.free c.args.batch.now _ _ _ c.as_slice-blocks.ensures.batch (sym c.range.ensures ∙ c.in-Some.is) (omega arith)
     c.range-2.ensures.value
     c.as_slice-blocks.ensures.value in
     subst (λ (m : MarksValue). IsRange (record { number = m.range; is_used = c.self.inside.is_used; free = m.set })) (sym c.insert_all.ensures)
@@ -46,7 +46,7 @@ invariant_of-self c =
 
 pub returns-clause-held : goal.returns-clause-held
 returns-clause-held c =
-    let batch = of-it c.self.inside.free c.args.batch.now _ _ _ c.as_slice-blocks.ensures.batch (sym c.range.ensures ∙ c.in-Some.is) c.if-range.false
+    let batch = of-it c.self.inside.free c.args.batch.now _ _ _ c.as_slice-blocks.ensures.batch (sym c.range.ensures ∙ c.in-Some.is) (omega arith)
     c.range-2.ensures.value
     c.as_slice-blocks.ensures.value in (
       λ e. subst (λ (r : RangeValue). MayBeGiven c.args.batch.now r) c.self.view_is
