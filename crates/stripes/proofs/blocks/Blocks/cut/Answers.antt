@@ -1,4 +1,4 @@
-use Rattle.std.proofs.Common.{◌∷◌, sym, ap, subst, ◌∙◌}
+use Rattle.std.proofs.Common.{◌∷◌, sym, ap, ◌∙◌}
 use Rattle.stripes.specs.Spans.{blocks_of, numbers_past, cut_blocks}
 use Rattle.stripes.proofs.Cut.{freed-numbers, freed-cut, freed-spans, tail-numbers}
 use Rattle.stripes.proofs.Called.{long-blocks, last-spans, last-cut}

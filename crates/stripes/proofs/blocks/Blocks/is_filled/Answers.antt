@@ -1,7 +1,6 @@
-use Rattle.std.proofs.Common.{◌≡◌, ◌/◌, ◌∙◌, Option, Some, None, is_some, refl, sym, ap}
+use Rattle.std.proofs.Common.{◌∙◌, is_some, sym, ap}
 use Rattle.std.specs.FinMap.{get}
-use Rattle.volume_values.specs.Stripes.{span_blocks}
-use Rattle.stripes.specs.Spans.{place_in, span_at}
+use Rattle.stripes.specs.Spans.{place_in}
 use Rattle.stripes.proofs.Law.{get-blocks_of}
 use Rattle.stripes.proofs.blocks.Blocks.is_filled.Goals as goal
 
