@@ -1,0 +1,4 @@
+pub mod Tables
+pub mod Lined
+pub mod Present
+pub mod Seated
