@@ -49,17 +49,17 @@ module _ (cells : List (Option ℕ)) (a : ℕ) where
   firsts-longer firsts lasts nexts firsts' nexts' None l r s k q t =
       let size = r.first_size in
       let at : entry firsts' a ≡ Some (length cells)
-        = ap (λ (x : List (Option ℕ)). entry x a) k.0 ∙ entry-set firsts a (Some (length cells)) (omega (arith, l, size)) in
+      = ap (λ (x : List (Option ℕ)). entry x a) k.0 ∙ entry-set firsts a (Some (length cells)) (omega (arith, l, size)) in
       ⊎_elim (λ (e : q ≡ a). subst (λ (x : ℕ). IsFirstFrom (IsIn (cells ++ Some a ∷ []) x) 0 (entry firsts' x)) (sym e)
-        (subst (λ (x : Option ℕ). IsFirstFrom (IsIn (cells ++ Some a ∷ []) a) 0 x) (sym at)
-        (first-fresh 0 (omega arith) (λ j g m p. s j m p))))
+      (subst (λ (x : Option ℕ). IsFirstFrom (IsIn (cells ++ Some a ∷ []) a) 0 x) (sym at)
+      (first-fresh 0 (omega arith) (λ j g m p. s j m p))))
       (λ (n : q ≢ a). subst (λ (x : Option ℕ). IsFirstFrom (IsIn (cells ++ Some a ∷ []) q) 0 x)
-        (sym (ap (λ (x : List (Option ℕ)). entry x q) k.0 ∙ entry-other firsts a q (Some (length cells)) n))
-        (first-still q 0 (entry firsts q) n (r.first q))) t
+      (sym (ap (λ (x : List (Option ℕ)). entry x q) k.0 ∙ entry-other firsts a q (Some (length cells)) n))
+      (first-still q 0 (entry firsts q) n (r.first q))) t
   firsts-longer firsts lasts nexts firsts' nexts' (Some b) l r s k q t =
       subst (λ (x : List (Option ℕ)). IsFirstFrom (IsIn (cells ++ Some a ∷ []) q) 0 (entry x q)) (sym k.0)
       (⊎_elim (λ (e : q ≡ a). subst (λ (x : ℕ). IsFirstFrom (IsIn (cells ++ Some a ∷ []) x) 0 (entry firsts x)) (sym e)
-        (first-own 0 b (entry firsts a) (omega arith) s.1 (r.first a)))
+      (first-own 0 b (entry firsts a) (omega arith) s.1 (r.first a)))
       (λ (n : q ≢ a). first-still q 0 (entry firsts q) n (r.first q)) t)
 
   linked-size : (firsts nexts firsts' nexts' : List (Option ℕ)) (o x : Option ℕ) → IsLinked firsts nexts a o x firsts' nexts'
@@ -76,22 +76,22 @@ module _ (cells : List (Option ℕ)) (a : ℕ) where
       (⊎_elim (λ (e : q ≡ a). absurd (s j (within cells j (Some q) p) (subst (λ (x : ℕ). IsIn cells x j) e p)))
       (λ (n : q ≢ a). first-still q (j + 1) (entry nexts j) n (r.next q j p)) t)
   nexts-longer firsts lasts nexts firsts' nexts' (Some b) r s k q j t p = ⊎_elim (λ (e : j ≡ b).
-        let at : entry nexts' j ≡ Some (length cells)
-          = ap (λ (x : List (Option ℕ)). entry x j) k.1 ∙ ap (entry (set nexts b (Some (length cells)))) e
-          ∙ entry-set nexts b (Some (length cells)) (let l = s.0 in let size = r.next_size in omega (arith, l, size)) in
-        let own : q ≡ a = one-queue cells q a b (subst (λ (x : ℕ). IsIn cells q x) e p) s.1 in
-        subst (λ (x : Option ℕ). IsFirstFrom (IsIn (cells ++ Some a ∷ []) q) (j + 1) x) (sym at)
-        (subst (λ (x : ℕ). IsFirstFrom (IsIn (cells ++ Some a ∷ []) x) (j + 1) (Some (length cells))) (sym own)
-        (first-fresh (j + 1) (let l = s.0 in omega (arith, l, e)) (λ i g m z. s.2 i (omega (arith, g, e)) m z))))
+      let at : entry nexts' j ≡ Some (length cells)
+      = ap (λ (x : List (Option ℕ)). entry x j) k.1 ∙ ap (entry (set nexts b (Some (length cells)))) e
+      ∙ entry-set nexts b (Some (length cells)) (let l = s.0 in let size = r.next_size in omega (arith, l, size)) in
+      let own : q ≡ a = one-queue cells q a b (subst (λ (x : ℕ). IsIn cells q x) e p) s.1 in
+      subst (λ (x : Option ℕ). IsFirstFrom (IsIn (cells ++ Some a ∷ []) q) (j + 1) x) (sym at)
+      (subst (λ (x : ℕ). IsFirstFrom (IsIn (cells ++ Some a ∷ []) x) (j + 1) (Some (length cells))) (sym own)
+      (first-fresh (j + 1) (let l = s.0 in omega (arith, l, e)) (λ i g m z. s.2 i (omega (arith, g, e)) m z))))
       (λ (d : j ≢ b). subst (λ (x : Option ℕ). IsFirstFrom (IsIn (cells ++ Some a ∷ []) q) (j + 1) x)
-        (sym (ap (λ (x : List (Option ℕ)). entry x j) k.1 ∙ entry-other nexts b j (Some (length cells)) d))
-        (⊎_elim (λ (e : q ≡ a).
-          let pa : IsIn cells a j = subst (λ (x : ℕ). IsIn cells x j) e p in
-          let under : j < b = ⊎_elim (λ (l : j < b). l) (λ (u : (j ≡ b) ⊎ (b < j)). absurd (⊎_elim d
-            (λ (l : b < j). s.2 j l (within cells j (Some a) pa) pa) u)) (either b j) in
-          subst (λ (x : ℕ). IsFirstFrom (IsIn (cells ++ Some a ∷ []) x) (j + 1) (entry nexts j)) (sym e)
-          (first-own (j + 1) b (entry nexts j) (omega (arith, under)) s.1 (r.next a j pa)))
-        (λ (n : q ≢ a). first-still q (j + 1) (entry nexts j) n (r.next q j p)) t)) (same j b)
+      (sym (ap (λ (x : List (Option ℕ)). entry x j) k.1 ∙ entry-other nexts b j (Some (length cells)) d))
+      (⊎_elim (λ (e : q ≡ a).
+      let pa : IsIn cells a j = subst (λ (x : ℕ). IsIn cells x j) e p in
+      let under : j < b = ⊎_elim (λ (l : j < b). l) (λ (u : (j ≡ b) ⊎ (b < j)). absurd (⊎_elim d
+      (λ (l : b < j). s.2 j l (within cells j (Some a) pa) pa) u)) (either b j) in
+      subst (λ (x : ℕ). IsFirstFrom (IsIn (cells ++ Some a ∷ []) x) (j + 1) (entry nexts j)) (sym e)
+      (first-own (j + 1) b (entry nexts j) (omega (arith, under)) s.1 (r.next a j pa)))
+      (λ (n : q ≢ a). first-still q (j + 1) (entry nexts j) n (r.next q j p)) t)) (same j b)
 
   pub pushed : (firsts lasts nexts firsts' nexts' : List (Option ℕ)) → a < 283 → AreLined cells firsts lasts nexts
       → IsLinked firsts nexts a (entry lasts a) (Some (length cells)) firsts' nexts'
@@ -101,25 +101,25 @@ module _ (cells : List (Option ℕ)) (a : ℕ) where
       let size : length nexts' ≡ length cells = sizes.1 ∙ r.next_size in
       let longer : length (cells ++ Some a ∷ []) ≡ length cells + 1 = length-append cells (Some a ∷ []) in
       record {
-      first_size = sizes.0 ∙ r.first_size;
-      last_size = length-set lasts a (Some (length cells)) ∙ r.last_size;
-      next_size = length-append nexts' (None ∷ []) ∙ ap (λ (n : ℕ). n + 1) size ∙ sym longer;
-      known = λ q j p. ⊎_elim (λ (z : IsIn cells q j). r.known q j z) (λ (z : (j ≡ length cells) × (q ≡ a)). let e = z.1 in omega (arith, e, l)) (from-longer q j p);
-      first = λ q. firsts-longer firsts lasts nexts firsts' nexts' (entry lasts a) l r (r.last a) k q (same q a);
-      last = λ q. ⊎_elim (λ (e : q ≡ a). subst (λ (x : ℕ). IsLastBelow (IsIn (cells ++ Some a ∷ []) x) (length (cells ++ Some a ∷ [])) (entry (set lasts a (Some (length cells))) x)) (sym e)
-          (subst (λ (x : Option ℕ). IsLastBelow (IsIn (cells ++ Some a ∷ []) a) (length (cells ++ Some a ∷ [])) x)
-          (sym (entry-set lasts a (Some (length cells)) (let s = r.last_size in omega (arith, l, s))))
-          (omega (arith, longer), fresh, λ j g m p. absurd (omega (arith, g, m, longer)))))
-        (λ (n : q ≢ a). subst (λ (x : Option ℕ). IsLastBelow (IsIn (cells ++ Some a ∷ []) q) (length (cells ++ Some a ∷ [])) x)
-          (sym (entry-other lasts a q (Some (length cells)) n))
-          (last-same (IsIn cells q) (IsIn (cells ++ Some a ∷ []) q) (length cells) (length (cells ++ Some a ∷ [])) (entry lasts q) (omega (arith, longer)) (to-longer q)
-          (λ j p. let z = from-other q j n p in (z, within cells j (Some q) z)) (r.last q))) (same q a);
-      next = λ q j p. ⊎_elim (λ (z : IsIn cells q j). subst (λ (x : Option ℕ). IsFirstFrom (IsIn (cells ++ Some a ∷ []) q) (j + 1) x)
-          (sym (entry-before nexts' None j (let w = within cells j (Some q) z in omega (arith, w, size))))
-          (nexts-longer firsts lasts nexts firsts' nexts' (entry lasts a) r (r.last a) k q j (same q a) z))
-        (λ (z : (j ≡ length cells) × (q ≡ a)). subst (λ (x : Option ℕ). IsFirstFrom (IsIn (cells ++ Some a ∷ []) q) (j + 1) x)
-          (sym (entry-end nexts' None j (z.0 ∙ sym size)))
-          (λ i g y. let w = within (cells ++ Some a ∷ []) i (Some q) y in let e = z.0 in absurd (omega (arith, e, g, w, longer)))) (from-longer q j p);
+        first_size = sizes.0 ∙ r.first_size;
+        last_size = length-set lasts a (Some (length cells)) ∙ r.last_size;
+        next_size = length-append nexts' (None ∷ []) ∙ ap (λ (n : ℕ). n + 1) size ∙ sym longer;
+        known = λ q j p. ⊎_elim (λ (z : IsIn cells q j). r.known q j z) (λ (z : (j ≡ length cells) × (q ≡ a)). let e = z.1 in omega (arith, e, l)) (from-longer q j p);
+        first = λ q. firsts-longer firsts lasts nexts firsts' nexts' (entry lasts a) l r (r.last a) k q (same q a);
+        last = λ q. ⊎_elim (λ (e : q ≡ a). subst (λ (x : ℕ). IsLastBelow (IsIn (cells ++ Some a ∷ []) x) (length (cells ++ Some a ∷ [])) (entry (set lasts a (Some (length cells))) x)) (sym e)
+            (subst (λ (x : Option ℕ). IsLastBelow (IsIn (cells ++ Some a ∷ []) a) (length (cells ++ Some a ∷ [])) x)
+            (sym (entry-set lasts a (Some (length cells)) (let s = r.last_size in omega (arith, l, s))))
+            (omega (arith, longer), fresh, λ j g m p. absurd (omega (arith, g, m, longer)))))
+            (λ (n : q ≢ a). subst (λ (x : Option ℕ). IsLastBelow (IsIn (cells ++ Some a ∷ []) q) (length (cells ++ Some a ∷ [])) x)
+            (sym (entry-other lasts a q (Some (length cells)) n))
+            (last-same (IsIn cells q) (IsIn (cells ++ Some a ∷ []) q) (length cells) (length (cells ++ Some a ∷ [])) (entry lasts q) (omega (arith, longer)) (to-longer q)
+            (λ j p. let z = from-other q j n p in (z, within cells j (Some q) z)) (r.last q))) (same q a);
+        next = λ q j p. ⊎_elim (λ (z : IsIn cells q j). subst (λ (x : Option ℕ). IsFirstFrom (IsIn (cells ++ Some a ∷ []) q) (j + 1) x)
+            (sym (entry-before nexts' None j (let w = within cells j (Some q) z in omega (arith, w, size))))
+            (nexts-longer firsts lasts nexts firsts' nexts' (entry lasts a) r (r.last a) k q j (same q a) z))
+            (λ (z : (j ≡ length cells) × (q ≡ a)). subst (λ (x : Option ℕ). IsFirstFrom (IsIn (cells ++ Some a ∷ []) q) (j + 1) x)
+            (sym (entry-end nexts' None j (z.0 ∙ sym size)))
+            (λ i g y. let w = within (cells ++ Some a ∷ []) i (Some q) y in let e = z.0 in absurd (omega (arith, e, g, w, longer)))) (from-longer q j p);
       }
 
 -- ---- no cell
@@ -131,16 +131,16 @@ entry-none (suc n) (suc q) = entry-none n q
 
 pub cleared : (n m : ℕ) (firsts lasts : List (Option ℕ)) → n ≡ 283 → m ≡ 283 → firsts ≡ replicate n None → lasts ≡ replicate m None → AreLined [] firsts lasts []
 cleared n m firsts lasts en em f l = record {
-    first_size = ap length f ∙ length-replicate n None ∙ en;
-    last_size = ap length l ∙ length-replicate m None ∙ em;
-    next_size = refl;
-    known = λ q j p. absurd (none-some (Some q) p);
-    first = λ q. subst (λ (z : Option ℕ). IsFirstFrom (IsIn [] q) 0 z) (sym (ap (λ (z : List (Option ℕ)). entry z q) f ∙ entry-none n q))
+  first_size = ap length f ∙ length-replicate n None ∙ en;
+  last_size = ap length l ∙ length-replicate m None ∙ em;
+  next_size = refl;
+  known = λ q j p. absurd (none-some (Some q) p);
+  first = λ q. subst (λ (z : Option ℕ). IsFirstFrom (IsIn [] q) 0 z) (sym (ap (λ (z : List (Option ℕ)). entry z q) f ∙ entry-none n q))
       (λ j g p. none-some (Some q) p);
-    last = λ q. subst (λ (z : Option ℕ). IsLastBelow (IsIn [] q) 0 z) (sym (ap (λ (z : List (Option ℕ)). entry z q) l ∙ entry-none m q))
+  last = λ q. subst (λ (z : Option ℕ). IsLastBelow (IsIn [] q) 0 z) (sym (ap (λ (z : List (Option ℕ)). entry z q) l ∙ entry-none m q))
       (λ j g p. none-some (Some q) p);
-    next = λ q j p. absurd (none-some (Some q) p);
-    }
+  next = λ q j p. absurd (none-some (Some q) p);
+}
 
 -- ---- a cell that leaves
 
@@ -151,7 +151,7 @@ module _ (cells : List (Option ℕ)) (a i : ℕ) (there : IsIn cells a i) where
   from-less : (q j : ℕ) → IsIn (set cells i None) q j → IsIn cells q j × (j ≢ i)
   from-less q j e =
       let apart : j ≢ i = λ z. none-some q (same_Some _ _ (sym (get-set cells i None (within cells i (Some a) there))
-        ∙ subst (λ (x : ℕ). IsIn (set cells i None) q x) z e)) in
+      ∙ subst (λ (x : ℕ). IsIn (set cells i None) q x) z e)) in
       (sym (get-set-other cells i j None apart) ∙ e, apart)
 
   -- a cell's number that isn't the one that leaves
@@ -173,18 +173,18 @@ module _ (cells : List (Option ℕ)) (a i : ℕ) (there : IsIn cells a i) where
   firsts-less firsts lasts nexts firsts' nexts' None x r s f k q t =
       let l = r.known a i there in let size = r.first_size in
       ⊎_elim (λ (e : q ≡ a). subst (λ (z : ℕ). IsFirstFrom (IsIn (set cells i None) z) 0 (entry firsts' z)) (sym e)
-        (subst (λ (z : Option ℕ). IsFirstFrom (IsIn (set cells i None) a) 0 z)
-        (sym (ap (λ (z : List (Option ℕ)). entry z a) k.0 ∙ entry-set firsts a x (omega (arith, l, size))))
-        (first-after (IsIn cells a) (IsIn (set cells i None) a) 0 i x (to-less a) (from-less a) (omega arith) (λ j g m p. s j m p) f)))
+      (subst (λ (z : Option ℕ). IsFirstFrom (IsIn (set cells i None) a) 0 z)
+      (sym (ap (λ (z : List (Option ℕ)). entry z a) k.0 ∙ entry-set firsts a x (omega (arith, l, size))))
+      (first-after (IsIn cells a) (IsIn (set cells i None) a) 0 i x (to-less a) (from-less a) (omega arith) (λ j g m p. s j m p) f)))
       (λ (n : q ≢ a). subst (λ (z : Option ℕ). IsFirstFrom (IsIn (set cells i None) q) 0 z)
-        (sym (ap (λ (z : List (Option ℕ)). entry z q) k.0 ∙ entry-other firsts a q x n))
-        (first-still-less q 0 (entry firsts q) (not-first q 0 (entry firsts q) n (r.first q)) (r.first q))) t
+      (sym (ap (λ (z : List (Option ℕ)). entry z q) k.0 ∙ entry-other firsts a q x n))
+      (first-still-less q 0 (entry firsts q) (not-first q 0 (entry firsts q) n (r.first q)) (r.first q))) t
   firsts-less firsts lasts nexts firsts' nexts' (Some b) x r s f k q t =
       let before = s.0 in
       subst (λ (z : List (Option ℕ)). IsFirstFrom (IsIn (set cells i None) q) 0 (entry z q)) (sym k.0)
       (first-still-less q 0 (entry firsts q) (⊎_elim (λ (e : q ≡ a) (h : entry firsts q ≡ Some i).
-          (first-is (IsIn cells q) 0 i (entry firsts q) (r.first q) h).2 b (omega arith) before (subst (λ (z : ℕ). IsIn cells z b) (sym e) s.1))
-        (λ (n : q ≢ a). not-first q 0 (entry firsts q) n (r.first q)) t) (r.first q))
+      (first-is (IsIn cells q) 0 i (entry firsts q) (r.first q) h).2 b (omega arith) before (subst (λ (z : ℕ). IsIn cells z b) (sym e) s.1))
+      (λ (n : q ≢ a). not-first q 0 (entry firsts q) n (r.first q)) t) (r.first q))
 
   nexts-less : (firsts lasts nexts firsts' nexts' : List (Option ℕ)) (o x : Option ℕ) → AreLined cells firsts lasts nexts
       → IsLastBelow (IsIn cells a) i o → IsFirstFrom (IsIn cells a) (i + 1) x → IsLinked firsts nexts a o x firsts' nexts' → (q j : ℕ) → (q ≡ a) ⊎ (q ≢ a)
@@ -192,28 +192,28 @@ module _ (cells : List (Option ℕ)) (a i : ℕ) (there : IsIn cells a i) where
   nexts-less firsts lasts nexts firsts' nexts' None x r s f k q j t p d =
       subst (λ (z : List (Option ℕ)). IsFirstFrom (IsIn (set cells i None) q) (j + 1) (entry z j)) (sym k.1)
       (first-still-less q (j + 1) (entry nexts j) (⊎_elim (λ (e : q ≡ a) (h : entry nexts j ≡ Some i).
-          let g = (first-is (IsIn cells q) (j + 1) i (entry nexts j) (r.next q j p) h).0 in
-          s j (omega (arith, g)) (subst (λ (z : ℕ). IsIn cells z j) e p))
-        (λ (n : q ≢ a). not-first q (j + 1) (entry nexts j) n (r.next q j p)) t) (r.next q j p))
+      let g = (first-is (IsIn cells q) (j + 1) i (entry nexts j) (r.next q j p) h).0 in
+      s j (omega (arith, g)) (subst (λ (z : ℕ). IsIn cells z j) e p))
+      (λ (n : q ≢ a). not-first q (j + 1) (entry nexts j) n (r.next q j p)) t) (r.next q j p))
   nexts-less firsts lasts nexts firsts' nexts' (Some b) x r s f k q j t p d = ⊎_elim (λ (e : j ≡ b).
-        let at : entry nexts' j ≡ x
-          = ap (λ (z : List (Option ℕ)). entry z j) k.1 ∙ ap (entry (set nexts b x)) e
-          ∙ entry-set nexts b x (let l = within cells b (Some a) s.1 in let size = r.next_size in omega (arith, l, size)) in
-        let own : q ≡ a = one-queue cells q a b (subst (λ (z : ℕ). IsIn cells q z) e p) s.1 in
-        let before = s.0 in
-        subst (λ (z : Option ℕ). IsFirstFrom (IsIn (set cells i None) q) (j + 1) z) (sym at)
-        (subst (λ (z : ℕ). IsFirstFrom (IsIn (set cells i None) z) (j + 1) x) (sym own)
-        (first-after (IsIn cells a) (IsIn (set cells i None) a) (j + 1) i x (to-less a) (from-less a) (omega (arith, before, e))
-        (λ c g m z. s.2 c (omega (arith, g, e)) m z) f)))
+      let at : entry nexts' j ≡ x
+      = ap (λ (z : List (Option ℕ)). entry z j) k.1 ∙ ap (entry (set nexts b x)) e
+      ∙ entry-set nexts b x (let l = within cells b (Some a) s.1 in let size = r.next_size in omega (arith, l, size)) in
+      let own : q ≡ a = one-queue cells q a b (subst (λ (z : ℕ). IsIn cells q z) e p) s.1 in
+      let before = s.0 in
+      subst (λ (z : Option ℕ). IsFirstFrom (IsIn (set cells i None) q) (j + 1) z) (sym at)
+      (subst (λ (z : ℕ). IsFirstFrom (IsIn (set cells i None) z) (j + 1) x) (sym own)
+      (first-after (IsIn cells a) (IsIn (set cells i None) a) (j + 1) i x (to-less a) (from-less a) (omega (arith, before, e))
+      (λ c g m z. s.2 c (omega (arith, g, e)) m z) f)))
       (λ (c : j ≢ b). subst (λ (z : Option ℕ). IsFirstFrom (IsIn (set cells i None) q) (j + 1) z)
-        (sym (ap (λ (z : List (Option ℕ)). entry z j) k.1 ∙ entry-other nexts b j x c))
-        (first-still-less q (j + 1) (entry nexts j) (⊎_elim (λ (e : q ≡ a) (h : entry nexts j ≡ Some i).
-            let g = first-is (IsIn cells q) (j + 1) i (entry nexts j) (r.next q j p) h in
-            let low = g.0 in
-            let before = s.0 in
-            ⊎_elim (λ (l : j < b). g.2 b (omega (arith, l)) before (subst (λ (z : ℕ). IsIn cells z b) (sym e) s.1))
-            (λ (u : (j ≡ b) ⊎ (b < j)). ⊎_elim c (λ (l : b < j). s.2 j l (omega (arith, low)) (subst (λ (z : ℕ). IsIn cells z j) e p)) u) (either b j))
-          (λ (n : q ≢ a). not-first q (j + 1) (entry nexts j) n (r.next q j p)) t) (r.next q j p))) (same j b)
+      (sym (ap (λ (z : List (Option ℕ)). entry z j) k.1 ∙ entry-other nexts b j x c))
+      (first-still-less q (j + 1) (entry nexts j) (⊎_elim (λ (e : q ≡ a) (h : entry nexts j ≡ Some i).
+      let g = first-is (IsIn cells q) (j + 1) i (entry nexts j) (r.next q j p) h in
+      let low = g.0 in
+      let before = s.0 in
+      ⊎_elim (λ (l : j < b). g.2 b (omega (arith, l)) before (subst (λ (z : ℕ). IsIn cells z b) (sym e) s.1))
+      (λ (u : (j ≡ b) ⊎ (b < j)). ⊎_elim c (λ (l : b < j). s.2 j l (omega (arith, low)) (subst (λ (z : ℕ). IsIn cells z j) e p)) u) (either b j))
+      (λ (n : q ≢ a). not-first q (j + 1) (entry nexts j) n (r.next q j p)) t) (r.next q j p))) (same j b)
 
   lasts-less : (firsts lasts nexts lasts' : List (Option ℕ)) (o x : Option ℕ) → AreLined cells firsts lasts nexts
       → IsLastBelow (IsIn cells a) i o → IsFirstFrom (IsIn cells a) (i + 1) x → IsEnded lasts a o x lasts' → (q : ℕ) → (q ≡ a) ⊎ (q ≢ a)
@@ -221,19 +221,19 @@ module _ (cells : List (Option ℕ)) (a i : ℕ) (there : IsIn cells a i) where
   lasts-less firsts lasts nexts lasts' o None r s f k q t =
       let l = r.known a i there in let size = r.last_size in
       ⊎_elim (λ (e : q ≡ a). subst (λ (z : ℕ). IsLastBelow (IsIn (set cells i None) z) (length cells) (entry lasts' z)) (sym e)
-        (subst (λ (z : Option ℕ). IsLastBelow (IsIn (set cells i None) a) (length cells) z)
-        (sym (ap (λ (z : List (Option ℕ)). entry z a) k ∙ entry-set lasts a o (omega (arith, l, size))))
-        (last-before (IsIn cells a) (IsIn (set cells i None) a) (length cells) i o (to-less a) (from-less a) (within cells i (Some a) there)
-        (λ j g p. f j (omega (arith, g)) p) s)))
+      (subst (λ (z : Option ℕ). IsLastBelow (IsIn (set cells i None) a) (length cells) z)
+      (sym (ap (λ (z : List (Option ℕ)). entry z a) k ∙ entry-set lasts a o (omega (arith, l, size))))
+      (last-before (IsIn cells a) (IsIn (set cells i None) a) (length cells) i o (to-less a) (from-less a) (within cells i (Some a) there)
+      (λ j g p. f j (omega (arith, g)) p) s)))
       (λ (n : q ≢ a). subst (λ (z : Option ℕ). IsLastBelow (IsIn (set cells i None) q) (length cells) z)
-        (sym (ap (λ (z : List (Option ℕ)). entry z q) k ∙ entry-other lasts a q o n))
-        (last-still-less q (length cells) (entry lasts q) (not-last q (length cells) (entry lasts q) n (r.last q)) (r.last q))) t
+      (sym (ap (λ (z : List (Option ℕ)). entry z q) k ∙ entry-other lasts a q o n))
+      (last-still-less q (length cells) (entry lasts q) (not-last q (length cells) (entry lasts q) n (r.last q)) (r.last q))) t
   lasts-less firsts lasts nexts lasts' o (Some c) r s f k q t =
       let after = f.0 in
       subst (λ (z : List (Option ℕ)). IsLastBelow (IsIn (set cells i None) q) (length cells) (entry z q)) (sym k)
       (last-still-less q (length cells) (entry lasts q) (⊎_elim (λ (e : q ≡ a) (h : entry lasts q ≡ Some i).
-          (last-is (IsIn cells q) (length cells) i (entry lasts q) (r.last q) h).2 c (omega (arith, after)) (within cells c (Some a) f.1) (subst (λ (z : ℕ). IsIn cells z c) (sym e) f.1))
-        (λ (n : q ≢ a). not-last q (length cells) (entry lasts q) n (r.last q)) t) (r.last q))
+      (last-is (IsIn cells q) (length cells) i (entry lasts q) (r.last q) h).2 c (omega (arith, after)) (within cells c (Some a) f.1) (subst (λ (z : ℕ). IsIn cells z c) (sym e) f.1))
+      (λ (n : q ≢ a). not-last q (length cells) (entry lasts q) n (r.last q)) t) (r.last q))
 
   ended-size : (lasts lasts' : List (Option ℕ)) (o x : Option ℕ) → IsEnded lasts a o x lasts' → length lasts' ≡ length lasts
   ended-size lasts lasts' o None k = ap length k ∙ length-set lasts a o
@@ -247,14 +247,14 @@ module _ (cells : List (Option ℕ)) (a i : ℕ) (there : IsIn cells a i) where
       let same-size : length (set cells i None) ≡ length cells = length-set cells i None in
       let after = r.next a i there in
       record {
-      first_size = sizes.0 ∙ r.first_size;
-      last_size = ended-size lasts lasts' o (entry nexts i) m ∙ r.last_size;
-      next_size = sizes.1 ∙ r.next_size ∙ sym same-size;
-      known = λ q j p. r.known q j (from-less q j p).0;
-      first = λ q. firsts-less firsts lasts nexts firsts' nexts' o (entry nexts i) r s after k q (same q a);
-      last = λ q. subst (λ (z : ℕ). IsLastBelow (IsIn (set cells i None) q) z (entry lasts' q)) (sym same-size)
-        (lasts-less firsts lasts nexts lasts' o (entry nexts i) r s after m q (same q a));
-      next = λ q j p. let z = from-less q j p in nexts-less firsts lasts nexts firsts' nexts' o (entry nexts i) r s after k q j (same q a) z.0 z.1;
+        first_size = sizes.0 ∙ r.first_size;
+        last_size = ended-size lasts lasts' o (entry nexts i) m ∙ r.last_size;
+        next_size = sizes.1 ∙ r.next_size ∙ sym same-size;
+        known = λ q j p. r.known q j (from-less q j p).0;
+        first = λ q. firsts-less firsts lasts nexts firsts' nexts' o (entry nexts i) r s after k q (same q a);
+        last = λ q. subst (λ (z : ℕ). IsLastBelow (IsIn (set cells i None) q) z (entry lasts' q)) (sym same-size)
+            (lasts-less firsts lasts nexts lasts' o (entry nexts i) r s after m q (same q a));
+        next = λ q j p. let z = from-less q j p in nexts-less firsts lasts nexts firsts' nexts' o (entry nexts i) r s after k q j (same q a) z.0 z.1;
       }
 
 -- ---- as the code does it: slices written back into their vectors
@@ -271,12 +271,12 @@ push-lined cells firsts lasts nexts firsts' nexts' cells' nexts'' a n nf nn befo
     let size = r.last_size in
     let is : before ≡ entry lasts a = read-entry lasts a before (omega (arith, l, size)) eb in
     let k2 : IsLinked firsts nexts a (entry lasts a) (Some (length cells)) firsts' nexts'
-      = subst (λ (z : ℕ). IsLinked firsts nexts a (entry lasts a) (Some z) firsts' nexts') en
-      (subst (λ (z : Option ℕ). IsLinked firsts nexts a z (Some n) firsts' nexts') is k) in
+    = subst (λ (z : ℕ). IsLinked firsts nexts a (entry lasts a) (Some z) firsts' nexts') en
+    (subst (λ (z : Option ℕ). IsLinked firsts nexts a z (Some n) firsts' nexts') is k) in
     let sizes = linked-size cells a firsts nexts firsts' nexts' (entry lasts a) (Some (length cells)) k2 in
     subst (λ (z : List (Option ℕ)). AreLined z (take nf (firsts' ++ drop (length firsts') firsts)) (set lasts a (Some n)) nexts'') (sym ec)
     (subst (λ (z : List (Option ℕ)). AreLined (cells ++ Some a ∷ []) (take nf (firsts' ++ drop (length firsts') firsts)) (set lasts a (Some n)) z)
-      (sym (ey ∙ ap (λ (y : List (Option ℕ)). y ++ None ∷ []) (whole nn nexts nexts' ex sizes.1)))
+    (sym (ey ∙ ap (λ (y : List (Option ℕ)). y ++ None ∷ []) (whole nn nexts nexts' ex sizes.1)))
     (subst (λ (z : List (Option ℕ)). AreLined (cells ++ Some a ∷ []) z (set lasts a (Some n)) (nexts' ++ None ∷ [])) (sym (whole nf firsts firsts' ef sizes.0))
     (subst (λ (z : ℕ). AreLined (cells ++ Some a ∷ []) firsts' (set lasts a (Some z)) (nexts' ++ None ∷ [])) (sym en)
     (pushed cells a firsts lasts nexts firsts' nexts' l r k2))))
@@ -296,7 +296,7 @@ vacate-lined cells firsts lasts nexts firsts' lasts' nexts' a i nf nl nn before 
     let sizes = linked-size cells a firsts nexts firsts' nexts' before (entry nexts i) k2 in
     let end-size = ended-size cells a i p lasts lasts' before (entry nexts i) m2 in
     subst (λ (z : List (Option ℕ)). AreLined (set cells i None) z (take nl (lasts' ++ drop (length lasts') lasts)) (take nn (nexts' ++ drop (length nexts') nexts)))
-      (sym (whole nf firsts firsts' ef sizes.0))
+    (sym (whole nf firsts firsts' ef sizes.0))
     (subst (λ (z : List (Option ℕ)). AreLined (set cells i None) firsts' z (take nn (nexts' ++ drop (length nexts') nexts))) (sym (whole nl lasts lasts' el end-size))
     (subst (λ (z : List (Option ℕ)). AreLined (set cells i None) firsts' lasts' z) (sym (whole nn nexts nexts' ex sizes.1))
     (vacated cells a i p firsts lasts nexts firsts' lasts' nexts' before r s k2 m2)))

@@ -128,8 +128,8 @@ module _ {X : Type 0} where
   -- a message is past the cells that are vacant
   pub used-after : (xs : List (Option X)) (start cell : ℕ) → present (take start xs) ≡ [] → ((x : X) × (slice_get xs cell ≡ Some (Some x))) → start ≤ cell
   used-after xs start cell e t = ⊎_elim (λ (l : cell < start).
-        let m = count-rises xs (suc cell) start (omega (arith, l)) in
-        let c = ap length (present-some xs cell t.0 t.1) in
-        let a = length-append (present (take cell xs)) (t.0 ∷ []) in
-        let z : length (present (take start xs)) ≡ 0 = ap length e in absurd (omega (arith, m, c, a, z)))
+      let m = count-rises xs (suc cell) start (omega (arith, l)) in
+      let c = ap length (present-some xs cell t.0 t.1) in
+      let a = length-append (present (take cell xs)) (t.0 ∷ []) in
+      let z : length (present (take start xs)) ≡ 0 = ap length e in absurd (omega (arith, m, c, a, z)))
       (λ (u : (cell ≡ start) ⊎ (start < cell)). ⊎_elim (λ (e : cell ≡ start). omega (arith, e)) (λ (l : start < cell). omega (arith, l)) u) (either start cell)

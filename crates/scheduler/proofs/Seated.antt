@@ -67,7 +67,7 @@ module _ {C : Type 0} where
       → length xs ≤ 2048 → length lines < 2048
   lines-room xs lines i e l m =
       let n : length lines ≡ length (present (take i xs)) = ap length e ∙ length-map (map (λ (x : Message C). Some x) (present (take i xs))) line_of
-        ∙ length-map (present (take i xs)) (λ (x : Message C). Some x) in
+      ∙ length-map (present (take i xs)) (λ (x : Message C). Some x) in
       let b = count-below xs i in
       omega (arith, n, b, l, m)
 
@@ -76,12 +76,12 @@ module _ {C : Type 0} where
       → lines' ≡ lines ++ Some q ∷ [] → lines' ≡ lines_of (map (λ x. Some x) (present (take (i + 1) xs)))
   lines-more xs lines lines' i q r m l e s k f g =
       let more : present (take (i + 1) xs) ≡ present (take i xs) ++ m ∷ []
-        = ap (λ (z : ℕ). present (take z xs)) (one-more i) ∙ present-some xs i m (read-is xs i r l e ∙ ap (λ (z : Option (Message C)). Some z) s) in
+      = ap (λ (z : ℕ). present (take z xs)) (one-more i) ∙ present-some xs i m (read-is xs i r l e ∙ ap (λ (z : Option (Message C)). Some z) s) in
       g ∙ ap (λ (z : List (Option ℕ)). z ++ Some q ∷ []) k
-        ∙ ap (λ (z : ℕ). lines_of (map (λ (x : Message C). Some x) (present (take i xs))) ++ Some z ∷ []) f
-        ∙ sym (map-append line_of (map (λ (x : Message C). Some x) (present (take i xs))) (Some m ∷ []))
-        ∙ ap (λ (z : List (Option (Message C))). lines_of z) (sym (map-append (λ (x : Message C). Some x) (present (take i xs)) (m ∷ [])))
-        ∙ ap (λ (z : List (Message C)). lines_of (map (λ (x : Message C). Some x) z)) (sym more)
+      ∙ ap (λ (z : ℕ). lines_of (map (λ (x : Message C). Some x) (present (take i xs))) ++ Some z ∷ []) f
+      ∙ sym (map-append line_of (map (λ (x : Message C). Some x) (present (take i xs))) (Some m ∷ []))
+      ∙ ap (λ (z : List (Option (Message C))). lines_of z) (sym (map-append (λ (x : Message C). Some x) (present (take i xs)) (m ∷ [])))
+      ∙ ap (λ (z : List (Message C)). lines_of (map (λ (x : Message C). Some x) z)) (sym more)
 
   pub lines-same : (xs : List (Option (Message C))) (lines lines' : List (Option ℕ)) (i : ℕ) (r : Option (Message C)) → i < length xs → r ≡ get_or xs i r
       → r ≡ None → lines ≡ lines_of (map (λ x. Some x) (present (take i xs)))
@@ -94,11 +94,11 @@ module _ {C : Type 0} where
   pub queues-set : (xs : List (Option (Message C))) (i : ℕ) → HaveQueues xs → i < length xs → HaveQueues (set xs i None)
   queues-set xs i h l j m e = ⊎_elim (λ (s : j ≡ i). absurd (none-some m (same_Some None (Some m)
       (sym (get-set xs i None l) ∙ subst (λ (z : ℕ). slice_get (set xs i None) z ≡ Some (Some m)) s e))))
-    (λ (n : j ≢ i). h j m (sym (get-set-other xs i j None n) ∙ e)) (same j i)
+      (λ (n : j ≢ i). h j m (sym (get-set-other xs i j None n) ∙ e)) (same j i)
 
   pub queues-push : (xs : List (Option (Message C))) (m : Message C) → HaveQueues xs → HasQueue (affinity_of m.affinity) → HaveQueues (xs ++ Some m ∷ [])
   queues-push xs m h k j y e = ⊎_elim (λ (l : j < length xs). h j y (sym (get-before xs (Some m) j l) ∙ e))
-    (λ (t : (j ≡ length xs) × (Some m ≡ Some y)). subst (λ (z : Message C). HasQueue (affinity_of z.affinity)) (same_Some m y t.1) k) (get-past xs (Some m) (Some y) j e)
+      (λ (t : (j ≡ length xs) × (Some m ≡ Some y)). subst (λ (z : Message C). HasQueue (affinity_of z.affinity)) (same_Some m y t.1) k) (get-past xs (Some m) (Some y) j e)
 
   pub queues-all : (xs : List (Option (Message C))) → HaveQueues xs → HaveQueues (map (λ x. Some x) (present xs))
   queues-all xs h j m e =
@@ -124,7 +124,7 @@ module _ {C : Type 0} where
       → lines ≡ lines_of (map (λ x. Some x) (present zs)) → lines ≡ lines_of ys
   packed-lined xs ys zs lines e f l =
       l ∙ ap (λ (z : List (Option (Message C))). lines_of (map (λ (x : Message C). Some x) (present z))) f
-        ∙ ap (λ (z : List (Message C)). lines_of (map (λ (x : Message C). Some x) z)) (packed-present xs ys e) ∙ ap (λ (z : List (Option (Message C))). lines_of z) (sym e)
+      ∙ ap (λ (z : List (Message C)). lines_of (map (λ (x : Message C). Some x) z)) (packed-present xs ys e) ∙ ap (λ (z : List (Option (Message C))). lines_of z) (sym e)
 
   -- ---- the first of an affinity
 
@@ -139,10 +139,13 @@ module _ {C : Type 0} where
       → (m : Message C) × (slice_get xs k ≡ Some (Some m)) × Tries a (present xs) (length (present (take k xs))) m × NoneTries a (present xs) (length (present (take k xs)))
   first-tries xs lines a q k l eq h ha s =
       let t = in-line xs k q (subst (λ (z : List (Option ℕ)). IsIn z q k) l s.1) in
-      let m = t.0 in
-      (m, t.1, record { there = present-at xs k m t.1; affinity_is = same-affinity m.affinity a (h k m t.1) ha (t.2 ∙ eq) },
-       λ p n b e f. let r = cell-of xs p n e in
-         let counted = r.2 in
-         let below : r.0 < k = ⊎_elim (λ (u : r.0 < k). u) (λ (u : (r.0 ≡ k) ⊎ (k < r.0)).
-             absurd (let c = count-rises xs k r.0 (⊎_elim (λ (w : r.0 ≡ k). omega (arith, w)) (λ (w : k < r.0). omega (arith, w)) u) in omega (arith, c, b, counted))) (either k r.0) in
-         s.2 r.0 (omega arith) below (line-at xs lines r.0 q n l r.1 (eq ∙ ap (λ (z : Affinity). queue_of (affinity_of z)) (sym f))))
+      let m = t.0 in (
+        m,
+        t.1,
+        record { there = present-at xs k m t.1; affinity_is = same-affinity m.affinity a (h k m t.1) ha (t.2 ∙ eq) },
+        λ p n b e f. let r = cell-of xs p n e in
+            let counted = r.2 in
+            let below : r.0 < k = ⊎_elim (λ (u : r.0 < k). u) (λ (u : (r.0 ≡ k) ⊎ (k < r.0)).
+            absurd (let c = count-rises xs k r.0 (⊎_elim (λ (w : r.0 ≡ k). omega (arith, w)) (λ (w : k < r.0). omega (arith, w)) u) in omega (arith, c, b, counted))) (either k r.0) in
+            s.2 r.0 (omega arith) below (line-at xs lines r.0 q n l r.1 (eq ∙ ap (λ (z : Affinity). queue_of (affinity_of z)) (sym f))),
+      )

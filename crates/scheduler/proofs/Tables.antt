@@ -115,9 +115,12 @@ module _ (Is Is' : ℕ → Type 0) where
   first-after low i None to from w none s = λ j l q. ⊎_elim (λ (m : j < i). none j l m (from j q).0)
       (λ (t : (j ≡ i) ⊎ (i < j)). ⊎_elim (λ (e : j ≡ i). (from j q).1 e) (λ (m : i < j). s j (omega (arith, m)) (from j q).0) t) (either i j)
   first-after low i (Some k) to from w none s =
-      let ik = s.0 in
-      (omega (arith, w, ik), to k s.1 (λ e. absurd (omega (arith, e, ik))), λ j l m q. ⊎_elim (λ (g : j < i). none j l g (from j q).0)
-        (λ (t : (j ≡ i) ⊎ (i < j)). ⊎_elim (λ (e : j ≡ i). (from j q).1 e) (λ (g : i < j). s.2 j (omega (arith, g)) m (from j q).0) t) (either i j))
+      let ik = s.0 in (
+        omega (arith, w, ik),
+        to k s.1 (λ e. absurd (omega (arith, e, ik))),
+        λ j l m q. ⊎_elim (λ (g : j < i). none j l g (from j q).0)
+            (λ (t : (j ≡ i) ⊎ (i < j)). ⊎_elim (λ (e : j ≡ i). (from j q).1 e) (λ (g : i < j). s.2 j (omega (arith, g)) m (from j q).0) t) (either i j),
+      )
 
   pub last-kept : (high i : ℕ) (r : Option ℕ) → ((j : ℕ) → Is j → j ≢ i → Is' j) → ((j : ℕ) → Is' j → Is j × (j ≢ i)) → r ≢ Some i → IsLastBelow Is high r
       → IsLastBelow Is' high r
@@ -129,6 +132,9 @@ module _ (Is Is' : ℕ → Type 0) where
   last-before high i None to from w none s = λ j l q. ⊎_elim (λ (m : j < i). s j m (from j q).0)
       (λ (t : (j ≡ i) ⊎ (i < j)). ⊎_elim (λ (e : j ≡ i). (from j q).1 e) (λ (m : i < j). none j m (from j q).0) t) (either i j)
   last-before high i (Some k) to from w none s =
-      let ki = s.0 in
-      (omega (arith, w, ki), to k s.1 (λ e. absurd (omega (arith, e, ki))), λ j l m q. ⊎_elim (λ (g : j < i). s.2 j l g (from j q).0)
-        (λ (t : (j ≡ i) ⊎ (i < j)). ⊎_elim (λ (e : j ≡ i). (from j q).1 e) (λ (g : i < j). none j g (from j q).0) t) (either i j))
+      let ki = s.0 in (
+        omega (arith, w, ki),
+        to k s.1 (λ e. absurd (omega (arith, e, ki))),
+        λ j l m q. ⊎_elim (λ (g : j < i). s.2 j l g (from j q).0)
+            (λ (t : (j ≡ i) ⊎ (i < j)). ⊎_elim (λ (e : j ≡ i). (from j q).1 e) (λ (g : i < j). none j g (from j q).0) t) (either i j),
+      )

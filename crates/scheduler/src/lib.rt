@@ -2,9 +2,12 @@
 #![tactic(auto)]
 
 mod cells;
+pub mod laws;
 mod lines;
 mod message;
 mod queue_number;
+#[cfg(test)]
+mod tests;
 mod waiting;
 
 pub use message::{Message, Origin};

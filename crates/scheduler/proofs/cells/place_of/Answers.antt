@@ -10,7 +10,7 @@ pub overflow_add-place : goal.overflow_add-place
 overflow_add-place g c =
     let xs = c.args.messages.now in
     let more = count-more xs c.loop-earlier.earlier c.loop-earlier.place c.index-messages-earlier.result c.is_some.result (search rules)
-      c.index-messages-earlier.is c.is_some.ensures c.loop-earlier.invariant.1 in
+    c.index-messages-earlier.is c.is_some.ensures c.loop-earlier.invariant.1 in
     let byte = c.from-place.ensures in
     let below = count-below xs (c.loop-earlier.earlier + 1) in
     let test = c.loop-earlier-test.true in
@@ -18,10 +18,12 @@ overflow_add-place g c =
     omega (arith, more, byte, below, test, fits)
 
 pub loop-earlier-preserved : goal.loop-earlier-preserved
-loop-earlier-preserved g c =
-    (search rules, ap (λ (z : ℕ). c.loop-earlier.place + z) c.from-place.ensures
+loop-earlier-preserved g c = (
+  search rules,
+  ap (λ (z : ℕ). c.loop-earlier.place + z) c.from-place.ensures
       ∙ count-more c.args.messages.now c.loop-earlier.earlier c.loop-earlier.place c.index-messages-earlier.result c.is_some.result (search rules)
-      c.index-messages-earlier.is c.is_some.ensures c.loop-earlier.invariant.1)
+      c.index-messages-earlier.is c.is_some.ensures c.loop-earlier.invariant.1,
+)
 
 pub returns : goal.returns
 returns g c =
