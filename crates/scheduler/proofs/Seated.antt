@@ -33,7 +33,7 @@ same-affinity (Range a i) (Range b j) h k e =
     let p : a ≡ b = omega (arith, e, hi, kj) in
     let q : i ≡ j = omega (arith, e, p) in
     ap (λ (x : ℕ). Range x i) p ∙ ap (λ (x : ℕ). Range b x) q
-same-affinity a b h k e = absurd (omega (arith, h, k, e))
+same-affinity a b h k e = absurd (omega (arith, e, h, k))
 
 module _ {C : Type 0} where
   pub line-at : (xs : List (Option (Message C))) (lines : List (Option ℕ)) (i q : ℕ) (m : Message C) → lines ≡ lines_of xs

@@ -1,4 +1,4 @@
-use Rattle.std.proofs.Common.{◌≡◌, ◌⊎◌, ℕ, ◌<◌, ◌≤◌, None, length, arith, tt, ⊎_elim}
+use Rattle.std.proofs.Common.{◌≡◌, ◌⊎◌, ℕ, ◌<◌, ◌≤◌, None, length, arith, ⊎_elim}
 use Rattle.nfs_model.specs.Tree.{Affinity, Layout, Serial, Aggregate, Volume, Logical, Stripe, Vbn, Range, stripes_of}
 use Rattle.affinity_tree.specs.Tree.{IsNode}
 use Rattle.scheduler.specs.QueueNumber.{HasQueue}
@@ -19,4 +19,4 @@ has-queue layout (Range v r) s l k n = let a = n.0 in (omega (arith, l, a), n.1)
 pub returns : goal.returns
 returns c layout a f n =
     let small = c.lawful_layouts_are_small.ensures in
-    has-queue layout a (small.aggregates layout f) (small.volumes layout f) (λ v l. small.stripes layout v f l) n
+    has-queue layout a (small.aggregates layout f) (small.volumes layout f) (λ v l. small.stripes layout v f) n
