@@ -1,0 +1,5 @@
+pub mod Tables
+pub mod Lined
+pub mod Present
+pub mod Seated
+pub mod Taken

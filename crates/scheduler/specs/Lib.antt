@@ -1,0 +1,4 @@
+pub mod QueueNumber
+pub mod Lines
+pub mod Waiting
+pub mod Kept
