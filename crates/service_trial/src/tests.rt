@@ -3,8 +3,10 @@
 use crate::asker::Asker;
 use crate::driving::{open, serve_get_attributes};
 use affinity_tree::{AggregateSpec, Layout, VolumeSpec};
-use nfs_values::{Attributes, ConnectionNumber, Credential, FileHandle, FileKind, Fileid, Moment};
-use nfs_values::{Named, Status, Verifier, VolumeNumber};
+use nfs_values::{
+    Attributes, ConnectionNumber, Credential, FileHandle, FileKind, Fileid, Moment, Named, Status,
+    Verifier, VolumeNumber,
+};
 use std::test::Fail;
 
 const ASKER: Asker = Asker {
