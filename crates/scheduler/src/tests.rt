@@ -1,5 +1,7 @@
 //! Messages found by affinity, and a thousand of them.
 
+ghost use Rattle.std.specs.Prelude.{◌≡◌};
+
 use super::*;
 use affinity_tree::Affinity;
 use nfs_values::{ConnectionNumber, Credential};
@@ -13,7 +15,9 @@ const STRIPE: Affinity = Affinity::Stripe {
 };
 
 /// A message of the first connection.
-fn message(number: usize, affinity: Affinity) -> Message<u32> {
+fn message(number: usize, affinity: Affinity) -> Message<u32>
+    ensures { result.affinity ≡ affinity }
+{
     Message {
         origin: Origin {
             connection: ConnectionNumber(0),
