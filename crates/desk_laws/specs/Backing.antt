@@ -7,10 +7,10 @@ use Rattle.affinity_tree.specs.Tree.{IsNode}
 use Rattle.parcel_sets.specs.Exact.{HasExactly}
 use Rattle.depot_rule.specs.declared.view.View.{View}
 use Rattle.depot_rule.specs.declared.view.Entry.{Entry}
-use Rattle.depot_rule.specs.History.{listed, after, entries_of}
+use Rattle.depot_rule.specs.History.{Behaviour, listed, after, entries_of}
 use Rattle.depot_rule.specs.Shares.{Has}
 use Rattle.depot_rule.specs.Plays.{IsOnly}
-use Rattle.depot.specs.Grants.{IsSeatOf, HasWith}
+use Rattle.depot.specs.Grants.{IsSeatOf, HasWith, IsBegun, IsAfter, IsStep, HasInHand}
 use Rattle.desk_laws.specs.Books.{Lent, Books, HasLent}
 
 -- what is lent, as a grant shows it in a layout
@@ -39,3 +39,23 @@ module _ {P C R : Type 0} (kind : P → Kind) where
     pub backed : (worker : ℕ) (l : Lent P) → HasLent b worker l → IsBacked b.layout v l
     pub all : (n : ℕ) (g : List (Option P)) → Has v n g → (worker : ℕ) × (l : Lent P) × HasLent b worker l × (number_of b.layout l.affinity ≡ n)
     pub apart : (i j : ℕ) (l k : Lent P) → HasLent b i l → HasLent b j k → i ≢ j → excludes b.layout l.affinity k.affinity ≡ false
+
+  -- a depot granted a call on a, with what is lent
+  pub record IsGranted {B : Type 0} (m : Behaviour P C R B) (layout : Layout) (v : View P (Entry P C R)) (a : Affinity) (l : Lent P)
+      (w : View P (Entry P C R)) : Type 0 where
+    pub affinity : l.affinity ≡ a
+    pub exact : HasExactly kind layout a l.parcels
+    pub begun : IsBegun v (number_of layout a) l.parcels w
+    pub after : IsAfter m v (number_of layout a) l.parcels
+
+  -- a depot can finish a call with what is lent
+  pub record CanFinish {B : Type 0} (m : Behaviour P C R B) (layout : Layout) (v : View P (Entry P C R)) (l : Lent P) (call : C) (reply : R) : Type 0 where
+    pub node : IsNode layout l.affinity
+    pub exact : HasExactly kind layout l.affinity l.parcels
+    pub step : IsStep m v (number_of layout l.affinity) call reply l.parcels
+    pub hand : HasInHand m v call reply
+
+-- a depot can take back what is lent
+pub record CanPutBack {P C R : Type 0} (layout : Layout) (v : View P (Entry P C R)) (l : Lent P) : Type 0 where
+  pub node : IsNode layout l.affinity
+  pub as_granted : HasWith v (number_of layout l.affinity) l.parcels

@@ -67,6 +67,10 @@ module _ {P C R : Type 0} where
       pub same : IsSame b c
       pub settled : IsSettled m c
 
+  -- no worker was lent anything
+  abbrev pub AreIdle : Books P C R → Type 0
+  AreIdle b = (worker : ℕ) (l : Lent P) → HasLent b worker l → ⊥
+
   -- these are the parcels as the finished calls left them
   abbrev pub AreSettled : Books P C R → (ℕ → Option P) → Type 0
   AreSettled b f = (k : ℕ) → 0 < k → k < length (parents b.layout) → f k ≡ settled b k

@@ -2,3 +2,6 @@
 pub mod Overlays
 pub mod Seats
 pub mod Works
+pub mod Begins
+pub mod Ends
+pub mod Opened
