@@ -44,9 +44,9 @@ module _ {P C R : Type 0} (kind : P → Kind) where
   pub record IsGranted {B : Type 0} (m : Behaviour P C R B) (layout : Layout) (v : View P (Entry P C R)) (a : Affinity) (l : Lent P)
       (w : View P (Entry P C R)) : Type 0 where
     pub affinity : l.affinity ≡ a
-    pub exact : HasExactly kind layout a l.parcels
-    pub begun : IsBegun v (number_of layout a) l.parcels w
-    pub after : IsAfter m v (number_of layout a) l.parcels
+    pub exact : HasExactly kind layout l.affinity l.parcels
+    pub begun : IsBegun v (number_of layout l.affinity) l.parcels w
+    pub after : IsAfter m v (number_of layout l.affinity) l.parcels
 
   -- a depot can finish a call with what is lent
   pub record CanFinish {B : Type 0} (m : Behaviour P C R B) (layout : Layout) (v : View P (Entry P C R)) (l : Lent P) (call : C) (reply : R) : Type 0 where

@@ -10,6 +10,7 @@ use Rattle.affinity_tree.specs.Fault.{fault_of}
 use Rattle.affinity_tree.specs.Tree.{IsNode}
 use Rattle.affinity_tree.specs.Ancestors.{Covers}
 use Rattle.affinity_tree.specs.Numbers.{number_of}
+use Rattle.parcel_sets.specs.Exact.{HasExactly}
 use Rattle.depot_rule.specs.declared.view.View.{View}
 use Rattle.depot_rule.specs.declared.view.Read.{Read}
 use Rattle.depot_rule.specs.declared.view.Entry.{Entry}
@@ -48,8 +49,17 @@ module _ {P C R G : Type 0} (shows : Shows G P) (L : Layout) where
 module _ {P C R B G : Type 0} (shows : Shows G P) (kind : P → Kind) (m : Behaviour P C R B) (L : Layout) (lawful : fault_of L ≡ None)
     (v w : View P (Entry P C R)) (gs : List (Option G)) (h : IsBook kind (books_of shows L v gs) v) (a : Affinity) (node : IsNode L a) where
   module _ (i : ℕ) (idle : IsIdle (books_of shows L v gs) i) (any : G) (granted : IsGranted kind m L v a (shows L any) w) where
+    exact-at : HasExactly kind L a (shows L any).parcels
+    exact-at = subst (λ (x : Affinity). HasExactly kind L x (shows L any).parcels) granted.affinity granted.exact
+
+    begun-at : depots.IsBegun v (number_of L a) (shows L any).parcels w
+    begun-at = subst (λ (x : Affinity). depots.IsBegun v (number_of L x) (shows L any).parcels w) granted.affinity granted.begun
+
+    after-at : depots.IsAfter m v (number_of L a) (shows L any).parcels
+    after-at = subst (λ (x : Affinity). depots.IsAfter m v (number_of L x) (shows L any).parcels) granted.affinity granted.after
+
     same : (k : ℕ) → 0 < k → k < length v.tree → Covers v.tree (number_of L a) k → (shows L any).parcels k ≡ after v.tree (listed v.first) v.seen k
-    same k pos lt c = granted.after.4 k pos lt c ∙ ap (λ (es : List (Entry P C R)). after v.tree (listed v.first) es k) (granted.after.3 h.only)
+    same k pos lt c = after-at.4 k pos lt c ∙ ap (λ (es : List (Entry P C R)). after v.tree (listed v.first) es k) (after-at.3 h.only)
 
     abbrev new : Books P C R
     new = record (books_of shows L v gs) { lent = set (books_of shows L v gs).lent i (Some (record { affinity = a; parcels = (shows L any).parcels })) }
@@ -59,7 +69,7 @@ module _ {P C R B G : Type 0} (shows : Shows G P) (kind : P → Kind) (m : Behav
         (sym granted.affinity) ∙ sym (map-set (λ g. option_map (shows L) g) gs i (Some any))
 
     book : IsBook kind new w
-    book = begun-book kind (books_of shows L v gs) lawful v h i idle a node (shows L any).parcels granted.exact w granted.begun same
+    book = begun-book kind (books_of shows L v gs) lawful v h i idle a node (shows L any).parcels exact-at w begun-at same
 
     new-is : new ≡ books_of shows L w (set gs i (Some any))
     new-is = books-are shows L kind (set gs i (Some any)) new w book refl lent-is
@@ -69,12 +79,12 @@ module _ {P C R B G : Type 0} (shows : Shows G P) (kind : P → Kind) (m : Behav
 
     pub begun-so : HasBegun (books_of shows L v gs) i a (books_of shows L w (set gs i (Some any)))
     begun-so = record {
-      free = begun-free kind (books_of shows L v gs) lawful v h i idle a node (shows L any).parcels granted.exact w granted.begun same;
-      low = begun-low kind (books_of shows L v gs) lawful v h i idle a node (shows L any).parcels granted.exact w granted.begun same;
+      free = begun-free kind (books_of shows L v gs) lawful v h i idle a node (shows L any).parcels exact-at w begun-at same;
+      low = begun-low kind (books_of shows L v gs) lawful v h i idle a node (shows L any).parcels exact-at w begun-at same;
       parcels = (shows L any).parcels;
       books = sym new-is;
       same = subst (λ (c : Books P C R). IsSame (books_of shows L v gs) c) new-is
-          (begun-same kind (books_of shows L v gs) lawful v h i idle a node (shows L any).parcels granted.exact w granted.begun same);
+          (begun-same kind (books_of shows L v gs) lawful v h i idle a node (shows L any).parcels exact-at w begun-at same);
     }
 
   -- a call that is refused adds reads alone

@@ -1,0 +1,11 @@
+//! A depot with one seat for many workers. Nothing of the seat shows above: a desk is told by the
+//! parcels at the start, the history, and what each worker was lent (`desk_laws`).
+#![tactic(auto)]
+
+mod grant;
+mod grants;
+mod kinds;
+mod nodes;
+
+pub use grant::{AnyGrant, NodeGrant};
+pub use kinds::{NodeKinds, ParcelKinds};
