@@ -5,7 +5,7 @@ ghost use Rattle.affinity_tree.specs.Affinity.{affinity_of, kind_of};
 ghost use Rattle.depot.specs.Words.{node_of};
 
 use crate::kinds::NodeKinds;
-use affinity_tree::HasKind;
+use affinity_tree::{Affinity, HasKind};
 use depot::Grant;
 use parcel_sets::Node;
 

@@ -1,5 +1,7 @@
 -- How the only seat of a depot, and the grants that it has, back the books of a desk.
-use Rattle.std.specs.Prelude.{◌≡◌, ◌≢◌, ℕ, false, List, map, Option, option_map}
+use Rattle.std.specs.Prelude.{◌≡◌, ◌≢◌, ℕ, Bool, true, false, List, map, Option, Some, None, option_map}
+use mathlib.Core.Option.{some}
+use lib.ListN.{get_elem?}
 use Rattle.nfs_model.specs.Tree.{Layout, Affinity, excludes}
 use Rattle.affinity_tree.specs.declared.affinity.Kind.{Kind}
 use Rattle.affinity_tree.specs.Numbers.{number_of}
@@ -20,6 +22,16 @@ Shows G P = Layout → G → Lent P
 -- the books of a seat with this view, whose grants are lent to workers
 abbrev pub books_of : {P C R G : Type 0} → Shows G P → Layout → View P (Entry P C R) → List (Option G) → Books P C R
 books_of lent layout v grants = record { layout = layout; first = listed v.first; entries = v.seen; lent = map (λ g. option_map (lent layout) g) grants }
+
+-- whether what a worker has excludes an affinity
+abbrev pub excludes_lent : {P : Type 0} → Layout → Affinity → Option (Lent P) → Bool
+excludes_lent layout a None = false
+excludes_lent layout a (Some l) = excludes layout a l.affinity
+
+-- of these grants by worker one excludes an affinity
+abbrev pub IsTakenIn : {P G : Type 0} → Shows G P → Layout → List (Option G) → Affinity → Type 0
+IsTakenIn lent layout grants a = (worker : ℕ) × (g : Option _) × (get_elem? grants worker ≡ some g)
+    × (excludes_lent layout a (option_map (lent layout) g) ≡ true)
 
 module _ {P C R : Type 0} (kind : P → Kind) where
   -- what is lent has just the parcels under its affinity, and the seat has a grant of them, as the finished calls left them
