@@ -1,6 +1,6 @@
 //! What the open grants exclude.
 
-ghost use Rattle.std.specs.Prelude.{◌≡◌, ◌↔◌, IsTrue, option_map};
+ghost use Rattle.std.specs.Prelude.{◌≡◌, ◌↔◌, true, option_map};
 ghost use Rattle.affinity_tree.specs.Affinity.{affinity_of};
 ghost use Rattle.affinity_tree.specs.Layout.{layout_of};
 ghost use Rattle.desk_laws.specs.Backing.{excludes_lent, IsTakenIn};
@@ -47,7 +47,7 @@ pub(crate) fn is_taken<T: HasKind, K: NodeKinds<T>>(
     affinity: Affinity,
 ) -> bool
     ensures { let L = layout_of layout.now in
-        IsTrue result ↔ IsTakenIn lent_of L grants.now (affinity_of affinity) }
+        (result ≡ true) ↔ IsTakenIn lent_of L grants.now (affinity_of affinity) }
 {
     for worker in 0..grants.len() {
         if is_excluded(layout, &grants[worker], affinity) {

@@ -5,6 +5,7 @@ ghost use Rattle.affinity_tree.specs.Affinity.{affinity_of};
 ghost use Rattle.affinity_tree.specs.Layout.{layout_of};
 ghost use Rattle.parcel_sets.specs.Exact.{HasExactly};
 ghost use Rattle.desk_laws.specs.Calls.{Does};
+ghost use Rattle.desk_laws.specs.Backing.{IsWhole, IsDone};
 ghost use Rattle.desk.specs.Any.{lent_of};
 
 use crate::grant::AnyGrant;
@@ -124,15 +125,11 @@ pub(crate) fn work_any<T: HasKind, K: NodeKinds<T>, W: Task<T, K>>(
     any: &mut AnyGrant<T, K>,
     task: W,
 ) -> W::Output
-    requires exact { let l = lent_of (layout_of layout.now) any.old in
-        HasExactly T.kind (layout_of layout.now) l.affinity l.parcels }
-    ensures affinity { (lent_of (layout_of layout.now) any.new).affinity
-        ≡ (lent_of (layout_of layout.now) any.old).affinity }
-    ensures exact { let l = lent_of (layout_of layout.now) any.new in
-        HasExactly T.kind (layout_of layout.now) l.affinity l.parcels }
-    ensures does { let l = lent_of (layout_of layout.now) any.old in
-        W.does (layout_of layout.now) l.affinity l.parcels result
-        (lent_of (layout_of layout.now) any.new).parcels }
+    requires { IsWhole T.kind (layout_of layout.now) (lent_of (layout_of layout.now) any.old) }
+    ensures whole { IsWhole T.kind (layout_of layout.now)
+        (lent_of (layout_of layout.now) any.new) }
+    ensures done { let L = layout_of layout.now in
+        IsDone W.does L (lent_of L any.old) result (lent_of L any.new) }
 {
     match any {
         AnyGrant::Range(node) => {

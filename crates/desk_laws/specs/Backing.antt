@@ -14,6 +14,7 @@ use Rattle.depot_rule.specs.Shares.{Has}
 use Rattle.depot_rule.specs.Plays.{IsOnly}
 use Rattle.depot.specs.Grants.{IsSeatOf, HasWith, IsBegun, IsAfter, IsStep, HasInHand}
 use Rattle.desk_laws.specs.Books.{Lent, Books, HasLent}
+use Rattle.desk_laws.specs.Calls.{Does}
 
 -- what is lent, as a grant shows it in a layout
 abbrev pub Shows : Type 0 → Type 0 → Type 0
@@ -32,6 +33,10 @@ excludes_lent layout a (Some l) = excludes layout a l.affinity
 abbrev pub IsTakenIn : {P G : Type 0} → Shows G P → Layout → List (Option G) → Affinity → Type 0
 IsTakenIn lent layout grants a = (worker : ℕ) × (g : Option _) × (get_elem? grants worker ≡ some g)
     × (excludes_lent layout a (option_map (lent layout) g) ≡ true)
+
+-- what is lent has just the parcels under its affinity
+pub record IsWhole {P : Type 0} (kind : P → Kind) (layout : Layout) (l : Lent P) : Type 0 where
+  pub exact : HasExactly kind layout l.affinity l.parcels
 
 module _ {P C R : Type 0} (kind : P → Kind) where
   -- what is lent has just the parcels under its affinity, and the seat has a grant of them, as the finished calls left them
@@ -71,3 +76,8 @@ module _ {P C R : Type 0} (kind : P → Kind) where
 pub record CanPutBack {P C R : Type 0} (layout : Layout) (v : View P (Entry P C R)) (l : Lent P) : Type 0 where
   pub node : IsNode layout l.affinity
   pub as_granted : HasWith v (number_of layout l.affinity) l.parcels
+
+-- a task changed what is lent
+pub record IsDone {P O : Type 0} (does : Does P O) (layout : Layout) (l : Lent P) (outcome : O) (l' : Lent P) : Type 0 where
+  pub affinity : l'.affinity ≡ l.affinity
+  pub did : does layout l.affinity l.parcels outcome l'.parcels

@@ -5,3 +5,4 @@ pub mod Works
 pub mod Begins
 pub mod Ends
 pub mod Opened
+pub mod Taken

@@ -10,5 +10,5 @@ use Rattle.desk.proofs.taken.is_taken.Given as goal
 
 abbrev pub invariant-loop-worker : goal.invariant-loop-worker
 invariant-loop-worker g l =
-    (i : ℕ) (x : _) → i < l.worker → get_elem? l.grants.now i ≡ some x
-    → excludes_lent (layout_of l.layout.now) (affinity_of l.affinity) (option_map (lent_of (layout_of l.layout.now)) x) ≡ true → ⊥
+    (i : ℕ) (x : _) → i < l.worker → get_elem? l.grants i ≡ some x
+    → excludes_lent (layout_of l.layout) (affinity_of l.affinity) (option_map (lent_of (layout_of l.layout)) x) ≡ true → ⊥
