@@ -8,6 +8,7 @@ mod grant;
 mod grants;
 mod kinds;
 mod nodes;
+mod opening;
 mod refusal;
 mod taken;
 mod task;

@@ -45,6 +45,17 @@ module _ {P C R G : Type 0} (shows : Shows G P) (kind : P → Kind) (L : Layout)
     apart = λ i j l k at there ne. absurd (none-lent-yet i l at);
   }
 
+-- the same of a depot's own layout, and of grants that are none
+module _ {P C R G : Type 0} (shows : Shows G P) (kind : P → Kind) (L K : Layout) (f : ℕ → Option P) (v : View P (Entry P C R)) (n : ℕ) (gs : List (Option G))
+    (layout : L ≡ K) (made : v ≡ opening_view (parents K) (by_number f (1 + node_count K))) (none : gs ≡ replicate n None) where
+  pub opened-kept : IsSeatOf kind L v → IsBook kind (books_of shows L v gs) v
+  opened-kept seat =
+      subst (λ (x : Layout × List (Option G)). IsBook kind (books_of shows x.0 v x.1) v) (λ i. (sym layout i, sym none i))
+      (opened-desk shows kind K f v n made (subst (λ (l : Layout). IsSeatOf kind l v) layout seat))
+
+  pub opened-books : books_of shows L v gs ≡ opening_books K f n
+  opened-books = ap (λ (x : Layout × List (Option G)). books_of shows x.0 v x.1) (λ i. (layout i, none i)) ∙ opened-so shows kind K f v n made
+
 module _ {P C R B G : Type 0} (shows : Shows G P) (kind : P → Kind) (m : Behaviour P C R B) (L : Layout) (v : View P (Entry P C R)) (gs : List (Option G))
     (h : IsBook kind (books_of shows L v gs) v) where
   -- where nothing is lent the seat has no grant
