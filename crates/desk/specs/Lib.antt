@@ -1,0 +1,3 @@
+pub mod Any
+pub mod Refusal
+pub mod Words

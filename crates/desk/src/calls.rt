@@ -1,0 +1,80 @@
+//! Calls on a desk, from begin to finish.
+
+ghost use Rattle.std.specs.Prelude.{◌≡◌};
+
+use crate::desk::Desk;
+use crate::grants::{begin_any, finish_any, put_back_any};
+use crate::kinds::NodeKinds;
+use crate::refusal::Refusal;
+use crate::taken::is_taken;
+use affinity_tree::Affinity;
+use depot::Refusal as Refused;
+use depot_rule::machine::Machine;
+use std::mem;
+
+impl<M: Machine, K: NodeKinds<M::Parcel>> Desk<M, K> {
+    ghost use Rattle.std.specs.Prelude.{OnOk, IfErr};
+    ghost use Rattle.affinity_tree.specs.Affinity.{affinity_of};
+    ghost use Rattle.affinity_tree.specs.Tree.{IsNode};
+    ghost use Rattle.desk_laws.specs.Books.{HasLent, IsIdle, IsUnchanged};
+    ghost use Rattle.desk_laws.specs.Calls.{HasBegun, HasPutBack};
+    ghost use Rattle.desk_laws.specs.Calls.{MayFinish, HasFinished};
+    ghost use Rattle.desk.specs.Refusal.{IsRefused};
+    ghost use Rattle.desk.specs.Words.{books, machine_in, IsKept};
+
+    /// Lends the parcels under an affinity to an idle worker, unless something that is lent
+    /// excludes it or 2^62 calls were finished. It takes no memory.
+    pub fn begin(&mut self, worker: usize, affinity: Affinity) -> Result<(), Refusal>
+        requires kept { IsKept self.old }
+        requires node { IsNode (books self.old).layout (affinity_of affinity) }
+        requires idle { IsIdle (books self.old) worker }
+        ensures kept { IsKept self.new }
+        ensures begun { OnOk result
+            (HasBegun (books self.old) worker (affinity_of affinity) (books self.new)) }
+        ensures refused { IfErr result (IsRefused (books self.old) (affinity_of affinity)) }
+        ensures same { IfErr result (λ refusal. books self.new ≡ books self.old) }
+    {
+        match begin_any(&self.depot, &mut self.seat, affinity) {
+            Ok(any) => match mem::replace(&mut self.grants[worker], Some(any)) {
+                None => Ok(()),
+                Some(_) => unreachable!(),
+            },
+            Err(Refused::Busy { node: _, word: _ }) => Err(Refusal::Taken),
+            Err(Refused::Worn) => {
+                if is_taken(self.depot.layout(), self.grants.as_slice(), affinity) {
+                    return Err(Refusal::Taken);
+                }
+                Err(Refusal::Worn)
+            }
+        }
+    }
+
+    /// Ends a worker's call by an entry of the history, with its parcels as they are.
+    pub fn finish(&mut self, worker: usize, call: &M::Call, reply: &M::Reply)
+        requires kept { IsKept self.old }
+        requires may { MayFinish (machine_in self.old) (books self.old) worker
+            call.now reply.now }
+        ensures kept { IsKept self.new }
+        ensures finished { HasFinished (machine_in self.old) (books self.old) worker
+            call.now reply.now (books self.new) }
+    {
+        match self.grants[worker].take() {
+            Some(any) => finish_any(&self.depot, &mut self.seat, any, call, reply),
+            None => unreachable!(),
+        }
+    }
+
+    /// Ends a worker's call without an entry. What it was lent has to be as it was lent.
+    pub fn put_back(&mut self, worker: usize)
+        requires kept { IsKept self.old }
+        requires unchanged { (l : _) × HasLent (books self.old) worker l
+            × IsUnchanged (books self.old) l }
+        ensures kept { IsKept self.new }
+        ensures back { HasPutBack (books self.old) worker (books self.new) }
+    {
+        match self.grants[worker].take() {
+            Some(any) => put_back_any(&self.depot, &mut self.seat, any),
+            None => unreachable!(),
+        }
+    }
+}

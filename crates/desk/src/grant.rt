@@ -1,0 +1,29 @@
+//! Grants of nodes of any kind.
+
+ghost use Rattle.std.specs.Prelude.{◌≡◌};
+ghost use Rattle.affinity_tree.specs.Affinity.{affinity_of, kind_of};
+ghost use Rattle.depot.specs.Words.{node_of};
+
+use crate::kinds::NodeKinds;
+use affinity_tree::{Affinity, HasKind};
+use depot::Grant;
+use parcel_sets::Node;
+
+/// A grant of a node of one kind.
+#[derive(Drop)]
+pub struct NodeGrant<T: HasKind, N: Node<T>> {
+    pub(crate) grant: Grant<T, N>,
+    pub ghost kind: { kind_of (affinity_of (node_of grant)) ≡ N.KIND },
+}
+
+/// A grant of a node of any kind.
+#[derive(Drop)]
+pub enum AnyGrant<T: HasKind, K: NodeKinds<T>> {
+    Range(NodeGrant<T, K::Range>),
+    Vbn(NodeGrant<T, K::Vbn>),
+    Stripe(NodeGrant<T, K::Stripe>),
+    Logical(NodeGrant<T, K::Logical>),
+    Volume(NodeGrant<T, K::Volume>),
+    Aggregate(NodeGrant<T, K::Aggregate>),
+    Serial(NodeGrant<T, K::Serial>),
+}

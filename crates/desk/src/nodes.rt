@@ -1,0 +1,73 @@
+//! Grants of nodes of one kind, begun and ended.
+
+ghost use Rattle.std.specs.Prelude.{◌≡◌, IfOk, IfErr};
+ghost use Rattle.affinity_tree.specs.Affinity.{affinity_of};
+ghost use Rattle.affinity_tree.specs.Numbers.{number_of};
+ghost use Rattle.depot.specs.Grants.{entry_of, IsEnded, IsFinished, IsRefused};
+ghost use Rattle.depot.specs.Words.{machine_of, layout_in, view, splits_left, IsSeatHere, IsNodeOf};
+ghost use Rattle.desk_laws.specs.Backing.{IsGranted, CanFinish, CanPutBack};
+ghost use Rattle.desk.specs.Any.{node_lent};
+
+use crate::grant::NodeGrant;
+use affinity_tree::Affinity;
+use depot::{Depot, Refusal, Seat};
+use depot_rule::machine::Machine;
+use parcel_sets::Node;
+
+/// Begins a call on a node of one kind.
+pub(crate) fn begin_node<M: Machine, N: Node<M::Parcel>>(
+    depot: &Depot<M>,
+    seat: &mut Seat<M>,
+    affinity: Affinity,
+) -> Result<NodeGrant<M::Parcel, N>, Refusal>
+    requires seat { IsSeatHere depot.now seat.old }
+    requires node { IsNodeOf (layout_in depot.now) N.KIND affinity }
+    ensures seat { IsSeatHere depot.now seat.new }
+    ensures splits { splits_left seat.new ≡ splits_left seat.old }
+    ensures granted { let L = layout_in depot.now in IfOk result (λ grant.
+        IsGranted M.Parcel.kind (machine_of seat.old) L (view seat.old) (affinity_of affinity)
+        (node_lent L grant) (view seat.new)) }
+    ensures refused { IfErr result (λ refusal.
+        IsRefused (layout_in depot.now) (view seat.old) affinity refusal (view seat.new)) }
+{
+    let grant = depot.begin::<N>(seat, affinity)?;
+    Ok(NodeGrant { grant })
+}
+
+/// Ends a call on a node of one kind by an entry.
+pub(crate) fn finish_node<M: Machine, N: Node<M::Parcel>>(
+    depot: &Depot<M>,
+    seat: &mut Seat<M>,
+    node: NodeGrant<M::Parcel, N>,
+    call: &M::Call,
+    reply: &M::Reply,
+)
+    requires seat { IsSeatHere depot.now seat.old }
+    requires can { let L = layout_in depot.now in
+        CanFinish M.Parcel.kind (machine_of seat.old) L (view seat.old) (node_lent L node)
+        call.now reply.now }
+    ensures seat { IsSeatHere depot.now seat.new }
+    ensures splits { splits_left seat.new ≡ splits_left seat.old }
+    ensures finished { let L = layout_in depot.now in let l = node_lent L node in
+        IsFinished (machine_of seat.old) (view seat.old) (number_of L l.affinity)
+        (entry_of L l.affinity l.parcels call.now reply.now) (view seat.new) }
+{
+    depot.finish(seat, node.grant, call, reply);
+}
+
+/// Ends a call on a node of one kind without an entry.
+pub(crate) fn put_back_node<M: Machine, N: Node<M::Parcel>>(
+    depot: &Depot<M>,
+    seat: &mut Seat<M>,
+    node: NodeGrant<M::Parcel, N>,
+)
+    requires seat { IsSeatHere depot.now seat.old }
+    requires can { let L = layout_in depot.now in
+        CanPutBack L (view seat.old) (node_lent L node) }
+    ensures seat { IsSeatHere depot.now seat.new }
+    ensures splits { splits_left seat.new ≡ splits_left seat.old }
+    ensures ended { let L = layout_in depot.now in
+        IsEnded (view seat.old) (number_of L (node_lent L node).affinity) (view seat.new) }
+{
+    depot.put_back(seat, node.grant);
+}

@@ -1,0 +1,164 @@
+//! Work on what was lent, of whichever kind.
+
+ghost use Rattle.std.specs.Prelude.{◌≡◌};
+ghost use Rattle.affinity_tree.specs.Affinity.{affinity_of};
+ghost use Rattle.affinity_tree.specs.Layout.{layout_of};
+ghost use Rattle.parcel_sets.specs.Exact.{HasExactly};
+ghost use Rattle.desk_laws.specs.Calls.{Does};
+ghost use Rattle.desk_laws.specs.Backing.{IsWhole, IsDone};
+ghost use Rattle.desk.specs.Any.{lent_of};
+
+use crate::grant::AnyGrant;
+use crate::kinds::NodeKinds;
+use affinity_tree::{Affinity, HasKind, Layout};
+use parcel_sets::Node;
+
+/// Work on the parcels under an affinity. It changes them and takes away none.
+pub trait Task<T: HasKind, K: NodeKinds<T>> {
+    type Output;
+
+    // Of the layout, the affinity, its parcels before, what comes of it, and its parcels after.
+    ghost does: { Does T Self.Output };
+
+    /// Works on the parcels of a range.
+    fn on_range(
+        self,
+        layout: &Layout,
+        affinity: Affinity,
+        held: &mut <K::Range as Node<T>>::Held,
+    ) -> Self::Output
+        requires exact { let L = layout_of layout.now in let a = affinity_of affinity in
+            HasExactly T.kind L a (K.Range.parcels L a held.old) }
+        ensures exact { let L = layout_of layout.now in let a = affinity_of affinity in
+            HasExactly T.kind L a (K.Range.parcels L a held.new) }
+        ensures does { let L = layout_of layout.now in let a = affinity_of affinity in
+            does L a (K.Range.parcels L a held.old) result (K.Range.parcels L a held.new) };
+
+    /// Works on the parcels of a volume's block numbers.
+    fn on_vbn(
+        self,
+        layout: &Layout,
+        affinity: Affinity,
+        held: &mut <K::Vbn as Node<T>>::Held,
+    ) -> Self::Output
+        requires exact { let L = layout_of layout.now in let a = affinity_of affinity in
+            HasExactly T.kind L a (K.Vbn.parcels L a held.old) }
+        ensures exact { let L = layout_of layout.now in let a = affinity_of affinity in
+            HasExactly T.kind L a (K.Vbn.parcels L a held.new) }
+        ensures does { let L = layout_of layout.now in let a = affinity_of affinity in
+            does L a (K.Vbn.parcels L a held.old) result (K.Vbn.parcels L a held.new) };
+
+    /// Works on the parcels of a stripe.
+    fn on_stripe(
+        self,
+        layout: &Layout,
+        affinity: Affinity,
+        held: &mut <K::Stripe as Node<T>>::Held,
+    ) -> Self::Output
+        requires exact { let L = layout_of layout.now in let a = affinity_of affinity in
+            HasExactly T.kind L a (K.Stripe.parcels L a held.old) }
+        ensures exact { let L = layout_of layout.now in let a = affinity_of affinity in
+            HasExactly T.kind L a (K.Stripe.parcels L a held.new) }
+        ensures does { let L = layout_of layout.now in let a = affinity_of affinity in
+            does L a (K.Stripe.parcels L a held.old) result (K.Stripe.parcels L a held.new) };
+
+    /// Works on the parcels of a volume's names and attributes.
+    fn on_logical(
+        self,
+        layout: &Layout,
+        affinity: Affinity,
+        held: &mut <K::Logical as Node<T>>::Held,
+    ) -> Self::Output
+        requires exact { let L = layout_of layout.now in let a = affinity_of affinity in
+            HasExactly T.kind L a (K.Logical.parcels L a held.old) }
+        ensures exact { let L = layout_of layout.now in let a = affinity_of affinity in
+            HasExactly T.kind L a (K.Logical.parcels L a held.new) }
+        ensures does { let L = layout_of layout.now in let a = affinity_of affinity in
+            does L a (K.Logical.parcels L a held.old) result (K.Logical.parcels L a held.new) };
+
+    /// Works on the parcels of a volume.
+    fn on_volume(
+        self,
+        layout: &Layout,
+        affinity: Affinity,
+        held: &mut <K::Volume as Node<T>>::Held,
+    ) -> Self::Output
+        requires exact { let L = layout_of layout.now in let a = affinity_of affinity in
+            HasExactly T.kind L a (K.Volume.parcels L a held.old) }
+        ensures exact { let L = layout_of layout.now in let a = affinity_of affinity in
+            HasExactly T.kind L a (K.Volume.parcels L a held.new) }
+        ensures does { let L = layout_of layout.now in let a = affinity_of affinity in
+            does L a (K.Volume.parcels L a held.old) result (K.Volume.parcels L a held.new) };
+
+    /// Works on the parcels of an aggregate.
+    fn on_aggregate(
+        self,
+        layout: &Layout,
+        affinity: Affinity,
+        held: &mut <K::Aggregate as Node<T>>::Held,
+    ) -> Self::Output
+        requires exact { let L = layout_of layout.now in let a = affinity_of affinity in
+            HasExactly T.kind L a (K.Aggregate.parcels L a held.old) }
+        ensures exact { let L = layout_of layout.now in let a = affinity_of affinity in
+            HasExactly T.kind L a (K.Aggregate.parcels L a held.new) }
+        ensures does { let L = layout_of layout.now in let a = affinity_of affinity in
+            does L a (K.Aggregate.parcels L a held.old) result (K.Aggregate.parcels L a held.new) };
+
+    /// Works on the parcels of the whole tree.
+    fn on_serial(
+        self,
+        layout: &Layout,
+        affinity: Affinity,
+        held: &mut <K::Serial as Node<T>>::Held,
+    ) -> Self::Output
+        requires exact { let L = layout_of layout.now in let a = affinity_of affinity in
+            HasExactly T.kind L a (K.Serial.parcels L a held.old) }
+        ensures exact { let L = layout_of layout.now in let a = affinity_of affinity in
+            HasExactly T.kind L a (K.Serial.parcels L a held.new) }
+        ensures does { let L = layout_of layout.now in let a = affinity_of affinity in
+            does L a (K.Serial.parcels L a held.old) result (K.Serial.parcels L a held.new) };
+}
+
+/// Does a task on what was granted.
+pub(crate) fn work_any<T: HasKind, K: NodeKinds<T>, W: Task<T, K>>(
+    layout: &Layout,
+    any: &mut AnyGrant<T, K>,
+    task: W,
+) -> W::Output
+    requires { IsWhole T.kind (layout_of layout.now) (lent_of (layout_of layout.now) any.old) }
+    ensures whole { IsWhole T.kind (layout_of layout.now)
+        (lent_of (layout_of layout.now) any.new) }
+    ensures done { let L = layout_of layout.now in
+        IsDone W.does L (lent_of L any.old) result (lent_of L any.new) }
+{
+    match any {
+        AnyGrant::Range(node) => {
+            let affinity = node.grant.affinity();
+            task.on_range(layout, affinity, node.grant.held())
+        }
+        AnyGrant::Vbn(node) => {
+            let affinity = node.grant.affinity();
+            task.on_vbn(layout, affinity, node.grant.held())
+        }
+        AnyGrant::Stripe(node) => {
+            let affinity = node.grant.affinity();
+            task.on_stripe(layout, affinity, node.grant.held())
+        }
+        AnyGrant::Logical(node) => {
+            let affinity = node.grant.affinity();
+            task.on_logical(layout, affinity, node.grant.held())
+        }
+        AnyGrant::Volume(node) => {
+            let affinity = node.grant.affinity();
+            task.on_volume(layout, affinity, node.grant.held())
+        }
+        AnyGrant::Aggregate(node) => {
+            let affinity = node.grant.affinity();
+            task.on_aggregate(layout, affinity, node.grant.held())
+        }
+        AnyGrant::Serial(node) => {
+            let affinity = node.grant.affinity();
+            task.on_serial(layout, affinity, node.grant.held())
+        }
+    }
+}
