@@ -36,9 +36,13 @@ pub(crate) fn begin_any<M: Machine, K: NodeKinds<M::Parcel>>(
         Kind::Range => Ok(AnyGrant::Range(begin_node::<M, K::Range>(depot, seat, affinity)?)),
         Kind::VolumeVbn => Ok(AnyGrant::Vbn(begin_node::<M, K::Vbn>(depot, seat, affinity)?)),
         Kind::Stripe => Ok(AnyGrant::Stripe(begin_node::<M, K::Stripe>(depot, seat, affinity)?)),
-        Kind::VolumeLogical => Ok(AnyGrant::Logical(begin_node::<M, K::Logical>(depot, seat, affinity)?)),
+        Kind::VolumeLogical => Ok(AnyGrant::Logical(begin_node::<M, K::Logical>(
+            depot, seat, affinity,
+        )?)),
         Kind::Volume => Ok(AnyGrant::Volume(begin_node::<M, K::Volume>(depot, seat, affinity)?)),
-        Kind::Aggregate => Ok(AnyGrant::Aggregate(begin_node::<M, K::Aggregate>(depot, seat, affinity)?)),
+        Kind::Aggregate => Ok(AnyGrant::Aggregate(begin_node::<M, K::Aggregate>(
+            depot, seat, affinity,
+        )?)),
         Kind::Serial => Ok(AnyGrant::Serial(begin_node::<M, K::Serial>(depot, seat, affinity)?)),
     }
 }

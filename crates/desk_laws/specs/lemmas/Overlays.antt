@@ -108,7 +108,7 @@ module _ {P : Type 0} where
       all-served (Some l ∷ ls) (Some x ∷ xs) n f are apart agree holds =
           let step = are.0 n f (agree 0 l refl) holds in
           let rest = all-served ls xs (suc n) (patched (parents layout) (number_of layout l.affinity) l.parcels f) are.1
-              (λ i j a m at there ne. apart (suc i) (suc j) a m at there (λ (e : suc j ≡ suc i). ne (let same : j ≡ i = omega arith in same)))
-              (λ i m at k reach. patched-out (parents layout) (number_of layout l.affinity) l.parcels f k (λ c. apart 0 (suc i) l m refl at (λ (e : suc i ≡ 0). absurd (omega arith)) k c reach) ∙ agree (suc i) m at k reach)
-              step.0 in
+          (λ i j a m at there ne. apart (suc i) (suc j) a m at there (λ (e : suc j ≡ suc i). ne (let same : j ≡ i = omega arith in same)))
+          (λ i m at k reach. patched-out (parents layout) (number_of layout l.affinity) l.parcels f k (λ c. apart 0 (suc i) l m refl at (λ (e : suc i ≡ 0). absurd (omega arith)) k c reach) ∙ agree (suc i) m at k reach)
+          step.0 in
           (rest.0, rest.1 ∙ ap (λ (s : S). served s xs) step.1)

@@ -90,9 +90,9 @@ module _ {P C R : Type 0} (kind : P → Kind) (b : Books P C R) (lawful : fault_
   positive l i at k c =
       let place = number-place b.layout l.affinity (h.backed i l at).node in
       let pos : 0 < k = ⊎_elim
-          (λ (e : number l.affinity ≡ k). subst (λ (n : ℕ). 0 < n) e place.0)
-          (λ u. let s = above-smaller ps is-tree (number l.affinity) k u in (let p : 0 < k = omega arith in p))
-          c in
+      (λ (e : number l.affinity ≡ k). subst (λ (n : ℕ). 0 < n) e place.0)
+      (λ u. let s = above-smaller ps is-tree (number l.affinity) k u in (let p : 0 < k = omega arith in p))
+      c in
       (pos, covers-below ps (number l.affinity) k pos place.1 c)
 
   -- what is lent is what is now, under its affinity
@@ -113,8 +113,12 @@ module _ {P C R : Type 0} (kind : P → Kind) (b : Books P C R) (lawful : fault_
     pub begun-free : IsTaken b a → ⊥
     begun-free taken =
         let back = h.backed taken.0 taken.1 taken.2 in
-        begun.6 (number taken.1.affinity, back.granted.0, back.granted.1,
-        subst (λ (t : List ℕ). Excludes t (number a) (number taken.1.affinity)) (sym h.seat.0) (excludes-number b.layout lawful a taken.1.affinity node back.node taken.3))
+        begun.6 (
+          number taken.1.affinity,
+          back.granted.0,
+          back.granted.1,
+          subst (λ (t : List ℕ). Excludes t (number a) (number taken.1.affinity)) (sym h.seat.0) (excludes-number b.layout lawful a taken.1.affinity node back.node taken.3),
+        )
 
     pub begun-low : stamps b < worn
     begun-low =
@@ -209,9 +213,13 @@ module _ {P C R : Type 0} (kind : P → Kind) (b : Books P C R) (lawful : fault_
   -- a call that is refused: something that is lent excludes it
   pub refused-taken : (a : Affinity) → IsNode b.layout a → IsExcluded v (number a) → IsTaken b a
   refused-taken a node e =
-      let old = h.all e.0 e.1 e.2 in
-      (old.0, old.1, old.2, number-excludes b.layout lawful a old.1.affinity node (h.backed old.0 old.1 old.2).node
-      (subst (λ (x : List ℕ × ℕ). Excludes x.0 (number a) x.1) (λ k. (h.seat.0 k, sym old.3 k)) e.3))
+      let old = h.all e.0 e.1 e.2 in (
+        old.0,
+        old.1,
+        old.2,
+        number-excludes b.layout lawful a old.1.affinity node (h.backed old.0 old.1 old.2).node
+            (subst (λ (x : List ℕ × ℕ). Excludes x.0 (number a) x.1) (λ k. (h.seat.0 k, sym old.3 k)) e.3),
+      )
 
   -- ---- a call ends: what it was lent is home again, and the finished calls left it as it is
 

@@ -35,8 +35,12 @@ module _ {P C R B : Type 0} (kind : P → Kind) (m : Behaviour P C R B) (b : Boo
   worked-step call reply worked =
       let back = h.backed i l lent in (
         worked.0,
-        (back.granted.0, back.granted.1, λ k pos lt c.
-            back.granted.2 k pos lt c ∙ the-same k ∙ sym (worked.1 k pos (subst (λ (t : List ℕ). k < length t) h.seat.0 lt) (subst (λ (t : List ℕ). Covers t (number_of b.layout l.affinity) k) h.seat.0 c))),
+        (
+          back.granted.0,
+          back.granted.1,
+          λ k pos lt c.
+              back.granted.2 k pos lt c ∙ the-same k ∙ sym (worked.1 k pos (subst (λ (t : List ℕ). k < length t) h.seat.0 lt) (subst (λ (t : List ℕ). Covers t (number_of b.layout l.affinity) k) h.seat.0 c)),
+        ),
         subst (λ (t : List ℕ). m.steps t (number_of b.layout l.affinity) call worked.0 reply l.parcels) (sym h.seat.0) worked.2,
       )
 
@@ -92,10 +96,15 @@ module _ {P C R B : Type 0} (kind : P → Kind) (m : Behaviour P C R B) (b : Boo
       where
         excludes_of : Affinity × Affinity → Bool
         excludes_of z = excludes b.layout z.0 z.1
+
         covers-here : (j : ℕ) (x : Lent P) → HasLent b j x → (n : ℕ) → number_of b.layout x.affinity ≡ n → (k : ℕ) × (y : Lent P) × HasLent worked_books k y × (number_of b.layout y.affinity ≡ n)
         covers-here j x at n is = dite (ℕ_discrete j i)
-            (λ e. (i, l', set_here b.lent i (Some l') (at-length b.lent i (Some l) lent),
-            ap (λ (z : Lent P). number_of b.layout z.affinity) (inner l x (some-injective (Some l) (Some x) (sym lent ∙ subst (λ (q : ℕ). get_elem? b.lent q ≡ some (Some x)) e at))) ∙ is))
+            (λ e. (
+              i,
+              l',
+              set_here b.lent i (Some l') (at-length b.lent i (Some l) lent),
+              ap (λ (z : Lent P). number_of b.layout z.affinity) (inner l x (some-injective (Some l) (Some x) (sym lent ∙ subst (λ (q : ℕ). get_elem? b.lent q ≡ some (Some x)) e at))) ∙ is,
+            ))
             (λ ne. (j, x, set_else b.lent i j (Some l') ne ∙ at, is))
 
     -- the parcels are as they were, but for those under the affinity
