@@ -7,4 +7,6 @@ pub mod Records
 pub mod Serves
 pub mod Marking
 pub mod Looks
+pub mod Hearing
+pub mod Keeping
 pub mod Parts
