@@ -22,7 +22,7 @@ use Rattle.engine_feed.specs.Sound.{IsInStep, IsSound, AreSound, IsFree, IsStrea
 use Rattle.engine_feed.specs.Words.{Adds, FeedsAll, FeedsSome, HasFed, InWorlds, StaysSound}
 use Rattle.engine_feed.proofs.Worlds.{TakesAll-append, Walks-after}
 use Rattle.engine_feed.proofs.Parts.{part-is, part-put, part-twice, part-unseen, stream-room-unseen}
-use Rattle.engine_feed.proofs.Keeping.{adds-none}
+use Rattle.engine_feed.proofs.Keeping.{adds-none, adds-then}
 use Rattle.engine_feed.proofs.Fed.{fed, not-crowded, feeds-nothing}
 use Rattle.engine_feed.proofs.Full.{full-nothing}
 use Rattle.engine_feed.proofs.Pieces.{IsTaking, none-free}
@@ -39,6 +39,11 @@ none-taken calls c n setup w k p = part-is calls n c w p
 
 pub stays-same : (calls : CallsState) (c : ConnectionState) (n : ℕ) → IsSound c → AreSound calls → StaysSound calls c n calls c
 stays-same calls c n s t = record { adds = adds-none calls calls c c n refl refl refl refl; is_sound = s; are_sound = t }
+
+pub stays-then : (calls calls' calls'' : CallsState) (c c' c'' : ConnectionState) (n : ℕ) → StaysSound calls c n calls' c'
+    → StaysSound calls' c' n calls'' c'' → StaysSound calls c n calls'' c''
+stays-then calls calls' calls'' c c' c'' n s t =
+    record { adds = adds-then calls calls' calls'' c c' c'' n s.adds t.adds; is_sound = t.is_sound; are_sound = t.are_sound }
 
 module _ (calls calls' calls'' : CallsState) (c c' c'' : ConnectionState) (n : ℕ) (bytes : List ℕ) (taken count : ℕ) where
   later : StaysSound calls c n calls' c' → (setup : Setup) (w : World) → IsSetup setup calls → IsPartOf calls n c w
