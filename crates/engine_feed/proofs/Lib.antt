@@ -7,6 +7,7 @@ pub mod Records
 pub mod Serves
 pub mod Marking
 pub mod Looks
+pub mod Begun
 pub mod Loops
 pub mod Fed
 pub mod Full
