@@ -14,7 +14,7 @@ use Rattle.scheduler.specs.declared.message.Message.{Message}
 use Rattle.engine_feed.specs.declared.state.ConnectionState.{ConnectionState}
 use Rattle.engine_feed.specs.declared.state.CallsState.{CallsState}
 use Rattle.engine_feed.specs.Codec.{reply_record}
-use Rattle.engine_feed.specs.Seen.{connection_of, layout_in, message_of, finished_of}
+use Rattle.engine_feed.specs.Seen.{connection_of, layout_in, message_of}
 use Rattle.engine_feed.specs.Sound.{AreSound, IsAdmitted, HasReplied}
 use Rattle.engine_feed.specs.Words.{HasBegun, HasLeft, Finishes, FinishesUnseen}
 use Rattle.engine_feed.proofs.Parts.{finishes, lists-same}

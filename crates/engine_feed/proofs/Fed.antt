@@ -100,4 +100,3 @@ part-fault setup codec_is o w c bytes taken fault f room h k =
 
 pub no-bytes : (w : World) (c taken : ℕ) (bytes : List ℕ) → taken ≡ 0 → bytes_taken w c (take taken bytes) ≡ w
 no-bytes w c taken bytes e = ap (λ (n : ℕ). bytes_taken w c (take n bytes)) e ∙ bytes_taken-none w c
-

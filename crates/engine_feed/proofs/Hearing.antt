@@ -1,6 +1,6 @@
 -- A record's call, admitted.
-use Rattle.std.proofs.Common.{◌≡◌, ◌≤◌, ℕ, false, List, [], ◌∷◌, ◌++◌, length, Option, Some, None, refl, sym, ap, subst, ◌∙◌, arith}
-use Rattle.std.specs.Prelude.{map, slice_get}
+use Rattle.std.proofs.Common.{◌≡◌, ◌≤◌, ℕ, false, List, [], ◌∷◌, ◌++◌, length, Option, Some, None, sym, ap, ◌∙◌, arith}
+use Rattle.std.specs.Prelude.{slice_get}
 use Rattle.std.proofs.lemmas.List.{map_push}
 use Rattle.nfs_model.specs.Types as types
 use Rattle.nfs_model.specs.Tree as trees
@@ -26,7 +26,6 @@ use Rattle.engine_feed.specs.Codec.{reply_record}
 use Rattle.engine_feed.specs.lemmas.Codec.{reply_record_is}
 use Rattle.engine_feed.specs.Offered.{IsOffered, reply_limit}
 use Rattle.engine_feed.specs.Seen.{connection_of, layout_in, waiting_of, finished_of, message_of, entry_at}
-use Rattle.engine_feed.specs.Within.{IsSetup, IsPartOf, with_part}
 use Rattle.engine_feed.specs.Words.{Finishes, Waits, HasHeard}
 use Rattle.engine_feed.proofs.Parts.{lists-same, put-same}
 

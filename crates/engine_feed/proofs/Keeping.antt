@@ -1,5 +1,5 @@
 -- Connections and calls that stay sound.
-use Rattle.std.proofs.Common.{◌≡◌, ℕ, ◌+◌, ◌≤◌, ◌<◌, List, [], ◌∷◌, ◌++◌, refl, sym, ap, subst, ◌∙◌, arith, length, length-append, append_assoc}
+use Rattle.std.proofs.Common.{◌≡◌, ℕ, ◌+◌, ◌≤◌, List, [], ◌∷◌, ◌++◌, sym, ap, subst, ◌∙◌, arith, length, length-append, append_assoc}
 use Rattle.std.specs.Prelude.{vec_len, vec_capacity, option_map}
 use Rattle.std.specs.List.{AllByRecursion}
 use Rattle.std.proofs.lemmas.List.{append-nil}
@@ -12,10 +12,10 @@ use Rattle.engine_feed.specs.declared.state.Arrival.{Arrival}
 use Rattle.engine_feed.specs.Numbers.{fault_number}
 use Rattle.engine_feed.specs.Streams.{scan_stream}
 use Rattle.engine_feed.specs.Offered.{reply_limit}
-use Rattle.engine_feed.specs.Seen.{owed_by, layout_in, messages_of, running_count, pending}
-use Rattle.engine_feed.specs.Sound.{IsInStep, IsSound, AreSound, IsAdmitted, IsRoomier, IsStreamRoomier, AreRoomier, TakesFrom, IsWrittenTo, KeepsEntry, IsAnswered}
+use Rattle.engine_feed.specs.Seen.{owed_by, layout_in, messages_of, running_count}
+use Rattle.engine_feed.specs.Sound.{IsInStep, IsSound, AreSound, IsRoomier, IsStreamRoomier, AreRoomier, TakesFrom, IsWrittenTo, KeepsEntry, IsAnswered}
 use Rattle.engine_feed.specs.Sound.{HasRoomToReply, HaveRoomToAdmit}
-use Rattle.engine_feed.specs.Words.{rooms, IsOwn, Adds, StaysSound, Keeps}
+use Rattle.engine_feed.specs.Words.{rooms, IsOwn, Adds, Keeps}
 
 -- ---- what waits
 
@@ -130,8 +130,11 @@ answered-keeps calls calls' c c' n bytes w k short s t room entry = record {
 
 pub took-sound : (c c' : ConnectionState) (bytes : List ℕ) (taken : ℕ) (arrival : Arrival) → TakesFrom c c' bytes taken arrival → IsSound c → IsSound c'
 took-sound c c' bytes taken arrival t s =
-    record { in_step = t.in_step; room = subst (λ out. vec_len out + c'.owed ≤ vec_capacity out) (sym t.output)
-        (subst (λ (k : ℕ). vec_len c.output + k ≤ vec_capacity c.output) (sym t.owed) s.room) }
+    record {
+      in_step = t.in_step;
+      room = subst (λ out. vec_len out + c'.owed ≤ vec_capacity out) (sym t.output)
+          (subst (λ (k : ℕ). vec_len c.output + k ≤ vec_capacity c.output) (sym t.owed) s.room);
+    }
 
 pub took-room : (c c' : ConnectionState) (bytes : List ℕ) (taken : ℕ) (arrival : Arrival) → TakesFrom c c' bytes taken arrival → HasRoomToReply c
     → HasRoomToReply c'

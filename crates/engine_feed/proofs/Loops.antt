@@ -1,11 +1,11 @@
 -- Bytes taken piece by piece.
-use Rattle.std.proofs.Common.{true, ◌≡◌, ℕ, ◌+◌, ◌-◌, ◌<◌, ◌≤◌, Bool, false, List, [], ◌∷◌, ◌++◌, length, take, drop, Option, Some, None, refl, sym, ap}
+use Rattle.std.proofs.Common.{true, ◌≡◌, ℕ, ◌+◌, ◌-◌, ◌<◌, ◌≤◌, false, List, [], ◌∷◌, ◌++◌, length, take, drop, Option, Some, None, refl, sym, ap}
 use Rattle.std.proofs.Common.{subst, ◌∙◌, arith, inl, inr}
 use Rattle.std.specs.Prelude.{◌==◌, slice_get, is_none, option_map}
 use Rattle.std.proofs.Math.Seq.{take-add}
 use Rattle.std.proofs.lemmas.Bool.Decides.{nat_tests}
 use Rattle.std.proofs.lemmas.List.{append-nil, take_all, take-append-drop, length-take-le, length-drop}
-use Rattle.nfs_model.specs.World.{Codec, Setup, World, Connection, IsScan}
+use Rattle.nfs_model.specs.World.{Codec, Setup, World, IsScan}
 use Rattle.nfs_model.specs.Events.Feed.{Feeds, feeding}
 use Rattle.nfs_model.specs.Events.Refusals.{takes_input}
 use Rattle.nfs_laws.specs.Walk.{Walks}
@@ -14,18 +14,18 @@ use Rattle.engine_feed.specs.declared.state.CallsState.{CallsState}
 use Rattle.engine_feed.specs.declared.stop.Stop.{Stop}
 use Rattle.engine_feed.specs.declared.stop.StreamFault.{StreamFault}
 use Rattle.engine_feed.specs.Numbers.{fault_number, stop_number}
-use Rattle.engine_feed.specs.Seen.{connection_of, owed_by, pending}
-use Rattle.engine_feed.specs.Streams.{scan_stream, codec}
-use Rattle.engine_feed.specs.Feeding.{TakesAll, FeedsPart}
+use Rattle.engine_feed.specs.Seen.{owed_by, pending}
+use Rattle.engine_feed.specs.Streams.{scan_stream}
+use Rattle.engine_feed.specs.Feeding.{TakesAll}
 use Rattle.engine_feed.specs.Within.{IsSetup, IsPartOf, with_part}
-use Rattle.engine_feed.specs.Sound.{IsInStep, IsSound, AreSound, IsFree, IsStreamRoomier, MayGoOn, TakesIn}
-use Rattle.engine_feed.specs.Words.{Adds, FeedsAll, FeedsSome, HasFed, InWorlds, StaysSound}
+use Rattle.engine_feed.specs.Sound.{IsInStep, IsSound, AreSound, IsFree, IsStreamRoomier, MayGoOn}
+use Rattle.engine_feed.specs.Words.{FeedsAll, FeedsSome, HasFed, InWorlds, StaysSound}
 use Rattle.engine_feed.proofs.Worlds.{TakesAll-append, Walks-after}
 use Rattle.engine_feed.proofs.Parts.{part-is, part-put, part-twice, part-unseen, stream-room-unseen}
 use Rattle.engine_feed.proofs.Keeping.{adds-none, adds-then}
 use Rattle.engine_feed.proofs.Fed.{fed, not-crowded, feeds-nothing}
 use Rattle.engine_feed.proofs.Full.{full-nothing}
-use Rattle.engine_feed.proofs.Pieces.{IsTaking, none-free}
+use Rattle.engine_feed.proofs.Pieces.{none-free}
 use Rattle.engine_feed.proofs.Serves.{is-scan}
 
 -- ---- the loop

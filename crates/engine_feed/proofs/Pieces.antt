@@ -1,8 +1,6 @@
 -- Pieces of a feed, by how the bytes arrived.
-use Rattle.std.proofs.Common.{◌≡◌, ℕ, ◌+◌, ◌<◌, ◌≤◌, Bool, true, false, List, [], ◌∷◌, ◌++◌, length, take, Some, None, refl, sym, ap, subst, ◌∙◌, arith}
-use Rattle.std.specs.Prelude.{◌&&◌}
+use Rattle.std.proofs.Common.{◌≡◌, ℕ, ◌<◌, Bool, false, List, [], ◌∷◌, ◌++◌, length, take, None, refl, sym, ap, subst, ◌∙◌, arith}
 use Rattle.std.proofs.lemmas.List.{take_all, length-take-le}
-use Rattle.rpc_record.specs.Machine.{Outcome, Made, outcome}
 use Rattle.nfs_model.specs.World as worlds
 use Rattle.nfs_model.specs.World.{is_crowded, Setup, World}
 use Rattle.nfs_model.specs.Events.Feed.{feeding, heard_in, MayStarveIf, bytes_taken}

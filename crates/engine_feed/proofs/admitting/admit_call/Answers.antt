@@ -1,8 +1,6 @@
-use Rattle.std.proofs.Common.{◌≡◌, ℕ, refl, sym, ap, ◌∙◌}
-use Rattle.std.specs.Prelude.{length, option_map}
-use Rattle.nfs_model.specs.Types as types
+use Rattle.std.proofs.Common.{refl, sym, ap, ◌∙◌}
+use Rattle.std.specs.Prelude.{option_map}
 use Rattle.nfs_model.specs.Home.{home}
-use Rattle.nfs_model.specs.Serial.AtOnce.{answer_without_home}
 use Rattle.nfs_values.specs.declared.call.Call.{Call}
 use Rattle.nfs_values.specs.Answer.{answer_of}
 use Rattle.nfs_values.specs.Call.{call_of}

@@ -1,4 +1,4 @@
-use Rattle.std.proofs.Common.{◌+◌, ◌≤◌, ap, arith, length}
+use Rattle.std.proofs.Common.{ap, arith}
 use Rattle.std.specs.Prelude.{true, None}
 use Rattle.nfs_model.specs.Types as types
 use Rattle.nfs_model.specs.Server.{start_of_times}

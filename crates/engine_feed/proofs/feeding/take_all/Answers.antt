@@ -10,11 +10,11 @@ pub loop-taken-init : goal.loop-taken-init
 loop-taken-init c =
     let whole : length c.args.bytes.now ≡ length c.args.bytes.now - 0 = omega arith in
     record {
-  within = omega arith;
-  all = none-taken c.args.calls.now c.args.connection.now c.args.number.0;
-  stays = stays-same c.args.calls.now c.args.connection.now c.args.number.0 c.requires.connection c.requires.calls;
-  taking = subst (TakesIn c.args.connection.now) whole c.requires.taking;
-}
+      within = omega arith;
+      all = none-taken c.args.calls.now c.args.connection.now c.args.number.0;
+      stays = stays-same c.args.calls.now c.args.connection.now c.args.number.0 c.requires.connection c.requires.calls;
+      taking = subst (TakesIn c.args.connection.now) whole c.requires.taking;
+    }
 
 pub returns-in-Some-clause-feeds : goal.returns-in-Some-clause-feeds
 returns-in-Some-clause-feeds c =
