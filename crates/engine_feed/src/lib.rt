@@ -21,5 +21,5 @@ mod stop;
 pub use asked::{OfferedCall, Refused};
 pub use calls::Calls;
 pub use connection::OpenConnection;
-pub use message::{FinishedCall, Heard, Request};
+pub use message::{FinishedCall, Request};
 pub use stop::{Stop, StreamFault};
