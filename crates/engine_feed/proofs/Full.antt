@@ -19,7 +19,7 @@ use Rattle.engine_feed.specs.Streams.{scan_stream, served_of, codec, Completes}
 use Rattle.engine_feed.proofs.Scanning.{IsAt, joined, scan-goes, scan-faults}
 use Rattle.engine_feed.proofs.Taking.{scanned_with, scan-made}
 use Rattle.engine_feed.proofs.Arriving.{is-at}
-use Rattle.engine_feed.proofs.Lists.{slice_get-last}
+use Rattle.engine_feed.specs.lemmas.Lists.{slice_get-last}
 use Rattle.engine_feed.proofs.Looks.{take-front, take-within}
 use Rattle.engine_feed.proofs.Records.{not-too-long}
 use Rattle.engine_feed.proofs.Worlds.{Walks-after, reached-is, reached-quiet, takes-quiet, connection-taken, quiet-scan}

@@ -27,7 +27,8 @@ use Rattle.engine_feed.specs.lemmas.Codec.{reply_record_is}
 use Rattle.engine_feed.specs.Offered.{IsOffered, reply_limit}
 use Rattle.engine_feed.specs.Seen.{connection_of, layout_in, waiting_of, finished_of, message_of, entry_at}
 use Rattle.engine_feed.specs.Words.{Finishes, Waits, HasHeard}
-use Rattle.engine_feed.proofs.Parts.{lists-same, put-same}
+use Rattle.engine_feed.specs.lemmas.Lists.{put-same}
+use Rattle.engine_feed.proofs.Parts.{lists-same}
 
 -- ---- a call that waits
 

@@ -1,4 +1,3 @@
-pub mod Lists
 pub mod Scanning
 pub mod Taking
 pub mod Worlds

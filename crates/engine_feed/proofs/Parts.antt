@@ -1,6 +1,6 @@
 -- A connection and calls, as they change in a world.
-use Rattle.std.proofs.Common.{◌≡◌, ℕ, zero, suc, List, [], ◌∷◌, ◌++◌, Some, refl, sym, ap, ◌∙◌}
-use Rattle.std.specs.Prelude.{length, map, slice_get}
+use Rattle.std.proofs.Common.{◌≡◌, ℕ, List, [], ◌∷◌, ◌++◌, Some, refl, sym, ap, ◌∙◌}
+use Rattle.std.specs.Prelude.{length, map}
 use Rattle.nfs_model.specs.Types as types
 use Rattle.nfs_model.specs.Replay as replays
 use Rattle.nfs_model.specs.World as worlds
@@ -13,17 +13,7 @@ use Rattle.engine_feed.specs.Seen.{connection_of, layout_in, waiting_of, finishe
 use Rattle.engine_feed.specs.Within.{IsPartOf, with_part}
 use Rattle.engine_feed.specs.Sound.{IsWrittenTo, IsRoomier, IsStreamRoomier, AreRoomier}
 use Rattle.engine_feed.specs.Words.{Finishes}
-use Rattle.engine_feed.proofs.Lists.{changed_at-twice, changed_at-none, slice_get-changed_at}
-
--- ---- one place of a list
-
-pub put-at : {X : Type 0} (f : X → X) (x : X) (xs : List X) (i : ℕ) → slice_get xs i ≡ Some x → changed_at (λ y. f x) xs i ≡ changed_at f xs i
-put-at f x [] i e = refl
-put-at f x (y ∷ ys) zero e = let same : y ≡ x = cc in ap (λ z. f z ∷ ys) (sym same)
-put-at f x (y ∷ ys) (suc i) e = ap (λ zs. y ∷ zs) (put-at f x ys i e)
-
-pub put-same : {X : Type 0} (x : X) (xs : List X) (i : ℕ) → slice_get xs i ≡ Some x → changed_at (λ y. x) xs i ≡ xs
-put-same x xs i e = put-at (λ y. y) x xs i e ∙ changed_at-none (λ y. y) xs i (λ y. refl)
+use Rattle.engine_feed.specs.lemmas.Lists.{changed_at-twice, slice_get-changed_at, put-at, put-same}
 
 -- ---- worlds by their three lists
 

@@ -9,7 +9,7 @@ use Rattle.nfs_laws.specs.Walk.{Reached, Further, Complete, AtFault, reached_by,
 use Rattle.engine_feed.specs.Streams.{scan_stream, codec, IsQuiet, Completes}
 use Rattle.engine_feed.specs.Feeding.{TakesAll}
 use Rattle.nfs_model.specs.Events.Feed.{with_bytes, bytes_taken}
-use Rattle.engine_feed.proofs.Lists.{changed_at-same, changed_at-twice, changed_at-none, slice_get-changed_at, slice_get-end, slice_get-last}
+use Rattle.engine_feed.specs.lemmas.Lists.{changed_at-same, changed_at-twice, changed_at-none, slice_get-changed_at, slice_get-end, slice_get-last}
 
 -- ---- taking in parts
 

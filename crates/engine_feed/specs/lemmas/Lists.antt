@@ -1,5 +1,5 @@
 -- A list changed at one place.
-use Rattle.std.proofs.Common.{◌≡◌, ℕ, zero, suc, List, [], ◌∷◌, ◌++◌, length, Some, None, refl, ap}
+use Rattle.std.proofs.Common.{◌≡◌, ℕ, zero, suc, List, [], ◌∷◌, ◌++◌, length, Some, None, refl, ap, sym, ◌∙◌}
 use Rattle.std.specs.Prelude.{slice_get}
 use Rattle.nfs_model.specs.World.{changed_at}
 
@@ -35,3 +35,12 @@ slice_get-last (y ∷ xs) x = slice_get-last xs x
 pub slice_get-end : {X : Type 0} (xs : List X) → slice_get xs (length xs) ≡ None
 slice_get-end [] = refl
 slice_get-end (y ∷ xs) = slice_get-end xs
+
+-- a place that is set to what a function makes of what is there
+pub put-at : {X : Type 0} (f : X → X) (x : X) (xs : List X) (i : ℕ) → slice_get xs i ≡ Some x → changed_at (λ y. f x) xs i ≡ changed_at f xs i
+put-at f x [] i e = refl
+put-at f x (y ∷ ys) zero e = let same : y ≡ x = cc in ap (λ z. f z ∷ ys) (sym same)
+put-at f x (y ∷ ys) (suc i) e = ap (λ zs. y ∷ zs) (put-at f x ys i e)
+
+pub put-same : {X : Type 0} (x : X) (xs : List X) (i : ℕ) → slice_get xs i ≡ Some x → changed_at (λ y. x) xs i ≡ xs
+put-same x xs i e = put-at (λ y. y) x xs i e ∙ changed_at-none (λ y. y) xs i (λ y. refl)
