@@ -3,6 +3,7 @@
 ghost use Rattle.std.specs.Prelude.{◌≡◌};
 ghost use Rattle.affinity_tree.specs.Affinity.{affinity_of};
 ghost use Rattle.affinity_tree.specs.Layout.{layout_of};
+ghost use Rattle.affinity_tree.specs.Tree.{IsNode};
 ghost use Rattle.parcel_sets.specs.Exact.{HasExactly};
 ghost use Rattle.desk_laws.specs.Calls.{Does};
 ghost use Rattle.desk_laws.specs.Backing.{IsWhole, IsDone};
@@ -126,7 +127,9 @@ pub(crate) fn work_any<M: Machine, K: NodeKinds<M::Parcel>, W: Task<M::Parcel, K
     any: &mut AnyGrant<M::Parcel, K>,
     task: W,
 ) -> W::Output
-    requires { let L = layout_of layout.now in IsWhole M.Parcel.kind L (lent_of L any.old) }
+    requires node { let L = layout_of layout.now in IsNode L (lent_of L any.old).affinity }
+    requires whole { let L = layout_of layout.now in
+        IsWhole M.Parcel.kind L (lent_of L any.old) }
     ensures whole { let L = layout_of layout.now in
         IsWhole M.Parcel.kind L (lent_of L any.new) }
     ensures done { let L = layout_of layout.now in
