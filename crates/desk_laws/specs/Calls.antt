@@ -39,6 +39,10 @@ module _ {P C R : Type 0} where
   abbrev pub IsWorn : Books P C R → Affinity → Type 0
   IsWorn b a = (IsTaken b a → ⊥) × (worn ≤ stamps b)
 
+  -- a worker's call may be put back: what it was lent is as it was lent
+  abbrev pub MayPutBack : Books P C R → ℕ → Type 0
+  MayPutBack b worker = (l : Lent P) × HasLent b worker l × IsUnchanged b l
+
   -- what a worker was lent is home, and the parcels are as they were
   pub record HasPutBack (b : Books P C R) (worker : ℕ) (c : Books P C R) : Type 0 where
     pub books : c ≡ with_lent b worker None
