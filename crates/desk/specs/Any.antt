@@ -1,6 +1,5 @@
 -- What a grant of any kind of node lends.
 use Rattle.nfs_model.specs.Tree.{Layout}
-use Rattle.affinity_tree.specs.declared.affinity.Affinity as codes
 use Rattle.affinity_tree.specs.declared.affinity.HasKind as kinds
 use Rattle.affinity_tree.specs.Affinity.{affinity_of}
 use Rattle.parcel_sets.specs.declared.node.Node as nodes

@@ -1,67 +1,12 @@
 -- The tables of lines when a cell is added to a queue, and when one leaves it.
-use Rattle.std.proofs.Common.{
-  ◌≡◌,
-  ◌≢◌,
-  ◌⊎◌,
-  refl,
-  sym,
-  subst,
-  ap,
-  ◌∙◌,
-  ℕ,
-  zero,
-  suc,
-  ◌+◌,
-  ◌<◌,
-  ◌≤◌,
-  List,
-  [],
-  ◌∷◌,
-  ◌++◌,
-  length,
-  take,
-  drop,
-  get_or,
-  Option,
-  Some,
-  None,
-  set,
-  replicate,
-  arith,
-  inl,
-  inr,
-  ⊎_elim,
-  length-set,
-  length-append,
-}
+use Rattle.std.proofs.Common.{◌≡◌, ◌≢◌, ◌⊎◌, refl, sym, subst, ap, ◌∙◌, ℕ, zero, suc, ◌+◌, ◌<◌, ◌≤◌, List, [], ◌∷◌, ◌++◌, length, take, drop, get_or}
+use Rattle.std.proofs.Common.{Option, Some, None, set, replicate, arith, inl, inr, ⊎_elim, length-set, length-append}
 use Rattle.std.proofs.lemmas.List.{length-replicate}
 use Rattle.std.proofs.lemmas.Option.{same_Some, none-some, slice_get_read}
 use Rattle.scheduler.specs.Lines.{IsIn, IsFirstFrom, IsLastBelow, AreLined, IsLinked, IsEnded, entry, held}
-use Rattle.scheduler.proofs.Tables.{
-  get-set,
-  get-set-other,
-  get-before,
-  get-end,
-  get-past,
-  within,
-  whole,
-  either,
-  same,
-  entry-set,
-  entry-other,
-  entry-before,
-  entry-end,
-  first-same,
-  last-same,
-  first-more,
-  first-new,
-  first-kept,
-  first-after,
-  first-is,
-  last-is,
-  last-kept,
-  last-before,
-}
+use Rattle.scheduler.proofs.Tables.{get-set, get-set-other, get-before, get-end, get-past, within, whole, either, same, entry-set, entry-other}
+use Rattle.scheduler.proofs.Tables.{entry-before, entry-end, first-same, last-same, first-more, first-new, first-kept, first-after, first-is, last-is}
+use Rattle.scheduler.proofs.Tables.{last-kept, last-before}
 
 -- a cell is in one queue
 one-queue : (cells : List (Option ℕ)) (q a i : ℕ) → IsIn cells q i → IsIn cells a i → q ≡ a

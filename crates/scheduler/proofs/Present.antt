@@ -1,5 +1,6 @@
 -- What is in cells, when one is filled, emptied or passed over.
-use Rattle.std.proofs.Common.{◌≡◌, ◌⊎◌, refl, sym, ap, ◌∙◌, ℕ, zero, suc, ◌+◌, ◌<◌, ◌≤◌, List, [], ◌∷◌, ◌++◌, length, map, take, Bool, true, false, Option, Some, None, is_some, get_or, set, length-append, arith, ⊎_elim}
+use Rattle.std.proofs.Common.{◌≡◌, ◌⊎◌, refl, sym, ap, ◌∙◌, ℕ, zero, suc, ◌+◌, ◌<◌, ◌≤◌, List, [], ◌∷◌, ◌++◌, length, map, take, Bool, true, false}
+use Rattle.std.proofs.Common.{Option, Some, None, is_some, get_or, set, length-append, arith, ⊎_elim}
 use Rattle.std.specs.List.{slice_get, remove, filter}
 use Rattle.std.proofs.lemmas.Option.{same_Some, none-some, slice_get_read}
 use mir.Val.{bool_byte}

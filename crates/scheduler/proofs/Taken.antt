@@ -1,5 +1,6 @@
 -- What is kept after a message comes, and after one leaves.
-use Rattle.std.proofs.Common.{◌≡◌, refl, sym, subst, ap, ◌∙◌, ℕ, zero, suc, ◌+◌, ◌-◌, ◌<◌, ◌≤◌, List, [], ◌∷◌, ◌++◌, length, take, drop, get_or, Option, Some, None, set, length-set, length-append, arith}
+use Rattle.std.proofs.Common.{◌≡◌, refl, sym, subst, ap, ◌∙◌, ℕ, zero, suc, ◌+◌, ◌-◌, ◌<◌, ◌≤◌, List, [], ◌∷◌, ◌++◌, length, take, drop, get_or}
+use Rattle.std.proofs.Common.{Option, Some, None, set, length-set, length-append, arith}
 use Rattle.std.specs.List.{slice_get, remove}
 use Rattle.std.proofs.lemmas.Option.{same_Some, none-some, get_or_from_slice_get}
 use Rattle.affinity_tree.specs.Affinity.{affinity_of}

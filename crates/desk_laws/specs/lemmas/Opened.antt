@@ -11,7 +11,7 @@ use Rattle.depot_rule.specs.declared.view.Entry.{Entry}
 use Rattle.depot_rule.specs.Shares.{Has, opening_view}
 use Rattle.depot_rule.specs.History.{Behaviour, by_number, listed, after, entries_of}
 use Rattle.depot.specs.Grants.{IsSeatOf, IsClosed}
-use Rattle.desk_laws.specs.Books.{Lent, Books, HasLent, opening_books}
+use Rattle.desk_laws.specs.Books.{Lent, HasLent, opening_books}
 use Rattle.desk_laws.specs.Backing.{Shows, books_of, IsBook}
 use Rattle.desk_laws.specs.Calls.{AreIdle, AreSettled}
 

@@ -1,35 +1,6 @@
 -- What the calls on a depot's only seat do to the books.
-use Rattle.std.proofs.Common.{
-  ◌≡◌,
-  ◌≢◌,
-  ℕ,
-  zero,
-  suc,
-  ◌+◌,
-  ◌<◌,
-  Bool,
-  true,
-  false,
-  ◌||◌,
-  List,
-  [],
-  ◌∷◌,
-  ◌++◌,
-  length,
-  set,
-  slice_index_or,
-  arith,
-  Option,
-  Some,
-  None,
-  refl,
-  sym,
-  ap,
-  ◌∙◌,
-  subst,
-  inl,
-  ⊎_elim,
-}
+use Rattle.std.proofs.Common.{◌≡◌, ◌≢◌, ℕ, zero, suc, ◌+◌, ◌<◌, Bool, true, false, ◌||◌, List, [], ◌∷◌, ◌++◌, length, set, slice_index_or, arith}
+use Rattle.std.proofs.Common.{Option, Some, None, refl, sym, ap, ◌∙◌, subst, inl, ⊎_elim}
 use mathlib.Core.Option.{some, some-injective, some-ne-none}
 use lib.ListN.{get_elem?}
 use Rattle.atomic_table.proofs.Lists.{at_set, set_here, set_else}
@@ -43,17 +14,16 @@ use Rattle.affinity_tree.specs.lemmas.Smaller.{length-parents}
 use Rattle.affinity_tree.specs.lemmas.Standing.{parents-tree, number-place, excludes-number, number-excludes}
 use Rattle.parcel_sets.specs.Exact.{HasExactly}
 use Rattle.depot_rule.specs.declared.view.View.{View}
-use Rattle.depot_rule.specs.declared.view.Read.{Read}
 use Rattle.depot_rule.specs.declared.view.Entry.{Entry}
 use Rattle.depot_rule.specs.Shares.{worn, Has}
-use Rattle.depot_rule.specs.History.{Behaviour, AreHands, patched, listed, after, put_in, entries_of}
-use Rattle.depot_rule.specs.Plays.{IsOnly, with_entry}
+use Rattle.depot_rule.specs.History.{Behaviour, AreHands, patched, listed, after, entries_of}
+use Rattle.depot_rule.specs.Plays.{with_entry}
 use Rattle.depot_rule.specs.lemmas.Trees.{cover-excludes, covers-below, above-smaller}
 use Rattle.depot_rule.specs.lemmas.Histories.{after-snoc}
 use Rattle.depot_rule.specs.lemmas.Listed.{by-number-at}
 use Rattle.depot_rule.specs.lemmas.Covering.{patched-in, patched-out}
 use Rattle.depot.specs.Calls.{IsExcluded}
-use Rattle.depot.specs.Grants.{entry_of, IsSeatOf, ListsAs, HasWith, IsBegun, IsAfter, IsEnded, IsFinished}
+use Rattle.depot.specs.Grants.{entry_of, IsSeatOf, IsBegun, IsEnded, IsFinished}
 use Rattle.desk_laws.specs.Books.{Lent, Books, overlaid, settled, now, stamps, HasLent, IsIdle, IsTaken, UnderLent, IsUnchanged, IsSame, IsSettled}
 use Rattle.desk_laws.specs.Backing.{IsBacked, IsBook}
 use Rattle.desk_laws.specs.lemmas.Overlays.{covers-or-not, overlaid-free, overlaid-below, overlaid-set, overlaid-here}

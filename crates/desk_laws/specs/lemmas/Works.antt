@@ -5,7 +5,7 @@ use mathlib.Core.Logic.{dite}
 use native.Mathlib.Decide.{ℕ_discrete}
 use lib.ListN.{get_elem?}
 use Rattle.atomic_table.proofs.Lists.{at_set, set_here, set_else}
-use Rattle.nfs_model.specs.Tree.{Layout, Affinity, excludes}
+use Rattle.nfs_model.specs.Tree.{Affinity, excludes}
 use Rattle.affinity_tree.specs.declared.affinity.Kind.{Kind}
 use Rattle.affinity_tree.specs.Fault.{fault_of}
 use Rattle.affinity_tree.specs.Numbers.{number_of, parents}
@@ -15,13 +15,13 @@ use Rattle.depot_rule.specs.declared.view.View.{View}
 use Rattle.depot_rule.specs.declared.view.Entry.{Entry}
 use Rattle.depot_rule.specs.Sums.{total}
 use Rattle.depot_rule.specs.Machine.{IsLocal}
-use Rattle.depot_rule.specs.History.{Behaviour, AreHands, Steps, patched, listed, after, entries_of}
+use Rattle.depot_rule.specs.History.{Behaviour, AreHands, Steps, patched, listed, after}
 use Rattle.depot_rule.specs.lemmas.Covering.{patched-in, patched-out}
 use Rattle.depot.specs.Grants.{HasWith, IsStep, HasInHand}
 use Rattle.desk_laws.specs.Books.{Lent, Books, settled, now, HasLent, IsWorked, HasHands}
 use Rattle.desk_laws.specs.Backing.{IsBacked, IsBook}
 use Rattle.desk_laws.specs.lemmas.Overlays.{covers-or-not, overlaid-set, overlaid-here}
-use Rattle.desk_laws.specs.lemmas.Seats.{at-length, covered-once, lent-now}
+use Rattle.desk_laws.specs.lemmas.Seats.{at-length, covered-once}
 
 module _ {P C R B : Type 0} (kind : P → Kind) (m : Behaviour P C R B) (b : Books P C R) (lawful : fault_of b.layout ≡ None) (v : View P (Entry P C R))
     (h : IsBook kind b v) (i : ℕ) (l : Lent P) (lent : HasLent b i l) where

@@ -1,4 +1,4 @@
-use Rattle.std.proofs.Common.{◌≡◌, ◌<◌, ℕ, length, set, Some, None, refl, sym, subst, arith}
+use Rattle.std.proofs.Common.{◌<◌, length, set, Some, sym, subst, arith}
 use Rattle.affinity_tree.specs.Affinity.{affinity_of}
 use Rattle.affinity_tree.specs.Layout.{layout_of}
 use Rattle.depot.specs.Grants as depots

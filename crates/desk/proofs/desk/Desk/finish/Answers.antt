@@ -1,4 +1,4 @@
-use Rattle.std.proofs.Common.{◌≡◌, ◌<◌, ℕ, length, set, Some, None, refl, sym, subst, arith}
+use Rattle.std.proofs.Common.{◌<◌, length, set, Some, None, sym, subst, arith}
 use Rattle.depot.specs.Words.{layout_in, view}
 use Rattle.desk_laws.specs.Backing.{books_of, IsBook}
 use Rattle.desk_laws.specs.lemmas.Begins.{in-room}

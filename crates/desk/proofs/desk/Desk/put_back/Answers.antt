@@ -1,10 +1,10 @@
-use Rattle.std.proofs.Common.{◌≡◌, ◌<◌, ℕ, length, set, Some, None, refl, sym, subst, arith}
+use Rattle.std.proofs.Common.{◌<◌, length, set, Some, None, sym, subst, arith}
 use Rattle.depot.specs.Words.{layout_in, view}
 use Rattle.desk_laws.specs.Backing.{books_of, IsBook}
 use Rattle.desk_laws.specs.lemmas.Begins.{in-room}
 use Rattle.desk_laws.specs.lemmas.Ends.{found-at, none-lent, can-put-back, back-desk, back-so}
 use Rattle.desk.specs.Any.{lent_of}
-use Rattle.desk.specs.Words.{books, machine_in}
+use Rattle.desk.specs.Words.{books}
 use Rattle.desk_laws.specs.Calls.{HasPutBack}
 use Rattle.desk.proofs.desk.Desk.put_back.Goals as goal
 

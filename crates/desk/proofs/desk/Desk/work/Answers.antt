@@ -1,5 +1,4 @@
-use Rattle.std.proofs.Common.{◌≡◌, ◌<◌, ℕ, length, set, Some, None, refl, sym, subst, arith}
-use Rattle.affinity_tree.specs.Layout.{layout_of}
+use Rattle.std.proofs.Common.{◌<◌, length, Some, None, refl, sym, subst, arith}
 use Rattle.affinity_tree.specs.Tree.{IsNode}
 use Rattle.depot.specs.Words.{layout_in, view}
 use Rattle.desk_laws.specs.Backing.{IsWhole, IsDone}
