@@ -1,5 +1,4 @@
-use Rattle.std.proofs.Common.{◌≡◌, ◌+◌, [], refl, Some, None, arith}
-use Rattle.desk_laws.specs.Calls.{HasWorked}
+use Rattle.std.proofs.Common.{[], refl, Some, None, arith}
 use Rattle.desk_laws.specs.lemmas.Beside.{still-fresh, work-lent, work-done}
 use Rattle.depot_trial.specs.declared.adding.Change.TheVariants.{Add}
 use Rattle.desk.specs.Words.{books, machine_in}
