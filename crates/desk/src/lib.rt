@@ -3,12 +3,14 @@
 #![tactic(auto)]
 
 mod calls;
+mod closing;
 mod desk;
 mod grant;
 mod grants;
 mod kinds;
 mod nodes;
 mod opening;
+mod queries;
 mod refusal;
 mod taken;
 mod task;

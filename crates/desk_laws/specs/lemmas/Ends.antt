@@ -1,5 +1,5 @@
 -- A call on a desk that ends, and work before that, told by the desk's seat and its grants.
-use Rattle.std.proofs.Common.{◌≡◌, ◌<◌, ℕ, List, [], ◌∷◌, ◌++◌, length, map, set, Option, Some, None, refl, sym, ap, ◌∙◌, subst}
+use Rattle.std.proofs.Common.{◌≡◌, ◌≢◌, ◌<◌, ℕ, List, [], ◌∷◌, ◌++◌, length, map, set, Option, Some, None, refl, sym, ap, ◌∙◌, subst}
 use Rattle.std.specs.Prelude.{option_map, slice_index_or}
 use mathlib.Core.Option.{some, some-injective}
 use lib.ListN.{get_elem?}
@@ -13,22 +13,27 @@ use Rattle.depot_rule.specs.declared.view.View.{View}
 use Rattle.depot_rule.specs.declared.view.Entry.{Entry}
 use Rattle.depot_rule.specs.History.{Behaviour}
 use Rattle.depot.specs.Grants.{entry_of, IsEnded, IsFinished}
-use Rattle.desk_laws.specs.Books.{Lent, Books, now, HasLent, IsSame, IsWorked, IsUnchanged, IsSettled}
+use Rattle.desk_laws.specs.Books.{Lent, Books, settled, now, HasLent, UnderLent, IsSame, IsWorked, IsUnchanged, IsSettled}
 use Rattle.desk_laws.specs.Backing.{Shows, books_of, IsBacked, IsBook, CanFinish, CanPutBack}
-use Rattle.desk_laws.specs.Calls.{Does, HasPutBack, MayFinish, HasFinished, HasWorked}
-use Rattle.desk_laws.specs.lemmas.Seats.{back-book, back-same, finished-book, finished-same, finished-settled}
+use Rattle.desk_laws.specs.Calls.{Asks, Does, HasPutBack, MayWork, MayFinish, HasFinished, HasWorked}
+use Rattle.desk_laws.specs.lemmas.Seats.{back-book, back-same, finished-book, finished-same, finished-others, finished-settled}
 use Rattle.desk_laws.specs.lemmas.Works.{worked-step, in-hand, as-granted, worked-book, worked-now}
-use Rattle.desk_laws.specs.lemmas.Begins.{map-set, books-are}
+use Rattle.desk_laws.specs.lemmas.Begins.{in-room, map-set, books-are}
 
 inside : {A : Type 0} (x y : A) → Some x ≡ Some y → x ≡ y
 inside x y e = cc
 
 -- what an index found
-pub found : {G : Type 0} (gs : List (Option G)) (i : ℕ) (there result x : Option G) → i < length gs → there ≡ slice_index_or gs i there → result ≡ there
+found : {G : Type 0} (gs : List (Option G)) (i : ℕ) (there result x : Option G) → i < length gs → there ≡ slice_index_or gs i there → result ≡ there
     → result ≡ x → get_elem? gs i ≡ some x
 found gs i there result x room is same e = at_index gs i there room is ∙ ap some (sym same ∙ e)
 
 module _ {P C R G : Type 0} (shows : Shows G P) (L : Layout) (v : View P (Entry P C R)) (gs : List (Option G)) (i : ℕ) where
+  -- the same at the place of a worker
+  pub found-at : (o : Option (Lent P)) → get_elem? (books_of shows L v gs).lent i ≡ some o → (there result x : Option G)
+      → there ≡ slice_index_or gs i there → result ≡ there → result ≡ x → get_elem? gs i ≡ some x
+  found-at o lent there result x = found gs i there result x (in-room shows L v gs i o lent)
+
   -- what a worker has was lent to it
   pub any-lent : (any : G) → get_elem? gs i ≡ some (Some any) → HasLent (books_of shows L v gs) i (shows L any)
   any-lent any at = at_map (λ g. option_map (shows L) g) gs i (Some any) at
@@ -91,7 +96,9 @@ module _ {P C R G : Type 0} (shows : Shows G P) (kind : P → Kind) (L : Layout)
         is_lent = lent;
         books = sym new-is;
         same = subst (λ (c : Books P C R). IsSame b c) new-is (finished-same kind b lawful v h m i l lent call reply w finished);
-        settled = subst (λ (c : Books P C R). IsSettled m c) new-is (finished-settled kind b lawful v h m i l lent call reply w finished);
+        others = subst (λ (c : Books P C R). (j : ℕ) (x : Lent P) → HasLent b j x → j ≢ i → UnderLent b x (λ k. settled c k ≡ settled b k)) new-is
+            (finished-others kind b lawful v h m i l lent call reply w finished);
+        keeps = subst (λ (c : Books P C R). IsSettled m c) new-is (finished-settled kind b lawful v h m i l lent call reply w finished);
       }
 
   -- ---- what was lent is put back
@@ -126,6 +133,9 @@ module _ {P C R G : Type 0} (shows : Shows G P) (kind : P → Kind) (L : Layout)
       }
 
   -- ---- what was lent is changed
+
+  pub can-work : (asks : Asks P) → MayWork asks b i → asks L l.affinity l.parcels
+  can-work asks may = subst (λ (x : Lent P). asks L x.affinity x.parcels) (the-one may.lent may.is_lent) may.fits
 
   module _ {O : Type 0} (does : Does P O) (outcome : O) (next : G) (same : (shows L next).affinity ≡ l.affinity)
       (exact : HasExactly kind L (shows L next).affinity (shows L next).parcels) where
