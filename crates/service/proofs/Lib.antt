@@ -1,2 +1,4 @@
 mod Latest
 mod Getting
+mod Taking
+mod Modes

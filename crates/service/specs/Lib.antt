@@ -1,4 +1,5 @@
 pub mod Hands
 pub mod Jobs
 pub mod Getattr
+pub mod Setattr
 pub mod lemmas
