@@ -2,3 +2,4 @@ mod Latest
 mod Getting
 mod Taking
 mod Modes
+mod Runs
