@@ -1,12 +1,16 @@
 -- What calls do to a desk.
-use Rattle.std.specs.Prelude.{◌≡◌, ℕ, ◌+◌, ◌<◌, ◌≤◌, List, [], ◌∷◌, ◌++◌, length, slice_set, Option, Some, None}
+use Rattle.std.specs.Prelude.{◌≡◌, ◌≢◌, ℕ, ◌+◌, ◌<◌, ◌≤◌, List, [], ◌∷◌, ◌++◌, length, slice_set, Option, Some, None}
 use Rattle.nfs_model.specs.Tree.{Layout, Affinity}
 use Rattle.affinity_tree.specs.Numbers.{number_of, parents}
 use Rattle.depot_rule.specs.Sums.{total}
 use Rattle.depot_rule.specs.Shares.{worn}
 use Rattle.depot_rule.specs.History.{Behaviour, patched}
 use Rattle.depot.specs.Grants.{entry_of}
-use Rattle.desk_laws.specs.Books.{Lent, Books, settled, now, stamps, HasLent, IsTaken, IsSame, IsWorked, HasHands, IsSettled}
+use Rattle.desk_laws.specs.Books.{Lent, Books, settled, now, stamps, HasLent, IsTaken, UnderLent, IsUnchanged, IsSame, IsWorked, HasHands, IsSettled}
+
+-- what a task needs of the layout, the affinity and its parcels
+abbrev pub Asks : Type 0 → Type 1
+Asks P = Layout → Affinity → (ℕ → Option P) → Type 0
 
 -- what a task does: of the layout, the affinity, its parcels before, what comes of it, and its parcels after
 abbrev pub Does : Type 0 → Type 0 → Type 1
@@ -17,12 +21,13 @@ module _ {P C R : Type 0} where
   abbrev pub with_lent : Books P C R → ℕ → Option (Lent P) → Books P C R
   with_lent b worker x = record b { lent = slice_set b.lent worker x }
 
-  -- a worker was lent the parcels under an affinity: nothing that was lent excluded it, and fewer than 2^62 calls were
-  -- finished. The parcels are as they were
+  -- a worker was lent the parcels under an affinity, as the finished calls left them: nothing that was lent excluded it,
+  -- and fewer than 2^62 calls were finished. The parcels are as they were
   pub record HasBegun (b : Books P C R) (worker : ℕ) (a : Affinity) (c : Books P C R) : Type 0 where
     pub free : IsTaken b a → ⊥
     pub low : stamps b < worn
     pub parcels : ℕ → Option P
+    pub unchanged : IsUnchanged b (record { affinity = a; parcels = parcels })
     pub books : c ≡ with_lent b worker (Some (record { affinity = a; parcels = parcels }))
     pub same : IsSame b c
 
@@ -34,10 +39,22 @@ module _ {P C R : Type 0} where
   abbrev pub IsWorn : Books P C R → Affinity → Type 0
   IsWorn b a = (IsTaken b a → ⊥) × (worn ≤ stamps b)
 
+  -- a worker's call may be put back: what it was lent is as it was lent
+  pub record MayPutBack (b : Books P C R) (worker : ℕ) : Type 0 where
+    pub lent : Lent P
+    pub is_lent : HasLent b worker lent
+    pub unchanged : IsUnchanged b lent
+
   -- what a worker was lent is home, and the parcels are as they were
   pub record HasPutBack (b : Books P C R) (worker : ℕ) (c : Books P C R) : Type 0 where
     pub books : c ≡ with_lent b worker None
     pub same : IsSame b c
+
+  -- a worker was lent what a task needs
+  pub record MayWork (asks : Asks P) (b : Books P C R) (worker : ℕ) : Type 0 where
+    pub lent : Lent P
+    pub is_lent : HasLent b worker lent
+    pub fits : asks b.layout lent.affinity lent.parcels
 
   -- the parcels of a worker were changed, and no others
   pub record HasWorked {O : Type 0} (does : Does P O) (b : Books P C R) (worker : ℕ) (outcome : O) (c : Books P C R) : Type 0 where
@@ -65,7 +82,9 @@ module _ {P C R : Type 0} where
       pub is_lent : HasLent b worker lent
       pub books : c ≡ record (with_lent b worker None) { entries = b.entries ++ entry_of b.layout lent.affinity lent.parcels call reply ∷ [] }
       pub same : IsSame b c
-      pub settled : IsSettled m c
+      -- under what the other workers have, nothing changed for the finished calls
+      pub others : (i : ℕ) (l : Lent P) → HasLent b i l → i ≢ worker → UnderLent b l (λ k. settled c k ≡ settled b k)
+      pub keeps : IsSettled m c
 
   -- no worker was lent anything
   abbrev pub AreIdle : Books P C R → Type 0
