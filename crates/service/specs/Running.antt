@@ -1,21 +1,24 @@
 -- A call run on the parcels under its home.
-use Rattle.std.specs.Prelude.{◌≡◌, ℕ, Option, Some, None}
+use Rattle.std.specs.Prelude.{◌≡◌, ℕ, [], Option, Some, None}
 use Rattle.nfs_model.specs.Types as types
-use Rattle.nfs_model.specs.Types.{Moment, Stale}
+use Rattle.nfs_model.specs.Types.{Ask, Credential, Moment, Stale}
 use Rattle.nfs_model.specs.Tree.{Layout, Affinity}
-use Rattle.nfs_model.specs.Home.{named_by}
+use Rattle.nfs_model.specs.Home.{home, named_by}
 use Rattle.nfs_model.specs.Locate.{Effect, Fails}
 use Rattle.nfs_model.specs.Serial.Getattr.{getattr}
 use Rattle.nfs_model.specs.Serial.Setattr.{setattr}
 use Rattle.nfs_model.specs.Server.{Named, VolumeState}
 use Rattle.nfs_model.specs.Work as works
 use Rattle.affinity_tree.specs.Affinity.{affinity_of}
+use Rattle.nfs_values.specs.Call.{call_of}
 use Rattle.nfs_values.specs.Reply.{reply_of}
 use Rattle.nfs_values.specs.Set.{set_of}
 use Rattle.nfs_values.specs.declared.call.Call.{Call}
 use Rattle.nfs_values.specs.declared.call.Call.TheVariants.{GetAttributes, SetAttributes}
 use Rattle.nfs_values.specs.declared.set.SetAttributes as sets
 use Rattle.held_state.specs.Calls.{VolumeCall, handle_in}
+use Rattle.held_state.specs.Parcels.{FilerParcel}
+use Rattle.held_state.specs.Running.{HasFiler, Runs}
 use Rattle.service.specs.Setattr.{only_mode}
 use Rattle.service.specs.declared.outcome.Outcome.{Outcome}
 use Rattle.service.specs.declared.outcome.Outcome.TheVariants.{Replied, Starved, Moved}
@@ -58,3 +61,14 @@ call_on layout node moment call = record {
   fileid = fileid_in (named_by layout (handle_in call));
   run = λ volume. procedure call moment volume (fileid_in (named_by layout (handle_in call)));
 }
+
+-- ---- by parcels
+
+-- a call that is run so far, whose home this node is, and some sound filer has these parcels under it
+abbrev pub AsksFor : {P : Type 0} → Call → Layout → Affinity → (ℕ → Option (FilerParcel P)) → Type 0
+AsksFor call layout node f = IsRun call × (home layout (call_of call) ≡ Some node) × HasFiler layout node [] f
+
+-- what its run under the node comes to
+abbrev pub HasRun : {P : Type 0} → Call → Credential → Moment → Layout → Affinity → (ℕ → Option (FilerParcel P)) → Outcome
+    → (ℕ → Option (FilerParcel P)) → Type 0
+HasRun call credential moment layout node f outcome f' = Runs layout node (Ask (call_of call) credential) moment f (outcome_of outcome) f'

@@ -10,6 +10,7 @@ mod outcome;
 mod run;
 mod setting;
 mod shown;
+mod task;
 mod touches;
 
 pub use attributes::{get_attributes, set_mode};
@@ -18,3 +19,4 @@ pub use job::{Asked, InnerCall, Job, JobReply, ServedCall};
 pub use machine::Service;
 pub use outcome::Outcome;
 pub use run::run_on_logical;
+pub use task::Run;

@@ -1,5 +1,5 @@
 -- A run of a call on the parcels of its home is right by parcels.
-use Rattle.std.proofs.Common.{◌≡◌, ℕ, ◌<◌, Bool, true, false, length, Option, Some, None, refl, sym, ap, ◌∙◌, subst}
+use Rattle.std.proofs.Common.{◌≡◌, ◌≢◌, ℕ, [], ◌<◌, Bool, true, false, length, Option, Some, None, refl, sym, ap, ◌∙◌, subst}
 use Rattle.std.proofs.lemmas.Bool.{eq-eqb}
 use Rattle.std.specs.Prelude.{◌==◌, ◌&&◌, slice_get}
 use Rattle.nfs_model.specs.Types as types
@@ -14,13 +14,18 @@ use Rattle.nfs_model.specs.Work.{Outcome, Replied, Starved, Moved}
 use Rattle.nfs_values.specs.Call.{call_of}
 use Rattle.nfs_values.specs.declared.call.Call.{Call}
 use Rattle.nfs_values.specs.declared.call.Call.TheVariants as calls
+use Rattle.affinity_tree.specs.Affinity.{kind_of}
+use Rattle.affinity_tree.specs.declared.affinity.Kind.{Kind}
+use Rattle.affinity_tree.specs.declared.affinity.Kind.TheVariants as kinds
 use Rattle.affinity_tree.specs.Fault.{fault_of}
 use Rattle.affinity_tree.specs.Tree.{IsNode}
 use Rattle.parcel_sets.specs.Sets.{volume_of, logical_parcels}
 use Rattle.held_state.specs.Calls.{IsCallOn, handle_in}
 use Rattle.held_state.specs.Lenses.{logical_lens}
-use Rattle.held_state.specs.Running.{RunsOn, UnlessReplied, Runs}
+use Rattle.held_state.specs.Promises.{HasVolume}
+use Rattle.held_state.specs.Running.{HasFiler, RunsOn, UnlessReplied, Runs}
 use Rattle.held_state.specs.Sets.{FilerLogical, logical_set, logical_before, logical_after}
+use Rattle.held_laws.specs.lemmas.Granted.{logical-has}
 use Rattle.held_laws.specs.lemmas.Kinds.{logical-step}
 use Rattle.held_laws.specs.lemmas.Running.{runs-by}
 use Rattle.held_laws.specs.lemmas.SeenSets.{logical-seen}
@@ -106,3 +111,19 @@ module _ {P : Type 0} (layout : Layout) (lawful : fault_of layout ≡ None) (cal
   -- a call that was run on the set of its home, by the set's parcels
   pub logical-runs : (a : Affinity) → RunsAt a
   logical-runs a on is = subst RunsAt (sym (run-home layout a call run is)) (runs-here (volume_of a)) on is
+
+-- ---- what a run needs
+
+-- a call that is run is at home on no other kind of node
+pub not-here : (layout : Layout) (a : Affinity) (call : Call) → IsRun call → home layout (call_of call) ≡ Some a → (kind : Kind)
+    → kind_of a ≡ kind → kind ≢ kinds.VolumeLogical → ⊥
+not-here layout a call run is kind of other = other (sym of ∙ ap kind_of (run-home layout a call run is))
+
+-- what is known of the parcels of its home
+pub run-whole : {P : Type 0} (layout : Layout) → fault_of layout ≡ None → (a : Affinity) (call : Call) → IsRun call → home layout (call_of call) ≡ Some a
+    → IsNode layout a → (held : FilerLogical P) → HasFiler layout a [] (logical_parcels layout a held)
+    → (held.own.stripes ≡ stripes_of layout (volume_of a)) × HasVolume (volume_of a) logical_lens [] (logical_before held)
+run-whole {P} layout lawful a call run is =
+    subst (λ (b : Affinity). IsNode layout b → (held : FilerLogical P) → HasFiler layout b [] (logical_parcels layout b held)
+    → (held.own.stripes ≡ stripes_of layout (volume_of b)) × HasVolume (volume_of b) logical_lens [] (logical_before held))
+    (sym (run-home layout a call run is)) (λ on held filer. logical-has layout lawful [] (volume_of a) on held filer)
