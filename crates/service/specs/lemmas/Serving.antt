@@ -1,13 +1,13 @@
 -- A run of a call on the parcels of its home is right by parcels.
-use Rattle.std.proofs.Common.{◌≡◌, ◌≢◌, ℕ, [], ◌<◌, Bool, true, false, length, Option, Some, None, refl, sym, ap, ◌∙◌, subst}
+use Rattle.std.proofs.Common.{◌≡◌, ◌≢◌, ℕ, [], Bool, true, Option, Some, None, refl, sym, ap, ◌∙◌, subst}
 use Rattle.std.proofs.lemmas.Bool.{eq-eqb}
-use Rattle.std.specs.Prelude.{◌==◌, ◌&&◌, slice_get}
+use Rattle.std.specs.Prelude.{◌==◌, ◌&&◌}
 use Rattle.nfs_model.specs.Types as types
 use Rattle.nfs_model.specs.Types.{Ask, Credential, Moment}
 use Rattle.nfs_model.specs.Tree.{Layout, Affinity, Logical, stripes_of, aggregate_of}
-use Rattle.nfs_model.specs.Server.{Named, Server, VolumeState, handle_of}
+use Rattle.nfs_model.specs.Server.{Named, Server, handle_of}
 use Rattle.nfs_model.specs.Home.{home, logical_home, named_by}
-use Rattle.nfs_model.specs.Locate.{Effect, located_in, located_by, locate}
+use Rattle.nfs_model.specs.Locate.{located_in, located_by, locate}
 use Rattle.nfs_model.specs.Serial.Absent.{absent_parts}
 use Rattle.nfs_model.specs.Serial.Step.{on, serve}
 use Rattle.nfs_model.specs.Work.{Outcome, Replied, Starved, Moved}
