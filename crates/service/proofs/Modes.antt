@@ -63,7 +63,8 @@ module _ (v fileid : ℕ) (mode : ℕ) (guard : Option Moment) (moment : Moment)
       (Replied (Success a)) new) (sym answer)
       (subst (λ (s : LogicalSet). RightOnVolume v logical_lens (ServesOn (setattr_call handle (Logical v) fileid (only_mode mode) guard moment) false) [] [] set
       (Replied (Success next.answer)) s) (sym left)
-      (subst (λ (n : LogicalAnswer). RightOnVolume v logical_lens (ServesOn (setattr_call handle (Logical v) fileid (only_mode mode) guard moment) false) [] [] set
+      (subst (λ (n : LogicalAnswer). RightOnVolume v logical_lens (ServesOn (setattr_call handle (Logical v) fileid (only_mode mode) guard moment) false)
+      [] [] set
       (Replied (Success n.answer)) n.set) is
       (setattr-right v fileid handle (Logical v) (only_mode mode) guard moment set)))
 
@@ -79,7 +80,8 @@ module _ (v fileid : ℕ) (mode : ℕ) (guard : Option Moment) (moment : Moment)
         ≡ setattr_checked v fileid (if b then Some NotSynchronous else None) inode (inode_after (only_mode mode) moment touch inode) touch set
     checks b is =
         ap (λ o. setattr_inode v fileid (only_mode mode) guard moment o touch set) there
-        ∙ ap (λ (c : Bool). setattr_checked v fileid (if c then Some NotSynchronous else None) inode (inode_after (only_mode mode) moment touch inode) touch set) is
+        ∙ ap (λ (c : Bool). setattr_checked v fileid (if c then Some NotSynchronous else None) inode (inode_after (only_mode mode) moment touch inode)
+        touch set) is
 
     pub sets-none : (told : Result Change statuses.Status) (new : LogicalSet) → is_stale_guard guard (ctime_now touch inode) ≡ true
         → answer_of (answers.SetAttributes told) ≡ Failed NotSynchronous 2 → new ≡ set
@@ -88,7 +90,10 @@ module _ (v fileid : ℕ) (mode : ℕ) (guard : Option Moment) (moment : Moment)
 
     pub sets-mode : (told : Result Change statuses.Status) (new : LogicalSet) → is_stale_guard guard (ctime_now touch inode) ≡ false
         → answer_of (answers.SetAttributes told)
-        ≡ SetattrDone (record { before = before_of (shown_inode v fileid inode touch); after = shown_inode v fileid (inode_after (only_mode mode) moment touch inode) None })
+        ≡ SetattrDone (record {
+          before = before_of (shown_inode v fileid inode touch);
+          after = shown_inode v fileid (inode_after (only_mode mode) moment touch inode) None;
+        })
         → new ≡ node_set fileid (inode_after (only_mode mode) moment touch inode) set
         → SetsAttributes v fileid (only_mode mode) guard moment set told new
     sets-mode told new fresh answer left = sets told new

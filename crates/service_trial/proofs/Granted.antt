@@ -72,7 +72,8 @@ granted {P} layout lawful node there w of f seen =
     sym (seen.4 k inside.0 (subst (λ (ps : List ℕ). k < length ps) (sym of) inside.1)
     (subst (λ (ps : List ℕ). Covers ps (number_of layout node) k) (sym of) cover)))
 
-module _ {P : Type 0} (layout : Layout) (lawful : fault_of layout ≡ None) (v : ℕ) (on : v < length layout.volumes) (a : codes.Affinity) (is : a ≡ VolumeLogical v) where
+module _ {P : Type 0} (layout : Layout) (lawful : fault_of layout ≡ None) (v : ℕ) (on : v < length layout.volumes)
+    (a : codes.Affinity) (is : a ≡ VolumeLogical v) where
   -- a grant of Volume Logical has what a run needs
   pub granted-whole : (w : View (FilerParcel P) (Entry (FilerParcel P) Job JobReply)) → w.tree ≡ parents layout → (held : FilerLogical P)
       → IsAfter (behaviour job_steps job_takes job_gives IsFiler) w (number_of layout (affinity_of a)) (logical_parcels layout (affinity_of a) held)
@@ -89,10 +90,11 @@ module _ {P : Type 0} (layout : Layout) (lawful : fault_of layout ≡ None) (v :
       → HasWith w (number_of layout (affinity_of a)) (logical_parcels layout (affinity_of a) held)
       → (reply : Reply) → RunsOn v logical_lens (call_on layout (Logical v) (moment_of asker.moment) (call_of call)) (logical_before old)
       (works.Replied (reply_of reply)) (logical_after old new) → (job : Job) → job ≡ finished_job asker call (VolumeLogical v)
-      → IsStep (behaviour job_steps job_takes job_gives IsFiler) w (number_of layout (affinity_of a)) job (Replied reply) (logical_parcels layout (affinity_of a) new)
+      → IsStep (behaviour job_steps job_takes job_gives IsFiler) w (number_of layout (affinity_of a)) job (Replied reply)
+      (logical_parcels layout (affinity_of a) new)
   run-is-step asker call run at held old new same own w of has reply right job finished =
-      let right_held = subst (λ (h : FilerLogical P). RunsOn v logical_lens (call_on layout (Logical v) (moment_of asker.moment) (call_of call)) (logical_before h)
-      (works.Replied (reply_of reply)) (logical_after h new)) same right in
+      let right_held = subst (λ (h : FilerLogical P). RunsOn v logical_lens (call_on layout (Logical v) (moment_of asker.moment) (call_of call))
+      (logical_before h) (works.Replied (reply_of reply)) (logical_after h new)) same right in
       let enters = logical-runs layout lawful call run (credential_of asker.credential) (moment_of asker.moment) held new (works.Replied (reply_of reply)) tt
       (Logical v) on at own right_held in
       subst (λ (j : Job). IsStep (behaviour job_steps job_takes job_gives IsFiler) w (number_of layout (affinity_of a)) j (Replied reply)
@@ -101,6 +103,6 @@ module _ {P : Type 0} (layout : Layout) (lawful : fault_of layout ≡ None) (v :
       (finished_job asker call (VolumeLogical v)) (Replied reply) (logical_parcels layout (affinity_of x) new)) (sym is) (
         logical_parcels layout (Logical v) held,
         subst (λ (x : codes.Affinity). HasWith w (number_of layout (affinity_of x)) (logical_parcels layout (affinity_of x) held)) is has,
-        subst (λ (ps : List ℕ). job_steps ps (number_of layout (Logical v)) (finished_job asker call (VolumeLogical v)) (logical_parcels layout (Logical v) held)
-            (Replied reply) (logical_parcels layout (Logical v) new)) (sym of) (enters asker.connection.0 asker.number asker.xid),
+        subst (λ (ps : List ℕ). job_steps ps (number_of layout (Logical v)) (finished_job asker call (VolumeLogical v))
+            (logical_parcels layout (Logical v) held) (Replied reply) (logical_parcels layout (Logical v) new)) (sym of) (enters asker.connection.0 asker.number asker.xid),
       ))

@@ -61,12 +61,14 @@ module _ {P : Type 0} (layout : Layout) (lawful : fault_of layout ≡ None) (giv
     pub stripe-has : (i : ℕ) → i < stripes_of layout v → (held : FilerStripe P)
         → HasFiler layout (Stripe v i) given (stripe_parcels layout (Stripe v i) held) → HasVolume v (stripe_lens i) given held.own
     stripe-has i less held h = volume-has-part layout v on (stripe_lens i) given held.own
-        (seen-has layout (Stripe v i) (in_volume v (stripe_lens i)) (stripe_parcels layout (Stripe v i) held) held.own (stripe-seen layout lawful v on i less held) given h)
+        (seen-has layout (Stripe v i) (in_volume v (stripe_lens i)) (stripe_parcels layout (Stripe v i) held) held.own
+        (stripe-seen layout lawful v on i less held) given h)
 
     pub range-has : (r : ℕ) → r < 16 → (held : FilerRange P)
         → HasFiler layout (Range v r) given (range_parcels layout (Range v r) held) → HasVolume v (range_lens r) given held.own
     range-has r less held h = volume-has-part layout v on (range_lens r) given held.own
-        (seen-has layout (Range v r) (in_volume v (range_lens r)) (range_parcels layout (Range v r) held) held.own (range-seen layout lawful v on r less held) given h)
+        (seen-has layout (Range v r) (in_volume v (range_lens r)) (range_parcels layout (Range v r) held) held.own
+        (range-seen layout lawful v on r less held) given h)
 
     pub vbn-has : (held : FilerVbn P) → HasFiler layout (Vbn v) given (vbn_parcels layout (Vbn v) held) → HasVolume v vbn_lens given (vbn_set held)
     vbn-has held h = volume-has-part layout v on vbn_lens given (vbn_set held)
@@ -102,5 +104,6 @@ module _ {P : Type 0} (layout : Layout) (lawful : fault_of layout ≡ None) (giv
       seen-has layout (Aggregate a) (aggregate_lens a) (aggregate_parcels layout (Aggregate a) held) (aggregate_set layout a held)
       (aggregate-seen layout lawful a less held) given h
 
-  pub serial-has : (held : FilerSerial P) → HasFiler layout Serial given (serial_parcels layout Serial held) → HasAll layout serial_lens given (serial_set layout held)
+  pub serial-has : (held : FilerSerial P) → HasFiler layout Serial given (serial_parcels layout Serial held)
+      → HasAll layout serial_lens given (serial_set layout held)
   serial-has held h = seen-has layout Serial serial_lens (serial_parcels layout Serial held) (serial_set layout held) (serial-seen layout lawful held) given h
