@@ -18,3 +18,4 @@ pub mod Lawful
 pub mod Replays
 pub mod Granted
 pub mod Running
+pub mod Parts
