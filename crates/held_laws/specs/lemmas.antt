@@ -19,3 +19,4 @@ pub mod Replays
 pub mod Granted
 pub mod Running
 pub mod Parts
+pub mod Culling
