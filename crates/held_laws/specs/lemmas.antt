@@ -20,3 +20,4 @@ pub mod Granted
 pub mod Running
 pub mod Parts
 pub mod Culling
+pub mod Fetching

@@ -1,13 +1,12 @@
 -- What inner calls do to the dead, and a survey.
-use Rattle.std.proofs.Common.{◌≡◌, ℕ, ◌+◌, ◌*◌, Bool, List, [], ◌∷◌, length, map, Some, refl, sym, ap, subst, arith, eq-eqb}
+use Rattle.std.proofs.Common.{◌≡◌, ℕ, ◌+◌, Bool, List, [], ◌∷◌, length, map, Some, refl, sym, ap, subst, arith, eq-eqb}
 use Rattle.std.specs.Prelude.{◌==◌, if◌then◌else◌}
 use Rattle.std.specs.List.{range_with_len}
-use Rattle.nfs_model.specs.Parts.{Hand, batch_in, times_listed}
+use Rattle.nfs_model.specs.Parts.{batch_in, times_listed}
 use Rattle.nfs_model.specs.Moves.{in_range, lowest_batch, dead_hand}
 use Rattle.nfs_laws.specs.lemmas.Counting.{lowest_within, batch_leaves}
 use Rattle.depot_rule.specs.Sums.{total}
 use Rattle.volume_values.specs.Ranges.{RangeValue, without_numbers}
-use Rattle.held_state.specs.Contents.{VolumeContents}
 use Rattle.held_state.specs.Tree.{ranges_used}
 use Rattle.held_state.specs.Partition.{free_in, times_in_hand}
 use Rattle.held_state.specs.Sound.{IsSound}

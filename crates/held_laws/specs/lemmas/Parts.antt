@@ -28,7 +28,7 @@ total-put f (x ∷ xs) (suc i) d y less = let rest = total-put f xs i d y (omega
 
 -- ---- a range
 
-used-put : (ranges : List RangeValue) (r : ℕ) (x : RangeValue) → x.is_used ≡ (range_at ranges r).is_used
+pub used-put : (ranges : List RangeValue) (r : ℕ) (x : RangeValue) → x.is_used ≡ (range_at ranges r).is_used
     → ranges_used (slice_set ranges r x) ≡ ranges_used ranges
 used-put [] r x e = refl
 used-put (y ∷ ranges) zero x e = ap (λ (b : Bool). (if b then 1 else 0) + ranges_used ranges) e
