@@ -21,3 +21,4 @@ pub mod Running
 pub mod Parts
 pub mod Culling
 pub mod Fetching
+pub mod Freeing

@@ -88,7 +88,7 @@ module _ (p : VolumeContents) (well : WellFormed p) where
       (λ n l m. free-at r on n (omega arith))
 
 -- a number that is as free in a range's place as it was
-free-other : (ranges : List RangeValue) (r : ℕ) (x : RangeValue) (n : ℕ) → contains x.free n ≡ contains (range_at ranges r).free n
+pub free-other : (ranges : List RangeValue) (r : ℕ) (x : RangeValue) (n : ℕ) → contains x.free n ≡ contains (range_at ranges r).free n
     → contains (free_in (slice_set ranges r x)) n ≡ contains (free_in ranges) n
 free-other [] r x n e = refl
 free-other (y ∷ ranges) zero x n e =
