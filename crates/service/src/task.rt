@@ -28,7 +28,8 @@ impl<'a> Task<Parcel<Files>, ParcelKinds> for Run<'a> {
 
     ghost asks = { λ run. AsksFor run.call.now };
 
-    ghost does = { λ run. HasRun run.call.now (credential_of run.credential) (moment_of run.moment) };
+    ghost does = { λ run. HasRun run.call.now
+        (credential_of run.credential) (moment_of run.moment) };
 
     fn on_range(self, _: &Layout, _: Affinity, _: &mut RangeHeld<Files>) -> Outcome {
         unreachable!()
