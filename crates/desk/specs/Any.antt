@@ -1,6 +1,5 @@
 -- What a grant of any kind of node lends.
 use Rattle.nfs_model.specs.Tree.{Layout}
-use Rattle.affinity_tree.specs.declared.affinity.Affinity as codes
 use Rattle.affinity_tree.specs.declared.affinity.HasKind as kinds
 use Rattle.affinity_tree.specs.Affinity.{affinity_of}
 use Rattle.parcel_sets.specs.declared.node.Node as nodes
@@ -16,7 +15,8 @@ module _ {T N H : Type 0} {Q : kinds.Ghosts T} {G : nodes.Ghosts N T H} where
   node_lent layout g = record { affinity = affinity_of (node_of g.grant); parcels = parcels_in G.parcels layout g.grant }
 
 module _ {T K N1 N2 N3 N4 N5 N6 N7 H1 H2 H3 H4 H5 H6 H7 : Type 0} {Q : kinds.Ghosts T}
-    {G1 : nodes.Ghosts N1 T H1} {G2 : nodes.Ghosts N2 T H2} {G3 : nodes.Ghosts N3 T H3} {G4 : nodes.Ghosts N4 T H4} {G5 : nodes.Ghosts N5 T H5} {G6 : nodes.Ghosts N6 T H6} {G7 : nodes.Ghosts N7 T H7} where
+    {G1 : nodes.Ghosts N1 T H1} {G2 : nodes.Ghosts N2 T H2} {G3 : nodes.Ghosts N3 T H3} {G4 : nodes.Ghosts N4 T H4} {G5 : nodes.Ghosts N5 T H5}
+    {G6 : nodes.Ghosts N6 T H6} {G7 : nodes.Ghosts N7 T H7} where
   -- what a grant lends
   abbrev pub lent_of : Layout → AnyGrant T K N1 N2 N3 N4 N5 N6 N7 H1 H2 H3 H4 H5 H6 H7 Q G1 G2 G3 G4 G5 G6 G7 → Lent T
   lent_of layout (Range g) = node_lent layout g

@@ -3,6 +3,7 @@
 #![tactic(auto)]
 
 mod calls;
+mod closing;
 mod desk;
 mod grant;
 mod grants;

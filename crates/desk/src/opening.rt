@@ -1,4 +1,4 @@
-//! A desk at the start, and at the end.
+//! A desk at the start.
 
 ghost use Rattle.std.specs.Prelude.{◌≡◌, None, replicate, IfOk};
 
@@ -39,7 +39,6 @@ where
     ghost use Rattle.parcel_sets.specs.Exact.{HasExactly};
     ghost use Rattle.depot.specs.Words.{all_parcels};
     ghost use Rattle.desk_laws.specs.Books.{opening_books};
-    ghost use Rattle.desk_laws.specs.Calls.{AreIdle, AreSettled};
     ghost use Rattle.desk.specs.Words.{books, IsKept};
 
     /// A desk of a layout with the parcels of all nodes, and so many idle workers, from 1 to 64.
@@ -66,23 +65,5 @@ where
             }),
             Err(_) => Err(AllocError),
         }
-    }
-
-    /// Ends the desk, whose workers are idle. All parcels come back, as the finished calls left
-    /// them.
-    pub fn close(self) -> <K::Serial as Node<M::Parcel>>::Held
-        requires kept { IsKept self }
-        requires idle { AreIdle (books self) }
-        ensures exact { let L = (books self).layout in
-            HasExactly M.Parcel.kind L trees.Serial (all_parcels K.Serial.parcels L result) }
-        ensures settled { let L = (books self).layout in
-            AreSettled (books self) (all_parcels K.Serial.parcels L result) }
-    {
-        let Desk {
-            depot,
-            seat,
-            grants: _,
-        } = self;
-        depot.close::<K::Serial>(seat)
     }
 }

@@ -91,7 +91,8 @@ pub trait Task<T: HasKind, K: NodeKinds<T>> {
         ensures exact { let L = layout_of layout.now in let a = affinity_of affinity in
             HasExactly T.kind L a (K.Logical.parcels L a held.new) }
         ensures does { let L = layout_of layout.now in let a = affinity_of affinity in
-            does self L a (K.Logical.parcels L a held.old) result (K.Logical.parcels L a held.new) };
+            does self L a (K.Logical.parcels L a held.old) result
+            (K.Logical.parcels L a held.new) };
 
     /// Works on the parcels of a volume.
     fn on_volume(
@@ -125,7 +126,8 @@ pub trait Task<T: HasKind, K: NodeKinds<T>> {
         ensures exact { let L = layout_of layout.now in let a = affinity_of affinity in
             HasExactly T.kind L a (K.Aggregate.parcels L a held.new) }
         ensures does { let L = layout_of layout.now in let a = affinity_of affinity in
-            does self L a (K.Aggregate.parcels L a held.old) result (K.Aggregate.parcels L a held.new) };
+            does self L a (K.Aggregate.parcels L a held.old) result
+            (K.Aggregate.parcels L a held.new) };
 
     /// Works on the parcels of the whole tree.
     fn on_serial(

@@ -10,8 +10,8 @@ use parcel_sets::{
 
 /// Adds to the number of a stripe, and gives the sum. Of other nodes it changes nothing.
 #[derive(Clone, Copy, Debug, PartialEq, Eq)]
-pub struct Adder {
-    pub number: u64,
+pub(crate) struct Adder {
+    pub(crate) number: u64,
 }
 
 impl Task<Parcel<Numbers>, ParcelKinds> for Adder {
@@ -19,7 +19,7 @@ impl Task<Parcel<Numbers>, ParcelKinds> for Adder {
 
     ghost asks = { λ adder layout affinity f. Unit {0} };
 
-    ghost does = { Adds };
+    ghost does = { λ adder. Adds adder.number };
 
     fn on_range(self, _: &Layout, _: Affinity, _: &mut RangeHeld<Numbers>) -> Option<u64> {
         None

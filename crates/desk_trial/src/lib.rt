@@ -1,10 +1,9 @@
-//! A desk of numbers that calls add to, and calls on it from begin to end. The tests are here.
+//! Calls on a desk of numbers, from begin to end, and what other calls find in their midst.
 #![tactic(auto)]
 
+#[cfg(test)]
 mod adder;
 #[cfg(test)]
 mod tests;
+#[cfg(test)]
 mod turns;
-
-pub use adder::Adder;
-pub use turns::{Counters, Turn, close, open, take_turn};

@@ -15,19 +15,19 @@ use parcel_sets::{Numbers, SerialHeld};
 use std::alloc::Global;
 
 /// A desk of numbers that calls add to.
-pub type Counters = Desk<Adding, ParcelKinds>;
+pub(crate) type Counters = Desk<Adding, ParcelKinds>;
 
 /// What came of a call that was asked for in the midst of another, the number of its refusal if it
 /// was refused, and of the other, the sum where it had one.
 #[derive(Clone, Copy, Debug, PartialEq, Eq)]
-pub struct Turn {
-    pub beside: Option<u32>,
-    pub sum: Option<u64>,
+pub(crate) struct Turn {
+    pub(crate) beside: Option<u32>,
+    pub(crate) sum: Option<u64>,
 }
 
 /// A desk with so many volumes in which each parcel is 0, and so many idle workers. Nothing where
 /// memory ran out.
-pub fn open<const N: usize>(alloc: Global, workers: usize) -> Option<Counters>
+pub(crate) fn open<const N: usize>(alloc: Global, workers: usize) -> Option<Counters>
     requires few { N ≤ 8 }
     ensures { IfSome result (λ desk. IsKept desk) }
 {
@@ -92,7 +92,7 @@ fn add(desk: &mut Counters, worker: usize, number: u64) -> Option<u64>
 
 /// A call that adds to a stripe's number, in whose midst another worker asks for an affinity.
 /// Nothing where a worker isn't idle, an affinity isn't there, or the call is refused.
-pub fn take_turn(
+pub(crate) fn take_turn(
     desk: &mut Counters,
     workers: [usize; 2],
     affinities: [Affinity; 2],
@@ -128,7 +128,7 @@ fn are_idle(desk: &Counters) -> bool
 }
 
 /// Ends a desk whose workers are idle. All parcels come back.
-pub fn close(desk: Counters) -> Option<SerialHeld<Numbers>>
+pub(crate) fn close(desk: Counters) -> Option<SerialHeld<Numbers>>
     requires kept { IsKept desk }
 {
     if !are_idle(&desk) {

@@ -126,8 +126,8 @@ module _ (P : Type 0) where
   -- ---- grants: what is granted of a sound filer is a part of some sound whole, which is what a handler has to know
 
   abbrev pub StripesAreKnown : Type 0
-  StripesAreKnown = (layout : Layout) → fault_of layout ≡ None → (given : List Hand) → (v i : ℕ) → v < length layout.volumes → i < stripes_of layout v → (held : FilerStripe P)
-      → HasFiler layout (Stripe v i) given (stripe_parcels layout (Stripe v i) held)
+  StripesAreKnown = (layout : Layout) → fault_of layout ≡ None → (given : List Hand) → (v i : ℕ) → v < length layout.volumes → i < stripes_of layout v
+      → (held : FilerStripe P) → HasFiler layout (Stripe v i) given (stripe_parcels layout (Stripe v i) held)
       → HasVolume v (stripe_lens i) given held.own
 
   abbrev pub RangesAreKnown : Type 0

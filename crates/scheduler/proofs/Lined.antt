@@ -1,10 +1,12 @@
 -- The tables of lines when a cell is added to a queue, and when one leaves it.
-use Rattle.std.proofs.Common.{◌≡◌, ◌≢◌, ◌⊎◌, refl, sym, subst, ap, ◌∙◌, ℕ, zero, suc, ◌+◌, ◌<◌, ◌≤◌, List, [], ◌∷◌, ◌++◌, length, take, drop, get_or, Option, Some, None, set, replicate, arith, inl, inr, ⊎_elim, length-set, length-append}
-use Rattle.std.specs.List.{slice_get}
+use Rattle.std.proofs.Common.{◌≡◌, ◌≢◌, ◌⊎◌, refl, sym, subst, ap, ◌∙◌, ℕ, zero, suc, ◌+◌, ◌<◌, ◌≤◌, List, [], ◌∷◌, ◌++◌, length, take, drop, get_or}
+use Rattle.std.proofs.Common.{Option, Some, None, set, replicate, arith, inl, inr, ⊎_elim, length-set, length-append}
 use Rattle.std.proofs.lemmas.List.{length-replicate}
 use Rattle.std.proofs.lemmas.Option.{same_Some, none-some, slice_get_read}
 use Rattle.scheduler.specs.Lines.{IsIn, IsFirstFrom, IsLastBelow, AreLined, IsLinked, IsEnded, entry, held}
-use Rattle.scheduler.proofs.Tables.{get-set, get-set-other, get-before, get-end, get-past, within, whole, either, same, entry-set, entry-other, entry-before, entry-end, first-same, last-same, first-more, first-new, first-kept, first-after, first-is, last-is, last-kept, last-before}
+use Rattle.scheduler.proofs.Tables.{get-set, get-set-other, get-before, get-end, get-past, within, whole, either, same, entry-set, entry-other}
+use Rattle.scheduler.proofs.Tables.{entry-before, entry-end, first-same, last-same, first-more, first-new, first-kept, first-after, first-is, last-is}
+use Rattle.scheduler.proofs.Tables.{last-kept, last-before}
 
 -- a cell is in one queue
 one-queue : (cells : List (Option ℕ)) (q a i : ℕ) → IsIn cells q i → IsIn cells a i → q ≡ a
@@ -104,15 +106,18 @@ module _ (cells : List (Option ℕ)) (a : ℕ) where
         first_size = sizes.0 ∙ r.first_size;
         last_size = length-set lasts a (Some (length cells)) ∙ r.last_size;
         next_size = length-append nexts' (None ∷ []) ∙ ap (λ (n : ℕ). n + 1) size ∙ sym longer;
-        known = λ q j p. ⊎_elim (λ (z : IsIn cells q j). r.known q j z) (λ (z : (j ≡ length cells) × (q ≡ a)). let e = z.1 in omega (arith, e, l)) (from-longer q j p);
+        known = λ q j p. ⊎_elim (λ (z : IsIn cells q j). r.known q j z) (λ (z : (j ≡ length cells) × (q ≡ a)). let e = z.1 in omega (arith, e, l))
+            (from-longer q j p);
         first = λ q. firsts-longer firsts lasts nexts firsts' nexts' (entry lasts a) l r (r.last a) k q (same q a);
-        last = λ q. ⊎_elim (λ (e : q ≡ a). subst (λ (x : ℕ). IsLastBelow (IsIn (cells ++ Some a ∷ []) x) (length (cells ++ Some a ∷ [])) (entry (set lasts a (Some (length cells))) x)) (sym e)
+        last = λ q. ⊎_elim (λ (e : q ≡ a). subst (λ (x : ℕ). IsLastBelow (IsIn (cells ++ Some a ∷ []) x) (length (cells ++ Some a ∷ []))
+            (entry (set lasts a (Some (length cells))) x)) (sym e)
             (subst (λ (x : Option ℕ). IsLastBelow (IsIn (cells ++ Some a ∷ []) a) (length (cells ++ Some a ∷ [])) x)
             (sym (entry-set lasts a (Some (length cells)) (let s = r.last_size in omega (arith, l, s))))
             (omega (arith, longer), fresh, λ j g m p. absurd (omega (arith, g, m, longer)))))
             (λ (n : q ≢ a). subst (λ (x : Option ℕ). IsLastBelow (IsIn (cells ++ Some a ∷ []) q) (length (cells ++ Some a ∷ [])) x)
             (sym (entry-other lasts a q (Some (length cells)) n))
-            (last-same (IsIn cells q) (IsIn (cells ++ Some a ∷ []) q) (length cells) (length (cells ++ Some a ∷ [])) (entry lasts q) (omega (arith, longer)) (to-longer q)
+            (last-same (IsIn cells q) (IsIn (cells ++ Some a ∷ []) q) (length cells) (length (cells ++ Some a ∷ [])) (entry lasts q) (omega (arith, longer))
+            (to-longer q)
             (λ j p. let z = from-other q j n p in (z, within cells j (Some q) z)) (r.last q))) (same q a);
         next = λ q j p. ⊎_elim (λ (z : IsIn cells q j). subst (λ (x : Option ℕ). IsFirstFrom (IsIn (cells ++ Some a ∷ []) q) (j + 1) x)
             (sym (entry-before nexts' None j (let w = within cells j (Some q) z in omega (arith, w, size))))
@@ -129,7 +134,8 @@ entry-none zero q = refl
 entry-none (suc n) zero = refl
 entry-none (suc n) (suc q) = entry-none n q
 
-pub cleared : (n m : ℕ) (firsts lasts : List (Option ℕ)) → n ≡ 283 → m ≡ 283 → firsts ≡ replicate n None → lasts ≡ replicate m None → AreLined [] firsts lasts []
+pub cleared : (n m : ℕ) (firsts lasts : List (Option ℕ)) → n ≡ 283 → m ≡ 283 → firsts ≡ replicate n None → lasts ≡ replicate m None
+    → AreLined [] firsts lasts []
 cleared n m firsts lasts en em f l = record {
   first_size = ap length f ∙ length-replicate n None ∙ en;
   last_size = ap length l ∙ length-replicate m None ∙ em;
@@ -232,7 +238,8 @@ module _ (cells : List (Option ℕ)) (a i : ℕ) (there : IsIn cells a i) where
       let after = f.0 in
       subst (λ (z : List (Option ℕ)). IsLastBelow (IsIn (set cells i None) q) (length cells) (entry z q)) (sym k)
       (last-still-less q (length cells) (entry lasts q) (⊎_elim (λ (e : q ≡ a) (h : entry lasts q ≡ Some i).
-      (last-is (IsIn cells q) (length cells) i (entry lasts q) (r.last q) h).2 c (omega (arith, after)) (within cells c (Some a) f.1) (subst (λ (z : ℕ). IsIn cells z c) (sym e) f.1))
+      (last-is (IsIn cells q) (length cells) i (entry lasts q) (r.last q) h).2 c (omega (arith, after)) (within cells c (Some a) f.1)
+      (subst (λ (z : ℕ). IsIn cells z c) (sym e) f.1))
       (λ (n : q ≢ a). not-last q (length cells) (entry lasts q) n (r.last q)) t) (r.last q))
 
   ended-size : (lasts lasts' : List (Option ℕ)) (o x : Option ℕ) → IsEnded lasts a o x lasts' → length lasts' ≡ length lasts
@@ -295,8 +302,10 @@ vacate-lined cells firsts lasts nexts firsts' lasts' nexts' a i nf nl nn before 
     let m2 : IsEnded lasts a before (entry nexts i) lasts' = subst (λ (z : Option ℕ). IsEnded lasts a before z lasts') is m in
     let sizes = linked-size cells a firsts nexts firsts' nexts' before (entry nexts i) k2 in
     let end-size = ended-size cells a i p lasts lasts' before (entry nexts i) m2 in
-    subst (λ (z : List (Option ℕ)). AreLined (set cells i None) z (take nl (lasts' ++ drop (length lasts') lasts)) (take nn (nexts' ++ drop (length nexts') nexts)))
+    subst (λ (z : List (Option ℕ)). AreLined (set cells i None) z (take nl (lasts' ++ drop (length lasts') lasts))
+    (take nn (nexts' ++ drop (length nexts') nexts)))
     (sym (whole nf firsts firsts' ef sizes.0))
-    (subst (λ (z : List (Option ℕ)). AreLined (set cells i None) firsts' z (take nn (nexts' ++ drop (length nexts') nexts))) (sym (whole nl lasts lasts' el end-size))
+    (subst (λ (z : List (Option ℕ)). AreLined (set cells i None) firsts' z (take nn (nexts' ++ drop (length nexts') nexts)))
+    (sym (whole nl lasts lasts' el end-size))
     (subst (λ (z : List (Option ℕ)). AreLined (set cells i None) firsts' lasts' z) (sym (whole nn nexts nexts' ex sizes.1))
     (vacated cells a i p firsts lasts nexts firsts' lasts' nexts' before r s k2 m2)))

@@ -1,5 +1,6 @@
 -- What is in cells, when one is filled, emptied or passed over.
-use Rattle.std.proofs.Common.{◌≡◌, ◌≢◌, ◌⊎◌, refl, sym, subst, ap, ◌∙◌, ℕ, zero, suc, ◌+◌, ◌<◌, ◌≤◌, List, [], ◌∷◌, ◌++◌, length, map, take, drop, Bool, true, false, Option, Some, None, is_some, get_or, set, length-append, arith, inl, inr, ⊎_elim}
+use Rattle.std.proofs.Common.{◌≡◌, ◌⊎◌, refl, sym, ap, ◌∙◌, ℕ, zero, suc, ◌+◌, ◌<◌, ◌≤◌, List, [], ◌∷◌, ◌++◌, length, map, take, Bool, true, false}
+use Rattle.std.proofs.Common.{Option, Some, None, is_some, get_or, set, length-append, arith, ⊎_elim}
 use Rattle.std.specs.List.{slice_get, remove, filter}
 use Rattle.std.proofs.lemmas.Option.{same_Some, none-some, slice_get_read}
 use mir.Val.{bool_byte}
@@ -42,7 +43,8 @@ module _ {X : Type 0} where
   present-push (None ∷ xs) x = present-push xs x
   present-push (Some y ∷ xs) x = ap (λ (z : List X). y ∷ z) (present-push xs x)
 
-  pub vacant-push : (xs : List (Option X)) (x : Option X) (start : ℕ) → start ≤ length xs → present (take start xs) ≡ [] → present (take start (xs ++ x ∷ [])) ≡ []
+  pub vacant-push : (xs : List (Option X)) (x : Option X) (start : ℕ) → start ≤ length xs → present (take start xs) ≡ []
+      → present (take start (xs ++ x ∷ [])) ≡ []
   vacant-push xs x zero l e = refl
   vacant-push [] x (suc start) l e = absurd (omega (arith, l))
   vacant-push (None ∷ xs) x (suc start) l e = vacant-push xs x start (omega (arith, l)) e
@@ -90,7 +92,8 @@ module _ {X : Type 0} where
   count-below (Some y ∷ xs) (suc i) = let r = count-below xs i in omega (arith, r)
 
   -- the cell of a message at a place
-  pub cell-of : (xs : List (Option X)) (p : ℕ) (x : X) → slice_get (present xs) p ≡ Some x → (j : ℕ) × (slice_get xs j ≡ Some (Some x)) × (p ≡ length (present (take j xs)))
+  pub cell-of : (xs : List (Option X)) (p : ℕ) (x : X) → slice_get (present xs) p ≡ Some x → (j : ℕ) × (slice_get xs j ≡ Some (Some x))
+      × (p ≡ length (present (take j xs)))
   cell-of [] p x e = absurd (none-some x e)
   cell-of (None ∷ xs) p x e = let r = cell-of xs p x e in (suc r.0, r.1, r.2)
   cell-of (Some y ∷ xs) zero x e = (0, ap (λ (z : Option X). Some z) e, refl)
@@ -105,20 +108,24 @@ module _ {X : Type 0} where
   pub read-is : (xs : List (Option X)) (i : ℕ) (r : Option X) → i < length xs → r ≡ get_or xs i r → slice_get xs i ≡ Some r
   read-is xs i r l e = slice_get_read xs (length xs) i r refl l e
 
-  pub message-at : (xs : List (Option X)) (i : ℕ) (r : Option X) → i < length xs → r ≡ get_or xs i r → is_some r ≡ true → (x : X) × (slice_get xs i ≡ Some (Some x))
+  pub message-at : (xs : List (Option X)) (i : ℕ) (r : Option X) → i < length xs → r ≡ get_or xs i r → is_some r ≡ true → (x : X)
+      × (slice_get xs i ≡ Some (Some x))
   message-at xs i None l e s = absurd cc
   message-at xs i (Some x) l e s = (x, read-is xs i (Some x) l e)
 
   pub count-some : (xs : List (Option X)) (i : ℕ) (r : Option X) → i < length xs → r ≡ get_or xs i r → is_some r ≡ true
       → length (present (take (i + 1) xs)) ≡ length (present (take i xs)) + 1
   count-some xs i None l e s = absurd cc
-  count-some xs i (Some x) l e s = ap (λ (k : ℕ). length (present (take k xs))) (one-more i) ∙ ap length (present-some xs i x (read-is xs i (Some x) l e)) ∙ length-append (present (take i xs)) (x ∷ [])
+  count-some xs i (Some x) l e s = ap (λ (k : ℕ). length (present (take k xs))) (one-more i) ∙ ap length (present-some xs i x (read-is xs i (Some x) l e))
+      ∙ length-append (present (take i xs)) (x ∷ [])
 
-  pub none-more : (xs : List (Option X)) (i : ℕ) (r : Option X) → i < length xs → r ≡ get_or xs i r → is_some r ≡ false → present (take (i + 1) xs) ≡ present (take i xs)
+  pub none-more : (xs : List (Option X)) (i : ℕ) (r : Option X) → i < length xs → r ≡ get_or xs i r → is_some r ≡ false
+      → present (take (i + 1) xs) ≡ present (take i xs)
   none-more xs i (Some x) l e s = absurd cc
   none-more xs i None l e s = ap (λ (k : ℕ). present (take k xs)) (one-more i) ∙ present-none xs i (read-is xs i None l e)
 
-  pub count-more : (xs : List (Option X)) (i n : ℕ) (r : Option X) (b : Bool) → i < length xs → r ≡ get_or xs i r → b ≡ is_some r → n ≡ length (present (take i xs))
+  pub count-more : (xs : List (Option X)) (i n : ℕ) (r : Option X) (b : Bool) → i < length xs → r ≡ get_or xs i r → b ≡ is_some r
+      → n ≡ length (present (take i xs))
       → n + bool_byte b ≡ length (present (take (i + 1) xs))
   count-more xs i n (Some x) true l e s t = let m = count-some xs i (Some x) l e refl in omega (arith, m, t)
   count-more xs i n None true l e s t = absurd cc

@@ -1,6 +1,7 @@
 -- Messages in cells and the lines of the cells.
-use Rattle.std.proofs.Common.{◌≡◌, ◌≢◌, ◌⊎◌, refl, sym, subst, ap, ◌∙◌, ℕ, zero, suc, ◌+◌, ◌*◌, ◌<◌, ◌≤◌, List, [], ◌∷◌, ◌++◌, length, map, take, drop, Bool, true, false, Option, Some, None, is_some, get_or, set, length-set, arith, inl, inr, ⊎_elim}
-use Rattle.std.specs.List.{slice_get, remove}
+use Rattle.std.proofs.Common.{◌≡◌, ◌≢◌, ◌⊎◌, refl, sym, subst, ap, ◌∙◌, ℕ, zero, suc, ◌+◌, ◌<◌, ◌≤◌, List, [], ◌∷◌, ◌++◌, length, map, take, Option}
+use Rattle.std.proofs.Common.{Some, None, is_some, get_or, set, arith, ⊎_elim}
+use Rattle.std.specs.List.{slice_get}
 use Rattle.std.specs.Option.{option_map}
 use Rattle.std.proofs.lemmas.List.{map-set, map-append, length-map}
 use Rattle.std.proofs.lemmas.Option.{same_Some, none-some, slice_get-map, slice_get-get_or}
@@ -10,10 +11,10 @@ use Rattle.affinity_tree.specs.declared.affinity.Affinity.TheVariants.{Serial, A
 use Rattle.scheduler.specs.QueueNumber.{queue_of, HasQueue}
 use Rattle.scheduler.specs.declared.message.Message.{Message}
 use Rattle.scheduler.specs.Lines.{IsIn, IsFirstFrom}
-use Rattle.scheduler.specs.Waiting.{IsFirstOf, NoneTries, Tries, IsFront}
-use Rattle.scheduler.specs.Kept.{present, line_of, lines_of, HaveQueues, HasMessage, AreKept}
-use Rattle.scheduler.proofs.Tables.{get-set, get-set-other, get-past, get-before, within, same, either}
-use Rattle.scheduler.proofs.Present.{present-at, present-set, present-push, present-all, vacant-push, vacant-set, cell-of, count-rises, count-below, read-is, present-some, none-more, one-more}
+use Rattle.scheduler.specs.Waiting.{IsFirstOf, NoneTries, Tries}
+use Rattle.scheduler.specs.Kept.{present, line_of, lines_of, HaveQueues, HasMessage}
+use Rattle.scheduler.proofs.Tables.{get-set, get-set-other, get-past, get-before, same, either}
+use Rattle.scheduler.proofs.Present.{present-at, present-all, cell-of, count-rises, count-below, read-is, present-some, none-more, one-more}
 
 -- ---- one affinity, one queue
 
@@ -42,14 +43,16 @@ module _ {C : Type 0} where
       ap (λ (z : List (Option ℕ)). slice_get z i) l ∙ slice_get-map line_of xs i ∙ ap (option_map line_of) e ∙ ap (λ (z : ℕ). Some (Some z)) (sym f)
 
   -- the message of a cell that is in a queue
-  pub in-line : (xs : List (Option (Message C))) (i q : ℕ) → IsIn (lines_of xs) q i → (m : Message C) × (slice_get xs i ≡ Some (Some m)) × (queue_of (affinity_of m.affinity) ≡ q)
+  pub in-line : (xs : List (Option (Message C))) (i q : ℕ) → IsIn (lines_of xs) q i → (m : Message C) × (slice_get xs i ≡ Some (Some m))
+      × (queue_of (affinity_of m.affinity) ≡ q)
   in-line [] i q e = absurd (none-some (Some q) e)
   in-line (None ∷ xs) zero q e = absurd (none-some q (same_Some None (Some q) e))
   in-line (Some m ∷ xs) zero q e = (m, refl, same_Some _ _ (same_Some _ _ e))
   in-line (None ∷ xs) (suc i) q e = in-line xs i q e
   in-line (Some m ∷ xs) (suc i) q e = in-line xs i q e
 
-  pub lines-set : (xs : List (Option (Message C))) (lines lines' : List (Option ℕ)) (i : ℕ) (o : Option (Message C)) → o ≡ None → lines ≡ lines_of xs → lines' ≡ set lines i None
+  pub lines-set : (xs : List (Option (Message C))) (lines lines' : List (Option ℕ)) (i : ℕ) (o : Option (Message C)) → o ≡ None → lines ≡ lines_of xs
+      → lines' ≡ set lines i None
       → lines' ≡ lines_of (set xs i o)
   lines-set xs lines lines' i o n l e =
       e ∙ ap (λ (z : List (Option ℕ)). set z i None) l ∙ sym (map-set line_of xs i None) ∙ ap (λ (z : Option (Message C)). lines_of (set xs i z)) (sym n)
@@ -59,11 +62,13 @@ module _ {C : Type 0} where
   taken-is xs i r o m l e h = slice_get-get_or xs i r l ∙ ap (λ (z : Option (Message C)). Some z) (sym e ∙ h)
 
   pub not-none : (xs : List (Option (Message C))) (i : ℕ) (r o : Option (Message C)) → i < length xs → o ≡ get_or xs i r → o ≡ None → HasMessage xs i → ⊥
-  not-none xs i r o l e h t = none-some t.0 (same_Some None (Some t.0) (sym (slice_get-get_or xs i r l ∙ ap (λ (z : Option (Message C)). Some z) (sym e ∙ h)) ∙ t.1))
+  not-none xs i r o l e h t = none-some t.0 (same_Some None (Some t.0)
+      (sym (slice_get-get_or xs i r l ∙ ap (λ (z : Option (Message C)). Some z) (sym e ∙ h)) ∙ t.1))
 
   -- ---- lines made anew
 
-  pub lines-room : (xs : List (Option (Message C))) (lines : List (Option ℕ)) (i : ℕ) → lines ≡ lines_of (map (λ x. Some x) (present (take i xs))) → i < length xs
+  pub lines-room : (xs : List (Option (Message C))) (lines : List (Option ℕ)) (i : ℕ) → lines ≡ lines_of (map (λ x. Some x) (present (take i xs)))
+      → i < length xs
       → length xs ≤ 2048 → length lines < 2048
   lines-room xs lines i e l m =
       let n : length lines ≡ length (present (take i xs)) = ap length e ∙ length-map (map (λ (x : Message C). Some x) (present (take i xs))) line_of
@@ -71,7 +76,8 @@ module _ {C : Type 0} where
       let b = count-below xs i in
       omega (arith, n, b, l, m)
 
-  pub lines-more : (xs : List (Option (Message C))) (lines lines' : List (Option ℕ)) (i q : ℕ) (r : Option (Message C)) (m : Message C) → i < length xs → r ≡ get_or xs i r
+  pub lines-more : (xs : List (Option (Message C))) (lines lines' : List (Option ℕ)) (i q : ℕ) (r : Option (Message C)) (m : Message C) → i < length xs
+      → r ≡ get_or xs i r
       → r ≡ Some m → lines ≡ lines_of (map (λ x. Some x) (present (take i xs))) → q ≡ queue_of (affinity_of m.affinity)
       → lines' ≡ lines ++ Some q ∷ [] → lines' ≡ lines_of (map (λ x. Some x) (present (take (i + 1) xs)))
   lines-more xs lines lines' i q r m l e s k f g =
@@ -98,7 +104,8 @@ module _ {C : Type 0} where
 
   pub queues-push : (xs : List (Option (Message C))) (m : Message C) → HaveQueues xs → HasQueue (affinity_of m.affinity) → HaveQueues (xs ++ Some m ∷ [])
   queues-push xs m h k j y e = ⊎_elim (λ (l : j < length xs). h j y (sym (get-before xs (Some m) j l) ∙ e))
-      (λ (t : (j ≡ length xs) × (Some m ≡ Some y)). subst (λ (z : Message C). HasQueue (affinity_of z.affinity)) (same_Some m y t.1) k) (get-past xs (Some m) (Some y) j e)
+      (λ (t : (j ≡ length xs) × (Some m ≡ Some y)). subst (λ (z : Message C). HasQueue (affinity_of z.affinity)) (same_Some m y t.1) k)
+      (get-past xs (Some m) (Some y) j e)
 
   pub queues-all : (xs : List (Option (Message C))) → HaveQueues xs → HaveQueues (map (λ x. Some x) (present xs))
   queues-all xs h j m e =
@@ -124,7 +131,8 @@ module _ {C : Type 0} where
       → lines ≡ lines_of (map (λ x. Some x) (present zs)) → lines ≡ lines_of ys
   packed-lined xs ys zs lines e f l =
       l ∙ ap (λ (z : List (Option (Message C))). lines_of (map (λ (x : Message C). Some x) (present z))) f
-      ∙ ap (λ (z : List (Message C)). lines_of (map (λ (x : Message C). Some x) z)) (packed-present xs ys e) ∙ ap (λ (z : List (Option (Message C))). lines_of z) (sym e)
+      ∙ ap (λ (z : List (Message C)). lines_of (map (λ (x : Message C). Some x) z)) (packed-present xs ys e)
+      ∙ ap (λ (z : List (Option (Message C))). lines_of z) (sym e)
 
   -- ---- the first of an affinity
 
@@ -136,7 +144,8 @@ module _ {C : Type 0} where
 
   pub first-tries : (xs : List (Option (Message C))) (lines : List (Option ℕ)) (a : Affinity) (q k : ℕ) → lines ≡ lines_of xs → q ≡ queue_of (affinity_of a)
       → HaveQueues xs → HasQueue (affinity_of a) → IsFirstFrom (IsIn lines q) 0 (Some k)
-      → (m : Message C) × (slice_get xs k ≡ Some (Some m)) × Tries a (present xs) (length (present (take k xs))) m × NoneTries a (present xs) (length (present (take k xs)))
+      → (m : Message C) × (slice_get xs k ≡ Some (Some m)) × Tries a (present xs) (length (present (take k xs))) m
+      × NoneTries a (present xs) (length (present (take k xs)))
   first-tries xs lines a q k l eq h ha s =
       let t = in-line xs k q (subst (λ (z : List (Option ℕ)). IsIn z q k) l s.1) in
       let m = t.0 in (
@@ -146,6 +155,7 @@ module _ {C : Type 0} where
         λ p n b e f. let r = cell-of xs p n e in
             let counted = r.2 in
             let below : r.0 < k = ⊎_elim (λ (u : r.0 < k). u) (λ (u : (r.0 ≡ k) ⊎ (k < r.0)).
-            absurd (let c = count-rises xs k r.0 (⊎_elim (λ (w : r.0 ≡ k). omega (arith, w)) (λ (w : k < r.0). omega (arith, w)) u) in omega (arith, c, b, counted))) (either k r.0) in
+            absurd (let c = count-rises xs k r.0 (⊎_elim (λ (w : r.0 ≡ k). omega (arith, w)) (λ (w : k < r.0). omega (arith, w)) u) in omega
+            (arith, c, b, counted))) (either k r.0) in
             s.2 r.0 (omega arith) below (line-at xs lines r.0 q n l r.1 (eq ∙ ap (λ (z : Affinity). queue_of (affinity_of z)) (sym f))),
       )

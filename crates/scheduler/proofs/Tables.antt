@@ -1,5 +1,6 @@
 -- Lists changed at one place or at their end, read by place; the first and the last of some cells.
-use Rattle.std.proofs.Common.{◌≡◌, ◌≢◌, ◌⊎◌, refl, sym, subst, ap, ◌∙◌, ℕ, zero, suc, ◌+◌, ◌<◌, ◌≤◌, List, [], ◌∷◌, ◌++◌, length, take, drop, Option, Some, None, set, arith, inl, inr, ⊎_elim}
+use Rattle.std.proofs.Common.{◌≡◌, ◌≢◌, ◌⊎◌, refl, sym, subst, ap, ◌∙◌, ℕ, zero, suc, ◌+◌, ◌<◌, ◌≤◌, List, [], ◌∷◌, ◌++◌, length, take, drop, Option}
+use Rattle.std.proofs.Common.{Some, None, set, arith, inl, inr, ⊎_elim}
 use Rattle.std.specs.List.{slice_get}
 use Rattle.std.proofs.lemmas.Option.{same_Some, none-some}
 use Rattle.std.proofs.Math.Seq.{take-append_seam}
@@ -34,7 +35,8 @@ module _ {X : Type 0} where
   get-past [] x y (suc j) e = absurd (none-some y e)
   get-past (z ∷ xs) x y zero e = inl (omega arith)
   get-past (z ∷ xs) x y (suc j) e =
-      ⊎_elim (λ (l : j < length xs). inl (omega (arith, l))) (λ (t : (j ≡ length xs) × (x ≡ y)). let e = t.0 in inr (omega (arith, e), t.1)) (get-past xs x y j e)
+      ⊎_elim (λ (l : j < length xs). inl (omega (arith, l))) (λ (t : (j ≡ length xs) × (x ≡ y)). let e = t.0 in inr (omega (arith, e), t.1))
+      (get-past xs x y j e)
 
   pub within : (xs : List X) (j : ℕ) (x : X) → slice_get xs j ≡ Some x → j < length xs
   within [] j x e = absurd (none-some x e)

@@ -1,5 +1,6 @@
 -- What is kept after a message comes, and after one leaves.
-use Rattle.std.proofs.Common.{◌≡◌, ◌≢◌, ◌⊎◌, refl, sym, subst, ap, ◌∙◌, ℕ, zero, suc, ◌+◌, ◌-◌, ◌<◌, ◌≤◌, List, [], ◌∷◌, ◌++◌, length, map, take, drop, get_or, Option, Some, None, set, length-set, length-append, arith}
+use Rattle.std.proofs.Common.{◌≡◌, refl, sym, subst, ap, ◌∙◌, ℕ, zero, suc, ◌+◌, ◌-◌, ◌<◌, ◌≤◌, List, [], ◌∷◌, ◌++◌, length, take, drop, get_or}
+use Rattle.std.proofs.Common.{Option, Some, None, set, length-set, length-append, arith}
 use Rattle.std.specs.List.{slice_get, remove}
 use Rattle.std.proofs.lemmas.Option.{same_Some, none-some, get_or_from_slice_get}
 use Rattle.affinity_tree.specs.Affinity.{affinity_of}
@@ -8,13 +9,14 @@ use Rattle.scheduler.specs.QueueNumber.{queue_of, HasQueue}
 use Rattle.scheduler.specs.declared.message.Message.{Message}
 use Rattle.scheduler.specs.Lines.{IsIn, IsFirstFrom}
 use Rattle.scheduler.specs.Waiting.{IsFirstOf, NoneTries, Tries, IsFront, TakesFront}
-use Rattle.scheduler.specs.Kept.{present, line_of, lines_of, HaveQueues, HasMessage, AreKept}
+use Rattle.scheduler.specs.Kept.{present, lines_of, HaveQueues, HasMessage, AreKept}
 use Rattle.scheduler.proofs.Tables.{whole, within, first-is}
 use Rattle.scheduler.proofs.Present.{present-at, present-set, present-push, vacant-push, vacant-set}
 use Rattle.scheduler.proofs.Seated.{first-none, first-tries, in-line, queues-set, queues-push}
 
 module _ {C : Type 0} where
-  one-less : (xs : List (Option (Message C))) (i : ℕ) (m : Message C) → slice_get xs i ≡ Some (Some m) → length (present (set xs i None)) + 1 ≡ length (present xs)
+  one-less : (xs : List (Option (Message C))) (i : ℕ) (m : Message C) → slice_get xs i ≡ Some (Some m)
+      → length (present (set xs i None)) + 1 ≡ length (present xs)
   one-less [] i m e = absurd (none-some (Some m) e)
   one-less (None ∷ xs) zero m e = absurd (none-some m (same_Some None (Some m) e))
   one-less (Some y ∷ xs) zero m e = omega arith
@@ -22,7 +24,8 @@ module _ {C : Type 0} where
   one-less (Some y ∷ xs) (suc i) m e = let r = one-less xs i m e in omega (arith, r)
 
   -- a cell emptied in a slice of the vector
-  pub written : (n i : ℕ) (xs w xs' : List (Option (Message C))) → n ≡ length xs → w ≡ xs → xs' ≡ set w i None → take n (xs' ++ drop (length xs') xs) ≡ set xs i None
+  pub written : (n i : ℕ) (xs w xs' : List (Option (Message C))) → n ≡ length xs → w ≡ xs → xs' ≡ set w i None
+      → take n (xs' ++ drop (length xs') xs) ≡ set xs i None
   written n i xs w xs' e f g =
       let size : length xs' ≡ length xs = ap length g ∙ length-set w i None ∙ ap length f in
       whole n xs xs' e size ∙ g ∙ ap (λ (z : List (Option (Message C))). set z i None) f
@@ -47,14 +50,16 @@ module _ {C : Type 0} where
         vacant = ap (λ (t : List (Option (Message C))). present (take start' t)) (sym (z ∙ f)) ∙ v;
       })
 
-  pub lined-again : (xs w xs' : List (Option (Message C))) (lines' : List (Option ℕ)) (i : ℕ) → w ≡ xs → xs' ≡ set w i None → lines' ≡ lines_of xs' → lines' ≡ lines_of (set xs i None)
+  pub lined-again : (xs w xs' : List (Option (Message C))) (lines' : List (Option ℕ)) (i : ℕ) → w ≡ xs → xs' ≡ set w i None → lines' ≡ lines_of xs'
+      → lines' ≡ lines_of (set xs i None)
   lined-again xs w xs' lines' i e f l = l ∙ ap (λ (t : List (Option (Message C))). lines_of t) (f ∙ ap (λ (t : List (Option (Message C))). set t i None) e)
 
   pub message-there : (xs w : List (Option (Message C))) (i : ℕ) (m : Message C) → w ≡ xs → slice_get w i ≡ Some (Some m) → slice_get xs i ≡ Some (Some m)
   message-there xs w i m e f = ap (λ (t : List (Option (Message C))). slice_get t i) (sym e) ∙ f
 
   -- the list before and after
-  pub picked : (xs w : List (Option (Message C))) (old : List (Message C)) (i place : ℕ) (m : Message C) → present xs ≡ old → w ≡ xs → slice_get xs i ≡ Some (Some m)
+  pub picked : (xs w : List (Option (Message C))) (old : List (Message C)) (i place : ℕ) (m : Message C) → present xs ≡ old → w ≡ xs
+      → slice_get xs i ≡ Some (Some m)
       → length (present (take i w)) ≡ place → slice_get old place ≡ Some m
   picked xs w old i place m o e f p =
       ap (λ (t : List (Message C)). slice_get t place) (sym o)
@@ -108,7 +113,8 @@ module _ {C : Type 0} where
   cell-within xs i t = within xs i (Some t.0) t.1
 
   -- the message of the first cell of an affinity's queue
-  pub tried : (xs : List (Option (Message C))) (lines : List (Option ℕ)) (count start q i : ℕ) (a : Affinity) (o : Option ℕ) (m : Message C) (old : List (Message C))
+  pub tried : (xs : List (Option (Message C))) (lines : List (Option ℕ)) (count start q i : ℕ) (a : Affinity) (o : Option ℕ) (m : Message C)
+      (old : List (Message C))
       → AreKept xs lines count start → present xs ≡ old → q ≡ queue_of (affinity_of a) → HasQueue (affinity_of a) → IsFirstFrom (IsIn lines q) 0 o → o ≡ Some i
       → slice_get xs i ≡ Some (Some m) → Tries a old (length (present (take i xs))) m × NoneTries a old (length (present (take i xs)))
   tried xs lines count start q i a o m old k e f h s n there =
@@ -125,7 +131,8 @@ module _ {C : Type 0} where
       let t = tried xs lines count start q i a o c.0 old k e f h s n c.1 in
       subst (λ (z : ℕ). IsFirstOf a old (Some z)) (sym (p ∙ ap (λ (z : List (Option (Message C))). length (present (take i z))) we)) ((c.0, t.0), t.1)
 
-  pub front : (xs : List (Option (Message C))) (lines : List (Option ℕ)) (count start q i : ℕ) (a : Affinity) (o : Option ℕ) (r x : Option (Message C)) (old : List (Message C))
+  pub front : (xs : List (Option (Message C))) (lines : List (Option ℕ)) (count start q i : ℕ) (a : Affinity) (o : Option ℕ) (r x : Option (Message C))
+      (old : List (Message C))
       → AreKept xs lines count start → present xs ≡ old → q ≡ queue_of (affinity_of a) → HasQueue (affinity_of a) → IsFirstFrom (IsIn lines q) 0 o → o ≡ Some i
       → r ≡ get_or xs i r → x ≡ r → IsFront a old x
   front xs lines count start q i a o r x old k e f h s n re xe =
@@ -134,7 +141,8 @@ module _ {C : Type 0} where
       let is : r ≡ Some c.0 = re ∙ get_or_from_slice_get xs i (Some c.0) r c.1 in
       subst (λ (z : Option (Message C)). IsFront a old z) (sym (xe ∙ is)) (length (present (take i xs)), t.0, t.1)
 
-  pub takes-front : (xs ys : List (Option (Message C))) (lines : List (Option ℕ)) (count start q i : ℕ) (a : Affinity) (o : Option ℕ) (m : Message C) (old : List (Message C))
+  pub takes-front : (xs ys : List (Option (Message C))) (lines : List (Option ℕ)) (count start q i : ℕ) (a : Affinity) (o : Option ℕ) (m : Message C)
+      (old : List (Message C))
       → AreKept xs lines count start → present xs ≡ old → q ≡ queue_of (affinity_of a) → HasQueue (affinity_of a) → IsFirstFrom (IsIn lines q) 0 o → o ≡ Some i
       → slice_get xs i ≡ Some (Some m) → ys ≡ set xs i None → TakesFront a old (Some m) (present ys)
   takes-front xs ys lines count start q i a o m old k e f h s n there ye =

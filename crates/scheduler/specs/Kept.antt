@@ -1,5 +1,5 @@
 -- How messages are kept: in cells, some of them vacant, beside the line that each cell is in.
-use Rattle.std.specs.Prelude.{◌≡◌, ℕ, ◌<◌, ◌≤◌, List, [], ◌∷◌, length, map, take, Option, Some, None}
+use Rattle.std.specs.Prelude.{◌≡◌, ℕ, ◌≤◌, List, [], ◌∷◌, length, map, take, Option, Some, None}
 use Rattle.std.specs.List.{slice_get}
 use Rattle.affinity_tree.specs.Affinity.{affinity_of}
 use Rattle.scheduler.specs.QueueNumber.{queue_of, HasQueue}

@@ -104,5 +104,6 @@ module _ {P : Type 0} (layout : Layout) (lawful : fault_of layout ≡ None) (v :
         logical_parcels layout (Logical v) held,
         subst (λ (x : codes.Affinity). HasWith w (number_of layout (affinity_of x)) (logical_parcels layout (affinity_of x) held)) is has,
         subst (λ (ps : List ℕ). job_steps ps (number_of layout (Logical v)) (finished_job asker call (VolumeLogical v))
-            (logical_parcels layout (Logical v) held) (Replied reply) (logical_parcels layout (Logical v) new)) (sym of) (enters asker.connection.0 asker.number asker.xid),
+            (logical_parcels layout (Logical v) held) (Replied reply) (logical_parcels layout (Logical v) new)) (sym of)
+            (enters asker.connection.0 asker.number asker.xid),
       ))

@@ -1,9 +1,8 @@
 -- A call on a desk that begins, told by its seat and its grants.
-use Rattle.std.proofs.Common.{◌≡◌, ◌<◌, ◌≤◌, ℕ, zero, suc, List, [], ◌∷◌, length, map, set, replicate, arith, Option, Some, None, refl, sym, ap, ◌∙◌, subst}
+use Rattle.std.proofs.Common.{◌≡◌, ◌<◌, ◌≤◌, ℕ, zero, suc, List, [], ◌∷◌, length, map, set, arith, Option, Some, None, refl, sym, ap, ◌∙◌, subst}
 use Rattle.std.specs.Prelude.{option_map}
-use mathlib.Core.Option.{some, some-injective}
+use mathlib.Core.Option.{some}
 use lib.ListN.{get_elem?}
-use Rattle.atomic_table.proofs.Lists.{at_map}
 use Rattle.nfs_model.specs.Tree.{Layout, Affinity}
 use Rattle.affinity_tree.specs.declared.affinity.Kind.{Kind}
 use Rattle.affinity_tree.specs.Fault.{fault_of}
@@ -19,7 +18,7 @@ use Rattle.depot_rule.specs.History.{Behaviour, listed, after}
 use Rattle.depot.specs.Calls.{IsExcluded}
 use Rattle.depot.specs.Grants.{HasRead}
 use Rattle.depot.specs.Grants as depots
-use Rattle.desk_laws.specs.Books.{Lent, Books, stamps, HasLent, IsIdle, IsTaken, IsUnchanged, IsSame}
+use Rattle.desk_laws.specs.Books.{Lent, Books, stamps, IsIdle, IsTaken, IsUnchanged, IsSame}
 use Rattle.desk_laws.specs.Backing.{Shows, books_of, IsBook, IsGranted}
 use Rattle.desk_laws.specs.Calls.{HasBegun}
 use Rattle.desk_laws.specs.lemmas.Seats.{at-length, begun-book, begun-free, begun-low, begun-same, refused-taken}

@@ -18,17 +18,22 @@ use Rattle.desk_laws.specs.Backing.{Shows, books_of, IsBacked, IsBook, CanFinish
 use Rattle.desk_laws.specs.Calls.{Asks, Does, HasPutBack, MayWork, MayFinish, HasFinished, HasWorked}
 use Rattle.desk_laws.specs.lemmas.Seats.{back-book, back-same, finished-book, finished-same, finished-others, finished-settled}
 use Rattle.desk_laws.specs.lemmas.Works.{worked-step, in-hand, as-granted, worked-book, worked-now}
-use Rattle.desk_laws.specs.lemmas.Begins.{map-set, books-are}
+use Rattle.desk_laws.specs.lemmas.Begins.{in-room, map-set, books-are}
 
 inside : {A : Type 0} (x y : A) → Some x ≡ Some y → x ≡ y
 inside x y e = cc
 
 -- what an index found
-pub found : {G : Type 0} (gs : List (Option G)) (i : ℕ) (there result x : Option G) → i < length gs → there ≡ slice_index_or gs i there → result ≡ there
+found : {G : Type 0} (gs : List (Option G)) (i : ℕ) (there result x : Option G) → i < length gs → there ≡ slice_index_or gs i there → result ≡ there
     → result ≡ x → get_elem? gs i ≡ some x
 found gs i there result x room is same e = at_index gs i there room is ∙ ap some (sym same ∙ e)
 
 module _ {P C R G : Type 0} (shows : Shows G P) (L : Layout) (v : View P (Entry P C R)) (gs : List (Option G)) (i : ℕ) where
+  -- the same at the place of a worker
+  pub found-at : (o : Option (Lent P)) → get_elem? (books_of shows L v gs).lent i ≡ some o → (there result x : Option G)
+      → there ≡ slice_index_or gs i there → result ≡ there → result ≡ x → get_elem? gs i ≡ some x
+  found-at o lent there result x = found gs i there result x (in-room shows L v gs i o lent)
+
   -- what a worker has was lent to it
   pub any-lent : (any : G) → get_elem? gs i ≡ some (Some any) → HasLent (books_of shows L v gs) i (shows L any)
   any-lent any at = at_map (λ g. option_map (shows L) g) gs i (Some any) at

@@ -11,7 +11,7 @@ use Rattle.depot_rule.specs.declared.view.Entry.{Entry}
 use Rattle.depot_rule.specs.Shares.{Has, opening_view}
 use Rattle.depot_rule.specs.History.{Behaviour, by_number, listed, after, entries_of}
 use Rattle.depot.specs.Grants.{IsSeatOf, IsClosed}
-use Rattle.desk_laws.specs.Books.{Lent, Books, HasLent, opening_books}
+use Rattle.desk_laws.specs.Books.{Lent, HasLent, opening_books}
 use Rattle.desk_laws.specs.Backing.{Shows, books_of, IsBook}
 use Rattle.desk_laws.specs.Calls.{AreIdle, AreSettled}
 
@@ -28,7 +28,8 @@ module _ {P C R G : Type 0} (shows : Shows G P) (kind : P → Kind) (L : Layout)
     (made : v ≡ opening_view (parents L) (by_number f (1 + node_count L))) where
   pub opened-so : books_of shows L v (replicate n None) ≡ opening_books L f n
   opened-so = ap (λ (x : View P (Entry P C R)). books_of shows L x (replicate n None)) made
-      ∙ ap (λ (ls : List (Option (Lent P))). record { layout = L; first = listed (by_number f (1 + node_count L)); entries = []; lent = ls }) (map-none (shows L) n)
+      ∙ ap (λ (ls : List (Option (Lent P))). record { layout = L; first = listed (by_number f (1 + node_count L)); entries = []; lent = ls })
+      (map-none (shows L) n)
 
   none-lent-yet : (i : ℕ) (l : Lent P) → HasLent (books_of shows L v (replicate n None)) i l → ⊥
   none-lent-yet i l at = none-at n i l (ap (λ (ls : List (Option (Lent P))). get_elem? ls i) (sym (map-none (shows L) n)) ∙ at)

@@ -1,5 +1,6 @@
 -- What the calls on a depot's only seat do to the books.
-use Rattle.std.proofs.Common.{◌≡◌, ◌≢◌, ℕ, zero, suc, ◌+◌, ◌<◌, Bool, true, false, ◌||◌, List, [], ◌∷◌, ◌++◌, length, set, slice_index_or, arith, Option, Some, None, refl, sym, ap, ◌∙◌, subst, inl, ⊎_elim}
+use Rattle.std.proofs.Common.{◌≡◌, ◌≢◌, ℕ, zero, suc, ◌+◌, ◌<◌, Bool, true, false, ◌||◌, List, [], ◌∷◌, ◌++◌, length, set, slice_index_or, arith}
+use Rattle.std.proofs.Common.{Option, Some, None, refl, sym, ap, ◌∙◌, subst, inl, ⊎_elim}
 use mathlib.Core.Option.{some, some-injective, some-ne-none}
 use lib.ListN.{get_elem?}
 use Rattle.atomic_table.proofs.Lists.{at_set, set_here, set_else}
@@ -13,17 +14,16 @@ use Rattle.affinity_tree.specs.lemmas.Smaller.{length-parents}
 use Rattle.affinity_tree.specs.lemmas.Standing.{parents-tree, number-place, excludes-number, number-excludes}
 use Rattle.parcel_sets.specs.Exact.{HasExactly}
 use Rattle.depot_rule.specs.declared.view.View.{View}
-use Rattle.depot_rule.specs.declared.view.Read.{Read}
 use Rattle.depot_rule.specs.declared.view.Entry.{Entry}
 use Rattle.depot_rule.specs.Shares.{worn, Has}
-use Rattle.depot_rule.specs.History.{Behaviour, AreHands, patched, listed, after, put_in, entries_of}
-use Rattle.depot_rule.specs.Plays.{IsOnly, with_entry}
+use Rattle.depot_rule.specs.History.{Behaviour, AreHands, patched, listed, after, entries_of}
+use Rattle.depot_rule.specs.Plays.{with_entry}
 use Rattle.depot_rule.specs.lemmas.Trees.{cover-excludes, covers-below, above-smaller}
 use Rattle.depot_rule.specs.lemmas.Histories.{after-snoc}
 use Rattle.depot_rule.specs.lemmas.Listed.{by-number-at}
 use Rattle.depot_rule.specs.lemmas.Covering.{patched-in, patched-out}
 use Rattle.depot.specs.Calls.{IsExcluded}
-use Rattle.depot.specs.Grants.{entry_of, IsSeatOf, ListsAs, HasWith, IsBegun, IsAfter, IsEnded, IsFinished}
+use Rattle.depot.specs.Grants.{entry_of, IsSeatOf, IsBegun, IsEnded, IsFinished}
 use Rattle.desk_laws.specs.Books.{Lent, Books, overlaid, settled, now, stamps, HasLent, IsIdle, IsTaken, UnderLent, IsUnchanged, IsSame, IsSettled}
 use Rattle.desk_laws.specs.Backing.{IsBacked, IsBook}
 use Rattle.desk_laws.specs.lemmas.Overlays.{covers-or-not, overlaid-free, overlaid-below, overlaid-set, overlaid-here}
@@ -77,10 +77,12 @@ module _ {P C R : Type 0} (kind : P → Kind) (b : Books P C R) (lawful : fault_
   the-settled k = ap (λ (x : List ℕ × (ℕ → Option P) × List (Entry P C R)). after x.0 x.1 x.2 k) (λ i. (sym h.seat.0 i, h.first i, h.entries i))
 
   -- what two workers were lent covers no node twice
-  pub covered-once : (i j : ℕ) (l m : Lent P) → HasLent b i l → HasLent b j m → j ≢ i → (k : ℕ) → Covers ps (number l.affinity) k → Covers ps (number m.affinity) k → ⊥
+  pub covered-once : (i j : ℕ) (l m : Lent P) → HasLent b i l → HasLent b j m → j ≢ i → (k : ℕ) → Covers ps (number l.affinity) k
+      → Covers ps (number m.affinity) k → ⊥
   covered-once i j l m at there ne k c d =
       false-true (excludes b.layout l.affinity m.affinity) (h.apart i j l m at there (λ e. ne (sym e)))
-      (number-excludes b.layout lawful l.affinity m.affinity (h.backed i l at).node (h.backed j m there).node (cover-excludes ps is-tree (number l.affinity) (number m.affinity) k c d))
+      (number-excludes b.layout lawful l.affinity m.affinity (h.backed i l at).node (h.backed j m there).node
+      (cover-excludes ps is-tree (number l.affinity) (number m.affinity) k c d))
 
   -- the same worker was lent one thing
   one-lent : (i : ℕ) (l m : Lent P) → HasLent b i l → HasLent b i m → l ≡ m
@@ -101,7 +103,8 @@ module _ {P C R : Type 0} (kind : P → Kind) (b : Books P C R) (lawful : fault_
 
   -- ---- a call begins
 
-  module _ (i : ℕ) (idle : IsIdle b i) (a : Affinity) (node : IsNode b.layout a) (f : ℕ → Option P) (exact : HasExactly kind b.layout a f) (w : View P (Entry P C R)) (begun : IsBegun v (number a) f w)
+  module _ (i : ℕ) (idle : IsIdle b i) (a : Affinity) (node : IsNode b.layout a) (f : ℕ → Option P) (exact : HasExactly kind b.layout a f)
+      (w : View P (Entry P C R)) (begun : IsBegun v (number a) f w)
       (same : (k : ℕ) → 0 < k → k < length v.tree → Covers v.tree (number a) k → f k ≡ after v.tree (listed v.first) v.seen k) where
     abbrev l : Lent P
     l = record { affinity = a; parcels = f }
@@ -117,7 +120,8 @@ module _ {P C R : Type 0} (kind : P → Kind) (b : Books P C R) (lawful : fault_
           number taken.1.affinity,
           back.granted.0,
           back.granted.1,
-          subst (λ (t : List ℕ). Excludes t (number a) (number taken.1.affinity)) (sym h.seat.0) (excludes-number b.layout lawful a taken.1.affinity node back.node taken.3),
+          subst (λ (t : List ℕ). Excludes t (number a) (number taken.1.affinity)) (sym h.seat.0)
+              (excludes-number b.layout lawful a taken.1.affinity node back.node taken.3),
         )
 
     pub begun-low : stamps b < worn
@@ -143,7 +147,8 @@ module _ {P C R : Type 0} (kind : P → Kind) (b : Books P C R) (lawful : fault_
     begun-same k = covers-or-not ps (number a) k
         (λ c.
         let place = number-place b.layout a node in
-        let pos : 0 < k = ⊎_elim (λ (e : number a ≡ k). subst (λ (n : ℕ). 0 < n) e place.0) (λ u. let s = above-smaller ps is-tree (number a) k u in (let p : 0 < k = omega arith in p)) c in
+        let pos : 0 < k = ⊎_elim (λ (e : number a ≡ k). subst (λ (n : ℕ). 0 < n) e place.0)
+        (λ u. let s = above-smaller ps is-tree (number a) k u in (let p : 0 < k = omega arith in p)) c in
         let lt : k < length ps = covers-below ps (number a) k pos place.1 c in
         overlaid-here b.layout (set b.lent i (Some l)) i l (settled b) k (set_here b.lent i (Some l) room) c
         (λ j m there ne d. ⊎_elim
@@ -169,7 +174,12 @@ module _ {P C R : Type 0} (kind : P → Kind) (b : Books P C R) (lawful : fault_
         (λ (t : (j ≡ i) × (Some l ≡ Some m)). subst (λ (x : Lent P). IsBacked kind b.layout u x) (inner-same l m t.1) (record {
           node = node;
           exact = exact;
-          granted = (begun.0, set_here v.held (number a) (Some begun.0) (at-length v.held (number a) None begun.5), λ k pos lt c. begun.4 k pos lt c ∙ same k pos lt c);
+          granted = (
+            begun.0,
+            set_here v.held (number a) (Some begun.0) (at-length v.held (number a) None begun.5),
+            λ k pos lt c. begun.4 k pos lt c
+                ∙ same k pos lt c,
+          );
         }))
         (λ (t : (j ≢ i) × (get_elem? b.lent j ≡ some (Some m))). let back = h.backed j m t.1 in record {
           node = back.node;
@@ -190,10 +200,12 @@ module _ {P C R : Type 0} (kind : P → Kind) (b : Books P C R) (lawful : fault_
     begun-apart j k x y at there ne = ⊎_elim
         (λ (s : (j ≡ i) × (Some l ≡ Some x)). ⊎_elim
         (λ (t : (k ≡ i) × (Some l ≡ Some y)). absurd (ne (s.0 ∙ sym t.0)))
-        (λ (t : (k ≢ i) × (get_elem? b.lent k ≡ some (Some y))). subst (λ (z : Lent P). excludes b.layout z.affinity y.affinity ≡ false) (inner-same l x s.1) (apart-new k y t.1))
+        (λ (t : (k ≢ i) × (get_elem? b.lent k ≡ some (Some y))). subst (λ (z : Lent P). excludes b.layout z.affinity y.affinity ≡ false) (inner-same l x s.1)
+        (apart-new k y t.1))
         (at_set b.lent i k (Some l) (Some y) there))
         (λ (s : (j ≢ i) × (get_elem? b.lent j ≡ some (Some x))). ⊎_elim
-        (λ (t : (k ≡ i) × (Some l ≡ Some y)). excludes-turned b.layout x.affinity y.affinity ∙ subst (λ (z : Lent P). excludes b.layout z.affinity x.affinity ≡ false) (inner-same l y t.1) (apart-new j x s.1))
+        (λ (t : (k ≡ i) × (Some l ≡ Some y)). excludes-turned b.layout x.affinity y.affinity
+        ∙ subst (λ (z : Lent P). excludes b.layout z.affinity x.affinity ≡ false) (inner-same l y t.1) (apart-new j x s.1))
         (λ (t : (k ≢ i) × (get_elem? b.lent k ≡ some (Some y))). h.apart j k x y s.1 t.1 ne)
         (at_set b.lent i k (Some l) (Some y) there))
         (at_set b.lent i j (Some l) (Some x) at)
@@ -224,7 +236,8 @@ module _ {P C R : Type 0} (kind : P → Kind) (b : Books P C R) (lawful : fault_
   -- ---- a call ends: what it was lent is home again, and the finished calls left it as it is
 
   module _ (i : ℕ) (l : Lent P) (lent : HasLent b i l) (c : Books P C R) (w : View P (Entry P C R))
-      (layout : c.layout ≡ b.layout) (idle : c.lent ≡ set b.lent i None) (tree : w.tree ≡ v.tree) (first : w.first ≡ v.first) (first_same : c.first ≡ b.first) (parts : w.parts ≡ v.parts)
+      (layout : c.layout ≡ b.layout) (idle : c.lent ≡ set b.lent i None) (tree : w.tree ≡ v.tree) (first : w.first ≡ v.first) (first_same : c.first ≡ b.first)
+      (parts : w.parts ≡ v.parts)
       (held : w.held ≡ set v.held (number l.affinity) None) (entries : c.entries ≡ w.seen) (own : entries_of w ≡ w.seen)
       (there : (k : ℕ) → Covers ps (number l.affinity) k → after ps b.first c.entries k ≡ l.parcels k)
       (others : (k : ℕ) → (Covers ps (number l.affinity) k → ⊥) → after ps b.first c.entries k ≡ settled b k) where
@@ -246,7 +259,8 @@ module _ {P C R : Type 0} (kind : P → Kind) (b : Books P C R) (lawful : fault_
         ∙ overlaid-free b.layout (set b.lent i None) (settled c) k (λ j m at e. let t = left j m at in covered-once i j l m lent t.1 t.0 k d e)
         ∙ settled-new k ∙ there k d ∙ sym (lent-now i l lent k d))
         (λ out. now-new k
-        ∙ overlaid-set b.layout b.lent i None (Some l) (settled c) k lent (λ m e d. out (subst (λ (x : Lent P). Covers ps (number x.affinity) k) (sym (inner-same l m e)) d)) (λ m e d. none-some m e)
+        ∙ overlaid-set b.layout b.lent i None (Some l) (settled c) k lent
+        (λ m e d. out (subst (λ (x : Lent P). Covers ps (number x.affinity) k) (sym (inner-same l m e)) d)) (λ m e d. none-some m e)
         ∙ overlaid-below b.layout b.lent (settled c) (settled b) k (settled-new k ∙ others k out))
 
     other-number : (j : ℕ) (m : Lent P) → HasLent b j m → j ≢ i → number m.affinity ≢ number l.affinity
@@ -261,7 +275,8 @@ module _ {P C R : Type 0} (kind : P → Kind) (b : Books P C R) (lawful : fault_
           exact = back.exact;
           granted = (
             back.granted.0,
-            ap (λ (hs : List (Option (List (Option P)))). get_elem? hs (number m.affinity)) held ∙ set_else v.held (number l.affinity) (number m.affinity) None (other-number j m t.1 t.0) ∙ back.granted.1,
+            ap (λ (hs : List (Option (List (Option P)))). get_elem? hs (number m.affinity)) held
+                ∙ set_else v.held (number l.affinity) (number m.affinity) None (other-number j m t.1 t.0) ∙ back.granted.1,
             λ k pos lt d.
                 let lt' : k < length v.tree = subst (λ (x : List ℕ). k < length x) tree lt in
                 let d' : Covers v.tree (number m.affinity) k = subst (λ (x : List ℕ). Covers x (number m.affinity) k) tree d in
@@ -269,7 +284,8 @@ module _ {P C R : Type 0} (kind : P → Kind) (b : Books P C R) (lawful : fault_
                 back.granted.2 k pos lt' d'
                 ∙ sym (the-settled k)
                 ∙ sym (others k (λ e. covered-once i j l m lent t.1 t.0 k e cover))
-                ∙ ap (λ (x : List ℕ × (ℕ → Option P) × List (Entry P C R)). after x.0 x.1 x.2 k) (λ n. ((sym h.seat.0 ∙ sym tree) n, (h.first ∙ ap (λ (xs : List (Option P)). listed xs) (sym first)) n, entries n)),
+                ∙ ap (λ (x : List ℕ × (ℕ → Option P) × List (Entry P C R)). after x.0 x.1 x.2 k)
+                (λ n. ((sym h.seat.0 ∙ sym tree) n, (h.first ∙ ap (λ (xs : List (Option P)). listed xs) (sym first)) n, entries n)),
           );
         }
 
@@ -278,13 +294,18 @@ module _ {P C R : Type 0} (kind : P → Kind) (b : Books P C R) (lawful : fault_
         (λ (t : (n ≡ number l.affinity) × (None ≡ Some g)). absurd (none-some g t.1))
         (λ (t : (n ≢ number l.affinity) × (get_elem? v.held n ≡ some (Some g))).
         let old = h.all n g t.1 in
-        let ne : old.0 ≢ i = λ e. t.0 (sym old.3 ∙ ap (λ (x : Lent P). number x.affinity) (one-lent i old.1 l (subst (λ (j : ℕ). get_elem? b.lent j ≡ some (Some old.1)) e old.2) lent)) in
+        let ne : old.0 ≢ i = λ e. t.0 (sym old.3 ∙ ap (λ (x : Lent P). number x.affinity)
+        (one-lent i old.1 l (subst (λ (j : ℕ). get_elem? b.lent j ≡ some (Some old.1)) e old.2) lent)) in
         (old.0, old.1, ap (λ (ls : List (Option (Lent P))). get_elem? ls old.0) idle ∙ set_else b.lent i old.0 None ne ∙ old.2, old.3))
         (at_set v.held (number l.affinity) n None (Some g) (ap (λ (hs : List (Option (List (Option P)))). get_elem? hs n) (sym held) ∙ has))
 
     pub ended-book : IsBook kind c w
     ended-book = record {
-      seat = subst (λ (y : Layout). IsSeatOf kind y w) (sym layout) (tree ∙ h.seat.0, λ node parcel m at. h.seat.1 node parcel m (ap (λ (xs : List (Option P)). slice_index_or xs (number_of b.layout node) None) (sym first) ∙ at));
+      seat = subst (λ (y : Layout). IsSeatOf kind y w) (sym layout) (
+        tree ∙ h.seat.0,
+        λ node parcel m at. h.seat.1 node parcel m
+            (ap (λ (xs : List (Option P)). slice_index_or xs (number_of b.layout node) None) (sym first) ∙ at),
+      );
       only = parts ∙ h.only;
       first = first_same ∙ h.first ∙ ap (λ (xs : List (Option P)). listed xs) (sym first);
       entries = entries;
@@ -306,13 +327,15 @@ module _ {P C R : Type 0} (kind : P → Kind) (b : Books P C R) (lawful : fault_
     back-there k d = let p = positive l i lent k d in sym (unchanged k p.0 p.1 d)
 
     pub back-same : IsSame b back_books
-    back-same = ended-same i l lent back_books w refl refl (ap (λ (x : View P (Entry P C R)). x.tree) ended.2) (ap (λ (x : View P (Entry P C R)). x.first) ended.2) refl (ap (λ (x : View P (Entry P C R)). x.parts) ended.2)
+    back-same = ended-same i l lent back_books w refl refl (ap (λ (x : View P (Entry P C R)). x.tree) ended.2)
+        (ap (λ (x : View P (Entry P C R)). x.first) ended.2) refl (ap (λ (x : View P (Entry P C R)). x.parts) ended.2)
         (ap (λ (x : View P (Entry P C R)). x.held) ended.2) (h.entries ∙ ap (λ (x : View P (Entry P C R)). x.seen) (sym ended.2))
         (ap (λ (x : View P (Entry P C R)). entries_of x) ended.2 ∙ h.own ∙ ap (λ (x : View P (Entry P C R)). x.seen) (sym ended.2))
         back-there (λ k out. refl)
 
     pub back-book : IsBook kind back_books w
-    back-book = ended-book i l lent back_books w refl refl (ap (λ (x : View P (Entry P C R)). x.tree) ended.2) (ap (λ (x : View P (Entry P C R)). x.first) ended.2) refl (ap (λ (x : View P (Entry P C R)). x.parts) ended.2)
+    back-book = ended-book i l lent back_books w refl refl (ap (λ (x : View P (Entry P C R)). x.tree) ended.2)
+        (ap (λ (x : View P (Entry P C R)). x.first) ended.2) refl (ap (λ (x : View P (Entry P C R)). x.parts) ended.2)
         (ap (λ (x : View P (Entry P C R)). x.held) ended.2) (h.entries ∙ ap (λ (x : View P (Entry P C R)). x.seen) (sym ended.2))
         (ap (λ (x : View P (Entry P C R)). entries_of x) ended.2 ∙ h.own ∙ ap (λ (x : View P (Entry P C R)). x.seen) (sym ended.2))
         back-there (λ k out. refl)
@@ -327,7 +350,14 @@ module _ {P C R : Type 0} (kind : P → Kind) (b : Books P C R) (lawful : fault_
     finished_books = record b { entries = b.entries ++ e ∷ []; lent = set b.lent i None }
 
     abbrev at_end : List (Entry P C R) → View P (Entry P C R)
-    at_end seen = record v { stamped = 0; held = set v.held (number l.affinity) None; gone = finished.0; reads = finished.1 ++ v.reads; seen = seen ++ e ∷ []; mine = v.mine ++ length seen ∷ [] }
+    at_end seen = record v {
+      stamped = 0;
+      held = set v.held (number l.affinity) None;
+      gone = finished.0;
+      reads = finished.1 ++ v.reads;
+      seen = seen ++ e ∷ [];
+      mine = v.mine ++ length seen ∷ [];
+    }
 
     between-none : v.seen ++ finished.2 ≡ v.seen
     between-none = ap (λ (es : List (Entry P C R)). v.seen ++ es) (finished.4.3 h.only) ∙ append-nil v.seen
@@ -356,11 +386,13 @@ module _ {P C R : Type 0} (kind : P → Kind) (b : Books P C R) (lawful : fault_
     entries-is = ap (λ (es : List (Entry P C R)). es ++ e ∷ []) h.entries ∙ sym seen-is
 
     pub finished-same : IsSame b finished_books
-    finished-same = ended-same i l lent finished_books w refl refl (ap (λ (x : View P (Entry P C R)). x.tree) w-is) (ap (λ (x : View P (Entry P C R)). x.first) w-is) refl (ap (λ (x : View P (Entry P C R)). x.parts) w-is)
+    finished-same = ended-same i l lent finished_books w refl refl (ap (λ (x : View P (Entry P C R)). x.tree) w-is)
+        (ap (λ (x : View P (Entry P C R)). x.first) w-is) refl (ap (λ (x : View P (Entry P C R)). x.parts) w-is)
         (ap (λ (x : View P (Entry P C R)). x.held) w-is) entries-is own-is put-there put-others
 
     pub finished-book : IsBook kind finished_books w
-    finished-book = ended-book i l lent finished_books w refl refl (ap (λ (x : View P (Entry P C R)). x.tree) w-is) (ap (λ (x : View P (Entry P C R)). x.first) w-is) refl (ap (λ (x : View P (Entry P C R)). x.parts) w-is)
+    finished-book = ended-book i l lent finished_books w refl refl (ap (λ (x : View P (Entry P C R)). x.tree) w-is)
+        (ap (λ (x : View P (Entry P C R)). x.first) w-is) refl (ap (λ (x : View P (Entry P C R)). x.parts) w-is)
         (ap (λ (x : View P (Entry P C R)). x.held) w-is) entries-is own-is put-there put-others
 
     -- under what other workers have, all is as it was
@@ -371,6 +403,8 @@ module _ {P C R : Type 0} (kind : P → Kind) (b : Books P C R) (lawful : fault_
     pub finished-settled : IsSettled m finished_books
     finished-settled =
         let t = finished.4.1 (with_entry v finished.2 e).seen [] (append-nil (with_entry v finished.2 e).seen) in
-        let is : (with_entry v finished.2 e).seen ≡ b.entries ++ e ∷ [] = ap (λ (es : List (Entry P C R)). es ++ e ∷ []) between-none ∙ ap (λ (es : List (Entry P C R)). es ++ e ∷ []) (sym h.entries) in
-        subst (λ (x : List ℕ × (ℕ → Option P) × List (Entry P C R)). (hands : List B) × AreHands m.takes m.gives x.2 hands × m.invariant x.0 (after x.0 x.1 x.2) hands (length x.2))
+        let is : (with_entry v finished.2 e).seen ≡ b.entries ++ e ∷ [] = ap (λ (es : List (Entry P C R)). es ++ e ∷ []) between-none
+        ∙ ap (λ (es : List (Entry P C R)). es ++ e ∷ []) (sym h.entries) in
+        subst (λ (x : List ℕ × (ℕ → Option P) × List (Entry P C R)). (hands : List B) × AreHands m.takes m.gives x.2 hands
+        × m.invariant x.0 (after x.0 x.1 x.2) hands (length x.2))
         (λ j. (h.seat.0 j, sym h.first j, is j)) t

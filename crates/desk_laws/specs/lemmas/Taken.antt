@@ -1,5 +1,6 @@
 -- Whether something is lent that excludes an affinity, found by going over the grants.
-use Rattle.std.proofs.Common.{◌≡◌, ℕ, zero, suc, ◌+◌, ◌<◌, ◌≤◌, Bool, true, false, List, [], ◌∷◌, length, map, arith, Option, Some, None, refl, sym, ap, ◌∙◌, subst}
+use Rattle.std.proofs.Common.{◌≡◌, ℕ, zero, suc, ◌+◌, ◌<◌, ◌≤◌, Bool, true, false, List, [], ◌∷◌, length, map, arith, Option, Some, None, refl, sym}
+use Rattle.std.proofs.Common.{ap, ◌∙◌, subst}
 use Rattle.std.specs.Prelude.{◌↔◌, option_map, slice_index_or, is_some, not}
 use mathlib.Core.Option.{some, some-injective, some-ne-none}
 use mathlib.Core.Logic.{dite}
@@ -9,7 +10,7 @@ use Rattle.atomic_table.proofs.Lists.{at_map, at_index}
 use Rattle.nfs_model.specs.Tree.{Layout, Affinity, excludes}
 use Rattle.depot_rule.specs.declared.view.View.{View}
 use Rattle.depot_rule.specs.declared.view.Entry.{Entry}
-use Rattle.desk_laws.specs.Books.{Lent, Books, IsIdle, IsTaken}
+use Rattle.desk_laws.specs.Books.{Lent, IsIdle, IsTaken}
 use Rattle.desk_laws.specs.Backing.{Shows, books_of, excludes_lent, IsTakenIn}
 use Rattle.desk_laws.specs.lemmas.Seats.{at-length}
 

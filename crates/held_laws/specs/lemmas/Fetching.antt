@@ -218,7 +218,9 @@ module _ (p : VolumeContents) (r : ℕ) (on : r < length p.ranges) (hands hands'
           (
             carried-fresh v blocks ∙ ap length (sym same),
             λ j. record {
-              parts = record (parts_of p) { free = (free-next v numbered moved ∙ ap (λ (bs : List ℕ). difference (free_in p.ranges) (from_list bs)) (sym same)) j };
+              parts = record (parts_of p) {
+                free = (free-next v numbered moved ∙ ap (λ (bs : List ℕ). difference (free_in p.ranges) (from_list bs)) (sym same)) j;
+              };
               hand = fresh_hand v (sym same j);
             },
           ),

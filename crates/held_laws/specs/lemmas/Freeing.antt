@@ -56,7 +56,8 @@ or-not true b e = refl
 or-not false b e = e
 
 module _ (p : VolumeContents) (r : ℕ) (on : r < length p.ranges) (v : ℕ) (numbered : p.number ≡ v) (blocks : List ℕ) (some : 0 < length blocks)
-    (batch : IsBatch r blocks) (hands hands' : List Hand) (made : ℕ) (sound : IsSound p hands made) (moved : HandsMove [] (Dead v blocks ∷ []) hands hands') where
+    (batch : IsBatch r blocks) (hands hands' : List Hand) (made : ℕ) (sound : IsSound p hands made)
+    (moved : HandsMove [] (Dead v blocks ∷ []) hands hands') where
   abbrev x : RangeValue
   x = range_at p.ranges r
 

@@ -1,5 +1,4 @@
-use Rattle.std.proofs.Common.{◌≡◌, ◌+◌, [], refl, Some, None, arith}
-use Rattle.desk_laws.specs.Calls.{HasWorked}
+use Rattle.std.proofs.Common.{[], refl, Some, None, arith}
 use Rattle.desk_laws.specs.lemmas.Beside.{still-fresh, work-lent, work-done}
 use Rattle.depot_trial.specs.declared.adding.Change.TheVariants.{Add}
 use Rattle.desk.specs.Words.{books, machine_in}
@@ -11,7 +10,7 @@ finish-requires-clause-may c =
     let old = books c.args.desk.now in
     let new = books c.work.new.self in
     let h = c.in-Some.ensures.worked in
-    let does = Adds (record { number = c.args.number }) in
+    let does = Adds c.args.number in
     record {
       lent = record { affinity = h.lent.affinity; parcels = h.parcels };
       is_lent = work-lent old c.args.worker does (Some c.in-Some.sum) new c.requires.fresh h;
@@ -26,4 +25,4 @@ finish-requires-clause-may c =
 pub put_back-requires-clause-may : goal.put_back-requires-clause-may
 put_back-requires-clause-may c =
     let h = c.in-None.ensures.worked in
-    still-fresh (books c.args.desk.now) c.args.worker (Adds (record { number = c.args.number })) None (books c.work.new.self) c.requires.fresh h h.did
+    still-fresh (books c.args.desk.now) c.args.worker (Adds c.args.number) None (books c.work.new.self) c.requires.fresh h h.did

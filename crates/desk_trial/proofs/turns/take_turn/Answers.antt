@@ -1,6 +1,5 @@
-use Rattle.std.proofs.Common.{◌≡◌, rules, None, sym}
+use Rattle.std.proofs.Common.{rules, None, sym}
 use Rattle.std.specs.Prelude.{slice_index_or}
-use Rattle.affinity_tree.specs.Affinity.{affinity_of}
 use Rattle.desk_laws.specs.lemmas.Beside.{lent-else, begun-fresh}
 use Rattle.desk.specs.Words.{books}
 use Rattle.desk_trial.proofs.turns.take_turn.Goals as goal

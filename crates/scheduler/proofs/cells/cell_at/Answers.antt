@@ -22,4 +22,5 @@ loop-cell-preserved g c =
 
 pub returns-then-left-eq0-clause-there : goal.returns-then-left-eq0-clause-there
 returns-then-left-eq0-clause-there g c =
-    message-at c.args.messages.now c.loop-cell.cell c.index-messages-cell.result (search rules) c.index-messages-cell.is (sym c.is_some.ensures ∙ c.if-is_some.true)
+    message-at c.args.messages.now c.loop-cell.cell c.index-messages-cell.result (search rules) c.index-messages-cell.is
+    (sym c.is_some.ensures ∙ c.if-is_some.true)

@@ -1,5 +1,5 @@
-use Rattle.std.proofs.Common.{◌≡◌, ◌+◌, ◌<◌, ◌≤◌, ◌-◌, [], length, map, take, Some}
-use Rattle.scheduler.specs.Kept.{present, lines_of}
+use Rattle.std.proofs.Common.{◌≡◌, ◌≤◌, ◌-◌, [], length, take}
+use Rattle.scheduler.specs.Kept.{present}
 use Rattle.scheduler.proofs.cells.first_used.Given as goal
 
 abbrev pub invariant-loop-cell : goal.invariant-loop-cell

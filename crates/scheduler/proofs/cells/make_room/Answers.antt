@@ -1,5 +1,4 @@
-use Rattle.std.proofs.Common.{arith, rules, subst, sym, ◌∙◌, List, Option, ap, length}
-use Rattle.scheduler.specs.Kept.{HaveQueues}
+use Rattle.std.proofs.Common.{arith, ◌∙◌}
 use Rattle.scheduler.proofs.Seated.{packed-present, packed-queues, packed-length, packed-lined}
 use Rattle.scheduler.proofs.cells.make_room.Goals as goal
 
@@ -18,7 +17,8 @@ returns-clause-messages g c = packed-present c.args.messages.now.items c.drop_va
 
 pub returns-clause-lined : goal.returns-clause-lined
 returns-clause-lined g c =
-    packed-lined c.args.messages.now.items c.drop_vacant.new.messages.items c.deref.result.now c.renumber.new.lines c.drop_vacant.ensures.messages c.deref.ensures.value
+    packed-lined c.args.messages.now.items c.drop_vacant.new.messages.items c.deref.result.now c.renumber.new.lines c.drop_vacant.ensures.messages
+    c.deref.ensures.value
     c.renumber.ensures
 
 pub returns-clause-queues : goal.returns-clause-queues

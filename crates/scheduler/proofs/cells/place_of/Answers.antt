@@ -1,4 +1,4 @@
-use Rattle.std.proofs.Common.{arith, rules, ap, subst, sym, ◌∙◌, ◌+◌, ◌≡◌, ℕ, length, take}
+use Rattle.std.proofs.Common.{arith, rules, ap, sym, ◌∙◌, ◌+◌, ◌≡◌, ℕ, length, take}
 use Rattle.scheduler.specs.Kept.{present}
 use Rattle.scheduler.proofs.Present.{count-more, count-below, used-after}
 use Rattle.scheduler.proofs.cells.place_of.Goals as goal

@@ -1,4 +1,4 @@
-use Rattle.std.proofs.Common.{◌≡◌, ◌+◌, ◌<◌, ◌≤◌, ◌-◌, [], length, map, take, Some}
+use Rattle.std.proofs.Common.{◌≡◌, map, take, Some}
 use Rattle.scheduler.specs.Kept.{present, lines_of}
 use Rattle.scheduler.proofs.cells.renumber.Given as goal
 

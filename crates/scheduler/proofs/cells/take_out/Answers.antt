@@ -1,4 +1,3 @@
-use Rattle.std.proofs.Common.{rules}
 use Rattle.scheduler.proofs.Seated.{line-at, lines-set, taken-is, not-none}
 use Rattle.scheduler.proofs.cells.take_out.Goals as goal
 

@@ -1,4 +1,4 @@
-use Rattle.std.proofs.Common.{◌≡◌, ◌⊎◌, ℕ, ◌<◌, ◌≤◌, None, length, arith, ⊎_elim}
+use Rattle.std.proofs.Common.{◌≡◌, ◌⊎◌, ℕ, ◌<◌, ◌≤◌, length, arith, ⊎_elim}
 use Rattle.nfs_model.specs.Tree.{Affinity, Layout, Serial, Aggregate, Volume, Logical, Stripe, Vbn, Range, stripes_of}
 use Rattle.affinity_tree.specs.Tree.{IsNode}
 use Rattle.scheduler.specs.QueueNumber.{HasQueue}

@@ -1,4 +1,4 @@
-use Rattle.std.proofs.Common.{◌<◌, ◌≤◌, ℕ, length}
+use Rattle.std.proofs.Common.{◌<◌, ◌≤◌, ℕ}
 use Rattle.scheduler.specs.Lines.{IsIn}
 use Rattle.scheduler.proofs.lines.last_below.Given as goal
 

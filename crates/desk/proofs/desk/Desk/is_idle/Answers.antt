@@ -1,4 +1,4 @@
-use Rattle.std.proofs.Common.{◌≡◌, ◌<◌, length, arith}
+use Rattle.std.proofs.Common.{◌<◌, length, arith}
 use Rattle.depot.specs.Words.{layout_in, view}
 use Rattle.desk_laws.specs.lemmas.Begins.{in-room}
 use Rattle.desk_laws.specs.lemmas.Taken.{said-idle}

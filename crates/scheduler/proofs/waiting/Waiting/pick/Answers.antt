@@ -22,7 +22,8 @@ invariant_of-self g c =
           (message-there s.messages.items c.deref_mut.result.now cell out.result c.deref_mut.ensures.value out.ensures.message)
           (written s.messages.len cell s.messages.items c.deref_mut.result.now out.new.messages (search rules) c.deref_mut.ensures.value out.ensures.messages)
           c.deref-2.ensures.value
-          (lined-again s.messages.items c.deref_mut.result.now out.new.messages out.new.lines cell c.deref_mut.ensures.value out.ensures.messages out.ensures.lined)
+          (lined-again s.messages.items c.deref_mut.result.now out.new.messages out.new.lines cell c.deref_mut.ensures.value out.ensures.messages
+          out.ensures.lined)
           c.first_used-self-inside.ensures.within c.first_used-self-inside.ensures.vacant,
       c.self.invariant.1,
     )
@@ -32,13 +33,16 @@ returns-clause-message g c =
     let s = c.self.inside in
     let out = c.take_out-message in
     picked s.messages.items c.deref.result.now c.args.self.now c.cell_at-cell.result c.args.place out.result c.self.view_is c.deref.ensures.value
-    (message-there s.messages.items c.deref_mut.result.now c.cell_at-cell.result out.result c.deref_mut.ensures.value out.ensures.message) c.cell_at-cell.ensures.place
+    (message-there s.messages.items c.deref_mut.result.now c.cell_at-cell.result out.result c.deref_mut.ensures.value out.ensures.message)
+    c.cell_at-cell.ensures.place
 
 pub returns-clause-rest : goal.returns-clause-rest
 returns-clause-rest g c =
     let s = c.self.inside in
     let out = c.take_out-message in
     rest s.messages.items _ c.deref.result.now c.args.self.now c.cell_at-cell.result c.args.place out.result c.self.view_is
-    (written s.messages.len c.cell_at-cell.result s.messages.items c.deref_mut.result.now out.new.messages (search rules) c.deref_mut.ensures.value out.ensures.messages)
+    (written s.messages.len c.cell_at-cell.result s.messages.items c.deref_mut.result.now out.new.messages (search rules) c.deref_mut.ensures.value
+    out.ensures.messages)
     c.deref.ensures.value
-    (message-there s.messages.items c.deref_mut.result.now c.cell_at-cell.result out.result c.deref_mut.ensures.value out.ensures.message) c.cell_at-cell.ensures.place
+    (message-there s.messages.items c.deref_mut.result.now c.cell_at-cell.result out.result c.deref_mut.ensures.value out.ensures.message)
+    c.cell_at-cell.ensures.place

@@ -1,4 +1,4 @@
-use Rattle.std.proofs.Common.{arith, rules, ◌∙◌, refl}
+use Rattle.std.proofs.Common.{rules, ◌∙◌, refl}
 use Rattle.scheduler.proofs.Taken.{written, still-vacant, taken, lined-again, message-there, none-first, cell-first, cell-within, some-there, takes-front}
 use Rattle.scheduler.proofs.waiting.Waiting.pick_front.Goals as goal
 
@@ -14,13 +14,15 @@ returns-in_err-cell g c =
 pub take_out-message-requires-clause-there : goal.take_out-message-requires-clause-there
 take_out-message-requires-clause-there g c =
     let s = c.self.inside in
-    rw c.deref_mut.ensures.value (cell-first s.messages.items s.lines s.count s.start c.queue_of.result c.in_ok-cell.cell c.first.result c.self.invariant.0 c.first.ensures
+    rw c.deref_mut.ensures.value (cell-first s.messages.items s.lines s.count s.start c.queue_of.result c.in_ok-cell.cell c.first.result c.self.invariant.0
+    c.first.ensures
     c.in_ok-cell.was)
 
 pub take_out-message-requires-clause-within : goal.take_out-message-requires-clause-within
 take_out-message-requires-clause-within g c =
     let s = c.self.inside in
-    rw c.deref_mut.ensures.value (cell-within s.messages.items c.in_ok-cell.cell (cell-first s.messages.items s.lines s.count s.start c.queue_of.result c.in_ok-cell.cell
+    rw c.deref_mut.ensures.value (cell-within s.messages.items c.in_ok-cell.cell
+    (cell-first s.messages.items s.lines s.count s.start c.queue_of.result c.in_ok-cell.cell
     c.first.result c.self.invariant.0 c.first.ensures c.in_ok-cell.was))
 
 pub overflow_sub-self : goal.overflow_sub-self
@@ -46,7 +48,8 @@ invariant_of-self g c =
           (message-there s.messages.items c.deref_mut.result.now cell out.result c.deref_mut.ensures.value out.ensures.message)
           (written s.messages.len cell s.messages.items c.deref_mut.result.now out.new.messages (search rules) c.deref_mut.ensures.value out.ensures.messages)
           c.deref.ensures.value
-          (lined-again s.messages.items c.deref_mut.result.now out.new.messages out.new.lines cell c.deref_mut.ensures.value out.ensures.messages out.ensures.lined)
+          (lined-again s.messages.items c.deref_mut.result.now out.new.messages out.new.lines cell c.deref_mut.ensures.value out.ensures.messages
+          out.ensures.lined)
           c.first_used-self-inside.ensures.within c.first_used-self-inside.ensures.vacant,
       c.self.invariant.1,
     )

@@ -1,0 +1,41 @@
+//! A desk at the end.
+
+use crate::desk::Desk;
+use crate::kinds::NodeKinds;
+use depot_rule::machine::Machine;
+use parcel_sets::Node;
+
+impl<M: Machine, K: NodeKinds<M::Parcel>> Desk<M, K>
+where
+    <K::Range as Node<M::Parcel>>::Held: Drop,
+    <K::Vbn as Node<M::Parcel>>::Held: Drop,
+    <K::Stripe as Node<M::Parcel>>::Held: Drop,
+    <K::Logical as Node<M::Parcel>>::Held: Drop,
+    <K::Volume as Node<M::Parcel>>::Held: Drop,
+    <K::Aggregate as Node<M::Parcel>>::Held: Drop,
+    <K::Serial as Node<M::Parcel>>::Held: Drop,
+{
+    ghost use Rattle.nfs_model.specs.Tree as trees;
+    ghost use Rattle.parcel_sets.specs.Exact.{HasExactly};
+    ghost use Rattle.depot.specs.Words.{all_parcels};
+    ghost use Rattle.desk_laws.specs.Calls.{AreIdle, AreSettled};
+    ghost use Rattle.desk.specs.Words.{books, IsKept};
+
+    /// Ends the desk, whose workers are idle. All parcels come back, as the finished calls left
+    /// them.
+    pub fn close(self) -> <K::Serial as Node<M::Parcel>>::Held
+        requires kept { IsKept self }
+        requires idle { AreIdle (books self) }
+        ensures exact { let L = (books self).layout in
+            HasExactly M.Parcel.kind L trees.Serial (all_parcels K.Serial.parcels L result) }
+        ensures settled { let L = (books self).layout in
+            AreSettled (books self) (all_parcels K.Serial.parcels L result) }
+    {
+        let Desk {
+            depot,
+            seat,
+            grants: _,
+        } = self;
+        depot.close::<K::Serial>(seat)
+    }
+}
