@@ -24,10 +24,11 @@ use Rattle.held_state.specs.Jobs.{InnerCall, Job, Serve, Inner, JobReply, takes,
 use Rattle.held_state.specs.Deeds.{Does, FilerSteps}
 use Rattle.held_state.specs.Replayed.{calls_of, replies_of, Replays}
 use Rattle.held_state.specs.Lenses.{with_contents, stripe_lens, range_lens, vbn_lens, logical_lens, volume_lens, aggregate_lens, serial_lens, in_volume}
-use Rattle.held_state.specs.Promises.{IsLaidOut, IsRight, IsSeenBy}
+use Rattle.held_state.specs.Promises.{HasVolume, HasAll, IsLaidOut, IsRight, IsSeenBy}
+use Rattle.held_state.specs.Running.{HasFiler}
 use Rattle.held_state.specs.Calls.{VolumeCall, IsCallOn, ServesOn, DoesInnerOn, finished_as}
 use Rattle.held_state.specs.Sets.{FilerRange, FilerStripe, FilerVbn, FilerLogical, FilerVolume, FilerAggregate, FilerSerial}
-use Rattle.held_state.specs.Sets.{vbn_set, logical_set, volume_set, aggregate_set, serial_set}
+use Rattle.held_state.specs.Sets.{vbn_set, logical_set, volume_set, logical_before, volume_before, aggregate_set, serial_set}
 use Rattle.held_state.specs.Opening.{AreOpening}
 use Rattle.held_state.specs.Commute.{Commute}
 
@@ -121,6 +122,43 @@ module _ (P : Type 0) where
   abbrev pub RootsAreSeen : Type 0
   RootsAreSeen = (layout : Layout) → fault_of layout ≡ None → (held : FilerSerial P)
       → IsSeenBy layout Serial serial_lens (serial_parcels layout Serial held) (serial_set layout held)
+
+  -- ---- grants: what is granted of a sound filer is a part of some sound whole, which is what a handler has to know
+
+  abbrev pub StripesAreKnown : Type 0
+  StripesAreKnown = (layout : Layout) → fault_of layout ≡ None → (given : List Hand) → (v i : ℕ) → v < length layout.volumes → i < stripes_of layout v
+      → (held : FilerStripe P) → HasFiler layout (Stripe v i) given (stripe_parcels layout (Stripe v i) held)
+      → HasVolume v (stripe_lens i) given held.own
+
+  abbrev pub RangesAreKnown : Type 0
+  RangesAreKnown = (layout : Layout) → fault_of layout ≡ None → (given : List Hand) → (v r : ℕ) → v < length layout.volumes → r < 16 → (held : FilerRange P)
+      → HasFiler layout (Range v r) given (range_parcels layout (Range v r) held)
+      → HasVolume v (range_lens r) given held.own
+
+  abbrev pub VbnsAreKnown : Type 0
+  VbnsAreKnown = (layout : Layout) → fault_of layout ≡ None → (given : List Hand) → (v : ℕ) → v < length layout.volumes → (held : FilerVbn P)
+      → HasFiler layout (Vbn v) given (vbn_parcels layout (Vbn v) held)
+      → HasVolume v vbn_lens given (vbn_set held)
+
+  abbrev pub LogicalsAreKnown : Type 0
+  LogicalsAreKnown = (layout : Layout) → fault_of layout ≡ None → (given : List Hand) → (v : ℕ) → v < length layout.volumes → (held : FilerLogical P)
+      → HasFiler layout (Logical v) given (logical_parcels layout (Logical v) held)
+      → (held.own.stripes ≡ stripes_of layout v) × HasVolume v logical_lens given (logical_before held)
+
+  abbrev pub VolumesAreKnown : Type 0
+  VolumesAreKnown = (layout : Layout) → fault_of layout ≡ None → (given : List Hand) → (v : ℕ) → v < length layout.volumes → (held : FilerVolume P)
+      → HasFiler layout (Volume v) given (volume_parcels layout (Volume v) held)
+      → (held.logical.own.stripes ≡ stripes_of layout v) × HasVolume v volume_lens given (volume_before held)
+
+  abbrev pub AggregatesAreKnown : Type 0
+  AggregatesAreKnown = (layout : Layout) → fault_of layout ≡ None → (given : List Hand) → (a : ℕ) → a < length layout.spare → (held : FilerAggregate P)
+      → HasFiler layout (Aggregate a) given (aggregate_parcels layout (Aggregate a) held)
+      → HasAll layout (aggregate_lens a) given (aggregate_set layout a held)
+
+  abbrev pub RootsAreKnown : Type 0
+  RootsAreKnown = (layout : Layout) → fault_of layout ≡ None → (given : List Hand) → (held : FilerSerial P)
+      → HasFiler layout Serial given (serial_parcels layout Serial held)
+      → HasAll layout serial_lens given (serial_set layout held)
 
   -- ---- handlers: where a set's change is right, putting in the set's parcels is a step
 

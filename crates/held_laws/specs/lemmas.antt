@@ -16,3 +16,9 @@ pub mod Known
 pub mod Delivering
 pub mod Lawful
 pub mod Replays
+pub mod Granted
+pub mod Running
+pub mod Parts
+pub mod Culling
+pub mod Fetching
+pub mod Freeing

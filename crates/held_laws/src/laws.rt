@@ -7,6 +7,9 @@ ghost use Rattle.held_laws.specs.Laws.{LayoutsAgree, SoundByWeight};
 ghost use Rattle.held_laws.specs.Laws.{StripesAreSeen, RangesAreSeen, VbnsAreSeen};
 ghost use Rattle.held_laws.specs.Laws.{LogicalsAreSeen, VolumesAreSeen};
 ghost use Rattle.held_laws.specs.Laws.{AggregatesAreSeen, RootsAreSeen};
+ghost use Rattle.held_laws.specs.Laws.{StripesAreKnown, RangesAreKnown, VbnsAreKnown};
+ghost use Rattle.held_laws.specs.Laws.{LogicalsAreKnown, VolumesAreKnown};
+ghost use Rattle.held_laws.specs.Laws.{AggregatesAreKnown, RootsAreKnown};
 ghost use Rattle.held_laws.specs.Laws.{StripeMakesStep, RangeMakesStep, VbnMakesStep};
 ghost use Rattle.held_laws.specs.Laws.{LogicalMakesStep, VolumeMakesStep};
 ghost use Rattle.held_laws.specs.Laws.{AggregateMakesStep, SerialMakesStep};
@@ -59,6 +62,17 @@ pub fn sets_are_seen<P>()
     ensures volume { VolumesAreSeen P }
     ensures aggregate { AggregatesAreSeen P }
     ensures serial { RootsAreSeen P }
+{}
+
+/// The parcels that a call is granted of a sound filer are a part of some sound whole.
+pub fn grants_are_known<P>()
+    ensures stripe { StripesAreKnown P }
+    ensures range { RangesAreKnown P }
+    ensures vbn { VbnsAreKnown P }
+    ensures logical { LogicalsAreKnown P }
+    ensures volume { VolumesAreKnown P }
+    ensures aggregate { AggregatesAreKnown P }
+    ensures serial { RootsAreKnown P }
 {}
 
 /// Where a handler's change of a typed set is right, putting in the set's parcels is a step of the

@@ -14,7 +14,7 @@ use Rattle.nfs_model.specs.Events.Step.{stamp_added, Carries, carried, hand_volu
 use Rattle.nfs_model.specs.Headline.{Kept, messages, tally_finished, tally_messages, server_worked, IsOwnMessage, IsOutcome, IsTried, Apart}
 use Rattle.nfs_model.specs.Parts.{IsPartition, one_if, times_listed, places}
 use Rattle.nfs_laws.proofs.Lists.{Some_same, slice_get-changed_at, slice_get-changed_elsewhere}
-use Rattle.nfs_laws.proofs.Counting.{times_listed-append, batch_within, lowest_within, batch_leaves, batch_comes}
+use Rattle.nfs_laws.specs.lemmas.Counting.{times_listed-append, batch_within, lowest_within, batch_leaves, batch_comes}
 use Rattle.nfs_model.specs.Agreed.{done}
 
 -- ---- one hand among the others

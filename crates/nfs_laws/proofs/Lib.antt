@@ -15,5 +15,4 @@ pub mod Kept
 pub mod KeptByFeed
 pub mod Walked
 pub mod Batches
-pub mod Counting
 pub mod KeptByBlocks

@@ -1,2 +1,3 @@
 -- Lemmas that other crates cite.
 pub mod Evaluate
+pub mod Counting

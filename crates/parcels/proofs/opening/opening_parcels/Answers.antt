@@ -1,11 +1,10 @@
-use Rattle.std.proofs.Common.{arith, ◌≡◌, ◌+◌, length, ◌∙◌, None, Some, refl}
+use Rattle.std.proofs.Common.{arith, ◌≡◌, ◌+◌, length, ◌∙◌, Some, refl}
 use Rattle.std.proofs.lemmas.List.{length-set}
 use Rattle.affinity_tree.specs.Affinity.{affinity_of}
 use Rattle.affinity_tree.specs.Layout.{layout_of}
 use Rattle.affinity_tree.specs.Numbers.{node_count}
 use Rattle.nfs_model.specs.Tree as trees
 use Rattle.parcel_sets.specs.Sets.{serial_parcels}
-use Rattle.held_state.specs.Opening.{AreOpening}
 use Rattle.held_laws.specs.lemmas.Opening.{opening-sound, opening-tree}
 use Rattle.parcels.proofs.Laid.{laid-more, laid-placed, laid-taken}
 use Rattle.parcels.proofs.opening.opening_parcels.Goals as goal
@@ -46,7 +45,8 @@ returns-clause-opening c =
 pub returns-clause-sound : goal.returns-clause-sound
 returns-clause-sound c =
     let L = layout_of c.args.layout.now in
-    (L, (c.args.layout.now.lawful, refl), opening-sound L c.args.layout.now.lawful c.args.verifier.0 (serial_parcels L trees.Serial c.gather.result) (returns-clause-opening c))
+    (L, (c.args.layout.now.lawful, refl), opening-sound L c.args.layout.now.lawful c.args.verifier.0 (serial_parcels L trees.Serial c.gather.result)
+    (returns-clause-opening c))
 
 pub returns-clause-server : goal.returns-clause-server
 returns-clause-server c =

@@ -22,4 +22,5 @@ returns-clause-ok c =
     ∙ ap (changed_at g c.args.directory.0) c.self.view_is) c.add_at.result c.add_at.ensures.ok
 
 pub returns-clause-err : goal.returns-clause-err
-returns-clause-err c = on_err (λ same. same-directories c.self.inside.by_fileid c.add_at.new.by_fileid same ∙ c.self.view_is) c.add_at.result c.add_at.ensures.err
+returns-clause-err c =
+    on_err (λ same. same-directories c.self.inside.by_fileid c.add_at.new.by_fileid same ∙ c.self.view_is) c.add_at.result c.add_at.ensures.err

@@ -91,7 +91,7 @@ list_any-listed : (n : ℕ) (xs : List ℕ) → list_any (λ y. nat_eq y n) xs �
 list_any-listed n [] = refl
 list_any-listed n (x ∷ xs) = listed_or (x == n) (times_listed n xs) (list_any (λ y. nat_eq y n) xs) (list_any-listed n xs)
 
-contains_listed : (xs : List ℕ) (n : ℕ) → contains (from_list {R = nat_cmp} xs) n ≡ nat_lt 0 (times_listed n xs)
+pub contains_listed : (xs : List ℕ) (n : ℕ) → contains (from_list {R = nat_cmp} xs) n ≡ nat_lt 0 (times_listed n xs)
 contains_listed xs n = contains-from_list_nat xs n ∙ list_any-listed n xs
 
 taken_away : (c : Bool) (t : ℕ) → t ≤ one_if c → one_if (c && not (nat_lt 0 t)) + t ≡ one_if c
