@@ -5,6 +5,7 @@ mod directory;
 mod entries;
 mod page;
 mod search;
+mod slot;
 #[cfg(test)]
 mod tests;
 
