@@ -6,8 +6,6 @@ mod entries;
 mod page;
 mod search;
 mod slot;
-#[cfg(test)]
-mod tests;
 
 pub use directory::Directory;
 pub use page::Page;

@@ -3,8 +3,6 @@
 
 mod card;
 mod cards;
-#[cfg(test)]
-mod tests;
 
 pub use card::Card;
 pub use cards::Cards;

@@ -1,8 +1,8 @@
 //! A file's card from its making to its removal, and a directory's.
 
-use super::*;
 use nfs_values::{Fileid, Moment};
 use std::test::Fail;
+use stripe_cards::{Card, Cards};
 
 /// A moment of whole seconds.
 fn at(seconds: u32) -> Moment {

@@ -1,9 +1,9 @@
 //! Ranges at the edges of their words, the stock, and dead blocks of two ranges.
 
-use super::*;
 use nfs_values::BlockNumber;
 use std::alloc::{AllocError, Global};
 use std::test::Fail;
+use vbn_ranges::{Batch, DeadBlocks, Range, RangeFault, Stock};
 
 /// The numbers of a batch.
 fn numbers(alloc: Global, batch: &Batch) -> Result<Vec<u32>, AllocError> {

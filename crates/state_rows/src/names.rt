@@ -1,6 +1,6 @@
 //! Directories of one entry and of a thousand, and pages at their edges.
 
-use super::*;
+use directories::Directory;
 use nfs_values::{Cookie, Fileid, Name};
 use std::alloc::{AllocError, Global};
 use std::test::Fail;

@@ -1,9 +1,9 @@
 //! A hole before a block and a cut inside it, and overwrites that stay within.
 
-use super::*;
 use nfs_values::{BlockNumber, Fileid, Moment, Verifier};
 use std::alloc::{AllocError, Global};
 use std::test::Fail;
+use stripes::Stripe;
 
 const FILE: Fileid = Fileid(2);
 

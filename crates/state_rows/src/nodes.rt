@@ -1,6 +1,6 @@
 //! Inodes made, changed and dropped, and as many as a volume has at most.
 
-use super::*;
+use inodes::{Inode, InodeKind, Inodes, StoredAttributes};
 use nfs_values::{Fileid, Moment, Verifier};
 use std::alloc::{AllocError, Global};
 use std::test::Fail;
