@@ -3,6 +3,7 @@
 
 mod card;
 mod cards;
+mod packed;
 
 pub use card::Card;
 pub use cards::Cards;
