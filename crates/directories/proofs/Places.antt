@@ -1,14 +1,13 @@
 -- Entries by their places.
-use Rattle.std.proofs.Common.{◌≡◌, refl, sym, ◌∙◌, ap, ℕ, zero, suc, ◌+◌, ◌-◌, ◌<◌, ◌≤◌, true}
-use Rattle.std.proofs.Common.{List, [], ◌∷◌, ◌++◌, length, take, drop, Option, Some, None, is_some, get_or, arith, add-one}
-use Rattle.std.specs.List.{slice_get, remove}
+use Rattle.std.proofs.Common.{◌≡◌, refl, ap, ℕ, zero, suc, ◌+◌, ◌-◌, ◌<◌, ◌≤◌, true}
+use Rattle.std.proofs.Common.{List, [], ◌∷◌, ◌++◌, length, take, drop, Some, is_some, arith, add-one}
+use Rattle.std.specs.List.{slice_get}
 use Rattle.nfs_model.specs.Types.{Listed}
 use Rattle.nfs_model.specs.Serial.Readdir.{above_cookie}
 use Rattle.nfs_values.specs.Answer.{entry_of}
 use Rattle.nfs_values.specs.declared.answer.Entry.{Entry}
-use Rattle.volume_values.specs.Directories.{Rises}
-use Rattle.directories.specs.Entries.{under, has, without, listed, IsRising}
-use Rattle.directories.proofs.Rising.{none-above, above-from, first-above, at-least, remove-at, under-is, rises-push}
+use Rattle.directories.specs.Entries.{under, has, listed, IsRising}
+use Rattle.directories.proofs.Rising.{none-above, above-from, first-above, at-least}
 
 pub is-within : {X : Type 0} (xs : List X) (i : ℕ) → is_some (slice_get xs i) ≡ true → i < length xs
 is-within [] i s = absurd (grind (arith, s))

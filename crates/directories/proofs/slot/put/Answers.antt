@@ -1,5 +1,4 @@
-use Rattle.std.proofs.Common.{refl, arith, rules, ◌≡◌, length, sym}
-use Rattle.directories.specs.declared.slot.Slot.TheVariants.{Filled}
+use Rattle.std.proofs.Common.{refl, rules, ◌≡◌, length}
 use Rattle.directories.proofs.Slots.{put-set, put-push}
 use Rattle.directories.proofs.slot.put.Goals as goal
 

@@ -1,5 +1,4 @@
 use Rattle.std.proofs.Common.{refl}
-use Rattle.volume_values.specs.Directories.{entry_added}
 use Rattle.directories.proofs.Slots.{ordered-put, entries-put}
 use Rattle.directories.proofs.entries.Entries.add.Goals as goal
 
