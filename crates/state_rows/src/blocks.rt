@@ -54,26 +54,40 @@ fn lowest_free(rt: HostRuntime) -> Result<(), Fail> {
 }
 
 #[test]
-fn refusals(rt: HostRuntime) -> Result<(), Fail> {
-    let alloc = rt.alloc();
+fn numbers_of_refusals(rt: HostRuntime) -> Result<(), Fail> {
+    assert_eq!(rt; RangeFault::NoSuchRange.number(), 41);
+    assert_eq!(rt; RangeFault::NotHeld.number(), 42);
+    Ok(())
+}
+
+#[test]
+fn range_not_in_use(rt: HostRuntime) -> Result<(), Fail> {
     let mut range = Range::new(15);
     assert!(rt; matches!(range.take(1), Err(RangeFault::NoSuchRange)));
-    assert_eq!(rt;
-        (
-            RangeFault::NoSuchRange.number(),
-            RangeFault::NotHeld.number()
-        ),
-        (41, 42)
-    );
     range.put_in_use();
-    assert!(rt; take(alloc, &mut range, 0)?.is_empty());
+    assert!(rt; take(rt.alloc(), &mut range, 0)?.is_empty());
     assert_eq!(rt; range.free_count(), 1024);
+    Ok(())
+}
+
+#[test]
+fn most_at_once(rt: HostRuntime) -> Result<(), Fail> {
+    let mut range = Range::new(15);
+    range.put_in_use();
+    let taken = take(rt.alloc(), &mut range, 200)?;
+    assert_eq!(rt; (taken.len(), range.free_count()), (64, 960));
+    assert_eq!(rt; taken.first().copied(), Some(15360));
+    assert_eq!(rt; taken.last().copied(), Some(15423));
+    Ok(())
+}
+
+#[test]
+fn given_back_once(rt: HostRuntime) -> Result<(), Fail> {
+    let mut range = Range::new(15);
+    range.put_in_use();
     let Ok(batch) = range.take(200) else {
         return Err(Fail::from(AllocError));
     };
-    assert_eq!(rt; (batch.len(), range.free_count()), (64, 960));
-    assert_eq!(rt; batch.as_slice()[0], BlockNumber(15360));
-    assert_eq!(rt; batch.as_slice()[63], BlockNumber(15423));
     assert_eq!(rt; range.give(&batch), Ok(()));
     assert_eq!(rt; range.give(&batch), Err(RangeFault::NotHeld));
     assert_eq!(rt; Range::new(15).give(&batch), Err(RangeFault::NotHeld));

@@ -63,25 +63,45 @@ fn cookies(
     Ok((numbers, page.is_last))
 }
 
+/// A directory of `b` under the cookie 4 and `a` under 5, after another `a` under 3.
+fn two_names(alloc: Global) -> Result<Directory, Fail> {
+    let mut directory = Directory::new(alloc);
+    add(alloc, &mut directory, b"a", 2)?;
+    add(alloc, &mut directory, b"b", 3)?;
+    directory.remove(b"a");
+    add(alloc, &mut directory, b"a", 4)?;
+    Ok(directory)
+}
+
 #[test]
-fn pages(rt: HostRuntime) -> Result<(), Fail> {
+fn no_names(rt: HostRuntime) -> Result<(), Fail> {
     let alloc = rt.alloc();
     let mut directory = Directory::new(alloc);
     assert!(rt; directory.is_empty());
     assert_eq!(rt; directory.find_counted(b"a"), (None, 0));
     assert!(rt; cookies(alloc, &directory, 0, 0)?.1);
-    assert!(rt; add(alloc, &mut directory, b"a", 2)?);
-    assert!(rt; add(alloc, &mut directory, b"b", 3)?);
+    assert!(rt; !directory.remove(b"a"));
+    Ok(())
+}
+
+#[test]
+fn cookies_not_given_again(rt: HostRuntime) -> Result<(), Fail> {
+    let mut directory = two_names(rt.alloc())?;
+    assert_eq!(rt; directory.find(b"a"), Some(Fileid(4)));
+    assert_eq!(rt; directory.next_cookie(), Cookie(6));
     assert!(rt; directory.remove(b"a"));
     assert!(rt; !directory.remove(b"a"));
-    assert!(rt; add(alloc, &mut directory, b"a", 4)?);
+    Ok(())
+}
+
+#[test]
+fn pages(rt: HostRuntime) -> Result<(), Fail> {
+    let alloc = rt.alloc();
+    let directory = two_names(alloc)?;
     let (numbers, is_last) = cookies(alloc, &directory, 3, 56)?;
-    assert_eq!(rt; numbers.as_slice(), [4, 5].as_slice());
-    assert!(rt; is_last);
+    assert_eq!(rt; (numbers.as_slice(), is_last), ([4, 5].as_slice(), true));
     let (numbers, is_last) = cookies(alloc, &directory, 3, 55)?;
-    assert_eq!(rt; numbers.as_slice(), [4].as_slice());
-    assert!(rt; !is_last);
+    assert_eq!(rt; (numbers.as_slice(), is_last), ([4].as_slice(), false));
     assert!(rt; cookies(alloc, &directory, u64::MAX, 0)?.1);
-    assert_eq!(rt; directory.find(b"a"), Some(Fileid(4)));
     Ok(())
 }
