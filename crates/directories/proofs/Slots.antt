@@ -247,7 +247,8 @@ ordered-less slots new order next cookie i s h t u l is b = record {
 pub filled-at : (slots : List Slot) (order : List ℕ) (i s : ℕ) → IsRising (in_order slots order) → i < length order → s ≡ get_or order i 0
     → is_some (in_slot slots s) ≡ true
 filled-at slots order i s h l is =
-    all-at (λ k. is_some (in_slot slots k) ≡ true) order i s (all-filled 3 slots order h.0 (omega arith) h.1) (slice_get-get_or order i 0 l ∙ ap (λ k. Some k) (sym is))
+    all-at (λ k. is_some (in_slot slots k) ≡ true) order i s (all-filled 3 slots order h.0 (omega arith) h.1)
+    (slice_get-get_or order i 0 l ∙ ap (λ k. Some k) (sym is))
 
 pub element-at : (slots : List Slot) (order : List ℕ) (i s : ℕ) (e : Listed) → i < length order → s ≡ get_or order i 0 → in_slot slots s ≡ Some e
     → slice_get (in_order slots order) i ≡ Some e
