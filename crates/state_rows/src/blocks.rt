@@ -95,20 +95,27 @@ fn given_back_once(rt: HostRuntime) -> Result<(), Fail> {
     Ok(())
 }
 
-#[test]
-fn dead_of_two_ranges(rt: HostRuntime) -> Result<(), Fail> {
-    let alloc = rt.alloc();
+/// The dead blocks 2,000 to 2,099, of which one was marked twice.
+fn hundred_dead(alloc: Global) -> Result<DeadBlocks, AllocError> {
     let mut dead = DeadBlocks::new(alloc)?;
     for number in 2000..2100 {
         dead.mark(BlockNumber(number));
     }
     dead.mark(BlockNumber(2047));
-    assert_eq!(rt; dead.len(), 100);
-    assert_eq!(rt; numbers(alloc, &dead.take_batch())?.len(), 48);
-    assert_eq!(rt; dead.take(), Some(BlockNumber(2048)));
-    let rest = numbers(alloc, &dead.take_batch())?;
-    assert_eq!(rt; (rest.len(), rest.first().copied()), (51, Some(2049)));
-    assert_eq!(rt; dead.take(), None);
+    Ok(dead)
+}
+
+#[test]
+fn dead_of_two_ranges(rt: HostRuntime) -> Result<(), Fail> {
+    let mut dead = hundred_dead(rt.alloc())?;
+    let count = dead.len();
+    let first = dead.take_batch().len();
+    let one = dead.take();
+    let rest = dead.take_batch();
+    let none = dead.take();
+    assert_eq!(rt; (count, first, rest.len()), (100, 48, 51));
+    assert_eq!(rt; (one, none), (Some(BlockNumber(2048)), None));
+    assert_eq!(rt; rest.as_slice().first().copied(), Some(BlockNumber(2049)));
     assert!(rt; dead.is_empty());
     Ok(())
 }
