@@ -27,6 +27,14 @@ fn written(alloc: Global) -> Result<Stripe, AllocError> {
     Ok(stripe)
 }
 
+/// The stripe with two blocks more, past the size.
+fn with_blocks_past(alloc: Global) -> Result<Stripe, AllocError> {
+    let mut stripe = written(alloc)?;
+    stripe.insert_block(FILE, 3, BlockNumber(8))?;
+    stripe.insert_block(FILE, 4096, BlockNumber(9))?;
+    Ok(stripe)
+}
+
 /// n bytes of the file from an offset on.
 fn bytes(alloc: Global, stripe: &Stripe, offset: u64, n: usize) -> Result<Vec<u8>, AllocError> {
     let mut bytes = Vec::with_capacity(alloc, n)?;
@@ -65,9 +73,7 @@ fn hole(rt: HostRuntime) -> Result<(), Fail> {
 #[test]
 fn cut_within_a_block(rt: HostRuntime) -> Result<(), Fail> {
     let alloc = rt.alloc();
-    let mut stripe = written(alloc)?;
-    stripe.insert_block(FILE, 3, BlockNumber(8))?;
-    stripe.insert_block(FILE, 4096, BlockNumber(9))?;
+    let mut stripe = with_blocks_past(alloc)?;
     let first = (stripe.cut(FILE, 8193), stripe.cut(FILE, 8193));
     let last = stripe.cut(FILE, 8193);
     assert_eq!(rt; first, (Some(BlockNumber(8)), Some(BlockNumber(9))));
