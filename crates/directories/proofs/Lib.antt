@@ -1,5 +1,6 @@
 pub mod Rising
 pub mod Places
+pub mod Slots
 pub mod Orders
 pub mod Names
 pub mod Found

@@ -1,8 +1,9 @@
 -- A page is copied entry by entry.
 use Rattle.std.proofs.Common.{◌≡◌, refl, sym, ◌∙◌, ap, ℕ, zero, suc, ◌+◌, ◌-◌, ◌<◌, ◌≤◌, Bool}
-use Rattle.std.proofs.Common.{true, false, nat_le, List, [], ◌∷◌, ◌++◌, length, drop, get_or, arith, add-one, append_assoc, if◌then◌else◌}
+use Rattle.std.proofs.Common.{true, false, nat_le, List, [], ◌∷◌, ◌++◌, length, drop, Some, arith, add-one, append_assoc, if◌then◌else◌}
 use Rattle.std.proofs.lemmas.Bool.Decides.{nat_tests}
 use Rattle.std.proofs.lemmas.List.{append-nil}
+use Rattle.std.specs.List.{slice_get}
 use Rattle.nfs_model.specs.Types.{Listed}
 use Rattle.nfs_model.specs.Serial.Readdir.{entry_size, fitting}
 use Rattle.nfs_values.specs.Answer.{entry_of}
@@ -10,12 +11,12 @@ use Rattle.nfs_values.specs.declared.answer.Entry.{Entry}
 use Rattle.directories.specs.Entries.{listed}
 use Rattle.directories.proofs.Places.{listed-append}
 
-drop-listed : (es : List Entry) (i : ℕ) (e : Entry) → i < length es → e ≡ get_or es i e → drop i (listed es) ≡ entry_of e ∷ drop (suc i) (listed es)
-drop-listed [] i e l is = absurd (omega (arith, l))
-drop-listed (x ∷ es) zero e l is = ap (λ (y : Entry). entry_of y ∷ listed es) (sym is)
-drop-listed (x ∷ es) (suc i) e l is = drop-listed es i e (omega (arith, l)) is
+drop-at : (es : List Listed) (i : ℕ) (e : Listed) → slice_get es i ≡ Some e → drop i es ≡ e ∷ drop (suc i) es
+drop-at [] i e g = absurd (grind (arith, g))
+drop-at (x ∷ es) zero e g = let same : x ≡ e = grind (arith, g) in ap (λ (y : Listed). y ∷ es) same
+drop-at (x ∷ es) (suc i) e g = drop-at es i e g
 
-drop-all : (es : List Entry) (i : ℕ) → length es ≤ i → drop i (listed es) ≡ []
+drop-all : (es : List Listed) (i : ℕ) → length es ≤ i → drop i es ≡ []
 drop-all [] zero l = refl
 drop-all [] (suc i) l = refl
 drop-all (x ∷ es) zero l = absurd (omega (arith, l))
@@ -36,28 +37,27 @@ fits-none left e es l = by (nat_le (entry_size e) left) refl
     by false p = refl
 
 -- copied so far, and what fits of the rest
-abbrev pub SoFar : List Entry → ℕ → ℕ → List Entry → ℕ → Type 0
-SoFar copied left i es room = listed copied ++ fitting left (drop i (listed es)) ≡ fitting room (listed es)
+abbrev pub SoFar : List Entry → ℕ → ℕ → List Listed → ℕ → Type 0
+SoFar copied left i es room = listed copied ++ fitting left (drop i es) ≡ fitting room es
 
-pub one-copied : (copied : List Entry) (left i : ℕ) (es : List Entry) (room : ℕ) (e x : Entry) (size : ℕ) → SoFar copied left i es room → i < length es
-    → e ≡ get_or es i e → size ≡ entry_size (entry_of e) → size ≤ left → entry_of x ≡ entry_of e → SoFar (copied ++ x ∷ []) (left - size) (i + 1) es room
-one-copied copied left i es room e x size h l is s f same =
-    let rest = drop (suc i) (listed es) in
-    let head : fitting left (drop i (listed es)) ≡ entry_of e ∷ fitting (left - size) rest =
-    ap (λ d. fitting left d) (drop-listed es i e l is)
-    ∙ (fits-one left (entry_of e) rest (omega (arith, s, f)) ∙ ap (λ n. entry_of e ∷ fitting (left - n) rest) (sym s)) in
+pub one-copied : (copied : List Entry) (left i : ℕ) (es : List Listed) (room : ℕ) (e : Listed) (x : Entry) (size : ℕ) → SoFar copied left i es room
+    → slice_get es i ≡ Some e → size ≡ entry_size e → size ≤ left → entry_of x ≡ e → SoFar (copied ++ x ∷ []) (left - size) (i + 1) es room
+one-copied copied left i es room e x size h g s f same =
+    let rest = drop (suc i) es in
+    let head : fitting left (drop i es) ≡ e ∷ fitting (left - size) rest =
+    ap (λ d. fitting left d) (drop-at es i e g) ∙ (fits-one left e rest (omega (arith, s, f)) ∙ ap (λ n. e ∷ fitting (left - n) rest) (sym s)) in
     rw (add-one, listed-append copied (x ∷ []), append_assoc)
     (ap (λ y. listed copied ++ y ∷ fitting (left - size) rest) same ∙ (ap (λ l. listed copied ++ l) (sym head) ∙ h))
 
-pub full-page : (copied : List Entry) (left i : ℕ) (es : List Entry) (room : ℕ) (e : Entry) (size : ℕ) → SoFar copied left i es room → i < length es
-    → e ≡ get_or es i e → size ≡ entry_size (entry_of e) → left < size → listed copied ≡ fitting room (listed es)
-full-page copied left i es room e size h l is s f =
-    let none : fitting left (drop i (listed es)) ≡ [] =
-    ap (λ d. fitting left d) (drop-listed es i e l is) ∙ fits-none left (entry_of e) (drop (suc i) (listed es)) (omega (arith, s, f)) in
+pub full-page : (copied : List Entry) (left i : ℕ) (es : List Listed) (room : ℕ) (e : Listed) (size : ℕ) → SoFar copied left i es room
+    → slice_get es i ≡ Some e → size ≡ entry_size e → left < size → listed copied ≡ fitting room es
+full-page copied left i es room e size h g s f =
+    let none : fitting left (drop i es) ≡ [] =
+    ap (λ d. fitting left d) (drop-at es i e g) ∙ fits-none left e (drop (suc i) es) (omega (arith, s, f)) in
     sym (append-nil (listed copied)) ∙ (ap (λ l. listed copied ++ l) (sym none) ∙ h)
 
-pub last-page : (copied : List Entry) (left i : ℕ) (es : List Entry) (room : ℕ) → SoFar copied left i es room → length es ≤ i
-    → listed copied ≡ fitting room (listed es)
+pub last-page : (copied : List Entry) (left i : ℕ) (es : List Listed) (room : ℕ) → SoFar copied left i es room → length es ≤ i
+    → listed copied ≡ fitting room es
 last-page copied left i es room h l =
-    let none : fitting left (drop i (listed es)) ≡ [] = ap (λ d. fitting left d) (drop-all es i l) in
+    let none : fitting left (drop i es) ≡ [] = ap (λ d. fitting left d) (drop-all es i l) in
     sym (append-nil (listed copied)) ∙ (ap (λ l. listed copied ++ l) (sym none) ∙ h)

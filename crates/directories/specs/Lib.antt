@@ -1,3 +1,4 @@
 pub mod Entries
+pub mod Slots
 pub mod Index
 pub mod Digits

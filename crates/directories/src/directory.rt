@@ -31,7 +31,7 @@ ghost use Rattle.directories.specs.Index.{fileid_number};
 
 use crate::entries::Entries;
 use crate::page::Page;
-use crate::search::{find_place, guess_at};
+use crate::search::{find_place, slot_at};
 use nfs_values::{Cookie, Fileid, Name};
 use std::alloc::{AllocError, Global};
 use std::marker::Model;
@@ -43,8 +43,8 @@ pub struct Directory {
     entries: Entries,
     /// The cookies of the entries in the order of the names' bytes.
     by_name: Vec<Cookie>,
-    /// Where in `entries` each of these is. Nothing rests on it but the time of a search.
-    places: Vec<u32>,
+    /// The slot of each of these. Nothing rests on it but the time of a search.
+    slots: Vec<u32>,
 }
 
 impl Model for Directory {
@@ -69,7 +69,7 @@ impl Directory {
         Directory {
             entries: Entries::new(alloc),
             by_name: Vec::new(alloc),
-            places: Vec::new(alloc),
+            slots: Vec::new(alloc),
         }
     }
 
@@ -108,13 +108,13 @@ impl Directory {
         ensures answer { fileid_number result.0 ≡ fileid_found self.now name.now }
         ensures compared { result.1 ≤ binary_digits (length self.now.list) }
     {
-        let search = find_place(&self.entries, &self.by_name, &self.places, name);
+        let search = find_place(&self.entries, &self.by_name, &self.slots, name);
         if !search.is_there {
             return (None, search.compared);
         }
         let cookie = self.by_name[search.place];
-        let guess = guess_at(&self.places, search.place);
-        (Some(self.entries.at(cookie, guess).fileid), search.compared)
+        let slot = slot_at(&self.slots, search.place);
+        (Some(self.entries.at(cookie, slot).fileid), search.compared)
     }
 
     /// Adds an entry, which takes the next cookie. Where there is no memory for it nothing
@@ -125,13 +125,12 @@ impl Directory {
         ensures ok { OnOk result (self.new ≡ added name fileid.0 self.old) }
         ensures err { OnErr result (self.new ≡ self.old) }
     {
-        let place = find_place(&self.entries, &self.by_name, &self.places, name.as_bytes()).place;
-        let last = self.entries.len();
+        let place = find_place(&self.entries, &self.by_name, &self.slots, name.as_bytes()).place;
         self.by_name.try_reserve(1)?;
-        self.places.try_reserve(1)?;
-        let cookie = self.entries.add(name, fileid)?;
+        self.slots.try_reserve(1)?;
+        let (cookie, slot) = self.entries.add(name, fileid)?;
         put_at(&mut self.by_name, place, cookie);
-        put_place(&mut self.places, place, last);
+        put_slot(&mut self.slots, place, slot);
         Ok(())
     }
 
@@ -140,13 +139,13 @@ impl Directory {
         ensures there { result ≡ is_some (found self.old name.now) }
         ensures left { self.new ≡ removed name.now self.old }
     {
-        let search = find_place(&self.entries, &self.by_name, &self.places, name);
+        let search = find_place(&self.entries, &self.by_name, &self.slots, name);
         if !search.is_there {
             return false;
         }
         let cookie = self.by_name.remove(search.place);
-        let guess = take_place(&mut self.places, search.place);
-        self.entries.remove(cookie, guess);
+        drop_slot(&mut self.slots, search.place);
+        self.entries.remove(cookie);
         true
     }
 
@@ -169,22 +168,16 @@ fn put_at(index: &mut Vec<Cookie>, place: usize, cookie: Cookie)
     index.insert(place, cookie).unwrap();
 }
 
-/// Puts the place of an entry, which is the last, into the places, which have room for one more.
-fn put_place(places: &mut Vec<u32>, at: usize, place: usize)
-    requires { vec_len places.old < vec_capacity places.old }
+/// Puts a slot into slots that have room for one more.
+fn put_slot(slots: &mut Vec<u32>, at: usize, slot: u32)
+    requires { vec_len slots.old < vec_capacity slots.old }
 {
-    let place = u32::try_from(place).unwrap_or(u32::MAX);
-    places.insert(at.min(places.len()), place).unwrap();
+    slots.insert(at.min(slots.len()), slot).unwrap();
 }
 
-/// Takes the place of an entry that goes, and moves those that lie behind it up by one.
-fn take_place(places: &mut Vec<u32>, at: usize) -> u32 {
-    if at >= places.len() {
-        return 0;
+/// Drops the slot of an entry that goes.
+fn drop_slot(slots: &mut Vec<u32>, at: usize) {
+    if at < slots.len() {
+        slots.remove(at);
     }
-    let taken = places.remove(at);
-    for place in places.iter_mut() {
-        *place -= u32::from(*place > taken);
-    }
-    taken
 }

@@ -10,18 +10,21 @@ ghost use Rattle.std.specs.Prelude.{
   length,
   drop,
   true,
+  is_some,
   Some,
   IfOk,
   OnOk,
   OnErr,
 };
-ghost use Rattle.std.specs.List.{slice_get};
+ghost use Rattle.std.specs.List.{AllByRecursion, slice_get};
 ghost use Rattle.nfs_model.specs.Serial.Readdir.{above_cookie, entry_size, fitting};
 ghost use Rattle.nfs_values.specs.Answer.{entry_of};
 ghost use Rattle.volume_values.specs.Directories.{empty_directory, added, page};
 ghost use Rattle.directories.specs.Entries.{listed, IsRising, under, has, dropped, page_value};
+ghost use Rattle.directories.specs.Slots.{in_slot, in_order, IsOrdered};
 
 use crate::page::Page;
+use crate::slot::{Slot, entry_in, holds, put, vacate};
 use nfs_values::{Cookie, Entry, Fileid, Name};
 use std::alloc::{AllocError, Global};
 use std::marker::Model;
@@ -29,23 +32,26 @@ use std::marker::Model;
 /// Entries by rising cookies, from 3 on, and the next cookie.
 #[derive(Drop)]
 pub struct Entries {
-    list: Vec<Entry>,
+    slots: Vec<Slot>,
+    /// The slots of the entries in the order of their cookies.
+    order: Vec<u32>,
+    /// The slot that is filled next, if it is vacant.
+    vacant: u32,
     next: Cookie,
 }
 
 impl Model for Entries {
-    ghost use Rattle.nfs_values.specs.Answer.{entry_of};
-    ghost use Rattle.volume_values.specs.Directories.{DirectoryValue, Rises};
+    ghost use Rattle.volume_values.specs.Directories.{DirectoryValue};
     ghost use Rattle.volume_values.specs.Codes.{coded_directory};
-    ghost use Rattle.directories.specs.Entries.{listed};
+    ghost use Rattle.directories.specs.Slots.{in_order, IsOrdered};
 
     ghost Value = { DirectoryValue };
 
     ghost coded = { coded_directory };
 
-    ghost view = { λ e. record { next = e.next.0; list = listed e.list.items } };
+    ghost view = { λ e. record { next = e.next.0; list = in_order e.slots.items e.order.items } };
 
-    ghost invariant = { λ e. Rises 3 (listed e.list.items) e.next.0 };
+    ghost invariant = { λ e. IsOrdered e.slots.items e.order.items e.next.0 };
 }
 
 impl Entries {
@@ -54,7 +60,9 @@ impl Entries {
         ensures { result ≡ empty_directory }
     {
         Entries {
-            list: Vec::new(alloc),
+            slots: Vec::new(alloc),
+            order: Vec::new(alloc),
+            vacant: u32::MAX,
             next: Cookie(3),
         }
     }
@@ -63,7 +71,7 @@ impl Entries {
     pub fn len(&self) -> usize
         ensures { result ≡ length self.now.list }
     {
-        self.list.len()
+        self.order.len()
     }
 
     /// The cookie that the next entry takes.
@@ -73,78 +81,97 @@ impl Entries {
         self.next
     }
 
-    /// The entry under a cookie that has one. Where it is at the place guessed there is no search.
+    /// The entry under a cookie that has one. Where it is in the slot guessed there is no search.
     pub fn at(&self, cookie: Cookie, guess: u32) -> &Entry
         requires { has self.now.list cookie.0 ≡ true }
         ensures { under cookie.0 self.now.list ≡ Some (entry_of result.now) }
     {
-        &self.list[place_of(&self.list, cookie, guess)]
+        entry_in(
+            &self.slots,
+            slot_of(&self.slots, &self.order, cookie, guess),
+        )
     }
 
-    /// Adds an entry under the next cookie, which is the result. Where there is no memory for
-    /// it nothing changes.
-    pub fn add(&mut self, name: Name, fileid: Fileid) -> Result<Cookie, AllocError>
+    /// Adds an entry under the next cookie, which is the result, with its slot. Where there is no
+    /// memory for it nothing changes.
+    pub fn add(&mut self, name: Name, fileid: Fileid) -> Result<(Cookie, u32), AllocError>
         requires { self.old.next < 2 ^ 63 }
-        ensures cookie { IfOk result (λ c. c.0 ≡ self.old.next) }
+        ensures cookie { IfOk result (λ r. r.0.0 ≡ self.old.next) }
         ensures ok { OnOk result (self.new ≡ added name fileid.0 self.old) }
         ensures err { OnErr result (self.new ≡ self.old) }
     {
         let cookie = self.next;
-        self.list.push(Entry {
+        self.order.try_reserve(1)?;
+        let entry = Entry {
             fileid,
             name,
             cookie,
-        })?;
+        };
+        let (slot, next) = put(&mut self.slots, self.vacant, entry)?;
+        self.order.push_reserved(slot);
+        self.vacant = next;
         self.next = Cookie(cookie.0 + 1);
-        Ok(cookie)
+        Ok((cookie, slot))
     }
 
-    /// Removes the entry under a cookie that has one. Where it is at the place guessed there is no
-    /// search.
-    pub fn remove(&mut self, cookie: Cookie, guess: u32)
+    /// Removes the entry under a cookie that has one.
+    pub fn remove(&mut self, cookie: Cookie)
         requires { has self.old.list cookie.0 ≡ true }
         ensures { self.new ≡ dropped cookie.0 self.old }
     {
-        let place = place_of(&self.list, cookie, guess);
-        self.list.remove(place);
+        let place = place_of(&self.slots, &self.order, cookie);
+        let slot = self.order.remove(place);
+        vacate(&mut self.slots, slot, self.vacant);
+        self.vacant = slot;
     }
 
     /// The entries after a cookie, as many as fit into a number of bytes.
     pub fn page(&self, alloc: Global, cookie: Cookie, room: usize) -> Result<Page, AllocError>
         ensures { IfOk result (λ p. page_value p ≡ page self.now cookie.0 room) }
     {
-        let (_, remaining) = self.list.split_at(place_after(&self.list, cookie));
-        let entries = copy_fitting(alloc, remaining, room)?;
+        let after = place_after(&self.slots, &self.order, cookie);
+        let (_, remaining) = self.order.split_at(after);
+        let entries = copy_fitting(alloc, &self.slots, remaining, room)?;
         let is_last = entries.len() == remaining.len();
         Ok(Page { entries, is_last })
     }
 }
 
-/// The place of the entry under a cookie that has one: the place guessed, or else by a search.
-fn place_of(list: &[Entry], cookie: Cookie, guess: u32) -> usize
-    requires rising { IsRising (listed list.now) }
-    requires there { has (listed list.now) cookie.0 ≡ true }
-    ensures within { result < length list.now }
-    ensures place { under cookie.0 (listed list.now) ≡ slice_get (listed list.now) result }
+/// The slot of the entry under a cookie that has one: the slot guessed, or else by a search.
+fn slot_of(slots: &[Slot], order: &[u32], cookie: Cookie, guess: u32) -> u32
+    requires ordered { (next : ℕ) × IsOrdered slots.now order.now next }
+    requires there { has (in_order slots.now order.now) cookie.0 ≡ true }
+    ensures { in_slot slots.now result ≡ under cookie.0 (in_order slots.now order.now) }
 {
-    let place = guess as usize;
-    if place < list.len() && list[place].cookie.0 == cookie.0 {
-        return place;
+    if holds(slots, guess, cookie) {
+        return guess;
     }
-    place_after(list, Cookie(cookie.0 - 1))
+    order[place_of(slots, order, cookie)]
+}
+
+/// The place in the order of the entry under a cookie that has one.
+fn place_of(slots: &[Slot], order: &[u32], cookie: Cookie) -> usize
+    requires rising { IsRising (in_order slots.now order.now) }
+    requires there { has (in_order slots.now order.now) cookie.0 ≡ true }
+    ensures within { result < length order.now }
+    ensures place { let entries = in_order slots.now order.now in
+        under cookie.0 entries ≡ slice_get entries result }
+{
+    place_after(slots, order, Cookie(cookie.0 - 1))
 }
 
 /// How many entries have a cookie at or below one.
-fn place_after(list: &[Entry], cookie: Cookie) -> usize
-    requires { IsRising (listed list.now) }
-    ensures within { result ≤ length list.now }
-    ensures after { above_cookie cookie.0 (listed list.now) ≡ drop result (listed list.now) }
+fn place_after(slots: &[Slot], order: &[u32], cookie: Cookie) -> usize
+    requires { IsRising (in_order slots.now order.now) }
+    ensures within { result ≤ length order.now }
+    ensures after { let entries = in_order slots.now order.now in
+        above_cookie cookie.0 entries ≡ drop result entries }
 {
     let mut low = 0;
-    let mut high = list.len();
+    let mut high = order.len();
     while low < high {
         let middle = low + (high - low) / 2;
-        if list[middle].cookie.0 <= cookie.0 {
+        if entry_in(slots, order[middle]).cookie.0 <= cookie.0 {
             low = middle + 1;
         } else {
             high = middle;
@@ -153,13 +180,20 @@ fn place_after(list: &[Entry], cookie: Cookie) -> usize
     low
 }
 
-/// Copies the entries that fit into a number of bytes.
-fn copy_fitting(alloc: Global, entries: &[Entry], room: usize) -> Result<Vec<Entry>, AllocError>
-    ensures { IfOk result (λ v. listed v.items ≡ fitting room (listed entries.now)) }
+/// Copies the entries of these slots that fit into a number of bytes.
+fn copy_fitting(
+    alloc: Global,
+    slots: &[Slot],
+    order: &[u32],
+    room: usize,
+) -> Result<Vec<Entry>, AllocError>
+    requires { AllByRecursion (λ s. is_some (in_slot slots.now s) ≡ true) order.now }
+    ensures { IfOk result (λ v. listed v.items ≡ fitting room (in_order slots.now order.now)) }
 {
     let mut copied = Vec::new(alloc);
     let mut left = room;
-    for entry in entries {
+    for slot in order {
+        let entry = entry_in(slots, *slot);
         let size = size_of(entry);
         if size > left {
             return Ok(copied);

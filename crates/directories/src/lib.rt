@@ -5,8 +5,7 @@ mod directory;
 mod entries;
 mod page;
 mod search;
-#[cfg(test)]
-mod tests;
+mod slot;
 
 pub use directory::Directory;
 pub use page::Page;

@@ -19,8 +19,8 @@ pub struct Search {
     pub compared: usize,
 }
 
-/// Searches an index for a name by halving, with a guess of each entry's place.
-pub fn find_place(entries: &Entries, index: &[Cookie], places: &[u32], name: &[u8]) -> Search
+/// Searches an index for a name by halving, with a guess of each entry's slot.
+pub fn find_place(entries: &Entries, index: &[Cookie], slots: &[u32], name: &[u8]) -> Search
     requires { IsIndex entries.now.list index.now }
     ensures within { result.place ≤ length index.now }
     ensures there { result.is_there ≡ true → IsAt entries.now index.now name.now result.place }
@@ -33,7 +33,7 @@ pub fn find_place(entries: &Entries, index: &[Cookie], places: &[u32], name: &[u
     while low < high {
         let middle = low + (high - low) / 2;
         compared += 1;
-        match compare(entries, index[middle], guess_at(places, middle), name) {
+        match compare(entries, index[middle], slot_at(slots, middle), name) {
             Ordering::Less => low = middle + 1,
             Ordering::Greater => high = middle,
             Ordering::Equal => {
@@ -52,9 +52,9 @@ pub fn find_place(entries: &Entries, index: &[Cookie], places: &[u32], name: &[u
     }
 }
 
-/// The guess at a place of an index.
-pub fn guess_at(places: &[u32], place: usize) -> u32 {
-    places.get(place).copied().unwrap_or(0)
+/// The slot guessed at a place of an index.
+pub fn slot_at(slots: &[u32], place: usize) -> u32 {
+    slots.get(place).copied().unwrap_or(0)
 }
 
 /// How the name under a cookie that has one compares with another.

@@ -3,8 +3,6 @@
 
 mod inode;
 mod inodes;
-#[cfg(test)]
-mod tests;
 
 pub use inode::{Inode, InodeKind, StoredAttributes};
 pub use inodes::Inodes;

@@ -21,7 +21,7 @@ fn digit(number: u32, power: u32) -> u8
 }
 
 /// The name of a number.
-fn name(number: u32) -> NameBytes {
+pub(crate) fn name(number: u32) -> NameBytes {
     let mut bytes = *b"file00000000.txt";
     bytes[7] = digit(number, 10_000);
     bytes[8] = digit(number, 1_000);
@@ -44,7 +44,11 @@ fn names(alloc: Global, count: u32, size: u32, step: u32) -> Result<Vec<NameByte
 }
 
 /// Adds a name that isn't there.
-fn add(alloc: Global, directory: &mut Directory, name: &[u8]) -> Result<bool, AllocError> {
+pub(crate) fn add(
+    alloc: Global,
+    directory: &mut Directory,
+    name: &[u8],
+) -> Result<bool, AllocError> {
     if directory.find(name).is_some() || directory.next_cookie().0 >= 1 << 62 {
         return Ok(false);
     }
@@ -72,6 +76,19 @@ impl Finds {
             directory,
             names: names(alloc, NAMES, size, 40_503)?,
         })
+    }
+
+    /// In a directory of so many names, each of which was removed and added anew.
+    pub fn renewed(alloc: Global, size: u32) -> Result<Finds, AllocError>
+        requires { 0 < size }
+    {
+        let mut finds = Finds::new(alloc, size)?;
+        for name in &finds.names {
+            if finds.directory.remove(name) {
+                add(alloc, &mut finds.directory, name)?;
+            }
+        }
+        Ok(finds)
     }
 }
 

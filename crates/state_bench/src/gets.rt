@@ -24,6 +24,14 @@ const EMPTY_FILE: Inode = Inode {
     },
 };
 
+/// Creates an empty file, and tells its fileid, or the root's where there are 2^62 already.
+pub(crate) fn create_file(inodes: &mut Inodes) -> Result<Fileid, AllocError> {
+    if inodes.next_fileid().0 >= 1 << 62 || inodes.used() >= 1 << 62 {
+        return Ok(Fileid::ROOT);
+    }
+    inodes.create(EMPTY_FILE)
+}
+
 /// Inodes to be looked up.
 #[derive(Drop)]
 pub struct Gets {
@@ -36,9 +44,7 @@ impl Gets {
         let mut inodes = Inodes::new(alloc)?;
         let mut fileids = Vec::new(alloc);
         for i in 0..INODES {
-            if inodes.next_fileid().0 < 1 << 62 && inodes.used() < 1 << 62 {
-                inodes.create(EMPTY_FILE)?;
-            }
+            create_file(&mut inodes)?;
             fileids.push(Fileid(2 + i * 40_503 % INODES))?;
         }
         Ok(Gets { inodes, fileids })

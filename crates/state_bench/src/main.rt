@@ -3,6 +3,7 @@
 //! `state_bench PASSES` goes PASSES times through names of directories, inodes, a file of 16 MiB,
 //! and batches of block numbers, and prints for each how long one took in the fastest pass; for
 //! reads and overwrites beside it how long a plain copy of as many bytes took, and the ratio.
+//! Before that it prints how much memory empty files take.
 //! Without its argument it prints nothing.
 #![tactic(auto)]
 
@@ -11,6 +12,7 @@ mod clock;
 mod copies;
 mod finds;
 mod gets;
+mod memory;
 mod run;
 
 use std::io;

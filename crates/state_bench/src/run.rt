@@ -5,9 +5,10 @@ use crate::clock::{measure, measure_beside};
 use crate::copies::{Overwrites, PlainOverwrites, PlainReads, Reads};
 use crate::finds::{Finds, Renewals};
 use crate::gets::Gets;
+use crate::memory;
 use std::alloc::Global;
 use std::io;
-use std::rt::Clock;
+use std::rt::{Clock, Files};
 
 /// Measures names in directories.
 fn names<R: Clock + Print>(rt: &R, alloc: Global, passes: u32) -> io::Result<()> {
@@ -29,6 +30,12 @@ fn names<R: Clock + Print>(rt: &R, alloc: Global, passes: u32) -> io::Result<()>
         "remove and add in 65000 names",
         &mut Renewals::new(alloc)?,
         passes,
+    )?;
+    measure(
+        rt,
+        "find in 65000 names, each added anew",
+        &mut Finds::renewed(alloc, 65_000)?,
+        passes,
     )
 }
 
@@ -43,9 +50,17 @@ fn bytes<R: Clock + Print>(rt: &R, alloc: Global, size: usize, passes: u32) -> i
     measure_beside(rt, "overwrite", &mut overwrites, &mut plain, passes)
 }
 
+/// Measures the memory of empty files, whose names are of two lengths.
+fn files<R: Files + Print + AllocGlobal>(rt: &R) -> io::Result<()> {
+    let _short = memory::measure(rt, 32)?;
+    let _long = memory::measure(rt, 255)?;
+    Ok(())
+}
+
 /// Measures each kind of call.
-pub fn run(rt: &(impl Clock + Print + AllocGlobal), passes: u32) -> io::Result<()> {
+pub fn run<R: Clock + Files + Print + AllocGlobal>(rt: &R, passes: u32) -> io::Result<()> {
     let alloc = rt.alloc();
+    files(rt)?;
     names(rt, alloc, passes)?;
     measure(rt, "get in 65000 inodes", &mut Gets::new(alloc)?, passes)?;
     bytes(rt, alloc, 4096, passes)?;

@@ -12,45 +12,45 @@ use Rattle.volume_values.specs.lemmas.Maps.{get-changed_at}
 use Rattle.volume_values.specs.lemmas.Entries.{get_lookup}
 use Rattle.volume_values.specs.Stripes.{OfFile, touch_of}
 use Rattle.volume_values.specs.Stripes as values
-use Rattle.stripe_cards.specs.declared.card.Card.{Card}
-use Rattle.stripe_cards.specs.Cards.{card_of, cards_of, card_at, card_resized, Puts, Changes}
+use Rattle.stripe_cards.specs.declared.packed.Packed.{Packed}
+use Rattle.stripe_cards.specs.Cards.{packed_card, cards_of, card_at, card_resized, Puts, Changes}
 
 -- the card under a fileid
-pub get-cards_of : (m : BTreeMap ℕ Card) (q : ℕ) → get (cards_of m.entries) q ≡ card_at m q
-get-cards_of m q = get_lookup nat_cmp_total card_of m.entries q
+pub get-cards_of : (m : BTreeMap ℕ Packed) (q : ℕ) → get (cards_of m.entries) q ≡ card_at m q
+get-cards_of m q = get_lookup nat_cmp_total packed_card m.entries q
 
 -- maps that have the same cards
-pub same-cards : (old new : BTreeMap ℕ Card) → ((q : ℕ) → card_at new q ≡ card_at old q) → cards_of new.entries ≡ cards_of old.entries
+pub same-cards : (old new : BTreeMap ℕ Packed) → ((q : ℕ) → card_at new q ≡ card_at old q) → cards_of new.entries ≡ cards_of old.entries
 same-cards old new same =
     same_map nat_cmp_total nat_cmp-IsAntisymmetric _ _ (λ q. get-cards_of new q ∙ same q ∙ sym (get-cards_of old q))
 
 either-way : (k q : ℕ) → eq_by_cmp nat_cmp k q ≡ eq_by_cmp nat_cmp q k
 either-way k q = (eq_by_cmp_equiv nat_cmp_total).symm k q
 
-pub put-cards : (k : ℕ) (card : values.Card) (old new : BTreeMap ℕ Card) → Puts k card old new
+pub put-cards : (k : ℕ) (card : values.Card) (old new : BTreeMap ℕ Packed) → Puts k card old new
     → cards_of new.entries ≡ insert (cards_of old.entries) k card
 put-cards k card old new puts =
     same_map nat_cmp_total nat_cmp-IsAntisymmetric _ _ (λ q. get-cards_of new q ∙ puts q
     ∙ ap (λ b. cond b (Some card) (card_at old q)) (either-way k q)
     ∙ sym (get-insert nat_cmp_total _ k card q ∙ ap (cond (eq_by_cmp nat_cmp q k) (Some card)) (get-cards_of old q)))
 
-pub changed-cards : (g : values.Card → values.Card) (k : ℕ) (old new : BTreeMap ℕ Card) → Changes g k old new
+pub changed-cards : (g : values.Card → values.Card) (k : ℕ) (old new : BTreeMap ℕ Packed) → Changes g k old new
     → cards_of new.entries ≡ changed_at g k (cards_of old.entries)
 changed-cards g k old new changes =
     same_map nat_cmp_total nat_cmp-IsAntisymmetric _ _ (λ q. get-cards_of new q ∙ changes q
     ∙ ap (λ b. cond b (option_map g (card_at old q)) (card_at old q)) (either-way k q)
     ∙ sym (get-changed_at nat_cmp_total g k _ q ∙ ap (λ o. cond (eq_by_cmp nat_cmp q k) (option_map g o) o) (get-cards_of old q)))
 
-gone_or_same : (b : Bool) (o : Option Card) → option_map card_of (cond b None o) ≡ cond b None (option_map card_of o)
+gone_or_same : (b : Bool) (o : Option Packed) → option_map packed_card (cond b None o) ≡ cond b None (option_map packed_card o)
 gone_or_same true o = refl
 gone_or_same false o = refl
 
-pub removed-cards : (k : ℕ) (old new : BTreeMap ℕ Card)
+pub removed-cards : (k : ℕ) (old new : BTreeMap ℕ Packed)
     → ((q : ℕ) → btree.get nat_cmp new q ≡ cond (is_at (nat_cmp k) q) None (btree.get nat_cmp old q))
     → cards_of new.entries ≡ remove (cards_of old.entries) k
 removed-cards k old new gone =
     same_map nat_cmp_total nat_cmp-IsAntisymmetric _ _ (λ q. get-cards_of new q
-    ∙ ap (option_map card_of) (gone q) ∙ gone_or_same (is_at (nat_cmp k) q) (btree.get nat_cmp old q)
+    ∙ ap (option_map packed_card) (gone q) ∙ gone_or_same (is_at (nat_cmp k) q) (btree.get nat_cmp old q)
     ∙ ap (λ b. cond b None (card_at old q)) (either-way k q)
     ∙ sym (get-remove nat_cmp_total _ k q ∙ ap (cond (eq_by_cmp nat_cmp q k) None) (get-cards_of old q)))
 

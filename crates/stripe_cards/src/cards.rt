@@ -15,6 +15,7 @@ ghost use Rattle.volume_values.specs.Stripes.{
 ghost use Rattle.stripe_cards.specs.Cards.{card_of, card_at, card_resized, Puts, Changes};
 
 use crate::card::{Card, resized, settled, touch_on, touched};
+use crate::packed::{Packed, pack, unpack};
 use nfs_values::{Fileid, Moment};
 use std::alloc::{AllocError, Global};
 use std::collections::BTreeMap;
@@ -23,7 +24,7 @@ use std::marker::Model;
 /// A map from fileids to cards.
 #[derive(Drop)]
 pub struct Cards {
-    by_fileid: BTreeMap<u64, Card>,
+    by_fileid: BTreeMap<u64, Packed>,
 }
 
 impl Model for Cards {
@@ -56,7 +57,7 @@ impl Cards {
     pub fn get(&self, fileid: Fileid) -> Option<Card>
         ensures { option_map card_of result ≡ get self.now fileid.0 }
     {
-        self.by_fileid.get(&fileid.0).copied()
+        card_in(&self.by_fileid, fileid.0)
     }
 
     /// Sets the card of a file to a size; the touch stays. Memory is needed only for a card that
@@ -113,44 +114,54 @@ impl Cards {
     }
 }
 
+/// The card under a fileid.
+fn card_in(by_fileid: &BTreeMap<u64, Packed>, fileid: u64) -> Option<Card>
+    ensures { option_map card_of result ≡ card_at by_fileid.now fileid }
+{
+    match by_fileid.get(&fileid) {
+        Some(packed) => Some(unpack(*packed)),
+        None => None,
+    }
+}
+
 /// Puts a card under a fileid. Memory is needed only where the fileid has none.
-fn put(by_fileid: &mut BTreeMap<u64, Card>, fileid: u64, card: Card) -> Result<(), AllocError>
+fn put(by_fileid: &mut BTreeMap<u64, Packed>, fileid: u64, card: Card) -> Result<(), AllocError>
     ensures ok { OnOk result (Puts fileid (card_of card) by_fileid.old by_fileid.new) }
     ensures err { OnErr result ((q : ℕ) → card_at by_fileid.new q ≡ card_at by_fileid.old q) }
     ensures succeeds { IsSome (card_at by_fileid.old fileid) → IsOk result }
 {
-    by_fileid.insert(fileid, card)?;
+    by_fileid.insert(fileid, pack(card))?;
     Ok(())
 }
 
 /// Sets the size on a card, if it is there.
-fn resize_at(by_fileid: &mut BTreeMap<u64, Card>, fileid: u64, size: u64)
+fn resize_at(by_fileid: &mut BTreeMap<u64, Packed>, fileid: u64, size: u64)
     ensures { Changes (card_resized size) fileid by_fileid.old by_fileid.new }
 {
-    if let Some(card) = by_fileid.get_mut(&fileid) {
-        *card = resized(*card, size);
+    if let Some(packed) = by_fileid.get_mut(&fileid) {
+        *packed = pack(resized(unpack(*packed), size));
     }
 }
 
 /// Touches a card, if it is there.
-fn touch_at(by_fileid: &mut BTreeMap<u64, Card>, fileid: u64, moment: Moment)
+fn touch_at(by_fileid: &mut BTreeMap<u64, Packed>, fileid: u64, moment: Moment)
     ensures { Changes (card_touched (moment_of moment)) fileid by_fileid.old by_fileid.new }
 {
-    if let Some(card) = by_fileid.get_mut(&fileid) {
-        *card = touched(*card, moment);
+    if let Some(packed) = by_fileid.get_mut(&fileid) {
+        *packed = pack(touched(unpack(*packed), moment));
     }
 }
 
 /// Takes the touch of a card, if it is there.
-fn take_touch_at(by_fileid: &mut BTreeMap<u64, Card>, fileid: u64) -> Option<Moment>
+fn take_touch_at(by_fileid: &mut BTreeMap<u64, Packed>, fileid: u64) -> Option<Moment>
     ensures touch { option_map moment_of result ≡ touch_of (card_at by_fileid.old fileid) }
     ensures taken { Changes card_settled fileid by_fileid.old by_fileid.new }
 {
     match by_fileid.get_mut(&fileid) {
-        Some(card) => {
-            let touch = touch_on(Some(*card));
-            *card = settled(*card);
-            touch
+        Some(packed) => {
+            let card = unpack(*packed);
+            *packed = pack(settled(card));
+            touch_on(Some(card))
         }
         None => None,
     }

@@ -3,8 +3,7 @@
 
 mod card;
 mod cards;
-#[cfg(test)]
-mod tests;
+mod packed;
 
 pub use card::Card;
 pub use cards::Cards;

@@ -6,7 +6,5 @@ mod blocks;
 mod span;
 mod spans;
 mod stripe;
-#[cfg(test)]
-mod tests;
 
 pub use stripe::Stripe;

@@ -176,8 +176,3 @@ pop-empty [] new None e v = (λ n. refl, λ n. refl)
 pop-empty (b ∷ old) new None e v = absurd (let some = v (omega arith) in cc)
 pop-empty old new (Some b) e v =
     (λ n. absurd cc, λ n. absurd (not-both _ (pop-there old new (Some b) e) (ap (λ s. contains s b.0) n ∙ contains-empty nat_cmp b.0)))
-
--- an empty stock has none of them
-pub none-of-empty : (bs : List ℕ) → AllByRecursion (λ b. contains {R = nat_cmp} sets.empty b ≡ false) bs
-none-of-empty [] = tt
-none-of-empty (b ∷ bs) = (contains-empty nat_cmp b, none-of-empty bs)

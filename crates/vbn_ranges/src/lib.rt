@@ -7,8 +7,6 @@ mod fault;
 mod marks;
 mod range;
 mod stock;
-#[cfg(test)]
-mod tests;
 mod words;
 
 pub use batch::Batch;

@@ -1,14 +1,14 @@
 use Rattle.std.proofs.Common.{◌-◌, ◌≡◌, ◌≤◌, length, drop, take, []}
 use Rattle.nfs_model.specs.Serial.Readdir.{above_cookie}
-use Rattle.directories.specs.Entries.{listed}
+use Rattle.directories.specs.Slots.{in_order}
 use Rattle.directories.proofs.entries.place_after.Given as goal
 
 abbrev pub invariant-loop-low : goal.invariant-loop-low
 invariant-loop-low l = record {
   ordered : l.low ≤ l.high;
-  within : l.high ≤ length l.list;
-  before : above_cookie l.cookie.0 (take l.low (listed l.list)) ≡ [];
-  after : above_cookie l.cookie.0 (drop l.high (listed l.list)) ≡ drop l.high (listed l.list);
+  within : l.high ≤ length l.order;
+  before : above_cookie l.cookie.0 (take l.low (in_order l.slots l.order)) ≡ [];
+  after : above_cookie l.cookie.0 (drop l.high (in_order l.slots l.order)) ≡ drop l.high (in_order l.slots l.order);
 }
 
 abbrev pub decreases-loop-low : goal.decreases-loop-low

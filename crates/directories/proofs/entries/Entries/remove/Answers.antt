@@ -1,20 +1,35 @@
-use Rattle.std.proofs.Common.{◌≡◌, true}
-use Rattle.directories.specs.Entries.{listed, has}
-use Rattle.directories.proofs.Places.{taken-out}
-use Rattle.directories.proofs.Rising.{rises-without}
+use Rattle.std.proofs.Common.{◌≡◌, ◌∙◌, true}
+use Rattle.std.proofs.lemmas.Grind.{get_or_default_zero}
+use Rattle.directories.specs.Entries.{has}
+use Rattle.directories.specs.Slots.{in_order}
+use Rattle.directories.proofs.Slots.{filled-at, some-within, ordered-less, entries-less}
 use Rattle.directories.proofs.entries.Entries.remove.Goals as goal
+
+pub vacate-requires : goal.vacate-requires
+vacate-requires c =
+    let inside = rw c.deref-2.ensures.value at c.place_of-place.ensures.within in
+    some-within c.self.inside.slots.items c.remove-slot.result
+    (filled-at c.self.inside.slots.items c.self.inside.order.items c.place_of-place.result c.remove-slot.result (_, c.self.invariant.rising) inside
+    (c.remove-slot.ensures.value ∙ get_or_default_zero c.self.inside.order.items c.place_of-place.result _ inside))
 
 pub invariant_of-self : goal.invariant_of-self
 invariant_of-self c =
-    let list = c.self.inside.list.items in
-    let there : has (listed list) c.args.cookie.0 ≡ true = rw (← c.self.view_is) at c.requires in
-    let place = rw c.deref.ensures.value at c.place_of-place.ensures.place in
-    rw (c.remove.ensures.items, taken-out list c.self.inside.next.0 c.args.cookie.0 c.place_of-place.result c.self.invariant there place)
-    (rises-without 3 (listed list) c.self.inside.next.0 c.args.cookie.0 c.self.invariant)
+    let slots = c.self.inside.slots.items in
+    let order = c.self.inside.order.items in
+    let there : has (in_order slots order) c.args.cookie.0 ≡ true = rw (← c.self.view_is) at c.requires in
+    let place = rw (c.deref.ensures.value, c.deref-2.ensures.value) at c.place_of-place.ensures.place in
+    let inside = rw c.deref-2.ensures.value at c.place_of-place.ensures.within in
+    rw c.remove-slot.ensures.items
+    (ordered-less slots c.vacate.new.slots.items order c.self.inside.next.0 c.args.cookie.0 c.place_of-place.result c.remove-slot.result c.self.invariant
+    there place inside (c.remove-slot.ensures.value ∙ get_or_default_zero order c.place_of-place.result _ inside) c.vacate.ensures)
 
 pub returns : goal.returns
 returns c =
-    let list = c.self.inside.list.items in
-    let there : has (listed list) c.args.cookie.0 ≡ true = rw (← c.self.view_is) at c.requires in
-    let place = rw c.deref.ensures.value at c.place_of-place.ensures.place in
-    rw (c.remove.ensures.items, ← c.self.view_is, taken-out list c.self.inside.next.0 c.args.cookie.0 c.place_of-place.result c.self.invariant there place)
+    let slots = c.self.inside.slots.items in
+    let order = c.self.inside.order.items in
+    let there : has (in_order slots order) c.args.cookie.0 ≡ true = rw (← c.self.view_is) at c.requires in
+    let place = rw (c.deref.ensures.value, c.deref-2.ensures.value) at c.place_of-place.ensures.place in
+    let inside = rw c.deref-2.ensures.value at c.place_of-place.ensures.within in
+    rw (c.remove-slot.ensures.items, ← c.self.view_is)
+    (entries-less slots c.vacate.new.slots.items order c.self.inside.next.0 c.args.cookie.0 c.place_of-place.result c.remove-slot.result c.self.invariant
+    there place inside (c.remove-slot.ensures.value ∙ get_or_default_zero order c.place_of-place.result _ inside) c.vacate.ensures)

@@ -1,9 +1,9 @@
 //! Ranges at the edges of their words, the stock, and dead blocks of two ranges.
 
-use super::*;
 use nfs_values::BlockNumber;
 use std::alloc::{AllocError, Global};
 use std::test::Fail;
+use vbn_ranges::{Batch, DeadBlocks, Range, RangeFault, Stock};
 
 /// The numbers of a batch.
 fn numbers(alloc: Global, batch: &Batch) -> Result<Vec<u32>, AllocError> {
@@ -54,26 +54,40 @@ fn lowest_free(rt: HostRuntime) -> Result<(), Fail> {
 }
 
 #[test]
-fn refusals(rt: HostRuntime) -> Result<(), Fail> {
-    let alloc = rt.alloc();
+fn numbers_of_refusals(rt: HostRuntime) -> Result<(), Fail> {
+    assert_eq!(rt; RangeFault::NoSuchRange.number(), 41);
+    assert_eq!(rt; RangeFault::NotHeld.number(), 42);
+    Ok(())
+}
+
+#[test]
+fn range_not_in_use(rt: HostRuntime) -> Result<(), Fail> {
     let mut range = Range::new(15);
     assert!(rt; matches!(range.take(1), Err(RangeFault::NoSuchRange)));
-    assert_eq!(rt;
-        (
-            RangeFault::NoSuchRange.number(),
-            RangeFault::NotHeld.number()
-        ),
-        (41, 42)
-    );
     range.put_in_use();
-    assert!(rt; take(alloc, &mut range, 0)?.is_empty());
+    assert!(rt; take(rt.alloc(), &mut range, 0)?.is_empty());
     assert_eq!(rt; range.free_count(), 1024);
+    Ok(())
+}
+
+#[test]
+fn most_at_once(rt: HostRuntime) -> Result<(), Fail> {
+    let mut range = Range::new(15);
+    range.put_in_use();
+    let taken = take(rt.alloc(), &mut range, 200)?;
+    assert_eq!(rt; (taken.len(), range.free_count()), (64, 960));
+    assert_eq!(rt; taken.first().copied(), Some(15360));
+    assert_eq!(rt; taken.last().copied(), Some(15423));
+    Ok(())
+}
+
+#[test]
+fn given_back_once(rt: HostRuntime) -> Result<(), Fail> {
+    let mut range = Range::new(15);
+    range.put_in_use();
     let Ok(batch) = range.take(200) else {
         return Err(Fail::from(AllocError));
     };
-    assert_eq!(rt; (batch.len(), range.free_count()), (64, 960));
-    assert_eq!(rt; batch.as_slice()[0], BlockNumber(15360));
-    assert_eq!(rt; batch.as_slice()[63], BlockNumber(15423));
     assert_eq!(rt; range.give(&batch), Ok(()));
     assert_eq!(rt; range.give(&batch), Err(RangeFault::NotHeld));
     assert_eq!(rt; Range::new(15).give(&batch), Err(RangeFault::NotHeld));
@@ -81,20 +95,27 @@ fn refusals(rt: HostRuntime) -> Result<(), Fail> {
     Ok(())
 }
 
-#[test]
-fn dead_of_two_ranges(rt: HostRuntime) -> Result<(), Fail> {
-    let alloc = rt.alloc();
+/// The dead blocks 2,000 to 2,099, of which one was marked twice.
+fn hundred_dead(alloc: Global) -> Result<DeadBlocks, AllocError> {
     let mut dead = DeadBlocks::new(alloc)?;
     for number in 2000..2100 {
         dead.mark(BlockNumber(number));
     }
     dead.mark(BlockNumber(2047));
-    assert_eq!(rt; dead.len(), 100);
-    assert_eq!(rt; numbers(alloc, &dead.take_batch())?.len(), 48);
-    assert_eq!(rt; dead.take(), Some(BlockNumber(2048)));
-    let rest = numbers(alloc, &dead.take_batch())?;
-    assert_eq!(rt; (rest.len(), rest.first().copied()), (51, Some(2049)));
-    assert_eq!(rt; dead.take(), None);
+    Ok(dead)
+}
+
+#[test]
+fn dead_of_two_ranges(rt: HostRuntime) -> Result<(), Fail> {
+    let mut dead = hundred_dead(rt.alloc())?;
+    let count = dead.len();
+    let first = dead.take_batch().len();
+    let one = dead.take();
+    let rest = dead.take_batch();
+    let none = dead.take();
+    assert_eq!(rt; (count, first, rest.len()), (100, 48, 51));
+    assert_eq!(rt; (one, none), (Some(BlockNumber(2048)), None));
+    assert_eq!(rt; rest.as_slice().first().copied(), Some(BlockNumber(2049)));
     assert!(rt; dead.is_empty());
     Ok(())
 }

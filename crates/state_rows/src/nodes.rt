@@ -1,6 +1,6 @@
 //! Inodes made, changed and dropped, and as many as a volume has at most.
 
-use super::*;
+use inodes::{Inode, InodeKind, Inodes, StoredAttributes};
 use nfs_values::{Fileid, Moment, Verifier};
 use std::alloc::{AllocError, Global};
 use std::test::Fail;
@@ -52,45 +52,65 @@ fn undo_create(inodes: &mut Inodes) {
     }
 }
 
+/// Three files, and the fileid of the last.
+fn three(alloc: Global) -> Result<(Inodes, Fileid), AllocError> {
+    let mut inodes = Inodes::new(alloc)?;
+    create(&mut inodes, file(8195, 1))?;
+    create(&mut inodes, file(0, 0))?;
+    let last = create(&mut inodes, file(65536, 16))?;
+    Ok((inodes, last))
+}
+
 #[test]
-fn three_files(rt: HostRuntime) -> Result<(), Fail> {
-    let mut inodes = Inodes::new(rt.alloc())?;
+fn root(rt: HostRuntime) -> Result<(), Fail> {
+    let inodes = Inodes::new(rt.alloc())?;
     assert_eq!(rt; inodes.get(Fileid::ROOT), Some(Inode::ROOT));
     assert_eq!(rt; Inode::ROOT.attributes.mode, 493);
-    assert_eq!(rt; create(&mut inodes, file(8195, 1))?, Fileid(2));
-    assert_eq!(rt; create(&mut inodes, file(0, 0))?, Fileid(3));
-    assert_eq!(rt; create(&mut inodes, file(65536, 16))?, Fileid(4));
-    assert_eq!(rt; (inodes.len(), inodes.used()), (4, 17));
+    Ok(())
+}
 
+#[test]
+fn made_and_dropped(rt: HostRuntime) -> Result<(), Fail> {
+    let (mut inodes, last) = three(rt.alloc())?;
+    let counts = (inodes.len(), inodes.used());
     inodes.drop_node(Fileid(2));
     inodes.drop_node(Fileid(2));
-    assert_eq!(rt; inodes.get(Fileid(2)), None);
-    assert_eq!(rt; (inodes.len(), inodes.used()), (3, 16));
-    assert_eq!(rt; create(&mut inodes, file(1, 1))?, Fileid(5));
+    let left = (inodes.len(), inodes.used());
+    let fifth = create(&mut inodes, file(1, 1))?;
     undo_create(&mut inodes);
-    assert_eq!(rt; (inodes.len(), inodes.used()), (3, 16));
-    assert_eq!(rt; create(&mut inodes, file(1, 1))?, Fileid(5));
+    let undone = (inodes.len(), inodes.used());
+    let again = create(&mut inodes, file(1, 1))?;
+    assert_eq!(rt; (last, fifth, again), (Fileid(4), Fileid(5), Fileid(5)));
+    assert_eq!(rt; (counts, left, undone), ((4, 17), (3, 16), (3, 16)));
+    assert_eq!(rt; inodes.get(Fileid(2)), None);
+    Ok(())
+}
 
+#[test]
+fn settled(rt: HostRuntime) -> Result<(), Fail> {
+    let (mut inodes, _) = three(rt.alloc())?;
     let touch = Moment {
         seconds: 9,
         nanoseconds: 0,
     };
     inodes.settle(Fileid(3), Some(touch));
     inodes.settle(Fileid(3), None);
-    inodes.settle(Fileid(2), Some(touch));
+    inodes.settle(Fileid(5), Some(touch));
     let held = file(0, 0).attributes_held(Some(touch));
-    assert_eq!(rt; held.mtime, touch);
-    assert_eq!(rt; held.atime, MADE);
-    assert_eq!(rt;
-        inodes.get(Fileid(3)).map(|inode| inode.attributes),
-        Some(held)
-    );
+    assert_eq!(rt; (held.mtime, held.atime), (touch, MADE));
+    let shown = inodes.get(Fileid(3)).map(|inode| inode.attributes);
+    assert_eq!(rt; shown, Some(held));
+    Ok(())
+}
 
+#[test]
+fn set_where_there(rt: HostRuntime) -> Result<(), Fail> {
+    let (mut inodes, _) = three(rt.alloc())?;
     set(&mut inodes, Fileid(3), file(4096, 1));
-    set(&mut inodes, Fileid(2), file(4096, 1));
+    set(&mut inodes, Fileid(5), file(4096, 1));
     assert_eq!(rt; (inodes.len(), inodes.used()), (4, 18));
     assert_eq!(rt; inodes.get(Fileid(3)), Some(file(4096, 1)));
-    assert_eq!(rt; inodes.get(Fileid(2)), None);
+    assert_eq!(rt; inodes.get(Fileid(5)), None);
     assert_eq!(rt; inodes.get(Fileid(4)), Some(file(65536, 16)));
     Ok(())
 }
