@@ -1,4 +1,6 @@
-use crate::{Look, Reassembler, Step, frame, put_header};
+//! Records out of a stream, and a record's frame.
+
+use rpc_record::{Look, Reassembler, Step, frame, put_header};
 use std::process::Abort;
 use std::test::Fail;
 

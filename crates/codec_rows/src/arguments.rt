@@ -1,11 +1,8 @@
-//! Calls that take memory, and results, each once where memory is there.
+//! Arguments that take memory, each once where memory is there.
 
-use super::*;
-use nfs_values::{
-    Answer, Attributes, Call, Cookie, CreateMode, Entry, FileKind, Fileid, Moment, Name, Procedure,
-    ReadDirectoryResults, ReadResults, SetAttributes, SetTime,
-};
-use std::alloc::{AllocError, Global};
+use crate::bytes::joined;
+use nfs_types::{Bad, decode_args};
+use nfs_values::{Call, CreateMode, Moment, Procedure, SetAttributes, SetTime};
 use std::test::Fail;
 
 /// The handle 7, and the name `ab`.
@@ -30,14 +27,6 @@ fn set() -> SetAttributes {
             nanoseconds: 4,
         }),
     }
-}
-
-fn joined(alloc: Global, parts: &[&[u8]]) -> Result<Vec<u8>, AllocError> {
-    let mut all = Vec::new(alloc);
-    for part in parts {
-        all.extend_from_slice(part)?;
-    }
-    Ok(all)
 }
 
 #[test]
@@ -117,69 +106,5 @@ fn data_is_copied(rt: HostRuntime) -> Result<(), Fail> {
     assert_eq!(rt; handle.as_bytes(), [7].as_slice());
     assert_eq!(rt; (offset, count), (8, 3));
     assert_eq!(rt; bytes.as_slice(), [1, 2, 3].as_slice());
-    Ok(())
-}
-
-#[test]
-fn results_are_written(rt: HostRuntime) -> Result<(), Fail> {
-    let read = Answer::Read(Ok(ReadResults {
-        eof: true,
-        bytes: [1, 2, 3].to_vec(rt.alloc())?,
-    }));
-    let mut out = Vec::new(rt.alloc());
-    encode_result(&mut out, &read)?;
-    let wanted = [
-        0, 0, 0, 0, 0, 0, 0, 0, 0, 0, 0, 3, 0, 0, 0, 1, 0, 0, 0, 3, 1, 2, 3, 0,
-    ];
-    assert_eq!(rt; out.as_slice(), wanted.as_slice());
-    Ok(())
-}
-
-#[test]
-fn entries_are_chained(rt: HostRuntime) -> Result<(), Fail> {
-    let zero = Moment {
-        seconds: 0,
-        nanoseconds: 0,
-    };
-    let directory = Attributes {
-        kind: FileKind::Directory,
-        mode: 0,
-        links: 0,
-        uid: 0,
-        gid: 0,
-        size: 0,
-        used: 0,
-        fsid: 0,
-        fileid: Fileid(0),
-        atime: zero,
-        mtime: zero,
-        ctime: zero,
-    };
-    let mut entries = Vec::new(rt.alloc());
-    entries.push(Entry {
-        fileid: Fileid(5),
-        name: Name::new(b"a".to_vec(rt.alloc())?),
-        cookie: Cookie(3),
-    })?;
-    let listed = Answer::ReadDirectory(Ok(ReadDirectoryResults {
-        directory,
-        entries,
-        eof: true,
-    }));
-    let mut out = Vec::new(rt.alloc());
-    encode_result(&mut out, &listed)?;
-    let wanted = joined(
-        rt.alloc(),
-        &[
-            &[0, 0, 0, 0, 0, 0, 0, 1, 0, 0, 0, 2],
-            &[0; 80],
-            &[0; 8],
-            &[0, 0, 0, 1, 0, 0, 0, 0, 0, 0, 0, 5],
-            &[0, 0, 0, 1, b'a', 0, 0, 0],
-            &[0, 0, 0, 0, 0, 0, 0, 3],
-            &[0, 0, 0, 0, 0, 0, 0, 1],
-        ],
-    )?;
-    assert_eq!(rt; out.as_slice(), wanted.as_slice());
     Ok(())
 }

@@ -1,6 +1,6 @@
 //! Layouts at their limits, exclusion, names.
 
-use super::*;
+use affinity_tree::{Affinity, AggregateSpec, Layout, VolumeSpec};
 use std::alloc::{AllocError, Global};
 use std::test::Fail;
 

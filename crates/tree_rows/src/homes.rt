@@ -1,6 +1,6 @@
 //! The home of each call.
 
-use super::*;
+use affinity::home_of;
 use affinity_tree::{Affinity, AggregateSpec, Layout, VolumeSpec};
 use nfs_values::{
     Call, Cookie, CreateMode, FileHandle, Name, SetAttributes, SetTime, Target, Verifier,

@@ -1,0 +1,7 @@
+//! Layouts, exclusion, names and homes, with values typed by hand.
+#![tactic(auto)]
+
+#[cfg(test)]
+mod homes;
+#[cfg(test)]
+mod layouts;
