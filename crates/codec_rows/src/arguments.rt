@@ -1,6 +1,6 @@
 //! Arguments that take memory, each once where memory is there.
 
-use crate::bytes::joined;
+use crate::bytes::{holds, joined, same};
 use nfs_types::{Bad, decode_args};
 use nfs_values::{Call, CreateMode, Moment, Procedure, SetAttributes, SetTime};
 use std::test::Fail;
@@ -41,8 +41,8 @@ fn names_are_copied(rt: HostRuntime) -> Result<(), Fail> {
         else {
             return Err("another call".into());
         };
-        assert_eq!(rt; target.directory.as_bytes(), [7].as_slice());
-        assert_eq!(rt; target.name.as_bytes(), b"ab".as_slice());
+        same(target.directory.as_bytes(), &[7])?;
+        same(target.name.as_bytes(), b"ab")?;
     }
     Ok(())
 }
@@ -57,35 +57,33 @@ fn second_spellings_are_refused(rt: HostRuntime) -> Result<(), Fail> {
     let Err(Bad::Fault(fault)) = decode_args(rt.alloc(), Procedure::Lookup, &padded) else {
         return Err("padding that isn't zero".into());
     };
-    assert_eq!(rt; fault.number(), 4);
+    holds(fault.number() == 4)?;
     let longer = joined(rt.alloc(), &[&root, &[0, 0, 0, 0, 0]])?;
     let Err(Bad::Fault(fault)) = decode_args(rt.alloc(), Procedure::Lookup, &longer) else {
         return Err("bytes behind the name".into());
     };
-    assert_eq!(rt; fault.number(), 6);
-    Ok(())
+    holds(fault.number() == 6)
 }
 
 #[test]
-fn names_are_made_with_attributes(rt: HostRuntime) -> Result<(), Fail> {
+fn files_are_made_with_attributes(rt: HostRuntime) -> Result<(), Fail> {
     let guarded = joined(rt.alloc(), &[&TARGET, &[0, 0, 0, 1], &SET])?;
     let Call::Create { target, mode } = decode_args(rt.alloc(), Procedure::Create, &guarded)? else {
         return Err("no CREATE".into());
     };
-    assert_eq!(rt; target.name.as_bytes(), b"ab".as_slice());
-    assert_eq!(rt; mode, CreateMode::Guarded(set()));
+    same(target.name.as_bytes(), b"ab")?;
+    holds(mode == CreateMode::Guarded(set()))
+}
+
+#[test]
+fn directories_are_made_with_attributes(rt: HostRuntime) -> Result<(), Fail> {
     let plain = joined(rt.alloc(), &[&TARGET, &SET])?;
-    let Call::MakeDirectory { target, set: made } = decode_args(
-        rt.alloc(),
-        Procedure::MakeDirectory,
-        &plain,
-    )?
-    else {
+    let made = decode_args(rt.alloc(), Procedure::MakeDirectory, &plain)?;
+    let Call::MakeDirectory { target, set: asked } = made else {
         return Err("no MKDIR".into());
     };
-    assert_eq!(rt; target.name.as_bytes(), b"ab".as_slice());
-    assert_eq!(rt; made, set());
-    Ok(())
+    same(target.name.as_bytes(), b"ab")?;
+    holds(asked == set())
 }
 
 #[test]
@@ -103,8 +101,7 @@ fn data_is_copied(rt: HostRuntime) -> Result<(), Fail> {
     else {
         return Err("no WRITE".into());
     };
-    assert_eq!(rt; handle.as_bytes(), [7].as_slice());
-    assert_eq!(rt; (offset, count), (8, 3));
-    assert_eq!(rt; bytes.as_slice(), [1, 2, 3].as_slice());
-    Ok(())
+    same(handle.as_bytes(), &[7])?;
+    holds(offset == 8 && count == 3)?;
+    same(&bytes, &[1, 2, 3])
 }

@@ -1,7 +1,7 @@
 //! Records out of a stream, and a record's frame.
 
+use crate::bytes::{holds, same};
 use rpc_record::{Look, Reassembler, Step, frame, put_header};
-use std::process::Abort;
 use std::test::Fail;
 
 /// A NULL call of NFS version 3 with no credential (RFC 5531, section 9; RFC 1813, section 3.3.0).
@@ -17,26 +17,23 @@ const FRAGMENTS: [u8; 56] = [
 ];
 
 /// Feeds once more where there was no memory, which must have taken nothing.
-fn fed(rt: &impl Abort, reassembler: &mut Reassembler, bytes: &[u8]) -> (usize, Step) {
+fn fed(reassembler: &mut Reassembler, bytes: &[u8]) -> Result<(usize, Step), Fail> {
     let (taken, step) = reassembler.feed(bytes);
     if let Step::NoMemory = step {
-        assert_eq!(rt; taken, 0);
-        return reassembler.feed(bytes);
+        holds(taken == 0)?;
+        return Ok(reassembler.feed(bytes));
     }
-    (taken, step)
+    Ok((taken, step))
 }
 
 #[test]
 fn joins_fragments(rt: HostRuntime) -> Result<(), Fail> {
     let mut reassembler = Reassembler::new(rt.alloc());
-    assert!(rt; matches!(reassembler.look(&FRAGMENTS), (56, Look::Record)));
-    let (taken, step) = reassembler.feed(&FRAGMENTS);
-    assert_eq!(rt; taken, 56);
-    let Step::Record(made) = step else {
+    holds(matches!(reassembler.look(&FRAGMENTS), (56, Look::Record)))?;
+    let (56, Step::Record(made)) = reassembler.feed(&FRAGMENTS) else {
         return Err(Fail::new("no record"));
     };
-    assert_eq!(rt; made.as_slice(), NULL_CALL.as_slice());
-    Ok(())
+    same(&made, &NULL_CALL)
 }
 
 #[test]
@@ -44,38 +41,40 @@ fn joins_bytes_that_come_one_by_one(rt: HostRuntime) -> Result<(), Fail> {
     let mut reassembler = Reassembler::new(rt.alloc());
     let mut records = 0;
     for byte in &FRAGMENTS {
-        match fed(&rt, &mut reassembler, &[*byte]) {
-            (taken, Step::More) => assert_eq!(rt; taken, 1),
-            (taken, Step::Record(made)) => {
-                assert_eq!(rt; taken, 1);
-                assert_eq!(rt; made.as_slice(), NULL_CALL.as_slice());
+        match fed(&mut reassembler, &[*byte])? {
+            (1, Step::More) => {}
+            (1, Step::Record(made)) => {
+                same(&made, &NULL_CALL)?;
                 records = 1u8;
             }
             _ => return Err(Fail::new("a fault")),
         }
     }
-    assert_eq!(rt; records, 1);
-    Ok(())
+    holds(records == 1)
 }
 
 #[test]
-fn tells_a_fault_again(rt: HostRuntime) {
+fn tells_a_fault_again(rt: HostRuntime) -> Result<(), Fail> {
     let header = [0x80, 2, 0, 1, 0];
     let mut reassembler = Reassembler::new(rt.alloc());
-    assert!(rt; matches!(reassembler.look(&header), (4, Look::Fault)));
-    assert!(rt; matches!(reassembler.feed(&header), (4, Step::Fault)));
-    assert!(rt; matches!(reassembler.look(&header), (0, Look::Fault)));
-    assert!(rt; matches!(reassembler.feed(&header), (0, Step::Fault)));
+    for taken in [4, 0] {
+        let (looked, look) = reassembler.look(&header);
+        holds(looked == taken && matches!(look, Look::Fault))?;
+        let (fed, step) = reassembler.feed(&header);
+        holds(fed == taken && matches!(step, Step::Fault))?;
+    }
+    Ok(())
 }
 
 #[test]
 fn frames_a_record(rt: HostRuntime) -> Result<(), Fail> {
     let framed = frame(rt.alloc(), &NULL_CALL)?;
-    assert_eq!(rt; framed.len(), 44);
-    assert_eq!(rt; &framed[..4], [0x80, 0, 0, 0x28].as_slice());
-    assert_eq!(rt; &framed[4..], NULL_CALL.as_slice());
+    let Some((header, record)) = framed.split_at_checked(4) else {
+        return Err(Fail::new("no header"));
+    };
+    same(header, &[0x80, 0, 0, 0x28])?;
+    same(record, &NULL_CALL)?;
     let mut out = Vec::new(rt.alloc());
     put_header(&mut out, 40)?;
-    assert_eq!(rt; out.as_slice(), [0x80, 0, 0, 0x28].as_slice());
-    Ok(())
+    same(&out, &[0x80, 0, 0, 0x28])
 }

@@ -1,6 +1,6 @@
 //! Results, as bytes.
 
-use crate::bytes::joined;
+use crate::bytes::{joined, same};
 use nfs_types::encode_result;
 use nfs_values::{
     Answer, Attributes, Cookie, Entry, FileKind, Fileid, Moment, Name, ReadDirectoryResults,
@@ -19,8 +19,7 @@ fn results_are_written(rt: HostRuntime) -> Result<(), Fail> {
     let wanted = [
         0, 0, 0, 0, 0, 0, 0, 0, 0, 0, 0, 3, 0, 0, 0, 1, 0, 0, 0, 3, 1, 2, 3, 0,
     ];
-    assert_eq!(rt; out.as_slice(), wanted.as_slice());
-    Ok(())
+    same(&out, &wanted)
 }
 
 #[test]
@@ -68,6 +67,5 @@ fn entries_are_chained(rt: HostRuntime) -> Result<(), Fail> {
             &[0, 0, 0, 0, 0, 0, 0, 1],
         ],
     )?;
-    assert_eq!(rt; out.as_slice(), wanted.as_slice());
-    Ok(())
+    same(&out, &wanted)
 }
