@@ -1,5 +1,5 @@
 use Rattle.std.proofs.Common.{rules, ◌≡◌, true, []}
-use Rattle.depot_trial.proofs.tests.lent_tokens.Goals as goal
+use Rattle.depot_rows.proofs.rows.lent_tokens.Goals as goal
 
 pub give-requires-clause-hand : goal.give-requires-clause-hand
 give-requires-clause-hand g c =

@@ -4,7 +4,7 @@ use Rattle.parcel_sets.specs.Sets.{stripe_parcels}
 use Rattle.depot.specs.Grants.{HasWith}
 use Rattle.depot.specs.Words.{view, layout_in, number_in, node_of}
 use Rattle.depot.specs.lemmas.Seats.{begun-with}
-use Rattle.depot_trial.proofs.trial.look.Goals as goal
+use Rattle.depot_rows.proofs.trial.look.Goals as goal
 
 pub put_back-requires-clause-as_granted : goal.put_back-requires-clause-as_granted
 put_back-requires-clause-as_granted c =

@@ -1,13 +1,10 @@
 //! What the tests do with a depot.
 
-ghost use Rattle.std.specs.Prelude.{IfOk, []};
-ghost use Rattle.depot.specs.Words.{view, IsSeatHere};
-ghost use Rattle.depot_trial.specs.Lending.{IsHand};
+ghost use Rattle.depot.specs.Words.{IsSeatHere};
 
-use crate::adding::{Adding, all_of, volumes};
-use crate::lending::Lending;
 use affinity_tree::{Affinity, Kind};
 use depot::{Depot, Refusal, Seat};
+use depot_trial::adding::{Adding, all_of, volumes};
 use parcel_sets::{Node, Numbers, Parcel, SerialNode, StripeNode};
 use std::alloc::Global;
 use std::sync::atomic::{AtomicBool, Ordering};
@@ -20,19 +17,6 @@ pub enum Found {
     /// The node whose word refused.
     Busy(Affinity),
     Other,
-}
-
-/// A depot in which each node has 7 tokens, and its first seat, with nothing in its hand.
-pub fn open_lent(alloc: Global) -> Result<(Depot<Lending>, Seat<Lending>), Fail>
-    ensures seat { IfOk result (λ made. IsSeatHere made.0 made.1) }
-    ensures hand { IfOk result (λ made. IsHand (view made.1) []) }
-{
-    let layout = volumes::<2>(alloc).ok_or("no layout")?;
-    let parcels = all_of(alloc, &layout, 7)?;
-    match Depot::<Lending>::new::<SerialNode>(alloc, layout, parcels) {
-        Ok(made) => Ok(made),
-        Err(_) => Err("no memory".into()),
-    }
 }
 
 /// The root's parcel of a depot whose seat was split and joined again, and which was then closed.

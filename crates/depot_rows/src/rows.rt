@@ -1,11 +1,11 @@
 //! Grants of a depot: what excludes what, how many seats there are, and what one call leaves to the
 //! next.
 
-use crate::adding::{add, open, read, split};
-use crate::lending::{give, take};
-use crate::measure::{Bench, Crew, STRIPES};
-use crate::trial::{Found, claim, close_joined, holds_beside, look, open_lent, splits};
+use crate::trial::{Found, claim, close_joined, holds_beside, look, splits};
 use affinity_tree::Affinity;
+use depot_trial::adding::{add, open, read, split, touches};
+use depot_trial::lending;
+use depot_trial::lending::{give, take};
 use parcel_sets::{LogicalNode, RangeNode, SerialNode, StripeNode, VbnNode, VolumeNode};
 use std::sync::atomic::AtomicBool;
 use std::test::Fail;
@@ -89,7 +89,7 @@ fn effects(rt: HostRuntime) -> Result<(), Fail> {
 
 #[test]
 fn lent_tokens(rt: HostRuntime) -> Result<(), Fail> {
-    let (depot, mut seat) = open_lent(rt.alloc())?;
+    let (depot, mut seat) = lending::open(rt.alloc())?;
     if !take(&depot, &mut seat, stripe(0, 2), 5) {
         return Err("5 of 7 tokens weren't taken".into());
     }
@@ -116,11 +116,22 @@ fn two_threads(rt: HostRuntime) -> Result<(), Fail> {
 }
 
 #[test]
-fn crews(rt: HostRuntime) -> Result<(), Fail> {
-    for crew in Crew::ALL {
-        let bench = Bench::open(rt.alloc()).ok_or("no depot")?;
-        let granted = bench.calls(&rt, crew, STRIPES, 10);
-        assert_eq!(rt; granted, 10 * crew.size());
-    }
+fn calls_of_one_thread(rt: HostRuntime) -> Result<(), Fail> {
+    let (depot, seat) = open::<4>(rt.alloc()).ok_or("no depot")?;
+    assert_eq!(rt; touches::<StripeNode>(&depot, seat, stripe(0, 0), 10), 10);
+    Ok(())
+}
+
+#[test]
+fn calls_of_two_threads(rt: HostRuntime) -> Result<(), Fail> {
+    let (depot, seat) = open::<4>(rt.alloc()).ok_or("no depot")?;
+    let (one, other) = split(&depot, seat).ok_or("no split is left")?;
+    let depot = &depot;
+    let (here, there) = thread::join(
+        &rt,
+        || touches::<StripeNode>(depot, one, stripe(0, 0), 10),
+        || touches::<StripeNode>(depot, other, stripe(0, 1), 10),
+    );
+    assert_eq!(rt; (here, there), (10, 10));
     Ok(())
 }

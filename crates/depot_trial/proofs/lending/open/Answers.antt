@@ -5,7 +5,7 @@ use Rattle.parcel_sets.specs.Sets.{serial_parcels}
 use Rattle.affinity_tree.specs.lemmas.Lawful.{few_nodes}
 use Rattle.depot.specs.Words.{view}
 use Rattle.depot_trial.proofs.Lent.{each-few, hand-opened}
-use Rattle.depot_trial.proofs.trial.open_lent.Goals as goal
+use Rattle.depot_trial.proofs.lending.open.Goals as goal
 
 pub new-requires-clause-invariant : goal.new-requires-clause-invariant
 new-requires-clause-invariant c =

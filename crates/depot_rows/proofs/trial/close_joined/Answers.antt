@@ -1,6 +1,6 @@
 use Rattle.depot.specs.Words.{view}
-use Rattle.depot_trial.proofs.Rejoined.{rejoined-none}
-use Rattle.depot_trial.proofs.trial.close_joined.Goals as goal
+use Rattle.depot_rows.proofs.Rejoined.{rejoined-none}
+use Rattle.depot_rows.proofs.trial.close_joined.Goals as goal
 
 pub close-held-requires-clause-none_open : goal.close-held-requires-clause-none_open
 close-held-requires-clause-none_open c =

@@ -1,15 +1,12 @@
 //! What measurements do with a depot: four seats of one, and threads that begin and finish calls.
 
 ghost use Rattle.std.specs.Prelude.{◌≤◌};
-ghost use Rattle.depot.specs.Words.{layout_in, IsSeatHere, IsNodeOf};
+ghost use Rattle.depot.specs.Words.{IsSeatHere};
 
-use crate::adding::{Adding, Change, open, split};
 use affinity_tree::{Affinity, Kind};
 use depot::{Depot, Seat};
-use parcel_sets::{
-    AggregateNode, LogicalNode, Node, Numbers, Parcel, RangeNode, SerialNode, StripeNode, VbnNode,
-    VolumeNode,
-};
+use depot_trial::adding::{Adding, open, split, touches};
+use parcel_sets::{LogicalNode, StripeNode};
 use std::alloc::Global;
 use std::thread;
 use std::thread::Threads;
@@ -65,65 +62,14 @@ pub const NAMES: [Affinity; 4] = [
     Affinity::VolumeLogical(3),
 ];
 
-/// Begins a call on a node and, if it is granted, finishes it: nothing changes. Whether it was
-/// granted.
-fn begin_and_finish_once<N: Node<Parcel<Numbers>>>(
-    depot: &Depot<Adding>,
-    seat: &mut Seat<Adding>,
-    affinity: Affinity,
-) -> bool
-    requires seat { IsSeatHere depot.now seat.old }
-    requires node { IsNodeOf (layout_in depot.now) N.KIND affinity }
-    ensures seat { IsSeatHere depot.now seat.new }
-{
-    match depot.begin::<N>(seat, affinity) {
-        Ok(grant) => {
-            depot.finish(seat, grant, &Change::Touch, &0);
-            true
-        }
-        Err(_) => false,
-    }
-}
-
-/// So many calls of a seat on a node, one after another. How many were granted; none at a node of
-/// another kind, or one that isn't there.
-fn begin_and_finish<N: Node<Parcel<Numbers>>>(
-    depot: &Depot<Adding>,
-    mut seat: Seat<Adding>,
-    affinity: Affinity,
-    count: u32,
-) -> u32
-    requires seat { IsSeatHere depot.now seat }
-    ensures most { result ≤ count }
-{
-    if affinity.kind() != N::KIND {
-        return 0;
-    }
-    if !depot.layout().contains(affinity) {
-        return 0;
-    }
-    let mut refused = 0;
-    for _call in 0..count {
-        if !begin_and_finish_once::<N>(depot, &mut seat, affinity) {
-            refused += 1;
-        }
-    }
-    count - refused
-}
-
-/// So many calls of a seat on a node of whichever kind. How many were granted.
+/// So many calls of a seat on a stripe or on a volume's names. How many were granted; none at
+/// another node.
 fn calls(depot: &Depot<Adding>, seat: Seat<Adding>, affinity: Affinity, count: u32) -> u32
     requires seat { IsSeatHere depot.now seat }
-    ensures most { result ≤ count }
 {
     match affinity.kind() {
-        Kind::Serial => begin_and_finish::<SerialNode>(depot, seat, affinity, count),
-        Kind::Aggregate => begin_and_finish::<AggregateNode>(depot, seat, affinity, count),
-        Kind::Volume => begin_and_finish::<VolumeNode>(depot, seat, affinity, count),
-        Kind::VolumeLogical => begin_and_finish::<LogicalNode>(depot, seat, affinity, count),
-        Kind::Stripe => begin_and_finish::<StripeNode>(depot, seat, affinity, count),
-        Kind::VolumeVbn => begin_and_finish::<VbnNode>(depot, seat, affinity, count),
-        Kind::Range => begin_and_finish::<RangeNode>(depot, seat, affinity, count),
+        Kind::Stripe => touches::<StripeNode>(depot, seat, affinity, count),
+        _ => touches::<LogicalNode>(depot, seat, affinity, count),
     }
 }
 
