@@ -1,5 +1,6 @@
 //! The home of each call.
 
+use crate::holds::holds;
 use affinity::home_of;
 use affinity_tree::{Affinity, AggregateSpec, Layout, VolumeSpec};
 use nfs_values::{
@@ -45,6 +46,15 @@ fn target(alloc: Global) -> Target {
     }
 }
 
+/// A READ of file 2.
+fn read(volume: u8, offset: u64, count: u32) -> Call {
+    Call::Read {
+        handle: handle(volume, 2),
+        offset,
+        count,
+    }
+}
+
 #[test]
 fn homes(rt: HostRuntime) -> Result<(), Fail> {
     let layout = two_volumes(rt.alloc())?;
@@ -80,8 +90,14 @@ fn homes(rt: HostRuntime) -> Result<(), Fail> {
         },
     ];
     for call in &of_names {
-        assert_eq!(rt; home_of(call, &layout), logical);
+        holds(home_of(call, &layout) == logical)?;
     }
+    Ok(())
+}
+
+#[test]
+fn homes_of_whole_volumes(rt: HostRuntime) -> Result<(), Fail> {
+    let layout = two_volumes(rt.alloc())?;
     let status = Call::FilesystemStatus {
         handle: handle(0, 1),
     };
@@ -89,9 +105,14 @@ fn homes(rt: HostRuntime) -> Result<(), Fail> {
         volume: VolumeNumber(0),
         ranges: 1,
     };
-    assert_eq!(rt; home_of(&status, &layout), Some(Affinity::Volume(0)));
-    assert_eq!(rt; home_of(&growth, &layout), Some(Affinity::Aggregate(1)));
-    assert_eq!(rt; home_of(&Call::Census, &layout), Some(Affinity::Serial));
+    let rows = [
+        (status, Affinity::Volume(0)),
+        (growth, Affinity::Aggregate(1)),
+        (Call::Census, Affinity::Serial),
+    ];
+    for (call, home) in &rows {
+        holds(home_of(call, &layout) == Some(*home))?;
+    }
     Ok(())
 }
 
@@ -110,49 +131,56 @@ fn calls_without_home(rt: HostRuntime) -> Result<(), Fail> {
         volume: VolumeNumber(2),
         ranges: 1,
     };
-    assert_eq!(rt; home_of(&Call::Null, &layout), None);
-    assert_eq!(rt; home_of(&unknown, &layout), None);
-    assert_eq!(rt; home_of(&short, &layout), None);
-    assert_eq!(rt; home_of(&growth, &layout), None);
+    for call in &[Call::Null, unknown, short, growth] {
+        holds(home_of(call, &layout).is_none())?;
+    }
+    Ok(())
+}
+
+/// Offset, count, and the stripe of file 2 of volume 0, if the bytes lie in one.
+const SPANS: [(u64, u32, Option<u32>); 12] = [
+    (0, 1, Some(2)),
+    (262_140, 4, Some(2)),
+    (262_143, 1, Some(2)),
+    (262_143, 2, None),
+    (262_143, 0, Some(2)),
+    (262_144, 10, Some(3)),
+    (196_608, 65_537, Some(2)),
+    (196_608, 4_294_967_295, Some(2)),
+    (196_609, 65_536, None),
+    (1_572_864, 1, Some(0)),
+    (18_446_744_073_709_551_615, 1, Some(1)),
+    (18_446_744_073_709_551_615, 2, None),
+];
+
+/// Its home.
+fn home_at(stripe: Option<u32>) -> Option<Affinity> {
+    match stripe {
+        Some(stripe) => Some(Affinity::Stripe { volume: 0, stripe }),
+        None => Some(Affinity::VolumeLogical(0)),
+    }
+}
+
+#[test]
+fn spans_are_read(rt: HostRuntime) -> Result<(), Fail> {
+    let layout = two_volumes(rt.alloc())?;
+    for (offset, count, stripe) in SPANS {
+        holds(home_of(&read(0, offset, count), &layout) == home_at(stripe))?;
+    }
     Ok(())
 }
 
 #[test]
-fn spans(rt: HostRuntime) -> Result<(), Fail> {
+fn spans_are_written(rt: HostRuntime) -> Result<(), Fail> {
     let layout = two_volumes(rt.alloc())?;
-    // offset, count, and the stripe of volume 0, if the bytes lie in one
-    let rows: [(u64, u32, Option<u32>); 12] = [
-        (0, 1, Some(2)),
-        (262_140, 4, Some(2)),
-        (262_143, 1, Some(2)),
-        (262_143, 2, None),
-        (262_143, 0, Some(2)),
-        (262_144, 10, Some(3)),
-        (196_608, 65_537, Some(2)),
-        (196_608, 4_294_967_295, Some(2)),
-        (196_609, 65_536, None),
-        (1_572_864, 1, Some(0)),
-        (18_446_744_073_709_551_615, 1, Some(1)),
-        (18_446_744_073_709_551_615, 2, None),
-    ];
-    for (offset, count, stripe) in rows {
-        let wanted = match stripe {
-            Some(stripe) => Affinity::Stripe { volume: 0, stripe },
-            None => Affinity::VolumeLogical(0),
-        };
-        let read = Call::Read {
-            handle: handle(0, 2),
-            offset,
-            count,
-        };
+    for (offset, count, stripe) in SPANS {
         let write = Call::Write {
             handle: handle(0, 2),
             offset,
             count,
             bytes: Vec::new(rt.alloc()),
         };
-        assert_eq!(rt; home_of(&read, &layout), Some(wanted));
-        assert_eq!(rt; home_of(&write, &layout), Some(wanted));
+        holds(home_of(&write, &layout) == home_at(stripe))?;
     }
     Ok(())
 }
@@ -163,13 +191,8 @@ fn spans_of_16_stripes(rt: HostRuntime) -> Result<(), Fail> {
     // the span of file 2, and its stripe
     let rows: [(u64, u32); 4] = [(0, 2), (8, 10), (13, 15), (14, 0)];
     for (span, stripe) in rows {
-        let read = Call::Read {
-            handle: handle(1, 2),
-            offset: span * 262_144,
-            count: 1,
-        };
-        let wanted = Affinity::Stripe { volume: 1, stripe };
-        assert_eq!(rt; home_of(&read, &layout), Some(wanted));
+        let home = home_of(&read(1, span * 262_144, 1), &layout);
+        holds(home == Some(Affinity::Stripe { volume: 1, stripe }))?;
     }
     Ok(())
 }

@@ -2,6 +2,8 @@
 #![tactic(auto)]
 
 #[cfg(test)]
+mod holds;
+#[cfg(test)]
 mod homes;
 #[cfg(test)]
 mod layouts;
