@@ -11,8 +11,8 @@ use std::sync::{Mutex, Wait};
 use std::thread::Threads;
 use std::time::Instant;
 
-/// How many passes there are, of which the fastest is told.
-const PASSES: u32 = 9;
+/// How many passes there are, of which the middle one by its rate is told.
+const PASSES: usize = 9;
 
 /// A pass on a new depot, each thread on its node: how many calls were granted, and how many of
 /// these in a second.
@@ -42,6 +42,12 @@ fn lock_pass<R: Clock + Threads + Wait + Sync>(rt: &R, crew: Crew, count: u32) -
     Ok(per_second(crew.size() * u64::from(count), time))
 }
 
+/// The middle one of the rates of all passes.
+fn middle(mut rates: [u64; PASSES]) -> u64 {
+    rates.sort_unstable();
+    rates[PASSES / 2]
+}
+
 /// Measures one kind of node with so many threads, and prints a line.
 fn measure<R: Clock + Print + AllocGlobal + Threads + Wait + Sync>(
     rt: &R,
@@ -51,14 +57,15 @@ fn measure<R: Clock + Print + AllocGlobal + Threads + Wait + Sync>(
     count: u32,
 ) -> io::Result<()> {
     let mut granted = 0u64;
-    let mut finished = 0;
-    let mut added = 0;
-    for _pass in 0..PASSES {
+    let mut finished = [0; PASSES];
+    let mut added = [0; PASSES];
+    for pass in 0..PASSES {
         let (here, rate) = depot_pass(rt, crew, nodes, count)?;
         granted = granted.saturating_add(here);
-        finished = rate.max(finished);
-        added = lock_pass(rt, crew, count)?.max(added);
+        finished[pass] = rate;
+        added[pass] = lock_pass(rt, crew, count)?;
     }
+    let (finished, added) = (middle(finished), middle(added));
     print_rates(rt, name, crew.size(), granted, finished, added)
 }
 

@@ -3,7 +3,6 @@
 use crate::texts::*;
 use filer_replay::replay;
 use std::alloc::{AllocError, Global};
-use std::process::Abort;
 use std::test::Fail;
 
 /// A script, the status that it ends with, and what it prints.
@@ -23,12 +22,37 @@ pub(crate) fn joined(alloc: Global, pieces: &[&str]) -> Result<String, AllocErro
     Ok(text)
 }
 
-/// Runs a script, and looks at its status and at all that it prints.
-pub(crate) fn expect(rt: &(impl Abort + AllocGlobal), script: &[u8], status: u8, printed: &str) {
+/// What a script prints, behind its status.
+fn replayed(alloc: Global, script: &[u8]) -> (u8, Vec<u8>) {
     let mut reader = script;
-    let mut out = Vec::new(rt.alloc());
-    assert_eq!(rt; replay(rt.alloc(), &mut reader, &mut out), status);
-    assert_eq!(rt; str::from_utf8(&out), Ok(printed));
+    let mut out = Vec::new(alloc);
+    let status = replay(alloc, &mut reader, &mut out);
+    (status, out)
+}
+
+/// Runs a script, which is to end with a status and to print all this.
+pub(crate) fn expect(alloc: Global, script: &[u8], status: u8, printed: &str) -> Result<(), Fail> {
+    let (ended, out) = replayed(alloc, script);
+    if ended != status {
+        return Err(Fail::new("another status"));
+    }
+    same(&out, printed.as_bytes())
+}
+
+/// Ends the test where these aren't the bytes that are wanted.
+pub(crate) fn same(bytes: &[u8], wanted: &[u8]) -> Result<(), Fail> {
+    if bytes == wanted {
+        return Ok(());
+    }
+    Err(Fail::new("other bytes"))
+}
+
+/// Ends the test where this isn't so.
+pub(crate) fn holds(is_so: bool) -> Result<(), Fail> {
+    if is_so {
+        return Ok(());
+    }
+    Err(Fail::new("it isn't so"))
 }
 
 /// The rows: calls, cuts, faults, closes and refusals.
@@ -178,7 +202,7 @@ fn scripts_print_their_lines(rt: HostRuntime) -> Result<(), Fail> {
     for row in ROWS {
         let script = joined(alloc, row.script)?;
         let printed = joined(alloc, row.printed)?;
-        expect(&rt, script.as_bytes(), row.status, &printed);
+        expect(alloc, script.as_bytes(), row.status, &printed)?;
     }
     Ok(())
 }

@@ -165,7 +165,7 @@ fn heads_are_answered(rt: HostRuntime) -> Result<(), Fail> {
             printed.push_str(&joined(alloc, reply)?)?;
             printed.push_str("\n")?;
         }
-        expect(&rt, script.as_bytes(), 0, &printed);
+        expect(alloc, script.as_bytes(), 0, &printed)?;
     }
     Ok(())
 }

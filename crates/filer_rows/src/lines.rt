@@ -95,16 +95,15 @@ const LINES: [&str; 28] = [
 fn bad_lines_end_a_script(rt: HostRuntime) -> Result<(), Fail> {
     let alloc = rt.alloc();
     for (script, printed) in LAYOUTS {
-        expect(&rt, script.as_bytes(), 1, printed);
+        expect(alloc, script.as_bytes(), 1, printed)?;
     }
     for line in LINES {
         let script = joined(alloc, &[LAYOUT, "open\n", line, "\nopen\n"])?;
-        expect(&rt, script.as_bytes(), 1, "conn 0\nbad line 5\n");
+        expect(alloc, script.as_bytes(), 1, "conn 0\nbad line 5\n")?;
     }
     let commented = joined(alloc, &[LAYOUT, "\n# a comment\nopen\n"])?;
-    expect(&rt, commented.as_bytes(), 0, "conn 0\n");
+    expect(alloc, commented.as_bytes(), 0, "conn 0\n")?;
     let not_ended = joined(alloc, &[LAYOUT, "open\nopen"])?;
-    expect(&rt, not_ended.as_bytes(), 1, "conn 0\nbad line 5\n");
-    expect(&rt, b"#\xff\nopen\n", 1, "bad line 2\n");
-    Ok(())
+    expect(alloc, not_ended.as_bytes(), 1, "conn 0\nbad line 5\n")?;
+    expect(alloc, b"#\xff\nopen\n", 1, "bad line 2\n")
 }
