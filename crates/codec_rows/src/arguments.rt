@@ -41,8 +41,8 @@ fn names_are_copied(rt: HostRuntime) -> Result<(), Fail> {
         else {
             return Err("another call".into());
         };
-        same(target.directory.as_bytes(), &[7])?;
-        same(target.name.as_bytes(), b"ab")?;
+        same(&rt, target.directory.as_bytes(), &[7]);
+        same(&rt, target.name.as_bytes(), b"ab");
     }
     Ok(())
 }
@@ -57,12 +57,13 @@ fn second_spellings_are_refused(rt: HostRuntime) -> Result<(), Fail> {
     let Err(Bad::Fault(fault)) = decode_args(rt.alloc(), Procedure::Lookup, &padded) else {
         return Err("padding that isn't zero".into());
     };
-    holds(fault.number() == 4)?;
+    holds(&rt, fault.number() == 4);
     let longer = joined(rt.alloc(), &[&root, &[0, 0, 0, 0, 0]])?;
     let Err(Bad::Fault(fault)) = decode_args(rt.alloc(), Procedure::Lookup, &longer) else {
         return Err("bytes behind the name".into());
     };
-    holds(fault.number() == 6)
+    holds(&rt, fault.number() == 6);
+    Ok(())
 }
 
 #[test]
@@ -71,8 +72,9 @@ fn files_are_made_with_attributes(rt: HostRuntime) -> Result<(), Fail> {
     let Call::Create { target, mode } = decode_args(rt.alloc(), Procedure::Create, &guarded)? else {
         return Err("no CREATE".into());
     };
-    same(target.name.as_bytes(), b"ab")?;
-    holds(mode == CreateMode::Guarded(set()))
+    same(&rt, target.name.as_bytes(), b"ab");
+    holds(&rt, mode == CreateMode::Guarded(set()));
+    Ok(())
 }
 
 #[test]
@@ -82,8 +84,9 @@ fn directories_are_made_with_attributes(rt: HostRuntime) -> Result<(), Fail> {
     let Call::MakeDirectory { target, set: asked } = made else {
         return Err("no MKDIR".into());
     };
-    same(target.name.as_bytes(), b"ab")?;
-    holds(asked == set())
+    same(&rt, target.name.as_bytes(), b"ab");
+    holds(&rt, asked == set());
+    Ok(())
 }
 
 #[test]
@@ -101,7 +104,8 @@ fn data_is_copied(rt: HostRuntime) -> Result<(), Fail> {
     else {
         return Err("no WRITE".into());
     };
-    same(handle.as_bytes(), &[7])?;
-    holds(offset == 8 && count == 3)?;
-    same(&bytes, &[1, 2, 3])
+    same(&rt, handle.as_bytes(), &[7]);
+    holds(&rt, offset == 8 && count == 3);
+    same(&rt, &bytes, &[1, 2, 3]);
+    Ok(())
 }

@@ -1,22 +1,16 @@
 //! Bytes, put together and compared.
 
 use std::alloc::{AllocError, Global};
-use std::test::Fail;
+use std::process::Abort;
 
-/// Whether this is so, which ends the test where it isn't.
-pub(crate) fn holds(is_so: bool) -> Result<(), Fail> {
-    if is_so {
-        return Ok(());
-    }
-    Err(Fail::new("it isn't so"))
+/// Looks whether this is so.
+pub(crate) fn holds(rt: &impl Abort, is_so: bool) {
+    assert!(rt; is_so);
 }
 
-/// Ends the test where these aren't the bytes that are wanted.
-pub(crate) fn same(bytes: &[u8], wanted: &[u8]) -> Result<(), Fail> {
-    if bytes == wanted {
-        return Ok(());
-    }
-    Err(Fail::new("other bytes"))
+/// Looks whether these are the bytes that are wanted.
+pub(crate) fn same(rt: &impl Abort, bytes: &[u8], wanted: &[u8]) {
+    assert_eq!(rt; bytes, wanted);
 }
 
 /// Parts, one after the other.

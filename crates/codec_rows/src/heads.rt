@@ -21,7 +21,11 @@ fn null_of_a_user(rt: HostRuntime) -> Result<(), Fail> {
     else {
         return Err(Fail::from("no NULL"));
     };
-    holds(heard.xid == 9 && credential.uid == 1000 && credential.gid == 100)
+    holds(
+        &rt,
+        heard.xid == 9 && credential.uid == 1000 && credential.gid == 100,
+    );
+    Ok(())
 }
 
 #[test]
@@ -36,13 +40,17 @@ fn admin_null(rt: HostRuntime) -> Result<(), Fail> {
     else {
         return Err(Fail::from("no call"));
     };
-    holds(credential.uid == 65534 && credential.gid == 65534)?;
+    holds(&rt, credential.uid == 65534 && credential.gid == 65534);
     let mismatch = bytes_of(rt.alloc(), &[9, 0, 2, 0x20000001, 2, 0, 0, 0, 0, 0])?;
-    holds(matches!(
-        read_call(&mismatch),
-        Head::Refuse {
-            xid: 9,
-            reply: Reply::ProgramMismatch { low: 1, high: 1 }
-        }
-    ))
+    holds(
+        &rt,
+        matches!(
+            read_call(&mismatch),
+            Head::Refuse {
+                xid: 9,
+                reply: Reply::ProgramMismatch { low: 1, high: 1 }
+            }
+        ),
+    );
+    Ok(())
 }

@@ -2,6 +2,7 @@
 
 use crate::bytes::{holds, same};
 use rpc_record::{Look, Reassembler, Step, frame, put_header};
+use std::process::Abort;
 use std::test::Fail;
 
 /// A NULL call of NFS version 3 with no credential (RFC 5531, section 9; RFC 1813, section 3.3.0).
@@ -17,23 +18,27 @@ const FRAGMENTS: [u8; 56] = [
 ];
 
 /// Feeds once more where there was no memory, which must have taken nothing.
-fn fed(reassembler: &mut Reassembler, bytes: &[u8]) -> Result<(usize, Step), Fail> {
+fn fed(rt: &impl Abort, reassembler: &mut Reassembler, bytes: &[u8]) -> (usize, Step) {
     let (taken, step) = reassembler.feed(bytes);
     if let Step::NoMemory = step {
-        holds(taken == 0)?;
-        return Ok(reassembler.feed(bytes));
+        holds(rt, taken == 0);
+        return reassembler.feed(bytes);
     }
-    Ok((taken, step))
+    (taken, step)
 }
 
 #[test]
 fn joins_fragments(rt: HostRuntime) -> Result<(), Fail> {
     let mut reassembler = Reassembler::new(rt.alloc());
-    holds(matches!(reassembler.look(&FRAGMENTS), (56, Look::Record)))?;
+    holds(
+        &rt,
+        matches!(reassembler.look(&FRAGMENTS), (56, Look::Record)),
+    );
     let (56, Step::Record(made)) = reassembler.feed(&FRAGMENTS) else {
         return Err(Fail::new("no record"));
     };
-    same(&made, &NULL_CALL)
+    same(&rt, &made, &NULL_CALL);
+    Ok(())
 }
 
 #[test]
@@ -41,16 +46,17 @@ fn joins_bytes_that_come_one_by_one(rt: HostRuntime) -> Result<(), Fail> {
     let mut reassembler = Reassembler::new(rt.alloc());
     let mut records = 0;
     for byte in &FRAGMENTS {
-        match fed(&mut reassembler, &[*byte])? {
+        match fed(&rt, &mut reassembler, &[*byte]) {
             (1, Step::More) => {}
             (1, Step::Record(made)) => {
-                same(&made, &NULL_CALL)?;
+                same(&rt, &made, &NULL_CALL);
                 records = 1u8;
             }
             _ => return Err(Fail::new("a fault")),
         }
     }
-    holds(records == 1)
+    holds(&rt, records == 1);
+    Ok(())
 }
 
 #[test]
@@ -59,9 +65,9 @@ fn tells_a_fault_again(rt: HostRuntime) -> Result<(), Fail> {
     let mut reassembler = Reassembler::new(rt.alloc());
     for taken in [4, 0] {
         let (looked, look) = reassembler.look(&header);
-        holds(looked == taken && matches!(look, Look::Fault))?;
+        holds(&rt, looked == taken && matches!(look, Look::Fault));
         let (fed, step) = reassembler.feed(&header);
-        holds(fed == taken && matches!(step, Step::Fault))?;
+        holds(&rt, fed == taken && matches!(step, Step::Fault));
     }
     Ok(())
 }
@@ -72,9 +78,10 @@ fn frames_a_record(rt: HostRuntime) -> Result<(), Fail> {
     let Some((header, record)) = framed.split_at_checked(4) else {
         return Err(Fail::new("no header"));
     };
-    same(header, &[0x80, 0, 0, 0x28])?;
-    same(record, &NULL_CALL)?;
+    same(&rt, header, &[0x80, 0, 0, 0x28]);
+    same(&rt, record, &NULL_CALL);
     let mut out = Vec::new(rt.alloc());
     put_header(&mut out, 40)?;
-    same(&out, &[0x80, 0, 0, 0x28])
+    same(&rt, &out, &[0x80, 0, 0, 0x28]);
+    Ok(())
 }

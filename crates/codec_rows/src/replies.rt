@@ -17,11 +17,12 @@ fn records_of_replies(rt: HostRuntime) -> Result<(), Fail> {
         rt.alloc(),
         &[0x80000018, 9, 1, 0, 0, 0, 0, 0x80000014, 9, 1, 1, 1, 1],
     )?;
-    same(&out, &wanted)?;
+    same(&rt, &out, &wanted);
     let mut bare = Vec::new(rt.alloc());
     write_reply(&mut bare, 3, &Reply::RpcMismatch { low: 2, high: 2 })?;
     let wanted = bytes_of(rt.alloc(), &[3, 1, 1, 0, 2, 2])?;
-    same(&bare, &wanted)
+    same(&rt, &bare, &wanted);
+    Ok(())
 }
 
 /// The handle of the root of volume 0.
@@ -62,20 +63,20 @@ fn rooms_are_reached(rt: HostRuntime) -> Result<(), Fail> {
         (grow, 40),
     ];
     for (call, room) in &rows {
-        holds(room_of_reply(call, 2) == *room)?;
+        holds(&rt, room_of_reply(call, 2) == *room);
     }
     Ok(())
 }
 
 #[test]
-fn rooms_go_by_counts(_rt: HostRuntime) -> Result<(), Fail> {
+fn rooms_go_by_counts(rt: HostRuntime) -> Result<(), Fail> {
     for (count, room) in [(0, 48), (4, 52), (5, 56), (65_537, 65_584)] {
         let read = Call::Read {
             handle: root(),
             offset: 0,
             count,
         };
-        holds(room_of_reply(&read, 2) == room)?;
+        holds(&rt, room_of_reply(&read, 2) == room);
     }
     for (count, room) in [(3, 36), (160, 192), (65_537, 65_568)] {
         let list = Call::ReadDirectory {
@@ -84,7 +85,7 @@ fn rooms_go_by_counts(_rt: HostRuntime) -> Result<(), Fail> {
             verifier: Verifier([0; 8]),
             count,
         };
-        holds(room_of_reply(&list, 2) == room)?;
+        holds(&rt, room_of_reply(&list, 2) == room);
     }
     Ok(())
 }

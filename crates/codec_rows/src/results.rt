@@ -19,7 +19,8 @@ fn results_are_written(rt: HostRuntime) -> Result<(), Fail> {
     let wanted = [
         0, 0, 0, 0, 0, 0, 0, 0, 0, 0, 0, 3, 0, 0, 0, 1, 0, 0, 0, 3, 1, 2, 3, 0,
     ];
-    same(&out, &wanted)
+    same(&rt, &out, &wanted);
+    Ok(())
 }
 
 #[test]
@@ -67,5 +68,6 @@ fn entries_are_chained(rt: HostRuntime) -> Result<(), Fail> {
             &[0, 0, 0, 0, 0, 0, 0, 1],
         ],
     )?;
-    same(&out, &wanted)
+    same(&rt, &out, &wanted);
+    Ok(())
 }

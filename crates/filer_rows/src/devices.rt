@@ -3,9 +3,10 @@
 use crate::events::{holds, joined, same};
 use crate::texts::LAYOUT;
 use filer_replay::{Command, ProgramFault, command, program, replay};
-use std::alloc::Global;
 use std::io;
 use std::io::{Read, Write};
+use std::process::Abort;
+use std::rt::Files;
 use std::test::Fail;
 
 /// A reader that gives some bytes, and then fails.
@@ -47,25 +48,27 @@ impl Write for Closing {
 }
 
 /// What is written of a script's output that fails after so many writes. The script ends with 1.
-fn cut(alloc: Global, script: &str, left: usize, is_cut: bool) -> Result<Vec<u8>, Fail> {
+fn cut(rt: &(impl Abort + AllocGlobal), script: &str, left: usize, is_cut: bool) -> Vec<u8> {
     let mut out = Closing {
         left,
         is_cut,
-        taken: Vec::new(alloc),
+        taken: Vec::new(rt.alloc()),
     };
-    if replay(alloc, &mut script.as_bytes(), &mut out) != 1 {
-        return Err(Fail::new("another status"));
-    }
+    assert_eq!(rt; replay(rt.alloc(), &mut script.as_bytes(), &mut out), 1);
     let Closing { taken, .. } = out;
-    Ok(taken)
+    taken
 }
 
 #[test]
 fn readers_fail(rt: HostRuntime) -> Result<(), Fail> {
     let alloc = rt.alloc();
     let mut out = Vec::new(alloc);
-    holds(replay(alloc, &mut Broken(LAYOUT.as_bytes()), &mut out) == 1)?;
-    same(&out, b"fault 61\n")
+    holds(
+        &rt,
+        replay(alloc, &mut Broken(LAYOUT.as_bytes()), &mut out) == 1,
+    );
+    same(&rt, &out, b"fault 61\n");
+    Ok(())
 }
 
 #[test]
@@ -78,16 +81,18 @@ fn writers_fail(rt: HostRuntime) -> Result<(), Fail> {
         script.push_str("close 1\n")?;
         printed.push_str("refused 36\n")?;
     }
-    holds(cut(alloc, &script, 0, false)?.is_empty())?;
-    let some = cut(alloc, &script, 1, false)?;
-    holds(some.len() > 0 && some.len() < printed.len())?;
-    holds(printed.as_bytes().starts_with(&some))
+    holds(&rt, cut(&rt, &script, 0, false).is_empty());
+    let some = cut(&rt, &script, 1, false);
+    holds(&rt, some.len() > 0 && some.len() < printed.len());
+    holds(&rt, printed.as_bytes().starts_with(&some));
+    Ok(())
 }
 
 #[test]
 fn flushes_fail(rt: HostRuntime) -> Result<(), Fail> {
     let script = joined(rt.alloc(), &[LAYOUT, "open\n"])?;
-    same(&cut(rt.alloc(), &script, 9, true)?, b"conn 0\n")
+    same(&rt, &cut(&rt, &script, 9, true), b"conn 0\n");
+    Ok(())
 }
 
 /// Command lines that are none.
@@ -103,17 +108,22 @@ const REFUSED: [&[&str]; 9] = [
     &["filer", "serve", "--listen", "127.0.0.1:0"],
 ];
 
+/// Looks whether these words are no command.
+fn refuse(rt: &(impl Abort + Files + AllocGlobal), words: &[&str]) {
+    let fault = command(rt.alloc(), words);
+    holds(rt, fault == Err(ProgramFault::CommandLine));
+    let mut out = Vec::new(rt.alloc());
+    holds(rt, program(rt, words, &mut out) == 2);
+    same(rt, &out, b"fault 60\n");
+}
+
 #[test]
-fn command_lines_are_read(rt: HostRuntime) -> Result<(), Fail> {
-    let alloc = rt.alloc();
-    holds(command(alloc, &["filer", "replay", "x"]) == Ok(Command::Replay { path: "x" }))?;
-    for words in REFUSED {
-        holds(command(alloc, words) == Err(ProgramFault::CommandLine))?;
-        let mut out = Vec::new(alloc);
-        holds(program(&rt, words, &mut out) == 2)?;
-        same(&out, b"fault 60\n")?;
+fn command_lines_are_read(rt: HostRuntime) {
+    let chosen = command(rt.alloc(), &["filer", "replay", "x"]);
+    holds(&rt, chosen == Ok(Command::Replay { path: "x" }));
+    for words in &REFUSED {
+        refuse(&rt, words);
     }
-    Ok(())
 }
 
 #[test]
@@ -124,8 +134,12 @@ fn programs_end_with_a_status(rt: HostRuntime) -> Result<(), Fail> {
         is_cut: false,
         taken: Vec::new(alloc),
     };
-    holds(program(&rt, &["filer"], &mut closed) == 2)?;
+    holds(&rt, program(&rt, &["filer"], &mut closed) == 2);
     let mut out = Vec::new(alloc);
-    holds(program(&rt, &["filer", "replay", "no such file"], &mut out) == 1)?;
-    same(&out, b"fault 61\n")
+    holds(
+        &rt,
+        program(&rt, &["filer", "replay", "no such file"], &mut out) == 1,
+    );
+    same(&rt, &out, b"fault 61\n");
+    Ok(())
 }

@@ -3,6 +3,7 @@
 use crate::texts::*;
 use filer_replay::replay;
 use std::alloc::{AllocError, Global};
+use std::process::Abort;
 use std::test::Fail;
 
 /// A script, the status that it ends with, and what it prints.
@@ -30,29 +31,21 @@ fn replayed(alloc: Global, script: &[u8]) -> (u8, Vec<u8>) {
     (status, out)
 }
 
-/// Runs a script, which is to end with a status and to print all this.
-pub(crate) fn expect(alloc: Global, script: &[u8], status: u8, printed: &str) -> Result<(), Fail> {
-    let (ended, out) = replayed(alloc, script);
-    if ended != status {
-        return Err(Fail::new("another status"));
-    }
-    same(&out, printed.as_bytes())
+/// Runs a script, and looks at its status and at all that it prints.
+pub(crate) fn expect(rt: &(impl Abort + AllocGlobal), script: &[u8], status: u8, printed: &str) {
+    let (ended, out) = replayed(rt.alloc(), script);
+    assert_eq!(rt; ended, status);
+    assert_eq!(rt; str::from_utf8(&out), Ok(printed));
 }
 
-/// Ends the test where these aren't the bytes that are wanted.
-pub(crate) fn same(bytes: &[u8], wanted: &[u8]) -> Result<(), Fail> {
-    if bytes == wanted {
-        return Ok(());
-    }
-    Err(Fail::new("other bytes"))
+/// Looks whether these are the bytes that are wanted.
+pub(crate) fn same(rt: &impl Abort, bytes: &[u8], wanted: &[u8]) {
+    assert_eq!(rt; bytes, wanted);
 }
 
-/// Ends the test where this isn't so.
-pub(crate) fn holds(is_so: bool) -> Result<(), Fail> {
-    if is_so {
-        return Ok(());
-    }
-    Err(Fail::new("it isn't so"))
+/// Looks whether this is so.
+pub(crate) fn holds(rt: &impl Abort, is_so: bool) {
+    assert!(rt; is_so);
 }
 
 /// The rows: calls, cuts, faults, closes and refusals.
@@ -199,10 +192,10 @@ const ROWS: [Row; 11] = [
 #[test]
 fn scripts_print_their_lines(rt: HostRuntime) -> Result<(), Fail> {
     let alloc = rt.alloc();
-    for row in ROWS {
+    for row in &ROWS {
         let script = joined(alloc, row.script)?;
         let printed = joined(alloc, row.printed)?;
-        expect(alloc, script.as_bytes(), row.status, &printed)?;
+        expect(&rt, script.as_bytes(), row.status, &printed);
     }
     Ok(())
 }

@@ -23,9 +23,16 @@ fn lists_of_events_are_played(rt: HostRuntime) -> Result<(), Fail> {
         bytes: &call,
     };
     let mut engine = Engine::play(alloc, layout, [0; 8], &[Event::Open, fed]);
-    same(engine.output(0), &reply)?;
-    same(engine.stream(0), &call)?;
-    holds(engine.finished().len() == 1 && engine.running().is_none())?;
-    holds(engine.run(&[Event::Open, fed, Event::Work { worker: 0 }]) == 2)?;
-    holds(engine.finished().len() == 2)
+    same(&rt, engine.output(0), &reply);
+    same(&rt, engine.stream(0), &call);
+    holds(
+        &rt,
+        engine.finished().len() == 1 && engine.running().is_none(),
+    );
+    holds(
+        &rt,
+        engine.run(&[Event::Open, fed, Event::Work { worker: 0 }]) == 2,
+    );
+    holds(&rt, engine.finished().len() == 2);
+    Ok(())
 }

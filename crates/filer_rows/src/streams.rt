@@ -16,7 +16,8 @@ fn streams_are_cut_anyhow(rt: HostRuntime) -> Result<(), Fail> {
         printed.push_str("taken 1 stop 0\n")?;
     }
     printed.push_str(&joined(alloc, &["out 0 ", NULL_REPLY, "\n"])?)?;
-    expect(alloc, script.as_bytes(), 0, &printed)
+    expect(&rt, script.as_bytes(), 0, &printed);
+    Ok(())
 }
 
 #[test]
@@ -29,5 +30,6 @@ fn a_full_engine_takes_no_record_more(rt: HostRuntime) -> Result<(), Fail> {
     script.push_str("\nfeed 0 01\nbegin 0 1023 1 0\nwork 0\nfinish 0\nfeed 0 01\n")?;
     let begun = "conn 0\ntaken 61499 stop 31\ntaken 0 stop 31\ngranted logical 0\nreply\nout 0 ";
     let printed = joined(alloc, &[begun, GETATTR_REPLY, "\ntaken 1 stop 0\n"])?;
-    expect(alloc, script.as_bytes(), 0, &printed)
+    expect(&rt, script.as_bytes(), 0, &printed);
+    Ok(())
 }

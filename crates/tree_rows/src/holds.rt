@@ -1,15 +1,12 @@
 //! What ends a test.
 
-ghost use Rattle.std.specs.Prelude.{◌≡◌, true, IfOk};
+ghost use Rattle.std.specs.Prelude.{◌≡◌, true};
 
-use std::test::Fail;
+use std::process::Abort;
 
-/// Whether this is so, which ends the test where it isn't.
-pub(crate) fn holds(is_so: bool) -> Result<(), Fail>
-    ensures { IfOk result (λ _. is_so ≡ true) }
+/// Looks whether this is so.
+pub(crate) fn holds(rt: &impl Abort, is_so: bool)
+    ensures { is_so ≡ true }
 {
-    if is_so {
-        return Ok(());
-    }
-    Err(Fail::new("it isn't so"))
+    assert!(rt; is_so);
 }

@@ -90,7 +90,7 @@ fn homes(rt: HostRuntime) -> Result<(), Fail> {
         },
     ];
     for call in &of_names {
-        holds(home_of(call, &layout) == logical)?;
+        holds(&rt, home_of(call, &layout) == logical);
     }
     Ok(())
 }
@@ -111,7 +111,7 @@ fn homes_of_whole_volumes(rt: HostRuntime) -> Result<(), Fail> {
         (Call::Census, Affinity::Serial),
     ];
     for (call, home) in &rows {
-        holds(home_of(call, &layout) == Some(*home))?;
+        holds(&rt, home_of(call, &layout) == Some(*home));
     }
     Ok(())
 }
@@ -132,7 +132,7 @@ fn calls_without_home(rt: HostRuntime) -> Result<(), Fail> {
         ranges: 1,
     };
     for call in &[Call::Null, unknown, short, growth] {
-        holds(home_of(call, &layout).is_none())?;
+        holds(&rt, home_of(call, &layout).is_none());
     }
     Ok(())
 }
@@ -164,8 +164,11 @@ fn home_at(stripe: Option<u32>) -> Option<Affinity> {
 #[test]
 fn spans_are_read(rt: HostRuntime) -> Result<(), Fail> {
     let layout = two_volumes(rt.alloc())?;
-    for (offset, count, stripe) in SPANS {
-        holds(home_of(&read(0, offset, count), &layout) == home_at(stripe))?;
+    for (offset, count, stripe) in &SPANS {
+        holds(
+            &rt,
+            home_of(&read(0, *offset, *count), &layout) == home_at(*stripe),
+        );
     }
     Ok(())
 }
@@ -173,14 +176,14 @@ fn spans_are_read(rt: HostRuntime) -> Result<(), Fail> {
 #[test]
 fn spans_are_written(rt: HostRuntime) -> Result<(), Fail> {
     let layout = two_volumes(rt.alloc())?;
-    for (offset, count, stripe) in SPANS {
+    for (offset, count, stripe) in &SPANS {
         let write = Call::Write {
             handle: handle(0, 2),
-            offset,
-            count,
+            offset: *offset,
+            count: *count,
             bytes: Vec::new(rt.alloc()),
         };
-        holds(home_of(&write, &layout) == home_at(stripe))?;
+        holds(&rt, home_of(&write, &layout) == home_at(*stripe));
     }
     Ok(())
 }
@@ -192,7 +195,7 @@ fn spans_of_16_stripes(rt: HostRuntime) -> Result<(), Fail> {
     let rows: [(u64, u32); 4] = [(0, 2), (8, 10), (13, 15), (14, 0)];
     for (span, stripe) in rows {
         let home = home_of(&read(1, span * 262_144, 1), &layout);
-        holds(home == Some(Affinity::Stripe { volume: 1, stripe }))?;
+        holds(&rt, home == Some(Affinity::Stripe { volume: 1, stripe }));
     }
     Ok(())
 }

@@ -3,6 +3,7 @@
 use crate::holds::holds;
 use affinity_tree::{Affinity, AggregateSpec, Layout, VolumeSpec};
 use std::alloc::{AllocError, Global};
+use std::process::Abort;
 use std::test::Fail;
 
 /// A volume by its aggregate, ranges, stripes and mebibytes.
@@ -62,8 +63,8 @@ const LAYOUTS: [(&[u32], &[Volume], u32); 13] = [
 
 #[test]
 fn faults(rt: HostRuntime) -> Result<(), Fail> {
-    for (spare, rows, fault) in LAYOUTS {
-        holds(fault_number(rt.alloc(), spare, rows)? == fault)?;
+    for (spare, rows, fault) in &LAYOUTS {
+        holds(&rt, fault_number(rt.alloc(), spare, rows)? == *fault);
     }
     Ok(())
 }
@@ -80,27 +81,38 @@ fn nodes(rt: HostRuntime) -> Result<(), Fail> {
     let specs = [AggregateSpec { spare: 128 }; 2];
     let volumes = [volume((1, 16, 16, 64)); 8];
     let largest = Layout::new(rt.alloc(), &specs, &volumes).map_err(|_fault| "fault")?;
-    holds(largest.node_count() == 283)?;
+    holds(&rt, largest.node_count() == 283);
     let last = Affinity::Range {
         volume: 7,
         range: 15,
     };
-    holds(largest.affinity_at(283) == last && largest.parent_number(283) == 267)?;
-    holds(largest.affinity_at(267) == Affinity::VolumeVbn(7))
+    holds(
+        &rt,
+        largest.affinity_at(283) == last && largest.parent_number(283) == 267,
+    );
+    holds(&rt, largest.affinity_at(267) == Affinity::VolumeVbn(7));
+    Ok(())
 }
 
 #[test]
 fn stripes_and_sizes(rt: HostRuntime) -> Result<(), Fail> {
     let layout = two_volumes(rt.alloc())?;
-    holds(layout.node_count() == 65)?;
-    holds(layout.stripes_of(0) == 8 && layout.stripes_of(1) == 16)?;
-    holds(layout.largest_of(0) == 16_777_216 && layout.largest_of(1) == 67_108_864)?;
+    holds(&rt, layout.node_count() == 65);
+    holds(&rt, layout.stripes_of(0) == 8 && layout.stripes_of(1) == 16);
+    holds(
+        &rt,
+        layout.largest_of(0) == 16_777_216 && layout.largest_of(1) == 67_108_864,
+    );
     let last = Affinity::Stripe {
         volume: 1,
         stripe: 15,
     };
-    holds(layout.number_of(last) == 48 && layout.affinity_at(48) == last)?;
-    holds(layout.parent_number(48) == 32)
+    holds(
+        &rt,
+        layout.number_of(last) == 48 && layout.affinity_at(48) == last,
+    );
+    holds(&rt, layout.parent_number(48) == 32);
+    Ok(())
 }
 
 /// Stripe 2 of volume 0.
@@ -134,20 +146,20 @@ const OTHERS: [Affinity; 6] = [
     },
 ];
 
-/// Ends the test where these don't all exclude the stripe, or not all leave it, both ways.
-fn exclude(others: &[Affinity], layout: &Layout, is_excluded: bool) -> Result<(), Fail> {
+/// Looks whether these all exclude the stripe, or all leave it, both ways.
+fn exclude(rt: &impl Abort, others: &[Affinity], layout: &Layout, is_excluded: bool) {
     for other in others {
-        holds(STRIPE.excludes(*other, layout) == is_excluded)?;
-        holds(other.excludes(STRIPE, layout) == is_excluded)?;
+        holds(rt, STRIPE.excludes(*other, layout) == is_excluded);
+        holds(rt, other.excludes(STRIPE, layout) == is_excluded);
     }
-    Ok(())
 }
 
 #[test]
 fn exclusion(rt: HostRuntime) -> Result<(), Fail> {
     let layout = two_volumes(rt.alloc())?;
-    exclude(&EXCLUDING, &layout, true)?;
-    exclude(&OTHERS, &layout, false)
+    exclude(&rt, &EXCLUDING, &layout, true);
+    exclude(&rt, &OTHERS, &layout, false);
+    Ok(())
 }
 
 #[test]
@@ -175,7 +187,7 @@ fn names(rt: HostRuntime) -> Result<(), Fail> {
     ];
     for (affinity, name) in rows {
         let printed = affinity.to_string(rt.alloc())?;
-        holds(printed.as_str() == name)?;
+        holds(&rt, printed.as_str() == name);
     }
     Ok(())
 }
