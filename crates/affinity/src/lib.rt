@@ -2,7 +2,5 @@
 #![tactic(auto)]
 
 mod home;
-#[cfg(test)]
-mod tests;
 
 pub use home::{home_of, named_by};

@@ -10,8 +10,6 @@ mod nodes;
 mod printed;
 mod rules;
 mod specification;
-#[cfg(test)]
-mod tests;
 mod tree;
 
 pub use affinity::{Affinity, HasKind, Kind};

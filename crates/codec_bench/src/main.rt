@@ -7,20 +7,10 @@
 mod run;
 mod sample;
 
-use std::{env, io};
-
-/// The number that the command line gives, if any.
-fn count(rt: &(impl env::Env + AllocGlobal)) -> io::Result<Option<u32>> {
-    let mut words = env::args(rt)?;
-    let _program = words.next();
-    match words.next() {
-        Some(word) => Ok(word.parse().ok()),
-        None => Ok(None),
-    }
-}
+use std::io;
 
 fn main(rt: HostRuntime) -> io::Result<()> {
-    match count(&rt)? {
+    match rates::count(&rt)? {
         Some(count) => run::run(&rt, count),
         None => Ok(()),
     }

@@ -5,11 +5,12 @@ ghost use Rattle.codec_bench.specs.Fits.{FitsRecord};
 use crate::sample::{Sample, get_attributes, lookup, read, write};
 use nfs_types::decode_args;
 use nfs_values::{Call, FileHandle, Target};
+use rates::per_second;
 use rpc_msg::{Head, read_call, write_reply_record};
 use std::alloc::{AllocError, Global};
 use std::io;
 use std::rt::Clock;
-use std::time::{Duration, Instant};
+use std::time::Instant;
 
 /// How many bytes of its record a handle keeps.
 fn kept_by_handle(handle: &FileHandle) -> u64 {
@@ -58,12 +59,6 @@ fn encode(out: &mut Vec<u8>, sample: &Sample, count: u32) -> Result<u64, AllocEr
     Ok(written)
 }
 
-/// How many of these were done in a second.
-fn per_second(count: u32, time: Duration) -> u64 {
-    let nanoseconds = u64::try_from(time.as_nanos()).unwrap_or(u64::MAX);
-    u64::from(count) * 1_000_000_000 / nanoseconds.max(1)
-}
-
 /// How many bytes one of these took.
 fn each(total: u64, count: u32) -> u64 {
     total / u64::from(count.max(1))
@@ -76,13 +71,13 @@ fn measure(rt: &(impl Clock + Print + AllocGlobal), sample: &Sample, count: u32)
     let name = sample.name;
     let start = Instant::now(rt)?;
     let copied = decode(rt.alloc(), sample, count);
-    let decoded = per_second(count, start.elapsed(rt)?);
+    let decoded = per_second(u64::from(count), start.elapsed(rt)?);
     let copied = each(copied, count);
     println!(rt; "{name}: {decoded} decoded a second, {copied} bytes copied by each")?;
     let mut out = Vec::new(rt.alloc());
     let start = Instant::now(rt)?;
     let written = encode(&mut out, sample, count)?;
-    let encoded = per_second(count, start.elapsed(rt)?);
+    let encoded = per_second(u64::from(count), start.elapsed(rt)?);
     let written = each(written, count);
     println!(rt; "{name}: {encoded} encoded a second, {written} bytes written by each")
 }

@@ -1,25 +1,22 @@
 //! How many calls are granted and finished in a second.
 
+use crate::crew::{Bench, Crew, NAMES, STRIPES};
 use crate::lock;
 use affinity_tree::Affinity;
-use depot_trial::measure::{Bench, Crew, NAMES, STRIPES};
+use rates::per_second;
 use std::alloc::AllocError;
 use std::io;
 use std::rt::Clock;
 use std::sync::{Mutex, Wait};
 use std::thread::Threads;
-use std::time::{Duration, Instant};
+use std::time::Instant;
 
-/// How many of these were done in a second.
-fn per_second(calls: u64, time: Duration) -> u64 {
-    let nanoseconds = u64::try_from(time.as_nanos()).unwrap_or(u64::MAX);
-    let rate = u128::from(calls) * 1_000_000_000 / u128::from(nanoseconds.max(1));
-    u64::try_from(rate).unwrap_or(u64::MAX)
-}
+/// How many passes there are, of which the middle one by its rate is told.
+const PASSES: usize = 9;
 
-/// Calls on a new depot, each thread on its node: how many were granted, and how many of these in a
-/// second.
-fn depot_rate<R: Clock + AllocGlobal + Threads + Sync>(
+/// A pass on a new depot, each thread on its node: how many calls were granted, and how many of
+/// these in a second.
+fn depot_pass<R: Clock + AllocGlobal + Threads + Sync>(
     rt: &R,
     crew: Crew,
     nodes: [Affinity; 4],
@@ -32,8 +29,8 @@ fn depot_rate<R: Clock + AllocGlobal + Threads + Sync>(
     Ok((granted, per_second(granted, time)))
 }
 
-/// Additions under one lock: how many were done in a second.
-fn lock_rate<R: Clock + Threads + Wait + Sync>(rt: &R, crew: Crew, count: u32) -> io::Result<u64> {
+/// A pass of additions under one lock: how many were done in a second.
+fn lock_pass<R: Clock + Threads + Wait + Sync>(rt: &R, crew: Crew, count: u32) -> io::Result<u64> {
     let numbers = Mutex::new([0; 4]);
     let start = Instant::now(rt)?;
     match crew {
@@ -45,24 +42,47 @@ fn lock_rate<R: Clock + Threads + Wait + Sync>(rt: &R, crew: Crew, count: u32) -
     Ok(per_second(crew.size() * u64::from(count), time))
 }
 
-/// Measures one kind of node, and prints a line for each number of threads.
+/// The middle one of the rates of all passes.
+fn middle(mut rates: [u64; PASSES]) -> u64 {
+    rates.sort_unstable();
+    rates[PASSES / 2]
+}
+
+/// Measures one kind of node with so many threads, and prints a line.
 fn measure<R: Clock + Print + AllocGlobal + Threads + Wait + Sync>(
     rt: &R,
     name: &str,
+    crew: Crew,
     nodes: [Affinity; 4],
     count: u32,
 ) -> io::Result<()> {
-    for crew in Crew::ALL {
-        let threads = crew.size();
-        let (granted, finished) = depot_rate(rt, crew, nodes, count)?;
-        let added = lock_rate(rt, crew, count)?;
-        let ratio = u128::from(finished) * 1000 / u128::from(added.max(1));
-        let (whole, thousandths) = (ratio / 1000, ratio % 1000);
-        print!(rt; "{name}, threads {threads}: {granted} granted, ")?;
-        print!(rt; "{finished} begun and finished a second, ")?;
-        println!(rt; "{added} under a lock, ratio {whole}.{thousandths:03}")?;
+    let mut granted = 0u64;
+    let mut finished = [0; PASSES];
+    let mut added = [0; PASSES];
+    for pass in 0..PASSES {
+        let (here, rate) = depot_pass(rt, crew, nodes, count)?;
+        granted = granted.saturating_add(here);
+        finished[pass] = rate;
+        added[pass] = lock_pass(rt, crew, count)?;
     }
-    Ok(())
+    let (finished, added) = (middle(finished), middle(added));
+    print_rates(rt, name, crew.size(), granted, finished, added)
+}
+
+/// Prints a line: both rates, and one by the other.
+fn print_rates(
+    rt: &impl Print,
+    name: &str,
+    threads: u64,
+    granted: u64,
+    finished: u64,
+    added: u64,
+) -> io::Result<()> {
+    let ratio = u128::from(finished) * 1000 / u128::from(added.max(1));
+    let (whole, thousandths) = (ratio / 1000, ratio % 1000);
+    print!(rt; "{name}, threads {threads}: {granted} granted, ")?;
+    print!(rt; "{finished} begun and finished a second, ")?;
+    println!(rt; "{added} under a lock, ratio {whole}.{thousandths:03}")
 }
 
 /// Measures stripes, and then the names of volumes.
@@ -70,6 +90,10 @@ pub fn run<R: Clock + Print + AllocGlobal + Threads + Wait + Sync>(
     rt: &R,
     count: u32,
 ) -> io::Result<()> {
-    measure(rt, "Stripe", STRIPES, count)?;
-    measure(rt, "Volume Logical", NAMES, count)
+    for (name, nodes) in [("Stripe", STRIPES), ("Volume Logical", NAMES)] {
+        for crew in Crew::ALL {
+            measure(rt, name, crew, nodes, count)?;
+        }
+    }
+    Ok(())
 }

@@ -1,3 +1,2 @@
 pub mod Trials
 pub mod Lent
-pub mod Rejoined

@@ -6,7 +6,7 @@ ghost use Rattle.nfs_model.specs.Tree as trees;
 ghost use Rattle.affinity_tree.specs.Layout.{layout_of};
 ghost use Rattle.parcel_sets.specs.Exact.{kind_in, HasExactly};
 ghost use Rattle.parcel_sets.specs.Sets.{serial_parcels};
-ghost use Rattle.depot.specs.Words.{IsSeatHere, all_parcels};
+ghost use Rattle.depot.specs.Words.{layout_in, IsSeatHere, IsNodeOf, all_parcels};
 ghost use Rattle.depot_trial.specs.Adding.{AreEach};
 
 use affinity_tree::{Affinity, AggregateSpec, Kind, Layout, VolumeSpec};
@@ -153,4 +153,50 @@ pub fn add(
         }
         Err(_) => None,
     }
+}
+
+/// Begins a call on a node and, if it is granted, finishes it: nothing changes. Whether it was
+/// granted.
+pub fn touch<N: Node<Parcel<Numbers>>>(
+    depot: &Depot<Adding>,
+    seat: &mut Seat<Adding>,
+    affinity: Affinity,
+) -> bool
+    requires seat { IsSeatHere depot.now seat.old }
+    requires node { IsNodeOf (layout_in depot.now) N.KIND affinity }
+    ensures seat { IsSeatHere depot.now seat.new }
+{
+    match depot.begin::<N>(seat, affinity) {
+        Ok(grant) => {
+            depot.finish(seat, grant, &Change::Touch, &0);
+            true
+        }
+        Err(_) => false,
+    }
+}
+
+/// So many calls of a seat on a node, one after another. How many were granted; none at a node of
+/// another kind, or one that isn't there.
+pub fn touches<N: Node<Parcel<Numbers>>>(
+    depot: &Depot<Adding>,
+    mut seat: Seat<Adding>,
+    affinity: Affinity,
+    count: u32,
+) -> u32
+    requires seat { IsSeatHere depot.now seat }
+    ensures most { result ≤ count }
+{
+    if affinity.kind() != N::KIND {
+        return 0;
+    }
+    if !depot.layout().contains(affinity) {
+        return 0;
+    }
+    let mut refused = 0;
+    for _call in 0..count {
+        if !touch::<N>(depot, &mut seat, affinity) {
+            refused += 1;
+        }
+    }
+    count - refused
 }

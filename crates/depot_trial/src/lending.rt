@@ -1,14 +1,16 @@
 //! A machine for tests, whose calls move tokens between a node's parcel and the seat's hand.
 
-ghost use Rattle.std.specs.Prelude.{◌≡◌, true, false, ℕ, List, ◌∷◌};
+ghost use Rattle.std.specs.Prelude.{◌≡◌, true, false, ℕ, List, [], ◌∷◌, IfOk};
 ghost use Rattle.depot_rule.specs.History.{entries_of};
 ghost use Rattle.depot.specs.Words.{view, IsSeatHere};
 ghost use Rattle.depot_trial.specs.Lending.{IsHand};
 
+use crate::adding::{all_of, volumes};
 use affinity_tree::{Affinity, Kind};
 use depot::{Depot, Seat};
 use depot_rule::machine::Machine;
-use parcel_sets::{Numbers, Parcel, StripeNode};
+use parcel_sets::{Numbers, Parcel, SerialNode, StripeNode};
+use std::alloc::{AllocError, Global};
 
 /// A call on the tokens of its node.
 #[derive(Clone, Copy, Debug, PartialEq, Eq)]
@@ -45,6 +47,19 @@ impl Machine for Lending {
     ghost local = { moves-local };
 
     ghost keeps = { moves-keep };
+}
+
+/// A depot in which each node has 7 tokens, and its first seat, with nothing in its hand.
+pub fn open(alloc: Global) -> Result<(Depot<Lending>, Seat<Lending>), AllocError>
+    ensures seat { IfOk result (λ made. IsSeatHere made.0 made.1) }
+    ensures hand { IfOk result (λ made. IsHand (view made.1) []) }
+{
+    let layout = volumes::<2>(alloc).ok_or(AllocError)?;
+    let parcels = all_of(alloc, &layout, 7)?;
+    match Depot::<Lending>::new::<SerialNode>(alloc, layout, parcels) {
+        Ok(made) => Ok(made),
+        Err(_) => Err(AllocError),
+    }
 }
 
 /// Takes tokens of a stripe into the hand, as one batch. Whether it did: not where the stripe has

@@ -1,11 +1,6 @@
 //! Machines to try a depot with: numbers that calls add to, and tokens that calls move between
-//! nodes and hands. The tests are here, and what measurements do with a depot.
+//! nodes and hands. The tests are in `depot_rows`, the measurements in `depot_bench`.
 #![tactic(auto)]
 
 pub mod adding;
 pub mod lending;
-pub mod measure;
-#[cfg(test)]
-mod tests;
-#[cfg(test)]
-mod trial;

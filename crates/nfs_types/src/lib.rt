@@ -14,6 +14,3 @@ pub use arguments::decode_args;
 pub use bad::Bad;
 pub use laws::arguments_are_exact;
 pub use results::{encode_result, size_of_result};
-
-#[cfg(test)]
-mod tests;

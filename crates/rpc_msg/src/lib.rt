@@ -10,8 +10,6 @@ mod record;
 mod reply;
 mod room;
 mod stop;
-#[cfg(test)]
-mod tests;
 
 pub use fault::RecordFault;
 pub use head::{Head, read_call};

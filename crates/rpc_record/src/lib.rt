@@ -6,8 +6,6 @@ mod join;
 mod laws;
 mod place;
 mod reassembler;
-#[cfg(test)]
-mod tests;
 
 pub use framing::{frame, put_header};
 pub use laws::{reading_goes_by_bytes, reading_is_exact, stream_has_one_reading};

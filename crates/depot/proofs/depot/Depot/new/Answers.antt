@@ -142,3 +142,42 @@ returns-in-Ok-clause-seat g c =
       subst (λ (l : List (List (View g.row.M-Parcel.Denot E))). IsSeatOf g.M.Parcel.HasKind.kind
           (layout_of c.args.layout) (known l)) (sym e) (refl, kinds),
     )
+
+pub returns-in_default-clause-made : goal.returns-in_default-clause-made
+returns-in_default-clause-made g c = tt
+
+pub returns-in_default-clause-seat : goal.returns-in_default-clause-seat
+returns-in_default-clause-seat g c = tt
+
+pub returns-in_default-clause-only : goal.returns-in_default-clause-only
+returns-in_default-clause-only g c = tt
+
+pub returns-in_default-clause-refused : goal.returns-in_default-clause-refused
+returns-in_default-clause-refused g c = λ k. refl
+
+pub scatter-requires-clause-node : goal.scatter-requires-clause-node
+scatter-requires-clause-node g c = tt
+
+pub scatter-requires-clause-kind : goal.scatter-requires-clause-kind
+scatter-requires-clause-kind g c = sym c.requires.root
+
+pub gather-requires-clause-node : goal.gather-requires-clause-node
+gather-requires-clause-node g c = tt
+
+pub gather-requires-clause-kind : goal.gather-requires-clause-kind
+gather-requires-clause-kind g c = sym c.requires.root
+
+pub returns-in-Ok-clause-only : goal.returns-in-Ok-clause-only
+returns-in-Ok-clause-only g c = refl
+
+pub returns-in-Ok-clause-refused : goal.returns-in-Ok-clause-refused
+returns-in-Ok-clause-refused g c = tt
+
+pub returns-in-Err-clause-made : goal.returns-in-Err-clause-made
+returns-in-Err-clause-made g c = tt
+
+pub returns-in-Err-clause-seat : goal.returns-in-Err-clause-seat
+returns-in-Err-clause-seat g c = tt
+
+pub returns-in-Err-clause-only : goal.returns-in-Err-clause-only
+returns-in-Err-clause-only g c = tt

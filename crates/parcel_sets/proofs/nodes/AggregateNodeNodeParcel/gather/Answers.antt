@@ -1,4 +1,4 @@
-use Rattle.std.proofs.Common.{ap, refl}
+use Rattle.std.proofs.Common.{rules, ap, refl}
 use Rattle.nfs_model.specs.Tree as trees
 use Rattle.affinity_tree.specs.Affinity.{affinity_of}
 use Rattle.affinity_tree.specs.Layout.{layout_of}
@@ -83,3 +83,13 @@ pub returns-clause-kept : goal.returns-clause-kept
 returns-clause-kept g c =
     g.met.S.Shelf.keeps_on c.args.shelf.now c.take_parcel.new.shelf c.gather_children.new.shelf c.in-Aggregate-take_parcel.ensures.kept
     c.gather_children.ensures.kept
+
+-- that sets and places fit memory: each found once
+pub gather_children-requires-room-C-Slots : goal.gather_children-requires-room-C-Slots
+gather_children-requires-room-C-Slots g c κs within = search rules
+
+pub gather_children-requires-room-K-Node : goal.gather_children-requires-room-K-Node
+gather_children-requires-room-K-Node g c κs within = search rules
+
+pub gather_children-requires-room-C-Slots-2 : goal.gather_children-requires-room-C-Slots-2
+gather_children-requires-room-C-Slots-2 g c κs within = gather_children-requires-room-K-Node g c κs within

@@ -1,4 +1,4 @@
-use Rattle.std.proofs.Common.{refl, slice_get}
+use Rattle.std.proofs.Common.{rules, refl, slice_get}
 use Rattle.nfs_model.specs.Tree as trees
 use Rattle.affinity_tree.specs.Affinity.{affinity_of}
 use Rattle.affinity_tree.specs.Layout.{layout_of}
@@ -70,3 +70,22 @@ returns-clause-moved g c =
 pub returns-clause-kept : goal.returns-clause-kept
 returns-clause-kept g c =
     g.met.S.Shelf.keeps_on c.args.shelf.now c.put_parcel.new.shelf c.scatter_children.new.shelf c.put_parcel.ensures.kept c.scatter_children.ensures.kept
+
+-- that sets and places fit memory: each found once
+pub scatter_children-requires-room-C-Slots : goal.scatter_children-requires-room-C-Slots
+scatter_children-requires-room-C-Slots g c κs within = search rules
+
+pub scatter_children-requires-room-C-Destruct : goal.scatter_children-requires-room-C-Destruct
+scatter_children-requires-room-C-Destruct g c κs within = scatter_children-requires-room-C-Slots g c κs within
+
+pub scatter_children-requires-room-K-Node : goal.scatter_children-requires-room-K-Node
+scatter_children-requires-room-K-Node g c κs within = search rules
+
+pub scatter_children-requires-room-C-Slots-2 : goal.scatter_children-requires-room-C-Slots-2
+scatter_children-requires-room-C-Slots-2 g c κs within = scatter_children-requires-room-K-Node g c κs within
+
+pub scatter_children-requires-room-C-Destruct-2 : goal.scatter_children-requires-room-C-Destruct-2
+scatter_children-requires-room-C-Destruct-2 g c κs within = scatter_children-requires-room-K-Node g c κs within
+
+pub scatter_children-requires-room-K-Held-Destruct : goal.scatter_children-requires-room-K-Held-Destruct
+scatter_children-requires-room-K-Held-Destruct g c κs within = scatter_children-requires-room-K-Node g c κs within
