@@ -1,0 +1,10 @@
+-- Lemmas alone, which no reader has to believe. They stand here, and not in `proofs/`, since crates above cite them.
+pub mod Served
+pub mod Agreeing
+pub mod Changing
+pub mod Beginning
+pub mod Working
+pub mod Finishing
+pub mod Opening
+pub mod Happening
+pub mod Feeding
