@@ -70,7 +70,7 @@ module _ {P C R : Type 0} (job : C → Job) (told : R → JobReply) (setup : Set
       let here = s.sound in
       let good = here.2 in
       let same : AllSound b.layout (settled b) here.0 (stamps b) =
-          subst (λ c. AreSound c here.0 (stamps b)) (filer-same good.0 b.layout (alike good.0 b.layout good.1.1) (settled b)) good.2 in
+      subst (λ c. AreSound c here.0 (stamps b)) (filer-same good.0 b.layout (alike good.0 b.layout good.1.1) (settled b)) good.2 in
       sound-by-weight (filer_contents b.layout (settled b)) here.0 (batches_carried w.workers) (stamps b)
       (λ weigh. let one = here.1 weigh in let other = s.hands weigh in omega (arith, one, other)) same
 
@@ -80,7 +80,7 @@ module _ {P C R : Type 0} (job : C → Job) (told : R → JobReply) (setup : Set
   reached-once i j l m at there ne k c d =
       let free = s.lent.apart i j l m at there (λ e. ne (sym e)) in
       let taken = number-excludes b.layout s.lawful l.affinity m.affinity (s.lent.node i l at) (s.lent.node j m there)
-          (cover-excludes ps (parents-tree b.layout s.lawful) (number_of b.layout l.affinity) (number_of b.layout m.affinity) k c d) in
+      (cover-excludes ps (parents-tree b.layout s.lawful) (number_of b.layout l.affinity) (number_of b.layout m.affinity) k c d) in
       let no : ⊥ = absurd cc in no
 
   -- ---- the fold
@@ -130,7 +130,7 @@ module _ {P C R : Type 0} (job : C → Job) (told : R → JobReply) (setup : Set
       × (tree b.layout (now b) ≡ server_worked (tree b.layout (settled b)) (all_running w.workers))
   now-served =
       let all = all-served b.layout Holds (tree b.layout) serve_one (settled b) b.lent (running_by w.workers) (stamps b) (settled b)
-          (all-done w.workers b.lent s.lent.node s.workers) reached-once (λ i l at k c. refl) sound-settled in
+      (all-done w.workers b.lent s.lent.node s.workers) reached-once (λ i l at k c. refl) sound-settled in
       (all.0, all.1 ∙ served-running w.workers (tree b.layout (settled b)))
 
   -- ---- what has to hold where calls run at one time
@@ -175,12 +175,11 @@ module _ {P C R : Type 0} (job : C → Job) (told : R → JobReply) (setup : Set
       let p : VolumeContents = found.0 in
       let sound = now-served.0.1 v p found.1 in
       let weighs : (n : ℕ) → times_listed n (hands_blocks v w.workers) ≡ total (times_in_hand p.number n) (batches_carried w.workers) =
-          λ n. carried-times v n w.workers ∙ ap (λ u. total (times_in_hand u n) (batches_carried w.workers)) (sym sound.0) in
-      (
+      λ n. carried-times v n w.workers ∙ ap (λ u. total (times_in_hand u n) (batches_carried w.workers)) (sym sound.0) in (
         parts_of p,
         ap (λ ps. slice_get ps v) s.parts ∙ slice_get-map parts_of c.volumes v ∙ ap (λ o. option_map parts_of o) found.1,
         subst (λ x. IsPartition x (parts_of p) (hands_blocks v w.workers)) (sym found.2)
-        (parts-partition p (batches_carried w.workers) now-served.0.0 (hands_blocks v w.workers) sound.1 weighs),
+            (parts-partition p (batches_carried w.workers) now-served.0.0 (hands_blocks v w.workers) sound.1 weighs),
       )
 
   -- calls that run at one time agree

@@ -88,7 +88,7 @@ module _ {P C R : Type 0} (job : C → Job) (told : R → JobReply) (setup : Set
       served.0,
       served.1,
       subst (λ (x : Job × JobReply). FilerSteps (parents b.layout) (number_of b.layout l.affinity) x.0 served.0 x.1 l.parcels)
-      (sym (λ n. (is_call n, is_reply n))) served.2,
+          (sym (λ n. (is_call n, is_reply n))) served.2,
     );
     hands = batches_carried w.workers;
     next = batches_carried w.workers;
@@ -124,7 +124,7 @@ module _ {P C R : Type 0} (job : C → Job) (told : R → JobReply) (setup : Set
     finished-is : server_after (start setup) next.finished ≡ tree b.layout (settled new_books)
     finished-is =
         let there = outcome-there setup b s.lawful l (s.lent.node i l done.is_lent) r (Some o) (run-on l done.is_lent) (settled b) (λ n cover. refl)
-            (batches_carried w.workers) (stamps b) (sound-settled job told setup w b s) in
+        (batches_carried w.workers) (stamps b) (sound-settled job told setup w b s) in
         ap (λ xs. server_after (start setup) xs) finished ∙ after-one (start setup) w.finished (finished_call r starved)
         ∙ ap (λ x. (step_of x (finished_call r starved)).server) s.finished
         ∙ sym (same_server (tree b.layout (settled b))) ∙ sym there.1 ∙ ap (λ f. tree b.layout f) (sym settled-is)

@@ -36,9 +36,9 @@ pub covered-node : (layout : Layout) → fault_of layout ≡ None → (a : Affin
 covered-node layout lawful a node k c =
     let place = number-place layout a node in
     let pos : 0 < k = ⊎_elim
-        (λ (e : number_of layout a ≡ k). subst (λ (n : ℕ). 0 < n) e place.0)
-        (λ u. let s = above-smaller (parents layout) (parents-tree layout lawful) (number_of layout a) k u in (let p : 0 < k = omega arith in p))
-        c in
+    (λ (e : number_of layout a ≡ k). subst (λ (n : ℕ). 0 < n) e place.0)
+    (λ u. let s = above-smaller (parents layout) (parents-tree layout lawful) (number_of layout a) k u in (let p : 0 < k = omega arith in p))
+    c in
     (pos, covers-below (parents layout) (number_of layout a) k pos place.1 c)
 
 -- putting in what is there changes nothing
@@ -75,7 +75,7 @@ module _ {P C R : Type 0} (setup : Setup) (b : FilerBooks P C R) (lawful : fault
       × AllSound b.layout (put f) hands (n + 1)
   serves-there call reply worked f agrees hands n sound =
       let same : (k : ℕ) → Covers ps here k → f k ≡ worked.0 k = λ k c.
-          (let in_tree = covered-node b.layout lawful l.affinity node k c in agrees k c ∙ sym (worked.1 k in_tree.0 in_tree.1 c)) in
+      (let in_tree = covered-node b.layout lawful l.affinity node k c in agrees k c ∙ sym (worked.1 k in_tree.0 in_tree.1 c)) in
       let step = (steps-local ps here (Serve call) worked.0 f (jobs.Replied reply) l.parcels worked.2).1 same in
       entry-does b.layout lawful l.affinity node (Serve call) (jobs.Replied reply) f (put f) hands hands n step sound (λ weigh. refl)
 

@@ -194,7 +194,7 @@ module _ {P C R : Type 0} (job : C → Job) (told : R → JobReply) (setup : Set
   came-to Starved e did = (served-here (finished_call r true) SystemError did).works
   came-to (Moved to) e did = (
     subst (λ a. move_of (stored_all (filer_contents L (now b))) (record { asked = r.message.asked; affinity = a; moment = r.moment }) ≡ Some to) (sym run.0)
-    (did.1 (now b) (batches_carried w.workers) made lent-now sound),
+        (did.1 (now b) (batches_carried w.workers) made lent-now sound),
     ap (λ f. stored_all (filer_contents L f)) (put-same did.0),
   )
 
