@@ -1,18 +1,16 @@
 -- Calls that run at one time agree: the world that the books stand for is within the headline. Nothing here is by procedure.
-use Rattle.std.proofs.Common.{◌≡◌, ◌≢◌, ℕ, zero, suc, ◌+◌, ◌<◌, true, false, List, [], ◌∷◌, ◌++◌, map, length, Option, Some, None, refl, sym, ap, ◌∙◌}
+use Rattle.std.proofs.Common.{◌≡◌, ◌≢◌, ℕ, zero, suc, ◌+◌, List, [], ◌∷◌, ◌++◌, map, Option, Some, None, refl, sym, ap, ◌∙◌}
 use Rattle.std.proofs.Common.{subst, arith}
 use Rattle.std.specs.Prelude.{slice_get, option_map}
 use Rattle.std.specs.List.{AllByRecursion}
 use Rattle.std.proofs.lemmas.Option.{slice_get-map}
-use mathlib.Core.Option.{some, some-injective}
+use mathlib.Core.Option.{some}
 use lib.ListN.{get_elem?}
-use Rattle.nfs_model.specs.Tree.{Layout, Affinity, excludes}
 use Rattle.nfs_model.specs.Server.{VolumeState, Server}
 use Rattle.nfs_model.specs.Parts.{Parts, Hand, Empty, Fresh, Dead, hand_blocks, times_listed, IsPartition}
 use Rattle.nfs_model.specs.World.{Setup, World, Running, Worker, with_held, all_running, hands_blocks}
 use Rattle.nfs_model.specs.Headline.{worked_by, server_worked, IsOutcome}
 use Rattle.nfs_model.specs.Agreed.{IsAgreed}
-use Rattle.affinity_tree.specs.Fault.{fault_of}
 use Rattle.affinity_tree.specs.Tree.{IsNode}
 use Rattle.affinity_tree.specs.Ancestors.{Covers}
 use Rattle.affinity_tree.specs.Numbers.{number_of, parents}
@@ -21,12 +19,12 @@ use Rattle.affinity_tree.specs.lemmas.Standing.{parents-tree, number-excludes}
 use Rattle.depot_rule.specs.Sums.{total}
 use Rattle.depot_rule.specs.History.{patched}
 use Rattle.depot_rule.specs.lemmas.Trees.{cover-excludes}
-use Rattle.desk_laws.specs.Books.{Lent, overlaid, settled, now, stamps, HasLent}
+use Rattle.desk_laws.specs.Books.{Lent, settled, now, stamps, HasLent}
 use Rattle.desk_laws.specs.lemmas.Overlays.{all-served, IsDone, AreDone, served}
 use Rattle.held_state.specs.Parcels.{FilerParcel}
-use Rattle.held_state.specs.Contents.{VolumeContents, FilerContents, filer_contents, volume_at}
+use Rattle.held_state.specs.Contents.{VolumeContents, FilerContents, filer_contents}
 use Rattle.held_state.specs.Tree.{tree, volume_of}
-use Rattle.held_state.specs.Partition.{parts_of, all_parts, times_in_hand}
+use Rattle.held_state.specs.Partition.{parts_of, times_in_hand}
 use Rattle.held_state.specs.Sound.{AreSound, AllSound}
 use Rattle.held_state.specs.Jobs.{Job, JobReply, batches_in}
 use Rattle.held_laws.specs.lemmas.Alike.{filer-same}
@@ -116,7 +114,8 @@ module _ {P C R : Type 0} (job : C → Job) (told : R → JobReply) (setup : Set
   abbrev Serves : Server → List (Option Running) → Server
   Serves server os = served b.layout Holds (tree b.layout) serve_one (settled b) server os
 
-  one-served : (server : Server) (o : Option Running) (ks : List Worker) → ((from : Server) → Serves from (running_by ks) ≡ server_worked from (all_running ks))
+  one-served : (server : Server) (o : Option Running) (ks : List Worker) →
+      ((from : Server) → Serves from (running_by ks) ≡ server_worked from (all_running ks))
       → Serves server (o ∷ running_by ks) ≡ server_worked server (with_held o (all_running ks))
   one-served server None ks others = others server
   one-served server (Some r) ks others = others (serve_one server r)
