@@ -43,10 +43,6 @@ module _ {P C R : Type 0} where
   abbrev pub HasLent : Books P C R → ℕ → Lent P → Type 0
   HasLent b worker l = get_elem? b.lent worker ≡ some (Some l)
 
-  -- a worker was lent something
-  abbrev pub IsBusy : Books P C R → ℕ → Type 0
-  IsBusy b worker = (l : Lent P) × HasLent b worker l
-
   -- a worker was lent nothing
   abbrev pub IsIdle : Books P C R → ℕ → Type 0
   IsIdle b worker = get_elem? b.lent worker ≡ some None
