@@ -44,9 +44,12 @@ returns-clause-opening c =
 
 pub returns-clause-sound : goal.returns-clause-sound
 returns-clause-sound c =
-    let L = layout_of c.args.layout.now in
-    (L, (c.args.layout.now.lawful, refl), opening-sound L c.args.layout.now.lawful c.args.verifier.0 (serial_parcels L trees.Serial c.gather.result)
-    (returns-clause-opening c))
+    let L = layout_of c.args.layout.now in (
+      L,
+      (c.args.layout.now.lawful, refl),
+      opening-sound L c.args.layout.now.lawful c.args.verifier.0 (serial_parcels L trees.Serial c.gather.result)
+          (returns-clause-opening c),
+    )
 
 pub returns-clause-server : goal.returns-clause-server
 returns-clause-server c =
