@@ -7,7 +7,7 @@ use Rattle.std.proofs.lemmas.Option.{slice_get-get_or}
 use Rattle.nfs_model.specs.Types.{Listed}
 use Rattle.volume_values.specs.Directories.{DirectoryValue, Rises}
 use Rattle.directories.specs.Entries.{under, has, without, dropped, IsRising}
-use Rattle.directories.specs.Slots.{shown, in_slot, cookie_in, entry_or_none, in_order, is_one, IsOrdered, Becomes, PutInto}
+use Rattle.directories.specs.Slots.{shown, in_slot, has_cookie, entry_or_none, in_order, is_one, IsOrdered, Becomes, PutInto}
 use Rattle.directories.specs.declared.slot.Slot.{Slot}
 use Rattle.directories.specs.declared.slot.Slot.TheVariants.{Filled}
 use Rattle.nfs_values.specs.Answer.{entry_of}
@@ -265,14 +265,14 @@ slot-under slots order cookie i s h u l is = by (in_slot slots s) refl (filled-a
     by (Some e) p t = sym (u ∙ element-at slots order i s e l is (sym p))
 
 -- a slot that has the entry of a cookie
-pub slot-guessed : (slots : List Slot) (order : List ℕ) (next cookie s : ℕ) → IsOrdered slots order next → cookie_in (in_slot slots s) ≡ Some cookie
+pub slot-guessed : (slots : List Slot) (order : List ℕ) (next cookie s : ℕ) → IsOrdered slots order next → has_cookie (in_slot slots s) cookie ≡ true
     → in_slot slots s ≡ under cookie (in_order slots order)
 slot-guessed slots order next cookie s h c = by (in_slot slots s) refl c
   where
-    by : (o : Option Listed) → o ≡ in_slot slots s → cookie_in o ≡ Some cookie → o ≡ under cookie (in_order slots order)
+    by : (o : Option Listed) → o ≡ in_slot slots s → has_cookie o cookie ≡ true → o ≡ under cookie (in_order slots order)
     by None p t = absurd (grind (arith, t))
     by (Some e) p t =
-        let same : e.cookie ≡ cookie = grind (arith, t) in
+        let same : e.cookie ≡ cookie = grind (arith, nat_tests, t) in
         let one = h.known s (ap (λ (o : Option Listed). is_some o) (sym p)) in
         subst (λ k. Some e ≡ under k (in_order slots order)) same (sym (under-slot 3 slots order next s e h.rising one (sym p)))
 

@@ -1,7 +1,6 @@
 -- Entries in slots, and their order.
-use Rattle.std.specs.Prelude.{◌≡◌, ℕ, zero, suc, Bool, true, ◌==◌, List, [], ◌∷◌, map, is_some, Option, Some, None, if◌then◌else◌}
+use Rattle.std.specs.Prelude.{◌≡◌, ℕ, zero, suc, Bool, true, false, ◌==◌, List, [], ◌∷◌, map, is_some, Option, Some, None, if◌then◌else◌}
 use Rattle.std.specs.List.{list_any}
-use Rattle.std.specs.Option.{option_map}
 use Rattle.nfs_model.specs.Types.{Listed}
 use Rattle.nfs_values.specs.Answer.{entry_of}
 use Rattle.volume_values.specs.Directories.{Rises}
@@ -19,8 +18,10 @@ in_slot [] s = None
 in_slot (x ∷ slots) zero = shown x
 in_slot (x ∷ slots) (suc s) = in_slot slots s
 
-abbrev pub cookie_in : Option Listed → Option ℕ
-cookie_in entry = option_map (λ (e : Listed). e.cookie) entry
+-- whether a slot has the entry of a cookie
+abbrev pub has_cookie : Option Listed → ℕ → Bool
+has_cookie None cookie = false
+has_cookie (Some e) cookie = e.cookie == cookie
 
 -- a slot as an entry; the cookie of a vacant one is below all others
 abbrev pub entry_or_none : Option Listed → Listed

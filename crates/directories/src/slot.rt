@@ -12,7 +12,7 @@ ghost use Rattle.std.specs.Prelude.{
   OnErr,
 };
 ghost use Rattle.nfs_values.specs.Answer.{entry_of};
-ghost use Rattle.directories.specs.Slots.{in_slot, cookie_in, Becomes, PutInto};
+ghost use Rattle.directories.specs.Slots.{in_slot, has_cookie, Becomes, PutInto};
 
 use nfs_values::{Cookie, Entry};
 use std::alloc::AllocError;
@@ -39,7 +39,7 @@ pub fn entry_in(slots: &[Slot], slot: u32) -> &Entry
 
 /// Whether the entry of a cookie is in a slot.
 pub fn holds(slots: &[Slot], slot: u32, cookie: Cookie) -> bool
-    ensures { result ≡ true → cookie_in (in_slot slots.now slot) ≡ Some cookie.0 }
+    ensures { result ≡ has_cookie (in_slot slots.now slot) cookie.0 }
 {
     match slots.get(slot as usize) {
         Some(Slot::Filled(entry)) => entry.cookie.0 == cookie.0,

@@ -1,10 +1,10 @@
-use Rattle.std.proofs.Common.{refl}
+use Rattle.std.proofs.Common.{refl, sym, ◌∙◌}
 use Rattle.directories.proofs.Slots.{slot-guessed, slot-under}
 use Rattle.directories.proofs.entries.slot_of.Goals as goal
 
 pub returns-then-holds : goal.returns-then-holds
 returns-then-holds c =
-    slot-guessed c.args.slots.now c.args.order.now _ c.args.cookie.0 c.args.guess c.requires.ordered.1 (c.holds.ensures c.if-holds.true)
+    slot-guessed c.args.slots.now c.args.order.now _ c.args.cookie.0 c.args.guess c.requires.ordered.1 (sym c.holds.ensures ∙ c.if-holds.true)
 
 pub returns : goal.returns
 returns c =
