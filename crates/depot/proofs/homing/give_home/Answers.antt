@@ -67,20 +67,3 @@ returns-clause-apart g c =
     home-apart (number_of (layout_of c.args.layout.now) (affinity_of c.args.grant.affinity)) c.number_of-node.result c.args.place.me.0
     c.scatter.new.shelf.place.me.0 c.number_of-node.ensures.number
     c.scatter.ensures.kept.2 c.give_up.ensures.apart
-
-pub number_of-node-requires : goal.number_of-node-requires
-number_of-node-requires g c = c.requires.node.0
-
-pub scatter-requires-clause-node : goal.scatter-requires-clause-node
-scatter-requires-clause-node g c = c.requires.node.0
-
-pub scatter-requires-clause-kind : goal.scatter-requires-clause-kind
-scatter-requires-clause-kind g c = c.requires.node.1
-
-pub invariant_of-hold : goal.invariant_of-hold
-invariant_of-hold g c = record {
-  table = c.requires.table;
-  one = (c.requires.ready.0, ap length c.requires.ready.1);
-  free = c.requires.ready.2;
-  tree = c.requires.ready.4 ∙ c.requires.tree.0;
-}

@@ -171,6 +171,3 @@ returns-clause-grants g c =
 pub returns-clause-no_other : goal.returns-clause-no_other
 returns-clause-no_other g c = λ b h has.
     held-of (view c.args.first).held (view c.args.second).held b h (sym (ap (λ u. get_elem? u.held b) (returns-clause-joined g c)) ∙ has)
-
-pub returns-clause-splits : goal.returns-clause-splits
-returns-clause-splits g c = refl

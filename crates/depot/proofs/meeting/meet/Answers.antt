@@ -1,4 +1,4 @@
-use Rattle.std.proofs.Common.{rules, ◌≡◌, ◌∷◌, [], length, refl, ap, ◌∙◌}
+use Rattle.std.proofs.Common.{rules, ◌≡◌, ◌∷◌, [], length, ap, ◌∙◌}
 use Rattle.depot_rule.specs.History.{entries_of}
 use Rattle.depot_rule.specs.Seats.{view_of, first_of, others_of}
 use Rattle.depot_rule.proofs.Dealing.{meets, parts-again}
@@ -81,6 +81,3 @@ returns-clause-entries g c =
     let at = goal.at.returns-clause-entries g c in
     let keep = (alike g at.After-load (met g at.After-join_seat)).4 in
     (ap (λ v. entries_of v) (returns-clause-one g c) ∙ keep.0, ap (λ v. entries_of v) (returns-clause-other g c) ∙ keep.1)
-
-pub returns-clause-splits : goal.returns-clause-splits
-returns-clause-splits g c = (refl, refl)

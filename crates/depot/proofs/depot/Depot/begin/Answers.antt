@@ -1,4 +1,4 @@
-use Rattle.std.proofs.Common.{rules, ◌≡◌, ◌<◌, ◌∷◌, ℕ, [], length, refl, sym, ap, ◌∙◌, subst}
+use Rattle.std.proofs.Common.{rules, ◌≡◌, ◌<◌, ◌∷◌, ℕ, [], length, sym, ap, ◌∙◌, subst}
 use Rattle.affinity_tree.specs.Affinity.{affinity_of}
 use Rattle.affinity_tree.specs.Ancestors.{IsTree}
 use Rattle.affinity_tree.specs.Numbers as numbers
@@ -214,54 +214,3 @@ returns-in-Err-clause-refused g c =
           c.try_claim.new.place.me.0 c.into_badge-in-Err.result.views c.load-ticket.result low (looked g at.After-load-ticket).2
           parent c.number_of-node.ensures.number c.affinity_at.ensures.number badge (refused g at.In-Err),
     )
-
-pub number_of-node-requires : goal.number_of-node-requires
-number_of-node-requires g c = c.requires.node.0
-
-pub gather-held-requires-clause-node : goal.gather-held-requires-clause-node
-gather-held-requires-clause-node g c = c.requires.node.0
-
-pub gather-held-requires-clause-kind : goal.gather-held-requires-clause-kind
-gather-held-requires-clause-kind g c = c.requires.node.1
-
-pub returns-in-Ok-clause-splits : goal.returns-in-Ok-clause-splits
-returns-in-Ok-clause-splits g c = refl
-
-pub returns-in-Err-clause-splits : goal.returns-in-Err-clause-splits
-returns-in-Err-clause-splits g c = refl
-
-pub returns-then-ticket-ge-WORN-clause-splits : goal.returns-then-ticket-ge-WORN-clause-splits
-returns-then-ticket-ge-WORN-clause-splits g c = refl
-
-pub returns-in-Ok-clause-node : goal.returns-in-Ok-clause-node
-returns-in-Ok-clause-node g c = refl
-
-pub returns-in-Ok-clause-exact : goal.returns-in-Ok-clause-exact
-returns-in-Ok-clause-exact g c = c.gather-held.ensures.exact
-
-pub returns-in-Ok-clause-refused : goal.returns-in-Ok-clause-refused
-returns-in-Ok-clause-refused g c = tt
-
-pub returns-then-ticket-ge-WORN-clause-node : goal.returns-then-ticket-ge-WORN-clause-node
-returns-then-ticket-ge-WORN-clause-node g c = tt
-
-pub returns-then-ticket-ge-WORN-clause-exact : goal.returns-then-ticket-ge-WORN-clause-exact
-returns-then-ticket-ge-WORN-clause-exact g c = tt
-
-pub returns-then-ticket-ge-WORN-clause-granted : goal.returns-then-ticket-ge-WORN-clause-granted
-returns-then-ticket-ge-WORN-clause-granted g c = tt
-
-pub returns-then-ticket-ge-WORN-clause-after : goal.returns-then-ticket-ge-WORN-clause-after
-returns-then-ticket-ge-WORN-clause-after g c = tt
-
-pub returns-in-Err-clause-node : goal.returns-in-Err-clause-node
-returns-in-Err-clause-node g c = tt
-
-pub returns-in-Err-clause-exact : goal.returns-in-Err-clause-exact
-returns-in-Err-clause-exact g c = tt
-
-pub returns-in-Err-clause-granted : goal.returns-in-Err-clause-granted
-returns-in-Err-clause-granted g c = tt
-
-pub returns-in-Err-clause-after : goal.returns-in-Err-clause-after
-returns-in-Err-clause-after g c = tt

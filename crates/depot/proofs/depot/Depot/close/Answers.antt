@@ -90,12 +90,3 @@ returns-clause-history g c =
           ∙ c.args.self.layout_tree) c.requires.seat.1.0
           (λ k lt. c.close_with.ensures.values.1 k (omega arith) (omega arith)) w c.gather-held.ensures.exact c.gather-held.ensures.moved,
     )
-
-pub gather-held-requires-clause-node : goal.gather-held-requires-clause-node
-gather-held-requires-clause-node g c = tt
-
-pub gather-held-requires-clause-kind : goal.gather-held-requires-clause-kind
-gather-held-requires-clause-kind g c = sym c.requires.root
-
-pub returns-clause-exact : goal.returns-clause-exact
-returns-clause-exact g c = c.gather-held.ensures.exact

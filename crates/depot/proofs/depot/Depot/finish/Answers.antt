@@ -138,6 +138,3 @@ invariant_of-seat g c =
     let b = between _ c.into_badge.result.views seat.splits full (seat.idle.0, seat.idle.1, seat.idle.2, refl) seat.parts
     (subst IsGathered now gathered) (less-apart (view seat).tree (view seat).held n seat.apart) in
     record { one = b.one; idle = b.idle; parts = b.parts; gathered = b.gathered; apart = b.apart }
-
-pub returns-clause-splits : goal.returns-clause-splits
-returns-clause-splits g c = refl

@@ -67,9 +67,3 @@ returns-clause-seat g c =
       seat-still g.M.Parcel.HasKind.kind (layout_in c.args.self.now) (view c.args.seat.now) (known c.into_badge.result.views)
           (ap (λ v. v.tree) now) (ap (λ v. v.first) now) c.requires.seat.1,
     )
-
-pub returns-clause-splits : goal.returns-clause-splits
-returns-clause-splits g c = refl
-
-pub give_home-place-requires-clause-node : goal.give_home-place-requires-clause-node
-give_home-place-requires-clause-node g c = c.requires.node

@@ -1,4 +1,4 @@
-use Rattle.std.proofs.Common.{append_assoc, arith}
+use Rattle.std.proofs.Common.{append_assoc}
 use Rattle.nfs_types.proofs.encode.AttributesEncode.write.Goals as goal
 
 pub returns-clause-items : goal.returns-clause-items
@@ -19,22 +19,3 @@ returns-clause-items c =
       c.write.ensures.items,
     )
     (simp append_assoc)
-
-pub returns-clause-capacity : goal.returns-clause-capacity
-returns-clause-capacity c =
-    omega (
-      arith,
-      c.write.ensures.capacity,
-      c.write-2.ensures.capacity,
-      c.write-3.ensures.capacity,
-      c.write-4.ensures.capacity,
-      c.write-5.ensures.capacity,
-      c.write-6.ensures.capacity,
-      c.write-7.ensures.capacity,
-      c.write-8.ensures.capacity,
-      c.write-9.ensures.capacity,
-      c.write-10.ensures.capacity,
-      c.write-11.ensures.capacity,
-      c.write-12.ensures.capacity,
-      c.write-13.ensures.capacity,
-    )
