@@ -1,0 +1,3 @@
+-- Lemmas alone, which no reader has to believe. They stand here, and not in `proofs/`, since crates above cite them.
+pub mod Served
+pub mod Agreeing
