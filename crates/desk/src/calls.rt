@@ -7,6 +7,7 @@ use crate::grants::{begin_any, finish_any, put_back_any};
 use crate::kinds::NodeKinds;
 use crate::refusal::Refusal;
 use crate::taken::is_taken;
+use crate::task::{Task, work_any};
 use affinity_tree::Affinity;
 use depot::Refusal as Refused;
 use depot_rule::machine::Machine;
@@ -16,8 +17,8 @@ impl<M: Machine, K: NodeKinds<M::Parcel>> Desk<M, K> {
     ghost use Rattle.std.specs.Prelude.{OnOk, IfErr};
     ghost use Rattle.affinity_tree.specs.Affinity.{affinity_of};
     ghost use Rattle.affinity_tree.specs.Tree.{IsNode};
-    ghost use Rattle.desk_laws.specs.Books.{HasLent, IsIdle, IsUnchanged};
-    ghost use Rattle.desk_laws.specs.Calls.{HasBegun, HasPutBack};
+    ghost use Rattle.desk_laws.specs.Books.{HasLent, IsBusy, IsIdle, IsUnchanged};
+    ghost use Rattle.desk_laws.specs.Calls.{HasBegun, HasWorked, HasPutBack};
     ghost use Rattle.desk_laws.specs.Calls.{MayFinish, HasFinished};
     ghost use Rattle.desk.specs.Refusal.{IsRefused};
     ghost use Rattle.desk.specs.Words.{books, machine_in, IsKept};
@@ -46,6 +47,19 @@ impl<M: Machine, K: NodeKinds<M::Parcel>> Desk<M, K> {
                 }
                 Err(Refusal::Worn)
             }
+        }
+    }
+
+    /// Does a task on what a worker was lent.
+    pub fn work<W: Task<M::Parcel, K>>(&mut self, worker: usize, task: W) -> W::Output
+        requires kept { IsKept self.old }
+        requires lent { IsBusy (books self.old) worker }
+        ensures kept { IsKept self.new }
+        ensures worked { HasWorked W.does (books self.old) worker result (books self.new) }
+    {
+        match &mut self.grants[worker] {
+            Some(any) => work_any::<M, K, W>(self.depot.layout(), any, task),
+            None => unreachable!(),
         }
     }
 

@@ -3,6 +3,7 @@
 ghost use Rattle.std.specs.Prelude.{◌≡◌};
 ghost use Rattle.affinity_tree.specs.Affinity.{affinity_of};
 ghost use Rattle.affinity_tree.specs.Layout.{layout_of};
+ghost use Rattle.affinity_tree.specs.Tree.{IsNode};
 ghost use Rattle.parcel_sets.specs.Exact.{HasExactly};
 ghost use Rattle.desk_laws.specs.Calls.{Does};
 ghost use Rattle.desk_laws.specs.Backing.{IsWhole, IsDone};
@@ -11,6 +12,7 @@ ghost use Rattle.desk.specs.Any.{lent_of};
 use crate::grant::AnyGrant;
 use crate::kinds::NodeKinds;
 use affinity_tree::{Affinity, HasKind, Layout};
+use depot_rule::machine::Machine;
 use parcel_sets::Node;
 
 /// Work on the parcels under an affinity. It changes them and takes away none.
@@ -120,14 +122,16 @@ pub trait Task<T: HasKind, K: NodeKinds<T>> {
 }
 
 /// Does a task on what was granted.
-pub(crate) fn work_any<T: HasKind, K: NodeKinds<T>, W: Task<T, K>>(
+pub(crate) fn work_any<M: Machine, K: NodeKinds<M::Parcel>, W: Task<M::Parcel, K>>(
     layout: &Layout,
-    any: &mut AnyGrant<T, K>,
+    any: &mut AnyGrant<M::Parcel, K>,
     task: W,
 ) -> W::Output
-    requires { IsWhole T.kind (layout_of layout.now) (lent_of (layout_of layout.now) any.old) }
-    ensures whole { IsWhole T.kind (layout_of layout.now)
-        (lent_of (layout_of layout.now) any.new) }
+    requires node { let L = layout_of layout.now in IsNode L (lent_of L any.old).affinity }
+    requires whole { let L = layout_of layout.now in
+        IsWhole M.Parcel.kind L (lent_of L any.old) }
+    ensures whole { let L = layout_of layout.now in
+        IsWhole M.Parcel.kind L (lent_of L any.new) }
     ensures done { let L = layout_of layout.now in
         IsDone W.does L (lent_of L any.old) result (lent_of L any.new) }
 {

@@ -1,12 +1,12 @@
 -- What calls do to a desk.
-use Rattle.std.specs.Prelude.{◌≡◌, ℕ, ◌+◌, ◌<◌, ◌≤◌, List, [], ◌∷◌, ◌++◌, length, slice_set, Option, Some, None}
+use Rattle.std.specs.Prelude.{◌≡◌, ◌≢◌, ℕ, ◌+◌, ◌<◌, ◌≤◌, List, [], ◌∷◌, ◌++◌, length, slice_set, Option, Some, None}
 use Rattle.nfs_model.specs.Tree.{Layout, Affinity}
 use Rattle.affinity_tree.specs.Numbers.{number_of, parents}
 use Rattle.depot_rule.specs.Sums.{total}
 use Rattle.depot_rule.specs.Shares.{worn}
 use Rattle.depot_rule.specs.History.{Behaviour, patched}
 use Rattle.depot.specs.Grants.{entry_of}
-use Rattle.desk_laws.specs.Books.{Lent, Books, settled, now, stamps, HasLent, IsTaken, IsSame, IsWorked, HasHands, IsSettled}
+use Rattle.desk_laws.specs.Books.{Lent, Books, settled, now, stamps, HasLent, IsTaken, UnderLent, IsUnchanged, IsSame, IsWorked, HasHands, IsSettled}
 
 -- what a task does: of the layout, the affinity, its parcels before, what comes of it, and its parcels after
 abbrev pub Does : Type 0 → Type 0 → Type 1
@@ -17,12 +17,13 @@ module _ {P C R : Type 0} where
   abbrev pub with_lent : Books P C R → ℕ → Option (Lent P) → Books P C R
   with_lent b worker x = record b { lent = slice_set b.lent worker x }
 
-  -- a worker was lent the parcels under an affinity: nothing that was lent excluded it, and fewer than 2^62 calls were
-  -- finished. The parcels are as they were
+  -- a worker was lent the parcels under an affinity, as the finished calls left them: nothing that was lent excluded it,
+  -- and fewer than 2^62 calls were finished. The parcels are as they were
   pub record HasBegun (b : Books P C R) (worker : ℕ) (a : Affinity) (c : Books P C R) : Type 0 where
     pub free : IsTaken b a → ⊥
     pub low : stamps b < worn
     pub parcels : ℕ → Option P
+    pub unchanged : IsUnchanged b (record { affinity = a; parcels = parcels })
     pub books : c ≡ with_lent b worker (Some (record { affinity = a; parcels = parcels }))
     pub same : IsSame b c
 
@@ -65,7 +66,9 @@ module _ {P C R : Type 0} where
       pub is_lent : HasLent b worker lent
       pub books : c ≡ record (with_lent b worker None) { entries = b.entries ++ entry_of b.layout lent.affinity lent.parcels call reply ∷ [] }
       pub same : IsSame b c
-      pub settled : IsSettled m c
+      -- under what the other workers have, nothing changed for the finished calls
+      pub others : (i : ℕ) (l : Lent P) → HasLent b i l → i ≢ worker → UnderLent b l (λ k. settled c k ≡ settled b k)
+      pub keeps : IsSettled m c
 
   -- no worker was lent anything
   abbrev pub AreIdle : Books P C R → Type 0

@@ -19,7 +19,7 @@ use Rattle.depot_rule.specs.History.{Behaviour, listed, after}
 use Rattle.depot.specs.Calls.{IsExcluded}
 use Rattle.depot.specs.Grants.{HasRead}
 use Rattle.depot.specs.Grants as depots
-use Rattle.desk_laws.specs.Books.{Lent, Books, stamps, HasLent, IsIdle, IsTaken, IsSame}
+use Rattle.desk_laws.specs.Books.{Lent, Books, stamps, HasLent, IsIdle, IsTaken, IsUnchanged, IsSame}
 use Rattle.desk_laws.specs.Backing.{Shows, books_of, IsBook, IsGranted}
 use Rattle.desk_laws.specs.Calls.{HasBegun}
 use Rattle.desk_laws.specs.lemmas.Seats.{at-length, begun-book, begun-free, begun-low, begun-same, refused-taken}
@@ -61,6 +61,11 @@ module _ {P C R B G : Type 0} (shows : Shows G P) (kind : P → Kind) (m : Behav
     same : (k : ℕ) → 0 < k → k < length v.tree → Covers v.tree (number_of L a) k → (shows L any).parcels k ≡ after v.tree (listed v.first) v.seen k
     same k pos lt c = after-at.4 k pos lt c ∙ ap (λ (es : List (Entry P C R)). after v.tree (listed v.first) es k) (after-at.3 h.only)
 
+    as-left : IsUnchanged (books_of shows L v gs) (record { affinity = a; parcels = (shows L any).parcels })
+    as-left k pos lt c =
+        same k pos (subst (λ (t : List ℕ). k < length t) (sym h.seat.0) lt) (subst (λ (t : List ℕ). Covers t (number_of L a) k) (sym h.seat.0) c)
+        ∙ ap (λ (t : List ℕ). after t (listed v.first) v.seen k) h.seat.0
+
     abbrev new : Books P C R
     new = record (books_of shows L v gs) { lent = set (books_of shows L v gs).lent i (Some (record { affinity = a; parcels = (shows L any).parcels })) }
 
@@ -82,6 +87,7 @@ module _ {P C R B G : Type 0} (shows : Shows G P) (kind : P → Kind) (m : Behav
       free = begun-free kind (books_of shows L v gs) lawful v h i idle a node (shows L any).parcels exact-at w begun-at same;
       low = begun-low kind (books_of shows L v gs) lawful v h i idle a node (shows L any).parcels exact-at w begun-at same;
       parcels = (shows L any).parcels;
+      unchanged = as-left;
       books = sym new-is;
       same = subst (λ (c : Books P C R). IsSame (books_of shows L v gs) c) new-is
           (begun-same kind (books_of shows L v gs) lawful v h i idle a node (shows L any).parcels exact-at w begun-at same);

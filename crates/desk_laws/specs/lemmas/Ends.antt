@@ -1,5 +1,5 @@
 -- A call on a desk that ends, and work before that, told by the desk's seat and its grants.
-use Rattle.std.proofs.Common.{◌≡◌, ◌<◌, ℕ, List, [], ◌∷◌, ◌++◌, length, map, set, Option, Some, None, refl, sym, ap, ◌∙◌, subst}
+use Rattle.std.proofs.Common.{◌≡◌, ◌≢◌, ◌<◌, ℕ, List, [], ◌∷◌, ◌++◌, length, map, set, Option, Some, None, refl, sym, ap, ◌∙◌, subst}
 use Rattle.std.specs.Prelude.{option_map, slice_index_or}
 use mathlib.Core.Option.{some, some-injective}
 use lib.ListN.{get_elem?}
@@ -13,10 +13,10 @@ use Rattle.depot_rule.specs.declared.view.View.{View}
 use Rattle.depot_rule.specs.declared.view.Entry.{Entry}
 use Rattle.depot_rule.specs.History.{Behaviour}
 use Rattle.depot.specs.Grants.{entry_of, IsEnded, IsFinished}
-use Rattle.desk_laws.specs.Books.{Lent, Books, now, HasLent, IsSame, IsWorked, IsUnchanged, IsSettled}
+use Rattle.desk_laws.specs.Books.{Lent, Books, settled, now, HasLent, UnderLent, IsSame, IsWorked, IsUnchanged, IsSettled}
 use Rattle.desk_laws.specs.Backing.{Shows, books_of, IsBacked, IsBook, CanFinish, CanPutBack}
 use Rattle.desk_laws.specs.Calls.{Does, HasPutBack, MayFinish, HasFinished, HasWorked}
-use Rattle.desk_laws.specs.lemmas.Seats.{back-book, back-same, finished-book, finished-same, finished-settled}
+use Rattle.desk_laws.specs.lemmas.Seats.{back-book, back-same, finished-book, finished-same, finished-others, finished-settled}
 use Rattle.desk_laws.specs.lemmas.Works.{worked-step, in-hand, as-granted, worked-book, worked-now}
 use Rattle.desk_laws.specs.lemmas.Begins.{map-set, books-are}
 
@@ -91,7 +91,9 @@ module _ {P C R G : Type 0} (shows : Shows G P) (kind : P → Kind) (L : Layout)
         is_lent = lent;
         books = sym new-is;
         same = subst (λ (c : Books P C R). IsSame b c) new-is (finished-same kind b lawful v h m i l lent call reply w finished);
-        settled = subst (λ (c : Books P C R). IsSettled m c) new-is (finished-settled kind b lawful v h m i l lent call reply w finished);
+        others = subst (λ (c : Books P C R). (j : ℕ) (x : Lent P) → HasLent b j x → j ≢ i → UnderLent b x (λ k. settled c k ≡ settled b k)) new-is
+            (finished-others kind b lawful v h m i l lent call reply w finished);
+        keeps = subst (λ (c : Books P C R). IsSettled m c) new-is (finished-settled kind b lawful v h m i l lent call reply w finished);
       }
 
   -- ---- what was lent is put back

@@ -24,7 +24,7 @@ use Rattle.depot_rule.specs.lemmas.Listed.{by-number-at}
 use Rattle.depot_rule.specs.lemmas.Covering.{patched-in, patched-out}
 use Rattle.depot.specs.Calls.{IsExcluded}
 use Rattle.depot.specs.Grants.{entry_of, IsSeatOf, ListsAs, HasWith, IsBegun, IsAfter, IsEnded, IsFinished}
-use Rattle.desk_laws.specs.Books.{Lent, Books, overlaid, settled, now, stamps, HasLent, IsIdle, IsTaken, IsUnchanged, IsSame, IsSettled}
+use Rattle.desk_laws.specs.Books.{Lent, Books, overlaid, settled, now, stamps, HasLent, IsIdle, IsTaken, UnderLent, IsUnchanged, IsSame, IsSettled}
 use Rattle.desk_laws.specs.Backing.{IsBacked, IsBook}
 use Rattle.desk_laws.specs.lemmas.Overlays.{covers-or-not, overlaid-free, overlaid-below, overlaid-set, overlaid-here}
 
@@ -362,6 +362,10 @@ module _ {P C R : Type 0} (kind : P → Kind) (b : Books P C R) (lawful : fault_
     pub finished-book : IsBook kind finished_books w
     finished-book = ended-book i l lent finished_books w refl refl (ap (λ (x : View P (Entry P C R)). x.tree) w-is) (ap (λ (x : View P (Entry P C R)). x.first) w-is) refl (ap (λ (x : View P (Entry P C R)). x.parts) w-is)
         (ap (λ (x : View P (Entry P C R)). x.held) w-is) entries-is own-is put-there put-others
+
+    -- under what other workers have, all is as it was
+    pub finished-others : (j : ℕ) (x : Lent P) → HasLent b j x → j ≢ i → UnderLent b x (λ k. settled finished_books k ≡ settled b k)
+    finished-others j x at ne k pos lt d = put-others k (λ c. covered-once i j l x lent at ne k c d)
 
     -- the machine's invariant holds of what the call left
     pub finished-settled : IsSettled m finished_books
