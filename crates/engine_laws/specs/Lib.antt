@@ -1,2 +1,3 @@
 pub mod Store
+pub mod Serving
 pub mod lemmas

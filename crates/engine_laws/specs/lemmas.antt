@@ -1,3 +1,4 @@
 -- Lemmas alone, which no reader has to believe. They stand here, and not in `proofs/`, since crates above cite them.
 pub mod Served
 pub mod Agreeing
+pub mod Changing
