@@ -2,3 +2,6 @@
 pub mod Served
 pub mod Agreeing
 pub mod Changing
+pub mod Beginning
+pub mod Working
+pub mod Finishing
