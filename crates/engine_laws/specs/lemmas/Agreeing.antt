@@ -60,7 +60,7 @@ carried-times v n (k ∷ ks) =
     let right = total-joined (times_in_hand v n) (batches_in k.hand) (batches_carried ks) in
     omega (arith, one, others, left, right)
 
-module _ {P : Type 0} (parts-partition : PartsPartition) (setup : Setup) (w : World) (b : FilerBooks P) (s : StandsFor setup w b) where
+module _ {P : Type 0} (setup : Setup) (w : World) (b : FilerBooks P) (s : StandsFor setup w b) where
   abbrev ps : List ℕ
   ps = parents b.layout
 
@@ -167,9 +167,9 @@ module _ {P : Type 0} (parts-partition : PartsPartition) (setup : Setup) (w : Wo
       inner x y e = cc
   volume-found (p ∷ volumes) (suc v) volume e = volume-found volumes v volume e
 
-  partition : (v : ℕ) (volume : VolumeState) → slice_get w.server.volumes v ≡ Some volume
+  partition : PartsPartition → (v : ℕ) (volume : VolumeState) → slice_get w.server.volumes v ≡ Some volume
       → (p : Parts) × (slice_get w.parts v ≡ Some p) × IsPartition volume p (hands_blocks v w.workers)
-  partition v volume there =
+  partition parts-partition v volume there =
       let c : FilerContents = filer_contents b.layout (now b) in
       let found = volume-found c.volumes v volume (ap (λ (server : Server). slice_get server.volumes v) (sym s.server) ∙ there) in
       let p : VolumeContents = found.0 in
@@ -184,10 +184,10 @@ module _ {P : Type 0} (parts-partition : PartsPartition) (setup : Setup) (w : Wo
       )
 
   -- calls that run at one time agree
-  pub agreed : IsAgreed setup w
-  agreed = record {
+  pub agreed : PartsPartition → IsAgreed setup w
+  agreed parts-partition = record {
     state = s.server ∙ now-served.1 ∙ ap (λ server. server_worked server (all_running w.workers)) (sym s.finished);
     outcomes = subst (λ server. AllByRecursion (λ r. IsOutcome setup server r r.outcome) (all_running w.workers)) (sym s.finished)
         (outcomes w.workers b.lent s.lent.node s.workers);
-    partition = partition;
+    partition = partition parts-partition;
   }
