@@ -1,1 +1,145 @@
--- placeholder
+-- A message that was worked is finished, or waits again where it moved.
+use Rattle.std.proofs.Common.{◌≡◌, ◌≢◌, ℕ, zero, suc, ◌+◌, ◌<◌, Bool, true, false, List, [], ◌∷◌, ◌++◌, length, Option, Some, None, refl, sym, ap, ◌∙◌}
+use Rattle.std.proofs.Common.{subst, arith}
+use Rattle.std.specs.Prelude.{slice_get, slice_set}
+use Rattle.std.proofs.lemmas.List.{length-append}
+use mathlib.Core.Option.{some, some-injective}
+use lib.ListN.{get_elem?}
+use Rattle.nfs_model.specs.Types.{Reply, SystemError}
+use Rattle.nfs_model.specs.Tree.{Layout, Affinity}
+use Rattle.nfs_model.specs.Server.{Server}
+use Rattle.nfs_model.specs.Parts.{Hand}
+use Rattle.nfs_model.specs.Replay.{FinishedCall, step_of, server_after}
+use Rattle.nfs_model.specs.Work.{Outcome, Replied, Starved, Moved}
+use Rattle.nfs_model.specs.World.{Setup, World, Running, Worker, changed_at, with_running}
+use Rattle.nfs_model.specs.Headline.{start, worked_by}
+use Rattle.nfs_model.specs.Events.Step.{finished_call, finished_by}
+use Rattle.affinity_tree.specs.Fault.{fault_of}
+use Rattle.affinity_tree.specs.Tree.{IsNode}
+use Rattle.affinity_tree.specs.Ancestors.{Covers}
+use Rattle.affinity_tree.specs.Numbers.{number_of, node_count, parents}
+use Rattle.affinity_tree.specs.lemmas.Smaller.{length-parents}
+use Rattle.depot_rule.specs.declared.view.Entry.{Entry}
+use Rattle.depot_rule.specs.Sums.{total}
+use Rattle.depot_rule.specs.History.{patched, listed, by_number, after, put_in, AreHands}
+use Rattle.depot_rule.specs.lemmas.Covering.{patched-in, patched-out}
+use Rattle.depot_rule.specs.lemmas.Histories.{after-snoc, moved-snoc}
+use Rattle.depot_rule.specs.lemmas.Listed.{by-number-at}
+use Rattle.depot.specs.Grants.{entry_of}
+use Rattle.desk_laws.specs.Books.{Lent, Books, settled, now, stamps, HasLent, UnderLent, IsUnchanged, IsWorked, HasHands, IsSettled}
+use Rattle.desk_laws.specs.Calls.{MayFinish, HasFinished, HasPutBack, with_lent}
+use Rattle.desk_laws.specs.lemmas.Overlays.{covers-or-not}
+use Rattle.held_state.specs.Parcels.{FilerParcel}
+use Rattle.held_state.specs.Contents.{filer_contents}
+use Rattle.held_state.specs.Tree.{tree}
+use Rattle.held_state.specs.Partition.{all_parts}
+use Rattle.held_state.specs.Jobs as jobs
+use Rattle.held_state.specs.Jobs.{Job, JobReply, Serve, takes, gives}
+use Rattle.engine_laws.specs.Store.{FilerBooks, filer, HasOutcome, RunsOn, RunOn, IsApart, StandsFor, batches_carried}
+use Rattle.engine_laws.specs.lemmas.Agreeing.{sound-settled}
+use Rattle.engine_laws.specs.lemmas.Beginning.{same-now}
+use Rattle.engine_laws.specs.lemmas.Changing.{lent-at, run-changed, carried-stay}
+use Rattle.engine_laws.specs.lemmas.Served.{covered-node, outcome-there}
+
+-- the server after one more call
+pub after-one : (server : Server) (es : List FinishedCall) (e : FinishedCall) → server_after server (es ++ e ∷ []) ≡ (step_of (server_after server es) e).server
+after-one server [] e = refl
+after-one server (d ∷ es) e = after-one (step_of server d).server es e
+
+-- what an entry left is what was lent
+pub left-is : {P : Type 0} (layout : Layout) → fault_of layout ≡ None → (l : Lent (FilerParcel P)) → IsNode layout l.affinity
+    → (call : Job) (reply : JobReply) (f : ℕ → Option (FilerParcel P))
+    → put_in (parents layout) (entry_of layout l.affinity l.parcels call reply) f ≡ patched (parents layout) (number_of layout l.affinity) l.parcels f
+left-is {P} layout lawful l node call reply f = λ j k. let here : ℕ = number_of layout l.affinity in let left : List (Option (FilerParcel P)) = by_number l.parcels (1 + node_count layout) in covers-or-not (parents layout) here k
+    (λ c.
+    let p = covered-node layout lawful l.affinity node k c in
+    let size = length-parents layout in
+    patched-in (parents layout) here (listed left) f k c ∙ by-number-at l.parcels (1 + node_count layout) k (omega arith)
+    ∙ sym (patched-in (parents layout) here l.parcels f k c))
+    (λ out. patched-out (parents layout) here (listed left) f k out ∙ sym (patched-out (parents layout) here l.parcels f k out))
+    j
+
+module _ {P : Type 0} (setup : Setup) (w : World) (b : FilerBooks P) (s : StandsFor setup w b) (i : ℕ) (k : Worker) (there : slice_get w.workers i ≡ Some k)
+    (r : Running) (runs : k.running ≡ Some r) (o : Outcome) (came : r.outcome ≡ Some o) where
+  -- what the worker has runs on what it was lent
+  pub run-on : (l : Lent (FilerParcel P)) → HasLent b i l → HasOutcome setup b r l (Some o)
+  run-on l lent =
+      let at = lent-at setup b w.workers b.lent i k s.workers there in
+      let is : at.0 ≡ Some l = some-injective at.0 (Some l) (sym at.1 ∙ lent) in
+      let both : RunsOn setup b (Some r) (Some l) = subst (λ x. RunsOn setup b (Some r) x) is (subst (λ q. RunsOn setup b q at.0) runs at.2) in
+      subst (λ q. HasOutcome setup b r l q) came both.1
+
+  -- a worked call may be finished
+  pub may-finish : (l : Lent (FilerParcel P)) → HasLent b i l → (starved : Bool) (reply : Reply)
+      → IsWorked filer b l (Serve (finished_call r starved)) (jobs.Replied reply)
+      → MayFinish filer b i (Serve (finished_call r starved)) (jobs.Replied reply)
+  may-finish l lent starved reply worked = record {
+    lent = l;
+    is_lent = lent;
+    worked = worked;
+    hands = batches_carried w.workers;
+    next = batches_carried w.workers;
+    are_hands = s.hands;
+    moves = λ weigh. refl;
+  }
+
+  module _ (starved : Bool) (reply : Reply) (c : FilerBooks P) (done : HasFinished filer b i (Serve (finished_call r starved)) (jobs.Replied reply) c)
+      (apart : IsApart c) (next : World)
+      (same_server : (server : Server) → worked_by server r (Some o) ≡ (step_of server (finished_call r starved)).server)
+      (server : next.server ≡ w.server) (parts : next.parts ≡ w.parts) (finished : next.finished ≡ w.finished ++ finished_call r starved ∷ [])
+      (stamps_are : next.stamps ≡ w.stamps + 1) (workers : next.workers ≡ changed_at (with_running None) w.workers i) where
+    abbrev l : Lent (FilerParcel P)
+    l = done.lent
+
+    abbrev e : Entry (FilerParcel P) Job JobReply
+    e = entry_of b.layout l.affinity l.parcels (Serve (finished_call r starved)) (jobs.Replied reply)
+
+    abbrev es : List (Entry (FilerParcel P) Job JobReply)
+    es = b.entries ++ e ∷ []
+
+    abbrev new_books : FilerBooks P
+    new_books = record (with_lent b i None) { entries = es }
+
+    layout-is : c.layout ≡ b.layout
+    layout-is = ap (λ (x : FilerBooks P). x.layout) done.books
+
+    settled-is : settled new_books ≡ patched (parents b.layout) (number_of b.layout l.affinity) l.parcels (settled b)
+    settled-is = after-snoc (parents b.layout) b.first b.entries e
+        ∙ left-is b.layout s.lawful l (s.lent.node i l done.is_lent) (Serve (finished_call r starved)) (jobs.Replied reply) (settled b)
+
+    -- the finished calls lead to it
+    finished-is : server_after (start setup) next.finished ≡ tree b.layout (settled new_books)
+    finished-is =
+        let there = outcome-there setup b s.lawful l (s.lent.node i l done.is_lent) r (Some o) (run-on l done.is_lent) (settled b) (λ n cover. refl)
+            (batches_carried w.workers) (stamps b) (sound-settled setup w b s) in
+        ap (λ xs. server_after (start setup) xs) finished ∙ after-one (start setup) w.finished (finished_call r starved)
+        ∙ ap (λ x. (step_of x (finished_call r starved)).server) s.finished
+        ∙ sym (same_server (tree b.layout (settled b))) ∙ sym there.1 ∙ ap (λ f. tree b.layout f) (sym settled-is)
+
+    hands-are : HasHands filer new_books (batches_carried w.workers)
+    hands-are weigh =
+        let old = s.hands weigh in
+        let taken = moved-snoc takes weigh b.entries e in
+        let given = moved-snoc gives weigh b.entries e in
+        omega (arith, old, taken, given)
+
+    others : (j : ℕ) (m : Lent (FilerParcel P)) → get_elem? b.lent j ≡ some (Some m) → j ≢ i → UnderLent b m (λ n. settled new_books n ≡ settled b n)
+    others j m at ne n pos lt cover = ap (λ (x : FilerBooks P). settled x n) (sym done.books) ∙ done.others j m at ne n pos lt cover
+
+    pub finished-stands : StandsFor setup next c
+    finished-stands = record {
+      layout = layout-is ∙ s.layout;
+      lawful = subst (λ (x : FilerBooks P). fault_of x.layout ≡ None) (sym done.books) s.lawful;
+      lent = apart;
+      server = server ∙ s.server ∙ sym (λ j. tree (layout-is j) (same-now b c done.same j));
+      parts = parts ∙ s.parts ∙ sym (λ j. all_parts (filer_contents (layout-is j) (same-now b c done.same j)));
+      finished = finished-is ∙ sym (ap (λ (x : FilerBooks P). tree x.layout (settled x)) done.books);
+      stamps = stamps_are ∙ ap (λ n. n + 1) s.stamps ∙ sym (length-append b.entries (e ∷ [])) ∙ sym (ap (λ (x : FilerBooks P). stamps x) done.books);
+      workers = subst (λ ks. RunOn setup c ks c.lent) (sym workers)
+          (subst (λ (x : FilerBooks P). RunOn setup x (changed_at (with_running None) w.workers i) x.lent) (sym done.books)
+          (run-changed setup b es (with_lent b i None).lent w.workers b.lent i None None others tt s.workers));
+      hands = subst (λ ks. HasHands filer c (batches_carried ks)) (sym workers)
+          (subst (λ hs. HasHands filer c hs) (sym (carried-stay w.workers i None))
+          (subst (λ (x : FilerBooks P). HasHands filer x (batches_carried w.workers)) (sym done.books) hands-are));
+      sound = done.keeps;
+    }
