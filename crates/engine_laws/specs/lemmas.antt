@@ -5,3 +5,4 @@ pub mod Changing
 pub mod Beginning
 pub mod Working
 pub mod Finishing
+pub mod Opening

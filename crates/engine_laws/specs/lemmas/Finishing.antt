@@ -143,3 +143,32 @@ module _ {P : Type 0} (setup : Setup) (w : World) (b : FilerBooks P) (s : Stands
           (subst (λ (x : FilerBooks P). HasHands filer x (batches_carried w.workers)) (sym done.books) hands-are));
       sound = done.keeps;
     }
+
+  -- a moved message leaves what it was lent as the finished calls left it
+  pub moved-unchanged : (l : Lent (FilerParcel P)) → HasLent b i l → (to : Affinity) → o ≡ Moved to → IsUnchanged b l
+  moved-unchanged l lent to is = (subst (λ x. HasOutcome setup b r l (Some x)) is (run-on l lent)).0
+
+  module _ (c : FilerBooks P) (back : HasPutBack b i c) (apart : IsApart c) (next : World)
+      (server : next.server ≡ w.server) (parts : next.parts ≡ w.parts) (finished : next.finished ≡ w.finished)
+      (stamps_are : next.stamps ≡ w.stamps) (workers : next.workers ≡ changed_at (with_running None) w.workers i) where
+    back-layout : c.layout ≡ b.layout
+    back-layout = ap (λ (x : FilerBooks P). x.layout) back.books
+
+    -- the books stand for the world in which it waits again
+    pub back-stands : StandsFor setup next c
+    back-stands = record {
+      layout = back-layout ∙ s.layout;
+      lawful = subst (λ (x : FilerBooks P). fault_of x.layout ≡ None) (sym back.books) s.lawful;
+      lent = apart;
+      server = server ∙ s.server ∙ sym (λ j. tree (back-layout j) (same-now b c back.same j));
+      parts = parts ∙ s.parts ∙ sym (λ j. all_parts (filer_contents (back-layout j) (same-now b c back.same j)));
+      finished = ap (λ es. server_after (start setup) es) finished ∙ s.finished ∙ sym (ap (λ (x : FilerBooks P). tree x.layout (settled x)) back.books);
+      stamps = stamps_are ∙ s.stamps ∙ sym (ap (λ (x : FilerBooks P). stamps x) back.books);
+      workers = subst (λ ks. RunOn setup c ks c.lent) (sym workers)
+          (subst (λ (x : FilerBooks P). RunOn setup x (changed_at (with_running None) w.workers i) x.lent) (sym back.books)
+          (run-changed setup b b.entries (with_lent b i None).lent w.workers b.lent i None None (λ j m at ne n pos lt d. refl) tt s.workers));
+      hands = subst (λ ks. HasHands filer c (batches_carried ks)) (sym workers)
+          (subst (λ hs. HasHands filer c hs) (sym (carried-stay w.workers i None))
+          (subst (λ (x : FilerBooks P). HasHands filer x (batches_carried w.workers)) (sym back.books) s.hands));
+      sound = subst (λ (x : FilerBooks P). IsSettled filer x) (sym back.books) s.sound;
+    }

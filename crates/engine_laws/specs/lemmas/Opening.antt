@@ -1,0 +1,81 @@
+-- The books of a desk as a run begins stand for the world as it begins.
+use Rattle.std.proofs.Common.{◌≡◌, ℕ, zero, suc, ◌+◌, ◌<◌, List, [], ◌∷◌, length, replicate, Option, Some, None, refl, sym, ap, ◌∙◌}
+use Rattle.std.proofs.Common.{subst, arith}
+use mathlib.Core.Option.{some, some-injective, some-ne-none}
+use lib.ListN.{get_elem?}
+use Rattle.nfs_model.specs.Tree.{Layout, Affinity}
+use Rattle.nfs_model.specs.Parts.{Hand, Empty}
+use Rattle.nfs_model.specs.World.{Setup, Worker}
+use Rattle.nfs_model.specs.Headline.{opening_world}
+use Rattle.affinity_tree.specs.Fault.{fault_of}
+use Rattle.affinity_tree.specs.Tree.{IsNode}
+use Rattle.affinity_tree.specs.Numbers.{number_of, node_count, parents}
+use Rattle.affinity_tree.specs.lemmas.Smaller.{length-parents}
+use Rattle.affinity_tree.specs.lemmas.Standing.{number-place}
+use Rattle.depot_rule.specs.History.{listed, by_number}
+use Rattle.depot_rule.specs.lemmas.Listed.{by-number-at}
+use Rattle.desk_laws.specs.Books.{Lent, overlaid, settled, now, HasLent, HasHands, opening_books}
+use Rattle.held_state.specs.Parcels.{FilerParcel}
+use Rattle.held_state.specs.Contents.{filer_contents}
+use Rattle.held_state.specs.Tree.{tree}
+use Rattle.held_state.specs.Partition.{all_parts}
+use Rattle.held_state.specs.Opening.{AreOpening}
+use Rattle.held_laws.specs.Laws.{OpensSound, OpensAsServer, OpensFree}
+use Rattle.engine_laws.specs.Store.{FilerBooks, filer, RunOn, IsApart, StandsFor, batches_carried}
+
+abbrev idle : Worker
+idle = record { running = None; hand = Empty }
+
+none-lent : {P : Type 0} (n i : ℕ) (l : Lent (FilerParcel P)) → get_elem? (replicate n None) i ≡ some (Some l) → ⊥
+none-lent zero i l at = absurd (some-ne-none (Some l) (sym at))
+none-lent (suc n) zero l at = absurd (wrong (some-injective None (Some l) at))
+  where
+    wrong : None ≡ Some l → ⊥
+    wrong e = absurd cc
+none-lent (suc n) (suc i) l at = none-lent n i l at
+
+none-carried : (n : ℕ) → batches_carried (replicate n idle) ≡ []
+none-carried zero = refl
+none-carried (suc n) = none-carried n
+
+none-over : {P : Type 0} (layout : Layout) (n : ℕ) (f : ℕ → Option (FilerParcel P)) → overlaid layout (replicate n None) f ≡ f
+none-over layout zero f = refl
+none-over layout (suc n) f = none-over layout n f
+
+module _ {P : Type 0} (sound : OpensSound P) (server : OpensAsServer P) (free : OpensFree P) (setup : Setup) (lawful : fault_of setup.layout ≡ None)
+    (f : ℕ → Option (FilerParcel P)) (opening : AreOpening setup.layout setup.verifier f) where
+  abbrev L : Layout
+  L = setup.layout
+
+  abbrev b : FilerBooks P
+  b = opening_books L f setup.workers
+
+  -- the parcels as they are listed
+  abbrev g : ℕ → Option (FilerParcel P)
+  g = listed (by_number f (1 + node_count L))
+
+  listed-open : AreOpening L setup.verifier g
+  listed-open node is =
+      let place = number-place L node is in let size = length-parents L in
+      by-number-at f (1 + node_count L) (number_of L node) (omega arith) ∙ opening node is
+
+  all-idle : (n : ℕ) → RunOn setup b (replicate n idle) (replicate n None)
+  all-idle zero = tt
+  all-idle (suc n) = (tt, all-idle n)
+
+  pub opening-stands : StandsFor setup (opening_world setup) b
+  opening-stands = record {
+    layout = refl;
+    lawful = lawful;
+    lent = record {
+      node = λ i l at. absurd (none-lent setup.workers i l at);
+      apart = λ i j l k at there ne. absurd (none-lent setup.workers i l at);
+    };
+    server = sym (server L setup.verifier g lawful listed-open) ∙ ap (λ h. tree L h) (sym (none-over L setup.workers g));
+    parts = sym (free L setup.verifier g lawful listed-open) ∙ ap (λ h. all_parts (filer_contents L h)) (sym (none-over L setup.workers g));
+    finished = sym (server L setup.verifier g lawful listed-open);
+    stamps = refl;
+    workers = all-idle setup.workers;
+    hands = subst (λ hs. HasHands filer b hs) (sym (none-carried setup.workers)) (λ weigh. refl);
+    sound = ([], (λ weigh. refl), sound L setup.verifier g lawful listed-open);
+  }
