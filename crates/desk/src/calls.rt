@@ -17,9 +17,9 @@ impl<M: Machine, K: NodeKinds<M::Parcel>> Desk<M, K> {
     ghost use Rattle.std.specs.Prelude.{OnOk, IfErr};
     ghost use Rattle.affinity_tree.specs.Affinity.{affinity_of};
     ghost use Rattle.affinity_tree.specs.Tree.{IsNode};
-    ghost use Rattle.desk_laws.specs.Books.{HasLent, IsBusy, IsIdle, IsUnchanged};
-    ghost use Rattle.desk_laws.specs.Calls.{HasBegun, HasWorked, HasPutBack};
-    ghost use Rattle.desk_laws.specs.Calls.{MayFinish, HasFinished};
+    ghost use Rattle.desk_laws.specs.Books.{IsIdle};
+    ghost use Rattle.desk_laws.specs.Calls.{HasBegun, MayWork, HasWorked};
+    ghost use Rattle.desk_laws.specs.Calls.{MayFinish, HasFinished, MayPutBack, HasPutBack};
     ghost use Rattle.desk.specs.Refusal.{IsRefused};
     ghost use Rattle.desk.specs.Words.{books, machine_in, IsKept};
 
@@ -53,9 +53,10 @@ impl<M: Machine, K: NodeKinds<M::Parcel>> Desk<M, K> {
     /// Does a task on what a worker was lent.
     pub fn work<W: Task<M::Parcel, K>>(&mut self, worker: usize, task: W) -> W::Output
         requires kept { IsKept self.old }
-        requires lent { IsBusy (books self.old) worker }
+        requires may { MayWork (W.asks task) (books self.old) worker }
         ensures kept { IsKept self.new }
-        ensures worked { HasWorked W.does (books self.old) worker result (books self.new) }
+        ensures worked { HasWorked (W.does task) (books self.old) worker result
+            (books self.new) }
     {
         match &mut self.grants[worker] {
             Some(any) => work_any::<M, K, W>(self.depot.layout(), any, task),
@@ -81,8 +82,7 @@ impl<M: Machine, K: NodeKinds<M::Parcel>> Desk<M, K> {
     /// Ends a worker's call without an entry. What it was lent has to be as it was lent.
     pub fn put_back(&mut self, worker: usize)
         requires kept { IsKept self.old }
-        requires unchanged { (l : _) × HasLent (books self.old) worker l
-            × IsUnchanged (books self.old) l }
+        requires may { MayPutBack (books self.old) worker }
         ensures kept { IsKept self.new }
         ensures back { HasPutBack (books self.old) worker (books self.new) }
     {

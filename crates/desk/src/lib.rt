@@ -9,6 +9,7 @@ mod grants;
 mod kinds;
 mod nodes;
 mod opening;
+mod queries;
 mod refusal;
 mod taken;
 mod task;

@@ -5,7 +5,7 @@ ghost use Rattle.affinity_tree.specs.Affinity.{affinity_of};
 ghost use Rattle.affinity_tree.specs.Layout.{layout_of};
 ghost use Rattle.affinity_tree.specs.Tree.{IsNode};
 ghost use Rattle.parcel_sets.specs.Exact.{HasExactly};
-ghost use Rattle.desk_laws.specs.Calls.{Does};
+ghost use Rattle.desk_laws.specs.Calls.{Asks, Does};
 ghost use Rattle.desk_laws.specs.Backing.{IsWhole, IsDone};
 ghost use Rattle.desk.specs.Any.{lent_of};
 
@@ -19,8 +19,11 @@ use parcel_sets::Node;
 pub trait Task<T: HasKind, K: NodeKinds<T>> {
     type Output;
 
+    // What it needs of the layout, the affinity and its parcels.
+    ghost asks: { Self → Asks T };
+
     // Of the layout, the affinity, its parcels before, what comes of it, and its parcels after.
-    ghost does: { Does T Self.Output };
+    ghost does: { Self → Does T Self.Output };
 
     /// Works on the parcels of a range.
     fn on_range(
@@ -29,12 +32,15 @@ pub trait Task<T: HasKind, K: NodeKinds<T>> {
         affinity: Affinity,
         held: &mut <K::Range as Node<T>>::Held,
     ) -> Self::Output
+        requires node { IsNode (layout_of layout.now) (affinity_of affinity) }
         requires exact { let L = layout_of layout.now in let a = affinity_of affinity in
             HasExactly T.kind L a (K.Range.parcels L a held.old) }
+        requires asks { let L = layout_of layout.now in let a = affinity_of affinity in
+            asks self L a (K.Range.parcels L a held.old) }
         ensures exact { let L = layout_of layout.now in let a = affinity_of affinity in
             HasExactly T.kind L a (K.Range.parcels L a held.new) }
         ensures does { let L = layout_of layout.now in let a = affinity_of affinity in
-            does L a (K.Range.parcels L a held.old) result (K.Range.parcels L a held.new) };
+            does self L a (K.Range.parcels L a held.old) result (K.Range.parcels L a held.new) };
 
     /// Works on the parcels of a volume's block numbers.
     fn on_vbn(
@@ -43,12 +49,15 @@ pub trait Task<T: HasKind, K: NodeKinds<T>> {
         affinity: Affinity,
         held: &mut <K::Vbn as Node<T>>::Held,
     ) -> Self::Output
+        requires node { IsNode (layout_of layout.now) (affinity_of affinity) }
         requires exact { let L = layout_of layout.now in let a = affinity_of affinity in
             HasExactly T.kind L a (K.Vbn.parcels L a held.old) }
+        requires asks { let L = layout_of layout.now in let a = affinity_of affinity in
+            asks self L a (K.Vbn.parcels L a held.old) }
         ensures exact { let L = layout_of layout.now in let a = affinity_of affinity in
             HasExactly T.kind L a (K.Vbn.parcels L a held.new) }
         ensures does { let L = layout_of layout.now in let a = affinity_of affinity in
-            does L a (K.Vbn.parcels L a held.old) result (K.Vbn.parcels L a held.new) };
+            does self L a (K.Vbn.parcels L a held.old) result (K.Vbn.parcels L a held.new) };
 
     /// Works on the parcels of a stripe.
     fn on_stripe(
@@ -57,12 +66,15 @@ pub trait Task<T: HasKind, K: NodeKinds<T>> {
         affinity: Affinity,
         held: &mut <K::Stripe as Node<T>>::Held,
     ) -> Self::Output
+        requires node { IsNode (layout_of layout.now) (affinity_of affinity) }
         requires exact { let L = layout_of layout.now in let a = affinity_of affinity in
             HasExactly T.kind L a (K.Stripe.parcels L a held.old) }
+        requires asks { let L = layout_of layout.now in let a = affinity_of affinity in
+            asks self L a (K.Stripe.parcels L a held.old) }
         ensures exact { let L = layout_of layout.now in let a = affinity_of affinity in
             HasExactly T.kind L a (K.Stripe.parcels L a held.new) }
         ensures does { let L = layout_of layout.now in let a = affinity_of affinity in
-            does L a (K.Stripe.parcels L a held.old) result (K.Stripe.parcels L a held.new) };
+            does self L a (K.Stripe.parcels L a held.old) result (K.Stripe.parcels L a held.new) };
 
     /// Works on the parcels of a volume's names and attributes.
     fn on_logical(
@@ -71,12 +83,15 @@ pub trait Task<T: HasKind, K: NodeKinds<T>> {
         affinity: Affinity,
         held: &mut <K::Logical as Node<T>>::Held,
     ) -> Self::Output
+        requires node { IsNode (layout_of layout.now) (affinity_of affinity) }
         requires exact { let L = layout_of layout.now in let a = affinity_of affinity in
             HasExactly T.kind L a (K.Logical.parcels L a held.old) }
+        requires asks { let L = layout_of layout.now in let a = affinity_of affinity in
+            asks self L a (K.Logical.parcels L a held.old) }
         ensures exact { let L = layout_of layout.now in let a = affinity_of affinity in
             HasExactly T.kind L a (K.Logical.parcels L a held.new) }
         ensures does { let L = layout_of layout.now in let a = affinity_of affinity in
-            does L a (K.Logical.parcels L a held.old) result (K.Logical.parcels L a held.new) };
+            does self L a (K.Logical.parcels L a held.old) result (K.Logical.parcels L a held.new) };
 
     /// Works on the parcels of a volume.
     fn on_volume(
@@ -85,12 +100,15 @@ pub trait Task<T: HasKind, K: NodeKinds<T>> {
         affinity: Affinity,
         held: &mut <K::Volume as Node<T>>::Held,
     ) -> Self::Output
+        requires node { IsNode (layout_of layout.now) (affinity_of affinity) }
         requires exact { let L = layout_of layout.now in let a = affinity_of affinity in
             HasExactly T.kind L a (K.Volume.parcels L a held.old) }
+        requires asks { let L = layout_of layout.now in let a = affinity_of affinity in
+            asks self L a (K.Volume.parcels L a held.old) }
         ensures exact { let L = layout_of layout.now in let a = affinity_of affinity in
             HasExactly T.kind L a (K.Volume.parcels L a held.new) }
         ensures does { let L = layout_of layout.now in let a = affinity_of affinity in
-            does L a (K.Volume.parcels L a held.old) result (K.Volume.parcels L a held.new) };
+            does self L a (K.Volume.parcels L a held.old) result (K.Volume.parcels L a held.new) };
 
     /// Works on the parcels of an aggregate.
     fn on_aggregate(
@@ -99,12 +117,15 @@ pub trait Task<T: HasKind, K: NodeKinds<T>> {
         affinity: Affinity,
         held: &mut <K::Aggregate as Node<T>>::Held,
     ) -> Self::Output
+        requires node { IsNode (layout_of layout.now) (affinity_of affinity) }
         requires exact { let L = layout_of layout.now in let a = affinity_of affinity in
             HasExactly T.kind L a (K.Aggregate.parcels L a held.old) }
+        requires asks { let L = layout_of layout.now in let a = affinity_of affinity in
+            asks self L a (K.Aggregate.parcels L a held.old) }
         ensures exact { let L = layout_of layout.now in let a = affinity_of affinity in
             HasExactly T.kind L a (K.Aggregate.parcels L a held.new) }
         ensures does { let L = layout_of layout.now in let a = affinity_of affinity in
-            does L a (K.Aggregate.parcels L a held.old) result (K.Aggregate.parcels L a held.new) };
+            does self L a (K.Aggregate.parcels L a held.old) result (K.Aggregate.parcels L a held.new) };
 
     /// Works on the parcels of the whole tree.
     fn on_serial(
@@ -113,12 +134,15 @@ pub trait Task<T: HasKind, K: NodeKinds<T>> {
         affinity: Affinity,
         held: &mut <K::Serial as Node<T>>::Held,
     ) -> Self::Output
+        requires node { IsNode (layout_of layout.now) (affinity_of affinity) }
         requires exact { let L = layout_of layout.now in let a = affinity_of affinity in
             HasExactly T.kind L a (K.Serial.parcels L a held.old) }
+        requires asks { let L = layout_of layout.now in let a = affinity_of affinity in
+            asks self L a (K.Serial.parcels L a held.old) }
         ensures exact { let L = layout_of layout.now in let a = affinity_of affinity in
             HasExactly T.kind L a (K.Serial.parcels L a held.new) }
         ensures does { let L = layout_of layout.now in let a = affinity_of affinity in
-            does L a (K.Serial.parcels L a held.old) result (K.Serial.parcels L a held.new) };
+            does self L a (K.Serial.parcels L a held.old) result (K.Serial.parcels L a held.new) };
 }
 
 /// Does a task on what was granted.
@@ -130,10 +154,12 @@ pub(crate) fn work_any<M: Machine, K: NodeKinds<M::Parcel>, W: Task<M::Parcel, K
     requires node { let L = layout_of layout.now in IsNode L (lent_of L any.old).affinity }
     requires whole { let L = layout_of layout.now in
         IsWhole M.Parcel.kind L (lent_of L any.old) }
+    requires asks { let L = layout_of layout.now in let l = lent_of L any.old in
+        W.asks task L l.affinity l.parcels }
     ensures whole { let L = layout_of layout.now in
         IsWhole M.Parcel.kind L (lent_of L any.new) }
     ensures done { let L = layout_of layout.now in
-        IsDone W.does L (lent_of L any.old) result (lent_of L any.new) }
+        IsDone (W.does task) L (lent_of L any.old) result (lent_of L any.new) }
 {
     match any {
         AnyGrant::Range(node) => {

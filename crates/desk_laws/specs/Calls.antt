@@ -8,6 +8,10 @@ use Rattle.depot_rule.specs.History.{Behaviour, patched}
 use Rattle.depot.specs.Grants.{entry_of}
 use Rattle.desk_laws.specs.Books.{Lent, Books, settled, now, stamps, HasLent, IsTaken, UnderLent, IsUnchanged, IsSame, IsWorked, HasHands, IsSettled}
 
+-- what a task needs of the layout, the affinity and its parcels
+abbrev pub Asks : Type 0 → Type 1
+Asks P = Layout → Affinity → (ℕ → Option P) → Type 0
+
 -- what a task does: of the layout, the affinity, its parcels before, what comes of it, and its parcels after
 abbrev pub Does : Type 0 → Type 0 → Type 1
 Does P O = Layout → Affinity → (ℕ → Option P) → O → (ℕ → Option P) → Type 0
@@ -35,10 +39,20 @@ module _ {P C R : Type 0} where
   abbrev pub IsWorn : Books P C R → Affinity → Type 0
   IsWorn b a = (IsTaken b a → ⊥) × (worn ≤ stamps b)
 
+  -- a worker's call may be put back: what it was lent is as it was lent
+  abbrev pub MayPutBack : Books P C R → ℕ → Type 0
+  MayPutBack b worker = (l : Lent P) × HasLent b worker l × IsUnchanged b l
+
   -- what a worker was lent is home, and the parcels are as they were
   pub record HasPutBack (b : Books P C R) (worker : ℕ) (c : Books P C R) : Type 0 where
     pub books : c ≡ with_lent b worker None
     pub same : IsSame b c
+
+  -- a worker was lent what a task needs
+  pub record MayWork (asks : Asks P) (b : Books P C R) (worker : ℕ) : Type 0 where
+    pub lent : Lent P
+    pub is_lent : HasLent b worker lent
+    pub fits : asks b.layout lent.affinity lent.parcels
 
   -- the parcels of a worker were changed, and no others
   pub record HasWorked {O : Type 0} (does : Does P O) (b : Books P C R) (worker : ℕ) (outcome : O) (c : Books P C R) : Type 0 where

@@ -6,3 +6,4 @@ pub mod Begins
 pub mod Ends
 pub mod Opened
 pub mod Taken
+pub mod Beside

@@ -1,6 +1,6 @@
 -- Whether something is lent that excludes an affinity, found by going over the grants.
 use Rattle.std.proofs.Common.{◌≡◌, ℕ, zero, suc, ◌+◌, ◌<◌, ◌≤◌, Bool, true, false, List, [], ◌∷◌, length, map, arith, Option, Some, None, refl, sym, ap, ◌∙◌, subst}
-use Rattle.std.specs.Prelude.{option_map, slice_index_or}
+use Rattle.std.specs.Prelude.{◌↔◌, option_map, slice_index_or, is_some, not}
 use mathlib.Core.Option.{some, some-injective, some-ne-none}
 use mathlib.Core.Logic.{dite}
 use native.Mathlib.Decide.{ℕ_discrete}
@@ -62,8 +62,24 @@ module _ {P C R G : Type 0} (shows : Shows G P) (L : Layout) (v : View P (Entry 
       let bad : false ≡ true = sym not_so ∙ so (subst (λ (x : Layout × List (Option G)). IsTakenIn shows x.0 x.1 a) (λ i. (sym layout i, sym grants i)) here) in
       cc
 
+  pub said-taken : (K : Layout) (hs : List (Option G)) (t : Bool) → K ≡ L → hs ≡ gs → (t ≡ true) ↔ IsTakenIn shows K hs a
+      → (t ≡ true) ↔ IsTaken (books_of shows L v gs) a
+  said-taken K hs true layout grants said = (λ e. taken-books K hs layout grants (said.0 e), λ taken. refl)
+  said-taken K hs false layout grants said =
+      (λ e. taken-books K hs layout grants (said.0 e), λ taken. absurd (free-books K hs false layout grants said.1 refl taken))
+
+module _ {P C R G : Type 0} (shows : Shows G P) (L : Layout) (v : View P (Entry P C R)) (gs : List (Option G)) (i : ℕ) where
   -- an idle worker has no grant
-  pub idle-none : (i : ℕ) (x : G) → IsIdle (books_of shows L v gs) i → get_elem? gs i ≡ some (Some x) → ⊥
-  idle-none i x idle at =
+  pub idle-none : (x : G) → IsIdle (books_of shows L v gs) i → get_elem? gs i ≡ some (Some x) → ⊥
+  idle-none x idle at =
       let some_one = at_map (λ g. option_map (shows L) g) gs i (Some x) at in
       let bad : None ≡ Some (shows L x) = some-injective None (Some (shows L x)) (sym idle ∙ some_one) in cc
+
+  -- whether the worker's place has no grant says whether it is idle
+  pub said-idle : (x : Option G) (t : Bool) → i < length gs → x ≡ slice_index_or gs i x → is_some x ≡ not t
+      → (t ≡ true) ↔ IsIdle (books_of shows L v gs) i
+  said-idle None true lt is none = (λ e. at_map (λ g. option_map (shows L) g) gs i None (at_index gs i None lt is), λ idle. refl)
+  said-idle None false lt is none = absurd cc
+  said-idle (Some x) true lt is none = absurd cc
+  said-idle (Some x) false lt is none =
+      (λ e. absurd cc, λ idle. absurd (idle-none x idle (at_index gs i (Some x) lt is)))

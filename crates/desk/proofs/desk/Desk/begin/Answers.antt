@@ -19,7 +19,7 @@ index_mut-requires g c =
 
 pub unreachable-requires : goal.unreachable-requires
 unreachable-requires g c =
-    idle-none lent_of (layout_in c.args.self.now.depot) (view c.args.self.now.seat) c.args.self.now.grants.items (affinity_of c.args.affinity) c.args.worker c.in-Some.field-0 c.requires.idle
+    idle-none lent_of (layout_in c.args.self.now.depot) (view c.args.self.now.seat) c.args.self.now.grants.items c.args.worker c.in-Some.field-0 c.requires.idle
     (found c.args.self.now.grants.items c.args.worker c.index_mut.result.now c.replace.result (Some c.in-Some.field-0) (in-room lent_of (layout_in c.args.self.now.depot) (view c.args.self.now.seat) c.args.self.now.grants.items c.args.worker _ c.requires.idle) c.index_mut.ensures.value c.replace.ensures.value c.in-Some.is)
 
 pub returns-then-is_taken-clause-kept : goal.returns-then-is_taken-clause-kept
