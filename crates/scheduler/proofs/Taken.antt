@@ -60,6 +60,13 @@ module _ {C : Type 0} where
       ap (λ (t : List (Message C)). slice_get t place) (sym o)
       ∙ ap (slice_get (present xs)) (sym p ∙ ap (λ (t : List (Option (Message C))). length (present (take i t))) e) ∙ present-at xs i m f
 
+  -- what is read at its cell
+  pub got : (xs w : List (Option (Message C))) (old : List (Message C)) (i place : ℕ) (r x : Option (Message C)) → present xs ≡ old → w ≡ xs → HasMessage w i
+      → length (present (take i w)) ≡ place → r ≡ get_or xs i r → x ≡ r → x ≡ slice_get old place
+  got xs w old i place r x o e h p re xe =
+      let there = message-there xs w i h.0 e h.1 in
+      xe ∙ re ∙ get_or_from_slice_get xs i (Some h.0) r there ∙ sym (picked xs w old i place h.0 o e there p)
+
   pub rest : (xs ys w : List (Option (Message C))) (old : List (Message C)) (i place : ℕ) (m : Message C) → present xs ≡ old → ys ≡ set xs i None → w ≡ xs
       → slice_get xs i ≡ Some (Some m) → length (present (take i w)) ≡ place → present ys ≡ remove old place
   rest xs ys w old i place m o f e h p =

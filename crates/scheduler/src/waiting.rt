@@ -142,6 +142,17 @@ impl<C: Drop> Waiting<C> {
         Ok(message)
     }
 
+    /// The message at a place of the list, from 0 on. It goes over the cells once.
+    pub fn get(&self, place: usize) -> Option<&Message<C>>
+        ensures { option_copied result ≡ slice_get self.now place }
+    {
+        if place >= self.count {
+            return None;
+        }
+        let cell = cell_at(&self.messages, self.start, place);
+        self.messages[cell].as_ref()
+    }
+
     /// The smallest place whose message tries an affinity. It goes over the cells once.
     pub fn first_of(&self, affinity: Affinity) -> Option<usize>
         requires { HasQueue (affinity_of affinity) }

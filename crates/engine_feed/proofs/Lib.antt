@@ -1,0 +1,9 @@
+pub mod Lists
+pub mod Scanning
+pub mod Taking
+pub mod Worlds
+pub mod Arriving
+pub mod Records
+pub mod Serves
+pub mod Marking
+pub mod Looks

@@ -1,0 +1,134 @@
+use Rattle.std.proofs.Common.{◌≡◌, ◌++◌, sym, ap, subst, ◌∙◌, length, take, refl, Ok, Err, arith}
+use Rattle.std.specs.Prelude.{option_map}
+use Rattle.nfs_model.specs.World.{Scanned}
+use Rattle.rpc_record.specs.declared.reassembler.Step.TheVariants as steps
+use Rattle.engine_feed.specs.Numbers.{fault_number}
+use Rattle.engine_feed.specs.Seen.{heard_of}
+use Rattle.engine_feed.specs.declared.reading.RecordRead.{RecordRead}
+use Rattle.engine_feed.specs.Codec.{heard}
+use Rattle.engine_feed.specs.Records.{IsReadAs}
+use Rattle.engine_feed.proofs.Arriving.{took_from, took_as, in-step, read_as, ended-as, one_more, length_taken}
+use Rattle.engine_feed.proofs.arrival.take_bytes.Goals as goal
+
+pub slice_bounds-keep-end : goal.slice_bounds-keep-end
+slice_bounds-keep-end c =
+    let t = took_from c.args.from.now c.args.bytes.now c.feed-taken.result.0 c.feed-taken.result.1 c.feed-taken.new.self c.requires.in_step
+    c.requires.taking.faultless c.feed-taken.ensures.feeds in
+    sym (length_taken c.feed-taken.result.0 c.args.bytes.now t.0.within)
+
+pub returns-in-More-clause-takes : goal.returns-in-More-clause-takes
+returns-in-More-clause-takes c =
+    let from = c.args.from.now in
+    let taken = c.feed-taken.result.0 in
+    let t = took_as from c.args.bytes.now taken c.feed-taken.result.1 steps.More c.feed-taken.new.self c.requires.in_step c.requires.taking.faultless
+    c.in-More.is c.feed-taken.ensures.feeds in
+    let size = length_taken taken c.args.bytes.now t.0.within in
+    record {
+      arrives = (t.1.0, t.1.1);
+      within = t.0.within;
+      stream = c.keep.ensures.items;
+      len = omega (arith, c.keep.ensures.len, size);
+      room = c.keep.ensures.room;
+      output = refl;
+      owed = refl;
+      in_step = in-step _ (from.stream.items ++ take taken c.args.bytes.now) c.keep.ensures.items t.0.to
+          (ap (λ (s : Scanned). s.fault) t.1.2 ∙ c.requires.in_step.fault)
+          (ap (λ (s : Scanned). length s.served) t.1.2 ∙ c.requires.in_step.records)
+          (omega (arith, c.requires.in_step.few, c.keep.ensures.len));
+      faultless = c.requires.taking.faultless;
+    }
+
+pub returns-in-Fault-clause-takes : goal.returns-in-Fault-clause-takes
+returns-in-Fault-clause-takes c =
+    let from = c.args.from.now in
+    let taken = c.feed-taken.result.0 in
+    let t = took_as from c.args.bytes.now taken c.feed-taken.result.1 steps.Fault c.feed-taken.new.self c.requires.in_step c.requires.taking.faultless
+    c.in-Fault.is c.feed-taken.ensures.feeds in
+    let size = length_taken taken c.args.bytes.now t.0.within in
+    record {
+      arrives = (t.1.0, t.0.within, t.1.1);
+      within = t.0.within;
+      stream = c.keep.ensures.items;
+      len = omega (arith, c.keep.ensures.len, size);
+      room = c.keep.ensures.room;
+      output = refl;
+      owed = refl;
+      in_step = in-step _ (from.stream.items ++ take taken c.args.bytes.now) c.keep.ensures.items t.0.to
+          (ap (λ (s : Scanned). s.fault) t.1.1.complete)
+          (ap (λ (s : Scanned). length s.served) t.1.1.complete ∙ c.requires.in_step.records)
+          (omega (arith, c.requires.in_step.few, c.keep.ensures.len));
+      faultless = tt;
+    }
+
+pub returns-in-Heard-clause-takes : goal.returns-in-Heard-clause-takes
+returns-in-Heard-clause-takes c =
+    let from = c.args.from.now in
+    let taken = c.feed-taken.result.0 in
+    let t = took_as from c.args.bytes.now taken c.feed-taken.result.1 (steps.Record c.in-Record.record) c.feed-taken.new.self c.requires.in_step c.requires.taking.faultless
+    c.in-Record.is c.feed-taken.ensures.feeds in
+    let r = subst (λ (x : RecordRead). IsReadAs x (heard c.deref.result.now)) c.in-Heard.is c.read_record.ensures in
+    let k = read_as _ _ _ _ (Ok (heard_of c.in-Heard.heard)) c.deref.ensures.value r t.1.1 in
+    let size = length_taken taken c.args.bytes.now t.0.within in
+    record {
+      arrives = (t.1.0, t.0.within, k);
+      within = t.0.within;
+      stream = c.keep.ensures.items;
+      len = omega (arith, c.keep.ensures.len, size);
+      room = c.keep.ensures.room;
+      output = refl;
+      owed = refl;
+      in_step = in-step _ (from.stream.items ++ take taken c.args.bytes.now) c.keep.ensures.items t.0.to
+          (ap (λ (s : Scanned). s.fault) k.complete ∙ sym (ap (option_map fault_number) c.requires.taking.faultless))
+          (ap (λ (s : Scanned). length s.served) k.complete ∙ one_more _ _ _ c.requires.in_step.records)
+          (omega (arith, c.requires.in_step.few, c.keep.ensures.len, t.1.0, size));
+      faultless = c.requires.taking.faultless;
+    }
+
+pub returns-in-Undecoded-clause-takes : goal.returns-in-Undecoded-clause-takes
+returns-in-Undecoded-clause-takes c =
+    let from = c.args.from.now in
+    let taken = c.feed-taken.result.0 in
+    let t = took_as from c.args.bytes.now taken c.feed-taken.result.1 (steps.Record c.in-Record.record) c.feed-taken.new.self c.requires.in_step c.requires.taking.faultless
+    c.in-Record.is c.feed-taken.ensures.feeds in
+    let r = subst (λ (x : RecordRead). IsReadAs x (heard c.deref.result.now)) c.in-Undecoded.is c.read_record.ensures in
+    let k = read_as _ _ _ _ (Ok (record { xid = c.in-Undecoded.xid; asked = r.0 })) c.deref.ensures.value r.2 t.1.1 in
+    let size = length_taken taken c.args.bytes.now t.0.within in
+    record {
+      arrives = (t.1.0, t.0.within, (r.0, r.1, k));
+      within = t.0.within;
+      stream = c.keep.ensures.items;
+      len = omega (arith, c.keep.ensures.len, size);
+      room = c.keep.ensures.room;
+      output = refl;
+      owed = refl;
+      in_step = in-step _ (from.stream.items ++ take taken c.args.bytes.now) c.keep.ensures.items t.0.to
+          (ap (λ (s : Scanned). s.fault) k.complete ∙ sym (ap (option_map fault_number) c.requires.taking.faultless))
+          (ap (λ (s : Scanned). length s.served) k.complete ∙ one_more _ _ _ c.requires.in_step.records)
+          (omega (arith, c.requires.in_step.few, c.keep.ensures.len, t.1.0, size));
+      faultless = c.requires.taking.faultless;
+    }
+
+pub returns-clause-takes : goal.returns-clause-takes
+returns-clause-takes c =
+    let from = c.args.from.now in
+    let taken = c.feed-taken.result.0 in
+    let t = took_as from c.args.bytes.now taken c.feed-taken.result.1 (steps.Record c.in-Record.record) c.feed-taken.new.self c.requires.in_step c.requires.taking.faultless
+    c.in-Record.is c.feed-taken.ensures.feeds in
+    let r = subst (λ (x : RecordRead). IsReadAs x (heard c.deref.result.now)) c.in-Fault-read_record.is c.read_record.ensures in
+    let k = ended-as _ _ (fault_number c.in-Fault-read_record.fault)
+    (read_as _ _ _ _ (Err (fault_number c.in-Fault-read_record.fault)) c.deref.ensures.value r t.1.1) in
+    let size = length_taken taken c.args.bytes.now t.0.within in
+    record {
+      arrives = (t.1.0, t.0.within, k);
+      within = t.0.within;
+      stream = c.keep.ensures.items;
+      len = omega (arith, c.keep.ensures.len, size);
+      room = c.keep.ensures.room;
+      output = refl;
+      owed = refl;
+      in_step = in-step _ (from.stream.items ++ take taken c.args.bytes.now) c.keep.ensures.items t.0.to
+          (ap (λ (s : Scanned). s.fault) k.complete)
+          (ap (λ (s : Scanned). length s.served) k.complete ∙ c.requires.in_step.records)
+          (omega (arith, c.requires.in_step.few, c.keep.ensures.len));
+      faultless = tt;
+    }

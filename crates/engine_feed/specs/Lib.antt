@@ -1,0 +1,11 @@
+pub mod Codec
+pub mod Numbers
+pub mod Offered
+pub mod Streams
+pub mod Seen
+pub mod Records
+pub mod Feeding
+pub mod Within
+pub mod Sound
+pub mod Words
+pub mod lemmas

@@ -1,0 +1,159 @@
+//! Records that are complete: answered at once, or let wait.
+
+ghost use Rattle.std.specs.Prelude.{◌≡◌, ◌+◌, ◌≤◌, ◌<◌, true, false, Some, None, length};
+ghost use Rattle.nfs_model.specs.Types as types;
+ghost use Rattle.nfs_model.specs.Server.{start_of_times};
+ghost use Rattle.nfs_values.specs.Call.{call_of};
+ghost use Rattle.nfs_values.specs.Credential.{credential_of};
+ghost use Rattle.nfs_values.specs.Reply.{reply_of};
+ghost use Rattle.engine_feed.specs.Codec.{reply_record};
+ghost use Rattle.engine_feed.specs.Offered.{reply_limit};
+ghost use Rattle.engine_feed.specs.Seen.{asked_of, layout_in, pending, entry_at};
+ghost use Rattle.engine_feed.specs.Sound.{IsSound, AreSound, IsAdmitted};
+ghost use Rattle.engine_feed.specs.Sound.{HasRoomToReply, HaveRoomToAdmit};
+ghost use Rattle.engine_feed.specs.Words.{HasHeard, Finishes, Waits, Keeps};
+
+use crate::asked::{OfferedCall, Refused};
+use crate::at_once::answer_at_once;
+use crate::finishing::{keep_entry, write_reply};
+use crate::message::Request;
+use crate::state::{CallsState, ConnectionState};
+use affinity::home_of;
+use nfs_laws::laws::without_home_stays;
+use nfs_values::{Credential, Moment, Reply};
+use rpc_msg::{refusals_fit, replies_fit, room_of_reply};
+use scheduler::laws::nodes_have_queues;
+use scheduler::{Message, Origin};
+
+/// Answers a call as its record is complete.
+fn answer(
+    connection: &mut ConnectionState,
+    calls: &mut CallsState,
+    origin: Origin,
+    request: Request,
+    reply: &Reply,
+)
+    requires connection { IsSound connection.old }
+    requires calls { AreSound calls.old }
+    requires short { length (reply_record origin.xid (reply_of reply.now)) ≤ reply_limit }
+    requires room { HasRoomToReply connection.old }
+    requires entry { HaveRoomToAdmit calls.old }
+    ensures finishes { Finishes calls.old connection.old
+        (entry_at origin (asked_of request) None start_of_times false) (reply_of reply.now)
+        calls.new connection.new }
+    ensures keeps { Keeps calls.old connection.old origin.connection.0 calls.new connection.new }
+{
+    write_reply(connection, origin.xid, reply);
+    keep_entry(calls, origin, Some(request), None, Moment::START, false);
+}
+
+/// Refuses a record.
+fn refuse(connection: &mut ConnectionState, calls: &mut CallsState, origin: Origin, reply: Refused)
+    requires connection { IsSound connection.old }
+    requires calls { AreSound calls.old }
+    requires room { HasRoomToReply connection.old }
+    requires entry { HaveRoomToAdmit calls.old }
+    ensures admitted { HasHeard calls.old connection.old origin (types.Refused (reply_of reply))
+        false calls.new connection.new }
+    ensures keeps { Keeps calls.old connection.old origin.connection.0 calls.new connection.new }
+{
+    refusals_fit();
+    write_reply(connection, origin.xid, reply.as_reply());
+    let request = Some(Request::Refused(reply));
+    keep_entry(calls, origin, request, None, Moment::START, false);
+}
+
+/// Answers a call that there was no memory to decode.
+pub(crate) fn starve(connection: &mut ConnectionState, calls: &mut CallsState, origin: Origin)
+    requires connection { IsSound connection.old }
+    requires calls { AreSound calls.old }
+    requires room { HasRoomToReply connection.old }
+    requires entry { HaveRoomToAdmit calls.old }
+    ensures starved { (asked : types.Asked)
+        → HasHeard calls.old connection.old origin asked true calls.new connection.new }
+    ensures keeps { Keeps calls.old connection.old origin.connection.0 calls.new connection.new }
+{
+    refusals_fit();
+    write_reply(connection, origin.xid, &Reply::SystemError);
+    keep_entry(calls, origin, None, None, Moment::START, true);
+}
+
+/// Lets a message of a connection wait, which keeps the room of its reply.
+fn wait(connection: &mut ConnectionState, calls: &mut CallsState, message: Message<OfferedCall>)
+    requires connection { IsSound connection.old }
+    requires calls { AreSound calls.old }
+    requires admitted { IsAdmitted (layout_in calls.old) message }
+    requires room { HasRoomToReply connection.old }
+    requires entry { HaveRoomToAdmit calls.old }
+    requires places { pending calls.old < 1024 }
+    ensures waits { Waits calls.old connection.old message calls.new connection.new }
+    ensures keeps { Keeps calls.old connection.old message.origin.connection.0 calls.new
+        connection.new }
+{
+    nodes_have_queues();
+    connection.owed += message.room;
+    calls.waiting.put_back(message);
+}
+
+/// Lets a call wait, or answers it where it needs no affinity.
+fn admit_call(
+    connection: &mut ConnectionState,
+    calls: &mut CallsState,
+    origin: Origin,
+    call: OfferedCall,
+    credential: Credential,
+)
+    requires connection { IsSound connection.old }
+    requires calls { AreSound calls.old }
+    requires room { HasRoomToReply connection.old }
+    requires entry { HaveRoomToAdmit calls.old }
+    requires places { pending calls.old < 1024 }
+    ensures admitted { HasHeard calls.old connection.old origin
+        (types.Ask (call_of call) (credential_of credential)) false calls.new connection.new }
+    ensures keeps { Keeps calls.old connection.old origin.connection.0 calls.new connection.new }
+{
+    match home_of(call.as_call(), &calls.layout) {
+        Some(affinity) => {
+            let room = room_of_reply(call.as_call(), calls.layout.volume_count() as u32);
+            let message = Message {
+                origin,
+                call,
+                credential,
+                affinity,
+                room,
+            };
+            wait(connection, calls, message);
+        }
+        None => {
+            without_home_stays();
+            replies_fit();
+            let reply = Reply::Success(answer_at_once(&call));
+            let request = Request::Call { call, credential };
+            answer(connection, calls, origin, request, &reply);
+        }
+    }
+}
+
+/// Lets the call of a record wait, or answers the record at once.
+pub(crate) fn admit(
+    connection: &mut ConnectionState,
+    calls: &mut CallsState,
+    origin: Origin,
+    request: Request,
+)
+    requires connection { IsSound connection.old }
+    requires calls { AreSound calls.old }
+    requires room { HasRoomToReply connection.old }
+    requires entry { HaveRoomToAdmit calls.old }
+    requires places { pending calls.old < 1024 }
+    ensures admitted { HasHeard calls.old connection.old origin (asked_of request) false
+        calls.new connection.new }
+    ensures keeps { Keeps calls.old connection.old origin.connection.0 calls.new connection.new }
+{
+    match request {
+        Request::Call { call, credential } => {
+            admit_call(connection, calls, origin, call, credential);
+        }
+        Request::Refused(reply) => refuse(connection, calls, origin, reply),
+    }
+}

@@ -1,0 +1,81 @@
+//! What is asked, with the procedures that are offered so far. What the types hold widens with that
+//! set.
+
+ghost use Rattle.std.specs.Prelude.{◌≡◌};
+ghost use Rattle.nfs_values.specs.Call.{call_of};
+ghost use Rattle.nfs_values.specs.Reply.{reply_of};
+ghost use Rattle.rpc_msg.specs.Replies.{IsRefusal};
+ghost use Rattle.engine_feed.specs.Offered.{IsOffered};
+
+use nfs_values::{Call, Reply};
+use std::marker::Model;
+
+/// A call of a procedure that is offered.
+#[derive(Drop)]
+pub struct OfferedCall {
+    call: Call,
+}
+
+impl Model for OfferedCall {
+    ghost use Rattle.nfs_values.specs.declared.call.Call.{Call};
+
+    ghost Value = { Call };
+
+    ghost use Rattle.nfs_values.specs.Call.{call_of};
+    ghost use Rattle.engine_feed.specs.Offered.{IsOffered};
+
+    ghost view = { λ s. s.call };
+
+    ghost invariant = { λ s. IsOffered (call_of s.call) };
+}
+
+impl OfferedCall {
+    pub(crate) fn new(call: Call) -> OfferedCall
+        requires { IsOffered (call_of call) }
+        ensures { result ≡ call }
+    {
+        OfferedCall { call }
+    }
+
+    pub fn as_call(&self) -> &Call
+        ensures value { result.now ≡ self.now }
+        ensures offered { IsOffered (call_of self.now) }
+    {
+        &self.call
+    }
+}
+
+/// A reply that refuses a record.
+#[derive(Drop)]
+pub struct Refused {
+    reply: Reply,
+}
+
+impl Model for Refused {
+    ghost use Rattle.nfs_values.specs.declared.reply.Reply.{Reply};
+
+    ghost Value = { Reply };
+
+    ghost use Rattle.nfs_values.specs.Reply.{reply_of};
+    ghost use Rattle.rpc_msg.specs.Replies.{IsRefusal};
+
+    ghost view = { λ r. r.reply };
+
+    ghost invariant = { λ r. IsRefusal (reply_of r.reply) };
+}
+
+impl Refused {
+    pub(crate) fn new(reply: Reply) -> Refused
+        requires { IsRefusal (reply_of reply) }
+        ensures { result ≡ reply }
+    {
+        Refused { reply }
+    }
+
+    pub fn as_reply(&self) -> &Reply
+        ensures value { result.now ≡ self.now }
+        ensures refuses { IsRefusal (reply_of self.now) }
+    {
+        &self.reply
+    }
+}

@@ -1,0 +1,25 @@
+//! What bytes on a connection do to it and to the calls on their way: which records they complete,
+//! and whether these are answered at once or wait.
+#![tactic(auto)]
+
+mod admitting;
+mod arrival;
+mod asked;
+mod at_once;
+mod calls;
+mod connection;
+mod feeding;
+mod finishing;
+pub mod laws;
+mod message;
+mod moving;
+mod reading;
+mod reply;
+mod state;
+mod stop;
+
+pub use asked::{OfferedCall, Refused};
+pub use calls::Calls;
+pub use connection::OpenConnection;
+pub use message::{FinishedCall, Heard, Request};
+pub use stop::{Stop, StreamFault};

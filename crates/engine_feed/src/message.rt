@@ -1,0 +1,38 @@
+//! What records ask, and calls that are finished.
+
+use crate::asked::{OfferedCall, Refused};
+use affinity_tree::Affinity;
+use nfs_values::{Credential, Moment};
+use scheduler::Origin;
+
+/// What a record asks.
+#[derive(Drop)]
+pub enum Request {
+    /// A call, and whom it acts for.
+    Call {
+        call: OfferedCall,
+        credential: Credential,
+    },
+    /// A call message that is refused.
+    Refused(Refused),
+}
+
+/// What was read of a record.
+#[derive(Drop)]
+pub struct Heard {
+    pub xid: u32,
+    pub request: Request,
+}
+
+/// A finished call.
+#[derive(Drop)]
+pub struct FinishedCall {
+    pub origin: Origin,
+    /// Nothing where memory for its name or data ran out.
+    pub request: Option<Request>,
+    /// What it ran on; nothing where it was answered as its record was complete.
+    pub affinity: Option<Affinity>,
+    pub moment: Moment,
+    /// Whether memory ran out, so that it changed nothing and was answered so.
+    pub starved: bool,
+}

@@ -1,0 +1,52 @@
+//! What a record asks.
+
+ghost use Rattle.std.specs.Prelude.{◌≡◌};
+ghost use Rattle.engine_feed.specs.Codec.{heard};
+ghost use Rattle.engine_feed.specs.Records.{IsReadAs, fault_of};
+
+use crate::asked::{OfferedCall, Refused};
+use crate::message::{Heard, Request};
+use crate::stop::StreamFault;
+use std::alloc::Global;
+
+/// What was read of a record.
+#[derive(Drop)]
+pub(crate) enum RecordRead {
+    Heard(Heard),
+    /// A call of this xid, but memory for its name or data ran out.
+    Undecoded(u32),
+    Fault(StreamFault),
+}
+
+/// The fault of a stream that a record's fault is.
+fn stream_fault(fault: rpc_msg::RecordFault) -> StreamFault
+    ensures { result ≡ fault_of fault }
+{
+    match fault {
+        rpc_msg::RecordFault::BadHeader => StreamFault::BadHeader,
+        rpc_msg::RecordFault::NotACall => StreamFault::NotACall,
+    }
+}
+
+/// Reads a whole record. Only names and data take memory.
+pub(crate) fn read_record(alloc: Global, bytes: &[u8]) -> RecordRead
+    ensures { IsReadAs result (heard bytes.now) }
+{
+    match rpc_msg::read_record(alloc, bytes) {
+        Err(fault) => RecordRead::Fault(stream_fault(fault)),
+        Ok(rpc_msg::Heard { xid, request }) => match request {
+            rpc_msg::Request::Call { call, credential } => RecordRead::Heard(Heard {
+                xid,
+                request: Request::Call {
+                    call: OfferedCall::new(call),
+                    credential,
+                },
+            }),
+            rpc_msg::Request::Refused(reply) => RecordRead::Heard(Heard {
+                xid,
+                request: Request::Refused(Refused::new(reply)),
+            }),
+            rpc_msg::Request::Undecoded => RecordRead::Undecoded(xid),
+        },
+    }
+}
