@@ -28,7 +28,7 @@ use Rattle.held_state.specs.Contents.{VolumeContents, FilerContents, filer_conte
 use Rattle.held_state.specs.Tree.{tree, volume_of}
 use Rattle.held_state.specs.Partition.{parts_of, all_parts, times_in_hand}
 use Rattle.held_state.specs.Sound.{AreSound, AllSound}
-use Rattle.held_state.specs.Jobs.{batches_in}
+use Rattle.held_state.specs.Jobs.{Job, JobReply, batches_in}
 use Rattle.held_laws.specs.lemmas.Alike.{filer-same}
 use Rattle.held_laws.specs.lemmas.Steps.{sound-by-weight}
 use Rattle.held_laws.specs.Laws.{PartsPartition}
@@ -60,7 +60,7 @@ carried-times v n (k ∷ ks) =
     let right = total-joined (times_in_hand v n) (batches_in k.hand) (batches_carried ks) in
     omega (arith, one, others, left, right)
 
-module _ {P : Type 0} (setup : Setup) (w : World) (b : FilerBooks P) (s : StandsFor setup w b) where
+module _ {P C R : Type 0} (job : C → Job) (told : R → JobReply) (setup : Setup) (w : World) (b : FilerBooks P C R) (s : StandsFor job told setup w b) where
   abbrev ps : List ℕ
   ps = parents b.layout
 

@@ -19,11 +19,12 @@ use Rattle.held_state.specs.Parcels.{FilerParcel}
 use Rattle.held_state.specs.Contents.{filer_contents}
 use Rattle.held_state.specs.Tree.{tree}
 use Rattle.held_state.specs.Partition.{all_parts}
+use Rattle.held_state.specs.Jobs.{Job, JobReply}
 use Rattle.engine_laws.specs.Store.{FilerBooks, filer, HasOutcome, RunsOn, RunOn, IsApart, StandsFor, batches_carried}
 use Rattle.engine_laws.specs.lemmas.Changing.{carried-stay, run-changed}
 
 -- the same parcels at each node are the same parcels
-pub same-now : {P : Type 0} (b c : FilerBooks P) → IsSame b c → now c ≡ now b
+pub same-now : {P C R : Type 0} (b c : FilerBooks P C R) → IsSame b c → now c ≡ now b
 same-now b c same = λ j k. same k j
 
 true-or : (x y : Bool) → x ≡ true → (x || y) ≡ true
@@ -65,10 +66,10 @@ told-neither true y e f = absurd cc
 told-neither false true e f = absurd cc
 told-neither false false e f = refl
 
-module _ {P : Type 0} (setup : Setup) where
+module _ {P C R : Type 0} (setup : Setup) where
   -- ---- what excludes
 
-  one-taken : (o : Option Running) (x : Option (Lent (FilerParcel P))) (b : FilerBooks P) (a : Affinity) (rs : List Running) → RunsOn setup b o x
+  one-taken : (o : Option Running) (x : Option (Lent (FilerParcel P))) (b : FilerBooks P C R) (a : Affinity) (rs : List Running) → RunsOn setup b o x
       → list_any (excludes setup.layout a) (affinities (with_held o rs)) ≡ true
       → ((l : Lent (FilerParcel P)) × (x ≡ Some l) × (excludes setup.layout a l.affinity ≡ true))
       ⊎ (list_any (excludes setup.layout a) (affinities rs) ≡ true)
@@ -80,7 +81,7 @@ module _ {P : Type 0} (setup : Setup) where
       (λ others. inr others)
       (or_cases (excludes setup.layout a r.message.affinity) (list_any (excludes setup.layout a) (affinities rs)) busy)
 
-  taken-if-busy : (ks : List Worker) (xs : List (Option (Lent (FilerParcel P)))) (b : FilerBooks P) (a : Affinity) → RunOn setup b ks xs
+  taken-if-busy : (ks : List Worker) (xs : List (Option (Lent (FilerParcel P)))) (b : FilerBooks P C R) (a : Affinity) → RunOn setup b ks xs
       → list_any (excludes setup.layout a) (affinities (all_running ks)) ≡ true
       → (i : ℕ) × (l : Lent (FilerParcel P)) × (get_elem? xs i ≡ some (Some l)) × (excludes setup.layout a l.affinity ≡ true)
   taken-if-busy [] xs b a run busy = absurd (false-true busy)
@@ -93,14 +94,14 @@ module _ {P : Type 0} (setup : Setup) where
       (λ more. let t = taken-if-busy ks xs b a run.1 more in (suc t.0, t.1, t.2, t.3))
       (one-taken k.running x b a (all_running ks) run.0 busy)
 
-  one-busy : (o : Option Running) (b : FilerBooks P) (a : Affinity) (rs : List Running) (l : Lent (FilerParcel P)) → RunsOn setup b o (Some l)
+  one-busy : (o : Option Running) (b : FilerBooks P C R) (a : Affinity) (rs : List Running) (l : Lent (FilerParcel P)) → RunsOn setup b o (Some l)
       → excludes setup.layout a l.affinity ≡ true → list_any (excludes setup.layout a) (affinities (with_held o rs)) ≡ true
   one-busy None b a rs l run taken = absurd run
   one-busy (Some r) b a rs l run taken =
       true-or (excludes setup.layout a r.message.affinity) (list_any (excludes setup.layout a) (affinities rs))
       (ap (λ c. excludes setup.layout a c) (sym run.0) ∙ taken)
 
-  busy-if-taken : (ks : List Worker) (xs : List (Option (Lent (FilerParcel P)))) (b : FilerBooks P) (a : Affinity) → RunOn setup b ks xs
+  busy-if-taken : (ks : List Worker) (xs : List (Option (Lent (FilerParcel P)))) (b : FilerBooks P C R) (a : Affinity) → RunOn setup b ks xs
       → (i : ℕ) (l : Lent (FilerParcel P)) → get_elem? xs i ≡ some (Some l) → excludes setup.layout a l.affinity ≡ true
       → list_any (excludes setup.layout a) (affinities (all_running ks)) ≡ true
   busy-if-taken [] [] b a run i l at taken = absurd (some-ne-none (Some l) (sym at))
@@ -111,7 +112,7 @@ module _ {P : Type 0} (setup : Setup) where
   busy-if-taken (k ∷ ks) (x ∷ xs) b a run (suc i) l at taken =
       more-busy setup k.running a (all_running ks) (busy-if-taken ks xs b a run.1 i l at taken)
 
-  module _ (w : World) (b : FilerBooks P) (s : StandsFor setup w b) (a : Affinity) where
+  module _ (job : C → Job) (told : R → JobReply) (w : World) (b : FilerBooks P C R) (s : StandsFor job told setup w b) (a : Affinity) where
     abbrev taken_by : Layout → Type 0
     taken_by layout = (worker : ℕ) × (l : Lent (FilerParcel P)) × HasLent b worker l × (excludes layout a l.affinity ≡ true)
 
@@ -137,7 +138,7 @@ module _ {P : Type 0} (setup : Setup) where
         let many : 2 ^ 62 ≤ w.stamps = (let limit = worn_out.1 in omega arith) in
         told-worn (is_busy setup w a) (is_worn w) (untaken worn_out.0) (le-leb (2 ^ 62) w.stamps many)
 
-    pub told-nothing : (c : FilerBooks P) (i : ℕ) → HasBegun b i a c → excluded setup w a ≡ None
+    pub told-nothing : (c : FilerBooks P C R) (i : ℕ) → HasBegun b i a c → excluded setup w a ≡ None
     told-nothing c i h =
         let stamps_are = s.stamps in
         told-neither (is_busy setup w a) (is_worn w) (untaken h.free)
@@ -145,29 +146,29 @@ module _ {P : Type 0} (setup : Setup) where
 
     -- ---- what is begun
 
-    module _ (c : FilerBooks P) (i : ℕ) (begins : HasBegun b i a c) (apart : IsApart c) (place : ℕ) (m : Message) (moment : Moment) (at : m.affinity ≡ a) where
+    module _ (c : FilerBooks P C R) (i : ℕ) (begins : HasBegun b i a c) (apart : IsApart c) (place : ℕ) (m : Message) (moment : Moment) (at : m.affinity ≡ a) where
       abbrev r : Running
       r = record { message = m; moment = moment; outcome = None }
 
       abbrev l : Lent (FilerParcel P)
       l = record { affinity = a; parcels = begins.parcels }
 
-      abbrev begun_books : FilerBooks P
+      abbrev begun_books : FilerBooks P C R
       begun_books = with_lent b i (Some l)
 
       -- the books stand for the world in which it runs
-      pub begun-stands : StandsFor setup (begun w i place m moment) c
+      pub begun-stands : StandsFor job told setup (begun w i place m moment) c
       begun-stands = record {
-        layout = ap (λ (x : FilerBooks P). x.layout) begins.books ∙ s.layout;
-        lawful = subst (λ (x : FilerBooks P). fault_of x.layout ≡ None) (sym begins.books) s.lawful;
+        layout = ap (λ (x : FilerBooks P C R). x.layout) begins.books ∙ s.layout;
+        lawful = subst (λ (x : FilerBooks P C R). fault_of x.layout ≡ None) (sym begins.books) s.lawful;
         lent = apart;
-        server = s.server ∙ sym (λ j. tree (ap (λ (x : FilerBooks P). x.layout) begins.books j) (same-now b c begins.same j));
-        parts = s.parts ∙ sym (λ j. all_parts (filer_contents (ap (λ (x : FilerBooks P). x.layout) begins.books j) (same-now b c begins.same j)));
-        finished = s.finished ∙ sym (ap (λ (x : FilerBooks P). tree x.layout (settled x)) begins.books);
-        stamps = s.stamps ∙ sym (ap (λ (x : FilerBooks P). stamps x) begins.books);
-        workers = subst (λ (x : FilerBooks P). RunOn setup x (changed_at (with_running (Some r)) w.workers i) x.lent) (sym begins.books)
+        server = s.server ∙ sym (λ j. tree (ap (λ (x : FilerBooks P C R). x.layout) begins.books j) (same-now b c begins.same j));
+        parts = s.parts ∙ sym (λ j. all_parts (filer_contents (ap (λ (x : FilerBooks P C R). x.layout) begins.books j) (same-now b c begins.same j)));
+        finished = s.finished ∙ sym (ap (λ (x : FilerBooks P C R). tree x.layout (settled x)) begins.books);
+        stamps = s.stamps ∙ sym (ap (λ (x : FilerBooks P C R). stamps x) begins.books);
+        workers = subst (λ (x : FilerBooks P C R). RunOn setup x (changed_at (with_running (Some r)) w.workers i) x.lent) (sym begins.books)
             (run-changed setup b b.entries begun_books.lent w.workers b.lent i (Some r) (Some l) (λ j k there ne n pos lt d. refl) (sym at, begins.unchanged) s.workers);
-        hands = subst (λ (x : FilerBooks P). HasHands filer x (batches_carried (changed_at (with_running (Some r)) w.workers i))) (sym begins.books)
-            (subst (λ hs. HasHands filer b hs) (sym (carried-stay w.workers i (Some r))) s.hands);
-        sound = subst (λ (x : FilerBooks P). IsSettled filer x) (sym begins.books) s.sound;
+        hands = subst (λ (x : FilerBooks P C R). HasHands (filer job told) x (batches_carried (changed_at (with_running (Some r)) w.workers i))) (sym begins.books)
+            (subst (λ hs. HasHands (filer job told) b hs) (sym (carried-stay w.workers i (Some r))) s.hands);
+        sound = subst (λ (x : FilerBooks P C R). IsSettled (filer job told) x) (sym begins.books) s.sound;
       }

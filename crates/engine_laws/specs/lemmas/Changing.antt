@@ -21,13 +21,13 @@ carried-stay [] i o = refl
 carried-stay (k ∷ ks) zero o = refl
 carried-stay (k ∷ ks) (suc i) o = ap (λ hs. batches_in k.hand ++ hs) (carried-stay ks i o)
 
-module _ {P : Type 0} (setup : Setup) (b : FilerBooks P) where
+module _ {P C R : Type 0} (setup : Setup) (b : FilerBooks P C R) where
   -- the same books, with other entries and other things lent
-  abbrev next_books : List (Entry (FilerParcel P) Job JobReply) → List (Option (Lent (FilerParcel P))) → FilerBooks P
+  abbrev next_books : List (Entry (FilerParcel P) C R) → List (Option (Lent (FilerParcel P))) → FilerBooks P C R
   next_books es xs = record b { entries = es; lent = xs }
 
   -- an outcome stays where nothing changed for the finished calls under what is lent
-  pub outcome-kept : (es : List (Entry (FilerParcel P) Job JobReply)) (xs : List (Option (Lent (FilerParcel P)))) (r : Running)
+  pub outcome-kept : (es : List (Entry (FilerParcel P) C R)) (xs : List (Option (Lent (FilerParcel P)))) (r : Running)
       (l : Lent (FilerParcel P)) (o : Option Outcome) → UnderLent b l (λ k. settled (next_books es xs) k ≡ settled b k)
       → HasOutcome setup b r l o → HasOutcome setup (next_books es xs) r l o
   outcome-kept es xs r l None same did = λ k pos lt c. did k pos lt c ∙ sym (same k pos lt c)
@@ -35,7 +35,7 @@ module _ {P : Type 0} (setup : Setup) (b : FilerBooks P) where
   outcome-kept es xs r l (Some (Replied reply)) same did = (did.0, (λ k pos lt c. did.1 k pos lt c ∙ sym (same k pos lt c)), did.2)
   outcome-kept es xs r l (Some Starved) same did = (did.0, (λ k pos lt c. did.1 k pos lt c ∙ sym (same k pos lt c)), did.2)
 
-  runs-kept : (es : List (Entry (FilerParcel P) Job JobReply)) (xs : List (Option (Lent (FilerParcel P)))) (o : Option Running)
+  runs-kept : (es : List (Entry (FilerParcel P) C R)) (xs : List (Option (Lent (FilerParcel P)))) (o : Option Running)
       (x : Option (Lent (FilerParcel P))) → ((l : Lent (FilerParcel P)) → x ≡ Some l → UnderLent b l (λ k. settled (next_books es xs) k ≡ settled b k))
       → RunsOn setup b o x → RunsOn setup (next_books es xs) o x
   runs-kept es xs None None same run = tt
@@ -43,7 +43,7 @@ module _ {P : Type 0} (setup : Setup) (b : FilerBooks P) where
   runs-kept es xs (Some r) None same run = absurd run
   runs-kept es xs (Some r) (Some l) same run = (run.0, outcome-kept es xs r l r.outcome (same l refl) run.1)
 
-  all-kept : (es : List (Entry (FilerParcel P) Job JobReply)) (xs : List (Option (Lent (FilerParcel P)))) (ks : List Worker)
+  all-kept : (es : List (Entry (FilerParcel P) C R)) (xs : List (Option (Lent (FilerParcel P)))) (ks : List Worker)
       (ls : List (Option (Lent (FilerParcel P))))
       → ((j : ℕ) (l : Lent (FilerParcel P)) → get_elem? ls j ≡ some (Some l) → UnderLent b l (λ k. settled (next_books es xs) k ≡ settled b k))
       → RunOn setup b ks ls → RunOn setup (next_books es xs) ks ls
@@ -54,7 +54,7 @@ module _ {P : Type 0} (setup : Setup) (b : FilerBooks P) where
       (runs-kept es xs k.running x (λ l is. same 0 l (ap some is)) run.0, all-kept es xs ks ls (λ j l at. same (suc j) l at) run.1)
 
   -- one worker runs another thing, on what it has then; the others stay
-  pub run-changed : (es : List (Entry (FilerParcel P) Job JobReply)) (xs : List (Option (Lent (FilerParcel P)))) (ks : List Worker)
+  pub run-changed : (es : List (Entry (FilerParcel P) C R)) (xs : List (Option (Lent (FilerParcel P)))) (ks : List Worker)
       (ls : List (Option (Lent (FilerParcel P)))) (i : ℕ) (o : Option Running) (x : Option (Lent (FilerParcel P)))
       → ((j : ℕ) (l : Lent (FilerParcel P)) → get_elem? ls j ≡ some (Some l) → j ≢ i → UnderLent b l (λ k. settled (next_books es xs) k ≡ settled b k))
       → RunsOn setup (next_books es xs) o x → RunOn setup b ks ls

@@ -21,6 +21,7 @@ use Rattle.held_state.specs.Tree.{tree}
 use Rattle.held_state.specs.Partition.{all_parts}
 use Rattle.held_state.specs.Opening.{AreOpening}
 use Rattle.held_laws.specs.Laws.{OpensSound, OpensAsServer, OpensFree}
+use Rattle.held_state.specs.Jobs.{Job, JobReply}
 use Rattle.engine_laws.specs.Store.{FilerBooks, filer, RunOn, IsApart, StandsFor, batches_carried}
 
 abbrev idle : Worker
@@ -42,12 +43,12 @@ none-over : {P : Type 0} (layout : Layout) (n : ℕ) (f : ℕ → Option (FilerP
 none-over layout zero f = refl
 none-over layout (suc n) f = none-over layout n f
 
-module _ {P : Type 0} (sound : OpensSound P) (server : OpensAsServer P) (free : OpensFree P) (setup : Setup) (lawful : fault_of setup.layout ≡ None)
+module _ {P C R : Type 0} (job : C → Job) (told : R → JobReply) (sound : OpensSound P) (server : OpensAsServer P) (free : OpensFree P) (setup : Setup) (lawful : fault_of setup.layout ≡ None)
     (f : ℕ → Option (FilerParcel P)) (opening : AreOpening setup.layout setup.verifier f) where
   abbrev L : Layout
   L = setup.layout
 
-  abbrev b : FilerBooks P
+  abbrev b : FilerBooks P C R
   b = opening_books L f setup.workers
 
   -- the parcels as they are listed
@@ -63,7 +64,7 @@ module _ {P : Type 0} (sound : OpensSound P) (server : OpensAsServer P) (free : 
   all-idle zero = tt
   all-idle (suc n) = (tt, all-idle n)
 
-  pub opening-stands : StandsFor setup (opening_world setup) b
+  pub opening-stands : StandsFor job told setup (opening_world setup) b
   opening-stands = record {
     layout = refl;
     lawful = lawful;
@@ -76,6 +77,6 @@ module _ {P : Type 0} (sound : OpensSound P) (server : OpensAsServer P) (free : 
     finished = sym (server L setup.verifier g lawful listed-open);
     stamps = refl;
     workers = all-idle setup.workers;
-    hands = subst (λ hs. HasHands filer b hs) (sym (none-carried setup.workers)) (λ weigh. refl);
+    hands = subst (λ hs. HasHands (filer job told) b hs) (sym (none-carried setup.workers)) (λ weigh. refl);
     sound = ([], (λ weigh. refl), sound L setup.verifier g lawful listed-open);
   }

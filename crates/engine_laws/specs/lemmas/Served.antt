@@ -17,7 +17,7 @@ use Rattle.affinity_tree.specs.lemmas.Standing.{parents-tree, number-place}
 use Rattle.depot_rule.specs.History.{patched}
 use Rattle.depot_rule.specs.lemmas.Covering.{patched-in, patched-out}
 use Rattle.depot_rule.specs.lemmas.Trees.{covers-below, above-smaller}
-use Rattle.desk_laws.specs.Books.{Lent, settled, IsUnchanged, IsWorked}
+use Rattle.desk_laws.specs.Books.{Lent, settled, IsUnchanged}
 use Rattle.desk_laws.specs.lemmas.Overlays.{covers-or-not}
 use Rattle.held_state.specs.Parcels.{FilerParcel}
 use Rattle.held_state.specs.Contents.{filer_contents, volume_at}
@@ -28,7 +28,7 @@ use Rattle.held_state.specs.Jobs.{Job, JobReply, Serve}
 use Rattle.held_state.specs.Deeds.{FilerSteps, Serves}
 use Rattle.held_laws.specs.lemmas.Steps.{sound-later}
 use Rattle.held_laws.specs.lemmas.Lawful.{steps-local, entry-does}
-use Rattle.engine_laws.specs.Store.{FilerBooks, filer, HasOutcome}
+use Rattle.engine_laws.specs.Store.{FilerBooks, IsServed, HasOutcome}
 
 -- what a node covers is a node
 pub covered-node : (layout : Layout) → fault_of layout ≡ None → (a : Affinity) → IsNode layout a
@@ -54,7 +54,7 @@ pub all-later : {P : Type 0} (layout : Layout) (f : ℕ → Option (FilerParcel 
 all-later layout f hands n sound v p there =
     let s = sound v p there in (s.0, sound-later p hands hands n (λ i. refl) s.1)
 
-module _ {P : Type 0} (setup : Setup) (b : FilerBooks P) (lawful : fault_of b.layout ≡ None) (l : Lent (FilerParcel P)) (node : IsNode b.layout l.affinity) where
+module _ {P C R : Type 0} (setup : Setup) (b : FilerBooks P C R) (lawful : fault_of b.layout ≡ None) (l : Lent (FilerParcel P)) (node : IsNode b.layout l.affinity) where
   abbrev ps : List ℕ
   ps = parents b.layout
 
@@ -69,7 +69,7 @@ module _ {P : Type 0} (setup : Setup) (b : FilerBooks P) (lawful : fault_of b.la
   put f = patched ps here l.parcels f
 
   -- a call that was worked serves on whatever agrees with what it was granted
-  pub serves-there : (call : FinishedCall) (reply : Reply) → IsWorked filer b l (Serve call) (jobs.Replied reply)
+  pub serves-there : (call : FinishedCall) (reply : Reply) → IsServed b l call reply
       → (f : ℕ → Option (FilerParcel P)) → Agrees f → (hands : List Hand) (n : ℕ) → AllSound b.layout f hands n
       → Serves b.layout l.affinity call (filer_contents b.layout f) reply (filer_contents b.layout (put f))
       × AllSound b.layout (put f) hands (n + 1)

@@ -29,7 +29,7 @@ use Rattle.held_state.specs.Tree.{tree}
 use Rattle.held_state.specs.Partition.{all_parts}
 use Rattle.held_state.specs.Sound.{AllSound}
 use Rattle.held_state.specs.Jobs as jobs
-use Rattle.held_state.specs.Jobs.{Serve}
+use Rattle.held_state.specs.Jobs.{Job, JobReply, Serve}
 use Rattle.held_state.specs.Deeds.{FilerSteps, Serves, stored_all}
 use Rattle.held_laws.specs.lemmas.Lawful.{steps-local, entry-does}
 use Rattle.engine_laws.specs.Store.{FilerBooks, filer, HasOutcome, RunsOn, RunOn, IsApart, StandsFor, batches_carried}
@@ -114,8 +114,8 @@ moves-up setup store task to moved tried = (tried.0, tried.1, by task.asked move
 
 -- ---- work
 
-module _ {P : Type 0} (setup : Setup) (w : World) (b : FilerBooks P) (s : StandsFor setup w b) (i : ℕ) (k : Worker) (there : slice_get w.workers i ≡ Some k)
-    (r : Running) (runs : k.running ≡ Some r) (fresh : r.outcome ≡ None) (o : Outcome) (c : FilerBooks P) (done : HasWorked (Serving r) b i o c) where
+module _ {P C R : Type 0} (job : C → Job) (told : R → JobReply) (setup : Setup) (w : World) (b : FilerBooks P C R) (s : StandsFor job told setup w b) (i : ℕ) (k : Worker) (there : slice_get w.workers i ≡ Some k)
+    (r : Running) (runs : k.running ≡ Some r) (fresh : r.outcome ≡ None) (o : Outcome) (c : FilerBooks P C R) (done : HasWorked (Serving r) b i o c) where
   abbrev L : Layout
   L = b.layout
 
@@ -142,7 +142,7 @@ module _ {P : Type 0} (setup : Setup) (w : World) (b : FilerBooks P) (s : Stands
   -- the parcels as they are have what was lent
   lent-now : (n : ℕ) → Covers (parents L) here n → now b n ≡ l.parcels n
   lent-now n cover = overlaid-here L b.lent i l (settled b) n done.is_lent cover
-      (λ j m at ne d. reached-once setup w b s i j l m done.is_lent at ne n cover d)
+      (λ j m at ne d. reached-once job told setup w b s i j l m done.is_lent at ne n cover d)
 
   -- ---- what it comes to
 
@@ -153,7 +153,7 @@ module _ {P : Type 0} (setup : Setup) (w : World) (b : FilerBooks P) (s : Stands
   put-now = λ j n. done.now_is n j
 
   layout-is : c.layout ≡ L
-  layout-is = ap (λ (x : FilerBooks P). x.layout) done.books
+  layout-is = ap (λ (x : FilerBooks P C R). x.layout) done.books
 
   abbrev after : Store
   after = stored_all (filer_contents c.layout (now c))
@@ -165,10 +165,10 @@ module _ {P : Type 0} (setup : Setup) (w : World) (b : FilerBooks P) (s : Stands
   store-is = sym (λ j. record { server = s.server j; parts = s.parts j })
 
   abbrev made : ℕ
-  made = (now-served setup w b s).0.0
+  made = (now-served job told setup w b s).0.0
 
   abbrev sound : AllSound L (now b) (batches_carried w.workers) made
-  sound = (now-served setup w b s).0.1
+  sound = (now-served job told setup w b s).0.1
 
   -- a step of the filer does its work here
   served-here : (call : FinishedCall) (reply : Reply) → FilerSteps (parents L) here (Serve call) l.parcels (jobs.Replied reply) done.parcels
@@ -206,27 +206,27 @@ module _ {P : Type 0} (setup : Setup) (w : World) (b : FilerBooks P) (s : Stands
 
   kept-outcome : IsTriedAt setup r.message.asked r.message.affinity → (x : Outcome) → Serving r L l.affinity l.parcels x done.parcels
       → Works (task_of r) (store_of w) x after → HasOutcome setup (with_lent b i (Some l')) r' l' (Some x)
-  kept-outcome tried (Replied reply) did told = (l.parcels, run.1, did)
-  kept-outcome tried Starved did told = (l.parcels, run.1, did)
-  kept-outcome tried (Moved to) did told = (
+  kept-outcome tried (Replied reply) did comes = (l.parcels, run.1, did)
+  kept-outcome tried Starved did comes = (l.parcels, run.1, did)
+  kept-outcome tried (Moved to) did comes = (
     (λ n pos lt cover. did.0 n cover ∙ run.1 n pos lt cover),
-    moves-up setup (store_of w) (task_of r) to told.0 tried,
+    moves-up setup (store_of w) (task_of r) to comes.0 tried,
   )
 
   -- the books stand for the world after it
-  pub worked-stands : IsApart c → IsTriedAt setup r.message.asked r.message.affinity → StandsFor setup (worked w i r o after) c
+  pub worked-stands : IsApart c → IsTriedAt setup r.message.asked r.message.affinity → StandsFor job told setup (worked w i r o after) c
   worked-stands apart tried = record {
     layout = layout-is ∙ s.layout;
-    lawful = subst (λ (x : FilerBooks P). fault_of x.layout ≡ None) (sym done.books) s.lawful;
+    lawful = subst (λ (x : FilerBooks P C R). fault_of x.layout ≡ None) (sym done.books) s.lawful;
     lent = apart;
     server = refl;
     parts = refl;
-    finished = s.finished ∙ sym (ap (λ (x : FilerBooks P). tree x.layout (settled x)) done.books);
-    stamps = s.stamps ∙ sym (ap (λ (x : FilerBooks P). stamps x) done.books);
-    workers = subst (λ (x : FilerBooks P). RunOn setup x (changed_at (with_running (Some r')) w.workers i) x.lent) (sym done.books)
+    finished = s.finished ∙ sym (ap (λ (x : FilerBooks P C R). tree x.layout (settled x)) done.books);
+    stamps = s.stamps ∙ sym (ap (λ (x : FilerBooks P C R). stamps x) done.books);
+    workers = subst (λ (x : FilerBooks P C R). RunOn setup x (changed_at (with_running (Some r')) w.workers i) x.lent) (sym done.books)
         (run-changed setup b b.entries (with_lent b i (Some l')).lent w.workers b.lent i (Some r') (Some l') (λ j m at ne n pos lt d. refl)
         (run.0, kept-outcome tried o done.did works) s.workers);
-    hands = subst (λ (x : FilerBooks P). HasHands filer x (batches_carried (changed_at (with_running (Some r')) w.workers i))) (sym done.books)
-        (subst (λ hs. HasHands filer b hs) (sym (carried-stay w.workers i (Some r'))) s.hands);
-    sound = subst (λ (x : FilerBooks P). IsSettled filer x) (sym done.books) s.sound;
+    hands = subst (λ (x : FilerBooks P C R). HasHands (filer job told) x (batches_carried (changed_at (with_running (Some r')) w.workers i))) (sym done.books)
+        (subst (λ hs. HasHands (filer job told) b hs) (sym (carried-stay w.workers i (Some r'))) s.hands);
+    sound = subst (λ (x : FilerBooks P C R). IsSettled (filer job told) x) (sym done.books) s.sound;
   }
