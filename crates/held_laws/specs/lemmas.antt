@@ -16,3 +16,5 @@ pub mod Known
 pub mod Delivering
 pub mod Lawful
 pub mod Replays
+pub mod Granted
+pub mod Running

@@ -15,3 +15,4 @@ pub mod Calls
 pub mod Changes
 pub mod Opening
 pub mod Commute
+pub mod Running

@@ -1,8 +1,8 @@
 -- What GETATTR has to know of the set that it holds.
-use Rattle.std.proofs.Common.{◌≡◌, ℕ, ◌≤◌, false, true, Option, Some, None, refl, sym, ap, ◌∙◌, subst, arith, ⊎_elim, Result, List, []}
+use Rattle.std.proofs.Common.{◌≡◌, ℕ, ◌≤◌, false, true, Option, Some, None, refl, sym, ap, ◌∙◌, subst, arith, ⊎_elim, Result, []}
 use Rattle.std.specs.Prelude.{is_some}
 use Rattle.std.specs.FinMap.{get}
-use Rattle.nfs_model.specs.Types.{Moment, Success, Answer}
+use Rattle.nfs_model.specs.Types.{Success, Answer}
 use Rattle.nfs_model.specs.Tree.{Logical}
 use Rattle.nfs_values.specs.Answer.{answer_of}
 use Rattle.nfs_values.specs.declared.answer.Answer.TheVariants.{GetAttributes}

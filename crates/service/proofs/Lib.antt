@@ -1,2 +1,5 @@
 mod Latest
 mod Getting
+mod Taking
+mod Modes
+mod Runs

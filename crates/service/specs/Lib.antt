@@ -1,4 +1,6 @@
 pub mod Hands
 pub mod Jobs
 pub mod Getattr
+pub mod Setattr
+pub mod Running
 pub mod lemmas

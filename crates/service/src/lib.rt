@@ -6,10 +6,15 @@ mod attributes;
 mod batch;
 mod job;
 mod machine;
+mod outcome;
+mod run;
+mod setting;
 mod shown;
 mod touches;
 
-pub use attributes::get_attributes;
+pub use attributes::{get_attributes, set_mode};
 pub use batch::BatchInHand;
 pub use job::{Asked, InnerCall, Job, JobReply, ServedCall};
 pub use machine::Service;
+pub use outcome::Outcome;
+pub use run::run_on_logical;

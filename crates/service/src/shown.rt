@@ -1,15 +1,17 @@
 //! What replies show of a node.
 
-ghost use Rattle.std.specs.Prelude.{◌≡◌};
+ghost use Rattle.std.specs.Prelude.{◌≡◌, None};
 ghost use Rattle.std.specs.Option.{option_map};
-ghost use Rattle.nfs_values.specs.Attributes.{shown_of};
+ghost use Rattle.nfs_model.specs.Shown.{before_of as before_shown};
+ghost use Rattle.nfs_values.specs.Attributes.{before_of, shown_of};
 ghost use Rattle.nfs_values.specs.Moment.{moment_of};
 ghost use Rattle.inodes.specs.Inode.{attributes_value, kind_value};
+ghost use Rattle.volume_values.specs.Inodes.{RegularFile};
 ghost use Rattle.held_state.specs.Changes.{shown_kind};
 ghost use Rattle.service.specs.Getattr.{HasFewLinks};
 
-use inodes::{Inode, InodeKind};
-use nfs_values::{Attributes, FileKind, Fileid, Moment, VolumeNumber};
+use inodes::{Inode, InodeKind, StoredAttributes};
+use nfs_values::{Attributes, FileKind, Fileid, Moment, PriorAttributes, VolumeNumber};
 
 /// The attributes of a node (fattr3, RFC 1813 section 2.6), where this is its file's latest touch.
 pub(crate) fn shown(
@@ -22,47 +24,53 @@ pub(crate) fn shown(
     ensures { shown_of result ≡ shown_kind volume.0 fileid.0
         (attributes_value inode.attributes) (kind_value inode.kind) (option_map moment_of touch) }
 {
-    let stored = inode.attributes;
-    let (kind, links, size, used, mtime, ctime) = match inode.kind {
-        InodeKind::RegularFile {
-            size,
-            filled,
-            verifier: _,
-        } => {
-            let (mtime, ctime) = match touch {
-                Some(moment) => (moment, moment),
-                None => (stored.mtime, stored.ctime),
-            };
-            let used = 4_096 * u64::from(filled);
-            (FileKind::Regular, 1, size, used, mtime, ctime)
+    match inode.kind {
+        InodeKind::RegularFile { size, filled, .. } => {
+            let now = inode.attributes.with_touch(touch);
+            Attributes {
+                kind: FileKind::Regular,
+                size,
+                used: 4_096 * u64::from(filled),
+                ..shown_empty(volume, fileid, now)
+            }
         }
-        InodeKind::Directory {
-            parent: _,
-            subdirectories,
-        } => {
-            let links = 2 + subdirectories;
-            (
-                FileKind::Directory,
-                links,
-                4_096,
-                0,
-                stored.mtime,
-                stored.ctime,
-            )
-        }
-    };
+        InodeKind::Directory { subdirectories, .. } => Attributes {
+            kind: FileKind::Directory,
+            links: 2 + subdirectories,
+            size: 4_096,
+            ..shown_empty(volume, fileid, inode.attributes)
+        },
+    }
+}
+
+/// The attributes of an empty file with these (fattr3, RFC 1813 section 2.6).
+fn shown_empty(volume: VolumeNumber, fileid: Fileid, now: StoredAttributes) -> Attributes
+    ensures { shown_of result ≡ shown_kind volume.0 fileid.0 (attributes_value now)
+        (RegularFile 0 0 None) None }
+{
     Attributes {
-        kind,
-        mode: stored.mode,
-        links,
-        uid: stored.uid,
-        gid: stored.gid,
-        size,
-        used,
+        kind: FileKind::Regular,
+        mode: now.mode,
+        links: 1,
+        uid: now.uid,
+        gid: now.gid,
+        size: 0,
+        used: 0,
         fsid: u64::from(volume.0),
         fileid,
-        atime: stored.atime,
-        mtime,
-        ctime,
+        atime: now.atime,
+        mtime: now.mtime,
+        ctime: now.ctime,
+    }
+}
+
+/// What is shown of attributes before a call (wcc_attr, RFC 1813 section 2.6).
+pub(crate) fn prior(shown: Attributes) -> PriorAttributes
+    ensures { before_of result ≡ before_shown (shown_of shown) }
+{
+    PriorAttributes {
+        size: shown.size,
+        mtime: shown.mtime,
+        ctime: shown.ctime,
     }
 }

@@ -1,13 +1,15 @@
 //! Touches of a file: its latest writes, stripe by stripe.
 
-ghost use Rattle.std.specs.Prelude.{◌≡◌, ◌≤◌, ℕ, length};
+ghost use Rattle.std.specs.Prelude.{◌≡◌, ◌≤◌, ℕ, length, is_some};
 ghost use Rattle.std.specs.FinMap.{get};
 ghost use Rattle.std.specs.Option.{option_map};
-ghost use Rattle.nfs_model.specs.Shown.{moment_le};
+ghost use Rattle.nfs_model.specs.Shown.{moment_le, same_moment};
 ghost use Rattle.nfs_values.specs.Moment.{moment_of};
-ghost use Rattle.volume_values.specs.Stripes.{touch_of};
+ghost use Rattle.parcel_sets.specs.Filled.{logical_alike};
+ghost use Rattle.volume_values.specs.Stripes.{touch_of, touch_taken};
 ghost use Rattle.stripe_cards.specs.Cards.{card_of};
-ghost use Rattle.held_state.specs.Sets.{logical_before, stripe_value};
+ghost use Rattle.held_state.specs.Changes.{touches_taken};
+ghost use Rattle.held_state.specs.Sets.{logical_before, logical_after, stripe_value};
 ghost use Rattle.held_state.specs.Tree.{file_touch, later};
 
 use nfs_values::{Fileid, Moment};
@@ -28,6 +30,39 @@ pub(crate) fn latest_touch(held: &LogicalHeld<Files>, fileid: Fileid) -> Option<
         touch = later(touch_in(&held.stripes.at[left], fileid), touch);
     }
     touch
+}
+
+/// Takes the touches of a file in the stripes of its volume, and tells the latest. It takes no
+/// memory.
+pub(crate) fn take_touches(held: &mut LogicalHeld<Files>, fileid: Fileid) -> Option<Moment>
+    requires few { held.old.own.stripes ≤ 16 }
+    ensures latest { option_map moment_of result
+        ≡ file_touch (logical_before held.old).stripes fileid.0 }
+    ensures taken { (logical_after held.old held.new).stripes
+        ≡ touches_taken fileid.0 (logical_before held.old).stripes }
+    ensures own { held.new.own ≡ held.old.own }
+    ensures alike { logical_alike held.old held.new }
+{
+    let mut touch = None;
+    let mut left = held.own.get().stripes as usize;
+    while left > 0 {
+        left -= 1;
+        touch = later(take_touch(&mut held.stripes.at[left], fileid), touch);
+    }
+    touch
+}
+
+/// Takes the touch of a file in the stripe in a place.
+fn take_touch(place: &mut Option<StripeHeld<Files>>, fileid: Fileid) -> Option<Moment>
+    ensures touch { option_map moment_of result
+        ≡ touch_of (get (stripe_value place.old).cards fileid.0) }
+    ensures taken { stripe_value place.new ≡ touch_taken fileid.0 (stripe_value place.old) }
+    ensures alike { is_some place.new ≡ is_some place.old }
+{
+    match place {
+        Some(stripe) => stripe.own.get_mut().take_touch(fileid),
+        None => None,
+    }
 }
 
 /// The touch of a file in the stripe in a place.
@@ -68,6 +103,13 @@ fn later(one: Option<Moment>, other: Option<Moment>) -> Option<Moment>
     } else {
         Some(first)
     }
+}
+
+/// Whether two moments are one.
+pub(crate) fn is_same(one: Moment, other: Moment) -> bool
+    ensures { result ≡ same_moment (moment_of one) (moment_of other) }
+{
+    one.seconds == other.seconds && one.nanoseconds == other.nanoseconds
 }
 
 /// Whether a moment is no later than another.

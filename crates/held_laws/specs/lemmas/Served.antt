@@ -166,7 +166,7 @@ module _ (layout : Layout) (v : ℕ) (q : VolumeCall) (connection number xid : �
   step : serve (server_of c) q.call credential moment ≡ placed (server_of c) (absent_parts q.call) v (q.run (volume_of p))
   step = is.served (server_of c) (volume_of p) count (server-there c v p there)
 
-  stays : move_of_call (stored_all c) q.node q.call ≡ move_on q p
+  pub stays : move_of_call (stored_all c) q.node q.call ≡ move_on q p
   stays = move-by (stored_all c) q p located (ap (parts_at (all_parts c)) is.under ∙ parts-there c v p there)
 
   told : (serve (server_of c) q.call credential moment).reply ≡ Success (answer_on q p)

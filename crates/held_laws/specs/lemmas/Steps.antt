@@ -77,7 +77,7 @@ module _ {P S : Type 0} (layout : Layout) (lawful : fault_of layout ≡ None) (n
 
 -- ---- a part of a volume
 
-get-some : {A : Type 0} (xs : List A) (i : ℕ) → i < length xs → (x : A) × (slice_get xs i ≡ Some x)
+pub get-some : {A : Type 0} (xs : List A) (i : ℕ) → i < length xs → (x : A) × (slice_get xs i ≡ Some x)
 get-some [] i less = absurd (omega arith)
 get-some (x ∷ xs) zero less = (x, refl)
 get-some (x ∷ xs) (suc i) less = get-some xs i (omega arith)

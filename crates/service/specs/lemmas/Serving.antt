@@ -1,14 +1,13 @@
 -- What a handler promises of a call on a handle is a step of the filer.
-use Rattle.std.proofs.Common.{◌≡◌, ℕ, ◌<◌, Bool, true, false, List, [], length, Option, Some, None, refl, sym, ap, ◌∙◌, subst}
+use Rattle.std.proofs.Common.{◌≡◌, ℕ, ◌<◌, Bool, true, false, List, [], length, Some, None, refl, ap, ◌∙◌}
 use Rattle.std.proofs.Common.{Result}
 use Rattle.std.proofs.lemmas.Bool.{eq-eqb}
-use Rattle.std.specs.Prelude.{slice_get, ◌==◌, ◌&&◌}
+use Rattle.std.specs.Prelude.{◌==◌, ◌&&◌}
 use Rattle.nfs_model.specs.Types.{Credential, Moment, Reply, Success}
 use Rattle.nfs_model.specs.Tree.{Layout, Logical, stripes_of, aggregate_of}
-use Rattle.nfs_model.specs.Server as servers
-use Rattle.nfs_model.specs.Server.{Server, handle_of}
+use Rattle.nfs_model.specs.Server.{handle_of}
 use Rattle.nfs_model.specs.Home.{logical_home}
-use Rattle.nfs_model.specs.Locate.{located_in, located_by, locate}
+use Rattle.nfs_model.specs.Locate.{located_in, located_by}
 use Rattle.nfs_model.specs.Serial.Getattr.{getattr}
 use Rattle.nfs_model.specs.Serial.Step.{on}
 use Rattle.nfs_values.specs.Answer.{answer_of}
@@ -19,10 +18,10 @@ use Rattle.affinity_tree.specs.Fault.{fault_of}
 use Rattle.affinity_tree.specs.Numbers.{number_of, parents}
 use Rattle.parcel_sets.specs.Sets.{logical_parcels}
 use Rattle.held_state.specs.Contents.{VolumeContents}
-use Rattle.held_state.specs.Lenses.{Lens, LogicalSet, logical_lens, in_volume}
+use Rattle.held_state.specs.Lenses.{Lens, logical_lens, in_volume}
 use Rattle.held_state.specs.Promises.{RightOnVolume, IsRight}
 use Rattle.held_state.specs.Sets.{FilerLogical, logical_set}
-use Rattle.held_state.specs.Jobs.{Serve, JobReply, Replied}
+use Rattle.held_state.specs.Jobs.{Serve, Replied}
 use Rattle.held_state.specs.Deeds.{Does, FilerSteps}
 use Rattle.held_state.specs.Calls.{VolumeCall, IsCallOn, ServesOn, finished_as}
 use Rattle.held_laws.specs.lemmas.Steps.{volume-right}

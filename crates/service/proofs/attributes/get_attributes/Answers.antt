@@ -1,7 +1,5 @@
 use Rattle.std.proofs.Common.{sym, ap, ◌∙◌, Option, Some, Ok, Err}
 use Rattle.nfs_values.specs.declared.status.Status.TheVariants.{Stale}
-use Rattle.std.specs.Option.{option_map}
-use Rattle.std.specs.FinMap.{get}
 use Rattle.nfs_model.specs.Types.{Moment, GetattrDone}
 use Rattle.volume_values.specs.Inodes.{Inode, inode_of}
 use Rattle.volume_values.specs.Logical.{LogicalValue}

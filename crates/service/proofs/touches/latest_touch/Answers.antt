@@ -1,4 +1,4 @@
-use Rattle.std.proofs.Common.{arith, rules, ◌≡◌, ◌≤◌}
+use Rattle.std.proofs.Common.{arith, rules}
 use Rattle.std.specs.Option.{option_map}
 use Rattle.nfs_values.specs.Moment.{moment_of}
 use Rattle.service.proofs.Latest.{touch-place, touch-all}

@@ -1,0 +1,57 @@
+use Rattle.std.proofs.Common.{sym, subst}
+use Rattle.std.specs.Option.{option_map}
+use Rattle.nfs_model.specs.Types.{Success}
+use Rattle.nfs_model.specs.Work.{Replied}
+use Rattle.affinity_tree.specs.Affinity.{affinity_of}
+use Rattle.affinity_tree.specs.Layout.{layout_of}
+use Rattle.nfs_values.specs.Answer.{answer_of}
+use Rattle.nfs_values.specs.Call.{call_of}
+use Rattle.nfs_values.specs.Handle.{named_of}
+use Rattle.nfs_values.specs.Moment.{moment_of}
+use Rattle.nfs_values.specs.Set.{set_of}
+use Rattle.nfs_values.specs.declared.answer.Answer.TheVariants as answers
+use Rattle.nfs_values.specs.declared.call.Call.{Call}
+use Rattle.parcel_sets.specs.Sets.{volume_of}
+use Rattle.held_state.specs.Lenses.{logical_lens}
+use Rattle.held_state.specs.Running.{RunsOn}
+use Rattle.held_state.specs.Sets.{logical_before, logical_after}
+use Rattle.service.specs.Running.{call_on, IsRun}
+use Rattle.service.specs.Setattr.{only_mode}
+use Rattle.service.proofs.Runs.{whole-here, runs-getattr, runs-setattr, mode-alone}
+use Rattle.service.proofs.run.run_on_logical.Goals as goal
+
+pub get_attributes-told-requires : goal.get_attributes-told-requires
+get_attributes-told-requires c = record {
+  whole = whole-here (affinity_of c.args.affinity) c.named_here-named.result.volume.0 (logical_before c.args.held.now) c.named_here-named.ensures.node
+      c.requires.whole;
+}
+
+pub set_mode-told-requires : goal.set_mode-told-requires
+set_mode-told-requires c = record {
+  whole = whole-here (affinity_of c.args.affinity) c.named_here-named-in-SetAttributes.result.volume.0 (logical_before c.args.held.now)
+      c.named_here-named-in-SetAttributes.ensures.node c.requires.whole;
+}
+
+pub returns-in-GetAttributes-clause-runs : goal.returns-in-GetAttributes-clause-runs
+returns-in-GetAttributes-clause-runs c =
+    let a = affinity_of c.args.affinity in
+    let L = layout_of c.args.layout.now in
+    let old = logical_before c.args.held.now in
+    subst (λ (call : Call). RunsOn (volume_of a) logical_lens (call_on L a (moment_of c.args.moment) (call_of call)) old
+    (Replied (Success (answer_of (answers.GetAttributes c.get_attributes-told.result)))) old) (sym c.in-GetAttributes.is)
+    (runs-getattr L a (named_of c.named_here-named.result) c.named_here-named.ensures.node _ c.named_here-named.ensures.named (moment_of c.args.moment) old old
+    c.get_attributes-told.result c.get_attributes-told.ensures.right)
+
+pub returns-in-Some-clause-runs : goal.returns-in-Some-clause-runs
+returns-in-Some-clause-runs c =
+    let a = affinity_of c.args.affinity in
+    let L = layout_of c.args.layout.now in
+    let old = logical_before c.args.held.now in
+    let new = logical_after c.args.held.now c.set_mode-told.new.held in
+    let alone = subst IsRun c.in-SetAttributes.is c.requires.run in
+    subst (λ (call : Call). RunsOn (volume_of a) logical_lens (call_on L a (moment_of c.args.moment) (call_of call)) old
+    (Replied (Success (answer_of (answers.SetAttributes c.set_mode-told.result)))) new) (sym c.in-SetAttributes.is)
+    (runs-setattr L a (named_of c.named_here-named-in-SetAttributes.result) c.named_here-named-in-SetAttributes.ensures.node _
+    c.named_here-named-in-SetAttributes.ensures.named (moment_of c.args.moment) old new (only_mode c.in-Some.mode) (set_of c.in-SetAttributes.set)
+    (option_map moment_of c.in-SetAttributes.guard) c.set_mode-told.result (mode-alone c.in-SetAttributes.set c.in-Some.mode alone c.in-Some.is)
+    c.set_mode-told.ensures.right)

@@ -1,0 +1,10 @@
+use Rattle.std.proofs.Common.{refl}
+use Rattle.service.proofs.Latest.{vacant-touch}
+use Rattle.service.proofs.Taking.{vacant-taken}
+use Rattle.service.proofs.touches.take_touch.Goals as goal
+
+pub returns-in-None-clause-touch : goal.returns-in-None-clause-touch
+returns-in-None-clause-touch c = vacant-touch c.args.place.now c.args.fileid.0 c.in-None.is
+
+pub returns-in-None-clause-taken : goal.returns-in-None-clause-taken
+returns-in-None-clause-taken c = vacant-taken c.args.place.now c.args.place.now c.args.fileid.0 c.in-None.is refl

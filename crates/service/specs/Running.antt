@@ -1,0 +1,50 @@
+-- A call run on the parcels under its home.
+use Rattle.std.specs.Prelude.{◌≡◌, ℕ, Option, Some, None}
+use Rattle.nfs_model.specs.Types as types
+use Rattle.nfs_model.specs.Types.{Moment, Stale}
+use Rattle.nfs_model.specs.Tree.{Layout, Affinity}
+use Rattle.nfs_model.specs.Home.{named_by}
+use Rattle.nfs_model.specs.Locate.{Fails}
+use Rattle.nfs_model.specs.Server.{Named}
+use Rattle.nfs_model.specs.Work as works
+use Rattle.affinity_tree.specs.Affinity.{affinity_of}
+use Rattle.nfs_values.specs.Reply.{reply_of}
+use Rattle.nfs_values.specs.Set.{set_of}
+use Rattle.nfs_values.specs.declared.call.Call.{Call}
+use Rattle.nfs_values.specs.declared.call.Call.TheVariants.{GetAttributes, SetAttributes}
+use Rattle.nfs_values.specs.declared.set.SetAttributes as sets
+use Rattle.held_state.specs.Calls.{VolumeCall}
+use Rattle.held_attributes.specs.Laws.{getattr_call, setattr_call}
+use Rattle.service.specs.Setattr.{only_mode}
+use Rattle.service.specs.declared.outcome.Outcome.{Outcome}
+use Rattle.service.specs.declared.outcome.Outcome.TheVariants.{Replied, Starved, Moved}
+
+-- ---- what comes of it
+
+abbrev pub outcome_of : Outcome → works.Outcome
+outcome_of (Replied reply) = works.Replied (reply_of reply)
+outcome_of Starved = works.Starved
+outcome_of (Moved affinity) = works.Moved (affinity_of affinity)
+
+-- ---- what is run
+
+-- a mode is set, and nothing else
+abbrev pub IsModeAlone : sets.SetAttributes → Type 0
+IsModeAlone set = (mode : ℕ) × (set_of set ≡ only_mode mode)
+
+-- The calls that are run so far: GETATTR, and SETATTR of the mode, which no client is served.
+abbrev pub IsRun : Call → Type 0
+IsRun (GetAttributes handle) = Unit {0}
+IsRun (SetAttributes handle set guard) = IsModeAlone set
+IsRun call = ⊥
+
+-- the fileid that a handle names
+abbrev pub fileid_in : Option Named → ℕ
+fileid_in None = 0
+fileid_in (Some named) = named.fileid
+
+-- a call on a handle, as it is asked of a volume under a node
+abbrev pub call_on : Layout → Affinity → Moment → types.Call → VolumeCall
+call_on layout node moment (types.Getattr handle) = getattr_call handle node (fileid_in (named_by layout handle))
+call_on layout node moment (types.Setattr handle set guard) = setattr_call handle node (fileid_in (named_by layout handle)) set guard moment
+call_on layout node moment call = record { call = call; node = node; fileid = 0; run = λ volume. Fails Stale }
