@@ -7,3 +7,4 @@ pub mod Records
 pub mod Serves
 pub mod Marking
 pub mod Looks
+pub mod Parts

@@ -1,12 +1,15 @@
 -- What records are heard as.
-use Rattle.std.proofs.Common.{◌≡◌, ℕ, ◌⊎◌, false, List, Ok, Err, refl, sym, ◌∙◌, arith, inl, inr}
+use Rattle.std.proofs.Common.{◌≡◌, ℕ, ◌+◌, ◌≤◌, ◌⊎◌, false, List, Ok, Err, refl, sym, ap, subst, ◌∙◌, length, arith, inl, inr}
 use Rattle.std.specs.Prelude.{◌==◌}
 use Rattle.std.proofs.lemmas.Bool.Decides.{nat_tests}
 use Rattle.nfs_model.specs.World.{Heard, IsDecoded}
 use Rattle.nfs_model.specs.Types as types
 use Rattle.nfs_model.specs.ReadOnly.{IsReading}
 use Rattle.rpc_msg.specs.Records as records
+use Rattle.rpc_msg.specs.Replies as replies
 use Rattle.rpc_msg.specs.Replies.{IsRefusal}
+use Rattle.rpc_msg.specs.Room.{refusal_room}
+use Rattle.engine_feed.specs.Offered.{reply_limit}
 use Rattle.rpc_msg.specs.lemmas.Refusals.{refusal_refuses}
 use Rattle.rpc_msg.specs.lemmas.Hearing.{fault_of_record, record_is_decoded, record_asks_reading}
 use Rattle.rpc_msg.specs.Seen as told
@@ -14,8 +17,8 @@ use Rattle.rpc_msg.specs.declared.fault.RecordFault.{RecordFault}
 use Rattle.rpc_msg.specs.declared.fault.RecordFault.TheVariants as faults
 use Rattle.engine_feed.specs.Numbers.{fault_number}
 use Rattle.engine_feed.specs.Records.{fault_of}
-use Rattle.engine_feed.specs.Codec.{heard}
-use Rattle.engine_feed.specs.lemmas.Codec.{heard_is}
+use Rattle.engine_feed.specs.Codec.{heard, reply_record}
+use Rattle.engine_feed.specs.lemmas.Codec.{heard_is, reply_record_is}
 
 not_eleven : (n : ℕ) → (n ≡ 12) ⊎ (n ≡ 13) → (n == 11) ≡ false
 not_eleven n (inl e) = grind (arith, nat_tests)
@@ -43,3 +46,17 @@ refused-refuses bytes xid reply e = refusal_refuses bytes (record { xid = xid; a
 pub numbers-same : (fault : RecordFault) → fault_number (fault_of fault) ≡ told.fault_number fault
 numbers-same faults.BadHeader = refl
 numbers-same faults.NotACall = refl
+
+-- ---- replies
+
+pub bytes-short : (xid : ℕ) (reply : types.Reply) (n : ℕ) → length (reply_record xid reply) ≤ n → length (replies.reply_bytes xid reply) ≤ n
+bytes-short xid reply n h =
+    let size : length (reply_record xid reply) ≡ length (replies.reply_record xid reply) = ap (λ (bs : List ℕ). length bs) (reply_record_is xid reply) in
+    let parts : length (replies.reply_record xid reply) ≡ 4 + length (replies.reply_bytes xid reply) = omega arith in
+    omega (arith, size, parts, h)
+
+pub room-same : (xid : ℕ) (reply : types.Reply) (m n : ℕ) → m + length (reply_record xid reply) ≤ n → m + length (replies.reply_record xid reply) ≤ n
+room-same xid reply m n h = subst (λ (bs : List ℕ). m + length bs ≤ n) (reply_record_is xid reply) h
+
+pub refusal-fits : (xid : ℕ) (reply : types.Reply) → length (replies.reply_record xid reply) ≤ refusal_room → length (reply_record xid reply) ≤ reply_limit
+refusal-fits xid reply h = let size = ap (λ (bs : List ℕ). length bs) (reply_record_is xid reply) in omega (arith, size, h)
