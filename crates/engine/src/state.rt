@@ -22,7 +22,7 @@ pub(crate) struct State {
     pub(crate) verifier: Verifier,
     pub(crate) connections: Vec<Connection>,
     /// How many of them are open.
-    pub(crate) open: usize,
+    pub(crate) open_count: usize,
     pub(crate) calls: Calls,
     pub(crate) workers: Vec<Worker>,
     pub(crate) desk: Desk<Service, ParcelKinds>,

@@ -1,0 +1,5 @@
+pub mod Numbers
+pub mod Seen
+pub mod Sound
+pub mod Engine
+pub mod Words

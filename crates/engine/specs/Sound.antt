@@ -1,0 +1,83 @@
+-- What holds of an engine's fields beside what is seen of them: the desk's books stand for the world, each worker's message may be ended, and the replies that are owed have their room.
+use Rattle.std.specs.Prelude.{◌==◌, ◌≡◌, ℕ, ◌+◌, ◌^◌, ◌≤◌, ◌<◌, List, [], ◌∷◌, ◌++◌, map, length, if◌then◌else◌, Some, slice_get}
+use Rattle.std.specs.List.{AllByRecursion}
+use Rattle.nfs_model.specs.Types.{SystemError}
+use Rattle.nfs_model.specs.Tree.{Layout}
+use Rattle.nfs_model.specs.World.{all_running}
+use Rattle.nfs_model.specs.Events.Refusals.{open_count}
+use Rattle.nfs_values.specs.declared.call.Call.{Call}
+use Rattle.nfs_values.specs.Call.{call_of}
+use Rattle.nfs_values.specs.Reply.{reply_of}
+use Rattle.affinity_tree.specs.Affinity.{affinity_of}
+use Rattle.affinity_tree.specs.Tree.{IsNode}
+use Rattle.depot_rule.specs.Sums.{total}
+use Rattle.scheduler.specs.declared.message.Message.{Message}
+use Rattle.desk_laws.specs.Books.{stamps}
+use Rattle.desk.specs.Words.{books, IsKept}
+use Rattle.service.specs.Jobs.{job_of, job_reply_of}
+use Rattle.service.specs.declared.outcome.Outcome.{Outcome}
+use Rattle.service.specs.declared.outcome.Outcome.TheVariants.{Replied, Starved, Moved}
+use Rattle.engine_laws.specs.Store.{StandsFor}
+use Rattle.engine_task.specs.Served.{IsServedAt}
+use Rattle.engine_feed.specs.Codec.{reply_record}
+use Rattle.engine_feed.specs.Seen.{owed_by, layout_in, messages_of, running_count}
+use Rattle.engine_feed.specs.Sound.{IsAdmitted}
+use Rattle.engine.specs.declared.connection.Connection.TheVariants.{Open}
+use Rattle.engine.specs.declared.worker.Running.{Running}
+use Rattle.engine.specs.declared.worker.Worker.{Worker}
+use Rattle.engine.specs.declared.worker.Worker.TheVariants.{Idle, Begun, Worked}
+use Rattle.engine.specs.declared.state.State.{State}
+use Rattle.engine.specs.Seen.{connection_seen, setup_in, world}
+
+-- ---- messages
+
+-- the message that a worker runs
+abbrev pub messages_in : Worker → List (Message Call)
+messages_in Idle = []
+messages_in (Begun r) = r.message ∷ []
+messages_in (Worked r outcome) = r.message ∷ []
+
+abbrev pub running_messages : List Worker → List (Message Call)
+running_messages [] = []
+running_messages (k ∷ ks) = messages_in k ++ running_messages ks
+
+-- a message is of a connection that was opened, and the service runs its call where it is to run
+pub record IsPlaced (layout : Layout) (connections : ℕ) (m : Message Call) : Type 0 where
+  pub admitted : IsAdmitted layout m
+  pub known : m.origin.connection.0 < connections
+  pub served : IsServedAt layout (call_of m.call) (affinity_of m.affinity)
+
+-- what a message came to may be told: its reply fits the room that is kept for it
+abbrev pub MayEnd : Layout → Message Call → Outcome → Type 0
+MayEnd layout m (Replied reply) = length (reply_record m.origin.xid (reply_of reply)) ≤ m.room
+MayEnd layout m Starved = length (reply_record m.origin.xid SystemError) ≤ m.room
+MayEnd layout m (Moved a) = IsNode layout (affinity_of a) × IsServedAt layout (call_of m.call) (affinity_of a)
+
+abbrev pub IsReady : Layout → ℕ → Worker → Type 0
+IsReady layout connections Idle = Unit {0}
+IsReady layout connections (Begun r) = IsPlaced layout connections r.message
+IsReady layout connections (Worked r outcome) = IsPlaced layout connections r.message × MayEnd layout r.message outcome
+
+-- ---- rooms
+
+-- the room that a message keeps on a connection
+abbrev pub room_on : ℕ → Message Call → ℕ
+room_on c m = if m.origin.connection.0 == c then m.room else 0
+
+-- the room that all messages keep on it
+abbrev pub rooms_on : ℕ → State → ℕ
+rooms_on c s = total (room_on c) (messages_of s.calls) + total (room_on c) (running_messages s.workers.items)
+
+-- ---- all
+
+pub record IsSound (s : State) : Type 0 where
+  pub layout : (books s.desk).layout ≡ layout_in s.calls
+  pub kept : IsKept s.desk
+  pub stands : StandsFor job_of job_reply_of (setup_in s) (world s) (books s.desk)
+  pub running : length (running_messages s.workers.items) ≡ running_count s.calls
+  pub waiting : AllByRecursion (IsPlaced (layout_in s.calls) (length s.connections.items)) (messages_of s.calls)
+  pub workers : AllByRecursion (IsReady (layout_in s.calls) (length s.connections.items)) s.workers.items
+  pub few : length s.workers.items ≤ 64
+  pub stamps : stamps (books s.desk) + running_count s.calls ≤ 2 ^ 62 + 64
+  pub opened : s.open_count ≡ open_count (map connection_seen s.connections.items)
+  pub owed : (c : ℕ) (x : _) → slice_get s.connections.items c ≡ Some (Open x) → owed_by x ≡ rooms_on c s

@@ -1,0 +1,2 @@
+//! Temporary.
+#![tactic(auto)]
