@@ -6,3 +6,4 @@ pub mod Beginning
 pub mod Working
 pub mod Finishing
 pub mod Opening
+pub mod Happening
