@@ -7,4 +7,11 @@ pub mod Records
 pub mod Serves
 pub mod Marking
 pub mod Looks
+pub mod Begun
+pub mod Loops
+pub mod Fed
+pub mod Full
+pub mod Pieces
+pub mod Hearing
+pub mod Keeping
 pub mod Parts

@@ -32,7 +32,7 @@ more-none o m = subst HasNoRecord (sym m.1) tt
 
 -- ---- lists
 
-take-front : (xs ys : List ℕ) → take (length xs) (xs ++ ys) ≡ xs
+pub take-front : (xs ys : List ℕ) → take (length xs) (xs ++ ys) ≡ xs
 take-front [] ys = refl
 take-front (x ∷ xs) ys = ap (λ (zs : List ℕ). x ∷ zs) (take-front xs ys)
 

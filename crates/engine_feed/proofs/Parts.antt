@@ -1,7 +1,6 @@
 -- A connection and calls, as they change in a world.
-use Rattle.std.proofs.Common.{◌≡◌, ℕ, zero, suc, List, [], ◌∷◌, ◌++◌, Some, refl, sym, ap, subst, ◌∙◌}
+use Rattle.std.proofs.Common.{◌≡◌, ℕ, zero, suc, List, [], ◌∷◌, ◌++◌, Some, refl, sym, ap, ◌∙◌}
 use Rattle.std.specs.Prelude.{length, map, slice_get}
-use Rattle.std.proofs.lemmas.List.{map_push}
 use Rattle.nfs_model.specs.Types as types
 use Rattle.nfs_model.specs.Replay as replays
 use Rattle.nfs_model.specs.World as worlds
@@ -11,8 +10,8 @@ use Rattle.engine_feed.specs.declared.state.ConnectionState.{ConnectionState}
 use Rattle.engine_feed.specs.declared.state.CallsState.{CallsState}
 use Rattle.engine_feed.specs.Codec.{reply_record}
 use Rattle.engine_feed.specs.Seen.{connection_of, layout_in, waiting_of, finished_of, running_count, entry_of}
-use Rattle.engine_feed.specs.Within.{Shows, IsPartOf, with_calls, with_part}
-use Rattle.engine_feed.specs.Sound.{IsWrittenTo, IsRoomier, IsStreamRoomier, AreRoomier, TakesFrom}
+use Rattle.engine_feed.specs.Within.{IsPartOf, with_part}
+use Rattle.engine_feed.specs.Sound.{IsWrittenTo, IsRoomier, IsStreamRoomier, AreRoomier}
 use Rattle.engine_feed.specs.Words.{Finishes}
 use Rattle.engine_feed.proofs.Lists.{changed_at-twice, changed_at-none, slice_get-changed_at}
 

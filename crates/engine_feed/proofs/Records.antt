@@ -5,6 +5,8 @@ use Rattle.std.proofs.lemmas.Bool.Decides.{nat_tests}
 use Rattle.nfs_model.specs.World.{Heard, IsDecoded}
 use Rattle.nfs_model.specs.Types as types
 use Rattle.nfs_model.specs.ReadOnly.{IsReading}
+use Rattle.nfs_values.specs.declared.reply.Reply.{Reply}
+use Rattle.nfs_values.specs.Reply.{reply_of}
 use Rattle.rpc_msg.specs.Records as records
 use Rattle.rpc_msg.specs.Replies as replies
 use Rattle.rpc_msg.specs.Replies.{IsRefusal}
@@ -60,3 +62,7 @@ room-same xid reply m n h = subst (λ (bs : List ℕ). m + length bs ≤ n) (rep
 
 pub refusal-fits : (xid : ℕ) (reply : types.Reply) → length (replies.reply_record xid reply) ≤ refusal_room → length (reply_record xid reply) ≤ reply_limit
 refusal-fits xid reply h = let size = ap (λ (bs : List ℕ). length bs) (reply_record_is xid reply) in omega (arith, size, h)
+
+pub refused-fits : (xid : ℕ) (r s : Reply) → r ≡ s → length (replies.reply_record xid (reply_of s)) ≤ refusal_room
+    → length (reply_record xid (reply_of r)) ≤ reply_limit
+refused-fits xid r s e h = subst (λ (x : Reply). length (reply_record xid (reply_of x)) ≤ reply_limit) (sym e) (refusal-fits xid (reply_of s) h)

@@ -1,6 +1,5 @@
 -- A connection and the calls on their way, as parts of a world.
 use Rattle.std.specs.Prelude.{◌≡◌, ℕ, length, Some, slice_get}
-use Rattle.nfs_model.specs.World as worlds
 use Rattle.nfs_model.specs.World.{Setup, World, Connection, all_running, changed_at}
 use Rattle.engine_feed.specs.declared.state.ConnectionState.{ConnectionState}
 use Rattle.engine_feed.specs.declared.state.CallsState.{CallsState}

@@ -1,10 +1,9 @@
 -- The words in which the clauses speak of what is done to a connection and to the calls on their way.
-use Rattle.std.specs.Prelude.{◌≡◌, Bool, false, true, ℕ, ◌+◌, ◌-◌, ◌<◌, ◌≤◌, List, [], ◌∷◌, ◌++◌, length, map, Option, Some, None, slice_get}
+use Rattle.std.specs.Prelude.{◌≡◌, Bool, false, ℕ, ◌+◌, ◌-◌, ◌<◌, ◌≤◌, List, [], ◌∷◌, ◌++◌, length, Option, Some, None, slice_get}
 use Rattle.std.specs.List.{AllByRecursion, remove}
 use Rattle.nfs_model.specs.Types as types
 use Rattle.nfs_model.specs.Tree.{Layout}
 use Rattle.nfs_model.specs.Replay as replays
-use Rattle.nfs_model.specs.World as worlds
 use Rattle.nfs_model.specs.World.{Setup, World, finish}
 use Rattle.nfs_model.specs.Events.Feed.{Feeds, feeding, heard_in}
 use Rattle.nfs_model.specs.Events.Refusals.{is_open}
@@ -15,7 +14,6 @@ use Rattle.scheduler.specs.declared.message.Origin.{Origin}
 use Rattle.engine_feed.specs.declared.stop.Stop.{Stop}
 use Rattle.engine_feed.specs.declared.state.ConnectionState.{ConnectionState}
 use Rattle.engine_feed.specs.declared.state.CallsState.{CallsState}
-use Rattle.engine_feed.specs.Codec.{reply_record}
 use Rattle.engine_feed.specs.Numbers.{stop_number}
 use Rattle.engine_feed.specs.Offered.{reply_limit}
 use Rattle.engine_feed.specs.Seen.{connection_of, owed_by, layout_in, messages_of, message_of, finished_of, running_count}

@@ -1,0 +1,96 @@
+-- A record's call, admitted.
+use Rattle.std.proofs.Common.{◌≡◌, ◌≤◌, ℕ, false, List, [], ◌∷◌, ◌++◌, length, Option, Some, None, sym, ap, ◌∙◌, arith}
+use Rattle.std.specs.Prelude.{slice_get}
+use Rattle.std.proofs.lemmas.List.{map_push}
+use Rattle.nfs_model.specs.Types as types
+use Rattle.nfs_model.specs.Tree as trees
+use Rattle.nfs_model.specs.Server as servers
+use Rattle.nfs_model.specs.Server.{start_of_times}
+use Rattle.nfs_model.specs.Home.{home, home_of_asked}
+use Rattle.nfs_model.specs.World as worlds
+use Rattle.nfs_model.specs.World.{Setup, World, Connection, changed_at}
+use Rattle.nfs_model.specs.Serial.Step.{Step, serve, serial, stay}
+use Rattle.nfs_model.specs.Serial.AtOnce.{answer_without_home}
+use Rattle.nfs_model.specs.Events.Feed.{admit}
+use Rattle.nfs_values.specs.declared.call.Call.{Call}
+use Rattle.nfs_values.specs.Call.{call_of}
+use Rattle.nfs_values.specs.Credential.{credential_of}
+use Rattle.rpc_msg.specs.Replies as replies
+use Rattle.rpc_msg.specs.Room.{reply_room}
+use Rattle.scheduler.specs.declared.message.Message.{Message}
+use Rattle.scheduler.specs.declared.message.Origin.{Origin}
+use Rattle.affinity_tree.specs.Affinity.{affinity_of}
+use Rattle.engine_feed.specs.declared.state.ConnectionState.{ConnectionState}
+use Rattle.engine_feed.specs.declared.state.CallsState.{CallsState}
+use Rattle.engine_feed.specs.Codec.{reply_record}
+use Rattle.engine_feed.specs.lemmas.Codec.{reply_record_is}
+use Rattle.engine_feed.specs.Offered.{IsOffered, reply_limit}
+use Rattle.engine_feed.specs.Seen.{connection_of, layout_in, waiting_of, finished_of, message_of, entry_at}
+use Rattle.engine_feed.specs.Words.{Finishes, Waits, HasHeard}
+use Rattle.engine_feed.proofs.Parts.{lists-same, put-same}
+
+-- ---- a call that waits
+
+pub waits : (calls calls' : CallsState) (c c' : ConnectionState) (m : Message Call) (asked : types.Asked) → Waits calls c m calls' c'
+    → types.Ask (call_of m.call) (credential_of m.credential) ≡ asked
+    → home_of_asked (layout_in calls) asked ≡ Some (affinity_of m.affinity)
+    → HasHeard calls c m.origin asked false calls' c'
+waits calls calls' c c' m asked w a h setup v k p =
+    let n = m.origin.connection.0 in
+    let more : waiting_of calls' ≡ v.waiting ++ message_of m ∷ [] = ap waiting_of w.waits ∙ map_push message_of calls.waiting m
+    ∙ ap (λ (ms : List worlds.Message). ms ++ message_of m ∷ []) (sym p.shows.waiting) in
+    let home_is : home_of_asked setup.layout asked ≡ Some (affinity_of m.affinity) = ap (λ (l : trees.Layout). home_of_asked l asked) k.layout ∙ h in
+    let there : slice_get v.connections n ≡ Some (connection_of c') = p.connection ∙ ap (λ (x : ConnectionState). Some (connection_of x)) (sym w.owes) in
+    lists-same v _ v.connections _ (v.waiting ++ message_of m ∷ []) _ v.finished (put-same (connection_of c') v.connections n there) more
+    (ap finished_of w.waits ∙ sym p.shows.finished)
+    ∙ ap (λ (x : types.Asked). record v {
+      waiting = v.waiting
+          ++ (record { connection = n; number = m.origin.number; xid = m.origin.xid; asked = x; affinity = affinity_of m.affinity }) ∷ [];
+    }) a
+    ∙ ap (λ (o : Option trees.Affinity). admit setup v n m.origin.number (record { xid = m.origin.xid; asked = asked }) o) (sym home_is)
+
+-- ---- a call that is answered at once
+
+-- a call without a home affinity reads no state, as the law has it
+abbrev pub StaysWithoutHome : Type 0
+StaysWithoutHome = (layout : trees.Layout) (server : servers.Server) (credential : types.Credential) (moment : types.Moment) (call : types.Call)
+    → length layout.volumes ≡ length server.volumes → home layout call ≡ None
+    → serve server call credential moment ≡ stay server (answer_without_home layout call)
+
+pub at-once : (calls calls' : CallsState) (c c' : ConnectionState) (origin : Origin) (call : types.Call) (credential : types.Credential)
+    (answer : types.Answer) → StaysWithoutHome
+    → home (layout_in calls) call ≡ None → answer ≡ answer_without_home (layout_in calls) call
+    → Finishes calls c (entry_at origin (types.Ask call credential) None start_of_times false) (types.Success answer) calls' c'
+    → HasHeard calls c origin (types.Ask call credential) false calls' c'
+at-once calls calls' c c' origin call credential answer law h a f setup v k p =
+    let n = origin.connection.0 in
+    let asked : types.Asked = types.Ask call credential in
+    let stays : serve v.server call credential start_of_times ≡ stay v.server (answer_without_home (layout_in calls) call) =
+    law (layout_in calls) v.server credential start_of_times call (sym p.volumes) h in
+    let reply : types.Success answer ≡ (serial v.server asked start_of_times false).reply = ap (λ (x : types.Answer). types.Success x) a
+    ∙ sym (ap (λ (t : Step). t.reply) stays) in
+    let nowhere : home_of_asked setup.layout asked ≡ None = ap (λ (l : trees.Layout). home l call) k.layout ∙ h in
+    f setup v k.codec p.shows p.connection
+    ∙ ap (worlds.finish setup v (entry_at origin asked None start_of_times false)) reply
+    ∙ ap (λ (o : Option trees.Affinity). admit setup v n origin.number (record { xid = origin.xid; asked = asked }) o) (sym nowhere)
+
+-- ---- the room of a reply
+
+room-offered : (volumes : ℕ) (call : types.Call) → IsOffered call → reply_room volumes call ≤ reply_limit
+room-offered volumes types.Null o = omega arith
+room-offered volumes (types.Getattr handle) o = omega arith
+room-offered volumes call o = absurd o
+
+pub room-small : (volumes n : ℕ) (call : types.Call) → IsOffered call → n ≡ reply_room volumes call → n ≤ reply_limit
+room-small volumes n call o e = let h = room-offered volumes call o in omega (arith, e, h)
+
+pub at-once-fits : (layout : trees.Layout) (volumes xid : ℕ) (call : types.Call) (answer : types.Answer) → IsOffered call
+    → answer ≡ answer_without_home layout call
+    → length (replies.reply_record xid (types.Success (answer_without_home layout call))) ≤ reply_room volumes call
+    → length (reply_record xid (types.Success answer)) ≤ reply_limit
+at-once-fits layout volumes xid call answer o e h =
+    let same : length (reply_record xid (types.Success answer)) ≡ length (replies.reply_record xid (types.Success (answer_without_home layout call))) =
+    ap (λ (x : types.Answer). length (reply_record xid (types.Success x))) e
+    ∙ ap (λ bs. length bs) (reply_record_is xid (types.Success (answer_without_home layout call))) in
+    let room = room-offered volumes call o in
+    omega (arith, same, room, h)
