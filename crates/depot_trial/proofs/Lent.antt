@@ -22,7 +22,7 @@ use Rattle.depot_rule.specs.lemmas.Histories.{moved-snoc}
 use Rattle.depot_trial.specs.declared.lending.Move.{Move}
 use Rattle.depot.specs.Grants.{IsAfter}
 use Rattle.depot_trial.specs.Lending.{sum_below, size, tokens_in, taken_by, given_by, Becomes, Moves, FewTokens, IsHand}
-use Rattle.depot_trial.proofs.Trials.{alone-here, alone-else}
+use Rattle.depot_trial.specs.lemmas.Stripes.{alone-here, alone-else}
 
 -- ---- a seat's hand after an entry more
 

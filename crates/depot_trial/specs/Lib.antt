@@ -1,2 +1,3 @@
 pub mod Adding
 pub mod Lending
+pub mod lemmas

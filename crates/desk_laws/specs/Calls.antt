@@ -40,8 +40,10 @@ module _ {P C R : Type 0} where
   IsWorn b a = (IsTaken b a → ⊥) × (worn ≤ stamps b)
 
   -- a worker's call may be put back: what it was lent is as it was lent
-  abbrev pub MayPutBack : Books P C R → ℕ → Type 0
-  MayPutBack b worker = (l : Lent P) × HasLent b worker l × IsUnchanged b l
+  pub record MayPutBack (b : Books P C R) (worker : ℕ) : Type 0 where
+    pub lent : Lent P
+    pub is_lent : HasLent b worker lent
+    pub unchanged : IsUnchanged b lent
 
   -- what a worker was lent is home, and the parcels are as they were
   pub record HasPutBack (b : Books P C R) (worker : ℕ) (c : Books P C R) : Type 0 where

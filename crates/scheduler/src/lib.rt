@@ -6,8 +6,6 @@ pub mod laws;
 mod lines;
 mod message;
 mod queue_number;
-#[cfg(test)]
-mod tests;
 mod waiting;
 
 pub use message::{Message, Origin};

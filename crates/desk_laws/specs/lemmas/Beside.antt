@@ -1,5 +1,5 @@
 -- What a worker's call leaves to it and to the others, in the words of the books alone.
-use Rattle.std.proofs.Common.{◌≡◌, ◌≢◌, ℕ, List, Option, Some, None, refl, sym, ap, ◌∙◌, subst}
+use Rattle.std.proofs.Common.{◌≡◌, ◌≢◌, ◌<◌, ℕ, List, length, Option, Some, None, refl, sym, ap, ◌∙◌, subst}
 use mathlib.Core.Option.{some, some-injective}
 use lib.ListN.{get_elem?}
 use Rattle.atomic_table.proofs.Lists.{set_here, set_else}
@@ -7,7 +7,7 @@ use Rattle.nfs_model.specs.Tree.{Affinity}
 use Rattle.affinity_tree.specs.Numbers.{number_of, parents}
 use Rattle.depot_rule.specs.History.{Behaviour}
 use Rattle.desk_laws.specs.Books.{Lent, Books, settled, HasLent, IsIdle, UnderLent, IsUnchanged, IsWorked, HasHands, IsSettled}
-use Rattle.desk_laws.specs.Calls.{Does, with_lent, HasBegun, HasWorked, HasFinished, MayPutBack}
+use Rattle.desk_laws.specs.Calls.{Does, with_lent, HasBegun, HasWorked, HasFinished, MayPutBack, AreIdle}
 use Rattle.desk_laws.specs.lemmas.Seats.{at-length}
 
 module _ {P C R : Type 0} (b : Books P C R) (i : ℕ) where
@@ -22,6 +22,13 @@ module _ {P C R : Type 0} (b : Books P C R) (i : ℕ) where
     pub unchanged-still : (l : Lent P) → IsUnchanged b l → IsUnchanged c l
     unchanged-still l un = subst (λ (d : Books P C R). IsUnchanged d l) (sym changed) un
 
+    pub fresh-still : (j : ℕ) → j ≢ i → MayPutBack b j → MayPutBack c j
+    fresh-still j ne may = record {
+      lent = may.lent;
+      is_lent = lent-else j (Some may.lent) ne may.is_lent;
+      unchanged = unchanged-still may.lent may.unchanged;
+    }
+
     pub worked-still : {B : Type 0} (m : Behaviour P C R B) (l : Lent P) (call : C) (reply : R) → IsWorked m b l call reply → IsWorked m c l call reply
     worked-still m l call reply w = subst (λ (d : Books P C R). IsWorked m d l call reply) (sym changed) w
 
@@ -34,11 +41,11 @@ module _ {P C R : Type 0} (b : Books P C R) (i : ℕ) where
   -- ---- a call that began
 
   pub begun-fresh : (a : Affinity) (c : Books P C R) → IsIdle b i → HasBegun b i a c → MayPutBack c i
-  begun-fresh a c idle h = (
-    record { affinity = a; parcels = h.parcels },
-    lent-here (Some (record { affinity = a; parcels = h.parcels })) c h.books None idle,
-    unchanged-still (Some (record { affinity = a; parcels = h.parcels })) c h.books (record { affinity = a; parcels = h.parcels }) h.unchanged,
-  )
+  begun-fresh a c idle h = record {
+    lent = record { affinity = a; parcels = h.parcels };
+    is_lent = lent-here (Some (record { affinity = a; parcels = h.parcels })) c h.books None idle;
+    unchanged = unchanged-still (Some (record { affinity = a; parcels = h.parcels })) c h.books (record { affinity = a; parcels = h.parcels }) h.unchanged;
+  }
 
   -- ---- work on what was lent
 
@@ -46,19 +53,19 @@ module _ {P C R : Type 0} (b : Books P C R) (i : ℕ) where
     abbrev lent : Lent P
     lent = record { affinity = h.lent.affinity; parcels = h.parcels }
 
-    same : fresh.0 ≡ h.lent
-    same = let e = some-injective (Some fresh.0) (Some h.lent) (sym fresh.1 ∙ h.is_lent) in cc
+    same : fresh.lent ≡ h.lent
+    same = let e = some-injective (Some fresh.lent) (Some h.lent) (sym fresh.is_lent ∙ h.is_lent) in cc
 
     as-left : IsUnchanged b h.lent
-    as-left = subst (λ (l : Lent P). IsUnchanged b l) same fresh.2
+    as-left = subst (λ (l : Lent P). IsUnchanged b l) same fresh.unchanged
 
     -- a task that changes nothing
     pub still-fresh : ((k : ℕ) → h.parcels k ≡ h.lent.parcels k) → MayPutBack c i
-    still-fresh equal = (
-      lent,
-      lent-here (Some lent) c h.books (Some h.lent) h.is_lent,
-      unchanged-still (Some lent) c h.books lent (λ k pos lt cover. equal k ∙ as-left k pos lt cover),
-    )
+    still-fresh equal = record {
+      lent = lent;
+      is_lent = lent-here (Some lent) c h.books (Some h.lent) h.is_lent;
+      unchanged = unchanged-still (Some lent) c h.books lent (λ k pos lt cover. equal k ∙ as-left k pos lt cover);
+    }
 
     -- a task that takes the step of a call
     pub work-lent : HasLent c i lent
@@ -88,3 +95,7 @@ module _ {P C R : Type 0} (b : Books P C R) (i : ℕ) where
           let left = subst (λ (d : Books P C R). UnderLent b l (λ k. settled d k ≡ settled b k)) h.books (h.others j l there ne) in
           subst (λ (d : Books P C R). IsWorked m d l call' reply') (sym h.books)
           (w.0, (λ k pos lt cover. w.1 k pos lt cover ∙ sym (left k pos lt cover)), w.2)
+
+-- each worker is idle
+pub all-idle : {P C R : Type 0} (b : Books P C R) → ((i : ℕ) → i < length b.lent → IsIdle b i) → AreIdle b
+all-idle b idle i l at = let e = some-injective None (Some l) (sym (idle i (at-length b.lent i (Some l) at)) ∙ at) in let no_way : ⊥ = cc in no_way

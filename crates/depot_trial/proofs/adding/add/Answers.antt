@@ -3,7 +3,7 @@ use Rattle.affinity_tree.specs.Affinity.{affinity_of}
 use Rattle.depot.specs.Words.{view, layout_in, node_of, held_in}
 use Rattle.depot.specs.lemmas.Seats.{begun-with, begun-hand}
 use Rattle.depot_trial.specs.declared.adding.Change.TheVariants.{Add}
-use Rattle.depot_trial.proofs.Trials.{stripe-changed, stripe-added}
+use Rattle.depot_trial.specs.lemmas.Stripes.{stripe-changed, stripe-added}
 use Rattle.depot_trial.proofs.adding.add.Goals as goal
 
 pub finish-requires-clause-step : goal.finish-requires-clause-step

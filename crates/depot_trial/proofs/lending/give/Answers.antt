@@ -5,7 +5,7 @@ use Rattle.depot_rule.specs.History.{AreHands, behaviour, entries_of}
 use Rattle.depot.specs.Words.{view, layout_in, node_of, held_in}
 use Rattle.depot.specs.lemmas.Seats.{begun-with, begun-entries, finished-entries}
 use Rattle.depot_trial.specs.Lending.{Moves, taken_by, given_by, FewTokens, IsHand}
-use Rattle.depot_trial.proofs.Trials.{stripe-changed}
+use Rattle.depot_trial.specs.lemmas.Stripes.{stripe-changed}
 use Rattle.depot_trial.proofs.Lent.{hand-gave, hand-fits, number-in-tree, stripe-becomes}
 use Rattle.depot_trial.proofs.lending.give.Goals as goal
 

@@ -1,0 +1,14 @@
+-- What the task of a call that adds does.
+use Rattle.std.specs.Prelude.{◌≡◌, ℕ, Option, Some, None}
+use Rattle.nfs_model.specs.Tree.{Layout, Affinity}
+use Rattle.affinity_tree.specs.Numbers.{number_of, parents}
+use Rattle.parcel_sets.specs.declared.family.Parcel.{Parcel}
+use Rattle.depot_trial.specs.Adding.{Changes}
+use Rattle.depot_trial.specs.declared.adding.Change.TheVariants.{Add}
+use Rattle.desk_trial.specs.declared.adder.Adder.{Adder}
+
+module _ {P : Type 0} where
+  -- the node's number becomes the sum, or nothing changes
+  abbrev pub Adds : Adder → Layout → Affinity → (ℕ → Option (Parcel P ℕ ℕ ℕ ℕ ℕ ℕ ℕ)) → Option ℕ → (ℕ → Option (Parcel P ℕ ℕ ℕ ℕ ℕ ℕ ℕ)) → Type 0
+  Adds adder layout affinity f (Some sum) f' = Changes (parents layout) (number_of layout affinity) (Add adder.number) f sum f'
+  Adds adder layout affinity f None f' = (k : ℕ) → f' k ≡ f k

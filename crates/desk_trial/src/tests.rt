@@ -1,0 +1,62 @@
+//! Calls on nodes of each kind, and what other calls find in their midst.
+
+use crate::turns::{Turn, close, open, take_turn};
+use affinity_tree::Affinity;
+use parcel_sets::{Numbers, SerialHeld};
+use std::test::Fail;
+
+const STRIPE: Affinity = Affinity::Stripe {
+    volume: 0,
+    stripe: 2,
+};
+
+const OTHER_STRIPE: Affinity = Affinity::Stripe {
+    volume: 0,
+    stripe: 3,
+};
+
+const RANGE: Affinity = Affinity::Range {
+    volume: 0,
+    range: 0,
+};
+
+/// Where a call adds 5, what another asks for in its midst, the number of that one's refusal, and
+/// the sum.
+const ROWS: [(Affinity, Affinity, Option<u32>, Option<u64>); 8] = [
+    (STRIPE, Affinity::Volume(0), Some(21), Some(5)),
+    (STRIPE, OTHER_STRIPE, None, Some(10)),
+    (Affinity::VolumeLogical(0), RANGE, None, None),
+    (Affinity::VolumeVbn(0), STRIPE, None, None),
+    (RANGE, Affinity::VolumeVbn(0), Some(21), None),
+    (Affinity::Volume(0), STRIPE, Some(21), None),
+    (
+        Affinity::Aggregate(0),
+        Affinity::VolumeLogical(0),
+        Some(21),
+        None,
+    ),
+    (Affinity::Serial, RANGE, Some(21), None),
+];
+
+/// The number of volume 0's stripe 2.
+fn number_of(held: &SerialHeld<Numbers>) -> Option<u64> {
+    let aggregate = held.aggregates.at[0].as_ref()?;
+    let volume = aggregate.volumes.at[0].as_ref()?;
+    let stripe = volume.logical.stripes.at[2].as_ref()?;
+    Some(stripe.own)
+}
+
+#[test]
+fn turns(rt: HostRuntime) -> Result<(), Fail> {
+    let mut desk = open::<2>(rt.alloc(), 3).ok_or("no memory")?;
+    assert_eq!(rt; desk.worker_count(), 3);
+    for (affinity, asked, beside, sum) in ROWS {
+        let turn = take_turn(&mut desk, [2, 0], [affinity, asked], 5);
+        assert_eq!(rt; turn, Some(Turn { beside, sum }));
+        assert!(rt; !desk.is_taken(Affinity::Serial));
+    }
+    assert_eq!(rt; take_turn(&mut desk, [2, 3], [STRIPE, STRIPE], 1), None);
+    let held = close(desk).ok_or("a worker isn't idle")?;
+    assert_eq!(rt; number_of(&held), Some(10));
+    Ok(())
+}

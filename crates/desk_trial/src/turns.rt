@@ -1,0 +1,138 @@
+//! Calls on a desk of numbers, from begin to end.
+
+ghost use Rattle.std.specs.Prelude.{◌≡◌, ◌≢◌, ◌↔◌, ◌≤◌, ℕ, true, IfSome};
+ghost use Rattle.affinity_tree.specs.Affinity.{affinity_of};
+ghost use Rattle.affinity_tree.specs.Tree.{IsNode};
+ghost use Rattle.desk_laws.specs.Books.{IsIdle};
+ghost use Rattle.desk_laws.specs.Calls.{AreIdle, MayPutBack};
+ghost use Rattle.desk.specs.Words.{books, IsKept};
+
+use crate::adder::Adder;
+use affinity_tree::Affinity;
+use depot_trial::adding::{Adding, Change, all_of, volumes};
+use desk::{Desk, ParcelKinds};
+use parcel_sets::{Numbers, SerialHeld};
+use std::alloc::Global;
+
+/// A desk of numbers that calls add to.
+pub type Counters = Desk<Adding, ParcelKinds>;
+
+/// What came of a call that was asked for in the midst of another, the number of its refusal if it
+/// was refused, and of the other, the sum where it had one.
+#[derive(Clone, Copy, Debug, PartialEq, Eq)]
+pub struct Turn {
+    pub beside: Option<u32>,
+    pub sum: Option<u64>,
+}
+
+/// A desk with so many volumes in which each parcel is 0, and so many idle workers. Nothing where
+/// memory ran out.
+pub fn open<const N: usize>(alloc: Global, workers: usize) -> Option<Counters>
+    requires few { N ≤ 8 }
+    ensures { IfSome result (λ desk. IsKept desk) }
+{
+    let layout = volumes::<N>(alloc)?;
+    let Ok(parcels) = all_of(alloc, &layout, 0) else {
+        return None;
+    };
+    match Desk::new(alloc, layout, parcels, workers) {
+        Ok(desk) => Some(desk),
+        Err(_) => None,
+    }
+}
+
+/// Whether a worker is idle and the layout has an affinity.
+fn is_ready(desk: &Counters, worker: usize, affinity: Affinity) -> bool
+    ensures idle { result ≡ true → IsIdle (books desk.now) worker }
+    ensures node { result ≡ true → IsNode (books desk.now).layout (affinity_of affinity) }
+{
+    if !desk.is_idle(worker) {
+        return false;
+    }
+    desk.layout().contains(affinity)
+}
+
+/// A call that begins and is put back. The number of its refusal, if it was refused.
+fn ask(desk: &mut Counters, worker: usize, affinity: Affinity) -> Option<u32>
+    requires kept { IsKept desk.old }
+    requires node { IsNode (books desk.old).layout (affinity_of affinity) }
+    requires idle { IsIdle (books desk.old) worker }
+    ensures kept { IsKept desk.new }
+    ensures others { (other : ℕ) → other ≢ worker
+        → MayPutBack (books desk.old) other
+        → MayPutBack (books desk.new) other }
+{
+    match desk.begin(worker, affinity) {
+        Ok(()) => {
+            desk.put_back(worker);
+            None
+        }
+        Err(refusal) => Some(refusal.number()),
+    }
+}
+
+/// Adds to the number of a stripe that a worker was lent, and finishes its call. What is of another
+/// kind is put back.
+fn add(desk: &mut Counters, worker: usize, number: u64) -> Option<u64>
+    requires kept { IsKept desk.old }
+    requires fresh { MayPutBack (books desk.old) worker }
+    ensures kept { IsKept desk.new }
+{
+    match desk.work(worker, Adder { number }) {
+        Some(sum) => {
+            desk.finish(worker, &Change::Add(number), &sum);
+            Some(sum)
+        }
+        None => {
+            desk.put_back(worker);
+            None
+        }
+    }
+}
+
+/// A call that adds to a stripe's number, in whose midst another worker asks for an affinity.
+/// Nothing where a worker isn't idle, an affinity isn't there, or the call is refused.
+pub fn take_turn(
+    desk: &mut Counters,
+    workers: [usize; 2],
+    affinities: [Affinity; 2],
+    number: u64,
+) -> Option<Turn>
+    requires kept { IsKept desk.old }
+    ensures kept { IsKept desk.new }
+{
+    let [worker, other] = workers;
+    let [affinity, asked] = affinities;
+    if worker == other || !is_ready(desk, worker, affinity) || !is_ready(desk, other, asked) {
+        return None;
+    }
+    match desk.begin(worker, affinity) {
+        Ok(()) => {}
+        Err(_) => return None,
+    }
+    let beside = ask(desk, other, asked);
+    let sum = add(desk, worker, number);
+    Some(Turn { beside, sum })
+}
+
+/// Whether all workers are idle.
+fn are_idle(desk: &Counters) -> bool
+    ensures { result ≡ true → AreIdle (books desk.now) }
+{
+    for worker in 0..desk.worker_count() {
+        if !desk.is_idle(worker) {
+            return false;
+        }
+    }
+    true
+}
+
+/// Ends a desk whose workers are idle. All parcels come back.
+pub fn close(desk: Counters) -> Option<SerialHeld<Numbers>>
+    requires kept { IsKept desk }
+{
+    if !are_idle(&desk) {
+        return None;
+    }
+    Some(desk.close())
+}
