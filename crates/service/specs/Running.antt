@@ -4,8 +4,10 @@ use Rattle.nfs_model.specs.Types as types
 use Rattle.nfs_model.specs.Types.{Moment, Stale}
 use Rattle.nfs_model.specs.Tree.{Layout, Affinity}
 use Rattle.nfs_model.specs.Home.{named_by}
-use Rattle.nfs_model.specs.Locate.{Fails}
-use Rattle.nfs_model.specs.Server.{Named}
+use Rattle.nfs_model.specs.Locate.{Effect, Fails}
+use Rattle.nfs_model.specs.Serial.Getattr.{getattr}
+use Rattle.nfs_model.specs.Serial.Setattr.{setattr}
+use Rattle.nfs_model.specs.Server.{Named, VolumeState}
 use Rattle.nfs_model.specs.Work as works
 use Rattle.affinity_tree.specs.Affinity.{affinity_of}
 use Rattle.nfs_values.specs.Reply.{reply_of}
@@ -13,8 +15,7 @@ use Rattle.nfs_values.specs.Set.{set_of}
 use Rattle.nfs_values.specs.declared.call.Call.{Call}
 use Rattle.nfs_values.specs.declared.call.Call.TheVariants.{GetAttributes, SetAttributes}
 use Rattle.nfs_values.specs.declared.set.SetAttributes as sets
-use Rattle.held_state.specs.Calls.{VolumeCall}
-use Rattle.held_attributes.specs.Laws.{getattr_call, setattr_call}
+use Rattle.held_state.specs.Calls.{VolumeCall, handle_in}
 use Rattle.service.specs.Setattr.{only_mode}
 use Rattle.service.specs.declared.outcome.Outcome.{Outcome}
 use Rattle.service.specs.declared.outcome.Outcome.TheVariants.{Replied, Starved, Moved}
@@ -43,8 +44,17 @@ abbrev pub fileid_in : Option Named → ℕ
 fileid_in None = 0
 fileid_in (Some named) = named.fileid
 
+-- what the serial server does on the volume of the handle, for the calls that are run so far
+abbrev pub procedure : types.Call → Moment → VolumeState → ℕ → Effect
+procedure (types.Getattr handle) moment = getattr
+procedure (types.Setattr handle set guard) moment = setattr set guard moment
+procedure call moment = λ volume fileid. Fails Stale
+
 -- a call on a handle, as it is asked of a volume under a node
 abbrev pub call_on : Layout → Affinity → Moment → types.Call → VolumeCall
-call_on layout node moment (types.Getattr handle) = getattr_call handle node (fileid_in (named_by layout handle))
-call_on layout node moment (types.Setattr handle set guard) = setattr_call handle node (fileid_in (named_by layout handle)) set guard moment
-call_on layout node moment call = record { call = call; node = node; fileid = 0; run = λ volume. Fails Stale }
+call_on layout node moment call = record {
+  call = call;
+  node = node;
+  fileid = fileid_in (named_by layout (handle_in call));
+  run = λ volume. procedure call moment volume (fileid_in (named_by layout (handle_in call)));
+}

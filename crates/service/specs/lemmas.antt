@@ -1,2 +1,2 @@
--- Lemmas alone, which no reader has to believe: from a handler's promise to a step of the machine.
+-- Lemmas alone, which no reader has to believe: from the run of a call on a set to its parcels.
 pub mod Serving

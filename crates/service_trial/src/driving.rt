@@ -1,17 +1,18 @@
 //! A call on a depot, from begin to finish.
 
-ghost use Rattle.std.specs.Prelude.{IfSome};
+ghost use Rattle.std.specs.Prelude.{◌≡◌, IfSome};
 ghost use Rattle.depot.specs.Words.{view, IsSeatHere};
-ghost use Rattle.service_trial.specs.Driving.{HasMade};
+ghost use Rattle.service.specs.Running.{IsRun};
+ghost use Rattle.service_trial.specs.Driving.{finished_job, HasMade};
 
 use crate::asker::Asker;
-use affinity::named_by;
+use affinity::home_of;
 use affinity_tree::{Affinity, Layout};
 use depot::{Depot, Seat};
-use nfs_values::{Answer, Attributes, Call, FileHandle, Reply, Status, Verifier};
+use nfs_values::{Call, Reply, Verifier};
 use parcel_sets::{LogicalNode, SerialNode};
 use parcels::opening_parcels;
-use service::{Asked, Job, JobReply, ServedCall, Service, get_attributes};
+use service::{Asked, Job, JobReply, Outcome, ServedCall, Service, run_on_logical};
 use std::alloc::Global;
 
 /// A depot of a layout's parcels as a run begins, and its first seat. Nothing where memory ran
@@ -32,38 +33,60 @@ pub fn open(
     }
 }
 
-/// GETATTR of what a handle names (RFC 1813 section 3.3.1), as one entry of the depot's history.
-/// Nothing where the handle is bad, or the parcels that it needs weren't granted.
-pub fn serve_get_attributes(
+/// A call whose home is Volume Logical, as one entry of the depot's history. Nothing where it has
+/// no such home, where its parcels weren't granted, or where it has to move.
+pub fn serve(
     depot: &Depot<Service>,
     seat: &mut Seat<Service>,
     asker: Asker,
-    handle: FileHandle,
-) -> Option<Result<Attributes, Status>>
+    call: Call,
+) -> Option<JobReply>
     requires seat { IsSeatHere depot.now seat.old }
+    requires run { IsRun call }
     ensures seat { IsSeatHere depot.now seat.new }
-    ensures made { IfSome result (λ told.
-        HasMade asker handle told (view seat.old) (view seat.new)) }
+    ensures made { IfSome result (λ reply.
+        HasMade asker call reply (view seat.old) (view seat.new)) }
 {
-    let named = named_by(&handle, depot.layout())?;
-    let affinity = Affinity::VolumeLogical(named.volume.0);
+    let home = home_of(&call, depot.layout())?;
+    let Affinity::VolumeLogical(volume) = home else {
+        return None;
+    };
+    let affinity = Affinity::VolumeLogical(volume);
     let Ok(mut grant) = depot.begin::<LogicalNode>(seat, affinity) else {
         return None;
     };
-    let told = get_attributes(grant.held(), named.volume, named.fileid);
-    let job = Job::Serve(ServedCall {
+    match run_on_logical(depot.layout(), affinity, grant.held(), &call, asker.moment) {
+        Outcome::Replied(reply) => {
+            let job = finished(asker, call, affinity);
+            let reply = JobReply::Replied(reply);
+            depot.finish(seat, grant, &job, &reply);
+            Some(reply)
+        }
+        Outcome::Starved => {
+            depot.put_back(seat, grant);
+            None
+        }
+        Outcome::Moved(_) => {
+            depot.put_back(seat, grant);
+            None
+        }
+    }
+}
+
+/// A call under an affinity, as it is finished.
+fn finished(asker: Asker, call: Call, affinity: Affinity) -> Job
+    ensures { result ≡ finished_job asker call affinity }
+{
+    Job::Serve(ServedCall {
         connection: asker.connection,
         number: asker.number,
         xid: asker.xid,
         asked: Asked::Call {
-            call: Call::GetAttributes { handle },
+            call,
             credential: asker.credential,
         },
         affinity,
         moment: asker.moment,
         starved: false,
-    });
-    let reply = JobReply::Replied(Reply::Success(Answer::GetAttributes(told)));
-    depot.finish(seat, grant, &job, &reply);
-    Some(told)
+    })
 }

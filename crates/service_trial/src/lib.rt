@@ -7,4 +7,4 @@ mod driving;
 mod tests;
 
 pub use asker::Asker;
-pub use driving::{open, serve_get_attributes};
+pub use driving::{open, serve};

@@ -1,30 +1,42 @@
-//! GETATTR on a depot as a run begins.
+//! GETATTR and SETATTR on a depot of two volumes, of 8 and of 16 stripes.
+
+ghost use Rattle.depot.specs.Words.{IsSeatHere};
 
 use crate::asker::Asker;
-use crate::driving::{open, serve_get_attributes};
+use crate::driving::{open, serve};
 use affinity_tree::{AggregateSpec, Layout, VolumeSpec};
+use depot::{Depot, Seat};
 use nfs_values::{
-    Attributes, ConnectionNumber, Credential, FileHandle, FileKind, Fileid, Moment, Named, Status,
-    Verifier, VolumeNumber,
+    Answer, Attributes, Call, Change, ConnectionNumber, Credential, FileHandle, FileKind, Fileid,
+    Moment, Named, PriorAttributes, Reply, SetAttributes, SetTime, Status, Verifier, VolumeNumber,
 };
+use service::{JobReply, Service};
 use std::test::Fail;
 
-const ASKER: Asker = Asker {
-    connection: ConnectionNumber(0),
-    number: 0,
-    xid: 7,
-    credential: Credential::NOBODY,
-    moment: Moment {
-        seconds: 5,
+/// A moment of whole seconds.
+const fn at(seconds: u32) -> Moment {
+    Moment {
+        seconds,
         nanoseconds: 0,
-    },
-};
+    }
+}
 
-/// What is shown of the root of a volume as a run begins.
-fn root_of(volume: u32) -> Attributes {
+/// Who asks at a moment.
+fn asker(moment: Moment) -> Asker {
+    Asker {
+        connection: ConnectionNumber(0),
+        number: 0,
+        xid: 7,
+        credential: Credential::NOBODY,
+        moment,
+    }
+}
+
+/// What is shown of the root of a volume.
+fn root_of(volume: u32, mode: u32, ctime: Moment) -> Attributes {
     Attributes {
         kind: FileKind::Directory,
-        mode: 0o755,
+        mode,
         links: 2,
         uid: 0,
         gid: 0,
@@ -34,7 +46,7 @@ fn root_of(volume: u32) -> Attributes {
         fileid: Fileid(1),
         atime: Moment::START,
         mtime: Moment::START,
-        ctime: Moment::START,
+        ctime,
     }
 }
 
@@ -45,8 +57,53 @@ fn handle(volume: u32, fileid: u64) -> FileHandle {
     })
 }
 
+/// GETATTR.
+fn get(
+    depot: &Depot<Service>,
+    seat: &mut Seat<Service>,
+    asker: Asker,
+    handle: FileHandle,
+) -> Option<Result<Attributes, Status>>
+    requires { IsSeatHere depot.now seat.old }
+    ensures { IsSeatHere depot.now seat.new }
+{
+    let reply = serve(depot, seat, asker, Call::GetAttributes { handle })?;
+    match &reply {
+        JobReply::Replied(Reply::Success(Answer::GetAttributes(told))) => Some(*told),
+        _ => None,
+    }
+}
+
+/// SETATTR of the mode.
+fn set(
+    depot: &Depot<Service>,
+    seat: &mut Seat<Service>,
+    asker: Asker,
+    handle: FileHandle,
+    mode: u32,
+    guard: Option<Moment>,
+) -> Option<Result<Change, Status>>
+    requires { IsSeatHere depot.now seat.old }
+    ensures { IsSeatHere depot.now seat.new }
+{
+    let set = SetAttributes {
+        mode: Some(mode),
+        uid: None,
+        gid: None,
+        size: None,
+        atime: SetTime::Keep,
+        mtime: SetTime::Keep,
+    };
+    let call = Call::SetAttributes { handle, set, guard };
+    let reply = serve(depot, seat, asker, call)?;
+    match &reply {
+        JobReply::Replied(Reply::Success(Answer::SetAttributes(told))) => Some(*told),
+        _ => None,
+    }
+}
+
 #[test]
-fn attributes_of_roots(rt: HostRuntime) -> Result<(), Fail> {
+fn modes_of_roots(rt: HostRuntime) -> Result<(), Fail> {
     let sixteen = VolumeSpec {
         aggregate: 0,
         ranges: 2,
@@ -61,15 +118,44 @@ fn attributes_of_roots(rt: HostRuntime) -> Result<(), Fail> {
     .ok()
     .ok_or("no layout")?;
     let (depot, mut seat) = open(rt.alloc(), layout, Verifier([9; 8])).ok_or("no memory")?;
-    let rows = [
-        (0, 1, Some(Ok(root_of(0)))),
-        (1, 1, Some(Ok(root_of(1)))),
-        (1, 5, Some(Err(Status::Stale))),
-        (2, 1, None),
-    ];
-    for (volume, fileid, want) in rows {
-        let told = serve_get_attributes(&depot, &mut seat, ASKER, handle(volume, fileid));
-        assert_eq!(rt; told, want);
+    for volume in 0..2 {
+        let before = root_of(volume, 0o755, Moment::START);
+        let after = root_of(volume, 0o700, at(5));
+        let change = Change {
+            before: PriorAttributes {
+                size: 4_096,
+                mtime: Moment::START,
+                ctime: Moment::START,
+            },
+            after,
+        };
+        let told = get(&depot, &mut seat, asker(at(4)), handle(volume, 1));
+        assert_eq!(rt; told, Some(Ok(before)));
+        // A mode keeps its low 12 bits.
+        let told = set(
+            &depot,
+            &mut seat,
+            asker(at(5)),
+            handle(volume, 1),
+            0o70_700,
+            Some(Moment::START),
+        );
+        assert_eq!(rt; told, Some(Ok(change)));
+        let told = set(
+            &depot,
+            &mut seat,
+            asker(at(6)),
+            handle(volume, 1),
+            0,
+            Some(Moment::START),
+        );
+        assert_eq!(rt; told, Some(Err(Status::NotSynchronous)));
+        let told = get(&depot, &mut seat, asker(at(7)), handle(volume, 1));
+        assert_eq!(rt; told, Some(Ok(after)));
     }
+    let told = set(&depot, &mut seat, asker(at(8)), handle(1, 5), 0, None);
+    assert_eq!(rt; told, Some(Err(Status::Stale)));
+    let told = get(&depot, &mut seat, asker(at(9)), handle(2, 1));
+    assert_eq!(rt; told, None);
     Ok(())
 }

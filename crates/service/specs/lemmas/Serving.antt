@@ -1,71 +1,108 @@
--- What a handler promises of a call on a handle is a step of the filer.
-use Rattle.std.proofs.Common.{◌≡◌, ℕ, ◌<◌, Bool, true, false, List, [], length, Some, None, refl, ap, ◌∙◌}
-use Rattle.std.proofs.Common.{Result}
+-- A run of a call on the parcels of its home is right by parcels.
+use Rattle.std.proofs.Common.{◌≡◌, ℕ, ◌<◌, Bool, true, false, length, Option, Some, None, refl, sym, ap, ◌∙◌, subst}
 use Rattle.std.proofs.lemmas.Bool.{eq-eqb}
-use Rattle.std.specs.Prelude.{◌==◌, ◌&&◌}
-use Rattle.nfs_model.specs.Types.{Credential, Moment, Reply, Success}
-use Rattle.nfs_model.specs.Tree.{Layout, Logical, stripes_of, aggregate_of}
-use Rattle.nfs_model.specs.Server.{handle_of}
-use Rattle.nfs_model.specs.Home.{logical_home}
-use Rattle.nfs_model.specs.Locate.{located_in, located_by}
-use Rattle.nfs_model.specs.Serial.Getattr.{getattr}
-use Rattle.nfs_model.specs.Serial.Step.{on}
-use Rattle.nfs_values.specs.Answer.{answer_of}
-use Rattle.nfs_values.specs.declared.answer.Answer.TheVariants.{GetAttributes}
-use Rattle.nfs_values.specs.declared.attributes.Attributes.{Attributes}
-use Rattle.nfs_values.specs.declared.status.Status.{Status}
+use Rattle.std.specs.Prelude.{◌==◌, ◌&&◌, slice_get}
+use Rattle.nfs_model.specs.Types as types
+use Rattle.nfs_model.specs.Types.{Ask, Credential, Moment}
+use Rattle.nfs_model.specs.Tree.{Layout, Affinity, Logical, stripes_of, aggregate_of}
+use Rattle.nfs_model.specs.Server.{Named, Server, VolumeState, handle_of}
+use Rattle.nfs_model.specs.Home.{home, logical_home, named_by}
+use Rattle.nfs_model.specs.Locate.{Effect, located_in, located_by, locate}
+use Rattle.nfs_model.specs.Serial.Absent.{absent_parts}
+use Rattle.nfs_model.specs.Serial.Step.{on, serve}
+use Rattle.nfs_model.specs.Work.{Outcome, Replied, Starved, Moved}
+use Rattle.nfs_values.specs.Call.{call_of}
+use Rattle.nfs_values.specs.declared.call.Call.{Call}
+use Rattle.nfs_values.specs.declared.call.Call.TheVariants as calls
 use Rattle.affinity_tree.specs.Fault.{fault_of}
-use Rattle.affinity_tree.specs.Numbers.{number_of, parents}
-use Rattle.parcel_sets.specs.Sets.{logical_parcels}
-use Rattle.held_state.specs.Contents.{VolumeContents}
-use Rattle.held_state.specs.Lenses.{Lens, logical_lens, in_volume}
-use Rattle.held_state.specs.Promises.{RightOnVolume, IsRight}
-use Rattle.held_state.specs.Sets.{FilerLogical, logical_set}
-use Rattle.held_state.specs.Jobs.{Serve, Replied}
-use Rattle.held_state.specs.Deeds.{Does, FilerSteps}
-use Rattle.held_state.specs.Calls.{VolumeCall, IsCallOn, ServesOn, finished_as}
-use Rattle.held_laws.specs.lemmas.Steps.{volume-right}
-use Rattle.held_laws.specs.lemmas.Served.{serve-lift}
+use Rattle.affinity_tree.specs.Tree.{IsNode}
+use Rattle.parcel_sets.specs.Sets.{volume_of, logical_parcels}
+use Rattle.held_state.specs.Calls.{IsCallOn, handle_in}
+use Rattle.held_state.specs.Lenses.{logical_lens}
+use Rattle.held_state.specs.Running.{RunsOn, UnlessReplied, Runs}
+use Rattle.held_state.specs.Sets.{FilerLogical, logical_set, logical_before, logical_after}
 use Rattle.held_laws.specs.lemmas.Kinds.{logical-step}
-use Rattle.held_attributes.specs.Laws.{getattr_call}
-use Rattle.service.specs.Getattr.{TellsAttributes}
+use Rattle.held_laws.specs.lemmas.Running.{runs-by}
+use Rattle.held_laws.specs.lemmas.SeenSets.{logical-seen}
+use Rattle.service.specs.Running.{IsRun, call_on, fileid_in, procedure}
 
--- what is right on a call's volume is right for an entry under the call's node
-pub serve-right : {S : Type 0} (layout : Layout) (v : ℕ) (on : v < length layout.volumes) (lens : Lens VolumeContents S)
-    → ((s : S) (p : VolumeContents) → (lens.put s p).number ≡ p.number)
-    → (q : VolumeCall) (connection number xid : ℕ) (credential : Credential) (moment : Moment) (starved : Bool) → IsCallOn layout v q credential moment
-    → (old : S) (reply : Reply) (new : S) → RightOnVolume v lens (ServesOn q starved) [] [] old (Replied reply) new
-    → IsRight layout q.node (in_volume v lens) (Serve (finished_as q connection number xid credential moment starved)) old (Replied reply) new
-serve-right layout v on lens numbered q connection number xid credential moment starved is old reply new right =
-    volume-right layout v on lens (Does layout q.node (Serve (finished_as q connection number xid credential moment starved))) (ServesOn q starved) [] []
-    old (Replied reply) new numbered (λ u ne n. refl) (λ u ne n. refl)
-    (λ c p after laid there here same does. serve-lift layout v q connection number xid credential moment is c laid p there here starved (Replied reply) after does) right
+-- ---- a call that is run is a call on its volume
 
--- ---- GETATTR
+-- what a handle names, where Logical of its volume is this
+named-there : (named : Option Named) (v : ℕ) → logical_home named ≡ Some (Logical v) → (fileid : ℕ) × (named ≡ Some (record { volume = v; fileid = fileid }))
+named-there None v e = absurd cc
+named-there (Some n) v e = let same : n.volume ≡ v = cc in (n.fileid, λ j. Some (record { volume = same j; fileid = n.fileid }))
 
-module _ (layout : Layout) (v fileid : ℕ) (handle : List ℕ) (named : handle_of (length layout.volumes) handle ≡ Some (record { volume = v; fileid = fileid })) where
-  pub getattr-is-call : (credential : Credential) (moment : Moment) → IsCallOn layout v (getattr_call handle (Logical v) fileid) credential moment
-  getattr-is-call credential moment = record {
-    good = named;
-    under = refl;
-    tried = (Logical v, ap logical_home named, own (aggregate_of layout v));
-    served = λ server volume count there.
-        ap (λ o. on server 0 o getattr)
-        (ap (λ (n : ℕ). located_by server.volumes (handle_of n handle)) count ∙ ap (located_by server.volumes) named
-        ∙ ap (located_in (record { volume = v; fileid = fileid })) there);
-  }
-    where
-      own : (a : ℕ) → ((a == a) && ((v == v) && true)) ≡ true
-      own a = ap (λ (b : Bool). b && ((v == v) && true)) (eq-eqb a a refl) ∙ ap (λ (b : Bool). b && true) (eq-eqb v v refl)
+-- a call on one handle, whose home is Logical
+on-handle : (layout : Layout) (v : ℕ) (call : types.Call) (credential : Credential) (moment : Moment)
+    → logical_home (named_by layout (handle_in call)) ≡ Some (Logical v) → home layout call ≡ Some (Logical v)
+    → ((server : Server) → serve server call credential moment ≡ on server (absent_parts call) (locate server (handle_in call)) (procedure call moment))
+    → IsCallOn layout v (call_on layout (Logical v) moment call) credential moment
+on-handle layout v call credential moment at is serves =
+    let named = named-there (named_by layout (handle_in call)) v at in
+    subst (λ (o : Option Named). IsCallOn layout v (record {
+      call = call;
+      node = Logical v;
+      fileid = fileid_in o;
+      run = λ volume. procedure call moment volume (fileid_in o);
+    }) credential moment) (sym named.1) (record {
+      good = named.1;
+      under = refl;
+      tried = (Logical v, is, own (aggregate_of layout v));
+      served = λ server volume count there.
+          serves server
+          ∙ ap (λ o. on server (absent_parts call) o (procedure call moment))
+          (ap (λ (n : ℕ). located_by server.volumes (handle_of n (handle_in call))) count ∙ ap (located_by server.volumes) named.1
+          ∙ ap (located_in (record { volume = v; fileid = named.0 })) there);
+    })
+  where
+    own : (a : ℕ) → ((a == a) && ((v == v) && true)) ≡ true
+    own a = ap (λ (b : Bool). b && ((v == v) && true)) (eq-eqb a a refl) ∙ ap (λ (b : Bool). b && true) (eq-eqb v v refl)
 
-  -- GETATTR that tells attributes rightly is a step
-  pub getattr-step : {P : Type 0} → fault_of layout ≡ None → v < length layout.volumes → (connection number xid : ℕ) (credential : Credential) (moment : Moment)
-      → (old new : FilerLogical P) (told : Result Attributes Status)
-      → TellsAttributes v fileid (logical_set (stripes_of layout v) old) told (logical_set (stripes_of layout v) new)
-      → FilerSteps (parents layout) (number_of layout (Logical v)) (Serve (finished_as (getattr_call handle (Logical v) fileid) connection number xid credential moment false))
-      (logical_parcels layout (Logical v) old) (Replied (Success (answer_of (GetAttributes told)))) (logical_parcels layout (Logical v) new)
-  getattr-step lawful on_v connection number xid credential moment old new told right =
-      logical-step layout lawful (Serve (finished_as (getattr_call handle (Logical v) fileid) connection number xid credential moment false))
-      (Replied (Success (answer_of (GetAttributes told)))) v on_v old new
-      (serve-right layout v on_v logical_lens (λ s p. refl) (getattr_call handle (Logical v) fileid) connection number xid credential moment false (getattr-is-call credential moment)
-      (logical_set (stripes_of layout v) old) (Success (answer_of (GetAttributes told))) (logical_set (stripes_of layout v) new) (right handle))
+pub run-is-call : (layout : Layout) (v : ℕ) (call : Call) (credential : Credential) (moment : Moment) → IsRun call
+    → home layout (call_of call) ≡ Some (Logical v) → IsCallOn layout v (call_on layout (Logical v) moment (call_of call)) credential moment
+run-is-call layout v (calls.GetAttributes handle) credential moment run is =
+    on-handle layout v (types.Getattr handle) credential moment is is (λ server. refl)
+run-is-call layout v (calls.SetAttributes handle set guard) credential moment run is =
+    on-handle layout v (call_of (calls.SetAttributes handle set guard)) credential moment is is (λ server. refl)
+run-is-call layout v call credential moment run is = absurd run
+
+-- ---- its home
+
+logical-there : (named : Option Named) (a : Affinity) → logical_home named ≡ Some a → a ≡ Logical (volume_of a)
+logical-there None a e = absurd cc
+logical-there (Some n) a e = let at : Logical n.volume ≡ a = cc in sym at ∙ ap (λ (b : Affinity). Logical (volume_of b)) at
+
+pub run-home : (layout : Layout) (a : Affinity) (call : Call) → IsRun call → home layout (call_of call) ≡ Some a → a ≡ Logical (volume_of a)
+run-home layout a (calls.GetAttributes handle) run is = logical-there (named_by layout handle) a is
+run-home layout a (calls.SetAttributes handle set guard) run is = logical-there (named_by layout handle) a is
+run-home layout a call run is = absurd run
+
+-- ---- the run
+
+unless-mapped : (outcome : Outcome) (A B : Type 0) → (A → B) → UnlessReplied outcome A → UnlessReplied outcome B
+unless-mapped (Replied reply) A B f a = tt
+unless-mapped Starved A B f a = f a
+unless-mapped (Moved other) A B f a = f a
+
+module _ {P : Type 0} (layout : Layout) (lawful : fault_of layout ≡ None) (call : Call) (run : IsRun call) (credential : Credential) (moment : Moment)
+    (old new : FilerLogical P) (outcome : Outcome) (same : UnlessReplied outcome (new ≡ old)) where
+  abbrev RunsAt : Affinity → Type 0
+  RunsAt a = IsNode layout a → home layout (call_of call) ≡ Some a → old.own.stripes ≡ stripes_of layout (volume_of a)
+      → RunsOn (volume_of a) logical_lens (call_on layout a moment (call_of call)) (logical_before old) outcome (logical_after old new)
+      → Runs layout a (Ask (call_of call) credential) moment (logical_parcels layout a old) outcome (logical_parcels layout a new)
+
+  runs-here : (v : ℕ) → RunsAt (Logical v)
+  runs-here v on is own right =
+      runs-by layout v on logical_lens (λ s p. refl) (call_on layout (Logical v) moment (call_of call)) credential moment
+      (run-is-call layout v call credential moment run is)
+      (logical_parcels layout (Logical v) old) (logical_parcels layout (Logical v) new)
+      (logical_set (stripes_of layout v) old) (logical_set (stripes_of layout v) new) (logical-seen layout lawful v on old)
+      (λ job reply step. logical-step layout lawful job reply v on old new step) outcome
+      (subst (λ (n : ℕ). RunsOn v logical_lens (call_on layout (Logical v) moment (call_of call)) (logical_set n old) outcome (logical_set n new)) own right)
+      (unless-mapped outcome (new ≡ old) ((k : ℕ) → logical_parcels layout (Logical v) new k ≡ logical_parcels layout (Logical v) old k)
+      (λ e k. ap (λ (h : FilerLogical P). logical_parcels layout (Logical v) h k) e) same)
+
+  -- a call that was run on the set of its home, by the set's parcels
+  pub logical-runs : (a : Affinity) → RunsAt a
+  logical-runs a on is = subst RunsAt (sym (run-home layout a call run is)) (runs-here (volume_of a)) on is

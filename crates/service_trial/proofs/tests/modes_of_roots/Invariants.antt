@@ -1,5 +1,5 @@
 use Rattle.depot.specs.Words.{IsSeatHere}
-use Rattle.service_trial.proofs.tests.attributes_of_roots.Given as goal
+use Rattle.service_trial.proofs.tests.modes_of_roots.Given as goal
 
 -- the seat stays the depot's
 abbrev pub invariant-loop-volume : goal.invariant-loop-volume
