@@ -1,2 +1,0 @@
-//! Temporary.
-#![tactic(auto)]
