@@ -1,0 +1,3 @@
+-- Lemmas alone, which no reader has to believe.
+pub mod Homes
+pub mod Serves
