@@ -78,7 +78,8 @@ part-more setup codec_is o w c bytes taken f a =
     let whole : bytes ≡ take taken bytes = sym (take_all taken bytes (omega (arith, a.0))) in
     takes-quiet setup codec_is w c (take taken bytes) (connection_of o) f.there f.sound (subst (IsQuiet o.stream.items) whole a.1)
 
-pub part-heard : (setup : Setup) (codec_is : setup.codec ≡ codec) (o : ConnectionState) (w : World) (c : ℕ) (bytes : List ℕ) (taken : ℕ) (told : worlds.Heard) (starved : Bool)
+pub part-heard : (setup : Setup) (codec_is : setup.codec ≡ codec) (o : ConnectionState) (w : World) (c : ℕ) (bytes : List ℕ) (taken : ℕ) (told : worlds.Heard)
+    (starved : Bool)
     → MayStarveIf starved told.asked → (number : ℕ) → IsFed w c o → is_crowded w ≡ false → number ≡ o.records
     → Completes o.stream.items (take taken bytes) (record { served = (scan_stream o.stream.items).served ++ told ∷ []; fault = None })
     → TakesAll setup c w (take taken bytes) (heard_in setup (bytes_taken w c (take taken bytes)) c number told starved)
@@ -87,7 +88,8 @@ part-heard setup codec_is o w c bytes taken told starved may number f room e k =
     subst (λ (n : ℕ). TakesAll setup c w (take taken bytes) (heard_in setup (bytes_taken w c (take taken bytes)) c n told starved)) number_is
     (takes-heard setup codec_is w c (take taken bytes) (connection_of o) told starved may f.there f.sound room k)
 
-pub part-fault : (setup : Setup) (codec_is : setup.codec ≡ codec) (o : ConnectionState) (w : World) (c : ℕ) (bytes : List ℕ) (taken : ℕ) (fault : StreamFault) → IsFed w c o
+pub part-fault : (setup : Setup) (codec_is : setup.codec ≡ codec) (o : ConnectionState) (w : World) (c : ℕ) (bytes : List ℕ) (taken : ℕ)
+    (fault : StreamFault) → IsFed w c o
     → (is_crowded w && is_complete (AtFault (fault_number fault))) ≡ false
     → taken ≤ length bytes → Completes o.stream.items (take taken bytes)
     (record { served = (scan_stream o.stream.items).served; fault = Some (fault_number fault) })

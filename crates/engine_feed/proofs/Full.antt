@@ -47,7 +47,8 @@ rest-is bytes front last free e =
 both : (b d : Bool) → b ≡ true → d ≡ true → (b && d) ≡ true
 both b d e f = rw (e, f) refl
 
-full_at : (setup : Setup) (codec_is : setup.codec ≡ codec) (o : ConnectionState) (w : World) (c : ℕ) (bytes : List ℕ) (free : ℕ) (made : List ℕ) → IsFed w c o → is_crowded w ≡ true
+full_at : (setup : Setup) (codec_is : setup.codec ≡ codec) (o : ConnectionState) (w : World) (c : ℕ) (bytes : List ℕ) (free : ℕ) (made : List ℕ)
+    → IsFed w c o → is_crowded w ≡ true
     → free < length bytes
     → Completes o.stream.items (take (suc free) bytes) (scanned_with o.stream.items made)
     → Walks setup (feeding c bytes free 31) w (bytes_taken w c (take free bytes))
@@ -76,7 +77,8 @@ full_at setup codec_is o w c bytes free made f crowd h k =
     (subst (λ (n : ℕ). Walks setup (feeding c bytes n 31) w middle) size
     (subst (λ (bs : List ℕ). Walks setup (feeding c bs (length k.front + 0) 31) w middle) (rest-is bytes k.front k.last free k.split) fed))
 
-pub full-stop : (setup : Setup) (codec_is : setup.codec ≡ codec) (o : ConnectionState) (w : World) (c : ℕ) (bytes : List ℕ) (free : ℕ) (at : Option State) → IsFed w c o
+pub full-stop : (setup : Setup) (codec_is : setup.codec ≡ codec) (o : ConnectionState) (w : World) (c : ℕ) (bytes : List ℕ) (free : ℕ) (at : Option State)
+    → IsFed w c o
     → at ≡ o.reassembler → is_crowded w ≡ true → free < length bytes
     → (made : List ℕ) × (outcome at bytes ≡ Made (free + 1) made) → Walks setup (feeding c bytes free 31) w (bytes_taken w c (take free bytes))
 full-stop setup codec_is o w c bytes free at f a crowd h next =
@@ -94,7 +96,8 @@ false_after : (b d : Bool) → d ≡ false → (b && d) ≡ false
 false_after true d e = e
 false_after false d e = refl
 
-first_at : (setup : Setup) (codec_is : setup.codec ≡ codec) (o : ConnectionState) (w : World) (c b : ℕ) (bytes : List ℕ) (state : State) (next : Next) → IsFed w c o
+first_at : (setup : Setup) (codec_is : setup.codec ≡ codec) (o : ConnectionState) (w : World) (c b : ℕ) (bytes : List ℕ) (state : State) (next : Next)
+    → IsFed w c o
     → IsAt o.stream.items state → after state b ≡ next
     → HasNoRecord (go 1 next (λ t. scan 1 t bytes)) → is_complete (reached setup w c b) ≡ false
 first_at setup codec_is o w c b bytes state (Goes next) f i a n =
@@ -104,7 +107,8 @@ first_at setup codec_is o w c b bytes state (Ends made) f i a n = absurd n
 first_at setup codec_is o w c b bytes state Faults f i a n =
     ap is_complete (reached-is setup codec_is w c b (connection_of o) _ f.there (scan-faults o.stream.items state b i a).0)
 
-pub full-nothing : (setup : Setup) (codec_is : setup.codec ≡ codec) (o : ConnectionState) (w : World) (c : ℕ) (bytes : List ℕ) (free : ℕ) (at : Option State) → IsFed w c o
+pub full-nothing : (setup : Setup) (codec_is : setup.codec ≡ codec) (o : ConnectionState) (w : World) (c : ℕ) (bytes : List ℕ) (free : ℕ) (at : Option State)
+    → IsFed w c o
     → at ≡ o.reassembler → 0 < length bytes → (free ≡ 0 → ⊥)
     → HasNoRecord (outcome at (take free bytes)) → Walks setup (feeding c bytes 0 90) w w
 full-nothing setup codec_is o w c [] free at f a h z n = absurd (omega arith)
@@ -117,7 +121,8 @@ full-nothing setup codec_is o w c (b ∷ bytes) (suc free) at f a h z n =
 
 -- ---- a fault among the free bytes
 
-pub full-fault : (setup : Setup) (codec_is : setup.codec ≡ codec) (o : ConnectionState) (w new : World) (c : ℕ) (bytes : List ℕ) (free taken : ℕ) (fault : StreamFault) → IsFed w c o
+pub full-fault : (setup : Setup) (codec_is : setup.codec ≡ codec) (o : ConnectionState) (w new : World) (c : ℕ) (bytes : List ℕ) (free taken : ℕ)
+    (fault : StreamFault) → IsFed w c o
     → fault ≡ RecordTooLong → free ≤ length bytes → taken ≤ free
     → new ≡ bytes_taken w c (take taken (take free bytes))
     → Completes o.stream.items (take taken (take free bytes)) (record { served = (scan_stream o.stream.items).served; fault = Some (fault_number fault) })

@@ -51,7 +51,8 @@ module _ (calls calls' calls'' : CallsState) (c c' c'' : ConnectionState) (n : �
   later s setup w k p =
       (record { codec = k.codec; layout = k.layout ∙ sym s.adds.layout }, part-put calls calls' n c c' w p s.adds.running s.adds.layout)
 
-  pub goes-on : StaysSound calls c n calls' c' → HasTaken calls c n (take taken bytes) calls' c' → FeedsSome calls' c' n (drop taken bytes) count None calls'' c''
+  pub goes-on : StaysSound calls c n calls' c' → HasTaken calls c n (take taken bytes) calls' c'
+      → FeedsSome calls' c' n (drop taken bytes) count None calls'' c''
       → HasTaken calls c n (take (taken + count) bytes) calls'' c''
   goes-on s h f setup w k p =
       let m : World = with_part calls' n c' w in
@@ -81,7 +82,8 @@ all_taken setup c w new bytes taken e p =
     let walks : Walks setup (feeding c (bytes ++ []) (length bytes + 0) 0) w new = Walks-after setup c w new new bytes [] 0 0
     (subst (λ (bs : List ℕ). TakesAll setup c w bs new) whole p) (refl, refl, refl) in
     let size : length bytes + 0 ≡ taken = omega (arith, e) in
-    subst (λ (n : ℕ). Walks setup (feeding c bytes n 0) w new) size (subst (λ (bs : List ℕ). Walks setup (feeding c bs (length bytes + 0) 0) w new) (append-nil bytes) walks)
+    subst (λ (n : ℕ). Walks setup (feeding c bytes n 0) w new) size
+    (subst (λ (bs : List ℕ). Walks setup (feeding c bs (length bytes + 0) 0) w new) (append-nil bytes) walks)
 
 pub all-taken : (setup : Setup) (w : World) (calls calls' : CallsState) (c c' : ConnectionState) (n : ℕ) (bytes : List ℕ) (taken : ℕ)
     → taken ≡ length bytes → HasTaken calls c n (take taken bytes) calls' c' → IsSetup setup calls → IsPartOf calls n c w

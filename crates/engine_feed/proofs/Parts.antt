@@ -86,7 +86,8 @@ still-part calls calls' n c c' w r s p =
 pub open-taken : (c c' : ConnectionState) (bytes : List ℕ) → c'.stream.items ≡ c.stream.items ++ bytes → c'.output ≡ c.output
     → connection_of c' ≡ with_bytes bytes (connection_of c)
 open-taken c c' bytes e f =
-    ap (λ (s : List ℕ). record (connection_of c') { stream = s }) e ∙ ap (λ out. record (connection_of c) { stream = c.stream.items ++ bytes; output = out.items }) f
+    ap (λ (s : List ℕ). record (connection_of c') { stream = s }) e
+    ∙ ap (λ out. record (connection_of c) { stream = c.stream.items ++ bytes; output = out.items }) f
 
 pub part-taken : (calls : CallsState) (n : ℕ) (c c' : ConnectionState) (w : World) (bytes : List ℕ) → IsPartOf calls n c w
     → connection_of c' ≡ with_bytes bytes (connection_of c) → with_part calls n c' w ≡ bytes_taken w n bytes

@@ -91,7 +91,8 @@ none-made setup calls n c w bytes i some room =
 
 -- ---- where the places are full
 
-pub none-free : (setup : Setup) (calls : CallsState) (n : ℕ) (c : ConnectionState) (w : World) (bytes : List ℕ) (free : ℕ) → IsTaking setup calls n c w → pending calls ≡ 1024 → 0 < length bytes → IsFree c.reassembler bytes free → free ≡ 0
+pub none-free : (setup : Setup) (calls : CallsState) (n : ℕ) (c : ConnectionState) (w : World) (bytes : List ℕ) (free : ℕ) → IsTaking setup calls n c w
+    → pending calls ≡ 1024 → 0 < length bytes → IsFree c.reassembler bytes free → free ≡ 0
     → Walks setup (feeding n bytes 0 31) w (with_part calls n c w)
 none-free setup calls n c w bytes free i full some f z =
     let less : free < length bytes = omega (arith, some, z) in

@@ -1,4 +1,5 @@
--- What holds of connections and of calls on their way, beside what is seen of them: what was read is in step with the streams, and what is to come has its room.
+-- What holds of connections and of calls on their way, beside what is seen of them: what was read is in step
+-- with the streams, and what is to come has its room.
 use Rattle.std.specs.Prelude.{◌≡◌, ℕ, ◌+◌, ◌≤◌, ◌<◌, ◌⊎◌, List, [], ◌∷◌, ◌++◌, length, take, Option, Some, None, option_map, IsTrue, vec_len, vec_capacity}
 use Rattle.std.specs.List.{AllByRecursion}
 use Rattle.nfs_model.specs.Types as types

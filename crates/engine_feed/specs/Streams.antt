@@ -25,7 +25,8 @@ abbrev pub IsFaultOf : List ℕ → Option ℕ → Type 0
 IsFaultOf rest None = HasNoFault rest
 IsFaultOf rest (Some number) = (number ≡ 11) × HasFault rest
 
--- By record marking (RFC 5531 section 11): the stream is spellings of records and a rest. Served are the records in order, up to the first that is neither a call nor refused.
+-- By record marking (RFC 5531 section 11): the stream is spellings of records and a rest. Served are the records
+-- in order, up to the first that is neither a call nor refused.
 pub record IsServed (stream : List ℕ) (scanned : Scanned) : Type 0 where
   pub records : List (List ℕ)
   pub rest : List ℕ

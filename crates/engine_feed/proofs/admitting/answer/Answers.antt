@@ -8,5 +8,6 @@ pub returns-clause-finishes : goal.returns-clause-finishes
 returns-clause-finishes c =
     let to = c.args.connection.now in
     let calls = c.args.calls.now in
-    finishes calls c.keep_entry.new.calls to c.write_reply.new.to _ (reply_of c.args.reply.now) (written-is to c.write_reply.new.to _ c.write_reply.ensures.written)
+    finishes calls c.keep_entry.new.calls to c.write_reply.new.to _ (reply_of c.args.reply.now)
+    (written-is to c.write_reply.new.to _ c.write_reply.ensures.written)
     (ap waiting_of c.keep_entry.ensures.keeps.same) c.keep_entry.ensures.kept

@@ -64,8 +64,8 @@ pub returns-in-Heard-clause-takes : goal.returns-in-Heard-clause-takes
 returns-in-Heard-clause-takes c =
     let from = c.args.from.now in
     let taken = c.feed-taken.result.0 in
-    let t = took_as from c.args.bytes.now taken c.feed-taken.result.1 (steps.Record c.in-Record.record) c.feed-taken.new.self c.requires.in_step c.requires.taking.faultless
-    c.in-Record.is c.feed-taken.ensures.feeds in
+    let t = took_as from c.args.bytes.now taken c.feed-taken.result.1 (steps.Record c.in-Record.record) c.feed-taken.new.self c.requires.in_step
+    c.requires.taking.faultless c.in-Record.is c.feed-taken.ensures.feeds in
     let r = subst (λ (x : RecordRead). IsReadAs x (heard c.deref.result.now)) c.in-Heard.is c.read_record.ensures in
     let k = read_as _ _ _ _ (Ok (heard_of c.in-Heard.heard)) c.deref.ensures.value r t.1.1 in
     let size = length_taken taken c.args.bytes.now t.0.within in
@@ -88,8 +88,8 @@ pub returns-in-Undecoded-clause-takes : goal.returns-in-Undecoded-clause-takes
 returns-in-Undecoded-clause-takes c =
     let from = c.args.from.now in
     let taken = c.feed-taken.result.0 in
-    let t = took_as from c.args.bytes.now taken c.feed-taken.result.1 (steps.Record c.in-Record.record) c.feed-taken.new.self c.requires.in_step c.requires.taking.faultless
-    c.in-Record.is c.feed-taken.ensures.feeds in
+    let t = took_as from c.args.bytes.now taken c.feed-taken.result.1 (steps.Record c.in-Record.record) c.feed-taken.new.self c.requires.in_step
+    c.requires.taking.faultless c.in-Record.is c.feed-taken.ensures.feeds in
     let r = subst (λ (x : RecordRead). IsReadAs x (heard c.deref.result.now)) c.in-Undecoded.is c.read_record.ensures in
     let k = read_as _ _ _ _ (Ok (record { xid = c.in-Undecoded.xid; asked = r.0 })) c.deref.ensures.value r.2 t.1.1 in
     let size = length_taken taken c.args.bytes.now t.0.within in
@@ -112,8 +112,8 @@ pub returns-clause-takes : goal.returns-clause-takes
 returns-clause-takes c =
     let from = c.args.from.now in
     let taken = c.feed-taken.result.0 in
-    let t = took_as from c.args.bytes.now taken c.feed-taken.result.1 (steps.Record c.in-Record.record) c.feed-taken.new.self c.requires.in_step c.requires.taking.faultless
-    c.in-Record.is c.feed-taken.ensures.feeds in
+    let t = took_as from c.args.bytes.now taken c.feed-taken.result.1 (steps.Record c.in-Record.record) c.feed-taken.new.self c.requires.in_step
+    c.requires.taking.faultless c.in-Record.is c.feed-taken.ensures.feeds in
     let r = subst (λ (x : RecordRead). IsReadAs x (heard c.deref.result.now)) c.in-Fault-read_record.is c.read_record.ensures in
     let k = ended-as _ _ (fault_number c.in-Fault-read_record.fault)
     (read_as _ _ _ _ (Err (fault_number c.in-Fault-read_record.fault)) c.deref.ensures.value r t.1.1) in
