@@ -7,3 +7,4 @@ pub mod Working
 pub mod Finishing
 pub mod Opening
 pub mod Happening
+pub mod Feeding
