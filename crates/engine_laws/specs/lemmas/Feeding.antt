@@ -111,7 +111,7 @@ module _ (stays : WithoutHomeStays) (setup : Setup) where
   hears-alike (h ∷ hs) c w n new counted hears =
       let one = heard-alike w c n h hears.1.0 counted in
       let next : World = heard_in setup w c n h hears.1.0 in
-      alike-then setup w next new one (hears-alike hs c next (n + 1) new (still-counted w next one counted) hears.3)
+      alike-then setup w next new one (hears-alike hs c next (n + 1) new (still-counted w next one counted) hears.1.2)
 
   -- ---- messages that wait try their homes
 
