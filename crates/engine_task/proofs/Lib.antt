@@ -1,0 +1,2 @@
+mod Homes
+mod Logical

@@ -1,3 +1,2 @@
 -- Lemmas alone, which no reader has to believe.
-pub mod Homes
 pub mod Serves

@@ -1,5 +1,5 @@
 -- Where calls are served.
-use Rattle.std.proofs.Common.{◌≡◌, ℕ, Option, Some, None, refl, sym, ap, ◌∙◌}
+use Rattle.std.proofs.Common.{◌≡◌, ℕ, Option, Some, None, sym, ap, ◌∙◌}
 use Rattle.nfs_model.specs.Types as types
 use Rattle.nfs_model.specs.Tree.{Layout, Affinity, Logical}
 use Rattle.nfs_model.specs.Server.{Named}
@@ -7,30 +7,9 @@ use Rattle.nfs_model.specs.Home.{named_by, logical_home}
 use Rattle.affinity_tree.specs.declared.affinity.Kind.{Kind}
 use Rattle.affinity_tree.specs.declared.affinity.Kind.TheVariants as kinds
 use Rattle.affinity_tree.specs.Affinity.{kind_of}
-use Rattle.nfs_values.specs.Call.{call_of}
-use Rattle.nfs_values.specs.declared.call.Call.{Call}
-use Rattle.nfs_values.specs.declared.call.Call.TheVariants.{Null, GetAttributes, SetAttributes, Lookup, Read, Write, Create, MakeDirectory, Remove, RemoveDirectory, ReadDirectory, FilesystemStatus, Commit, Census, Grow}
-use Rattle.service.specs.Running.{IsRun}
-use Rattle.engine_task.specs.Served.{IsServed, IsServedAt}
+use Rattle.engine_task.specs.Served.{IsServedAt}
 
--- the service runs what is served
-pub is-run : (call : Call) → IsServed (call_of call) → IsRun call
-is-run (GetAttributes handle) served = served
-is-run (SetAttributes handle set guard) served = served
-is-run Null served = served
-is-run (Lookup target) served = served
-is-run (Read handle offset count) served = served
-is-run (Write handle offset count bytes) served = served
-is-run (Create target mode) served = served
-is-run (MakeDirectory target set) served = served
-is-run (Remove target) served = served
-is-run (RemoveDirectory target) served = served
-is-run (ReadDirectory directory cookie verifier count) served = served
-is-run (FilesystemStatus handle) served = served
-is-run (Commit handle) served = served
-is-run Census served = served
-is-run (Grow volume ranges) served = served
-
+-- Logical of the volume that is named
 named-logical : (named : Option Named) (node : Affinity) → logical_home named ≡ Some node → (v : ℕ) × (node ≡ Logical v)
 named-logical None node home = absurd cc
 named-logical (Some n) node home =
