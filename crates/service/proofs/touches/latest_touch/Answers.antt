@@ -7,7 +7,7 @@ use Rattle.service.proofs.touches.latest_touch.Goals as goal
 pub loop-left-preserved : goal.loop-left-preserved
 loop-left-preserved c = (
   (let below = c.loop-left.invariant.0 in omega arith),
-  touch-place c.args.held.now c.args.fileid.0 c.loop-left.left (option_map moment_of c.loop-left.touch) _ _ c.index-held-left.result c.loop-left-test.true c.loop-left.invariant.0
+  touch-place c.args.held.now c.args.fileid.0 c.loop-left.left (option_map moment_of c.loop-left.touch) _ _ _ c.loop-left-test.true c.loop-left.invariant.0
       c.loop-left.invariant.1 (search rules) c.requires.few c.touch_in.ensures c.later-touch.ensures,
 )
 

@@ -9,7 +9,7 @@ loop-left-preserved c = (
   (let below = c.loop-left.invariant.0 in omega arith),
   c.loop-left.invariant.1,
   place-taken c.args.fileid.0 c.args.held.now.own.stripes c.args.held.now.stripes.at c.loop-left.left (option_map moment_of c.loop-left.touch) _
-      (option_map moment_of c.later-touch.result) c.loop-left.held.stripes.at c.index-held-left.result _ _
+      (option_map moment_of c.later-touch.result) c.loop-left.held.stripes.at _ _ _
       c.loop-left-test.true c.loop-left.invariant.0
       (let few = c.requires.few in let long : length c.loop-left.held.stripes.at ≡ 16 = search rules in omega arith) refl
       c.take_touch.ensures.touch c.take_touch.ensures.taken c.take_touch.ensures.alike c.later-touch.ensures c.loop-left.invariant.2,
