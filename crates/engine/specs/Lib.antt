@@ -1,5 +1,6 @@
 pub mod Numbers
 pub mod Seen
 pub mod Sound
+pub mod Ending
 pub mod Engine
 pub mod Words

@@ -1,5 +1,6 @@
 -- The engine's fields as a world, and its events and answers as the world's.
 use Rattle.std.specs.Prelude.{ℕ, List, map, length, Option, Some, None, Result, Ok, Err}
+use Rattle.nfs_model.specs.Tree.{Layout}
 use Rattle.nfs_model.specs.Parts.{Empty}
 use Rattle.nfs_model.specs.Work as tasks
 use Rattle.nfs_model.specs.World as worlds
@@ -14,6 +15,7 @@ use Rattle.held_state.specs.Tree.{server_of}
 use Rattle.held_state.specs.Partition.{all_parts}
 use Rattle.service.specs.declared.outcome.Outcome.{Outcome}
 use Rattle.service.specs.declared.outcome.Outcome.TheVariants as outcomes
+use Rattle.service.specs.Running.{outcome_of}
 use Rattle.engine_feed.specs.Numbers.{stop_number}
 use Rattle.engine_feed.specs.Seen.{connection_of, message_of, layout_in, waiting_of, finished_of}
 use Rattle.engine_feed.specs.Streams.{codec}
@@ -37,11 +39,6 @@ connection_seen (connections.Open c) = connection_of c
 connection_seen (connections.Closed c) = record { stream = c.stream.items; closed = Some c.finished; output = c.output.items }
 
 -- ---- workers
-
-abbrev pub outcome_of : Outcome → tasks.Outcome
-outcome_of (outcomes.Replied reply) = tasks.Replied (reply_of reply)
-outcome_of outcomes.Starved = tasks.Starved
-outcome_of (outcomes.Moved affinity) = tasks.Moved (affinity_of affinity)
 
 -- a message that runs, with what it came to
 abbrev pub running_as : Running → Option tasks.Outcome → worlds.Running
@@ -102,3 +99,17 @@ done_of dones.PutBack = events.IsBack
 abbrev pub answer_of : Result Done Refusal → Result events.Done ℕ
 answer_of (Ok done) = Ok (done_of done)
 answer_of (Err refusal) = Err (refusal_number refusal)
+
+-- ---- what is told of work
+
+abbrev pub told_of : Outcome → Done
+told_of (outcomes.Replied reply) = dones.Replied
+told_of outcomes.Starved = dones.Starved
+told_of (outcomes.Moved affinity) = dones.Moved affinity
+
+-- ---- the beginning
+
+-- what is fixed for a run of so many workers
+abbrev pub setup_of : Layout → List ℕ → ℕ → worlds.Setup
+setup_of layout verifier workers =
+    record { codec = codec; layout = layout; verifier = verifier; workers = workers; connections = 64 }

@@ -3,6 +3,7 @@ use Rattle.std.specs.Prelude.{◌==◌, ◌≡◌, ℕ, ◌+◌, ◌^◌, ◌≤
 use Rattle.std.specs.List.{AllByRecursion}
 use Rattle.nfs_model.specs.Types.{SystemError}
 use Rattle.nfs_model.specs.Tree.{Layout}
+use Rattle.nfs_model.specs.Home.{home}
 use Rattle.nfs_model.specs.World.{all_running}
 use Rattle.nfs_model.specs.Events.Refusals.{open_count}
 use Rattle.nfs_values.specs.declared.call.Call.{Call}
@@ -18,7 +19,6 @@ use Rattle.service.specs.Jobs.{job_of, job_reply_of}
 use Rattle.service.specs.declared.outcome.Outcome.{Outcome}
 use Rattle.service.specs.declared.outcome.Outcome.TheVariants.{Replied, Starved, Moved}
 use Rattle.engine_laws.specs.Store.{StandsFor}
-use Rattle.engine_task.specs.Served.{IsServedAt}
 use Rattle.engine_feed.specs.Codec.{reply_record}
 use Rattle.engine_feed.specs.Seen.{owed_by, layout_in, messages_of, running_count}
 use Rattle.engine_feed.specs.Sound.{IsAdmitted}
@@ -41,17 +41,17 @@ abbrev pub running_messages : List Worker → List (Message Call)
 running_messages [] = []
 running_messages (k ∷ ks) = messages_in k ++ running_messages ks
 
--- a message is of a connection that was opened, and the service runs its call where it is to run
+-- a message is of a connection that was opened, and tries the home of its call
 pub record IsPlaced (layout : Layout) (connections : ℕ) (m : Message Call) : Type 0 where
   pub admitted : IsAdmitted layout m
   pub known : m.origin.connection.0 < connections
-  pub served : IsServedAt layout (call_of m.call) (affinity_of m.affinity)
+  pub at_home : home layout (call_of m.call) ≡ Some (affinity_of m.affinity)
 
 -- what a message came to may be told: its reply fits the room that is kept for it
 abbrev pub MayEnd : Layout → Message Call → Outcome → Type 0
 MayEnd layout m (Replied reply) = length (reply_record m.origin.xid (reply_of reply)) ≤ m.room
 MayEnd layout m Starved = length (reply_record m.origin.xid SystemError) ≤ m.room
-MayEnd layout m (Moved a) = IsNode layout (affinity_of a) × IsServedAt layout (call_of m.call) (affinity_of a)
+MayEnd layout m (Moved a) = IsNode layout (affinity_of a) × (home layout (call_of m.call) ≡ Some (affinity_of a))
 
 abbrev pub IsReady : Layout → ℕ → Worker → Type 0
 IsReady layout connections Idle = Unit {0}

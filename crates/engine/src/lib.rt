@@ -1,4 +1,4 @@
-//! The engine: connections, calls on their way, workers, and the desk whose parcels calls run on.
+//! The engine: connections, calls on their way, workers, and the parcels that calls run on.
 #![tactic(auto)]
 
 mod beginning;
@@ -6,8 +6,10 @@ mod connecting;
 mod connection;
 mod event;
 mod feeding;
+mod finishing;
 mod state;
 mod worker;
+mod working;
 
 pub use engine_feed::{FinishedCall, Stop, StreamFault};
 pub use event::{Done, Event, Refusal};

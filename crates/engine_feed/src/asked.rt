@@ -30,11 +30,20 @@ impl Model for OfferedCall {
 }
 
 impl OfferedCall {
-    pub(crate) fn new(call: Call) -> OfferedCall
+    /// A call of such a procedure.
+    pub fn new(call: Call) -> OfferedCall
         requires { IsOffered (call_of call) }
         ensures { result ≡ call }
     {
         OfferedCall { call }
+    }
+
+    /// The call.
+    pub fn into_call(self) -> Call
+        ensures { result ≡ self }
+    {
+        let OfferedCall { call } = self;
+        call
     }
 
     pub fn as_call(&self) -> &Call

@@ -12,7 +12,7 @@ use Rattle.nfs_model.specs.Serial.AtOnce.{answer_without_home}
 use Rattle.nfs_model.specs.Replay.{FinishedCall, step_of, server_after}
 use Rattle.nfs_model.specs.World.{Setup, World, Heard, Message, finish}
 use Rattle.nfs_model.specs.Headline.{start}
-use Rattle.nfs_model.specs.Events.Feed.{Feeds, Feeding, Hears, heard_in, admit, call_at_once, call_undecoded}
+use Rattle.nfs_model.specs.Events.Feed.{Feeds, Feeding, Hears, heard_in, admit, call_at_once, call_undecoded, bytes_taken, served_count}
 use Rattle.desk_laws.specs.Books.{settled, HasHands}
 use Rattle.held_state.specs.Parcels.{FilerParcel}
 use Rattle.held_state.specs.Contents.{filer_contents}
@@ -151,7 +151,9 @@ module _ (stays : WithoutHomeStays) (setup : Setup) where
         ∙ sym (length-map (filer_contents b.layout (settled b)).volumes volume_of) ∙ ap (λ (server : Server). length server.volumes) (sym s.finished)
 
     pub feed-alike : (f : Feeding) (new : World) → Feeds setup f w new → RunAlike setup w new
-    feed-alike f new feeds = hears-alike feeds.heard f.connection _ _ new counted feeds.hears
+    feed-alike f new feeds =
+        let same = hears-alike feeds.heard f.connection (bytes_taken w f.connection (take f.taken f.bytes)) (served_count setup w f.connection) new counted feeds.hears in
+        record { server = same.server; parts = same.parts; stamps = same.stamps; workers = same.workers; finished = same.finished }
 
     -- the books stand for the world after it
     pub fed-stands : (f : Feeding) (new : World) → Feeds setup f w new → StandsFor job told setup new b

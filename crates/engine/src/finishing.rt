@@ -1,0 +1,138 @@
+//! Messages that workers finish.
+
+ghost use Rattle.std.specs.Prelude.{◌≡◌, ◌+◌, ◌≤◌, ◌<◌, length, Some};
+ghost use Rattle.std.specs.List.{slice_get};
+ghost use Rattle.nfs_model.specs.Events.Refusals as event;
+ghost use Rattle.nfs_values.specs.Call.{call_of};
+ghost use Rattle.nfs_values.specs.Moment.{moment_of};
+ghost use Rattle.nfs_values.specs.Reply.{reply_of};
+ghost use Rattle.desk_laws.specs.Calls.{MayFinish, HasFinished};
+ghost use Rattle.desk.specs.Words.{books, machine_in, IsKept};
+ghost use Rattle.engine_feed.specs.Codec.{reply_record};
+ghost use Rattle.engine_feed.specs.Offered.{IsOffered};
+ghost use Rattle.engine_feed.specs.Seen.{owed_by, layout_in, running_count, finished_message};
+ghost use Rattle.engine_feed.specs.Sound.{IsAdmitted};
+ghost use Rattle.engine_feed.specs.Words.{HasLeft};
+ghost use Rattle.engine.specs.declared.connection.Connection.TheVariants.{Open};
+ghost use Rattle.engine.specs.Ending.{job_made, answer_made, Ends, OwesLess};
+ghost use Rattle.engine.specs.Sound.{IsSound};
+ghost use Rattle.engine.specs.Words.{Does, HasItsSetup};
+
+use crate::connection::Connection;
+use crate::event::{Done, Refusal};
+use crate::state::State;
+use crate::worker::{Running, Worker};
+use desk::{Desk, ParcelKinds};
+use engine_feed::{Calls, OfferedCall};
+use nfs_values::{Moment, Reply};
+use scheduler::{Message, Origin};
+use service::{Asked, Job, JobReply, Outcome, Service, ServedCall};
+use std::mem;
+
+/// Ends a worker's call on the desk by an entry of the history, and gives back its message and its
+/// reply.
+fn end_on(
+    desk: &mut Desk<Service, ParcelKinds>,
+    worker: usize,
+    running: Running,
+    reply: Reply,
+    starved: bool,
+) -> (Running, Reply)
+    requires kept { IsKept desk.old }
+    requires offered { IsOffered (call_of running.message.call) }
+    requires may { MayFinish (machine_in desk.old) (books desk.old) worker
+        (job_made running starved) (answer_made reply) }
+    ensures kept { IsKept desk.new }
+    ensures finished { HasFinished (machine_in desk.old) (books desk.old) worker
+        (job_made running starved) (answer_made reply) (books desk.new) }
+    ensures running { result.0 ≡ running }
+    ensures reply { result.1 ≡ reply }
+{
+    let Running { message, moment } = running;
+    let Message { origin, call, credential, affinity, room } = message;
+    let asked = Asked::Call { call: call.into_call(), credential };
+    let Origin { connection, number, xid } = origin;
+    let served = ServedCall { connection, number, xid, asked, affinity, moment, starved };
+    let (job, answer) = (Job::Serve(served), JobReply::Replied(reply));
+    desk.finish(worker, &job, &answer);
+    let (Job::Serve(ServedCall { asked: Asked::Call { call, .. }, .. }), JobReply::Replied(reply)) =
+        (job, answer)
+    else {
+        unreachable!();
+    };
+    let call = OfferedCall::new(call);
+    let message = Message { origin, call, credential, affinity, room };
+    (Running { message, moment }, reply)
+}
+
+/// Finishes a message that ran: its reply is written where its connection is open. It answers how
+/// many bytes were written.
+fn end_call(
+    calls: &mut Calls,
+    connections: &mut Vec<Connection>,
+    running: Running,
+    reply: &Reply,
+    starved: bool,
+) -> usize
+    requires runs { 0 < running_count calls.old }
+    requires admitted { IsAdmitted (layout_in calls.old) running.message }
+    requires owed { (x : _)
+        → slice_get connections.old.items running.message.origin.connection.0 ≡ Some (Open x)
+        → running.message.room ≤ owed_by x }
+    requires fits { length (reply_record running.message.origin.xid (reply_of reply.now))
+        ≤ running.message.room }
+    ensures ends { Ends calls.old connections.old.items running (reply_of reply.now) starved
+        result calls.new connections.new.items }
+    ensures left { HasLeft calls.old
+        (finished_message running.message (moment_of running.moment) starved) calls.new }
+    ensures owes { OwesLess running.message connections.old.items connections.new.items }
+{
+    let Running { message, moment } = running;
+    match connections.get_mut(message.origin.connection.0) {
+        Some(Connection::Open(open)) => calls.finish(message, moment, open, reply, starved),
+        _ => {
+            calls.finish_unseen(message, moment, starved);
+            0
+        }
+    }
+}
+
+/// Finishes the message that a worker has worked.
+pub(crate) fn finish(state: &mut State, worker: usize) -> Result<Done, Refusal>
+    requires { IsSound state.old }
+    ensures events { Does state.old (event.Finish worker) result state.new }
+    ensures setup { HasItsSetup state.old state.new }
+    ensures sound { IsSound state.new }
+{
+    match state.workers.get(worker) {
+        None | Some(Worker::Idle) => return Err(Refusal::NoWork),
+        Some(Worker::Begun(_)) => return Err(Refusal::NotWorked),
+        Some(Worker::Worked(..)) => {}
+    }
+    let Worker::Worked(running, outcome) = mem::replace(&mut state.workers[worker], Worker::Idle)
+    else {
+        unreachable!();
+    };
+    let connection = running.message.origin.connection.0;
+    let (reply, starved) = match outcome {
+        Outcome::Replied(reply) => (reply, false),
+        Outcome::Starved => (Reply::SystemError, true),
+        Outcome::Moved(affinity) => {
+            state.desk.put_back(worker);
+            state.calls.put_back(Message {
+                affinity,
+                ..running.message
+            });
+            return Ok(Done::PutBack);
+        }
+    };
+    let (running, reply) = end_on(&mut state.desk, worker, running, reply, starved);
+    let count = end_call(
+        &mut state.calls,
+        &mut state.connections,
+        running,
+        &reply,
+        starved,
+    );
+    Ok(Done::Written { connection, count })
+}
