@@ -11,6 +11,7 @@ use crate::state::State;
 use crate::worker::Worker;
 use affinity_tree::Affinity;
 use engine_task::Serve;
+use rpc_msg::{replies_fit, servers_are_roomy};
 use service::Outcome;
 use std::mem;
 
@@ -34,6 +35,8 @@ pub(crate) fn work(state: &mut State, worker: usize) -> Result<Done, Refusal>
     ensures setup { HasItsSetup state.old state.new }
     ensures sound { IsSound state.new }
 {
+    replies_fit();
+    servers_are_roomy();
     let Some(Worker::Begun(running)) = state.workers.get(worker) else {
         return Err(Refusal::NoWork);
     };
