@@ -165,8 +165,8 @@ module _ {P C R : Type 0} (job : C → jobs.Job) (told : R → jobs.JobReply) (s
     batches_carried w.workers,
     stamps b,
     (λ n c.
-    let inside = covered-node b.layout s.lawful l.affinity (s.lent.node i l at) n c in
-    sym ((lent-is l at).1 n inside.0 inside.1 c)),
+        let inside = covered-node b.layout s.lawful l.affinity (s.lent.node i l at) n c in
+        sym ((lent-is l at).1 n inside.0 inside.1 c)),
     low,
     (λ weigh. refl),
     sound-settled job told setup w b s,
@@ -254,18 +254,26 @@ begins_refl (x ∷ xs) = and_from (x == x) (begins xs xs) (eq-eqb x x refl) (beg
 pub tries-home : (setup : Setup) (call : types.Call) (credential : Credential) (a : Affinity) → home setup.layout call ≡ Some a → IsTriedAt setup (Ask call credential) a
 tries-home setup call credential a at = (a, at, begins_refl (path setup.layout a))
 
-module _ {P : Type 0} (w : World) (b c : FilerBooks P Job JobReply) (ks ls : List Worker) (i : ℕ) (r : Running) (o : Outcome) where
-  pub worked-world : w.workers ≡ map worker_seen ks → ls ≡ slice_set ks i (Worked r o) → stamps c ≡ w.stamps
-      → record w {
-        workers = map worker_seen ls;
-        server = server_of (filer_contents c.layout (now c));
-        parts = all_parts (filer_contents c.layout (now c));
-        stamps = stamps c;
-      } ≡ worked w i (running_as r None) (outcome_of o) (stored_all (filer_contents c.layout (now c)))
-  worked-world seen are same = λ j. record w {
-      workers = (ap (λ xs. map worker_seen xs) are ∙ seen-set ks i (Worked r o)
+-- a world with these workers, and what these books stand for
+abbrev pub world_with : {P : Type 0} → World → FilerBooks P Job JobReply → List Worker → World
+world_with w c ks = record w {
+  workers = map worker_seen ks;
+  server = server_of (filer_contents c.layout (now c));
+  parts = all_parts (filer_contents c.layout (now c));
+  stamps = stamps c;
+}
+
+pub worked-world : {P : Type 0} (w : World) (c : FilerBooks P Job JobReply) (ks ls : List Worker) (i : ℕ) (r : Running) (o : Outcome)
+    → w.workers ≡ map worker_seen ks → ls ≡ slice_set ks i (Worked r o) → stamps c ≡ w.stamps
+    → world_with w c ls ≡ worked w i (running_as r None) (outcome_of o) (stored_all (filer_contents c.layout (now c)))
+worked-world w c ks ls i r o seen are same = λ j. record w {
+  workers = (ap (λ xs. map worker_seen xs) are ∙ seen-set ks i (Worked r o)
       ∙ ap (λ xs. changed_at (with_running (running_seen (Worked r o))) xs i) (sym seen)) j;
-      server = server_of (filer_contents c.layout (now c));
-      parts = all_parts (filer_contents c.layout (now c));
-      stamps = same j;
-    }
+  server = server_of (filer_contents c.layout (now c));
+  parts = all_parts (filer_contents c.layout (now c));
+  stamps = same j;
+}
+
+-- one place holds one message
+pub same-begun : (ks : List Worker) (i : ℕ) (q r : Running) → slice_get ks i ≡ Some (Begun r) → slice_get ks i ≡ Some (Begun q) → q ≡ r
+same-begun ks i q r there again = cc

@@ -1,6 +1,6 @@
 //! Messages that workers work.
 
-ghost use Rattle.std.specs.Prelude.{◌≡◌};
+ghost use Rattle.std.specs.Prelude.{◌≡◌, length};
 ghost use Rattle.nfs_model.specs.Events.Refusals as event;
 ghost use Rattle.engine.specs.Seen.{told_of};
 ghost use Rattle.engine.specs.Words.{Does, HasItsSetup, IsWhole};
@@ -28,6 +28,11 @@ fn done_of(outcome: &Outcome) -> Done
     }
 }
 
+/// An array of eight bytes has eight.
+fn has_eight(bytes: [u8; 8])
+    ensures { length bytes ≡ 8 }
+{}
+
 /// Works the message that a worker has begun, on what it was lent.
 pub(crate) fn work(state: &mut State, worker: usize) -> Result<Done, Refusal>
     requires { IsWhole state.old }
@@ -37,6 +42,7 @@ pub(crate) fn work(state: &mut State, worker: usize) -> Result<Done, Refusal>
 {
     replies_fit();
     servers_are_roomy();
+    has_eight(state.verifier.0);
     let Some(Worker::Begun(running)) = state.workers.get(worker) else {
         return Err(Refusal::NoWork);
     };
