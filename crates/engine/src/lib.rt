@@ -7,6 +7,7 @@ mod connection;
 mod event;
 mod feeding;
 mod finishing;
+mod opening;
 mod state;
 mod worker;
 mod working;
