@@ -1,5 +1,5 @@
 -- An engine at the start.
-use Rattle.std.proofs.Common.{◌≡◌, ℕ, zero, suc, ◌+◌, ◌<◌, ◌≤◌, List, [], ◌∷◌, ◌++◌, length, map, replicate, Option, Some, None, refl, sym, ap, ◌∙◌}
+use Rattle.std.proofs.Common.{◌≡◌, ℕ, zero, suc, ◌+◌, ◌≤◌, List, [], ◌∷◌, length, map, replicate, Option, Some, None, refl, sym, ap, ◌∙◌}
 use Rattle.std.proofs.Common.{subst, arith}
 use Rattle.std.specs.Prelude.{◌^◌, slice_get}
 use Rattle.std.specs.List.{AllByRecursion}
@@ -133,8 +133,8 @@ module _ {P : Type 0} (verifier : List ℕ) (b : FilerBooks P Job JobReply) (cal
   pub none-open : 0 ≡ open_count (map connection_seen connections)
   none-open = sym (ap (λ xs. open_count (map connection_seen xs)) h.none)
 
-module _ {P : Type 0} (sound : OpensSound P) (server : OpensAsServer P) (free : OpensFree P) (verifier : List ℕ) (b : FilerBooks P Job JobReply) (calls : CallsState)
-    (ks : List workers.Worker) (connections : List connecting.Connection) (h : AreOpened verifier b calls ks connections) where
+module _ {P : Type 0} (sound : OpensSound P) (server : OpensAsServer P) (free : OpensFree P) (verifier : List ℕ) (b : FilerBooks P Job JobReply)
+    (calls : CallsState) (ks : List workers.Worker) (connections : List connecting.Connection) (h : AreOpened verifier b calls ks connections) where
   abbrev setup : Setup
   setup = record { codec = codec; layout = layout_in calls; verifier = verifier; workers = length ks; connections = 64 }
 

@@ -1,12 +1,11 @@
 -- A message that is worked: what it runs on, what it comes to, and the workers after it.
-use Rattle.std.proofs.Common.{◌≡◌, ℕ, zero, suc, ◌+◌, ◌<◌, ◌≤◌, Bool, true, false, List, [], ◌∷◌, ◌++◌, length, get_or, map, Option, Some, None, refl, sym, ap, ◌∙◌}
-use Rattle.std.proofs.Common.{subst, arith}
+use Rattle.std.proofs.Common.{◌≡◌, ℕ, zero, suc, ◌+◌, ◌<◌, ◌≤◌, Bool, true, false, List, [], ◌∷◌, ◌++◌, length, get_or, map, Option, Some, None}
+use Rattle.std.proofs.Common.{refl, sym, ap, ◌∙◌, subst, arith}
 use Rattle.std.specs.Prelude.{◌^◌, ◌==◌, slice_get, slice_set, option_map}
 use Rattle.std.specs.List.{AllByRecursion}
 use Rattle.std.proofs.lemmas.Option.{slice_get-map, slice_get_read}
 use Rattle.std.proofs.lemmas.Bool.{and_from, eq-eqb}
 use mathlib.Core.Option.{some, some-injective}
-use lib.ListN.{get_elem?}
 use Rattle.nfs_model.specs.Types as types
 use Rattle.nfs_model.specs.Types.{Moment, Asked, Ask, Credential}
 use Rattle.nfs_model.specs.Tree.{Layout, Affinity, begins, path}
@@ -27,7 +26,6 @@ use Rattle.nfs_values.specs.Call.{call_of}
 use Rattle.nfs_values.specs.Credential.{credential_of}
 use Rattle.nfs_values.specs.Reply.{reply_of}
 use Rattle.affinity_tree.specs.Affinity.{affinity_of}
-use Rattle.affinity_tree.specs.Tree.{IsNode}
 use Rattle.depot_rule.specs.Shares.{too_many}
 use Rattle.desk_laws.specs.Books.{Lent, settled, now, stamps, HasLent, IsUnchanged}
 use Rattle.desk_laws.specs.Calls.{MayWork, HasWorked}
@@ -51,16 +49,15 @@ use Rattle.engine_laws.specs.Serving.{Serving}
 use Rattle.engine_laws.specs.lemmas.Served.{covered-node}
 use Rattle.engine_laws.specs.lemmas.Agreeing.{sound-settled}
 use Rattle.engine_laws.specs.lemmas.Changing.{lent-at}
-use Rattle.engine_feed.specs.Codec.{reply_record}
 use Rattle.engine_feed.specs.lemmas.Codec.{reply_record_is}
 use Rattle.engine_feed.specs.Sound.{IsAdmitted}
 use Rattle.engine_task.specs.Served.{IsServedAt, MovesToServed, MayServe, HasServed}
 use Rattle.engine_task.specs.lemmas.Serves.{serves}
 use Rattle.engine.specs.declared.worker.Running.{Running}
 use Rattle.engine.specs.declared.worker.Worker.{Worker}
-use Rattle.engine.specs.declared.worker.Worker.TheVariants.{Idle, Begun, Worked}
+use Rattle.engine.specs.declared.worker.Worker.TheVariants.{Begun, Worked}
 use Rattle.engine.specs.Seen.{running_as, running_seen, worker_seen, done_of, told_of}
-use Rattle.engine.specs.Sound.{messages_in, running_messages, MayEnd, IsReady}
+use Rattle.engine.specs.Sound.{messages_in, running_messages, MayEnd}
 
 -- ---- the reply fits its room
 
@@ -103,7 +100,8 @@ roomy-now begins stays setup w eight is =
 -- what a message came to may be told
 pub may-end : RepliesFit → (layout : Layout) (m : Message Call) → IsAdmitted layout m → (moment : Moment) (store after : Store)
     → IsRoomy (length layout.volumes) store.server → (o : Outcome)
-    → Works (record { asked = Ask (call_of m.call) (credential_of m.credential); affinity = affinity_of m.affinity; moment = moment }) store (outcome_of o) after
+    → Works (record { asked = Ask (call_of m.call) (credential_of m.credential); affinity = affinity_of m.affinity; moment = moment }) store (outcome_of o)
+    after
     → MovesToServed layout (call_of m.call) (outcome_of o) → MayEnd layout m o
 may-end fit layout m admitted moment store after roomy (Replied reply) works moves =
     let call = call_of m.call in
@@ -251,7 +249,8 @@ begins_refl : (xs : List ℕ) → begins xs xs ≡ true
 begins_refl [] = refl
 begins_refl (x ∷ xs) = and_from (x == x) (begins xs xs) (eq-eqb x x refl) (begins_refl xs)
 
-pub tries-home : (setup : Setup) (call : types.Call) (credential : Credential) (a : Affinity) → home setup.layout call ≡ Some a → IsTriedAt setup (Ask call credential) a
+pub tries-home : (setup : Setup) (call : types.Call) (credential : Credential) (a : Affinity) → home setup.layout call ≡ Some a
+    → IsTriedAt setup (Ask call credential) a
 tries-home setup call credential a at = (a, at, begins_refl (path setup.layout a))
 
 -- a world with these workers, and what these books stand for
