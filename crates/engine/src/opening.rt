@@ -33,11 +33,9 @@ fn idle(alloc: Global, count: usize) -> Result<Vec<Worker>, AllocError>
 pub(crate) fn open(
     alloc: Global,
     layout: Layout,
-    copy: Layout,
     verifier: [u8; 8],
     workers: usize,
 ) -> Result<State, AllocError>
-    requires same { layout_of copy ≡ layout_of layout }
     requires some { 1 ≤ workers }
     requires most { workers ≤ 64 }
     ensures setup { IfOk result (λ state.
@@ -48,6 +46,7 @@ pub(crate) fn open(
     begins_sound::<Files>();
     let verifier = Verifier(verifier);
     let parcels = opening_parcels(alloc, &layout, verifier)?;
+    let copy = layout.copied(alloc)?;
     let calls = Calls::new(alloc, copy)?;
     let desk = Desk::<Service, ParcelKinds>::new(alloc, layout, parcels, workers)?;
     Ok(State {

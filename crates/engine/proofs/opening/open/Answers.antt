@@ -1,4 +1,4 @@
-use Rattle.std.proofs.Common.{◌≡◌, List, sym, subst}
+use Rattle.std.proofs.Common.{sym, subst}
 use Rattle.std.specs.Prelude.{length}
 use Rattle.affinity_tree.specs.Layout.{layout_of}
 use Rattle.nfs_model.specs.Tree.{Serial}
@@ -8,7 +8,8 @@ use Rattle.engine_feed.specs.declared.state.CallsState.{CallsState}
 use Rattle.engine_feed.specs.Seen.{layout_in}
 use Rattle.engine_feed.specs.Words.{AreNew}
 use Rattle.engine.specs.Sound.{IsPlaced}
-use Rattle.engine.proofs.Opened.{AreOpened, seen-opens, seen-stands, same-layout, none-run, no-stamps, none-wait, none-ready, few-workers, none-open, none-there}
+use Rattle.engine.proofs.Opened.{AreOpened, seen-opens, seen-stands}
+use Rattle.engine.proofs.Opened.{same-layout, none-run, no-stamps, none-wait, none-ready, few-workers, none-open, none-there}
 use Rattle.engine.proofs.opening.open.Goals as goal
 
 are-opened : (c : goal.In_ok-idle)
@@ -21,9 +22,9 @@ are-opened c = record {
   lawful = c.args.layout.lawful;
   opening = c.in_ok-parcels.ensures.opening;
   books = c.in_ok-desk.ensures.opened;
-  given = layout_of c.args.copy;
-  new = subst (λ (x : CallsState). AreNew (layout_of c.args.copy) x) (sym c.calls.view_is) c.in_ok-calls.ensures;
-  same = c.requires.same;
+  given = layout_of c.in_ok-copy.copy;
+  new = subst (λ (x : CallsState). AreNew (layout_of c.in_ok-copy.copy) x) (sym c.calls.view_is) c.in_ok-calls.ensures;
+  same = c.in_ok-copy.ensures;
   workers = c.in_ok-idle.ensures;
   none = c.new-3.ensures.items;
 }
