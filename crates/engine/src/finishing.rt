@@ -21,13 +21,12 @@ ghost use Rattle.engine.specs.Words.{Does, HasItsSetup};
 use crate::connection::Connection;
 use crate::event::{Done, Refusal};
 use crate::state::State;
-use crate::worker::{Running, Worker};
+use crate::worker::{Running, Worker, take_worker};
 use desk::{Desk, ParcelKinds};
 use engine_feed::{Calls, OfferedCall};
 use nfs_values::{Moment, Reply};
 use scheduler::{Message, Origin};
 use service::{Asked, Job, JobReply, Outcome, Service, ServedCall};
-use std::mem;
 
 /// Ends a worker's call on the desk by an entry of the history, and gives back its message and its
 /// reply.
@@ -109,8 +108,7 @@ pub(crate) fn finish(state: &mut State, worker: usize) -> Result<Done, Refusal>
         Some(Worker::Begun(_)) => return Err(Refusal::NotWorked),
         Some(Worker::Worked(..)) => {}
     }
-    let Worker::Worked(running, outcome) = mem::replace(&mut state.workers[worker], Worker::Idle)
-    else {
+    let Worker::Worked(running, outcome) = take_worker(&mut state.workers, worker) else {
         unreachable!();
     };
     let connection = running.message.origin.connection.0;
