@@ -28,7 +28,7 @@ use Rattle.held_laws.specs.lemmas.Running.{runs-by}
 use Rattle.held_laws.specs.lemmas.SeenSets.{logical-seen}
 use Rattle.held_attributes.specs.Laws.{getattr_call, setattr_call}
 use Rattle.service.specs.Running.{fileid_in, call_on}
-use Rattle.engine_task.specs.Served.{IsServedAt, MovesToServed, HasServed}
+use Rattle.engine_task.specs.Served.{IsServedAt, MovesToServed}
 
 -- ---- calls on a handle
 
@@ -106,7 +106,8 @@ module _ {P : Type 0} (layout : Layout) (lawful : fault_of layout ≡ None) (old
     WasRun a q = RunsOn (volume_of a) logical_lens q (logical_before old) outcome (logical_after old new)
 
     abbrev WasServed : Call → Affinity → Type 0
-    WasServed call a = HasServed call credential moment layout a (logical_parcels layout a old) outcome (logical_parcels layout a new)
+    WasServed call a = Runs layout a (Ask call credential) moment (logical_parcels layout a old) outcome (logical_parcels layout a new)
+        × MovesToServed layout call outcome
 
     getattr-served : (handle : List ℕ) (named : Option Named) → named_by layout handle ≡ named → logical_home named ≡ Some node
         → WasRun node (getattr_call handle node (fileid_in named)) → WasServed (Getattr handle) node
