@@ -1,0 +1,2 @@
+mod Workers
+mod Begins
