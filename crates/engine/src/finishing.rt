@@ -26,7 +26,7 @@ use desk::{Desk, ParcelKinds};
 use engine_feed::{Calls, OfferedCall};
 use nfs_values::{Moment, Reply};
 use scheduler::{Message, Origin};
-use service::{Asked, Job, JobReply, Outcome, Service, ServedCall};
+use service::{Asked, Job, JobReply, Outcome, ServedCall, Service};
 use std::mem;
 
 /// Ends a worker's call on the desk by an entry of the history, and gives back its message and its
@@ -49,19 +49,53 @@ fn end_on(
     ensures reply { result.1 ≡ reply }
 {
     let Running { message, moment } = running;
-    let Message { origin, call, credential, affinity, room } = message;
-    let asked = Asked::Call { call: call.into_call(), credential };
-    let Origin { connection, number, xid } = origin;
-    let served = ServedCall { connection, number, xid, asked, affinity, moment, starved };
+    let Message {
+        origin,
+        call,
+        credential,
+        affinity,
+        room,
+    } = message;
+    let asked = Asked::Call {
+        call: call.into_call(),
+        credential,
+    };
+    let Origin {
+        connection,
+        number,
+        xid,
+    } = origin;
+    let served = ServedCall {
+        connection,
+        number,
+        xid,
+        asked,
+        affinity,
+        moment,
+        starved,
+    };
     let (job, answer) = (Job::Serve(served), JobReply::Replied(reply));
     desk.finish(worker, &job, &answer);
-    let (Job::Serve(ServedCall { asked: Asked::Call { call, .. }, .. }), JobReply::Replied(reply)) =
-        (job, answer)
+    let (
+        Job::Serve(
+            ServedCall {
+                asked: Asked::Call { call, .. },
+                ..
+            },
+        ),
+        JobReply::Replied(reply),
+    ) = (job, answer)
     else {
         unreachable!();
     };
     let call = OfferedCall::new(call);
-    let message = Message { origin, call, credential, affinity, room };
+    let message = Message {
+        origin,
+        call,
+        credential,
+        affinity,
+        room,
+    };
     (Running { message, moment }, reply)
 }
 
