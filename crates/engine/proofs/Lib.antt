@@ -1,2 +1,3 @@
 mod Placed
 mod Reconnected
+mod Closing
