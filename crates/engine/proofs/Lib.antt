@@ -1,3 +1,4 @@
 mod Placed
 mod Reconnected
 mod Closing
+mod Received
