@@ -1,2 +1,6 @@
 mod Workers
 mod Begins
+mod Placed
+mod Reconnected
+mod Closing
+mod Received

@@ -48,19 +48,53 @@ fn end_on(
     ensures reply { result.1 ≡ reply }
 {
     let Running { message, moment } = running;
-    let Message { origin, call, credential, affinity, room } = message;
-    let asked = Asked::Call { call: call.into_call(), credential };
-    let Origin { connection, number, xid } = origin;
-    let served = ServedCall { connection, number, xid, asked, affinity, moment, starved };
+    let Message {
+        origin,
+        call,
+        credential,
+        affinity,
+        room,
+    } = message;
+    let asked = Asked::Call {
+        call: call.into_call(),
+        credential,
+    };
+    let Origin {
+        connection,
+        number,
+        xid,
+    } = origin;
+    let served = ServedCall {
+        connection,
+        number,
+        xid,
+        asked,
+        affinity,
+        moment,
+        starved,
+    };
     let (job, answer) = (Job::Serve(served), JobReply::Replied(reply));
     desk.finish(worker, &job, &answer);
-    let (Job::Serve(ServedCall { asked: Asked::Call { call, .. }, .. }), JobReply::Replied(reply)) =
-        (job, answer)
+    let (
+        Job::Serve(
+            ServedCall {
+                asked: Asked::Call { call, .. },
+                ..
+            },
+        ),
+        JobReply::Replied(reply),
+    ) = (job, answer)
     else {
         unreachable!();
     };
     let call = OfferedCall::new(call);
-    let message = Message { origin, call, credential, affinity, room };
+    let message = Message {
+        origin,
+        call,
+        credential,
+        affinity,
+        room,
+    };
     (Running { message, moment }, reply)
 }
 
