@@ -4,3 +4,4 @@ mod Placed
 mod Reconnected
 mod Closing
 mod Received
+pub mod Worked

@@ -1,6 +1,6 @@
 //! Messages that workers work.
 
-ghost use Rattle.std.specs.Prelude.{◌≡◌};
+ghost use Rattle.std.specs.Prelude.{◌≡◌, length};
 ghost use Rattle.nfs_model.specs.Events.Refusals as event;
 ghost use Rattle.engine.specs.Seen.{told_of};
 ghost use Rattle.engine.specs.Words.{Does, HasItsSetup, IsWhole};
@@ -11,6 +11,7 @@ use crate::state::State;
 use crate::worker::{Worker, set_worker, take_worker};
 use affinity_tree::Affinity;
 use engine_task::Serve;
+use rpc_msg::{replies_fit, servers_are_roomy};
 use service::Outcome;
 
 /// What is told of work that came to this.
@@ -26,6 +27,11 @@ fn done_of(outcome: &Outcome) -> Done
     }
 }
 
+/// An array of eight bytes has eight.
+fn has_eight(bytes: [u8; 8])
+    ensures { length bytes ≡ 8 }
+{}
+
 /// Works the message that a worker has begun, on what it was lent.
 pub(crate) fn work(state: &mut State, worker: usize) -> Result<Done, Refusal>
     requires { IsWhole state.old }
@@ -33,6 +39,9 @@ pub(crate) fn work(state: &mut State, worker: usize) -> Result<Done, Refusal>
     ensures setup { HasItsSetup state.old state.new }
     ensures sound { IsSound state.new }
 {
+    replies_fit();
+    servers_are_roomy();
+    has_eight(state.verifier.0);
     let Some(Worker::Begun(running)) = state.workers.get(worker) else {
         return Err(Refusal::NoWork);
     };
