@@ -1,5 +1,6 @@
 mod Workers
 mod Begins
+mod Ends
 mod Placed
 mod Reconnected
 mod Closing

@@ -4,16 +4,16 @@
 mod beginning;
 mod connecting;
 mod connection;
-mod engine;
+
 mod event;
 mod feeding;
 mod finishing;
-mod opening;
+
 mod state;
 mod worker;
 mod working;
 
-pub use engine::Engine;
+
 pub use engine_feed::{FinishedCall, Stop, StreamFault};
 pub use event::{Done, Event, Refusal};
 pub use worker::{Running, Worker};
