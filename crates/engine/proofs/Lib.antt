@@ -1,2 +1,9 @@
+mod Workers
+mod Begins
+mod Ends
+mod Placed
+mod Reconnected
+mod Closing
+mod Received
 pub mod Worked
 pub mod Opened

@@ -1,7 +1,7 @@
 -- A message that ends: the entry that it makes, and what becomes of its connection.
 use Rattle.std.specs.Prelude.{◌≡◌, ◌≢◌, ℕ, ◌+◌, Bool, List, map, length, Some, None, slice_get}
 use Rattle.nfs_model.specs.Types as types
-use Rattle.nfs_model.specs.World.{Setup, World, finish}
+use Rattle.nfs_model.specs.World.{Setup, World, finish, changed_at}
 use Rattle.nfs_model.specs.Events.Step.{bytes_if_open}
 use Rattle.nfs_values.specs.declared.call.Call.{Call}
 use Rattle.nfs_values.specs.declared.reply.Reply.{Reply}
@@ -13,6 +13,7 @@ use Rattle.service.specs.declared.job.Asked.TheVariants as askeds
 use Rattle.service.specs.declared.job.JobReply.{JobReply}
 use Rattle.service.specs.declared.job.JobReply.TheVariants.{Replied}
 use Rattle.engine_feed.specs.declared.state.CallsState.{CallsState}
+use Rattle.engine_feed.specs.declared.state.ConnectionState.{ConnectionState}
 use Rattle.engine_feed.specs.Codec.{reply_record}
 use Rattle.engine_feed.specs.Seen.{owed_by, finished_message}
 use Rattle.engine_feed.specs.Streams.{codec}
@@ -40,17 +41,15 @@ answer_made reply = Replied reply
 
 -- ---- the connection
 
--- a message is finished in every world of which these calls and connections are a part, and so many bytes were written
-abbrev pub Ends : CallsState → List Connection → Running → types.Reply → Bool → ℕ → CallsState → List Connection → Type 0
-Ends calls connections r reply starved count calls' connections' =
-    (setup : Setup) (w : World) → setup.codec ≡ codec → Shows calls w → w.connections ≡ map connection_seen connections
-    → (record (with_calls calls' w) { connections = map connection_seen connections' }
+-- a message is finished in every world of which these calls and its connection are a part, and so many bytes were written
+abbrev pub EndsIn : CallsState → Connection → Running → types.Reply → Bool → ℕ → CallsState → Connection → Type 0
+EndsIn calls place r reply starved count calls' place' =
+    (setup : Setup) (w : World) → setup.codec ≡ codec → Shows calls w
+    → slice_get w.connections r.message.origin.connection.0 ≡ Some (connection_seen place)
+    → (record (with_calls calls' w) { connections = changed_at (λ x. connection_seen place') w.connections r.message.origin.connection.0 }
     ≡ finish setup w (finished_message r.message (moment_of r.moment) starved) reply)
-    × (count ≡ length (bytes_if_open (slice_get w.connections r.message.origin.connection.0) (reply_record r.message.origin.xid reply)))
+    × (count ≡ length (bytes_if_open (Some (connection_seen place)) (reply_record r.message.origin.xid reply)))
 
--- its connection owes the room of its reply no more, where it is open; the others stay
-pub record OwesLess (m : Message Call) (old new : List Connection) : Type 0 where
-  pub count : length new ≡ length old
-  pub here : (x : _) → slice_get new m.origin.connection.0 ≡ Some (Open x)
-      → (y : _) × (slice_get old m.origin.connection.0 ≡ Some (Open y)) × (owed_by y ≡ owed_by x + m.room)
-  pub others : (c : ℕ) → c ≢ m.origin.connection.0 → slice_get new c ≡ slice_get old c
+-- where it is open, it owes the room of the reply no more
+abbrev pub OwesLess : Message Call → Connection → Connection → Type 0
+OwesLess m old new = (x : ConnectionState) → new ≡ Open x → (y : ConnectionState) × (old ≡ Open y) × (owed_by y ≡ owed_by x + m.room)

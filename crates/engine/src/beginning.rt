@@ -8,7 +8,7 @@ ghost use Rattle.engine.specs.Words.{Does, HasItsSetup};
 
 use crate::event::{Done, Refusal};
 use crate::state::{SECOND, State};
-use crate::worker::{Running, Worker};
+use crate::worker::{Running, Worker, set_worker};
 use desk::Refusal as Refused;
 use nfs_values::Moment;
 
@@ -40,7 +40,7 @@ pub(crate) fn begin(
             let Ok(message) = state.calls.begin(place) else {
                 unreachable!();
             };
-            state.workers[worker] = Worker::Begun(Running { message, moment });
+            set_worker(&mut state.workers, worker, Worker::Begun(Running { message, moment }));
             Ok(Done::Granted { affinity })
         }
     }

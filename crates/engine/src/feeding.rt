@@ -2,13 +2,34 @@
 
 ghost use Rattle.std.specs.Prelude.{◌≡◌};
 ghost use Rattle.nfs_model.specs.Events.Refusals as event;
+ghost use Rattle.engine.specs.Receiving.{Receives};
 ghost use Rattle.engine.specs.Sound.{IsSound};
 ghost use Rattle.engine.specs.Words.{Does, HasItsSetup};
 
 use crate::connection::Connection;
 use crate::event::{Done, Refusal};
 use crate::state::State;
+use engine_feed::{Calls, Stop};
+use nfs_laws::laws::without_home_stays;
 use nfs_values::ConnectionNumber;
+
+/// Takes bytes on a connection that is open and at no fault: how many, and why no more.
+fn receive(
+    place: &mut Connection,
+    calls: &mut Calls,
+    number: ConnectionNumber,
+    bytes: &[u8],
+) -> Option<(usize, Stop)>
+    ensures { Receives calls.old place.old number.0 bytes.now result calls.new place.new }
+{
+    let Connection::Open(open) = place else {
+        return None;
+    };
+    if !open.takes_input() {
+        return None;
+    }
+    Some(open.feed(calls, number, bytes))
+}
 
 /// Takes bytes on a connection that is open and at no fault.
 pub(crate) fn feed(state: &mut State, connection: usize, bytes: &[u8]) -> Result<Done, Refusal>
@@ -17,13 +38,13 @@ pub(crate) fn feed(state: &mut State, connection: usize, bytes: &[u8]) -> Result
     ensures setup { HasItsSetup state.old state.new }
     ensures sound { IsSound state.new }
 {
-    let Some(Connection::Open(open)) = state.connections.get_mut(connection) else {
+    let Some(place) = state.connections.get_mut(connection) else {
         return Err(Refusal::Closed);
     };
-    if !open.takes_input() {
-        return Err(Refusal::Closed);
-    }
+    without_home_stays();
     let number = ConnectionNumber(connection);
-    let (taken, stop) = open.feed(&mut state.calls, number, bytes);
-    Ok(Done::Fed { taken, stop })
+    match receive(place, &mut state.calls, number, bytes) {
+        None => Err(Refusal::Closed),
+        Some((taken, stop)) => Ok(Done::Fed { taken, stop }),
+    }
 }

@@ -1,7 +1,6 @@
 //! Messages that workers finish.
 
 ghost use Rattle.std.specs.Prelude.{◌≡◌, ◌+◌, ◌≤◌, ◌<◌, length, Some};
-ghost use Rattle.std.specs.List.{slice_get};
 ghost use Rattle.nfs_model.specs.Events.Refusals as event;
 ghost use Rattle.nfs_values.specs.Call.{call_of};
 ghost use Rattle.nfs_values.specs.Moment.{moment_of};
@@ -14,20 +13,19 @@ ghost use Rattle.engine_feed.specs.Seen.{owed_by, layout_in, running_count, fini
 ghost use Rattle.engine_feed.specs.Sound.{IsAdmitted};
 ghost use Rattle.engine_feed.specs.Words.{HasLeft};
 ghost use Rattle.engine.specs.declared.connection.Connection.TheVariants.{Open};
-ghost use Rattle.engine.specs.Ending.{job_made, answer_made, Ends, OwesLess};
+ghost use Rattle.engine.specs.Ending.{job_made, answer_made, EndsIn, OwesLess};
 ghost use Rattle.engine.specs.Sound.{IsSound};
 ghost use Rattle.engine.specs.Words.{Does, HasItsSetup};
 
 use crate::connection::Connection;
 use crate::event::{Done, Refusal};
 use crate::state::State;
-use crate::worker::{Running, Worker};
+use crate::worker::{Running, Worker, take_worker};
 use desk::{Desk, ParcelKinds};
 use engine_feed::{Calls, OfferedCall};
 use nfs_values::{Moment, Reply};
 use scheduler::{Message, Origin};
-use service::{Asked, Job, JobReply, Outcome, ServedCall, Service};
-use std::mem;
+use service::{Asked, Job, JobReply, Outcome, Service, ServedCall};
 
 /// Ends a worker's call on the desk by an entry of the history, and gives back its message and its
 /// reply.
@@ -99,32 +97,30 @@ fn end_on(
     (Running { message, moment }, reply)
 }
 
-/// Finishes a message that ran: its reply is written where its connection is open. It answers how
-/// many bytes were written.
-fn end_call(
+/// Finishes a message that ran, of this connection: its reply is written where that is open. It
+/// answers how many bytes were written.
+fn end_in(
     calls: &mut Calls,
-    connections: &mut Vec<Connection>,
+    place: &mut Connection,
     running: Running,
     reply: &Reply,
     starved: bool,
 ) -> usize
     requires runs { 0 < running_count calls.old }
     requires admitted { IsAdmitted (layout_in calls.old) running.message }
-    requires owed { (x : _)
-        → slice_get connections.old.items running.message.origin.connection.0 ≡ Some (Open x)
-        → running.message.room ≤ owed_by x }
+    requires owed { (x : _) → place.old ≡ Open x → running.message.room ≤ owed_by x }
     requires fits { length (reply_record running.message.origin.xid (reply_of reply.now))
         ≤ running.message.room }
-    ensures ends { Ends calls.old connections.old.items running (reply_of reply.now) starved
-        result calls.new connections.new.items }
+    ensures ends { EndsIn calls.old place.old running (reply_of reply.now) starved result
+        calls.new place.new }
     ensures left { HasLeft calls.old
         (finished_message running.message (moment_of running.moment) starved) calls.new }
-    ensures owes { OwesLess running.message connections.old.items connections.new.items }
+    ensures owes { OwesLess running.message place.old place.new }
 {
     let Running { message, moment } = running;
-    match connections.get_mut(message.origin.connection.0) {
-        Some(Connection::Open(open)) => calls.finish(message, moment, open, reply, starved),
-        _ => {
+    match place {
+        Connection::Open(open) => calls.finish(message, moment, open, reply, starved),
+        Connection::Closed(_) => {
             calls.finish_unseen(message, moment, starved);
             0
         }
@@ -143,8 +139,7 @@ pub(crate) fn finish(state: &mut State, worker: usize) -> Result<Done, Refusal>
         Some(Worker::Begun(_)) => return Err(Refusal::NotWorked),
         Some(Worker::Worked(..)) => {}
     }
-    let Worker::Worked(running, outcome) = mem::replace(&mut state.workers[worker], Worker::Idle)
-    else {
+    let Worker::Worked(running, outcome) = take_worker(&mut state.workers, worker) else {
         unreachable!();
     };
     let connection = running.message.origin.connection.0;
@@ -161,12 +156,7 @@ pub(crate) fn finish(state: &mut State, worker: usize) -> Result<Done, Refusal>
         }
     };
     let (running, reply) = end_on(&mut state.desk, worker, running, reply, starved);
-    let count = end_call(
-        &mut state.calls,
-        &mut state.connections,
-        running,
-        &reply,
-        starved,
-    );
+    let place = &mut state.connections[connection];
+    let count = end_in(&mut state.calls, place, running, &reply, starved);
     Ok(Done::Written { connection, count })
 }

@@ -4,6 +4,7 @@
 mod beginning;
 mod connecting;
 mod connection;
+
 mod event;
 mod feeding;
 mod finishing;
@@ -11,6 +12,7 @@ mod opening;
 mod state;
 mod worker;
 mod working;
+
 
 pub use engine_feed::{FinishedCall, Stop, StreamFault};
 pub use event::{Done, Event, Refusal};

@@ -1,3 +1,4 @@
 pub mod Store
 pub mod Serving
+pub mod Laws
 pub mod lemmas

@@ -1,5 +1,5 @@
 -- What is served of a call at a node, and what serving it does to the parcels under the node.
-use Rattle.std.specs.Prelude.{◌≡◌, ℕ, [], Option, Some}
+use Rattle.std.specs.Prelude.{◌≡◌, ℕ, [], Some}
 use Rattle.nfs_model.specs.Types.{Call, Getattr, Setattr, Credential, Moment, Ask}
 use Rattle.nfs_model.specs.Tree.{Layout, Affinity}
 use Rattle.nfs_model.specs.Home.{home}
@@ -8,7 +8,9 @@ use Rattle.affinity_tree.specs.Tree.{IsNode}
 use Rattle.desk_laws.specs.Calls.{Asks, Does}
 use Rattle.held_state.specs.Parcels.{FilerParcel}
 use Rattle.held_state.specs.Running.{HasFiler, Runs}
+use Rattle.service.specs.Running.{outcome_of}
 use Rattle.service.specs.Setattr.{only_mode}
+use Rattle.service.specs.declared.outcome.Outcome as results
 
 -- The calls that are served so far: GETATTR, and SETATTR of the mode alone.
 abbrev pub IsServed : Call → Type 0
@@ -31,7 +33,7 @@ module _ {P : Type 0} where
   abbrev pub MayServe : Call → Asks (FilerParcel P)
   MayServe call layout node parcels = HasFiler layout node [] parcels × IsServedAt layout call node
 
-  -- what it comes to
-  abbrev pub HasServed : Call → Credential → Moment → Does (FilerParcel P) Outcome
+  -- what it comes to: where it moves, it is served there
+  abbrev pub HasServed : Call → Credential → Moment → Does (FilerParcel P) results.Outcome
   HasServed call credential moment layout node before outcome after =
-      Runs layout node (Ask call credential) moment before outcome after × MovesToServed layout call outcome
+      Runs layout node (Ask call credential) moment before (outcome_of outcome) after × MovesToServed layout call (outcome_of outcome)

@@ -21,16 +21,14 @@ impl Task<Parcel<Files>, ParcelKinds> for Serve<'_> {
     ghost use Rattle.nfs_values.specs.Call.{call_of};
     ghost use Rattle.nfs_values.specs.Credential.{credential_of};
     ghost use Rattle.nfs_values.specs.Moment.{moment_of};
-    ghost use Rattle.service.specs.Running.{outcome_of};
     ghost use Rattle.engine_task.specs.Served.{MayServe, HasServed};
 
     type Output = Outcome;
 
     ghost asks = { λ self. MayServe (call_of self.call.now) };
 
-    ghost does = { λ self layout node before outcome after. HasServed (call_of self.call.now)
-        (credential_of self.credential) (moment_of self.moment)
-        layout node before (outcome_of outcome) after };
+    ghost does = { λ self. HasServed (call_of self.call.now) (credential_of self.credential)
+        (moment_of self.moment) };
 
     fn on_range(self, layout: &Layout, affinity: Affinity, held: &mut RangeHeld<Files>) -> Outcome {
         unreachable!()

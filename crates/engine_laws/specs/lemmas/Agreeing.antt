@@ -1,18 +1,16 @@
 -- Calls that run at one time agree: the world that the books stand for is within the headline. Nothing here is by procedure.
-use Rattle.std.proofs.Common.{◌≡◌, ◌≢◌, ℕ, zero, suc, ◌+◌, ◌<◌, true, false, List, [], ◌∷◌, ◌++◌, map, length, Option, Some, None, refl, sym, ap, ◌∙◌}
+use Rattle.std.proofs.Common.{◌≡◌, ◌≢◌, ℕ, zero, suc, ◌+◌, List, [], ◌∷◌, ◌++◌, map, Option, Some, None, refl, sym, ap, ◌∙◌}
 use Rattle.std.proofs.Common.{subst, arith}
 use Rattle.std.specs.Prelude.{slice_get, option_map}
 use Rattle.std.specs.List.{AllByRecursion}
 use Rattle.std.proofs.lemmas.Option.{slice_get-map}
-use mathlib.Core.Option.{some, some-injective}
+use mathlib.Core.Option.{some}
 use lib.ListN.{get_elem?}
-use Rattle.nfs_model.specs.Tree.{Layout, Affinity, excludes}
 use Rattle.nfs_model.specs.Server.{VolumeState, Server}
 use Rattle.nfs_model.specs.Parts.{Parts, Hand, Empty, Fresh, Dead, hand_blocks, times_listed, IsPartition}
 use Rattle.nfs_model.specs.World.{Setup, World, Running, Worker, with_held, all_running, hands_blocks}
 use Rattle.nfs_model.specs.Headline.{worked_by, server_worked, IsOutcome}
 use Rattle.nfs_model.specs.Agreed.{IsAgreed}
-use Rattle.affinity_tree.specs.Fault.{fault_of}
 use Rattle.affinity_tree.specs.Tree.{IsNode}
 use Rattle.affinity_tree.specs.Ancestors.{Covers}
 use Rattle.affinity_tree.specs.Numbers.{number_of, parents}
@@ -21,12 +19,12 @@ use Rattle.affinity_tree.specs.lemmas.Standing.{parents-tree, number-excludes}
 use Rattle.depot_rule.specs.Sums.{total}
 use Rattle.depot_rule.specs.History.{patched}
 use Rattle.depot_rule.specs.lemmas.Trees.{cover-excludes}
-use Rattle.desk_laws.specs.Books.{Lent, overlaid, settled, now, stamps, HasLent}
+use Rattle.desk_laws.specs.Books.{Lent, settled, now, stamps, HasLent}
 use Rattle.desk_laws.specs.lemmas.Overlays.{all-served, IsDone, AreDone, served}
 use Rattle.held_state.specs.Parcels.{FilerParcel}
-use Rattle.held_state.specs.Contents.{VolumeContents, FilerContents, filer_contents, volume_at}
+use Rattle.held_state.specs.Contents.{VolumeContents, FilerContents, filer_contents}
 use Rattle.held_state.specs.Tree.{tree, volume_of}
-use Rattle.held_state.specs.Partition.{parts_of, all_parts, times_in_hand}
+use Rattle.held_state.specs.Partition.{parts_of, times_in_hand}
 use Rattle.held_state.specs.Sound.{AreSound, AllSound}
 use Rattle.held_state.specs.Jobs.{Job, JobReply, batches_in}
 use Rattle.held_laws.specs.lemmas.Alike.{filer-same}
@@ -70,7 +68,7 @@ module _ {P C R : Type 0} (job : C → Job) (told : R → JobReply) (setup : Set
       let here = s.sound in
       let good = here.2 in
       let same : AllSound b.layout (settled b) here.0 (stamps b) =
-          subst (λ c. AreSound c here.0 (stamps b)) (filer-same good.0 b.layout (alike good.0 b.layout good.1.1) (settled b)) good.2 in
+      subst (λ c. AreSound c here.0 (stamps b)) (filer-same good.0 b.layout (alike good.0 b.layout good.1.1) (settled b)) good.2 in
       sound-by-weight (filer_contents b.layout (settled b)) here.0 (batches_carried w.workers) (stamps b)
       (λ weigh. let one = here.1 weigh in let other = s.hands weigh in omega (arith, one, other)) same
 
@@ -80,7 +78,7 @@ module _ {P C R : Type 0} (job : C → Job) (told : R → JobReply) (setup : Set
   reached-once i j l m at there ne k c d =
       let free = s.lent.apart i j l m at there (λ e. ne (sym e)) in
       let taken = number-excludes b.layout s.lawful l.affinity m.affinity (s.lent.node i l at) (s.lent.node j m there)
-          (cover-excludes ps (parents-tree b.layout s.lawful) (number_of b.layout l.affinity) (number_of b.layout m.affinity) k c d) in
+      (cover-excludes ps (parents-tree b.layout s.lawful) (number_of b.layout l.affinity) (number_of b.layout m.affinity) k c d) in
       let no : ⊥ = absurd cc in no
 
   -- ---- the fold
@@ -116,7 +114,8 @@ module _ {P C R : Type 0} (job : C → Job) (told : R → JobReply) (setup : Set
   abbrev Serves : Server → List (Option Running) → Server
   Serves server os = served b.layout Holds (tree b.layout) serve_one (settled b) server os
 
-  one-served : (server : Server) (o : Option Running) (ks : List Worker) → ((from : Server) → Serves from (running_by ks) ≡ server_worked from (all_running ks))
+  one-served : (server : Server) (o : Option Running) (ks : List Worker) →
+      ((from : Server) → Serves from (running_by ks) ≡ server_worked from (all_running ks))
       → Serves server (o ∷ running_by ks) ≡ server_worked server (with_held o (all_running ks))
   one-served server None ks others = others server
   one-served server (Some r) ks others = others (serve_one server r)
@@ -130,7 +129,7 @@ module _ {P C R : Type 0} (job : C → Job) (told : R → JobReply) (setup : Set
       × (tree b.layout (now b) ≡ server_worked (tree b.layout (settled b)) (all_running w.workers))
   now-served =
       let all = all-served b.layout Holds (tree b.layout) serve_one (settled b) b.lent (running_by w.workers) (stamps b) (settled b)
-          (all-done w.workers b.lent s.lent.node s.workers) reached-once (λ i l at k c. refl) sound-settled in
+      (all-done w.workers b.lent s.lent.node s.workers) reached-once (λ i l at k c. refl) sound-settled in
       (all.0, all.1 ∙ served-running w.workers (tree b.layout (settled b)))
 
   -- ---- what has to hold where calls run at one time
@@ -175,12 +174,11 @@ module _ {P C R : Type 0} (job : C → Job) (told : R → JobReply) (setup : Set
       let p : VolumeContents = found.0 in
       let sound = now-served.0.1 v p found.1 in
       let weighs : (n : ℕ) → times_listed n (hands_blocks v w.workers) ≡ total (times_in_hand p.number n) (batches_carried w.workers) =
-          λ n. carried-times v n w.workers ∙ ap (λ u. total (times_in_hand u n) (batches_carried w.workers)) (sym sound.0) in
-      (
+      λ n. carried-times v n w.workers ∙ ap (λ u. total (times_in_hand u n) (batches_carried w.workers)) (sym sound.0) in (
         parts_of p,
         ap (λ ps. slice_get ps v) s.parts ∙ slice_get-map parts_of c.volumes v ∙ ap (λ o. option_map parts_of o) found.1,
         subst (λ x. IsPartition x (parts_of p) (hands_blocks v w.workers)) (sym found.2)
-        (parts-partition p (batches_carried w.workers) now-served.0.0 (hands_blocks v w.workers) sound.1 weighs),
+            (parts-partition p (batches_carried w.workers) now-served.0.0 (hands_blocks v w.workers) sound.1 weighs),
       )
 
   -- calls that run at one time agree

@@ -1,8 +1,8 @@
 -- A message begins: it is refused where the books say so, and else the books stand for the world in which it runs.
-use Rattle.std.proofs.Common.{◌≡◌, ◌≢◌, ℕ, zero, suc, ◌+◌, ◌<◌, ◌≤◌, Bool, true, false, ◌||◌, List, [], ◌∷◌, map, length, Option, Some, None, refl, sym, ap, ◌∙◌}
+use Rattle.std.proofs.Common.{◌≡◌, ℕ, zero, suc, ◌≤◌, Bool, true, false, ◌||◌, List, [], ◌∷◌, Option, Some, None, refl, sym, ap, ◌∙◌}
 use Rattle.std.proofs.Common.{subst, arith, ⊎_elim, ◌⊎◌, inl, inr}
-use Rattle.std.proofs.lemmas.Bool.{cases_Bool, or_cases, le-leb, leb-true}
-use Rattle.std.specs.Prelude.{slice_get, slice_set, nat_le, ◌^◌, if◌then◌else◌}
+use Rattle.std.proofs.lemmas.Bool.{or_cases, le-leb, leb-true}
+use Rattle.std.specs.Prelude.{◌^◌, if◌then◌else◌}
 use Rattle.std.specs.List.{list_any}
 use mathlib.Core.Option.{some, some-injective, some-ne-none}
 use lib.ListN.{get_elem?}
@@ -12,15 +12,14 @@ use Rattle.nfs_model.specs.World.{Setup, World, Message, Running, Worker, with_h
 use Rattle.nfs_model.specs.Events.Refusals.{is_busy, is_worn, excluded}
 use Rattle.nfs_model.specs.Events.Step.{begun}
 use Rattle.affinity_tree.specs.Fault.{fault_of}
-use Rattle.depot_rule.specs.Shares.{worn}
-use Rattle.desk_laws.specs.Books.{Lent, Books, settled, now, stamps, HasLent, IsTaken, IsSame, HasHands, IsSettled}
+use Rattle.desk_laws.specs.Books.{Lent, settled, now, stamps, HasLent, IsTaken, IsSame, HasHands, IsSettled}
 use Rattle.desk_laws.specs.Calls.{HasBegun, IsWorn, with_lent}
 use Rattle.held_state.specs.Parcels.{FilerParcel}
 use Rattle.held_state.specs.Contents.{filer_contents}
 use Rattle.held_state.specs.Tree.{tree}
 use Rattle.held_state.specs.Partition.{all_parts}
 use Rattle.held_state.specs.Jobs.{Job, JobReply}
-use Rattle.engine_laws.specs.Store.{FilerBooks, filer, HasOutcome, RunsOn, RunOn, IsApart, StandsFor, batches_carried}
+use Rattle.engine_laws.specs.Store.{FilerBooks, filer, RunsOn, RunOn, IsApart, StandsFor, batches_carried}
 use Rattle.engine_laws.specs.lemmas.Changing.{carried-stay, run-changed}
 
 -- the same parcels at each node are the same parcels
@@ -146,7 +145,8 @@ module _ {P C R : Type 0} (setup : Setup) where
 
     -- ---- what is begun
 
-    module _ (c : FilerBooks P C R) (i : ℕ) (begins : HasBegun b i a c) (apart : IsApart c) (place : ℕ) (m : Message) (moment : Moment) (at : m.affinity ≡ a) where
+    module _ (c : FilerBooks P C R) (i : ℕ) (begins : HasBegun b i a c) (apart : IsApart c) (place : ℕ) (m : Message) (moment : Moment)
+        (at : m.affinity ≡ a) where
       abbrev r : Running
       r = record { message = m; moment = moment; outcome = None }
 
@@ -167,8 +167,10 @@ module _ {P C R : Type 0} (setup : Setup) where
         finished = s.finished ∙ sym (ap (λ (x : FilerBooks P C R). tree x.layout (settled x)) begins.books);
         stamps = s.stamps ∙ sym (ap (λ (x : FilerBooks P C R). stamps x) begins.books);
         workers = subst (λ (x : FilerBooks P C R). RunOn setup x (changed_at (with_running (Some r)) w.workers i) x.lent) (sym begins.books)
-            (run-changed setup b b.entries begun_books.lent w.workers b.lent i (Some r) (Some l) (λ j k there ne n pos lt d. refl) (sym at, begins.unchanged) s.workers);
-        hands = subst (λ (x : FilerBooks P C R). HasHands (filer job told) x (batches_carried (changed_at (with_running (Some r)) w.workers i))) (sym begins.books)
+            (run-changed setup b b.entries begun_books.lent w.workers b.lent i (Some r) (Some l) (λ j k there ne n pos lt d. refl)
+            (sym at, begins.unchanged) s.workers);
+        hands = subst (λ (x : FilerBooks P C R). HasHands (filer job told) x (batches_carried (changed_at (with_running (Some r)) w.workers i)))
+            (sym begins.books)
             (subst (λ hs. HasHands (filer job told) b hs) (sym (carried-stay w.workers i (Some r))) s.hands);
         sound = subst (λ (x : FilerBooks P C R). IsSettled (filer job told) x) (sym begins.books) s.sound;
       }

@@ -1,18 +1,15 @@
 -- What workers run, where one of them begins, works or ends.
-use Rattle.std.proofs.Common.{◌≡◌, ◌≢◌, ℕ, zero, suc, ◌+◌, ◌<◌, Bool, true, false, ◌||◌, List, [], ◌∷◌, ◌++◌, map, length, Option, Some, None, refl, sym, ap, ◌∙◌}
+use Rattle.std.proofs.Common.{◌≡◌, ◌≢◌, ℕ, zero, suc, List, [], ◌∷◌, ◌++◌, Option, Some, None, refl, sym, ap, ◌∙◌}
 use Rattle.std.proofs.Common.{subst, arith}
 use Rattle.std.specs.Prelude.{slice_get, slice_set}
-use Rattle.std.specs.List.{list_any}
-use mathlib.Core.Option.{some, some-injective, some-ne-none}
+use mathlib.Core.Option.{some}
 use lib.ListN.{get_elem?}
-use Rattle.nfs_model.specs.Tree.{Layout, Affinity, excludes}
-use Rattle.nfs_model.specs.Parts.{Hand}
 use Rattle.nfs_model.specs.Work.{Outcome, Replied, Starved, Moved}
-use Rattle.nfs_model.specs.World.{Setup, World, Running, Worker, with_held, all_running, affinities, changed_at, with_running}
+use Rattle.nfs_model.specs.World.{Setup, Running, Worker, changed_at, with_running}
 use Rattle.depot_rule.specs.declared.view.Entry.{Entry}
-use Rattle.desk_laws.specs.Books.{Lent, Books, settled, UnderLent, IsTaken, HasLent}
+use Rattle.desk_laws.specs.Books.{Lent, settled, UnderLent}
 use Rattle.held_state.specs.Parcels.{FilerParcel}
-use Rattle.held_state.specs.Jobs.{Job, JobReply, batches_in}
+use Rattle.held_state.specs.Jobs.{batches_in}
 use Rattle.engine_laws.specs.Store.{FilerBooks, HasOutcome, RunsOn, RunOn, batches_carried}
 
 -- what is carried stays

@@ -1,22 +1,21 @@
 -- Bytes come, and connections are opened and closed: what calls run on stays, and the books stand for the world after it.
-use Rattle.std.proofs.Common.{◌≡◌, ℕ, ◌+◌, Bool, true, false, List, [], ◌∷◌, ◌++◌, take, length, map, Option, Some, None, refl, sym, ap, ◌∙◌}
+use Rattle.std.proofs.Common.{◌≡◌, ℕ, ◌+◌, Bool, true, false, List, [], ◌∷◌, ◌++◌, take, length, Option, Some, None, refl, sym, ap, ◌∙◌}
 use Rattle.std.proofs.Common.{subst}
 use Rattle.std.specs.List.{AllByRecursion}
 use Rattle.std.proofs.lemmas.List.{length-map}
-use Rattle.nfs_model.specs.Types.{Call, Credential, Moment, Asked, Ask, Refused, Undecoded, SystemError}
+use Rattle.nfs_model.specs.Types.{Call, Credential, Moment, Asked, Ask, Refused, Undecoded}
 use Rattle.nfs_model.specs.Tree.{Layout, Affinity}
 use Rattle.nfs_model.specs.Server.{Server, start_of_times}
 use Rattle.nfs_model.specs.Home.{home, home_of_asked}
 use Rattle.nfs_model.specs.Serial.Step.{Step, serial, serve, stay}
 use Rattle.nfs_model.specs.Serial.AtOnce.{answer_without_home}
-use Rattle.nfs_model.specs.Replay.{FinishedCall, step_of, server_after}
-use Rattle.nfs_model.specs.World.{Setup, World, Heard, Message, finish}
+use Rattle.nfs_model.specs.Replay.{FinishedCall, server_after}
+use Rattle.nfs_model.specs.World.{Setup, World, Heard, Message}
 use Rattle.nfs_model.specs.Headline.{start}
 use Rattle.nfs_model.specs.Events.Feed.{Feeds, Feeding, Hears, heard_in, admit, call_at_once, call_undecoded, bytes_taken, served_count}
 use Rattle.desk_laws.specs.Books.{settled, HasHands}
-use Rattle.held_state.specs.Parcels.{FilerParcel}
 use Rattle.held_state.specs.Contents.{filer_contents}
-use Rattle.held_state.specs.Tree.{tree, volume_of}
+use Rattle.held_state.specs.Tree.{volume_of}
 use Rattle.held_state.specs.Jobs.{Job, JobReply}
 use Rattle.held_laws.specs.lemmas.Steps.{laid-out}
 use Rattle.engine_laws.specs.Store.{FilerBooks, filer, RunOn, StandsFor, batches_carried}
@@ -24,7 +23,8 @@ use Rattle.engine_laws.specs.lemmas.Finishing.{after-one}
 
 -- a call without a home changes nothing
 abbrev pub WithoutHomeStays : Type 0
-WithoutHomeStays = (layout : Layout) (server : Server) (credential : Credential) (moment : Moment) (call : Call) → length layout.volumes ≡ length server.volumes
+WithoutHomeStays = (layout : Layout) (server : Server) (credential : Credential) (moment : Moment) (call : Call) → length layout.volumes
+    ≡ length server.volumes
     → home layout call ≡ None → serve server call credential moment ≡ stay server (answer_without_home layout call)
 
 -- what calls run on is the same in two worlds
@@ -152,7 +152,8 @@ module _ (stays : WithoutHomeStays) (setup : Setup) where
 
     pub feed-alike : (f : Feeding) (new : World) → Feeds setup f w new → RunAlike setup w new
     feed-alike f new feeds =
-        let same = hears-alike feeds.heard f.connection (bytes_taken w f.connection (take f.taken f.bytes)) (served_count setup w f.connection) new counted feeds.hears in
+        let same = hears-alike feeds.heard f.connection (bytes_taken w f.connection (take f.taken f.bytes))
+        (served_count setup w f.connection) new counted feeds.hears in
         record { server = same.server; parts = same.parts; stamps = same.stamps; workers = same.workers; finished = same.finished }
 
     -- the books stand for the world after it

@@ -1,32 +1,30 @@
 -- A message that was worked is finished, or waits again where it moved.
-use Rattle.std.proofs.Common.{◌≡◌, ◌≢◌, ℕ, zero, suc, ◌+◌, ◌<◌, Bool, true, false, List, [], ◌∷◌, ◌++◌, length, Option, Some, None, refl, sym, ap, ◌∙◌}
+use Rattle.std.proofs.Common.{◌≡◌, ◌≢◌, ℕ, ◌+◌, Bool, List, [], ◌∷◌, ◌++◌, Option, Some, None, refl, sym, ap, ◌∙◌}
 use Rattle.std.proofs.Common.{subst, arith}
-use Rattle.std.specs.Prelude.{slice_get, slice_set}
+use Rattle.std.specs.Prelude.{slice_get}
 use Rattle.std.proofs.lemmas.List.{length-append}
 use mathlib.Core.Option.{some, some-injective}
 use lib.ListN.{get_elem?}
-use Rattle.nfs_model.specs.Types.{Reply, SystemError}
+use Rattle.nfs_model.specs.Types.{Reply}
 use Rattle.nfs_model.specs.Tree.{Layout, Affinity}
 use Rattle.nfs_model.specs.Server.{Server}
-use Rattle.nfs_model.specs.Parts.{Hand}
 use Rattle.nfs_model.specs.Replay.{FinishedCall, step_of, server_after}
-use Rattle.nfs_model.specs.Work.{Outcome, Replied, Starved, Moved}
+use Rattle.nfs_model.specs.Work.{Outcome, Moved}
 use Rattle.nfs_model.specs.World.{Setup, World, Running, Worker, changed_at, with_running}
 use Rattle.nfs_model.specs.Headline.{start, worked_by}
-use Rattle.nfs_model.specs.Events.Step.{finished_call, finished_by}
+use Rattle.nfs_model.specs.Events.Step.{finished_call}
 use Rattle.affinity_tree.specs.Fault.{fault_of}
 use Rattle.affinity_tree.specs.Tree.{IsNode}
-use Rattle.affinity_tree.specs.Ancestors.{Covers}
 use Rattle.affinity_tree.specs.Numbers.{number_of, node_count, parents}
 use Rattle.affinity_tree.specs.lemmas.Smaller.{length-parents}
 use Rattle.depot_rule.specs.declared.view.Entry.{Entry}
 use Rattle.depot_rule.specs.Sums.{total}
-use Rattle.depot_rule.specs.History.{patched, listed, by_number, after, put_in, AreHands}
+use Rattle.depot_rule.specs.History.{patched, listed, by_number, put_in}
 use Rattle.depot_rule.specs.lemmas.Covering.{patched-in, patched-out}
 use Rattle.depot_rule.specs.lemmas.Histories.{after-snoc, moved-snoc}
 use Rattle.depot_rule.specs.lemmas.Listed.{by-number-at}
 use Rattle.depot.specs.Grants.{entry_of}
-use Rattle.desk_laws.specs.Books.{Lent, Books, settled, now, stamps, HasLent, UnderLent, IsUnchanged, HasHands, IsSettled}
+use Rattle.desk_laws.specs.Books.{Lent, settled, stamps, HasLent, UnderLent, IsUnchanged, HasHands, IsSettled}
 use Rattle.desk_laws.specs.Calls.{MayFinish, HasFinished, HasPutBack, with_lent}
 use Rattle.desk_laws.specs.lemmas.Overlays.{covers-or-not}
 use Rattle.held_state.specs.Parcels.{FilerParcel}
@@ -43,7 +41,8 @@ use Rattle.engine_laws.specs.lemmas.Changing.{lent-at, run-changed, carried-stay
 use Rattle.engine_laws.specs.lemmas.Served.{covered-node, outcome-there}
 
 -- the server after one more call
-pub after-one : (server : Server) (es : List FinishedCall) (e : FinishedCall) → server_after server (es ++ e ∷ []) ≡ (step_of (server_after server es) e).server
+pub after-one : (server : Server) (es : List FinishedCall) (e : FinishedCall) → server_after server (es ++ e ∷ []) ≡
+    (step_of (server_after server es) e).server
 after-one server [] e = refl
 after-one server (d ∷ es) e = after-one (step_of server d).server es e
 
@@ -58,7 +57,8 @@ none-given is_call is_reply = λ n. gives (is_call n) (is_reply n)
 pub left-is : {P : Type 0} (layout : Layout) → fault_of layout ≡ None → (l : Lent (FilerParcel P)) → IsNode layout l.affinity
     → {C R : Type 0} (call : C) (reply : R) (f : ℕ → Option (FilerParcel P))
     → put_in (parents layout) (entry_of layout l.affinity l.parcels call reply) f ≡ patched (parents layout) (number_of layout l.affinity) l.parcels f
-left-is {P} layout lawful l node call reply f = λ j k. let here : ℕ = number_of layout l.affinity in let left : List (Option (FilerParcel P)) = by_number l.parcels (1 + node_count layout) in covers-or-not (parents layout) here k
+left-is {P} layout lawful l node call reply f = λ j k. let here : ℕ = number_of layout l.affinity in let left : List
+    (Option (FilerParcel P)) = by_number l.parcels (1 + node_count layout) in covers-or-not (parents layout) here k
     (λ c.
     let p = covered-node layout lawful l.affinity node k c in
     let size = length-parents layout in
@@ -67,7 +67,8 @@ left-is {P} layout lawful l node call reply f = λ j k. let here : ℕ = number_
     (λ out. patched-out (parents layout) here (listed left) f k out ∙ sym (patched-out (parents layout) here l.parcels f k out))
     j
 
-module _ {P C R : Type 0} (job : C → Job) (told : R → JobReply) (setup : Setup) (w : World) (b : FilerBooks P C R) (s : StandsFor job told setup w b) (i : ℕ) (k : Worker) (there : slice_get w.workers i ≡ Some k)
+module _ {P C R : Type 0} (job : C → Job) (told : R → JobReply) (setup : Setup) (w : World) (b : FilerBooks P C R) (s : StandsFor job told setup w b)
+    (i : ℕ) (k : Worker) (there : slice_get w.workers i ≡ Some k)
     (r : Running) (runs : k.running ≡ Some r) (o : Outcome) (came : r.outcome ≡ Some o) where
   -- what the worker has runs on what it was lent
   pub run-on : (l : Lent (FilerParcel P)) → HasLent b i l → HasOutcome setup b r l (Some o)
@@ -88,7 +89,7 @@ module _ {P C R : Type 0} (job : C → Job) (told : R → JobReply) (setup : Set
       served.0,
       served.1,
       subst (λ (x : Job × JobReply). FilerSteps (parents b.layout) (number_of b.layout l.affinity) x.0 served.0 x.1 l.parcels)
-      (sym (λ n. (is_call n, is_reply n))) served.2,
+          (sym (λ n. (is_call n, is_reply n))) served.2,
     );
     hands = batches_carried w.workers;
     next = batches_carried w.workers;
@@ -96,7 +97,8 @@ module _ {P C R : Type 0} (job : C → Job) (told : R → JobReply) (setup : Set
     moves = λ weigh. ap (λ hs. total weigh hs + total weigh (batches_carried w.workers)) (none-given is_call is_reply ∙ sym (none-taken is_call is_reply));
   }
 
-  module _ (starved : Bool) (reply : Reply) (call : C) (answer : R) (is_call : job call ≡ Serve (finished_call r starved)) (is_reply : told answer ≡ jobs.Replied reply)
+  module _ (starved : Bool) (reply : Reply) (call : C) (answer : R) (is_call : job call ≡ Serve (finished_call r starved))
+      (is_reply : told answer ≡ jobs.Replied reply)
       (c : FilerBooks P C R) (done : HasFinished (filer job told) b i call answer c) (apart : IsApart c) (next : World)
       (same_server : (server : Server) → worked_by server r (Some o) ≡ (step_of server (finished_call r starved)).server)
       (server : next.server ≡ w.server) (parts : next.parts ≡ w.parts) (finished : next.finished ≡ w.finished ++ finished_call r starved ∷ [])
@@ -124,7 +126,7 @@ module _ {P C R : Type 0} (job : C → Job) (told : R → JobReply) (setup : Set
     finished-is : server_after (start setup) next.finished ≡ tree b.layout (settled new_books)
     finished-is =
         let there = outcome-there setup b s.lawful l (s.lent.node i l done.is_lent) r (Some o) (run-on l done.is_lent) (settled b) (λ n cover. refl)
-            (batches_carried w.workers) (stamps b) (sound-settled job told setup w b s) in
+        (batches_carried w.workers) (stamps b) (sound-settled job told setup w b s) in
         ap (λ xs. server_after (start setup) xs) finished ∙ after-one (start setup) w.finished (finished_call r starved)
         ∙ ap (λ x. (step_of x (finished_call r starved)).server) s.finished
         ∙ sym (same_server (tree b.layout (settled b))) ∙ sym there.1 ∙ ap (λ f. tree b.layout f) (sym settled-is)

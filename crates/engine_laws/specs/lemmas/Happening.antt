@@ -1,13 +1,11 @@
 -- What the desk's calls come to as events: begun, worked, finished and put back, with the number of each refusal.
-use Rattle.std.proofs.Common.{◌≡◌, ◌≢◌, ℕ, ◌+◌, Bool, true, false, List, [], ◌∷◌, ◌++◌, Option, Some, None, refl, sym, ap, ◌∙◌}
-use Rattle.std.specs.Prelude.{slice_get, Result, Ok, Err}
-use Rattle.std.specs.List.{remove}
-use Rattle.nfs_model.specs.Types.{Moment, Reply, SystemError}
-use Rattle.nfs_model.specs.Tree.{Affinity}
-use Rattle.nfs_model.specs.Work.{Store, Outcome, Replied, Starved, Moved, Works}
-use Rattle.nfs_model.specs.World.{Setup, World, IsScan, Message, Running, Worker, store_of, task_of}
+use Rattle.std.proofs.Common.{◌≡◌, ℕ, true, false, Some, None, refl, ◌∙◌}
+use Rattle.std.specs.Prelude.{slice_get, Result, Ok}
+use Rattle.nfs_model.specs.Types.{Moment}
+use Rattle.nfs_model.specs.Work.{Outcome}
+use Rattle.nfs_model.specs.World.{Setup, World, IsScan, Message, Running, Worker}
 use Rattle.nfs_model.specs.Events.Refusals.{Event, Begin, Work, Finish, Granted, is_idle, is_bad_moment, excluded, refusal}
-use Rattle.nfs_model.specs.Events.Step.{Events, Happens, begun, worked, done_of, told_of, finished_by}
+use Rattle.nfs_model.specs.Events.Step.{Events, begun, worked, done_of, told_of, finished_by}
 use Rattle.nfs_model.specs.Headline.{Kept}
 use Rattle.nfs_model.specs.Agreed.{IsAgreed}
 use Rattle.depot_rule.specs.declared.view.View.{View}

@@ -1,20 +1,19 @@
 -- The books of a desk as a run begins stand for the world as it begins.
-use Rattle.std.proofs.Common.{◌≡◌, ℕ, zero, suc, ◌+◌, ◌<◌, List, [], ◌∷◌, length, replicate, Option, Some, None, refl, sym, ap, ◌∙◌}
+use Rattle.std.proofs.Common.{◌≡◌, ℕ, zero, suc, ◌+◌, [], replicate, Option, Some, None, refl, sym, ap, ◌∙◌}
 use Rattle.std.proofs.Common.{subst, arith}
 use mathlib.Core.Option.{some, some-injective, some-ne-none}
 use lib.ListN.{get_elem?}
-use Rattle.nfs_model.specs.Tree.{Layout, Affinity}
-use Rattle.nfs_model.specs.Parts.{Hand, Empty}
+use Rattle.nfs_model.specs.Tree.{Layout}
+use Rattle.nfs_model.specs.Parts.{Empty}
 use Rattle.nfs_model.specs.World.{Setup, Worker}
 use Rattle.nfs_model.specs.Headline.{opening_world}
 use Rattle.affinity_tree.specs.Fault.{fault_of}
-use Rattle.affinity_tree.specs.Tree.{IsNode}
-use Rattle.affinity_tree.specs.Numbers.{number_of, node_count, parents}
+use Rattle.affinity_tree.specs.Numbers.{number_of, node_count}
 use Rattle.affinity_tree.specs.lemmas.Smaller.{length-parents}
 use Rattle.affinity_tree.specs.lemmas.Standing.{number-place}
 use Rattle.depot_rule.specs.History.{listed, by_number}
 use Rattle.depot_rule.specs.lemmas.Listed.{by-number-at}
-use Rattle.desk_laws.specs.Books.{Lent, overlaid, settled, now, HasLent, HasHands, opening_books}
+use Rattle.desk_laws.specs.Books.{Lent, overlaid, HasHands, opening_books}
 use Rattle.held_state.specs.Parcels.{FilerParcel}
 use Rattle.held_state.specs.Contents.{filer_contents}
 use Rattle.held_state.specs.Tree.{tree}
@@ -22,7 +21,7 @@ use Rattle.held_state.specs.Partition.{all_parts}
 use Rattle.held_state.specs.Opening.{AreOpening}
 use Rattle.held_laws.specs.Laws.{OpensSound, OpensAsServer, OpensFree}
 use Rattle.held_state.specs.Jobs.{Job, JobReply}
-use Rattle.engine_laws.specs.Store.{FilerBooks, filer, RunOn, IsApart, StandsFor, batches_carried}
+use Rattle.engine_laws.specs.Store.{FilerBooks, filer, RunOn, StandsFor, batches_carried}
 
 abbrev idle : Worker
 idle = record { running = None; hand = Empty }
@@ -43,7 +42,8 @@ none-over : {P : Type 0} (layout : Layout) (n : ℕ) (f : ℕ → Option (FilerP
 none-over layout zero f = refl
 none-over layout (suc n) f = none-over layout n f
 
-module _ {P C R : Type 0} (job : C → Job) (told : R → JobReply) (sound : OpensSound P) (server : OpensAsServer P) (free : OpensFree P) (setup : Setup) (lawful : fault_of setup.layout ≡ None)
+module _ {P C R : Type 0} (job : C → Job) (told : R → JobReply) (sound : OpensSound P) (server : OpensAsServer P) (free : OpensFree P) (setup : Setup)
+    (lawful : fault_of setup.layout ≡ None)
     (f : ℕ → Option (FilerParcel P)) (opening : AreOpening setup.layout setup.verifier f) where
   abbrev L : Layout
   L = setup.layout

@@ -1,5 +1,5 @@
 -- What running messages did, told on whatever other parcels there are.
-use Rattle.std.proofs.Common.{◌≡◌, ℕ, zero, suc, ◌+◌, ◌<◌, true, false, IsTrue, List, [], ◌∷◌, length, Option, Some, None, refl, sym, ap, ◌∙◌}
+use Rattle.std.proofs.Common.{◌≡◌, ℕ, ◌+◌, ◌<◌, true, false, List, length, Option, Some, None, refl, sym, ap, ◌∙◌}
 use Rattle.std.proofs.Common.{subst, arith, ⊎_elim}
 use Rattle.nfs_model.specs.Types.{Reply, SystemError}
 use Rattle.nfs_model.specs.Tree.{Layout, Affinity}
@@ -20,12 +20,12 @@ use Rattle.depot_rule.specs.lemmas.Trees.{covers-below, above-smaller}
 use Rattle.desk_laws.specs.Books.{Lent, settled, IsUnchanged}
 use Rattle.desk_laws.specs.lemmas.Overlays.{covers-or-not}
 use Rattle.held_state.specs.Parcels.{FilerParcel}
-use Rattle.held_state.specs.Contents.{filer_contents, volume_at}
+use Rattle.held_state.specs.Contents.{filer_contents}
 use Rattle.held_state.specs.Tree.{server_of, tree}
-use Rattle.held_state.specs.Sound.{AreSound, AllSound}
+use Rattle.held_state.specs.Sound.{AllSound}
 use Rattle.held_state.specs.Jobs as jobs
 use Rattle.held_state.specs.Jobs.{Job, JobReply, Serve}
-use Rattle.held_state.specs.Deeds.{FilerSteps, Serves}
+use Rattle.held_state.specs.Deeds.{Serves}
 use Rattle.held_laws.specs.lemmas.Steps.{sound-later}
 use Rattle.held_laws.specs.lemmas.Lawful.{steps-local, entry-does}
 use Rattle.engine_laws.specs.Store.{FilerBooks, IsServed, HasOutcome}
@@ -36,9 +36,9 @@ pub covered-node : (layout : Layout) → fault_of layout ≡ None → (a : Affin
 covered-node layout lawful a node k c =
     let place = number-place layout a node in
     let pos : 0 < k = ⊎_elim
-        (λ (e : number_of layout a ≡ k). subst (λ (n : ℕ). 0 < n) e place.0)
-        (λ u. let s = above-smaller (parents layout) (parents-tree layout lawful) (number_of layout a) k u in (let p : 0 < k = omega arith in p))
-        c in
+    (λ (e : number_of layout a ≡ k). subst (λ (n : ℕ). 0 < n) e place.0)
+    (λ u. let s = above-smaller (parents layout) (parents-tree layout lawful) (number_of layout a) k u in (let p : 0 < k = omega arith in p))
+    c in
     (pos, covers-below (parents layout) (number_of layout a) k pos place.1 c)
 
 -- putting in what is there changes nothing
@@ -54,7 +54,8 @@ pub all-later : {P : Type 0} (layout : Layout) (f : ℕ → Option (FilerParcel 
 all-later layout f hands n sound v p there =
     let s = sound v p there in (s.0, sound-later p hands hands n (λ i. refl) s.1)
 
-module _ {P C R : Type 0} (setup : Setup) (b : FilerBooks P C R) (lawful : fault_of b.layout ≡ None) (l : Lent (FilerParcel P)) (node : IsNode b.layout l.affinity) where
+module _ {P C R : Type 0} (setup : Setup) (b : FilerBooks P C R) (lawful : fault_of b.layout ≡ None) (l : Lent (FilerParcel P))
+    (node : IsNode b.layout l.affinity) where
   abbrev ps : List ℕ
   ps = parents b.layout
 
@@ -75,7 +76,7 @@ module _ {P C R : Type 0} (setup : Setup) (b : FilerBooks P C R) (lawful : fault
       × AllSound b.layout (put f) hands (n + 1)
   serves-there call reply worked f agrees hands n sound =
       let same : (k : ℕ) → Covers ps here k → f k ≡ worked.0 k = λ k c.
-          (let in_tree = covered-node b.layout lawful l.affinity node k c in agrees k c ∙ sym (worked.1 k in_tree.0 in_tree.1 c)) in
+      (let in_tree = covered-node b.layout lawful l.affinity node k c in agrees k c ∙ sym (worked.1 k in_tree.0 in_tree.1 c)) in
       let step = (steps-local ps here (Serve call) worked.0 f (jobs.Replied reply) l.parcels worked.2).1 same in
       entry-does b.layout lawful l.affinity node (Serve call) (jobs.Replied reply) f (put f) hands hands n step sound (λ weigh. refl)
 

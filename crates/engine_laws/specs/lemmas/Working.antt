@@ -1,18 +1,18 @@
 -- A message is worked: it comes to what the model says, and the books stand for the world after it.
-use Rattle.std.proofs.Common.{◌≡◌, ◌≢◌, ℕ, zero, suc, ◌+◌, ◌<◌, Bool, true, false, ◌&&◌, ◌||◌, IsTrue, List, [], ◌∷◌, ◌++◌, Option, Some, None, refl, sym, ap, ◌∙◌}
-use Rattle.std.proofs.Common.{subst, arith}
+use Rattle.std.proofs.Common.{◌≡◌, ℕ, ◌+◌, Bool, true, false, ◌&&◌, ◌||◌, IsTrue, List, [], ◌∷◌, ◌++◌, Option, Some, None, refl, sym, ap, ◌∙◌}
+use Rattle.std.proofs.Common.{subst}
 use Rattle.std.proofs.lemmas.Bool.{and_parts, and_from}
-use Rattle.std.specs.Prelude.{slice_get, slice_set, if◌then◌else◌, nat_lt, length, ◌==◌}
+use Rattle.std.specs.Prelude.{slice_get, if◌then◌else◌, nat_lt, length, ◌==◌}
 use Rattle.std.specs.FinSet.{len}
-use mathlib.Core.Option.{some, some-injective}
-use lib.ListN.{get_elem?}
+use mathlib.Core.Option.{some-injective}
 use Rattle.nfs_model.specs.Types.{Call, Asked, Ask, Refused, Undecoded, Reply, SystemError}
 use Rattle.nfs_model.specs.Types as types
 use Rattle.nfs_model.specs.Tree.{Layout, Affinity, Serial, Aggregate, Volume, Logical, Stripe, Vbn, Range, path, begins, aggregate_of}
 use Rattle.nfs_model.specs.Parts.{Parts}
 use Rattle.nfs_model.specs.Locate.{locate}
 use Rattle.nfs_model.specs.Replay.{FinishedCall}
-use Rattle.nfs_model.specs.Work.{Store, Task, Outcome, Replied, Starved, Moved, Works, Ready, move_by, move_if, move_of, move_of_call, move_of_asked, parts_at, volume_above, ready_at}
+use Rattle.nfs_model.specs.Work.{Store, Task, Outcome, Replied, Starved, Moved, Works, Ready}
+use Rattle.nfs_model.specs.Work.{move_by, move_if, move_of, move_of_call, move_of_asked, parts_at, volume_above, ready_at}
 use Rattle.nfs_model.specs.World.{Setup, World, Running, Worker, store_of, task_of, changed_at, with_running}
 use Rattle.nfs_model.specs.Headline.{IsTriedAt}
 use Rattle.nfs_model.specs.Events.Step.{finished_call, worked}
@@ -26,7 +26,6 @@ use Rattle.desk_laws.specs.lemmas.Overlays.{overlaid-here}
 use Rattle.held_state.specs.Parcels.{FilerParcel}
 use Rattle.held_state.specs.Contents.{filer_contents}
 use Rattle.held_state.specs.Tree.{tree}
-use Rattle.held_state.specs.Partition.{all_parts}
 use Rattle.held_state.specs.Sound.{AllSound}
 use Rattle.held_state.specs.Jobs as jobs
 use Rattle.held_state.specs.Jobs.{Job, JobReply, Serve}
@@ -114,7 +113,8 @@ moves-up setup store task to moved tried = (tried.0, tried.1, by task.asked move
 
 -- ---- work
 
-module _ {P C R : Type 0} (job : C → Job) (told : R → JobReply) (setup : Setup) (w : World) (b : FilerBooks P C R) (s : StandsFor job told setup w b) (i : ℕ) (k : Worker) (there : slice_get w.workers i ≡ Some k)
+module _ {P C R : Type 0} (job : C → Job) (told : R → JobReply) (setup : Setup) (w : World) (b : FilerBooks P C R) (s : StandsFor job told setup w b)
+    (i : ℕ) (k : Worker) (there : slice_get w.workers i ≡ Some k)
     (r : Running) (runs : k.running ≡ Some r) (fresh : r.outcome ≡ None) (o : Outcome) (c : FilerBooks P C R) (done : HasWorked (Serving r) b i o c) where
   abbrev L : Layout
   L = b.layout
@@ -178,23 +178,26 @@ module _ {P C R : Type 0} (job : C → Job) (told : R → JobReply) (setup : Set
       (batches_carried w.workers) (batches_carried w.workers) made
       ((steps-local (parents L) here (Serve call) l.parcels (now b) (jobs.Replied reply) done.parcels step).1 lent-now) sound (λ weigh. refl)).0
 
-  seen : Works (record { asked = r.message.asked; affinity = l.affinity; moment = r.moment }) (stored_all (filer_contents L (now b))) o (stored_all (filer_contents L put))
+  seen : Works (record { asked = r.message.asked; affinity = l.affinity; moment = r.moment }) (stored_all (filer_contents L (now b))) o
+      (stored_all (filer_contents L put))
       → Works (task_of r) (store_of w) o after
   seen works =
       subst (λ st. Works (task_of r) (store_of w) o st) after-is
       (subst (λ st. Works (task_of r) st o (stored_all (filer_contents L put))) store-is
-      (subst (λ a. Works (record { asked = r.message.asked; affinity = a; moment = r.moment }) (stored_all (filer_contents L (now b))) o (stored_all (filer_contents L put))) run.0 works))
+      (subst (λ a. Works (record { asked = r.message.asked; affinity = a; moment = r.moment }) (stored_all (filer_contents L (now b))) o
+      (stored_all (filer_contents L put))) run.0 works))
 
   put-same : AgreeUnder L l.affinity done.parcels l.parcels → put ≡ now b
   put-same same = patched-same (parents L) here done.parcels (now b) (λ n cover. same n cover ∙ sym (lent-now n cover))
 
   came-to : (x : Outcome) → x ≡ o → Serving r L l.affinity l.parcels x done.parcels
-      → Works (record { asked = r.message.asked; affinity = l.affinity; moment = r.moment }) (stored_all (filer_contents L (now b))) x (stored_all (filer_contents L put))
+      → Works (record { asked = r.message.asked; affinity = l.affinity; moment = r.moment }) (stored_all (filer_contents L (now b))) x
+      (stored_all (filer_contents L put))
   came-to (Replied reply) e did = (served-here (finished_call r false) reply did).works
   came-to Starved e did = (served-here (finished_call r true) SystemError did).works
   came-to (Moved to) e did = (
     subst (λ a. move_of (stored_all (filer_contents L (now b))) (record { asked = r.message.asked; affinity = a; moment = r.moment }) ≡ Some to) (sym run.0)
-    (did.1 (now b) (batches_carried w.workers) made lent-now sound),
+        (did.1 (now b) (batches_carried w.workers) made lent-now sound),
     ap (λ f. stored_all (filer_contents L f)) (put-same did.0),
   )
 

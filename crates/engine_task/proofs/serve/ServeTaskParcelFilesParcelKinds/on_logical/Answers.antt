@@ -18,12 +18,14 @@ run_on_logical-requires-clause-whole c =
 
 pub returns-clause-exact : goal.returns-clause-exact
 returns-clause-exact c =
-    logical-exact (layout_of c.args.layout.now) (affinity_of c.args.affinity) c.args.held.now c.run_on_logical.new.held c.run_on_logical.ensures.alike c.requires.exact
+    logical-exact (layout_of c.args.layout.now) (affinity_of c.args.affinity) c.args.held.now c.run_on_logical.new.held
+    c.run_on_logical.ensures.alike c.requires.exact
 
 pub returns-clause-does : goal.returns-clause-does
 returns-clause-does c =
     let L = layout_of c.args.layout.now in
     let a = affinity_of c.args.affinity in
-    logical-served L c.args.layout.now.lawful c.args.held.now c.run_on_logical.new.held a c.requires.node c.requires.asks.0 (credential_of c.args.self.credential)
-    (moment_of c.args.self.moment) (outcome_of c.run_on_logical.result) c.run_on_logical.ensures.moved (call_of c.args.self.call.now) c.requires.asks.1
-    c.run_on_logical.ensures.runs
+    let call = call_of c.args.self.call.now in
+    logical-served L c.args.layout.now.lawful c.args.held.now c.run_on_logical.new.held (credential_of c.args.self.credential)
+    (moment_of c.args.self.moment) (outcome_of c.run_on_logical.result) c.run_on_logical.ensures.moved a c.requires.node c.requires.asks.0
+    call c.requires.asks.1 c.run_on_logical.ensures.runs

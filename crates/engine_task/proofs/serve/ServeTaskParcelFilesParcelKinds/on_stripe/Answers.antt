@@ -10,4 +10,5 @@ pub unreachable-requires : goal.unreachable-requires
 unreachable-requires c =
     let L = layout_of c.args.layout.now in
     let a = affinity_of c.args.affinity in
-    not-served L a (call_of c.args.self.call.now) c.requires.asks.1 kinds.Stripe (stripe-kind L a c.args.held.now c.requires.node c.requires.exact) (λ e. absurd cc)
+    not-served L a (call_of c.args.self.call.now) c.requires.asks.1 kinds.Stripe
+    (stripe-kind L a c.args.held.now c.requires.node c.requires.exact) (λ e. absurd cc)
