@@ -43,7 +43,8 @@ use Rattle.engine.specs.Receiving.{takes_bytes, IsFed}
 use Rattle.engine.specs.Seen.{connection_seen, worker_seen, setup_in, world}
 use Rattle.engine.specs.Sound.{IsSound, IsPlaced, IsReady, running_messages, room_on}
 use Rattle.engine.proofs.Placed.{all-append, all-later, kept_on, room-own, room-other}
-use Rattle.engine.proofs.Closing.{seen-at, seen-set}
+use Rattle.engine.proofs.Closing.{seen-at, seen-set, set-same}
+use Rattle.engine.proofs.Reconnected.{reserved-sound}
 
 -- ---- one place of a list
 
@@ -209,15 +210,14 @@ setup-same s new e = ap (λ (l : Layout). record (setup_in s) { layout = l }) e
 -- a place that bytes came on
 module _ (stays : WithoutHomeStays) (s new : State) (sound : IsSound s) (number : ℕ) (bytes : List ℕ) (taken : ℕ) (stop : Stop) (d d' : Connection)
     (at : slice_get s.connections.items number ≡ Some d) (items : new.connections.items ≡ slice_set s.connections.items number d')
-    (f : IsFed s.calls d number bytes taken stop new.calls d') where
+    (f : IsFed s.calls d number bytes taken stop new.calls d') (same : new ≡ fed_state s new) where
   there : slice_get s.connections.items number ≡ Some (Open f.before)
   there = at ∙ ap (λ (k : Connection). Some k) f.was
 
   set_to : new.connections.items ≡ slice_set s.connections.items number (Open f.after)
   set_to = items ∙ ap (slice_set s.connections.items number) f.is
 
-  -- what the model says of it
-  pub happens-fed : Feeds (setup_in s) (feeding number bytes taken (stop_number stop)) (world s) (world (fed_state s new))
+  happens-fed : Feeds (setup_in s) (feeding number bytes taken (stop_number stop)) (world s) (world (fed_state s new))
   happens-fed =
       subst (Feeds (setup_in s) (feeding number bytes taken (stop_number stop)) (world s)) (world-fed s new number f.before f.after set_to there)
       (f.feeds (setup_in s) (world s) (record { codec = refl; layout = refl }) (is-part s number f.before sound there))
@@ -235,8 +235,8 @@ module _ (stays : WithoutHomeStays) (s new : State) (sound : IsSound s) (number 
       (feed-home stays (setup_in s) (feeding number bytes taken (stop_number stop)) (world s) (world (fed_state s new)) happens-fed
       (homes-of layout (length s.connections.items) (messages_of s.calls) sound.waiting))
 
-  pub fed-sound : IsSound (fed_state s new)
-  fed-sound =
+  sound-fed : IsSound (fed_state s new)
+  sound-fed =
       let cs = s.connections.items in
       let ws = s.workers.items in
       let to = sym f.adds.layout in
@@ -261,3 +261,31 @@ module _ (stays : WithoutHomeStays) (s new : State) (sound : IsSound s) (number 
             (fed-owed cs number f.before f.after (messages_of s.calls) f.adds.more (messages_of new.calls) ws there f.adds.waiting f.adds.own
             f.adds.owed sound.owed);
       }
+
+  -- what the model says of it
+  pub happens : Feeds (setup_in s) (feeding number bytes taken (stop_number stop)) (world s) (world new)
+  happens = subst (λ (x : State). Feeds (setup_in s) (feeding number bytes taken (stop_number stop)) (world s) (world x)) (sym same) happens-fed
+
+  pub fed-setup : setup_in new ≡ setup_in s
+  fed-setup = ap setup_in same ∙ setup-same s new f.adds.layout
+
+  pub fed-sound : IsSound new
+  fed-sound = subst IsSound (sym same) sound-fed
+
+-- a place that took none
+module _ (s new : State) (number : ℕ) (d d' : Connection) (at : slice_get s.connections.items number ≡ Some d)
+    (items : new.connections.items ≡ slice_set s.connections.items number d') (stays : d' ≡ d) (calls : new.calls ≡ s.calls)
+    (same : new ≡ fed_state s new) where
+  same_items : new.connections.items ≡ s.connections.items
+  same_items = items ∙ ap (slice_set s.connections.items number) stays ∙ set-same s.connections.items number d at
+
+  pub unfed-world : world new ≡ world s
+  unfed-world =
+      ap world same ∙ ap (λ (x : CallsState). world (record s { connections = new.connections; calls = x })) calls
+      ∙ ap (λ (cs : List Connection). record (world s) { connections = map connection_seen cs }) same_items
+
+  pub unfed-sound : IsSound s → IsSound new
+  unfed-sound sound =
+      subst IsSound (sym same)
+      (subst (λ (x : CallsState). IsSound (record s { connections = new.connections; calls = x })) (sym calls)
+      (reserved-sound s (record s { connections = new.connections }) refl same_items sound))
