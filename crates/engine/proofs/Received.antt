@@ -1,5 +1,5 @@
 -- Bytes that come on a connection: the world, the messages and the rooms after it.
-use Rattle.std.proofs.Common.{◌≡◌, ◌≢◌, ◌<◌, ◌≤◌, ℕ, zero, suc, ◌+◌, ◌^◌, ◌⊎◌, inl, inr, Bool, true, false, ◌&&◌, List, [], ◌∷◌, ◌++◌, map, length}
+use Rattle.std.proofs.Common.{◌≡◌, ◌≢◌, ◌<◌, ◌≤◌, ℕ, zero, suc, ◌+◌, ◌^◌, inl, inr, Bool, true, List, [], ◌∷◌, ◌++◌, map, length}
 use Rattle.std.proofs.Common.{Option, Some, None, refl, sym, ap, subst, ◌∙◌, arith}
 use Rattle.std.specs.Prelude.{is_none, option_map, slice_get, slice_set, if◌then◌else◌}
 use Rattle.std.specs.List.{AllByRecursion}
@@ -8,7 +8,6 @@ use Rattle.std.proofs.lemmas.List.{length-map, length-set}
 use Rattle.std.proofs.lemmas.Option.{slice_get-map, slice_get_within}
 use Rattle.nfs_model.specs.Tree.{Layout}
 use Rattle.nfs_model.specs.Home.{home_of_asked}
-use Rattle.nfs_model.specs.Server.{Server}
 use Rattle.nfs_model.specs.World as worlds
 use Rattle.nfs_model.specs.World.{Setup, World, all_running, changed_at}
 use Rattle.nfs_model.specs.Events.Feed.{Feeds, feeding}
@@ -27,11 +26,10 @@ use Rattle.engine_feed.specs.declared.stop.Stop.{Stop}
 use Rattle.engine_feed.specs.declared.state.ConnectionState.{ConnectionState}
 use Rattle.engine_feed.specs.declared.state.CallsState.{CallsState}
 use Rattle.engine_feed.specs.Numbers.{stop_number}
-use Rattle.engine_feed.specs.Seen.{connection_of, owed_by, layout_in, messages_of, message_of, waiting_of, finished_of, running_count}
+use Rattle.engine_feed.specs.Seen.{connection_of, owed_by, layout_in, messages_of, message_of}
 use Rattle.engine_feed.specs.Sound.{IsAdmitted}
-use Rattle.engine_feed.specs.Streams.{scan_stream}
-use Rattle.engine_feed.specs.Within.{IsSetup, IsPartOf, with_part}
-use Rattle.engine_feed.specs.Words.{TakesInput, HasFed, Adds, IsOwn, rooms}
+use Rattle.engine_feed.specs.Within.{IsPartOf, with_part}
+use Rattle.engine_feed.specs.Words.{TakesInput, IsOwn, rooms}
 use Rattle.engine_laws.specs.Store.{StandsFor}
 use Rattle.engine_laws.specs.lemmas.Feeding.{WithoutHomeStays, fed-stands, feed-home}
 use Rattle.engine.specs.declared.connection.Connection.{Connection}

@@ -1,4 +1,4 @@
-use Rattle.std.proofs.Common.{◌≡◌, ℕ, Option, Some, true, refl, sym, ap, ◌∙◌, inl}
+use Rattle.std.proofs.Common.{true, refl, inl}
 use Rattle.std.specs.Vec.{with_item}
 use Rattle.engine_feed.specs.Numbers.{stop_number}
 use Rattle.engine.specs.declared.state.State.{State}
