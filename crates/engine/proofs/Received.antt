@@ -1,11 +1,11 @@
 -- Bytes that come on a connection: the world, the messages and the rooms after it.
 use Rattle.std.proofs.Common.{◌≡◌, ◌≢◌, ◌<◌, ◌≤◌, ℕ, zero, suc, ◌+◌, ◌^◌, inl, inr, Bool, true, List, [], ◌∷◌, ◌++◌, map, length}
 use Rattle.std.proofs.Common.{Option, Some, None, refl, sym, ap, subst, ◌∙◌, arith}
-use Rattle.std.specs.Prelude.{is_none, option_map, slice_get, slice_set, if◌then◌else◌}
+use Rattle.std.specs.Prelude.{is_none, slice_get, slice_set, if◌then◌else◌}
 use Rattle.std.specs.List.{AllByRecursion}
 use Rattle.std.proofs.lemmas.Bool.{cases_eq}
 use Rattle.std.proofs.lemmas.List.{length-map, length-set}
-use Rattle.std.proofs.lemmas.Option.{slice_get-map, slice_get_within}
+use Rattle.std.proofs.lemmas.Option.{slice_get_within}
 use Rattle.nfs_model.specs.Tree.{Layout}
 use Rattle.nfs_model.specs.Home.{home_of_asked}
 use Rattle.nfs_model.specs.World as worlds
@@ -71,12 +71,6 @@ pub may-take : (s : State) (i : ℕ) (d : Connection) (b : Bool) → slice_get s
     → if_takes (takes_input (setup_in s) (slice_get (world s).connections i)) ≡ if_takes b
 may-take s i d b there is =
     ap (λ (x : Option worlds.Connection). if_takes (takes_input (setup_in s) x)) (seen-at s.connections.items i d there) ∙ ap if_takes is
-
-pub none-takes : (s : State) (i : ℕ) → slice_get s.connections.items i ≡ None
-    → if_takes (takes_input (setup_in s) (slice_get (world s).connections i)) ≡ Some 36
-none-takes s i none =
-    ap (λ (x : Option worlds.Connection). if_takes (takes_input (setup_in s) x))
-    (slice_get-map connection_seen s.connections.items i ∙ ap (option_map connection_seen) none)
 
 pub open-takes : (d : Connection) (o : ConnectionState) → d ≡ Open o → TakesInput o → takes_bytes d ≡ true
 open-takes d o is takes = ap takes_bytes is ∙ ap (λ (f : Option ℕ). is_none f) takes
@@ -263,9 +257,6 @@ module _ (stays : WithoutHomeStays) (s new : State) (sound : IsSound s) (number 
   -- what the model says of it
   pub happens : Feeds (setup_in s) (feeding number bytes taken (stop_number stop)) (world s) (world new)
   happens = subst (λ (x : State). Feeds (setup_in s) (feeding number bytes taken (stop_number stop)) (world s) (world x)) (sym same) happens-fed
-
-  pub fed-setup : setup_in new ≡ setup_in s
-  fed-setup = ap setup_in same ∙ setup-same s new f.adds.layout
 
   pub fed-sound : IsSound new
   fed-sound = subst IsSound (sym same) sound-fed
