@@ -15,7 +15,7 @@ use Rattle.engine.specs.declared.connection.ClosedConnection.{ClosedConnection}
 use Rattle.engine.specs.declared.state.State.{State}
 use Rattle.engine.specs.Seen.{connection_seen, world}
 use Rattle.engine.specs.Sound.{IsSound}
-use Rattle.engine.proofs.Reconnected.{reconnected, reserved-sound}
+use Rattle.engine.proofs.Reconnected.{reconnected}
 
 -- ---- one place of a list
 

@@ -1,14 +1,13 @@
 -- Bytes that come on a connection: the world, the messages and the rooms after it.
-use Rattle.std.proofs.Common.{◌≡◌, ◌≢◌, ◌<◌, ◌≤◌, ℕ, zero, suc, ◌+◌, ◌^◌, ◌⊎◌, inl, inr, Bool, true, false, ◌&&◌, List, [], ◌∷◌, ◌++◌, map, length}
+use Rattle.std.proofs.Common.{◌≡◌, ◌≢◌, ◌<◌, ◌≤◌, ℕ, zero, suc, ◌+◌, ◌^◌, inl, inr, Bool, true, List, [], ◌∷◌, ◌++◌, map, length}
 use Rattle.std.proofs.Common.{Option, Some, None, refl, sym, ap, subst, ◌∙◌, arith}
-use Rattle.std.specs.Prelude.{is_none, option_map, slice_get, slice_set, if◌then◌else◌}
+use Rattle.std.specs.Prelude.{is_none, slice_get, slice_set, if◌then◌else◌}
 use Rattle.std.specs.List.{AllByRecursion}
 use Rattle.std.proofs.lemmas.Bool.{cases_eq}
 use Rattle.std.proofs.lemmas.List.{length-map, length-set}
-use Rattle.std.proofs.lemmas.Option.{slice_get-map, slice_get_within}
+use Rattle.std.proofs.lemmas.Option.{slice_get_within}
 use Rattle.nfs_model.specs.Tree.{Layout}
 use Rattle.nfs_model.specs.Home.{home_of_asked}
-use Rattle.nfs_model.specs.Server.{Server}
 use Rattle.nfs_model.specs.World as worlds
 use Rattle.nfs_model.specs.World.{Setup, World, all_running, changed_at}
 use Rattle.nfs_model.specs.Events.Feed.{Feeds, feeding}
@@ -27,11 +26,10 @@ use Rattle.engine_feed.specs.declared.stop.Stop.{Stop}
 use Rattle.engine_feed.specs.declared.state.ConnectionState.{ConnectionState}
 use Rattle.engine_feed.specs.declared.state.CallsState.{CallsState}
 use Rattle.engine_feed.specs.Numbers.{stop_number}
-use Rattle.engine_feed.specs.Seen.{connection_of, owed_by, layout_in, messages_of, message_of, waiting_of, finished_of, running_count}
+use Rattle.engine_feed.specs.Seen.{connection_of, owed_by, layout_in, messages_of, message_of}
 use Rattle.engine_feed.specs.Sound.{IsAdmitted}
-use Rattle.engine_feed.specs.Streams.{scan_stream}
-use Rattle.engine_feed.specs.Within.{IsSetup, IsPartOf, with_part}
-use Rattle.engine_feed.specs.Words.{TakesInput, HasFed, Adds, IsOwn, rooms}
+use Rattle.engine_feed.specs.Within.{IsPartOf, with_part}
+use Rattle.engine_feed.specs.Words.{TakesInput, IsOwn, rooms}
 use Rattle.engine_laws.specs.Store.{StandsFor}
 use Rattle.engine_laws.specs.lemmas.Feeding.{WithoutHomeStays, fed-stands, feed-home}
 use Rattle.engine.specs.declared.connection.Connection.{Connection}
@@ -43,7 +41,8 @@ use Rattle.engine.specs.Receiving.{takes_bytes, IsFed}
 use Rattle.engine.specs.Seen.{connection_seen, worker_seen, setup_in, world}
 use Rattle.engine.specs.Sound.{IsSound, IsPlaced, IsReady, running_messages, room_on}
 use Rattle.engine.proofs.Placed.{all-append, all-later, kept_on, room-own, room-other}
-use Rattle.engine.proofs.Closing.{seen-at, seen-set}
+use Rattle.engine.proofs.Closing.{seen-at, seen-set, set-same}
+use Rattle.engine.proofs.Reconnected.{reserved-sound}
 
 -- ---- one place of a list
 
@@ -72,12 +71,6 @@ pub may-take : (s : State) (i : ℕ) (d : Connection) (b : Bool) → slice_get s
     → if_takes (takes_input (setup_in s) (slice_get (world s).connections i)) ≡ if_takes b
 may-take s i d b there is =
     ap (λ (x : Option worlds.Connection). if_takes (takes_input (setup_in s) x)) (seen-at s.connections.items i d there) ∙ ap if_takes is
-
-pub none-takes : (s : State) (i : ℕ) → slice_get s.connections.items i ≡ None
-    → if_takes (takes_input (setup_in s) (slice_get (world s).connections i)) ≡ Some 36
-none-takes s i none =
-    ap (λ (x : Option worlds.Connection). if_takes (takes_input (setup_in s) x))
-    (slice_get-map connection_seen s.connections.items i ∙ ap (option_map connection_seen) none)
 
 pub open-takes : (d : Connection) (o : ConnectionState) → d ≡ Open o → TakesInput o → takes_bytes d ≡ true
 open-takes d o is takes = ap takes_bytes is ∙ ap (λ (f : Option ℕ). is_none f) takes
@@ -209,15 +202,14 @@ setup-same s new e = ap (λ (l : Layout). record (setup_in s) { layout = l }) e
 -- a place that bytes came on
 module _ (stays : WithoutHomeStays) (s new : State) (sound : IsSound s) (number : ℕ) (bytes : List ℕ) (taken : ℕ) (stop : Stop) (d d' : Connection)
     (at : slice_get s.connections.items number ≡ Some d) (items : new.connections.items ≡ slice_set s.connections.items number d')
-    (f : IsFed s.calls d number bytes taken stop new.calls d') where
+    (f : IsFed s.calls d number bytes taken stop new.calls d') (same : new ≡ fed_state s new) where
   there : slice_get s.connections.items number ≡ Some (Open f.before)
   there = at ∙ ap (λ (k : Connection). Some k) f.was
 
   set_to : new.connections.items ≡ slice_set s.connections.items number (Open f.after)
   set_to = items ∙ ap (slice_set s.connections.items number) f.is
 
-  -- what the model says of it
-  pub happens-fed : Feeds (setup_in s) (feeding number bytes taken (stop_number stop)) (world s) (world (fed_state s new))
+  happens-fed : Feeds (setup_in s) (feeding number bytes taken (stop_number stop)) (world s) (world (fed_state s new))
   happens-fed =
       subst (Feeds (setup_in s) (feeding number bytes taken (stop_number stop)) (world s)) (world-fed s new number f.before f.after set_to there)
       (f.feeds (setup_in s) (world s) (record { codec = refl; layout = refl }) (is-part s number f.before sound there))
@@ -235,8 +227,8 @@ module _ (stays : WithoutHomeStays) (s new : State) (sound : IsSound s) (number 
       (feed-home stays (setup_in s) (feeding number bytes taken (stop_number stop)) (world s) (world (fed_state s new)) happens-fed
       (homes-of layout (length s.connections.items) (messages_of s.calls) sound.waiting))
 
-  pub fed-sound : IsSound (fed_state s new)
-  fed-sound =
+  sound-fed : IsSound (fed_state s new)
+  sound-fed =
       let cs = s.connections.items in
       let ws = s.workers.items in
       let to = sym f.adds.layout in
@@ -261,3 +253,28 @@ module _ (stays : WithoutHomeStays) (s new : State) (sound : IsSound s) (number 
             (fed-owed cs number f.before f.after (messages_of s.calls) f.adds.more (messages_of new.calls) ws there f.adds.waiting f.adds.own
             f.adds.owed sound.owed);
       }
+
+  -- what the model says of it
+  pub happens : Feeds (setup_in s) (feeding number bytes taken (stop_number stop)) (world s) (world new)
+  happens = subst (λ (x : State). Feeds (setup_in s) (feeding number bytes taken (stop_number stop)) (world s) (world x)) (sym same) happens-fed
+
+  pub fed-sound : IsSound new
+  fed-sound = subst IsSound (sym same) sound-fed
+
+-- a place that took none
+module _ (s new : State) (number : ℕ) (d d' : Connection) (at : slice_get s.connections.items number ≡ Some d)
+    (items : new.connections.items ≡ slice_set s.connections.items number d') (stays : d' ≡ d) (calls : new.calls ≡ s.calls)
+    (same : new ≡ fed_state s new) where
+  same_items : new.connections.items ≡ s.connections.items
+  same_items = items ∙ ap (slice_set s.connections.items number) stays ∙ set-same s.connections.items number d at
+
+  pub unfed-world : world new ≡ world s
+  unfed-world =
+      ap world same ∙ ap (λ (x : CallsState). world (record s { connections = new.connections; calls = x })) calls
+      ∙ ap (λ (cs : List Connection). record (world s) { connections = map connection_seen cs }) same_items
+
+  pub unfed-sound : IsSound s → IsSound new
+  unfed-sound sound =
+      subst IsSound (sym same)
+      (subst (λ (x : CallsState). IsSound (record s { connections = new.connections; calls = x })) (sym calls)
+      (reserved-sound s (record s { connections = new.connections }) refl same_items sound))

@@ -1,5 +1,5 @@
 -- Connections that are opened and closed: nothing else changes.
-use Rattle.std.proofs.Common.{◌≡◌, ◌≤◌, ℕ, zero, suc, ◌+◌, ◌⊎◌, inl, inr, List, [], ◌∷◌, ◌++◌, map, length, Some, None, refl, sym, ap, subst, ◌∙◌, arith}
+use Rattle.std.proofs.Common.{◌≡◌, ◌≤◌, ℕ, zero, suc, ◌+◌, ◌⊎◌, inl, inr, List, [], ◌∷◌, ◌++◌, map, length, Some, refl, sym, ap, subst, ◌∙◌, arith}
 use Rattle.std.specs.Prelude.{slice_get}
 use Rattle.std.proofs.lemmas.List.{length-append, map_push}
 use Rattle.nfs_model.specs.Tree.{Layout}
@@ -14,7 +14,7 @@ use Rattle.engine_feed.specs.declared.state.ConnectionState.{ConnectionState}
 use Rattle.engine_feed.specs.Seen.{connection_of, owed_by, layout_in, messages_of}
 use Rattle.engine_laws.specs.lemmas.Feeding.{stands-alike}
 use Rattle.engine.specs.declared.connection.Connection.{Connection}
-use Rattle.engine.specs.declared.connection.Connection.TheVariants.{Open, Closed}
+use Rattle.engine.specs.declared.connection.Connection.TheVariants.{Open}
 use Rattle.engine.specs.declared.state.State.{State}
 use Rattle.engine.specs.declared.worker.Worker.{Worker}
 use Rattle.engine.specs.Seen.{connection_seen, setup_in, world}

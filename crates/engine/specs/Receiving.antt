@@ -17,7 +17,8 @@ abbrev pub takes_bytes : Connection → Bool
 takes_bytes c = is_none (connection_seen c).closed && is_none (scan_stream (connection_seen c).stream).fault
 
 -- so many of the bytes were taken, and this stopped the taking
-pub record IsFed (calls : CallsState) (old : Connection) (number : ℕ) (bytes : List ℕ) (taken : ℕ) (stop : Stop) (calls' : CallsState) (new : Connection) : Type 0 where
+pub record IsFed (calls : CallsState) (old : Connection) (number : ℕ) (bytes : List ℕ) (taken : ℕ) (stop : Stop)
+    (calls' : CallsState) (new : Connection) : Type 0 where
   pub before : ConnectionState
   pub after : ConnectionState
   pub was : old ≡ Open before
