@@ -1,11 +1,34 @@
 -- A message ends: its connection, its entry and its outcome.
 use Rattle.std.proofs.Common.{◌≡◌, ◌≢◌, ℕ, zero, suc, ◌+◌, ◌<◌, ◌≤◌, Bool, true, false, List, [], ◌∷◌, ◌++◌, map, length, Option, Some, None, refl, sym, ap, ◌∙◌, subst, arith}
+use Rattle.std.proofs.Common.{inl, inr, ◌⊎◌, ⊎_elim}
+use mathlib.Core.Option.{some}
+use lib.ListN.{get_elem?}
 use Rattle.std.specs.Prelude.{slice_get, slice_set, option_map}
 use Rattle.nfs_model.specs.Types as types
 use Rattle.nfs_model.specs.World as worlds
 use Rattle.nfs_model.specs.World.{Setup, World, changed_at, finish}
 use Rattle.nfs_model.specs.Replay as replays
-use Rattle.nfs_model.specs.Events.Refusals.{is_open}
+use Rattle.nfs_model.specs.Tree.{Layout}
+use Rattle.nfs_model.specs.Server.{Server}
+use Rattle.nfs_model.specs.Replay.{step_of}
+use Rattle.nfs_model.specs.Headline.{worked_by}
+use Rattle.nfs_model.specs.Events.Refusals.{Written, is_open}
+use Rattle.nfs_model.specs.Events.Step.{finished_call, finished_by, stamp_added, without_call, told_of, bytes_of_reply}
+use Rattle.nfs_values.specs.declared.call.Call.{Call}
+use Rattle.nfs_values.specs.declared.reply.Reply.{Reply}
+use Rattle.nfs_values.specs.declared.reply.Reply.TheVariants.{SystemError}
+use Rattle.nfs_values.specs.Reply.{reply_of}
+use Rattle.scheduler.specs.declared.message.Message.{Message}
+use Rattle.service.specs.declared.outcome.Outcome.{Outcome}
+use Rattle.service.specs.declared.outcome.Outcome.TheVariants.{Replied, Starved}
+use Rattle.service.specs.Running.{outcome_of}
+use Rattle.desk_laws.specs.Books.{Lent, HasLent}
+use Rattle.held_state.specs.Parcels.{FilerParcel}
+use Rattle.held_state.specs.Jobs.{Job, JobReply}
+use Rattle.engine_laws.specs.Store.{FilerBooks, IsServed, HasOutcome, RunsOn, StandsFor}
+use Rattle.engine_laws.specs.lemmas.Changing.{lent-at}
+use Rattle.engine_feed.specs.Codec.{reply_record}
+use Rattle.engine.specs.Sound.{MayEnd}
 use Rattle.engine_feed.specs.declared.state.CallsState.{CallsState}
 use Rattle.engine_feed.specs.declared.state.ConnectionState.{ConnectionState}
 use Rattle.engine_feed.specs.Seen.{connection_of, owed_by}
@@ -36,3 +59,77 @@ pub closed-ends : (calls calls' : CallsState) (e : replays.FinishedCall) (k : Cl
 closed-ends calls calls' e k unseen setup w reply shows there =
     ap (λ cs. record (with_calls calls' w) { connections = cs }) (put-there w.connections e.connection (connection_seen (Closed k)) there)
     ∙ unseen setup w reply shows (ap is_open there)
+
+-- ---- what a worked message was lent
+
+module _ {P C R : Type 0} (job : C → Job) (told : R → JobReply) (setup : Setup) (w : World) (b : FilerBooks P C R) (s : StandsFor job told setup w b)
+    (i : ℕ) (k : worlds.Worker) (there : slice_get w.workers i ≡ Some k) (r : worlds.Running) (runs : k.running ≡ Some r) where
+  lent-of : (x : Option (Lent (FilerParcel P))) → RunsOn setup b (Some r) x → (l : Lent (FilerParcel P)) × (x ≡ Some l)
+  lent-of None run = absurd run
+  lent-of (Some l) run = (l, refl)
+
+  -- it was lent something
+  pub lent-here : (l : Lent (FilerParcel P)) × HasLent b i l
+  lent-here =
+      let at = lent-at setup b w.workers b.lent i k s.workers there in
+      let l = lent-of at.0 (subst (λ q. RunsOn setup b q at.0) runs at.2) in
+      (l.0, at.1 ∙ ap some l.1)
+
+-- what a message came to, as a reply: one of its own, or SYSTEM_ERR where it was starved
+abbrev pub ToldAs : Outcome → Reply → Bool → Type 0
+ToldAs outcome reply starved = ((outcome ≡ Replied reply) × (starved ≡ false)) ⊎ ((outcome ≡ Starved) × (reply ≡ SystemError) × (starved ≡ true))
+
+module _ {P C R : Type 0} (setup : Setup) (b : FilerBooks P C R) (r : worlds.Running) (l : Lent (FilerParcel P)) where
+  -- what it was lent was left so by its entry
+  pub served-as : (outcome : Outcome) (reply : Reply) (starved : Bool) → ToldAs outcome reply starved → HasOutcome setup b r l (Some (outcome_of outcome))
+      → IsServed b l (finished_call r starved) (reply_of reply)
+  served-as outcome reply starved is did = ⊎_elim
+      (λ (t : (outcome ≡ Replied reply) × (starved ≡ false)).
+      subst (λ x. IsServed b l (finished_call r x) (reply_of reply)) (sym t.1)
+      (subst (λ x. HasOutcome setup b r l (Some (outcome_of x))) t.0 did))
+      (λ (t : (outcome ≡ Starved) × (reply ≡ SystemError) × (starved ≡ true)).
+      subst (λ x. IsServed b l (finished_call r x) (reply_of reply)) (sym t.2)
+      (subst (λ x. IsServed b l (finished_call r true) (reply_of x)) (sym t.1)
+      (subst (λ x. HasOutcome setup b r l (Some (outcome_of x))) t.0 did)))
+      is
+
+-- the reply fits its room
+pub fits-as : (layout : Layout) (m : Message Call) (outcome : Outcome) (reply : Reply) (starved : Bool) → ToldAs outcome reply starved
+    → MayEnd layout m outcome → length (reply_record m.origin.xid (reply_of reply)) ≤ m.room
+fits-as layout m outcome reply starved is may = ⊎_elim
+    (λ (t : (outcome ≡ Replied reply) × (starved ≡ false)). subst (MayEnd layout m) t.0 may)
+    (λ (t : (outcome ≡ Starved) × (reply ≡ SystemError) × (starved ≡ true)).
+    subst (λ (x : Reply). length (reply_record m.origin.xid (reply_of x)) ≤ m.room) (sym t.1) (subst (MayEnd layout m) t.0 may))
+    is
+
+-- the model finishes it so
+pub finished-as : (setup : Setup) (w : World) (i : ℕ) (r : worlds.Running) (outcome : Outcome) (reply : Reply) (starved : Bool) → ToldAs outcome reply starved
+    → finished_by setup w i r (outcome_of outcome) ≡ finish setup (stamp_added (without_call w i)) (finished_call r starved) (reply_of reply)
+finished-as setup w i r outcome reply starved is = ⊎_elim
+    (λ (t : (outcome ≡ Replied reply) × (starved ≡ false)).
+    ap (λ x. finished_by setup w i r (outcome_of x)) t.0
+    ∙ ap (λ x. finish setup (stamp_added (without_call w i)) (finished_call r x) (reply_of reply)) (sym t.1))
+    (λ (t : (outcome ≡ Starved) × (reply ≡ SystemError) × (starved ≡ true)).
+    ap (λ x. finished_by setup w i r (outcome_of x)) t.0
+    ∙ (λ j. finish setup (stamp_added (without_call w i)) (finished_call r (sym t.2 j)) (reply_of (sym t.1 j))))
+    is
+
+-- and tells so many bytes
+pub told-as : (setup : Setup) (w : World) (r : worlds.Running) (outcome : Outcome) (reply : Reply) (starved : Bool) → ToldAs outcome reply starved
+    → told_of setup w r (outcome_of outcome) ≡ Written r.message.connection (length (bytes_of_reply setup w r.message (reply_of reply)))
+told-as setup w r outcome reply starved is = ⊎_elim
+    (λ (t : (outcome ≡ Replied reply) × (starved ≡ false)). ap (λ x. told_of setup w r (outcome_of x)) t.0)
+    (λ (t : (outcome ≡ Starved) × (reply ≡ SystemError) × (starved ≡ true)).
+    ap (λ x. told_of setup w r (outcome_of x)) t.0
+    ∙ ap (λ (x : Reply). Written r.message.connection (length (bytes_of_reply setup w r.message (reply_of x)))) (sym t.1))
+    is
+
+-- the server leaves it so
+pub left-as : (r : worlds.Running) (outcome : Outcome) (reply : Reply) (starved : Bool) → ToldAs outcome reply starved
+    → (server : Server) → worked_by server r (Some (outcome_of outcome)) ≡ (step_of server (finished_call r starved)).server
+left-as r outcome reply starved is server = ⊎_elim
+    (λ (t : (outcome ≡ Replied reply) × (starved ≡ false)).
+    ap (λ x. worked_by server r (Some (outcome_of x))) t.0 ∙ ap (λ x. (step_of server (finished_call r x)).server) (sym t.1))
+    (λ (t : (outcome ≡ Starved) × (reply ≡ SystemError) × (starved ≡ true)).
+    ap (λ x. worked_by server r (Some (outcome_of x))) t.0 ∙ ap (λ x. (step_of server (finished_call r x)).server) (sym t.2))
+    is
