@@ -19,7 +19,34 @@ use Rattle.engine.specs.Ending.{job_made, answer_made}
 use Rattle.engine.specs.Seen.{worker_seen, running_as, setup_in, world}
 use Rattle.engine.specs.Sound.{IsReady, MayEnd}
 use Rattle.engine.proofs.Workers.{seen-at, count-changed, all-at}
-use Rattle.engine.proofs.Ends.{lent-here, ToldAs, served-as, fits-as}
+use Rattle.std.specs.Global.{Vec}
+use Rattle.std.specs.Vec.{with_item}
+use Rattle.std.proofs.lemmas.List.{length-append}
+use Rattle.nfs_model.specs.Work as tasks
+use Rattle.nfs_model.specs.World.{finish}
+use Rattle.nfs_model.specs.Events.Refusals.{Written}
+use Rattle.nfs_model.specs.Events.Step.{finished_by, finished_call, told_of, stamp_added, without_call, bytes_of_reply, bytes_if_open}
+use Rattle.nfs_values.specs.declared.call.Call.{Call}
+use Rattle.scheduler.specs.declared.message.Message.{Message}
+use Rattle.parcels.specs.declared.files.Files.{Files}
+use Rattle.service.specs.declared.job.Job.{Job}
+use Rattle.service.specs.declared.job.JobReply.{JobReply}
+use Rattle.held_state.specs.Contents.{filer_contents}
+use Rattle.held_state.specs.Tree.{server_of}
+use Rattle.held_state.specs.Partition.{all_parts}
+use Rattle.desk_laws.specs.Books.{now, stamps}
+use Rattle.engine_laws.specs.Store.{FilerBooks}
+use Rattle.engine_laws.specs.lemmas.Happening.{finish-happens}
+use Rattle.engine_feed.specs.Seen.{owed_by}
+use Rattle.engine_feed.specs.Words as calls
+use Rattle.engine.specs.declared.state.State.{State}
+use Rattle.engine.specs.declared.connection.Connection.TheVariants.{Open}
+use Rattle.engine.specs.Ending.{EndsIn}
+use Rattle.engine.specs.Sound.{room_on}
+use Rattle.engine.proofs.Workers.{messages-changed}
+use Rattle.engine.proofs.Placed.{room-own}
+use Rattle.engine.proofs.Closing.{found, seen-at as connection-at}
+use Rattle.engine.proofs.Ends.{lent-here, ToldAs, served-as, fits-as, finished-as, told-as, left-as, server-kept, parts-kept, back-world, ended-world}
 use Rattle.engine.proofs.finishing.finish.Goals as goal
 use Rattle.engine.proofs.finishing.finish.Goals.{in-Replied, in-Starved}
 
@@ -169,3 +196,113 @@ end_in-count-requires-clause-fits c =
     subst (λ (x : Running). length (reply_record x.message.origin.xid (reply_of c.end_on-running.result.1)) ≤ x.message.room) (sym same_r)
     (subst (λ (x : Reply). length (reply_record r.message.origin.xid (reply_of x)) ≤ r.message.room) (sym same_reply)
     (fits-as (layout_in s.calls) r.message o c.match-outcome.reply.0 c.match-outcome.reply.1 is ready.1))
+
+pub end_in-count-requires-clause-owed : goal.end_in-count-requires-clause-owed
+end_in-count-requires-clause-owed c = λ x e.
+    let s = c.args.state.now in
+    let i = c.args.worker in
+    let r : Running = c.in-Worked.running in
+    let o : Outcome = c.in-Worked.outcome in
+    let w = world s in
+    let b = books s.desk in
+    let there : slice_get s.workers.items i ≡ Some (Worked r o) = c.take_worker.ensures.value ∙ ap Some c.in-Worked.is in
+    let seen = seen-at s.workers.items i (Worked r o) there in
+    let k = worker_seen (Worked r o) in
+    let rr = running_as r (Some (outcome_of o)) in
+    let ready = all-at (IsReady (layout_in s.calls) (length s.connections.items)) s.workers.items i (Worked r o) c.requires.workers there in
+    let same_r : c.end_on-running.result.0 ≡ r = c.end_on-running.ensures.running in
+    let same_reply = c.end_on-running.ensures.reply in
+    let n = r.message.origin.connection.0 in
+    let known = ready.0.known in
+    let vec = s.connections.ok.0 in
+    let at : slice_get s.connections.items n ≡ Some (Open x) = found s.connections.items n c.index_mut-place.result.now (Open x) known c.index_mut-place.ensures.value e in
+    let owed = c.requires.owed n x at in
+    let changed = messages-changed (room_on n) s.workers.items i (Worked r o) Idle there in
+    let room = room-own n r.message refl in
+    subst (λ (y : Running). y.message.room ≤ owed_by x) (sym same_r) (omega (arith, owed, changed, room))
+
+pub returns-in-Moved-clause-events : goal.returns-in-Moved-clause-events
+returns-in-Moved-clause-events c =
+    let s = c.args.state.now in
+    let i = c.args.worker in
+    let r : Running = c.in-Worked.running in
+    let o : Outcome = c.in-Worked.outcome in
+    let w = world s in
+    let b = books s.desk in
+    let there : slice_get s.workers.items i ≡ Some (Worked r o) = c.take_worker.ensures.value ∙ ap Some c.in-Worked.is in
+    let seen = seen-at s.workers.items i (Worked r o) there in
+    let k = worker_seen (Worked r o) in
+    let rr = running_as r (Some (outcome_of o)) in
+    let ready = all-at (IsReady (layout_in s.calls) (length s.connections.items)) s.workers.items i (Worked r o) c.requires.workers there in
+    let may = subst (MayEnd (layout_in s.calls) r.message) c.in-Moved.is ready.1 in
+    let m : Message Call = record r.message { affinity = c.in-Moved.affinity } in
+    let b' = books c.put_back.new.self in
+    let back = c.put_back.ensures.back in
+    let h : calls.HasPutBack s.calls m c.put_back-in-Moved.new.self = c.put_back-in-Moved.ensures in
+    let layout = ap (λ (x : FilerBooks Files Job JobReply). x.layout) back.books in
+    let stamped = ap (λ (x : FilerBooks Files Job JobReply). stamps x) back.books in
+    let set = ap (λ (v : Vec Worker). v.items) c.take_worker.ensures.after in
+    let new : State = record s { calls = c.put_back-in-Moved.new.self; workers = c.take_worker.new.workers; desk = c.put_back.new.self } in
+    let new_is : world new ≡ finished_by (setup_in s) w i rr (tasks.Moved (affinity_of c.in-Moved.affinity)) =
+        back-world w s.calls new.calls m (record { waiting = refl; finished = refl }) h (setup_in s) s.connections.items refl s.workers.items new.workers.items i refl set
+        rr (affinity_of c.in-Moved.affinity) refl (server_of (filer_contents b'.layout (now b'))) (all_parts (filer_contents b'.layout (now b'))) (stamps b')
+        (server-kept b b' layout back.same) (parts-kept b b' layout back.same) stamped in
+    let happens = finish-happens (setup_in s) w i k rr (outcome_of o) seen refl refl in
+    (
+      happens.0,
+      (k, rr, outcome_of o, seen, refl, refl, sym (ap (λ (x : Outcome). told_of (setup_in s) w rr (outcome_of x)) c.in-Moved.is),
+          new_is ∙ sym (ap (λ (x : Outcome). finished_by (setup_in s) w i rr (outcome_of x)) c.in-Moved.is)),
+    )
+
+pub returns-clause-events : goal.returns-clause-events
+returns-clause-events c =
+    let s = c.args.state.now in
+    let i = c.args.worker in
+    let r : Running = c.in-Worked.running in
+    let o : Outcome = c.in-Worked.outcome in
+    let w = world s in
+    let b = books s.desk in
+    let there : slice_get s.workers.items i ≡ Some (Worked r o) = c.take_worker.ensures.value ∙ ap Some c.in-Worked.is in
+    let seen = seen-at s.workers.items i (Worked r o) there in
+    let k = worker_seen (Worked r o) in
+    let rr = running_as r (Some (outcome_of o)) in
+    let ready = all-at (IsReady (layout_in s.calls) (length s.connections.items)) s.workers.items i (Worked r o) c.requires.workers there in
+    let is : ToldAs o c.match-outcome.reply.0 c.match-outcome.reply.1 = elim c.match-outcome.branch [
+      | in-Replied t ↦ inl (t.in-Replied.is ∙ ap Replied (sym (ap (λ (p : Reply × Bool). p.0) t.reply-is)), ap (λ (p : Reply × Bool). p.1) t.reply-is)
+      | in-Starved t ↦ inr (t.in-Starved.is, ap (λ (p : Reply × Bool). p.0) t.reply-is, ap (λ (p : Reply × Bool). p.1) t.reply-is)
+    ] in
+    let same_r : c.end_on-running.result.0 ≡ r = c.end_on-running.ensures.running in
+    let same_reply = c.end_on-running.ensures.reply in
+    let reply = c.match-outcome.reply.0 in
+    let starved = c.match-outcome.reply.1 in
+    let n = r.message.origin.connection.0 in
+    let b' = books c.end_on-running.new.desk in
+    let done = c.end_on-running.ensures.finished in
+    let place = c.index_mut-place.result.now in
+    let place' = c.end_in-count.new.place in
+    let calls' = c.end_in-count.new.calls in
+    let vec = s.connections.ok.0 in
+    let known = ready.0.known in
+    let at : slice_get s.connections.items n ≡ Some place = found s.connections.items n place place known c.index_mut-place.ensures.value refl in
+    let ends : EndsIn s.calls place r (reply_of reply) starved c.end_in-count.result calls' place' =
+        subst (λ (x : Running). EndsIn s.calls place x (reply_of reply) starved c.end_in-count.result calls' place') same_r
+        (subst (λ (x : Reply). EndsIn s.calls place c.end_on-running.result.0 (reply_of x) starved c.end_in-count.result calls' place') same_reply c.end_in-count.ensures.ends) in
+    let layout = ap (λ (x : FilerBooks Files Job JobReply). x.layout) done.books in
+    let stamped : stamps b' ≡ w.stamps + 1 = ap (λ (x : FilerBooks Files Job JobReply). stamps x) done.books ∙ length-append b.entries _ in
+    let set = ap (λ (v : Vec Worker). v.items) c.take_worker.ensures.after in
+    let new : State = record s { connections = with_item s.connections n place'; calls = calls'; workers = c.take_worker.new.workers; desk = c.end_on-running.new.desk } in
+    let new_is : world new ≡ finish (setup_in s) (stamp_added (without_call w i)) (finished_call rr starved) (reply_of reply) =
+        ended-world w s.calls calls' place place' r (reply_of reply) starved c.end_in-count.result ends (setup_in s) refl (record { waiting = refl; finished = refl })
+        s.connections.items new.connections.items refl at refl s.workers.items new.workers.items i refl set
+        (server_of (filer_contents b'.layout (now b'))) (all_parts (filer_contents b'.layout (now b'))) (stamps b')
+        (server-kept b b' layout done.same) (parts-kept b b' layout done.same) stamped in
+    let happens = finish-happens (setup_in s) w i k rr (outcome_of o) seen refl refl in
+    let seen_at = connection-at s.connections.items n place at in
+    let counted = (ends (setup_in s) w refl (record { waiting = refl; finished = refl }) seen_at).1 in
+    let written : c.end_in-count.result ≡ length (bytes_of_reply (setup_in s) w rr.message (reply_of reply)) =
+        counted ∙ ap (λ p. length (bytes_if_open p (reply_record r.message.origin.xid (reply_of reply)))) (sym seen_at) in
+    (
+      happens.0,
+      (k, rr, outcome_of o, seen, refl, refl, ap (λ x. Written n x) written ∙ sym (told-as (setup_in s) w rr o reply starved is),
+          new_is ∙ sym (finished-as (setup_in s) w i rr o reply starved is)),
+    )
