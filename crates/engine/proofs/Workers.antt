@@ -30,7 +30,7 @@ inner j k e = cc
 none-some : {X : Type 0} (k : X) → None ≡ Some k → ⊥
 none-some k e = absurd cc
 
-total-joined : {X : Type 0} (weigh : X → ℕ) (xs ys : List X) → total weigh (xs ++ ys) ≡ total weigh xs + total weigh ys
+pub total-joined : {X : Type 0} (weigh : X → ℕ) (xs ys : List X) → total weigh (xs ++ ys) ≡ total weigh xs + total weigh ys
 total-joined weigh [] ys = omega arith
 total-joined weigh (x ∷ xs) ys = let others = total-joined weigh xs ys in omega arith
 
