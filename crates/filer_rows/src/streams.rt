@@ -40,21 +40,13 @@ fn a_full_engine_takes_no_record_more(rt: HostRuntime) -> Result<(), Fail> {
         for _ in 0..1_024 {
             script.push_str(GETATTR)?;
         }
-        let feed = joined(alloc, &["feed 0 ", byte, "\n"])?;
-        let begin = "begin 0 1023 1 0\n";
-        let run = [last, "\n", &feed, begin, &feed, "work 0\nfinish 0\n", &feed];
-        script.push_str(&joined(alloc, &run)?)?;
-        let nothing = "taken 0 stop 31\n";
-        let granted = "granted logical 0\n";
-        let before = [
-            "conn 0\n",
-            stopped,
-            nothing,
-            granted,
-            nothing,
-            "reply\nout 0 ",
-        ];
-        let mut printed = joined(alloc, &before)?;
+        script.push_str(last)?;
+        for run in ["", "begin 0 1023 1 0\n", "work 0\nfinish 0\n"] {
+            script.push_str(&joined(alloc, &["\n", run, "feed 0 ", byte])?)?;
+        }
+        script.push_str("\n")?;
+        let mut printed = joined(alloc, &["conn 0\n", stopped])?;
+        printed.push_str("taken 0 stop 31\ngranted logical 0\ntaken 0 stop 31\nreply\nout 0 ")?;
         printed.push_str(&joined(alloc, &[GETATTR_REPLY, "\ntaken 1 stop 0\n"])?)?;
         printed.push_str(&joined(alloc, answered)?)?;
         expect(&rt, script.as_bytes(), 0, &printed);
