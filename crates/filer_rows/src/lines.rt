@@ -5,7 +5,7 @@ use crate::texts::LAYOUT;
 use std::test::Fail;
 
 /// Scripts whose layout is bad, and what is printed.
-const LAYOUTS: [(&str, &str); 29] = [
+const LAYOUTS: [(&str, &str); 37] = [
     ("", "bad line 1\n"),
     ("\n# nothing\n", "bad line 3\n"),
     ("# no line feed", "bad line 1\n"),
@@ -27,6 +27,20 @@ const LAYOUTS: [(&str, &str); 29] = [
     ("aggregate 1\nvolume 0 17\n", "bad line 2\n"),
     ("aggregate 1\nvolume 0 16\nvolume 0 17\n", "bad line 3\n"),
     ("aggregate 1\nvolume 0 16\nvolume 0 1\n", "bad line 4\n"),
+    ("aggregate 1\nvolume 0 16 12 64\n", "bad line 2\n"),
+    ("aggregate 1\nvolume 0 16 16 32\n", "bad line 2\n"),
+    ("aggregate 1\nvolume 0 17 16 64\n", "bad line 2\n"),
+    (
+        "aggregate 1\nvolume 0 16 16 64\nvolume 0 16 0 64\n",
+        "bad line 3\n",
+    ),
+    (
+        "aggregate 1\nvolume 0 16 8 16\nvolume 0 16 8 0\n",
+        "bad line 3\n",
+    ),
+    ("aggregate 1\nvolume 0 16 16\n", "bad line 2\n"),
+    ("aggregate 1\nvolume 0 16 16 64 0\n", "bad line 2\n"),
+    ("aggregate 1\nvolume 0 1 8 064\n", "bad line 2\n"),
     ("aggregate 1\nvolume 0 1\naggregate 1\n", "bad line 3\n"),
     ("aggregate 1\nvolume 0 1\nopen\n", "bad line 3\n"),
     ("aggregate 1\nvolume 0 1\n", "bad line 3\n"),
@@ -37,7 +51,7 @@ const LAYOUTS: [(&str, &str); 29] = [
         "bad line 3\n",
     ),
     (
-        "aggregate 1\nvolume 0 1\nstart 2 0102030405060708\n",
+        "aggregate 1\nvolume 0 1\nstart 65 0102030405060708\n",
         "bad line 3\n",
     ),
     (

@@ -2,7 +2,7 @@
 
 use crate::texts::{NULL, NULL_REPLY};
 use affinity_tree::{AggregateSpec, Layout, VolumeSpec};
-use engine::{Engine, Event};
+use engine::{Engine, Event, Worker};
 use std::test::Fail;
 
 #[test]
@@ -21,14 +21,14 @@ fn lists_of_events_are_played(rt: HostRuntime) -> Result<(), Fail> {
         connection: 0,
         bytes: &call,
     };
-    let mut engine = Engine::play(alloc, layout, [0; 8], &[Event::Open, fed]);
+    let mut engine = Engine::play(alloc, layout, [0; 8], 2, &[Event::Open, fed])?;
     assert_eq!(rt; engine.output(0), reply.as_slice());
     assert_eq!(rt; engine.stream(0), call.as_slice());
     assert_eq!(rt; engine.finished().len(), 1);
-    assert!(rt; engine.running().is_none());
+    assert!(rt; matches!(engine.workers(), [Worker::Idle, Worker::Idle]));
     assert_eq!(rt;
         engine.run(&[Event::Open, fed, Event::Work { worker: 0 }]),
-        2
+        1
     );
     assert_eq!(rt; engine.finished().len(), 2);
     Ok(())
