@@ -182,7 +182,7 @@ module _ {P C R : Type 0} (job : C → jobs.Job) (told : R → jobs.JobReply) (s
   -- and what it comes to is what the message's serving does
   pub has-worked : (call : types.Call) (credential : Credential) (moment : Moment) → r.message.asked ≡ Ask call credential → r.moment ≡ moment
       → (o : Outcome) (c : FilerBooks P C R)
-      → HasWorked (λ layout node before (x : Outcome) after. HasServed call credential moment layout node before (outcome_of x) after) b i o c
+      → HasWorked (λ layout node before (x : Outcome) after. HasServed call credential moment layout node before x after) b i o c
       → HasWorked (Serving r) b i (outcome_of o) c
   has-worked call credential moment asks on o c h = record {
     lent = h.lent;

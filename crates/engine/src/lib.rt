@@ -4,7 +4,6 @@
 mod beginning;
 mod connecting;
 mod connection;
-
 mod event;
 mod feeding;
 mod finishing;
@@ -12,7 +11,6 @@ mod opening;
 mod state;
 mod worker;
 mod working;
-
 
 pub use engine_feed::{FinishedCall, Stop, StreamFault};
 pub use event::{Done, Event, Refusal};

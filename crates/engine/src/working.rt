@@ -8,11 +8,12 @@ ghost use Rattle.engine.specs.Sound.{IsSound};
 
 use crate::event::{Done, Refusal};
 use crate::state::State;
-use crate::worker::{Worker, set_worker, take_worker};
+use crate::worker::Worker;
 use affinity_tree::Affinity;
 use engine_task::Serve;
 use rpc_msg::{replies_fit, servers_are_roomy};
 use service::Outcome;
+use std::mem;
 
 /// What is told of work that came to this.
 fn done_of(outcome: &Outcome) -> Done
@@ -52,9 +53,9 @@ pub(crate) fn work(state: &mut State, worker: usize) -> Result<Done, Refusal>
     };
     let outcome = state.desk.work(worker, call);
     let done = done_of(&outcome);
-    let Worker::Begun(running) = take_worker(&mut state.workers, worker) else {
+    let Worker::Begun(running) = mem::replace(&mut state.workers[worker], Worker::Idle) else {
         unreachable!();
     };
-    set_worker(&mut state.workers, worker, Worker::Worked(running, outcome));
+    state.workers[worker] = Worker::Worked(running, outcome);
     Ok(done)
 }

@@ -96,7 +96,7 @@ module _ (c : goal.Joined-index_mut) where
 
   abbrev Serves : Call → Does (FilerParcel Files) Outcome
   Serves call layout node before x end =
-      HasServed (call_of call) (credential_of r.message.credential) (moment_of r.moment) layout node before (outcome_of x) end
+      HasServed (call_of call) (credential_of r.message.credential) (moment_of r.moment) layout node before x end
 
   abbrev after : Store
   after = stored_all (filer_contents next.layout (now next))
