@@ -1,3 +1,4 @@
+mod Runs
 mod Workers
 mod Begins
 mod Ends

@@ -5,3 +5,4 @@ pub mod Ending
 pub mod Receiving
 pub mod Engine
 pub mod Words
+pub mod Shown

@@ -4,6 +4,7 @@
 mod beginning;
 mod connecting;
 mod connection;
+mod engine;
 mod event;
 mod feeding;
 mod finishing;
@@ -13,5 +14,6 @@ mod worker;
 mod working;
 
 pub use engine_feed::{FinishedCall, Stop, StreamFault};
+pub use engine::Engine;
 pub use event::{Done, Event, Refusal};
 pub use worker::{Running, Worker};

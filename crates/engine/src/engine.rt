@@ -1,0 +1,173 @@
+//! The engine: connections, calls on their way, workers, and the parcels that calls run on.
+
+ghost use Rattle.std.specs.Prelude.{◌≡◌, ◌≤◌, List, ℕ, length, map, slice_get, IfOk};
+ghost use Rattle.nfs_model.specs.Headline.{opening_world};
+ghost use Rattle.affinity_tree.specs.Layout.{layout_of};
+ghost use Rattle.engine_feed.specs.Seen.{entry_of};
+ghost use Rattle.engine.specs.Engine.{output_in, stream_in};
+ghost use Rattle.engine.specs.Seen.{event_of, worker_seen, setup_of};
+ghost use Rattle.engine.specs.Shown.{setup_in, Does, HasRun, HasPlayed, HasHeadline, HasItsSetup};
+ghost use Rattle.engine.specs.Sound.{IsSound};
+ghost use Rattle.engine.specs.Words as words;
+
+use crate::beginning::begin;
+use crate::connecting::{close_connection, open_connection};
+use crate::connection::Connection;
+use crate::event::{Done, Event, Refusal};
+use crate::feeding::feed;
+use crate::finishing::finish;
+use crate::opening::open;
+use crate::state::State;
+use crate::worker::Worker;
+use crate::working::work;
+use affinity_tree::Layout;
+use engine_feed::FinishedCall;
+use held_laws::parts_partition;
+use nfs_laws::laws::events_keep_headline;
+use std::alloc::{AllocError, Global};
+use std::marker::Model;
+
+/// Takes one event.
+fn dispatch(state: &mut State, event: Event<'_>) -> Result<Done, Refusal>
+    requires { words.IsWhole state.old }
+    ensures events { words.Does state.old (event_of event.entry) result state.new }
+    ensures setup { words.HasItsSetup state.old state.new }
+    ensures sound { IsSound state.new }
+{
+    match event {
+        Event::Open => open_connection(state),
+        Event::Feed { connection, bytes } => feed(state, connection, bytes),
+        Event::Close { connection } => close_connection(state, connection),
+        Event::Begin {
+            worker,
+            place,
+            moment,
+        } => begin(state, worker, place, moment),
+        Event::Work { worker } => work(state, worker),
+        Event::Finish { worker } => finish(state, worker),
+    }
+}
+
+/// A server of connections and their calls, driven by events, with 1 to 64 workers. At most 64
+/// connections are open.
+#[derive(Drop)]
+pub struct Engine {
+    state: State,
+}
+
+impl Model for Engine {
+    ghost use Rattle.engine.specs.Shown.{Shown};
+
+    ghost Value = { Shown };
+
+    ghost use Rattle.engine.specs.Shown.{shown};
+    ghost use Rattle.engine.specs.Words.{IsWhole};
+
+    ghost view = { λ e. shown e.state };
+
+    ghost invariant = { λ e. IsWhole e.state };
+}
+
+impl Engine {
+    /// An engine to which nothing has happened, with so many workers, from 1 to 64.
+    pub fn new(
+        alloc: Global,
+        layout: Layout,
+        verifier: [u8; 8],
+        workers: usize,
+    ) -> Result<Engine, AllocError>
+        requires workers { 1 ≤ workers }
+        requires most { workers ≤ 64 }
+        ensures setup { IfOk result (λ engine.
+            setup_in engine ≡ setup_of (layout_of layout) verifier workers) }
+        ensures opening { IfOk result (λ engine.
+            engine.world ≡ opening_world (setup_in engine)) }
+        ensures headline { IfOk result (λ engine. HasHeadline engine) }
+    {
+        let state = open(alloc, layout, verifier, workers)?;
+        Ok(Engine { state })
+    }
+
+    /// Takes one event. A refused one changes nothing.
+    pub fn step(&mut self, event: Event<'_>) -> Result<Done, Refusal>
+        ensures events { Does self.old (event_of event.entry) result self.new }
+        ensures setup { HasItsSetup self.old self.new }
+        ensures headline { HasHeadline self.new }
+    {
+        events_keep_headline();
+        parts_partition();
+        dispatch(&mut self.state, event)
+    }
+
+    /// Takes events, and answers how many were refused.
+    pub fn run(&mut self, events: &[Event<'_>]) -> usize
+        ensures runs { HasRun self.old events.now result self.new }
+        ensures setup { HasItsSetup self.old self.new }
+        ensures headline { HasHeadline self.new }
+    {
+        let _ = &self.state;
+        let mut refused = 0;
+        for event in events {
+            if self.step(*event).is_err() {
+                refused += 1;
+            }
+        }
+        refused
+    }
+
+    /// A new engine after these events.
+    pub fn play(
+        alloc: Global,
+        layout: Layout,
+        verifier: [u8; 8],
+        workers: usize,
+        events: &[Event<'_>],
+    ) -> Result<Engine, AllocError>
+        requires workers { 1 ≤ workers }
+        requires most { workers ≤ 64 }
+        ensures setup { IfOk result (λ engine.
+            setup_in engine ≡ setup_of (layout_of layout) verifier workers) }
+        ensures runs { IfOk result (λ engine. HasPlayed events.now engine) }
+        ensures headline { IfOk result (λ engine. HasHeadline engine) }
+    {
+        let mut engine = Engine::new(alloc, layout, verifier, workers)?;
+        engine.run(events);
+        Ok(engine)
+    }
+
+    /// All bytes that were written to a connection; none where there is no such connection.
+    pub fn output(&self, connection: usize) -> &[u8]
+        ensures { result.now ≡ output_in (slice_get self.now.world.connections connection) }
+    {
+        match self.state.connections.get(connection) {
+            Some(Connection::Open(open)) => open.output(),
+            Some(Connection::Closed(closed)) => &closed.output,
+            None => &[],
+        }
+    }
+
+    /// All bytes that were taken from a connection; none where there is no such connection.
+    pub fn stream(&self, connection: usize) -> &[u8]
+        ensures { result.now ≡ stream_in (slice_get self.now.world.connections connection) }
+    {
+        match self.state.connections.get(connection) {
+            Some(Connection::Open(open)) => open.stream(),
+            Some(Connection::Closed(closed)) => &closed.stream,
+            None => &[],
+        }
+    }
+
+    /// What each worker runs.
+    pub fn workers(&self) -> &[Worker]
+        ensures { map worker_seen result.now ≡ self.now.world.workers }
+    {
+        &self.state.workers
+    }
+
+    /// The calls that are finished, in finishing order.
+    pub fn finished(&self) -> &[FinishedCall]
+        ensures { map entry_of result.now ≡ self.now.world.finished }
+    {
+        self.state.calls.finished()
+    }
+}
