@@ -6,3 +6,4 @@ pub mod Receiving
 pub mod Engine
 pub mod Words
 pub mod Shown
+pub mod Codes

@@ -58,7 +58,12 @@ pub struct Engine {
 impl Model for Engine {
     ghost use Rattle.engine.specs.Shown.{Shown};
 
+    ghost use Rattle.std.specs.Coded.{codes};
+    ghost use Rattle.engine.specs.Codes.{coded_nodes, coded_filled};
+
     ghost Value = { Shown };
+
+    ghost coded = { Prim.hlevel (codes, coded_nodes, coded_filled) };
 
     ghost use Rattle.engine.specs.Shown.{shown};
     ghost use Rattle.engine.specs.Words.{IsWhole};
