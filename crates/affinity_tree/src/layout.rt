@@ -7,7 +7,7 @@ ghost use Rattle.affinity_tree.specs.Fault.{fault_of};
 use crate::fault::LayoutFault;
 use crate::rules::check;
 use crate::specification::{AggregateSpec, MIB, STRIPES, VolumeSpec};
-use std::alloc::Global;
+use std::alloc::{AllocError, Global};
 
 /// The bytes of a mebibyte.
 const MEBIBYTE: u64 = 1_048_576;
@@ -44,6 +44,16 @@ impl Layout {
         Ok(Layout {
             aggregates: aggregates.to_vec(alloc)?,
             volumes: volumes.to_vec(alloc)?,
+        })
+    }
+
+    /// A layout of the same aggregates and volumes.
+    pub fn copied(&self, alloc: Global) -> Result<Layout, AllocError>
+        ensures { IfOk result (λ layout. layout_of layout ≡ layout_of self.now) }
+    {
+        Ok(Layout {
+            aggregates: self.aggregates.to_vec(alloc)?,
+            volumes: self.volumes.to_vec(alloc)?,
         })
     }
 

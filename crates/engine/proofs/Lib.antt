@@ -1,19 +1,10 @@
-pub mod Lists
-pub mod Scanning
-pub mod Taking
-pub mod Worlds
-pub mod Arriving
-pub mod Connections
-pub mod Serving
-pub mod Requests
-pub mod Workers
-pub mod Admitting
-pub mod Fed
-pub mod Records
-pub mod Full
-pub mod Loops
-pub mod Serves
-pub mod Runs
-pub mod Marking
-pub mod Rooms
-pub mod Shortness
+mod Runs
+mod Workers
+mod Begins
+mod Ends
+mod Placed
+mod Reconnected
+mod Closing
+mod Received
+pub mod Worked
+pub mod Opened

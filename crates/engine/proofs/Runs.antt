@@ -5,11 +5,11 @@ use Rattle.nfs_model.specs.Events.Refusals.{Event, Done}
 use Rattle.nfs_model.specs.Events.Step.{Events, Runs}
 use Rattle.nfs_model.specs.Headline.{opening_world}
 use Rattle.engine.specs.Engine.{one_if_refused, RunsRefusing}
-use Rattle.engine.specs.declared.state.State.{State}
 use Rattle.engine.specs.declared.event.Event as happened
 use Rattle.engine.specs.declared.event.Done as dones
 use Rattle.engine.specs.declared.event.Refusal as refusals
-use Rattle.engine.specs.Seen.{setup_in, world, event_of, answer_of}
+use Rattle.engine.specs.Seen.{event_of, answer_of}
+use Rattle.engine.specs.Shown.{Shown, setup_in}
 use Rattle.std.specs.Result.{is_err}
 use Rattle.std.proofs.lemmas.List.{map_more}
 
@@ -35,11 +35,11 @@ run-more setup old events i d refused middle answer after new within r e a =
     (subst (λ (n : ℕ). RunsRefusing setup old (map event_of (take i events) ++ event_of (get_or events i d) ∷ []) n new) (sym a)
     (runs-on setup old (map event_of (take i events)) refused middle (event_of (get_or events i d)) answer new r e))
 
-pub plays : (old new : State) (events : List Event) (refused : ℕ) → world old ≡ opening_world (setup_in old) → setup_in new ≡ setup_in old
-    → RunsRefusing (setup_in old) (world old) events refused (world new) → Runs (setup_in new) (opening_world (setup_in new)) events (world new)
+pub plays : (old new : Shown) (events : List Event) (refused : ℕ) → old.world ≡ opening_world (setup_in old) → setup_in new ≡ setup_in old
+    → RunsRefusing (setup_in old) old.world events refused new.world → Runs (setup_in new) (opening_world (setup_in new)) events new.world
 plays old new events refused opening same r =
-    subst (λ (s : Setup). Runs s (opening_world s) events (world new)) (sym same)
-    (subst (λ (w : World). Runs (setup_in old) w events (world new)) opening (runs (setup_in old) (world old) events refused (world new) r))
+    subst (λ (s : Setup). Runs s (opening_world s) events new.world) (sym same)
+    (subst (λ (w : World). Runs (setup_in old) w events new.world) opening (runs (setup_in old) old.world events refused new.world r))
 
 pub refused-counts : (answer : Result dones.Done refusals.Refusal) → is_err answer ≡ true → one_if_refused (answer_of answer) ≡ 1
 refused-counts (Ok done) e = absurd (cc)
@@ -49,11 +49,11 @@ pub done-counts : (answer : Result dones.Done refusals.Refusal) → is_err answe
 done-counts (Ok done) e = refl
 done-counts (Err refusal) e = absurd (cc)
 
-pub run-more-from : (first old new : State) (events : List happened.Event) (i : ℕ) (d : happened.Event) (refused : ℕ) (answer : Result Done ℕ) (after : ℕ)
+pub run-more-from : (first old new : Shown) (events : List happened.Event) (i : ℕ) (d : happened.Event) (refused : ℕ) (answer : Result Done ℕ) (after : ℕ)
     → i < length events
-    → RunsRefusing (setup_in first) (world first) (map event_of (take i events)) refused (world old) → setup_in old ≡ setup_in first
-    → Events (setup_in old) (world old) (event_of (get_or events i d)) answer (world new) → after ≡ refused + one_if_refused answer
-    → RunsRefusing (setup_in first) (world first) (map event_of (take (i + 1) events)) after (world new)
+    → RunsRefusing (setup_in first) first.world (map event_of (take i events)) refused old.world → setup_in old ≡ setup_in first
+    → Events (setup_in old) old.world (event_of (get_or events i d)) answer new.world → after ≡ refused + one_if_refused answer
+    → RunsRefusing (setup_in first) first.world (map event_of (take (i + 1) events)) after new.world
 run-more-from first old new events i d refused answer after within r same e a =
-    run-more (setup_in first) (world first) events i d refused (world old) answer after (world new) within r
-    (subst (λ (s : Setup). Events s (world old) (event_of (get_or events i d)) answer (world new)) same e) a
+    run-more (setup_in first) first.world events i d refused old.world answer after new.world within r
+    (subst (λ (s : Setup). Events s old.world (event_of (get_or events i d)) answer new.world) same e) a

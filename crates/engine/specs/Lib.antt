@@ -1,11 +1,9 @@
-pub mod Codec
-pub mod Streams
-pub mod Feeding
 pub mod Numbers
 pub mod Seen
-pub mod Records
-pub mod Offered
-pub mod Short
 pub mod Sound
+pub mod Ending
+pub mod Receiving
 pub mod Engine
 pub mod Words
+pub mod Shown
+pub mod Codes

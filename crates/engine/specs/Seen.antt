@@ -1,150 +1,78 @@
 -- The engine's fields as a world, and its events and answers as the world's.
-use Rattle.std.specs.Prelude.{ℕ, ◌+◌, ◌*◌, is_none, List, [], ◌∷◌, ◌++◌, map, Option, Some, None, Result, Ok, Err, option_map}
-use Rattle.std.specs.FinMap.{from_sorted}
-use Rattle.nfs_model.specs.Types as types
-use Rattle.nfs_model.specs.Tree as trees
-use Rattle.nfs_model.specs.Home.{home}
-use Rattle.nfs_model.specs.Server as servers
-use Rattle.nfs_model.specs.Replay as replays
-use Rattle.nfs_model.specs.Parts as blocks
+use Rattle.std.specs.Prelude.{ℕ, List, map, length, Option, Some, None, Result, Ok, Err}
+use Rattle.nfs_model.specs.Tree.{Layout}
+use Rattle.nfs_model.specs.Parts.{Empty}
 use Rattle.nfs_model.specs.Work as tasks
 use Rattle.nfs_model.specs.World as worlds
-use Rattle.nfs_model.specs.Headline.{opening_parts}
 use Rattle.nfs_model.specs.Events.Refusals as events
-use Rattle.nfs_values.specs.declared.answer.Answer.{Answer}
-use Rattle.nfs_values.specs.declared.moment.Moment.{Moment}
 use Rattle.nfs_values.specs.Moment.{moment_of}
-use Rattle.nfs_values.specs.Credential.{credential_of}
-use Rattle.nfs_values.specs.Call.{call_of}
-use Rattle.nfs_values.specs.Answer as answers
 use Rattle.nfs_values.specs.Reply.{reply_of}
-use Rattle.affinity_tree.specs.declared.affinity.Affinity.{Affinity}
 use Rattle.affinity_tree.specs.Affinity.{affinity_of}
-use Rattle.affinity_tree.specs.Layout.{layout_of}
-use Rattle.engine.specs.declared.connection.OpenConnection.{OpenConnection}
-use Rattle.engine.specs.declared.connection.ClosedConnection.{ClosedConnection}
+use Rattle.desk_laws.specs.Books.{now, stamps}
+use Rattle.desk.specs.Words.{books}
+use Rattle.held_state.specs.Contents.{filer_contents}
+use Rattle.held_state.specs.Tree.{server_of}
+use Rattle.held_state.specs.Partition.{all_parts}
+use Rattle.service.specs.declared.outcome.Outcome.{Outcome}
+use Rattle.service.specs.declared.outcome.Outcome.TheVariants as outcomes
+use Rattle.service.specs.Running.{outcome_of}
+use Rattle.engine_feed.specs.Numbers.{stop_number}
+use Rattle.engine_feed.specs.Seen.{connection_of, message_of, layout_in, waiting_of, finished_of}
+use Rattle.engine_feed.specs.Streams.{codec}
+use Rattle.engine.specs.declared.connection.Connection.{Connection}
+use Rattle.engine.specs.declared.connection.Connection.TheVariants as connections
+use Rattle.engine.specs.declared.worker.Running.{Running}
+use Rattle.engine.specs.declared.worker.Worker.{Worker}
+use Rattle.engine.specs.declared.worker.Worker.TheVariants as workers
+use Rattle.engine.specs.declared.state.State.{State}
 use Rattle.engine.specs.declared.event.Event.{Event}
 use Rattle.engine.specs.declared.event.Event.TheVariants as happened
 use Rattle.engine.specs.declared.event.Done.{Done}
 use Rattle.engine.specs.declared.event.Done.TheVariants as dones
 use Rattle.engine.specs.declared.event.Refusal.{Refusal}
-use Rattle.engine.specs.declared.message.Request.{Request}
-use Rattle.engine.specs.declared.message.Request.TheVariants as requests
-use Rattle.engine.specs.declared.message.Origin.{Origin}
-use Rattle.engine.specs.declared.message.Heard.{Heard}
-use Rattle.engine.specs.declared.message.Message.{Message}
-use Rattle.engine.specs.declared.message.Running.{Running}
-use Rattle.engine.specs.declared.message.FinishedCall.{FinishedCall}
-use Rattle.engine.specs.declared.parcel.NodeAttributes.{NodeAttributes}
-use Rattle.engine.specs.declared.parcel.VolumeLogical as parcels
-use Rattle.engine.specs.declared.state.State.{State}
-use Rattle.engine.specs.Numbers.{stop_number, refusal_number}
-use Rattle.engine.specs.Streams.{setup_of}
-
--- ---- messages
-
-abbrev pub asked_of : Request → types.Asked
-asked_of (requests.Call call credential) = types.Ask (call_of call) (credential_of credential)
-asked_of (requests.Refused reply) = types.Refused (reply_of reply)
-
--- what an entry's record asks, where it was decoded
-abbrev pub asked_in : Option Request → types.Asked
-asked_in None = types.Undecoded
-asked_in (Some request) = asked_of request
-
-abbrev pub heard_of : Heard → worlds.Heard
-heard_of h = record { xid = h.xid; asked = asked_of h.request }
-
--- the affinity that a call tries that waits; one that has none doesn't wait
-abbrev pub or_serial : Option trees.Affinity → trees.Affinity
-or_serial None = trees.Serial
-or_serial (Some a) = a
-
-abbrev pub message_of : trees.Layout → Message → worlds.Message
-message_of layout m = record { connection = m.origin.connection.0; number = m.origin.number; xid = m.origin.xid; asked = types.Ask (call_of m.call) (credential_of m.credential); affinity = or_serial (home layout (call_of m.call)) }
-
-abbrev pub outcome_of : Answer → tasks.Outcome
-outcome_of answer = tasks.Replied (types.Success (answers.answer_of answer))
-
-abbrev pub running_of : trees.Layout → Running → worlds.Running
-running_of layout r = record { message = message_of layout r.message; moment = moment_of r.moment; outcome = option_map outcome_of r.answer }
-
-abbrev pub entry_of : FinishedCall → replays.FinishedCall
-entry_of e = record { connection = e.origin.connection.0; number = e.origin.number; xid = e.origin.xid; asked = asked_in e.request; affinity = option_map affinity_of e.affinity; moment = moment_of e.moment; starved = e.starved }
-
--- a finished call, starved just where it wasn't decoded
-abbrev pub entry_by : Origin → Option Request → Option Affinity → Moment → replays.FinishedCall
-entry_by origin request affinity moment = record { connection = origin.connection.0; number = origin.number; xid = origin.xid; asked = asked_in request; affinity = option_map affinity_of affinity; moment = moment_of moment; starved = is_none request }
+use Rattle.engine.specs.Numbers.{refusal_number}
 
 -- ---- connections
 
-abbrev pub open_of : OpenConnection → worlds.Connection
-open_of c = record { stream = c.stream.items; closed = None; output = c.output.items }
+abbrev pub connection_seen : Connection → worlds.Connection
+connection_seen (connections.Open c) = connection_of c
+connection_seen (connections.Closed c) = record { stream = c.stream.items; closed = Some c.finished; output = c.output.items }
 
-abbrev pub closed_of : ClosedConnection → worlds.Connection
-closed_of c = record { stream = c.stream.items; closed = Some c.finished; output = c.output.items }
+-- ---- workers
 
-abbrev pub last_of : Option OpenConnection → List worlds.Connection
-last_of None = []
-last_of (Some c) = open_of c ∷ []
+-- a message that runs, with what it came to
+abbrev pub running_as : Running → Option tasks.Outcome → worlds.Running
+running_as r outcome = record { message = message_of r.message; moment = moment_of r.moment; outcome = outcome }
 
-abbrev pub connections_of : List ClosedConnection → Option OpenConnection → List worlds.Connection
-connections_of past current = map closed_of past ++ last_of current
+abbrev pub running_seen : Worker → Option worlds.Running
+running_seen workers.Idle = None
+running_seen (workers.Begun r) = Some (running_as r None)
+running_seen (workers.Worked r outcome) = Some (running_as r (Some (outcome_of outcome)))
 
--- ---- the server
-
-abbrev pub root_of : NodeAttributes → servers.Node
-root_of k = servers.Directory (record {
-  attributes = record { mode = k.mode; uid = k.uid; gid = k.gid; atime = moment_of k.atime; mtime = moment_of k.mtime; ctime = moment_of k.ctime };
-  parent = 1;
-  next = 3;
-  list = [];
-})
-
--- a volume as it begins, but for its root
-abbrev pub volume_seen : List ℕ → NodeAttributes → ℕ → trees.VolumeLayout → servers.VolumeState
-volume_seen verifier k number v = record {
-  number = number;
-  aggregate = v.aggregate;
-  total = 1024 * v.ranges;
-  largest = 1048576 * v.mebibytes;
-  verifier = verifier;
-  next = 2;
-  nodes = from_sorted ((1, root_of k) ∷ []);
-}
-
--- volumes numbered from a number on
-abbrev pub volumes_from : List ℕ → NodeAttributes → ℕ → List trees.VolumeLayout → List servers.VolumeState
-volumes_from verifier k number [] = []
-volumes_from verifier k number (v ∷ vs) = volume_seen verifier k number v ∷ volumes_from verifier k (number + 1) vs
-
--- the server of which the parcel is all that calls change: the root of every volume
-abbrev pub server_of : trees.Layout → List ℕ → NodeAttributes → servers.Server
-server_of layout verifier k = record { spare = layout.spare; volumes = volumes_from verifier k 0 layout.volumes }
-
--- the parcel, at home or lent
-abbrev pub held_by : Option Running → NodeAttributes
-held_by None = record { mode = 0; uid = 0; gid = 0; atime = record { seconds = 0; nanoseconds = 0 }; mtime = record { seconds = 0; nanoseconds = 0 }; ctime = record { seconds = 0; nanoseconds = 0 } }
-held_by (Some r) = r.held.root
-
-abbrev pub kept_by : Option parcels.VolumeLogical → Option Running → NodeAttributes
-kept_by None running = held_by running
-kept_by (Some p) running = p.root
+-- inner calls aren't made yet, so hands are empty
+abbrev pub worker_seen : Worker → worlds.Worker
+worker_seen k = record { running = running_seen k; hand = Empty }
 
 -- ---- the world
 
 abbrev pub setup_in : State → worlds.Setup
-setup_in s = setup_of (layout_of s.layout) s.verifier
+setup_in s = record {
+  codec = codec;
+  layout = layout_in s.calls;
+  verifier = s.verifier.0;
+  workers = length s.workers.items;
+  connections = 64;
+}
 
 abbrev pub world : State → worlds.World
 world s = record {
-  connections = connections_of s.past.items s.current;
-  waiting = map (message_of (layout_of s.layout)) s.waiting.items;
-  workers = record { running = option_map (running_of (layout_of s.layout)) s.running; hand = blocks.Empty } ∷ [];
-  finished = map entry_of s.finished.items;
-  server = server_of (layout_of s.layout) s.verifier (kept_by s.home s.running);
-  parts = map opening_parts (layout_of s.layout).volumes;
-  stamps = s.stamps;
+  connections = map connection_seen s.connections.items;
+  waiting = waiting_of s.calls;
+  workers = map worker_seen s.workers.items;
+  finished = finished_of s.calls;
+  server = server_of (filer_contents (books s.desk).layout (now (books s.desk)));
+  parts = all_parts (filer_contents (books s.desk).layout (now (books s.desk)));
+  stamps = stamps (books s.desk);
 }
 
 -- ---- events
@@ -163,8 +91,25 @@ done_of (dones.Fed taken stop) = events.Fed taken (stop_number stop)
 done_of dones.Closed = events.IsClosed
 done_of (dones.Granted affinity) = events.Granted (affinity_of affinity)
 done_of dones.Replied = events.HasReply
+done_of dones.Starved = events.IsStarved
+done_of (dones.Moved affinity) = events.HasMove (affinity_of affinity)
 done_of (dones.Written connection count) = events.Written connection count
+done_of dones.PutBack = events.IsBack
 
 abbrev pub answer_of : Result Done Refusal → Result events.Done ℕ
 answer_of (Ok done) = Ok (done_of done)
 answer_of (Err refusal) = Err (refusal_number refusal)
+
+-- ---- what is told of work
+
+abbrev pub told_of : Outcome → Done
+told_of (outcomes.Replied reply) = dones.Replied
+told_of outcomes.Starved = dones.Starved
+told_of (outcomes.Moved affinity) = dones.Moved affinity
+
+-- ---- the beginning
+
+-- what is fixed for a run of so many workers
+abbrev pub setup_of : Layout → List ℕ → ℕ → worlds.Setup
+setup_of layout verifier workers =
+    record { codec = codec; layout = layout; verifier = verifier; workers = workers; connections = 64 }

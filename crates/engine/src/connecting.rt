@@ -2,61 +2,65 @@
 
 ghost use Rattle.std.specs.Prelude.{◌≡◌};
 ghost use Rattle.nfs_model.specs.Events.Refusals as event;
-ghost use Rattle.nfs_model.specs.Events.Step.{Events};
-ghost use Rattle.engine.specs.Seen.{setup_in, world, answer_of};
 ghost use Rattle.engine.specs.Sound.{IsSound};
 ghost use Rattle.engine.specs.Words.{Does, HasItsSetup};
 
-use crate::connection::{ClosedConnection, OpenConnection};
+use crate::connection::{ClosedConnection, Connection};
 use crate::event::{Done, Refusal};
-use crate::state::State;
-use rpc_record::Reassembler;
+use crate::state::{CONNECTIONS, State};
+use engine_feed::OpenConnection;
+use std::mem;
 
-/// Opens a connection, where none is open.
+/// Opens a connection, where fewer than 64 are open.
 pub(crate) fn open_connection(state: &mut State) -> Result<Done, Refusal>
     requires { IsSound state.old }
     ensures events { Does state.old event.Open result state.new }
     ensures setup { HasItsSetup state.old state.new }
     ensures sound { IsSound state.new }
 {
-    if state.current.is_some() {
+    if state.open_count >= CONNECTIONS {
         return Err(Refusal::Full);
     }
-    if state.past.try_reserve(1).is_err() {
+    if state.connections.try_reserve(1).is_err() {
         return Err(Refusal::NoMemory);
     }
-    state.current = Some(OpenConnection {
-        alloc: state.alloc,
-        stream: Vec::new(state.alloc),
-        reassembler: Reassembler::new(state.alloc),
-        records: 0,
-        fault: None,
-        output: Vec::new(state.alloc),
-        owed: 0,
-    });
-    Ok(Done::Opened {
-        connection: state.past.len(),
-    })
+    let connection = state.connections.len();
+    let opened = Connection::Open(OpenConnection::new(state.alloc));
+    state.connections.push_reserved(opened);
+    state.open_count += 1;
+    Ok(Done::Opened { connection })
 }
 
-/// Closes the open connection.
+/// Closes an open connection: its calls still run, and nothing more is written to it.
 pub(crate) fn close_connection(state: &mut State, connection: usize) -> Result<Done, Refusal>
     requires { IsSound state.old }
     ensures events { Does state.old (event.Close connection) result state.new }
     ensures setup { HasItsSetup state.old state.new }
     ensures sound { IsSound state.new }
 {
-    if connection != state.past.len() {
-        return Err(Refusal::Closed);
-    }
-    let Some(last) = state.current.take() else {
+    let finished = state.calls.finished().len();
+    let nothing = ClosedConnection {
+        stream: Vec::new(state.alloc),
+        output: Vec::new(state.alloc),
+        finished,
+    };
+    let Some(place) = state.connections.get_mut(connection) else {
         return Err(Refusal::Closed);
     };
-    let finished = state.finished.len();
-    state.past.push_reserved(ClosedConnection {
-        stream: last.stream,
-        output: last.output,
-        finished,
-    });
-    Ok(Done::Closed)
+    match mem::replace(place, Connection::Closed(nothing)) {
+        Connection::Open(open) => {
+            let (stream, output) = open.into_parts();
+            *place = Connection::Closed(ClosedConnection {
+                stream,
+                output,
+                finished,
+            });
+            state.open_count -= 1;
+            Ok(Done::Closed)
+        }
+        Connection::Closed(closed) => {
+            *place = Connection::Closed(closed);
+            Err(Refusal::Closed)
+        }
+    }
 }

@@ -1,33 +1,38 @@
-//! The engine: connections, calls on their way, and the state that calls run on.
+//! The engine: connections, calls on their way, workers, and the parcels that calls run on.
 
-ghost use Rattle.std.specs.Prelude.{◌≡◌, List, ℕ, [], ◌∷◌, map, option_map, slice_get};
-ghost use Rattle.nfs_model.specs.Parts as blocks;
-ghost use Rattle.nfs_model.specs.Events.Step.{Events, Runs};
-ghost use Rattle.nfs_model.specs.Headline.{Headline, opening_world};
-ghost use Rattle.engine.specs.Engine.{RunsRefusing, output_in, stream_in};
-ghost use Rattle.engine.specs.Seen.{setup_in, world, event_of, answer_of, running_of, entry_of};
-ghost use Rattle.engine.specs.Sound.{IsSound};
+ghost use Rattle.std.specs.Prelude.{◌≡◌, ◌≤◌, List, ℕ, length, map, slice_get, IfOk};
+ghost use Rattle.nfs_model.specs.Headline.{opening_world};
 ghost use Rattle.affinity_tree.specs.Layout.{layout_of};
-ghost use Rattle.engine.specs.Streams.{setup_of};
-ghost use Rattle.engine.specs.Words.{RunsThis, Does, HasRun, HasPlayed, HasHeadline, HasItsSetup};
+ghost use Rattle.engine_feed.specs.Seen.{entry_of};
+ghost use Rattle.engine.specs.Engine.{output_in, stream_in};
+ghost use Rattle.engine.specs.Seen.{event_of, worker_seen, setup_of};
+ghost use Rattle.engine.specs.Shown.{setup_in, Does, HasRun, HasPlayed, HasHeadline, HasItsSetup};
+ghost use Rattle.engine.specs.Sound.{IsSound};
+ghost use Rattle.engine.specs.Words as words;
 
-use crate::calls;
+use crate::beginning::begin;
 use crate::connecting::{close_connection, open_connection};
+use crate::connection::Connection;
 use crate::event::{Done, Event, Refusal};
 use crate::feeding::feed;
-use crate::message::{FinishedCall, Running};
-use crate::parcel::VolumeLogical;
+use crate::finishing::finish;
+use crate::opening::open;
 use crate::state::State;
+use crate::worker::Worker;
+use crate::working::work;
 use affinity_tree::Layout;
-use nfs_laws::laws::{events_keep_headline, opening_meets_headline, readings_agree};
-use std::alloc::Global;
+use engine_feed::FinishedCall;
+use engine_feed::laws::codec_is_scan;
+use held_laws::parts_partition;
+use nfs_laws::laws::{events_keep_headline, opening_meets_headline};
+use std::alloc::{AllocError, Global};
 use std::marker::Model;
 
 /// Takes one event.
 fn dispatch(state: &mut State, event: Event<'_>) -> Result<Done, Refusal>
-    requires { IsSound state.old }
-    ensures events { Does state.old (event_of event.entry) result state.new }
-    ensures setup { HasItsSetup state.old state.new }
+    requires { words.IsWhole state.old }
+    ensures events { words.Does state.old (event_of event.entry) result state.new }
+    ensures setup { words.HasItsSetup state.old state.new }
     ensures sound { IsSound state.new }
 {
     match event {
@@ -38,55 +43,56 @@ fn dispatch(state: &mut State, event: Event<'_>) -> Result<Done, Refusal>
             worker,
             place,
             moment,
-        } => calls::begin(state, worker, place, moment),
-        Event::Work { worker } => calls::work(state, worker),
-        Event::Finish { worker } => calls::finish(state, worker),
+        } => begin(state, worker, place, moment),
+        Event::Work { worker } => work(state, worker),
+        Event::Finish { worker } => finish(state, worker),
     }
 }
 
-/// A server of connections and their calls, driven by events. It has one worker, and at most one
-/// connection is open.
+/// A server of connections and their calls, driven by events, with 1 to 64 workers. At most 64
+/// connections are open.
 #[derive(Drop)]
 pub struct Engine {
     state: State,
 }
 
 impl Model for Engine {
-    ghost use Rattle.engine.specs.declared.state.State.{State};
+    ghost use Rattle.engine.specs.Shown.{Shown};
 
-    ghost Value = { State };
+    ghost use Rattle.std.specs.Coded.{codes};
+    ghost use Rattle.engine.specs.Codes.{coded_nodes, coded_filled};
 
-    ghost use Rattle.nfs_model.specs.Headline.{Kept};
-    ghost use Rattle.engine.specs.Seen.{setup_in, world};
-    ghost use Rattle.engine.specs.Sound.{IsSound};
+    ghost Value = { Shown };
 
-    ghost view = { λ e. e.state };
+    ghost coded = { Prim.hlevel (codes, coded_nodes, coded_filled) };
 
-    ghost invariant = { λ e. IsSound e.state × Kept (setup_in e.state) (world e.state) };
+    ghost use Rattle.engine.specs.Shown.{shown};
+    ghost use Rattle.engine.specs.Words.{IsWhole};
+
+    ghost view = { λ e. shown e.state };
+
+    ghost invariant = { λ e. IsWhole e.state };
 }
 
 impl Engine {
-    /// An engine to which nothing has happened.
-    pub fn new(alloc: Global, layout: Layout, verifier: [u8; 8]) -> Engine
-        ensures setup { setup_in result ≡ setup_of (layout_of layout) verifier }
-        ensures opening { (world result) ≡ opening_world (setup_in result) }
-        ensures headline { HasHeadline result }
+    /// An engine to which nothing has happened, with so many workers, from 1 to 64.
+    pub fn new(
+        alloc: Global,
+        layout: Layout,
+        verifier: [u8; 8],
+        workers: usize,
+    ) -> Result<Engine, AllocError>
+        requires workers { 1 ≤ workers }
+        requires most { workers ≤ 64 }
+        ensures setup { IfOk result (λ engine.
+            setup_in engine ≡ setup_of (layout_of layout) verifier workers) }
+        ensures opening { IfOk result (λ engine.
+            engine.world ≡ opening_world (setup_in engine)) }
+        ensures headline { IfOk result (λ engine. HasHeadline engine) }
     {
         opening_meets_headline();
-        Engine {
-            state: State {
-                alloc,
-                layout,
-                verifier,
-                past: Vec::new(alloc),
-                current: None,
-                waiting: Vec::new(alloc),
-                running: None,
-                home: Some(VolumeLogical::OPENING),
-                finished: Vec::new(alloc),
-                stamps: 0,
-            },
-        }
+        let state = open(alloc, layout, verifier, workers)?;
+        Ok(Engine { state })
     }
 
     /// Takes one event. A refused one changes nothing.
@@ -95,7 +101,8 @@ impl Engine {
         ensures setup { HasItsSetup self.old self.new }
         ensures headline { HasHeadline self.new }
     {
-        readings_agree();
+        codec_is_scan();
+        parts_partition();
         events_keep_headline();
         dispatch(&mut self.state, event)
     }
@@ -117,53 +124,58 @@ impl Engine {
     }
 
     /// A new engine after these events.
-    pub fn play(alloc: Global, layout: Layout, verifier: [u8; 8], events: &[Event<'_>]) -> Engine
-        ensures setup { setup_in result ≡ setup_of (layout_of layout) verifier }
-        ensures runs { HasPlayed events.now result }
-        ensures headline { HasHeadline result }
+    pub fn play(
+        alloc: Global,
+        layout: Layout,
+        verifier: [u8; 8],
+        workers: usize,
+        events: &[Event<'_>],
+    ) -> Result<Engine, AllocError>
+        requires workers { 1 ≤ workers }
+        requires most { workers ≤ 64 }
+        ensures setup { IfOk result (λ engine.
+            setup_in engine ≡ setup_of (layout_of layout) verifier workers) }
+        ensures runs { IfOk result (λ engine. HasPlayed events.now engine) }
+        ensures headline { IfOk result (λ engine. HasHeadline engine) }
     {
-        let mut engine = Engine::new(alloc, layout, verifier);
+        let mut engine = Engine::new(alloc, layout, verifier, workers)?;
         engine.run(events);
-        engine
+        Ok(engine)
     }
 
     /// All bytes that were written to a connection; none where there is no such connection.
     pub fn output(&self, connection: usize) -> &[u8]
-        ensures { result.now ≡ output_in (slice_get (world self.now).connections connection) }
+        ensures { result.now ≡ output_in (slice_get self.now.world.connections connection) }
     {
-        match self.state.past.get(connection) {
-            Some(closed) => &closed.output,
-            None => match &self.state.current {
-                Some(last) if connection == self.state.past.len() => &last.output,
-                _ => &[],
-            },
+        match self.state.connections.get(connection) {
+            Some(Connection::Open(open)) => open.output(),
+            Some(Connection::Closed(closed)) => &closed.output,
+            None => &[],
         }
     }
 
     /// All bytes that were taken from a connection; none where there is no such connection.
     pub fn stream(&self, connection: usize) -> &[u8]
-        ensures { result.now ≡ stream_in (slice_get (world self.now).connections connection) }
+        ensures { result.now ≡ stream_in (slice_get self.now.world.connections connection) }
     {
-        match self.state.past.get(connection) {
-            Some(closed) => &closed.stream,
-            None => match &self.state.current {
-                Some(last) if connection == self.state.past.len() => &last.stream,
-                _ => &[],
-            },
+        match self.state.connections.get(connection) {
+            Some(Connection::Open(open)) => open.stream(),
+            Some(Connection::Closed(closed)) => &closed.stream,
+            None => &[],
         }
     }
 
-    /// The message that the worker has begun.
-    pub fn running(&self) -> Option<&Running>
-        ensures { RunsThis self.now (option_map (λ r. r.now) result) }
+    /// What each worker runs.
+    pub fn workers(&self) -> &[Worker]
+        ensures { map worker_seen result.now ≡ self.now.world.workers }
     {
-        self.state.running.as_ref()
+        &self.state.workers
     }
 
     /// The calls that are finished, in finishing order.
     pub fn finished(&self) -> &[FinishedCall]
-        ensures { map entry_of result.now ≡ (world self.now).finished }
+        ensures { map entry_of result.now ≡ self.now.world.finished }
     {
-        &self.state.finished
+        self.state.calls.finished()
     }
 }

@@ -3,6 +3,7 @@
 ghost use Rattle.std.specs.Prelude.{◌≡◌};
 
 use affinity_tree::Affinity;
+use engine_feed::Stop;
 use nfs_values::Moment;
 
 /// What may happen to an engine.
@@ -47,38 +48,20 @@ pub enum Done {
     Granted { affinity: Affinity },
     /// The call has its reply.
     Replied,
+    /// Memory ran out for the call, which changed nothing.
+    Starved,
+    /// The message has to run on this affinity's parcels.
+    Moved { affinity: Affinity },
     /// The reply has so many bytes on this connection: none where it is closed.
     Written { connection: usize, count: usize },
-}
-
-/// What stopped the taking of bytes.
-#[derive(Clone, Copy, Debug, PartialEq, Eq)]
-pub enum Stop {
-    /// Nothing: all were taken.
-    AllTaken,
-    /// The next of them would complete a record, and the places of messages are full.
-    Full,
-    /// The stream came to a fault.
-    Fault(StreamFault),
-    /// Memory ran out.
-    NoMemory,
-}
-
-/// What ends the service of a stream.
-#[derive(Clone, Copy, Debug, PartialEq, Eq)]
-pub enum StreamFault {
-    /// A header brings a record above 131,072 bytes (RFC 5531, section 11).
-    RecordTooLong,
-    /// A record ends within the head of a call (RFC 5531, section 9).
-    BadHeader,
-    /// A record is no call message (RFC 5531, section 9).
-    NotACall,
+    /// The message waits again.
+    PutBack,
 }
 
 /// Why an event was refused. It changed nothing then.
 #[derive(Clone, Copy, Debug, PartialEq, Eq)]
 pub enum Refusal {
-    /// All parcels that the message needs are not at home.
+    /// A running message's affinity excludes this one's.
     Busy,
     /// As many calls as can be were finished.
     Worn,
@@ -98,37 +81,6 @@ pub enum Refusal {
     BadMoment,
     /// Memory ran out.
     NoMemory,
-}
-
-impl StreamFault {
-    ghost use Rattle.engine.specs.Numbers.{fault_number};
-
-    /// The number by which the fault is told.
-    pub fn number(self) -> u32
-        ensures { result ≡ fault_number self }
-    {
-        match self {
-            StreamFault::RecordTooLong => 11,
-            StreamFault::BadHeader => 12,
-            StreamFault::NotACall => 13,
-        }
-    }
-}
-
-impl Stop {
-    ghost use Rattle.engine.specs.Numbers.{stop_number};
-
-    /// The number by which the stop is told.
-    pub fn number(self) -> u32
-        ensures { result ≡ stop_number self }
-    {
-        match self {
-            Stop::AllTaken => 0,
-            Stop::Full => 31,
-            Stop::Fault(fault) => fault.number(),
-            Stop::NoMemory => 90,
-        }
-    }
 }
 
 impl Refusal {

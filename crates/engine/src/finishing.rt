@@ -1,88 +1,162 @@
-//! Calls that are finished: their replies, and their entries.
+//! Messages that workers finish.
 
-ghost use Rattle.std.specs.Prelude.{◌≡◌, ◌+◌, ◌≤◌, ◌<◌, ◌++◌, length};
-ghost use Rattle.std.specs.Prelude.{IfSome, vec_len, vec_capacity};
-ghost use Rattle.nfs_model.specs.World.{changed_at, with_output};
-ghost use Rattle.nfs_model.specs.Events.Step.{bytes_if_open};
+ghost use Rattle.std.specs.Prelude.{◌≡◌, ◌+◌, ◌≤◌, ◌<◌, length, Some};
+ghost use Rattle.nfs_model.specs.Events.Refusals as event;
+ghost use Rattle.nfs_values.specs.Call.{call_of};
+ghost use Rattle.nfs_values.specs.Moment.{moment_of};
 ghost use Rattle.nfs_values.specs.Reply.{reply_of};
-ghost use Rattle.engine.specs.Short.{IsShort};
-ghost use Rattle.engine.specs.Codec.{reply_record};
-ghost use Rattle.engine.specs.Seen.{world, entry_by};
-ghost use Rattle.engine.specs.Sound.{HasRoomToReply, IsWrittenTo, Releases, Responds, KeepsEntry};
-ghost use Rattle.engine.specs.Words.{HasWritten, written_count, HasFinished};
+ghost use Rattle.desk_laws.specs.Calls.{MayFinish, HasFinished};
+ghost use Rattle.desk.specs.Words.{books, machine_in, IsKept};
+ghost use Rattle.engine_feed.specs.Codec.{reply_record};
+ghost use Rattle.rpc_msg.specs.Offered.{IsOffered};
+ghost use Rattle.engine_feed.specs.Seen.{owed_by, layout_in, running_count, finished_message};
+ghost use Rattle.engine_feed.specs.Sound.{IsAdmitted};
+ghost use Rattle.engine_feed.specs.Words.{HasLeft};
+ghost use Rattle.engine.specs.declared.connection.Connection.TheVariants.{Open};
+ghost use Rattle.engine.specs.Ending.{job_made, answer_made, EndsIn, OwesLess};
+ghost use Rattle.engine.specs.Sound.{IsSound};
+ghost use Rattle.engine.specs.Words.{Does, HasItsSetup};
 
-use crate::connection::OpenConnection;
-use crate::message::{FinishedCall, Origin, Request};
-use crate::reply::put_reply;
+use crate::connection::Connection;
+use crate::event::{Done, Refusal};
 use crate::state::State;
-use affinity_tree::Affinity;
+use crate::worker::{Running, Worker, take_worker};
+use desk::{Desk, ParcelKinds};
+use engine_feed::{Calls, OfferedCall};
 use nfs_values::{Moment, Reply};
+use scheduler::{Message, Origin};
+use service::{Asked, Job, JobReply, Outcome, Service, ServedCall};
 
-/// Writes a reply record, and answers how many bytes it has.
-fn write_to(last: &mut OpenConnection, xid: u32, reply: &Reply) -> usize
-    requires short { IsShort (reply_of reply.now) }
-    requires room { vec_len last.old.output + 116 ≤ vec_capacity last.old.output }
-    ensures output { last.new.output.items
-        ≡ last.old.output.items ++ reply_record xid (reply_of reply.now) }
-    ensures count { result ≡ length (reply_record xid (reply_of reply.now)) }
-    ensures written { IsWrittenTo last.old last.new }
+/// Ends a worker's call on the desk by an entry of the history, and gives back its message and its
+/// reply.
+fn end_on(
+    desk: &mut Desk<Service, ParcelKinds>,
+    worker: usize,
+    running: Running,
+    reply: Reply,
+    starved: bool,
+) -> (Running, Reply)
+    requires kept { IsKept desk.old }
+    requires offered { IsOffered (call_of running.message.call) }
+    requires may { MayFinish (machine_in desk.old) (books desk.old) worker
+        (job_made running starved) (answer_made reply) }
+    ensures kept { IsKept desk.new }
+    ensures finished { HasFinished (machine_in desk.old) (books desk.old) worker
+        (job_made running starved) (answer_made reply) (books desk.new) }
+    ensures running { result.0 ≡ running }
+    ensures reply { result.1 ≡ reply }
 {
-    let before = last.output.len();
-    put_reply(&mut last.output, xid, reply);
-    last.output.len() - before
-}
-
-/// Writes the reply to a record's call, and answers how many bytes it has: none where the
-/// record's connection is closed.
-pub(crate) fn respond(state: &mut State, origin: Origin, reply: &Reply) -> usize
-    requires short { IsShort (reply_of reply.now) }
-    requires room { HasRoomToReply state.old origin.connection.0 }
-    ensures written { HasWritten origin (reply_of reply.now) state.old state.new }
-    ensures count { result ≡ written_count origin (reply_of reply.now) state.old }
-    ensures responds { Responds origin.connection.0 state.old state.new }
-{
-    if origin.connection.0 != state.past.len() {
-        return 0;
-    }
-    match &mut state.current {
-        Some(last) => write_to(last, origin.xid, reply),
-        None => 0,
-    }
-}
-
-/// Gives up the room of a message's reply, which was written where its connection is open.
-pub(crate) fn release(state: &mut State, origin: Origin, room: usize)
-    requires { IfSome state.old.current
-        (λ c. origin.connection.0 ≡ vec_len state.old.past → room ≤ c.owed) }
-    ensures { Releases origin.connection.0 room state.old state.new }
-{
-    if origin.connection.0 != state.past.len() {
-        return;
-    }
-    if let Some(last) = &mut state.current {
-        last.owed -= room;
-    }
-}
-
-/// Keeps the entry of a finished call, for which there is room. It was starved where memory for its
-/// name or data ran out.
-pub(crate) fn keep_entry(
-    state: &mut State,
-    origin: Origin,
-    request: Option<Request>,
-    affinity: Option<Affinity>,
-    moment: Moment,
-)
-    requires { vec_len state.old.finished < vec_capacity state.old.finished }
-    ensures kept { HasFinished origin request affinity moment state.old state.new }
-    ensures keeps { KeepsEntry state.old state.new }
-{
-    let starved = request.is_none();
-    state.finished.push_reserved(FinishedCall {
+    let Running { message, moment } = running;
+    let Message {
         origin,
-        request,
+        call,
+        credential,
+        affinity,
+        room,
+    } = message;
+    let asked = Asked::Call {
+        call: call.into_call(),
+        credential,
+    };
+    let Origin {
+        connection,
+        number,
+        xid,
+    } = origin;
+    let served = ServedCall {
+        connection,
+        number,
+        xid,
+        asked,
         affinity,
         moment,
         starved,
-    });
+    };
+    let (job, answer) = (Job::Serve(served), JobReply::Replied(reply));
+    desk.finish(worker, &job, &answer);
+    let (
+        Job::Serve(
+            ServedCall {
+                asked: Asked::Call { call, .. },
+                ..
+            },
+        ),
+        JobReply::Replied(reply),
+    ) = (job, answer)
+    else {
+        unreachable!();
+    };
+    let call = OfferedCall::new(call);
+    let message = Message {
+        origin,
+        call,
+        credential,
+        affinity,
+        room,
+    };
+    (Running { message, moment }, reply)
+}
+
+/// Finishes a message that ran, of this connection: its reply is written where that is open. It
+/// answers how many bytes were written.
+fn end_in(
+    calls: &mut Calls,
+    place: &mut Connection,
+    running: Running,
+    reply: &Reply,
+    starved: bool,
+) -> usize
+    requires runs { 0 < running_count calls.old }
+    requires admitted { IsAdmitted (layout_in calls.old) running.message }
+    requires owed { (x : _) → place.old ≡ Open x → running.message.room ≤ owed_by x }
+    requires fits { length (reply_record running.message.origin.xid (reply_of reply.now))
+        ≤ running.message.room }
+    ensures ends { EndsIn calls.old place.old running (reply_of reply.now) starved result
+        calls.new place.new }
+    ensures left { HasLeft calls.old
+        (finished_message running.message (moment_of running.moment) starved) calls.new }
+    ensures owes { OwesLess running.message place.old place.new }
+{
+    let Running { message, moment } = running;
+    match place {
+        Connection::Open(open) => calls.finish(message, moment, open, reply, starved),
+        Connection::Closed(_) => {
+            calls.finish_unseen(message, moment, starved);
+            0
+        }
+    }
+}
+
+/// Finishes the message that a worker has worked.
+pub(crate) fn finish(state: &mut State, worker: usize) -> Result<Done, Refusal>
+    requires { IsSound state.old }
+    ensures events { Does state.old (event.Finish worker) result state.new }
+    ensures setup { HasItsSetup state.old state.new }
+    ensures sound { IsSound state.new }
+{
+    match state.workers.get(worker) {
+        None | Some(Worker::Idle) => return Err(Refusal::NoWork),
+        Some(Worker::Begun(_)) => return Err(Refusal::NotWorked),
+        Some(Worker::Worked(..)) => {}
+    }
+    let Worker::Worked(running, outcome) = take_worker(&mut state.workers, worker) else {
+        unreachable!();
+    };
+    let connection = running.message.origin.connection.0;
+    let (reply, starved) = match outcome {
+        Outcome::Replied(reply) => (reply, false),
+        Outcome::Starved => (Reply::SystemError, true),
+        Outcome::Moved(affinity) => {
+            state.desk.put_back(worker);
+            state.calls.put_back(Message {
+                affinity,
+                ..running.message
+            });
+            return Ok(Done::PutBack);
+        }
+    };
+    let (running, reply) = end_on(&mut state.desk, worker, running, reply, starved);
+    let place = &mut state.connections[connection];
+    let count = end_in(&mut state.calls, place, running, &reply, starved);
+    Ok(Done::Written { connection, count })
 }

@@ -1,24 +1,19 @@
-//! The engine: connections, calls on their way, and the state that calls run on.
+//! The engine: connections, calls on their way, workers, and the parcels that calls run on.
 #![tactic(auto)]
 
-mod arrival;
-mod asked;
-mod calls;
+mod beginning;
 mod connecting;
 mod connection;
 mod engine;
 mod event;
 mod feeding;
 mod finishing;
-pub mod laws;
-mod message;
-mod parcel;
-mod reading;
-mod reply;
+mod opening;
 mod state;
-mod work;
+mod worker;
+mod working;
 
-pub use asked::{OfferedAnswer, OfferedCall, Refused};
+pub use engine_feed::{FinishedCall, Stop, StreamFault};
 pub use engine::Engine;
-pub use event::{Done, Event, Refusal, Stop, StreamFault};
-pub use message::{FinishedCall, Heard, Message, Origin, Request, Running};
+pub use event::{Done, Event, Refusal};
+pub use worker::{Running, Worker};

@@ -4,7 +4,7 @@ use Rattle.std.specs.Prelude.{◌==◌}
 use Rattle.std.proofs.lemmas.Bool.Decides.{nat_tests}
 use Rattle.nfs_model.specs.World.{Heard, IsDecoded}
 use Rattle.nfs_model.specs.Types as types
-use Rattle.nfs_model.specs.ReadOnly.{IsReading}
+use Rattle.rpc_msg.specs.Offered.{IsOffered}
 use Rattle.nfs_values.specs.declared.reply.Reply.{Reply}
 use Rattle.nfs_values.specs.Reply.{reply_of}
 use Rattle.rpc_msg.specs.Records as records
@@ -13,7 +13,7 @@ use Rattle.rpc_msg.specs.Replies.{IsRefusal}
 use Rattle.rpc_msg.specs.Room.{refusal_room}
 use Rattle.engine_feed.specs.Offered.{reply_limit}
 use Rattle.rpc_msg.specs.lemmas.Refusals.{refusal_refuses}
-use Rattle.rpc_msg.specs.lemmas.Hearing.{fault_of_record, record_is_decoded, record_asks_reading}
+use Rattle.rpc_msg.specs.lemmas.Hearing.{fault_of_record, record_is_decoded, record_asks_offered}
 use Rattle.rpc_msg.specs.Seen as told
 use Rattle.rpc_msg.specs.declared.fault.RecordFault.{RecordFault}
 use Rattle.rpc_msg.specs.declared.fault.RecordFault.TheVariants as faults
@@ -35,9 +35,9 @@ heard-decoded bytes h e = record_is_decoded bytes h (sym (heard_is bytes) ∙ e)
 
 -- ---- with the procedures that are served
 
-pub heard-is-reading : (bytes : List ℕ) (xid : ℕ) (call : types.Call) (credential : types.Credential)
-    → records.heard bytes ≡ Ok (record { xid = xid; asked = types.Ask call credential }) → IsReading call
-heard-is-reading bytes xid call credential e = record_asks_reading bytes (record { xid = xid; asked = types.Ask call credential }) e
+pub heard-is-offered : (bytes : List ℕ) (xid : ℕ) (call : types.Call) (credential : types.Credential)
+    → records.heard bytes ≡ Ok (record { xid = xid; asked = types.Ask call credential }) → IsOffered call
+heard-is-offered bytes xid call credential e = record_asks_offered bytes (record { xid = xid; asked = types.Ask call credential }) e
 
 pub refused-refuses : (bytes : List ℕ) (xid : ℕ) (reply : types.Reply) → records.heard bytes ≡ Ok (record { xid = xid; asked = types.Refused reply })
     → IsRefusal reply

@@ -20,7 +20,8 @@ use Rattle.engine_feed.specs.declared.state.Arrival.TheVariants as arrivals
 use Rattle.engine_feed.specs.declared.state.ConnectionState.{ConnectionState}
 use Rattle.engine_feed.specs.declared.state.CallsState.{CallsState}
 use Rattle.engine_feed.specs.Numbers.{fault_number}
-use Rattle.engine_feed.specs.Offered.{IsOffered, reply_limit}
+use Rattle.rpc_msg.specs.Offered.{IsOffered}
+use Rattle.engine_feed.specs.Offered.{reply_limit}
 use Rattle.engine_feed.specs.Seen.{heard_of, layout_in, pending}
 use Rattle.engine_feed.specs.Streams.{scan_stream, IsQuiet, Completes}
 

@@ -5,7 +5,7 @@ ghost use Rattle.std.specs.Prelude.{◌≡◌};
 ghost use Rattle.nfs_values.specs.Call.{call_of};
 ghost use Rattle.nfs_values.specs.Reply.{reply_of};
 ghost use Rattle.rpc_msg.specs.Replies.{IsRefusal};
-ghost use Rattle.engine_feed.specs.Offered.{IsOffered};
+ghost use Rattle.rpc_msg.specs.Offered.{IsOffered};
 
 use nfs_values::{Call, Reply};
 use std::marker::Model;
@@ -22,7 +22,7 @@ impl Model for OfferedCall {
     ghost Value = { Call };
 
     ghost use Rattle.nfs_values.specs.Call.{call_of};
-    ghost use Rattle.engine_feed.specs.Offered.{IsOffered};
+    ghost use Rattle.rpc_msg.specs.Offered.{IsOffered};
 
     ghost view = { λ s. s.call };
 
@@ -30,11 +30,20 @@ impl Model for OfferedCall {
 }
 
 impl OfferedCall {
-    pub(crate) fn new(call: Call) -> OfferedCall
+    /// A call of such a procedure.
+    pub fn new(call: Call) -> OfferedCall
         requires { IsOffered (call_of call) }
         ensures { result ≡ call }
     {
         OfferedCall { call }
+    }
+
+    /// The call.
+    pub fn into_call(self) -> Call
+        ensures { result ≡ self }
+    {
+        let OfferedCall { call } = self;
+        call
     }
 
     pub fn as_call(&self) -> &Call

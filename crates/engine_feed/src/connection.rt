@@ -29,8 +29,10 @@ impl Model for OpenConnection {
 
 impl OpenConnection {
     ghost use Rattle.std.specs.Prelude.{◌≡◌, ◌≤◌, is_none, length};
+    ghost use Rattle.std.specs.List.{AllByRecursion};
     ghost use Rattle.nfs_model.specs.Events.Step.{new_connection};
-    ghost use Rattle.engine_feed.specs.Seen.{connection_of, owed_by};
+    ghost use Rattle.engine_feed.specs.Seen.{connection_of, owed_by, layout_in, messages_of};
+    ghost use Rattle.engine_feed.specs.Sound.{IsAdmitted};
     ghost use Rattle.engine_feed.specs.Streams.{scan_stream};
     ghost use Rattle.engine_feed.specs.Words.{TakesInput, HasFed, Adds};
 
@@ -96,6 +98,8 @@ impl OpenConnection {
             calls.new self.new }
         ensures within { result.0 ≤ length bytes.now }
         ensures adds { Adds calls.old self.old number.0 calls.new self.new }
+        ensures admitted { AllByRecursion (IsAdmitted (layout_in calls.new))
+            (messages_of calls.new) }
     {
         feed(&mut self.state, &mut calls.state, number, bytes)
     }

@@ -71,13 +71,13 @@ fn print_done<W: Write>(
         ),
         (_, Done::Granted { affinity }) => say(out, format_args!("granted {affinity}")),
         (_, Done::Replied) => say(out, "reply"),
+        (_, Done::Starved) => say(out, "starved"),
+        (_, Done::Moved { affinity }) => say(out, format_args!("move {affinity}")),
+        (_, Done::PutBack) => say(out, "back"),
         (_, Done::Written { connection, count }) => {
             let output = engine.output(connection);
-            print_output(
-                out,
-                connection,
-                &output[output.len().saturating_sub(count)..],
-            )
+            let before = output.len().saturating_sub(count);
+            print_output(out, connection, &output[before..])
         }
         // only a feed comes to the one, and only a close to the other
         (_, Done::Fed { .. } | Done::Closed) => Ok(()),
@@ -104,26 +104,22 @@ fn play<W: Write>(
     }
 }
 
-/// Plays the events of a script up to its end, and answers whether one was refused.
-fn play_all<W: Write>(
-    script: &mut Script<'_>,
-    engine: &mut Engine,
-    bytes: &mut Vec<u8>,
-    out: &mut W,
-) -> Result<bool, ProgramFault> {
-    let mut refused = false;
-    while let Some(event) = script.read_event(bytes)? {
-        refused |= play(engine, event, out)?;
-    }
-    Ok(refused)
-}
-
 /// Runs a script up to its end, and answers whether an event was refused.
 fn run<W: Write>(alloc: Global, text: &[u8], out: &mut W) -> Result<bool, ProgramFault> {
     let mut script = Script::new(alloc, text);
-    let Start { layout, verifier } = script.read_start()?;
-    let mut engine = Engine::new(alloc, layout, verifier);
-    play_all(&mut script, &mut engine, &mut Vec::new(alloc), out)
+    let Start {
+        layout,
+        verifier,
+        workers,
+    } = script.read_start()?;
+    let opened = Engine::new(alloc, layout, verifier, workers);
+    let mut engine = opened.map_err(|_full| ProgramFault::NoMemory)?;
+    let mut bytes = Vec::new(alloc);
+    let mut refused = false;
+    while let Some(event) = script.read_event(&mut bytes)? {
+        refused |= play(&mut engine, event, out)?;
+    }
+    Ok(refused)
 }
 
 /// Runs a script with its lines kept back until there are many of them, or none follows, and

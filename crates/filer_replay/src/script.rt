@@ -2,6 +2,8 @@
 
 ghost use Rattle.std.specs.Prelude.{◌≡◌, ◌+◌, ◌<◌, ◌≤◌, ◌^◌, ◌⊎◌, ◌↔◌, [], ◌∷◌, ◌++◌};
 ghost use Rattle.std.specs.Prelude.{length, Contains, IsTrue, IfOk, IfErr, IsSome, IfSome};
+ghost use Rattle.affinity_tree.specs.Specification.{volume_asked};
+ghost use Rattle.affinity_tree.specs.Fault.{is_limited, is_striped};
 
 mod line;
 mod word;
@@ -9,14 +11,17 @@ mod word;
 use crate::fault::ProgramFault;
 use crate::script::line::{Line, Unread, read_line};
 use affinity_tree::{
-    AggregateSpec, Layout, LayoutFault, MOST_AGGREGATES, MOST_RANGES, MOST_SPARE, MOST_VOLUMES,
-    VolumeSpec,
+    AggregateSpec, Layout, LayoutFault, MIB, MOST_AGGREGATES, MOST_MIB, MOST_RANGES, MOST_SPARE,
+    MOST_STRIPES, MOST_VOLUMES, STRIPES, VolumeSpec,
 };
 use engine::Event;
 use std::alloc::Global;
 
 /// What ends a line.
 const LINE_FEED: u8 = b'\n';
+
+/// The most workers of an engine.
+const MOST_WORKERS: u32 = 64;
 
 /// The most lines of a layout, the one that starts its engine with them.
 const LAYOUT_LINES: usize = MOST_AGGREGATES + MOST_VOLUMES + 1;
@@ -29,20 +34,25 @@ fn is_aggregate(aggregates: &[AggregateSpec], volumes: &[VolumeSpec], spare: u32
 }
 
 /// Whether one more volume may follow these lines.
-fn is_volume(
-    aggregates: &[AggregateSpec],
-    volumes: &[VolumeSpec],
-    aggregate: u32,
-    ranges: u32,
-) -> bool
+fn is_volume(aggregates: &[AggregateSpec], volumes: &[VolumeSpec], volume: VolumeSpec) -> bool
     ensures { IsTrue result
-        ↔ (length volumes.now < 8) × (aggregate < length aggregates.now)
-        × (1 ≤ ranges) × (ranges ≤ 16) }
+        ↔ (length volumes.now < 8) × (volume.aggregate < length aggregates.now)
+        × (1 ≤ volume.ranges) × (volume.ranges ≤ 16) × IsTrue (is_striped (volume_asked volume))
+        × IsTrue (is_limited (volume_asked volume)) }
 {
     volumes.len() < MOST_VOLUMES
-        && (aggregate as usize) < aggregates.len()
-        && 1 <= ranges
-        && ranges <= MOST_RANGES
+        && (volume.aggregate as usize) < aggregates.len()
+        && 1 <= volume.ranges
+        && volume.ranges <= MOST_RANGES
+        && (volume.stripes == STRIPES || volume.stripes == MOST_STRIPES)
+        && (volume.mib == MIB || volume.mib == MOST_MIB)
+}
+
+/// Whether an engine may have so many workers.
+fn is_worker_count(workers: u32) -> bool
+    ensures { IsTrue result ↔ (1 ≤ workers) × (workers ≤ 64) }
+{
+    1 <= workers && workers <= MOST_WORKERS
 }
 
 /// Whether a line is empty or a comment.
@@ -65,6 +75,7 @@ pub(crate) struct Script<'a> {
 pub(crate) struct Start {
     pub(crate) layout: Layout,
     pub(crate) verifier: [u8; 8],
+    pub(crate) workers: usize,
 }
 
 impl<'a> Script<'a> {
@@ -151,7 +162,10 @@ impl<'a> Script<'a> {
     }
 
     /// The layout, up to the line that starts its engine: aggregates, then volumes, then that line.
-    pub(crate) fn read_start(&mut self) -> Result<Start, ProgramFault> {
+    pub(crate) fn read_start(&mut self) -> Result<Start, ProgramFault>
+        ensures workers { IfOk result (λ start. 1 ≤ start.workers) }
+        ensures most { IfOk result (λ start. start.workers ≤ 64) }
+    {
         let mut aggregates = Vec::new(self.alloc);
         let mut volumes = Vec::new(self.alloc);
         let mut bytes = Vec::new(self.alloc);
@@ -163,19 +177,18 @@ impl<'a> Script<'a> {
                         .push(specification)
                         .map_err(|_full| ProgramFault::NoMemory)?;
                 }
-                Line::Volume { aggregate, ranges }
-                    if is_volume(&aggregates, &volumes, aggregate, ranges) => {
-                    let specification = VolumeSpec::new(aggregate, ranges);
+                Line::Volume(volume) if is_volume(&aggregates, &volumes, volume) => {
                     volumes
-                        .push(specification)
+                        .push(volume)
                         .map_err(|_full| ProgramFault::NoMemory)?;
                 }
-                Line::Start {
-                    workers: 1,
-                    verifier,
-                } => {
+                Line::Start { workers, verifier } if is_worker_count(workers) => {
                     let layout = self.layout(&aggregates, &volumes)?;
-                    return Ok(Start { layout, verifier });
+                    return Ok(Start {
+                        layout,
+                        verifier,
+                        workers: workers as usize,
+                    });
                 }
                 _ => return Err(self.bad_line()),
             }

@@ -8,10 +8,10 @@ use std::test::Fail;
 
 /// A script, the status that it ends with, and what it prints.
 #[derive(Clone, Copy)]
-struct Row {
-    script: &'static [&'static str],
-    status: u8,
-    printed: &'static [&'static str],
+pub(crate) struct Row {
+    pub(crate) script: &'static [&'static str],
+    pub(crate) status: u8,
+    pub(crate) printed: &'static [&'static str],
 }
 
 /// Pieces of text, one after the other.
@@ -23,29 +23,22 @@ pub(crate) fn joined(alloc: Global, pieces: &[&str]) -> Result<String, AllocErro
     Ok(text)
 }
 
-/// What a script prints, behind its status.
-fn replayed(alloc: Global, script: &[u8]) -> (u8, Vec<u8>) {
-    let mut reader = script;
-    let mut out = Vec::new(alloc);
-    let status = replay(alloc, &mut reader, &mut out);
-    (status, out)
-}
-
 /// Runs a script, and looks at its status and at all that it prints.
 pub(crate) fn expect(rt: &(impl Abort + AllocGlobal), script: &[u8], status: u8, printed: &str) {
-    let (ended, out) = replayed(rt.alloc(), script);
-    assert_eq!(rt; ended, status);
+    let mut reader = script;
+    let mut out = Vec::new(rt.alloc());
+    assert_eq!(rt; replay(rt.alloc(), &mut reader, &mut out), status);
     assert_eq!(rt; str::from_utf8(&out), Ok(printed));
 }
 
-/// Looks whether these are the bytes that are wanted.
-pub(crate) fn same(rt: &impl Abort, bytes: &[u8], wanted: &[u8]) {
-    assert_eq!(rt; bytes, wanted);
-}
-
-/// Looks whether this is so.
-pub(crate) fn holds(rt: &impl Abort, is_so: bool) {
-    assert!(rt; is_so);
+/// Runs each script, and looks at its status and at all that it prints.
+pub(crate) fn expect_rows(rt: &(impl Abort + AllocGlobal), rows: &[Row]) -> Result<(), AllocError> {
+    for row in rows {
+        let script = joined(rt.alloc(), row.script)?;
+        let printed = joined(rt.alloc(), row.printed)?;
+        expect(rt, script.as_bytes(), row.status, &printed);
+    }
+    Ok(())
 }
 
 /// The rows: calls, cuts, faults, closes and refusals.
@@ -148,7 +141,7 @@ const ROWS: [Row; 11] = [
         script: &[
             LAYOUT,
             "close 0\nfeed 4294967295 00\nwork 0\nfinish 0\nbegin 0 0 1 0\n\
-            begin 1 0 1 0\nopen\nopen\nfeed 1 -\nfeed 0 -\nfeed 0 ",
+            begin 1 0 1 0\nopen\nopen\nfeed 2 -\nfeed 0 -\nfeed 0 ",
             GETATTR,
             GETATTR,
             "\nbegin 0 2 1 0\nbegin 0 0 1 1000000000\nbegin 0 0 1 999999999\nbegin 0 0 1 0\n\
@@ -158,7 +151,7 @@ const ROWS: [Row; 11] = [
         status: 1,
         printed: &[
             "refused 36\nrefused 36\nrefused 34\nrefused 34\nrefused 32\nrefused 33\nconn 0\n\
-            refused 31\nrefused 36\ntaken 0 stop 0\ntaken 120 stop 0\nrefused 32\nrefused 37\n\
+            conn 1\nrefused 36\ntaken 0 stop 0\ntaken 120 stop 0\nrefused 32\nrefused 37\n\
             granted logical 0\nrefused 33\nrefused 34\nrefused 34\nrefused 35\nreply\n\
             refused 34\nout 0 ",
             GETATTR_REPLY,
@@ -191,11 +184,6 @@ const ROWS: [Row; 11] = [
 
 #[test]
 fn scripts_print_their_lines(rt: HostRuntime) -> Result<(), Fail> {
-    let alloc = rt.alloc();
-    for row in &ROWS {
-        let script = joined(alloc, row.script)?;
-        let printed = joined(alloc, row.printed)?;
-        expect(&rt, script.as_bytes(), row.status, &printed);
-    }
+    expect_rows(&rt, &ROWS)?;
     Ok(())
 }

@@ -15,3 +15,5 @@ mod lists;
 mod streams;
 #[cfg(test)]
 mod texts;
+#[cfg(test)]
+mod workers;

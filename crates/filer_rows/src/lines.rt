@@ -5,7 +5,7 @@ use crate::texts::LAYOUT;
 use std::test::Fail;
 
 /// Scripts whose layout is bad, and what is printed.
-const LAYOUTS: [(&str, &str); 29] = [
+const LAYOUTS: [(&str, &str); 37] = [
     ("", "bad line 1\n"),
     ("\n# nothing\n", "bad line 3\n"),
     ("# no line feed", "bad line 1\n"),
@@ -27,6 +27,20 @@ const LAYOUTS: [(&str, &str); 29] = [
     ("aggregate 1\nvolume 0 17\n", "bad line 2\n"),
     ("aggregate 1\nvolume 0 16\nvolume 0 17\n", "bad line 3\n"),
     ("aggregate 1\nvolume 0 16\nvolume 0 1\n", "bad line 4\n"),
+    ("aggregate 1\nvolume 0 16 12 64\n", "bad line 2\n"),
+    ("aggregate 1\nvolume 0 16 16 32\n", "bad line 2\n"),
+    ("aggregate 1\nvolume 0 17 16 64\n", "bad line 2\n"),
+    (
+        "aggregate 1\nvolume 0 16 16 64\nvolume 0 16 0 64\n",
+        "bad line 3\n",
+    ),
+    (
+        "aggregate 1\nvolume 0 16 8 16\nvolume 0 16 8 0\n",
+        "bad line 3\n",
+    ),
+    ("aggregate 1\nvolume 0 16 16\n", "bad line 2\n"),
+    ("aggregate 1\nvolume 0 16 16 64 0\n", "bad line 2\n"),
+    ("aggregate 1\nvolume 0 1 8 064\n", "bad line 2\n"),
     ("aggregate 1\nvolume 0 1\naggregate 1\n", "bad line 3\n"),
     ("aggregate 1\nvolume 0 1\nopen\n", "bad line 3\n"),
     ("aggregate 1\nvolume 0 1\n", "bad line 3\n"),
@@ -37,7 +51,7 @@ const LAYOUTS: [(&str, &str); 29] = [
         "bad line 3\n",
     ),
     (
-        "aggregate 1\nvolume 0 1\nstart 2 0102030405060708\n",
+        "aggregate 1\nvolume 0 1\nstart 65 0102030405060708\n",
         "bad line 3\n",
     ),
     (
@@ -92,27 +106,19 @@ const LINES: [&str; 28] = [
 ];
 
 #[test]
-fn bad_layouts_end_a_script(rt: HostRuntime) {
-    for (script, printed) in &LAYOUTS {
+fn bad_lines_end_a_script(rt: HostRuntime) -> Result<(), Fail> {
+    let alloc = rt.alloc();
+    for (script, printed) in LAYOUTS {
         expect(&rt, script.as_bytes(), 1, printed);
     }
-    expect(&rt, b"#\xff\nopen\n", 1, "bad line 2\n");
-}
-
-#[test]
-fn bad_lines_end_a_script(rt: HostRuntime) -> Result<(), Fail> {
-    for line in &LINES {
-        let script = joined(rt.alloc(), &[LAYOUT, "open\n", line, "\nopen\n"])?;
+    for line in LINES {
+        let script = joined(alloc, &[LAYOUT, "open\n", line, "\nopen\n"])?;
         expect(&rt, script.as_bytes(), 1, "conn 0\nbad line 5\n");
     }
-    Ok(())
-}
-
-#[test]
-fn comments_and_ends(rt: HostRuntime) -> Result<(), Fail> {
-    let commented = joined(rt.alloc(), &[LAYOUT, "\n# a comment\nopen\n"])?;
+    let commented = joined(alloc, &[LAYOUT, "\n# a comment\nopen\n"])?;
     expect(&rt, commented.as_bytes(), 0, "conn 0\n");
-    let not_ended = joined(rt.alloc(), &[LAYOUT, "open\nopen"])?;
+    let not_ended = joined(alloc, &[LAYOUT, "open\nopen"])?;
     expect(&rt, not_ended.as_bytes(), 1, "conn 0\nbad line 5\n");
+    expect(&rt, b"#\xff\nopen\n", 1, "bad line 2\n");
     Ok(())
 }

@@ -12,10 +12,8 @@ use Rattle.nfs_model.specs.Events.Step.{Happens, Events, Runs}
 use Rattle.nfs_model.specs.Headline.{Kept}
 use Rattle.nfs_laws.proofs.Lists.{none_is}
 use Rattle.nfs_model.specs.Agreed.{IsAgreed}
-use Rattle.nfs_model.specs.ReadOnly.{IsReadOnly}
 use Rattle.nfs_laws.specs.Undisturbed.{WorksNone}
 use Rattle.nfs_laws.proofs.Needs.{NeedsAgreed}
-use Rattle.nfs_laws.proofs.Unchanged.{readings_agree}
 use Rattle.nfs_laws.proofs.KeptByConnections.{keeps_open, keeps_close, open_is}
 use Rattle.nfs_laws.proofs.KeptByFeed.{keeps_walk}
 use Rattle.nfs_laws.proofs.Walked.{walk_of_feed}
@@ -159,22 +157,6 @@ others_agree setup scan w event (Ok done) new none h e =
     agreed_of setup new (happens_kept setup scan w event done new e.0 (needs_nothing setup event new none) e.1 h)
 others_agree setup scan w event (Err number) new none h e =
     agreed_of setup new (subst (λ (v : World). Kept setup v) (sym e.1) h)
-
-module _ (setup : Setup) (only : IsReadOnly setup) (scan : IsScan setup.codec) where
-  -- where calls change nothing
-  keeps_reading : (w : World) (event : Event) (answer : Result Done ℕ) (new : World) → Kept setup w → Events setup w event answer new → Kept setup new
-  keeps_reading w event (Ok done) new h e = happens_kept setup scan w event done new e.0 (readings_agree setup only w h event done new e.1) e.1 h
-  keeps_reading w event (Err number) new h e = subst (λ (v : World). Kept setup v) (sym e.1) h
-
-  pub readings_meet_the_premise : (w : World) (event : Event) (answer : Result Done ℕ) (new : World) → Kept setup w → Events setup w event answer new
-      → IsAgreed setup new
-  readings_meet_the_premise w event answer new h e =
-      agreed_of setup new (keeps_reading w event answer new h e)
-
-  -- after a whole run
-  pub keeps_run : (old : World) (events : List Event) (new : World) → Runs setup old events new → Kept setup old → Kept setup new
-  keeps_run old [] new run h = subst (λ (v : World). Kept setup v) (sym run) h
-  keeps_run old (e ∷ events) new run h = keeps_run run.1 events new run.3 (keeps_reading old e run.0 run.1 h run.2)
 
 -- a run goes on by one event
 pub Runs-push : (setup : Setup) (old : World) (events : List Event) (middle : World) (event : Event) (answer : Result Done ℕ) (new : World)

@@ -8,7 +8,6 @@ pub mod Own
 pub mod Once
 pub mod Slots
 pub mod Needs
-pub mod Unchanged
 pub mod KeptByConnections
 pub mod KeptByWorkers
 pub mod Kept

@@ -5,7 +5,6 @@ use Rattle.std.specs.List.{AllByRecursion}
 use Rattle.nfs_model.specs.Types.{Credential, Null, Getattr, Asked, Ask}
 use Rattle.nfs_model.specs.Server.{handle_bytes}
 use Rattle.nfs_model.specs.World.{Heard, Scanned, Codec, IsScan, IsDecoded}
-use Rattle.nfs_model.specs.ReadOnly.{AsksReading}
 
 abbrev pub nobody : Credential
 nobody = record { uid = 65534; gid = 65534 }
@@ -34,10 +33,6 @@ toy = record { scan = toy_scan; reply_record = λ xid reply. xid ∷ [] }
 asked_decoded : (p : Bool) → IsDecoded (asked_if p)
 asked_decoded true = tt
 asked_decoded false = tt
-
-asked_reads : (p : Bool) → AsksReading (asked_if p)
-asked_reads true = tt
-asked_reads false = tt
 
 module _ (P : Asked → Type 0) (each : (p : Bool) → P (asked_if p)) where
   all_if : (p : Bool) (b : ℕ) (rest : Scanned) → AllByRecursion (λ h. P h.asked) rest.served → AllByRecursion (λ h. P h.asked) (record_if p b rest).served
@@ -69,6 +64,3 @@ grows_by (x ∷ came) b e = later_grows (x == 255) x (toy_scan came) (toy_scan (
 
 toy_is_scan : IsScan toy
 toy_is_scan = record { nothing = refl; further = grows_by; decoded = all_asked IsDecoded asked_decoded }
-
-toy_is_read_only : (stream : List ℕ) → AllByRecursion (λ h. AsksReading h.asked) (toy_scan stream).served
-toy_is_read_only = all_asked AsksReading asked_reads

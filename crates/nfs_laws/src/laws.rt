@@ -18,7 +18,6 @@ ghost use Rattle.nfs_model.specs.Events.Refusals.{Event, Done, takes_input};
 ghost use Rattle.nfs_model.specs.Events.Step.{Events, Runs};
 ghost use Rattle.nfs_model.specs.Headline.{Kept, opening_world};
 ghost use Rattle.nfs_model.specs.Agreed.{IsAgreed};
-ghost use Rattle.nfs_model.specs.ReadOnly.{IsReadOnly};
 ghost use Rattle.nfs_laws.specs.Undisturbed.{WorksNone};
 ghost use Rattle.nfs_laws.specs.Walk.{Walks};
 
@@ -58,26 +57,6 @@ pub fn other_events_agree()
         → Kept setup old
         → Events setup old event answer new
         → IsAgreed setup new }
-{}
-
-/// Calls that change nothing don't disturb each other, after any event.
-pub fn readings_agree()
-    ensures { (setup : Setup) (old : World) (event : Event) (answer : Result Done ℕ)
-        (new : World)
-        → IsReadOnly setup
-        → IsScan setup.codec
-        → Kept setup old
-        → Events setup old event answer new
-        → IsAgreed setup new }
-{}
-
-/// So a whole run of such calls keeps the headline, from its beginning on.
-pub fn runs_meet_headline()
-    ensures { (setup : Setup) (events : List Event) (new : World)
-        → IsReadOnly setup
-        → IsScan setup.codec
-        → Runs setup (opening_world setup) events new
-        → Kept setup new }
 {}
 
 /// A run goes on by one event.

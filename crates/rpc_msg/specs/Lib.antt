@@ -2,6 +2,7 @@ pub mod Replies
 pub mod Room
 pub mod Heads
 pub mod Calls
+pub mod Offered
 pub mod Records
 pub mod Hearing
 pub mod Seen

@@ -4,7 +4,7 @@ ghost use Rattle.std.specs.Prelude.{◌≡◌, ◌⊎◌, ℕ, Bool, ◌≤◌, 
 ghost use Rattle.std.specs.Prelude.{slice_index};
 ghost use Rattle.nfs_model.specs.Types as model;
 ghost use Rattle.nfs_model.specs.World.{Heard, IsDecoded};
-ghost use Rattle.nfs_model.specs.ReadOnly.{AsksReading};
+ghost use Rattle.rpc_msg.specs.Offered.{AsksOffered};
 ghost use Rattle.nfs_values.specs.declared.procedure.Procedure.{Procedure};
 ghost use Rattle.rpc_msg.specs.Heads.{Call, head_of};
 ghost use Rattle.rpc_msg.specs.Calls.{IsCall};
@@ -132,11 +132,11 @@ pub fn records_are_decoded()
         → IsDecoded h.asked }
 {}
 
-/// A record asks nothing that changes anything, with the procedures that are offered.
-pub fn records_ask_readings()
+/// A record asks nothing but what is offered.
+pub fn records_ask_offered_calls()
     ensures { (bytes : List ℕ) (h : Heard)
         → heard bytes ≡ Ok h
-        → AsksReading h.asked }
+        → AsksOffered h.asked }
 {}
 
 /// A head says a call exactly where the bytes spell one that is offered, and then its arguments.

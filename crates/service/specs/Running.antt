@@ -10,6 +10,7 @@ use Rattle.nfs_model.specs.Serial.Setattr.{setattr}
 use Rattle.nfs_model.specs.Server.{Named, VolumeState}
 use Rattle.nfs_model.specs.Work as works
 use Rattle.affinity_tree.specs.Affinity.{affinity_of}
+use Rattle.affinity_tree.specs.Tree.{IsNode}
 use Rattle.nfs_values.specs.Call.{call_of}
 use Rattle.nfs_values.specs.Reply.{reply_of}
 use Rattle.nfs_values.specs.Set.{set_of}
@@ -62,13 +63,26 @@ call_on layout node moment call = record {
   run = λ volume. procedure call moment volume (fileid_in (named_by layout (handle_in call)));
 }
 
+-- ---- where it is run
+
+-- a call that is run so far is run at its home
+abbrev pub IsRunAt : Layout → Call → Affinity → Type 0
+IsRunAt layout call node = IsRun call × (home layout (call_of call) ≡ Some node)
+
+-- where a call moves, there is a node at which it is run
+abbrev pub MovesOn : Layout → Call → works.Outcome → Type 0
+MovesOn layout call (works.Replied reply) = Unit {0}
+MovesOn layout call works.Starved = Unit {0}
+MovesOn layout call (works.Moved other) = IsNode layout other × IsRunAt layout call other
+
 -- ---- by parcels
 
--- a call that is run so far, whose home this node is, and some sound filer has these parcels under it
+-- a call is run at this node, and some sound filer has these parcels under it
 abbrev pub AsksFor : {P : Type 0} → Call → Layout → Affinity → (ℕ → Option (FilerParcel P)) → Type 0
-AsksFor call layout node f = IsRun call × (home layout (call_of call) ≡ Some node) × HasFiler layout node [] f
+AsksFor call layout node f = IsRunAt layout call node × HasFiler layout node [] f
 
--- what its run under the node comes to
+-- what its run under the node comes to; where it moves, it is run there
 abbrev pub HasRun : {P : Type 0} → Call → Credential → Moment → Layout → Affinity → (ℕ → Option (FilerParcel P)) → Outcome
     → (ℕ → Option (FilerParcel P)) → Type 0
-HasRun call credential moment layout node f outcome f' = Runs layout node (Ask (call_of call) credential) moment f (outcome_of outcome) f'
+HasRun call credential moment layout node f outcome f' =
+    Runs layout node (Ask (call_of call) credential) moment f (outcome_of outcome) f' × MovesOn layout call (outcome_of outcome)

@@ -2,7 +2,7 @@
 use Rattle.std.proofs.Common.{◌≡◌, ℕ, ◌+◌, Bool, true, false, List, [], ◌∷◌, ◌++◌, take, length, Option, Some, None, refl, sym, ap, ◌∙◌}
 use Rattle.std.proofs.Common.{subst}
 use Rattle.std.specs.List.{AllByRecursion}
-use Rattle.std.proofs.lemmas.List.{length-map}
+use Rattle.std.proofs.lemmas.List.{length-map, append-nil, append_assoc}
 use Rattle.nfs_model.specs.Types.{Call, Credential, Moment, Asked, Ask, Refused, Undecoded}
 use Rattle.nfs_model.specs.Tree.{Layout, Affinity}
 use Rattle.nfs_model.specs.Server.{Server, start_of_times}
@@ -60,6 +60,11 @@ alike-then setup a b c p q = record {
   finished = q.finished ∙ p.finished;
 }
 
+-- what holds of each element of two lists holds of each of both in turn
+pub all-append : {A : Type 0} (P : A → Type 0) (xs ys : List A) → AllByRecursion P xs → AllByRecursion P ys → AllByRecursion P (xs ++ ys)
+all-append P [] ys p q = q
+all-append P (x ∷ xs) ys p q = (p.0, all-append P xs ys p.1 q)
+
 module _ (stays : WithoutHomeStays) (setup : Setup) where
   -- a record that is answered at once changes nothing
   at-once-stays : (server : Server) (asked : Asked) → length setup.layout.volumes ≡ length server.volumes → home_of_asked setup.layout asked ≡ None
@@ -113,35 +118,45 @@ module _ (stays : WithoutHomeStays) (setup : Setup) where
       let next : World = heard_in setup w c n h hears.1.0 in
       alike-then setup w next new one (hears-alike hs c next (n + 1) new (still-counted w next one counted) hears.1.2)
 
-  -- ---- messages that wait try their homes
+  -- ---- messages that come try their homes
 
   abbrev pub IsAtHome : Message → Type 0
   IsAtHome m = home_of_asked setup.layout m.asked ≡ Some m.affinity
 
-  all-push : (ms : List Message) (m : Message) → AllByRecursion IsAtHome ms → IsAtHome m → AllByRecursion IsAtHome (ms ++ m ∷ [])
-  all-push [] m all is = (is, tt)
-  all-push (x ∷ ms) m all is = (all.0, all-push ms m all.1 is)
+  -- what waits more, and is at home
+  abbrev Adds : World → World → Type 0
+  Adds w new = (more : List Message) × (new.waiting ≡ w.waiting ++ more) × AllByRecursion IsAtHome more
 
-  admit-home : (w : World) (c n : ℕ) (h : Heard) (o : Option Affinity) → home_of_asked setup.layout h.asked ≡ o → AllByRecursion IsAtHome w.waiting
-      → AllByRecursion IsAtHome (admit setup w c n h o).waiting
-  admit-home w c n h None is all = all
-  admit-home w c n h (Some a) is all = all-push w.waiting _ all is
+  adds-none : (w new : World) → new.waiting ≡ w.waiting → Adds w new
+  adds-none w new same = ([], same ∙ sym (append-nil w.waiting), tt)
 
-  heard-home : (w : World) (c n : ℕ) (h : Heard) (starved : Bool) → AllByRecursion IsAtHome w.waiting
-      → AllByRecursion IsAtHome (heard_in setup w c n h starved).waiting
-  heard-home w c n h false all = admit-home w c n h (home_of_asked setup.layout h.asked) refl all
-  heard-home w c n h true all = all
+  adds-then : (a b c : World) → Adds a b → Adds b c → Adds a c
+  adds-then a b c p q = (
+    p.0 ++ q.0,
+    q.1 ∙ ap (λ (ms : List Message). ms ++ q.0) p.1 ∙ append_assoc a.waiting p.0 q.0,
+    all-append IsAtHome p.0 q.0 p.2 q.2,
+  )
 
-  hears-home : (hs : List Heard) (c : ℕ) (w : World) (n : ℕ) (new : World) → AllByRecursion IsAtHome w.waiting → Hears setup c w n hs new
-      → AllByRecursion IsAtHome new.waiting
-  hears-home [] c w n new all is = subst (λ (x : World). AllByRecursion IsAtHome x.waiting) (sym is) all
-  hears-home (h ∷ hs) c w n new all hears =
-      hears-home hs c (heard_in setup w c n h hears.1.0) (n + 1) new (heard-home w c n h hears.1.0 all) hears.1.2
+  admit-adds : (w : World) (c n : ℕ) (h : Heard) (o : Option Affinity) → home_of_asked setup.layout h.asked ≡ o → Adds w (admit setup w c n h o)
+  admit-adds w c n h None is = adds-none w (admit setup w c n h None) refl
+  admit-adds w c n h (Some a) is = (_, refl, (is, tt))
+
+  heard-adds : (w : World) (c n : ℕ) (h : Heard) (starved : Bool) → Adds w (heard_in setup w c n h starved)
+  heard-adds w c n h false = admit-adds w c n h (home_of_asked setup.layout h.asked) refl
+  heard-adds w c n h true = adds-none w (heard_in setup w c n h true) refl
+
+  hears-adds : (hs : List Heard) (c : ℕ) (w : World) (n : ℕ) (new : World) → Hears setup c w n hs new → Adds w new
+  hears-adds [] c w n new is = adds-none w new (ap (λ (x : World). x.waiting) is)
+  hears-adds (h ∷ hs) c w n new hears =
+      let next : World = heard_in setup w c n h hears.1.0 in
+      adds-then w next new (heard-adds w c n h hears.1.0) (hears-adds hs c next (n + 1) new hears.1.2)
 
   -- ---- a feed
 
-  pub feed-home : (f : Feeding) (w new : World) → Feeds setup f w new → AllByRecursion IsAtHome w.waiting → AllByRecursion IsAtHome new.waiting
-  feed-home f w new feeds all = hears-home feeds.heard f.connection _ _ new all feeds.hears
+  -- what waits stays as it is, and what comes is at home
+  pub feed-adds : (f : Feeding) (w new : World) → Feeds setup f w new
+      → (more : List Message) × (new.waiting ≡ w.waiting ++ more) × AllByRecursion IsAtHome more
+  feed-adds f w new feeds = hears-adds feeds.heard f.connection _ _ new feeds.hears
 
   module _ {P C R : Type 0} (job : C → Job) (told : R → JobReply) (b : FilerBooks P C R) (w : World) (s : StandsFor job told setup w b) where
     counted : Counted w

@@ -1,6 +1,7 @@
 //! The lines of a script.
 
 use crate::script::word::Words;
+use affinity_tree::VolumeSpec;
 use engine::Event;
 use nfs_values::Moment;
 use std::alloc::Global;
@@ -11,8 +12,7 @@ use std::alloc::Global;
 pub(crate) enum Line<'b> {
     /// An aggregate with so many spare ranges.
     Aggregate { spare: u32 },
-    /// A volume of an aggregate, with so many ranges in use.
-    Volume { aggregate: u32, ranges: u32 },
+    Volume(VolumeSpec),
     /// The end of the layout: how many workers, and the write verifier.
     Start { workers: u32, verifier: [u8; 8] },
     Event(Event<'b>),
@@ -48,10 +48,7 @@ fn said_by<'b>(
         b"aggregate" => Line::Aggregate {
             spare: words.number()?,
         },
-        b"volume" => Line::Volume {
-            aggregate: words.number()?,
-            ranges: words.number()?,
-        },
+        b"volume" => Line::Volume(volume_of(words)?),
         b"start" => Line::Start {
             workers: words.number()?,
             verifier: words.verifier()?,
@@ -64,6 +61,19 @@ fn said_by<'b>(
         verb => Line::Event(event_of(verb, words)?),
     };
     Ok(line)
+}
+
+/// A volume: its aggregate and its ranges, and then nothing, or its stripes and its mebibytes.
+fn volume_of(words: &mut Words<'_>) -> Result<VolumeSpec, Unread> {
+    let ordinary = VolumeSpec::new(words.number()?, words.number()?);
+    if words.is_ended() {
+        return Ok(ordinary);
+    }
+    Ok(VolumeSpec {
+        stripes: words.number()?,
+        mib: words.number()?,
+        ..ordinary
+    })
 }
 
 /// An event but a feed.

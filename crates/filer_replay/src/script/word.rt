@@ -61,11 +61,17 @@ impl<'a> Words<'a> {
         }
     }
 
+    /// Whether no word is left.
+    pub(crate) fn is_ended(&self) -> bool {
+        self.rest.is_none()
+    }
+
     /// That no word is left.
     pub(crate) fn end(&self) -> Result<(), Unread> {
-        match self.rest {
-            None => Ok(()),
-            Some(_) => Err(Unread::Form),
+        if self.is_ended() {
+            Ok(())
+        } else {
+            Err(Unread::Form)
         }
     }
 }

@@ -5,7 +5,7 @@ use Rattle.xdr.specs.Shape.{Word, Value}
 use Rattle.xdr.specs.Reading.{◌>>=◌, Reads, read, all_of}
 use Rattle.nfs_model.specs.Types as model
 use Rattle.nfs_model.specs.World.{Heard, IsDecoded}
-use Rattle.nfs_model.specs.ReadOnly.{AsksReading}
+use Rattle.rpc_msg.specs.Offered.{AsksOffered}
 use Rattle.nfs_values.specs.declared.procedure.Procedure.{Procedure}
 use Rattle.nfs_values.specs.declared.procedure.Procedure.TheVariants.{Null, GetAttributes, AdminNull}
 use Rattle.nfs_values.specs.Procedure.{is_offered}
@@ -53,19 +53,19 @@ asks_decoded credential (Ok call) = tt
 asks_decoded credential (Err fault) = tt
 
 -- with a procedure that is offered
-asks_reading : (procedure : Procedure) → is_offered procedure ≡ true → (credential : model.Credential) (r : Result (Value (arguments_shape procedure)) Unread)
-    → AsksReading (asked_by credential (r >>= λ v. Ok (call_from procedure v)))
-asks_reading procedure offered credential (Err fault) = tt
-asks_reading Null offered credential (Ok v) = tt
-asks_reading GetAttributes offered credential (Ok v) = tt
-asks_reading AdminNull offered credential (Ok v) = tt
-asks_reading procedure offered credential (Ok v) = absurd cc
+asks_offered : (procedure : Procedure) → is_offered procedure ≡ true → (credential : model.Credential) (r : Result (Value (arguments_shape procedure)) Unread)
+    → AsksOffered (asked_by credential (r >>= λ v. Ok (call_from procedure v)))
+asks_offered procedure offered credential (Err fault) = tt
+asks_offered Null offered credential (Ok v) = tt
+asks_offered GetAttributes offered credential (Ok v) = tt
+asks_offered AdminNull offered credential (Ok v) = tt
+asks_offered procedure offered credential (Ok v) = absurd cc
 
-asked_reading : (procedure : Procedure) → is_offered procedure ≡ true → (credential : model.Credential) (bytes : List ℕ)
-    → AsksReading (asked_by credential (asked procedure bytes))
-asked_reading procedure offered credential bytes =
-    subst (λ (r : Result model.Call Unread). AsksReading (asked_by credential r)) (sym (asked_is procedure bytes))
-    (asks_reading procedure offered credential (all_of (arguments_shape procedure) bytes))
+asked_offered : (procedure : Procedure) → is_offered procedure ≡ true → (credential : model.Credential) (bytes : List ℕ)
+    → AsksOffered (asked_by credential (asked procedure bytes))
+asked_offered procedure offered credential bytes =
+    subst (λ (r : Result model.Call Unread). AsksOffered (asked_by credential r)) (sym (asked_is procedure bytes))
+    (asks_offered procedure offered credential (all_of (arguments_shape procedure) bytes))
 
 -- what holds of what is asked, where it is told
 abbrev pub told : Heard → Result Heard ℕ
@@ -84,10 +84,10 @@ decoded (Faulty number) h e = absurd cc
 pub record_is_decoded : (bytes : List ℕ) (h : Heard) → heard bytes ≡ Ok h → IsDecoded h.asked
 record_is_decoded bytes = decoded (head_of bytes)
 
-reading : (head : Head) (h : Heard) → HeadServes head → heard_from head ≡ Ok h → AsksReading h.asked
-reading (Call xid procedure credential arguments) h s e = same_heard AsksReading _ h e (asked_reading procedure s credential arguments)
-reading (Refused xid reply) h s e = same_heard AsksReading _ h e tt
-reading (Faulty number) h s e = absurd cc
+offering : (head : Head) (h : Heard) → HeadServes head → heard_from head ≡ Ok h → AsksOffered h.asked
+offering (Call xid procedure credential arguments) h s e = same_heard AsksOffered _ h e (asked_offered procedure s credential arguments)
+offering (Refused xid reply) h s e = same_heard AsksOffered _ h e tt
+offering (Faulty number) h s e = absurd cc
 
-pub record_asks_reading : (bytes : List ℕ) (h : Heard) → heard bytes ≡ Ok h → AsksReading h.asked
-record_asks_reading bytes h = reading (head_of bytes) h (head_serves (read (Word & Word) bytes))
+pub record_asks_offered : (bytes : List ℕ) (h : Heard) → heard bytes ≡ Ok h → AsksOffered h.asked
+record_asks_offered bytes h = offering (head_of bytes) h (head_serves (read (Word & Word) bytes))

@@ -4,7 +4,7 @@ use Rattle.std.proofs.lemmas.Bool.{eq-eqb}
 use Rattle.std.specs.Prelude.{◌==◌, ◌&&◌}
 use Rattle.nfs_model.specs.Types as types
 use Rattle.nfs_model.specs.Types.{Ask, Credential, Moment}
-use Rattle.nfs_model.specs.Tree.{Layout, Affinity, Logical, stripes_of, aggregate_of}
+use Rattle.nfs_model.specs.Tree.{Layout, Affinity, Logical, path, stripes_of, aggregate_of}
 use Rattle.nfs_model.specs.Server.{Named, Server, handle_of}
 use Rattle.nfs_model.specs.Home.{home, logical_home, named_by}
 use Rattle.nfs_model.specs.Locate.{located_in, located_by, locate}
@@ -18,10 +18,13 @@ use Rattle.affinity_tree.specs.Affinity.{kind_of}
 use Rattle.affinity_tree.specs.declared.affinity.Kind.{Kind}
 use Rattle.affinity_tree.specs.declared.affinity.Kind.TheVariants as kinds
 use Rattle.affinity_tree.specs.Fault.{fault_of}
+use Rattle.affinity_tree.specs.lemmas.Ways.{begins-self}
 use Rattle.affinity_tree.specs.Tree.{IsNode}
 use Rattle.parcel_sets.specs.Sets.{volume_of, logical_parcels}
-use Rattle.held_state.specs.Calls.{IsCallOn, handle_in}
-use Rattle.held_state.specs.Lenses.{logical_lens}
+use Rattle.held_state.specs.Calls.{IsCallOn, handle_in, move_on}
+use Rattle.held_state.specs.Contents.{VolumeContents}
+use Rattle.held_state.specs.Deeds.{IsHomeOrAbove}
+use Rattle.held_state.specs.Lenses.{LogicalSet, logical_lens}
 use Rattle.held_state.specs.Promises.{HasVolume}
 use Rattle.held_state.specs.Running.{HasFiler, RunsOn, UnlessReplied, Runs}
 use Rattle.held_state.specs.Sets.{FilerLogical, logical_set, logical_before, logical_after}
@@ -29,7 +32,7 @@ use Rattle.held_laws.specs.lemmas.Granted.{logical-has}
 use Rattle.held_laws.specs.lemmas.Kinds.{logical-step}
 use Rattle.held_laws.specs.lemmas.Running.{runs-by}
 use Rattle.held_laws.specs.lemmas.SeenSets.{logical-seen}
-use Rattle.service.specs.Running.{IsRun, call_on, fileid_in, procedure}
+use Rattle.service.specs.Running.{IsRun, IsRunAt, MovesOn, call_on, fileid_in, procedure}
 
 -- ---- a call that is run is a call on its volume
 
@@ -111,6 +114,32 @@ module _ {P : Type 0} (layout : Layout) (lawful : fault_of layout ≡ None) (cal
   -- a call that was run on the set of its home, by the set's parcels
   pub logical-runs : (a : Affinity) → RunsAt a
   logical-runs a on is = subst RunsAt (sym (run-home layout a call run is)) (runs-here (volume_of a)) on is
+
+-- ---- where it is run
+
+-- a call is run at its home or above it
+pub run-tried : (layout : Layout) (call : Call) (credential : Credential) (a : Affinity) → IsRunAt layout call a
+    → IsHomeOrAbove layout (Ask (call_of call) credential) a
+run-tried layout call credential a at = (a, at.1, begins-self (path layout a))
+
+-- ---- where it moves
+
+never-moves : (layout : Layout) (a : Affinity) (moment : Moment) (call : Call) → IsRun call → (p : VolumeContents)
+    → move_on (call_on layout a moment (call_of call)) p ≡ None
+never-moves layout a moment (calls.GetAttributes handle) run p = refl
+never-moves layout a moment (calls.SetAttributes handle set guard) run p = refl
+never-moves layout a moment call run p = absurd run
+
+-- a call that was run on a part of its volume is run where it moves
+pub moves-on : (layout : Layout) (a : Affinity) (call : Call) → IsRun call → (moment : Moment) (old new : LogicalSet) (outcome : Outcome)
+    → HasVolume (volume_of a) logical_lens [] old
+    → RunsOn (volume_of a) logical_lens (call_on layout a moment (call_of call)) old outcome new → MovesOn layout call outcome
+moves-on layout a call run moment old new (Replied reply) whole right = tt
+moves-on layout a call run moment old new Starved whole right = tt
+moves-on layout a call run moment old new (Moved other) w right =
+    let moves : move_on (call_on layout a moment (call_of call)) w.0 ≡ Some other = (right w.0 w.1 w.2 w.3 w.4 w.5 w.8 w.7).0.0 in
+    let not = never-moves layout a moment call run w.0 in
+    absurd cc
 
 -- ---- what a run needs
 

@@ -1,45 +1,55 @@
-use Rattle.std.proofs.Common.{ℕ, true, false, refl, sym, subst, ◌∙◌, arith, inl}
-use Rattle.nfs_model.specs.Events.Feed.{feeding}
-use Rattle.nfs_laws.specs.Walk.{Walks}
-use Rattle.engine.specs.Numbers.{stop_number}
-use Rattle.engine.specs.Seen.{setup_in, world}
-use Rattle.engine.proofs.Loops.{refused-elsewhere, taking-is, takes-input}
-use Rattle.engine.proofs.Serves.{is-scan}
+use Rattle.std.proofs.Common.{true, refl, inl}
+use Rattle.std.specs.Vec.{with_item}
+use Rattle.engine_feed.specs.Numbers.{stop_number}
+use Rattle.engine.specs.declared.state.State.{State}
+use Rattle.engine.proofs.Closing.{found}
+use Rattle.engine.proofs.Received.{may-take, open-takes, happens, fed-sound, unfed-world, unfed-sound}
 use Rattle.engine.proofs.feeding.feed.Goals as goal
 
-pub returns-then-connection-len-clause-events : goal.returns-then-connection-len-clause-events
-returns-then-connection-len-clause-events c =
-    let s = c.args.state.now in (
-      inl (refused-elsewhere (setup_in s) s.past.items s.current c.args.connection
-          (λ e. c.if-connection-len.true (omega (arith, e, c.len.ensures, s.past.ok.0)))),
-      refl,
-    )
-
-pub returns-then-not-takes_input-clause-events : goal.returns-then-not-takes_input-clause-events
-returns-then-not-takes_input-clause-events c =
-    let s = c.args.state.now in (
-      inl (taking-is s c.args.connection false c.requires
-          (omega (arith, c.if-connection-len.false, c.len.ensures, s.past.ok.0)) c.if-not-takes_input.ensures),
-      refl,
-    )
-
-pub returns-clause-events : goal.returns-clause-events
-returns-clause-events c =
+pub returns-in-None-clause-events : goal.returns-in-None-clause-events
+returns-in-None-clause-events c =
     let s = c.args.state.now in
-    let taken = c.feed_open-taken.result.0 in
-    let stop = stop_number c.feed_open-taken.result.1 in
-    let new = world c.feed_open-taken.new.state in
-    let taking = taking-is s c.args.connection true c.requires
-    (omega (arith, c.if-connection-len.false, c.len.ensures, s.past.ok.0)) c.if-not-takes_input.ensures in
-    let walks : Walks (setup_in s) (feeding c.args.connection c.args.bytes.now taken stop) (world s) new =
-    subst (λ (n : ℕ). Walks (setup_in s) (feeding n c.args.bytes.now taken stop) (world s) new) (sym (c.if-connection-len.false
-    ∙ c.len.ensures)) c.feed_open-taken.ensures.walks in (
-      taking,
+    let i = c.args.connection in
+    let d = c.in-Some.place.now in
+    let there = found s.connections.items i d d c.in-Some.ensures.item.3.0 c.in-Some.ensures.value refl in
+    let new : State = record s { connections = with_item s.connections i c.receive.new.place; calls = c.receive.new.calls } in
+    let passed = c.in-None.ensures in (
+      inl (may-take s i d _ there passed.0),
+      unfed-world s new i d c.receive.new.place there refl passed.1 passed.2 refl,
+    )
+
+pub returns-in-None-clause-sound : goal.returns-in-None-clause-sound
+returns-in-None-clause-sound c =
+    let s = c.args.state.now in
+    let i = c.args.connection in
+    let d = c.in-Some.place.now in
+    let there = found s.connections.items i d d c.in-Some.ensures.item.3.0 c.in-Some.ensures.value refl in
+    let passed = c.in-None.ensures in
+    unfed-sound s _ i d c.receive.new.place there refl passed.1 passed.2 refl c.requires
+
+pub returns-in-Some-receive-clause-events : goal.returns-in-Some-receive-clause-events
+returns-in-Some-receive-clause-events c =
+    let s = c.args.state.now in
+    let i = c.args.connection in
+    let d = c.in-Some.place.now in
+    let there = found s.connections.items i d d c.in-Some.ensures.item.3.0 c.in-Some.ensures.value refl in
+    let new : State = record s { connections = with_item s.connections i c.receive.new.place; calls = c.receive.new.calls } in
+    let fed = c.in-Some-receive.ensures in (
+      may-take s i d true there (open-takes d fed.before fed.was fed.takes),
       (
-        taken,
-        stop,
+        c.in-Some-receive.taken,
+        stop_number c.in-Some-receive.stop,
         refl,
-        c.feeds_are_walks.ensures.feeds (setup_in s) (world s) c.args.connection c.args.bytes.now taken stop new is-scan
-            (takes-input s c.args.connection taking) walks,
+        happens c.without_home_stays.ensures s new c.requires i c.args.bytes.now c.in-Some-receive.taken c.in-Some-receive.stop d c.receive.new.place there
+            refl fed refl,
       ),
     )
+
+pub returns-in-Some-receive-clause-sound : goal.returns-in-Some-receive-clause-sound
+returns-in-Some-receive-clause-sound c =
+    let s = c.args.state.now in
+    let i = c.args.connection in
+    let d = c.in-Some.place.now in
+    let there = found s.connections.items i d d c.in-Some.ensures.item.3.0 c.in-Some.ensures.value refl in
+    fed-sound c.without_home_stays.ensures s _ c.requires i c.args.bytes.now c.in-Some-receive.taken c.in-Some-receive.stop d c.receive.new.place there refl
+    c.in-Some-receive.ensures refl

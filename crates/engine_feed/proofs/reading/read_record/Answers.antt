@@ -13,7 +13,7 @@ use Rattle.rpc_msg.specs.Seen.{Hears, Tells}
 use Rattle.engine_feed.specs.declared.stop.StreamFault.{StreamFault}
 use Rattle.engine_feed.specs.Numbers.{fault_number}
 use Rattle.engine_feed.specs.lemmas.Codec.{heard_is}
-use Rattle.engine_feed.proofs.Records.{numbers-same, heard-is-reading, refused-refuses}
+use Rattle.engine_feed.proofs.Records.{numbers-same, heard-is-offered, refused-refuses}
 use Rattle.engine_feed.proofs.reading.read_record.Goals as goal
 
 pub returns-in-Err : goal.returns-in-Err
@@ -27,7 +27,7 @@ new-requires c =
     let bytes = c.args.bytes.now in
     let h = subst (λ (r : Result Heard RecordFault). Hears r (records.heard bytes)) c.in-Ok.is c.read_record.ensures in
     let q = subst (λ (r : Request). Tells c.in-Ok.field-0.xid r (records.heard bytes)) c.in-Call.is h in
-    heard-is-reading bytes c.in-Ok.field-0.xid (call_of c.in-Call.call) (credential_of c.in-Call.credential) q
+    heard-is-offered bytes c.in-Ok.field-0.xid (call_of c.in-Call.call) (credential_of c.in-Call.credential) q
 
 pub new-requires-in-Refused : goal.new-requires-in-Refused
 new-requires-in-Refused c =

@@ -9,5 +9,5 @@ pub unreachable-requires : goal.unreachable-requires
 unreachable-requires c =
     let L = layout_of c.args.arg2.now in
     let a = affinity_of c.args.arg3 in
-    not-here L a c.args.self.call.now c.requires.asks.0 c.requires.asks.1 kinds.Volume
+    not-here L a c.args.self.call.now c.requires.asks.0.0 c.requires.asks.0.1 kinds.Volume
     (volume-kind L a c.args.arg4.now c.requires.node c.requires.exact) (λ e. cc)

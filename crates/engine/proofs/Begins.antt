@@ -1,0 +1,169 @@
+-- A message begins: the world and what holds beside it, by the parts of a state that change.
+use Rattle.std.proofs.Common.{◌≡◌, ◌≢◌, ℕ, zero, suc, ◌+◌, ◌<◌, ◌≤◌, ◌^◌, Bool, true, false, List, [], ◌∷◌, ◌++◌, map, length, Option, Some, None, refl, sym, ap, ◌∙◌, subst, arith}
+use Rattle.std.specs.Prelude.{slice_get, slice_set, option_map, nat_le}
+use Rattle.std.specs.List.{AllByRecursion, remove}
+use Rattle.std.specs.Prelude.{get_or}
+use Rattle.std.proofs.lemmas.Bool.{le-leb, lt-leb}
+use Rattle.std.proofs.lemmas.Option.{slice_get-map, slice_get_read}
+use mathlib.Core.Option.{some}
+use lib.ListN.{get_elem?}
+use Rattle.nfs_model.specs.World as worlds
+use Rattle.nfs_model.specs.Server.{Server}
+use Rattle.nfs_model.specs.Parts.{Parts}
+use Rattle.nfs_model.specs.World.{Setup, World, changed_at, with_running}
+use Rattle.nfs_model.specs.Events.Step.{begun}
+use Rattle.nfs_values.specs.Moment.{moment_of}
+use Rattle.affinity_tree.specs.declared.affinity.Affinity as codes
+use Rattle.nfs_model.specs.Types.{Moment}
+use Rattle.nfs_model.specs.Events.Refusals.{Begin, is_idle, is_bad_moment, refusal}
+use Rattle.nfs_values.specs.declared.call.Call.{Call}
+use Rattle.depot_rule.specs.Sums.{total}
+use Rattle.scheduler.specs.declared.message.Message.{Message}
+use Rattle.desk_laws.specs.Books.{Lent, IsIdle, now, stamps}
+use Rattle.desk_laws.specs.Calls as desks
+use Rattle.held_state.specs.Contents.{filer_contents}
+use Rattle.held_state.specs.Tree.{server_of}
+use Rattle.held_state.specs.Partition.{all_parts}
+use Rattle.held_state.specs.Parcels.{FilerParcel}
+use Rattle.held_state.specs.Jobs.{Job, JobReply}
+use Rattle.engine_laws.specs.Store.{FilerBooks, RunsOn, StandsFor}
+use Rattle.nfs_model.specs.Tree.{Affinity}
+use Rattle.engine_laws.specs.lemmas.Beginning.{same-now}
+use Rattle.engine_laws.specs.lemmas.Changing.{lent-at}
+use Rattle.engine_feed.specs.declared.state.CallsState.{CallsState}
+use Rattle.engine_feed.specs.Seen.{message_of, messages_of, waiting_of, finished_of, layout_in}
+use Rattle.engine_feed.specs.Streams.{codec}
+use Rattle.engine.specs.declared.state.State.{State}
+use Rattle.engine_feed.specs.Within.{Shows}
+use Rattle.engine_feed.specs.Words.{HasBegun}
+use Rattle.engine.specs.declared.worker.Running.{Running}
+use Rattle.engine.specs.declared.worker.Worker.{Worker}
+use Rattle.engine.specs.declared.worker.Worker.TheVariants.{Idle, Begun, Worked}
+use Rattle.engine.specs.Sound.{running_messages}
+use Rattle.engine.specs.Seen.{worker_seen, setup_in}
+use Rattle.engine.proofs.Workers.{seen-changed}
+
+-- a moment of a whole second or more of nanoseconds is refused, after what comes before it
+pub bad-moment : (setup : Setup) (w : World) (worker place : ℕ) (moment : Moment) (m : worlds.Message) → is_idle (slice_get w.workers worker) ≡ true
+    → slice_get w.waiting place ≡ Some m → 1000000000 ≤ moment.nanoseconds → refusal setup w (Begin worker place moment) ≡ Some 37
+bad-moment setup w worker place moment m idle there late =
+    rw (idle, there, le-leb 1000000000 moment.nanoseconds late) refl
+
+pub good-moment : (moment : Moment) → moment.nanoseconds < 1000000000 → is_bad_moment moment ≡ false
+good-moment moment early = lt-leb 1000000000 moment.nanoseconds early
+
+-- an idle worker was lent nothing
+pub idle-lent : {P C R : Type 0} (job : C → Job) (told : R → JobReply) (setup : Setup) (w : World) (b : FilerBooks P C R) → StandsFor job told setup w b
+    → (i : ℕ) (k : worlds.Worker) → slice_get w.workers i ≡ Some k → k.running ≡ None → IsIdle b i
+idle-lent {P} {C} {R} job told setup w b s i k there idle =
+    let at = lent-at setup b w.workers b.lent i k s.workers there in
+    at.1 ∙ ap some (none at.0 (subst (λ o. RunsOn setup b o at.0) idle at.2))
+  where
+    none : (x : Option (Lent (FilerParcel P))) → RunsOn setup b None x → x ≡ None
+    none None run = refl
+    none (Some l) run = absurd run
+
+-- what was looked up in a list
+pub looked-up : (ks items : List Worker) (i : ℕ) (x k : Worker) → ks ≡ items → i < length ks → x ≡ get_or ks i x → x ≡ k → slice_get items i ≡ Some k
+looked-up ks items i x k same within read is =
+    subst (λ (l : List Worker). slice_get l i ≡ Some k) same (slice_get_read ks (length ks) i x refl within read ∙ ap Some is)
+
+-- the message that tries what was told of a place
+pub found-message : (a : codes.Affinity) (o : Option (Message Call)) → Some a ≡ option_map (λ (m : Message Call). m.affinity) o
+    → (m : Message Call) × (o ≡ Some m) × (a ≡ m.affinity)
+found-message a None e = absurd cc
+found-message a (Some m) e = (m, refl, (let same : a ≡ m.affinity = cc in same))
+
+-- a message that waits, as it is seen
+pub waits-at : (calls : CallsState) (place : ℕ) (m : Message Call) → slice_get (messages_of calls) place ≡ Some m
+    → slice_get (waiting_of calls) place ≡ Some (message_of m)
+waits-at calls place m there = slice_get-map message_of (messages_of calls) place ∙ ap (λ o. option_map message_of o) there
+
+-- a world with other parts
+abbrev pub with_store : World → Server → List Parts → ℕ → World
+with_store w server parts stamps = record w { server = server; parts = parts; stamps = stamps }
+
+-- the world in which a message was begun
+pub begun-world : (w : World) (calls calls' : CallsState) (place : ℕ) (m : Message Call) (h : HasBegun calls place m calls') → Shows calls w
+    → (ks : List Worker) (i : ℕ) (r : Running) → r.message ≡ m → w.workers ≡ map worker_seen ks
+    → (server : Server) (parts : List Parts) (stamps : ℕ) → server ≡ w.server → parts ≡ w.parts → stamps ≡ w.stamps
+    → record w { waiting = waiting_of calls'; workers = map worker_seen (slice_set ks i (Begun r)); finished = finished_of calls'; server = server; parts = parts; stamps = stamps }
+    ≡ begun w i place (message_of m) (moment_of r.moment)
+begun-world w calls calls' place m h shows ks i r is workers server parts stamps same_server same_parts same_stamps =
+    let at = h.begins w shows in
+    λ j. record w {
+      waiting = (ap (λ (x : World). x.waiting) at.1) j;
+      workers = (seen-changed ks i (Begun r)
+          ∙ (λ k. changed_at (with_running (Some (record { message = message_of (is k); moment = moment_of r.moment; outcome = None }))) (sym workers k) i)) j;
+      finished = (ap (λ (x : World). x.finished) at.1) j;
+      server = same_server j;
+      parts = same_parts j;
+      stamps = same_stamps j;
+    }
+
+-- the world stays where the books do
+pub same-books : {P C R : Type 0} (w : World) (b c : FilerBooks P C R) → c ≡ b
+    → with_store w (server_of (filer_contents c.layout (now c))) (all_parts (filer_contents c.layout (now c))) (stamps c)
+    ≡ with_store w (server_of (filer_contents b.layout (now b))) (all_parts (filer_contents b.layout (now b))) (stamps b)
+same-books {P} {C} {R} w b c same =
+    ap (λ (x : FilerBooks P C R). with_store w (server_of (filer_contents x.layout (now x))) (all_parts (filer_contents x.layout (now x))) (stamps x)) same
+
+-- ---- what the desk's begin leaves
+
+module _ {P C R : Type 0} (b c : FilerBooks P C R) (i : ℕ) (a : Affinity) (h : desks.HasBegun b i a c) where
+  pub begun-layout : c.layout ≡ b.layout
+  begun-layout = ap (λ (x : FilerBooks P C R). x.layout) h.books
+
+  pub begun-server : server_of (filer_contents c.layout (now c)) ≡ server_of (filer_contents b.layout (now b))
+  begun-server = λ j. server_of (filer_contents (begun-layout j) (same-now b c h.same j))
+
+  pub begun-parts : all_parts (filer_contents c.layout (now c)) ≡ all_parts (filer_contents b.layout (now b))
+  begun-parts = λ j. all_parts (filer_contents (begun-layout j) (same-now b c h.same j))
+
+  pub begun-stamps : stamps c ≡ stamps b
+  begun-stamps = ap (λ (x : FilerBooks P C R). stamps x) h.books
+
+-- ---- lists of messages
+
+inner-some : {X : Type 0} (x y : X) → Some x ≡ Some y → x ≡ y
+inner-some x y e = cc
+
+not-some : {X : Type 0} (x : X) → None ≡ Some x → ⊥
+not-some x e = absurd cc
+
+pub tried-affinity : (a : codes.Affinity) (o : Option (Message Call)) (m : Message Call) → Some a ≡ option_map (λ (x : Message Call). x.affinity) o → o ≡ Some m
+    → a ≡ m.affinity
+tried-affinity a o m told there = inner-some a m.affinity (told ∙ ap (λ p. option_map (λ (x : Message Call). x.affinity) p) there)
+
+pub all-removed : {X : Type 0} (P : X → Type 0) (xs : List X) (i : ℕ) → AllByRecursion P xs → AllByRecursion P (remove xs i)
+all-removed P [] zero all = all
+all-removed P [] (suc i) all = all
+all-removed P (x ∷ xs) zero all = all.1
+all-removed P (x ∷ xs) (suc i) all = (all.0, all-removed P xs i all.1)
+
+pub total-removed : {X : Type 0} (weigh : X → ℕ) (xs : List X) (i : ℕ) (x : X) → slice_get xs i ≡ Some x → total weigh (remove xs i) + weigh x ≡ total weigh xs
+total-removed weigh [] i x there = absurd (not-some x there)
+total-removed weigh (y ∷ xs) zero x there = let same : weigh y ≡ weigh x = ap weigh (inner-some y x there) in omega arith
+total-removed weigh (y ∷ xs) (suc i) x there = let others = total-removed weigh xs i x there in omega arith
+
+pub length-set : {X : Type 0} (xs : List X) (i : ℕ) (x : X) → length (slice_set xs i x) ≡ length xs
+length-set [] i x = refl
+length-set (y ∷ xs) zero x = refl
+length-set (y ∷ xs) (suc i) x = let others = length-set xs i x in omega arith
+
+pub few-run : (ks : List Worker) → length (running_messages ks) ≤ length ks
+few-run [] = omega arith
+few-run (Idle ∷ ks) = let others = few-run ks in omega arith
+few-run (Begun r ∷ ks) = let others = few-run ks in omega arith
+few-run (Worked r outcome ∷ ks) = let others = few-run ks in omega arith
+
+-- what is fixed for a run stays
+pub setup-kept : (s new : State) → new.verifier ≡ s.verifier → layout_in new.calls ≡ layout_in s.calls → length new.workers.items ≡ length s.workers.items
+    → setup_in new ≡ setup_in s
+setup-kept s new verifier layout workers = λ j. record {
+  codec = codec;
+  layout = layout j;
+  verifier = (verifier j).0;
+  workers = workers j;
+  connections = 64;
+}

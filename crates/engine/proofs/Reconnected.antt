@@ -1,0 +1,96 @@
+-- Connections that are opened and closed: nothing else changes.
+use Rattle.std.proofs.Common.{◌≡◌, ◌≤◌, ℕ, zero, suc, ◌+◌, ◌⊎◌, inl, inr, List, [], ◌∷◌, ◌++◌, map, length, Some, refl, sym, ap, subst, ◌∙◌, arith}
+use Rattle.std.specs.Prelude.{slice_get}
+use Rattle.std.proofs.lemmas.List.{length-append, map_push}
+use Rattle.nfs_model.specs.Tree.{Layout}
+use Rattle.nfs_model.specs.World as worlds
+use Rattle.nfs_model.specs.Events.Refusals.{open_count}
+use Rattle.nfs_model.specs.Events.Step.{new_connection}
+use Rattle.nfs_values.specs.declared.call.Call.{Call}
+use Rattle.scheduler.specs.declared.message.Message.{Message}
+use Rattle.service.specs.Jobs.{job_of, job_reply_of}
+use Rattle.desk.specs.Words.{books}
+use Rattle.engine_feed.specs.declared.state.ConnectionState.{ConnectionState}
+use Rattle.engine_feed.specs.Seen.{connection_of, owed_by, layout_in, messages_of}
+use Rattle.engine_laws.specs.lemmas.Feeding.{stands-alike}
+use Rattle.engine.specs.declared.connection.Connection.{Connection}
+use Rattle.engine.specs.declared.connection.Connection.TheVariants.{Open}
+use Rattle.engine.specs.declared.state.State.{State}
+use Rattle.engine.specs.declared.worker.Worker.{Worker}
+use Rattle.engine.specs.Seen.{connection_seen, setup_in, world}
+use Rattle.engine.specs.Sound.{IsSound, IsPlaced, IsReady, rooms_on}
+use Rattle.engine.proofs.Placed.{all-later, placed-later, ready-later, kept_on, nothing-owed}
+
+-- the state with other connections is sound, where each that is open is owed what it was
+pub reconnected : (s new : State) → new ≡ record s { connections = new.connections; open_count = new.open_count } → IsSound s
+    → length s.connections.items ≤ length new.connections.items → new.open_count ≡ open_count (map connection_seen new.connections.items)
+    → ((c : ℕ) (x : ConnectionState) → slice_get new.connections.items c ≡ Some (Open x) → owed_by x ≡ rooms_on c s) → IsSound new
+reconnected s new same sound longer opened owed =
+    let layout = layout_in s.calls in
+    let n = length s.connections.items in
+    let k = length new.connections.items in
+    let next : State = record s { connections = new.connections; open_count = new.open_count } in
+    subst IsSound (sym same) (record {
+      layout = sound.layout;
+      kept = sound.kept;
+      stands = stands-alike job_of job_reply_of (setup_in s) (world s) (world next) (books s.desk)
+          (record { server = refl; parts = refl; stamps = refl; workers = refl; finished = refl }) sound.stands;
+      running = sound.running;
+      waiting = all-later (IsPlaced layout n) (IsPlaced layout k) (messages_of s.calls) (placed-later layout n k longer) sound.waiting;
+      workers = all-later (IsReady layout n) (IsReady layout k) s.workers.items (ready-later layout n k longer) sound.workers;
+      few = sound.few;
+      stamps = sound.stamps;
+      opened = opened;
+      owed = owed;
+    })
+
+-- ---- a connection that is opened
+
+last-or-before : (cs : List Connection) (o x : ConnectionState) (c : ℕ) → slice_get (cs ++ Open o ∷ []) c ≡ Some (Open x)
+    → (slice_get cs c ≡ Some (Open x)) ⊎ ((c ≡ length cs) × (o ≡ x))
+last-or-before [] o x zero e = inr (refl, cc)
+last-or-before [] o x (suc c) e = absurd cc
+last-or-before (d ∷ cs) o x zero e = inl e
+last-or-before (d ∷ cs) o x (suc c) e = elim (last-or-before cs o x c e) [ inl f ↦ inl f | inr p ↦ inr (ap (λ (n : ℕ). suc n) p.0, p.1) ]
+
+owed_if : (layout : Layout) (cs : List Connection) (ms : List (Message Call)) (ws : List Worker) (o x : ConnectionState) (c : ℕ)
+    → kept_on (length cs) ms ws ≡ 0 → owed_by o ≡ 0
+    → (slice_get cs c ≡ Some (Open x) → owed_by x ≡ kept_on c ms ws)
+    → (slice_get cs c ≡ Some (Open x)) ⊎ ((c ≡ length cs) × (o ≡ x)) → owed_by x ≡ kept_on c ms ws
+owed_if layout cs ms ws o x c none zero_owed before (inl e) = before e
+owed_if layout cs ms ws o x c none zero_owed before (inr p) =
+    ap owed_by (sym p.1) ∙ zero_owed ∙ sym none ∙ ap (λ (i : ℕ). kept_on i ms ws) (sym p.0)
+
+count-opened : (xs : List worlds.Connection) → open_count (xs ++ new_connection ∷ []) ≡ open_count xs + 1
+count-opened [] = refl
+count-opened (x ∷ xs) = let t = count-opened xs in omega (arith, t)
+
+-- the state with one more connection, on which nothing came
+pub opened-sound : (s new : State) (o : ConnectionState) → new ≡ record s { connections = new.connections; open_count = s.open_count + 1 }
+    → new.connections.items ≡ s.connections.items ++ Open o ∷ [] → connection_of o ≡ new_connection → owed_by o ≡ 0 → IsSound s → IsSound new
+opened-sound s new o same items is nothing sound =
+    let cs = s.connections.items in
+    let layout = layout_in s.calls in
+    let ms = messages_of s.calls in
+    let ws = s.workers.items in
+    let count : new.open_count ≡ s.open_count + 1 = ap (λ (t : State). t.open_count) same in
+    let length_is : length new.connections.items ≡ length cs + 1 = ap length items ∙ length-append cs (Open o ∷ []) in
+    let seen : map connection_seen new.connections.items ≡ map connection_seen cs ++ new_connection ∷ [] =
+    ap (map connection_seen) items ∙ map_push connection_seen cs (Open o)
+    ∙ ap (λ (x : worlds.Connection). map connection_seen cs ++ x ∷ []) is in
+    let opened : new.open_count ≡ open_count (map connection_seen new.connections.items) =
+    count ∙ ap (λ (n : ℕ). n + 1) sound.opened ∙ sym (count-opened (map connection_seen cs)) ∙ ap open_count (sym seen) in
+    reconnected s new (same ∙ ap (λ (n : ℕ). record s { connections = new.connections; open_count = n }) (sym count)) sound (omega (arith, length_is))
+    opened
+    (λ c x e.
+    owed_if layout cs ms ws o x c (nothing-owed layout (length cs) ms ws sound.waiting sound.workers) nothing (sound.owed c x)
+    (last-or-before cs o x c (subst (λ (l : List Connection). slice_get l c ≡ Some (Open x)) items e)))
+
+-- the state with more room for connections
+pub reserved-sound : (s new : State) → new ≡ record s { connections = new.connections } → new.connections.items ≡ s.connections.items → IsSound s → IsSound new
+reserved-sound s new same items sound =
+    let count : new.open_count ≡ s.open_count = ap (λ (t : State). t.open_count) same in
+    let size = ap length items in
+    reconnected s new (same ∙ ap (λ (n : ℕ). record s { connections = new.connections; open_count = n }) (sym count)) sound (omega (arith, size))
+    (count ∙ sound.opened ∙ ap (λ (l : List Connection). open_count (map connection_seen l)) (sym items))
+    (λ c x e. sound.owed c x (subst (λ (l : List Connection). slice_get l c ≡ Some (Open x)) items e))

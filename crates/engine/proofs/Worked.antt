@@ -1,0 +1,277 @@
+-- A message that is worked: what it runs on, what it comes to, and the workers after it.
+use Rattle.std.proofs.Common.{◌≡◌, ℕ, zero, suc, ◌+◌, ◌<◌, ◌≤◌, Bool, true, false, List, [], ◌∷◌, ◌++◌, length, get_or, map, Option, Some, None}
+use Rattle.std.proofs.Common.{refl, sym, ap, ◌∙◌, subst, arith}
+use Rattle.std.specs.Prelude.{◌^◌, ◌==◌, slice_get, slice_set, option_map}
+use Rattle.std.specs.List.{AllByRecursion}
+use Rattle.std.proofs.lemmas.Option.{slice_get-map, slice_get_read}
+use mathlib.Core.Option.{some, some-injective}
+use Rattle.nfs_model.specs.Types as types
+use Rattle.nfs_model.specs.Types.{Moment, Asked, Ask, Credential}
+use Rattle.nfs_model.specs.Tree.{Layout, Affinity}
+use Rattle.nfs_model.specs.Server.{Server, opening}
+use Rattle.nfs_model.specs.Serial.Step.{serial}
+use Rattle.nfs_model.specs.Replay.{FinishedCall, server_after}
+use Rattle.nfs_model.specs.Work as tasks
+use Rattle.nfs_model.specs.Work.{Store, Works}
+use Rattle.nfs_model.specs.World.{Setup, World, all_running, changed_at, with_running}
+use Rattle.nfs_model.specs.World as worlds
+use Rattle.nfs_model.specs.Headline.{start, worked_by, server_worked}
+use Rattle.nfs_model.specs.Events.Step as steps
+use Rattle.nfs_model.specs.Events.Step.{worked}
+use Rattle.nfs_values.specs.declared.call.Call.{Call}
+use Rattle.nfs_values.specs.Call.{call_of}
+use Rattle.nfs_values.specs.Credential.{credential_of}
+use Rattle.nfs_values.specs.Reply.{reply_of}
+use Rattle.affinity_tree.specs.Affinity.{affinity_of}
+use Rattle.depot_rule.specs.Shares.{too_many}
+use Rattle.desk_laws.specs.Books.{Lent, settled, now, stamps, HasLent, IsUnchanged}
+use Rattle.desk_laws.specs.Calls.{MayWork, HasWorked}
+use Rattle.held_state.specs.Parcels.{FilerParcel}
+use Rattle.held_state.specs.Contents.{filer_contents}
+use Rattle.held_state.specs.Tree.{server_of}
+use Rattle.held_state.specs.Partition.{all_parts}
+use Rattle.held_state.specs.Deeds.{stored_all}
+use Rattle.held_state.specs.Running.{HasFiler, Runs}
+use Rattle.held_state.specs.Jobs as jobs
+use Rattle.rpc_msg.specs.Room.{IsRoomy, reply_room}
+use Rattle.rpc_msg.specs.Replies as replies
+use Rattle.scheduler.specs.declared.message.Message.{Message}
+use Rattle.service.specs.declared.job.Job.{Job}
+use Rattle.service.specs.declared.job.JobReply.{JobReply}
+use Rattle.service.specs.declared.outcome.Outcome.{Outcome}
+use Rattle.service.specs.declared.outcome.Outcome.TheVariants.{Replied, Starved, Moved}
+use Rattle.service.specs.Running.{outcome_of, IsRunAt, MovesOn, AsksFor, HasRun}
+use Rattle.engine_laws.specs.Store.{FilerBooks, HasOutcome, RunsOn, StandsFor, batches_carried}
+use Rattle.engine_laws.specs.Serving.{Serving}
+use Rattle.engine_laws.specs.lemmas.Served.{covered-node}
+use Rattle.engine_laws.specs.lemmas.Agreeing.{sound-settled}
+use Rattle.engine_laws.specs.lemmas.Changing.{lent-at}
+use Rattle.engine_feed.specs.lemmas.Codec.{reply_record_is}
+use Rattle.engine_feed.specs.Sound.{IsAdmitted}
+use Rattle.engine.specs.declared.worker.Running.{Running}
+use Rattle.engine.specs.declared.worker.Worker.{Worker}
+use Rattle.engine.specs.declared.worker.Worker.TheVariants.{Begun, Worked}
+use Rattle.engine.specs.Seen.{running_as, running_seen, worker_seen, done_of, told_of}
+use Rattle.engine.specs.Sound.{messages_in, running_messages, MayEnd}
+
+-- ---- the reply fits its room
+
+abbrev pub RoomyBegins : Type 0
+RoomyBegins = (layout : Layout) (verifier : List ℕ) → length verifier ≡ 8 → IsRoomy (length layout.volumes) (opening layout verifier)
+
+abbrev pub RoomyStays : Type 0
+RoomyStays = (volumes : ℕ) (server : Server) (asked : Asked) (moment : Moment) (starved : Bool)
+    → IsRoomy volumes server → IsRoomy volumes (serial server asked moment starved).server
+
+abbrev pub RepliesFit : Type 0
+RepliesFit = (volumes : ℕ) (server : Server) (call : types.Call) (who : Credential) (moment : Moment) (starved : Bool) (xid : ℕ)
+    → IsRoomy volumes server → length (replies.reply_record xid (serial server (Ask call who) moment starved).reply) ≤ reply_room volumes call
+
+module _ (stays : RoomyStays) (volumes : ℕ) where
+  roomy-after : (es : List FinishedCall) (server : Server) → IsRoomy volumes server → IsRoomy volumes (server_after server es)
+  roomy-after [] server roomy = roomy
+  roomy-after (e ∷ es) server roomy =
+      roomy-after es (serial server e.asked e.moment e.starved).server (stays volumes server e.asked e.moment e.starved roomy)
+
+  roomy-by : (server : Server) (r : worlds.Running) (o : Option tasks.Outcome) → IsRoomy volumes server → IsRoomy volumes (worked_by server r o)
+  roomy-by server r None roomy = roomy
+  roomy-by server r (Some (tasks.Replied reply)) roomy = stays volumes server r.message.asked r.moment false roomy
+  roomy-by server r (Some tasks.Starved) roomy = roomy
+  roomy-by server r (Some (tasks.Moved a)) roomy = roomy
+
+  roomy-worked : (rs : List worlds.Running) (server : Server) → IsRoomy volumes server → IsRoomy volumes (server_worked server rs)
+  roomy-worked [] server roomy = roomy
+  roomy-worked (r ∷ rs) server roomy = roomy-worked rs (worked_by server r r.outcome) (roomy-by server r r.outcome roomy)
+
+-- each server of a run is roomy
+pub roomy-now : RoomyBegins → RoomyStays → (setup : Setup) (w : World) → length setup.verifier ≡ 8
+    → w.server ≡ server_worked (server_after (start setup) w.finished) (all_running w.workers) → IsRoomy (length setup.layout.volumes) w.server
+roomy-now begins stays setup w eight is =
+    let volumes = length setup.layout.volumes in
+    subst (λ server. IsRoomy volumes server) (sym is)
+    (roomy-worked stays volumes (all_running w.workers) (server_after (start setup) w.finished)
+    (roomy-after stays volumes w.finished (start setup) (begins setup.layout setup.verifier eight)))
+
+-- what a message came to may be told
+pub may-end : RepliesFit → (layout : Layout) (m : Message Call) → IsAdmitted layout m → (moment : Moment) (store after : Store)
+    → IsRoomy (length layout.volumes) store.server → (o : Outcome)
+    → Works (record { asked = Ask (call_of m.call) (credential_of m.credential); affinity = affinity_of m.affinity; moment = moment }) store (outcome_of o)
+    after
+    → MovesOn layout m.call (outcome_of o) → MayEnd layout m o
+may-end fit layout m admitted moment store after roomy (Replied reply) works moves =
+    let call = call_of m.call in
+    let xid = m.origin.xid in
+    let same : reply_of reply ≡ (serial store.server (Ask call (credential_of m.credential)) moment false).reply = works.1 in
+    let spelled = ap (λ bs. length bs) (reply_record_is xid (reply_of reply)) in
+    let told = ap (λ x. length (replies.reply_record xid x)) same in
+    let fits = fit (length layout.volumes) store.server call (credential_of m.credential) moment false xid roomy in
+    let room = admitted.room in
+    omega (arith, spelled, told, fits, room)
+may-end fit layout m admitted moment store after roomy Starved works moves =
+    let xid = m.origin.xid in
+    let spelled = ap (λ bs. length bs) (reply_record_is xid types.SystemError) in
+    let fits = fit (length layout.volumes) store.server (call_of m.call) (credential_of m.credential) moment true xid roomy in
+    let room = admitted.room in
+    omega (arith, spelled, fits, room)
+may-end fit layout m admitted moment store after roomy (Moved a) works moves = moves
+
+-- ---- what it runs on
+
+module _ {P : Type 0} (layout : Layout) (r : worlds.Running) (f f' : ℕ → Option (FilerParcel P)) where
+  -- a running message that was run under its affinity was served
+  runs-serving : (outcome : tasks.Outcome) → Runs layout r.message.affinity r.message.asked r.moment f outcome f'
+      → Serving r layout r.message.affinity f outcome f'
+  runs-serving (tasks.Replied reply) ran = ran r.message.connection r.message.number r.message.xid
+  runs-serving tasks.Starved ran = ran.0 r.message.connection r.message.number r.message.xid
+  runs-serving (tasks.Moved other) ran = ((λ k cover. ran.1 k), (λ g hands made under sound. (ran.0 g hands made under sound).0))
+
+  -- the same, where it is told by equations
+  serves : (node : Affinity) (asked : Asked) (moment : Moment) (outcome : tasks.Outcome)
+      → r.message.affinity ≡ node → r.message.asked ≡ asked → r.moment ≡ moment
+      → Runs layout node asked moment f outcome f' → Serving r layout node f outcome f'
+  serves node asked moment outcome at asks on ran =
+      subst (λ a. Serving r layout a f outcome f') at
+      (runs-serving outcome
+      (subst (λ a. Runs layout a r.message.asked r.moment f outcome f') (sym at)
+      (subst (λ x. Runs layout node x r.moment f outcome f') (sym asks)
+      (subst (λ m. Runs layout node asked m f outcome f') (sym on) ran))))
+
+module _ {P C R : Type 0} (setup : Setup) (b : FilerBooks P C R) where
+  begun-lent : (o : Option worlds.Running) (r : worlds.Running) (x : Option (Lent (FilerParcel P))) (l : Lent (FilerParcel P)) → o ≡ Some r → r.outcome ≡ None
+      → x ≡ Some l → RunsOn setup b o x → (l.affinity ≡ r.message.affinity) × IsUnchanged b l
+  begun-lent o r x l runs fresh is run =
+      let both : RunsOn setup b (Some r) (Some l) = subst (λ y. RunsOn setup b (Some r) y) is (subst (λ q. RunsOn setup b q x) runs run) in
+      (both.0, subst (λ q. HasOutcome setup b r l q) fresh both.1)
+
+  some-lent : (o : Option worlds.Running) (r : worlds.Running) (x : Option (Lent (FilerParcel P))) → o ≡ Some r → RunsOn setup b o x
+      → (l : Lent (FilerParcel P)) × (x ≡ Some l)
+  some-lent o r None runs run = let no : RunsOn setup b (Some r) None = subst (λ q. RunsOn setup b q None) runs run in absurd no
+  some-lent o r (Some l) runs run = (l, refl)
+
+module _ {P C R : Type 0} (job : C → jobs.Job) (told : R → jobs.JobReply) (setup : Setup) (w : World) (b : FilerBooks P C R)
+    (s : StandsFor job told setup w b) (i : ℕ) (k : worlds.Worker) (there : slice_get w.workers i ≡ Some k) (r : worlds.Running)
+    (runs : k.running ≡ Some r) (fresh : r.outcome ≡ None) where
+  -- what a worker was lent for a message that isn't worked
+  pub lent-is : (l : Lent (FilerParcel P)) → HasLent b i l → (l.affinity ≡ r.message.affinity) × IsUnchanged b l
+  lent-is l at =
+      let found = lent-at setup b w.workers b.lent i k s.workers there in
+      begun-lent setup b k.running r found.0 l runs fresh (some-injective found.0 (Some l) (sym found.1 ∙ at)) found.2
+
+  lent-there : (l : Lent (FilerParcel P)) × HasLent b i l
+  lent-there =
+      let found = lent-at setup b w.workers b.lent i k s.workers there in
+      let lent = some-lent setup b k.running r found.0 runs found.2 in
+      (lent.0, found.1 ∙ ap some lent.1)
+
+  -- it is some sound filer's
+  has-filer : stamps b < too_many → (l : Lent (FilerParcel P)) → HasLent b i l → HasFiler b.layout l.affinity [] l.parcels
+  has-filer low l at = (
+    settled b,
+    batches_carried w.workers,
+    batches_carried w.workers,
+    stamps b,
+    (λ n c.
+        let inside = covered-node b.layout s.lawful l.affinity (s.lent.node i l at) n c in
+        sym ((lent-is l at).1 n inside.0 inside.1 c)),
+    low,
+    (λ weigh. refl),
+    sound-settled job told setup w b s,
+  )
+
+  -- so its call may be served there
+  pub may-work : stamps b < too_many → (call : Call) → IsRunAt b.layout call r.message.affinity → MayWork (AsksFor call) b i
+  may-work low call at =
+      let l = lent-there in record {
+        lent = l.0;
+        is_lent = l.1;
+        fits = (subst (IsRunAt b.layout call) (sym (lent-is l.0 l.1).0) at, has-filer low l.0 l.1);
+      }
+
+  -- and what it comes to is what the message's serving does
+  pub has-worked : (call : Call) (credential : Credential) (moment : Moment) → r.message.asked ≡ Ask (call_of call) credential → r.moment ≡ moment
+      → (o : Outcome) (c : FilerBooks P C R)
+      → HasWorked (λ layout node before (x : Outcome) after. HasRun call credential moment layout node before x after) b i o c
+      → HasWorked (Serving r) b i (outcome_of o) c
+  has-worked call credential moment asks on o c h = record {
+    lent = h.lent;
+    is_lent = h.is_lent;
+    parcels = h.parcels;
+    did = serves b.layout r h.lent.parcels h.parcels h.lent.affinity (Ask (call_of call) credential) moment (outcome_of o)
+        (sym (lent-is h.lent h.is_lent).0) asks on h.did.0;
+    books = h.books;
+    now_is = h.now_is;
+  }
+
+-- ---- the workers
+
+-- a worker with another thing, in place of what it runs
+pub seen-set : (ks : List Worker) (i : ℕ) (k : Worker) → map worker_seen (slice_set ks i k) ≡ changed_at (with_running (running_seen k)) (map worker_seen ks) i
+seen-set [] i k = refl
+seen-set (x ∷ ks) zero k = refl
+seen-set (x ∷ ks) (suc i) k = ap (λ xs. worker_seen x ∷ xs) (seen-set ks i k)
+
+-- a worker that runs the same message
+pub running-set : (ks : List Worker) (i : ℕ) (j k : Worker) → slice_get ks i ≡ Some j → messages_in k ≡ messages_in j
+    → running_messages (slice_set ks i k) ≡ running_messages ks
+running-set [] i j k there same = refl
+running-set (x ∷ ks) zero j k there same =
+    let at : x ≡ j = cc in ap (λ ms. ms ++ running_messages ks) (same ∙ ap messages_in (sym at))
+running-set (x ∷ ks) (suc i) j k there same = ap (λ ms. messages_in x ++ ms) (running-set ks i j k there same)
+
+pub ready-at : {X : Type 0} (Q : X → Type 0) (ks : List X) (i : ℕ) (k : X) → AllByRecursion Q ks → slice_get ks i ≡ Some k → Q k
+ready-at Q [] i k all there = absurd cc
+ready-at Q (x ∷ ks) zero k all there = let same : x ≡ k = cc in subst Q same all.0
+ready-at Q (x ∷ ks) (suc i) k all there = ready-at Q ks i k all.1 there
+
+pub ready-set : {X : Type 0} (Q : X → Type 0) (ks : List X) (i : ℕ) (k : X) → AllByRecursion Q ks → Q k → AllByRecursion Q (slice_set ks i k)
+ready-set Q [] i k all here = tt
+ready-set Q (x ∷ ks) zero k all here = (here, all.1)
+ready-set Q (x ∷ ks) (suc i) k all here = (all.0, ready-set Q ks i k all.1 here)
+
+pub set-twice : {X : Type 0} (xs : List X) (i : ℕ) (x y : X) → slice_set (slice_set xs i x) i y ≡ slice_set xs i y
+set-twice [] i x y = refl
+set-twice (z ∷ xs) zero x y = refl
+set-twice (z ∷ xs) (suc i) x y = ap (λ zs. z ∷ zs) (set-twice xs i x y)
+
+-- what a look-up found
+pub found-at : {X : Type 0} (xs ys : List X) (i : ℕ) (x y : X) → ys ≡ xs → i < length ys → y ≡ get_or ys i y → y ≡ x → slice_get xs i ≡ Some x
+found-at xs ys i x y same less at is =
+    ap (λ zs. slice_get zs i) (sym same) ∙ slice_get_read ys (length ys) i y refl less at ∙ ap (λ z. Some z) is
+
+pub seen-at : (ks : List Worker) (i : ℕ) (k : Worker) → slice_get ks i ≡ Some k → slice_get (map worker_seen ks) i ≡ Some (worker_seen k)
+seen-at ks i k there = slice_get-map worker_seen ks i ∙ ap (λ o. option_map worker_seen o) there
+
+pub few-stamps : (stamps running : ℕ) → stamps + running ≤ 2 ^ 62 + 64 → stamps < too_many
+few-stamps stamps running few = omega (arith, few)
+
+-- ---- the world after it
+
+-- what is told is what the model says
+pub told-done : (o : Outcome) → done_of (told_of o) ≡ steps.done_of (outcome_of o)
+told-done (Replied reply) = refl
+told-done Starved = refl
+told-done (Moved a) = refl
+
+-- a world with these workers, and what these books stand for
+abbrev pub world_with : {P : Type 0} → World → FilerBooks P Job JobReply → List Worker → World
+world_with w c ks = record w {
+  workers = map worker_seen ks;
+  server = server_of (filer_contents c.layout (now c));
+  parts = all_parts (filer_contents c.layout (now c));
+  stamps = stamps c;
+}
+
+pub worked-world : {P : Type 0} (w : World) (c : FilerBooks P Job JobReply) (ks ls : List Worker) (i : ℕ) (r : Running) (o : Outcome)
+    → w.workers ≡ map worker_seen ks → ls ≡ slice_set ks i (Worked r o) → stamps c ≡ w.stamps
+    → world_with w c ls ≡ worked w i (running_as r None) (outcome_of o) (stored_all (filer_contents c.layout (now c)))
+worked-world w c ks ls i r o seen are same = λ j. record w {
+  workers = (ap (λ xs. map worker_seen xs) are ∙ seen-set ks i (Worked r o)
+      ∙ ap (λ xs. changed_at (with_running (running_seen (Worked r o))) xs i) (sym seen)) j;
+  server = server_of (filer_contents c.layout (now c));
+  parts = all_parts (filer_contents c.layout (now c));
+  stamps = same j;
+}
+
+-- one place holds one message
+pub same-begun : (ks : List Worker) (i : ℕ) (q r : Running) → slice_get ks i ≡ Some (Begun r) → slice_get ks i ≡ Some (Begun q) → q ≡ r
+same-begun ks i q r there again = cc

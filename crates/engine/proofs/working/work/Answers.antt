@@ -1,0 +1,202 @@
+use Rattle.std.proofs.Common.{◌≡◌, ℕ, ◌+◌, ◌<◌, ◌≤◌, List, ◌∙◌, Some, None, Ok, refl, sym, ap, subst}
+use Rattle.std.specs.Prelude.{◌^◌, length, slice_get, slice_set}
+use Rattle.std.specs.List.{AllByRecursion}
+use Rattle.std.proofs.lemmas.List.{length-set}
+use Rattle.nfs_model.specs.Tree.{Layout}
+use Rattle.nfs_model.specs.Work.{Store}
+use Rattle.nfs_model.specs.World.{Setup, World}
+use Rattle.nfs_model.specs.World as worlds
+use Rattle.nfs_model.specs.Events.Refusals as events
+use Rattle.nfs_model.specs.Events.Step.{Events}
+use Rattle.nfs_model.specs.Events.Step as steps
+use Rattle.nfs_values.specs.declared.call.Call.{Call}
+use Rattle.nfs_values.specs.Call.{call_of}
+use Rattle.nfs_values.specs.Credential.{credential_of}
+use Rattle.nfs_values.specs.Moment.{moment_of}
+use Rattle.affinity_tree.specs.Affinity.{affinity_of}
+use Rattle.depot_rule.specs.Sums.{total}
+use Rattle.scheduler.specs.declared.message.Message.{Message}
+use Rattle.parcels.specs.declared.files.Files.{Files}
+use Rattle.held_state.specs.Parcels.{FilerParcel}
+use Rattle.held_state.specs.Contents.{filer_contents}
+use Rattle.held_state.specs.Deeds.{stored_all}
+use Rattle.service.specs.Jobs.{job_of, job_reply_of}
+use Rattle.service.specs.Running.{outcome_of}
+use Rattle.service.specs.lemmas.Serving.{run-tried}
+use Rattle.service.specs.declared.job.Job.{Job}
+use Rattle.service.specs.declared.job.JobReply.{JobReply}
+use Rattle.service.specs.declared.outcome.Outcome.{Outcome}
+use Rattle.desk.specs.Words.{books}
+use Rattle.desk_laws.specs.Books.{now, stamps}
+use Rattle.desk_laws.specs.Calls.{Does, MayWork, HasWorked}
+use Rattle.engine_laws.specs.Store.{FilerBooks, StandsFor}
+use Rattle.engine_laws.specs.Serving.{Serving}
+use Rattle.engine_laws.specs.lemmas.Working.{works, worked-stands}
+use Rattle.engine_laws.specs.lemmas.Happening.{book-apart, work-happens}
+use Rattle.service.specs.Running.{IsRunAt, MovesOn, AsksFor, HasRun}
+use Rattle.engine_feed.specs.Seen.{layout_in, messages_of, running_count}
+use Rattle.engine.specs.declared.worker.Running.{Running}
+use Rattle.engine.specs.declared.worker.Worker.{Worker}
+use Rattle.engine.specs.declared.worker.Worker.TheVariants.{Begun, Worked}
+use Rattle.engine.specs.Seen.{running_as, worker_seen, setup_in, world, done_of}
+use Rattle.engine.specs.Sound.{IsReady, IsPlaced, MayEnd, running_messages, room_on}
+use Rattle.engine.proofs.Worked.{found-at, seen-at, ready-at, ready-set, running-set, set-twice, same-begun, few-stamps}
+use Rattle.engine.proofs.Worked.{may-work, has-worked, worked-world, world_with, told-done, roomy-now, may-end}
+use Rattle.engine.proofs.working.work.Goals as goal
+
+pub work-outcome-requires-clause-may : goal.work-outcome-requires-clause-may
+work-outcome-requires-clause-may c =
+    let s = c.args.state.now in
+    let i = c.args.worker in
+    let r = c.in-Some-Begun.running in
+    let sound = c.requires.0 in
+    let found = c.in-Some-Begun.ensures.lookup in
+    let there : slice_get s.workers.items i ≡ Some (Begun r) =
+    found-at s.workers.items c.deref.result.now i (Begun r) c.in-Some-Begun.field-0.now c.deref.ensures.value found.3.0 found.1 c.in-Some-Begun.field-0-is in
+    let placed = ready-at (IsReady (layout_in s.calls) (length s.connections.items)) s.workers.items i (Begun r) sound.workers there in
+    let seen_there = seen-at s.workers.items i (Begun r) there in
+    let may = may-work job_of job_reply_of (setup_in s) (world s) (books s.desk) sound.stands i (worker_seen (Begun r)) seen_there
+    (running_as r None) refl refl (few-stamps _ (running_count s.calls) sound.stamps) r.message.call
+    (subst (λ (l : Layout). IsRunAt l r.message.call (affinity_of r.message.affinity)) (sym sound.layout) placed.run) in
+    subst (λ (x : Call). MayWork (AsksFor x) (books s.desk) i) (sym c.as_call.ensures.value) may
+
+-- ---- what was worked
+
+module _ (c : goal.Joined-index_mut) where
+  abbrev i : ℕ
+  i = c.args.worker
+
+  abbrev setup : Setup
+  setup = setup_in c.args.state.now
+
+  abbrev old : World
+  old = world c.args.state.now
+
+  abbrev L : Layout
+  L = layout_in c.args.state.now.calls
+
+  abbrev ks : List Worker
+  ks = c.args.state.now.workers.items
+
+  abbrev r : Running
+  r = c.in-Some-Begun.running
+
+  abbrev o : Outcome
+  o = c.work-outcome.result
+
+  -- the books before and after it
+  abbrev b : FilerBooks Files Job JobReply
+  b = books c.args.state.now.desk
+
+  abbrev next : FilerBooks Files Job JobReply
+  next = books c.work-outcome.new.self
+
+  -- the workers after it
+  abbrev ks' : List Worker
+  ks' = slice_set (slice_set ks i c.replace.new.dest) i (Worked c.in-Begun.running o)
+
+  abbrev Serves : Call → Does (FilerParcel Files) Outcome
+  Serves call layout node before x end =
+      HasRun call (credential_of r.message.credential) (moment_of r.moment) layout node before x end
+
+  abbrev after : Store
+  after = stored_all (filer_contents next.layout (now next))
+
+  abbrev Ready : Worker → Type 0
+  Ready = IsReady L (length c.args.state.now.connections.items)
+
+  there : slice_get ks i ≡ Some (Begun r)
+  there =
+      let found = c.in-Some-Begun.ensures.lookup in
+      found-at ks c.deref.result.now i (Begun r) c.in-Some-Begun.field-0.now c.deref.ensures.value found.3.0 found.1 c.in-Some-Begun.field-0-is
+
+  seen : slice_get old.workers i ≡ Some (worker_seen (Begun r))
+  seen = seen-at ks i (Begun r) there
+
+  -- the message that is taken out is the one that was looked at
+  same : c.in-Begun.running ≡ r
+  same =
+      let found = c.in-Some-Begun.ensures.lookup in
+      let less = subst (λ (xs : List Worker). i < length xs) c.deref.ensures.value found.3.0 in
+      same-begun ks i c.in-Begun.running r there
+      (found-at ks ks i (Begun c.in-Begun.running) c.index_mut.result.now refl less c.index_mut.ensures.value (sym c.replace.ensures.value ∙ c.in-Begun.is))
+
+  placed : IsPlaced L (length c.args.state.now.connections.items) r.message
+  placed = ready-at Ready ks i (Begun r) c.requires.0.workers there
+
+  did : HasWorked (Serves r.message.call) b i o next
+  did = subst (λ (x : Call). HasWorked (Serves x) b i o next) c.as_call.ensures.value c.work-outcome.ensures.worked
+
+  served : HasWorked (Serving (running_as r None)) b i (outcome_of o) next
+  served = has-worked job_of job_reply_of setup old b c.requires.0.stands i (worker_seen (Begun r)) seen (running_as r None) refl refl
+      r.message.call (credential_of r.message.credential) (moment_of r.moment) refl refl o next did
+
+  are : ks' ≡ slice_set ks i (Worked r o)
+  are = set-twice ks i c.replace.new.dest (Worked c.in-Begun.running o) ∙ ap (λ (x : Running). slice_set ks i (Worked x o)) same
+
+  abbrev new : World
+  new = world_with old next ks'
+
+  new_is : new ≡ steps.worked old i (running_as r None) (outcome_of o) after
+  new_is = worked-world old next ks ks' i r o refl are (ap (λ (x : FilerBooks Files Job JobReply). stamps x) did.books)
+
+  -- what is fixed stays
+  as_many : length ks' ≡ length ks
+  as_many = length-set (slice_set ks i c.replace.new.dest) i (Worked c.in-Begun.running o) ∙ length-set ks i c.replace.new.dest
+
+  abbrev setup_new : Setup
+  setup_new = record setup { workers = length ks' }
+
+  setup_is : setup_new ≡ setup
+  setup_is = ap (λ n. record setup { workers = n }) as_many
+
+  stands : StandsFor job_of job_reply_of setup_new new next
+  stands =
+      let apart = book-apart _ next _ c.work-outcome.ensures.kept in
+      let tried = run-tried L r.message.call (credential_of r.message.credential) (affinity_of r.message.affinity) placed.run in
+      let then = worked-stands job_of job_reply_of setup old b c.requires.0.stands i (worker_seen (Begun r)) seen (running_as r None)
+      refl refl (outcome_of o) next served apart tried in
+      subst (λ (x : Setup). StandsFor job_of job_reply_of x new next) (sym setup_is)
+      (subst (λ (x : World). StandsFor job_of job_reply_of setup x next) (sym new_is) then)
+
+  -- what it came to may be told
+  may : MayEnd L r.message o
+  may =
+      let roomy = roomy-now c.servers_are_roomy.ensures.begins c.servers_are_roomy.ensures.stays setup old c.has_eight.ensures c.requires.1.headline.state in
+      let comes = works job_of job_reply_of setup old b c.requires.0.stands i (worker_seen (Begun r)) seen (running_as r None) refl refl
+      (outcome_of o) next served in
+      may-end c.replies_fit.ensures.offered L r.message placed.admitted (moment_of r.moment) (worlds.store_of old) after roomy o comes
+      (subst (λ (l : Layout). MovesOn l r.message.call (outcome_of o)) c.requires.0.layout did.did.1)
+
+  ready : AllByRecursion Ready ks'
+  ready = subst (λ (xs : List Worker). AllByRecursion Ready xs) (sym are)
+      (ready-set Ready ks i (Worked r o) c.requires.0.workers (placed, may))
+
+  -- the same messages run
+  running : running_messages ks' ≡ running_messages ks
+  running = ap (λ (xs : List Worker). running_messages xs) are ∙ running-set ks i (Begun r) (Worked r o) there refl
+
+pub returns-clause-events : goal.returns-clause-events
+returns-clause-events c =
+    let happens = work-happens job_of job_reply_of (setup c) (old c) (b c) c.requires.0.stands (i c) (worker_seen (Begun (r c))) (seen c)
+    (running_as (r c) None) refl refl (outcome_of (o c)) (next c) (served c) in
+    let told : done_of c.done_of-done.result ≡ steps.done_of (outcome_of (o c)) = ap done_of c.done_of-done.ensures ∙ told-done (o c) in
+    subst (λ (d : events.Done). Events (setup c) (old c) (events.Work (i c)) (Ok d) (new c)) (sym told)
+    (subst (λ (w : World). Events (setup c) (old c) (events.Work (i c)) (Ok (steps.done_of (outcome_of (o c)))) w) (sym (new_is c)) happens)
+
+pub returns-clause-sound : goal.returns-clause-sound
+returns-clause-sound c =
+    let s = c.args.state.now in
+    let sound = c.requires.0 in record {
+      layout = ap (λ (x : FilerBooks Files Job JobReply). x.layout) (did c).books ∙ sound.layout;
+      kept = c.work-outcome.ensures.kept;
+      stands = stands c;
+      running = ap (λ (ms : List (Message Call)). length ms) (running c) ∙ sound.running;
+      waiting = sound.waiting;
+      workers = ready c;
+      few = subst (λ n. n ≤ 64) (sym (as_many c)) sound.few;
+      stamps = subst (λ n. n + running_count s.calls ≤ 2 ^ 62 + 64) (sym (ap (λ (x : FilerBooks Files Job JobReply). stamps x) (did c).books)) sound.stamps;
+      opened = sound.opened;
+      owed = λ n x at. sound.owed n x at
+          ∙ ap (λ (ms : List (Message Call)). total (room_on n) (messages_of s.calls) + total (room_on n) ms) (sym (running c));
+    }

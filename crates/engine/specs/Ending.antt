@@ -1,0 +1,55 @@
+-- A message that ends: the entry that it makes, and what becomes of its connection.
+use Rattle.std.specs.Prelude.{◌≡◌, ◌≢◌, ℕ, ◌+◌, Bool, List, map, length, Some, None, slice_get}
+use Rattle.nfs_model.specs.Types as types
+use Rattle.nfs_model.specs.World.{Setup, World, finish, changed_at}
+use Rattle.nfs_model.specs.Events.Step.{bytes_if_open}
+use Rattle.nfs_values.specs.declared.call.Call.{Call}
+use Rattle.nfs_values.specs.declared.reply.Reply.{Reply}
+use Rattle.nfs_values.specs.Moment.{moment_of}
+use Rattle.scheduler.specs.declared.message.Message.{Message}
+use Rattle.service.specs.declared.job.Job.{Job}
+use Rattle.service.specs.declared.job.Job.TheVariants.{Serve}
+use Rattle.service.specs.declared.job.Asked.TheVariants as askeds
+use Rattle.service.specs.declared.job.JobReply.{JobReply}
+use Rattle.service.specs.declared.job.JobReply.TheVariants.{Replied}
+use Rattle.engine_feed.specs.declared.state.CallsState.{CallsState}
+use Rattle.engine_feed.specs.declared.state.ConnectionState.{ConnectionState}
+use Rattle.engine_feed.specs.Codec.{reply_record}
+use Rattle.engine_feed.specs.Seen.{owed_by, finished_message}
+use Rattle.engine_feed.specs.Streams.{codec}
+use Rattle.engine_feed.specs.Within.{Shows, with_calls}
+use Rattle.engine.specs.declared.connection.Connection.{Connection}
+use Rattle.engine.specs.declared.connection.Connection.TheVariants.{Open}
+use Rattle.engine.specs.declared.worker.Running.{Running}
+use Rattle.engine.specs.Seen.{connection_seen}
+
+-- ---- the entry
+
+abbrev pub job_made : Running → Bool → Job
+job_made r starved = Serve (record {
+  connection = r.message.origin.connection;
+  number = r.message.origin.number;
+  xid = r.message.origin.xid;
+  asked = askeds.Call r.message.call r.message.credential;
+  affinity = r.message.affinity;
+  moment = r.moment;
+  starved = starved;
+})
+
+abbrev pub answer_made : Reply → JobReply
+answer_made reply = Replied reply
+
+-- ---- the connection
+
+-- a message is finished in every world of which these calls and its connection are a part, and so many bytes were written
+abbrev pub EndsIn : CallsState → Connection → Running → types.Reply → Bool → ℕ → CallsState → Connection → Type 0
+EndsIn calls place r reply starved count calls' place' =
+    (setup : Setup) (w : World) → setup.codec ≡ codec → Shows calls w
+    → slice_get w.connections r.message.origin.connection.0 ≡ Some (connection_seen place)
+    → (record (with_calls calls' w) { connections = changed_at (λ x. connection_seen place') w.connections r.message.origin.connection.0 }
+    ≡ finish setup w (finished_message r.message (moment_of r.moment) starved) reply)
+    × (count ≡ length (bytes_if_open (Some (connection_seen place)) (reply_record r.message.origin.xid reply)))
+
+-- where it is open, it owes the room of the reply no more
+abbrev pub OwesLess : Message Call → Connection → Connection → Type 0
+OwesLess m old new = (x : ConnectionState) → new ≡ Open x → (y : ConnectionState) × (old ≡ Open y) × (owed_by y ≡ owed_by x + m.room)

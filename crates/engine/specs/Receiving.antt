@@ -1,0 +1,34 @@
+-- A connection of the list that bytes come on.
+use Rattle.std.specs.Prelude.{◌≡◌, ℕ, Bool, false, ◌&&◌, List, Option, Some, None, is_none}
+use Rattle.std.specs.List.{AllByRecursion}
+use Rattle.engine_feed.specs.declared.stop.Stop.{Stop}
+use Rattle.engine_feed.specs.declared.state.ConnectionState.{ConnectionState}
+use Rattle.engine_feed.specs.declared.state.CallsState.{CallsState}
+use Rattle.engine_feed.specs.Seen.{layout_in, messages_of}
+use Rattle.engine_feed.specs.Sound.{IsAdmitted}
+use Rattle.engine_feed.specs.Streams.{scan_stream}
+use Rattle.engine_feed.specs.Words.{TakesInput, HasFed, Adds}
+use Rattle.engine.specs.declared.connection.Connection.{Connection}
+use Rattle.engine.specs.declared.connection.Connection.TheVariants.{Open}
+use Rattle.engine.specs.Seen.{connection_seen}
+
+-- open, and at no fault
+abbrev pub takes_bytes : Connection → Bool
+takes_bytes c = is_none (connection_seen c).closed && is_none (scan_stream (connection_seen c).stream).fault
+
+-- so many of the bytes were taken, and this stopped the taking
+pub record IsFed (calls : CallsState) (old : Connection) (number : ℕ) (bytes : List ℕ) (taken : ℕ) (stop : Stop)
+    (calls' : CallsState) (new : Connection) : Type 0 where
+  pub before : ConnectionState
+  pub after : ConnectionState
+  pub was : old ≡ Open before
+  pub is : new ≡ Open after
+  pub takes : TakesInput before
+  pub feeds : HasFed calls before number bytes taken stop calls' after
+  pub adds : Adds calls before number calls' after
+  pub admitted : AllByRecursion (IsAdmitted (layout_in calls')) (messages_of calls')
+
+-- bytes are taken where the connection takes any; else nothing changes
+abbrev pub Receives : CallsState → Connection → ℕ → List ℕ → Option (ℕ × Stop) → CallsState → Connection → Type 0
+Receives calls old number bytes None calls' new = (takes_bytes old ≡ false) × (new ≡ old) × (calls' ≡ calls)
+Receives calls old number bytes (Some r) calls' new = IsFed calls old number bytes r.0 r.1 calls' new

@@ -1,0 +1,47 @@
+//! Messages that workers begin.
+
+ghost use Rattle.std.specs.Prelude.{◌≡◌};
+ghost use Rattle.nfs_model.specs.Events.Refusals as event;
+ghost use Rattle.nfs_values.specs.Moment.{moment_of};
+ghost use Rattle.engine.specs.Sound.{IsSound};
+ghost use Rattle.engine.specs.Words.{Does, HasItsSetup};
+
+use crate::event::{Done, Refusal};
+use crate::state::{SECOND, State};
+use crate::worker::{Running, Worker, set_worker};
+use desk::Refusal as Refused;
+use nfs_values::Moment;
+
+/// Begins the message at a place of the list: its worker is lent what it runs on.
+pub(crate) fn begin(
+    state: &mut State,
+    worker: usize,
+    place: usize,
+    moment: Moment,
+) -> Result<Done, Refusal>
+    requires { IsSound state.old }
+    ensures events { Does state.old (event.Begin worker place (moment_of moment)) result state.new }
+    ensures setup { HasItsSetup state.old state.new }
+    ensures sound { IsSound state.new }
+{
+    let Some(Worker::Idle) = state.workers.get(worker) else {
+        return Err(Refusal::WorkerBusy);
+    };
+    let Some(affinity) = state.calls.affinity_at(place) else {
+        return Err(Refusal::NoSuchCall);
+    };
+    if moment.nanoseconds >= SECOND {
+        return Err(Refusal::BadMoment);
+    }
+    match state.desk.begin(worker, affinity) {
+        Err(Refused::Taken) => Err(Refusal::Busy),
+        Err(Refused::Worn) => Err(Refusal::Worn),
+        Ok(()) => {
+            let Ok(message) = state.calls.begin(place) else {
+                unreachable!();
+            };
+            set_worker(&mut state.workers, worker, Worker::Begun(Running { message, moment }));
+            Ok(Done::Granted { affinity })
+        }
+    }
+}

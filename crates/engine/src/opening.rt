@@ -1,0 +1,61 @@
+//! An engine at the start.
+
+ghost use Rattle.std.specs.Prelude.{◌≡◌, ◌≤◌, IfOk, replicate};
+ghost use Rattle.nfs_model.specs.Headline.{opening_world};
+ghost use Rattle.affinity_tree.specs.Layout.{layout_of};
+ghost use Rattle.engine.specs.Seen.{setup_in, world, setup_of};
+ghost use Rattle.engine.specs.declared.worker.Worker.TheVariants.{Idle};
+ghost use Rattle.engine.specs.Sound.{IsSound};
+
+use crate::state::State;
+use crate::worker::Worker;
+use affinity_tree::Layout;
+use desk::{Desk, ParcelKinds};
+use engine_feed::Calls;
+use held_laws::begins_sound;
+use nfs_values::Verifier;
+use parcels::{Files, opening_parcels};
+use service::Service;
+use std::alloc::{AllocError, Global};
+
+/// So many idle workers.
+fn idle(alloc: Global, count: usize) -> Result<Vec<Worker>, AllocError>
+    ensures { IfOk result (λ workers. workers.items ≡ replicate count Idle) }
+{
+    let mut workers = Vec::with_capacity(alloc, count)?;
+    for _done in 0..count {
+        workers.push(Worker::Idle)?;
+    }
+    Ok(workers)
+}
+
+/// The fields of an engine to which nothing has happened.
+pub(crate) fn open(
+    alloc: Global,
+    layout: Layout,
+    verifier: [u8; 8],
+    workers: usize,
+) -> Result<State, AllocError>
+    requires some { 1 ≤ workers }
+    requires most { workers ≤ 64 }
+    ensures setup { IfOk result (λ state.
+        setup_in state ≡ setup_of (layout_of layout) verifier workers) }
+    ensures opening { IfOk result (λ state. world state ≡ opening_world (setup_in state)) }
+    ensures sound { IfOk result (λ state. IsSound state) }
+{
+    begins_sound::<Files>();
+    let verifier = Verifier(verifier);
+    let parcels = opening_parcels(alloc, &layout, verifier)?;
+    let copy = layout.copied(alloc)?;
+    let calls = Calls::new(alloc, copy)?;
+    let desk = Desk::<Service, ParcelKinds>::new(alloc, layout, parcels, workers)?;
+    Ok(State {
+        alloc,
+        verifier,
+        connections: Vec::new(alloc),
+        open_count: 0,
+        calls,
+        workers: idle(alloc, workers)?,
+        desk,
+    })
+}

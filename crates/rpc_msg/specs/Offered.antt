@@ -1,0 +1,13 @@
+-- What is asked with the procedures that are offered so far.
+use Rattle.nfs_model.specs.Types.{Call, Null, Getattr, Asked, Ask, Refused, Undecoded}
+
+-- NULL and GETATTR (RFC 1813 sections 3.3.0 and 3.3.1)
+abbrev pub IsOffered : Call → Type 0
+IsOffered Null = Unit {0}
+IsOffered (Getattr handle) = Unit {0}
+IsOffered call = ⊥
+
+abbrev pub AsksOffered : Asked → Type 0
+AsksOffered (Ask call credential) = IsOffered call
+AsksOffered (Refused reply) = Unit {0}
+AsksOffered Undecoded = Unit {0}
