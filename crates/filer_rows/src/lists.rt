@@ -25,7 +25,7 @@ fn lists_of_events_are_played(rt: HostRuntime) -> Result<(), Fail> {
     assert_eq!(rt; engine.output(0), reply.as_slice());
     assert_eq!(rt; engine.stream(0), call.as_slice());
     assert_eq!(rt; engine.finished().len(), 1);
-    assert!(rt; matches!(engine.workers(), [Worker::Idle, Worker::Idle]));
+    assert!(rt; matches!(engine.running(), [Worker::Idle, Worker::Idle]));
     assert_eq!(rt;
         engine.run(&[Event::Open, fed, Event::Work { worker: 0 }]),
         1
