@@ -41,7 +41,7 @@ where
     ghost use Rattle.desk_laws.specs.Books.{opening_books};
     ghost use Rattle.desk.specs.Words.{books, IsKept};
 
-    /// A desk of a layout with the parcels of all nodes, and so many idle workers, from 1 to 64.
+    /// A desk of a layout with the parcels of all nodes, and so many idle workers.
     pub fn new(
         alloc: Global,
         layout: Layout,

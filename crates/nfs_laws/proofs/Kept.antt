@@ -1,4 +1,4 @@
--- Each event keeps the headline, where the calls that are served agree, and so does a whole run.
+-- Each event keeps the headline, where the calls that run after it agree.
 use Rattle.std.proofs.Common.{◌≡◌, ℕ, Bool, true, false, List, [], ◌∷◌, ◌++◌, Option, Some, None, Result, Ok, Err, refl, sym, ap, subst, ◌∙◌}
 use Rattle.std.specs.Prelude.{slice_get, is_some, if◌then◌else◌, ◌&&◌}
 use Rattle.nfs_model.specs.Tree.{Logical}

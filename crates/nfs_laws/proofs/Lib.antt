@@ -1,4 +1,3 @@
-mod Toy
 pub mod AtOnce
 pub mod Volumes
 pub mod Opening

@@ -1,7 +1,7 @@
 -- What is asked with the procedures that are offered so far.
 use Rattle.nfs_model.specs.Types.{Call, Null, Getattr, Asked, Ask, Refused, Undecoded}
 
--- NULL and GETATTR (RFC 1813 sections 3.3.0 and 3.3.1)
+-- NULL, of either program, and GETATTR (RFC 1813 sections 3.3.0 and 3.3.1)
 abbrev pub IsOffered : Call → Type 0
 IsOffered Null = Unit {0}
 IsOffered (Getattr handle) = Unit {0}
