@@ -3,7 +3,7 @@
 use nfs_values::{ConnectionNumber, Credential, Moment};
 
 /// Who asks, and when.
-#[derive(Clone, Copy, Debug, PartialEq, Eq)]
+#[derive(Clone, Copy)]
 pub struct Asker {
     pub connection: ConnectionNumber,
     /// The place of its record among those that the connection served.

@@ -2,9 +2,9 @@
 #![tactic(auto)]
 
 mod asker;
+#[cfg(test)]
 mod driving;
 #[cfg(test)]
 mod tests;
 
 pub use asker::Asker;
-pub use driving::{open, serve};
