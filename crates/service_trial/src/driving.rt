@@ -34,7 +34,7 @@ pub fn open(
 }
 
 /// A call whose home is Volume Logical, as one entry of the depot's history. Nothing where it has
-/// no such home, where its parcels weren't granted, or where it has to move.
+/// no such home, where its parcels weren't granted, where it has to move, or where memory ran out.
 pub fn serve(
     depot: &Depot<Service>,
     seat: &mut Seat<Service>,
