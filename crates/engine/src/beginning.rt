@@ -40,7 +40,11 @@ pub(crate) fn begin(
             let Ok(message) = state.calls.begin(place) else {
                 unreachable!();
             };
-            set_worker(&mut state.workers, worker, Worker::Begun(Running { message, moment }));
+            set_worker(
+                &mut state.workers,
+                worker,
+                Worker::Begun(Running { message, moment }),
+            );
             Ok(Done::Granted { affinity })
         }
     }

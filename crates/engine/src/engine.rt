@@ -58,7 +58,6 @@ pub struct Engine {
 
 impl Model for Engine {
     ghost use Rattle.engine.specs.Shown.{Shown};
-
     ghost use Rattle.std.specs.Coded.{codes};
     ghost use Rattle.engine.specs.Codes.{coded_nodes, coded_filled};
 

@@ -25,7 +25,7 @@ use desk::{Desk, ParcelKinds};
 use engine_feed::{Calls, OfferedCall};
 use nfs_values::{Moment, Reply};
 use scheduler::{Message, Origin};
-use service::{Asked, Job, JobReply, Outcome, Service, ServedCall};
+use service::{Asked, Job, JobReply, Outcome, ServedCall, Service};
 
 /// Ends a worker's call on the desk by an entry of the history, and gives back its message and its
 /// reply.

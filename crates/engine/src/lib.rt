@@ -13,7 +13,7 @@ mod state;
 mod worker;
 mod working;
 
-pub use engine_feed::{FinishedCall, Stop, StreamFault};
 pub use engine::Engine;
+pub use engine_feed::{FinishedCall, Stop, StreamFault};
 pub use event::{Done, Event, Refusal};
 pub use worker::{Running, Worker};

@@ -15,8 +15,8 @@ pub use fault::RecordFault;
 pub use head::{Head, read_call};
 pub use laws::{
     arguments_are_spelled, call_heads_are_exact, credentials_are_spelled, faults_are_spelled,
-    record_faults, records_are_decoded, records_are_spelled, records_ask_offered_calls, refusals_fit,
-    replies_fit, servers_are_roomy, versions_are_spelled,
+    record_faults, records_are_decoded, records_are_spelled, records_ask_offered_calls,
+    refusals_fit, replies_fit, servers_are_roomy, versions_are_spelled,
 };
 pub use nfs_values::Procedure as Served;
 pub use record::{Heard, Request, read_record};
