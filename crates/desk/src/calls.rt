@@ -59,7 +59,7 @@ impl<M: Machine, K: NodeKinds<M::Parcel>> Desk<M, K> {
             (books self.new) }
     {
         match &mut self.grants[worker] {
-            Some(any) => work_any::<M, K, W>(self.depot.layout(), any, task),
+            Some(any) => work_any::<M::Parcel, K, W>(self.depot.layout(), any, task),
             None => unreachable!(),
         }
     }

@@ -12,7 +12,6 @@ ghost use Rattle.desk.specs.Any.{lent_of};
 use crate::grant::AnyGrant;
 use crate::kinds::NodeKinds;
 use affinity_tree::{Affinity, HasKind, Layout};
-use depot_rule::machine::Machine;
 use parcel_sets::Node;
 
 /// Work on the parcels under an affinity. It changes them and takes away none.
@@ -148,18 +147,18 @@ pub trait Task<T: HasKind, K: NodeKinds<T>> {
 }
 
 /// Does a task on what was granted.
-pub(crate) fn work_any<M: Machine, K: NodeKinds<M::Parcel>, W: Task<M::Parcel, K>>(
+pub(crate) fn work_any<T: HasKind, K: NodeKinds<T>, W: Task<T, K>>(
     layout: &Layout,
-    any: &mut AnyGrant<M::Parcel, K>,
+    any: &mut AnyGrant<T, K>,
     task: W,
 ) -> W::Output
     requires node { let L = layout_of layout.now in IsNode L (lent_of L any.old).affinity }
     requires whole { let L = layout_of layout.now in
-        IsWhole M.Parcel.kind L (lent_of L any.old) }
+        IsWhole T.kind L (lent_of L any.old) }
     requires asks { let L = layout_of layout.now in let l = lent_of L any.old in
         W.asks task L l.affinity l.parcels }
     ensures whole { let L = layout_of layout.now in
-        IsWhole M.Parcel.kind L (lent_of L any.new) }
+        IsWhole T.kind L (lent_of L any.new) }
     ensures done { let L = layout_of layout.now in
         IsDone (W.does task) L (lent_of L any.old) result (lent_of L any.new) }
 {

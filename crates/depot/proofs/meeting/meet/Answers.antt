@@ -1,13 +1,13 @@
-use Rattle.std.proofs.Common.{rules, ◌≡◌, ◌∷◌, [], length, ap, ◌∙◌}
+use Rattle.std.proofs.Common.{rules, refl, ◌≡◌, ◌∷◌, [], length, ap, ◌∙◌}
 use Rattle.depot_rule.specs.History.{entries_of}
 use Rattle.depot_rule.specs.Seats.{view_of, first_of, others_of}
 use Rattle.depot_rule.proofs.Dealing.{meets, parts-again}
 use Rattle.depot_rule.proofs.Looking.{alikes}
-use Rattle.depot.specs.Calls.{known}
+use Rattle.depot.specs.Calls.{known, own_views}
 use Rattle.depot.specs.Words.{served_by}
-use Rattle.depot.proofs.Seated.{HasMet, met-so, AreAlike, alike-known, told-known}
+use Rattle.depot.proofs.Seated.{HasMet, met-so, AreAlike, alike-known, told, told-known}
 use Rattle.depot.proofs.meeting.meet.Given.{Over}
-use Rattle.depot.proofs.meeting.meet.Goals.{After-join_seat, After-load}
+use Rattle.depot.proofs.meeting.meet.Goals.{After-join_seat, After-load, After-into_badge, After-into_badge-2}
 use Rattle.depot.proofs.meeting.meet.Goals as goal
 
 -- ---- what several goals share
@@ -24,6 +24,25 @@ alike : (g : Over) (c : After-load g) (m : HasMet c.args.one.now.badge.views c.a
     c.into_seat-second.result.me.0 c.join_seat.new.seat.me.0)
     → AreAlike (known c.args.one.now.badge.views) (known c.args.other.now.badge.views)
 alike g c m = alike-known _ _ _ _ _ m (c.load.ensures.2.1 (view_of c.into_seat-first.result.me.0) (view_of c.into_seat-second.result.me.0) m.both)
+
+one-told : (g : Over) (c : After-into_badge g) (m : HasMet c.args.one.now.badge.views c.args.other.now.badge.views c.into_seat-first.result.me.0
+    c.into_seat-second.result.me.0 c.join_seat.new.seat.me.0)
+    → known c.into_badge.result.views ≡ told (known c.args.one.now.badge.views) (known c.args.other.now.badge.views) (known c.args.one.now.badge.views)
+one-told g c m =
+    let badge : c.into_badge.result.views ≡ c.split_seat-second.new.seat.me.0 ∷ [] = search rules in
+    let first = ap (λ m. m.0) c.split_seat-second.ensures.2 ∙ ap first_of (ap (λ m. m.0) c.load.ensures.2.0 ∙ m.both) in
+    ap known badge ∙ (ap view_of first ∙ (told-known _ _ _ _ _ m).0)
+
+other-told : (g : Over) (c : After-into_badge-2 g) (m : HasMet c.args.one.now.badge.views c.args.other.now.badge.views c.into_seat-first.result.me.0
+    c.into_seat-second.result.me.0 c.join_seat.new.seat.me.0)
+    → ((length c.into_badge-2.result.views ≡ 1) × (length (own_views c.into_badge-2.result.views) ≡ 1))
+    × (known c.into_badge-2.result.views ≡ told (known c.args.one.now.badge.views) (known c.args.other.now.badge.views) (known c.args.other.now.badge.views))
+other-told g c m =
+    let badge : c.into_badge-2.result.views ≡ c.split_seat-second.result.me.0 ∷ [] = search rules in
+    let second = ap (λ m. m.0) c.split_seat-second.ensures.4 ∙ ap others_of (ap (λ m. m.0) c.load.ensures.2.0 ∙ m.both) in (
+      (ap length badge, ap (λ b. length (own_views b)) badge ∙ ap length second),
+      ap known badge ∙ (ap view_of second ∙ (told-known _ _ _ _ _ m).1),
+    )
 
 -- ---- the answers
 
@@ -58,19 +77,29 @@ split_seat-second-requires g c =
           _ c.load.new.seat.me.0 (ap length loaded),
     )
 
+pub invariant_of-one : goal.invariant_of-one
+invariant_of-one g c =
+    let e = one-told g c (met g (goal.at.invariant_of-one g c).After-join_seat) in
+    let s = c.args.one.now in
+    record { one = search rules; idle = rw e s.idle; parts = rw e s.parts; gathered = rw e s.gathered; apart = rw e s.apart }
+
+pub invariant_of-other : goal.invariant_of-other
+invariant_of-other g c =
+    let now = other-told g c (met g (goal.at.invariant_of-other g c).After-join_seat) in
+    let e = now.1 in
+    let s = c.args.other.now in
+    record { one = now.0; idle = rw e s.idle; parts = rw e s.parts; gathered = rw e s.gathered; apart = rw e s.apart }
+
+pub returns-clause-splits : goal.returns-clause-splits
+returns-clause-splits g c = (refl, refl)
+
 pub returns-clause-one : goal.returns-clause-one
 returns-clause-one g c =
-    let m = met g (goal.at.returns-clause-one g c).After-join_seat in
-    let badge : c.into_badge.result.views ≡ c.split_seat-second.new.seat.me.0 ∷ [] = search rules in
-    let first = ap (λ m. m.0) c.split_seat-second.ensures.2 ∙ ap first_of (ap (λ m. m.0) c.load.ensures.2.0 ∙ m.both) in
-    ap known badge ∙ (ap view_of first ∙ (told-known _ _ _ _ _ m).0)
+    let at = goal.at.returns-clause-one g c in one-told g at.After-into_badge (met g at.After-join_seat)
 
 pub returns-clause-other : goal.returns-clause-other
 returns-clause-other g c =
-    let m = met g (goal.at.returns-clause-other g c).After-join_seat in
-    let badge : c.into_badge-2.result.views ≡ c.split_seat-second.result.me.0 ∷ [] = search rules in
-    let second = ap (λ m. m.0) c.split_seat-second.ensures.4 ∙ ap others_of (ap (λ m. m.0) c.load.ensures.2.0 ∙ m.both) in
-    ap known badge ∙ (ap view_of second ∙ (told-known _ _ _ _ _ m).1)
+    let at = goal.at.returns-clause-other g c in (other-told g at.After-into_badge-2 (met g at.After-join_seat)).1
 
 pub returns-clause-one_history : goal.returns-clause-one_history
 returns-clause-one_history g c =

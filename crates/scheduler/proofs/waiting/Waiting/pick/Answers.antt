@@ -1,4 +1,4 @@
-use Rattle.std.proofs.Common.{rules, ◌∙◌}
+use Rattle.std.proofs.Common.{rules, ◌∙◌, arith}
 use Rattle.scheduler.proofs.Taken.{written, still-vacant, taken, lined-again, message-there, picked, rest}
 use Rattle.scheduler.proofs.waiting.Waiting.pick.Goals as goal
 
@@ -46,3 +46,21 @@ returns-clause-rest g c =
     c.deref.ensures.value
     (message-there s.messages.items c.deref_mut.result.now c.cell_at-cell.result out.result c.deref_mut.ensures.value out.ensures.message)
     c.cell_at-cell.ensures.place
+
+pub take_out-message-requires-clause-lined : goal.take_out-message-requires-clause-lined
+take_out-message-requires-clause-lined g c = rw c.deref_mut.ensures.value c.self.invariant.0.lined
+
+pub take_out-message-requires-clause-queues : goal.take_out-message-requires-clause-queues
+take_out-message-requires-clause-queues g c = rw c.deref_mut.ensures.value c.self.invariant.0.queues
+
+pub cell_at-cell-requires-clause-vacant : goal.cell_at-cell-requires-clause-vacant
+cell_at-cell-requires-clause-vacant g c = rw c.deref.ensures.value c.self.invariant.0.vacant
+
+pub cell_at-cell-requires-clause-place : goal.cell_at-cell-requires-clause-place
+cell_at-cell-requires-clause-place g c =
+    let counted = c.self.invariant.0.counted in
+    let fewer = c.if-place-self.false in
+    rw c.deref.ensures.value (omega (arith, counted, fewer))
+
+pub take_out-message-requires-clause-within : goal.take_out-message-requires-clause-within
+take_out-message-requires-clause-within g c = rw c.deref_mut.ensures.value (rw c.deref.ensures.value at c.cell_at-cell.ensures.within)

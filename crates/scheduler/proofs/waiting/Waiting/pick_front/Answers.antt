@@ -63,3 +63,9 @@ returns g c =
     c.self.invariant.0 c.self.view_is c.queue_of.ensures.number c.requires c.first.ensures c.in_ok-cell.was
     (message-there s.messages.items c.deref_mut.result.now cell out.result c.deref_mut.ensures.value out.ensures.message)
     (written s.messages.len cell s.messages.items c.deref_mut.result.now out.new.messages (search rules) c.deref_mut.ensures.value out.ensures.messages)
+
+pub take_out-message-requires-clause-lined : goal.take_out-message-requires-clause-lined
+take_out-message-requires-clause-lined g c = rw c.deref_mut.ensures.value c.self.invariant.0.lined
+
+pub take_out-message-requires-clause-queues : goal.take_out-message-requires-clause-queues
+take_out-message-requires-clause-queues g c = rw c.deref_mut.ensures.value c.self.invariant.0.queues
