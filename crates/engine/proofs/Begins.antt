@@ -41,6 +41,7 @@ use Rattle.engine.specs.declared.worker.Worker.{Worker}
 use Rattle.engine.specs.declared.worker.Worker.TheVariants.{Idle, Begun, Worked}
 use Rattle.engine.specs.Sound.{running_messages}
 use Rattle.engine.specs.Seen.{worker_seen, setup_in}
+use Rattle.engine.proofs.Lists.{inner}
 use Rattle.engine.proofs.Workers.{seen-changed}
 
 -- a moment of a whole second or more of nanoseconds is refused, after what comes before it
@@ -62,11 +63,6 @@ idle-lent {P} {C} {R} job told setup w b s i k there idle =
     none : (x : Option (Lent (FilerParcel P))) → RunsOn setup b None x → x ≡ None
     none None run = refl
     none (Some l) run = absurd run
-
--- what was looked up in a list
-pub looked-up : (ks items : List Worker) (i : ℕ) (x k : Worker) → ks ≡ items → i < length ks → x ≡ get_or ks i x → x ≡ k → slice_get items i ≡ Some k
-looked-up ks items i x k same within read is =
-    subst (λ (l : List Worker). slice_get l i ≡ Some k) same (slice_get_read ks (length ks) i x refl within read ∙ ap Some is)
 
 -- the message that tries what was told of a place
 pub found-message : (a : codes.Affinity) (o : Option (Message Call)) → Some a ≡ option_map (λ (m : Message Call). m.affinity) o
@@ -125,31 +121,9 @@ module _ {P C R : Type 0} (b c : FilerBooks P C R) (i : ℕ) (a : Affinity) (h :
 
 -- ---- lists of messages
 
-inner-some : {X : Type 0} (x y : X) → Some x ≡ Some y → x ≡ y
-inner-some x y e = cc
-
-not-some : {X : Type 0} (x : X) → None ≡ Some x → ⊥
-not-some x e = absurd cc
-
 pub tried-affinity : (a : codes.Affinity) (o : Option (Message Call)) (m : Message Call) → Some a ≡ option_map (λ (x : Message Call). x.affinity) o → o ≡ Some m
     → a ≡ m.affinity
-tried-affinity a o m told there = inner-some a m.affinity (told ∙ ap (λ p. option_map (λ (x : Message Call). x.affinity) p) there)
-
-pub all-removed : {X : Type 0} (P : X → Type 0) (xs : List X) (i : ℕ) → AllByRecursion P xs → AllByRecursion P (remove xs i)
-all-removed P [] zero all = all
-all-removed P [] (suc i) all = all
-all-removed P (x ∷ xs) zero all = all.1
-all-removed P (x ∷ xs) (suc i) all = (all.0, all-removed P xs i all.1)
-
-pub total-removed : {X : Type 0} (weigh : X → ℕ) (xs : List X) (i : ℕ) (x : X) → slice_get xs i ≡ Some x → total weigh (remove xs i) + weigh x ≡ total weigh xs
-total-removed weigh [] i x there = absurd (not-some x there)
-total-removed weigh (y ∷ xs) zero x there = let same : weigh y ≡ weigh x = ap weigh (inner-some y x there) in omega arith
-total-removed weigh (y ∷ xs) (suc i) x there = let others = total-removed weigh xs i x there in omega arith
-
-pub length-set : {X : Type 0} (xs : List X) (i : ℕ) (x : X) → length (slice_set xs i x) ≡ length xs
-length-set [] i x = refl
-length-set (y ∷ xs) zero x = refl
-length-set (y ∷ xs) (suc i) x = let others = length-set xs i x in omega arith
+tried-affinity a o m told there = inner a m.affinity (told ∙ ap (λ p. option_map (λ (x : Message Call). x.affinity) p) there)
 
 pub few-run : (ks : List Worker) → length (running_messages ks) ≤ length ks
 few-run [] = omega arith

@@ -40,7 +40,7 @@ use Rattle.engine_laws.specs.lemmas.Changing.{lent-at}
 use Rattle.engine_feed.specs.Codec.{reply_record}
 use Rattle.engine.specs.Sound.{MayEnd, room_on}
 use Rattle.engine.proofs.Placed.{room-own, room-other}
-use Rattle.engine.proofs.Received.{set-here, set-elsewhere}
+use Rattle.engine.proofs.Lists.{set-here, set-elsewhere}
 use Rattle.engine_feed.specs.declared.state.CallsState.{CallsState}
 use Rattle.engine_feed.specs.declared.state.ConnectionState.{ConnectionState}
 use Rattle.engine_feed.specs.Seen.{connection_of, owed_by, message_of, waiting_of, finished_of, finished_message}
@@ -55,28 +55,21 @@ use Rattle.engine.specs.declared.worker.Worker.{Worker}
 use Rattle.engine.specs.declared.worker.Worker.TheVariants.{Idle}
 use Rattle.engine.specs.Ending.{EndsIn, OwesLess}
 use Rattle.engine.specs.Seen.{connection_seen, worker_seen}
+use Rattle.engine_feed.specs.lemmas.Lists.{put-same}
+use Rattle.engine.proofs.Lists.{inner}
 use Rattle.engine.proofs.Workers.{seen-changed}
 use Rattle.engine.proofs.Closing.{seen-at as connection-at, seen-set as connections-set}
-
-inner : {X : Type 0} (x y : X) → Some x ≡ Some y → x ≡ y
-inner x y e = cc
 
 -- an open connection is one
 pub same-open : (x y : ConnectionState) → Open x ≡ Open y → x ≡ y
 same-open x y e = cc
-
--- what stands at a place, put there
-pub put-there : {X : Type 0} (xs : List X) (i : ℕ) (x : X) → slice_get xs i ≡ Some x → changed_at (λ (y : X). x) xs i ≡ xs
-put-there [] i x there = refl
-put-there (y ∷ xs) zero x there = ap (λ z. z ∷ xs) (sym (inner y x there))
-put-there (y ∷ xs) (suc i) x there = ap (λ zs. y ∷ zs) (put-there xs i x there)
 
 -- a message of a closed connection is finished
 pub closed-ends : (calls calls' : CallsState) (e : replays.FinishedCall) (k : ClosedConnection) → FinishesUnseen calls e calls'
     → (setup : Setup) (w : World) (reply : types.Reply) → Shows calls w → slice_get w.connections e.connection ≡ Some (connection_seen (Closed k))
     → record (with_calls calls' w) { connections = changed_at (λ (x : worlds.Connection). connection_seen (Closed k)) w.connections e.connection } ≡ finish setup w e reply
 closed-ends calls calls' e k unseen setup w reply shows there =
-    ap (λ cs. record (with_calls calls' w) { connections = cs }) (put-there w.connections e.connection (connection_seen (Closed k)) there)
+    ap (λ cs. record (with_calls calls' w) { connections = cs }) (put-same (connection_seen (Closed k)) w.connections e.connection there)
     ∙ unseen setup w reply shows (ap is_open there)
 
 -- ---- what a worked message was lent

@@ -1,3 +1,4 @@
+mod Lists
 mod Runs
 mod Workers
 mod Begins

@@ -11,12 +11,6 @@ use Rattle.engine.specs.declared.worker.Worker.{Worker}
 use Rattle.engine.specs.declared.worker.Worker.TheVariants.{Idle, Begun, Worked}
 use Rattle.engine.specs.Sound.{IsPlaced, IsReady, messages_in, running_messages, room_on}
 
--- ---- lists
-
-pub all-later : {A : Type 0} (P Q : A → Type 0) (xs : List A) → ((x : A) → P x → Q x) → AllByRecursion P xs → AllByRecursion Q xs
-all-later P Q [] f p = tt
-all-later P Q (x ∷ xs) f p = (f x p.0, all-later P Q xs f p.1)
-
 -- ---- where more connections were opened
 
 pub placed-later : (layout : Layout) (n k : ℕ) → n ≤ k → (m : Message Call) → IsPlaced layout n m → IsPlaced layout k m

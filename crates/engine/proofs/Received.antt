@@ -45,23 +45,11 @@ use Rattle.engine.specs.declared.worker.Worker.TheVariants.{Idle, Begun, Worked}
 use Rattle.engine.specs.Receiving.{takes_bytes, IsFed}
 use Rattle.engine.specs.Seen.{connection_seen, worker_seen, setup_in, world}
 use Rattle.engine.specs.Sound.{IsSound, IsPlaced, IsReady, running_messages, room_on}
-use Rattle.engine.proofs.Placed.{all-later, kept_on, room-own, room-other}
+use Rattle.engine.proofs.Lists.{all-after, all-later, set-here, set-elsewhere}
+use Rattle.engine.proofs.Placed.{kept_on, room-own, room-other}
+use Rattle.engine.proofs.Workers.{count-running}
 use Rattle.engine.proofs.Closing.{seen-at, seen-set, set-same}
 use Rattle.engine.proofs.Reconnected.{reserved-sound}
-
--- ---- one place of a list
-
-pub set-here : {A : Type 0} (xs : List A) (i : ℕ) (x y : A) → slice_get xs i ≡ Some x → slice_get (slice_set xs i y) i ≡ Some y
-set-here [] i x y e = absurd cc
-set-here (z ∷ xs) zero x y e = refl
-set-here (z ∷ xs) (suc i) x y e = set-here xs i x y e
-
-pub set-elsewhere : {A : Type 0} (xs : List A) (i j : ℕ) (y : A) → j ≢ i → slice_get (slice_set xs i y) j ≡ slice_get xs j
-set-elsewhere [] i j y d = refl
-set-elsewhere (z ∷ xs) zero zero y d = absurd (d refl)
-set-elsewhere (z ∷ xs) zero (suc j) y d = refl
-set-elsewhere (z ∷ xs) (suc i) zero y d = refl
-set-elsewhere (z ∷ xs) (suc i) (suc j) y d = set-elsewhere xs i j y (λ e. d (ap (λ (n : ℕ). suc n) e))
 
 -- ---- what is answered
 
@@ -116,10 +104,6 @@ placed-more layout n (m ∷ ms) admitted known at_home = (
   placed-more layout n ms admitted.1 known.1 at_home.1,
 )
 
-all-after : {A : Type 0} (P : A → Type 0) (xs ys : List A) → AllByRecursion P (xs ++ ys) → AllByRecursion P ys
-all-after P [] ys p = p
-all-after P (x ∷ xs) ys p = all-after P xs ys p.1
-
 own-known : (n number : ℕ) → number < n → (m : Message Call) → IsOwn number m → IsKnown n m
 own-known n number less m own = let e = own.connection in omega (arith, e, less)
 
@@ -170,12 +154,6 @@ fed-owed cs number before after ms more all ws there is own owes owed c x e = el
     same-open a b e = cc
 
 -- ---- the world
-
-count-running : (ws : List Worker) → length (all_running (map worker_seen ws)) ≡ length (running_messages ws)
-count-running [] = refl
-count-running (Idle ∷ ws) = count-running ws
-count-running (Begun r ∷ ws) = let t = count-running ws in omega (arith, t)
-count-running (Worked r outcome ∷ ws) = let t = count-running ws in omega (arith, t)
 
 is-part : (s : State) (number : ℕ) (before : ConnectionState) → IsSound s → slice_get s.connections.items number ≡ Some (Open before)
     → IsPartOf s.calls number before (world s)

@@ -19,7 +19,8 @@ use Rattle.engine.specs.declared.state.State.{State}
 use Rattle.engine.specs.declared.worker.Worker.{Worker}
 use Rattle.engine.specs.Seen.{connection_seen, setup_in, world}
 use Rattle.engine.specs.Sound.{IsSound, IsPlaced, IsReady, rooms_on}
-use Rattle.engine.proofs.Placed.{all-later, placed-later, ready-later, kept_on, nothing-owed}
+use Rattle.engine.proofs.Lists.{all-later}
+use Rattle.engine.proofs.Placed.{placed-later, ready-later, kept_on, nothing-owed}
 
 -- the state with other connections is sound, where each that is open is owed what it was
 pub reconnected : (s new : State) → new ≡ record s { connections = new.connections; open_count = new.open_count } → IsSound s

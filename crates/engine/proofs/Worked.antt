@@ -53,6 +53,7 @@ use Rattle.engine.specs.declared.worker.Worker.{Worker}
 use Rattle.engine.specs.declared.worker.Worker.TheVariants.{Begun, Worked}
 use Rattle.engine.specs.Seen.{running_as, running_seen, worker_seen, done_of, told_of}
 use Rattle.engine.specs.Sound.{messages_in, running_messages, MayEnd}
+use Rattle.engine.proofs.Workers.{seen-changed}
 
 -- ---- the reply fits its room
 
@@ -204,12 +205,6 @@ module _ {P C R : Type 0} (job : C → jobs.Job) (told : R → jobs.JobReply) (s
 
 -- ---- the workers
 
--- a worker with another thing, in place of what it runs
-pub seen-set : (ks : List Worker) (i : ℕ) (k : Worker) → map worker_seen (slice_set ks i k) ≡ changed_at (with_running (running_seen k)) (map worker_seen ks) i
-seen-set [] i k = refl
-seen-set (x ∷ ks) zero k = refl
-seen-set (x ∷ ks) (suc i) k = ap (λ xs. worker_seen x ∷ xs) (seen-set ks i k)
-
 -- a worker that runs the same message
 pub running-set : (ks : List Worker) (i : ℕ) (j k : Worker) → slice_get ks i ≡ Some j → messages_in k ≡ messages_in j
     → running_messages (slice_set ks i k) ≡ running_messages ks
@@ -217,29 +212,6 @@ running-set [] i j k there same = refl
 running-set (x ∷ ks) zero j k there same =
     let at : x ≡ j = cc in ap (λ ms. ms ++ running_messages ks) (same ∙ ap messages_in (sym at))
 running-set (x ∷ ks) (suc i) j k there same = ap (λ ms. messages_in x ++ ms) (running-set ks i j k there same)
-
-pub ready-at : {X : Type 0} (Q : X → Type 0) (ks : List X) (i : ℕ) (k : X) → AllByRecursion Q ks → slice_get ks i ≡ Some k → Q k
-ready-at Q [] i k all there = absurd cc
-ready-at Q (x ∷ ks) zero k all there = let same : x ≡ k = cc in subst Q same all.0
-ready-at Q (x ∷ ks) (suc i) k all there = ready-at Q ks i k all.1 there
-
-pub ready-set : {X : Type 0} (Q : X → Type 0) (ks : List X) (i : ℕ) (k : X) → AllByRecursion Q ks → Q k → AllByRecursion Q (slice_set ks i k)
-ready-set Q [] i k all here = tt
-ready-set Q (x ∷ ks) zero k all here = (here, all.1)
-ready-set Q (x ∷ ks) (suc i) k all here = (all.0, ready-set Q ks i k all.1 here)
-
-pub set-twice : {X : Type 0} (xs : List X) (i : ℕ) (x y : X) → slice_set (slice_set xs i x) i y ≡ slice_set xs i y
-set-twice [] i x y = refl
-set-twice (z ∷ xs) zero x y = refl
-set-twice (z ∷ xs) (suc i) x y = ap (λ zs. z ∷ zs) (set-twice xs i x y)
-
--- what a look-up found
-pub found-at : {X : Type 0} (xs ys : List X) (i : ℕ) (x y : X) → ys ≡ xs → i < length ys → y ≡ get_or ys i y → y ≡ x → slice_get xs i ≡ Some x
-found-at xs ys i x y same less at is =
-    ap (λ zs. slice_get zs i) (sym same) ∙ slice_get_read ys (length ys) i y refl less at ∙ ap (λ z. Some z) is
-
-pub seen-at : (ks : List Worker) (i : ℕ) (k : Worker) → slice_get ks i ≡ Some k → slice_get (map worker_seen ks) i ≡ Some (worker_seen k)
-seen-at ks i k there = slice_get-map worker_seen ks i ∙ ap (λ o. option_map worker_seen o) there
 
 pub few-stamps : (stamps running : ℕ) → stamps + running ≤ 2 ^ 62 + 64 → stamps < too_many
 few-stamps stamps running few = omega (arith, few)
@@ -265,7 +237,7 @@ pub worked-world : {P : Type 0} (w : World) (c : FilerBooks P Job JobReply) (ks 
     → w.workers ≡ map worker_seen ks → ls ≡ slice_set ks i (Worked r o) → stamps c ≡ w.stamps
     → world_with w c ls ≡ worked w i (running_as r None) (outcome_of o) (stored_all (filer_contents c.layout (now c)))
 worked-world w c ks ls i r o seen are same = λ j. record w {
-  workers = (ap (λ xs. map worker_seen xs) are ∙ seen-set ks i (Worked r o)
+  workers = (ap (λ xs. map worker_seen xs) are ∙ seen-changed ks i (Worked r o)
       ∙ ap (λ xs. changed_at (with_running (running_seen (Worked r o))) xs i) (sym seen)) j;
   server = server_of (filer_contents c.layout (now c));
   parts = all_parts (filer_contents c.layout (now c));

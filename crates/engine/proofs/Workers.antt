@@ -1,18 +1,19 @@
 -- What workers run, where one of them runs another thing.
 use Rattle.std.proofs.Common.{◌≡◌, ◌≢◌, ℕ, zero, suc, ◌+◌, ◌<◌, Bool, true, false, List, [], ◌∷◌, ◌++◌, map, length, Option, Some, None, refl, sym, ap, ◌∙◌, subst, arith}
 use Rattle.std.specs.Prelude.{slice_get, slice_set, option_map}
-use Rattle.std.specs.List.{AllByRecursion}
 use Rattle.std.proofs.lemmas.List.{length-append}
 use Rattle.std.proofs.lemmas.Option.{slice_get-map}
 use Rattle.nfs_model.specs.World as worlds
 use Rattle.nfs_model.specs.World.{changed_at, with_running, all_running, with_held}
 use Rattle.nfs_values.specs.declared.call.Call.{Call}
 use Rattle.depot_rule.specs.Sums.{total}
+use Rattle.depot_rule.specs.lemmas.Sums.{total-append}
 use Rattle.scheduler.specs.declared.message.Message.{Message}
 use Rattle.engine.specs.declared.worker.Worker.{Worker}
 use Rattle.engine.specs.declared.worker.Worker.TheVariants.{Idle, Begun, Worked}
 use Rattle.engine.specs.Seen.{running_seen, worker_seen}
 use Rattle.engine.specs.Sound.{messages_in, running_messages}
+use Rattle.engine.proofs.Lists.{inner, none-some}
 
 -- a worker as it is seen
 pub seen-at : (ks : List Worker) (i : ℕ) (k : Worker) → slice_get ks i ≡ Some k → slice_get (map worker_seen ks) i ≡ Some (worker_seen k)
@@ -24,28 +25,18 @@ seen-changed [] i x = refl
 seen-changed (k ∷ ks) zero x = refl
 seen-changed (k ∷ ks) (suc i) x = ap (λ ws. worker_seen k ∷ ws) (seen-changed ks i x)
 
-inner : {X : Type 0} (j k : X) → Some j ≡ Some k → j ≡ k
-inner j k e = cc
-
-none-some : {X : Type 0} (k : X) → None ≡ Some k → ⊥
-none-some k e = absurd cc
-
-pub total-joined : {X : Type 0} (weigh : X → ℕ) (xs ys : List X) → total weigh (xs ++ ys) ≡ total weigh xs + total weigh ys
-total-joined weigh [] ys = omega arith
-total-joined weigh (x ∷ xs) ys = let others = total-joined weigh xs ys in omega arith
-
 -- the messages that run, weighed, where a worker runs another thing
 pub messages-changed : (weigh : Message Call → ℕ) (ks : List Worker) (i : ℕ) (k x : Worker) → slice_get ks i ≡ Some k
     → total weigh (running_messages (slice_set ks i x)) + total weigh (messages_in k) ≡ total weigh (running_messages ks) + total weigh (messages_in x)
 messages-changed weigh [] i k x there = absurd (none-some k there)
 messages-changed weigh (y ∷ ks) zero k x there =
-    let left = total-joined weigh (messages_in x) (running_messages ks) in
-    let right = total-joined weigh (messages_in y) (running_messages ks) in
+    let left = total-append weigh (messages_in x) (running_messages ks) in
+    let right = total-append weigh (messages_in y) (running_messages ks) in
     let same : total weigh (messages_in y) ≡ total weigh (messages_in k) = ap (λ z. total weigh (messages_in z)) (inner y k there) in
     omega (arith, left, right, same)
 messages-changed weigh (y ∷ ks) (suc i) k x there =
-    let left = total-joined weigh (messages_in y) (running_messages (slice_set ks i x)) in
-    let right = total-joined weigh (messages_in y) (running_messages ks) in
+    let left = total-append weigh (messages_in y) (running_messages (slice_set ks i x)) in
+    let right = total-append weigh (messages_in y) (running_messages ks) in
     let others = messages-changed weigh ks i k x there in
     omega (arith, left, right, others)
 
@@ -70,14 +61,3 @@ count-running [] = refl
 count-running (Idle ∷ ks) = count-running ks
 count-running (Begun r ∷ ks) = let others = count-running ks in omega arith
 count-running (Worked r outcome ∷ ks) = let others = count-running ks in omega arith
-
--- what holds of each
-pub all-set : {X : Type 0} (P : X → Type 0) (xs : List X) (i : ℕ) (x : X) → AllByRecursion P xs → P x → AllByRecursion P (slice_set xs i x)
-all-set P [] i x all is = tt
-all-set P (y ∷ xs) zero x all is = (is, all.1)
-all-set P (y ∷ xs) (suc i) x all is = (all.0, all-set P xs i x all.1 is)
-
-pub all-at : {X : Type 0} (P : X → Type 0) (xs : List X) (i : ℕ) (x : X) → AllByRecursion P xs → slice_get xs i ≡ Some x → P x
-all-at P [] i x all there = absurd (none-some x there)
-all-at P (y ∷ xs) zero x all there = subst P (inner y x there) all.0
-all-at P (y ∷ xs) (suc i) x all there = all-at P xs i x all.1 there

@@ -18,8 +18,8 @@ coded_file =
     (λ f. (f.attributes, (f.bytes, (f.filled, (f.touch, f.verifier)))))
     (λ p. record { attributes = p.0; bytes = p.1.0; filled = p.1.1.0; touch = p.1.1.1.0; verifier = p.1.1.1.1 }) (λ _. refl)
 
-abbrev pub coded_folder : Coded DirectoryNode
-coded_folder =
+abbrev pub coded_directory : Coded DirectoryNode
+coded_directory =
     code_by (Attributes × (ℕ × (ℕ × List Listed))) (coded× coded_attributes (coded× coded_ℕ (coded× coded_ℕ (coded_list coded_listed))))
     (λ d. (d.attributes, (d.parent, (d.next, d.list)))) (λ p. record { attributes = p.0; parent = p.1.0; next = p.1.1.0; list = p.1.1.1 }) (λ _. refl)
 
@@ -36,7 +36,7 @@ node_again (File f) = refl
 node_again (Directory d) = refl
 
 abbrev pub coded_node : Coded Node
-coded_node = code_by (FileNode ⊎ DirectoryNode) (coded⊎ coded_file coded_folder) node_out node_back node_again
+coded_node = code_by (FileNode ⊎ DirectoryNode) (coded⊎ coded_file coded_directory) node_out node_back node_again
 
 abbrev pub coded_nodes : Coded (FinMap nat_cmp Node)
 coded_nodes = maps.code coded_ℕ coded_node

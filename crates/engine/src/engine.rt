@@ -166,7 +166,7 @@ impl Engine {
     }
 
     /// What each worker runs.
-    pub fn workers(&self) -> &[Worker]
+    pub fn running(&self) -> &[Worker]
         ensures { map worker_seen result.now ≡ self.now.world.workers }
     {
         &self.state.workers

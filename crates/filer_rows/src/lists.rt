@@ -28,7 +28,7 @@ fn lists_of_events_are_played(rt: HostRuntime) -> Result<(), Fail> {
     holds(&rt, engine.finished().len() == 1);
     holds(
         &rt,
-        matches!(engine.workers(), [Worker::Idle, Worker::Idle]),
+        matches!(engine.running(), [Worker::Idle, Worker::Idle]),
     );
     holds(
         &rt,

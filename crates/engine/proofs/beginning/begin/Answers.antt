@@ -34,12 +34,14 @@ use Rattle.engine_feed.specs.Seen.{waiting_of, finished_of}
 use Rattle.engine_feed.specs.Words.{HasBegun}
 use Rattle.engine.specs.declared.worker.Running.{Running}
 use Rattle.engine.specs.declared.worker.Worker.{Worker}
-use Rattle.engine.proofs.Begins.{tried-affinity, begun-world, begun-layout, begun-server, begun-parts, begun-stamps, setup-kept, all-removed, total-removed, length-set, few-run}
+use Rattle.engine.proofs.Begins.{tried-affinity, begun-world, begun-layout, begun-server, begun-parts, begun-stamps, setup-kept, few-run}
 use Rattle.engine_feed.specs.Seen.{message_of}
 use Rattle.engine.specs.declared.worker.Worker.TheVariants.{Idle}
 use Rattle.engine.specs.Seen.{worker_seen, setup_in, world}
-use Rattle.engine.proofs.Workers.{seen-at, count-changed, messages-changed, all-set, all-at}
-use Rattle.engine.proofs.Begins.{looked-up, found-message, waits-at, bad-moment, good-moment, idle-lent, same-books}
+use Rattle.std.proofs.lemmas.List.{length-set}
+use Rattle.engine.proofs.Lists.{looked-up, all-removed, total-removed, all-set, all-at}
+use Rattle.engine.proofs.Workers.{seen-at, count-changed, messages-changed}
+use Rattle.engine.proofs.Begins.{found-message, waits-at, bad-moment, good-moment, idle-lent, same-books}
 use Rattle.engine.proofs.beginning.begin.Goals as goal
 
 pub begin-requires-clause-idle : goal.begin-requires-clause-idle

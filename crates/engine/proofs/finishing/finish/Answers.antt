@@ -18,7 +18,8 @@ use Rattle.engine.specs.declared.worker.Worker.TheVariants.{Idle, Worked}
 use Rattle.engine.specs.Ending.{job_made, answer_made}
 use Rattle.engine.specs.Seen.{worker_seen, running_as, setup_in, world}
 use Rattle.engine.specs.Sound.{IsReady, MayEnd}
-use Rattle.engine.proofs.Workers.{seen-at, count-changed, all-at}
+use Rattle.engine.proofs.Lists.{all-at, all-set}
+use Rattle.engine.proofs.Workers.{seen-at, seen-changed, count-changed}
 use Rattle.std.proofs.Common.{[], ◌∷◌, ◌++◌}
 use Rattle.std.specs.List.{AllByRecursion}
 use Rattle.depot_rule.specs.Sums.{total}
@@ -27,8 +28,9 @@ use Rattle.engine_laws.specs.lemmas.Happening.{book-apart}
 use Rattle.engine_laws.specs.lemmas.Finishing.{back-stands, finished-stands}
 use Rattle.engine.specs.Ending.{OwesLess}
 use Rattle.engine.specs.Sound.{IsPlaced, running_messages, rooms_on}
-use Rattle.engine.proofs.Workers.{all-set, seen-changed, total-joined}
-use Rattle.engine.proofs.Begins.{setup-kept, length-set}
+use Rattle.depot_rule.specs.lemmas.Sums.{total-append}
+use Rattle.std.proofs.lemmas.List.{length-set}
+use Rattle.engine.proofs.Begins.{setup-kept}
 use Rattle.engine_laws.specs.lemmas.Feeding.{all-append}
 use Rattle.engine.proofs.Ends.{count-ended, owes-after}
 use Rattle.std.specs.Global.{Vec}
@@ -385,7 +387,7 @@ returns-in-Moved-clause-sound c =
       owed = λ q x at.
           (let old = c.requires.owed q x at in
           let left = run_left q in
-          let waits = ap (λ (ms : List (Message Call)). total (room_on q) ms) h.back ∙ total-joined (room_on q) (messages_of s.calls) (m ∷ []) in
+          let waits = ap (λ (ms : List (Message Call)). total (room_on q) ms) h.back ∙ total-append (room_on q) (messages_of s.calls) (m ∷ []) in
           omega (arith, old, left, waits));
     }
 

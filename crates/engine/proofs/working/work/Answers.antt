@@ -40,7 +40,9 @@ use Rattle.engine.specs.declared.worker.Worker.{Worker}
 use Rattle.engine.specs.declared.worker.Worker.TheVariants.{Begun, Worked}
 use Rattle.engine.specs.Seen.{running_as, worker_seen, setup_in, world, done_of}
 use Rattle.engine.specs.Sound.{IsReady, IsPlaced, MayEnd, running_messages, room_on}
-use Rattle.engine.proofs.Worked.{found-at, seen-at, ready-at, ready-set, running-set, set-twice, same-begun, few-stamps}
+use Rattle.engine.proofs.Lists.{looked-up, set-twice, all-at, all-set}
+use Rattle.engine.proofs.Workers.{seen-at}
+use Rattle.engine.proofs.Worked.{running-set, same-begun, few-stamps}
 use Rattle.engine.proofs.Worked.{may-work, has-worked, worked-world, world_with, told-done, roomy-now, may-end}
 use Rattle.engine.proofs.working.work.Goals as goal
 
@@ -52,8 +54,8 @@ work-outcome-requires-clause-may c =
     let sound = c.requires.0 in
     let found = c.in-Some-Begun.ensures.lookup in
     let there : slice_get s.workers.items i ≡ Some (Begun r) =
-    found-at s.workers.items c.deref.result.now i (Begun r) c.in-Some-Begun.field-0.now c.deref.ensures.value found.3.0 found.1 c.in-Some-Begun.field-0-is in
-    let placed = ready-at (IsReady (layout_in s.calls) (length s.connections.items)) s.workers.items i (Begun r) sound.workers there in
+    looked-up c.deref.result.now s.workers.items i c.in-Some-Begun.field-0.now (Begun r) c.deref.ensures.value found.3.0 found.1 c.in-Some-Begun.field-0-is in
+    let placed = all-at (IsReady (layout_in s.calls) (length s.connections.items)) s.workers.items i (Begun r) sound.workers there in
     let seen_there = seen-at s.workers.items i (Begun r) there in
     let may = may-work job_of job_reply_of (setup_in s) (world s) (books s.desk) sound.stands i (worker_seen (Begun r)) seen_there
     (running_as r None) refl refl (few-stamps _ (running_count s.calls) sound.stamps) r.message.call
@@ -108,7 +110,7 @@ module _ (c : goal.Joined-index_mut) where
   there : slice_get ks i ≡ Some (Begun r)
   there =
       let found = c.in-Some-Begun.ensures.lookup in
-      found-at ks c.deref.result.now i (Begun r) c.in-Some-Begun.field-0.now c.deref.ensures.value found.3.0 found.1 c.in-Some-Begun.field-0-is
+      looked-up c.deref.result.now ks i c.in-Some-Begun.field-0.now (Begun r) c.deref.ensures.value found.3.0 found.1 c.in-Some-Begun.field-0-is
 
   seen : slice_get old.workers i ≡ Some (worker_seen (Begun r))
   seen = seen-at ks i (Begun r) there
@@ -119,10 +121,10 @@ module _ (c : goal.Joined-index_mut) where
       let found = c.in-Some-Begun.ensures.lookup in
       let less = subst (λ (xs : List Worker). i < length xs) c.deref.ensures.value found.3.0 in
       same-begun ks i c.in-Begun.running r there
-      (found-at ks ks i (Begun c.in-Begun.running) c.index_mut.result.now refl less c.index_mut.ensures.value (sym c.replace.ensures.value ∙ c.in-Begun.is))
+      (looked-up ks ks i c.index_mut.result.now (Begun c.in-Begun.running) refl less c.index_mut.ensures.value (sym c.replace.ensures.value ∙ c.in-Begun.is))
 
   placed : IsPlaced L (length c.args.state.now.connections.items) r.message
-  placed = ready-at Ready ks i (Begun r) c.requires.0.workers there
+  placed = all-at Ready ks i (Begun r) c.requires.0.workers there
 
   did : HasWorked (Serves r.message.call) b i o next
   did = subst (λ (x : Call). HasWorked (Serves x) b i o next) c.as_call.ensures.value c.work-outcome.ensures.worked
@@ -170,7 +172,7 @@ module _ (c : goal.Joined-index_mut) where
 
   ready : AllByRecursion Ready ks'
   ready = subst (λ (xs : List Worker). AllByRecursion Ready xs) (sym are)
-      (ready-set Ready ks i (Worked r o) c.requires.0.workers (placed, may))
+      (all-set Ready ks i (Worked r o) c.requires.0.workers (placed, may))
 
   -- the same messages run
   running : running_messages ks' ≡ running_messages ks

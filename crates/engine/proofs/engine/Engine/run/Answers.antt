@@ -17,7 +17,6 @@ few c = elim c.if-is_err.branch [
   | else-is_err w ↦ omega (arith, w.refused-is, c.loop-event.invariant.2)
 ]
 
--- src/engine.rt:119:9
 pub loop-event-preserved : goal.loop-event-preserved
 loop-event-preserved c = (
   run-more-from c.args.self.now c.loop-event.self c.step.new.self c.args.events.now c.loop-event.event-index _ c.loop-event.refused

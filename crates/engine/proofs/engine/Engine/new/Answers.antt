@@ -1,0 +1,19 @@
+use Rattle.std.proofs.Common.{◌≡◌, subst, sym}
+use Rattle.nfs_model.specs.World.{Setup, World}
+use Rattle.nfs_model.specs.Headline.{Kept, opening_world}
+use Rattle.engine.specs.declared.state.State.{State}
+use Rattle.engine.specs.Seen.{setup_in, world}
+use Rattle.engine.proofs.engine.Engine.new.Goals as goal
+
+-- a run begins within the headline
+begins : ((setup : Setup) → Kept setup (opening_world setup)) → (s : State) → world s ≡ opening_world (setup_in s) → Kept (setup_in s) (world s)
+begins meets s opens = subst (λ (w : World). Kept (setup_in s) w) (sym opens) (meets (setup_in s))
+
+pub invariant_of-result : goal.invariant_of-result
+invariant_of-result c = (
+  c.in_ok-state.ensures.sound,
+  begins c.opening_meets_headline.ensures c.in_ok-state.state c.in_ok-state.ensures.opening,
+)
+
+pub returns-clause-headline : goal.returns-clause-headline
+returns-clause-headline c = (begins c.opening_meets_headline.ensures c.in_ok-state.state c.in_ok-state.ensures.opening).headline
