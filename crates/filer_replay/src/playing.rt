@@ -104,6 +104,20 @@ fn play<W: Write>(
     }
 }
 
+/// Plays the events of a script up to its end, and answers whether one was refused.
+fn play_all<W: Write>(
+    script: &mut Script<'_>,
+    engine: &mut Engine,
+    bytes: &mut Vec<u8>,
+    out: &mut W,
+) -> Result<bool, ProgramFault> {
+    let mut refused = false;
+    while let Some(event) = script.read_event(bytes)? {
+        refused |= play(engine, event, out)?;
+    }
+    Ok(refused)
+}
+
 /// Runs a script up to its end, and answers whether an event was refused.
 fn run<W: Write>(alloc: Global, text: &[u8], out: &mut W) -> Result<bool, ProgramFault> {
     let mut script = Script::new(alloc, text);
@@ -114,12 +128,7 @@ fn run<W: Write>(alloc: Global, text: &[u8], out: &mut W) -> Result<bool, Progra
     } = script.read_start()?;
     let opened = Engine::new(alloc, layout, verifier, workers);
     let mut engine = opened.map_err(|_full| ProgramFault::NoMemory)?;
-    let mut bytes = Vec::new(alloc);
-    let mut refused = false;
-    while let Some(event) = script.read_event(&mut bytes)? {
-        refused |= play(&mut engine, event, out)?;
-    }
-    Ok(refused)
+    play_all(&mut script, &mut engine, &mut Vec::new(alloc), out)
 }
 
 /// Runs a script with its lines kept back until there are many of them, or none follows, and

@@ -23,11 +23,18 @@ pub(crate) fn joined(alloc: Global, pieces: &[&str]) -> Result<String, AllocErro
     Ok(text)
 }
 
+/// What a script prints, behind its status.
+fn replayed(alloc: Global, script: &[u8]) -> (u8, Vec<u8>) {
+    let mut reader = script;
+    let mut out = Vec::new(alloc);
+    let status = replay(alloc, &mut reader, &mut out);
+    (status, out)
+}
+
 /// Runs a script, and looks at its status and at all that it prints.
 pub(crate) fn expect(rt: &(impl Abort + AllocGlobal), script: &[u8], status: u8, printed: &str) {
-    let mut reader = script;
-    let mut out = Vec::new(rt.alloc());
-    assert_eq!(rt; replay(rt.alloc(), &mut reader, &mut out), status);
+    let (ended, out) = replayed(rt.alloc(), script);
+    assert_eq!(rt; ended, status);
     assert_eq!(rt; str::from_utf8(&out), Ok(printed));
 }
 
@@ -39,6 +46,16 @@ pub(crate) fn expect_rows(rt: &(impl Abort + AllocGlobal), rows: &[Row]) -> Resu
         expect(rt, script.as_bytes(), row.status, &printed);
     }
     Ok(())
+}
+
+/// Looks whether these are the bytes that are wanted.
+pub(crate) fn same(rt: &impl Abort, bytes: &[u8], wanted: &[u8]) {
+    assert_eq!(rt; bytes, wanted);
+}
+
+/// Looks whether this is so.
+pub(crate) fn holds(rt: &impl Abort, is_so: bool) {
+    assert!(rt; is_so);
 }
 
 /// The rows: calls, cuts, faults, closes and refusals.

@@ -3,14 +3,16 @@
 
 use crate::events::{expect, joined};
 use crate::texts::LAYOUT;
+use std::alloc::AllocError;
+use std::process::Abort;
 use std::test::Fail;
 
-/// A record that is fed, what is printed of it, and the reply where it is answered at once.
+/// A record that is fed, what is printed of it, and the reply's line where it is answered at once.
 #[derive(Clone, Copy)]
 struct Head {
     record: &'static [&'static str],
     printed: &'static str,
-    reply: Option<&'static [&'static str]>,
+    reply: &'static [&'static str],
 }
 
 /// Heads that are answered, credentials, and what ends a stream.
@@ -19,9 +21,10 @@ const HEADS: [Head; 14] = [
     Head {
         record: &["8000000c", "00000003", "00000000", "00000003"],
         printed: "conn 0\ntaken 16 stop 0\nout 0 ",
-        reply: Some(&[
+        reply: &[
             "80000018", "00000003", "00000001", "00000001", "00000000", "00000002", "00000002",
-        ]),
+            "\n",
+        ],
     },
     // version 2 of NFS, procedure 99, program 100005
     Head {
@@ -30,10 +33,10 @@ const HEADS: [Head; 14] = [
             "00000000", "00000000", "00000000", "00000000",
         ],
         printed: "conn 0\ntaken 44 stop 0\nout 0 ",
-        reply: Some(&[
+        reply: &[
             "80000020", "00000005", "00000001", "00000000", "00000000", "00000000", "00000002",
-            "00000003", "00000003",
-        ]),
+            "00000003", "00000003", "\n",
+        ],
     },
     Head {
         record: &[
@@ -41,9 +44,10 @@ const HEADS: [Head; 14] = [
             "00000000", "00000000", "00000000", "00000000",
         ],
         printed: "conn 0\ntaken 44 stop 0\nout 0 ",
-        reply: Some(&[
+        reply: &[
             "80000018", "00000005", "00000001", "00000000", "00000000", "00000000", "00000003",
-        ]),
+            "\n",
+        ],
     },
     Head {
         record: &[
@@ -51,9 +55,10 @@ const HEADS: [Head; 14] = [
             "00000000", "00000000", "00000000", "00000000",
         ],
         printed: "conn 0\ntaken 44 stop 0\nout 0 ",
-        reply: Some(&[
+        reply: &[
             "80000018", "00000005", "00000001", "00000000", "00000000", "00000000", "00000001",
-        ]),
+            "\n",
+        ],
     },
     // NULL of the admin program, and its version 2
     Head {
@@ -62,9 +67,10 @@ const HEADS: [Head; 14] = [
             "00000000", "00000000", "00000000", "00000000",
         ],
         printed: "conn 0\ntaken 44 stop 0\nout 0 ",
-        reply: Some(&[
+        reply: &[
             "80000018", "00000009", "00000001", "00000000", "00000000", "00000000", "00000000",
-        ]),
+            "\n",
+        ],
     },
     Head {
         record: &[
@@ -72,10 +78,10 @@ const HEADS: [Head; 14] = [
             "00000000", "00000000", "00000000", "00000000",
         ],
         printed: "conn 0\ntaken 44 stop 0\nout 0 ",
-        reply: Some(&[
+        reply: &[
             "80000020", "00000009", "00000001", "00000000", "00000000", "00000000", "00000002",
-            "00000001", "00000001",
-        ]),
+            "00000001", "00000001", "\n",
+        ],
     },
     // AUTH_SYS of uid 1000 and gid 100
     Head {
@@ -85,9 +91,10 @@ const HEADS: [Head; 14] = [
             "00000000", "00000000",
         ],
         printed: "conn 0\ntaken 64 stop 0\nout 0 ",
-        reply: Some(&[
+        reply: &[
             "80000018", "00000009", "00000001", "00000000", "00000000", "00000000", "00000000",
-        ]),
+            "\n",
+        ],
     },
     // AUTH_SYS with 17 groups, and flavor 6
     Head {
@@ -99,9 +106,9 @@ const HEADS: [Head; 14] = [
             "00000000", "00000000", "00000000", "00000000", "00000000",
         ],
         printed: "conn 0\ntaken 132 stop 0\nout 0 ",
-        reply: Some(&[
-            "80000014", "00000009", "00000001", "00000001", "00000001", "00000001",
-        ]),
+        reply: &[
+            "80000014", "00000009", "00000001", "00000001", "00000001", "00000001", "\n",
+        ],
     },
     Head {
         record: &[
@@ -109,9 +116,9 @@ const HEADS: [Head; 14] = [
             "00000006", "00000000", "00000000", "00000000",
         ],
         printed: "conn 0\ntaken 44 stop 0\nout 0 ",
-        reply: Some(&[
-            "80000014", "00000009", "00000001", "00000001", "00000001", "00000002",
-        ]),
+        reply: &[
+            "80000014", "00000009", "00000001", "00000001", "00000001", "00000002", "\n",
+        ],
     },
     // a record that ends after a credential's length of 401
     Head {
@@ -120,20 +127,20 @@ const HEADS: [Head; 14] = [
             "00000000", "00000191",
         ],
         printed: "conn 0\ntaken 36 stop 0\nout 0 ",
-        reply: Some(&[
-            "80000014", "00000009", "00000001", "00000001", "00000001", "00000001",
-        ]),
+        reply: &[
+            "80000014", "00000009", "00000001", "00000001", "00000001", "00000001", "\n",
+        ],
     },
     // seven bytes, and a message that is no call
     Head {
         record: &["80000007", "00000001000000"],
         printed: "conn 0\ntaken 11 stop 12\n",
-        reply: None,
+        reply: &[],
     },
     Head {
         record: &["80000008", "00000001", "00000001"],
         printed: "conn 0\ntaken 12 stop 13\n",
-        reply: None,
+        reply: &[],
     },
     // no length of a credential, and a verifier's length of 401
     Head {
@@ -142,7 +149,7 @@ const HEADS: [Head; 14] = [
             "00000000",
         ],
         printed: "conn 0\ntaken 32 stop 12\n",
-        reply: None,
+        reply: &[],
     },
     Head {
         record: &[
@@ -150,22 +157,25 @@ const HEADS: [Head; 14] = [
             "00000000", "00000000", "00000000", "00000191",
         ],
         printed: "conn 0\ntaken 44 stop 12\n",
-        reply: None,
+        reply: &[],
     },
 ];
 
+/// Feeds a record, and looks at what is printed.
+fn hear(rt: &(impl Abort + AllocGlobal), head: &Head) -> Result<(), AllocError> {
+    let alloc = rt.alloc();
+    let record = joined(alloc, head.record)?;
+    let script = joined(alloc, &[LAYOUT, "open\nfeed 0 ", &record, "\n"])?;
+    let reply = joined(alloc, head.reply)?;
+    let printed = joined(alloc, &[head.printed, &reply])?;
+    expect(rt, script.as_bytes(), 0, &printed);
+    Ok(())
+}
+
 #[test]
 fn heads_are_answered(rt: HostRuntime) -> Result<(), Fail> {
-    let alloc = rt.alloc();
-    for head in HEADS {
-        let record = joined(alloc, head.record)?;
-        let script = joined(alloc, &[LAYOUT, "open\nfeed 0 ", &record, "\n"])?;
-        let mut printed = String::from_str(alloc, head.printed)?;
-        if let Some(reply) = head.reply {
-            printed.push_str(&joined(alloc, reply)?)?;
-            printed.push_str("\n")?;
-        }
-        expect(&rt, script.as_bytes(), 0, &printed);
+    for head in &HEADS {
+        hear(&rt, head)?;
     }
     Ok(())
 }

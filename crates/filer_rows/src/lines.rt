@@ -106,19 +106,27 @@ const LINES: [&str; 28] = [
 ];
 
 #[test]
-fn bad_lines_end_a_script(rt: HostRuntime) -> Result<(), Fail> {
-    let alloc = rt.alloc();
-    for (script, printed) in LAYOUTS {
+fn bad_layouts_end_a_script(rt: HostRuntime) {
+    for (script, printed) in &LAYOUTS {
         expect(&rt, script.as_bytes(), 1, printed);
     }
-    for line in LINES {
-        let script = joined(alloc, &[LAYOUT, "open\n", line, "\nopen\n"])?;
+    expect(&rt, b"#\xff\nopen\n", 1, "bad line 2\n");
+}
+
+#[test]
+fn bad_lines_end_a_script(rt: HostRuntime) -> Result<(), Fail> {
+    for line in &LINES {
+        let script = joined(rt.alloc(), &[LAYOUT, "open\n", line, "\nopen\n"])?;
         expect(&rt, script.as_bytes(), 1, "conn 0\nbad line 5\n");
     }
-    let commented = joined(alloc, &[LAYOUT, "\n# a comment\nopen\n"])?;
+    Ok(())
+}
+
+#[test]
+fn comments_and_ends(rt: HostRuntime) -> Result<(), Fail> {
+    let commented = joined(rt.alloc(), &[LAYOUT, "\n# a comment\nopen\n"])?;
     expect(&rt, commented.as_bytes(), 0, "conn 0\n");
-    let not_ended = joined(alloc, &[LAYOUT, "open\nopen"])?;
+    let not_ended = joined(rt.alloc(), &[LAYOUT, "open\nopen"])?;
     expect(&rt, not_ended.as_bytes(), 1, "conn 0\nbad line 5\n");
-    expect(&rt, b"#\xff\nopen\n", 1, "bad line 2\n");
     Ok(())
 }

@@ -1,5 +1,6 @@
 //! Lists of events, given to an engine.
 
+use crate::events::{holds, same};
 use crate::texts::{NULL, NULL_REPLY};
 use affinity_tree::{AggregateSpec, Layout, VolumeSpec};
 use engine::{Engine, Event, Worker};
@@ -22,14 +23,17 @@ fn lists_of_events_are_played(rt: HostRuntime) -> Result<(), Fail> {
         bytes: &call,
     };
     let mut engine = Engine::play(alloc, layout, [0; 8], 2, &[Event::Open, fed])?;
-    assert_eq!(rt; engine.output(0), reply.as_slice());
-    assert_eq!(rt; engine.stream(0), call.as_slice());
-    assert_eq!(rt; engine.finished().len(), 1);
-    assert!(rt; matches!(engine.running(), [Worker::Idle, Worker::Idle]));
-    assert_eq!(rt;
-        engine.run(&[Event::Open, fed, Event::Work { worker: 0 }]),
-        1
+    same(&rt, engine.output(0), &reply);
+    same(&rt, engine.stream(0), &call);
+    holds(&rt, engine.finished().len() == 1);
+    holds(
+        &rt,
+        matches!(engine.running(), [Worker::Idle, Worker::Idle]),
     );
-    assert_eq!(rt; engine.finished().len(), 2);
+    holds(
+        &rt,
+        engine.run(&[Event::Open, fed, Event::Work { worker: 0 }]) == 1,
+    );
+    holds(&rt, engine.finished().len() == 2);
     Ok(())
 }
