@@ -3,6 +3,9 @@ mod Runs
 mod Workers
 mod Begins
 mod Ends
+mod Ended
+mod Changed
+mod Finishes
 mod Placed
 mod Reconnected
 mod Closing
