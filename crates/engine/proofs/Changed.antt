@@ -1,16 +1,15 @@
 -- A state of which one worker runs another thing: what stays sound of it.
-use Rattle.std.proofs.Common.{◌≡◌, ℕ, ◌+◌, ◌≤◌, List, Some, sym, ap, ◌∙◌, subst, arith}
+use Rattle.std.proofs.Common.{◌≡◌, ℕ, ◌+◌, ◌≤◌, List, Some, sym, ap, ◌∙◌, subst}
 use Rattle.std.specs.Prelude.{length, slice_get, slice_set}
 use Rattle.std.specs.List.{AllByRecursion}
 use Rattle.std.proofs.lemmas.List.{length-set}
 use Rattle.nfs_values.specs.declared.call.Call.{Call}
-use Rattle.depot_rule.specs.Sums.{total}
 use Rattle.scheduler.specs.declared.message.Message.{Message}
+use Rattle.depot_rule.specs.Sums.{total}
 use Rattle.engine_feed.specs.Seen.{layout_in, messages_of}
-use Rattle.engine_feed.specs.Streams.{codec}
 use Rattle.engine.specs.declared.worker.Worker.{Worker}
 use Rattle.engine.specs.declared.state.State.{State}
-use Rattle.engine.specs.Seen.{setup_in}
+use Rattle.engine.specs.Seen.{setup_in, setup_of}
 use Rattle.engine.specs.Sound.{IsPlaced, IsReady, IsSound, messages_in, running_messages}
 use Rattle.engine.proofs.Lists.{all-set}
 use Rattle.engine.proofs.Workers.{count-changed, messages-changed}
@@ -29,13 +28,7 @@ module _ {s new : State} {i : ℕ} {k x : Worker} (h : IsChanged s new i k x) wh
 
   -- what is fixed for a run stays
   pub same_setup : setup_in new ≡ setup_in s
-  same_setup = λ j. record {
-    codec = codec;
-    layout = h.layout j;
-    verifier = (h.verifier j).0;
-    workers = as_many j;
-    connections = 64;
-  }
+  same_setup = λ j. setup_of (h.layout j) (h.verifier j).0 (as_many j)
 
   -- how many run
   pub run_count : length (running_messages new.workers.items) + length (messages_in k) ≡ length (running_messages s.workers.items) + length (messages_in x)
@@ -43,7 +36,8 @@ module _ {s new : State} {i : ℕ} {k x : Worker} (h : IsChanged s new i k x) wh
 
   -- what runs, weighed
   pub run_weight : (weigh : Message Call → ℕ)
-      → total weigh (running_messages new.workers.items) + total weigh (messages_in k) ≡ total weigh (running_messages s.workers.items) + total weigh (messages_in x)
+      → total weigh (running_messages new.workers.items) + total weigh (messages_in k)
+      ≡ total weigh (running_messages s.workers.items) + total weigh (messages_in x)
   run_weight weigh =
       ap (λ (ks : List Worker). total weigh (running_messages ks) + total weigh (messages_in k)) h.set
       ∙ messages-changed weigh s.workers.items i k x h.there

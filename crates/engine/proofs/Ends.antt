@@ -1,64 +1,44 @@
 -- A message that was worked: what it was lent, and what it came to.
-use Rattle.std.proofs.Common.{◌≡◌, ◌≢◌, ℕ, zero, suc, ◌+◌, ◌<◌, ◌≤◌, Bool, true, false, List, [], ◌∷◌, ◌++◌, map, length, Option, Some, None, refl, sym, ap, ◌∙◌, subst, arith}
-use Rattle.std.proofs.Common.{inl, inr, ◌⊎◌, ⊎_elim}
-use Rattle.std.specs.Prelude.{is_none, if◌then◌else◌}
-use native.Mathlib.Decide.{ℕ_discrete}
-use mathlib.Core.Logic.{dite}
+use Rattle.std.proofs.Common.{◌≡◌, ℕ, ◌≤◌, Bool, true, false, length, Option, Some, None, refl, sym, ap, ◌∙◌, subst, ◌⊎◌, ⊎_elim}
+use Rattle.std.specs.Prelude.{slice_get}
 use mathlib.Core.Option.{some}
-use lib.ListN.{get_elem?}
-use Rattle.std.specs.Prelude.{slice_get, slice_set, option_map}
 use Rattle.nfs_model.specs.Types as types
 use Rattle.nfs_model.specs.World as worlds
 use Rattle.nfs_model.specs.World.{Setup, World, changed_at, finish, with_running, with_output, written_to}
 use Rattle.nfs_model.specs.Replay as replays
-use Rattle.nfs_model.specs.Tree.{Layout, Affinity}
-use Rattle.nfs_model.specs.Parts.{Parts}
-use Rattle.nfs_model.specs.Work as works
+use Rattle.nfs_model.specs.Tree.{Layout}
 use Rattle.nfs_model.specs.Server.{Server}
 use Rattle.nfs_model.specs.Replay.{step_of}
 use Rattle.nfs_model.specs.Headline.{worked_by}
-use Rattle.nfs_model.specs.Events.Refusals.{Written, is_open, open_count}
+use Rattle.nfs_model.specs.Events.Refusals.{Written, is_open}
 use Rattle.nfs_model.specs.Events.Step.{finished_call, finished_by, stamp_added, without_call, told_of, bytes_of_reply}
 use Rattle.nfs_values.specs.declared.call.Call.{Call}
 use Rattle.nfs_values.specs.declared.reply.Reply.{Reply}
 use Rattle.nfs_values.specs.declared.reply.Reply.TheVariants.{SystemError}
 use Rattle.nfs_values.specs.Reply.{reply_of}
 use Rattle.scheduler.specs.declared.message.Message.{Message}
-use Rattle.service.specs.declared.outcome.Outcome.{Outcome}
-use Rattle.service.specs.declared.outcome.Outcome.TheVariants.{Replied, Starved}
-use Rattle.service.specs.Running.{outcome_of}
-use Rattle.desk_laws.specs.Books.{Lent, HasLent, IsSame, now}
 use Rattle.held_state.specs.Contents.{filer_contents}
 use Rattle.held_state.specs.Tree.{server_of}
 use Rattle.held_state.specs.Partition.{all_parts}
-use Rattle.engine_laws.specs.lemmas.Beginning.{same-now}
-use Rattle.nfs_values.specs.Moment.{moment_of}
 use Rattle.held_state.specs.Parcels.{FilerParcel}
 use Rattle.held_state.specs.Jobs.{Job, JobReply}
+use Rattle.desk_laws.specs.Books.{Lent, HasLent, IsSame, now}
+use Rattle.engine_laws.specs.lemmas.Beginning.{same-now}
 use Rattle.engine_laws.specs.Store.{FilerBooks, IsServed, HasOutcome, RunsOn, StandsFor}
 use Rattle.engine_laws.specs.lemmas.Changing.{lent-at}
+use Rattle.service.specs.declared.outcome.Outcome.{Outcome}
+use Rattle.service.specs.declared.outcome.Outcome.TheVariants.{Replied, Starved}
+use Rattle.service.specs.Running.{outcome_of}
 use Rattle.engine_feed.specs.Codec.{reply_record}
-use Rattle.engine.specs.Sound.{MayEnd, room_on}
-use Rattle.engine.proofs.Placed.{room-own, room-other}
-use Rattle.engine.proofs.Lists.{set-here, set-elsewhere}
 use Rattle.engine_feed.specs.declared.state.CallsState.{CallsState}
 use Rattle.engine_feed.specs.declared.state.ConnectionState.{ConnectionState}
-use Rattle.engine_feed.specs.Seen.{connection_of, owed_by, message_of, waiting_of, finished_of, finished_message}
-use Rattle.engine_feed.specs.Streams.{codec}
 use Rattle.engine_feed.specs.Within.{Shows, with_calls}
-use Rattle.engine_feed.specs.Words.{FinishesUnseen, HasPutBack}
-use Rattle.engine.specs.declared.connection.Connection.{Connection}
+use Rattle.engine_feed.specs.Words.{FinishesUnseen}
+use Rattle.engine_feed.specs.lemmas.Lists.{put-same}
 use Rattle.engine.specs.declared.connection.Connection.TheVariants.{Open, Closed}
 use Rattle.engine.specs.declared.connection.ClosedConnection.{ClosedConnection}
-use Rattle.engine.specs.declared.worker.Running.{Running}
-use Rattle.engine.specs.declared.worker.Worker.{Worker}
-use Rattle.engine.specs.declared.worker.Worker.TheVariants.{Idle}
-use Rattle.engine.specs.Ending.{EndsIn, OwesLess}
-use Rattle.engine.specs.Seen.{connection_seen, worker_seen}
-use Rattle.engine_feed.specs.lemmas.Lists.{put-same}
-use Rattle.engine.proofs.Lists.{inner}
-use Rattle.engine.proofs.Workers.{seen-changed}
-use Rattle.engine.proofs.Closing.{seen-at as connection-at, seen-set as connections-set}
+use Rattle.engine.specs.Sound.{MayEnd}
+use Rattle.engine.specs.Seen.{connection_seen}
 
 -- an open connection is one
 pub same-open : (x y : ConnectionState) → Open x ≡ Open y → x ≡ y
@@ -67,7 +47,8 @@ same-open x y e = cc
 -- a message of a closed connection is finished
 pub closed-ends : (calls calls' : CallsState) (e : replays.FinishedCall) (k : ClosedConnection) → FinishesUnseen calls e calls'
     → (setup : Setup) (w : World) (reply : types.Reply) → Shows calls w → slice_get w.connections e.connection ≡ Some (connection_seen (Closed k))
-    → record (with_calls calls' w) { connections = changed_at (λ (x : worlds.Connection). connection_seen (Closed k)) w.connections e.connection } ≡ finish setup w e reply
+    → record (with_calls calls' w) { connections = changed_at (λ (x : worlds.Connection). connection_seen (Closed k)) w.connections e.connection }
+    ≡ finish setup w e reply
 closed-ends calls calls' e k unseen setup w reply shows there =
     ap (λ cs. record (with_calls calls' w) { connections = cs }) (put-same (connection_seen (Closed k)) w.connections e.connection there)
     ∙ unseen setup w reply shows (ap is_open there)

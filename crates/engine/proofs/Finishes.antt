@@ -1,6 +1,6 @@
 -- A worker that has worked its message: how it may end, and what it leaves.
 use Rattle.std.proofs.Common.{◌≡◌, ℕ, ◌+◌, ◌<◌, ◌≤◌, Bool, List, [], ◌∷◌, ◌++◌, Some, Ok, refl, sym, ap, ◌∙◌, subst, arith}
-use Rattle.std.specs.Prelude.{◌^◌, length, map, slice_get, slice_set}
+use Rattle.std.specs.Prelude.{length, map, slice_get, slice_set}
 use Rattle.std.proofs.lemmas.List.{length-append}
 use Rattle.nfs_model.specs.World as worlds
 use Rattle.nfs_model.specs.World.{finish}
@@ -14,16 +14,20 @@ use Rattle.nfs_values.specs.Moment.{moment_of}
 use Rattle.nfs_values.specs.Reply.{reply_of}
 use Rattle.affinity_tree.specs.declared.affinity.Affinity as codes
 use Rattle.affinity_tree.specs.Affinity.{affinity_of}
+use Rattle.scheduler.specs.declared.message.Message.{Message}
 use Rattle.depot_rule.specs.Sums.{total}
 use Rattle.depot_rule.specs.lemmas.Sums.{total-append}
-use Rattle.scheduler.specs.declared.message.Message.{Message}
-use Rattle.parcels.specs.declared.files.Files.{Files}
 use Rattle.held_state.specs.Parcels.{FilerParcel}
 use Rattle.held_state.specs.Contents.{filer_contents}
 use Rattle.held_state.specs.Tree.{server_of}
 use Rattle.held_state.specs.Partition.{all_parts}
+use Rattle.parcels.specs.declared.files.Files.{Files}
 use Rattle.desk_laws.specs.Books.{Lent, HasLent, now, stamps}
 use Rattle.desk_laws.specs.Calls.{MayPutBack, MayFinish, HasPutBack, HasFinished}
+use Rattle.engine_laws.specs.Store.{FilerBooks, HasOutcome, StandsFor}
+use Rattle.engine_laws.specs.lemmas.Finishing.{run-on, moved-unchanged, may-finish, back-stands, finished-stands}
+use Rattle.engine_laws.specs.lemmas.Feeding.{all-append}
+use Rattle.engine_laws.specs.lemmas.Happening.{book-apart, finish-happens}
 use Rattle.desk.specs.Words.{books, machine_in, IsKept}
 use Rattle.service.specs.Jobs.{job_of, job_reply_of}
 use Rattle.service.specs.Running.{outcome_of}
@@ -31,16 +35,11 @@ use Rattle.service.specs.declared.job.Job.{Job}
 use Rattle.service.specs.declared.job.JobReply.{JobReply}
 use Rattle.service.specs.declared.outcome.Outcome.{Outcome}
 use Rattle.service.specs.declared.outcome.Outcome.TheVariants.{Moved}
-use Rattle.engine_laws.specs.Store.{FilerBooks, HasOutcome, StandsFor}
-use Rattle.engine_laws.specs.lemmas.Finishing.{run-on, moved-unchanged, may-finish, back-stands, finished-stands}
-use Rattle.engine_laws.specs.lemmas.Feeding.{all-append}
-use Rattle.engine_laws.specs.lemmas.Happening.{book-apart, finish-happens}
 use Rattle.engine_feed.specs.Codec.{reply_record}
 use Rattle.engine_feed.specs.Seen.{layout_in, messages_of, running_count, finished_message}
 use Rattle.engine_feed.specs.Sound.{IsAdmitted}
 use Rattle.engine_feed.specs.Words as calls
 use Rattle.engine.specs.declared.connection.Connection.{Connection}
-use Rattle.engine.specs.declared.connection.Connection.TheVariants.{Open}
 use Rattle.engine.specs.declared.event.Done.TheVariants as dones
 use Rattle.engine.specs.declared.worker.Running.{Running}
 use Rattle.engine.specs.declared.worker.Worker.{Worker}
@@ -138,8 +137,9 @@ module _ (s : State) (sound : IsSound s) (i : ℕ) (r : Running) (o : Outcome) (
       )
 
       back_stand : StandsFor job_of job_reply_of (setup_in s) (world new) (held new)
-      back_stand = back-stands job_of job_reply_of (setup_in s) (world s) (held s) sound.stands i (worker_seen (Worked r o)) seen (came r o) refl (outcome_of o) refl
-          (held new) back (book-apart _ (held new) _ kept) (world new) (server-kept (held s) (held new) back_layout back.same) (parts-kept (held s) (held new) back_layout back.same) waits.finished back_stamps
+      back_stand = back-stands job_of job_reply_of (setup_in s) (world s) (held s) sound.stands i (worker_seen (Worked r o)) seen (came r o) refl
+          (outcome_of o) refl (held new) back (book-apart _ (held new) _ kept) (world new) (server-kept (held s) (held new) back_layout back.same)
+          (parts-kept (held s) (held new) back_layout back.same) waits.finished back_stamps
           (ap (λ (ks : List Worker). map worker_seen ks) h.set ∙ seen-changed s.workers.items i Idle)
 
       pub back_sound : IsSound new
@@ -214,9 +214,10 @@ module _ (s : State) (sound : IsSound s) (i : ℕ) (r : Running) (o : Outcome) (
       )
 
       ended_stand : StandsFor job_of job_reply_of (setup_in s) (world new) (held new)
-      ended_stand = finished-stands job_of job_reply_of (setup_in s) (world s) (held s) sound.stands i (worker_seen (Worked r o)) seen (came r o) refl (outcome_of o) refl
-          starved (reply_of reply) (job_made r starved) (answer_made reply) refl refl (held new) done (book-apart _ (held new) _ kept) (world new)
-          (left-as (came r o) o reply starved is) (server-kept (held s) (held new) done_layout done.same) (parts-kept (held s) (held new) done_layout done.same) leaves.finished more_stamps
+      ended_stand = finished-stands job_of job_reply_of (setup_in s) (world s) (held s) sound.stands i (worker_seen (Worked r o)) seen (came r o) refl
+          (outcome_of o) refl starved (reply_of reply) (job_made r starved) (answer_made reply) refl refl (held new) done (book-apart _ (held new) _ kept) (world new)
+          (left-as (came r o) o reply starved is) (server-kept (held s) (held new) done_layout done.same)
+          (parts-kept (held s) (held new) done_layout done.same) leaves.finished more_stamps
           (ap (λ (ks : List Worker). map worker_seen ks) h.set ∙ seen-changed s.workers.items i Idle)
 
       -- the room that messages keep is less by that of the message

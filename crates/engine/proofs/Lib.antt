@@ -2,6 +2,7 @@ mod Lists
 mod Runs
 mod Workers
 mod Begins
+mod Begun
 mod Ends
 mod Ended
 mod Changed

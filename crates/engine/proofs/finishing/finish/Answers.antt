@@ -1,4 +1,4 @@
-use Rattle.std.proofs.Common.{◌≡◌, ◌<◌, ◌≤◌, ℕ, Bool, List, Some, refl, sym, ap, ◌∙◌, subst, inl, inr, arith}
+use Rattle.std.proofs.Common.{◌≡◌, ◌≤◌, ℕ, Bool, Some, refl, sym, ap, ◌∙◌, subst, inl, inr, arith}
 use Rattle.std.specs.Prelude.{length, slice_get}
 use Rattle.std.specs.Global.{Vec}
 use Rattle.std.specs.Vec.{with_item}
@@ -19,13 +19,14 @@ use Rattle.engine.specs.declared.worker.Worker.{Worker}
 use Rattle.engine.specs.declared.worker.Worker.TheVariants.{Idle, Worked}
 use Rattle.engine.specs.declared.state.State.{State}
 use Rattle.engine.specs.Ending.{EndsIn, OwesLess}
-use Rattle.engine.specs.Sound.{IsSound, room_on}
+use Rattle.engine.specs.Sound.{room_on}
 use Rattle.engine.proofs.Workers.{messages-changed}
 use Rattle.engine.proofs.Placed.{room-own}
 use Rattle.engine.proofs.Closing.{found}
 use Rattle.engine.proofs.Changed.{IsChanged}
 use Rattle.engine.proofs.Ends.{ToldAs}
-use Rattle.engine.proofs.Finishes.{ready, some_run, may_go_back, again_admitted, back_events, back_sound, may_be_entered, reply_fits, ended_events, ended_sound}
+use Rattle.engine.proofs.Finishes.{ready, some_run, may_go_back, again_admitted, back_events, back_sound, may_be_entered, reply_fits, ended_events}
+use Rattle.engine.proofs.Finishes.{ended_sound}
 use Rattle.engine.proofs.finishing.finish.Goals as goal
 use Rattle.engine.proofs.finishing.finish.Goals.{in-Replied, in-Starved}
 
