@@ -215,8 +215,8 @@ module _ (s : State) (sound : IsSound s) (i : ℕ) (r : Running) (o : Outcome) (
 
       ended_stand : StandsFor job_of job_reply_of (setup_in s) (world new) (held new)
       ended_stand = finished-stands job_of job_reply_of (setup_in s) (world s) (held s) sound.stands i (worker_seen (Worked r o)) seen (came r o) refl
-          (outcome_of o) refl starved (reply_of reply) (job_made r starved) (answer_made reply) refl refl (held new) done (book-apart _ (held new) _ kept) (world new)
-          (left-as (came r o) o reply starved is) (server-kept (held s) (held new) done_layout done.same)
+          (outcome_of o) refl starved (reply_of reply) (job_made r starved) (answer_made reply) refl refl (held new) done (book-apart _ (held new) _ kept)
+          (world new) (left-as (came r o) o reply starved is) (server-kept (held s) (held new) done_layout done.same)
           (parts-kept (held s) (held new) done_layout done.same) leaves.finished more_stamps
           (ap (λ (ks : List Worker). map worker_seen ks) h.set ∙ seen-changed s.workers.items i Idle)
 
