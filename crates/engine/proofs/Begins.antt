@@ -1,46 +1,42 @@
 -- A message begins: the world and what holds beside it, by the parts of a state that change.
-use Rattle.std.proofs.Common.{◌≡◌, ◌≢◌, ℕ, zero, suc, ◌+◌, ◌<◌, ◌≤◌, ◌^◌, Bool, true, false, List, [], ◌∷◌, ◌++◌, map, length, Option, Some, None, refl, sym, ap, ◌∙◌, subst, arith}
-use Rattle.std.specs.Prelude.{slice_get, slice_set, option_map, nat_le}
-use Rattle.std.specs.List.{AllByRecursion, remove}
-use Rattle.std.specs.Prelude.{get_or}
+use Rattle.std.proofs.Common.{◌≡◌, ℕ, ◌<◌, ◌≤◌, true, false, List, [], ◌∷◌, map, length, Option, Some, None, refl, sym, ap, ◌∙◌, subst, arith}
+use Rattle.std.specs.Prelude.{slice_get, slice_set, option_map}
 use Rattle.std.proofs.lemmas.Bool.{le-leb, lt-leb}
-use Rattle.std.proofs.lemmas.Option.{slice_get-map, slice_get_read}
+use Rattle.std.proofs.lemmas.Option.{slice_get-map}
 use mathlib.Core.Option.{some}
-use lib.ListN.{get_elem?}
 use Rattle.nfs_model.specs.World as worlds
 use Rattle.nfs_model.specs.Server.{Server}
 use Rattle.nfs_model.specs.Parts.{Parts}
 use Rattle.nfs_model.specs.World.{Setup, World, changed_at, with_running}
 use Rattle.nfs_model.specs.Events.Step.{begun}
-use Rattle.nfs_values.specs.Moment.{moment_of}
-use Rattle.affinity_tree.specs.declared.affinity.Affinity as codes
 use Rattle.nfs_model.specs.Types.{Moment}
 use Rattle.nfs_model.specs.Events.Refusals.{Begin, is_idle, is_bad_moment, refusal}
+use Rattle.nfs_model.specs.Tree.{Affinity}
+use Rattle.nfs_values.specs.Moment.{moment_of}
 use Rattle.nfs_values.specs.declared.call.Call.{Call}
-use Rattle.depot_rule.specs.Sums.{total}
+use Rattle.affinity_tree.specs.declared.affinity.Affinity as codes
 use Rattle.scheduler.specs.declared.message.Message.{Message}
-use Rattle.desk_laws.specs.Books.{Lent, IsIdle, now, stamps}
-use Rattle.desk_laws.specs.Calls as desks
 use Rattle.held_state.specs.Contents.{filer_contents}
 use Rattle.held_state.specs.Tree.{server_of}
 use Rattle.held_state.specs.Partition.{all_parts}
 use Rattle.held_state.specs.Parcels.{FilerParcel}
 use Rattle.held_state.specs.Jobs.{Job, JobReply}
+use Rattle.desk_laws.specs.Books.{Lent, IsIdle, now, stamps}
+use Rattle.desk_laws.specs.Calls as desks
 use Rattle.engine_laws.specs.Store.{FilerBooks, RunsOn, StandsFor}
-use Rattle.nfs_model.specs.Tree.{Affinity}
 use Rattle.engine_laws.specs.lemmas.Beginning.{same-now}
 use Rattle.engine_laws.specs.lemmas.Changing.{lent-at}
 use Rattle.engine_feed.specs.declared.state.CallsState.{CallsState}
-use Rattle.engine_feed.specs.Seen.{message_of, messages_of, waiting_of, finished_of, layout_in}
-use Rattle.engine_feed.specs.Streams.{codec}
-use Rattle.engine.specs.declared.state.State.{State}
+use Rattle.engine_feed.specs.Seen.{message_of, messages_of, waiting_of}
 use Rattle.engine_feed.specs.Within.{Shows}
 use Rattle.engine_feed.specs.Words.{HasBegun}
 use Rattle.engine.specs.declared.worker.Running.{Running}
 use Rattle.engine.specs.declared.worker.Worker.{Worker}
 use Rattle.engine.specs.declared.worker.Worker.TheVariants.{Idle, Begun, Worked}
+use Rattle.engine.specs.declared.connection.Connection.{Connection}
 use Rattle.engine.specs.Sound.{running_messages}
-use Rattle.engine.specs.Seen.{worker_seen, setup_in}
+use Rattle.engine.specs.Seen.{connection_seen, worker_seen}
+use Rattle.engine.proofs.Ended.{world_after}
 use Rattle.engine.proofs.Lists.{inner}
 use Rattle.engine.proofs.Workers.{seen-changed}
 
@@ -81,15 +77,16 @@ with_store w server parts stamps = record w { server = server; parts = parts; st
 
 -- the world in which a message was begun
 pub begun-world : (w : World) (calls calls' : CallsState) (place : ℕ) (m : Message Call) (h : HasBegun calls place m calls') → Shows calls w
-    → (ks : List Worker) (i : ℕ) (r : Running) → r.message ≡ m → w.workers ≡ map worker_seen ks
+    → (cs : List Connection) → map connection_seen cs ≡ w.connections
+    → (ks new : List Worker) (i : ℕ) (r : Running) → r.message ≡ m → w.workers ≡ map worker_seen ks → new ≡ slice_set ks i (Begun r)
     → (server : Server) (parts : List Parts) (stamps : ℕ) → server ≡ w.server → parts ≡ w.parts → stamps ≡ w.stamps
-    → record w { waiting = waiting_of calls'; workers = map worker_seen (slice_set ks i (Begun r)); finished = finished_of calls'; server = server; parts = parts; stamps = stamps }
-    ≡ begun w i place (message_of m) (moment_of r.moment)
-begun-world w calls calls' place m h shows ks i r is workers server parts stamps same_server same_parts same_stamps =
+    → world_after w calls' new cs server parts stamps ≡ begun w i place (message_of m) (moment_of r.moment)
+begun-world w calls calls' place m h shows cs conns ks new i r is workers set server parts stamps same_server same_parts same_stamps =
     let at = h.begins w shows in
     λ j. record w {
+      connections = conns j;
       waiting = (ap (λ (x : World). x.waiting) at.1) j;
-      workers = (seen-changed ks i (Begun r)
+      workers = (ap (λ xs. map worker_seen xs) set ∙ seen-changed ks i (Begun r)
           ∙ (λ k. changed_at (with_running (Some (record { message = message_of (is k); moment = moment_of r.moment; outcome = None }))) (sym workers k) i)) j;
       finished = (ap (λ (x : World). x.finished) at.1) j;
       server = same_server j;
@@ -130,14 +127,3 @@ few-run [] = omega arith
 few-run (Idle ∷ ks) = let others = few-run ks in omega arith
 few-run (Begun r ∷ ks) = let others = few-run ks in omega arith
 few-run (Worked r outcome ∷ ks) = let others = few-run ks in omega arith
-
--- what is fixed for a run stays
-pub setup-kept : (s new : State) → new.verifier ≡ s.verifier → layout_in new.calls ≡ layout_in s.calls → length new.workers.items ≡ length s.workers.items
-    → setup_in new ≡ setup_in s
-setup-kept s new verifier layout workers = λ j. record {
-  codec = codec;
-  layout = layout j;
-  verifier = (verifier j).0;
-  workers = workers j;
-  connections = 64;
-}

@@ -2,7 +2,11 @@ mod Lists
 mod Runs
 mod Workers
 mod Begins
+mod Begun
 mod Ends
+mod Ended
+mod Changed
+mod Finishes
 mod Placed
 mod Reconnected
 mod Closing

@@ -1,6 +1,6 @@
 -- An engine at the start.
-use Rattle.std.proofs.Common.{◌≡◌, ℕ, zero, suc, ◌+◌, ◌≤◌, List, [], ◌∷◌, length, map, replicate, Option, Some, None, refl, sym, ap, ◌∙◌}
-use Rattle.std.proofs.Common.{subst, arith}
+use Rattle.std.proofs.Common.{◌≡◌, ℕ, zero, suc, ◌+◌, ◌≤◌, List, [], ◌∷◌, length, map, replicate, Option, Some, None, refl, sym, ap, ◌∙◌, subst}
+use Rattle.std.proofs.Common.{arith}
 use Rattle.std.specs.Prelude.{◌^◌, slice_get}
 use Rattle.std.specs.List.{AllByRecursion}
 use Rattle.std.proofs.lemmas.List.{length-replicate}
@@ -10,21 +10,21 @@ use Rattle.nfs_model.specs.World.{Setup, World, Worker, Connection, Message}
 use Rattle.nfs_model.specs.Replay.{FinishedCall}
 use Rattle.nfs_model.specs.Events.Refusals.{open_count}
 use Rattle.nfs_model.specs.Headline.{opening_world}
+use Rattle.nfs_values.specs.declared.call.Call.{Call}
 use Rattle.affinity_tree.specs.Fault.{fault_of}
-use Rattle.desk_laws.specs.Books.{now, stamps, opening_books}
+use Rattle.scheduler.specs.declared.message.Message as scheduled
 use Rattle.held_state.specs.Parcels.{FilerParcel}
 use Rattle.held_state.specs.Contents.{filer_contents}
 use Rattle.held_state.specs.Tree.{server_of}
 use Rattle.held_state.specs.Partition.{all_parts}
 use Rattle.held_state.specs.Opening.{AreOpening}
 use Rattle.held_laws.specs.Laws.{OpensSound, OpensAsServer, OpensFree}
+use Rattle.desk_laws.specs.Books.{now, stamps, opening_books}
+use Rattle.engine_laws.specs.Store.{FilerBooks, StandsFor}
+use Rattle.engine_laws.specs.lemmas.Opening.{opening-stands}
 use Rattle.service.specs.declared.job.Job.{Job}
 use Rattle.service.specs.declared.job.JobReply.{JobReply}
 use Rattle.service.specs.Jobs.{job_of, job_reply_of}
-use Rattle.scheduler.specs.declared.message.Message as scheduled
-use Rattle.nfs_values.specs.declared.call.Call.{Call}
-use Rattle.engine_laws.specs.Store.{FilerBooks, StandsFor}
-use Rattle.engine_laws.specs.lemmas.Opening.{opening-stands}
 use Rattle.engine_feed.specs.declared.state.CallsState.{CallsState}
 use Rattle.engine_feed.specs.Seen.{layout_in, messages_of, message_of, waiting_of, finished_of, running_count}
 use Rattle.engine_feed.specs.Streams.{codec}

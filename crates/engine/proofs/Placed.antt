@@ -1,11 +1,11 @@
 -- Where messages are placed, and the room that they keep on connections.
-use Rattle.std.proofs.Common.{◌≡◌, ◌≢◌, ◌≤◌, ℕ, ◌+◌, List, [], ◌∷◌, ◌++◌, refl, arith}
+use Rattle.std.proofs.Common.{◌≡◌, ◌≢◌, ◌≤◌, ℕ, ◌+◌, List, [], ◌∷◌, refl, arith}
 use Rattle.std.proofs.lemmas.Bool.Decides.{nat_tests}
 use Rattle.std.specs.List.{AllByRecursion}
 use Rattle.nfs_model.specs.Tree.{Layout}
 use Rattle.nfs_values.specs.declared.call.Call.{Call}
-use Rattle.depot_rule.specs.Sums.{total}
 use Rattle.scheduler.specs.declared.message.Message.{Message}
+use Rattle.depot_rule.specs.Sums.{total}
 use Rattle.engine_laws.specs.lemmas.Feeding.{all-append}
 use Rattle.engine.specs.declared.worker.Worker.{Worker}
 use Rattle.engine.specs.declared.worker.Worker.TheVariants.{Idle, Begun, Worked}

@@ -1,6 +1,6 @@
 -- Bytes that come on a connection: the world, the messages and the rooms after it.
-use Rattle.std.proofs.Common.{◌≡◌, ◌≢◌, ◌<◌, ◌≤◌, ℕ, zero, suc, ◌+◌, ◌^◌, inl, inr, Bool, true, List, [], ◌∷◌, ◌++◌, map, length}
-use Rattle.std.proofs.Common.{Option, Some, None, refl, sym, ap, subst, ◌∙◌, arith}
+use Rattle.std.proofs.Common.{◌≡◌, ◌≢◌, ◌<◌, ◌≤◌, ℕ, zero, suc, ◌+◌, ◌^◌, inl, inr, Bool, true, List, [], ◌∷◌, ◌++◌, map, length, Option, Some, None}
+use Rattle.std.proofs.Common.{refl, sym, ap, subst, ◌∙◌, arith}
 use Rattle.std.specs.Prelude.{is_none, slice_get, slice_set, if◌then◌else◌}
 use Rattle.std.specs.List.{AllByRecursion}
 use Rattle.std.proofs.lemmas.Bool.{cases_eq}
@@ -16,17 +16,19 @@ use Rattle.nfs_values.specs.declared.call.Call.{Call}
 use Rattle.nfs_values.specs.declared.call.Call.TheVariants as calls
 use Rattle.nfs_values.specs.Call.{call_of}
 use Rattle.affinity_tree.specs.Affinity.{affinity_of}
+use Rattle.scheduler.specs.declared.message.Message.{Message}
 use Rattle.depot_rule.specs.Sums.{total}
 use Rattle.depot_rule.specs.lemmas.Sums.{total-append}
-use Rattle.scheduler.specs.declared.message.Message.{Message}
-use Rattle.desk_laws.specs.Books.{now, stamps}
-use Rattle.desk.specs.Words.{books}
 use Rattle.held_state.specs.Contents.{filer_contents}
 use Rattle.held_state.specs.Tree.{volume_of}
 use Rattle.held_laws.specs.lemmas.Steps.{laid-out}
+use Rattle.desk_laws.specs.Books.{now, stamps}
+use Rattle.engine_laws.specs.Store.{StandsFor}
+use Rattle.engine_laws.specs.lemmas.Feeding.{WithoutHomeStays, all-append, fed-stands, feed-adds}
+use Rattle.desk.specs.Words.{books}
 use Rattle.service.specs.Jobs.{job_of, job_reply_of}
-use Rattle.rpc_msg.specs.Offered.{IsOffered}
 use Rattle.service.specs.Running.{IsRunAt}
+use Rattle.rpc_msg.specs.Offered.{IsOffered}
 use Rattle.engine_feed.specs.declared.stop.Stop.{Stop}
 use Rattle.engine_feed.specs.declared.state.ConnectionState.{ConnectionState}
 use Rattle.engine_feed.specs.declared.state.CallsState.{CallsState}
@@ -35,16 +37,13 @@ use Rattle.engine_feed.specs.Seen.{connection_of, owed_by, layout_in, messages_o
 use Rattle.engine_feed.specs.Sound.{IsAdmitted}
 use Rattle.engine_feed.specs.Within.{IsPartOf, with_part}
 use Rattle.engine_feed.specs.Words.{TakesInput, IsOwn, rooms}
-use Rattle.engine_laws.specs.Store.{StandsFor}
-use Rattle.engine_laws.specs.lemmas.Feeding.{WithoutHomeStays, all-append, fed-stands, feed-adds}
 use Rattle.engine.specs.declared.connection.Connection.{Connection}
 use Rattle.engine.specs.declared.connection.Connection.TheVariants.{Open}
 use Rattle.engine.specs.declared.state.State.{State}
 use Rattle.engine.specs.declared.worker.Worker.{Worker}
-use Rattle.engine.specs.declared.worker.Worker.TheVariants.{Idle, Begun, Worked}
 use Rattle.engine.specs.Receiving.{takes_bytes, IsFed}
-use Rattle.engine.specs.Seen.{connection_seen, worker_seen, setup_in, world}
-use Rattle.engine.specs.Sound.{IsSound, IsPlaced, IsReady, running_messages, room_on}
+use Rattle.engine.specs.Seen.{connection_seen, setup_in, world}
+use Rattle.engine.specs.Sound.{IsSound, IsPlaced, IsReady, room_on}
 use Rattle.engine.proofs.Lists.{all-after, all-later, set-here, set-elsewhere}
 use Rattle.engine.proofs.Placed.{kept_on, room-own, room-other}
 use Rattle.engine.proofs.Workers.{count-running}

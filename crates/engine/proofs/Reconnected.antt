@@ -8,11 +8,11 @@ use Rattle.nfs_model.specs.Events.Refusals.{open_count}
 use Rattle.nfs_model.specs.Events.Step.{new_connection}
 use Rattle.nfs_values.specs.declared.call.Call.{Call}
 use Rattle.scheduler.specs.declared.message.Message.{Message}
-use Rattle.service.specs.Jobs.{job_of, job_reply_of}
+use Rattle.engine_laws.specs.lemmas.Feeding.{stands-alike}
 use Rattle.desk.specs.Words.{books}
+use Rattle.service.specs.Jobs.{job_of, job_reply_of}
 use Rattle.engine_feed.specs.declared.state.ConnectionState.{ConnectionState}
 use Rattle.engine_feed.specs.Seen.{connection_of, owed_by, layout_in, messages_of}
-use Rattle.engine_laws.specs.lemmas.Feeding.{stands-alike}
 use Rattle.engine.specs.declared.connection.Connection.{Connection}
 use Rattle.engine.specs.declared.connection.Connection.TheVariants.{Open}
 use Rattle.engine.specs.declared.state.State.{State}

@@ -1,17 +1,17 @@
 -- Runs of events, and what they keep.
 use Rattle.std.proofs.Common.{◌≡◌, ℕ, ◌+◌, List, [], ◌∷◌, ◌++◌, length, take, map, get_or, true, false, ◌<◌, Result, Ok, Err, refl, sym, subst, arith}
+use Rattle.std.specs.Result.{is_err}
+use Rattle.std.proofs.lemmas.List.{map_more}
 use Rattle.nfs_model.specs.World.{Setup, World}
 use Rattle.nfs_model.specs.Events.Refusals.{Event, Done}
 use Rattle.nfs_model.specs.Events.Step.{Events, Runs}
 use Rattle.nfs_model.specs.Headline.{opening_world}
-use Rattle.engine.specs.Engine.{one_if_refused, RunsRefusing}
 use Rattle.engine.specs.declared.event.Event as happened
 use Rattle.engine.specs.declared.event.Done as dones
 use Rattle.engine.specs.declared.event.Refusal as refusals
+use Rattle.engine.specs.Engine.{one_if_refused, RunsRefusing}
 use Rattle.engine.specs.Seen.{event_of, answer_of}
 use Rattle.engine.specs.Shown.{Shown, setup_in}
-use Rattle.std.specs.Result.{is_err}
-use Rattle.std.proofs.lemmas.List.{map_more}
 
 pub runs-on : (setup : Setup) (old : World) (events : List Event) (refused : ℕ) (middle : World) (event : Event) (answer : Result Done ℕ) (new : World)
     → RunsRefusing setup old events refused middle → Events setup middle event answer new

@@ -1,9 +1,7 @@
 -- A message that is worked: what it runs on, what it comes to, and the workers after it.
-use Rattle.std.proofs.Common.{◌≡◌, ℕ, zero, suc, ◌+◌, ◌<◌, ◌≤◌, Bool, true, false, List, [], ◌∷◌, ◌++◌, length, get_or, map, Option, Some, None}
-use Rattle.std.proofs.Common.{refl, sym, ap, ◌∙◌, subst, arith}
-use Rattle.std.specs.Prelude.{◌^◌, ◌==◌, slice_get, slice_set, option_map}
-use Rattle.std.specs.List.{AllByRecursion}
-use Rattle.std.proofs.lemmas.Option.{slice_get-map, slice_get_read}
+use Rattle.std.proofs.Common.{◌≡◌, ℕ, zero, suc, ◌+◌, ◌<◌, ◌≤◌, Bool, true, false, List, [], ◌∷◌, ◌++◌, length, map, Option, Some, None, refl, sym}
+use Rattle.std.proofs.Common.{ap, ◌∙◌, subst, arith}
+use Rattle.std.specs.Prelude.{◌^◌, slice_get, slice_set}
 use mathlib.Core.Option.{some, some-injective}
 use Rattle.nfs_model.specs.Types as types
 use Rattle.nfs_model.specs.Types.{Moment, Asked, Ask, Credential}
@@ -23,9 +21,8 @@ use Rattle.nfs_values.specs.Call.{call_of}
 use Rattle.nfs_values.specs.Credential.{credential_of}
 use Rattle.nfs_values.specs.Reply.{reply_of}
 use Rattle.affinity_tree.specs.Affinity.{affinity_of}
+use Rattle.scheduler.specs.declared.message.Message.{Message}
 use Rattle.depot_rule.specs.Shares.{too_many}
-use Rattle.desk_laws.specs.Books.{Lent, settled, now, stamps, HasLent, IsUnchanged}
-use Rattle.desk_laws.specs.Calls.{MayWork, HasWorked}
 use Rattle.held_state.specs.Parcels.{FilerParcel}
 use Rattle.held_state.specs.Contents.{filer_contents}
 use Rattle.held_state.specs.Tree.{server_of}
@@ -33,19 +30,20 @@ use Rattle.held_state.specs.Partition.{all_parts}
 use Rattle.held_state.specs.Deeds.{stored_all}
 use Rattle.held_state.specs.Running.{HasFiler, Runs}
 use Rattle.held_state.specs.Jobs as jobs
-use Rattle.rpc_msg.specs.Room.{IsRoomy, reply_room}
-use Rattle.rpc_msg.specs.Replies as replies
-use Rattle.scheduler.specs.declared.message.Message.{Message}
-use Rattle.service.specs.declared.job.Job.{Job}
-use Rattle.service.specs.declared.job.JobReply.{JobReply}
-use Rattle.service.specs.declared.outcome.Outcome.{Outcome}
-use Rattle.service.specs.declared.outcome.Outcome.TheVariants.{Replied, Starved, Moved}
-use Rattle.service.specs.Running.{outcome_of, IsRunAt, MovesOn, AsksFor, HasRun}
+use Rattle.desk_laws.specs.Books.{Lent, settled, now, stamps, HasLent, IsUnchanged}
+use Rattle.desk_laws.specs.Calls.{MayWork, HasWorked}
 use Rattle.engine_laws.specs.Store.{FilerBooks, HasOutcome, RunsOn, StandsFor, batches_carried}
 use Rattle.engine_laws.specs.Serving.{Serving}
 use Rattle.engine_laws.specs.lemmas.Served.{covered-node}
 use Rattle.engine_laws.specs.lemmas.Agreeing.{sound-settled}
 use Rattle.engine_laws.specs.lemmas.Changing.{lent-at}
+use Rattle.service.specs.declared.job.Job.{Job}
+use Rattle.service.specs.declared.job.JobReply.{JobReply}
+use Rattle.service.specs.declared.outcome.Outcome.{Outcome}
+use Rattle.service.specs.declared.outcome.Outcome.TheVariants.{Replied, Starved, Moved}
+use Rattle.service.specs.Running.{outcome_of, IsRunAt, MovesOn, AsksFor, HasRun}
+use Rattle.rpc_msg.specs.Room.{IsRoomy, reply_room}
+use Rattle.rpc_msg.specs.Replies as replies
 use Rattle.engine_feed.specs.lemmas.Codec.{reply_record_is}
 use Rattle.engine_feed.specs.Sound.{IsAdmitted}
 use Rattle.engine.specs.declared.worker.Running.{Running}

@@ -1,14 +1,13 @@
 -- What workers run, where one of them runs another thing.
-use Rattle.std.proofs.Common.{◌≡◌, ◌≢◌, ℕ, zero, suc, ◌+◌, ◌<◌, Bool, true, false, List, [], ◌∷◌, ◌++◌, map, length, Option, Some, None, refl, sym, ap, ◌∙◌, subst, arith}
+use Rattle.std.proofs.Common.{◌≡◌, ℕ, zero, suc, ◌+◌, List, [], ◌∷◌, map, length, Some, refl, ap, ◌∙◌, arith}
 use Rattle.std.specs.Prelude.{slice_get, slice_set, option_map}
 use Rattle.std.proofs.lemmas.List.{length-append}
 use Rattle.std.proofs.lemmas.Option.{slice_get-map}
-use Rattle.nfs_model.specs.World as worlds
-use Rattle.nfs_model.specs.World.{changed_at, with_running, all_running, with_held}
+use Rattle.nfs_model.specs.World.{changed_at, with_running, all_running}
 use Rattle.nfs_values.specs.declared.call.Call.{Call}
+use Rattle.scheduler.specs.declared.message.Message.{Message}
 use Rattle.depot_rule.specs.Sums.{total}
 use Rattle.depot_rule.specs.lemmas.Sums.{total-append}
-use Rattle.scheduler.specs.declared.message.Message.{Message}
 use Rattle.engine.specs.declared.worker.Worker.{Worker}
 use Rattle.engine.specs.declared.worker.Worker.TheVariants.{Idle, Begun, Worked}
 use Rattle.engine.specs.Seen.{running_seen, worker_seen}
@@ -20,7 +19,8 @@ pub seen-at : (ks : List Worker) (i : ℕ) (k : Worker) → slice_get ks i ≡ S
 seen-at ks i k there = slice_get-map worker_seen ks i ∙ ap (λ o. option_map worker_seen o) there
 
 -- a worker that runs another thing, as it is seen
-pub seen-changed : (ks : List Worker) (i : ℕ) (x : Worker) → map worker_seen (slice_set ks i x) ≡ changed_at (with_running (running_seen x)) (map worker_seen ks) i
+pub seen-changed : (ks : List Worker) (i : ℕ) (x : Worker)
+    → map worker_seen (slice_set ks i x) ≡ changed_at (with_running (running_seen x)) (map worker_seen ks) i
 seen-changed [] i x = refl
 seen-changed (k ∷ ks) zero x = refl
 seen-changed (k ∷ ks) (suc i) x = ap (λ ws. worker_seen k ∷ ws) (seen-changed ks i x)

@@ -1,5 +1,5 @@
 -- A message that ends: the entry that it makes, and what becomes of its connection.
-use Rattle.std.specs.Prelude.{◌≡◌, ◌≢◌, ℕ, ◌+◌, Bool, List, map, length, Some, None, slice_get}
+use Rattle.std.specs.Prelude.{◌≡◌, ℕ, ◌+◌, Bool, length, Some, slice_get}
 use Rattle.nfs_model.specs.Types as types
 use Rattle.nfs_model.specs.World.{Setup, World, finish, changed_at}
 use Rattle.nfs_model.specs.Events.Step.{bytes_if_open}

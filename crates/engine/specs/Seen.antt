@@ -6,7 +6,6 @@ use Rattle.nfs_model.specs.Work as tasks
 use Rattle.nfs_model.specs.World as worlds
 use Rattle.nfs_model.specs.Events.Refusals as events
 use Rattle.nfs_values.specs.Moment.{moment_of}
-use Rattle.nfs_values.specs.Reply.{reply_of}
 use Rattle.affinity_tree.specs.Affinity.{affinity_of}
 use Rattle.desk_laws.specs.Books.{now, stamps}
 use Rattle.desk.specs.Words.{books}
@@ -55,14 +54,13 @@ worker_seen k = record { running = running_seen k; hand = Empty }
 
 -- ---- the world
 
+-- what is fixed for a run of so many workers
+abbrev pub setup_of : Layout → List ℕ → ℕ → worlds.Setup
+setup_of layout verifier workers =
+    record { codec = codec; layout = layout; verifier = verifier; workers = workers; connections = 64 }
+
 abbrev pub setup_in : State → worlds.Setup
-setup_in s = record {
-  codec = codec;
-  layout = layout_in s.calls;
-  verifier = s.verifier.0;
-  workers = length s.workers.items;
-  connections = 64;
-}
+setup_in s = setup_of (layout_in s.calls) s.verifier.0 (length s.workers.items)
 
 abbrev pub world : State → worlds.World
 world s = record {
@@ -106,10 +104,3 @@ abbrev pub told_of : Outcome → Done
 told_of (outcomes.Replied reply) = dones.Replied
 told_of outcomes.Starved = dones.Starved
 told_of (outcomes.Moved affinity) = dones.Moved affinity
-
--- ---- the beginning
-
--- what is fixed for a run of so many workers
-abbrev pub setup_of : Layout → List ℕ → ℕ → worlds.Setup
-setup_of layout verifier workers =
-    record { codec = codec; layout = layout; verifier = verifier; workers = workers; connections = 64 }

@@ -3,7 +3,6 @@ use Rattle.std.specs.Prelude.{◌==◌, ◌≡◌, ℕ, ◌+◌, ◌^◌, ◌≤
 use Rattle.std.specs.List.{AllByRecursion}
 use Rattle.nfs_model.specs.Types.{SystemError}
 use Rattle.nfs_model.specs.Tree.{Layout}
-use Rattle.nfs_model.specs.World.{all_running}
 use Rattle.nfs_model.specs.Events.Refusals.{open_count}
 use Rattle.nfs_values.specs.declared.call.Call.{Call}
 use Rattle.nfs_values.specs.Reply.{reply_of}
@@ -22,7 +21,6 @@ use Rattle.engine_feed.specs.Codec.{reply_record}
 use Rattle.engine_feed.specs.Seen.{owed_by, layout_in, messages_of, running_count}
 use Rattle.engine_feed.specs.Sound.{IsAdmitted}
 use Rattle.engine.specs.declared.connection.Connection.TheVariants.{Open}
-use Rattle.engine.specs.declared.worker.Running.{Running}
 use Rattle.engine.specs.declared.worker.Worker.{Worker}
 use Rattle.engine.specs.declared.worker.Worker.TheVariants.{Idle, Begun, Worked}
 use Rattle.engine.specs.declared.state.State.{State}

@@ -1,11 +1,9 @@
-use Rattle.std.proofs.Common.{◌≡◌, refl, sym, ap, ◌∙◌, subst}
-use Rattle.std.specs.Prelude.{length, Some, slice_get, ◌+◌}
-use Rattle.nfs_model.specs.Events.Step.{bytes_if_open}
+use Rattle.std.proofs.Common.{refl, sym, ap, ◌∙◌, subst}
+use Rattle.std.specs.Prelude.{◌+◌}
 use Rattle.nfs_values.specs.Moment.{moment_of}
 use Rattle.nfs_values.specs.Reply.{reply_of}
-use Rattle.engine_feed.specs.Codec.{reply_record}
 use Rattle.engine_feed.specs.Seen.{owed_by, finished_message}
-use Rattle.engine.specs.declared.connection.Connection.TheVariants.{Open, Closed}
+use Rattle.engine.specs.declared.connection.Connection.TheVariants.{Closed}
 use Rattle.engine.specs.Ending.{EndsIn}
 use Rattle.engine.proofs.Ends.{same-open, closed-ends}
 use Rattle.engine.proofs.finishing.end_in.Goals as goal
@@ -17,9 +15,11 @@ returns-in-Open-clause-owes c =
 pub returns-in-Closed-clause-ends : goal.returns-in-Closed-clause-ends
 returns-in-Closed-clause-ends c =
     let e = finished_message c.args.running.message (moment_of c.args.running.moment) c.args.starved in
-    let all : EndsIn c.args.calls.now (Closed c.in-Closed.field-0) c.args.running (reply_of c.args.reply.now) c.args.starved 0 c.finish_unseen.new.self (Closed c.in-Closed.field-0) =
+    let all : EndsIn c.args.calls.now (Closed c.in-Closed.field-0) c.args.running (reply_of c.args.reply.now) c.args.starved 0
+        c.finish_unseen.new.self (Closed c.in-Closed.field-0) =
         λ setup w codec shows there. (
-          closed-ends c.args.calls.now c.finish_unseen.new.self e c.in-Closed.field-0 c.finish_unseen.ensures.finishes setup w (reply_of c.args.reply.now) shows there,
+          closed-ends c.args.calls.now c.finish_unseen.new.self e c.in-Closed.field-0 c.finish_unseen.ensures.finishes setup w
+              (reply_of c.args.reply.now) shows there,
           refl,
         ) in
     subst (λ p. EndsIn c.args.calls.now p c.args.running (reply_of c.args.reply.now) c.args.starved 0 c.finish_unseen.new.self p) (sym c.in-Closed.is) all

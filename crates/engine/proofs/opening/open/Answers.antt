@@ -1,15 +1,15 @@
 use Rattle.std.proofs.Common.{sym, subst}
 use Rattle.std.specs.Prelude.{length}
-use Rattle.affinity_tree.specs.Layout.{layout_of}
 use Rattle.nfs_model.specs.Tree.{Serial}
+use Rattle.affinity_tree.specs.Layout.{layout_of}
 use Rattle.parcel_sets.specs.Sets.{serial_parcels}
 use Rattle.desk.specs.Words.{books}
 use Rattle.engine_feed.specs.declared.state.CallsState.{CallsState}
 use Rattle.engine_feed.specs.Seen.{layout_in}
 use Rattle.engine_feed.specs.Words.{AreNew}
 use Rattle.engine.specs.Sound.{IsPlaced}
-use Rattle.engine.proofs.Opened.{AreOpened, seen-opens, seen-stands}
-use Rattle.engine.proofs.Opened.{same-layout, none-run, no-stamps, none-wait, none-ready, few-workers, none-open, none-there}
+use Rattle.engine.proofs.Opened.{AreOpened, seen-opens, seen-stands, same-layout, none-run, no-stamps, none-wait, none-ready, few-workers, none-open}
+use Rattle.engine.proofs.Opened.{none-there}
 use Rattle.engine.proofs.opening.open.Goals as goal
 
 are-opened : (c : goal.In_ok-idle)

@@ -10,30 +10,28 @@ use Rattle.nfs_model.specs.Events.Refusals as events
 use Rattle.nfs_model.specs.Events.Step.{Events}
 use Rattle.nfs_model.specs.Events.Step as steps
 use Rattle.nfs_values.specs.declared.call.Call.{Call}
-use Rattle.nfs_values.specs.Call.{call_of}
 use Rattle.nfs_values.specs.Credential.{credential_of}
 use Rattle.nfs_values.specs.Moment.{moment_of}
 use Rattle.affinity_tree.specs.Affinity.{affinity_of}
-use Rattle.depot_rule.specs.Sums.{total}
 use Rattle.scheduler.specs.declared.message.Message.{Message}
-use Rattle.parcels.specs.declared.files.Files.{Files}
+use Rattle.depot_rule.specs.Sums.{total}
 use Rattle.held_state.specs.Parcels.{FilerParcel}
 use Rattle.held_state.specs.Contents.{filer_contents}
 use Rattle.held_state.specs.Deeds.{stored_all}
-use Rattle.service.specs.Jobs.{job_of, job_reply_of}
-use Rattle.service.specs.Running.{outcome_of}
-use Rattle.service.specs.lemmas.Serving.{run-tried}
-use Rattle.service.specs.declared.job.Job.{Job}
-use Rattle.service.specs.declared.job.JobReply.{JobReply}
-use Rattle.service.specs.declared.outcome.Outcome.{Outcome}
-use Rattle.desk.specs.Words.{books}
+use Rattle.parcels.specs.declared.files.Files.{Files}
 use Rattle.desk_laws.specs.Books.{now, stamps}
 use Rattle.desk_laws.specs.Calls.{Does, MayWork, HasWorked}
 use Rattle.engine_laws.specs.Store.{FilerBooks, StandsFor}
 use Rattle.engine_laws.specs.Serving.{Serving}
 use Rattle.engine_laws.specs.lemmas.Working.{works, worked-stands}
 use Rattle.engine_laws.specs.lemmas.Happening.{book-apart, work-happens}
-use Rattle.service.specs.Running.{IsRunAt, MovesOn, AsksFor, HasRun}
+use Rattle.desk.specs.Words.{books}
+use Rattle.service.specs.Jobs.{job_of, job_reply_of}
+use Rattle.service.specs.Running.{outcome_of, IsRunAt, MovesOn, AsksFor, HasRun}
+use Rattle.service.specs.lemmas.Serving.{run-tried}
+use Rattle.service.specs.declared.job.Job.{Job}
+use Rattle.service.specs.declared.job.JobReply.{JobReply}
+use Rattle.service.specs.declared.outcome.Outcome.{Outcome}
 use Rattle.engine_feed.specs.Seen.{layout_in, messages_of, running_count}
 use Rattle.engine.specs.declared.worker.Running.{Running}
 use Rattle.engine.specs.declared.worker.Worker.{Worker}
@@ -42,8 +40,7 @@ use Rattle.engine.specs.Seen.{running_as, worker_seen, setup_in, world, done_of}
 use Rattle.engine.specs.Sound.{IsReady, IsPlaced, MayEnd, running_messages, room_on}
 use Rattle.engine.proofs.Lists.{looked-up, set-twice, all-at, all-set}
 use Rattle.engine.proofs.Workers.{seen-at}
-use Rattle.engine.proofs.Worked.{running-set, same-begun, few-stamps}
-use Rattle.engine.proofs.Worked.{may-work, has-worked, worked-world, world_with, told-done, roomy-now, may-end}
+use Rattle.engine.proofs.Worked.{running-set, same-begun, few-stamps, may-work, has-worked, worked-world, world_with, told-done, roomy-now, may-end}
 use Rattle.engine.proofs.working.work.Goals as goal
 
 pub work-outcome-requires-clause-may : goal.work-outcome-requires-clause-may

@@ -5,4 +5,5 @@ use Rattle.engine.proofs.engine.Engine.play.Goals as goal
 
 pub returns-clause-runs : goal.returns-clause-runs
 returns-clause-runs c =
-    plays c.in_ok-engine.engine c.run.new.self (map event_of c.args.events.now) c.run.result c.in_ok-engine.ensures.opening c.run.ensures.setup c.run.ensures.runs
+    plays c.in_ok-engine.engine c.run.new.self (map event_of c.args.events.now) c.run.result
+    c.in_ok-engine.ensures.opening c.run.ensures.setup c.run.ensures.runs

@@ -1,9 +1,9 @@
 use Rattle.std.proofs.Common.{subst, sym}
 use Rattle.nfs_model.specs.Headline.{Kept}
-use Rattle.service.specs.Jobs.{job_of, job_reply_of}
-use Rattle.desk.specs.Words.{books}
 use Rattle.engine_laws.specs.Store.{StandsFor}
 use Rattle.engine_laws.specs.lemmas.Happening.{kept-after}
+use Rattle.desk.specs.Words.{books}
+use Rattle.service.specs.Jobs.{job_of, job_reply_of}
 use Rattle.engine.specs.Seen.{setup_in, world, event_of, answer_of}
 use Rattle.engine.proofs.engine.Engine.step.Goals as goal
 

@@ -1,0 +1,62 @@
+-- A state of which one worker runs another thing: what stays sound of it.
+use Rattle.std.proofs.Common.{◌≡◌, ℕ, ◌+◌, ◌≤◌, List, Some, sym, ap, ◌∙◌, subst}
+use Rattle.std.specs.Prelude.{length, slice_get, slice_set}
+use Rattle.std.specs.List.{AllByRecursion}
+use Rattle.std.proofs.lemmas.List.{length-set}
+use Rattle.nfs_values.specs.declared.call.Call.{Call}
+use Rattle.scheduler.specs.declared.message.Message.{Message}
+use Rattle.depot_rule.specs.Sums.{total}
+use Rattle.engine_feed.specs.Seen.{layout_in, messages_of}
+use Rattle.engine.specs.declared.worker.Worker.{Worker}
+use Rattle.engine.specs.declared.state.State.{State}
+use Rattle.engine.specs.Seen.{setup_in, setup_of}
+use Rattle.engine.specs.Sound.{IsPlaced, IsReady, IsSound, messages_in, running_messages}
+use Rattle.engine.proofs.Lists.{all-set}
+use Rattle.engine.proofs.Workers.{count-changed, messages-changed}
+
+-- a worker that ran one thing runs another, with as many connections as before
+pub record IsChanged (s new : State) (i : ℕ) (k x : Worker) : Type 0 where
+  pub there : slice_get s.workers.items i ≡ Some k
+  pub set : new.workers.items ≡ slice_set s.workers.items i x
+  pub verifier : new.verifier ≡ s.verifier
+  pub layout : layout_in new.calls ≡ layout_in s.calls
+  pub many : length new.connections.items ≡ length s.connections.items
+
+module _ {s new : State} {i : ℕ} {k x : Worker} (h : IsChanged s new i k x) where
+  as_many : length new.workers.items ≡ length s.workers.items
+  as_many = ap (λ (ks : List Worker). length ks) h.set ∙ length-set s.workers.items i x
+
+  -- what is fixed for a run stays
+  pub same_setup : setup_in new ≡ setup_in s
+  same_setup = λ j. setup_of (h.layout j) (h.verifier j).0 (as_many j)
+
+  -- how many run
+  pub run_count : length (running_messages new.workers.items) + length (messages_in k) ≡ length (running_messages s.workers.items) + length (messages_in x)
+  run_count = ap (λ (ks : List Worker). length (running_messages ks) + length (messages_in k)) h.set ∙ count-changed s.workers.items i k x h.there
+
+  -- what runs, weighed
+  pub run_weight : (weigh : Message Call → ℕ)
+      → total weigh (running_messages new.workers.items) + total weigh (messages_in k)
+      ≡ total weigh (running_messages s.workers.items) + total weigh (messages_in x)
+  run_weight weigh =
+      ap (λ (ks : List Worker). total weigh (running_messages ks) + total weigh (messages_in k)) h.set
+      ∙ messages-changed weigh s.workers.items i k x h.there
+
+  module _ (sound : IsSound s) where
+    pub still_few : length new.workers.items ≤ 64
+    still_few = subst (λ n. n ≤ 64) (sym as_many) sound.few
+
+    pub all_ready : IsReady (layout_in s.calls) (length s.connections.items) x
+        → AllByRecursion (IsReady (layout_in new.calls) (length new.connections.items)) new.workers.items
+    all_ready is =
+        subst (λ (ks : List Worker). AllByRecursion (IsReady (layout_in new.calls) (length new.connections.items)) ks) (sym h.set)
+        (subst (λ n. AllByRecursion (IsReady (layout_in new.calls) n) (slice_set s.workers.items i x)) (sym h.many)
+        (subst (λ L. AllByRecursion (IsReady L (length s.connections.items)) (slice_set s.workers.items i x)) (sym h.layout)
+        (all-set (IsReady (layout_in s.calls) (length s.connections.items)) s.workers.items i x sound.workers is)))
+
+  pub all_placed : (ms : List (Message Call)) → messages_of new.calls ≡ ms → AllByRecursion (IsPlaced (layout_in s.calls) (length s.connections.items)) ms
+      → AllByRecursion (IsPlaced (layout_in new.calls) (length new.connections.items)) (messages_of new.calls)
+  all_placed ms are placed =
+      subst (λ (xs : List (Message Call)). AllByRecursion (IsPlaced (layout_in new.calls) (length new.connections.items)) xs) (sym are)
+      (subst (λ n. AllByRecursion (IsPlaced (layout_in new.calls) n) ms) (sym h.many)
+      (subst (λ L. AllByRecursion (IsPlaced L (length s.connections.items)) ms) (sym h.layout) placed))

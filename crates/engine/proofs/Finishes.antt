@@ -1,0 +1,249 @@
+-- A worker that has worked its message: how it may end, and what it leaves.
+use Rattle.std.proofs.Common.{◌≡◌, ℕ, ◌+◌, ◌<◌, ◌≤◌, Bool, List, [], ◌∷◌, ◌++◌, Some, Ok, refl, sym, ap, ◌∙◌, subst, arith}
+use Rattle.std.specs.Prelude.{length, map, slice_get, slice_set}
+use Rattle.std.proofs.lemmas.List.{length-append}
+use Rattle.nfs_model.specs.World as worlds
+use Rattle.nfs_model.specs.World.{finish}
+use Rattle.nfs_model.specs.Work as tasks
+use Rattle.nfs_model.specs.Events.Refusals as events
+use Rattle.nfs_model.specs.Events.Refusals.{Written, open_count}
+use Rattle.nfs_model.specs.Events.Step.{Events, finished_by, finished_call, told_of, stamp_added, without_call, bytes_of_reply, bytes_if_open}
+use Rattle.nfs_values.specs.declared.call.Call.{Call}
+use Rattle.nfs_values.specs.declared.reply.Reply.{Reply}
+use Rattle.nfs_values.specs.Moment.{moment_of}
+use Rattle.nfs_values.specs.Reply.{reply_of}
+use Rattle.affinity_tree.specs.declared.affinity.Affinity as codes
+use Rattle.affinity_tree.specs.Affinity.{affinity_of}
+use Rattle.scheduler.specs.declared.message.Message.{Message}
+use Rattle.depot_rule.specs.Sums.{total}
+use Rattle.depot_rule.specs.lemmas.Sums.{total-append}
+use Rattle.held_state.specs.Parcels.{FilerParcel}
+use Rattle.held_state.specs.Contents.{filer_contents}
+use Rattle.held_state.specs.Tree.{server_of}
+use Rattle.held_state.specs.Partition.{all_parts}
+use Rattle.parcels.specs.declared.files.Files.{Files}
+use Rattle.desk_laws.specs.Books.{Lent, HasLent, now, stamps}
+use Rattle.desk_laws.specs.Calls.{MayPutBack, MayFinish, HasPutBack, HasFinished}
+use Rattle.engine_laws.specs.Store.{FilerBooks, HasOutcome, StandsFor}
+use Rattle.engine_laws.specs.lemmas.Finishing.{run-on, moved-unchanged, may-finish, back-stands, finished-stands}
+use Rattle.engine_laws.specs.lemmas.Feeding.{all-append}
+use Rattle.engine_laws.specs.lemmas.Happening.{book-apart, finish-happens}
+use Rattle.desk.specs.Words.{books, machine_in, IsKept}
+use Rattle.service.specs.Jobs.{job_of, job_reply_of}
+use Rattle.service.specs.Running.{outcome_of}
+use Rattle.service.specs.declared.job.Job.{Job}
+use Rattle.service.specs.declared.job.JobReply.{JobReply}
+use Rattle.service.specs.declared.outcome.Outcome.{Outcome}
+use Rattle.service.specs.declared.outcome.Outcome.TheVariants.{Moved}
+use Rattle.engine_feed.specs.Codec.{reply_record}
+use Rattle.engine_feed.specs.Seen.{layout_in, messages_of, running_count, finished_message}
+use Rattle.engine_feed.specs.Sound.{IsAdmitted}
+use Rattle.engine_feed.specs.Words as calls
+use Rattle.engine.specs.declared.connection.Connection.{Connection}
+use Rattle.engine.specs.declared.event.Done.TheVariants as dones
+use Rattle.engine.specs.declared.worker.Running.{Running}
+use Rattle.engine.specs.declared.worker.Worker.{Worker}
+use Rattle.engine.specs.declared.worker.Worker.TheVariants.{Idle, Worked}
+use Rattle.engine.specs.declared.state.State.{State}
+use Rattle.engine.specs.Seen.{connection_seen, worker_seen, running_as, setup_in, world}
+use Rattle.engine.specs.Ending.{job_made, answer_made, EndsIn, OwesLess}
+use Rattle.engine.specs.Sound.{IsPlaced, IsSound, MayEnd, running_messages, room_on, rooms_on}
+use Rattle.engine.specs.Words.{Does}
+use Rattle.engine.proofs.Lists.{all-at}
+use Rattle.engine.proofs.Workers.{seen-at, seen-changed, count-changed}
+use Rattle.engine.proofs.Closing.{seen-at as connection-at}
+use Rattle.engine.proofs.Ends.{lent-here, ToldAs, served-as, fits-as, finished-as, told-as, left-as, server-kept, parts-kept}
+use Rattle.engine.proofs.Ended.{back-world, ended-world, count-ended, owes-after}
+use Rattle.engine.proofs.Changed.{IsChanged, same_setup, run_count, run_weight, still_few, all_ready, all_placed}
+
+-- what a worker ran, and what that came to
+abbrev came : Running → Outcome → worlds.Running
+came r o = running_as r (Some (outcome_of o))
+
+-- the message that waits again, at the affinity that it moved to
+abbrev pub again : Running → codes.Affinity → Message Call
+again r a = record r.message { affinity = a }
+
+-- the books of a state's desk
+abbrev held : State → FilerBooks Files Job JobReply
+held s = books s.desk
+
+module _ (s : State) (sound : IsSound s) (i : ℕ) (r : Running) (o : Outcome) (there : slice_get s.workers.items i ≡ Some (Worked r o)) where
+  seen : slice_get (world s).workers i ≡ Some (worker_seen (Worked r o))
+  seen = seen-at s.workers.items i (Worked r o) there
+
+  lent : (l : Lent (FilerParcel Files)) × HasLent (held s) i l
+  lent = lent-here job_of job_reply_of (setup_in s) (world s) (held s) sound.stands i (worker_seen (Worked r o)) seen (came r o) refl
+
+  did : HasOutcome (setup_in s) (held s) (came r o) lent.0 (Some (outcome_of o))
+  did = run-on job_of job_reply_of (setup_in s) (world s) (held s) sound.stands i (worker_seen (Worked r o)) seen (came r o) refl (outcome_of o) refl
+      lent.0 lent.1
+
+  -- its message is of a connection, and what it came to may be told
+  pub ready : IsPlaced (layout_in s.calls) (length s.connections.items) r.message × MayEnd (layout_in s.calls) r.message o
+  ready = all-at _ s.workers.items i (Worked r o) sound.workers there
+
+  -- a message runs
+  pub some_run : 0 < running_count s.calls
+  some_run =
+      let counted = count-changed s.workers.items i (Worked r o) Idle there in
+      let are = sound.running in
+      omega (arith, counted, are)
+
+  happens : Events (setup_in s) (world s) (events.Finish i) (Ok (told_of (setup_in s) (world s) (came r o) (outcome_of o)))
+      (finished_by (setup_in s) (world s) i (came r o) (outcome_of o))
+  happens = finish-happens (setup_in s) (world s) i (worker_seen (Worked r o)) (came r o) (outcome_of o) seen refl refl
+
+  -- ---- it moves
+
+  module _ (a : codes.Affinity) (is : o ≡ Moved a) where
+    -- what it was lent may go home
+    pub may_go_back : MayPutBack (held s) i
+    may_go_back = record {
+      lent = lent.0;
+      is_lent = lent.1;
+      unchanged = moved-unchanged job_of job_reply_of (setup_in s) (world s) (held s) sound.stands i (worker_seen (Worked r o)) seen (came r o) refl
+          (outcome_of o) refl lent.0 lent.1 (affinity_of a) (ap outcome_of is);
+    }
+
+    moves : MayEnd (layout_in s.calls) r.message (Moved a)
+    moves = subst (MayEnd (layout_in s.calls) r.message) is ready.1
+
+    -- its message may wait again
+    pub again_admitted : IsAdmitted (layout_in s.calls) (again r a)
+    again_admitted = record { offered = ready.0.admitted.offered; node = moves.0; room = ready.0.admitted.room }
+
+    module _ (new : State) (h : IsChanged s new i (Worked r o) Idle) (connections : new.connections.items ≡ s.connections.items)
+        (opened : new.open_count ≡ s.open_count) (kept : IsKept new.desk) (back : HasPutBack (held s) i (held new))
+        (waits : calls.HasPutBack s.calls (again r a) new.calls) where
+      back_layout : (held new).layout ≡ (held s).layout
+      back_layout = ap (λ (x : FilerBooks Files Job JobReply). x.layout) back.books
+
+      back_stamps : stamps (held new) ≡ stamps (held s)
+      back_stamps = ap (λ (x : FilerBooks Files Job JobReply). stamps x) back.books
+
+      back_is : world new ≡ finished_by (setup_in s) (world s) i (came r o) (tasks.Moved (affinity_of a))
+      back_is = back-world (world s) s.calls new.calls (again r a) (record { waiting = refl; finished = refl }) waits (setup_in s) new.connections.items
+          (ap (λ (cs : List Connection). map connection_seen cs) connections) s.workers.items new.workers.items i refl h.set (came r o) (affinity_of a) refl
+          (server_of (filer_contents (held new).layout (now (held new)))) (all_parts (filer_contents (held new).layout (now (held new)))) (stamps (held new))
+          (server-kept (held s) (held new) back_layout back.same) (parts-kept (held s) (held new) back_layout back.same) back_stamps
+
+      pub back_events : Does s (events.Finish i) (Ok dones.PutBack) new
+      back_events = (
+        happens.0,
+        (worker_seen (Worked r o), came r o, outcome_of o, seen, refl, refl,
+            sym (ap (λ (x : Outcome). told_of (setup_in s) (world s) (came r o) (outcome_of x)) is),
+            back_is ∙ sym (ap (λ (x : Outcome). finished_by (setup_in s) (world s) i (came r o) (outcome_of x)) is)),
+      )
+
+      back_stand : StandsFor job_of job_reply_of (setup_in s) (world new) (held new)
+      back_stand = back-stands job_of job_reply_of (setup_in s) (world s) (held s) sound.stands i (worker_seen (Worked r o)) seen (came r o) refl
+          (outcome_of o) refl (held new) back (book-apart _ (held new) _ kept) (world new) (server-kept (held s) (held new) back_layout back.same)
+          (parts-kept (held s) (held new) back_layout back.same) waits.finished back_stamps
+          (ap (λ (ks : List Worker). map worker_seen ks) h.set ∙ seen-changed s.workers.items i Idle)
+
+      pub back_sound : IsSound new
+      back_sound = record {
+        layout = back_layout ∙ sound.layout ∙ sym h.layout;
+        kept = kept;
+        stands = subst (λ x. StandsFor job_of job_reply_of x (world new) (held new)) (sym (same_setup h)) back_stand;
+        running = (
+          let counted = run_count h in
+          let were = sound.running in
+          let left = waits.running in
+          let are : length (running_messages new.workers.items) ≡ running_count new.calls = omega (arith, counted, were, left) in are);
+        waiting = all_placed h (messages_of s.calls ++ again r a ∷ []) waits.back
+            (all-append (IsPlaced (layout_in s.calls) (length s.connections.items)) (messages_of s.calls) (again r a ∷ []) sound.waiting
+            (record { admitted = again_admitted; known = ready.0.known; run = moves.1 }, tt));
+        workers = all_ready h sound tt;
+        few = still_few h sound;
+        stamps = (let same = back_stamps in let most = sound.stamps in let left = waits.running in omega (arith, same, most, left));
+        opened = opened ∙ sound.opened ∙ ap (λ (cs : List Connection). open_count (map connection_seen cs)) (sym connections);
+        owed = λ q x at.
+            (let old = sound.owed q x (ap (λ (cs : List Connection). slice_get cs q) (sym connections) ∙ at) in
+            let left = run_weight h (room_on q) in
+            let more = ap (λ (ms : List (Message Call)). total (room_on q) ms) waits.back ∙ total-append (room_on q) (messages_of s.calls) (again r a ∷ []) in
+            omega (arith, old, left, more));
+      }
+
+  -- ---- it is finished
+
+  module _ (reply : Reply) (starved : Bool) (is : ToldAs o reply starved) where
+    -- it may be entered
+    pub may_be_entered : MayFinish (machine_in s.desk) (held s) i (job_made r starved) (answer_made reply)
+    may_be_entered = may-finish job_of job_reply_of (setup_in s) (world s) (held s) sound.stands i (worker_seen (Worked r o)) seen (came r o) refl
+        (outcome_of o) refl lent.0 lent.1 starved (reply_of reply) (job_made r starved) (answer_made reply) refl refl
+        (served-as (setup_in s) (held s) (came r o) lent.0 o reply starved is did)
+
+    -- its reply has room
+    pub reply_fits : length (reply_record r.message.origin.xid (reply_of reply)) ≤ r.message.room
+    reply_fits = fits-as (layout_in s.calls) r.message o reply starved is ready.1
+
+    module _ (new : State) (h : IsChanged s new i (Worked r o) Idle) (place place' : Connection) (count : ℕ)
+        (at : slice_get s.connections.items r.message.origin.connection.0 ≡ Some place)
+        (put : new.connections.items ≡ slice_set s.connections.items r.message.origin.connection.0 place')
+        (opened : new.open_count ≡ s.open_count) (kept : IsKept new.desk)
+        (done : HasFinished (machine_in s.desk) (held s) i (job_made r starved) (answer_made reply) (held new))
+        (ends : EndsIn s.calls place r (reply_of reply) starved count new.calls place')
+        (leaves : calls.HasLeft s.calls (finished_message r.message (moment_of r.moment) starved) new.calls)
+        (owes : OwesLess r.message place place') where
+      done_layout : (held new).layout ≡ (held s).layout
+      done_layout = ap (λ (x : FilerBooks Files Job JobReply). x.layout) done.books
+
+      more_stamps : stamps (held new) ≡ stamps (held s) + 1
+      more_stamps = ap (λ (x : FilerBooks Files Job JobReply). stamps x) done.books ∙ length-append (held s).entries _
+
+      ended_is : world new ≡ finish (setup_in s) (stamp_added (without_call (world s) i)) (finished_call (came r o) starved) (reply_of reply)
+      ended_is = ended-world (world s) s.calls new.calls place place' r (reply_of reply) starved count ends (setup_in s) refl
+          (record { waiting = refl; finished = refl }) s.connections.items new.connections.items refl at put s.workers.items new.workers.items i refl h.set
+          (server_of (filer_contents (held new).layout (now (held new)))) (all_parts (filer_contents (held new).layout (now (held new)))) (stamps (held new))
+          (server-kept (held s) (held new) done_layout done.same) (parts-kept (held s) (held new) done_layout done.same) more_stamps
+
+      written : count ≡ length (bytes_of_reply (setup_in s) (world s) (came r o).message (reply_of reply))
+      written =
+          let at_world = connection-at s.connections.items r.message.origin.connection.0 place at in
+          (ends (setup_in s) (world s) refl (record { waiting = refl; finished = refl }) at_world).1
+          ∙ ap (λ p. length (bytes_if_open p (reply_record r.message.origin.xid (reply_of reply)))) (sym at_world)
+
+      pub ended_events : Does s (events.Finish i) (Ok (dones.Written r.message.origin.connection.0 count)) new
+      ended_events = (
+        happens.0,
+        (worker_seen (Worked r o), came r o, outcome_of o, seen, refl, refl,
+            ap (λ n. Written r.message.origin.connection.0 n) written ∙ sym (told-as (setup_in s) (world s) (came r o) o reply starved is),
+            ended_is ∙ sym (finished-as (setup_in s) (world s) i (came r o) o reply starved is)),
+      )
+
+      ended_stand : StandsFor job_of job_reply_of (setup_in s) (world new) (held new)
+      ended_stand = finished-stands job_of job_reply_of (setup_in s) (world s) (held s) sound.stands i (worker_seen (Worked r o)) seen (came r o) refl
+          (outcome_of o) refl starved (reply_of reply) (job_made r starved) (answer_made reply) refl refl (held new) done (book-apart _ (held new) _ kept)
+          (world new) (left-as (came r o) o reply starved is) (server-kept (held s) (held new) done_layout done.same)
+          (parts-kept (held s) (held new) done_layout done.same) leaves.finished more_stamps
+          (ap (λ (ks : List Worker). map worker_seen ks) h.set ∙ seen-changed s.workers.items i Idle)
+
+      -- the room that messages keep is less by that of the message
+      rooms_left : (q : ℕ) → rooms_on q new + room_on q r.message ≡ rooms_on q s
+      rooms_left q =
+          let left = run_weight h (room_on q) in
+          let wait = ap (λ (ms : List (Message Call)). total (room_on q) ms) leaves.waiting in
+          omega (arith, left, wait)
+
+      pub ended_sound : IsSound new
+      ended_sound = record {
+        layout = done_layout ∙ sound.layout ∙ sym h.layout;
+        kept = kept;
+        stands = subst (λ x. StandsFor job_of job_reply_of x (world new) (held new)) (sym (same_setup h)) ended_stand;
+        running = (
+          let counted = run_count h in
+          let were = sound.running in
+          let left = leaves.running in
+          let are : length (running_messages new.workers.items) ≡ running_count new.calls = omega (arith, counted, were, left) in are);
+        waiting = all_placed h (messages_of s.calls) leaves.waiting sound.waiting;
+        workers = all_ready h sound tt;
+        few = still_few h sound;
+        stamps = (let more = more_stamps in let most = sound.stamps in let left = leaves.running in omega (arith, more, most, left));
+        opened = opened ∙ sound.opened
+            ∙ sym (count-ended (world s) s.calls new.calls place place' r (reply_of reply) starved count ends (setup_in s) refl
+            (record { waiting = refl; finished = refl }) s.connections.items new.connections.items refl at put);
+        owed = owes-after s.connections.items new.connections.items r.message place place' at put owes (λ q. rooms_on q s) (λ q. rooms_on q new)
+            rooms_left sound.owed;
+      }
