@@ -112,12 +112,12 @@ module _ (s new : State) (sound : IsSound s) (i place : ℕ) (r : Running) (h : 
     workers = all_ready h sound (all-at _ (messages_of s.calls) place r.message sound.waiting takes.there);
     few = still_few h sound;
     stamps = (
-      let most = still_few h sound in
-      let run = few-run new.workers.items in
-      let are = as_many_run in
-      let low = begins.low in
-      let same = same_stamps in
-      omega (arith, most, run, are, low, same));
+        let most = still_few h sound in
+        let run = few-run new.workers.items in
+        let are = as_many_run in
+        let low = begins.low in
+        let same = same_stamps in
+        omega (arith, most, run, are, low, same));
     opened = opened ∙ sound.opened ∙ ap (λ (cs : List Connection). open_count (map connection_seen cs)) (sym connections);
     owed = λ q x at.
         (let old = sound.owed q x (ap (λ (cs : List Connection). slice_get cs q) (sym connections) ∙ at) in

@@ -135,7 +135,7 @@ owes-after cs new_cs m place place' there set owes before after less owed n x at
     dite (ℕ_discrete n m.origin.connection.0)
     (λ e.
     let here : place' ≡ Open x = inner place' (Open x) (sym (set-here cs m.origin.connection.0 place place' there)
-        ∙ ap (λ xs. slice_get xs m.origin.connection.0) (sym set) ∙ subst (λ k. slice_get new_cs k ≡ Some (Open x)) e at) in
+    ∙ ap (λ xs. slice_get xs m.origin.connection.0) (sym set) ∙ subst (λ k. slice_get new_cs k ≡ Some (Open x)) e at) in
     let was = owes x here in
     let old = owed m.origin.connection.0 was.0 (there ∙ ap Some was.1) in
     let room = room-own m.origin.connection.0 m refl in

@@ -131,9 +131,16 @@ module _ (s : State) (sound : IsSound s) (i : ℕ) (r : Running) (o : Outcome) (
       pub back_events : Does s (events.Finish i) (Ok dones.PutBack) new
       back_events = (
         happens.0,
-        (worker_seen (Worked r o), came r o, outcome_of o, seen, refl, refl,
-            sym (ap (λ (x : Outcome). told_of (setup_in s) (world s) (came r o) (outcome_of x)) is),
-            back_is ∙ sym (ap (λ (x : Outcome). finished_by (setup_in s) (world s) i (came r o) (outcome_of x)) is)),
+        (
+          worker_seen (Worked r o),
+          came r o,
+          outcome_of o,
+          seen,
+          refl,
+          refl,
+          sym (ap (λ (x : Outcome). told_of (setup_in s) (world s) (came r o) (outcome_of x)) is),
+          back_is ∙ sym (ap (λ (x : Outcome). finished_by (setup_in s) (world s) i (came r o) (outcome_of x)) is),
+        ),
       )
 
       back_stand : StandsFor job_of job_reply_of (setup_in s) (world new) (held new)
@@ -148,10 +155,10 @@ module _ (s : State) (sound : IsSound s) (i : ℕ) (r : Running) (o : Outcome) (
         kept = kept;
         stands = subst (λ x. StandsFor job_of job_reply_of x (world new) (held new)) (sym (same_setup h)) back_stand;
         running = (
-          let counted = run_count h in
-          let were = sound.running in
-          let left = waits.running in
-          let are : length (running_messages new.workers.items) ≡ running_count new.calls = omega (arith, counted, were, left) in are);
+            let counted = run_count h in
+            let were = sound.running in
+            let left = waits.running in
+            let are : length (running_messages new.workers.items) ≡ running_count new.calls = omega (arith, counted, were, left) in are);
         waiting = all_placed h (messages_of s.calls ++ again r a ∷ []) waits.back
             (all-append (IsPlaced (layout_in s.calls) (length s.connections.items)) (messages_of s.calls) (again r a ∷ []) sound.waiting
             (record { admitted = again_admitted; known = ready.0.known; run = moves.1 }, tt));
@@ -208,9 +215,16 @@ module _ (s : State) (sound : IsSound s) (i : ℕ) (r : Running) (o : Outcome) (
       pub ended_events : Does s (events.Finish i) (Ok (dones.Written r.message.origin.connection.0 count)) new
       ended_events = (
         happens.0,
-        (worker_seen (Worked r o), came r o, outcome_of o, seen, refl, refl,
-            ap (λ n. Written r.message.origin.connection.0 n) written ∙ sym (told-as (setup_in s) (world s) (came r o) o reply starved is),
-            ended_is ∙ sym (finished-as (setup_in s) (world s) i (came r o) o reply starved is)),
+        (
+          worker_seen (Worked r o),
+          came r o,
+          outcome_of o,
+          seen,
+          refl,
+          refl,
+          ap (λ n. Written r.message.origin.connection.0 n) written ∙ sym (told-as (setup_in s) (world s) (came r o) o reply starved is),
+          ended_is ∙ sym (finished-as (setup_in s) (world s) i (came r o) o reply starved is),
+        ),
       )
 
       ended_stand : StandsFor job_of job_reply_of (setup_in s) (world new) (held new)
@@ -233,10 +247,10 @@ module _ (s : State) (sound : IsSound s) (i : ℕ) (r : Running) (o : Outcome) (
         kept = kept;
         stands = subst (λ x. StandsFor job_of job_reply_of x (world new) (held new)) (sym (same_setup h)) ended_stand;
         running = (
-          let counted = run_count h in
-          let were = sound.running in
-          let left = leaves.running in
-          let are : length (running_messages new.workers.items) ≡ running_count new.calls = omega (arith, counted, were, left) in are);
+            let counted = run_count h in
+            let were = sound.running in
+            let left = leaves.running in
+            let are : length (running_messages new.workers.items) ≡ running_count new.calls = omega (arith, counted, were, left) in are);
         waiting = all_placed h (messages_of s.calls) leaves.waiting sound.waiting;
         workers = all_ready h sound tt;
         few = still_few h sound;

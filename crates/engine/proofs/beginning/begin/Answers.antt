@@ -29,7 +29,7 @@ pub begin-requires-clause-idle : goal.begin-requires-clause-idle
 begin-requires-clause-idle c =
     let s = c.args.state.now in
     let there = looked-up c.deref.result.now s.workers.items c.args.worker c.in-Some-Idle.field-0.now Idle c.deref.ensures.value
-        c.in-Some-Idle.ensures.lookup.3.0 c.in-Some-Idle.ensures.lookup.1 c.in-Some-Idle.field-0-is in
+    c.in-Some-Idle.ensures.lookup.3.0 c.in-Some-Idle.ensures.lookup.1 c.in-Some-Idle.field-0-is in
     idle-lent job_of job_reply_of (setup_in s) (world s) (books s.desk) c.requires.stands c.args.worker (worker_seen Idle)
     (seen-at s.workers.items c.args.worker Idle there) refl
 
@@ -47,16 +47,15 @@ pub returns-then-moment-ge-SECOND-clause-events : goal.returns-then-moment-ge-SE
 returns-then-moment-ge-SECOND-clause-events c =
     let s = c.args.state.now in
     let there = looked-up c.deref.result.now s.workers.items c.args.worker c.in-Some-Idle.field-0.now Idle c.deref.ensures.value
-        c.in-Some-Idle.ensures.lookup.3.0 c.in-Some-Idle.ensures.lookup.1 c.in-Some-Idle.field-0-is in
+    c.in-Some-Idle.ensures.lookup.3.0 c.in-Some-Idle.ensures.lookup.1 c.in-Some-Idle.field-0-is in
     (inl (late_refused s c.requires c.args.worker c.args.place c.args.moment c.in-Some.affinity there c.in-Some.ensures.there c.if-moment-ge-SECOND.true), refl)
 
 pub returns-in-Err-Taken-clause-events : goal.returns-in-Err-Taken-clause-events
 returns-in-Err-Taken-clause-events c =
     let s = c.args.state.now in
     let there = looked-up c.deref.result.now s.workers.items c.args.worker c.in-Some-Idle.field-0.now Idle c.deref.ensures.value
-        c.in-Some-Idle.ensures.lookup.3.0 c.in-Some-Idle.ensures.lookup.1 c.in-Some-Idle.field-0-is in
-    let taken = subst (λ r. IsRefused (books s.desk) (affinity_of c.in-Some.affinity) r) c.in-Err-Taken.field-0-is c.in-Err-Taken.ensures.refused in
-    (
+    c.in-Some-Idle.ensures.lookup.3.0 c.in-Some-Idle.ensures.lookup.1 c.in-Some-Idle.field-0-is in
+    let taken = subst (λ r. IsRefused (books s.desk) (affinity_of c.in-Some.affinity) r) c.in-Err-Taken.field-0-is c.in-Err-Taken.ensures.refused in (
       inl (taken_refused s c.requires c.args.worker c.args.place c.args.moment c.in-Some.affinity there c.in-Some.ensures.there
           c.if-moment-ge-SECOND.false taken),
       same-books (world s) (books s.desk) (books c.begin.new.self) c.in-Err-Taken.ensures.same,
@@ -66,9 +65,8 @@ pub returns-in-Err-Worn-clause-events : goal.returns-in-Err-Worn-clause-events
 returns-in-Err-Worn-clause-events c =
     let s = c.args.state.now in
     let there = looked-up c.deref.result.now s.workers.items c.args.worker c.in-Some-Idle.field-0.now Idle c.deref.ensures.value
-        c.in-Some-Idle.ensures.lookup.3.0 c.in-Some-Idle.ensures.lookup.1 c.in-Some-Idle.field-0-is in
-    let worn = subst (λ r. IsRefused (books s.desk) (affinity_of c.in-Some.affinity) r) c.in-Err-Worn.field-0-is c.in-Err-Worn.ensures.refused in
-    (
+    c.in-Some-Idle.ensures.lookup.3.0 c.in-Some-Idle.ensures.lookup.1 c.in-Some-Idle.field-0-is in
+    let worn = subst (λ r. IsRefused (books s.desk) (affinity_of c.in-Some.affinity) r) c.in-Err-Worn.field-0-is c.in-Err-Worn.ensures.refused in (
       inl (worn_refused s c.requires c.args.worker c.args.place c.args.moment c.in-Some.affinity there c.in-Some.ensures.there
           c.if-moment-ge-SECOND.false worn),
       same-books (world s) (books s.desk) (books c.begin.new.self) c.in-Err-Worn.ensures.same,

@@ -16,10 +16,10 @@ pub returns-in-Closed-clause-ends : goal.returns-in-Closed-clause-ends
 returns-in-Closed-clause-ends c =
     let e = finished_message c.args.running.message (moment_of c.args.running.moment) c.args.starved in
     let all : EndsIn c.args.calls.now (Closed c.in-Closed.field-0) c.args.running (reply_of c.args.reply.now) c.args.starved 0
-        c.finish_unseen.new.self (Closed c.in-Closed.field-0) =
-        λ setup w codec shows there. (
-          closed-ends c.args.calls.now c.finish_unseen.new.self e c.in-Closed.field-0 c.finish_unseen.ensures.finishes setup w
-              (reply_of c.args.reply.now) shows there,
-          refl,
-        ) in
+    c.finish_unseen.new.self (Closed c.in-Closed.field-0) =
+    λ setup w codec shows there. (
+      closed-ends c.args.calls.now c.finish_unseen.new.self e c.in-Closed.field-0 c.finish_unseen.ensures.finishes setup w
+          (reply_of c.args.reply.now) shows there,
+      refl,
+    ) in
     subst (λ p. EndsIn c.args.calls.now p c.args.running (reply_of c.args.reply.now) c.args.starved 0 c.finish_unseen.new.self p) (sym c.in-Closed.is) all

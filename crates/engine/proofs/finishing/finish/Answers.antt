@@ -131,7 +131,7 @@ end_in-count-requires-clause-owed c = λ x e.
     let n = (r c).message.origin.connection.0 in
     let known = (ready (s c) c.requires c.args.worker (r c) (o c) (was_there c)).0.known in
     let at : slice_get (s c).connections.items n ≡ Some (Open x) =
-        found (s c).connections.items n c.index_mut-place.result.now (Open x) known c.index_mut-place.ensures.value e in
+    found (s c).connections.items n c.index_mut-place.result.now (Open x) known c.index_mut-place.ensures.value e in
     let owed = c.requires.owed n x at in
     let changed = messages-changed (room_on n) (s c).workers.items c.args.worker (Worked (r c) (o c)) Idle (was_there c) in
     let room = room-own n (r c).message refl in
