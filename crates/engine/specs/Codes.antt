@@ -14,7 +14,8 @@ use Rattle.volume_values.specs.Codes.{coded_moment, coded_attributes, coded_list
 abbrev pub coded_file : Coded FileNode
 coded_file =
     code_by (Attributes × (List ℕ × (FinSet nat_cmp × (Option Moment × Option (List ℕ)))))
-    (coded× coded_attributes (coded× (coded_list coded_ℕ) (coded× (sets.code coded_ℕ) (coded× (coded_option coded_moment) (coded_option (coded_list coded_ℕ))))))
+    (coded× coded_attributes
+    (coded× (coded_list coded_ℕ) (coded× (sets.code coded_ℕ) (coded× (coded_option coded_moment) (coded_option (coded_list coded_ℕ))))))
     (λ f. (f.attributes, (f.bytes, (f.filled, (f.touch, f.verifier)))))
     (λ p. record { attributes = p.0; bytes = p.1.0; filled = p.1.1.0; touch = p.1.1.1.0; verifier = p.1.1.1.1 }) (λ _. refl)
 

@@ -12,7 +12,8 @@ one_if_refused (Err number) = 1
 abbrev pub RunsRefusing : Setup → World → List Event → ℕ → World → Type 0
 RunsRefusing setup old [] refused new = (refused ≡ 0) × (new ≡ old)
 RunsRefusing setup old (e ∷ es) refused new =
-    (answer : Result Done ℕ) × (middle : World) × (others : ℕ) × Events setup old e answer middle × (refused ≡ one_if_refused answer + others) × RunsRefusing setup middle es others new
+    (answer : Result Done ℕ) × (middle : World) × (others : ℕ) × Events setup old e answer middle
+    × (refused ≡ one_if_refused answer + others) × RunsRefusing setup middle es others new
 
 -- nothing where there is no such connection
 abbrev pub output_in : Option Connection → List ℕ

@@ -1,4 +1,5 @@
--- What holds of an engine's fields beside what is seen of them: the desk's books stand for the world, each worker's message may be ended, and the replies that are owed have their room.
+-- What holds of an engine's fields beside what is seen of them: the desk's books stand for the world, each worker's message may be
+-- ended, and the replies that are owed have their room.
 use Rattle.std.specs.Prelude.{◌==◌, ◌≡◌, ℕ, ◌+◌, ◌^◌, ◌≤◌, ◌<◌, List, [], ◌∷◌, ◌++◌, map, length, if◌then◌else◌, Some, slice_get}
 use Rattle.std.specs.List.{AllByRecursion}
 use Rattle.nfs_model.specs.Types.{SystemError}

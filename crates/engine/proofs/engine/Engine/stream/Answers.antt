@@ -11,6 +11,6 @@ pub returns-in-Some-Open : goal.returns-in-Some-Open
 returns-in-Some-Open c =
     let cs = c.self.inside.state.connections.items in
     let there = looked-up c.deref.result.now cs c.args.connection c.in-Some-Open.field-0.now (Open c.in-Some-Open.open) c.deref.ensures.value
-        c.in-Some-Open.ensures.lookup.3.0 c.in-Some-Open.ensures.lookup.1 c.in-Some-Open.field-0-is in
+    c.in-Some-Open.ensures.lookup.3.0 c.in-Some-Open.ensures.lookup.1 c.in-Some-Open.field-0-is in
     c.stream.ensures ∙ sym (ap stream_in (seen-at cs c.args.connection (Open c.in-Some-Open.open) there))
     ∙ ap (λ (v : Shown). stream_in (slice_get v.world.connections c.args.connection)) c.self.view_is
