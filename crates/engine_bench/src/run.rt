@@ -8,19 +8,23 @@ use nfs_values::Moment;
 use std::alloc::{AllocError, Global};
 use std::io;
 use std::rt::Clock;
-use std::time::{Duration, Instant};
+use std::time::Instant;
 
 /// How many passes there are of which the fastest is told.
-const PASSES: u32 = 20;
+const PASSES: u32 = 200;
 
 /// How many calls a pass has.
-const CALLS: u32 = 1_000;
+const CALLS: u32 = 100;
 
 /// A GETATTR call of the root of volume 0, as a record of one fragment (RFC 5531 sections 9 and
 /// 11, RFC 1813 section 3.3.1).
-const RECORD: [u32; 15] = [0x8000_0038, 1, 0, 2, 100_003, 3, 1, 0, 0, 0, 0, 12, 0, 0, 1];
+const RECORD: [u8; 60] = *b"\x80\0\0\x38\0\0\0\x01\0\0\0\0\0\0\0\x02\0\x01\x86\xa3\
+    \0\0\0\x03\0\0\0\x01\0\0\0\0\0\0\0\0\0\0\0\0\0\0\0\0\0\0\0\x0c\
+    \0\0\0\0\0\0\0\0\0\0\0\x01";
 
-/// An aggregate that takes part in each layout.
+/// Where the last byte of the volume's number stands in it.
+const VOLUME: usize = 51;
+
 const AGGREGATE: AggregateSpec = AggregateSpec { spare: 128 };
 
 /// A volume with all that one may have.
@@ -31,60 +35,44 @@ const LARGEST: VolumeSpec = VolumeSpec {
     mib: 64,
 };
 
-/// The bytes of the call.
-fn record(alloc: Global) -> Result<Vec<u8>, AllocError> {
-    let mut bytes = Vec::new(alloc);
-    for word in &RECORD {
-        bytes.extend_from_slice(&word.to_be_bytes())?;
-    }
-    Ok(bytes)
-}
-
-/// Takes events so many times over, and answers how long one time took, in nanoseconds.
+/// Has the engine answer calls, and tells how many nanoseconds one took.
 fn nanoseconds_each(
     rt: &impl Clock,
     engine: &mut Engine,
-    events: &[Event<'_>],
+    call: &[Event<'_>],
     count: u32,
 ) -> io::Result<u64> {
     let start = Instant::now(rt)?;
     for _call in 0..count {
-        engine.run(events);
+        engine.run(call);
     }
-    let time = start.elapsed(rt)?.as_nanos() / u128::from(count.max(1));
-    Ok(u64::try_from(time).unwrap_or(u64::MAX))
+    let each = start.elapsed(rt)?.as_nanos() / u128::from(count.max(1));
+    Ok(u64::try_from(each).unwrap_or(u64::MAX))
 }
 
 /// The same of the fastest pass.
-fn fastest(rt: &impl Clock, engine: &mut Engine, events: &[Event<'_>]) -> io::Result<u64> {
+fn fastest(rt: &impl Clock, engine: &mut Engine, call: &[Event<'_>]) -> io::Result<u64> {
     let mut least = u64::MAX;
     for _pass in 0..PASSES {
-        least = least.min(nanoseconds_each(rt, engine, events, CALLS)?);
+        least = least.min(nanoseconds_each(rt, engine, call, CALLS)?);
     }
     Ok(least)
 }
 
-/// Measures calls that the last of so many workers runs, and prints their line.
-fn measure<R: Clock + Print + AllocGlobal>(
-    rt: &R,
-    name: &str,
-    volumes: &[VolumeSpec],
-    workers: usize,
+/// Measures calls on a volume that a worker runs, and prints their line.
+fn measure_calls(
+    rt: &(impl Clock + Print),
+    engine: &mut Engine,
+    volume: u8,
+    worker: usize,
     count: u32,
-) -> io::Result<()>
-    requires some { 0 < workers }
-    requires most { workers ≤ 64 }
-{
-    let alloc = rt.alloc();
-    let layout = Layout::new(alloc, &[AGGREGATE], volumes).map_err(|_fault| AllocError)?;
-    let mut engine = Engine::new(alloc, layout, [0; 8], workers)?;
-    engine.run(&[Event::Open]);
-    let bytes = record(alloc)?;
-    let worker = workers - 1;
+) -> io::Result<()> {
+    let mut record = RECORD;
+    record[VOLUME] = volume;
     let call = [
         Event::Feed {
             connection: 0,
-            bytes: &bytes,
+            bytes: &record,
         },
         Event::Begin {
             worker,
@@ -94,19 +82,30 @@ fn measure<R: Clock + Print + AllocGlobal>(
         Event::Work { worker },
         Event::Finish { worker },
     ];
-    let first = fastest(rt, &mut engine, &call)?;
-    let average = nanoseconds_each(rt, &mut engine, &call, count)?;
-    let last = fastest(rt, &mut engine, &call)?;
-    let answered = engine.finished().len();
-    let written = engine.output(0).len();
-    print!(rt; "{name}: {first} ns a call at first, {average} on average, {last} at last, ")?;
-    println!(rt; "{answered} finished, {written} bytes written")
+    let first = fastest(rt, engine, &call)?;
+    let average = nanoseconds_each(rt, engine, &call, count)?;
+    let last = fastest(rt, engine, &call)?;
+    let (finished, written) = (engine.finished().len(), engine.output(0).len());
+    print!(rt; "{first} ns a call at first, {average} on average, {last} at last, ")?;
+    println!(rt; "{finished} finished, {written} bytes written")
 }
 
-/// Measures a small layout with one worker, and the largest with the most.
+/// An engine with an open connection.
+fn opened(alloc: Global, volumes: &[VolumeSpec], workers: usize) -> Result<Engine, AllocError>
+    requires some { 1 ≤ workers }
+    requires most { workers ≤ 64 }
+{
+    let layout = Layout::new(alloc, &[AGGREGATE], volumes).map_err(|_fault| AllocError)?;
+    Engine::play(alloc, layout, [0; 8], workers, &[Event::Open])
+}
+
+/// Measures a small layout with one worker, and the last volume of the largest, with the last of
+/// the most workers.
 pub fn run<R: Clock + Print + AllocGlobal>(rt: &R, count: u32) -> io::Result<()> {
-    let small = [VolumeSpec::new(0, 1)];
-    measure(rt, "1 volume of 8 stripes, 1 worker", &small, 1, count)?;
-    let large = [LARGEST; 8];
-    measure(rt, "8 volumes of 16 stripes, 64 workers", &large, 64, count)
+    print!(rt; "1 volume of 8 stripes, 1 worker: ")?;
+    let mut small = opened(rt.alloc(), &[VolumeSpec::new(0, 1)], 1)?;
+    measure_calls(rt, &mut small, 0, 0, count)?;
+    print!(rt; "8 volumes of 16 stripes, 64 workers: ")?;
+    let mut large = opened(rt.alloc(), &[LARGEST; 8], 64)?;
+    measure_calls(rt, &mut large, 7, 63, count)
 }

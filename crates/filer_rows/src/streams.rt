@@ -2,6 +2,8 @@
 
 use crate::events::{expect, joined};
 use crate::texts::{GETATTR, GETATTR_REPLY, LAYOUT, NULL, NULL_REPLY};
+use std::alloc::AllocError;
+use std::process::Abort;
 use std::test::Fail;
 
 #[test]
@@ -20,36 +22,59 @@ fn streams_are_cut_anyhow(rt: HostRuntime) -> Result<(), Fail> {
     Ok(())
 }
 
-/// Of more records than an engine takes: the last, its last byte, what is printed of them, and of
-/// that byte once a place is free.
-const LAST: [(&str, &str, &str, &[&str]); 2] = [
-    (GETATTR, "01", "taken 61499 stop 31\n", &[]),
-    (
-        NULL,
-        "00",
-        "taken 61483 stop 31\n",
-        &["out 0 ", NULL_REPLY, "\n"],
-    ),
+/// What comes behind as many calls as an engine takes, and all that is printed.
+struct Overfull {
+    rest: &'static [&'static str],
+    printed: &'static [&'static str],
+}
+
+/// One record too many, its last byte again, and that byte once a place is free.
+const OVERFULL: [Overfull; 2] = [
+    Overfull {
+        rest: &[
+            GETATTR,
+            "\nfeed 0 01\nbegin 0 1023 1 0\nfeed 0 01\nwork 0\nfinish 0\nfeed 0 01\n",
+        ],
+        printed: &[
+            "conn 0\ntaken 61499 stop 31\ntaken 0 stop 31\ngranted logical 0\ntaken 0 stop 31\n\
+            reply\nout 0 ",
+            GETATTR_REPLY,
+            "\ntaken 1 stop 0\n",
+        ],
+    },
+    Overfull {
+        rest: &[
+            NULL,
+            "\nfeed 0 00\nbegin 0 1023 1 0\nfeed 0 00\nwork 0\nfinish 0\nfeed 0 00\n",
+        ],
+        printed: &[
+            "conn 0\ntaken 61483 stop 31\ntaken 0 stop 31\ngranted logical 0\ntaken 0 stop 31\n\
+            reply\nout 0 ",
+            GETATTR_REPLY,
+            "\ntaken 1 stop 0\nout 0 ",
+            NULL_REPLY,
+            "\n",
+        ],
+    },
 ];
+
+/// Feeds as many calls as an engine takes and then the rest, and looks at what is printed.
+fn overfill(rt: &(impl Abort + AllocGlobal), row: &Overfull) -> Result<(), AllocError> {
+    let alloc = rt.alloc();
+    let mut script = joined(alloc, &[LAYOUT, "open\nfeed 0 "])?;
+    for _ in 0..1_024 {
+        script.push_str(GETATTR)?;
+    }
+    script.push_str(&joined(alloc, row.rest)?)?;
+    let printed = joined(alloc, row.printed)?;
+    expect(rt, script.as_bytes(), 0, &printed);
+    Ok(())
+}
 
 #[test]
 fn a_full_engine_takes_no_record_more(rt: HostRuntime) -> Result<(), Fail> {
-    let alloc = rt.alloc();
-    for (last, byte, stopped, answered) in LAST {
-        let mut script = joined(alloc, &[LAYOUT, "open\nfeed 0 "])?;
-        for _ in 0..1_024 {
-            script.push_str(GETATTR)?;
-        }
-        script.push_str(last)?;
-        for run in ["", "begin 0 1023 1 0\n", "work 0\nfinish 0\n"] {
-            script.push_str(&joined(alloc, &["\n", run, "feed 0 ", byte])?)?;
-        }
-        script.push_str("\n")?;
-        let mut printed = joined(alloc, &["conn 0\n", stopped])?;
-        printed.push_str("taken 0 stop 31\ngranted logical 0\ntaken 0 stop 31\nreply\nout 0 ")?;
-        printed.push_str(&joined(alloc, &[GETATTR_REPLY, "\ntaken 1 stop 0\n"])?)?;
-        printed.push_str(&joined(alloc, answered)?)?;
-        expect(&rt, script.as_bytes(), 0, &printed);
+    for row in &OVERFULL {
+        overfill(&rt, row)?;
     }
     Ok(())
 }
