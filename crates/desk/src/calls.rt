@@ -11,7 +11,6 @@ use crate::task::{Task, work_any};
 use affinity_tree::Affinity;
 use depot::Refusal as Refused;
 use depot_rule::machine::Machine;
-use std::mem;
 
 impl<M: Machine, K: NodeKinds<M::Parcel>> Desk<M, K> {
     ghost use Rattle.std.specs.Prelude.{OnOk, IfErr};
@@ -25,6 +24,7 @@ impl<M: Machine, K: NodeKinds<M::Parcel>> Desk<M, K> {
 
     /// Lends the parcels under an affinity to an idle worker, unless something that is lent
     /// excludes it or 2^62 calls were finished. It takes no memory.
+    #[inline(never)]
     pub fn begin(&mut self, worker: usize, affinity: Affinity) -> Result<(), Refusal>
         requires kept { IsKept self.old }
         requires node { IsNode (books self.old).layout (affinity_of affinity) }
@@ -35,11 +35,13 @@ impl<M: Machine, K: NodeKinds<M::Parcel>> Desk<M, K> {
         ensures refused { IfErr result (IsRefused (books self.old) (affinity_of affinity)) }
         ensures same { IfErr result (λ refusal. books self.new ≡ books self.old) }
     {
-        match begin_any(&self.depot, &mut self.seat, affinity) {
-            Ok(any) => match mem::replace(&mut self.grants[worker], Some(any)) {
-                None => Ok(()),
-                Some(_) => unreachable!(),
-            },
+        match begin_any(
+            &self.depot,
+            &mut self.seat,
+            affinity,
+            &mut self.grants[worker],
+        ) {
+            Ok(()) => Ok(()),
             Err(Refused::Busy { node: _, word: _ }) => Err(Refusal::Taken),
             Err(Refused::Worn) => {
                 if is_taken(self.depot.layout(), self.grants.as_slice(), affinity) {
@@ -65,6 +67,7 @@ impl<M: Machine, K: NodeKinds<M::Parcel>> Desk<M, K> {
     }
 
     /// Ends a worker's call by an entry of the history, with its parcels as they are.
+    #[inline(never)]
     pub fn finish(&mut self, worker: usize, call: &M::Call, reply: &M::Reply)
         requires kept { IsKept self.old }
         requires may { MayFinish (machine_in self.old) (books self.old) worker
@@ -80,6 +83,7 @@ impl<M: Machine, K: NodeKinds<M::Parcel>> Desk<M, K> {
     }
 
     /// Ends a worker's call without an entry. What it was lent has to be as it was lent.
+    #[inline(never)]
     pub fn put_back(&mut self, worker: usize)
         requires kept { IsKept self.old }
         requires may { MayPutBack (books self.old) worker }

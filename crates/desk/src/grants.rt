@@ -1,6 +1,6 @@
 //! Grants of nodes of any kind, begun and ended.
 
-ghost use Rattle.std.specs.Prelude.{◌≡◌, IfOk, IfErr};
+ghost use Rattle.std.specs.Prelude.{◌≡◌, Some, None, OnOk, IfErr};
 ghost use Rattle.affinity_tree.specs.Affinity.{affinity_of};
 ghost use Rattle.affinity_tree.specs.Numbers.{number_of};
 ghost use Rattle.affinity_tree.specs.Tree.{IsNode};
@@ -12,38 +12,78 @@ ghost use Rattle.desk.specs.Any.{lent_of};
 use crate::grant::AnyGrant;
 use crate::kinds::NodeKinds;
 use crate::nodes::{begin_node, finish_node, put_back_node};
-use affinity_tree::{Affinity, Kind};
+use affinity_tree::{Affinity, HasKind, Kind};
 use depot::{Depot, Refusal, Seat};
 use depot_rule::machine::Machine;
+use std::mem;
 
-/// Begins a call on a node of whichever kind.
+/// Puts a grant where there is none.
+fn put<T: HasKind, K: NodeKinds<T>>(place: &mut Option<AnyGrant<T, K>>, any: AnyGrant<T, K>)
+    requires { place.old ≡ None }
+    ensures { place.new ≡ Some any }
+{
+    match mem::replace(place, Some(any)) {
+        None => {}
+        Some(_) => unreachable!(),
+    }
+}
+
+/// Begins a call on a node of whichever kind. Its grant is made where it stays, since a grant of
+/// the whole tree is large.
 pub(crate) fn begin_any<M: Machine, K: NodeKinds<M::Parcel>>(
     depot: &Depot<M>,
     seat: &mut Seat<M>,
     affinity: Affinity,
-) -> Result<AnyGrant<M::Parcel, K>, Refusal>
+    place: &mut Option<AnyGrant<M::Parcel, K>>,
+) -> Result<(), Refusal>
     requires seat { IsSeatHere depot.now seat.old }
     requires node { IsNode (layout_in depot.now) (affinity_of affinity) }
+    requires none { place.old ≡ None }
     ensures seat { IsSeatHere depot.now seat.new }
     ensures splits { splits_left seat.new ≡ splits_left seat.old }
-    ensures granted { let L = layout_in depot.now in IfOk result (λ any.
-        IsGranted M.Parcel.kind (machine_of seat.old) L (view seat.old) (affinity_of affinity)
+    ensures granted { let L = layout_in depot.now in OnOk result ((any : _) × (place.new ≡ Some any)
+        × IsGranted M.Parcel.kind (machine_of seat.old) L (view seat.old) (affinity_of affinity)
         (lent_of L any) (view seat.new)) }
     ensures refused { IfErr result (λ refusal.
         IsRefused (layout_in depot.now) (view seat.old) affinity refusal (view seat.new)) }
+    ensures same { IfErr result (λ refusal. place.new ≡ place.old) }
 {
     match affinity.kind() {
-        Kind::Range => Ok(AnyGrant::Range(begin_node::<M, K::Range>(depot, seat, affinity)?)),
-        Kind::VolumeVbn => Ok(AnyGrant::Vbn(begin_node::<M, K::Vbn>(depot, seat, affinity)?)),
-        Kind::Stripe => Ok(AnyGrant::Stripe(begin_node::<M, K::Stripe>(depot, seat, affinity)?)),
-        Kind::VolumeLogical => Ok(AnyGrant::Logical(begin_node::<M, K::Logical>(
-            depot, seat, affinity,
-        )?)),
-        Kind::Volume => Ok(AnyGrant::Volume(begin_node::<M, K::Volume>(depot, seat, affinity)?)),
-        Kind::Aggregate => Ok(AnyGrant::Aggregate(begin_node::<M, K::Aggregate>(
-            depot, seat, affinity,
-        )?)),
-        Kind::Serial => Ok(AnyGrant::Serial(begin_node::<M, K::Serial>(depot, seat, affinity)?)),
+        Kind::Range => {
+            let node = begin_node::<M, K::Range>(depot, seat, affinity)?;
+            put(place, AnyGrant::Range(node));
+            Ok(())
+        }
+        Kind::VolumeVbn => {
+            let node = begin_node::<M, K::Vbn>(depot, seat, affinity)?;
+            put(place, AnyGrant::Vbn(node));
+            Ok(())
+        }
+        Kind::Stripe => {
+            let node = begin_node::<M, K::Stripe>(depot, seat, affinity)?;
+            put(place, AnyGrant::Stripe(node));
+            Ok(())
+        }
+        Kind::VolumeLogical => {
+            let node = begin_node::<M, K::Logical>(depot, seat, affinity)?;
+            put(place, AnyGrant::Logical(node));
+            Ok(())
+        }
+        Kind::Volume => {
+            let node = begin_node::<M, K::Volume>(depot, seat, affinity)?;
+            put(place, AnyGrant::Volume(node));
+            Ok(())
+        }
+        Kind::Aggregate => {
+            let node = begin_node::<M, K::Aggregate>(depot, seat, affinity)?;
+            put(place, AnyGrant::Aggregate(node));
+            Ok(())
+        }
+        Kind::Serial => {
+            let node = begin_node::<M, K::Serial>(depot, seat, affinity)?;
+            put(place, AnyGrant::Serial(node));
+            Ok(())
+        }
     }
 }
 

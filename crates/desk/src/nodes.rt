@@ -15,6 +15,7 @@ use depot_rule::machine::Machine;
 use parcel_sets::Node;
 
 /// Begins a call on a node of one kind.
+#[inline(never)]
 pub(crate) fn begin_node<M: Machine, N: Node<M::Parcel>>(
     depot: &Depot<M>,
     seat: &mut Seat<M>,
@@ -35,6 +36,7 @@ pub(crate) fn begin_node<M: Machine, N: Node<M::Parcel>>(
 }
 
 /// Ends a call on a node of one kind by an entry.
+#[inline(never)]
 pub(crate) fn finish_node<M: Machine, N: Node<M::Parcel>>(
     depot: &Depot<M>,
     seat: &mut Seat<M>,
@@ -56,6 +58,7 @@ pub(crate) fn finish_node<M: Machine, N: Node<M::Parcel>>(
 }
 
 /// Ends a call on a node of one kind without an entry.
+#[inline(never)]
 pub(crate) fn put_back_node<M: Machine, N: Node<M::Parcel>>(
     depot: &Depot<M>,
     seat: &mut Seat<M>,
