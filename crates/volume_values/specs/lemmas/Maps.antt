@@ -1,10 +1,10 @@
 -- Look-ups in a map whose values were changed.
-use Rattle.std.proofs.Common.{◌≡◌, ℕ, Bool, true, false, cond, List, [], ◌∷◌, map, Option, Some, None, refl, sym, ap, ◌∙◌, Ordering}
+use Rattle.std.proofs.Common.{◌≡◌, cond, List, [], ◌∷◌, map, Option, Some, None, refl, sym, ap, ◌∙◌, Ordering}
 use Rattle.std.specs.declared.cmp.Ordering.TheVariants.{Less, Equal, Greater}
 use Rattle.std.specs.Ordering.{is_eq, eq_by_cmp}
 use Rattle.std.specs.Option.{option_map}
 use Rattle.std.specs.Cmp.{IsTotalOrder}
-use Rattle.std.specs.FinMap.{FinMap, from_entries, entries, get, find, get-from_entries, get-entries, get-insert, get_tied, IsAntisymmetric}
+use Rattle.std.specs.FinMap.{FinMap, entries, get, find, get-from_entries, get-entries, get-insert, get_tied, IsAntisymmetric}
 use Rattle.volume_values.specs.Maps.{map_values, changed_value, changed_at}
 
 module _ {K X Y : Type 0} {R : K → K → Ordering} where
