@@ -112,8 +112,7 @@ returns-else-is_taken-clause-refused g c =
     let self = c.args.self.now in let layout = layout_in self.depot in let v = view self.seat in let gs = self.grants.items in
     let w = view c.begin_any.new.seat in
     let same = same-place gs c.args.worker c.index_mut.result.now c.begin_any.new.place c.index_mut.ensures.value c.in-Err-Worn.ensures.same in
-    let worn = subst (λ r. depots.IsRefused layout v c.args.affinity r w) c.in-Err-Worn.field-0-is c.in-Err-Worn.ensures.refused in
-    (
+    let worn = subst (λ r. depots.IsRefused layout v c.args.affinity r w) c.in-Err-Worn.field-0-is c.in-Err-Worn.ensures.refused in (
       free-books lent_of layout v gs (affinity_of c.args.affinity) (layout_of c.layout.result.now) c.as_slice.result.now c.is_taken.result c.layout.ensures
           (c.as_slice.ensures.value ∙ same) c.is_taken.ensures.1 c.if-is_taken.false,
       worn-so lent_of g.M.Parcel.HasKind.kind (machine_in self) layout self.depot.layout.lawful v w gs c.requires.kept
