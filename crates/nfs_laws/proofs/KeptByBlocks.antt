@@ -53,7 +53,10 @@ hand_among u n workers i k e = omega (arith, hands_replaced u n Empty workers i 
 
 -- a hand and the parts of a volume change, under one stamp
 abbrev in_hand : World → ℕ → ℕ → Hand → (Parts → Parts) → World
-in_hand w worker volume hand change = record (stamp_added w) { workers = changed_at (with_hand hand) w.workers worker; parts = changed_at change w.parts volume }
+in_hand w worker volume hand change = record (stamp_added w) {
+  workers = changed_at (with_hand hand) w.workers worker;
+  parts = changed_at change w.parts volume;
+}
 
 set_changed : {X : Type 0} (f : X → X) (xs : List X) (i : ℕ) (x : X) → slice_get xs i ≡ Some x → slice_set xs i (f x) ≡ changed_at f xs i
 set_changed f [] i x e = refl

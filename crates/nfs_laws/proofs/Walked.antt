@@ -11,7 +11,8 @@ use Rattle.nfs_model.specs.Home.{home_of_asked}
 use Rattle.nfs_model.specs.Replay.{FinishedCall}
 use Rattle.nfs_model.specs.World.{Heard, Setup, World, Connection, IsScan, changed_at, written_to, with_output, finish, is_crowded}
 use Rattle.nfs_model.specs.Events.Refusals.{takes_input}
-use Rattle.nfs_model.specs.Events.Feed.{feeding, stream_in, stream_of, with_bytes, bytes_taken, call_at_once, call_undecoded, admit, heard_in, Hears, completes_at}
+use Rattle.nfs_model.specs.Events.Feed.{feeding, stream_in, stream_of, with_bytes, bytes_taken, call_at_once, call_undecoded, admit}
+use Rattle.nfs_model.specs.Events.Feed.{heard_in, Hears, completes_at}
 use Rattle.nfs_model.specs.Events.Feed.{completes_next, is_full_at, StopsSound, StopsAt, halt, Feeds, feeding}
 use Rattle.nfs_laws.specs.Walk.{Reached, Further, Complete, AtFault, reached_at, reached, is_complete, with_byte, byte_taken, Takes, TakesFault, Stops, Walks}
 use Rattle.nfs_laws.proofs.Lists.{slice_get-changed_at}
@@ -203,7 +204,8 @@ module _ (setup : Setup) (c : ℕ) (w middle : World) (came : List ℕ) (b : ℕ
         ∙ ap (λ (hs : List Heard). (setup.codec.scan came).served ++ hs) is
         ∙ sym (append_assoc (setup.codec.scan came).served first more) ∙ ap (λ (hs : List Heard). hs ++ more) (sym one);
     hears = hears;
-    stops = subst (λ (s : List ℕ). StopsAt setup new (halt s (drop rest bytes) stop) (setup.codec.scan s).fault) (sym (one_byte came b (take rest bytes))) f.stops;
+    stops = subst (λ (s : List ℕ). StopsAt setup new (halt s (drop rest bytes) stop) (setup.codec.scan s).fault)
+      (sym (one_byte came b (take rest bytes))) f.stops;
   }
 
 -- ---- from the walk
