@@ -22,7 +22,7 @@ pub enum Affinity {
 }
 
 /// What an affinity is one of.
-#[derive(Clone, Copy, Debug, PartialEq, Eq)]
+#[derive(Clone, Copy, PartialEq, Eq)]
 pub enum Kind {
     Serial,
     Aggregate,

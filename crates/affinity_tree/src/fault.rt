@@ -6,7 +6,7 @@ ghost use Rattle.affinity_tree.specs.declared.fault.LayoutFault.TheVariants as f
 use std::alloc::AllocError;
 
 /// Why a layout is refused.
-#[derive(Clone, Copy, Debug, PartialEq, Eq)]
+#[derive(Clone, Copy)]
 pub enum LayoutFault {
     /// There are not 1 to 2 aggregates.
     AggregateCount,

@@ -13,7 +13,7 @@ pub struct Grant<T: HasKind, N: Node<T>> {
 }
 
 /// Why a call doesn't begin.
-#[derive(Clone, Copy, Debug, PartialEq, Eq)]
+#[derive(Clone, Copy)]
 pub enum Refusal {
     /// The word of a node was found taken.
     Busy { node: Affinity, word: u64 },

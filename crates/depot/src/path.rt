@@ -11,7 +11,7 @@ use crate::table::{Board, Place};
 use depot_rule::machine::Machine;
 
 /// The word that refused a claim, and its node.
-#[derive(Clone, Copy, Debug, PartialEq, Eq)]
+#[derive(Clone, Copy)]
 pub struct Busy {
     pub node: usize,
     pub word: u64,

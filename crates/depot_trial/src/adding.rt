@@ -1,7 +1,7 @@
 //! A machine for tests and measurements: each parcel is a number, and a call adds to its node's, or
 //! leaves it.
 
-ghost use Rattle.std.specs.Prelude.{◌≤◌, [], Option, IfOk, IfSome};
+ghost use Rattle.std.specs.Prelude.{◌≡◌, ◌≤◌, true, [], Option, IfOk, IfSome};
 ghost use Rattle.nfs_model.specs.Tree as trees;
 ghost use Rattle.affinity_tree.specs.Layout.{layout_of};
 ghost use Rattle.parcel_sets.specs.Exact.{kind_in, HasExactly};
@@ -16,7 +16,7 @@ use parcel_sets::{Node, Numbers, Parcel, SerialHeld, SerialNode, StripeNode, Vec
 use std::alloc::{AllocError, Global};
 
 /// A call on the number of its node.
-#[derive(Clone, Copy, Debug, PartialEq, Eq)]
+#[derive(Clone, Copy)]
 pub enum Change {
     /// Nothing changes, and the reply is 0.
     Touch,
@@ -106,15 +106,22 @@ pub fn split(depot: &Depot<Adding>, seat: Seat<Adding>) -> Option<(Seat<Adding>,
     }
 }
 
+/// Whether an affinity is a node of a depot's layout, and of this kind.
+pub(crate) fn is_node_of<M: Machine>(depot: &Depot<M>, kind: Kind, affinity: Affinity) -> bool
+    ensures { result ≡ true → IsNodeOf (layout_in depot.now) kind affinity }
+{
+    if affinity.kind() != kind {
+        return false;
+    }
+    depot.layout().contains(affinity)
+}
+
 /// The number of a stripe, by a call of its own. Nothing where the call wasn't granted.
 pub fn read(depot: &Depot<Adding>, seat: &mut Seat<Adding>, affinity: Affinity) -> Option<u64>
     requires seat { IsSeatHere depot.now seat.old }
     ensures seat { IsSeatHere depot.now seat.new }
 {
-    if affinity.kind() != Kind::Stripe {
-        return None;
-    }
-    if !depot.layout().contains(affinity) {
+    if !is_node_of(depot, Kind::Stripe, affinity) {
         return None;
     }
     match depot.begin::<StripeNode>(seat, affinity) {
@@ -137,10 +144,7 @@ pub fn add(
     requires seat { IsSeatHere depot.now seat.old }
     ensures seat { IsSeatHere depot.now seat.new }
 {
-    if affinity.kind() != Kind::Stripe {
-        return None;
-    }
-    if !depot.layout().contains(affinity) {
+    if !is_node_of(depot, Kind::Stripe, affinity) {
         return None;
     }
     match depot.begin::<StripeNode>(seat, affinity) {
@@ -186,10 +190,7 @@ pub fn touches<N: Node<Parcel<Numbers>>>(
     requires seat { IsSeatHere depot.now seat }
     ensures most { result ≤ count }
 {
-    if affinity.kind() != N::KIND {
-        return 0;
-    }
-    if !depot.layout().contains(affinity) {
+    if !is_node_of(depot, N::KIND, affinity) {
         return 0;
     }
     let mut refused = 0;

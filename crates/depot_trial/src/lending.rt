@@ -5,7 +5,7 @@ ghost use Rattle.depot_rule.specs.History.{entries_of};
 ghost use Rattle.depot.specs.Words.{view, IsSeatHere};
 ghost use Rattle.depot_trial.specs.Lending.{IsHand};
 
-use crate::adding::{all_of, volumes};
+use crate::adding::{all_of, is_node_of, volumes};
 use affinity_tree::{Affinity, Kind};
 use depot::{Depot, Seat};
 use depot_rule::machine::Machine;
@@ -13,7 +13,7 @@ use parcel_sets::{Numbers, Parcel, SerialNode, StripeNode};
 use std::alloc::{AllocError, Global};
 
 /// A call on the tokens of its node.
-#[derive(Clone, Copy, Debug, PartialEq, Eq)]
+#[derive(Clone, Copy)]
 pub enum Move {
     /// So many tokens go from the node's parcel into the hand, as one batch.
     Take(u64),
@@ -77,10 +77,7 @@ pub fn take(
         → IsHand (view seat.new) (count ∷ hand) }
     ensures kept { result ≡ false → entries_of (view seat.new) ≡ entries_of (view seat.old) }
 {
-    if affinity.kind() != Kind::Stripe {
-        return false;
-    }
-    if !depot.layout().contains(affinity) {
+    if !is_node_of(depot, Kind::Stripe, affinity) {
         return false;
     }
     match depot.begin::<StripeNode>(seat, affinity) {
@@ -114,10 +111,7 @@ pub fn give(
         → IsHand (view seat.new) rest }
     ensures kept { result ≡ false → entries_of (view seat.new) ≡ entries_of (view seat.old) }
 {
-    if affinity.kind() != Kind::Stripe {
-        return false;
-    }
-    if !depot.layout().contains(affinity) {
+    if !is_node_of(depot, Kind::Stripe, affinity) {
         return false;
     }
     match depot.begin::<StripeNode>(seat, affinity) {

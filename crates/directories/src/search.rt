@@ -10,7 +10,7 @@ use nfs_values::Cookie;
 use std::cmp::Ordering;
 
 /// What a search for a name has found.
-#[derive(Clone, Copy, Debug, PartialEq, Eq)]
+#[derive(Clone, Copy)]
 pub struct Search {
     /// Where in the index the name is, or where it belongs.
     pub place: usize,

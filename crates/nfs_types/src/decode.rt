@@ -178,7 +178,7 @@ impl<'a> Decode<'a> for SetAttributes {
 }
 
 /// How stable a WRITE is to be (stable_how, RFC 1813 section 3.3.7).
-#[derive(Clone, Copy, Debug, PartialEq, Eq)]
+#[derive(Clone, Copy)]
 pub enum StableHow {
     Unstable = 0,
     DataSync = 1,

@@ -23,7 +23,7 @@ pub struct ReadResults {
 }
 
 /// WRITE3resok (RFC 1813 section 3.3.7); the bytes are on stable storage.
-#[derive(Clone, Copy, Debug, PartialEq, Eq)]
+#[derive(Clone, Copy)]
 pub struct WriteResults {
     pub count: u32,
     pub verifier: Verifier,
@@ -54,7 +54,7 @@ pub struct ReadDirectoryResults {
 }
 
 /// FSSTAT3resok (RFC 1813 section 3.3.18). What is free is available to every user.
-#[derive(Clone, Copy, Debug, PartialEq, Eq)]
+#[derive(Clone, Copy)]
 pub struct FilesystemStatusResults {
     pub root: Attributes,
     pub total_bytes: u64,
@@ -64,14 +64,14 @@ pub struct FilesystemStatusResults {
 }
 
 /// COMMIT3resok (RFC 1813 section 3.3.21).
-#[derive(Clone, Copy, Debug, PartialEq, Eq)]
+#[derive(Clone, Copy)]
 pub struct CommitResults {
     pub file: Change,
     pub verifier: Verifier,
 }
 
 /// What CENSUS tells of a volume, in blocks.
-#[derive(Clone, Copy, Debug, PartialEq, Eq)]
+#[derive(Clone, Copy)]
 pub struct VolumeCount {
     pub volume: VolumeNumber,
     pub total: u64,

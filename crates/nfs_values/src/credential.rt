@@ -1,7 +1,7 @@
 //! Whom a call acts for.
 
 /// The user and the group of a call (RFC 5531, appendix A).
-#[derive(Clone, Copy, Debug, PartialEq, Eq)]
+#[derive(Clone, Copy)]
 pub struct Credential {
     pub uid: u32,
     pub gid: u32,

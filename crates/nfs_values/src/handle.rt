@@ -7,7 +7,7 @@ use crate::number::{Fileid, VolumeNumber};
 use std::marker::Model;
 
 /// What a good handle names: a file or directory, which may be gone (our profile).
-#[derive(Clone, Copy, Debug, PartialEq, Eq)]
+#[derive(Clone, Copy)]
 pub struct Named {
     pub volume: VolumeNumber,
     pub fileid: Fileid,

@@ -6,7 +6,7 @@ ghost use Rattle.std.specs.Fmt.{decimal};
 use std::fmt;
 
 /// The number of a file or directory in its volume (fileid3, RFC 1813 section 2.5).
-#[derive(Clone, Copy, Debug, PartialEq, Eq, PartialOrd, Ord, Hash)]
+#[derive(Clone, Copy, Debug, PartialEq, Eq)]
 pub struct Fileid(pub u64);
 
 impl Fileid {
@@ -15,7 +15,7 @@ impl Fileid {
 }
 
 /// The place of an entry in its directory (cookie3, RFC 1813 section 2.5).
-#[derive(Clone, Copy, Debug, PartialEq, Eq, PartialOrd, Ord, Hash)]
+#[derive(Clone, Copy, Debug, PartialEq, Eq)]
 pub struct Cookie(pub u64);
 
 impl Cookie {
@@ -24,15 +24,15 @@ impl Cookie {
 }
 
 /// The number of a volume, from 0 on.
-#[derive(Clone, Copy, Debug, PartialEq, Eq, PartialOrd, Ord, Hash)]
+#[derive(Clone, Copy, Debug, PartialEq, Eq)]
 pub struct VolumeNumber(pub u32);
 
 /// The number of a block in its volume, from 0 on (our profile).
-#[derive(Clone, Copy, Debug, PartialEq, Eq, PartialOrd, Ord, Hash)]
+#[derive(Clone, Copy, Debug, PartialEq, Eq)]
 pub struct BlockNumber(pub u32);
 
 /// The number of a connection, from 0 on.
-#[derive(Clone, Copy, Debug, PartialEq, Eq, PartialOrd, Ord, Hash)]
+#[derive(Clone, Copy, Debug, PartialEq, Eq)]
 pub struct ConnectionNumber(pub usize);
 
 impl fmt::Display for ConnectionNumber {
@@ -44,5 +44,5 @@ impl fmt::Display for ConnectionNumber {
 }
 
 /// The number of a worker, from 0 on.
-#[derive(Clone, Copy, Debug, PartialEq, Eq, PartialOrd, Ord, Hash)]
+#[derive(Clone, Copy)]
 pub struct WorkerNumber(pub usize);

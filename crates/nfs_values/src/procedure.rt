@@ -9,7 +9,7 @@ pub const NFS_PROGRAM: u32 = 100003;
 pub const ADMIN_PROGRAM: u32 = 0x2000_0001;
 
 /// A procedure, offered or not.
-#[derive(Clone, Copy, Debug, PartialEq, Eq)]
+#[derive(Clone, Copy)]
 pub enum Procedure {
     /// NULL of NFS (RFC 1813 section 3.3.0).
     Null,

@@ -5,7 +5,7 @@ ghost use Rattle.std.specs.Prelude.{◌≡◌};
 use crate::answer::Answer;
 
 /// Why a credential is refused (auth_stat, RFC 5531 section 9).
-#[derive(Clone, Copy, Debug, PartialEq, Eq)]
+#[derive(Clone, Copy)]
 pub enum AuthFault {
     BadCredential = 1,
     RejectedCredential = 2,

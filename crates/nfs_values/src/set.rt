@@ -4,7 +4,7 @@ use crate::moment::Moment;
 use crate::verifier::Verifier;
 
 /// How a time is set (set_atime and set_mtime, RFC 1813 section 2.6).
-#[derive(Clone, Copy, Debug, PartialEq, Eq)]
+#[derive(Clone, Copy, PartialEq, Eq)]
 pub enum SetTime {
     /// It stays as it is.
     Keep,
@@ -15,7 +15,7 @@ pub enum SetTime {
 }
 
 /// The attributes to set (sattr3, RFC 1813 section 2.6). What is `None` stays as it is.
-#[derive(Clone, Copy, Debug, PartialEq, Eq)]
+#[derive(Clone, Copy, PartialEq, Eq)]
 pub struct SetAttributes {
     pub mode: Option<u32>,
     pub uid: Option<u32>,
@@ -26,7 +26,7 @@ pub struct SetAttributes {
 }
 
 /// How a file is created (createhow3, RFC 1813 section 3.3.8).
-#[derive(Clone, Copy, Debug, PartialEq, Eq)]
+#[derive(Clone, Copy, PartialEq, Eq)]
 pub enum CreateMode {
     Unchecked(SetAttributes),
     Guarded(SetAttributes),

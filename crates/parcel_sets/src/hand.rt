@@ -1,7 +1,7 @@
 //! Hands.
 
 /// What a worker carries between the parts of a volume: a batch of block numbers, perhaps none.
-#[derive(Debug, Drop)]
+#[derive(Drop)]
 pub enum Hand<B> {
     Empty,
     /// Free blocks of a volume, on their way to its stock.

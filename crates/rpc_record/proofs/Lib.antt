@@ -7,3 +7,4 @@ pub mod Chunks
 pub mod Came
 pub mod Feeding
 pub mod Unique
+mod Walks

@@ -14,7 +14,7 @@ use std::marker::Model;
 use std::mem;
 
 /// What bytes that were fed led to.
-#[derive(Debug, Drop)]
+#[derive(Drop)]
 pub enum Step {
     /// The bytes taken end a record, whose data this is.
     Record(Vec<u8>),
@@ -27,7 +27,7 @@ pub enum Step {
 }
 
 /// What bytes would lead to.
-#[derive(Clone, Copy, Debug, PartialEq, Eq)]
+#[derive(Clone, Copy)]
 pub enum Look {
     /// They would end a record.
     Record,

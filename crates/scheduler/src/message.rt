@@ -4,7 +4,7 @@ use affinity_tree::Affinity;
 use nfs_values::{ConnectionNumber, Credential};
 
 /// The record that a call came in.
-#[derive(Clone, Copy, Debug, PartialEq, Eq)]
+#[derive(Clone, Copy)]
 pub struct Origin {
     pub connection: ConnectionNumber,
     /// Its place among the records that the connection served, from 0.

@@ -42,7 +42,7 @@ pub struct Full<C> {
 }
 
 /// The list has no such place.
-#[derive(Clone, Copy, Debug, PartialEq, Eq)]
+#[derive(Clone, Copy)]
 pub struct NoSuchCall;
 
 /// At most 1,024 messages that wait, one list in the order of their arrival. Only `new` takes
