@@ -1,137 +1,158 @@
 //! Grants of a depot: what excludes what, how many seats there are, and what one call leaves to the
 //! next.
 
-use crate::trial::{Found, claim, close_joined, holds_beside, look, splits};
+ghost use Rattle.depot.specs.Words.{IsSeatHere};
+
+use crate::trial::{
+    Found, claim_all, claim_any, close_joined, holds_beside, look, opened, same, splits, two_seats,
+};
 use affinity_tree::Affinity;
-use depot_trial::adding::{add, open, read, split, touches};
+use depot::{Depot, Seat};
+use depot_trial::adding::{Adding, add, read, touches};
 use depot_trial::lending;
 use depot_trial::lending::{give, take};
-use parcel_sets::{LogicalNode, RangeNode, SerialNode, StripeNode, VbnNode, VolumeNode};
+use parcel_sets::StripeNode;
+use std::process::Abort;
 use std::sync::atomic::AtomicBool;
 use std::test::Fail;
-use std::thread;
+use std::{mem, thread};
 
 fn stripe(volume: u32, stripe: u32) -> Affinity {
     Affinity::Stripe { volume, stripe }
 }
 
-#[test]
-fn beside_a_stripe(rt: HostRuntime) -> Result<(), Fail> {
-    let (depot, seat) = open::<2>(rt.alloc()).ok_or("no depot")?;
-    let (mut one, mut other) = split(&depot, seat).ok_or("no split is left")?;
-    assert_eq!(rt;
-        claim::<StripeNode>(&depot, &mut one, stripe(0, 2)),
-        Found::Granted
-    );
-    let volume = claim::<VolumeNode>(&depot, &mut other, Affinity::Volume(0));
-    assert_eq!(rt; volume, Found::Busy(Affinity::Volume(0)));
-    let serial = claim::<SerialNode>(&depot, &mut other, Affinity::Serial);
-    assert_eq!(rt; serial, Found::Busy(Affinity::Serial));
-    let same = claim::<StripeNode>(&depot, &mut other, stripe(0, 2));
-    assert_eq!(rt; same, Found::Busy(stripe(0, 2)));
-    assert_eq!(rt;
-        claim::<StripeNode>(&depot, &mut other, stripe(0, 3)),
-        Found::Granted
-    );
-    let logical = claim::<LogicalNode>(&depot, &mut other, Affinity::VolumeLogical(1));
-    assert_eq!(rt; logical, Found::Granted);
-    let range = Affinity::Range {
-        volume: 0,
-        range: 0,
-    };
-    assert_eq!(rt; claim::<RangeNode>(&depot, &mut one, range), Found::Granted);
-    Ok(())
-}
+/// Stripe 2 of volume 0.
+const STRIPE: Affinity = Affinity::Stripe {
+    volume: 0,
+    stripe: 2,
+};
+
+const OTHER_STRIPE: Affinity = Affinity::Stripe {
+    volume: 0,
+    stripe: 3,
+};
+
+/// Where the stripe is held, what others may have.
+const BESIDE: [(Affinity, Found); 5] = [
+    (Affinity::Volume(0), Found::Busy(Affinity::Volume(0))),
+    (Affinity::Serial, Found::Busy(Affinity::Serial)),
+    (STRIPE, Found::Busy(STRIPE)),
+    (OTHER_STRIPE, Found::Granted),
+    (Affinity::VolumeLogical(1), Found::Granted),
+];
+
+const RANGE: Affinity = Affinity::Range {
+    volume: 0,
+    range: 0,
+};
 
 #[test]
-fn below_a_grant(rt: HostRuntime) -> Result<(), Fail> {
-    let (depot, seat) = open::<2>(rt.alloc()).ok_or("no depot")?;
-    let (mut one, mut other) = split(&depot, seat).ok_or("no split is left")?;
-    let logical = Affinity::VolumeLogical(0);
-    assert_eq!(rt;
-        claim::<LogicalNode>(&depot, &mut one, logical),
-        Found::Granted
-    );
+fn beside_a_stripe(rt: HostRuntime) {
+    let (depot, mut one, mut other) = two_seats(&rt);
+    claim_all(&rt, &depot, &mut one, &[(STRIPE, Found::Granted)]);
+    claim_all(&rt, &depot, &mut other, &BESIDE);
+    claim_all(&rt, &depot, &mut one, &[(RANGE, Found::Granted)]);
+    mem::forget((depot, one, other));
+}
+
+const LOGICAL: Affinity = Affinity::VolumeLogical(0);
+
+/// Claims the stripes of volume 0 whose names are held.
+fn refuse_stripes(rt: &impl Abort, depot: &Depot<Adding>, seat: &mut Seat<Adding>)
+    requires seat { IsSeatHere depot.now seat.old }
+    ensures seat { IsSeatHere depot.now seat.new }
+{
     for number in 0..8 {
-        let below = claim::<StripeNode>(&depot, &mut other, stripe(0, number));
-        assert_eq!(rt; below, Found::Busy(logical));
+        let below = claim_any(depot, seat, stripe(0, number));
+        same(rt, &below, &Found::Busy(LOGICAL));
     }
-    let vbn = claim::<VbnNode>(&depot, &mut other, Affinity::VolumeVbn(0));
-    assert_eq!(rt; vbn, Found::Granted);
-    Ok(())
 }
 
 #[test]
-fn seats(rt: HostRuntime) -> Result<(), Fail> {
-    let (depot, seat) = open::<2>(rt.alloc()).ok_or("no depot")?;
-    assert_eq!(rt; splits(&depot, seat, 100), (63, 23));
-    Ok(())
+fn below_a_grant(rt: HostRuntime) {
+    let (depot, mut one, mut other) = two_seats(&rt);
+    claim_all(&rt, &depot, &mut one, &[(LOGICAL, Found::Granted)]);
+    refuse_stripes(&rt, &depot, &mut other);
+    let vbn = (Affinity::VolumeVbn(0), Found::Granted);
+    claim_all(&rt, &depot, &mut other, &[vbn]);
+    mem::forget((depot, one, other));
 }
 
 #[test]
-fn an_end(rt: HostRuntime) -> Result<(), Fail> {
-    assert_eq!(rt; close_joined(rt.alloc())?, 0);
-    Ok(())
+fn seats(rt: HostRuntime) {
+    let (depot, seat) = opened(&rt);
+    let made = splits(&depot, seat, 100);
+    mem::forget(depot);
+    same(&rt, &made, &(63, 23));
 }
 
 #[test]
-fn effects(rt: HostRuntime) -> Result<(), Fail> {
-    let (depot, seat) = open::<2>(rt.alloc()).ok_or("no depot")?;
-    let (mut one, mut other) = split(&depot, seat).ok_or("no split is left")?;
-    assert_eq!(rt; look(&depot, &mut one, stripe(0, 2)), Some(0));
-    assert_eq!(rt; add(&depot, &mut one, stripe(0, 2), 7), Some(7));
+fn an_end(rt: HostRuntime) {
+    same(&rt, &close_joined(&rt, rt.alloc()), &0);
+}
+
+#[test]
+fn effects(rt: HostRuntime) {
+    let (depot, mut one, mut other) = two_seats(&rt);
+    let before = look(&depot, &mut one, STRIPE);
+    let added = add(&depot, &mut one, STRIPE, 7);
     depot.meet(&mut one, &mut other);
-    assert_eq!(rt; look(&depot, &mut other, stripe(0, 2)), Some(7));
-    assert_eq!(rt; read(&depot, &mut other, stripe(0, 2)), Some(7));
-    assert_eq!(rt; look(&depot, &mut other, stripe(0, 3)), Some(0));
-    Ok(())
+    let after = look(&depot, &mut other, STRIPE);
+    let told = read(&depot, &mut other, STRIPE);
+    let beside = look(&depot, &mut other, OTHER_STRIPE);
+    mem::forget((depot, one, other));
+    same(&rt, &[before, beside], &[Some(0), Some(0)]);
+    same(&rt, &[added, after, told], &[Some(7), Some(7), Some(7)]);
 }
 
 #[test]
 fn lent_tokens(rt: HostRuntime) -> Result<(), Fail> {
     let (depot, mut seat) = lending::open(rt.alloc())?;
-    if !take(&depot, &mut seat, stripe(0, 2), 5) {
-        return Err("5 of 7 tokens weren't taken".into());
-    }
-    assert!(rt; give(&depot, &mut seat, stripe(0, 3), 5));
-    assert!(rt; !take(&depot, &mut seat, stripe(0, 2), 5));
-    assert!(rt; take(&depot, &mut seat, stripe(0, 2), 2));
-    assert!(rt; take(&depot, &mut seat, stripe(0, 3), 12));
+    assert!(rt; take(&depot, &mut seat, STRIPE, 5));
+    let given = give(&depot, &mut seat, OTHER_STRIPE, 5);
+    let missing = take(&depot, &mut seat, STRIPE, 5);
+    let left = take(&depot, &mut seat, STRIPE, 2);
+    let moved = take(&depot, &mut seat, OTHER_STRIPE, 12);
+    mem::forget((depot, seat));
+    same(
+        &rt,
+        &[given, missing, left, moved],
+        &[true, false, true, true],
+    );
     Ok(())
 }
 
 #[test]
-fn two_threads(rt: HostRuntime) -> Result<(), Fail> {
-    let (depot, seat) = open::<2>(rt.alloc()).ok_or("no depot")?;
-    let (one, other) = split(&depot, seat).ok_or("no split is left")?;
-    let depot = &depot;
+fn two_threads(rt: HostRuntime) {
+    let (depot, one, other) = two_seats(&rt);
+    let held = &depot;
     let (first, second) = (AtomicBool::new(false), AtomicBool::new(false));
     let (here, there) = thread::join(
         &rt,
-        || holds_beside(depot, one, stripe(0, 2), &first, &second),
-        || holds_beside(depot, other, stripe(0, 3), &second, &first),
+        || holds_beside(held, one, STRIPE, &first, &second),
+        || holds_beside(held, other, OTHER_STRIPE, &second, &first),
     );
-    assert!(rt; here && there);
-    Ok(())
+    mem::forget(depot);
+    same(&rt, &(here, there), &(true, true));
 }
 
 #[test]
-fn calls_of_one_thread(rt: HostRuntime) -> Result<(), Fail> {
-    let (depot, seat) = open::<4>(rt.alloc()).ok_or("no depot")?;
-    assert_eq!(rt; touches::<StripeNode>(&depot, seat, stripe(0, 0), 10), 10);
-    Ok(())
+fn calls_of_one_thread(rt: HostRuntime) {
+    let (depot, seat) = opened(&rt);
+    let granted = touches::<StripeNode>(&depot, seat, stripe(0, 0), 10);
+    mem::forget(depot);
+    same(&rt, &granted, &10);
 }
 
 #[test]
-fn calls_of_two_threads(rt: HostRuntime) -> Result<(), Fail> {
-    let (depot, seat) = open::<4>(rt.alloc()).ok_or("no depot")?;
-    let (one, other) = split(&depot, seat).ok_or("no split is left")?;
-    let depot = &depot;
-    let (here, there) = thread::join(
+fn calls_of_two_threads(rt: HostRuntime) {
+    let (depot, one, other) = two_seats(&rt);
+    let shared = &depot;
+    let granted = thread::join(
         &rt,
-        || touches::<StripeNode>(depot, one, stripe(0, 0), 10),
-        || touches::<StripeNode>(depot, other, stripe(0, 1), 10),
+        || touches::<StripeNode>(shared, one, stripe(0, 0), 10),
+        || touches::<StripeNode>(shared, other, stripe(0, 1), 10),
     );
-    assert_eq!(rt; (here, there), (10, 10));
-    Ok(())
+    mem::forget(depot);
+    same(&rt, &granted, &(10, 10));
 }

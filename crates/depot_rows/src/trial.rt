@@ -4,11 +4,15 @@ ghost use Rattle.depot.specs.Words.{IsSeatHere};
 
 use affinity_tree::{Affinity, Kind};
 use depot::{Depot, Refusal, Seat};
-use depot_trial::adding::{Adding, all_of, volumes};
-use parcel_sets::{Node, Numbers, Parcel, SerialNode, StripeNode};
+use depot_trial::adding::{Adding, all_of, open, split, volumes};
+use parcel_sets::{
+    LogicalNode, Node, Numbers, Parcel, RangeNode, SerialNode, StripeNode, VbnNode, VolumeNode,
+};
 use std::alloc::Global;
+use std::fmt::Debug;
+use std::mem;
+use std::process::Abort;
 use std::sync::atomic::{AtomicBool, Ordering};
-use std::test::Fail;
 
 /// What came of a claim.
 #[derive(Clone, Copy, Debug, PartialEq, Eq)]
@@ -19,19 +23,43 @@ pub enum Found {
     Other,
 }
 
+/// Looks whether this is what is wanted.
+pub fn same<T: PartialEq + Debug>(rt: &impl Abort, found: &T, wanted: &T) {
+    assert_eq!(rt; found, wanted);
+}
+
+/// A depot with four volumes in which each parcel is 0, and its first seat.
+pub fn opened(rt: &(impl Abort + AllocGlobal)) -> (Depot<Adding>, Seat<Adding>)
+    ensures { IsSeatHere result.0 result.1 }
+{
+    open::<4>(rt.alloc()).expect(rt, "no depot")
+}
+
+/// Such a depot, and two seats of it.
+pub fn two_seats(rt: &(impl Abort + AllocGlobal)) -> (Depot<Adding>, Seat<Adding>, Seat<Adding>)
+    ensures first { IsSeatHere result.0 result.1 }
+    ensures second { IsSeatHere result.0 result.2 }
+{
+    let (depot, seat) = opened(rt);
+    let (one, other) = split(&depot, seat).expect(rt, "no split is left");
+    (depot, one, other)
+}
+
 /// The root's parcel of a depot whose seat was split and joined again, and which was then closed.
-pub fn close_joined(alloc: Global) -> Result<u64, Fail> {
-    let layout = volumes::<2>(alloc).ok_or("no layout")?;
-    let parcels = all_of(alloc, &layout, 0)?;
+pub fn close_joined(rt: &impl Abort, alloc: Global) -> u64 {
+    let layout = volumes::<2>(alloc).expect(rt, "no layout");
+    let parcels = all_of(alloc, &layout, 0).expect(rt, "no memory");
     let Ok((depot, seat)) = Depot::<Adding>::new::<SerialNode>(alloc, layout, parcels) else {
-        return Err("no memory".into());
+        panic!(rt; "no memory");
     };
     let Ok((one, other)) = depot.split_seat(seat) else {
-        return Err("no split is left".into());
+        panic!(rt; "no split is left");
     };
     let seat = depot.join_seat(one, other);
     let held = depot.close::<SerialNode>(seat);
-    Ok(held.own)
+    let own = held.own;
+    mem::forget(held);
+    own
 }
 
 /// How many seats can be split off, up to so many, and the number of the refusal after these.
@@ -71,6 +99,37 @@ where
     }
 }
 
+/// Claims a node that is no aggregate, for good.
+pub fn claim_any(depot: &Depot<Adding>, seat: &mut Seat<Adding>, affinity: Affinity) -> Found
+    requires seat { IsSeatHere depot.now seat.old }
+    ensures seat { IsSeatHere depot.now seat.new }
+{
+    match affinity.kind() {
+        Kind::Stripe => claim::<StripeNode>(depot, seat, affinity),
+        Kind::VolumeLogical => claim::<LogicalNode>(depot, seat, affinity),
+        Kind::VolumeVbn => claim::<VbnNode>(depot, seat, affinity),
+        Kind::Range => claim::<RangeNode>(depot, seat, affinity),
+        Kind::Volume => claim::<VolumeNode>(depot, seat, affinity),
+        Kind::Serial => claim::<SerialNode>(depot, seat, affinity),
+        Kind::Aggregate => Found::Other,
+    }
+}
+
+/// Claims nodes for good, one after the other, and looks what comes of each.
+pub fn claim_all(
+    rt: &impl Abort,
+    depot: &Depot<Adding>,
+    seat: &mut Seat<Adding>,
+    rows: &[(Affinity, Found)],
+)
+    requires seat { IsSeatHere depot.now seat.old }
+    ensures seat { IsSeatHere depot.now seat.new }
+{
+    for (affinity, wanted) in rows {
+        same(rt, &claim_any(depot, seat, *affinity), wanted);
+    }
+}
+
 /// The parcel of a stripe, by a call that ends without an entry.
 pub fn look(depot: &Depot<Adding>, seat: &mut Seat<Adding>, affinity: Affinity) -> Option<u64>
     requires seat { IsSeatHere depot.now seat.old }
@@ -105,7 +164,9 @@ pub fn holds_beside(
 ) -> bool
     requires seat { IsSeatHere depot.now seat }
 {
-    if claim::<StripeNode>(depot, &mut seat, affinity) != Found::Granted {
+    let found = claim::<StripeNode>(depot, &mut seat, affinity);
+    mem::forget(seat);
+    if found != Found::Granted {
         return false;
     }
     mine.store(true, Ordering::SeqCst);

@@ -9,7 +9,7 @@ use parcel_sets::{
 };
 
 /// Adds to the number of a stripe, and gives the sum. Of other nodes it changes nothing.
-#[derive(Clone, Copy, Debug, PartialEq, Eq)]
+#[derive(Clone, Copy)]
 pub(crate) struct Adder {
     pub(crate) number: u64,
 }

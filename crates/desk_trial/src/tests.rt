@@ -3,7 +3,7 @@
 use crate::turns::{Turn, close, open, take_turn};
 use affinity_tree::Affinity;
 use parcel_sets::{Numbers, SerialHeld};
-use std::test::Fail;
+use std::mem;
 
 const STRIPE: Affinity = Affinity::Stripe {
     volume: 0,
@@ -46,17 +46,26 @@ fn number_of(held: &SerialHeld<Numbers>) -> Option<u64> {
     Some(stripe.own)
 }
 
+/// What came of a turn, as a row has it.
+fn told(turn: Option<Turn>) -> Option<(Option<u32>, Option<u64>)> {
+    match turn {
+        Some(turn) => Some((turn.beside, turn.sum)),
+        None => None,
+    }
+}
+
 #[test]
-fn turns(rt: HostRuntime) -> Result<(), Fail> {
-    let mut desk = open::<2>(rt.alloc(), 3).ok_or("no memory")?;
+fn turns(rt: HostRuntime) {
+    let mut desk = open(&rt, 3);
     assert_eq!(rt; desk.worker_count(), 3);
-    for (affinity, asked, beside, sum) in ROWS {
-        let turn = take_turn(&mut desk, [2, 0], [affinity, asked], 5);
-        assert_eq!(rt; turn, Some(Turn { beside, sum }));
+    for (affinity, asked, beside, sum) in &ROWS {
+        let turn = take_turn(&mut desk, [2, 0], [*affinity, *asked], 5);
+        assert_eq!(rt; told(turn), Some((*beside, *sum)));
         assert!(rt; !desk.is_taken(Affinity::Serial));
     }
-    assert_eq!(rt; take_turn(&mut desk, [2, 3], [STRIPE, STRIPE], 1), None);
-    let held = close(desk).ok_or("a worker isn't idle")?;
+    let refused = take_turn(&mut desk, [2, 3], [STRIPE, STRIPE], 1);
+    assert_eq!(rt; told(refused), None);
+    let held = close(&rt, desk);
     assert_eq!(rt; number_of(&held), Some(10));
-    Ok(())
+    mem::forget(held);
 }

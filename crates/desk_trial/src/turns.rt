@@ -1,6 +1,6 @@
 //! Calls on a desk of numbers, from begin to end.
 
-ghost use Rattle.std.specs.Prelude.{◌≡◌, ◌≢◌, ◌↔◌, ◌≤◌, ℕ, true, IfSome};
+ghost use Rattle.std.specs.Prelude.{◌≡◌, ◌≢◌, ◌↔◌, ℕ, true};
 ghost use Rattle.affinity_tree.specs.Affinity.{affinity_of};
 ghost use Rattle.affinity_tree.specs.Tree.{IsNode};
 ghost use Rattle.desk_laws.specs.Books.{IsIdle};
@@ -12,33 +12,26 @@ use affinity_tree::Affinity;
 use depot_trial::adding::{Adding, Change, all_of, volumes};
 use desk::{Desk, ParcelKinds};
 use parcel_sets::{Numbers, SerialHeld};
-use std::alloc::Global;
+use std::process::Abort;
 
 /// A desk of numbers that calls add to.
 pub(crate) type Counters = Desk<Adding, ParcelKinds>;
 
 /// What came of a call that was asked for in the midst of another, the number of its refusal if it
 /// was refused, and of the other, the sum where it had one.
-#[derive(Clone, Copy, Debug, PartialEq, Eq)]
+#[derive(Clone, Copy)]
 pub(crate) struct Turn {
     pub(crate) beside: Option<u32>,
     pub(crate) sum: Option<u64>,
 }
 
-/// A desk with so many volumes in which each parcel is 0, and so many idle workers. Nothing where
-/// memory ran out.
-pub(crate) fn open<const N: usize>(alloc: Global, workers: usize) -> Option<Counters>
-    requires few { N ≤ 8 }
-    ensures { IfSome result (λ desk. IsKept desk) }
+/// A desk with two volumes in which each parcel is 0, and so many idle workers.
+pub(crate) fn open(rt: &(impl Abort + AllocGlobal), workers: usize) -> Counters
+    ensures { IsKept result }
 {
-    let layout = volumes::<N>(alloc)?;
-    let Ok(parcels) = all_of(alloc, &layout, 0) else {
-        return None;
-    };
-    match Desk::new(alloc, layout, parcels, workers) {
-        Ok(desk) => Some(desk),
-        Err(_) => None,
-    }
+    let layout = volumes::<2>(rt.alloc()).expect(rt, "no layout");
+    let parcels = all_of(rt.alloc(), &layout, 0).expect(rt, "no memory");
+    Desk::new(rt.alloc(), layout, parcels, workers).expect(rt, "no memory")
 }
 
 /// Whether a worker is idle and the layout has an affinity.
@@ -128,11 +121,9 @@ fn are_idle(desk: &Counters) -> bool
 }
 
 /// Ends a desk whose workers are idle. All parcels come back.
-pub(crate) fn close(desk: Counters) -> Option<SerialHeld<Numbers>>
+pub(crate) fn close(rt: &impl Abort, desk: Counters) -> SerialHeld<Numbers>
     requires kept { IsKept desk }
 {
-    if !are_idle(&desk) {
-        return None;
-    }
-    Some(desk.close())
+    assert!(rt; are_idle(&desk));
+    desk.close()
 }

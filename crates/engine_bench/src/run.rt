@@ -99,13 +99,26 @@ fn opened(alloc: Global, volumes: &[VolumeSpec], workers: usize) -> Result<Engin
     Engine::play(alloc, layout, [0; 8], workers, &[Event::Open])
 }
 
+/// Measures calls on the last volume of a layout, run by the last worker.
+fn measure<R: Clock + Print + AllocGlobal>(
+    rt: &R,
+    volumes: &[VolumeSpec],
+    last_volume: u8,
+    workers: usize,
+    count: u32,
+) -> io::Result<()>
+    requires some { 1 ≤ workers }
+    requires most { workers ≤ 64 }
+{
+    let mut engine = opened(rt.alloc(), volumes, workers)?;
+    measure_calls(rt, &mut engine, last_volume, workers - 1, count)
+}
+
 /// Measures a small layout with one worker, and the last volume of the largest, with the last of
 /// the most workers.
 pub fn run<R: Clock + Print + AllocGlobal>(rt: &R, count: u32) -> io::Result<()> {
     print!(rt; "1 volume of 8 stripes, 1 worker: ")?;
-    let mut small = opened(rt.alloc(), &[VolumeSpec::new(0, 1)], 1)?;
-    measure_calls(rt, &mut small, 0, 0, count)?;
+    measure(rt, &[VolumeSpec::new(0, 1)], 0, 1, count)?;
     print!(rt; "8 volumes of 16 stripes, 64 workers: ")?;
-    let mut large = opened(rt.alloc(), &[LARGEST; 8], 64)?;
-    measure_calls(rt, &mut large, 7, 63, count)
+    measure(rt, &[LARGEST; 8], 7, 64, count)
 }

@@ -11,7 +11,9 @@ use nfs_values::{
     Moment, Named, PriorAttributes, Reply, SetAttributes, SetTime, Status, Verifier, VolumeNumber,
 };
 use service::{JobReply, Service};
-use std::test::Fail;
+use std::fmt::Debug;
+use std::mem;
+use std::process::Abort;
 
 /// A moment of whole seconds.
 const fn at(seconds: u32) -> Moment {
@@ -68,10 +70,12 @@ fn get(
     ensures { IsSeatHere depot.now seat.new }
 {
     let reply = serve(depot, seat, asker, Call::GetAttributes { handle })?;
-    match &reply {
+    let told = match &reply {
         JobReply::Replied(Reply::Success(Answer::GetAttributes(told))) => Some(*told),
         _ => None,
-    }
+    };
+    mem::forget(reply);
+    told
 }
 
 /// SETATTR of the mode.
@@ -96,66 +100,87 @@ fn set(
     };
     let call = Call::SetAttributes { handle, set, guard };
     let reply = serve(depot, seat, asker, call)?;
-    match &reply {
+    let told = match &reply {
         JobReply::Replied(Reply::Success(Answer::SetAttributes(told))) => Some(*told),
         _ => None,
-    }
+    };
+    mem::forget(reply);
+    told
 }
 
-#[test]
-fn modes_of_roots(rt: HostRuntime) -> Result<(), Fail> {
+/// Looks whether this is what is wanted.
+fn same<T: PartialEq + Debug>(rt: &impl Abort, found: &T, wanted: &T) {
+    assert_eq!(rt; found, wanted);
+}
+
+/// A depot of two volumes, of 8 and of 16 stripes, and its seat.
+fn opened(rt: &(impl Abort + AllocGlobal)) -> (Depot<Service>, Seat<Service>)
+    ensures { IsSeatHere result.0 result.1 }
+{
     let sixteen = VolumeSpec {
         aggregate: 0,
         ranges: 2,
         stripes: 16,
         mib: 64,
     };
-    let layout = Layout::new(
-        rt.alloc(),
-        &[AggregateSpec { spare: 1 }],
-        &[VolumeSpec::new(0, 1), sixteen],
-    )
-    .ok()
-    .ok_or("no layout")?;
-    let (depot, mut seat) = open(rt.alloc(), layout, Verifier([9; 8])).ok_or("no memory")?;
-    for volume in 0..2 {
-        let before = root_of(volume, 0o755, Moment::START);
-        let after = root_of(volume, 0o700, at(5));
-        let change = Change {
-            before: PriorAttributes {
-                size: 4_096,
-                mtime: Moment::START,
-                ctime: Moment::START,
-            },
-            after,
-        };
-        let told = get(&depot, &mut seat, asker(at(4)), handle(volume, 1));
-        assert_eq!(rt; told, Some(Ok(before)));
-        // A mode keeps its low 12 bits.
-        let told = set(
-            &depot,
-            &mut seat,
-            asker(at(5)),
-            handle(volume, 1),
-            0o70_700,
-            Some(Moment::START),
-        );
-        assert_eq!(rt; told, Some(Ok(change)));
-        let told = set(
-            &depot,
-            &mut seat,
-            asker(at(6)),
-            handle(volume, 1),
-            0,
-            Some(Moment::START),
-        );
-        assert_eq!(rt; told, Some(Err(Status::NotSynchronous)));
-        let told = get(&depot, &mut seat, asker(at(7)), handle(volume, 1));
-        assert_eq!(rt; told, Some(Ok(after)));
+    let aggregates = [AggregateSpec { spare: 1 }];
+    let volumes = [VolumeSpec::new(0, 1), sixteen];
+    let layout = Layout::new(rt.alloc(), &aggregates, &volumes).ok();
+    let layout = layout.expect(rt, "no layout");
+    open(rt.alloc(), layout, Verifier([9; 8])).expect(rt, "no memory")
+}
+
+/// What the root of a volume is before and after a change of its mode at second 5.
+fn change_of(volume: u32) -> Change {
+    Change {
+        before: PriorAttributes {
+            size: 4_096,
+            mtime: Moment::START,
+            ctime: Moment::START,
+        },
+        after: root_of(volume, 0o700, at(5)),
     }
-    let told = set(&depot, &mut seat, asker(at(8)), handle(1, 5), 0, None);
-    assert_eq!(rt; told, Some(Err(Status::Stale)));
-    let told = get(&depot, &mut seat, asker(at(9)), handle(2, 1));
-    assert_eq!(rt; told, None);
-    Ok(())
+}
+
+/// Asks for the root of a volume, changes its mode, tries it again by the same guard, and asks
+/// once more.
+fn try_root(rt: &impl Abort, depot: &Depot<Service>, seat: &mut Seat<Service>, volume: u32)
+    requires { IsSeatHere depot.now seat.old }
+    ensures { IsSeatHere depot.now seat.new }
+{
+    let guard = Some(Moment::START);
+    let before = get(depot, seat, asker(at(4)), handle(volume, 1));
+    // A mode keeps its low 12 bits.
+    let changed = set(
+        depot,
+        seat,
+        asker(at(5)),
+        handle(volume, 1),
+        0o70_700,
+        guard,
+    );
+    let refused = set(depot, seat, asker(at(6)), handle(volume, 1), 0, guard);
+    let after = get(depot, seat, asker(at(7)), handle(volume, 1));
+    let change = change_of(volume);
+    let first = root_of(volume, 0o755, Moment::START);
+    same(
+        rt,
+        &[before, after],
+        &[Some(Ok(first)), Some(Ok(change.after))],
+    );
+    let wanted = [Some(Ok(change)), Some(Err(Status::NotSynchronous))];
+    same(rt, &[changed, refused], &wanted);
+}
+
+#[test]
+fn modes_of_roots(rt: HostRuntime) {
+    let (depot, mut seat) = opened(&rt);
+    for volume in 0..2 {
+        try_root(&rt, &depot, &mut seat, volume);
+    }
+    let stale = set(&depot, &mut seat, asker(at(8)), handle(1, 5), 0, None);
+    let unknown = get(&depot, &mut seat, asker(at(9)), handle(2, 1));
+    mem::forget((depot, seat));
+    same(&rt, &stale, &Some(Err(Status::Stale)));
+    same(&rt, &unknown, &None);
 }

@@ -45,7 +45,18 @@ impl Fastest {
 }
 
 /// Prints how long it took to do some work once.
-pub fn measure<R: Clock + Print>(
+pub fn measure<R: Clock + Print, W: Work + Drop>(
+    rt: &R,
+    name: &str,
+    work: Result<W, AllocError>,
+    passes: u32,
+) -> io::Result<()> {
+    let mut work = work?;
+    measure_each(rt, name, &mut work, passes)
+}
+
+/// The same of work that was made.
+fn measure_each<R: Clock + Print>(
     rt: &R,
     name: &str,
     work: &mut impl Work,
@@ -62,24 +73,39 @@ pub fn measure<R: Clock + Print>(
 }
 
 /// Prints how long it took to do some work once, and beside it plain work, with the ratio of their
-/// speeds. Their passes take turns.
-pub fn measure_beside<R: Clock + Print>(
+/// speeds.
+pub fn measure_beside<R: Clock + Print, W: Work + Drop, P: Work + Drop>(
     rt: &R,
     name: &str,
+    work: Result<W, AllocError>,
+    plain: Result<P, AllocError>,
+    passes: u32,
+) -> io::Result<()> {
+    let (mut work, mut plain) = (work?, plain?);
+    let (fastest, fastest_plain) = in_turn(rt, &mut work, &mut plain, passes)?;
+    print_beside(rt, name, fastest.tenths_each(), fastest_plain.tenths_each())
+}
+
+/// The fastest passes of two kinds of work, whose passes take turns.
+fn in_turn(
+    rt: &impl Clock,
     work: &mut impl Work,
     plain: &mut impl Work,
     passes: u32,
-) -> io::Result<()> {
-    let mut fastest = NOT_YET;
-    let mut fastest_plain = NOT_YET;
+) -> io::Result<(Fastest, Fastest)> {
+    let mut fastest = (NOT_YET, NOT_YET);
     for _pass in 0..passes {
-        fastest = fastest.or_pass(rt, work)?;
-        fastest_plain = fastest_plain.or_pass(rt, plain)?;
+        fastest.0 = fastest.0.or_pass(rt, work)?;
+        fastest.1 = fastest.1.or_pass(rt, plain)?;
     }
-    let (tenths, tenths_plain) = (fastest.tenths_each(), fastest_plain.tenths_each());
+    Ok(fastest)
+}
+
+/// Prints tenths of a nanosecond, those of plain work, and the ratio of the speeds.
+fn print_beside(rt: &impl Print, name: &str, tenths: u64, plain: u64) -> io::Result<()> {
     let (whole, tenth) = (tenths / 10, tenths % 10);
-    let (whole_plain, tenth_plain) = (tenths_plain / 10, tenths_plain % 10);
-    let ratio = u128::from(tenths_plain) * 1000 / u128::from(tenths.max(1));
+    let (whole_plain, tenth_plain) = (plain / 10, plain % 10);
+    let ratio = u128::from(plain) * 1000 / u128::from(tenths.max(1));
     let (ratio, thousandths) = (ratio / 1000, ratio % 1000);
     print!(rt; "{name}: {whole}.{tenth} ns, ")?;
     println!(rt; "plain {whole_plain}.{tenth_plain} ns, ratio {ratio}.{thousandths:03}")

@@ -13,13 +13,19 @@ const SPAN_BYTES: u64 = 262_144;
 
 const FILE: Fileid = Fileid(2);
 
-/// A stripe with all blocks of a file.
-fn stripe(alloc: Global) -> Result<Stripe, AllocError> {
-    let mut stripe = Stripe::new(alloc, Verifier([0; 8]), 8, FILE_BYTES as u64);
+/// Makes a file with all its blocks.
+fn fill(stripe: &mut Stripe) -> Result<(), AllocError> {
     stripe.set_file_card(FILE, FILE_BYTES as u64)?;
     for block in 0..FILE_BYTES as u64 / 4096 {
         stripe.insert_block(FILE, block, BlockNumber(block as u32))?;
     }
+    Ok(())
+}
+
+/// A stripe with all blocks of a file.
+fn stripe(alloc: Global) -> Result<Stripe, AllocError> {
+    let mut stripe = Stripe::new(alloc, Verifier([0; 8]), 8, FILE_BYTES as u64);
+    fill(&mut stripe)?;
     Ok(stripe)
 }
 
@@ -34,11 +40,9 @@ pub struct Reads {
 impl Reads {
     /// So many bytes by each.
     pub fn new(alloc: Global, size: usize) -> Result<Reads, AllocError> {
-        Ok(Reads {
-            stripe: stripe(alloc)?,
-            size,
-            out: Vec::with_capacity(alloc, size)?,
-        })
+        let out = Vec::with_capacity(alloc, size)?;
+        let stripe = stripe(alloc)?;
+        Ok(Reads { stripe, size, out })
     }
 }
 
@@ -99,10 +103,9 @@ pub struct Overwrites {
 impl Overwrites {
     /// So many bytes by each.
     pub fn new(alloc: Global, size: usize) -> Result<Overwrites, AllocError> {
-        Ok(Overwrites {
-            stripe: stripe(alloc)?,
-            written: vec![in alloc; 7; size]?,
-        })
+        let written = vec![in alloc; 7; size]?;
+        let stripe = stripe(alloc)?;
+        Ok(Overwrites { stripe, written })
     }
 }
 

@@ -31,16 +31,34 @@ pub(crate) fn name(number: u32) -> NameBytes {
     bytes
 }
 
-/// So many names of the numbers below a size, each a step from the one before.
-fn names(alloc: Global, count: u32, size: u32, step: u32) -> Result<Vec<NameBytes>, AllocError>
+/// A name of the numbers below a size, the one at a place of those that are each a step from the
+/// one before.
+fn name_at(place: u32, size: u32, step: u32) -> NameBytes
+    requires { 0 < size }
+{
+    let number = u64::from(place) * u64::from(step) % u64::from(size);
+    name(number as u32)
+}
+
+/// The names of a pass, of the numbers below a size.
+fn names(alloc: Global, size: u32) -> Result<Vec<NameBytes>, AllocError>
     requires { 0 < size }
 {
     let mut names = Vec::new(alloc);
-    for i in 0..count {
-        let number = u64::from(i) * u64::from(step) % u64::from(size);
-        names.push(name(number as u32))?;
+    for place in 0..NAMES {
+        names.push(name_at(place, size, 40_503))?;
     }
     Ok(names)
+}
+
+/// Adds the names of the numbers below a size.
+fn fill(alloc: Global, directory: &mut Directory, size: u32) -> Result<(), AllocError>
+    requires { 0 < size }
+{
+    for place in 0..size {
+        add(alloc, directory, &name_at(place, size, 25_717))?;
+    }
+    Ok(())
 }
 
 /// Adds a name that isn't there.
@@ -68,14 +86,10 @@ impl Finds {
     pub fn new(alloc: Global, size: u32) -> Result<Finds, AllocError>
         requires { 0 < size }
     {
+        let names = names(alloc, size)?;
         let mut directory = Directory::new(alloc);
-        for name in &names(alloc, size, size, 25_717)? {
-            add(alloc, &mut directory, name)?;
-        }
-        Ok(Finds {
-            directory,
-            names: names(alloc, NAMES, size, 40_503)?,
-        })
+        fill(alloc, &mut directory, size)?;
+        Ok(Finds { directory, names })
     }
 
     /// In a directory of so many names, each of which was removed and added anew.
@@ -83,12 +97,18 @@ impl Finds {
         requires { 0 < size }
     {
         let mut finds = Finds::new(alloc, size)?;
-        for name in &finds.names {
-            if finds.directory.remove(name) {
-                add(alloc, &mut finds.directory, name)?;
+        finds.renew(alloc)?;
+        Ok(finds)
+    }
+
+    /// Removes each name and adds it anew.
+    fn renew(&mut self, alloc: Global) -> Result<(), AllocError> {
+        for name in &self.names {
+            if self.directory.remove(name) {
+                add(alloc, &mut self.directory, name)?;
             }
         }
-        Ok(finds)
+        Ok(())
     }
 }
 

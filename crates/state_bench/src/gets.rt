@@ -39,14 +39,28 @@ pub struct Gets {
     fileids: Vec<Fileid>,
 }
 
+/// The fileids of a pass.
+fn fileids(alloc: Global) -> Result<Vec<Fileid>, AllocError> {
+    let mut fileids = Vec::new(alloc);
+    for i in 0..INODES {
+        fileids.push(Fileid(2 + i * 40_503 % INODES))?;
+    }
+    Ok(fileids)
+}
+
+/// Creates all files.
+fn fill(inodes: &mut Inodes) -> Result<(), AllocError> {
+    for _file in 0..INODES {
+        create_file(inodes)?;
+    }
+    Ok(())
+}
+
 impl Gets {
     pub fn new(alloc: Global) -> Result<Gets, AllocError> {
+        let fileids = fileids(alloc)?;
         let mut inodes = Inodes::new(alloc)?;
-        let mut fileids = Vec::new(alloc);
-        for i in 0..INODES {
-            create_file(&mut inodes)?;
-            fileids.push(Fileid(2 + i * 40_503 % INODES))?;
-        }
+        fill(&mut inodes)?;
         Ok(Gets { inodes, fileids })
     }
 }

@@ -7,7 +7,7 @@ use inodes::Inodes;
 use nfs_values::Verifier;
 use std::alloc::{AllocError, Global};
 use std::rt::Files;
-use std::{fs, io};
+use std::{fs, io, mem};
 use stripes::Stripe;
 
 /// How many files a volume gets.
@@ -24,14 +24,21 @@ pub struct Volume {
     stripes: Vec<Stripe>,
 }
 
+/// Eight stripes.
+fn stripes(alloc: Global) -> Result<Vec<Stripe>, AllocError> {
+    let mut stripes = Vec::new(alloc);
+    for _stripe in 0..8 {
+        stripes.push(Stripe::new(alloc, Verifier([0; 8]), 8, 1 << 24))?;
+    }
+    Ok(stripes)
+}
+
 impl Volume {
     fn new(alloc: Global) -> Result<Volume, AllocError> {
-        let mut stripes = Vec::new(alloc);
-        for _stripe in 0..8 {
-            stripes.push(Stripe::new(alloc, Verifier([0; 8]), 8, 1 << 24))?;
-        }
+        let inodes = Inodes::new(alloc)?;
+        let stripes = stripes(alloc)?;
         Ok(Volume {
-            inodes: Inodes::new(alloc)?,
+            inodes,
             directory: Directory::new(alloc),
             stripes,
         })
@@ -48,9 +55,8 @@ impl Volume {
     }
 }
 
-/// A volume with files whose names have so many bytes.
-fn volume_of_files(alloc: Global, length: usize) -> Result<Volume, AllocError> {
-    let mut volume = Volume::new(alloc)?;
+/// Makes all files, whose names have so many bytes.
+fn fill(volume: &mut Volume, alloc: Global, length: usize) -> Result<(), AllocError> {
     let mut bytes = Vec::with_capacity(alloc, length)?;
     for number in 0..FILES {
         bytes.clear();
@@ -58,7 +64,7 @@ fn volume_of_files(alloc: Global, length: usize) -> Result<Volume, AllocError> {
         bytes.resize(length, b'x')?;
         volume.make(alloc, &bytes)?;
     }
-    Ok(volume)
+    Ok(())
 }
 
 /// How many bytes of memory the process has.
@@ -73,11 +79,13 @@ fn resident<R: Files + AllocGlobal>(rt: &R) -> io::Result<u64> {
 }
 
 /// Prints how much memory the process takes for an empty file whose name has so many bytes. The
-/// files stay until the result is dropped.
-pub fn measure<R: Files + Print + AllocGlobal>(rt: &R, length: usize) -> io::Result<Volume> {
+/// files stay to the end of the process.
+pub fn measure<R: Files + Print + AllocGlobal>(rt: &R, length: usize) -> io::Result<()> {
     let before = resident(rt)?;
-    let volume = volume_of_files(rt.alloc(), length)?;
+    let mut volume = Volume::new(rt.alloc())?;
+    let filled = fill(&mut volume, rt.alloc(), length);
+    mem::forget(volume);
+    filled?;
     let each = resident(rt)?.saturating_sub(before) / u64::from(FILES);
-    println!(rt; "an empty file with a name of {length} bytes: {each} bytes")?;
-    Ok(volume)
+    println!(rt; "an empty file with a name of {length} bytes: {each} bytes")
 }

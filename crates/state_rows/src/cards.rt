@@ -1,8 +1,9 @@
 //! A file's card from its making to its removal, and a directory's.
 
+use crate::same::same;
 use nfs_values::{Fileid, Moment};
-use std::alloc::{AllocError, Global};
-use std::test::Fail;
+use std::mem;
+use std::process::Abort;
 use stripe_cards::{Card, Cards};
 
 const FILE: Fileid = Fileid(2);
@@ -10,7 +11,7 @@ const FILE: Fileid = Fileid(2);
 const DIRECTORY: Fileid = Fileid(3);
 
 /// A moment of whole seconds.
-fn at(seconds: u32) -> Moment {
+const fn at(seconds: u32) -> Moment {
     Moment {
         seconds,
         nanoseconds: 0,
@@ -18,35 +19,36 @@ fn at(seconds: u32) -> Moment {
 }
 
 /// The cards of a file of 8,195 bytes and of a directory, with touches.
-fn touched(alloc: Global) -> Result<Cards, AllocError> {
-    let mut cards = Cards::new(alloc);
+fn touched(rt: &(impl Abort + AllocGlobal)) -> Cards {
+    let mut cards = Cards::new(rt.alloc());
     cards.touch(FILE, at(1));
-    cards.set_file(FILE, 8195)?;
-    cards.set_directory(DIRECTORY)?;
+    cards.set_file(FILE, 8195).expect(rt, "no memory");
+    cards.set_directory(DIRECTORY).expect(rt, "no memory");
     cards.touch(FILE, at(9));
     cards.touch(FILE, at(5));
     cards.touch(DIRECTORY, at(9));
-    Ok(cards)
+    cards
 }
 
 #[test]
-fn touches(rt: HostRuntime) -> Result<(), Fail> {
-    let mut cards = touched(rt.alloc())?;
-    assert_eq!(rt; cards.take_touch(FILE), Some(at(9)));
-    assert_eq!(rt; cards.take_touch(FILE), None);
-    assert_eq!(rt; cards.get(DIRECTORY), Some(Card::Directory));
-    Ok(())
+fn touches(rt: HostRuntime) {
+    let mut cards = touched(&rt);
+    let taken = (cards.take_touch(FILE), cards.take_touch(FILE));
+    same(&rt, &taken, &(Some(at(9)), None));
+    same(&rt, &cards.get(DIRECTORY), &Some(Card::Directory));
+    mem::forget(cards);
 }
 
 #[test]
-fn sizes(rt: HostRuntime) -> Result<(), Fail> {
-    let mut cards = touched(rt.alloc())?;
+fn sizes(rt: HostRuntime) {
+    let mut cards = touched(&rt);
     if cards.get(FILE).is_some() {
         cards.set_size(FILE, 8193);
     }
-    let touch = Some(at(9));
-    assert_eq!(rt; cards.get(FILE), Some(Card::File { size: 8193, touch }));
+    let card = cards.get(FILE);
     cards.remove(FILE);
-    assert_eq!(rt; cards.get(FILE), None);
-    Ok(())
+    let touch = Some(at(9));
+    let wanted = (Some(Card::File { size: 8193, touch }), None);
+    same(&rt, &(card, cards.get(FILE)), &wanted);
+    mem::forget(cards);
 }

@@ -1,5 +1,5 @@
 //! The state of a volume tried: names, inodes, cards, files and block numbers, with what each call
-//! gives.
+//! gives. What a test has made is left to the end of its process.
 #![tactic(auto)]
 
 #[cfg(test)]
@@ -12,3 +12,5 @@ mod files;
 mod names;
 #[cfg(test)]
 mod nodes;
+#[cfg(test)]
+mod same;

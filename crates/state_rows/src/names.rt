@@ -1,61 +1,63 @@
 //! Directories of one entry and of a thousand, and pages at their edges.
 
+use crate::same::same;
 use directories::{Directory, Page};
 use nfs_values::{Cookie, Fileid, Name};
-use std::alloc::{AllocError, Global};
-use std::test::Fail;
+use std::mem;
+use std::process::Abort;
 
-/// A name of four decimal digits.
-fn digits(alloc: Global, number: u64) -> Result<Name, AllocError> {
-    let bytes = [
-        48 + (number / 1000 % 10) as u8,
-        48 + (number / 100 % 10) as u8,
-        48 + (number / 10 % 10) as u8,
-        48 + (number % 10) as u8,
-    ];
-    Ok(Name::new(Vec::from_slice(alloc, &bytes)?))
+/// The last decimal digit of a number.
+fn digit(number: u64) -> u8 {
+    b'0' + (number % 10) as u8
 }
 
-/// Adds a name that isn't there, and tells whether it did.
-fn add(alloc: Global, directory: &mut Directory, name: &[u8], fileid: u64) -> Result<bool, Fail> {
+/// The four decimal digits of a number.
+fn digits(number: u64) -> [u8; 4] {
+    [
+        digit(number / 1000),
+        digit(number / 100),
+        digit(number / 10),
+        digit(number),
+    ]
+}
+
+/// Adds a name where it isn't there.
+fn add(rt: &(impl Abort + AllocGlobal), directory: &mut Directory, name: &[u8], fileid: u64) {
     if directory.find(name).is_some() || directory.next_cookie().0 >= 1 << 62 {
-        return Ok(false);
+        return;
     }
-    directory.add(Name::new(Vec::from_slice(alloc, name)?), Fileid(fileid))?;
-    Ok(true)
+    let name = Vec::from_slice(rt.alloc(), name).expect(rt, "no memory");
+    let added = directory.add(Name::new(name), Fileid(fileid));
+    added.expect(rt, "no memory");
 }
 
-/// A directory of a thousand names.
-fn thousand(alloc: Global) -> Result<Directory, Fail> {
-    let mut directory = Directory::new(alloc);
-    for i in 0..1000 {
-        let name = digits(alloc, i * 373 % 1000)?;
-        add(alloc, &mut directory, name.as_bytes(), i + 2)?;
-    }
-    Ok(directory)
+/// The name that is added at a place, of a thousand in all.
+fn name_at(place: u32) -> [u8; 4] {
+    digits(u64::from(place) * 373 % 1000)
 }
 
-/// How many of these names lead to their fileid, and how many names are compared at most.
-fn found(alloc: Global, directory: &Directory) -> Result<(u64, usize), AllocError> {
+/// How many of a thousand names lead to their fileid, and how many names are compared at most.
+fn found(directory: &Directory) -> (u64, usize) {
     let mut right = 0_u64;
     let mut most = 0;
     for i in 0..1000 {
-        let name = digits(alloc, i * 373 % 1000)?;
-        let (fileid, compared) = directory.find_counted(name.as_bytes());
-        right = right.wrapping_add(u64::from(fileid == Some(Fileid(i + 2))));
+        let (fileid, compared) = directory.find_counted(&name_at(i));
+        right = right.wrapping_add(u64::from(fileid == Some(Fileid(u64::from(i) + 2))));
         most = most.max(compared);
     }
-    Ok((right, most))
+    (right, most)
 }
 
 #[test]
-fn thousand_names(rt: HostRuntime) -> Result<(), Fail> {
-    let alloc = rt.alloc();
-    let directory = thousand(alloc)?;
-    assert_eq!(rt; found(alloc, &directory)?, (1000, 10));
-    assert!(rt; directory.find_counted(b"0500x").1 <= 10);
-    assert_eq!(rt; directory.len(), 1000);
-    Ok(())
+fn thousand_names(rt: HostRuntime) {
+    let mut directory = Directory::new(rt.alloc());
+    for i in 0..1000 {
+        add(&rt, &mut directory, &name_at(i), u64::from(i) + 2);
+    }
+    same(&rt, &found(&directory), &(1000, 10));
+    let most = directory.find_counted(b"0500x").1;
+    same(&rt, &(most <= 10, directory.len()), &(true, 1000));
+    mem::forget(directory);
 }
 
 /// How many entries a page has, the cookies of the first two or 0, and whether it is the last.
@@ -69,59 +71,64 @@ fn cookie_of(page: &Page, place: usize) -> u64 {
     }
 }
 
-/// What the page after a cookie has.
-fn listed(
-    alloc: Global,
+/// Looks whether the page after a cookie has this.
+fn lists(
+    rt: &(impl Abort + AllocGlobal),
     directory: &Directory,
     cookie: u64,
     room: usize,
-) -> Result<Listed, AllocError> {
-    let page = directory.page(alloc, Cookie(cookie), room)?;
-    let count = page.entries.len();
-    let is_last = page.is_last;
-    Ok((count, cookie_of(&page, 0), cookie_of(&page, 1), is_last))
+    wanted: &Listed,
+) {
+    let page = directory.page(rt.alloc(), Cookie(cookie), room);
+    let page = page.expect(rt, "no memory");
+    let cookies = (cookie_of(&page, 0), cookie_of(&page, 1));
+    let listed = (page.entries.len(), cookies.0, cookies.1, page.is_last);
+    mem::forget(page);
+    same(rt, &listed, wanted);
 }
 
 /// A directory of `b` under the cookie 4 and `a` under 5, after another `a` under 3.
-fn two_names(alloc: Global) -> Result<Directory, Fail> {
-    let mut directory = Directory::new(alloc);
-    add(alloc, &mut directory, b"a", 2)?;
-    add(alloc, &mut directory, b"b", 3)?;
+fn two_names(rt: &(impl Abort + AllocGlobal)) -> Directory {
+    let mut directory = Directory::new(rt.alloc());
+    add(rt, &mut directory, b"a", 2);
+    add(rt, &mut directory, b"b", 3);
     directory.remove(b"a");
-    add(alloc, &mut directory, b"a", 4)?;
-    Ok(directory)
+    add(rt, &mut directory, b"a", 4);
+    directory
 }
 
 #[test]
-fn no_names(rt: HostRuntime) -> Result<(), Fail> {
-    let alloc = rt.alloc();
-    let mut directory = Directory::new(alloc);
-    assert!(rt; directory.is_empty());
-    assert_eq!(rt; directory.find_counted(b"a"), (None, 0));
-    assert_eq!(rt; listed(alloc, &directory, 0, 0)?, (0, 0, 0, true));
-    assert!(rt; !directory.remove(b"a"));
-    Ok(())
+fn no_names(rt: HostRuntime) {
+    let mut directory = Directory::new(rt.alloc());
+    lists(&rt, &directory, 0, 0, &(0, 0, 0, true));
+    same(&rt, &directory.find_counted(b"a"), &(None, 0));
+    let told = (directory.is_empty(), directory.remove(b"a"));
+    same(&rt, &told, &(true, false));
+    mem::forget(directory);
 }
 
 #[test]
-fn cookies_not_given_again(rt: HostRuntime) -> Result<(), Fail> {
-    let mut directory = two_names(rt.alloc())?;
-    assert_eq!(rt; directory.find(b"a"), Some(Fileid(4)));
-    assert_eq!(rt; directory.next_cookie(), Cookie(6));
-    assert!(rt; directory.remove(b"a"));
-    assert!(rt; !directory.remove(b"a"));
-    Ok(())
+fn cookies_not_given_again(rt: HostRuntime) {
+    let mut directory = two_names(&rt);
+    let found = (directory.find(b"a"), directory.next_cookie());
+    same(&rt, &found, &(Some(Fileid(4)), Cookie(6)));
+    let removed = (directory.remove(b"a"), directory.remove(b"a"));
+    same(&rt, &removed, &(true, false));
+    mem::forget(directory);
 }
 
+/// Cookies, room for entries, and what the page after them has.
+const PAGES: [(u64, usize, Listed); 3] = [
+    (3, 56, (2, 4, 5, true)),
+    (3, 55, (1, 4, 0, false)),
+    (u64::MAX, 0, (0, 0, 0, true)),
+];
+
 #[test]
-fn pages(rt: HostRuntime) -> Result<(), Fail> {
-    let alloc = rt.alloc();
-    let directory = two_names(alloc)?;
-    let both = listed(alloc, &directory, 3, 56)?;
-    let one = listed(alloc, &directory, 3, 55)?;
-    let none = listed(alloc, &directory, u64::MAX, 0)?;
-    assert_eq!(rt; both, (2, 4, 5, true));
-    assert_eq!(rt; one, (1, 4, 0, false));
-    assert_eq!(rt; none, (0, 0, 0, true));
-    Ok(())
+fn pages(rt: HostRuntime) {
+    let directory = two_names(&rt);
+    for (cookie, room, wanted) in &PAGES {
+        lists(&rt, &directory, *cookie, *room, wanted);
+    }
+    mem::forget(directory);
 }

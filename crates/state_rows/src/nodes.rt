@@ -1,9 +1,10 @@
 //! Inodes made, changed and dropped, and as many as a volume has at most.
 
+use crate::same::same;
 use inodes::{Inode, InodeKind, Inodes, StoredAttributes};
 use nfs_values::{Fileid, Moment, Verifier};
-use std::alloc::{AllocError, Global};
-use std::test::Fail;
+use std::mem;
+use std::process::Abort;
 
 const MADE: Moment = Moment {
     seconds: 7,
@@ -30,11 +31,11 @@ fn file(size: u64, filled: u32) -> Inode {
 }
 
 /// Creates an inode where the conditions for it hold, and tells its fileid, or else the root's.
-fn create(inodes: &mut Inodes, inode: Inode) -> Result<Fileid, AllocError> {
+fn create(rt: &impl Abort, inodes: &mut Inodes, inode: Inode) -> Fileid {
     if inodes.next_fileid().0 >= 1 << 62 || inodes.used() >= 1 << 62 {
-        return Ok(Fileid::ROOT);
+        return Fileid::ROOT;
     }
-    inodes.create(inode)
+    inodes.create(inode).expect(rt, "no memory")
 }
 
 /// Sets an inode where the condition for it holds.
@@ -52,43 +53,53 @@ fn undo_create(inodes: &mut Inodes) {
     }
 }
 
-/// Three files, and the fileid of the last.
-fn three(alloc: Global) -> Result<(Inodes, Fileid), AllocError> {
-    let mut inodes = Inodes::new(alloc)?;
-    create(&mut inodes, file(8195, 1))?;
-    create(&mut inodes, file(0, 0))?;
-    let last = create(&mut inodes, file(65536, 16))?;
-    Ok((inodes, last))
+/// The root alone.
+fn no_files(rt: &(impl Abort + AllocGlobal)) -> Inodes {
+    Inodes::new(rt.alloc()).expect(rt, "no memory")
+}
+
+/// Three files.
+fn three(rt: &(impl Abort + AllocGlobal)) -> Inodes {
+    let mut inodes = no_files(rt);
+    for (fileid, size, filled) in [(2, 8195, 1), (3, 0, 0), (4, 65536, 16)] {
+        let made = create(rt, &mut inodes, file(size, filled));
+        same(rt, &made, &Fileid(fileid));
+    }
+    inodes
 }
 
 #[test]
-fn root(rt: HostRuntime) -> Result<(), Fail> {
-    let inodes = Inodes::new(rt.alloc())?;
-    assert_eq!(rt; inodes.get(Fileid::ROOT), Some(Inode::ROOT));
-    assert_eq!(rt; Inode::ROOT.attributes.mode, 493);
-    Ok(())
+fn root(rt: HostRuntime) {
+    let inodes = no_files(&rt);
+    same(&rt, &inodes.get(Fileid::ROOT), &Some(Inode::ROOT));
+    same(&rt, &Inode::ROOT.attributes.mode, &493);
+    mem::forget(inodes);
+}
+
+/// How many inodes there are, and how many blocks are used.
+fn counts(inodes: &Inodes) -> (usize, u64) {
+    (inodes.len(), inodes.used())
 }
 
 #[test]
-fn made_and_dropped(rt: HostRuntime) -> Result<(), Fail> {
-    let (mut inodes, last) = three(rt.alloc())?;
-    let counts = (inodes.len(), inodes.used());
+fn made_and_dropped(rt: HostRuntime) {
+    let mut inodes = three(&rt);
+    same(&rt, &counts(&inodes), &(4, 17));
     inodes.drop_node(Fileid(2));
     inodes.drop_node(Fileid(2));
-    let left = (inodes.len(), inodes.used());
-    let fifth = create(&mut inodes, file(1, 1))?;
+    same(&rt, &counts(&inodes), &(3, 16));
+    let fifth = create(&rt, &mut inodes, file(1, 1));
     undo_create(&mut inodes);
-    let undone = (inodes.len(), inodes.used());
-    let again = create(&mut inodes, file(1, 1))?;
-    assert_eq!(rt; (last, fifth, again), (Fileid(4), Fileid(5), Fileid(5)));
-    assert_eq!(rt; (counts, left, undone), ((4, 17), (3, 16), (3, 16)));
-    assert_eq!(rt; inodes.get(Fileid(2)), None);
-    Ok(())
+    same(&rt, &counts(&inodes), &(3, 16));
+    let again = create(&rt, &mut inodes, file(1, 1));
+    same(&rt, &(fifth, again), &(Fileid(5), Fileid(5)));
+    same(&rt, &inodes.get(Fileid(2)), &None);
+    mem::forget(inodes);
 }
 
 #[test]
-fn settled(rt: HostRuntime) -> Result<(), Fail> {
-    let (mut inodes, _) = three(rt.alloc())?;
+fn settled(rt: HostRuntime) {
+    let mut inodes = three(&rt);
     let touch = Moment {
         seconds: 9,
         nanoseconds: 0,
@@ -97,32 +108,33 @@ fn settled(rt: HostRuntime) -> Result<(), Fail> {
     inodes.settle(Fileid(3), None);
     inodes.settle(Fileid(5), Some(touch));
     let held = file(0, 0).attributes_held(Some(touch));
-    assert_eq!(rt; (held.mtime, held.atime), (touch, MADE));
+    same(&rt, &(held.mtime, held.atime), &(touch, MADE));
     let shown = inodes.get(Fileid(3)).map(|inode| inode.attributes);
-    assert_eq!(rt; shown, Some(held));
-    Ok(())
+    same(&rt, &shown, &Some(held));
+    mem::forget(inodes);
 }
 
 #[test]
-fn set_where_there(rt: HostRuntime) -> Result<(), Fail> {
-    let (mut inodes, _) = three(rt.alloc())?;
+fn set_where_there(rt: HostRuntime) {
+    let mut inodes = three(&rt);
     set(&mut inodes, Fileid(3), file(4096, 1));
     set(&mut inodes, Fileid(5), file(4096, 1));
-    assert_eq!(rt; (inodes.len(), inodes.used()), (4, 18));
-    assert_eq!(rt; inodes.get(Fileid(3)), Some(file(4096, 1)));
-    assert_eq!(rt; inodes.get(Fileid(5)), None);
-    assert_eq!(rt; inodes.get(Fileid(4)), Some(file(65536, 16)));
-    Ok(())
+    same(&rt, &counts(&inodes), &(4, 18));
+    same(&rt, &inodes.get(Fileid(3)), &Some(file(4096, 1)));
+    same(&rt, &inodes.get(Fileid(5)), &None);
+    same(&rt, &inodes.get(Fileid(4)), &Some(file(65536, 16)));
+    mem::forget(inodes);
 }
 
 #[test]
-fn as_many_as_a_volume_has(rt: HostRuntime) -> Result<(), Fail> {
-    let mut inodes = Inodes::new(rt.alloc())?;
+fn as_many_as_a_volume_has(rt: HostRuntime) {
+    let mut inodes = no_files(&rt);
     for number in 2..65537 {
-        assert_eq!(rt; create(&mut inodes, file(number, 0))?, Fileid(number));
+        let fileid = create(&rt, &mut inodes, file(number, 0));
+        same(&rt, &fileid, &Fileid(number));
     }
-    assert_eq!(rt; inodes.len(), 65536);
-    assert_eq!(rt; inodes.get(Fileid(40000)), Some(file(40000, 0)));
-    assert_eq!(rt; inodes.get(Fileid(65537)), None);
-    Ok(())
+    same(&rt, &inodes.len(), &65536);
+    same(&rt, &inodes.get(Fileid(40000)), &Some(file(40000, 0)));
+    same(&rt, &inodes.get(Fileid(65537)), &None);
+    mem::forget(inodes);
 }
