@@ -13,7 +13,8 @@ ghost use Rattle.engine_feed.specs.Seen.{owed_by, layout_in, running_count, fini
 ghost use Rattle.engine_feed.specs.Sound.{IsAdmitted};
 ghost use Rattle.engine_feed.specs.Words.{HasLeft};
 ghost use Rattle.engine.specs.declared.connection.Connection.TheVariants.{Open};
-ghost use Rattle.engine.specs.Ending.{job_made, answer_made, EndsIn, OwesLess};
+ghost use Rattle.engine.specs.Ending.{served_made, job_made, answer_made};
+ghost use Rattle.engine.specs.Ending.{EndsIn, OwesLess};
 ghost use Rattle.engine.specs.Sound.{IsSound};
 ghost use Rattle.engine.specs.Words.{Does, HasItsSetup};
 
@@ -21,11 +22,38 @@ use crate::connection::Connection;
 use crate::event::{Done, Refusal};
 use crate::state::State;
 use crate::worker::{Running, Worker, take_worker};
+use affinity_tree::Affinity;
 use desk::{Desk, ParcelKinds};
 use engine_feed::{Calls, OfferedCall};
 use nfs_values::{Moment, Reply};
 use scheduler::{Message, Origin};
 use service::{Asked, Job, JobReply, Outcome, ServedCall, Service};
+
+/// The entry of a call that ran.
+fn served(
+    origin: Origin,
+    asked: Asked,
+    affinity: Affinity,
+    moment: Moment,
+    starved: bool,
+) -> ServedCall
+    ensures { result ≡ served_made origin asked affinity moment starved }
+{
+    let Origin {
+        connection,
+        number,
+        xid,
+    } = origin;
+    ServedCall {
+        connection,
+        number,
+        xid,
+        asked,
+        affinity,
+        moment,
+        starved,
+    }
+}
 
 /// Ends a worker's call on the desk by an entry of the history, and gives back its message and its
 /// reply.
@@ -58,21 +86,8 @@ fn end_on(
         call: call.into_call(),
         credential,
     };
-    let Origin {
-        connection,
-        number,
-        xid,
-    } = origin;
-    let served = ServedCall {
-        connection,
-        number,
-        xid,
-        asked,
-        affinity,
-        moment,
-        starved,
-    };
-    let (job, answer) = (Job::Serve(served), JobReply::Replied(reply));
+    let job = Job::Serve(served(origin, asked, affinity, moment, starved));
+    let answer = JobReply::Replied(reply);
     desk.finish(worker, &job, &answer);
     let (
         Job::Serve(
