@@ -89,17 +89,17 @@ fn end_on(
     let job = Job::Serve(served(origin, asked, affinity, moment, starved));
     let answer = JobReply::Replied(reply);
     desk.finish(worker, &job, &answer);
-    let (
-        Job::Serve(
-            ServedCall {
-                asked: Asked::Call { call, .. },
-                ..
-            },
-        ),
-        JobReply::Replied(reply),
-    ) = (job, answer)
-    else {
-        unreachable!();
+    let (call, reply) = match (job, answer) {
+        (
+            Job::Serve(
+                ServedCall {
+                    asked: Asked::Call { call, .. },
+                    ..
+                },
+            ),
+            JobReply::Replied(reply),
+        ) => (call, reply),
+        _ => unreachable!(),
     };
     let call = OfferedCall::new(call);
     let message = Message {
@@ -154,8 +154,9 @@ pub(crate) fn finish(state: &mut State, worker: usize) -> Result<Done, Refusal>
         Some(Worker::Begun(_)) => return Err(Refusal::NotWorked),
         Some(Worker::Worked(..)) => {}
     }
-    let Worker::Worked(running, outcome) = take_worker(&mut state.workers, worker) else {
-        unreachable!();
+    let (running, outcome) = match take_worker(&mut state.workers, worker) {
+        Worker::Worked(running, outcome) => (running, outcome),
+        _ => unreachable!(),
     };
     let connection = running.message.origin.connection.0;
     let (reply, starved) = match outcome {
@@ -173,5 +174,6 @@ pub(crate) fn finish(state: &mut State, worker: usize) -> Result<Done, Refusal>
     let (running, reply) = end_on(&mut state.desk, worker, running, reply, starved);
     let place = &mut state.connections[connection];
     let count = end_in(&mut state.calls, place, running, &reply, starved);
+    drop(reply);
     Ok(Done::Written { connection, count })
 }
