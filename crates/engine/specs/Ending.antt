@@ -5,11 +5,16 @@ use Rattle.nfs_model.specs.World.{Setup, World, finish, changed_at}
 use Rattle.nfs_model.specs.Events.Step.{bytes_if_open}
 use Rattle.nfs_values.specs.declared.call.Call.{Call}
 use Rattle.nfs_values.specs.declared.reply.Reply.{Reply}
+use Rattle.nfs_values.specs.declared.moment.Moment.{Moment}
 use Rattle.nfs_values.specs.Moment.{moment_of}
+use Rattle.affinity_tree.specs.declared.affinity.Affinity.{Affinity}
+use Rattle.scheduler.specs.declared.message.Origin.{Origin}
 use Rattle.scheduler.specs.declared.message.Message.{Message}
 use Rattle.service.specs.declared.job.Job.{Job}
 use Rattle.service.specs.declared.job.Job.TheVariants.{Serve}
+use Rattle.service.specs.declared.job.Asked.{Asked}
 use Rattle.service.specs.declared.job.Asked.TheVariants as askeds
+use Rattle.service.specs.declared.job.ServedCall.{ServedCall}
 use Rattle.service.specs.declared.job.JobReply.{JobReply}
 use Rattle.service.specs.declared.job.JobReply.TheVariants.{Replied}
 use Rattle.engine_feed.specs.declared.state.CallsState.{CallsState}
@@ -25,16 +30,20 @@ use Rattle.engine.specs.Seen.{connection_seen}
 
 -- ---- the entry
 
-abbrev pub job_made : Running → Bool → Job
-job_made r starved = Serve (record {
-  connection = r.message.origin.connection;
-  number = r.message.origin.number;
-  xid = r.message.origin.xid;
-  asked = askeds.Call r.message.call r.message.credential;
-  affinity = r.message.affinity;
-  moment = r.moment;
+abbrev pub served_made : Origin → Asked → Affinity → Moment → Bool → ServedCall
+served_made origin asked affinity moment starved = record {
+  connection = origin.connection;
+  number = origin.number;
+  xid = origin.xid;
+  asked = asked;
+  affinity = affinity;
+  moment = moment;
   starved = starved;
-})
+}
+
+abbrev pub job_made : Running → Bool → Job
+job_made r starved =
+    Serve (served_made r.message.origin (askeds.Call r.message.call r.message.credential) r.message.affinity r.moment starved)
 
 abbrev pub answer_made : Reply → JobReply
 answer_made reply = Replied reply

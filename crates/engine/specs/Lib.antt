@@ -1,6 +1,7 @@
 pub mod Numbers
 pub mod Seen
 pub mod Sound
+pub mod Working
 pub mod Ending
 pub mod Receiving
 pub mod Engine

@@ -37,8 +37,9 @@ pub(crate) fn begin(
         Err(Refused::Taken) => Err(Refusal::Busy),
         Err(Refused::Worn) => Err(Refusal::Worn),
         Ok(()) => {
-            let Ok(message) = state.calls.begin(place) else {
-                unreachable!();
+            let message = match state.calls.begin(place) {
+                Ok(message) => message,
+                Err(_) => unreachable!(),
             };
             set_worker(
                 &mut state.workers,

@@ -51,9 +51,15 @@ fn dispatch(state: &mut State, event: Event<'_>) -> Result<Done, Refusal>
 
 /// A server of connections and their calls, driven by events, with 1 to 64 workers. At most 64
 /// connections are open.
-#[derive(Drop)]
 pub struct Engine {
     state: State,
+}
+
+// By hand, so that a crate that owns an engine has no proof of the drop of each of its parts.
+impl Drop for Engine {
+    fn drop(self) {
+        let Engine { state: _ } = self;
+    }
 }
 
 impl Model for Engine {

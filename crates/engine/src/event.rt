@@ -7,7 +7,7 @@ use engine_feed::Stop;
 use nfs_values::Moment;
 
 /// What may happen to an engine.
-#[derive(Clone, Copy, Debug)]
+#[derive(Clone, Copy)]
 pub enum Event<'a> {
     /// A connection is opened.
     Open,
@@ -37,7 +37,7 @@ pub enum Event<'a> {
 }
 
 /// What an event came to that was not refused.
-#[derive(Clone, Copy, Debug, PartialEq, Eq)]
+#[derive(Clone, Copy)]
 pub enum Done {
     /// The connection has this number.
     Opened { connection: usize },
@@ -59,7 +59,7 @@ pub enum Done {
 }
 
 /// Why an event was refused. It changed nothing then.
-#[derive(Clone, Copy, Debug, PartialEq, Eq)]
+#[derive(Clone, Copy)]
 pub enum Refusal {
     /// A running message's affinity excludes this one's.
     Busy,

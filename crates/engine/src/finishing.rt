@@ -13,7 +13,8 @@ ghost use Rattle.engine_feed.specs.Seen.{owed_by, layout_in, running_count, fini
 ghost use Rattle.engine_feed.specs.Sound.{IsAdmitted};
 ghost use Rattle.engine_feed.specs.Words.{HasLeft};
 ghost use Rattle.engine.specs.declared.connection.Connection.TheVariants.{Open};
-ghost use Rattle.engine.specs.Ending.{job_made, answer_made, EndsIn, OwesLess};
+ghost use Rattle.engine.specs.Ending.{served_made, job_made, answer_made};
+ghost use Rattle.engine.specs.Ending.{EndsIn, OwesLess};
 ghost use Rattle.engine.specs.Sound.{IsSound};
 ghost use Rattle.engine.specs.Words.{Does, HasItsSetup};
 
@@ -21,11 +22,38 @@ use crate::connection::Connection;
 use crate::event::{Done, Refusal};
 use crate::state::State;
 use crate::worker::{Running, Worker, take_worker};
+use affinity_tree::Affinity;
 use desk::{Desk, ParcelKinds};
 use engine_feed::{Calls, OfferedCall};
 use nfs_values::{Moment, Reply};
 use scheduler::{Message, Origin};
 use service::{Asked, Job, JobReply, Outcome, ServedCall, Service};
+
+/// The entry of a call that ran.
+fn served(
+    origin: Origin,
+    asked: Asked,
+    affinity: Affinity,
+    moment: Moment,
+    starved: bool,
+) -> ServedCall
+    ensures { result ≡ served_made origin asked affinity moment starved }
+{
+    let Origin {
+        connection,
+        number,
+        xid,
+    } = origin;
+    ServedCall {
+        connection,
+        number,
+        xid,
+        asked,
+        affinity,
+        moment,
+        starved,
+    }
+}
 
 /// Ends a worker's call on the desk by an entry of the history, and gives back its message and its
 /// reply.
@@ -58,33 +86,20 @@ fn end_on(
         call: call.into_call(),
         credential,
     };
-    let Origin {
-        connection,
-        number,
-        xid,
-    } = origin;
-    let served = ServedCall {
-        connection,
-        number,
-        xid,
-        asked,
-        affinity,
-        moment,
-        starved,
-    };
-    let (job, answer) = (Job::Serve(served), JobReply::Replied(reply));
+    let job = Job::Serve(served(origin, asked, affinity, moment, starved));
+    let answer = JobReply::Replied(reply);
     desk.finish(worker, &job, &answer);
-    let (
-        Job::Serve(
-            ServedCall {
-                asked: Asked::Call { call, .. },
-                ..
-            },
-        ),
-        JobReply::Replied(reply),
-    ) = (job, answer)
-    else {
-        unreachable!();
+    let (call, reply) = match (job, answer) {
+        (
+            Job::Serve(
+                ServedCall {
+                    asked: Asked::Call { call, .. },
+                    ..
+                },
+            ),
+            JobReply::Replied(reply),
+        ) => (call, reply),
+        _ => unreachable!(),
     };
     let call = OfferedCall::new(call);
     let message = Message {
@@ -139,8 +154,9 @@ pub(crate) fn finish(state: &mut State, worker: usize) -> Result<Done, Refusal>
         Some(Worker::Begun(_)) => return Err(Refusal::NotWorked),
         Some(Worker::Worked(..)) => {}
     }
-    let Worker::Worked(running, outcome) = take_worker(&mut state.workers, worker) else {
-        unreachable!();
+    let (running, outcome) = match take_worker(&mut state.workers, worker) {
+        Worker::Worked(running, outcome) => (running, outcome),
+        _ => unreachable!(),
     };
     let connection = running.message.origin.connection.0;
     let (reply, starved) = match outcome {
@@ -158,5 +174,6 @@ pub(crate) fn finish(state: &mut State, worker: usize) -> Result<Done, Refusal>
     let (running, reply) = end_on(&mut state.desk, worker, running, reply, starved);
     let place = &mut state.connections[connection];
     let count = end_in(&mut state.calls, place, running, &reply, starved);
+    drop(reply);
     Ok(Done::Written { connection, count })
 }

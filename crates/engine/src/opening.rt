@@ -45,9 +45,10 @@ pub(crate) fn open(
 {
     begins_sound::<Files>();
     let verifier = Verifier(verifier);
-    let parcels = opening_parcels(alloc, &layout, verifier)?;
     let copy = layout.copied(alloc)?;
     let calls = Calls::new(alloc, copy)?;
+    let idle = idle(alloc, workers)?;
+    let parcels = opening_parcels(alloc, &layout, verifier)?;
     let desk = Desk::<Service, ParcelKinds>::new(alloc, layout, parcels, workers)?;
     Ok(State {
         alloc,
@@ -55,7 +56,7 @@ pub(crate) fn open(
         connections: Vec::new(alloc),
         open_count: 0,
         calls,
-        workers: idle(alloc, workers)?,
+        workers: idle,
         desk,
     })
 }

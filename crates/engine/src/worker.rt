@@ -33,7 +33,7 @@ pub(crate) fn set_worker(workers: &mut Vec<Worker>, worker: usize, now: Worker)
     requires { worker < vec_len workers.old }
     ensures { workers.new ≡ with_item workers.old worker now }
 {
-    workers[worker] = now;
+    drop(mem::replace(&mut workers[worker], now));
 }
 
 /// What a worker ran, which runs nothing from now on.

@@ -2,17 +2,20 @@
 
 ghost use Rattle.std.specs.Prelude.{◌≡◌, length};
 ghost use Rattle.nfs_model.specs.Events.Refusals as event;
+ghost use Rattle.desk_laws.specs.Calls.{MayWork, HasWorked};
+ghost use Rattle.desk.specs.Words.{books, IsKept};
+ghost use Rattle.service.specs.Running.{AsksFor};
 ghost use Rattle.engine.specs.Seen.{told_of};
+ghost use Rattle.engine.specs.Working.{run_of};
 ghost use Rattle.engine.specs.Words.{Does, HasItsSetup, IsWhole};
 ghost use Rattle.engine.specs.Sound.{IsSound};
 
 use crate::event::{Done, Refusal};
 use crate::state::State;
-use crate::worker::Worker;
-use affinity_tree::Affinity;
+use crate::worker::{Running, Worker, set_worker, take_worker};
+use desk::{Desk, ParcelKinds};
 use rpc_msg::{replies_fit, servers_are_roomy};
-use service::{Outcome, Run};
-use std::mem;
+use service::{Outcome, Run, Service};
 
 /// What is told of work that came to this.
 fn done_of(outcome: &Outcome) -> Done
@@ -32,6 +35,22 @@ fn has_eight(bytes: [u8; 8])
     ensures { length bytes ≡ 8 }
 {}
 
+/// Runs the call of a message on what its worker was lent.
+fn run_on(desk: &mut Desk<Service, ParcelKinds>, worker: usize, running: &Running) -> Outcome
+    requires kept { IsKept desk.old }
+    requires may { MayWork (AsksFor running.now.message.call) (books desk.old) worker }
+    ensures kept { IsKept desk.new }
+    ensures worked { HasWorked (run_of running.now) (books desk.old) worker result
+        (books desk.new) }
+{
+    let call = Run {
+        call: running.message.call.as_call(),
+        credential: running.message.credential,
+        moment: running.moment,
+    };
+    desk.work(worker, call)
+}
+
 /// Works the message that a worker has begun, on what it was lent.
 pub(crate) fn work(state: &mut State, worker: usize) -> Result<Done, Refusal>
     requires { IsWhole state.old }
@@ -45,16 +64,12 @@ pub(crate) fn work(state: &mut State, worker: usize) -> Result<Done, Refusal>
     let Some(Worker::Begun(running)) = state.workers.get(worker) else {
         return Err(Refusal::NoWork);
     };
-    let call = Run {
-        call: running.message.call.as_call(),
-        credential: running.message.credential,
-        moment: running.moment,
-    };
-    let outcome = state.desk.work(worker, call);
+    let outcome = run_on(&mut state.desk, worker, running);
     let done = done_of(&outcome);
-    let Worker::Begun(running) = mem::replace(&mut state.workers[worker], Worker::Idle) else {
-        unreachable!();
+    let running = match take_worker(&mut state.workers, worker) {
+        Worker::Begun(running) => running,
+        _ => unreachable!(),
     };
-    state.workers[worker] = Worker::Worked(running, outcome);
+    set_worker(&mut state.workers, worker, Worker::Worked(running, outcome));
     Ok(done)
 }

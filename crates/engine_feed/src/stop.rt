@@ -3,7 +3,7 @@
 ghost use Rattle.std.specs.Prelude.{◌≡◌};
 
 /// What stopped the taking of bytes.
-#[derive(Clone, Copy, Debug, PartialEq, Eq)]
+#[derive(Clone, Copy)]
 pub enum Stop {
     /// Nothing: all were taken.
     AllTaken,
@@ -16,7 +16,7 @@ pub enum Stop {
 }
 
 /// What ends the service of a stream.
-#[derive(Clone, Copy, Debug, PartialEq, Eq)]
+#[derive(Clone, Copy)]
 pub enum StreamFault {
     /// A header brings a record above 131,072 bytes (RFC 5531, section 11).
     RecordTooLong,

@@ -2,6 +2,7 @@
 
 ghost use Rattle.std.specs.Prelude.{◌≡◌, ◌≢◌};
 
+use std::alloc::AllocError;
 use std::io;
 use thiserror::Error;
 
@@ -23,6 +24,12 @@ pub enum ProgramFault {
     /// A write failed, so that nothing more is printed.
     #[error("fault of the output")]
     Output,
+}
+
+impl From<AllocError> for ProgramFault {
+    fn from(_full: AllocError) -> ProgramFault {
+        ProgramFault::NoMemory
+    }
 }
 
 impl ProgramFault {

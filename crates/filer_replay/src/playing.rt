@@ -112,7 +112,8 @@ fn play_all<W: Write>(
     out: &mut W,
 ) -> Result<bool, ProgramFault> {
     let mut refused = false;
-    while let Some(event) = script.read_event(bytes)? {
+    while let Some(text) = script.next_line()? {
+        let event = script.event_in(text, bytes)?;
         refused |= play(engine, event, out)?;
     }
     Ok(refused)
@@ -126,8 +127,7 @@ fn run<W: Write>(alloc: Global, text: &[u8], out: &mut W) -> Result<bool, Progra
         verifier,
         workers,
     } = script.read_start()?;
-    let opened = Engine::new(alloc, layout, verifier, workers);
-    let mut engine = opened.map_err(|_full| ProgramFault::NoMemory)?;
+    let mut engine = Engine::new(alloc, layout, verifier, workers)?;
     play_all(&mut script, &mut engine, &mut Vec::new(alloc), out)
 }
 

@@ -6,10 +6,11 @@ ghost use Rattle.affinity_tree.specs.Specification.{volume_asked};
 ghost use Rattle.affinity_tree.specs.Fault.{is_limited, is_striped};
 
 mod line;
+mod verb;
 mod word;
 
 use crate::fault::ProgramFault;
-use crate::script::line::{Line, Unread, read_line};
+use crate::script::line::{LayoutLine, Unread, read_event, read_layout_line};
 use affinity_tree::{
     AggregateSpec, Layout, LayoutFault, MIB, MOST_AGGREGATES, MOST_MIB, MOST_RANGES, MOST_SPARE,
     MOST_STRIPES, MOST_VOLUMES, STRIPES, VolumeSpec,
@@ -71,7 +72,7 @@ pub(crate) struct Script<'a> {
 }
 
 /// What an engine is started with.
-#[derive(Debug, Drop)]
+#[derive(Drop)]
 pub(crate) struct Start {
     pub(crate) layout: Layout,
     pub(crate) verifier: [u8; 8],
@@ -131,7 +132,7 @@ impl<'a> Script<'a> {
     }
 
     /// The next line that is neither empty nor a comment; nothing at the end.
-    fn next_line(&mut self) -> Result<Option<&'a [u8]>, ProgramFault>
+    pub(crate) fn next_line(&mut self) -> Result<Option<&'a [u8]>, ProgramFault>
         ensures { IfOk result (λ line. IsSome line
             → length self.new.rest.now < length self.old.rest.now) }
     {
@@ -143,57 +144,84 @@ impl<'a> Script<'a> {
         Ok(None)
     }
 
-    /// What a line says that was read last.
-    fn said<'b>(&self, text: &[u8], bytes: &'b mut Vec<u8>) -> Result<Line<'b>, ProgramFault> {
-        read_line(self.alloc, text, bytes).map_err(|unread| match unread {
+    /// Why the line read last ends the script, where it can't be read.
+    fn fault_of(&self, unread: Unread) -> ProgramFault {
+        match unread {
             Unread::Form => self.bad_line(),
             Unread::NoMemory => ProgramFault::NoMemory,
-        })
-    }
-
-    /// The next line of the layout. Where the script ends, the line past its last is bad.
-    fn layout_line<'b>(&mut self, bytes: &'b mut Vec<u8>) -> Result<Line<'b>, ProgramFault> {
-        match self.next_line()? {
-            Some(text) => self.said(text, bytes),
-            None => Err(ProgramFault::BadLine {
-                number: self.count + 1,
-            }),
         }
     }
 
-    /// The layout, up to the line that starts its engine: aggregates, then volumes, then that line.
+    /// The next line of the layout. Where the script ends, the line past its last is bad.
+    fn layout_line(&mut self) -> Result<LayoutLine, ProgramFault> {
+        let Some(text) = self.next_line()? else {
+            return Err(ProgramFault::BadLine {
+                number: self.count + 1,
+            });
+        };
+        match read_layout_line(text) {
+            Ok(line) => Ok(line),
+            Err(unread) => Err(self.fault_of(unread)),
+        }
+    }
+
+    /// Takes the next line of the layout: aggregates, then volumes, then the line that starts its
+    /// engine, which is answered.
+    fn read_layout_line(
+        &mut self,
+        aggregates: &mut Vec<AggregateSpec>,
+        volumes: &mut Vec<VolumeSpec>,
+    ) -> Result<Option<(usize, [u8; 8])>, ProgramFault>
+        ensures { IfOk result (λ started. IfSome started (λ s. (1 ≤ s.0) × (s.0 ≤ 64))) }
+    {
+        match self.layout_line()? {
+            LayoutLine::Aggregate { spare } if is_aggregate(aggregates, volumes, spare) => {
+                aggregates.try_reserve(1)?;
+                aggregates.push_reserved(AggregateSpec { spare });
+                Ok(None)
+            }
+            LayoutLine::Volume(volume) if is_volume(aggregates, volumes, volume) => {
+                volumes.try_reserve(1)?;
+                volumes.push_reserved(volume);
+                Ok(None)
+            }
+            LayoutLine::Start { workers, verifier } if is_worker_count(workers) => {
+                Ok(Some((workers as usize, verifier)))
+            }
+            _ => Err(self.bad_line()),
+        }
+    }
+
+    /// The lines of the layout, up to the one that starts its engine, of which this is answered.
+    fn read_layout(
+        &mut self,
+        aggregates: &mut Vec<AggregateSpec>,
+        volumes: &mut Vec<VolumeSpec>,
+    ) -> Result<(usize, [u8; 8]), ProgramFault>
+        ensures { IfOk result (λ started. (1 ≤ started.0) × (started.0 ≤ 64)) }
+    {
+        for _ in 0..LAYOUT_LINES {
+            if let Some(started) = self.read_layout_line(aggregates, volumes)? {
+                return Ok(started);
+            }
+        }
+        Err(self.bad_line())
+    }
+
+    /// The layout, up to the line that starts its engine.
     pub(crate) fn read_start(&mut self) -> Result<Start, ProgramFault>
         ensures workers { IfOk result (λ start. 1 ≤ start.workers) }
         ensures most { IfOk result (λ start. start.workers ≤ 64) }
     {
         let mut aggregates = Vec::new(self.alloc);
         let mut volumes = Vec::new(self.alloc);
-        let mut bytes = Vec::new(self.alloc);
-        for _ in 0..LAYOUT_LINES {
-            match self.layout_line(&mut bytes)? {
-                Line::Aggregate { spare } if is_aggregate(&aggregates, &volumes, spare) => {
-                    let specification = AggregateSpec { spare };
-                    aggregates
-                        .push(specification)
-                        .map_err(|_full| ProgramFault::NoMemory)?;
-                }
-                Line::Volume(volume) if is_volume(&aggregates, &volumes, volume) => {
-                    volumes
-                        .push(volume)
-                        .map_err(|_full| ProgramFault::NoMemory)?;
-                }
-                Line::Start { workers, verifier } if is_worker_count(workers) => {
-                    let layout = self.layout(&aggregates, &volumes)?;
-                    return Ok(Start {
-                        layout,
-                        verifier,
-                        workers: workers as usize,
-                    });
-                }
-                _ => return Err(self.bad_line()),
-            }
-        }
-        Err(self.bad_line())
+        let (workers, verifier) = self.read_layout(&mut aggregates, &mut volumes)?;
+        let layout = self.layout(&aggregates, &volumes)?;
+        Ok(Start {
+            layout,
+            verifier,
+            workers,
+        })
     }
 
     /// The layout of these; the line read last is bad where they are none.
@@ -214,20 +242,15 @@ impl<'a> Script<'a> {
         }
     }
 
-    /// The next event; nothing at the end. The bytes of a feed replace those in the buffer.
-    pub(crate) fn read_event<'b>(
-        &mut self,
+    /// The event of a line that was read last. The bytes of a feed replace those in the buffer.
+    pub(crate) fn event_in<'b>(
+        &self,
+        text: &[u8],
         bytes: &'b mut Vec<u8>,
-    ) -> Result<Option<Event<'b>>, ProgramFault>
-        ensures { IfOk result (λ event. IsSome event
-            → length self.new.rest.now < length self.old.rest.now) }
-    {
-        let Some(text) = self.next_line()? else {
-            return Ok(None);
-        };
-        match self.said(text, bytes)? {
-            Line::Event(event) => Ok(Some(event)),
-            _ => Err(self.bad_line()),
+    ) -> Result<Event<'b>, ProgramFault> {
+        match read_event(self.alloc, text, bytes) {
+            Ok(event) => Ok(event),
+            Err(unread) => Err(self.fault_of(unread)),
         }
     }
 }

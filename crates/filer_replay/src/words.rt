@@ -40,7 +40,7 @@ fn fault_of(error: &Error) -> ProgramFault {
 ///
 /// `CommandLine` where the words are no command or ask for help, `NoMemory` where memory ran out.
 pub fn command<'a, S: AsStr>(alloc: Global, words: &'a [S]) -> Result<Command<'a>, ProgramFault> {
-    let declared = declared(alloc).map_err(|_| ProgramFault::NoMemory)?;
+    let declared = declared(alloc)?;
     match declared.try_get_matches_from(words) {
         Ok(matches) => chosen(&matches),
         Err(error) => Err(fault_of(&error)),

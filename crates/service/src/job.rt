@@ -31,7 +31,7 @@ pub struct ServedCall {
 }
 
 /// A worker's call with its hand.
-#[derive(Clone, Copy, Debug, PartialEq, Eq)]
+#[derive(Clone, Copy)]
 pub enum InnerCall {
     /// Free blocks of a range come into the hand.
     Fetch { volume: VolumeNumber, range: u32 },

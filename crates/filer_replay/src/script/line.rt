@@ -1,102 +1,115 @@
 //! The lines of a script.
 
+use crate::script::verb::{Verb, verb_of};
 use crate::script::word::Words;
 use affinity_tree::VolumeSpec;
 use engine::Event;
 use nfs_values::Moment;
 use std::alloc::Global;
 
-/// A line of a script that says something. The bytes of a feed stand in the buffer that the line
-/// was read with.
-#[derive(Clone, Copy, Debug)]
-pub(crate) enum Line<'b> {
+/// A line of a layout.
+#[derive(Clone, Copy)]
+pub(crate) enum LayoutLine {
     /// An aggregate with so many spare ranges.
     Aggregate { spare: u32 },
     Volume(VolumeSpec),
     /// The end of the layout: how many workers, and the write verifier.
     Start { workers: u32, verifier: [u8; 8] },
-    Event(Event<'b>),
 }
 
 /// Why a line can't be read.
-#[derive(Clone, Copy, Debug, PartialEq, Eq)]
+#[derive(Clone, Copy)]
 pub(crate) enum Unread {
-    /// It is of no form that a line may have.
+    /// It is of no form that a line may have where it stands.
     Form,
     /// Memory ran out.
     NoMemory,
 }
 
-/// What a line says, its line feed left off. The bytes of a feed replace those in the buffer.
-pub(crate) fn read_line<'b>(
-    alloc: Global,
-    line: &[u8],
-    bytes: &'b mut Vec<u8>,
-) -> Result<Line<'b>, Unread> {
+/// What a line of a layout says, its line feed left off.
+pub(crate) fn read_layout_line(line: &[u8]) -> Result<LayoutLine, Unread> {
     let mut words = Words::new(line);
-    let said = said_by(alloc, &mut words, bytes)?;
+    let said = match verb_of(words.word()?) {
+        Some(Verb::Aggregate) => {
+            let [spare] = words.numbers::<1>()?;
+            LayoutLine::Aggregate { spare }
+        }
+        Some(Verb::Volume) => LayoutLine::Volume(volume_of(&mut words)?),
+        Some(Verb::Start) => {
+            let [workers] = words.numbers::<1>()?;
+            let verifier = words.verifier()?;
+            LayoutLine::Start { workers, verifier }
+        }
+        _ => return Err(Unread::Form),
+    };
     words.end()?;
     Ok(said)
 }
 
-fn said_by<'b>(
-    alloc: Global,
-    words: &mut Words<'_>,
-    bytes: &'b mut Vec<u8>,
-) -> Result<Line<'b>, Unread> {
-    let line = match words.word()? {
-        b"aggregate" => Line::Aggregate {
-            spare: words.number()?,
-        },
-        b"volume" => Line::Volume(volume_of(words)?),
-        b"start" => Line::Start {
-            workers: words.number()?,
-            verifier: words.verifier()?,
-        },
-        b"feed" => {
-            let connection = words.place()?;
-            *bytes = words.bytes(alloc)?;
-            Line::Event(Event::Feed { connection, bytes })
-        }
-        verb => Line::Event(event_of(verb, words)?),
-    };
-    Ok(line)
-}
-
 /// A volume: its aggregate and its ranges, and then nothing, or its stripes and its mebibytes.
 fn volume_of(words: &mut Words<'_>) -> Result<VolumeSpec, Unread> {
-    let ordinary = VolumeSpec::new(words.number()?, words.number()?);
+    let [aggregate, ranges] = words.numbers::<2>()?;
+    let ordinary = VolumeSpec::new(aggregate, ranges);
     if words.is_ended() {
         return Ok(ordinary);
     }
+    let [stripes, mib] = words.numbers::<2>()?;
     Ok(VolumeSpec {
-        stripes: words.number()?,
-        mib: words.number()?,
+        stripes,
+        mib,
         ..ordinary
     })
 }
 
-/// An event but a feed.
-fn event_of(verb: &[u8], words: &mut Words<'_>) -> Result<Event<'static>, Unread> {
+/// The event that a line says, its line feed left off. The bytes of a feed replace those in the
+/// buffer.
+pub(crate) fn read_event<'b>(
+    alloc: Global,
+    line: &[u8],
+    bytes: &'b mut Vec<u8>,
+) -> Result<Event<'b>, Unread> {
+    let mut words = Words::new(line);
+    let verb = verb_of(words.word()?).ok_or(Unread::Form)?;
     let event = match verb {
-        b"open" => Event::Open,
-        b"close" => Event::Close {
-            connection: words.place()?,
-        },
-        b"begin" => Event::Begin {
-            worker: words.place()?,
-            place: words.place()?,
-            moment: Moment {
-                seconds: words.number()?,
-                nanoseconds: words.number()?,
-            },
-        },
-        b"work" => Event::Work {
-            worker: words.place()?,
-        },
-        b"finish" => Event::Finish {
-            worker: words.place()?,
-        },
+        Verb::Feed => {
+            let [connection] = words.places::<1>()?;
+            *bytes = words.bytes(alloc)?;
+            Event::Feed { connection, bytes }
+        }
+        _ => event_of(verb, &mut words)?,
+    };
+    words.end()?;
+    Ok(event)
+}
+
+/// An event but a feed.
+fn event_of(verb: Verb, words: &mut Words<'_>) -> Result<Event<'static>, Unread> {
+    let event = match verb {
+        Verb::Open => Event::Open,
+        Verb::Close => {
+            let [connection] = words.places::<1>()?;
+            Event::Close { connection }
+        }
+        Verb::Begin => {
+            let [worker, place] = words.places::<2>()?;
+            let [seconds, nanoseconds] = words.numbers::<2>()?;
+            Event::Begin {
+                worker,
+                place,
+                moment: Moment {
+                    seconds,
+                    nanoseconds,
+                },
+            }
+        }
+        Verb::Work => {
+            let [worker] = words.places::<1>()?;
+            Event::Work { worker }
+        }
+        Verb::Finish => {
+            let [worker] = words.places::<1>()?;
+            Event::Finish { worker }
+        }
         _ => return Err(Unread::Form),
     };
     Ok(event)

@@ -31,13 +31,26 @@ impl<'a> Words<'a> {
     }
 
     /// The next word, as a decimal number without leading zeros.
-    pub(crate) fn number(&mut self) -> Result<u32, Unread> {
+    fn number(&mut self) -> Result<u32, Unread> {
         decimal_value(self.word()?).ok_or(Unread::Form)
     }
 
-    /// The next word, as a number of a connection, a worker or a place, by the same rule.
-    pub(crate) fn place(&mut self) -> Result<usize, Unread> {
-        Ok(self.number()? as usize)
+    /// The next words, as such numbers.
+    pub(crate) fn numbers<const N: usize>(&mut self) -> Result<[u32; N], Unread> {
+        let mut numbers = [0; N];
+        for number in &mut numbers {
+            *number = self.number()?;
+        }
+        Ok(numbers)
+    }
+
+    /// The next words, as numbers of a connection, a worker or a place, by the same rule.
+    pub(crate) fn places<const N: usize>(&mut self) -> Result<[usize; N], Unread> {
+        let mut places = [0; N];
+        for place in &mut places {
+            *place = self.number()? as usize;
+        }
+        Ok(places)
     }
 
     /// The next word, as bytes in lower-case hex; `-` stands for none.

@@ -38,7 +38,7 @@ unreachable-requires c =
     let s = c.args.state.now in
     let found = found-message c.in-Some.affinity (slice_get s.calls.waiting c.args.place) c.in-Some.ensures.there in
     let within = slice_get_within s.calls.waiting c.args.place found.0 found.1 in
-    let beyond = c.in_default-begin.ensures.none.0 refl in
+    let beyond = c.in-Err.ensures.none.0 refl in
     let no : ⊥ = absurd (omega (arith, within, beyond)) in no
 
 -- ---- it is refused

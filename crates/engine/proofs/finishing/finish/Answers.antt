@@ -139,7 +139,7 @@ end_in-count-requires-clause-owed c = λ x e.
 
 -- ---- it is finished
 
-module _ (c : goal.Joined-reply) where
+module _ (c : goal.After-drop) where
   abbrev before : State
   before = c.args.state.now
 

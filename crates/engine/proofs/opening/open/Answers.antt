@@ -1,19 +1,16 @@
-use Rattle.std.proofs.Common.{sym, subst}
 use Rattle.std.specs.Prelude.{length}
 use Rattle.nfs_model.specs.Tree.{Serial}
 use Rattle.affinity_tree.specs.Layout.{layout_of}
 use Rattle.parcel_sets.specs.Sets.{serial_parcels}
 use Rattle.desk.specs.Words.{books}
-use Rattle.engine_feed.specs.declared.state.CallsState.{CallsState}
 use Rattle.engine_feed.specs.Seen.{layout_in}
-use Rattle.engine_feed.specs.Words.{AreNew}
 use Rattle.engine.specs.Sound.{IsPlaced}
 use Rattle.engine.proofs.Opened.{AreOpened, seen-opens, seen-stands, same-layout, none-run, no-stamps, none-wait, none-ready, few-workers, none-open}
 use Rattle.engine.proofs.Opened.{none-there}
 use Rattle.engine.proofs.opening.open.Goals as goal
 
-are-opened : (c : goal.In_ok-idle)
-    → AreOpened c.args.verifier (books c.in_ok-desk.desk) c.calls.inside.state c.in_ok-idle.field-0.items c.new-3.result.items
+are-opened : (c : goal.After-new-3)
+    → AreOpened c.args.verifier (books c.in_ok-desk.desk) c.in_ok-calls.calls c.in_ok-idle.idle.items c.new-3.result.items
 are-opened c = record {
   layout = layout_of c.args.layout;
   count = c.args.workers;
@@ -23,7 +20,7 @@ are-opened c = record {
   opening = c.in_ok-parcels.ensures.opening;
   books = c.in_ok-desk.ensures.opened;
   given = layout_of c.in_ok-copy.copy;
-  new = subst (λ (x : CallsState). AreNew (layout_of c.in_ok-copy.copy) x) (sym c.calls.view_is) c.in_ok-calls.ensures;
+  new = c.in_ok-calls.ensures;
   same = c.in_ok-copy.ensures;
   workers = c.in_ok-idle.ensures;
   none = c.new-3.ensures.items;
@@ -32,15 +29,15 @@ are-opened c = record {
 pub returns-clause-opening : goal.returns-clause-opening
 returns-clause-opening c =
     let laws = c.begins_sound.ensures in
-    seen-opens laws.sound laws.server laws.free c.args.verifier (books c.in_ok-desk.desk) c.calls.inside.state c.in_ok-idle.field-0.items c.new-3.result.items
+    seen-opens laws.sound laws.server laws.free c.args.verifier (books c.in_ok-desk.desk) c.in_ok-calls.calls c.in_ok-idle.idle.items c.new-3.result.items
     (are-opened c)
 
 pub returns-clause-sound : goal.returns-clause-sound
 returns-clause-sound c =
     let laws = c.begins_sound.ensures in
     let b = books c.in_ok-desk.desk in
-    let calls = c.calls.inside.state in
-    let ks = c.in_ok-idle.field-0.items in
+    let calls = c.in_ok-calls.calls in
+    let ks = c.in_ok-idle.idle.items in
     let connections = c.new-3.result.items in
     let h = are-opened c in record {
       layout = same-layout c.args.verifier b calls ks connections h;

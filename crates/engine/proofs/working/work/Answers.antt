@@ -1,6 +1,7 @@
-use Rattle.std.proofs.Common.{◌≡◌, ℕ, ◌+◌, ◌<◌, ◌≤◌, List, ◌∙◌, Some, None, Ok, refl, sym, ap, subst}
+use Rattle.std.proofs.Common.{◌≡◌, ℕ, ◌+◌, ◌≤◌, List, ◌∙◌, Some, None, Ok, refl, sym, ap, subst}
 use Rattle.std.specs.Prelude.{◌^◌, length, slice_get, slice_set}
 use Rattle.std.specs.List.{AllByRecursion}
+use Rattle.std.specs.Global.{Vec}
 use Rattle.std.proofs.lemmas.List.{length-set}
 use Rattle.nfs_model.specs.Tree.{Layout}
 use Rattle.nfs_model.specs.Work.{Store}
@@ -20,14 +21,14 @@ use Rattle.held_state.specs.Contents.{filer_contents}
 use Rattle.held_state.specs.Deeds.{stored_all}
 use Rattle.parcels.specs.declared.files.Files.{Files}
 use Rattle.desk_laws.specs.Books.{now, stamps}
-use Rattle.desk_laws.specs.Calls.{Does, MayWork, HasWorked}
+use Rattle.desk_laws.specs.Calls.{Does, HasWorked}
 use Rattle.engine_laws.specs.Store.{FilerBooks, StandsFor}
 use Rattle.engine_laws.specs.Serving.{Serving}
 use Rattle.engine_laws.specs.lemmas.Working.{works, worked-stands}
 use Rattle.engine_laws.specs.lemmas.Happening.{book-apart, work-happens}
 use Rattle.desk.specs.Words.{books}
 use Rattle.service.specs.Jobs.{job_of, job_reply_of}
-use Rattle.service.specs.Running.{outcome_of, IsRunAt, MovesOn, AsksFor, HasRun}
+use Rattle.service.specs.Running.{outcome_of, IsRunAt, MovesOn, HasRun}
 use Rattle.service.specs.lemmas.Serving.{run-tried}
 use Rattle.service.specs.declared.job.Job.{Job}
 use Rattle.service.specs.declared.job.JobReply.{JobReply}
@@ -35,7 +36,7 @@ use Rattle.service.specs.declared.outcome.Outcome.{Outcome}
 use Rattle.engine_feed.specs.Seen.{layout_in, messages_of, running_count}
 use Rattle.engine.specs.declared.worker.Running.{Running}
 use Rattle.engine.specs.declared.worker.Worker.{Worker}
-use Rattle.engine.specs.declared.worker.Worker.TheVariants.{Begun, Worked}
+use Rattle.engine.specs.declared.worker.Worker.TheVariants.{Idle, Begun, Worked}
 use Rattle.engine.specs.Seen.{running_as, worker_seen, setup_in, world, done_of}
 use Rattle.engine.specs.Sound.{IsReady, IsPlaced, MayEnd, running_messages, room_on}
 use Rattle.engine.proofs.Lists.{looked-up, set-twice, all-at, all-set}
@@ -43,8 +44,8 @@ use Rattle.engine.proofs.Workers.{seen-at}
 use Rattle.engine.proofs.Worked.{running-set, same-begun, few-stamps, may-work, has-worked, worked-world, world_with, told-done, roomy-now, may-end}
 use Rattle.engine.proofs.working.work.Goals as goal
 
-pub work-outcome-requires-clause-may : goal.work-outcome-requires-clause-may
-work-outcome-requires-clause-may c =
+pub run_on-outcome-requires-clause-may : goal.run_on-outcome-requires-clause-may
+run_on-outcome-requires-clause-may c =
     let s = c.args.state.now in
     let i = c.args.worker in
     let r = c.in-Some-Begun.running in
@@ -54,14 +55,13 @@ work-outcome-requires-clause-may c =
     looked-up c.deref.result.now s.workers.items i c.in-Some-Begun.field-0.now (Begun r) c.deref.ensures.value found.3.0 found.1 c.in-Some-Begun.field-0-is in
     let placed = all-at (IsReady (layout_in s.calls) (length s.connections.items)) s.workers.items i (Begun r) sound.workers there in
     let seen_there = seen-at s.workers.items i (Begun r) there in
-    let may = may-work job_of job_reply_of (setup_in s) (world s) (books s.desk) sound.stands i (worker_seen (Begun r)) seen_there
+    may-work job_of job_reply_of (setup_in s) (world s) (books s.desk) sound.stands i (worker_seen (Begun r)) seen_there
     (running_as r None) refl refl (few-stamps _ (running_count s.calls) sound.stamps) r.message.call
-    (subst (λ (l : Layout). IsRunAt l r.message.call (affinity_of r.message.affinity)) (sym sound.layout) placed.run) in
-    subst (λ (x : Call). MayWork (AsksFor x) (books s.desk) i) (sym c.as_call.ensures.value) may
+    (subst (λ (l : Layout). IsRunAt l r.message.call (affinity_of r.message.affinity)) (sym sound.layout) placed.run)
 
 -- ---- what was worked
 
-module _ (c : goal.Joined-index_mut) where
+module _ (c : goal.After-set_worker) where
   abbrev i : ℕ
   i = c.args.worker
 
@@ -81,18 +81,18 @@ module _ (c : goal.Joined-index_mut) where
   r = c.in-Some-Begun.running
 
   abbrev o : Outcome
-  o = c.work-outcome.result
+  o = c.run_on-outcome.result
 
   -- the books before and after it
   abbrev b : FilerBooks Files Job JobReply
   b = books c.args.state.now.desk
 
   abbrev next : FilerBooks Files Job JobReply
-  next = books c.work-outcome.new.self
+  next = books c.run_on-outcome.new.desk
 
   -- the workers after it
   abbrev ks' : List Worker
-  ks' = slice_set (slice_set ks i c.replace.new.dest) i (Worked c.in-Begun.running o)
+  ks' = c.set_worker.new.workers.items
 
   abbrev Serves : Call → Does (FilerParcel Files) Outcome
   Serves call layout node before x end =
@@ -114,24 +114,24 @@ module _ (c : goal.Joined-index_mut) where
 
   -- the message that is taken out is the one that was looked at
   same : c.in-Begun.running ≡ r
-  same =
-      let found = c.in-Some-Begun.ensures.lookup in
-      let less = subst (λ (xs : List Worker). i < length xs) c.deref.ensures.value found.3.0 in
-      same-begun ks i c.in-Begun.running r there
-      (looked-up ks ks i c.index_mut.result.now (Begun c.in-Begun.running) refl less c.index_mut.ensures.value (sym c.replace.ensures.value ∙ c.in-Begun.is))
+  same = same-begun ks i c.in-Begun.running r there (c.take_worker.ensures.value ∙ ap Some c.in-Begun.is)
 
   placed : IsPlaced L (length c.args.state.now.connections.items) r.message
   placed = all-at Ready ks i (Begun r) c.requires.0.workers there
 
   did : HasWorked (Serves r.message.call) b i o next
-  did = subst (λ (x : Call). HasWorked (Serves x) b i o next) c.as_call.ensures.value c.work-outcome.ensures.worked
+  did = c.run_on-outcome.ensures.worked
 
   served : HasWorked (Serving (running_as r None)) b i (outcome_of o) next
   served = has-worked job_of job_reply_of setup old b c.requires.0.stands i (worker_seen (Begun r)) seen (running_as r None) refl refl
       r.message.call (credential_of r.message.credential) (moment_of r.moment) refl refl o next did
 
   are : ks' ≡ slice_set ks i (Worked r o)
-  are = set-twice ks i c.replace.new.dest (Worked c.in-Begun.running o) ∙ ap (λ (x : Running). slice_set ks i (Worked x o)) same
+  are =
+      let taken = ap (λ (v : Vec Worker). v.items) c.take_worker.ensures.after in
+      let put = ap (λ (v : Vec Worker). v.items) c.set_worker.ensures in
+      put ∙ ap (λ (xs : List Worker). slice_set xs i (Worked c.in-Begun.running o)) taken
+      ∙ set-twice ks i Idle (Worked c.in-Begun.running o) ∙ ap (λ (x : Running). slice_set ks i (Worked x o)) same
 
   abbrev new : World
   new = world_with old next ks'
@@ -141,7 +141,7 @@ module _ (c : goal.Joined-index_mut) where
 
   -- what is fixed stays
   as_many : length ks' ≡ length ks
-  as_many = length-set (slice_set ks i c.replace.new.dest) i (Worked c.in-Begun.running o) ∙ length-set ks i c.replace.new.dest
+  as_many = ap (λ (xs : List Worker). length xs) are ∙ length-set ks i (Worked r o)
 
   abbrev setup_new : Setup
   setup_new = record setup { workers = length ks' }
@@ -151,7 +151,7 @@ module _ (c : goal.Joined-index_mut) where
 
   stands : StandsFor job_of job_reply_of setup_new new next
   stands =
-      let apart = book-apart _ next _ c.work-outcome.ensures.kept in
+      let apart = book-apart _ next _ c.run_on-outcome.ensures.kept in
       let tried = run-tried L r.message.call (credential_of r.message.credential) (affinity_of r.message.affinity) placed.run in
       let then = worked-stands job_of job_reply_of setup old b c.requires.0.stands i (worker_seen (Begun r)) seen (running_as r None)
       refl refl (outcome_of o) next served apart tried in
@@ -188,7 +188,7 @@ returns-clause-sound c =
     let s = c.args.state.now in
     let sound = c.requires.0 in record {
       layout = ap (λ (x : FilerBooks Files Job JobReply). x.layout) (did c).books ∙ sound.layout;
-      kept = c.work-outcome.ensures.kept;
+      kept = c.run_on-outcome.ensures.kept;
       stands = stands c;
       running = ap (λ (ms : List (Message Call)). length ms) (running c) ∙ sound.running;
       waiting = sound.waiting;
