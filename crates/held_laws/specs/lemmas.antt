@@ -18,6 +18,7 @@ pub mod Lawful
 pub mod Replays
 pub mod Granted
 pub mod Running
+pub mod SameBlocks
 pub mod Parts
 pub mod Culling
 pub mod Fetching

@@ -1,0 +1,5 @@
+-- Lemmas alone, which no reader has to believe: laws of nodes made under a name, for proofs above.
+pub mod Summed
+pub mod Listing
+pub mod Named
+pub mod Made

@@ -1,0 +1,2 @@
+//! What a node made under a name comes to by the parcels under Volume Logical.
+#![tactic(auto)]
