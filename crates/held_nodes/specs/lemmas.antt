@@ -3,3 +3,4 @@ pub mod Summed
 pub mod Listing
 pub mod Named
 pub mod Made
+pub mod MadeNodes

@@ -26,7 +26,7 @@ module _ (g : StripeValue → StripeValue) where
     blocks-stay (s ∷ stripes) zero = same s
     blocks-stay (s ∷ stripes) (suc i) = blocks-stay stripes i
 
-    homes-stay : (stripes : List StripeValue) (fileid block : ℕ)
+    pub homes-stay : (stripes : List StripeValue) (fileid block : ℕ)
         → (home_stripe (map g stripes) fileid block).blocks ≡ (home_stripe stripes fileid block).blocks
     homes-stay stripes fileid block =
         ap (λ (n : ℕ). (stripe_at (map g stripes) (stripe_of n fileid block)).blocks) (length-map stripes g)

@@ -40,7 +40,7 @@ module _ (k : InodeKind) (f : ℕ) where
   card_of_kind (RegularFile size filled verifier) = OfFile size None
   card_of_kind (Folder parent subdirectories) = OfFolder
 
-  blocks-same : (s : StripeValue) → (card_made k f s).blocks ≡ s.blocks
+  pub blocks-same : (s : StripeValue) → (card_made k f s).blocks ≡ s.blocks
   blocks-same s = by k
     where
       by : (kind : InodeKind) → (card_made kind f s).blocks ≡ s.blocks

@@ -53,7 +53,7 @@ module _ (old : InodesValue) (directories : DirectoryMap) (m : Making) (lawful :
   pub apart : (m.directory == old.next) ≡ false
   apart = ne_eqb m.directory old.next (λ e. let less = lawful.fileids m.directory m.inode there in absurd (omega (arith, e, less)))
 
-  apart-turned : (old.next == m.directory) ≡ false
+  pub apart-turned : (old.next == m.directory) ≡ false
   apart-turned = ne_eqb old.next m.directory (λ e. let less = lawful.fileids m.directory m.inode there in absurd (omega (arith, e, less)))
 
   -- what is found under each fileid
