@@ -1,2 +1,3 @@
 pub mod Making
+pub mod Dropping
 pub mod lemmas

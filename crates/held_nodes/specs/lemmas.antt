@@ -4,3 +4,4 @@ pub mod Listing
 pub mod Named
 pub mod Made
 pub mod MadeNodes
+pub mod Unnamed
