@@ -5,3 +5,4 @@ pub mod Named
 pub mod Made
 pub mod MadeNodes
 pub mod Unnamed
+pub mod Dropped
