@@ -1,11 +1,11 @@
 -- What a node without bytes and entries comes to that loses its name, by what is under Logical (REMOVE and RMDIR, RFC 1813 sections
 -- 3.3.12 and 3.3.13).
-use Rattle.std.specs.Prelude.{ℕ, ◌-◌, List, map, Option, Some, None}
+use Rattle.std.specs.Prelude.{ℕ, ◌-◌, List, map}
 use Rattle.std.specs.FinMap.{insert, remove}
 use Rattle.nfs_model.specs.Types.{Moment}
 use Rattle.volume_values.specs.Directories.{DirectoryValue, removed}
 use Rattle.volume_values.specs.Inodes.{InodeKind, RegularFile, Folder, Inode, InodesValue, inode_dropped, inode_set}
-use Rattle.volume_values.specs.Stripes.{StripeValue, card_dropped}
+use Rattle.volume_values.specs.Stripes.{card_dropped}
 use Rattle.held_state.specs.Names.{DirectoryMap}
 use Rattle.held_state.specs.Lenses.{LogicalSet}
 use Rattle.held_nodes.specs.Making.{folders_in}

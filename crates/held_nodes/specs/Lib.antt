@@ -1,3 +1,4 @@
 pub mod Making
 pub mod Dropping
+pub mod Laws
 pub mod lemmas

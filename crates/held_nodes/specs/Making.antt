@@ -1,6 +1,6 @@
 -- What a node made under a name comes to, by what is under Logical (CREATE and MKDIR, RFC 1813 sections 3.3.8 and 3.3.9).
-use Rattle.std.specs.Prelude.{ℕ, ◌+◌, List, map, Option, Some, None}
-use Rattle.std.specs.FinMap.{get, insert}
+use Rattle.std.specs.Prelude.{ℕ, ◌+◌, List, map}
+use Rattle.std.specs.FinMap.{insert}
 use Rattle.nfs_model.specs.Types.{Moment}
 use Rattle.volume_values.specs.Directories.{DirectoryValue, empty_directory, added}
 use Rattle.volume_values.specs.Inodes.{InodeKind, RegularFile, Folder, Inode, InodesValue, inode_created, inode_set}

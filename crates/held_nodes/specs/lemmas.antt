@@ -1,4 +1,4 @@
--- Lemmas alone, which no reader has to believe: laws of nodes made under a name, for proofs above.
+-- Lemmas alone, which no reader has to believe: laws of nodes made and dropped, for proofs above.
 pub mod Summed
 pub mod Listing
 pub mod Named

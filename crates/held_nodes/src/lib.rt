@@ -1,2 +1,6 @@
-//! What a node made under a name comes to by the parcels under Volume Logical.
+//! What nodes made and dropped under a name come to by the parcels under Volume Logical.
 #![tactic(auto)]
+
+mod laws;
+
+pub use laws::nodes_are_made_and_dropped;

@@ -1,5 +1,5 @@
 -- A node without bytes and entries that loses its name: all stays sound, and the volume that is seen has it no more.
-use Rattle.std.proofs.Common.{◌≡◌, ℕ, zero, suc, ◌+◌, ◌-◌, ◌*◌, ◌<◌, ◌≤◌, ◌==◌, Bool, true, false, List, [], ◌∷◌, length, map, Option, Some, None}
+use Rattle.std.proofs.Common.{◌≡◌, ℕ, ◌+◌, ◌-◌, ◌*◌, ◌<◌, ◌≤◌, ◌==◌, Bool, true, false, List, [], ◌∷◌, length, map, Option, Some, None}
 use Rattle.std.proofs.Common.{refl, sym, ap, ◌∙◌, subst, arith}
 use Rattle.std.specs.Prelude.{if◌then◌else◌, is_some, IfSome}
 use Rattle.std.proofs.lemmas.List.{length-map}
@@ -8,28 +8,28 @@ use Rattle.std.specs.Option.{option_map}
 use Rattle.std.specs.Cmp.{nat_cmp_total}
 use Rattle.std.specs.FinMap.{get, insert, remove, len, nat_cmp-IsAntisymmetric}
 use Rattle.std.specs.FinSet as sets
-use Rattle.nfs_model.specs.Server.{Node, File, Directory, DirectoryNode, block_size}
+use Rattle.nfs_model.specs.Server.{Node, File, Directory, block_size}
 use Rattle.nfs_model.specs.Names.{dropped_name}
 use Rattle.nfs_model.specs.Parts.{Hand}
 use Rattle.depot_rule.specs.Sums.{total}
 use Rattle.volume_values.specs.Directories.{DirectoryValue, removed}
 use Rattle.volume_values.specs.Inodes.{InodeKind, RegularFile, Folder, Inode, InodesValue, filled_blocks, inode_of, inode_dropped}
-use Rattle.volume_values.specs.Stripes.{Card, Block, StripeValue, touch_of, card_dropped}
+use Rattle.volume_values.specs.Stripes.{StripeValue, touch_of, card_dropped}
 use Rattle.volume_values.specs.lemmas.Inodes.{len-set, len-dropped, dropped-is, set-is, next-set, used-set-same, used-dropped}
 use Rattle.volume_values.specs.lemmas.Maps.{get-map_values}
 use Rattle.volume_values.specs.lemmas.Numbered.{get-insert_at, get-remove_at, same-answers, itself}
 use Rattle.held_state.specs.Contents.{VolumeContents}
 use Rattle.held_state.specs.Tree.{stripe_at, file_filled, file_touch, later, directory_or_empty, node_by, node_of, volume_of}
-use Rattle.held_state.specs.Names.{size_in, size_of, parent_in, is_folder}
+use Rattle.held_state.specs.Names.{size_in, size_of, parent_in}
 use Rattle.held_state.specs.WellFormed.{StripeFits, WellFormed, size_shown}
 use Rattle.held_state.specs.Partition.{times_in_stripe, times_in_hand}
 use Rattle.held_state.specs.Sound.{IsSound}
 use Rattle.held_state.specs.Lenses.{logical_lens}
 use Rattle.held_laws.specs.lemmas.SameBlocks as blocks
 use Rattle.held_nodes.specs.Making.{folders_in}
-use Rattle.held_nodes.specs.Dropping.{Dropping, without_subdirectories, directory_left, inodes_left, entries_left, node_dropped}
+use Rattle.held_nodes.specs.Dropping.{Dropping, without_subdirectories, directory_left, inodes_left, node_dropped}
 use Rattle.held_nodes.specs.lemmas.Unnamed as names
-use Rattle.held_nodes.specs.lemmas.Unnamed.{LosesName, IsEmptyKind}
+use Rattle.held_nodes.specs.Laws.{LosesName, IsEmptyKind, seen_directory}
 
 -- ---- cards
 
@@ -224,16 +224,12 @@ module _ (p : VolumeContents) (m : Dropping) (well : WellFormed p) (may : LosesN
 
   -- ---- the volume that is seen
 
-  -- the directory as it was seen
-  abbrev pub directory_seen : ℕ → DirectoryNode
-  directory_seen parent = record { attributes = m.inode.attributes; parent = parent; next = m.entries.next; list = m.entries.list }
-
   module _ (parent : ℕ) (says : parent_in m.inode.kind ≡ Some parent) where
-    pub was-directory : node_of p.stripes p.logical.directories m.directory m.inode ≡ Directory (directory_seen parent)
+    pub was-directory : node_of p.stripes p.logical.directories m.directory m.inode ≡ Directory (seen_directory m.inode m.entries parent)
     was-directory = by m.inode.kind says
       where
         by : (kind : InodeKind) → parent_in kind ≡ Some parent
-            → node_by p.stripes (get p.logical.directories m.directory) m.directory m.inode.attributes kind ≡ Directory (directory_seen parent)
+            → node_by p.stripes (get p.logical.directories m.directory) m.directory m.inode.attributes kind ≡ Directory (seen_directory m.inode m.entries parent)
         by (RegularFile size filled verifier) e = absurd cc
         by (Folder up subdirectories) e =
             let same : up ≡ parent = cc in
@@ -245,7 +241,7 @@ module _ (p : VolumeContents) (m : Dropping) (well : WellFormed p) (may : LosesN
             })
 
     abbrev pub directory_then : Node
-    directory_then = Directory (dropped_name (directory_seen parent) m.name m.moment)
+    directory_then = Directory (dropped_name (seen_directory m.inode m.entries parent) m.name m.moment)
 
     is-directory : node_of after.stripes after.logical.directories m.directory (directory_left m) ≡ directory_then
     is-directory = by m.inode.kind says

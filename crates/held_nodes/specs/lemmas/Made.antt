@@ -1,5 +1,5 @@
 -- A node made under a name: all stays sound.
-use Rattle.std.proofs.Common.{◌≡◌, ℕ, zero, suc, ◌+◌, ◌<◌, ◌≤◌, ◌==◌, ◌/◌, Bool, true, false, List, [], ◌∷◌, length, map, Option, Some, None}
+use Rattle.std.proofs.Common.{◌≡◌, ℕ, suc, ◌+◌, ◌<◌, ◌≤◌, ◌==◌, Bool, true, false, List, [], ◌∷◌, length, map, Option, Some, None}
 use Rattle.std.proofs.Common.{refl, sym, ap, ◌∙◌, subst, arith, ⊎_elim}
 use Rattle.std.specs.Prelude.{if◌then◌else◌, is_some, IfSome, ◌&&◌}
 use Rattle.std.proofs.lemmas.List.{length-map}
@@ -10,10 +10,9 @@ use Rattle.std.specs.Ordering.{nat_cmp}
 use Rattle.std.specs.Cmp.{nat_cmp_total}
 use Rattle.std.specs.FinMap.{get, len, nat_cmp-IsAntisymmetric}
 use Rattle.std.specs.FinSet as sets
-use Rattle.nfs_model.specs.Server.{most_inodes}
 use Rattle.nfs_model.specs.Parts.{Hand}
 use Rattle.depot_rule.specs.Sums.{total}
-use Rattle.volume_values.specs.Directories.{DirectoryValue, empty_directory, found, added}
+use Rattle.volume_values.specs.Directories.{DirectoryValue, empty_directory, added}
 use Rattle.volume_values.specs.Inodes.{InodeKind, RegularFile, Folder, Inode, InodesValue, filled_blocks, inode_of, inode_created}
 use Rattle.volume_values.specs.Stripes.{Card, OfFile, OfFolder, Block, StripeValue, touch_of, stripe_of, is_filled}
 use Rattle.volume_values.specs.lemmas.Inodes.{next-absent, len-set, len-created, created-is, set-is, next-set, used-set-same, inode-created-other}
@@ -28,7 +27,8 @@ use Rattle.held_state.specs.Lenses.{logical_lens}
 use Rattle.held_laws.specs.lemmas.SameBlocks as blocks
 use Rattle.held_nodes.specs.Making.{Making, with_subdirectories, folders_in, directory_inode, inodes_made, entries_made, card_made, node_made}
 use Rattle.held_nodes.specs.lemmas.Named as names
-use Rattle.held_nodes.specs.lemmas.Named.{IsNewIn, new_entries}
+use Rattle.held_nodes.specs.lemmas.Named.{new_entries}
+use Rattle.held_nodes.specs.Laws.{IsNewIn, MayBeMade}
 
 -- ---- cards
 
@@ -149,14 +149,6 @@ new-empty directory largest (Folder parent subdirectories) h = refl
 new-size : (directory largest : ℕ) (k : InodeKind) → IsNewIn directory largest k → IfSome (size_in k) (λ size. size ≤ largest)
 new-size directory largest (RegularFile size filled verifier) h = h.1
 new-size directory largest (Folder parent subdirectories) h = tt
-
--- what has to be so of a node to be made
-pub record MayBeMade (m : Making) (p : VolumeContents) : Type 0 where
-  pub there : get p.logical.inodes.inodes m.directory ≡ Some m.inode
-  pub entered : get p.logical.directories m.directory ≡ Some m.entries
-  pub absent : found m.entries m.name ≡ None
-  pub few : len p.logical.inodes.inodes < most_inodes
-  pub is_new : IsNewIn m.directory p.logical.largest m.made.kind
 
 module _ (p : VolumeContents) (m : Making) (well : WellFormed p) (may : MayBeMade m p) where
   abbrev f : ℕ

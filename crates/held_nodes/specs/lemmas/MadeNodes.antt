@@ -1,17 +1,14 @@
 -- The volume that is seen after a node is made under a name: one more node, and one more entry.
-use Rattle.std.proofs.Common.{◌≡◌, ℕ, ◌+◌, ◌==◌, ◌/◌, ◌%◌, Bool, true, false, List, [], ◌∷◌, ◌++◌, length, map, replicate, Option, Some, None}
-use Rattle.std.proofs.Common.{refl, sym, ap, ◌∙◌, subst, arith}
+use Rattle.std.proofs.Common.{◌≡◌, ℕ, ◌+◌, ◌==◌, ◌/◌, ◌%◌, Bool, true, false, List, [], ◌∷◌, length, map, replicate, Option, Some, None}
+use Rattle.std.proofs.Common.{refl, sym, ap, ◌∙◌}
 use Rattle.std.specs.Prelude.{if◌then◌else◌, is_some}
-use Rattle.std.proofs.lemmas.Bool.{eqb-true}
 use Rattle.std.proofs.lemmas.List.FromFn.{length-range_with_len}
 use Rattle.std.specs.List.{range_with_len}
 use Rattle.std.specs.Option.{option_map}
 use Rattle.std.specs.Cmp.{nat_cmp_total}
 use Rattle.std.specs.FinMap.{get, insert, nat_cmp-IsAntisymmetric}
-use Rattle.std.specs.FinSet as sets
-use Rattle.nfs_model.specs.Server.{Attributes, Node, File, Directory, DirectoryNode, VolumeState, block_size}
+use Rattle.nfs_model.specs.Server.{Node, File, Directory, block_size}
 use Rattle.nfs_model.specs.Names.{with_name}
-use Rattle.volume_values.specs.Maps.{map_values}
 use Rattle.volume_values.specs.Directories.{DirectoryValue, added}
 use Rattle.volume_values.specs.Inodes.{InodeKind, RegularFile, Folder, Inode, InodesValue, inode_of, inode_created}
 use Rattle.volume_values.specs.Stripes.{Block, StripeValue, byte_of}
@@ -19,14 +16,15 @@ use Rattle.volume_values.specs.lemmas.Inodes.{next-set}
 use Rattle.volume_values.specs.lemmas.Maps.{get-map_values}
 use Rattle.volume_values.specs.lemmas.Numbered.{get-insert_at, same-answers, itself}
 use Rattle.held_state.specs.Contents.{VolumeContents}
-use Rattle.held_state.specs.Tree.{home_stripe, file_byte, file_bytes, file_touch, directory_or_empty, node_by, node_of, volume_of}
+use Rattle.held_state.specs.Tree.{home_stripe, file_bytes, directory_or_empty, node_by, node_of, volume_of}
 use Rattle.held_state.specs.Names.{parent_in, is_folder}
 use Rattle.held_state.specs.WellFormed.{WellFormed}
 use Rattle.held_laws.specs.lemmas.SameBlocks as blocks
-use Rattle.held_nodes.specs.Making.{Making, with_subdirectories, folders_in, directory_inode, inodes_made, entries_made, card_made}
+use Rattle.held_nodes.specs.Making.{Making, with_subdirectories, folders_in, directory_inode, inodes_made, card_made}
+use Rattle.held_nodes.specs.Laws.{MayBeMade, node_by_kind, new_node, seen_directory}
 use Rattle.held_nodes.specs.lemmas.Named as names
 use Rattle.held_nodes.specs.lemmas.Named.{new_entries}
-use Rattle.held_nodes.specs.lemmas.Made.{MayBeMade, made_in, blocks-same, touch-none, touch-other, none-filled, no-card, no-block}
+use Rattle.held_nodes.specs.lemmas.Made.{made_in, blocks-same, touch-none, touch-other, none-filled, no-card, no-block}
 
 -- ---- a file of zeros
 
@@ -45,15 +43,6 @@ bytes-none stripes f none size =
     ∙ zeros (range_with_len 0 size) ∙ ap (λ n. replicate n 0) (length-range_with_len 0 size)
 
 -- ---- the new node
-
--- a node without blocks and entries, with these attributes
-abbrev pub node_made_by : Attributes → InodeKind → Node
-node_made_by a (RegularFile size filled verifier) =
-    File (record { attributes = a; bytes = replicate size 0; filled = sets.empty; touch = None; verifier = verifier })
-node_made_by a (Folder parent subdirectories) = Directory (record { attributes = a; parent = parent; next = 3; list = [] })
-
-abbrev pub new_node : Inode → Node
-new_node inode = node_made_by inode.attributes inode.kind
 
 module _ (p : VolumeContents) (m : Making) (well : WellFormed p) (may : MayBeMade m p) where
   abbrev f : ℕ
@@ -85,7 +74,7 @@ module _ (p : VolumeContents) (m : Making) (well : WellFormed p) (may : MayBeMad
   this-node = by k refl
     where
       by : (kind : InodeKind) → k ≡ kind
-          → node_by after.stripes (get after.logical.directories f) f m.made.attributes kind ≡ node_made_by m.made.attributes kind
+          → node_by after.stripes (get after.logical.directories f) f m.made.attributes kind ≡ node_by_kind m.made.attributes kind
       by (RegularFile size filled verifier) is = λ j. File (record {
         attributes = m.made.attributes;
         bytes = bytes-none after.stripes f absent-blocks size j;
@@ -106,16 +95,12 @@ module _ (p : VolumeContents) (m : Making) (well : WellFormed p) (may : MayBeMad
 
   -- ---- the directory, and the others
 
-  -- the directory as it was seen
-  abbrev pub directory_seen : ℕ → DirectoryNode
-  directory_seen parent = record { attributes = m.inode.attributes; parent = parent; next = m.entries.next; list = m.entries.list }
-
   pub was-directory : (parent : ℕ) → parent_in m.inode.kind ≡ Some parent
-      → node_of p.stripes p.logical.directories m.directory m.inode ≡ Directory (directory_seen parent)
+      → node_of p.stripes p.logical.directories m.directory m.inode ≡ Directory (seen_directory m.inode m.entries parent)
   was-directory parent says = by m.inode.kind says
     where
       by : (kind : InodeKind) → parent_in kind ≡ Some parent
-          → node_by p.stripes (get p.logical.directories m.directory) m.directory m.inode.attributes kind ≡ Directory (directory_seen parent)
+          → node_by p.stripes (get p.logical.directories m.directory) m.directory m.inode.attributes kind ≡ Directory (seen_directory m.inode m.entries parent)
       by (RegularFile size filled verifier) e = absurd cc
       by (Folder up subdirectories) e =
           let same : up ≡ parent = cc in
@@ -127,7 +112,7 @@ module _ (p : VolumeContents) (m : Making) (well : WellFormed p) (may : MayBeMad
           })
 
   is-directory : (parent : ℕ) → parent_in m.inode.kind ≡ Some parent
-      → node_of after.stripes after.logical.directories m.directory (directory_inode m) ≡ Directory (with_name (directory_seen parent) m.name f m.moment)
+      → node_of after.stripes after.logical.directories m.directory (directory_inode m) ≡ Directory (with_name (seen_directory m.inode m.entries parent) m.name f m.moment)
   is-directory parent says = by m.inode.kind says
     where
       found : get after.logical.directories m.directory ≡ Some (added m.name f m.entries)
@@ -136,7 +121,7 @@ module _ (p : VolumeContents) (m : Making) (well : WellFormed p) (may : MayBeMad
 
       by : (kind : InodeKind) → parent_in kind ≡ Some parent
           → node_by after.stripes (get after.logical.directories m.directory) m.directory (directory_inode m).attributes
-          (with_subdirectories (folders_in k) kind) ≡ Directory (with_name (directory_seen parent) m.name f m.moment)
+          (with_subdirectories (folders_in k) kind) ≡ Directory (with_name (seen_directory m.inode m.entries parent) m.name f m.moment)
       by (RegularFile size filled verifier) e = absurd cc
       by (Folder up subdirectories) e =
           let same : up ≡ parent = cc in
@@ -187,7 +172,7 @@ module _ (p : VolumeContents) (m : Making) (well : WellFormed p) (may : MayBeMad
     was = node_of p.stripes p.logical.directories
 
     abbrev pub entered_node : Node
-    entered_node = Directory (with_name (directory_seen parent) m.name f m.moment)
+    entered_node = Directory (with_name (seen_directory m.inode m.entries parent) m.name f m.moment)
 
     abbrev answer : ℕ → Option Node
     answer q = if q == m.directory then Some entered_node else if q == f then Some (new_node m.made) else get (volume_of p).nodes q

@@ -1,21 +1,22 @@
 -- Inodes and names after a node is made under a name: they are lawful again.
-use Rattle.std.proofs.Common.{◌≡◌, ◌≢◌, ℕ, zero, suc, ◌+◌, ◌<◌, ◌≤◌, ◌==◌, ◌&&◌, not, Bool, true, false, List, [], ◌∷◌, ◌++◌, Option, Some, None}
+use Rattle.std.proofs.Common.{◌≡◌, ℕ, zero, suc, ◌+◌, ◌==◌, ◌&&◌, not, Bool, true, false, List, [], ◌∷◌, Option, Some, None}
 use Rattle.std.proofs.Common.{refl, sym, ap, ◌∙◌, subst, arith, eq-eqb, ne_eqb}
 use Rattle.std.specs.Prelude.{if◌then◌else◌, is_some, IfSome}
 use Rattle.std.proofs.lemmas.Bool.{eqb-true}
 use Rattle.std.specs.List.{AllByRecursion}
-use Rattle.std.specs.FinMap.{get, insert, entries, nat_cmp-IsAntisymmetric}
+use Rattle.std.specs.FinMap.{get, entries, nat_cmp-IsAntisymmetric}
 use Rattle.nfs_model.specs.Types.{Listed}
-use Rattle.nfs_model.specs.Parts.{one_if, count}
+use Rattle.nfs_model.specs.Parts.{one_if}
 use Rattle.depot_rule.specs.Sums.{total}
-use Rattle.volume_values.specs.Directories.{DirectoryValue, empty_directory, added, entry_added, found, IsDirectory}
-use Rattle.volume_values.specs.Inodes.{InodeKind, RegularFile, Folder, Inode, InodesValue, IsInodes, inode_of, inode_created, inode_set}
+use Rattle.volume_values.specs.Directories.{DirectoryValue, empty_directory, added, entry_added, found}
+use Rattle.volume_values.specs.Inodes.{InodeKind, RegularFile, Folder, InodesValue, IsInodes, inode_of, inode_created}
 use Rattle.volume_values.specs.lemmas.Inodes.{next-absent, inode-created-there, inode-created-other, inode-set-there, inode-set-other}
 use Rattle.volume_values.specs.lemmas.Numbered.{get-insert_at, itself}
 use Rattle.held_state.specs.Names.{root, InodeMap, DirectoryMap, size_in, size_of, parent_in, parent_directory, subdirectories_in, subdirectories_of}
 use Rattle.held_state.specs.Names.{is_folder, parent_or, times_in_list, times_named, is_named, folders_listed, directory_above, DirectoryFits, AreNamed}
 use Rattle.held_laws.specs.lemmas.Mapped.{entry-at-least}
 use Rattle.held_nodes.specs.Making.{Making, folders_in, with_subdirectories, directory_inode, inodes_made, directories_made, entries_made}
+use Rattle.held_nodes.specs.Laws.{IsNewIn}
 use Rattle.held_nodes.specs.lemmas.Summed.{total-insert, total-set}
 use Rattle.held_nodes.specs.lemmas.Listing.{count-more, all-more, added-is}
 
@@ -32,11 +33,6 @@ size-kept more (Folder parent subdirectories) = refl
 counted-more : (more n : ℕ) (k : InodeKind) → subdirectories_in k ≡ Some n → subdirectories_in (with_subdirectories more k) ≡ Some (n + more)
 counted-more more n (RegularFile size filled verifier) e = absurd cc
 counted-more more n (Folder parent subdirectories) e = let same : subdirectories ≡ n = cc in ap (λ k. Some (k + more)) same
-
--- a new file is empty of blocks and no larger than the largest; a new directory has this parent, and no subdirectory
-abbrev pub IsNewIn : ℕ → ℕ → InodeKind → Type 0
-IsNewIn directory largest (RegularFile size filled verifier) = (filled ≡ 0) × (size ≤ largest)
-IsNewIn directory largest (Folder parent subdirectories) = (parent ≡ directory) × (subdirectories ≡ 0)
 
 -- the new directory's entries, if it is one
 abbrev pub new_entries : InodeKind → Option DirectoryValue

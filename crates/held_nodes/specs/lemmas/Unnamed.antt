@@ -1,17 +1,17 @@
 -- Inodes and names after a node without entries loses its name: they are lawful again.
-use Rattle.std.proofs.Common.{◌≡◌, ◌≢◌, ℕ, zero, suc, ◌+◌, ◌-◌, ◌<◌, ◌≤◌, ◌==◌, ◌&&◌, not, Bool, true, false, List, [], ◌∷◌, Option, Some, None}
+use Rattle.std.proofs.Common.{◌≡◌, ◌≢◌, ℕ, zero, suc, ◌+◌, ◌-◌, ◌<◌, ◌==◌, ◌&&◌, not, Bool, true, false, List, [], ◌∷◌, Option, Some, None}
 use Rattle.std.proofs.Common.{refl, sym, ap, ◌∙◌, subst, arith, eq-eqb, ne_eqb}
 use Rattle.std.specs.Prelude.{if◌then◌else◌, is_some, IfSome}
 use Rattle.std.proofs.lemmas.Bool.{eqb-true}
 use Rattle.std.specs.List.{AllByRecursion}
 use Rattle.std.specs.Cmp.{nat_cmp_total}
-use Rattle.std.specs.FinMap.{get, insert, remove, entries, nat_cmp-IsAntisymmetric}
+use Rattle.std.specs.FinMap.{get, remove, entries, nat_cmp-IsAntisymmetric}
 use Rattle.nfs_model.specs.Types.{Listed}
 use Rattle.nfs_model.specs.Names.{find_name, without_name}
-use Rattle.nfs_model.specs.Parts.{one_if, count}
+use Rattle.nfs_model.specs.Parts.{one_if}
 use Rattle.depot_rule.specs.Sums.{total}
-use Rattle.volume_values.specs.Directories.{DirectoryValue, removed, found, IsDirectory}
-use Rattle.volume_values.specs.Inodes.{InodeKind, RegularFile, Folder, Inode, InodesValue, IsInodes, inode_of, inode_dropped, inode_set}
+use Rattle.volume_values.specs.Directories.{DirectoryValue, removed, found}
+use Rattle.volume_values.specs.Inodes.{InodeKind, RegularFile, Folder, Inode, InodesValue, inode_of, inode_dropped}
 use Rattle.volume_values.specs.lemmas.Inodes.{inode-dropped-there, inode-dropped-other, inode-set-there, inode-set-other}
 use Rattle.volume_values.specs.lemmas.Numbered.{get-insert_at, get-remove_at, itself}
 use Rattle.held_state.specs.Names.{root, InodeMap, DirectoryMap, size_in, size_of, parent_in, parent_directory, subdirectories_in, subdirectories_of}
@@ -19,6 +19,7 @@ use Rattle.held_state.specs.Names.{is_folder, parent_or, times_in_list, times_na
 use Rattle.held_laws.specs.lemmas.Mapped.{entry-at-least, total-entries}
 use Rattle.held_nodes.specs.Making.{folders_in}
 use Rattle.held_nodes.specs.Dropping.{Dropping, without_subdirectories, directory_left, inodes_left, directories_left, entries_left}
+use Rattle.held_nodes.specs.Laws.{LosesName}
 use Rattle.held_nodes.specs.lemmas.Summed.{total-split, total-set}
 use Rattle.held_nodes.specs.lemmas.Listing.{all-without, removed-is, count-without}
 
@@ -35,22 +36,6 @@ size-kept fewer (Folder parent subdirectories) = refl
 counted-less : (fewer n : ℕ) (k : InodeKind) → subdirectories_in k ≡ Some n → subdirectories_in (without_subdirectories fewer k) ≡ Some (n - fewer)
 counted-less fewer n (RegularFile size filled verifier) e = absurd cc
 counted-less fewer n (Folder parent subdirectories) e = let same : subdirectories ≡ n = cc in ap (λ k. Some (k - fewer)) same
-
--- a file of no bytes and no blocks, or a directory
-abbrev pub IsEmptyKind : InodeKind → Type 0
-IsEmptyKind (RegularFile size filled verifier) = (size ≡ 0) × (filled ≡ 0)
-IsEmptyKind (Folder parent subdirectories) = Unit {0}
-
--- what has to be so of a node to be dropped
-pub record LosesName (m : Dropping) (old : InodesValue) (directories : DirectoryMap) : Type 0 where
-  pub there : inode_of old m.directory ≡ Some m.inode
-  pub entered : get directories m.directory ≡ Some m.entries
-  pub entry : Listed
-  pub found_there : found m.entries m.name ≡ Some entry
-  pub is : entry.fileid ≡ m.fileid
-  pub node : inode_of old m.fileid ≡ Some m.dropped
-  pub kind : IsEmptyKind m.dropped.kind
-  pub empty : (d : DirectoryValue) → get directories m.fileid ≡ Some d → d.list ≡ []
 
 module _ (old : InodesValue) (directories : DirectoryMap) (m : Dropping) (may : LosesName m old directories) where
   abbrev new : InodesValue
