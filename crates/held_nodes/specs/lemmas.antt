@@ -6,3 +6,4 @@ pub mod Made
 pub mod MadeNodes
 pub mod Unnamed
 pub mod Dropped
+pub mod Counting
