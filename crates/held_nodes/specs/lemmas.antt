@@ -7,3 +7,5 @@ pub mod MadeNodes
 pub mod Unnamed
 pub mod Dropped
 pub mod Counting
+pub mod Cutting
+pub mod Sized
