@@ -9,3 +9,4 @@ pub mod Dropped
 pub mod Counting
 pub mod Cutting
 pub mod Sized
+pub mod SizedNodes
