@@ -1,23 +1,27 @@
 -- What a node made under a name, and a node dropped with its name, come to on a sound volume (RFC 1813 sections 3.3.8, 3.3.9, 3.3.12
 -- and 3.3.13).
-use Rattle.std.specs.Prelude.{◌≡◌, ℕ, ◌+◌, ◌<◌, ◌≤◌, List, [], replicate, Some, None}
+use Rattle.std.specs.Prelude.{◌≡◌, ℕ, ◌+◌, ◌-◌, ◌*◌, ◌<◌, ◌≤◌, nat_lt, List, [], replicate, Option, Some, None}
 use Rattle.std.specs.FinMap.{get, len, insert, remove}
 use Rattle.std.specs.FinSet as sets
+use Rattle.std.specs.FinSet.{retain}
 use Rattle.nfs_model.specs.Types.{Listed}
-use Rattle.nfs_model.specs.Server.{Attributes, Node, File, Directory, DirectoryNode, most_inodes}
+use Rattle.nfs_model.specs.Server.{Attributes, Node, File, Directory, FileNode, DirectoryNode, most_inodes, block_size, used}
+use Rattle.nfs_model.specs.Serial.Setattr.{resized_bytes, with_node}
+use Rattle.nfs_model.specs.Moves.{Emptied}
 use Rattle.nfs_model.specs.Names.{with_name, dropped_name}
 use Rattle.nfs_model.specs.Parts.{Hand}
 use Rattle.depot_rule.specs.Sums.{total}
 use Rattle.volume_values.specs.Directories.{DirectoryValue, found}
 use Rattle.volume_values.specs.Inodes.{InodeKind, RegularFile, Folder, Inode, InodesValue, inode_of}
 use Rattle.held_state.specs.Contents.{VolumeContents}
-use Rattle.held_state.specs.Tree.{volume_of}
+use Rattle.held_state.specs.Tree.{file_bytes, file_filled, file_touch, volume_of}
 use Rattle.held_state.specs.Names.{DirectoryMap, parent_in}
-use Rattle.held_state.specs.Partition.{times_in_hand}
+use Rattle.held_state.specs.Partition.{parts_of, times_in_hand}
 use Rattle.held_state.specs.Sound.{IsSound}
 use Rattle.held_state.specs.Lenses.{logical_lens}
 use Rattle.held_nodes.specs.Making.{Making, node_made}
 use Rattle.held_nodes.specs.Dropping.{Dropping, node_dropped}
+use Rattle.held_nodes.specs.Sizing.{Sizing, file_sized}
 
 -- hands that carry as much of a volume's blocks
 abbrev pub WeighAlike : ℕ → List Hand → List Hand → Type 0
@@ -90,3 +94,38 @@ NodesAreDropped = (p : VolumeContents) (m : Dropping) (hands hands' : List Hand)
       nodes = insert (remove (volume_of p).nodes m.fileid) m.directory
           (Directory (dropped_name (seen_directory m.inode m.entries parent) m.name m.moment));
     })
+
+-- ---- of a size set
+
+-- a file as it is seen before
+abbrev pub file_seen : VolumeContents → Sizing → ℕ → Option (List ℕ) → FileNode
+file_seen p m old_size verifier = record {
+  attributes = m.inode.attributes;
+  bytes = file_bytes p.stripes m.fileid old_size;
+  filled = file_filled p.stripes m.fileid;
+  touch = file_touch p.stripes m.fileid;
+  verifier = verifier;
+}
+
+-- a file as it is seen, of a size set: it is settled, cut or grown, and has these attributes
+abbrev pub file_resized : ℕ → Attributes → FileNode → FileNode
+file_resized size attributes g = record g {
+  attributes = attributes;
+  bytes = resized_bytes size g.bytes;
+  filled = retain g.filled (λ b. nat_lt (block_size * b) size);
+  touch = None;
+}
+
+-- the volume after it
+abbrev pub sized_volume : Sizing → VolumeContents → VolumeContents
+sized_volume m p = logical_lens.put (file_sized m (logical_lens.of p)) p
+
+-- all stays sound, the volume that is seen has the file cut or grown, and the blocks that left it are dead
+abbrev pub FilesAreSized : Type 0
+FilesAreSized = (p : VolumeContents) (m : Sizing) (hands hands' : List Hand) (made old_size filled : ℕ) (verifier : Option (List ℕ))
+    → inode_of p.logical.inodes m.fileid ≡ Some m.inode → m.inode.kind ≡ RegularFile old_size filled verifier → m.size ≤ p.logical.largest
+    → IsSound p hands made → WeighAlike p.number hands hands'
+    → IsSound (sized_volume m p) hands' (made + 1)
+    × (volume_of (sized_volume m p)
+    ≡ with_node (volume_of p) m.fileid (File (file_resized m.size m.attributes (file_seen p m old_size verifier))))
+    × Emptied (used (volume_of p) - used (volume_of (sized_volume m p))) (parts_of p) (parts_of (sized_volume m p))

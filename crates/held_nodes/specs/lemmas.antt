@@ -10,3 +10,4 @@ pub mod Counting
 pub mod Cutting
 pub mod Sized
 pub mod SizedNodes
+pub mod Emptied

@@ -1,16 +1,16 @@
 -- How many blocks a file has: by the stripes that hold them, and by the blocks that are filled.
-use Rattle.std.proofs.Common.{◌≡◌, ◌≢◌, ℕ, zero, suc, ◌+◌, ◌<◌, ◌≤◌, ◌==◌, ◌&&◌, ◌||◌, not, Bool, true, false, cond, List, [], ◌∷◌, length, map, Some, None}
-use Rattle.std.proofs.Common.{Option, refl, sym, ap, ◌∙◌, subst, arith, eq-eqb, ne_eqb, Ordering, nat_eq}
+use Rattle.std.proofs.Common.{◌≡◌, ◌≢◌, ℕ, zero, suc, ◌+◌, ◌<◌, ◌≤◌, ◌==◌, ◌&&◌, ◌||◌, Bool, true, false, cond, List, [], ◌∷◌, length, Some, None}
+use Rattle.std.proofs.Common.{refl, sym, ap, ◌∙◌, arith, eq-eqb, ne_eqb, Ordering, nat_eq}
 use Rattle.std.specs.Prelude.{T, is_some}
 use Rattle.std.proofs.lemmas.Bool.{eqb-true}
 use Rattle.std.specs.declared.cmp.Ordering.TheVariants.{Less, Equal, Greater}
 use Rattle.std.specs.List.{filter, list_any, range_with_len}
 use Rattle.std.specs.Ordering.{nat_cmp, is_eq, is_lt, eq_by_cmp, ordering_then}
-use Rattle.std.specs.Cmp.{nat_cmp_total, unsigned_tied, tied_itself}
-use Rattle.std.specs.FinMap.{FinMap, get, find, is_sorted, entries, entries_sorted, get-entries, retain_keys, get-retain_keys, nat_cmp-IsAntisymmetric}
+use Rattle.std.specs.Cmp.{nat_cmp_total, unsigned_tied}
+use Rattle.std.specs.FinMap.{FinMap, find, is_sorted, entries, entries_sorted, get-entries, retain_keys, get-retain_keys, nat_cmp-IsAntisymmetric}
 use Rattle.std.specs.FinMap.Entries.{where_key, is_sorted-where_key, find-where_key, same_entries, below_all}
 use Rattle.std.specs.FinSet as sets
-use Rattle.std.specs.FinSet.{contains, from_list, retain, contains-retain, contains-from_list_nat}
+use Rattle.std.specs.FinSet.{from_list, retain, contains-retain, contains-from_list_nat}
 use Rattle.nfs_model.specs.Parts.{one_if, count, times_listed}
 use Rattle.depot_rule.specs.Sums.{total}
 use Rattle.volume_values.specs.Stripes.{Place, place_cmp, Block, StripeValue, stripe_of, is_filled}

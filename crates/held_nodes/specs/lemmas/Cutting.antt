@@ -1,27 +1,24 @@
 -- A stripe in which a file is cut to a size, or grown by a hole.
-use Rattle.std.proofs.Common.{◌≡◌, ◌≢◌, ℕ, zero, suc, ◌+◌, ◌*◌, ◌/◌, ◌%◌, ◌<◌, ◌≤◌, ◌==◌, ◌&&◌, not, Bool, true, false, cond, List, [], ◌∷◌, ◌++◌}
-use Rattle.std.proofs.Common.{length, map, Option, Some, None, refl, sym, ap, ◌∙◌, subst, arith, eq-eqb, ne_eqb, nat_le, nat_lt, length-append}
-use Rattle.std.specs.Prelude.{if◌then◌else◌, is_some, slice_index_or}
-use Rattle.std.proofs.lemmas.Bool.{eqb-true}
+use Rattle.std.proofs.Common.{◌≡◌, ℕ, zero, suc, ◌+◌, ◌*◌, ◌<◌, ◌≤◌, ◌==◌, ◌&&◌, not, Bool, true, false, cond, List, [], ◌∷◌}
+use Rattle.std.proofs.Common.{length, map, Option, Some, None, refl, sym, ap, ◌∙◌, arith, nat_le, nat_lt}
+use Rattle.std.specs.Prelude.{if◌then◌else◌, slice_index_or}
 use Rattle.std.proofs.lemmas.Bool.Decides.{nat_tests}
 use Rattle.std.proofs.lemmas.List.{length-map}
 use Rattle.std.proofs.lemmas.List.FromFn.{get_or-map-range_with_len, length-map-range_with_len}
-use Rattle.std.specs.List.{filter, range_with_len}
+use Rattle.std.specs.List.{filter}
 use Rattle.std.specs.Option.{option_map}
-use Rattle.std.specs.FinMap.{FinMap, get, len, entries, retain_keys, get-retain_keys, len-entries}
-use Rattle.std.specs.FinMap.Entries.{where_key}
+use Rattle.std.specs.FinMap.{get, len, entries, retain_keys, get-retain_keys, len-entries}
 use Rattle.nfs_model.specs.Server.{block_size}
 use Rattle.nfs_model.specs.Parts.{one_if, count, times_listed}
-use Rattle.volume_values.specs.Maps.{map_values}
-use Rattle.volume_values.specs.Stripes.{Card, OfFile, Place, place_cmp, Block, StripeValue, byte_of, byte_cut, block_mapped, file_mapped, is_past}
-use Rattle.volume_values.specs.Stripes.{cut, numbers_freed, touch_of, is_filled, byte_at}
+use Rattle.volume_values.specs.Stripes.{Place, Block, StripeValue, byte_of, byte_cut, block_mapped, file_mapped, is_past}
+use Rattle.volume_values.specs.Stripes.{numbers_freed}
 use Rattle.volume_values.specs.lemmas.Entries.{place_total, place_same}
 use Rattle.volume_values.specs.lemmas.Maps.{get-map_values}
-use Rattle.volume_values.specs.lemmas.Numbered.{get-insert_at, itself}
-use Rattle.held_state.specs.Partition.{numbers_in, times_in_stripe}
+use Rattle.volume_values.specs.lemmas.Numbered.{itself}
+use Rattle.held_state.specs.Partition.{times_in_stripe}
 use Rattle.held_laws.specs.lemmas.Mapped.{entries-map_values, changed_by}
 use Rattle.held_nodes.specs.Sizing.{stripe_sized}
-use Rattle.held_nodes.specs.lemmas.Counting.{is_of, blocks_in, entries-retained, count-filter}
+use Rattle.held_nodes.specs.lemmas.Counting.{is_of, blocks_in, entries-retained}
 
 module _ (f size : ℕ) where
   abbrev kept : Place → Bool

@@ -1,6 +1,6 @@
 -- A file that gets a size: all stays sound.
-use Rattle.std.proofs.Common.{◌≡◌, ◌≢◌, ℕ, zero, suc, ◌+◌, ◌-◌, ◌*◌, ◌<◌, ◌≤◌, ◌==◌, ◌||◌, Bool, true, false, cond, List, [], ◌∷◌, ◌++◌, length, map}
-use Rattle.std.proofs.Common.{Option, Some, None, refl, sym, ap, ◌∙◌, subst, arith, nat_lt, length-append, ⊎_elim, ◌⊎◌}
+use Rattle.std.proofs.Common.{◌≡◌, ℕ, ◌+◌, ◌-◌, ◌*◌, ◌<◌, ◌≤◌, ◌==◌, ◌||◌, Bool, true, false, cond, List, [], ◌∷◌, ◌++◌, length, map}
+use Rattle.std.proofs.Common.{Option, Some, None, refl, sym, ap, ◌∙◌, subst, arith, nat_lt, length-append, ⊎_elim}
 use Rattle.std.specs.Prelude.{if◌then◌else◌, is_some, IfSome}
 use Rattle.std.proofs.lemmas.Bool.{eqb-true}
 use Rattle.std.proofs.lemmas.Bool.Decides.{nat_tests}
@@ -11,11 +11,11 @@ use Rattle.std.specs.Ordering.{nat_cmp}
 use Rattle.std.specs.Cmp.{nat_cmp_total}
 use Rattle.std.specs.FinMap.{get, len}
 use Rattle.std.specs.FinSet as sets
-use Rattle.std.specs.FinSet.{contains, union, from_list, contains-union}
+use Rattle.std.specs.FinSet.{contains, from_list, contains-union}
 use Rattle.nfs_model.specs.Server.{block_size}
 use Rattle.nfs_model.specs.Parts.{Hand, one_if, times_listed}
 use Rattle.depot_rule.specs.Sums.{total}
-use Rattle.volume_values.specs.Inodes.{InodeKind, RegularFile, Folder, Inode, InodesValue, filled_blocks, inode_of, inode_set}
+use Rattle.volume_values.specs.Inodes.{InodeKind, RegularFile, Inode, InodesValue, filled_blocks, inode_of, inode_set}
 use Rattle.volume_values.specs.Stripes.{Card, OfFile, OfFolder, Block, StripeValue, byte_cut, block_mapped, card_settled, touch_taken, touch_of, stripe_of, is_filled, numbers_freed}
 use Rattle.volume_values.specs.lemmas.Inodes.{inode-set-there, inode-set-other, next-set, used-set, len-set, set-is}
 use Rattle.volume_values.specs.lemmas.Numbered.{get-insert_at, get-changed_at, itself}
@@ -31,7 +31,7 @@ use Rattle.held_laws.specs.lemmas.SameNames.{SamePlaces, named-same}
 use Rattle.held_laws.specs.lemmas.Counted.{listed-times}
 use Rattle.held_nodes.specs.Sizing.{Sizing, stripe_sized, all_freed, kind_sized, inode_sized, file_sized}
 use Rattle.held_nodes.specs.lemmas.Counting.{blocks_in, filled-counted}
-use Rattle.held_nodes.specs.lemmas.Cutting.{cut-found, cut-other, cut-here, cut-long, cut-zeros, cut-len, cut-times, cut-of}
+use Rattle.held_nodes.specs.lemmas.Cutting.{cut-other, cut-here, cut-long, cut-zeros, cut-len, cut-times, cut-of}
 
 -- ---- sums over stripes
 

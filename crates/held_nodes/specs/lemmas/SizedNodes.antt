@@ -1,7 +1,7 @@
 -- The volume that is seen after a file gets a size: its bytes are cut, or grown by zeros.
 use Rattle.std.proofs.Common.{◌≡◌, ℕ, zero, suc, ◌+◌, ◌-◌, ◌*◌, ◌/◌, ◌%◌, ◌<◌, ◌≤◌, ◌==◌, ◌&&◌, Bool, true, false, cond, List, [], ◌∷◌, ◌++◌, length, map}
-use Rattle.std.proofs.Common.{take, replicate, Option, Some, None, refl, sym, ap, ◌∙◌, subst, arith, nat_lt, ⊎_elim, ◌⊎◌}
-use Rattle.std.specs.Prelude.{if◌then◌else◌, is_some, slice_index_or}
+use Rattle.std.proofs.Common.{take, replicate, Option, Some, None, refl, sym, ap, ◌∙◌, arith, nat_lt, ⊎_elim}
+use Rattle.std.specs.Prelude.{if◌then◌else◌, is_some}
 use Rattle.std.proofs.lemmas.Bool.{eqb-true, cases_lt}
 use Rattle.std.proofs.lemmas.Bool.Decides.{nat_tests}
 use Rattle.std.proofs.lemmas.List.{take_all}
@@ -13,11 +13,10 @@ use Rattle.std.specs.Cmp.{nat_cmp_total}
 use Rattle.std.specs.FinMap.{get, insert, nat_cmp-IsAntisymmetric}
 use Rattle.std.specs.FinSet as sets
 use Rattle.std.specs.FinSet.{contains, retain, contains-retain}
-use Rattle.nfs_model.specs.Server.{Attributes, Node, File, Directory, FileNode, VolumeState, block_size}
+use Rattle.nfs_model.specs.Server.{Node, File, FileNode, block_size}
 use Rattle.nfs_model.specs.Serial.Setattr.{resized_bytes, with_node}
-use Rattle.volume_values.specs.Maps.{map_values}
 use Rattle.volume_values.specs.Inodes.{InodeKind, RegularFile, Folder, Inode, InodesValue, inode_of}
-use Rattle.volume_values.specs.Stripes.{Card, OfFile, Block, StripeValue, byte_of, byte_cut, block_mapped, touch_of, stripe_of, is_filled}
+use Rattle.volume_values.specs.Stripes.{OfFile, Block, StripeValue, byte_of, byte_cut, block_mapped, touch_of, stripe_of, is_filled}
 use Rattle.volume_values.specs.lemmas.Inodes.{inode-set-there, inode-set-other, next-set}
 use Rattle.volume_values.specs.lemmas.Maps.{get-map_values}
 use Rattle.volume_values.specs.lemmas.Numbered.{get-insert_at, same-answers, itself}
@@ -27,6 +26,7 @@ use Rattle.held_state.specs.Names.{size_of, size_in}
 use Rattle.held_state.specs.WellFormed.{WellFormed}
 use Rattle.held_laws.specs.lemmas.SameBlocks.{stripe-mapped}
 use Rattle.held_nodes.specs.Sizing.{Sizing, stripe_sized, all_freed, kind_sized, inode_sized}
+use Rattle.held_nodes.specs.Laws.{file_resized, file_seen}
 use Rattle.held_nodes.specs.lemmas.Cutting.{cut-here, cut-other, cut-byte}
 use Rattle.held_nodes.specs.lemmas.Sized.{sized_in, card-sized, filled-other}
 
@@ -77,15 +77,6 @@ resized-range g h old size same none =
     nothing (x ∷ xs) = ap (λ (ys : List ℕ). x ∷ ys) (nothing xs)
 
 -- ---- the volume after it
-
--- a file as it is seen, of a size set: it is settled, cut or grown, and has these attributes
-abbrev pub file_resized : ℕ → Attributes → FileNode → FileNode
-file_resized size attributes g = record g {
-  attributes = attributes;
-  bytes = resized_bytes size g.bytes;
-  filled = retain g.filled (λ b. nat_lt (block_size * b) size);
-  touch = None;
-}
 
 module _ (p : VolumeContents) (m : Sizing) (well : WellFormed p) (there : get p.logical.inodes.inodes m.fileid ≡ Some m.inode)
     (old_size filled : ℕ) (verifier : Option (List ℕ)) (is_file : m.inode.kind ≡ RegularFile old_size filled verifier)
@@ -206,20 +197,13 @@ module _ (p : VolumeContents) (m : Sizing) (well : WellFormed p) (there : get p.
   abbrev was : ℕ → Inode → Node
   was = node_of p.stripes p.logical.directories
 
-  -- the file as it was seen
-  abbrev pub file_seen : FileNode
-  file_seen = record {
-    attributes = m.inode.attributes;
-    bytes = file_bytes p.stripes f old_size;
-    filled = file_filled p.stripes f;
-    touch = file_touch p.stripes f;
-    verifier = verifier;
-  }
+  abbrev file_was : FileNode
+  file_was = file_seen p m old_size verifier
 
-  pub was-file : was f m.inode ≡ File file_seen
+  pub was-file : was f m.inode ≡ File file_was
   was-file = ap (node_by p.stripes (get p.logical.directories f) f m.inode.attributes) is_file
 
-  is-file : now f next_inode ≡ File (file_resized m.size m.attributes file_seen)
+  is-file : now f next_inode ≡ File (file_resized m.size m.attributes file_was)
   is-file =
       ap (λ k. node_by after.stripes (get p.logical.directories f) f m.attributes (kind_sized m.size (length (all_freed f m.size p.stripes)) k)) is_file
       ∙ (λ j. File (record {
@@ -250,7 +234,7 @@ module _ (p : VolumeContents) (m : Sizing) (well : WellFormed p) (there : get p.
       by (Folder parent subdirectories) = refl
 
   abbrev sized_node : Node
-  sized_node = File (file_resized m.size m.attributes file_seen)
+  sized_node = File (file_resized m.size m.attributes file_was)
 
   nodes-sized : (volume_of after).nodes ≡ insert (volume_of p).nodes f sized_node
   nodes-sized = same-answers _ _ (λ q.
