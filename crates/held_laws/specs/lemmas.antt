@@ -18,6 +18,8 @@ pub mod Lawful
 pub mod Replays
 pub mod Granted
 pub mod Running
+pub mod SameBlocks
+pub mod SameNames
 pub mod Parts
 pub mod Culling
 pub mod Fetching

@@ -1,0 +1,16 @@
+use Rattle.held_nodes.specs.lemmas.Made.{sound-made}
+use Rattle.held_nodes.specs.lemmas.MadeNodes.{volume-made}
+use Rattle.held_nodes.specs.lemmas.Dropped.{sound-left, volume-left}
+use Rattle.held_nodes.proofs.laws.nodes_are_made_and_dropped.Goals as goal
+
+pub returns-clause-made : goal.returns-clause-made
+returns-clause-made c = λ p m hands hands' made parent may sound weigh says. (
+  sound-made p m sound.well_formed may hands hands' made weigh sound,
+  volume-made p m sound.well_formed may parent says,
+)
+
+pub returns-clause-dropped : goal.returns-clause-dropped
+returns-clause-dropped c = λ p m hands hands' made parent may sound weigh says. (
+  sound-left p m sound.well_formed may hands hands' made weigh sound,
+  volume-left p m sound.well_formed may parent says,
+)

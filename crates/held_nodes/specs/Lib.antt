@@ -1,0 +1,5 @@
+pub mod Making
+pub mod Dropping
+pub mod Sizing
+pub mod Laws
+pub mod lemmas
