@@ -1,5 +1,5 @@
 -- A grant's parcels are given home.
-use Rattle.std.proofs.Common.{◌≡◌, ℕ, ◌<◌, List, [], ◌∷◌, ◌++◌, length, set, slice_index_or, sym, ap, ◌∙◌, subst, arith, append_assoc, Option, Some, None}
+use Rattle.std.proofs.Common.{◌≡◌, ℕ, ◌<◌, List, [], ◌∷◌, ◌++◌, length, set, slice_index_or, refl, sym, ap, ◌∙◌, subst, arith, append_assoc, Option, Some, None}
 use mathlib.Core.Option.{some, some-injective}
 use lib.ListN.{get_elem?}
 use Rattle.parcel_sets.specs.Moved.{Moved}
@@ -13,6 +13,11 @@ use Rattle.depot_rule.specs.lemmas.Sums.{one-other}
 use Rattle.depot.specs.Holds.{untaken, Handled}
 use Rattle.depot.specs.Grants.{HasWith, IsEnded}
 use Rattle.depot.proofs.Holding.{untaken-is}
+
+-- a list of no length
+pub none-left : {A : Type 0} (xs : List A) → length xs ≡ 0 → xs ≡ []
+none-left [] e = refl
+none-left (x ∷ xs) e = absurd (omega arith)
 
 module _ {P E : Type 0} where
   -- once they are given, none of them is with the seat
@@ -69,3 +74,13 @@ module _ {P E : Type 0} where
       let now : w ≡ view_of ws = sym (ap view_of handled.2) in
       apart c h (subst (λ (x : View P E). Has x c h) now has) (subst (λ (x : View P E). Excludes x.tree n c) now
       (subst (λ (j : ℕ). Excludes v.tree j c) (sym is) ex)) ∙ is
+
+  -- what was taken is not untaken
+  pub gone-untaken : (v : View P E) (b k : ℕ) → (0 < k → k < length v.tree → Covers v.tree b k → 0 < tally k v.gone) → (o : Option P) → untaken v b k ≡ o
+      → o ≡ None
+  gone-untaken v b k taken None e = refl
+  gone-untaken v b k taken (Some p) e =
+      let u = untaken-is v b k p e in
+      let some : 0 < tally k v.gone = taken u.pos u.place u.cover in
+      let none : tally k v.gone ≡ 0 = u.home in
+      absurd (omega arith)

@@ -1,15 +1,16 @@
-use Rattle.std.proofs.Common.{◌≡◌, ◌<◌, ℕ, List, length, sym, ap, ◌∙◌, subst}
+use Rattle.std.proofs.Common.{◌≡◌, ◌<◌, ℕ, List, length, refl, sym, ap, ◌∙◌, subst}
 use Rattle.nfs_model.specs.Tree.{Layout}
 use Rattle.affinity_tree.specs.Affinity.{affinity_of}
 use Rattle.affinity_tree.specs.Layout.{layout_of}
 use Rattle.affinity_tree.specs.Numbers.{number_of, parents}
 use Rattle.affinity_tree.specs.Ancestors.{IsTree, Covers}
 use Rattle.depot_rule.specs.Seats.{view_of}
+use Rattle.depot_rule.specs.Shares.{Has}
 use Rattle.parcel_sets.specs.Moved.{Moved}
 use Rattle.depot.specs.Holds.{untaken}
 use Rattle.depot.specs.Grants.{HasWith}
 use Rattle.affinity_tree.specs.lemmas.Standing.{parents-tree, number-place}
-use Rattle.depot.proofs.Home.{set-home, home-ended, home-else, home-apart}
+use Rattle.depot.proofs.Home.{none-left, set-home, gone-untaken, home-ended, home-else, home-apart}
 use Rattle.depot.proofs.Ended.{given-allowed}
 use Rattle.depot.proofs.homing.give_home.Goals as goal
 
@@ -67,3 +68,40 @@ returns-clause-apart g c =
     home-apart (number_of (layout_of c.args.layout.now) (affinity_of c.args.grant.affinity)) c.number_of-node.result c.args.place.me.0
     c.scatter.new.shelf.place.me.0 c.number_of-node.ensures.number
     c.scatter.ensures.kept.2 c.give_up.ensures.apart
+
+pub invariant_of-hold : goal.invariant_of-hold
+invariant_of-hold g c = record {
+  table = c.requires.table;
+  one = (c.requires.ready.0, ap length c.requires.ready.1);
+  free = c.requires.ready.2;
+  tree = c.requires.ready.4 ∙ c.requires.tree.0;
+}
+
+pub give_up-requires-clause-ready : goal.give_up-requires-clause-ready
+give_up-requires-clause-ready g c =
+    let L : Layout = layout_of c.args.layout.now in
+    let place = number-place L (affinity_of c.args.grant.affinity) c.requires.node.0 in
+    let still = c.scatter.ensures.kept.2.2 in (
+      ap length still,
+      subst (λ (n : ℕ). 0 < n) (sym c.number_of-node.ensures.number) place.0,
+      ap (λ vs. (view_of vs).path) still ∙ c.requires.ready.3,
+      ap (λ vs. (view_of vs).tree) still ∙ c.requires.ready.4,
+    )
+
+pub give_up-requires-clause-granted : goal.give_up-requires-clause-granted
+give_up-requires-clause-granted g c =
+    let node = subst (λ (n : ℕ). Has (view_of c.args.place.me.0) n c.requires.listed.0) (sym c.number_of-node.ensures.number) c.requires.listed.1 in
+    (c.requires.listed.0, subst (λ vs. Has (view_of vs) c.number_of-node.result c.requires.listed.0) (sym c.scatter.ensures.kept.2.2) node)
+
+pub scatter-requires-clause-vacant : goal.scatter-requires-clause-vacant
+scatter-requires-clause-vacant g c = λ node under.
+    let v = view_of c.args.place.me.0 in let k = number_of (layout_of c.args.layout.now) node in
+    gone-untaken v c.number_of-node.result k
+    (λ pos lt cover. c.requires.taken k pos lt (subst (λ (n : ℕ). Covers v.tree n k) c.number_of-node.ensures.number cover))
+    (untaken v c.number_of-node.result k) refl
+
+pub returns-clause-seat : goal.returns-clause-seat
+returns-clause-seat g c = (
+  c.give_up.ensures.seat.0 ∙ c.scatter.ensures.kept.1,
+  c.give_up.ensures.seat.1 ∙ none-left c.scatter.new.shelf.place.me.1 c.scatter.new.shelf.one.1,
+)
