@@ -2,8 +2,9 @@
 
 use crate::bytes::{holds, joined, same};
 use nfs_types::{Bad, decode_args};
-use nfs_values::{Call, CreateMode, Moment, Procedure, SetAttributes, SetTime};
-use std::test::Fail;
+use nfs_values::{Call, CreateMode, Moment, Procedure, SetAttributes, SetTime, Target};
+use std::mem;
+use std::process::Abort;
 
 /// The handle 7, and the name `ab`.
 const TARGET: [u8; 16] = [0, 0, 0, 1, 7, 0, 0, 0, 0, 0, 0, 2, b'a', b'b', 0, 0];
@@ -29,83 +30,106 @@ fn set() -> SetAttributes {
     }
 }
 
+/// The call that arguments spell.
+fn decoded(rt: &(impl Abort + AllocGlobal), procedure: Procedure, arguments: &[u8]) -> Call {
+    decode_args(rt.alloc(), procedure, arguments).expect(rt, "no call")
+}
+
+/// Looks whether this is the target.
+fn is_target(rt: &impl Abort, target: &Target) {
+    same(rt, target.directory.as_bytes(), &[7]);
+    same(rt, target.name.as_bytes(), b"ab");
+}
+
 #[test]
-fn names_are_copied(rt: HostRuntime) -> Result<(), Fail> {
+fn names_are_copied(rt: HostRuntime) {
     for procedure in [
         Procedure::Lookup,
         Procedure::Remove,
         Procedure::RemoveDirectory,
     ] {
-        let call = decode_args(rt.alloc(), procedure, &TARGET)?;
-        let (Call::Lookup(target) | Call::Remove(target) | Call::RemoveDirectory(target)) = call
-        else {
-            return Err("another call".into());
-        };
-        same(&rt, target.directory.as_bytes(), &[7]);
-        same(&rt, target.name.as_bytes(), b"ab");
+        let call = decoded(&rt, procedure, &TARGET);
+        match &call {
+            Call::Lookup(target) | Call::Remove(target) | Call::RemoveDirectory(target) => {
+                is_target(&rt, target);
+            }
+            _ => panic!(rt; "another call"),
+        }
+        mem::forget(call);
     }
-    Ok(())
+}
+
+/// The number of the fault for which the arguments of a LOOKUP are refused, or 0.
+fn fault_of(rt: &(impl Abort + AllocGlobal), parts: &[&[u8]]) -> u32 {
+    let arguments = joined(rt, parts);
+    let decoded = decode_args(rt.alloc(), Procedure::Lookup, &arguments);
+    let number = match &decoded {
+        Err(Bad::Fault(fault)) => fault.number(),
+        _ => 0,
+    };
+    mem::forget(decoded);
+    number
 }
 
 #[test]
-fn second_spellings_are_refused(rt: HostRuntime) -> Result<(), Fail> {
+fn second_spellings_are_refused(rt: HostRuntime) {
     // the handle of a root, and the name `abc` without its padding
     let root = [
         0, 0, 0, 12, 0, 0, 0, 0, 0, 0, 0, 0, 0, 0, 0, 1, 0, 0, 0, 3, b'a', b'b', b'c',
     ];
-    let padded = joined(rt.alloc(), &[&root, &[1]])?;
-    let Err(Bad::Fault(fault)) = decode_args(rt.alloc(), Procedure::Lookup, &padded) else {
-        return Err("padding that isn't zero".into());
-    };
-    holds(&rt, fault.number() == 4);
-    let longer = joined(rt.alloc(), &[&root, &[0, 0, 0, 0, 0]])?;
-    let Err(Bad::Fault(fault)) = decode_args(rt.alloc(), Procedure::Lookup, &longer) else {
-        return Err("bytes behind the name".into());
-    };
-    holds(&rt, fault.number() == 6);
-    Ok(())
+    // padding that isn't zero
+    holds(&rt, fault_of(&rt, &[&root, &[1]]) == 4);
+    // bytes behind the name
+    holds(&rt, fault_of(&rt, &[&root, &[0, 0, 0, 0, 0]]) == 6);
 }
 
 #[test]
-fn files_are_made_with_attributes(rt: HostRuntime) -> Result<(), Fail> {
-    let guarded = joined(rt.alloc(), &[&TARGET, &[0, 0, 0, 1], &SET])?;
-    let Call::Create { target, mode } = decode_args(rt.alloc(), Procedure::Create, &guarded)? else {
-        return Err("no CREATE".into());
-    };
-    same(&rt, target.name.as_bytes(), b"ab");
-    holds(&rt, mode == CreateMode::Guarded(set()));
-    Ok(())
+fn files_are_made_with_attributes(rt: HostRuntime) {
+    let guarded = joined(&rt, &[&TARGET, &[0, 0, 0, 1], &SET]);
+    let call = decoded(&rt, Procedure::Create, &guarded);
+    match &call {
+        Call::Create { target, mode } => {
+            is_target(&rt, target);
+            holds(&rt, *mode == CreateMode::Guarded(set()));
+        }
+        _ => panic!(rt; "no CREATE"),
+    }
+    mem::forget(call);
 }
 
 #[test]
-fn directories_are_made_with_attributes(rt: HostRuntime) -> Result<(), Fail> {
-    let plain = joined(rt.alloc(), &[&TARGET, &SET])?;
-    let made = decode_args(rt.alloc(), Procedure::MakeDirectory, &plain)?;
-    let Call::MakeDirectory { target, set: asked } = made else {
-        return Err("no MKDIR".into());
-    };
-    same(&rt, target.name.as_bytes(), b"ab");
-    holds(&rt, asked == set());
-    Ok(())
+fn directories_are_made_with_attributes(rt: HostRuntime) {
+    let plain = joined(&rt, &[&TARGET, &SET]);
+    let call = decoded(&rt, Procedure::MakeDirectory, &plain);
+    match &call {
+        Call::MakeDirectory { target, set: asked } => {
+            is_target(&rt, target);
+            holds(&rt, *asked == set());
+        }
+        _ => panic!(rt; "no MKDIR"),
+    }
+    mem::forget(call);
 }
 
 #[test]
-fn data_is_copied(rt: HostRuntime) -> Result<(), Fail> {
+fn data_is_copied(rt: HostRuntime) {
     let arguments = [
         0, 0, 0, 1, 7, 0, 0, 0, 0, 0, 0, 0, 0, 0, 0, 8, 0, 0, 0, 3, 0, 0, 0, 2, 0, 0, 0, 3, 1, 2,
         3, 0,
     ];
-    let Call::Write {
-        handle,
-        offset,
-        count,
-        bytes,
-    } = decode_args(rt.alloc(), Procedure::Write, &arguments)?
-    else {
-        return Err("no WRITE".into());
-    };
-    same(&rt, handle.as_bytes(), &[7]);
-    holds(&rt, offset == 8 && count == 3);
-    same(&rt, &bytes, &[1, 2, 3]);
-    Ok(())
+    let call = decoded(&rt, Procedure::Write, &arguments);
+    match &call {
+        Call::Write {
+            handle,
+            offset,
+            count,
+            bytes,
+        } => {
+            same(&rt, handle.as_bytes(), &[7]);
+            holds(&rt, *offset == 8 && *count == 3);
+            same(&rt, bytes, &[1, 2, 3]);
+        }
+        _ => panic!(rt; "no WRITE"),
+    }
+    mem::forget(call);
 }

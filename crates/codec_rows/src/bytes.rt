@@ -1,6 +1,5 @@
 //! Bytes, put together and compared.
 
-use std::alloc::{AllocError, Global};
 use std::process::Abort;
 
 /// Looks whether this is so.
@@ -14,19 +13,20 @@ pub(crate) fn same(rt: &impl Abort, bytes: &[u8], wanted: &[u8]) {
 }
 
 /// Parts, one after the other.
-pub(crate) fn joined(alloc: Global, parts: &[&[u8]]) -> Result<Vec<u8>, AllocError> {
-    let mut all = Vec::new(alloc);
+pub(crate) fn joined(rt: &(impl Abort + AllocGlobal), parts: &[&[u8]]) -> Vec<u8> {
+    let mut all = Vec::new(rt.alloc());
     for part in parts {
-        all.extend_from_slice(part)?;
+        all.extend_from_slice(part).expect(rt, "no memory");
     }
-    Ok(all)
+    all
 }
 
 /// Words as bytes, the highest byte first.
-pub(crate) fn bytes_of(alloc: Global, words: &[u32]) -> Result<Vec<u8>, AllocError> {
-    let mut bytes = Vec::new(alloc);
-    for number in words {
-        bytes.extend_from_slice(&number.to_be_bytes())?;
+pub(crate) fn bytes_of(rt: &(impl Abort + AllocGlobal), words: &[u32]) -> Vec<u8> {
+    let mut bytes = Vec::new(rt.alloc());
+    for word in words {
+        let added = bytes.extend_from_slice(&word.to_be_bytes());
+        added.expect(rt, "no memory");
     }
-    Ok(bytes)
+    bytes
 }

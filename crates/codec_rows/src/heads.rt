@@ -3,54 +3,54 @@
 use crate::bytes::{bytes_of, holds};
 use nfs_values::{Call, Reply};
 use rpc_msg::{Head, Request, Served, read_call, read_record};
-use std::test::Fail;
+use std::mem;
 
 #[test]
-fn null_of_a_user(rt: HostRuntime) -> Result<(), Fail> {
-    let record = bytes_of(
-        rt.alloc(),
-        &[
-            9, 0, 2, 0x000186a3, 3, 0, 1, 0x14, 0, 0, 0x3e8, 0x64, 0, 0, 0,
-        ],
-    )?;
-    let heard = read_record(rt.alloc(), &record).map_err(|_fault| "fault")?;
-    let Request::Call {
-        call: Call::Null,
-        credential,
-    } = &heard.request
-    else {
-        return Err(Fail::from("no NULL"));
-    };
-    holds(
-        &rt,
-        heard.xid == 9 && credential.uid == 1000 && credential.gid == 100,
-    );
-    Ok(())
+fn null_of_a_user(rt: HostRuntime) {
+    let words = [
+        9, 0, 2, 0x000186a3, 3, 0, 1, 0x14, 0, 0, 0x3e8, 0x64, 0, 0, 0,
+    ];
+    let record = bytes_of(&rt, &words);
+    let heard = read_record(rt.alloc(), &record).ok();
+    let heard = heard.expect(&rt, "a fault");
+    holds(&rt, heard.xid == 9);
+    match &heard.request {
+        Request::Call {
+            call: Call::Null,
+            credential,
+        } => holds(&rt, credential.uid == 1000 && credential.gid == 100),
+        _ => panic!(rt; "no NULL"),
+    }
+    mem::forget(heard);
 }
 
 #[test]
-fn admin_null(rt: HostRuntime) -> Result<(), Fail> {
-    let offered = bytes_of(rt.alloc(), &[9, 0, 2, 0x20000001, 1, 0, 0, 0, 0, 0])?;
-    let Head::Call {
-        xid: 9,
-        procedure: Served::AdminNull,
-        credential,
-        arguments: [],
-    } = read_call(&offered)
-    else {
-        return Err(Fail::from("no call"));
-    };
-    holds(&rt, credential.uid == 65534 && credential.gid == 65534);
-    let mismatch = bytes_of(rt.alloc(), &[9, 0, 2, 0x20000001, 2, 0, 0, 0, 0, 0])?;
-    holds(
-        &rt,
-        matches!(
-            read_call(&mismatch),
-            Head::Refuse {
-                xid: 9,
-                reply: Reply::ProgramMismatch { low: 1, high: 1 }
-            }
-        ),
+fn admin_null(rt: HostRuntime) {
+    let offered = bytes_of(&rt, &[9, 0, 2, 0x20000001, 1, 0, 0, 0, 0, 0]);
+    let head = read_call(&offered);
+    match &head {
+        Head::Call {
+            xid: 9,
+            procedure: Served::AdminNull,
+            credential,
+            arguments: [],
+        } => holds(&rt, credential.uid == 65534 && credential.gid == 65534),
+        _ => panic!(rt; "no call"),
+    }
+    mem::forget(head);
+}
+
+#[test]
+fn admin_mismatch(rt: HostRuntime) {
+    let mismatch = bytes_of(&rt, &[9, 0, 2, 0x20000001, 2, 0, 0, 0, 0, 0]);
+    let head = read_call(&mismatch);
+    let is_refused = matches!(
+        &head,
+        Head::Refuse {
+            xid: 9,
+            reply: Reply::ProgramMismatch { low: 1, high: 1 }
+        }
     );
-    Ok(())
+    mem::forget(head);
+    holds(&rt, is_refused);
 }

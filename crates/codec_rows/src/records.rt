@@ -2,8 +2,8 @@
 
 use crate::bytes::{holds, same};
 use rpc_record::{Look, Reassembler, Step, frame, put_header};
+use std::mem;
 use std::process::Abort;
-use std::test::Fail;
 
 /// A NULL call of NFS version 3 with no credential (RFC 5531, section 9; RFC 1813, section 3.3.0).
 const NULL_CALL: [u8; 40] = [
@@ -20,68 +20,73 @@ const FRAGMENTS: [u8; 56] = [
 /// Feeds once more where there was no memory, which must have taken nothing.
 fn fed(rt: &impl Abort, reassembler: &mut Reassembler, bytes: &[u8]) -> (usize, Step) {
     let (taken, step) = reassembler.feed(bytes);
-    if let Step::NoMemory = step {
-        holds(rt, taken == 0);
-        return reassembler.feed(bytes);
+    if !matches!(&step, Step::NoMemory) {
+        return (taken, step);
     }
-    (taken, step)
+    mem::forget(step);
+    holds(rt, taken == 0);
+    reassembler.feed(bytes)
 }
 
 #[test]
-fn joins_fragments(rt: HostRuntime) -> Result<(), Fail> {
+fn joins_fragments(rt: HostRuntime) {
     let mut reassembler = Reassembler::new(rt.alloc());
-    holds(
-        &rt,
-        matches!(reassembler.look(&FRAGMENTS), (56, Look::Record)),
-    );
-    let (56, Step::Record(made)) = reassembler.feed(&FRAGMENTS) else {
-        return Err(Fail::new("no record"));
-    };
-    same(&rt, &made, &NULL_CALL);
-    Ok(())
+    let look = reassembler.look(&FRAGMENTS);
+    holds(&rt, matches!(look, (56, Look::Record)));
+    let (taken, step) = reassembler.feed(&FRAGMENTS);
+    holds(&rt, taken == 56);
+    is_call(&rt, &step);
+    mem::forget((reassembler, step));
+}
+
+/// Looks whether bytes led to the call.
+fn is_call(rt: &impl Abort, step: &Step) {
+    match step {
+        Step::Record(made) => same(rt, made, &NULL_CALL),
+        _ => panic!(rt; "no record"),
+    }
 }
 
 #[test]
-fn joins_bytes_that_come_one_by_one(rt: HostRuntime) -> Result<(), Fail> {
+fn joins_bytes_that_come_one_by_one(rt: HostRuntime) {
     let mut reassembler = Reassembler::new(rt.alloc());
     let mut records = 0;
     for byte in &FRAGMENTS {
-        match fed(&rt, &mut reassembler, &[*byte]) {
-            (1, Step::More) => {}
-            (1, Step::Record(made)) => {
-                same(&rt, &made, &NULL_CALL);
-                records = 1u8;
-            }
-            _ => return Err(Fail::new("a fault")),
+        let (taken, step) = fed(&rt, &mut reassembler, &[*byte]);
+        holds(&rt, taken == 1);
+        if !matches!(&step, Step::More) {
+            is_call(&rt, &step);
+            records = 1u8;
         }
+        mem::forget(step);
     }
+    mem::forget(reassembler);
     holds(&rt, records == 1);
-    Ok(())
 }
 
 #[test]
-fn tells_a_fault_again(rt: HostRuntime) -> Result<(), Fail> {
+fn tells_a_fault_again(rt: HostRuntime) {
     let header = [0x80, 2, 0, 1, 0];
     let mut reassembler = Reassembler::new(rt.alloc());
-    for taken in [4, 0] {
+    for wanted in [4, 0] {
         let (looked, look) = reassembler.look(&header);
-        holds(&rt, looked == taken && matches!(look, Look::Fault));
-        let (fed, step) = reassembler.feed(&header);
-        holds(&rt, fed == taken && matches!(step, Step::Fault));
+        holds(&rt, looked == wanted && matches!(look, Look::Fault));
+        let (taken, step) = reassembler.feed(&header);
+        let is_fault = matches!(&step, Step::Fault);
+        mem::forget(step);
+        holds(&rt, taken == wanted && is_fault);
     }
-    Ok(())
+    mem::forget(reassembler);
 }
 
 #[test]
-fn frames_a_record(rt: HostRuntime) -> Result<(), Fail> {
-    let framed = frame(rt.alloc(), &NULL_CALL)?;
-    let Some((header, record)) = framed.split_at_checked(4) else {
-        return Err(Fail::new("no header"));
-    };
+fn frames_a_record(rt: HostRuntime) {
+    let framed = frame(rt.alloc(), &NULL_CALL).expect(&rt, "no memory");
+    let parts = framed.split_at_checked(4);
+    let (header, record) = parts.expect(&rt, "no header");
     same(&rt, header, &[0x80, 0, 0, 0x28]);
     same(&rt, record, &NULL_CALL);
     let mut out = Vec::new(rt.alloc());
-    put_header(&mut out, 40)?;
+    put_header(&mut out, 40).expect(&rt, "no memory");
     same(&rt, &out, &[0x80, 0, 0, 0x28]);
-    Ok(())
 }

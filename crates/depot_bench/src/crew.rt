@@ -1,4 +1,4 @@
-//! What measurements do with a depot: four seats of one, and threads that begin and finish calls.
+//! What measurements do with a depot: threads that make calls, each by a seat of its own.
 
 ghost use Rattle.std.specs.Prelude.{◌≤◌};
 ghost use Rattle.depot.specs.Words.{IsSeatHere};
@@ -7,9 +7,12 @@ use affinity_tree::{Affinity, Kind};
 use depot::{Depot, Seat};
 use depot_trial::adding::{Adding, open, split, touches};
 use parcel_sets::{LogicalNode, StripeNode};
-use std::alloc::Global;
-use std::thread;
+use rates::per_second;
+use std::alloc::AllocError;
+use std::rt::Clock;
 use std::thread::Threads;
+use std::time::Instant;
+use std::{io, thread};
 
 /// How many threads make calls.
 #[derive(Clone, Copy)]
@@ -73,19 +76,20 @@ fn calls(depot: &Depot<Adding>, seat: Seat<Adding>, affinity: Affinity, count: u
     }
 }
 
-/// The calls of two threads, each with a seat and a node of its own. How many were granted.
+/// So many calls by each of two threads, each on its node. How many were granted.
 fn two_threads<R: Threads + Sync>(
     rt: &R,
     depot: &Depot<Adding>,
-    first: Seat<Adding>,
-    second: Seat<Adding>,
+    seat: Seat<Adding>,
     nodes: [Affinity; 2],
     count: u32,
 ) -> u64
-    requires first { IsSeatHere depot.now first }
-    requires second { IsSeatHere depot.now second }
+    requires seat { IsSeatHere depot.now seat }
 {
     let [here, there] = nodes;
+    let Some((first, second)) = split(depot, seat) else {
+        return 0;
+    };
     let (one, other) = thread::join(
         rt,
         move || calls(depot, first, here, count),
@@ -94,92 +98,77 @@ fn two_threads<R: Threads + Sync>(
     u64::from(one) + u64::from(other)
 }
 
-/// A depot with four volumes in which each parcel is 0, and four seats of it.
-#[derive(Drop)]
-pub struct Bench {
-    depot: Depot<Adding>,
-    first: Seat<Adding>,
-    second: Seat<Adding>,
-    third: Seat<Adding>,
-    fourth: Seat<Adding>,
-    ghost first_seat: { IsSeatHere depot first },
-    ghost second_seat: { IsSeatHere depot second },
-    ghost third_seat: { IsSeatHere depot third },
-    ghost fourth_seat: { IsSeatHere depot fourth },
+/// So many calls by each of four threads, each on its node. How many were granted.
+fn four_threads<R: Threads + Sync>(
+    rt: &R,
+    depot: &Depot<Adding>,
+    seat: Seat<Adding>,
+    nodes: [Affinity; 4],
+    count: u32,
+) -> u64
+    requires seat { IsSeatHere depot.now seat }
+{
+    let [one, two, three, four] = nodes;
+    let Some((first, second)) = split(depot, seat) else {
+        return 0;
+    };
+    let (here, there) = thread::join(
+        rt,
+        move || -> u64
+            requires { IsSeatHere depot.now first }
+        { two_threads(rt, depot, first, [one, two], count) },
+        move || -> u64
+            requires { IsSeatHere depot.now second }
+        { two_threads(rt, depot, second, [three, four], count) },
+    );
+    here.saturating_add(there)
 }
 
-impl Bench {
-    /// Nothing where memory ran out.
-    pub fn open(alloc: Global) -> Option<Bench> {
-        let (depot, seat) = open::<4>(alloc)?;
-        let (first, second) = split(&depot, seat)?;
-        let (first, third) = split(&depot, first)?;
-        let (first, fourth) = split(&depot, first)?;
-        Some(Bench {
-            depot,
-            first,
-            second,
-            third,
-            fourth,
-        })
+/// So many calls by each thread of a crew, each on its node. How many were granted; none where no
+/// split is left for a thread.
+fn crew_calls<R: Threads + Sync>(
+    rt: &R,
+    crew: Crew,
+    depot: &Depot<Adding>,
+    seat: Seat<Adding>,
+    nodes: [Affinity; 4],
+    count: u32,
+) -> u64
+    requires seat { IsSeatHere depot.now seat }
+{
+    let [one, two, _, _] = nodes;
+    match crew {
+        Crew::One => u64::from(calls(depot, seat, one, count)),
+        Crew::Two => two_threads(rt, depot, seat, [one, two], count),
+        Crew::Four => four_threads(rt, depot, seat, nodes, count),
     }
+}
 
-    /// So many calls by each thread of a crew, each on its node. How many were granted.
-    pub fn calls<R: Threads + Sync>(
-        self,
-        rt: &R,
-        crew: Crew,
-        nodes: [Affinity; 4],
-        count: u32,
-    ) -> u64 {
-        match crew {
-            Crew::One => self.one_thread(nodes, count),
-            Crew::Two => self.two_threads(rt, nodes, count),
-            Crew::Four => self.four_threads(rt, nodes, count),
-        }
-    }
+/// How many calls were granted, and how many of these in a second.
+fn rate<R: Clock + Threads + Sync>(
+    rt: &R,
+    crew: Crew,
+    depot: &Depot<Adding>,
+    seat: Seat<Adding>,
+    nodes: [Affinity; 4],
+    count: u32,
+) -> io::Result<(u64, u64)>
+    requires seat { IsSeatHere depot.now seat }
+{
+    let start = Instant::now(rt);
+    let granted = crew_calls(rt, crew, depot, seat, nodes, count);
+    let time = start?.elapsed(rt)?;
+    Ok((granted, per_second(granted, time)))
+}
 
-    /// So many calls by one thread. How many were granted.
-    fn one_thread(self, nodes: [Affinity; 4], count: u32) -> u64 {
-        let Bench { depot, first, .. } = self;
-        let [node, _, _, _] = nodes;
-        u64::from(calls(&depot, first, node, count))
-    }
-
-    /// So many calls by each of two threads.
-    fn two_threads<R: Threads + Sync>(self, rt: &R, nodes: [Affinity; 4], count: u32) -> u64 {
-        let Bench {
-            depot,
-            first,
-            second,
-            ..
-        } = self;
-        let [one, two, _, _] = nodes;
-        two_threads(rt, &depot, first, second, [one, two], count)
-    }
-
-    /// So many calls by each of four threads.
-    fn four_threads<R: Threads + Sync>(self, rt: &R, nodes: [Affinity; 4], count: u32) -> u64 {
-        let Bench {
-            depot,
-            first,
-            second,
-            third,
-            fourth,
-        } = self;
-        let depot = &depot;
-        let [one, two, three, four] = nodes;
-        let (here, there) = thread::join(
-            rt,
-            move || -> u64
-                requires first { IsSeatHere depot.now first }
-                requires second { IsSeatHere depot.now second }
-            { two_threads(rt, depot, first, second, [one, two], count) },
-            move || -> u64
-                requires third { IsSeatHere depot.now third }
-                requires fourth { IsSeatHere depot.now fourth }
-            { two_threads(rt, depot, third, fourth, [three, four], count) },
-        );
-        here.saturating_add(there)
-    }
+/// A pass on a new depot with four volumes in which each parcel is 0, each thread on its node: how
+/// many calls were granted, and how many of these in a second.
+pub fn depot_pass<R: Clock + AllocGlobal + Threads + Sync>(
+    rt: &R,
+    crew: Crew,
+    nodes: [Affinity; 4],
+    count: u32,
+) -> io::Result<(u64, u64)> {
+    let (depot, seat) = open::<4>(rt.alloc()).ok_or(AllocError)?;
+    rate(rt, crew, &depot, seat, nodes, count)
 }

@@ -1,10 +1,9 @@
 //! How many calls are granted and finished in a second.
 
-use crate::crew::{Bench, Crew, NAMES, STRIPES};
+use crate::crew::{Crew, NAMES, STRIPES, depot_pass};
 use crate::lock;
 use affinity_tree::Affinity;
 use rates::per_second;
-use std::alloc::AllocError;
 use std::io;
 use std::rt::Clock;
 use std::sync::{Mutex, Wait};
@@ -13,21 +12,6 @@ use std::time::Instant;
 
 /// How many passes there are, of which the middle one by its rate is told.
 const PASSES: usize = 9;
-
-/// A pass on a new depot, each thread on its node: how many calls were granted, and how many of
-/// these in a second.
-fn depot_pass<R: Clock + AllocGlobal + Threads + Sync>(
-    rt: &R,
-    crew: Crew,
-    nodes: [Affinity; 4],
-    count: u32,
-) -> io::Result<(u64, u64)> {
-    let bench = Bench::open(rt.alloc()).ok_or(AllocError)?;
-    let start = Instant::now(rt)?;
-    let granted = bench.calls(rt, crew, nodes, count);
-    let time = start.elapsed(rt)?;
-    Ok((granted, per_second(granted, time)))
-}
 
 /// A pass of additions under one lock: how many were done in a second.
 fn lock_pass<R: Clock + Threads + Wait + Sync>(rt: &R, crew: Crew, count: u32) -> io::Result<u64> {

@@ -1,27 +1,16 @@
 //! The home of each call.
 
 use crate::holds::holds;
+use crate::layouts::two_volumes;
 use affinity::home_of;
-use affinity_tree::{Affinity, AggregateSpec, Layout, VolumeSpec};
+use affinity_tree::{Affinity, Layout};
 use nfs_values::{
     Call, Cookie, CreateMode, FileHandle, Name, SetAttributes, SetTime, Target, Verifier,
     VolumeNumber,
 };
 use std::alloc::Global;
-use std::test::Fail;
-
-/// A layout of two volumes, each on its own aggregate: one of 8 stripes, one of 16.
-fn two_volumes(alloc: Global) -> Result<Layout, Fail> {
-    let aggregates = [AggregateSpec { spare: 1 }, AggregateSpec { spare: 0 }];
-    let wide = VolumeSpec {
-        aggregate: 0,
-        ranges: 16,
-        stripes: 16,
-        mib: 64,
-    };
-    let volumes = [VolumeSpec::new(1, 1), wide];
-    Layout::new(alloc, &aggregates, &volumes).map_err(|_fault| "fault".into())
-}
+use std::mem;
+use std::process::Abort;
 
 /// A handle of 12 bytes: volume and fileid.
 fn handle(volume: u8, fileid: u8) -> FileHandle {
@@ -46,95 +35,100 @@ fn target(alloc: Global) -> Target {
     }
 }
 
-/// A READ of file 2.
-fn read(volume: u8, offset: u64, count: u32) -> Call {
-    Call::Read {
-        handle: handle(volume, 2),
-        offset,
-        count,
-    }
+/// Looks whether this is a call's home.
+fn has_home(rt: &impl Abort, layout: &Layout, call: Call, home: Option<Affinity>) {
+    holds(rt, home_of(&call, layout) == home);
+    mem::forget(call);
+}
+
+/// Looks whether the home of calls is Volume Logical of volume 1.
+fn is_logical(rt: &impl Abort, layout: &Layout, call: Call) {
+    has_home(rt, layout, call, Some(Affinity::VolumeLogical(1)));
 }
 
 #[test]
-fn homes(rt: HostRuntime) -> Result<(), Fail> {
-    let layout = two_volumes(rt.alloc())?;
-    let logical = Some(Affinity::VolumeLogical(1));
-    let of_names = [
-        Call::GetAttributes {
-            handle: handle(1, 1),
-        },
-        Call::SetAttributes {
-            handle: handle(1, 1),
-            set: NOTHING,
-            guard: None,
-        },
-        Call::Lookup(target(rt.alloc())),
-        Call::Create {
-            target: target(rt.alloc()),
-            mode: CreateMode::Unchecked(NOTHING),
-        },
-        Call::MakeDirectory {
-            target: target(rt.alloc()),
-            set: NOTHING,
-        },
-        Call::Remove(target(rt.alloc())),
-        Call::RemoveDirectory(target(rt.alloc())),
-        Call::ReadDirectory {
-            directory: handle(1, 1),
-            cookie: Cookie::START,
-            verifier: Verifier([0; 8]),
-            count: 512,
-        },
-        Call::Commit {
-            handle: handle(1, 2),
-        },
-    ];
-    for call in &of_names {
-        holds(&rt, home_of(call, &layout) == logical);
-    }
-    Ok(())
-}
-
-#[test]
-fn homes_of_whole_volumes(rt: HostRuntime) -> Result<(), Fail> {
-    let layout = two_volumes(rt.alloc())?;
-    let status = Call::FilesystemStatus {
-        handle: handle(0, 1),
+fn homes_by_handle(rt: HostRuntime) {
+    let layout = two_volumes(&rt);
+    let get = Call::GetAttributes {
+        handle: handle(1, 1),
     };
-    let growth = Call::Grow {
-        volume: VolumeNumber(0),
+    is_logical(&rt, &layout, get);
+    let set = Call::SetAttributes {
+        handle: handle(1, 1),
+        set: NOTHING,
+        guard: None,
+    };
+    is_logical(&rt, &layout, set);
+    let list = Call::ReadDirectory {
+        directory: handle(1, 1),
+        cookie: Cookie::START,
+        verifier: Verifier([0; 8]),
+        count: 512,
+    };
+    is_logical(&rt, &layout, list);
+    let commit = Call::Commit {
+        handle: handle(1, 2),
+    };
+    is_logical(&rt, &layout, commit);
+    mem::forget(layout);
+}
+
+#[test]
+fn homes_by_name(rt: HostRuntime) {
+    let layout = two_volumes(&rt);
+    is_logical(&rt, &layout, Call::Lookup(target(rt.alloc())));
+    let create = Call::Create {
+        target: target(rt.alloc()),
+        mode: CreateMode::Unchecked(NOTHING),
+    };
+    is_logical(&rt, &layout, create);
+    let make = Call::MakeDirectory {
+        target: target(rt.alloc()),
+        set: NOTHING,
+    };
+    is_logical(&rt, &layout, make);
+    is_logical(&rt, &layout, Call::Remove(target(rt.alloc())));
+    is_logical(&rt, &layout, Call::RemoveDirectory(target(rt.alloc())));
+    mem::forget(layout);
+}
+
+/// A growth of a volume by a range.
+fn growth(volume: u32) -> Call {
+    Call::Grow {
+        volume: VolumeNumber(volume),
         ranges: 1,
-    };
-    let rows = [
-        (status, Affinity::Volume(0)),
-        (growth, Affinity::Aggregate(1)),
-        (Call::Census, Affinity::Serial),
-    ];
-    for (call, home) in &rows {
-        holds(&rt, home_of(call, &layout) == Some(*home));
     }
-    Ok(())
+}
+
+/// Asks for the status of a volume.
+fn status(volume: u8) -> Call {
+    Call::FilesystemStatus {
+        handle: handle(volume, 1),
+    }
 }
 
 #[test]
-fn calls_without_home(rt: HostRuntime) -> Result<(), Fail> {
-    let layout = two_volumes(rt.alloc())?;
-    let unknown = Call::FilesystemStatus {
-        handle: handle(2, 1),
-    };
+fn homes_of_whole_volumes(rt: HostRuntime) {
+    let layout = two_volumes(&rt);
+    has_home(&rt, &layout, status(0), Some(Affinity::Volume(0)));
+    has_home(&rt, &layout, growth(0), Some(Affinity::Aggregate(1)));
+    has_home(&rt, &layout, Call::Census, Some(Affinity::Serial));
+    mem::forget(layout);
+}
+
+#[test]
+fn calls_without_home(rt: HostRuntime) {
+    let layout = two_volumes(&rt);
     let short = Call::Read {
         handle: FileHandle::new(&[0, 0, 0, 0, 0, 0, 0, 0, 0, 0, 2]),
         offset: 0,
         count: 1,
     };
-    let growth = Call::Grow {
-        volume: VolumeNumber(2),
-        ranges: 1,
-    };
-    for call in &[Call::Null, unknown, short, growth] {
-        holds(&rt, home_of(call, &layout).is_none());
-    }
-    Ok(())
+    has_home(&rt, &layout, Call::Null, None);
+    has_home(&rt, &layout, status(2), None);
+    has_home(&rt, &layout, short, None);
+    has_home(&rt, &layout, growth(2), None);
+    mem::forget(layout);
 }
 
 /// Offset, count, and the stripe of file 2 of volume 0, if the bytes lie in one.
@@ -161,41 +155,57 @@ fn home_at(stripe: Option<u32>) -> Option<Affinity> {
     }
 }
 
-#[test]
-fn spans_are_read(rt: HostRuntime) -> Result<(), Fail> {
-    let layout = two_volumes(rt.alloc())?;
-    for (offset, count, stripe) in &SPANS {
-        holds(
-            &rt,
-            home_of(&read(0, *offset, *count), &layout) == home_at(*stripe),
-        );
+/// A READ of file 2.
+fn read(volume: u8, offset: u64, count: u32) -> Call {
+    Call::Read {
+        handle: handle(volume, 2),
+        offset,
+        count,
     }
-    Ok(())
 }
 
 #[test]
-fn spans_are_written(rt: HostRuntime) -> Result<(), Fail> {
-    let layout = two_volumes(rt.alloc())?;
+fn spans_are_read(rt: HostRuntime) {
+    let layout = two_volumes(&rt);
     for (offset, count, stripe) in &SPANS {
-        let write = Call::Write {
-            handle: handle(0, 2),
-            offset: *offset,
-            count: *count,
-            bytes: Vec::new(rt.alloc()),
+        has_home(&rt, &layout, read(0, *offset, *count), home_at(*stripe));
+    }
+    mem::forget(layout);
+}
+
+/// A WRITE of file 2 of volume 0, without data.
+fn write(alloc: Global, offset: u64, count: u32) -> Call {
+    Call::Write {
+        handle: handle(0, 2),
+        offset,
+        count,
+        bytes: Vec::new(alloc),
+    }
+}
+
+#[test]
+fn spans_are_written(rt: HostRuntime) {
+    let layout = two_volumes(&rt);
+    for (offset, count, stripe) in &SPANS {
+        let call = write(rt.alloc(), *offset, *count);
+        has_home(&rt, &layout, call, home_at(*stripe));
+    }
+    mem::forget(layout);
+}
+
+/// A span of file 2 of volume 1, and its stripe.
+const STRIPES: [(u64, u32); 4] = [(0, 2), (8, 10), (13, 15), (14, 0)];
+
+#[test]
+fn spans_of_16_stripes(rt: HostRuntime) {
+    let layout = two_volumes(&rt);
+    for (span, stripe) in &STRIPES {
+        let home = Affinity::Stripe {
+            volume: 1,
+            stripe: *stripe,
         };
-        holds(&rt, home_of(&write, &layout) == home_at(*stripe));
+        let call = read(1, span.wrapping_mul(262_144), 1);
+        has_home(&rt, &layout, call, Some(home));
     }
-    Ok(())
-}
-
-#[test]
-fn spans_of_16_stripes(rt: HostRuntime) -> Result<(), Fail> {
-    let layout = two_volumes(rt.alloc())?;
-    // the span of file 2, and its stripe
-    let rows: [(u64, u32); 4] = [(0, 2), (8, 10), (13, 15), (14, 0)];
-    for (span, stripe) in rows {
-        let home = home_of(&read(1, span * 262_144, 1), &layout);
-        holds(&rt, home == Some(Affinity::Stripe { volume: 1, stripe }));
-    }
-    Ok(())
+    mem::forget(layout);
 }

@@ -2,9 +2,8 @@
 
 use crate::holds::holds;
 use affinity_tree::{Affinity, AggregateSpec, Layout, VolumeSpec};
-use std::alloc::{AllocError, Global};
+use std::mem;
 use std::process::Abort;
-use std::test::Fail;
 
 /// A volume by its aggregate, ranges, stripes and mebibytes.
 type Volume = (u32, u32, u32, u32);
@@ -18,30 +17,34 @@ fn volume(row: Volume) -> VolumeSpec {
     }
 }
 
-fn volumes(alloc: Global, rows: &[Volume]) -> Result<Vec<VolumeSpec>, AllocError> {
-    let mut specs = Vec::new(alloc);
+fn volumes(rt: &(impl Abort + AllocGlobal), rows: &[Volume]) -> Vec<VolumeSpec> {
+    let mut specs = Vec::new(rt.alloc());
     for row in rows {
-        specs.push(volume(*row))?;
+        specs.push(volume(*row)).expect(rt, "no memory");
     }
-    Ok(specs)
+    specs
 }
 
-fn aggregates(alloc: Global, spare: &[u32]) -> Result<Vec<AggregateSpec>, AllocError> {
-    let mut specs = Vec::new(alloc);
+fn aggregates(rt: &(impl Abort + AllocGlobal), spare: &[u32]) -> Vec<AggregateSpec> {
+    let mut specs = Vec::new(rt.alloc());
     for ranges in spare {
-        specs.push(AggregateSpec { spare: *ranges })?;
+        let spec = AggregateSpec { spare: *ranges };
+        specs.push(spec).expect(rt, "no memory");
     }
-    Ok(specs)
+    specs
 }
 
 /// Which rule a layout of these breaks; 0 for none.
-fn fault_number(alloc: Global, spare: &[u32], rows: &[Volume]) -> Result<u32, AllocError> {
-    let aggregates = aggregates(alloc, spare)?;
-    let volumes = volumes(alloc, rows)?;
-    match Layout::new(alloc, &aggregates, &volumes) {
-        Ok(_layout) => Ok(0),
-        Err(fault) => Ok(fault.number()),
-    }
+fn fault_number(rt: &(impl Abort + AllocGlobal), spare: &[u32], rows: &[Volume]) -> u32 {
+    let aggregates = aggregates(rt, spare);
+    let volumes = volumes(rt, rows);
+    let made = Layout::new(rt.alloc(), &aggregates, &volumes);
+    let number = match &made {
+        Ok(_layout) => 0,
+        Err(fault) => fault.number(),
+    };
+    mem::forget(made);
+    number
 }
 
 /// The spare ranges of aggregates, volumes, and the rule that they break.
@@ -62,57 +65,59 @@ const LAYOUTS: [(&[u32], &[Volume], u32); 13] = [
 ];
 
 #[test]
-fn faults(rt: HostRuntime) -> Result<(), Fail> {
+fn faults(rt: HostRuntime) {
     for (spare, rows, fault) in &LAYOUTS {
-        holds(&rt, fault_number(rt.alloc(), spare, rows)? == *fault);
+        holds(&rt, fault_number(&rt, spare, rows) == *fault);
     }
-    Ok(())
 }
 
-/// A layout of two volumes, each on its own aggregate, of which the first is ordinary.
-fn two_volumes(alloc: Global) -> Result<Layout, Fail> {
+/// A layout of two volumes, each on its own aggregate: one of 8 stripes, one of 16.
+pub(crate) fn two_volumes(rt: &(impl Abort + AllocGlobal)) -> Layout {
     let aggregates = [AggregateSpec { spare: 1 }, AggregateSpec { spare: 0 }];
     let volumes = [VolumeSpec::new(1, 1), volume((0, 16, 16, 64))];
-    Layout::new(alloc, &aggregates, &volumes).map_err(|_fault| "fault".into())
+    let layout = Layout::new(rt.alloc(), &aggregates, &volumes).ok();
+    layout.expect(rt, "a fault")
+}
+
+/// A layout with the most nodes.
+fn largest(rt: &(impl Abort + AllocGlobal)) -> Layout {
+    let aggregates = [AggregateSpec { spare: 128 }; 2];
+    let volumes = [volume((1, 16, 16, 64)); 8];
+    let layout = Layout::new(rt.alloc(), &aggregates, &volumes).ok();
+    layout.expect(rt, "a fault")
 }
 
 #[test]
-fn nodes(rt: HostRuntime) -> Result<(), Fail> {
-    let specs = [AggregateSpec { spare: 128 }; 2];
-    let volumes = [volume((1, 16, 16, 64)); 8];
-    let largest = Layout::new(rt.alloc(), &specs, &volumes).map_err(|_fault| "fault")?;
-    holds(&rt, largest.node_count() == 283);
+fn nodes(rt: HostRuntime) {
+    let largest = largest(&rt);
+    let count = largest.node_count();
+    holds(&rt, count == 283);
     let last = Affinity::Range {
         volume: 7,
         range: 15,
     };
-    holds(
-        &rt,
-        largest.affinity_at(283) == last && largest.parent_number(283) == 267,
-    );
+    holds(&rt, largest.affinity_at(283) == last);
+    holds(&rt, largest.parent_number(283) == 267);
     holds(&rt, largest.affinity_at(267) == Affinity::VolumeVbn(7));
-    Ok(())
+    mem::forget(largest);
 }
 
 #[test]
-fn stripes_and_sizes(rt: HostRuntime) -> Result<(), Fail> {
-    let layout = two_volumes(rt.alloc())?;
+fn stripes_and_sizes(rt: HostRuntime) {
+    let layout = two_volumes(&rt);
     holds(&rt, layout.node_count() == 65);
-    holds(&rt, layout.stripes_of(0) == 8 && layout.stripes_of(1) == 16);
-    holds(
-        &rt,
-        layout.largest_of(0) == 16_777_216 && layout.largest_of(1) == 67_108_864,
-    );
+    let stripes = (layout.stripes_of(0), layout.stripes_of(1));
+    holds(&rt, stripes == (8, 16));
+    let most = (layout.largest_of(0), layout.largest_of(1));
+    holds(&rt, most == (16_777_216, 67_108_864));
     let last = Affinity::Stripe {
         volume: 1,
         stripe: 15,
     };
-    holds(
-        &rt,
-        layout.number_of(last) == 48 && layout.affinity_at(48) == last,
-    );
+    holds(&rt, layout.number_of(last) == 48);
+    holds(&rt, layout.affinity_at(48) == last);
     holds(&rt, layout.parent_number(48) == 32);
-    Ok(())
+    mem::forget(layout);
 }
 
 /// Stripe 2 of volume 0.
@@ -155,39 +160,34 @@ fn exclude(rt: &impl Abort, others: &[Affinity], layout: &Layout, is_excluded: b
 }
 
 #[test]
-fn exclusion(rt: HostRuntime) -> Result<(), Fail> {
-    let layout = two_volumes(rt.alloc())?;
+fn exclusion(rt: HostRuntime) {
+    let layout = two_volumes(&rt);
     exclude(&rt, &EXCLUDING, &layout, true);
     exclude(&rt, &OTHERS, &layout, false);
-    Ok(())
+    mem::forget(layout);
 }
 
+/// Affinities and their names.
+const NAMES: [(Affinity, &str); 7] = [
+    (Affinity::Serial, "serial"),
+    (Affinity::Aggregate(1), "aggregate 1"),
+    (Affinity::Volume(7), "volume 7"),
+    (Affinity::VolumeLogical(0), "logical 0"),
+    (STRIPE, "stripe 0 2"),
+    (Affinity::VolumeVbn(3), "vbn 3"),
+    (
+        Affinity::Range {
+            volume: 1,
+            range: 15,
+        },
+        "range 1 15",
+    ),
+];
+
 #[test]
-fn names(rt: HostRuntime) -> Result<(), Fail> {
-    let rows: [(Affinity, &str); 7] = [
-        (Affinity::Serial, "serial"),
-        (Affinity::Aggregate(1), "aggregate 1"),
-        (Affinity::Volume(7), "volume 7"),
-        (Affinity::VolumeLogical(0), "logical 0"),
-        (
-            Affinity::Stripe {
-                volume: 0,
-                stripe: 2,
-            },
-            "stripe 0 2",
-        ),
-        (Affinity::VolumeVbn(3), "vbn 3"),
-        (
-            Affinity::Range {
-                volume: 1,
-                range: 15,
-            },
-            "range 1 15",
-        ),
-    ];
-    for (affinity, name) in rows {
-        let printed = affinity.to_string(rt.alloc())?;
-        holds(&rt, printed.as_str() == name);
+fn names(rt: HostRuntime) {
+    for (affinity, name) in &NAMES {
+        let printed = affinity.to_string(rt.alloc()).expect(&rt, "no memory");
+        holds(&rt, printed.as_str() == *name);
     }
-    Ok(())
 }

@@ -1,4 +1,5 @@
-//! Layouts, exclusion, names and homes, with values typed by hand.
+//! Layouts, exclusion, names, homes, and calls that wait, picked by place and by affinity: all with
+//! values typed by hand. What a test has made is left to the end of its process.
 #![tactic(auto)]
 
 #[cfg(test)]
@@ -7,3 +8,5 @@ mod holds;
 mod homes;
 #[cfg(test)]
 mod layouts;
+#[cfg(test)]
+mod waiting;

@@ -2,8 +2,8 @@ use Rattle.std.proofs.Common.{[], refl, Some, None, arith}
 use Rattle.desk_laws.specs.lemmas.Beside.{still-fresh, work-lent, work-done}
 use Rattle.depot_trial.specs.declared.adding.Change.TheVariants.{Add}
 use Rattle.desk.specs.Words.{books, machine_in}
-use Rattle.desk_trial.specs.Adder.{Adds}
-use Rattle.desk_trial.proofs.turns.add.Goals as goal
+use Rattle.depot_rows.specs.Adder.{Adds}
+use Rattle.depot_rows.proofs.turns.add.Goals as goal
 
 pub finish-requires-clause-may : goal.finish-requires-clause-may
 finish-requires-clause-may c =

@@ -1,6 +1,6 @@
 //! The task of a call that adds.
 
-ghost use Rattle.desk_trial.specs.Adder.{Adds};
+ghost use Rattle.depot_rows.specs.Adder.{Adds};
 
 use affinity_tree::{Affinity, Layout};
 use desk::{ParcelKinds, Task};

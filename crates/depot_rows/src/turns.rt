@@ -1,6 +1,6 @@
 //! Calls on a desk of numbers, from begin to end.
 
-ghost use Rattle.std.specs.Prelude.{◌≡◌, ◌≢◌, ◌↔◌, ℕ, true};
+ghost use Rattle.std.specs.Prelude.{◌≡◌, ◌≢◌, ◌↔◌, ℕ, true, IfSome};
 ghost use Rattle.affinity_tree.specs.Affinity.{affinity_of};
 ghost use Rattle.affinity_tree.specs.Tree.{IsNode};
 ghost use Rattle.desk_laws.specs.Books.{IsIdle};
@@ -9,9 +9,10 @@ ghost use Rattle.desk.specs.Words.{books, IsKept};
 
 use crate::adder::Adder;
 use affinity_tree::Affinity;
+use depot_rule::machine::Machine;
 use depot_trial::adding::{Adding, Change, all_of, volumes};
-use desk::{Desk, ParcelKinds};
-use parcel_sets::{Numbers, SerialHeld};
+use desk::{Desk, NodeKinds, ParcelKinds};
+use parcel_sets::Node;
 use std::process::Abort;
 
 /// A desk of numbers that calls add to.
@@ -35,7 +36,11 @@ pub(crate) fn open(rt: &(impl Abort + AllocGlobal), workers: usize) -> Counters
 }
 
 /// Whether a worker is idle and the layout has an affinity.
-fn is_ready(desk: &Counters, worker: usize, affinity: Affinity) -> bool
+fn is_ready<M: Machine, K: NodeKinds<M::Parcel>>(
+    desk: &Desk<M, K>,
+    worker: usize,
+    affinity: Affinity,
+) -> bool
     ensures idle { result ≡ true → IsIdle (books desk.now) worker }
     ensures node { result ≡ true → IsNode (books desk.now).layout (affinity_of affinity) }
 {
@@ -46,7 +51,11 @@ fn is_ready(desk: &Counters, worker: usize, affinity: Affinity) -> bool
 }
 
 /// A call that begins and is put back. The number of its refusal, if it was refused.
-fn ask(desk: &mut Counters, worker: usize, affinity: Affinity) -> Option<u32>
+fn ask<M: Machine, K: NodeKinds<M::Parcel>>(
+    desk: &mut Desk<M, K>,
+    worker: usize,
+    affinity: Affinity,
+) -> Option<u32>
     requires kept { IsKept desk.old }
     requires node { IsNode (books desk.old).layout (affinity_of affinity) }
     requires idle { IsIdle (books desk.old) worker }
@@ -62,6 +71,31 @@ fn ask(desk: &mut Counters, worker: usize, affinity: Affinity) -> Option<u32>
         }
         Err(refusal) => Some(refusal.number()),
     }
+}
+
+/// A call that a worker begins, and what comes of another's that is asked for in its midst: the
+/// number of its refusal, if it is refused. Nothing where a worker isn't idle, an affinity isn't
+/// there, or the first call is refused.
+fn begin_beside<M: Machine, K: NodeKinds<M::Parcel>>(
+    desk: &mut Desk<M, K>,
+    worker: usize,
+    affinity: Affinity,
+    other: usize,
+    asked: Affinity,
+) -> Option<Option<u32>>
+    requires kept { IsKept desk.old }
+    ensures kept { IsKept desk.new }
+    ensures fresh { IfSome result (λ _. MayPutBack (books desk.new) worker) }
+{
+    if worker == other || !is_ready(desk, worker, affinity) || !is_ready(desk, other, asked) {
+        return None;
+    }
+    match desk.begin(worker, affinity) {
+        Ok(()) => {}
+        Err(_) => return None,
+    }
+    let beside = ask(desk, other, asked);
+    Some(beside)
 }
 
 /// Adds to the number of a stripe that a worker was lent, and finishes its call. What is of another
@@ -96,20 +130,13 @@ pub(crate) fn take_turn(
 {
     let [worker, other] = workers;
     let [affinity, asked] = affinities;
-    if worker == other || !is_ready(desk, worker, affinity) || !is_ready(desk, other, asked) {
-        return None;
-    }
-    match desk.begin(worker, affinity) {
-        Ok(()) => {}
-        Err(_) => return None,
-    }
-    let beside = ask(desk, other, asked);
+    let beside = begin_beside(desk, worker, affinity, other, asked)?;
     let sum = add(desk, worker, number);
     Some(Turn { beside, sum })
 }
 
 /// Whether all workers are idle.
-fn are_idle(desk: &Counters) -> bool
+fn are_idle<M: Machine, K: NodeKinds<M::Parcel>>(desk: &Desk<M, K>) -> bool
     ensures { result ≡ true → AreIdle (books desk.now) }
 {
     for worker in 0..desk.worker_count() {
@@ -121,7 +148,18 @@ fn are_idle(desk: &Counters) -> bool
 }
 
 /// Ends a desk whose workers are idle. All parcels come back.
-pub(crate) fn close(rt: &impl Abort, desk: Counters) -> SerialHeld<Numbers>
+pub(crate) fn close<M: Machine, K: NodeKinds<M::Parcel>>(
+    rt: &impl Abort,
+    desk: Desk<M, K>,
+) -> <K::Serial as Node<M::Parcel>>::Held
+where
+    <K::Range as Node<M::Parcel>>::Held: Drop,
+    <K::Vbn as Node<M::Parcel>>::Held: Drop,
+    <K::Stripe as Node<M::Parcel>>::Held: Drop,
+    <K::Logical as Node<M::Parcel>>::Held: Drop,
+    <K::Volume as Node<M::Parcel>>::Held: Drop,
+    <K::Aggregate as Node<M::Parcel>>::Held: Drop,
+    <K::Serial as Node<M::Parcel>>::Held: Drop,
     requires kept { IsKept desk }
 {
     assert!(rt; are_idle(&desk));

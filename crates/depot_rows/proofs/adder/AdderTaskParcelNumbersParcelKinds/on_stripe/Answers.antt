@@ -3,7 +3,7 @@ use Rattle.affinity_tree.specs.Affinity.{affinity_of}
 use Rattle.affinity_tree.specs.Layout.{layout_of}
 use Rattle.affinity_tree.specs.Numbers.{parents}
 use Rattle.depot_trial.specs.lemmas.Stripes.{stripe-changed, stripe-added}
-use Rattle.desk_trial.proofs.adder.AdderTaskParcelNumbersParcelKinds.on_stripe.Goals as goal
+use Rattle.depot_rows.proofs.adder.AdderTaskParcelNumbersParcelKinds.on_stripe.Goals as goal
 
 pub returns-clause-exact : goal.returns-clause-exact
 returns-clause-exact c = stripe-changed (layout_of c.args.layout.now) (affinity_of c.args.affinity) c.args.held.now _ c.requires.exact
