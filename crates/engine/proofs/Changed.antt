@@ -1,18 +1,37 @@
 -- A state of which one worker runs another thing: what stays sound of it.
 use Rattle.std.proofs.Common.{◌≡◌, ℕ, ◌+◌, ◌≤◌, List, Some, sym, ap, ◌∙◌, subst}
-use Rattle.std.specs.Prelude.{length, slice_get, slice_set}
+use Rattle.std.specs.Prelude.{◌^◌, length, slice_get, slice_set}
 use Rattle.std.specs.List.{AllByRecursion}
 use Rattle.std.proofs.lemmas.List.{length-set}
+use Rattle.nfs_model.specs.World.{World}
 use Rattle.nfs_values.specs.declared.call.Call.{Call}
 use Rattle.scheduler.specs.declared.message.Message.{Message}
 use Rattle.depot_rule.specs.Sums.{total}
-use Rattle.engine_feed.specs.Seen.{layout_in, messages_of}
+use Rattle.held_state.specs.Contents.{filer_contents}
+use Rattle.held_state.specs.Partition.{all_parts}
+use Rattle.held_state.specs.Tree.{server_of}
+use Rattle.parcels.specs.declared.files.Files.{Files}
+use Rattle.desk_laws.specs.Books.{now, stamps}
+use Rattle.desk.specs.Words.{books, IsKept}
+use Rattle.engine_laws.specs.Store.{FilerBooks, StandsFor}
+use Rattle.service.specs.Jobs.{job_of, job_reply_of}
+use Rattle.service.specs.declared.job.Job.{Job}
+use Rattle.service.specs.declared.job.JobReply.{JobReply}
+use Rattle.engine_feed.specs.Seen.{layout_in, messages_of, running_count}
 use Rattle.engine.specs.declared.worker.Worker.{Worker}
 use Rattle.engine.specs.declared.state.State.{State}
-use Rattle.engine.specs.Seen.{setup_in, setup_of}
+use Rattle.engine.specs.Seen.{setup_in, setup_of, world}
 use Rattle.engine.specs.Sound.{IsPlaced, IsReady, IsSound, messages_in, running_messages}
 use Rattle.engine.proofs.Lists.{all-set}
 use Rattle.engine.proofs.Workers.{count-changed, messages-changed}
+
+-- the world of a state over these books
+abbrev with_books : State → FilerBooks Files Job JobReply → World
+with_books s b = record (world s) {
+  server = server_of (filer_contents b.layout (now b));
+  parts = all_parts (filer_contents b.layout (now b));
+  stamps = stamps b;
+}
 
 -- a worker that ran one thing runs another, with as many connections as before
 pub record IsChanged (s new : State) (i : ℕ) (k x : Worker) : Type 0 where
@@ -60,3 +79,19 @@ module _ {s new : State} {i : ℕ} {k x : Worker} (h : IsChanged s new i k x) wh
       subst (λ (xs : List (Message Call)). AllByRecursion (IsPlaced (layout_in new.calls) (length new.connections.items)) xs) (sym are)
       (subst (λ n. AllByRecursion (IsPlaced (layout_in new.calls) n) ms) (sym h.many)
       (subst (λ L. AllByRecursion (IsPlaced L (length s.connections.items)) ms) (sym h.layout) placed))
+
+-- ---- a desk whose books are as before
+
+pub unchanged-sound : (s t : State) → books t.desk ≡ books s.desk → IsKept t.desk → IsSound s → IsSound (record s { desk = t.desk })
+unchanged-sound s t same kept sound = record {
+  layout = ap (λ (b : FilerBooks Files Job JobReply). b.layout) same ∙ sound.layout;
+  kept = kept;
+  stands = subst (λ (b : FilerBooks Files Job JobReply). StandsFor job_of job_reply_of (setup_in s) (with_books s b) b) (sym same) sound.stands;
+  running = sound.running;
+  waiting = sound.waiting;
+  workers = sound.workers;
+  few = sound.few;
+  stamps = subst (λ (b : FilerBooks Files Job JobReply). stamps b + running_count s.calls ≤ 2 ^ 62 + 64) (sym same) sound.stamps;
+  opened = sound.opened;
+  owed = sound.owed;
+}

@@ -127,6 +127,9 @@ module _ {P : Type 0} (verifier : List ℕ) (b : FilerBooks P Job JobReply) (cal
   pub none-ready : AllByRecursion (IsReady (layout_in calls) (length connections)) ks
   none-ready = idle-are-ready ks h.count h.workers (layout_in calls) (length connections)
 
+  pub setup-opened : setup_of (layout_in calls) verifier (length ks) ≡ setup_of h.layout verifier h.count
+  setup-opened = λ j. setup_of ((h.new.layout ∙ h.same) j) verifier (idle-count ks h.count h.workers j)
+
   pub few-workers : length ks ≤ 64
   few-workers = subst (λ n. n ≤ 64) (sym (idle-count ks h.count h.workers)) h.few
 

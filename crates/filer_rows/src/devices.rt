@@ -1,13 +1,12 @@
 //! Readers and writers that fail, and command lines.
 
-use crate::events::{holds, joined, same};
+use crate::events::{holds, joined, put, same};
 use crate::texts::LAYOUT;
 use filer_replay::{Command, ProgramFault, command, program, replay};
 use std::io;
 use std::io::{Read, Write};
 use std::process::Abort;
 use std::rt::Files;
-use std::test::Fail;
 
 /// A reader that gives some bytes, and then fails.
 #[derive(Drop)]
@@ -54,45 +53,39 @@ fn cut(rt: &(impl Abort + AllocGlobal), script: &str, left: usize, is_cut: bool)
         is_cut,
         taken: Vec::new(rt.alloc()),
     };
-    assert_eq!(rt; replay(rt.alloc(), &mut script.as_bytes(), &mut out), 1);
+    holds(
+        rt,
+        replay(rt.alloc(), &mut script.as_bytes(), &mut out) == 1,
+    );
     let Closing { taken, .. } = out;
     taken
 }
 
 #[test]
-fn readers_fail(rt: HostRuntime) -> Result<(), Fail> {
-    let alloc = rt.alloc();
-    let mut out = Vec::new(alloc);
-    holds(
-        &rt,
-        replay(alloc, &mut Broken(LAYOUT.as_bytes()), &mut out) == 1,
-    );
+fn readers_fail(rt: HostRuntime) {
+    let mut out = Vec::new(rt.alloc());
+    let mut broken = Broken(LAYOUT.as_bytes());
+    holds(&rt, replay(rt.alloc(), &mut broken, &mut out) == 1);
     same(&rt, &out, b"fault 61\n");
-    Ok(())
 }
 
 #[test]
-fn writers_fail(rt: HostRuntime) -> Result<(), Fail> {
-    let alloc = rt.alloc();
+fn writers_fail(rt: HostRuntime) {
     // 1,000 lines of 9 bytes, which are more than are kept back
-    let mut script = joined(alloc, &[LAYOUT, "open\n"])?;
-    let mut printed = joined(alloc, &["conn 0\n"])?;
-    for _ in 0..1_000 {
-        script.push_str("close 1\n")?;
-        printed.push_str("refused 36\n")?;
-    }
+    let mut script = joined(&rt, &[LAYOUT, "open\n"]);
+    put(&rt, &mut script, "close 1\n", 1_000);
+    let mut printed = joined(&rt, &["conn 0\n"]);
+    put(&rt, &mut printed, "refused 36\n", 1_000);
     holds(&rt, cut(&rt, &script, 0, false).is_empty());
     let some = cut(&rt, &script, 1, false);
     holds(&rt, some.len() > 0 && some.len() < printed.len());
     holds(&rt, printed.as_bytes().starts_with(&some));
-    Ok(())
 }
 
 #[test]
-fn flushes_fail(rt: HostRuntime) -> Result<(), Fail> {
-    let script = joined(rt.alloc(), &[LAYOUT, "open\n"])?;
+fn flushes_fail(rt: HostRuntime) {
+    let script = joined(&rt, &[LAYOUT, "open\n"]);
     same(&rt, &cut(&rt, &script, 9, true), b"conn 0\n");
-    Ok(())
 }
 
 /// Command lines that are none.
@@ -126,20 +119,20 @@ fn command_lines_are_read(rt: HostRuntime) {
     }
 }
 
+/// Looks whether a program ends with 1, and tells this.
+fn fails(rt: &(impl Abort + Files + AllocGlobal), words: &[&str], told: &[u8]) {
+    let mut out = Vec::new(rt.alloc());
+    holds(rt, program(rt, words, &mut out) == 1);
+    same(rt, &out, told);
+}
+
 #[test]
-fn programs_end_with_a_status(rt: HostRuntime) -> Result<(), Fail> {
-    let alloc = rt.alloc();
+fn programs_end_with_a_status(rt: HostRuntime) {
     let mut closed = Closing {
         left: 0,
         is_cut: false,
-        taken: Vec::new(alloc),
+        taken: Vec::new(rt.alloc()),
     };
     holds(&rt, program(&rt, &["filer"], &mut closed) == 2);
-    let mut out = Vec::new(alloc);
-    holds(
-        &rt,
-        program(&rt, &["filer", "replay", "no such file"], &mut out) == 1,
-    );
-    same(&rt, &out, b"fault 61\n");
-    Ok(())
+    fails(&rt, &["filer", "replay", "no such file"], b"fault 61\n");
 }

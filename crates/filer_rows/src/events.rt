@@ -2,9 +2,7 @@
 
 use crate::texts::*;
 use filer_replay::replay;
-use std::alloc::{AllocError, Global};
 use std::process::Abort;
-use std::test::Fail;
 
 /// A script, the status that it ends with, and what it prints.
 #[derive(Clone, Copy)]
@@ -14,38 +12,47 @@ pub(crate) struct Row {
     pub(crate) printed: &'static [&'static str],
 }
 
-/// Pieces of text, one after the other.
-pub(crate) fn joined(alloc: Global, pieces: &[&str]) -> Result<String, AllocError> {
-    let mut text = String::new(alloc);
-    for piece in pieces {
-        text.push_str(piece)?;
+/// Appends a piece of text, so many times.
+pub(crate) fn put(rt: &impl Abort, text: &mut String, piece: &str, times: usize) {
+    for _ in 0..times {
+        holds(rt, text.push_str(piece).is_ok());
     }
-    Ok(text)
 }
 
-/// What a script prints, behind its status.
-fn replayed(alloc: Global, script: &[u8]) -> (u8, Vec<u8>) {
-    let mut reader = script;
-    let mut out = Vec::new(alloc);
-    let status = replay(alloc, &mut reader, &mut out);
-    (status, out)
+/// Pieces of text, one after the other.
+pub(crate) fn joined(rt: &(impl Abort + AllocGlobal), pieces: &[&str]) -> String {
+    let mut text = String::new(rt.alloc());
+    for piece in pieces {
+        put(rt, &mut text, piece, 1);
+    }
+    text
 }
 
 /// Runs a script, and looks at its status and at all that it prints.
 pub(crate) fn expect(rt: &(impl Abort + AllocGlobal), script: &[u8], status: u8, printed: &str) {
-    let (ended, out) = replayed(rt.alloc(), script);
-    assert_eq!(rt; ended, status);
-    assert_eq!(rt; str::from_utf8(&out), Ok(printed));
+    let mut reader = script;
+    let mut out = Vec::new(rt.alloc());
+    assert_eq!(rt; replay(rt.alloc(), &mut reader, &mut out), status);
+    same(rt, &out, printed.as_bytes());
 }
 
-/// Runs each script, and looks at its status and at all that it prints.
-pub(crate) fn expect_rows(rt: &(impl Abort + AllocGlobal), rows: &[Row]) -> Result<(), AllocError> {
+/// The same of a script and of lines in pieces.
+pub(crate) fn expect_joined(
+    rt: &(impl Abort + AllocGlobal),
+    script: &[&str],
+    status: u8,
+    printed: &[&str],
+) {
+    let script = joined(rt, script);
+    let printed = joined(rt, printed);
+    expect(rt, script.as_bytes(), status, &printed);
+}
+
+/// The same of each row.
+pub(crate) fn expect_rows(rt: &(impl Abort + AllocGlobal), rows: &[Row]) {
     for row in rows {
-        let script = joined(rt.alloc(), row.script)?;
-        let printed = joined(rt.alloc(), row.printed)?;
-        expect(rt, script.as_bytes(), row.status, &printed);
+        expect_joined(rt, row.script, row.status, row.printed);
     }
-    Ok(())
 }
 
 /// Looks whether these are the bytes that are wanted.
@@ -200,7 +207,6 @@ const ROWS: [Row; 11] = [
 ];
 
 #[test]
-fn scripts_print_their_lines(rt: HostRuntime) -> Result<(), Fail> {
-    expect_rows(&rt, &ROWS)?;
-    Ok(())
+fn scripts_print_their_lines(rt: HostRuntime) {
+    expect_rows(&rt, &ROWS);
 }

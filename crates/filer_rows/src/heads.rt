@@ -1,11 +1,9 @@
 //! Records typed from the standard, each with its reply or the stop that it leads to. Each text is
 //! a word, in hex.
 
-use crate::events::{expect, joined};
+use crate::events::{expect_joined, joined};
 use crate::texts::LAYOUT;
-use std::alloc::AllocError;
 use std::process::Abort;
-use std::test::Fail;
 
 /// A record that is fed, what is printed of it, and the reply's line where it is answered at once.
 #[derive(Clone, Copy)]
@@ -162,20 +160,16 @@ const HEADS: [Head; 14] = [
 ];
 
 /// Feeds a record, and looks at what is printed.
-fn hear(rt: &(impl Abort + AllocGlobal), head: &Head) -> Result<(), AllocError> {
-    let alloc = rt.alloc();
-    let record = joined(alloc, head.record)?;
-    let script = joined(alloc, &[LAYOUT, "open\nfeed 0 ", &record, "\n"])?;
-    let reply = joined(alloc, head.reply)?;
-    let printed = joined(alloc, &[head.printed, &reply])?;
-    expect(rt, script.as_bytes(), 0, &printed);
-    Ok(())
+fn hear(rt: &(impl Abort + AllocGlobal), head: &Head) {
+    let record = joined(rt, head.record);
+    let reply = joined(rt, head.reply);
+    let script = [LAYOUT, "open\nfeed 0 ", &record, "\n"];
+    expect_joined(rt, &script, 0, &[head.printed, &reply]);
 }
 
 #[test]
-fn heads_are_answered(rt: HostRuntime) -> Result<(), Fail> {
+fn heads_are_answered(rt: HostRuntime) {
     for head in &HEADS {
-        hear(&rt, head)?;
+        hear(&rt, head);
     }
-    Ok(())
 }

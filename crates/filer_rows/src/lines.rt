@@ -1,8 +1,7 @@
 //! Scripts with a bad line: its number is told, and nothing after it is read.
 
-use crate::events::{expect, joined};
+use crate::events::{Row, expect, expect_joined, expect_rows};
 use crate::texts::LAYOUT;
-use std::test::Fail;
 
 /// Scripts whose layout is bad, and what is printed.
 const LAYOUTS: [(&str, &str); 37] = [
@@ -114,19 +113,28 @@ fn bad_layouts_end_a_script(rt: HostRuntime) {
 }
 
 #[test]
-fn bad_lines_end_a_script(rt: HostRuntime) -> Result<(), Fail> {
+fn bad_lines_end_a_script(rt: HostRuntime) {
     for line in &LINES {
-        let script = joined(rt.alloc(), &[LAYOUT, "open\n", line, "\nopen\n"])?;
-        expect(&rt, script.as_bytes(), 1, "conn 0\nbad line 5\n");
+        let script = [LAYOUT, "open\n", line, "\nopen\n"];
+        expect_joined(&rt, &script, 1, &["conn 0\nbad line 5\n"]);
     }
-    Ok(())
 }
 
+/// Comments, and an end without a line feed.
+const ENDS: [Row; 2] = [
+    Row {
+        script: &[LAYOUT, "\n# a comment\nopen\n"],
+        status: 0,
+        printed: &["conn 0\n"],
+    },
+    Row {
+        script: &[LAYOUT, "open\nopen"],
+        status: 1,
+        printed: &["conn 0\nbad line 5\n"],
+    },
+];
+
 #[test]
-fn comments_and_ends(rt: HostRuntime) -> Result<(), Fail> {
-    let commented = joined(rt.alloc(), &[LAYOUT, "\n# a comment\nopen\n"])?;
-    expect(&rt, commented.as_bytes(), 0, "conn 0\n");
-    let not_ended = joined(rt.alloc(), &[LAYOUT, "open\nopen"])?;
-    expect(&rt, not_ended.as_bytes(), 1, "conn 0\nbad line 5\n");
-    Ok(())
+fn comments_and_ends(rt: HostRuntime) {
+    expect_rows(&rt, &ENDS);
 }

@@ -4,36 +4,40 @@ use crate::events::{holds, same};
 use crate::texts::{NULL, NULL_REPLY};
 use affinity_tree::{AggregateSpec, Layout, VolumeSpec};
 use engine::{Engine, Event, Worker};
-use std::test::Fail;
+use std::process::Abort;
 
-#[test]
-fn lists_of_events_are_played(rt: HostRuntime) -> Result<(), Fail> {
+/// The bytes that hex digits stand for.
+fn decoded(rt: &(impl Abort + AllocGlobal), digits: &str) -> Vec<u8> {
+    hex::decode(rt.alloc(), digits.as_bytes()).expect(rt, "hex digits")
+}
+
+/// An engine of two workers after these events.
+fn played(rt: &(impl Abort + AllocGlobal), events: &[Event<'_>]) -> Engine {
     let alloc = rt.alloc();
-    let Ok(call) = hex::decode(alloc, NULL.as_bytes()) else {
-        return Err("a call in bad hex".into());
-    };
-    let Ok(reply) = hex::decode(alloc, NULL_REPLY.as_bytes()) else {
-        return Err("a reply in bad hex".into());
-    };
     let aggregate = AggregateSpec { spare: 1 };
     let volume = VolumeSpec::new(0, 1);
-    let layout = Layout::new(alloc, &[aggregate], &[volume]).map_err(|_fault| "fault")?;
+    let layout = Layout::new(alloc, &[aggregate], &[volume]).expect(rt, "a layout");
+    Engine::play(alloc, layout, [0; 8], 2, events).expect(rt, "memory")
+}
+
+/// Looks at all that an engine shows after a call on its first connection.
+fn shows(rt: &impl Abort, engine: &Engine, call: &[u8], reply: &[u8]) {
+    same(rt, engine.output(0), reply);
+    same(rt, engine.stream(0), call);
+    holds(rt, engine.finished().len() == 1);
+    holds(rt, matches!(engine.running(), [Worker::Idle, Worker::Idle]));
+}
+
+#[test]
+fn lists_of_events_are_played(rt: HostRuntime) {
+    let call = decoded(&rt, NULL);
+    let reply = decoded(&rt, NULL_REPLY);
     let fed = Event::Feed {
         connection: 0,
         bytes: &call,
     };
-    let mut engine = Engine::play(alloc, layout, [0; 8], 2, &[Event::Open, fed])?;
-    same(&rt, engine.output(0), &reply);
-    same(&rt, engine.stream(0), &call);
-    holds(&rt, engine.finished().len() == 1);
-    holds(
-        &rt,
-        matches!(engine.running(), [Worker::Idle, Worker::Idle]),
-    );
-    holds(
-        &rt,
-        engine.run(&[Event::Open, fed, Event::Work { worker: 0 }]) == 1,
-    );
-    holds(&rt, engine.finished().len() == 2);
-    Ok(())
+    let mut engine = played(&rt, &[Event::Open, fed]);
+    shows(&rt, &engine, &call, &reply);
+    let refused = engine.run(&[Event::Open, fed, Event::Work { worker: 0 }]);
+    holds(&rt, refused == 1 && engine.finished().len() == 2);
 }

@@ -1,25 +1,26 @@
 //! Streams in pieces of one byte, and more records than an engine takes.
 
-use crate::events::{expect, joined};
+use crate::events::{expect_joined, joined, put};
 use crate::texts::{GETATTR, GETATTR_REPLY, LAYOUT, NULL, NULL_REPLY};
-use std::alloc::AllocError;
 use std::process::Abort;
-use std::test::Fail;
 
 #[test]
-fn streams_are_cut_anyhow(rt: HostRuntime) -> Result<(), Fail> {
-    let alloc = rt.alloc();
-    let mut script = joined(alloc, &[LAYOUT, "open\n"])?;
-    let mut printed = String::from_str(alloc, "conn 0\n")?;
+fn streams_are_cut_anyhow(rt: HostRuntime) {
+    let mut fed = String::new(rt.alloc());
     for digits in NULL.as_bytes().chunks(2) {
-        script.push_str("feed 0 ")?;
-        script.push_str(str::from_utf8(digits)?)?;
-        script.push_str("\n")?;
-        printed.push_str("taken 1 stop 0\n")?;
+        put(&rt, &mut fed, "feed 0 ", 1);
+        put(
+            &rt,
+            &mut fed,
+            str::from_utf8(digits).unwrap_or("no text"),
+            1,
+        );
+        put(&rt, &mut fed, "\n", 1);
     }
-    printed.push_str(&joined(alloc, &["out 0 ", NULL_REPLY, "\n"])?)?;
-    expect(&rt, script.as_bytes(), 0, &printed);
-    Ok(())
+    let mut taken = String::new(rt.alloc());
+    put(&rt, &mut taken, "taken 1 stop 0\n", 44);
+    let printed = ["conn 0\n", &taken, "out 0 ", NULL_REPLY, "\n"];
+    expect_joined(&rt, &[LAYOUT, "open\n", &fed], 0, &printed);
 }
 
 /// What comes behind as many calls as an engine takes, and all that is printed.
@@ -59,22 +60,17 @@ const OVERFULL: [Overfull; 2] = [
 ];
 
 /// Feeds as many calls as an engine takes and then the rest, and looks at what is printed.
-fn overfill(rt: &(impl Abort + AllocGlobal), row: &Overfull) -> Result<(), AllocError> {
-    let alloc = rt.alloc();
-    let mut script = joined(alloc, &[LAYOUT, "open\nfeed 0 "])?;
-    for _ in 0..1_024 {
-        script.push_str(GETATTR)?;
-    }
-    script.push_str(&joined(alloc, row.rest)?)?;
-    let printed = joined(alloc, row.printed)?;
-    expect(rt, script.as_bytes(), 0, &printed);
-    Ok(())
+fn overfill(rt: &(impl Abort + AllocGlobal), row: &Overfull) {
+    let mut calls = String::new(rt.alloc());
+    put(rt, &mut calls, GETATTR, 1_024);
+    let rest = joined(rt, row.rest);
+    let script = [LAYOUT, "open\nfeed 0 ", &calls, &rest];
+    expect_joined(rt, &script, 0, row.printed);
 }
 
 #[test]
-fn a_full_engine_takes_no_record_more(rt: HostRuntime) -> Result<(), Fail> {
+fn a_full_engine_takes_no_record_more(rt: HostRuntime) {
     for row in &OVERFULL {
-        overfill(&rt, row)?;
+        overfill(&rt, row);
     }
-    Ok(())
 }

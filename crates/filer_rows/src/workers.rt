@@ -1,8 +1,7 @@
 //! Scripts of more than one worker, and of volumes of either form.
 
-use crate::events::{Row, expect, expect_rows};
+use crate::events::{Row, expect_joined, expect_rows, put};
 use crate::texts::*;
-use std::test::Fail;
 
 /// Two volumes, and two workers.
 const TWO: &str = "aggregate 1\nvolume 0 1\nvolume 0 1\nstart 2 0102030405060708\n";
@@ -132,26 +131,34 @@ const ROWS: [Row; 6] = [
 ];
 
 #[test]
-fn workers_run_side_by_side(rt: HostRuntime) -> Result<(), Fail> {
-    expect_rows(&rt, &ROWS)?;
-    Ok(())
+fn workers_run_side_by_side(rt: HostRuntime) {
+    expect_rows(&rt, &ROWS);
 }
 
+/// What the first 64 connections are told.
+const OPENED: &str = "\
+    conn 0\nconn 1\nconn 2\nconn 3\nconn 4\nconn 5\nconn 6\nconn 7\nconn 8\nconn 9\nconn 10\n\
+    conn 11\nconn 12\nconn 13\nconn 14\nconn 15\nconn 16\nconn 17\nconn 18\nconn 19\n\
+    conn 20\nconn 21\nconn 22\nconn 23\nconn 24\nconn 25\nconn 26\nconn 27\nconn 28\n\
+    conn 29\nconn 30\nconn 31\nconn 32\nconn 33\nconn 34\nconn 35\nconn 36\nconn 37\n\
+    conn 38\nconn 39\nconn 40\nconn 41\nconn 42\nconn 43\nconn 44\nconn 45\nconn 46\n\
+    conn 47\nconn 48\nconn 49\nconn 50\nconn 51\nconn 52\nconn 53\nconn 54\nconn 55\n\
+    conn 56\nconn 57\nconn 58\nconn 59\nconn 60\nconn 61\nconn 62\nconn 63\n";
+
 #[test]
-fn the_most_connections_are_64(rt: HostRuntime) -> Result<(), Fail> {
-    let alloc = rt.alloc();
-    let mut script = String::from_str(alloc, TWO)?;
-    let mut printed = String::new(alloc);
-    for connection in 0..64 {
-        script.push_str("open\n")?;
-        printed.push_str(&format!(in alloc; "conn {connection}\n")?)?;
-    }
+fn the_most_connections_are_64(rt: HostRuntime) {
+    let mut opens = String::new(rt.alloc());
+    put(&rt, &mut opens, "open\n", 64);
     // a connection at a fault is open, until it is closed; no number is given again
-    script.push_str("open\nfeed 63 80020001\nopen\nclose 63\nopen\nopen\nclose 64\nopen\n")?;
-    printed.push_str(
+    let script = [
+        TWO,
+        &opens,
+        "open\nfeed 63 80020001\nopen\nclose 63\nopen\nopen\nclose 64\nopen\n",
+    ];
+    let printed = [
+        OPENED,
         "refused 31\ntaken 4 stop 11\nrefused 31\nclosed 63\nconn 64\nrefused 31\nclosed 64\n\
         conn 65\n",
-    )?;
-    expect(&rt, script.as_bytes(), 1, &printed);
-    Ok(())
+    ];
+    expect_joined(&rt, &script, 1, &printed);
 }

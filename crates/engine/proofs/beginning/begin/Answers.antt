@@ -21,7 +21,7 @@ use Rattle.engine.specs.Words.{Does}
 use Rattle.engine.proofs.Lists.{looked-up}
 use Rattle.engine.proofs.Workers.{seen-at}
 use Rattle.engine.proofs.Begins.{found-message, idle-lent, same-books, tried-affinity}
-use Rattle.engine.proofs.Changed.{IsChanged}
+use Rattle.engine.proofs.Changed.{IsChanged, same_setup, unchanged-sound}
 use Rattle.engine.proofs.Begun.{late_refused, taken_refused, worn_refused, begun_events, begun_sound}
 use Rattle.engine.proofs.beginning.begin.Goals as goal
 
@@ -60,6 +60,16 @@ returns-in-Err-Taken-clause-events c =
           c.if-moment-ge-SECOND.false taken),
       same-books (world s) (books s.desk) (books c.begin.new.self) c.in-Err-Taken.ensures.same,
     )
+
+pub returns-in-Err-Taken-clause-sound : goal.returns-in-Err-Taken-clause-sound
+returns-in-Err-Taken-clause-sound c =
+    let s = c.args.state.now in
+    unchanged-sound s (record s { desk = c.begin.new.self }) c.in-Err-Taken.ensures.same c.in-Err-Taken.ensures.kept c.requires
+
+pub returns-in-Err-Worn-clause-sound : goal.returns-in-Err-Worn-clause-sound
+returns-in-Err-Worn-clause-sound c =
+    let s = c.args.state.now in
+    unchanged-sound s (record s { desk = c.begin.new.self }) c.in-Err-Worn.ensures.same c.in-Err-Worn.ensures.kept c.requires
 
 pub returns-in-Err-Worn-clause-events : goal.returns-in-Err-Worn-clause-events
 returns-in-Err-Worn-clause-events c =
@@ -113,3 +123,6 @@ returns-in-Ok-begin-clause-events c =
 pub returns-in-Ok-begin-clause-sound : goal.returns-in-Ok-begin-clause-sound
 returns-in-Ok-begin-clause-sound c =
     begun_sound (s c) (new c) c.requires c.args.worker c.args.place (r c) (changed c) refl refl c.in-Ok.ensures.kept (begins c) (takes c)
+
+pub returns-in-Ok-begin-clause-setup : goal.returns-in-Ok-begin-clause-setup
+returns-in-Ok-begin-clause-setup c = same_setup (changed c)

@@ -23,7 +23,7 @@ use Rattle.engine.specs.Sound.{room_on}
 use Rattle.engine.proofs.Workers.{messages-changed}
 use Rattle.engine.proofs.Placed.{room-own}
 use Rattle.engine.proofs.Closing.{found}
-use Rattle.engine.proofs.Changed.{IsChanged}
+use Rattle.engine.proofs.Changed.{IsChanged, same_setup}
 use Rattle.engine.proofs.Ends.{ToldAs}
 use Rattle.engine.proofs.Finishes.{ready, some_run, may_go_back, again_admitted, back_events, back_sound, may_be_entered, reply_fits, ended_events}
 use Rattle.engine.proofs.Finishes.{ended_sound}
@@ -71,6 +71,9 @@ pub returns-in-Moved-clause-sound : goal.returns-in-Moved-clause-sound
 returns-in-Moved-clause-sound c =
     back_sound c.args.state.now c.requires c.args.worker c.in-Worked.running c.in-Worked.outcome (there c) c.in-Moved.affinity c.in-Moved.is
     (new c) (changed c) refl refl c.put_back.ensures.kept c.put_back.ensures.back c.put_back-in-Moved.ensures
+
+pub returns-in-Moved-clause-setup : goal.returns-in-Moved-clause-setup
+returns-in-Moved-clause-setup c = same_setup (changed c)
 
 -- ---- it is entered
 
@@ -216,3 +219,6 @@ returns-clause-sound c =
     ended_sound (before c) c.requires c.args.worker (ran c) c.in-Worked.outcome (here c) (reply c) (starved c) (is c)
     (after c) (differs c) (place c) (left c) c.end_in-count.result (at c) refl refl c.end_on-running.ensures.kept c.end_on-running.ensures.finished
     (ends c) (leaves c) (owes c)
+
+pub returns-clause-setup : goal.returns-clause-setup
+returns-clause-setup c = same_setup (differs c)

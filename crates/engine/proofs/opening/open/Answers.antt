@@ -6,7 +6,7 @@ use Rattle.desk.specs.Words.{books}
 use Rattle.engine_feed.specs.Seen.{layout_in}
 use Rattle.engine.specs.Sound.{IsPlaced}
 use Rattle.engine.proofs.Opened.{AreOpened, seen-opens, seen-stands, same-layout, none-run, no-stamps, none-wait, none-ready, few-workers, none-open}
-use Rattle.engine.proofs.Opened.{none-there}
+use Rattle.engine.proofs.Opened.{none-there, setup-opened}
 use Rattle.engine.proofs.opening.open.Goals as goal
 
 are-opened : (c : goal.After-new-3)
@@ -25,6 +25,11 @@ are-opened c = record {
   workers = c.in_ok-idle.ensures;
   none = c.new-3.ensures.items;
 }
+
+pub returns-clause-setup : goal.returns-clause-setup
+unfolding are-opened
+returns-clause-setup c =
+    setup-opened c.args.verifier (books c.in_ok-desk.desk) c.in_ok-calls.calls c.in_ok-idle.idle.items c.new-3.result.items (are-opened c)
 
 pub returns-clause-opening : goal.returns-clause-opening
 returns-clause-opening c =

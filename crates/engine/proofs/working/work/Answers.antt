@@ -183,6 +183,9 @@ returns-clause-events c =
     subst (λ (d : events.Done). Events (setup c) (old c) (events.Work (i c)) (Ok d) (new c)) (sym told)
     (subst (λ (w : World). Events (setup c) (old c) (events.Work (i c)) (Ok (steps.done_of (outcome_of (o c)))) w) (sym (new_is c)) happens)
 
+pub returns-clause-setup : goal.returns-clause-setup
+returns-clause-setup c = setup_is c
+
 pub returns-clause-sound : goal.returns-clause-sound
 returns-clause-sound c =
     let s = c.args.state.now in
