@@ -229,7 +229,8 @@ module _ (p : VolumeContents) (m : Dropping) (well : WellFormed p) (may : LosesN
     was-directory = by m.inode.kind says
       where
         by : (kind : InodeKind) → parent_in kind ≡ Some parent
-            → node_by p.stripes (get p.logical.directories m.directory) m.directory m.inode.attributes kind ≡ Directory (seen_directory m.inode m.entries parent)
+            → node_by p.stripes (get p.logical.directories m.directory) m.directory m.inode.attributes kind
+            ≡ Directory (seen_directory m.inode m.entries parent)
         by (RegularFile size filled verifier) e = absurd cc
         by (Folder up subdirectories) e =
             let same : up ≡ parent = cc in

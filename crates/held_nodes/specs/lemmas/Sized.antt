@@ -16,7 +16,8 @@ use Rattle.nfs_model.specs.Server.{block_size}
 use Rattle.nfs_model.specs.Parts.{Hand, one_if, times_listed}
 use Rattle.depot_rule.specs.Sums.{total}
 use Rattle.volume_values.specs.Inodes.{InodeKind, RegularFile, Inode, InodesValue, filled_blocks, inode_of, inode_set}
-use Rattle.volume_values.specs.Stripes.{Card, OfFile, OfFolder, Block, StripeValue, byte_cut, block_mapped, card_settled, touch_taken, touch_of, stripe_of, is_filled, numbers_freed}
+use Rattle.volume_values.specs.Stripes.{Card, OfFile, OfFolder, Block, StripeValue, byte_cut, block_mapped, card_settled, touch_taken}
+use Rattle.volume_values.specs.Stripes.{touch_of, stripe_of, is_filled, numbers_freed}
 use Rattle.volume_values.specs.lemmas.Inodes.{inode-set-there, inode-set-other, next-set, used-set, len-set, set-is}
 use Rattle.volume_values.specs.lemmas.Numbered.{get-insert_at, get-changed_at, itself}
 use Rattle.held_state.specs.Contents.{VolumeContents}
@@ -82,7 +83,8 @@ module _ (f size : ℕ) where
 
       untouched : touch_of (get (touch_taken f s).cards f) ≡ None
       untouched =
-          ap touch_of (get-changed_at card_settled f s.cards f ∙ ap (λ (b : Bool). if b then option_map card_settled (get s.cards f) else get s.cards f) (itself f))
+          ap touch_of (get-changed_at card_settled f s.cards f
+          ∙ ap (λ (b : Bool). if b then option_map card_settled (get s.cards f) else get s.cards f) (itself f))
           ∙ settled (get s.cards f)
 
       by : (b : Bool) → (q == f) ≡ b
