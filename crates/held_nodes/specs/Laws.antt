@@ -84,12 +84,12 @@ pub record LosesName (m : Dropping) (old : InodesValue) (directories : Directory
   pub kind : IsEmptyKind m.dropped.kind
   pub empty : (d : DirectoryValue) → get directories m.fileid ≡ Some d → d.list ≡ []
 
--- all stays sound, and the volume that is seen has neither the node nor the entry
+-- all stays sound, with no entry more needed, and the volume that is seen has neither the node nor the entry
 abbrev pub NodesAreDropped : Type 0
-NodesAreDropped = (p : VolumeContents) (m : Dropping) (hands hands' : List Hand) (made parent : ℕ)
-    → LosesName m p.logical.inodes p.logical.directories → IsSound p hands made → WeighAlike p.number hands hands'
+NodesAreDropped = (p : VolumeContents) (m : Dropping) (hands hands' : List Hand) (made now parent : ℕ)
+    → made ≤ now → LosesName m p.logical.inodes p.logical.directories → IsSound p hands made → WeighAlike p.number hands hands'
     → parent_in m.inode.kind ≡ Some parent
-    → IsSound (logical_lens.put (node_dropped m (logical_lens.of p)) p) hands' (made + 1)
+    → IsSound (logical_lens.put (node_dropped m (logical_lens.of p)) p) hands' now
     × (volume_of (logical_lens.put (node_dropped m (logical_lens.of p)) p) ≡ record (volume_of p) {
       nodes = insert (remove (volume_of p).nodes m.fileid) m.directory
           (Directory (dropped_name (seen_directory m.inode m.entries parent) m.name m.moment));
@@ -122,10 +122,10 @@ sized_volume m p = logical_lens.put (file_sized m (logical_lens.of p)) p
 
 -- all stays sound, the volume that is seen has the file cut or grown, and the blocks that left it are dead
 abbrev pub FilesAreSized : Type 0
-FilesAreSized = (p : VolumeContents) (m : Sizing) (hands hands' : List Hand) (made old_size filled : ℕ) (verifier : Option (List ℕ))
-    → inode_of p.logical.inodes m.fileid ≡ Some m.inode → m.inode.kind ≡ RegularFile old_size filled verifier → m.size ≤ p.logical.largest
+FilesAreSized = (p : VolumeContents) (m : Sizing) (hands hands' : List Hand) (made now old_size filled : ℕ) (verifier : Option (List ℕ))
+    → made ≤ now → inode_of p.logical.inodes m.fileid ≡ Some m.inode → m.inode.kind ≡ RegularFile old_size filled verifier → m.size ≤ p.logical.largest
     → IsSound p hands made → WeighAlike p.number hands hands'
-    → IsSound (sized_volume m p) hands' (made + 1)
+    → IsSound (sized_volume m p) hands' now
     × (volume_of (sized_volume m p)
     ≡ with_node (volume_of p) m.fileid (File (file_resized m.size m.attributes (file_seen p m old_size verifier))))
     × Emptied (used (volume_of p) - used (volume_of (sized_volume m p))) (parts_of p) (parts_of (sized_volume m p))

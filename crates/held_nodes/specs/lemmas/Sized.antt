@@ -367,13 +367,13 @@ module _ (p : VolumeContents) (m : Sizing) (well : WellFormed p) (there : get p.
   one-at-most true = omega arith
   one-at-most false = omega arith
 
-  pub sound-sized : (hands hands' : List Hand) (made : ℕ) → ((n : ℕ) → total (times_in_hand p.number n) hands' ≡ total (times_in_hand p.number n) hands)
-      → IsSound p hands made → IsSound after hands' (made + 1)
-  sound-sized hands hands' made weigh s = record {
+  pub sound-sized : (hands hands' : List Hand) (made now : ℕ) → made ≤ now → ((n : ℕ) → total (times_in_hand p.number n) hands' ≡ total (times_in_hand p.number n) hands)
+      → IsSound p hands made → IsSound after hands' now
+  sound-sized hands hands' made now later weigh s = record {
     well_formed = well-sized;
     young = record {
-      fileids = (let next = next-set old f next_inode in let y = s.young.fileids in omega (arith, next, y));
-      cookies = λ q d e. let y = s.young.cookies q d e in omega (arith, y);
+      fileids = (let next = next-set old f next_inode in let y = s.young.fileids in omega (arith, next, y, later));
+      cookies = λ q d e. let y = s.young.cookies q d e in omega (arith, y, later);
     };
     partition = λ n.
         let e = weigh n in
