@@ -11,3 +11,5 @@ pub mod Cutting
 pub mod Sized
 pub mod SizedNodes
 pub mod Emptied
+pub mod Untied
+pub mod Hung

@@ -30,7 +30,7 @@ pub size-kept : (more : ℕ) (k : InodeKind) → size_in (with_subdirectories mo
 size-kept more (RegularFile size filled verifier) = refl
 size-kept more (Folder parent subdirectories) = refl
 
-counted-more : (more n : ℕ) (k : InodeKind) → subdirectories_in k ≡ Some n → subdirectories_in (with_subdirectories more k) ≡ Some (n + more)
+pub counted-more : (more n : ℕ) (k : InodeKind) → subdirectories_in k ≡ Some n → subdirectories_in (with_subdirectories more k) ≡ Some (n + more)
 counted-more more n (RegularFile size filled verifier) e = absurd cc
 counted-more more n (Folder parent subdirectories) e = let same : subdirectories ≡ n = cc in ap (λ k. Some (k + more)) same
 

@@ -33,7 +33,7 @@ pub size-kept : (fewer : ℕ) (k : InodeKind) → size_in (without_subdirectorie
 size-kept fewer (RegularFile size filled verifier) = refl
 size-kept fewer (Folder parent subdirectories) = refl
 
-counted-less : (fewer n : ℕ) (k : InodeKind) → subdirectories_in k ≡ Some n → subdirectories_in (without_subdirectories fewer k) ≡ Some (n - fewer)
+pub counted-less : (fewer n : ℕ) (k : InodeKind) → subdirectories_in k ≡ Some n → subdirectories_in (without_subdirectories fewer k) ≡ Some (n - fewer)
 counted-less fewer n (RegularFile size filled verifier) e = absurd cc
 counted-less fewer n (Folder parent subdirectories) e = let same : subdirectories ≡ n = cc in ap (λ k. Some (k - fewer)) same
 
