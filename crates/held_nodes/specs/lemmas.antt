@@ -13,3 +13,4 @@ pub mod SizedNodes
 pub mod Emptied
 pub mod Untied
 pub mod Hung
+pub mod Moved

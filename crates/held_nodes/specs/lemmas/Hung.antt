@@ -60,7 +60,7 @@ module _ (old : InodesValue) (directories : DirectoryMap) (m : Naming) (touch : 
   apart-turned = ne_eqb m.fileid m.directory (λ (e : m.fileid ≡ m.directory).
       let t : (m.directory == m.fileid) ≡ true = eq-eqb m.directory m.fileid (sym e) in let f = apart in cc)
 
-  still : inode_of between m.fileid ≡ Some m.node
+  pub still : inode_of between m.fileid ≡ Some m.node
   still = inode-set-other old m.directory dated m.fileid apart-turned ∙ may.node
 
   pub hung-node : inode_of new m.fileid ≡ Some (node_hung m touch)
