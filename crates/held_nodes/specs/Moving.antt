@@ -1,6 +1,6 @@
 -- What a node that moves to another name comes to, by what is under Logical (RENAME, RFC 1813 section 3.3.14), in two steps: its
 -- entry is taken from one directory, and it is hung up under a name of one, which may be the same.
-use Rattle.std.specs.Prelude.{ℕ, Option, Some, None}
+use Rattle.std.specs.Prelude.{ℕ, Option}
 use Rattle.std.specs.FinMap.{insert}
 use Rattle.nfs_model.specs.Types.{Moment}
 use Rattle.volume_values.specs.Directories.{DirectoryValue, added, removed}

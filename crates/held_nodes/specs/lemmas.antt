@@ -14,3 +14,4 @@ pub mod Emptied
 pub mod Untied
 pub mod Hung
 pub mod Moved
+pub mod MovedNodes

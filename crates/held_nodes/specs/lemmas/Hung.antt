@@ -1,14 +1,13 @@
 -- Names after a node without a name is hung up under one: they are lawful again.
-use Rattle.std.proofs.Common.{◌≡◌, ◌≢◌, ℕ, zero, suc, ◌+◌, ◌-◌, ◌<◌, ◌≤◌, ◌==◌, ◌&&◌, not, Bool, true, false, List, [], ◌∷◌, Option, Some, None}
+use Rattle.std.proofs.Common.{◌≡◌, ℕ, zero, suc, ◌+◌, ◌==◌, ◌&&◌, not, Bool, true, false, List, [], ◌∷◌, Option, Some, None}
 use Rattle.std.proofs.Common.{refl, sym, ap, ◌∙◌, subst, arith, eq-eqb, ne_eqb}
 use Rattle.std.specs.Prelude.{if◌then◌else◌, is_some, IfSome}
 use Rattle.std.proofs.lemmas.Bool.{eqb-true}
 use Rattle.std.specs.List.{AllByRecursion}
-use Rattle.std.specs.FinMap.{get, insert, entries, nat_cmp-IsAntisymmetric}
+use Rattle.std.specs.FinMap.{get, nat_cmp-IsAntisymmetric}
 use Rattle.nfs_model.specs.Types.{Moment, Listed}
-use Rattle.nfs_model.specs.Parts.{one_if, count}
-use Rattle.depot_rule.specs.Sums.{total}
-use Rattle.volume_values.specs.Directories.{DirectoryValue, added, entry_added, found}
+use Rattle.nfs_model.specs.Parts.{one_if}
+use Rattle.volume_values.specs.Directories.{DirectoryValue, added, entry_added}
 use Rattle.volume_values.specs.Inodes.{InodeKind, RegularFile, Folder, Inode, InodesValue, inode_of, inode_set}
 use Rattle.volume_values.specs.lemmas.Inodes.{inode-set-there, inode-set-other}
 use Rattle.volume_values.specs.lemmas.Numbered.{get-insert_at, itself}
@@ -18,19 +17,11 @@ use Rattle.held_state.specs.Names.{ReachesRoot, AreNamed}
 use Rattle.held_laws.specs.lemmas.Mapped.{entry-at-least}
 use Rattle.held_nodes.specs.Making.{folders_in, with_subdirectories}
 use Rattle.held_nodes.specs.Moving.{Naming, dated_inode, with_parent, node_hung, inodes_hung, entries_hung}
+use Rattle.held_nodes.specs.Laws.{MayHang}
 use Rattle.held_nodes.specs.lemmas.Summed.{total-set}
 use Rattle.held_nodes.specs.lemmas.Listing.{count-more, all-more, added-is}
 use Rattle.held_nodes.specs.lemmas.Named.{parent-kept, counted-more}
 use Rattle.held_nodes.specs.lemmas.Untied.{AreNamedBut}
-
--- a node without a name may be hung up under one: the name isn't there, and the directory isn't below the node
-pub record MayHang (m : Naming) (old : InodesValue) (directories : DirectoryMap) : Type 0 where
-  pub there : inode_of old m.directory ≡ Some m.inode
-  pub entered : get directories m.directory ≡ Some m.entries
-  pub absent : found m.entries m.name ≡ None
-  pub node : inode_of old m.fileid ≡ Some m.node
-  pub no_root : (m.fileid == root) ≡ false
-  pub clear : (steps : ℕ) → (directory_above old.inodes steps m.directory == m.fileid) ≡ false
 
 some-with_parent : (p : ℕ) (k : InodeKind) → is_some (parent_in (with_parent p k)) ≡ is_some (parent_in k)
 some-with_parent p (RegularFile size filled verifier) = refl
@@ -56,7 +47,7 @@ module _ (old : InodesValue) (directories : DirectoryMap) (m : Naming) (touch : 
   pub apart : (m.directory == m.fileid) ≡ false
   apart = may.clear 0
 
-  apart-turned : (m.fileid == m.directory) ≡ false
+  pub apart-turned : (m.fileid == m.directory) ≡ false
   apart-turned = ne_eqb m.fileid m.directory (λ (e : m.fileid ≡ m.directory).
       let t : (m.directory == m.fileid) ≡ true = eq-eqb m.directory m.fileid (sym e) in let f = apart in cc)
 

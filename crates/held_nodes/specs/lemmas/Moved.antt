@@ -1,45 +1,36 @@
 -- A node that moves to another name: all stays sound, and so the volume is seen.
-use Rattle.std.proofs.Common.{◌≡◌, ℕ, zero, suc, ◌+◌, ◌<◌, ◌≤◌, ◌==◌, Bool, true, false, List, [], ◌∷◌, length, map, Option, Some, None}
+use Rattle.std.proofs.Common.{◌≡◌, ℕ, ◌+◌, ◌<◌, ◌≤◌, ◌==◌, Bool, true, false, List, length, Option, Some, None}
 use Rattle.std.proofs.Common.{refl, sym, ap, ◌∙◌, subst, arith}
-use Rattle.std.specs.Prelude.{if◌then◌else◌, IfSome}
+use Rattle.std.specs.Prelude.{IfSome}
 use Rattle.std.proofs.lemmas.List.{length-map}
 use Rattle.std.proofs.lemmas.Bool.{eqb-true}
-use Rattle.std.specs.List.{range_with_len}
 use Rattle.std.specs.Option.{option_map}
-use Rattle.std.specs.Cmp.{nat_cmp_total}
-use Rattle.std.specs.FinMap.{get, insert, len, nat_cmp-IsAntisymmetric}
+use Rattle.std.specs.FinMap.{get, len}
 use Rattle.std.specs.FinSet as sets
 use Rattle.nfs_model.specs.Types.{Moment}
-use Rattle.nfs_model.specs.Server.{Attributes, Node, File, Directory, most_inodes}
-use Rattle.nfs_model.specs.Names.{with_name, dropped_name}
-use Rattle.nfs_model.specs.Serial.Rename.{moved_node}
 use Rattle.nfs_model.specs.Parts.{Hand}
 use Rattle.depot_rule.specs.Sums.{total}
-use Rattle.volume_values.specs.Maps.{map_values}
 use Rattle.volume_values.specs.Directories.{DirectoryValue, added, removed}
 use Rattle.volume_values.specs.Inodes.{InodeKind, RegularFile, Folder, Inode, InodesValue, IsInodes, filled_blocks, inode_of, inode_set}
 use Rattle.volume_values.specs.Stripes.{StripeValue, touch_taken}
 use Rattle.volume_values.specs.lemmas.Inodes.{len-set, set-is, next-set, used-set-same, inode-set-there, inode-set-other}
-use Rattle.volume_values.specs.lemmas.Maps.{get-map_values}
-use Rattle.volume_values.specs.lemmas.Numbered.{get-insert_at, same-answers, itself}
 use Rattle.held_state.specs.Contents.{VolumeContents}
-use Rattle.held_state.specs.Tree.{stripe_at, file_filled, file_touch, directory_or_empty, node_by, node_of}
-use Rattle.held_state.specs.Names.{DirectoryMap, parent_in, size_in, size_of, AreNamed}
-use Rattle.held_state.specs.WellFormed.{StripeFits, WellFormed, size_shown}
+use Rattle.held_state.specs.Tree.{stripe_at, file_filled, file_touch}
+use Rattle.held_state.specs.Names.{DirectoryMap, size_in, size_of, AreNamed}
+use Rattle.held_state.specs.WellFormed.{StripeFits, WellFormed}
 use Rattle.held_state.specs.Partition.{times_in_stripe, times_in_hand}
 use Rattle.held_state.specs.Sound.{IsSound}
-use Rattle.held_state.specs.Lenses.{LogicalSet, logical_lens}
 use Rattle.held_state.specs.Changes.{touches_taken}
 use Rattle.held_laws.specs.lemmas.SameBlocks as blocks
-use Rattle.held_attributes.specs.lemmas.Kept.{shown-stays, touch-gone, touch-stays}
+use Rattle.held_attributes.specs.lemmas.Kept.{shown-stays}
 use Rattle.held_nodes.specs.Making.{folders_in, with_subdirectories}
 use Rattle.held_nodes.specs.Dropping.{without_subdirectories}
-use Rattle.held_nodes.specs.Moving.{Naming, dated_inode, inodes_untied, entries_untied, entry_taken, with_parent, node_hung, inodes_hung, entries_hung, node_hung_up}
-use Rattle.held_nodes.specs.Laws.{seen_directory}
+use Rattle.held_nodes.specs.Moving.{Naming, dated_inode, inodes_untied, entries_untied, with_parent, node_hung, inodes_hung, entries_hung}
+use Rattle.held_nodes.specs.Laws.{StandsUnder, MayHang, moved_in}
 use Rattle.held_nodes.specs.lemmas.Named as made
 use Rattle.held_nodes.specs.lemmas.Unnamed as unnamed
-use Rattle.held_nodes.specs.lemmas.Untied.{StandsUnder, AreNamedBut, named-untied, untied-directory, untied-other, untied-entries, untied-others}
-use Rattle.held_nodes.specs.lemmas.Hung.{MayHang, named-hung, hung-node, hung-directory, hung-other, hung-entries, hung-others, by-fileid, apart, still}
+use Rattle.held_nodes.specs.lemmas.Untied.{AreNamedBut, named-untied, untied-entries, untied-others}
+use Rattle.held_nodes.specs.lemmas.Hung.{named-hung, hung-entries, hung-others, still}
 
 -- ---- inodes that keep their sizes and blocks
 
@@ -189,11 +180,6 @@ filled-more more (Folder parent subdirectories) = refl
 filled-less : (fewer : ℕ) (k : InodeKind) → filled_blocks (without_subdirectories fewer k) ≡ filled_blocks k
 filled-less fewer (RegularFile size filled verifier) = refl
 filled-less fewer (Folder parent subdirectories) = refl
-
--- the volume after a node moved: its entry is taken, and it is hung up
-abbrev pub moved_in : Naming → Naming → VolumeContents → VolumeContents
-moved_in from to p =
-    logical_lens.put (node_hung_up to (file_touch p.stripes to.fileid) (entry_taken from (logical_lens.of p))) p
 
 module _ (p : VolumeContents) (from to : Naming) (well : WellFormed p)
     (stands : StandsUnder from p.logical.inodes p.logical.directories)

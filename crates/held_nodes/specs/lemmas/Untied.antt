@@ -1,25 +1,24 @@
 -- Names after an entry is taken, while its node has no name.
-use Rattle.std.proofs.Common.{◌≡◌, ◌≢◌, ℕ, zero, suc, ◌+◌, ◌-◌, ◌<◌, ◌≤◌, ◌==◌, ◌&&◌, not, Bool, true, false, List, [], ◌∷◌, Option, Some, None}
+use Rattle.std.proofs.Common.{◌≡◌, ℕ, zero, suc, ◌+◌, ◌-◌, ◌==◌, ◌&&◌, not, Bool, true, false, List, [], ◌∷◌, Some}
 use Rattle.std.proofs.Common.{refl, sym, ap, ◌∙◌, subst, arith, eq-eqb, ne_eqb}
 use Rattle.std.specs.Prelude.{if◌then◌else◌, is_some, IfSome}
 use Rattle.std.proofs.lemmas.Bool.{eqb-true}
 use Rattle.std.specs.List.{AllByRecursion}
-use Rattle.std.specs.FinMap.{get, insert, entries, nat_cmp-IsAntisymmetric}
+use Rattle.std.specs.FinMap.{get}
 use Rattle.nfs_model.specs.Types.{Listed}
 use Rattle.nfs_model.specs.Names.{without_name}
-use Rattle.nfs_model.specs.Parts.{one_if, count}
-use Rattle.depot_rule.specs.Sums.{total}
-use Rattle.volume_values.specs.Directories.{DirectoryValue, removed, found}
+use Rattle.nfs_model.specs.Parts.{one_if}
+use Rattle.volume_values.specs.Directories.{DirectoryValue, removed}
 use Rattle.volume_values.specs.Inodes.{InodeKind, RegularFile, Folder, Inode, InodesValue, inode_of}
 use Rattle.volume_values.specs.lemmas.Inodes.{inode-set-there, inode-set-other}
 use Rattle.volume_values.specs.lemmas.Numbered.{get-insert_at, itself}
 use Rattle.held_state.specs.Names.{root, InodeMap, DirectoryMap, parent_in, parent_directory, subdirectories_in, subdirectories_of}
 use Rattle.held_state.specs.Names.{is_folder, parent_or, times_in_list, times_named, is_named, folders_listed, directory_above, DirectoryFits}
 use Rattle.held_state.specs.Names.{ReachesRoot, AreNamed}
-use Rattle.held_laws.specs.lemmas.Mapped.{entry-at-least}
 use Rattle.held_nodes.specs.Making.{folders_in}
 use Rattle.held_nodes.specs.Dropping.{without_subdirectories}
 use Rattle.held_nodes.specs.Moving.{Naming, dated_inode, inodes_untied, entries_untied}
+use Rattle.held_nodes.specs.Laws.{StandsUnder}
 use Rattle.held_nodes.specs.lemmas.Summed.{total-set}
 use Rattle.held_nodes.specs.lemmas.Listing.{all-without, removed-is, count-without}
 use Rattle.held_nodes.specs.lemmas.Unnamed.{parent-kept, counted-less}
@@ -31,15 +30,6 @@ pub record AreNamedBut (fileid : ℕ) (inodes : InodeMap) (directories : Directo
   pub fits : (q : ℕ) (d : DirectoryValue) → get directories q ≡ Some d → DirectoryFits inodes q d
   pub once : (q : ℕ) → times_named q directories ≡ one_if (is_named inodes q && not (q == fileid))
   pub rooted : (q : ℕ) → is_folder (get inodes q) ≡ true → ReachesRoot inodes q
-
--- a node stands under a name
-pub record StandsUnder (m : Naming) (old : InodesValue) (directories : DirectoryMap) : Type 0 where
-  pub there : inode_of old m.directory ≡ Some m.inode
-  pub entered : get directories m.directory ≡ Some m.entries
-  pub entry : Listed
-  pub found_there : found m.entries m.name ≡ Some entry
-  pub is : entry.fileid ≡ m.fileid
-  pub node : inode_of old m.fileid ≡ Some m.node
 
 module _ (old : InodesValue) (directories : DirectoryMap) (m : Naming) (stands : StandsUnder m old directories) where
   abbrev new : InodesValue
