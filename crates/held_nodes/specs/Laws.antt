@@ -1,6 +1,6 @@
 -- What a node made under a name, and a node dropped with its name, come to on a sound volume (RFC 1813 sections 3.3.8, 3.3.9, 3.3.12
 -- and 3.3.13).
-use Rattle.std.specs.Prelude.{◌≡◌, ℕ, ◌+◌, ◌-◌, ◌*◌, ◌<◌, ◌≤◌, nat_lt, List, [], replicate, Option, Some, None}
+use Rattle.std.specs.Prelude.{◌≡◌, ℕ, ◌+◌, ◌-◌, ◌*◌, ◌<◌, ◌≤◌, ◌==◌, nat_lt, false, List, [], replicate, Option, Some, None}
 use Rattle.std.specs.FinMap.{get, len, insert, remove}
 use Rattle.std.specs.FinSet as sets
 use Rattle.std.specs.FinSet.{retain}
@@ -14,14 +14,19 @@ use Rattle.depot_rule.specs.Sums.{total}
 use Rattle.volume_values.specs.Directories.{DirectoryValue, found}
 use Rattle.volume_values.specs.Inodes.{InodeKind, RegularFile, Folder, Inode, InodesValue, inode_of}
 use Rattle.held_state.specs.Contents.{VolumeContents}
-use Rattle.held_state.specs.Tree.{file_bytes, file_filled, file_touch, volume_of}
-use Rattle.held_state.specs.Names.{DirectoryMap, parent_in}
+use Rattle.held_state.specs.Tree.{file_bytes, file_filled, file_touch, node_of, volume_of}
+use Rattle.held_state.specs.Names.{DirectoryMap, root, directory_above, parent_in}
 use Rattle.held_state.specs.Partition.{parts_of, times_in_hand}
 use Rattle.held_state.specs.Sound.{IsSound}
-use Rattle.held_state.specs.Lenses.{logical_lens}
+use Rattle.held_state.specs.Lenses.{LogicalSet, logical_lens}
 use Rattle.held_nodes.specs.Making.{Making, node_made}
 use Rattle.held_nodes.specs.Dropping.{Dropping, node_dropped}
 use Rattle.held_nodes.specs.Sizing.{Sizing, file_sized}
+use Rattle.held_nodes.specs.Moving.{Naming, inodes_untied, entries_untied, entry_taken, node_hung_up}
+use Rattle.nfs_model.specs.Serial.Rename.{moved_node}
+use Rattle.volume_values.specs.Maps.{map_values}
+use Rattle.std.specs.FinMap.{FinMap}
+use Rattle.std.specs.Ordering.{nat_cmp}
 
 -- hands that carry as much of a volume's blocks
 abbrev pub WeighAlike : ℕ → List Hand → List Hand → Type 0
@@ -84,12 +89,12 @@ pub record LosesName (m : Dropping) (old : InodesValue) (directories : Directory
   pub kind : IsEmptyKind m.dropped.kind
   pub empty : (d : DirectoryValue) → get directories m.fileid ≡ Some d → d.list ≡ []
 
--- all stays sound, and the volume that is seen has neither the node nor the entry
+-- all stays sound, with no entry more needed, and the volume that is seen has neither the node nor the entry
 abbrev pub NodesAreDropped : Type 0
-NodesAreDropped = (p : VolumeContents) (m : Dropping) (hands hands' : List Hand) (made parent : ℕ)
-    → LosesName m p.logical.inodes p.logical.directories → IsSound p hands made → WeighAlike p.number hands hands'
+NodesAreDropped = (p : VolumeContents) (m : Dropping) (hands hands' : List Hand) (made now parent : ℕ)
+    → made ≤ now → LosesName m p.logical.inodes p.logical.directories → IsSound p hands made → WeighAlike p.number hands hands'
     → parent_in m.inode.kind ≡ Some parent
-    → IsSound (logical_lens.put (node_dropped m (logical_lens.of p)) p) hands' (made + 1)
+    → IsSound (logical_lens.put (node_dropped m (logical_lens.of p)) p) hands' now
     × (volume_of (logical_lens.put (node_dropped m (logical_lens.of p)) p) ≡ record (volume_of p) {
       nodes = insert (remove (volume_of p).nodes m.fileid) m.directory
           (Directory (dropped_name (seen_directory m.inode m.entries parent) m.name m.moment));
@@ -122,10 +127,53 @@ sized_volume m p = logical_lens.put (file_sized m (logical_lens.of p)) p
 
 -- all stays sound, the volume that is seen has the file cut or grown, and the blocks that left it are dead
 abbrev pub FilesAreSized : Type 0
-FilesAreSized = (p : VolumeContents) (m : Sizing) (hands hands' : List Hand) (made old_size filled : ℕ) (verifier : Option (List ℕ))
-    → inode_of p.logical.inodes m.fileid ≡ Some m.inode → m.inode.kind ≡ RegularFile old_size filled verifier → m.size ≤ p.logical.largest
+FilesAreSized = (p : VolumeContents) (m : Sizing) (hands hands' : List Hand) (made now old_size filled : ℕ) (verifier : Option (List ℕ))
+    → made ≤ now → inode_of p.logical.inodes m.fileid ≡ Some m.inode → m.inode.kind ≡ RegularFile old_size filled verifier → m.size ≤ p.logical.largest
     → IsSound p hands made → WeighAlike p.number hands hands'
-    → IsSound (sized_volume m p) hands' (made + 1)
+    → IsSound (sized_volume m p) hands' now
     × (volume_of (sized_volume m p)
     ≡ with_node (volume_of p) m.fileid (File (file_resized m.size m.attributes (file_seen p m old_size verifier))))
     × Emptied (used (volume_of p) - used (volume_of (sized_volume m p))) (parts_of p) (parts_of (sized_volume m p))
+
+-- ---- moved to another name
+
+-- the nodes of what is under Logical
+abbrev pub nodes_of : LogicalSet → FinMap nat_cmp Node
+nodes_of set = map_values (node_of set.stripes set.own.directories) set.own.inodes.inodes
+
+-- a node stands under a name
+pub record StandsUnder (m : Naming) (old : InodesValue) (directories : DirectoryMap) : Type 0 where
+  pub there : inode_of old m.directory ≡ Some m.inode
+  pub entered : get directories m.directory ≡ Some m.entries
+  pub entry : Listed
+  pub found_there : found m.entries m.name ≡ Some entry
+  pub is : entry.fileid ≡ m.fileid
+  pub node : inode_of old m.fileid ≡ Some m.node
+
+-- a node without a name may be hung up under one: the name isn't there, and the directory isn't below the node
+pub record MayHang (m : Naming) (old : InodesValue) (directories : DirectoryMap) : Type 0 where
+  pub there : inode_of old m.directory ≡ Some m.inode
+  pub entered : get directories m.directory ≡ Some m.entries
+  pub absent : found m.entries m.name ≡ None
+  pub node : inode_of old m.fileid ≡ Some m.node
+  pub no_root : (m.fileid == root) ≡ false
+  pub clear : (steps : ℕ) → (directory_above old.inodes steps m.directory == m.fileid) ≡ false
+
+-- the volume after a node moved: its entry is taken, and it is hung up
+abbrev pub moved_in : Naming → Naming → VolumeContents → VolumeContents
+moved_in from to p =
+    logical_lens.put (node_hung_up to (file_touch p.stripes to.fileid) (entry_taken from (logical_lens.of p))) p
+
+-- all stays sound, and the nodes that are seen have lost the one entry and have the other, and the node is below that directory
+abbrev pub NodesAreMoved : Type 0
+NodesAreMoved = (p : VolumeContents) (from to : Naming) (hands hands' : List Hand) (made from_parent to_parent : ℕ)
+    → StandsUnder from p.logical.inodes p.logical.directories
+    → MayHang to (inodes_untied from p.logical.inodes) (entries_untied from p.logical.directories)
+    → to.fileid ≡ from.fileid → parent_in from.inode.kind ≡ Some from_parent → parent_in to.inode.kind ≡ Some to_parent
+    → IsSound p hands made → WeighAlike p.number hands hands'
+    → IsSound (moved_in from to p) hands' (made + 1)
+    × (nodes_of (logical_lens.of (moved_in from to p))
+    ≡ insert (insert (insert (volume_of p).nodes from.directory
+    (Directory (dropped_name (seen_directory from.inode from.entries from_parent) from.name from.moment)))
+    to.directory (Directory (with_name (seen_directory to.inode to.entries to_parent) to.name to.fileid to.moment)))
+    to.fileid (moved_node to.directory to.moment (node_of p.stripes (entries_untied from p.logical.directories) to.fileid to.node)))

@@ -11,3 +11,7 @@ pub mod Cutting
 pub mod Sized
 pub mod SizedNodes
 pub mod Emptied
+pub mod Untied
+pub mod Hung
+pub mod Moved
+pub mod MovedNodes

@@ -1,6 +1,11 @@
 //! What follows from the definitions. The functions do nothing: their contracts are theorems.
 
-ghost use Rattle.held_nodes.specs.Laws.{NodesAreMade, NodesAreDropped, FilesAreSized};
+ghost use Rattle.held_nodes.specs.Laws.{
+  NodesAreMade,
+  NodesAreDropped,
+  FilesAreSized,
+  NodesAreMoved,
+};
 
 /// On every sound volume, a node made under a name that isn't there, and an empty one dropped with
 /// its name, leave all sound, and change the volume that is seen as the serial server does.
@@ -13,4 +18,10 @@ pub fn nodes_are_made_and_dropped()
 /// and the blocks that leave it are dead.
 pub fn files_are_sized()
     ensures { FilesAreSized }
+{}
+
+/// On every sound volume, a node that moves to a name that isn't there, of a directory that isn't
+/// below it, leaves all sound, and is seen there.
+pub fn nodes_are_moved()
+    ensures { NodesAreMoved }
 {}

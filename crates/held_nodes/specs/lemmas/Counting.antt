@@ -247,7 +247,8 @@ module _ (f most : ℕ) where
           let sum = count-or (λ block. block == e.0.1) (has es) (range_with_len 0 most) apart in
           count-same (λ block. ((f == e.0.0) && (block == e.0.1)) || has es block) (λ block. (block == e.0.1) || has es block)
           (λ block. ap (λ (b : Bool). (b && (block == e.0.1)) || has es block) test) (range_with_len 0 most)
-          ∙ (let all : count (λ block. (block == e.0.1) || has es block) (range_with_len 0 most) ≡ 1 + count (is_of f) es = omega (arith, sum, once, rest) in all)
+          ∙ (let all : count (λ block. (block == e.0.1) || has es block) (range_with_len 0 most) ≡ 1 + count (is_of f) es =
+          omega (arith, sum, once, rest) in all)
       by false is rest gone =
           let test : (f == e.0.0) ≡ false = ne_eqb f e.0.0 (λ (h : f ≡ e.0.0). let t : (e.0.0 == f) ≡ true = eq-eqb e.0.0 f (sym h) in cc) in
           count-same (λ block. ((f == e.0.0) && (block == e.0.1)) || has es block) (has es)

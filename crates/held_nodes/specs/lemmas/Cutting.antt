@@ -180,7 +180,8 @@ module _ (f size : ℕ) where
   pub cut-len : (s : StripeValue) → len (stripe_sized f size s).blocks + length (numbers_freed f size s) ≡ len s.blocks
   cut-len s =
       let was = len-entries s.blocks in
-      let is = len-entries (stripe_sized f size s).blocks ∙ ap length (entries-cut s) ∙ length-map (filter kept_entry (entries s.blocks)) (λ e. (e.0, cut_block e.0 e.1)) in
+      let is = len-entries (stripe_sized f size s).blocks ∙ ap length (entries-cut s)
+      ∙ length-map (filter kept_entry (entries s.blocks)) (λ e. (e.0, cut_block e.0 e.1)) in
       let freed = length-map (filter past_entry (entries s.blocks)) number_of in
       let both = split-length (entries s.blocks) in
       omega (arith, was, is, freed, both)

@@ -197,23 +197,23 @@ module _ (p : VolumeContents) (m : Dropping) (well : WellFormed p) (may : LosesN
   }
 
   -- all stays sound
-  pub sound-left : (hands hands' : List Hand) (made : ℕ) → ((n : ℕ) → total (times_in_hand p.number n) hands' ≡ total (times_in_hand p.number n) hands)
-      → IsSound p hands made → IsSound after hands' (made + 1)
-  sound-left hands hands' made weigh s = record {
+  pub sound-left : (hands hands' : List Hand) (made now : ℕ) → made ≤ now → ((n : ℕ) → total (times_in_hand p.number n) hands' ≡ total (times_in_hand p.number n) hands)
+      → IsSound p hands made → IsSound after hands' now
+  sound-left hands hands' made now later weigh s = record {
     well_formed = well-left;
     young = record {
       fileids =
           let next = next-set (inode_dropped m.fileid old) m.directory (directory_left m) in
           let y = s.young.fileids in
-          omega (arith, next, y);
-      cookies = by-fileid (λ q. (d : DirectoryValue) → get after.logical.directories q ≡ Some d → d.next ≤ 3 + (made + 1))
+          omega (arith, next, y, later);
+      cookies = by-fileid (λ q. (d : DirectoryValue) → get after.logical.directories q ≡ Some d → d.next ≤ 3 + now)
           (λ d e.
           let same : removed m.name m.entries ≡ d = (let at = directory-entries in cc) in
           let is : m.entries.next ≡ d.next = ap (λ (x : DirectoryValue). x.next) same in
           let y = s.young.cookies m.directory m.entries may.entered in
-          omega (arith, is, y))
+          omega (arith, is, y, later))
           (λ d e. let none = dropped-entries in absurd cc)
-          (λ q ne left d e. let y = s.young.cookies q d (sym (other-entries q ne left) ∙ e) in omega (arith, y));
+          (λ q ne left d e. let y = s.young.cookies q d (sym (other-entries q ne left) ∙ e) in omega (arith, y, later));
     };
     partition = λ n.
         let e = weigh n in
@@ -229,7 +229,8 @@ module _ (p : VolumeContents) (m : Dropping) (well : WellFormed p) (may : LosesN
     was-directory = by m.inode.kind says
       where
         by : (kind : InodeKind) → parent_in kind ≡ Some parent
-            → node_by p.stripes (get p.logical.directories m.directory) m.directory m.inode.attributes kind ≡ Directory (seen_directory m.inode m.entries parent)
+            → node_by p.stripes (get p.logical.directories m.directory) m.directory m.inode.attributes kind
+            ≡ Directory (seen_directory m.inode m.entries parent)
         by (RegularFile size filled verifier) e = absurd cc
         by (Folder up subdirectories) e =
             let same : up ≡ parent = cc in

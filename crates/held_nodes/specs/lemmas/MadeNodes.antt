@@ -112,7 +112,8 @@ module _ (p : VolumeContents) (m : Making) (well : WellFormed p) (may : MayBeMad
           })
 
   is-directory : (parent : ℕ) → parent_in m.inode.kind ≡ Some parent
-      → node_of after.stripes after.logical.directories m.directory (directory_inode m) ≡ Directory (with_name (seen_directory m.inode m.entries parent) m.name f m.moment)
+      → node_of after.stripes after.logical.directories m.directory (directory_inode m)
+      ≡ Directory (with_name (seen_directory m.inode m.entries parent) m.name f m.moment)
   is-directory parent says = by m.inode.kind says
     where
       found : get after.logical.directories m.directory ≡ Some (added m.name f m.entries)

@@ -30,7 +30,7 @@ pub size-kept : (more : ℕ) (k : InodeKind) → size_in (with_subdirectories mo
 size-kept more (RegularFile size filled verifier) = refl
 size-kept more (Folder parent subdirectories) = refl
 
-counted-more : (more n : ℕ) (k : InodeKind) → subdirectories_in k ≡ Some n → subdirectories_in (with_subdirectories more k) ≡ Some (n + more)
+pub counted-more : (more n : ℕ) (k : InodeKind) → subdirectories_in k ≡ Some n → subdirectories_in (with_subdirectories more k) ≡ Some (n + more)
 counted-more more n (RegularFile size filled verifier) e = absurd cc
 counted-more more n (Folder parent subdirectories) e = let same : subdirectories ≡ n = cc in ap (λ k. Some (k + more)) same
 
@@ -310,7 +310,8 @@ module _ (old : InodesValue) (directories : DirectoryMap) (m : Making) (lawful :
             ap (λ o. one_if (is_some o && not (old.next == root))) at-made ∙ ap (λ (t : Bool). one_if (not t)) made-is-no-root in
             subst (λ (k : ℕ). times_named k directories_after ≡ one_if (is_named new.inodes k)) (sym is) (here ∙ sym now)
         by false e =
-            let other : one_if (old.next == q) ≡ 0 = ap one_if (ne_eqb old.next q (λ (h : old.next ≡ q). let t : (q == old.next) ≡ true = eq-eqb q old.next (sym h) in cc)) in
+            let other : one_if (old.next == q) ≡ 0 =
+            ap one_if (ne_eqb old.next q (λ (h : old.next ≡ q). let t : (q == old.next) ≡ true = eq-eqb q old.next (sym h) in cc)) in
             let after = times-after q in
             let was = named.once q in
             let same : one_if (is_named new.inodes q) ≡ one_if (is_named old.inodes q) = ap (λ (b : Bool). one_if (b && not (q == root))) (some-same q e) in
@@ -344,7 +345,8 @@ module _ (old : InodesValue) (directories : DirectoryMap) (m : Making) (lawful :
         let reaches = named.rooted m.directory folder in
         (reaches.0, above-same reaches.0 m.directory reaches.1)
 
-    rooted-made : (k : InodeKind) → m.made.kind ≡ k → is_folder (inode_of new old.next) ≡ true → (steps : ℕ) × (directory_above new.inodes steps old.next ≡ root)
+    rooted-made : (k : InodeKind) → m.made.kind ≡ k → is_folder (inode_of new old.next) ≡ true
+        → (steps : ℕ) × (directory_above new.inodes steps old.next ≡ root)
     rooted-made (RegularFile size filled verifier) is h =
         let none : is_folder (inode_of new old.next) ≡ false = ap is_folder at-made ∙ ap (λ k. is_some (parent_in k)) is in
         absurd cc

@@ -16,7 +16,8 @@ use Rattle.nfs_model.specs.Server.{block_size}
 use Rattle.nfs_model.specs.Parts.{Hand, one_if, times_listed}
 use Rattle.depot_rule.specs.Sums.{total}
 use Rattle.volume_values.specs.Inodes.{InodeKind, RegularFile, Inode, InodesValue, filled_blocks, inode_of, inode_set}
-use Rattle.volume_values.specs.Stripes.{Card, OfFile, OfFolder, Block, StripeValue, byte_cut, block_mapped, card_settled, touch_taken, touch_of, stripe_of, is_filled, numbers_freed}
+use Rattle.volume_values.specs.Stripes.{Card, OfFile, OfFolder, Block, StripeValue, byte_cut, block_mapped, card_settled, touch_taken}
+use Rattle.volume_values.specs.Stripes.{touch_of, stripe_of, is_filled, numbers_freed}
 use Rattle.volume_values.specs.lemmas.Inodes.{inode-set-there, inode-set-other, next-set, used-set, len-set, set-is}
 use Rattle.volume_values.specs.lemmas.Numbered.{get-insert_at, get-changed_at, itself}
 use Rattle.held_state.specs.Contents.{VolumeContents}
@@ -82,7 +83,8 @@ module _ (f size : ℕ) where
 
       untouched : touch_of (get (touch_taken f s).cards f) ≡ None
       untouched =
-          ap touch_of (get-changed_at card_settled f s.cards f ∙ ap (λ (b : Bool). if b then option_map card_settled (get s.cards f) else get s.cards f) (itself f))
+          ap touch_of (get-changed_at card_settled f s.cards f
+          ∙ ap (λ (b : Bool). if b then option_map card_settled (get s.cards f) else get s.cards f) (itself f))
           ∙ settled (get s.cards f)
 
       by : (b : Bool) → (q == f) ≡ b
@@ -365,13 +367,13 @@ module _ (p : VolumeContents) (m : Sizing) (well : WellFormed p) (there : get p.
   one-at-most true = omega arith
   one-at-most false = omega arith
 
-  pub sound-sized : (hands hands' : List Hand) (made : ℕ) → ((n : ℕ) → total (times_in_hand p.number n) hands' ≡ total (times_in_hand p.number n) hands)
-      → IsSound p hands made → IsSound after hands' (made + 1)
-  sound-sized hands hands' made weigh s = record {
+  pub sound-sized : (hands hands' : List Hand) (made now : ℕ) → made ≤ now → ((n : ℕ) → total (times_in_hand p.number n) hands' ≡ total (times_in_hand p.number n) hands)
+      → IsSound p hands made → IsSound after hands' now
+  sound-sized hands hands' made now later weigh s = record {
     well_formed = well-sized;
     young = record {
-      fileids = (let next = next-set old f next_inode in let y = s.young.fileids in omega (arith, next, y));
-      cookies = λ q d e. let y = s.young.cookies q d e in omega (arith, y);
+      fileids = (let next = next-set old f next_inode in let y = s.young.fileids in omega (arith, next, y, later));
+      cookies = λ q d e. let y = s.young.cookies q d e in omega (arith, y, later);
     };
     partition = λ n.
         let e = weigh n in

@@ -40,7 +40,8 @@ test-less a b h = grind (arith, nat_tests)
 
 same-range : (g h : ℕ → ℕ) (a n : ℕ) → ((k : ℕ) → a ≤ k → k < a + n → g k ≡ h k) → map g (range_with_len a n) ≡ map h (range_with_len a n)
 same-range g h a zero same = refl
-same-range g h a (suc n) same = λ j. same a (omega arith) (omega arith) j ∷ same-range g h (a + 1) n (λ k low less. same k (omega (arith, low)) (omega (arith, less))) j
+same-range g h a (suc n) same = λ j.
+    same a (omega arith) (omega arith) j ∷ same-range g h (a + 1) n (λ k low less. same k (omega (arith, low)) (omega (arith, less))) j
 
 zero-range : (g : ℕ → ℕ) (a n : ℕ) → ((k : ℕ) → a ≤ k → g k ≡ 0) → map g (range_with_len a n) ≡ replicate n 0
 zero-range g a zero none = refl

@@ -33,7 +33,7 @@ pub size-kept : (fewer : ℕ) (k : InodeKind) → size_in (without_subdirectorie
 size-kept fewer (RegularFile size filled verifier) = refl
 size-kept fewer (Folder parent subdirectories) = refl
 
-counted-less : (fewer n : ℕ) (k : InodeKind) → subdirectories_in k ≡ Some n → subdirectories_in (without_subdirectories fewer k) ≡ Some (n - fewer)
+pub counted-less : (fewer n : ℕ) (k : InodeKind) → subdirectories_in k ≡ Some n → subdirectories_in (without_subdirectories fewer k) ≡ Some (n - fewer)
 counted-less fewer n (RegularFile size filled verifier) e = absurd cc
 counted-less fewer n (Folder parent subdirectories) e = let same : subdirectories ≡ n = cc in ap (λ k. Some (k - fewer)) same
 
@@ -323,7 +323,8 @@ module _ (old : InodesValue) (directories : DirectoryMap) (m : Dropping) (may : 
             let now : one_if (is_named new.inodes m.fileid) ≡ 0 = ap (λ o. one_if (is_some o && not (m.fileid == root))) at-dropped in
             subst (λ (k : ℕ). times_named k directories_after ≡ one_if (is_named new.inodes k)) (sym is) (here ∙ sym now)
         by false e =
-            let other : one_if (m.fileid == q) ≡ 0 = ap one_if (ne_eqb m.fileid q (λ (h : m.fileid ≡ q). let t : (q == m.fileid) ≡ true = eq-eqb q m.fileid (sym h) in cc)) in
+            let other : one_if (m.fileid == q) ≡ 0 =
+            ap one_if (ne_eqb m.fileid q (λ (h : m.fileid ≡ q). let t : (q == m.fileid) ≡ true = eq-eqb q m.fileid (sym h) in cc)) in
             let after = times-after q in
             let was = named.once q in
             let same : one_if (is_named new.inodes q) ≡ one_if (is_named old.inodes q) = ap (λ (b : Bool). one_if (b && not (q == root))) (some-same q e) in
@@ -379,7 +380,8 @@ module _ (old : InodesValue) (directories : DirectoryMap) (m : Dropping) (may : 
 
       no-child : m.fileid ≡ root
       no-child =
-          let here : parent_directory (inode_of old root) ≡ Some m.fileid = ap (λ (k : ℕ). parent_directory (inode_of old k)) (sym (eqb-true q root is-root)) ∙ parent in
+          let here : parent_directory (inode_of old root) ≡ Some m.fileid =
+          ap (λ (k : ℕ). parent_directory (inode_of old k)) (sym (eqb-true q root is-root)) ∙ parent in
           let was = named.root_there in
           cc
 

@@ -4,8 +4,8 @@ use Rattle.held_nodes.specs.lemmas.Emptied.{emptied-sized}
 use Rattle.held_nodes.proofs.laws.files_are_sized.Goals as goal
 
 pub returns : goal.returns
-returns c = λ p m hands hands' made old_size filled verifier there is_file small sound weigh. (
-  sound-sized p m sound.well_formed there old_size filled verifier is_file small hands hands' made weigh sound,
+returns c = λ p m hands hands' made now old_size filled verifier later there is_file small sound weigh. (
+  sound-sized p m sound.well_formed there old_size filled verifier is_file small hands hands' made now later weigh sound,
   volume-sized p m sound.well_formed there old_size filled verifier is_file small,
   emptied-sized p m hands sound.partition sound.well_formed there old_size filled verifier is_file small,
 )

@@ -10,7 +10,7 @@ returns-clause-made c = λ p m hands hands' made parent may sound weigh says. (
 )
 
 pub returns-clause-dropped : goal.returns-clause-dropped
-returns-clause-dropped c = λ p m hands hands' made parent may sound weigh says. (
-  sound-left p m sound.well_formed may hands hands' made weigh sound,
+returns-clause-dropped c = λ p m hands hands' made now parent later may sound weigh says. (
+  sound-left p m sound.well_formed may hands hands' made now later weigh sound,
   volume-left p m sound.well_formed may parent says,
 )
