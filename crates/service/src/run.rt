@@ -26,6 +26,7 @@ use affinity_tree::{Affinity, Layout};
 use nfs_values::{Answer, Call, FileHandle, Moment, Named, Reply, SetAttributes};
 use parcel_sets::LogicalHeld;
 use parcels::Files;
+use service_names::lookup;
 
 /// Runs a call on the parcels of the names and attributes of its volume, its home.
 pub fn run_on_logical(
@@ -58,6 +59,11 @@ pub fn run_on_logical(
             let named = named_here(layout, affinity, handle);
             let told = set_mode(held, named.volume, named.fileid, mode, *guard, moment);
             Outcome::Replied(Reply::Success(Answer::SetAttributes(told)))
+        }
+        Call::Lookup(target) => {
+            let named = named_here(layout, affinity, &target.directory);
+            let told = lookup(held, named.volume, named.fileid, target.name.as_bytes());
+            Outcome::Replied(Reply::Success(Answer::Lookup(told)))
         }
         _ => unreachable!(),
     }

@@ -1,0 +1,11 @@
+//! What follows from the definitions. The function does nothing: its contract is a theorem.
+
+ghost use Rattle.held_names.specs.Laws.{LookupIsRight, ReaddirIsRight, CommitIsRight};
+
+/// On every sound volume with the parcels that are held, LOOKUP, READDIR and COMMIT answer as the
+/// serial server does, change nothing, and all stays sound.
+pub fn name_calls_are_right()
+    ensures lookup { LookupIsRight }
+    ensures readdir { ReaddirIsRight }
+    ensures commit { CommitIsRight }
+{}

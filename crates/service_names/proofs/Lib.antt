@@ -1,0 +1,3 @@
+mod Latest
+mod Taking
+mod Named

@@ -1,0 +1,3 @@
+pub mod Shown
+pub mod Promises
+pub mod lemmas
