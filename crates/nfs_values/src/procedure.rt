@@ -81,7 +81,7 @@ impl Procedure {
     {
         matches!(
             self,
-            Procedure::Null | Procedure::GetAttributes | Procedure::AdminNull
+            Procedure::Null | Procedure::GetAttributes | Procedure::Lookup | Procedure::AdminNull
         )
     }
 

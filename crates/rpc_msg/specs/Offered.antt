@@ -1,10 +1,11 @@
 -- What is asked with the procedures that are offered so far.
-use Rattle.nfs_model.specs.Types.{Call, Null, Getattr, Asked, Ask, Refused, Undecoded}
+use Rattle.nfs_model.specs.Types.{Call, Null, Getattr, Lookup, Asked, Ask, Refused, Undecoded}
 
--- NULL, of either program, and GETATTR (RFC 1813 sections 3.3.0 and 3.3.1)
+-- NULL, of either program, GETATTR and LOOKUP (RFC 1813 sections 3.3.0, 3.3.1 and 3.3.3)
 abbrev pub IsOffered : Call → Type 0
 IsOffered Null = Unit {0}
 IsOffered (Getattr handle) = Unit {0}
+IsOffered (Lookup directory name) = Unit {0}
 IsOffered call = ⊥
 
 abbrev pub AsksOffered : Asked → Type 0
