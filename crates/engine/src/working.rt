@@ -46,6 +46,7 @@ pub(crate) fn work(state: &mut State, worker: usize) -> Result<Done, Refusal>
         return Err(Refusal::NoWork);
     };
     let call = Run {
+        alloc: state.alloc,
         call: running.message.call.as_call(),
         credential: running.message.credential,
         moment: running.moment,

@@ -53,8 +53,8 @@ pub(crate) fn fileid_named(
     held.own.get().directories.get(fileid)?.find(name)
 }
 
-/// Whether two names are one.
-fn is_same_name(name: &[u8], other: &[u8]) -> bool
+/// Whether two names, or any two lists of bytes, are one.
+pub(crate) fn is_same_name(name: &[u8], other: &[u8]) -> bool
     ensures { result ≡ same_name name.now other.now }
 {
     name == other

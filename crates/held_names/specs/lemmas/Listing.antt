@@ -1,10 +1,14 @@
 -- READDIR and COMMIT by what is under Logical.
-use Rattle.std.proofs.Common.{◌≡◌, ℕ, Bool, true, false, List, [], ◌∷◌, Some, None, Option, refl, sym, ap, ◌∙◌}
+use Rattle.std.proofs.Common.{◌≡◌, ℕ, Bool, true, false, List, [], ◌∷◌, Some, None, Option, refl, sym, ap, ◌∙◌, subst}
 use Rattle.std.specs.Prelude.{◌-◌, min, nat_lt, if◌then◌else◌}
 use Rattle.std.specs.Option.{option_map}
 use Rattle.std.specs.FinMap.{get}
 use Rattle.nfs_model.specs.Types.{Listed, Shown, Success, BadCookie, TooSmall, Failed, CommitDone}
 use Rattle.nfs_model.specs.Tree.{Affinity}
+use Rattle.nfs_model.specs.Types.{Answer, Readdir, ReaddirDone}
+use Rattle.nfs_model.specs.Serial.Starve.{takes_memory}
+use Rattle.nfs_model.specs.Work.{Starved}
+use Rattle.std.specs.Prelude.{IsTrue}
 use Rattle.nfs_model.specs.Server.{FileNode, Node, File, Directory, VolumeState, most_bytes}
 use Rattle.nfs_model.specs.Shown.{shown, before_of, wcc}
 use Rattle.nfs_model.specs.Locate.{Effect, Fails, Tells, on_file}
@@ -16,12 +20,12 @@ use Rattle.held_state.specs.WellFormed.{WellFormed}
 use Rattle.held_state.specs.Jobs.{Replied}
 use Rattle.held_state.specs.Lenses.{LogicalSet, logical_lens}
 use Rattle.held_state.specs.Promises.{RightOnVolume}
-use Rattle.held_state.specs.Calls.{ServesOn, answer_of, volume_left}
+use Rattle.held_state.specs.Calls.{ServesOn, WorksOn, answer_of, answer_on, volume_left}
 use Rattle.held_state.specs.Changes.{shown_inode}
 use Rattle.held_attributes.specs.lemmas.Getting.{node-at, node-shown}
 use Rattle.held_names.specs.Answers.{is_bad_cookie, readdir_answer, file_committed, inode_committed, commit_answer}
 use Rattle.held_names.specs.Laws.{readdir_call, commit_call}
-use Rattle.held_names.specs.lemmas.Telling.{tells-right}
+use Rattle.held_names.specs.lemmas.Telling.{tells-right, starves-right}
 use Rattle.held_names.specs.lemmas.Folders.{directory-stays, folder_at, folder-told, folder-shown}
 
 -- ---- READDIR
@@ -47,18 +51,34 @@ listing-told : (b : Bool) (count : ℕ) (mine theirs : Shown) (remaining : List 
 listing-told true count mine theirs remaining e = refl
 listing-told false count mine theirs remaining e = ap (λ (s : Shown). answer_of 1 (readdir_from count s remaining)) (sym e)
 
-pub readdir-right : (v fileid : ℕ) (handle : List ℕ) (node : Affinity) (cookie : ℕ) (verifier : List ℕ) (count : ℕ) (set : LogicalSet)
-    → RightOnVolume v logical_lens (ServesOn (readdir_call handle node fileid cookie verifier count) false) [] [] set
-    (Replied (Success (readdir_answer v fileid cookie verifier count set))) set
-readdir-right v fileid handle node cookie verifier count =
-    tells-right v (readdir_call handle node fileid cookie verifier count) (λ n s. readdir_answer n fileid cookie verifier count s) (λ p. refl) (λ p. refl)
-    (λ p. directory-stays (volume_of p) (get (volume_of p).nodes fileid) _ (λ d.
-    listing-stays (volume_of p) (is_bad_cookie cookie verifier) (min count most_bytes) (shown (volume_of p) fileid (Directory d))
-    (above_cookie cookie (all_listed fileid d))))
-    (λ p well. folder-told p fileid _ _ (λ inode parent subs there is.
-    listing-told (is_bad_cookie cookie verifier) (min count most_bytes) (shown_inode p.number fileid inode None)
-    (shown (volume_of p) fileid (Directory (folder_at p fileid inode parent)))
-    (above_cookie cookie (all_listed fileid (folder_at p fileid inode parent))) (folder-shown p fileid well inode parent subs there is)))
+module _ (v fileid : ℕ) (handle : List ℕ) (node : Affinity) (cookie : ℕ) (verifier : List ℕ) (count : ℕ) where
+  -- by the directory's inode and entries
+  readdir-told : (p : VolumeContents) → WellFormed p
+      → readdir_answer p.number fileid cookie verifier count (logical_lens.of p) ≡ answer_on (readdir_call handle node fileid cookie verifier count) p
+  readdir-told p well =
+      folder-told p fileid _ _ (λ inode parent subs there is.
+      listing-told (is_bad_cookie cookie verifier) (min count most_bytes) (shown_inode p.number fileid inode None)
+      (shown (volume_of p) fileid (Directory (folder_at p fileid inode parent)))
+      (above_cookie cookie (all_listed fileid (folder_at p fileid inode parent))) (folder-shown p fileid well inode parent subs there is))
+
+  pub readdir-right : (set : LogicalSet)
+      → RightOnVolume v logical_lens (ServesOn (readdir_call handle node fileid cookie verifier count) false) [] [] set
+      (Replied (Success (readdir_answer v fileid cookie verifier count set))) set
+  readdir-right =
+      tells-right v (readdir_call handle node fileid cookie verifier count) (λ n s. readdir_answer n fileid cookie verifier count s) (λ p. refl) (λ p. refl)
+      (λ p. directory-stays (volume_of p) (get (volume_of p).nodes fileid) _ (λ d.
+      listing-stays (volume_of p) (is_bad_cookie cookie verifier) (min count most_bytes) (shown (volume_of p) fileid (Directory d))
+      (above_cookie cookie (all_listed fileid d))))
+      readdir-told
+
+  -- memory may run out where it would list
+  pub readdir-starves : (set : LogicalSet) (directory : Shown) (page : List Listed) (eof : Bool)
+      → readdir_answer v fileid cookie verifier count set ≡ ReaddirDone directory page eof
+      → RightOnVolume v logical_lens (WorksOn (readdir_call handle node fileid cookie verifier count)) [] [] set Starved set
+  readdir-starves set directory page eof lists =
+      starves-right v (readdir_call handle node fileid cookie verifier count) (λ n s. readdir_answer n fileid cookie verifier count s) (λ p. refl)
+      readdir-told set (λ server answer is.
+      subst (λ (a : Answer). IsTrue (takes_memory server (Readdir handle cookie verifier count) a)) (sym lists ∙ is) refl)
 
 -- ---- COMMIT
 

@@ -1,5 +1,5 @@
 use Rattle.held_names.specs.lemmas.Lookup.{lookup-right}
-use Rattle.held_names.specs.lemmas.Listing.{readdir-right, commit-right}
+use Rattle.held_names.specs.lemmas.Listing.{readdir-right, readdir-starves, commit-right}
 use Rattle.held_names.proofs.laws.name_calls_are_right.Goals as goal
 
 pub returns-clause-lookup : goal.returns-clause-lookup
@@ -10,3 +10,8 @@ returns-clause-readdir c = λ v fileid handle node cookie verifier count set. re
 
 pub returns-clause-commit : goal.returns-clause-commit
 returns-clause-commit c = λ v fileid handle node set. commit-right v fileid handle node set
+
+pub returns-clause-starved : goal.returns-clause-starved
+returns-clause-starved c =
+    λ v fileid handle node cookie verifier count set directory page eof lists.
+    readdir-starves v fileid handle node cookie verifier count set directory page eof lists
