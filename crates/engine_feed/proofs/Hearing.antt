@@ -82,6 +82,8 @@ room-offered : (volumes : ℕ) (call : types.Call) → IsOffered call → reply_
 room-offered volumes types.Null o = omega arith
 room-offered volumes (types.Getattr handle) o = omega arith
 room-offered volumes (types.Lookup directory name) o = omega arith
+room-offered volumes (types.Readdir directory cookie verifier count) o = omega arith
+room-offered volumes (types.Commit handle) o = omega arith
 room-offered volumes call o = absurd o
 
 pub room-small : (volumes n : ℕ) (call : types.Call) → IsOffered call → n ≡ reply_room volumes call → n ≤ reply_limit

@@ -18,6 +18,8 @@ pub(crate) fn answer_at_once(call: &OfferedCall) -> Answer
         Call::Null => Answer::Null,
         Call::GetAttributes { .. } => Answer::GetAttributes(Err(Status::BadHandle)),
         Call::Lookup(_) => Answer::Lookup(Err(Status::BadHandle)),
+        Call::ReadDirectory { .. } => Answer::ReadDirectory(Err(Status::BadHandle)),
+        Call::Commit { .. } => Answer::Commit(Err(Status::BadHandle)),
         _ => unreachable!(),
     }
 }
