@@ -1,8 +1,9 @@
 -- A page is copied entry by entry.
-use Rattle.std.proofs.Common.{◌≡◌, refl, sym, ◌∙◌, ap, ℕ, zero, suc, ◌+◌, ◌-◌, ◌<◌, ◌≤◌, Bool}
-use Rattle.std.proofs.Common.{true, false, nat_le, List, [], ◌∷◌, ◌++◌, length, drop, Some, arith, add-one, append_assoc, if◌then◌else◌}
+use Rattle.std.proofs.Common.{◌≡◌, refl, sym, subst, ◌∙◌, ap, ℕ, zero, suc, ◌+◌, ◌-◌, ◌<◌, ◌≤◌, Bool}
+use Rattle.std.proofs.Common.{true, false, nat_le, List, [], ◌∷◌, ◌++◌, length, drop, Some, arith, add-one, append_assoc, if◌then◌else◌, Result, Ok, Err}
 use Rattle.std.proofs.lemmas.Bool.Decides.{nat_tests}
 use Rattle.std.proofs.lemmas.List.{append-nil}
+use Rattle.std.specs.Prelude.{OnErr}
 use Rattle.std.specs.List.{slice_get}
 use Rattle.nfs_model.specs.Types.{Listed}
 use Rattle.nfs_model.specs.Serial.Readdir.{entry_size, fitting}
@@ -48,6 +49,24 @@ one-copied copied left i es room e x size h g s f same =
     ap (λ d. fitting left d) (drop-at es i e g) ∙ (fits-one left e rest (omega (arith, s, f)) ∙ ap (λ n. e ∷ fitting (left - n) rest) (sym s)) in
     rw (add-one, listed-append copied (x ∷ []), append_assoc)
     (ap (λ y. listed copied ++ y ∷ fitting (left - size) rest) same ∙ (ap (λ l. listed copied ++ l) (sym head) ∙ h))
+
+-- a page has an entry where one fits after some
+pub some-fit : (copied : List Entry) (left i : ℕ) (es : List Listed) (room : ℕ) (e : Listed) (size : ℕ) → SoFar copied left i es room
+    → slice_get es i ≡ Some e → size ≡ entry_size e → size ≤ left → 0 < length (fitting room es)
+some-fit copied left i es room e size h g s f =
+    let rest = drop (suc i) es in
+    let head : fitting left (drop i es) ≡ e ∷ fitting (left - entry_size e) rest =
+    ap (λ d. fitting left d) (drop-at es i e g) ∙ fits-one left e rest (omega (arith, s, f)) in
+    subst (λ (l : List Listed). 0 < length l) (ap (λ l. listed copied ++ l) (sym head) ∙ h)
+    (positive (listed copied) (fitting (left - entry_size e) rest))
+  where
+    positive : (xs ys : List Listed) → 0 < length (xs ++ e ∷ ys)
+    positive [] ys = omega arith
+    positive (x ∷ xs) ys = omega arith
+
+pub on-error : {A E P : Type 0} (r : Result A E) → P → OnErr r P
+on-error (Ok x) p = tt
+on-error (Err x) p = p
 
 pub full-page : (copied : List Entry) (left i : ℕ) (es : List Listed) (room : ℕ) (e : Listed) (size : ℕ) → SoFar copied left i es room
     → slice_get es i ≡ Some e → size ≡ entry_size e → left < size → listed copied ≡ fitting room es

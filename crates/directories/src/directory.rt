@@ -151,9 +151,11 @@ impl Directory {
 
     /// The entries after a cookie, as many as fit into a number of bytes, and whether none
     /// remains after them. An entry takes 24 bytes and its name, padded to a multiple of 4
-    /// (entry3 with the mark of another item, RFC 1813 section 3.3.16).
+    /// (entry3 with the mark of another item, RFC 1813 section 3.3.16). Memory runs out only where
+    /// an entry fits.
     pub fn page(&self, alloc: Global, cookie: Cookie, room: usize) -> Result<Page, AllocError>
-        ensures { IfOk result (λ p. page_value p ≡ page self.now cookie.0 room) }
+        ensures ok { IfOk result (λ p. page_value p ≡ page self.now cookie.0 room) }
+        ensures err { OnErr result (0 < length (page self.now cookie.0 room).entries) }
     {
         self.entries.page(alloc, cookie, room)
     }

@@ -125,9 +125,11 @@ impl Entries {
         self.vacant = slot;
     }
 
-    /// The entries after a cookie, as many as fit into a number of bytes.
+    /// The entries after a cookie, as many as fit into a number of bytes. Memory runs out only
+    /// where one fits.
     pub fn page(&self, alloc: Global, cookie: Cookie, room: usize) -> Result<Page, AllocError>
-        ensures { IfOk result (λ p. page_value p ≡ page self.now cookie.0 room) }
+        ensures ok { IfOk result (λ p. page_value p ≡ page self.now cookie.0 room) }
+        ensures err { OnErr result (0 < length (page self.now cookie.0 room).entries) }
     {
         let after = place_after(&self.slots, &self.order, cookie);
         let (_, remaining) = self.order.split_at(after);
@@ -180,7 +182,8 @@ fn place_after(slots: &[Slot], order: &[u32], cookie: Cookie) -> usize
     low
 }
 
-/// Copies the entries of these slots that fit into a number of bytes.
+/// Copies the entries of these slots that fit into a number of bytes. Memory runs out only where
+/// one fits.
 fn copy_fitting(
     alloc: Global,
     slots: &[Slot],
@@ -188,7 +191,9 @@ fn copy_fitting(
     room: usize,
 ) -> Result<Vec<Entry>, AllocError>
     requires { AllByRecursion (λ s. is_some (in_slot slots.now s) ≡ true) order.now }
-    ensures { IfOk result (λ v. listed v.items ≡ fitting room (in_order slots.now order.now)) }
+    ensures ok { IfOk result (λ v.
+        listed v.items ≡ fitting room (in_order slots.now order.now)) }
+    ensures err { OnErr result (0 < length (fitting room (in_order slots.now order.now))) }
 {
     let mut copied = Vec::new(alloc);
     let mut left = room;

@@ -16,6 +16,7 @@ use crate::worker::{Running, Worker, set_worker, take_worker};
 use desk::{Desk, ParcelKinds};
 use rpc_msg::{replies_fit, servers_are_roomy};
 use service::{Outcome, Run, Service};
+use std::alloc::Global;
 
 /// What is told of work that came to this.
 fn done_of(outcome: &Outcome) -> Done
@@ -36,7 +37,12 @@ fn has_eight(bytes: [u8; 8])
 {}
 
 /// Runs the call of a message on what its worker was lent.
-fn run_on(desk: &mut Desk<Service, ParcelKinds>, worker: usize, running: &Running) -> Outcome
+fn run_on(
+    alloc: Global,
+    desk: &mut Desk<Service, ParcelKinds>,
+    worker: usize,
+    running: &Running,
+) -> Outcome
     requires kept { IsKept desk.old }
     requires may { MayWork (AsksFor running.now.message.call) (books desk.old) worker }
     ensures kept { IsKept desk.new }
@@ -44,6 +50,7 @@ fn run_on(desk: &mut Desk<Service, ParcelKinds>, worker: usize, running: &Runnin
         (books desk.new) }
 {
     let call = Run {
+        alloc,
         call: running.message.call.as_call(),
         credential: running.message.credential,
         moment: running.moment,
@@ -64,7 +71,7 @@ pub(crate) fn work(state: &mut State, worker: usize) -> Result<Done, Refusal>
     let Some(Worker::Begun(running)) = state.workers.get(worker) else {
         return Err(Refusal::NoWork);
     };
-    let outcome = run_on(&mut state.desk, worker, running);
+    let outcome = run_on(state.alloc, &mut state.desk, worker, running);
     let done = done_of(&outcome);
     let running = match take_worker(&mut state.workers, worker) {
         Worker::Begun(running) => running,

@@ -81,6 +81,9 @@ at-once calls calls' c c' origin call credential answer law h a f setup v k p =
 room-offered : (volumes : ℕ) (call : types.Call) → IsOffered call → reply_room volumes call ≤ reply_limit
 room-offered volumes types.Null o = omega arith
 room-offered volumes (types.Getattr handle) o = omega arith
+room-offered volumes (types.Lookup directory name) o = omega arith
+room-offered volumes (types.Readdir directory cookie verifier count) o = omega arith
+room-offered volumes (types.Commit handle) o = omega arith
 room-offered volumes call o = absurd o
 
 pub room-small : (volumes n : ℕ) (call : types.Call) → IsOffered call → n ≡ reply_room volumes call → n ≤ reply_limit

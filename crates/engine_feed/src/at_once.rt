@@ -17,6 +17,9 @@ pub(crate) fn answer_at_once(call: &OfferedCall) -> Answer
     match call.as_call() {
         Call::Null => Answer::Null,
         Call::GetAttributes { .. } => Answer::GetAttributes(Err(Status::BadHandle)),
+        Call::Lookup(_) => Answer::Lookup(Err(Status::BadHandle)),
+        Call::ReadDirectory { .. } => Answer::ReadDirectory(Err(Status::BadHandle)),
+        Call::Commit { .. } => Answer::Commit(Err(Status::BadHandle)),
         _ => unreachable!(),
     }
 }

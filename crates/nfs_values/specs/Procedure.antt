@@ -30,5 +30,8 @@ numbers_of Grow = (0x20000001, 2)
 abbrev pub is_offered : Procedure → Bool
 is_offered Null = true
 is_offered GetAttributes = true
+is_offered Lookup = true
+is_offered ReadDirectory = true
+is_offered Commit = true
 is_offered AdminNull = true
 is_offered p = false

@@ -81,7 +81,12 @@ impl Procedure {
     {
         matches!(
             self,
-            Procedure::Null | Procedure::GetAttributes | Procedure::AdminNull
+            Procedure::Null
+                | Procedure::GetAttributes
+                | Procedure::Lookup
+                | Procedure::ReadDirectory
+                | Procedure::Commit
+                | Procedure::AdminNull
         )
     }
 

@@ -1,5 +1,3 @@
-mod Latest
 mod Getting
-mod Taking
 mod Modes
 mod Runs

@@ -1,23 +1,16 @@
 -- GETATTR on the parcels of a volume (RFC 1813 section 3.3.1).
-use Rattle.std.specs.Prelude.{ℕ, ◌≤◌, false, Result, List, [], IfSome}
+use Rattle.std.specs.Prelude.{ℕ, false, Result, List, []}
 use Rattle.nfs_model.specs.Types.{Success}
 use Rattle.nfs_model.specs.Tree.{Logical}
-use Rattle.nfs_model.specs.Server.{most_inodes}
 use Rattle.nfs_values.specs.Answer.{answer_of}
 use Rattle.nfs_values.specs.declared.answer.Answer.TheVariants.{GetAttributes}
 use Rattle.nfs_values.specs.declared.attributes.Attributes.{Attributes}
 use Rattle.nfs_values.specs.declared.status.Status.{Status}
-use Rattle.volume_values.specs.Inodes.{InodeKind}
-use Rattle.held_state.specs.Names.{subdirectories_in}
 use Rattle.held_state.specs.Lenses.{LogicalSet, logical_lens}
 use Rattle.held_state.specs.Promises.{RightOnVolume}
 use Rattle.held_state.specs.Jobs.{Replied}
 use Rattle.held_state.specs.Calls.{ServesOn}
 use Rattle.held_attributes.specs.Laws.{getattr_call}
-
--- no more subdirectories than a volume has inodes at most
-abbrev pub HasFewLinks : InodeKind → Type 0
-HasFewLinks kind = IfSome (subdirectories_in kind) (λ subdirectories. subdirectories ≤ most_inodes)
 
 -- An entry of GETATTR of a fileid under Logical, with this result, is right: by whatever handle, and whatever the rest of the
 -- volume is.

@@ -4,9 +4,12 @@ use Rattle.nfs_model.specs.Types as types
 use Rattle.nfs_model.specs.Types.{Ask, Credential, Moment, Stale}
 use Rattle.nfs_model.specs.Tree.{Layout, Affinity}
 use Rattle.nfs_model.specs.Home.{home, named_by}
-use Rattle.nfs_model.specs.Locate.{Effect, Fails}
+use Rattle.nfs_model.specs.Locate.{Effect, Fails, on_name}
 use Rattle.nfs_model.specs.Serial.Getattr.{getattr}
 use Rattle.nfs_model.specs.Serial.Setattr.{setattr}
+use Rattle.nfs_model.specs.Serial.Commit.{commit}
+use Rattle.nfs_model.specs.Serial.Lookup.{lookup}
+use Rattle.nfs_model.specs.Serial.Readdir.{readdir}
 use Rattle.nfs_model.specs.Server.{Named, VolumeState}
 use Rattle.nfs_model.specs.Work as works
 use Rattle.affinity_tree.specs.Affinity.{affinity_of}
@@ -15,7 +18,7 @@ use Rattle.nfs_values.specs.Call.{call_of}
 use Rattle.nfs_values.specs.Reply.{reply_of}
 use Rattle.nfs_values.specs.Set.{set_of}
 use Rattle.nfs_values.specs.declared.call.Call.{Call}
-use Rattle.nfs_values.specs.declared.call.Call.TheVariants.{GetAttributes, SetAttributes}
+use Rattle.nfs_values.specs.declared.call.Call.TheVariants.{GetAttributes, SetAttributes, Lookup, ReadDirectory, Commit}
 use Rattle.nfs_values.specs.declared.set.SetAttributes as sets
 use Rattle.held_state.specs.Calls.{VolumeCall, handle_in}
 use Rattle.held_state.specs.Parcels.{FilerParcel}
@@ -37,10 +40,13 @@ outcome_of (Moved affinity) = works.Moved (affinity_of affinity)
 abbrev pub IsModeAlone : sets.SetAttributes → Type 0
 IsModeAlone set = (mode : ℕ) × (set_of set ≡ only_mode mode)
 
--- The calls that are run so far: GETATTR, and SETATTR of the mode, which no client is served.
+-- The calls that are run so far: GETATTR, LOOKUP, READDIR and COMMIT, and SETATTR of the mode, which no client is served.
 abbrev pub IsRun : Call → Type 0
 IsRun (GetAttributes handle) = Unit {0}
 IsRun (SetAttributes handle set guard) = IsModeAlone set
+IsRun (Lookup target) = Unit {0}
+IsRun (ReadDirectory directory cookie verifier count) = Unit {0}
+IsRun (Commit handle) = Unit {0}
 IsRun call = ⊥
 
 -- the fileid that a handle names
@@ -52,6 +58,9 @@ fileid_in (Some named) = named.fileid
 abbrev pub procedure : types.Call → Moment → VolumeState → ℕ → Effect
 procedure (types.Getattr handle) moment = getattr
 procedure (types.Setattr handle set guard) moment = setattr set guard moment
+procedure (types.Lookup directory name) moment = on_name name moment lookup
+procedure (types.Readdir directory cookie verifier count) moment = readdir cookie verifier count
+procedure (types.Commit handle) moment = commit
 procedure call moment = λ volume fileid. Fails Stale
 
 -- a call on a handle, as it is asked of a volume under a node

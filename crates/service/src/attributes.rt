@@ -11,11 +11,10 @@ ghost use Rattle.service.specs.Getattr.{TellsAttributes};
 ghost use Rattle.service.specs.Setattr.{only_mode, SetsAttributes};
 
 use crate::setting::{is_stale_guard, set_inode, with_mode};
-use crate::shown::{prior, shown};
-use crate::touches::{latest_touch, take_touches};
 use nfs_values::{Attributes, Change, Fileid, Moment, Status, VolumeNumber};
 use parcel_sets::LogicalHeld;
 use parcels::Files;
+use service_names::{latest_touch, prior, shown, take_touches};
 
 /// GETATTR (RFC 1813 section 3.3.1), on the parcels of a volume's names and attributes: the
 /// attributes of the node of a fileid, or STALE where there is none. It takes no memory.

@@ -9,9 +9,7 @@ mod machine;
 mod outcome;
 mod run;
 mod setting;
-mod shown;
 mod task;
-mod touches;
 
 pub use attributes::{get_attributes, set_mode};
 pub use batch::BatchInHand;

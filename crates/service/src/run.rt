@@ -17,18 +17,25 @@ ghost use Rattle.held_state.specs.Lenses.{logical_lens};
 ghost use Rattle.held_state.specs.Promises.{HasVolume};
 ghost use Rattle.held_state.specs.Running.{RunsOn, UnlessReplied};
 ghost use Rattle.held_state.specs.Sets.{logical_before, logical_after};
+ghost use Rattle.service_names.specs.Promises.{listing_outcome};
 ghost use Rattle.service.specs.Running.{call_on, outcome_of, IsModeAlone, IsRun};
 
 use crate::attributes::{get_attributes, set_mode};
 use crate::outcome::Outcome;
 use affinity::named_by;
 use affinity_tree::{Affinity, Layout};
-use nfs_values::{Answer, Call, FileHandle, Moment, Named, Reply, SetAttributes};
+use nfs_values::{
+    Answer, Call, FileHandle, Moment, Named, ReadDirectoryResults, Reply, SetAttributes, Status,
+};
 use parcel_sets::LogicalHeld;
 use parcels::Files;
+use service_names::{PageAsked, commit, lookup, read_directory};
+use std::alloc::{AllocError, Global};
 
-/// Runs a call on the parcels of the names and attributes of its volume, its home.
+/// Runs a call on the parcels of the names and attributes of its volume, its home. Of the calls
+/// that are run so far READDIR alone takes memory.
 pub fn run_on_logical(
+    alloc: Global,
     layout: &Layout,
     affinity: Affinity,
     held: &mut LogicalHeld<Files>,
@@ -59,7 +66,42 @@ pub fn run_on_logical(
             let told = set_mode(held, named.volume, named.fileid, mode, *guard, moment);
             Outcome::Replied(Reply::Success(Answer::SetAttributes(told)))
         }
+        Call::Lookup(target) => {
+            let named = named_here(layout, affinity, &target.directory);
+            let told = lookup(held, named.volume, named.fileid, target.name.as_bytes());
+            Outcome::Replied(Reply::Success(Answer::Lookup(told)))
+        }
+        Call::ReadDirectory {
+            directory,
+            cookie,
+            verifier,
+            count,
+        } => {
+            let named = named_here(layout, affinity, directory);
+            let asked = PageAsked {
+                cookie: *cookie,
+                verifier: *verifier,
+                count: *count,
+            };
+            let listed = read_directory(alloc, held, named.volume, named.fileid, asked);
+            outcome_listed(listed)
+        }
+        Call::Commit { handle } => {
+            let named = named_here(layout, affinity, handle);
+            let told = commit(held, named.volume, named.fileid);
+            Outcome::Replied(Reply::Success(Answer::Commit(told)))
+        }
         _ => unreachable!(),
+    }
+}
+
+/// What a READDIR comes to.
+fn outcome_listed(listed: Result<Result<ReadDirectoryResults, Status>, AllocError>) -> Outcome
+    ensures { outcome_of result ≡ listing_outcome listed }
+{
+    match listed {
+        Ok(told) => Outcome::Replied(Reply::Success(Answer::ReadDirectory(told))),
+        Err(AllocError) => Outcome::Starved,
     }
 }
 

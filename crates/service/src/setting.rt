@@ -10,11 +10,11 @@ ghost use Rattle.held_state.specs.Sets.{logical_before};
 ghost use Rattle.held_state.specs.Tree.{file_touch};
 ghost use Rattle.service.specs.Setattr.{only_mode, ctime_now, with_inode};
 
-use crate::touches::{is_same, latest_touch};
 use inodes::{Inode, InodeKind, StoredAttributes};
 use nfs_values::{Fileid, Moment};
 use parcel_sets::LogicalHeld;
 use parcels::Files;
+use service_names::{is_same, latest_touch};
 
 /// The attributes of a node as they hold, where this is its file's latest touch; a directory has
 /// none.

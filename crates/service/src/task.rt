@@ -9,10 +9,13 @@ use parcel_sets::{
     AggrHeld, LogicalHeld, Parcel, RangeHeld, SerialHeld, StripeHeld, VbnHeld, VolumeHeld,
 };
 use parcels::Files;
+use std::alloc::Global;
 
 /// A call to be run under its home, as a task on the parcels of the node.
 #[derive(Clone, Copy)]
 pub struct Run<'a> {
+    /// Where replies take memory.
+    pub alloc: Global,
     pub call: &'a Call,
     /// Whom it acts for.
     pub credential: Credential,
@@ -49,7 +52,7 @@ impl<'a> Task<Parcel<Files>, ParcelKinds> for Run<'a> {
         affinity: Affinity,
         held: &mut LogicalHeld<Files>,
     ) -> Outcome {
-        run_on_logical(layout, affinity, held, self.call, self.moment)
+        run_on_logical(self.alloc, layout, affinity, held, self.call, self.moment)
     }
 
     fn on_volume(self, _: &Layout, _: Affinity, _: &mut VolumeHeld<Files>) -> Outcome {

@@ -36,6 +36,7 @@ pub fn open(
 /// A call whose home is Volume Logical, as one entry of the depot's history. Nothing where it has
 /// no such home, where its parcels weren't granted, where it has to move, or where memory ran out.
 pub fn serve(
+    alloc: Global,
     depot: &Depot<Service>,
     seat: &mut Seat<Service>,
     asker: Asker,
@@ -55,7 +56,14 @@ pub fn serve(
     let Ok(mut grant) = depot.begin::<LogicalNode>(seat, affinity) else {
         return None;
     };
-    match run_on_logical(depot.layout(), affinity, grant.held(), &call, asker.moment) {
+    match run_on_logical(
+        alloc,
+        depot.layout(),
+        affinity,
+        grant.held(),
+        &call,
+        asker.moment,
+    ) {
         Outcome::Replied(reply) => {
             let job = finished(asker, call, affinity);
             let reply = JobReply::Replied(reply);

@@ -73,6 +73,12 @@ run-is-call layout v (calls.GetAttributes handle) credential moment run is =
     on-handle layout v (types.Getattr handle) credential moment is is (λ server. refl)
 run-is-call layout v (calls.SetAttributes handle set guard) credential moment run is =
     on-handle layout v (call_of (calls.SetAttributes handle set guard)) credential moment is is (λ server. refl)
+run-is-call layout v (calls.Lookup target) credential moment run is =
+    on-handle layout v (call_of (calls.Lookup target)) credential moment is is (λ server. refl)
+run-is-call layout v (calls.ReadDirectory directory cookie verifier count) credential moment run is =
+    on-handle layout v (call_of (calls.ReadDirectory directory cookie verifier count)) credential moment is is (λ server. refl)
+run-is-call layout v (calls.Commit handle) credential moment run is =
+    on-handle layout v (types.Commit handle) credential moment is is (λ server. refl)
 run-is-call layout v call credential moment run is = absurd run
 
 -- ---- its home
@@ -84,6 +90,9 @@ logical-there (Some n) a e = let at : Logical n.volume ≡ a = cc in sym at ∙ 
 pub run-home : (layout : Layout) (a : Affinity) (call : Call) → IsRun call → home layout (call_of call) ≡ Some a → a ≡ Logical (volume_of a)
 run-home layout a (calls.GetAttributes handle) run is = logical-there (named_by layout handle) a is
 run-home layout a (calls.SetAttributes handle set guard) run is = logical-there (named_by layout handle) a is
+run-home layout a (calls.Lookup target) run is = logical-there (named_by layout target.directory) a is
+run-home layout a (calls.ReadDirectory directory cookie verifier count) run is = logical-there (named_by layout directory) a is
+run-home layout a (calls.Commit handle) run is = logical-there (named_by layout handle) a is
 run-home layout a call run is = absurd run
 
 -- ---- the run
@@ -128,6 +137,9 @@ never-moves : (layout : Layout) (a : Affinity) (moment : Moment) (call : Call) �
     → move_on (call_on layout a moment (call_of call)) p ≡ None
 never-moves layout a moment (calls.GetAttributes handle) run p = refl
 never-moves layout a moment (calls.SetAttributes handle set guard) run p = refl
+never-moves layout a moment (calls.Lookup target) run p = refl
+never-moves layout a moment (calls.ReadDirectory directory cookie verifier count) run p = refl
+never-moves layout a moment (calls.Commit handle) run p = refl
 never-moves layout a moment call run p = absurd run
 
 -- a call that was run on a part of its volume is run where it moves

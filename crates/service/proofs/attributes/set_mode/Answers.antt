@@ -9,9 +9,9 @@ use Rattle.volume_values.specs.Logical.{LogicalValue}
 use Rattle.inodes.specs.Inode.{inode_value}
 use Rattle.held_state.specs.Changes.{shown_inode, inode_after}
 use Rattle.held_state.specs.Sets.{logical_before}
-use Rattle.service.specs.Getattr.{HasFewLinks}
+use Rattle.service_names.specs.Shown.{HasFewLinks}
 use Rattle.service.specs.Setattr.{only_mode}
-use Rattle.service.proofs.Getting.{whole-links}
+use Rattle.service_names.specs.lemmas.Whole.{whole-links}
 use Rattle.service.proofs.Modes.{whole-used, node-set-by, sets-stale, sets-none, sets-mode}
 use Rattle.service.proofs.attributes.set_mode.Goals as goal
 

@@ -18,7 +18,7 @@ use parcels::Files;
 use stripe_cards::Card;
 
 /// The latest touch of a file in the stripes of its volume.
-pub(crate) fn latest_touch(held: &LogicalHeld<Files>, fileid: Fileid) -> Option<Moment>
+pub fn latest_touch(held: &LogicalHeld<Files>, fileid: Fileid) -> Option<Moment>
     requires few { held.now.own.stripes ≤ 16 }
     ensures { option_map moment_of result
         ≡ file_touch (logical_before held.now).stripes fileid.0 }
@@ -34,7 +34,7 @@ pub(crate) fn latest_touch(held: &LogicalHeld<Files>, fileid: Fileid) -> Option<
 
 /// Takes the touches of a file in the stripes of its volume, and tells the latest. It takes no
 /// memory.
-pub(crate) fn take_touches(held: &mut LogicalHeld<Files>, fileid: Fileid) -> Option<Moment>
+pub fn take_touches(held: &mut LogicalHeld<Files>, fileid: Fileid) -> Option<Moment>
     requires few { held.old.own.stripes ≤ 16 }
     ensures latest { option_map moment_of result
         ≡ file_touch (logical_before held.old).stripes fileid.0 }
@@ -106,7 +106,7 @@ fn later(one: Option<Moment>, other: Option<Moment>) -> Option<Moment>
 }
 
 /// Whether two moments are one.
-pub(crate) fn is_same(one: Moment, other: Moment) -> bool
+pub fn is_same(one: Moment, other: Moment) -> bool
     ensures { result ≡ same_moment (moment_of one) (moment_of other) }
 {
     one.seconds == other.seconds && one.nanoseconds == other.nanoseconds

@@ -1,8 +1,8 @@
 use Rattle.std.proofs.Common.{◌≡◌, ◌≤◌}
 use Rattle.std.specs.Option.{option_map}
 use Rattle.nfs_values.specs.Moment.{moment_of}
-use Rattle.service.proofs.Taking.{AreTakenFrom}
-use Rattle.service.proofs.touches.take_touches.Given as goal
+use Rattle.service_names.proofs.Taking.{AreTakenFrom}
+use Rattle.service_names.proofs.touches.take_touches.Given as goal
 
 -- the touches of the stripes so far are taken
 abbrev pub invariant-loop-left : goal.invariant-loop-left

@@ -1,8 +1,8 @@
 use Rattle.std.proofs.Common.{arith, rules}
 use Rattle.std.specs.Option.{option_map}
 use Rattle.nfs_values.specs.Moment.{moment_of}
-use Rattle.service.proofs.Latest.{touch-place, touch-all}
-use Rattle.service.proofs.touches.latest_touch.Goals as goal
+use Rattle.service_names.proofs.Latest.{touch-place, touch-all}
+use Rattle.service_names.proofs.touches.latest_touch.Goals as goal
 
 pub loop-left-preserved : goal.loop-left-preserved
 loop-left-preserved c = (

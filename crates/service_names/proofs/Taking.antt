@@ -14,7 +14,7 @@ use Rattle.held_state.specs.Parcels.{no_stripe}
 use Rattle.held_state.specs.Tree.{file_touch, later}
 use Rattle.held_state.specs.Sets.{FilerStripe, stripe_value, placed, in_one}
 use Rattle.held_laws.specs.lemmas.Each.{each-same, each-map}
-use Rattle.service.proofs.Latest.{IsTouchFrom, none-from, touch-more}
+use Rattle.service_names.proofs.Latest.{IsTouchFrom, none-from, touch-more}
 
 -- an empty place stays as it is
 pub vacant-taken : {P : Type 0} (o p : Option (FilerStripe P)) (fileid : ℕ) → o ≡ None → p ≡ o → stripe_value p ≡ touch_taken fileid (stripe_value o)

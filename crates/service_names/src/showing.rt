@@ -8,13 +8,13 @@ ghost use Rattle.nfs_values.specs.Moment.{moment_of};
 ghost use Rattle.inodes.specs.Inode.{attributes_value, kind_value};
 ghost use Rattle.volume_values.specs.Inodes.{RegularFile};
 ghost use Rattle.held_state.specs.Changes.{shown_kind};
-ghost use Rattle.service.specs.Getattr.{HasFewLinks};
+ghost use Rattle.service_names.specs.Shown.{HasFewLinks};
 
 use inodes::{Inode, InodeKind, StoredAttributes};
 use nfs_values::{Attributes, FileKind, Fileid, Moment, PriorAttributes, VolumeNumber};
 
 /// The attributes of a node (fattr3, RFC 1813 section 2.6), where this is its file's latest touch.
-pub(crate) fn shown(
+pub fn shown(
     volume: VolumeNumber,
     fileid: Fileid,
     inode: Inode,
@@ -65,7 +65,7 @@ fn shown_empty(volume: VolumeNumber, fileid: Fileid, now: StoredAttributes) -> A
 }
 
 /// What is shown of attributes before a call (wcc_attr, RFC 1813 section 2.6).
-pub(crate) fn prior(shown: Attributes) -> PriorAttributes
+pub fn prior(shown: Attributes) -> PriorAttributes
     ensures { before_of result ≡ before_shown (shown_of shown) }
 {
     PriorAttributes {

@@ -2,8 +2,8 @@ use Rattle.std.proofs.Common.{◌≤◌}
 use Rattle.std.specs.Option.{option_map}
 use Rattle.nfs_values.specs.Moment.{moment_of}
 use Rattle.held_state.specs.Sets.{stripe_value, placed}
-use Rattle.service.proofs.Latest.{IsTouchFrom}
-use Rattle.service.proofs.touches.latest_touch.Given as goal
+use Rattle.service_names.proofs.Latest.{IsTouchFrom}
+use Rattle.service_names.proofs.touches.latest_touch.Given as goal
 
 -- the latest touch of the stripes so far
 abbrev pub invariant-loop-left : goal.invariant-loop-left

@@ -1,8 +1,8 @@
 use Rattle.std.proofs.Common.{arith, rules, refl, ◌≡◌, length}
 use Rattle.std.specs.Option.{option_map}
 use Rattle.nfs_values.specs.Moment.{moment_of}
-use Rattle.service.proofs.Taking.{place-taken, all-taken}
-use Rattle.service.proofs.touches.take_touches.Goals as goal
+use Rattle.service_names.proofs.Taking.{place-taken, all-taken}
+use Rattle.service_names.proofs.touches.take_touches.Goals as goal
 
 pub loop-left-preserved : goal.loop-left-preserved
 loop-left-preserved c = (

@@ -1,0 +1,5 @@
+-- Lemmas alone, which no reader has to believe: laws of calls on names, for proofs above.
+pub mod Telling
+pub mod Folders
+pub mod Lookup
+pub mod Listing

@@ -1,0 +1,5 @@
+mod Latest
+mod Taking
+mod Named
+mod Commits
+mod Lists

@@ -1,0 +1,104 @@
+use Rattle.std.proofs.Common.{sym, ap, ◌∙◌, Ok, Err, None}
+use Rattle.nfs_model.specs.Types.{Shown, ReaddirDone}
+use Rattle.nfs_model.specs.Serial.Readdir.{above_cookie}
+use Rattle.directories.specs.Entries.{listed, page_value}
+use Rattle.held_state.specs.Changes.{shown_inode}
+use Rattle.service_names.specs.Listing.{all_under}
+use Rattle.nfs_values.specs.declared.status.Status.TheVariants.{BadCookie, TooSmall}
+use Rattle.inodes.specs.Inode.{inode_value}
+use Rattle.held_state.specs.Sets.{logical_before}
+use Rattle.service_names.specs.lemmas.Whole.{whole-links}
+use Rattle.service_names.proofs.Lists.{lists, starves, listed_in, bad-cookie, good-cookie, page-nothing, page-some, page-fits, page-small}
+use Rattle.service_names.proofs.listing.read_directory.Goals as goal
+
+pub returns-in-Err : goal.returns-in-Err
+returns-in-Err c =
+    let v = c.args.volume.0 in
+    let fileid = c.args.directory.0 in
+    let set = logical_before c.args.held.now in
+    record { right = lists v fileid c.args.asked set (Err c.in-Err.status) (sym (c.in-Err.ensures.told (listed_in v fileid c.args.asked set))) }
+
+pub returns-then-is_bad_cookie : goal.returns-then-is_bad_cookie
+returns-then-is_bad_cookie c =
+    let v = c.args.volume.0 in
+    let fileid = c.args.directory.0 in
+    let set = logical_before c.args.held.now in
+    let folder = c.in-Ok.ensures.told (listed_in v fileid c.args.asked set) in
+    record {
+      right = lists v fileid c.args.asked set (Err BadCookie)
+          (sym (bad-cookie v fileid c.args.asked set (inode_value c.in-Ok.found.0) c.in-Ok.found.1.0 folder (sym c.is_bad_cookie.ensures ∙ c.if-is_bad_cookie.true)));
+    }
+
+pub returns-then-count-lt-PAGE_SIZE : goal.returns-then-count-lt-PAGE_SIZE
+returns-then-count-lt-PAGE_SIZE c =
+    let v = c.args.volume.0 in
+    let fileid = c.args.directory.0 in
+    let set = logical_before c.args.held.now in
+    let inode = inode_value c.in-Ok.found.0 in
+    let parent = c.in-Ok.found.1.0 in
+    let n = c.min-count.result in
+    let directory = shown_inode v fileid inode None in
+    let remaining = above_cookie c.args.asked.cookie.0 (all_under set.own fileid parent) in
+    let good = good-cookie v fileid c.args.asked set inode parent (c.in-Ok.ensures.told (listed_in v fileid c.args.asked set))
+    (sym c.is_bad_cookie.ensures ∙ c.if-is_bad_cookie.false) n c.min-count.ensures in
+    record { right = lists v fileid c.args.asked set (Err TooSmall) (sym (good ∙ page-small n directory remaining c.if-count-lt-PAGE_SIZE.true)) }
+
+pub returns-in_err-page : goal.returns-in_err-page
+returns-in_err-page c =
+    let v = c.args.volume.0 in
+    let fileid = c.args.directory.0 in
+    let set = logical_before c.args.held.now in
+    let inode = inode_value c.in-Ok.found.0 in
+    let parent = c.in-Ok.found.1.0 in
+    let n = c.min-count.result in
+    let directory = shown_inode v fileid inode None in
+    let remaining = above_cookie c.args.asked.cookie.0 (all_under set.own fileid parent) in
+    let good = good-cookie v fileid c.args.asked set inode parent (c.in-Ok.ensures.told (listed_in v fileid c.args.asked set))
+    (sym c.is_bad_cookie.ensures ∙ c.if-is_bad_cookie.false) n c.min-count.ensures in
+    record {
+      right = starves v fileid c.args.asked set c.from_residual.result c.from_residual.ensures.0 _ _ _
+          (good ∙ page-fits n directory remaining c.if-count-lt-PAGE_SIZE.false c.in_err-page.ensures.err);
+    }
+
+pub returns-then-tells_nothing : goal.returns-then-tells_nothing
+returns-then-tells_nothing c =
+    let v = c.args.volume.0 in
+    let fileid = c.args.directory.0 in
+    let set = logical_before c.args.held.now in
+    let inode = inode_value c.in-Ok.found.0 in
+    let parent = c.in-Ok.found.1.0 in
+    let n = c.min-count.result in
+    let directory = shown_inode v fileid inode None in
+    let remaining = above_cookie c.args.asked.cookie.0 (all_under set.own fileid parent) in
+    let good = good-cookie v fileid c.args.asked set inode parent (c.in-Ok.ensures.told (listed_in v fileid c.args.asked set))
+    (sym c.is_bad_cookie.ensures ∙ c.if-is_bad_cookie.false) n c.min-count.ensures in
+    record {
+      right = lists v fileid c.args.asked set (Err TooSmall)
+          (sym (good ∙ page-nothing n directory remaining (page_value c.in_ok-page.page) c.in_ok-page.ensures.ok
+          (sym c.tells_nothing.ensures ∙ c.if-tells_nothing.true)));
+    }
+
+pub shown-requires : goal.shown-requires
+shown-requires c = record {
+  few = whole-links c.args.volume.0 (logical_before c.args.held.now) c.requires.whole c.args.directory.0 (inode_value c.in-Ok.found.0) c.in-Ok.ensures.there;
+}
+
+pub returns : goal.returns
+returns c =
+    let v = c.args.volume.0 in
+    let fileid = c.args.directory.0 in
+    let set = logical_before c.args.held.now in
+    let inode = inode_value c.in-Ok.found.0 in
+    let parent = c.in-Ok.found.1.0 in
+    let n = c.min-count.result in
+    let directory = shown_inode v fileid inode None in
+    let remaining = above_cookie c.args.asked.cookie.0 (all_under set.own fileid parent) in
+    let good = good-cookie v fileid c.args.asked set inode parent (c.in-Ok.ensures.told (listed_in v fileid c.args.asked set))
+    (sym c.is_bad_cookie.ensures ∙ c.if-is_bad_cookie.false) n c.min-count.ensures in
+    record {
+      right = lists v fileid c.args.asked set
+          (Ok (record { directory = c.shown.result; entries = c.in_ok-page.page.entries; eof = c.in_ok-page.page.is_last }))
+          (ap (λ (s : Shown). ReaddirDone s (listed c.in_ok-page.page.entries.items) c.in_ok-page.page.is_last) c.shown.ensures
+          ∙ sym (good ∙ page-some n directory remaining (page_value c.in_ok-page.page) c.in_ok-page.ensures.ok c.if-count-lt-PAGE_SIZE.false
+          (sym c.tells_nothing.ensures ∙ c.if-tells_nothing.false)));
+    }

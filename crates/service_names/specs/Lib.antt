@@ -1,0 +1,4 @@
+pub mod Shown
+pub mod Listing
+pub mod Promises
+pub mod lemmas

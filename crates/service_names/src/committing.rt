@@ -1,0 +1,42 @@
+//! COMMIT.
+
+ghost use Rattle.std.specs.Prelude.{[]};
+ghost use Rattle.held_state.specs.Lenses.{logical_lens};
+ghost use Rattle.held_state.specs.Promises.{HasVolume};
+ghost use Rattle.held_state.specs.Sets.{logical_before};
+ghost use Rattle.service_names.specs.Promises.{Commits};
+
+use crate::showing::{prior, shown};
+use crate::touches::latest_touch;
+use inodes::InodeKind;
+use nfs_values::{Change, CommitResults, Fileid, Status, VolumeNumber};
+use parcel_sets::LogicalHeld;
+use parcels::Files;
+
+/// COMMIT (RFC 1813 section 3.3.21), on the parcels of a volume's names and attributes: STALE, or
+/// INVAL for a directory; else the attributes of a file and the verifier of writes, all of which
+/// are stable (our profile). It takes no memory.
+pub fn commit(
+    held: &LogicalHeld<Files>,
+    volume: VolumeNumber,
+    fileid: Fileid,
+) -> Result<CommitResults, Status>
+    requires whole { HasVolume volume.0 logical_lens [] (logical_before held.now) }
+    ensures right { Commits volume.0 fileid.0 (logical_before held.now) result }
+{
+    let inode = match held.own.get().inodes.get(fileid) {
+        Some(inode) => inode,
+        None => return Err(Status::Stale),
+    };
+    match inode.kind {
+        InodeKind::Directory { .. } => Err(Status::Invalid),
+        InodeKind::RegularFile { .. } => {
+            let after = shown(volume, fileid, inode, latest_touch(held, fileid));
+            let before = prior(after);
+            Ok(CommitResults {
+                file: Change { before, after },
+                verifier: held.own.get().verifier,
+            })
+        }
+    }
+}

@@ -1,0 +1,46 @@
+//! LOOKUP.
+
+ghost use Rattle.std.specs.Prelude.{◌≡◌, []};
+ghost use Rattle.held_state.specs.Lenses.{logical_lens};
+ghost use Rattle.held_state.specs.Promises.{HasVolume};
+ghost use Rattle.held_state.specs.Sets.{logical_before};
+ghost use Rattle.service_names.specs.Promises.{LooksUp};
+
+use crate::folder::folder_at;
+use crate::naming::{fileid_named, name_fault};
+use crate::showing::shown;
+use crate::touches::latest_touch;
+use nfs_values::{FileHandle, Fileid, LookupResults, Named, Status, VolumeNumber};
+use parcel_sets::LogicalHeld;
+use parcels::Files;
+
+/// LOOKUP (RFC 1813 section 3.3.3), on the parcels of a volume's names and attributes: STALE,
+/// NOTDIR, what is wrong with the name; the node that the name stands for in a directory, or NOENT
+/// where there is none. It takes no memory.
+pub fn lookup(
+    held: &LogicalHeld<Files>,
+    volume: VolumeNumber,
+    directory: Fileid,
+    name: &[u8],
+) -> Result<LookupResults, Status>
+    requires whole { HasVolume volume.0 logical_lens [] (logical_before held.now) }
+    ensures right { LooksUp volume.0 directory.0 name.now (logical_before held.now) result }
+{
+    let (inode, parent) = folder_at(held, directory)?;
+    if let Some(fault) = name_fault(name) {
+        return Err(fault);
+    }
+    let fileid = match fileid_named(held, directory, parent, name) {
+        Some(fileid) => fileid,
+        None => return Err(Status::NoEntry),
+    };
+    let object = match held.own.get().inodes.get(fileid) {
+        Some(object) => object,
+        None => return Err(Status::NoEntry),
+    };
+    Ok(LookupResults {
+        handle: FileHandle::naming(Named { volume, fileid }),
+        object: shown(volume, fileid, object, latest_touch(held, fileid)),
+        directory: shown(volume, directory, inode, None),
+    })
+}

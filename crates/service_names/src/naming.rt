@@ -1,0 +1,61 @@
+//! Names, and what they stand for.
+
+ghost use Rattle.std.specs.Prelude.{◌≡◌, ◌==◌, ◌||◌};
+ghost use Rattle.std.specs.List.{list_any};
+ghost use Rattle.std.specs.Option.{option_map};
+ghost use Rattle.nfs_model.specs.Names.{same_name, name_fault};
+ghost use Rattle.nfs_values.specs.Status.{status_of};
+ghost use Rattle.directories.specs.Index.{fileid_number};
+ghost use Rattle.held_names.specs.Answers.{entries_of, fileid_named};
+
+use nfs_values::{Fileid, Status};
+use parcel_sets::LogicalHeld;
+use parcels::Files;
+
+/// What is wrong with a name: NAMETOOLONG over 255 bytes; ACCES where it is empty, or has `/` or
+/// byte 0 (our profile).
+pub(crate) fn name_fault(name: &[u8]) -> Option<Status>
+    ensures { option_map status_of result ≡ name_fault name.now }
+{
+    if name.len() > 255 {
+        return Some(Status::NameTooLong);
+    }
+    if name.is_empty() || has_forbidden(name) {
+        return Some(Status::Access);
+    }
+    None
+}
+
+/// Whether bytes have `/` or byte 0 among them.
+fn has_forbidden(bytes: &[u8]) -> bool
+    ensures { result ≡ list_any (λ b. (b == 47) || (b == 0)) bytes.now }
+{
+    bytes.iter().any(|b| *b == b'/' || *b == 0)
+}
+
+/// The fileid that a name stands for in a directory with a parent: `.` is the directory, `..` its
+/// parent.
+pub(crate) fn fileid_named(
+    held: &LogicalHeld<Files>,
+    fileid: Fileid,
+    parent: Fileid,
+    name: &[u8],
+) -> Option<Fileid>
+    ensures { fileid_number result
+        ≡ fileid_named fileid.0 parent.0 (entries_of held.now.own fileid.0) name.now }
+{
+    if is_same_name(name, b".") {
+        return Some(fileid);
+    }
+    if is_same_name(name, b"..") {
+        return Some(parent);
+    }
+    held.own.get().directories.get(fileid)?.find(name)
+}
+
+/// Whether two names, or any two lists of bytes, are one.
+pub(crate) fn is_same_name(name: &[u8], other: &[u8]) -> bool
+    ensures { result ≡ same_name name.now other.now }
+{
+    name == other
+}
