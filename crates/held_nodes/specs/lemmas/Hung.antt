@@ -11,13 +11,15 @@ use Rattle.volume_values.specs.Directories.{DirectoryValue, added, entry_added}
 use Rattle.volume_values.specs.Inodes.{InodeKind, RegularFile, Folder, Inode, InodesValue, inode_of, inode_set}
 use Rattle.volume_values.specs.lemmas.Inodes.{inode-set-there, inode-set-other}
 use Rattle.volume_values.specs.lemmas.Numbered.{get-insert_at, itself}
-use Rattle.held_state.specs.Names.{root, InodeMap, DirectoryMap, parent_in, parent_directory, subdirectories_in, subdirectories_of}
+use Rattle.held_state.specs.Names.{root, DirectoryMap, parent_in, parent_directory, subdirectories_in, subdirectories_of}
 use Rattle.held_state.specs.Names.{is_folder, parent_or, times_in_list, times_named, is_named, folders_listed, directory_above, DirectoryFits}
 use Rattle.held_state.specs.Names.{ReachesRoot, AreNamed}
 use Rattle.held_laws.specs.lemmas.Mapped.{entry-at-least}
 use Rattle.held_nodes.specs.Making.{folders_in, with_subdirectories}
 use Rattle.held_nodes.specs.Moving.{Naming, dated_inode, with_parent, node_hung, inodes_hung, entries_hung}
 use Rattle.held_nodes.specs.Laws.{MayHang}
+use Rattle.held_nodes.specs.lemmas.Others as others
+use Rattle.held_nodes.specs.lemmas.Others.{IsChildOf}
 use Rattle.held_nodes.specs.lemmas.Summed.{total-set}
 use Rattle.held_nodes.specs.lemmas.Listing.{count-more, all-more, added-is}
 use Rattle.held_nodes.specs.lemmas.Named.{parent-kept, counted-more}
@@ -64,15 +66,7 @@ module _ (old : InodesValue) (directories : DirectoryMap) (m : Naming) (touch : 
   hung-other q ne other = inode-set-other between m.fileid (node_hung m touch) q other ∙ inode-set-other old m.directory dated q ne
 
   pub by-fileid : (P : ℕ → Type 0) → P m.directory → P m.fileid → ((q : ℕ) → (q == m.directory) ≡ false → (q == m.fileid) ≡ false → P q) → (q : ℕ) → P q
-  by-fileid P one two three q = first (q == m.directory) refl
-    where
-      second : (b : Bool) → (q == m.fileid) ≡ b → (q == m.directory) ≡ false → P q
-      second true e ne = subst P (sym (eqb-true q m.fileid e)) two
-      second false e ne = three q ne e
-
-      first : (b : Bool) → (q == m.directory) ≡ b → P q
-      first true e = subst P (sym (eqb-true q m.directory e)) one
-      first false e = second (q == m.fileid) refl e
+  by-fileid = others.by-two m.directory m.fileid
 
   parent-same : (q : ℕ) → (q == m.fileid) ≡ false → parent_directory (inode_of new q) ≡ parent_directory (inode_of old q)
   parent-same = by-fileid (λ q. (q == m.fileid) ≡ false → parent_directory (inode_of new q) ≡ parent_directory (inode_of old q))
@@ -99,24 +93,9 @@ module _ (old : InodesValue) (directories : DirectoryMap) (m : Naming) (touch : 
       let others = folders-same list in
       omega (arith, here, others)
 
-  abbrev IsChildOf : InodeMap → ℕ → Listed → Type 0
-  IsChildOf inodes fileid e = IfSome (parent_directory (get inodes e.fileid)) (λ parent. parent ≡ fileid)
-
-  stands-not : (e : Listed) (n : ℕ) → one_if (e.fileid == m.fileid) + n ≡ 0 → ((e.fileid == m.fileid) ≡ false) × (n ≡ 0)
-  stands-not e n h = by (e.fileid == m.fileid) refl h
-    where
-      by : (b : Bool) → (e.fileid == m.fileid) ≡ b → one_if b + n ≡ 0 → ((e.fileid == m.fileid) ≡ false) × (n ≡ 0)
-      by true is h = absurd (omega (arith, h))
-      by false is h = (is, omega (arith, h))
-
   children-same : (fileid : ℕ) (list : List Listed) → times_in_list m.fileid list ≡ 0
       → AllByRecursion (IsChildOf old.inodes fileid) list → AllByRecursion (IsChildOf new.inodes fileid) list
-  children-same fileid [] none all = tt
-  children-same fileid (e ∷ list) none all =
-      let parts = stands-not e (times_in_list m.fileid list) none in (
-        subst (λ o. IfSome o (λ parent. parent ≡ fileid)) (sym (parent-same e.fileid parts.0)) all.0,
-        children-same fileid list parts.1 all.1,
-      )
+  children-same fileid list none all = others.children-same new.inodes old.inodes m.fileid parent-same fileid list none all
 
   found-at : (q : ℕ) → get directories_after q ≡ (if q == m.directory then Some (added m.name m.fileid m.entries) else get directories q)
   found-at q = get-insert_at directories m.directory (added m.name m.fileid m.entries) q
@@ -129,11 +108,7 @@ module _ (old : InodesValue) (directories : DirectoryMap) (m : Naming) (touch : 
   hung-others q ne = found-at q ∙ ap (λ (b : Bool). if b then Some (added m.name m.fileid m.entries) else get directories q) ne
 
   by-directory : (P : ℕ → Type 0) → P m.directory → ((q : ℕ) → (q == m.directory) ≡ false → P q) → (q : ℕ) → P q
-  by-directory P one two q = by (q == m.directory) refl
-    where
-      by : (b : Bool) → (q == m.directory) ≡ b → P q
-      by true e = subst P (sym (eqb-true q m.directory e)) one
-      by false e = two q e
+  by-directory = others.by-one m.directory
 
   module _ (named : AreNamedBut m.fileid old.inodes directories) where
     abbrev times_of : ℕ → ℕ × DirectoryValue → ℕ

@@ -1,5 +1,5 @@
 -- Inodes and names after a node is made under a name: they are lawful again.
-use Rattle.std.proofs.Common.{◌≡◌, ℕ, zero, suc, ◌+◌, ◌==◌, ◌&&◌, not, Bool, true, false, List, [], ◌∷◌, Option, Some, None}
+use Rattle.std.proofs.Common.{◌≡◌, ℕ, zero, suc, ◌+◌, ◌==◌, ◌&&◌, not, Bool, true, false, List, Option, Some, None}
 use Rattle.std.proofs.Common.{refl, sym, ap, ◌∙◌, subst, arith, eq-eqb, ne_eqb}
 use Rattle.std.specs.Prelude.{if◌then◌else◌, is_some, IfSome}
 use Rattle.std.proofs.lemmas.Bool.{eqb-true}
@@ -12,11 +12,13 @@ use Rattle.volume_values.specs.Directories.{DirectoryValue, empty_directory, add
 use Rattle.volume_values.specs.Inodes.{InodeKind, RegularFile, Folder, InodesValue, IsInodes, inode_of, inode_created}
 use Rattle.volume_values.specs.lemmas.Inodes.{next-absent, inode-created-there, inode-created-other, inode-set-there, inode-set-other}
 use Rattle.volume_values.specs.lemmas.Numbered.{get-insert_at, itself}
-use Rattle.held_state.specs.Names.{root, InodeMap, DirectoryMap, size_in, size_of, parent_in, parent_directory, subdirectories_in, subdirectories_of}
+use Rattle.held_state.specs.Names.{root, DirectoryMap, size_in, size_of, parent_in, parent_directory, subdirectories_in, subdirectories_of}
 use Rattle.held_state.specs.Names.{is_folder, parent_or, times_in_list, times_named, is_named, folders_listed, directory_above, DirectoryFits, AreNamed}
 use Rattle.held_laws.specs.lemmas.Mapped.{entry-at-least}
 use Rattle.held_nodes.specs.Making.{Making, folders_in, with_subdirectories, directory_inode, inodes_made, directories_made, entries_made}
 use Rattle.held_nodes.specs.Laws.{IsNewIn}
+use Rattle.held_nodes.specs.lemmas.Others as others
+use Rattle.held_nodes.specs.lemmas.Others.{IsChildOf}
 use Rattle.held_nodes.specs.lemmas.Summed.{total-insert, total-set}
 use Rattle.held_nodes.specs.lemmas.Listing.{count-more, all-more, added-is}
 
@@ -64,15 +66,7 @@ module _ (old : InodesValue) (directories : DirectoryMap) (m : Making) (lawful :
 
   -- by which of them a fileid is
   pub by-fileid : (P : ℕ → Type 0) → P m.directory → P old.next → ((q : ℕ) → (q == m.directory) ≡ false → (q == old.next) ≡ false → P q) → (q : ℕ) → P q
-  by-fileid P one two three q = first (q == m.directory) refl
-    where
-      second : (b : Bool) → (q == old.next) ≡ b → (q == m.directory) ≡ false → P q
-      second true e ne = subst P (sym (eqb-true q old.next e)) two
-      second false e ne = three q ne e
-
-      first : (b : Bool) → (q == m.directory) ≡ b → P q
-      first true e = subst P (sym (eqb-true q m.directory e)) one
-      first false e = second (q == old.next) refl e
+  by-fileid = others.by-two m.directory old.next
 
   -- an inode that was there shows the same parent and size
   pub parent-same : (q : ℕ) → (q == old.next) ≡ false → parent_directory (inode_of new q) ≡ parent_directory (inode_of old q)
@@ -109,33 +103,12 @@ module _ (old : InodesValue) (directories : DirectoryMap) (m : Making) (lawful :
 
   -- ---- lists in which the new fileid doesn't stand
 
-  stands-not : (e : Listed) (n : ℕ) → one_if (e.fileid == old.next) + n ≡ 0 → ((e.fileid == old.next) ≡ false) × (n ≡ 0)
-  stands-not e n h = by (e.fileid == old.next) refl h
-    where
-      by : (b : Bool) → (e.fileid == old.next) ≡ b → one_if b + n ≡ 0 → ((e.fileid == old.next) ≡ false) × (n ≡ 0)
-      by true is h = absurd (omega (arith, h))
-      by false is h = (is, omega (arith, h))
-
   folders-same : (list : List Listed) → times_in_list old.next list ≡ 0 → folders_listed new.inodes list ≡ folders_listed old.inodes list
-  folders-same [] none = refl
-  folders-same (e ∷ list) none =
-      let parts = stands-not e (times_in_list old.next list) none in
-      let here : one_if (is_folder (inode_of new e.fileid)) ≡ one_if (is_folder (inode_of old e.fileid)) =
-      ap (λ o. one_if (is_some o)) (parent-same e.fileid parts.0) in
-      let others = folders-same list parts.1 in
-      omega (arith, here, others)
-
-  abbrev IsChildOf : InodeMap → ℕ → Listed → Type 0
-  IsChildOf inodes fileid e = IfSome (parent_directory (get inodes e.fileid)) (λ parent. parent ≡ fileid)
+  folders-same list none = others.folders-same new.inodes old.inodes old.next parent-same list none
 
   children-same : (fileid : ℕ) (list : List Listed) → times_in_list old.next list ≡ 0
       → AllByRecursion (IsChildOf old.inodes fileid) list → AllByRecursion (IsChildOf new.inodes fileid) list
-  children-same fileid [] none all = tt
-  children-same fileid (e ∷ list) none all =
-      let parts = stands-not e (times_in_list old.next list) none in (
-        subst (λ o. IfSome o (λ parent. parent ≡ fileid)) (sym (parent-same e.fileid parts.0)) all.0,
-        children-same fileid list parts.1 all.1,
-      )
+  children-same fileid list none all = others.children-same new.inodes old.inodes old.next parent-same fileid list none all
 
   -- ---- directories
 

@@ -2,7 +2,6 @@
 use Rattle.std.proofs.Common.{◌≡◌, ℕ, ◌+◌, ◌-◌, ◌*◌, ◌<◌, ◌≤◌, ◌==◌, ◌||◌, Bool, true, false, cond, List, [], ◌∷◌, ◌++◌, length, map}
 use Rattle.std.proofs.Common.{Option, Some, None, refl, sym, ap, ◌∙◌, subst, arith, nat_lt, length-append, ⊎_elim}
 use Rattle.std.specs.Prelude.{if◌then◌else◌, is_some, IfSome}
-use Rattle.std.proofs.lemmas.Bool.{eqb-true}
 use Rattle.std.proofs.lemmas.Bool.Decides.{nat_tests}
 use Rattle.std.proofs.lemmas.List.{length-map}
 use Rattle.std.specs.List.{range_with_len}
@@ -31,6 +30,7 @@ use Rattle.held_laws.specs.lemmas.SameBlocks.{stripe-mapped}
 use Rattle.held_laws.specs.lemmas.SameNames.{SamePlaces, named-same}
 use Rattle.held_laws.specs.lemmas.Counted.{listed-times}
 use Rattle.held_nodes.specs.Sizing.{Sizing, stripe_sized, all_freed, kind_sized, inode_sized, file_sized}
+use Rattle.held_nodes.specs.lemmas.Others as others
 use Rattle.held_nodes.specs.lemmas.Counting.{blocks_in, filled-counted}
 use Rattle.held_nodes.specs.lemmas.Cutting.{cut-other, cut-here, cut-long, cut-zeros, cut-len, cut-times, cut-of}
 
@@ -147,11 +147,7 @@ module _ (p : VolumeContents) (m : Sizing) (well : WellFormed p) (there : get p.
 
   -- any fact of inodes: at the file, and at the others
   by-fileid : (P : ℕ → Type 0) → P f → ((q : ℕ) → (q == f) ≡ false → P q) → (q : ℕ) → P q
-  by-fileid P one two q = by (q == f) refl
-    where
-      by : (b : Bool) → (q == f) ≡ b → P q
-      by true e = subst P (sym (eqb-true q f e)) one
-      by false e = two q e
+  by-fileid = others.by-one f
 
   size-after : size_of (inode_of new f) ≡ Some m.size
   size-after = ap size_of at-file ∙ ap size_in kind-after

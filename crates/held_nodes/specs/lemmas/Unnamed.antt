@@ -14,12 +14,14 @@ use Rattle.volume_values.specs.Directories.{DirectoryValue, removed, found}
 use Rattle.volume_values.specs.Inodes.{InodeKind, RegularFile, Folder, Inode, InodesValue, inode_of, inode_dropped}
 use Rattle.volume_values.specs.lemmas.Inodes.{inode-dropped-there, inode-dropped-other, inode-set-there, inode-set-other}
 use Rattle.volume_values.specs.lemmas.Numbered.{get-insert_at, get-remove_at, itself}
-use Rattle.held_state.specs.Names.{root, InodeMap, DirectoryMap, size_in, size_of, parent_in, parent_directory, subdirectories_in, subdirectories_of}
+use Rattle.held_state.specs.Names.{root, DirectoryMap, size_in, size_of, parent_in, parent_directory, subdirectories_in, subdirectories_of}
 use Rattle.held_state.specs.Names.{is_folder, parent_or, times_in_list, times_named, is_named, folders_listed, directory_above, DirectoryFits, AreNamed}
 use Rattle.held_laws.specs.lemmas.Mapped.{entry-at-least, total-entries}
 use Rattle.held_nodes.specs.Making.{folders_in}
 use Rattle.held_nodes.specs.Dropping.{Dropping, without_subdirectories, directory_left, inodes_left, directories_left, entries_left}
 use Rattle.held_nodes.specs.Laws.{LosesName}
+use Rattle.held_nodes.specs.lemmas.Others as others
+use Rattle.held_nodes.specs.lemmas.Others.{IsChildOf}
 use Rattle.held_nodes.specs.lemmas.Summed.{total-split, total-set}
 use Rattle.held_nodes.specs.lemmas.Listing.{all-without, removed-is, count-without}
 
@@ -69,15 +71,7 @@ module _ (old : InodesValue) (directories : DirectoryMap) (m : Dropping) (may : 
 
   -- by which of them a fileid is
   pub by-fileid : (P : ℕ → Type 0) → P m.directory → P m.fileid → ((q : ℕ) → (q == m.directory) ≡ false → (q == m.fileid) ≡ false → P q) → (q : ℕ) → P q
-  by-fileid P one two three q = first (q == m.directory) refl
-    where
-      second : (b : Bool) → (q == m.fileid) ≡ b → (q == m.directory) ≡ false → P q
-      second true e ne = subst P (sym (eqb-true q m.fileid e)) two
-      second false e ne = three q ne e
-
-      first : (b : Bool) → (q == m.directory) ≡ b → P q
-      first true e = subst P (sym (eqb-true q m.directory e)) one
-      first false e = second (q == m.fileid) refl e
+  by-fileid = others.by-two m.directory m.fileid
 
   -- an inode that stays shows the same parent and size
   pub parent-same : (q : ℕ) → (q == m.fileid) ≡ false → parent_directory (inode_of new q) ≡ parent_directory (inode_of old q)
@@ -114,33 +108,12 @@ module _ (old : InodesValue) (directories : DirectoryMap) (m : Dropping) (may : 
 
   -- ---- lists in which the fileid doesn't stand
 
-  stands-not : (e : Listed) (n : ℕ) → one_if (e.fileid == m.fileid) + n ≡ 0 → ((e.fileid == m.fileid) ≡ false) × (n ≡ 0)
-  stands-not e n h = by (e.fileid == m.fileid) refl h
-    where
-      by : (b : Bool) → (e.fileid == m.fileid) ≡ b → one_if b + n ≡ 0 → ((e.fileid == m.fileid) ≡ false) × (n ≡ 0)
-      by true is h = absurd (omega (arith, h))
-      by false is h = (is, omega (arith, h))
-
   folders-same : (list : List Listed) → times_in_list m.fileid list ≡ 0 → folders_listed new.inodes list ≡ folders_listed old.inodes list
-  folders-same [] none = refl
-  folders-same (e ∷ list) none =
-      let parts = stands-not e (times_in_list m.fileid list) none in
-      let here : one_if (is_folder (inode_of new e.fileid)) ≡ one_if (is_folder (inode_of old e.fileid)) =
-      ap (λ o. one_if (is_some o)) (parent-same e.fileid parts.0) in
-      let others = folders-same list parts.1 in
-      omega (arith, here, others)
-
-  abbrev IsChildOf : InodeMap → ℕ → Listed → Type 0
-  IsChildOf inodes fileid e = IfSome (parent_directory (get inodes e.fileid)) (λ parent. parent ≡ fileid)
+  folders-same list none = others.folders-same new.inodes old.inodes m.fileid parent-same list none
 
   children-same : (fileid : ℕ) (list : List Listed) → times_in_list m.fileid list ≡ 0
       → AllByRecursion (IsChildOf old.inodes fileid) list → AllByRecursion (IsChildOf new.inodes fileid) list
-  children-same fileid [] none all = tt
-  children-same fileid (e ∷ list) none all =
-      let parts = stands-not e (times_in_list m.fileid list) none in (
-        subst (λ o. IfSome o (λ parent. parent ≡ fileid)) (sym (parent-same e.fileid parts.0)) all.0,
-        children-same fileid list parts.1 all.1,
-      )
+  children-same fileid list none all = others.children-same new.inodes old.inodes m.fileid parent-same fileid list none all
 
   -- ---- directories
 

@@ -19,6 +19,8 @@ use Rattle.held_nodes.specs.Making.{folders_in}
 use Rattle.held_nodes.specs.Dropping.{without_subdirectories}
 use Rattle.held_nodes.specs.Moving.{Naming, dated_inode, inodes_untied, entries_untied}
 use Rattle.held_nodes.specs.Laws.{StandsUnder}
+use Rattle.held_nodes.specs.lemmas.Others as others
+use Rattle.held_nodes.specs.lemmas.Others.{IsChildOf}
 use Rattle.held_nodes.specs.lemmas.Summed.{total-set}
 use Rattle.held_nodes.specs.lemmas.Listing.{all-without, removed-is, count-without}
 use Rattle.held_nodes.specs.lemmas.Unnamed.{parent-kept, counted-less}
@@ -48,11 +50,7 @@ module _ (old : InodesValue) (directories : DirectoryMap) (m : Naming) (stands :
   untied-other q ne = inode-set-other old m.directory next_inode q ne
 
   by-fileid : (P : ℕ → Type 0) → P m.directory → ((q : ℕ) → (q == m.directory) ≡ false → P q) → (q : ℕ) → P q
-  by-fileid P one two q = by (q == m.directory) refl
-    where
-      by : (b : Bool) → (q == m.directory) ≡ b → P q
-      by true e = subst P (sym (eqb-true q m.directory e)) one
-      by false e = two q e
+  by-fileid = others.by-one m.directory
 
   parent-same : (q : ℕ) → parent_directory (inode_of new q) ≡ parent_directory (inode_of old q)
   parent-same = by-fileid (λ q. parent_directory (inode_of new q) ≡ parent_directory (inode_of old q))
@@ -71,9 +69,6 @@ module _ (old : InodesValue) (directories : DirectoryMap) (m : Naming) (stands :
       ap (λ o. one_if (is_some o)) (parent-same e.fileid) in
       let others = folders-same list in
       omega (arith, here, others)
-
-  abbrev IsChildOf : InodeMap → ℕ → Listed → Type 0
-  IsChildOf inodes fileid e = IfSome (parent_directory (get inodes e.fileid)) (λ parent. parent ≡ fileid)
 
   children-same : (fileid : ℕ) (list : List Listed) → AllByRecursion (IsChildOf old.inodes fileid) list → AllByRecursion (IsChildOf new.inodes fileid) list
   children-same fileid [] all = tt
