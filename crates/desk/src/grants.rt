@@ -12,17 +12,17 @@ ghost use Rattle.desk.specs.Any.{lent_of};
 use crate::grant::AnyGrant;
 use crate::kinds::NodeKinds;
 use crate::nodes::{begin_node, finish_node, put_back_node};
-use affinity_tree::{Affinity, HasKind, Kind};
+use affinity_tree::{Affinity, Kind};
 use depot::{Depot, Refusal, Seat};
 use depot_rule::machine::Machine;
 use std::mem;
 
-/// Puts a grant where there is none.
-fn put<T: HasKind, K: NodeKinds<T>>(place: &mut Option<AnyGrant<T, K>>, any: AnyGrant<T, K>)
+/// Puts something where there is nothing.
+fn put<X>(place: &mut Option<X>, something: X)
     requires { place.old ≡ None }
-    ensures { place.new ≡ Some any }
+    ensures { place.new ≡ Some something }
 {
-    match mem::replace(place, Some(any)) {
+    match mem::replace(place, Some(something)) {
         None => {}
         Some(_) => unreachable!(),
     }
