@@ -1,5 +1,6 @@
 //! How many records are decoded and replies encoded in a second.
 
+ghost use Rattle.std.specs.Prelude.{IfOk};
 ghost use Rattle.codec_bench.specs.Fits.{FitsRecord};
 
 use crate::sample::{Sample, get_attributes, lookup, read, write};
@@ -64,28 +65,55 @@ fn each(total: u64, count: u32) -> u64 {
     total / u64::from(count.max(1))
 }
 
-/// Measures a kind of call, and prints its line.
-fn measure(rt: &(impl Clock + Print + AllocGlobal), sample: &Sample, count: u32) -> io::Result<()>
-    requires { FitsRecord sample.now.reply }
-{
+/// Decodes the record of a kind of call, and prints how many in a second.
+fn measure_decoding(
+    rt: &(impl Clock + Print + AllocGlobal),
+    sample: &Sample,
+    count: u32,
+) -> io::Result<()> {
     let name = sample.name;
     let start = Instant::now(rt)?;
     let copied = decode(rt.alloc(), sample, count);
     let decoded = per_second(u64::from(count), start.elapsed(rt)?);
     let copied = each(copied, count);
-    println!(rt; "{name}: {decoded} decoded a second, {copied} bytes copied by each")?;
-    let mut out = Vec::new(rt.alloc());
+    println!(rt; "{name}: {decoded} decoded a second, {copied} bytes copied by each")
+}
+
+/// Encodes the reply to a kind of call, and prints how many in a second.
+fn measure_encoding(
+    rt: &(impl Clock + Print),
+    out: &mut Vec<u8>,
+    sample: &Sample,
+    count: u32,
+) -> io::Result<()>
+    requires { FitsRecord sample.now.reply }
+{
+    let name = sample.name;
     let start = Instant::now(rt)?;
-    let written = encode(&mut out, sample, count)?;
+    let written = encode(out, sample, count)?;
     let encoded = per_second(u64::from(count), start.elapsed(rt)?);
     let written = each(written, count);
     println!(rt; "{name}: {encoded} encoded a second, {written} bytes written by each")
 }
 
+/// Measures a kind of call, and prints its lines.
+fn measure(
+    rt: &(impl Clock + Print + AllocGlobal),
+    sample: Result<Sample, AllocError>,
+    count: u32,
+) -> io::Result<()>
+    requires { IfOk sample (λ s. FitsRecord s.reply) }
+{
+    let sample = sample?;
+    measure_decoding(rt, &sample, count)?;
+    let mut out = Vec::new(rt.alloc());
+    measure_encoding(rt, &mut out, &sample, count)
+}
+
 /// Measures each kind of call.
 pub fn run(rt: &(impl Clock + Print + AllocGlobal), count: u32) -> io::Result<()> {
-    measure(rt, &get_attributes(rt.alloc())?, count)?;
-    measure(rt, &lookup(rt.alloc())?, count)?;
-    measure(rt, &write(rt.alloc())?, count)?;
-    measure(rt, &read(rt.alloc())?, count)
+    measure(rt, get_attributes(rt.alloc()), count)?;
+    measure(rt, lookup(rt.alloc()), count)?;
+    measure(rt, write(rt.alloc()), count)?;
+    measure(rt, read(rt.alloc()), count)
 }

@@ -76,20 +76,20 @@ fn calls(depot: &Depot<Adding>, seat: Seat<Adding>, affinity: Affinity, count: u
     }
 }
 
-/// So many calls by each of two threads, each on its node. How many were granted.
+/// So many calls by each of two threads, each with a seat and a node of its own. How many were
+/// granted.
 fn two_threads<R: Threads + Sync>(
     rt: &R,
     depot: &Depot<Adding>,
-    seat: Seat<Adding>,
+    first: Seat<Adding>,
+    second: Seat<Adding>,
     nodes: [Affinity; 2],
     count: u32,
 ) -> u64
-    requires seat { IsSeatHere depot.now seat }
+    requires first { IsSeatHere depot.now first }
+    requires second { IsSeatHere depot.now second }
 {
     let [here, there] = nodes;
-    let Some((first, second)) = split(depot, seat) else {
-        return 0;
-    };
     let (one, other) = thread::join(
         rt,
         move || calls(depot, first, here, count),
@@ -98,34 +98,70 @@ fn two_threads<R: Threads + Sync>(
     u64::from(one) + u64::from(other)
 }
 
-/// So many calls by each of four threads, each on its node. How many were granted.
+/// So many calls by each of four threads, each with a seat and a node of its own. How many were
+/// granted.
 fn four_threads<R: Threads + Sync>(
+    rt: &R,
+    depot: &Depot<Adding>,
+    first: Seat<Adding>,
+    second: Seat<Adding>,
+    third: Seat<Adding>,
+    fourth: Seat<Adding>,
+    nodes: [Affinity; 4],
+    count: u32,
+) -> u64
+    requires first { IsSeatHere depot.now first }
+    requires second { IsSeatHere depot.now second }
+    requires third { IsSeatHere depot.now third }
+    requires fourth { IsSeatHere depot.now fourth }
+{
+    let [one, two, three, four] = nodes;
+    let (here, there) = thread::join(
+        rt,
+        move || -> u64
+            requires first { IsSeatHere depot.now first }
+            requires second { IsSeatHere depot.now second }
+        { two_threads(rt, depot, first, second, [one, two], count) },
+        move || -> u64
+            requires third { IsSeatHere depot.now third }
+            requires fourth { IsSeatHere depot.now fourth }
+        { two_threads(rt, depot, third, fourth, [three, four], count) },
+    );
+    here.saturating_add(there)
+}
+
+/// The calls of two threads. Nothing where no split is left.
+fn by_two<R: Threads + Sync>(
+    rt: &R,
+    depot: &Depot<Adding>,
+    seat: Seat<Adding>,
+    nodes: [Affinity; 2],
+    count: u32,
+) -> Option<u64>
+    requires seat { IsSeatHere depot.now seat }
+{
+    let (first, second) = split(depot, seat)?;
+    Some(two_threads(rt, depot, first, second, nodes, count))
+}
+
+/// The calls of four threads. Nothing where no split is left.
+fn by_four<R: Threads + Sync>(
     rt: &R,
     depot: &Depot<Adding>,
     seat: Seat<Adding>,
     nodes: [Affinity; 4],
     count: u32,
-) -> u64
+) -> Option<u64>
     requires seat { IsSeatHere depot.now seat }
 {
-    let [one, two, three, four] = nodes;
-    let Some((first, second)) = split(depot, seat) else {
-        return 0;
-    };
-    let (here, there) = thread::join(
-        rt,
-        move || -> u64
-            requires { IsSeatHere depot.now first }
-        { two_threads(rt, depot, first, [one, two], count) },
-        move || -> u64
-            requires { IsSeatHere depot.now second }
-        { two_threads(rt, depot, second, [three, four], count) },
-    );
-    here.saturating_add(there)
+    let (first, second) = split(depot, seat)?;
+    let (first, third) = split(depot, first)?;
+    let (first, fourth) = split(depot, first)?;
+    Some(four_threads(rt, depot, first, second, third, fourth, nodes, count))
 }
 
-/// So many calls by each thread of a crew, each on its node. How many were granted; none where no
-/// split is left for a thread.
+/// So many calls by each thread of a crew, each on its node. How many were granted; nothing where
+/// no split is left for a thread.
 fn crew_calls<R: Threads + Sync>(
     rt: &R,
     crew: Crew,
@@ -133,14 +169,14 @@ fn crew_calls<R: Threads + Sync>(
     seat: Seat<Adding>,
     nodes: [Affinity; 4],
     count: u32,
-) -> u64
+) -> Option<u64>
     requires seat { IsSeatHere depot.now seat }
 {
     let [one, two, _, _] = nodes;
     match crew {
-        Crew::One => u64::from(calls(depot, seat, one, count)),
-        Crew::Two => two_threads(rt, depot, seat, [one, two], count),
-        Crew::Four => four_threads(rt, depot, seat, nodes, count),
+        Crew::One => Some(u64::from(calls(depot, seat, one, count))),
+        Crew::Two => by_two(rt, depot, seat, [one, two], count),
+        Crew::Four => by_four(rt, depot, seat, nodes, count),
     }
 }
 
@@ -158,6 +194,7 @@ fn rate<R: Clock + Threads + Sync>(
     let start = Instant::now(rt);
     let granted = crew_calls(rt, crew, depot, seat, nodes, count);
     let time = start?.elapsed(rt)?;
+    let granted = granted.ok_or(AllocError)?;
     Ok((granted, per_second(granted, time)))
 }
 

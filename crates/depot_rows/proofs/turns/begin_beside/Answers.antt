@@ -11,4 +11,5 @@ ask-beside-requires-clause-idle g c =
 pub returns-clause-fresh : goal.returns-clause-fresh
 returns-clause-fresh g c =
     c.ask-beside.ensures.others c.args.worker c.if-worker-other.false
-    (begun-fresh (books c.args.desk.now) c.args.worker _ (books c.begin.new.self) (c.if-not-is_ready.ensures.idle (search rules)) c.in-Ok.ensures.begun)
+    (begun-fresh (books c.args.desk.now) c.args.worker _ (books c.begin.new.self)
+    (c.if-not-is_ready.ensures.idle (search rules)) c.in-Ok.ensures.begun)
