@@ -1,9 +1,11 @@
-use Rattle.std.proofs.Common.{true, refl, inl}
+use Rattle.std.proofs.Common.{true, refl, ap, inl}
 use Rattle.std.specs.Vec.{with_item}
+use Rattle.engine_feed.specs.declared.state.CallsState.{CallsState}
 use Rattle.engine_feed.specs.Numbers.{stop_number}
+use Rattle.engine_feed.specs.Seen.{layout_in}
 use Rattle.engine.specs.declared.state.State.{State}
 use Rattle.engine.proofs.Closing.{found}
-use Rattle.engine.proofs.Received.{may-take, open-takes, happens, fed-sound, unfed-world, unfed-sound}
+use Rattle.engine.proofs.Received.{may-take, open-takes, happens, fed-sound, unfed-world, unfed-sound, setup-same}
 use Rattle.engine.proofs.feeding.feed.Goals as goal
 
 pub returns-in-None-clause-events : goal.returns-in-None-clause-events
@@ -17,6 +19,13 @@ returns-in-None-clause-events c =
       inl (may-take s i d _ there passed.0),
       unfed-world s new i d c.receive.new.place there refl passed.1 passed.2 refl,
     )
+
+pub returns-in-None-clause-setup : goal.returns-in-None-clause-setup
+returns-in-None-clause-setup c =
+    let s = c.args.state.now in
+    let new : State = record s { connections = with_item s.connections c.args.connection c.receive.new.place; calls = c.receive.new.calls } in
+    let passed = c.in-None.ensures in
+    setup-same s new (ap (λ (x : CallsState). layout_in x) passed.2)
 
 pub returns-in-None-clause-sound : goal.returns-in-None-clause-sound
 returns-in-None-clause-sound c =
@@ -44,6 +53,13 @@ returns-in-Some-receive-clause-events c =
             refl fed refl,
       ),
     )
+
+pub returns-in-Some-receive-clause-setup : goal.returns-in-Some-receive-clause-setup
+returns-in-Some-receive-clause-setup c =
+    let s = c.args.state.now in
+    let new : State = record s { connections = with_item s.connections c.args.connection c.receive.new.place; calls = c.receive.new.calls } in
+    let fed = c.in-Some-receive.ensures in
+    setup-same s new fed.adds.layout
 
 pub returns-in-Some-receive-clause-sound : goal.returns-in-Some-receive-clause-sound
 returns-in-Some-receive-clause-sound c =
