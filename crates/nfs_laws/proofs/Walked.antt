@@ -205,7 +205,7 @@ module _ (setup : Setup) (c : ℕ) (w middle : World) (came : List ℕ) (b : ℕ
         ∙ sym (append_assoc (setup.codec.scan came).served first more) ∙ ap (λ (hs : List Heard). hs ++ more) (sym one);
     hears = hears;
     stops = subst (λ (s : List ℕ). StopsAt setup new (halt s (drop rest bytes) stop) (setup.codec.scan s).fault)
-      (sym (one_byte came b (take rest bytes))) f.stops;
+        (sym (one_byte came b (take rest bytes))) f.stops;
   }
 
 -- ---- from the walk
