@@ -16,9 +16,15 @@ use std::collections::BTreeMap;
 use std::marker::Model;
 
 /// Directories by their fileids.
-#[derive(Drop)]
 pub struct DirectoryMap {
     by_fileid: BTreeMap<u64, Directory>,
+}
+
+// By hand, so that crates above have no proof of the drop of each of its parts.
+impl Drop for DirectoryMap {
+    fn drop(self) {
+        let DirectoryMap { by_fileid: _ } = self;
+    }
 }
 
 impl Model for DirectoryMap {

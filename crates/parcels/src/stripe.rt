@@ -7,9 +7,15 @@ use std::marker::Model;
 use stripes::Stripe;
 
 /// A stripe of a volume, in memory of its own.
-#[derive(Drop)]
 pub struct StripeParcel {
     stripe: Box<Stripe>,
+}
+
+// By hand, so that crates above have no proof of the drop of each of its parts.
+impl Drop for StripeParcel {
+    fn drop(self) {
+        let StripeParcel { stripe: _ } = self;
+    }
 }
 
 impl Model for StripeParcel {

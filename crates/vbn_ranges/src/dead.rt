@@ -28,12 +28,21 @@ use std::alloc::{AllocError, Global};
 use std::marker::Model;
 
 /// The block numbers that files have left and that aren't free yet.
-#[derive(Drop)]
 pub struct DeadBlocks {
     /// Those of each range.
     ranges: Vec<Marks>,
     /// How many there are.
     count: usize,
+}
+
+// By hand, so that crates above have no proof of the drop of each of its parts.
+impl Drop for DeadBlocks {
+    fn drop(self) {
+        let DeadBlocks {
+            ranges: _,
+            count: _,
+        } = self;
+    }
 }
 
 impl Model for DeadBlocks {
