@@ -11,6 +11,7 @@ use nfs_values::{
     Moment, Named, PriorAttributes, Reply, SetAttributes, SetTime, Status, Verifier, VolumeNumber,
 };
 use service::{JobReply, Service};
+use std::alloc::Global;
 use std::test::Fail;
 
 /// A moment of whole seconds.
@@ -59,6 +60,7 @@ fn handle(volume: u32, fileid: u64) -> FileHandle {
 
 /// GETATTR.
 fn get(
+    alloc: Global,
     depot: &Depot<Service>,
     seat: &mut Seat<Service>,
     asker: Asker,
@@ -67,7 +69,7 @@ fn get(
     requires { IsSeatHere depot.now seat.old }
     ensures { IsSeatHere depot.now seat.new }
 {
-    let reply = serve(depot, seat, asker, Call::GetAttributes { handle })?;
+    let reply = serve(alloc, depot, seat, asker, Call::GetAttributes { handle })?;
     match &reply {
         JobReply::Replied(Reply::Success(Answer::GetAttributes(told))) => Some(*told),
         _ => None,
@@ -76,6 +78,7 @@ fn get(
 
 /// SETATTR of the mode.
 fn set(
+    alloc: Global,
     depot: &Depot<Service>,
     seat: &mut Seat<Service>,
     asker: Asker,
@@ -95,7 +98,7 @@ fn set(
         mtime: SetTime::Keep,
     };
     let call = Call::SetAttributes { handle, set, guard };
-    let reply = serve(depot, seat, asker, call)?;
+    let reply = serve(alloc, depot, seat, asker, call)?;
     match &reply {
         JobReply::Replied(Reply::Success(Answer::SetAttributes(told))) => Some(*told),
         _ => None,
@@ -129,10 +132,17 @@ fn modes_of_roots(rt: HostRuntime) -> Result<(), Fail> {
             },
             after,
         };
-        let told = get(&depot, &mut seat, asker(at(4)), handle(volume, 1));
+        let told = get(
+            rt.alloc(),
+            &depot,
+            &mut seat,
+            asker(at(4)),
+            handle(volume, 1),
+        );
         assert_eq!(rt; told, Some(Ok(before)));
         // A mode keeps its low 12 bits.
         let told = set(
+            rt.alloc(),
             &depot,
             &mut seat,
             asker(at(5)),
@@ -142,6 +152,7 @@ fn modes_of_roots(rt: HostRuntime) -> Result<(), Fail> {
         );
         assert_eq!(rt; told, Some(Ok(change)));
         let told = set(
+            rt.alloc(),
             &depot,
             &mut seat,
             asker(at(6)),
@@ -150,12 +161,26 @@ fn modes_of_roots(rt: HostRuntime) -> Result<(), Fail> {
             Some(Moment::START),
         );
         assert_eq!(rt; told, Some(Err(Status::NotSynchronous)));
-        let told = get(&depot, &mut seat, asker(at(7)), handle(volume, 1));
+        let told = get(
+            rt.alloc(),
+            &depot,
+            &mut seat,
+            asker(at(7)),
+            handle(volume, 1),
+        );
         assert_eq!(rt; told, Some(Ok(after)));
     }
-    let told = set(&depot, &mut seat, asker(at(8)), handle(1, 5), 0, None);
+    let told = set(
+        rt.alloc(),
+        &depot,
+        &mut seat,
+        asker(at(8)),
+        handle(1, 5),
+        0,
+        None,
+    );
     assert_eq!(rt; told, Some(Err(Status::Stale)));
-    let told = get(&depot, &mut seat, asker(at(9)), handle(2, 1));
+    let told = get(rt.alloc(), &depot, &mut seat, asker(at(9)), handle(2, 1));
     assert_eq!(rt; told, None);
     Ok(())
 }
