@@ -12,6 +12,8 @@ mod lines;
 #[cfg(test)]
 mod lists;
 #[cfg(test)]
+mod names;
+#[cfg(test)]
 mod streams;
 #[cfg(test)]
 mod texts;

@@ -11,6 +11,7 @@ use nfs_values::{
     Moment, Named, PriorAttributes, Reply, SetAttributes, SetTime, Status, Verifier, VolumeNumber,
 };
 use service::{JobReply, Service};
+use std::alloc::Global;
 use std::fmt::Debug;
 use std::mem;
 use std::process::Abort;
@@ -61,6 +62,7 @@ fn handle(volume: u32, fileid: u64) -> FileHandle {
 
 /// GETATTR.
 fn get(
+    alloc: Global,
     depot: &Depot<Service>,
     seat: &mut Seat<Service>,
     asker: Asker,
@@ -69,7 +71,7 @@ fn get(
     requires { IsSeatHere depot.now seat.old }
     ensures { IsSeatHere depot.now seat.new }
 {
-    let reply = serve(depot, seat, asker, Call::GetAttributes { handle })?;
+    let reply = serve(alloc, depot, seat, asker, Call::GetAttributes { handle })?;
     let told = match &reply {
         JobReply::Replied(Reply::Success(Answer::GetAttributes(told))) => Some(*told),
         _ => None,
@@ -80,6 +82,7 @@ fn get(
 
 /// SETATTR of the mode.
 fn set(
+    alloc: Global,
     depot: &Depot<Service>,
     seat: &mut Seat<Service>,
     asker: Asker,
@@ -99,7 +102,7 @@ fn set(
         mtime: SetTime::Keep,
     };
     let call = Call::SetAttributes { handle, set, guard };
-    let reply = serve(depot, seat, asker, call)?;
+    let reply = serve(alloc, depot, seat, asker, call)?;
     let told = match &reply {
         JobReply::Replied(Reply::Success(Answer::SetAttributes(told))) => Some(*told),
         _ => None,
@@ -144,14 +147,21 @@ fn change_of(volume: u32) -> Change {
 
 /// Asks for the root of a volume, changes its mode, tries it again by the same guard, and asks
 /// once more.
-fn try_root(rt: &impl Abort, depot: &Depot<Service>, seat: &mut Seat<Service>, volume: u32)
+fn try_root(
+    rt: &(impl Abort + AllocGlobal),
+    depot: &Depot<Service>,
+    seat: &mut Seat<Service>,
+    volume: u32,
+)
     requires { IsSeatHere depot.now seat.old }
     ensures { IsSeatHere depot.now seat.new }
 {
     let guard = Some(Moment::START);
-    let before = get(depot, seat, asker(at(4)), handle(volume, 1));
+    let alloc = rt.alloc();
+    let before = get(alloc, depot, seat, asker(at(4)), handle(volume, 1));
     // A mode keeps its low 12 bits.
     let changed = set(
+        alloc,
         depot,
         seat,
         asker(at(5)),
@@ -159,8 +169,16 @@ fn try_root(rt: &impl Abort, depot: &Depot<Service>, seat: &mut Seat<Service>, v
         0o70_700,
         guard,
     );
-    let refused = set(depot, seat, asker(at(6)), handle(volume, 1), 0, guard);
-    let after = get(depot, seat, asker(at(7)), handle(volume, 1));
+    let refused = set(
+        alloc,
+        depot,
+        seat,
+        asker(at(6)),
+        handle(volume, 1),
+        0,
+        guard,
+    );
+    let after = get(alloc, depot, seat, asker(at(7)), handle(volume, 1));
     let change = change_of(volume);
     let first = root_of(volume, 0o755, Moment::START);
     same(
@@ -178,8 +196,17 @@ fn modes_of_roots(rt: HostRuntime) {
     for volume in 0..2 {
         try_root(&rt, &depot, &mut seat, volume);
     }
-    let stale = set(&depot, &mut seat, asker(at(8)), handle(1, 5), 0, None);
-    let unknown = get(&depot, &mut seat, asker(at(9)), handle(2, 1));
+    let alloc = rt.alloc();
+    let stale = set(
+        alloc,
+        &depot,
+        &mut seat,
+        asker(at(8)),
+        handle(1, 5),
+        0,
+        None,
+    );
+    let unknown = get(alloc, &depot, &mut seat, asker(at(9)), handle(2, 1));
     mem::forget((depot, seat));
     same(&rt, &stale, &Some(Err(Status::Stale)));
     same(&rt, &unknown, &None);
