@@ -1,6 +1,11 @@
 //! What follows from the definitions. The function does nothing: its contract is a theorem.
 
-ghost use Rattle.held_names.specs.Laws.{LookupIsRight, ReaddirIsRight, ReaddirMayStarve, CommitIsRight};
+ghost use Rattle.held_names.specs.Laws.{
+  LookupIsRight,
+  ReaddirIsRight,
+  ReaddirMayStarve,
+  CommitIsRight,
+};
 
 /// On every sound volume with the parcels that are held, LOOKUP, READDIR and COMMIT answer as the
 /// serial server does, change nothing, and all stays sound. A READDIR that would list may find no

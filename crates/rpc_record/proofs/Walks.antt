@@ -1,5 +1,6 @@
 -- A walk over bytes, turn by turn.
-use Rattle.std.proofs.Common.{◌≡◌, ℕ, ◌+◌, ◌-◌, ◌≤◌, List, [], ◌++◌, length, take, drop, min, refl, sym, ap, ◌∙◌, arith, length-append, length-take, length-drop}
+use Rattle.std.proofs.Common.{◌≡◌, ℕ, ◌+◌, ◌-◌, ◌≤◌, List, [], ◌++◌, length, take, drop, min, refl, sym, ap, ◌∙◌, arith}
+use Rattle.std.proofs.Common.{length-append, length-take, length-drop}
 use Rattle.std.proofs.lemmas.List.{drop-drop, drop_all, take_all, take-append-le}
 use Rattle.rpc_record.specs.Machine.{Outcome, scan}
 use Rattle.rpc_record.specs.declared.place.Place.{Place}

@@ -197,7 +197,8 @@ module _ (p : VolumeContents) (m : Dropping) (well : WellFormed p) (may : LosesN
   }
 
   -- all stays sound
-  pub sound-left : (hands hands' : List Hand) (made now : ℕ) → made ≤ now → ((n : ℕ) → total (times_in_hand p.number n) hands' ≡ total (times_in_hand p.number n) hands)
+  pub sound-left : (hands hands' : List Hand) (made now : ℕ) → made ≤ now →
+      ((n : ℕ) → total (times_in_hand p.number n) hands' ≡ total (times_in_hand p.number n) hands)
       → IsSound p hands made → IsSound after hands' now
   sound-left hands hands' made now later weigh s = record {
     well_formed = well-left;

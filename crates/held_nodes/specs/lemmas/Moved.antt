@@ -212,7 +212,8 @@ module _ (p : VolumeContents) (from to : Naming) (well : WellFormed p)
 
   pub named-moved : AreNamed (inodes_hung to touch taken).inodes (entries_hung to (entries_untied from p.logical.directories))
   named-moved = named-hung taken (entries_untied from p.logical.directories) to touch may
-      (subst (λ (f : ℕ). AreNamedBut f taken.inodes (entries_untied from p.logical.directories)) (sym one) (named-untied p.logical.inodes p.logical.directories from stands well.logical.named))
+      (subst (λ (f : ℕ). AreNamedBut f taken.inodes (entries_untied from p.logical.directories)) (sym one)
+      (named-untied p.logical.inodes p.logical.directories from stands well.logical.named))
 
   -- cookies: one more was given
   cookies-moved : (now : ℕ) → ((q : ℕ) (d : DirectoryValue) → get p.logical.directories q ≡ Some d → d.next + 1 ≤ 3 + now)
@@ -224,7 +225,8 @@ module _ (p : VolumeContents) (from to : Naming) (well : WellFormed p)
         where
           first : (b : Bool) → (r == from.directory) ≡ b → x.next + 1 ≤ 3 + now
           first true is =
-              let same : removed from.name from.entries ≡ x = (let at = sym (ap (get (entries_untied from p.logical.directories)) (eqb-true r from.directory is))
+              let same : removed from.name from.entries ≡ x =
+              (let at = sym (ap (get (entries_untied from p.logical.directories)) (eqb-true r from.directory is))
               ∙ h in let here = untied-entries p.logical.inodes p.logical.directories from stands in cc) in
               let next : from.entries.next ≡ x.next = ap (λ (y : DirectoryValue). y.next) same in
               let y = young from.directory from.entries stands.entered in

@@ -363,7 +363,8 @@ module _ (p : VolumeContents) (m : Sizing) (well : WellFormed p) (there : get p.
   one-at-most true = omega arith
   one-at-most false = omega arith
 
-  pub sound-sized : (hands hands' : List Hand) (made now : ℕ) → made ≤ now → ((n : ℕ) → total (times_in_hand p.number n) hands' ≡ total (times_in_hand p.number n) hands)
+  pub sound-sized : (hands hands' : List Hand) (made now : ℕ) → made ≤ now →
+      ((n : ℕ) → total (times_in_hand p.number n) hands' ≡ total (times_in_hand p.number n) hands)
       → IsSound p hands made → IsSound after hands' now
   sound-sized hands hands' made now later weigh s = record {
     well_formed = well-sized;

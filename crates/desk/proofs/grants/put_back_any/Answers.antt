@@ -33,7 +33,8 @@ put_back_node-requires-in-Stripe-clause-can g c =
 pub returns-in-Stripe-clause-ended : goal.returns-in-Stripe-clause-ended
 returns-in-Stripe-clause-ended g c =
     let layout = layout_in c.args.depot.now in
-    subst (λ any. IsEnded (view c.args.seat.now) (number_of layout (lent_of layout any).affinity) (view c.put_back_node-in-Stripe.new.seat)) (sym c.in-Stripe.is)
+    subst (λ any. IsEnded (view c.args.seat.now) (number_of layout (lent_of layout any).affinity)
+    (view c.put_back_node-in-Stripe.new.seat)) (sym c.in-Stripe.is)
     c.put_back_node-in-Stripe.ensures.ended
 
 pub put_back_node-requires-in-Logical-clause-can : goal.put_back_node-requires-in-Logical-clause-can
@@ -43,7 +44,8 @@ put_back_node-requires-in-Logical-clause-can g c =
 pub returns-in-Logical-clause-ended : goal.returns-in-Logical-clause-ended
 returns-in-Logical-clause-ended g c =
     let layout = layout_in c.args.depot.now in
-    subst (λ any. IsEnded (view c.args.seat.now) (number_of layout (lent_of layout any).affinity) (view c.put_back_node-in-Logical.new.seat)) (sym c.in-Logical.is)
+    subst (λ any. IsEnded (view c.args.seat.now) (number_of layout (lent_of layout any).affinity)
+    (view c.put_back_node-in-Logical.new.seat)) (sym c.in-Logical.is)
     c.put_back_node-in-Logical.ensures.ended
 
 pub put_back_node-requires-in-Volume-clause-can : goal.put_back_node-requires-in-Volume-clause-can
@@ -53,7 +55,8 @@ put_back_node-requires-in-Volume-clause-can g c =
 pub returns-in-Volume-clause-ended : goal.returns-in-Volume-clause-ended
 returns-in-Volume-clause-ended g c =
     let layout = layout_in c.args.depot.now in
-    subst (λ any. IsEnded (view c.args.seat.now) (number_of layout (lent_of layout any).affinity) (view c.put_back_node-in-Volume.new.seat)) (sym c.in-Volume.is)
+    subst (λ any. IsEnded (view c.args.seat.now) (number_of layout (lent_of layout any).affinity)
+    (view c.put_back_node-in-Volume.new.seat)) (sym c.in-Volume.is)
     c.put_back_node-in-Volume.ensures.ended
 
 pub put_back_node-requires-in-Aggregate-clause-can : goal.put_back_node-requires-in-Aggregate-clause-can
@@ -63,7 +66,8 @@ put_back_node-requires-in-Aggregate-clause-can g c =
 pub returns-in-Aggregate-clause-ended : goal.returns-in-Aggregate-clause-ended
 returns-in-Aggregate-clause-ended g c =
     let layout = layout_in c.args.depot.now in
-    subst (λ any. IsEnded (view c.args.seat.now) (number_of layout (lent_of layout any).affinity) (view c.put_back_node-in-Aggregate.new.seat)) (sym c.in-Aggregate.is)
+    subst (λ any. IsEnded (view c.args.seat.now) (number_of layout (lent_of layout any).affinity)
+    (view c.put_back_node-in-Aggregate.new.seat)) (sym c.in-Aggregate.is)
     c.put_back_node-in-Aggregate.ensures.ended
 
 pub put_back_node-requires-in-Serial-clause-can : goal.put_back_node-requires-in-Serial-clause-can
@@ -73,5 +77,6 @@ put_back_node-requires-in-Serial-clause-can g c =
 pub returns-in-Serial-clause-ended : goal.returns-in-Serial-clause-ended
 returns-in-Serial-clause-ended g c =
     let layout = layout_in c.args.depot.now in
-    subst (λ any. IsEnded (view c.args.seat.now) (number_of layout (lent_of layout any).affinity) (view c.put_back_node-in-Serial.new.seat)) (sym c.in-Serial.is)
+    subst (λ any. IsEnded (view c.args.seat.now) (number_of layout (lent_of layout any).affinity)
+    (view c.put_back_node-in-Serial.new.seat)) (sym c.in-Serial.is)
     c.put_back_node-in-Serial.ensures.ended

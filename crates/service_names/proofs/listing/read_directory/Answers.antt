@@ -26,7 +26,8 @@ returns-then-is_bad_cookie c =
     let folder = c.in-Ok.ensures.told (listed_in v fileid c.args.asked set) in
     record {
       right = lists v fileid c.args.asked set (Err BadCookie)
-          (sym (bad-cookie v fileid c.args.asked set (inode_value c.in-Ok.found.0) c.in-Ok.found.1.0 folder (sym c.is_bad_cookie.ensures ∙ c.if-is_bad_cookie.true)));
+          (sym (bad-cookie v fileid c.args.asked set (inode_value c.in-Ok.found.0) c.in-Ok.found.1.0 folder
+          (sym c.is_bad_cookie.ensures ∙ c.if-is_bad_cookie.true)));
     }
 
 pub returns-then-count-lt-PAGE_SIZE : goal.returns-then-count-lt-PAGE_SIZE

@@ -32,7 +32,8 @@ returns-in-Some c =
     let folder = c.in_ok-inode.ensures.told (told_in v fileid name set) in
     record {
       right = looks-up v fileid name set (Err c.in-Some.fault)
-          (sym (bad-name v fileid name set (inode_value c.in_ok-inode.inode) c.in_ok-inode.parent.0 folder (status_of c.in-Some.fault) (sym c.in-Some.ensures)));
+          (sym (bad-name v fileid name set (inode_value c.in_ok-inode.inode) c.in_ok-inode.parent.0 folder
+          (status_of c.in-Some.fault) (sym c.in-Some.ensures)));
     }
 
 pub returns-in-None : goal.returns-in-None
