@@ -16,7 +16,8 @@ fn played(rt: &(impl Abort + AllocGlobal), events: &[Event<'_>]) -> Engine {
     let alloc = rt.alloc();
     let aggregate = AggregateSpec { spare: 1 };
     let volume = VolumeSpec::new(0, 1);
-    let layout = Layout::new(alloc, &[aggregate], &[volume]).expect(rt, "a layout");
+    let layout = Layout::new(alloc, &[aggregate], &[volume]).ok();
+    let layout = layout.expect(rt, "a layout");
     Engine::play(alloc, layout, [0; 8], 2, events).expect(rt, "memory")
 }
 

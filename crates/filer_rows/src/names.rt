@@ -1,11 +1,9 @@
 //! LOOKUP, READDIR and COMMIT on volumes that have their roots alone. Each text is a piece of a
 //! record, in hex.
 
-use crate::events::{expect, joined};
+use crate::events::{expect, joined, put};
 use crate::texts::{LAYOUT, RUN};
-use std::alloc::AllocError;
 use std::process::Abort;
-use std::test::Fail;
 
 /// The heads of the calls, xid 6, without a credential.
 const LOOKUP: &str = "\
@@ -395,41 +393,23 @@ const AT_ONCE: [Asked; 6] = [
 ];
 
 /// Feeds a record and runs it, and looks at what is printed.
-fn ask(
-    rt: &(impl Abort + AllocGlobal),
-    asked: &Asked,
-    run: &'static str,
-    runs: &'static str,
-) -> Result<(), AllocError> {
-    let alloc = rt.alloc();
-    let record = joined(alloc, asked.record)?;
-    let reply = joined(alloc, asked.reply)?;
-    let script = joined(alloc, &[LAYOUT, "open\nfeed 0 ", &record, "\n", run])?;
-    let printed = joined(
-        alloc,
-        &[
-            "conn 0\ntaken ",
-            asked.size,
-            " stop 0\n",
-            runs,
-            "out 0 ",
-            &reply,
-            "\n",
-        ],
-    )?;
-    expect(rt, script.as_bytes(), 0, &printed);
-    Ok(())
+fn ask(rt: &(impl Abort + AllocGlobal), asked: &Asked, run: &'static str, runs: &'static str) {
+    let record = joined(rt, asked.record);
+    let reply = joined(rt, asked.reply);
+    let script = [LAYOUT, "open\nfeed 0 ", &record, "\n", run];
+    let taken = ["conn 0\ntaken ", asked.size, " stop 0\n", runs];
+    let printed = joined(rt, &[&joined(rt, &taken), "out 0 ", &reply, "\n"]);
+    expect(rt, joined(rt, &script).as_bytes(), 0, &printed);
 }
 
 #[test]
-fn names_of_a_root(rt: HostRuntime) -> Result<(), Fail> {
+fn names_of_a_root(rt: HostRuntime) {
     for asked in &RUN_THERE {
-        ask(&rt, asked, RUN, "granted logical 0\nreply\n")?;
+        ask(&rt, asked, RUN, "granted logical 0\nreply\n");
     }
     for asked in &AT_ONCE {
-        ask(&rt, asked, "", "")?;
+        ask(&rt, asked, "", "");
     }
-    Ok(())
 }
 
 /// The length of a name, its bytes after 255 and the padding, and the status of its LOOKUP:
@@ -440,25 +420,20 @@ const LONG: [[&'static str; 3]; 2] = [
 ];
 
 /// Looks up a name of 255 bytes or more, and looks at what is printed.
-fn ask_long(rt: &(impl Abort + AllocGlobal), row: &[&'static str; 3]) -> Result<(), AllocError> {
-    let alloc = rt.alloc();
+fn ask_long(rt: &(impl Abort + AllocGlobal), row: &[&'static str; 3]) {
     let [length, end, status] = *row;
     let feed = "open\nfeed 0 8000013c";
-    let mut script = joined(alloc, &[LAYOUT, feed, LOOKUP, ROOT, length])?;
-    for _ in 0..255 {
-        script.push_str("61")?;
-    }
-    script.push_str(&joined(alloc, &[end, "\n", RUN])?)?;
+    let mut script = joined(rt, &[LAYOUT, feed, LOOKUP, ROOT, length]);
+    put(rt, &mut script, "61", 255);
+    put(rt, &mut script, &joined(rt, &[end, "\n", RUN]), 1);
     let begun = "conn 0\ntaken 320 stop 0\ngranted logical 0\nreply\nout 0 80000020";
-    let printed = joined(alloc, &[begun, DONE, status, "00000000\n"])?;
+    let printed = joined(rt, &[begun, DONE, status, "00000000\n"]);
     expect(rt, script.as_bytes(), 0, &printed);
-    Ok(())
 }
 
 #[test]
-fn names_are_too_long(rt: HostRuntime) -> Result<(), Fail> {
+fn names_are_too_long(rt: HostRuntime) {
     for row in &LONG {
-        ask_long(&rt, row)?;
+        ask_long(&rt, row);
     }
-    Ok(())
 }
