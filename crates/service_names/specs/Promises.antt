@@ -1,9 +1,14 @@
 -- What the calls on names promise, on the parcels of a volume.
-use Rattle.std.specs.Prelude.{ℕ, false, Result, Ok, Err, List, []}
-use Rattle.nfs_model.specs.Types.{Moment, Success}
+use Rattle.std.specs.Prelude.{ℕ, false, Result, Ok, Err, List, [], Option}
+use Rattle.nfs_model.specs.Types as types
+use Rattle.nfs_model.specs.Types.{Moment, Credential, Success}
 use Rattle.nfs_model.specs.Tree.{Logical}
 use Rattle.nfs_values.specs.Answer.{answer_of}
+use Rattle.nfs_values.specs.declared.answer.Answer.{Answer}
+use Rattle.nfs_values.specs.declared.answer.Answer.TheVariants as answers
 use Rattle.nfs_values.specs.declared.answer.Answer.TheVariants.{Lookup, ReadDirectory, Commit}
+use Rattle.nfs_values.specs.declared.answer.MakeResults.{MakeResults}
+use Rattle.nfs_values.specs.declared.attributes.Change.{Change}
 use Rattle.nfs_values.specs.declared.answer.LookupResults.{LookupResults}
 use Rattle.nfs_values.specs.declared.answer.ReadDirectoryResults.{ReadDirectoryResults}
 use Rattle.nfs_values.specs.declared.answer.CommitResults.{CommitResults}
@@ -17,7 +22,9 @@ use Rattle.held_state.specs.Lenses.{LogicalSet, logical_lens}
 use Rattle.held_state.specs.Promises.{RightOnVolume}
 use Rattle.held_state.specs.Jobs.{Replied}
 use Rattle.held_state.specs.Calls.{ServesOn}
+use Rattle.held_attributes.specs.Laws.{setattr_call}
 use Rattle.held_names.specs.Laws.{lookup_call, readdir_call, commit_call}
+use Rattle.held_changes.specs.Laws.{create_call, mkdir_call, remove_call, rmdir_call}
 
 -- An entry of LOOKUP of a name in the directory of a fileid under Logical, with this result, is right: by whatever handle and at
 -- whatever moment, and whatever the rest of the volume is (RFC 1813 section 3.3.3).
@@ -41,3 +48,40 @@ listing_outcome (Err e) = Starved
 abbrev pub Lists : ℕ → ℕ → PageAsked → LogicalSet → Result (Result ReadDirectoryResults Status) AllocError → Type 0
 Lists v fileid asked set result = (handle : List ℕ)
     → RunsOn v logical_lens (readdir_call handle (Logical v) fileid asked.cookie.0 asked.verifier.0 asked.count) set (listing_outcome result) set
+
+-- ---- calls that change the volume
+
+-- An entry of SETATTR of a fileid, which leaves this, likewise (RFC 1813 section 3.3.2).
+abbrev pub SetsAttributes : ℕ → ℕ → types.SetAttributes → Option Moment → Moment → LogicalSet → Result Change Status → LogicalSet → Type 0
+SetsAttributes v fileid set guard moment old result new = (handle : List ℕ)
+    → RightOnVolume v logical_lens (ServesOn (setattr_call handle (Logical v) fileid set guard moment) false) [] [] old
+    (Replied (Success (answer_of (answers.SetAttributes result)))) new
+
+-- what a call that makes a node comes to: a reply, or memory ran out
+abbrev pub making_outcome : (Result MakeResults Status → Answer) → Result (Result MakeResults Status) AllocError → Outcome
+making_outcome answer (Ok told) = works.Replied (Success (answer_of (answer told)))
+making_outcome answer (Err e) = Starved
+
+-- A run of CREATE of a name in the directory of a fileid, likewise (RFC 1813 section 3.3.8).
+abbrev pub Creates : ℕ → ℕ → List ℕ → types.CreateMode → Credential → Moment → LogicalSet → Result (Result MakeResults Status) AllocError
+    → LogicalSet → Type 0
+Creates v fileid name mode credential moment old result new = (handle : List ℕ)
+    → RunsOn v logical_lens (create_call handle (Logical v) fileid name mode credential moment) old (making_outcome answers.Create result) new
+
+-- A run of MKDIR, likewise (RFC 1813 section 3.3.9).
+abbrev pub MakesDirectory : ℕ → ℕ → List ℕ → types.SetAttributes → Credential → Moment → LogicalSet → Result (Result MakeResults Status) AllocError
+    → LogicalSet → Type 0
+MakesDirectory v fileid name set credential moment old result new = (handle : List ℕ)
+    → RunsOn v logical_lens (mkdir_call handle (Logical v) fileid name set credential moment) old (making_outcome answers.MakeDirectory result) new
+
+-- An entry of REMOVE, likewise (RFC 1813 section 3.3.12).
+abbrev pub Removes : ℕ → ℕ → List ℕ → Moment → LogicalSet → Result Change Status → LogicalSet → Type 0
+Removes v fileid name moment old result new = (handle : List ℕ)
+    → RightOnVolume v logical_lens (ServesOn (remove_call handle (Logical v) fileid name moment) false) [] [] old
+    (Replied (Success (answer_of (answers.Remove result)))) new
+
+-- An entry of RMDIR, likewise (RFC 1813 section 3.3.13).
+abbrev pub RemovesDirectory : ℕ → ℕ → List ℕ → Moment → LogicalSet → Result Change Status → LogicalSet → Type 0
+RemovesDirectory v fileid name moment old result new = (handle : List ℕ)
+    → RightOnVolume v logical_lens (ServesOn (rmdir_call handle (Logical v) fileid name moment) false) [] [] old
+    (Replied (Success (answer_of (answers.RemoveDirectory result)))) new

@@ -1,0 +1,6 @@
+pub mod Named
+pub mod Attributes
+pub mod Making
+pub mod Dropping
+pub mod Laws
+pub mod lemmas

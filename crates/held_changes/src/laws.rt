@@ -1,0 +1,31 @@
+//! What follows from the definitions. The functions do nothing: their contracts are theorems.
+
+ghost use Rattle.held_changes.specs.Laws.{
+  SetattrIsDone,
+  CreateIsDone,
+  MkdirIsDone,
+  CreateMayStarve,
+  MkdirMayStarve,
+  RemoveIsDone,
+  RmdirIsDone,
+};
+
+/// On every sound volume, SETATTR as it is told by what is under Volume Logical is the serial
+/// server's: the answer, what is left, and where its blocks go.
+pub fn setting_calls_are_right()
+    ensures { SetattrIsDone }
+{}
+
+/// So are CREATE and MKDIR, which may starve where they would make a node.
+pub fn making_calls_are_right()
+    ensures create { CreateIsDone }
+    ensures mkdir { MkdirIsDone }
+    ensures create_starves { CreateMayStarve }
+    ensures mkdir_starves { MkdirMayStarve }
+{}
+
+/// So are REMOVE and RMDIR.
+pub fn dropping_calls_are_right()
+    ensures remove { RemoveIsDone }
+    ensures rmdir { RmdirIsDone }
+{}

@@ -1,0 +1,7 @@
+//! What calls that change a volume come to by the parcels under Volume Logical: SETATTR, CREATE,
+//! MKDIR, REMOVE and RMDIR.
+#![tactic(auto)]
+
+mod laws;
+
+pub use laws::{dropping_calls_are_right, making_calls_are_right, setting_calls_are_right};
