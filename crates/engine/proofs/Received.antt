@@ -89,7 +89,12 @@ IsAtHome layout m = home_of_asked layout m.asked ≡ Some m.affinity
 offered-run : (layout : Layout) (call : Call) (node : Affinity) → IsOffered (call_of call) → home layout (call_of call) ≡ Some node → IsRunAt layout call node
 offered-run layout calls.Null node offered at = absurd cc
 offered-run layout (calls.GetAttributes handle) node offered at = (tt, at)
+offered-run layout (calls.SetAttributes handle set guard) node offered at = (tt, at)
 offered-run layout (calls.Lookup target) node offered at = (tt, at)
+offered-run layout (calls.Create target mode) node offered at = (tt, at)
+offered-run layout (calls.MakeDirectory target set) node offered at = (tt, at)
+offered-run layout (calls.Remove target) node offered at = (tt, at)
+offered-run layout (calls.RemoveDirectory target) node offered at = (tt, at)
 offered-run layout (calls.ReadDirectory directory cookie verifier count) node offered at = (tt, at)
 offered-run layout (calls.Commit handle) node offered at = (tt, at)
 offered-run layout call node offered at = absurd offered

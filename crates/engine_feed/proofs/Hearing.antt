@@ -81,7 +81,12 @@ at-once calls calls' c c' origin call credential answer law h a f setup v k p =
 room-offered : (volumes : ℕ) (call : types.Call) → IsOffered call → reply_room volumes call ≤ reply_limit
 room-offered volumes types.Null o = omega arith
 room-offered volumes (types.Getattr handle) o = omega arith
+room-offered volumes (types.Setattr handle set guard) o = omega arith
 room-offered volumes (types.Lookup directory name) o = omega arith
+room-offered volumes (types.Create directory name mode) o = omega arith
+room-offered volumes (types.Mkdir directory name set) o = omega arith
+room-offered volumes (types.Remove directory name) o = omega arith
+room-offered volumes (types.Rmdir directory name) o = omega arith
 room-offered volumes (types.Readdir directory cookie verifier count) o = omega arith
 room-offered volumes (types.Commit handle) o = omega arith
 room-offered volumes call o = absurd o

@@ -17,7 +17,12 @@ pub(crate) fn answer_at_once(call: &OfferedCall) -> Answer
     match call.as_call() {
         Call::Null => Answer::Null,
         Call::GetAttributes { .. } => Answer::GetAttributes(Err(Status::BadHandle)),
+        Call::SetAttributes { .. } => Answer::SetAttributes(Err(Status::BadHandle)),
         Call::Lookup(_) => Answer::Lookup(Err(Status::BadHandle)),
+        Call::Create { .. } => Answer::Create(Err(Status::BadHandle)),
+        Call::MakeDirectory { .. } => Answer::MakeDirectory(Err(Status::BadHandle)),
+        Call::Remove(_) => Answer::Remove(Err(Status::BadHandle)),
+        Call::RemoveDirectory(_) => Answer::RemoveDirectory(Err(Status::BadHandle)),
         Call::ReadDirectory { .. } => Answer::ReadDirectory(Err(Status::BadHandle)),
         Call::Commit { .. } => Answer::Commit(Err(Status::BadHandle)),
         _ => unreachable!(),

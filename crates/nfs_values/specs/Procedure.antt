@@ -30,7 +30,12 @@ numbers_of Grow = (0x20000001, 2)
 abbrev pub is_offered : Procedure → Bool
 is_offered Null = true
 is_offered GetAttributes = true
+is_offered SetAttributes = true
 is_offered Lookup = true
+is_offered Create = true
+is_offered MakeDirectory = true
+is_offered Remove = true
+is_offered RemoveDirectory = true
 is_offered ReadDirectory = true
 is_offered Commit = true
 is_offered AdminNull = true

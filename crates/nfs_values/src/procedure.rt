@@ -83,7 +83,12 @@ impl Procedure {
             self,
             Procedure::Null
                 | Procedure::GetAttributes
+                | Procedure::SetAttributes
                 | Procedure::Lookup
+                | Procedure::Create
+                | Procedure::MakeDirectory
+                | Procedure::Remove
+                | Procedure::RemoveDirectory
                 | Procedure::ReadDirectory
                 | Procedure::Commit
                 | Procedure::AdminNull

@@ -1,11 +1,17 @@
 -- What is asked with the procedures that are offered so far.
-use Rattle.nfs_model.specs.Types.{Call, Null, Getattr, Lookup, Readdir, Commit, Asked, Ask, Refused, Undecoded}
+use Rattle.nfs_model.specs.Types.{Call, Null, Getattr, Setattr, Lookup, Create, Mkdir, Remove, Rmdir, Readdir, Commit}
+use Rattle.nfs_model.specs.Types.{Asked, Ask, Refused, Undecoded}
 
--- NULL, of either program, GETATTR, LOOKUP, READDIR and COMMIT (RFC 1813 sections 3.3.0, 3.3.1, 3.3.3, 3.3.16 and 3.3.21)
+-- NULL, of either program, GETATTR, SETATTR, LOOKUP, CREATE, MKDIR, REMOVE, RMDIR, READDIR and COMMIT (RFC 1813 section 3.3)
 abbrev pub IsOffered : Call → Type 0
 IsOffered Null = Unit {0}
 IsOffered (Getattr handle) = Unit {0}
+IsOffered (Setattr handle set guard) = Unit {0}
 IsOffered (Lookup directory name) = Unit {0}
+IsOffered (Create directory name mode) = Unit {0}
+IsOffered (Mkdir directory name set) = Unit {0}
+IsOffered (Remove directory name) = Unit {0}
+IsOffered (Rmdir directory name) = Unit {0}
 IsOffered (Readdir directory cookie verifier count) = Unit {0}
 IsOffered (Commit handle) = Unit {0}
 IsOffered call = ⊥

@@ -3,7 +3,8 @@ use Rattle.std.proofs.Common.{◌≡◌, ◌≢◌, ℕ, Bool, true, false, cond
 use Rattle.std.specs.List.{filter}
 use Rattle.std.proofs.lemmas.Bool.{eqb-true}
 use Rattle.nfs_values.specs.declared.procedure.Procedure.{Procedure}
-use Rattle.nfs_values.specs.declared.procedure.Procedure.TheVariants.{Null, GetAttributes, Lookup, ReadDirectory, Commit, AdminNull}
+use Rattle.nfs_values.specs.declared.procedure.Procedure.TheVariants.{Null, GetAttributes, SetAttributes, Lookup, Create, MakeDirectory}
+use Rattle.nfs_values.specs.declared.procedure.Procedure.TheVariants.{Remove, RemoveDirectory, ReadDirectory, Commit, AdminNull}
 use Rattle.nfs_values.specs.Procedure.{all_procedures, is_offered, numbers_of}
 use Rattle.rpc_msg.specs.Heads.{is_numbered, procedures}
 
@@ -60,7 +61,12 @@ none_numbered program number h =
 pub find_again : (p : Procedure) → is_offered p ≡ true → find (is_numbered (numbers_of p).0 (numbers_of p).1) procedures ≡ Some p
 find_again Null s = refl
 find_again GetAttributes s = refl
+find_again SetAttributes s = refl
 find_again Lookup s = refl
+find_again Create s = refl
+find_again MakeDirectory s = refl
+find_again Remove s = refl
+find_again RemoveDirectory s = refl
 find_again ReadDirectory s = refl
 find_again Commit s = refl
 find_again AdminNull s = refl
