@@ -1,3 +1,2 @@
 mod Getting
-mod Modes
 mod Runs

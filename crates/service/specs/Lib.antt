@@ -1,6 +1,5 @@
 pub mod Hands
 pub mod Jobs
 pub mod Getattr
-pub mod Setattr
 pub mod Running
 pub mod lemmas

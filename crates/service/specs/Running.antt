@@ -1,29 +1,31 @@
 -- A call run on the parcels under its home.
-use Rattle.std.specs.Prelude.{◌≡◌, ℕ, [], Option, Some, None}
+use Rattle.std.specs.Prelude.{◌≡◌, ℕ, Bool, true, false, [], Option, Some, None}
 use Rattle.nfs_model.specs.Types as types
 use Rattle.nfs_model.specs.Types.{Ask, Credential, Moment, Stale}
-use Rattle.nfs_model.specs.Tree.{Layout, Affinity}
+use Rattle.nfs_model.specs.Tree.{Layout, Affinity, Logical}
 use Rattle.nfs_model.specs.Home.{home, named_by}
 use Rattle.nfs_model.specs.Locate.{Effect, Fails, on_name}
 use Rattle.nfs_model.specs.Serial.Getattr.{getattr}
 use Rattle.nfs_model.specs.Serial.Setattr.{setattr}
 use Rattle.nfs_model.specs.Serial.Commit.{commit}
+use Rattle.nfs_model.specs.Serial.Create.{create}
 use Rattle.nfs_model.specs.Serial.Lookup.{lookup}
+use Rattle.nfs_model.specs.Serial.Mkdir.{mkdir}
 use Rattle.nfs_model.specs.Serial.Readdir.{readdir}
+use Rattle.nfs_model.specs.Serial.Remove.{remove_name}
+use Rattle.nfs_model.specs.Serial.Rmdir.{rmdir}
 use Rattle.nfs_model.specs.Server.{Named, VolumeState}
 use Rattle.nfs_model.specs.Work as works
 use Rattle.affinity_tree.specs.Affinity.{affinity_of}
 use Rattle.affinity_tree.specs.Tree.{IsNode}
 use Rattle.nfs_values.specs.Call.{call_of}
 use Rattle.nfs_values.specs.Reply.{reply_of}
-use Rattle.nfs_values.specs.Set.{set_of}
 use Rattle.nfs_values.specs.declared.call.Call.{Call}
-use Rattle.nfs_values.specs.declared.call.Call.TheVariants.{GetAttributes, SetAttributes, Lookup, ReadDirectory, Commit}
-use Rattle.nfs_values.specs.declared.set.SetAttributes as sets
+use Rattle.nfs_values.specs.declared.call.Call.TheVariants.{GetAttributes, SetAttributes, Lookup, Create, MakeDirectory}
+use Rattle.nfs_values.specs.declared.call.Call.TheVariants.{Remove, RemoveDirectory, ReadDirectory, Commit}
 use Rattle.held_state.specs.Calls.{VolumeCall, handle_in}
 use Rattle.held_state.specs.Parcels.{FilerParcel}
 use Rattle.held_state.specs.Running.{HasFiler, Runs}
-use Rattle.service.specs.Setattr.{only_mode}
 use Rattle.service.specs.declared.outcome.Outcome.{Outcome}
 use Rattle.service.specs.declared.outcome.Outcome.TheVariants.{Replied, Starved, Moved}
 
@@ -36,18 +38,26 @@ outcome_of (Moved affinity) = works.Moved (affinity_of affinity)
 
 -- ---- what is run
 
--- a mode is set, and nothing else
-abbrev pub IsModeAlone : sets.SetAttributes → Type 0
-IsModeAlone set = (mode : ℕ) × (set_of set ≡ only_mode mode)
-
--- The calls that are run so far: GETATTR, LOOKUP, READDIR and COMMIT, and SETATTR of the mode, which no client is served.
+-- The calls that are run so far: all of names and attributes but RENAME, and COMMIT.
 abbrev pub IsRun : Call → Type 0
 IsRun (GetAttributes handle) = Unit {0}
-IsRun (SetAttributes handle set guard) = IsModeAlone set
+IsRun (SetAttributes handle set guard) = Unit {0}
 IsRun (Lookup target) = Unit {0}
+IsRun (Create target mode) = Unit {0}
+IsRun (MakeDirectory target set) = Unit {0}
+IsRun (Remove target) = Unit {0}
+IsRun (RemoveDirectory target) = Unit {0}
 IsRun (ReadDirectory directory cookie verifier count) = Unit {0}
 IsRun (Commit handle) = Unit {0}
 IsRun call = ⊥
+
+-- those of them that change nothing
+abbrev pub is_told : Call → Bool
+is_told (GetAttributes handle) = true
+is_told (Lookup target) = true
+is_told (ReadDirectory directory cookie verifier count) = true
+is_told (Commit handle) = true
+is_told call = false
 
 -- the fileid that a handle names
 abbrev pub fileid_in : Option Named → ℕ
@@ -55,22 +65,35 @@ fileid_in None = 0
 fileid_in (Some named) = named.fileid
 
 -- what the serial server does on the volume of the handle, for the calls that are run so far
-abbrev pub procedure : types.Call → Moment → VolumeState → ℕ → Effect
-procedure (types.Getattr handle) moment = getattr
-procedure (types.Setattr handle set guard) moment = setattr set guard moment
-procedure (types.Lookup directory name) moment = on_name name moment lookup
-procedure (types.Readdir directory cookie verifier count) moment = readdir cookie verifier count
-procedure (types.Commit handle) moment = commit
-procedure call moment = λ volume fileid. Fails Stale
+abbrev pub procedure : types.Call → Credential → Moment → VolumeState → ℕ → Effect
+procedure (types.Getattr handle) credential moment = getattr
+procedure (types.Setattr handle set guard) credential moment = setattr set guard moment
+procedure (types.Lookup directory name) credential moment = on_name name moment lookup
+procedure (types.Create directory name mode) credential moment = on_name name moment (create mode credential)
+procedure (types.Mkdir directory name set) credential moment = on_name name moment (mkdir set credential)
+procedure (types.Remove directory name) credential moment = on_name name moment remove_name
+procedure (types.Rmdir directory name) credential moment = on_name name moment rmdir
+procedure (types.Readdir directory cookie verifier count) credential moment = readdir cookie verifier count
+procedure (types.Commit handle) credential moment = commit
+procedure call credential moment = λ volume fileid. Fails Stale
 
--- a call on a handle, as it is asked of a volume under a node
-abbrev pub call_on : Layout → Affinity → Moment → types.Call → VolumeCall
-call_on layout node moment call = record {
+-- a call on a fileid, as it is asked of a volume under a node
+abbrev pub call_of_node : Affinity → ℕ → Credential → Moment → types.Call → VolumeCall
+call_of_node node fileid credential moment call = record {
   call = call;
   node = node;
-  fileid = fileid_in (named_by layout (handle_in call));
-  run = λ volume. procedure call moment volume (fileid_in (named_by layout (handle_in call)));
+  fileid = fileid;
+  run = λ volume. procedure call credential moment volume fileid;
 }
+
+-- a call on what a handle names, under Logical of its volume
+abbrev pub call_named : Named → Credential → Moment → types.Call → VolumeCall
+call_named named credential moment call = call_of_node (Logical named.volume) named.fileid credential moment call
+
+-- a call on a handle, as it is asked of a volume under a node
+abbrev pub call_on : Layout → Affinity → Credential → Moment → types.Call → VolumeCall
+call_on layout node credential moment call =
+    call_of_node node (fileid_in (named_by layout (handle_in call))) credential moment call
 
 -- ---- where it is run
 

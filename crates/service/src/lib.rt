@@ -8,10 +8,9 @@ mod job;
 mod machine;
 mod outcome;
 mod run;
-mod setting;
 mod task;
 
-pub use attributes::{get_attributes, set_mode};
+pub use attributes::get_attributes;
 pub use batch::BatchInHand;
 pub use job::{Asked, InnerCall, Job, JobReply, ServedCall};
 pub use machine::Service;

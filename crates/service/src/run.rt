@@ -1,95 +1,165 @@
 //! Calls run on the parcels under their homes.
 
-ghost use Rattle.std.specs.Prelude.{◌≡◌, Some, []};
-ghost use Rattle.nfs_model.specs.Home.{home, logical_home, named_by};
+ghost use Rattle.std.specs.Prelude.{◌≡◌, true, false, Some, []};
+ghost use Rattle.nfs_model.specs.Home.{home, named_by};
 ghost use Rattle.nfs_model.specs.Tree as trees;
 ghost use Rattle.nfs_model.specs.Types as types;
 ghost use Rattle.affinity_tree.specs.Affinity.{affinity_of};
 ghost use Rattle.affinity_tree.specs.Layout.{layout_of};
 ghost use Rattle.nfs_values.specs.Call.{call_of};
+ghost use Rattle.nfs_values.specs.Credential.{credential_of};
 ghost use Rattle.nfs_values.specs.Handle.{named_of};
 ghost use Rattle.nfs_values.specs.Moment.{moment_of};
-ghost use Rattle.nfs_values.specs.Set.{set_of};
-ghost use Rattle.std.specs.Option.{option_map};
+ghost use Rattle.nfs_values.specs.declared.answer.Answer.TheVariants as answers;
 ghost use Rattle.parcel_sets.specs.Filled.{logical_alike};
 ghost use Rattle.parcel_sets.specs.Sets.{volume_of};
+ghost use Rattle.held_state.specs.Calls.{handle_in};
 ghost use Rattle.held_state.specs.Lenses.{logical_lens};
 ghost use Rattle.held_state.specs.Promises.{HasVolume};
 ghost use Rattle.held_state.specs.Running.{RunsOn, UnlessReplied};
 ghost use Rattle.held_state.specs.Sets.{logical_before, logical_after};
-ghost use Rattle.service_names.specs.Promises.{listing_outcome};
-ghost use Rattle.service.specs.Running.{call_on, outcome_of, IsModeAlone, IsRun};
+ghost use Rattle.service_names.specs.Promises.{listing_outcome, making_outcome};
+ghost use Rattle.service.specs.Running.{call_named, call_on, is_told, outcome_of, IsRun};
 
-use crate::attributes::{get_attributes, set_mode};
+use crate::attributes::get_attributes;
 use crate::outcome::Outcome;
+use crate::task::Run;
 use affinity::named_by;
 use affinity_tree::{Affinity, Layout};
-use nfs_values::{
-    Answer, Call, FileHandle, Moment, Named, ReadDirectoryResults, Reply, SetAttributes, Status,
-};
+use nfs_values::{Answer, Call, FileHandle, MakeResults, Named, ReadDirectoryResults, Reply, Status};
 use parcel_sets::LogicalHeld;
 use parcels::Files;
-use service_names::{PageAsked, commit, lookup, read_directory};
-use std::alloc::{AllocError, Global};
+use service_names::{
+    PageAsked, commit, create, lookup, make_directory, read_directory, remove, remove_directory,
+    set_attributes,
+};
+use std::alloc::AllocError;
 
-/// Runs a call on the parcels of the names and attributes of its volume, its home. Of the calls
-/// that are run so far READDIR alone takes memory.
+/// Runs a call on the parcels of the names and attributes of its volume, its home.
 pub fn run_on_logical(
-    alloc: Global,
+    run: Run,
     layout: &Layout,
     affinity: Affinity,
     held: &mut LogicalHeld<Files>,
-    call: &Call,
-    moment: Moment,
 ) -> Outcome
-    requires run { IsRun call.now }
-    requires home { home (layout_of layout.now) (call_of call.now) ≡ Some (affinity_of affinity) }
+    requires run { IsRun run.call.now }
+    requires home { home (layout_of layout.now) (call_of run.call.now)
+        ≡ Some (affinity_of affinity) }
     requires whole { HasVolume (volume_of (affinity_of affinity)) logical_lens []
         (logical_before held.old) }
     ensures runs { let L = layout_of layout.now in let a = affinity_of affinity in
-        RunsOn (volume_of a) logical_lens (call_on L a (moment_of moment) (call_of call.now))
+        RunsOn (volume_of a) logical_lens
+        (call_on L a (credential_of run.credential) (moment_of run.moment) (call_of run.call.now))
         (logical_before held.old) (outcome_of result) (logical_after held.old held.new) }
     ensures moved { UnlessReplied (outcome_of result) (held.new ≡ held.old) }
     ensures alike { logical_alike held.old held.new }
 {
-    match call {
-        Call::GetAttributes { handle } => {
-            let named = named_here(layout, affinity, handle);
-            let told = get_attributes(held, named.volume, named.fileid);
+    let named = named_here(layout, affinity, run.call);
+    if is_told(run.call) {
+        tell(run, held, named)
+    } else {
+        change(run, held, named)
+    }
+}
+
+/// Whether a call that is run changes nothing.
+fn is_told(call: &Call) -> bool
+    ensures { result ≡ is_told call.now }
+{
+    matches!(
+        call,
+        Call::GetAttributes { .. }
+            | Call::Lookup(_)
+            | Call::ReadDirectory { .. }
+            | Call::Commit { .. }
+    )
+}
+
+/// Runs a call that changes nothing on the parcels of the volume of what its handle names.
+fn tell(run: Run, held: &LogicalHeld<Files>, named: Named) -> Outcome
+    requires told { is_told run.call.now ≡ true }
+    requires whole { HasVolume named.volume.0 logical_lens [] (logical_before held.now) }
+    ensures runs { RunsOn named.volume.0 logical_lens
+        (call_named (named_of named) (credential_of run.credential) (moment_of run.moment)
+        (call_of run.call.now))
+        (logical_before held.now) (outcome_of result) (logical_before held.now) }
+{
+    let Named { volume, fileid } = named;
+    match run.call {
+        Call::GetAttributes { .. } => {
+            let told = get_attributes(held, volume, fileid);
             Outcome::Replied(Reply::Success(Answer::GetAttributes(told)))
         }
-        Call::SetAttributes { handle, set, guard } => {
-            let Some(mode) = set.mode else {
-                unreachable!();
-            };
-            let named = named_here(layout, affinity, handle);
-            let told = set_mode(held, named.volume, named.fileid, mode, *guard, moment);
-            Outcome::Replied(Reply::Success(Answer::SetAttributes(told)))
-        }
         Call::Lookup(target) => {
-            let named = named_here(layout, affinity, &target.directory);
-            let told = lookup(held, named.volume, named.fileid, target.name.as_bytes());
+            let told = lookup(held, volume, fileid, target.name.as_bytes());
             Outcome::Replied(Reply::Success(Answer::Lookup(told)))
         }
         Call::ReadDirectory {
-            directory,
+            directory: _,
             cookie,
             verifier,
             count,
         } => {
-            let named = named_here(layout, affinity, directory);
             let asked = PageAsked {
                 cookie: *cookie,
                 verifier: *verifier,
                 count: *count,
             };
-            let listed = read_directory(alloc, held, named.volume, named.fileid, asked);
-            outcome_listed(listed)
+            outcome_listed(read_directory(run.alloc, held, volume, fileid, asked))
         }
-        Call::Commit { handle } => {
-            let named = named_here(layout, affinity, handle);
-            let told = commit(held, named.volume, named.fileid);
+        Call::Commit { .. } => {
+            let told = commit(held, volume, fileid);
             Outcome::Replied(Reply::Success(Answer::Commit(told)))
+        }
+        _ => unreachable!(),
+    }
+}
+
+/// Runs a call that may change the volume of what its handle names, on the volume's parcels.
+fn change(run: Run, held: &mut LogicalHeld<Files>, named: Named) -> Outcome
+    requires run { IsRun run.call.now }
+    requires changes { is_told run.call.now ≡ false }
+    requires whole { HasVolume named.volume.0 logical_lens [] (logical_before held.old) }
+    ensures runs { RunsOn named.volume.0 logical_lens
+        (call_named (named_of named) (credential_of run.credential) (moment_of run.moment)
+        (call_of run.call.now))
+        (logical_before held.old) (outcome_of result) (logical_after held.old held.new) }
+    ensures moved { UnlessReplied (outcome_of result) (held.new ≡ held.old) }
+    ensures alike { logical_alike held.old held.new }
+{
+    let Named { volume, fileid } = named;
+    let Run {
+        alloc,
+        call,
+        credential,
+        moment,
+    } = run;
+    match call {
+        Call::SetAttributes {
+            handle: _,
+            set,
+            guard,
+        } => {
+            let told = set_attributes(held, volume, fileid, set, *guard, moment);
+            Outcome::Replied(Reply::Success(Answer::SetAttributes(told)))
+        }
+        Call::Create { target, mode } => {
+            let name = target.name.as_bytes();
+            let made = create(alloc, held, volume, fileid, name, mode, credential, moment);
+            outcome_created(made)
+        }
+        Call::MakeDirectory { target, set } => {
+            let name = target.name.as_bytes();
+            let made = make_directory(alloc, held, volume, fileid, name, set, credential, moment);
+            outcome_directory_made(made)
+        }
+        Call::Remove(target) => {
+            let told = remove(held, volume, fileid, target.name.as_bytes(), moment);
+            Outcome::Replied(Reply::Success(Answer::Remove(told)))
+        }
+        Call::RemoveDirectory(target) => {
+            let told = remove_directory(held, volume, fileid, target.name.as_bytes(), moment);
+            Outcome::Replied(Reply::Success(Answer::RemoveDirectory(told)))
         }
         _ => unreachable!(),
     }
@@ -105,15 +175,55 @@ fn outcome_listed(listed: Result<Result<ReadDirectoryResults, Status>, AllocErro
     }
 }
 
-/// What a handle names, where the home of its call is Volume Logical.
-fn named_here(layout: &Layout, affinity: Affinity, handle: &FileHandle) -> Named
-    requires { logical_home (named_by (layout_of layout.now) handle.now)
-        ≡ Some (affinity_of affinity) }
-    ensures named { named_by (layout_of layout.now) handle.now ≡ Some (named_of result) }
+/// What a CREATE comes to.
+fn outcome_created(made: Result<Result<MakeResults, Status>, AllocError>) -> Outcome
+    ensures { outcome_of result ≡ making_outcome answers.Create made }
+{
+    match made {
+        Ok(told) => Outcome::Replied(Reply::Success(Answer::Create(told))),
+        Err(AllocError) => Outcome::Starved,
+    }
+}
+
+/// What a MKDIR comes to.
+fn outcome_directory_made(made: Result<Result<MakeResults, Status>, AllocError>) -> Outcome
+    ensures { outcome_of result ≡ making_outcome answers.MakeDirectory made }
+{
+    match made {
+        Ok(told) => Outcome::Replied(Reply::Success(Answer::MakeDirectory(told))),
+        Err(AllocError) => Outcome::Starved,
+    }
+}
+
+/// What the handle of a call names, where the home of the call is Volume Logical.
+fn named_here(layout: &Layout, affinity: Affinity, call: &Call) -> Named
+    requires run { IsRun call.now }
+    requires home { home (layout_of layout.now) (call_of call.now) ≡ Some (affinity_of affinity) }
+    ensures named { named_by (layout_of layout.now) (handle_in (call_of call.now))
+        ≡ Some (named_of result) }
     ensures node { affinity_of affinity ≡ trees.Logical result.volume.0 }
 {
-    match named_by(handle, layout) {
+    match named_by(handle_of(call), layout) {
         Some(named) => named,
         None => unreachable!(),
+    }
+}
+
+/// The handle of a call that is run.
+fn handle_of(call: &Call) -> &FileHandle
+    requires { IsRun call.now }
+    ensures { result.now ≡ handle_in (call_of call.now) }
+{
+    match call {
+        Call::GetAttributes { handle } => handle,
+        Call::SetAttributes { handle, .. } => handle,
+        Call::Lookup(target) => &target.directory,
+        Call::Create { target, .. } => &target.directory,
+        Call::MakeDirectory { target, .. } => &target.directory,
+        Call::Remove(target) => &target.directory,
+        Call::RemoveDirectory(target) => &target.directory,
+        Call::ReadDirectory { directory, .. } => directory,
+        Call::Commit { handle } => handle,
+        _ => unreachable!(),
     }
 }

@@ -52,7 +52,7 @@ impl<'a> Task<Parcel<Files>, ParcelKinds> for Run<'a> {
         affinity: Affinity,
         held: &mut LogicalHeld<Files>,
     ) -> Outcome {
-        run_on_logical(self.alloc, layout, affinity, held, self.call, self.moment)
+        run_on_logical(self, layout, affinity, held)
     }
 
     fn on_volume(self, _: &Layout, _: Affinity, _: &mut VolumeHeld<Files>) -> Outcome {

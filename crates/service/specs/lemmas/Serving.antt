@@ -44,22 +44,22 @@ named-there (Some n) v e = let same : n.volume ≡ v = cc in (n.fileid, λ j. So
 -- a call on one handle, whose home is Logical
 on-handle : (layout : Layout) (v : ℕ) (call : types.Call) (credential : Credential) (moment : Moment)
     → logical_home (named_by layout (handle_in call)) ≡ Some (Logical v) → home layout call ≡ Some (Logical v)
-    → ((server : Server) → serve server call credential moment ≡ on server (absent_parts call) (locate server (handle_in call)) (procedure call moment))
-    → IsCallOn layout v (call_on layout (Logical v) moment call) credential moment
+    → ((server : Server) → serve server call credential moment ≡ on server (absent_parts call) (locate server (handle_in call)) (procedure call credential moment))
+    → IsCallOn layout v (call_on layout (Logical v) credential moment call) credential moment
 on-handle layout v call credential moment at is serves =
     let named = named-there (named_by layout (handle_in call)) v at in
     subst (λ (o : Option Named). IsCallOn layout v (record {
       call = call;
       node = Logical v;
       fileid = fileid_in o;
-      run = λ volume. procedure call moment volume (fileid_in o);
+      run = λ volume. procedure call credential moment volume (fileid_in o);
     }) credential moment) (sym named.1) (record {
       good = named.1;
       under = refl;
       tried = (Logical v, is, own (aggregate_of layout v));
       served = λ server volume count there.
           serves server
-          ∙ ap (λ o. on server (absent_parts call) o (procedure call moment))
+          ∙ ap (λ o. on server (absent_parts call) o (procedure call credential moment))
           (ap (λ (n : ℕ). located_by server.volumes (handle_of n (handle_in call))) count ∙ ap (located_by server.volumes) named.1
           ∙ ap (located_in (record { volume = v; fileid = named.0 })) there);
     })
@@ -68,13 +68,21 @@ on-handle layout v call credential moment at is serves =
     own a = ap (λ (b : Bool). b && ((v == v) && true)) (eq-eqb a a refl) ∙ ap (λ (b : Bool). b && true) (eq-eqb v v refl)
 
 pub run-is-call : (layout : Layout) (v : ℕ) (call : Call) (credential : Credential) (moment : Moment) → IsRun call
-    → home layout (call_of call) ≡ Some (Logical v) → IsCallOn layout v (call_on layout (Logical v) moment (call_of call)) credential moment
+    → home layout (call_of call) ≡ Some (Logical v) → IsCallOn layout v (call_on layout (Logical v) credential moment (call_of call)) credential moment
 run-is-call layout v (calls.GetAttributes handle) credential moment run is =
     on-handle layout v (types.Getattr handle) credential moment is is (λ server. refl)
 run-is-call layout v (calls.SetAttributes handle set guard) credential moment run is =
     on-handle layout v (call_of (calls.SetAttributes handle set guard)) credential moment is is (λ server. refl)
 run-is-call layout v (calls.Lookup target) credential moment run is =
     on-handle layout v (call_of (calls.Lookup target)) credential moment is is (λ server. refl)
+run-is-call layout v (calls.Create target mode) credential moment run is =
+    on-handle layout v (call_of (calls.Create target mode)) credential moment is is (λ server. refl)
+run-is-call layout v (calls.MakeDirectory target set) credential moment run is =
+    on-handle layout v (call_of (calls.MakeDirectory target set)) credential moment is is (λ server. refl)
+run-is-call layout v (calls.Remove target) credential moment run is =
+    on-handle layout v (call_of (calls.Remove target)) credential moment is is (λ server. refl)
+run-is-call layout v (calls.RemoveDirectory target) credential moment run is =
+    on-handle layout v (call_of (calls.RemoveDirectory target)) credential moment is is (λ server. refl)
 run-is-call layout v (calls.ReadDirectory directory cookie verifier count) credential moment run is =
     on-handle layout v (call_of (calls.ReadDirectory directory cookie verifier count)) credential moment is is (λ server. refl)
 run-is-call layout v (calls.Commit handle) credential moment run is =
@@ -87,13 +95,22 @@ logical-there : (named : Option Named) (a : Affinity) → logical_home named ≡
 logical-there None a e = absurd cc
 logical-there (Some n) a e = let at : Logical n.volume ≡ a = cc in sym at ∙ ap (λ (b : Affinity). Logical (volume_of b)) at
 
+-- the home of a call that is run is that of its handle
+pub home-by-handle : (layout : Layout) (call : Call) → IsRun call → home layout (call_of call) ≡ logical_home (named_by layout (handle_in (call_of call)))
+home-by-handle layout (calls.GetAttributes handle) run = refl
+home-by-handle layout (calls.SetAttributes handle set guard) run = refl
+home-by-handle layout (calls.Lookup target) run = refl
+home-by-handle layout (calls.Create target mode) run = refl
+home-by-handle layout (calls.MakeDirectory target set) run = refl
+home-by-handle layout (calls.Remove target) run = refl
+home-by-handle layout (calls.RemoveDirectory target) run = refl
+home-by-handle layout (calls.ReadDirectory directory cookie verifier count) run = refl
+home-by-handle layout (calls.Commit handle) run = refl
+home-by-handle layout call run = absurd run
+
 pub run-home : (layout : Layout) (a : Affinity) (call : Call) → IsRun call → home layout (call_of call) ≡ Some a → a ≡ Logical (volume_of a)
-run-home layout a (calls.GetAttributes handle) run is = logical-there (named_by layout handle) a is
-run-home layout a (calls.SetAttributes handle set guard) run is = logical-there (named_by layout handle) a is
-run-home layout a (calls.Lookup target) run is = logical-there (named_by layout target.directory) a is
-run-home layout a (calls.ReadDirectory directory cookie verifier count) run is = logical-there (named_by layout directory) a is
-run-home layout a (calls.Commit handle) run is = logical-there (named_by layout handle) a is
-run-home layout a call run is = absurd run
+run-home layout a call run is =
+    logical-there (named_by layout (handle_in (call_of call))) a (sym (home-by-handle layout call run) ∙ is)
 
 -- ---- the run
 
@@ -106,17 +123,17 @@ module _ {P : Type 0} (layout : Layout) (lawful : fault_of layout ≡ None) (cal
     (old new : FilerLogical P) (outcome : Outcome) (same : UnlessReplied outcome (new ≡ old)) where
   abbrev RunsAt : Affinity → Type 0
   RunsAt a = IsNode layout a → home layout (call_of call) ≡ Some a → old.own.stripes ≡ stripes_of layout (volume_of a)
-      → RunsOn (volume_of a) logical_lens (call_on layout a moment (call_of call)) (logical_before old) outcome (logical_after old new)
+      → RunsOn (volume_of a) logical_lens (call_on layout a credential moment (call_of call)) (logical_before old) outcome (logical_after old new)
       → Runs layout a (Ask (call_of call) credential) moment (logical_parcels layout a old) outcome (logical_parcels layout a new)
 
   runs-here : (v : ℕ) → RunsAt (Logical v)
   runs-here v on is own right =
-      runs-by layout v on logical_lens (λ s p. refl) (call_on layout (Logical v) moment (call_of call)) credential moment
+      runs-by layout v on logical_lens (λ s p. refl) (call_on layout (Logical v) credential moment (call_of call)) credential moment
       (run-is-call layout v call credential moment run is)
       (logical_parcels layout (Logical v) old) (logical_parcels layout (Logical v) new)
       (logical_set (stripes_of layout v) old) (logical_set (stripes_of layout v) new) (logical-seen layout lawful v on old)
       (λ job reply step. logical-step layout lawful job reply v on old new step) outcome
-      (subst (λ (n : ℕ). RunsOn v logical_lens (call_on layout (Logical v) moment (call_of call)) (logical_set n old) outcome (logical_set n new)) own right)
+      (subst (λ (n : ℕ). RunsOn v logical_lens (call_on layout (Logical v) credential moment (call_of call)) (logical_set n old) outcome (logical_set n new)) own right)
       (unless-mapped outcome (new ≡ old) ((k : ℕ) → logical_parcels layout (Logical v) new k ≡ logical_parcels layout (Logical v) old k)
       (λ e k. ap (λ (h : FilerLogical P). logical_parcels layout (Logical v) h k) e) same)
 
@@ -133,24 +150,28 @@ run-tried layout call credential a at = (a, at.1, begins-self (path layout a))
 
 -- ---- where it moves
 
-never-moves : (layout : Layout) (a : Affinity) (moment : Moment) (call : Call) → IsRun call → (p : VolumeContents)
-    → move_on (call_on layout a moment (call_of call)) p ≡ None
-never-moves layout a moment (calls.GetAttributes handle) run p = refl
-never-moves layout a moment (calls.SetAttributes handle set guard) run p = refl
-never-moves layout a moment (calls.Lookup target) run p = refl
-never-moves layout a moment (calls.ReadDirectory directory cookie verifier count) run p = refl
-never-moves layout a moment (calls.Commit handle) run p = refl
-never-moves layout a moment call run p = absurd run
+never-moves : (layout : Layout) (a : Affinity) (credential : Credential) (moment : Moment) (call : Call) → IsRun call → (p : VolumeContents)
+    → move_on (call_on layout a credential moment (call_of call)) p ≡ None
+never-moves layout a credential moment (calls.GetAttributes handle) run p = refl
+never-moves layout a credential moment (calls.SetAttributes handle set guard) run p = refl
+never-moves layout a credential moment (calls.Lookup target) run p = refl
+never-moves layout a credential moment (calls.Create target mode) run p = refl
+never-moves layout a credential moment (calls.MakeDirectory target set) run p = refl
+never-moves layout a credential moment (calls.Remove target) run p = refl
+never-moves layout a credential moment (calls.RemoveDirectory target) run p = refl
+never-moves layout a credential moment (calls.ReadDirectory directory cookie verifier count) run p = refl
+never-moves layout a credential moment (calls.Commit handle) run p = refl
+never-moves layout a credential moment call run p = absurd run
 
 -- a call that was run on a part of its volume is run where it moves
-pub moves-on : (layout : Layout) (a : Affinity) (call : Call) → IsRun call → (moment : Moment) (old new : LogicalSet) (outcome : Outcome)
+pub moves-on : (layout : Layout) (a : Affinity) (call : Call) → IsRun call → (credential : Credential) (moment : Moment) (old new : LogicalSet) (outcome : Outcome)
     → HasVolume (volume_of a) logical_lens [] old
-    → RunsOn (volume_of a) logical_lens (call_on layout a moment (call_of call)) old outcome new → MovesOn layout call outcome
-moves-on layout a call run moment old new (Replied reply) whole right = tt
-moves-on layout a call run moment old new Starved whole right = tt
-moves-on layout a call run moment old new (Moved other) w right =
-    let moves : move_on (call_on layout a moment (call_of call)) w.0 ≡ Some other = (right w.0 w.1 w.2 w.3 w.4 w.5 w.8 w.7).0.0 in
-    let not = never-moves layout a moment call run w.0 in
+    → RunsOn (volume_of a) logical_lens (call_on layout a credential moment (call_of call)) old outcome new → MovesOn layout call outcome
+moves-on layout a call run credential moment old new (Replied reply) whole right = tt
+moves-on layout a call run credential moment old new Starved whole right = tt
+moves-on layout a call run credential moment old new (Moved other) w right =
+    let moves : move_on (call_on layout a credential moment (call_of call)) w.0 ≡ Some other = (right w.0 w.1 w.2 w.3 w.4 w.5 w.8 w.7).0.0 in
+    let not = never-moves layout a credential moment call run w.0 in
     absurd cc
 
 -- ---- what a run needs
