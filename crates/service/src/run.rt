@@ -49,7 +49,8 @@ pub fn run_on_logical(
         (logical_before held.old) }
     ensures runs { let L = layout_of layout.now in let a = affinity_of affinity in
         RunsOn (volume_of a) logical_lens
-        (call_on L a (credential_of run.credential) (moment_of run.moment) (call_of run.call.now))
+        (call_on L a (credential_of run.entry.credential) (moment_of run.entry.moment)
+        (call_of run.entry.call.now))
         (logical_before held.old) (outcome_of result) (logical_after held.old held.new) }
     ensures moved { UnlessReplied (outcome_of result) (held.new ≡ held.old) }
     ensures alike { logical_alike held.old held.new }
@@ -80,8 +81,8 @@ fn tell(run: Run, held: &LogicalHeld<Files>, named: Named) -> Outcome
     requires told { is_told run.call.now ≡ true }
     requires whole { HasVolume named.volume.0 logical_lens [] (logical_before held.now) }
     ensures runs { RunsOn named.volume.0 logical_lens
-        (call_named (named_of named) (credential_of run.credential) (moment_of run.moment)
-        (call_of run.call.now))
+        (call_named (named_of named) (credential_of run.entry.credential) (moment_of run.entry.moment)
+        (call_of run.entry.call.now))
         (logical_before held.now) (outcome_of result) (logical_before held.now) }
 {
     let Named { volume, fileid } = named;
@@ -121,8 +122,8 @@ fn change(run: Run, held: &mut LogicalHeld<Files>, named: Named) -> Outcome
     requires changes { is_told run.call.now ≡ false }
     requires whole { HasVolume named.volume.0 logical_lens [] (logical_before held.old) }
     ensures runs { RunsOn named.volume.0 logical_lens
-        (call_named (named_of named) (credential_of run.credential) (moment_of run.moment)
-        (call_of run.call.now))
+        (call_named (named_of named) (credential_of run.entry.credential) (moment_of run.entry.moment)
+        (call_of run.entry.call.now))
         (logical_before held.old) (outcome_of result) (logical_after held.old held.new) }
     ensures moved { UnlessReplied (outcome_of result) (held.new ≡ held.old) }
     ensures alike { logical_alike held.old held.new }

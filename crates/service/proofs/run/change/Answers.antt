@@ -1,0 +1,95 @@
+use Rattle.std.proofs.Common.{ℕ, List, sym, subst}
+use Rattle.std.specs.Option.{option_map}
+use Rattle.nfs_model.specs.Tree.{Logical}
+use Rattle.nfs_model.specs.Types.{Success}
+use Rattle.nfs_model.specs.Work.{Outcome, Replied}
+use Rattle.nfs_values.specs.Answer.{answer_of}
+use Rattle.nfs_values.specs.Call.{call_of}
+use Rattle.nfs_values.specs.Credential.{credential_of}
+use Rattle.nfs_values.specs.Handle.{named_of}
+use Rattle.nfs_values.specs.Moment.{moment_of}
+use Rattle.nfs_values.specs.Set.{set_of, mode_of}
+use Rattle.nfs_values.specs.declared.answer.Answer.TheVariants as answers
+use Rattle.nfs_values.specs.declared.call.Call.{Call}
+use Rattle.held_attributes.specs.Laws.{setattr_call}
+use Rattle.held_changes.specs.Laws.{create_call, mkdir_call, remove_call, rmdir_call}
+use Rattle.held_state.specs.Lenses.{logical_lens}
+use Rattle.held_state.specs.Running.{RunsOn}
+use Rattle.held_state.specs.Sets.{logical_before, logical_after}
+use Rattle.service_names.specs.Promises.{Creates, MakesDirectory, Removes, RemovesDirectory}
+use Rattle.service.specs.Running.{call_named, outcome_of}
+use Rattle.service.proofs.Runs.{served-runs}
+use Rattle.service.proofs.run.change.Goals as goal
+
+pub returns-in-SetAttributes-clause-runs : goal.returns-in-SetAttributes-clause-runs
+returns-in-SetAttributes-clause-runs c =
+    let n = named_of c.args.named in
+    let old = logical_before c.args.held.now in
+    let new = logical_after c.args.held.now c.set_attributes-told.new.held in
+    let moment = moment_of c.args.run.moment in
+    let asked = c.in-SetAttributes in
+    let told = answer_of (answers.SetAttributes c.set_attributes-told.result) in
+    subst (λ (call : Call). RunsOn n.volume logical_lens (call_named n (credential_of c.args.run.credential) moment (call_of call))
+    old (Replied (Success told)) new) (sym asked.is)
+    (served-runs n.volume (setattr_call asked.handle (Logical n.volume) n.fileid (set_of asked.set) (option_map moment_of asked.guard) moment) old new told
+    (c.set_attributes-told.ensures.right asked.handle))
+
+pub returns-in-Create-clause-runs : goal.returns-in-Create-clause-runs
+returns-in-Create-clause-runs c =
+    let n = named_of c.args.named in
+    let old = logical_before c.args.held.now in
+    let new = logical_after c.args.held.now c.create-made.new.held in
+    let credential = credential_of c.args.run.credential in
+    let moment = moment_of c.args.run.moment in
+    let asked = c.in-Create in
+    subst (λ (call : Call). RunsOn n.volume logical_lens (call_named n credential moment (call_of call)) old (outcome_of c.outcome_created.result) new)
+    (sym asked.is)
+    (subst (λ (o : Outcome). RunsOn n.volume logical_lens
+    (create_call asked.target.directory (Logical n.volume) n.fileid asked.target.name (mode_of asked.mode) credential moment) old o new)
+    (sym c.outcome_created.ensures)
+    (subst (λ (name : List ℕ). Creates n.volume n.fileid name (mode_of asked.mode) credential moment old c.create-made.result new)
+    c.as_bytes-name.ensures c.create-made.ensures.right asked.target.directory))
+
+pub returns-in-MakeDirectory-clause-runs : goal.returns-in-MakeDirectory-clause-runs
+returns-in-MakeDirectory-clause-runs c =
+    let n = named_of c.args.named in
+    let old = logical_before c.args.held.now in
+    let new = logical_after c.args.held.now c.make_directory-made.new.held in
+    let credential = credential_of c.args.run.credential in
+    let moment = moment_of c.args.run.moment in
+    let asked = c.in-MakeDirectory in
+    subst (λ (call : Call). RunsOn n.volume logical_lens (call_named n credential moment (call_of call)) old (outcome_of c.outcome_directory_made.result) new)
+    (sym asked.is)
+    (subst (λ (o : Outcome). RunsOn n.volume logical_lens
+    (mkdir_call asked.target.directory (Logical n.volume) n.fileid asked.target.name (set_of asked.set) credential moment) old o new)
+    (sym c.outcome_directory_made.ensures)
+    (subst (λ (name : List ℕ). MakesDirectory n.volume n.fileid name (set_of asked.set) credential moment old c.make_directory-made.result new)
+    c.as_bytes-name-in-MakeDirectory.ensures c.make_directory-made.ensures.right asked.target.directory))
+
+pub returns-in-Remove-clause-runs : goal.returns-in-Remove-clause-runs
+returns-in-Remove-clause-runs c =
+    let n = named_of c.args.named in
+    let old = logical_before c.args.held.now in
+    let new = logical_after c.args.held.now c.remove-told.new.held in
+    let moment = moment_of c.args.run.moment in
+    let target = c.in-Remove.target in
+    let told = answer_of (answers.Remove c.remove-told.result) in
+    subst (λ (call : Call). RunsOn n.volume logical_lens (call_named n (credential_of c.args.run.credential) moment (call_of call))
+    old (Replied (Success told)) new) (sym c.in-Remove.is)
+    (served-runs n.volume (remove_call target.directory (Logical n.volume) n.fileid target.name moment) old new told
+    (subst (λ (name : List ℕ). Removes n.volume n.fileid name moment old c.remove-told.result new) c.as_bytes.ensures c.remove-told.ensures.right
+    target.directory))
+
+pub returns-in-RemoveDirectory-clause-runs : goal.returns-in-RemoveDirectory-clause-runs
+returns-in-RemoveDirectory-clause-runs c =
+    let n = named_of c.args.named in
+    let old = logical_before c.args.held.now in
+    let new = logical_after c.args.held.now c.remove_directory-told.new.held in
+    let moment = moment_of c.args.run.moment in
+    let target = c.in-RemoveDirectory.target in
+    let told = answer_of (answers.RemoveDirectory c.remove_directory-told.result) in
+    subst (λ (call : Call). RunsOn n.volume logical_lens (call_named n (credential_of c.args.run.credential) moment (call_of call))
+    old (Replied (Success told)) new) (sym c.in-RemoveDirectory.is)
+    (served-runs n.volume (rmdir_call target.directory (Logical n.volume) n.fileid target.name moment) old new told
+    (subst (λ (name : List ℕ). RemovesDirectory n.volume n.fileid name moment old c.remove_directory-told.result new)
+    c.as_bytes-in-RemoveDirectory.ensures c.remove_directory-told.ensures.right target.directory))

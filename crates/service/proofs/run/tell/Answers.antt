@@ -1,0 +1,62 @@
+use Rattle.std.proofs.Common.{ℕ, List, sym, subst}
+use Rattle.nfs_model.specs.Tree.{Logical}
+use Rattle.nfs_model.specs.Types.{Success}
+use Rattle.nfs_model.specs.Work.{Outcome, Replied}
+use Rattle.nfs_values.specs.Answer.{answer_of}
+use Rattle.nfs_values.specs.Call.{call_of}
+use Rattle.nfs_values.specs.Credential.{credential_of}
+use Rattle.nfs_values.specs.Handle.{named_of}
+use Rattle.nfs_values.specs.Moment.{moment_of}
+use Rattle.nfs_values.specs.declared.answer.Answer.TheVariants as answers
+use Rattle.nfs_values.specs.declared.call.Call.{Call}
+use Rattle.held_attributes.specs.Laws.{getattr_call}
+use Rattle.held_names.specs.Laws.{lookup_call, readdir_call, commit_call}
+use Rattle.held_state.specs.Lenses.{logical_lens}
+use Rattle.held_state.specs.Running.{RunsOn}
+use Rattle.held_state.specs.Sets.{logical_before}
+use Rattle.service_names.specs.Promises.{LooksUp}
+use Rattle.service.specs.Running.{call_named, outcome_of}
+use Rattle.service.proofs.Runs.{served-runs}
+use Rattle.service.proofs.run.tell.Goals as goal
+
+pub returns-in-GetAttributes : goal.returns-in-GetAttributes
+returns-in-GetAttributes c =
+    let n = named_of c.args.named in
+    let old = logical_before c.args.held.now in
+    let told = answer_of (answers.GetAttributes c.get_attributes-told.result) in
+    record { runs = subst (λ (call : Call). RunsOn n.volume logical_lens (call_named n (credential_of c.args.run.credential) (moment_of c.args.run.moment) (call_of call))
+    old (Replied (Success told)) old) (sym c.in-GetAttributes.is)
+    (served-runs n.volume (getattr_call c.in-GetAttributes.handle (Logical n.volume) n.fileid) old old told
+    (c.get_attributes-told.ensures.right c.in-GetAttributes.handle)) }
+
+pub returns-in-Lookup : goal.returns-in-Lookup
+returns-in-Lookup c =
+    let n = named_of c.args.named in
+    let old = logical_before c.args.held.now in
+    let moment = moment_of c.args.run.moment in
+    let target = c.in-Lookup.target in
+    let told = answer_of (answers.Lookup c.lookup-told.result) in
+    record { runs = subst (λ (call : Call). RunsOn n.volume logical_lens (call_named n (credential_of c.args.run.credential) moment (call_of call))
+    old (Replied (Success told)) old) (sym c.in-Lookup.is)
+    (served-runs n.volume (lookup_call target.directory (Logical n.volume) n.fileid target.name moment) old old told
+    (subst (λ (name : List ℕ). LooksUp n.volume n.fileid name old c.lookup-told.result) c.as_bytes.ensures c.lookup-told.ensures.right target.directory moment)) }
+
+pub returns-in-ReadDirectory : goal.returns-in-ReadDirectory
+returns-in-ReadDirectory c =
+    let n = named_of c.args.named in
+    let old = logical_before c.args.held.now in
+    let asked = c.in-ReadDirectory in
+    record { runs = subst (λ (call : Call). RunsOn n.volume logical_lens (call_named n (credential_of c.args.run.credential) (moment_of c.args.run.moment) (call_of call))
+    old (outcome_of c.outcome_listed.result) old) (sym asked.is)
+    (subst (λ (o : Outcome). RunsOn n.volume logical_lens
+    (readdir_call asked.directory (Logical n.volume) n.fileid asked.cookie.0 asked.verifier.0 asked.count) old o old)
+    (sym c.outcome_listed.ensures) (c.read_directory.ensures.right asked.directory)) }
+
+pub returns-in-Commit : goal.returns-in-Commit
+returns-in-Commit c =
+    let n = named_of c.args.named in
+    let old = logical_before c.args.held.now in
+    let told = answer_of (answers.Commit c.commit-told.result) in
+    record { runs = subst (λ (call : Call). RunsOn n.volume logical_lens (call_named n (credential_of c.args.run.credential) (moment_of c.args.run.moment) (call_of call))
+    old (Replied (Success told)) old) (sym c.in-Commit.is)
+    (served-runs n.volume (commit_call c.in-Commit.handle (Logical n.volume) n.fileid) old old told (c.commit-told.ensures.right c.in-Commit.handle)) }
