@@ -2,3 +2,5 @@
 pub mod Named
 pub mod Setting
 pub mod Setattr
+pub mod Gone
+pub mod Removing
