@@ -3,4 +3,5 @@ pub mod Named
 pub mod Setting
 pub mod Setattr
 pub mod Gone
-pub mod Removing
+pub mod Remove
+pub mod Rmdir

@@ -17,10 +17,9 @@ use Rattle.nfs_model.specs.Types.{Moment, GoneDone}
 use Rattle.nfs_model.specs.Locate.{Naming}
 use Rattle.nfs_model.specs.Serial.Remove as removes
 use Rattle.nfs_model.specs.Serial.Remove.{without_child, gone}
-use Rattle.volume_values.specs.Inodes.{InodeKind, Folder, Inode}
+use Rattle.volume_values.specs.Inodes.{Folder, Inode}
 use Rattle.volume_values.specs.Stripes.{StripeValue, card_dropped}
 use Rattle.volume_values.specs.lemmas.Numbered.{get-insert_at, get-remove_at, same-answers, itself}
-use Rattle.depot_rule.specs.Sums.{total}
 use Rattle.held_state.specs.Contents.{VolumeContents}
 use Rattle.held_state.specs.Tree.{file_touch, volume_of}
 use Rattle.held_state.specs.Names.{parent_in}

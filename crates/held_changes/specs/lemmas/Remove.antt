@@ -1,12 +1,11 @@
 -- REMOVE by what is under Logical.
-use Rattle.std.proofs.Common.{◌≡◌, ℕ, ◌+◌, ◌-◌, ◌*◌, ◌≤◌, ◌==◌, Bool, true, false, List, length, Option, Some, None}
-use Rattle.std.proofs.Common.{refl, sym, ap, ◌∙◌, subst, arith, ne_eqb, nat_lt}
+use Rattle.std.proofs.Common.{◌≡◌, ℕ, ◌+◌, ◌-◌, ◌==◌, Bool, true, false, List, length, Option, Some}
+use Rattle.std.proofs.Common.{refl, sym, ap, ◌∙◌, subst, arith, ne_eqb}
 use Rattle.std.specs.Prelude.{if◌then◌else◌, is_some}
 use Rattle.std.specs.Option.{option_map}
 use Rattle.std.specs.Ordering.{nat_cmp}
 use Rattle.std.specs.FinMap.{get, insert, remove}
 use Rattle.std.specs.FinSet as sets
-use Rattle.std.specs.FinSet.{retain}
 use Rattle.nfs_model.specs.Types.{Moment, Status, Invalid}
 use Rattle.nfs_model.specs.Tree.{Affinity}
 use Rattle.nfs_model.specs.Names.{is_dots}
@@ -16,8 +15,7 @@ use Rattle.nfs_model.specs.Serial.Remove as removes
 use Rattle.nfs_model.specs.Serial.Remove.{without_child, gone, remove_node, remove_at, remove_name}
 use Rattle.nfs_model.specs.Serial.Setattr.{with_node}
 use Rattle.nfs_model.specs.Moves.{Emptied}
-use Rattle.nfs_model.specs.Parts.{Hand, Parts}
-use Rattle.volume_values.specs.Directories.{DirectoryValue}
+use Rattle.nfs_model.specs.Parts.{Hand}
 use Rattle.volume_values.specs.Inodes.{InodeKind, RegularFile, Folder, Inode, filled_blocks}
 use Rattle.volume_values.specs.lemmas.Inodes.{inode-set-there, inode-set-other}
 use Rattle.held_state.specs.Contents.{VolumeContents}
