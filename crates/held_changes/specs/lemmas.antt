@@ -1,1 +1,7 @@
 -- Lemmas alone, which no reader has to believe: laws of calls that change a volume, for proofs above.
+pub mod Named
+pub mod Setting
+pub mod Setattr
+pub mod Gone
+pub mod Remove
+pub mod Rmdir
