@@ -1,1 +1,2 @@
 -- Lemmas alone, which no reader has to believe: laws of calls that change a volume, for proofs above.
+pub mod Named
