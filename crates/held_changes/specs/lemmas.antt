@@ -1,2 +1,4 @@
 -- Lemmas alone, which no reader has to believe: laws of calls that change a volume, for proofs above.
 pub mod Named
+pub mod Setting
+pub mod Making

@@ -4,16 +4,15 @@ use Rattle.std.proofs.Common.{refl, sym, ap, ◌∙◌, subst, arith, eq-eqb}
 use Rattle.std.specs.Prelude.{if◌then◌else◌, is_some}
 use Rattle.std.specs.Option.{option_map}
 use Rattle.std.specs.FinMap.{get, nat_cmp-IsAntisymmetric}
-use Rattle.nfs_model.specs.Types.{Moment, Listed, Status, Shown, Success}
+use Rattle.nfs_model.specs.Types.{Moment, Listed, Status, Success}
 use Rattle.nfs_model.specs.Names.{same_name, find_name, name_fault}
-use Rattle.nfs_model.specs.Server.{DirectoryNode, Node, Directory, VolumeState}
-use Rattle.nfs_model.specs.Shown.{shown, before_of}
+use Rattle.nfs_model.specs.Server.{DirectoryNode, Node, Directory}
+use Rattle.nfs_model.specs.Shown.{shown}
 use Rattle.nfs_model.specs.Parts.{Hand, one_if}
 use Rattle.nfs_model.specs.Moves.{PartsChange}
 use Rattle.nfs_model.specs.Locate.{Effect, Fails, unless, on_directory, on_name, Found, found_at, child, Naming, named_child}
 use Rattle.nfs_model.specs.Serial.Absent.{absent_parts}
-use Rattle.depot_rule.specs.Sums.{total}
-use Rattle.volume_values.specs.Directories.{DirectoryValue, found, fileid_found}
+use Rattle.volume_values.specs.Directories.{DirectoryValue, found}
 use Rattle.volume_values.specs.Inodes.{InodeKind, RegularFile, Folder, Inode}
 use Rattle.held_state.specs.Contents.{VolumeContents}
 use Rattle.held_state.specs.Tree.{directory_or_empty, node_by, node_of, volume_of}
@@ -23,7 +22,6 @@ use Rattle.held_state.specs.Partition.{stored, times_in_hand}
 use Rattle.held_state.specs.Sound.{IsSound}
 use Rattle.held_state.specs.Jobs.{Replied}
 use Rattle.held_state.specs.Lenses.{LogicalSet, logical_lens}
-use Rattle.held_state.specs.Promises.{RightOnVolume}
 use Rattle.held_state.specs.Calls.{VolumeCall, ServesOn, answer_of, volume_left, move_on}
 use Rattle.held_state.specs.Changes.{LogicalAnswer, shown_inode}
 use Rattle.held_laws.specs.lemmas.Mapped.{entry-at-least}
