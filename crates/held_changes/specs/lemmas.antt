@@ -2,3 +2,6 @@
 pub mod Named
 pub mod Setting
 pub mod Making
+pub mod Creating
+pub mod Upon
+pub mod Makes
