@@ -1,8 +1,8 @@
 -- REMOVE and RMDIR by what is under Logical (RFC 1813 sections 3.3.12 and 3.3.13).
-use Rattle.std.specs.Prelude.{ℕ, List, [], ◌∷◌, Option, Some, None, length, if◌then◌else◌}
+use Rattle.std.specs.Prelude.{List, [], ◌∷◌, Option, Some, None, length, if◌then◌else◌}
 use Rattle.nfs_model.specs.Types.{Listed, GoneDone, NoEntry, Invalid, Exists, IsDirectory, NotDirectory, NotEmpty}
 use Rattle.nfs_model.specs.Names.{same_name, dot, dot_dot, is_dots}
-use Rattle.volume_values.specs.Inodes.{InodeKind, RegularFile, Folder, Inode}
+use Rattle.volume_values.specs.Inodes.{InodeKind, RegularFile, Folder}
 use Rattle.held_state.specs.Lenses.{LogicalSet}
 use Rattle.held_state.specs.Changes.{LogicalAnswer}
 use Rattle.held_nodes.specs.Dropping.{Dropping, directory_left, node_dropped}

@@ -1,7 +1,7 @@
 -- What calls that change a volume come to, by what is under Logical (RFC 1813 section 3.3).
-use Rattle.std.specs.Prelude.{◌≡◌, ℕ, false, List, [], Option, Some, None}
+use Rattle.std.specs.Prelude.{◌≡◌, ℕ, false, List, [], Option, None}
 use Rattle.nfs_model.specs.Types.{Moment, Credential, SetAttributes, CreateMode, Shown, Wcc, MadeDone, Success}
-use Rattle.nfs_model.specs.Types.{Setattr, Create, Mkdir, Remove, Rmdir}
+use Rattle.nfs_model.specs.Types.{Create, Mkdir, Remove, Rmdir}
 use Rattle.nfs_model.specs.Tree.{Affinity}
 use Rattle.nfs_model.specs.Locate.{on_name}
 use Rattle.nfs_model.specs.Serial.Create.{create}

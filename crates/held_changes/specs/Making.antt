@@ -1,5 +1,5 @@
 -- CREATE and MKDIR by what is under Logical (RFC 1813 sections 3.3.8 and 3.3.9).
-use Rattle.std.specs.Prelude.{ℕ, nat_le, Bool, List, Option, Some, None, is_some, if◌then◌else◌}
+use Rattle.std.specs.Prelude.{ℕ, nat_le, Bool, Option, Some, None, is_some, if◌then◌else◌}
 use Rattle.std.specs.FinMap.{len}
 use Rattle.nfs_model.specs.Types.{Moment, Credential, SetAttributes, CreateMode, Unchecked, Guarded, Exclusive, Status}
 use Rattle.nfs_model.specs.Types.{MadeDone, Exists, Invalid, TooBig, NoSpace}

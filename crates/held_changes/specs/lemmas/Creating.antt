@@ -1,12 +1,12 @@
 -- CREATE and MKDIR by what is under Logical, beside the serial server, where the name isn't there.
-use Rattle.std.proofs.Common.{◌≡◌, ℕ, ◌+◌, ◌<◌, ◌≤◌, Bool, true, false, List, Option, Some, None, refl, sym, ap, ◌∙◌, subst, nat_lt}
+use Rattle.std.proofs.Common.{◌≡◌, ℕ, ◌+◌, ◌<◌, ◌≤◌, Bool, true, false, List, Option, Some, None, refl, sym, ap, subst, nat_lt}
 use Rattle.std.specs.Prelude.{nat_le, is_some, if◌then◌else◌}
 use Rattle.std.proofs.lemmas.Bool.Decides.{nat_tests}
 use Rattle.std.proofs.Common.{arith}
 use Rattle.std.specs.Cmp.{nat_cmp_total}
 use Rattle.std.specs.FinMap.{len, nat_cmp-IsAntisymmetric}
 use Rattle.nfs_model.specs.Types.{Moment, Credential, SetAttributes, CreateMode, Status, Invalid, TooBig, NoSpace}
-use Rattle.nfs_model.specs.Server.{Node, VolumeState, most_inodes}
+use Rattle.nfs_model.specs.Server.{most_inodes}
 use Rattle.nfs_model.specs.Locate.{Effect, Fails, unless, Naming}
 use Rattle.nfs_model.specs.Serial.Setattr.{has_bad_time, is_past, given}
 use Rattle.nfs_model.specs.Serial.Create as creating
@@ -14,7 +14,7 @@ use Rattle.nfs_model.specs.Serial.Create.{is_full, create_fault, new_file, asked
 use Rattle.nfs_model.specs.Serial.Mkdir.{mkdir_fault, new_directory}
 use Rattle.nfs_model.specs.Parts.{Hand}
 use Rattle.volume_values.specs.Directories.{found}
-use Rattle.volume_values.specs.Inodes.{InodeKind, RegularFile, Folder, Inode}
+use Rattle.volume_values.specs.Inodes.{Inode}
 use Rattle.held_state.specs.Contents.{VolumeContents}
 use Rattle.held_state.specs.Tree.{node_of, volume_of}
 use Rattle.held_state.specs.Sound.{IsSound}

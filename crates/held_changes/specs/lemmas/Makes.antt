@@ -1,5 +1,5 @@
 -- CREATE and MKDIR by what is under Logical.
-use Rattle.std.proofs.Common.{◌≡◌, ℕ, ◌+◌, ◌-◌, not, Bool, true, false, List, [], Option, Some, None, refl, sym, ap, ◌∙◌, subst, arith}
+use Rattle.std.proofs.Common.{◌≡◌, ℕ, ◌+◌, ◌-◌, not, Bool, true, false, List, Option, Some, None, refl, sym, ap, ◌∙◌, subst, arith}
 use Rattle.std.specs.Prelude.{IsTrue, is_some, if◌then◌else◌}
 use Rattle.std.specs.Option.{option_map}
 use Rattle.std.specs.FinMap.{get}
@@ -18,7 +18,6 @@ use Rattle.volume_values.specs.Directories.{fileid_found}
 use Rattle.volume_values.specs.Inodes.{InodeKind, RegularFile, Folder, Inode}
 use Rattle.held_state.specs.Contents.{VolumeContents}
 use Rattle.held_state.specs.Tree.{node_by, node_of, volume_of}
-use Rattle.held_state.specs.Partition.{times_in_hand}
 use Rattle.held_state.specs.Sound.{IsSound}
 use Rattle.held_state.specs.Lenses.{LogicalSet, logical_lens}
 use Rattle.held_state.specs.Calls.{VolumeCall, WorksOn, answer_of, answer_on, handle_in, located_on, move_on}
@@ -30,7 +29,7 @@ use Rattle.held_nodes.specs.Laws.{WeighAlike}
 use Rattle.held_changes.specs.Named.{HeldNaming, HeldNode, fails, node_under}
 use Rattle.held_changes.specs.Making.{create_by, mkdir_by, held_create, held_mkdir}
 use Rattle.held_changes.specs.Laws.{create_call, mkdir_call, create_done, mkdir_done, IsDone, MayStarve}
-use Rattle.held_changes.specs.lemmas.Named.{RightAs, done-right, naming_held, naming_seen, IsDirectoryHere, named-right, IsChildHere, child-right}
+use Rattle.held_changes.specs.lemmas.Named.{RightAs, done-right, naming_held, naming_seen, IsDirectoryHere, named-right, child-right}
 use Rattle.held_changes.specs.lemmas.Making.{SaysNothing, failure-right}
 use Rattle.held_changes.specs.lemmas.Creating.{file-right, folder-right}
 use Rattle.held_changes.specs.lemmas.Upon.{there-as}

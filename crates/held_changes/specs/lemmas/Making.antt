@@ -1,9 +1,9 @@
 -- A node made under a name by what is under Logical, beside the serial server.
-use Rattle.std.proofs.Common.{◌≡◌, ℕ, ◌+◌, ◌*◌, ◌<◌, List, [], ◌∷◌, ◌++◌, length, map, replicate, Some, None}
+use Rattle.std.proofs.Common.{◌≡◌, ℕ, ◌+◌, ◌*◌, ◌<◌, List, [], ◌∷◌, ◌++◌, length, map, replicate, None}
 use Rattle.std.proofs.Common.{refl, sym, ap, ◌∙◌}
 use Rattle.std.proofs.lemmas.List.{length-replicate}
 use Rattle.std.specs.Ordering.{nat_cmp}
-use Rattle.std.specs.FinMap.{get, len, entries}
+use Rattle.std.specs.FinMap.{len}
 use Rattle.std.specs.FinSet as sets
 use Rattle.std.specs.FinSet.{from_list}
 use Rattle.nfs_model.specs.Types.{Moment, Status, MadeDone}
@@ -14,7 +14,7 @@ use Rattle.nfs_model.specs.Serial.Create as creating
 use Rattle.nfs_model.specs.Serial.Create.{with_child, directory_made}
 use Rattle.nfs_model.specs.Parts.{Hand}
 use Rattle.nfs_model.specs.Moves.{Stored, PartsChange}
-use Rattle.volume_values.specs.Directories.{DirectoryValue, added, found}
+use Rattle.volume_values.specs.Directories.{added, found}
 use Rattle.volume_values.specs.Inodes.{InodeKind, RegularFile, Folder, Inode}
 use Rattle.volume_values.specs.Stripes.{StripeValue}
 use Rattle.held_state.specs.Contents.{VolumeContents}

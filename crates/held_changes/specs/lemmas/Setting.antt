@@ -8,7 +8,7 @@ use Rattle.std.specs.Option.{option_map}
 use Rattle.std.specs.FinMap.{get, insert}
 use Rattle.std.specs.FinSet.{from_list}
 use Rattle.nfs_model.specs.Types.{Moment, SetAttributes, NotSynchronous, Invalid, TooBig}
-use Rattle.nfs_model.specs.Server.{Attributes, Node, File, Directory, used}
+use Rattle.nfs_model.specs.Server.{Attributes, Node, File, Directory, VolumeState, used}
 use Rattle.nfs_model.specs.Shown.{shown, times, settled}
 use Rattle.nfs_model.specs.Serial.Setattr.{is_stale_guard, has_bad_time, is_past, resized, set_attributes, set_node, setattr_fault, with_node}
 use Rattle.nfs_model.specs.Moves.{Emptied}
@@ -105,19 +105,19 @@ pub record IsNodeSet (p : VolumeContents) (f : ℕ) (node : Node) (new : NodeSet
   pub is_shown : shown (with_node (volume_of p) f node) f node ≡ shown_inode p.number f new.inode None
   pub emptied : Emptied (used (volume_of p) - used (volume_of (logical_lens.put new.set p))) (parts_of p) (parts_of (logical_lens.put new.set p))
 
--- a node as a volume shows it that has it
-node-shows : (p after : VolumeContents) (f : ℕ) (node : Node) (next : Inode) → WellFormed after → volume_of after ≡ with_node (volume_of p) f node
-    → get after.logical.inodes.inodes f ≡ Some next → file_touch after.stripes f ≡ None
-    → shown (with_node (volume_of p) f node) f node ≡ shown_inode after.number f next None
-node-shows p after f node next well volume there gone =
+-- a node that a volume has is shown by its inode
+pub node-shows : (after : VolumeContents) (volume : VolumeState) (f : ℕ) (node : Node) (next : Inode) → WellFormed after → volume_of after ≡ volume
+    → get volume.nodes f ≡ Some node → get after.logical.inodes.inodes f ≡ Some next
+    → shown volume f node ≡ shown_inode after.number f next (file_touch after.stripes f)
+node-shows after volume f node next well is has there =
     let found : Some (node_of after.stripes after.logical.directories f next) ≡ Some node =
-    sym (node-at after f ∙ ap (option_map (node_of after.stripes after.logical.directories f)) there)
-    ∙ ap (λ v. get v.nodes f) volume ∙ get-insert_at (volume_of p).nodes f node f
-    ∙ ap (λ (b : Bool). if b then Some node else get (volume_of p).nodes f) (itself f) in
+    sym (node-at after f ∙ ap (option_map (node_of after.stripes after.logical.directories f)) there) ∙ ap (λ v. get v.nodes f) is ∙ has in
     let same : node_of after.stripes after.logical.directories f next ≡ node = cc in
-    (λ j. shown (sym volume j) f (sym same j))
-    ∙ node-shown after well f next there
-    ∙ ap (shown_inode after.number f next) gone
+    (λ j. shown (sym is j) f (sym same j)) ∙ node-shown after well f next there
+
+-- one that was set is found
+pub set-there : (volume : VolumeState) (f : ℕ) (node : Node) → get (with_node volume f node).nodes f ≡ Some node
+set-there volume f node = get-insert_at volume.nodes f node f ∙ ap (λ (b : Bool). if b then Some node else get volume.nodes f) (itself f)
 
 module _ (p : VolumeContents) (f : ℕ) (set : SetAttributes) (moment : Moment) (old : Inode) (there : get p.logical.inodes.inodes f ≡ Some old)
     (hands hands' : List Hand) (made : ℕ) (weigh : WeighAlike p.number hands hands') (sound : IsSound p hands made) where
@@ -163,8 +163,9 @@ module _ (p : VolumeContents) (f : ℕ) (set : SetAttributes) (moment : Moment) 
       there = inode-set-there p.logical.inodes f old next there;
       others = λ q ne. inode-set-other p.logical.inodes f next q ne;
       directories = refl;
-      is_shown = node-shows p after f node next sound-after.well_formed volume-after (inode-set-there p.logical.inodes f old next there)
-          (touch-gone f p.stripes);
+      is_shown = node-shows after (with_node (volume_of p) f node) f node next sound-after.well_formed volume-after
+          (set-there (volume_of p) f node) (inode-set-there p.logical.inodes f old next there)
+          ∙ ap (shown_inode p.number f next) (touch-gone f p.stripes);
       emptied =
           let old_used = used-is p sound.well_formed in
           let new_used = used-is after sound-after.well_formed in
@@ -219,8 +220,9 @@ module _ (p : VolumeContents) (f : ℕ) (set : SetAttributes) (moment : Moment) 
       there = inode-set-there p.logical.inodes f old cut_inode there;
       others = λ q ne. inode-set-other p.logical.inodes f cut_inode q ne;
       directories = refl;
-      is_shown = node-shows p cut f node cut_inode sound-cut.well_formed volume-cut (inode-set-there p.logical.inodes f old cut_inode there)
-          (touch-cut p.stripes);
+      is_shown = node-shows cut (with_node (volume_of p) f node) f node cut_inode sound-cut.well_formed volume-cut
+          (set-there (volume_of p) f node) (inode-set-there p.logical.inodes f old cut_inode there)
+          ∙ ap (shown_inode p.number f cut_inode) (touch-cut p.stripes);
       emptied = emptied-sized p m hands sound.partition sound.well_formed there may.old_size may.filled may.verifier may.is_file may.small;
     }
 

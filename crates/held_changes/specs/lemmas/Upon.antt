@@ -7,7 +7,7 @@ use Rattle.std.specs.Ordering.{nat_cmp}
 use Rattle.std.specs.FinMap.{FinMap, get, insert}
 use Rattle.nfs_model.specs.Types.{Moment, Credential, Listed, SetAttributes, CreateMode, Unchecked, Guarded, Exclusive, Status, MadeDone, Exists}
 use Rattle.nfs_model.specs.Tree.{Affinity}
-use Rattle.nfs_model.specs.Server.{Node, File, Directory, VolumeState, handle_bytes}
+use Rattle.nfs_model.specs.Server.{Node, File, Directory, handle_bytes}
 use Rattle.nfs_model.specs.Shown.{shown, before_of, subdirectories, is_directory_node}
 use Rattle.nfs_model.specs.Locate.{Effect, Fails, Tells, unless, Naming}
 use Rattle.nfs_model.specs.Serial.Setattr.{set_node, setattr_fault, with_node}
@@ -16,11 +16,10 @@ use Rattle.nfs_model.specs.Parts.{Hand, one_if}
 use Rattle.volume_values.specs.Inodes.{InodeKind, RegularFile, Folder, Inode}
 use Rattle.volume_values.specs.lemmas.Numbered.{get-insert_at}
 use Rattle.held_state.specs.Contents.{VolumeContents}
-use Rattle.held_state.specs.Tree.{file_touch, node_by, node_of, volume_of}
+use Rattle.held_state.specs.Tree.{node_by, node_of, volume_of}
 use Rattle.held_state.specs.Partition.{stored}
 use Rattle.held_state.specs.Sound.{IsSound}
 use Rattle.held_state.specs.Lenses.{logical_lens}
-use Rattle.held_state.specs.Calls.{VolumeCall}
 use Rattle.held_state.specs.Changes.{LogicalAnswer, shown_inode}
 use Rattle.held_attributes.specs.lemmas.Getting.{node-at, node-shown}
 use Rattle.held_laws.specs.lemmas.Steps.{sound-later}
