@@ -2,6 +2,10 @@
 pub mod Named
 pub mod Setting
 pub mod Setattr
+pub mod Making
+pub mod Creating
+pub mod Upon
+pub mod Makes
 pub mod Gone
 pub mod Remove
 pub mod Rmdir
