@@ -6,6 +6,8 @@ mod devices;
 #[cfg(test)]
 mod events;
 #[cfg(test)]
+mod filling;
+#[cfg(test)]
 mod heads;
 #[cfg(test)]
 mod lines;
@@ -13,6 +15,8 @@ mod lines;
 mod lists;
 #[cfg(test)]
 mod names;
+#[cfg(test)]
+mod nodes;
 #[cfg(test)]
 mod streams;
 #[cfg(test)]

@@ -12,7 +12,7 @@ use depot::{Depot, Seat};
 use nfs_values::{Call, Reply, Verifier};
 use parcel_sets::{LogicalNode, SerialNode};
 use parcels::opening_parcels;
-use service::{Asked, Job, JobReply, Outcome, ServedCall, Service, run_on_logical};
+use service::{Asked, Job, JobReply, Outcome, Run, ServedCall, Service, run_on_logical};
 use std::alloc::Global;
 
 /// A depot of a layout's parcels as a run begins, and its first seat. Nothing where memory ran
@@ -56,14 +56,13 @@ pub fn serve(
     let Ok(mut grant) = depot.begin::<LogicalNode>(seat, affinity) else {
         return None;
     };
-    match run_on_logical(
+    let run = Run {
         alloc,
-        depot.layout(),
-        affinity,
-        grant.held(),
-        &call,
-        asker.moment,
-    ) {
+        call: &call,
+        credential: asker.credential,
+        moment: asker.moment,
+    };
+    match run_on_logical(run, depot.layout(), affinity, grant.held()) {
         Outcome::Replied(reply) => {
             let job = finished(asker, call, affinity);
             let reply = JobReply::Replied(reply);

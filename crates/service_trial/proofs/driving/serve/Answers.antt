@@ -7,6 +7,7 @@ use Rattle.affinity_tree.specs.Layout.{layout_of}
 use Rattle.affinity_tree.specs.Numbers.{number_of}
 use Rattle.affinity_tree.specs.Tree.{IsNode}
 use Rattle.nfs_values.specs.Call.{call_of}
+use Rattle.nfs_values.specs.Credential.{credential_of}
 use Rattle.nfs_values.specs.Moment.{moment_of}
 use Rattle.nfs_values.specs.Reply.{reply_of}
 use Rattle.nfs_model.specs.Work as works
@@ -47,7 +48,8 @@ finish-requires-clause-step c =
     run-is-step L c.args.depot.now.layout.lawful v on c.in-Ok.grant.affinity c.in-Ok.ensures.node c.args.asker c.args.call c.requires.run at
     c.in-Ok.grant.held c.held.result.now c.run_on_logical.new.held c.held.ensures.value granted.0 (view c.begin.new.seat) c.begin.ensures.seat.1.0
     (begun-with (view c.args.seat.now) (view c.begin.new.seat) _ _ c.in-Ok.ensures.granted) c.in-Replied.reply
-    (subst (λ (l : Layout). RunsOn v logical_lens (call_on l (Logical v) (moment_of c.args.asker.moment) (call_of c.args.call))
+    (subst (λ (l : Layout). RunsOn v logical_lens (call_on l (Logical v) (credential_of c.args.asker.credential) (moment_of c.args.asker.moment)
+    (call_of c.args.call))
     (logical_before c.held.result.now) (works.Replied (reply_of c.in-Replied.reply)) (logical_after c.held.result.now c.run_on_logical.new.held))
     c.layout-2.ensures c.in-Replied.ensures.runs)
     c.finished-job.result c.finished-job.ensures
