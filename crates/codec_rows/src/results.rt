@@ -3,10 +3,19 @@
 use crate::bytes::{joined, same};
 use nfs_types::encode_result;
 use nfs_values::{
-    Answer, Attributes, Cookie, Entry, FileKind, Fileid, Moment, Name, ReadDirectoryResults,
-    ReadResults,
+    Answer, Attributes, Change, Cookie, Entry, FileKind, Fileid, Moment, Name, PriorAttributes,
+    ReadDirectoryResults, ReadResults, RenameResults, Status,
 };
 use std::mem;
+use std::process::Abort;
+
+/// Looks whether these are the bytes of results.
+fn is_written(rt: &(impl Abort + AllocGlobal), answer: Answer, wanted: &[u8]) {
+    let mut out = Vec::new(rt.alloc());
+    encode_result(&mut out, &answer).expect(rt, "no memory");
+    mem::forget(answer);
+    same(rt, &out, wanted);
+}
 
 #[test]
 fn results_are_written(rt: HostRuntime) {
@@ -14,13 +23,10 @@ fn results_are_written(rt: HostRuntime) {
         eof: true,
         bytes: [1, 2, 3].to_vec(rt.alloc()).expect(&rt, "no memory"),
     }));
-    let mut out = Vec::new(rt.alloc());
-    encode_result(&mut out, &read).expect(&rt, "no memory");
-    mem::forget(read);
     let wanted = [
         0, 0, 0, 0, 0, 0, 0, 0, 0, 0, 0, 3, 0, 0, 0, 1, 0, 0, 0, 3, 1, 2, 3, 0,
     ];
-    same(&rt, &out, &wanted);
+    is_written(&rt, read, &wanted);
 }
 
 const ZERO: Moment = Moment {
@@ -59,9 +65,6 @@ fn entries_are_chained(rt: HostRuntime) {
         entries,
         eof: true,
     }));
-    let mut out = Vec::new(rt.alloc());
-    encode_result(&mut out, &listed).expect(&rt, "no memory");
-    mem::forget(listed);
     let wanted = joined(
         &rt,
         &[
@@ -74,5 +77,60 @@ fn entries_are_chained(rt: HostRuntime) {
             &[0, 0, 0, 0, 0, 0, 0, 1],
         ],
     );
-    same(&rt, &out, &wanted);
+    is_written(&rt, listed, &wanted);
+}
+
+/// The directory that a name leaves, and the one that it comes to.
+const LEFT: Change = Change {
+    before: PriorAttributes {
+        size: 4096,
+        mtime: Moment {
+            seconds: 1,
+            nanoseconds: 2,
+        },
+        ctime: Moment {
+            seconds: 3,
+            nanoseconds: 4,
+        },
+    },
+    after: DIRECTORY,
+};
+
+const REACHED: Change = Change {
+    before: PriorAttributes {
+        size: 8192,
+        mtime: ZERO,
+        ctime: ZERO,
+    },
+    after: DIRECTORY,
+};
+
+#[test]
+fn both_directories_are_told(rt: HostRuntime) {
+    let renamed = Answer::Rename(Ok(RenameResults {
+        from: LEFT,
+        to: REACHED,
+    }));
+    let wanted = joined(
+        &rt,
+        &[
+            &[0, 0, 0, 0, 0, 0, 0, 1, 0, 0, 0, 0, 0, 0, 0x10, 0],
+            &[0, 0, 0, 1, 0, 0, 0, 2, 0, 0, 0, 3, 0, 0, 0, 4],
+            &[0, 0, 0, 1, 0, 0, 0, 2],
+            &[0; 80],
+            &[0, 0, 0, 1, 0, 0, 0, 0, 0, 0, 0x20, 0],
+            &[0; 16],
+            &[0, 0, 0, 1, 0, 0, 0, 2],
+            &[0; 80],
+        ],
+    );
+    is_written(&rt, renamed, &wanted);
+}
+
+#[test]
+fn failures_leave_parts_out(rt: HostRuntime) {
+    // NFS3ERR_XDEV, and no attributes before and after of either directory
+    let failed = Answer::Rename(Err(Status::CrossVolume));
+    let wanted = [0, 0, 0, 18, 0, 0, 0, 0, 0, 0, 0, 0, 0, 0, 0, 0, 0, 0, 0, 0];
+    is_written(&rt, failed, &wanted);
 }
