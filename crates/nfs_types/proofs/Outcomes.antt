@@ -13,12 +13,13 @@ use Rattle.nfs_values.specs.declared.answer.RenameResults.{RenameResults}
 use Rattle.nfs_values.specs.declared.answer.ReadDirectoryResults.{ReadDirectoryResults}
 use Rattle.nfs_values.specs.declared.answer.FilesystemStatusResults.{FilesystemStatusResults}
 use Rattle.nfs_values.specs.declared.answer.CommitResults.{CommitResults}
-use Rattle.nfs_values.specs.Answer.{entry_of, space_of, attributes_shown, attributes_set, looked_up, bytes_read, bytes_written, node_made, name_gone, name_moved}
-use Rattle.nfs_values.specs.Answer.{entries_listed, space_told, file_committed, volume_grown, result_of}
+use Rattle.nfs_values.specs.Answer.{entry_of, space_of, attributes_shown, attributes_set, looked_up, bytes_read, bytes_written, node_made, name_gone}
+use Rattle.nfs_values.specs.Answer.{name_moved, entries_listed, space_told, file_committed, volume_grown, result_of}
 use Rattle.nfs_values.specs.Attributes.{shown_of, change_of}
 use Rattle.nfs_types.specs.Shapes.{attributes_shape, attributes_value, change_shape, change_value}
-use Rattle.nfs_types.specs.Results.{lookup_shape, lookup_value, read_shape, read_value, write_shape, write_value, made_shape, made_value, renamed_shape, renamed_value}
-use Rattle.nfs_types.specs.Results.{readdir_shape, readdir_value, fsstat_shape, fsstat_value, commit_shape, commit_value, answer_bytes, done, result_bytes}
+use Rattle.nfs_types.specs.Results.{lookup_shape, lookup_value, read_shape, read_value, write_shape, write_value, made_shape, made_value}
+use Rattle.nfs_types.specs.Results.{renamed_shape, renamed_value, readdir_shape, readdir_value}
+use Rattle.nfs_types.specs.Results.{fsstat_shape, fsstat_value, commit_shape, commit_value, answer_bytes, done, result_bytes}
 
 arm : {R : Type 0} (shape : Shape) (value : R → Value shape) (told : R → model.Answer) (absent : ℕ)
     → ((r : R) → answer_bytes (told r) ≡ done shape (value r)) → (result : Result R Status)
@@ -74,5 +75,17 @@ committed_bytes = arm commit_shape (λ r. commit_value (change_of r.file) r.veri
 pub grown_bytes : (result : Result ℕ Status) → answer_bytes (result_of volume_grown 0 result) ≡ result_bytes Hyper (λ n. n) 0 result
 grown_bytes = arm Hyper (λ n. n) volume_grown 0 (λ r. refl)
 
-pub ruleset outcomes =
-    (shown_bytes, set_bytes, found_bytes, read_bytes, written_bytes, made_bytes, gone_bytes, moved_bytes, listed_bytes, space_bytes, committed_bytes, grown_bytes)
+pub ruleset outcomes = (
+  shown_bytes,
+  set_bytes,
+  found_bytes,
+  read_bytes,
+  written_bytes,
+  made_bytes,
+  gone_bytes,
+  moved_bytes,
+  listed_bytes,
+  space_bytes,
+  committed_bytes,
+  grown_bytes,
+)
