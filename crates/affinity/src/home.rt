@@ -3,7 +3,8 @@
 ghost use Rattle.std.specs.Prelude.{◌≡◌, ◌==◌, ◌+◌, ◌-◌, ◌/◌, ◌<◌, length, min, option_map};
 ghost use Rattle.std.specs.Prelude.{slice_get, IfSome};
 ghost use Rattle.nfs_model.specs.Home.{home, bytes_home, grow_home, logical_home};
-ghost use Rattle.nfs_model.specs.Home.{named_by, span_bytes, stripe_of_span, volume_home};
+ghost use Rattle.nfs_model.specs.Home.{named_by, rename_home, span_bytes, stripe_of_span};
+ghost use Rattle.nfs_model.specs.Home.{volume_home};
 ghost use Rattle.nfs_values.specs.Call.{call_of};
 ghost use Rattle.nfs_values.specs.Handle.{named_of};
 ghost use Rattle.affinity_tree.specs.Affinity.{affinity_of};
@@ -89,6 +90,21 @@ fn home_of_names(handle: &FileHandle, layout: &Layout) -> Option<Affinity>
     Some(Affinity::VolumeLogical(named.volume.0))
 }
 
+/// Where a call on names in two directories is at home: with the one volume that both are of.
+fn home_of_renaming(from: &FileHandle, to: &FileHandle, layout: &Layout) -> Option<Affinity>
+    ensures home { let L = layout_of layout.now in option_map affinity_of result
+        ≡ rename_home (named_by L from.now) (named_by L to.now) }
+    ensures node { IfSome result (λ a. IsNode (layout_of layout.now) (affinity_of a)) }
+{
+    let from = named_by(from, layout)?;
+    let to = named_by(to, layout)?;
+    if from.volume.0 == to.volume.0 {
+        Some(Affinity::VolumeLogical(from.volume.0))
+    } else {
+        None
+    }
+}
+
 /// Where a call on a whole volume is at home.
 fn home_of_status(handle: &FileHandle, layout: &Layout) -> Option<Affinity>
     ensures home { option_map affinity_of result
@@ -127,6 +143,7 @@ pub fn home_of(call: &Call, layout: &Layout) -> Option<Affinity>
         Call::Create { target, .. } | Call::MakeDirectory { target, .. } => {
             home_of_names(&target.directory, layout)
         }
+        Call::Rename { from, to } => home_of_renaming(&from.directory, &to.directory, layout),
         Call::ReadDirectory { directory, .. } => home_of_names(directory, layout),
         Call::Read {
             handle,

@@ -59,6 +59,24 @@ fn names_are_copied(rt: HostRuntime) {
     }
 }
 
+/// The handle 8, and the name `xyz`.
+const OTHER_TARGET: [u8; 16] = [0, 0, 0, 1, 8, 0, 0, 0, 0, 0, 0, 3, b'x', b'y', b'z', 0];
+
+#[test]
+fn two_names_are_copied(rt: HostRuntime) {
+    let both = joined(&rt, &[&TARGET, &OTHER_TARGET]);
+    let call = decoded(&rt, Procedure::Rename, &both);
+    match &call {
+        Call::Rename { from, to } => {
+            is_target(&rt, from);
+            same(&rt, to.directory.as_bytes(), &[8]);
+            same(&rt, to.name.as_bytes(), b"xyz");
+        }
+        _ => panic!(rt; "no RENAME"),
+    }
+    mem::forget(call);
+}
+
 /// The number of the fault for which the arguments of a LOOKUP are refused, or 0.
 fn fault_of(rt: &(impl Abort + AllocGlobal), parts: &[&[u8]]) -> u32 {
     let arguments = joined(rt, parts);

@@ -6,6 +6,7 @@ use nfs_values::{
     Verifier, VolumeNumber,
 };
 use rpc_msg::{room_of_reply, write_reply, write_reply_record};
+use std::alloc::Global;
 use std::mem;
 use std::process::Abort;
 
@@ -38,6 +39,14 @@ fn root() -> FileHandle {
     })
 }
 
+/// A name in the root of volume 0.
+fn target(alloc: Global) -> Target {
+    Target {
+        directory: root(),
+        name: Name::new(Vec::new(alloc)),
+    }
+}
+
 /// Looks whether this is the room of the reply to a call, where there are two volumes.
 fn takes(rt: &impl Abort, call: Call, room: usize) {
     holds(rt, room_of_reply(&call, 2) == room);
@@ -66,15 +75,16 @@ fn rooms_of_writes(rt: HostRuntime) {
         bytes: Vec::new(rt.alloc()),
     };
     takes(&rt, write, 56);
-    let target = Target {
-        directory: root(),
-        name: Name::new(Vec::new(rt.alloc())),
-    };
     let create = Call::Create {
-        target,
+        target: target(rt.alloc()),
         mode: CreateMode::Exclusive(Verifier([0; 8])),
     };
     takes(&rt, create, 256);
+    let rename = Call::Rename {
+        from: target(rt.alloc()),
+        to: target(rt.alloc()),
+    };
+    takes(&rt, rename, 264);
 }
 
 #[test]

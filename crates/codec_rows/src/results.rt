@@ -3,8 +3,8 @@
 use crate::bytes::{joined, same};
 use nfs_types::encode_result;
 use nfs_values::{
-    Answer, Attributes, Cookie, Entry, FileKind, Fileid, Moment, Name, ReadDirectoryResults,
-    ReadResults,
+    Answer, Attributes, Change, Cookie, Entry, FileKind, Fileid, Moment, Name, PriorAttributes,
+    ReadDirectoryResults, ReadResults, RenameResults, Status,
 };
 use std::mem;
 
@@ -74,5 +74,66 @@ fn entries_are_chained(rt: HostRuntime) {
             &[0, 0, 0, 0, 0, 0, 0, 1],
         ],
     );
+    same(&rt, &out, &wanted);
+}
+
+/// The directory that a name leaves, and the one that it comes to.
+const LEFT: Change = Change {
+    before: PriorAttributes {
+        size: 4096,
+        mtime: Moment {
+            seconds: 1,
+            nanoseconds: 2,
+        },
+        ctime: Moment {
+            seconds: 3,
+            nanoseconds: 4,
+        },
+    },
+    after: DIRECTORY,
+};
+
+const REACHED: Change = Change {
+    before: PriorAttributes {
+        size: 8192,
+        mtime: ZERO,
+        ctime: ZERO,
+    },
+    after: DIRECTORY,
+};
+
+#[test]
+fn both_directories_are_told(rt: HostRuntime) {
+    let renamed = Answer::Rename(Ok(RenameResults {
+        from: LEFT,
+        to: REACHED,
+    }));
+    let mut out = Vec::new(rt.alloc());
+    encode_result(&mut out, &renamed).expect(&rt, "no memory");
+    mem::forget(renamed);
+    let wanted = joined(
+        &rt,
+        &[
+            &[0, 0, 0, 0, 0, 0, 0, 1, 0, 0, 0, 0, 0, 0, 0x10, 0],
+            &[0, 0, 0, 1, 0, 0, 0, 2, 0, 0, 0, 3, 0, 0, 0, 4],
+            &[0, 0, 0, 1, 0, 0, 0, 2],
+            &[0; 80],
+            &[0, 0, 0, 1, 0, 0, 0, 0, 0, 0, 0x20, 0],
+            &[0; 16],
+            &[0, 0, 0, 1, 0, 0, 0, 2],
+            &[0; 80],
+        ],
+    );
+    same(&rt, &out, &wanted);
+}
+
+#[test]
+fn failures_leave_parts_out(rt: HostRuntime) {
+    // NFS3ERR_XDEV, and no attributes before and after of either directory
+    let failed = Answer::Rename(Err(Status::CrossVolume));
+    let mut out = Vec::new(rt.alloc());
+    encode_result(&mut out, &failed).expect(&rt, "no memory");
+    mem::forget(failed);
+    let wanted = [0, 0, 0, 18, 0, 0, 0, 0, 0, 0, 0, 0, 0, 0, 0, 0, 0, 0, 0, 0];
     same(&rt, &out, &wanted);
 }

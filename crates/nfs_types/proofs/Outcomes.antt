@@ -9,15 +9,17 @@ use Rattle.nfs_values.specs.declared.answer.LookupResults.{LookupResults}
 use Rattle.nfs_values.specs.declared.answer.ReadResults.{ReadResults}
 use Rattle.nfs_values.specs.declared.answer.WriteResults.{WriteResults}
 use Rattle.nfs_values.specs.declared.answer.MakeResults.{MakeResults}
+use Rattle.nfs_values.specs.declared.answer.RenameResults.{RenameResults}
 use Rattle.nfs_values.specs.declared.answer.ReadDirectoryResults.{ReadDirectoryResults}
 use Rattle.nfs_values.specs.declared.answer.FilesystemStatusResults.{FilesystemStatusResults}
 use Rattle.nfs_values.specs.declared.answer.CommitResults.{CommitResults}
 use Rattle.nfs_values.specs.Answer.{entry_of, space_of, attributes_shown, attributes_set, looked_up, bytes_read, bytes_written, node_made, name_gone}
-use Rattle.nfs_values.specs.Answer.{entries_listed, space_told, file_committed, volume_grown, result_of}
+use Rattle.nfs_values.specs.Answer.{name_moved, entries_listed, space_told, file_committed, volume_grown, result_of}
 use Rattle.nfs_values.specs.Attributes.{shown_of, change_of}
 use Rattle.nfs_types.specs.Shapes.{attributes_shape, attributes_value, change_shape, change_value}
-use Rattle.nfs_types.specs.Results.{lookup_shape, lookup_value, read_shape, read_value, write_shape, write_value, made_shape, made_value, readdir_shape}
-use Rattle.nfs_types.specs.Results.{readdir_value, fsstat_shape, fsstat_value, commit_shape, commit_value, answer_bytes, done, result_bytes}
+use Rattle.nfs_types.specs.Results.{lookup_shape, lookup_value, read_shape, read_value, write_shape, write_value, made_shape, made_value}
+use Rattle.nfs_types.specs.Results.{renamed_shape, renamed_value, readdir_shape, readdir_value}
+use Rattle.nfs_types.specs.Results.{fsstat_shape, fsstat_value, commit_shape, commit_value, answer_bytes, done, result_bytes}
 
 arm : {R : Type 0} (shape : Shape) (value : R → Value shape) (told : R → model.Answer) (absent : ℕ)
     → ((r : R) → answer_bytes (told r) ≡ done shape (value r)) → (result : Result R Status)
@@ -53,6 +55,10 @@ pub gone_bytes : (result : Result Change Status)
     → answer_bytes (result_of name_gone 2 result) ≡ result_bytes change_shape (λ c. change_value (change_of c)) 2 result
 gone_bytes = arm change_shape (λ c. change_value (change_of c)) name_gone 2 (λ r. refl)
 
+pub moved_bytes : (result : Result RenameResults Status)
+    → answer_bytes (result_of name_moved 4 result) ≡ result_bytes renamed_shape (λ r. renamed_value (change_of r.from) (change_of r.to)) 4 result
+moved_bytes = arm renamed_shape (λ r. renamed_value (change_of r.from) (change_of r.to)) name_moved 4 (λ r. refl)
+
 pub listed_bytes : (result : Result ReadDirectoryResults Status)
     → answer_bytes (result_of entries_listed 1 result) ≡ result_bytes readdir_shape
     (λ r. readdir_value (shown_of r.directory) (map entry_of r.entries.items) r.eof) 1 result
@@ -69,5 +75,17 @@ committed_bytes = arm commit_shape (λ r. commit_value (change_of r.file) r.veri
 pub grown_bytes : (result : Result ℕ Status) → answer_bytes (result_of volume_grown 0 result) ≡ result_bytes Hyper (λ n. n) 0 result
 grown_bytes = arm Hyper (λ n. n) volume_grown 0 (λ r. refl)
 
-pub ruleset outcomes =
-    (shown_bytes, set_bytes, found_bytes, read_bytes, written_bytes, made_bytes, gone_bytes, listed_bytes, space_bytes, committed_bytes, grown_bytes)
+pub ruleset outcomes = (
+  shown_bytes,
+  set_bytes,
+  found_bytes,
+  read_bytes,
+  written_bytes,
+  made_bytes,
+  gone_bytes,
+  moved_bytes,
+  listed_bytes,
+  space_bytes,
+  committed_bytes,
+  grown_bytes,
+)

@@ -6,7 +6,7 @@ use Rattle.xdr.specs.Shape.{Shape, Void, Word, Hyper, Value, Spells}
 use Rattle.xdr.specs.Reading.{◌>>=◌, all_of}
 use Rattle.nfs_model.specs.Types as model
 use Rattle.nfs_values.specs.declared.procedure.Procedure.{Procedure}
-use Rattle.nfs_values.specs.declared.procedure.Procedure.TheVariants.{Null, GetAttributes, SetAttributes, Lookup, Read, Write, Create, MakeDirectory, Remove, RemoveDirectory, ReadDirectory, FilesystemStatus, Commit, AdminNull, Census, Grow}
+use Rattle.nfs_values.specs.declared.procedure.Procedure.TheVariants.{Null, GetAttributes, SetAttributes, Lookup, Read, Write, Create, MakeDirectory, Remove, RemoveDirectory, Rename, ReadDirectory, FilesystemStatus, Commit, AdminNull, Census, Grow}
 use Rattle.nfs_values.specs.declared.target.Target.{Target}
 use Rattle.nfs_types.specs.declared.bad.Bad.{Bad}
 use Rattle.nfs_types.specs.declared.bad.Bad.TheVariants as bads
@@ -32,6 +32,10 @@ creating_shape = target_shape & create_shape
 abbrev pub making_shape : Shape
 making_shape = target_shape & set_shape
 
+-- RENAME3args (section 3.3.14): from and to
+abbrev pub renaming_shape : Shape
+renaming_shape = target_shape & target_shape
+
 -- READDIR3args (section 3.3.16): dir, cookie, cookieverf and count
 abbrev pub listing_shape : Shape
 listing_shape = handle_shape & Hyper & verifier_shape & Word
@@ -51,6 +55,7 @@ arguments_shape Create = creating_shape
 arguments_shape MakeDirectory = making_shape
 arguments_shape Remove = target_shape
 arguments_shape RemoveDirectory = target_shape
+arguments_shape Rename = renaming_shape
 arguments_shape ReadDirectory = listing_shape
 arguments_shape FilesystemStatus = handle_shape
 arguments_shape Commit = range_shape
@@ -93,6 +98,9 @@ remove_call v = model.Remove v.0 v.1
 abbrev pub rmdir_call : Value target_shape → model.Call
 rmdir_call v = model.Rmdir v.0 v.1
 
+abbrev pub rename_call : Value renaming_shape → model.Call
+rename_call v = model.Rename v.0.0 v.0.1 v.1.0 v.1.1
+
 abbrev pub readdir_call : Value listing_shape → model.Call
 readdir_call v = model.Readdir v.0 v.1.0 v.1.1.0 v.1.1.1
 
@@ -119,6 +127,7 @@ call_from Create = create_call
 call_from MakeDirectory = mkdir_call
 call_from Remove = remove_call
 call_from RemoveDirectory = rmdir_call
+call_from Rename = rename_call
 call_from ReadDirectory = readdir_call
 call_from FilesystemStatus = fsstat_call
 call_from Commit = commit_call
@@ -134,6 +143,7 @@ takes_memory Create = true
 takes_memory MakeDirectory = true
 takes_memory Remove = true
 takes_memory RemoveDirectory = true
+takes_memory Rename = true
 takes_memory procedure = false
 
 -- The bytes spell arguments that ask this call.
@@ -155,6 +165,7 @@ asked Create bytes = asked_by creating_shape create_call bytes
 asked MakeDirectory bytes = asked_by making_shape mkdir_call bytes
 asked Remove bytes = asked_by target_shape remove_call bytes
 asked RemoveDirectory bytes = asked_by target_shape rmdir_call bytes
+asked Rename bytes = asked_by renaming_shape rename_call bytes
 asked ReadDirectory bytes = asked_by listing_shape readdir_call bytes
 asked FilesystemStatus bytes = asked_by handle_shape fsstat_call bytes
 asked Commit bytes = asked_by range_shape commit_call bytes

@@ -38,6 +38,13 @@ made_shape = Optional handle_shape & after_shape & change_shape
 abbrev pub made_value : List ℕ → model.Shown → model.Wcc → Value made_shape
 made_value handle object directory = (Some handle, (Some (attributes_value object), change_value directory))
 
+-- RENAME3resok (section 3.3.14): wcc_data of either directory
+abbrev pub renamed_shape : Shape
+renamed_shape = change_shape & change_shape
+
+abbrev pub renamed_value : model.Wcc → model.Wcc → Value renamed_shape
+renamed_value from to = (change_value from, change_value to)
+
 -- entry3 (section 3.3.16): fileid, name and cookie, before the next
 abbrev pub entry_shape : Shape
 entry_shape = Hyper & any_bytes & Hyper
@@ -100,7 +107,7 @@ answer_bytes (model.ReadDone count eof bytes) = done read_shape (read_value coun
 answer_bytes (model.WriteDone count verifier) = done write_shape (write_value count verifier)
 answer_bytes (model.MadeDone handle object directory) = done made_shape (made_value handle object directory)
 answer_bytes (model.GoneDone directory) = done change_shape (change_value directory)
-answer_bytes (model.RenameDone from to) = done (change_shape & change_shape) (change_value from, change_value to)
+answer_bytes (model.RenameDone from to) = done renamed_shape (renamed_value from to)
 answer_bytes (model.ReaddirDone directory page eof) = done readdir_shape (readdir_value directory page eof)
 answer_bytes (model.FsstatDone root space) = done fsstat_shape (fsstat_value root space)
 answer_bytes (model.CommitDone file verifier) = done commit_shape (commit_value file verifier)

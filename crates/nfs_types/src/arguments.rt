@@ -8,10 +8,11 @@ ghost use Rattle.nfs_types.specs.Shapes.{handle_shape, target_shape};
 ghost use Rattle.nfs_types.specs.Arguments.{Makes, target_of, asked, asked_by, takes_memory};
 ghost use Rattle.nfs_types.specs.Arguments.{setattr_shape, range_shape, writing_shape};
 ghost use Rattle.nfs_types.specs.Arguments.{creating_shape, making_shape, listing_shape};
-ghost use Rattle.nfs_types.specs.Arguments.{growing_shape, null_call, getattr_call, setattr_call};
-ghost use Rattle.nfs_types.specs.Arguments.{lookup_call, read_call, write_call, create_call};
-ghost use Rattle.nfs_types.specs.Arguments.{mkdir_call, remove_call, rmdir_call, readdir_call};
-ghost use Rattle.nfs_types.specs.Arguments.{fsstat_call, commit_call, census_call, grow_call};
+ghost use Rattle.nfs_types.specs.Arguments.{growing_shape, renaming_shape, null_call, getattr_call};
+ghost use Rattle.nfs_types.specs.Arguments.{setattr_call, lookup_call, read_call, write_call};
+ghost use Rattle.nfs_types.specs.Arguments.{create_call, mkdir_call, remove_call, rmdir_call};
+ghost use Rattle.nfs_types.specs.Arguments.{rename_call, readdir_call, fsstat_call, commit_call};
+ghost use Rattle.nfs_types.specs.Arguments.{census_call, grow_call};
 
 use crate::bad::Bad;
 use crate::decode::{Decode, StableHow, decode_all};
@@ -149,6 +150,29 @@ fn remove_directory(alloc: Global, bytes: &[u8]) -> Result<Call, Bad>
     Ok(Call::RemoveDirectory(target(alloc, bytes)?))
 }
 
+/// RENAME (RFC 1813 section 3.3.14), whose names are copied once nothing is left over.
+fn rename(alloc: Global, bytes: &[u8]) -> Result<Call, Bad>
+    ensures { Makes call_of true result (asked_by renaming_shape rename_call bytes.now) }
+{
+    let mut rest = Cursor::new(bytes);
+    let from = FileHandle::decode(&mut rest)?;
+    let from_name = rest.opaque(u32::MAX)?;
+    let to = FileHandle::decode(&mut rest)?;
+    let to_name = rest.opaque(u32::MAX)?;
+    rest.end()?;
+    let from_name = Vec::from_slice(alloc, from_name)?;
+    let to_name = Vec::from_slice(alloc, to_name)?;
+    let from = Target {
+        directory: from,
+        name: Name::new(from_name),
+    };
+    let to = Target {
+        directory: to,
+        name: Name::new(to_name),
+    };
+    Ok(Call::Rename { from, to })
+}
+
 /// READDIR (RFC 1813 section 3.3.16).
 fn read_directory(bytes: &[u8]) -> Result<Call, Bad>
     ensures { Makes call_of false result (asked_by listing_shape readdir_call bytes.now) }
@@ -211,6 +235,7 @@ pub fn decode_args(alloc: Global, procedure: Procedure, bytes: &[u8]) -> Result<
         Procedure::MakeDirectory => make_directory(alloc, bytes),
         Procedure::Remove => remove(alloc, bytes),
         Procedure::RemoveDirectory => remove_directory(alloc, bytes),
+        Procedure::Rename => rename(alloc, bytes),
         Procedure::ReadDirectory => read_directory(bytes),
         Procedure::FilesystemStatus => filesystem_status(bytes),
         Procedure::Commit => commit(bytes),

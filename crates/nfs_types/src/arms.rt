@@ -5,11 +5,13 @@ ghost use Rattle.nfs_values.specs.Attributes.{shown_of, change_of};
 ghost use Rattle.nfs_values.specs.Answer.{space_of};
 ghost use Rattle.nfs_types.specs.Results.{lookup_shape, lookup_value, read_shape, read_value};
 ghost use Rattle.nfs_types.specs.Results.{write_shape, write_value, made_shape, made_value};
+ghost use Rattle.nfs_types.specs.Results.{renamed_shape, renamed_value};
 ghost use Rattle.nfs_types.specs.Results.{fsstat_shape, fsstat_value, commit_shape, commit_value};
 
 use crate::encode::{Encode, size_of_present, write_absent, write_present};
 use nfs_values::{
-    CommitResults, FilesystemStatusResults, LookupResults, MakeResults, ReadResults, WriteResults,
+    CommitResults, FilesystemStatusResults, LookupResults, MakeResults, ReadResults, RenameResults,
+    WriteResults,
 };
 
 /// FILE_SYNC (RFC 1813 section 3.3.7).
@@ -79,6 +81,21 @@ impl Encode for MakeResults {
         write_present(&self.handle, out);
         write_present(&self.object, out);
         self.directory.write(out);
+    }
+}
+
+impl Encode for RenameResults {
+    ghost shape = { renamed_shape };
+
+    ghost value = { λ r. renamed_value (change_of r.from) (change_of r.to) };
+
+    fn size(&self) -> usize {
+        self.from.size() + self.to.size()
+    }
+
+    fn write(&self, out: &mut Vec<u8>) {
+        self.from.write(out);
+        self.to.write(out);
     }
 }
 

@@ -37,7 +37,7 @@ fn write_absent_parts(count: u32, out: &mut Vec<u8>)
 /// A status and the failure arm, with so many optional parts.
 #[tactic(auto, using(crate::specs::lemmas::Absent::absent))]
 fn write_failed(status: Status, parts: u32, out: &mut Vec<u8>)
-    requires few { parts ≤ 2 }
+    requires few { parts ≤ 4 }
     requires room { vec_len out.old + length (failed (status_of status) parts)
         ≤ vec_capacity out.old }
     ensures items { out.new.items ≡ out.old.items ++ failed (status_of status) parts }
@@ -49,7 +49,7 @@ fn write_failed(status: Status, parts: u32, out: &mut Vec<u8>)
 
 /// What was done, or a failure whose arm has so many optional parts.
 fn write_either<T: Encode>(outcome: &Result<T, Status>, parts: u32, out: &mut Vec<u8>)
-    requires few { parts ≤ 2 }
+    requires few { parts ≤ 4 }
     requires short { length (result_bytes T.shape T.value parts outcome.now) < 2 ^ 32 }
     requires room { vec_len out.old + length (result_bytes T.shape T.value parts outcome.now)
         ≤ vec_capacity out.old }
@@ -66,7 +66,7 @@ fn write_either<T: Encode>(outcome: &Result<T, Status>, parts: u32, out: &mut Ve
 /// How many bytes they take.
 #[tactic(auto, using(crate::specs::lemmas::Absent::absent))]
 fn size_of_either<T: Encode>(outcome: &Result<T, Status>, parts: u32) -> usize
-    requires few { parts ≤ 2 }
+    requires few { parts ≤ 4 }
     requires short { length (result_bytes T.shape T.value parts outcome.now) < 2 ^ 32 }
     ensures { result ≡ length (result_bytes T.shape T.value parts outcome.now) }
 {
@@ -95,6 +95,7 @@ fn write_result(answer: &Answer, out: &mut Vec<u8>)
         Answer::MakeDirectory(outcome) => write_either(outcome, 2, out),
         Answer::Remove(outcome) => write_either(outcome, 2, out),
         Answer::RemoveDirectory(outcome) => write_either(outcome, 2, out),
+        Answer::Rename(outcome) => write_either(outcome, 4, out),
         Answer::ReadDirectory(outcome) => write_either(outcome, 1, out),
         Answer::FilesystemStatus(outcome) => write_either(outcome, 1, out),
         Answer::Commit(outcome) => write_either(outcome, 2, out),
@@ -120,6 +121,7 @@ pub fn size_of_result(answer: &Answer) -> usize
         Answer::MakeDirectory(outcome) => size_of_either(outcome, 2),
         Answer::Remove(outcome) => size_of_either(outcome, 2),
         Answer::RemoveDirectory(outcome) => size_of_either(outcome, 2),
+        Answer::Rename(outcome) => size_of_either(outcome, 4),
         Answer::ReadDirectory(outcome) => size_of_either(outcome, 1),
         Answer::FilesystemStatus(outcome) => size_of_either(outcome, 1),
         Answer::Commit(outcome) => size_of_either(outcome, 2),

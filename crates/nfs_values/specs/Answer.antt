@@ -7,13 +7,14 @@ use Rattle.nfs_values.specs.declared.answer.LookupResults.{LookupResults}
 use Rattle.nfs_values.specs.declared.answer.ReadResults.{ReadResults}
 use Rattle.nfs_values.specs.declared.answer.WriteResults.{WriteResults}
 use Rattle.nfs_values.specs.declared.answer.MakeResults.{MakeResults}
+use Rattle.nfs_values.specs.declared.answer.RenameResults.{RenameResults}
 use Rattle.nfs_values.specs.declared.answer.Entry.{Entry}
 use Rattle.nfs_values.specs.declared.answer.ReadDirectoryResults.{ReadDirectoryResults}
 use Rattle.nfs_values.specs.declared.answer.FilesystemStatusResults.{FilesystemStatusResults}
 use Rattle.nfs_values.specs.declared.answer.CommitResults.{CommitResults}
 use Rattle.nfs_values.specs.declared.answer.VolumeCount.{VolumeCount}
 use Rattle.nfs_values.specs.declared.answer.Answer.{Answer}
-use Rattle.nfs_values.specs.declared.answer.Answer.TheVariants.{Null, GetAttributes, SetAttributes, Lookup, Read, Write, Create, MakeDirectory, Remove, RemoveDirectory, ReadDirectory, FilesystemStatus, Commit, Census, Grow}
+use Rattle.nfs_values.specs.declared.answer.Answer.TheVariants.{Null, GetAttributes, SetAttributes, Lookup, Read, Write, Create, MakeDirectory, Remove, RemoveDirectory, Rename, ReadDirectory, FilesystemStatus, Commit, Census, Grow}
 use Rattle.nfs_values.specs.Attributes.{shown_of, change_of}
 use Rattle.nfs_values.specs.Status.{status_of}
 
@@ -39,6 +40,9 @@ node_made r = model.MadeDone r.handle (shown_of r.object) (change_of r.directory
 
 abbrev pub name_gone : Change → model.Answer
 name_gone directory = model.GoneDone (change_of directory)
+
+abbrev pub name_moved : RenameResults → model.Answer
+name_moved r = model.RenameDone (change_of r.from) (change_of r.to)
 
 -- an entry of a directory
 abbrev pub entry_of : Entry → model.Listed
@@ -87,6 +91,7 @@ answer_of (Create result) = result_of node_made 2 result
 answer_of (MakeDirectory result) = result_of node_made 2 result
 answer_of (Remove result) = result_of name_gone 2 result
 answer_of (RemoveDirectory result) = result_of name_gone 2 result
+answer_of (Rename result) = result_of name_moved 4 result
 answer_of (ReadDirectory result) = result_of entries_listed 1 result
 answer_of (FilesystemStatus result) = result_of space_told 1 result
 answer_of (Commit result) = result_of file_committed 2 result

@@ -1,7 +1,7 @@
 use Rattle.std.specs.Option.{option_map}
 use Rattle.nfs_model.specs.Types as model
 use Rattle.nfs_values.specs.declared.call.Call.{Call}
-use Rattle.nfs_values.specs.declared.call.Call.TheVariants.{Null, GetAttributes, SetAttributes, Lookup, Read, Write, Create, MakeDirectory, Remove, RemoveDirectory, ReadDirectory, FilesystemStatus, Commit, Census, Grow}
+use Rattle.nfs_values.specs.declared.call.Call.TheVariants.{Null, GetAttributes, SetAttributes, Lookup, Read, Write, Create, MakeDirectory, Remove, RemoveDirectory, Rename, ReadDirectory, FilesystemStatus, Commit, Census, Grow}
 use Rattle.nfs_values.specs.Moment.{moment_of}
 use Rattle.nfs_values.specs.Set.{set_of, mode_of}
 
@@ -17,6 +17,7 @@ call_of (Create target mode) = model.Create target.directory target.name (mode_o
 call_of (MakeDirectory target set) = model.Mkdir target.directory target.name (set_of set)
 call_of (Remove target) = model.Remove target.directory target.name
 call_of (RemoveDirectory target) = model.Rmdir target.directory target.name
+call_of (Rename from to) = model.Rename from.directory from.name to.directory to.name
 call_of (ReadDirectory directory cookie verifier count) = model.Readdir directory cookie.0 verifier.0 count
 call_of (FilesystemStatus handle) = model.Fsstat handle
 call_of (Commit handle) = model.Commit handle

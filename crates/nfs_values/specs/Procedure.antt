@@ -1,11 +1,11 @@
 use Rattle.std.specs.Prelude.{ℕ, Bool, true, false, List, [], ◌∷◌}
 use Rattle.nfs_values.specs.declared.procedure.Procedure.{Procedure}
-use Rattle.nfs_values.specs.declared.procedure.Procedure.TheVariants.{Null, GetAttributes, SetAttributes, Lookup, Read, Write, Create, MakeDirectory, Remove, RemoveDirectory, ReadDirectory, FilesystemStatus, Commit, AdminNull, Census, Grow}
+use Rattle.nfs_values.specs.declared.procedure.Procedure.TheVariants.{Null, GetAttributes, SetAttributes, Lookup, Read, Write, Create, MakeDirectory, Remove, RemoveDirectory, Rename, ReadDirectory, FilesystemStatus, Commit, AdminNull, Census, Grow}
 
 -- all of them
 abbrev pub all_procedures : List Procedure
 all_procedures =
-    Null ∷ GetAttributes ∷ SetAttributes ∷ Lookup ∷ Read ∷ Write ∷ Create ∷ MakeDirectory ∷ Remove ∷ RemoveDirectory ∷ ReadDirectory ∷ FilesystemStatus ∷ Commit ∷ AdminNull ∷ Census ∷ Grow ∷ []
+    Null ∷ GetAttributes ∷ SetAttributes ∷ Lookup ∷ Read ∷ Write ∷ Create ∷ MakeDirectory ∷ Remove ∷ RemoveDirectory ∷ Rename ∷ ReadDirectory ∷ FilesystemStatus ∷ Commit ∷ AdminNull ∷ Census ∷ Grow ∷ []
 
 -- program and procedure of NFS (RFC 1813 section 3) and of the admin program (our profile)
 abbrev pub numbers_of : Procedure → ℕ × ℕ
@@ -19,6 +19,7 @@ numbers_of Create = (100003, 8)
 numbers_of MakeDirectory = (100003, 9)
 numbers_of Remove = (100003, 12)
 numbers_of RemoveDirectory = (100003, 13)
+numbers_of Rename = (100003, 14)
 numbers_of ReadDirectory = (100003, 16)
 numbers_of FilesystemStatus = (100003, 18)
 numbers_of Commit = (100003, 21)

@@ -37,6 +37,13 @@ pub struct MakeResults {
     pub directory: Change,
 }
 
+/// RENAME3resok (RFC 1813 section 3.3.14), the directories.
+#[derive(Clone, Copy)]
+pub struct RenameResults {
+    pub from: Change,
+    pub to: Change,
+}
+
 /// An entry of a directory (entry3, RFC 1813 section 3.3.16).
 #[derive(Drop)]
 pub struct Entry {
@@ -95,6 +102,7 @@ pub enum Answer {
     Remove(Result<Change, Status>),
     /// The directory.
     RemoveDirectory(Result<Change, Status>),
+    Rename(Result<RenameResults, Status>),
     ReadDirectory(Result<ReadDirectoryResults, Status>),
     FilesystemStatus(Result<FilesystemStatusResults, Status>),
     Commit(Result<CommitResults, Status>),

@@ -45,6 +45,10 @@ pub enum Call {
     },
     Remove(Target),
     RemoveDirectory(Target),
+    Rename {
+        from: Target,
+        to: Target,
+    },
     ReadDirectory {
         directory: FileHandle,
         cookie: Cookie,

@@ -18,7 +18,7 @@ mod verifier;
 
 pub use answer::{
     Answer, CommitResults, Entry, FilesystemStatusResults, LookupResults, MakeResults,
-    ReadDirectoryResults, ReadResults, VolumeCount, WriteResults,
+    ReadDirectoryResults, ReadResults, RenameResults, VolumeCount, WriteResults,
 };
 pub use attributes::{Attributes, Change, FileKind, PriorAttributes};
 pub use call::Call;

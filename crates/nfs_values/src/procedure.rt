@@ -31,6 +31,8 @@ pub enum Procedure {
     Remove,
     /// RMDIR (RFC 1813 section 3.3.13).
     RemoveDirectory,
+    /// RENAME (RFC 1813 section 3.3.14).
+    Rename,
     /// READDIR (RFC 1813 section 3.3.16).
     ReadDirectory,
     /// FSSTAT (RFC 1813 section 3.3.18).
@@ -65,6 +67,7 @@ impl Procedure {
             (NFS_PROGRAM, 9) => Some(Procedure::MakeDirectory),
             (NFS_PROGRAM, 12) => Some(Procedure::Remove),
             (NFS_PROGRAM, 13) => Some(Procedure::RemoveDirectory),
+            (NFS_PROGRAM, 14) => Some(Procedure::Rename),
             (NFS_PROGRAM, 16) => Some(Procedure::ReadDirectory),
             (NFS_PROGRAM, 18) => Some(Procedure::FilesystemStatus),
             (NFS_PROGRAM, 21) => Some(Procedure::Commit),

@@ -8,7 +8,7 @@ use Rattle.nfs_model.specs.Types as model
 use Rattle.nfs_model.specs.Serial.Starve.{has_bytes}
 use Rattle.nfs_values.specs.declared.procedure.Procedure.{Procedure}
 use Rattle.nfs_values.specs.declared.procedure.Procedure.TheVariants.{Null, GetAttributes, SetAttributes, Lookup, Read, Write, Create, MakeDirectory, Remove}
-use Rattle.nfs_values.specs.declared.procedure.Procedure.TheVariants.{RemoveDirectory, ReadDirectory, FilesystemStatus, Commit, AdminNull, Census, Grow}
+use Rattle.nfs_values.specs.declared.procedure.Procedure.TheVariants.{RemoveDirectory, Rename, ReadDirectory, FilesystemStatus, Commit, AdminNull, Census, Grow}
 use Rattle.nfs_types.specs.Arguments.{arguments_shape, call_from, asked, takes_memory}
 use Rattle.nfs_types.specs.lemmas.Exact.{asked_is}
 use Rattle.rpc_msg.specs.declared.record.Request.TheVariants as requests
@@ -28,6 +28,7 @@ bytes_from Create v = refl
 bytes_from MakeDirectory v = refl
 bytes_from Remove v = refl
 bytes_from RemoveDirectory v = refl
+bytes_from Rename v = refl
 bytes_from ReadDirectory v = refl
 bytes_from FilesystemStatus v = refl
 bytes_from Commit v = refl

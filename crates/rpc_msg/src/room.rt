@@ -40,6 +40,7 @@ fn results_room(call: &Call, volumes: u32) -> usize
         Call::MakeDirectory { .. } => 4 + 20 + 88 + CHANGE_ROOM,
         Call::Remove(_) => 4 + CHANGE_ROOM,
         Call::RemoveDirectory(_) => 4 + CHANGE_ROOM,
+        Call::Rename { .. } => 4 + CHANGE_ROOM + CHANGE_ROOM,
         Call::ReadDirectory { count, .. } => 4 + (*count).clamp(4, COUNT_LIMIT) as usize,
         Call::FilesystemStatus { .. } => 4 + 88 + 6 * 8 + 4,
         Call::Commit { .. } => 4 + CHANGE_ROOM + 8,

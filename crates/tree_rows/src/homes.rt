@@ -27,12 +27,17 @@ const NOTHING: SetAttributes = SetAttributes {
     mtime: SetTime::Keep,
 };
 
-/// A name in the root of volume 1.
-fn target(alloc: Global) -> Target {
+/// A name in a directory.
+fn target_in(alloc: Global, directory: FileHandle) -> Target {
     Target {
-        directory: handle(1, 1),
+        directory,
         name: Name::new(Vec::new(alloc)),
     }
+}
+
+/// A name in the root of volume 1.
+fn target(alloc: Global) -> Target {
+    target_in(alloc, handle(1, 1))
 }
 
 /// Looks whether this is a call's home.
@@ -89,6 +94,24 @@ fn homes_by_name(rt: HostRuntime) {
     is_logical(&rt, &layout, make);
     is_logical(&rt, &layout, Call::Remove(target(rt.alloc())));
     is_logical(&rt, &layout, Call::RemoveDirectory(target(rt.alloc())));
+    mem::forget(layout);
+}
+
+/// A name that goes from the root of one volume to that of another, or of the same.
+fn renaming(alloc: Global, from: u8, to: u8) -> Call {
+    Call::Rename {
+        from: target_in(alloc, handle(from, 1)),
+        to: target_in(alloc, handle(to, 1)),
+    }
+}
+
+#[test]
+fn homes_by_two_names(rt: HostRuntime) {
+    let layout = two_volumes(&rt);
+    is_logical(&rt, &layout, renaming(rt.alloc(), 1, 1));
+    for (from, to) in [(0, 1), (1, 0), (1, 2), (2, 1), (2, 2)] {
+        has_home(&rt, &layout, renaming(rt.alloc(), from, to), None);
+    }
     mem::forget(layout);
 }
 

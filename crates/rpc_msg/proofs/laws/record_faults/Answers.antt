@@ -2,4 +2,4 @@ use Rattle.rpc_msg.specs.lemmas.Hearing.{fault_of_record}
 use Rattle.rpc_msg.proofs.laws.record_faults.Goals as goal
 
 pub returns : goal.returns
-returns c = λ bytes number e. fault_of_record bytes number e
+returns c = fault_of_record
