@@ -1,12 +1,16 @@
 //! Calls on the names of a volume, on the parcels that they hold: LOOKUP, READDIR and COMMIT.
 #![tactic(auto)]
 
+mod attributes;
 mod committing;
+mod cutting;
 mod folder;
 mod listing;
 mod looking;
 mod naming;
+mod setting;
 mod showing;
+mod sizing;
 mod touches;
 
 pub use committing::commit;
