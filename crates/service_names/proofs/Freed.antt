@@ -1,11 +1,11 @@
 -- Blocks that leave a file, one after the other.
-use Rattle.std.proofs.Common.{◌≡◌, ℕ, suc, ◌+◌, ◌-◌, Bool, true, false, ◌||◌, List, [], ◌∷◌, ◌++◌, length, refl, sym, ap, ◌∙◌, subst, arith}
-use Rattle.std.proofs.Common.{nat_eq, length-append}
+use Rattle.std.proofs.Common.{◌≡◌, ℕ, suc, ◌-◌, Bool, true, false, ◌||◌, List, [], ◌∷◌, ◌++◌, length, refl, sym, ap, ◌∙◌, subst, arith}
+use Rattle.std.proofs.Common.{nat_eq}
 use Rattle.std.specs.List.{list_any}
 use Rattle.std.specs.Ordering.{nat_cmp}
 use Rattle.std.specs.Cmp.{nat_cmp_total}
 use Rattle.std.specs.FinMap.{nat_cmp-IsAntisymmetric}
-use Rattle.std.specs.FinSet.{FinSet, contains, from_list, union, same_set, contains-union, contains-from_list_nat}
+use Rattle.std.specs.FinSet.{FinSet, contains, from_list, same_set, contains-union, contains-from_list_nat}
 use Rattle.volume_values.specs.Ranges.{with_numbers}
 use Rattle.volume_values.specs.Stripes.{StripeValue, cut, numbers_freed}
 use Rattle.service_names.specs.Changing.{AreNumbers}

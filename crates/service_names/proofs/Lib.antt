@@ -2,6 +2,7 @@ mod Latest
 mod Taking
 mod Freed
 mod Sized
+mod Carded
 mod Named
 mod Commits
 mod Lists

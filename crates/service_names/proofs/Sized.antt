@@ -1,5 +1,5 @@
 -- A file of a size set in all stripes, from the last down to the first.
-use Rattle.std.proofs.Common.{◌≡◌, ◌≢◌, ℕ, zero, suc, ◌+◌, ◌-◌, ◌<◌, ◌≤◌, List, [], ◌∷◌, ◌++◌, Option, Some, None, refl, sym, ap, ◌∙◌, subst, arith}
+use Rattle.std.proofs.Common.{◌≡◌, ◌≢◌, ℕ, zero, suc, ◌+◌, ◌-◌, ◌<◌, ◌≤◌, List, [], ◌∷◌, ◌++◌, Option, Some, refl, sym, ap, ◌∙◌, subst, arith}
 use Rattle.std.proofs.Common.{length-append, ⊎_elim}
 use Rattle.std.proofs.lemmas.Bool.{cases_eq}
 use Rattle.std.specs.Prelude.{length, map, is_some, IsSome, slice_get, slice_set, slice_index_or}
@@ -8,10 +8,8 @@ use Rattle.parcel_sets.specs.Filled.{is_filled, AreFilledAlike}
 use Rattle.volume_values.specs.Logical.{LogicalValue}
 use Rattle.volume_values.specs.Stripes.{StripeValue, numbers_freed}
 use Rattle.held_state.specs.Contents.{each}
-use Rattle.held_state.specs.Lenses.{LogicalSet}
 use Rattle.held_state.specs.Parcels.{no_stripe}
 use Rattle.held_state.specs.Sets.{FilerStripe, FilerLogical, stripe_value, placed, in_one, logical_before}
-use Rattle.held_state.specs.Tree.{stripe_at}
 use Rattle.held_laws.specs.lemmas.Each.{each-same, each-map, each-index}
 use Rattle.held_nodes.specs.Sizing.{stripe_sized, all_freed}
 use Rattle.service_names.specs.Changing.{AreNumbers, MayBeSet, with_dead}

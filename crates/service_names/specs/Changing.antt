@@ -2,7 +2,6 @@
 use Rattle.std.specs.Prelude.{ℕ, ◌*◌, ◌<◌, ◌≤◌, List, [], ◌∷◌, IsSome}
 use Rattle.std.specs.FinMap.{get}
 use Rattle.nfs_model.specs.Parts.{most_ranges, range_blocks}
-use Rattle.nfs_model.specs.Types.{Moment}
 use Rattle.nfs_model.specs.Server.{Attributes}
 use Rattle.volume_values.specs.Inodes.{Inode, inode_set}
 use Rattle.volume_values.specs.Logical.{LogicalValue}

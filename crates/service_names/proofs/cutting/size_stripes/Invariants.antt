@@ -1,4 +1,4 @@
-use Rattle.std.proofs.Common.{◌≡◌, ◌≤◌}
+use Rattle.std.proofs.Common.{◌≤◌}
 use Rattle.service_names.proofs.Sized.{AreSizedFrom}
 use Rattle.service_names.proofs.cutting.size_stripes.Given as goal
 
