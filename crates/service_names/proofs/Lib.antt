@@ -3,6 +3,8 @@ mod Taking
 mod Freed
 mod Sized
 mod Carded
+mod Dropped
+mod Gone
 mod Named
 mod Commits
 mod Lists

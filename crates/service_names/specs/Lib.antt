@@ -2,4 +2,5 @@ pub mod Shown
 pub mod Listing
 pub mod Promises
 pub mod Changing
+pub mod Naming
 pub mod lemmas

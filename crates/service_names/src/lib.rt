@@ -2,12 +2,15 @@
 #![tactic(auto)]
 
 mod attributes;
+mod child;
 mod committing;
 mod cutting;
+mod dropping;
 mod folder;
 mod listing;
 mod looking;
 mod naming;
+mod node;
 mod setting;
 mod showing;
 mod sizing;
