@@ -5,6 +5,8 @@ mod Sized
 mod Carded
 mod Dropped
 mod Gone
+mod Removed
+mod Changed
 mod Named
 mod Commits
 mod Lists

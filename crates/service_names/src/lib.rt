@@ -11,6 +11,7 @@ mod listing;
 mod looking;
 mod naming;
 mod node;
+mod removing;
 mod setting;
 mod showing;
 mod sizing;
