@@ -7,6 +7,7 @@ mod Dropped
 mod Gone
 mod Removed
 mod Changed
+mod Laws
 mod Named
 mod Commits
 mod Lists

@@ -72,7 +72,7 @@ module _ (v directory : ℕ) (inode : Inode) (name : List ℕ) (moment : Moment)
           absurd cc
 
 -- an empty list
-pub no-entries : (list : List Listed) (b : Bool) → b ≡ (length list == 0) → not b ≡ false → list ≡ []
-no-entries [] b is isnt = refl
-no-entries (e ∷ list) true is isnt = let none : suc (length list) ≡ 0 = eqb-true (suc (length list)) 0 (sym is) in absurd (omega (arith, none))
-no-entries (e ∷ list) false is isnt = absurd cc
+pub no-entries : (list : List Listed) (b : Bool) → b ≡ (length list == 0) → b ≡ true → list ≡ []
+no-entries [] b is true_is = refl
+no-entries (e ∷ list) b is true_is =
+    let none : suc (length list) ≡ 0 = eqb-true (suc (length list)) 0 (sym is ∙ true_is) in absurd (omega (arith, none))

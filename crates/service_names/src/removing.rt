@@ -14,6 +14,7 @@ ghost use Rattle.held_names.specs.Answers.{entries_of};
 ghost use Rattle.held_changes.specs.Named.{node_under};
 ghost use Rattle.held_changes.specs.Dropping.{rmdir_kind};
 ghost use Rattle.service_names.specs.Naming.{naming_of, node_value};
+ghost use Rattle.service_names.specs.Promises.{Removes, RemovesDirectory};
 ghost use Rattle.service_names.specs.Shown.{HasFewLinks};
 ghost use Rattle.held_changes.specs.Laws.{remove_done, rmdir_done};
 
@@ -21,10 +22,49 @@ use crate::child::{child_at, directory_change, directory_named, is_dots, is_empt
 use crate::dropping::{drop_file, drop_node};
 use crate::naming::is_same_name;
 use crate::node::Node;
+use held_changes::dropping_calls_are_right;
 use inodes::InodeKind;
 use nfs_values::{Change, Fileid, Moment, Status, VolumeNumber};
 use parcel_sets::LogicalHeld;
 use parcels::Files;
+
+/// REMOVE (RFC 1813 section 3.3.12), on the parcels of a volume's names and attributes, at a
+/// moment: STALE, NOTDIR, what is wrong with the name, INVAL for `.` and `..`, NOENT, or ISDIR for
+/// a directory; else the file is gone with its name, and its blocks are dead. It takes no memory.
+pub fn remove(
+    held: &mut LogicalHeld<Files>,
+    volume: VolumeNumber,
+    directory: Fileid,
+    name: &[u8],
+    moment: Moment,
+) -> Result<Change, Status>
+    requires whole { HasVolume volume.0 logical_lens [] (logical_before held.old) }
+    ensures right { Removes volume.0 directory.0 name.now (moment_of moment)
+        (logical_before held.old) result (logical_after held.old held.new) }
+    ensures alike { logical_alike held.old held.new }
+{
+    dropping_calls_are_right();
+    file_removed(held, volume, directory, name, moment)
+}
+
+/// RMDIR (RFC 1813 section 3.3.13), likewise: STALE, NOTDIR, what is wrong with the name, INVAL
+/// for `.`, EXIST for `..`, NOENT, NOTDIR for a file, or NOTEMPTY for a directory with entries;
+/// else the directory is gone with its name. It takes no memory.
+pub fn remove_directory(
+    held: &mut LogicalHeld<Files>,
+    volume: VolumeNumber,
+    directory: Fileid,
+    name: &[u8],
+    moment: Moment,
+) -> Result<Change, Status>
+    requires whole { HasVolume volume.0 logical_lens [] (logical_before held.old) }
+    ensures right { RemovesDirectory volume.0 directory.0 name.now (moment_of moment)
+        (logical_before held.old) result (logical_after held.old held.new) }
+    ensures alike { logical_alike held.old held.new }
+{
+    dropping_calls_are_right();
+    directory_removed(held, volume, directory, name, moment)
+}
 
 /// What REMOVE comes to.
 fn file_removed(
