@@ -47,7 +47,7 @@ module _ {P : Type 0} (old mid new : FilerLogical P) (v directory : ℕ) (folder
       → logical_after mid new ≡ node_dropped (dropping_of (naming_in v directory folder name moment (logical_before mid)) (there emptied)) (logical_before mid)
       → logical_after old new
       ≡ node_dropped (dropping_of (naming_in v directory folder name moment (logical_before old)) (child_emptied child (logical_before old)))
-        (file_sized (emptying_of child) (logical_before old))
+      (file_sized (emptying_of child) (logical_before old))
   emptied-gone sized gone =
       let same : mid.own.stripes ≡ old.own.stripes = ap (λ (s : LogicalSet). s.own.stripes) sized in
       let at : logical_before mid ≡ file_sized (emptying_of child) (logical_before old) = ap (λ (n : ℕ). logical_set n mid) same ∙ sized in

@@ -1,5 +1,5 @@
 -- Calls that are right since they come to what is the serial server's.
-use Rattle.std.proofs.Common.{◌≡◌, ℕ, false, List, [], sym, subst}
+use Rattle.std.proofs.Common.{◌≡◌, ℕ, false, [], sym, subst}
 use Rattle.nfs_model.specs.Types.{Answer, Success}
 use Rattle.held_state.specs.Lenses.{LogicalSet, logical_lens}
 use Rattle.held_state.specs.Promises.{RightOnVolume}

@@ -112,7 +112,8 @@ fn kind_left(directory: InodeKind, kind: InodeKind) -> InodeKind
     let InodeKind::Directory {
         parent,
         subdirectories,
-    } = directory else {
+    } = directory
+    else {
         return directory;
     };
     let fewer = match kind {

@@ -1,27 +1,24 @@
 -- What a sound volume's nodes have: cards and block numbers, and a directory entries.
-use Rattle.std.proofs.Common.{◌≡◌, ℕ, ◌+◌, ◌*◌, ◌<◌, ◌≤◌, ◌==◌, nat_lt, Bool, true, false, List, [], ◌∷◌, Option, Some, None, refl, sym, ap, ◌∙◌, subst, arith}
+use Rattle.std.proofs.Common.{◌≡◌, ℕ, ◌*◌, ◌<◌, ◌≤◌, ◌==◌, nat_lt, true, List, [], ◌∷◌, Option, Some, None, refl, ap, ◌∙◌, subst, arith}
 use Rattle.std.proofs.Common.{eq-eqb, ⊎_elim}
 use Rattle.std.proofs.lemmas.Bool.{cases_lt, le-ltb}
-use Rattle.std.specs.Prelude.{is_some, IsSome, if◌then◌else◌}
+use Rattle.std.specs.Prelude.{is_some, IsSome}
 use Rattle.std.specs.Option.{option_map}
 use Rattle.std.specs.FinMap.{get}
 use Rattle.nfs_model.specs.Parts.{Hand, one_if, times_listed, most_ranges, range_blocks}
-use Rattle.depot_rule.specs.Sums.{total}
 use Rattle.volume_values.specs.Directories.{DirectoryValue}
 use Rattle.volume_values.specs.Inodes.{Inode}
-use Rattle.volume_values.specs.Ranges.{RangeValue}
-use Rattle.volume_values.specs.Stripes.{StripeValue, Card}
+use Rattle.volume_values.specs.Stripes.{Card}
 use Rattle.held_state.specs.Contents.{VolumeContents}
 use Rattle.held_state.specs.Names.{is_folder, size_in}
-use Rattle.held_state.specs.Partition.{times_in_stripe, times_in_hand, StandOnce}
 use Rattle.held_state.specs.Sound.{IsSound}
 use Rattle.held_state.specs.Tree.{stripe_at, ranges_used, directory_or_empty}
-use Rattle.held_state.specs.WellFormed.{WellFormed, size_shown}
+use Rattle.held_state.specs.WellFormed.{size_shown}
 use Rattle.held_state.specs.Lenses.{LogicalSet, logical_lens}
 use Rattle.held_state.specs.Promises.{HasVolume}
 use Rattle.held_laws.specs.lemmas.Limits.{used-fits, ranges-fit}
 use Rattle.held_names.specs.Answers.{entries_of}
-use Rattle.held_nodes.specs.Sizing.{all_freed, stripe_sized}
+use Rattle.held_nodes.specs.Sizing.{all_freed}
 use Rattle.held_nodes.specs.lemmas.Sized.{freed-times}
 use Rattle.service_names.specs.Changing.{AreNumbers, MayBeSet}
 use Rattle.service_names.specs.lemmas.Whole.{whole-few}

@@ -1,7 +1,7 @@
 use Rattle.std.proofs.Common.{sym, ap, ◌∙◌, subst}
 use Rattle.nfs_model.specs.Types.{GoneDone}
 use Rattle.nfs_values.specs.Moment.{moment_of}
-use Rattle.volume_values.specs.Inodes.{Inode, InodeKind}
+use Rattle.volume_values.specs.Inodes.{Inode}
 use Rattle.inodes.specs.Inode.{inode_value, kind_value}
 use Rattle.held_state.specs.Changes.{LogicalAnswer}
 use Rattle.held_state.specs.Sets.{logical_before}
