@@ -1,11 +1,10 @@
 //! Files cut to a size, stripe by stripe.
 
-ghost use Rattle.std.specs.Prelude.{◌≡◌, ◌-◌, length, is_some, IsSome};
+ghost use Rattle.std.specs.Prelude.{◌≡◌, ◌-◌, length, is_some, map, IsSome};
 ghost use Rattle.std.specs.FinMap.{get};
 ghost use Rattle.parcel_sets.specs.Filled.{logical_alike};
 ghost use Rattle.volume_values.specs.Ranges.{with_numbers};
 ghost use Rattle.volume_values.specs.Stripes.{cut, numbers_freed};
-ghost use Rattle.std.specs.Prelude.{map};
 ghost use Rattle.held_nodes.specs.Sizing.{all_freed, stripe_sized};
 ghost use Rattle.held_state.specs.Sets.{logical_before, logical_after, stripe_value};
 ghost use Rattle.service_names.specs.Changing.{AreNumbers, MayBeSet, with_dead};
