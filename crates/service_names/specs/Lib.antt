@@ -1,4 +1,6 @@
 pub mod Shown
 pub mod Listing
 pub mod Promises
+pub mod Changing
+pub mod Naming
 pub mod lemmas

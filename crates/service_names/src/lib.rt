@@ -1,16 +1,27 @@
-//! Calls on the names of a volume, on the parcels that they hold: LOOKUP, READDIR and COMMIT.
+//! Calls on the names of a volume, on the parcels that they hold: LOOKUP, READDIR, COMMIT, SETATTR,
+//! REMOVE and RMDIR.
 #![tactic(auto)]
 
+mod attributes;
+mod child;
 mod committing;
+mod cutting;
+mod dropping;
 mod folder;
 mod listing;
 mod looking;
 mod naming;
+mod node;
+mod removing;
+mod setting;
 mod showing;
+mod sizing;
 mod touches;
 
 pub use committing::commit;
 pub use listing::{PageAsked, read_directory};
 pub use looking::lookup;
+pub use removing::{remove, remove_directory};
+pub use setting::set_attributes;
 pub use showing::{prior, shown};
 pub use touches::{is_same, latest_touch, take_touches};
