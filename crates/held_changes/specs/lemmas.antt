@@ -9,3 +9,4 @@ pub mod Makes
 pub mod Gone
 pub mod Remove
 pub mod Rmdir
+pub mod Climbing
