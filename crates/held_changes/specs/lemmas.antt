@@ -10,3 +10,4 @@ pub mod Gone
 pub mod Remove
 pub mod Rmdir
 pub mod Climbing
+pub mod Renamed

@@ -152,7 +152,7 @@ module _ (p : VolumeContents) (fileid : ℕ) (name : List ℕ) (moment : Moment)
 -- ---- the node under the name
 
 -- an entry of a list stands in it at least once
-found-counted : (name : List ℕ) (list : List Listed) (e : Listed) → find_name name list ≡ Some e → 1 ≤ times_in_list e.fileid list
+pub found-counted : (name : List ℕ) (list : List Listed) (e : Listed) → find_name name list ≡ Some e → 1 ≤ times_in_list e.fileid list
 found-counted name [] e h = absurd cc
 found-counted name (x ∷ list) e h = by (same_name x.name name) h (found-counted name list e)
   where
