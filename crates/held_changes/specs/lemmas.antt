@@ -11,3 +11,4 @@ pub mod Remove
 pub mod Rmdir
 pub mod Climbing
 pub mod Renamed
+pub mod Hanging
