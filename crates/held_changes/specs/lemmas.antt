@@ -12,3 +12,4 @@ pub mod Rmdir
 pub mod Climbing
 pub mod Renamed
 pub mod Hanging
+pub mod Targets
