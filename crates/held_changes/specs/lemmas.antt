@@ -13,3 +13,4 @@ pub mod Climbing
 pub mod Renamed
 pub mod Hanging
 pub mod Targets
+pub mod Replacing

@@ -43,7 +43,7 @@ use Rattle.held_changes.specs.lemmas.Named.{IsChildHere}
 use Rattle.held_changes.specs.lemmas.Renamed.{or-there, or-empty, still-absent, above-same, directory-seen, not-root, not-itself}
 
 -- a node changed that is there
-changed-there : (change : Node → Node) (k : ℕ) (nodes : Nodes) (x : Node) → get nodes k ≡ Some x
+pub changed-there : (change : Node → Node) (k : ℕ) (nodes : Nodes) (x : Node) → get nodes k ≡ Some x
     → changed_node change k (get nodes k) nodes ≡ insert nodes k (change x)
 changed-there change k nodes x there = ap (λ o. changed_node change k o nodes) there
 
