@@ -14,3 +14,4 @@ pub mod Renamed
 pub mod Hanging
 pub mod Targets
 pub mod Replacing
+pub mod Told
