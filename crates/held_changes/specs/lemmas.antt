@@ -15,3 +15,4 @@ pub mod Hanging
 pub mod Targets
 pub mod Replacing
 pub mod Told
+pub mod Renames
