@@ -209,3 +209,51 @@ module _ (from to : List ℕ) (node : Affinity) (from_id : ℕ) (from_name : Lis
   -- RENAME
   pub rename-is-done : (v : ℕ) (s : LogicalSet) → IsDone v call s (rename_done v from_id from_name to_id to_name moment s)
   rename-is-done v s = done-right-for 4 v call (λ w t. rename_done w from_id from_name to_id to_name moment t) (λ p. refl) refl renames-right s
+
+-- ---- memory may run out
+
+-- what is located is what its handle names
+located-named : (volumes : List VolumeState) (o : Option Named) (l : Located) → located_by volumes o ≡ Some l → o ≡ Some l.named
+located-named volumes None l is = absurd cc
+located-named volumes (Some named) l is = by (slice_get volumes named.volume) is
+  where
+    by : (v : Option VolumeState) → located_in named v ≡ Some l → Some named ≡ Some l.named
+    by None at = absurd cc
+    by (Some volume) at =
+        let same : record { named = named; volume = volume } ≡ l = cc in
+        ap (λ (x : Located). Some x.named) same
+
+handle-read : (volumes : ℕ) (bytes : List ℕ) (named : Named) → handle_of volumes bytes ≡ Some named → named_read bytes ≡ named
+handle-read volumes bytes named is = by _ is
+  where
+    by : (b : Bool) → (if b then Some (named_read bytes) else None) ≡ Some named → named_read bytes ≡ named
+    by true e = cc
+    by false e = absurd cc
+
+pub rename-starves : (v from_id to_id volumes : ℕ) (from from_name to to_name : List ℕ) (node : Affinity) (moment : Moment) (s : LogicalSet)
+    (from_change to_change : Wcc)
+    → handle_of volumes to ≡ Some (record { volume = v; fileid = to_id })
+    → ((from_id == to_id) && same_name from_name to_name) ≡ false
+    → (rename_done v from_id from_name to_id to_name moment s).answer ≡ RenameDone from_change to_change
+    → MayStarve v (rename_call from to node from_id from_name to_id to_name moment) s
+rename-starves v from_id to_id volumes from from_name to to_name node moment s from_change to_change names two is =
+    may-starve 4 v (rename_call from to node from_id from_name to_id to_name moment) (λ w t. rename_done w from_id from_name to_id to_name moment t)
+    (λ p. refl) refl
+    (λ p hands count sound. (renames-right from to node from_id from_name to_id to_name moment p hands hands count sound (λ n. refl)).0) s
+    (λ p server has at. subst (λ (a : Answer). IsTrue (takes_memory server (Rename from from_name to to_name) a)) (sym is)
+    (by p server at (same_name from to) refl))
+  where
+    by : (p : VolumeContents) (server : Server)
+        → locate server from ≡ Some (record { named = record { volume = p.number; fileid = from_id }; volume = volume_of p })
+        → (b : Bool) → same_name from to ≡ b → not (b && same_name from_name to_name) ≡ true
+    by p server at false e = refl
+    by p server at true e =
+        let first = handle-read (length server.volumes) from _
+        (located-named server.volumes (handle_of (length server.volumes) from) _ at) in
+        let second = handle-read volumes to _ names in
+        let same : from_id ≡ to_id =
+        ap (λ (n : Named). n.fileid) (sym first) ∙ ap (λ (bytes : List ℕ). (named_read bytes).fileid) (same-is from to e)
+        ∙ ap (λ (n : Named). n.fileid) second in
+        let other : same_name from_name to_name ≡ false =
+        sym (ap (λ (b : Bool). b && same_name from_name to_name) (eq-eqb from_id to_id same)) ∙ two in
+        ap (λ (b : Bool). not b) other
