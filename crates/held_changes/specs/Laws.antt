@@ -1,5 +1,5 @@
 -- What calls that change a volume come to, by what is under Logical (RFC 1813 section 3.3).
-use Rattle.std.specs.Prelude.{◌≡◌, ℕ, Bool, ◌&&◌, ◌==◌, false, List, [], Option, Some, None}
+use Rattle.std.specs.Prelude.{◌≡◌, ℕ, ◌&&◌, ◌==◌, false, List, [], Option, Some, None}
 use Rattle.nfs_model.specs.Types.{Moment, Credential, SetAttributes, CreateMode, Shown, Wcc, MadeDone, Success}
 use Rattle.nfs_model.specs.Types.{Create, Mkdir, Remove, Rmdir, Rename, RenameDone}
 use Rattle.nfs_model.specs.Tree.{Affinity}

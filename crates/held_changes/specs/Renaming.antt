@@ -1,20 +1,19 @@
 -- RENAME by what is under Logical (RFC 1813 section 3.3.14).
-use Rattle.std.specs.Prelude.{ℕ, zero, suc, Bool, true, false, not, ◌&&◌, ◌||◌, ◌==◌, List, [], ◌∷◌, Option, Some, None, if◌then◌else◌}
+use Rattle.std.specs.Prelude.{ℕ, zero, suc, Bool, true, false, not, ◌&&◌, ◌||◌, ◌==◌, List, Option, Some, None, if◌then◌else◌}
 use Rattle.std.specs.FinMap.{get, len}
-use Rattle.nfs_model.specs.Types.{Moment, Status, Wcc, Failed, RenameDone, Stale, NotDirectory, NoEntry, Invalid, Exists}
-use Rattle.nfs_model.specs.Shown.{before_of}
+use Rattle.nfs_model.specs.Types.{Moment, Status, Failed, RenameDone, Stale, NotDirectory, NoEntry, Invalid, Exists}
 use Rattle.nfs_model.specs.Names.{same_name, is_dots, name_fault}
 use Rattle.nfs_model.specs.Serial.Rename.{on_parent, is_empty_list}
 use Rattle.volume_values.specs.Inodes.{InodeKind, RegularFile, Folder, Inode}
 use Rattle.held_state.specs.Tree.{file_touch}
 use Rattle.held_state.specs.Names.{InodeMap, parent_directory}
 use Rattle.held_state.specs.Lenses.{LogicalSet}
-use Rattle.held_state.specs.Changes.{LogicalAnswer, shown_inode}
+use Rattle.held_state.specs.Changes.{LogicalAnswer}
 use Rattle.held_nodes.specs.Dropping.{node_dropped}
 use Rattle.held_nodes.specs.Sizing.{file_sized}
 use Rattle.held_nodes.specs.Moving.{Naming, entry_taken, node_hung_up}
 use Rattle.held_names.specs.Answers.{entries_of}
-use Rattle.held_changes.specs.Named.{HeldNaming, HeldNode, node_under}
+use Rattle.held_changes.specs.Named.{HeldNaming, directory_change, HeldNode, node_under}
 use Rattle.held_changes.specs.Dropping.{dropping_of, emptying_of, child_emptied}
 
 -- ---- failures
@@ -120,16 +119,12 @@ set_renamed r child target = child_hung r.to child (child_taken r.from child (ta
 
 -- ---- the procedure
 
--- the attributes of a name's directory before, and after, in this set
-abbrev pub directory_then : HeldNaming → LogicalSet → Wcc
-directory_then n s = record {
-  before = before_of (shown_inode n.volume n.fileid n.inode None);
-  after = shown_inode n.volume n.fileid (directory_now n s) None;
-}
-
--- both directories, where this is what is left
+-- the attributes of both directories before and after, where this is what is left
 abbrev pub held_renamed : HeldRenaming → LogicalSet → LogicalAnswer
-held_renamed r s = record { answer = RenameDone (directory_then r.from s) (directory_then r.to s); set = s }
+held_renamed r s = record {
+  answer = RenameDone (directory_change r.from (directory_now r.from s)) (directory_change r.to (directory_now r.to s));
+  set = s;
+}
 
 -- NOENT; the same entry is OK, and nothing changes; INVAL for a directory below itself; EXIST for a target that may not go
 abbrev pub rename_by : HeldRenaming → Option HeldNode → Option HeldNode → LogicalAnswer
@@ -148,11 +143,12 @@ held_rename r =
     (if is_dots r.from.name || is_dots r.to.name then fails_both Invalid r.from.set
     else rename_by r (node_under r.from) (node_under r.to)))
 
--- STALE where there is no node, NOTDIR for a file
+-- NOTDIR for a file
 abbrev pub if_folder : InodeKind → LogicalSet → LogicalAnswer → LogicalAnswer
 if_folder (RegularFile size filled verifier) s done = fails_both NotDirectory s
 if_folder (Folder parent subdirectories) s done = done
 
+-- STALE where there is no node, NOTDIR for a file
 abbrev pub on_folder : Option Inode → LogicalSet → (Inode → LogicalAnswer) → LogicalAnswer
 on_folder None s run = fails_both Stale s
 on_folder (Some inode) s run = if_folder inode.kind s (run inode)

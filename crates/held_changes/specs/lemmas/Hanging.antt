@@ -1,24 +1,23 @@
 -- A node that moves to a name that isn't there: all stays sound, no block moves, and its nodes are the serial server's.
 use Rattle.std.proofs.Common.{◌≡◌, ℕ, ◌+◌, ◌==◌, Bool, true, false, List, [], ◌∷◌, ◌++◌, map, Option, Some, None}
-use Rattle.std.proofs.Common.{refl, sym, ap, ◌∙◌, subst, arith, ne_eqb, eq-eqb}
+use Rattle.std.proofs.Common.{refl, sym, ap, ◌∙◌}
 use Rattle.std.specs.Prelude.{if◌then◌else◌, is_some}
 use Rattle.std.specs.Option.{option_map}
 use Rattle.std.specs.FinMap.{get, insert, len}
 use Rattle.std.specs.FinSet.{from_list}
-use Rattle.nfs_model.specs.Types.{Moment}
 use Rattle.nfs_model.specs.Server.{DirectoryNode, Node, Directory, VolumeState, used}
 use Rattle.nfs_model.specs.Names.{dropped_name, with_name}
 use Rattle.nfs_model.specs.Parts.{Hand}
 use Rattle.nfs_model.specs.Locate.{Naming}
 use Rattle.nfs_model.specs.Serial.Rename.{Nodes, changed_node, in_directory, without_entry, with_entry, moved_node, with_moved}
-use Rattle.volume_values.specs.Directories.{DirectoryValue, found, added, removed}
-use Rattle.volume_values.specs.Inodes.{Inode, InodesValue, inode_of, inode_set}
+use Rattle.volume_values.specs.Directories.{DirectoryValue, found, added}
+use Rattle.volume_values.specs.Inodes.{inode_set}
 use Rattle.volume_values.specs.Stripes.{StripeValue, touch_taken}
 use Rattle.volume_values.specs.lemmas.Inodes.{next-set}
 use Rattle.volume_values.specs.lemmas.Numbered.{get-insert_at}
 use Rattle.held_state.specs.Contents.{VolumeContents}
 use Rattle.held_state.specs.Tree.{file_touch, directory_or_empty, node_of, volume_of}
-use Rattle.held_state.specs.Names.{root, parent_in, parent_directory, directory_above}
+use Rattle.held_state.specs.Names.{parent_in, parent_directory, directory_above}
 use Rattle.held_state.specs.Partition.{parts_of, numbers_in, all_numbers}
 use Rattle.held_state.specs.Sound.{IsSound}
 use Rattle.held_state.specs.Lenses.{LogicalSet, logical_lens}
@@ -38,7 +37,7 @@ use Rattle.held_nodes.specs.lemmas.Hung.{apart, apart-turned}
 use Rattle.held_nodes.specs.lemmas.Moved.{sound-moved}
 use Rattle.held_nodes.specs.lemmas.MovedNodes.{nodes-taken, nodes-hung}
 use Rattle.held_changes.specs.Named.{HeldNaming, HeldNode}
-use Rattle.held_changes.specs.Renaming.{directory_now, moving_of, child_taken, child_hung}
+use Rattle.held_changes.specs.Renaming.{moving_of, child_taken, child_hung}
 use Rattle.held_changes.specs.lemmas.Named.{IsChildHere}
 use Rattle.held_changes.specs.lemmas.Renamed.{or-there, or-empty, still-absent, above-same, directory-seen, not-root, not-itself}
 

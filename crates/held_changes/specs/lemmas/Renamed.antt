@@ -1,49 +1,31 @@
 -- A node that moves to another name, step by step as the serial server moves it.
-use Rattle.std.proofs.Common.{◌≡◌, ℕ, zero, suc, ◌+◌, ◌≤◌, ◌==◌, ◌&&◌, not, Bool, true, false, List, [], ◌∷◌, ◌++◌, map, Option, Some, None}
-use Rattle.std.proofs.Common.{refl, sym, ap, ◌∙◌, subst, arith, ne_eqb, eq-eqb}
+use Rattle.std.proofs.Common.{◌≡◌, ℕ, zero, suc, ◌≤◌, ◌==◌, ◌&&◌, not, Bool, true, false, List, [], ◌∷◌, Option, Some, None}
+use Rattle.std.proofs.Common.{refl, sym, ap, ◌∙◌, subst, arith, eq-eqb}
 use Rattle.std.specs.Prelude.{if◌then◌else◌, is_some, IfSome}
 use Rattle.std.proofs.lemmas.Bool.{eqb-true}
 use Rattle.std.specs.List.{AllByRecursion}
 use Rattle.std.specs.Option.{option_map}
-use Rattle.std.specs.FinMap.{get, insert, len, nat_cmp-IsAntisymmetric}
-use Rattle.std.specs.FinSet.{from_list}
-use Rattle.nfs_model.specs.Types.{Moment, Listed}
-use Rattle.nfs_model.specs.Server.{Attributes, DirectoryNode, Node, Directory, VolumeState, used}
-use Rattle.nfs_model.specs.Names.{same_name, find_name, dropped_name, with_name}
-use Rattle.nfs_model.specs.Parts.{Hand, one_if}
-use Rattle.nfs_model.specs.Locate as seen
-use Rattle.nfs_model.specs.Serial.Rename.{Nodes, changed_node, in_directory, without_entry, with_entry, moved_node, with_moved}
+use Rattle.std.specs.FinMap.{get, nat_cmp-IsAntisymmetric}
+use Rattle.nfs_model.specs.Types.{Listed}
+use Rattle.nfs_model.specs.Server.{Attributes, Directory}
+use Rattle.nfs_model.specs.Names.{same_name, find_name}
+use Rattle.nfs_model.specs.Parts.{one_if}
 use Rattle.volume_values.specs.Directories.{DirectoryValue, found, removed}
-use Rattle.volume_values.specs.Inodes.{InodeKind, RegularFile, Folder, Inode, InodesValue, inode_of, inode_set}
-use Rattle.volume_values.specs.Stripes.{StripeValue, touch_taken}
+use Rattle.volume_values.specs.Inodes.{InodeKind, RegularFile, Folder, Inode}
+use Rattle.volume_values.specs.Stripes.{StripeValue}
 use Rattle.volume_values.specs.lemmas.Directories.{same-is, found-removed, found-removed-other}
-use Rattle.volume_values.specs.lemmas.Inodes.{next-set}
-use Rattle.volume_values.specs.lemmas.Numbered.{get-insert_at, itself}
 use Rattle.held_state.specs.Contents.{VolumeContents}
-use Rattle.held_state.specs.Tree.{file_touch, directory_or_empty, node_by, node_of, volume_of}
+use Rattle.held_state.specs.Tree.{directory_or_empty, node_by, node_of, volume_of}
 use Rattle.held_state.specs.Names.{root, InodeMap, parent_in, parent_directory, parent_or, is_folder, is_named, times_in_list, directory_above}
 use Rattle.held_state.specs.WellFormed.{WellFormed}
-use Rattle.held_state.specs.Partition.{parts_of, numbers_in, all_numbers}
-use Rattle.held_state.specs.Sound.{IsSound}
-use Rattle.held_state.specs.Lenses.{LogicalSet, logical_lens}
-use Rattle.held_laws.specs.lemmas.Counted.{used-is}
 use Rattle.held_laws.specs.lemmas.Mapped.{entry-at-least}
-use Rattle.held_laws.specs.lemmas.SameBlocks.{total-mapped}
 use Rattle.held_attributes.specs.lemmas.Getting.{node-at}
 use Rattle.held_names.specs.Answers.{entries_of}
-use Rattle.held_nodes.specs.Making.{folders_in}
-use Rattle.held_nodes.specs.Moving as moving
-use Rattle.held_nodes.specs.Moving.{inodes_untied, entries_untied}
-use Rattle.held_nodes.specs.Laws.{WeighAlike, StandsUnder, MayHang, seen_directory, nodes_of}
-use Rattle.held_nodes.specs.lemmas.Others.{IsChildOf, by-one}
-use Rattle.held_nodes.specs.lemmas.Unnamed.{parent-kept}
-use Rattle.held_nodes.specs.lemmas.Untied.{untied-directory, untied-other, untied-entries, untied-others}
-use Rattle.held_nodes.specs.lemmas.Hung.{apart, apart-turned}
-use Rattle.held_nodes.specs.lemmas.Moved.{sound-moved}
-use Rattle.held_nodes.specs.lemmas.MovedNodes.{nodes-taken, nodes-hung}
-use Rattle.held_changes.specs.Named.{HeldNaming, HeldNode}
-use Rattle.held_changes.specs.Renaming.{inode_or, directory_now, moving_of, child_taken, child_hung}
-use Rattle.held_changes.specs.lemmas.Named.{IsDirectoryHere, IsChildHere, found-counted}
+use Rattle.held_nodes.specs.Laws.{seen_directory}
+use Rattle.held_nodes.specs.lemmas.Others.{IsChildOf}
+use Rattle.held_changes.specs.Named.{HeldNode}
+use Rattle.held_changes.specs.Renaming.{inode_or}
+use Rattle.held_changes.specs.lemmas.Named.{IsChildHere, found-counted}
 use Rattle.held_changes.specs.lemmas.Climbing.{stays-there}
 
 -- ---- what is found

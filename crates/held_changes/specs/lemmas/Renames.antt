@@ -1,16 +1,16 @@
 -- RENAME by what is under Logical.
 use Rattle.std.proofs.Common.{◌≡◌, ℕ, ◌+◌, ◌-◌, ◌==◌, ◌&&◌, ◌||◌, not, Bool, true, false, List, Option, Some, None, refl, sym, ap, ◌∙◌, subst}
-use Rattle.std.proofs.Common.{arith, eq-eqb}
+use Rattle.std.proofs.Common.{eq-eqb}
 use Rattle.std.specs.Prelude.{IsTrue, length, if◌then◌else◌, slice_get, is_some}
 use Rattle.std.specs.FinMap.{get}
 use Rattle.nfs_model.specs.Types.{Moment, Status, Wcc, Answer, Rename, RenameDone, Invalid, Exists}
 use Rattle.nfs_model.specs.Tree.{Affinity}
 use Rattle.nfs_model.specs.Names.{same_name, is_dots, name_fault}
-use Rattle.nfs_model.specs.Server.{DirectoryNode, VolumeState, Server, Named, handle_of, named_read, used}
+use Rattle.nfs_model.specs.Server.{VolumeState, Server, Named, handle_of, named_read, used}
 use Rattle.nfs_model.specs.Shown.{before_of}
 use Rattle.nfs_model.specs.Parts.{Hand}
 use Rattle.nfs_model.specs.Moves.{Emptied}
-use Rattle.nfs_model.specs.Locate.{Effect, Fails, unless, on_directory, Found, Naming, named_child, Located, located_in, located_by, locate}
+use Rattle.nfs_model.specs.Locate.{Effect, Fails, unless, Found, named_child, Located, located_in, located_by, locate}
 use Rattle.nfs_model.specs.Serial.Rename as renames
 use Rattle.nfs_model.specs.Serial.Rename.{Renaming, may_go, goes_below_itself, with_moved, with_entry, without_entry, without_target, renamed_volume}
 use Rattle.nfs_model.specs.Serial.Rename.{rename_told, same_told, is_same_entry, rename_at, rename_in}
@@ -30,7 +30,7 @@ use Rattle.held_state.specs.Changes.{LogicalAnswer}
 use Rattle.held_laws.specs.lemmas.Steps.{sound-later}
 use Rattle.held_names.specs.Answers.{entries_of}
 use Rattle.held_nodes.specs.Laws.{WeighAlike}
-use Rattle.held_changes.specs.Named.{HeldNaming, HeldNode, node_under}
+use Rattle.held_changes.specs.Named.{HeldNode, node_under}
 use Rattle.held_changes.specs.Renaming.{HeldRenaming, fails_both, unless_both, is_one_entry, goes_below, target_may_go, child_taken, child_hung}
 use Rattle.held_changes.specs.Renaming.{target_gone, set_renamed, held_renamed, rename_by, held_rename}
 use Rattle.held_changes.specs.Laws.{IsDone, MayStarve, rename_call, rename_done}
@@ -38,7 +38,7 @@ use Rattle.held_changes.specs.lemmas.Named.{RightFor, done-right-for, naming_hel
 use Rattle.held_changes.specs.lemmas.Named.{IsChildHere, found_seen, child-right}
 use Rattle.held_changes.specs.lemmas.Setattr.{unchanged}
 use Rattle.held_changes.specs.lemmas.Makes.{may-starve}
-use Rattle.held_changes.specs.lemmas.Hanging.{MayMove, q_hung, sound-hung, from-some, to-some, volume-hung, parts-hung, used-hung}
+use Rattle.held_changes.specs.lemmas.Hanging.{q_hung, sound-hung, from-some, to-some, volume-hung, parts-hung, used-hung}
 use Rattle.held_changes.specs.lemmas.Replacing.{IsFree, free-by}
 use Rattle.held_changes.specs.lemmas.Told.{folder-right, directory-told, below-seen, may-go-seen, clear-of}
 

@@ -11,7 +11,7 @@ use Rattle.nfs_model.specs.Moves.{Emptied}
 use Rattle.nfs_model.specs.Locate.{Found, Naming}
 use Rattle.nfs_model.specs.Serial.Remove.{without_child}
 use Rattle.nfs_model.specs.Serial.Rename.{in_directory, is_empty_list, without_target}
-use Rattle.volume_values.specs.Directories.{DirectoryValue, found}
+use Rattle.volume_values.specs.Directories.{found}
 use Rattle.volume_values.specs.Inodes.{InodeKind, RegularFile, Folder, Inode}
 use Rattle.volume_values.specs.lemmas.Inodes.{inode-set-other}
 use Rattle.volume_values.specs.lemmas.Numbered.{get-remove_at}

@@ -1,21 +1,20 @@
 -- A node under the name to which another moves: it is another node, and once it is gone, the other may move there.
-use Rattle.std.proofs.Common.{◌≡◌, ℕ, zero, suc, ◌+◌, ◌≤◌, ◌==◌, ◌&&◌, not, Bool, true, false, List, Option, Some, None}
+use Rattle.std.proofs.Common.{◌≡◌, ℕ, zero, suc, ◌≤◌, ◌==◌, ◌&&◌, not, Bool, true, false, List, Some, None}
 use Rattle.std.proofs.Common.{refl, sym, ap, ◌∙◌, subst, arith, ne_eqb, eq-eqb}
-use Rattle.std.specs.Prelude.{if◌then◌else◌, is_some}
+use Rattle.std.specs.Prelude.{is_some}
 use Rattle.std.proofs.lemmas.Bool.{eqb-true}
 use Rattle.std.specs.FinMap.{get, nat_cmp-IsAntisymmetric}
-use Rattle.nfs_model.specs.Types.{Moment, Listed}
-use Rattle.nfs_model.specs.Names.{same_name, find_name}
+use Rattle.nfs_model.specs.Types.{Moment}
+use Rattle.nfs_model.specs.Names.{same_name}
 use Rattle.nfs_model.specs.Parts.{one_if}
 use Rattle.volume_values.specs.Directories.{DirectoryValue, found, removed}
-use Rattle.volume_values.specs.Inodes.{Folder, Inode}
+use Rattle.volume_values.specs.Inodes.{Inode}
 use Rattle.volume_values.specs.lemmas.Directories.{same-turned, found-removed, found-removed-other}
 use Rattle.volume_values.specs.lemmas.Numbered.{itself}
 use Rattle.held_state.specs.Contents.{VolumeContents}
 use Rattle.held_state.specs.Tree.{directory_or_empty}
-use Rattle.held_state.specs.Names.{InodeMap, root, parent_in, parent_directory, parent_or, is_named, times_in_list, times_named, directory_above, AreNamed}
+use Rattle.held_state.specs.Names.{InodeMap, parent_in, parent_directory, parent_or, is_named, times_in_list, times_named, directory_above, AreNamed}
 use Rattle.held_state.specs.WellFormed.{WellFormed}
-use Rattle.held_state.specs.Lenses.{logical_lens}
 use Rattle.held_names.specs.Answers.{entries_of}
 use Rattle.held_nodes.specs.Dropping.{Dropping}
 use Rattle.held_nodes.specs.Moving as moving
@@ -164,9 +163,9 @@ module _ (p : VolumeContents) (well : WellFormed p) (from_id : ℕ) (from_name :
             let is : from_id ≡ to_id = eqb-true from_id to_id e in (
               ap (λ (x : ℕ). is_some (get after.logical.directories x)) is ∙ ap (λ o. is_some o) to-entries,
               ap (λ (x : ℕ). found (entries_of after.logical x) from_name) is
-              ∙ ap (λ o. found (directory_or_empty o) from_name) to-entries
-              ∙ found-removed-other (entries_of p.logical to_id) to_name from_name (same-turned to_name from_name ∙ names-differ e)
-              ∙ ap (λ (x : ℕ). found (entries_of p.logical x) from_name) (sym is) ∙ under.found_there,
+                  ∙ ap (λ o. found (directory_or_empty o) from_name) to-entries
+                  ∙ found-removed-other (entries_of p.logical to_id) to_name from_name (same-turned to_name from_name ∙ names-differ e)
+                  ∙ ap (λ (x : ℕ). found (entries_of p.logical x) from_name) (sym is) ∙ under.found_there,
             )
         by false e =
             let others = gone.other-entries q.logical.inodes q.logical.directories d loses named from_id e not_from ∙ entries from_id in (

@@ -1,14 +1,14 @@
 -- What RENAME checks and tells by what is under Logical, beside the serial server.
 use Rattle.std.proofs.Common.{◌≡◌, ℕ, zero, suc, ◌==◌, ◌||◌, Bool, true, false, List, Option, Some, None, refl, sym, ap, ◌∙◌, subst, eq-eqb}
-use Rattle.std.specs.Prelude.{if◌then◌else◌, is_some}
+use Rattle.std.specs.Prelude.{is_some}
 use Rattle.std.proofs.lemmas.Bool.{eqb-true}
 use Rattle.std.specs.Option.{option_map}
 use Rattle.std.specs.Cmp.{nat_cmp_total}
 use Rattle.std.specs.FinMap.{get, len, nat_cmp-IsAntisymmetric}
-use Rattle.nfs_model.specs.Types.{Moment, Status, RenameDone}
+use Rattle.nfs_model.specs.Types.{Status}
 use Rattle.nfs_model.specs.Server.{Attributes, DirectoryNode, Node, Directory, VolumeState}
-use Rattle.nfs_model.specs.Shown.{shown, before_of}
-use Rattle.nfs_model.specs.Locate.{Effect, Fails, unless, on_directory, Found}
+use Rattle.nfs_model.specs.Shown.{shown}
+use Rattle.nfs_model.specs.Locate.{Effect, Fails, on_directory}
 use Rattle.nfs_model.specs.Serial.Rename as renames
 use Rattle.nfs_model.specs.Serial.Rename.{Renaming, on_parent, parent_above, climbs_to, goes_below_itself, may_go, node_or}
 use Rattle.volume_values.specs.Inodes.{InodeKind, RegularFile, Folder, Inode}
@@ -16,7 +16,7 @@ use Rattle.held_state.specs.Contents.{VolumeContents}
 use Rattle.held_state.specs.Tree.{file_touch, node_by, node_of, volume_of}
 use Rattle.held_state.specs.Names.{InodeMap, root, parent_in, parent_directory, parent_or, is_folder, directory_above}
 use Rattle.held_state.specs.WellFormed.{WellFormed}
-use Rattle.held_state.specs.Lenses.{LogicalSet, logical_lens}
+use Rattle.held_state.specs.Lenses.{logical_lens}
 use Rattle.held_state.specs.Changes.{LogicalAnswer, shown_inode}
 use Rattle.held_laws.specs.lemmas.Mapped.{len-map_values}
 use Rattle.held_attributes.specs.lemmas.Getting.{node-at, node-shown}
@@ -26,7 +26,7 @@ use Rattle.held_changes.specs.Named.{HeldNaming, HeldNode}
 use Rattle.held_changes.specs.Renaming as held
 use Rattle.held_changes.specs.Renaming.{HeldRenaming, fails_both, above, climbs, goes_below, target_may_go, inode_or, directory_now, on_folder, if_folder}
 use Rattle.held_changes.specs.Renaming.{held_renamed}
-use Rattle.held_changes.specs.lemmas.Named.{naming_held, naming_seen, IsDirectoryHere, before-shown, IsChildHere, found_seen}
+use Rattle.held_changes.specs.lemmas.Named.{IsChildHere, found_seen}
 use Rattle.held_changes.specs.lemmas.Climbing.{climbs-none, stays-there}
 use Rattle.held_changes.specs.lemmas.Renamed.{not-root}
 
