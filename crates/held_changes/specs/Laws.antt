@@ -1,13 +1,16 @@
 -- What calls that change a volume come to, by what is under Logical (RFC 1813 section 3.3).
-use Rattle.std.specs.Prelude.{◌≡◌, ℕ, false, List, [], Option, None}
+use Rattle.std.specs.Prelude.{◌≡◌, ℕ, ◌&&◌, ◌==◌, false, List, [], Option, Some, None}
 use Rattle.nfs_model.specs.Types.{Moment, Credential, SetAttributes, CreateMode, Shown, Wcc, MadeDone, Success}
-use Rattle.nfs_model.specs.Types.{Create, Mkdir, Remove, Rmdir}
+use Rattle.nfs_model.specs.Types.{Create, Mkdir, Remove, Rmdir, Rename, RenameDone}
 use Rattle.nfs_model.specs.Tree.{Affinity}
+use Rattle.nfs_model.specs.Server.{handle_of}
+use Rattle.nfs_model.specs.Names.{same_name}
 use Rattle.nfs_model.specs.Locate.{on_name}
 use Rattle.nfs_model.specs.Serial.Create.{create}
 use Rattle.nfs_model.specs.Serial.Mkdir.{mkdir}
 use Rattle.nfs_model.specs.Serial.Remove.{remove_name}
 use Rattle.nfs_model.specs.Serial.Rmdir.{rmdir}
+use Rattle.nfs_model.specs.Serial.Rename.{rename}
 use Rattle.nfs_model.specs.Work.{Starved}
 use Rattle.volume_values.specs.Directories.{fileid_found}
 use Rattle.held_state.specs.Jobs.{Replied}
@@ -21,6 +24,7 @@ use Rattle.held_changes.specs.Named.{on_held_name}
 use Rattle.held_changes.specs.Attributes.{held_setattr}
 use Rattle.held_changes.specs.Making.{held_create, held_mkdir}
 use Rattle.held_changes.specs.Dropping.{held_remove, held_rmdir}
+use Rattle.held_changes.specs.Renaming.{on_held_names, held_rename}
 
 -- ---- the calls
 
@@ -48,6 +52,15 @@ abbrev pub rmdir_call : List ℕ → Affinity → ℕ → List ℕ → Moment �
 rmdir_call handle node fileid name moment =
     record { call = Rmdir handle name; node = node; fileid = fileid; run = λ volume. on_name name moment rmdir volume fileid }
 
+-- from's handle comes to the volume; to's names another fileid there, or the same
+abbrev pub rename_call : List ℕ → List ℕ → Affinity → ℕ → List ℕ → ℕ → List ℕ → Moment → VolumeCall
+rename_call from to node from_id from_name to_id to_name moment = record {
+  call = Rename from from_name to to_name;
+  node = node;
+  fileid = from_id;
+  run = λ volume. rename from_name to_name moment volume from_id to_id;
+}
+
 -- ---- what they come to
 
 abbrev pub create_done : ℕ → ℕ → List ℕ → CreateMode → Credential → Moment → LogicalSet → LogicalAnswer
@@ -61,6 +74,9 @@ remove_done v fileid name moment s = on_held_name v fileid name moment held_remo
 
 abbrev pub rmdir_done : ℕ → ℕ → List ℕ → Moment → LogicalSet → LogicalAnswer
 rmdir_done v fileid name moment s = on_held_name v fileid name moment held_rmdir s
+
+abbrev pub rename_done : ℕ → ℕ → List ℕ → ℕ → List ℕ → Moment → LogicalSet → LogicalAnswer
+rename_done v from_id from_name to_id to_name moment s = on_held_names v from_id from_name to_id to_name moment held_rename s
 
 -- ---- Whatever the rest of the volume is, the answer and what is left under Logical are the serial server's.
 
@@ -88,7 +104,11 @@ abbrev pub RmdirIsDone : Type 0
 RmdirIsDone = (v fileid : ℕ) (handle name : List ℕ) (node : Affinity) (moment : Moment) (s : LogicalSet)
     → IsDone v (rmdir_call handle node fileid name moment) s (rmdir_done v fileid name moment s)
 
--- ---- memory may run out where a node would be made
+abbrev pub RenameIsDone : Type 0
+RenameIsDone = (v from_id to_id : ℕ) (from from_name to to_name : List ℕ) (node : Affinity) (moment : Moment) (s : LogicalSet)
+    → IsDone v (rename_call from to node from_id from_name to_id to_name moment) s (rename_done v from_id from_name to_id to_name moment s)
+
+-- ---- memory may run out where a node would be made, or would come under another name
 
 abbrev pub MayStarve : ℕ → VolumeCall → LogicalSet → Type 0
 MayStarve v c s = RightOnVolume v logical_lens (WorksOn c) [] [] s Starved s
@@ -104,3 +124,12 @@ MkdirMayStarve = (v fileid : ℕ) (handle name : List ℕ) (node : Affinity) (se
     (made : List ℕ) (object : Shown) (directory : Wcc)
     → (mkdir_done v fileid name set credential moment s).answer ≡ MadeDone made object directory
     → MayStarve v (mkdir_call handle node fileid name set credential moment) s
+
+-- where to's handle names that fileid there, and the names aren't of one entry
+abbrev pub RenameMayStarve : Type 0
+RenameMayStarve = (v from_id to_id volumes : ℕ) (from from_name to to_name : List ℕ) (node : Affinity) (moment : Moment) (s : LogicalSet)
+    (from_change to_change : Wcc)
+    → handle_of volumes to ≡ Some (record { volume = v; fileid = to_id })
+    → ((from_id == to_id) && same_name from_name to_name) ≡ false
+    → (rename_done v from_id from_name to_id to_name moment s).answer ≡ RenameDone from_change to_change
+    → MayStarve v (rename_call from to node from_id from_name to_id to_name moment) s

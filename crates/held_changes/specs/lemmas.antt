@@ -9,3 +9,10 @@ pub mod Makes
 pub mod Gone
 pub mod Remove
 pub mod Rmdir
+pub mod Climbing
+pub mod Renamed
+pub mod Hanging
+pub mod Targets
+pub mod Replacing
+pub mod Told
+pub mod Renames

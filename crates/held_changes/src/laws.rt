@@ -8,6 +8,8 @@ ghost use Rattle.held_changes.specs.Laws.{
   MkdirMayStarve,
   RemoveIsDone,
   RmdirIsDone,
+  RenameIsDone,
+  RenameMayStarve,
 };
 
 /// On every sound volume, SETATTR as it is told by what is under Volume Logical is the serial
@@ -28,4 +30,10 @@ pub fn making_calls_are_right()
 pub fn dropping_calls_are_right()
     ensures remove { RemoveIsDone }
     ensures rmdir { RmdirIsDone }
+{}
+
+/// So is RENAME, which may starve where the two names aren't of one entry.
+pub fn renaming_calls_are_right()
+    ensures rename { RenameIsDone }
+    ensures rename_starves { RenameMayStarve }
 {}

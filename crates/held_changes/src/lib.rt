@@ -1,7 +1,10 @@
 //! What calls that change a volume come to by the parcels under Volume Logical: SETATTR, CREATE,
-//! MKDIR, REMOVE and RMDIR.
+//! MKDIR, REMOVE, RMDIR and RENAME.
 #![tactic(auto)]
 
 mod laws;
 
-pub use laws::{dropping_calls_are_right, making_calls_are_right, setting_calls_are_right};
+pub use laws::{
+    dropping_calls_are_right, making_calls_are_right, renaming_calls_are_right,
+    setting_calls_are_right,
+};

@@ -123,20 +123,20 @@ module _ (handle : List ℕ) (node : Affinity) (fileid : ℕ) (name : List ℕ) 
 -- ---- memory may run out
 
 -- a call may starve where what it comes to takes memory
-may-starve : (v : ℕ) (c : VolumeCall) (done : ℕ → LogicalSet → LogicalAnswer) → ((p : VolumeContents) → move_on c p ≡ None)
-    → absent_parts c.call ≡ 2
+pub may-starve : (absent v : ℕ) (c : VolumeCall) (done : ℕ → LogicalSet → LogicalAnswer) → ((p : VolumeContents) → move_on c p ≡ None)
+    → absent_parts c.call ≡ absent
     → ((p : VolumeContents) (hands : List Hand) (made : ℕ) → IsSound p hands made
-    → (done p.number (logical_lens.of p)).answer ≡ answer_of 2 (c.run (volume_of p)))
+    → (done p.number (logical_lens.of p)).answer ≡ answer_of absent (c.run (volume_of p)))
     → (s : LogicalSet)
     → ((p : VolumeContents) (server : Server) → logical_lens.of p ≡ s → locate server (handle_in c.call) ≡ Some (located_on c p)
     → IsTrue (takes_memory server c.call (done v s).answer))
     → MayStarve v c s
-may-starve v c done stays absent right s takes =
+may-starve absent v c done stays parts right s takes =
     reads-right v logical_lens (WorksOn c) s Starved (λ p. refl)
     (λ p hands made numbered has sound.
     let told : (done v s).answer ≡ answer_on c p =
     sym (ap (λ (n : ℕ). (done n (logical_lens.of p)).answer) numbered ∙ ap (λ (t : LogicalSet). (done v t).answer) has)
-    ∙ right p hands made sound ∙ ap (λ (n : ℕ). answer_of n (c.run (volume_of p))) (sym absent) in
+    ∙ right p hands made sound ∙ ap (λ (n : ℕ). answer_of n (c.run (volume_of p))) (sym parts) in
     (stays p, (λ server at. subst (λ (a : Answer). IsTrue (takes_memory server c.call a)) told (takes p server has at)), refl))
 
 -- a directory as it is seen has a name just where its entries have it
@@ -162,7 +162,7 @@ pub create-starves : (v fileid : ℕ) (handle name : List ℕ) (node : Affinity)
     → (create_done v fileid name mode credential moment s).answer ≡ MadeDone made object directory → fileid_found (entries_of s.own fileid) name ≡ None
     → MayStarve v (create_call handle node fileid name mode credential moment) s
 create-starves v fileid handle name node mode credential moment s made object directory is absent =
-    may-starve v (create_call handle node fileid name mode credential moment) (λ w t. create_done w fileid name mode credential moment t) (λ p. refl) refl
+    may-starve 2 v (create_call handle node fileid name mode credential moment) (λ w t. create_done w fileid name mode credential moment t) (λ p. refl) refl
     (λ p hands count sound. (create-right handle node fileid name mode credential moment p hands hands count sound (λ n. refl)).0) s
     (λ p server has at.
     let none : has_name (node_named (locate server handle)) name ≡ false = ap (λ o. has_name (node_named o) name) at
@@ -174,6 +174,6 @@ pub mkdir-starves : (v fileid : ℕ) (handle name : List ℕ) (node : Affinity) 
     → (mkdir_done v fileid name set credential moment s).answer ≡ MadeDone made object directory
     → MayStarve v (mkdir_call handle node fileid name set credential moment) s
 mkdir-starves v fileid handle name node set credential moment s made object directory is =
-    may-starve v (mkdir_call handle node fileid name set credential moment) (λ w t. mkdir_done w fileid name set credential moment t) (λ p. refl) refl
+    may-starve 2 v (mkdir_call handle node fileid name set credential moment) (λ w t. mkdir_done w fileid name set credential moment t) (λ p. refl) refl
     (λ p hands count sound. (mkdir-right handle node fileid name set credential moment p hands hands count sound (λ n. refl)).0) s
     (λ p server has at. subst (λ (a : Answer). IsTrue (takes_memory server (Mkdir handle name set) a)) (sym is) refl)

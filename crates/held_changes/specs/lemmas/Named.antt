@@ -36,20 +36,24 @@ use Rattle.held_changes.specs.Laws.{IsDone}
 
 -- what is to be shown of a call on a sound volume: the answer, what is left and where its blocks go are the serial server's, and all
 -- is sound after it
-abbrev pub RightAs : VolumeCall → VolumeContents → List Hand → ℕ → LogicalAnswer → Effect → Type 0
-RightAs c p hands made done effect =
-    (done.answer ≡ answer_of 2 effect)
+abbrev pub RightFor : ℕ → VolumeCall → VolumeContents → List Hand → ℕ → LogicalAnswer → Effect → Type 0
+RightFor absent c p hands made done effect =
+    (done.answer ≡ answer_of absent effect)
     × (volume_of (logical_lens.put done.set p) ≡ volume_left (volume_of p) effect)
     × PartsChange c.call c.node (stored p) (stored (logical_lens.put done.set p))
     × IsSound (logical_lens.put done.set p) hands made
 
+-- of a call whose failures have two absent parts
+abbrev pub RightAs : VolumeCall → VolumeContents → List Hand → ℕ → LogicalAnswer → Effect → Type 0
+RightAs c p hands made done effect = RightFor 2 c p hands made done effect
+
 -- a call comes to this where that is so on each sound volume
-pub done-right : (v : ℕ) (c : VolumeCall) (done : ℕ → LogicalSet → LogicalAnswer)
-    → ((p : VolumeContents) → move_on c p ≡ None) → absent_parts c.call ≡ 2
+pub done-right-for : (absent v : ℕ) (c : VolumeCall) (done : ℕ → LogicalSet → LogicalAnswer)
+    → ((p : VolumeContents) → move_on c p ≡ None) → absent_parts c.call ≡ absent
     → ((p : VolumeContents) (hands hands' : List Hand) (made : ℕ) → IsSound p hands made → WeighAlike p.number hands hands'
-    → RightAs c p hands' (made + 1) (done p.number (logical_lens.of p)) (c.run (volume_of p)))
+    → RightFor absent c p hands' (made + 1) (done p.number (logical_lens.of p)) (c.run (volume_of p)))
     → (s : LogicalSet) → IsDone v c s (done v s)
-done-right v c done stays absent right s p hands hands' made has numbered sound moved =
+done-right-for absent v c done stays parts right s p hands hands' made has numbered sound moved =
     subst (λ (t : LogicalSet). Shown c p hands' (made + 1) (done v t)) has
     (subst (λ (w : ℕ). Shown c p hands' (made + 1) (done w (logical_lens.of p))) numbered
     (shows (right p hands hands' made sound (λ n. let e = moved (times_in_hand p.number n) in omega (arith, e)))))
@@ -58,15 +62,22 @@ done-right v c done stays absent right s p hands hands' made has numbered sound 
     Shown c p hands made told =
         ServesOn c false p (Replied (Success told.answer)) (logical_lens.put told.set p) × IsSound (logical_lens.put told.set p) hands made
 
-    shows : RightAs c p hands' (made + 1) (done p.number (logical_lens.of p)) (c.run (volume_of p))
+    shows : RightFor absent c p hands' (made + 1) (done p.number (logical_lens.of p)) (c.run (volume_of p))
         → Shown c p hands' (made + 1) (done p.number (logical_lens.of p))
     shows r = (
       (
-        (stays p, ap Success (r.0 ∙ ap (λ (n : ℕ). answer_of n (c.run (volume_of p))) (sym absent)), r.1, r.2),
+        (stays p, ap Success (r.0 ∙ ap (λ (n : ℕ). answer_of n (c.run (volume_of p))) (sym parts)), r.1, r.2),
         λ e. absurd cc,
       ),
       r.3,
     )
+
+pub done-right : (v : ℕ) (c : VolumeCall) (done : ℕ → LogicalSet → LogicalAnswer)
+    → ((p : VolumeContents) → move_on c p ≡ None) → absent_parts c.call ≡ 2
+    → ((p : VolumeContents) (hands hands' : List Hand) (made : ℕ) → IsSound p hands made → WeighAlike p.number hands hands'
+    → RightAs c p hands' (made + 1) (done p.number (logical_lens.of p)) (c.run (volume_of p)))
+    → (s : LogicalSet) → IsDone v c s (done v s)
+done-right v c done stays parts right s = done-right-for 2 v c done stays parts right s
 
 -- ---- a name in a directory
 
@@ -152,7 +163,7 @@ module _ (p : VolumeContents) (fileid : ℕ) (name : List ℕ) (moment : Moment)
 -- ---- the node under the name
 
 -- an entry of a list stands in it at least once
-found-counted : (name : List ℕ) (list : List Listed) (e : Listed) → find_name name list ≡ Some e → 1 ≤ times_in_list e.fileid list
+pub found-counted : (name : List ℕ) (list : List Listed) (e : Listed) → find_name name list ≡ Some e → 1 ≤ times_in_list e.fileid list
 found-counted name [] e h = absurd cc
 found-counted name (x ∷ list) e h = by (same_name x.name name) h (found-counted name list e)
   where

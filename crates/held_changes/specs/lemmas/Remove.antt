@@ -64,7 +64,7 @@ module _ (p : VolumeContents) (fileid : ℕ) (name : List ℕ) (moment : Moment)
   abbrev m : Dropping
   m = dropping_of (naming_held p fileid name moment inode) left
 
-  sound-emptied : IsSound q hands made
+  pub sound-emptied : IsSound q hands made
   sound-emptied = sound-sized p emptying sound.well_formed under.node size filled verifier is_file (omega arith) hands hands made made (omega arith)
       (λ n. refl) sound
 
@@ -98,7 +98,7 @@ module _ (p : VolumeContents) (fileid : ℕ) (name : List ℕ) (moment : Moment)
       let kinds : Folder parent subs ≡ RegularFile size filled verifier = sym here.kind ∙ ap (λ (i : Inode). i.kind) one ∙ is_file in
       absurd cc)
 
-  loses : LosesName m q.logical.inodes q.logical.directories
+  pub loses : LosesName m q.logical.inodes q.logical.directories
   loses = record {
     there = inode-set-other p.logical.inodes f left.inode fileid apart ∙ here.there;
     entered = here.entered;
@@ -124,7 +124,7 @@ module _ (p : VolumeContents) (fileid : ℕ) (name : List ℕ) (moment : Moment)
     abbrev after : VolumeContents
     after = left_in m q
 
-    seen-left : record (volume_of q) {
+    pub seen-left : record (volume_of q) {
       nodes = insert (remove (volume_of q).nodes f) fileid (removes.directory_left (naming_seen p fileid name moment inode parent));
     } ≡ without_child (naming_seen p fileid name moment inode parent) f
     seen-left =
@@ -134,7 +134,7 @@ module _ (p : VolumeContents) (fileid : ℕ) (name : List ℕ) (moment : Moment)
         ∙ ap (λ ns. record (volume_of p) { nodes = insert ns fileid (removes.directory_left (naming_seen p fileid name moment inode parent)) })
         (remove-put (volume_of p).nodes f emptied_node)
 
-    emptied : Emptied (used (volume_of p) - used (volume_of after)) (parts_of p) (parts_of after)
+    pub emptied : Emptied (used (volume_of p) - used (volume_of after)) (parts_of p) (parts_of after)
     emptied =
         subst (λ (n : ℕ). Emptied (used (volume_of p) - n) (parts_of p) (parts_of after))
         (sym (used-gone q m loses parent subs here.kind hands hands made made (omega arith) (λ n. refl) sound-emptied))
