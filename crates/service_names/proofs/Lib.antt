@@ -3,3 +3,4 @@ mod Taking
 mod Named
 mod Commits
 mod Lists
+mod Putting

@@ -1,4 +1,5 @@
 pub mod Shown
 pub mod Listing
+pub mod Cards
 pub mod Promises
 pub mod lemmas

@@ -1,6 +1,7 @@
 //! Calls on the names of a volume, on the parcels that they hold: LOOKUP, READDIR and COMMIT.
 #![tactic(auto)]
 
+mod cards;
 mod committing;
 mod folder;
 mod listing;
