@@ -4,3 +4,4 @@ mod Named
 mod Commits
 mod Lists
 mod Putting
+mod Tying

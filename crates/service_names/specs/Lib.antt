@@ -1,5 +1,6 @@
 pub mod Shown
 pub mod Listing
 pub mod Cards
+pub mod Making
 pub mod Promises
 pub mod lemmas

@@ -6,9 +6,11 @@ mod committing;
 mod folder;
 mod listing;
 mod looking;
+mod making;
 mod naming;
 mod showing;
 mod touches;
+mod within;
 
 pub use committing::commit;
 pub use listing::{PageAsked, read_directory};
