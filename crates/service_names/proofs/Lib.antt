@@ -5,3 +5,4 @@ mod Commits
 mod Lists
 mod Putting
 mod Tying
+mod Unmade

@@ -1,7 +1,7 @@
 -- Cards of a new node put into the places of stripes, from the last down to the first, or taken out of them.
 use Rattle.std.proofs.Common.{◌≡◌, ◌≢◌, ℕ, zero, suc, ◌+◌, ◌-◌, ◌<◌, ◌≤◌, ◌==◌, Bool, true, false, List, [], ◌∷◌, length, Option, Some, None}
-use Rattle.std.proofs.Common.{Result, Ok, Err, refl, sym, ap, ◌∙◌, subst, arith, ⊎_elim, ◌⊎◌, inl, inr}
-use Rattle.std.proofs.lemmas.Bool.{cases_eq}
+use Rattle.std.proofs.Common.{Result, Ok, Err, refl, sym, ap, ◌∙◌, subst, arith, ⊎_elim}
+use Rattle.std.proofs.lemmas.Bool.{cases_eq, cases_lt}
 use Rattle.std.specs.Prelude.{slice_get, slice_set, slice_index_or, is_some, OnOk, OnErr, if◌then◌else◌}
 use Rattle.std.specs.FinMap.{FinMap, get, insert, remove}
 use Rattle.std.specs.Ordering.{nat_cmp}
@@ -65,12 +65,7 @@ module _ {A : Type 0} where
   same-some None x y e h = absurd cc
   same-some (Some z) x y e h = cc
 
-  within : (xs : List A) (i : ℕ) (x : A) → slice_get xs i ≡ Some x → i < length xs
-  within [] i x e = absurd cc
-  within (y ∷ ys) zero x e = omega arith
-  within (y ∷ ys) (suc i) x e = let l = within ys i x e in omega arith
-
-  there : (xs : List A) (i : ℕ) → i < length xs → (x : A) × (slice_get xs i ≡ Some x)
+  pub there : (xs : List A) (i : ℕ) → i < length xs → (x : A) × (slice_get xs i ≡ Some x)
   there [] i l = absurd (omega arith)
   there (y ∷ ys) zero l = (y, refl)
   there (y ∷ ys) (suc i) l = there ys i (omega arith)
@@ -139,15 +134,9 @@ module _ {A : Type 0} where
       first = λ i x y less e h. ⊎_elim
           (λ (below : i < left). subst (Q x) (sym (t.before i x y below e h)) (same x))
           (λ (on : left ≤ i). t.first i x y on less e h)
-          (by i left);
+          (cases_lt i left);
       others = t.others;
     }
-      where
-        by : (i left : ℕ) → (i < left) ⊎ (left ≤ i)
-        by zero zero = inr (omega arith)
-        by zero (suc m) = inl (omega arith)
-        by (suc i) zero = inr (omega arith)
-        by (suc i) (suc m) = ⊎_elim (λ (l : i < m). inl (omega arith)) (λ (l : m ≤ i). inr (omega arith)) (by i m)
 
     -- all of them
     pub all-first : (left : ℕ) (now : List A) → left ≤ 0 → AreFrom left now → InFirst Q n old now

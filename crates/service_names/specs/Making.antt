@@ -17,8 +17,8 @@ use Rattle.held_changes.specs.Named.{HeldNaming}
 use Rattle.service_names.specs.declared.within.Within.{Within}
 
 -- a name in the directory of a call
-abbrev pub naming_of : Within → List ℕ → LogicalSet → HeldNaming
-naming_of w name s = record {
+abbrev pub naming_within : Within → List ℕ → LogicalSet → HeldNaming
+naming_within w name s = record {
   volume = w.volume.0;
   set = s;
   fileid = w.fileid.0;

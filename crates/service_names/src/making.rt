@@ -31,7 +31,7 @@ ghost use Rattle.held_changes.specs.Making.{making_of};
 ghost use Rattle.service_names.specs.Cards.{InFirst, DiffersByCard, HasCard, IsDropped};
 ghost use Rattle.service_names.specs.Making.{
   MayMake,
-  naming_of,
+  naming_within,
   inode_dated,
   with_inodes,
   with_directories,
@@ -57,11 +57,11 @@ pub(crate) fn make_node(
     name: &[u8],
     made: Inode,
 ) -> Result<Fileid, AllocError>
-    requires may { MayMake (naming_of within name.now (logical_before held.old)) }
+    requires may { MayMake (naming_within within name.now (logical_before held.old)) }
     requires empty { filled_blocks (kind_value made.kind) ≡ 0 }
     ensures fileid { IfOk result (λ fileid. fileid.0 ≡ held.old.own.inodes.next) }
     ensures ok { OnOk result (logical_after held.old held.new ≡ node_made
-        (making_of (naming_of within name.now (logical_before held.old)) (inode_value made))
+        (making_of (naming_within within name.now (logical_before held.old)) (inode_value made))
         (logical_before held.old)) }
     ensures alike { logical_alike held.old held.new }
     ensures err { OnErr result (held.new ≡ held.old) }
