@@ -24,12 +24,12 @@ vacant-taken None (Some p) fileid e same = absurd cc
 vacant-taken (Some s) p fileid e same = absurd cc
 
 module _ {A : Type 0} where
-  set-here : (xs : List A) (i : ℕ) (x : A) → i < length xs → slice_get (slice_set xs i x) i ≡ Some x
+  pub set-here : (xs : List A) (i : ℕ) (x : A) → i < length xs → slice_get (slice_set xs i x) i ≡ Some x
   set-here [] i x less = absurd (omega arith)
   set-here (y ∷ ys) zero x less = refl
   set-here (y ∷ ys) (suc i) x less = set-here ys i x (omega arith)
 
-  set-else : (xs : List A) (i k : ℕ) (x : A) → k ≢ i → slice_get (slice_set xs i x) k ≡ slice_get xs k
+  pub set-else : (xs : List A) (i k : ℕ) (x : A) → k ≢ i → slice_get (slice_set xs i x) k ≡ slice_get xs k
   set-else [] i k x ne = refl
   set-else (y ∷ ys) zero zero x ne = absurd (ne refl)
   set-else (y ∷ ys) zero (suc k) x ne = refl
@@ -41,7 +41,7 @@ module _ {A : Type 0} where
   found-here (y ∷ ys) zero d less = refl
   found-here (y ∷ ys) (suc i) d less = found-here ys i d (omega arith)
 
-filled-as : {H : Type 0} (o p : Option H) → is_some p ≡ is_some o → is_filled (Some o) ≡ is_filled (Some p)
+pub filled-as : {H : Type 0} (o p : Option H) → is_some p ≡ is_some o → is_filled (Some o) ≡ is_filled (Some p)
 filled-as None None e = refl
 filled-as None (Some y) e = absurd cc
 filled-as (Some x) None e = absurd cc

@@ -1,19 +1,4 @@
 //! Calls on the names of a volume, on the parcels that they hold: LOOKUP, READDIR and COMMIT.
 #![tactic(auto)]
 
-mod cards;
-mod committing;
-mod folder;
-mod listing;
-mod looking;
-mod making;
-mod naming;
-mod showing;
-mod touches;
-mod within;
-
-pub use committing::commit;
-pub use listing::{PageAsked, read_directory};
-pub use looking::lookup;
-pub use showing::{prior, shown};
-pub use touches::{is_same, latest_touch, take_touches};
+mod attributes;

@@ -1,0 +1,40 @@
+-- What calls that change nodes take, and leave.
+use Rattle.std.specs.Prelude.{ℕ, ◌*◌, ◌<◌, ◌≤◌, List, [], ◌∷◌, IsSome}
+use Rattle.std.specs.FinMap.{get}
+use Rattle.nfs_model.specs.Parts.{most_ranges, range_blocks}
+use Rattle.nfs_model.specs.Server.{Attributes}
+use Rattle.volume_values.specs.Inodes.{Inode, inode_set}
+use Rattle.volume_values.specs.Logical.{LogicalValue}
+use Rattle.volume_values.specs.Ranges.{with_numbers}
+use Rattle.held_state.specs.Lenses.{LogicalSet}
+use Rattle.held_state.specs.Tree.{stripe_at}
+use Rattle.held_nodes.specs.Sizing.{Sizing, all_freed}
+
+-- numbers that blocks of a volume can have
+abbrev pub AreNumbers : List ℕ → Type 0
+AreNumbers [] = Unit {0}
+AreNumbers (n ∷ ns) = (n < most_ranges * range_blocks) × AreNumbers ns
+
+-- with more dead blocks
+abbrev pub with_dead : List ℕ → LogicalValue → LogicalValue
+with_dead ns l = record l { dead = with_numbers ns l.dead }
+
+-- with an inode set
+abbrev pub with_inode : ℕ → Inode → LogicalValue → LogicalValue
+with_inode fileid inode l = record l { inodes = inode_set fileid inode l.inodes }
+
+-- What setting the node of a fileid takes: there are no more stripes than places and no more blocks used than a volume has, each stripe
+-- has its card, and its blocks have numbers of the volume.
+pub record MayBeSet (fileid : ℕ) (s : LogicalSet) : Type 0 where
+  pub few : s.own.stripes ≤ 16
+  pub used : s.own.inodes.used ≤ most_ranges * range_blocks
+  pub cards : (i : ℕ) → i < s.own.stripes → IsSome (get (stripe_at s.stripes i).cards fileid)
+  pub numbers : (size : ℕ) → AreNumbers (all_freed fileid size s.stripes)
+
+-- a file to be sized
+abbrev pub sizing : ℕ → Inode → Attributes → ℕ → Sizing
+sizing fileid inode attributes size = record { fileid = fileid; inode = inode; attributes = attributes; size = size }
+
+-- an inode with other attributes
+abbrev pub with_value : Inode → Attributes → Inode
+with_value inode attributes = record { attributes = attributes; kind = inode.kind }

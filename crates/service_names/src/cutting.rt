@@ -1,0 +1,111 @@
+//! Files cut to a size, stripe by stripe.
+
+ghost use Rattle.std.specs.Prelude.{◌≡◌, ◌-◌, length, is_some, IsSome};
+ghost use Rattle.std.specs.FinMap.{get};
+ghost use Rattle.parcel_sets.specs.Filled.{logical_alike};
+ghost use Rattle.volume_values.specs.Ranges.{with_numbers};
+ghost use Rattle.volume_values.specs.Stripes.{cut, numbers_freed};
+ghost use Rattle.std.specs.Prelude.{map};
+ghost use Rattle.held_nodes.specs.Sizing.{all_freed, stripe_sized};
+ghost use Rattle.held_state.specs.Sets.{logical_before, logical_after, stripe_value};
+ghost use Rattle.service_names.specs.Changing.{AreNumbers, MayBeSet, with_dead};
+
+use nfs_values::Fileid;
+use parcel_sets::{LogicalHeld, StripeHeld};
+use parcels::{Files, LogicalParcel};
+use stripes::Stripe;
+use vbn_ranges::DeadBlocks;
+
+/// Sets a file to a size in the stripes of its volume, whose blocks past it are dead then. Of so
+/// many filled blocks it tells how many are left. It takes no memory.
+pub(crate) fn size_stripes(
+    held: &mut LogicalHeld<Files>,
+    fileid: Fileid,
+    size: u64,
+    filled: u32,
+) -> u32
+    requires { MayBeSet fileid.0 (logical_before held.old) }
+    ensures left { result
+        ≡ filled - length (all_freed fileid.0 size (logical_before held.old).stripes) }
+    ensures own { held.new.own ≡ with_dead
+        (all_freed fileid.0 size (logical_before held.old).stripes) held.old.own }
+    ensures sized { (logical_after held.old held.new).stripes
+        ≡ map (stripe_sized fileid.0 size) (logical_before held.old).stripes }
+    ensures alike { logical_alike held.old held.new }
+{
+    let mut rest = filled;
+    let mut left = held.own.get().stripes as usize;
+    while left > 0 {
+        left -= 1;
+        rest = size_place(&mut held.stripes.at[left], &mut held.own, fileid, size, rest);
+    }
+    rest
+}
+
+/// Sets a file to a size in the stripe in a place.
+fn size_place(
+    place: &mut Option<StripeHeld<Files>>,
+    own: &mut LogicalParcel,
+    fileid: Fileid,
+    size: u64,
+    filled: u32,
+) -> u32
+    requires card { IsSome (get (stripe_value place.old).cards fileid.0) }
+    requires numbers { AreNumbers (numbers_freed fileid.0 size (stripe_value place.old)) }
+    ensures left { result
+        ≡ filled - length (numbers_freed fileid.0 size (stripe_value place.old)) }
+    ensures own { own.new
+        ≡ with_dead (numbers_freed fileid.0 size (stripe_value place.old)) own.old }
+    ensures sized { stripe_value place.new
+        ≡ stripe_sized fileid.0 size (stripe_value place.old) }
+    ensures alike { is_some place.new ≡ is_some place.old }
+{
+    match place {
+        Some(stripe) => {
+            let dead = &mut own.get_mut().dead;
+            size_stripe(stripe.own.get_mut(), dead, fileid, size, filled)
+        }
+        None => unreachable!(),
+    }
+}
+
+/// Sets a file to a size in a stripe.
+fn size_stripe(
+    stripe: &mut Stripe,
+    dead: &mut DeadBlocks,
+    fileid: Fileid,
+    size: u64,
+    filled: u32,
+) -> u32
+    requires card { IsSome (get stripe.old.cards fileid.0) }
+    requires numbers { AreNumbers (numbers_freed fileid.0 size stripe.old) }
+    ensures left { result ≡ filled - length (numbers_freed fileid.0 size stripe.old) }
+    ensures dead { dead.new ≡ with_numbers (numbers_freed fileid.0 size stripe.old) dead.old }
+    ensures sized { stripe.new ≡ stripe_sized fileid.0 size stripe.old }
+{
+    stripe.take_touch(fileid);
+    let left = cut_stripe(stripe, dead, fileid, size, filled);
+    stripe.set_size(fileid, size);
+    left
+}
+
+/// Cuts a file to a size in a stripe, block by block.
+fn cut_stripe(
+    stripe: &mut Stripe,
+    dead: &mut DeadBlocks,
+    fileid: Fileid,
+    size: u64,
+    filled: u32,
+) -> u32
+    requires { AreNumbers (numbers_freed fileid.0 size stripe.old) }
+    ensures left { result ≡ filled - length (numbers_freed fileid.0 size stripe.old) }
+    ensures dead { dead.new ≡ with_numbers (numbers_freed fileid.0 size stripe.old) dead.old }
+    ensures cut { stripe.new ≡ cut fileid.0 size stripe.old }
+{
+    let mut left = filled;
+    while let Some(number) = stripe.cut(fileid, size) {
+        dead.mark(number);
+        left = left.saturating_sub(1);
+    }
+    left
+}

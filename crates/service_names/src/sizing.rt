@@ -1,0 +1,66 @@
+//! Files of a size set.
+
+ghost use Rattle.std.specs.Prelude.{◌≡◌, ◌<◌, ◌^◌, ◌-◌, ℕ, length};
+ghost use Rattle.parcel_sets.specs.Filled.{logical_alike};
+ghost use Rattle.inodes.specs.Inode.{attributes_value, inode_value, kind_value};
+ghost use Rattle.volume_values.specs.Inodes.{filled_blocks};
+ghost use Rattle.held_nodes.specs.Sizing.{all_freed, kind_sized, inode_sized, file_sized};
+ghost use Rattle.held_state.specs.Sets.{logical_before, logical_after};
+ghost use Rattle.service_names.specs.Changing.{MayBeSet, sizing, with_inode};
+
+use crate::cutting::size_stripes;
+use inodes::{Inode, InodeKind, StoredAttributes};
+use nfs_values::Fileid;
+use parcel_sets::LogicalHeld;
+use parcels::Files;
+
+/// Sets a file to a size, cut or grown by a hole, and to attributes, and tells its inode; the
+/// blocks that leave it are dead. It takes no memory.
+pub(crate) fn size_file(
+    held: &mut LogicalHeld<Files>,
+    fileid: Fileid,
+    inode: Inode,
+    attributes: StoredAttributes,
+    size: u64,
+) -> Inode
+    requires { MayBeSet fileid.0 (logical_before held.old) }
+    ensures inode { inode_value result ≡ inode_sized
+        (sizing fileid.0 (inode_value inode) (attributes_value attributes) size)
+        (length (all_freed fileid.0 size (logical_before held.old).stripes)) }
+    ensures set { logical_after held.old held.new ≡ file_sized
+        (sizing fileid.0 (inode_value inode) (attributes_value attributes) size)
+        (logical_before held.old) }
+    ensures alike { logical_alike held.old held.new }
+{
+    let left = size_stripes(held, fileid, size, inode.kind.filled());
+    let sized = Inode {
+        attributes,
+        kind: sized_kind(inode.kind, size, left),
+    };
+    set_inode(held, fileid, sized);
+    sized
+}
+
+/// What an inode is of where its file has a size, and so many filled blocks.
+fn sized_kind(kind: InodeKind, size: u64, left: u32) -> InodeKind
+    ensures { (fewer : ℕ) → left ≡ filled_blocks (kind_value kind) - fewer
+        → kind_value result ≡ kind_sized size fewer (kind_value kind) }
+{
+    match kind {
+        InodeKind::RegularFile { verifier, .. } => InodeKind::RegularFile {
+            size,
+            filled: left,
+            verifier,
+        },
+        InodeKind::Directory { .. } => kind,
+    }
+}
+
+/// Sets the inode of a node that is there. It takes no memory.
+pub(crate) fn set_inode(held: &mut LogicalHeld<Files>, fileid: Fileid, inode: Inode)
+    requires { held.old.own.inodes.used < 2 ^ 63 }
+    ensures own { held.new.own ≡ with_inode fileid.0 (inode_value inode) held.old.own }
+    ensures stripes { held.new.stripes ≡ held.old.stripes }
+{
+    held.own.get_mut().inodes.set(fileid, inode);
+}
