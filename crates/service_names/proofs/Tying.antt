@@ -9,7 +9,8 @@ use Rattle.volume_values.specs.Logical.{LogicalValue}
 use Rattle.volume_values.specs.lemmas.Numbered.{get-insert_at}
 use Rattle.held_state.specs.Names.{DirectoryMap}
 use Rattle.held_nodes.specs.Making.{directories_made}
-use Rattle.service_names.specs.Making.{with_directories, without_directory}
+use Rattle.service_names.specs.Changing.{with_directories}
+use Rattle.service_names.specs.Making.{without_directory}
 use Rattle.service_names.proofs.Putting.{remove-put}
 
 module _ {A E : Type 0} {X : Type 0} where

@@ -23,7 +23,8 @@ use Rattle.held_nodes.specs.Making.{card_made, directories_made, node_made}
 use Rattle.held_changes.specs.Making.{making_of}
 use Rattle.service_names.specs.declared.within.Within.{Within}
 use Rattle.service_names.specs.Cards.{InFirst, place_dropped, DiffersByCard, HasCard, IsDropped}
-use Rattle.service_names.specs.Making.{MayMake, naming_within, inode_dated, with_inodes, with_directories, without_directory, node_unmade}
+use Rattle.service_names.specs.Making.{MayMake, naming_within, inode_dated, without_directory, node_unmade}
+use Rattle.service_names.specs.Changing.{with_inodes, with_directories}
 use Rattle.service_names.proofs.Putting.{same-places, there}
 use Rattle.service_names.proofs.Tying.{made-get}
 

@@ -3,11 +3,15 @@ use Rattle.std.specs.Prelude.{ℕ, ◌*◌, ◌<◌, ◌≤◌, List, [], ◌∷
 use Rattle.std.specs.FinMap.{get}
 use Rattle.nfs_model.specs.Parts.{most_ranges, range_blocks}
 use Rattle.nfs_model.specs.Server.{Attributes}
-use Rattle.volume_values.specs.Inodes.{Inode, inode_set}
+use Rattle.nfs_model.specs.Types.{Moment}
+use Rattle.volume_values.specs.Inodes.{Inode, InodeKind, InodesValue, inode_set}
+use Rattle.held_state.specs.Names.{DirectoryMap}
 use Rattle.volume_values.specs.Logical.{LogicalValue}
 use Rattle.volume_values.specs.Ranges.{with_numbers}
 use Rattle.held_state.specs.Lenses.{LogicalSet}
 use Rattle.held_state.specs.Tree.{stripe_at}
+use Rattle.held_nodes.specs.Dropping.{without_subdirectories}
+use Rattle.held_nodes.specs.Making.{folders_in}
 use Rattle.held_nodes.specs.Sizing.{Sizing, all_freed}
 
 -- numbers that blocks of a volume can have
@@ -38,3 +42,18 @@ sizing fileid inode attributes size = record { fileid = fileid; inode = inode; a
 -- an inode with other attributes
 abbrev pub with_value : Inode → Attributes → Inode
 with_value inode attributes = record { attributes = attributes; kind = inode.kind }
+
+-- with other inodes
+abbrev pub with_inodes : InodesValue → LogicalValue → LogicalValue
+with_inodes inodes l = record l { inodes = inodes }
+
+-- with other directories
+abbrev pub with_directories : DirectoryMap → LogicalValue → LogicalValue
+with_directories directories l = record l { directories = directories }
+
+-- the inode of a directory after a node of a kind under it is dropped at a moment
+abbrev pub inode_left : Inode → InodeKind → Moment → Inode
+inode_left inode kind moment = record {
+  attributes = record inode.attributes { mtime = moment; ctime = moment };
+  kind = without_subdirectories (folders_in kind) inode.kind;
+}

@@ -6,34 +6,19 @@ use Rattle.nfs_model.specs.Server.{most_inodes}
 use Rattle.nfs_values.specs.Moment.{moment_of}
 use Rattle.inodes.specs.Inode.{inode_value}
 use Rattle.volume_values.specs.Directories.{found}
-use Rattle.volume_values.specs.Inodes.{InodeKind, Inode, InodesValue, IsInodes, inode_unmade}
+use Rattle.volume_values.specs.Inodes.{InodeKind, Inode, IsInodes, inode_unmade}
 use Rattle.volume_values.specs.Logical.{LogicalValue}
 use Rattle.held_state.specs.Lenses.{LogicalSet}
-use Rattle.held_state.specs.Names.{DirectoryMap, root, subdirectories_in}
+use Rattle.held_state.specs.Names.{root, subdirectories_in}
 use Rattle.held_state.specs.Tree.{stripe_at}
-use Rattle.held_names.specs.Answers.{entries_of}
 use Rattle.held_nodes.specs.Making.{folders_in, with_subdirectories}
 use Rattle.held_changes.specs.Named.{HeldNaming}
+use Rattle.service_names.specs.Naming.{naming_in}
 use Rattle.service_names.specs.declared.within.Within.{Within}
 
 -- a name in the directory of a call
 abbrev pub naming_within : Within → List ℕ → LogicalSet → HeldNaming
-naming_within w name s = record {
-  volume = w.volume.0;
-  set = s;
-  fileid = w.fileid.0;
-  inode = inode_value w.inode;
-  entries = entries_of s.own w.fileid.0;
-  name = name;
-  moment = moment_of w.moment;
-}
-
--- other inodes, or other directories
-abbrev pub with_inodes : InodesValue → LogicalValue → LogicalValue
-with_inodes inodes l = record l { inodes = inodes }
-
-abbrev pub with_directories : DirectoryMap → LogicalValue → LogicalValue
-with_directories directories l = record l { directories = directories }
+naming_within w name s = naming_in w.volume.0 w.fileid.0 (inode_value w.inode) name (moment_of w.moment) s
 
 -- without the directory of a fileid
 abbrev pub without_directory : ℕ → LogicalValue → LogicalValue

@@ -2,3 +2,24 @@
 #![tactic(auto)]
 
 mod attributes;
+mod cards;
+mod child;
+mod committing;
+mod cutting;
+mod folder;
+mod listing;
+mod looking;
+mod making;
+mod naming;
+mod node;
+mod setting;
+mod showing;
+mod sizing;
+mod touches;
+mod within;
+
+pub use committing::commit;
+pub use listing::{PageAsked, read_directory};
+pub use looking::lookup;
+pub use showing::{prior, shown};
+pub use touches::{is_same, latest_touch, take_touches};

@@ -29,12 +29,11 @@ ghost use Rattle.held_state.specs.Sets.{logical_before, logical_after};
 ghost use Rattle.held_nodes.specs.Making.{directories_made, folders_in, node_made, with_subdirectories};
 ghost use Rattle.held_changes.specs.Making.{making_of};
 ghost use Rattle.service_names.specs.Cards.{InFirst, DiffersByCard, HasCard, IsDropped};
+ghost use Rattle.service_names.specs.Changing.{with_directories, with_inodes};
 ghost use Rattle.service_names.specs.Making.{
   MayMake,
   naming_within,
   inode_dated,
-  with_inodes,
-  with_directories,
   without_directory,
   node_unmade,
 };
