@@ -9,3 +9,5 @@ mod Lists
 mod Putting
 mod Tying
 mod Unmade
+mod Overs
+mod News

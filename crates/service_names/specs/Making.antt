@@ -1,7 +1,7 @@
 -- What calls that make nodes take, and leave.
 use Rattle.std.specs.Prelude.{◌≡◌, ℕ, ◌<◌, ◌≤◌, ◌^◌, ◌==◌, false, List, Some, None, IsSome, IfSome}
 use Rattle.std.specs.FinMap.{get, remove}
-use Rattle.nfs_model.specs.Types.{Moment}
+use Rattle.nfs_model.specs.Types.{Moment, Shown, Wcc, Answer, MadeDone}
 use Rattle.nfs_model.specs.Server.{most_inodes}
 use Rattle.nfs_values.specs.Moment.{moment_of}
 use Rattle.inodes.specs.Inode.{inode_value}
@@ -50,3 +50,7 @@ pub record MayMake (n : HeldNaming) : Type 0 where
   pub inodes : IsInodes n.set.own.inodes
   pub no_directory : get n.set.own.directories n.set.own.inodes.next ≡ None
   pub no_card : (i : ℕ) → i < n.set.own.stripes → get (stripe_at n.set.stripes i).cards n.set.own.inodes.next ≡ None
+
+-- an answer tells that a node was made
+abbrev pub Makes : Answer → Type 0
+Makes answer = (made : List ℕ) × (object : Shown) × (directory : Wcc) × (answer ≡ MadeDone made object directory)

@@ -10,12 +10,15 @@ mod folder;
 mod listing;
 mod looking;
 mod making;
+mod making_new;
 mod naming;
+mod new_inodes;
 mod node;
 mod setting;
 mod showing;
 mod sizing;
 mod touches;
+mod upon;
 mod within;
 
 pub use committing::commit;

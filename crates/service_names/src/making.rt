@@ -18,6 +18,7 @@ ghost use Rattle.std.specs.Prelude.{
 };
 ghost use Rattle.std.specs.FinMap.{get};
 ghost use Rattle.nfs_model.specs.Server.{most_inodes};
+ghost use Rattle.nfs_values.specs.Answer.{node_made as made_told};
 ghost use Rattle.nfs_values.specs.Moment.{moment_of};
 ghost use Rattle.parcel_sets.specs.Filled.{logical_alike};
 ghost use Rattle.inodes.specs.Inode.{inode_value, kind_value};
@@ -27,7 +28,7 @@ ghost use Rattle.volume_values.specs.Maps.{changed_at};
 ghost use Rattle.held_state.specs.Names.{subdirectories_in};
 ghost use Rattle.held_state.specs.Sets.{logical_before, logical_after};
 ghost use Rattle.held_nodes.specs.Making.{directories_made, folders_in, node_made, with_subdirectories};
-ghost use Rattle.held_changes.specs.Making.{making_of};
+ghost use Rattle.held_changes.specs.Making.{held_made, making_of};
 ghost use Rattle.service_names.specs.Cards.{InFirst, DiffersByCard, HasCard, IsDropped};
 ghost use Rattle.service_names.specs.Changing.{with_directories, with_inodes};
 ghost use Rattle.service_names.specs.Making.{
@@ -37,19 +38,55 @@ ghost use Rattle.service_names.specs.Making.{
   without_directory,
   node_unmade,
 };
+ghost use Rattle.service_names.specs.Shown.{HasFewLinks};
 
 use crate::cards::{drop_cards, put_cards};
+use crate::child::directory_change;
+use crate::node::Node;
+use crate::showing::shown;
 use crate::within::Within;
 use directories::Directory;
 use inodes::{Inode, InodeKind, StoredAttributes};
-use nfs_values::{Fileid, Name};
+use nfs_values::{FileHandle, Fileid, MakeResults, Name, Named};
 use parcel_sets::LogicalHeld;
 use parcels::Files;
 use std::alloc::{AllocError, Global};
 
+/// Makes a node under a name of a directory, and tells it. Where memory runs out nothing has
+/// changed.
+pub(crate) fn make_told(
+    alloc: Global,
+    held: &mut LogicalHeld<Files>,
+    within: Within,
+    name: &[u8],
+    made: Inode,
+) -> Result<MakeResults, AllocError>
+    requires may { MayMake (naming_within within name.now (logical_before held.old)) }
+    requires empty { filled_blocks (kind_value made.kind) ≡ 0 }
+    requires links { HasFewLinks (kind_value made.kind) }
+    ensures told { IfOk result (λ told. made_told told ≡ (held_made
+        (naming_within within name.now (logical_before held.old)) (inode_value made)).answer) }
+    ensures set { OnOk result (logical_after held.old held.new ≡ (held_made
+        (naming_within within name.now (logical_before held.old)) (inode_value made)).set) }
+    ensures alike { logical_alike held.old held.new }
+    ensures err { OnErr result (held.new ≡ held.old) }
+{
+    let fileid = make_node(alloc, held, within, name, made)?;
+    let volume = within.volume;
+    let directory = Node {
+        fileid: within.fileid,
+        inode: within.inode,
+    };
+    Ok(MakeResults {
+        handle: FileHandle::naming(Named { volume, fileid }),
+        object: shown(volume, fileid, made, None),
+        directory: directory_change(volume, directory, dated(within, made.kind)),
+    })
+}
+
 /// Makes a node under a name of a directory, and tells its fileid. Where memory runs out nothing
 /// has changed.
-pub(crate) fn make_node(
+fn make_node(
     alloc: Global,
     held: &mut LogicalHeld<Files>,
     within: Within,
@@ -203,7 +240,7 @@ fn set_directory(held: &mut LogicalHeld<Files>, within: Within, made: InodeKind)
 
 /// The inode of a directory in which a node of a kind is made: both times are the moment's, and a
 /// directory is one more subdirectory.
-pub(crate) fn dated(within: Within, made: InodeKind) -> Inode
+fn dated(within: Within, made: InodeKind) -> Inode
     requires { IfSome (subdirectories_in (kind_value within.inode.kind))
         (λ subdirectories. subdirectories < most_inodes) }
     ensures { inode_value result ≡ inode_dated (inode_value within.inode) (kind_value made)
