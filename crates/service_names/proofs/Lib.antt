@@ -3,6 +3,11 @@ mod Taking
 mod Freed
 mod Sized
 mod Carded
+mod Dropped
+mod Gone
+mod Removed
+mod Changed
+mod Laws
 mod Named
 mod Commits
 mod Lists

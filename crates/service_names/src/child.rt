@@ -55,11 +55,7 @@ pub(crate) fn directory_named(
 }
 
 /// The node under a name of a directory.
-pub(crate) fn child_at(
-    held: &LogicalHeld<Files>,
-    directory: Fileid,
-    name: &[u8],
-) -> Option<Node>
+pub(crate) fn child_at(held: &LogicalHeld<Files>, directory: Fileid, name: &[u8]) -> Option<Node>
     ensures there { IfSome result (λ child.
         get held.now.own.inodes.inodes child.fileid.0 ≡ Some (inode_value child.inode)) }
     ensures node { option_map node_value result ≡ node_at (logical_before held.now)

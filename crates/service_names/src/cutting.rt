@@ -37,7 +37,13 @@ pub(crate) fn size_stripes(
     let mut left = held.own.get().stripes as usize;
     while left > 0 {
         left -= 1;
-        rest = size_place(&mut held.stripes.at[left], &mut held.own, fileid, size, rest);
+        rest = size_place(
+            &mut held.stripes.at[left],
+            &mut held.own,
+            fileid,
+            size,
+            rest,
+        );
     }
     rest
 }

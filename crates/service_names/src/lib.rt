@@ -1,11 +1,14 @@
-//! Calls on the names of a volume, on the parcels that they hold: LOOKUP, READDIR and COMMIT.
+//! Calls on the names of a volume, on the parcels that they hold: LOOKUP, READDIR, COMMIT, SETATTR,
+//! CREATE, MKDIR, REMOVE and RMDIR.
 #![tactic(auto)]
 
 mod attributes;
 mod cards;
 mod child;
 mod committing;
+mod creating;
 mod cutting;
+mod dropping;
 mod folder;
 mod listing;
 mod looking;
@@ -14,6 +17,7 @@ mod making_new;
 mod naming;
 mod new_inodes;
 mod node;
+mod removing;
 mod setting;
 mod showing;
 mod sizing;
@@ -22,7 +26,10 @@ mod upon;
 mod within;
 
 pub use committing::commit;
+pub use creating::{create, make_directory};
 pub use listing::{PageAsked, read_directory};
 pub use looking::lookup;
+pub use removing::{remove, remove_directory};
+pub use setting::set_attributes;
 pub use showing::{prior, shown};
 pub use touches::{is_same, latest_touch, take_touches};

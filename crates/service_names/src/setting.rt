@@ -1,23 +1,84 @@
 //! SETATTR.
 
-ghost use Rattle.std.specs.Prelude.{◌≡◌, ◌≤◌};
+ghost use Rattle.std.specs.Prelude.{◌≡◌, []};
+ghost use Rattle.std.specs.Option.{option_map};
+ghost use Rattle.nfs_values.specs.Answer.{answer_of};
+ghost use Rattle.nfs_values.specs.declared.answer.Answer.TheVariants as answers;
+ghost use Rattle.held_state.specs.Lenses.{logical_lens};
+ghost use Rattle.held_state.specs.Promises.{HasVolume};
 ghost use Rattle.parcel_sets.specs.Filled.{logical_alike};
 ghost use Rattle.nfs_values.specs.Moment.{moment_of};
 ghost use Rattle.nfs_values.specs.Set.{set_of};
 ghost use Rattle.inodes.specs.Inode.{attributes_value, inode_value};
-ghost use Rattle.held_changes.specs.Attributes.{node_changed};
-ghost use Rattle.held_state.specs.Changes.{inode_after, node_set};
+ghost use Rattle.held_changes.specs.Attributes.{held_setattr, node_changed};
+ghost use Rattle.held_state.specs.Changes.{node_set};
 ghost use Rattle.held_state.specs.Sets.{logical_before, logical_after};
-ghost use Rattle.held_state.specs.Tree.{file_touch};
+ghost use Rattle.service_names.specs.Promises.{SetsAttributes};
 ghost use Rattle.service_names.specs.Changing.{MayBeSet, with_value};
 
-use crate::attributes::{attributes_now, with_attributes};
+use crate::attributes::{attributes_now, set_fault, with_attributes};
+use crate::showing::{prior, shown};
 use crate::sizing::{set_inode, size_file};
 use crate::touches::{latest_touch, take_touches};
+use held_changes::setting_calls_are_right;
 use inodes::{Inode, StoredAttributes};
-use nfs_values::{Fileid, Moment, SetAttributes};
+use nfs_values::{Change, Fileid, Moment, SetAttributes, Status, VolumeNumber};
 use parcel_sets::LogicalHeld;
 use parcels::Files;
+
+/// SETATTR (RFC 1813 section 3.3.2), on the parcels of a volume's names and attributes, at a
+/// moment: STALE where there is no node of the fileid, NOT_SYNC where a guard is another ctime,
+/// INVAL for a bad time or the size of a directory, FBIG for a size over the largest; else the
+/// node is set, and the blocks that leave a file are dead. It takes no memory.
+pub fn set_attributes(
+    held: &mut LogicalHeld<Files>,
+    volume: VolumeNumber,
+    fileid: Fileid,
+    set: &SetAttributes,
+    guard: Option<Moment>,
+    moment: Moment,
+) -> Result<Change, Status>
+    requires whole { HasVolume volume.0 logical_lens [] (logical_before held.old) }
+    ensures right { SetsAttributes volume.0 fileid.0 (set_of set.now)
+        (option_map moment_of guard) (moment_of moment)
+        (logical_before held.old) result (logical_after held.old held.new) }
+    ensures alike { logical_alike held.old held.new }
+{
+    setting_calls_are_right();
+    attributes_set(held, volume, fileid, set, guard, moment)
+}
+
+/// What SETATTR comes to.
+fn attributes_set(
+    held: &mut LogicalHeld<Files>,
+    volume: VolumeNumber,
+    fileid: Fileid,
+    set: &SetAttributes,
+    guard: Option<Moment>,
+    moment: Moment,
+) -> Result<Change, Status>
+    requires whole { HasVolume volume.0 logical_lens [] (logical_before held.old) }
+    ensures answer { answer_of (answers.SetAttributes result) ≡ (held_setattr volume.0 fileid.0
+        (set_of set.now) (option_map moment_of guard) (moment_of moment)
+        (logical_before held.old)).answer }
+    ensures set { logical_after held.old held.new ≡ (held_setattr volume.0 fileid.0
+        (set_of set.now) (option_map moment_of guard) (moment_of moment)
+        (logical_before held.old)).set }
+    ensures alike { logical_alike held.old held.new }
+{
+    let inode = match held.own.get().inodes.get(fileid) {
+        Some(inode) => inode,
+        None => return Err(Status::Stale),
+    };
+    match set_fault(held, fileid, inode, set, guard) {
+        Some(fault) => return Err(fault),
+        None => {}
+    }
+    let before = prior(shown(volume, fileid, inode, latest_touch(held, fileid)));
+    let changed = set_node(held, fileid, inode, set, moment);
+    let after = shown(volume, fileid, changed, None);
+    Ok(Change { before, after })
+}
 
 /// Sets the node of a fileid, whose inode this is, to attributes at a moment, and tells its inode
 /// after it. It takes no memory.

@@ -8,12 +8,11 @@ use Rattle.service_names.proofs.cutting.size_stripes.Goals as goal
 
 pub loop-left-init : goal.loop-left-init
 loop-left-init c =
-    let same : c.args.held.now.own.stripes ≡ c.get.result.now.stripes = sym (ap (λ (l : LogicalValue). l.stripes) c.get.ensures) in
-    (
+    let same : c.args.held.now.own.stripes ≡ c.get.result.now.stripes = sym (ap (λ (l : LogicalValue). l.stripes) c.get.ensures) in (
       omega arith,
       subst (λ (n : ℕ). AreSizedFrom c.args.fileid.0 c.args.size c.args.held.now.own.stripes c.args.held.now.stripes.at c.args.held.now.own
-      c.args.filled n c.args.held.now.stripes.at c.args.held.now.own c.args.filled) same
-      (none-sized c.args.fileid.0 c.args.size c.args.held.now.own.stripes c.args.held.now.stripes.at c.args.held.now.own c.args.filled),
+          c.args.filled n c.args.held.now.stripes.at c.args.held.now.own c.args.filled) same
+          (none-sized c.args.fileid.0 c.args.size c.args.held.now.own.stripes c.args.held.now.stripes.at c.args.held.now.own c.args.filled),
     )
 
 pub size_place-rest-requires-clause-card : goal.size_place-rest-requires-clause-card

@@ -1,0 +1,17 @@
+use Rattle.nfs_model.specs.Tree.{Logical}
+use Rattle.nfs_values.specs.Answer.{answer_of}
+use Rattle.nfs_values.specs.Moment.{moment_of}
+use Rattle.nfs_values.specs.declared.answer.Answer.TheVariants as answers
+use Rattle.held_changes.specs.Laws.{rmdir_call, rmdir_done}
+use Rattle.held_state.specs.Sets.{logical_before}
+use Rattle.service_names.proofs.Laws.{right-by}
+use Rattle.service_names.proofs.removing.remove_directory.Goals as goal
+
+pub returns-clause-right : goal.returns-clause-right
+returns-clause-right c handle =
+    right-by c.args.volume.0 (rmdir_call handle (Logical c.args.volume.0) c.args.directory.0 c.args.name.now (moment_of c.args.moment))
+    (logical_before c.args.held.now) _ (answer_of (answers.RemoveDirectory c.directory_removed.result))
+    (rmdir_done c.args.volume.0 c.args.directory.0 c.args.name.now (moment_of c.args.moment) (logical_before c.args.held.now))
+    (c.dropping_calls_are_right.ensures.rmdir c.args.volume.0 c.args.directory.0 handle c.args.name.now (Logical c.args.volume.0)
+    (moment_of c.args.moment) (logical_before c.args.held.now))
+    c.directory_removed.ensures.answer c.directory_removed.ensures.set

@@ -1,0 +1,93 @@
+-- What a sound volume's nodes have: cards and block numbers, and a directory entries.
+use Rattle.std.proofs.Common.{◌≡◌, ℕ, ◌*◌, ◌<◌, ◌≤◌, ◌==◌, nat_lt, true, List, [], ◌∷◌, Option, Some, None, refl, ap, ◌∙◌, subst, arith}
+use Rattle.std.proofs.Common.{eq-eqb, ⊎_elim}
+use Rattle.std.proofs.lemmas.Bool.{cases_lt, le-ltb}
+use Rattle.std.specs.Prelude.{is_some, IsSome}
+use Rattle.std.specs.Option.{option_map}
+use Rattle.std.specs.FinMap.{get}
+use Rattle.nfs_model.specs.Parts.{Hand, one_if, times_listed, most_ranges, range_blocks}
+use Rattle.volume_values.specs.Directories.{DirectoryValue}
+use Rattle.volume_values.specs.Inodes.{Inode}
+use Rattle.volume_values.specs.Stripes.{Card}
+use Rattle.held_state.specs.Contents.{VolumeContents}
+use Rattle.held_state.specs.Names.{is_folder, size_in}
+use Rattle.held_state.specs.Sound.{IsSound}
+use Rattle.held_state.specs.Tree.{stripe_at, ranges_used, directory_or_empty}
+use Rattle.held_state.specs.WellFormed.{size_shown}
+use Rattle.held_state.specs.Lenses.{LogicalSet, logical_lens}
+use Rattle.held_state.specs.Promises.{HasVolume}
+use Rattle.held_laws.specs.lemmas.Limits.{used-fits, ranges-fit}
+use Rattle.held_names.specs.Answers.{entries_of}
+use Rattle.held_nodes.specs.Sizing.{all_freed}
+use Rattle.held_nodes.specs.lemmas.Sized.{freed-times}
+use Rattle.service_names.specs.Changing.{AreNumbers, MayBeSet}
+use Rattle.service_names.specs.lemmas.Whole.{whole-few}
+
+-- ---- numbers
+
+are-numbers : (ns : List ℕ) → ((n : ℕ) → 0 < times_listed n ns → n < most_ranges * range_blocks) → AreNumbers ns
+are-numbers [] h = tt
+are-numbers (n ∷ ns) h =
+    let here : one_if (n == n) ≡ 1 = ap one_if (eq-eqb n n refl) in
+    (h n (omega arith), are-numbers ns (λ m some. h m (omega arith)))
+
+module _ (p : VolumeContents) (hands : List Hand) (made : ℕ) (sound : IsSound p hands made) where
+  numbers-fit : (fileid size : ℕ) → AreNumbers (all_freed fileid size p.stripes)
+  numbers-fit fileid size = are-numbers (all_freed fileid size p.stripes) (λ n some.
+      let once = sound.partition n in
+      let all = freed-times fileid size n p.stripes in
+      let ranges = ranges-fit p.ranges in
+      let sixteen = sound.well_formed.sixteen in
+      ⊎_elim (λ (less : n < range_blocks * ranges_used p.ranges). omega arith)
+      (λ (more : range_blocks * ranges_used p.ranges ≤ n).
+      let past : one_if (nat_lt n (range_blocks * ranges_used p.ranges)) ≡ 0 = ap one_if (le-ltb n (range_blocks * ranges_used p.ranges) more) in
+      absurd (omega arith))
+      (cases_lt n (range_blocks * ranges_used p.ranges)))
+
+  used-most : p.logical.inodes.used ≤ most_ranges * range_blocks
+  used-most =
+      let fits = used-fits p hands sound.well_formed sound.partition in
+      let ranges = ranges-fit p.ranges in
+      let sixteen = sound.well_formed.sixteen in
+      omega arith
+
+  card-there : (fileid : ℕ) (inode : Inode) → get p.logical.inodes.inodes fileid ≡ Some inode → (i : ℕ) → i < p.logical.stripes
+      → IsSome (get (stripe_at p.stripes i).cards fileid)
+  card-there fileid inode there i less =
+      let many = sound.well_formed.as_many in
+      by (get (stripe_at p.stripes i).cards fileid)
+      ((sound.well_formed.stripes i (omega arith)).cards fileid ∙ ap (option_map (λ (x : Inode). size_in x.kind)) there)
+    where
+      by : (o : Option Card) → option_map size_shown o ≡ Some (size_in inode.kind) → IsSome o
+      by None e = absurd cc
+      by (Some card) e = refl
+
+module _ (v : ℕ) (set : LogicalSet) (whole : HasVolume v logical_lens [] set) where
+  pub whole-used : set.own.inodes.used ≤ most_ranges * range_blocks
+  whole-used =
+      let most = used-most whole.0 whole.1 whole.3 whole.8 in
+      let same : whole.0.logical.inodes.used ≡ set.own.inodes.used = ap (λ (s : LogicalSet). s.own.inodes.used) whole.4 in
+      omega arith
+
+  -- a node may be set
+  pub whole-may-be-set : (fileid : ℕ) (inode : Inode) → get set.own.inodes.inodes fileid ≡ Some inode → MayBeSet fileid set
+  whole-may-be-set fileid inode there = record {
+    few = whole-few v set whole;
+    used = whole-used;
+    cards = subst (λ (s : LogicalSet). (i : ℕ) → i < s.own.stripes → IsSome (get (stripe_at s.stripes i).cards fileid)) whole.4
+        (card-there whole.0 whole.1 whole.3 whole.8 fileid inode (ap (λ (s : LogicalSet). get s.own.inodes.inodes fileid) whole.4 ∙ there));
+    numbers = subst (λ (s : LogicalSet). (size : ℕ) → AreNumbers (all_freed fileid size s.stripes)) whole.4
+        (numbers-fit whole.0 whole.1 whole.3 whole.8 fileid);
+  }
+
+  -- a directory has entries
+  pub whole-entered : (fileid : ℕ) (inode : Inode) → get set.own.inodes.inodes fileid ≡ Some inode → is_folder (Some inode) ≡ true
+      → get set.own.directories fileid ≡ Some (entries_of set.own fileid)
+  whole-entered fileid inode there folder =
+      filled (get set.own.directories fileid)
+      (subst (λ (s : LogicalSet). is_some (get s.own.directories fileid) ≡ is_folder (get s.own.inodes.inodes fileid)) whole.4
+      (whole.8.well_formed.logical.named.folders fileid) ∙ ap is_folder there ∙ folder)
+    where
+      filled : (o : Option DirectoryValue) → is_some o ≡ true → o ≡ Some (directory_or_empty o)
+      filled None e = absurd cc
+      filled (Some d) e = refl

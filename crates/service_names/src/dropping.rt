@@ -1,0 +1,183 @@
+//! Nodes that lose their names.
+
+ghost use Rattle.std.specs.Prelude.{◌≡◌, ◌≤◌, ◌<◌, ◌^◌, ℕ, is_some, map, Some, None};
+ghost use Rattle.std.specs.FinMap.{get};
+ghost use Rattle.parcel_sets.specs.Filled.{logical_alike};
+ghost use Rattle.nfs_values.specs.Moment.{moment_of};
+ghost use Rattle.volume_values.specs.Directories.{removed};
+ghost use Rattle.volume_values.specs.Inodes.{inode_set, inode_dropped};
+ghost use Rattle.volume_values.specs.Maps.{changed_at};
+ghost use Rattle.volume_values.specs.Stripes.{card_dropped};
+ghost use Rattle.inodes.specs.Inode.{inode_value, kind_value};
+ghost use Rattle.held_state.specs.Names.{parent_in};
+ghost use Rattle.held_state.specs.Sets.{logical_before, logical_after, stripe_value};
+ghost use Rattle.held_names.specs.Answers.{entries_of};
+ghost use Rattle.held_nodes.specs.Dropping.{
+  directories_left,
+  directory_left,
+  node_dropped,
+  without_subdirectories,
+};
+ghost use Rattle.held_nodes.specs.Making.{folders_in};
+ghost use Rattle.held_changes.specs.Dropping.{dropping_of, child_emptied, file_gone};
+ghost use Rattle.service_names.specs.Changing.{inode_left, MayBeSet, with_directories, with_inodes};
+ghost use Rattle.service_names.specs.Naming.{node_value, naming_of};
+
+use crate::node::Node;
+use crate::sizing::size_file;
+use inodes::{Inode, InodeKind, StoredAttributes};
+use nfs_values::{Fileid, Moment};
+use parcel_sets::{LogicalHeld, StripeHeld};
+use parcels::{Files, LogicalParcel};
+
+/// Drops a file under a name of a directory, whose blocks are dead then, and tells the directory's
+/// inode. It takes no memory.
+pub(crate) fn drop_file(
+    held: &mut LogicalHeld<Files>,
+    directory: Node,
+    name: &[u8],
+    child: Node,
+    moment: Moment,
+) -> Inode
+    requires child { MayBeSet child.fileid.0 (logical_before held.old) }
+    requires file { parent_in (kind_value child.inode.kind) ≡ None }
+    requires entered { get held.old.own.directories directory.fileid.0
+        ≡ Some (entries_of held.old.own directory.fileid.0) }
+    ensures inode { (v : ℕ) → inode_value result ≡ directory_left
+        (dropping_of (naming_of v directory name.now (moment_of moment) (logical_before held.old))
+        (child_emptied (node_value child) (logical_before held.old))) }
+    ensures set { (v : ℕ) → logical_after held.old held.new ≡ (file_gone
+        (naming_of v directory name.now (moment_of moment) (logical_before held.old))
+        (node_value child)).set }
+    ensures alike { logical_alike held.old held.new }
+{
+    let inode = size_file(held, child.fileid, child.inode, child.inode.attributes, 0);
+    let emptied = Node {
+        fileid: child.fileid,
+        inode,
+    };
+    drop_node(held, directory, name, emptied, moment)
+}
+
+/// Drops a node without bytes and entries with its name in a directory, and tells the directory's
+/// inode. It takes no memory.
+pub(crate) fn drop_node(
+    held: &mut LogicalHeld<Files>,
+    directory: Node,
+    name: &[u8],
+    child: Node,
+    moment: Moment,
+) -> Inode
+    requires few { held.old.own.stripes ≤ 16 }
+    requires used { held.old.own.inodes.used < 2 ^ 63 }
+    requires entered { get (directories_left (kind_value child.inode.kind) child.fileid.0
+        held.old.own.directories) directory.fileid.0
+        ≡ Some (entries_of held.old.own directory.fileid.0) }
+    ensures inode { (v : ℕ) → inode_value result ≡ directory_left (dropping_of
+        (naming_of v directory name.now (moment_of moment) (logical_before held.old))
+        (node_value child)) }
+    ensures set { (v : ℕ) → logical_after held.old held.new ≡ node_dropped (dropping_of
+        (naming_of v directory name.now (moment_of moment) (logical_before held.old))
+        (node_value child)) (logical_before held.old) }
+    ensures alike { logical_alike held.old held.new }
+{
+    let left = directory_left(directory.inode, child.inode.kind, moment);
+    drop_cards(held, child.fileid);
+    drop_inode(&mut held.own, child.fileid, directory.fileid, left);
+    drop_directory(&mut held.own, child.inode.kind, child.fileid);
+    drop_entry(&mut held.own, directory.fileid, name);
+    left
+}
+
+/// The inode of a directory after a node of a kind under it is dropped at a moment.
+fn directory_left(inode: Inode, kind: InodeKind, moment: Moment) -> Inode
+    ensures { inode_value result
+        ≡ inode_left (inode_value inode) (kind_value kind) (moment_of moment) }
+{
+    Inode {
+        attributes: StoredAttributes {
+            mtime: moment,
+            ctime: moment,
+            ..inode.attributes
+        },
+        kind: kind_left(inode.kind, kind),
+    }
+}
+
+/// What a directory is after a node of a kind under it is dropped.
+fn kind_left(directory: InodeKind, kind: InodeKind) -> InodeKind
+    ensures { kind_value result
+        ≡ without_subdirectories (folders_in (kind_value kind)) (kind_value directory) }
+{
+    let InodeKind::Directory {
+        parent,
+        subdirectories,
+    } = directory
+    else {
+        return directory;
+    };
+    let fewer = match kind {
+        InodeKind::RegularFile { .. } => 0,
+        InodeKind::Directory { .. } => 1,
+    };
+    InodeKind::Directory {
+        parent,
+        subdirectories: subdirectories.saturating_sub(fewer),
+    }
+}
+
+/// Drops the inode of a node, and sets that of the directory in which it was.
+fn drop_inode(own: &mut LogicalParcel, fileid: Fileid, directory: Fileid, left: Inode)
+    requires { own.old.inodes.used < 2 ^ 63 }
+    ensures { own.new ≡ with_inodes (inode_set directory.0 (inode_value left)
+        (inode_dropped fileid.0 own.old.inodes)) own.old }
+{
+    let inodes = &mut own.get_mut().inodes;
+    inodes.drop_node(fileid);
+    inodes.set(directory, left);
+}
+
+/// Drops the entries of a node of a kind, if it is a directory.
+fn drop_directory(own: &mut LogicalParcel, kind: InodeKind, fileid: Fileid)
+    ensures { own.new ≡ with_directories
+        (directories_left (kind_value kind) fileid.0 own.old.directories) own.old }
+{
+    match kind {
+        InodeKind::RegularFile { .. } => {}
+        InodeKind::Directory { .. } => own.get_mut().directories.remove(fileid),
+    }
+}
+
+/// Drops the entry of a name of a directory.
+fn drop_entry(own: &mut LogicalParcel, directory: Fileid, name: &[u8])
+    ensures { own.new ≡ with_directories
+        (changed_at (removed name.now) directory.0 own.old.directories) own.old }
+{
+    own.get_mut().directories.remove_entry(directory, name);
+}
+
+/// Drops the cards of a node in the stripes of its volume.
+fn drop_cards(held: &mut LogicalHeld<Files>, fileid: Fileid)
+    requires { held.old.own.stripes ≤ 16 }
+    ensures dropped { (logical_after held.old held.new).stripes
+        ≡ map (card_dropped fileid.0) (logical_before held.old).stripes }
+    ensures own { held.new.own ≡ held.old.own }
+    ensures alike { logical_alike held.old held.new }
+{
+    let mut left = held.own.get().stripes as usize;
+    while left > 0 {
+        left -= 1;
+        drop_card(&mut held.stripes.at[left], fileid);
+    }
+}
+
+/// Drops the card of a node in the stripe in a place.
+fn drop_card(place: &mut Option<StripeHeld<Files>>, fileid: Fileid)
+    ensures dropped { stripe_value place.new ≡ card_dropped fileid.0 (stripe_value place.old) }
+    ensures alike { is_some place.new ≡ is_some place.old }
+{
+    match place {
+        Some(stripe) => stripe.own.get_mut().drop_card(fileid),
+        None => {}
+    }
+}
