@@ -23,6 +23,8 @@ use Rattle.held_state.specs.Tree.{stripe_at, directory_or_empty, ranges_used}
 use Rattle.held_laws.specs.lemmas.Limits.{few-folders, used-fits, ranges-fit}
 use Rattle.held_names.specs.Answers.{entries_of}
 use Rattle.held_changes.specs.Making.{is_full_set}
+use Rattle.held_changes.specs.Named.{node_at, node_there}
+use Rattle.held_changes.specs.lemmas.Named.{entry-there}
 use Rattle.service_names.specs.declared.within.Within.{Within}
 use Rattle.service_names.specs.Making.{MayMake, naming_within}
 
@@ -47,6 +49,26 @@ no-entries (Some d) e = absurd cc
 not-found : (o : Option Listed) → option_map (λ (e : Listed). e.fileid) o ≡ None → o ≡ None
 not-found None e = refl
 not-found (Some x) e = absurd cc
+
+-- a node that isn't there has no inode
+no-inode : (q : ℕ) (o : Option Inode) → node_there q o ≡ None → o ≡ None
+no-inode q None e = refl
+no-inode q (Some i) e = absurd cc
+
+-- a name under which no node is has no entry
+volume-absent : (p : VolumeContents) → WellFormed p → (d : ℕ) (inode : Inode) (name : List ℕ) → get p.logical.inodes.inodes d ≡ Some inode
+    → is_folder (Some inode) ≡ true → node_at (logical_lens.of p) (fileid_found (entries_of p.logical d) name) ≡ None
+    → fileid_found (entries_of p.logical d) name ≡ None
+volume-absent p well d inode name there folder none = by (found (entries_of p.logical d) name) refl none
+  where
+    entered : get p.logical.directories d ≡ Some (entries_of p.logical d)
+    entered = entered-by (get p.logical.directories d) (well.logical.named.folders d ∙ ap is_folder there ∙ folder)
+
+    by : (o : Option Listed) → found (entries_of p.logical d) name ≡ o
+        → node_at (logical_lens.of p) (option_map (λ (e : Listed). e.fileid) o) ≡ None → option_map (λ (e : Listed). e.fileid) o ≡ None
+    by None is h = refl
+    by (Some e) is h =
+        absurd (entry-there p well d name (entries_of p.logical d) entered e is (no-inode e.fileid (get p.logical.inodes.inodes e.fileid) h))
 
 module _ (p : VolumeContents) (hands hands' : List Hand) (made : ℕ) (few : made < too_many) (sound : IsSound p hands made) (w : Within) (name : List ℕ) where
   abbrev well : WellFormed p
@@ -108,3 +130,11 @@ whole-may v set whole w name =
     subst (λ (s : LogicalSet). get s.own.inodes.inodes w.fileid.0 ≡ Some (inode_value w.inode) → is_folder (Some (inode_value w.inode)) ≡ true
     → fileid_found (entries_of s.own w.fileid.0) name ≡ None → is_full_set s ≡ false → MayMake (naming_within w name s)) whole.4
     (volume-may whole.0 whole.1 whole.2 whole.3 whole.6 whole.8 w name)
+
+pub whole-absent : (v : ℕ) (set : LogicalSet) → HasVolume v logical_lens [] set → (d : ℕ) (inode : Inode) (name : List ℕ)
+    → get set.own.inodes.inodes d ≡ Some inode → is_folder (Some inode) ≡ true → node_at set (fileid_found (entries_of set.own d) name) ≡ None
+    → fileid_found (entries_of set.own d) name ≡ None
+whole-absent v set whole d inode name =
+    subst (λ (s : LogicalSet). get s.own.inodes.inodes d ≡ Some inode → is_folder (Some inode) ≡ true
+    → node_at s (fileid_found (entries_of s.own d) name) ≡ None → fileid_found (entries_of s.own d) name ≡ None) whole.4
+    (volume-absent whole.0 whole.8.well_formed d inode name)
