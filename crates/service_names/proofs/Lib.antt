@@ -16,3 +16,4 @@ mod Tying
 mod Unmade
 mod Overs
 mod News
+mod Made
