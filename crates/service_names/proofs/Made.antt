@@ -1,10 +1,7 @@
 -- CREATE and MKDIR are right since they come to what is the serial server's.
-use Rattle.std.proofs.Common.{◌≡◌, ℕ, false, List, [], None, Result, Ok, Err, sym, subst}
+use Rattle.std.proofs.Common.{◌≡◌, ℕ, Result, Ok, Err, sym, subst}
 use Rattle.std.specs.Prelude.{IfOk, OnOk, OnErr}
 use Rattle.std.specs.declared.alloc.AllocError.{AllocError}
-use Rattle.nfs_model.specs.Types as types
-use Rattle.nfs_model.specs.Types.{Moment, Credential, Answer, Success}
-use Rattle.nfs_model.specs.Tree.{Logical}
 use Rattle.nfs_values.specs.Answer as values
 use Rattle.nfs_values.specs.declared.answer.Answer as answered
 use Rattle.nfs_values.specs.declared.answer.MakeResults.{MakeResults}

@@ -1,5 +1,5 @@
 -- CREATE and MKDIR of a name that isn't there, as their checks come out.
-use Rattle.std.proofs.Common.{◌≡◌, ℕ, Bool, true, false, List, Option, Some, None, sym, ap, ◌∙◌, refl}
+use Rattle.std.proofs.Common.{◌≡◌, Bool, true, false, Option, Some, None, ap, refl}
 use Rattle.std.specs.Prelude.{if◌then◌else◌, is_some}
 use Rattle.nfs_model.specs.Types.{SetAttributes, Status, Invalid, TooBig, NoSpace}
 use Rattle.nfs_model.specs.Serial.Setattr.{has_bad_time, is_past}

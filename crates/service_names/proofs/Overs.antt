@@ -1,15 +1,12 @@
 -- CREATE of a name that is there, as its checks come out.
-use Rattle.std.proofs.Common.{◌≡◌, ℕ, Bool, true, false, List, Option, Some, None, sym, ap, ◌∙◌}
+use Rattle.std.proofs.Common.{◌≡◌, ℕ, Bool, List, Option, None, ap, ◌∙◌}
 use Rattle.std.specs.Prelude.{if◌then◌else◌}
 use Rattle.nfs_model.specs.Types.{SetAttributes, Unchecked, Exclusive, Status, Exists}
 use Rattle.nfs_model.specs.Serial.Create.{is_verifier}
-use Rattle.volume_values.specs.Inodes.{InodeKind, RegularFile, Folder, Inode}
-use Rattle.held_state.specs.Lenses.{LogicalSet}
-use Rattle.held_state.specs.Changes.{LogicalAnswer}
+use Rattle.volume_values.specs.Inodes.{InodeKind, RegularFile}
 use Rattle.held_changes.specs.Named.{fails, unless_fault, HeldNaming, HeldNode}
 use Rattle.held_changes.specs.Attributes.{node_changed, node_fault}
 use Rattle.held_changes.specs.Making.{create_upon, there_shown, there_set}
-use Rattle.service_names.specs.Shown.{HasFewLinks}
 
 module _ (n : HeldNaming) (child : HeldNode) (kind : InodeKind) (size filled : ℕ) (kept : Option (List ℕ)) (is : kind ≡ RegularFile size filled kept) where
   -- an exclusive one, by whether the verifier is the same

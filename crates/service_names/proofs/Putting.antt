@@ -2,15 +2,14 @@
 use Rattle.std.proofs.Common.{◌≡◌, ◌≢◌, ℕ, zero, suc, ◌+◌, ◌-◌, ◌<◌, ◌≤◌, ◌==◌, Bool, true, false, List, [], ◌∷◌, length, Option, Some, None}
 use Rattle.std.proofs.Common.{Result, Ok, Err, refl, sym, ap, ◌∙◌, subst, arith, ⊎_elim}
 use Rattle.std.proofs.lemmas.Bool.{cases_eq, cases_lt}
-use Rattle.std.specs.Prelude.{slice_get, slice_set, slice_index_or, is_some, OnOk, OnErr, if◌then◌else◌}
+use Rattle.std.specs.Prelude.{slice_get, slice_set, slice_index_or, OnOk, OnErr, if◌then◌else◌}
 use Rattle.std.specs.FinMap.{FinMap, get, insert, remove}
 use Rattle.std.specs.Ordering.{nat_cmp}
 use Rattle.volume_values.specs.Inodes.{InodeKind, RegularFile, Folder}
-use Rattle.volume_values.specs.Stripes.{StripeValue, Card, OfFile, OfFolder, touch_of, card_dropped}
+use Rattle.volume_values.specs.Stripes.{StripeValue, OfFile, OfFolder, touch_of, card_dropped}
 use Rattle.volume_values.specs.lemmas.Numbered.{same-answers, get-insert_at, get-remove_at}
-use Rattle.held_state.specs.Sets.{FilerStripe, stripe_value}
 use Rattle.held_nodes.specs.Making.{card_made}
-use Rattle.service_names.specs.Cards.{InFirst, place_dropped, DiffersByCard, HasCard, IsDropped}
+use Rattle.service_names.specs.Cards.{InFirst}
 
 -- ---- one card
 

@@ -1,13 +1,12 @@
 -- What a new node has beside its inode, put in and taken out again.
-use Rattle.std.proofs.Common.{◌≡◌, ℕ, ◌+◌, ◌-◌, ◌<◌, ◌≤◌, ◌==◌, Bool, true, false, List, length, map, Option, Some, None, Result, Ok, Err}
-use Rattle.std.proofs.Common.{refl, sym, ap, ◌∙◌, subst, arith}
+use Rattle.std.proofs.Common.{◌≡◌, ℕ, ◌==◌, Bool, false, Some, Result, Ok, Err}
+use Rattle.std.proofs.Common.{refl, sym, ap, ◌∙◌, subst}
 use Rattle.std.specs.Prelude.{OnErr, IfSome, if◌then◌else◌}
 use Rattle.std.specs.FinMap.{get}
 use Rattle.volume_values.specs.Directories.{DirectoryValue, empty_directory}
 use Rattle.volume_values.specs.Inodes.{InodeKind, RegularFile, Folder}
 use Rattle.volume_values.specs.Logical.{LogicalValue}
 use Rattle.volume_values.specs.lemmas.Numbered.{get-insert_at}
-use Rattle.held_state.specs.Names.{DirectoryMap}
 use Rattle.held_nodes.specs.Making.{directories_made}
 use Rattle.service_names.specs.Changing.{with_directories}
 use Rattle.service_names.specs.Making.{without_directory}

@@ -1,16 +1,16 @@
 -- A node made, as the steps of its making leave it; and where memory runs out, all as it was.
-use Rattle.std.proofs.Common.{◌≡◌, ℕ, ◌+◌, ◌-◌, ◌<◌, ◌≤◌, ◌==◌, Bool, true, false, List, length, map, Option, Some, None}
+use Rattle.std.proofs.Common.{◌≡◌, ℕ, ◌-◌, ◌<◌, ◌≤◌, ◌==◌, true, false, List, map, Option, Some, None}
 use Rattle.std.proofs.Common.{refl, sym, ap, ◌∙◌, subst, arith, ⊎_elim}
 use Rattle.std.proofs.lemmas.Bool.{cases_lt}
 use Rattle.std.specs.Prelude.{is_some, IsSome, slice_get}
 use Rattle.std.specs.Ordering.{nat_cmp}
-use Rattle.std.specs.FinMap.{get, remove, get-empty}
+use Rattle.std.specs.FinMap.{get, get-empty}
 use Rattle.parcel_sets.specs.Filled.{is_filled, AreFilledAlike}
 use Rattle.volume_values.specs.Directories.{DirectoryValue, added}
-use Rattle.volume_values.specs.Inodes.{InodeKind, Inode, InodesValue, IsInodes, inode_of, inode_created, inode_unmade, inode_set}
+use Rattle.volume_values.specs.Inodes.{InodeKind, Inode, inode_of, inode_created, inode_unmade, inode_set}
 use Rattle.volume_values.specs.Logical.{LogicalValue}
 use Rattle.volume_values.specs.Maps.{changed_at, changed_value}
-use Rattle.volume_values.specs.Stripes.{StripeValue, Card, card_dropped}
+use Rattle.volume_values.specs.Stripes.{StripeValue, Card}
 use Rattle.volume_values.specs.lemmas.Inodes.{unmade-created, made-last}
 use Rattle.volume_values.specs.lemmas.Numbered.{remove-absent}
 use Rattle.held_state.specs.Contents.{each}

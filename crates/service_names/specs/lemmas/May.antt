@@ -1,5 +1,5 @@
 -- What a sound volume has for a node to be made in it.
-use Rattle.std.proofs.Common.{◌≡◌, ℕ, ◌+◌, ◌*◌, ◌<◌, ◌≤◌, ◌^◌, ◌==◌, Bool, true, false, List, length, Option, Some, None, refl, sym, ap, ◌∙◌, subst, arith, ⊎_elim, []}
+use Rattle.std.proofs.Common.{◌≡◌, ℕ, ◌*◌, ◌<◌, ◌≤◌, true, false, List, Option, Some, None, refl, sym, ap, ◌∙◌, subst, arith, ⊎_elim, []}
 use Rattle.std.proofs.lemmas.Bool.Decides.{nat_tests}
 use Rattle.std.specs.Prelude.{is_some, IsSome, IfSome, nat_le}
 use Rattle.std.specs.Option.{option_map}
@@ -9,12 +9,12 @@ use Rattle.nfs_model.specs.Server.{most_inodes}
 use Rattle.nfs_model.specs.Types.{Listed}
 use Rattle.depot_rule.specs.Shares.{too_many}
 use Rattle.volume_values.specs.Directories.{DirectoryValue, found, fileid_found}
-use Rattle.volume_values.specs.Inodes.{InodeKind, RegularFile, Folder, Inode, InodesValue, IsInodes, inode_of}
+use Rattle.volume_values.specs.Inodes.{InodeKind, RegularFile, Folder, Inode}
 use Rattle.volume_values.specs.Stripes.{Card}
 use Rattle.volume_values.specs.lemmas.Inodes.{next-absent}
 use Rattle.inodes.specs.Inode.{inode_value}
 use Rattle.held_state.specs.Contents.{VolumeContents}
-use Rattle.held_state.specs.Names.{root, size_in, is_folder, parent_in, parent_directory, subdirectories_in, subdirectories_of, folders_listed}
+use Rattle.held_state.specs.Names.{root, size_in, is_folder, parent_directory, subdirectories_in, subdirectories_of, folders_listed}
 use Rattle.held_state.specs.WellFormed.{WellFormed, size_shown}
 use Rattle.held_state.specs.Sound.{IsSound}
 use Rattle.held_state.specs.Lenses.{LogicalSet, logical_lens}

@@ -1,4 +1,4 @@
-use Rattle.std.proofs.Common.{◌≡◌, ◌∙◌, ap, sym}
+use Rattle.std.proofs.Common.{◌∙◌, ap, sym}
 use Rattle.parcel_sets.specs.Filled.{is_filled}
 use Rattle.std.specs.Prelude.{slice_get}
 use Rattle.inodes.specs.Inode.{inode_value}

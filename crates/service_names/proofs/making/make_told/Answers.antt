@@ -1,4 +1,4 @@
-use Rattle.std.proofs.Common.{◌≡◌, ◌∙◌, ℕ, ap, None}
+use Rattle.std.proofs.Common.{◌∙◌, ℕ, ap, None}
 use Rattle.nfs_model.specs.Server.{handle_bytes}
 use Rattle.nfs_model.specs.Types.{MadeDone}
 use Rattle.nfs_values.specs.Moment.{moment_of}

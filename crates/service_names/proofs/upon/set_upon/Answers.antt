@@ -1,4 +1,4 @@
-use Rattle.std.proofs.Common.{◌≡◌, ◌∙◌, ap, sym, None, Option}
+use Rattle.std.proofs.Common.{◌∙◌, ap, sym, None}
 use Rattle.std.specs.Option.{option_map}
 use Rattle.nfs_model.specs.Server.{handle_bytes}
 use Rattle.nfs_model.specs.Types.{MadeDone}
