@@ -1,6 +1,6 @@
 //! The cards of a new node, in the stripes of its volume.
 
-ghost use Rattle.std.specs.Prelude.{◌≡◌, ◌≤◌, OnOk, OnErr};
+ghost use Rattle.std.specs.Prelude.{◌≡◌, ◌≤◌, OnOk};
 ghost use Rattle.inodes.specs.Inode.{kind_value};
 ghost use Rattle.held_nodes.specs.Making.{card_made};
 ghost use Rattle.volume_values.specs.Stripes.{card_dropped};

@@ -27,7 +27,12 @@ ghost use Rattle.volume_values.specs.Inodes.{filled_blocks, inode_created, inode
 ghost use Rattle.volume_values.specs.Maps.{changed_at};
 ghost use Rattle.held_state.specs.Names.{subdirectories_in};
 ghost use Rattle.held_state.specs.Sets.{logical_before, logical_after};
-ghost use Rattle.held_nodes.specs.Making.{directories_made, folders_in, node_made, with_subdirectories};
+ghost use Rattle.held_nodes.specs.Making.{
+  directories_made,
+  folders_in,
+  node_made,
+  with_subdirectories,
+};
 ghost use Rattle.held_changes.specs.Making.{held_made, making_of};
 ghost use Rattle.service_names.specs.Cards.{InFirst, DiffersByCard, HasCard, IsDropped};
 ghost use Rattle.service_names.specs.Changing.{with_directories, with_inodes};

@@ -23,8 +23,8 @@ ghost use Rattle.service_names.specs.Shown.{HasFewLinks};
 
 use crate::attributes::set_fault;
 use crate::child::directory_change;
-use crate::node::Node;
 use crate::naming::is_same_name;
+use crate::node::Node;
 use crate::setting::set_node;
 use crate::showing::shown;
 use crate::touches::latest_touch;

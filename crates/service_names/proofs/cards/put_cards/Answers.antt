@@ -8,8 +8,7 @@ pub loop-left-preserved : goal.loop-left-preserved
 loop-left-preserved c =
     let below = c.loop-left.invariant.0 in
     let few = c.requires.few in
-    let long : length c.loop-left.held.stripes.at ≡ 16 = search rules in
-    (
+    let long : length c.loop-left.held.stripes.at ≡ 16 = search rules in (
       omega arith,
       c.loop-left.invariant.1,
       place-more (DiffersByCard c.args.fileid.0) c.args.held.now.own.stripes c.args.held.now.stripes.at c.loop-left.left c.loop-left.held.stripes.at _ _ _
