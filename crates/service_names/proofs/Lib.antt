@@ -11,3 +11,9 @@ mod Laws
 mod Named
 mod Commits
 mod Lists
+mod Putting
+mod Tying
+mod Unmade
+mod Overs
+mod News
+mod Made

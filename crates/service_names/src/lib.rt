@@ -1,24 +1,32 @@
 //! Calls on the names of a volume, on the parcels that they hold: LOOKUP, READDIR, COMMIT, SETATTR,
-//! REMOVE and RMDIR.
+//! CREATE, MKDIR, REMOVE and RMDIR.
 #![tactic(auto)]
 
 mod attributes;
+mod cards;
 mod child;
 mod committing;
+mod creating;
 mod cutting;
 mod dropping;
 mod folder;
 mod listing;
 mod looking;
+mod making;
+mod making_new;
 mod naming;
+mod new_inodes;
 mod node;
 mod removing;
 mod setting;
 mod showing;
 mod sizing;
 mod touches;
+mod upon;
+mod within;
 
 pub use committing::commit;
+pub use creating::{create, make_directory};
 pub use listing::{PageAsked, read_directory};
 pub use looking::lookup;
 pub use removing::{remove, remove_directory};

@@ -1,0 +1,216 @@
+-- A node made, as the steps of its making leave it; and where memory runs out, all as it was.
+use Rattle.std.proofs.Common.{◌≡◌, ℕ, ◌-◌, ◌<◌, ◌≤◌, ◌==◌, true, false, List, map, Option, Some, None}
+use Rattle.std.proofs.Common.{refl, sym, ap, ◌∙◌, subst, arith, ⊎_elim}
+use Rattle.std.proofs.lemmas.Bool.{cases_lt}
+use Rattle.std.specs.Prelude.{is_some, IsSome, slice_get}
+use Rattle.std.specs.Ordering.{nat_cmp}
+use Rattle.std.specs.FinMap.{get, get-empty}
+use Rattle.parcel_sets.specs.Filled.{is_filled, AreFilledAlike}
+use Rattle.volume_values.specs.Directories.{DirectoryValue, added}
+use Rattle.volume_values.specs.Inodes.{InodeKind, Inode, inode_of, inode_created, inode_unmade, inode_set}
+use Rattle.volume_values.specs.Logical.{LogicalValue}
+use Rattle.volume_values.specs.Maps.{changed_at, changed_value}
+use Rattle.volume_values.specs.Stripes.{StripeValue, Card}
+use Rattle.volume_values.specs.lemmas.Inodes.{unmade-created, made-last}
+use Rattle.volume_values.specs.lemmas.Numbered.{remove-absent}
+use Rattle.held_state.specs.Contents.{each}
+use Rattle.held_state.specs.Names.{root}
+use Rattle.held_state.specs.Parcels.{no_stripe}
+use Rattle.held_state.specs.Tree.{stripe_at}
+use Rattle.held_state.specs.Sets.{FilerLogical, FilerStripe, stripe_value, placed, in_one, logical_before, logical_after}
+use Rattle.held_laws.specs.lemmas.Each.{each-same, each-map, each-index, get-there}
+use Rattle.held_nodes.specs.Making.{card_made, directories_made, node_made}
+use Rattle.held_changes.specs.Making.{making_of}
+use Rattle.service_names.specs.declared.within.Within.{Within}
+use Rattle.service_names.specs.Cards.{InFirst, place_dropped, DiffersByCard, HasCard, IsDropped}
+use Rattle.service_names.specs.Making.{MayMake, naming_within, inode_dated, without_directory, node_unmade}
+use Rattle.service_names.specs.Changing.{with_inodes, with_directories}
+use Rattle.service_names.proofs.Putting.{same-places, there}
+use Rattle.service_names.proofs.Tying.{made-get}
+
+-- ---- places
+
+module _ {P : Type 0} where
+  dropped-none : (f : ℕ) (x : Option (FilerStripe P)) → get (stripe_value x).cards f ≡ None → place_dropped f x ≡ x
+  dropped-none f None none = refl
+  dropped-none f (Some s) none = ap (λ cards. Some (record s { own = record s.own { cards = cards } })) (remove-absent s.own.cards f none)
+
+  filled-of : (f : ℕ) (x y : Option (FilerStripe P)) → place_dropped f y ≡ place_dropped f x → is_filled (Some x) ≡ is_filled (Some y)
+  filled-of f None None e = refl
+  filled-of f None (Some y) e = absurd cc
+  filled-of f (Some x) None e = absurd cc
+  filled-of f (Some x) (Some y) e = refl
+
+  -- a place that has a card is filled
+  there-of : (f : ℕ) (x : Option (FilerStripe P)) → IsSome (get (stripe_value x).cards f) → is_some x ≡ true
+  there-of f None some = absurd (let no = subst IsSome (get-empty {X = Card} nat_cmp f) some in cc)
+  there-of f (Some s) some = refl
+
+  -- places that differ by cards are filled alike
+  pub cards-alike : (f n : ℕ) (old now : List (Option (FilerStripe P))) → InFirst (DiffersByCard f) n old now → AreFilledAlike old now
+  cards-alike f n old now t i = by (slice_get old i) refl (slice_get now i) refl
+    where
+      by : (o : Option (Option (FilerStripe P))) → slice_get old i ≡ o → (p : Option (Option (FilerStripe P))) → slice_get now i ≡ p
+          → is_filled o ≡ is_filled p
+      by None e None h = refl
+      by None e (Some y) h =
+          let long = t.long in
+          let less = get-there now i y h in
+          let found = there old i (omega arith) in
+          absurd (let no = sym e ∙ found.1 in cc)
+      by (Some x) e None h =
+          let long = t.long in
+          let less = get-there old i x e in
+          let found = there now i (omega arith) in
+          absurd (let no = sym h ∙ found.1 in cc)
+      by (Some x) e (Some y) h = ⊎_elim
+          (λ (less : i < n). filled-of f x y (t.first i x y less e h))
+          (λ (on : n ≤ i). ap (λ z. is_filled (Some z)) (sym (t.others i x y on e h)))
+          (cases_lt i n)
+
+  module _ (f n : ℕ) (old mid now : List (Option (FilerStripe P))) where
+    -- the cards put in and taken out again, where there were none
+    pub cards-back : ((i : ℕ) (x : Option (FilerStripe P)) → i < n → slice_get old i ≡ Some x → get (stripe_value x).cards f ≡ None)
+        → InFirst (DiffersByCard f) n old mid → InFirst (IsDropped f) n mid now → now ≡ old
+    cards-back none put gone = same-places old now (gone.long ∙ put.long) (λ i x y e h.
+        let long = put.long in
+        let less = get-there old i x e in
+        let found = there mid i (omega arith) in
+        let z = found.0 in
+        ⊎_elim
+        (λ (below : i < n). gone.first i z y below found.1 h ∙ put.first i x z below e found.1 ∙ dropped-none f x (none i x below e))
+        (λ (on : n ≤ i). gone.others i z y on found.1 h ∙ put.others i x z on e found.1)
+        (cases_lt i n))
+
+  -- the stripes of a volume with the card of a new node
+  pub cards-made : (k : InodeKind) (f n : ℕ) (old now : List (Option (FilerStripe P)))
+      → ((i : ℕ) → i < n → (x : Option (FilerStripe P)) × (slice_get old i ≡ Some x) × (is_some x ≡ true))
+      → InFirst (HasCard k f) n old now
+      → each (λ i. stripe_value (placed now i)) 0 n ≡ map (card_made k f) (each (λ i. stripe_value (placed old i)) 0 n)
+  cards-made k f n old now some t =
+      each-same (λ i. stripe_value (placed now i)) (λ i. card_made k f (stripe_value (placed old i))) 0 n (λ i on less.
+      let long = t.long in
+      let x = some i (omega arith) in
+      let within = get-there old i x.0 x.1 in
+      let y = there now i (omega arith) in
+      ap (λ o. stripe_value (in_one o)) y.1 ∙ t.first i x.0 y.0 (omega arith) x.1 y.1 x.2
+      ∙ sym (ap (λ o. card_made k f (stripe_value (in_one o))) x.1))
+      ∙ sym (each-map (card_made k f) (λ i. stripe_value (placed old i)) 0 n)
+
+-- ---- a node
+
+module _ {P : Type 0} (within : Within) (name : List ℕ) (old : FilerLogical P) (may : MayMake (naming_within within name (logical_before old))) (made : Inode)
+    (f : ℕ) (is : f ≡ old.own.inodes.next) where
+  abbrev n : ℕ
+  n = old.own.stripes
+
+  abbrev d : ℕ
+  d = within.fileid.0
+
+  abbrev was : ℕ → StripeValue
+  was i = stripe_value (placed old.stripes.at i)
+
+  -- what is known of a place is known of a stripe
+  at-place : (i : ℕ) (x : Option (FilerStripe P)) → i < n → slice_get old.stripes.at i ≡ Some x → stripe_at (logical_before old).stripes i ≡ stripe_value x
+  at-place i x less e = each-index was no_stripe n i less ∙ ap (λ o. stripe_value (in_one o)) e
+
+  place-filled : (i : ℕ) → i < n → (x : Option (FilerStripe P)) × (slice_get old.stripes.at i ≡ Some x) × (is_some x ≡ true)
+  place-filled i less = by (slice_get old.stripes.at i) refl
+    where
+      has : (o : Option (Option (FilerStripe P))) → slice_get old.stripes.at i ≡ o → IsSome (get (stripe_value (in_one o)).cards root)
+      has o e = subst (λ (s : StripeValue). IsSome (get s.cards root)) (each-index was no_stripe n i less ∙ ap (λ x. stripe_value (in_one x)) e)
+          (may.root_there i less)
+
+      by : (o : Option (Option (FilerStripe P))) → slice_get old.stripes.at i ≡ o
+          → (x : Option (FilerStripe P)) × (slice_get old.stripes.at i ≡ Some x) × (is_some x ≡ true)
+      by None e = absurd (let no : false ≡ true = there-of {P = P} root None (has None e) in cc)
+      by (Some x) e = (x, e, there-of root x (has (Some x) e))
+
+  place-none : (i : ℕ) (x : Option (FilerStripe P)) → i < n → slice_get old.stripes.at i ≡ Some x → get (stripe_value x).cards f ≡ None
+  place-none i x less e =
+      ap (λ (q : ℕ). get (stripe_value x).cards q) is
+      ∙ sym (ap (λ (s : StripeValue). get s.cards old.own.inodes.next) (at-place i x less e)) ∙ may.no_card i less
+
+  apart-of : (d == f) ≡ false
+  apart-of = ap (λ (q : ℕ). d == q) is ∙ may.apart
+
+  module _ (one two : FilerLogical P) (created : one.own ≡ with_inodes (inode_created made old.own.inodes) old.own) (same : one.stripes ≡ old.stripes)
+      (others : InFirst (DiffersByCard f) one.own.stripes one.stripes.at two.stripes.at) where
+    differs : InFirst (DiffersByCard f) n old.stripes.at two.stripes.at
+    differs = subst (λ (m : ℕ). InFirst (DiffersByCard f) m old.stripes.at two.stripes.at) (ap (λ (l : LogicalValue). l.stripes) created)
+        (subst (λ xs. InFirst (DiffersByCard f) one.own.stripes xs two.stripes.at) (ap (λ s. s.at) same) others)
+
+    -- where memory ran out
+    module _ (failed : without_directory f two.own ≡ without_directory f one.own) where
+      pub was-made : is_some (inode_of two.own.inodes (two.own.inodes.next - 1)) ≡ true
+      was-made =
+          ap (λ (l : LogicalValue). is_some (inode_of l.inodes (l.inodes.next - 1))) failed
+          ∙ ap (λ (l : LogicalValue). is_some (inode_of l.inodes (l.inodes.next - 1))) created
+          ∙ made-last old.own.inodes made
+
+      pub all-back : (three : FilerLogical P) → three.own ≡ node_unmade f two.own → InFirst (IsDropped f) two.own.stripes two.stripes.at three.stripes.at
+          → three ≡ old
+      all-back three gone dropped = λ j. record { own = own j; stripes = record { at = at j } }
+        where
+          unmade : LogicalValue → LogicalValue
+          unmade l = with_inodes (inode_unmade l.inodes) l
+
+          own : three.own ≡ old.own
+          own =
+              gone ∙ ap unmade failed ∙ ap (node_unmade f) created
+              ∙ (λ j. record old.own {
+                inodes = unmade-created old.own.inodes made may.inodes j;
+                directories = remove-absent old.own.directories f (ap (λ (q : ℕ). get old.own.directories q) is ∙ may.no_directory) j;
+              })
+
+          count : two.own.stripes ≡ n
+          count = ap (λ (l : LogicalValue). l.stripes) failed ∙ ap (λ (l : LogicalValue). l.stripes) created
+
+          at : three.stripes.at ≡ old.stripes.at
+          at = cards-back f n old.stripes.at two.stripes.at three.stripes.at place-none differs
+              (subst (λ (m : ℕ). InFirst (IsDropped f) m two.stripes.at three.stripes.at) count dropped)
+
+    -- where it didn't
+    module _ (three : FilerLogical P) (stripes : three.stripes ≡ two.stripes) where
+      pub places-alike : AreFilledAlike old.stripes.at three.stripes.at
+      places-alike = subst (λ s. AreFilledAlike old.stripes.at s.at) (sym stripes) (cards-alike f n old.stripes.at two.stripes.at differs)
+
+      pub all-made : (title : List ℕ) → title ≡ name
+          → two.own ≡ with_directories (changed_at (added title f) d (directories_made made.kind f one.own.directories)) one.own
+          → InFirst (HasCard made.kind f) one.own.stripes one.stripes.at two.stripes.at
+          → three.own ≡ with_inodes (inode_set d (inode_dated (naming_within within name (logical_before old)).inode made.kind
+          (naming_within within name (logical_before old)).moment) two.own.inodes) two.own
+          → logical_after old three ≡ node_made (making_of (naming_within within name (logical_before old)) made) (logical_before old)
+      all-made title titled tied cards set = λ j. record { own = own j; stripes = placed_now j }
+        where
+          dated : Inode
+          dated = inode_dated (naming_within within name (logical_before old)).inode made.kind (naming_within within name (logical_before old)).moment
+
+          entries : DirectoryValue
+          entries = (naming_within within name (logical_before old)).entries
+
+          entered : changed_at (added title f) d (directories_made made.kind f old.own.directories)
+              ≡ changed_value (added name f) (Some entries) d (directories_made made.kind f old.own.directories)
+          entered =
+              ap (λ t. changed_at (added t f) d (directories_made made.kind f old.own.directories)) titled
+              ∙ ap (λ o. changed_value (added name f) o d (directories_made made.kind f old.own.directories))
+              (made-get made.kind f old.own d apart-of ∙ may.entered)
+
+          own : three.own ≡ (node_made (making_of (naming_within within name (logical_before old)) made) (logical_before old)).own
+          own =
+              set ∙ ap (λ (l : LogicalValue). with_inodes (inode_set d dated l.inodes) l) tied
+              ∙ ap (λ (l : LogicalValue). with_inodes (inode_set d dated l.inodes)
+              (with_directories (changed_at (added title f) d (directories_made made.kind f l.directories)) l)) created
+              ∙ ap (λ directories. with_inodes (inode_set d dated (inode_created made old.own.inodes)) (with_directories directories old.own)) entered
+              ∙ ap (λ (q : ℕ). with_inodes (inode_set d dated (inode_created made old.own.inodes))
+              (with_directories (changed_value (added name q) (Some entries) d (directories_made made.kind q old.own.directories)) old.own)) is
+
+          has : InFirst (HasCard made.kind f) n old.stripes.at two.stripes.at
+          has = subst (λ (m : ℕ). InFirst (HasCard made.kind f) m old.stripes.at two.stripes.at) (ap (λ (l : LogicalValue). l.stripes) created)
+              (subst (λ xs. InFirst (HasCard made.kind f) one.own.stripes xs two.stripes.at) (ap (λ s. s.at) same) cards)
+
+          placed_now : (logical_after old three).stripes ≡ map (card_made made.kind old.own.inodes.next) (logical_before old).stripes
+          placed_now =
+              ap (λ s. each (λ i. stripe_value (placed s.at i)) 0 n) stripes
+              ∙ cards-made made.kind f n old.stripes.at two.stripes.at place-filled has
+              ∙ ap (λ (q : ℕ). map (card_made made.kind q) (each was 0 n)) is

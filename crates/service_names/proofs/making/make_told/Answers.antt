@@ -1,0 +1,23 @@
+use Rattle.std.proofs.Common.{◌∙◌, ℕ, ap, None}
+use Rattle.nfs_model.specs.Server.{handle_bytes}
+use Rattle.nfs_model.specs.Types.{MadeDone}
+use Rattle.nfs_values.specs.Moment.{moment_of}
+use Rattle.volume_values.specs.Inodes.{Inode}
+use Rattle.inodes.specs.Inode.{inode_value}
+use Rattle.held_state.specs.Changes.{shown_inode}
+use Rattle.held_state.specs.Sets.{logical_before}
+use Rattle.held_changes.specs.Named.{directory_change}
+use Rattle.service_names.specs.Making.{naming_within}
+use Rattle.service_names.proofs.making.make_told.Goals as goal
+
+pub returns-clause-told : goal.returns-clause-told
+returns-clause-told c =
+    let v = c.args.within.volume.0 in
+    let set = logical_before c.args.held.now in
+    let made = inode_value c.args.made in
+    let next = c.in_ok-fileid.ensures.fileid in
+    let handle = c.naming.ensures ∙ ap (handle_bytes v) next in
+    let object = c.shown.ensures ∙ ap (λ (q : ℕ). shown_inode v q made None) next in
+    let directory = c.directory_change.ensures c.args.name.now (moment_of c.args.within.moment) set
+    ∙ ap (λ (i : Inode). directory_change (naming_within c.args.within c.args.name.now set) i) c.dated.ensures in
+    λ j. MadeDone (handle j) (object j) (directory j)

@@ -1,0 +1,26 @@
+use Rattle.std.proofs.Common.{◌∙◌, ap, sym}
+use Rattle.nfs_model.specs.Types.{SetAttributes}
+use Rattle.nfs_model.specs.Serial.Create.{asked_attributes}
+use Rattle.nfs_values.specs.Credential.{credential_of}
+use Rattle.nfs_values.specs.Moment.{moment_of}
+use Rattle.nfs_values.specs.Set.{mode_of}
+use Rattle.held_state.specs.Sets.{logical_before}
+use Rattle.held_changes.specs.Making.{create_check, file_inode}
+use Rattle.service_names.specs.Making.{naming_within}
+use Rattle.service_names.proofs.News.{would-make, create-not-full}
+use Rattle.service_names.proofs.Tying.{on-err}
+use Rattle.service_names.proofs.making_new.create_new.Goals as goal
+
+pub make_told-requires-clause-may : goal.make_told-requires-clause-may
+make_told-requires-clause-may c =
+    let set = logical_before c.args.held.now in
+    c.requires.may (create-not-full (asked_attributes (mode_of c.args.mode.now)) set
+    (ap (λ (a : SetAttributes). create_check a set) (sym c.asked_attributes.ensures) ∙ sym c.in_default.ensures))
+
+pub returns-in_err-told-clause-would : goal.returns-in_err-told-clause-would
+returns-in_err-told-clause-would c =
+    let set = logical_before c.args.held.now in
+    on-err c.from_residual.result
+    (would-make (create_check (asked_attributes (mode_of c.args.mode.now)) set) (naming_within c.args.within c.args.name.now set)
+    (file_inode (mode_of c.args.mode.now) (credential_of c.args.credential) (moment_of c.args.within.moment))
+    (ap (λ (a : SetAttributes). create_check a set) (sym c.asked_attributes.ensures) ∙ sym c.in_default.ensures))

@@ -1,0 +1,22 @@
+use Rattle.std.proofs.Common.{sym}
+use Rattle.nfs_values.specs.Credential.{credential_of}
+use Rattle.nfs_values.specs.Moment.{moment_of}
+use Rattle.nfs_values.specs.Set.{set_of}
+use Rattle.held_state.specs.Sets.{logical_before}
+use Rattle.held_changes.specs.Making.{mkdir_check, folder_inode}
+use Rattle.service_names.specs.Making.{naming_within}
+use Rattle.service_names.proofs.News.{would-make, mkdir-not-full}
+use Rattle.service_names.proofs.Tying.{on-err}
+use Rattle.service_names.proofs.making_new.make_new.Goals as goal
+
+pub make_told-requires-clause-may : goal.make_told-requires-clause-may
+make_told-requires-clause-may c =
+    c.requires.may (mkdir-not-full (set_of c.args.set.now) (logical_before c.args.held.now) (sym c.in_default.ensures))
+
+pub returns-in_err-told-clause-would : goal.returns-in_err-told-clause-would
+returns-in_err-told-clause-would c =
+    let set = logical_before c.args.held.now in
+    on-err c.from_residual.result
+    (would-make (mkdir_check (set_of c.args.set.now) set) (naming_within c.args.within c.args.name.now set)
+    (folder_inode c.args.within.fileid.0 (set_of c.args.set.now) (credential_of c.args.credential) (moment_of c.args.within.moment))
+    (sym c.in_default.ensures))

@@ -1,0 +1,56 @@
+-- What calls that make nodes take, and leave.
+use Rattle.std.specs.Prelude.{◌≡◌, ℕ, ◌<◌, ◌≤◌, ◌^◌, ◌==◌, false, List, Some, None, IsSome, IfSome}
+use Rattle.std.specs.FinMap.{get, remove}
+use Rattle.nfs_model.specs.Types.{Moment, Shown, Wcc, Answer, MadeDone}
+use Rattle.nfs_model.specs.Server.{most_inodes}
+use Rattle.nfs_values.specs.Moment.{moment_of}
+use Rattle.inodes.specs.Inode.{inode_value}
+use Rattle.volume_values.specs.Directories.{found}
+use Rattle.volume_values.specs.Inodes.{InodeKind, Inode, IsInodes, inode_unmade}
+use Rattle.volume_values.specs.Logical.{LogicalValue}
+use Rattle.held_state.specs.Lenses.{LogicalSet}
+use Rattle.held_state.specs.Names.{root, subdirectories_in}
+use Rattle.held_state.specs.Tree.{stripe_at}
+use Rattle.held_nodes.specs.Making.{folders_in, with_subdirectories}
+use Rattle.held_changes.specs.Named.{HeldNaming}
+use Rattle.service_names.specs.Naming.{naming_in}
+use Rattle.service_names.specs.declared.within.Within.{Within}
+
+-- a name in the directory of a call
+abbrev pub naming_within : Within → List ℕ → LogicalSet → HeldNaming
+naming_within w name s = naming_in w.volume.0 w.fileid.0 (inode_value w.inode) name (moment_of w.moment) s
+
+-- without the directory of a fileid
+abbrev pub without_directory : ℕ → LogicalValue → LogicalValue
+without_directory fileid l = record l { directories = remove l.directories fileid }
+
+-- without the node of a fileid, which was made last
+abbrev pub node_unmade : ℕ → LogicalValue → LogicalValue
+node_unmade fileid l = record l { inodes = inode_unmade l.inodes; directories = remove l.directories fileid }
+
+-- a directory in which a node of a kind is made at a moment: both times are the moment's
+abbrev pub inode_dated : Inode → InodeKind → Moment → Inode
+inode_dated inode made moment = record {
+  attributes = record inode.attributes { mtime = moment; ctime = moment };
+  kind = with_subdirectories (folders_in made) inode.kind;
+}
+
+-- What making a node under a name takes: there are no more stripes than places, each with the root's card; numbers have room for one
+-- more; the directory is there, and doesn't have the name; the next fileid is that of no inode, no directory and no card.
+pub record MayMake (n : HeldNaming) : Type 0 where
+  pub few : n.set.own.stripes ≤ 16
+  pub root_there : (i : ℕ) → i < n.set.own.stripes → IsSome (get (stripe_at n.set.stripes i).cards root)
+  pub fileids : n.set.own.inodes.next < 2 ^ 63
+  pub used : n.set.own.inodes.used < 2 ^ 63
+  pub links : IfSome (subdirectories_in n.inode.kind) (λ subdirectories. subdirectories < most_inodes)
+  pub entered : get n.set.own.directories n.fileid ≡ Some n.entries
+  pub cookies : n.entries.next < 2 ^ 63
+  pub absent : found n.entries n.name ≡ None
+  pub apart : (n.fileid == n.set.own.inodes.next) ≡ false
+  pub inodes : IsInodes n.set.own.inodes
+  pub no_directory : get n.set.own.directories n.set.own.inodes.next ≡ None
+  pub no_card : (i : ℕ) → i < n.set.own.stripes → get (stripe_at n.set.stripes i).cards n.set.own.inodes.next ≡ None
+
+-- an answer tells that a node was made
+abbrev pub Makes : Answer → Type 0
+Makes answer = (made : List ℕ) × (object : Shown) × (directory : Wcc) × (answer ≡ MadeDone made object directory)

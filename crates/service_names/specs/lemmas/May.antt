@@ -1,0 +1,140 @@
+-- What a sound volume has for a node to be made in it.
+use Rattle.std.proofs.Common.{◌≡◌, ℕ, ◌*◌, ◌<◌, ◌≤◌, true, false, List, Option, Some, None, refl, sym, ap, ◌∙◌, subst, arith, ⊎_elim, []}
+use Rattle.std.proofs.lemmas.Bool.Decides.{nat_tests}
+use Rattle.std.specs.Prelude.{is_some, IsSome, IfSome, nat_le}
+use Rattle.std.specs.Option.{option_map}
+use Rattle.std.specs.FinMap.{get, len}
+use Rattle.nfs_model.specs.Parts.{Hand, range_blocks}
+use Rattle.nfs_model.specs.Server.{most_inodes}
+use Rattle.nfs_model.specs.Types.{Listed}
+use Rattle.depot_rule.specs.Shares.{too_many}
+use Rattle.volume_values.specs.Directories.{DirectoryValue, found, fileid_found}
+use Rattle.volume_values.specs.Inodes.{InodeKind, RegularFile, Folder, Inode}
+use Rattle.volume_values.specs.Stripes.{Card}
+use Rattle.volume_values.specs.lemmas.Inodes.{next-absent}
+use Rattle.inodes.specs.Inode.{inode_value}
+use Rattle.held_state.specs.Contents.{VolumeContents}
+use Rattle.held_state.specs.Names.{root, size_in, is_folder, parent_directory, subdirectories_in, subdirectories_of, folders_listed}
+use Rattle.held_state.specs.WellFormed.{WellFormed, size_shown}
+use Rattle.held_state.specs.Sound.{IsSound}
+use Rattle.held_state.specs.Lenses.{LogicalSet, logical_lens}
+use Rattle.held_state.specs.Promises.{HasVolume}
+use Rattle.held_state.specs.Tree.{stripe_at, directory_or_empty, ranges_used}
+use Rattle.held_laws.specs.lemmas.Limits.{few-folders, used-fits, ranges-fit}
+use Rattle.held_names.specs.Answers.{entries_of}
+use Rattle.held_changes.specs.Making.{is_full_set}
+use Rattle.held_changes.specs.Named.{node_at, node_there}
+use Rattle.held_changes.specs.lemmas.Named.{entry-there}
+use Rattle.service_names.specs.declared.within.Within.{Within}
+use Rattle.service_names.specs.Making.{MayMake, naming_within}
+
+shown-some : (o : Option Card) (q : Option Inode) → option_map size_shown o ≡ option_map (λ (i : Inode). size_in i.kind) q → parent_directory q ≡ Some root
+    → IsSome o
+shown-some None None e h = absurd cc
+shown-some None (Some i) e h = absurd cc
+shown-some (Some c) q e h = refl
+
+shown-none : (o : Option Card) → option_map size_shown o ≡ None → o ≡ None
+shown-none None e = refl
+shown-none (Some c) e = absurd cc
+
+entered-by : (o : Option DirectoryValue) → is_some o ≡ true → o ≡ Some (directory_or_empty o)
+entered-by None e = absurd cc
+entered-by (Some d) e = refl
+
+no-entries : (o : Option DirectoryValue) → is_some o ≡ false → o ≡ None
+no-entries None e = refl
+no-entries (Some d) e = absurd cc
+
+not-found : (o : Option Listed) → option_map (λ (e : Listed). e.fileid) o ≡ None → o ≡ None
+not-found None e = refl
+not-found (Some x) e = absurd cc
+
+-- a node that isn't there has no inode
+no-inode : (q : ℕ) (o : Option Inode) → node_there q o ≡ None → o ≡ None
+no-inode q None e = refl
+no-inode q (Some i) e = absurd cc
+
+-- a name under which no node is has no entry
+volume-absent : (p : VolumeContents) → WellFormed p → (d : ℕ) (inode : Inode) (name : List ℕ) → get p.logical.inodes.inodes d ≡ Some inode
+    → is_folder (Some inode) ≡ true → node_at (logical_lens.of p) (fileid_found (entries_of p.logical d) name) ≡ None
+    → fileid_found (entries_of p.logical d) name ≡ None
+volume-absent p well d inode name there folder none = by (found (entries_of p.logical d) name) refl none
+  where
+    entered : get p.logical.directories d ≡ Some (entries_of p.logical d)
+    entered = entered-by (get p.logical.directories d) (well.logical.named.folders d ∙ ap is_folder there ∙ folder)
+
+    by : (o : Option Listed) → found (entries_of p.logical d) name ≡ o
+        → node_at (logical_lens.of p) (option_map (λ (e : Listed). e.fileid) o) ≡ None → option_map (λ (e : Listed). e.fileid) o ≡ None
+    by None is h = refl
+    by (Some e) is h =
+        absurd (entry-there p well d name (entries_of p.logical d) entered e is (no-inode e.fileid (get p.logical.inodes.inodes e.fileid) h))
+
+module _ (p : VolumeContents) (hands hands' : List Hand) (made : ℕ) (few : made < too_many) (sound : IsSound p hands made) (w : Within) (name : List ℕ) where
+  abbrev well : WellFormed p
+  well = sound.well_formed
+
+  abbrev d : ℕ
+  d = w.fileid.0
+
+  abbrev inode : Inode
+  inode = inode_value w.inode
+
+  links-by : (k : InodeKind) → inode.kind ≡ k → (e : DirectoryValue) → get p.logical.directories d ≡ Some e → get p.logical.inodes.inodes d ≡ Some inode
+      → is_full_set (logical_lens.of p) ≡ false → IfSome (subdirectories_in k) (λ subdirectories. subdirectories < most_inodes)
+  links-by (RegularFile size filled verifier) is e entered there room = tt
+  links-by (Folder parent subs) is e entered there room =
+      let counted : Some subs ≡ Some (folders_listed p.logical.inodes.inodes e.list) =
+      sym (ap subdirectories_of there ∙ ap subdirectories_in is) ∙ (well.logical.named.fits d e entered).links in
+      let same : subs ≡ folders_listed p.logical.inodes.inodes e.list = cc in
+      let most = few-folders p.logical.inodes.inodes p.logical.directories well.logical.named d e entered in
+      let left : nat_le most_inodes (len p.logical.inodes.inodes) ≡ false = room in
+      grind (arith, nat_tests, same, most, left)
+
+  volume-may : get p.logical.inodes.inodes d ≡ Some inode → is_folder (Some inode) ≡ true → fileid_found (entries_of p.logical d) name ≡ None
+      → is_full_set (logical_lens.of p) ≡ false → MayMake (naming_within w name (logical_lens.of p))
+  volume-may there folder absent room =
+      let entered : get p.logical.directories d ≡ Some (entries_of p.logical d) =
+      entered-by (get p.logical.directories d) (well.logical.named.folders d ∙ ap is_folder there ∙ folder) in
+      let many = well.as_many in
+      record {
+        few = ⊎_elim (λ (e : p.logical.stripes ≡ 8). omega arith) (λ (e : p.logical.stripes ≡ 16). omega arith) well.striped;
+        root_there = λ i less.
+            shown-some (get (stripe_at p.stripes i).cards root) (get p.logical.inodes.inodes root)
+            ((well.stripes i (omega (arith, less, many))).cards root) well.logical.named.root_there;
+        fileids = let y = sound.young.fileids in omega (arith, few, y);
+        used =
+            let fits : p.logical.inodes.used ≤ range_blocks * ranges_used p.ranges = used-fits p hands well sound.partition in
+            let ranges = ranges-fit p.ranges in
+            let sixteen = well.sixteen in
+            omega arith;
+        links = links-by inode.kind refl (entries_of p.logical d) entered there room;
+        entered = entered;
+        cookies = let y = sound.young.cookies d (entries_of p.logical d) entered in omega (arith, few, y);
+        absent = not-found (found (entries_of p.logical d) name) absent;
+        apart = let below = well.logical.inodes.fileids d inode there in grind (arith, nat_tests, below);
+        inodes = well.logical.inodes;
+        no_directory = no-entries (get p.logical.directories p.logical.inodes.next)
+            (well.logical.named.folders p.logical.inodes.next ∙ ap is_folder (next-absent p.logical.inodes well.logical.inodes));
+        no_card = λ i less.
+            shown-none (get (stripe_at p.stripes i).cards p.logical.inodes.next)
+            ((well.stripes i (omega (arith, less, many))).cards p.logical.inodes.next
+            ∙ ap (option_map (λ (x : Inode). size_in x.kind)) (next-absent p.logical.inodes well.logical.inodes));
+      }
+
+-- a directory may get a node under a name that it doesn't have, where an inode is left
+pub whole-may : (v : ℕ) (set : LogicalSet) → HasVolume v logical_lens [] set → (w : Within) (name : List ℕ)
+    → get set.own.inodes.inodes w.fileid.0 ≡ Some (inode_value w.inode) → is_folder (Some (inode_value w.inode)) ≡ true
+    → fileid_found (entries_of set.own w.fileid.0) name ≡ None → is_full_set set ≡ false → MayMake (naming_within w name set)
+whole-may v set whole w name =
+    subst (λ (s : LogicalSet). get s.own.inodes.inodes w.fileid.0 ≡ Some (inode_value w.inode) → is_folder (Some (inode_value w.inode)) ≡ true
+    → fileid_found (entries_of s.own w.fileid.0) name ≡ None → is_full_set s ≡ false → MayMake (naming_within w name s)) whole.4
+    (volume-may whole.0 whole.1 whole.2 whole.3 whole.6 whole.8 w name)
+
+pub whole-absent : (v : ℕ) (set : LogicalSet) → HasVolume v logical_lens [] set → (d : ℕ) (inode : Inode) (name : List ℕ)
+    → get set.own.inodes.inodes d ≡ Some inode → is_folder (Some inode) ≡ true → node_at set (fileid_found (entries_of set.own d) name) ≡ None
+    → fileid_found (entries_of set.own d) name ≡ None
+whole-absent v set whole d inode name =
+    subst (λ (s : LogicalSet). get s.own.inodes.inodes d ≡ Some inode → is_folder (Some inode) ≡ true
+    → node_at s (fileid_found (entries_of s.own d) name) ≡ None → fileid_found (entries_of s.own d) name ≡ None) whole.4
+    (volume-absent whole.0 whole.8.well_formed d inode name)

@@ -1,0 +1,85 @@
+//! The cards of a new node, in the stripes of its volume.
+
+ghost use Rattle.std.specs.Prelude.{◌≡◌, ◌≤◌, OnOk};
+ghost use Rattle.inodes.specs.Inode.{kind_value};
+ghost use Rattle.held_nodes.specs.Making.{card_made};
+ghost use Rattle.volume_values.specs.Stripes.{card_dropped};
+ghost use Rattle.service_names.specs.Cards.{InFirst, DiffersByCard, HasCard, IsDropped};
+
+use inodes::InodeKind;
+use nfs_values::Fileid;
+use parcel_sets::{LogicalHeld, StripeHeld};
+use parcels::Files;
+use std::alloc::AllocError;
+use stripes::Stripe;
+
+/// Puts the card of a new node into each stripe of its volume. Where memory runs out some stripes
+/// may have it.
+pub(crate) fn put_cards(
+    held: &mut LogicalHeld<Files>,
+    fileid: Fileid,
+    kind: InodeKind,
+) -> Result<(), AllocError>
+    requires few { held.old.own.stripes ≤ 16 }
+    ensures own { held.new.own ≡ held.old.own }
+    ensures others { InFirst (DiffersByCard fileid.0) held.old.own.stripes
+        held.old.stripes.at held.new.stripes.at }
+    ensures ok { OnOk result (InFirst (HasCard (kind_value kind) fileid.0) held.old.own.stripes
+        held.old.stripes.at held.new.stripes.at) }
+{
+    let mut left = held.own.get().stripes as usize;
+    while left > 0 {
+        left -= 1;
+        put_card(&mut held.stripes.at[left], fileid, kind)?;
+    }
+    Ok(())
+}
+
+/// Takes the card of a node out of each stripe of its volume. It takes no memory.
+pub(crate) fn drop_cards(held: &mut LogicalHeld<Files>, fileid: Fileid)
+    requires few { held.old.own.stripes ≤ 16 }
+    ensures own { held.new.own ≡ held.old.own }
+    ensures dropped { InFirst (IsDropped fileid.0) held.old.own.stripes
+        held.old.stripes.at held.new.stripes.at }
+{
+    let mut left = held.own.get().stripes as usize;
+    while left > 0 {
+        left -= 1;
+        drop_card(&mut held.stripes.at[left], fileid);
+    }
+}
+
+/// Puts the card of a new node into the stripe in a place.
+fn put_card(
+    place: &mut Option<StripeHeld<Files>>,
+    fileid: Fileid,
+    kind: InodeKind,
+) -> Result<(), AllocError>
+    ensures others { DiffersByCard fileid.0 place.old place.new }
+    ensures ok { OnOk result (HasCard (kind_value kind) fileid.0 place.old place.new) }
+{
+    match place {
+        Some(stripe) => put_in(stripe.own.get_mut(), fileid, kind),
+        None => Ok(()),
+    }
+}
+
+/// Puts the card of a new node into a stripe.
+fn put_in(stripe: &mut Stripe, fileid: Fileid, kind: InodeKind) -> Result<(), AllocError>
+    ensures others { card_dropped fileid.0 stripe.new ≡ card_dropped fileid.0 stripe.old }
+    ensures ok { OnOk result (stripe.new ≡ card_made (kind_value kind) fileid.0 stripe.old) }
+{
+    match kind {
+        InodeKind::RegularFile { size, .. } => stripe.set_file_card(fileid, size),
+        InodeKind::Directory { .. } => stripe.set_directory_card(fileid),
+    }
+}
+
+/// Takes the card of a node out of the stripe in a place.
+fn drop_card(place: &mut Option<StripeHeld<Files>>, fileid: Fileid)
+    ensures { IsDropped fileid.0 place.old place.new }
+{
+    if let Some(stripe) = place {
+        stripe.own.get_mut().drop_card(fileid);
+    }
+}

@@ -1,0 +1,172 @@
+//! CREATE and MKDIR.
+
+ghost use Rattle.std.specs.Prelude.{◌≡◌, [], IfOk, None, OnErr, OnOk};
+ghost use Rattle.nfs_values.specs.Answer.{answer_of};
+ghost use Rattle.nfs_values.specs.Credential.{credential_of};
+ghost use Rattle.nfs_values.specs.Moment.{moment_of};
+ghost use Rattle.nfs_values.specs.Set.{mode_of, set_of};
+ghost use Rattle.nfs_values.specs.declared.answer.Answer.TheVariants as answers;
+ghost use Rattle.volume_values.specs.Directories.{fileid_found};
+ghost use Rattle.parcel_sets.specs.Filled.{logical_alike};
+ghost use Rattle.held_state.specs.Lenses.{logical_lens};
+ghost use Rattle.held_state.specs.Promises.{HasVolume};
+ghost use Rattle.held_state.specs.Sets.{logical_before, logical_after};
+ghost use Rattle.held_names.specs.Answers.{entries_of};
+ghost use Rattle.held_changes.specs.Laws.{create_done, mkdir_done};
+ghost use Rattle.service_names.specs.Making.{Makes};
+ghost use Rattle.service_names.specs.Promises.{Creates, MakesDirectory};
+
+use crate::child::{child_at, directory_named, is_dots};
+use crate::making_new::{create_new, make_new};
+use crate::upon::create_upon;
+use crate::within::Within;
+use held_changes::making_calls_are_right;
+use nfs_values::{
+    CreateMode, Credential, Fileid, MakeResults, Moment, SetAttributes, Status, VolumeNumber,
+};
+use parcel_sets::LogicalHeld;
+use parcels::Files;
+use std::alloc::{AllocError, Global};
+
+/// CREATE (RFC 1813 section 3.3.8), on the parcels of a volume's names and attributes, at a moment:
+/// STALE, NOTDIR, what is wrong with the name, EXIST for `.` and `..`. Where the name is there, an
+/// unchecked one sets the file, an exclusive one answers the file of its verifier, and all else is
+/// EXIST. Where it isn't: INVAL for a bad time, FBIG past the largest size, NOSPC where no inode is
+/// left; else the file is made. Memory runs out only where it would make one, and then nothing has
+/// changed.
+pub fn create(
+    alloc: Global,
+    held: &mut LogicalHeld<Files>,
+    volume: VolumeNumber,
+    directory: Fileid,
+    name: &[u8],
+    mode: &CreateMode,
+    credential: Credential,
+    moment: Moment,
+) -> Result<Result<MakeResults, Status>, AllocError>
+    requires whole { HasVolume volume.0 logical_lens [] (logical_before held.old) }
+    ensures right { Creates volume.0 directory.0 name.now (mode_of mode.now)
+        (credential_of credential) (moment_of moment)
+        (logical_before held.old) result (logical_after held.old held.new) }
+    ensures starved { OnErr result (held.new ≡ held.old) }
+    ensures alike { logical_alike held.old held.new }
+{
+    making_calls_are_right();
+    file_created(
+        alloc, held, volume, directory, name, mode, credential, moment,
+    )
+}
+
+/// MKDIR (RFC 1813 section 3.3.9), likewise: STALE, NOTDIR, what is wrong with the name, EXIST
+/// where it is there, INVAL for a bad time or a size, NOSPC where no inode is left; else the
+/// directory is made. Memory runs out only where it would make one, and then nothing has changed.
+pub fn make_directory(
+    alloc: Global,
+    held: &mut LogicalHeld<Files>,
+    volume: VolumeNumber,
+    directory: Fileid,
+    name: &[u8],
+    set: &SetAttributes,
+    credential: Credential,
+    moment: Moment,
+) -> Result<Result<MakeResults, Status>, AllocError>
+    requires whole { HasVolume volume.0 logical_lens [] (logical_before held.old) }
+    ensures right { MakesDirectory volume.0 directory.0 name.now (set_of set.now)
+        (credential_of credential) (moment_of moment)
+        (logical_before held.old) result (logical_after held.old held.new) }
+    ensures starved { OnErr result (held.new ≡ held.old) }
+    ensures alike { logical_alike held.old held.new }
+{
+    making_calls_are_right();
+    directory_made(
+        alloc, held, volume, directory, name, set, credential, moment,
+    )
+}
+
+/// What CREATE comes to.
+fn file_created(
+    alloc: Global,
+    held: &mut LogicalHeld<Files>,
+    volume: VolumeNumber,
+    directory: Fileid,
+    name: &[u8],
+    mode: &CreateMode,
+    credential: Credential,
+    moment: Moment,
+) -> Result<Result<MakeResults, Status>, AllocError>
+    requires whole { HasVolume volume.0 logical_lens [] (logical_before held.old) }
+    ensures told { IfOk result (λ told. answer_of (answers.Create told)
+        ≡ (create_done volume.0 directory.0 name.now (mode_of mode.now)
+        (credential_of credential) (moment_of moment) (logical_before held.old)).answer) }
+    ensures set { OnOk result (logical_after held.old held.new
+        ≡ (create_done volume.0 directory.0 name.now (mode_of mode.now)
+        (credential_of credential) (moment_of moment) (logical_before held.old)).set) }
+    ensures would { OnErr result (Makes (create_done volume.0 directory.0 name.now
+        (mode_of mode.now) (credential_of credential) (moment_of moment)
+        (logical_before held.old)).answer) }
+    ensures absent { OnErr result
+        (fileid_found (entries_of held.old.own directory.0) name.now ≡ None) }
+    ensures starved { OnErr result (held.new ≡ held.old) }
+    ensures alike { logical_alike held.old held.new }
+{
+    let inode = match directory_named(held, directory, name) {
+        Ok(inode) => inode,
+        Err(status) => return Ok(Err(status)),
+    };
+    if is_dots(name) {
+        return Ok(Err(Status::Exists));
+    }
+    let within = Within {
+        volume,
+        fileid: directory,
+        inode,
+        moment,
+    };
+    match child_at(held, directory, name) {
+        Some(child) => Ok(create_upon(held, within, child, mode)),
+        None => create_new(alloc, held, within, name, mode, credential),
+    }
+}
+
+/// What MKDIR comes to.
+fn directory_made(
+    alloc: Global,
+    held: &mut LogicalHeld<Files>,
+    volume: VolumeNumber,
+    directory: Fileid,
+    name: &[u8],
+    set: &SetAttributes,
+    credential: Credential,
+    moment: Moment,
+) -> Result<Result<MakeResults, Status>, AllocError>
+    requires whole { HasVolume volume.0 logical_lens [] (logical_before held.old) }
+    ensures told { IfOk result (λ told. answer_of (answers.MakeDirectory told)
+        ≡ (mkdir_done volume.0 directory.0 name.now (set_of set.now)
+        (credential_of credential) (moment_of moment) (logical_before held.old)).answer) }
+    ensures set { OnOk result (logical_after held.old held.new
+        ≡ (mkdir_done volume.0 directory.0 name.now (set_of set.now)
+        (credential_of credential) (moment_of moment) (logical_before held.old)).set) }
+    ensures would { OnErr result (Makes (mkdir_done volume.0 directory.0 name.now
+        (set_of set.now) (credential_of credential) (moment_of moment)
+        (logical_before held.old)).answer) }
+    ensures starved { OnErr result (held.new ≡ held.old) }
+    ensures alike { logical_alike held.old held.new }
+{
+    let inode = match directory_named(held, directory, name) {
+        Ok(inode) => inode,
+        Err(status) => return Ok(Err(status)),
+    };
+    if is_dots(name) {
+        return Ok(Err(Status::Exists));
+    }
+    let within = Within {
+        volume,
+        fileid: directory,
+        inode,
+        moment,
+    };
+    match child_at(held, directory, name) {
+        Some(_) => Ok(Err(Status::Exists)),
+        None => make_new(alloc, held, within, name, set, credential),
+    }
+}

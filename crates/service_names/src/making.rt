@@ -1,0 +1,293 @@
+//! Nodes that are made under a name.
+
+ghost use Rattle.std.specs.Prelude.{
+  ◌≡◌,
+  ◌==◌,
+  ◌<◌,
+  ◌≤◌,
+  ◌-◌,
+  ◌^◌,
+  true,
+  false,
+  is_some,
+  None,
+  IfOk,
+  IfSome,
+  OnOk,
+  OnErr,
+};
+ghost use Rattle.std.specs.FinMap.{get};
+ghost use Rattle.nfs_model.specs.Server.{most_inodes};
+ghost use Rattle.nfs_values.specs.Answer.{node_made as made_told};
+ghost use Rattle.nfs_values.specs.Moment.{moment_of};
+ghost use Rattle.parcel_sets.specs.Filled.{logical_alike};
+ghost use Rattle.inodes.specs.Inode.{inode_value, kind_value};
+ghost use Rattle.volume_values.specs.Directories.{added, found};
+ghost use Rattle.volume_values.specs.Inodes.{filled_blocks, inode_created, inode_of, inode_set};
+ghost use Rattle.volume_values.specs.Maps.{changed_at};
+ghost use Rattle.held_state.specs.Names.{subdirectories_in};
+ghost use Rattle.held_state.specs.Sets.{logical_before, logical_after};
+ghost use Rattle.held_nodes.specs.Making.{
+  directories_made,
+  folders_in,
+  node_made,
+  with_subdirectories,
+};
+ghost use Rattle.held_changes.specs.Making.{held_made, making_of};
+ghost use Rattle.service_names.specs.Cards.{InFirst, DiffersByCard, HasCard, IsDropped};
+ghost use Rattle.service_names.specs.Changing.{with_directories, with_inodes};
+ghost use Rattle.service_names.specs.Making.{
+  MayMake,
+  naming_within,
+  inode_dated,
+  without_directory,
+  node_unmade,
+};
+ghost use Rattle.service_names.specs.Shown.{HasFewLinks};
+
+use crate::cards::{drop_cards, put_cards};
+use crate::child::directory_change;
+use crate::node::Node;
+use crate::showing::shown;
+use crate::within::Within;
+use directories::Directory;
+use inodes::{Inode, InodeKind, StoredAttributes};
+use nfs_values::{FileHandle, Fileid, MakeResults, Name, Named};
+use parcel_sets::LogicalHeld;
+use parcels::Files;
+use std::alloc::{AllocError, Global};
+
+/// Makes a node under a name of a directory, and tells it. Where memory runs out nothing has
+/// changed.
+pub(crate) fn make_told(
+    alloc: Global,
+    held: &mut LogicalHeld<Files>,
+    within: Within,
+    name: &[u8],
+    made: Inode,
+) -> Result<MakeResults, AllocError>
+    requires may { MayMake (naming_within within name.now (logical_before held.old)) }
+    requires empty { filled_blocks (kind_value made.kind) ≡ 0 }
+    requires links { HasFewLinks (kind_value made.kind) }
+    ensures told { IfOk result (λ told. made_told told ≡ (held_made
+        (naming_within within name.now (logical_before held.old)) (inode_value made)).answer) }
+    ensures set { OnOk result (logical_after held.old held.new ≡ (held_made
+        (naming_within within name.now (logical_before held.old)) (inode_value made)).set) }
+    ensures alike { logical_alike held.old held.new }
+    ensures err { OnErr result (held.new ≡ held.old) }
+{
+    let fileid = make_node(alloc, held, within, name, made)?;
+    let volume = within.volume;
+    let directory = Node {
+        fileid: within.fileid,
+        inode: within.inode,
+    };
+    Ok(MakeResults {
+        handle: FileHandle::naming(Named { volume, fileid }),
+        object: shown(volume, fileid, made, None),
+        directory: directory_change(volume, directory, dated(within, made.kind)),
+    })
+}
+
+/// Makes a node under a name of a directory, and tells its fileid. Where memory runs out nothing
+/// has changed.
+fn make_node(
+    alloc: Global,
+    held: &mut LogicalHeld<Files>,
+    within: Within,
+    name: &[u8],
+    made: Inode,
+) -> Result<Fileid, AllocError>
+    requires may { MayMake (naming_within within name.now (logical_before held.old)) }
+    requires empty { filled_blocks (kind_value made.kind) ≡ 0 }
+    ensures fileid { IfOk result (λ fileid. fileid.0 ≡ held.old.own.inodes.next) }
+    ensures ok { OnOk result (logical_after held.old held.new ≡ node_made
+        (making_of (naming_within within name.now (logical_before held.old)) (inode_value made))
+        (logical_before held.old)) }
+    ensures alike { logical_alike held.old held.new }
+    ensures err { OnErr result (held.new ≡ held.old) }
+{
+    let name = Name::new(Vec::from_slice(alloc, name)?);
+    let fileid = create_inode(held, made)?;
+    match tie(alloc, held, within.fileid, name, fileid, made.kind) {
+        Ok(()) => {
+            set_directory(held, within, made.kind);
+            Ok(fileid)
+        }
+        Err(error) => {
+            unmake(held, fileid);
+            Err(error)
+        }
+    }
+}
+
+/// Makes an inode under the next fileid.
+fn create_inode(held: &mut LogicalHeld<Files>, made: Inode) -> Result<Fileid, AllocError>
+    requires fileids { held.old.own.inodes.next < 2 ^ 63 }
+    requires used { held.old.own.inodes.used < 2 ^ 63 }
+    ensures fileid { IfOk result (λ fileid. fileid.0 ≡ held.old.own.inodes.next) }
+    ensures ok { OnOk result (held.new.own ≡ with_inodes
+        (inode_created (inode_value made) held.old.own.inodes) held.old.own) }
+    ensures err { OnErr result (held.new.own ≡ held.old.own) }
+    ensures stripes { held.new.stripes ≡ held.old.stripes }
+{
+    held.own.get_mut().inodes.create(made)
+}
+
+/// Puts what a new node has beside its inode: entries, if it is a directory, its cards, and its
+/// name. Where memory runs out some of it may be there, but not the name.
+fn tie(
+    alloc: Global,
+    held: &mut LogicalHeld<Files>,
+    directory: Fileid,
+    name: Name,
+    fileid: Fileid,
+    kind: InodeKind,
+) -> Result<(), AllocError>
+    requires few { held.old.own.stripes ≤ 16 }
+    requires apart { (directory.0 == fileid.0) ≡ false }
+    requires cookies { IfSome (get held.old.own.directories directory.0) (λ d. d.next < 2 ^ 63) }
+    requires absent { IfSome (get held.old.own.directories directory.0)
+        (λ d. found d name ≡ None) }
+    ensures own { OnOk result (held.new.own ≡ with_directories
+        (changed_at (added name fileid.0) directory.0
+        (directories_made (kind_value kind) fileid.0 held.old.own.directories)) held.old.own) }
+    ensures cards { OnOk result (InFirst (HasCard (kind_value kind) fileid.0)
+        held.old.own.stripes held.old.stripes.at held.new.stripes.at) }
+    ensures others { InFirst (DiffersByCard fileid.0) held.old.own.stripes
+        held.old.stripes.at held.new.stripes.at }
+    ensures err { OnErr result (without_directory fileid.0 held.new.own
+        ≡ without_directory fileid.0 held.old.own) }
+{
+    put_directory(alloc, held, fileid, kind)?;
+    put_cards(held, fileid, kind)?;
+    add_entry(held, directory, name, fileid)
+}
+
+/// Puts the entries of a new directory, which has none; a file has none either.
+fn put_directory(
+    alloc: Global,
+    held: &mut LogicalHeld<Files>,
+    fileid: Fileid,
+    kind: InodeKind,
+) -> Result<(), AllocError>
+    ensures ok { OnOk result (held.new.own ≡ with_directories
+        (directories_made (kind_value kind) fileid.0 held.old.own.directories) held.old.own) }
+    ensures err { OnErr result (held.new.own ≡ held.old.own) }
+    ensures stripes { held.new.stripes ≡ held.old.stripes }
+{
+    match kind {
+        InodeKind::RegularFile { .. } => Ok(()),
+        InodeKind::Directory { .. } => {
+            let entries = Directory::new(alloc);
+            held.own.get_mut().directories.insert(fileid, entries)
+        }
+    }
+}
+
+/// Adds an entry to a directory.
+fn add_entry(
+    held: &mut LogicalHeld<Files>,
+    directory: Fileid,
+    name: Name,
+    fileid: Fileid,
+) -> Result<(), AllocError>
+    requires cookies { IfSome (get held.old.own.directories directory.0) (λ d. d.next < 2 ^ 63) }
+    requires absent { IfSome (get held.old.own.directories directory.0)
+        (λ d. found d name ≡ None) }
+    ensures ok { OnOk result (held.new.own ≡ with_directories
+        (changed_at (added name fileid.0) directory.0 held.old.own.directories) held.old.own) }
+    ensures err { OnErr result (held.new.own ≡ held.old.own) }
+    ensures stripes { held.new.stripes ≡ held.old.stripes }
+{
+    let own = held.own.get_mut();
+    own.directories.add_entry(directory, name, fileid)
+}
+
+/// Takes out again what there is of a node whose inode was made last. It takes no memory.
+fn unmake(held: &mut LogicalHeld<Files>, fileid: Fileid)
+    requires few { held.old.own.stripes ≤ 16 }
+    requires made { let inodes = held.old.own.inodes in
+        is_some (inode_of inodes (inodes.next - 1)) ≡ true }
+    ensures own { held.new.own ≡ node_unmade fileid.0 held.old.own }
+    ensures cards { InFirst (IsDropped fileid.0) held.old.own.stripes
+        held.old.stripes.at held.new.stripes.at }
+{
+    drop_cards(held, fileid);
+    drop_inode(held, fileid);
+}
+
+/// Takes out the inode that was made last, and the entries of its fileid.
+fn drop_inode(held: &mut LogicalHeld<Files>, fileid: Fileid)
+    requires { let inodes = held.old.own.inodes in
+        is_some (inode_of inodes (inodes.next - 1)) ≡ true }
+    ensures own { held.new.own ≡ node_unmade fileid.0 held.old.own }
+    ensures stripes { held.new.stripes ≡ held.old.stripes }
+{
+    let own = held.own.get_mut();
+    own.directories.remove(fileid);
+    own.inodes.undo_create();
+}
+
+/// Sets the inode of a directory in which a node of a kind is made.
+fn set_directory(held: &mut LogicalHeld<Files>, within: Within, made: InodeKind)
+    requires used { held.old.own.inodes.used < 2 ^ 63 }
+    requires links { IfSome (subdirectories_in (kind_value within.inode.kind))
+        (λ subdirectories. subdirectories < most_inodes) }
+    ensures own { held.new.own ≡ with_inodes (inode_set within.fileid.0
+        (inode_dated (inode_value within.inode) (kind_value made) (moment_of within.moment))
+        held.old.own.inodes) held.old.own }
+    ensures stripes { held.new.stripes ≡ held.old.stripes }
+{
+    let changed = dated(within, made);
+    held.own.get_mut().inodes.set(within.fileid, changed);
+}
+
+/// The inode of a directory in which a node of a kind is made: both times are the moment's, and a
+/// directory is one more subdirectory.
+fn dated(within: Within, made: InodeKind) -> Inode
+    requires { IfSome (subdirectories_in (kind_value within.inode.kind))
+        (λ subdirectories. subdirectories < most_inodes) }
+    ensures { inode_value result ≡ inode_dated (inode_value within.inode) (kind_value made)
+        (moment_of within.moment) }
+{
+    let attributes = StoredAttributes {
+        mtime: within.moment,
+        ctime: within.moment,
+        ..within.inode.attributes
+    };
+    Inode {
+        attributes,
+        kind: with_child(within.inode.kind, made),
+    }
+}
+
+/// What a directory is in which a node of a kind is made.
+fn with_child(kind: InodeKind, made: InodeKind) -> InodeKind
+    requires { IfSome (subdirectories_in (kind_value kind))
+        (λ subdirectories. subdirectories < most_inodes) }
+    ensures { kind_value result
+        ≡ with_subdirectories (folders_in (kind_value made)) (kind_value kind) }
+{
+    match kind {
+        InodeKind::RegularFile { .. } => kind,
+        InodeKind::Directory {
+            parent,
+            subdirectories,
+        } => InodeKind::Directory {
+            parent,
+            subdirectories: subdirectories + folders_in(made),
+        },
+    }
+}
+
+/// How many directories a node is.
+fn folders_in(kind: InodeKind) -> u32
+    ensures told { result ≡ folders_in (kind_value kind) }
+    ensures most { result ≤ 1 }
+{
+    match kind {
+        InodeKind::RegularFile { .. } => 0,
+        InodeKind::Directory { .. } => 1,
+    }
+}

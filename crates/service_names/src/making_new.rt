@@ -1,0 +1,138 @@
+//! CREATE and MKDIR of a name that isn't there.
+
+ghost use Rattle.std.specs.Prelude.{◌≡◌, false, None, IfOk, OnOk, OnErr};
+ghost use Rattle.std.specs.Option.{option_map};
+ghost use Rattle.nfs_values.specs.Answer.{answer_of};
+ghost use Rattle.nfs_values.specs.declared.answer.Answer.TheVariants.{Create, MakeDirectory};
+ghost use Rattle.nfs_values.specs.Credential.{credential_of};
+ghost use Rattle.nfs_values.specs.Set.{mode_of, set_of};
+ghost use Rattle.nfs_values.specs.Status.{status_of};
+ghost use Rattle.parcel_sets.specs.Filled.{logical_alike};
+ghost use Rattle.held_state.specs.Sets.{logical_before, logical_after};
+ghost use Rattle.held_changes.specs.Making.{
+  create_by,
+  create_check,
+  is_full_set,
+  mkdir_by,
+  mkdir_check,
+};
+ghost use Rattle.service_names.specs.Making.{MayMake, naming_within, Makes};
+
+use crate::attributes::{has_bad_time, is_past};
+use crate::making::make_told;
+use crate::new_inodes::{asked_attributes, file_inode, folder_inode};
+use crate::within::Within;
+use nfs_values::{CreateMode, Credential, MakeResults, SetAttributes, Status};
+use parcel_sets::LogicalHeld;
+use parcels::Files;
+use std::alloc::{AllocError, Global};
+
+/// The most inodes of a volume.
+const MOST_INODES: usize = 65_536;
+
+/// CREATE of a name that isn't there: INVAL for a bad time, FBIG past the largest size, NOSPC
+/// where no inode is left; else the file is made. Where memory runs out nothing has changed.
+pub(crate) fn create_new(
+    alloc: Global,
+    held: &mut LogicalHeld<Files>,
+    within: Within,
+    name: &[u8],
+    mode: &CreateMode,
+    credential: Credential,
+) -> Result<Result<MakeResults, Status>, AllocError>
+    requires may { is_full_set (logical_before held.old) ≡ false
+        → MayMake (naming_within within name.now (logical_before held.old)) }
+    ensures told { IfOk result (λ told. answer_of (Create told)
+        ≡ (create_by (naming_within within name.now (logical_before held.old)) (mode_of mode.now)
+        (credential_of credential) None).answer) }
+    ensures set { OnOk result (logical_after held.old held.new
+        ≡ (create_by (naming_within within name.now (logical_before held.old)) (mode_of mode.now)
+        (credential_of credential) None).set) }
+    ensures would { OnErr result (Makes (create_by
+        (naming_within within name.now (logical_before held.old)) (mode_of mode.now)
+        (credential_of credential) None).answer) }
+    ensures alike { logical_alike held.old held.new }
+    ensures err { OnErr result (held.new ≡ held.old) }
+{
+    if let Some(fault) = create_fault(held, &asked_attributes(mode)) {
+        return Ok(Err(fault));
+    }
+    let made = file_inode(mode, credential, within.moment);
+    let told = make_told(alloc, held, within, name, made)?;
+    Ok(Ok(told))
+}
+
+/// MKDIR of a name that isn't there: INVAL for a bad time or a size, NOSPC where no inode is left;
+/// else the directory is made. Where memory runs out nothing has changed.
+pub(crate) fn make_new(
+    alloc: Global,
+    held: &mut LogicalHeld<Files>,
+    within: Within,
+    name: &[u8],
+    set: &SetAttributes,
+    credential: Credential,
+) -> Result<Result<MakeResults, Status>, AllocError>
+    requires may { is_full_set (logical_before held.old) ≡ false
+        → MayMake (naming_within within name.now (logical_before held.old)) }
+    ensures told { IfOk result (λ told. answer_of (MakeDirectory told)
+        ≡ (mkdir_by (naming_within within name.now (logical_before held.old)) (set_of set.now)
+        (credential_of credential) None).answer) }
+    ensures set { OnOk result (logical_after held.old held.new
+        ≡ (mkdir_by (naming_within within name.now (logical_before held.old)) (set_of set.now)
+        (credential_of credential) None).set) }
+    ensures would { OnErr result (Makes (mkdir_by
+        (naming_within within name.now (logical_before held.old)) (set_of set.now)
+        (credential_of credential) None).answer) }
+    ensures alike { logical_alike held.old held.new }
+    ensures err { OnErr result (held.new ≡ held.old) }
+{
+    if let Some(fault) = mkdir_fault(held, set) {
+        return Ok(Err(fault));
+    }
+    let made = folder_inode(within.fileid, set, credential, within.moment);
+    let told = make_told(alloc, held, within, name, made)?;
+    Ok(Ok(told))
+}
+
+/// What hinders that a file is made with attributes: INVAL for a bad time, FBIG past the largest
+/// size, NOSPC where no inode is left.
+fn create_fault(held: &LogicalHeld<Files>, set: &SetAttributes) -> Option<Status>
+    ensures { option_map status_of result
+        ≡ create_check (set_of set.now) (logical_before held.now) }
+{
+    if has_bad_time(set) {
+        return Some(Status::Invalid);
+    }
+    if is_past(set.size, held.own.get().largest) {
+        return Some(Status::TooBig);
+    }
+    if is_full(held) {
+        return Some(Status::NoSpace);
+    }
+    None
+}
+
+/// What hinders that a directory is made with attributes: INVAL for a bad time or a size, NOSPC
+/// where no inode is left.
+fn mkdir_fault(held: &LogicalHeld<Files>, set: &SetAttributes) -> Option<Status>
+    ensures { option_map status_of result
+        ≡ mkdir_check (set_of set.now) (logical_before held.now) }
+{
+    if has_bad_time(set) {
+        return Some(Status::Invalid);
+    }
+    if set.size.is_some() {
+        return Some(Status::Invalid);
+    }
+    if is_full(held) {
+        return Some(Status::NoSpace);
+    }
+    None
+}
+
+/// Whether no inode is left.
+fn is_full(held: &LogicalHeld<Files>) -> bool
+    ensures { result ≡ is_full_set (logical_before held.now) }
+{
+    held.own.get().inodes.len() >= MOST_INODES
+}

@@ -1,0 +1,159 @@
+//! CREATE of a name that is there.
+
+ghost use Rattle.std.specs.Prelude.{◌≡◌, ◌≤◌, List, ℕ};
+ghost use Rattle.std.specs.Option.{option_map};
+ghost use Rattle.nfs_model.specs.Serial.Create.{is_verifier};
+ghost use Rattle.nfs_model.specs.Server.{handle_bytes};
+ghost use Rattle.nfs_model.specs.Types.{Exclusive, MadeDone, Unchecked};
+ghost use Rattle.nfs_values.specs.Answer.{answer_of, node_made as made_told};
+ghost use Rattle.nfs_values.specs.declared.answer.Answer.TheVariants.{Create};
+ghost use Rattle.nfs_values.specs.Moment.{moment_of};
+ghost use Rattle.nfs_values.specs.Set.{mode_of, set_of};
+ghost use Rattle.parcel_sets.specs.Filled.{logical_alike};
+ghost use Rattle.inodes.specs.Inode.{inode_value, kind_value};
+ghost use Rattle.held_state.specs.Changes.{shown_inode};
+ghost use Rattle.held_state.specs.Lenses.{LogicalSet};
+ghost use Rattle.held_state.specs.Sets.{logical_before, logical_after};
+ghost use Rattle.held_changes.specs.Making.{create_upon};
+ghost use Rattle.held_changes.specs.Named.{directory_change};
+ghost use Rattle.service_names.specs.Changing.{MayBeSet};
+ghost use Rattle.service_names.specs.Making.{naming_within};
+ghost use Rattle.service_names.specs.Naming.{node_value};
+ghost use Rattle.service_names.specs.Shown.{HasFewLinks};
+
+use crate::attributes::set_fault;
+use crate::child::directory_change;
+use crate::naming::is_same_name;
+use crate::node::Node;
+use crate::setting::set_node;
+use crate::showing::shown;
+use crate::touches::latest_touch;
+use crate::within::Within;
+use inodes::InodeKind;
+use nfs_values::{
+    CreateMode, FileHandle, MakeResults, Moment, Named, SetAttributes, Status, Verifier,
+};
+use parcel_sets::LogicalHeld;
+use parcels::Files;
+
+/// CREATE where the name is there: EXIST if it is guarded, or for a directory; an exclusive one
+/// answers the file of its verifier, and an unchecked one sets the file. It takes no memory.
+pub(crate) fn create_upon(
+    held: &mut LogicalHeld<Files>,
+    within: Within,
+    child: Node,
+    mode: &CreateMode,
+) -> Result<MakeResults, Status>
+    requires may { MayBeSet child.fileid.0 (logical_before held.old) }
+    requires links { HasFewLinks (kind_value within.inode.kind) }
+    ensures told { (name : List ℕ) → answer_of (Create result)
+        ≡ (create_upon (naming_within within name (logical_before held.old)) (mode_of mode.now)
+        (node_value child) (kind_value child.inode.kind)).answer }
+    ensures set { (name : List ℕ) → logical_after held.old held.new
+        ≡ (create_upon (naming_within within name (logical_before held.old)) (mode_of mode.now)
+        (node_value child) (kind_value child.inode.kind)).set }
+    ensures alike { logical_alike held.old held.new }
+{
+    match mode {
+        CreateMode::Guarded(_) => Err(Status::Exists),
+        CreateMode::Unchecked(set) => set_upon(held, within, child, set),
+        CreateMode::Exclusive(verifier) => tell_upon(held, within, child, *verifier),
+    }
+}
+
+/// An unchecked CREATE where the name is there: EXIST for a directory; a file is set as SETATTR
+/// does without a guard.
+fn set_upon(
+    held: &mut LogicalHeld<Files>,
+    within: Within,
+    child: Node,
+    set: &SetAttributes,
+) -> Result<MakeResults, Status>
+    requires may { MayBeSet child.fileid.0 (logical_before held.old) }
+    requires links { HasFewLinks (kind_value within.inode.kind) }
+    ensures told { (name : List ℕ) → answer_of (Create result)
+        ≡ (create_upon (naming_within within name (logical_before held.old))
+        (Unchecked (set_of set.now)) (node_value child) (kind_value child.inode.kind)).answer }
+    ensures set { (name : List ℕ) → logical_after held.old held.new
+        ≡ (create_upon (naming_within within name (logical_before held.old))
+        (Unchecked (set_of set.now)) (node_value child) (kind_value child.inode.kind)).set }
+    ensures alike { logical_alike held.old held.new }
+{
+    match child.inode.kind {
+        InodeKind::Directory { .. } => Err(Status::Exists),
+        InodeKind::RegularFile { .. } => {
+            if let Some(fault) = set_fault(held, child.fileid, child.inode, set, None) {
+                return Err(fault);
+            }
+            let inode = set_node(held, child.fileid, child.inode, set, within.moment);
+            let changed = Node {
+                fileid: child.fileid,
+                inode,
+            };
+            Ok(there(within, changed, None))
+        }
+    }
+}
+
+/// An exclusive CREATE where the name is there: EXIST unless it is a file that was created with the
+/// verifier.
+fn tell_upon(
+    held: &LogicalHeld<Files>,
+    within: Within,
+    child: Node,
+    verifier: Verifier,
+) -> Result<MakeResults, Status>
+    requires few { held.now.own.stripes ≤ 16 }
+    requires links { HasFewLinks (kind_value within.inode.kind) }
+    ensures told { (name : List ℕ) → answer_of (Create result)
+        ≡ (create_upon (naming_within within name (logical_before held.now))
+        (Exclusive verifier.0) (node_value child) (kind_value child.inode.kind)).answer }
+    ensures set { (name : List ℕ) → logical_before held.now
+        ≡ (create_upon (naming_within within name (logical_before held.now))
+        (Exclusive verifier.0) (node_value child) (kind_value child.inode.kind)).set }
+{
+    match child.inode.kind {
+        InodeKind::Directory { .. } => Err(Status::Exists),
+        InodeKind::RegularFile { verifier: kept, .. } => {
+            if is_verifier(kept, verifier) {
+                return Ok(there(within, child, latest_touch(held, child.fileid)));
+            }
+            Err(Status::Exists)
+        }
+    }
+}
+
+/// Whether a file was created with a verifier.
+fn is_verifier(kept: Option<Verifier>, verifier: Verifier) -> bool
+    ensures { result ≡ is_verifier (option_map (λ v. v.0) kept) verifier.0 }
+{
+    match kept {
+        Some(kept) => is_same_name(&kept.0, &verifier.0),
+        None => false,
+    }
+}
+
+/// A node that is there, in a directory that doesn't change.
+fn there(within: Within, child: Node, touch: Option<Moment>) -> MakeResults
+    requires links { HasFewLinks (kind_value within.inode.kind) }
+    requires child { HasFewLinks (kind_value child.inode.kind) }
+    ensures { (name : List ℕ) (s : LogicalSet) → made_told result
+        ≡ MadeDone (handle_bytes within.volume.0 child.fileid.0)
+        (shown_inode within.volume.0 child.fileid.0 (inode_value child.inode)
+        (option_map moment_of touch))
+        (directory_change (naming_within within name s) (inode_value within.inode)) }
+{
+    let volume = within.volume;
+    let directory = Node {
+        fileid: within.fileid,
+        inode: within.inode,
+    };
+    MakeResults {
+        handle: FileHandle::naming(Named {
+            volume,
+            fileid: child.fileid,
+        }),
+        object: shown(volume, child.fileid, child.inode, touch),
+        directory: directory_change(volume, directory, within.inode),
+    }
+}
