@@ -73,6 +73,10 @@ granted {P} layout lawful node there w of f seen =
     sym (seen.4 k inside.0 (subst (λ (ps : List ℕ). k < length ps) (sym of) inside.1)
     (subst (λ (ps : List ℕ). Covers ps (number_of layout node) k) (sym of) cover)))
 
+-- a call as it is asked of its volume
+abbrev pub asked_by : Layout → ℕ → Asker → Call → VolumeCall
+asked_by layout v asker call = call_on layout (Logical v) (credential_of asker.credential) (moment_of asker.moment) (call_of call)
+
 module _ {P : Type 0} (layout : Layout) (lawful : fault_of layout ≡ None) (v : ℕ) (on : v < length layout.volumes)
     (a : codes.Affinity) (is : a ≡ VolumeLogical v) where
   -- a grant of Volume Logical has what a run needs
@@ -84,21 +88,17 @@ module _ {P : Type 0} (layout : Layout) (lawful : fault_of layout ≡ None) (v :
       (subst (λ (x : codes.Affinity). IsAfter (behaviour job_steps job_takes job_gives IsFiler) w (number_of layout (affinity_of x))
       (logical_parcels layout (affinity_of x) held)) is seen))
 
-  -- the call as it is asked of its volume
-  abbrev pub asked_by : Asker → Call → VolumeCall
-  asked_by asker call = call_on layout (Logical v) (credential_of asker.credential) (moment_of asker.moment) (call_of call)
-
   -- a run of a call that is answered is a step
   pub run-is-step : (asker : Asker) (call : Call) → IsRun call → home layout (call_of call) ≡ Some (Logical v)
       → (held old new : FilerLogical P) → old ≡ held → held.own.stripes ≡ stripes_of layout v
       → (w : View (FilerParcel P) (Entry (FilerParcel P) Job JobReply)) → w.tree ≡ parents layout
       → HasWith w (number_of layout (affinity_of a)) (logical_parcels layout (affinity_of a) held)
-      → (reply : Reply) → RunsOn v logical_lens (asked_by asker call) (logical_before old)
+      → (reply : Reply) → RunsOn v logical_lens (asked_by layout v asker call) (logical_before old)
       (works.Replied (reply_of reply)) (logical_after old new) → (job : Job) → job ≡ finished_job asker call (VolumeLogical v)
       → IsStep (behaviour job_steps job_takes job_gives IsFiler) w (number_of layout (affinity_of a)) job (Replied reply)
       (logical_parcels layout (affinity_of a) new)
   run-is-step asker call run at held old new same own w of has reply right job finished =
-      let right_held = subst (λ (h : FilerLogical P). RunsOn v logical_lens (asked_by asker call)
+      let right_held = subst (λ (h : FilerLogical P). RunsOn v logical_lens (asked_by layout v asker call)
       (logical_before h) (works.Replied (reply_of reply)) (logical_after h new)) same right in
       let enters = logical-runs layout lawful call run (credential_of asker.credential) (moment_of asker.moment) held new (works.Replied (reply_of reply)) tt
       (Logical v) on at own right_held in
