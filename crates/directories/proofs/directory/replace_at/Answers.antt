@@ -26,9 +26,10 @@ pub returns-clause-indexed : goal.returns-clause-indexed
 returns-clause-indexed c =
     let d = c.args.entries.now in
     let index = c.args.by_name.now.items in
+    let next = c.in_ok-cookie.ensures.cookie in
     rw (c.remove.ensures, c.in_ok-cookie.ensures.ok)
-    (indexed-replaced d index c.args.place c.index-old.result.now c.in_ok-cookie.cookie c.args.name c.args.fileid.0 c.requires.indexed c.requires.there
-    c.index-old.ensures (name-inside d.list index c.args.place c.args.name c.requires.there) c.in_ok-cookie.ensures.cookie)
+    (indexed-replaced d index c.args.place c.index-old.result.now _ c.args.name c.args.fileid.0 c.requires.indexed c.requires.there
+    c.index-old.ensures (name-inside d.list index c.args.place c.args.name c.requires.there) (omega (arith, next)))
 
 pub returns-clause-ok : goal.returns-clause-ok
 returns-clause-ok c =
