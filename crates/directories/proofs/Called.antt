@@ -27,7 +27,7 @@ element-at (x ∷ index) zero c l is = ap (λ (y : Cookie). Some y) (sym is)
 element-at (x ∷ index) (suc i) c l is = element-at index i c (omega (arith, l)) is
 
 -- the cookie that is read at the place of a name
-cookie-place : (es : List Listed) (index : List Cookie) (place : ℕ) (c : Cookie) (name : List ℕ) → name_at es index place ≡ Some name
+pub cookie-place : (es : List Listed) (index : List Cookie) (place : ℕ) (c : Cookie) (name : List ℕ) → name_at es index place ≡ Some name
     → c ≡ get_or index place c
     → slice_get index place ≡ Some c
 cookie-place es index place c name n is = element-at index place c (name-inside es index place name n) is

@@ -22,12 +22,12 @@ rises-top : (low : ℕ) (es : List Listed) (next : ℕ) → Rises low es next �
 rises-top low [] next h = h
 rises-top low (e ∷ es) next h = let r = rises-top (e.cookie + 1) es next h.1 in let a = h.0 in omega arith
 
-none-at-next : (low : ℕ) (es : List Listed) (next : ℕ) → Rises low es next → has es next ≡ false
+pub none-at-next : (low : ℕ) (es : List Listed) (next : ℕ) → Rises low es next → has es next ≡ false
 none-at-next low [] next h = refl
 none-at-next low (e ∷ es) next h = let t = rises-top (e.cookie + 1) es next h.1 in let r = none-at-next (e.cookie + 1) es next h.1 in grind
     (arith, nat_tests, t, r)
 
-has-push : (es : List Listed) (e : Listed) (k : ℕ) → has (es ++ e ∷ []) k ≡ (has es k || (e.cookie == k))
+pub has-push : (es : List Listed) (e : Listed) (k : ℕ) → has (es ++ e ∷ []) k ≡ (has es k || (e.cookie == k))
 has-push [] e k = by (e.cookie == k)
   where
     by : (b : Bool) → is_some (if b then Some e else under k []) ≡ b
@@ -150,7 +150,7 @@ index-kept es x [] a = refl
 index-kept es x (y ∷ xs) a =
     let o : (y.0 == x.0) ≡ false = (let d = different es x y a.0 in grind (arith, nat_tests, d)) in rw o (ap (λ l. y ∷ l) (index-kept es x xs a.1))
 
-index-removed : (es : List Listed) (xs : List Cookie) (i : ℕ) (c : Cookie) → NamesRise es xs → slice_get xs i ≡ Some c → remove xs i ≡ index_without c.0 xs
+pub index-removed : (es : List Listed) (xs : List Cookie) (i : ℕ) (c : Cookie) → NamesRise es xs → slice_get xs i ≡ Some c → remove xs i ≡ index_without c.0 xs
 unfolding IsStrictlySortedBy
 index-removed es [] i c s g = absurd (grind (arith, g))
 index-removed es (x ∷ xs) zero c s g =
@@ -228,7 +228,7 @@ under-without (x ∷ es) k q o = by (x.cookie == k) refl (x.cookie == q) refl (u
     by false p true s r = rw (← s) refl
     by false p false s r = rw (← s) r
 
-names-left : (es : List Listed) (k : ℕ) (xs : List Cookie) → AllByRecursion (λ c. name_under (without k es) c ≡ name_under es c) (index_without k xs)
+pub names-left : (es : List Listed) (k : ℕ) (xs : List Cookie) → AllByRecursion (λ c. name_under (without k es) c ≡ name_under es c) (index_without k xs)
 names-left es k [] = tt
 names-left es k (x ∷ xs) = by (x.0 == k) refl (names-left es k xs)
   where

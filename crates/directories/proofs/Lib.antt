@@ -8,4 +8,5 @@ pub mod Halved
 pub mod Middle
 pub mod Changed
 pub mod Called
+pub mod Replaced
 pub mod Pages

@@ -9,6 +9,7 @@ ghost use Rattle.std.specs.Prelude.{
   ℕ,
   length,
   None,
+  Some,
   is_some,
   IfOk,
   OnOk,
@@ -27,7 +28,7 @@ ghost use Rattle.volume_values.specs.Directories.{
 };
 ghost use Rattle.directories.specs.Digits.{binary_digits};
 ghost use Rattle.directories.specs.Entries.{page_value};
-ghost use Rattle.directories.specs.Index.{fileid_number};
+ghost use Rattle.directories.specs.Index.{IsAt, IsIndexed, IsPlace, fileid_number};
 
 use crate::entries::Entries;
 use crate::page::Page;
@@ -136,12 +137,46 @@ impl Directory {
         ensures err { OnErr result (self.new ≡ self.old) }
     {
         let place = find_place(&self.entries, &self.by_name, &self.slots, name.as_bytes()).place;
-        self.by_name.try_reserve(1)?;
-        self.slots.try_reserve(1)?;
-        let (cookie, slot) = self.entries.add(name, fileid)?;
-        put_at(&mut self.by_name, place, cookie);
-        put_slot(&mut self.slots, place, slot);
-        Ok(())
+        add_at(
+            &mut self.entries,
+            &mut self.by_name,
+            &mut self.slots,
+            place,
+            name,
+            fileid,
+        )
+    }
+
+    /// Adds an entry in the place of the one with its name, if there is one, and answers the fileid
+    /// of that one. The entry takes the next cookie. Where there is no memory for it nothing
+    /// changes, and the name is dropped.
+    pub fn replace(&mut self, name: Name, fileid: Fileid) -> Result<Option<Fileid>, AllocError>
+        requires cookies { self.old.next < 2 ^ 63 }
+        ensures ok { OnOk result (self.new ≡ added name fileid.0 (removed name self.old)) }
+        ensures was { IfOk result (λ was. fileid_number was ≡ fileid_found self.old name) }
+        ensures err { OnErr result (self.new ≡ self.old) }
+    {
+        let search = find_place(&self.entries, &self.by_name, &self.slots, name.as_bytes());
+        if !search.is_there {
+            add_at(
+                &mut self.entries,
+                &mut self.by_name,
+                &mut self.slots,
+                search.place,
+                name,
+                fileid,
+            )?;
+            return Ok(None);
+        }
+        let was = replace_at(
+            &mut self.entries,
+            &mut self.by_name,
+            &mut self.slots,
+            search.place,
+            name,
+            fileid,
+        )?;
+        Ok(Some(was))
     }
 
     /// Removes the entry with a name, and tells whether there was one. It takes no memory.
@@ -171,6 +206,59 @@ impl Directory {
     }
 }
 
+/// Adds an entry with a name that belongs at a place of the index. Where there is no memory for it
+/// nothing changes.
+fn add_at(
+    entries: &mut Entries,
+    by_name: &mut Vec<Cookie>,
+    slots: &mut Vec<u32>,
+    place: usize,
+    name: Name,
+    fileid: Fileid,
+) -> Result<(), AllocError>
+    requires cookies { entries.old.next < 2 ^ 63 }
+    requires indexed { IsIndexed entries.old by_name.old.items }
+    requires within { place ≤ length by_name.old.items }
+    requires place { IsPlace entries.old by_name.old.items name place }
+    ensures indexed { IsIndexed entries.new by_name.new.items }
+    ensures ok { OnOk result (entries.new ≡ added name fileid.0 entries.old) }
+    ensures err { OnErr result (entries.new ≡ entries.old) }
+{
+    by_name.try_reserve(1)?;
+    slots.try_reserve(1)?;
+    let (cookie, slot) = entries.add(name, fileid)?;
+    put_at(by_name, place, cookie);
+    put_slot(slots, place, slot);
+    Ok(())
+}
+
+/// Adds an entry in the place of the one with its name, which is at a place of the index, and
+/// answers the fileid of that one. Where there is no memory for it nothing changes.
+fn replace_at(
+    entries: &mut Entries,
+    by_name: &mut Vec<Cookie>,
+    slots: &mut Vec<u32>,
+    place: usize,
+    name: Name,
+    fileid: Fileid,
+) -> Result<Fileid, AllocError>
+    requires cookies { entries.old.next < 2 ^ 63 }
+    requires indexed { IsIndexed entries.old by_name.old.items }
+    requires there { IsAt entries.old by_name.old.items name place }
+    ensures indexed { IsIndexed entries.new by_name.new.items }
+    ensures ok { OnOk result (entries.new ≡ added name fileid.0 (removed name entries.old)) }
+    ensures was { IfOk result (λ was. Some was.0 ≡ fileid_found entries.old name) }
+    ensures err { OnErr result (entries.new ≡ entries.old) }
+{
+    let old = by_name[place];
+    let was = entries.at(old, slot_at(slots, place)).fileid;
+    let (cookie, slot) = entries.add(name, fileid)?;
+    entries.remove(old);
+    by_name[place] = cookie;
+    set_slot(slots, place, slot);
+    Ok(was)
+}
+
 /// Puts a cookie into an index that has room for one more.
 fn put_at(index: &mut Vec<Cookie>, place: usize, cookie: Cookie)
     requires place { place ≤ vec_len index.old }
@@ -185,6 +273,13 @@ fn put_slot(slots: &mut Vec<u32>, at: usize, slot: u32)
     requires { vec_len slots.old < vec_capacity slots.old }
 {
     slots.insert(at.min(slots.len()), slot).unwrap();
+}
+
+/// Sets the slot of an entry in the place of another.
+fn set_slot(slots: &mut [u32], at: usize, slot: u32) {
+    if let Some(place) = slots.get_mut(at) {
+        *place = slot;
+    }
 }
 
 /// Drops the slot of an entry that goes.

@@ -91,6 +91,22 @@ impl DirectoryMap {
         add_at(&mut self.by_fileid, directory.0, name, fileid)
     }
 
+    /// Adds an entry to a directory, under its next cookie, in the place of the one with its name,
+    /// if there is one. Nothing changes where there is no such directory, or no memory for it.
+    pub fn replace_entry(
+        &mut self,
+        directory: Fileid,
+        name: Name,
+        fileid: Fileid,
+    ) -> Result<(), AllocError>
+        requires { IfSome (get self.old directory.0) (λ d. d.next < 2 ^ 63) }
+        ensures ok { OnOk result (self.new ≡
+            changed_at (λ d. added name fileid.0 (removed name d)) directory.0 self.old) }
+        ensures err { OnErr result (self.new ≡ self.old) }
+    {
+        replace_at(&mut self.by_fileid, directory.0, name, fileid)
+    }
+
     /// Removes the entry with a name from a directory. Nothing changes where there is no such
     /// directory, or entry. It takes no memory.
     pub fn remove_entry(&mut self, directory: Fileid, name: &[u8])
@@ -133,6 +149,25 @@ fn add_at(
         Some(directory) => directory.add(name, fileid),
         None => Ok(()),
     }
+}
+
+/// Puts an entry in the place of another in a directory, if it is there.
+fn replace_at(
+    by_fileid: &mut BTreeMap<u64, Directory>,
+    directory: u64,
+    name: Name,
+    fileid: Fileid,
+) -> Result<(), AllocError>
+    requires { IfSome (btree.get nat_cmp by_fileid.old directory) (λ d. d.next < 2 ^ 63) }
+    ensures ok { OnOk result (Changes (λ d. added name fileid.0 (removed name d)) directory
+        by_fileid.old by_fileid.new) }
+    ensures err { OnErr result
+        ((q : ℕ) → btree.get nat_cmp by_fileid.new q ≡ btree.get nat_cmp by_fileid.old q) }
+{
+    if let Some(directory) = by_fileid.get_mut(&directory) {
+        directory.replace(name, fileid)?;
+    }
+    Ok(())
 }
 
 /// Removes an entry from a directory, if it is there.

@@ -31,6 +31,21 @@ fn add(rt: &(impl Abort + AllocGlobal), directory: &mut Directory, name: &[u8], 
     added.expect(rt, "no memory");
 }
 
+/// Puts an entry in the place of the one with its name, and answers the fileid of that one.
+fn replace(
+    rt: &(impl Abort + AllocGlobal),
+    directory: &mut Directory,
+    name: &[u8],
+    fileid: u64,
+) -> Option<Fileid> {
+    if directory.next_cookie().0 >= 1 << 62 {
+        return None;
+    }
+    let name = Vec::from_slice(rt.alloc(), name).expect(rt, "no memory");
+    let was = directory.replace(Name::new(name), Fileid(fileid));
+    was.expect(rt, "no memory")
+}
+
 /// The name that is added at a place, of a thousand in all.
 fn name_at(place: u32) -> [u8; 4] {
     digits(u64::from(place) * 373 % 1000)
@@ -114,6 +129,20 @@ fn cookies_not_given_again(rt: HostRuntime) {
     same(&rt, &found, &(Some(Fileid(4)), Cookie(6)));
     let removed = (directory.remove(b"a"), directory.remove(b"a"));
     same(&rt, &removed, &(true, false));
+    mem::forget(directory);
+}
+
+#[test]
+fn names_replaced(rt: HostRuntime) {
+    let mut directory = two_names(&rt);
+    let was = replace(&rt, &mut directory, b"b", 7);
+    let found = (was, directory.find(b"b"), directory.next_cookie());
+    same(&rt, &found, &(Some(Fileid(3)), Some(Fileid(7)), Cookie(7)));
+    lists(&rt, &directory, 0, 56, &(2, 5, 6, true));
+    let was = replace(&rt, &mut directory, b"c", 8);
+    let found = (was, directory.find(b"c"), directory.next_cookie());
+    same(&rt, &found, &(None, Some(Fileid(8)), Cookie(8)));
+    lists(&rt, &directory, 5, 56, &(2, 6, 7, true));
     mem::forget(directory);
 }
 
