@@ -26,7 +26,9 @@ use crate::outcome::Outcome;
 use crate::task::Run;
 use affinity::named_by;
 use affinity_tree::{Affinity, Layout};
-use nfs_values::{Answer, Call, FileHandle, MakeResults, Named, ReadDirectoryResults, Reply, Status};
+use nfs_values::{
+    Answer, Call, FileHandle, MakeResults, Named, ReadDirectoryResults, Reply, Status,
+};
 use parcel_sets::LogicalHeld;
 use parcels::Files;
 use service_names::{
