@@ -7,7 +7,7 @@ use Rattle.volume_values.specs.Stripes.{card_dropped}
 use Rattle.held_state.specs.Contents.{each}
 use Rattle.held_state.specs.Sets.{FilerStripe, stripe_value, placed, in_one}
 use Rattle.held_laws.specs.lemmas.Each.{each-same, each-map, get-there}
-use Rattle.service_names.specs.Cards.{InFirst, place_dropped, IsDropped}
+use Rattle.service_names.specs.Cards.{InFirst, IsDropped}
 use Rattle.service_names.proofs.Gone.{vacant-dropped}
 use Rattle.service_names.proofs.Putting.{there}
 

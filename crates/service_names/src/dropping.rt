@@ -23,6 +23,7 @@ ghost use Rattle.service_names.specs.Changing.{inode_left, MayBeSet, with_direct
 ghost use Rattle.service_names.specs.Naming.{node_value, naming_of};
 
 use crate::cards::drop_cards;
+use crate::making::folders_in;
 use crate::node::Node;
 use crate::sizing::size_file;
 use inodes::{Inode, InodeKind, StoredAttributes};
@@ -116,10 +117,7 @@ fn kind_left(directory: InodeKind, kind: InodeKind) -> InodeKind
     else {
         return directory;
     };
-    let fewer = match kind {
-        InodeKind::RegularFile { .. } => 0,
-        InodeKind::Directory { .. } => 1,
-    };
+    let fewer = folders_in(kind);
     InodeKind::Directory {
         parent,
         subdirectories: subdirectories.saturating_sub(fewer),
