@@ -1,70 +1,63 @@
--- A change of each stripe, from the last down to the first.
-use Rattle.std.proofs.Common.{◌≡◌, ◌≢◌, ℕ, zero, suc, ◌+◌, ◌-◌, ◌<◌, ◌≤◌, List, Option, Some, refl, sym, ap, ◌∙◌, subst, arith}
-use Rattle.std.proofs.Common.{⊎_elim}
-use Rattle.std.proofs.lemmas.Bool.{cases_eq}
-use Rattle.std.specs.Prelude.{length, map, is_some, slice_get, slice_set, slice_index_or}
+-- Places of which the first ones are related to what they were, as those of a volume whose cards are dropped.
+use Rattle.std.proofs.Common.{◌≡◌, ℕ, ◌<◌, ◌≤◌, List, map, Option, Some, None, refl, sym, ap, ◌∙◌, arith, ⊎_elim}
+use Rattle.std.proofs.lemmas.Bool.{cases_lt}
+use Rattle.std.specs.Prelude.{length, slice_get}
 use Rattle.parcel_sets.specs.Filled.{is_filled, AreFilledAlike}
-use Rattle.volume_values.specs.Stripes.{StripeValue}
+use Rattle.volume_values.specs.Stripes.{card_dropped}
 use Rattle.held_state.specs.Contents.{each}
 use Rattle.held_state.specs.Sets.{FilerStripe, stripe_value, placed, in_one}
-use Rattle.held_laws.specs.lemmas.Each.{each-same, each-map}
-use Rattle.service_names.proofs.Taking.{set-here, set-else, found-here, filled-as}
+use Rattle.held_laws.specs.lemmas.Each.{each-same, each-map, get-there}
+use Rattle.service_names.specs.Cards.{InFirst, IsDropped}
+use Rattle.service_names.proofs.Gone.{vacant-dropped}
+use Rattle.service_names.proofs.Putting.{there}
 
-module _ {P : Type 0} (g : StripeValue → StripeValue) (n : ℕ) (old : List (Option (FilerStripe P))) where
-  abbrev was : ℕ → StripeValue
-  was i = stripe_value (placed old i)
+module _ {P : Type 0} where
+  -- lists that are as long have the same places
+  as-long : (old now : List (Option (FilerStripe P))) (i : ℕ) (y : Option (FilerStripe P)) → length now ≡ length old
+      → slice_get old i ≡ None → slice_get now i ≡ Some y → ⊥
+  as-long old now i y long e h =
+      let less = get-there now i y h in
+      let found = there old i (omega arith) in
+      absurd (let no = sym e ∙ found.1 in cc)
 
-  -- from a stripe on all have changed; those before are as they were
-  pub record AreChangedFrom (left : ℕ) (now : List (Option (FilerStripe P))) : Type 0 where
-    pub alike : AreFilledAlike old now
-    pub before : (i : ℕ) → i < left → stripe_value (placed now i) ≡ was i
-    pub changed : (i : ℕ) → left ≤ i → i < n → stripe_value (placed now i) ≡ g (was i)
+  -- where related places are filled alike, all are
+  pub first-alike : (Q : Option (FilerStripe P) → Option (FilerStripe P) → Type 0)
+      → ((x y : Option (FilerStripe P)) → Q x y → is_filled (Some x) ≡ is_filled (Some y))
+      → (n : ℕ) (old now : List (Option (FilerStripe P))) → InFirst Q n old now → AreFilledAlike old now
+  first-alike Q alike n old now t i = by (slice_get old i) refl (slice_get now i) refl
+    where
+      by : (o : Option (Option (FilerStripe P))) → slice_get old i ≡ o → (p : Option (Option (FilerStripe P))) → slice_get now i ≡ p
+          → is_filled o ≡ is_filled p
+      by None e None h = refl
+      by None e (Some y) h = absurd (as-long old now i y t.long e h)
+      by (Some x) e None h = absurd (as-long now old i x (sym t.long) h e)
+      by (Some x) e (Some y) h = ⊎_elim
+          (λ (less : i < n). alike x y (t.first i x y less e h))
+          (λ (on : n ≤ i). ap (λ z. is_filled (Some z)) (sym (t.others i x y on e h)))
+          (cases_lt i n)
 
-  pub none-changed : AreChangedFrom n old
-  none-changed = record { alike = λ i. refl; before = λ i less. refl; changed = λ i on less. absurd (omega arith) }
+  dropped-filled : (f : ℕ) (x y : Option (FilerStripe P)) → IsDropped f x y → is_filled (Some x) ≡ is_filled (Some y)
+  dropped-filled f None y e = ap (λ z. is_filled (Some z)) (sym e)
+  dropped-filled f (Some x) y e = ap (λ z. is_filled (Some z)) (sym e)
 
-  -- one stripe more, by what comes into its place
-  more-changed : (i : ℕ) (now : List (Option (FilerStripe P))) (was_here here : Option (FilerStripe P)) → i < n → i < length now
-      → slice_get now i ≡ Some was_here → stripe_value here ≡ g (stripe_value was_here) → is_some here ≡ is_some was_here
-      → AreChangedFrom (i + 1) now → AreChangedFrom i (slice_set now i here)
-  more-changed i now was_here here less long found changed_is same t =
-      let value : stripe_value was_here ≡ was i = ap (λ o. stripe_value (in_one o)) (sym found) ∙ t.before i (omega arith) in
-      let else_same : (k : ℕ) → k ≢ i → stripe_value (placed (slice_set now i here) k) ≡ stripe_value (placed now k) =
-      λ k ne. ap (λ o. stripe_value (in_one o)) (set-else now i k here ne) in
-      record {
-        alike = λ k. ⊎_elim
-            (λ (e : k ≡ i). t.alike k
-            ∙ ap (λ (m : ℕ). is_filled (slice_get now m)) e ∙ ap is_filled found ∙ filled-as was_here here same
-            ∙ sym (ap is_filled (set-here now i here long)) ∙ ap (λ (m : ℕ). is_filled (slice_get (slice_set now i here) m)) (sym e))
-            (λ (ne : k ≢ i). t.alike k ∙ sym (ap is_filled (set-else now i k here ne)))
-            (cases_eq k i);
-        before = λ k below. else_same k (λ e. omega arith) ∙ t.before k (omega arith);
-        changed = λ k on below. ⊎_elim
-            (λ (e : k ≡ i). ap (λ (m : ℕ). stripe_value (placed (slice_set now i here) m)) e
-            ∙ ap (λ o. stripe_value (in_one o)) (set-here now i here long)
-            ∙ changed_is ∙ ap g value ∙ ap (λ (m : ℕ). g (was m)) (sym e))
-            (λ (ne : k ≢ i). else_same k ne ∙ t.changed k (omega (arith, ne)) below)
-            (cases_eq k i);
-      }
+  dropped-value : (f : ℕ) (x y : Option (FilerStripe P)) → IsDropped f x y → stripe_value y ≡ card_dropped f (stripe_value x)
+  dropped-value f None y e = ap stripe_value e ∙ vacant-dropped {P = P} None f (λ j. None)
+  dropped-value f (Some x) y e = ap stripe_value e
 
-  pub place-changed : (left : ℕ) (now : List (Option (FilerStripe P))) (d was_here here : Option (FilerStripe P)) → 0 < left
-      → left ≤ n → n ≤ length now → slice_index_or now (left - 1) d ≡ was_here
-      → stripe_value here ≡ g (stripe_value was_here) → is_some here ≡ is_some was_here → AreChangedFrom left now
-      → AreChangedFrom (left - 1) (slice_set now (left - 1) here)
-  place-changed zero now d was_here here some below long is changed_is same t = absurd (omega arith)
-  place-changed (suc i) now d was_here here some below long is changed_is same t =
-      let down : suc i - 1 ≡ i = omega arith in
-      let up : suc i ≡ i + 1 = omega arith in
-      subst (λ (m : ℕ). AreChangedFrom m (slice_set now m here)) (sym down)
-      (more-changed i now was_here here (omega arith) (omega arith)
-      (found-here now i d (omega arith) ∙ ap (λ (m : ℕ). Some (slice_index_or now m d)) (sym down) ∙ ap Some is)
-      changed_is same (subst (λ (m : ℕ). AreChangedFrom m now) up t))
+  module _ (f n : ℕ) (old now : List (Option (FilerStripe P))) (t : InFirst (IsDropped f) n old now) where
+    pub dropped-alike : AreFilledAlike old now
+    dropped-alike = first-alike (IsDropped f) (dropped-filled f) n old now t
 
-  -- all of them
-  pub all-changed : (left : ℕ) (now : List (Option (FilerStripe P))) → left ≤ 0 → AreChangedFrom left now
-      → (each (λ i. stripe_value (placed now i)) 0 n ≡ map g (each was 0 n)) × AreFilledAlike old now
-  all-changed zero now none t = (
-    each-same (λ i. stripe_value (placed now i)) (λ i. g (was i)) 0 n (λ i low high. t.changed i low (omega arith)) ∙ sym (each-map g was 0 n),
-    t.alike,
-  )
-  all-changed (suc left) now none t = absurd (omega arith)
+    value-at : (i : ℕ) → i < n → (o : Option (Option (FilerStripe P))) → slice_get old i ≡ o
+        → (p : Option (Option (FilerStripe P))) → slice_get now i ≡ p → stripe_value (in_one p) ≡ card_dropped f (stripe_value (in_one o))
+    value-at i less None e None h = vacant-dropped {P = P} None f (λ j. None)
+    value-at i less None e (Some y) h = absurd (as-long old now i y t.long e h)
+    value-at i less (Some x) e None h = absurd (as-long now old i x (sym t.long) h e)
+    value-at i less (Some x) e (Some y) h = dropped-value f x y (t.first i x y less e h)
+
+    -- the stripes of a volume without the card of a node
+    pub dropped-all : each (λ i. stripe_value (placed now i)) 0 n ≡ map (card_dropped f) (each (λ i. stripe_value (placed old i)) 0 n)
+    dropped-all =
+        each-same (λ i. stripe_value (placed now i)) (λ i. card_dropped f (stripe_value (placed old i))) 0 n
+        (λ i on less. value-at i (omega arith) (slice_get old i) (λ j. slice_get old i) (slice_get now i) (λ j. slice_get now i))
+        ∙ sym (each-map (card_dropped f) (λ i. stripe_value (placed old i)) 0 n)

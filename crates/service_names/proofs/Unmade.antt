@@ -25,6 +25,7 @@ use Rattle.service_names.specs.declared.within.Within.{Within}
 use Rattle.service_names.specs.Cards.{InFirst, place_dropped, DiffersByCard, HasCard, IsDropped}
 use Rattle.service_names.specs.Making.{MayMake, naming_within, inode_dated, without_directory, node_unmade}
 use Rattle.service_names.specs.Changing.{with_inodes, with_directories}
+use Rattle.service_names.proofs.Dropped.{first-alike}
 use Rattle.service_names.proofs.Putting.{same-places, there}
 use Rattle.service_names.proofs.Tying.{made-get}
 
@@ -48,25 +49,7 @@ module _ {P : Type 0} where
 
   -- places that differ by cards are filled alike
   pub cards-alike : (f n : ℕ) (old now : List (Option (FilerStripe P))) → InFirst (DiffersByCard f) n old now → AreFilledAlike old now
-  cards-alike f n old now t i = by (slice_get old i) refl (slice_get now i) refl
-    where
-      by : (o : Option (Option (FilerStripe P))) → slice_get old i ≡ o → (p : Option (Option (FilerStripe P))) → slice_get now i ≡ p
-          → is_filled o ≡ is_filled p
-      by None e None h = refl
-      by None e (Some y) h =
-          let long = t.long in
-          let less = get-there now i y h in
-          let found = there old i (omega arith) in
-          absurd (let no = sym e ∙ found.1 in cc)
-      by (Some x) e None h =
-          let long = t.long in
-          let less = get-there old i x e in
-          let found = there now i (omega arith) in
-          absurd (let no = sym h ∙ found.1 in cc)
-      by (Some x) e (Some y) h = ⊎_elim
-          (λ (less : i < n). filled-of f x y (t.first i x y less e h))
-          (λ (on : n ≤ i). ap (λ z. is_filled (Some z)) (sym (t.others i x y on e h)))
-          (cases_lt i n)
+  cards-alike f n old now t = first-alike (DiffersByCard f) (filled-of f) n old now t
 
   module _ (f n : ℕ) (old mid now : List (Option (FilerStripe P))) where
     -- the cards put in and taken out again, where there were none

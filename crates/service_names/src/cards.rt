@@ -1,7 +1,9 @@
-//! The cards of a new node, in the stripes of its volume.
+//! The cards of a node, in the stripes of its volume.
 
-ghost use Rattle.std.specs.Prelude.{◌≡◌, ◌≤◌, OnOk};
+ghost use Rattle.std.specs.Prelude.{◌≡◌, ◌≤◌, map, OnOk};
+ghost use Rattle.parcel_sets.specs.Filled.{logical_alike};
 ghost use Rattle.inodes.specs.Inode.{kind_value};
+ghost use Rattle.held_state.specs.Sets.{logical_before, logical_after};
 ghost use Rattle.held_nodes.specs.Making.{card_made};
 ghost use Rattle.volume_values.specs.Stripes.{card_dropped};
 ghost use Rattle.service_names.specs.Cards.{InFirst, DiffersByCard, HasCard, IsDropped};
@@ -41,6 +43,9 @@ pub(crate) fn drop_cards(held: &mut LogicalHeld<Files>, fileid: Fileid)
     ensures own { held.new.own ≡ held.old.own }
     ensures dropped { InFirst (IsDropped fileid.0) held.old.own.stripes
         held.old.stripes.at held.new.stripes.at }
+    ensures stripes { (logical_after held.old held.new).stripes
+        ≡ map (card_dropped fileid.0) (logical_before held.old).stripes }
+    ensures alike { logical_alike held.old held.new }
 {
     let mut left = held.own.get().stripes as usize;
     while left > 0 {

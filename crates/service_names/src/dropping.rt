@@ -1,16 +1,15 @@
 //! Nodes that lose their names.
 
-ghost use Rattle.std.specs.Prelude.{◌≡◌, ◌≤◌, ◌<◌, ◌^◌, ℕ, is_some, map, Some, None};
+ghost use Rattle.std.specs.Prelude.{◌≡◌, ◌≤◌, ◌<◌, ◌^◌, ℕ, Some, None};
 ghost use Rattle.std.specs.FinMap.{get};
 ghost use Rattle.parcel_sets.specs.Filled.{logical_alike};
 ghost use Rattle.nfs_values.specs.Moment.{moment_of};
 ghost use Rattle.volume_values.specs.Directories.{removed};
 ghost use Rattle.volume_values.specs.Inodes.{inode_set, inode_dropped};
 ghost use Rattle.volume_values.specs.Maps.{changed_at};
-ghost use Rattle.volume_values.specs.Stripes.{card_dropped};
 ghost use Rattle.inodes.specs.Inode.{inode_value, kind_value};
 ghost use Rattle.held_state.specs.Names.{parent_in};
-ghost use Rattle.held_state.specs.Sets.{logical_before, logical_after, stripe_value};
+ghost use Rattle.held_state.specs.Sets.{logical_before, logical_after};
 ghost use Rattle.held_names.specs.Answers.{entries_of};
 ghost use Rattle.held_nodes.specs.Dropping.{
   directories_left,
@@ -23,11 +22,13 @@ ghost use Rattle.held_changes.specs.Dropping.{dropping_of, child_emptied, file_g
 ghost use Rattle.service_names.specs.Changing.{inode_left, MayBeSet, with_directories, with_inodes};
 ghost use Rattle.service_names.specs.Naming.{node_value, naming_of};
 
+use crate::cards::drop_cards;
+use crate::making::folders_in;
 use crate::node::Node;
 use crate::sizing::size_file;
 use inodes::{Inode, InodeKind, StoredAttributes};
 use nfs_values::{Fileid, Moment};
-use parcel_sets::{LogicalHeld, StripeHeld};
+use parcel_sets::LogicalHeld;
 use parcels::{Files, LogicalParcel};
 
 /// Drops a file under a name of a directory, whose blocks are dead then, and tells the directory's
@@ -116,10 +117,7 @@ fn kind_left(directory: InodeKind, kind: InodeKind) -> InodeKind
     else {
         return directory;
     };
-    let fewer = match kind {
-        InodeKind::RegularFile { .. } => 0,
-        InodeKind::Directory { .. } => 1,
-    };
+    let fewer = folders_in(kind);
     InodeKind::Directory {
         parent,
         subdirectories: subdirectories.saturating_sub(fewer),
@@ -154,30 +152,4 @@ fn drop_entry(own: &mut LogicalParcel, directory: Fileid, name: &[u8])
         (changed_at (removed name.now) directory.0 own.old.directories) own.old }
 {
     own.get_mut().directories.remove_entry(directory, name);
-}
-
-/// Drops the cards of a node in the stripes of its volume.
-fn drop_cards(held: &mut LogicalHeld<Files>, fileid: Fileid)
-    requires { held.old.own.stripes ≤ 16 }
-    ensures dropped { (logical_after held.old held.new).stripes
-        ≡ map (card_dropped fileid.0) (logical_before held.old).stripes }
-    ensures own { held.new.own ≡ held.old.own }
-    ensures alike { logical_alike held.old held.new }
-{
-    let mut left = held.own.get().stripes as usize;
-    while left > 0 {
-        left -= 1;
-        drop_card(&mut held.stripes.at[left], fileid);
-    }
-}
-
-/// Drops the card of a node in the stripe in a place.
-fn drop_card(place: &mut Option<StripeHeld<Files>>, fileid: Fileid)
-    ensures dropped { stripe_value place.new ≡ card_dropped fileid.0 (stripe_value place.old) }
-    ensures alike { is_some place.new ≡ is_some place.old }
-{
-    match place {
-        Some(stripe) => stripe.own.get_mut().drop_card(fileid),
-        None => {}
-    }
 }

@@ -1,5 +1,5 @@
-//! Calls on the names of a volume, on the parcels that they hold: LOOKUP, READDIR, COMMIT, SETATTR,
-//! CREATE, MKDIR, REMOVE and RMDIR.
+//! Calls on the names of a volume, on the parcels that they hold: SETATTR, LOOKUP, CREATE, MKDIR,
+//! REMOVE, RMDIR, READDIR and COMMIT.
 #![tactic(auto)]
 
 mod attributes;

@@ -282,7 +282,7 @@ fn with_child(kind: InodeKind, made: InodeKind) -> InodeKind
 }
 
 /// How many directories a node is.
-fn folders_in(kind: InodeKind) -> u32
+pub(crate) fn folders_in(kind: InodeKind) -> u32
     ensures told { result ≡ folders_in (kind_value kind) }
     ensures most { result ≤ 1 }
 {

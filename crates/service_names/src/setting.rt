@@ -70,9 +70,8 @@ fn attributes_set(
         Some(inode) => inode,
         None => return Err(Status::Stale),
     };
-    match set_fault(held, fileid, inode, set, guard) {
-        Some(fault) => return Err(fault),
-        None => {}
+    if let Some(fault) = set_fault(held, fileid, inode, set, guard) {
+        return Err(fault);
     }
     let before = prior(shown(volume, fileid, inode, latest_touch(held, fileid)));
     let changed = set_node(held, fileid, inode, set, moment);

@@ -1,5 +1,6 @@
 use Rattle.std.proofs.Common.{rules, refl, arith, ◌≡◌, length}
 use Rattle.service_names.specs.Cards.{IsDropped}
+use Rattle.service_names.proofs.Dropped.{dropped-all, dropped-alike}
 use Rattle.service_names.proofs.Putting.{place-more, all-first}
 use Rattle.service_names.proofs.cards.drop_cards.Goals as goal
 
@@ -19,3 +20,17 @@ returns-clause-dropped c =
     let done = c.loop-left-test.false in
     all-first (IsDropped c.args.fileid.0) c.args.held.now.own.stripes c.args.held.now.stripes.at c.loop-left.left c.loop-left.held.stripes.at
     (omega arith) c.loop-left.invariant.2
+
+pub returns-clause-stripes : goal.returns-clause-stripes
+returns-clause-stripes c =
+    let done = c.loop-left-test.false in
+    dropped-all c.args.fileid.0 c.args.held.now.own.stripes c.args.held.now.stripes.at c.loop-left.held.stripes.at
+    (all-first (IsDropped c.args.fileid.0) c.args.held.now.own.stripes c.args.held.now.stripes.at c.loop-left.left c.loop-left.held.stripes.at
+    (omega arith) c.loop-left.invariant.2)
+
+pub returns-clause-alike : goal.returns-clause-alike
+returns-clause-alike c =
+    let done = c.loop-left-test.false in
+    dropped-alike c.args.fileid.0 c.args.held.now.own.stripes c.args.held.now.stripes.at c.loop-left.held.stripes.at
+    (all-first (IsDropped c.args.fileid.0) c.args.held.now.own.stripes c.args.held.now.stripes.at c.loop-left.left c.loop-left.held.stripes.at
+    (omega arith) c.loop-left.invariant.2)
