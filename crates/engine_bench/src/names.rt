@@ -33,10 +33,17 @@ const READDIR: [u8; 80] = *b"\x80\0\0\x4c\0\0\0\x01\0\0\0\0\0\0\0\x02\0\x01\x86\
 /// Where a name stands in a record.
 const NAME: usize = 64;
 
-/// The name of a number: four letters from `@` on, one for each 4 bits.
-fn name(number: u16) -> [u8; 4] {
-    let [high, low] = number.to_be_bytes();
-    [high >> 4, high & 15, low >> 4, low & 15].map(|letter| b'@' + letter)
+/// The letters of names, one for each 4 bits of a number.
+const LETTERS: [u8; 16] = *b"@ABCDEFGHIJKLMNO";
+
+/// The name of a number.
+fn name(number: usize) -> [u8; 4] {
+    [
+        LETTERS[number >> 12 & 15],
+        LETTERS[number >> 8 & 15],
+        LETTERS[number >> 4 & 15],
+        LETTERS[number & 15],
+    ]
 }
 
 /// Has the engine answer a call.
@@ -74,7 +81,7 @@ fn nanoseconds_each(
 }
 
 /// An engine whose root has files of so many names.
-fn filled(alloc: Global, names: u16) -> Result<Engine, AllocError> {
+fn filled(alloc: Global, names: usize) -> Result<Engine, AllocError> {
     let aggregates = [AggregateSpec { spare: 0 }];
     let layout = Layout::new(alloc, &aggregates, &[VolumeSpec::new(0, 1)]);
     let layout = layout.map_err(|_fault| AllocError)?;
@@ -88,7 +95,7 @@ fn filled(alloc: Global, names: u16) -> Result<Engine, AllocError> {
 }
 
 /// Measures calls on a root with files of so many names.
-fn measure<R: Clock + Print + AllocGlobal>(rt: &R, names: u16, count: u32) -> io::Result<()> {
+fn measure<R: Clock + Print + AllocGlobal>(rt: &R, names: usize, count: u32) -> io::Result<()> {
     let mut engine = filled(rt.alloc(), names)?;
     let mut lookup = LOOKUP;
     lookup[NAME..NAME + 4].copy_from_slice(&name(names / 2));
