@@ -3,21 +3,16 @@
 //! `engine_bench COUNT` has an engine answer COUNT GETATTR calls, each fed, begun, worked and
 //! finished before the next comes, for a small and for the largest layout. It prints how long a
 //! call took in the fastest pass before them, on average, and in the fastest pass after them.
-//! Then the same of calls on names, in a root of 10 files and in one of 65,000. Without its argument
-//! it prints nothing.
+//! Without its argument it prints nothing.
 #![tactic(auto)]
 
-mod names;
 mod run;
 
 use std::io;
 
 fn main(rt: HostRuntime) -> io::Result<()> {
     match rates::count(&rt)? {
-        Some(count) => {
-            run::run(&rt, count)?;
-            names::run(&rt, count)
-        }
+        Some(count) => run::run(&rt, count),
         None => Ok(()),
     }
 }
