@@ -37,6 +37,7 @@ is_offered Create = true
 is_offered MakeDirectory = true
 is_offered Remove = true
 is_offered RemoveDirectory = true
+is_offered Rename = true
 is_offered ReadDirectory = true
 is_offered Commit = true
 is_offered AdminNull = true

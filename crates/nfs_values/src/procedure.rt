@@ -92,6 +92,7 @@ impl Procedure {
                 | Procedure::MakeDirectory
                 | Procedure::Remove
                 | Procedure::RemoveDirectory
+                | Procedure::Rename
                 | Procedure::ReadDirectory
                 | Procedure::Commit
                 | Procedure::AdminNull

@@ -8,7 +8,7 @@ use Rattle.nfs_model.specs.World.{Heard, IsDecoded}
 use Rattle.rpc_msg.specs.Offered.{AsksOffered}
 use Rattle.nfs_values.specs.declared.procedure.Procedure.{Procedure}
 use Rattle.nfs_values.specs.declared.procedure.Procedure.TheVariants.{Null, GetAttributes, SetAttributes, Lookup, Create, MakeDirectory}
-use Rattle.nfs_values.specs.declared.procedure.Procedure.TheVariants.{Remove, RemoveDirectory, ReadDirectory, Commit, AdminNull}
+use Rattle.nfs_values.specs.declared.procedure.Procedure.TheVariants.{Remove, RemoveDirectory, Rename, ReadDirectory, Commit, AdminNull}
 use Rattle.nfs_values.specs.Procedure.{is_offered}
 use Rattle.nfs_types.specs.Arguments.{asked, arguments_shape, call_from}
 use Rattle.nfs_types.specs.Shapes.{◌&◌}
@@ -65,6 +65,7 @@ asks_offered Create offered credential (Ok v) = tt
 asks_offered MakeDirectory offered credential (Ok v) = tt
 asks_offered Remove offered credential (Ok v) = tt
 asks_offered RemoveDirectory offered credential (Ok v) = tt
+asks_offered Rename offered credential (Ok v) = tt
 asks_offered ReadDirectory offered credential (Ok v) = tt
 asks_offered Commit offered credential (Ok v) = tt
 asks_offered AdminNull offered credential (Ok v) = tt

@@ -4,7 +4,7 @@ use Rattle.std.specs.List.{filter}
 use Rattle.std.proofs.lemmas.Bool.{eqb-true}
 use Rattle.nfs_values.specs.declared.procedure.Procedure.{Procedure}
 use Rattle.nfs_values.specs.declared.procedure.Procedure.TheVariants.{Null, GetAttributes, SetAttributes, Lookup, Create, MakeDirectory}
-use Rattle.nfs_values.specs.declared.procedure.Procedure.TheVariants.{Remove, RemoveDirectory, ReadDirectory, Commit, AdminNull}
+use Rattle.nfs_values.specs.declared.procedure.Procedure.TheVariants.{Remove, RemoveDirectory, Rename, ReadDirectory, Commit, AdminNull}
 use Rattle.nfs_values.specs.Procedure.{all_procedures, is_offered, numbers_of}
 use Rattle.rpc_msg.specs.Heads.{is_numbered, procedures}
 
@@ -67,6 +67,7 @@ find_again Create s = refl
 find_again MakeDirectory s = refl
 find_again Remove s = refl
 find_again RemoveDirectory s = refl
+find_again Rename s = refl
 find_again ReadDirectory s = refl
 find_again Commit s = refl
 find_again AdminNull s = refl
