@@ -87,6 +87,7 @@ room-offered volumes (types.Create directory name mode) o = omega arith
 room-offered volumes (types.Mkdir directory name set) o = omega arith
 room-offered volumes (types.Remove directory name) o = omega arith
 room-offered volumes (types.Rmdir directory name) o = omega arith
+room-offered volumes (types.Rename from from_name to to_name) o = omega arith
 room-offered volumes (types.Readdir directory cookie verifier count) o = omega arith
 room-offered volumes (types.Commit handle) o = omega arith
 room-offered volumes call o = absurd o

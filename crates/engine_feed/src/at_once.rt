@@ -1,18 +1,21 @@
 //! Calls that need no affinity.
 
-ghost use Rattle.std.specs.Prelude.{◌≡◌};
-ghost use Rattle.nfs_model.specs.Tree as trees;
-ghost use Rattle.nfs_model.specs.Serial.AtOnce.{answer_without_home};
+ghost use Rattle.std.specs.Prelude.{◌≡◌, Err};
+ghost use Rattle.nfs_model.specs.Home.{named_by};
+ghost use Rattle.nfs_model.specs.Serial.AtOnce.{answer_of_two, answer_without_home};
+ghost use Rattle.affinity_tree.specs.Layout.{layout_of};
 ghost use Rattle.nfs_values.specs.Answer.{answer_of};
 ghost use Rattle.nfs_values.specs.Call.{call_of};
+ghost use Rattle.nfs_values.specs.declared.answer.Answer.TheVariants.{Rename};
 
 use crate::asked::OfferedCall;
-use nfs_values::{Answer, Call, Status};
+use affinity::named_by;
+use affinity_tree::Layout;
+use nfs_values::{Answer, Call, FileHandle, Status};
 
-/// What a call without an affinity is answered.
-pub(crate) fn answer_at_once(call: &OfferedCall) -> Answer
-    ensures { (layout : trees.Layout)
-        → answer_of result ≡ answer_without_home layout (call_of call.now) }
+/// What a call without an affinity is answered under a layout.
+pub(crate) fn answer_at_once(call: &OfferedCall, layout: &Layout) -> Answer
+    ensures { answer_of result ≡ answer_without_home (layout_of layout.now) (call_of call.now) }
 {
     match call.as_call() {
         Call::Null => Answer::Null,
@@ -23,8 +26,24 @@ pub(crate) fn answer_at_once(call: &OfferedCall) -> Answer
         Call::MakeDirectory { .. } => Answer::MakeDirectory(Err(Status::BadHandle)),
         Call::Remove(_) => Answer::Remove(Err(Status::BadHandle)),
         Call::RemoveDirectory(_) => Answer::RemoveDirectory(Err(Status::BadHandle)),
+        Call::Rename { from, to } => {
+            let fault = fault_of_two(&from.directory, &to.directory, layout);
+            Answer::Rename(Err(fault))
+        }
         Call::ReadDirectory { .. } => Answer::ReadDirectory(Err(Status::BadHandle)),
         Call::Commit { .. } => Answer::Commit(Err(Status::BadHandle)),
         _ => unreachable!(),
+    }
+}
+
+/// What is wrong with the handles of a RENAME without an affinity: BADHANDLE where one is bad, else
+/// XDEV, since they name two volumes.
+fn fault_of_two(from: &FileHandle, to: &FileHandle, layout: &Layout) -> Status
+    ensures { let L = layout_of layout.now in answer_of (Rename (Err result))
+        ≡ answer_of_two 4 (named_by L from.now) (named_by L to.now) }
+{
+    match (named_by(from, layout), named_by(to, layout)) {
+        (Some(_), Some(_)) => Status::CrossVolume,
+        _ => Status::BadHandle,
     }
 }

@@ -14,7 +14,7 @@ pub answer-requires-clause-short : goal.answer-requires-clause-short
 answer-requires-clause-short c =
     let layout = layout_in c.args.calls.now in
     at-once-fits layout 0 c.args.origin.xid (call_of c.args.call) (answer_of c.answer_at_once.result) c.as_call.ensures.offered
-    (c.answer_at_once.ensures layout) (c.replies_fit.ensures.at_once 0 layout (call_of c.args.call) c.args.origin.xid)
+    c.answer_at_once.ensures (c.replies_fit.ensures.at_once 0 layout (call_of c.args.call) c.args.origin.xid)
 
 pub returns-in-Some-clause-admitted : goal.returns-in-Some-clause-admitted
 returns-in-Some-clause-admitted c =
@@ -28,4 +28,4 @@ returns-in-None-clause-admitted c =
     at-once c.args.calls.now c.answer.new.calls c.args.connection.now c.answer.new.connection c.args.origin (call_of c.args.call)
     (credential_of c.args.credential) (answer_of c.answer_at_once.result) c.without_home_stays.ensures
     (ap (λ (k : Call). home layout (call_of k)) (sym c.as_call.ensures.value) ∙ sym c.home_of.ensures.home ∙ ap (option_map affinity_of) c.in-None.is)
-    (c.answer_at_once.ensures layout) c.answer.ensures.finishes
+    c.answer_at_once.ensures c.answer.ensures.finishes
