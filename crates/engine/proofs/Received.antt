@@ -95,6 +95,7 @@ offered-run layout (calls.Create target mode) node offered at = (tt, at)
 offered-run layout (calls.MakeDirectory target set) node offered at = (tt, at)
 offered-run layout (calls.Remove target) node offered at = (tt, at)
 offered-run layout (calls.RemoveDirectory target) node offered at = (tt, at)
+offered-run layout (calls.Rename from to) node offered at = (tt, at)
 offered-run layout (calls.ReadDirectory directory cookie verifier count) node offered at = (tt, at)
 offered-run layout (calls.Commit handle) node offered at = (tt, at)
 offered-run layout call node offered at = absurd offered

@@ -1,5 +1,6 @@
 -- From a handler's promise to the run of a call.
-use Rattle.std.proofs.Common.{◌≡◌, ℕ, false, Option, Some, None, sym, ap, ◌∙◌, subst, []}
+use Rattle.std.proofs.Common.{◌≡◌, ℕ, false, List, [], length, Option, Some, None, Result, sym, ap, ◌∙◌, subst}
+use Rattle.std.specs.declared.alloc.AllocError.{AllocError}
 use Rattle.nfs_model.specs.Types as types
 use Rattle.nfs_model.specs.Types.{Credential, Moment, Call}
 use Rattle.nfs_model.specs.Tree.{Layout, Affinity, Logical}
@@ -7,12 +8,16 @@ use Rattle.nfs_model.specs.Home.{named_by, logical_home}
 use Rattle.nfs_model.specs.Server.{Named}
 use Rattle.nfs_model.specs.Work as works
 use Rattle.nfs_model.specs.Work.{Replied, Starved, Moved}
+use Rattle.nfs_values.specs.declared.answer.RenameResults.{RenameResults}
+use Rattle.nfs_values.specs.declared.status.Status.{Status}
 use Rattle.parcel_sets.specs.Sets.{volume_of}
+use Rattle.held_changes.specs.Laws.{rename_call}
 use Rattle.held_state.specs.Calls.{VolumeCall, ServesOn, handle_in}
 use Rattle.held_state.specs.Jobs as jobs
 use Rattle.held_state.specs.Lenses.{LogicalSet, logical_lens}
 use Rattle.held_state.specs.Promises.{HasVolume, RightOnVolume}
 use Rattle.held_state.specs.Running.{RunsOn, UnlessReplied}
+use Rattle.service_renames.specs.Promises.{Renames, renaming_outcome}
 use Rattle.service.specs.Running.{fileid_in, call_named, call_of_node, call_on}
 
 -- what is named by a handle whose call's home is this
@@ -41,11 +46,26 @@ served-runs v c old new answer right =
 -- a call run on what its handle names is run on its handle
 pub runs-here : (layout : Layout) (a : Affinity) (named : Named) (call : Call) (credential : Credential) (moment : Moment) (old new : LogicalSet)
     (outcome : works.Outcome) → named_by layout (handle_in call) ≡ Some named → a ≡ Logical named.volume
-    → RunsOn named.volume logical_lens (call_named named credential moment call) old outcome new
+    → RunsOn named.volume logical_lens (call_named layout named credential moment call) old outcome new
     → RunsOn (volume_of a) logical_lens (call_on layout a credential moment call) old outcome new
 runs-here layout a named call credential moment old new outcome is at runs =
-    subst (λ (n : Option Named). RunsOn (volume_of a) logical_lens (call_of_node a (fileid_in n) credential moment call) old outcome new) (sym is)
-    (subst (λ (b : Affinity). RunsOn (volume_of b) logical_lens (call_of_node b named.fileid credential moment call) old outcome new) (sym at) runs)
+    subst (λ (n : Option Named). RunsOn (volume_of a) logical_lens (call_of_node layout a (fileid_in n) credential moment call) old outcome new) (sym is)
+    (subst (λ (b : Affinity). RunsOn (volume_of b) logical_lens (call_of_node layout b named.fileid credential moment call) old outcome new) (sym at) runs)
+
+-- a RENAME to the directory that its second handle names is run on its first
+pub renaming-runs : (layout : Layout) (named other : Named) (from from_name to to_name : List ℕ) (credential : Credential) (moment : Moment)
+    (old new : LogicalSet) (told : Result (Result RenameResults Status) AllocError) (outcome : works.Outcome)
+    → named_by layout to ≡ Some other → other.volume ≡ named.volume → outcome ≡ renaming_outcome told
+    → Renames named.volume named.fileid from_name other.fileid to_name moment old told new
+    → RunsOn named.volume logical_lens (call_named layout named credential moment (types.Rename from from_name to to_name)) old outcome new
+renaming-runs layout named other from from_name to to_name credential moment old new told outcome is same comes right =
+    let v = named.volume in
+    let there : named_by layout to ≡ Some (record { volume = v; fileid = other.fileid }) = is
+    ∙ (λ j. Some (record { volume = same j; fileid = other.fileid })) in
+    subst (λ (o : works.Outcome). RunsOn v logical_lens (call_named layout named credential moment (types.Rename from from_name to to_name)) old o new)
+    (sym comes)
+    (subst (λ (id : ℕ). RunsOn v logical_lens (rename_call from to (Logical v) named.fileid from_name id to_name moment) old (renaming_outcome told) new)
+    (sym (ap fileid_in is)) (right (length layout.volumes) from to there))
 
 -- what holds anyhow
 pub unless-any : (outcome : works.Outcome) (A : Type 0) → A → UnlessReplied outcome A

@@ -13,6 +13,7 @@ use Rattle.nfs_model.specs.Serial.Lookup.{lookup}
 use Rattle.nfs_model.specs.Serial.Mkdir.{mkdir}
 use Rattle.nfs_model.specs.Serial.Readdir.{readdir}
 use Rattle.nfs_model.specs.Serial.Remove.{remove_name}
+use Rattle.nfs_model.specs.Serial.Rename.{rename}
 use Rattle.nfs_model.specs.Serial.Rmdir.{rmdir}
 use Rattle.nfs_model.specs.Server.{Named, VolumeState}
 use Rattle.nfs_model.specs.Work as works
@@ -22,7 +23,7 @@ use Rattle.nfs_values.specs.Call.{call_of}
 use Rattle.nfs_values.specs.Reply.{reply_of}
 use Rattle.nfs_values.specs.declared.call.Call.{Call}
 use Rattle.nfs_values.specs.declared.call.Call.TheVariants.{GetAttributes, SetAttributes, Lookup, Create, MakeDirectory}
-use Rattle.nfs_values.specs.declared.call.Call.TheVariants.{Remove, RemoveDirectory, ReadDirectory, Commit}
+use Rattle.nfs_values.specs.declared.call.Call.TheVariants.{Remove, RemoveDirectory, Rename, ReadDirectory, Commit}
 use Rattle.held_state.specs.Calls.{VolumeCall, handle_in}
 use Rattle.held_state.specs.Parcels.{FilerParcel}
 use Rattle.held_state.specs.Running.{HasFiler, Runs}
@@ -38,7 +39,7 @@ outcome_of (Moved affinity) = works.Moved (affinity_of affinity)
 
 -- ---- what is run
 
--- The calls that are run so far: all of names and attributes but RENAME, and COMMIT.
+-- The calls that are run so far: all of names and attributes, and COMMIT.
 abbrev pub IsRun : Call → Type 0
 IsRun (GetAttributes handle) = Unit {0}
 IsRun (SetAttributes handle set guard) = Unit {0}
@@ -47,6 +48,7 @@ IsRun (Create target mode) = Unit {0}
 IsRun (MakeDirectory target set) = Unit {0}
 IsRun (Remove target) = Unit {0}
 IsRun (RemoveDirectory target) = Unit {0}
+IsRun (Rename from to) = Unit {0}
 IsRun (ReadDirectory directory cookie verifier count) = Unit {0}
 IsRun (Commit handle) = Unit {0}
 IsRun call = ⊥
@@ -64,36 +66,44 @@ abbrev pub fileid_in : Option Named → ℕ
 fileid_in None = 0
 fileid_in (Some named) = named.fileid
 
--- what the serial server does on the volume of the handle, for the calls that are run so far
-abbrev pub procedure : types.Call → Credential → Moment → VolumeState → ℕ → Effect
-procedure (types.Getattr handle) credential moment = getattr
-procedure (types.Setattr handle set guard) credential moment = setattr set guard moment
-procedure (types.Lookup directory name) credential moment = on_name name moment lookup
-procedure (types.Create directory name mode) credential moment = on_name name moment (create mode credential)
-procedure (types.Mkdir directory name set) credential moment = on_name name moment (mkdir set credential)
-procedure (types.Remove directory name) credential moment = on_name name moment remove_name
-procedure (types.Rmdir directory name) credential moment = on_name name moment rmdir
-procedure (types.Readdir directory cookie verifier count) credential moment = readdir cookie verifier count
-procedure (types.Commit handle) credential moment = commit
-procedure call credential moment = λ volume fileid. Fails Stale
+-- the fileid that RENAME's other handle names, the one of to's directory; no other call has a second handle
+abbrev pub other_in : Layout → types.Call → ℕ
+other_in layout (types.Rename from from_name to to_name) = fileid_in (named_by layout to)
+other_in layout call = 0
+
+-- What the serial server does on the volume of the handle, for the calls that are run so far. RENAME is to the directory of another
+-- fileid, or of the same.
+abbrev pub procedure : types.Call → ℕ → Credential → Moment → VolumeState → ℕ → Effect
+procedure (types.Getattr handle) other credential moment = getattr
+procedure (types.Setattr handle set guard) other credential moment = setattr set guard moment
+procedure (types.Lookup directory name) other credential moment = on_name name moment lookup
+procedure (types.Create directory name mode) other credential moment = on_name name moment (create mode credential)
+procedure (types.Mkdir directory name set) other credential moment = on_name name moment (mkdir set credential)
+procedure (types.Remove directory name) other credential moment = on_name name moment remove_name
+procedure (types.Rmdir directory name) other credential moment = on_name name moment rmdir
+procedure (types.Rename from from_name to to_name) other credential moment = λ volume fileid. rename from_name to_name moment volume fileid other
+procedure (types.Readdir directory cookie verifier count) other credential moment = readdir cookie verifier count
+procedure (types.Commit handle) other credential moment = commit
+procedure call other credential moment = λ volume fileid. Fails Stale
 
 -- a call on a fileid, as it is asked of a volume under a node
-abbrev pub call_of_node : Affinity → ℕ → Credential → Moment → types.Call → VolumeCall
-call_of_node node fileid credential moment call = record {
+abbrev pub call_of_node : Layout → Affinity → ℕ → Credential → Moment → types.Call → VolumeCall
+call_of_node layout node fileid credential moment call = record {
   call = call;
   node = node;
   fileid = fileid;
-  run = λ volume. procedure call credential moment volume fileid;
+  run = λ volume. procedure call (other_in layout call) credential moment volume fileid;
 }
 
--- a call on what a handle names, under Logical of its volume
-abbrev pub call_named : Named → Credential → Moment → types.Call → VolumeCall
-call_named named credential moment call = call_of_node (Logical named.volume) named.fileid credential moment call
+-- a call on what its handle names, the first of RENAME's, under Logical of its volume
+abbrev pub call_named : Layout → Named → Credential → Moment → types.Call → VolumeCall
+call_named layout named credential moment call =
+    call_of_node layout (Logical named.volume) named.fileid credential moment call
 
 -- a call on a handle, as it is asked of a volume under a node
 abbrev pub call_on : Layout → Affinity → Credential → Moment → types.Call → VolumeCall
 call_on layout node credential moment call =
-    call_of_node node (fileid_in (named_by layout (handle_in call))) credential moment call
+    call_of_node layout node (fileid_in (named_by layout (handle_in call))) credential moment call
 
 -- ---- where it is run
 

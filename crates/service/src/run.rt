@@ -1,7 +1,7 @@
 //! Calls run on the parcels under their homes.
 
 ghost use Rattle.std.specs.Prelude.{◌≡◌, true, false, Some, []};
-ghost use Rattle.nfs_model.specs.Home.{home, named_by};
+ghost use Rattle.nfs_model.specs.Home.{home, named_by, rename_home};
 ghost use Rattle.nfs_model.specs.Tree as trees;
 ghost use Rattle.nfs_model.specs.Types as types;
 ghost use Rattle.affinity_tree.specs.Affinity.{affinity_of};
@@ -11,6 +11,7 @@ ghost use Rattle.nfs_values.specs.Credential.{credential_of};
 ghost use Rattle.nfs_values.specs.Handle.{named_of};
 ghost use Rattle.nfs_values.specs.Moment.{moment_of};
 ghost use Rattle.nfs_values.specs.declared.answer.Answer.TheVariants as answers;
+ghost use Rattle.nfs_values.specs.declared.call.Call.TheVariants as calls;
 ghost use Rattle.parcel_sets.specs.Filled.{logical_alike};
 ghost use Rattle.parcel_sets.specs.Sets.{volume_of};
 ghost use Rattle.held_state.specs.Calls.{handle_in};
@@ -19,6 +20,7 @@ ghost use Rattle.held_state.specs.Promises.{HasVolume};
 ghost use Rattle.held_state.specs.Running.{RunsOn, UnlessReplied};
 ghost use Rattle.held_state.specs.Sets.{logical_before, logical_after};
 ghost use Rattle.service_names.specs.Promises.{listing_outcome, making_outcome};
+ghost use Rattle.service_renames.specs.Promises.{renaming_outcome};
 ghost use Rattle.service.specs.Running.{call_named, call_on, is_told, outcome_of, IsRun};
 
 use crate::attributes::get_attributes;
@@ -27,7 +29,8 @@ use crate::task::Run;
 use affinity::named_by;
 use affinity_tree::{Affinity, Layout};
 use nfs_values::{
-    Answer, Call, FileHandle, MakeResults, Named, ReadDirectoryResults, Reply, Status,
+    Answer, Call, FileHandle, MakeResults, Named, ReadDirectoryResults, RenameResults, Reply,
+    Status, Target, VolumeNumber,
 };
 use parcel_sets::LogicalHeld;
 use parcels::Files;
@@ -35,6 +38,7 @@ use service_names::{
     PageAsked, commit, create, lookup, make_directory, read_directory, remove, remove_directory,
     set_attributes,
 };
+use service_renames::{EntryName, rename};
 use std::alloc::AllocError;
 
 /// Runs a call on the parcels of the names and attributes of its volume, its home.
@@ -61,7 +65,7 @@ pub fn run_on_logical(
     if is_told(run.call) {
         tell(run, held, named)
     } else {
-        change(run, held, named)
+        change(run, layout, held, named)
     }
 }
 
@@ -82,9 +86,9 @@ fn is_told(call: &Call) -> bool
 fn tell(run: Run, held: &LogicalHeld<Files>, named: Named) -> Outcome
     requires told { is_told run.call.now ≡ true }
     requires whole { HasVolume named.volume.0 logical_lens [] (logical_before held.now) }
-    ensures runs { RunsOn named.volume.0 logical_lens
-        (call_named (named_of named) (credential_of run.entry.credential) (moment_of run.entry.moment)
-        (call_of run.entry.call.now))
+    ensures runs { (layout : trees.Layout) → RunsOn named.volume.0 logical_lens
+        (call_named layout (named_of named) (credential_of run.entry.credential)
+        (moment_of run.entry.moment) (call_of run.entry.call.now))
         (logical_before held.now) (outcome_of result) (logical_before held.now) }
 {
     let Named { volume, fileid } = named;
@@ -119,13 +123,15 @@ fn tell(run: Run, held: &LogicalHeld<Files>, named: Named) -> Outcome
 }
 
 /// Runs a call that may change the volume of what its handle names, on the volume's parcels.
-fn change(run: Run, held: &mut LogicalHeld<Files>, named: Named) -> Outcome
+fn change(run: Run, layout: &Layout, held: &mut LogicalHeld<Files>, named: Named) -> Outcome
     requires run { IsRun run.call.now }
     requires changes { is_told run.call.now ≡ false }
+    requires home { home (layout_of layout.now) (call_of run.call.now)
+        ≡ Some (trees.Logical named.volume.0) }
     requires whole { HasVolume named.volume.0 logical_lens [] (logical_before held.old) }
     ensures runs { RunsOn named.volume.0 logical_lens
-        (call_named (named_of named) (credential_of run.entry.credential) (moment_of run.entry.moment)
-        (call_of run.entry.call.now))
+        (call_named (layout_of layout.now) (named_of named) (credential_of run.entry.credential)
+        (moment_of run.entry.moment) (call_of run.entry.call.now))
         (logical_before held.old) (outcome_of result) (logical_after held.old held.new) }
     ensures moved { UnlessReplied (outcome_of result) (held.new ≡ held.old) }
     ensures alike { logical_alike held.old held.new }
@@ -164,8 +170,41 @@ fn change(run: Run, held: &mut LogicalHeld<Files>, named: Named) -> Outcome
             let told = remove_directory(held, volume, fileid, target.name.as_bytes(), moment);
             Outcome::Replied(Reply::Success(Answer::RemoveDirectory(told)))
         }
+        Call::Rename { from, to } => rename_here(run, layout, held, named, from, to),
         _ => unreachable!(),
     }
+}
+
+/// Runs a RENAME, whose first handle names this, on the parcels of the volume.
+fn rename_here(
+    run: Run,
+    layout: &Layout,
+    held: &mut LogicalHeld<Files>,
+    named: Named,
+    from: &Target,
+    to: &Target,
+) -> Outcome
+    requires home { home (layout_of layout.now) (call_of (calls.Rename from.now to.now))
+        ≡ Some (trees.Logical named.volume.0) }
+    requires whole { HasVolume named.volume.0 logical_lens [] (logical_before held.old) }
+    ensures runs { RunsOn named.volume.0 logical_lens
+        (call_named (layout_of layout.now) (named_of named) (credential_of run.entry.credential)
+        (moment_of run.entry.moment) (call_of (calls.Rename from.now to.now)))
+        (logical_before held.old) (outcome_of result) (logical_after held.old held.new) }
+    ensures moved { UnlessReplied (outcome_of result) (held.new ≡ held.old) }
+    ensures alike { logical_alike held.old held.new }
+{
+    let Named { volume, fileid } = named;
+    let other = other_here(layout, volume, &from.directory, &to.directory);
+    let from = EntryName {
+        directory: fileid,
+        name: from.name.as_bytes(),
+    };
+    let to = EntryName {
+        directory: other.fileid,
+        name: to.name.as_bytes(),
+    };
+    outcome_renamed(rename(run.alloc, held, volume, from, to, run.moment))
 }
 
 /// What a READDIR comes to.
@@ -198,7 +237,17 @@ fn outcome_directory_made(made: Result<Result<MakeResults, Status>, AllocError>)
     }
 }
 
-/// What the handle of a call names, where the home of the call is Volume Logical.
+/// What a RENAME comes to.
+fn outcome_renamed(renamed: Result<Result<RenameResults, Status>, AllocError>) -> Outcome
+    ensures { outcome_of result ≡ renaming_outcome renamed }
+{
+    match renamed {
+        Ok(told) => Outcome::Replied(Reply::Success(Answer::Rename(told))),
+        Err(AllocError) => Outcome::Starved,
+    }
+}
+
+/// What the handle of a call names, the first of RENAME's, where the home of the call is Volume Logical.
 fn named_here(layout: &Layout, affinity: Affinity, call: &Call) -> Named
     requires run { IsRun call.now }
     requires home { home (layout_of layout.now) (call_of call.now) ≡ Some (affinity_of affinity) }
@@ -212,7 +261,20 @@ fn named_here(layout: &Layout, affinity: Affinity, call: &Call) -> Named
     }
 }
 
-/// The handle of a call that is run.
+/// What the second handle of a RENAME names, where its home is Volume Logical of a volume.
+fn other_here(layout: &Layout, volume: VolumeNumber, from: &FileHandle, to: &FileHandle) -> Named
+    requires home { rename_home (named_by (layout_of layout.now) from.now)
+        (named_by (layout_of layout.now) to.now) ≡ Some (trees.Logical volume.0) }
+    ensures named { named_by (layout_of layout.now) to.now ≡ Some (named_of result) }
+    ensures volume { result.volume.0 ≡ volume.0 }
+{
+    match named_by(to, layout) {
+        Some(named) => named,
+        None => unreachable!(),
+    }
+}
+
+/// The handle of a call that is run, the first of RENAME's.
 fn handle_of(call: &Call) -> &FileHandle
     requires { IsRun call.now }
     ensures { result.now ≡ handle_in (call_of call.now) }
@@ -225,6 +287,7 @@ fn handle_of(call: &Call) -> &FileHandle
         Call::MakeDirectory { target, .. } => &target.directory,
         Call::Remove(target) => &target.directory,
         Call::RemoveDirectory(target) => &target.directory,
+        Call::Rename { from, .. } => &from.directory,
         Call::ReadDirectory { directory, .. } => directory,
         Call::Commit { handle } => handle,
         _ => unreachable!(),

@@ -1,8 +1,10 @@
-use Rattle.std.proofs.Common.{ℕ, List, sym, subst}
+use Rattle.std.proofs.Common.{◌≡◌, ℕ, List, Some, sym, subst}
 use Rattle.std.specs.Option.{option_map}
+use Rattle.nfs_model.specs.Home.{home}
 use Rattle.nfs_model.specs.Tree.{Logical}
 use Rattle.nfs_model.specs.Types.{Success}
 use Rattle.nfs_model.specs.Work.{Outcome, Replied}
+use Rattle.affinity_tree.specs.Layout.{layout_of}
 use Rattle.nfs_values.specs.Answer.{answer_of}
 use Rattle.nfs_values.specs.Call.{call_of}
 use Rattle.nfs_values.specs.Credential.{credential_of}
@@ -23,26 +25,28 @@ use Rattle.service.proofs.run.change.Goals as goal
 
 pub returns-in-SetAttributes-clause-runs : goal.returns-in-SetAttributes-clause-runs
 returns-in-SetAttributes-clause-runs c =
+    let L = layout_of c.args.layout.now in
     let n = named_of c.args.named in
     let old = logical_before c.args.held.now in
     let new = logical_after c.args.held.now c.set_attributes-told.new.held in
     let moment = moment_of c.args.run.moment in
     let asked = c.in-SetAttributes in
     let told = answer_of (answers.SetAttributes c.set_attributes-told.result) in
-    subst (λ (call : Call). RunsOn n.volume logical_lens (call_named n (credential_of c.args.run.credential) moment (call_of call))
+    subst (λ (call : Call). RunsOn n.volume logical_lens (call_named L n (credential_of c.args.run.credential) moment (call_of call))
     old (Replied (Success told)) new) (sym asked.is)
     (served-runs n.volume (setattr_call asked.handle (Logical n.volume) n.fileid (set_of asked.set) (option_map moment_of asked.guard) moment) old new told
     (c.set_attributes-told.ensures.right asked.handle))
 
 pub returns-in-Create-clause-runs : goal.returns-in-Create-clause-runs
 returns-in-Create-clause-runs c =
+    let L = layout_of c.args.layout.now in
     let n = named_of c.args.named in
     let old = logical_before c.args.held.now in
     let new = logical_after c.args.held.now c.create-made.new.held in
     let credential = credential_of c.args.run.credential in
     let moment = moment_of c.args.run.moment in
     let asked = c.in-Create in
-    subst (λ (call : Call). RunsOn n.volume logical_lens (call_named n credential moment (call_of call)) old (outcome_of c.outcome_created.result) new)
+    subst (λ (call : Call). RunsOn n.volume logical_lens (call_named L n credential moment (call_of call)) old (outcome_of c.outcome_created.result) new)
     (sym asked.is)
     (subst (λ (o : Outcome). RunsOn n.volume logical_lens
     (create_call asked.target.directory (Logical n.volume) n.fileid asked.target.name (mode_of asked.mode) credential moment) old o new)
@@ -52,13 +56,14 @@ returns-in-Create-clause-runs c =
 
 pub returns-in-MakeDirectory-clause-runs : goal.returns-in-MakeDirectory-clause-runs
 returns-in-MakeDirectory-clause-runs c =
+    let L = layout_of c.args.layout.now in
     let n = named_of c.args.named in
     let old = logical_before c.args.held.now in
     let new = logical_after c.args.held.now c.make_directory-made.new.held in
     let credential = credential_of c.args.run.credential in
     let moment = moment_of c.args.run.moment in
     let asked = c.in-MakeDirectory in
-    subst (λ (call : Call). RunsOn n.volume logical_lens (call_named n credential moment (call_of call)) old (outcome_of c.outcome_directory_made.result) new)
+    subst (λ (call : Call). RunsOn n.volume logical_lens (call_named L n credential moment (call_of call)) old (outcome_of c.outcome_directory_made.result) new)
     (sym asked.is)
     (subst (λ (o : Outcome). RunsOn n.volume logical_lens
     (mkdir_call asked.target.directory (Logical n.volume) n.fileid asked.target.name (set_of asked.set) credential moment) old o new)
@@ -68,13 +73,14 @@ returns-in-MakeDirectory-clause-runs c =
 
 pub returns-in-Remove-clause-runs : goal.returns-in-Remove-clause-runs
 returns-in-Remove-clause-runs c =
+    let L = layout_of c.args.layout.now in
     let n = named_of c.args.named in
     let old = logical_before c.args.held.now in
     let new = logical_after c.args.held.now c.remove-told.new.held in
     let moment = moment_of c.args.run.moment in
     let target = c.in-Remove.target in
     let told = answer_of (answers.Remove c.remove-told.result) in
-    subst (λ (call : Call). RunsOn n.volume logical_lens (call_named n (credential_of c.args.run.credential) moment (call_of call))
+    subst (λ (call : Call). RunsOn n.volume logical_lens (call_named L n (credential_of c.args.run.credential) moment (call_of call))
     old (Replied (Success told)) new) (sym c.in-Remove.is)
     (served-runs n.volume (remove_call target.directory (Logical n.volume) n.fileid target.name moment) old new told
     (subst (λ (name : List ℕ). Removes n.volume n.fileid name moment old c.remove-told.result new) c.as_bytes.ensures c.remove-told.ensures.right
@@ -82,14 +88,29 @@ returns-in-Remove-clause-runs c =
 
 pub returns-in-RemoveDirectory-clause-runs : goal.returns-in-RemoveDirectory-clause-runs
 returns-in-RemoveDirectory-clause-runs c =
+    let L = layout_of c.args.layout.now in
     let n = named_of c.args.named in
     let old = logical_before c.args.held.now in
     let new = logical_after c.args.held.now c.remove_directory-told.new.held in
     let moment = moment_of c.args.run.moment in
     let target = c.in-RemoveDirectory.target in
     let told = answer_of (answers.RemoveDirectory c.remove_directory-told.result) in
-    subst (λ (call : Call). RunsOn n.volume logical_lens (call_named n (credential_of c.args.run.credential) moment (call_of call))
+    subst (λ (call : Call). RunsOn n.volume logical_lens (call_named L n (credential_of c.args.run.credential) moment (call_of call))
     old (Replied (Success told)) new) (sym c.in-RemoveDirectory.is)
     (served-runs n.volume (rmdir_call target.directory (Logical n.volume) n.fileid target.name moment) old new told
     (subst (λ (name : List ℕ). RemovesDirectory n.volume n.fileid name moment old c.remove_directory-told.result new)
     c.as_bytes-in-RemoveDirectory.ensures c.remove_directory-told.ensures.right target.directory))
+
+pub rename_here-requires-clause-home : goal.rename_here-requires-clause-home
+rename_here-requires-clause-home c =
+    let L = layout_of c.args.layout.now in
+    subst (λ (call : Call). home L (call_of call) ≡ Some (Logical c.args.named.volume.0)) c.in-Rename.is c.requires.home
+
+pub returns-in-Rename-clause-runs : goal.returns-in-Rename-clause-runs
+returns-in-Rename-clause-runs c =
+    let L = layout_of c.args.layout.now in
+    let n = named_of c.args.named in
+    let old = logical_before c.args.held.now in
+    let new = logical_after c.args.held.now c.rename_here.new.held in
+    subst (λ (call : Call). RunsOn n.volume logical_lens (call_named L n (credential_of c.args.run.credential) (moment_of c.args.run.moment) (call_of call))
+    old (outcome_of c.rename_here.result) new) (sym c.in-Rename.is) c.rename_here.ensures.runs

@@ -22,7 +22,7 @@ returns-then-is_told-clause-runs c =
     let old = logical_before c.args.held.now in
     runs-here (layout_of c.args.layout.now) (affinity_of c.args.affinity) (named_of c.named_here-named.result) (call_of c.args.run.call.now)
     (credential_of c.args.run.credential) (moment_of c.args.run.moment) old old (outcome_of c.tell.result)
-    c.named_here-named.ensures.named c.named_here-named.ensures.node c.tell.ensures.runs
+    c.named_here-named.ensures.named c.named_here-named.ensures.node (c.tell.ensures.runs (layout_of c.args.layout.now))
 
 pub returns-else-is_told-clause-runs : goal.returns-else-is_told-clause-runs
 returns-else-is_told-clause-runs c =
