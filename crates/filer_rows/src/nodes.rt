@@ -5,19 +5,19 @@ use crate::texts::LAYOUT;
 use std::process::Abort;
 
 /// The heads of the calls, xid 6, without a credential.
-const GETATTR: &str = "\
+pub(crate) const GETATTR: &str = "\
     000000060000000000000002000186a3000000030000000100000000000000000000000000000000";
 
 const SETATTR: &str = "\
     000000060000000000000002000186a3000000030000000200000000000000000000000000000000";
 
-const LOOKUP: &str = "\
+pub(crate) const LOOKUP: &str = "\
     000000060000000000000002000186a3000000030000000300000000000000000000000000000000";
 
-const CREATE: &str = "\
+pub(crate) const CREATE: &str = "\
     000000060000000000000002000186a3000000030000000800000000000000000000000000000000";
 
-const MKDIR: &str = "\
+pub(crate) const MKDIR: &str = "\
     000000060000000000000002000186a3000000030000000900000000000000000000000000000000";
 
 const REMOVE: &str = "\
@@ -26,50 +26,50 @@ const REMOVE: &str = "\
 const RMDIR: &str = "\
     000000060000000000000002000186a3000000030000000d00000000000000000000000000000000";
 
-const READDIR: &str = "\
+pub(crate) const READDIR: &str = "\
     000000060000000000000002000186a3000000030000001000000000000000000000000000000000";
 
 const COMMIT: &str = "\
     000000060000000000000002000186a3000000030000001500000000000000000000000000000000";
 
 /// The handles of fileids 1 to 4: the root, and what is made first.
-const ROOT: &str = "0000000c000000000000000000000001";
+pub(crate) const ROOT: &str = "0000000c000000000000000000000001";
 
-const SECOND: &str = "0000000c000000000000000000000002";
+pub(crate) const SECOND: &str = "0000000c000000000000000000000002";
 
-const THIRD: &str = "0000000c000000000000000000000003";
+pub(crate) const THIRD: &str = "0000000c000000000000000000000003";
 
-const FOURTH: &str = "0000000c000000000000000000000004";
+pub(crate) const FOURTH: &str = "0000000c000000000000000000000004";
 
 /// The head of a reply, up to accept_stat, which is SUCCESS.
-const DONE: &str = "000000060000000100000000000000000000000000000000";
+pub(crate) const DONE: &str = "000000060000000100000000000000000000000000000000";
 
 /// Attributes to be set of which none is given (sattr3).
-const NO_SET: &str = "000000000000000000000000000000000000000000000000";
+pub(crate) const NO_SET: &str = "000000000000000000000000000000000000000000000000";
 
 /// No attributes before, and none after.
-const FAILED: &str = "0000000000000000";
+pub(crate) const FAILED: &str = "0000000000000000";
 
 /// What attributes begin with: of a file, of one of mode 0600, and of directories of 2 and 3
 /// links.
-const FILE: &str = "00000001000001a4000000010000fffe0000fffe";
+pub(crate) const FILE: &str = "00000001000001a4000000010000fffe0000fffe";
 
 const SECRET_FILE: &str = "0000000100000180000000010000fffe0000fffe";
 
-const ROOT_OF_2_LINKS: &str = "00000002000001ed000000020000000000000000";
+pub(crate) const ROOT_OF_2_LINKS: &str = "00000002000001ed000000020000000000000000";
 
-const ROOT_OF_3_LINKS: &str = "00000002000001ed000000030000000000000000";
+pub(crate) const ROOT_OF_3_LINKS: &str = "00000002000001ed000000030000000000000000";
 
-const DIRECTORY: &str = "00000002000001ed000000020000fffe0000fffe";
+pub(crate) const DIRECTORY: &str = "00000002000001ed000000020000fffe0000fffe";
 
 /// A record that is fed, how many bytes it has, the second at which its call is begun, and the record
 /// of the reply.
 #[derive(Clone, Copy)]
-struct Asked {
-    record: &'static [&'static str],
-    size: &'static str,
-    second: &'static str,
-    reply: &'static [&'static str],
+pub(crate) struct Asked {
+    pub(crate) record: &'static [&'static str],
+    pub(crate) size: &'static str,
+    pub(crate) second: &'static str,
+    pub(crate) reply: &'static [&'static str],
 }
 
 /// Entries made, listed and removed.
@@ -605,46 +605,63 @@ const DIRECTORIES: [Asked; 18] = [
 ];
 
 /// Appends pieces of text.
-fn put_all(rt: &impl Abort, text: &mut String, pieces: &[&str]) {
+pub(crate) fn put_all(rt: &impl Abort, text: &mut String, pieces: &[&str]) {
     for piece in pieces {
         put(rt, text, piece, 1);
     }
 }
 
-/// Feeds the calls and runs them in one script, and looks at what is printed.
-fn ask_all(rt: &(impl Abort + AllocGlobal), calls: &[Asked]) {
+/// Appends a call that is fed and run, and what is printed of it.
+fn put_call(rt: &impl Abort, script: &mut String, printed: &mut String, call: &Asked) {
+    put(rt, script, "feed 0 ", 1);
+    put_all(rt, script, call.record);
+    let run = ["\nbegin 0 0 ", call.second, " 0\nwork 0\nfinish 0\n"];
+    put_all(rt, script, &run);
+    let runs = [
+        "taken ",
+        call.size,
+        " stop 0\ngranted logical 0\nreply\nout 0 ",
+    ];
+    put_all(rt, printed, &runs);
+    put_all(rt, printed, call.reply);
+    put(rt, printed, "\n", 1);
+}
+
+/// Appends calls that are fed and run, one after the other, and what is printed of them.
+pub(crate) fn put_calls(
+    rt: &impl Abort,
+    script: &mut String,
+    printed: &mut String,
+    calls: &[Asked],
+) {
+    for call in calls {
+        put_call(rt, script, printed, call);
+    }
+}
+
+/// Feeds calls and runs them in one script, after those that come before, and looks at what is
+/// printed.
+pub(crate) fn ask_all(rt: &(impl Abort + AllocGlobal), before: &[Asked], calls: &[Asked]) {
     let mut script = joined(rt, &[LAYOUT, "open\n"]);
     let mut printed = joined(rt, &["conn 0\n"]);
-    for call in calls {
-        put(rt, &mut script, "feed 0 ", 1);
-        put_all(rt, &mut script, call.record);
-        let run = ["\nbegin 0 0 ", call.second, " 0\nwork 0\nfinish 0\n"];
-        put_all(rt, &mut script, &run);
-        let runs = [
-            "taken ",
-            call.size,
-            " stop 0\ngranted logical 0\nreply\nout 0 ",
-        ];
-        put_all(rt, &mut printed, &runs);
-        put_all(rt, &mut printed, call.reply);
-        put(rt, &mut printed, "\n", 1);
-    }
+    put_calls(rt, &mut script, &mut printed, before);
+    put_calls(rt, &mut script, &mut printed, calls);
     expect(rt, script.as_bytes(), 0, &printed);
 }
 
 #[test]
 fn entries_come_and_go(rt: HostRuntime) {
-    ask_all(&rt, &ENTRIES);
+    ask_all(&rt, &[], &ENTRIES);
 }
 
 #[test]
 fn creation_has_three_modes(rt: HostRuntime) {
-    ask_all(&rt, &MODES);
+    ask_all(&rt, &[], &MODES);
 }
 
 #[test]
 fn directories_come_and_go(rt: HostRuntime) {
-    ask_all(&rt, &DIRECTORIES);
+    ask_all(&rt, &[], &DIRECTORIES);
 }
 
 /// A name of 255 bytes or more: the mark of its CREATE, the length of the name, its bytes after 255 and

@@ -247,7 +247,8 @@ fn outcome_renamed(renamed: Result<Result<RenameResults, Status>, AllocError>) -
     }
 }
 
-/// What the handle of a call names, the first of RENAME's, where the home of the call is Volume Logical.
+/// What the handle of a call names, the first of RENAME's, where the home of the call is Volume
+/// Logical.
 fn named_here(layout: &Layout, affinity: Affinity, call: &Call) -> Named
     requires run { IsRun call.now }
     requires home { home (layout_of layout.now) (call_of call.now) ≡ Some (affinity_of affinity) }
