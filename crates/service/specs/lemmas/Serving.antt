@@ -65,7 +65,8 @@ located-there layout server volume v fileid handle count there named =
 on-handle : (layout : Layout) (v : ℕ) (call : types.Call) (credential : Credential) (moment : Moment)
     → logical_home (named_by layout (handle_in call)) ≡ Some (Logical v) → home layout call ≡ Some (Logical v)
     → ((server : Server)
-    → serve server call credential moment ≡ on server (absent_parts call) (locate server (handle_in call)) (procedure call (other_in layout call) credential moment))
+    → serve server call credential moment
+    ≡ on server (absent_parts call) (locate server (handle_in call)) (procedure call (other_in layout call) credential moment))
     → IsCallOn layout v (call_on layout (Logical v) credential moment call) credential moment
 on-handle layout v call credential moment at is serves =
     let named = named-there (named_by layout (handle_in call)) v at in record {

@@ -25,7 +25,8 @@ returns-in-GetAttributes c =
     let old = logical_before c.args.held.now in
     let told = answer_of (answers.GetAttributes c.get_attributes-told.result) in
     record {
-      runs = λ layout. subst (λ (call : Call). RunsOn n.volume logical_lens (call_named layout n (credential_of c.args.run.credential) (moment_of c.args.run.moment) (call_of call))
+      runs = λ layout. subst (λ (call : Call). RunsOn n.volume logical_lens
+          (call_named layout n (credential_of c.args.run.credential) (moment_of c.args.run.moment) (call_of call))
           old (Replied (Success told)) old) (sym c.in-GetAttributes.is)
           (served-runs n.volume (getattr_call c.in-GetAttributes.handle (Logical n.volume) n.fileid) old old told
           (c.get_attributes-told.ensures.right c.in-GetAttributes.handle));
@@ -39,7 +40,8 @@ returns-in-Lookup c =
     let target = c.in-Lookup.target in
     let told = answer_of (answers.Lookup c.lookup-told.result) in
     record {
-      runs = λ layout. subst (λ (call : Call). RunsOn n.volume logical_lens (call_named layout n (credential_of c.args.run.credential) moment (call_of call))
+      runs = λ layout. subst (λ (call : Call). RunsOn n.volume logical_lens
+          (call_named layout n (credential_of c.args.run.credential) moment (call_of call))
           old (Replied (Success told)) old) (sym c.in-Lookup.is)
           (served-runs n.volume (lookup_call target.directory (Logical n.volume) n.fileid target.name moment) old old told
           (subst (λ (name : List ℕ). LooksUp n.volume n.fileid name old c.lookup-told.result) c.as_bytes.ensures c.lookup-told.ensures.right target.directory moment));
@@ -51,7 +53,8 @@ returns-in-ReadDirectory c =
     let old = logical_before c.args.held.now in
     let asked = c.in-ReadDirectory in
     record {
-      runs = λ layout. subst (λ (call : Call). RunsOn n.volume logical_lens (call_named layout n (credential_of c.args.run.credential) (moment_of c.args.run.moment) (call_of call))
+      runs = λ layout. subst (λ (call : Call). RunsOn n.volume logical_lens
+          (call_named layout n (credential_of c.args.run.credential) (moment_of c.args.run.moment) (call_of call))
           old (outcome_of c.outcome_listed.result) old) (sym asked.is)
           (subst (λ (o : Outcome). RunsOn n.volume logical_lens
           (readdir_call asked.directory (Logical n.volume) n.fileid asked.cookie.0 asked.verifier.0 asked.count) old o old)
@@ -64,7 +67,8 @@ returns-in-Commit c =
     let old = logical_before c.args.held.now in
     let told = answer_of (answers.Commit c.commit-told.result) in
     record {
-      runs = λ layout. subst (λ (call : Call). RunsOn n.volume logical_lens (call_named layout n (credential_of c.args.run.credential) (moment_of c.args.run.moment) (call_of call))
+      runs = λ layout. subst (λ (call : Call). RunsOn n.volume logical_lens
+          (call_named layout n (credential_of c.args.run.credential) (moment_of c.args.run.moment) (call_of call))
           old (Replied (Success told)) old) (sym c.in-Commit.is)
           (served-runs n.volume (commit_call c.in-Commit.handle (Logical n.volume) n.fileid) old old told (c.commit-told.ensures.right c.in-Commit.handle));
     }
