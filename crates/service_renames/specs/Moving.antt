@@ -18,9 +18,8 @@ use Rattle.held_changes.specs.Dropping.{dropping_of, emptying_of, child_emptied}
 use Rattle.held_changes.specs.Renaming.{target_dropped, child_taken, child_hung}
 use Rattle.service_names.specs.Changing.{with_directories, MayBeSet}
 use Rattle.service_names.specs.Naming.{naming_of}
-use Rattle.service_names.specs.Shown.{HasFewLinks}
 use Rattle.service_renames.specs.declared.between.Between.{Between}
-use Rattle.service_renames.specs.Renaming.{AllFew}
+use Rattle.service_renames.specs.Renaming.{IsWithin, AllWithin}
 
 -- with other directories
 abbrev pub with_map : DirectoryMap → LogicalSet → LogicalSet
@@ -68,16 +67,17 @@ entry_out b name child s =
 abbrev pub node_in : Between → HeldNode → LogicalSet → LogicalSet
 node_in b child s = with_map s.own.directories (child_hung (to_of b s) child s)
 
--- What moving a node takes: there are no more stripes than places, and numbers have room; the target may be set; the directories are there,
+-- What moving a node takes: there are no more stripes than places, numbers have room, and inodes are within bounds; the target may be set; the directories are there,
 -- and stay where the target goes; and the name that has no target has no entry; the names aren't of one entry.
 pub record MayMove (b : Between) (from_name to_name : List ℕ) (target : Option HeldNode) (s : LogicalSet) : Type 0 where
   pub few : s.own.stripes ≤ 16
   pub used : s.own.inodes.used ≤ most_ranges * range_blocks
   pub sized : IfSome target (λ (t : HeldNode). MayBeSet t.fileid s)
   pub cookies : IfSome (get s.own.directories b.to.fileid.0) (λ (d : DirectoryValue). d.next < 2 ^ 63)
-  pub links : AllFew s.own.inodes.inodes
-  pub from_links : HasFewLinks (kind_value b.from.inode.kind)
-  pub to_links : HasFewLinks (kind_value b.to.inode.kind)
+  pub within : AllWithin s.own.inodes.inodes
+  pub from_within : IsWithin (kind_value b.from.inode.kind)
+  pub to_within : IsWithin (kind_value b.to.inode.kind)
+  pub target_within : IfSome target (λ (t : HeldNode). IsWithin t.inode.kind)
   pub from_entered : get s.own.directories b.from.fileid.0 ≡ Some (entries_of s.own b.from.fileid.0)
   pub to_entered : get s.own.directories b.to.fileid.0 ≡ Some (entries_of s.own b.to.fileid.0)
   pub from_stays : get (target_left target s.own.directories) b.from.fileid.0 ≡ Some (entries_of s.own b.from.fileid.0)

@@ -1,9 +1,10 @@
 -- The two names of a RENAME, and its checks.
-use Rattle.std.specs.Prelude.{◌≡◌, ℕ, ◌||◌, Result, Ok, Err, List, Option, Some, None, IfSome, if◌then◌else◌}
+use Rattle.std.specs.Prelude.{◌≡◌, ℕ, ◌*◌, ◌≤◌, ◌||◌, Result, Ok, Err, List, Option, Some, None, IfSome, if◌then◌else◌}
 use Rattle.std.specs.FinMap.{get}
 use Rattle.nfs_model.specs.Types as model
 use Rattle.nfs_model.specs.Types.{Invalid, Wcc, Answer, RenameDone}
 use Rattle.nfs_model.specs.Names.{is_dots, name_fault}
+use Rattle.nfs_model.specs.Parts.{most_ranges, range_blocks}
 use Rattle.nfs_values.specs.Moment.{moment_of}
 use Rattle.nfs_values.specs.Status.{status_of}
 use Rattle.nfs_values.specs.declared.status.Status.{Status}
@@ -42,9 +43,13 @@ abbrev pub names_fault : List ℕ → List ℕ → Option model.Status
 names_fault from to =
     first_fault (name_fault from) (first_fault (name_fault to) (if is_dots from || is_dots to then Some Invalid else None))
 
--- no directory has too many links
-abbrev pub AllFew : InodeMap → Type 0
-AllFew inodes = (q : ℕ) → IfSome (get inodes q) (λ (i : values.Inode). HasFewLinks i.kind)
+-- what an inode is of within the bounds of a volume: it hasn't too many links, nor more blocks than there are
+pub record IsWithin (kind : values.InodeKind) : Type 0 where
+  pub links : HasFewLinks kind
+  pub filled : values.filled_blocks kind ≤ most_ranges * range_blocks
+
+abbrev pub AllWithin : InodeMap → Type 0
+AllWithin inodes = (q : ℕ) → IfSome (get inodes q) (λ (i : values.Inode). IsWithin i.kind)
 
 -- an answer tells that a node came under another name, or that both names are of one entry
 abbrev pub Renamed : Answer → Type 0

@@ -22,7 +22,7 @@ ghost use Rattle.service_renames.specs.Moving.{
   node_in,
   replaced,
 };
-ghost use Rattle.service_renames.specs.Renaming.{AllFew, renaming_in};
+ghost use Rattle.service_renames.specs.Renaming.{AllWithin, IsWithin, renaming_in};
 
 use crate::between::Between;
 use crate::dropping::drop_target;
@@ -99,8 +99,8 @@ fn leave(held: &mut LogicalHeld<Files>, between: Between, name: &[u8], child: No
 fn hang(held: &mut LogicalHeld<Files>, between: Between, child: Node)
     requires few { held.old.own.stripes ≤ 16 }
     requires used { held.old.own.inodes.used < 2 ^ 62 }
-    requires links { AllFew held.old.own.inodes.inodes }
-    requires to { HasFewLinks (kind_value between.to.inode.kind) }
+    requires within { AllWithin held.old.own.inodes.inodes }
+    requires to { IsWithin (kind_value between.to.inode.kind) }
     ensures set { logical_after held.old held.new
         ≡ node_in between (node_value child) (logical_before held.old) }
     ensures alike { logical_alike held.old held.new }

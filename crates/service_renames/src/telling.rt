@@ -6,8 +6,7 @@ ghost use Rattle.inodes.specs.Inode.{kind_value};
 ghost use Rattle.held_changes.specs.Renaming.{held_renamed};
 ghost use Rattle.held_state.specs.Lenses.{LogicalSet};
 ghost use Rattle.held_state.specs.Sets.{logical_before};
-ghost use Rattle.service_names.specs.Shown.{HasFewLinks};
-ghost use Rattle.service_renames.specs.Renaming.{AllFew, renaming_in};
+ghost use Rattle.service_renames.specs.Renaming.{AllWithin, IsWithin, renaming_in};
 
 use crate::between::Between;
 use crate::folder::directory_now;
@@ -18,9 +17,9 @@ use service_names::directory_change;
 
 /// The attributes of both directories before the call, and as they are now.
 pub(crate) fn told(held: &LogicalHeld<Files>, between: Between) -> RenameResults
-    requires from { HasFewLinks (kind_value between.from.inode.kind) }
-    requires to { HasFewLinks (kind_value between.to.inode.kind) }
-    requires now { AllFew held.now.own.inodes.inodes }
+    requires from { IsWithin (kind_value between.from.inode.kind) }
+    requires to { IsWithin (kind_value between.to.inode.kind) }
+    requires now { AllWithin held.now.own.inodes.inodes }
     ensures { (from_name to_name : List ℕ) (s : LogicalSet) → name_moved result
         ≡ (held_renamed (renaming_in between from_name to_name s) (logical_before held.now)).answer }
 {

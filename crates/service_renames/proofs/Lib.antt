@@ -1,0 +1,5 @@
+pub mod Climbs
+pub mod Emptied
+pub mod Few
+pub mod Put
+pub mod Entered
