@@ -1,5 +1,5 @@
 -- The directories after a RENAME: the entry of the new name comes first, or last.
-use Rattle.std.proofs.Common.{◌≡◌, ℕ, ◌==◌, ◌&&◌, Bool, true, false, List, [], ◌∷◌, ◌++◌, Option, Some, None, refl, sym, ap, ◌∙◌, subst, eq-eqb}
+use Rattle.std.proofs.Common.{◌≡◌, ℕ, ◌+◌, ◌==◌, ◌&&◌, Bool, true, false, List, [], ◌∷◌, ◌++◌, Option, Some, None, refl, sym, ap, ◌∙◌, subst, eq-eqb}
 use Rattle.std.proofs.lemmas.Bool.{eqb-true}
 use Rattle.std.specs.Prelude.{not, if◌then◌else◌}
 use Rattle.std.specs.FinMap.{get, insert, remove}
@@ -20,15 +20,13 @@ use Rattle.service_renames.specs.Moving.{replaced}
 without-more : (name : List ℕ) (list : List Listed) (e : Listed) → same_name e.name name ≡ false
     → without_name name (list ++ e ∷ []) ≡ without_name name list ++ e ∷ []
 without-more name [] e other = ap (λ (b : Bool). if not b then e ∷ [] else []) other
-without-more name (x ∷ list) e other = by (same_name x.name name)
+without-more name (x ∷ list) e other = by (same_name x.name name) (without-more name list e other)
   where
-    rest : without_name name (list ++ e ∷ []) ≡ without_name name list ++ e ∷ []
-    rest = without-more name list e other
-
-    by : (b : Bool) → (if not b then x ∷ without_name name (list ++ e ∷ []) else without_name name (list ++ e ∷ []))
+    by : (b : Bool) → without_name name (list ++ e ∷ []) ≡ without_name name list ++ e ∷ []
+        → (if not b then x ∷ without_name name (list ++ e ∷ []) else without_name name (list ++ e ∷ []))
         ≡ (if not b then x ∷ without_name name list else without_name name list) ++ e ∷ []
-    by true = rest
-    by false = ap (λ (l : List Listed). x ∷ l) rest
+    by true rest = rest
+    by false rest = ap (λ (l : List Listed). x ∷ l) rest
 
 removed-added : (d : DirectoryValue) (gone name : List ℕ) (fileid : ℕ) → same_name gone name ≡ false
     → removed gone (added name fileid d) ≡ added name fileid (removed gone d)
@@ -40,12 +38,12 @@ removed-added d gone name fileid other = λ j. record {
 -- a name that isn't there can't be removed
 kept-all : (name : List ℕ) (list : List Listed) → find_name name list ≡ None → without_name name list ≡ list
 kept-all name [] none = refl
-kept-all name (x ∷ list) none = by (same_name x.name name) none
+kept-all name (x ∷ list) none = by (same_name x.name name) none (kept-all name list)
   where
-    by : (b : Bool) → (if b then Some x else find_name name list) ≡ None
+    by : (b : Bool) → (if b then Some x else find_name name list) ≡ None → (find_name name list ≡ None → without_name name list ≡ list)
         → (if not b then x ∷ without_name name list else without_name name list) ≡ x ∷ list
-    by true h = absurd cc
-    by false h = ap (λ (l : List Listed). x ∷ l) (kept-all name list h)
+    by true h rest = absurd cc
+    by false h rest = ap (λ (l : List Listed). x ∷ l) (rest h)
 
 pub removed-absent : (d : DirectoryValue) (name : List ℕ) → found d name ≡ None → removed name d ≡ d
 removed-absent d name none = λ j. record { next = d.next; list = kept-all name d.list none j }
@@ -81,17 +79,18 @@ put-across m f t x a r other = same-answers (insert (insert m t a) f x) (insert 
     by q false is_f true is_t = refl
     by q false is_f false is_t = refl
 
-module _ (m : DirectoryMap) (f t c : ℕ) (from_name to_name : List ℕ) (old to_old : DirectoryValue) where
-  -- as it is done: the entry of the new name first
-  abbrev first : DirectoryMap
-  first = changed_at (removed from_name) f (changed_at (replaced to_name c) t m)
+-- as it is done: the entry of the new name comes first
+abbrev pub first : DirectoryMap → ℕ → ℕ → ℕ → List ℕ → List ℕ → DirectoryMap
+first m f t c from_name to_name = changed_at (removed from_name) f (changed_at (replaced to_name c) t m)
 
-  -- as it is told: the old entry of the new name is gone before
-  abbrev then_gone : DirectoryMap → DirectoryMap
-  then_gone gone = insert gone f (removed from_name (directory_or_empty (get gone f)))
+-- as it is told, where the old entry of the new name is gone: that of the old name goes
+abbrev pub then_gone : ℕ → List ℕ → DirectoryMap → DirectoryMap
+then_gone f from_name gone = insert gone f (removed from_name (directory_or_empty (get gone f)))
 
-  abbrev last : DirectoryMap → DirectoryMap
-  last gone = insert (then_gone gone) t (added to_name c (directory_or_empty (get (then_gone gone) t)))
+-- and then comes that of the new name
+abbrev pub last : ℕ → ℕ → ℕ → List ℕ → List ℕ → DirectoryMap → DirectoryMap
+last f t c from_name to_name gone =
+    insert (then_gone f from_name gone) t (added to_name c (directory_or_empty (get (then_gone f from_name gone) t)))
 
 -- in one directory
 same-folder : (m : DirectoryMap) (t c : ℕ) (from_name to_name : List ℕ) (d : DirectoryValue) → get m t ≡ Some d

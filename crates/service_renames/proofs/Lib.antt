@@ -3,3 +3,4 @@ pub mod Emptied
 pub mod Few
 pub mod Put
 pub mod Entered
+pub mod Steps
