@@ -4,3 +4,5 @@ pub mod Few
 pub mod Put
 pub mod Entered
 pub mod Steps
+pub mod Known
+pub mod Done
