@@ -85,7 +85,7 @@ module _ (r : HeldRenaming) (child : HeldNode) (target : Option HeldNode) where
 
 pub renamed : (r : HeldRenaming) (s : LogicalSet) (done : LogicalAnswer) → done ≡ held_renamed r s → Renamed done.answer
 renamed r s done is =
-    (directory_change r.from (directory_now r.from s), (directory_change r.to (directory_now r.to s), ap (λ (a : LogicalAnswer). a.answer) is))
+    (directory_change r.from (directory_now r.from s), directory_change r.to (directory_now r.to s), ap (λ (a : LogicalAnswer). a.answer) is)
 
 -- ---- what came of it: a reply that is the law's, or no memory where it may run out
 

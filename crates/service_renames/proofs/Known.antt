@@ -90,7 +90,8 @@ module _ (s : LogicalSet) where
       by : (o : Option Inode) → get s.own.inodes.inodes q ≡ o → node_there q o ≡ Some t → get s.own.inodes.inodes t.fileid ≡ Some t.inode
       by None is h = absurd cc
       by (Some i) is h =
-          let same : record HeldNode { fileid = q; inode = i } ≡ t = cc in
+          let found : HeldNode = record { fileid = q; inode = i } in
+          let same : found ≡ t = cc in
           subst (λ (x : HeldNode). get s.own.inodes.inodes x.fileid ≡ Some x.inode) same is
 
   unnamed : (d : DirectoryValue) (name : List ℕ) → d.list ≡ [] → fileid_found d name ≡ None
