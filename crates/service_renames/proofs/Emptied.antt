@@ -1,5 +1,5 @@
 -- What a step leaves after another, and targets that are dropped.
-use Rattle.std.proofs.Common.{◌≡◌, ℕ, List, [], length, Option, Some, None, refl, sym, ap, ◌∙◌}
+use Rattle.std.proofs.Common.{◌≡◌, ℕ, List, Option, Some, refl, sym, ap, ◌∙◌}
 use Rattle.nfs_model.specs.Types.{Moment}
 use Rattle.volume_values.specs.Inodes.{InodeKind, RegularFile, Folder, Inode}
 use Rattle.held_state.specs.Lenses.{LogicalSet}

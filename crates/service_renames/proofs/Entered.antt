@@ -1,18 +1,16 @@
 -- The directories after a RENAME: the entry of the new name comes first, or last.
-use Rattle.std.proofs.Common.{◌≡◌, ℕ, ◌+◌, ◌==◌, ◌&&◌, Bool, true, false, List, [], ◌∷◌, ◌++◌, Option, Some, None, refl, sym, ap, ◌∙◌, subst, eq-eqb}
+use Rattle.std.proofs.Common.{◌≡◌, ℕ, ◌+◌, ◌==◌, ◌&&◌, Bool, true, false, List, [], ◌∷◌, ◌++◌, Some, None, refl, sym, ap, ◌∙◌, subst, eq-eqb}
 use Rattle.std.proofs.lemmas.Bool.{eqb-true}
 use Rattle.std.specs.Prelude.{not, if◌then◌else◌}
 use Rattle.std.specs.FinMap.{get, insert, remove}
 use Rattle.nfs_model.specs.Types.{Listed}
 use Rattle.nfs_model.specs.Names.{same_name, find_name, without_name}
 use Rattle.volume_values.specs.Directories.{DirectoryValue, added, removed, found, entry_added}
-use Rattle.volume_values.specs.Inodes.{InodeKind, RegularFile, Folder}
 use Rattle.volume_values.specs.Maps.{changed_at, changed_value}
 use Rattle.volume_values.specs.lemmas.Directories.{same-turned}
 use Rattle.volume_values.specs.lemmas.Numbered.{itself, get-insert_at, get-remove_at, same-answers, insert-same, insert-twice}
 use Rattle.held_state.specs.Names.{DirectoryMap}
 use Rattle.held_state.specs.Tree.{directory_or_empty}
-use Rattle.held_nodes.specs.Dropping.{directories_left}
 use Rattle.service_renames.specs.Moving.{replaced}
 
 -- ---- one directory

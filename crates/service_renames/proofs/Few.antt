@@ -1,5 +1,5 @@
 -- Links and blocks of inodes that are set one after the other.
-use Rattle.std.proofs.Common.{◌≡◌, ℕ, ◌+◌, ◌-◌, ◌≤◌, ◌==◌, Bool, true, false, Option, Some, None, refl, sym, ap, ◌∙◌, subst, arith}
+use Rattle.std.proofs.Common.{◌≡◌, ℕ, ◌+◌, ◌≤◌, ◌==◌, Bool, true, false, Option, Some, None, refl, sym, subst, arith}
 use Rattle.std.specs.Prelude.{IfSome, if◌then◌else◌}
 use Rattle.std.specs.FinMap.{get}
 use Rattle.volume_values.specs.Inodes.{InodeKind, RegularFile, Folder, Inode, InodesValue, filled_blocks, inode_replaced, inode_set, used_without, inode_dropped}
@@ -8,7 +8,6 @@ use Rattle.held_changes.specs.Renaming.{inode_or}
 use Rattle.held_nodes.specs.Dropping.{without_subdirectories}
 use Rattle.held_nodes.specs.Making.{with_subdirectories}
 use Rattle.held_nodes.specs.Sizing.{kind_sized}
-use Rattle.held_state.specs.Names.{InodeMap}
 use Rattle.service_renames.specs.Renaming.{IsWithin, AllWithin}
 
 -- ---- bounds

@@ -1,26 +1,24 @@
 -- What is known of the set that a RENAME holds, and of the set that it leaves.
-use Rattle.std.proofs.Common.{◌≡◌, ℕ, ◌+◌, ◌*◌, ◌<◌, ◌≤◌, ◌^◌, ◌==◌, ◌&&◌, Bool, true, false, List, [], ◌∷◌, Option, Some, None}
+use Rattle.std.proofs.Common.{◌≡◌, ℕ, ◌+◌, ◌<◌, ◌^◌, ◌==◌, ◌&&◌, Bool, true, false, List, [], ◌∷◌, Option, Some, None}
 use Rattle.std.proofs.Common.{refl, sym, ap, ◌∙◌, subst, arith}
 use Rattle.std.proofs.lemmas.Bool.{eqb-true}
 use Rattle.std.specs.Prelude.{IfSome, if◌then◌else◌}
 use Rattle.std.specs.Option.{option_map}
 use Rattle.std.specs.FinMap.{get, remove}
 use Rattle.nfs_model.specs.Names.{same_name}
-use Rattle.nfs_model.specs.Parts.{Hand, most_ranges, range_blocks}
+use Rattle.nfs_model.specs.Parts.{Hand}
 use Rattle.nfs_model.specs.Serial.Rename.{is_empty_list}
 use Rattle.nfs_model.specs.Types.{Listed}
-use Rattle.nfs_values.specs.Moment.{moment_of}
 use Rattle.depot_rule.specs.Shares.{too_many}
-use Rattle.volume_values.specs.Directories.{DirectoryValue, found, fileid_found, removed}
-use Rattle.volume_values.specs.Inodes.{InodeKind, RegularFile, Folder, Inode, IsInodes, filled_blocks}
+use Rattle.volume_values.specs.Directories.{DirectoryValue, found, fileid_found}
+use Rattle.volume_values.specs.Inodes.{InodeKind, RegularFile, Folder, Inode}
 use Rattle.volume_values.specs.lemmas.Inodes.{filled-within}
 use Rattle.volume_values.specs.lemmas.Numbered.{get-remove_at}
-use Rattle.inodes.specs.Inode.{inode_value, kind_value}
+use Rattle.inodes.specs.Inode.{inode_value}
 use Rattle.held_state.specs.Calls.{VolumeCall}
 use Rattle.held_state.specs.Changes.{LogicalAnswer}
 use Rattle.held_state.specs.Contents.{VolumeContents}
 use Rattle.held_state.specs.Lenses.{LogicalSet, logical_lens}
-use Rattle.held_state.specs.Names.{is_folder}
 use Rattle.held_state.specs.Promises.{HasVolume}
 use Rattle.held_state.specs.Sound.{IsSound}
 use Rattle.held_laws.specs.lemmas.Limits.{used-fits, ranges-fit}
@@ -28,7 +26,6 @@ use Rattle.held_names.specs.Answers.{entries_of}
 use Rattle.held_changes.specs.Laws.{IsDone}
 use Rattle.held_changes.specs.Named.{HeldNode, node_there, node_at}
 use Rattle.held_changes.specs.Renaming.{may_replace, target_may_go}
-use Rattle.service_names.specs.Changing.{MayBeSet}
 use Rattle.service_names.specs.lemmas.May.{whole-absent}
 use Rattle.service_names.specs.lemmas.Nodes.{whole-used, whole-may-be-set, whole-entered}
 use Rattle.service_names.specs.lemmas.Whole.{few-links, whole-few}

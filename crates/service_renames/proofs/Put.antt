@@ -1,5 +1,5 @@
 -- A node that comes into its directory.
-use Rattle.std.proofs.Common.{◌≡◌, ℕ, List, Option, refl, sym, ap, ◌∙◌}
+use Rattle.std.proofs.Common.{◌≡◌, ℕ, List, Option, sym, ap, ◌∙◌}
 use Rattle.std.specs.FinMap.{get}
 use Rattle.nfs_model.specs.Types.{Moment}
 use Rattle.nfs_values.specs.Moment.{moment_of}

@@ -7,9 +7,8 @@ use Rattle.nfs_model.specs.Server.{Attributes}
 use Rattle.nfs_values.specs.Moment.{moment_of}
 use Rattle.inodes.specs.Inode.{inode_value, kind_value}
 use Rattle.volume_values.specs.Inodes.{InodeKind, RegularFile, Folder, Inode, inode_set, inode_dropped}
-use Rattle.volume_values.specs.Logical.{LogicalValue}
 use Rattle.volume_values.specs.Maps.{changed_at}
-use Rattle.volume_values.specs.Directories.{DirectoryValue, removed}
+use Rattle.volume_values.specs.Directories.{removed}
 use Rattle.held_names.specs.Answers.{entries_of}
 use Rattle.held_state.specs.Contents.{each}
 use Rattle.held_state.specs.Lenses.{LogicalSet}
@@ -18,7 +17,7 @@ use Rattle.held_state.specs.Sets.{FilerLogical, stripe_value, placed, logical_se
 use Rattle.held_nodes.specs.Dropping.{directory_left, without_subdirectories}
 use Rattle.held_nodes.specs.Making.{folders_in}
 use Rattle.held_nodes.specs.Moving.{dated_inode}
-use Rattle.held_nodes.specs.Sizing.{all_freed, kind_sized, inode_sized}
+use Rattle.held_nodes.specs.Sizing.{all_freed, inode_sized}
 use Rattle.held_changes.specs.Named.{HeldNode}
 use Rattle.held_changes.specs.Dropping.{dropping_of, emptying_of, child_emptied}
 use Rattle.held_changes.specs.Renaming.{inode_or, set_renamed}
@@ -27,7 +26,7 @@ use Rattle.service_renames.specs.declared.between.Between.{Between}
 use Rattle.service_renames.specs.Moving.{with_map, to_of, replaced, entry_put, target_out, entry_out, node_in, MayMove}
 use Rattle.service_renames.specs.Renaming.{renaming_in, IsWithin, AllWithin}
 use Rattle.service_renames.proofs.Emptied.{then-step}
-use Rattle.service_renames.proofs.Entered.{either-way, either-way-none, removed-across, last}
+use Rattle.service_renames.proofs.Entered.{either-way, either-way-none, removed-across}
 use Rattle.service_renames.proofs.Few.{within-now, within-left, within-sized, within-set, within-dropped, used-set, used-dropped}
 
 -- ---- what each keeps

@@ -7,7 +7,6 @@ use Rattle.held_state.specs.Changes.{LogicalAnswer}
 use Rattle.held_state.specs.Lenses.{LogicalSet}
 use Rattle.held_state.specs.Sets.{logical_before}
 use Rattle.held_changes.specs.Laws.{rename_call}
-use Rattle.held_changes.specs.Named.{HeldNode}
 use Rattle.held_changes.specs.Renaming.{held_renamed, rename_by, set_renamed}
 use Rattle.service_names.specs.Naming.{node_value}
 use Rattle.service_renames.specs.Renaming.{AllWithin, done_between, renaming_in}
