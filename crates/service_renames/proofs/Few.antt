@@ -2,7 +2,8 @@
 use Rattle.std.proofs.Common.{◌≡◌, ℕ, ◌+◌, ◌≤◌, ◌==◌, Bool, true, false, Option, Some, None, refl, sym, subst, arith}
 use Rattle.std.specs.Prelude.{IfSome, if◌then◌else◌}
 use Rattle.std.specs.FinMap.{get}
-use Rattle.volume_values.specs.Inodes.{InodeKind, RegularFile, Folder, Inode, InodesValue, filled_blocks, inode_replaced, inode_set, used_without, inode_dropped}
+use Rattle.volume_values.specs.Inodes.{InodeKind, RegularFile, Folder, Inode, InodesValue, filled_blocks, inode_replaced, inode_set}
+use Rattle.volume_values.specs.Inodes.{used_without, inode_dropped}
 use Rattle.volume_values.specs.lemmas.Numbered.{get-insert_at, get-remove_at}
 use Rattle.held_changes.specs.Renaming.{inode_or}
 use Rattle.held_nodes.specs.Dropping.{without_subdirectories}

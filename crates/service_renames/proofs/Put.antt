@@ -48,7 +48,8 @@ module _ {P : Type 0} (old one two new : FilerLogical P) (b : Between) (child : 
       → hung ≡ node_hung (moving_of (to_of b s) child s) (file_touch s.stripes child.fileid)
   hung-is hung touch latest attributes_is kind_is = λ j. record { attributes = held j; kind = kind_is j }
     where
-      held : hung.attributes ≡ record (attributes_now (file_touch s.stripes child.fileid) child.inode.attributes child.inode.kind) { ctime = moment_of b.moment }
+      held : hung.attributes
+          ≡ record (attributes_now (file_touch s.stripes child.fileid) child.inode.attributes child.inode.kind) { ctime = moment_of b.moment }
       held =
           attributes_is
           ∙ ap (λ (t : Option Moment). record (attributes_now t child.inode.attributes child.inode.kind) { ctime = moment_of b.moment })

@@ -67,8 +67,8 @@ entry_out b name child s =
 abbrev pub node_in : Between → HeldNode → LogicalSet → LogicalSet
 node_in b child s = with_map s.own.directories (child_hung (to_of b s) child s)
 
--- What moving a node takes: there are no more stripes than places, numbers have room, and inodes are within bounds; the target may be set; the directories are there,
--- and stay where the target goes; and the name that has no target has no entry; the names aren't of one entry.
+-- What moving a node takes: there are no more stripes than places, numbers have room, and inodes are within bounds; the target may be set;
+-- the directories are there, and stay where the target goes; a name without a target has no entry; and the names aren't of one entry.
 pub record MayMove (b : Between) (from_name to_name : List ℕ) (target : Option HeldNode) (s : LogicalSet) : Type 0 where
   pub few : s.own.stripes ≤ 16
   pub used : s.own.inodes.used ≤ most_ranges * range_blocks

@@ -5,13 +5,12 @@ ghost use Rattle.std.specs.FinMap.{get};
 ghost use Rattle.std.specs.Option.{option_map};
 ghost use Rattle.nfs_values.specs.Moment.{moment_of};
 ghost use Rattle.parcel_sets.specs.Filled.{logical_alike};
-ghost use Rattle.inodes.specs.Inode.{inode_value, kind_value};
+ghost use Rattle.inodes.specs.Inode.{attributes_value, inode_value, kind_value};
 ghost use Rattle.held_changes.specs.Renaming.{set_renamed};
 ghost use Rattle.held_nodes.specs.Making.{folders_in, with_subdirectories};
 ghost use Rattle.held_nodes.specs.Moving.{dated_inode, with_parent};
 ghost use Rattle.held_state.specs.Changes.{attributes_now};
 ghost use Rattle.held_state.specs.Sets.{logical_before, logical_after};
-ghost use Rattle.inodes.specs.Inode.{attributes_value};
 ghost use Rattle.service_names.specs.Changing.{with_directories};
 ghost use Rattle.service_names.specs.Naming.{node_value};
 ghost use Rattle.service_names.specs.Shown.{HasFewLinks};
@@ -60,8 +59,8 @@ pub(crate) fn move_node(
     Ok(())
 }
 
-/// Adds an entry to a directory, in the place of the one with its name, if there is one. Where there
-/// is no memory for it nothing has changed.
+/// Adds an entry to a directory, in the place of the one with its name, if there is one. Where
+/// there is no memory for it nothing has changed.
 fn put_entry(
     alloc: Global,
     held: &mut LogicalHeld<Files>,
