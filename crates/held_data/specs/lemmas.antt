@@ -3,3 +3,4 @@ pub mod Bytes
 pub mod Spans
 pub mod Told
 pub mod Reads
+pub mod Homes

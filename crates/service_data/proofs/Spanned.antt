@@ -23,6 +23,7 @@ use Rattle.service_data.specs.Stripes.{HasStripes}
 
 -- ---- two spans
 
+-- a range in two parts
 map-append : {X : Type 0} (f : ℕ → X) (a n m : ℕ)
     → map f (range_with_len a (n + m)) ≡ map f (range_with_len a n) ++ map f (range_with_len (a + n) m)
 map-append f a zero m =
@@ -33,15 +34,15 @@ map-append f a (suc n) m =
     ap (λ k. map f (range_with_len a k)) count ∙ ap (λ l. f a ∷ l) (map-append f (a + 1) n m)
     ∙ ap (λ b. f a ∷ (map f (range_with_len (a + 1) n) ++ map f (range_with_len b m))) from
 
+-- bytes of a span, and of the next after them
 pub two-spans : (stripes : List StripeValue) (fileid offset first n : ℕ) (old one two : List ℕ) → first ≤ n
     → one ≡ old ++ bytes_under stripes fileid offset first → two ≡ one ++ bytes_under stripes fileid (offset + first) (n - first)
     → two ≡ old ++ bytes_under stripes fileid offset n
 two-spans stripes fileid offset first n old one two within here more =
     let all : first + (n - first) ≡ n = omega arith in
-    let both = map-append (λ k. k) offset first (n - first) in
     more ∙ ap (λ (l : List ℕ). l ++ bytes_under stripes fileid (offset + first) (n - first)) here
     ∙ append_assoc old (bytes_under stripes fileid offset first) (bytes_under stripes fileid (offset + first) (n - first))
-    ∙ ap (λ (l : List ℕ). old ++ l) (sym (map-append _ offset first (n - first)) ∙ ap (bytes_under stripes fileid offset) all)
+    ∙ ap (λ (l : List ℕ). old ++ l) (sym (map-append (file_byte stripes fileid) offset first (n - first)) ∙ ap (bytes_under stripes fileid offset) all)
 
 -- room that is left after the first
 pub room-left : {Z : Type 0} (old one : Vec ℕ Z) (stripes : List StripeValue) (fileid offset first n : ℕ) → first ≤ n
@@ -55,17 +56,17 @@ room-left old one stripes fileid offset first n within here more room =
 
 -- ---- the stripe of a span
 
+-- what is in a place that there is
+place-found : {A : Type 0} (xs : List A) (i : ℕ) (x : A) → i < length xs → slice_get xs i ≡ Some (slice_index_or xs i x)
+place-found [] i x less = absurd (omega arith)
+place-found (y ∷ ys) zero x less = refl
+place-found (y ∷ ys) (suc i) x less = place-found ys i x (omega arith)
+
 module _ {P : Type 0} (held : FilerLogical P) (stripes : HasStripes held) where
   abbrev at_place : ℕ → StripeValue
   at_place i = stripe_value (placed held.stripes.at i)
 
-  -- what is in a place that there is
-  place-found : {A : Type 0} (xs : List A) (i : ℕ) (x : A) → i < length xs → slice_get xs i ≡ Some (slice_index_or xs i x)
-  place-found [] i x less = absurd (omega arith)
-  place-found (y ∷ ys) zero x less = refl
-  place-found (y ∷ ys) (suc i) x less = place-found ys i x (omega arith)
-
-  pub in-place : (i : ℕ) (place : Option (FilerStripe P)) → i < length held.stripes.at
+  in-place : (i : ℕ) (place : Option (FilerStripe P)) → i < length held.stripes.at
       → placed held.stripes.at i ≡ slice_index_or held.stripes.at i place
   in-place i place less = ap in_one (place-found held.stripes.at i place less)
 
@@ -103,17 +104,17 @@ module _ {P : Type 0} (held : FilerLogical P) (stripes : HasStripes held) where
 -- ---- what is held under Logical of a sound volume has its stripes
 
 module _ {P : Type 0} (held : FilerLogical P) (whole : IsHeld (logical_before held)) where
-  abbrev p : VolumeContents
-  p = whole.1.0
+  abbrev volume : VolumeContents
+  volume = whole.1.0
 
-  own-same : p.logical.stripes ≡ held.own.stripes
+  own-same : volume.logical.stripes ≡ held.own.stripes
   own-same = ap (λ (s : LogicalSet). s.own.stripes) whole.1.4
 
   some-striped : (0 < held.own.stripes) × (held.own.stripes ≤ 16)
   some-striped =
       let same = own-same in
-      ⊎_elim (λ (e : p.logical.stripes ≡ 8). (omega (arith, e, same), omega (arith, e, same)))
-      (λ (e : p.logical.stripes ≡ 16). (omega (arith, e, same), omega (arith, e, same))) whole.1.8.well_formed.striped
+      ⊎_elim (λ (e : volume.logical.stripes ≡ 8). (omega (arith, e, same), omega (arith, e, same)))
+      (λ (e : volume.logical.stripes ≡ 16). (omega (arith, e, same), omega (arith, e, same))) whole.1.8.well_formed.striped
 
   stripe-there : (i : ℕ) → i < held.own.stripes → (o : Option (FilerStripe P)) → placed held.stripes.at i ≡ o → is_some o ≡ true
   stripe-there i below (Some s) e = refl
@@ -121,10 +122,10 @@ module _ {P : Type 0} (held : FilerLogical P) (whole : IsHeld (logical_before he
       let well = whole.1.8.well_formed in
       let same = own-same in
       let many = well.as_many in
-      let here : stripe_at p.stripes i ≡ stripe_value (placed held.stripes.at i) =
+      let here : stripe_at volume.stripes i ≡ stripe_value (placed held.stripes.at i) =
       ap (λ (s : LogicalSet). stripe_at s.stripes i) whole.1.4
       ∙ each-index (λ k. stripe_value (placed held.stripes.at k)) no_stripe held.own.stripes i below in
-      let none : (stripe_at p.stripes i).stripes ≡ 0 = ap (λ (s : StripeValue). s.stripes) (here ∙ ap stripe_value e) in
+      let none : (stripe_at volume.stripes i).stripes ≡ 0 = ap (λ (s : StripeValue). s.stripes) (here ∙ ap stripe_value e) in
       let fits = (well.stripes i (omega (arith, same, many, below))).stripes in
       let some = some-striped.0 in
       absurd (omega (arith, none, fits, same, some))
