@@ -105,7 +105,7 @@ pub(crate) fn is_past(size: Option<u64>, largest: u64) -> bool
 
 /// The attributes of a node as they hold, where this is its file's latest touch; a directory has
 /// none.
-pub(crate) fn attributes_now(inode: Inode, touch: Option<Moment>) -> StoredAttributes
+pub fn attributes_now(inode: Inode, touch: Option<Moment>) -> StoredAttributes
     ensures { attributes_value result ≡ attributes_now (option_map moment_of touch)
         (attributes_value inode.attributes) (kind_value inode.kind) }
 {

@@ -38,7 +38,7 @@ pub(crate) fn put_cards(
 }
 
 /// Takes the card of a node out of each stripe of its volume. It takes no memory.
-pub(crate) fn drop_cards(held: &mut LogicalHeld<Files>, fileid: Fileid)
+pub fn drop_cards(held: &mut LogicalHeld<Files>, fileid: Fileid)
     requires few { held.old.own.stripes ≤ 16 }
     ensures own { held.new.own ≡ held.old.own }
     ensures dropped { InFirst (IsDropped fileid.0) held.old.own.stripes

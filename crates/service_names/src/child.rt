@@ -54,8 +54,8 @@ pub(crate) fn directory_named(
     }
 }
 
-/// The node under a name of a directory.
-pub(crate) fn child_at(held: &LogicalHeld<Files>, directory: Fileid, name: &[u8]) -> Option<Node>
+/// The node under a name of a directory; `.` and `..` are no entries.
+pub fn child_at(held: &LogicalHeld<Files>, directory: Fileid, name: &[u8]) -> Option<Node>
     ensures there { IfSome result (λ child.
         get held.now.own.inodes.inodes child.fileid.0 ≡ Some (inode_value child.inode)) }
     ensures node { option_map node_value result ≡ node_at (logical_before held.now)
@@ -79,8 +79,8 @@ fn find(held: &LogicalHeld<Files>, directory: Fileid, name: &[u8]) -> Option<Fil
     }
 }
 
-/// Whether the directory of a fileid has no entry.
-pub(crate) fn is_empty(held: &LogicalHeld<Files>, directory: Fileid) -> bool
+/// Whether the directory of a fileid has no entry but `.` and `..`.
+pub fn is_empty(held: &LogicalHeld<Files>, directory: Fileid) -> bool
     ensures { result ≡ (length (entries_of held.now.own directory.0).list == 0) }
 {
     match held.own.get().directories.get(directory) {
@@ -90,14 +90,15 @@ pub(crate) fn is_empty(held: &LogicalHeld<Files>, directory: Fileid) -> bool
 }
 
 /// Whether a name is `.` or `..`.
-pub(crate) fn is_dots(name: &[u8]) -> bool
+pub fn is_dots(name: &[u8]) -> bool
     ensures { result ≡ is_dots name.now }
 {
     is_same_name(name, b".") || is_same_name(name, b"..")
 }
 
-/// The attributes of a directory before and after a call on a name.
-pub(crate) fn directory_change(volume: VolumeNumber, directory: Node, after: Inode) -> Change
+/// The attributes of a directory before and after a call on a name (wcc_data, RFC 1813 section
+/// 2.6), where this is its inode after it.
+pub fn directory_change(volume: VolumeNumber, directory: Node, after: Inode) -> Change
     requires before { HasFewLinks (kind_value directory.inode.kind) }
     requires after { HasFewLinks (kind_value after.kind) }
     ensures { (name : List ℕ) (moment : Moment) (s : LogicalSet) → change_of result

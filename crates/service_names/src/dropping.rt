@@ -90,8 +90,9 @@ pub(crate) fn drop_node(
     left
 }
 
-/// The inode of a directory after a node of a kind under it is dropped at a moment.
-fn directory_left(inode: Inode, kind: InodeKind, moment: Moment) -> Inode
+/// The inode of a directory that a node of a kind leaves at a moment: both times are the moment's,
+/// and a directory is one subdirectory less.
+pub fn directory_left(inode: Inode, kind: InodeKind, moment: Moment) -> Inode
     ensures { inode_value result
         ≡ inode_left (inode_value inode) (kind_value kind) (moment_of moment) }
 {
@@ -105,7 +106,7 @@ fn directory_left(inode: Inode, kind: InodeKind, moment: Moment) -> Inode
     }
 }
 
-/// What a directory is after a node of a kind under it is dropped.
+/// What a directory is that a node of a kind leaves.
 fn kind_left(directory: InodeKind, kind: InodeKind) -> InodeKind
     ensures { kind_value result
         ≡ without_subdirectories (folders_in (kind_value kind)) (kind_value directory) }
@@ -124,8 +125,8 @@ fn kind_left(directory: InodeKind, kind: InodeKind) -> InodeKind
     }
 }
 
-/// Drops the inode of a node, and sets that of the directory in which it was.
-fn drop_inode(own: &mut LogicalParcel, fileid: Fileid, directory: Fileid, left: Inode)
+/// Drops the inode of a node, and sets that of the directory in which it was. It takes no memory.
+pub fn drop_inode(own: &mut LogicalParcel, fileid: Fileid, directory: Fileid, left: Inode)
     requires { own.old.inodes.used < 2 ^ 63 }
     ensures { own.new ≡ with_inodes (inode_set directory.0 (inode_value left)
         (inode_dropped fileid.0 own.old.inodes)) own.old }
@@ -135,8 +136,8 @@ fn drop_inode(own: &mut LogicalParcel, fileid: Fileid, directory: Fileid, left: 
     inodes.set(directory, left);
 }
 
-/// Drops the entries of a node of a kind, if it is a directory.
-fn drop_directory(own: &mut LogicalParcel, kind: InodeKind, fileid: Fileid)
+/// Drops the entries of a node of a kind, if it is a directory. It takes no memory.
+pub fn drop_directory(own: &mut LogicalParcel, kind: InodeKind, fileid: Fileid)
     ensures { own.new ≡ with_directories
         (directories_left (kind_value kind) fileid.0 own.old.directories) own.old }
 {

@@ -1,5 +1,5 @@
 //! Calls on the names of a volume, on the parcels that they hold: SETATTR, LOOKUP, CREATE, MKDIR,
-//! REMOVE, RMDIR, READDIR and COMMIT.
+//! REMOVE, RMDIR, READDIR and COMMIT; and the steps of which other calls are made.
 #![tactic(auto)]
 
 mod attributes;
@@ -25,11 +25,19 @@ mod touches;
 mod upon;
 mod within;
 
+pub use attributes::attributes_now;
+pub use cards::drop_cards;
+pub use child::{child_at, directory_change, is_dots, is_empty};
 pub use committing::commit;
 pub use creating::{create, make_directory};
+pub use dropping::{directory_left, drop_directory, drop_inode};
 pub use listing::{PageAsked, read_directory};
 pub use looking::lookup;
+pub use making::with_child;
+pub use naming::{is_same_name, name_fault};
+pub use node::Node;
 pub use removing::{remove, remove_directory};
 pub use setting::set_attributes;
 pub use showing::{prior, shown};
+pub use sizing::{set_inode, size_file};
 pub use touches::{is_same, latest_touch, take_touches};

@@ -262,10 +262,9 @@ fn dated(within: Within, made: InodeKind) -> Inode
     }
 }
 
-/// What a directory is in which a node of a kind is made.
-fn with_child(kind: InodeKind, made: InodeKind) -> InodeKind
-    requires { IfSome (subdirectories_in (kind_value kind))
-        (λ subdirectories. subdirectories < most_inodes) }
+/// What a directory is that gets a node of a kind: a directory is one more subdirectory.
+pub fn with_child(kind: InodeKind, made: InodeKind) -> InodeKind
+    requires { HasFewLinks (kind_value kind) }
     ensures { kind_value result
         ≡ with_subdirectories (folders_in (kind_value made)) (kind_value kind) }
 {

@@ -14,7 +14,7 @@ use parcels::Files;
 
 /// What is wrong with a name: NAMETOOLONG over 255 bytes; ACCES where it is empty, or has `/` or
 /// byte 0 (our profile).
-pub(crate) fn name_fault(name: &[u8]) -> Option<Status>
+pub fn name_fault(name: &[u8]) -> Option<Status>
     ensures { option_map status_of result ≡ name_fault name.now }
 {
     if name.len() > 255 {
@@ -54,7 +54,7 @@ pub(crate) fn fileid_named(
 }
 
 /// Whether two names, or any two lists of bytes, are one.
-pub(crate) fn is_same_name(name: &[u8], other: &[u8]) -> bool
+pub fn is_same_name(name: &[u8], other: &[u8]) -> bool
     ensures { result ≡ same_name name.now other.now }
 {
     name == other

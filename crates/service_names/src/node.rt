@@ -5,7 +5,8 @@ use nfs_values::Fileid;
 
 /// A node of a volume.
 #[derive(Clone, Copy)]
-pub(crate) struct Node {
+pub struct Node {
     pub fileid: Fileid,
+    /// As it is stored.
     pub inode: Inode,
 }

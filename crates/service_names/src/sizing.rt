@@ -16,7 +16,7 @@ use parcels::Files;
 
 /// Sets a file to a size, cut or grown by a hole, and to attributes, and tells its inode; the
 /// blocks that leave it are dead. It takes no memory.
-pub(crate) fn size_file(
+pub fn size_file(
     held: &mut LogicalHeld<Files>,
     fileid: Fileid,
     inode: Inode,
@@ -57,7 +57,7 @@ fn sized_kind(kind: InodeKind, size: u64, left: u32) -> InodeKind
 }
 
 /// Sets the inode of a node that is there. It takes no memory.
-pub(crate) fn set_inode(held: &mut LogicalHeld<Files>, fileid: Fileid, inode: Inode)
+pub fn set_inode(held: &mut LogicalHeld<Files>, fileid: Fileid, inode: Inode)
     requires { held.old.own.inodes.used < 2 ^ 63 }
     ensures own { held.new.own ≡ with_inode fileid.0 (inode_value inode) held.old.own }
     ensures stripes { held.new.stripes ≡ held.old.stripes }

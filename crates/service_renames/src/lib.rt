@@ -1,8 +1,15 @@
 //! RENAME, on the parcels that it holds.
 #![tactic(auto)]
 
+mod asking;
+mod between;
+mod climbing;
+mod dropping;
 mod entry_name;
+mod folder;
+mod moving;
 mod renaming;
+mod telling;
 
 pub use entry_name::EntryName;
 pub use renaming::rename;

@@ -12,7 +12,8 @@ use Rattle.held_state.specs.Promises.{HasVolume}
 use Rattle.held_laws.specs.lemmas.Limits.{few-folders}
 use Rattle.service_names.specs.Shown.{HasFewLinks}
 
-few-links : (p : VolumeContents) → WellFormed p → (fileid : ℕ) (inode : Inode) → get p.logical.inodes.inodes fileid ≡ Some inode → HasFewLinks inode.kind
+-- no directory of a sound volume has too many links
+pub few-links : (p : VolumeContents) → WellFormed p → (fileid : ℕ) (inode : Inode) → get p.logical.inodes.inodes fileid ≡ Some inode → HasFewLinks inode.kind
 few-links p well fileid inode there = by inode.kind refl
   where
     by : (kind : InodeKind) → inode.kind ≡ kind → HasFewLinks kind
