@@ -1,8 +1,8 @@
 -- Blocks that a write meets: those of them that aren't filled, and where they lie.
 use Rattle.std.proofs.Common.{◌≡◌, ◌≢◌, ℕ, zero, suc, ◌+◌, ◌-◌, ◌*◌, ◌/◌, ◌%◌, ◌<◌, ◌≤◌, ◌==◌, ◌&&◌, ◌||◌, not, Bool, true, false, List, [], ◌∷◌, length}
-use Rattle.std.proofs.Common.{nat_lt, nat_eq, refl, sym, ap, ◌∙◌, arith, inl, inr, ◌⊎◌}
+use Rattle.std.proofs.Common.{nat_lt, nat_eq, refl, sym, ap, ◌∙◌, arith, inl, inr, ◌⊎◌, ⊎_elim}
 use Rattle.std.specs.Prelude.{if◌then◌else◌}
-use Rattle.std.proofs.lemmas.Bool.{eqb-true}
+use Rattle.std.proofs.lemmas.Bool.{cases_eq, eqb-true}
 use Rattle.std.proofs.lemmas.Bool.Decides.{nat_tests}
 use Rattle.std.specs.List.{range_with_len, filter, list_all, list_any}
 use Rattle.std.specs.Ordering.{nat_cmp}
@@ -40,6 +40,29 @@ met-tests test other offset n same = by (n == 0) refl
         range-tests test other (offset / block_size) (((offset + n - 1) / block_size + 1) - offset / block_size)
         (λ b from below. same b some from (omega (arith, below)))
 
+range-passes : (test : ℕ → Bool) (a n b : ℕ) → list_all test (range_with_len a n) ≡ true → a ≤ b → b < a + n → test b ≡ true
+range-passes test a zero b all from below = absurd (omega (arith, from, below))
+range-passes test a (suc n) b all from below = by (test a) refl all (range-passes test (a + 1) n b)
+  where
+    by : (t : Bool) → test a ≡ t → (t && list_all test (range_with_len (a + 1) n)) ≡ true
+        → (list_all test (range_with_len (a + 1) n) ≡ true → a + 1 ≤ b → b < a + 1 + n → test b ≡ true) → test b ≡ true
+    by false e h others = absurd cc
+    by true e h others = ⊎_elim
+        (λ (same : b ≡ a). ap test same ∙ e)
+        (λ (ne : b ≢ a). others h (omega (arith, from, ne)) (omega (arith, below)))
+        (cases_eq b a)
+
+-- where all pass, so does the block of each byte
+pub met-passes : (test : ℕ → Bool) (offset n k : ℕ) → list_all test (blocks_met offset n) ≡ true → offset ≤ k → k < offset + n → test (k / block_size) ≡ true
+met-passes test offset n k all from below = by (n == 0) refl all
+  where
+    by : (none : Bool) → (n == 0) ≡ none
+        → list_all test (if none then [] else range_with_len (offset / block_size) (((offset + n - 1) / block_size + 1) - offset / block_size)) ≡ true
+        → test (k / block_size) ≡ true
+    by true e h = let no : n ≡ 0 = eqb-true n 0 e in absurd (omega (arith, no, from, below))
+    by false e h = range-passes test (offset / block_size) (((offset + n - 1) / block_size + 1) - offset / block_size) (k / block_size) h
+        (omega (arith, from)) (omega (arith, from, below))
+
 -- none is left out just where all pass
 pub none-left : (test : ℕ → Bool) (blocks : List ℕ) → nat_lt 0 (length (filter (λ b. not (test b)) blocks)) ≡ not (list_all test blocks)
 none-left test [] = refl
@@ -62,11 +85,12 @@ insert-there set b there = sets.same_set nat_cmp_total nat_cmp-IsAntisymmetric (
 
 pub filled-already : (set : FinSet nat_cmp) (blocks : List ℕ) → list_all (contains set) blocks ≡ true → with_blocks set blocks ≡ set
 filled-already set [] all = refl
-filled-already set (b ∷ blocks) all = by (contains set b) refl all
+filled-already set (b ∷ blocks) all = by (contains set b) refl all (filled-already set blocks)
   where
-    by : (t : Bool) → contains set b ≡ t → (t && list_all (contains set) blocks) ≡ true → with_blocks set (b ∷ blocks) ≡ set
-    by true there others = ap (λ (x : FinSet nat_cmp). insert x b) (filled-already set blocks others) ∙ insert-there set b there
-    by false there others = absurd cc
+    by : (t : Bool) → contains set b ≡ t → (t && list_all (contains set) blocks) ≡ true
+        → (list_all (contains set) blocks ≡ true → with_blocks set blocks ≡ set) → with_blocks set (b ∷ blocks) ≡ set
+    by true there others rest = ap (λ (x : FinSet nat_cmp). insert x b) (rest others) ∙ insert-there set b there
+    by false there others rest = absurd cc
 
 -- ---- where they lie
 
@@ -93,9 +117,9 @@ module _ (stripes : List StripeValue) (i fileid offset n : ℕ) (lies : LieIn (l
       ap (λ (span : ℕ). (fileid + span) % length stripes) (one-span offset n b some lies.span from below) ∙ lies.stripe
 
   -- a block that is met is filled where it is there in the stripe
-  pub filled-here : (largest : ℕ) → block_size * most_file_blocks ≡ largest → offset + n ≤ largest → (b : ℕ) → 0 < n → offset / block_size ≤ b
-      → b ≤ (offset + n - 1) / block_size → contains (file_filled stripes fileid) b ≡ is_filled (stripe_at stripes i) fileid b
-  filled-here largest is within b some from below =
+  pub filled-here : offset + n ≤ block_size * most_file_blocks → (b : ℕ) → 0 < n → offset / block_size ≤ b → b ≤ (offset + n - 1) / block_size
+      → contains (file_filled stripes fileid) b ≡ is_filled (stripe_at stripes i) fileid b
+  filled-here within b some from below =
       contains-retain (from_list (range_with_len 0 most_file_blocks)) (λ k. is_filled (home_stripe stripes fileid k) fileid k) b
       (λ x same. ap (λ (k : ℕ). is_filled (home_stripe stripes fileid k) fileid k) (sym (nat_cmp-IsAntisymmetric b x same)))
       ∙ ap (λ (t : Bool). t && is_filled (home_stripe stripes fileid b) fileid b)
@@ -103,4 +127,4 @@ module _ (stripes : List StripeValue) (i fileid offset n : ℕ) (lies : LieIn (l
       ∙ ap (λ (k : ℕ). is_filled (stripe_at stripes k) fileid b) (block-home b some from below)
     where
       small : b < 0 + most_file_blocks
-      small = omega (arith, is, within, some, below)
+      small = omega (arith, within, some, below)
