@@ -29,6 +29,16 @@ use Rattle.held_data.specs.lemmas.Overwritten.{byte-here, byte-other, filled-sam
 use Rattle.held_data.specs.lemmas.Met.{met-tests, met-passes, filled-already, filled-here}
 use Rattle.held_data.specs.lemmas.OneStripe.{home-put, home-same}
 
+-- a file as it is seen before
+abbrev pub file_before : VolumeContents → ℕ → Inode → ℕ → Option (List ℕ) → FileNode
+file_before p f inode size verifier = record {
+  attributes = inode.attributes;
+  bytes = file_bytes p.stripes f size;
+  filled = file_filled p.stripes f;
+  touch = file_touch p.stripes f;
+  verifier = verifier;
+}
+
 module _ (p : VolumeContents) (i f offset : ℕ) (written : List ℕ) (moment : Moment) (on : i < length p.stripes)
     (lies : LieIn (length p.stripes) i f offset (length written)) (small : offset + length written ≤ block_size * most_file_blocks)
     (filled : list_all (is_filled (stripe_at p.stripes i) f) (blocks_met offset (length written)) ≡ true)
@@ -107,20 +117,10 @@ module _ (p : VolumeContents) (i f offset : ℕ) (written : List ℕ) (moment : 
       })
       by (Folder parent subdirectories) = refl
 
-  -- a file as it is seen before
-  abbrev pub file_before : Inode → ℕ → Option (List ℕ) → FileNode
-  file_before inode size verifier = record {
-    attributes = inode.attributes;
-    bytes = file_bytes p.stripes f size;
-    filled = file_filled p.stripes f;
-    touch = file_touch p.stripes f;
-    verifier = verifier;
-  }
-
   module _ (inode : Inode) (there : get p.logical.inodes.inodes f ≡ Some inode) (size blocks : ℕ) (verifier : Option (List ℕ))
       (is_file : inode.kind ≡ RegularFile size blocks verifier) (within : offset + length written ≤ size) where
     abbrev node : Node
-    node = File (written_file (file_before inode size verifier) offset written moment)
+    node = File (written_file (file_before p f inode size verifier) offset written moment)
 
     this-node : seen_now f inode ≡ node
     this-node = ap (node_by after.stripes (get p.logical.directories f) f inode.attributes) is_file ∙ (λ j. File (record {
