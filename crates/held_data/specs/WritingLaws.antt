@@ -1,5 +1,5 @@
 -- What WRITE comes to by a stripe (RFC 1813 section 3.3.7).
-use Rattle.std.specs.Prelude.{ℕ, ◌<◌, min, List, []}
+use Rattle.std.specs.Prelude.{ℕ, ◌<◌, min, List}
 use Rattle.nfs_model.specs.Types.{Write}
 use Rattle.nfs_model.specs.Tree.{Affinity, Stripe}
 use Rattle.nfs_model.specs.Server.{most_bytes}

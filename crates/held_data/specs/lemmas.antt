@@ -11,4 +11,5 @@ pub mod OneStripe
 pub mod WrittenFits
 pub mod WrittenNodes
 pub mod WriteMoves
+pub mod WriteBytes
 pub mod Writes

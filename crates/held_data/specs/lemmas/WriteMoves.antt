@@ -1,5 +1,5 @@
 -- A write that passes the checks before that of space: whether it extends the file or fills a hole is told by its stripe.
-use Rattle.std.proofs.Common.{◌≡◌, ℕ, ◌+◌, ◌*◌, ◌<◌, ◌≤◌, ◌||◌, ◌&&◌, not, Bool, true, false, List, length, Option, Some, None, nat_lt, nat_le}
+use Rattle.std.proofs.Common.{◌≡◌, ℕ, ◌+◌, ◌*◌, ◌≤◌, ◌||◌, ◌&&◌, not, Bool, true, false, List, length, Option, Some, nat_lt, nat_le}
 use Rattle.std.proofs.Common.{refl, sym, ap, ◌∙◌, arith, ⊎_elim}
 use Rattle.std.proofs.lemmas.Bool.Decides.{nat_tests}
 use Rattle.std.proofs.lemmas.List.FromFn.{length-map-range_with_len}
@@ -9,12 +9,12 @@ use Rattle.std.specs.FinSet.{contains}
 use Rattle.nfs_model.specs.Types.{Moment}
 use Rattle.nfs_model.specs.Server.{FileNode, block_size, used}
 use Rattle.nfs_model.specs.Parts.{Hand, range_blocks}
-use Rattle.nfs_model.specs.Serial.Write.{blocks_met, unfilled, need}
+use Rattle.nfs_model.specs.Serial.Write.{blocks_met, need}
 use Rattle.volume_values.specs.Inodes.{Inode}
 use Rattle.volume_values.specs.Stripes.{OfFile, StripeValue, reaches, is_filled, stays_within}
 use Rattle.held_state.specs.Contents.{VolumeContents}
 use Rattle.held_state.specs.Tree.{stripe_at, file_byte, file_filled, most_file_blocks, ranges_used, volume_of}
-use Rattle.held_state.specs.WellFormed.{WellFormed, IsLargest}
+use Rattle.held_state.specs.WellFormed.{IsLargest}
 use Rattle.held_state.specs.Sound.{IsSound}
 use Rattle.held_state.specs.Calls.{LieIn}
 use Rattle.held_laws.specs.lemmas.Counted.{used-is}
@@ -37,7 +37,15 @@ both-not false b = refl
 past-not : (a b : ℕ) → nat_lt a b ≡ not (nat_le b a)
 past-not a b = grind (arith, nat_tests)
 
-either-false : (a b : Bool) → (a || b) ≡ false → b ≡ false
+pub first-test : (a b : Bool) → a && b ≡ true → a ≡ true
+first-test true b h = refl
+first-test false b h = h
+
+pub second-test : (a b : Bool) → a && b ≡ true → b ≡ true
+second-test true b h = h
+second-test false b h = absurd cc
+
+pub either-false : (a b : Bool) → (a || b) ≡ false → b ≡ false
 either-false true b h = absurd cc
 either-false false b h = h
 

@@ -1,45 +1,36 @@
 -- WRITE by the stripe in which its bytes lie.
-use Rattle.std.proofs.Common.{◌≡◌, ℕ, ◌+◌, ◌-◌, ◌*◌, ◌<◌, ◌≤◌, ◌==◌, ◌||◌, ◌&&◌, not, min, Bool, true, false, List, [], length, take, Option, Some, None}
-use Rattle.std.proofs.Common.{nat_lt, nat_le, refl, sym, ap, ◌∙◌, subst, arith}
-use Rattle.std.specs.Prelude.{if◌then◌else◌, is_none, is_some}
+use Rattle.std.proofs.Common.{◌≡◌, ℕ, ◌+◌, ◌<◌, ◌==◌, not, min, Bool, true, false, List, length, Option, Some, None}
+use Rattle.std.proofs.Common.{refl, sym, ap, ◌∙◌, subst, arith}
+use Rattle.std.specs.Prelude.{if◌then◌else◌}
 use Rattle.std.proofs.lemmas.Bool.{eqb-true}
-use Rattle.std.proofs.lemmas.Bool.Decides.{nat_tests}
 use Rattle.std.proofs.lemmas.List.{length-take}
-use Rattle.std.specs.List.{list_all}
 use Rattle.std.specs.Option.{option_map}
 use Rattle.std.specs.FinMap.{get}
-use Rattle.std.specs.FinSet.{from_list}
-use Rattle.nfs_model.specs.Types.{Moment, Answer, Success, Failed, Stale, Invalid, TooBig, NoSpace, WriteDone}
-use Rattle.nfs_model.specs.Tree.{Affinity, Stripe, Logical}
+use Rattle.nfs_model.specs.Types.{Moment, Answer, Failed, Stale, Invalid, WriteDone}
+use Rattle.nfs_model.specs.Tree.{Affinity, Stripe}
 use Rattle.nfs_model.specs.Parts.{Hand}
-use Rattle.nfs_model.specs.Server.{FileNode, Node, File, Directory, VolumeState, most_bytes, block_size, used}
-use Rattle.nfs_model.specs.Locate.{Effect, Fails, Tells, Changes, Located, unless, on_file}
-use Rattle.nfs_model.specs.Serial.Setattr.{with_node}
-use Rattle.nfs_model.specs.Serial.Write.{Writing, bytes_kept, blocks_met, need, space_fault, write_some, written_file}
-use Rattle.nfs_model.specs.Work.{Outcome, Replied, Moved, Ready, move_if, ready, ready_bytes}
+use Rattle.nfs_model.specs.Server.{FileNode, Node, File, VolumeState, most_bytes}
+use Rattle.nfs_model.specs.Locate.{Effect, Fails, Tells, on_file}
+use Rattle.nfs_model.specs.Serial.Write.{Writing, bytes_kept, write_some}
+use Rattle.nfs_model.specs.Work.{move_if, ready, ready_bytes}
 use Rattle.depot_rule.specs.Sums.{total}
 use Rattle.volume_values.specs.Inodes.{InodeKind, RegularFile, Folder, Inode}
-use Rattle.volume_values.specs.Stripes.{Card, OfFile, OfFolder, StripeValue, reaches, is_filled, stays_within, overwritten}
+use Rattle.volume_values.specs.Stripes.{Card, OfFile, OfFolder, StripeValue}
 use Rattle.held_state.specs.Contents.{VolumeContents}
-use Rattle.held_state.specs.Tree.{stripe_at, most_file_blocks, node_by, node_of, volume_of}
-use Rattle.held_state.specs.Names.{size_in, size_of}
-use Rattle.held_state.specs.WellFormed.{WellFormed, StripeFits, size_shown}
+use Rattle.held_state.specs.Tree.{stripe_at, node_by, node_of, volume_of}
+use Rattle.held_state.specs.Names.{size_in}
+use Rattle.held_state.specs.WellFormed.{StripeFits, size_shown}
 use Rattle.held_state.specs.Partition.{parts_of, times_in_hand}
 use Rattle.held_state.specs.Sound.{IsSound}
 use Rattle.held_state.specs.Lenses.{stripe_lens}
 use Rattle.held_state.specs.Calls.{VolumeCall, WorksOn, LieIn, located_on, move_on, answer_of, volume_left}
 use Rattle.held_state.specs.Running.{RunsOn}
-use Rattle.held_laws.specs.lemmas.Counted.{used-is}
-use Rattle.held_laws.specs.lemmas.Steps.{sound-later}
 use Rattle.held_attributes.specs.lemmas.Getting.{node-at}
 use Rattle.held_data.specs.Writing.{StripeOutcome, tells, fails, some_written, file_written, card_written, stripe_write}
 use Rattle.held_data.specs.WritingLaws.{write_call}
-use Rattle.held_data.specs.lemmas.Reads.{stripe-back, is-there}
-use Rattle.held_data.specs.lemmas.Overwritten.{numbers-same}
-use Rattle.held_data.specs.lemmas.OneStripe.{numbers-put}
-use Rattle.held_data.specs.lemmas.WrittenFits.{sound-written}
-use Rattle.held_data.specs.lemmas.WrittenNodes.{file_before, volume-written}
-use Rattle.held_data.specs.lemmas.WriteMoves.{end-small, moves-or-stays, space-there}
+use Rattle.held_data.specs.lemmas.Reads.{is-there}
+use Rattle.held_data.specs.lemmas.WrittenNodes.{file_before}
+use Rattle.held_data.specs.lemmas.WriteBytes.{IsDone, answers, some}
 
 module _ (p : VolumeContents) (i f : ℕ) (handle : List ℕ) (w : Writing) (hands hands' : List Hand) (made : ℕ) (sound : IsSound p hands made)
     (weigh : (n : ℕ) → total (times_in_hand p.number n) hands' ≡ total (times_in_hand p.number n) hands) (on : i < length p.stripes)
@@ -57,24 +48,10 @@ module _ (p : VolumeContents) (i f : ℕ) (handle : List ℕ) (w : Writing) (han
   n = length (bytes_kept w)
 
   abbrev Right : StripeOutcome → Type 0
-  Right told = WorksOn call p told.outcome ((stripe_lens i).put told.stripe p) × IsSound ((stripe_lens i).put told.stripe p) hands' (made + 1)
+  Right told = IsDone p i f handle w hands' made told
 
   fits : StripeFits p.logical i s
   fits = sound.well_formed.stripes i on
-
-  -- ---- what changes nothing
-
-  unchanged : (outcome : Outcome) → WorksOn call p outcome p → Right (record { outcome = outcome; stripe = s })
-  unchanged outcome works =
-      subst (λ (q : VolumeContents). WorksOn call p outcome q × IsSound q hands' (made + 1)) (sym (stripe-back i p))
-      (works, sound-later p hands hands' made weigh sound)
-
-  answers : (answer : Answer) (e : Effect) → move_on call p ≡ None → call.run seen ≡ e → answer ≡ answer_of 2 e → seen ≡ volume_left seen e
-      → Right (tells answer s)
-  answers answer e stays run is left =
-      let none : used seen - used seen ≡ 0 = omega arith in
-      unchanged (Replied (Success answer))
-      (stays, ap Success (is ∙ ap (answer_of 2) (sym run)), left ∙ ap (volume_left seen) (sym run), (none, refl))
 
   -- ---- by the node
 
@@ -85,10 +62,11 @@ module _ (p : VolumeContents) (i f : ℕ) (handle : List ℕ) (w : Writing) (han
   effect x = on_file x (λ g. if not (w.count == length w.written) then Fails Invalid
       else if w.count == 0 then Tells (WriteDone 0 seen.verifier) else write_some seen f g w)
 
-  -- no file: the failure is told before the checks
+  -- where there is no file
   no-file : (x : Option Node) (e : Effect) (answer : Answer) → get seen.nodes f ≡ x → moves x ≡ None → effect x ≡ e → answer ≡ answer_of 2 e
       → seen ≡ volume_left seen e → Right (tells answer s)
-  no-file x e answer is stays run told left = answers answer e (ap moves is ∙ stays) (ap effect is ∙ run) told left
+  no-file x e answer is stays run told left =
+      answers p i f handle w hands hands' made sound weigh on answer e (ap moves is ∙ stays) (ap effect is ∙ run) told left
 
   -- ---- a file
 
@@ -101,130 +79,6 @@ module _ (p : VolumeContents) (i f : ℕ) (handle : List ℕ) (w : Writing) (han
     node-is =
         node-at p f ∙ ap (option_map (node_of p.stripes p.logical.directories f)) there
         ∙ ap (λ kind. Some (node_by p.stripes (get p.logical.directories f) f inode.attributes kind)) is_file
-
-    -- ---- at least one byte, as many as were given
-
-    module _ (run : call.run seen ≡ write_some seen f file w)
-        (moved : move_on call p ≡ move_if (Some (parts_of p)) (Stripe p.number i) (ready_bytes seen file w.offset n))
-        (here : LieIn (length p.stripes) i f w.offset n) where
-      too-big : nat_lt s.largest (w.offset + n) ≡ true → Right (fails TooBig s)
-      too-big past =
-          let test : nat_lt p.logical.largest (w.offset + n) ≡ true = ap (λ (most : ℕ). nat_lt most (w.offset + n)) (sym fits.largest) ∙ past in
-          answers (Failed TooBig 2) (Fails TooBig)
-          (moved ∙ ap (λ (b : Bool). move_if (Some (parts_of p)) (Stripe p.number i) (if is_some (if b then Some TooBig else None) then None
-          else Some (record {
-            need = need file w.offset n;
-            extends = nat_lt (length file.bytes) (w.offset + n);
-            fits = is_none (space_fault seen file w.offset n);
-          }))) test)
-          (run ∙ ap (λ (b : Bool). unless (if b then Some TooBig else None) (unless (space_fault seen file w.offset n)
-          (Changes (WriteDone n seen.verifier) (with_node seen f (File (written_file file w.offset (bytes_kept w) w.moment)))))) test)
-          refl refl
-
-      module _ (within : nat_lt s.largest (w.offset + n) ≡ false) where
-        within_largest : nat_lt p.logical.largest (w.offset + n) ≡ false
-        within_largest = ap (λ (most : ℕ). nat_lt most (w.offset + n)) (sym fits.largest) ∙ within
-
-        small : w.offset + n ≤ block_size * most_file_blocks
-        small = end-small p.logical.largest (w.offset + n) sound.well_formed.largest within_largest
-
-        extends-or-fills : (nat_lt (length file.bytes) (w.offset + n) || nat_lt 0 (need file w.offset n)) ≡ not (stays_within f w.offset n s)
-        extends-or-fills = moves-or-stays p i f w.offset n size inode verifier here small touch card
-
-        moved-by : move_on call p ≡ (if not (stays_within f w.offset n s) then Some (Logical p.number) else None)
-        moved-by =
-            moved ∙ ap (λ (b : Bool). move_if (Some (parts_of p)) (Stripe p.number i) (if is_some (if b then Some TooBig else None) then None
-            else Some (record {
-              need = need file w.offset n;
-              extends = nat_lt (length file.bytes) (w.offset + n);
-              fits = is_none (space_fault seen file w.offset n);
-            }))) within_largest
-            ∙ ap (λ (b : Bool). if b then Some (Logical p.number) else None) extends-or-fills
-
-        moving : stays_within f w.offset n s ≡ false → Right (record { outcome = Moved (Logical p.number); stripe = s })
-        moving leaves =
-            unchanged (Moved (Logical p.number))
-            (moved-by ∙ ap (λ (b : Bool). if not b then Some (Logical p.number) else None) leaves, refl)
-
-        -- ---- all is there to be written over
-
-        module _ (stays : stays_within f w.offset n s ≡ true) where
-          abbrev next : StripeValue
-          next = overwritten f w.offset (bytes_kept w) w.moment s
-
-          abbrev after : VolumeContents
-          after = (stripe_lens i).put next p
-
-          both : nat_le (w.offset + n) size && list_all (is_filled s f) (blocks_met w.offset n) ≡ true
-          both = ap (λ o. reaches (w.offset + n) o && list_all (is_filled s f) (blocks_met w.offset n)) (sym card) ∙ stays
-
-          reached : w.offset + n ≤ size
-          reached = let test = first (nat_le (w.offset + n) size) (list_all (is_filled s f) (blocks_met w.offset n)) both in grind (arith, nat_tests)
-            where
-              first : (a b : Bool) → a && b ≡ true → a ≡ true
-              first true b h = refl
-              first false b h = h
-
-          filled : list_all (is_filled s f) (blocks_met w.offset n) ≡ true
-          filled = second (nat_le (w.offset + n) size) (list_all (is_filled s f) (blocks_met w.offset n)) both
-            where
-              second : (a b : Bool) → a && b ≡ true → b ≡ true
-              second true b h = h
-              second false b h = absurd cc
-
-          fills-none : nat_lt 0 (need file w.offset n) ≡ false
-          fills-none = other (nat_lt (length file.bytes) (w.offset + n)) (nat_lt 0 (need file w.offset n)) (extends-or-fills ∙ ap not stays)
-            where
-              other : (a b : Bool) → (a || b) ≡ false → b ≡ false
-              other true b h = absurd cc
-              other false b h = h
-
-          changes : call.run seen ≡ Changes (WriteDone n seen.verifier)
-              (with_node seen f (File (written_file file w.offset (bytes_kept w) w.moment)))
-          changes =
-              run ∙ ap (λ (b : Bool). unless (if b then Some TooBig else None) (unless (space_fault seen file w.offset n)
-              (Changes (WriteDone n seen.verifier) (with_node seen f (File (written_file file w.offset (bytes_kept w) w.moment)))))) within_largest
-              ∙ ap (λ (b : Bool). unless (if b then Some NoSpace else None)
-              (Changes (WriteDone n seen.verifier) (with_node seen f (File (written_file file w.offset (bytes_kept w) w.moment)))))
-              (space-there p i f w.offset n size inode verifier here small hands made sound fills-none)
-
-          sized : size_of (get p.logical.inodes.inodes f) ≡ Some size
-          sized = ap size_of there ∙ ap size_in is_file
-
-          later : IsSound after hands' (made + 1)
-          later = sound-written p i f w.offset (bytes_kept w) w.moment size on sized reached hands hands' made weigh sound
-
-          same-used : used (volume_of after) - used seen ≡ 0
-          same-used =
-              let now = used-is after later.well_formed in let was = used-is p sound.well_formed in omega (arith, now, was)
-
-          written : Right (record { outcome = Replied (Success (WriteDone n s.verifier)); stripe = next })
-          written = (
-            (
-              moved-by ∙ ap (λ (b : Bool). if not b then Some (Logical p.number) else None) stays,
-              ap (λ verifier. Success (WriteDone n verifier)) fits.verifier ∙ ap (λ e. Success (answer_of 2 e)) (sym changes),
-              volume-written p i f w.offset (bytes_kept w) w.moment on here small filled size touch card inode there size blocks verifier is_file reached
-                  ∙ ap (volume_left seen) (sym changes),
-              (
-                same-used,
-                λ j. record (parts_of p) { files = from_list (numbers-put next p.stripes i (numbers-same f w.offset (bytes_kept w) w.moment s) j) },
-              ),
-            ),
-            later,
-          )
-
-      some : Right (some_written p.number f w n s)
-      some = by (nat_lt s.largest (w.offset + n)) refl (stays_within f w.offset n s) refl
-        where
-          by : (b : Bool) → nat_lt s.largest (w.offset + n) ≡ b → (t : Bool) → stays_within f w.offset n s ≡ t
-              → Right (if b then fails TooBig s else if t then record {
-                outcome = Replied (Success (WriteDone n s.verifier));
-                stripe = overwritten f w.offset (bytes_kept w) w.moment s;
-              }
-              else record { outcome = Moved (Logical p.number); stripe = s })
-          by true e t h = too-big e
-          by false e true h = written e h
-          by false e false h = moving e h
 
     -- ---- by its count
 
@@ -245,18 +99,18 @@ module _ (p : VolumeContents) (i f : ℕ) (handle : List ℕ) (w : Writing) (han
 
         by : (b : Bool) → (w.count == length w.written) ≡ b → (t : Bool) → (w.count == 0) ≡ t
             → Right (if not b then fails Invalid s else if t then tells (WriteDone 0 s.verifier) s else some_written p.number f w n s)
-        by false e t h = answers (Failed Invalid 2) (Fails Invalid)
+        by false e t h = answers p i f handle w hands hands' made sound weigh on (Failed Invalid 2) (Fails Invalid)
             (stays ∙ ap (λ (b : Bool). move_if (Some (parts_of p)) (Stripe p.number i) (if not b then None
             else if w.count == 0 then None else ready_bytes seen file w.offset (min w.count most_bytes))) e)
             (runs ∙ ap (λ (b : Bool). if not b then Fails Invalid
             else if w.count == 0 then Tells (WriteDone 0 seen.verifier) else write_some seen f file w) e)
             refl refl
-        by true e true h = answers (WriteDone 0 s.verifier) (Tells (WriteDone 0 seen.verifier))
+        by true e true h = answers p i f handle w hands hands' made sound weigh on (WriteDone 0 s.verifier) (Tells (WriteDone 0 seen.verifier))
             (stays ∙ (λ j. move_if (Some (parts_of p)) (Stripe p.number i) (if not (e j) then None
             else if h j then None else ready_bytes seen file w.offset (min w.count most_bytes))))
             (runs ∙ (λ j. if not (e j) then Fails Invalid else if h j then Tells (WriteDone 0 seen.verifier) else write_some seen f file w))
             (ap (WriteDone 0) fits.verifier) refl
-        by true e false h = some
+        by true e false h = some p i f handle w hands hands' made sound weigh on inode there size blocks verifier is_file touch card
             (runs ∙ (λ j. if not (e j) then Fails Invalid else if h j then Tells (WriteDone 0 seen.verifier) else write_some seen f file w))
             (stays ∙ (λ j. move_if (Some (parts_of p)) (Stripe p.number i) (if not (e j) then None
             else if h j then None else ready_bytes seen file w.offset (as-many e j))))
@@ -278,7 +132,8 @@ module _ (p : VolumeContents) (i f : ℕ) (handle : List ℕ) (w : Writing) (han
       of-kind (OfFile size touch) card inode there (Folder parent subs) is same = absurd cc
       of-kind OfFolder card inode there (RegularFile other blocks verifier) is same = absurd cc
       of-kind OfFolder card inode there (Folder parent subs) is same =
-          no-file (option_map (node_of p.stripes p.logical.directories f) (Some (record inode { kind = Folder parent subs }))) (Fails Invalid) (Failed Invalid 2)
+          no-file (option_map (node_of p.stripes p.logical.directories f) (Some (record inode { kind = Folder parent subs })))
+          (Fails Invalid) (Failed Invalid 2)
           (node-at p f ∙ ap (option_map (node_of p.stripes p.logical.directories f)) there
           ∙ ap (λ kind. Some (node_by p.stripes (get p.logical.directories f) f inode.attributes kind)) is)
           refl refl refl refl

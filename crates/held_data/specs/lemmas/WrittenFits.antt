@@ -1,5 +1,5 @@
 -- A volume in which a stripe is written over within a file: all stays sound.
-use Rattle.std.proofs.Common.{◌≡◌, ℕ, ◌+◌, ◌<◌, ◌≤◌, ◌==◌, Bool, true, false, List, length, Option, Some, None, refl, sym, ap, ◌∙◌, subst, arith}
+use Rattle.std.proofs.Common.{◌≡◌, ℕ, ◌+◌, ◌<◌, ◌≤◌, ◌==◌, Bool, true, false, List, length, Option, Some, None, refl, sym, ◌∙◌, subst, arith}
 use Rattle.std.proofs.lemmas.Bool.{eqb-true}
 use Rattle.std.specs.Option.{option_map}
 use Rattle.std.specs.FinMap.{get}
@@ -11,7 +11,7 @@ use Rattle.volume_values.specs.Stripes.{Block, StripeValue, byte_written, block_
 use Rattle.held_state.specs.Contents.{VolumeContents}
 use Rattle.held_state.specs.Tree.{stripe_at}
 use Rattle.held_state.specs.Names.{size_of}
-use Rattle.held_state.specs.WellFormed.{StripeFits, BlockFits, WellFormed}
+use Rattle.held_state.specs.WellFormed.{StripeFits, BlockFits}
 use Rattle.held_state.specs.Partition.{times_in_hand}
 use Rattle.held_state.specs.Sound.{IsSound}
 use Rattle.held_state.specs.Lenses.{stripe_lens}

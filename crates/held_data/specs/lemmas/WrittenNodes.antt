@@ -1,7 +1,7 @@
 -- The volume that is seen after a stripe is written over within a file: the file has the bytes, and its touch is later.
 use Rattle.std.proofs.Common.{◌≡◌, ◌≢◌, ℕ, ◌+◌, ◌*◌, ◌/◌, ◌<◌, ◌≤◌, ◌==◌, Bool, true, false, List, length, map, Option, Some, None}
-use Rattle.std.proofs.Common.{refl, sym, ap, ◌∙◌, subst, arith, ⊎_elim}
-use Rattle.std.specs.Prelude.{if◌then◌else◌, IfSome}
+use Rattle.std.proofs.Common.{refl, sym, ap, ◌∙◌, ⊎_elim}
+use Rattle.std.specs.Prelude.{if◌then◌else◌}
 use Rattle.std.proofs.lemmas.Bool.{eqb-true, cases_lt}
 use Rattle.std.specs.List.{range_with_len, list_all}
 use Rattle.std.specs.Option.{option_map}
@@ -19,7 +19,7 @@ use Rattle.volume_values.specs.Stripes.{OfFile, StripeValue, byte_at, byte_writt
 use Rattle.volume_values.specs.lemmas.Maps.{get-map_values}
 use Rattle.volume_values.specs.lemmas.Numbered.{get-insert_at, same-answers}
 use Rattle.held_state.specs.Contents.{VolumeContents}
-use Rattle.held_state.specs.Tree.{stripe_at, home_stripe, file_byte, file_bytes, file_filled, file_touch, most_file_blocks, node_by, node_of, volume_of}
+use Rattle.held_state.specs.Tree.{stripe_at, file_byte, file_bytes, file_filled, file_touch, most_file_blocks, node_by, node_of, volume_of}
 use Rattle.held_state.specs.Lenses.{stripe_lens}
 use Rattle.held_state.specs.Calls.{LieIn}
 use Rattle.held_data.specs.lemmas.Spans.{same-stripe}
