@@ -3,6 +3,7 @@ pub mod Bytes
 pub mod Spans
 pub mod Told
 pub mod Reads
+pub mod Homes
 pub mod Patched
 pub mod Touches
 pub mod Overwritten

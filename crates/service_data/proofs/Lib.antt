@@ -1,0 +1,2 @@
+mod Spanned
+mod Told

@@ -1,0 +1,125 @@
+-- READ of a set, as its checks come out.
+use Rattle.std.proofs.Common.{◌≡◌, ℕ, zero, suc, ◌+◌, ◌-◌, ◌<◌, min, Bool, true, false, List, [], ◌++◌, map, length, Option, Result, Ok, Err}
+use Rattle.std.proofs.Common.{refl, sym, ap, ◌∙◌, subst, arith}
+use Rattle.std.proofs.lemmas.Bool.Decides.{nat_tests}
+use Rattle.std.proofs.lemmas.List.FromFn.{length-map-range_with_len}
+use Rattle.std.specs.Prelude.{nat_le, if◌then◌else◌}
+use Rattle.std.specs.List.{range_with_len}
+use Rattle.std.specs.Result.{IsErr}
+use Rattle.std.specs.FinMap.{get}
+use Rattle.std.specs.declared.alloc.AllocError.{AllocError}
+use Rattle.nfs_model.specs.Types.{Answer, ReadDone, Success}
+use Rattle.nfs_model.specs.Tree.{Logical, Stripe}
+use Rattle.nfs_model.specs.Server.{most_bytes}
+use Rattle.nfs_model.specs.Work.{Replied}
+use Rattle.nfs_values.specs.Answer as answers
+use Rattle.nfs_values.specs.Answer.{result_of}
+use Rattle.nfs_values.specs.declared.answer.Answer.TheVariants.{Read}
+use Rattle.nfs_values.specs.declared.answer.ReadResults.{ReadResults}
+use Rattle.nfs_values.specs.declared.status.Status.{Status}
+use Rattle.volume_values.specs.Inodes.{Inode}
+use Rattle.volume_values.specs.Stripes.{Card, StripeValue, byte_at, bytes_read}
+use Rattle.held_state.specs.Lenses.{LogicalSet, logical_lens, stripe_lens}
+use Rattle.held_state.specs.Running.{RunsOn}
+use Rattle.held_state.specs.Tree.{file_byte}
+use Rattle.held_data.specs.Reading.{some_told, read_told, on_card, on_inode, stripe_read, logical_read, bytes_under}
+use Rattle.held_data.specs.Laws.{read_call}
+use Rattle.held_data.specs.lemmas.Reads.{stripe-reads, stripe-starves, logical-reads, logical-starves}
+use Rattle.service_data.specs.Promises.{ReadsInStripe, ReadsInLogical}
+
+-- ---- what is told of a file whose byte at k is f k
+
+module _ (f : ℕ → ℕ) (offset most size : ℕ) where
+  abbrev bytes : ℕ → List ℕ
+  bytes n = map f (range_with_len offset n)
+
+  -- at or past the end of a file no bytes are given, and they reach it
+  pub told-some : read_told bytes offset most size ≡ some_told bytes offset size (min most (size - offset))
+  told-some = by (nat_le size offset) refl
+    where
+      by : (past : Bool) → nat_le size offset ≡ past
+          → (if past then ReadDone 0 true [] else some_told bytes offset size (min most (size - offset)))
+          ≡ some_told bytes offset size (min most (size - offset))
+      by false e = refl
+      by true e =
+          let none : 0 ≡ min most (size - offset) = grind (arith, nat_tests, e) in
+          let eof : true ≡ nat_le size (offset + 0) = grind (arith, nat_tests, e) in
+          (λ j. ReadDone 0 (eof j) []) ∙ ap (some_told bytes offset size) none
+
+  -- what was read into a vector
+  pub told-read : (given : ℕ) (eof : Bool) (empty items : List ℕ) → given ≡ min most (size - offset)
+      → eof ≡ nat_le size (offset + min most (size - offset)) → empty ≡ [] → items ≡ empty ++ bytes given
+      → ReadDone (length items) eof items ≡ read_told bytes offset most size
+  told-read given eof empty items count ends none is =
+      let these : items ≡ bytes (min most (size - offset)) = is ∙ ap (λ (l : List ℕ). l ++ bytes given) none ∙ ap bytes count in
+      let long : length items ≡ min most (size - offset) =
+      ap (λ (l : List ℕ). length l) these ∙ length-map-range_with_len f offset (min most (size - offset)) in
+      (λ j. ReadDone (long j) (ends j) (these j)) ∙ sym told-some
+
+-- memory runs out only where some are asked for
+pub some-asked : (n : ℕ) → (n ≡ 0 → false ≡ true) → 0 < n
+some-asked zero none = absurd (let no : false ≡ true = none refl in cc)
+some-asked (suc n) none = omega arith
+
+-- ---- by a stripe
+
+module _ (fileid offset count : ℕ) (s : StripeValue) where
+  -- the size on its card
+  pub stripe-told : (t : StripeValue) (card : Option Card) (r : Result ℕ Status) → t ≡ s → card ≡ get t.cards fileid
+      → ((told : ℕ → Answer) → on_card card told ≡ result_of told 1 r)
+      → stripe_read fileid offset count s ≡ result_of (read_told (bytes_read s fileid offset) offset (min count most_bytes)) 1 r
+  stripe-told t card r same is tells =
+      ap (λ (o : Option Card). on_card o (read_told (bytes_read s fileid offset) offset (min count most_bytes)))
+      (sym (is ∙ ap (λ (x : StripeValue). get x.cards fileid) same))
+      ∙ tells (read_told (bytes_read s fileid offset) offset (min count most_bytes))
+
+  -- a result is right where it tells what the card and the bytes do
+  pub stripe-right : (told : Result ReadResults Status) → answers.answer_of (Read told) ≡ stripe_read fileid offset count s
+      → ReadsInStripe fileid offset count s (Ok told)
+  stripe-right told is v i handle some lies =
+      subst (λ (a : Answer). RunsOn v (stripe_lens i) (read_call handle (Stripe v i) fileid offset count) s (Replied (Success a)) s) (sym is)
+      (λ p hands hands' made has numbered sound moved.
+      let r = stripe-reads v i fileid offset count handle (Stripe v i) s some lies p hands hands' made has numbered sound moved in
+      (r.0.0, r.1))
+
+  -- and memory may run out where it would give bytes
+  pub stripe-starved : (r : Result (Result ReadResults Status) AllocError) → IsErr r → (size n : ℕ) → 0 < n
+      → n ≡ min (min count most_bytes) (size - offset)
+      → stripe_read fileid offset count s ≡ read_told (bytes_read s fileid offset) offset (min count most_bytes) size
+      → ReadsInStripe fileid offset count s r
+  stripe-starved (Ok told) failed size n more is tells v i handle some lies = absurd cc
+  stripe-starved (Err e) failed size zero more is tells v i handle some lies = absurd (omega arith)
+  stripe-starved (Err e) failed size (suc n) more is tells v i handle some lies =
+      stripe-starves v i fileid offset count handle (Stripe v i) s (suc n) (nat_le size (offset + suc n)) (byte_at s fileid offset)
+      (map (byte_at s fileid) (range_with_len (offset + 1) n)) some lies
+      (tells ∙ told-some (byte_at s fileid) offset (min count most_bytes) size ∙ ap (some_told (bytes_read s fileid offset) offset size) (sym is))
+
+-- ---- by what is under Logical
+
+module _ (fileid offset count : ℕ) (set : LogicalSet) where
+  pub logical-told : (inode : Option Inode) (r : Result ℕ Status) → inode ≡ get set.own.inodes.inodes fileid
+      → ((told : ℕ → Answer) → on_inode inode told ≡ result_of told 1 r)
+      → logical_read fileid offset count set ≡ result_of (read_told (bytes_under set.stripes fileid offset) offset (min count most_bytes)) 1 r
+  logical-told inode r is tells =
+      ap (λ (o : Option Inode). on_inode o (read_told (bytes_under set.stripes fileid offset) offset (min count most_bytes))) (sym is)
+      ∙ tells (read_told (bytes_under set.stripes fileid offset) offset (min count most_bytes))
+
+  pub logical-right : (told : Result ReadResults Status) → answers.answer_of (Read told) ≡ logical_read fileid offset count set
+      → ReadsInLogical fileid offset count set (Ok told)
+  logical-right told is v handle =
+      subst (λ (a : Answer). RunsOn v logical_lens (read_call handle (Logical v) fileid offset count) set (Replied (Success a)) set) (sym is)
+      (λ p hands hands' made has numbered sound moved.
+      let r = logical-reads v fileid offset count handle (Logical v) set p hands hands' made has numbered sound moved in
+      (r.0.0, r.1))
+
+  pub logical-starved : (r : Result (Result ReadResults Status) AllocError) → IsErr r → (size n : ℕ) → 0 < n
+      → n ≡ min (min count most_bytes) (size - offset)
+      → logical_read fileid offset count set ≡ read_told (bytes_under set.stripes fileid offset) offset (min count most_bytes) size
+      → ReadsInLogical fileid offset count set r
+  logical-starved (Ok told) failed size n more is tells v handle = absurd cc
+  logical-starved (Err e) failed size zero more is tells v handle = absurd (omega arith)
+  logical-starved (Err e) failed size (suc n) more is tells v handle =
+      logical-starves v fileid offset count handle (Logical v) set (suc n) (nat_le size (offset + suc n)) (file_byte set.stripes fileid offset)
+      (map (file_byte set.stripes fileid) (range_with_len (offset + 1) n))
+      (tells ∙ told-some (file_byte set.stripes fileid) offset (min count most_bytes) size
+      ∙ ap (some_told (bytes_under set.stripes fileid offset) offset size) (sym is))

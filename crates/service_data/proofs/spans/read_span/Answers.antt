@@ -1,0 +1,14 @@
+use Rattle.std.proofs.Common.{◌+◌, ◌/◌, ◌%◌, ap, ◌∙◌, ◌++◌, ℕ, List, rules}
+use Rattle.nfs_model.specs.Home.{span_bytes}
+use Rattle.volume_values.specs.Logical.{LogicalValue}
+use Rattle.service_data.proofs.Spanned.{span-read}
+use Rattle.service_data.proofs.spans.read_span.Goals as goal
+
+pub returns-clause-bytes : goal.returns-clause-bytes
+returns-clause-bytes c =
+    let held = c.args.held.now in
+    let many = c.from-stripes.ensures ∙ ap (λ (l : LogicalValue). l.stripes) c.get.ensures in
+    c.read_place.ensures.bytes
+    ∙ ap (λ (l : List ℕ). c.args.into.now.items ++ l)
+    (span-read held c.requires.stripes c.args.fileid.0 c.args.offset c.args.n _ _ (search rules)
+    (ap (λ (n : ℕ). (c.args.fileid.0 % n + c.args.offset / span_bytes % n) % n) many) c.requires.span)

@@ -1,0 +1,110 @@
+//! READ.
+
+ghost use Rattle.std.specs.Prelude.{◌≡◌, ℕ, ◌+◌, ◌-◌, min, nat_le};
+ghost use Rattle.std.specs.Option.{option_map};
+ghost use Rattle.nfs_model.specs.Types as types;
+ghost use Rattle.nfs_values.specs.Answer.{result_of};
+ghost use Rattle.inodes.specs.Inode.{inode_value};
+ghost use Rattle.stripe_cards.specs.Cards.{card_of};
+ghost use Rattle.held_state.specs.Sets.{logical_before};
+ghost use Rattle.held_data.specs.Reading.{on_card, on_inode};
+ghost use Rattle.service_data.specs.Promises.{
+  LieInOneSpan,
+  ReadsInStripe,
+  ReadsInLogical,
+  IsHeld,
+};
+
+use crate::spans::read_spans;
+use inodes::{Inode, InodeKind};
+use nfs_values::{Fileid, ReadResults, Status};
+use parcel_sets::{LogicalHeld, StripeHeld};
+use parcels::Files;
+use std::alloc::{AllocError, Global};
+use stripe_cards::Card;
+
+/// Larger counts of bytes are taken as this.
+const COUNT_LIMIT: u32 = 65_536;
+
+/// READ (RFC 1813 section 3.3.6), on the parcel of the stripe in which its bytes lie, those from
+/// the offset on, as many as the count, at most 65,536: STALE, or INVAL for a directory; else the
+/// bytes before the end of the file, and whether they reach it. Memory runs out only where bytes
+/// would be given.
+pub fn read_in_stripe(
+    alloc: Global,
+    held: &StripeHeld<Files>,
+    fileid: Fileid,
+    offset: u64,
+    count: u32,
+) -> Result<Result<ReadResults, Status>, AllocError>
+    requires span { LieInOneSpan offset (min count COUNT_LIMIT) }
+    ensures right { ReadsInStripe fileid.0 offset count held.now.own result }
+{
+    let stripe = held.own.get();
+    let size = match size_on(stripe.card(fileid)) {
+        Ok(size) => size,
+        Err(status) => return Ok(Err(status)),
+    };
+    let (given, eof) = given_of(size, offset, count);
+    let mut bytes = Vec::with_capacity(alloc, given)?;
+    stripe.read(fileid, offset, given, &mut bytes);
+    Ok(Ok(ReadResults { eof, bytes }))
+}
+
+/// READ, likewise, on the parcels under Volume Logical, wherever its bytes lie.
+pub fn read_in_logical(
+    alloc: Global,
+    held: &LogicalHeld<Files>,
+    fileid: Fileid,
+    offset: u64,
+    count: u32,
+) -> Result<Result<ReadResults, Status>, AllocError>
+    requires whole { IsHeld (logical_before held.now) }
+    ensures right { ReadsInLogical fileid.0 offset count (logical_before held.now) result }
+{
+    let size = match size_of(held.own.get().inodes.get(fileid)) {
+        Ok(size) => size,
+        Err(status) => return Ok(Err(status)),
+    };
+    let (given, eof) = given_of(size, offset, count);
+    let mut bytes = Vec::with_capacity(alloc, given)?;
+    read_spans(held, fileid, offset, given, &mut bytes);
+    Ok(Ok(ReadResults { eof, bytes }))
+}
+
+/// The size of a file by its card: STALE where there is none, INVAL for a directory.
+fn size_on(card: Option<Card>) -> Result<u64, Status>
+    ensures { (told : ℕ → types.Answer)
+        → on_card (option_map card_of card) told ≡ result_of told 1 result }
+{
+    match card {
+        Some(Card::File { size, touch: _ }) => Ok(size),
+        Some(Card::Directory) => Err(Status::Invalid),
+        None => Err(Status::Stale),
+    }
+}
+
+/// The size of a file by its inode: STALE where there is none, INVAL for a directory.
+fn size_of(inode: Option<Inode>) -> Result<u64, Status>
+    ensures { (told : ℕ → types.Answer)
+        → on_inode (option_map inode_value inode) told ≡ result_of told 1 result }
+{
+    let inode = match inode {
+        Some(inode) => inode,
+        None => return Err(Status::Stale),
+    };
+    match inode.kind {
+        InodeKind::RegularFile { size, .. } => Ok(size),
+        InodeKind::Directory { .. } => Err(Status::Invalid),
+    }
+}
+
+/// How many bytes are given of a file of a size from an offset on, and whether they reach its end.
+fn given_of(size: u64, offset: u64, count: u32) -> (usize, bool)
+    ensures given { result.0 ≡ min (min count COUNT_LIMIT) (size - offset) }
+    ensures eof { result.1 ≡ nat_le size (offset + min (min count COUNT_LIMIT) (size - offset)) }
+{
+    let left = size.saturating_sub(offset);
+    let most = u64::from(count.min(COUNT_LIMIT));
+    (left.min(most) as usize, left <= most)
+}
