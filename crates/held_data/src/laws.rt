@@ -1,4 +1,4 @@
-//! What follows from the definitions. The function does nothing: its contract is a theorem.
+//! What follows from the definitions. The functions do nothing: their contracts are theorems.
 
 ghost use Rattle.held_data.specs.Laws.{
   LogicalReadIsRight,
@@ -6,6 +6,7 @@ ghost use Rattle.held_data.specs.Laws.{
   StripeReadIsRight,
   StripeReadMayStarve,
 };
+ghost use Rattle.held_data.specs.WritingLaws.{StripeWriteIsRight};
 
 /// On every sound volume with the parcels that are held, READ as it is told by the stripe in which
 /// its bytes lie, and by what is under Volume Logical, is the serial server's, changes nothing, and
@@ -15,4 +16,10 @@ pub fn reading_calls_are_right()
     ensures in_stripe_starves { StripeReadMayStarve }
     ensures in_logical { LogicalReadIsRight }
     ensures in_logical_starves { LogicalReadMayStarve }
+{}
+
+/// So is WRITE as it is told by the stripe in which its bytes lie: what writes over bytes that are
+/// there is done in it, and what would extend the file or fill a hole moves.
+pub fn writing_calls_are_right()
+    ensures in_stripe { StripeWriteIsRight }
 {}

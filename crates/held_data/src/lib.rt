@@ -3,4 +3,4 @@
 
 mod laws;
 
-pub use laws::reading_calls_are_right;
+pub use laws::{reading_calls_are_right, writing_calls_are_right};

@@ -15,14 +15,14 @@ same-map f g a (suc n) same =
     same-map f g (a + 1) n (λ k from below. same k (omega arith) (omega arith)) in
     λ j. head j ∷ tail j
 
-take-map : {X : Type 0} (f : ℕ → X) (a k n : ℕ) → take k (map f (range_with_len a n)) ≡ map f (range_with_len a (min k n))
+pub take-map : {X : Type 0} (f : ℕ → X) (a k n : ℕ) → take k (map f (range_with_len a n)) ≡ map f (range_with_len a (min k n))
 take-map f a zero n = let none : 0 ≡ min 0 n = omega arith in ap (λ m. map f (range_with_len a m)) none
 take-map f a (suc k) zero = let none : 0 ≡ min (suc k) 0 = omega arith in ap (λ m. map f (range_with_len a m)) none
 take-map f a (suc k) (suc n) =
     let one : suc (min k n) ≡ min (suc k) (suc n) = omega arith in
     ap (λ xs. f a ∷ xs) (take-map f (a + 1) k n) ∙ ap (λ m. map f (range_with_len a m)) one
 
-drop-map : {X : Type 0} (f : ℕ → X) (a k n : ℕ) → drop k (map f (range_with_len a n)) ≡ map f (range_with_len (a + k) (n - k))
+pub drop-map : {X : Type 0} (f : ℕ → X) (a k n : ℕ) → drop k (map f (range_with_len a n)) ≡ map f (range_with_len (a + k) (n - k))
 drop-map f a zero n = let from : a ≡ a + 0 = omega arith in let all : n ≡ n - 0 = omega arith in λ j. map f (range_with_len (from j) (all j))
 drop-map f a (suc k) zero = let none : 0 ≡ 0 - suc k = omega arith in ap (λ m. map f (range_with_len (a + suc k) m)) none
 drop-map f a (suc k) (suc n) =

@@ -50,11 +50,11 @@ module _ {S : Type 0} (v : ℕ) (lens : Lens VolumeContents S) (handle : List �
 
 -- ---- by a stripe
 
-stripe-back : (i : ℕ) (p : VolumeContents) → (stripe_lens i).put ((stripe_lens i).of p) p ≡ p
+pub stripe-back : (i : ℕ) (p : VolumeContents) → (stripe_lens i).put ((stripe_lens i).of p) p ≡ p
 stripe-back i p = λ j. record p { stripes = set-get_or p.stripes i no_stripe j }
 
 -- past the last there is none
-is-there : (stripes : List StripeValue) (i : ℕ) → i < (stripe_at stripes i).stripes → i < length stripes
+pub is-there : (stripes : List StripeValue) (i : ℕ) → i < (stripe_at stripes i).stripes → i < length stripes
 is-there stripes i some = elim (cases_lt i (length stripes)) [
   | inl there ↦ there
   | inr past ↦ let none : (stripe_at stripes i).stripes ≡ 0 = ap (λ (s : StripeValue). s.stripes) (get_or_past stripes i no_stripe past)

@@ -15,7 +15,7 @@ one-span offset n k (inl none) from below = absurd (omega (arith, none))
 one-span offset n k (inr one) from below = omega (arith, one)
 
 -- so is its stripe
-same-stripe : (stripes i fileid offset n k : ℕ) → LieIn stripes i fileid offset n → offset ≤ k → k < offset + n
+pub same-stripe : (stripes i fileid offset n k : ℕ) → LieIn stripes i fileid offset n → offset ≤ k → k < offset + n
     → stripe_of stripes fileid (k / block_size) ≡ i
 same-stripe stripes i fileid offset n k lies from below =
     ap (λ (span : ℕ). (fileid + span) % stripes) (one-span offset n k lies.span from below) ∙ lies.stripe
