@@ -1,7 +1,7 @@
 //! The memory of empty files.
 
-use crate::finds::{add, name};
-use crate::gets::create_file;
+use crate::state::finds::{add, name};
+use crate::state::gets::create_file;
 use directories::Directory;
 use inodes::Inodes;
 use nfs_values::Verifier;

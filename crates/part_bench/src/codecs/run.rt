@@ -1,9 +1,9 @@
 //! How many records are decoded and replies encoded in a second.
 
 ghost use Rattle.std.specs.Prelude.{IfOk};
-ghost use Rattle.codec_bench.specs.Fits.{FitsRecord};
+ghost use Rattle.part_bench.specs.Fits.{FitsRecord};
 
-use crate::sample::{Sample, get_attributes, lookup, read, write};
+use crate::codecs::sample::{Sample, get_attributes, lookup, read, write};
 use nfs_types::decode_args;
 use nfs_values::{Call, FileHandle, Target};
 use rates::per_second;

@@ -1,7 +1,8 @@
 //! How many calls are granted and finished in a second.
 
-use crate::crew::{Crew, NAMES, STRIPES, depot_pass};
-use crate::lock;
+use crate::grants::crew::{Crew, NAMES, STRIPES, depot_pass};
+use crate::grants::lock;
+use crate::ratio::print_ratio;
 use affinity_tree::Affinity;
 use rates::per_second;
 use std::io;
@@ -32,7 +33,7 @@ fn middle(mut rates: [u64; PASSES]) -> u64 {
     rates[PASSES / 2]
 }
 
-/// Measures one kind of node with so many threads, and prints a line.
+/// Measures one kind of node with so many threads, and prints it.
 fn measure<R: Clock + Print + AllocGlobal + Threads + Wait + Sync>(
     rt: &R,
     name: &str,
@@ -53,7 +54,7 @@ fn measure<R: Clock + Print + AllocGlobal + Threads + Wait + Sync>(
     print_rates(rt, name, crew.size(), granted, finished, added)
 }
 
-/// Prints a line: both rates, and one by the other.
+/// Prints both rates, and one by the other.
 fn print_rates(
     rt: &impl Print,
     name: &str,
@@ -62,11 +63,9 @@ fn print_rates(
     finished: u64,
     added: u64,
 ) -> io::Result<()> {
-    let ratio = u128::from(finished) * 1000 / u128::from(added.max(1));
-    let (whole, thousandths) = (ratio / 1000, ratio % 1000);
-    print!(rt; "{name}, threads {threads}: {granted} granted, ")?;
-    print!(rt; "{finished} begun and finished a second, ")?;
-    println!(rt; "{added} under a lock, ratio {whole}.{thousandths:03}")
+    println!(rt; "{name}, threads {threads}, {granted} granted: {finished} a second")?;
+    println!(rt; "under a lock: {added} a second")?;
+    print_ratio(rt, finished, added)
 }
 
 /// Measures stripes, and then the names of volumes.

@@ -1,5 +1,6 @@
 //! The fastest of several passes.
 
+use crate::ratio::print_ratio;
 use std::alloc::AllocError;
 use std::io;
 use std::rt::Clock;
@@ -66,6 +67,11 @@ fn measure_each<R: Clock + Print>(
     for _pass in 0..passes {
         fastest = fastest.or_pass(rt, work)?;
     }
+    print_each(rt, name, fastest)
+}
+
+/// Prints how long it took to do some work once in the fastest pass.
+fn print_each(rt: &impl Print, name: &str, fastest: Fastest) -> io::Result<()> {
     let tenths = fastest.tenths_each();
     let (whole, tenth) = (tenths / 10, tenths % 10);
     let done = fastest.done;
@@ -83,7 +89,9 @@ pub fn measure_beside<R: Clock + Print, W: Work + Drop, P: Work + Drop>(
 ) -> io::Result<()> {
     let (mut work, mut plain) = (work?, plain?);
     let (fastest, fastest_plain) = in_turn(rt, &mut work, &mut plain, passes)?;
-    print_beside(rt, name, fastest.tenths_each(), fastest_plain.tenths_each())
+    print_each(rt, name, fastest)?;
+    print_each(rt, "plain copy", fastest_plain)?;
+    print_ratio(rt, fastest_plain.tenths_each(), fastest.tenths_each())
 }
 
 /// The fastest passes of two kinds of work, whose passes take turns.
@@ -99,14 +107,4 @@ fn in_turn(
         fastest.1 = fastest.1.or_pass(rt, plain)?;
     }
     Ok(fastest)
-}
-
-/// Prints tenths of a nanosecond, those of plain work, and the ratio of the speeds.
-fn print_beside(rt: &impl Print, name: &str, tenths: u64, plain: u64) -> io::Result<()> {
-    let (whole, tenth) = (tenths / 10, tenths % 10);
-    let (whole_plain, tenth_plain) = (plain / 10, plain % 10);
-    let ratio = u128::from(plain) * 1000 / u128::from(tenths.max(1));
-    let (ratio, thousandths) = (ratio / 1000, ratio % 1000);
-    print!(rt; "{name}: {whole}.{tenth} ns, ")?;
-    println!(rt; "plain {whole_plain}.{tenth_plain} ns, ratio {ratio}.{thousandths:03}")
 }

@@ -1,6 +1,6 @@
 //! Reads and overwrites of a file, and plain copies of as many bytes.
 
-use crate::clock::Work;
+use crate::state::clock::Work;
 use nfs_values::{BlockNumber, Fileid, Moment, Verifier};
 use std::alloc::{AllocError, Global};
 use stripes::Stripe;

@@ -1,6 +1,6 @@
 //! Inodes by fileid.
 
-use crate::clock::Work;
+use crate::state::clock::Work;
 use inodes::{Inode, InodeKind, Inodes, StoredAttributes};
 use nfs_values::{Fileid, Moment};
 use std::alloc::{AllocError, Global};

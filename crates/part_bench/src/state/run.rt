@@ -1,11 +1,11 @@
 //! How long the calls of a volume take.
 
-use crate::batches::{Deaths, Takes};
-use crate::clock::{measure, measure_beside};
-use crate::copies::{Overwrites, PlainOverwrites, PlainReads, Reads};
-use crate::finds::{Finds, Renewals};
-use crate::gets::Gets;
-use crate::memory;
+use crate::state::batches::{Deaths, Takes};
+use crate::state::clock::{measure, measure_beside};
+use crate::state::copies::{Overwrites, PlainOverwrites, PlainReads, Reads};
+use crate::state::finds::{Finds, Renewals};
+use crate::state::gets::Gets;
+use crate::state::memory;
 use std::alloc::Global;
 use std::io;
 use std::rt::{Clock, Files};
@@ -24,10 +24,9 @@ fn names<R: Clock + Print>(rt: &R, alloc: Global, passes: u32) -> io::Result<()>
 
 /// Measures reads and overwrites of so many bytes.
 fn bytes<R: Clock + Print>(rt: &R, alloc: Global, size: usize, passes: u32) -> io::Result<()> {
-    print!(rt; "{size} bytes, ")?;
+    println!(rt; "{size} bytes:")?;
     let (reads, plain) = (Reads::new(alloc, size), PlainReads::new(alloc, size));
     measure_beside(rt, "read", reads, plain, passes)?;
-    print!(rt; "{size} bytes, ")?;
     let overwrites = Overwrites::new(alloc, size);
     let plain = PlainOverwrites::new(alloc, size);
     measure_beside(rt, "overwrite", overwrites, plain, passes)
