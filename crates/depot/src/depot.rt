@@ -1,6 +1,6 @@
 //! The depot, made and shared.
 
-ghost use Rattle.std.specs.Prelude.{◌≡◌, ℕ, length, replicate, IfOk};
+ghost use Rattle.std.specs.Prelude.{◌≡◌, ℕ, None, length, replicate, IfOk};
 ghost use Rattle.affinity_tree.specs.Layout.{layout_of};
 ghost use Rattle.affinity_tree.specs.Numbers as numbers;
 
@@ -44,6 +44,22 @@ fn parents_of(alloc: Global, layout: &Layout) -> Result<Vec<u64>, AllocError>
     Ok(parents)
 }
 
+/// The number of each node's parent, so many zeros, and an empty shelf for so many parcels.
+fn room_for<T: Drop>(
+    alloc: Global,
+    layout: &Layout,
+    n: usize,
+) -> Result<(Vec<u64>, Vec<u64>, VecShelf<T>), AllocError>
+    ensures parents { IfOk result (λ made. made.0.items ≡ numbers.parents (layout_of layout.now)) }
+    ensures words { IfOk result (λ made. made.1.items ≡ replicate n 0) }
+    ensures shelf { IfOk result (λ made. made.2.parcels.items ≡ replicate n None) }
+{
+    let parents = parents_of(alloc, layout)?;
+    let words = zeros(alloc, n)?;
+    let shelf = VecShelf::new(alloc, n)?;
+    Ok((parents, words, shelf))
+}
+
 impl<M: Machine> Depot<M> {
     ghost use Rattle.std.specs.Prelude.{◌⊎◌, ◌<◌, ◌+◌, [], IfErr};
     ghost use Rattle.nfs_model.specs.Tree as trees;
@@ -79,11 +95,7 @@ impl<M: Machine> Depot<M> {
             → all_parcels N.parcels L back k ≡ all_parcels N.parcels L parcels k) }
     {
         let n = layout.node_count() + 1;
-        let (Ok(parents), Ok(words), Ok(mut shelf)) = (
-            parents_of(alloc, &layout),
-            zeros(alloc, n),
-            VecShelf::new(alloc, n),
-        ) else {
+        let Ok((parents, words, mut shelf)) = room_for(alloc, &layout, n) else {
             return Err(parcels);
         };
         N::scatter(&mut shelf, &layout, Affinity::Serial, parcels);

@@ -3,8 +3,6 @@
 #![tactic(auto)]
 
 #[cfg(test)]
-mod adder;
-#[cfg(test)]
 mod desks;
 #[cfg(test)]
 mod rows;

@@ -1,0 +1,6 @@
+use Rattle.desk.specs.Words.{IsKept}
+use Rattle.depot_rows.proofs.desks.begun_beside.Given as goal
+
+-- the desk's seat backs its books
+abbrev pub invariant-loop-affinity : goal.invariant-loop-affinity
+invariant-loop-affinity g l = IsKept l.desk

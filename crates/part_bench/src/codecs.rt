@@ -1,0 +1,4 @@
+//! Records that are decoded, and replies that are encoded.
+
+pub mod run;
+mod sample;

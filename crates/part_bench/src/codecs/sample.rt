@@ -1,0 +1,125 @@
+//! The calls and replies that are measured.
+
+ghost use Rattle.std.specs.Prelude.{IfOk};
+ghost use Rattle.part_bench.specs.Fits.{FitsRecord};
+
+use nfs_values::{
+    Answer, Attributes, FileHandle, FileKind, Fileid, LookupResults, Moment, Named, Procedure,
+    ReadResults, Reply, Verifier, VolumeNumber, WriteResults,
+};
+use std::alloc::{AllocError, Global};
+
+/// How many bytes a measured READ or WRITE has.
+const DATA: usize = 65_536;
+
+/// The head of a NULL call, as a record (RFC 5531 section 9). What is measured is its head and
+/// the arguments behind it, since the head of a call that isn't served is refused.
+const HEAD: [u32; 10] = [1, 0, 2, 100_003, 3, 0, 0, 0, 0, 0];
+
+/// A handle: its length, volume 0, fileid 1.
+const HANDLE: [u32; 4] = [12, 0, 0, 1];
+
+/// A kind of call: the record of one, and a reply to it.
+#[derive(Drop)]
+pub struct Sample {
+    pub name: &'static str,
+    pub procedure: Procedure,
+    pub record: Vec<u8>,
+    pub reply: Reply,
+}
+
+/// Words as bytes, the highest byte first.
+fn push_words(out: &mut Vec<u8>, words: &[u32]) -> Result<(), AllocError> {
+    for word in words {
+        out.extend_from_slice(&word.to_be_bytes())?;
+    }
+    Ok(())
+}
+
+/// A record of these arguments, behind its head.
+fn record(alloc: Global, arguments: &[u32], data: usize) -> Result<Vec<u8>, AllocError> {
+    let mut out = Vec::new(alloc);
+    push_words(&mut out, &HEAD)?;
+    push_words(&mut out, &HANDLE)?;
+    push_words(&mut out, arguments)?;
+    for _byte in 0..data {
+        out.push(7)?;
+    }
+    Ok(out)
+}
+
+const FILE: Attributes = Attributes {
+    kind: FileKind::Regular,
+    mode: 0o644,
+    links: 1,
+    uid: 0,
+    gid: 0,
+    size: DATA as u64,
+    used: DATA as u64,
+    fsid: 0,
+    fileid: Fileid(1),
+    atime: Moment::START,
+    mtime: Moment::START,
+    ctime: Moment::START,
+};
+
+/// GETATTR (RFC 1813 section 3.3.1).
+pub fn get_attributes(alloc: Global) -> Result<Sample, AllocError>
+    ensures { IfOk result (λ s. FitsRecord s.reply) }
+{
+    Ok(Sample {
+        name: "GETATTR",
+        procedure: Procedure::GetAttributes,
+        record: record(alloc, &[], 0)?,
+        reply: Reply::Success(Answer::GetAttributes(Ok(FILE))),
+    })
+}
+
+/// LOOKUP of a name of 8 bytes (RFC 1813 section 3.3.3).
+pub fn lookup(alloc: Global) -> Result<Sample, AllocError>
+    ensures { IfOk result (λ s. FitsRecord s.reply) }
+{
+    Ok(Sample {
+        name: "LOOKUP",
+        procedure: Procedure::Lookup,
+        record: record(alloc, &[8, 0x6e61_6d65, 0x5f5f_3031], 0)?,
+        reply: Reply::Success(Answer::Lookup(Ok(LookupResults {
+            handle: FileHandle::naming(Named {
+                volume: VolumeNumber(0),
+                fileid: Fileid(2),
+            }),
+            object: FILE,
+            directory: FILE,
+        }))),
+    })
+}
+
+/// WRITE of 64 KiB (RFC 1813 section 3.3.7).
+pub fn write(alloc: Global) -> Result<Sample, AllocError>
+    ensures { IfOk result (λ s. FitsRecord s.reply) }
+{
+    Ok(Sample {
+        name: "WRITE",
+        procedure: Procedure::Write,
+        record: record(alloc, &[0, 0, DATA as u32, 2, DATA as u32], DATA)?,
+        reply: Reply::Success(Answer::Write(Ok(WriteResults {
+            count: DATA as u32,
+            verifier: Verifier([0; 8]),
+        }))),
+    })
+}
+
+/// READ of 64 KiB (RFC 1813 section 3.3.6).
+pub fn read(alloc: Global) -> Result<Sample, AllocError>
+    ensures { IfOk result (λ s. FitsRecord s.reply) }
+{
+    Ok(Sample {
+        name: "READ",
+        procedure: Procedure::Read,
+        record: record(alloc, &[0, 0, DATA as u32], 0)?,
+        reply: Reply::Success(Answer::Read(Ok(ReadResults {
+            eof: false,
+            bytes: vec![in alloc; 7; DATA]?,
+        }))),
+    })
+}

@@ -1,0 +1,5 @@
+//! Grants of a depot beside numbers under one lock.
+
+mod crew;
+mod lock;
+pub mod run;

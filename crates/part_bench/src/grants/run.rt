@@ -1,0 +1,82 @@
+//! How many calls are granted and finished in a second.
+
+use crate::grants::crew::{Crew, NAMES, STRIPES, depot_pass};
+use crate::grants::lock;
+use crate::ratio::print_ratio;
+use affinity_tree::Affinity;
+use rates::per_second;
+use std::io;
+use std::rt::Clock;
+use std::sync::{Mutex, Wait};
+use std::thread::Threads;
+use std::time::Instant;
+
+/// How many passes there are, of which the middle one by its rate is told.
+const PASSES: usize = 9;
+
+/// A pass of additions under one lock: how many were done in a second.
+fn lock_pass<R: Clock + Threads + Wait + Sync>(rt: &R, crew: Crew, count: u32) -> io::Result<u64> {
+    let numbers = Mutex::new([0; 4]);
+    let start = Instant::now(rt)?;
+    match crew {
+        Crew::One => lock::one_thread(rt, &numbers, count),
+        Crew::Two => lock::two_threads(rt, &numbers, count),
+        Crew::Four => lock::four_threads(rt, &numbers, count),
+    }
+    let time = start.elapsed(rt)?;
+    Ok(per_second(crew.size() * u64::from(count), time))
+}
+
+/// The middle one of the rates of all passes.
+fn middle(mut rates: [u64; PASSES]) -> u64 {
+    rates.sort_unstable();
+    rates[PASSES / 2]
+}
+
+/// Measures one kind of node with so many threads, and prints it.
+fn measure<R: Clock + Print + AllocGlobal + Threads + Wait + Sync>(
+    rt: &R,
+    name: &str,
+    crew: Crew,
+    nodes: [Affinity; 4],
+    count: u32,
+) -> io::Result<()> {
+    let mut granted = 0u64;
+    let mut finished = [0; PASSES];
+    let mut added = [0; PASSES];
+    for pass in 0..PASSES {
+        let (here, rate) = depot_pass(rt, crew, nodes, count)?;
+        granted = granted.saturating_add(here);
+        finished[pass] = rate;
+        added[pass] = lock_pass(rt, crew, count)?;
+    }
+    let (finished, added) = (middle(finished), middle(added));
+    print_rates(rt, name, crew.size(), granted, finished, added)
+}
+
+/// Prints both rates, and one by the other.
+fn print_rates(
+    rt: &impl Print,
+    name: &str,
+    threads: u64,
+    granted: u64,
+    finished: u64,
+    added: u64,
+) -> io::Result<()> {
+    println!(rt; "{name}, threads {threads}, {granted} granted: {finished} a second")?;
+    println!(rt; "under a lock: {added} a second")?;
+    print_ratio(rt, finished, added)
+}
+
+/// Measures stripes, and then the names of volumes.
+pub fn run<R: Clock + Print + AllocGlobal + Threads + Wait + Sync>(
+    rt: &R,
+    count: u32,
+) -> io::Result<()> {
+    for (name, nodes) in [("Stripe", STRIPES), ("Volume Logical", NAMES)] {
+        for crew in Crew::ALL {
+            measure(rt, name, crew, nodes, count)?;
+        }
+    }
+    Ok(())
+}
