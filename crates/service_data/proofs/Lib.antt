@@ -1,2 +1,3 @@
 mod Spanned
 mod Told
+mod Written

@@ -1,7 +1,9 @@
-//! Calls on the bytes of files, on the parcels that they hold: READ.
+//! Calls on the bytes of files, on the parcels that they hold: READ and WRITE.
 #![tactic(auto)]
 
 mod reading;
 mod spans;
+mod writing;
 
 pub use reading::{read_in_logical, read_in_stripe};
+pub use writing::write_in_stripe;

@@ -1,0 +1,165 @@
+-- WRITE in a stripe, as its checks come out.
+use Rattle.std.proofs.Common.{◌≡◌, ℕ, ◌+◌, ◌<◌, ◌==◌, min, not, Bool, true, false, List, length, take, Option, Some, None, Result, Ok, Err, nat_lt}
+use Rattle.std.proofs.Common.{refl, sym, ap, ◌∙◌, subst, arith, ne_eqb}
+use Rattle.std.specs.Prelude.{if◌then◌else◌}
+use Rattle.std.proofs.lemmas.Bool.{eqb-true}
+use Rattle.std.proofs.lemmas.Bool.Decides.{nat_tests}
+use Rattle.std.proofs.lemmas.List.{length-take, take_min}
+use Rattle.std.specs.FinMap.{get}
+use Rattle.nfs_model.specs.Types.{Moment, WriteDone, Success}
+use Rattle.nfs_model.specs.Tree.{Logical, Stripe}
+use Rattle.nfs_model.specs.Server.{most_bytes}
+use Rattle.nfs_model.specs.Serial.Write.{Writing, bytes_kept}
+use Rattle.nfs_model.specs.Work.{Replied, Moved}
+use Rattle.nfs_values.specs.Status.{status_of}
+use Rattle.nfs_values.specs.declared.answer.WriteResults.{WriteResults}
+use Rattle.nfs_values.specs.declared.status.Status.{Status}
+use Rattle.nfs_values.specs.declared.verifier.Verifier.{Verifier}
+use Rattle.nfs_values.specs.declared.status.Status.TheVariants.{Invalid, TooBig}
+use Rattle.volume_values.specs.Stripes.{Card, OfFile, OfFolder, StripeValue, stays_within, overwritten}
+use Rattle.held_state.specs.Lenses.{stripe_lens}
+use Rattle.held_state.specs.Running.{RunsOn}
+use Rattle.held_data.specs.Writing.{StripeOutcome, tells, fails, some_written, card_written, stripe_write}
+use Rattle.held_data.specs.Writing as writing
+use Rattle.held_data.specs.WritingLaws.{write_call}
+use Rattle.held_data.specs.lemmas.Writes.{stripe-writes}
+use Rattle.service_data.specs.Writing.{asked_to_write, bytes_to_write, writing_outcome, WritesInStripe}
+
+-- ---- what the checks leave
+
+module _ (v fileid : ℕ) (w : Writing) (s : StripeValue) where
+  -- so many bytes
+  abbrev bytes_come_to : ℕ → StripeOutcome
+  bytes_come_to n =
+      if stays_within fileid w.offset n s then record {
+        outcome = Replied (Success (WriteDone n s.verifier));
+        stripe = overwritten fileid w.offset (bytes_kept w) w.moment s;
+      }
+      else record { outcome = Moved (Logical v); stripe = s }
+
+  -- a failure, none, or so many
+  abbrev comes_to : Result ℕ Status → StripeOutcome
+  comes_to (Err status) = fails (status_of status) s
+  comes_to (Ok n) = if n == 0 then tells (WriteDone 0 s.verifier) s else bytes_come_to n
+
+  some-come : (w.count == length w.written) ≡ true → (w.count == 0) ≡ false
+      → some_written v fileid w (length (bytes_kept w)) s
+      ≡ comes_to (if nat_lt s.largest (w.offset + min w.count most_bytes) then Err TooBig else Ok (min w.count most_bytes))
+  some-come same some =
+      by (nat_lt s.largest (w.offset + length (bytes_kept w)))
+      ∙ ap (λ (n : ℕ). comes_to (if nat_lt s.largest (w.offset + n) then Err TooBig else Ok n)) many
+    where
+      many : length (bytes_kept w) ≡ min w.count most_bytes
+      many =
+          let is : w.count ≡ length w.written = eqb-true w.count (length w.written) same in
+          let kept = length-take most_bytes w.written in
+          omega (arith, is, kept)
+
+      not-none : (n : ℕ) → n ≡ min w.count most_bytes → (n == 0) ≡ false
+      not-none n is = grind (arith, nat_tests, is, some)
+
+      by : (b : Bool) → (if b then fails (status_of TooBig) s else bytes_come_to (length (bytes_kept w)))
+          ≡ comes_to (if b then Err TooBig else Ok (length (bytes_kept w)))
+      by true = refl
+      by false = sym (ap (λ (t : Bool). if t then tells (WriteDone 0 s.verifier) s else bytes_come_to (length (bytes_kept w)))
+          (not-none (length (bytes_kept w)) many))
+
+  as-checked : (card : Option Card) → card_written v fileid w card s ≡ comes_to (bytes_to_write card s.largest w.offset w.count (length w.written))
+  as-checked None = refl
+  as-checked (Some OfFolder) = refl
+  as-checked (Some (OfFile size touch)) = by (w.count == length w.written) refl (w.count == 0) refl
+    where
+      by : (b : Bool) → (w.count == length w.written) ≡ b → (t : Bool) → (w.count == 0) ≡ t
+          → (if not b then fails (status_of Invalid) s
+          else if t then tells (WriteDone 0 s.verifier) s else some_written v fileid w (length (bytes_kept w)) s)
+          ≡ comes_to (if not b then Err Invalid else if t then Ok 0
+          else if nat_lt s.largest (w.offset + min w.count most_bytes) then Err TooBig else Ok (min w.count most_bytes))
+      by false e t h = refl
+      by true e true h = refl
+      by true e false h = some-come e h
+
+-- how many are given, where any are
+given-some : (card : Option Card) (largest offset count long given : ℕ) → Ok given ≡ bytes_to_write card largest offset count long → (given ≡ 0 → ⊥)
+    → (count ≡ long) × (given ≡ min count most_bytes)
+given-some None largest offset count long given is some = absurd cc
+given-some (Some OfFolder) largest offset count long given is some = absurd cc
+given-some (Some (OfFile size touch)) largest offset count long given is some =
+    by (count == long) refl (count == 0) (nat_lt largest (offset + min count most_bytes)) is
+  where
+    by : (b : Bool) → (count == long) ≡ b → (t u : Bool)
+        → Ok given ≡ (if not b then Err Invalid else if t then Ok 0 else if u then Err TooBig else Ok (min count most_bytes))
+        → (count ≡ long) × (given ≡ min count most_bytes)
+    by false e t u is = absurd cc
+    by true e true u is = let none : given ≡ 0 = cc in absurd (some none)
+    by true e false true is = absurd cc
+    by true e false false is = let same : given ≡ min count most_bytes = cc in (eqb-true count long e, same)
+
+-- ---- what is done is right
+
+module _ (fileid : ℕ) (w : Writing) (old now : StripeValue) (held : now ≡ old) (card : Option Card) (found : card ≡ get now.cards fileid)
+    (largest : ℕ) (limit : largest ≡ now.largest) where
+  abbrev checked : Result ℕ Status
+  checked = bytes_to_write card largest w.offset w.count (length w.written)
+
+  right-by : (result : Option (Result WriteResults Status)) (new : StripeValue)
+      → ((v : ℕ) → comes_to v fileid w now checked ≡ record { outcome = writing_outcome v result; stripe = new }) → WritesInStripe fileid w old result new
+  right-by result new is v i handle some lies =
+      subst (λ (told : StripeOutcome). RunsOn v (stripe_lens i) (write_call handle (Stripe v i) fileid w) old told.outcome told.stripe)
+      (ap (stripe_write v fileid w) (sym held) ∙ ap (λ o. card_written v fileid w o now) (sym found) ∙ as-checked v fileid w now card
+      ∙ ap (λ (n : ℕ). comes_to v fileid w now (bytes_to_write card n w.offset w.count (length w.written))) (sym limit) ∙ is v)
+      (λ p hands hands' made has numbered sound moved.
+      let r = stripe-writes v i fileid handle w old some lies p hands hands' made has numbered sound moved in (r.0, r.1))
+
+  pub right-failed : (status : Status) → Err status ≡ checked → WritesInStripe fileid w old (Some (Err status)) now
+  right-failed status is = right-by (Some (Err status)) now (λ v. ap (comes_to v fileid w now) (sym is))
+
+  pub right-none : (given : ℕ) → Ok given ≡ checked → given ≡ 0 → (verifier : Verifier) → verifier.0 ≡ now.verifier
+      → WritesInStripe fileid w old (Some (Ok (record { count = 0; verifier = verifier }))) now
+  right-none given is none verifier same = right-by (Some (Ok (record { count = 0; verifier = verifier }))) now
+      (λ v. ap (comes_to v fileid w now) (sym is ∙ ap Ok none) ∙ ap (λ (bytes : List ℕ). tells (WriteDone 0 bytes) now) (sym same))
+
+  module _ (given : ℕ) (is : Ok given ≡ checked) (some : given ≡ 0 → ⊥) where
+    bytes-come : (v : ℕ) → comes_to v fileid w now checked ≡ bytes_come_to v fileid w now given
+    bytes-come v =
+        ap (comes_to v fileid w now) (sym is)
+        ∙ ap (λ (t : Bool). if t then tells (WriteDone 0 now.verifier) now else bytes_come_to v fileid w now given) (ne_eqb given 0 some)
+
+    kept-long : length (take given w.written) ≡ given
+    kept-long =
+        let all = given-some card largest w.offset w.count (length w.written) given is some in
+        let long = length-take given w.written in
+        omega (arith, all.0, all.1, long)
+
+    kept-same : take given w.written ≡ bytes_kept w
+    kept-same =
+        let all = given-some card largest w.offset w.count (length w.written) given is some in
+        let least : given ≡ min most_bytes (length w.written) = omega (arith, all.0, all.1) in
+        ap (λ (n : ℕ). take n w.written) least ∙ take_min most_bytes w.written
+
+    pub right-moved : (new : StripeValue) → new ≡ now → false ≡ stays_within fileid w.offset (length (take given w.written)) now
+        → WritesInStripe fileid w old None new
+    right-moved new same leaves = right-by None new (λ v.
+        bytes-come v
+        ∙ ap (λ (t : Bool). if t then record {
+          outcome = Replied (Success (WriteDone given now.verifier));
+          stripe = overwritten fileid w.offset (bytes_kept w) w.moment now;
+        }
+        else record { outcome = Moved (Logical v); stripe = now })
+        (ap (λ (n : ℕ). stays_within fileid w.offset n now) (sym kept-long) ∙ sym leaves)
+        ∙ (λ j. record { outcome = Moved (Logical v); stripe = sym same j }))
+
+    pub right-written : (new : StripeValue) (verifier : Verifier) → new ≡ overwritten fileid w.offset (take given w.written) w.moment now
+        → true ≡ stays_within fileid w.offset (length (take given w.written)) now → verifier.0 ≡ now.verifier
+        → WritesInStripe fileid w old (Some (Ok (record { count = given; verifier = verifier }))) new
+    right-written new verifier done stays same = right-by (Some (Ok (record { count = given; verifier = verifier }))) new (λ v.
+        bytes-come v
+        ∙ ap (λ (t : Bool). if t then record {
+          outcome = Replied (Success (WriteDone given now.verifier));
+          stripe = overwritten fileid w.offset (bytes_kept w) w.moment now;
+        }
+        else record { outcome = Moved (Logical v); stripe = now })
+        (ap (λ (n : ℕ). stays_within fileid w.offset n now) (sym kept-long) ∙ sym stays)
+        ∙ (λ j. record {
+          outcome = Replied (Success (WriteDone given (sym same j)));
+          stripe = (ap (λ (bytes : List ℕ). overwritten fileid w.offset bytes w.moment now) (sym kept-same) ∙ sym done) j;
+        }))

@@ -1,0 +1,44 @@
+-- What WRITE promises, on the parcels of a volume (RFC 1813 section 3.3.7).
+use Rattle.std.specs.Prelude.{ℕ, ◌+◌, ◌<◌, ◌==◌, min, not, nat_lt, List, Option, Some, None, Result, Ok, Err, if◌then◌else◌}
+use Rattle.nfs_model.specs.Types as types
+use Rattle.nfs_model.specs.Types.{Moment}
+use Rattle.nfs_model.specs.Server.{most_bytes}
+use Rattle.nfs_model.specs.Tree.{Logical, Stripe}
+use Rattle.nfs_model.specs.Serial.Write.{Writing}
+use Rattle.nfs_model.specs.Work.{Outcome, Replied, Moved}
+use Rattle.nfs_values.specs.Answer.{answer_of}
+use Rattle.nfs_values.specs.declared.answer.Answer.TheVariants.{Write}
+use Rattle.nfs_values.specs.declared.answer.WriteResults.{WriteResults}
+use Rattle.nfs_values.specs.declared.status.Status.{Status}
+use Rattle.nfs_values.specs.declared.status.Status.TheVariants.{Stale, Invalid, TooBig}
+use Rattle.volume_values.specs.Stripes.{Card, OfFile, OfFolder, StripeValue}
+use Rattle.held_state.specs.Lenses.{stripe_lens}
+use Rattle.held_state.specs.Calls.{LieIn}
+use Rattle.held_state.specs.Running.{RunsOn}
+use Rattle.held_data.specs.WritingLaws.{write_call}
+
+-- what is asked: bytes at an offset, with the count that was given, at a moment
+abbrev pub asked_to_write : ℕ → ℕ → List ℕ → Moment → Writing
+asked_to_write offset count written moment = record { offset = offset; count = count; written = written; moment = moment }
+
+-- How many bytes are to be written, by a file's card and the largest size, where so many are there: STALE, INVAL for a directory,
+-- INVAL for another count, none for a count of 0, FBIG.
+abbrev pub bytes_to_write : Option Card → ℕ → ℕ → ℕ → ℕ → Result ℕ Status
+bytes_to_write None largest offset count long = Err Stale
+bytes_to_write (Some OfFolder) largest offset count long = Err Invalid
+bytes_to_write (Some (OfFile size touch)) largest offset count long =
+    if not (count == long) then Err Invalid
+    else if count == 0 then Ok 0
+    else if nat_lt largest (offset + min count most_bytes) then Err TooBig
+    else Ok (min count most_bytes)
+
+-- what a WRITE in a stripe comes to: a reply, or a move to Volume Logical
+abbrev pub writing_outcome : ℕ → Option (Result WriteResults Status) → Outcome
+writing_outcome v None = Moved (Logical v)
+writing_outcome v (Some told) = Replied (types.Success (answer_of (Write told)))
+
+-- A run of WRITE of a fileid by this stripe is right where it is the i-th of a volume and the bytes lie in it: by whatever handle, and
+-- whatever the rest of the volume is.
+abbrev pub WritesInStripe : ℕ → Writing → StripeValue → Option (Result WriteResults Status) → StripeValue → Type 0
+WritesInStripe fileid w old result new = (v i : ℕ) (handle : List ℕ) → i < old.stripes → LieIn old.stripes i fileid w.offset (min w.count most_bytes)
+    → RunsOn v (stripe_lens i) (write_call handle (Stripe v i) fileid w) old (writing_outcome v result) new

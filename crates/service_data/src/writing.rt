@@ -1,0 +1,84 @@
+//! WRITE.
+
+ghost use Rattle.std.specs.Prelude.{◌≡◌, min, length, IfNone};
+ghost use Rattle.std.specs.Option.{option_map};
+ghost use Rattle.nfs_values.specs.Moment.{moment_of};
+ghost use Rattle.stripe_cards.specs.Cards.{card_of};
+ghost use Rattle.service_data.specs.Promises.{LieInOneSpan};
+ghost use Rattle.service_data.specs.Writing.{asked_to_write, bytes_to_write, WritesInStripe};
+
+use nfs_values::{Fileid, Moment, Status, WriteResults};
+use parcel_sets::StripeHeld;
+use parcels::Files;
+use stripe_cards::Card;
+
+/// Larger counts of bytes are taken as this.
+const COUNT_LIMIT: u32 = 65_536;
+
+/// WRITE (RFC 1813 section 3.3.7), on the parcel of the stripe in which its bytes lie, as many as
+/// the count, at most 65,536: STALE, INVAL for a directory or for a count that isn't the number of
+/// bytes, FBIG; else the bytes are written over those that are there, at a moment. Where they would
+/// extend the file or fill a hole nothing changes, and it has to move to Volume Logical: `None`. It
+/// takes no memory.
+pub fn write_in_stripe(
+    held: &mut StripeHeld<Files>,
+    fileid: Fileid,
+    offset: u64,
+    count: u32,
+    written: &[u8],
+    moment: Moment,
+) -> Option<Result<WriteResults, Status>>
+    requires span { LieInOneSpan offset (min count COUNT_LIMIT) }
+    ensures right { WritesInStripe fileid.0
+        (asked_to_write offset count written.now (moment_of moment))
+        held.old.own result held.new.own }
+    ensures moved { IfNone result (held.new ≡ held.old) }
+{
+    let stripe = held.own.get_mut();
+    let verifier = stripe.verifier();
+    let card = stripe.card(fileid);
+    let given = match bytes_to_write(card, stripe.largest(), offset, count, written.len()) {
+        Ok(given) => given,
+        Err(status) => return Some(Err(status)),
+    };
+    if given == 0 {
+        return Some(Ok(WriteResults { count: 0, verifier }));
+    }
+    if !stripe.overwrite(fileid, offset, &written[..given], moment) {
+        return None;
+    }
+    Some(Ok(WriteResults {
+        count: given as u32,
+        verifier,
+    }))
+}
+
+/// How many bytes are to be written to a file, by its card and the largest size: STALE where there
+/// is no card, INVAL for a directory or for a count that isn't the number of bytes that are there,
+/// none for a count of 0, FBIG.
+fn bytes_to_write(
+    card: Option<Card>,
+    largest: u64,
+    offset: u64,
+    count: u32,
+    long: usize,
+) -> Result<usize, Status>
+    ensures { result ≡ bytes_to_write (option_map card_of card) largest offset count long }
+{
+    match card {
+        Some(Card::File { size: _, touch: _ }) => {}
+        Some(Card::Directory) => return Err(Status::Invalid),
+        None => return Err(Status::Stale),
+    }
+    if count as usize != long {
+        return Err(Status::Invalid);
+    }
+    if count == 0 {
+        return Ok(0);
+    }
+    let given = count.min(COUNT_LIMIT);
+    if offset > largest || u64::from(given) > largest - offset {
+        return Err(Status::TooBig);
+    }
+    Ok(given as usize)
+}
