@@ -9,13 +9,12 @@ use parcel_sets::{
     LogicalNode, Node, Numbers, Parcel, RangeNode, SerialNode, StripeNode, VbnNode, VolumeNode,
 };
 use std::alloc::Global;
-use std::fmt::Debug;
 use std::mem;
 use std::process::Abort;
 use std::sync::atomic::{AtomicBool, Ordering};
 
 /// What came of a claim.
-#[derive(Clone, Copy, Debug, PartialEq, Eq)]
+#[derive(Clone, Copy, PartialEq, Eq)]
 pub enum Found {
     Granted,
     /// The node whose word refused.
@@ -24,8 +23,8 @@ pub enum Found {
 }
 
 /// Looks whether this is what is wanted.
-pub fn same<T: PartialEq + Debug>(rt: &impl Abort, found: &T, wanted: &T) {
-    assert_eq!(rt; found, wanted);
+pub fn same<T: PartialEq>(rt: &impl Abort, found: &T, wanted: &T) {
+    assert!(rt; found == wanted);
 }
 
 /// A depot with four volumes in which each parcel is 0, and its first seat.

@@ -31,24 +31,21 @@ fn touched(rt: &(impl Abort + AllocGlobal)) -> Cards {
 }
 
 #[test]
-fn touches(rt: HostRuntime) {
+fn touches_and_sizes(rt: HostRuntime) {
     let mut cards = touched(&rt);
-    let taken = (cards.take_touch(FILE), cards.take_touch(FILE));
-    same(&rt, &taken, &(Some(at(9)), None));
-    same(&rt, &cards.get(DIRECTORY), &Some(Card::Directory));
-    mem::forget(cards);
-}
-
-#[test]
-fn sizes(rt: HostRuntime) {
-    let mut cards = touched(&rt);
+    let touch = cards.take_touch(FILE);
+    cards.touch(FILE, at(5));
     if cards.get(FILE).is_some() {
         cards.set_size(FILE, 8193);
     }
     let card = cards.get(FILE);
     cards.remove(FILE);
-    let touch = Some(at(9));
-    let wanted = (Some(Card::File { size: 8193, touch }), None);
-    same(&rt, &(card, cards.get(FILE)), &wanted);
+    let left = (touch, card, cards.get(FILE), cards.get(DIRECTORY));
     mem::forget(cards);
+    let sized = Card::File {
+        size: 8193,
+        touch: Some(at(5)),
+    };
+    let wanted = (Some(at(9)), Some(sized), None, Some(Card::Directory));
+    same(&rt, &left, &wanted);
 }
