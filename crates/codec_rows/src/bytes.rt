@@ -9,7 +9,7 @@ pub(crate) fn holds(rt: &impl Abort, is_so: bool) {
 
 /// Looks whether these are the bytes that are wanted.
 pub(crate) fn same(rt: &impl Abort, bytes: &[u8], wanted: &[u8]) {
-    assert_eq!(rt; bytes, wanted);
+    assert!(rt; bytes == wanted);
 }
 
 /// Parts, one after the other.

@@ -58,7 +58,7 @@ fn nothing(rt: &(impl Abort + AllocGlobal)) -> Waiting<u32> {
 
 /// Looks whether this is the place that is wanted, if any.
 fn is_place(rt: &impl Abort, place: Option<usize>, wanted: Option<usize>) {
-    assert_eq!(rt; place, wanted);
+    assert!(rt; place == wanted);
 }
 
 /// Lets four messages wait, by turns of two affinities.
