@@ -1,12 +1,12 @@
 -- WRITE in a stripe, as its checks come out.
-use Rattle.std.proofs.Common.{◌≡◌, ℕ, ◌+◌, ◌<◌, ◌==◌, min, not, Bool, true, false, List, length, take, Option, Some, None, Result, Ok, Err, nat_lt}
+use Rattle.std.proofs.Common.{◌≡◌, ℕ, ◌+◌, ◌==◌, min, not, Bool, true, false, List, length, take, Option, Some, None, Result, Ok, Err, nat_lt}
 use Rattle.std.proofs.Common.{refl, sym, ap, ◌∙◌, subst, arith, ne_eqb}
 use Rattle.std.specs.Prelude.{if◌then◌else◌}
 use Rattle.std.proofs.lemmas.Bool.{eqb-true}
 use Rattle.std.proofs.lemmas.Bool.Decides.{nat_tests}
 use Rattle.std.proofs.lemmas.List.{length-take, take_min}
 use Rattle.std.specs.FinMap.{get}
-use Rattle.nfs_model.specs.Types.{Moment, WriteDone, Success}
+use Rattle.nfs_model.specs.Types.{WriteDone, Success}
 use Rattle.nfs_model.specs.Tree.{Logical, Stripe}
 use Rattle.nfs_model.specs.Server.{most_bytes}
 use Rattle.nfs_model.specs.Serial.Write.{Writing, bytes_kept}
@@ -20,10 +20,9 @@ use Rattle.volume_values.specs.Stripes.{Card, OfFile, OfFolder, StripeValue, sta
 use Rattle.held_state.specs.Lenses.{stripe_lens}
 use Rattle.held_state.specs.Running.{RunsOn}
 use Rattle.held_data.specs.Writing.{StripeOutcome, tells, fails, some_written, card_written, stripe_write}
-use Rattle.held_data.specs.Writing as writing
 use Rattle.held_data.specs.WritingLaws.{write_call}
 use Rattle.held_data.specs.lemmas.Writes.{stripe-writes}
-use Rattle.service_data.specs.Writing.{asked_to_write, bytes_to_write, writing_outcome, WritesInStripe}
+use Rattle.service_data.specs.Writing.{bytes_to_write, writing_outcome, WritesInStripe}
 
 -- ---- what the checks leave
 

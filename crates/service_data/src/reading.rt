@@ -24,7 +24,7 @@ use std::alloc::{AllocError, Global};
 use stripe_cards::Card;
 
 /// Larger counts of bytes are taken as this.
-const COUNT_LIMIT: u32 = 65_536;
+pub(crate) const COUNT_LIMIT: u32 = 65_536;
 
 /// READ (RFC 1813 section 3.3.6), on the parcel of the stripe in which its bytes lie, those from
 /// the offset on, as many as the count, at most 65,536: STALE, or INVAL for a directory; else the

@@ -1,19 +1,17 @@
 //! WRITE.
 
-ghost use Rattle.std.specs.Prelude.{◌≡◌, min, length, IfNone};
+ghost use Rattle.std.specs.Prelude.{◌≡◌, min, IfNone};
 ghost use Rattle.std.specs.Option.{option_map};
 ghost use Rattle.nfs_values.specs.Moment.{moment_of};
 ghost use Rattle.stripe_cards.specs.Cards.{card_of};
 ghost use Rattle.service_data.specs.Promises.{LieInOneSpan};
 ghost use Rattle.service_data.specs.Writing.{asked_to_write, bytes_to_write, WritesInStripe};
 
+use crate::reading::COUNT_LIMIT;
 use nfs_values::{Fileid, Moment, Status, WriteResults};
 use parcel_sets::StripeHeld;
 use parcels::Files;
 use stripe_cards::Card;
-
-/// Larger counts of bytes are taken as this.
-const COUNT_LIMIT: u32 = 65_536;
 
 /// WRITE (RFC 1813 section 3.3.7), on the parcel of the stripe in which its bytes lie, as many as
 /// the count, at most 65,536: STALE, INVAL for a directory or for a count that isn't the number of
@@ -61,16 +59,16 @@ fn bytes_to_write(
     largest: u64,
     offset: u64,
     count: u32,
-    long: usize,
+    byte_count: usize,
 ) -> Result<usize, Status>
-    ensures { result ≡ bytes_to_write (option_map card_of card) largest offset count long }
+    ensures { result ≡ bytes_to_write (option_map card_of card) largest offset count byte_count }
 {
     match card {
         Some(Card::File { size: _, touch: _ }) => {}
         Some(Card::Directory) => return Err(Status::Invalid),
         None => return Err(Status::Stale),
     }
-    if count as usize != long {
+    if count as usize != byte_count {
         return Err(Status::Invalid);
     }
     if count == 0 {
