@@ -2,6 +2,7 @@
 
 ghost use Rattle.std.specs.Prelude.{◌≤◌, ◌<◌};
 
+use crate::records::GETATTR;
 use affinity_tree::{AggregateSpec, Layout, VolumeSpec};
 use engine::{Engine, Event};
 use nfs_values::Moment;
@@ -16,13 +17,7 @@ const PASSES: u32 = 200;
 /// How many calls a pass has.
 const CALLS: u32 = 100;
 
-/// A GETATTR call of the root of volume 0, as a record of one fragment (RFC 5531 sections 9 and
-/// 11, RFC 1813 section 3.3.1).
-const RECORD: [u8; 60] = *b"\x80\0\0\x38\0\0\0\x01\0\0\0\0\0\0\0\x02\0\x01\x86\xa3\
-    \0\0\0\x03\0\0\0\x01\0\0\0\0\0\0\0\0\0\0\0\0\0\0\0\0\0\0\0\x0c\
-    \0\0\0\0\0\0\0\0\0\0\0\x01";
-
-/// Where the last byte of the volume's number stands in it.
+/// Where the last byte of the volume's number stands in GETATTR.
 const VOLUME: usize = 51;
 
 const AGGREGATE: AggregateSpec = AggregateSpec { spare: 128 };
@@ -67,7 +62,7 @@ fn measure_calls(
     worker: usize,
     count: u32,
 ) -> io::Result<()> {
-    let mut record = RECORD;
+    let mut record = GETATTR;
     record[VOLUME] = volume;
     let call = [
         Event::Feed {

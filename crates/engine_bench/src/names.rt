@@ -1,4 +1,4 @@
-//! How many calls are answered in a second.
+//! How many calls on names are answered in a second.
 
 use crate::calls::{Measured, make_call, make_file};
 use affinity_tree::{AggregateSpec, Layout, VolumeSpec};
