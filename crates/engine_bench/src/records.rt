@@ -49,14 +49,14 @@ fn letter(number: u32, place: u32) -> u8 {
 }
 
 /// Writes the name of a number below 65,536 at a place of a record.
-fn put_name(record: &mut [u8], at: usize, number: u32)
-    requires { at + 4 ≤ length record.old }
-    ensures { length record.new ≡ length record.old }
+fn put_name(call: &mut [u8], at: usize, number: u32)
+    requires { at + 4 ≤ length call.old }
+    ensures { length call.new ≡ length call.old }
 {
-    record[at] = letter(number, 4096);
-    record[at + 1] = letter(number, 256);
-    record[at + 2] = letter(number, 16);
-    record[at + 3] = letter(number, 1);
+    call[at] = letter(number, 4096);
+    call[at + 1] = letter(number, 256);
+    call[at + 2] = letter(number, 16);
+    call[at + 3] = letter(number, 1);
 }
 
 /// LOOKUP of the name of a number.
