@@ -172,7 +172,8 @@ module _ {P : Type 0} (layout : Layout) (lawful : fault_of layout ≡ None) (cal
       (logical_parcels layout (Logical v) old) (logical_parcels layout (Logical v) new)
       (logical_set (stripes_of layout v) old) (logical_set (stripes_of layout v) new) (logical-seen layout lawful v on old)
       (λ job reply step. logical-step layout lawful job reply v on old new step) outcome
-      (subst (λ (n : ℕ). RunsOn v logical_lens (call_on layout (Logical v) credential moment (call_of call)) (logical_set n old) outcome (logical_set n new)) own right)
+      (subst (λ (n : ℕ). RunsOn v logical_lens (call_on layout (Logical v) credential moment (call_of call)) (logical_set n old) outcome
+      (logical_set n new)) own right)
       (unless-mapped outcome (new ≡ old) ((k : ℕ) → logical_parcels layout (Logical v) new k ≡ logical_parcels layout (Logical v) old k)
       (λ e k. ap (λ (h : FilerLogical P). logical_parcels layout (Logical v) h k) e) same)
 
@@ -204,8 +205,8 @@ never-moves layout a credential moment (calls.Commit handle) run p = refl
 never-moves layout a credential moment call run p = absurd run
 
 -- a call that was run on a part of its volume is run where it moves
-pub moves-on : (layout : Layout) (a : Affinity) (call : Call) → IsRun call → (credential : Credential) (moment : Moment) (old new : LogicalSet) (outcome : Outcome)
-    → HasVolume (volume_of a) logical_lens [] old
+pub moves-on : (layout : Layout) (a : Affinity) (call : Call) → IsRun call → (credential : Credential) (moment : Moment) (old new : LogicalSet)
+    (outcome : Outcome) → HasVolume (volume_of a) logical_lens [] old
     → RunsOn (volume_of a) logical_lens (call_on layout a credential moment (call_of call)) old outcome new → MovesOn layout call outcome
 moves-on layout a call run credential moment old new (Replied reply) whole right = tt
 moves-on layout a call run credential moment old new Starved whole right = tt

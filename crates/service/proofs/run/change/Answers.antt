@@ -63,7 +63,8 @@ returns-in-MakeDirectory-clause-runs c =
     let credential = credential_of c.args.run.credential in
     let moment = moment_of c.args.run.moment in
     let asked = c.in-MakeDirectory in
-    subst (λ (call : Call). RunsOn n.volume logical_lens (call_named L n credential moment (call_of call)) old (outcome_of c.outcome_directory_made.result) new)
+    subst (λ (call : Call). RunsOn n.volume logical_lens (call_named L n credential moment (call_of call)) old
+    (outcome_of c.outcome_directory_made.result) new)
     (sym asked.is)
     (subst (λ (o : Outcome). RunsOn n.volume logical_lens
     (mkdir_call asked.target.directory (Logical n.volume) n.fileid asked.target.name (set_of asked.set) credential moment) old o new)

@@ -11,11 +11,13 @@ use Rattle.service.proofs.run.run_on_logical.Goals as goal
 
 pub tell-requires-clause-whole : goal.tell-requires-clause-whole
 tell-requires-clause-whole c =
-    whole-here (affinity_of c.args.affinity) c.named_here-named.result.volume.0 (logical_before c.args.held.now) c.named_here-named.ensures.node c.requires.whole
+    whole-here (affinity_of c.args.affinity) c.named_here-named.result.volume.0 (logical_before c.args.held.now) c.named_here-named.ensures.node
+    c.requires.whole
 
 pub change-requires-clause-whole : goal.change-requires-clause-whole
 change-requires-clause-whole c =
-    whole-here (affinity_of c.args.affinity) c.named_here-named.result.volume.0 (logical_before c.args.held.now) c.named_here-named.ensures.node c.requires.whole
+    whole-here (affinity_of c.args.affinity) c.named_here-named.result.volume.0 (logical_before c.args.held.now) c.named_here-named.ensures.node
+    c.requires.whole
 
 pub returns-then-is_told-clause-runs : goal.returns-then-is_told-clause-runs
 returns-then-is_told-clause-runs c =

@@ -44,7 +44,8 @@ returns-in-Lookup c =
           (call_named layout n (credential_of c.args.run.credential) moment (call_of call))
           old (Replied (Success told)) old) (sym c.in-Lookup.is)
           (served-runs n.volume (lookup_call target.directory (Logical n.volume) n.fileid target.name moment) old old told
-          (subst (λ (name : List ℕ). LooksUp n.volume n.fileid name old c.lookup-told.result) c.as_bytes.ensures c.lookup-told.ensures.right target.directory moment));
+          (subst (λ (name : List ℕ). LooksUp n.volume n.fileid name old c.lookup-told.result) c.as_bytes.ensures c.lookup-told.ensures.right
+          target.directory moment));
     }
 
 pub returns-in-ReadDirectory : goal.returns-in-ReadDirectory

@@ -30,5 +30,6 @@ returns-clause-does c =
     let outcome = outcome_of c.run_on_logical.result in (
       logical-runs L c.args.layout.now.lawful call run (credential_of c.args.self.credential) (moment_of c.args.self.moment)
           held c.run_on_logical.new.held outcome c.run_on_logical.ensures.moved a c.requires.node c.requires.asks.0.1 known.0 ran,
-      moves-on L a call run (credential_of c.args.self.credential) (moment_of c.args.self.moment) (logical_before held) (logical_after held c.run_on_logical.new.held) outcome known.1 ran,
+      moves-on L a call run (credential_of c.args.self.credential) (moment_of c.args.self.moment)
+          (logical_before held) (logical_after held c.run_on_logical.new.held) outcome known.1 ran,
     )
