@@ -1,8 +1,8 @@
 //! Heads of calls. Whole heads with their replies, and those at fault, stand in `filer_rows`.
 
 use crate::bytes::{bytes_of, holds};
-use nfs_values::Call;
-use rpc_msg::{Request, read_record};
+use nfs_values::{Call, Reply};
+use rpc_msg::{Head, Request, Served, read_call, read_record};
 use std::mem;
 
 #[test]
@@ -22,4 +22,35 @@ fn null_of_a_user(rt: HostRuntime) {
         _ => panic!(rt; "no NULL"),
     }
     mem::forget(heard);
+}
+
+#[test]
+fn admin_null(rt: HostRuntime) {
+    let offered = bytes_of(&rt, &[9, 0, 2, 0x20000001, 1, 0, 0, 0, 0, 0]);
+    let head = read_call(&offered);
+    match &head {
+        Head::Call {
+            xid: 9,
+            procedure: Served::AdminNull,
+            credential,
+            arguments: [],
+        } => holds(&rt, credential.uid == 65534 && credential.gid == 65534),
+        _ => panic!(rt; "no call"),
+    }
+    mem::forget(head);
+}
+
+#[test]
+fn admin_mismatch(rt: HostRuntime) {
+    let mismatch = bytes_of(&rt, &[9, 0, 2, 0x20000001, 2, 0, 0, 0, 0, 0]);
+    let head = read_call(&mismatch);
+    let is_refused = matches!(
+        &head,
+        Head::Refuse {
+            xid: 9,
+            reply: Reply::ProgramMismatch { low: 1, high: 1 }
+        }
+    );
+    mem::forget(head);
+    holds(&rt, is_refused);
 }

@@ -17,6 +17,17 @@ const FRAGMENTS: [u8; 56] = [
     0x17, 0, 0, 3, 0, 0, 0, 0, 0, 0, 0, 0, 0, 0, 0, 0, 0, 0, 0, 0, 0, 0, 0, 0, 0x80, 0, 0, 0,
 ];
 
+/// Feeds once more where there was no memory, which must have taken nothing.
+fn fed(rt: &impl Abort, reassembler: &mut Reassembler, bytes: &[u8]) -> (usize, Step) {
+    let (taken, step) = reassembler.feed(bytes);
+    if !matches!(&step, Step::NoMemory) {
+        return (taken, step);
+    }
+    mem::forget(step);
+    holds(rt, taken == 0);
+    reassembler.feed(bytes)
+}
+
 #[test]
 fn joins_fragments(rt: HostRuntime) {
     let mut reassembler = Reassembler::new(rt.alloc());
@@ -34,6 +45,23 @@ fn is_call(rt: &impl Abort, step: &Step) {
         Step::Record(made) => same(rt, made, &NULL_CALL),
         _ => panic!(rt; "no record"),
     }
+}
+
+#[test]
+fn joins_bytes_that_come_one_by_one(rt: HostRuntime) {
+    let mut reassembler = Reassembler::new(rt.alloc());
+    let mut records = 0;
+    for byte in &FRAGMENTS {
+        let (taken, step) = fed(&rt, &mut reassembler, &[*byte]);
+        holds(&rt, taken == 1);
+        if !matches!(&step, Step::More) {
+            is_call(&rt, &step);
+            records = 1u8;
+        }
+        mem::forget(step);
+    }
+    mem::forget(reassembler);
+    holds(&rt, records == 1);
 }
 
 #[test]

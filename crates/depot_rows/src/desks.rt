@@ -1,8 +1,8 @@
-//! Calls that a desk begins on nodes of each kind, and what others find in their midst.
+//! Calls on nodes of each kind, and what other calls find in their midst.
 
-use crate::trial::same;
-use crate::turns::{begin_beside, open};
+use crate::turns::{Turn, close, open, take_turn};
 use affinity_tree::Affinity;
+use parcel_sets::{Numbers, SerialHeld};
 use std::mem;
 
 const STRIPE: Affinity = Affinity::Stripe {
@@ -20,31 +20,52 @@ const RANGE: Affinity = Affinity::Range {
     range: 0,
 };
 
-/// Where worker 2 begins, what another worker asks for in its midst, and the number of that one's
-/// refusal, if it is refused; nothing where there is no such worker.
-const ROWS: [(Affinity, usize, Affinity, Option<Option<u32>>); 9] = [
-    (STRIPE, 0, Affinity::Volume(0), Some(Some(21))),
-    (STRIPE, 0, OTHER_STRIPE, Some(None)),
-    (Affinity::VolumeLogical(0), 0, RANGE, Some(None)),
-    (Affinity::VolumeVbn(0), 0, STRIPE, Some(None)),
-    (RANGE, 0, Affinity::VolumeVbn(0), Some(Some(21))),
-    (Affinity::Volume(0), 0, STRIPE, Some(Some(21))),
+/// Where a call adds 5, what another asks for in its midst, the number of that one's refusal, and
+/// the sum.
+const ROWS: [(Affinity, Affinity, Option<u32>, Option<u64>); 8] = [
+    (STRIPE, Affinity::Volume(0), Some(21), Some(5)),
+    (STRIPE, OTHER_STRIPE, None, Some(10)),
+    (Affinity::VolumeLogical(0), RANGE, None, None),
+    (Affinity::VolumeVbn(0), STRIPE, None, None),
+    (RANGE, Affinity::VolumeVbn(0), Some(21), None),
+    (Affinity::Volume(0), STRIPE, Some(21), None),
     (
         Affinity::Aggregate(0),
-        0,
         Affinity::VolumeLogical(0),
-        Some(Some(21)),
+        Some(21),
+        None,
     ),
-    (Affinity::Serial, 0, RANGE, Some(Some(21))),
-    (STRIPE, 3, STRIPE, None),
+    (Affinity::Serial, RANGE, Some(21), None),
 ];
 
-#[test]
-fn begun_beside(rt: HostRuntime) {
-    let mut desk = open(&rt, 3);
-    for (affinity, other, asked, beside) in &ROWS {
-        let found = begin_beside(&mut desk, 2, *affinity, *other, *asked);
-        same(&rt, &found, beside);
+/// The number of volume 0's stripe 2.
+fn number_of(held: &SerialHeld<Numbers>) -> Option<u64> {
+    let aggregate = held.aggregates.at[0].as_ref()?;
+    let volume = aggregate.volumes.at[0].as_ref()?;
+    let stripe = volume.logical.stripes.at[2].as_ref()?;
+    Some(stripe.own)
+}
+
+/// What came of a turn, as a row has it.
+fn told(turn: Option<Turn>) -> Option<(Option<u32>, Option<u64>)> {
+    match turn {
+        Some(turn) => Some((turn.beside, turn.sum)),
+        None => None,
     }
-    mem::forget(desk);
+}
+
+#[test]
+fn turns(rt: HostRuntime) {
+    let mut desk = open(&rt, 3);
+    assert_eq!(rt; desk.worker_count(), 3);
+    for (affinity, asked, beside, sum) in &ROWS {
+        let turn = take_turn(&mut desk, [2, 0], [*affinity, *asked], 5);
+        assert_eq!(rt; told(turn), Some((*beside, *sum)));
+        assert!(rt; !desk.is_taken(Affinity::Serial));
+    }
+    let refused = take_turn(&mut desk, [2, 3], [STRIPE, STRIPE], 1);
+    assert_eq!(rt; told(refused), None);
+    let held = close(&rt, desk);
+    assert_eq!(rt; number_of(&held), Some(10));
+    mem::forget(held);
 }

@@ -3,6 +3,8 @@
 #![tactic(auto)]
 
 #[cfg(test)]
+mod adder;
+#[cfg(test)]
 mod desks;
 #[cfg(test)]
 mod rows;

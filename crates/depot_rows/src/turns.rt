@@ -1,20 +1,33 @@
-//! Calls that a desk begins and puts back.
+//! Calls on a desk of numbers, from begin to end.
 
-ghost use Rattle.std.specs.Prelude.{◌≡◌, ◌≢◌, ℕ, true};
+ghost use Rattle.std.specs.Prelude.{◌≡◌, ◌≢◌, ◌↔◌, ℕ, true, IfSome};
 ghost use Rattle.affinity_tree.specs.Affinity.{affinity_of};
 ghost use Rattle.affinity_tree.specs.Tree.{IsNode};
 ghost use Rattle.desk_laws.specs.Books.{IsIdle};
-ghost use Rattle.desk_laws.specs.Calls.{MayPutBack};
+ghost use Rattle.desk_laws.specs.Calls.{AreIdle, MayPutBack};
 ghost use Rattle.desk.specs.Words.{books, IsKept};
 
+use crate::adder::Adder;
 use affinity_tree::Affinity;
 use depot_rule::machine::Machine;
-use depot_trial::adding::{Adding, all_of, volumes};
+use depot_trial::adding::{Adding, Change, all_of, volumes};
 use desk::{Desk, NodeKinds, ParcelKinds};
+use parcel_sets::Node;
 use std::process::Abort;
 
+/// A desk of numbers that calls add to.
+pub(crate) type Counters = Desk<Adding, ParcelKinds>;
+
+/// What came of a call that was asked for in the midst of another, the number of its refusal if it
+/// was refused, and of the other, the sum where it had one.
+#[derive(Clone, Copy)]
+pub(crate) struct Turn {
+    pub(crate) beside: Option<u32>,
+    pub(crate) sum: Option<u64>,
+}
+
 /// A desk with two volumes in which each parcel is 0, and so many idle workers.
-pub(crate) fn open(rt: &(impl Abort + AllocGlobal), workers: usize) -> Desk<Adding, ParcelKinds>
+pub(crate) fn open(rt: &(impl Abort + AllocGlobal), workers: usize) -> Counters
     ensures { IsKept result }
 {
     let layout = volumes::<2>(rt.alloc()).expect(rt, "no layout");
@@ -61,9 +74,9 @@ fn ask<M: Machine, K: NodeKinds<M::Parcel>>(
 }
 
 /// A call that a worker begins, and what comes of another's that is asked for in its midst: the
-/// number of its refusal, if it is refused. Both are put back. Nothing where a worker isn't idle, an
-/// affinity isn't there, or the first call is refused.
-pub(crate) fn begin_beside<M: Machine, K: NodeKinds<M::Parcel>>(
+/// number of its refusal, if it is refused. Nothing where a worker isn't idle, an affinity isn't
+/// there, or the first call is refused.
+fn begin_beside<M: Machine, K: NodeKinds<M::Parcel>>(
     desk: &mut Desk<M, K>,
     worker: usize,
     affinity: Affinity,
@@ -72,6 +85,7 @@ pub(crate) fn begin_beside<M: Machine, K: NodeKinds<M::Parcel>>(
 ) -> Option<Option<u32>>
     requires kept { IsKept desk.old }
     ensures kept { IsKept desk.new }
+    ensures fresh { IfSome result (λ _. MayPutBack (books desk.new) worker) }
 {
     if worker == other || !is_ready(desk, worker, affinity) || !is_ready(desk, other, asked) {
         return None;
@@ -81,6 +95,73 @@ pub(crate) fn begin_beside<M: Machine, K: NodeKinds<M::Parcel>>(
         Err(_) => return None,
     }
     let beside = ask(desk, other, asked);
-    desk.put_back(worker);
     Some(beside)
+}
+
+/// Adds to the number of a stripe that a worker was lent, and finishes its call. What is of another
+/// kind is put back.
+fn add(desk: &mut Counters, worker: usize, number: u64) -> Option<u64>
+    requires kept { IsKept desk.old }
+    requires fresh { MayPutBack (books desk.old) worker }
+    ensures kept { IsKept desk.new }
+{
+    match desk.work(worker, Adder { number }) {
+        Some(sum) => {
+            desk.finish(worker, &Change::Add(number), &sum);
+            Some(sum)
+        }
+        None => {
+            desk.put_back(worker);
+            None
+        }
+    }
+}
+
+/// A call that adds to a stripe's number, in whose midst another worker asks for an affinity.
+/// Nothing where a worker isn't idle, an affinity isn't there, or the call is refused.
+pub(crate) fn take_turn(
+    desk: &mut Counters,
+    workers: [usize; 2],
+    affinities: [Affinity; 2],
+    number: u64,
+) -> Option<Turn>
+    requires kept { IsKept desk.old }
+    ensures kept { IsKept desk.new }
+{
+    let [worker, other] = workers;
+    let [affinity, asked] = affinities;
+    let beside = begin_beside(desk, worker, affinity, other, asked)?;
+    let sum = add(desk, worker, number);
+    Some(Turn { beside, sum })
+}
+
+/// Whether all workers are idle.
+fn are_idle<M: Machine, K: NodeKinds<M::Parcel>>(desk: &Desk<M, K>) -> bool
+    ensures { result ≡ true → AreIdle (books desk.now) }
+{
+    for worker in 0..desk.worker_count() {
+        if !desk.is_idle(worker) {
+            return false;
+        }
+    }
+    true
+}
+
+/// Ends a desk whose workers are idle. All parcels come back.
+pub(crate) fn close<M: Machine, K: NodeKinds<M::Parcel>>(
+    rt: &impl Abort,
+    desk: Desk<M, K>,
+) -> <K::Serial as Node<M::Parcel>>::Held
+where
+    <K::Range as Node<M::Parcel>>::Held: Drop,
+    <K::Vbn as Node<M::Parcel>>::Held: Drop,
+    <K::Stripe as Node<M::Parcel>>::Held: Drop,
+    <K::Logical as Node<M::Parcel>>::Held: Drop,
+    <K::Volume as Node<M::Parcel>>::Held: Drop,
+    <K::Aggregate as Node<M::Parcel>>::Held: Drop,
+    <K::Serial as Node<M::Parcel>>::Held: Drop,
+    requires kept { IsKept desk }
+{
+    assert!(rt; are_idle(&desk));
+    desk.close()
 }

@@ -1,5 +1,5 @@
-//! A volume that has 65,536 inodes, the most that there may be (our profile). Each text is a piece of
-//! a record, in hex.
+//! A volume that has 65,536 inodes, the most that there may be (our profile). Each text is a piece
+//! of a record, in hex.
 
 use crate::events::{holds, joined, put};
 use crate::texts::LAYOUT;

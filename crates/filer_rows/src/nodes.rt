@@ -62,8 +62,8 @@ pub(crate) const ROOT_OF_3_LINKS: &str = "00000002000001ed0000000300000000000000
 
 pub(crate) const DIRECTORY: &str = "00000002000001ed000000020000fffe0000fffe";
 
-/// A record that is fed, how many bytes it has, the second at which its call is begun, and the record
-/// of the reply.
+/// A record that is fed, how many bytes it has, the second at which its call is begun, and the
+/// record of the reply.
 #[derive(Clone, Copy)]
 pub(crate) struct Asked {
     pub(crate) record: &'static [&'static str],
@@ -664,8 +664,8 @@ fn directories_come_and_go(rt: HostRuntime) {
     ask_all(&rt, &[], &DIRECTORIES);
 }
 
-/// A name of 255 bytes or more: the mark of its CREATE, the length of the name, its bytes after 255 and
-/// the padding, how many bytes are taken, and the record of the reply.
+/// A name of 255 bytes or more: the mark of its CREATE, the length of the name, its bytes after
+/// 255 and the padding, how many bytes are taken, and the record of the reply.
 #[derive(Clone, Copy)]
 struct Long {
     mark: &'static str,

@@ -40,8 +40,8 @@ const DIRECTORY_SIZE: &str = "00000000000010000000000000000000000000000000000000
 
 const NO_BYTES: &str = "0000000000000000000000000000000000000000000000000000000000000000";
 
-/// The root with files `a` and `b`, fileids 2 and 3, and a directory `d`, fileid 4, with a directory
-/// `e` in it, fileid 5.
+/// The root with files `a` and `b`, fileids 2 and 3, and a directory `d`, fileid 4, with a
+/// directory `e` in it, fileid 5.
 const MADE: [Asked; 4] = [
     Asked {
         record: &["8000005c", CREATE, ROOT, "000000016100000000000000", NO_SET],

@@ -3,15 +3,15 @@
 //! `part_bench codecs COUNT` decodes COUNT records and encodes COUNT replies of each kind of call,
 //! and prints how many were done in a second.
 //!
-//! `part_bench grants COUNT` begins and finishes COUNT calls by each of 1, 2 and 4 threads, first on
-//! stripes of one volume and then on the names of volumes, each thread on a node of its own, in
+//! `part_bench grants COUNT` begins and finishes COUNT calls by each of 1, 2 and 4 threads, first
+//! on stripes of one volume and then on the names of volumes, each thread on a node of its own, in
 //! nine passes. It prints how many were granted, how many of these were done in a second by the
 //! middle pass, and beside this how many additions to numbers under one lock.
 //!
 //! `part_bench state PASSES` goes PASSES times through names of directories, inodes, a file of 16
-//! MiB, and batches of block numbers, and prints for each how long one took in the fastest pass; for
-//! reads and overwrites beside it how long a plain copy of as many bytes took, and the ratio. Before
-//! that it prints how much memory empty files take.
+//! MiB, and batches of block numbers, and prints for each how long one took in the fastest pass;
+//! for reads and overwrites beside it how long a plain copy of as many bytes took, and the ratio.
+//! Before that it prints how much memory empty files take.
 //!
 //! Without its arguments it prints nothing.
 #![tactic(auto)]

@@ -25,7 +25,7 @@ use Rattle.service_renames.specs.Renaming.{IsWithin, AllWithin}
 abbrev pub with_map : DirectoryMap → LogicalSet → LogicalSet
 with_map directories s = record s { own = with_directories directories s.own }
 
--- the directories of a call, with a name that doesn't matter
+-- a name, whichever, in the directory that the node comes into
 abbrev pub to_of : Between → LogicalSet → HeldNaming
 to_of b s = naming_of b.volume.0 b.to [] (moment_of b.moment) s
 

@@ -60,6 +60,28 @@ fn numbers_of_refusals(rt: HostRuntime) {
 }
 
 #[test]
+fn range_not_in_use(rt: HostRuntime) {
+    let mut range = Range::new(15);
+    let refused = range.take(1).err();
+    range.put_in_use();
+    let batch = range.take(0).expect(&rt, "refused");
+    same(&rt, &refused, &Some(RangeFault::NoSuchRange));
+    same(&rt, &(batch.len(), range.free_count()), &(0, 1024));
+}
+
+#[test]
+fn most_at_once(rt: HostRuntime) {
+    let mut range = Range::new(15);
+    range.put_in_use();
+    let batch = range.take(200).expect(&rt, "refused");
+    let taken = batch.as_slice();
+    same(&rt, &(taken.len(), range.free_count()), &(64, 960));
+    let ends = (taken.first().copied(), taken.last().copied());
+    let wanted = (Some(BlockNumber(15360)), Some(BlockNumber(15423)));
+    same(&rt, &ends, &wanted);
+}
+
+#[test]
 fn given_back_once(rt: HostRuntime) {
     let mut range = Range::new(15);
     range.put_in_use();

@@ -31,21 +31,24 @@ fn touched(rt: &(impl Abort + AllocGlobal)) -> Cards {
 }
 
 #[test]
-fn touches_and_sizes(rt: HostRuntime) {
+fn touches(rt: HostRuntime) {
     let mut cards = touched(&rt);
-    let touch = cards.take_touch(FILE);
-    cards.touch(FILE, at(5));
+    let taken = (cards.take_touch(FILE), cards.take_touch(FILE));
+    same(&rt, &taken, &(Some(at(9)), None));
+    same(&rt, &cards.get(DIRECTORY), &Some(Card::Directory));
+    mem::forget(cards);
+}
+
+#[test]
+fn sizes(rt: HostRuntime) {
+    let mut cards = touched(&rt);
     if cards.get(FILE).is_some() {
         cards.set_size(FILE, 8193);
     }
     let card = cards.get(FILE);
     cards.remove(FILE);
-    let left = (touch, card, cards.get(FILE), cards.get(DIRECTORY));
+    let touch = Some(at(9));
+    let wanted = (Some(Card::File { size: 8193, touch }), None);
+    same(&rt, &(card, cards.get(FILE)), &wanted);
     mem::forget(cards);
-    let sized = Card::File {
-        size: 8193,
-        touch: Some(at(5)),
-    };
-    let wanted = (Some(at(9)), Some(sized), None, Some(Card::Directory));
-    same(&rt, &left, &wanted);
 }

@@ -79,10 +79,16 @@ fn overwrites(rt: HostRuntime) {
 }
 
 #[test]
-fn hole_and_cuts(rt: HostRuntime) {
-    let mut stripe = written(&rt);
+fn hole(rt: HostRuntime) {
+    let stripe = written(&rt);
     let zeros = vec![in rt.alloc(); 0; 8192].expect(&rt, "no memory");
     reads(&rt, &stripe, 0, &zeros);
+    mem::forget(stripe);
+}
+
+#[test]
+fn cut_within_a_block(rt: HostRuntime) {
+    let mut stripe = written(&rt);
     let past = [(3, BlockNumber(8)), (4096, BlockNumber(9))];
     fill(&rt, &mut stripe, &past);
     for wanted in [Some(BlockNumber(8)), Some(BlockNumber(9)), None] {
@@ -90,6 +96,13 @@ fn hole_and_cuts(rt: HostRuntime) {
     }
     stripe.set_file_card(FILE, 8200).expect(&rt, "no memory");
     reads(&rt, &stripe, 8192, b"\x78\0\0\0\0\0\0\0");
-    same(&rt, &stripe.cut(FILE, 0), &Some(BlockNumber(7)));
+    mem::forget(stripe);
+}
+
+#[test]
+fn cut_to_nothing(rt: HostRuntime) {
+    let mut stripe = written(&rt);
+    let cut = (stripe.cut(FILE, 0), stripe.cut(FILE, 0));
+    same(&rt, &cut, &(Some(BlockNumber(7)), None));
     mem::forget(stripe);
 }

@@ -113,11 +113,23 @@ fn two_names(rt: &(impl Abort + AllocGlobal)) -> Directory {
 }
 
 #[test]
-fn cookies_not_given_again(rt: HostRuntime) {
-    let directory = two_names(&rt);
-    let found = (directory.find(b"a"), directory.next_cookie());
+fn no_names(rt: HostRuntime) {
+    let mut directory = Directory::new(rt.alloc());
+    lists(&rt, &directory, 0, 0, &(0, 0, 0, true));
+    same(&rt, &directory.find_counted(b"a"), &(None, 0));
+    let told = (directory.is_empty(), directory.remove(b"a"));
+    same(&rt, &told, &(true, false));
     mem::forget(directory);
+}
+
+#[test]
+fn cookies_not_given_again(rt: HostRuntime) {
+    let mut directory = two_names(&rt);
+    let found = (directory.find(b"a"), directory.next_cookie());
     same(&rt, &found, &(Some(Fileid(4)), Cookie(6)));
+    let removed = (directory.remove(b"a"), directory.remove(b"a"));
+    same(&rt, &removed, &(true, false));
+    mem::forget(directory);
 }
 
 #[test]

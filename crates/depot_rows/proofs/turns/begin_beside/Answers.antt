@@ -8,8 +8,8 @@ ask-beside-requires-clause-idle g c =
     lent-else (books c.args.desk.now) c.args.worker _ (books c.begin.new.self) c.in-Ok.ensures.begun.books c.args.other None
     (λ e. c.if-worker-other.false (sym e)) (c.if-not-is_ready-2.ensures.idle (search rules))
 
-pub put_back-requires-clause-may : goal.put_back-requires-clause-may
-put_back-requires-clause-may g c =
+pub returns-clause-fresh : goal.returns-clause-fresh
+returns-clause-fresh g c =
     c.ask-beside.ensures.others c.args.worker c.if-worker-other.false
     (begun-fresh (books c.args.desk.now) c.args.worker _ (books c.begin.new.self)
     (c.if-not-is_ready.ensures.idle (search rules)) c.in-Ok.ensures.begun)

@@ -1,5 +1,5 @@
 use Rattle.desk.specs.Words.{IsKept}
-use Rattle.depot_rows.proofs.desks.begun_beside.Given as goal
+use Rattle.depot_rows.proofs.desks.turns.Given as goal
 
 -- the desk's seat backs its books
 abbrev pub invariant-loop-affinity : goal.invariant-loop-affinity

@@ -1,0 +1,57 @@
+//! The task of a call that adds.
+
+ghost use Rattle.depot_rows.specs.Adder.{Adds};
+
+use affinity_tree::{Affinity, Layout};
+use desk::{ParcelKinds, Task};
+use parcel_sets::{
+    AggrHeld, LogicalHeld, Numbers, Parcel, RangeHeld, SerialHeld, StripeHeld, VbnHeld, VolumeHeld,
+};
+
+/// Adds to the number of a stripe, and gives the sum. Of other nodes it changes nothing.
+#[derive(Clone, Copy)]
+pub(crate) struct Adder {
+    pub(crate) number: u64,
+}
+
+impl Task<Parcel<Numbers>, ParcelKinds> for Adder {
+    type Output = Option<u64>;
+
+    ghost asks = { λ adder layout affinity f. Unit {0} };
+
+    ghost does = { λ adder. Adds adder.number };
+
+    fn on_range(self, _: &Layout, _: Affinity, _: &mut RangeHeld<Numbers>) -> Option<u64> {
+        None
+    }
+
+    fn on_vbn(self, _: &Layout, _: Affinity, _: &mut VbnHeld<Numbers>) -> Option<u64> {
+        None
+    }
+
+    fn on_stripe(
+        self,
+        layout: &Layout,
+        affinity: Affinity,
+        held: &mut StripeHeld<Numbers>,
+    ) -> Option<u64> {
+        held.own = held.own.wrapping_add(self.number);
+        Some(held.own)
+    }
+
+    fn on_logical(self, _: &Layout, _: Affinity, _: &mut LogicalHeld<Numbers>) -> Option<u64> {
+        None
+    }
+
+    fn on_volume(self, _: &Layout, _: Affinity, _: &mut VolumeHeld<Numbers>) -> Option<u64> {
+        None
+    }
+
+    fn on_aggregate(self, _: &Layout, _: Affinity, _: &mut AggrHeld<Numbers>) -> Option<u64> {
+        None
+    }
+
+    fn on_serial(self, _: &Layout, _: Affinity, _: &mut SerialHeld<Numbers>) -> Option<u64> {
+        None
+    }
+}
