@@ -33,6 +33,7 @@ is_offered Null = true
 is_offered GetAttributes = true
 is_offered SetAttributes = true
 is_offered Lookup = true
+is_offered Read = true
 is_offered Create = true
 is_offered MakeDirectory = true
 is_offered Remove = true

@@ -88,6 +88,7 @@ impl Procedure {
                 | Procedure::GetAttributes
                 | Procedure::SetAttributes
                 | Procedure::Lookup
+                | Procedure::Read
                 | Procedure::Create
                 | Procedure::MakeDirectory
                 | Procedure::Remove

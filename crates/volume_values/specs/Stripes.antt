@@ -125,6 +125,14 @@ zero_block number = record { number = number; bytes = replicate block_size 0 }
 abbrev pub block_inserted : ℕ → ℕ → ℕ → StripeValue → StripeValue
 block_inserted fileid block number s = record s { blocks = insert s.blocks (fileid, block) (zero_block number) }
 
+-- a block gone from a place
+abbrev pub block_taken : ℕ → ℕ → StripeValue → StripeValue
+block_taken fileid block s = record s { blocks = remove s.blocks (fileid, block) }
+
+-- a block under another number
+abbrev pub block_numbered : ℕ → ℕ → ℕ → StripeValue → StripeValue
+block_numbered fileid block number s = record s { blocks = changed_at (λ (b : Block). record b { number = number }) (fileid, block) s.blocks }
+
 -- a byte of a file, after others are written at an offset
 abbrev pub byte_written : ℕ → List ℕ → ℕ → ℕ → ℕ
 byte_written offset written at old = if nat_le offset at then slice_index_or written (at - offset) old else old
