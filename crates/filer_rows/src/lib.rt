@@ -1,4 +1,5 @@
-//! Scripts, command lines and lists of events, with what each gives, typed from the standards.
+//! Scripts that are long or no text, command lines, devices that fail and lists of events, with what
+//! each gives, typed from the standards. All other scripts are data of `filer_scripts`.
 #![tactic(auto)]
 
 #[cfg(test)]
@@ -8,20 +9,10 @@ mod events;
 #[cfg(test)]
 mod filling;
 #[cfg(test)]
-mod heads;
-#[cfg(test)]
 mod lines;
 #[cfg(test)]
 mod lists;
 #[cfg(test)]
-mod names;
-#[cfg(test)]
-mod nodes;
-#[cfg(test)]
-mod renaming;
-#[cfg(test)]
 mod streams;
 #[cfg(test)]
 mod texts;
-#[cfg(test)]
-mod workers;

@@ -1,0 +1,37 @@
+//! `filer_scripts`: runs scripts of events from its standard input, each behind a line that begins
+//! with `=== ` and names it, and prints of each that line, what it prints, and its status.
+#![tactic(auto)]
+
+use filer_replay::replay;
+use std::io;
+
+/// What a line begins with that names a script.
+const NAME: &str = "=== ";
+
+/// Runs a script, and prints what it prints and its status.
+fn play(rt: &(impl Print + AllocGlobal), script: &str) -> io::Result<()> {
+    let mut events = script.as_bytes();
+    let status = replay(rt.alloc(), &mut events, &mut io::writer(rt));
+    println!(rt; "status {status}")
+}
+
+fn main(rt: HostRuntime) -> io::Result<()> {
+    let mut script: Option<String> = None;
+    for line in rt.lines(rt.alloc()) {
+        let line = line?;
+        if line.as_str().starts_with(NAME) {
+            if let Some(events) = &script {
+                play(&rt, events.as_str())?;
+            }
+            println!(rt; "{line}")?;
+            script = Some(String::new(rt.alloc()));
+        } else if let Some(events) = &mut script {
+            events.push_str(line.as_str())?;
+            events.push('\n')?;
+        }
+    }
+    match &script {
+        Some(events) => play(&rt, events.as_str()),
+        None => Ok(()),
+    }
+}
