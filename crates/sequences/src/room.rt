@@ -8,9 +8,15 @@ use std::alloc::{AllocError, Global};
 use std::marker::Model;
 
 /// Memory for a chunk, with which an item comes in without more.
-#[derive(Drop)]
 pub struct Room<T> {
     chunk: Box<Node<T>>,
+}
+
+// By hand, so that crates above have no proof of the drop of each of its parts.
+impl<T: Drop> Drop for Room<T> {
+    fn drop(self) {
+        let Room { chunk: _ } = self;
+    }
 }
 
 impl<T> Model for Room<T> {
@@ -40,6 +46,7 @@ impl<T: Copy> Room<T> {
         ensures empty { result.value.items.items ≡ [] }
         ensures room { 0 < vec_capacity result.value.items }
     {
-        self.chunk
+        let Room { chunk } = self;
+        chunk
     }
 }
