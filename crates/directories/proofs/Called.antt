@@ -1,5 +1,5 @@
 -- What the calls of a directory have from a search, on plain values.
-use Rattle.std.proofs.Common.{◌≡◌, refl, sym, ap, ℕ, zero, suc, ◌<◌, Bool, true, false, List, [], ◌∷◌, length, Option, Some, None, is_some, get_or, not, arith}
+use Rattle.std.proofs.Common.{◌≡◌, refl, sym, ap, ℕ, zero, suc, ◌<◌, Bool, true, false, List, [], ◌∷◌, length, Option, Some, None, is_some, not, arith}
 use Rattle.std.specs.List.{slice_get, remove}
 use Rattle.std.specs.Option.{option_map}
 use Rattle.nfs_model.specs.Types.{Listed}
@@ -21,27 +21,16 @@ name-place : (es : List Listed) (index : List Cookie) (place : ℕ) (name : List
     → slice_get index place ≡ Some (read_at index place)
 name-place es index place name n = at-place index place (name-inside es index place name n)
 
-element-at : (index : List Cookie) (i : ℕ) (c : Cookie) → i < length index → c ≡ get_or index i c → slice_get index i ≡ Some c
-element-at [] i c l is = absurd (omega (arith, l))
-element-at (x ∷ index) zero c l is = ap (λ (y : Cookie). Some y) (sym is)
-element-at (x ∷ index) (suc i) c l is = element-at index i c (omega (arith, l)) is
-
--- the cookie that is read at the place of a name
-pub cookie-place : (es : List Listed) (index : List Cookie) (place : ℕ) (c : Cookie) (name : List ℕ) → name_at es index place ≡ Some name
-    → c ≡ get_or index place c
-    → slice_get index place ≡ Some c
-cookie-place es index place c name n is = element-at index place c (name-inside es index place name n) is
-
 pub name-known : (d : DirectoryValue) (index : List Cookie) (place : ℕ) (c : Cookie) (name : List ℕ) → IsIndexed d index
     → name_at d.list index place ≡ Some name
-    → c ≡ get_or index place c → has d.list c.0 ≡ true
-name-known d index place c name x n is = known-here d.list index place c x.index (cookie-place d.list index place c name n is)
+    → slice_get index place ≡ Some c → has d.list c.0 ≡ true
+name-known d index place c name x n is = known-here d.list index place c x.index is
 
 pub fileid-there : (d : DirectoryValue) (index : List Cookie) (place : ℕ) (c : Cookie) (name : List ℕ) (e : Listed) → IsIndexed d index
-    → name_at d.list index place ≡ Some name → c ≡ get_or index place c → under c.0 d.list ≡ Some e → Some e.fileid ≡ fileid_found d name
+    → name_at d.list index place ≡ Some name → slice_get index place ≡ Some c → under c.0 d.list ≡ Some e → Some e.fileid ≡ fileid_found d name
 fileid-there d index place c name e x n is u =
     ap (λ (o : Option Listed). option_map (λ (l : Listed). l.fileid) o)
-    (sym (found-there d index place c e name x n (cookie-place d.list index place c name n is) u))
+    (sym (found-there d index place c e name x n is u))
 
 pub found-some : (d : DirectoryValue) (index : List Cookie) (place : ℕ) (name : List ℕ) → IsIndexed d index → name_at d.list index place ≡ Some name
     → is_some (found d name) ≡ true
@@ -68,13 +57,13 @@ removed-none d index place name x p = ap (λ (l : List Listed). record d { list 
 
 pub removed-some : (d : DirectoryValue) (index : List Cookie) (place : ℕ) (c : Cookie) (name : List ℕ) → IsIndexed d index
     → name_at d.list index place ≡ Some name
-    → c ≡ get_or index place c → dropped c.0 d ≡ removed name d
-removed-some d index place c name x n is = dropped-removed d index place c name x n (cookie-place d.list index place c name n is)
+    → slice_get index place ≡ Some c → dropped c.0 d ≡ removed name d
+removed-some d index place c name x n is = dropped-removed d index place c name x n is
 
 pub still-indexed : (d : DirectoryValue) (index : List Cookie) (place : ℕ) (c : Cookie) (name : List ℕ) → IsIndexed d index
     → name_at d.list index place ≡ Some name
-    → c ≡ get_or index place c → IsIndexed (dropped c.0 d) (remove index place)
-still-indexed d index place c name x n is = indexed-dropped d index place c x (cookie-place d.list index place c name n is)
+    → slice_get index place ≡ Some c → IsIndexed (dropped c.0 d) (remove index place)
+still-indexed d index place c name x n is = indexed-dropped d index place c x is
 
 -- a name that isn't there has a place in the index
 pub place-of-absent : (d : DirectoryValue) (index : List Cookie) (place : ℕ) (name : List ℕ) (is_there : Bool) → IsIndexed d index → found d name ≡ None

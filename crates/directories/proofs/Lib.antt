@@ -6,6 +6,7 @@ pub mod Names
 pub mod Found
 pub mod Halved
 pub mod Middle
+pub mod Spots
 pub mod Changed
 pub mod Called
 pub mod Replaced

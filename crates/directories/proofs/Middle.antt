@@ -19,19 +19,18 @@ at-place [] i l = absurd (omega (arith, l))
 at-place (x ∷ index) zero l = refl
 at-place (x ∷ index) (suc i) l = at-place index i (omega (arith, l))
 
-pub less-middle : (es : List Listed) (index : List Cookie) (name : List ℕ) (i : ℕ) → NamesRise es index → i < length index
-    → name_cmp (name_under es (read_at index i)) name ≡ Less → AllCompare es name Less (take (i + 1) index)
-less-middle es index name i s l h = rw add-one (all-before (name_under es) index i (read_at index i) name s (at-place index i l) h)
+pub less-middle : (es : List Listed) (index : List Cookie) (name : List ℕ) (i : ℕ) (c : Cookie) → NamesRise es index → slice_get index i ≡ Some c
+    → name_cmp (name_under es c) name ≡ Less → AllCompare es name Less (take (i + 1) index)
+less-middle es index name i c s g h = rw add-one (all-before (name_under es) index i c name s g h)
 
-pub greater-middle : (es : List Listed) (index : List Cookie) (name : List ℕ) (i : ℕ) → NamesRise es index → i < length index
-    → name_cmp (name_under es (read_at index i)) name ≡ Greater → AllCompare es name Greater (drop i index)
-greater-middle es index name i s l h = all-after (name_under es) index i (read_at index i) name s (at-place index i l) h
+pub greater-middle : (es : List Listed) (index : List Cookie) (name : List ℕ) (i : ℕ) (c : Cookie) → NamesRise es index → slice_get index i ≡ Some c
+    → name_cmp (name_under es c) name ≡ Greater → AllCompare es name Greater (drop i index)
+greater-middle es index name i c s g h = all-after (name_under es) index i c name s g h
 
-pub equal-middle : (es : List Listed) (index : List Cookie) (name : List ℕ) (i : ℕ) → i < length index
-    → name_cmp (name_under es (read_at index i)) name ≡ Equal → name_at es index i ≡ Some name
-equal-middle es index name i l h =
-    ap (λ (o : Option Cookie). option_map (name_under es) o) (at-place index i l)
-    ∙ ap (λ (n : List ℕ). Some n) (same-names (name_under es (read_at index i)) name h)
+pub equal-middle : (es : List Listed) (index : List Cookie) (name : List ℕ) (i : ℕ) (c : Cookie) → slice_get index i ≡ Some c
+    → name_cmp (name_under es c) name ≡ Equal → name_at es index i ≡ Some name
+equal-middle es index name i c g h =
+    ap (λ (o : Option Cookie). option_map (name_under es) o) g ∙ ap (λ (n : List ℕ). Some n) (same-names (name_under es c) name h)
 
 -- one more name compared, and at most half is left
 pub one-more : (compared size rest most : ℕ) → 0 < size → rest ≤ size / 2 → compared + binary_digits size ≤ most → compared + 1 + binary_digits rest ≤ most

@@ -1,6 +1,6 @@
 -- An index after an entry takes the place of another.
 use Rattle.std.proofs.Common.{◌≡◌, refl, sym, subst, ◌∙◌, ap, ℕ, zero, suc, ◌<◌, Bool, true, false, ◌==◌, ◌||◌}
-use Rattle.std.proofs.Common.{not, List, [], ◌∷◌, ◌++◌, length, take, drop, Some, get_or, slice_set, arith, if◌then◌else◌}
+use Rattle.std.proofs.Common.{not, List, [], ◌∷◌, ◌++◌, length, take, drop, Some, slice_set, arith, if◌then◌else◌}
 use Rattle.std.specs.List.{AllByRecursion, slice_get, insert, remove}
 use Rattle.std.specs.List.Sorted.{IsStrictlySortedBy}
 use Rattle.std.specs.Ordering.{on}
@@ -14,7 +14,7 @@ use Rattle.directories.specs.Index.{name_cmp, name_under, name_at, IsIndexed, Is
 use Rattle.directories.proofs.Orders.{turned-greater, all-at, all-take, all-drop, all-so, all-agree}
 use Rattle.directories.proofs.Found.{found-nowhere, known-here}
 use Rattle.directories.proofs.Changed.{has-push, none-at-next, names-left, index-removed, indexed-added, dropped-removed}
-use Rattle.directories.proofs.Called.{cookie-place, still-indexed}
+use Rattle.directories.proofs.Called.{still-indexed}
 
 -- ---- a list with one element set
 
@@ -127,18 +127,16 @@ still-has d name fileid k t = has-push d.list (entry_added name fileid d) k ∙ 
 
 -- the entry that comes, and then the one that goes
 pub replaced : (d : DirectoryValue) (index : List Cookie) (place : ℕ) (c : Cookie) (name : List ℕ) (fileid : ℕ) → IsIndexed d index
-    → name_at d.list index place ≡ Some name → c ≡ get_or index place c → dropped c.0 (added name fileid d) ≡ added name fileid (removed name d)
-replaced d index place c name fileid x n is =
-    let g = cookie-place d.list index place c name n is in
+    → name_at d.list index place ≡ Some name → slice_get index place ≡ Some c → dropped c.0 (added name fileid d) ≡ added name fileid (removed name d)
+replaced d index place c name fileid x n g =
     dropped-added d index c.0 name fileid x (known-here d.list index place c x.index g)
     ∙ ap (λ e. added name fileid e) (dropped-removed d index place c name x n g)
 
 pub indexed-replaced : (d : DirectoryValue) (index : List Cookie) (place : ℕ) (c new : Cookie) (name : List ℕ) (fileid : ℕ) → IsIndexed d index
-    → name_at d.list index place ≡ Some name → c ≡ get_or index place c → place < length index → new.0 ≡ d.next
+    → name_at d.list index place ≡ Some name → slice_get index place ≡ Some c → place < length index → new.0 ≡ d.next
     → IsIndexed (dropped c.0 (added name fileid d)) (slice_set index place new)
-indexed-replaced d index place c new name fileid x n is l next =
-    let g = cookie-place d.list index place c name n is in
-    let less = still-indexed d index place c name x n is in
+indexed-replaced d index place c new name fileid x n g l next =
+    let less = still-indexed d index place c name x n g in
     let place-of = place-left d index place c name x n g in
     let nowhere = found-nowhere (dropped c.0 d) (remove index place) place name less place-of in
     subst (λ e. IsIndexed e (slice_set index place new)) (sym (dropped-added d index c.0 name fileid x (known-here d.list index place c x.index g)))

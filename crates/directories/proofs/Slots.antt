@@ -1,9 +1,9 @@
 -- Entries in slots, and their order.
 use Rattle.std.proofs.Common.{◌≡◌, refl, sym, subst, ◌∙◌, ap, ℕ, zero, suc, ◌+◌, ◌<◌, ◌≤◌, Bool, true, false, ◌==◌, ◌||◌}
-use Rattle.std.proofs.Common.{List, [], ◌∷◌, ◌++◌, length, drop, Option, Some, None, is_some, get_or, slice_set, arith, if◌then◌else◌}
+use Rattle.std.proofs.Common.{List, [], ◌∷◌, ◌++◌, length, Option, Some, None, is_some, get_or, slice_set, arith, if◌then◌else◌}
 use Rattle.std.specs.List.{AllByRecursion, slice_get, remove}
 use Rattle.std.proofs.lemmas.Bool.Decides.{nat_tests}
-use Rattle.std.proofs.lemmas.Option.{slice_get-get_or}
+use Rattle.std.proofs.lemmas.Option.{slice_get-get_or, get_or_from_slice_get}
 use Rattle.nfs_model.specs.Types.{Listed}
 use Rattle.volume_values.specs.Directories.{DirectoryValue, Rises}
 use Rattle.directories.specs.Entries.{under, has, without, dropped, IsRising}
@@ -12,7 +12,7 @@ use Rattle.directories.specs.declared.slot.Slot.{Slot}
 use Rattle.directories.specs.declared.slot.Slot.TheVariants.{Filled}
 use Rattle.nfs_values.specs.Answer.{entry_of}
 use Rattle.nfs_values.specs.declared.answer.Entry.{Entry}
-use Rattle.directories.proofs.Orders.{all-at, all-drop}
+use Rattle.directories.proofs.Orders.{all-at}
 use Rattle.directories.proofs.Places.{is-within}
 use Rattle.directories.proofs.Rising.{at-low, at-least, rises-push, rises-without, remove-at, under-is}
 
@@ -244,6 +244,10 @@ ordered-less slots new order next cookie i s h t u l is b = record {
 
 -- ---- reading by the order
 
+-- the slot that is read at a place
+pub read-there : (order : List ℕ) (i s : ℕ) → slice_get order i ≡ Some s → s ≡ get_or order i 0
+read-there order i s g = sym (get_or_from_slice_get order i s 0 g)
+
 pub filled-at : (slots : List Slot) (order : List ℕ) (i s : ℕ) → IsRising (in_order slots order) → i < length order → s ≡ get_or order i 0
     → is_some (in_slot slots s) ≡ true
 filled-at slots order i s h l is =
@@ -289,10 +293,9 @@ pub all-here : (slots : List Slot) (order : List ℕ) (i : ℕ) → AllByRecursi
     → is_some (in_slot slots (get_or order i 0)) ≡ true
 all-here slots order i a l = all-at (λ k. is_some (in_slot slots k) ≡ true) order i (get_or order i 0) a (slice_get-get_or order i 0 l)
 
-pub rest-filled : (slots : List Slot) (order : List ℕ) (next i : ℕ) → IsOrdered slots order next
-    → AllByRecursion (λ s. is_some (in_slot slots s) ≡ true) (drop i order)
-rest-filled slots order next i h =
-    all-drop (λ s. is_some (in_slot slots s) ≡ true) order i (all-filled 3 slots order next (omega arith) h.rising)
+pub order-filled : (slots : List Slot) (order : List ℕ) (next : ℕ) → IsOrdered slots order next
+    → AllByRecursion (λ s. is_some (in_slot slots s) ≡ true) order
+order-filled slots order next h = all-filled 3 slots order next (omega arith) h.rising
 
 -- ---- the value after a change
 

@@ -2,6 +2,7 @@
 use Rattle.std.specs.Prelude.{ℕ, Bool, ◌==◌, not, List, [], ◌∷◌, map, is_some, Option, Some, None, if◌then◌else◌}
 use Rattle.std.specs.List.{filter}
 use Rattle.nfs_model.specs.Types.{Listed}
+use Rattle.nfs_model.specs.Serial.Readdir.{fitting}
 use Rattle.nfs_values.specs.Answer.{entry_of}
 use Rattle.nfs_values.specs.declared.answer.Entry.{Entry}
 use Rattle.directories.specs.declared.page.Page as pages
@@ -30,6 +31,11 @@ without cookie es = filter (λ e. not (e.cookie == cookie)) es
 -- the entry under a cookie gone
 abbrev pub dropped : ℕ → DirectoryValue → DirectoryValue
 dropped cookie d = record d { list = without cookie d.list }
+
+-- the entries that fit into what room is left, if any is
+abbrev pub fitting_in : Option ℕ → List Listed → List Listed
+fitting_in None es = []
+fitting_in (Some left) es = fitting left es
 
 -- a page as the values have it
 abbrev pub page_value : pages.Page → Page

@@ -1,5 +1,5 @@
 -- The index of a directory: the cookies of its entries in the order of their names.
-use Rattle.std.specs.Prelude.{◌≡◌, ℕ, Bool, List, [], ◌==◌, Option, Some, None, take, drop, length}
+use Rattle.std.specs.Prelude.{◌≡◌, ℕ, Bool, List, [], ◌==◌, Option, Some, None, map, take, drop, length}
 use Rattle.std.specs.List.{AllByRecursion, list_any, slice_get}
 use Rattle.std.specs.Option.{option_map}
 use Rattle.std.specs.List.Sorted.{IsStrictlySortedBy}
@@ -11,7 +11,12 @@ use Rattle.nfs_model.specs.Types.{Listed}
 use Rattle.nfs_values.specs.declared.number.Cookie.{Cookie}
 use Rattle.nfs_values.specs.declared.number.Fileid.{Fileid}
 use Rattle.volume_values.specs.Directories.{DirectoryValue, IsDirectory}
+use Rattle.directories.specs.declared.spot.Spot.{Spot}
 use Rattle.directories.specs.Entries.{under, has}
+
+-- the cookies of spots
+abbrev pub cookies : List Spot → List Cookie
+cookies spots = map (λ (s : Spot). s.cookie) spots
 
 -- the order of names: by their bytes
 abbrev pub name_cmp : List ℕ → List ℕ → Ordering

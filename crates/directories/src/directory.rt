@@ -15,8 +15,6 @@ ghost use Rattle.std.specs.Prelude.{
   OnOk,
   OnErr,
 };
-ghost use Rattle.std.specs.List.{insert};
-ghost use Rattle.std.specs.Vec.{vec_len, vec_capacity};
 ghost use Rattle.volume_values.specs.Directories.{
   IsDirectory,
   empty_directory,
@@ -28,12 +26,14 @@ ghost use Rattle.volume_values.specs.Directories.{
 };
 ghost use Rattle.directories.specs.Digits.{binary_digits};
 ghost use Rattle.directories.specs.Entries.{page_value};
-ghost use Rattle.directories.specs.Index.{IsAt, IsIndexed, IsPlace, fileid_number};
+ghost use Rattle.directories.specs.Index.{IsAt, IsIndexed, IsPlace, cookies, fileid_number};
 
 use crate::entries::Entries;
 use crate::page::Page;
-use crate::search::{find_place, slot_at};
+use crate::search::find_place;
+use crate::spot::Spot;
 use nfs_values::{Cookie, Fileid, Name};
+use sequences::Sequence;
 use std::alloc::{AllocError, Global};
 use std::marker::Model;
 
@@ -41,10 +41,8 @@ use std::marker::Model;
 /// and no cookie is given twice (RFC 1813 section 3.3.16).
 pub struct Directory {
     entries: Entries,
-    /// The cookies of the entries in the order of the names' bytes.
-    by_name: Vec<Cookie>,
-    /// The slot of each of these. Nothing rests on it but the time of a search.
-    slots: Vec<u32>,
+    /// The entries in the order of the names' bytes.
+    by_name: Sequence<Spot>,
 }
 
 // By hand, so that crates above have no proof of the drop of each of its parts.
@@ -53,7 +51,6 @@ impl Drop for Directory {
         let Directory {
             entries: _,
             by_name: _,
-            slots: _,
         } = self;
     }
 }
@@ -61,7 +58,7 @@ impl Drop for Directory {
 impl Model for Directory {
     ghost use Rattle.volume_values.specs.Directories.{DirectoryValue};
     ghost use Rattle.volume_values.specs.Codes.{coded_directory};
-    ghost use Rattle.directories.specs.Index.{IsIndexed};
+    ghost use Rattle.directories.specs.Index.{IsIndexed, cookies};
 
     ghost Value = { DirectoryValue };
 
@@ -69,7 +66,7 @@ impl Model for Directory {
 
     ghost view = { λ d. d.entries };
 
-    ghost invariant = { λ d. IsIndexed d.entries d.by_name.items };
+    ghost invariant = { λ d. IsIndexed d.entries (cookies d.by_name) };
 }
 
 impl Directory {
@@ -79,8 +76,7 @@ impl Directory {
     {
         Directory {
             entries: Entries::new(alloc),
-            by_name: Vec::new(alloc),
-            slots: Vec::new(alloc),
+            by_name: Sequence::new(alloc),
         }
     }
 
@@ -119,13 +115,13 @@ impl Directory {
         ensures answer { fileid_number result.0 ≡ fileid_found self.now name.now }
         ensures compared { result.1 ≤ binary_digits (length self.now.list) }
     {
-        let search = find_place(&self.entries, &self.by_name, &self.slots, name);
+        let search = find_place(&self.entries, &self.by_name, name);
         if !search.is_there {
             return (None, search.compared);
         }
-        let cookie = self.by_name[search.place];
-        let slot = slot_at(&self.slots, search.place);
-        (Some(self.entries.at(cookie, slot).fileid), search.compared)
+        let spot = self.by_name.at(search.place);
+        let entry = self.entries.at(spot.cookie, spot.slot);
+        (Some(entry.fileid), search.compared)
     }
 
     /// Adds an entry, which takes the next cookie. Where there is no memory for it nothing
@@ -136,15 +132,8 @@ impl Directory {
         ensures ok { OnOk result (self.new ≡ added name fileid.0 self.old) }
         ensures err { OnErr result (self.new ≡ self.old) }
     {
-        let place = find_place(&self.entries, &self.by_name, &self.slots, name.as_bytes()).place;
-        add_at(
-            &mut self.entries,
-            &mut self.by_name,
-            &mut self.slots,
-            place,
-            name,
-            fileid,
-        )
+        let place = find_place(&self.entries, &self.by_name, name.as_bytes()).place;
+        add_at(&mut self.entries, &mut self.by_name, place, name, fileid)
     }
 
     /// Adds an entry in the place of the one with its name, if there is one, and answers the fileid
@@ -156,12 +145,11 @@ impl Directory {
         ensures was { IfOk result (λ was. fileid_number was ≡ fileid_found self.old name) }
         ensures err { OnErr result (self.new ≡ self.old) }
     {
-        let search = find_place(&self.entries, &self.by_name, &self.slots, name.as_bytes());
+        let search = find_place(&self.entries, &self.by_name, name.as_bytes());
         if !search.is_there {
             add_at(
                 &mut self.entries,
                 &mut self.by_name,
-                &mut self.slots,
                 search.place,
                 name,
                 fileid,
@@ -171,7 +159,6 @@ impl Directory {
         let was = replace_at(
             &mut self.entries,
             &mut self.by_name,
-            &mut self.slots,
             search.place,
             name,
             fileid,
@@ -184,13 +171,12 @@ impl Directory {
         ensures there { result ≡ is_some (found self.old name.now) }
         ensures left { self.new ≡ removed name.now self.old }
     {
-        let search = find_place(&self.entries, &self.by_name, &self.slots, name);
+        let search = find_place(&self.entries, &self.by_name, name);
         if !search.is_there {
             return false;
         }
-        let cookie = self.by_name.remove(search.place);
-        drop_slot(&mut self.slots, search.place);
-        self.entries.remove(cookie);
+        let spot = self.by_name.remove(search.place);
+        self.entries.remove(spot.cookie);
         true
     }
 
@@ -210,25 +196,22 @@ impl Directory {
 /// nothing changes.
 fn add_at(
     entries: &mut Entries,
-    by_name: &mut Vec<Cookie>,
-    slots: &mut Vec<u32>,
+    by_name: &mut Sequence<Spot>,
     place: usize,
     name: Name,
     fileid: Fileid,
 ) -> Result<(), AllocError>
     requires cookies { entries.old.next < 2 ^ 63 }
-    requires indexed { IsIndexed entries.old by_name.old.items }
-    requires within { place ≤ length by_name.old.items }
-    requires place { IsPlace entries.old by_name.old.items name place }
-    ensures indexed { IsIndexed entries.new by_name.new.items }
+    requires indexed { IsIndexed entries.old (cookies by_name.old) }
+    requires within { place ≤ length by_name.old }
+    requires place { IsPlace entries.old (cookies by_name.old) name place }
+    ensures indexed { IsIndexed entries.new (cookies by_name.new) }
     ensures ok { OnOk result (entries.new ≡ added name fileid.0 entries.old) }
     ensures err { OnErr result (entries.new ≡ entries.old) }
 {
-    by_name.try_reserve(1)?;
-    slots.try_reserve(1)?;
+    let room = by_name.room()?;
     let (cookie, slot) = entries.add(name, fileid)?;
-    put_at(by_name, place, cookie);
-    put_slot(slots, place, slot);
+    by_name.insert(room, place, Spot { cookie, slot });
     Ok(())
 }
 
@@ -236,55 +219,23 @@ fn add_at(
 /// answers the fileid of that one. Where there is no memory for it nothing changes.
 fn replace_at(
     entries: &mut Entries,
-    by_name: &mut Vec<Cookie>,
-    slots: &mut Vec<u32>,
+    by_name: &mut Sequence<Spot>,
     place: usize,
     name: Name,
     fileid: Fileid,
 ) -> Result<Fileid, AllocError>
     requires cookies { entries.old.next < 2 ^ 63 }
-    requires indexed { IsIndexed entries.old by_name.old.items }
-    requires there { IsAt entries.old by_name.old.items name place }
-    ensures indexed { IsIndexed entries.new by_name.new.items }
+    requires indexed { IsIndexed entries.old (cookies by_name.old) }
+    requires there { IsAt entries.old (cookies by_name.old) name place }
+    ensures indexed { IsIndexed entries.new (cookies by_name.new) }
     ensures ok { OnOk result (entries.new ≡ added name fileid.0 (removed name entries.old)) }
     ensures was { IfOk result (λ was. Some was.0 ≡ fileid_found entries.old name) }
     ensures err { OnErr result (entries.new ≡ entries.old) }
 {
-    let old = by_name[place];
-    let was = entries.at(old, slot_at(slots, place)).fileid;
+    let old = by_name.at(place);
+    let was = entries.at(old.cookie, old.slot).fileid;
     let (cookie, slot) = entries.add(name, fileid)?;
-    entries.remove(old);
-    by_name[place] = cookie;
-    set_slot(slots, place, slot);
+    entries.remove(old.cookie);
+    by_name.set(place, Spot { cookie, slot });
     Ok(was)
-}
-
-/// Puts a cookie into an index that has room for one more.
-fn put_at(index: &mut Vec<Cookie>, place: usize, cookie: Cookie)
-    requires place { place ≤ vec_len index.old }
-    requires room { vec_len index.old < vec_capacity index.old }
-    ensures { index.new.items ≡ insert index.old.items place cookie }
-{
-    index.insert(place, cookie).unwrap();
-}
-
-/// Puts a slot into slots that have room for one more.
-fn put_slot(slots: &mut Vec<u32>, at: usize, slot: u32)
-    requires { vec_len slots.old < vec_capacity slots.old }
-{
-    slots.insert(at.min(slots.len()), slot).unwrap();
-}
-
-/// Sets the slot of an entry in the place of another.
-fn set_slot(slots: &mut [u32], at: usize, slot: u32) {
-    if let Some(place) = slots.get_mut(at) {
-        *place = slot;
-    }
-}
-
-/// Drops the slot of an entry that goes.
-fn drop_slot(slots: &mut Vec<u32>, at: usize) {
-    if at < slots.len() {
-        slots.remove(at);
-    }
 }

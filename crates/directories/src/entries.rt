@@ -5,8 +5,10 @@ ghost use Rattle.std.specs.Prelude.{
   ◌<◌,
   ◌≤◌,
   ◌+◌,
+  ◌++◌,
   ◌^◌,
   ℕ,
+  List,
   length,
   drop,
   true,
@@ -17,15 +19,17 @@ ghost use Rattle.std.specs.Prelude.{
   OnErr,
 };
 ghost use Rattle.std.specs.List.{AllByRecursion, slice_get};
+ghost use Rattle.nfs_model.specs.Types.{Listed};
 ghost use Rattle.nfs_model.specs.Serial.Readdir.{above_cookie, entry_size, fitting};
 ghost use Rattle.nfs_values.specs.Answer.{entry_of};
 ghost use Rattle.volume_values.specs.Directories.{empty_directory, added, page};
-ghost use Rattle.directories.specs.Entries.{listed, IsRising, under, has, dropped, page_value};
+ghost use Rattle.directories.specs.Entries.{listed, IsRising, under, has, dropped, fitting_in, page_value};
 ghost use Rattle.directories.specs.Slots.{in_slot, in_order, IsOrdered};
 
 use crate::page::Page;
 use crate::slot::{Slot, entry_in, holds, put, vacate};
 use nfs_values::{Cookie, Entry, Fileid, Name};
+use sequences::Sequence;
 use std::alloc::{AllocError, Global};
 use std::marker::Model;
 
@@ -34,7 +38,7 @@ use std::marker::Model;
 pub struct Entries {
     slots: Vec<Slot>,
     /// The slots of the entries in the order of their cookies.
-    order: Vec<u32>,
+    order: Sequence<u32>,
     /// The slot that is filled next, if it is vacant.
     vacant: u32,
     next: Cookie,
@@ -49,9 +53,9 @@ impl Model for Entries {
 
     ghost coded = { coded_directory };
 
-    ghost view = { λ e. record { next = e.next.0; list = in_order e.slots.items e.order.items } };
+    ghost view = { λ e. record { next = e.next.0; list = in_order e.slots.items e.order } };
 
-    ghost invariant = { λ e. IsOrdered e.slots.items e.order.items e.next.0 };
+    ghost invariant = { λ e. IsOrdered e.slots.items e.order e.next.0 };
 }
 
 impl Entries {
@@ -61,7 +65,7 @@ impl Entries {
     {
         Entries {
             slots: Vec::new(alloc),
-            order: Vec::new(alloc),
+            order: Sequence::new(alloc),
             vacant: u32::MAX,
             next: Cookie(3),
         }
@@ -101,14 +105,14 @@ impl Entries {
         ensures err { OnErr result (self.new ≡ self.old) }
     {
         let cookie = self.next;
-        self.order.try_reserve(1)?;
+        let room = self.order.room()?;
         let entry = Entry {
             fileid,
             name,
             cookie,
         };
         let (slot, next) = put(&mut self.slots, self.vacant, entry)?;
-        self.order.push_reserved(slot);
+        self.order.push(room, slot);
         self.vacant = next;
         self.next = Cookie(cookie.0 + 1);
         Ok((cookie, slot))
@@ -132,15 +136,14 @@ impl Entries {
         ensures err { OnErr result (0 < length (page self.now cookie.0 room).entries) }
     {
         let after = place_after(&self.slots, &self.order, cookie);
-        let (_, remaining) = self.order.split_at(after);
-        let entries = copy_fitting(alloc, &self.slots, remaining, room)?;
-        let is_last = entries.len() == remaining.len();
+        let entries = copy_fitting(alloc, &self.slots, &self.order, after, room)?;
+        let is_last = entries.len() == self.order.len() - after;
         Ok(Page { entries, is_last })
     }
 }
 
 /// The slot of the entry under a cookie that has one: the slot guessed, or else by a search.
-fn slot_of(slots: &[Slot], order: &[u32], cookie: Cookie, guess: u32) -> u32
+fn slot_of(slots: &[Slot], order: &Sequence<u32>, cookie: Cookie, guess: u32) -> u32
     requires ordered { (next : ℕ) × IsOrdered slots.now order.now next }
     requires there { has (in_order slots.now order.now) cookie.0 ≡ true }
     ensures { in_slot slots.now result ≡ under cookie.0 (in_order slots.now order.now) }
@@ -148,11 +151,11 @@ fn slot_of(slots: &[Slot], order: &[u32], cookie: Cookie, guess: u32) -> u32
     if holds(slots, guess, cookie) {
         return guess;
     }
-    order[place_of(slots, order, cookie)]
+    order.at(place_of(slots, order, cookie))
 }
 
 /// The place in the order of the entry under a cookie that has one.
-fn place_of(slots: &[Slot], order: &[u32], cookie: Cookie) -> usize
+fn place_of(slots: &[Slot], order: &Sequence<u32>, cookie: Cookie) -> usize
     requires rising { IsRising (in_order slots.now order.now) }
     requires there { has (in_order slots.now order.now) cookie.0 ≡ true }
     ensures within { result < length order.now }
@@ -163,7 +166,7 @@ fn place_of(slots: &[Slot], order: &[u32], cookie: Cookie) -> usize
 }
 
 /// How many entries have a cookie at or below one.
-fn place_after(slots: &[Slot], order: &[u32], cookie: Cookie) -> usize
+fn place_after(slots: &[Slot], order: &Sequence<u32>, cookie: Cookie) -> usize
     requires { IsRising (in_order slots.now order.now) }
     ensures within { result ≤ length order.now }
     ensures after { let entries = in_order slots.now order.now in
@@ -173,7 +176,7 @@ fn place_after(slots: &[Slot], order: &[u32], cookie: Cookie) -> usize
     let mut high = order.len();
     while low < high {
         let middle = low + (high - low) / 2;
-        if entry_in(slots, order[middle]).cookie.0 <= cookie.0 {
+        if entry_in(slots, order.at(middle)).cookie.0 <= cookie.0 {
             low = middle + 1;
         } else {
             high = middle;
@@ -182,31 +185,62 @@ fn place_after(slots: &[Slot], order: &[u32], cookie: Cookie) -> usize
     low
 }
 
-/// Copies the entries of these slots that fit into a number of bytes. Memory runs out only where
-/// one fits.
+/// Copies the entries from a place of the order on that fit into a number of bytes. Memory runs
+/// out only where one fits.
 fn copy_fitting(
     alloc: Global,
     slots: &[Slot],
-    order: &[u32],
+    order: &Sequence<u32>,
+    after: usize,
     room: usize,
 ) -> Result<Vec<Entry>, AllocError>
     requires { AllByRecursion (λ s. is_some (in_slot slots.now s) ≡ true) order.now }
     ensures ok { IfOk result (λ v.
-        listed v.items ≡ fitting room (in_order slots.now order.now)) }
-    ensures err { OnErr result (0 < length (fitting room (in_order slots.now order.now))) }
+        listed v.items ≡ fitting room (drop after (in_order slots.now order.now))) }
+    ensures err { OnErr result
+        (0 < length (fitting room (drop after (in_order slots.now order.now)))) }
 {
     let mut copied = Vec::new(alloc);
     let mut left = room;
-    for slot in order {
+    let mut place = after;
+    while place < order.len() {
+        let run = order.run_at(place);
+        match copy_run(alloc, slots, run, left, &mut copied)? {
+            Some(rest) => left = rest,
+            None => return Ok(copied),
+        }
+        place += run.len();
+    }
+    Ok(copied)
+}
+
+/// Copies the entries of a run of slots that fit into a number of bytes behind others. The result
+/// is the number of bytes that are left, if all fitted.
+fn copy_run(
+    alloc: Global,
+    slots: &[Slot],
+    run: &[u32],
+    room: usize,
+    copied: &mut Vec<Entry>,
+) -> Result<Option<usize>, AllocError>
+    requires { AllByRecursion (λ s. is_some (in_slot slots.now s) ≡ true) run.now }
+    ensures ok { IfOk result (λ rest. (more : List Listed)
+        → listed copied.new.items ++ fitting_in rest more
+        ≡ listed copied.old.items ++ fitting room (in_order slots.now run.now ++ more)) }
+    ensures err { OnErr result ((more : List Listed)
+        → 0 < length (fitting room (in_order slots.now run.now ++ more))) }
+{
+    let mut left = room;
+    for slot in run {
         let entry = entry_in(slots, *slot);
         let size = size_of(entry);
         if size > left {
-            return Ok(copied);
+            return Ok(None);
         }
         left -= size;
         copied.push(copy(alloc, entry)?)?;
     }
-    Ok(copied)
+    Ok(Some(left))
 }
 
 /// The bytes of an entry in a page.

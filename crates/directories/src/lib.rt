@@ -6,6 +6,7 @@ mod entries;
 mod page;
 mod search;
 mod slot;
+mod spot;
 
 pub use directory::Directory;
 pub use page::Page;

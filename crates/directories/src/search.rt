@@ -3,10 +3,11 @@
 ghost use Rattle.std.specs.Prelude.{◌≡◌, ◌≤◌, length, true, false, Some};
 ghost use Rattle.directories.specs.Entries.{has};
 ghost use Rattle.directories.specs.Digits.{binary_digits};
-ghost use Rattle.directories.specs.Index.{IsIndex, IsAt, IsPlace, name_cmp, name_under};
+ghost use Rattle.directories.specs.Index.{IsIndex, IsAt, IsPlace, cookies, name_cmp, name_under};
 
 use crate::entries::Entries;
-use nfs_values::Cookie;
+use crate::spot::Spot;
+use sequences::Sequence;
 use std::cmp::Ordering;
 
 /// What a search for a name has found.
@@ -19,12 +20,14 @@ pub struct Search {
     pub compared: usize,
 }
 
-/// Searches an index for a name by halving, with a guess of each entry's slot.
-pub fn find_place(entries: &Entries, index: &[Cookie], slots: &[u32], name: &[u8]) -> Search
-    requires { IsIndex entries.now.list index.now }
+/// Searches an index for a name by halving.
+pub fn find_place(entries: &Entries, index: &Sequence<Spot>, name: &[u8]) -> Search
+    requires { IsIndex entries.now.list (cookies index.now) }
     ensures within { result.place ≤ length index.now }
-    ensures there { result.is_there ≡ true → IsAt entries.now index.now name.now result.place }
-    ensures absent { result.is_there ≡ false → IsPlace entries.now index.now name.now result.place }
+    ensures there { result.is_there ≡ true
+        → IsAt entries.now (cookies index.now) name.now result.place }
+    ensures absent { result.is_there ≡ false
+        → IsPlace entries.now (cookies index.now) name.now result.place }
     ensures compared { result.compared ≤ binary_digits (length index.now) }
 {
     let mut low = 0;
@@ -33,7 +36,7 @@ pub fn find_place(entries: &Entries, index: &[Cookie], slots: &[u32], name: &[u8
     while low < high {
         let middle = low + (high - low) / 2;
         compared += 1;
-        match compare(entries, index[middle], slot_at(slots, middle), name) {
+        match compare(entries, index.at(middle), name) {
             Ordering::Less => low = middle + 1,
             Ordering::Greater => high = middle,
             Ordering::Equal => {
@@ -52,15 +55,10 @@ pub fn find_place(entries: &Entries, index: &[Cookie], slots: &[u32], name: &[u8
     }
 }
 
-/// The slot guessed at a place of an index.
-pub fn slot_at(slots: &[u32], place: usize) -> u32 {
-    slots.get(place).copied().unwrap_or(0)
-}
-
-/// How the name under a cookie that has one compares with another.
-fn compare(entries: &Entries, cookie: Cookie, guess: u32, name: &[u8]) -> Ordering
-    requires { has entries.now.list cookie.0 ≡ true }
-    ensures { result ≡ name_cmp (name_under entries.now.list cookie) name.now }
+/// How the name of an entry compares with another.
+fn compare(entries: &Entries, spot: Spot, name: &[u8]) -> Ordering
+    requires { has entries.now.list spot.cookie.0 ≡ true }
+    ensures { result ≡ name_cmp (name_under entries.now.list spot.cookie) name.now }
 {
-    entries.at(cookie, guess).name.as_bytes().cmp(name)
+    entries.at(spot.cookie, spot.slot).name.as_bytes().cmp(name)
 }

@@ -1,46 +1,34 @@
-use Rattle.std.proofs.Common.{refl, arith}
-use Rattle.nfs_values.specs.Answer.{entry_of}
+use Rattle.std.proofs.Common.{◌∙◌, sym, arith}
+use Rattle.std.proofs.lemmas.List.{append-nil}
+use Rattle.directories.specs.Entries.{listed}
 use Rattle.directories.specs.Slots.{in_order}
-use Rattle.directories.proofs.Slots.{all-here, element-at, length-order}
-use Rattle.directories.proofs.Pages.{one-copied, some-fit, on-error, full-page, last-page}
+use Rattle.directories.proofs.Pages.{run-filled, run-next, run-fits, last-page, on-error}
+use Rattle.directories.proofs.Slots.{length-order}
 use Rattle.directories.proofs.entries.copy_fitting.Goals as goal
 
-pub entry_in-entry-requires : goal.entry_in-entry-requires
-entry_in-entry-requires c = all-here c.args.slots.now c.args.order.now c.loop-slot.slot-index c.requires c.loop-slot-test.true
+pub copy_run-requires : goal.copy_run-requires
+copy_run-requires c =
+    run-filled c.args.slots.now c.args.order.now c.run_at-run.result.now c.loop-place.place c.requires c.run_at-run.ensures.run
 
-pub loop-slot-preserved : goal.loop-slot-preserved
-loop-slot-preserved c =
-    let e = entry_of c.entry_in-entry.result.now in
-    let element = element-at c.args.slots.now c.args.order.now c.loop-slot.slot-index _ e c.loop-slot-test.true refl c.entry_in-entry.ensures in
-    rw c.in_ok-push.ensures.items
-    (one-copied c.loop-slot.copied.items c.loop-slot.left c.loop-slot.slot-index (in_order c.args.slots.now c.args.order.now) c.args.room e
-    c.in_ok-copy.field-0 c.size_of-size.result c.loop-slot.invariant element c.size_of-size.ensures c.if-size-left.false c.in_ok-copy.ensures)
+pub returns-in_err-rest-clause-err : goal.returns-in_err-rest-clause-err
+returns-in_err-rest-clause-err c =
+    on-error c.from_residual.result
+    (run-fits c.loop-place.copied.items c.loop-place.left c.loop-place.place c.args.slots.now c.args.order.now c.run_at-run.result.now _
+    c.loop-place.invariant c.run_at-run.ensures.run c.in_err-rest.ensures.err)
 
-pub returns-then-size-left-clause-ok : goal.returns-then-size-left-clause-ok
-returns-then-size-left-clause-ok c =
-    let e = entry_of c.entry_in-entry.result.now in
-    let element = element-at c.args.slots.now c.args.order.now c.loop-slot.slot-index _ e c.loop-slot-test.true refl c.entry_in-entry.ensures in
-    full-page c.loop-slot.copied.items c.loop-slot.left c.loop-slot.slot-index (in_order c.args.slots.now c.args.order.now) c.args.room e
-    c.size_of-size.result c.loop-slot.invariant element c.size_of-size.ensures c.if-size-left.true
+pub returns-in-None-clause-ok : goal.returns-in-None-clause-ok
+returns-in-None-clause-ok c =
+    sym (append-nil (listed c.copy_run.new.copied.items))
+    ∙ rw c.in-None.is at (run-next c.loop-place.copied.items c.copy_run.new.copied.items c.loop-place.left c.loop-place.place c.in_ok-rest.field-0
+    c.args.slots.now c.args.order.now c.run_at-run.result.now _ c.loop-place.invariant c.run_at-run.ensures.run c.in_ok-rest.ensures.ok)
+
+pub loop-place-preserved : goal.loop-place-preserved
+loop-place-preserved c =
+    rw c.in-Some.is at (run-next c.loop-place.copied.items c.copy_run.new.copied.items c.loop-place.left c.loop-place.place c.in_ok-rest.field-0
+    c.args.slots.now c.args.order.now c.run_at-run.result.now _ c.loop-place.invariant c.run_at-run.ensures.run c.in_ok-rest.ensures.ok)
 
 pub returns-clause-ok : goal.returns-clause-ok
 returns-clause-ok c =
     let n = length-order c.args.slots.now c.args.order.now in
-    last-page c.loop-slot.copied.items c.loop-slot.left c.loop-slot.slot-index (in_order c.args.slots.now c.args.order.now) c.args.room
-    c.loop-slot.invariant (omega (arith, n, c.loop-slot-test.false))
-
-pub returns-in_err-copy-clause-err : goal.returns-in_err-copy-clause-err
-returns-in_err-copy-clause-err c =
-    let e = entry_of c.entry_in-entry.result.now in
-    let element = element-at c.args.slots.now c.args.order.now c.loop-slot.slot-index _ e c.loop-slot-test.true refl c.entry_in-entry.ensures in
-    let some = some-fit c.loop-slot.copied.items c.loop-slot.left c.loop-slot.slot-index (in_order c.args.slots.now c.args.order.now) c.args.room e
-    c.size_of-size.result c.loop-slot.invariant element c.size_of-size.ensures c.if-size-left.false in
-    on-error c.from_residual.result some
-
-pub returns-in_err-push-clause-err : goal.returns-in_err-push-clause-err
-returns-in_err-push-clause-err c =
-    let e = entry_of c.entry_in-entry.result.now in
-    let element = element-at c.args.slots.now c.args.order.now c.loop-slot.slot-index _ e c.loop-slot-test.true refl c.entry_in-entry.ensures in
-    let some = some-fit c.loop-slot.copied.items c.loop-slot.left c.loop-slot.slot-index (in_order c.args.slots.now c.args.order.now) c.args.room e
-    c.size_of-size.result c.loop-slot.invariant element c.size_of-size.ensures c.if-size-left.false in
-    on-error c.from_residual-in_err-push.result some
+    last-page c.loop-place.copied.items c.loop-place.left c.loop-place.place (in_order c.args.slots.now c.args.order.now) _
+    c.loop-place.invariant (omega (arith, n, c.loop-place-test.false))

@@ -1,8 +1,12 @@
-use Rattle.std.proofs.Common.{◌≡◌, ◌++◌, drop}
+use Rattle.std.proofs.Common.{◌-◌, length, drop}
 use Rattle.nfs_model.specs.Serial.Readdir.{fitting}
-use Rattle.directories.specs.Entries.{listed}
 use Rattle.directories.specs.Slots.{in_order}
+use Rattle.directories.proofs.Pages.{SoFar}
 use Rattle.directories.proofs.entries.copy_fitting.Given as goal
 
-abbrev pub invariant-loop-slot : goal.invariant-loop-slot
-invariant-loop-slot l = listed l.copied.items ++ fitting l.left (drop l.slot-index (in_order l.slots l.order)) ≡ fitting l.room (in_order l.slots l.order)
+abbrev pub invariant-loop-place : goal.invariant-loop-place
+invariant-loop-place l =
+    SoFar l.copied.items l.left l.place (in_order l.slots l.order) (fitting l.room (drop l.after (in_order l.slots l.order)))
+
+abbrev pub decreases-loop-place : goal.decreases-loop-place
+decreases-loop-place l = length l.order - l.place

@@ -1,5 +1,5 @@
-use Rattle.std.proofs.Common.{refl, sym, ◌∙◌}
-use Rattle.directories.proofs.Slots.{slot-guessed, slot-under}
+use Rattle.std.proofs.Common.{sym, ◌∙◌}
+use Rattle.directories.proofs.Slots.{slot-guessed, slot-under, read-there}
 use Rattle.directories.proofs.entries.slot_of.Goals as goal
 
 pub returns-then-holds : goal.returns-then-holds
@@ -8,5 +8,5 @@ returns-then-holds c =
 
 pub returns : goal.returns
 returns c =
-    slot-under c.args.slots.now c.args.order.now c.args.cookie.0 c.place_of.result _ (_, c.requires.ordered.1.rising) c.place_of.ensures.place
-    c.place_of.ensures.within refl
+    slot-under c.args.slots.now c.args.order.now c.args.cookie.0 c.place_of.result c.at.result (_, c.requires.ordered.1.rising) c.place_of.ensures.place
+    c.place_of.ensures.within (read-there c.args.order.now c.place_of.result c.at.result c.at.ensures)

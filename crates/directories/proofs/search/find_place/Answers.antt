@@ -1,7 +1,14 @@
-use Rattle.std.proofs.Common.{sym, ◌∙◌, ◌<◌, ◌+◌, ◌-◌, ◌/◌, length, arith}
+use Rattle.std.proofs.Common.{sym, ◌∙◌, ◌+◌, ◌-◌, ◌/◌, length, arith}
 use Rattle.directories.proofs.Halved.{digit-less, few-digits}
 use Rattle.directories.proofs.Middle.{less-middle, greater-middle, equal-middle, one-more}
+use Rattle.directories.specs.Index.{cookies}
+use Rattle.directories.proofs.Found.{known-here}
+use Rattle.directories.proofs.Spots.{cookie-at}
 use Rattle.directories.proofs.search.find_place.Goals as goal
+
+pub compare-requires : goal.compare-requires
+compare-requires c =
+    known-here c.args.entries.now.list (cookies c.args.index.now) _ c.at.result.cookie c.requires (cookie-at c.args.index.now _ c.at.result c.at.ensures)
 
 pub overflow_add-compared : goal.overflow_add-compared
 overflow_add-compared c =
@@ -12,11 +19,11 @@ overflow_add-compared c =
 pub loop-low-preserved-in-Less : goal.loop-low-preserved-in-Less
 loop-low-preserved-in-Less c =
     let middle = c.loop-low.low + (c.loop-low.high - c.loop-low.low) / 2 in
-    let inside : middle < length c.args.index.now = omega (arith, c.loop-low.invariant, c.loop-low-test.true) in
+    let there = cookie-at c.args.index.now middle c.at.result c.at.ensures in
     record {
       ordered = omega (arith, c.loop-low.invariant, c.loop-low-test.true);
       within = c.loop-low.invariant.within;
-      before = less-middle c.args.entries.now.list c.args.index.now c.args.name.now middle c.requires.sorted inside (sym c.compare.ensures ∙ c.in-Less.is);
+      before = less-middle c.args.entries.now.list (cookies c.args.index.now) c.args.name.now middle c.at.result.cookie c.requires.sorted there (sym c.compare.ensures ∙ c.in-Less.is);
       after = c.loop-low.invariant.after;
       room = c.loop-low.invariant.room;
       counted =
@@ -27,12 +34,12 @@ loop-low-preserved-in-Less c =
 pub loop-low-preserved : goal.loop-low-preserved
 loop-low-preserved c =
     let middle = c.loop-low.low + (c.loop-low.high - c.loop-low.low) / 2 in
-    let inside : middle < length c.args.index.now = omega (arith, c.loop-low.invariant, c.loop-low-test.true) in
+    let there = cookie-at c.args.index.now middle c.at.result c.at.ensures in
     record {
       ordered = omega (arith, c.loop-low.invariant, c.loop-low-test.true);
-      within = omega (arith, inside);
+      within = omega (arith, c.loop-low.invariant, c.loop-low-test.true);
       before = c.loop-low.invariant.before;
-      after = greater-middle c.args.entries.now.list c.args.index.now c.args.name.now middle c.requires.sorted inside
+      after = greater-middle c.args.entries.now.list (cookies c.args.index.now) c.args.name.now middle c.at.result.cookie c.requires.sorted there
           (sym c.compare.ensures ∙ c.in-Greater.is);
       room = c.loop-low.invariant.room;
       counted =
@@ -43,8 +50,8 @@ loop-low-preserved c =
 pub returns-in-Equal-clause-there : goal.returns-in-Equal-clause-there
 returns-in-Equal-clause-there c =
     let middle = c.loop-low.low + (c.loop-low.high - c.loop-low.low) / 2 in
-    let inside : middle < length c.args.index.now = omega (arith, c.loop-low.invariant, c.loop-low-test.true) in
-    λ _. equal-middle c.args.entries.now.list c.args.index.now c.args.name.now middle inside (sym c.compare.ensures ∙ c.in-Equal.is)
+    let there = cookie-at c.args.index.now middle c.at.result c.at.ensures in
+    λ _. equal-middle c.args.entries.now.list (cookies c.args.index.now) c.args.name.now middle c.at.result.cookie there (sym c.compare.ensures ∙ c.in-Equal.is)
 
 pub returns-in-Equal-clause-compared : goal.returns-in-Equal-clause-compared
 returns-in-Equal-clause-compared c =

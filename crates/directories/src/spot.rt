@@ -1,0 +1,11 @@
+//! What the index of names has at a place.
+
+use nfs_values::Cookie;
+
+/// An entry in the index: its cookie, and the slot that it is guessed in.
+#[derive(Clone, Copy)]
+pub struct Spot {
+    pub cookie: Cookie,
+    /// Nothing rests on it but the time of a search.
+    pub slot: u32,
+}

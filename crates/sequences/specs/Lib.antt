@@ -1,0 +1,4 @@
+pub mod Values
+pub mod Trees
+pub mod Opened
+pub mod Falls

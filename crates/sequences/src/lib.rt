@@ -1,0 +1,12 @@
+//! Sequences of items by place, in which an item comes or goes in time logarithmic in their number.
+#![tactic(auto)]
+
+mod balance;
+mod change;
+mod chunk;
+mod room;
+mod sequence;
+mod tree;
+
+pub use room::Room;
+pub use sequence::Sequence;
