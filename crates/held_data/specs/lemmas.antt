@@ -14,3 +14,12 @@ pub mod WrittenNodes
 pub mod WriteMoves
 pub mod WriteBytes
 pub mod Writes
+pub mod Refiled
+pub mod Else
+pub mod Grown
+pub mod Inserted
+pub mod HoleFilled
+pub mod Neighbours
+pub mod Padded
+pub mod Holes
+pub mod HolesFilled
