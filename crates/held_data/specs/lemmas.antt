@@ -23,3 +23,4 @@ pub mod Neighbours
 pub mod Padded
 pub mod Holes
 pub mod HolesFilled
+pub mod SpansWritten
