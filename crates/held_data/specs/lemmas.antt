@@ -24,3 +24,6 @@ pub mod Padded
 pub mod Holes
 pub mod HolesFilled
 pub mod SpansWritten
+pub mod Commuted
+pub mod Extended
+pub mod Checks
