@@ -27,3 +27,6 @@ pub mod SpansWritten
 pub mod Commuted
 pub mod Extended
 pub mod Checks
+pub mod Leaving
+pub mod Carrying
+pub mod WrittenUp
