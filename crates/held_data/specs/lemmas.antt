@@ -30,3 +30,5 @@ pub mod Checks
 pub mod Leaving
 pub mod Carrying
 pub mod WrittenUp
+pub mod LogicalWrites
+pub mod Listed

@@ -7,6 +7,7 @@ ghost use Rattle.held_data.specs.Laws.{
   StripeReadMayStarve,
 };
 ghost use Rattle.held_data.specs.WritingLaws.{StripeWriteIsRight};
+ghost use Rattle.held_data.specs.WritingUpLaws.{LogicalWriteIsRight};
 
 /// On every sound volume with the parcels that are held, READ as it is told by the stripe in which
 /// its bytes lie, and by what is under Volume Logical, is the serial server's, changes nothing, and
@@ -19,7 +20,9 @@ pub fn reading_calls_are_right()
 {}
 
 /// So is WRITE as it is told by the stripe in which its bytes lie: what writes over bytes that are
-/// there is done in it, and what would extend the file or fill a hole moves.
+/// there is done in it, and what would extend the file or fill a hole moves. By what is under
+/// Volume Logical it is done where the stock has blocks for its holes, and moves where it is short.
 pub fn writing_calls_are_right()
     ensures in_stripe { StripeWriteIsRight }
+    ensures in_logical { LogicalWriteIsRight }
 {}

@@ -1,5 +1,9 @@
 use Rattle.held_data.specs.lemmas.Writes.{stripe-writes}
+use Rattle.held_data.specs.lemmas.LogicalWrites.{logical-writes}
 use Rattle.held_data.proofs.laws.writing_calls_are_right.Goals as goal
 
-pub returns : goal.returns
-returns c = record { in_stripe = λ v i fileid handle w s some lies. stripe-writes v i fileid handle w s some lies }
+pub returns-clause-in_stripe : goal.returns-clause-in_stripe
+returns-clause-in_stripe c = λ v i fileid handle w s some lies. stripe-writes v i fileid handle w s some lies
+
+pub returns-clause-in_logical : goal.returns-clause-in_logical
+returns-clause-in_logical c = λ v fileid handle w old new outcome told. logical-writes v fileid handle w old new outcome told
