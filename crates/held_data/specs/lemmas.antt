@@ -32,3 +32,6 @@ pub mod Carrying
 pub mod WrittenUp
 pub mod LogicalWrites
 pub mod Listed
+pub mod LogicalStarves
+pub mod LeavingParts
+pub mod FreeCount

@@ -7,7 +7,7 @@ ghost use Rattle.held_data.specs.Laws.{
   StripeReadMayStarve,
 };
 ghost use Rattle.held_data.specs.WritingLaws.{StripeWriteIsRight};
-ghost use Rattle.held_data.specs.WritingUpLaws.{LogicalWriteIsRight};
+ghost use Rattle.held_data.specs.WritingUpLaws.{LogicalWriteIsRight, LogicalWriteMayStarve};
 
 /// On every sound volume with the parcels that are held, READ as it is told by the stripe in which
 /// its bytes lie, and by what is under Volume Logical, is the serial server's, changes nothing, and
@@ -25,4 +25,5 @@ pub fn reading_calls_are_right()
 pub fn writing_calls_are_right()
     ensures in_stripe { StripeWriteIsRight }
     ensures in_logical { LogicalWriteIsRight }
+    ensures in_logical_starves { LogicalWriteMayStarve }
 {}

@@ -69,11 +69,11 @@ numbers-of (suc k) set e =
     let first = one-of set k e in
     let fewer = len-without set first.0 first.1 in
     let rest = numbers-of k (without_numbers (first.0 ∷ []) set) (omega (arith, fewer, e)) in
-    (first.0 ∷ rest.0, (first.1, rest.1.0), ap suc rest.1.1)
+    (first.0 ∷ rest.0, (first.1, rest.1), ap suc rest.2)
 
 pub numbers-times : (set : FinSet nat_cmp) (m : ℕ) → times_listed m (numbers-of (len set) set refl).0 ≡ one_if (contains set m)
 numbers-times set m =
-    let counts = leave-counts (numbers-of (len set) set refl).0 set sets.empty (numbers-of (len set) set refl).1.0 m in
+    let counts = leave-counts (numbers-of (len set) set refl).0 set sets.empty (numbers-of (len set) set refl).1 m in
     let none : one_if (contains (sets.empty {R = nat_cmp}) m) ≡ 0 = ap one_if (sets.contains-empty nat_cmp m) in
     omega (arith, counts, none)
 
@@ -95,6 +95,6 @@ stock-fits p hands well once =
     omega (arith, o, files, both, times)) in
     let long = length-append (all_numbers p.stripes) stock in
     let files = all-length p.stripes in
-    let many = (numbers-of (len p.logical.stock) p.logical.stock refl).1.1 in
+    let many = (numbers-of (len p.logical.stock) p.logical.stock refl).2 in
     let used = well.used in
     omega (arith, most, long, files, many, used)

@@ -1,5 +1,6 @@
 use Rattle.held_data.specs.lemmas.Writes.{stripe-writes}
 use Rattle.held_data.specs.lemmas.LogicalWrites.{logical-writes}
+use Rattle.held_data.specs.lemmas.LogicalStarves.{logical-write-starves}
 use Rattle.held_data.proofs.laws.writing_calls_are_right.Goals as goal
 
 pub returns-clause-in_stripe : goal.returns-clause-in_stripe
@@ -7,3 +8,7 @@ returns-clause-in_stripe c = λ v i fileid handle w s some lies. stripe-writes v
 
 pub returns-clause-in_logical : goal.returns-clause-in_logical
 returns-clause-in_logical c = λ v fileid handle w old new outcome told. logical-writes v fileid handle w old new outcome told
+
+pub returns-clause-in_logical_starves : goal.returns-clause-in_logical_starves
+returns-clause-in_logical_starves c =
+    λ v fileid n handle w s due enough some. logical-write-starves v fileid n handle w s due enough some
