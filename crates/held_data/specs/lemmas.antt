@@ -35,3 +35,6 @@ pub mod Listed
 pub mod LogicalStarves
 pub mod LeavingParts
 pub mod FreeCount
+pub mod FilledParts
+pub mod VolumeWrites
+pub mod VolumeStarves
