@@ -1,8 +1,7 @@
 -- Blocks that come into files: how many, and which.
-use Rattle.std.proofs.Common.{◌≡◌, ℕ, ◌+◌, ◌-◌, ◌*◌, ◌≤◌, ◌&&◌, ◌||◌, not, Bool, true, false, List, [], ◌∷◌, length, refl, sym, ap, ◌∙◌, arith, nat_lt}
+use Rattle.std.proofs.Common.{◌≡◌, ℕ, ◌+◌, ◌-◌, ◌*◌, ◌≤◌, List, ◌∙◌, arith, nat_lt}
 use Rattle.std.specs.Ordering.{nat_cmp}
-use Rattle.std.specs.FinSet as sets
-use Rattle.std.specs.FinSet.{FinSet, contains, from_list}
+use Rattle.std.specs.FinSet.{contains, from_list}
 use Rattle.nfs_model.specs.Server.{used}
 use Rattle.nfs_model.specs.Parts.{Hand, one_if, times_listed, range_blocks}
 use Rattle.depot_rule.specs.Sums.{total}
@@ -10,7 +9,7 @@ use Rattle.held_state.specs.Contents.{VolumeContents}
 use Rattle.held_state.specs.Tree.{volume_of, ranges_used}
 use Rattle.held_state.specs.WellFormed.{WellFormed}
 use Rattle.held_state.specs.Partition.{files_in, all_numbers, times_in_stripe, StandOnce}
-use Rattle.held_laws.specs.lemmas.Counted.{all-times, listed-times, len-listed, used-is}
+use Rattle.held_laws.specs.lemmas.Counted.{all-times, listed-times, used-is}
 use Rattle.held_data.specs.lemmas.Leaving.{one-at-most}
 
 -- what is filled more

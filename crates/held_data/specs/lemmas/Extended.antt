@@ -1,8 +1,8 @@
 -- A file that bytes extend, or whose holes they fill, with the numbers of a hand: all stays sound, and the file is the one that was written.
-use Rattle.std.proofs.Common.{◌≡◌, ℕ, zero, suc, ◌+◌, ◌-◌, ◌*◌, ◌/◌, ◌<◌, ◌≤◌, ◌==◌, ◌||◌, ◌&&◌, max, Bool, true, false, List, [], ◌∷◌, length, map, Option, Some, None}
-use Rattle.std.proofs.Common.{nat_eq, eq-eqb, refl, sym, ap, ◌∙◌, subst, arith, ⊎_elim}
+use Rattle.std.proofs.Common.{◌≡◌, ℕ, zero, suc, ◌+◌, ◌-◌, ◌*◌, ◌/◌, ◌<◌, ◌≤◌, ◌==◌, ◌||◌, ◌&&◌, max, Bool, true, false, List, [], ◌∷◌}
+use Rattle.std.proofs.Common.{length, map, Option, Some, nat_eq, refl, sym, ap, ◌∙◌, subst, arith, ⊎_elim}
 use Rattle.std.specs.Prelude.{if◌then◌else◌, is_some}
-use Rattle.std.proofs.lemmas.Bool.{eqb-true, cases_lt}
+use Rattle.std.proofs.lemmas.Bool.{eqb-true}
 use Rattle.std.proofs.lemmas.Bool.Decides.{nat_tests}
 use Rattle.std.specs.List.{range_with_len}
 use Rattle.std.specs.Option.{option_map}
@@ -21,18 +21,18 @@ use Rattle.volume_values.specs.Inodes.{RegularFile, Inode, InodesValue, inode_se
 use Rattle.volume_values.specs.Stripes.{StripeValue, is_filled, byte_written}
 use Rattle.volume_values.specs.lemmas.Inodes.{inode-set-there, inode-set-twice, used-set, next-set}
 use Rattle.held_state.specs.Contents.{VolumeContents}
-use Rattle.held_state.specs.Tree.{home_stripe, file_byte, file_bytes, file_filled, file_touch, most_file_blocks, node_of, node_by, volume_of}
+use Rattle.held_state.specs.Tree.{home_stripe, file_byte, file_bytes, file_filled, file_touch, most_file_blocks, node_of, volume_of}
 use Rattle.held_state.specs.WellFormed.{WellFormed, IsLargest}
-use Rattle.held_state.specs.Partition.{times_in_stripe, times_in_hand}
+use Rattle.held_state.specs.Partition.{times_in_stripe}
 use Rattle.held_state.specs.Sound.{IsSound}
 use Rattle.held_state.specs.Lenses.{logical_lens}
 use Rattle.held_attributes.specs.lemmas.Getting.{node-at}
 use Rattle.held_laws.specs.lemmas.SameBlocks.{total-mapped, homes-stay}
 use Rattle.held_data.specs.Extending.{Extending, end_of, holes, kind_extended, inodes_extended, stripe_grown, filled_with, spans_written, file_extended}
-use Rattle.held_data.specs.lemmas.Refiled.{refiled, next_inode, sound-refiled}
+use Rattle.held_data.specs.lemmas.Refiled.{refiled, next_inode, sound-refiled, some-stripes}
 use Rattle.held_data.specs.lemmas.Else.{SeenAlike, seen-alike, put-same}
 use Rattle.held_data.specs.lemmas.Grown.{grows, touch-grown, byte-grown, byte-past}
-use Rattle.held_data.specs.lemmas.Holes.{AreHoles, is_listed, met-listed, listed-or, contains-blocks, seen-past, met-holes}
+use Rattle.held_data.specs.lemmas.Holes.{AreHoles, is_listed, any-below, met-listed, listed-or, contains-blocks, seen-filled-at, met-holes}
 use Rattle.held_data.specs.lemmas.HolesFilled.{FilledUp, filled-up, size-small}
 use Rattle.held_data.specs.lemmas.SpansWritten.{AreThere, restriped, Overwrites, spans-written}
 use Rattle.held_data.specs.lemmas.Commuted.{holes-grown, filled-grown}
@@ -78,19 +78,6 @@ met-below q offset n small h = by (n == 0) refl h
         let some : 0 < n = grind (arith, nat_tests) in
         omega (arith, less, small, some)
 
-listed-range : (q a n : ℕ) → a ≤ q → q < a + n → is_listed q (range_with_len a n) ≡ true
-listed-range q a zero from less = absurd (omega (arith, from, less))
-listed-range q a (suc n) from less = by (nat_eq a q) refl (listed-range q (a + 1) n)
-  where
-    by : (t : Bool) → nat_eq a q ≡ t → (a + 1 ≤ q → q < a + 1 + n → is_listed q (range_with_len (a + 1) n) ≡ true)
-        → (t || is_listed q (range_with_len (a + 1) n)) ≡ true
-    by true e rest = refl
-    by false e rest = ⊎_elim
-        (λ (low : a < q). rest (omega (arith, low)) (omega (arith, less)))
-        (λ (high : q ≤ a). let same : a ≡ q = omega (arith, high, from) in
-        let t : nat_eq a q ≡ true = eq-eqb a q same in absurd cc)
-        (cases_lt a q)
-
 -- ---- all of it
 
 module _ (p : VolumeContents) (m : Extending) (inode : Inode) (size blocks : ℕ) (verifier : Option (List ℕ))
@@ -115,11 +102,6 @@ module _ (p : VolumeContents) (m : Extending) (inode : Inode) (size blocks : ℕ
 
   abbrev longer : ℕ
   longer = max size end
-
-  some-stripes : 0 < length p.stripes
-  some-stripes =
-      let many = well.as_many in
-      ⊎_elim (λ (e : p.logical.stripes ≡ 8). omega (arith, e, many)) (λ (e : p.logical.stripes ≡ 16). omega (arith, e, many)) well.striped
 
   within : longer ≤ p.logical.largest
   within = let was = size-small p f inode size blocks verifier well there is_file in omega (arith, was, fits)
@@ -206,7 +188,7 @@ module _ (p : VolumeContents) (m : Extending) (inode : Inode) (size blocks : ℕ
   is-final : p_3 ≡ final
   is-final = λ j. record p {
     logical = record p.logical { inodes = sym (inodes-final ∙ inodes-3) j };
-    stripes = spans_written f m.offset m.written m.moment (sym (filled-grown f end found m.numbers p.stripes some-stripes) j);
+    stripes = spans_written f m.offset m.written m.moment (sym (filled-grown f end found m.numbers p.stripes (some-stripes p well)) j);
   }
 
   pub sound-extended : IsSound final hands (made + 2)
@@ -239,18 +221,18 @@ module _ (p : VolumeContents) (m : Extending) (inode : Inode) (size blocks : ℕ
   bytes-3 =
       bytes-written (file_byte p.stripes f) (file_byte stripes_3 f) m.offset longer m.written (omega arith) byte-3
       ∙ written-longer (file_byte p.stripes f) m.offset m.written size
-      (λ k past. byte-past p f end inode size blocks verifier there is_file well k some-stripes past)
+      (λ k past. byte-past p f end inode size blocks verifier there is_file well k (some-stripes p well) past)
 
   abbrev all : sets.FinSet nat_cmp
   all = from_list (range_with_len 0 most_file_blocks)
 
   filled-3 : file_filled stripes_3 f ≡ with_blocks file.filled (blocks_met m.offset n)
   filled-3 = over.filled ∙ sets.same_set nat_cmp_total nat_cmp-IsAntisymmetric _ _ (λ q.
-      seen-past p_2.stripes f q ∙ ap (λ t. contains all q && t) (filled-2 q)
+      seen-filled-at p_2.stripes f q ∙ ap (λ t. contains all q && t) (filled-2 q)
       ∙ spread (contains all q) (is_listed q (blocks_met m.offset n)) (is_filled (home_stripe p.stripes f q) f q)
       (λ e. contains-from_list_nat (range_with_len 0 most_file_blocks) q
-      ∙ listed-range q 0 most_file_blocks (omega arith) (let less = met-below q m.offset n (omega (arith, small)) e in omega (arith, less)))
-      ∙ ap (λ t. is_listed q (blocks_met m.offset n) || t) (sym (seen-past p.stripes f q))
+      ∙ any-below q 0 most_file_blocks (omega arith) (let less = met-below q m.offset n (omega (arith, small)) e in omega (arith, less)))
+      ∙ ap (λ t. is_listed q (blocks_met m.offset n) || t) (sym (seen-filled-at p.stripes f q))
       ∙ sym (contains-blocks file.filled (blocks_met m.offset n) q))
     where
       spread : (a l t : Bool) → (l ≡ true → a ≡ true) → (a && (l || t)) ≡ (l || (a && t))

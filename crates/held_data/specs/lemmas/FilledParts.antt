@@ -1,6 +1,6 @@
 -- Block numbers that left the stock, the free and the dead of a volume for files: all stays sound, and they moved as the profile says.
-use Rattle.std.proofs.Common.{◌≡◌, ℕ, zero, suc, ◌+◌, ◌-◌, ◌*◌, ◌<◌, ◌≤◌, ◌||◌, min, Bool, true, false, List, [], ◌∷◌, length, nat_lt}
-use Rattle.std.proofs.Common.{refl, sym, ap, ◌∙◌, subst, arith, inl, inr, ◌⊎◌, ⊎_elim}
+use Rattle.std.proofs.Common.{◌≡◌, ℕ, ◌+◌, ◌-◌, ◌*◌, ◌≤◌, ◌||◌, min, Bool, true, false, List, ◌∷◌, length, nat_lt}
+use Rattle.std.proofs.Common.{refl, sym, ap, ◌∙◌, subst, arith, inl, inr, ◌⊎◌}
 use Rattle.std.specs.Ordering.{nat_cmp}
 use Rattle.std.specs.Cmp.{nat_cmp_total}
 use Rattle.std.specs.FinMap.{nat_cmp-IsAntisymmetric}
@@ -8,12 +8,10 @@ use Rattle.std.specs.FinSet as sets
 use Rattle.std.specs.FinSet.{FinSet, contains, from_list, union, len, contains-union}
 use Rattle.nfs_model.specs.Parts.{Hand, Fresh, Parts, one_if, times_listed, range_blocks}
 use Rattle.nfs_model.specs.Moves.{FilledInVolume}
-use Rattle.depot_rule.specs.Sums.{total}
-use Rattle.volume_values.specs.Ranges.{RangeValue}
 use Rattle.held_state.specs.Contents.{VolumeContents}
 use Rattle.held_state.specs.Tree.{ranges_used}
 use Rattle.held_state.specs.WellFormed.{WellFormed, RangeFits, range_at}
-use Rattle.held_state.specs.Partition.{files_in, free_in, parts_of, times_in_hand, StandOnce}
+use Rattle.held_state.specs.Partition.{files_in, free_in, parts_of, StandOnce}
 use Rattle.held_state.specs.Sound.{IsSound}
 use Rattle.held_state.specs.Lenses.{VolumeSet, volume_lens}
 use Rattle.held_attributes.specs.lemmas.Setattr.{difference-empty, union-empty}

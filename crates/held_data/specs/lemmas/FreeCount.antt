@@ -1,5 +1,5 @@
 -- How many blocks are free: by ranges, and as one set.
-use Rattle.std.proofs.Common.{◌≡◌, ℕ, ◌+◌, ◌≤◌, ◌||◌, Bool, true, false, List, [], ◌∷◌, ◌++◌, length, refl, sym, ap, ◌∙◌, arith, length-append}
+use Rattle.std.proofs.Common.{◌≡◌, ℕ, ◌+◌, ◌≤◌, List, [], ◌∷◌, ◌++◌, refl, sym, ap, ◌∙◌, arith, length-append}
 use Rattle.std.specs.Ordering.{nat_cmp}
 use Rattle.std.specs.Cmp.{nat_cmp_total}
 use Rattle.std.specs.FinMap.{nat_cmp-IsAntisymmetric}
@@ -11,12 +11,8 @@ use Rattle.held_state.specs.Partition.{free_in}
 use Rattle.held_laws.specs.lemmas.Counted.{listed-times, len-listed, free-times}
 use Rattle.held_data.specs.WritingUp.{free_count}
 use Rattle.held_data.specs.lemmas.Leaving.{all-is}
-use Rattle.held_data.specs.lemmas.Listed.{numbers-of, numbers-times}
+use Rattle.held_data.specs.lemmas.Listed.{numbers-of, numbers-times, times-append}
 use Rattle.held_data.specs.lemmas.LeavingParts.{times_free}
-
-times-append : (n : ℕ) (xs ys : List ℕ) → times_listed n (xs ++ ys) ≡ times_listed n xs + times_listed n ys
-times-append n [] ys = omega arith
-times-append n (x ∷ xs) ys = let others = times-append n xs ys in omega (arith, others)
 
 -- two sets without a common number
 pub len-union : (s t : FinSet nat_cmp) → ((m : ℕ) → one_if (contains s m) + one_if (contains t m) ≤ 1) → len (union s t) ≡ len s + len t

@@ -1,12 +1,11 @@
 -- A file that grows to an end: all stays sound, and it has the bytes, blocks and touch that it had.
-use Rattle.std.proofs.Common.{◌≡◌, ℕ, ◌+◌, ◌*◌, ◌/◌, ◌%◌, ◌<◌, ◌≤◌, ◌==◌, max, Bool, true, false, List, length, map, Option, Some, None, refl, sym, ap, ◌∙◌}
+use Rattle.std.proofs.Common.{◌≡◌, ℕ, ◌/◌, ◌%◌, ◌<◌, ◌≤◌, ◌==◌, max, Bool, false, List, length, map, Option, Some, None, refl, sym, ap, ◌∙◌}
 use Rattle.std.proofs.Common.{subst, arith}
 use Rattle.std.specs.Prelude.{if◌then◌else◌}
 use Rattle.std.proofs.lemmas.List.{length-map}
 use Rattle.std.specs.Option.{option_map}
 use Rattle.std.specs.FinMap.{get, len}
 use Rattle.std.specs.FinSet as sets
-use Rattle.nfs_model.specs.Types.{Moment}
 use Rattle.nfs_model.specs.Server.{block_size}
 use Rattle.volume_values.specs.Inodes.{RegularFile, Inode}
 use Rattle.volume_values.specs.Stripes.{Card, OfFile, OfFolder, Block, StripeValue, byte_of, touch_of, stripe_of}
@@ -14,7 +13,7 @@ use Rattle.volume_values.specs.lemmas.Numbered.{get-changed_at, itself}
 use Rattle.held_state.specs.Contents.{VolumeContents}
 use Rattle.held_state.specs.Tree.{stripe_at, home_stripe, file_byte, file_filled, file_touch}
 use Rattle.held_state.specs.Names.{size_in, size_of}
-use Rattle.held_state.specs.WellFormed.{StripeFits, BlockFits, WellFormed, size_shown}
+use Rattle.held_state.specs.WellFormed.{BlockFits, WellFormed, size_shown}
 use Rattle.held_laws.specs.lemmas.SameBlocks.{stripe-mapped, total-mapped, filled-stays, homes-stay}
 use Rattle.held_data.specs.Extending.{card_grown, stripe_grown}
 use Rattle.held_data.specs.lemmas.Refiled.{Refits, Refiles, touch-alike}

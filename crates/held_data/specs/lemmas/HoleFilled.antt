@@ -1,16 +1,15 @@
 -- A file of which one hole is filled with a block of zeros: all stays sound, and it has the bytes and touch that it had.
-use Rattle.std.proofs.Common.{◌≡◌, ◌≢◌, ℕ, zero, suc, ◌+◌, ◌*◌, ◌/◌, ◌%◌, ◌<◌, ◌≤◌, ◌==◌, ◌||◌, ◌&&◌, Bool, true, false, cond, List, [], ◌∷◌, length}
-use Rattle.std.proofs.Common.{Option, Some, None, refl, sym, ap, ◌∙◌, subst, arith, nat_eq, eq-eqb, ⊎_elim}
+use Rattle.std.proofs.Common.{◌≡◌, ◌≢◌, ℕ, zero, suc, ◌+◌, ◌*◌, ◌/◌, ◌%◌, ◌<◌, ◌==◌, ◌||◌, ◌&&◌, Bool, true, false, cond, List, [], ◌∷◌, length}
+use Rattle.std.proofs.Common.{Option, Some, None, refl, sym, ap, ◌∙◌, subst, arith, ⊎_elim}
 use Rattle.std.specs.Prelude.{is_some, slice_set, slice_index_or}
 use Rattle.std.proofs.lemmas.Bool.{cases_eq, eqb-true}
 use Rattle.std.proofs.lemmas.List.{length-set, length-replicate, get_or-set_same, get_or-set_other}
-use Rattle.std.specs.List.{range_with_len, list_any}
-use Rattle.std.specs.Option.{option_map}
+use Rattle.std.specs.List.{range_with_len}
 use Rattle.std.specs.Ordering.{nat_cmp}
 use Rattle.std.specs.Cmp.{nat_cmp_total, unsigned_tied}
 use Rattle.std.specs.FinMap.{get, len, nat_cmp-IsAntisymmetric}
 use Rattle.std.specs.FinSet as sets
-use Rattle.std.specs.FinSet.{contains, from_list, insert, contains-insert, contains-retain, contains-from_list_nat}
+use Rattle.std.specs.FinSet.{contains, from_list, insert, contains-insert, contains-from_list_nat}
 use Rattle.nfs_model.specs.Parts.{one_if}
 use Rattle.nfs_model.specs.Server.{block_size}
 use Rattle.depot_rule.specs.Sums.{total}
@@ -19,11 +18,12 @@ use Rattle.volume_values.specs.Stripes.{Block, StripeValue, stripe_of, byte_of, 
 use Rattle.held_state.specs.Contents.{VolumeContents}
 use Rattle.held_state.specs.Parcels.{no_stripe}
 use Rattle.held_state.specs.Tree.{stripe_at, home_stripe, file_byte, file_filled, file_touch, most_file_blocks}
-use Rattle.held_state.specs.WellFormed.{BlockFits, WellFormed, size_shown}
+use Rattle.held_state.specs.WellFormed.{BlockFits, WellFormed}
 use Rattle.held_state.specs.Partition.{times_in_stripe}
 use Rattle.held_data.specs.Extending.{home_changed}
 use Rattle.held_data.specs.lemmas.OneStripe.{home-put}
-use Rattle.held_data.specs.lemmas.Refiled.{Refits, Refiles, touch-alike}
+use Rattle.held_data.specs.lemmas.Refiled.{Refits, Refiles, touch-alike, some-stripes}
+use Rattle.held_data.specs.lemmas.Holes.{any-below, seen-filled-at}
 use Rattle.held_data.specs.lemmas.Grown.{card-shows, own-block}
 use Rattle.held_data.specs.lemmas.Inserted.{insert-other, insert-else, insert-here, insert-len, insert-times, zero-byte}
 
@@ -53,13 +53,8 @@ module _ (p : VolumeContents) (f b n : ℕ) (inode : Inode) (size blocks : ℕ) 
   abbrev stripes : List StripeValue
   stripes = home_changed f b (block_inserted f b n) p.stripes
 
-  some-stripes : 0 < length p.stripes
-  some-stripes =
-      let as_many = well.as_many in
-      ⊎_elim (λ (e : p.logical.stripes ≡ 8). omega (arith, e, as_many)) (λ (e : p.logical.stripes ≡ 16). omega (arith, e, as_many)) well.striped
-
   on : i < length p.stripes
-  on = let some = some-stripes in omega (arith, some)
+  on = let some = some-stripes p well in omega (arith, some)
 
   none : get was.blocks (f, b) ≡ None
   none = is-none (get was.blocks (f, b)) hole
@@ -138,38 +133,22 @@ module _ (p : VolumeContents) (f b n : ℕ) (inode : Inode) (size blocks : ℕ) 
   abbrev all : sets.FinSet nat_cmp
   all = from_list (range_with_len 0 most_file_blocks)
 
-  any-below : (a k : ℕ) → a ≤ b → b < a + k → list_any (λ y. nat_eq y b) (range_with_len a k) ≡ true
-  any-below a zero from less = absurd (omega (arith, from, less))
-  any-below a (suc k) from less = by (nat_eq a b) refl (any-below (a + 1) k)
-    where
-      by : (t : Bool) → (a == b) ≡ t → (a + 1 ≤ b → b < a + 1 + k → list_any (λ y. nat_eq y b) (range_with_len (a + 1) k) ≡ true)
-          → (t || list_any (λ y. nat_eq y b) (range_with_len (a + 1) k)) ≡ true
-      by true e others = refl
-      by false e others = ⊎_elim
-          (λ (same : a ≡ b). let t : (a == b) ≡ true = eq-eqb a b same in absurd cc)
-          (λ (ne : a ≢ b). others (omega (arith, from, ne)) (omega (arith, less)))
-          (cases_eq a b)
-
-  retained : (ts : List StripeValue) (c : ℕ) → contains (file_filled ts f) c ≡ (contains all c && is_filled (home_stripe ts f c) f c)
-  retained ts c = contains-retain all (λ k. is_filled (home_stripe ts f k) f k) c
-      (λ x same. ap (λ (k : ℕ). is_filled (home_stripe ts f k) f k) (sym (nat_cmp-IsAntisymmetric c x same)))
-
   in-all : contains all b ≡ true
-  in-all = contains-from_list_nat (range_with_len 0 most_file_blocks) b ∙ any-below 0 most_file_blocks (omega arith) (omega (arith, below))
+  in-all = contains-from_list_nat (range_with_len 0 most_file_blocks) b ∙ any-below b 0 most_file_blocks (omega arith) (omega (arith, below))
 
   filled-set : file_filled stripes f ≡ insert (file_filled p.stripes f) b
   filled-set = sets.same_set nat_cmp_total nat_cmp-IsAntisymmetric _ _ (λ q.
-      retained stripes q ∙ ap (λ t. contains all q && t) (filled-at q)
+      seen-filled-at stripes f q ∙ ap (λ t. contains all q && t) (filled-at q)
       ∙ by q (q == b) refl (is_filled (home_stripe p.stripes f q) f q)
       ∙ sym (contains-insert nat_cmp_total (file_filled p.stripes f) b q
-      ∙ (λ j. unsigned_tied q b j || retained p.stripes q j)))
+      ∙ (λ j. unsigned_tied q b j || seen-filled-at p.stripes f q j)))
     where
       by : (q : ℕ) (t : Bool) → (q == b) ≡ t → (u : Bool) → (contains all q && (t || u)) ≡ (t || (contains all q && u))
       by q true e u = ap (λ (x : Bool). x && true) (ap (contains all) (eqb-true q b e) ∙ in-all)
       by q false e u = refl
 
   not-there : contains (file_filled p.stripes f) b ≡ false
-  not-there = retained p.stripes b ∙ ap (λ t. contains all b && t) hole ∙ ap (λ (t : Bool). t && false) in-all
+  not-there = seen-filled-at p.stripes f b ∙ ap (λ t. contains all b && t) hole ∙ ap (λ (t : Bool). t && false) in-all
 
   pub fills : Refiles p f size 1 stripes
   fills = record {

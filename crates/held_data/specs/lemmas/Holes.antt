@@ -1,5 +1,5 @@
 -- The holes that bytes meet: by the stripes, and by the file that is seen.
-use Rattle.std.proofs.Common.{◌≡◌, ◌≢◌, ℕ, zero, suc, ◌+◌, ◌-◌, ◌*◌, ◌/◌, ◌%◌, ◌<◌, ◌≤◌, ◌==◌, ◌||◌, ◌&&◌, not, Bool, true, false, cond, List, [], ◌∷◌, length}
+use Rattle.std.proofs.Common.{◌≡◌, ◌≢◌, ℕ, zero, suc, ◌+◌, ◌-◌, ◌*◌, ◌/◌, ◌<◌, ◌≤◌, ◌==◌, ◌||◌, ◌&&◌, not, Bool, true, false, cond, List, [], ◌∷◌}
 use Rattle.std.proofs.Common.{nat_eq, eq-eqb, refl, sym, ap, ◌∙◌, arith, ⊎_elim}
 use Rattle.std.specs.Prelude.{if◌then◌else◌}
 use Rattle.std.proofs.lemmas.Bool.{cases_eq, eqb-true}
@@ -8,8 +8,7 @@ use Rattle.std.specs.List.{range_with_len, filter, list_any}
 use Rattle.std.specs.Ordering.{nat_cmp}
 use Rattle.std.specs.Cmp.{nat_cmp_total, unsigned_tied}
 use Rattle.std.specs.FinMap.{nat_cmp-IsAntisymmetric}
-use Rattle.std.specs.FinSet as sets
-use Rattle.std.specs.FinSet.{FinSet, contains, insert, from_list, contains-insert, contains-retain, contains-from_list_nat}
+use Rattle.std.specs.FinSet.{FinSet, contains, from_list, contains-insert, contains-retain, contains-from_list_nat}
 use Rattle.nfs_model.specs.Server.{block_size}
 use Rattle.nfs_model.specs.Serial.Write.{blocks_met, unfilled, with_blocks}
 use Rattle.volume_values.specs.Stripes.{StripeValue, is_filled}
@@ -45,7 +44,8 @@ met-filter test other offset n same = by (n == 0) refl
         range-filter test other (offset / block_size) (((offset + n - 1) / block_size + 1) - offset / block_size)
         (λ b from below. same b some from (omega (arith, below)))
 
-any-below : (b a k : ℕ) → a ≤ b → b < a + k → is_listed b (range_with_len a k) ≡ true
+-- a number of a range is listed
+pub any-below : (b a k : ℕ) → a ≤ b → b < a + k → is_listed b (range_with_len a k) ≡ true
 any-below b a zero from less = absurd (omega (arith, from, less))
 any-below b a (suc k) from less = by (nat_eq a b) refl (any-below b (a + 1) k)
   where
@@ -107,20 +107,19 @@ contains-blocks set (b ∷ bs) q =
     grouped true y z = refl
     grouped false y z = refl
 
--- a block is seen to be filled where it is there in its stripe
+-- a block is seen to be filled where it is there in its stripe, and a file may have it
+pub seen-filled-at : (stripes : List StripeValue) (f b : ℕ) → contains (file_filled stripes f) b
+    ≡ (contains (from_list {R = nat_cmp} (range_with_len 0 most_file_blocks)) b && is_filled (home_stripe stripes f b) f b)
+seen-filled-at stripes f b =
+    contains-retain (from_list (range_with_len 0 most_file_blocks)) (λ k. is_filled (home_stripe stripes f k) f k) b
+    (λ x same. ap (λ (k : ℕ). is_filled (home_stripe stripes f k) f k) (sym (nat_cmp-IsAntisymmetric b x same)))
+
+-- below the most that a file has
 pub seen-filled : (stripes : List StripeValue) (f b : ℕ) → b < most_file_blocks → contains (file_filled stripes f) b ≡ is_filled (home_stripe stripes f b) f b
 seen-filled stripes f b small =
-    contains-retain (from_list (range_with_len 0 most_file_blocks)) (λ k. is_filled (home_stripe stripes f k) f k) b
-    (λ x same. ap (λ (k : ℕ). is_filled (home_stripe stripes f k) f k) (sym (nat_cmp-IsAntisymmetric b x same)))
+    seen-filled-at stripes f b
     ∙ ap (λ (t : Bool). t && is_filled (home_stripe stripes f b) f b)
     (contains-from_list_nat (range_with_len 0 most_file_blocks) b ∙ any-below b 0 most_file_blocks (omega arith) (omega (arith, small)))
-
--- and further on there is none
-pub seen-past : (stripes : List StripeValue) (f b : ℕ) → contains (file_filled stripes f) b
-    ≡ (contains (from_list {R = nat_cmp} (range_with_len 0 most_file_blocks)) b && is_filled (home_stripe stripes f b) f b)
-seen-past stripes f b =
-    contains-retain (from_list (range_with_len 0 most_file_blocks)) (λ k. is_filled (home_stripe stripes f k) f k) b
-    (λ x same. ap (λ (k : ℕ). is_filled (home_stripe stripes f k) f k) (sym (nat_cmp-IsAntisymmetric b x same)))
 
 module _ (stripes : List StripeValue) (f offset n : ℕ) (small : offset + n ≤ block_size * most_file_blocks) where
   -- the holes are those that the serial server sees
@@ -141,7 +140,8 @@ AreHoles f size stripes from [] = Unit {0}
 AreHoles f size stripes from (b ∷ bs) = IsHole f size stripes from b × AreHoles f size stripes (b + 1) bs
 
 module _ (f size : ℕ) where
-  pub holes-earlier : (stripes : List StripeValue) (first from : ℕ) (bs : List ℕ) → first ≤ from → AreHoles f size stripes from bs → AreHoles f size stripes first bs
+  pub holes-earlier : (stripes : List StripeValue) (first from : ℕ) (bs : List ℕ) → first ≤ from → AreHoles f size stripes from bs
+      → AreHoles f size stripes first bs
   holes-earlier stripes first from [] less are = tt
   holes-earlier stripes first from (b ∷ bs) less are =
       (record { from = (let low = are.0.from in omega (arith, less, low)); starts = are.0.starts; hole = are.0.hole }, are.1)
@@ -151,11 +151,10 @@ module _ (f size : ℕ) where
       → ((c : ℕ) → from ≤ c → is_filled (home_stripe new f c) f c ≡ is_filled (home_stripe old f c) f c)
       → AreHoles f size old from bs → AreHoles f size new from bs
   holes-stay old new from [] same are = tt
-  holes-stay old new from (b ∷ bs) same are =
-      (
-        record { from = are.0.from; starts = are.0.starts; hole = same b are.0.from ∙ are.0.hole },
-        holes-stay old new (b + 1) bs (λ c low. same c (let first = are.0.from in omega (arith, low, first))) are.1,
-      )
+  holes-stay old new from (b ∷ bs) same are = (
+    record { from = are.0.from; starts = are.0.starts; hole = same b are.0.from ∙ are.0.hole },
+    holes-stay old new (b + 1) bs (λ c low. same c (let first = are.0.from in omega (arith, low, first))) are.1,
+  )
 
   range-holes : (stripes : List StripeValue) (a n : ℕ) → ((b : ℕ) → a ≤ b → b < a + n → block_size * b < size)
       → AreHoles f size stripes a (filter (λ b. not (is_filled (home_stripe stripes f b) f b)) (range_with_len a n))

@@ -1,13 +1,12 @@
 -- A file of which holes are filled, with the numbers of a hand: all stays sound, and it has the bytes and touch that it had.
-use Rattle.std.proofs.Common.{◌≡◌, ℕ, zero, suc, ◌+◌, ◌*◌, ◌<◌, ◌≤◌, ◌==◌, ◌||◌, Bool, true, false, List, [], ◌∷◌, length, Option, Some, None}
+use Rattle.std.proofs.Common.{◌≡◌, ℕ, suc, ◌+◌, ◌*◌, ◌<◌, ◌≤◌, ◌==◌, ◌||◌, Bool, true, false, List, [], ◌∷◌, length, Option, Some}
 use Rattle.std.proofs.Common.{nat_eq, eq-eqb, ne_eqb, refl, sym, ap, ◌∙◌, subst, arith, ⊎_elim}
 use Rattle.std.specs.Prelude.{if◌then◌else◌, IfSome}
 use Rattle.std.proofs.lemmas.Bool.{eqb-true}
 use Rattle.std.specs.FinMap.{get}
-use Rattle.nfs_model.specs.Parts.{Hand, Fresh, one_if, times_listed}
-use Rattle.nfs_model.specs.Server.{Node, block_size}
-use Rattle.depot_rule.specs.Sums.{total}
-use Rattle.volume_values.specs.Inodes.{InodeKind, RegularFile, Inode, inode_set}
+use Rattle.nfs_model.specs.Parts.{Hand, Fresh, times_listed}
+use Rattle.nfs_model.specs.Server.{block_size}
+use Rattle.volume_values.specs.Inodes.{RegularFile, Inode}
 use Rattle.volume_values.specs.Stripes.{StripeValue, is_filled, block_inserted}
 use Rattle.volume_values.specs.lemmas.Inodes.{inode-set-there, inode-set-twice, inode-set-same}
 use Rattle.volume_values.specs.lemmas.Numbered.{itself}
@@ -15,7 +14,7 @@ use Rattle.held_state.specs.Contents.{VolumeContents}
 use Rattle.held_state.specs.Tree.{home_stripe, file_byte, file_touch, most_file_blocks}
 use Rattle.held_state.specs.Names.{size_in, size_of}
 use Rattle.held_state.specs.WellFormed.{WellFormed, IsLargest}
-use Rattle.held_state.specs.Partition.{times_in_hand, times_in_stripe}
+use Rattle.held_state.specs.Partition.{times_in_hand}
 use Rattle.held_state.specs.Sound.{IsSound}
 use Rattle.held_data.specs.Extending.{filled_with, home_changed}
 use Rattle.held_data.specs.lemmas.Refiled.{Refiles, refiled, next_inode, sound-refiled}

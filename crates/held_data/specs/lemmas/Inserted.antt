@@ -1,17 +1,17 @@
 -- A stripe in which a block of zeros fills a hole.
-use Rattle.std.proofs.Common.{◌≡◌, ℕ, zero, suc, ◌+◌, ◌==◌, ◌&&◌, Bool, true, false, cond, List, [], ◌∷◌, map, Option, Some, None, refl, sym, ap, ◌∙◌, arith, Ordering}
+use Rattle.std.proofs.Common.{◌≡◌, ℕ, zero, suc, ◌+◌, ◌==◌, ◌&&◌, Bool, false, cond, List, [], ◌∷◌, map, Some, None, refl, sym, ap, ◌∙◌, arith, Ordering}
 use Rattle.std.specs.Prelude.{is_some, slice_index_or, replicate}
 use Rattle.std.specs.declared.cmp.Ordering.TheVariants.{Less, Equal, Greater}
 use Rattle.std.specs.Ordering.{nat_cmp, is_eq, eq_by_cmp, ordering_then}
 use Rattle.std.specs.Cmp.{unsigned_tied}
-use Rattle.std.specs.FinMap.{find, put, get, len, entries, insert, get-entries, get-insert, len-insert, entries-insert}
+use Rattle.std.specs.FinMap.{find, put, get, len, entries, get-entries, get-insert, len-insert, entries-insert}
 use Rattle.std.specs.FinMap.Entries.{by_order}
 use Rattle.nfs_model.specs.Parts.{one_if, times_listed}
 use Rattle.nfs_model.specs.Server.{block_size}
-use Rattle.volume_values.specs.Stripes.{Place, place_cmp, Block, StripeValue, byte_of, zero_block, block_inserted, is_filled}
+use Rattle.volume_values.specs.Stripes.{Place, place_cmp, Block, StripeValue, byte_of, zero_block, block_inserted}
 use Rattle.volume_values.specs.lemmas.Entries.{place_total}
 use Rattle.volume_values.specs.lemmas.Numbered.{itself}
-use Rattle.held_state.specs.Partition.{numbers_in, times_in_stripe}
+use Rattle.held_state.specs.Partition.{times_in_stripe}
 
 -- ---- zeros
 

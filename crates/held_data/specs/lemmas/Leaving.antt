@@ -1,19 +1,17 @@
 -- Block numbers that leave a set one after another, and a volume with another stock and other dead.
-use Rattle.std.proofs.Common.{◌≡◌, ℕ, zero, suc, ◌+◌, ◌*◌, ◌<◌, ◌≤◌, ◌==◌, ◌||◌, ◌&&◌, not, Bool, true, false, List, [], ◌∷◌, length}
-use Rattle.std.proofs.Common.{nat_eq, nat_lt, refl, sym, ap, ◌∙◌, arith}
+use Rattle.std.proofs.Common.{◌≡◌, ℕ, ◌+◌, ◌≤◌, ◌==◌, ◌||◌, ◌&&◌, not, Bool, true, false, List, [], ◌∷◌}
+use Rattle.std.proofs.Common.{refl, sym, ap, ◌∙◌, arith}
 use Rattle.std.proofs.lemmas.Bool.{eqb-true}
-use Rattle.std.specs.List.{list_any}
 use Rattle.std.specs.Ordering.{nat_cmp}
 use Rattle.std.specs.Cmp.{nat_cmp_total}
 use Rattle.std.specs.FinMap.{nat_cmp-IsAntisymmetric}
 use Rattle.std.specs.FinSet as sets
 use Rattle.std.specs.FinSet.{FinSet, contains, from_list, union, difference, contains-difference, contains-union, contains-from_list_nat}
-use Rattle.nfs_model.specs.Parts.{Hand, one_if, times_listed, range_blocks}
+use Rattle.nfs_model.specs.Parts.{Hand, one_if, times_listed}
 use Rattle.depot_rule.specs.Sums.{total}
 use Rattle.volume_values.specs.Ranges.{without_numbers}
 use Rattle.held_state.specs.Contents.{VolumeContents}
-use Rattle.held_state.specs.Tree.{ranges_used}
-use Rattle.held_state.specs.WellFormed.{WellFormed, StripeFits}
+use Rattle.held_state.specs.WellFormed.{WellFormed}
 use Rattle.held_state.specs.Partition.{times_in_hand}
 use Rattle.held_state.specs.Sound.{IsSound, IsYoung}
 use Rattle.held_data.specs.WritingUp.{Leave}

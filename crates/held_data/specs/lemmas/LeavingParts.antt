@@ -1,5 +1,5 @@
 -- Block numbers that leave the stock, the free and the dead of a volume one after another: what is left, and what came from where.
-use Rattle.std.proofs.Common.{◌≡◌, ◌≢◌, ℕ, zero, suc, ◌+◌, ◌*◌, ◌<◌, ◌≤◌, ◌==◌, ◌||◌, ◌&&◌, not, Bool, true, false, List, [], ◌∷◌, length}
+use Rattle.std.proofs.Common.{◌≡◌, ◌≢◌, ℕ, suc, ◌+◌, ◌<◌, ◌==◌, ◌&&◌, not, Bool, true, false, List, [], ◌∷◌, length}
 use Rattle.std.proofs.Common.{refl, sym, ap, ◌∙◌, subst, arith, inl, inr, ◌⊎◌, ⊎_elim}
 use Rattle.std.specs.Prelude.{slice_set}
 use Rattle.std.proofs.lemmas.Bool.{cases_eq}
@@ -8,18 +8,16 @@ use Rattle.std.specs.Ordering.{nat_cmp}
 use Rattle.std.specs.Cmp.{nat_cmp_total}
 use Rattle.std.specs.FinMap.{nat_cmp-IsAntisymmetric}
 use Rattle.std.specs.FinSet as sets
-use Rattle.std.specs.FinSet.{FinSet, contains, from_list, len, contains-difference}
-use Rattle.nfs_model.specs.Parts.{one_if, times_listed, range_blocks}
+use Rattle.std.specs.FinSet.{contains, from_list, len, contains-difference}
+use Rattle.nfs_model.specs.Parts.{one_if, times_listed}
 use Rattle.depot_rule.specs.Sums.{total}
 use Rattle.volume_values.specs.Ranges.{RangeValue, IsRange, taken, without_numbers}
-use Rattle.volume_values.specs.Stripes.{StripeValue}
-use Rattle.volume_values.specs.Logical.{LogicalValue}
 use Rattle.held_state.specs.Parcels.{no_range}
 use Rattle.held_state.specs.Tree.{ranges_used}
 use Rattle.held_state.specs.WellFormed.{RangeFits, range_at}
-use Rattle.held_state.specs.Lenses.{LogicalSet, VolumeSet}
+use Rattle.held_state.specs.Lenses.{VolumeSet}
 use Rattle.held_laws.specs.lemmas.Parts.{used-put}
-use Rattle.held_data.specs.WritingUp.{LeavesStock, LeavesRange, LeavesDead, LeaveParts, free_count, with_stock}
+use Rattle.held_data.specs.WritingUp.{LeavesStock, LeavesRange, LeavesDead, LeaveParts, free_count}
 use Rattle.held_data.specs.lemmas.HoleFilled.{total-put}
 use Rattle.held_data.specs.lemmas.Leaving.{one-leaves}
 use Rattle.held_data.specs.lemmas.Listed.{len-without}

@@ -1,6 +1,6 @@
 -- A set of block numbers as a list of them, and the blocks that a volume has beside those in files.
 use Rattle.std.proofs.Common.{◌≡◌, ℕ, zero, suc, ◌+◌, ◌-◌, ◌*◌, ◌≤◌, ◌||◌, ◌&&◌, not, Bool, true, false, cond, List, [], ◌∷◌, ◌++◌, length}
-use Rattle.std.proofs.Common.{nat_lt, refl, sym, ap, ◌∙◌, arith, length-append}
+use Rattle.std.proofs.Common.{refl, sym, ap, ◌∙◌, arith, length-append}
 use Rattle.std.specs.List.{list_any}
 use Rattle.std.specs.Ordering.{nat_cmp, eq_by_cmp}
 use Rattle.std.specs.Cmp.{nat_cmp_total, unsigned_tied}
@@ -79,7 +79,7 @@ numbers-times set m =
 
 -- ---- blocks in files and in the stock are no more than all
 
-times-append : (n : ℕ) (xs ys : List ℕ) → times_listed n (xs ++ ys) ≡ times_listed n xs + times_listed n ys
+pub times-append : (n : ℕ) (xs ys : List ℕ) → times_listed n (xs ++ ys) ≡ times_listed n xs + times_listed n ys
 times-append n [] ys = omega arith
 times-append n (x ∷ xs) ys = let others = times-append n xs ys in omega (arith, others)
 

@@ -1,13 +1,13 @@
 -- WRITE by what is under Logical may find no memory where it fills a hole.
-use Rattle.std.proofs.Common.{◌≡◌, ℕ, zero, suc, ◌+◌, ◌*◌, ◌<◌, ◌≤◌, Bool, true, false, List, length, Option, Some, None, nat_lt, refl, sym, ap, ◌∙◌, subst, arith}
-use Rattle.std.specs.Prelude.{if◌then◌else◌, IsTrue, Result, Ok, Err}
+use Rattle.std.proofs.Common.{◌≡◌, ℕ, suc, ◌+◌, ◌<◌, Bool, true, false, List, length, Option, Some, None, nat_lt, refl, sym, ap, ◌∙◌, subst, arith}
+use Rattle.std.specs.Prelude.{if◌then◌else◌, Ok}
 use Rattle.std.proofs.lemmas.Bool.Decides.{nat_tests}
 use Rattle.std.specs.FinMap.{get}
 use Rattle.std.specs.FinSet.{len}
-use Rattle.nfs_model.specs.Types.{Status, Write, NoSpace, WriteDone}
+use Rattle.nfs_model.specs.Types.{Write, NoSpace, WriteDone}
 use Rattle.nfs_model.specs.Tree.{Affinity, Logical, Volume}
 use Rattle.nfs_model.specs.Parts.{Hand}
-use Rattle.nfs_model.specs.Server.{FileNode, Node, File, Server, VolumeState, used}
+use Rattle.nfs_model.specs.Server.{FileNode, Node, used}
 use Rattle.nfs_model.specs.Locate.{Located, locate, node_named, unless}
 use Rattle.nfs_model.specs.Serial.Write.{Writing, bytes_kept, need}
 use Rattle.nfs_model.specs.Serial.Starve.{need_in, takes_memory}
@@ -16,7 +16,7 @@ use Rattle.held_state.specs.Contents.{VolumeContents}
 use Rattle.held_state.specs.Tree.{volume_of}
 use Rattle.held_state.specs.Sound.{IsSound}
 use Rattle.held_state.specs.Lenses.{LogicalSet, logical_lens}
-use Rattle.held_state.specs.Calls.{VolumeCall, MayStarveOn, WorksOn, located_on, answer_on, answer_of, move_on}
+use Rattle.held_state.specs.Calls.{VolumeCall, MayStarveOn, WorksOn, answer_on, answer_of}
 use Rattle.held_state.specs.Running.{RunsOn}
 use Rattle.held_attributes.specs.lemmas.Getting.{reads-right}
 use Rattle.held_laws.specs.lemmas.Counted.{used-is}
@@ -25,7 +25,7 @@ use Rattle.held_data.specs.WritingLaws.{write_call}
 use Rattle.held_data.specs.WritingUp.{bytes_due, holes_of}
 use Rattle.held_data.specs.lemmas.WrittenNodes.{file_before}
 use Rattle.held_data.specs.lemmas.Checks.{SomeBytes, Checked, checked, change_of}
-use Rattle.held_data.specs.lemmas.WrittenUp.{need-is, not-past}
+use Rattle.held_data.specs.lemmas.WrittenUp.{need-is, not-past, within-not}
 use Rattle.held_data.specs.lemmas.Listed.{stock-fits}
 
 module _ (p : VolumeContents) (f : ℕ) (handle : List ℕ) (w : Writing) (node : Affinity) (bytes : SomeBytes p f handle w node)
@@ -65,9 +65,6 @@ module _ (p : VolumeContents) (f : ℕ) (handle : List ℕ) (w : Writing) (node 
 -- ---- by what is under Logical
 
 module _ (v f k : ℕ) (handle : List ℕ) (w : Writing) where
-  within-not : (most end : ℕ) → end ≤ most → nat_lt most end ≡ false
-  within-not most end h = grind (arith, nat_tests)
-
   starves : (p : VolumeContents) (hands : List Hand) (made : ℕ) → IsSound p hands made
       → bytes_due (get p.logical.inodes.inodes f) p.logical.largest w ≡ Ok (suc k)
       → nat_lt (len p.logical.stock) (length (holes_of f w (logical_lens.of p))) ≡ false

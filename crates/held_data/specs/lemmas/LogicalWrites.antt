@@ -1,18 +1,18 @@
 -- WRITE by what is under Logical.
-use Rattle.std.proofs.Common.{◌≡◌, ℕ, zero, suc, ◌+◌, ◌-◌, ◌<◌, ◌≤◌, Bool, true, false, List, [], ◌∷◌, length, Option, Some, None, nat_lt}
+use Rattle.std.proofs.Common.{◌≡◌, ℕ, zero, suc, ◌+◌, ◌-◌, ◌≤◌, Bool, true, false, List, ◌∷◌, length, Some, None, nat_lt}
 use Rattle.std.proofs.Common.{refl, sym, ap, ◌∙◌, subst, arith}
 use Rattle.std.specs.Prelude.{if◌then◌else◌, Result, Ok, Err}
 use Rattle.std.specs.Ordering.{nat_cmp}
 use Rattle.std.specs.Cmp.{nat_cmp_total}
 use Rattle.std.specs.FinMap.{get}
 use Rattle.std.specs.FinSet as sets
-use Rattle.std.specs.FinSet.{FinSet, contains, from_list, len}
+use Rattle.std.specs.FinSet.{contains, from_list, len}
 use Rattle.nfs_model.specs.Types.{Answer, Status, Success, Failed, WriteDone}
 use Rattle.nfs_model.specs.Tree.{Logical, Volume}
 use Rattle.nfs_model.specs.Parts.{Hand, Fresh, Parts, one_if, times_listed}
 use Rattle.nfs_model.specs.Server.{FileNode, VolumeState, used}
 use Rattle.nfs_model.specs.Locate.{Effect, Fails, Tells}
-use Rattle.nfs_model.specs.Serial.Write.{Writing, bytes_kept, need}
+use Rattle.nfs_model.specs.Serial.Write.{Writing, bytes_kept}
 use Rattle.nfs_model.specs.Moves.{FilledInLogical}
 use Rattle.nfs_model.specs.Work.{Outcome, Replied, Moved}
 use Rattle.depot_rule.specs.Sums.{total}
@@ -28,7 +28,6 @@ use Rattle.held_laws.specs.lemmas.Counted.{len-listed}
 use Rattle.held_laws.specs.lemmas.Steps.{sound-later}
 use Rattle.held_data.specs.Extending.{holes}
 use Rattle.held_data.specs.WritingLaws.{write_call}
-use Rattle.held_data.specs.WritingUp as up
 use Rattle.held_data.specs.WritingUp.{bytes_due, DueInLogical, WrittenWhereEnough, WrittenFromStock, LogicalWrites}
 use Rattle.held_data.specs.lemmas.WrittenNodes.{file_before}
 use Rattle.held_data.specs.lemmas.HolesFilled.{fresh-times}

@@ -1,10 +1,10 @@
 -- Bytes that are written in two parts, one after the other, at one moment.
-use Rattle.std.proofs.Common.{◌≡◌, ℕ, zero, suc, ◌+◌, ◌-◌, ◌<◌, ◌≤◌, Bool, true, false, List, [], ◌∷◌, length, take, drop, Option, Some, None}
+use Rattle.std.proofs.Common.{◌≡◌, ℕ, zero, suc, ◌+◌, ◌-◌, ◌<◌, ◌≤◌, Bool, true, false, List, [], ◌∷◌, take, drop, Option, Some, None}
 use Rattle.std.proofs.Common.{nat_le, refl, sym, ap, ◌∙◌, arith, ⊎_elim}
 use Rattle.std.specs.Prelude.{if◌then◌else◌, slice_index_or}
 use Rattle.std.proofs.lemmas.Bool.{cases_lt}
 use Rattle.std.proofs.lemmas.Bool.Decides.{nat_tests}
-use Rattle.std.proofs.lemmas.List.{length-take, length-drop}
+use Rattle.std.proofs.lemmas.List.{length-take}
 use Rattle.nfs_model.specs.Types.{Moment}
 use Rattle.nfs_model.specs.Shown.{moment_le, touched}
 use Rattle.volume_values.specs.Stripes.{byte_written}
@@ -20,7 +20,9 @@ taken-at (x ∷ xs) (suc l) (suc i) d less = taken-at xs l i d (omega (arith, le
 dropped-at : (xs : List ℕ) (l i d : ℕ) → slice_index_or (drop l xs) i d ≡ slice_index_or xs (l + i) d
 dropped-at xs zero i d = let same : i ≡ 0 + i = omega arith in ap (λ (k : ℕ). slice_index_or xs k d) same
 dropped-at [] (suc l) i d = refl
-dropped-at (x ∷ xs) (suc l) i d = dropped-at xs l i d ∙ (let same : suc l + i ≡ suc (l + i) = omega arith in ap (λ (k : ℕ). slice_index_or (x ∷ xs) k d) (sym same))
+dropped-at (x ∷ xs) (suc l) i d =
+    dropped-at xs l i d
+    ∙ (let same : suc l + i ≡ suc (l + i) = omega arith in ap (λ (k : ℕ). slice_index_or (x ∷ xs) k d) (sym same))
 
 -- at an offset, or past it
 written-from : (offset : ℕ) (written : List ℕ) (at old : ℕ) → offset ≤ at → byte_written offset written at old ≡ slice_index_or written (at - offset) old

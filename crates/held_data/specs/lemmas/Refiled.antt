@@ -1,7 +1,7 @@
 -- A file whose stripes and inode change, so that it is no shorter: what has to hold of its stripes, and what then holds of the volume.
-use Rattle.std.proofs.Common.{◌≡◌, ◌≢◌, ℕ, zero, suc, ◌+◌, ◌*◌, ◌/◌, ◌%◌, ◌<◌, ◌≤◌, ◌==◌, Bool, true, false, List, [], ◌∷◌, length, map, Option, Some, None}
-use Rattle.std.proofs.Common.{refl, sym, ap, ◌∙◌, subst, arith, ⊎_elim, nat_lt}
-use Rattle.std.specs.Prelude.{if◌then◌else◌, is_some, IfSome}
+use Rattle.std.proofs.Common.{◌≡◌, ℕ, suc, ◌+◌, ◌/◌, ◌%◌, ◌<◌, ◌≤◌, ◌==◌, false, List, [], ◌∷◌, length, Option, Some}
+use Rattle.std.proofs.Common.{refl, sym, ap, ◌∙◌, subst, arith, ⊎_elim}
+use Rattle.std.specs.Prelude.{is_some, IfSome}
 use Rattle.std.specs.List.{range_with_len}
 use Rattle.std.specs.Option.{option_map}
 use Rattle.std.specs.FinMap.{get, len}
@@ -9,7 +9,7 @@ use Rattle.std.specs.FinSet as sets
 use Rattle.nfs_model.specs.Server.{block_size}
 use Rattle.nfs_model.specs.Parts.{Hand}
 use Rattle.depot_rule.specs.Sums.{total}
-use Rattle.volume_values.specs.Inodes.{InodeKind, RegularFile, Inode, InodesValue, filled_blocks, inode_of, inode_set}
+use Rattle.volume_values.specs.Inodes.{RegularFile, Inode, InodesValue, filled_blocks, inode_of, inode_set}
 use Rattle.volume_values.specs.Stripes.{Block, StripeValue, stripe_of, byte_of, touch_of}
 use Rattle.volume_values.specs.lemmas.Inodes.{inode-set-there, inode-set-other, next-set, used-set, len-set, set-is}
 use Rattle.held_state.specs.Contents.{VolumeContents}
@@ -20,6 +20,12 @@ use Rattle.held_state.specs.Partition.{times_in_stripe, times_in_hand}
 use Rattle.held_state.specs.Sound.{IsSound}
 use Rattle.held_laws.specs.lemmas.SameNames.{SamePlaces, named-same}
 use Rattle.held_nodes.specs.lemmas.Others as others
+
+-- a volume has stripes
+pub some-stripes : (p : VolumeContents) → WellFormed p → 0 < length p.stripes
+some-stripes p well =
+    let as_many = well.as_many in
+    ⊎_elim (λ (e : p.logical.stripes ≡ 8). omega (arith, e, as_many)) (λ (e : p.logical.stripes ≡ 16). omega (arith, e, as_many)) well.striped
 
 -- ---- a stripe
 
@@ -131,17 +137,12 @@ module _ (p : VolumeContents) (f : ℕ) (inode : Inode) (old_size blocks : ℕ) 
 
   -- ---- homes
 
-  some-stripes : 0 < length p.stripes
-  some-stripes =
-      let as_many = well.as_many in
-      ⊎_elim (λ (e : p.logical.stripes ≡ 8). omega (arith, e, as_many)) (λ (e : p.logical.stripes ≡ 16). omega (arith, e, as_many)) well.striped
-
   -- a block of another file
   pub home-other : (q block at : ℕ) → (q == f) ≡ false
       → get (home_stripe stripes q block).blocks (q, at) ≡ get (home_stripe p.stripes q block).blocks (q, at)
   home-other q block at ne =
       ap (λ (n : ℕ). get (stripe_at stripes (stripe_of n q block)).blocks (q, at)) new.as_many
-      ∙ (new.each (stripe_of (length p.stripes) q block) (let some = some-stripes in omega (arith, some))).blocks q at ne
+      ∙ (new.each (stripe_of (length p.stripes) q block) (let some = some-stripes p well in omega (arith, some))).blocks q at ne
 
   pub filled-other : (q : ℕ) → (q == f) ≡ false → file_filled stripes q ≡ file_filled p.stripes q
   filled-other q ne = λ j. sets.retain (sets.from_list (range_with_len 0 most_file_blocks)) (λ block. is_some (home-other q block block ne j))

@@ -1,14 +1,14 @@
 -- Bytes of one span or of two, whose blocks are there, written within a file: all stays sound, and the file has them.
-use Rattle.std.proofs.Common.{◌≡◌, ℕ, zero, suc, ◌+◌, ◌-◌, ◌*◌, ◌/◌, ◌%◌, ◌<◌, ◌≤◌, ◌==◌, Bool, true, false, List, [], ◌∷◌, length, take, drop, min}
-use Rattle.std.proofs.Common.{Option, Some, None, refl, sym, ap, ◌∙◌, subst, arith, inl, inr, ◌⊎◌}
+use Rattle.std.proofs.Common.{◌≡◌, ℕ, ◌+◌, ◌-◌, ◌*◌, ◌/◌, ◌<◌, ◌≤◌, true, List, [], ◌∷◌, length, take, drop, min}
+use Rattle.std.proofs.Common.{Option, Some, None, refl, sym, ap, ◌∙◌, subst, arith, inr}
 use Rattle.std.specs.Prelude.{slice_set}
 use Rattle.std.specs.Option.{option_map}
 use Rattle.std.proofs.lemmas.List.{length-take, length-drop, take_all}
-use Rattle.std.specs.List.{list_all, range_with_len}
+use Rattle.std.specs.List.{list_all}
 use Rattle.std.specs.FinMap.{get}
 use Rattle.nfs_model.specs.Types.{Moment}
 use Rattle.nfs_model.specs.Parts.{Hand}
-use Rattle.nfs_model.specs.Server.{Node, File, block_size}
+use Rattle.nfs_model.specs.Server.{block_size}
 use Rattle.nfs_model.specs.Home.{span_bytes}
 use Rattle.nfs_model.specs.Serial.Write.{blocks_met}
 use Rattle.nfs_model.specs.Shown.{touched}
@@ -20,16 +20,16 @@ use Rattle.held_state.specs.Tree.{stripe_at, home_stripe, file_byte, file_filled
 use Rattle.held_state.specs.Names.{size_in, size_of}
 use Rattle.held_state.specs.WellFormed.{size_shown}
 use Rattle.held_state.specs.Sound.{IsSound}
-use Rattle.held_state.specs.Lenses.{stripe_lens}
 use Rattle.held_state.specs.Calls.{LieIn}
 use Rattle.held_data.specs.Extending.{span_written, spans_written, left_of_span}
+use Rattle.held_data.specs.lemmas.Refiled.{some-stripes}
 use Rattle.held_data.specs.lemmas.Else.{SeenAlike, put-twice}
 use Rattle.held_data.specs.lemmas.Grown.{card-shows}
 use Rattle.held_data.specs.lemmas.Met.{met-tests, block-home}
 use Rattle.held_data.specs.lemmas.OneStripe.{home-same}
 use Rattle.held_data.specs.lemmas.Overwritten.{filled-same}
 use Rattle.held_data.specs.lemmas.WrittenFits.{sound-written}
-use Rattle.held_data.specs.lemmas.WrittenNodes.{volume-written, file_before, byte-now, filled-kept, touch-now}
+use Rattle.held_data.specs.lemmas.WrittenNodes.{volume-written, byte-now, filled-kept, touch-now}
 use Rattle.held_data.specs.lemmas.Neighbours.{written-twice, touched-twice}
 
 -- the blocks that bytes meet are there
@@ -58,8 +58,8 @@ module _ (p : VolumeContents) (f : ℕ) (inode : Inode) (size blocks : ℕ) (ver
 
   -- ---- one span
 
-  module _ (stripes : List StripeValue) (made : ℕ) (sound : IsSound (restriped stripes p) hands made) (offset : ℕ) (written : List ℕ) (some : 0 < length written)
-      (within : offset + length written ≤ size) (one : offset / span_bytes ≡ (offset + length written - 1) / span_bytes)
+  module _ (stripes : List StripeValue) (made : ℕ) (sound : IsSound (restriped stripes p) hands made) (offset : ℕ) (written : List ℕ)
+      (some : 0 < length written) (within : offset + length written ≤ size) (one : offset / span_bytes ≡ (offset + length written - 1) / span_bytes)
       (all : AreThere f offset (length written) stripes) where
     abbrev q : VolumeContents
     q = restriped stripes p
@@ -67,17 +67,8 @@ module _ (p : VolumeContents) (f : ℕ) (inode : Inode) (size blocks : ℕ) (ver
     abbrev i : ℕ
     i = stripe_of (length stripes) f (offset / block_size)
 
-    some-stripes : 0 < length stripes
-    some-stripes =
-        let as_many = sound.well_formed.as_many in
-        by as_many sound.well_formed.striped
-      where
-        by : length stripes ≡ p.logical.stripes → (p.logical.stripes ≡ 8) ⊎ (p.logical.stripes ≡ 16) → 0 < length stripes
-        by same (inl e) = omega (arith, same, e)
-        by same (inr e) = omega (arith, same, e)
-
     on : i < length stripes
-    on = let more = some-stripes in omega (arith, more)
+    on = let more = some-stripes q sound.well_formed in omega (arith, more)
 
     lies : LieIn (length stripes) i f offset (length written)
     lies = record { span = inr one; stripe = refl }

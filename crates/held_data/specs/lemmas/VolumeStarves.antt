@@ -1,11 +1,10 @@
 -- WRITE by what is under Volume may find no memory where it fills a hole.
-use Rattle.std.proofs.Common.{◌≡◌, ℕ, suc, ◌+◌, ◌<◌, Bool, false, List, length, Option, Some, None, nat_lt, refl, sym, ap, ◌∙◌, subst, arith}
-use Rattle.std.specs.Prelude.{if◌then◌else◌, Result, Ok}
+use Rattle.std.proofs.Common.{◌≡◌, ℕ, suc, ◌+◌, ◌<◌, Bool, false, List, length, Some, None, nat_lt, refl, sym, ap, ◌∙◌, subst}
+use Rattle.std.specs.Prelude.{if◌then◌else◌, Ok}
 use Rattle.std.specs.FinMap.{get}
-use Rattle.nfs_model.specs.Types.{Status}
 use Rattle.nfs_model.specs.Tree.{Volume}
 use Rattle.nfs_model.specs.Parts.{Hand}
-use Rattle.nfs_model.specs.Serial.Write.{Writing, bytes_kept}
+use Rattle.nfs_model.specs.Serial.Write.{Writing}
 use Rattle.nfs_model.specs.Work.{Starved}
 use Rattle.held_state.specs.Contents.{VolumeContents}
 use Rattle.held_state.specs.Sound.{IsSound}

@@ -1,12 +1,12 @@
 -- WRITE by what is under Volume.
-use Rattle.std.proofs.Common.{◌≡◌, ℕ, zero, suc, ◌+◌, ◌-◌, ◌*◌, ◌<◌, ◌≤◌, ◌&&◌, Bool, true, false, List, [], ◌∷◌, length, Option, Some, None, nat_lt}
+use Rattle.std.proofs.Common.{◌≡◌, ℕ, zero, suc, ◌+◌, ◌-◌, ◌&&◌, Bool, true, false, List, [], ◌∷◌, length, Some, None, nat_lt}
 use Rattle.std.proofs.Common.{refl, sym, ap, ◌∙◌, subst, arith}
 use Rattle.std.specs.Prelude.{if◌then◌else◌, is_none, Result, Ok, Err}
 use Rattle.std.specs.FinMap.{get}
 use Rattle.std.specs.FinSet.{len}
 use Rattle.nfs_model.specs.Types.{Answer, Status, NoSpace, Success, Failed, WriteDone}
 use Rattle.nfs_model.specs.Tree.{Volume}
-use Rattle.nfs_model.specs.Parts.{Hand, Fresh, range_blocks}
+use Rattle.nfs_model.specs.Parts.{Hand, Fresh}
 use Rattle.nfs_model.specs.Server.{FileNode, VolumeState, used}
 use Rattle.nfs_model.specs.Locate.{Effect, Fails, Tells, unless}
 use Rattle.nfs_model.specs.Serial.Write.{Writing, bytes_kept, need}
@@ -14,10 +14,10 @@ use Rattle.nfs_model.specs.Moves.{FilledInVolume}
 use Rattle.nfs_model.specs.Work.{Outcome, Replied, Moved}
 use Rattle.depot_rule.specs.Sums.{total}
 use Rattle.held_state.specs.Contents.{VolumeContents}
-use Rattle.held_state.specs.Tree.{volume_of, ranges_used}
-use Rattle.held_state.specs.Partition.{files_in, free_in, parts_of, times_in_hand}
+use Rattle.held_state.specs.Tree.{volume_of}
+use Rattle.held_state.specs.Partition.{files_in, parts_of, times_in_hand}
 use Rattle.held_state.specs.Sound.{IsSound}
-use Rattle.held_state.specs.Lenses.{LogicalSet, VolumeSet, logical_lens, volume_lens}
+use Rattle.held_state.specs.Lenses.{LogicalSet, VolumeSet, volume_lens}
 use Rattle.held_state.specs.Calls.{VolumeCall, WorksOn, move_on, answer_of, volume_left}
 use Rattle.held_state.specs.Running.{RunsOn}
 use Rattle.held_laws.specs.lemmas.Counted.{used-is}

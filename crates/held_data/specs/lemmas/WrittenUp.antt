@@ -1,27 +1,24 @@
 -- At least one byte written by what is above a stripe, with numbers that left their parts of the volume for the holes.
-use Rattle.std.proofs.Common.{◌≡◌, ℕ, ◌+◌, ◌-◌, ◌*◌, ◌<◌, ◌≤◌, ◌||◌, Bool, true, false, List, [], ◌∷◌, length, Option, Some, None, nat_lt}
-use Rattle.std.proofs.Common.{refl, sym, ap, ◌∙◌, subst, arith}
+use Rattle.std.proofs.Common.{◌≡◌, ℕ, ◌+◌, ◌-◌, ◌*◌, ◌≤◌, Bool, false, List, ◌∷◌, length, Some, None, nat_lt}
+use Rattle.std.proofs.Common.{ap, ◌∙◌, arith}
 use Rattle.std.specs.Prelude.{if◌then◌else◌}
 use Rattle.std.proofs.lemmas.Bool.Decides.{nat_tests}
 use Rattle.std.proofs.lemmas.List.{length-take}
 use Rattle.std.specs.Ordering.{nat_cmp}
-use Rattle.std.specs.FinMap.{get}
-use Rattle.std.specs.FinSet as sets
-use Rattle.std.specs.FinSet.{FinSet, contains, from_list}
+use Rattle.std.specs.FinSet.{FinSet, contains}
 use Rattle.nfs_model.specs.Types.{NoSpace}
 use Rattle.nfs_model.specs.Tree.{Affinity}
 use Rattle.nfs_model.specs.Parts.{Hand, Fresh, one_if, times_listed, range_blocks}
-use Rattle.nfs_model.specs.Server.{FileNode, File, VolumeState, block_size, used, most_bytes}
+use Rattle.nfs_model.specs.Server.{FileNode, File, VolumeState, used, most_bytes}
 use Rattle.nfs_model.specs.Locate.{unless}
 use Rattle.nfs_model.specs.Serial.Setattr.{with_node}
 use Rattle.nfs_model.specs.Serial.Write.{Writing, bytes_kept, need, written_file}
 use Rattle.depot_rule.specs.Sums.{total}
 use Rattle.volume_values.specs.Ranges.{RangeValue}
-use Rattle.volume_values.specs.Directories.{DirectoryValue}
 use Rattle.held_state.specs.Contents.{VolumeContents}
 use Rattle.held_state.specs.Tree.{volume_of, ranges_used}
-use Rattle.held_state.specs.Partition.{files_in, times_in_stripe, times_in_hand}
-use Rattle.held_state.specs.Sound.{IsSound, IsYoung}
+use Rattle.held_state.specs.Partition.{files_in, times_in_hand}
+use Rattle.held_state.specs.Sound.{IsSound}
 use Rattle.held_state.specs.Lenses.{logical_lens}
 use Rattle.held_laws.specs.lemmas.Counted.{used-is}
 use Rattle.held_laws.specs.lemmas.Limits.{used-fits}
@@ -35,12 +32,12 @@ use Rattle.held_data.specs.lemmas.HolesFilled.{fresh-times}
 use Rattle.held_data.specs.lemmas.Extended.{sound-extended, used-extended, next-extended, volume-extended}
 use Rattle.held_data.specs.lemmas.Checks.{SomeBytes, change_of}
 use Rattle.held_data.specs.lemmas.Leaving.{one-at-most, sound-as}
-use Rattle.held_data.specs.lemmas.Carrying.{used-more, listed-count, files-count}
+use Rattle.held_data.specs.lemmas.Carrying.{used-more, files-count}
 
 pub not-past : (most end : ℕ) → nat_lt most end ≡ false → end ≤ most
 not-past most end h = grind (arith, nat_tests)
 
-within-not : (most end : ℕ) → end ≤ most → nat_lt most end ≡ false
+pub within-not : (most end : ℕ) → end ≤ most → nat_lt most end ≡ false
 within-not most end h = grind (arith, nat_tests)
 
 module _ (p : VolumeContents) (f : ℕ) (handle : List ℕ) (w : Writing) (node : Affinity) (bytes : SomeBytes p f handle w node)
