@@ -3,4 +3,4 @@ use Rattle.std.specs.Prelude.{ℕ}
 
 -- the most bytes of a reply record to such a call, or to a record that is refused
 abbrev pub reply_limit : ℕ
-reply_limit = 65568
+reply_limit = 65584

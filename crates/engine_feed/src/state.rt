@@ -14,7 +14,7 @@ use std::alloc::Global;
 pub(crate) const PLACES: usize = 1_024;
 
 /// The most bytes of the reply record of a call that is offered, or of a record that is refused.
-pub(crate) const REPLY_LIMIT: usize = 65_568;
+pub(crate) const REPLY_LIMIT: usize = 65_584;
 
 /// A connection that is open.
 #[derive(Drop)]
