@@ -23,7 +23,15 @@ ghost use Rattle.nfs_model.specs.Types.{Listed};
 ghost use Rattle.nfs_model.specs.Serial.Readdir.{above_cookie, entry_size, fitting};
 ghost use Rattle.nfs_values.specs.Answer.{entry_of};
 ghost use Rattle.volume_values.specs.Directories.{empty_directory, added, page};
-ghost use Rattle.directories.specs.Entries.{listed, IsRising, under, has, dropped, fitting_in, page_value};
+ghost use Rattle.directories.specs.Entries.{
+  listed,
+  IsRising,
+  under,
+  has,
+  dropped,
+  fitting_in,
+  page_value,
+};
 ghost use Rattle.directories.specs.Slots.{in_slot, in_order, IsOrdered};
 
 use crate::page::Page;
@@ -174,9 +182,11 @@ fn place_after(slots: &[Slot], order: &Sequence<u32>, cookie: Cookie) -> usize
 {
     let mut low = 0;
     let mut high = order.len();
+    let mut part = order.part();
     while low < high {
+        part = part.narrowed(low, high);
         let middle = low + (high - low) / 2;
-        if entry_in(slots, order.at(middle)).cookie.0 <= cookie.0 {
+        if entry_in(slots, part.at(middle)).cookie.0 <= cookie.0 {
             low = middle + 1;
         } else {
             high = middle;

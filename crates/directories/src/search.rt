@@ -33,10 +33,12 @@ pub fn find_place(entries: &Entries, index: &Sequence<Spot>, name: &[u8]) -> Sea
     let mut low = 0;
     let mut high = index.len();
     let mut compared = 0;
+    let mut part = index.part();
     while low < high {
+        part = part.narrowed(low, high);
         let middle = low + (high - low) / 2;
         compared += 1;
-        match compare(entries, index.at(middle), name) {
+        match compare(entries, part.at(middle), name) {
             Ordering::Less => low = middle + 1,
             Ordering::Greater => high = middle,
             Ordering::Equal => {

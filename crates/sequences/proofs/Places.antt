@@ -1,8 +1,10 @@
 -- A list in three parts, read and changed at a place.
-use Rattle.std.proofs.Common.{◌≡◌, refl, sym, ◌∙◌, ap, ℕ, zero, suc, ◌-◌, ◌<◌, ◌≤◌, List, [], ◌∷◌, ◌++◌, length, take, drop, Some, slice_set, arith, append_assoc}
+use Rattle.std.proofs.Common.{◌≡◌, refl, sym, ◌∙◌, ap, ℕ, zero, suc, ◌+◌, ◌-◌, ◌<◌, ◌≤◌, List, [], ◌∷◌, ◌++◌, length, take, drop, Some}
+use Rattle.std.proofs.Common.{slice_set, arith, append_assoc, length-append}
 use Rattle.std.specs.List.{slice_get, insert, remove}
 use Rattle.std.proofs.lemmas.List.{drop-append-le, take-append-drop, length-take-le, take_min, length-take, set-append_left, set-append_right}
-use Rattle.std.proofs.lemmas.List.Edits.{insert-append_left, insert-append_right, remove-append_left, remove-append_right}
+use Rattle.sequences.specs.Values.{HasPlaces}
+use Rattle.std.proofs.lemmas.List.Edits.{length-insert, insert-append_left, insert-append_right, remove-append_left, remove-append_right}
 
 -- ---- an element
 
@@ -116,3 +118,44 @@ module _ {T : Type 0} (xs : List T) (kept i : ℕ) (x : T) where
   pub in-upper : kept ≤ length xs → kept ≤ i → take kept xs ++ insert (drop kept xs) (i - kept) x ≡ insert xs i x
   in-upper w h =
       sym (insert-append_right (take kept xs) (drop kept xs) kept i x (length-take-le kept xs w) h) ∙ ap (λ l. insert l i x) (take-append-drop kept xs)
+
+-- ---- a side that has some places
+
+get-front : {T : Type 0} (l m : List T) (i : ℕ) → i < length l → slice_get l i ≡ slice_get (l ++ m) i
+get-front [] m i h = absurd (omega (arith, h))
+get-front (y ∷ l) m zero h = refl
+get-front (y ∷ l) m (suc i) h = get-front l m i (omega (arith, h))
+
+module _ {T : Type 0} (all l c r : List T) (low high first : ℕ) (h : HasPlaces all low high first (l ++ (c ++ r))) where
+  pub places-left : high ≤ first + length l → HasPlaces all low high first l
+  places-left e = record {
+    begins = h.begins;
+    ends = e;
+    same = λ place a b. get-front l (c ++ r) (place - first) (let s = h.begins in omega (arith, e, a, b, s)) ∙ h.same place a b;
+  }
+
+  pub places-right : (begin : ℕ) → begin ≡ first + length l + length c → begin ≤ low → HasPlaces all low high begin r
+  places-right begin is e = record {
+    begins = e;
+    ends =
+        let n = length-append l (c ++ r) in let m = length-append c r in let s = h.ends in omega (arith, n, m, s, is);
+    same = λ place a b.
+        let far : length l ≤ place - first = omega (arith, e, a, is) in
+        let farther : length c ≤ place - first - length l = omega (arith, e, a, is) in
+        let at : place - first - length l - length c ≡ place - begin = omega (arith, e, a, is) in
+        ap (λ k. slice_get r k) (sym at)
+        ∙ (sym (get-right c r (place - first - length l) farther) ∙ (sym (get-right l (c ++ r) (place - first) far) ∙ h.same place a b));
+  }
+
+-- ---- room for the count
+
+pub upper-fits : {T : Type 0} (all l c r low high : List T) (i : ℕ) (x : T) (most : ℕ) → all ≡ l ++ (c ++ r) → low ++ high ≡ insert c i x → i ≤ length c
+    → length all + 1 < most → length high + length r < most
+upper-fits all l c r low high i x most is apart h f =
+    let whole : length all ≡ length (l ++ (c ++ r)) = ap (λ y. length y) is in
+    let parts : length (low ++ high) ≡ length (insert c i x) = ap (λ y. length y) apart in
+    let more = length-insert c i x h in
+    let a = length-append low high in
+    let b = length-append l (c ++ r) in
+    let d = length-append c r in
+    omega (arith, whole, parts, more, a, b, d, f)

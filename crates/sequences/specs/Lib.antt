@@ -2,3 +2,4 @@ pub mod Values
 pub mod Trees
 pub mod Opened
 pub mod Falls
+pub mod lemmas

@@ -1,5 +1,6 @@
 -- What a tree of items is seen as, and how high trees are.
-use Rattle.std.specs.Prelude.{◌≡◌, ℕ, ◌+◌, ◌≤◌, max, List, []}
+use Rattle.std.specs.Prelude.{◌≡◌, ℕ, ◌+◌, ◌-◌, ◌<◌, ◌≤◌, max, List, [], length}
+use Rattle.std.specs.List.{slice_get}
 
 -- the items in order, and the number of levels
 pub record TreeValue (T : Type 0) : Type 0 where
@@ -22,3 +23,14 @@ pub record IsHeightOver (left : ℕ) (right : ℕ) (height : ℕ) : Type 0 where
 -- a height stays or is one more
 abbrev pub MayRise : ℕ → ℕ → Type 0
 MayRise old new = (old ≤ new) × (new ≤ old + 1)
+
+-- a part of a sequence: the place that it begins at, and its items
+pub record PartValue (T : Type 0) : Type 0 where
+  pub first : ℕ
+  pub items : List T
+
+-- Items that begin at a place are those of a sequence between two places.
+pub record HasPlaces {T : Type 0} (all : List T) (low : ℕ) (high : ℕ) (first : ℕ) (items : List T) : Type 0 where
+  pub begins : first ≤ low
+  pub ends : high ≤ first + length items
+  pub same : (place : ℕ) → low ≤ place → place < high → slice_get items (place - first) ≡ slice_get all place

@@ -105,20 +105,20 @@ fn lean_right<T: Copy>(parts: Parts<T>) -> Tree<T>
         Some(top) => top,
         None => unreachable!(),
     };
-    let before = Parts {
+    let front = Parts {
         left,
         chunk,
         right: top.left,
     };
-    let after = Parts {
+    let back = Parts {
         left: top.right,
         chunk: upper.chunk,
         right: upper.right,
     };
     Parts {
-        left: before.join(),
+        left: front.join(),
         chunk: top.chunk,
-        right: after.join(),
+        right: back.join(),
     }
     .join()
 }

@@ -4,9 +4,11 @@
 mod balance;
 mod change;
 mod chunk;
+mod part;
 mod room;
 mod sequence;
 mod tree;
 
+pub use part::Part;
 pub use room::Room;
 pub use sequence::Sequence;

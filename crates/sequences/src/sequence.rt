@@ -1,14 +1,36 @@
 //! A sequence of items by place.
 
-ghost use Rattle.std.specs.Prelude.{◌≡◌, ◌+◌, ◌<◌, ◌≤◌, ◌^◌, ◌==◌, [], ◌∷◌, ◌++◌, length, take, drop, Some, IfOk, slice_set};
+ghost use Rattle.std.specs.Prelude.{
+  ◌≡◌,
+  ◌<◌,
+  ◌≤◌,
+  ◌^◌,
+  [],
+  ◌∷◌,
+  ◌++◌,
+  length,
+  take,
+  drop,
+  Some,
+  IfOk,
+  slice_set,
+};
 ghost use Rattle.std.specs.List.{slice_get, insert, remove};
+ghost use Rattle.sequences.specs.Values.{HasPlaces};
 
 use crate::change::{inserted, removed};
+use crate::part::Part;
 use crate::room::Room;
 use crate::tree::Tree;
 use std::alloc::{AllocError, Global};
 use std::marker::Model;
 use std::mem;
+
+/// How many items the first chunk has room for.
+const LEAST: usize = 4;
+
+/// How many items a chunk has room for at most.
+const MOST: usize = 256;
 
 /// Items by place. An item is found, comes in or goes in time logarithmic in their number.
 pub struct Sequence<T> {
@@ -64,6 +86,13 @@ impl<T: Copy> Sequence<T> {
         self.tree.run_at(place)[0]
     }
 
+    /// The part that has all items.
+    pub fn part(&self) -> Part<'_, T>
+        ensures { HasPlaces self.now 0 (length self.now) result.first result.items }
+    {
+        Part::whole(&self.tree)
+    }
+
     /// The items that stand together in memory from a place on: some, and not always all.
     pub fn run_at(&self, place: usize) -> &[T]
         requires { place < length self.now }
@@ -85,7 +114,7 @@ impl<T: Copy> Sequence<T> {
         }
         match self.spare.take() {
             Some(room) => Ok(room),
-            None => Room::new(self.alloc, size.clamp(4, 64)),
+            None => Room::new(self.alloc, size.clamp(LEAST, MOST)),
         }
     }
 

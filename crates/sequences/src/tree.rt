@@ -7,12 +7,13 @@ ghost use Rattle.std.specs.Prelude.{
   ◌≤◌,
   ◌^◌,
   max,
+  List,
   length,
   take,
   drop,
   slice_set,
 };
-ghost use Rattle.sequences.specs.Values.{no_items, DifferByAtMost};
+ghost use Rattle.sequences.specs.Values.{no_items, DifferByAtMost, HasPlaces};
 
 use std::marker::Model;
 use std::mem;
@@ -143,6 +144,32 @@ impl<T: Copy> Tree<T> {
                     return &node.items[here..];
                 }
                 node.right.run_at(here - node.items.len())
+            }
+        }
+    }
+
+    /// The least side that has the items between two places, with the place that it begins at,
+    /// where the tree begins at one.
+    pub(crate) fn narrowed(&self, first: usize, low: usize, high: usize) -> (&Tree<T>, usize)
+        requires { first + length self.now.items < 2 ^ 64 }
+        ensures inside { result.1 + length result.0.now.items ≤ first + length self.now.items }
+        ensures places { (all : List T)
+            → HasPlaces all low high first self.now.items
+            → HasPlaces all low high result.1 result.0.now.items }
+    {
+        match &self.root {
+            Root::Empty => (self, first),
+            Root::Fork(node) => {
+                let node: &Node<T> = node;
+                let start = first + node.before;
+                if high <= start {
+                    return node.left.narrowed(first, low, high);
+                }
+                let end = start + node.items.len();
+                if end <= low {
+                    return node.right.narrowed(end, low, high);
+                }
+                (self, first)
             }
         }
     }

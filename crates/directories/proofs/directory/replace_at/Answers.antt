@@ -37,7 +37,8 @@ returns-clause-indexed c =
     let next = c.in_ok-cookie.ensures.cookie in
     rw (c.set.ensures, cookies-set, c.remove.ensures, c.in_ok-cookie.ensures.ok)
     (indexed-replaced d index c.args.place c.at-old.result.cookie _ c.args.name c.args.fileid.0 c.requires.indexed c.requires.there
-    (cookie-at c.args.by_name.now c.args.place c.at-old.result c.at-old.ensures) (name-inside d.list index c.args.place c.args.name c.requires.there) (omega (arith, next)))
+    (cookie-at c.args.by_name.now c.args.place c.at-old.result c.at-old.ensures) (name-inside d.list index c.args.place c.args.name c.requires.there)
+    (omega (arith, next)))
 
 pub returns-clause-ok : goal.returns-clause-ok
 returns-clause-ok c =

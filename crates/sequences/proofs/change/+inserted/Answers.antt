@@ -1,6 +1,5 @@
-use Rattle.std.proofs.Common.{◌≡◌, ◌∙◌, ◌-◌, ◌++◌, ap, arith, length, length-append}
-use Rattle.std.proofs.lemmas.List.Edits.{length-insert}
-use Rattle.sequences.proofs.Places.{insert-middle, insert-apart, insert-right}
+use Rattle.std.proofs.Common.{◌≡◌, ◌∙◌, ◌-◌, arith, length}
+use Rattle.sequences.proofs.Places.{insert-middle, insert-apart, insert-right, upper-fits}
 use Rattle.sequences.proofs.change.+inserted.Goals as goal
 
 pub returns-then-size-capacity-clause-items : goal.returns-then-size-capacity-clause-items
@@ -16,13 +15,8 @@ with_first-right-requires-clause-fits g t c =
     let p = c.in-Some.parts in
     let size : c.len-size.result ≡ length p.chunk.value.items.items = rw c.deref.ensures at c.len-size.ensures ∙ p.chunk.value.items.ok.0 in
     let apart = rw c.deref_mut-then-here-size-2.ensures.value at c.split.ensures.items in
-    let n = ap length apart in
-    let m = length-insert p.chunk.value.items.items (c.args.place - c.len-2.result) c.args.item (omega (arith, size, c.if-here-size-2.true)) in
-    let a = length-append c.split.new.chunk.items c.split.new.upper.items in
-    let whole = ap length c.in-Some.ensures.items in
-    let b = length-append p.left.items (p.chunk.value.items.items ++ p.right.items) in
-    let d = length-append p.chunk.value.items.items p.right.items in
-    omega (arith, n, m, a, whole, b, d)
+    upper-fits c.args.tree.items p.left.items p.chunk.value.items.items p.right.items c.split.new.chunk.items c.split.new.upper.items
+    (c.args.place - c.len-2.result) c.args.item _ c.in-Some.ensures.items apart (omega (arith, size, c.if-here-size-2.true)) c.requires.fits
 
 pub returns-then-here-size-2-clause-items : goal.returns-then-here-size-2-clause-items
 returns-then-here-size-2-clause-items g t c =
