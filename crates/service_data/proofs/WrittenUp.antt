@@ -1,30 +1,33 @@
 -- WRITE by what is under Logical, as its checks come out.
-use Rattle.std.proofs.Common.{◌≡◌, ℕ, zero, suc, ◌+◌, ◌*◌, ◌<◌, ◌≤◌, ◌==◌, min, not, Bool, true, false, List, length, take, Option, Some, None, Result, Ok, Err, nat_lt}
+use Rattle.std.proofs.Common.{◌≡◌, ℕ, zero, suc, ◌+◌, ◌≤◌, ◌==◌, min, not, Bool, true, false, List, length, take, Option, Some, None, Result, Ok, Err, nat_lt}
 use Rattle.std.proofs.Common.{refl, sym, ap, ◌∙◌, subst, arith}
 use Rattle.std.specs.Prelude.{if◌then◌else◌}
 use Rattle.std.specs.declared.alloc.AllocError.{AllocError}
 use Rattle.std.proofs.lemmas.Bool.{eqb-true}
 use Rattle.std.proofs.lemmas.List.{length-take, take_min}
 use Rattle.std.specs.FinMap.{get}
-use Rattle.std.specs.FinSet.{len}
 use Rattle.nfs_model.specs.Types as types
 use Rattle.nfs_model.specs.Types.{WriteDone, Failed, Success}
-use Rattle.nfs_model.specs.Tree.{Volume}
+use Rattle.nfs_model.specs.Tree.{Volume, Logical}
 use Rattle.nfs_model.specs.Server.{most_bytes}
 use Rattle.nfs_model.specs.Serial.Write.{Writing, bytes_kept}
-use Rattle.nfs_model.specs.Work.{Outcome, Replied, Moved}
+use Rattle.nfs_model.specs.Work.{Outcome, Replied, Moved, Starved}
 use Rattle.nfs_values.specs.Status.{status_of}
+use Rattle.nfs_values.specs.declared.answer.WriteResults.{WriteResults}
 use Rattle.nfs_values.specs.declared.status.Status.{Status}
 use Rattle.nfs_values.specs.declared.status.Status.TheVariants.{Invalid, TooBig}
-use Rattle.volume_values.specs.Inodes.{InodeKind, RegularFile, Folder, Inode, IsInodes, filled_blocks}
+use Rattle.volume_values.specs.Inodes.{InodeKind, RegularFile, Folder, Inode, IsInodes}
 use Rattle.volume_values.specs.lemmas.Inodes.{filled-within}
 use Rattle.volume_values.specs.Stripes.{Card}
-use Rattle.held_state.specs.Lenses.{LogicalSet}
+use Rattle.held_state.specs.Lenses.{LogicalSet, logical_lens}
+use Rattle.held_state.specs.Running.{RunsOn}
 use Rattle.held_laws.specs.lemmas.Limits.{used-fits, ranges-fit}
-use Rattle.held_data.specs.WritingUp.{LogicalWrites, DueInLogical, WrittenWhereEnough, kind_due, bytes_due, holes_of}
+use Rattle.held_data.specs.WritingLaws.{write_call}
+use Rattle.held_data.specs.WritingUpLaws.{LogicalWriteIsRight, LogicalWriteMayStarve}
+use Rattle.held_data.specs.WritingUp.{LogicalWrites, DueInLogical, WrittenWhereEnough, kind_due, bytes_due}
 use Rattle.service_data.specs.Promises.{IsHeld}
 use Rattle.service_data.specs.Holes.{HasRoom, Extends}
-use Rattle.service_data.specs.Writing.{bytes_to_write, kind_card, card_shown, MayStarve}
+use Rattle.service_data.specs.Writing.{bytes_to_write, kind_card, card_shown, written_outcome, MayStarve, DoneInLogical, WritesInLogical}
 use Rattle.service_data.proofs.Written.{given-some}
 
 -- ---- the checks
@@ -178,3 +181,12 @@ module _ (fileid : ℕ) (set : LogicalSet) (whole : IsHeld set) where
         (subst (λ (s : LogicalSet). IsInodes s.own.inodes) whole.1.4 whole.1.8.well_formed.logical.inodes) there in
         omega (arith, most, within);
   }
+
+-- ---- what has happened is right
+
+pub right-done : LogicalWriteIsRight → LogicalWriteMayStarve → (fileid : ℕ) (w : Writing) (old new : LogicalSet)
+    (result : Result (Option (Result WriteResults Status)) AllocError) → DoneInLogical fileid w old result new → WritesInLogical fileid w old result new
+right-done right starves fileid w old new (Ok told) done v handle = right v fileid handle w old new (written_outcome v (Ok told)) (done v)
+right-done right starves fileid w old new (Err e) done v handle =
+    subst (λ (s : LogicalSet). RunsOn v logical_lens (write_call handle (Logical v) fileid w) old Starved s) (sym done.1)
+    (starves v fileid done.0.more handle w old done.0.due done.0.enough done.0.some)
