@@ -8,3 +8,5 @@ mod Stocked
 mod Told
 mod Written
 mod WrittenUp
+mod Parted
+mod Drained
