@@ -10,3 +10,4 @@ mod Written
 mod WrittenUp
 mod Parted
 mod Drained
+mod Dealt

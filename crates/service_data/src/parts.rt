@@ -1,18 +1,34 @@
 //! Block numbers of the parts of a volume: its stock, its ranges, its dead blocks.
 
-ghost use Rattle.std.specs.Prelude.{◌≡◌, ◌<◌, ◌∷◌, [], true, IfNone, IfSome};
+ghost use Rattle.std.specs.Prelude.{◌≡◌, ◌<◌, ◌≤◌, ◌∷◌, [], length, true, IfNone, IfSome};
 ghost use Rattle.std.specs.FinSet as sets;
 ghost use Rattle.std.specs.FinSet.{contains};
 ghost use Rattle.parcel_sets.specs.Filled.{vbn_alike, volume_alike};
 ghost use Rattle.volume_values.specs.Ranges.{taken};
 ghost use Rattle.held_state.specs.Sets.{range_value, vbn_set, volume_before, volume_after};
 ghost use Rattle.held_data.specs.WritingUp.{for_holes};
-ghost use Rattle.service_data.specs.Parts.{range_changed, LeavesFree, LeavesOne, NoneFree};
+ghost use Rattle.service_data.specs.Parts.{range_changed, LeavesFree, LeavesOne, NoneFree, TakesParts};
+ghost use Rattle.service_data.specs.Stripes.{HasStripes};
 
-use nfs_values::BlockNumber;
+use crate::homes::number_block;
+use nfs_values::{BlockNumber, Fileid};
 use parcel_sets::{RangeHeld, VbnHeld, VolumeHeld};
 use parcels::Files;
 use vbn_ranges::Range;
+
+/// Puts filled blocks of a file under numbers of the parts of its volume. It takes no memory.
+pub(crate) fn number_blocks(held: &mut VolumeHeld<Files>, fileid: Fileid, blocks: &[u64])
+    requires stripes { HasStripes held.old.logical }
+    requires enough { length blocks.now ≤ for_holes (volume_before held.old) }
+    ensures { TakesParts fileid.0 blocks.now held.old held.new }
+{
+    let Some((block, rest)) = blocks.split_first() else {
+        return;
+    };
+    let number = take_number(held);
+    number_block(&mut held.logical, fileid, *block, number);
+    number_blocks(held, fileid, rest);
+}
 
 /// Takes a number of a volume that has one: of its stock, else the lowest free one of the first
 /// range that has one, else the lowest dead one. It takes no memory.
