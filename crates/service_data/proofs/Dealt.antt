@@ -1,5 +1,5 @@
 -- Blocks of a file that get numbers of the parts of a volume.
-use Rattle.std.proofs.Common.{◌≡◌, ◌⊎◌, ℕ, zero, suc, ◌+◌, ◌<◌, ◌≤◌, true, List, [], ◌∷◌, length, refl, sym, ap, subst, ◌∙◌, arith, inl, inr}
+use Rattle.std.proofs.Common.{◌≡◌, ℕ, zero, suc, ◌+◌, ◌<◌, ◌≤◌, List, [], ◌∷◌, length, refl, sym, ap, subst, ◌∙◌, arith, inl, inr}
 use Rattle.std.specs.Prelude.{slice_set, is_some}
 use Rattle.std.specs.FinSet.{len}
 use Rattle.depot_rule.specs.Sums.{total}
@@ -11,7 +11,7 @@ use Rattle.held_state.specs.Lenses.{VolumeSet}
 use Rattle.held_state.specs.Sets.{FilerLogical, FilerVolume, placed, stripe_value, vbn_set, logical_before, volume_before, volume_after}
 use Rattle.held_state.specs.WellFormed.{range_at}
 use Rattle.held_data.specs.Extending.{home_changed}
-use Rattle.held_data.specs.WritingUp.{LeaveParts, LeavesStock, LeavesRange, LeavesDead, for_holes}
+use Rattle.held_data.specs.WritingUp.{LeaveParts, for_holes}
 use Rattle.service_data.specs.Stripes.{HasStripes}
 use Rattle.service_data.specs.Places.{home_held, StripesChanged}
 use Rattle.service_data.specs.Holes.{renumbered}

@@ -2,14 +2,14 @@
 use Rattle.std.proofs.Common.{◌≡◌, ◌≢◌, ℕ, zero, suc, ◌<◌, Bool, true, false, List, [], ◌∷◌, length, take, min, Option, Some, None, IfSome, IfNone}
 use Rattle.std.proofs.Common.{refl, sym, ap, subst, ◌∙◌, ◌+◌, ◌≤◌, arith, inl, inr}
 use Rattle.std.proofs.lemmas.Bool.{cases_lt}
-use Rattle.std.specs.Prelude.{slice_get, slice_set, slice_index_or, map, ◌*◌, if◌then◌else◌}
+use Rattle.std.specs.Prelude.{slice_get, slice_set, slice_index_or, ◌*◌, if◌then◌else◌}
 use Rattle.std.specs.Ordering.{nat_cmp}
 use Rattle.std.specs.List.{filter, range_with_len}
 use Rattle.std.specs.Option.{option_map}
 use Rattle.std.specs.FinSet as sets
-use Rattle.std.specs.FinSet.{FinSet, contains, len}
+use Rattle.std.specs.FinSet.{FinSet, contains}
 use Rattle.nfs_model.specs.Moves.{in_range}
-use Rattle.nfs_model.specs.Parts.{range_blocks, most_ranges}
+use Rattle.nfs_model.specs.Parts.{range_blocks}
 use Rattle.nfs_values.specs.declared.number.BlockNumber.{BlockNumber}
 use Rattle.parcel_sets.specs.Filled.{is_filled, AreFilledAlike}
 use Rattle.volume_values.specs.Ranges.{RangeValue, free_numbers, lowest, taken}
@@ -17,7 +17,6 @@ use Rattle.vbn_ranges.specs.Batch.{numbers, first_of}
 use Rattle.held_state.specs.Contents.{each}
 use Rattle.held_state.specs.Parcels.{no_range}
 use Rattle.held_state.specs.Sets.{FilerRange, FilerVbn, range_value, placed, vbn_set}
-use Rattle.held_state.specs.WellFormed.{range_at}
 use Rattle.held_laws.specs.lemmas.Each.{each-set, each-index, each-length}
 use Rattle.service_data.specs.Parts.{range_changed, LeavesFree, NoneFree}
 

@@ -20,13 +20,15 @@ pub number_blocks-requires : goal.number_blocks-requires
 number_blocks-requires t c =
     let cases = c.in-Some.ensures.cases in (
       (let long = cases.1 in let down = c.decreases in let less : length c.in-Some.rest.now < t = omega (arith, long, down) in less),
-      (mid-has c.args.fileid.0 c.in-Some.block.now c.take_number-number.result.0 c.args.blocks.now c.in-Some.rest.now cases.0
-          c.args.held.now c.take_number-number.new.held c.number_block.new.held c.requires.stripes c.take_number-number.ensures.leaves
-          c.take_number-number.ensures.stripes c.take_number-number.ensures.count c.take_number-number.ensures.alike c.number_block.ensures,
-      mid-enough c.args.fileid.0 c.in-Some.block.now c.take_number-number.result.0 c.args.blocks.now c.in-Some.rest.now cases.0
-          c.args.held.now c.take_number-number.new.held c.number_block.new.held c.requires.stripes c.take_number-number.ensures.leaves
-          c.take_number-number.ensures.stripes c.take_number-number.ensures.count c.take_number-number.ensures.alike c.number_block.ensures
-          c.requires.enough),
+      (
+        mid-has c.args.fileid.0 c.in-Some.block.now c.take_number-number.result.0 c.args.blocks.now c.in-Some.rest.now cases.0
+            c.args.held.now c.take_number-number.new.held c.number_block.new.held c.requires.stripes c.take_number-number.ensures.leaves
+            c.take_number-number.ensures.stripes c.take_number-number.ensures.count c.take_number-number.ensures.alike c.number_block.ensures,
+        mid-enough c.args.fileid.0 c.in-Some.block.now c.take_number-number.result.0 c.args.blocks.now c.in-Some.rest.now cases.0
+            c.args.held.now c.take_number-number.new.held c.number_block.new.held c.requires.stripes c.take_number-number.ensures.leaves
+            c.take_number-number.ensures.stripes c.take_number-number.ensures.count c.take_number-number.ensures.alike c.number_block.ensures
+            c.requires.enough,
+      ),
     )
 
 pub returns : goal.returns

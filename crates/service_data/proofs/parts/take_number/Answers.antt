@@ -1,5 +1,4 @@
 use Rattle.std.proofs.Common.{◌≡◌, refl, sym, ap, ◌∙◌}
-use Rattle.std.specs.FinSet as sets
 use Rattle.volume_values.specs.Logical.{LogicalValue}
 use Rattle.parcels.specs.Logical.{logical_value}
 use Rattle.held_state.specs.Sets.{volume_before}
