@@ -105,7 +105,8 @@ module _ {P : Type 0} where
 
     -- one more
     pub first-more : (n : ℕ) (places now : List (Option (FilerStripe P))) (d was here : Option (FilerStripe P)) → n < length places
-        → now ≡ first_changed n change places → slice_index_or now n d ≡ was → here ≡ place_changed change was → slice_set now n here ≡ first_changed (n + 1) change places
+        → now ≡ first_changed n change places → slice_index_or now n d ≡ was → here ≡ place_changed change was
+        → slice_set now n here ≡ first_changed (n + 1) change places
     first-more n places now d was here less so is changed =
         let one : suc n ≡ n + 1 = omega arith in
         ap (slice_set now n) (changed ∙ ap (place_changed change) (sym is))

@@ -7,7 +7,13 @@ ghost use Rattle.parcel_sets.specs.Filled.{vbn_alike, volume_alike};
 ghost use Rattle.volume_values.specs.Ranges.{taken};
 ghost use Rattle.held_state.specs.Sets.{range_value, vbn_set, volume_before, volume_after};
 ghost use Rattle.held_data.specs.WritingUp.{for_holes};
-ghost use Rattle.service_data.specs.Parts.{range_changed, LeavesFree, LeavesOne, NoneFree, TakesParts};
+ghost use Rattle.service_data.specs.Parts.{
+  range_changed,
+  LeavesFree,
+  LeavesOne,
+  NoneFree,
+  TakesParts,
+};
 ghost use Rattle.service_data.specs.Stripes.{HasStripes};
 
 use crate::homes::number_block;
