@@ -1,3 +1,13 @@
+mod Holed
+mod Extended
+mod Grown
+mod Placed
+mod Refilled
 mod Spanned
+mod Stocked
 mod Told
 mod Written
+mod WrittenUp
+mod Parted
+mod Drained
+mod Dealt

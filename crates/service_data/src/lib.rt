@@ -1,9 +1,13 @@
 //! Calls on the bytes of files, on the parcels that they hold: READ and WRITE.
 #![tactic(auto)]
 
+mod extending;
+mod holes;
+mod homes;
+mod parts;
 mod reading;
 mod spans;
 mod writing;
 
 pub use reading::{read_in_logical, read_in_stripe};
-pub use writing::write_in_stripe;
+pub use writing::{write_in_logical, write_in_stripe};
