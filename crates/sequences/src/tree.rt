@@ -64,7 +64,7 @@ impl<T> Model for Tree<T> {
     ghost size_decreases = { λ t h. sides_lower t.root h };
 }
 
-/// A tree in its parts. What the chunk's node has beside the chunk is nothing.
+/// A tree in its parts. The chunk's own node has nothing on its sides.
 #[derive(Drop)]
 pub(crate) struct Parts<T> {
     pub(crate) left: Tree<T>,
@@ -148,8 +148,8 @@ impl<T: Copy> Tree<T> {
         }
     }
 
-    /// The least side that has the items between two places, with the place that it begins at,
-    /// where the tree begins at one.
+    /// The lowest subtree that has the items between two places, and the place that it begins at,
+    /// where the tree begins at `first`.
     pub(crate) fn narrowed(&self, first: usize, low: usize, high: usize) -> (&Tree<T>, usize)
         requires { first + length self.now.items < 2 ^ 64 }
         ensures inside { result.1 + length result.0.now.items ≤ first + length self.now.items }
