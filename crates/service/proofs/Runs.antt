@@ -1,40 +1,24 @@
 -- From a handler's promise to the run of a call.
-use Rattle.std.proofs.Common.{◌≡◌, ℕ, false, List, [], length, Option, Some, None, Result, sym, ap, ◌∙◌, subst}
+use Rattle.std.proofs.Common.{◌≡◌, ℕ, false, List, [], length, Some, Result, sym, ap, ◌∙◌, subst}
 use Rattle.std.specs.declared.alloc.AllocError.{AllocError}
 use Rattle.nfs_model.specs.Types as types
 use Rattle.nfs_model.specs.Types.{Credential, Moment, Call}
 use Rattle.nfs_model.specs.Tree.{Layout, Affinity, Logical}
-use Rattle.nfs_model.specs.Home.{named_by, logical_home}
+use Rattle.nfs_model.specs.Home.{named_by}
 use Rattle.nfs_model.specs.Server.{Named}
 use Rattle.nfs_model.specs.Work as works
 use Rattle.nfs_model.specs.Work.{Replied, Starved, Moved}
 use Rattle.nfs_values.specs.declared.answer.RenameResults.{RenameResults}
 use Rattle.nfs_values.specs.declared.status.Status.{Status}
-use Rattle.parcel_sets.specs.Sets.{volume_of}
 use Rattle.held_changes.specs.Laws.{rename_call}
 use Rattle.held_state.specs.Calls.{VolumeCall, ServesOn, handle_in}
+use Rattle.held_state.specs.Contents.{VolumeContents}
 use Rattle.held_state.specs.Jobs as jobs
-use Rattle.held_state.specs.Lenses.{LogicalSet, logical_lens}
-use Rattle.held_state.specs.Promises.{HasVolume, RightOnVolume}
+use Rattle.held_state.specs.Lenses.{Lens, LogicalSet, logical_lens}
+use Rattle.held_state.specs.Promises.{RightOnVolume}
 use Rattle.held_state.specs.Running.{RunsOn, UnlessReplied}
 use Rattle.service_renames.specs.Promises.{Renames, renaming_outcome}
 use Rattle.service.specs.Running.{fileid_in, call_named, call_of_node, call_on}
-
--- what is named by a handle whose call's home is this
-pub home-named : (named : Option Named) (n : Named) (a : Affinity) → logical_home named ≡ Some a → named ≡ Some n → a ≡ Logical n.volume
-home-named None n a home e = absurd cc
-home-named (Some m) n a home e =
-    let at : Logical m.volume ≡ a = cc in
-    let same : m ≡ n = cc in
-    sym at ∙ ap (λ (x : Named). Logical x.volume) same
-
-pub home-none : (named : Option Named) (a : Affinity) → logical_home named ≡ Some a → named ≡ None → ⊥
-home-none None a home e = absurd cc
-home-none (Some m) a home e = absurd cc
-
--- the set is of the volume that is named
-pub whole-here : (a : Affinity) (v : ℕ) (set : LogicalSet) → a ≡ Logical v → HasVolume (volume_of a) logical_lens [] set → HasVolume v logical_lens [] set
-whole-here a v set at whole = subst (λ (b : Affinity). HasVolume (volume_of b) logical_lens [] set) at whole
 
 -- an entry of a call is its run
 pub served-runs : (v : ℕ) (c : VolumeCall) (old new : LogicalSet) (answer : types.Answer)
@@ -43,14 +27,13 @@ pub served-runs : (v : ℕ) (c : VolumeCall) (old new : LogicalSet) (answer : ty
 served-runs v c old new answer right =
     λ p hands hands' made has numbered sound moved. let r = right p hands hands' made has numbered sound moved in (r.0.0, r.1)
 
--- a call run on what its handle names is run on its handle
-pub runs-here : (layout : Layout) (a : Affinity) (named : Named) (call : Call) (credential : Credential) (moment : Moment) (old new : LogicalSet)
-    (outcome : works.Outcome) → named_by layout (handle_in call) ≡ Some named → a ≡ Logical named.volume
-    → RunsOn named.volume logical_lens (call_named layout named credential moment call) old outcome new
-    → RunsOn (volume_of a) logical_lens (call_on layout a credential moment call) old outcome new
-runs-here layout a named call credential moment old new outcome is at runs =
-    subst (λ (n : Option Named). RunsOn (volume_of a) logical_lens (call_of_node layout a (fileid_in n) credential moment call) old outcome new) (sym is)
-    (subst (λ (b : Affinity). RunsOn (volume_of b) logical_lens (call_of_node layout b named.fileid credential moment call) old outcome new) (sym at) runs)
+-- a call run on the fileid that its handle names is run on its handle
+pub runs-here : {S : Type 0} (layout : Layout) (v : ℕ) (lens : Lens VolumeContents S) (a : Affinity) (fileid : ℕ) (call : Call) (credential : Credential)
+    (moment : Moment) (old new : S) (outcome : works.Outcome) → fileid ≡ fileid_in (named_by layout (handle_in call))
+    → RunsOn v lens (call_of_node layout a fileid credential moment call) old outcome new
+    → RunsOn v lens (call_on layout a credential moment call) old outcome new
+runs-here layout v lens a fileid call credential moment old new outcome is runs =
+    subst (λ (f : ℕ). RunsOn v lens (call_of_node layout a f credential moment call) old outcome new) is runs
 
 -- a RENAME to the directory that its second handle names is run on its first
 pub renaming-runs : (layout : Layout) (named other : Named) (from from_name to to_name : List ℕ) (credential : Credential) (moment : Moment)

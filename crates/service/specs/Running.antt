@@ -1,8 +1,8 @@
 -- A call run on the parcels under its home.
-use Rattle.std.specs.Prelude.{◌≡◌, ℕ, Bool, true, false, [], Option, Some, None}
+use Rattle.std.specs.Prelude.{◌≡◌, ℕ, ◌<◌, min, Bool, true, false, [], Option, Some, None}
 use Rattle.nfs_model.specs.Types as types
 use Rattle.nfs_model.specs.Types.{Ask, Credential, Moment, Stale}
-use Rattle.nfs_model.specs.Tree.{Layout, Affinity, Logical}
+use Rattle.nfs_model.specs.Tree.{Layout, Affinity, Logical, stripes_of}
 use Rattle.nfs_model.specs.Home.{home, named_by}
 use Rattle.nfs_model.specs.Locate.{Effect, Fails, on_name}
 use Rattle.nfs_model.specs.Serial.Getattr.{getattr}
@@ -11,20 +11,22 @@ use Rattle.nfs_model.specs.Serial.Commit.{commit}
 use Rattle.nfs_model.specs.Serial.Create.{create}
 use Rattle.nfs_model.specs.Serial.Lookup.{lookup}
 use Rattle.nfs_model.specs.Serial.Mkdir.{mkdir}
+use Rattle.nfs_model.specs.Serial.Read.{read}
 use Rattle.nfs_model.specs.Serial.Readdir.{readdir}
 use Rattle.nfs_model.specs.Serial.Remove.{remove_name}
 use Rattle.nfs_model.specs.Serial.Rename.{rename}
 use Rattle.nfs_model.specs.Serial.Rmdir.{rmdir}
-use Rattle.nfs_model.specs.Server.{Named, VolumeState}
+use Rattle.nfs_model.specs.Server.{Named, VolumeState, most_bytes}
 use Rattle.nfs_model.specs.Work as works
 use Rattle.affinity_tree.specs.Affinity.{affinity_of}
 use Rattle.affinity_tree.specs.Tree.{IsNode}
 use Rattle.nfs_values.specs.Call.{call_of}
 use Rattle.nfs_values.specs.Reply.{reply_of}
 use Rattle.nfs_values.specs.declared.call.Call.{Call}
-use Rattle.nfs_values.specs.declared.call.Call.TheVariants.{GetAttributes, SetAttributes, Lookup, Create, MakeDirectory}
+use Rattle.nfs_values.specs.declared.call.Call.TheVariants.{GetAttributes, SetAttributes, Lookup, Read, Create, MakeDirectory}
 use Rattle.nfs_values.specs.declared.call.Call.TheVariants.{Remove, RemoveDirectory, Rename, ReadDirectory, Commit}
-use Rattle.held_state.specs.Calls.{VolumeCall, handle_in}
+use Rattle.volume_values.specs.Stripes.{StripeValue}
+use Rattle.held_state.specs.Calls.{VolumeCall, LieIn, handle_in}
 use Rattle.held_state.specs.Parcels.{FilerParcel}
 use Rattle.held_state.specs.Running.{HasFiler, Runs}
 use Rattle.service.specs.declared.outcome.Outcome.{Outcome}
@@ -39,11 +41,12 @@ outcome_of (Moved affinity) = works.Moved (affinity_of affinity)
 
 -- ---- what is run
 
--- The calls that are run so far: all of names and attributes, and COMMIT.
+-- The calls that are run so far: all of names and attributes, READ, and COMMIT.
 abbrev pub IsRun : Call → Type 0
 IsRun (GetAttributes handle) = Unit {0}
 IsRun (SetAttributes handle set guard) = Unit {0}
 IsRun (Lookup target) = Unit {0}
+IsRun (Read handle offset count) = Unit {0}
 IsRun (Create target mode) = Unit {0}
 IsRun (MakeDirectory target set) = Unit {0}
 IsRun (Remove target) = Unit {0}
@@ -57,6 +60,7 @@ IsRun call = ⊥
 abbrev pub is_told : Call → Bool
 is_told (GetAttributes handle) = true
 is_told (Lookup target) = true
+is_told (Read handle offset count) = true
 is_told (ReadDirectory directory cookie verifier count) = true
 is_told (Commit handle) = true
 is_told call = false
@@ -77,6 +81,7 @@ abbrev pub procedure : types.Call → ℕ → Credential → Moment → VolumeSt
 procedure (types.Getattr handle) other credential moment = getattr
 procedure (types.Setattr handle set guard) other credential moment = setattr set guard moment
 procedure (types.Lookup directory name) other credential moment = on_name name moment lookup
+procedure (types.Read handle offset count) other credential moment = read offset count
 procedure (types.Create directory name mode) other credential moment = on_name name moment (create mode credential)
 procedure (types.Mkdir directory name set) other credential moment = on_name name moment (mkdir set credential)
 procedure (types.Remove directory name) other credential moment = on_name name moment remove_name
@@ -107,7 +112,7 @@ call_on layout node credential moment call =
 
 -- ---- where it is run
 
--- a call that is run so far is run at its home
+-- a call that is run so far is run at its home: Logical of a volume, or the stripe in which its bytes lie
 abbrev pub IsRunAt : Layout → Call → Affinity → Type 0
 IsRunAt layout call node = IsRun call × (home layout (call_of call) ≡ Some node)
 
@@ -116,6 +121,16 @@ abbrev pub MovesOn : Layout → Call → works.Outcome → Type 0
 MovesOn layout call (works.Replied reply) = Unit {0}
 MovesOn layout call works.Starved = Unit {0}
 MovesOn layout call (works.Moved other) = IsNode layout other × IsRunAt layout call other
+
+-- this is the stripe of a number of a volume
+pub record IsStripeOf (layout : Layout) (v i : ℕ) (s : StripeValue) : Type 0 where
+  pub there : i < s.stripes
+  pub count : s.stripes ≡ stripes_of layout v
+
+-- the bytes that a call is on, of the file that it names, lie in the i-th stripe; other calls than READ are on none
+abbrev pub BytesLieIn : ℕ → ℕ → ℕ → types.Call → Type 0
+BytesLieIn stripes i fileid (types.Read handle offset count) = LieIn stripes i fileid offset (min count most_bytes)
+BytesLieIn stripes i fileid call = ⊥
 
 -- ---- by parcels
 

@@ -1,2 +1,3 @@
--- Lemmas alone, which no reader has to believe: from the run of a call on a set to its parcels.
+-- Lemmas alone, which no reader has to believe: the homes of calls, and from the run of a call on a set to its parcels.
+pub mod Homes
 pub mod Serving

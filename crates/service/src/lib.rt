@@ -4,14 +4,17 @@
 
 mod attributes;
 mod batch;
+mod in_stripe;
 mod job;
 mod machine;
+mod named;
 mod outcome;
 mod run;
 mod task;
 
 pub use attributes::get_attributes;
 pub use batch::BatchInHand;
+pub use in_stripe::run_on_stripe;
 pub use job::{Asked, InnerCall, Job, JobReply, ServedCall};
 pub use machine::Service;
 pub use outcome::Outcome;

@@ -1,10 +1,9 @@
-//! Calls run on the parcels under their homes.
+//! Calls run on the parcels under Volume Logical.
 
 ghost use Rattle.std.specs.Prelude.{◌≡◌, true, false, Some, []};
 ghost use Rattle.nfs_model.specs.Home.{home, named_by, rename_home};
 ghost use Rattle.nfs_model.specs.Tree as trees;
 ghost use Rattle.nfs_model.specs.Types as types;
-ghost use Rattle.affinity_tree.specs.Affinity.{affinity_of};
 ghost use Rattle.affinity_tree.specs.Layout.{layout_of};
 ghost use Rattle.nfs_values.specs.Call.{call_of};
 ghost use Rattle.nfs_values.specs.Credential.{credential_of};
@@ -13,18 +12,17 @@ ghost use Rattle.nfs_values.specs.Moment.{moment_of};
 ghost use Rattle.nfs_values.specs.declared.answer.Answer.TheVariants as answers;
 ghost use Rattle.nfs_values.specs.declared.call.Call.TheVariants as calls;
 ghost use Rattle.parcel_sets.specs.Filled.{logical_alike};
-ghost use Rattle.parcel_sets.specs.Sets.{volume_of};
-ghost use Rattle.held_state.specs.Calls.{handle_in};
 ghost use Rattle.held_state.specs.Lenses.{logical_lens};
 ghost use Rattle.held_state.specs.Promises.{HasVolume};
 ghost use Rattle.held_state.specs.Running.{RunsOn, UnlessReplied};
 ghost use Rattle.held_state.specs.Sets.{logical_before, logical_after};
 ghost use Rattle.service_names.specs.Promises.{listing_outcome, making_outcome};
 ghost use Rattle.service_renames.specs.Promises.{renaming_outcome};
-ghost use Rattle.service.specs.Running.{call_named, call_on, is_told, outcome_of, IsRun};
+ghost use Rattle.service.specs.Running.{call_named, call_on, is_told, outcome_of, IsRun, IsRunAt};
 
 use crate::attributes::get_attributes;
-use crate::outcome::Outcome;
+use crate::named::fileid_here;
+use crate::outcome::{Outcome, outcome_read};
 use crate::task::Run;
 use affinity::named_by;
 use affinity_tree::{Affinity, Layout};
@@ -34,6 +32,7 @@ use nfs_values::{
 };
 use parcel_sets::LogicalHeld;
 use parcels::Files;
+use service_data::read_in_logical;
 use service_names::{
     PageAsked, commit, create, lookup, make_directory, read_directory, remove, remove_directory,
     set_attributes,
@@ -41,27 +40,24 @@ use service_names::{
 use service_renames::{EntryName, rename};
 use std::alloc::AllocError;
 
-/// Runs a call on the parcels of the names and attributes of its volume, its home.
+/// Runs a call on the parcels under Volume Logical of its volume, its home.
 pub fn run_on_logical(
     run: Run,
     layout: &Layout,
-    affinity: Affinity,
+    volume: VolumeNumber,
     held: &mut LogicalHeld<Files>,
 ) -> Outcome
-    requires run { IsRun run.call.now }
-    requires home { home (layout_of layout.now) (call_of run.call.now)
-        ≡ Some (affinity_of affinity) }
-    requires whole { HasVolume (volume_of (affinity_of affinity)) logical_lens []
-        (logical_before held.old) }
-    ensures runs { let L = layout_of layout.now in let a = affinity_of affinity in
-        RunsOn (volume_of a) logical_lens
-        (call_on L a (credential_of run.entry.credential) (moment_of run.entry.moment)
-        (call_of run.entry.call.now))
+    requires at { IsRunAt (layout_of layout.now) run.call.now (trees.Logical volume.0) }
+    requires whole { HasVolume volume.0 logical_lens [] (logical_before held.old) }
+    ensures runs { RunsOn volume.0 logical_lens
+        (call_on (layout_of layout.now) (trees.Logical volume.0) (credential_of run.entry.credential)
+        (moment_of run.entry.moment) (call_of run.entry.call.now))
         (logical_before held.old) (outcome_of result) (logical_after held.old held.new) }
     ensures moved { UnlessReplied (outcome_of result) (held.new ≡ held.old) }
     ensures alike { logical_alike held.old held.new }
 {
-    let named = named_here(layout, affinity, run.call);
+    let fileid = fileid_here(layout, Affinity::VolumeLogical(volume.0), run.call);
+    let named = Named { volume, fileid };
     if is_told(run.call) {
         tell(run, held, named)
     } else {
@@ -77,6 +73,7 @@ fn is_told(call: &Call) -> bool
         call,
         Call::GetAttributes { .. }
             | Call::Lookup(_)
+            | Call::Read { .. }
             | Call::ReadDirectory { .. }
             | Call::Commit { .. }
     )
@@ -101,6 +98,11 @@ fn tell(run: Run, held: &LogicalHeld<Files>, named: Named) -> Outcome
             let told = lookup(held, volume, fileid, target.name.as_bytes());
             Outcome::Replied(Reply::Success(Answer::Lookup(told)))
         }
+        Call::Read {
+            handle: _,
+            offset,
+            count,
+        } => outcome_read(read_in_logical(run.alloc, held, fileid, *offset, *count)),
         Call::ReadDirectory {
             directory: _,
             cookie,
@@ -247,21 +249,6 @@ fn outcome_renamed(renamed: Result<Result<RenameResults, Status>, AllocError>) -
     }
 }
 
-/// What the handle of a call names, the first of RENAME's, where the home of the call is Volume
-/// Logical.
-fn named_here(layout: &Layout, affinity: Affinity, call: &Call) -> Named
-    requires run { IsRun call.now }
-    requires home { home (layout_of layout.now) (call_of call.now) ≡ Some (affinity_of affinity) }
-    ensures named { named_by (layout_of layout.now) (handle_in (call_of call.now))
-        ≡ Some (named_of result) }
-    ensures node { affinity_of affinity ≡ trees.Logical result.volume.0 }
-{
-    match named_by(handle_of(call), layout) {
-        Some(named) => named,
-        None => unreachable!(),
-    }
-}
-
 /// What the second handle of a RENAME names, where its home is Volume Logical of a volume.
 fn other_here(layout: &Layout, volume: VolumeNumber, from: &FileHandle, to: &FileHandle) -> Named
     requires home { rename_home (named_by (layout_of layout.now) from.now)
@@ -272,25 +259,5 @@ fn other_here(layout: &Layout, volume: VolumeNumber, from: &FileHandle, to: &Fil
     match named_by(to, layout) {
         Some(named) => named,
         None => unreachable!(),
-    }
-}
-
-/// The handle of a call that is run, the first of RENAME's.
-fn handle_of(call: &Call) -> &FileHandle
-    requires { IsRun call.now }
-    ensures { result.now ≡ handle_in (call_of call.now) }
-{
-    match call {
-        Call::GetAttributes { handle } => handle,
-        Call::SetAttributes { handle, .. } => handle,
-        Call::Lookup(target) => &target.directory,
-        Call::Create { target, .. } => &target.directory,
-        Call::MakeDirectory { target, .. } => &target.directory,
-        Call::Remove(target) => &target.directory,
-        Call::RemoveDirectory(target) => &target.directory,
-        Call::Rename { from, .. } => &from.directory,
-        Call::ReadDirectory { directory, .. } => directory,
-        Call::Commit { handle } => handle,
-        _ => unreachable!(),
     }
 }

@@ -1,10 +1,16 @@
 //! A call run on what a worker was lent.
 
+ghost use Rattle.std.specs.Prelude.{◌≡◌};
+ghost use Rattle.nfs_model.specs.Tree as trees;
+ghost use Rattle.affinity_tree.specs.Affinity.{affinity_of, kind_of};
+ghost use Rattle.affinity_tree.specs.declared.affinity.Kind.TheVariants as kinds;
+
+use crate::in_stripe::run_on_stripe;
 use crate::outcome::Outcome;
 use crate::run::run_on_logical;
 use affinity_tree::{Affinity, Layout};
 use desk::{ParcelKinds, Task};
-use nfs_values::{Call, Credential, Moment};
+use nfs_values::{Call, Credential, Moment, VolumeNumber};
 use parcel_sets::{
     AggrHeld, LogicalHeld, Parcel, RangeHeld, SerialHeld, StripeHeld, VbnHeld, VolumeHeld,
 };
@@ -42,8 +48,14 @@ impl<'a> Task<Parcel<Files>, ParcelKinds> for Run<'a> {
         unreachable!()
     }
 
-    fn on_stripe(self, _: &Layout, _: Affinity, _: &mut StripeHeld<Files>) -> Outcome {
-        unreachable!()
+    fn on_stripe(
+        self,
+        layout: &Layout,
+        affinity: Affinity,
+        held: &mut StripeHeld<Files>,
+    ) -> Outcome {
+        let (volume, stripe) = stripe_at(affinity);
+        run_on_stripe(self, layout, volume, stripe, held)
     }
 
     fn on_logical(
@@ -52,7 +64,7 @@ impl<'a> Task<Parcel<Files>, ParcelKinds> for Run<'a> {
         affinity: Affinity,
         held: &mut LogicalHeld<Files>,
     ) -> Outcome {
-        run_on_logical(self, layout, affinity, held)
+        run_on_logical(self, layout, volume_at(affinity), held)
     }
 
     fn on_volume(self, _: &Layout, _: Affinity, _: &mut VolumeHeld<Files>) -> Outcome {
@@ -65,5 +77,27 @@ impl<'a> Task<Parcel<Files>, ParcelKinds> for Run<'a> {
 
     fn on_serial(self, _: &Layout, _: Affinity, _: &mut SerialHeld<Files>) -> Outcome {
         unreachable!()
+    }
+}
+
+/// The volume of a node that is Volume Logical.
+fn volume_at(affinity: Affinity) -> VolumeNumber
+    requires { kind_of (affinity_of affinity) ≡ kinds.VolumeLogical }
+    ensures { affinity_of affinity ≡ trees.Logical result.0 }
+{
+    match affinity {
+        Affinity::VolumeLogical(volume) => VolumeNumber(volume),
+        _ => unreachable!(),
+    }
+}
+
+/// The volume and the number of a node that is a stripe.
+fn stripe_at(affinity: Affinity) -> (VolumeNumber, u32)
+    requires { kind_of (affinity_of affinity) ≡ kinds.Stripe }
+    ensures { affinity_of affinity ≡ trees.Stripe result.0.0 result.1 }
+{
+    match affinity {
+        Affinity::Stripe { volume, stripe } => (VolumeNumber(volume), stripe),
+        _ => unreachable!(),
     }
 }

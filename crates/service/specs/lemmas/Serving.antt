@@ -1,12 +1,12 @@
 -- A run of a call on the parcels of its home is right by parcels.
-use Rattle.std.proofs.Common.{◌≡◌, ◌≢◌, ℕ, [], Bool, true, false, Option, Some, None, refl, sym, ap, ◌∙◌, subst}
-use Rattle.std.proofs.lemmas.Bool.{eq-eqb, eqb-true}
-use Rattle.std.specs.Prelude.{◌==◌, List, length, slice_get, if◌then◌else◌}
+use Rattle.std.proofs.Common.{◌≡◌, ℕ, [], Bool, Option, Some, None, refl, sym, ap, ◌∙◌, subst, arith}
+use Rattle.std.proofs.lemmas.Bool.{eq-eqb}
+use Rattle.std.specs.Prelude.{List, length, slice_get, if◌then◌else◌}
 use Rattle.nfs_model.specs.Types as types
 use Rattle.nfs_model.specs.Types.{Ask, Credential, Moment}
-use Rattle.nfs_model.specs.Tree.{Layout, Affinity, Logical, path, stripes_of}
-use Rattle.nfs_model.specs.Server.{Named, Server, VolumeState, handle_of}
-use Rattle.nfs_model.specs.Home.{home, logical_home, rename_home, named_by}
+use Rattle.nfs_model.specs.Tree.{Layout, Affinity, Logical, Stripe, path, stripes_of}
+use Rattle.nfs_model.specs.Server.{Server, VolumeState, handle_of}
+use Rattle.nfs_model.specs.Home.{rename_home, named_by}
 use Rattle.nfs_model.specs.Locate.{located_in, located_by, locate}
 use Rattle.nfs_model.specs.Serial.Absent.{absent_parts}
 use Rattle.nfs_model.specs.Serial.Rename.{rename}
@@ -15,43 +15,33 @@ use Rattle.nfs_model.specs.Work.{Outcome, Replied, Starved, Moved}
 use Rattle.nfs_values.specs.Call.{call_of}
 use Rattle.nfs_values.specs.declared.call.Call.{Call}
 use Rattle.nfs_values.specs.declared.call.Call.TheVariants as calls
-use Rattle.affinity_tree.specs.Affinity.{kind_of}
-use Rattle.affinity_tree.specs.declared.affinity.Kind.{Kind}
-use Rattle.affinity_tree.specs.declared.affinity.Kind.TheVariants as kinds
 use Rattle.affinity_tree.specs.Fault.{fault_of}
 use Rattle.affinity_tree.specs.lemmas.Ways.{begins-self}
 use Rattle.affinity_tree.specs.Tree.{IsNode}
-use Rattle.parcel_sets.specs.Sets.{volume_of, logical_parcels}
+use Rattle.parcel_sets.specs.Sets.{volume_of, stripe_parcels, logical_parcels}
+use Rattle.volume_values.specs.Stripes.{StripeValue}
 use Rattle.held_state.specs.Calls.{IsCallOn, handle_in, move_on}
-use Rattle.held_state.specs.Contents.{VolumeContents}
+use Rattle.held_state.specs.Contents.{VolumeContents, FilerContents, filer_contents}
 use Rattle.held_state.specs.Deeds.{IsHomeOrAbove}
-use Rattle.held_state.specs.Lenses.{LogicalSet, logical_lens}
+use Rattle.held_state.specs.Lenses.{Lens, logical_lens, stripe_lens, volume_or_none}
 use Rattle.held_state.specs.Promises.{HasVolume}
 use Rattle.held_state.specs.Running.{HasFiler, RunsOn, UnlessReplied, Runs}
-use Rattle.held_state.specs.Sets.{FilerLogical, logical_set, logical_before, logical_after}
-use Rattle.held_laws.specs.lemmas.Granted.{logical-has}
-use Rattle.held_laws.specs.lemmas.Kinds.{logical-step}
+use Rattle.held_state.specs.Sets.{FilerLogical, FilerStripe, logical_set, logical_before, logical_after}
+use Rattle.held_state.specs.Tree.{stripe_at}
+use Rattle.held_laws.specs.lemmas.Granted.{stripe-has, logical-has}
+use Rattle.held_laws.specs.lemmas.Kinds.{stripe-step, logical-step}
 use Rattle.held_laws.specs.lemmas.Running.{runs-by}
-use Rattle.held_laws.specs.lemmas.SeenSets.{logical-seen}
-use Rattle.service.specs.Running.{IsRun, IsRunAt, MovesOn, call_on, fileid_in, other_in, procedure}
+use Rattle.held_laws.specs.lemmas.SeenSets.{stripe-seen, logical-seen}
+use Rattle.held_laws.specs.lemmas.Steps.{laid-out, get-some}
+use Rattle.service.specs.Running.{IsRun, IsRunAt, IsStripeOf, MovesOn, call_on, fileid_in, other_in, procedure}
+use Rattle.service.specs.lemmas.Homes.{IsHomeOf, at-logical, both-there, run-home}
 
 -- ---- a call that is run is a call on its volume
 
--- what a handle names, where Logical of its volume is this
-named-there : (named : Option Named) (v : ℕ) → logical_home named ≡ Some (Logical v) → named ≡ Some (record { volume = v; fileid = fileid_in named })
-named-there None v e = absurd cc
-named-there (Some n) v e = let same : n.volume ≡ v = cc in λ j. Some (record { volume = same j; fileid = n.fileid })
-
--- so of two handles whose volume is one
-pub both-there : (from to : Option Named) (a : Affinity) → rename_home from to ≡ Some a → (logical_home from ≡ Some a) × (logical_home to ≡ Some a)
-both-there None to a e = absurd cc
-both-there (Some m) None a e = absurd cc
-both-there (Some m) (Some n) a e = by-volumes (m.volume == n.volume) refl e
-  where
-    by-volumes : (b : Bool) → (m.volume == n.volume) ≡ b → (if b then Some (Logical m.volume) else None) ≡ Some a
-        → (Some (Logical m.volume) ≡ Some a) × (Some (Logical n.volume) ≡ Some a)
-    by-volumes false same is = absurd cc
-    by-volumes true same is = (is, ap (λ (w : ℕ). Some (Logical w)) (sym (eqb-true m.volume n.volume same)) ∙ is)
+-- a call is run at its home or above it
+pub run-tried : (layout : Layout) (call : Call) (credential : Credential) (a : Affinity) → IsRunAt layout call a
+    → IsHomeOrAbove layout (Ask (call_of call) credential) a
+run-tried layout call credential a at = (a, at.1, begins-self (path layout a))
 
 -- what it names on a server of this layout
 located-there : (layout : Layout) (server : Server) (volume : VolumeState) (v fileid : ℕ) (handle : List ℕ) → length server.volumes ≡ length layout.volumes
@@ -61,95 +51,83 @@ located-there layout server volume v fileid handle count there named =
     ap (λ (n : ℕ). located_by server.volumes (handle_of n handle)) count ∙ ap (located_by server.volumes) named
     ∙ ap (located_in (record { volume = v; fileid = fileid })) there
 
--- a call on one handle, whose home is Logical
-on-handle : (layout : Layout) (v : ℕ) (call : types.Call) (credential : Credential) (moment : Moment)
-    → logical_home (named_by layout (handle_in call)) ≡ Some (Logical v) → home layout call ≡ Some (Logical v)
+-- a call on one handle
+on-handle : (layout : Layout) (a : Affinity) (call : types.Call) (credential : Credential) (moment : Moment)
+    → IsHomeOf (named_by layout (handle_in call)) a → IsHomeOrAbove layout (Ask call credential) a
     → ((server : Server)
     → serve server call credential moment
     ≡ on server (absent_parts call) (locate server (handle_in call)) (procedure call (other_in layout call) credential moment))
-    → IsCallOn layout v (call_on layout (Logical v) credential moment call) credential moment
-on-handle layout v call credential moment at is serves =
-    let named = named-there (named_by layout (handle_in call)) v at in record {
-      good = named;
-      under = refl;
-      tried = (Logical v, is, begins-self (path layout (Logical v)));
-      served = λ server volume count there.
-          serves server
-          ∙ ap (λ o. on server (absent_parts call) o (procedure call (other_in layout call) credential moment))
-          (located-there layout server volume v (fileid_in (named_by layout (handle_in call))) (handle_in call) count there named);
-    }
+    → IsCallOn layout (volume_of a) (call_on layout a credential moment call) credential moment
+on-handle layout a call credential moment at tried serves = record {
+  good = at.names;
+  under = at.above;
+  tried = tried;
+  served = λ server volume count there.
+      serves server
+      ∙ ap (λ o. on server (absent_parts call) o (procedure call (other_in layout call) credential moment))
+      (located-there layout server volume (volume_of a) (fileid_in (named_by layout (handle_in call))) (handle_in call) count there at.names);
+}
 
 -- RENAME, on two handles of one volume
-on-both : (layout : Layout) (v : ℕ) (from from_name to to_name : List ℕ) (credential : Credential) (moment : Moment)
-    → rename_home (named_by layout from) (named_by layout to) ≡ Some (Logical v)
-    → IsCallOn layout v (call_on layout (Logical v) credential moment (types.Rename from from_name to to_name)) credential moment
-on-both layout v from from_name to to_name credential moment is =
-    let both = both-there (named_by layout from) (named_by layout to) (Logical v) is in
+on-both : (layout : Layout) (a : Affinity) (from from_name to to_name : List ℕ) (credential : Credential) (moment : Moment)
+    → rename_home (named_by layout from) (named_by layout to) ≡ Some a
+    → IsHomeOrAbove layout (Ask (types.Rename from from_name to to_name) credential) a
+    → IsCallOn layout (volume_of a) (call_on layout a credential moment (types.Rename from from_name to to_name)) credential moment
+on-both layout a from from_name to to_name credential moment is tried =
+    let both = both-there (named_by layout from) (named_by layout to) a is in
+    let v : ℕ = volume_of a in
     let from_id : ℕ = fileid_in (named_by layout from) in
     let to_id : ℕ = fileid_in (named_by layout to) in
-    let from_named = named-there (named_by layout from) v both.0 in
-    let to_named = named-there (named_by layout to) v both.1 in
+    let from_home = at-logical (named_by layout from) a both.0 in
+    let to_home = at-logical (named_by layout to) a both.1 in
     let run = rename from_name to_name moment in record {
-      good = from_named;
-      under = refl;
-      tried = (Logical v, is, begins-self (path layout (Logical v)));
+      good = from_home.names;
+      under = from_home.above;
+      tried = tried;
       served = λ server volume count there.
-          ap (λ o. on_two server 4 o (locate server to) run) (located-there layout server volume v from_id from count there from_named)
+          ap (λ o. on_two server 4 o (locate server to) run) (located-there layout server volume v from_id from count there from_home.names)
           ∙ ap (λ o. on_two server 4 (Some (record { named = record { volume = v; fileid = from_id }; volume = volume })) o run)
-          (located-there layout server volume v to_id to count there to_named)
+          (located-there layout server volume v to_id to count there to_home.names)
           ∙ ap (λ (b : Bool). if b then placed server 4 v (run volume from_id to_id) else stay server (types.Failed types.CrossVolume 4))
           (eq-eqb v v refl);
     }
 
-pub run-is-call : (layout : Layout) (v : ℕ) (call : Call) (credential : Credential) (moment : Moment) → IsRun call
-    → home layout (call_of call) ≡ Some (Logical v) → IsCallOn layout v (call_on layout (Logical v) credential moment (call_of call)) credential moment
-run-is-call layout v (calls.GetAttributes handle) credential moment run is =
-    on-handle layout v (types.Getattr handle) credential moment is is (λ server. refl)
-run-is-call layout v (calls.SetAttributes handle set guard) credential moment run is =
-    on-handle layout v (call_of (calls.SetAttributes handle set guard)) credential moment is is (λ server. refl)
-run-is-call layout v (calls.Lookup target) credential moment run is =
-    on-handle layout v (call_of (calls.Lookup target)) credential moment is is (λ server. refl)
-run-is-call layout v (calls.Create target mode) credential moment run is =
-    on-handle layout v (call_of (calls.Create target mode)) credential moment is is (λ server. refl)
-run-is-call layout v (calls.MakeDirectory target set) credential moment run is =
-    on-handle layout v (call_of (calls.MakeDirectory target set)) credential moment is is (λ server. refl)
-run-is-call layout v (calls.Remove target) credential moment run is =
-    on-handle layout v (call_of (calls.Remove target)) credential moment is is (λ server. refl)
-run-is-call layout v (calls.RemoveDirectory target) credential moment run is =
-    on-handle layout v (call_of (calls.RemoveDirectory target)) credential moment is is (λ server. refl)
-run-is-call layout v (calls.Rename from to) credential moment run is =
-    on-both layout v from.directory from.name to.directory to.name credential moment is
-run-is-call layout v (calls.ReadDirectory directory cookie verifier count) credential moment run is =
-    on-handle layout v (call_of (calls.ReadDirectory directory cookie verifier count)) credential moment is is (λ server. refl)
-run-is-call layout v (calls.Commit handle) credential moment run is =
-    on-handle layout v (types.Commit handle) credential moment is is (λ server. refl)
-run-is-call layout v call credential moment run is = absurd run
-
--- ---- its home
-
-logical-there : (named : Option Named) (a : Affinity) → logical_home named ≡ Some a → a ≡ Logical (volume_of a)
-logical-there None a e = absurd cc
-logical-there (Some n) a e = let at : Logical n.volume ≡ a = cc in sym at ∙ ap (λ (b : Affinity). Logical (volume_of b)) at
-
--- the home of a call that is run is that of its handle, the first of RENAME's
-pub home-by-handle : (layout : Layout) (call : Call) (a : Affinity) → IsRun call → home layout (call_of call) ≡ Some a
-    → logical_home (named_by layout (handle_in (call_of call))) ≡ Some a
-home-by-handle layout (calls.GetAttributes handle) a run is = is
-home-by-handle layout (calls.SetAttributes handle set guard) a run is = is
-home-by-handle layout (calls.Lookup target) a run is = is
-home-by-handle layout (calls.Create target mode) a run is = is
-home-by-handle layout (calls.MakeDirectory target set) a run is = is
-home-by-handle layout (calls.Remove target) a run is = is
-home-by-handle layout (calls.RemoveDirectory target) a run is = is
-home-by-handle layout (calls.Rename from to) a run is =
-    (both-there (named_by layout from.directory) (named_by layout to.directory) a is).0
-home-by-handle layout (calls.ReadDirectory directory cookie verifier count) a run is = is
-home-by-handle layout (calls.Commit handle) a run is = is
-home-by-handle layout call a run is = absurd run
-
-pub run-home : (layout : Layout) (a : Affinity) (call : Call) → IsRun call → home layout (call_of call) ≡ Some a → a ≡ Logical (volume_of a)
-run-home layout a call run is =
-    logical-there (named_by layout (handle_in (call_of call))) a (home-by-handle layout call a run is)
+pub run-is-call : (layout : Layout) (call : Call) (credential : Credential) (moment : Moment) (a : Affinity) → IsRunAt layout call a
+    → IsCallOn layout (volume_of a) (call_on layout a credential moment (call_of call)) credential moment
+run-is-call layout (calls.Rename from to) credential moment a at =
+    on-both layout a from.directory from.name to.directory to.name credential moment at.1 (run-tried layout (calls.Rename from to) credential a at)
+run-is-call layout (calls.GetAttributes handle) credential moment a at =
+    on-handle layout a (types.Getattr handle) credential moment (run-home layout (calls.GetAttributes handle) a at)
+    (run-tried layout (calls.GetAttributes handle) credential a at) (λ server. refl)
+run-is-call layout (calls.SetAttributes handle set guard) credential moment a at =
+    on-handle layout a (call_of (calls.SetAttributes handle set guard)) credential moment (run-home layout (calls.SetAttributes handle set guard) a at)
+    (run-tried layout (calls.SetAttributes handle set guard) credential a at) (λ server. refl)
+run-is-call layout (calls.Lookup target) credential moment a at =
+    on-handle layout a (call_of (calls.Lookup target)) credential moment (run-home layout (calls.Lookup target) a at)
+    (run-tried layout (calls.Lookup target) credential a at) (λ server. refl)
+run-is-call layout (calls.Read handle offset count) credential moment a at =
+    on-handle layout a (types.Read handle offset count) credential moment (run-home layout (calls.Read handle offset count) a at)
+    (run-tried layout (calls.Read handle offset count) credential a at) (λ server. refl)
+run-is-call layout (calls.Create target mode) credential moment a at =
+    on-handle layout a (call_of (calls.Create target mode)) credential moment (run-home layout (calls.Create target mode) a at)
+    (run-tried layout (calls.Create target mode) credential a at) (λ server. refl)
+run-is-call layout (calls.MakeDirectory target set) credential moment a at =
+    on-handle layout a (call_of (calls.MakeDirectory target set)) credential moment (run-home layout (calls.MakeDirectory target set) a at)
+    (run-tried layout (calls.MakeDirectory target set) credential a at) (λ server. refl)
+run-is-call layout (calls.Remove target) credential moment a at =
+    on-handle layout a (call_of (calls.Remove target)) credential moment (run-home layout (calls.Remove target) a at)
+    (run-tried layout (calls.Remove target) credential a at) (λ server. refl)
+run-is-call layout (calls.RemoveDirectory target) credential moment a at =
+    on-handle layout a (call_of (calls.RemoveDirectory target)) credential moment (run-home layout (calls.RemoveDirectory target) a at)
+    (run-tried layout (calls.RemoveDirectory target) credential a at) (λ server. refl)
+run-is-call layout (calls.ReadDirectory directory cookie verifier count) credential moment a at =
+    on-handle layout a (call_of (calls.ReadDirectory directory cookie verifier count)) credential moment
+    (run-home layout (calls.ReadDirectory directory cookie verifier count) a at)
+    (run-tried layout (calls.ReadDirectory directory cookie verifier count) credential a at) (λ server. refl)
+run-is-call layout (calls.Commit handle) credential moment a at =
+    on-handle layout a (types.Commit handle) credential moment (run-home layout (calls.Commit handle) a at)
+    (run-tried layout (calls.Commit handle) credential a at) (λ server. refl)
+run-is-call layout call credential moment a at = absurd at.0
 
 -- ---- the run
 
@@ -158,17 +136,16 @@ unless-mapped (Replied reply) A B f a = tt
 unless-mapped Starved A B f a = f a
 unless-mapped (Moved other) A B f a = f a
 
-module _ {P : Type 0} (layout : Layout) (lawful : fault_of layout ≡ None) (call : Call) (run : IsRun call) (credential : Credential) (moment : Moment)
-    (old new : FilerLogical P) (outcome : Outcome) (same : UnlessReplied outcome (new ≡ old)) where
-  abbrev RunsAt : Affinity → Type 0
-  RunsAt a = IsNode layout a → home layout (call_of call) ≡ Some a → old.own.stripes ≡ stripes_of layout (volume_of a)
-      → RunsOn (volume_of a) logical_lens (call_on layout a credential moment (call_of call)) (logical_before old) outcome (logical_after old new)
-      → Runs layout a (Ask (call_of call) credential) moment (logical_parcels layout a old) outcome (logical_parcels layout a new)
-
-  runs-here : (v : ℕ) → RunsAt (Logical v)
-  runs-here v on is own right =
+module _ {P : Type 0} (layout : Layout) (lawful : fault_of layout ≡ None) (call : Call) (credential : Credential) (moment : Moment) where
+  -- a call that was run on the set of Logical, by the set's parcels
+  logical-runs-at : (v : ℕ) → IsNode layout (Logical v) → IsRunAt layout call (Logical v) → (old new : FilerLogical P) (outcome : Outcome)
+      → UnlessReplied outcome (new ≡ old) → old.own.stripes ≡ stripes_of layout v
+      → RunsOn v logical_lens (call_on layout (Logical v) credential moment (call_of call)) (logical_before old) outcome (logical_after old new)
+      → Runs layout (Logical v) (Ask (call_of call) credential) moment
+      (logical_parcels layout (Logical v) old) outcome (logical_parcels layout (Logical v) new)
+  logical-runs-at v on at old new outcome same own right =
       runs-by layout v on logical_lens (λ s p. refl) (call_on layout (Logical v) credential moment (call_of call)) credential moment
-      (run-is-call layout v call credential moment run is)
+      (run-is-call layout call credential moment (Logical v) at)
       (logical_parcels layout (Logical v) old) (logical_parcels layout (Logical v) new)
       (logical_set (stripes_of layout v) old) (logical_set (stripes_of layout v) new) (logical-seen layout lawful v on old)
       (λ job reply step. logical-step layout lawful job reply v on old new step) outcome
@@ -177,16 +154,37 @@ module _ {P : Type 0} (layout : Layout) (lawful : fault_of layout ≡ None) (cal
       (unless-mapped outcome (new ≡ old) ((k : ℕ) → logical_parcels layout (Logical v) new k ≡ logical_parcels layout (Logical v) old k)
       (λ e k. ap (λ (h : FilerLogical P). logical_parcels layout (Logical v) h k) e) same)
 
-  -- a call that was run on the set of its home, by the set's parcels
-  pub logical-runs : (a : Affinity) → RunsAt a
-  logical-runs a on is = subst RunsAt (sym (run-home layout a call run is)) (runs-here (volume_of a)) on is
+  pub logical-runs : (v : ℕ) (a : Affinity) → a ≡ Logical v → IsNode layout a → IsRunAt layout call a → (old new : FilerLogical P) (outcome : Outcome)
+      → UnlessReplied outcome (new ≡ old) → old.own.stripes ≡ stripes_of layout v
+      → RunsOn v logical_lens (call_on layout (Logical v) credential moment (call_of call)) (logical_before old) outcome (logical_after old new)
+      → Runs layout a (Ask (call_of call) credential) moment (logical_parcels layout a old) outcome (logical_parcels layout a new)
+  logical-runs v a is on at old new outcome same own right =
+      subst (λ (b : Affinity). IsNode layout b → IsRunAt layout call b
+      → Runs layout b (Ask (call_of call) credential) moment (logical_parcels layout b old) outcome (logical_parcels layout b new))
+      (sym is) (λ there asks. logical-runs-at v there asks old new outcome same own right) on at
 
--- ---- where it is run
+  -- one that was run on the parcel of a stripe
+  stripe-runs-at : (v i : ℕ) → IsNode layout (Stripe v i) → IsRunAt layout call (Stripe v i) → (old new : FilerStripe P) (outcome : Outcome)
+      → UnlessReplied outcome (new ≡ old)
+      → RunsOn v (stripe_lens i) (call_on layout (Stripe v i) credential moment (call_of call)) old.own outcome new.own
+      → Runs layout (Stripe v i) (Ask (call_of call) credential) moment
+      (stripe_parcels layout (Stripe v i) old) outcome (stripe_parcels layout (Stripe v i) new)
+  stripe-runs-at v i on at old new outcome same right =
+      runs-by layout v on.0 (stripe_lens i) (λ s p. refl) (call_on layout (Stripe v i) credential moment (call_of call)) credential moment
+      (run-is-call layout call credential moment (Stripe v i) at)
+      (stripe_parcels layout (Stripe v i) old) (stripe_parcels layout (Stripe v i) new) old.own new.own (stripe-seen layout lawful v on.0 i on.1 old)
+      (λ job reply step. stripe-step layout lawful job reply v on.0 i on.1 old new step) outcome right
+      (unless-mapped outcome (new ≡ old) ((k : ℕ) → stripe_parcels layout (Stripe v i) new k ≡ stripe_parcels layout (Stripe v i) old k)
+      (λ e k. ap (λ (h : FilerStripe P). stripe_parcels layout (Stripe v i) h k) e) same)
 
--- a call is run at its home or above it
-pub run-tried : (layout : Layout) (call : Call) (credential : Credential) (a : Affinity) → IsRunAt layout call a
-    → IsHomeOrAbove layout (Ask (call_of call) credential) a
-run-tried layout call credential a at = (a, at.1, begins-self (path layout a))
+  pub stripe-runs : (v i : ℕ) (a : Affinity) → a ≡ Stripe v i → IsNode layout a → IsRunAt layout call a → (old new : FilerStripe P) (outcome : Outcome)
+      → UnlessReplied outcome (new ≡ old)
+      → RunsOn v (stripe_lens i) (call_on layout (Stripe v i) credential moment (call_of call)) old.own outcome new.own
+      → Runs layout a (Ask (call_of call) credential) moment (stripe_parcels layout a old) outcome (stripe_parcels layout a new)
+  stripe-runs v i a is on at old new outcome same right =
+      subst (λ (b : Affinity). IsNode layout b → IsRunAt layout call b
+      → Runs layout b (Ask (call_of call) credential) moment (stripe_parcels layout b old) outcome (stripe_parcels layout b new))
+      (sym is) (λ there asks. stripe-runs-at v i there asks old new outcome same right) on at
 
 -- ---- where it moves
 
@@ -195,6 +193,7 @@ never-moves : (layout : Layout) (a : Affinity) (credential : Credential) (moment
 never-moves layout a credential moment (calls.GetAttributes handle) run p = refl
 never-moves layout a credential moment (calls.SetAttributes handle set guard) run p = refl
 never-moves layout a credential moment (calls.Lookup target) run p = refl
+never-moves layout a credential moment (calls.Read handle offset count) run p = refl
 never-moves layout a credential moment (calls.Create target mode) run p = refl
 never-moves layout a credential moment (calls.MakeDirectory target set) run p = refl
 never-moves layout a credential moment (calls.Remove target) run p = refl
@@ -205,28 +204,55 @@ never-moves layout a credential moment (calls.Commit handle) run p = refl
 never-moves layout a credential moment call run p = absurd run
 
 -- a call that was run on a part of its volume is run where it moves
-pub moves-on : (layout : Layout) (a : Affinity) (call : Call) → IsRun call → (credential : Credential) (moment : Moment) (old new : LogicalSet)
-    (outcome : Outcome) → HasVolume (volume_of a) logical_lens [] old
-    → RunsOn (volume_of a) logical_lens (call_on layout a credential moment (call_of call)) old outcome new → MovesOn layout call outcome
-moves-on layout a call run credential moment old new (Replied reply) whole right = tt
-moves-on layout a call run credential moment old new Starved whole right = tt
-moves-on layout a call run credential moment old new (Moved other) w right =
+pub moves-on : {S : Type 0} (layout : Layout) (v : ℕ) (lens : Lens VolumeContents S) (a : Affinity) (call : Call) → IsRun call
+    → (credential : Credential) (moment : Moment) (old new : S) (outcome : Outcome) → HasVolume v lens [] old
+    → RunsOn v lens (call_on layout a credential moment (call_of call)) old outcome new → MovesOn layout call outcome
+moves-on layout v lens a call run credential moment old new (Replied reply) whole right = tt
+moves-on layout v lens a call run credential moment old new Starved whole right = tt
+moves-on layout v lens a call run credential moment old new (Moved other) w right =
     let moves : move_on (call_on layout a credential moment (call_of call)) w.0 ≡ Some other = (right w.0 w.1 w.2 w.3 w.4 w.5 w.8 w.7).0.0 in
     let not = never-moves layout a credential moment call run w.0 in
     absurd cc
 
 -- ---- what a run needs
 
--- a call that is run is at home on no other kind of node
-pub not-here : (layout : Layout) (a : Affinity) (call : Call) → IsRun call → home layout (call_of call) ≡ Some a → (kind : Kind)
-    → kind_of a ≡ kind → kind ≢ kinds.VolumeLogical → ⊥
-not-here layout a call run is kind of other = other (sym of ∙ ap kind_of (run-home layout a call run is))
+module _ {P : Type 0} (layout : Layout) (lawful : fault_of layout ≡ None) where
+  -- what is known of the parcels under Logical
+  pub logical-whole : (v : ℕ) (a : Affinity) → a ≡ Logical v → IsNode layout a → (held : FilerLogical P)
+      → HasFiler layout a [] (logical_parcels layout a held)
+      → (held.own.stripes ≡ stripes_of layout v) × HasVolume v logical_lens [] (logical_before held)
+  logical-whole v a is on held filer =
+      subst (λ (b : Affinity). IsNode layout b → HasFiler layout b [] (logical_parcels layout b held)
+      → (held.own.stripes ≡ stripes_of layout v) × HasVolume v logical_lens [] (logical_before held))
+      (sym is) (λ there has. logical-has layout lawful [] v there held has) on filer
 
--- what is known of the parcels of its home
-pub run-whole : {P : Type 0} (layout : Layout) → fault_of layout ≡ None → (a : Affinity) (call : Call) → IsRun call → home layout (call_of call) ≡ Some a
-    → IsNode layout a → (held : FilerLogical P) → HasFiler layout a [] (logical_parcels layout a held)
-    → (held.own.stripes ≡ stripes_of layout (volume_of a)) × HasVolume (volume_of a) logical_lens [] (logical_before held)
-run-whole {P} layout lawful a call run is =
-    subst (λ (b : Affinity). IsNode layout b → (held : FilerLogical P) → HasFiler layout b [] (logical_parcels layout b held)
-    → (held.own.stripes ≡ stripes_of layout (volume_of b)) × HasVolume (volume_of b) logical_lens [] (logical_before held))
-    (sym (run-home layout a call run is)) (λ on held filer. logical-has layout lawful [] (volume_of a) on held filer)
+  -- a stripe that a sound filer has is told how many there are
+  stripe-count : (v i : ℕ) → IsNode layout (Stripe v i) → (held : FilerStripe P) → HasFiler layout (Stripe v i) [] (stripe_parcels layout (Stripe v i) held)
+      → held.own.stripes ≡ stripes_of layout v
+  stripe-count v i on held h =
+      let c : FilerContents = filer_contents layout h.0 in
+      let laid = laid-out layout h.0 in
+      let found = get-some c.volumes v (let count = laid.volumes in let less = on.0 in omega (arith, count, less)) in
+      let p : VolumeContents = found.0 in
+      let well = (h.7 v p found.1).1.well_formed in
+      let shown : length p.stripes ≡ stripes_of layout v = (laid.volume v p found.1).1 in
+      let here : stripe_at p.stripes i ≡ held.own =
+      ap (λ (o : Option VolumeContents). stripe_at (volume_or_none o).stripes i) (sym found.1) ∙ (stripe-seen layout lawful v on.0 i on.1 held).has h.0 h.4 in
+      ap (λ (s : StripeValue). s.stripes) (sym here)
+      ∙ (well.stripes i (let less = on.1 in omega (arith, less, shown))).stripes ∙ sym well.as_many ∙ shown
+
+  -- what is known of the parcel of a stripe
+  stripe-whole-at : (v i : ℕ) → IsNode layout (Stripe v i) → (held : FilerStripe P) → HasFiler layout (Stripe v i) [] (stripe_parcels layout (Stripe v i) held)
+      → IsStripeOf layout v i held.own × HasVolume v (stripe_lens i) [] held.own
+  stripe-whole-at v i on held filer =
+      let count = stripe-count v i on held filer in (
+        record { there = let less = on.1 in omega (arith, less, count); count = count },
+        stripe-has layout lawful [] v on.0 i on.1 held filer,
+      )
+
+  pub stripe-whole : (v i : ℕ) (a : Affinity) → a ≡ Stripe v i → IsNode layout a → (held : FilerStripe P)
+      → HasFiler layout a [] (stripe_parcels layout a held) → IsStripeOf layout v i held.own × HasVolume v (stripe_lens i) [] held.own
+  stripe-whole v i a is on held filer =
+      subst (λ (b : Affinity). IsNode layout b → HasFiler layout b [] (stripe_parcels layout b held)
+      → IsStripeOf layout v i held.own × HasVolume v (stripe_lens i) [] held.own)
+      (sym is) (λ there has. stripe-whole-at v i there held has) on filer

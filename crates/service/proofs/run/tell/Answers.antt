@@ -10,6 +10,7 @@ use Rattle.nfs_values.specs.Moment.{moment_of}
 use Rattle.nfs_values.specs.declared.answer.Answer.TheVariants as answers
 use Rattle.nfs_values.specs.declared.call.Call.{Call}
 use Rattle.held_attributes.specs.Laws.{getattr_call}
+use Rattle.held_data.specs.Laws.{read_call}
 use Rattle.held_names.specs.Laws.{lookup_call, readdir_call, commit_call}
 use Rattle.held_state.specs.Lenses.{logical_lens}
 use Rattle.held_state.specs.Running.{RunsOn}
@@ -46,6 +47,22 @@ returns-in-Lookup c =
           (served-runs n.volume (lookup_call target.directory (Logical n.volume) n.fileid target.name moment) old old told
           (subst (λ (name : List ℕ). LooksUp n.volume n.fileid name old c.lookup-told.result) c.as_bytes.ensures c.lookup-told.ensures.right
           target.directory moment));
+    }
+
+pub read_in_logical-requires : goal.read_in_logical-requires
+read_in_logical-requires c = record { whole = (c.args.named.volume.0, c.requires.whole) }
+
+pub returns-in-Read : goal.returns-in-Read
+returns-in-Read c =
+    let n = named_of c.args.named in
+    let old = logical_before c.args.held.now in
+    let asked = c.in-Read in
+    record {
+      runs = λ layout. subst (λ (call : Call). RunsOn n.volume logical_lens
+          (call_named layout n (credential_of c.args.run.credential) (moment_of c.args.run.moment) (call_of call))
+          old (outcome_of c.outcome_read.result) old) (sym asked.is)
+          (subst (λ (o : Outcome). RunsOn n.volume logical_lens (read_call asked.handle (Logical n.volume) n.fileid asked.offset asked.count) old o old)
+          (sym c.outcome_read.ensures) (c.read_in_logical.ensures.right n.volume asked.handle));
     }
 
 pub returns-in-ReadDirectory : goal.returns-in-ReadDirectory

@@ -2,12 +2,12 @@ use Rattle.affinity_tree.specs.declared.affinity.Kind.TheVariants as kinds
 use Rattle.affinity_tree.specs.Affinity.{affinity_of}
 use Rattle.affinity_tree.specs.Layout.{layout_of}
 use Rattle.parcel_sets.specs.lemmas.Sorts.{aggregate-kind}
-use Rattle.service.specs.lemmas.Serving.{not-here}
+use Rattle.service.specs.lemmas.Homes.{not-here}
 use Rattle.service.proofs.task.RunTaskParcelFilesParcelKinds.on_aggregate.Goals as goal
 
 pub unreachable-requires : goal.unreachable-requires
 unreachable-requires c =
     let L = layout_of c.args.arg2.now in
     let a = affinity_of c.args.arg3 in
-    not-here L a c.args.self.call.now c.requires.asks.0.0 c.requires.asks.0.1 kinds.Aggregate
-    (aggregate-kind L a c.args.arg4.now c.requires.node c.requires.exact) (λ e. cc)
+    not-here L a c.args.self.call.now c.requires.asks.0 kinds.Aggregate
+    (aggregate-kind L a c.args.arg4.now c.requires.node c.requires.exact) (λ e. cc) (λ e. cc)

@@ -1,16 +1,28 @@
+use Rattle.std.proofs.Common.{subst}
+use Rattle.nfs_model.specs.Tree.{Affinity, Logical}
 use Rattle.affinity_tree.specs.Affinity.{affinity_of}
 use Rattle.affinity_tree.specs.Layout.{layout_of}
 use Rattle.nfs_values.specs.Credential.{credential_of}
 use Rattle.nfs_values.specs.Moment.{moment_of}
 use Rattle.parcel_sets.specs.lemmas.Exactly.{logical-exact}
+use Rattle.parcel_sets.specs.lemmas.Sorts.{logical-kind}
+use Rattle.held_state.specs.Lenses.{logical_lens}
 use Rattle.held_state.specs.Sets.{logical_before, logical_after}
-use Rattle.service.specs.Running.{outcome_of}
-use Rattle.service.specs.lemmas.Serving.{logical-runs, run-whole, moves-on}
+use Rattle.service.specs.Running.{IsRunAt, outcome_of}
+use Rattle.service.specs.lemmas.Serving.{logical-runs, logical-whole, moves-on}
 use Rattle.service.proofs.task.RunTaskParcelFilesParcelKinds.on_logical.Goals as goal
+
+pub volume_at-requires : goal.volume_at-requires
+volume_at-requires c =
+    logical-kind (layout_of c.args.layout.now) (affinity_of c.args.affinity) c.args.held.now c.requires.node c.requires.exact
+
+pub run_on_logical-requires-clause-at : goal.run_on_logical-requires-clause-at
+run_on_logical-requires-clause-at c =
+    subst (λ (a : Affinity). IsRunAt (layout_of c.args.layout.now) c.args.self.call.now a) c.volume_at.ensures c.requires.asks.0
 
 pub run_on_logical-requires-clause-whole : goal.run_on_logical-requires-clause-whole
 run_on_logical-requires-clause-whole c =
-    (run-whole (layout_of c.args.layout.now) c.args.layout.now.lawful (affinity_of c.args.affinity) c.args.self.call.now c.requires.asks.0.0 c.requires.asks.0.1
+    (logical-whole (layout_of c.args.layout.now) c.args.layout.now.lawful c.volume_at.result.0 (affinity_of c.args.affinity) c.volume_at.ensures
     c.requires.node c.args.held.now c.requires.asks.1).1
 
 pub returns-clause-exact : goal.returns-clause-exact
@@ -24,12 +36,15 @@ returns-clause-does c =
     let a = affinity_of c.args.affinity in
     let call = c.args.self.call.now in
     let held = c.args.held.now in
-    let run = c.requires.asks.0.0 in
-    let known = run-whole L c.args.layout.now.lawful a call run c.requires.asks.0.1 c.requires.node held c.requires.asks.1 in
+    let new = c.run_on_logical.new.held in
+    let v = c.volume_at.result.0 in
+    let at = c.volume_at.ensures in
+    let credential = credential_of c.args.self.credential in
+    let moment = moment_of c.args.self.moment in
+    let known = logical-whole L c.args.layout.now.lawful v a at c.requires.node held c.requires.asks.1 in
     let ran = c.run_on_logical.ensures.runs in
     let outcome = outcome_of c.run_on_logical.result in (
-      logical-runs L c.args.layout.now.lawful call run (credential_of c.args.self.credential) (moment_of c.args.self.moment)
-          held c.run_on_logical.new.held outcome c.run_on_logical.ensures.moved a c.requires.node c.requires.asks.0.1 known.0 ran,
-      moves-on L a call run (credential_of c.args.self.credential) (moment_of c.args.self.moment)
-          (logical_before held) (logical_after held c.run_on_logical.new.held) outcome known.1 ran,
+      logical-runs L c.args.layout.now.lawful call credential moment v a at c.requires.node c.requires.asks.0 held new outcome
+          c.run_on_logical.ensures.moved known.0 ran,
+      moves-on L v logical_lens (Logical v) call c.requires.asks.0.0 credential moment (logical_before held) (logical_after held new) outcome known.1 ran,
     )

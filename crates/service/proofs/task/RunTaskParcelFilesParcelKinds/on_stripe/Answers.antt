@@ -1,13 +1,49 @@
-use Rattle.affinity_tree.specs.declared.affinity.Kind.TheVariants as kinds
 use Rattle.affinity_tree.specs.Affinity.{affinity_of}
 use Rattle.affinity_tree.specs.Layout.{layout_of}
+use Rattle.nfs_model.specs.Tree.{Affinity, Stripe}
+use Rattle.nfs_values.specs.Credential.{credential_of}
+use Rattle.nfs_values.specs.Moment.{moment_of}
+use Rattle.parcel_sets.specs.lemmas.Exactly.{stripe-exact}
 use Rattle.parcel_sets.specs.lemmas.Sorts.{stripe-kind}
-use Rattle.service.specs.lemmas.Serving.{not-here}
+use Rattle.std.proofs.Common.{subst}
+use Rattle.held_state.specs.Lenses.{stripe_lens}
+use Rattle.service.specs.Running.{IsRunAt, outcome_of}
+use Rattle.service.specs.lemmas.Serving.{stripe-runs, stripe-whole, moves-on}
 use Rattle.service.proofs.task.RunTaskParcelFilesParcelKinds.on_stripe.Goals as goal
 
-pub unreachable-requires : goal.unreachable-requires
-unreachable-requires c =
-    let L = layout_of c.args.arg2.now in
-    let a = affinity_of c.args.arg3 in
-    not-here L a c.args.self.call.now c.requires.asks.0.0 c.requires.asks.0.1 kinds.Stripe
-    (stripe-kind L a c.args.arg4.now c.requires.node c.requires.exact) (λ e. cc)
+pub stripe_at-stripe-requires : goal.stripe_at-stripe-requires
+stripe_at-stripe-requires c =
+    stripe-kind (layout_of c.args.layout.now) (affinity_of c.args.affinity) c.args.held.now c.requires.node c.requires.exact
+
+pub run_on_stripe-requires-clause-at : goal.run_on_stripe-requires-clause-at
+run_on_stripe-requires-clause-at c =
+    subst (λ (a : Affinity). IsRunAt (layout_of c.args.layout.now) c.args.self.call.now a) c.stripe_at-stripe.ensures c.requires.asks.0
+
+pub run_on_stripe-requires-clause-stripe : goal.run_on_stripe-requires-clause-stripe
+run_on_stripe-requires-clause-stripe c =
+    (stripe-whole (layout_of c.args.layout.now) c.args.layout.now.lawful c.stripe_at-stripe.result.0.0 c.stripe_at-stripe.result.1 (affinity_of c.args.affinity)
+    c.stripe_at-stripe.ensures c.requires.node c.args.held.now c.requires.asks.1).0
+
+pub returns-clause-exact : goal.returns-clause-exact
+returns-clause-exact c =
+    stripe-exact (layout_of c.args.layout.now) (affinity_of c.args.affinity) c.args.held.now c.run_on_stripe.new.held tt c.requires.exact
+
+pub returns-clause-does : goal.returns-clause-does
+returns-clause-does c =
+    let L = layout_of c.args.layout.now in
+    let a = affinity_of c.args.affinity in
+    let call = c.args.self.call.now in
+    let held = c.args.held.now in
+    let new = c.run_on_stripe.new.held in
+    let v = c.stripe_at-stripe.result.0.0 in
+    let i = c.stripe_at-stripe.result.1 in
+    let at = c.stripe_at-stripe.ensures in
+    let credential = credential_of c.args.self.credential in
+    let moment = moment_of c.args.self.moment in
+    let known = stripe-whole L c.args.layout.now.lawful v i a at c.requires.node held c.requires.asks.1 in
+    let ran = c.run_on_stripe.ensures.runs in
+    let outcome = outcome_of c.run_on_stripe.result in (
+      stripe-runs L c.args.layout.now.lawful call credential moment v i a at c.requires.node c.requires.asks.0 held new outcome
+          c.run_on_stripe.ensures.moved ran,
+      moves-on L v (stripe_lens i) (Stripe v i) call c.requires.asks.0.0 credential moment held.own new.own outcome known.1 ran,
+    )

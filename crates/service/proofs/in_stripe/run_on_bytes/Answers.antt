@@ -1,0 +1,31 @@
+use Rattle.std.proofs.Common.{sym, subst}
+use Rattle.nfs_model.specs.Tree.{Stripe}
+use Rattle.nfs_model.specs.Work.{Outcome}
+use Rattle.nfs_values.specs.Call.{call_of}
+use Rattle.nfs_values.specs.Credential.{credential_of}
+use Rattle.nfs_values.specs.Moment.{moment_of}
+use Rattle.nfs_values.specs.declared.call.Call.{Call}
+use Rattle.held_data.specs.Laws.{read_call}
+use Rattle.held_state.specs.Lenses.{stripe_lens}
+use Rattle.held_state.specs.Running.{RunsOn}
+use Rattle.service.specs.Running.{BytesLieIn, call_of_node, outcome_of}
+use Rattle.service.proofs.in_stripe.run_on_bytes.Goals as goal
+
+pub read_in_stripe-requires : goal.read_in_stripe-requires
+read_in_stripe-requires c =
+    let s = c.args.held.now.own in
+    record { span = (subst (λ (call : Call). BytesLieIn s.stripes c.args.stripe c.args.fileid.0 (call_of call)) c.in-Read.is c.requires.bytes).span }
+
+pub returns-clause-runs : goal.returns-clause-runs
+returns-clause-runs c layout =
+    let v = c.args.volume.0 in
+    let i = c.args.stripe in
+    let f = c.args.fileid.0 in
+    let s = c.args.held.now.own in
+    let asked = c.in-Read in
+    let lies = subst (λ (call : Call). BytesLieIn s.stripes i f (call_of call)) asked.is c.requires.bytes in
+    subst (λ (call : Call). RunsOn v (stripe_lens i)
+    (call_of_node layout (Stripe v i) f (credential_of c.args.run.credential) (moment_of c.args.run.moment) (call_of call))
+    s (outcome_of c.outcome_read.result) s) (sym asked.is)
+    (subst (λ (o : Outcome). RunsOn v (stripe_lens i) (read_call asked.handle (Stripe v i) f asked.offset asked.count) s o s) (sym c.outcome_read.ensures)
+    (c.read_in_stripe.ensures.right v i asked.handle c.requires.there lies))

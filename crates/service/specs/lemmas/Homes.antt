@@ -1,0 +1,117 @@
+-- The home of a call that is run: what it is, and what is known of the call there.
+use Rattle.std.proofs.Common.{◌≡◌, ◌≢◌, ℕ, ◌+◌, ◌-◌, ◌/◌, ◌%◌, ◌<◌, Bool, true, false, Option, Some, None, refl, sym, ap, ◌∙◌}
+use Rattle.std.proofs.Common.{subst, inl, inr, ◌⊎◌, ⊎_elim, arith}
+use Rattle.std.proofs.lemmas.Bool.{eqb-true}
+use Rattle.std.specs.Prelude.{◌==◌, ◌||◌, min, if◌then◌else◌}
+use Rattle.nfs_model.specs.Tree.{Layout, Affinity, Logical, Stripe, stripes_of}
+use Rattle.nfs_model.specs.Server.{Named, most_bytes}
+use Rattle.nfs_model.specs.Home.{logical_home, bytes_home, rename_home, named_by, span_bytes, stripe_of_span}
+use Rattle.nfs_model.specs.Work.{volume_above}
+use Rattle.nfs_values.specs.Call.{call_of}
+use Rattle.nfs_values.specs.declared.call.Call.{Call}
+use Rattle.nfs_values.specs.declared.call.Call.TheVariants as calls
+use Rattle.affinity_tree.specs.Affinity.{kind_of}
+use Rattle.affinity_tree.specs.declared.affinity.Kind.{Kind}
+use Rattle.affinity_tree.specs.declared.affinity.Kind.TheVariants as kinds
+use Rattle.parcel_sets.specs.Sets.{volume_of}
+use Rattle.held_state.specs.Calls.{LieIn, handle_in}
+use Rattle.held_data.specs.lemmas.Homes.{home-lies}
+use Rattle.service.specs.Running.{IsRunAt, BytesLieIn, fileid_in}
+
+-- what its handle names, the first of RENAME's: a fileid of the home's volume; and what the home is
+pub record IsHomeOf (named : Option Named) (a : Affinity) : Type 0 where
+  pub names : named ≡ Some (record { volume = volume_of a; fileid = fileid_in named })
+  pub above : volume_above a ≡ Some (volume_of a)
+  pub kind : (kind_of a ≡ kinds.VolumeLogical) ⊎ (kind_of a ≡ kinds.Stripe)
+
+-- Logical of its volume
+of-logical : (n : Named) (a : Affinity) → Logical n.volume ≡ a → IsHomeOf (Some n) a
+of-logical n a at = subst (IsHomeOf (Some n)) at (record { names = refl; above = refl; kind = inl refl })
+
+-- a stripe of its volume
+of-stripe : (n : Named) (i : ℕ) (a : Affinity) → Stripe n.volume i ≡ a → IsHomeOf (Some n) a
+of-stripe n i a at = subst (IsHomeOf (Some n)) at (record { names = refl; above = refl; kind = inr refl })
+
+pub at-logical : (named : Option Named) (a : Affinity) → logical_home named ≡ Some a → IsHomeOf named a
+at-logical None a e = absurd cc
+at-logical (Some n) a e = of-logical n a cc
+
+-- of bytes
+at-bytes : (layout : Layout) (named : Option Named) (offset n : ℕ) (a : Affinity) → bytes_home layout named offset n ≡ Some a → IsHomeOf named a
+at-bytes layout None offset n a e = absurd cc
+at-bytes layout (Some h) offset n a e = by ((n == 0) || (offset / span_bytes == (offset + n - 1) / span_bytes)) e
+  where
+    by : (b : Bool) → (if b then Some (stripe_of_span layout h (offset / span_bytes)) else Some (Logical h.volume)) ≡ Some a → IsHomeOf (Some h) a
+    by true is = of-stripe h ((h.fileid + offset / span_bytes) % stripes_of layout h.volume) a cc
+    by false is = of-logical h a cc
+
+-- of two handles whose volume is one
+pub both-there : (from to : Option Named) (a : Affinity) → rename_home from to ≡ Some a → (logical_home from ≡ Some a) × (logical_home to ≡ Some a)
+both-there None to a e = absurd cc
+both-there (Some m) None a e = absurd cc
+both-there (Some m) (Some n) a e = by-volumes (m.volume == n.volume) refl e
+  where
+    by-volumes : (b : Bool) → (m.volume == n.volume) ≡ b → (if b then Some (Logical m.volume) else None) ≡ Some a
+        → (Some (Logical m.volume) ≡ Some a) × (Some (Logical n.volume) ≡ Some a)
+    by-volumes false same is = absurd cc
+    by-volumes true same is = (is, ap (λ (w : ℕ). Some (Logical w)) (sym (eqb-true m.volume n.volume same)) ∙ is)
+
+at-both : (from to : Option Named) (a : Affinity) → rename_home from to ≡ Some a → IsHomeOf from a
+at-both from to a e = at-logical from a (both-there from to a e).0
+
+pub run-home : (layout : Layout) (call : Call) (a : Affinity) → IsRunAt layout call a → IsHomeOf (named_by layout (handle_in (call_of call))) a
+run-home layout (calls.GetAttributes handle) a at = at-logical (named_by layout handle) a at.1
+run-home layout (calls.SetAttributes handle set guard) a at = at-logical (named_by layout handle) a at.1
+run-home layout (calls.Lookup target) a at = at-logical (named_by layout target.directory) a at.1
+run-home layout (calls.Read handle offset count) a at = at-bytes layout (named_by layout handle) offset (min count most_bytes) a at.1
+run-home layout (calls.Create target mode) a at = at-logical (named_by layout target.directory) a at.1
+run-home layout (calls.MakeDirectory target set) a at = at-logical (named_by layout target.directory) a at.1
+run-home layout (calls.Remove target) a at = at-logical (named_by layout target.directory) a at.1
+run-home layout (calls.RemoveDirectory target) a at = at-logical (named_by layout target.directory) a at.1
+run-home layout (calls.Rename from to) a at = at-both (named_by layout from.directory) (named_by layout to.directory) a at.1
+run-home layout (calls.ReadDirectory directory cookie verifier count) a at = at-logical (named_by layout directory) a at.1
+run-home layout (calls.Commit handle) a at = at-logical (named_by layout handle) a at.1
+run-home layout call a at = absurd at.0
+
+-- its handle is good
+pub run-named : (layout : Layout) (call : Call) (a : Affinity) → IsRunAt layout call a → named_by layout (handle_in (call_of call)) ≡ None → ⊥
+run-named layout call a at none = let e = sym none ∙ (run-home layout call a at).names in cc
+
+-- ---- where it is run
+
+-- a call is run on no node of another kind
+pub not-here : (layout : Layout) (a : Affinity) (call : Call) → IsRunAt layout call a → (kind : Kind) → kind_of a ≡ kind
+    → kind ≢ kinds.VolumeLogical → kind ≢ kinds.Stripe → ⊥
+not-here layout a call at kind of logical stripe =
+    ⊎_elim (λ (e : kind_of a ≡ kinds.VolumeLogical). logical (sym of ∙ e)) (λ (e : kind_of a ≡ kinds.Stripe). stripe (sym of ∙ e))
+    (run-home layout call a at).kind
+
+-- in a stripe, only one on bytes that lie in it
+not-stripe : (named : Option Named) (v i : ℕ) → logical_home named ≡ Some (Stripe v i) → ⊥
+not-stripe None v i e = cc
+not-stripe (Some n) v i e = cc
+
+lies-there : (layout : Layout) (named : Option Named) (offset n v i stripes : ℕ) → bytes_home layout named offset n ≡ Some (Stripe v i)
+    → stripes ≡ stripes_of layout v → 0 < stripes → LieIn stripes i (fileid_in named) offset n
+lies-there layout None offset n v i stripes e many some = absurd cc
+lies-there layout (Some h) offset n v i stripes e many some =
+    let same : Some h ≡ Some (record { volume = v; fileid = h.fileid }) = (at-bytes layout (Some h) offset n (Stripe v i) e).names in
+    let volume : h.volume ≡ v = cc in
+    (home-lies layout h offset n v i stripes e (many ∙ sym (ap (stripes_of layout) volume)) some).2
+
+pub bytes-lie : (layout : Layout) (call : Call) (v i stripes : ℕ) → IsRunAt layout call (Stripe v i) → stripes ≡ stripes_of layout v → i < stripes
+    → BytesLieIn stripes i (fileid_in (named_by layout (handle_in (call_of call)))) (call_of call)
+bytes-lie layout (calls.GetAttributes handle) v i stripes at many there = not-stripe (named_by layout handle) v i at.1
+bytes-lie layout (calls.SetAttributes handle set guard) v i stripes at many there = not-stripe (named_by layout handle) v i at.1
+bytes-lie layout (calls.Lookup target) v i stripes at many there = not-stripe (named_by layout target.directory) v i at.1
+bytes-lie layout (calls.Read handle offset count) v i stripes at many there =
+    lies-there layout (named_by layout handle) offset (min count most_bytes) v i stripes at.1 many (omega arith)
+bytes-lie layout (calls.Create target mode) v i stripes at many there = not-stripe (named_by layout target.directory) v i at.1
+bytes-lie layout (calls.MakeDirectory target set) v i stripes at many there = not-stripe (named_by layout target.directory) v i at.1
+bytes-lie layout (calls.Remove target) v i stripes at many there = not-stripe (named_by layout target.directory) v i at.1
+bytes-lie layout (calls.RemoveDirectory target) v i stripes at many there = not-stripe (named_by layout target.directory) v i at.1
+bytes-lie layout (calls.Rename from to) v i stripes at many there =
+    not-stripe (named_by layout from.directory) v i (both-there (named_by layout from.directory) (named_by layout to.directory) (Stripe v i) at.1).0
+bytes-lie layout (calls.ReadDirectory directory cookie verifier count) v i stripes at many there = not-stripe (named_by layout directory) v i at.1
+bytes-lie layout (calls.Commit handle) v i stripes at many there = not-stripe (named_by layout handle) v i at.1
+bytes-lie layout call v i stripes at many there = absurd at.0

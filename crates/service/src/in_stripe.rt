@@ -1,0 +1,79 @@
+//! Calls run on the parcel of a stripe.
+
+ghost use Rattle.std.specs.Prelude.{◌≡◌, ◌<◌};
+ghost use Rattle.nfs_model.specs.Tree as trees;
+ghost use Rattle.affinity_tree.specs.Layout.{layout_of};
+ghost use Rattle.nfs_values.specs.Call.{call_of};
+ghost use Rattle.nfs_values.specs.Credential.{credential_of};
+ghost use Rattle.nfs_values.specs.Moment.{moment_of};
+ghost use Rattle.held_state.specs.Lenses.{stripe_lens};
+ghost use Rattle.held_state.specs.Running.{RunsOn, UnlessReplied};
+ghost use Rattle.service.specs.Running.{
+  call_of_node,
+  call_on,
+  outcome_of,
+  BytesLieIn,
+  IsRunAt,
+  IsStripeOf,
+};
+
+use crate::named::fileid_here;
+use crate::outcome::{Outcome, outcome_read};
+use crate::task::Run;
+use affinity_tree::{Affinity, Layout};
+use nfs_values::{Call, Fileid, VolumeNumber};
+use parcel_sets::StripeHeld;
+use parcels::Files;
+use service_data::read_in_stripe;
+
+/// Runs a call on the parcel of a stripe of its volume, its home.
+pub fn run_on_stripe(
+    run: Run,
+    layout: &Layout,
+    volume: VolumeNumber,
+    stripe: u32,
+    held: &mut StripeHeld<Files>,
+) -> Outcome
+    requires at { IsRunAt (layout_of layout.now) run.call.now (trees.Stripe volume.0 stripe) }
+    requires stripe { IsStripeOf (layout_of layout.now) volume.0 stripe held.old.own }
+    ensures runs { RunsOn volume.0 (stripe_lens stripe)
+        (call_on (layout_of layout.now) (trees.Stripe volume.0 stripe)
+        (credential_of run.entry.credential) (moment_of run.entry.moment)
+        (call_of run.entry.call.now))
+        held.old.own (outcome_of result) held.new.own }
+    ensures moved { UnlessReplied (outcome_of result) (held.new ≡ held.old) }
+{
+    let node = Affinity::Stripe {
+        volume: volume.0,
+        stripe,
+    };
+    let fileid = fileid_here(layout, node, run.call);
+    run_on_bytes(run, volume, stripe, held, fileid)
+}
+
+/// Runs a call on bytes of a file, which lie in a stripe, on the stripe's parcel.
+fn run_on_bytes(
+    run: Run,
+    volume: VolumeNumber,
+    stripe: u32,
+    held: &mut StripeHeld<Files>,
+    fileid: Fileid,
+) -> Outcome
+    requires there { stripe < held.old.own.stripes }
+    requires bytes { BytesLieIn held.old.own.stripes stripe fileid.0 (call_of run.call.now) }
+    ensures runs { (layout : trees.Layout) → RunsOn volume.0 (stripe_lens stripe)
+        (call_of_node layout (trees.Stripe volume.0 stripe) fileid.0
+        (credential_of run.entry.credential) (moment_of run.entry.moment)
+        (call_of run.entry.call.now))
+        held.old.own (outcome_of result) held.new.own }
+    ensures moved { UnlessReplied (outcome_of result) (held.new ≡ held.old) }
+{
+    match run.call {
+        Call::Read {
+            handle: _,
+            offset,
+            count,
+        } => outcome_read(read_in_stripe(run.alloc, held, fileid, *offset, *count)),
+        _ => unreachable!(),
+    }
+}

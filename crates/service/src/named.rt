@@ -1,0 +1,47 @@
+//! What the handles of calls name.
+
+ghost use Rattle.std.specs.Prelude.{◌≡◌};
+ghost use Rattle.nfs_model.specs.Home.{named_by};
+ghost use Rattle.affinity_tree.specs.Affinity.{affinity_of};
+ghost use Rattle.affinity_tree.specs.Layout.{layout_of};
+ghost use Rattle.nfs_values.specs.Call.{call_of};
+ghost use Rattle.held_state.specs.Calls.{handle_in};
+ghost use Rattle.service.specs.Running.{fileid_in, IsRun, IsRunAt};
+
+use affinity::named_by;
+use affinity_tree::{Affinity, Layout};
+use nfs_values::{Call, FileHandle, Fileid};
+
+/// The fileid that the handle of a call names, the first of RENAME's, where the call is run at this
+/// node.
+pub(crate) fn fileid_here(layout: &Layout, affinity: Affinity, call: &Call) -> Fileid
+    requires { IsRunAt (layout_of layout.now) call.now (affinity_of affinity) }
+    ensures { result.0
+        ≡ fileid_in (named_by (layout_of layout.now) (handle_in (call_of call.now))) }
+{
+    match named_by(handle_of(call), layout) {
+        Some(named) => named.fileid,
+        None => unreachable!(),
+    }
+}
+
+/// The handle of a call that is run, the first of RENAME's.
+fn handle_of(call: &Call) -> &FileHandle
+    requires { IsRun call.now }
+    ensures { result.now ≡ handle_in (call_of call.now) }
+{
+    match call {
+        Call::GetAttributes { handle } => handle,
+        Call::SetAttributes { handle, .. } => handle,
+        Call::Lookup(target) => &target.directory,
+        Call::Read { handle, .. } => handle,
+        Call::Create { target, .. } => &target.directory,
+        Call::MakeDirectory { target, .. } => &target.directory,
+        Call::Remove(target) => &target.directory,
+        Call::RemoveDirectory(target) => &target.directory,
+        Call::Rename { from, .. } => &from.directory,
+        Call::ReadDirectory { directory, .. } => directory,
+        Call::Commit { handle } => handle,
+        _ => unreachable!(),
+    }
+}
