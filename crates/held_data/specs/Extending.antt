@@ -1,7 +1,7 @@
 -- What is under Volume Logical after bytes are written to a file that grows for it, or whose holes are filled (WRITE, RFC 1813 section
 -- 3.3.7): the file reaches at least to the end of the bytes, each hole that they meet is filled with a block of zeros, and the bytes are
 -- written over what is there then.
-use Rattle.std.specs.Prelude.{ℕ, ◌+◌, ◌-◌, ◌/◌, ◌%◌, max, Bool, not, List, [], ◌∷◌, map, length, take, drop, Option, Some, None, slice_set}
+use Rattle.std.specs.Prelude.{ℕ, ◌+◌, ◌-◌, ◌/◌, ◌%◌, max, not, List, [], ◌∷◌, map, length, take, drop, Option, Some, None, slice_set}
 use Rattle.std.specs.List.{filter}
 use Rattle.std.specs.FinMap.{get}
 use Rattle.nfs_model.specs.Types.{Moment}

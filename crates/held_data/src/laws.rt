@@ -7,6 +7,12 @@ ghost use Rattle.held_data.specs.Laws.{
   StripeReadMayStarve,
 };
 ghost use Rattle.held_data.specs.WritingLaws.{StripeWriteIsRight};
+ghost use Rattle.held_data.specs.WritingUpLaws.{
+  LogicalWriteIsRight,
+  LogicalWriteMayStarve,
+  VolumeWriteIsRight,
+  VolumeWriteMayStarve,
+};
 
 /// On every sound volume with the parcels that are held, READ as it is told by the stripe in which
 /// its bytes lie, and by what is under Volume Logical, is the serial server's, changes nothing, and
@@ -19,7 +25,14 @@ pub fn reading_calls_are_right()
 {}
 
 /// So is WRITE as it is told by the stripe in which its bytes lie: what writes over bytes that are
-/// there is done in it, and what would extend the file or fill a hole moves.
+/// there is done in it, and what would extend the file or fill a hole moves. By what is under
+/// Volume Logical the file is extended and its holes are filled where the stock has the blocks, and
+/// it moves where the stock is short; by what is under Volume they are filled from all parts of the
+/// volume, and it moves where the rest is in hands. One that fills a hole may find no memory.
 pub fn writing_calls_are_right()
     ensures in_stripe { StripeWriteIsRight }
+    ensures in_logical { LogicalWriteIsRight }
+    ensures in_logical_starves { LogicalWriteMayStarve }
+    ensures in_volume { VolumeWriteIsRight }
+    ensures in_volume_starves { VolumeWriteMayStarve }
 {}

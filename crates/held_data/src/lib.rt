@@ -1,4 +1,5 @@
-//! What READ and WRITE come to by a stripe, and by the parcels under Volume Logical.
+//! What READ and WRITE come to by a stripe, by the parcels under Volume Logical, and by those under
+//! Volume.
 #![tactic(auto)]
 
 mod laws;

@@ -64,7 +64,7 @@ module _ (p : VolumeContents) (i f offset : ℕ) (written : List ℕ) (moment : 
       (cases_lt k (offset + length written)))
       (cases_lt k offset)
 
-  byte-now : (k : ℕ) → file_byte after.stripes f k ≡ byte_written offset written k (file_byte p.stripes f k)
+  pub byte-now : (k : ℕ) → file_byte after.stripes f k ≡ byte_written offset written k (file_byte p.stripes f k)
   byte-now k = home-put p.stripes i now on (λ s. byte_at s f k) (λ s. byte_written offset written k (byte_at s f k)) f (k / block_size)
       (λ e. byte-here f offset written moment was k (met-passes (is_filled was f) offset (length written) k filled))
       (λ ne. outside k (file_byte p.stripes f k) ne)
@@ -78,7 +78,7 @@ module _ (p : VolumeContents) (i f offset : ℕ) (written : List ℕ) (moment : 
 
   -- ---- filled blocks
 
-  filled-kept : (q : ℕ) → file_filled after.stripes q ≡ file_filled p.stripes q
+  pub filled-kept : (q : ℕ) → file_filled after.stripes q ≡ file_filled p.stripes q
   filled-kept q = λ j. sets.retain (sets.from_list (range_with_len 0 most_file_blocks)) (λ block.
       home-same p.stripes i now on (λ s. is_filled s q block) q block (filled-same f offset written moment was q block) j)
 
@@ -89,7 +89,7 @@ module _ (p : VolumeContents) (i f offset : ℕ) (written : List ℕ) (moment : 
 
   -- ---- touches
 
-  touch-now : file_touch after.stripes f ≡ Some (touched (file_touch p.stripes f) moment)
+  pub touch-now : file_touch after.stripes f ≡ Some (touched (file_touch p.stripes f) moment)
   touch-now = touch-put f now moment p.stripes i on (touch-here f offset written moment was card_size card_touch card)
 
   touch-kept : (q : ℕ) → (q == f) ≡ false → file_touch after.stripes q ≡ file_touch p.stripes q
