@@ -1,3 +1,9 @@
+mod Holed
+mod Extended
+mod Grown
+mod Placed
+mod Refilled
 mod Spanned
+mod Stocked
 mod Told
 mod Written

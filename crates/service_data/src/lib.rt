@@ -1,6 +1,9 @@
 //! Calls on the bytes of files, on the parcels that they hold: READ and WRITE.
 #![tactic(auto)]
 
+mod extending;
+mod holes;
+mod homes;
 mod reading;
 mod spans;
 mod writing;

@@ -1,16 +1,28 @@
 //! WRITE.
 
-ghost use Rattle.std.specs.Prelude.{◌≡◌, min, IfNone};
+ghost use Rattle.std.specs.Prelude.{◌≡◌, min, IfNone, IfOk, None, OnErr};
 ghost use Rattle.std.specs.Option.{option_map};
 ghost use Rattle.nfs_values.specs.Moment.{moment_of};
 ghost use Rattle.stripe_cards.specs.Cards.{card_of};
-ghost use Rattle.service_data.specs.Promises.{LieInOneSpan};
-ghost use Rattle.service_data.specs.Writing.{asked_to_write, bytes_to_write, WritesInStripe};
+ghost use Rattle.inodes.specs.Inode.{inode_value};
+ghost use Rattle.parcel_sets.specs.Filled.{logical_alike};
+ghost use Rattle.held_state.specs.Sets.{logical_before, logical_after};
+ghost use Rattle.service_data.specs.Promises.{IsHeld, LieInOneSpan};
+ghost use Rattle.service_data.specs.Writing.{
+  asked_to_write,
+  bytes_to_write,
+  card_shown,
+  DoneInLogical,
+  WritesInStripe,
+};
 
+use crate::extending::extend;
 use crate::reading::COUNT_LIMIT;
+use inodes::{Inode, InodeKind};
 use nfs_values::{Fileid, Moment, Status, WriteResults};
-use parcel_sets::StripeHeld;
+use parcel_sets::{LogicalHeld, StripeHeld};
 use parcels::Files;
+use std::alloc::AllocError;
 use stripe_cards::Card;
 
 /// WRITE (RFC 1813 section 3.3.7), on the parcel of the stripe in which its bytes lie, as many as
@@ -49,6 +61,53 @@ pub fn write_in_stripe(
         count: given as u32,
         verifier,
     }))
+}
+
+/// What WRITE comes to on the parcels under Volume Logical.
+fn done_in_logical(
+    held: &mut LogicalHeld<Files>,
+    fileid: Fileid,
+    offset: u64,
+    count: u32,
+    written: &[u8],
+    moment: Moment,
+) -> Result<Option<Result<WriteResults, Status>>, AllocError>
+    requires whole { IsHeld (logical_before held.old) }
+    ensures done { DoneInLogical fileid.0
+        (asked_to_write offset count written.now (moment_of moment))
+        (logical_before held.old) result (logical_after held.old held.new) }
+    ensures moved { IfOk result (λ told. told ≡ None → held.new ≡ held.old) }
+    ensures starved { OnErr result (held.new ≡ held.old) }
+    ensures alike { logical_alike held.old held.new }
+{
+    let logical = held.own.get();
+    let verifier = logical.verifier;
+    let card = card_of_inode(logical.inodes.get(fileid));
+    let given = match bytes_to_write(card, logical.largest, offset, count, written.len()) {
+        Ok(given) => given,
+        Err(status) => return Ok(Some(Err(status))),
+    };
+    if given == 0 {
+        return Ok(Some(Ok(WriteResults { count: 0, verifier })));
+    }
+    match extend(held, fileid, offset, &written[..given], moment) {
+        Ok(true) => Ok(Some(Ok(WriteResults {
+            count: given as u32,
+            verifier,
+        }))),
+        Ok(false) => Ok(None),
+        Err(error) => Err(error),
+    }
+}
+
+/// The card that an inode has in each stripe, but for the touch.
+fn card_of_inode(inode: Option<Inode>) -> Option<Card>
+    ensures { option_map card_of result ≡ card_shown (option_map inode_value inode) }
+{
+    match inode?.kind {
+        InodeKind::RegularFile { size, .. } => Some(Card::File { size, touch: None }),
+        InodeKind::Directory { .. } => Some(Card::Directory),
+    }
 }
 
 /// How many bytes are to be written to a file, by its card and the largest size: STALE where there

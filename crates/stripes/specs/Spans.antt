@@ -6,7 +6,7 @@ use Rattle.std.specs.Option.{option_map}
 use Rattle.std.specs.Map.{lookup}
 use Rattle.std.specs.BTreeMap.{is_at}
 use Rattle.std.specs.FinMap.{FinMap, from_entries, entries, get, retain_keys}
-use Rattle.volume_values.specs.Maps.{map_values}
+use Rattle.volume_values.specs.Maps.{map_values, changed_at}
 use Rattle.nfs_model.specs.Server.{block_size}
 use Rattle.nfs_model.specs.Home.{span_bytes}
 use Rattle.nfs_model.specs.Serial.Write.{blocks_met}
@@ -100,6 +100,16 @@ CutsSpan size old new =
     (b : ℕ) → place_of new b
     ≡ (if b % span_blocks == (size / block_size) % span_blocks then option_map (block_mapped (byte_cut size) (size / block_size))
     (place_of old b) else place_of old b)
+
+-- a block under another number
+abbrev pub renumbered : ℕ → Block → Block
+renumbered number b = record b { number = number }
+
+-- the block at its place under another number
+abbrev pub NumbersSpan : ℕ → ℕ → Places → Places → Type 0
+NumbersSpan block number old new =
+    (b : ℕ) → place_of new b
+    ≡ (if b % span_blocks == block % span_blocks then option_map (renumbered number) (place_of old b) else place_of old b)
 
 -- No block is at a place or after it.
 abbrev pub HasNone : ℕ → Places → Type 0
@@ -226,6 +236,10 @@ cut_blocks fileid size blocks = map_values (file_mapped (byte_cut size) fileid) 
 abbrev pub blocks_read : FinMap place_cmp Block → ℕ → ℕ → ℕ → List ℕ
 blocks_read blocks fileid offset n =
     map (λ at. byte_of (get blocks (fileid, at / block_size)) (at % block_size)) (range_with_len offset n)
+
+-- a file's block under another number, if it is there
+abbrev pub block_renumbered : ℕ → ℕ → ℕ → FinMap place_cmp Block → FinMap place_cmp Block
+block_renumbered fileid block number blocks = changed_at (renumbered number) (fileid, block) blocks
 
 -- Blocks have 4,096 bytes.
 abbrev pub IsLong : FinMap place_cmp Block → Type 0

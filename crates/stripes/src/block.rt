@@ -4,6 +4,7 @@ ghost use Rattle.std.specs.Prelude.{◌≡◌, ◌+◌, ◌*◌, ◌/◌, ◌≤
 ghost use Rattle.nfs_model.specs.Server.{block_size};
 ghost use Rattle.volume_values.specs.Stripes.{zero_block, block_mapped, byte_written, byte_cut};
 ghost use Rattle.stripes.specs.Bytes.{bytes_mapped};
+ghost use Rattle.stripes.specs.Spans.{renumbered};
 
 use nfs_values::BlockNumber;
 use std::alloc::{AllocError, Global};
@@ -47,6 +48,13 @@ impl Block {
         ensures { result.0 ≡ self.now.number }
     {
         self.number
+    }
+
+    /// Puts it under another number.
+    pub fn set_number(&mut self, number: BlockNumber)
+        ensures { self.new ≡ renumbered number.0 self.old }
+    {
+        self.number = number;
     }
 
     /// Its bytes.

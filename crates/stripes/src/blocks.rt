@@ -18,7 +18,8 @@ ghost use Rattle.std.specs.Prelude.{
   OnOk,
   OnErr,
 };
-ghost use Rattle.std.specs.FinMap.{empty, get, insert};
+ghost use Rattle.std.specs.FinMap.{empty, get, insert, remove};
+ghost use Rattle.std.specs.Option.{option_map};
 ghost use Rattle.std.specs.List.{list_all};
 ghost use Rattle.std.specs.Vec.{vec_len, vec_capacity};
 ghost use Rattle.nfs_model.specs.Home.{span_bytes};
@@ -27,6 +28,7 @@ ghost use Rattle.volume_values.specs.Maps.{map_values};
 ghost use Rattle.volume_values.specs.Stripes.{zero_block, file_mapped, byte_written};
 ghost use Rattle.stripes.specs.Spans.{
   blocks_read,
+  block_renumbered,
   numbers_past,
   cut_blocks,
   IsLong,
@@ -35,7 +37,9 @@ ghost use Rattle.stripes.specs.Spans.{
 
 use crate::block::{BLOCK_BYTES, Block};
 use crate::span::{SPAN_BLOCKS, SPAN_BYTES, put_zeros};
-use crate::spans::{SpanMap, insert_in, overwrite_in, take_from, zero_tail};
+use crate::spans::{
+    SpanMap, insert_in, number_block, overwrite_in, take_from, write_in, zero_tail,
+};
 use nfs_values::BlockNumber;
 use std::alloc::{AllocError, Global};
 use std::collections::BTreeMap;
@@ -124,6 +128,41 @@ impl Blocks {
     {
         let zeros = Block::zero(self.alloc, number)?;
         insert_in(&mut self.spans, self.alloc, fileid, block, zeros)
+    }
+
+    /// Writes bytes at an offset of a file, which lie in one span, into the blocks that are there.
+    pub fn write(&mut self, fileid: u64, offset: u64, written: &[u8])
+        requires some { 0 < length written.now }
+        requires span { offset % span_bytes + length written.now ≤ span_bytes }
+        ensures written { self.new
+            ≡ map_values (file_mapped (byte_written offset written.now) fileid) self.old }
+        ensures long { IsLong self.new }
+    {
+        write_in(&mut self.spans, fileid, offset, written);
+    }
+
+    /// Takes a block of a file, if it is filled, and tells its number.
+    pub fn take(&mut self, fileid: u64, block: u64) -> Option<BlockNumber>
+        ensures there { option_map (λ n. n.0) result
+            ≡ option_map (λ b. b.number) (get self.old (fileid, block)) }
+        ensures taken { self.new ≡ remove self.old (fileid, block) }
+        ensures long { IsLong self.new }
+    {
+        if !self.is_filled(fileid, block) {
+            return None;
+        }
+        let Some(taken) = take_from(&mut self.spans, fileid, block) else {
+            return None;
+        };
+        Some(taken.number())
+    }
+
+    /// Puts a block of a file under another number, if it is filled.
+    pub fn set_number(&mut self, fileid: u64, block: u64, number: BlockNumber)
+        ensures numbered { self.new ≡ block_renumbered fileid block number.0 self.old }
+        ensures long { IsLong self.new }
+    {
+        number_block(&mut self.spans, fileid, block, number);
     }
 
     /// Takes a file's first block that lies wholly past a size, and tells its number. Where there

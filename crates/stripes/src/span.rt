@@ -43,6 +43,8 @@ ghost use Rattle.stripes.specs.Spans.{
   PutsBlock,
   WritesSpan,
   CutsSpan,
+  NumbersSpan,
+  renumbered,
   TakesBlock,
   IsFirst,
   HasNone,
@@ -50,6 +52,7 @@ ghost use Rattle.stripes.specs.Spans.{
 };
 
 use crate::block::{BLOCK_BYTES, Block};
+use nfs_values::BlockNumber;
 use std::alloc::{AllocError, Global};
 use std::array;
 use std::marker::Model;
@@ -182,6 +185,13 @@ impl Span {
         cut_in(&mut self.places[place(size / BLOCK_BYTES)], size);
     }
 
+    /// Puts a block under another number, if it is there.
+    pub fn set_number(&mut self, block: u64, number: BlockNumber)
+        ensures { NumbersSpan block number.0 self.old self.new }
+    {
+        number_in(&mut self.places[place(block)], number);
+    }
+
     /// Takes the first block from a place on, if there is one, and tells its place.
     pub fn take_first(&mut self, from: usize) -> Option<(usize, Block)>
         requires { from ≤ span_blocks }
@@ -273,5 +283,14 @@ fn cut_in(place: &mut Option<Block>, size: u64)
 {
     if let Some(block) = place {
         block.cut(size);
+    }
+}
+
+/// Puts a place's block under another number, if it is there.
+fn number_in(place: &mut Option<Block>, number: BlockNumber)
+    ensures { place.new ≡ option_map (renumbered number.0) place.old }
+{
+    if let Some(block) = place {
+        block.set_number(number);
     }
 }

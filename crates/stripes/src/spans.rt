@@ -49,12 +49,14 @@ ghost use Rattle.stripes.specs.Spans.{
   TakesNone,
   WritesSpan,
   CutsSpan,
+  NumbersSpan,
   Drops,
   There,
 };
 
 use crate::block::Block;
 use crate::span::{SPAN_BLOCKS, SPAN_BYTES, Span};
+use nfs_values::BlockNumber;
 use std::alloc::{AllocError, Global};
 use std::collections::BTreeMap;
 
@@ -239,5 +241,27 @@ pub fn zero_tail(spans: &mut SpanMap, fileid: u64, size: u64)
 {
     if let Some(span) = spans.get_mut(&(fileid, size / SPAN_BYTES)) {
         span.cut(size);
+    }
+}
+
+/// Puts a file's block under another number, if it is there.
+pub fn number_block(spans: &mut SpanMap, fileid: u64, block: u64, number: BlockNumber)
+    ensures { ChangesSpan (Where (NumbersSpan block number.0)) (fileid, block / span_blocks)
+        spans.old.entries spans.new.entries }
+{
+    if let Some(span) = spans.get_mut(&(fileid, block / SPAN_BLOCKS)) {
+        span.set_number(block, number);
+    }
+}
+
+/// Writes bytes at an offset of a file into the blocks that are there.
+pub fn write_in(spans: &mut SpanMap, fileid: u64, offset: u64, written: &[u8])
+    requires some { 0 < length written.now }
+    requires span { offset % span_bytes + length written.now ≤ span_bytes }
+    ensures { ChangesSpan (Where (WritesSpan offset written.now)) (fileid, offset / span_bytes)
+        spans.old.entries spans.new.entries }
+{
+    if let Some(span) = spans.get_mut(&(fileid, offset / SPAN_BYTES)) {
+        span.write(offset, written);
     }
 }

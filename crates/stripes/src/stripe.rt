@@ -36,6 +36,8 @@ ghost use Rattle.volume_values.specs.Stripes.{
   folder_card_set,
   card_dropped,
   block_inserted,
+  block_taken,
+  block_numbered,
   overwritten,
   reaches,
   cut,
@@ -230,6 +232,36 @@ impl Stripe {
         ensures err { OnErr result (self.new ≡ self.old) }
     {
         self.blocks.insert(fileid.0, block, number)
+    }
+
+    /// Takes a block of a file, if it is filled, and tells its number: a hole is left. It takes no
+    /// memory.
+    pub fn take_block(&mut self, fileid: Fileid, block: u64) -> Option<BlockNumber>
+        ensures there { option_map (λ n. n.0) result
+            ≡ option_map (λ b. b.number) (get self.old.blocks (fileid.0, block)) }
+        ensures taken { self.new ≡ block_taken fileid.0 block self.old }
+    {
+        self.blocks.take(fileid.0, block)
+    }
+
+    /// Puts a block of a file, if it is filled, under another number in the volume; its bytes stay.
+    /// It takes no memory.
+    pub fn set_number(&mut self, fileid: Fileid, block: u64, number: BlockNumber)
+        ensures { self.new ≡ block_numbered fileid.0 block number.0 self.old }
+    {
+        self.blocks.set_number(fileid.0, block, number);
+    }
+
+    /// Writes bytes at an offset of a file, which lie in one span, at a moment, over the blocks that
+    /// are there: what would fall into a hole isn't kept, and the size stays. It takes no memory.
+    pub fn write_filled(&mut self, fileid: Fileid, offset: u64, written: &[u8], moment: Moment)
+        requires some { 0 < length written.now }
+        requires span { offset % span_bytes + length written.now ≤ span_bytes }
+        ensures { self.new ≡ overwritten fileid.0 offset written.now (moment_of moment) self.old }
+    {
+        self.blocks.write(fileid.0, offset, written);
+        let cards = &mut self.cards;
+        cards.touch(fileid, moment);
     }
 
     /// Cuts a file to a size in steps, to be called until it answers `None`. Each step frees a

@@ -1,0 +1,12 @@
+-- A directory's card stays as it is.
+use Rattle.std.proofs.Common.{◌≡◌, ℕ, Option, Some, sym, ap, ◌∙◌}
+use Rattle.std.specs.FinMap.{get}
+use Rattle.volume_values.specs.Maps.{changed_value}
+use Rattle.volume_values.specs.lemmas.Numbered.{insert-same}
+use Rattle.volume_values.specs.Stripes.{Card, OfFolder, StripeValue}
+use Rattle.held_data.specs.Extending.{card_grown, stripe_grown}
+
+pub grown-folder : (fileid size : ℕ) (s : StripeValue) (card : Option Card) → card ≡ get s.cards fileid → Some OfFolder ≡ card → s ≡ stripe_grown fileid size s
+grown-folder fileid size s card found is =
+    ap (λ cards. record s { cards = cards }) (sym (insert-same s.cards fileid OfFolder (sym (is ∙ found))))
+    ∙ ap (λ (x : Option Card). record s { cards = changed_value (card_grown size) x fileid s.cards }) (is ∙ found)

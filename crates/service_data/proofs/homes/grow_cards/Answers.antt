@@ -1,0 +1,20 @@
+use Rattle.std.proofs.Common.{◌≡◌, rules, refl, ap, sym, ◌∙◌, arith, length}
+use Rattle.volume_values.specs.Logical.{LogicalValue}
+use Rattle.held_data.specs.Extending.{stripe_grown}
+use Rattle.service_data.proofs.Placed.{one-more, all-done}
+use Rattle.service_data.proofs.homes.grow_cards.Goals as goal
+
+pub loop-place-preserved : goal.loop-place-preserved
+loop-place-preserved c =
+    let few = c.requires.few in
+    let long : length c.loop-place.held.stripes.at ≡ 16 = search rules in
+    let many : c.get.result.now.stripes ≡ c.args.held.now.own.stripes = ap (λ (l : LogicalValue). l.stripes) c.get.ensures in
+    one-more c.args.held.now c.loop-place.held (stripe_grown c.args.fileid.0 c.args.size) c.loop-place.place c.loop-place.invariant
+    _ _ _ (let below = c.loop-place-test.true in omega arith) refl c.grow_in.ensures
+
+pub returns : goal.returns
+returns c =
+    let many : c.get.result.now.stripes ≡ c.args.held.now.own.stripes = ap (λ (l : LogicalValue). l.stripes) c.get.ensures in
+    let past = c.loop-place-test.false in
+    all-done c.args.held.now c.loop-place.held (stripe_grown c.args.fileid.0 c.args.size) c.loop-place.place c.loop-place.invariant
+    c.requires (omega arith)

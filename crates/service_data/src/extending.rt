@@ -1,0 +1,134 @@
+//! Files extended, and their holes filled.
+
+ghost use Rattle.std.specs.Prelude.{
+  ◌≡◌,
+  ◌+◌,
+  ◌<◌,
+  ◌≤◌,
+  false,
+  length,
+  IfOk,
+  OnErr,
+};
+ghost use Rattle.nfs_model.specs.Home.{span_bytes};
+ghost use Rattle.nfs_values.specs.Moment.{moment_of};
+ghost use Rattle.inodes.specs.Inode.{inode_value, kind_value};
+ghost use Rattle.parcel_sets.specs.Filled.{logical_alike};
+ghost use Rattle.volume_values.specs.Inodes.{filled_blocks};
+ghost use Rattle.held_state.specs.Sets.{logical_before, logical_after};
+ghost use Rattle.held_data.specs.Extending.{spans_written, kind_extended};
+ghost use Rattle.service_data.specs.Stripes.{HasStripes};
+ghost use Rattle.service_data.specs.Places.{StripesChanged};
+ghost use Rattle.service_data.specs.Holes.{Extends, HasRoom, inode_extended_in};
+
+use crate::holes::{fill_holes, find_holes, number_holes};
+use crate::homes::{grow_cards, write_span};
+use inodes::{Inode, InodeKind};
+use nfs_values::{Fileid, Moment};
+use parcel_sets::LogicalHeld;
+use parcels::Files;
+use std::alloc::AllocError;
+
+/// The bytes of a span.
+const SPAN: u64 = 262_144;
+
+/// Writes bytes to a file at an offset, at a moment: it reaches at least to their end, and the
+/// holes that they meet are filled from the stock. It tells whether it did; where the stock has too
+/// few blocks nothing changes. Memory is taken only for holes, and where it runs out nothing
+/// changes.
+pub(crate) fn extend(
+    held: &mut LogicalHeld<Files>,
+    fileid: Fileid,
+    offset: u64,
+    written: &[u8],
+    moment: Moment,
+) -> Result<bool, AllocError>
+    requires stripes { HasStripes held.old }
+    requires room { HasRoom fileid.0 held.old.own.inodes }
+    requires some { 0 < length written.now }
+    requires few { length written.now ≤ 65536 }
+    requires below { offset + length written.now < 18446744073709551616 }
+    ensures extended { Extends fileid.0 offset written.now (moment_of moment)
+        (logical_before held.old) result (logical_after held.old held.new) }
+    ensures short { IfOk result (λ done. done ≡ false → held.new ≡ held.old) }
+    ensures starved { OnErr result (held.new ≡ held.old) }
+    ensures alike { logical_alike held.old held.new }
+{
+    let mut found = [0; 17];
+    let count = find_holes(held, fileid, offset, written.len(), &mut found);
+    if count > held.own.get().stock.len() {
+        return Ok(false);
+    }
+    let holes = &found[..count];
+    match fill_holes(held, fileid, holes) {
+        Ok(()) => {}
+        Err(error) => return Err(error),
+    }
+    number_holes(held, fileid, holes);
+    let end = offset + written.len() as u64;
+    extend_inode(held, fileid, end, count as u32);
+    grow_cards(held, fileid, end);
+    write_spans(held, fileid, offset, written, moment);
+    Ok(true)
+}
+
+/// Extends the inode of a file to an end, with so many more filled blocks. It takes no memory.
+fn extend_inode(held: &mut LogicalHeld<Files>, fileid: Fileid, end: u64, more: u32)
+    requires room { HasRoom fileid.0 held.old.own.inodes }
+    requires few { more ≤ 17 }
+    ensures own { held.new.own ≡ inode_extended_in fileid.0 end more held.old.own }
+    ensures stripes { held.new.stripes ≡ held.old.stripes }
+{
+    let Some(inode) = held.own.get().inodes.get(fileid) else {
+        return;
+    };
+    let extended = Inode {
+        attributes: inode.attributes,
+        kind: extended_kind(inode.kind, end, more),
+    };
+    held.own.get_mut().inodes.set(fileid, extended);
+}
+
+/// A file of at least a size, with so many more filled blocks.
+fn extended_kind(kind: InodeKind, end: u64, more: u32) -> InodeKind
+    requires { filled_blocks (kind_value kind) + more < 4294967296 }
+    ensures { kind_value result ≡ kind_extended end more (kind_value kind) }
+{
+    match kind {
+        InodeKind::RegularFile {
+            size,
+            filled,
+            verifier,
+        } => InodeKind::RegularFile {
+            size: size.max(end),
+            filled: filled + more,
+            verifier,
+        },
+        InodeKind::Directory { .. } => kind,
+    }
+}
+
+/// Writes bytes over the blocks that are there, in one span or in two. It takes no memory.
+fn write_spans(
+    held: &mut LogicalHeld<Files>,
+    fileid: Fileid,
+    offset: u64,
+    written: &[u8],
+    moment: Moment,
+)
+    requires stripes { HasStripes held.old }
+    requires some { 0 < length written.now }
+    requires two { length written.now ≤ span_bytes }
+    requires below { offset + length written.now < 18446744073709551616 }
+    ensures { StripesChanged (spans_written fileid.0 offset written.now (moment_of moment))
+        held.old held.new }
+{
+    let first = (SPAN - offset % SPAN) as usize;
+    if written.len() <= first {
+        write_span(held, fileid, offset, written, moment);
+    } else {
+        write_span(held, fileid, offset, &written[..first], moment);
+        let next = offset + first as u64;
+        write_span(held, fileid, next, &written[first..], moment);
+    }
+}
