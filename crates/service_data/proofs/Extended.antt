@@ -1,5 +1,5 @@
 -- What is under Logical, as a file is extended step by step.
-use Rattle.std.proofs.Common.{◌≡◌, ℕ, zero, suc, ◌+◌, ◌-◌, ◌/◌, ◌%◌, ◌<◌, ◌≤◌, List, [], ◌∷◌, length, take, drop, Option, Some, None, refl, sym, ap, subst, ◌∙◌, arith}
+use Rattle.std.proofs.Common.{◌≡◌, ℕ, ◌+◌, ◌/◌, ◌<◌, ◌≤◌, List, [], ◌∷◌, length, take, Option, sym, ap, subst, ◌∙◌, arith}
 use Rattle.std.proofs.lemmas.Bool.Decides.{nat_tests}
 use Rattle.std.proofs.lemmas.List.{length-take-le}
 use Rattle.std.specs.Prelude.{slice_set, slice_index_or, map, false, nat_lt}
@@ -11,7 +11,7 @@ use Rattle.volume_values.specs.Logical.{LogicalValue}
 use Rattle.volume_values.specs.Stripes.{stripe_of, overwritten}
 use Rattle.held_state.specs.Contents.{each}
 use Rattle.held_state.specs.Sets.{FilerStripe, FilerLogical, stripe_value, placed, logical_before, logical_after}
-use Rattle.held_data.specs.Extending.{holes, home_changed, filled_with, stripe_grown, span_written, spans_written, stripes_extended}
+use Rattle.held_data.specs.Extending.{holes, filled_with, stripe_grown, span_written, spans_written, stripes_extended}
 use Rattle.held_data.specs.WritingUp.{Leave}
 use Rattle.service_data.specs.Stripes.{HasStripes}
 use Rattle.service_data.specs.Places.{place_changed, with_places, StripesChanged}

@@ -7,3 +7,4 @@ mod Spanned
 mod Stocked
 mod Told
 mod Written
+mod WrittenUp

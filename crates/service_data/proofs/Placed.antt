@@ -1,13 +1,13 @@
 -- Stripes in their places, as one of them changes, or all.
-use Rattle.std.proofs.Common.{◌≡◌, ◌≢◌, ℕ, zero, suc, ◌+◌, ◌/◌, ◌%◌, ◌<◌, ◌≤◌, Bool, true, false, List, [], ◌∷◌, map, length, Option, Some, None, refl, sym, ap, subst, ◌∙◌, arith}
-use Rattle.std.specs.Prelude.{slice_get, slice_set, slice_index_or, is_some, Result, Ok, Err, OnOk}
+use Rattle.std.proofs.Common.{◌≡◌, ◌≢◌, ℕ, zero, suc, ◌+◌, ◌/◌, ◌%◌, ◌<◌, true, List, [], ◌∷◌, map, length, Option, Some, None, refl, sym, ap, subst, ◌∙◌, arith}
+use Rattle.std.specs.Prelude.{slice_get, slice_set, slice_index_or, is_some}
 use Rattle.std.proofs.Math.Nat.{add-mod}
-use Rattle.parcel_sets.specs.Filled.{is_filled, AreFilledAlike}
+use Rattle.parcel_sets.specs.Filled.{is_filled}
 use Rattle.volume_values.specs.Stripes.{StripeValue, stripe_of, span_blocks}
 use Rattle.held_state.specs.Contents.{each}
 use Rattle.held_state.specs.Parcels.{no_stripe}
 use Rattle.held_state.specs.Tree.{stripe_at, home_stripe}
-use Rattle.held_state.specs.Sets.{FilerStripe, FilerLogical, stripe_value, placed, in_one, logical_before}
+use Rattle.held_state.specs.Sets.{FilerStripe, FilerLogical, stripe_value, placed, logical_before}
 use Rattle.held_laws.specs.lemmas.Each.{each-same, each-set, each-index, each-length, each-map}
 use Rattle.held_data.specs.Extending.{home_changed}
 use Rattle.service_data.specs.Stripes.{HasStripes}

@@ -78,7 +78,7 @@ module _ (v fileid : ℕ) (w : Writing) (s : StripeValue) where
       by true e false h = some-come e h
 
 -- how many are given, where any are
-given-some : (card : Option Card) (largest offset count long given : ℕ) → Ok given ≡ bytes_to_write card largest offset count long → (given ≡ 0 → ⊥)
+pub given-some : (card : Option Card) (largest offset count long given : ℕ) → Ok given ≡ bytes_to_write card largest offset count long → (given ≡ 0 → ⊥)
     → (count ≡ long) × (given ≡ min count most_bytes)
 given-some None largest offset count long given is some = absurd cc
 given-some (Some OfFolder) largest offset count long given is some = absurd cc

@@ -11,7 +11,7 @@ use Rattle.volume_values.specs.Inodes.{Inode, InodesValue, filled_blocks}
 use Rattle.volume_values.specs.Stripes.{StripeValue, is_filled, block_inserted, block_numbered}
 use Rattle.volume_values.specs.Logical.{LogicalValue}
 use Rattle.held_state.specs.Lenses.{LogicalSet}
-use Rattle.held_state.specs.Sets.{FilerLogical, logical_before, logical_after}
+use Rattle.held_state.specs.Sets.{FilerLogical, logical_before}
 use Rattle.held_state.specs.Tree.{home_stripe}
 use Rattle.held_data.specs.Extending.{Extending, holes, home_changed, inodes_extended, file_extended}
 use Rattle.held_data.specs.WritingUp.{Leave, with_stock}

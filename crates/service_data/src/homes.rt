@@ -208,7 +208,12 @@ fn grow_card(stripe: &mut Stripe, fileid: Fileid, size: u64)
     ensures { stripe.new ≡ stripe_grown fileid.0 size stripe.old }
 {
     match stripe.card(fileid) {
-        Some(Card::File { size: shown, touch: _ }) => stripe.set_size(fileid, shown.max(size)),
+        Some(
+            Card::File {
+                size: shown,
+                touch: _,
+            },
+        ) => stripe.set_size(fileid, shown.max(size)),
         Some(Card::Directory) => {}
         None => {}
     }

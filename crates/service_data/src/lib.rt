@@ -9,4 +9,4 @@ mod spans;
 mod writing;
 
 pub use reading::{read_in_logical, read_in_stripe};
-pub use writing::write_in_stripe;
+pub use writing::{write_in_logical, write_in_stripe};

@@ -13,11 +13,13 @@ ghost use Rattle.service_data.specs.Writing.{
   bytes_to_write,
   card_shown,
   DoneInLogical,
+  WritesInLogical,
   WritesInStripe,
 };
 
 use crate::extending::extend;
 use crate::reading::COUNT_LIMIT;
+use held_data::writing_calls_are_right;
 use inodes::{Inode, InodeKind};
 use nfs_values::{Fileid, Moment, Status, WriteResults};
 use parcel_sets::{LogicalHeld, StripeHeld};
@@ -61,6 +63,30 @@ pub fn write_in_stripe(
         count: given as u32,
         verifier,
     }))
+}
+
+/// WRITE, likewise, on the parcels under Volume Logical, wherever its bytes lie: a file that is too
+/// short is extended, and holes are filled with blocks of the stock. Where the stock has too few
+/// nothing changes, and it has to move to Volume: `None`. Memory runs out only where a hole is to
+/// be filled, and then nothing has changed.
+pub fn write_in_logical(
+    held: &mut LogicalHeld<Files>,
+    fileid: Fileid,
+    offset: u64,
+    count: u32,
+    written: &[u8],
+    moment: Moment,
+) -> Result<Option<Result<WriteResults, Status>>, AllocError>
+    requires whole { IsHeld (logical_before held.old) }
+    ensures right { WritesInLogical fileid.0
+        (asked_to_write offset count written.now (moment_of moment))
+        (logical_before held.old) result (logical_after held.old held.new) }
+    ensures moved { IfOk result (λ told. told ≡ None → held.new ≡ held.old) }
+    ensures starved { OnErr result (held.new ≡ held.old) }
+    ensures alike { logical_alike held.old held.new }
+{
+    writing_calls_are_right();
+    done_in_logical(held, fileid, offset, count, written, moment)
 }
 
 /// What WRITE comes to on the parcels under Volume Logical.

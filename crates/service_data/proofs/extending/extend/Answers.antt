@@ -1,4 +1,4 @@
-use Rattle.std.proofs.Common.{◌≡◌, ◌≤◌, List, ℕ, length, take, sym, ap, subst, ◌∙◌, arith, rules}
+use Rattle.std.proofs.Common.{◌≡◌, ◌≤◌, List, ℕ, length, take, sym, ap, subst, ◌∙◌, arith}
 use Rattle.std.specs.FinSet.{len}
 use Rattle.nfs_values.specs.Moment.{moment_of}
 use Rattle.volume_values.specs.Logical.{LogicalValue}

@@ -7,12 +7,17 @@ pub fill_holes-requires : goal.fill_holes-requires
 fill_holes-requires t c =
     let cases = c.in-Some.ensures.cases in (
       (let long = cases.1 in let down = c.decreases in let less : length c.in-Some.rest.now < t = omega (arith, long, down) in less),
-      (rest-there c.args.fileid.0 c.in-Some.block.now c.args.holes.now c.in-Some.rest.now cases.0 c.args.held.now c.fill_block.new.held
-          c.requires.stripes c.requires.rise c.requires.holes c.in-Ok.ensures.ok,
-      (rest-rises c.args.fileid.0 c.in-Some.block.now c.args.holes.now c.in-Some.rest.now cases.0 c.args.held.now c.fill_block.new.held
-          c.requires.stripes c.requires.rise c.requires.holes c.in-Ok.ensures.ok,
-      rest-are c.args.fileid.0 c.in-Some.block.now c.args.holes.now c.in-Some.rest.now cases.0 c.args.held.now c.fill_block.new.held
-          c.requires.stripes c.requires.rise c.requires.holes c.in-Ok.ensures.ok)))
+      (
+        rest-there c.args.fileid.0 c.in-Some.block.now c.args.holes.now c.in-Some.rest.now cases.0 c.args.held.now c.fill_block.new.held
+            c.requires.stripes c.requires.rise c.requires.holes c.in-Ok.ensures.ok,
+        (
+          rest-rises c.args.fileid.0 c.in-Some.block.now c.args.holes.now c.in-Some.rest.now cases.0 c.args.held.now c.fill_block.new.held
+              c.requires.stripes c.requires.rise c.requires.holes c.in-Ok.ensures.ok,
+          rest-are c.args.fileid.0 c.in-Some.block.now c.args.holes.now c.in-Some.rest.now cases.0 c.args.held.now c.fill_block.new.held
+              c.requires.stripes c.requires.rise c.requires.holes c.in-Ok.ensures.ok,
+        ),
+      ),
+    )
 
 pub empty_block-requires : goal.empty_block-requires
 empty_block-requires t c = subst HasStripes (sym c.in-Err-fill_holes.ensures.err)

@@ -1,4 +1,4 @@
-use Rattle.std.proofs.Common.{◌≡◌, ◌≤◌, ◌-◌, ℕ, not, take}
+use Rattle.std.proofs.Common.{◌≡◌, ◌≤◌, ◌-◌, not, take}
 use Rattle.std.specs.List.{filter, range_with_len}
 use Rattle.volume_values.specs.Stripes.{is_filled}
 use Rattle.held_state.specs.Sets.{logical_before}

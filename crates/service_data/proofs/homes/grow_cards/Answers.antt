@@ -1,4 +1,4 @@
-use Rattle.std.proofs.Common.{◌≡◌, rules, refl, ap, sym, ◌∙◌, arith, length}
+use Rattle.std.proofs.Common.{◌≡◌, rules, refl, ap, arith, length}
 use Rattle.volume_values.specs.Logical.{LogicalValue}
 use Rattle.held_data.specs.Extending.{stripe_grown}
 use Rattle.service_data.proofs.Placed.{one-more, all-done}

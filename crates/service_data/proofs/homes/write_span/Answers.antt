@@ -1,8 +1,5 @@
-use Rattle.std.proofs.Common.{rules, refl, subst, sym, ap, ◌∙◌, ◌/◌, List, ℕ}
-use Rattle.nfs_model.specs.Server.{block_size}
+use Rattle.std.proofs.Common.{rules, refl}
 use Rattle.nfs_values.specs.Moment.{moment_of}
-use Rattle.held_state.specs.Sets.{FilerLogical}
-use Rattle.service_data.specs.Places.{StripesChanged}
 use Rattle.service_data.proofs.Extended.{span-changes}
 use Rattle.service_data.proofs.homes.write_span.Goals as goal
 
