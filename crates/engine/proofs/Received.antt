@@ -91,6 +91,7 @@ offered-run layout calls.Null node offered at = absurd cc
 offered-run layout (calls.GetAttributes handle) node offered at = (tt, at)
 offered-run layout (calls.SetAttributes handle set guard) node offered at = (tt, at)
 offered-run layout (calls.Lookup target) node offered at = (tt, at)
+offered-run layout (calls.Read handle offset count) node offered at = (tt, at)
 offered-run layout (calls.Create target mode) node offered at = (tt, at)
 offered-run layout (calls.MakeDirectory target set) node offered at = (tt, at)
 offered-run layout (calls.Remove target) node offered at = (tt, at)

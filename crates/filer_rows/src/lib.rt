@@ -18,6 +18,8 @@ mod names;
 #[cfg(test)]
 mod nodes;
 #[cfg(test)]
+mod reading;
+#[cfg(test)]
 mod renaming;
 #[cfg(test)]
 mod streams;

@@ -1,5 +1,5 @@
 -- What a depot grants, as a run of a call needs it, and that the run is a step.
-use Rattle.std.proofs.Common.{◌≡◌, ℕ, ◌<◌, ◌≤◌, List, [], length, Option, Some, None, sym, ap, subst, arith, ⊎_elim, zero, suc}
+use Rattle.std.proofs.Common.{◌≡◌, ℕ, ◌<◌, ◌≤◌, List, [], length, Option, Some, None, refl, sym, ap, subst, arith, ⊎_elim, zero, suc}
 use Rattle.std.proofs.lemmas.Bool.{cases_lt}
 use Rattle.std.proofs.lemmas.List.{get_or_past}
 use Rattle.nfs_model.specs.Tree.{Layout, Affinity, Logical, stripes_of}
@@ -100,8 +100,8 @@ module _ {P : Type 0} (layout : Layout) (lawful : fault_of layout ≡ None) (v :
   run-is-step asker call run at held old new same own w of has reply right job finished =
       let right_held = subst (λ (h : FilerLogical P). RunsOn v logical_lens (asked_by layout v asker call)
       (logical_before h) (works.Replied (reply_of reply)) (logical_after h new)) same right in
-      let enters = logical-runs layout lawful call run (credential_of asker.credential) (moment_of asker.moment) held new (works.Replied (reply_of reply)) tt
-      (Logical v) on at own right_held in
+      let enters = logical-runs layout lawful call (credential_of asker.credential) (moment_of asker.moment) v (Logical v) refl on (run, at) held new
+      (works.Replied (reply_of reply)) tt own right_held in
       subst (λ (j : Job). IsStep (behaviour job_steps job_takes job_gives IsFiler) w (number_of layout (affinity_of a)) j (Replied reply)
       (logical_parcels layout (affinity_of a) new)) (sym finished)
       (subst (λ (x : codes.Affinity). IsStep (behaviour job_steps job_takes job_gives IsFiler) w (number_of layout (affinity_of x))

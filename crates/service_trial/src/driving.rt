@@ -9,7 +9,7 @@ use crate::asker::Asker;
 use affinity::home_of;
 use affinity_tree::{Affinity, Layout};
 use depot::{Depot, Seat};
-use nfs_values::{Call, Reply, Verifier};
+use nfs_values::{Call, Reply, Verifier, VolumeNumber};
 use parcel_sets::{LogicalNode, SerialNode};
 use parcels::opening_parcels;
 use service::{Asked, Job, JobReply, Outcome, Run, ServedCall, Service, run_on_logical};
@@ -62,7 +62,7 @@ pub fn serve(
         credential: asker.credential,
         moment: asker.moment,
     };
-    match run_on_logical(run, depot.layout(), affinity, grant.held()) {
+    match run_on_logical(run, depot.layout(), VolumeNumber(volume), grant.held()) {
         Outcome::Replied(reply) => {
             let job = finished(asker, call, affinity);
             let reply = JobReply::Replied(reply);

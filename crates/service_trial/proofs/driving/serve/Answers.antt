@@ -26,6 +26,13 @@ use Rattle.service.specs.declared.job.JobReply.TheVariants.{Replied}
 use Rattle.service_trial.proofs.Granted.{granted-whole, run-is-step}
 use Rattle.service_trial.proofs.driving.serve.Goals as goal
 
+pub run_on_logical-requires-clause-at : goal.run_on_logical-requires-clause-at
+run_on_logical-requires-clause-at c = (
+  c.requires.run,
+  subst (λ (l : Layout). home l (call_of c.args.call) ≡ Some (Logical c.in-VolumeLogical.volume)) (c.layout.ensures ∙ sym c.layout-2.ensures)
+      (sym c.in_ok-home.ensures.home ∙ ap (λ (x : codes.Affinity). Some (affinity_of x)) c.in-VolumeLogical.is),
+)
+
 pub run_on_logical-requires-clause-whole : goal.run_on_logical-requires-clause-whole
 run_on_logical-requires-clause-whole c =
     let L = layout_in c.args.depot.now in
