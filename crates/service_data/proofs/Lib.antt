@@ -8,3 +8,6 @@ mod Stocked
 mod Told
 mod Written
 mod WrittenUp
+mod Parted
+mod Drained
+mod Dealt

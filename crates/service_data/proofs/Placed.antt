@@ -1,5 +1,6 @@
 -- Stripes in their places, as one of them changes, or all.
-use Rattle.std.proofs.Common.{◌≡◌, ◌≢◌, ℕ, zero, suc, ◌+◌, ◌/◌, ◌%◌, ◌<◌, true, List, [], ◌∷◌, map, length, Option, Some, None, refl, sym, ap, subst, ◌∙◌, arith}
+use Rattle.std.proofs.Common.{◌≡◌, ◌≢◌, ℕ, zero, suc, ◌+◌, ◌/◌, ◌%◌, ◌<◌, true, List, [], ◌∷◌, map, length, Option}
+use Rattle.std.proofs.Common.{Some, None, refl, sym, ap, subst, ◌∙◌, arith}
 use Rattle.std.specs.Prelude.{slice_get, slice_set, slice_index_or, is_some}
 use Rattle.std.proofs.Math.Nat.{add-mod}
 use Rattle.parcel_sets.specs.Filled.{is_filled}
@@ -21,15 +22,11 @@ module _ {P : Type 0} where
   placed-is (p ∷ ps) zero = refl
   placed-is (p ∷ ps) (suc i) = placed-is ps i
 
-  pub default-is : (places : List (Option (FilerStripe P))) (i : ℕ) (d : Option (FilerStripe P)) → i < length places → slice_index_or places i d ≡ slice_index_or places i None
+  pub default-is : (places : List (Option (FilerStripe P))) (i : ℕ) (d : Option (FilerStripe P)) → i < length places
+      → slice_index_or places i d ≡ slice_index_or places i None
   default-is [] i d less = absurd (omega arith)
   default-is (p ∷ ps) zero d less = refl
   default-is (p ∷ ps) (suc i) d less = default-is ps i d (omega arith)
-
-  pub set-same : (places : List (Option (FilerStripe P))) (i : ℕ) (d now : Option (FilerStripe P)) → i < length places → now ≡ slice_index_or places i d → slice_set places i now ≡ places
-  set-same [] i d now less e = absurd (omega arith)
-  set-same (p ∷ ps) zero d now less e = ap (λ (x : Option (FilerStripe P)). x ∷ ps) e
-  set-same (p ∷ ps) (suc i) d now less e = ap (λ (l : List (Option (FilerStripe P))). p ∷ l) (set-same ps i d now (omega arith) e)
 
   module _ (change : StripeValue → StripeValue) where
     value-changed : (place : Option (FilerStripe P)) → is_some place ≡ true → stripe_value (place_changed change place) ≡ change (stripe_value place)
@@ -74,7 +71,8 @@ module _ {P : Type 0} where
 
     -- ---- the first ones changed
 
-    first-alike : (n : ℕ) (places : List (Option (FilerStripe P))) (k : ℕ) → is_filled (slice_get places k) ≡ is_filled (slice_get (first_changed n change places) k)
+    first-alike : (n : ℕ) (places : List (Option (FilerStripe P))) (k : ℕ)
+        → is_filled (slice_get places k) ≡ is_filled (slice_get (first_changed n change places) k)
     first-alike zero places k = refl
     first-alike (suc n) [] k = refl
     first-alike (suc n) (p ∷ ps) zero = filled-same p
@@ -86,7 +84,8 @@ module _ {P : Type 0} where
     first-some (suc n) (p ∷ ps) zero = some-same p
     first-some (suc n) (p ∷ ps) (suc k) = first-some n ps k
 
-    first-placed : (n : ℕ) (places : List (Option (FilerStripe P))) (k : ℕ) → k < n → placed (first_changed n change places) k ≡ place_changed change (placed places k)
+    first-placed : (n : ℕ) (places : List (Option (FilerStripe P))) (k : ℕ) → k < n
+        → placed (first_changed n change places) k ≡ place_changed change (placed places k)
     first-placed zero places k less = absurd (omega arith)
     first-placed (suc n) [] k less = refl
     first-placed (suc n) (p ∷ ps) zero less = refl
@@ -105,8 +104,9 @@ module _ {P : Type 0} where
     first-next (suc n) (p ∷ ps) d less = ap (λ (l : List (Option (FilerStripe P))). place_changed change p ∷ l) (first-next n ps d (omega arith))
 
     -- one more
-    pub first-more : (n : ℕ) (places now : List (Option (FilerStripe P))) (d was here : Option (FilerStripe P)) → n < length places → now ≡ first_changed n change places
-        → slice_index_or now n d ≡ was → here ≡ place_changed change was → slice_set now n here ≡ first_changed (n + 1) change places
+    pub first-more : (n : ℕ) (places now : List (Option (FilerStripe P))) (d was here : Option (FilerStripe P)) → n < length places
+        → now ≡ first_changed n change places → slice_index_or now n d ≡ was → here ≡ place_changed change was
+        → slice_set now n here ≡ first_changed (n + 1) change places
     first-more n places now d was here less so is changed =
         let one : suc n ≡ n + 1 = omega arith in
         ap (slice_set now n) (changed ∙ ap (place_changed change) (sym is))
@@ -208,7 +208,8 @@ module _ {P : Type 0} (held now : FilerLogical P) (change : StripeValue → Stri
   one-more d was here less found changed =
       let long : length now.stripes.at ≡ length held.stripes.at =
       ap (λ (h : FilerLogical P). length h.stripes.at) so ∙ first-long change n held.stripes.at in
-      let places = first-more change n held.stripes.at now.stripes.at d was here (omega (arith, less, long)) (ap (λ (h : FilerLogical P). h.stripes.at) so) found changed in
+      let places = first-more change n held.stripes.at now.stripes.at d was here (omega (arith, less, long)) (ap (λ (h : FilerLogical P). h.stripes.at) so)
+      found changed in
       λ j. record { own = (so j).own; stripes = record { at = places j } }
 
   pub all-done : HasStripes held → n ≡ held.own.stripes → StripesChanged (map change) held now

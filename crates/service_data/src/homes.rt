@@ -1,6 +1,18 @@
 //! Blocks of files, each in the stripe in which it lies.
 
-ghost use Rattle.std.specs.Prelude.{◌≡◌, ◌+◌, ◌<◌, ◌≤◌, ◌%◌, true, is_some, length, map, OnOk, OnErr};
+ghost use Rattle.std.specs.Prelude.{
+  ◌≡◌,
+  ◌+◌,
+  ◌<◌,
+  ◌≤◌,
+  ◌%◌,
+  true,
+  is_some,
+  length,
+  map,
+  OnOk,
+  OnErr,
+};
 ghost use Rattle.nfs_model.specs.Server.{block_size};
 ghost use Rattle.nfs_model.specs.Home.{span_bytes};
 ghost use Rattle.nfs_values.specs.Moment.{moment_of};

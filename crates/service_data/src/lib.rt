@@ -4,6 +4,7 @@
 mod extending;
 mod holes;
 mod homes;
+mod parts;
 mod reading;
 mod spans;
 mod writing;

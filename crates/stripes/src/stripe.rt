@@ -252,8 +252,9 @@ impl Stripe {
         self.blocks.set_number(fileid.0, block, number);
     }
 
-    /// Writes bytes at an offset of a file, which lie in one span, at a moment, over the blocks that
-    /// are there: what would fall into a hole isn't kept, and the size stays. It takes no memory.
+    /// Writes bytes at an offset of a file, which lie in one span, at a moment, over the blocks
+    /// that are there: what would fall into a hole isn't kept, and the size stays. It takes no
+    /// memory.
     pub fn write_filled(&mut self, fileid: Fileid, offset: u64, written: &[u8], moment: Moment)
         requires some { 0 < length written.now }
         requires span { offset % span_bytes + length written.now ≤ span_bytes }

@@ -22,7 +22,8 @@ fill_holes-requires-clause-holes c =
 pub returns-clause-extended : goal.returns-clause-extended
 returns-clause-extended c =
     let few : c.find_holes-count.result ≤ length c.find_holes-count.new.found =
-    let most = c.find_holes-count.ensures.few in let long : length c.find_holes-count.new.found ≡ 17 = c.find_holes-count.array_long in omega (arith, most, long) in
+    let most = c.find_holes-count.ensures.few in
+    let long : length c.find_holes-count.new.found ≡ 17 = c.find_holes-count.array_long in omega (arith, most, long) in
     let bs : List ℕ = take c.find_holes-count.result c.find_holes-count.new.found in (
       enough-there c.find_holes-count.new.found (holes (logical_before c.args.held.now).stripes c.args.fileid.0 c.args.offset (length c.args.written.now))
           c.find_holes-count.result c.len.result (len c.args.held.now.own.stock) few c.find_holes-count.ensures.holes
