@@ -37,7 +37,7 @@ use Rattle.held_laws.specs.lemmas.Kinds.{stripe-step, logical-step, volume-step}
 use Rattle.held_laws.specs.lemmas.Running.{runs-by}
 use Rattle.held_laws.specs.lemmas.SeenSets.{stripe-seen, logical-seen, volume-seen}
 use Rattle.held_laws.specs.lemmas.Steps.{laid-out, get-some}
-use Rattle.service.specs.Running.{IsRun, IsRunAt, RunsAbove, IsStripeOf, MovesOn, call_on, fileid_in, other_in, procedure}
+use Rattle.service.specs.Running.{IsRunAt, RunsAbove, IsStripeOf, MovesOn, call_on, fileid_in, other_in, procedure}
 use Rattle.service.specs.lemmas.Homes.{IsNodeOf, at-logical, both-there, run-home}
 
 -- ---- a call that is run is a call on its volume
