@@ -2,7 +2,7 @@
 
 ghost use Rattle.std.specs.Prelude.{◌≡◌, ◌<◌, ◌≤◌, ◌∷◌, [], length, true, IfNone, IfSome};
 ghost use Rattle.std.specs.FinSet as sets;
-ghost use Rattle.std.specs.FinSet.{contains};
+ghost use Rattle.std.specs.FinSet.{contains, len};
 ghost use Rattle.parcel_sets.specs.Filled.{vbn_alike, volume_alike};
 ghost use Rattle.volume_values.specs.Ranges.{taken};
 ghost use Rattle.held_state.specs.Sets.{range_value, vbn_set, volume_before, volume_after};
@@ -106,4 +106,25 @@ fn take_lowest(range: &mut Range) -> Option<BlockNumber>
         Err(_) => return None,
     };
     batch.as_slice().first().copied()
+}
+
+/// Whether the range in a place is in use.
+fn is_used_in(place: &Option<RangeHeld<Files>>) -> bool
+    ensures { result ≡ (range_value place.now).is_used }
+{
+    match place {
+        Some(range) => range.own.get().is_used(),
+        None => false,
+    }
+}
+
+/// How many numbers of the range in a place are free.
+fn free_in(place: &Option<RangeHeld<Files>>) -> usize
+    ensures value { result ≡ len (range_value place.now).free }
+    ensures few { result ≤ 1024 }
+{
+    match place {
+        Some(range) => range.own.get().free_count(),
+        None => 0,
+    }
 }
