@@ -1,12 +1,20 @@
 //! Block numbers of the parts of a volume: its stock, its ranges, its dead blocks.
 
-ghost use Rattle.std.specs.Prelude.{◌≡◌, ◌<◌, ◌≤◌, ◌∷◌, [], length, true, IfNone, IfSome};
+ghost use Rattle.std.specs.Prelude.{◌≡◌, ◌<◌, ◌≤◌, ◌-◌, ◌*◌, ◌∷◌, [], length, true, IfNone, IfSome};
 ghost use Rattle.std.specs.FinSet as sets;
 ghost use Rattle.std.specs.FinSet.{contains, len};
 ghost use Rattle.parcel_sets.specs.Filled.{vbn_alike, volume_alike};
 ghost use Rattle.volume_values.specs.Ranges.{taken};
-ghost use Rattle.held_state.specs.Sets.{range_value, vbn_set, volume_before, volume_after};
-ghost use Rattle.held_data.specs.WritingUp.{for_holes};
+ghost use Rattle.held_state.specs.Contents.{each};
+ghost use Rattle.held_state.specs.Sets.{
+  placed,
+  range_value,
+  vbn_set,
+  volume_before,
+  volume_after,
+};
+ghost use Rattle.held_state.specs.Tree.{ranges_used};
+ghost use Rattle.held_data.specs.WritingUp.{for_holes, free_count};
 ghost use Rattle.service_data.specs.Parts.{
   range_changed,
   LeavesFree,
@@ -106,6 +114,31 @@ fn take_lowest(range: &mut Range) -> Option<BlockNumber>
         Err(_) => return None,
     };
     batch.as_slice().first().copied()
+}
+
+/// How many ranges are in use, and how many numbers are free in all ranges.
+pub(crate) fn count_ranges(held: &VbnHeld<Files>) -> (usize, usize)
+    ensures used { result.0 ≡ ranges_used (vbn_set held.now) }
+    ensures free { result.1 ≡ free_count (vbn_set held.now) }
+{
+    count_last(held, 16)
+}
+
+/// How many of the last so many ranges are in use, and how many numbers are free in them.
+fn count_last(held: &VbnHeld<Files>, last: usize) -> (usize, usize)
+    requires { last ≤ 16 }
+    ensures used { result.0
+        ≡ ranges_used (each (λ r. range_value (placed held.now.ranges.at r)) (16 - last) last) }
+    ensures free { result.1
+        ≡ free_count (each (λ r. range_value (placed held.now.ranges.at r)) (16 - last) last) }
+    ensures few { result.0 ≤ last × result.1 ≤ 1024 * last }
+{
+    if last == 0 {
+        return (0, 0);
+    }
+    let place = &held.ranges.at[16 - last];
+    let (used, free) = count_last(held, last - 1);
+    (used + is_used_in(place) as usize, free + free_in(place))
 }
 
 /// Whether the range in a place is in use.
