@@ -1,5 +1,5 @@
-//! Scripts with a bad line that isn't a line of text, or whose last line has no line feed: its number is
-//! told, and nothing after it is read.
+//! Scripts with a bad line that isn't a line of text, or whose last line has no line feed: its
+//! number is told, and nothing after it is read.
 
 use crate::events::{expect, expect_joined};
 use crate::texts::LAYOUT;

@@ -50,8 +50,9 @@ pub fn run_on_logical(
     requires at { IsRunAt (layout_of layout.now) run.call.now (trees.Logical volume.0) }
     requires whole { HasVolume volume.0 logical_lens [] (logical_before held.old) }
     ensures runs { RunsOn volume.0 logical_lens
-        (call_on (layout_of layout.now) (trees.Logical volume.0) (credential_of run.entry.credential)
-        (moment_of run.entry.moment) (call_of run.entry.call.now))
+        (call_on (layout_of layout.now) (trees.Logical volume.0)
+        (credential_of run.entry.credential) (moment_of run.entry.moment)
+        (call_of run.entry.call.now))
         (logical_before held.old) (outcome_of result) (logical_after held.old held.new) }
     ensures moved { UnlessReplied (outcome_of result) (held.new ≡ held.old) }
     ensures alike { logical_alike held.old held.new }
