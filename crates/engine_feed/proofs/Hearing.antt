@@ -84,6 +84,7 @@ room-offered volumes (types.Getattr handle) o = omega arith
 room-offered volumes (types.Setattr handle set guard) o = omega arith
 room-offered volumes (types.Lookup directory name) o = omega arith
 room-offered volumes (types.Read handle offset count) o = omega arith
+room-offered volumes (types.Write handle offset count written) o = omega arith
 room-offered volumes (types.Create directory name mode) o = omega arith
 room-offered volumes (types.Mkdir directory name set) o = omega arith
 room-offered volumes (types.Remove directory name) o = omega arith

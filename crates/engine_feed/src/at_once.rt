@@ -23,6 +23,7 @@ pub(crate) fn answer_at_once(call: &OfferedCall, layout: &Layout) -> Answer
         Call::SetAttributes { .. } => Answer::SetAttributes(Err(Status::BadHandle)),
         Call::Lookup(_) => Answer::Lookup(Err(Status::BadHandle)),
         Call::Read { .. } => Answer::Read(Err(Status::BadHandle)),
+        Call::Write { .. } => Answer::Write(Err(Status::BadHandle)),
         Call::Create { .. } => Answer::Create(Err(Status::BadHandle)),
         Call::MakeDirectory { .. } => Answer::MakeDirectory(Err(Status::BadHandle)),
         Call::Remove(_) => Answer::Remove(Err(Status::BadHandle)),

@@ -16,3 +16,5 @@ mod lists;
 mod streams;
 #[cfg(test)]
 mod texts;
+#[cfg(test)]
+mod writing;

@@ -34,6 +34,7 @@ is_offered GetAttributes = true
 is_offered SetAttributes = true
 is_offered Lookup = true
 is_offered Read = true
+is_offered Write = true
 is_offered Create = true
 is_offered MakeDirectory = true
 is_offered Remove = true

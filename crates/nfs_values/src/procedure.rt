@@ -89,6 +89,7 @@ impl Procedure {
                 | Procedure::SetAttributes
                 | Procedure::Lookup
                 | Procedure::Read
+                | Procedure::Write
                 | Procedure::Create
                 | Procedure::MakeDirectory
                 | Procedure::Remove

@@ -1,14 +1,15 @@
 -- What is asked with the procedures that are offered so far.
-use Rattle.nfs_model.specs.Types.{Call, Null, Getattr, Setattr, Lookup, Read, Create, Mkdir, Remove, Rmdir, Rename, Readdir, Commit}
+use Rattle.nfs_model.specs.Types.{Call, Null, Getattr, Setattr, Lookup, Read, Write, Create, Mkdir, Remove, Rmdir, Rename, Readdir, Commit}
 use Rattle.nfs_model.specs.Types.{Asked, Ask, Refused, Undecoded}
 
--- NULL, of either program, GETATTR, SETATTR, LOOKUP, READ, CREATE, MKDIR, REMOVE, RMDIR, RENAME, READDIR and COMMIT (RFC 1813 section 3.3)
+-- NULL, of either program, GETATTR, SETATTR, LOOKUP, READ, WRITE, CREATE, MKDIR, REMOVE, RMDIR, RENAME, READDIR and COMMIT (RFC 1813 section 3.3)
 abbrev pub IsOffered : Call → Type 0
 IsOffered Null = Unit {0}
 IsOffered (Getattr handle) = Unit {0}
 IsOffered (Setattr handle set guard) = Unit {0}
 IsOffered (Lookup directory name) = Unit {0}
 IsOffered (Read handle offset count) = Unit {0}
+IsOffered (Write handle offset count written) = Unit {0}
 IsOffered (Create directory name mode) = Unit {0}
 IsOffered (Mkdir directory name set) = Unit {0}
 IsOffered (Remove directory name) = Unit {0}

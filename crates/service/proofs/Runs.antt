@@ -1,5 +1,6 @@
 -- From a handler's promise to the run of a call.
-use Rattle.std.proofs.Common.{◌≡◌, ℕ, false, List, [], length, Some, Result, sym, ap, ◌∙◌, subst}
+use Rattle.std.proofs.Common.{◌≡◌, ℕ, false, List, [], length, Option, Some, None, Result, Ok, Err, refl, sym, ap, ◌∙◌, subst}
+use Rattle.std.specs.Prelude.{IfNone, IfOk, OnErr}
 use Rattle.std.specs.declared.alloc.AllocError.{AllocError}
 use Rattle.nfs_model.specs.Types as types
 use Rattle.nfs_model.specs.Types.{Credential, Moment, Call}
@@ -8,15 +9,20 @@ use Rattle.nfs_model.specs.Home.{named_by}
 use Rattle.nfs_model.specs.Server.{Named}
 use Rattle.nfs_model.specs.Work as works
 use Rattle.nfs_model.specs.Work.{Replied, Starved, Moved}
+use Rattle.nfs_values.specs.Call.{call_of}
 use Rattle.nfs_values.specs.declared.answer.RenameResults.{RenameResults}
+use Rattle.nfs_values.specs.declared.answer.WriteResults.{WriteResults}
+use Rattle.nfs_values.specs.declared.call.Call as codes
 use Rattle.nfs_values.specs.declared.status.Status.{Status}
 use Rattle.held_changes.specs.Laws.{rename_call}
+use Rattle.held_data.specs.WritingLaws.{write_call}
 use Rattle.held_state.specs.Calls.{VolumeCall, ServesOn, handle_in}
 use Rattle.held_state.specs.Contents.{VolumeContents}
 use Rattle.held_state.specs.Jobs as jobs
 use Rattle.held_state.specs.Lenses.{Lens, LogicalSet, logical_lens}
 use Rattle.held_state.specs.Promises.{RightOnVolume}
 use Rattle.held_state.specs.Running.{RunsOn, UnlessReplied}
+use Rattle.service_data.specs.Writing.{asked_to_write, writing_outcome, written_outcome}
 use Rattle.service_renames.specs.Promises.{Renames, renaming_outcome}
 use Rattle.service.specs.Running.{fileid_in, call_named, call_of_node, call_on}
 
@@ -55,3 +61,27 @@ pub unless-any : (outcome : works.Outcome) (A : Type 0) → A → UnlessReplied 
 unless-any (Replied reply) A a = tt
 unless-any Starved A a = a
 unless-any (Moved other) A a = a
+
+-- a WRITE of the bytes of a call is run as the call
+pub writing-runs : {S : Type 0} (layout : Layout) (v : ℕ) (lens : Lens VolumeContents S) (node : Affinity) (fileid : ℕ) (call : codes.Call)
+    (handle : List ℕ) (offset count : ℕ) (bytes written : List ℕ) (credential : Credential) (moment : Moment) (old new : S)
+    (outcome told : works.Outcome) → call_of call ≡ types.Write handle offset count bytes → written ≡ bytes → outcome ≡ told
+    → RunsOn v lens (write_call handle node fileid (asked_to_write offset count written moment)) old told new
+    → RunsOn v lens (call_of_node layout node fileid credential moment (call_of call)) old outcome new
+writing-runs layout v lens node fileid call handle offset count bytes written credential moment old new outcome told is same comes right =
+    subst (λ (c : Call). RunsOn v lens (call_of_node layout node fileid credential moment c) old outcome new) (sym is)
+    (subst (λ (o : works.Outcome). RunsOn v lens (write_call handle node fileid (asked_to_write offset count bytes moment)) old o new) (sym comes)
+    (subst (λ (bs : List ℕ). RunsOn v lens (write_call handle node fileid (asked_to_write offset count bs moment)) old told new) same right))
+
+-- where it moves nothing has changed: in a stripe
+pub unless-written-there : (v : ℕ) (written : Option (Result WriteResults Status)) (outcome : works.Outcome) (A : Type 0)
+    → outcome ≡ writing_outcome v written → IfNone written A → UnlessReplied outcome A
+unless-written-there v None outcome A is a = subst (λ (o : works.Outcome). UnlessReplied o A) (sym is) a
+unless-written-there v (Some told) outcome A is a = subst (λ (o : works.Outcome). UnlessReplied o A) (sym is) tt
+
+-- and above, also where memory ran out
+pub unless-written : (v : ℕ) (written : Result (Option (Result WriteResults Status)) AllocError) (outcome : works.Outcome) (A : Type 0)
+    → outcome ≡ written_outcome v written → IfOk written (λ told. told ≡ None → A) → OnErr written A → UnlessReplied outcome A
+unless-written v (Ok None) outcome A is moved starved = subst (λ (o : works.Outcome). UnlessReplied o A) (sym is) (moved refl)
+unless-written v (Ok (Some told)) outcome A is moved starved = subst (λ (o : works.Outcome). UnlessReplied o A) (sym is) tt
+unless-written v (Err e) outcome A is moved starved = subst (λ (o : works.Outcome). UnlessReplied o A) (sym is) starved

@@ -1,8 +1,8 @@
 -- A call run on the parcels under its home.
-use Rattle.std.specs.Prelude.{◌≡◌, ℕ, ◌<◌, min, Bool, true, false, [], Option, Some, None}
+use Rattle.std.specs.Prelude.{◌≡◌, ◌⊎◌, ℕ, ◌<◌, min, Bool, true, false, [], Option, Some, None}
 use Rattle.nfs_model.specs.Types as types
 use Rattle.nfs_model.specs.Types.{Ask, Credential, Moment, Stale}
-use Rattle.nfs_model.specs.Tree.{Layout, Affinity, Logical, stripes_of}
+use Rattle.nfs_model.specs.Tree.{Layout, Affinity, Volume, Logical, stripes_of}
 use Rattle.nfs_model.specs.Home.{home, named_by}
 use Rattle.nfs_model.specs.Locate.{Effect, Fails, on_name}
 use Rattle.nfs_model.specs.Serial.Getattr.{getattr}
@@ -16,6 +16,7 @@ use Rattle.nfs_model.specs.Serial.Readdir.{readdir}
 use Rattle.nfs_model.specs.Serial.Remove.{remove_name}
 use Rattle.nfs_model.specs.Serial.Rename.{rename}
 use Rattle.nfs_model.specs.Serial.Rmdir.{rmdir}
+use Rattle.nfs_model.specs.Serial.Write.{write}
 use Rattle.nfs_model.specs.Server.{Named, VolumeState, most_bytes}
 use Rattle.nfs_model.specs.Work as works
 use Rattle.affinity_tree.specs.Affinity.{affinity_of}
@@ -23,7 +24,7 @@ use Rattle.affinity_tree.specs.Tree.{IsNode}
 use Rattle.nfs_values.specs.Call.{call_of}
 use Rattle.nfs_values.specs.Reply.{reply_of}
 use Rattle.nfs_values.specs.declared.call.Call.{Call}
-use Rattle.nfs_values.specs.declared.call.Call.TheVariants.{GetAttributes, SetAttributes, Lookup, Read, Create, MakeDirectory}
+use Rattle.nfs_values.specs.declared.call.Call.TheVariants.{GetAttributes, SetAttributes, Lookup, Read, Write, Create, MakeDirectory}
 use Rattle.nfs_values.specs.declared.call.Call.TheVariants.{Remove, RemoveDirectory, Rename, ReadDirectory, Commit}
 use Rattle.volume_values.specs.Stripes.{StripeValue}
 use Rattle.held_state.specs.Calls.{VolumeCall, LieIn, handle_in}
@@ -41,12 +42,13 @@ outcome_of (Moved affinity) = works.Moved (affinity_of affinity)
 
 -- ---- what is run
 
--- The calls that are run so far: all of names and attributes, READ, and COMMIT.
+-- The calls that are run so far: all of names and attributes, READ, WRITE, and COMMIT.
 abbrev pub IsRun : Call → Type 0
 IsRun (GetAttributes handle) = Unit {0}
 IsRun (SetAttributes handle set guard) = Unit {0}
 IsRun (Lookup target) = Unit {0}
 IsRun (Read handle offset count) = Unit {0}
+IsRun (Write handle offset count bytes) = Unit {0}
 IsRun (Create target mode) = Unit {0}
 IsRun (MakeDirectory target set) = Unit {0}
 IsRun (Remove target) = Unit {0}
@@ -82,6 +84,8 @@ procedure (types.Getattr handle) other credential moment = getattr
 procedure (types.Setattr handle set guard) other credential moment = setattr set guard moment
 procedure (types.Lookup directory name) other credential moment = on_name name moment lookup
 procedure (types.Read handle offset count) other credential moment = read offset count
+procedure (types.Write handle offset count written) other credential moment =
+    write (record { offset = offset; count = count; written = written; moment = moment })
 procedure (types.Create directory name mode) other credential moment = on_name name moment (create mode credential)
 procedure (types.Mkdir directory name set) other credential moment = on_name name moment (mkdir set credential)
 procedure (types.Remove directory name) other credential moment = on_name name moment remove_name
@@ -112,9 +116,20 @@ call_on layout node credential moment call =
 
 -- ---- where it is run
 
--- a call that is run so far is run at its home: Logical of a volume, or the stripe in which its bytes lie
+-- above the home of a WRITE, where it moves: Logical of the volume that its handle names, and Volume
+abbrev pub RunsAbove : Option Named → Affinity → Type 0
+RunsAbove None node = ⊥
+RunsAbove (Some named) node = (node ≡ Logical named.volume) ⊎ (node ≡ Volume named.volume)
+
+-- a call is run at its home, a WRITE above it too
+abbrev pub RunsThere : Layout → types.Call → Affinity → Type 0
+RunsThere layout (types.Write handle offset count written) node =
+    (home layout (types.Write handle offset count written) ≡ Some node) ⊎ RunsAbove (named_by layout handle) node
+RunsThere layout call node = home layout call ≡ Some node
+
+-- a call that is run so far is run at this node: Logical of a volume, the stripe in which its bytes lie, or Volume
 abbrev pub IsRunAt : Layout → Call → Affinity → Type 0
-IsRunAt layout call node = IsRun call × (home layout (call_of call) ≡ Some node)
+IsRunAt layout call node = IsRun call × RunsThere layout (call_of call) node
 
 -- where a call moves, there is a node at which it is run
 abbrev pub MovesOn : Layout → Call → works.Outcome → Type 0
@@ -127,9 +142,10 @@ pub record IsStripeOf (layout : Layout) (v i : ℕ) (s : StripeValue) : Type 0 w
   pub there : i < s.stripes
   pub count : s.stripes ≡ stripes_of layout v
 
--- the bytes that a call is on, of the file that it names, lie in the i-th stripe; other calls than READ are on none
+-- the bytes that a call is on, of the file that it names, lie in the i-th stripe; other calls than READ and WRITE are on none
 abbrev pub BytesLieIn : ℕ → ℕ → ℕ → types.Call → Type 0
 BytesLieIn stripes i fileid (types.Read handle offset count) = LieIn stripes i fileid offset (min count most_bytes)
+BytesLieIn stripes i fileid (types.Write handle offset count written) = LieIn stripes i fileid offset (min count most_bytes)
 BytesLieIn stripes i fileid call = ⊥
 
 -- ---- by parcels

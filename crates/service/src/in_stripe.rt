@@ -18,15 +18,16 @@ ghost use Rattle.service.specs.Running.{
 };
 
 use crate::named::fileid_here;
-use crate::outcome::{Outcome, outcome_read};
+use crate::outcome::{Outcome, outcome_read, outcome_written_in_stripe};
 use crate::task::Run;
 use affinity_tree::{Affinity, Layout};
 use nfs_values::{Call, Fileid, VolumeNumber};
 use parcel_sets::StripeHeld;
 use parcels::Files;
-use service_data::read_in_stripe;
+use service_data::{read_in_stripe, write_in_stripe};
 
-/// Runs a call on the parcel of a stripe of its volume, its home.
+/// Runs a call on the parcel of a stripe of its volume, its home. A WRITE that would extend the
+/// file or fill a hole has to run on Volume Logical.
 pub fn run_on_stripe(
     run: Run,
     layout: &Layout,
@@ -74,6 +75,16 @@ fn run_on_bytes(
             offset,
             count,
         } => outcome_read(read_in_stripe(run.alloc, held, fileid, *offset, *count)),
+        Call::Write {
+            handle: _,
+            offset,
+            count,
+            bytes,
+        } => {
+            let written = bytes.as_slice();
+            let told = write_in_stripe(held, fileid, *offset, *count, written, run.moment);
+            outcome_written_in_stripe(volume, told)
+        }
         _ => unreachable!(),
     }
 }

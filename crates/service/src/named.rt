@@ -35,6 +35,7 @@ fn handle_of(call: &Call) -> &FileHandle
         Call::SetAttributes { handle, .. } => handle,
         Call::Lookup(target) => &target.directory,
         Call::Read { handle, .. } => handle,
+        Call::Write { handle, .. } => handle,
         Call::Create { target, .. } => &target.directory,
         Call::MakeDirectory { target, .. } => &target.directory,
         Call::Remove(target) => &target.directory,

@@ -2,10 +2,11 @@
 
 ghost use Rattle.std.specs.Prelude.{◌≡◌};
 ghost use Rattle.service_data.specs.Promises.{reading_outcome};
+ghost use Rattle.service_data.specs.Writing.{writing_outcome, written_outcome};
 ghost use Rattle.service.specs.Running.{outcome_of};
 
 use affinity_tree::Affinity;
-use nfs_values::{Answer, ReadResults, Reply, Status};
+use nfs_values::{Answer, ReadResults, Reply, Status, VolumeNumber, WriteResults};
 use std::alloc::AllocError;
 
 /// What a run of a call comes to. But for a reply nothing has changed.
@@ -24,6 +25,33 @@ pub(crate) fn outcome_read(read: Result<Result<ReadResults, Status>, AllocError>
 {
     match read {
         Ok(told) => Outcome::Replied(Reply::Success(Answer::Read(told))),
+        Err(AllocError) => Outcome::Starved,
+    }
+}
+
+/// What a WRITE in a stripe of a volume comes to.
+pub(crate) fn outcome_written_in_stripe(
+    volume: VolumeNumber,
+    written: Option<Result<WriteResults, Status>>,
+) -> Outcome
+    ensures { outcome_of result ≡ writing_outcome volume.0 written }
+{
+    match written {
+        Some(told) => Outcome::Replied(Reply::Success(Answer::Write(told))),
+        None => Outcome::Moved(Affinity::VolumeLogical(volume.0)),
+    }
+}
+
+/// What a WRITE under Volume Logical of a volume comes to, or under Volume.
+pub(crate) fn outcome_written(
+    volume: VolumeNumber,
+    written: Result<Option<Result<WriteResults, Status>>, AllocError>,
+) -> Outcome
+    ensures { outcome_of result ≡ written_outcome volume.0 written }
+{
+    match written {
+        Ok(Some(told)) => Outcome::Replied(Reply::Success(Answer::Write(told))),
+        Ok(None) => Outcome::Moved(Affinity::Volume(volume.0)),
         Err(AllocError) => Outcome::Starved,
     }
 }

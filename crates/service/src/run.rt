@@ -18,11 +18,19 @@ ghost use Rattle.held_state.specs.Running.{RunsOn, UnlessReplied};
 ghost use Rattle.held_state.specs.Sets.{logical_before, logical_after};
 ghost use Rattle.service_names.specs.Promises.{listing_outcome, making_outcome};
 ghost use Rattle.service_renames.specs.Promises.{renaming_outcome};
-ghost use Rattle.service.specs.Running.{call_named, call_on, is_told, outcome_of, IsRun, IsRunAt};
+ghost use Rattle.service.specs.Running.{
+  call_named,
+  call_on,
+  is_told,
+  outcome_of,
+  IsRun,
+  IsRunAt,
+  RunsThere,
+};
 
 use crate::attributes::get_attributes;
 use crate::named::fileid_here;
-use crate::outcome::{Outcome, outcome_read};
+use crate::outcome::{Outcome, outcome_read, outcome_written};
 use crate::task::Run;
 use affinity::named_by;
 use affinity_tree::{Affinity, Layout};
@@ -32,7 +40,7 @@ use nfs_values::{
 };
 use parcel_sets::LogicalHeld;
 use parcels::Files;
-use service_data::read_in_logical;
+use service_data::{read_in_logical, write_in_logical};
 use service_names::{
     PageAsked, commit, create, lookup, make_directory, read_directory, remove, remove_directory,
     set_attributes,
@@ -40,7 +48,8 @@ use service_names::{
 use service_renames::{EntryName, rename};
 use std::alloc::AllocError;
 
-/// Runs a call on the parcels under Volume Logical of its volume, its home.
+/// Runs a call on the parcels under Volume Logical of its volume: its home, or where a WRITE moved.
+/// A WRITE that the stock has too few blocks for has to run on Volume.
 pub fn run_on_logical(
     run: Run,
     layout: &Layout,
@@ -129,8 +138,8 @@ fn tell(run: Run, held: &LogicalHeld<Files>, named: Named) -> Outcome
 fn change(run: Run, layout: &Layout, held: &mut LogicalHeld<Files>, named: Named) -> Outcome
     requires run { IsRun run.call.now }
     requires changes { is_told run.call.now ≡ false }
-    requires home { home (layout_of layout.now) (call_of run.call.now)
-        ≡ Some (trees.Logical named.volume.0) }
+    requires there { RunsThere (layout_of layout.now) (call_of run.call.now)
+        (trees.Logical named.volume.0) }
     requires whole { HasVolume named.volume.0 logical_lens [] (logical_before held.old) }
     ensures runs { RunsOn named.volume.0 logical_lens
         (call_named (layout_of layout.now) (named_of named) (credential_of run.entry.credential)
@@ -154,6 +163,16 @@ fn change(run: Run, layout: &Layout, held: &mut LogicalHeld<Files>, named: Named
         } => {
             let told = set_attributes(held, volume, fileid, set, *guard, moment);
             Outcome::Replied(Reply::Success(Answer::SetAttributes(told)))
+        }
+        Call::Write {
+            handle: _,
+            offset,
+            count,
+            bytes,
+        } => {
+            let written = bytes.as_slice();
+            let told = write_in_logical(held, fileid, *offset, *count, written, moment);
+            outcome_written(volume, told)
         }
         Call::Create { target, mode } => {
             let name = target.name.as_bytes();

@@ -6,6 +6,7 @@ ghost use Rattle.affinity_tree.specs.Affinity.{affinity_of, kind_of};
 ghost use Rattle.affinity_tree.specs.declared.affinity.Kind.TheVariants as kinds;
 
 use crate::in_stripe::run_on_stripe;
+use crate::in_volume::run_on_volume;
 use crate::outcome::Outcome;
 use crate::run::run_on_logical;
 use affinity_tree::{Affinity, Layout};
@@ -17,7 +18,7 @@ use parcel_sets::{
 use parcels::Files;
 use std::alloc::Global;
 
-/// A call to be run under its home, as a task on the parcels of the node.
+/// A call to be run under its home or above it, as a task on the parcels of the node.
 #[derive(Clone, Copy)]
 pub struct Run<'a> {
     /// Where replies take memory.
@@ -64,11 +65,17 @@ impl<'a> Task<Parcel<Files>, ParcelKinds> for Run<'a> {
         affinity: Affinity,
         held: &mut LogicalHeld<Files>,
     ) -> Outcome {
-        run_on_logical(self, layout, volume_at(affinity), held)
+        run_on_logical(self, layout, volume_of_logical(affinity), held)
     }
 
-    fn on_volume(self, _: &Layout, _: Affinity, _: &mut VolumeHeld<Files>) -> Outcome {
-        unreachable!()
+    fn on_volume(
+        self,
+        layout: &Layout,
+        affinity: Affinity,
+        held: &mut VolumeHeld<Files>,
+    ) -> Outcome {
+        let volume = volume_of(affinity);
+        run_on_volume(self, layout, volume, held)
     }
 
     fn on_aggregate(self, _: &Layout, _: Affinity, _: &mut AggrHeld<Files>) -> Outcome {
@@ -81,12 +88,23 @@ impl<'a> Task<Parcel<Files>, ParcelKinds> for Run<'a> {
 }
 
 /// The volume of a node that is Volume Logical.
-fn volume_at(affinity: Affinity) -> VolumeNumber
+fn volume_of_logical(affinity: Affinity) -> VolumeNumber
     requires { kind_of (affinity_of affinity) ≡ kinds.VolumeLogical }
     ensures { affinity_of affinity ≡ trees.Logical result.0 }
 {
     match affinity {
         Affinity::VolumeLogical(volume) => VolumeNumber(volume),
+        _ => unreachable!(),
+    }
+}
+
+/// The volume of a node that is Volume.
+fn volume_of(affinity: Affinity) -> VolumeNumber
+    requires { kind_of (affinity_of affinity) ≡ kinds.Volume }
+    ensures { affinity_of affinity ≡ trees.Volume result.0 }
+{
+    match affinity {
+        Affinity::Volume(volume) => VolumeNumber(volume),
         _ => unreachable!(),
     }
 }

@@ -37,6 +37,7 @@ use Rattle.service.specs.declared.job.Job.{Job}
 use Rattle.service.specs.declared.job.JobReply.{JobReply}
 use Rattle.service.specs.declared.job.JobReply.TheVariants.{Replied}
 use Rattle.service.specs.Running.{IsRun, call_on}
+use Rattle.service.specs.lemmas.Homes.{at-home}
 use Rattle.service.specs.lemmas.Serving.{logical-runs}
 use Rattle.service_trial.specs.declared.asker.Asker.{Asker}
 use Rattle.service_trial.specs.Driving.{finished_job}
@@ -100,8 +101,8 @@ module _ {P : Type 0} (layout : Layout) (lawful : fault_of layout ≡ None) (v :
   run-is-step asker call run at held old new same own w of has reply right job finished =
       let right_held = subst (λ (h : FilerLogical P). RunsOn v logical_lens (asked_by layout v asker call)
       (logical_before h) (works.Replied (reply_of reply)) (logical_after h new)) same right in
-      let enters = logical-runs layout lawful call (credential_of asker.credential) (moment_of asker.moment) v (Logical v) refl on (run, at) held new
-      (works.Replied (reply_of reply)) tt own right_held in
+      let enters = logical-runs layout lawful call (credential_of asker.credential) (moment_of asker.moment) v (Logical v) refl on
+      (at-home layout call (Logical v) run at) held new (works.Replied (reply_of reply)) tt own right_held in
       subst (λ (j : Job). IsStep (behaviour job_steps job_takes job_gives IsFiler) w (number_of layout (affinity_of a)) j (Replied reply)
       (logical_parcels layout (affinity_of a) new)) (sym finished)
       (subst (λ (x : codes.Affinity). IsStep (behaviour job_steps job_takes job_gives IsFiler) w (number_of layout (affinity_of x))

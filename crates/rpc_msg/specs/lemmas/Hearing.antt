@@ -7,7 +7,7 @@ use Rattle.nfs_model.specs.Types as model
 use Rattle.nfs_model.specs.World.{Heard, IsDecoded}
 use Rattle.rpc_msg.specs.Offered.{AsksOffered}
 use Rattle.nfs_values.specs.declared.procedure.Procedure.{Procedure}
-use Rattle.nfs_values.specs.declared.procedure.Procedure.TheVariants.{Null, GetAttributes, SetAttributes, Lookup, Read, Create, MakeDirectory}
+use Rattle.nfs_values.specs.declared.procedure.Procedure.TheVariants.{Null, GetAttributes, SetAttributes, Lookup, Read, Write, Create, MakeDirectory}
 use Rattle.nfs_values.specs.declared.procedure.Procedure.TheVariants.{Remove, RemoveDirectory, Rename, ReadDirectory, Commit, AdminNull}
 use Rattle.nfs_values.specs.Procedure.{is_offered}
 use Rattle.nfs_types.specs.Arguments.{asked, arguments_shape, call_from}
@@ -62,6 +62,7 @@ asks_offered GetAttributes offered credential (Ok v) = tt
 asks_offered SetAttributes offered credential (Ok v) = tt
 asks_offered Lookup offered credential (Ok v) = tt
 asks_offered Read offered credential (Ok v) = tt
+asks_offered Write offered credential (Ok v) = tt
 asks_offered Create offered credential (Ok v) = tt
 asks_offered MakeDirectory offered credential (Ok v) = tt
 asks_offered Remove offered credential (Ok v) = tt

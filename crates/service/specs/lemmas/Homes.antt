@@ -1,11 +1,11 @@
--- The home of a call that is run: what it is, and what is known of the call there.
+-- The nodes at which a call is run: what they are, and what is known of the call there.
 use Rattle.std.proofs.Common.{◌≡◌, ◌≢◌, ℕ, ◌+◌, ◌-◌, ◌/◌, ◌%◌, ◌<◌, Bool, true, false, Option, Some, None, refl, sym, ap, ◌∙◌}
 use Rattle.std.proofs.Common.{subst, inl, inr, ◌⊎◌, ⊎_elim, arith}
 use Rattle.std.proofs.lemmas.Bool.{eqb-true}
 use Rattle.std.specs.Prelude.{◌==◌, ◌||◌, min, if◌then◌else◌}
-use Rattle.nfs_model.specs.Tree.{Layout, Affinity, Logical, Stripe, stripes_of}
+use Rattle.nfs_model.specs.Tree.{Layout, Affinity, Volume, Logical, Stripe, stripes_of}
 use Rattle.nfs_model.specs.Server.{Named, most_bytes}
-use Rattle.nfs_model.specs.Home.{logical_home, bytes_home, rename_home, named_by, span_bytes, stripe_of_span}
+use Rattle.nfs_model.specs.Home.{home, logical_home, bytes_home, rename_home, named_by, span_bytes, stripe_of_span}
 use Rattle.nfs_model.specs.Work.{volume_above}
 use Rattle.nfs_values.specs.Call.{call_of}
 use Rattle.nfs_values.specs.declared.call.Call.{Call}
@@ -16,32 +16,36 @@ use Rattle.affinity_tree.specs.declared.affinity.Kind.TheVariants as kinds
 use Rattle.parcel_sets.specs.Sets.{volume_of}
 use Rattle.held_state.specs.Calls.{LieIn, handle_in}
 use Rattle.held_data.specs.lemmas.Homes.{home-lies}
-use Rattle.service.specs.Running.{IsRunAt, BytesLieIn, fileid_in}
+use Rattle.service.specs.Running.{IsRun, IsRunAt, RunsAbove, BytesLieIn, fileid_in}
 
--- what its handle names, the first of RENAME's: a fileid of the home's volume; and what the home is
-pub record IsHomeOf (named : Option Named) (a : Affinity) : Type 0 where
+-- what its handle names, the first of RENAME's: a fileid of the node's volume; and what the node is
+pub record IsNodeOf (named : Option Named) (a : Affinity) : Type 0 where
   pub names : named ≡ Some (record { volume = volume_of a; fileid = fileid_in named })
   pub above : volume_above a ≡ Some (volume_of a)
-  pub kind : (kind_of a ≡ kinds.VolumeLogical) ⊎ (kind_of a ≡ kinds.Stripe)
+  pub kind : (kind_of a ≡ kinds.VolumeLogical) ⊎ ((kind_of a ≡ kinds.Stripe) ⊎ (kind_of a ≡ kinds.Volume))
 
 -- Logical of its volume
-of-logical : (n : Named) (a : Affinity) → Logical n.volume ≡ a → IsHomeOf (Some n) a
-of-logical n a at = subst (IsHomeOf (Some n)) at (record { names = refl; above = refl; kind = inl refl })
+of-logical : (n : Named) (a : Affinity) → Logical n.volume ≡ a → IsNodeOf (Some n) a
+of-logical n a at = subst (IsNodeOf (Some n)) at (record { names = refl; above = refl; kind = inl refl })
 
 -- a stripe of its volume
-of-stripe : (n : Named) (i : ℕ) (a : Affinity) → Stripe n.volume i ≡ a → IsHomeOf (Some n) a
-of-stripe n i a at = subst (IsHomeOf (Some n)) at (record { names = refl; above = refl; kind = inr refl })
+of-stripe : (n : Named) (i : ℕ) (a : Affinity) → Stripe n.volume i ≡ a → IsNodeOf (Some n) a
+of-stripe n i a at = subst (IsNodeOf (Some n)) at (record { names = refl; above = refl; kind = inr (inl refl) })
 
-pub at-logical : (named : Option Named) (a : Affinity) → logical_home named ≡ Some a → IsHomeOf named a
+-- Volume
+of-volume : (n : Named) (a : Affinity) → Volume n.volume ≡ a → IsNodeOf (Some n) a
+of-volume n a at = subst (IsNodeOf (Some n)) at (record { names = refl; above = refl; kind = inr (inr refl) })
+
+pub at-logical : (named : Option Named) (a : Affinity) → logical_home named ≡ Some a → IsNodeOf named a
 at-logical None a e = absurd cc
 at-logical (Some n) a e = of-logical n a cc
 
 -- of bytes
-at-bytes : (layout : Layout) (named : Option Named) (offset n : ℕ) (a : Affinity) → bytes_home layout named offset n ≡ Some a → IsHomeOf named a
+at-bytes : (layout : Layout) (named : Option Named) (offset n : ℕ) (a : Affinity) → bytes_home layout named offset n ≡ Some a → IsNodeOf named a
 at-bytes layout None offset n a e = absurd cc
 at-bytes layout (Some h) offset n a e = by ((n == 0) || (offset / span_bytes == (offset + n - 1) / span_bytes)) e
   where
-    by : (b : Bool) → (if b then Some (stripe_of_span layout h (offset / span_bytes)) else Some (Logical h.volume)) ≡ Some a → IsHomeOf (Some h) a
+    by : (b : Bool) → (if b then Some (stripe_of_span layout h (offset / span_bytes)) else Some (Logical h.volume)) ≡ Some a → IsNodeOf (Some h) a
     by true is = of-stripe h ((h.fileid + offset / span_bytes) % stripes_of layout h.volume) a cc
     by false is = of-logical h a cc
 
@@ -56,14 +60,24 @@ both-there (Some m) (Some n) a e = by-volumes (m.volume == n.volume) refl e
     by-volumes false same is = absurd cc
     by-volumes true same is = (is, ap (λ (w : ℕ). Some (Logical w)) (sym (eqb-true m.volume n.volume same)) ∙ is)
 
-at-both : (from to : Option Named) (a : Affinity) → rename_home from to ≡ Some a → IsHomeOf from a
+at-both : (from to : Option Named) (a : Affinity) → rename_home from to ≡ Some a → IsNodeOf from a
 at-both from to a e = at-logical from a (both-there from to a e).0
 
-pub run-home : (layout : Layout) (call : Call) (a : Affinity) → IsRunAt layout call a → IsHomeOf (named_by layout (handle_in (call_of call))) a
+-- above the home of bytes
+at-above : (named : Option Named) (a : Affinity) → RunsAbove named a → IsNodeOf named a
+at-above None a above = absurd above
+at-above (Some n) a above =
+    ⊎_elim (λ (e : a ≡ Logical n.volume). of-logical n a (sym e)) (λ (e : a ≡ Volume n.volume). of-volume n a (sym e)) above
+
+pub run-home : (layout : Layout) (call : Call) (a : Affinity) → IsRunAt layout call a → IsNodeOf (named_by layout (handle_in (call_of call))) a
 run-home layout (calls.GetAttributes handle) a at = at-logical (named_by layout handle) a at.1
 run-home layout (calls.SetAttributes handle set guard) a at = at-logical (named_by layout handle) a at.1
 run-home layout (calls.Lookup target) a at = at-logical (named_by layout target.directory) a at.1
 run-home layout (calls.Read handle offset count) a at = at-bytes layout (named_by layout handle) offset (min count most_bytes) a at.1
+run-home layout (calls.Write handle offset count bytes) a at =
+    let named = named_by layout handle in
+    ⊎_elim (λ (e : bytes_home layout named offset (min count most_bytes) ≡ Some a). at-bytes layout named offset (min count most_bytes) a e)
+    (λ (above : RunsAbove named a). at-above named a above) at.1
 run-home layout (calls.Create target mode) a at = at-logical (named_by layout target.directory) a at.1
 run-home layout (calls.MakeDirectory target set) a at = at-logical (named_by layout target.directory) a at.1
 run-home layout (calls.Remove target) a at = at-logical (named_by layout target.directory) a at.1
@@ -79,17 +93,71 @@ run-named layout call a at none = let e = sym none ∙ (run-home layout call a a
 
 -- ---- where it is run
 
+-- a call that is run so far is run at its home
+pub at-home : (layout : Layout) (call : Call) (a : Affinity) → IsRun call → home layout (call_of call) ≡ Some a → IsRunAt layout call a
+at-home layout (calls.GetAttributes handle) a run at = (tt, at)
+at-home layout (calls.SetAttributes handle set guard) a run at = (tt, at)
+at-home layout (calls.Lookup target) a run at = (tt, at)
+at-home layout (calls.Read handle offset count) a run at = (tt, at)
+at-home layout (calls.Write handle offset count bytes) a run at = (tt, inl at)
+at-home layout (calls.Create target mode) a run at = (tt, at)
+at-home layout (calls.MakeDirectory target set) a run at = (tt, at)
+at-home layout (calls.Remove target) a run at = (tt, at)
+at-home layout (calls.RemoveDirectory target) a run at = (tt, at)
+at-home layout (calls.Rename from to) a run at = (tt, at)
+at-home layout (calls.ReadDirectory directory cookie verifier count) a run at = (tt, at)
+at-home layout (calls.Commit handle) a run at = (tt, at)
+at-home layout call a run at = absurd run
+
 -- a call is run on no node of another kind
 pub not-here : (layout : Layout) (a : Affinity) (call : Call) → IsRunAt layout call a → (kind : Kind) → kind_of a ≡ kind
-    → kind ≢ kinds.VolumeLogical → kind ≢ kinds.Stripe → ⊥
-not-here layout a call at kind of logical stripe =
-    ⊎_elim (λ (e : kind_of a ≡ kinds.VolumeLogical). logical (sym of ∙ e)) (λ (e : kind_of a ≡ kinds.Stripe). stripe (sym of ∙ e))
+    → kind ≢ kinds.VolumeLogical → kind ≢ kinds.Stripe → kind ≢ kinds.Volume → ⊥
+not-here layout a call at kind of logical stripe volume =
+    ⊎_elim (λ (e : kind_of a ≡ kinds.VolumeLogical). logical (sym of ∙ e))
+    (λ (others : (kind_of a ≡ kinds.Stripe) ⊎ (kind_of a ≡ kinds.Volume)).
+    ⊎_elim (λ (e : kind_of a ≡ kinds.Stripe). stripe (sym of ∙ e)) (λ (e : kind_of a ≡ kinds.Volume). volume (sym of ∙ e)) others)
     (run-home layout call a at).kind
+
+-- on Volume only a WRITE
+not-volume : (named : Option Named) (v : ℕ) → logical_home named ≡ Some (Volume v) → ⊥
+not-volume None v e = cc
+not-volume (Some n) v e = cc
+
+no-bytes-volume : (layout : Layout) (named : Option Named) (offset n v : ℕ) → bytes_home layout named offset n ≡ Some (Volume v) → ⊥
+no-bytes-volume layout None offset n v e = cc
+no-bytes-volume layout (Some h) offset n v e = by ((n == 0) || (offset / span_bytes == (offset + n - 1) / span_bytes)) e
+  where
+    by : (b : Bool) → (if b then Some (stripe_of_span layout h (offset / span_bytes)) else Some (Logical h.volume)) ≡ Some (Volume v) → ⊥
+    by true is = cc
+    by false is = cc
+
+pub only-writes : (layout : Layout) (call : Call) (v : ℕ) → IsRunAt layout call (Volume v)
+    → ((handle : _) (offset count : ℕ) (bytes : _) → call ≡ calls.Write handle offset count bytes → ⊥) → ⊥
+only-writes layout (calls.GetAttributes handle) v at no_write = not-volume (named_by layout handle) v at.1
+only-writes layout (calls.SetAttributes handle set guard) v at no_write = not-volume (named_by layout handle) v at.1
+only-writes layout (calls.Lookup target) v at no_write = not-volume (named_by layout target.directory) v at.1
+only-writes layout (calls.Read handle offset count) v at no_write =
+    no-bytes-volume layout (named_by layout handle) offset (min count most_bytes) v at.1
+only-writes layout (calls.Write handle offset count bytes) v at no_write = no_write handle offset count bytes refl
+only-writes layout (calls.Create target mode) v at no_write = not-volume (named_by layout target.directory) v at.1
+only-writes layout (calls.MakeDirectory target set) v at no_write = not-volume (named_by layout target.directory) v at.1
+only-writes layout (calls.Remove target) v at no_write = not-volume (named_by layout target.directory) v at.1
+only-writes layout (calls.RemoveDirectory target) v at no_write = not-volume (named_by layout target.directory) v at.1
+only-writes layout (calls.Rename from to) v at no_write =
+    not-volume (named_by layout from.directory) v (both-there (named_by layout from.directory) (named_by layout to.directory) (Volume v) at.1).0
+only-writes layout (calls.ReadDirectory directory cookie verifier count) v at no_write = not-volume (named_by layout directory) v at.1
+only-writes layout (calls.Commit handle) v at no_write = not-volume (named_by layout handle) v at.1
+only-writes layout call v at no_write = absurd at.0
 
 -- in a stripe, only one on bytes that lie in it
 not-stripe : (named : Option Named) (v i : ℕ) → logical_home named ≡ Some (Stripe v i) → ⊥
 not-stripe None v i e = cc
 not-stripe (Some n) v i e = cc
+
+no-stripe-above : (named : Option Named) (v i : ℕ) → RunsAbove named (Stripe v i) → ⊥
+no-stripe-above None v i above = above
+no-stripe-above (Some n) v i above =
+    ⊎_elim (λ (e : Stripe v i ≡ Logical n.volume). let no : ⊥ = cc in no) (λ (e : Stripe v i ≡ Volume n.volume). let no : ⊥ = cc in no) above
 
 lies-there : (layout : Layout) (named : Option Named) (offset n v i stripes : ℕ) → bytes_home layout named offset n ≡ Some (Stripe v i)
     → stripes ≡ stripes_of layout v → 0 < stripes → LieIn stripes i (fileid_in named) offset n
@@ -106,6 +174,11 @@ bytes-lie layout (calls.SetAttributes handle set guard) v i stripes at many ther
 bytes-lie layout (calls.Lookup target) v i stripes at many there = not-stripe (named_by layout target.directory) v i at.1
 bytes-lie layout (calls.Read handle offset count) v i stripes at many there =
     lies-there layout (named_by layout handle) offset (min count most_bytes) v i stripes at.1 many (omega arith)
+bytes-lie layout (calls.Write handle offset count bytes) v i stripes at many there =
+    let named = named_by layout handle in
+    ⊎_elim (λ (e : bytes_home layout named offset (min count most_bytes) ≡ Some (Stripe v i)).
+    lies-there layout named offset (min count most_bytes) v i stripes e many (omega (arith, there)))
+    (λ (above : RunsAbove named (Stripe v i)). absurd (no-stripe-above named v i above)) at.1
 bytes-lie layout (calls.Create target mode) v i stripes at many there = not-stripe (named_by layout target.directory) v i at.1
 bytes-lie layout (calls.MakeDirectory target set) v i stripes at many there = not-stripe (named_by layout target.directory) v i at.1
 bytes-lie layout (calls.Remove target) v i stripes at many there = not-stripe (named_by layout target.directory) v i at.1

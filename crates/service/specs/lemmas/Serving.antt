@@ -1,47 +1,93 @@
--- A run of a call on the parcels of its home is right by parcels.
-use Rattle.std.proofs.Common.{◌≡◌, ℕ, [], Bool, Option, Some, None, refl, sym, ap, ◌∙◌, subst, arith}
+-- A run of a call on the parcels of its home, or above it, is right by parcels.
+use Rattle.std.proofs.Common.{◌≡◌, ◌⊎◌, inl, inr, ⊎_elim, ℕ, ◌-◌, ◌+◌, ◌/◌, ◌%◌, ◌<◌, [], ◌∷◌, Bool, true, false, Option, Some, None}
+use Rattle.std.proofs.Common.{refl, sym, ap, ◌∙◌, subst, arith}
 use Rattle.std.proofs.lemmas.Bool.{eq-eqb}
-use Rattle.std.specs.Prelude.{List, length, slice_get, if◌then◌else◌}
+use Rattle.std.specs.Prelude.{List, length, min, nat_lt, ◌&&◌, ◌||◌, ◌==◌, IsTrue, slice_get, if◌then◌else◌}
+use Rattle.std.specs.FinSet.{len}
 use Rattle.nfs_model.specs.Types as types
 use Rattle.nfs_model.specs.Types.{Ask, Credential, Moment}
-use Rattle.nfs_model.specs.Tree.{Layout, Affinity, Logical, Stripe, path, stripes_of}
-use Rattle.nfs_model.specs.Server.{Server, VolumeState, handle_of}
-use Rattle.nfs_model.specs.Home.{rename_home, named_by}
+use Rattle.nfs_model.specs.Tree.{Layout, Affinity, Serial, Aggregate, Volume, Logical, Stripe, Vbn, Range, path, begins, aggregate_of, stripes_of}
+use Rattle.nfs_model.specs.Server.{Server, Named, VolumeState, handle_of, most_bytes}
+use Rattle.nfs_model.specs.Home.{bytes_home, rename_home, named_by, span_bytes, stripe_of_span}
 use Rattle.nfs_model.specs.Locate.{located_in, located_by, locate}
 use Rattle.nfs_model.specs.Serial.Absent.{absent_parts}
 use Rattle.nfs_model.specs.Serial.Rename.{rename}
 use Rattle.nfs_model.specs.Serial.Step.{on, on_two, placed, serve, stay}
-use Rattle.nfs_model.specs.Work.{Outcome, Replied, Starved, Moved}
+use Rattle.nfs_model.specs.Parts.{Parts}
+use Rattle.nfs_model.specs.Work.{Outcome, Replied, Starved, Moved, Ready, move_if, ready_at, volume_above}
 use Rattle.nfs_values.specs.Call.{call_of}
 use Rattle.nfs_values.specs.declared.call.Call.{Call}
 use Rattle.nfs_values.specs.declared.call.Call.TheVariants as calls
 use Rattle.affinity_tree.specs.Fault.{fault_of}
-use Rattle.affinity_tree.specs.lemmas.Ways.{begins-self}
-use Rattle.affinity_tree.specs.Tree.{IsNode}
-use Rattle.parcel_sets.specs.Sets.{volume_of, stripe_parcels, logical_parcels}
+use Rattle.affinity_tree.specs.lemmas.Ways.{begins-self, begins-longer}
+use Rattle.affinity_tree.specs.Tree.{IsNode, covers}
+use Rattle.parcel_sets.specs.Sets.{volume_of, stripe_parcels, logical_parcels, volume_parcels}
 use Rattle.volume_values.specs.Stripes.{StripeValue}
-use Rattle.held_state.specs.Calls.{IsCallOn, handle_in, move_on}
+use Rattle.held_state.specs.Calls.{IsCallOn, handle_in, located_on, move_on}
 use Rattle.held_state.specs.Contents.{VolumeContents, FilerContents, filer_contents}
 use Rattle.held_state.specs.Deeds.{IsHomeOrAbove}
-use Rattle.held_state.specs.Lenses.{Lens, logical_lens, stripe_lens, volume_or_none}
+use Rattle.held_state.specs.Lenses.{Lens, logical_lens, stripe_lens, volume_lens, volume_or_none}
+use Rattle.held_state.specs.Partition.{parts_of}
 use Rattle.held_state.specs.Promises.{HasVolume}
 use Rattle.held_state.specs.Running.{HasFiler, RunsOn, UnlessReplied, Runs}
-use Rattle.held_state.specs.Sets.{FilerLogical, FilerStripe, logical_set, logical_before, logical_after}
+use Rattle.held_state.specs.Sets.{FilerLogical, FilerStripe, FilerVolume, logical_set, logical_before, logical_after, volume_set, volume_before, volume_after}
 use Rattle.held_state.specs.Tree.{stripe_at}
-use Rattle.held_laws.specs.lemmas.Granted.{stripe-has, logical-has}
-use Rattle.held_laws.specs.lemmas.Kinds.{stripe-step, logical-step}
+use Rattle.held_laws.specs.lemmas.Granted.{stripe-has, logical-has, volume-has}
+use Rattle.held_laws.specs.lemmas.Kinds.{stripe-step, logical-step, volume-step}
 use Rattle.held_laws.specs.lemmas.Running.{runs-by}
-use Rattle.held_laws.specs.lemmas.SeenSets.{stripe-seen, logical-seen}
+use Rattle.held_laws.specs.lemmas.SeenSets.{stripe-seen, logical-seen, volume-seen}
 use Rattle.held_laws.specs.lemmas.Steps.{laid-out, get-some}
-use Rattle.service.specs.Running.{IsRun, IsRunAt, IsStripeOf, MovesOn, call_on, fileid_in, other_in, procedure}
-use Rattle.service.specs.lemmas.Homes.{IsHomeOf, at-logical, both-there, run-home}
+use Rattle.service.specs.Running.{IsRunAt, RunsAbove, IsStripeOf, MovesOn, call_on, fileid_in, other_in, procedure}
+use Rattle.service.specs.lemmas.Homes.{IsNodeOf, at-logical, both-there, run-home}
 
 -- ---- a call that is run is a call on its volume
+
+-- Logical of a volume and Volume are above Logical and above each stripe
+over-volume : (layout : Layout) (v : ℕ) (steps : List ℕ) (a : Affinity) → (a ≡ Logical v) ⊎ (a ≡ Volume v)
+    → begins (path layout a) (aggregate_of layout v ∷ v ∷ 0 ∷ steps) ≡ true
+over-volume layout v steps a above =
+    let logical : List ℕ = aggregate_of layout v ∷ v ∷ 0 ∷ [] in
+    let volume : List ℕ = aggregate_of layout v ∷ v ∷ [] in
+    ⊎_elim
+    (λ (e : a ≡ Logical v). subst (λ (b : Affinity). begins (path layout b) (aggregate_of layout v ∷ v ∷ 0 ∷ steps) ≡ true) (sym e)
+    (begins-longer logical logical steps (begins-self logical)))
+    (λ (e : a ≡ Volume v). subst (λ (b : Affinity). begins (path layout b) (aggregate_of layout v ∷ v ∷ 0 ∷ steps) ≡ true) (sym e)
+    (begins-longer volume volume (0 ∷ steps) (begins-self volume)))
+    above
+
+-- and so above the home of bytes
+over-bytes : (layout : Layout) (named : Option Named) (offset n : ℕ) (a : Affinity) → RunsAbove named a
+    → (home : Affinity) × (bytes_home layout named offset n ≡ Some home) × IsTrue (covers layout a home)
+over-bytes layout None offset n a above = absurd above
+over-bytes layout (Some h) offset n a above = by ((n == 0) || (offset / span_bytes == (offset + n - 1) / span_bytes))
+  where
+    by : (b : Bool) → (home : Affinity)
+        × ((if b then Some (stripe_of_span layout h (offset / span_bytes)) else Some (Logical h.volume)) ≡ Some home) × IsTrue (covers layout a home)
+    by true =
+        let i : ℕ = (h.fileid + offset / span_bytes) % stripes_of layout h.volume in
+        (stripe_of_span layout h (offset / span_bytes), refl, over-volume layout h.volume (i ∷ []) a above)
+    by false = (Logical h.volume, refl, over-volume layout h.volume [] a above)
 
 -- a call is run at its home or above it
 pub run-tried : (layout : Layout) (call : Call) (credential : Credential) (a : Affinity) → IsRunAt layout call a
     → IsHomeOrAbove layout (Ask (call_of call) credential) a
-run-tried layout call credential a at = (a, at.1, begins-self (path layout a))
+run-tried layout (calls.Write handle offset count bytes) credential a at =
+    let named = named_by layout handle in
+    let n : ℕ = min count most_bytes in
+    ⊎_elim (λ (e : bytes_home layout named offset n ≡ Some a). (a, e, begins-self (path layout a)))
+    (λ (above : RunsAbove named a). over-bytes layout named offset n a above) at.1
+run-tried layout (calls.GetAttributes handle) credential a at = (a, at.1, begins-self (path layout a))
+run-tried layout (calls.SetAttributes handle set guard) credential a at = (a, at.1, begins-self (path layout a))
+run-tried layout (calls.Lookup target) credential a at = (a, at.1, begins-self (path layout a))
+run-tried layout (calls.Read handle offset count) credential a at = (a, at.1, begins-self (path layout a))
+run-tried layout (calls.Create target mode) credential a at = (a, at.1, begins-self (path layout a))
+run-tried layout (calls.MakeDirectory target set) credential a at = (a, at.1, begins-self (path layout a))
+run-tried layout (calls.Remove target) credential a at = (a, at.1, begins-self (path layout a))
+run-tried layout (calls.RemoveDirectory target) credential a at = (a, at.1, begins-self (path layout a))
+run-tried layout (calls.Rename from to) credential a at = (a, at.1, begins-self (path layout a))
+run-tried layout (calls.ReadDirectory directory cookie verifier count) credential a at = (a, at.1, begins-self (path layout a))
+run-tried layout (calls.Commit handle) credential a at = (a, at.1, begins-self (path layout a))
+run-tried layout call credential a at = absurd at.0
 
 -- what it names on a server of this layout
 located-there : (layout : Layout) (server : Server) (volume : VolumeState) (v fileid : ℕ) (handle : List ℕ) → length server.volumes ≡ length layout.volumes
@@ -53,7 +99,7 @@ located-there layout server volume v fileid handle count there named =
 
 -- a call on one handle
 on-handle : (layout : Layout) (a : Affinity) (call : types.Call) (credential : Credential) (moment : Moment)
-    → IsHomeOf (named_by layout (handle_in call)) a → IsHomeOrAbove layout (Ask call credential) a
+    → IsNodeOf (named_by layout (handle_in call)) a → IsHomeOrAbove layout (Ask call credential) a
     → ((server : Server)
     → serve server call credential moment
     ≡ on server (absent_parts call) (locate server (handle_in call)) (procedure call (other_in layout call) credential moment))
@@ -108,6 +154,9 @@ run-is-call layout (calls.Lookup target) credential moment a at =
 run-is-call layout (calls.Read handle offset count) credential moment a at =
     on-handle layout a (types.Read handle offset count) credential moment (run-home layout (calls.Read handle offset count) a at)
     (run-tried layout (calls.Read handle offset count) credential a at) (λ server. refl)
+run-is-call layout (calls.Write handle offset count bytes) credential moment a at =
+    on-handle layout a (call_of (calls.Write handle offset count bytes)) credential moment (run-home layout (calls.Write handle offset count bytes) a at)
+    (run-tried layout (calls.Write handle offset count bytes) credential a at) (λ server. refl)
 run-is-call layout (calls.Create target mode) credential moment a at =
     on-handle layout a (call_of (calls.Create target mode)) credential moment (run-home layout (calls.Create target mode) a at)
     (run-tried layout (calls.Create target mode) credential a at) (λ server. refl)
@@ -163,6 +212,32 @@ module _ {P : Type 0} (layout : Layout) (lawful : fault_of layout ≡ None) (cal
       → Runs layout b (Ask (call_of call) credential) moment (logical_parcels layout b old) outcome (logical_parcels layout b new))
       (sym is) (λ there asks. logical-runs-at v there asks old new outcome same own right) on at
 
+  -- one that was run on the set of Volume
+  volume-runs-at : (v : ℕ) → IsNode layout (Volume v) → IsRunAt layout call (Volume v) → (old new : FilerVolume P) (outcome : Outcome)
+      → UnlessReplied outcome (new ≡ old) → old.logical.own.stripes ≡ stripes_of layout v
+      → RunsOn v volume_lens (call_on layout (Volume v) credential moment (call_of call)) (volume_before old) outcome (volume_after old new)
+      → Runs layout (Volume v) (Ask (call_of call) credential) moment
+      (volume_parcels layout (Volume v) old) outcome (volume_parcels layout (Volume v) new)
+  volume-runs-at v on at old new outcome same own right =
+      runs-by layout v on volume_lens (λ s p. refl) (call_on layout (Volume v) credential moment (call_of call)) credential moment
+      (run-is-call layout call credential moment (Volume v) at)
+      (volume_parcels layout (Volume v) old) (volume_parcels layout (Volume v) new)
+      (volume_set (stripes_of layout v) old) (volume_set (stripes_of layout v) new) (volume-seen layout lawful v on old)
+      (λ job reply step. volume-step layout lawful job reply v on old new step) outcome
+      (subst (λ (n : ℕ). RunsOn v volume_lens (call_on layout (Volume v) credential moment (call_of call)) (volume_set n old) outcome
+      (volume_set n new)) own right)
+      (unless-mapped outcome (new ≡ old) ((k : ℕ) → volume_parcels layout (Volume v) new k ≡ volume_parcels layout (Volume v) old k)
+      (λ e k. ap (λ (h : FilerVolume P). volume_parcels layout (Volume v) h k) e) same)
+
+  pub volume-runs : (v : ℕ) (a : Affinity) → a ≡ Volume v → IsNode layout a → IsRunAt layout call a → (old new : FilerVolume P) (outcome : Outcome)
+      → UnlessReplied outcome (new ≡ old) → old.logical.own.stripes ≡ stripes_of layout v
+      → RunsOn v volume_lens (call_on layout (Volume v) credential moment (call_of call)) (volume_before old) outcome (volume_after old new)
+      → Runs layout a (Ask (call_of call) credential) moment (volume_parcels layout a old) outcome (volume_parcels layout a new)
+  volume-runs v a is on at old new outcome same own right =
+      subst (λ (b : Affinity). IsNode layout b → IsRunAt layout call b
+      → Runs layout b (Ask (call_of call) credential) moment (volume_parcels layout b old) outcome (volume_parcels layout b new))
+      (sym is) (λ there asks. volume-runs-at v there asks old new outcome same own right) on at
+
   -- one that was run on the parcel of a stripe
   stripe-runs-at : (v i : ℕ) → IsNode layout (Stripe v i) → IsRunAt layout call (Stripe v i) → (old new : FilerStripe P) (outcome : Outcome)
       → UnlessReplied outcome (new ≡ old)
@@ -188,31 +263,80 @@ module _ {P : Type 0} (layout : Layout) (lawful : fault_of layout ≡ None) (cal
 
 -- ---- where it moves
 
-never-moves : (layout : Layout) (a : Affinity) (credential : Credential) (moment : Moment) (call : Call) → IsRun call → (p : VolumeContents)
-    → move_on (call_on layout a credential moment (call_of call)) p ≡ None
-never-moves layout a credential moment (calls.GetAttributes handle) run p = refl
-never-moves layout a credential moment (calls.SetAttributes handle set guard) run p = refl
-never-moves layout a credential moment (calls.Lookup target) run p = refl
-never-moves layout a credential moment (calls.Read handle offset count) run p = refl
-never-moves layout a credential moment (calls.Create target mode) run p = refl
-never-moves layout a credential moment (calls.MakeDirectory target set) run p = refl
-never-moves layout a credential moment (calls.Remove target) run p = refl
-never-moves layout a credential moment (calls.RemoveDirectory target) run p = refl
-never-moves layout a credential moment (calls.Rename from to) run p = refl
-never-moves layout a credential moment (calls.ReadDirectory directory cookie verifier count) run p = refl
-never-moves layout a credential moment (calls.Commit handle) run p = refl
-never-moves layout a credential moment call run p = absurd run
+-- a WRITE moves to Logical of its volume or to Volume
+moves-up : (a : Affinity) (parts : Parts) (r : Option Ready) (other : Affinity) → move_if (Some parts) a r ≡ Some other
+    → (other ≡ Logical (volume_of a)) ⊎ (other ≡ Volume (volume_of a))
+moves-up a parts None other e = absurd cc
+moves-up (Stripe v i) parts (Some r) other e = by (r.extends || nat_lt 0 r.need) e
+  where
+    by : (b : Bool) → (if b then Some (Logical v) else None) ≡ Some other → (other ≡ Logical v) ⊎ (other ≡ Volume v)
+    by true is = inl cc
+    by false is = absurd cc
+moves-up (Logical v) parts (Some r) other e = by (nat_lt (len parts.stock) r.need) e
+  where
+    by : (b : Bool) → (if b then Some (Volume v) else None) ≡ Some other → (other ≡ Logical v) ⊎ (other ≡ Volume v)
+    by true is = inr cc
+    by false is = absurd cc
+moves-up (Volume v) parts (Some r) other e = by (r.fits && nat_lt (len parts.stock + len parts.free + len parts.dead) r.need) e
+  where
+    by : (b : Bool) → (if b then Some (Volume v) else None) ≡ Some other → (other ≡ Logical v) ⊎ (other ≡ Volume v)
+    by true is = inr cc
+    by false is = absurd cc
+moves-up Serial parts (Some r) other e = absurd cc
+moves-up (Aggregate g) parts (Some r) other e = absurd cc
+moves-up (Vbn v) parts (Some r) other e = absurd cc
+moves-up (Range v n) parts (Some r) other e = absurd cc
+
+-- the volume of a node is there
+node-within : (layout : Layout) (a : Affinity) (v : ℕ) → volume_above a ≡ Some v → IsNode layout a → v < length layout.volumes
+node-within layout Serial v above there = absurd cc
+node-within layout (Aggregate g) v above there = absurd cc
+node-within layout (Volume w) v above there = let is : w ≡ v = cc in subst (λ (n : ℕ). n < length layout.volumes) is there
+node-within layout (Logical w) v above there = let is : w ≡ v = cc in subst (λ (n : ℕ). n < length layout.volumes) is there
+node-within layout (Stripe w i) v above there = let is : w ≡ v = cc in subst (λ (n : ℕ). n < length layout.volumes) is there.0
+node-within layout (Vbn w) v above there = let is : w ≡ v = cc in subst (λ (n : ℕ). n < length layout.volumes) is there
+node-within layout (Range w r) v above there = let is : w ≡ v = cc in subst (λ (n : ℕ). n < length layout.volumes) is there.0
+
+node-above : (layout : Layout) (v : ℕ) (other : Affinity) → v < length layout.volumes → (other ≡ Logical v) ⊎ (other ≡ Volume v) → IsNode layout other
+node-above layout v other less up =
+    ⊎_elim (λ (e : other ≡ Logical v). subst (IsNode layout) (sym e) less) (λ (e : other ≡ Volume v). subst (IsNode layout) (sym e) less) up
+
+-- where a call moves from a node at which it is run, it is run
+moved-there : (layout : Layout) (a : Affinity) (credential : Credential) (moment : Moment) (call : Call) → IsNode layout a → IsRunAt layout call a
+    → (p : VolumeContents) (other : Affinity) → move_on (call_on layout a credential moment (call_of call)) p ≡ Some other
+    → IsNode layout other × IsRunAt layout call other
+moved-there layout a credential moment (calls.Write handle offset count bytes) there at p other e =
+    let here = run-home layout (calls.Write handle offset count bytes) a at in
+    let v : ℕ = volume_of a in
+    let c = call_on layout a credential moment (call_of (calls.Write handle offset count bytes)) in
+    let up : (other ≡ Logical v) ⊎ (other ≡ Volume v) =
+    moves-up a (parts_of p) (ready_at (Some (located_on c p)) offset count (length bytes.items)) other e in (
+      node-above layout v other (node-within layout a v here.above there) up,
+      (tt, inr (subst (λ (named : Option Named). RunsAbove named other) (sym here.names) up)),
+    )
+moved-there layout a credential moment (calls.GetAttributes handle) there at p other e = absurd cc
+moved-there layout a credential moment (calls.SetAttributes handle set guard) there at p other e = absurd cc
+moved-there layout a credential moment (calls.Lookup target) there at p other e = absurd cc
+moved-there layout a credential moment (calls.Read handle offset count) there at p other e = absurd cc
+moved-there layout a credential moment (calls.Create target mode) there at p other e = absurd cc
+moved-there layout a credential moment (calls.MakeDirectory target set) there at p other e = absurd cc
+moved-there layout a credential moment (calls.Remove target) there at p other e = absurd cc
+moved-there layout a credential moment (calls.RemoveDirectory target) there at p other e = absurd cc
+moved-there layout a credential moment (calls.Rename from to) there at p other e = absurd cc
+moved-there layout a credential moment (calls.ReadDirectory directory cookie verifier count) there at p other e = absurd cc
+moved-there layout a credential moment (calls.Commit handle) there at p other e = absurd cc
+moved-there layout a credential moment call there at p other e = absurd at.0
 
 -- a call that was run on a part of its volume is run where it moves
-pub moves-on : {S : Type 0} (layout : Layout) (v : ℕ) (lens : Lens VolumeContents S) (a : Affinity) (call : Call) → IsRun call
+pub moves-on : {S : Type 0} (layout : Layout) (v : ℕ) (lens : Lens VolumeContents S) (a b : Affinity) → b ≡ a → (call : Call)
+    → IsNode layout b → IsRunAt layout call b
     → (credential : Credential) (moment : Moment) (old new : S) (outcome : Outcome) → HasVolume v lens [] old
     → RunsOn v lens (call_on layout a credential moment (call_of call)) old outcome new → MovesOn layout call outcome
-moves-on layout v lens a call run credential moment old new (Replied reply) whole right = tt
-moves-on layout v lens a call run credential moment old new Starved whole right = tt
-moves-on layout v lens a call run credential moment old new (Moved other) w right =
-    let moves : move_on (call_on layout a credential moment (call_of call)) w.0 ≡ Some other = (right w.0 w.1 w.2 w.3 w.4 w.5 w.8 w.7).0.0 in
-    let not = never-moves layout a credential moment call run w.0 in
-    absurd cc
+moves-on layout v lens a b is call there at credential moment old new (Replied reply) whole right = tt
+moves-on layout v lens a b is call there at credential moment old new Starved whole right = tt
+moves-on layout v lens a b is call there at credential moment old new (Moved other) w right =
+    moved-there layout a credential moment call (subst (IsNode layout) is there) (subst (IsRunAt layout call) is at) w.0 other
+    (right w.0 w.1 w.2 w.3 w.4 w.5 w.8 w.7).0.0
 
 -- ---- what a run needs
 
@@ -225,6 +349,15 @@ module _ {P : Type 0} (layout : Layout) (lawful : fault_of layout ≡ None) wher
       subst (λ (b : Affinity). IsNode layout b → HasFiler layout b [] (logical_parcels layout b held)
       → (held.own.stripes ≡ stripes_of layout v) × HasVolume v logical_lens [] (logical_before held))
       (sym is) (λ there has. logical-has layout lawful [] v there held has) on filer
+
+  -- what is known of the parcels under Volume
+  pub volume-whole : (v : ℕ) (a : Affinity) → a ≡ Volume v → IsNode layout a → (held : FilerVolume P)
+      → HasFiler layout a [] (volume_parcels layout a held)
+      → (held.logical.own.stripes ≡ stripes_of layout v) × HasVolume v volume_lens [] (volume_before held)
+  volume-whole v a is on held filer =
+      subst (λ (b : Affinity). IsNode layout b → HasFiler layout b [] (volume_parcels layout b held)
+      → (held.logical.own.stripes ≡ stripes_of layout v) × HasVolume v volume_lens [] (volume_before held))
+      (sym is) (λ there has. volume-has layout lawful [] v there held has) on filer
 
   -- a stripe that a sound filer has is told how many there are
   stripe-count : (v i : ℕ) → IsNode layout (Stripe v i) → (held : FilerStripe P) → HasFiler layout (Stripe v i) [] (stripe_parcels layout (Stripe v i) held)

@@ -1,4 +1,4 @@
-use Rattle.std.proofs.Common.{sym, subst}
+use Rattle.std.proofs.Common.{◌≡◌, sym, ap, subst}
 use Rattle.nfs_model.specs.Tree.{Stripe}
 use Rattle.nfs_model.specs.Work.{Outcome}
 use Rattle.nfs_values.specs.Call.{call_of}
@@ -8,7 +8,9 @@ use Rattle.nfs_values.specs.declared.call.Call.{Call}
 use Rattle.held_data.specs.Laws.{read_call}
 use Rattle.held_state.specs.Lenses.{stripe_lens}
 use Rattle.held_state.specs.Running.{RunsOn}
+use Rattle.service_data.specs.Writing.{writing_outcome}
 use Rattle.service.specs.Running.{BytesLieIn, call_of_node, outcome_of}
+use Rattle.service.proofs.Runs.{writing-runs, unless-written-there}
 use Rattle.service.proofs.in_stripe.run_on_bytes.Goals as goal
 
 pub read_in_stripe-requires : goal.read_in_stripe-requires
@@ -16,8 +18,8 @@ read_in_stripe-requires c =
     let s = c.args.held.now.own in
     record { span = (subst (λ (call : Call). BytesLieIn s.stripes c.args.stripe c.args.fileid.0 (call_of call)) c.in-Read.is c.requires.bytes).span }
 
-pub returns-clause-runs : goal.returns-clause-runs
-returns-clause-runs c layout =
+pub returns-in-Read-clause-runs : goal.returns-in-Read-clause-runs
+returns-in-Read-clause-runs c layout =
     let v = c.args.volume.0 in
     let i = c.args.stripe in
     let f = c.args.fileid.0 in
@@ -29,3 +31,28 @@ returns-clause-runs c layout =
     s (outcome_of c.outcome_read.result) s) (sym asked.is)
     (subst (λ (o : Outcome). RunsOn v (stripe_lens i) (read_call asked.handle (Stripe v i) f asked.offset asked.count) s o s) (sym c.outcome_read.ensures)
     (c.read_in_stripe.ensures.right v i asked.handle c.requires.there lies))
+
+pub write_in_stripe-told-requires : goal.write_in_stripe-told-requires
+write_in_stripe-told-requires c =
+    let s = c.args.held.now.own in
+    record { span = (subst (λ (call : Call). BytesLieIn s.stripes c.args.stripe c.args.fileid.0 (call_of call)) c.in-Write.is c.requires.bytes).span }
+
+pub returns-in-Write-clause-runs : goal.returns-in-Write-clause-runs
+returns-in-Write-clause-runs c layout =
+    let v = c.args.volume.0 in
+    let i = c.args.stripe in
+    let f = c.args.fileid.0 in
+    let s = c.args.held.now.own in
+    let asked = c.in-Write in
+    let told = c.write_in_stripe-told in
+    let lies = subst (λ (call : Call). BytesLieIn s.stripes i f (call_of call)) asked.is c.requires.bytes in
+    writing-runs layout v (stripe_lens i) (Stripe v i) f c.args.run.call.now asked.handle asked.offset asked.count asked.bytes.items
+    c.as_slice-written.result.now (credential_of c.args.run.credential) (moment_of c.args.run.moment) s told.new.held.own
+    (outcome_of c.outcome_written_in_stripe.result) (writing_outcome v told.result) (ap call_of asked.is) c.as_slice-written.ensures.value
+    c.outcome_written_in_stripe.ensures (told.ensures.right v i asked.handle c.requires.there lies)
+
+pub returns-in-Write-clause-moved : goal.returns-in-Write-clause-moved
+returns-in-Write-clause-moved c =
+    let told = c.write_in_stripe-told in
+    unless-written-there c.args.volume.0 told.result (outcome_of c.outcome_written_in_stripe.result) (told.new.held ≡ c.args.held.now)
+    c.outcome_written_in_stripe.ensures told.ensures.moved

@@ -1,6 +1,5 @@
-use Rattle.std.proofs.Common.{◌≡◌, ℕ, List, Some, sym, subst}
+use Rattle.std.proofs.Common.{◌≡◌, ℕ, List, sym, ap, subst}
 use Rattle.std.specs.Option.{option_map}
-use Rattle.nfs_model.specs.Home.{home}
 use Rattle.nfs_model.specs.Tree.{Logical}
 use Rattle.nfs_model.specs.Types.{Success}
 use Rattle.nfs_model.specs.Work.{Outcome, Replied}
@@ -19,8 +18,9 @@ use Rattle.held_state.specs.Lenses.{logical_lens}
 use Rattle.held_state.specs.Running.{RunsOn}
 use Rattle.held_state.specs.Sets.{logical_before, logical_after}
 use Rattle.service_names.specs.Promises.{Creates, MakesDirectory, Removes, RemovesDirectory}
-use Rattle.service.specs.Running.{call_named, outcome_of}
-use Rattle.service.proofs.Runs.{served-runs}
+use Rattle.service_data.specs.Writing.{written_outcome}
+use Rattle.service.specs.Running.{call_named, outcome_of, RunsThere}
+use Rattle.service.proofs.Runs.{served-runs, writing-runs, unless-written}
 use Rattle.service.proofs.run.change.Goals as goal
 
 pub returns-in-SetAttributes-clause-runs : goal.returns-in-SetAttributes-clause-runs
@@ -36,6 +36,25 @@ returns-in-SetAttributes-clause-runs c =
     old (Replied (Success told)) new) (sym asked.is)
     (served-runs n.volume (setattr_call asked.handle (Logical n.volume) n.fileid (set_of asked.set) (option_map moment_of asked.guard) moment) old new told
     (c.set_attributes-told.ensures.right asked.handle))
+
+pub write_in_logical-told-requires : goal.write_in_logical-told-requires
+write_in_logical-told-requires c = record { whole = (c.args.named.volume.0, c.requires.whole) }
+
+pub returns-in-Write-clause-runs : goal.returns-in-Write-clause-runs
+returns-in-Write-clause-runs c =
+    let n = named_of c.args.named in
+    let asked = c.in-Write in
+    let told = c.write_in_logical-told in
+    writing-runs (layout_of c.args.layout.now) n.volume logical_lens (Logical n.volume) n.fileid c.args.run.call.now asked.handle asked.offset asked.count
+    asked.bytes.items c.as_slice-written.result.now (credential_of c.args.run.credential) (moment_of c.args.run.moment) (logical_before c.args.held.now)
+    (logical_after c.args.held.now told.new.held) (outcome_of c.outcome_written.result) (written_outcome n.volume told.result) (ap call_of asked.is)
+    c.as_slice-written.ensures.value c.outcome_written.ensures (told.ensures.right n.volume asked.handle)
+
+pub returns-in-Write-clause-moved : goal.returns-in-Write-clause-moved
+returns-in-Write-clause-moved c =
+    let told = c.write_in_logical-told in
+    unless-written c.args.named.volume.0 told.result (outcome_of c.outcome_written.result) (told.new.held ≡ c.args.held.now)
+    c.outcome_written.ensures told.ensures.moved told.ensures.starved
 
 pub returns-in-Create-clause-runs : goal.returns-in-Create-clause-runs
 returns-in-Create-clause-runs c =
@@ -105,7 +124,7 @@ returns-in-RemoveDirectory-clause-runs c =
 pub rename_here-requires-clause-home : goal.rename_here-requires-clause-home
 rename_here-requires-clause-home c =
     let L = layout_of c.args.layout.now in
-    subst (λ (call : Call). home L (call_of call) ≡ Some (Logical c.args.named.volume.0)) c.in-Rename.is c.requires.home
+    subst (λ (call : Call). RunsThere L (call_of call) (Logical c.args.named.volume.0)) c.in-Rename.is c.requires.there
 
 pub returns-in-Rename-clause-runs : goal.returns-in-Rename-clause-runs
 returns-in-Rename-clause-runs c =

@@ -23,15 +23,15 @@ use Rattle.held_state.specs.Running.{RunsOn}
 use Rattle.held_state.specs.Sets.{logical_before, logical_after}
 use Rattle.service.specs.Running.{call_on}
 use Rattle.service.specs.declared.job.JobReply.TheVariants.{Replied}
+use Rattle.service.specs.lemmas.Homes.{at-home}
 use Rattle.service_trial.proofs.Granted.{granted-whole, run-is-step}
 use Rattle.service_trial.proofs.driving.serve.Goals as goal
 
 pub run_on_logical-requires-clause-at : goal.run_on_logical-requires-clause-at
-run_on_logical-requires-clause-at c = (
-  c.requires.run,
-  subst (λ (l : Layout). home l (call_of c.args.call) ≡ Some (Logical c.in-VolumeLogical.volume)) (c.layout.ensures ∙ sym c.layout-2.ensures)
-      (sym c.in_ok-home.ensures.home ∙ ap (λ (x : codes.Affinity). Some (affinity_of x)) c.in-VolumeLogical.is),
-)
+run_on_logical-requires-clause-at c =
+    at-home (layout_of c.layout-2.result.now) c.args.call (Logical c.in-VolumeLogical.volume) c.requires.run
+    (subst (λ (l : Layout). home l (call_of c.args.call) ≡ Some (Logical c.in-VolumeLogical.volume)) (c.layout.ensures ∙ sym c.layout-2.ensures)
+    (sym c.in_ok-home.ensures.home ∙ ap (λ (x : codes.Affinity). Some (affinity_of x)) c.in-VolumeLogical.is))
 
 pub run_on_logical-requires-clause-whole : goal.run_on_logical-requires-clause-whole
 run_on_logical-requires-clause-whole c =

@@ -12,17 +12,17 @@ use Rattle.service.specs.Running.{IsRunAt, outcome_of}
 use Rattle.service.specs.lemmas.Serving.{logical-runs, logical-whole, moves-on}
 use Rattle.service.proofs.task.RunTaskParcelFilesParcelKinds.on_logical.Goals as goal
 
-pub volume_at-requires : goal.volume_at-requires
-volume_at-requires c =
+pub volume_of_logical-requires : goal.volume_of_logical-requires
+volume_of_logical-requires c =
     logical-kind (layout_of c.args.layout.now) (affinity_of c.args.affinity) c.args.held.now c.requires.node c.requires.exact
 
 pub run_on_logical-requires-clause-at : goal.run_on_logical-requires-clause-at
 run_on_logical-requires-clause-at c =
-    subst (λ (a : Affinity). IsRunAt (layout_of c.args.layout.now) c.args.self.call.now a) c.volume_at.ensures c.requires.asks.0
+    subst (λ (a : Affinity). IsRunAt (layout_of c.args.layout.now) c.args.self.call.now a) c.volume_of_logical.ensures c.requires.asks.0
 
 pub run_on_logical-requires-clause-whole : goal.run_on_logical-requires-clause-whole
 run_on_logical-requires-clause-whole c =
-    (logical-whole (layout_of c.args.layout.now) c.args.layout.now.lawful c.volume_at.result.0 (affinity_of c.args.affinity) c.volume_at.ensures
+    (logical-whole (layout_of c.args.layout.now) c.args.layout.now.lawful c.volume_of_logical.result.0 (affinity_of c.args.affinity) c.volume_of_logical.ensures
     c.requires.node c.args.held.now c.requires.asks.1).1
 
 pub returns-clause-exact : goal.returns-clause-exact
@@ -37,8 +37,8 @@ returns-clause-does c =
     let call = c.args.self.call.now in
     let held = c.args.held.now in
     let new = c.run_on_logical.new.held in
-    let v = c.volume_at.result.0 in
-    let at = c.volume_at.ensures in
+    let v = c.volume_of_logical.result.0 in
+    let at = c.volume_of_logical.ensures in
     let credential = credential_of c.args.self.credential in
     let moment = moment_of c.args.self.moment in
     let known = logical-whole L c.args.layout.now.lawful v a at c.requires.node held c.requires.asks.1 in
@@ -46,5 +46,6 @@ returns-clause-does c =
     let outcome = outcome_of c.run_on_logical.result in (
       logical-runs L c.args.layout.now.lawful call credential moment v a at c.requires.node c.requires.asks.0 held new outcome
           c.run_on_logical.ensures.moved known.0 ran,
-      moves-on L v logical_lens (Logical v) call c.requires.asks.0.0 credential moment (logical_before held) (logical_after held new) outcome known.1 ran,
+      moves-on L v logical_lens (Logical v) a at call c.requires.node c.requires.asks.0 credential moment (logical_before held) (logical_after held new)
+          outcome known.1 ran,
     )

@@ -45,5 +45,5 @@ returns-clause-does c =
     let outcome = outcome_of c.run_on_stripe.result in (
       stripe-runs L c.args.layout.now.lawful call credential moment v i a at c.requires.node c.requires.asks.0 held new outcome
           c.run_on_stripe.ensures.moved ran,
-      moves-on L v (stripe_lens i) (Stripe v i) call c.requires.asks.0.0 credential moment held.own new.own outcome known.1 ran,
+      moves-on L v (stripe_lens i) (Stripe v i) a at call c.requires.node c.requires.asks.0 credential moment held.own new.own outcome known.1 ran,
     )

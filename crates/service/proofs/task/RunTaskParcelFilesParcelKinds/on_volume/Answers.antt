@@ -1,13 +1,51 @@
-use Rattle.affinity_tree.specs.declared.affinity.Kind.TheVariants as kinds
+use Rattle.std.proofs.Common.{subst}
+use Rattle.nfs_model.specs.Tree.{Affinity, Volume}
 use Rattle.affinity_tree.specs.Affinity.{affinity_of}
 use Rattle.affinity_tree.specs.Layout.{layout_of}
+use Rattle.nfs_values.specs.Credential.{credential_of}
+use Rattle.nfs_values.specs.Moment.{moment_of}
+use Rattle.parcel_sets.specs.lemmas.Exactly.{volume-exact}
 use Rattle.parcel_sets.specs.lemmas.Sorts.{volume-kind}
-use Rattle.service.specs.lemmas.Homes.{not-here}
+use Rattle.held_state.specs.Lenses.{volume_lens}
+use Rattle.held_state.specs.Sets.{volume_before, volume_after}
+use Rattle.service.specs.Running.{IsRunAt, outcome_of}
+use Rattle.service.specs.lemmas.Serving.{volume-runs, volume-whole, moves-on}
 use Rattle.service.proofs.task.RunTaskParcelFilesParcelKinds.on_volume.Goals as goal
 
-pub unreachable-requires : goal.unreachable-requires
-unreachable-requires c =
-    let L = layout_of c.args.arg2.now in
-    let a = affinity_of c.args.arg3 in
-    not-here L a c.args.self.call.now c.requires.asks.0 kinds.Volume
-    (volume-kind L a c.args.arg4.now c.requires.node c.requires.exact) (λ e. cc) (λ e. cc)
+pub volume_of-volume-requires : goal.volume_of-volume-requires
+volume_of-volume-requires c =
+    volume-kind (layout_of c.args.layout.now) (affinity_of c.args.affinity) c.args.held.now c.requires.node c.requires.exact
+
+pub run_on_volume-requires-clause-at : goal.run_on_volume-requires-clause-at
+run_on_volume-requires-clause-at c =
+    subst (λ (a : Affinity). IsRunAt (layout_of c.args.layout.now) c.args.self.call.now a) c.volume_of-volume.ensures c.requires.asks.0
+
+pub run_on_volume-requires-clause-whole : goal.run_on_volume-requires-clause-whole
+run_on_volume-requires-clause-whole c =
+    (volume-whole (layout_of c.args.layout.now) c.args.layout.now.lawful c.volume_of-volume.result.0 (affinity_of c.args.affinity) c.volume_of-volume.ensures
+    c.requires.node c.args.held.now c.requires.asks.1).1
+
+pub returns-clause-exact : goal.returns-clause-exact
+returns-clause-exact c =
+    volume-exact (layout_of c.args.layout.now) (affinity_of c.args.affinity) c.args.held.now c.run_on_volume.new.held c.run_on_volume.ensures.alike
+    c.requires.exact
+
+pub returns-clause-does : goal.returns-clause-does
+returns-clause-does c =
+    let L = layout_of c.args.layout.now in
+    let a = affinity_of c.args.affinity in
+    let call = c.args.self.call.now in
+    let held = c.args.held.now in
+    let new = c.run_on_volume.new.held in
+    let v = c.volume_of-volume.result.0 in
+    let at = c.volume_of-volume.ensures in
+    let credential = credential_of c.args.self.credential in
+    let moment = moment_of c.args.self.moment in
+    let known = volume-whole L c.args.layout.now.lawful v a at c.requires.node held c.requires.asks.1 in
+    let ran = c.run_on_volume.ensures.runs in
+    let outcome = outcome_of c.run_on_volume.result in (
+      volume-runs L c.args.layout.now.lawful call credential moment v a at c.requires.node c.requires.asks.0 held new outcome
+          c.run_on_volume.ensures.moved known.0 ran,
+      moves-on L v volume_lens (Volume v) a at call c.requires.node c.requires.asks.0 credential moment (volume_before held) (volume_after held new)
+          outcome known.1 ran,
+    )

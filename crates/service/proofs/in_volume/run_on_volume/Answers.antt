@@ -1,0 +1,44 @@
+use Rattle.std.proofs.Common.{◌≡◌, ap}
+use Rattle.nfs_model.specs.Tree.{Volume}
+use Rattle.affinity_tree.specs.Layout.{layout_of}
+use Rattle.nfs_values.specs.Call.{call_of}
+use Rattle.nfs_values.specs.Credential.{credential_of}
+use Rattle.nfs_values.specs.Moment.{moment_of}
+use Rattle.held_state.specs.Lenses.{volume_lens}
+use Rattle.held_state.specs.Sets.{volume_before, volume_after}
+use Rattle.service_data.specs.Writing.{written_outcome}
+use Rattle.service.specs.Running.{outcome_of}
+use Rattle.service.specs.lemmas.Homes.{only-writes}
+use Rattle.service.proofs.Runs.{runs-here, writing-runs, unless-written}
+use Rattle.service.proofs.in_volume.run_on_volume.Goals as goal
+
+pub write_in_volume-told-requires : goal.write_in_volume-told-requires
+write_in_volume-told-requires c = record { whole = (c.args.volume.0, c.requires.whole) }
+
+pub returns-clause-runs : goal.returns-clause-runs
+returns-clause-runs c =
+    let L = layout_of c.args.layout.now in
+    let v = c.args.volume.0 in
+    let f = c.fileid_here-fileid.result.0 in
+    let call = c.args.run.call.now in
+    let credential = credential_of c.args.run.credential in
+    let moment = moment_of c.args.run.moment in
+    let asked = c.in-Write in
+    let told = c.write_in_volume-told in
+    let old = volume_before c.args.held.now in
+    let new = volume_after c.args.held.now told.new.held in
+    let outcome = outcome_of c.outcome_written.result in
+    runs-here L v volume_lens (Volume v) f (call_of call) credential moment old new outcome c.fileid_here-fileid.ensures
+    (writing-runs L v volume_lens (Volume v) f call asked.handle asked.offset asked.count asked.bytes.items c.as_slice-written.result.now credential moment
+    old new outcome (written_outcome v told.result) (ap call_of asked.is) c.as_slice-written.ensures.value c.outcome_written.ensures
+    (told.ensures.right v asked.handle))
+
+pub returns-clause-moved : goal.returns-clause-moved
+returns-clause-moved c =
+    let told = c.write_in_volume-told in
+    unless-written c.args.volume.0 told.result (outcome_of c.outcome_written.result) (told.new.held ≡ c.args.held.now)
+    c.outcome_written.ensures told.ensures.moved told.ensures.starved
+
+pub unreachable-requires : goal.unreachable-requires
+unreachable-requires c =
+    only-writes (layout_of c.args.layout.now) c.args.run.call.now c.args.volume.0 c.requires.at c.in_default.not-Write

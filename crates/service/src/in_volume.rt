@@ -1,0 +1,56 @@
+//! Calls run on the parcels under Volume.
+
+ghost use Rattle.std.specs.Prelude.{◌≡◌, []};
+ghost use Rattle.nfs_model.specs.Tree as trees;
+ghost use Rattle.affinity_tree.specs.Layout.{layout_of};
+ghost use Rattle.nfs_values.specs.Call.{call_of};
+ghost use Rattle.nfs_values.specs.Credential.{credential_of};
+ghost use Rattle.nfs_values.specs.Moment.{moment_of};
+ghost use Rattle.parcel_sets.specs.Filled.{volume_alike};
+ghost use Rattle.held_state.specs.Lenses.{volume_lens};
+ghost use Rattle.held_state.specs.Promises.{HasVolume};
+ghost use Rattle.held_state.specs.Running.{RunsOn, UnlessReplied};
+ghost use Rattle.held_state.specs.Sets.{volume_before, volume_after};
+ghost use Rattle.service.specs.Running.{call_on, outcome_of, IsRunAt};
+
+use crate::named::fileid_here;
+use crate::outcome::{Outcome, outcome_written};
+use crate::task::Run;
+use affinity_tree::{Affinity, Layout};
+use nfs_values::{Call, VolumeNumber};
+use parcel_sets::VolumeHeld;
+use parcels::Files;
+use service_data::write_in_volume;
+
+/// Runs a call on the parcels under Volume of its volume: a WRITE that moved there. Where it has
+/// space, but too few blocks are outside of workers' hands, it has to run there again.
+pub fn run_on_volume(
+    run: Run,
+    layout: &Layout,
+    volume: VolumeNumber,
+    held: &mut VolumeHeld<Files>,
+) -> Outcome
+    requires at { IsRunAt (layout_of layout.now) run.call.now (trees.Volume volume.0) }
+    requires whole { HasVolume volume.0 volume_lens [] (volume_before held.old) }
+    ensures runs { RunsOn volume.0 volume_lens
+        (call_on (layout_of layout.now) (trees.Volume volume.0) (credential_of run.entry.credential)
+        (moment_of run.entry.moment) (call_of run.entry.call.now))
+        (volume_before held.old) (outcome_of result) (volume_after held.old held.new) }
+    ensures moved { UnlessReplied (outcome_of result) (held.new ≡ held.old) }
+    ensures alike { volume_alike held.old held.new }
+{
+    let fileid = fileid_here(layout, Affinity::Volume(volume.0), run.call);
+    match run.call {
+        Call::Write {
+            handle: _,
+            offset,
+            count,
+            bytes,
+        } => {
+            let written = bytes.as_slice();
+            let told = write_in_volume(held, fileid, *offset, *count, written, run.moment);
+            outcome_written(volume, told)
+        }
+        _ => unreachable!(),
+    }
+}
