@@ -11,3 +11,4 @@ mod WrittenUp
 mod Parted
 mod Drained
 mod Dealt
+mod Counted

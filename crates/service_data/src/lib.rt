@@ -1,6 +1,7 @@
 //! Calls on the bytes of files, on the parcels that they hold: READ and WRITE.
 #![tactic(auto)]
 
+mod counting;
 mod extending;
 mod holes;
 mod homes;
