@@ -12,3 +12,4 @@ mod Parted
 mod Drained
 mod Dealt
 mod Counted
+mod FromParts

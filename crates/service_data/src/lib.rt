@@ -3,6 +3,7 @@
 
 mod counting;
 mod extending;
+mod extension;
 mod holes;
 mod homes;
 mod parts;
@@ -11,4 +12,4 @@ mod spans;
 mod writing;
 
 pub use reading::{read_in_logical, read_in_stripe};
-pub use writing::{write_in_logical, write_in_stripe};
+pub use writing::{write_in_logical, write_in_stripe, write_in_volume};
