@@ -1,6 +1,8 @@
 -- What is under Volume, as a file is extended step by step, its holes filled from the parts of the volume.
 use Rattle.std.proofs.Common.{◌≡◌, ℕ, ◌+◌, ◌≤◌, List, [], ◌∷◌, length, refl, sym, ap, subst, ◌∙◌, arith, inl, inr}
 use Rattle.std.specs.Prelude.{map, slice_get}
+use Rattle.std.specs.FinSet.{FinSet}
+use Rattle.std.specs.Ordering.{nat_cmp}
 use Rattle.nfs_model.specs.Types.{Moment}
 use Rattle.parcel_sets.specs.Filled.{is_filled, volume_alike}
 use Rattle.volume_values.specs.Logical.{LogicalValue}
@@ -12,22 +14,24 @@ use Rattle.held_state.specs.Sets.{FilerLogical, FilerVolume, stripe_value, place
 use Rattle.held_data.specs.Extending.{holes, filled_with, stripe_grown, spans_written, stripes_extended}
 use Rattle.held_data.specs.WritingUp.{LeaveParts, for_holes}
 use Rattle.service_data.specs.Places.{StripesChanged}
-use Rattle.service_data.specs.Holes.{Rise, zeroed, renumbered, inode_extended_in, extending_by}
+use Rattle.service_data.specs.Holes.{HasRoom, Rise, zeroed, renumbered, stock_held, inode_extended_in, extending_by}
 use Rattle.service_data.specs.Parts.{restriped, LeavesOne, TakesParts}
 use Rattle.service_data.specs.WritingInVolume.{ExtendsFromParts}
 use Rattle.service_data.proofs.Dealt.{restriped-parts}
 use Rattle.service_data.proofs.Holed.{holes-rise, numbered-filled}
 
--- ---- numbers leave, and the count of stripes stays
+-- ---- numbers leave, and all but the stock and the dead stays under Logical
 
-one-keeps : (n : ℕ) (old new : VolumeSet) → LeavesOne n old new → new.logical.own.stripes ≡ old.logical.own.stripes
-one-keeps n old new (inl leaves) = ap (λ (s : VolumeSet). s.logical.own.stripes) leaves.left
-one-keeps n old new (inr (inl leaves)) = ap (λ (s : VolumeSet). s.logical.own.stripes) leaves.left
-one-keeps n old new (inr (inr leaves)) = ap (λ (s : VolumeSet). s.logical.own.stripes) leaves.left
+module _ {A : Type 0} (of : LogicalValue → A) (by_stock : (l : LogicalValue) (stock : FinSet nat_cmp) → of (stock_held stock l) ≡ of l)
+    (by_dead : (l : LogicalValue) (dead : FinSet nat_cmp) → of (record l { dead = dead }) ≡ of l) where
+  one-keeps : (n : ℕ) (old new : VolumeSet) → LeavesOne n old new → of new.logical.own ≡ of old.logical.own
+  one-keeps n old new (inl leaves) = ap (λ (s : VolumeSet). of s.logical.own) leaves.left ∙ by_stock old.logical.own _
+  one-keeps n old new (inr (inl leaves)) = ap (λ (s : VolumeSet). of s.logical.own) leaves.left
+  one-keeps n old new (inr (inr leaves)) = ap (λ (s : VolumeSet). of s.logical.own) leaves.left ∙ by_dead old.logical.own _
 
-parts-keep : (ns : List ℕ) (old new : VolumeSet) → LeaveParts ns old new → new.logical.own.stripes ≡ old.logical.own.stripes
-parts-keep [] old new leave = ap (λ (s : VolumeSet). s.logical.own.stripes) leave
-parts-keep (n ∷ ns) old new leave = parts-keep ns leave.0 new leave.2 ∙ one-keeps n old leave.0 leave.1
+  parts-keep : (ns : List ℕ) (old new : VolumeSet) → LeaveParts ns old new → of new.logical.own ≡ of old.logical.own
+  parts-keep [] old new leave = ap (λ (s : VolumeSet). of s.logical.own) leave
+  parts-keep (n ∷ ns) old new leave = parts-keep ns leave.0 new leave.2 ∙ one-keeps n old leave.0 leave.1
 
 -- ---- holes filled with zeros
 
@@ -35,6 +39,15 @@ module _ {P : Type 0} (old : FilerVolume P) (filled : FilerLogical P) (fileid : 
     (fills : StripesChanged (zeroed fileid bs) old.logical filled) where
   abbrev with_zeros : FilerVolume P
   with_zeros = record old { logical = filled }
+
+  -- as much room as before, when numbers have left
+  pub still-room : (numbered : FilerVolume P) → TakesParts fileid bs with_zeros numbered → HasRoom fileid old.logical.own.inodes
+      → HasRoom fileid numbered.logical.own.inodes
+  still-room numbered numbers room =
+      subst (HasRoom fileid)
+      (sym (ap (λ (s : VolumeSet). s.logical.own.inodes) numbers.set
+      ∙ parts-keep (λ l. l.inodes) (λ l stock. refl) (λ l dead. refl) numbers.numbers (volume_before with_zeros) numbers.left numbers.leave
+      ∙ ap (λ (l : LogicalValue). l.inodes) fills.own)) room
 
   -- as many numbers as before
   pub still-enough : (n : ℕ) → n ≤ for_holes (volume_before old) → n ≤ for_holes (volume_before with_zeros)
@@ -75,7 +88,7 @@ module _ {P : Type 0} (old : FilerVolume P) (filled : FilerLogical P) (numbered 
   count-same : new.own.stripes ≡ old.logical.own.stripes
   count-same =
       ap (λ (l : LogicalValue). l.stripes) own-after
-      ∙ parts-keep numbers.numbers (volume_before (with_zeros old filled fileid bs fills)) numbers.left numbers.leave
+      ∙ parts-keep (λ l. l.stripes) (λ l stock. refl) (λ l dead. refl) numbers.numbers (volume_before (with_zeros old filled fileid bs fills)) numbers.left numbers.leave
       ∙ ap (λ (l : LogicalValue). l.stripes) fills.own
 
   stripes-kept : (logical_before extended).stripes ≡ (logical_before numbered.logical).stripes
