@@ -49,15 +49,6 @@ module _ {P : Type 0} (old : FilerVolume P) (filled : FilerLogical P) (fileid : 
       ∙ parts-keep (λ l. l.inodes) (λ l stock. refl) (λ l dead. refl) numbers.numbers (volume_before with_zeros) numbers.left numbers.leave
       ∙ ap (λ (l : LogicalValue). l.inodes) fills.own)) room
 
-  -- as many numbers as before
-  pub still-enough : (n : ℕ) → n ≤ for_holes (volume_before old) → n ≤ for_holes (volume_before with_zeros)
-  still-enough n enough =
-      subst (λ (m : ℕ). n ≤ m) (λ j. for_holes (record { logical = record { own = sym fills.own j; stripes = [] }; ranges = vbn_set old.vbn })) enough
-
--- nothing
-pub not-filled : {P : Type 0} (old : FilerVolume P) (filled : FilerLogical P) → filled ≡ old.logical → record old { logical = filled } ≡ old
-not-filled old filled same = λ j. record old { logical = same j }
-
 -- ---- all of it
 
 module _ {P : Type 0} (old : FilerVolume P) (filled : FilerLogical P) (numbered : FilerVolume P) (extended grown new : FilerLogical P)
@@ -124,9 +115,3 @@ module _ {P : Type 0} (old : FilerVolume P) (filled : FilerLogical P) (numbered 
         (restriped-parts before numbers.numbers (volume_before (with_zeros old filled fileid bs fills)) numbers.left numbers.leave);
     set = λ j. record { logical = record { own = own-after j; stripes = stripes-after j }; ranges = ranges-after j };
   }
-
-  pub extends-alike : volume_alike old after
-  extends-alike = (
-    λ i. fills.alike i ∙ numbers.alike.0 i ∙ (λ j. is_filled (slice_get (sym stripes j).at i)) ∙ grows.alike i ∙ writes.alike i,
-    λ i. numbers.alike.1 i,
-  )

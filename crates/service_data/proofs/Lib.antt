@@ -13,3 +13,4 @@ mod Drained
 mod Dealt
 mod Counted
 mod FromParts
+mod WrittenInVolume
