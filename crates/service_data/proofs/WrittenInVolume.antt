@@ -27,7 +27,7 @@ use Rattle.service_data.proofs.WrittenUp.{due-told, kept-same, kept-long, more-d
 pub held-below : (set : VolumeSet) → IsVolumeHeld set → IsHeld set.logical
 held-below set whole =
     let rest = whole.1 in
-    (whole.0, rest.0, rest.1, rest.2, rest.3, ap (λ (s : VolumeSet). s.logical) rest.4, rest.5, rest.6, rest.7, rest.8)
+    (whole.0, (rest.0, rest.1, rest.2, rest.3, ap (λ (s : VolumeSet). s.logical) rest.4, rest.5, rest.6, rest.7, rest.8))
 
 -- ---- what follows from the checks
 
