@@ -70,15 +70,19 @@ module _ {P : Type 0} (places : List (Option (FilerRange P))) (all at : ℕ) (le
   pub used-more : (used here : ℕ) → UsedSoFar value_at all at used
       → here ≡ (if (range_value (slice_index_or places at d)).is_used then 1 else 0) → here ≤ 1 → UsedSoFar value_at all (at + 1) (used + here)
   used-more used here sofar is few =
-      let same : here ≡ (if (value_at at).is_used then 1 else 0) = is ∙ ap (λ (r : RangeValue). if r.is_used then 1 else 0) here-is in
-      (let most = sofar.0 in omega (arith, most, few), λ m rest.
-      let from = sofar.1 (suc m) (omega (arith, rest)) in
-      omega (arith, from, same))
+      let same : here ≡ (if (value_at at).is_used then 1 else 0) = is ∙ ap (λ (r : RangeValue). if r.is_used then 1 else 0) here-is in (
+        let most = sofar.0 in omega (arith, most, few),
+        λ m rest.
+            let from = sofar.1 (suc m) (omega (arith, rest)) in
+            omega (arith, from, same),
+      )
 
   pub free-more : (free here : ℕ) → FreeSoFar value_at all at free → here ≡ len (range_value (slice_index_or places at d)).free → here ≤ 1024
       → FreeSoFar value_at all (at + 1) (free + here)
   free-more free here sofar is few =
-      let same : here ≡ len (value_at at).free = is ∙ ap (λ (r : RangeValue). len r.free) here-is in
-      (let most = sofar.0 in omega (arith, most, few), λ m rest.
-      let from = sofar.1 (suc m) (omega (arith, rest)) in
-      omega (arith, from, same))
+      let same : here ≡ len (value_at at).free = is ∙ ap (λ (r : RangeValue). len r.free) here-is in (
+        let most = sofar.0 in omega (arith, most, few),
+        λ m rest.
+            let from = sofar.1 (suc m) (omega (arith, rest)) in
+            omega (arith, from, same),
+      )

@@ -1,18 +1,16 @@
 -- What is under Volume, as a file is extended step by step, its holes filled from the parts of the volume.
-use Rattle.std.proofs.Common.{◌≡◌, ℕ, ◌+◌, ◌≤◌, List, [], ◌∷◌, length, refl, sym, ap, subst, ◌∙◌, arith, inl, inr}
-use Rattle.std.specs.Prelude.{map, slice_get}
+use Rattle.std.proofs.Common.{◌≡◌, ℕ, ◌+◌, List, [], ◌∷◌, length, refl, sym, ap, subst, ◌∙◌, inl, inr}
+use Rattle.std.specs.Prelude.{map}
 use Rattle.std.specs.FinSet.{FinSet}
 use Rattle.std.specs.Ordering.{nat_cmp}
 use Rattle.nfs_model.specs.Types.{Moment}
-use Rattle.parcel_sets.specs.Filled.{is_filled, volume_alike}
 use Rattle.volume_values.specs.Logical.{LogicalValue}
-use Rattle.volume_values.specs.Ranges.{RangeValue}
 use Rattle.volume_values.specs.Stripes.{StripeValue}
 use Rattle.held_state.specs.Contents.{each}
 use Rattle.held_state.specs.Lenses.{VolumeSet}
 use Rattle.held_state.specs.Sets.{FilerLogical, FilerVolume, stripe_value, placed, vbn_set, logical_before, logical_after, volume_before, volume_after}
 use Rattle.held_data.specs.Extending.{holes, filled_with, stripe_grown, spans_written, stripes_extended}
-use Rattle.held_data.specs.WritingUp.{LeaveParts, for_holes}
+use Rattle.held_data.specs.WritingUp.{LeaveParts}
 use Rattle.service_data.specs.Places.{StripesChanged}
 use Rattle.service_data.specs.Holes.{HasRoom, Rise, zeroed, renumbered, stock_held, inode_extended_in, extending_by}
 use Rattle.service_data.specs.Parts.{restriped, LeavesOne, TakesParts}

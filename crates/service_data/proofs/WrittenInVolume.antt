@@ -1,5 +1,5 @@
 -- WRITE by what is under Volume, as its checks come out.
-use Rattle.std.proofs.Common.{◌≡◌, ℕ, zero, suc, Bool, List, take, length, Option, Result, Ok, Err, refl, sym, ap, ◌∙◌, subst}
+use Rattle.std.proofs.Common.{◌≡◌, ℕ, zero, suc, Bool, List, take, length, Option, Result, Ok, Err, refl, sym, ap, subst}
 use Rattle.std.specs.declared.alloc.AllocError.{AllocError}
 use Rattle.std.specs.FinMap.{get}
 use Rattle.nfs_model.specs.Types as types
@@ -11,7 +11,7 @@ use Rattle.nfs_values.specs.Status.{status_of}
 use Rattle.nfs_values.specs.declared.answer.WriteResults.{WriteResults}
 use Rattle.nfs_values.specs.declared.status.Status.{Status}
 use Rattle.volume_values.specs.Stripes.{Card}
-use Rattle.held_state.specs.Lenses.{LogicalSet, VolumeSet, volume_lens}
+use Rattle.held_state.specs.Lenses.{VolumeSet, volume_lens}
 use Rattle.held_state.specs.Running.{RunsOn}
 use Rattle.held_data.specs.WritingLaws.{write_call}
 use Rattle.held_data.specs.WritingUpLaws.{VolumeWriteIsRight, VolumeWriteMayStarve}

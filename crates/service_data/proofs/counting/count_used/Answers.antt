@@ -1,4 +1,4 @@
-use Rattle.std.proofs.Common.{◌≡◌, ℕ, length, rules, arith}
+use Rattle.std.proofs.Common.{◌≡◌, length, rules, arith}
 use Rattle.held_state.specs.Contents.{each}
 use Rattle.held_state.specs.Sets.{range_value, placed}
 use Rattle.held_state.specs.Tree.{ranges_used}
