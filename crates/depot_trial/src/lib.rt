@@ -1,5 +1,5 @@
 //! Machines to try a depot with: numbers that calls add to, and tokens that calls move between
-//! nodes and hands. The tests are in `depot_rows`, the measurements in `part_bench`.
+//! nodes and hands. The tests are in `depot_rows`, the measurements in `bench`.
 #![tactic(auto)]
 
 pub mod adding;

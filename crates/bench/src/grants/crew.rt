@@ -7,7 +7,7 @@ use affinity_tree::{Affinity, Kind};
 use depot::{Depot, Seat};
 use depot_trial::adding::{Adding, open, split, touches};
 use parcel_sets::{LogicalNode, StripeNode};
-use rates::per_second;
+use crate::rates::per_second;
 use std::alloc::AllocError;
 use std::rt::Clock;
 use std::thread::Threads;

@@ -1,11 +1,10 @@
 //! How long the calls of a volume take.
 
 use crate::state::batches::{Deaths, Takes};
-use crate::state::clock::{measure, measure_beside};
-use crate::state::copies::{Overwrites, PlainOverwrites, PlainReads, Reads};
 use crate::state::finds::{Finds, Renewals};
 use crate::state::gets::Gets;
 use crate::state::memory;
+use crate::work::measure;
 use std::alloc::Global;
 use std::io;
 use std::rt::{Clock, Files};
@@ -22,16 +21,6 @@ fn names<R: Clock + Print>(rt: &R, alloc: Global, passes: u32) -> io::Result<()>
     measure(rt, "find in 65000 names, each added anew", renewed, passes)
 }
 
-/// Measures reads and overwrites of so many bytes.
-fn bytes<R: Clock + Print>(rt: &R, alloc: Global, size: usize, passes: u32) -> io::Result<()> {
-    println!(rt; "{size} bytes:")?;
-    let (reads, plain) = (Reads::new(alloc, size), PlainReads::new(alloc, size));
-    measure_beside(rt, "read", reads, plain, passes)?;
-    let overwrites = Overwrites::new(alloc, size);
-    let plain = PlainOverwrites::new(alloc, size);
-    measure_beside(rt, "overwrite", overwrites, plain, passes)
-}
-
 /// Measures each kind of call.
 pub fn run<R: Clock + Files + Print + AllocGlobal>(rt: &R, passes: u32) -> io::Result<()> {
     let alloc = rt.alloc();
@@ -39,8 +28,6 @@ pub fn run<R: Clock + Files + Print + AllocGlobal>(rt: &R, passes: u32) -> io::R
     memory::measure(rt, 255)?;
     names(rt, alloc, passes)?;
     measure(rt, "get in 65000 inodes", Gets::new(alloc), passes)?;
-    bytes(rt, alloc, 4096, passes)?;
-    bytes(rt, alloc, 65_536, passes)?;
     measure(rt, "take and give of 64 blocks", Ok(Takes::new()), passes)?;
     let deaths = Deaths::new(alloc);
     measure(rt, "64 dead blocks marked and taken", deaths, passes)

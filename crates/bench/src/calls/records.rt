@@ -2,6 +2,8 @@
 
 ghost use Rattle.std.specs.Prelude.{◌≡◌, ◌+◌, ◌≤◌, length};
 
+use std::alloc::{AllocError, Global};
+
 /// GETATTR (RFC 1813 section 3.3.1).
 pub const GETATTR: [u8; 60] = *b"\x80\0\0\x38\0\0\0\x01\0\0\0\0\0\0\0\x02\0\x01\x86\xa3\
     \0\0\0\x03\0\0\0\x01\0\0\0\0\0\0\0\0\0\0\0\0\0\0\0\0\
@@ -34,6 +36,18 @@ const RENAME: [u8; 92] = *b"\x80\0\0\x58\0\0\0\x01\0\0\0\0\0\0\0\x02\0\x01\x86\x
     \0\0\0\x03\0\0\0\x0e\0\0\0\0\0\0\0\0\0\0\0\0\0\0\0\0\
     \0\0\0\x0c\0\0\0\0\0\0\0\0\0\0\0\x01\0\0\0\x04aaaa\
     \0\0\0\x0c\0\0\0\0\0\0\0\0\0\0\0\x01\0\0\0\x04aaaa";
+
+/// WRITE of 65,536 bytes to the file that was made first, up to its bytes (RFC 1813 section 3.3.7).
+const WRITE: [u8; 80] = *b"\x80\x01\0\x4c\0\0\0\x01\0\0\0\0\0\0\0\x02\0\x01\x86\xa3\
+    \0\0\0\x03\0\0\0\x07\0\0\0\0\0\0\0\0\0\0\0\0\0\0\0\0\
+    \0\0\0\x0c\0\0\0\0\0\0\0\0\0\0\0\x02\
+    \0\0\0\0\0\0\0\0\0\x01\0\0\0\0\0\x02\0\x01\0\0";
+
+/// How many bytes it writes.
+const WRITTEN: usize = 65_536;
+
+/// Where the low half of its offset stands.
+const OFFSET: usize = 64;
 
 /// Where the name stands in a record, of RENAME the first.
 const NAME: usize = 64;
@@ -86,4 +100,19 @@ pub fn rename(from: u32, to: u32) -> [u8; 92] {
     put_name(&mut record, NAME, from);
     put_name(&mut record, OTHER_NAME, to);
     record
+}
+
+/// WRITE of 65,536 bytes at the begin of the file that was made first.
+pub fn write(alloc: Global) -> Result<Vec<u8>, AllocError> {
+    let mut record = Vec::with_capacity(alloc, WRITE.len() + WRITTEN)?;
+    record.extend_from_slice(&WRITE)?;
+    record.resize(WRITE.len() + WRITTEN, 7)?;
+    Ok(record)
+}
+
+/// Puts an offset into a WRITE.
+pub fn put_offset(record: &mut [u8], offset: u32) {
+    if let Some(place) = record.get_mut(OFFSET..OFFSET + 4) {
+        place.copy_from_slice(&offset.to_be_bytes());
+    }
 }

@@ -2,7 +2,7 @@
 
 ghost use Rattle.std.specs.Prelude.{◌≤◌, ◌<◌};
 
-use crate::records::GETATTR;
+use crate::calls::records::GETATTR;
 use affinity_tree::{AggregateSpec, Layout, VolumeSpec};
 use engine::{Engine, Event};
 use nfs_values::Moment;

@@ -1,6 +1,6 @@
 //! What is measured.
 
-use crate::records::{GETATTR, READDIR, create, lookup, remove, rename};
+use crate::calls::records::{GETATTR, READDIR, create, lookup, remove, rename};
 use engine::{Engine, Event};
 use nfs_values::Moment;
 
@@ -53,6 +53,22 @@ fn answer(engine: &mut Engine, record: &[u8]) {
         Event::Work { worker: 0 },
         Event::Finish { worker: 0 },
     ]);
+}
+
+/// The same of a call that moves, twice at most.
+pub fn answer_moved(engine: &mut Engine, record: &[u8]) {
+    answer(engine, record);
+    for _move in 0..2 {
+        engine.run(&[
+            Event::Begin {
+                worker: 0,
+                place: 0,
+                moment: Moment::START,
+            },
+            Event::Work { worker: 0 },
+            Event::Finish { worker: 0 },
+        ]);
+    }
 }
 
 /// Makes the file of a number in the root.

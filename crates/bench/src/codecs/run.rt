@@ -1,12 +1,12 @@
 //! How many records are decoded and replies encoded in a second.
 
 ghost use Rattle.std.specs.Prelude.{IfOk};
-ghost use Rattle.part_bench.specs.Fits.{FitsRecord};
+ghost use Rattle.bench.specs.Fits.{FitsRecord};
 
 use crate::codecs::sample::{Sample, get_attributes, lookup, read, write};
 use nfs_types::decode_args;
 use nfs_values::{Call, FileHandle, Target};
-use rates::per_second;
+use crate::rates::per_second;
 use rpc_msg::{Head, read_call, write_reply_record};
 use std::alloc::{AllocError, Global};
 use std::io;

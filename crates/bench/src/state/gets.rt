@@ -1,6 +1,6 @@
 //! Inodes by fileid.
 
-use crate::state::clock::Work;
+use crate::work::Work;
 use inodes::{Inode, InodeKind, Inodes, StoredAttributes};
 use nfs_values::{Fileid, Moment};
 use std::alloc::{AllocError, Global};

@@ -1,7 +1,7 @@
 //! The calls and replies that are measured.
 
 ghost use Rattle.std.specs.Prelude.{IfOk};
-ghost use Rattle.part_bench.specs.Fits.{FitsRecord};
+ghost use Rattle.bench.specs.Fits.{FitsRecord};
 
 use nfs_values::{
     Answer, Attributes, FileHandle, FileKind, Fileid, LookupResults, Moment, Named, Procedure,

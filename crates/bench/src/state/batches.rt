@@ -1,6 +1,6 @@
 //! Batches of block numbers.
 
-use crate::state::clock::Work;
+use crate::work::Work;
 use nfs_values::BlockNumber;
 use std::alloc::{AllocError, Global};
 use vbn_ranges::{DeadBlocks, Range};

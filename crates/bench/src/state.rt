@@ -1,8 +1,6 @@
 //! What a volume holds.
 
 mod batches;
-mod clock;
-mod copies;
 mod finds;
 mod gets;
 mod memory;

@@ -2,7 +2,7 @@
 
 ghost use Rattle.std.specs.Prelude.{◌<◌};
 
-use crate::state::clock::Work;
+use crate::work::Work;
 use directories::Directory;
 use nfs_values::{Fileid, Name};
 use std::alloc::{AllocError, Global};

@@ -1,0 +1,7 @@
+//! Calls in an engine.
+
+pub mod appends;
+mod measured;
+pub mod names;
+mod records;
+pub mod run;

@@ -1,0 +1,5 @@
+//! The bytes of files.
+
+mod copies;
+mod plain;
+pub mod run;
