@@ -2,4 +2,5 @@ pub mod Hands
 pub mod Jobs
 pub mod Getattr
 pub mod Running
+pub mod Inner
 pub mod lemmas
