@@ -29,10 +29,10 @@ fn add_count(counts: &mut Vec<u32>, place: &Option<RangeHeld<Files>>) -> Result<
     ensures { OnOk result (counts.new.items
         ≡ with_count counts.old.items (count_shown (range_value place.now))) }
 {
-    match count_in(place) {
-        Some(count) => counts.push(count),
-        None => Ok(()),
+    if let Some(count) = count_in(place) {
+        counts.push(count)?;
     }
+    Ok(())
 }
 
 /// How many blocks are free in the range in a place, if it is in use.
