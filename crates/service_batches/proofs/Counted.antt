@@ -43,7 +43,7 @@ module _ (p : VolumeContents) (well : WellFormed p) (range : ℕ → RangeValue)
 
   -- those of the first n ranges
   counts-are : (n : ℕ) → n ≤ most_ranges → counts_shown range n ≡ counts_to (min n used)
-  counts-are zero most = refl
+  counts-are zero most = let none : 0 ≡ min 0 used = grind (arith, nat_tests) in ap counts_to none
   counts-are (suc n) most = by (nat_lt n used) refl (counts-are n (omega (arith, most)))
     where
       by : (b : Bool) → nat_lt n used ≡ b → counts_shown range n ≡ counts_to (min n used) → counts_shown range (suc n) ≡ counts_to (min (suc n) used)
@@ -52,7 +52,7 @@ module _ (p : VolumeContents) (well : WellFormed p) (range : ℕ → RangeValue)
           let after : n + 1 ≡ min (suc n) used = grind (arith, nat_tests) in
           (λ j. with_count ((before-it ∙ ap counts_to before) j)
           ((shown-is n (omega (arith, most)) ∙ ap (λ (c : Bool). if c then Some (free_count n) else None) e) j))
-          ∙ sym (map-range_with_len_more free_count 0 n n refl) ∙ ap counts_to after
+          ∙ sym (map-range_with_len_more free_count 0 n n (omega arith)) ∙ ap counts_to after
       by false e before-it =
           let same : min n used ≡ min (suc n) used = grind (arith, nat_tests) in
           (λ j. with_count (before-it j)

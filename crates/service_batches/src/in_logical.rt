@@ -18,6 +18,7 @@ pub fn deliver(held: &mut LogicalHeld<Files>, batch: &Batch) -> Result<(), Alloc
     ensures right { OnOk result (DeliversHere batch.now
         (logical_before held.old) (logical_after held.old held.new)) }
     ensures starved { OnErr result (held.new ≡ held.old) }
+    ensures stripes { held.new.stripes ≡ held.old.stripes }
     ensures alike { logical_alike held.old held.new }
 {
     let _blocks = batch.as_slice();
@@ -28,6 +29,7 @@ pub fn deliver(held: &mut LogicalHeld<Files>, batch: &Batch) -> Result<(), Alloc
 /// of the lowest come into the hand, or all of that range if they are fewer. It takes no memory.
 pub fn cull(held: &mut LogicalHeld<Files>) -> Batch
     ensures right { CullsHere (logical_before held.old) result (logical_after held.old held.new) }
+    ensures stripes { held.new.stripes ≡ held.old.stripes }
     ensures alike { logical_alike held.old held.new }
 {
     held.own.get_mut().dead.take_batch()

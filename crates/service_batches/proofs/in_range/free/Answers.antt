@@ -1,5 +1,5 @@
-use Rattle.std.proofs.Common.{◌≡◌, ◌<◌, ℕ, length, sym, ◌∙◌, ap, subst}
-use Rattle.nfs_model.specs.Parts.{most_ranges, range_of}
+use Rattle.std.proofs.Common.{◌<◌, ℕ, sym, ◌∙◌, ap, subst}
+use Rattle.nfs_model.specs.Parts.{most_ranges}
 use Rattle.volume_values.specs.Ranges.{RangeValue, MayBeGiven}
 use Rattle.service_batches.specs.Batches.{FreesHere}
 use Rattle.service_batches.proofs.Apart.{may-be-given}
