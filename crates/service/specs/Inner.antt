@@ -1,5 +1,5 @@
 -- Inner calls, a worker's with its hand, run on the parcels under their nodes (our profile).
-use Rattle.std.specs.Prelude.{◌≡◌, ℕ, ◌<◌, List, length, Some, None}
+use Rattle.std.specs.Prelude.{◌≡◌, ℕ, ◌<◌, List, length, Option, Some, None}
 use Rattle.nfs_model.specs.Tree.{Layout, Affinity}
 use Rattle.nfs_model.specs.Parts.{Hand, Empty, Fresh, Dead, range_of}
 use Rattle.held_state.specs.Parcels.{FilerParcel}
