@@ -1,6 +1,6 @@
 -- From the run of an inner call on the part of a volume that it holds to its run by parcels.
 use Rattle.std.proofs.Common.{◌≡◌, ◌≢◌, ℕ, ◌<◌, length, Option, Some, None, refl, sym, ap, ◌∙◌, subst, arith}
-use Rattle.nfs_model.specs.Parts.{Hand}
+use Rattle.nfs_model.specs.Parts.{Hand, Empty}
 use Rattle.nfs_model.specs.Tree.{Layout, Affinity, Logical, Vbn, Range, stripes_of}
 use Rattle.affinity_tree.specs.Affinity.{kind_of}
 use Rattle.affinity_tree.specs.Fault.{fault_of}
@@ -9,6 +9,7 @@ use Rattle.affinity_tree.specs.Tree.{IsNode}
 use Rattle.affinity_tree.specs.declared.affinity.Kind.{Kind}
 use Rattle.affinity_tree.specs.declared.affinity.Kind.TheVariants as kinds
 use Rattle.parcel_sets.specs.Sets.{range_parcels, vbn_parcels, logical_parcels}
+use Rattle.nfs_values.specs.declared.number.VolumeNumber.{VolumeNumber}
 use Rattle.volume_values.specs.Ranges.{RangeValue}
 use Rattle.held_state.specs.Contents.{VolumeContents}
 use Rattle.held_state.specs.Deeds.{FilerSteps}
@@ -25,7 +26,9 @@ use Rattle.held_laws.specs.lemmas.Running.{inner-runs-by}
 use Rattle.held_laws.specs.lemmas.SeenSets.{range-seen, vbn-seen, logical-seen}
 use Rattle.service.specs.Inner.{AsksForInner, InnerHasRun, IsHandFor}
 use Rattle.service.specs.InnerOn.{HasRunOn, MayRunOn, UnlessDone}
-use Rattle.service.specs.Jobs.{job_reply_of}
+use Rattle.service.specs.Jobs.{inner_of, job_reply_of}
+use Rattle.service.specs.declared.job.InnerCall as calls
+use Rattle.service.specs.declared.job.InnerCall.TheVariants as asked
 use Rattle.service.specs.declared.inner.InnerOutcome.{InnerOutcome}
 use Rattle.service.specs.declared.inner.InnerOutcome.TheVariants.{Done, Refused, NoMemory}
 use Rattle.service.proofs.InHand.{hand-of}
@@ -41,13 +44,13 @@ module _ {P S : Type 0} (layout : Layout) (call : InnerCall) (on : inner_volume 
   pub has-run : (outcome : InnerOutcome) → UnlessDone outcome ((k : ℕ) → after k ≡ before k) → HasRunOn (inner_volume call) lens call hand old outcome new
       → InnerHasRun call hand layout (inner_node call) before outcome after
   has-run (Done reply) same right = (
-    inner-runs-by layout call on lens numbered before after old new was step (Some (job_reply_of reply)) right.0 right.1.0
-        (subst (AreOf (inner_volume call)) (sym right.1.1) (hand-of call hand is)) (λ e. let never : ⊥ = cc in absurd never),
-    right.1.1,
+    inner-runs-by layout call on lens numbered before after old new was step (Some (job_reply_of reply)) right.0 right.1
+        (subst (AreOf (inner_volume call)) (sym right.2) (hand-of call hand is)) (λ e. let never : ⊥ = cc in absurd never),
+    right.2,
   )
   has-run Refused same right =
       inner-runs-by layout call on lens numbered before after old new was step None right (λ u other n. refl) (λ u other n. refl) (λ e. same)
-  has-run (NoMemory back) same right = (right.0, (right.1, same))
+  has-run (NoMemory back) same right = (right.0, right.1, same)
 
 unless-mapped : (outcome : InnerOutcome) (A B : Type 0) → (A → B) → UnlessDone outcome A → UnlessDone outcome B
 unless-mapped (Done reply) A B f a = tt
@@ -193,6 +196,47 @@ module _ {P : Type 0} (layout : Layout) (lawful : fault_of layout ≡ None) wher
       (λ node has. cull-ran v node hand old new has outcome same is ran) there filer
 
 -- ---- where no inner call is run
+
+-- on Vbn only a survey
+pub survey-hand : (call : InnerCall) (a : Affinity) → a ≡ inner_node call → kind_of a ≡ kinds.VolumeVbn → (hand : Hand) → IsHandFor call hand → hand ≡ Empty
+survey-hand (Survey v) a at kind hand is = is
+survey-hand (Fetch v r) a at kind hand is = absurd (let other : kinds.Range ≡ kinds.VolumeVbn = sym (ap kind_of at) ∙ kind in cc)
+survey-hand (Free v r) a at kind hand is = absurd (let other : kinds.Range ≡ kinds.VolumeVbn = sym (ap kind_of at) ∙ kind in cc)
+survey-hand (Deliver v) a at kind hand is = absurd (let other : kinds.VolumeLogical ≡ kinds.VolumeVbn = sym (ap kind_of at) ∙ kind in cc)
+survey-hand (Cull v) a at kind hand is = absurd (let other : kinds.VolumeLogical ≡ kinds.VolumeVbn = sym (ap kind_of at) ∙ kind in cc)
+
+pub vbn-runs : {P : Type 0} (layout : Layout) (lawful : fault_of layout ≡ None) (call : InnerCall) (a : Affinity) → a ≡ inner_node call
+    → kind_of a ≡ kinds.VolumeVbn → IsNode layout a → (hand : Hand) → IsHandFor call hand → (held : FilerVbn P) (outcome : InnerOutcome)
+    → ((v : ℕ) → HasRunOn v vbn_lens (Survey v) hand (vbn_set held) outcome (vbn_set held))
+    → InnerHasRun call hand layout a (vbn_parcels layout a held) outcome (vbn_parcels layout a held)
+vbn-runs layout lawful (Survey v) a at kind there hand is held outcome ran = survey-runs layout lawful v a at there hand is held outcome (ran v)
+vbn-runs layout lawful (Fetch v r) a at kind there hand is held outcome ran =
+    absurd (let other : kinds.Range ≡ kinds.VolumeVbn = sym (ap kind_of at) ∙ kind in cc)
+vbn-runs layout lawful (Free v r) a at kind there hand is held outcome ran =
+    absurd (let other : kinds.Range ≡ kinds.VolumeVbn = sym (ap kind_of at) ∙ kind in cc)
+vbn-runs layout lawful (Deliver v) a at kind there hand is held outcome ran =
+    absurd (let other : kinds.VolumeLogical ≡ kinds.VolumeVbn = sym (ap kind_of at) ∙ kind in cc)
+vbn-runs layout lawful (Cull v) a at kind there hand is held outcome ran =
+    absurd (let other : kinds.VolumeLogical ≡ kinds.VolumeVbn = sym (ap kind_of at) ∙ kind in cc)
+
+-- on a range only a fetch and what frees
+pub only-ranges : (call : calls.InnerCall) (a : Affinity) → a ≡ inner_node (inner_of call) → kind_of a ≡ kinds.Range
+    → ((volume : VolumeNumber) (range : ℕ) → call ≡ asked.Fetch volume range → ⊥) → ((volume : VolumeNumber) (range : ℕ) → call ≡ asked.Free volume range → ⊥)
+    → ⊥
+only-ranges (asked.Fetch volume range) a at kind fetch free = fetch volume range refl
+only-ranges (asked.Free volume range) a at kind fetch free = free volume range refl
+only-ranges (asked.Deliver volume) a at kind fetch free = let other : kinds.VolumeLogical ≡ kinds.Range = sym (ap kind_of at) ∙ kind in cc
+only-ranges (asked.Cull volume) a at kind fetch free = let other : kinds.VolumeLogical ≡ kinds.Range = sym (ap kind_of at) ∙ kind in cc
+only-ranges (asked.Survey volume) a at kind fetch free = let other : kinds.VolumeVbn ≡ kinds.Range = sym (ap kind_of at) ∙ kind in cc
+
+-- on Logical only a delivery and a cull
+pub only-logical : (call : calls.InnerCall) (a : Affinity) → a ≡ inner_node (inner_of call) → kind_of a ≡ kinds.VolumeLogical
+    → ((volume : VolumeNumber) → call ≡ asked.Deliver volume → ⊥) → ((volume : VolumeNumber) → call ≡ asked.Cull volume → ⊥) → ⊥
+only-logical (asked.Deliver volume) a at kind deliver cull = deliver volume refl
+only-logical (asked.Cull volume) a at kind deliver cull = cull volume refl
+only-logical (asked.Fetch volume range) a at kind deliver cull = let other : kinds.Range ≡ kinds.VolumeLogical = sym (ap kind_of at) ∙ kind in cc
+only-logical (asked.Free volume range) a at kind deliver cull = let other : kinds.Range ≡ kinds.VolumeLogical = sym (ap kind_of at) ∙ kind in cc
+only-logical (asked.Survey volume) a at kind deliver cull = let other : kinds.VolumeVbn ≡ kinds.VolumeLogical = sym (ap kind_of at) ∙ kind in cc
 
 -- an inner call is run on no node of another kind
 pub no-inner : (call : InnerCall) (a : Affinity) → a ≡ inner_node call → (kind : Kind) → kind_of a ≡ kind

@@ -67,7 +67,12 @@ impl Task<Parcel<Files>, ParcelKinds> for RunInner {
     }
 
     fn on_vbn(self, _: &Layout, _: Affinity, held: &mut VbnHeld<Files>) -> InnerOutcome {
-        survey_with(self.alloc, self.hand, held)
+        let RunInner {
+            alloc,
+            call: _,
+            hand,
+        } = self;
+        survey_with(alloc, hand, held)
     }
 
     fn on_stripe(self, _: &Layout, _: Affinity, _: &mut StripeHeld<Files>) -> InnerOutcome {
