@@ -106,11 +106,7 @@ impl Task<Parcel<Files>, ParcelKinds> for RunInner {
 }
 
 /// Fetches free blocks of a range into an empty hand.
-fn fetch_into(
-    hand: BatchInHand,
-    volume: VolumeNumber,
-    held: &mut RangeHeld<Files>,
-) -> InnerOutcome
+fn fetch_into(hand: BatchInHand, volume: VolumeNumber, held: &mut RangeHeld<Files>) -> InnerOutcome
     requires { hand ≡ parts.Empty }
     ensures runs { let r = held.old.own.number in HasRunOn volume.0 (range_lens r)
         (jobs.Fetch volume.0 r) hand held.old.own result held.new.own }
@@ -133,10 +129,7 @@ fn free_from(hand: BatchInHand, held: &mut RangeHeld<Files>) -> InnerOutcome
 {
     let (volume, batch) = dead_batch(hand);
     free(held, &batch);
-    InnerOutcome::Done(JobReply::Gave(BatchInHand::new(Hand::Dead {
-        volume,
-        batch,
-    })))
+    InnerOutcome::Done(JobReply::Gave(BatchInHand::new(Hand::Dead { volume, batch })))
 }
 
 /// Tells how many blocks are free, with an empty hand.
@@ -170,11 +163,7 @@ fn deliver_from(hand: BatchInHand, held: &mut LogicalHeld<Files>) -> InnerOutcom
 }
 
 /// Culls dead blocks into an empty hand.
-fn cull_into(
-    hand: BatchInHand,
-    volume: VolumeNumber,
-    held: &mut LogicalHeld<Files>,
-) -> InnerOutcome
+fn cull_into(hand: BatchInHand, volume: VolumeNumber, held: &mut LogicalHeld<Files>) -> InnerOutcome
     requires { hand ≡ parts.Empty }
     ensures runs { HasRunOn volume.0 logical_lens (jobs.Cull volume.0) hand
         (logical_before held.old) result (logical_after held.old held.new) }
