@@ -13,18 +13,18 @@ use Rattle.nfs_values.specs.declared.number.VolumeNumber.{VolumeNumber}
 use Rattle.volume_values.specs.Ranges.{RangeValue}
 use Rattle.held_state.specs.Contents.{VolumeContents}
 use Rattle.held_state.specs.Deeds.{FilerSteps}
-use Rattle.held_state.specs.Jobs.{InnerCall, Fetch, Deliver, Cull, Free, Survey, Inner, JobReply, gives, takes, batches_in, inner_node, inner_volume}
+use Rattle.held_state.specs.Jobs.{InnerCall, Fetch, Deliver, Cull, Free, Survey, Inner, JobReply, batches_in, inner_node, inner_volume}
 use Rattle.held_state.specs.Lenses.{Lens, in_volume, range_lens, vbn_lens, logical_lens}
 use Rattle.held_state.specs.Parcels.{FilerParcel}
 use Rattle.held_state.specs.Partition.{AreOf}
 use Rattle.held_state.specs.Promises.{HasVolume, IsRight, IsSeenBy}
-use Rattle.held_state.specs.Running.{HasFiler, InnerRuns}
+use Rattle.held_state.specs.Running.{HasFiler}
 use Rattle.held_state.specs.Sets.{FilerRange, FilerVbn, FilerLogical, vbn_set, logical_set, logical_before, logical_after}
-use Rattle.held_laws.specs.lemmas.Granted.{range-has, vbn-has, logical-has}
+use Rattle.held_laws.specs.lemmas.Granted.{range-has, logical-has}
 use Rattle.held_laws.specs.lemmas.Kinds.{range-step, vbn-step, logical-step}
 use Rattle.held_laws.specs.lemmas.Running.{inner-runs-by}
 use Rattle.held_laws.specs.lemmas.SeenSets.{range-seen, vbn-seen, logical-seen}
-use Rattle.service.specs.Inner.{AsksForInner, InnerHasRun, IsHandFor}
+use Rattle.service.specs.Inner.{InnerHasRun, IsHandFor}
 use Rattle.service.specs.InnerOn.{HasRunOn, MayRunOn, UnlessDone}
 use Rattle.service.specs.Jobs.{inner_of, job_reply_of}
 use Rattle.service.specs.declared.job.InnerCall as calls

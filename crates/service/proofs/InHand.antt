@@ -1,15 +1,14 @@
 -- What hands carry.
-use Rattle.std.proofs.Common.{◌≡◌, ◌≢◌, ℕ, ◌<◌, Bool, true, false, List, [], ◌∷◌, length, refl, sym, ap, ◌∙◌, subst, arith, Option, Some, None}
+use Rattle.std.proofs.Common.{◌≡◌, ◌≢◌, ℕ, Bool, true, false, List, [], ◌∷◌, refl, sym, ap, ◌∙◌, subst, arith, Some}
 use Rattle.std.proofs.lemmas.Bool.{eqb-true}
 use Rattle.std.specs.Prelude.{◌==◌, if◌then◌else◌}
 use Rattle.nfs_model.specs.Moves.{dead_hand, fresh_hand}
-use Rattle.nfs_model.specs.Parts.{Hand, Empty, Fresh, Dead, range_of, times_listed}
-use Rattle.depot_rule.specs.Sums.{total}
+use Rattle.nfs_model.specs.Parts.{Hand, Empty, Fresh, Dead, times_listed}
 use Rattle.volume_values.specs.Ranges.{RangeValue}
 use Rattle.held_state.specs.Jobs as replies
 use Rattle.held_state.specs.Jobs.{InnerCall, Fetch, Deliver, Cull, Free, Survey, batches_in, inner_volume}
 use Rattle.held_state.specs.Lenses.{LogicalSet, range_lens, logical_lens}
-use Rattle.held_state.specs.Partition.{AreOf, times_in_hand}
+use Rattle.held_state.specs.Partition.{AreOf}
 use Rattle.held_state.specs.Promises.{HasVolume}
 use Rattle.held_state.specs.Running.{InnerRunsOn}
 use Rattle.service_batches.specs.Batches.{CullsHere, DeliversHere, FetchesHere, FreesHere, MayDeliver, MayFree}
