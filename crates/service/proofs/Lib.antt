@@ -1,2 +1,4 @@
 mod Getting
 mod Runs
+mod Handed
+mod InHand

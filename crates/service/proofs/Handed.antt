@@ -1,0 +1,248 @@
+-- From the run of an inner call on the part of a volume that it holds to its run by parcels.
+use Rattle.std.proofs.Common.{◌≡◌, ◌≢◌, ℕ, ◌<◌, length, Option, Some, None, refl, sym, ap, ◌∙◌, subst, arith}
+use Rattle.nfs_model.specs.Parts.{Hand, Empty}
+use Rattle.nfs_model.specs.Tree.{Layout, Affinity, Logical, Vbn, Range, stripes_of}
+use Rattle.affinity_tree.specs.Affinity.{kind_of}
+use Rattle.affinity_tree.specs.Fault.{fault_of}
+use Rattle.affinity_tree.specs.Numbers.{number_of, parents}
+use Rattle.affinity_tree.specs.Tree.{IsNode}
+use Rattle.affinity_tree.specs.declared.affinity.Kind.{Kind}
+use Rattle.affinity_tree.specs.declared.affinity.Kind.TheVariants as kinds
+use Rattle.parcel_sets.specs.Sets.{range_parcels, vbn_parcels, logical_parcels}
+use Rattle.nfs_values.specs.declared.number.VolumeNumber.{VolumeNumber}
+use Rattle.volume_values.specs.Ranges.{RangeValue}
+use Rattle.held_state.specs.Contents.{VolumeContents}
+use Rattle.held_state.specs.Deeds.{FilerSteps}
+use Rattle.held_state.specs.Jobs.{InnerCall, Fetch, Deliver, Cull, Free, Survey, Inner, JobReply, batches_in, inner_node, inner_volume}
+use Rattle.held_state.specs.Lenses.{Lens, in_volume, range_lens, vbn_lens, logical_lens}
+use Rattle.held_state.specs.Parcels.{FilerParcel}
+use Rattle.held_state.specs.Partition.{AreOf}
+use Rattle.held_state.specs.Promises.{HasVolume, IsRight, IsSeenBy}
+use Rattle.held_state.specs.Running.{HasFiler}
+use Rattle.held_state.specs.Sets.{FilerRange, FilerVbn, FilerLogical, vbn_set, logical_set, logical_before, logical_after}
+use Rattle.held_laws.specs.lemmas.Granted.{range-has, logical-has}
+use Rattle.held_laws.specs.lemmas.Kinds.{range-step, vbn-step, logical-step}
+use Rattle.held_laws.specs.lemmas.Running.{inner-runs-by}
+use Rattle.held_laws.specs.lemmas.SeenSets.{range-seen, vbn-seen, logical-seen}
+use Rattle.service.specs.Inner.{InnerHasRun, IsHandFor}
+use Rattle.service.specs.InnerOn.{HasRunOn, MayRunOn, UnlessDone}
+use Rattle.service.specs.Jobs.{inner_of, job_reply_of}
+use Rattle.service.specs.declared.job.InnerCall as calls
+use Rattle.service.specs.declared.job.InnerCall.TheVariants as asked
+use Rattle.service.specs.declared.inner.InnerOutcome.{InnerOutcome}
+use Rattle.service.specs.declared.inner.InnerOutcome.TheVariants.{Done, Refused, NoMemory}
+use Rattle.service.proofs.InHand.{hand-of}
+
+-- ---- of any part
+
+module _ {P S : Type 0} (layout : Layout) (call : InnerCall) (on : inner_volume call < length layout.volumes) (lens : Lens VolumeContents S)
+    (numbered : (s : S) (p : VolumeContents) → (lens.put s p).number ≡ p.number) (before after : ℕ → Option (FilerParcel P)) (old new : S)
+    (was : IsSeenBy layout (inner_node call) (in_volume (inner_volume call) lens) before old)
+    (step : (reply : JobReply) → IsRight layout (inner_node call) (in_volume (inner_volume call) lens) (Inner call) old reply new
+    → FilerSteps (parents layout) (number_of layout (inner_node call)) (Inner call) before reply after)
+    (hand : Hand) (is : IsHandFor call hand) where
+  pub has-run : (outcome : InnerOutcome) → UnlessDone outcome ((k : ℕ) → after k ≡ before k) → HasRunOn (inner_volume call) lens call hand old outcome new
+      → InnerHasRun call hand layout (inner_node call) before outcome after
+  has-run (Done reply) same right = (
+    inner-runs-by layout call on lens numbered before after old new was step (Some (job_reply_of reply)) right.0 right.1
+        (subst (AreOf (inner_volume call)) (sym right.2) (hand-of call hand is)) (λ e. let never : ⊥ = cc in absurd never),
+    right.2,
+  )
+  has-run Refused same right =
+      inner-runs-by layout call on lens numbered before after old new was step None right (λ u other n. refl) (λ u other n. refl) (λ e. same)
+  has-run (NoMemory back) same right = (right.0, right.1, same)
+
+unless-mapped : (outcome : InnerOutcome) (A B : Type 0) → (A → B) → UnlessDone outcome A → UnlessDone outcome B
+unless-mapped (Done reply) A B f a = tt
+unless-mapped Refused A B f a = f a
+unless-mapped (NoMemory back) A B f a = f a
+
+-- a range that a sound volume has is of its own number
+of-number : (v r : ℕ) → r < 16 → (hands : _) (x : RangeValue) → HasVolume v (range_lens r) hands x → x.number ≡ r
+of-number v r less hands x h =
+    ap (λ (y : RangeValue). y.number) (sym h.4) ∙ (h.8.well_formed.ranges r (let size = h.8.well_formed.sixteen in omega (arith, size, less))).number
+
+-- ---- of each kind of node
+
+module _ {P : Type 0} (layout : Layout) (lawful : fault_of layout ≡ None) where
+  module _ (v r : ℕ) (there : IsNode layout (Range v r)) (hand : Hand) (old : FilerRange P)
+      (filer : HasFiler layout (Range v r) (batches_in hand) (range_parcels layout (Range v r) old)) where
+    range-whole : HasVolume v (range_lens r) (batches_in hand) old.own
+    range-whole = range-has layout lawful (batches_in hand) v there.0 r there.1 old filer
+
+    numbered : old.own.number ≡ r
+    numbered = of-number v r there.1 (batches_in hand) old.own range-whole
+
+    -- what is asked of a dead batch
+    may-free : IsHandFor (Free v r) hand → MayRunOn v (range_lens old.own.number) (Free v old.own.number) hand old.own
+    may-free is = subst (λ (n : ℕ). MayRunOn v (range_lens n) (Free v n) hand old.own) (sym numbered) (is, range-whole)
+
+    module _ (new : FilerRange P) (outcome : InnerOutcome) (same : UnlessDone outcome (new ≡ old)) where
+      same-range : UnlessDone outcome ((k : ℕ) → range_parcels layout (Range v r) new k ≡ range_parcels layout (Range v r) old k)
+      same-range =
+          unless-mapped outcome (new ≡ old) ((k : ℕ) → range_parcels layout (Range v r) new k ≡ range_parcels layout (Range v r) old k)
+          (λ e k. ap (λ (h : FilerRange P). range_parcels layout (Range v r) h k) e) same
+
+      fetch-ran : IsHandFor (Fetch v r) hand
+          → HasRunOn v (range_lens old.own.number) (Fetch v old.own.number) hand old.own outcome new.own
+          → InnerHasRun (Fetch v r) hand layout (Range v r) (range_parcels layout (Range v r) old) outcome (range_parcels layout (Range v r) new)
+      fetch-ran is ran =
+          has-run layout (Fetch v r) there.0 (range_lens r) (λ s p. refl) (range_parcels layout (Range v r) old) (range_parcels layout (Range v r) new)
+          old.own new.own (range-seen layout lawful v there.0 r there.1 old)
+          (λ reply step. range-step layout lawful (Inner (Fetch v r)) reply v there.0 r there.1 old new step) hand is outcome same-range
+          (subst (λ (n : ℕ). HasRunOn v (range_lens n) (Fetch v n) hand old.own outcome new.own) numbered ran)
+
+      free-ran : IsHandFor (Free v r) hand
+          → (IsHandFor (Free v old.own.number) hand → HasRunOn v (range_lens old.own.number) (Free v old.own.number) hand old.own outcome new.own)
+          → InnerHasRun (Free v r) hand layout (Range v r) (range_parcels layout (Range v r) old) outcome (range_parcels layout (Range v r) new)
+      free-ran is ran =
+          has-run layout (Free v r) there.0 (range_lens r) (λ s p. refl) (range_parcels layout (Range v r) old) (range_parcels layout (Range v r) new)
+          old.own new.own (range-seen layout lawful v there.0 r there.1 old)
+          (λ reply step. range-step layout lawful (Inner (Free v r)) reply v there.0 r there.1 old new step) hand is outcome same-range
+          (subst (λ (n : ℕ). IsHandFor (Free v n) hand → HasRunOn v (range_lens n) (Free v n) hand old.own outcome new.own) numbered ran is)
+
+  pub fetch-runs : (v r : ℕ) (a : Affinity) → a ≡ Range v r → IsNode layout a → (hand : Hand) → IsHandFor (Fetch v r) hand → (old new : FilerRange P)
+      → HasFiler layout a (batches_in hand) (range_parcels layout a old) → (outcome : InnerOutcome) → UnlessDone outcome (new ≡ old)
+      → HasRunOn v (range_lens old.own.number) (Fetch v old.own.number) hand old.own outcome new.own
+      → InnerHasRun (Fetch v r) hand layout a (range_parcels layout a old) outcome (range_parcels layout a new)
+  fetch-runs v r a at there hand is old new filer outcome same ran =
+      subst (λ (b : Affinity). IsNode layout b → HasFiler layout b (batches_in hand) (range_parcels layout b old)
+      → InnerHasRun (Fetch v r) hand layout b (range_parcels layout b old) outcome (range_parcels layout b new)) (sym at)
+      (λ node has. fetch-ran v r node hand old has new outcome same is ran) there filer
+
+  pub free-asks : (v r : ℕ) (a : Affinity) → a ≡ Range v r → IsNode layout a → (hand : Hand) → IsHandFor (Free v r) hand → (old : FilerRange P)
+      → HasFiler layout a (batches_in hand) (range_parcels layout a old) → MayRunOn v (range_lens old.own.number) (Free v old.own.number) hand old.own
+  free-asks v r a at there hand is old filer =
+      subst (λ (b : Affinity). IsNode layout b → HasFiler layout b (batches_in hand) (range_parcels layout b old)
+      → MayRunOn v (range_lens old.own.number) (Free v old.own.number) hand old.own) (sym at)
+      (λ node has. may-free v r node hand old has is) there filer
+
+  pub free-runs : (v r : ℕ) (a : Affinity) → a ≡ Range v r → IsNode layout a → (hand : Hand) → IsHandFor (Free v r) hand → (old new : FilerRange P)
+      → HasFiler layout a (batches_in hand) (range_parcels layout a old) → (outcome : InnerOutcome) → UnlessDone outcome (new ≡ old)
+      → (IsHandFor (Free v old.own.number) hand → HasRunOn v (range_lens old.own.number) (Free v old.own.number) hand old.own outcome new.own)
+      → InnerHasRun (Free v r) hand layout a (range_parcels layout a old) outcome (range_parcels layout a new)
+  free-runs v r a at there hand is old new filer outcome same ran =
+      subst (λ (b : Affinity). IsNode layout b → HasFiler layout b (batches_in hand) (range_parcels layout b old)
+      → InnerHasRun (Free v r) hand layout b (range_parcels layout b old) outcome (range_parcels layout b new)) (sym at)
+      (λ node has. free-ran v r node hand old has new outcome same is ran) there filer
+
+  -- a survey changes nothing
+  pub survey-runs : (v : ℕ) (a : Affinity) → a ≡ Vbn v → IsNode layout a → (hand : Hand) → IsHandFor (Survey v) hand → (held : FilerVbn P)
+      → (outcome : InnerOutcome) → HasRunOn v vbn_lens (Survey v) hand (vbn_set held) outcome (vbn_set held)
+      → InnerHasRun (Survey v) hand layout a (vbn_parcels layout a held) outcome (vbn_parcels layout a held)
+  survey-runs v a at there hand is held outcome ran =
+      subst (λ (b : Affinity). IsNode layout b → InnerHasRun (Survey v) hand layout b (vbn_parcels layout b held) outcome (vbn_parcels layout b held)) (sym at)
+      (λ node.
+      has-run layout (Survey v) node vbn_lens (λ s p. refl) (vbn_parcels layout (Vbn v) held) (vbn_parcels layout (Vbn v) held)
+      (vbn_set held) (vbn_set held) (vbn-seen layout lawful v node held)
+      (λ reply step. vbn-step layout lawful (Inner (Survey v)) reply v node held held step) hand is outcome (unchanged outcome) ran) there
+    where
+      unchanged : (o : InnerOutcome) → UnlessDone o ((k : ℕ) → vbn_parcels layout (Vbn v) held k ≡ vbn_parcels layout (Vbn v) held k)
+      unchanged (Done reply) = tt
+      unchanged Refused = λ k. refl
+      unchanged (NoMemory back) = λ k. refl
+
+  -- on Logical
+  module _ (v : ℕ) (there : IsNode layout (Logical v)) (hand : Hand) (old new : FilerLogical P)
+      (filer : HasFiler layout (Logical v) (batches_in hand) (logical_parcels layout (Logical v) old)) (outcome : InnerOutcome)
+      (same : UnlessDone outcome (new ≡ old)) where
+    striped : old.own.stripes ≡ stripes_of layout v
+    striped = (logical-has layout lawful (batches_in hand) v there old filer).0
+
+    same-logical : UnlessDone outcome ((k : ℕ) → logical_parcels layout (Logical v) new k ≡ logical_parcels layout (Logical v) old k)
+    same-logical =
+        unless-mapped outcome (new ≡ old) ((k : ℕ) → logical_parcels layout (Logical v) new k ≡ logical_parcels layout (Logical v) old k)
+        (λ e k. ap (λ (h : FilerLogical P). logical_parcels layout (Logical v) h k) e) same
+
+    deliver-ran : IsHandFor (Deliver v) hand → HasRunOn v logical_lens (Deliver v) hand (logical_before old) outcome (logical_after old new)
+        → InnerHasRun (Deliver v) hand layout (Logical v) (logical_parcels layout (Logical v) old) outcome (logical_parcels layout (Logical v) new)
+    deliver-ran is ran =
+        has-run layout (Deliver v) there logical_lens (λ s p. refl) (logical_parcels layout (Logical v) old) (logical_parcels layout (Logical v) new)
+        (logical_set (stripes_of layout v) old) (logical_set (stripes_of layout v) new) (logical-seen layout lawful v there old)
+        (λ reply step. logical-step layout lawful (Inner (Deliver v)) reply v there old new step) hand is outcome same-logical
+        (subst (λ (n : ℕ). HasRunOn v logical_lens (Deliver v) hand (logical_set n old) outcome (logical_set n new)) striped ran)
+
+    cull-ran : IsHandFor (Cull v) hand → HasRunOn v logical_lens (Cull v) hand (logical_before old) outcome (logical_after old new)
+        → InnerHasRun (Cull v) hand layout (Logical v) (logical_parcels layout (Logical v) old) outcome (logical_parcels layout (Logical v) new)
+    cull-ran is ran =
+        has-run layout (Cull v) there logical_lens (λ s p. refl) (logical_parcels layout (Logical v) old) (logical_parcels layout (Logical v) new)
+        (logical_set (stripes_of layout v) old) (logical_set (stripes_of layout v) new) (logical-seen layout lawful v there old)
+        (λ reply step. logical-step layout lawful (Inner (Cull v)) reply v there old new step) hand is outcome same-logical
+        (subst (λ (n : ℕ). HasRunOn v logical_lens (Cull v) hand (logical_set n old) outcome (logical_set n new)) striped ran)
+
+  pub deliver-asks : (v : ℕ) (a : Affinity) → a ≡ Logical v → IsNode layout a → (hand : Hand) → IsHandFor (Deliver v) hand → (old : FilerLogical P)
+      → HasFiler layout a (batches_in hand) (logical_parcels layout a old) → MayRunOn v logical_lens (Deliver v) hand (logical_before old)
+  deliver-asks v a at there hand is old filer =
+      subst (λ (b : Affinity). IsNode layout b → HasFiler layout b (batches_in hand) (logical_parcels layout b old)
+      → MayRunOn v logical_lens (Deliver v) hand (logical_before old)) (sym at)
+      (λ node has. (is, (logical-has layout lawful (batches_in hand) v node old has).1)) there filer
+
+  pub deliver-runs : (v : ℕ) (a : Affinity) → a ≡ Logical v → IsNode layout a → (hand : Hand) → IsHandFor (Deliver v) hand → (old new : FilerLogical P)
+      → HasFiler layout a (batches_in hand) (logical_parcels layout a old) → (outcome : InnerOutcome) → UnlessDone outcome (new ≡ old)
+      → HasRunOn v logical_lens (Deliver v) hand (logical_before old) outcome (logical_after old new)
+      → InnerHasRun (Deliver v) hand layout a (logical_parcels layout a old) outcome (logical_parcels layout a new)
+  deliver-runs v a at there hand is old new filer outcome same ran =
+      subst (λ (b : Affinity). IsNode layout b → HasFiler layout b (batches_in hand) (logical_parcels layout b old)
+      → InnerHasRun (Deliver v) hand layout b (logical_parcels layout b old) outcome (logical_parcels layout b new)) (sym at)
+      (λ node has. deliver-ran v node hand old new has outcome same is ran) there filer
+
+  pub cull-runs : (v : ℕ) (a : Affinity) → a ≡ Logical v → IsNode layout a → (hand : Hand) → IsHandFor (Cull v) hand → (old new : FilerLogical P)
+      → HasFiler layout a (batches_in hand) (logical_parcels layout a old) → (outcome : InnerOutcome) → UnlessDone outcome (new ≡ old)
+      → HasRunOn v logical_lens (Cull v) hand (logical_before old) outcome (logical_after old new)
+      → InnerHasRun (Cull v) hand layout a (logical_parcels layout a old) outcome (logical_parcels layout a new)
+  cull-runs v a at there hand is old new filer outcome same ran =
+      subst (λ (b : Affinity). IsNode layout b → HasFiler layout b (batches_in hand) (logical_parcels layout b old)
+      → InnerHasRun (Cull v) hand layout b (logical_parcels layout b old) outcome (logical_parcels layout b new)) (sym at)
+      (λ node has. cull-ran v node hand old new has outcome same is ran) there filer
+
+-- ---- where no inner call is run
+
+-- on Vbn only a survey
+pub survey-hand : (call : InnerCall) (a : Affinity) → a ≡ inner_node call → kind_of a ≡ kinds.VolumeVbn → (hand : Hand) → IsHandFor call hand → hand ≡ Empty
+survey-hand (Survey v) a at kind hand is = is
+survey-hand (Fetch v r) a at kind hand is = absurd (let other : kinds.Range ≡ kinds.VolumeVbn = sym (ap kind_of at) ∙ kind in cc)
+survey-hand (Free v r) a at kind hand is = absurd (let other : kinds.Range ≡ kinds.VolumeVbn = sym (ap kind_of at) ∙ kind in cc)
+survey-hand (Deliver v) a at kind hand is = absurd (let other : kinds.VolumeLogical ≡ kinds.VolumeVbn = sym (ap kind_of at) ∙ kind in cc)
+survey-hand (Cull v) a at kind hand is = absurd (let other : kinds.VolumeLogical ≡ kinds.VolumeVbn = sym (ap kind_of at) ∙ kind in cc)
+
+pub vbn-runs : {P : Type 0} (layout : Layout) (lawful : fault_of layout ≡ None) (call : InnerCall) (a : Affinity) → a ≡ inner_node call
+    → kind_of a ≡ kinds.VolumeVbn → IsNode layout a → (hand : Hand) → IsHandFor call hand → (held : FilerVbn P) (outcome : InnerOutcome)
+    → ((v : ℕ) → HasRunOn v vbn_lens (Survey v) hand (vbn_set held) outcome (vbn_set held))
+    → InnerHasRun call hand layout a (vbn_parcels layout a held) outcome (vbn_parcels layout a held)
+vbn-runs layout lawful (Survey v) a at kind there hand is held outcome ran = survey-runs layout lawful v a at there hand is held outcome (ran v)
+vbn-runs layout lawful (Fetch v r) a at kind there hand is held outcome ran =
+    absurd (let other : kinds.Range ≡ kinds.VolumeVbn = sym (ap kind_of at) ∙ kind in cc)
+vbn-runs layout lawful (Free v r) a at kind there hand is held outcome ran =
+    absurd (let other : kinds.Range ≡ kinds.VolumeVbn = sym (ap kind_of at) ∙ kind in cc)
+vbn-runs layout lawful (Deliver v) a at kind there hand is held outcome ran =
+    absurd (let other : kinds.VolumeLogical ≡ kinds.VolumeVbn = sym (ap kind_of at) ∙ kind in cc)
+vbn-runs layout lawful (Cull v) a at kind there hand is held outcome ran =
+    absurd (let other : kinds.VolumeLogical ≡ kinds.VolumeVbn = sym (ap kind_of at) ∙ kind in cc)
+
+-- on a range only a fetch and what frees
+pub only-ranges : (call : calls.InnerCall) (a : Affinity) → a ≡ inner_node (inner_of call) → kind_of a ≡ kinds.Range
+    → ((volume : VolumeNumber) (range : ℕ) → call ≡ asked.Fetch volume range → ⊥) → ((volume : VolumeNumber) (range : ℕ) → call ≡ asked.Free volume range → ⊥)
+    → ⊥
+only-ranges (asked.Fetch volume range) a at kind fetch free = fetch volume range refl
+only-ranges (asked.Free volume range) a at kind fetch free = free volume range refl
+only-ranges (asked.Deliver volume) a at kind fetch free = let other : kinds.VolumeLogical ≡ kinds.Range = sym (ap kind_of at) ∙ kind in cc
+only-ranges (asked.Cull volume) a at kind fetch free = let other : kinds.VolumeLogical ≡ kinds.Range = sym (ap kind_of at) ∙ kind in cc
+only-ranges (asked.Survey volume) a at kind fetch free = let other : kinds.VolumeVbn ≡ kinds.Range = sym (ap kind_of at) ∙ kind in cc
+
+-- on Logical only a delivery and a cull
+pub only-logical : (call : calls.InnerCall) (a : Affinity) → a ≡ inner_node (inner_of call) → kind_of a ≡ kinds.VolumeLogical
+    → ((volume : VolumeNumber) → call ≡ asked.Deliver volume → ⊥) → ((volume : VolumeNumber) → call ≡ asked.Cull volume → ⊥) → ⊥
+only-logical (asked.Deliver volume) a at kind deliver cull = deliver volume refl
+only-logical (asked.Cull volume) a at kind deliver cull = cull volume refl
+only-logical (asked.Fetch volume range) a at kind deliver cull = let other : kinds.Range ≡ kinds.VolumeLogical = sym (ap kind_of at) ∙ kind in cc
+only-logical (asked.Free volume range) a at kind deliver cull = let other : kinds.Range ≡ kinds.VolumeLogical = sym (ap kind_of at) ∙ kind in cc
+only-logical (asked.Survey volume) a at kind deliver cull = let other : kinds.VolumeVbn ≡ kinds.VolumeLogical = sym (ap kind_of at) ∙ kind in cc
+
+-- an inner call is run on no node of another kind
+pub no-inner : (call : InnerCall) (a : Affinity) → a ≡ inner_node call → (kind : Kind) → kind_of a ≡ kind
+    → kind ≢ kinds.Range → kind ≢ kinds.VolumeVbn → kind ≢ kinds.VolumeLogical → ⊥
+no-inner (Fetch v r) a at kind of range vbn logical = range (sym of ∙ ap kind_of at)
+no-inner (Deliver v) a at kind of range vbn logical = logical (sym of ∙ ap kind_of at)
+no-inner (Cull v) a at kind of range vbn logical = logical (sym of ∙ ap kind_of at)
+no-inner (Free v r) a at kind of range vbn logical = range (sym of ∙ ap kind_of at)
+no-inner (Survey v) a at kind of range vbn logical = vbn (sym of ∙ ap kind_of at)

@@ -1,0 +1,63 @@
+use Rattle.std.proofs.Common.{sym, subst}
+use Rattle.affinity_tree.specs.Affinity.{affinity_of}
+use Rattle.affinity_tree.specs.Layout.{layout_of}
+use Rattle.parcel_sets.specs.Sets.{range_parcels}
+use Rattle.parcel_sets.specs.lemmas.Exactly.{range-exact}
+use Rattle.parcel_sets.specs.lemmas.Sorts.{range-kind}
+use Rattle.service.specs.Inner.{AsksForInner, InnerHasRun}
+use Rattle.service.specs.Jobs.{inner_of}
+use Rattle.service.specs.declared.job.InnerCall.{InnerCall}
+use Rattle.service.proofs.Handed.{fetch-runs, free-asks, free-runs, only-ranges}
+use Rattle.service.proofs.inner.RunInnerTaskParcelFilesParcelKinds.on_range.Goals as goal
+
+pub free_from-requires : goal.free_from-requires
+free_from-requires c =
+    let L = layout_of c.args.arg2.now in
+    let a = affinity_of c.args.arg3 in
+    let hand = c.args.self.hand in
+    let old = c.args.held.now in
+    let asks = subst (λ (k : InnerCall). AsksForInner (inner_of k) hand L a (range_parcels L a old)) c.in-Free.is c.requires.asks in (
+      c.in-Free.volume.0,
+      free-asks L c.args.arg2.now.lawful c.in-Free.volume.0 c.in-Free.range a asks.0 c.requires.node hand asks.1 old asks.2,
+    )
+
+pub unreachable-requires : goal.unreachable-requires
+unreachable-requires c =
+    let L = layout_of c.args.arg2.now in
+    let a = affinity_of c.args.arg3 in
+    only-ranges c.args.self.call a c.requires.asks.0 (range-kind L a c.args.held.now c.requires.node c.requires.exact)
+    c.in_default.not-Fetch c.in_default.not-Free
+
+pub returns-in-Fetch-clause-exact : goal.returns-in-Fetch-clause-exact
+returns-in-Fetch-clause-exact c =
+    range-exact (layout_of c.args.arg2.now) (affinity_of c.args.arg3) c.args.held.now c.fetch_into.new.held tt c.requires.exact
+
+pub returns-in-Fetch-clause-does : goal.returns-in-Fetch-clause-does
+returns-in-Fetch-clause-does c =
+    let L = layout_of c.args.arg2.now in
+    let a = affinity_of c.args.arg3 in
+    let hand = c.args.self.hand in
+    let old = c.args.held.now in
+    let new = c.fetch_into.new.held in
+    let outcome = c.fetch_into.result in
+    let asks = subst (λ (k : InnerCall). AsksForInner (inner_of k) hand L a (range_parcels L a old)) c.in-Fetch.is c.requires.asks in
+    subst (λ (k : InnerCall). InnerHasRun (inner_of k) hand L a (range_parcels L a old) outcome (range_parcels L a new)) (sym c.in-Fetch.is)
+    (fetch-runs L c.args.arg2.now.lawful c.in-Fetch.volume.0 c.in-Fetch.range a asks.0 c.requires.node hand asks.1 old new asks.2 outcome
+    c.fetch_into.ensures.unless c.fetch_into.ensures.runs)
+
+pub returns-in-Free-clause-exact : goal.returns-in-Free-clause-exact
+returns-in-Free-clause-exact c =
+    range-exact (layout_of c.args.arg2.now) (affinity_of c.args.arg3) c.args.held.now c.free_from.new.held tt c.requires.exact
+
+pub returns-in-Free-clause-does : goal.returns-in-Free-clause-does
+returns-in-Free-clause-does c =
+    let L = layout_of c.args.arg2.now in
+    let a = affinity_of c.args.arg3 in
+    let hand = c.args.self.hand in
+    let old = c.args.held.now in
+    let new = c.free_from.new.held in
+    let outcome = c.free_from.result in
+    let asks = subst (λ (k : InnerCall). AsksForInner (inner_of k) hand L a (range_parcels L a old)) c.in-Free.is c.requires.asks in
+    subst (λ (k : InnerCall). InnerHasRun (inner_of k) hand L a (range_parcels L a old) outcome (range_parcels L a new)) (sym c.in-Free.is)
+    (free-runs L c.args.arg2.now.lawful c.in-Free.volume.0 c.in-Free.range a asks.0 c.requires.node hand asks.1 old new asks.2 outcome
+    c.free_from.ensures.unless (c.free_from.ensures.runs c.in-Free.volume.0))

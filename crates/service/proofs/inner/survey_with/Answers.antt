@@ -1,0 +1,6 @@
+use Rattle.std.proofs.Common.{refl, sym, ap}
+use Rattle.held_state.specs.Jobs.{batches_in}
+use Rattle.service.proofs.inner.survey_with.Goals as goal
+
+pub returns-in-Ok : goal.returns-in-Ok
+returns-in-Ok c = λ v. (c.in-Ok.ensures v, (λ u other n. refl), ap batches_in (sym c.requires))

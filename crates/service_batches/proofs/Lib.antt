@@ -1,0 +1,3 @@
+mod Apart
+mod Counted
+mod Right
