@@ -24,7 +24,6 @@ use Rattle.engine_feed.specs.declared.state.ConnectionState.{ConnectionState}
 use Rattle.engine_feed.specs.declared.state.CallsState.{CallsState}
 use Rattle.engine_feed.specs.Codec.{reply_record}
 use Rattle.engine_feed.specs.lemmas.Codec.{reply_record_is}
-use Rattle.rpc_msg.specs.Offered.{IsOffered}
 use Rattle.engine_feed.specs.Offered.{reply_limit}
 use Rattle.engine_feed.specs.Seen.{connection_of, layout_in, waiting_of, finished_of, message_of, entry_at}
 use Rattle.engine_feed.specs.Words.{Finishes, Waits, HasHeard}
@@ -78,32 +77,32 @@ at-once calls calls' c c' origin call credential answer law h a f setup v k p =
 
 -- ---- the room of a reply
 
-room-offered : (volumes : ℕ) (call : types.Call) → IsOffered call → reply_room volumes call ≤ reply_limit
-room-offered volumes types.Null o = omega arith
-room-offered volumes (types.Getattr handle) o = omega arith
-room-offered volumes (types.Setattr handle set guard) o = omega arith
-room-offered volumes (types.Lookup directory name) o = omega arith
-room-offered volumes (types.Read handle offset count) o = omega arith
-room-offered volumes (types.Write handle offset count written) o = omega arith
-room-offered volumes (types.Create directory name mode) o = omega arith
-room-offered volumes (types.Mkdir directory name set) o = omega arith
-room-offered volumes (types.Remove directory name) o = omega arith
-room-offered volumes (types.Rmdir directory name) o = omega arith
-room-offered volumes (types.Rename from from_name to to_name) o = omega arith
-room-offered volumes (types.Readdir directory cookie verifier count) o = omega arith
-room-offered volumes (types.Commit handle) o = omega arith
-room-offered volumes call o = absurd o
+-- of a reply that tells of no volume
+room-bare : (call : types.Call) → reply_room 0 call ≤ reply_limit
+room-bare types.Null = omega arith
+room-bare (types.Getattr handle) = omega arith
+room-bare (types.Setattr handle set guard) = omega arith
+room-bare (types.Lookup directory name) = omega arith
+room-bare (types.Read handle offset count) = omega arith
+room-bare (types.Write handle offset count written) = omega arith
+room-bare (types.Create directory name mode) = omega arith
+room-bare (types.Mkdir directory name set) = omega arith
+room-bare (types.Remove directory name) = omega arith
+room-bare (types.Rmdir directory name) = omega arith
+room-bare (types.Rename from from_name to to_name) = omega arith
+room-bare (types.Readdir directory cookie verifier count) = omega arith
+room-bare (types.Fsstat handle) = omega arith
+room-bare (types.Commit handle) = omega arith
+room-bare types.Census = omega arith
+room-bare (types.Grow volume ranges) = omega arith
 
-pub room-small : (volumes n : ℕ) (call : types.Call) → IsOffered call → n ≡ reply_room volumes call → n ≤ reply_limit
-room-small volumes n call o e = let h = room-offered volumes call o in omega (arith, e, h)
-
-pub at-once-fits : (layout : trees.Layout) (volumes xid : ℕ) (call : types.Call) (answer : types.Answer) → IsOffered call
+pub at-once-fits : (layout : trees.Layout) (xid : ℕ) (call : types.Call) (answer : types.Answer)
     → answer ≡ answer_without_home layout call
-    → length (replies.reply_record xid (types.Success (answer_without_home layout call))) ≤ reply_room volumes call
+    → length (replies.reply_record xid (types.Success (answer_without_home layout call))) ≤ reply_room 0 call
     → length (reply_record xid (types.Success answer)) ≤ reply_limit
-at-once-fits layout volumes xid call answer o e h =
+at-once-fits layout xid call answer e h =
     let same : length (reply_record xid (types.Success answer)) ≡ length (replies.reply_record xid (types.Success (answer_without_home layout call))) =
     ap (λ (x : types.Answer). length (reply_record xid (types.Success x))) e
     ∙ ap (λ bs. length bs) (reply_record_is xid (types.Success (answer_without_home layout call))) in
-    let room = room-offered volumes call o in
+    let room = room-bare call in
     omega (arith, same, room, h)

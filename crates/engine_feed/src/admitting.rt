@@ -127,7 +127,7 @@ fn admit_call(
         None => {
             without_home_stays();
             replies_fit();
-            let reply = Reply::Success(answer_at_once(&call, &calls.layout));
+            let reply = Reply::Success(answer_at_once(connection.alloc, &call, &calls.layout));
             let request = Request::Call { call, credential };
             answer(connection, calls, origin, request, &reply);
         }

@@ -12,9 +12,10 @@ use crate::asked::OfferedCall;
 use affinity::named_by;
 use affinity_tree::Layout;
 use nfs_values::{Answer, Call, FileHandle, Status};
+use std::alloc::Global;
 
 /// What a call without an affinity is answered under a layout.
-pub(crate) fn answer_at_once(call: &OfferedCall, layout: &Layout) -> Answer
+pub(crate) fn answer_at_once(alloc: Global, call: &OfferedCall, layout: &Layout) -> Answer
     ensures { answer_of result ≡ answer_without_home (layout_of layout.now) (call_of call.now) }
 {
     match call.as_call() {
@@ -33,8 +34,10 @@ pub(crate) fn answer_at_once(call: &OfferedCall, layout: &Layout) -> Answer
             Answer::Rename(Err(fault))
         }
         Call::ReadDirectory { .. } => Answer::ReadDirectory(Err(Status::BadHandle)),
+        Call::FilesystemStatus { .. } => Answer::FilesystemStatus(Err(Status::BadHandle)),
         Call::Commit { .. } => Answer::Commit(Err(Status::BadHandle)),
-        _ => unreachable!(),
+        Call::Census => Answer::Census(Vec::new(alloc)),
+        Call::Grow { .. } => Answer::Grow(Err(Status::NoEntry)),
     }
 }
 

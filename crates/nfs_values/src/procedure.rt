@@ -96,8 +96,11 @@ impl Procedure {
                 | Procedure::RemoveDirectory
                 | Procedure::Rename
                 | Procedure::ReadDirectory
+                | Procedure::FilesystemStatus
                 | Procedure::Commit
                 | Procedure::AdminNull
+                | Procedure::Census
+                | Procedure::Grow
         )
     }
 

@@ -8,7 +8,7 @@ use Rattle.nfs_model.specs.World.{Heard, IsDecoded}
 use Rattle.rpc_msg.specs.Offered.{AsksOffered}
 use Rattle.nfs_values.specs.declared.procedure.Procedure.{Procedure}
 use Rattle.nfs_values.specs.declared.procedure.Procedure.TheVariants.{Null, GetAttributes, SetAttributes, Lookup, Read, Write, Create, MakeDirectory}
-use Rattle.nfs_values.specs.declared.procedure.Procedure.TheVariants.{Remove, RemoveDirectory, Rename, ReadDirectory, Commit, AdminNull}
+use Rattle.nfs_values.specs.declared.procedure.Procedure.TheVariants.{Remove, RemoveDirectory, Rename, ReadDirectory, FilesystemStatus, Commit, AdminNull, Census, Grow}
 use Rattle.nfs_values.specs.Procedure.{is_offered}
 use Rattle.nfs_types.specs.Arguments.{asked, arguments_shape, call_from}
 use Rattle.nfs_types.specs.Shapes.{◌&◌}
@@ -69,9 +69,11 @@ asks_offered Remove offered credential (Ok v) = tt
 asks_offered RemoveDirectory offered credential (Ok v) = tt
 asks_offered Rename offered credential (Ok v) = tt
 asks_offered ReadDirectory offered credential (Ok v) = tt
+asks_offered FilesystemStatus offered credential (Ok v) = tt
 asks_offered Commit offered credential (Ok v) = tt
 asks_offered AdminNull offered credential (Ok v) = tt
-asks_offered procedure offered credential (Ok v) = absurd cc
+asks_offered Census offered credential (Ok v) = tt
+asks_offered Grow offered credential (Ok v) = tt
 
 asked_offered : (procedure : Procedure) → is_offered procedure ≡ true → (credential : model.Credential) (bytes : List ℕ)
     → AsksOffered (asked_by credential (asked procedure bytes))

@@ -4,7 +4,7 @@ use Rattle.std.specs.List.{filter}
 use Rattle.std.proofs.lemmas.Bool.{eqb-true}
 use Rattle.nfs_values.specs.declared.procedure.Procedure.{Procedure}
 use Rattle.nfs_values.specs.declared.procedure.Procedure.TheVariants.{Null, GetAttributes, SetAttributes, Lookup, Read, Write, Create, MakeDirectory}
-use Rattle.nfs_values.specs.declared.procedure.Procedure.TheVariants.{Remove, RemoveDirectory, Rename, ReadDirectory, Commit, AdminNull}
+use Rattle.nfs_values.specs.declared.procedure.Procedure.TheVariants.{Remove, RemoveDirectory, Rename, ReadDirectory, FilesystemStatus, Commit, AdminNull, Census, Grow}
 use Rattle.nfs_values.specs.Procedure.{all_procedures, is_offered, numbers_of}
 use Rattle.rpc_msg.specs.Heads.{is_numbered, procedures}
 
@@ -71,9 +71,11 @@ find_again Remove s = refl
 find_again RemoveDirectory s = refl
 find_again Rename s = refl
 find_again ReadDirectory s = refl
+find_again FilesystemStatus s = refl
 find_again Commit s = refl
 find_again AdminNull s = refl
-find_again p s = absurd cc
+find_again Census s = refl
+find_again Grow s = refl
 
 pub some_numbered : (program number : ℕ) (p : Procedure) → numbers_of p ≡ (program, number) → is_offered p ≡ true
     → find (is_numbered program number) procedures ≡ Some p

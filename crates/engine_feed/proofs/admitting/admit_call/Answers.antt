@@ -13,7 +13,7 @@ use Rattle.engine_feed.proofs.admitting.admit_call.Goals as goal
 pub answer-requires-clause-short : goal.answer-requires-clause-short
 answer-requires-clause-short c =
     let layout = layout_in c.args.calls.now in
-    at-once-fits layout 0 c.args.origin.xid (call_of c.args.call) (answer_of c.answer_at_once.result) c.as_call.ensures.offered
+    at-once-fits layout c.args.origin.xid (call_of c.args.call) (answer_of c.answer_at_once.result)
     c.answer_at_once.ensures (c.replies_fit.ensures.at_once 0 layout (call_of c.args.call) c.args.origin.xid)
 
 pub returns-in-Some-clause-admitted : goal.returns-in-Some-clause-admitted
