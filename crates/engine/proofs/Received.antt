@@ -99,8 +99,10 @@ offered-run layout (calls.Remove target) node offered at = (tt, at)
 offered-run layout (calls.RemoveDirectory target) node offered at = (tt, at)
 offered-run layout (calls.Rename from to) node offered at = (tt, at)
 offered-run layout (calls.ReadDirectory directory cookie verifier count) node offered at = (tt, at)
+offered-run layout (calls.FilesystemStatus handle) node offered at = (tt, at)
 offered-run layout (calls.Commit handle) node offered at = (tt, at)
-offered-run layout call node offered at = absurd offered
+offered-run layout calls.Census node offered at = (tt, at)
+offered-run layout (calls.Grow volume more) node offered at = (tt, at)
 
 placed-more : (layout : Layout) (n : ℕ) (ms : List (Message Call)) → AllByRecursion (IsAdmitted layout) ms → AllByRecursion (IsKnown n) ms
     → AllByRecursion (IsAtHome layout) (map message_of ms) → AllByRecursion (IsPlaced layout n) ms
