@@ -1,5 +1,6 @@
 -- Blocks that are put down are nowhere else: what follows from the partition of their volume with their batch in a hand.
-use Rattle.std.proofs.Common.{◌≡◌, ℕ, zero, suc, ◌+◌, ◌*◌, ◌<◌, nat_lt, ◌≤◌, ◌||◌, Bool, true, false, List, [], ◌∷◌, length, refl, sym, ap, ◌∙◌, subst, arith, eq-eqb}
+use Rattle.std.proofs.Common.{◌≡◌, ℕ, zero, suc, ◌+◌, ◌*◌, ◌<◌, nat_lt, ◌≤◌, ◌||◌, Bool, true}
+use Rattle.std.proofs.Common.{false, List, [], ◌∷◌, length, refl, sym, ap, ◌∙◌, subst, arith, eq-eqb}
 use Rattle.std.specs.Prelude.{◌==◌, if◌then◌else◌, slice_index_or}
 use Rattle.std.proofs.lemmas.Bool.Decides.{nat_tests}
 use Rattle.std.proofs.lemmas.List.{get_or-set_same}
@@ -66,7 +67,8 @@ not-in-stock v blocks set h = all-apart (contains set.own.stock) blocks (λ n so
         ap (λ (b : Bool). times_listed n (if b then blocks else [])) (eq-eqb p.number v h.5) in
         let most = one-at-most (nat_lt n (range_blocks * ranges_used p.ranges)) in
         ap (λ (s : LogicalSet). contains s.own.stock n) (sym h.4)
-        ∙ not-both (contains p.logical.stock n) (times_listed n blocks) (one_if (nat_lt n (range_blocks * ranges_used p.ranges))) (omega (arith, once, weighed, mine)) most some
+        ∙ not-both (contains p.logical.stock n) (times_listed n blocks)
+        (one_if (nat_lt n (range_blocks * ranges_used p.ranges))) (omega (arith, once, weighed, mine)) most some
 
 -- ---- a dead one
 

@@ -30,7 +30,8 @@ fetch-left x less unused new left =
     subst (λ (y : RangeValue). FetchesHere x None y) (sym left) (λ v. fetch-refused v x.number less x unused)
 
 -- what is left of a range where a batch of it has come back
-pub free-done : (x : RangeValue) → x.number < most_ranges → (blocks : List ℕ) → 0 < length blocks → IsBatch (range_of blocks) blocks → range_of blocks ≡ x.number
+pub free-done : (x : RangeValue) → x.number < most_ranges → (blocks : List ℕ) → 0 < length blocks → IsBatch (range_of blocks) blocks
+    → range_of blocks ≡ x.number
     → (new : RangeValue) → new ≡ given blocks x → FreesHere blocks x new
 free-done x less blocks some batch of new left =
     subst (λ (y : RangeValue). FreesHere blocks x y) (sym left)
