@@ -1,0 +1,3 @@
+pub mod Space
+pub mod SpaceLaws
+pub mod lemmas

@@ -1,0 +1,2 @@
+-- Lemmas alone, which no reader has to believe: laws of these definitions, for proofs above.
+pub mod Space
