@@ -1,3 +1,4 @@
 pub mod Space
 pub mod SpaceLaws
+pub mod Census
 pub mod lemmas
