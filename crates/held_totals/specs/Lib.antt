@@ -1,4 +1,6 @@
+pub mod Running
 pub mod Space
 pub mod SpaceLaws
 pub mod Census
+pub mod CensusLaws
 pub mod lemmas

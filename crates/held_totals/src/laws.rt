@@ -1,9 +1,17 @@
 //! What follows from the definitions. The functions do nothing: their contracts are theorems.
 
 ghost use Rattle.held_totals.specs.SpaceLaws.{FsstatIsRight};
+ghost use Rattle.held_totals.specs.CensusLaws.{CensusIsRight, CensusMayStarve};
 
 /// On every sound volume with the parcels that are held, FSSTAT as it is told by what is under
 /// Volume is the serial server's, changes nothing, and all stays sound.
-pub fn fsstat_is_right()
+pub fn space_is_right()
     ensures in_volume { FsstatIsRight }
+{}
+
+/// Where all that is stored is sound, so is CENSUS as it is told by the counts of the volumes. It
+/// may find no memory.
+pub fn census_is_right()
+    ensures told { CensusIsRight }
+    ensures starves { CensusMayStarve }
 {}

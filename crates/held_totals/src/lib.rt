@@ -3,4 +3,4 @@
 
 mod laws;
 
-pub use laws::fsstat_is_right;
+pub use laws::{census_is_right, space_is_right};
