@@ -2,8 +2,8 @@
 use Rattle.std.proofs.Common.{◌≡◌, ℕ, ◌-◌, ◌*◌, List, Some, None, Option, refl, sym, ap, ◌∙◌}
 use Rattle.std.specs.Option.{option_map}
 use Rattle.std.specs.Cmp.{nat_cmp_total}
-use Rattle.std.specs.FinMap.{get, len, nat_cmp-IsAntisymmetric}
-use Rattle.nfs_model.specs.Types.{Space, Success, FsstatDone}
+use Rattle.std.specs.FinMap.{get, nat_cmp-IsAntisymmetric}
+use Rattle.nfs_model.specs.Types.{Success, FsstatDone}
 use Rattle.nfs_model.specs.Tree.{Affinity}
 use Rattle.nfs_model.specs.Server.{Node, VolumeState, block_size, most_inodes}
 use Rattle.nfs_model.specs.Parts.{range_blocks}
