@@ -1,0 +1,4 @@
+pub mod Running
+pub mod Growing
+pub mod Laws
+pub mod lemmas

@@ -1,0 +1,5 @@
+-- Lemmas alone, which no reader has to believe: laws of these definitions, for proofs above.
+pub mod Running
+pub mod Ranges
+pub mod Sets
+pub mod Grown
