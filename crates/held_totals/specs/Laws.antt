@@ -1,14 +1,10 @@
 -- What follows from the definitions.
-use Rattle.std.specs.Prelude.{◌≡◌, ℕ, ◌<◌, length, None}
-use Rattle.nfs_model.specs.Types.{Asked, Ask, Grow, Credential, Moment, Success}
-use Rattle.nfs_model.specs.Tree.{Layout, Affinity, Aggregate, aggregate_of}
-use Rattle.nfs_model.specs.Work.{Outcome, Replied}
-use Rattle.affinity_tree.specs.Fault.{fault_of}
-use Rattle.parcel_sets.specs.Sets.{aggregate_parcels, serial_parcels}
-use Rattle.held_state.specs.Deeds.{IsHomeOrAbove}
-use Rattle.held_state.specs.Lenses.{AggregateSet, aggregate_lens, serial_lens}
-use Rattle.held_state.specs.Running.{task_under, UnlessReplied, Runs}
-use Rattle.held_state.specs.Sets.{FilerAggregate, FilerSerial, aggregate_set, serial_set}
+use Rattle.std.specs.Prelude.{◌≡◌, ℕ, ◌<◌, length}
+use Rattle.nfs_model.specs.Types.{Ask, Grow, Credential, Moment, Success}
+use Rattle.nfs_model.specs.Tree.{Layout, Aggregate, aggregate_of}
+use Rattle.nfs_model.specs.Work.{Replied}
+use Rattle.held_state.specs.Lenses.{AggregateSet, aggregate_lens}
+use Rattle.held_state.specs.Running.{task_under}
 use Rattle.held_totals.specs.Running.{RunsOnAll}
 use Rattle.held_totals.specs.Growing.{grow_aggregate}
 

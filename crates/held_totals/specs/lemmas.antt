@@ -3,3 +3,4 @@ pub mod Running
 pub mod Ranges
 pub mod Sets
 pub mod Grown
+pub mod Grows

@@ -1,5 +1,5 @@
 -- A volume in which more ranges are in use: it is sound, calls see a greater total, and the new numbers are free.
-use Rattle.std.proofs.Common.{◌≡◌, ℕ, ◌+◌, ◌-◌, ◌*◌, ◌<◌, ◌≤◌, ◌||◌, Bool, true, false, List, [], length, refl, sym, ap, ◌∙◌, subst, arith, nat_lt}
+use Rattle.std.proofs.Common.{◌≡◌, ℕ, ◌+◌, ◌-◌, ◌*◌, ◌≤◌, ◌||◌, Bool, true, false, List, [], length, refl, sym, ap, ◌∙◌, subst, arith, nat_lt}
 use Rattle.std.specs.List.{range_with_len}
 use Rattle.std.specs.Ordering.{nat_cmp}
 use Rattle.std.specs.Cmp.{nat_cmp_total}
@@ -8,15 +8,15 @@ use Rattle.std.specs.FinSet.{FinSet, contains, union, from_list, contains-union,
 use Rattle.nfs_model.specs.Parts.{Hand, one_if, range_blocks, most_ranges}
 use Rattle.nfs_model.specs.Moves.{grown_by}
 use Rattle.depot_rule.specs.Sums.{total}
-use Rattle.volume_values.specs.Ranges.{RangeValue}
 use Rattle.held_state.specs.Contents.{VolumeContents}
 use Rattle.held_state.specs.Tree.{ranges_used, volume_of}
-use Rattle.held_state.specs.Partition.{free_in, parts_of, stored, times_in_stripe, times_in_hand}
+use Rattle.held_state.specs.WellFormed.{RangeFits, range_at}
+use Rattle.held_state.specs.Partition.{free_in, parts_of, stored, times_in_hand}
 use Rattle.held_state.specs.Sound.{IsSound}
 use Rattle.held_laws.specs.lemmas.Counted.{free-times}
 use Rattle.held_laws.specs.lemmas.OpeningRanges.{listed-once, same-below}
 use Rattle.held_totals.specs.Growing.{first_in_use}
-use Rattle.held_totals.specs.lemmas.Ranges.{AllFit, all-fit, each-fits, used-count, first-length, first-fit, times_free, more-free}
+use Rattle.held_totals.specs.lemmas.Ranges.{AllFit, all-here, each-here, used-count, first-length, first-fit, times_free, more-free}
 
 -- ---- truth values as counts
 
@@ -55,7 +55,7 @@ module _ (p : VolumeContents) (hands : List Hand) (made : ℕ) (sound : IsSound 
   after = record p { ranges = first_in_use (used + more) p.ranges }
 
   before-fit : AllFit used 0 p.ranges
-  before-fit = all-fit used 0 p.ranges (λ i less. sound.well_formed.ranges i less)
+  before-fit = all-here used p.ranges (λ i less. sound.well_formed.ranges i less)
 
   after-fit : AllFit (used + more) 0 after.ranges
   after-fit = first-fit used (used + more) 0 (used + more) p.ranges (omega arith) (omega arith) before-fit
@@ -92,7 +92,7 @@ module _ (p : VolumeContents) (hands : List Hand) (made : ℕ) (sound : IsSound 
           sixteen = long;
           some = (let some = well.some in let count = now-used in omega (arith, some, count));
           ranges = λ i less. subst (λ (u : ℕ). RangeFits u i (range_at after.ranges i)) (sym now-used)
-              (each-fits (used + more) 0 after.ranges after-fit i less);
+              (each-here (used + more) after.ranges after-fit i less);
         };
         young = record {
           fileids = (let y = sound.young.fileids in omega (arith, y));

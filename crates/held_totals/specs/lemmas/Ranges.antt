@@ -1,11 +1,10 @@
 -- The ranges of a volume in which more come into use: how many are in use then, and which numbers are free.
-use Rattle.std.proofs.Common.{◌≡◌, ◌≢◌, ℕ, zero, suc, ◌+◌, ◌*◌, ◌/◌, ◌<◌, ◌≤◌, Bool, true, false, List, [], ◌∷◌, length, refl, sym, ap, ◌∙◌, subst}
+use Rattle.std.proofs.Common.{◌≡◌, ℕ, zero, suc, ◌+◌, ◌*◌, ◌/◌, ◌<◌, ◌≤◌, Bool, true, false, List, [], ◌∷◌, length, refl, sym, ap, ◌∙◌, subst}
 use Rattle.std.proofs.Common.{arith, nat_lt, nat_eq, ⊎_elim}
 use Rattle.std.specs.Prelude.{if◌then◌else◌}
 use Rattle.std.proofs.lemmas.Bool.{cases_lt, lt-ltb, le-ltb}
 use Rattle.std.specs.List.{list_any}
 use Rattle.std.specs.Ordering.{nat_cmp}
-use Rattle.std.specs.FinSet as sets
 use Rattle.std.specs.FinSet.{contains, from_list, contains-from_list_nat, contains-empty}
 use Rattle.nfs_model.specs.Parts.{one_if, range_blocks}
 use Rattle.depot_rule.specs.Sums.{total}
@@ -21,7 +20,7 @@ abbrev pub AllFit : ℕ → ℕ → List RangeValue → Type 0
 AllFit u k [] = Unit {0}
 AllFit u k (r ∷ ranges) = RangeFits u k r × AllFit u (k + 1) ranges
 
-pub all-fit : (u k : ℕ) (ranges : List RangeValue) → ((i : ℕ) → i < length ranges → RangeFits u (k + i) (range_at ranges i)) → AllFit u k ranges
+all-fit : (u k : ℕ) (ranges : List RangeValue) → ((i : ℕ) → i < length ranges → RangeFits u (k + i) (range_at ranges i)) → AllFit u k ranges
 all-fit u k [] h = tt
 all-fit u k (r ∷ ranges) h = (
   subst (λ (m : ℕ). RangeFits u m r) (let same : k + 0 ≡ k = omega arith in same) (h 0 (omega arith)),
@@ -29,12 +28,21 @@ all-fit u k (r ∷ ranges) h = (
       subst (λ (m : ℕ). RangeFits u m (range_at ranges i)) (let same : k + suc i ≡ k + 1 + i = omega arith in same) (h (suc i) (omega arith))),
 )
 
-pub each-fits : (u k : ℕ) (ranges : List RangeValue) → AllFit u k ranges → (i : ℕ) → i < length ranges → RangeFits u (k + i) (range_at ranges i)
+each-fits : (u k : ℕ) (ranges : List RangeValue) → AllFit u k ranges → (i : ℕ) → i < length ranges → RangeFits u (k + i) (range_at ranges i)
 each-fits u k [] fit i less = absurd (omega arith)
 each-fits u k (r ∷ ranges) fit zero less = subst (λ (m : ℕ). RangeFits u m r) (let same : k ≡ k + 0 = omega arith in same) fit.0
 each-fits u k (r ∷ ranges) fit (suc i) less =
     subst (λ (m : ℕ). RangeFits u m (range_at ranges i)) (let same : k + 1 + i ≡ k + suc i = omega arith in same)
     (each-fits u (k + 1) ranges fit.1 i (omega arith))
+
+-- all ranges of a volume, the first n of which are in use
+pub all-here : (u : ℕ) (ranges : List RangeValue) → ((i : ℕ) → i < length ranges → RangeFits u i (range_at ranges i)) → AllFit u 0 ranges
+all-here u ranges h = all-fit u 0 ranges (λ i less.
+    subst (λ (m : ℕ). RangeFits u m (range_at ranges i)) (let same : i ≡ 0 + i = omega arith in same) (h i less))
+
+pub each-here : (u : ℕ) (ranges : List RangeValue) → AllFit u 0 ranges → (i : ℕ) → i < length ranges → RangeFits u i (range_at ranges i)
+each-here u ranges fit i less =
+    subst (λ (m : ℕ). RangeFits u m (range_at ranges i)) (let same : 0 + i ≡ i = omega arith in same) (each-fits u 0 ranges fit i less)
 
 -- where none of them is in use, it doesn't matter below which number they would be
 unused-fit : (u w k : ℕ) (ranges : List RangeValue) → u ≤ k → w ≤ k → AllFit u k ranges → AllFit w k ranges

@@ -1,12 +1,11 @@
 -- From what a handler promises of a task on all that is stored to what a run of it comes to by parcels.
-use Rattle.std.proofs.Common.{◌≡◌, ℕ, ◌<◌, true, false, [], length, Option, Some, None, refl, sym, ap, ◌∙◌, subst}
-use Rattle.std.specs.Prelude.{IsTrue, slice_get}
-use Rattle.nfs_model.specs.Types.{Asked, Ask, Grow, Credential, Moment, Reply, SystemError}
-use Rattle.nfs_model.specs.Tree.{Layout, VolumeLayout, Affinity, Serial, Aggregate, path, begins, aggregate_in, aggregate_of}
+use Rattle.std.proofs.Common.{◌≡◌, ℕ, ◌<◌, true, false, length, Option, Some, None, refl, sym, ap, ◌∙◌, subst}
+use Rattle.std.specs.Prelude.{IsTrue}
+use Rattle.nfs_model.specs.Types.{Asked, Ask, Grow, Credential, Moment, SystemError}
+use Rattle.nfs_model.specs.Tree.{Layout, VolumeLayout, Affinity, Serial, Aggregate, path, aggregate_in, aggregate_of}
 use Rattle.nfs_model.specs.Home.{grow_home}
 use Rattle.nfs_model.specs.Work.{Outcome, Replied, Starved, Moved}
 use Rattle.affinity_tree.specs.Fault.{fault_of}
-use Rattle.affinity_tree.specs.Tree.{covers}
 use Rattle.affinity_tree.specs.Numbers.{number_of, parents}
 use Rattle.affinity_tree.specs.lemmas.Ways.{begins-self}
 use Rattle.parcel_sets.specs.Sets.{aggregate_parcels, serial_parcels}

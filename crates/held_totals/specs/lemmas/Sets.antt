@@ -1,5 +1,5 @@
 -- What is held under an Aggregate put back, as it was or with one volume changed.
-use Rattle.std.proofs.Common.{◌≡◌, ℕ, zero, suc, ◌==◌, Bool, true, false, List, [], ◌∷◌, length, map, Option, Some, refl, sym, ap, ◌∙◌, cond, eq-eqb}
+use Rattle.std.proofs.Common.{◌≡◌, ℕ, zero, suc, ◌==◌, Bool, true, false, List, [], ◌∷◌, map, Some, None, refl, ap, ◌∙◌, eq-eqb}
 use Rattle.std.specs.Prelude.{slice_get, slice_set, slice_index_or, if◌then◌else◌}
 use Rattle.held_state.specs.Contents.{VolumeContents, FilerContents}
 use Rattle.held_state.specs.Lenses.{VolumeSet, volume_lens, set_on, put_if, put_each, aggregate_lens}
@@ -16,7 +16,7 @@ module _ (a : ℕ) where
   put-back [] = refl
   put-back (p ∷ ps) = λ j. put-own p j ∷ put-back ps j
 
-  put-one : (ps : List VolumeContents) (v : ℕ) (p : VolumeContents) (set : VolumeSet) → slice_get ps v ≡ Some p
+  pub put-one : (ps : List VolumeContents) (v : ℕ) (p : VolumeContents) (set : VolumeSet) → slice_get ps v ≡ Some p
       → put_each (slice_set (map (set_on a) ps) v (Some set)) ps ≡ slice_set ps v (volume_lens.put set p)
   put-one [] v p set there = absurd cc
   put-one (q ∷ ps) zero p set there =
@@ -24,7 +24,7 @@ module _ (a : ℕ) where
   put-one (q ∷ ps) (suc v) p set there = λ j. put-own q j ∷ put-one ps v p set there j
 
   -- a volume that is on it is held
-  set-there : (ps : List VolumeContents) (v : ℕ) (p : VolumeContents) → slice_get ps v ≡ Some p → p.aggregate ≡ a
+  pub set-there : (ps : List VolumeContents) (v : ℕ) (p : VolumeContents) → slice_get ps v ≡ Some p → p.aggregate ≡ a
       → slice_get (map (set_on a) ps) v ≡ Some (Some (volume_lens.of p))
   set-there [] v p there on = absurd cc
   set-there (q ∷ ps) zero p there on =
