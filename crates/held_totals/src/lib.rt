@@ -1,6 +1,7 @@
-//! What FSSTAT, and CENSUS of the admin program, come to by the parcels under their homes.
+//! What calls come to that are on more than what is under one Volume Logical: on Volume, on an
+//! Aggregate, or on all that is stored.
 #![tactic(auto)]
 
 mod laws;
 
-pub use laws::{census_is_right, space_is_right};
+pub use laws::{census_is_right, growing_calls_are_right, space_is_right};
