@@ -1,11 +1,12 @@
 -- Ranges in use, counted one place after another.
-use Rattle.std.proofs.Common.{◌≡◌, ◌+◌, ◌<◌, ◌≤◌, ℕ, zero, suc, List, [], ◌∷◌, length, Option, refl, sym, ap, ◌∙◌, arith}
+use Rattle.std.proofs.Common.{◌≡◌, ◌+◌, ◌<◌, ◌≤◌, ℕ, suc, List, length, Option, sym, ap, ◌∙◌, arith}
 use Rattle.std.proofs.Math.Nat.{zero-add}
 use Rattle.std.specs.Prelude.{slice_index_or, if◌then◌else◌}
 use Rattle.volume_values.specs.Ranges.{RangeValue}
 use Rattle.held_state.specs.Contents.{each}
 use Rattle.held_state.specs.Sets.{FilerRange, range_value, placed}
 use Rattle.held_state.specs.Tree.{ranges_used}
+use Rattle.volume_counts.specs.lemmas.Places.{placed-index}
 
 module _ (f : ℕ → RangeValue) (all : ℕ) where
   -- of the ranges so many are in use before one, and all with those from it on
@@ -23,11 +24,6 @@ used-first f = (
 
 -- one place more
 module _ {P : Type 0} (places : List (Option (FilerRange P))) where
-  at-found : (xs : List (Option (FilerRange P))) (i : ℕ) (d : Option (FilerRange P)) → i < length xs → slice_index_or xs i d ≡ placed xs i
-  at-found [] i d less = absurd (omega arith)
-  at-found (x ∷ xs) zero d less = refl
-  at-found (x ∷ xs) (suc i) d less = at-found xs i d (omega arith)
-
   abbrev value_at : ℕ → RangeValue
   value_at r = range_value (placed places r)
 
@@ -35,7 +31,7 @@ module _ {P : Type 0} (places : List (Option (FilerRange P))) where
       → here ≡ (if (range_value (slice_index_or places at d)).is_used then 1 else 0) → here ≤ 1 → UsedSoFar value_at all (at + 1) (used + here)
   used-more all at less d used here sofar is few =
       let same : here ≡ (if (value_at at).is_used then 1 else 0) =
-      is ∙ ap (λ (place : Option (FilerRange P)). if (range_value place).is_used then 1 else 0) (at-found places at d less) in
+      is ∙ ap (λ (place : Option (FilerRange P)). if (range_value place).is_used then 1 else 0) (placed-index places at d less) in
       (let most = sofar.0 in omega (arith, most, few), λ m rest.
       let from = sofar.1 (suc m) (omega (arith, rest)) in
       omega (arith, from, same))

@@ -1,0 +1,2 @@
+pub mod Space
+pub mod Census

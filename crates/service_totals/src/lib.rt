@@ -1,0 +1,9 @@
+//! Calls on what is under a Volume, an Aggregate or Serial, on the parcels that they hold: FSSTAT,
+//! and CENSUS of the admin program.
+#![tactic(auto)]
+
+mod census;
+mod space;
+
+pub use census::census;
+pub use space::space;
