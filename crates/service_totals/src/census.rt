@@ -84,7 +84,7 @@ pub(crate) fn volume_count(held: &VolumeHeld<Files>, volume: VolumeNumber) -> Vo
 {
     VolumeCount {
         volume,
-        total: RANGE_BLOCKS * ranges_used(&held.vbn) as u64,
+        total: RANGE_BLOCKS * u64::from(ranges_used(&held.vbn)),
         used: held.logical.own.get().inodes.used(),
     }
 }

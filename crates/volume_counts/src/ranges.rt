@@ -8,8 +8,8 @@ use parcel_sets::{RangeHeld, VbnHeld};
 use parcels::Files;
 
 /// How many ranges of a volume are in use, at most 16.
-pub fn ranges_used(held: &VbnHeld<Files>) -> usize
-    ensures value { result ≡ ranges_used (vbn_set held.now) }
+pub fn ranges_used(held: &VbnHeld<Files>) -> u32
+    ensures used { result ≡ ranges_used (vbn_set held.now) }
     ensures few { result ≤ 16 }
 {
     let mut used = 0;
@@ -20,12 +20,12 @@ pub fn ranges_used(held: &VbnHeld<Files>) -> usize
 }
 
 /// One where the range in a place is in use, else none.
-fn used_in(place: &Option<RangeHeld<Files>>) -> usize
+fn used_in(place: &Option<RangeHeld<Files>>) -> u32
     ensures value { result ≡ (if (range_value place.now).is_used then 1 else 0) }
     ensures few { result ≤ 1 }
 {
     match place {
-        Some(range) => usize::from(range.own.get().is_used()),
+        Some(range) => u32::from(range.own.get().is_used()),
         None => 0,
     }
 }

@@ -11,7 +11,7 @@ loop-range-preserved c =
     (let less = c.loop-range-test.true in omega arith) _ c.loop-range.used c.used_in-used.result c.loop-range.invariant
     c.used_in-used.ensures.value c.used_in-used.ensures.few
 
-pub returns-clause-value : goal.returns-clause-value
-returns-clause-value c =
+pub returns-clause-used : goal.returns-clause-used
+returns-clause-used c =
     used-all (λ r. range_value (placed c.args.held.now.ranges.at r)) (ranges_used (vbn_set c.args.held.now)) c.loop-range.range c.loop-range.used
     c.loop-range.invariant (let past = c.loop-range-test.false in omega arith) (search rules)
