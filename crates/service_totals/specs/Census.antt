@@ -1,7 +1,7 @@
 -- What CENSUS of the admin program promises, on all that is stored (our profile).
 use Rattle.std.specs.Prelude.{Result, Ok, Err}
+use Rattle.std.specs.Global.{Vec}
 use Rattle.std.specs.declared.alloc.AllocError.{AllocError}
-use Rattle.std.specs.Vec.{Vec}
 use Rattle.nfs_model.specs.Types.{Credential, Moment, Success}
 use Rattle.nfs_model.specs.Tree.{Layout}
 use Rattle.nfs_model.specs.Work.{Outcome, Replied, Starved}

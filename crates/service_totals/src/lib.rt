@@ -2,8 +2,6 @@
 //! and CENSUS of the admin program.
 #![tactic(auto)]
 
-mod census;
-mod space;
+mod counting;
 
-pub use census::census;
-pub use space::space;
+pub use counting::census;
