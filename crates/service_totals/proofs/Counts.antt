@@ -2,6 +2,7 @@
 use Rattle.std.proofs.Common.{◌≡◌, ℕ, zero, suc, ◌+◌, List, [], ◌∷◌, ◌++◌, length, map, Result, Ok, Err, sym, ap, ◌∙◌, subst, arith}
 use Rattle.std.proofs.lemmas.List.{map-append}
 use Rattle.std.specs.Global.{Vec}
+use Rattle.std.specs.Result.{IsErr}
 use Rattle.std.specs.declared.alloc.AllocError.{AllocError}
 use Rattle.nfs_model.specs.Types as types
 use Rattle.nfs_model.specs.Types.{Answer, CensusDone, Success}
@@ -57,5 +58,6 @@ takes-counts layout c counts is credential moment =
     subst (λ (a : Answer). RunsOnAll layout serial_lens (census_task credential moment) c (Replied (Success a)) c) (sym (ap CensusDone is))
     (census-right layout credential moment c)
 
-pub takes-none : (layout : Layout) (c : FilerContents) (e : AllocError) → TakesCensus layout c (Err e)
-takes-none layout c e credential moment = census-starves layout credential moment c
+pub takes-none : (layout : Layout) (c : FilerContents) (r : Result (Vec VolumeCount) AllocError) → IsErr r → TakesCensus layout c r
+takes-none layout c (Ok counts) failed credential moment = absurd cc
+takes-none layout c (Err e) failed credential moment = census-starves layout credential moment c
