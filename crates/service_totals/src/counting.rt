@@ -44,13 +44,12 @@ pub fn census(
 }
 
 /// The blocks of a volume that there is.
+#[tactic(auto, using(affinity_tree::specs::lemmas::Lawful::few_aggregates, affinity_tree::specs::lemmas::Lawful::few_volumes))]
 fn count_at(layout: &Layout, held: &SerialHeld<Files>, volume: u32) -> VolumeCount
     requires there { volume < length (layout_of layout.now).volumes }
     ensures { let L = layout_of layout.now in count_of result ≡ count_in volume
         (volume_placed L (placed held.now.aggregates.at (aggregate_of L volume)) volume) }
 {
-    let _aggregates = layout.aggregate_count();
-    let _volumes = layout.volume_count();
     let aggregate = layout.aggregate_of(volume);
     count_on(&held.aggregates.at[aggregate as usize], volume)
 }

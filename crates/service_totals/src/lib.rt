@@ -3,5 +3,7 @@
 #![tactic(auto)]
 
 mod counting;
+mod filesystem;
 
 pub use counting::census;
+pub use filesystem::space;
