@@ -10,7 +10,7 @@ use Rattle.nfs_model.specs.Tree.{Layout, aggregate_of}
 use Rattle.nfs_model.specs.Work.{Replied}
 use Rattle.nfs_values.specs.Answer.{count_of}
 use Rattle.nfs_values.specs.declared.answer.VolumeCount.{VolumeCount}
-use Rattle.held_state.specs.Contents.{VolumeContents, FilerContents, each}
+use Rattle.held_state.specs.Contents.{FilerContents, each}
 use Rattle.held_state.specs.Lenses.{serial_lens}
 use Rattle.held_state.specs.Sets.{FilerSerial, placed, volume_with, volume_placed, serial_set}
 use Rattle.held_laws.specs.lemmas.Each.{each-map}

@@ -62,7 +62,11 @@ fn count_on(place: &Option<AggrHeld<Files>>, volume: u32) -> VolumeCount
 {
     match place {
         Some(aggregate) => count_placed(&aggregate.volumes.at[volume as usize], volume),
-        None => VolumeCount { volume: VolumeNumber(volume), total: 0, used: 0 },
+        None => VolumeCount {
+            volume: VolumeNumber(volume),
+            total: 0,
+            used: 0,
+        },
     }
 }
 
@@ -72,7 +76,11 @@ fn count_placed(place: &Option<VolumeHeld<Files>>, volume: u32) -> VolumeCount
 {
     match place {
         Some(held) => volume_count(held, VolumeNumber(volume)),
-        None => VolumeCount { volume: VolumeNumber(volume), total: 0, used: 0 },
+        None => VolumeCount {
+            volume: VolumeNumber(volume),
+            total: 0,
+            used: 0,
+        },
     }
 }
 

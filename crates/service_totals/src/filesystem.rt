@@ -7,7 +7,7 @@ ghost use Rattle.held_state.specs.Sets.{volume_before};
 ghost use Rattle.service_totals.specs.Space.{TellsSpace};
 
 use crate::counting::volume_count;
-use nfs_values::{FilesystemStatusResults, Fileid, Status, VolumeNumber};
+use nfs_values::{Fileid, FilesystemStatusResults, Status, VolumeNumber};
 use parcel_sets::VolumeHeld;
 use parcels::Files;
 use service_names::{latest_touch, shown};

@@ -31,7 +31,9 @@ module _ {P : Type 0} (places : List (Option (FilerRange P))) where
       → here ≡ (if (range_value (slice_index_or places at d)).is_used then 1 else 0) → here ≤ 1 → UsedSoFar value_at all (at + 1) (used + here)
   used-more all at less d used here sofar is few =
       let same : here ≡ (if (value_at at).is_used then 1 else 0) =
-      is ∙ ap (λ (place : Option (FilerRange P)). if (range_value place).is_used then 1 else 0) (placed-index places at d less) in
-      (let most = sofar.0 in omega (arith, most, few), λ m rest.
-      let from = sofar.1 (suc m) (omega (arith, rest)) in
-      omega (arith, from, same))
+      is ∙ ap (λ (place : Option (FilerRange P)). if (range_value place).is_used then 1 else 0) (placed-index places at d less) in (
+        let most = sofar.0 in omega (arith, most, few),
+        λ m rest.
+            let from = sofar.1 (suc m) (omega (arith, rest)) in
+            omega (arith, from, same),
+      )
