@@ -9,6 +9,7 @@ use Rattle.nfs_model.specs.Serial.Getattr.{getattr}
 use Rattle.nfs_model.specs.Serial.Setattr.{setattr}
 use Rattle.nfs_model.specs.Serial.Commit.{commit}
 use Rattle.nfs_model.specs.Serial.Create.{create}
+use Rattle.nfs_model.specs.Serial.Fsstat.{fsstat}
 use Rattle.nfs_model.specs.Serial.Lookup.{lookup}
 use Rattle.nfs_model.specs.Serial.Mkdir.{mkdir}
 use Rattle.nfs_model.specs.Serial.Read.{read}
@@ -25,7 +26,7 @@ use Rattle.nfs_values.specs.Call.{call_of}
 use Rattle.nfs_values.specs.Reply.{reply_of}
 use Rattle.nfs_values.specs.declared.call.Call.{Call}
 use Rattle.nfs_values.specs.declared.call.Call.TheVariants.{GetAttributes, SetAttributes, Lookup, Read, Write, Create, MakeDirectory}
-use Rattle.nfs_values.specs.declared.call.Call.TheVariants.{Remove, RemoveDirectory, Rename, ReadDirectory, Commit}
+use Rattle.nfs_values.specs.declared.call.Call.TheVariants.{Remove, RemoveDirectory, Rename, ReadDirectory, FilesystemStatus, Commit, Census}
 use Rattle.volume_values.specs.Stripes.{StripeValue}
 use Rattle.held_state.specs.Calls.{VolumeCall, LieIn, handle_in}
 use Rattle.held_state.specs.Parcels.{FilerParcel}
@@ -42,7 +43,7 @@ outcome_of (Moved affinity) = works.Moved (affinity_of affinity)
 
 -- ---- what is run
 
--- The calls that are run so far: all of names and attributes, READ, WRITE, and COMMIT.
+-- The calls that are run so far: all of names and attributes, READ, WRITE, COMMIT, FSSTAT, and CENSUS.
 abbrev pub IsRun : Call → Type 0
 IsRun (GetAttributes handle) = Unit {0}
 IsRun (SetAttributes handle set guard) = Unit {0}
@@ -55,10 +56,22 @@ IsRun (Remove target) = Unit {0}
 IsRun (RemoveDirectory target) = Unit {0}
 IsRun (Rename from to) = Unit {0}
 IsRun (ReadDirectory directory cookie verifier count) = Unit {0}
+IsRun (FilesystemStatus handle) = Unit {0}
 IsRun (Commit handle) = Unit {0}
+IsRun Census = Unit {0}
 IsRun call = ⊥
 
--- those of them that change nothing
+-- those of them that are on what a handle names
+abbrev pub IsOnHandle : Call → Type 0
+IsOnHandle Census = ⊥
+IsOnHandle call = IsRun call
+
+-- those of them that are run under Logical
+abbrev pub IsInLogical : Call → Type 0
+IsInLogical (FilesystemStatus handle) = ⊥
+IsInLogical call = IsOnHandle call
+
+-- of these, those that change nothing
 abbrev pub is_told : Call → Bool
 is_told (GetAttributes handle) = true
 is_told (Lookup target) = true
@@ -92,6 +105,7 @@ procedure (types.Remove directory name) other credential moment = on_name name m
 procedure (types.Rmdir directory name) other credential moment = on_name name moment rmdir
 procedure (types.Rename from from_name to to_name) other credential moment = λ volume fileid. rename from_name to_name moment volume fileid other
 procedure (types.Readdir directory cookie verifier count) other credential moment = readdir cookie verifier count
+procedure (types.Fsstat handle) other credential moment = fsstat
 procedure (types.Commit handle) other credential moment = commit
 procedure call other credential moment = λ volume fileid. Fails Stale
 

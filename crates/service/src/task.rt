@@ -5,6 +5,7 @@ ghost use Rattle.nfs_model.specs.Tree as trees;
 ghost use Rattle.affinity_tree.specs.Affinity.{affinity_of, kind_of};
 ghost use Rattle.affinity_tree.specs.declared.affinity.Kind.TheVariants as kinds;
 
+use crate::in_serial::run_on_serial;
 use crate::in_stripe::run_on_stripe;
 use crate::in_volume::run_on_volume;
 use crate::outcome::Outcome;
@@ -82,8 +83,13 @@ impl<'a> Task<Parcel<Files>, ParcelKinds> for Run<'a> {
         unreachable!()
     }
 
-    fn on_serial(self, _: &Layout, _: Affinity, _: &mut SerialHeld<Files>) -> Outcome {
-        unreachable!()
+    fn on_serial(
+        self,
+        layout: &Layout,
+        affinity: Affinity,
+        held: &mut SerialHeld<Files>,
+    ) -> Outcome {
+        run_on_serial(self, layout, held)
     }
 }
 

@@ -2,10 +2,10 @@
 use Rattle.std.proofs.Common.{◌≡◌, ◌≢◌, ℕ, ◌+◌, ◌-◌, ◌/◌, ◌%◌, ◌<◌, Bool, true, false, Option, Some, None, refl, sym, ap, ◌∙◌}
 use Rattle.std.proofs.Common.{subst, inl, inr, ◌⊎◌, ⊎_elim, arith}
 use Rattle.std.proofs.lemmas.Bool.{eqb-true}
-use Rattle.std.specs.Prelude.{◌==◌, ◌||◌, min, if◌then◌else◌}
-use Rattle.nfs_model.specs.Tree.{Layout, Affinity, Volume, Logical, Stripe, stripes_of}
+use Rattle.std.specs.Prelude.{◌==◌, ◌||◌, List, min, is_some, if◌then◌else◌}
+use Rattle.nfs_model.specs.Tree.{Layout, Affinity, Serial, Volume, Logical, Stripe, stripes_of}
 use Rattle.nfs_model.specs.Server.{Named, most_bytes}
-use Rattle.nfs_model.specs.Home.{home, logical_home, bytes_home, rename_home, named_by, span_bytes, stripe_of_span}
+use Rattle.nfs_model.specs.Home.{home, logical_home, volume_home, bytes_home, rename_home, named_by, span_bytes, stripe_of_span}
 use Rattle.nfs_model.specs.Work.{volume_above}
 use Rattle.nfs_values.specs.Call.{call_of}
 use Rattle.nfs_values.specs.declared.call.Call.{Call}
@@ -16,7 +16,7 @@ use Rattle.affinity_tree.specs.declared.affinity.Kind.TheVariants as kinds
 use Rattle.parcel_sets.specs.Sets.{volume_of}
 use Rattle.held_state.specs.Calls.{LieIn, handle_in}
 use Rattle.held_data.specs.lemmas.Homes.{home-lies}
-use Rattle.service.specs.Running.{IsRun, IsRunAt, RunsAbove, BytesLieIn, fileid_in}
+use Rattle.service.specs.Running.{IsRun, IsOnHandle, IsInLogical, IsRunAt, RunsAbove, BytesLieIn, fileid_in}
 
 -- what its handle names, the first of RENAME's: a fileid of the node's volume; and what the node is
 pub record IsNodeOf (named : Option Named) (a : Affinity) : Type 0 where
@@ -39,6 +39,10 @@ of-volume n a at = subst (IsNodeOf (Some n)) at (record { names = refl; above = 
 pub at-logical : (named : Option Named) (a : Affinity) → logical_home named ≡ Some a → IsNodeOf named a
 at-logical None a e = absurd cc
 at-logical (Some n) a e = of-logical n a cc
+
+at-volume : (named : Option Named) (a : Affinity) → volume_home named ≡ Some a → IsNodeOf named a
+at-volume None a e = absurd cc
+at-volume (Some n) a e = of-volume n a cc
 
 -- of bytes
 at-bytes : (layout : Layout) (named : Option Named) (offset n : ℕ) (a : Affinity) → bytes_home layout named offset n ≡ Some a → IsNodeOf named a
@@ -69,27 +73,61 @@ at-above None a above = absurd above
 at-above (Some n) a above =
     ⊎_elim (λ (e : a ≡ Logical n.volume). of-logical n a (sym e)) (λ (e : a ≡ Volume n.volume). of-volume n a (sym e)) above
 
-pub run-home : (layout : Layout) (call : Call) (a : Affinity) → IsRunAt layout call a → IsNodeOf (named_by layout (handle_in (call_of call))) a
-run-home layout (calls.GetAttributes handle) a at = at-logical (named_by layout handle) a at.1
-run-home layout (calls.SetAttributes handle set guard) a at = at-logical (named_by layout handle) a at.1
-run-home layout (calls.Lookup target) a at = at-logical (named_by layout target.directory) a at.1
-run-home layout (calls.Read handle offset count) a at = at-bytes layout (named_by layout handle) offset (min count most_bytes) a at.1
-run-home layout (calls.Write handle offset count bytes) a at =
+-- a WRITE, at its home or above it
+pub write-home : (layout : Layout) (handle : List ℕ) (offset count : ℕ) (bytes : _) (a : Affinity) → IsRunAt layout (calls.Write handle offset count bytes) a
+    → IsNodeOf (named_by layout handle) a
+write-home layout handle offset count bytes a at =
     let named = named_by layout handle in
     ⊎_elim (λ (e : bytes_home layout named offset (min count most_bytes) ≡ Some a). at-bytes layout named offset (min count most_bytes) a e)
     (λ (above : RunsAbove named a). at-above named a above) at.1
-run-home layout (calls.Create target mode) a at = at-logical (named_by layout target.directory) a at.1
-run-home layout (calls.MakeDirectory target set) a at = at-logical (named_by layout target.directory) a at.1
-run-home layout (calls.Remove target) a at = at-logical (named_by layout target.directory) a at.1
-run-home layout (calls.RemoveDirectory target) a at = at-logical (named_by layout target.directory) a at.1
-run-home layout (calls.Rename from to) a at = at-both (named_by layout from.directory) (named_by layout to.directory) a at.1
-run-home layout (calls.ReadDirectory directory cookie verifier count) a at = at-logical (named_by layout directory) a at.1
-run-home layout (calls.Commit handle) a at = at-logical (named_by layout handle) a at.1
-run-home layout call a at = absurd at.0
+
+-- it is run on what its handle names, at a node of the volume
+abbrev pub IsInVolume : Layout → Call → Affinity → Type 0
+IsInVolume layout call a = IsOnHandle call × IsNodeOf (named_by layout (handle_in (call_of call))) a
+
+-- it is run on all that is stored
+abbrev pub IsOnAll : Call → Affinity → Type 0
+IsOnAll call a = (call ≡ calls.Census) × (a ≡ Serial)
+
+-- a call is run at a node of its volume, or on all that is stored
+pub run-place : (layout : Layout) (call : Call) (a : Affinity) → IsRunAt layout call a
+    → IsInVolume layout call a ⊎ IsOnAll call a
+run-place layout (calls.GetAttributes handle) a at = inl (tt, at-logical (named_by layout handle) a at.1)
+run-place layout (calls.SetAttributes handle set guard) a at = inl (tt, at-logical (named_by layout handle) a at.1)
+run-place layout (calls.Lookup target) a at = inl (tt, at-logical (named_by layout target.directory) a at.1)
+run-place layout (calls.Read handle offset count) a at = inl (tt, at-bytes layout (named_by layout handle) offset (min count most_bytes) a at.1)
+run-place layout (calls.Write handle offset count bytes) a at = inl (tt, write-home layout handle offset count bytes a at)
+run-place layout (calls.Create target mode) a at = inl (tt, at-logical (named_by layout target.directory) a at.1)
+run-place layout (calls.MakeDirectory target set) a at = inl (tt, at-logical (named_by layout target.directory) a at.1)
+run-place layout (calls.Remove target) a at = inl (tt, at-logical (named_by layout target.directory) a at.1)
+run-place layout (calls.RemoveDirectory target) a at = inl (tt, at-logical (named_by layout target.directory) a at.1)
+run-place layout (calls.Rename from to) a at = inl (tt, at-both (named_by layout from.directory) (named_by layout to.directory) a at.1)
+run-place layout (calls.ReadDirectory directory cookie verifier count) a at = inl (tt, at-logical (named_by layout directory) a at.1)
+run-place layout (calls.FilesystemStatus handle) a at = inl (tt, at-volume (named_by layout handle) a at.1)
+run-place layout (calls.Commit handle) a at = inl (tt, at-logical (named_by layout handle) a at.1)
+run-place layout calls.Census a at = inr (refl, cc)
+run-place layout call a at = absurd at.0
+
+-- a node of a volume isn't Serial
+not-all : (a : Affinity) → is_some (volume_above a) ≡ true → a ≡ Serial → ⊥
+not-all a within is = let none : is_some (volume_above a) ≡ false = ap (λ (b : Affinity). is_some (volume_above b)) is in cc
+
+-- at a node of a volume it is run on what its handle names
+run-within : (layout : Layout) (call : Call) (a : Affinity) → is_some (volume_above a) ≡ true → IsRunAt layout call a → IsInVolume layout call a
+run-within layout call a within at =
+    ⊎_elim (λ (h : IsInVolume layout call a). h) (λ (h : IsOnAll call a). absurd (not-all a within h.1)) (run-place layout call a at)
+
+pub run-home : (layout : Layout) (call : Call) (a : Affinity) → is_some (volume_above a) ≡ true → IsRunAt layout call a
+    → IsNodeOf (named_by layout (handle_in (call_of call))) a
+run-home layout call a within at = (run-within layout call a within at).1
+
+pub run-on-handle : (layout : Layout) (call : Call) (a : Affinity) → is_some (volume_above a) ≡ true → IsRunAt layout call a → IsOnHandle call
+run-on-handle layout call a within at = (run-within layout call a within at).0
 
 -- its handle is good
-pub run-named : (layout : Layout) (call : Call) (a : Affinity) → IsRunAt layout call a → named_by layout (handle_in (call_of call)) ≡ None → ⊥
-run-named layout call a at none = let e = sym none ∙ (run-home layout call a at).names in cc
+pub run-named : (layout : Layout) (call : Call) (a : Affinity) → is_some (volume_above a) ≡ true → IsRunAt layout call a
+    → named_by layout (handle_in (call_of call)) ≡ None → ⊥
+run-named layout call a within at none = let e = sym none ∙ (run-home layout call a within at).names in cc
 
 -- ---- where it is run
 
@@ -106,19 +144,41 @@ at-home layout (calls.Remove target) a run at = (tt, at)
 at-home layout (calls.RemoveDirectory target) a run at = (tt, at)
 at-home layout (calls.Rename from to) a run at = (tt, at)
 at-home layout (calls.ReadDirectory directory cookie verifier count) a run at = (tt, at)
+at-home layout (calls.FilesystemStatus handle) a run at = (tt, at)
 at-home layout (calls.Commit handle) a run at = (tt, at)
+at-home layout calls.Census a run at = (tt, at)
 at-home layout call a run at = absurd run
 
 -- a call is run on no node of another kind
 pub not-here : (layout : Layout) (a : Affinity) (call : Call) → IsRunAt layout call a → (kind : Kind) → kind_of a ≡ kind
-    → kind ≢ kinds.VolumeLogical → kind ≢ kinds.Stripe → kind ≢ kinds.Volume → ⊥
-not-here layout a call at kind of logical stripe volume =
+    → kind ≢ kinds.VolumeLogical → kind ≢ kinds.Stripe → kind ≢ kinds.Volume → kind ≢ kinds.Serial → ⊥
+not-here layout a call at kind of logical stripe volume serial =
+    ⊎_elim
+    (λ (h : IsInVolume layout call a).
     ⊎_elim (λ (e : kind_of a ≡ kinds.VolumeLogical). logical (sym of ∙ e))
     (λ (others : (kind_of a ≡ kinds.Stripe) ⊎ (kind_of a ≡ kinds.Volume)).
     ⊎_elim (λ (e : kind_of a ≡ kinds.Stripe). stripe (sym of ∙ e)) (λ (e : kind_of a ≡ kinds.Volume). volume (sym of ∙ e)) others)
-    (run-home layout call a at).kind
+    h.1.kind)
+    (λ (h : IsOnAll call a). serial (sym of ∙ ap kind_of h.1))
+    (run-place layout call a at)
 
--- on Volume only a WRITE
+-- under Logical, not FSSTAT
+not-logical : (named : Option Named) (v : ℕ) → volume_home named ≡ Some (Logical v) → ⊥
+not-logical None v e = cc
+not-logical (Some n) v e = cc
+
+pub in-logical : (layout : Layout) (call : Call) (v : ℕ) → IsRunAt layout call (Logical v) → IsInLogical call
+in-logical layout (calls.FilesystemStatus handle) v at = not-logical (named_by layout handle) v at.1
+in-logical layout calls.Census v at = let no : ⊥ = cc in no
+in-logical layout call v at = at.0
+
+-- on all that is stored only CENSUS
+pub only-census : (layout : Layout) (call : Call) → IsRunAt layout call Serial → (call ≡ calls.Census → ⊥) → ⊥
+only-census layout call at no_census =
+    ⊎_elim (λ (h : IsInVolume layout call Serial). let above = h.1.above in cc) (λ (h : IsOnAll call Serial). no_census h.0)
+    (run-place layout call Serial at)
+
+-- on Volume only a WRITE, or FSSTAT
 not-volume : (named : Option Named) (v : ℕ) → logical_home named ≡ Some (Volume v) → ⊥
 not-volume None v e = cc
 not-volume (Some n) v e = cc
@@ -132,27 +192,34 @@ no-bytes-volume layout (Some h) offset n v e = by ((n == 0) || (offset / span_by
     by false is = cc
 
 pub only-writes : (layout : Layout) (call : Call) (v : ℕ) → IsRunAt layout call (Volume v)
-    → ((handle : _) (offset count : ℕ) (bytes : _) → call ≡ calls.Write handle offset count bytes → ⊥) → ⊥
-only-writes layout (calls.GetAttributes handle) v at no_write = not-volume (named_by layout handle) v at.1
-only-writes layout (calls.SetAttributes handle set guard) v at no_write = not-volume (named_by layout handle) v at.1
-only-writes layout (calls.Lookup target) v at no_write = not-volume (named_by layout target.directory) v at.1
-only-writes layout (calls.Read handle offset count) v at no_write =
+    → ((handle : _) (offset count : ℕ) (bytes : _) → call ≡ calls.Write handle offset count bytes → ⊥)
+    → ((handle : _) → call ≡ calls.FilesystemStatus handle → ⊥) → ⊥
+only-writes layout (calls.GetAttributes handle) v at no_write no_space = not-volume (named_by layout handle) v at.1
+only-writes layout (calls.SetAttributes handle set guard) v at no_write no_space = not-volume (named_by layout handle) v at.1
+only-writes layout (calls.Lookup target) v at no_write no_space = not-volume (named_by layout target.directory) v at.1
+only-writes layout (calls.Read handle offset count) v at no_write no_space =
     no-bytes-volume layout (named_by layout handle) offset (min count most_bytes) v at.1
-only-writes layout (calls.Write handle offset count bytes) v at no_write = no_write handle offset count bytes refl
-only-writes layout (calls.Create target mode) v at no_write = not-volume (named_by layout target.directory) v at.1
-only-writes layout (calls.MakeDirectory target set) v at no_write = not-volume (named_by layout target.directory) v at.1
-only-writes layout (calls.Remove target) v at no_write = not-volume (named_by layout target.directory) v at.1
-only-writes layout (calls.RemoveDirectory target) v at no_write = not-volume (named_by layout target.directory) v at.1
-only-writes layout (calls.Rename from to) v at no_write =
+only-writes layout (calls.Write handle offset count bytes) v at no_write no_space = no_write handle offset count bytes refl
+only-writes layout (calls.Create target mode) v at no_write no_space = not-volume (named_by layout target.directory) v at.1
+only-writes layout (calls.MakeDirectory target set) v at no_write no_space = not-volume (named_by layout target.directory) v at.1
+only-writes layout (calls.Remove target) v at no_write no_space = not-volume (named_by layout target.directory) v at.1
+only-writes layout (calls.RemoveDirectory target) v at no_write no_space = not-volume (named_by layout target.directory) v at.1
+only-writes layout (calls.Rename from to) v at no_write no_space =
     not-volume (named_by layout from.directory) v (both-there (named_by layout from.directory) (named_by layout to.directory) (Volume v) at.1).0
-only-writes layout (calls.ReadDirectory directory cookie verifier count) v at no_write = not-volume (named_by layout directory) v at.1
-only-writes layout (calls.Commit handle) v at no_write = not-volume (named_by layout handle) v at.1
-only-writes layout call v at no_write = absurd at.0
+only-writes layout (calls.ReadDirectory directory cookie verifier count) v at no_write no_space = not-volume (named_by layout directory) v at.1
+only-writes layout (calls.FilesystemStatus handle) v at no_write no_space = no_space handle refl
+only-writes layout calls.Census v at no_write no_space = let no : ⊥ = cc in no
+only-writes layout (calls.Commit handle) v at no_write no_space = not-volume (named_by layout handle) v at.1
+only-writes layout call v at no_write no_space = absurd at.0
 
 -- in a stripe, only one on bytes that lie in it
 not-stripe : (named : Option Named) (v i : ℕ) → logical_home named ≡ Some (Stripe v i) → ⊥
 not-stripe None v i e = cc
 not-stripe (Some n) v i e = cc
+
+no-volume-stripe : (named : Option Named) (v i : ℕ) → volume_home named ≡ Some (Stripe v i) → ⊥
+no-volume-stripe None v i e = cc
+no-volume-stripe (Some n) v i e = cc
 
 no-stripe-above : (named : Option Named) (v i : ℕ) → RunsAbove named (Stripe v i) → ⊥
 no-stripe-above None v i above = above
@@ -186,5 +253,7 @@ bytes-lie layout (calls.RemoveDirectory target) v i stripes at many there = not-
 bytes-lie layout (calls.Rename from to) v i stripes at many there =
     not-stripe (named_by layout from.directory) v i (both-there (named_by layout from.directory) (named_by layout to.directory) (Stripe v i) at.1).0
 bytes-lie layout (calls.ReadDirectory directory cookie verifier count) v i stripes at many there = not-stripe (named_by layout directory) v i at.1
+bytes-lie layout (calls.FilesystemStatus handle) v i stripes at many there = no-volume-stripe (named_by layout handle) v i at.1
+bytes-lie layout calls.Census v i stripes at many there = let no : ⊥ = cc in no
 bytes-lie layout (calls.Commit handle) v i stripes at many there = not-stripe (named_by layout handle) v i at.1
 bytes-lie layout call v i stripes at many there = absurd at.0
