@@ -1,6 +1,6 @@
 //! GROW.
 
-ghost use Rattle.std.specs.Prelude.{◌≡◌, OnErr};
+ghost use Rattle.std.specs.Prelude.{◌≡◌, ◌≤◌, OnErr};
 ghost use Rattle.parcel_sets.specs.Filled.{aggregate_alike};
 ghost use Rattle.service_totals.specs.Growing.{
   GrowsAggregate,

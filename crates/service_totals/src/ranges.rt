@@ -18,9 +18,7 @@ pub(crate) fn ranges_used(held: &VbnHeld<Files>) -> u32
 {
     let mut used = 0;
     for range in 0..16 {
-        if is_used(&held.ranges.at[range]) {
-            used += 1;
-        }
+        used += u32::from(is_used(&held.ranges.at[range]));
     }
     used
 }
