@@ -1,5 +1,5 @@
 -- What GROW promises, on the parcels under an Aggregate (our profile).
-use Rattle.std.specs.Prelude.{◌≡◌, ℕ, ◌+◌, ◌*◌, ◌<◌, [], length, Option, Some, None, Result, Ok, Err}
+use Rattle.std.specs.Prelude.{◌≡◌, ℕ, ◌+◌, ◌*◌, ◌<◌, [], length, Option, Some, None, Result, Ok, Err, OnErr}
 use Rattle.std.specs.Option.{option_map}
 use Rattle.nfs_model.specs.Types as types
 use Rattle.nfs_model.specs.Types.{Ask, Credential, Moment, Success}
@@ -10,14 +10,14 @@ use Rattle.nfs_values.specs.Answer.{answer_of}
 use Rattle.nfs_values.specs.Status.{status_of}
 use Rattle.nfs_values.specs.declared.answer.Answer.TheVariants.{Grow}
 use Rattle.nfs_values.specs.declared.status.Status.{Status}
-use Rattle.parcel_sets.specs.Filled.{volume_alike}
+use Rattle.parcel_sets.specs.Filled.{volume_alike, aggregate_alike}
 use Rattle.held_state.specs.Lenses.{aggregate_lens}
 use Rattle.held_state.specs.Promises.{HasAll}
 use Rattle.held_state.specs.Running.{task_under}
 use Rattle.held_state.specs.Sets.{FilerVolume, FilerAggregate, vbn_set, aggregate_set}
 use Rattle.held_state.specs.Tree.{ranges_used}
 use Rattle.held_totals.specs.Running.{RunsOnAll}
-use Rattle.held_totals.specs.Growing.{first_in_use, grow_refusal}
+use Rattle.held_totals.specs.Growing.{first_in_use, grow_refusal, grow_aggregate}
 use Rattle.service_totals.specs.Ranges.{HasRanges}
 
 -- ---- an aggregate
@@ -48,6 +48,15 @@ abbrev pub growth_refused : Option Status → ℕ → ℕ → ℕ → Type 0
 growth_refused status used spare more = option_map status_of status ≡ grow_refusal used spare more
 
 module _ {P : Type 0} where
+  -- what has happened, by the definitions: by whatever layout has the volume
+  pub record DoneInAggregate (v more : ℕ) (old : FilerAggregate P) (result : Result ℕ Status) (new : FilerAggregate P) : Type 0 where
+    pub told : (layout : Layout) → v < length layout.volumes
+        → answer_of (Grow result) ≡ (grow_aggregate v more (aggregate_set layout (aggregate_of layout v) old)).answer
+    pub set : (layout : Layout) → v < length layout.volumes
+        → aggregate_set layout (aggregate_of layout v) new ≡ (grow_aggregate v more (aggregate_set layout (aggregate_of layout v) old)).set
+    pub kept : OnErr result (new ≡ old)
+    pub alike : aggregate_alike old new
+
   -- what it comes to on a volume, where so many ranges are spare
   abbrev pub VolumeGrows : ℕ → ℕ → FilerVolume P → Result ℕ Status → FilerVolume P → Type 0
   VolumeGrows spare more old (Err status) new = growth_refused (Some status) (ranges_used (vbn_set old.vbn)) spare more × (new ≡ old)

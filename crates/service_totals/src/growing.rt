@@ -3,6 +3,7 @@
 ghost use Rattle.std.specs.Prelude.{◌≡◌, ◌≤◌, OnErr};
 ghost use Rattle.parcel_sets.specs.Filled.{aggregate_alike};
 ghost use Rattle.service_totals.specs.Growing.{
+  DoneInAggregate,
   GrowsAggregate,
   HasRangesIn,
   HasVolumeOf,
@@ -35,8 +36,16 @@ pub fn grow(held: &mut AggrHeld<Files>, volume: VolumeNumber, more: u32) -> Resu
     ensures alike { aggregate_alike held.old held.new }
 {
     growing_calls_are_right();
+    grow_at(held, volume.0, more)
+}
+
+/// What GROW comes to, by the definitions.
+fn grow_at(held: &mut AggrHeld<Files>, volume: u32, more: u32) -> Result<u64, Status>
+    requires whole { HasVolumeOf volume held.old }
+    ensures done { DoneInAggregate volume more held.old result held.new }
+{
     let spare = held.own;
-    let total = match grow_in(&mut held.volumes.at[volume.0 as usize], spare, more) {
+    let total = match grow_in(&mut held.volumes.at[volume as usize], spare, more) {
         Ok(total) => total,
         Err(status) => return Err(status),
     };
