@@ -1,5 +1,5 @@
 -- A volume of an Aggregate in which more ranges are in use.
-use Rattle.std.proofs.Common.{◌≡◌, ◌≢◌, ℕ, zero, suc, ◌+◌, ◌-◌, ◌*◌, ◌<◌, ◌==◌, Bool, true, List, [], ◌∷◌, length, map, Option, Some, None, Ok, Err}
+use Rattle.std.proofs.Common.{◌≡◌, ◌≢◌, ℕ, zero, suc, ◌+◌, ◌-◌, ◌*◌, ◌<◌, ◌==◌, Bool, true, List, [], ◌∷◌, length, Option, Some, None, Ok, Err}
 use Rattle.std.proofs.Common.{refl, sym, ap, subst, ◌∙◌, arith, eq-eqb}
 use Rattle.std.specs.Prelude.{slice_get, slice_set, slice_index_or, is_some, Result, if◌then◌else◌}
 use Rattle.nfs_model.specs.Types as types
@@ -13,7 +13,7 @@ use Rattle.parcel_sets.specs.Filled.{is_filled, AreFilledAlike, InEachPlace, vbn
 use Rattle.volume_values.specs.Ranges.{RangeValue}
 use Rattle.held_state.specs.Contents.{VolumeContents, each}
 use Rattle.held_state.specs.Parcels.{no_range}
-use Rattle.held_state.specs.Lenses.{VolumeSet, AggregateSet, volume_lens, set_on, aggregate_lens}
+use Rattle.held_state.specs.Lenses.{VolumeSet, AggregateSet, volume_lens, aggregate_lens}
 use Rattle.held_state.specs.Running.{task_under}
 use Rattle.held_state.specs.Sets.{FilerRange, FilerVbn, FilerVolume, FilerAggregate, range_value, placed, vbn_set, volume_set, volume_value, volume_placed}
 use Rattle.held_state.specs.Sets.{aggregate_set}
@@ -25,7 +25,6 @@ use Rattle.held_totals.specs.Running.{RunsOnAll}
 use Rattle.held_totals.specs.Growing.{first_in_use, grow_refusal, AggregateAnswer, grow_checked, grow_there, grow_aggregate, with_ranges}
 use Rattle.held_totals.specs.Laws.{GrowIsRight}
 use Rattle.held_totals.specs.lemmas.Sets.{set-there}
-use Rattle.service_totals.specs.Ranges.{HasRanges}
 use Rattle.service_totals.specs.Growing.{HasVolumeOf, GrowsAggregate, DoneInAggregate, VolumeGrows, PlaceGrows, HasRangesIn, growing_outcome, growth_refused}
 
 -- ---- a place among others
@@ -182,8 +181,11 @@ module _ {P : Type 0} (old : FilerAggregate P) (v more : ℕ) (x : FilerVolume P
         ap (aggregate_set layout (aggregate_of layout v)) same
         ∙ ap (λ (t : AggregateAnswer). t.set) (sym (told-by layout on (Some (status_of status)) (sym refused)));
     kept = same;
-    alike = subst (λ (h : FilerAggregate P). aggregate_alike old h) (sym same) ((λ i. refl), λ i u w here there.
-        let one : u ≡ w = cc in subst (λ (t : FilerVolume P). volume_alike u t) one ((λ k. refl), λ k. refl));
+    alike = subst (λ (h : FilerAggregate P). aggregate_alike old h) (sym same) (
+      (λ i. refl),
+      λ i u w here there.
+          let one : u ≡ w = cc in subst (λ (t : FilerVolume P). volume_alike u t) one ((λ k. refl), λ k. refl),
+    );
   }
 
   grown-done : (d : Option (FilerVolume P)) → v < length old.volumes.at → slice_index_or old.volumes.at v d ≡ Some x

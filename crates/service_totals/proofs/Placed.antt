@@ -1,6 +1,6 @@
 -- The ranges of a volume in their places: how many are in use, and the first of them as they come into use.
 use Rattle.std.proofs.Common.{◌≡◌, ℕ, zero, suc, ◌+◌, ◌-◌, ◌<◌, ◌≤◌, Bool, true, false, List, [], ◌∷◌, length, Option, Some, None}
-use Rattle.std.proofs.Common.{refl, sym, ap, subst, ◌∙◌, arith}
+use Rattle.std.proofs.Common.{refl, sym, ap, ◌∙◌, arith}
 use Rattle.std.specs.Prelude.{slice_get, slice_set, slice_index_or, is_some, if◌then◌else◌}
 use mir.Val.{bool_byte}
 use Rattle.parcel_sets.specs.Filled.{is_filled, vbn_alike}

@@ -41,8 +41,8 @@ pub fn grow(held: &mut AggrHeld<Files>, volume: VolumeNumber, more: u32) -> Resu
 
 /// What GROW comes to, by the definitions.
 fn grow_at(held: &mut AggrHeld<Files>, volume: u32, more: u32) -> Result<u64, Status>
-    requires whole { HasVolumeOf volume held.old }
-    ensures done { DoneInAggregate volume more held.old result held.new }
+    requires { HasVolumeOf volume held.old }
+    ensures { DoneInAggregate volume more held.old result held.new }
 {
     let spare = held.own;
     let total = match grow_in(&mut held.volumes.at[volume as usize], spare, more) {
@@ -54,11 +54,7 @@ fn grow_at(held: &mut AggrHeld<Files>, volume: u32, more: u32) -> Result<u64, St
 }
 
 /// Puts more ranges of the volume in a place into use, where so many are spare.
-fn grow_in(
-    place: &mut Option<VolumeHeld<Files>>,
-    spare: u32,
-    more: u32,
-) -> Result<u64, Status>
+fn grow_in(place: &mut Option<VolumeHeld<Files>>, spare: u32, more: u32) -> Result<u64, Status>
     requires { HasRangesIn place.old }
     ensures { PlaceGrows spare more place.old result place.new }
 {
