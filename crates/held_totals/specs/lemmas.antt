@@ -4,3 +4,5 @@ pub mod Ranges
 pub mod Sets
 pub mod Grown
 pub mod Grows
+pub mod Space
+pub mod Census

@@ -61,7 +61,7 @@ restriped-one s n old new (inr (inr leaves)) = inr (inr (record {
   left = ap (restriped s) leaves.left;
 }))
 
-restriped-parts : (s : List StripeValue) (ns : List ℕ) (old new : VolumeSet) → LeaveParts ns old new → LeaveParts ns (restriped s old) (restriped s new)
+pub restriped-parts : (s : List StripeValue) (ns : List ℕ) (old new : VolumeSet) → LeaveParts ns old new → LeaveParts ns (restriped s old) (restriped s new)
 restriped-parts s [] old new leave = ap (restriped s) leave
 restriped-parts s (n ∷ ns) old new leave =
     (restriped s leave.0, restriped-one s n old leave.0 leave.1, restriped-parts s ns leave.0 new leave.2)

@@ -11,3 +11,6 @@ mod WrittenUp
 mod Parted
 mod Drained
 mod Dealt
+mod Counted
+mod FromParts
+mod WrittenInVolume

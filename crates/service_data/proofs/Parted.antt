@@ -83,7 +83,7 @@ module _ (r : RangeValue) (new : RangeValue) (blocks : List BlockNumber) (batch 
 -- ---- a place among others
 
 module _ {A : Type 0} where
-  at-found : (xs : List (Option A)) (i : ℕ) (d : Option A) → i < length xs → slice_index_or xs i d ≡ placed xs i
+  pub at-found : (xs : List (Option A)) (i : ℕ) (d : Option A) → i < length xs → slice_index_or xs i d ≡ placed xs i
   at-found [] i d less = absurd (omega arith)
   at-found (x ∷ xs) zero d less = refl
   at-found (x ∷ xs) (suc i) d less = at-found xs i d (omega arith)

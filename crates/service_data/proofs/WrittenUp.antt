@@ -78,7 +78,7 @@ module _ (largest : ℕ) (w : Writing) where
 
 module _ (fileid : ℕ) (w : Writing) (old : LogicalSet) (card : Option Card) (found : card ≡ card_shown (get old.own.inodes.inodes fileid))
     (largest : ℕ) (limit : largest ≡ old.own.largest) where
-  due-told : (r : Result ℕ Status) → r ≡ bytes_to_write card largest w.offset w.count (length w.written)
+  pub due-told : (r : Result ℕ Status) → r ≡ bytes_to_write card largest w.offset w.count (length w.written)
       → bytes_due (get old.own.inodes.inodes fileid) old.own.largest w ≡ as_due r
   due-told r is =
       due-is old.own.largest w (get old.own.inodes.inodes fileid)
@@ -93,13 +93,13 @@ module _ (fileid : ℕ) (w : Writing) (old : LogicalSet) (card : Option Card) (f
   done-failed status is v = by-due (Err (status_of status)) (due-told (Err status) is) v _ old (refl, refl)
 
   module _ (given : ℕ) (is : Ok given ≡ bytes_to_write card largest w.offset w.count (length w.written)) (some : given ≡ 0 → ⊥) where
-    kept-same : take given w.written ≡ bytes_kept w
+    pub kept-same : take given w.written ≡ bytes_kept w
     kept-same =
         let all = given-some card largest w.offset w.count (length w.written) given is some in
         let least : given ≡ min most_bytes (length w.written) = omega (arith, all.0, all.1) in
         ap (λ (n : ℕ). take n w.written) least ∙ take_min most_bytes w.written
 
-    kept-long : given ≡ length (bytes_kept w)
+    pub kept-long : given ≡ length (bytes_kept w)
     kept-long =
         let all = given-some card largest w.offset w.count (length w.written) given is some in
         let long = length-take most_bytes w.written in
@@ -112,7 +112,7 @@ module _ (fileid : ℕ) (w : Writing) (old : LogicalSet) (card : Option Card) (f
     pub given-few : given ≤ 65536
     given-few = let all = given-some card largest w.offset w.count (length w.written) given is some in omega (arith, all.1)
 
-    more-due : (n : ℕ) → given ≡ suc n → bytes_due (get old.own.inodes.inodes fileid) old.own.largest w ≡ Ok (suc n)
+    pub more-due : (n : ℕ) → given ≡ suc n → bytes_due (get old.own.inodes.inodes fileid) old.own.largest w ≡ Ok (suc n)
     more-due n more = due-told (Ok given) is ∙ ap Ok more
 
     with-kept : (r : Result Bool AllocError) (new : LogicalSet) → Extends fileid w.offset (take given w.written) w.moment old r new

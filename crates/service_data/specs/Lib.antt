@@ -4,3 +4,4 @@ pub mod Places
 pub mod Holes
 pub mod Parts
 pub mod Writing
+pub mod WritingInVolume

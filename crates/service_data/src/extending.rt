@@ -9,23 +9,35 @@ ghost use Rattle.std.specs.Prelude.{
   length,
   IfOk,
   OnErr,
+  OnOk,
 };
 ghost use Rattle.nfs_model.specs.Home.{span_bytes};
 ghost use Rattle.nfs_values.specs.Moment.{moment_of};
 ghost use Rattle.inodes.specs.Inode.{inode_value, kind_value};
-ghost use Rattle.parcel_sets.specs.Filled.{logical_alike};
+ghost use Rattle.parcel_sets.specs.Filled.{logical_alike, volume_alike};
 ghost use Rattle.volume_values.specs.Inodes.{filled_blocks};
-ghost use Rattle.held_state.specs.Sets.{logical_before, logical_after};
-ghost use Rattle.held_data.specs.Extending.{spans_written, kind_extended};
+ghost use Rattle.held_state.specs.Sets.{
+  logical_before,
+  logical_after,
+  volume_before,
+  volume_after,
+};
+ghost use Rattle.held_data.specs.Extending.{holes, spans_written, kind_extended};
+ghost use Rattle.held_data.specs.WritingUp.{for_holes};
 ghost use Rattle.service_data.specs.Stripes.{HasStripes};
 ghost use Rattle.service_data.specs.Places.{StripesChanged};
 ghost use Rattle.service_data.specs.Holes.{Extends, HasRoom, inode_extended_in};
+ghost use Rattle.service_data.specs.WritingInVolume.{ExtendsFromParts, ExtendsInVolume};
+ghost use Rattle.service_data.specs.declared.extension.Extension.TheVariants.{Short};
 
+use crate::counting::{lacks_numbers, lacks_space};
+use crate::extension::Extension;
 use crate::holes::{fill_holes, find_holes, number_holes};
 use crate::homes::{grow_cards, write_span};
+use crate::parts::number_blocks;
 use inodes::{Inode, InodeKind};
 use nfs_values::{Fileid, Moment};
-use parcel_sets::LogicalHeld;
+use parcel_sets::{LogicalHeld, VolumeHeld};
 use parcels::Files;
 use std::alloc::AllocError;
 
@@ -70,6 +82,78 @@ pub(crate) fn extend(
     grow_cards(held, fileid, end);
     write_spans(held, fileid, offset, written, moment);
     Ok(true)
+}
+
+/// Writes bytes to a file at an offset, at a moment, likewise, its holes filled from the stock, else
+/// from the ranges, else from the dead. There is no space where files and holes would be more than
+/// all blocks of the volume.
+pub(crate) fn extend_in_volume(
+    held: &mut VolumeHeld<Files>,
+    fileid: Fileid,
+    offset: u64,
+    written: &[u8],
+    moment: Moment,
+) -> Result<Extension, AllocError>
+    requires stripes { HasStripes held.old.logical }
+    requires room { HasRoom fileid.0 held.old.logical.own.inodes }
+    requires some { 0 < length written.now }
+    requires few { length written.now ≤ 65536 }
+    requires below { offset + length written.now < 18446744073709551616 }
+    ensures extended { ExtendsInVolume fileid.0 offset written.now (moment_of moment)
+        (volume_before held.old) result (volume_after held.old held.new) }
+    ensures short { IfOk result (λ done. done ≡ Short → held.new ≡ held.old) }
+    ensures starved { OnErr result (held.new ≡ held.old) }
+    ensures alike { volume_alike held.old held.new }
+{
+    let mut found = [0; 17];
+    let count = find_holes(&held.logical, fileid, offset, written.len(), &mut found);
+    if lacks_space(held, count) {
+        return Ok(Extension::NoSpace);
+    }
+    if lacks_numbers(held, count) {
+        return Ok(Extension::Short);
+    }
+    match fill_and_write(held, fileid, offset, written, moment, &found[..count]) {
+        Ok(()) => Ok(Extension::Written),
+        Err(error) => Err(error),
+    }
+}
+
+/// Writes bytes to a file at an offset, at a moment, where the holes that they meet were found, and
+/// there are blocks for them.
+fn fill_and_write(
+    held: &mut VolumeHeld<Files>,
+    fileid: Fileid,
+    offset: u64,
+    written: &[u8],
+    moment: Moment,
+    found: &[u64],
+) -> Result<(), AllocError>
+    requires stripes { HasStripes held.old.logical }
+    requires room { HasRoom fileid.0 held.old.logical.own.inodes }
+    requires some { 0 < length written.now }
+    requires few { length written.now ≤ 65536 }
+    requires below { offset + length written.now < 18446744073709551616 }
+    requires all { found.now
+        ≡ holes (logical_before held.old.logical).stripes fileid.0 offset (length written.now) }
+    requires most { length found.now ≤ 17 }
+    requires enough { length found.now ≤ for_holes (volume_before held.old) }
+    ensures extended { OnOk result (ExtendsFromParts fileid.0 offset written.now (moment_of moment)
+        (volume_before held.old) (volume_after held.old held.new)) }
+    ensures starved { OnErr result (held.new ≡ held.old) }
+    ensures some { OnErr result (0 < length found.now) }
+    ensures alike { volume_alike held.old held.new }
+{
+    match fill_holes(&mut held.logical, fileid, found) {
+        Ok(()) => {}
+        Err(error) => return Err(error),
+    }
+    number_blocks(held, fileid, found);
+    let end = offset + written.len() as u64;
+    extend_inode(&mut held.logical, fileid, end, found.len() as u32);
+    grow_cards(&mut held.logical, fileid, end);
+    write_spans(&mut held.logical, fileid, offset, written, moment);
+    Ok(())
 }
 
 /// Extends the inode of a file to an end, with so many more filled blocks. It takes no memory.

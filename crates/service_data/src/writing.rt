@@ -5,8 +5,13 @@ ghost use Rattle.std.specs.Option.{option_map};
 ghost use Rattle.nfs_values.specs.Moment.{moment_of};
 ghost use Rattle.stripe_cards.specs.Cards.{card_of};
 ghost use Rattle.inodes.specs.Inode.{inode_value};
-ghost use Rattle.parcel_sets.specs.Filled.{logical_alike};
-ghost use Rattle.held_state.specs.Sets.{logical_before, logical_after};
+ghost use Rattle.parcel_sets.specs.Filled.{logical_alike, volume_alike};
+ghost use Rattle.held_state.specs.Sets.{
+  logical_before,
+  logical_after,
+  volume_before,
+  volume_after,
+};
 ghost use Rattle.service_data.specs.Promises.{IsHeld, LieInOneSpan};
 ghost use Rattle.service_data.specs.Writing.{
   asked_to_write,
@@ -16,13 +21,15 @@ ghost use Rattle.service_data.specs.Writing.{
   WritesInLogical,
   WritesInStripe,
 };
+ghost use Rattle.service_data.specs.WritingInVolume.{DoneInVolume, IsVolumeHeld, WritesInVolume};
 
-use crate::extending::extend;
+use crate::extending::{extend, extend_in_volume};
+use crate::extension::Extension;
 use crate::reading::COUNT_LIMIT;
 use held_data::writing_calls_are_right;
 use inodes::{Inode, InodeKind};
 use nfs_values::{Fileid, Moment, Status, WriteResults};
-use parcel_sets::{LogicalHeld, StripeHeld};
+use parcel_sets::{LogicalHeld, StripeHeld, VolumeHeld};
 use parcels::Files;
 use std::alloc::AllocError;
 use stripe_cards::Card;
@@ -122,6 +129,68 @@ fn done_in_logical(
             verifier,
         }))),
         Ok(false) => Ok(None),
+        Err(error) => Err(error),
+    }
+}
+
+/// WRITE, likewise, on the parcels under Volume: holes are filled with blocks of the stock, then of
+/// the bitmaps, then of the dead. NOSPC where files and holes would be more than all blocks of the
+/// volume; where the rest is in hands, nothing changes and it waits for Volume again: `None`.
+/// Memory runs out only where a hole is to be filled, and then nothing has changed.
+pub fn write_in_volume(
+    held: &mut VolumeHeld<Files>,
+    fileid: Fileid,
+    offset: u64,
+    count: u32,
+    written: &[u8],
+    moment: Moment,
+) -> Result<Option<Result<WriteResults, Status>>, AllocError>
+    requires whole { IsVolumeHeld (volume_before held.old) }
+    ensures right { WritesInVolume fileid.0
+        (asked_to_write offset count written.now (moment_of moment))
+        (volume_before held.old) result (volume_after held.old held.new) }
+    ensures moved { IfOk result (λ told. told ≡ None → held.new ≡ held.old) }
+    ensures starved { OnErr result (held.new ≡ held.old) }
+    ensures alike { volume_alike held.old held.new }
+{
+    writing_calls_are_right();
+    done_in_volume(held, fileid, offset, count, written, moment)
+}
+
+/// What WRITE comes to on the parcels under Volume.
+fn done_in_volume(
+    held: &mut VolumeHeld<Files>,
+    fileid: Fileid,
+    offset: u64,
+    count: u32,
+    written: &[u8],
+    moment: Moment,
+) -> Result<Option<Result<WriteResults, Status>>, AllocError>
+    requires whole { IsVolumeHeld (volume_before held.old) }
+    ensures done { DoneInVolume fileid.0
+        (asked_to_write offset count written.now (moment_of moment))
+        (volume_before held.old) result (volume_after held.old held.new) }
+    ensures moved { IfOk result (λ told. told ≡ None → held.new ≡ held.old) }
+    ensures starved { OnErr result (held.new ≡ held.old) }
+    ensures alike { volume_alike held.old held.new }
+{
+    let logical = held.logical.own.get();
+    let verifier = logical.verifier;
+    let card = card_of_inode(logical.inodes.get(fileid));
+    let given = match bytes_to_write(card, logical.largest, offset, count, written.len()) {
+        Ok(given) => given,
+        Err(status) => return Ok(Some(Err(status))),
+    };
+    if given == 0 {
+        return Ok(Some(Ok(WriteResults { count: 0, verifier })));
+    }
+    match extend_in_volume(held, fileid, offset, &written[..given], moment) {
+        Ok(Extension::Written) => Ok(Some(Ok(WriteResults {
+            count: given as u32,
+            verifier,
+        }))),
+        Ok(Extension::NoSpace) => Ok(Some(Err(Status::NoSpace))),
+        Ok(Extension::Short) => Ok(None),
         Err(error) => Err(error),
     }
 }

@@ -1,13 +1,11 @@
--- The ranges of a volume in their places: how many are in use, and the first of them as they come into use.
-use Rattle.std.proofs.Common.{◌≡◌, ℕ, zero, suc, ◌+◌, ◌-◌, ◌<◌, ◌≤◌, Bool, true, false, List, [], ◌∷◌, length, Option, Some, None}
+-- The ranges of a volume in their places, the first of them as they come into use.
+use Rattle.std.proofs.Common.{◌≡◌, ℕ, zero, suc, ◌+◌, ◌<◌, ◌≤◌, true, List, [], ◌∷◌, length, Option, Some, None}
 use Rattle.std.proofs.Common.{refl, sym, ap, ◌∙◌, arith}
-use Rattle.std.specs.Prelude.{slice_get, slice_set, slice_index_or, is_some, if◌then◌else◌}
-use mir.Val.{bool_byte}
+use Rattle.std.specs.Prelude.{slice_get, slice_set, slice_index_or, is_some}
 use Rattle.parcel_sets.specs.Filled.{is_filled, vbn_alike}
 use Rattle.volume_values.specs.Ranges.{RangeValue, put_in_use}
 use Rattle.held_state.specs.Contents.{each}
 use Rattle.held_state.specs.Sets.{FilerRange, FilerVbn, range_value, placed, vbn_set}
-use Rattle.held_state.specs.Tree.{ranges_used}
 use Rattle.held_totals.specs.Growing.{first_in_use}
 use Rattle.service_totals.specs.Ranges.{HasRanges, place_in_use, first_places, with_places}
 
@@ -24,40 +22,7 @@ values-first f g from (suc n) (suc most) few low high =
     λ j. low from (omega arith) (omega arith) j
     ∷ values-first f g (from + 1) n most (omega arith) (λ k a b. low k (omega arith) (omega arith)) (λ k a b. high k (omega arith) (omega arith)) j
 
-byte-is : (b : Bool) → bool_byte b ≡ (if b then 1 else 0)
-byte-is true = refl
-byte-is false = refl
-
-pub at-most-one : (b : Bool) (more : ℕ) → more ≡ bool_byte b → more ≤ 1
-at-most-one true more is = omega (arith, is)
-at-most-one false more is = omega (arith, is)
-
 module _ {P : Type 0} where
-  found-is : (places : List (Option (FilerRange P))) (i : ℕ) (d : Option (FilerRange P)) → i < length places
-      → slice_index_or places i d ≡ placed places i
-  found-is [] i d less = absurd (omega arith)
-  found-is (p ∷ ps) zero d less = refl
-  found-is (p ∷ ps) (suc i) d less = found-is ps i d (omega arith)
-
-  -- ---- how many are in use
-
-  -- one more was looked at
-  pub count-more : (places : List (Option (FilerRange P))) → length places ≡ 16 → (n used count : ℕ) → n < 16
-      → (d was : Option (FilerRange P)) → slice_index_or places n d ≡ was
-      → (b : Bool) → b ≡ (range_value was).is_used → (more : ℕ) → more ≡ bool_byte b
-      → used + ranges_used (each (λ r. range_value (placed places r)) n (16 - n)) ≡ count
-      → used + more + ranges_used (each (λ r. range_value (placed places r)) (n + 1) (16 - (n + 1))) ≡ count
-  count-more places long n used count less d was found b test more is so =
-      let f : ℕ → RangeValue = λ r. range_value (placed places r) in
-      let one : 16 - n ≡ suc (16 - (n + 1)) = omega (arith, less) in
-      let next = ap (λ (m : ℕ). ranges_used (each f n m)) one in
-      let here : more ≡ (if (f n).is_used then 1 else 0) =
-      is ∙ byte-is b ∙ ap (λ (c : Bool). if c then 1 else 0)
-      (test ∙ ap (λ (o : Option (FilerRange P)). (range_value o).is_used) (sym found ∙ found-is places n d (omega (arith, less, long)))) in
-      omega (arith, so, next, here)
-
-  -- ---- the first ones in use
-
   place-filled : (place : Option (FilerRange P)) → is_filled (Some place) ≡ is_filled (Some (place_in_use place))
   place-filled None = refl
   place-filled (Some r) = refl

@@ -13,11 +13,12 @@ ghost use Rattle.service_totals.specs.Growing.{
 };
 ghost use Rattle.service_totals.specs.Ranges.{HasRanges};
 
-use crate::ranges::{put_in_use, ranges_used};
+use crate::ranges::put_in_use;
 use held_totals::growing_calls_are_right;
 use nfs_values::{Status, VolumeNumber};
 use parcel_sets::{AggrHeld, VolumeHeld};
 use parcels::Files;
+use volume_counts::ranges_used;
 
 /// The ranges of a volume at most.
 const MOST_RANGES: u32 = 16;

@@ -1,37 +1,14 @@
-//! The ranges of a volume, in their places.
+//! The ranges of a volume, in their places, as they come into use.
 
 ghost use Rattle.std.specs.Prelude.{◌≡◌, ◌≤◌};
 ghost use Rattle.parcel_sets.specs.Filled.{vbn_alike};
 ghost use Rattle.volume_values.specs.Ranges.{put_in_use};
-ghost use Rattle.held_state.specs.Sets.{range_value, vbn_set};
-ghost use Rattle.held_state.specs.Tree.{ranges_used};
+ghost use Rattle.held_state.specs.Sets.{vbn_set};
 ghost use Rattle.held_totals.specs.Growing.{first_in_use};
 ghost use Rattle.service_totals.specs.Ranges.{HasRanges, place_in_use};
 
 use parcel_sets::{RangeHeld, VbnHeld};
 use parcels::Files;
-
-/// How many ranges of a volume are in use.
-pub(crate) fn ranges_used(held: &VbnHeld<Files>) -> u32
-    ensures used { result ≡ ranges_used (vbn_set held.now) }
-    ensures few { result ≤ 16 }
-{
-    let mut used = 0;
-    for range in 0..16 {
-        used += u32::from(is_used(&held.ranges.at[range]));
-    }
-    used
-}
-
-/// Whether the range in a place is in use.
-fn is_used(place: &Option<RangeHeld<Files>>) -> bool
-    ensures { result ≡ (range_value place.now).is_used }
-{
-    match place {
-        Some(range) => range.own.get().is_used(),
-        None => false,
-    }
-}
 
 /// Puts the first ranges of a volume into use, so many: those that weren't, with all their blocks
 /// free.
