@@ -2,10 +2,10 @@
 use Rattle.std.proofs.Common.{◌≡◌, ◌≢◌, ℕ, ◌+◌, ◌-◌, ◌/◌, ◌%◌, ◌<◌, Bool, true, false, Option, Some, None, refl, sym, ap, ◌∙◌}
 use Rattle.std.proofs.Common.{subst, inl, inr, ◌⊎◌, ⊎_elim, arith}
 use Rattle.std.proofs.lemmas.Bool.{eqb-true}
-use Rattle.std.specs.Prelude.{◌==◌, ◌||◌, min, if◌then◌else◌}
-use Rattle.nfs_model.specs.Tree.{Layout, Affinity, Volume, Logical, Stripe, stripes_of}
+use Rattle.std.specs.Prelude.{◌==◌, ◌||◌, min, if◌then◌else◌, zero, suc, List, [], ◌∷◌, length, is_some, slice_get}
+use Rattle.nfs_model.specs.Tree.{Layout, VolumeLayout, Affinity, Aggregate, Volume, Logical, Stripe, aggregate_in, aggregate_of, stripes_of}
 use Rattle.nfs_model.specs.Server.{Named, most_bytes}
-use Rattle.nfs_model.specs.Home.{home, logical_home, bytes_home, rename_home, named_by, span_bytes, stripe_of_span}
+use Rattle.nfs_model.specs.Home.{home, logical_home, bytes_home, rename_home, grow_home, named_by, span_bytes, stripe_of_span}
 use Rattle.nfs_model.specs.Work.{volume_above}
 use Rattle.nfs_values.specs.Call.{call_of}
 use Rattle.nfs_values.specs.declared.call.Call.{Call}
@@ -16,7 +16,7 @@ use Rattle.affinity_tree.specs.declared.affinity.Kind.TheVariants as kinds
 use Rattle.parcel_sets.specs.Sets.{volume_of}
 use Rattle.held_state.specs.Calls.{LieIn, handle_in}
 use Rattle.held_data.specs.lemmas.Homes.{home-lies}
-use Rattle.service.specs.Running.{IsRun, IsRunAt, RunsAbove, BytesLieIn, fileid_in}
+use Rattle.service.specs.Running.{IsRun, IsRunAt, IsRunIn, RunsAbove, BytesLieIn, fileid_in}
 
 -- what its handle names, the first of RENAME's: a fileid of the node's volume; and what the node is
 pub record IsNodeOf (named : Option Named) (a : Affinity) : Type 0 where
@@ -69,7 +69,7 @@ at-above None a above = absurd above
 at-above (Some n) a above =
     ⊎_elim (λ (e : a ≡ Logical n.volume). of-logical n a (sym e)) (λ (e : a ≡ Volume n.volume). of-volume n a (sym e)) above
 
-pub run-home : (layout : Layout) (call : Call) (a : Affinity) → IsRunAt layout call a → IsNodeOf (named_by layout (handle_in (call_of call))) a
+pub run-home : (layout : Layout) (call : Call) (a : Affinity) → IsRunIn layout call a → IsNodeOf (named_by layout (handle_in (call_of call))) a
 run-home layout (calls.GetAttributes handle) a at = at-logical (named_by layout handle) a at.1
 run-home layout (calls.SetAttributes handle set guard) a at = at-logical (named_by layout handle) a at.1
 run-home layout (calls.Lookup target) a at = at-logical (named_by layout target.directory) a at.1
@@ -88,8 +88,27 @@ run-home layout (calls.Commit handle) a at = at-logical (named_by layout handle)
 run-home layout call a at = absurd at.0
 
 -- its handle is good
-pub run-named : (layout : Layout) (call : Call) (a : Affinity) → IsRunAt layout call a → named_by layout (handle_in (call_of call)) ≡ None → ⊥
+pub run-named : (layout : Layout) (call : Call) (a : Affinity) → IsRunIn layout call a → named_by layout (handle_in (call_of call)) ≡ None → ⊥
 run-named layout call a at none = let e = sym none ∙ (run-home layout call a at).names in cc
+
+-- ---- GROW
+
+-- it is run on an Aggregate
+grown-on : (o : Option VolumeLayout) (a : Affinity) → grow_home o ≡ Some a → (kind_of a ≡ kinds.Aggregate) × (volume_above a ≡ None)
+grown-on None a e = absurd cc
+grown-on (Some v) a e =
+    let same : Aggregate v.aggregate ≡ a = cc in
+    subst (λ (b : Affinity). (kind_of b ≡ kinds.Aggregate) × (volume_above b ≡ None)) same (refl, refl)
+
+-- and so not at a node of a volume
+no-grow : (layout : Layout) (v : ℕ) (a : Affinity) → grow_home (slice_get layout.volumes v) ≡ Some a → is_some (volume_above a) ≡ true → ⊥
+no-grow layout v a at within =
+    let none : is_some (volume_above a) ≡ false = ap (λ (o : Option ℕ). is_some o) (grown-on (slice_get layout.volumes v) a at).1 in cc
+
+-- a call that is run at a node of a volume is one on the volume
+pub run-in : (layout : Layout) (call : Call) (a : Affinity) → is_some (volume_above a) ≡ true → IsRunAt layout call a → IsRunIn layout call a
+run-in layout (calls.Grow volume more) a within at = absurd (no-grow layout volume.0 a at.1 within)
+run-in layout call a within at = at
 
 -- ---- where it is run
 
@@ -107,16 +126,44 @@ at-home layout (calls.RemoveDirectory target) a run at = (tt, at)
 at-home layout (calls.Rename from to) a run at = (tt, at)
 at-home layout (calls.ReadDirectory directory cookie verifier count) a run at = (tt, at)
 at-home layout (calls.Commit handle) a run at = (tt, at)
+at-home layout (calls.Grow volume more) a run at = (tt, at)
 at-home layout call a run at = absurd run
+
+-- GROW on an Aggregate, each other call on a node of a volume
+run-on : (layout : Layout) (call : Call) (a : Affinity) → IsRunAt layout call a → (kind_of a ≡ kinds.Aggregate) ⊎ IsRunIn layout call a
+run-on layout (calls.Grow volume more) a at = inl (grown-on (slice_get layout.volumes volume.0) a at.1).0
+run-on layout call a at = inr at
 
 -- a call is run on no node of another kind
 pub not-here : (layout : Layout) (a : Affinity) (call : Call) → IsRunAt layout call a → (kind : Kind) → kind_of a ≡ kind
-    → kind ≢ kinds.VolumeLogical → kind ≢ kinds.Stripe → kind ≢ kinds.Volume → ⊥
-not-here layout a call at kind of logical stripe volume =
+    → kind ≢ kinds.VolumeLogical → kind ≢ kinds.Stripe → kind ≢ kinds.Volume → kind ≢ kinds.Aggregate → ⊥
+not-here layout a call at kind of logical stripe volume aggregate =
+    ⊎_elim (λ (e : kind_of a ≡ kinds.Aggregate). aggregate (sym of ∙ e))
+    (λ (on_volume : IsRunIn layout call a).
     ⊎_elim (λ (e : kind_of a ≡ kinds.VolumeLogical). logical (sym of ∙ e))
     (λ (others : (kind_of a ≡ kinds.Stripe) ⊎ (kind_of a ≡ kinds.Volume)).
     ⊎_elim (λ (e : kind_of a ≡ kinds.Stripe). stripe (sym of ∙ e)) (λ (e : kind_of a ≡ kinds.Volume). volume (sym of ∙ e)) others)
-    (run-home layout call a at).kind
+    (run-home layout call a on_volume).kind)
+    (run-on layout call a at)
+
+-- on an Aggregate only GROW of a volume that the layout puts there
+pub only-grows : (layout : Layout) (call : Call) (g : ℕ) → IsRunAt layout call (Aggregate g)
+    → ((volume : _) (more : ℕ) → call ≡ calls.Grow volume more → ⊥) → ⊥
+only-grows layout (calls.Grow volume more) g at no_grow = no_grow volume more refl
+only-grows layout call g at no_grow = let above = (run-home layout call (Aggregate g) at).above in cc
+
+pub grows-there : (layout : Layout) (v g : ℕ) → grow_home (slice_get layout.volumes v) ≡ Some (Aggregate g)
+    → (v < length layout.volumes) × (aggregate_of layout v ≡ g)
+grows-there layout v g at = (within layout.volumes v at, by (slice_get layout.volumes v) at)
+  where
+    within : (volumes : List VolumeLayout) (v : ℕ) → grow_home (slice_get volumes v) ≡ Some (Aggregate g) → v < length volumes
+    within [] v e = absurd cc
+    within (x ∷ xs) zero e = omega arith
+    within (x ∷ xs) (suc v) e = let less = within xs v e in omega (arith, less)
+
+    by : (o : Option VolumeLayout) → grow_home o ≡ Some (Aggregate g) → aggregate_in o ≡ g
+    by None e = absurd cc
+    by (Some x) e = cc
 
 -- on Volume only a WRITE
 not-volume : (named : Option Named) (v : ℕ) → logical_home named ≡ Some (Volume v) → ⊥
@@ -147,6 +194,7 @@ only-writes layout (calls.Rename from to) v at no_write =
     not-volume (named_by layout from.directory) v (both-there (named_by layout from.directory) (named_by layout to.directory) (Volume v) at.1).0
 only-writes layout (calls.ReadDirectory directory cookie verifier count) v at no_write = not-volume (named_by layout directory) v at.1
 only-writes layout (calls.Commit handle) v at no_write = not-volume (named_by layout handle) v at.1
+only-writes layout (calls.Grow volume more) v at no_write = no-grow layout volume.0 (Volume v) at.1 refl
 only-writes layout call v at no_write = absurd at.0
 
 -- in a stripe, only one on bytes that lie in it
@@ -187,4 +235,5 @@ bytes-lie layout (calls.Rename from to) v i stripes at many there =
     not-stripe (named_by layout from.directory) v i (both-there (named_by layout from.directory) (named_by layout to.directory) (Stripe v i) at.1).0
 bytes-lie layout (calls.ReadDirectory directory cookie verifier count) v i stripes at many there = not-stripe (named_by layout directory) v i at.1
 bytes-lie layout (calls.Commit handle) v i stripes at many there = not-stripe (named_by layout handle) v i at.1
+bytes-lie layout (calls.Grow volume more) v i stripes at many there = no-grow layout volume.0 (Stripe v i) at.1 refl
 bytes-lie layout call v i stripes at many there = absurd at.0
