@@ -1,23 +1,21 @@
 //! What the handles of calls name.
 
-ghost use Rattle.std.specs.Prelude.{◌≡◌, is_some, true};
+ghost use Rattle.std.specs.Prelude.{◌≡◌};
 ghost use Rattle.nfs_model.specs.Home.{named_by};
-ghost use Rattle.nfs_model.specs.Work.{volume_above};
 ghost use Rattle.affinity_tree.specs.Affinity.{affinity_of};
 ghost use Rattle.affinity_tree.specs.Layout.{layout_of};
 ghost use Rattle.nfs_values.specs.Call.{call_of};
 ghost use Rattle.held_state.specs.Calls.{handle_in};
-ghost use Rattle.service.specs.Running.{fileid_in, IsOnHandle, IsRunAt};
+ghost use Rattle.service.specs.Running.{fileid_in, IsRunIn, IsRunOnVolume};
 
 use affinity::named_by;
 use affinity_tree::{Affinity, Layout};
 use nfs_values::{Call, FileHandle, Fileid};
 
-/// The fileid that the handle of a call names, the first of RENAME's, where the call is run at this
-/// node of a volume.
+/// The fileid that the handle of a call on a volume names, the first of RENAME's, where the call is
+/// run at this node.
 pub(crate) fn fileid_here(layout: &Layout, affinity: Affinity, call: &Call) -> Fileid
-    requires volume { is_some (volume_above (affinity_of affinity)) ≡ true }
-    requires at { IsRunAt (layout_of layout.now) call.now (affinity_of affinity) }
+    requires { IsRunIn (layout_of layout.now) call.now (affinity_of affinity) }
     ensures { result.0
         ≡ fileid_in (named_by (layout_of layout.now) (handle_in (call_of call.now))) }
 {
@@ -27,9 +25,9 @@ pub(crate) fn fileid_here(layout: &Layout, affinity: Affinity, call: &Call) -> F
     }
 }
 
-/// The handle of a call that is run on what it names, the first of RENAME's.
+/// The handle of a call on a volume that is run, the first of RENAME's.
 fn handle_of(call: &Call) -> &FileHandle
-    requires { IsOnHandle call.now }
+    requires { IsRunOnVolume call.now }
     ensures { result.now ≡ handle_in (call_of call.now) }
 {
     match call {

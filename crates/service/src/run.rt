@@ -23,8 +23,8 @@ ghost use Rattle.service.specs.Running.{
   call_on,
   is_told,
   outcome_of,
-  IsInLogical,
   IsRunAt,
+  IsRunInLogical,
   RunsThere,
 };
 
@@ -136,7 +136,7 @@ fn tell(run: Run, held: &LogicalHeld<Files>, named: Named) -> Outcome
 
 /// Runs a call that may change the volume of what its handle names, on the volume's parcels.
 fn change(run: Run, layout: &Layout, held: &mut LogicalHeld<Files>, named: Named) -> Outcome
-    requires run { IsInLogical run.call.now }
+    requires run { IsRunInLogical run.call.now }
     requires changes { is_told run.call.now ≡ false }
     requires there { RunsThere (layout_of layout.now) (call_of run.call.now)
         (trees.Logical named.volume.0) }

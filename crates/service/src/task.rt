@@ -83,12 +83,7 @@ impl<'a> Task<Parcel<Files>, ParcelKinds> for Run<'a> {
         unreachable!()
     }
 
-    fn on_serial(
-        self,
-        layout: &Layout,
-        affinity: Affinity,
-        held: &mut SerialHeld<Files>,
-    ) -> Outcome {
+    fn on_serial(self, layout: &Layout, _: Affinity, held: &mut SerialHeld<Files>) -> Outcome {
         run_on_serial(self, layout, held)
     }
 }

@@ -2,7 +2,7 @@
 use Rattle.std.proofs.Common.{◌≡◌, ◌⊎◌, inl, inr, ⊎_elim, ℕ, ◌-◌, ◌+◌, ◌/◌, ◌%◌, ◌<◌, [], ◌∷◌, Bool, true, false, Option, Some, None}
 use Rattle.std.proofs.Common.{refl, sym, ap, ◌∙◌, subst, arith}
 use Rattle.std.proofs.lemmas.Bool.{eq-eqb}
-use Rattle.std.specs.Prelude.{List, length, min, nat_lt, ◌&&◌, ◌||◌, ◌==◌, IsTrue, is_some, slice_get, if◌then◌else◌}
+use Rattle.std.specs.Prelude.{List, length, min, nat_lt, ◌&&◌, ◌||◌, ◌==◌, IsTrue, slice_get, if◌then◌else◌}
 use Rattle.std.specs.FinSet.{len}
 use Rattle.nfs_model.specs.Types as types
 use Rattle.nfs_model.specs.Types.{Ask, Credential, Moment}
@@ -37,8 +37,8 @@ use Rattle.held_laws.specs.lemmas.Kinds.{stripe-step, logical-step, volume-step}
 use Rattle.held_laws.specs.lemmas.Running.{runs-by}
 use Rattle.held_laws.specs.lemmas.SeenSets.{stripe-seen, logical-seen, volume-seen}
 use Rattle.held_laws.specs.lemmas.Steps.{laid-out, get-some}
-use Rattle.service.specs.Running.{IsRunAt, RunsAbove, IsStripeOf, MovesOn, call_on, fileid_in, other_in, procedure}
-use Rattle.service.specs.lemmas.Homes.{IsNodeOf, at-logical, both-there, write-home, run-home, run-on-handle}
+use Rattle.service.specs.Running.{IsRunAt, IsRunIn, RunsAbove, IsStripeOf, MovesOn, call_on, fileid_in, other_in, procedure}
+use Rattle.service.specs.lemmas.Homes.{IsNodeOf, at-logical, both-there, run-home, run-in}
 
 -- ---- a call that is run is a call on its volume
 
@@ -87,8 +87,9 @@ run-tried layout (calls.RemoveDirectory target) credential a at = (a, at.1, begi
 run-tried layout (calls.Rename from to) credential a at = (a, at.1, begins-self (path layout a))
 run-tried layout (calls.ReadDirectory directory cookie verifier count) credential a at = (a, at.1, begins-self (path layout a))
 run-tried layout (calls.FilesystemStatus handle) credential a at = (a, at.1, begins-self (path layout a))
-run-tried layout (calls.Commit handle) credential a at = (a, at.1, begins-self (path layout a))
 run-tried layout calls.Census credential a at = (a, at.1, begins-self (path layout a))
+run-tried layout (calls.Commit handle) credential a at = (a, at.1, begins-self (path layout a))
+run-tried layout (calls.Grow volume more) credential a at = (a, at.1, begins-self (path layout a))
 run-tried layout call credential a at = absurd at.0
 
 -- what it names on a server of this layout
@@ -140,49 +141,48 @@ on-both layout a from from_name to to_name credential moment is tried =
           (eq-eqb v v refl);
     }
 
-pub run-is-call : (layout : Layout) (call : Call) (credential : Credential) (moment : Moment) (a : Affinity) → is_some (volume_above a) ≡ true → IsRunAt layout call a
+pub run-is-call : (layout : Layout) (call : Call) (credential : Credential) (moment : Moment) (a : Affinity) → IsRunIn layout call a
     → IsCallOn layout (volume_of a) (call_on layout a credential moment (call_of call)) credential moment
-run-is-call layout (calls.Rename from to) credential moment a within at =
+run-is-call layout (calls.Rename from to) credential moment a at =
     on-both layout a from.directory from.name to.directory to.name credential moment at.1 (run-tried layout (calls.Rename from to) credential a at)
-run-is-call layout (calls.GetAttributes handle) credential moment a within at =
-    on-handle layout a (types.Getattr handle) credential moment (run-home layout (calls.GetAttributes handle) a within at)
+run-is-call layout (calls.GetAttributes handle) credential moment a at =
+    on-handle layout a (types.Getattr handle) credential moment (run-home layout (calls.GetAttributes handle) a at)
     (run-tried layout (calls.GetAttributes handle) credential a at) (λ server. refl)
-run-is-call layout (calls.SetAttributes handle set guard) credential moment a within at =
-    on-handle layout a (call_of (calls.SetAttributes handle set guard)) credential moment (run-home layout (calls.SetAttributes handle set guard) a within at)
+run-is-call layout (calls.SetAttributes handle set guard) credential moment a at =
+    on-handle layout a (call_of (calls.SetAttributes handle set guard)) credential moment (run-home layout (calls.SetAttributes handle set guard) a at)
     (run-tried layout (calls.SetAttributes handle set guard) credential a at) (λ server. refl)
-run-is-call layout (calls.Lookup target) credential moment a within at =
-    on-handle layout a (call_of (calls.Lookup target)) credential moment (run-home layout (calls.Lookup target) a within at)
+run-is-call layout (calls.Lookup target) credential moment a at =
+    on-handle layout a (call_of (calls.Lookup target)) credential moment (run-home layout (calls.Lookup target) a at)
     (run-tried layout (calls.Lookup target) credential a at) (λ server. refl)
-run-is-call layout (calls.Read handle offset count) credential moment a within at =
-    on-handle layout a (types.Read handle offset count) credential moment (run-home layout (calls.Read handle offset count) a within at)
+run-is-call layout (calls.Read handle offset count) credential moment a at =
+    on-handle layout a (types.Read handle offset count) credential moment (run-home layout (calls.Read handle offset count) a at)
     (run-tried layout (calls.Read handle offset count) credential a at) (λ server. refl)
-run-is-call layout (calls.Write handle offset count bytes) credential moment a within at =
-    on-handle layout a (call_of (calls.Write handle offset count bytes)) credential moment (run-home layout (calls.Write handle offset count bytes) a within at)
+run-is-call layout (calls.Write handle offset count bytes) credential moment a at =
+    on-handle layout a (call_of (calls.Write handle offset count bytes)) credential moment (run-home layout (calls.Write handle offset count bytes) a at)
     (run-tried layout (calls.Write handle offset count bytes) credential a at) (λ server. refl)
-run-is-call layout (calls.Create target mode) credential moment a within at =
-    on-handle layout a (call_of (calls.Create target mode)) credential moment (run-home layout (calls.Create target mode) a within at)
+run-is-call layout (calls.Create target mode) credential moment a at =
+    on-handle layout a (call_of (calls.Create target mode)) credential moment (run-home layout (calls.Create target mode) a at)
     (run-tried layout (calls.Create target mode) credential a at) (λ server. refl)
-run-is-call layout (calls.MakeDirectory target set) credential moment a within at =
-    on-handle layout a (call_of (calls.MakeDirectory target set)) credential moment (run-home layout (calls.MakeDirectory target set) a within at)
+run-is-call layout (calls.MakeDirectory target set) credential moment a at =
+    on-handle layout a (call_of (calls.MakeDirectory target set)) credential moment (run-home layout (calls.MakeDirectory target set) a at)
     (run-tried layout (calls.MakeDirectory target set) credential a at) (λ server. refl)
-run-is-call layout (calls.Remove target) credential moment a within at =
-    on-handle layout a (call_of (calls.Remove target)) credential moment (run-home layout (calls.Remove target) a within at)
+run-is-call layout (calls.Remove target) credential moment a at =
+    on-handle layout a (call_of (calls.Remove target)) credential moment (run-home layout (calls.Remove target) a at)
     (run-tried layout (calls.Remove target) credential a at) (λ server. refl)
-run-is-call layout (calls.RemoveDirectory target) credential moment a within at =
-    on-handle layout a (call_of (calls.RemoveDirectory target)) credential moment (run-home layout (calls.RemoveDirectory target) a within at)
+run-is-call layout (calls.RemoveDirectory target) credential moment a at =
+    on-handle layout a (call_of (calls.RemoveDirectory target)) credential moment (run-home layout (calls.RemoveDirectory target) a at)
     (run-tried layout (calls.RemoveDirectory target) credential a at) (λ server. refl)
-run-is-call layout (calls.ReadDirectory directory cookie verifier count) credential moment a within at =
+run-is-call layout (calls.ReadDirectory directory cookie verifier count) credential moment a at =
     on-handle layout a (call_of (calls.ReadDirectory directory cookie verifier count)) credential moment
-    (run-home layout (calls.ReadDirectory directory cookie verifier count) a within at)
+    (run-home layout (calls.ReadDirectory directory cookie verifier count) a at)
     (run-tried layout (calls.ReadDirectory directory cookie verifier count) credential a at) (λ server. refl)
-run-is-call layout (calls.FilesystemStatus handle) credential moment a within at =
-    on-handle layout a (types.Fsstat handle) credential moment (run-home layout (calls.FilesystemStatus handle) a within at)
+run-is-call layout (calls.FilesystemStatus handle) credential moment a at =
+    on-handle layout a (types.Fsstat handle) credential moment (run-home layout (calls.FilesystemStatus handle) a at)
     (run-tried layout (calls.FilesystemStatus handle) credential a at) (λ server. refl)
-run-is-call layout (calls.Commit handle) credential moment a within at =
-    on-handle layout a (types.Commit handle) credential moment (run-home layout (calls.Commit handle) a within at)
+run-is-call layout (calls.Commit handle) credential moment a at =
+    on-handle layout a (types.Commit handle) credential moment (run-home layout (calls.Commit handle) a at)
     (run-tried layout (calls.Commit handle) credential a at) (λ server. refl)
-run-is-call layout calls.Census credential moment a within at = absurd (run-on-handle layout calls.Census a within at)
-run-is-call layout call credential moment a within at = absurd at.0
+run-is-call layout call credential moment a at = absurd at.0
 
 -- ---- the run
 
@@ -200,7 +200,7 @@ module _ {P : Type 0} (layout : Layout) (lawful : fault_of layout ≡ None) (cal
       (logical_parcels layout (Logical v) old) outcome (logical_parcels layout (Logical v) new)
   logical-runs-at v on at old new outcome same own right =
       runs-by layout v on logical_lens (λ s p. refl) (call_on layout (Logical v) credential moment (call_of call)) credential moment
-      (run-is-call layout call credential moment (Logical v) refl at)
+      (run-is-call layout call credential moment (Logical v) (run-in layout call (Logical v) refl at))
       (logical_parcels layout (Logical v) old) (logical_parcels layout (Logical v) new)
       (logical_set (stripes_of layout v) old) (logical_set (stripes_of layout v) new) (logical-seen layout lawful v on old)
       (λ job reply step. logical-step layout lawful job reply v on old new step) outcome
@@ -226,7 +226,7 @@ module _ {P : Type 0} (layout : Layout) (lawful : fault_of layout ≡ None) (cal
       (volume_parcels layout (Volume v) old) outcome (volume_parcels layout (Volume v) new)
   volume-runs-at v on at old new outcome same own right =
       runs-by layout v on volume_lens (λ s p. refl) (call_on layout (Volume v) credential moment (call_of call)) credential moment
-      (run-is-call layout call credential moment (Volume v) refl at)
+      (run-is-call layout call credential moment (Volume v) (run-in layout call (Volume v) refl at))
       (volume_parcels layout (Volume v) old) (volume_parcels layout (Volume v) new)
       (volume_set (stripes_of layout v) old) (volume_set (stripes_of layout v) new) (volume-seen layout lawful v on old)
       (λ job reply step. volume-step layout lawful job reply v on old new step) outcome
@@ -252,7 +252,7 @@ module _ {P : Type 0} (layout : Layout) (lawful : fault_of layout ≡ None) (cal
       (stripe_parcels layout (Stripe v i) old) outcome (stripe_parcels layout (Stripe v i) new)
   stripe-runs-at v i on at old new outcome same right =
       runs-by layout v on.0 (stripe_lens i) (λ s p. refl) (call_on layout (Stripe v i) credential moment (call_of call)) credential moment
-      (run-is-call layout call credential moment (Stripe v i) refl at)
+      (run-is-call layout call credential moment (Stripe v i) (run-in layout call (Stripe v i) refl at))
       (stripe_parcels layout (Stripe v i) old) (stripe_parcels layout (Stripe v i) new) old.own new.own (stripe-seen layout lawful v on.0 i on.1 old)
       (λ job reply step. stripe-step layout lawful job reply v on.0 i on.1 old new step) outcome right
       (unless-mapped outcome (new ≡ old) ((k : ℕ) → stripe_parcels layout (Stripe v i) new k ≡ stripe_parcels layout (Stripe v i) old k)
@@ -312,7 +312,7 @@ moved-there : (layout : Layout) (a : Affinity) (credential : Credential) (moment
     → (p : VolumeContents) (other : Affinity) → move_on (call_on layout a credential moment (call_of call)) p ≡ Some other
     → IsNode layout other × IsRunAt layout call other
 moved-there layout a credential moment (calls.Write handle offset count bytes) there at p other e =
-    let here = write-home layout handle offset count bytes a at in
+    let here = run-home layout (calls.Write handle offset count bytes) a at in
     let v : ℕ = volume_of a in
     let c = call_on layout a credential moment (call_of (calls.Write handle offset count bytes)) in
     let up : (other ≡ Logical v) ⊎ (other ≡ Volume v) =
@@ -333,6 +333,7 @@ moved-there layout a credential moment (calls.ReadDirectory directory cookie ver
 moved-there layout a credential moment (calls.FilesystemStatus handle) there at p other e = absurd cc
 moved-there layout a credential moment (calls.Commit handle) there at p other e = absurd cc
 moved-there layout a credential moment calls.Census there at p other e = absurd cc
+moved-there layout a credential moment (calls.Grow volume more) there at p other e = absurd cc
 moved-there layout a credential moment call there at p other e = absurd at.0
 
 -- a call that was run on a part of its volume is run where it moves
