@@ -4,6 +4,7 @@
 
 mod attributes;
 mod batch;
+mod in_aggregate;
 mod in_stripe;
 mod in_volume;
 mod job;
@@ -15,6 +16,7 @@ mod task;
 
 pub use attributes::get_attributes;
 pub use batch::BatchInHand;
+pub use in_aggregate::run_on_aggregate;
 pub use in_stripe::run_on_stripe;
 pub use in_volume::run_on_volume;
 pub use job::{Asked, InnerCall, Job, JobReply, ServedCall};

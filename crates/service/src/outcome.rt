@@ -3,6 +3,7 @@
 ghost use Rattle.std.specs.Prelude.{◌≡◌};
 ghost use Rattle.service_data.specs.Promises.{reading_outcome};
 ghost use Rattle.service_data.specs.Writing.{writing_outcome, written_outcome};
+ghost use Rattle.service_totals.specs.Growing.{growing_outcome};
 ghost use Rattle.service.specs.Running.{outcome_of};
 
 use affinity_tree::Affinity;
@@ -54,4 +55,11 @@ pub(crate) fn outcome_written(
         Ok(None) => Outcome::Moved(Affinity::Volume(volume.0)),
         Err(AllocError) => Outcome::Starved,
     }
+}
+
+/// What a GROW comes to.
+pub(crate) fn outcome_grown(told: Result<u64, Status>) -> Outcome
+    ensures { outcome_of result ≡ growing_outcome told }
+{
+    Outcome::Replied(Reply::Success(Answer::Grow(told)))
 }
