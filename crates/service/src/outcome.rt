@@ -4,6 +4,7 @@ ghost use Rattle.std.specs.Prelude.{◌≡◌};
 ghost use Rattle.service_data.specs.Promises.{reading_outcome};
 ghost use Rattle.service_data.specs.Writing.{writing_outcome, written_outcome};
 ghost use Rattle.service_totals.specs.Census.{census_outcome};
+ghost use Rattle.service_totals.specs.Growing.{growing_outcome};
 ghost use Rattle.service.specs.Running.{outcome_of};
 
 use affinity_tree::Affinity;
@@ -65,4 +66,11 @@ pub(crate) fn outcome_counted(counted: Result<Vec<VolumeCount>, AllocError>) -> 
         Ok(counts) => Outcome::Replied(Reply::Success(Answer::Census(counts))),
         Err(AllocError) => Outcome::Starved,
     }
+}
+
+/// What a GROW comes to.
+pub(crate) fn outcome_grown(told: Result<u64, Status>) -> Outcome
+    ensures { outcome_of result ≡ growing_outcome told }
+{
+    Outcome::Replied(Reply::Success(Answer::Grow(told)))
 }
