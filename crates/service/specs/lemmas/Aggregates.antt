@@ -63,6 +63,7 @@ unless-grown told outcome A is = subst (λ (o : Outcome). UnlessReplied o A) (sy
 never-moves : (layout : Layout) (call : Call) (g : ℕ) → IsRunAt layout call (Aggregate g) → (credential : Credential) (moment : Moment) (store : Store)
     (other : Affinity) → move_of store (task_under (Aggregate g) (Ask (call_of call) credential) moment) ≡ Some other → ⊥
 never-moves layout (calls.Grow volume more) g at credential moment store other e = cc
+never-moves layout calls.Census g at credential moment store other e = cc
 never-moves layout call g at credential moment store other e = let above = (run-home layout call (Aggregate g) at).above in cc
 
 pub stays-there : (layout : Layout) (call : Call) (g : ℕ) → IsRunAt layout call (Aggregate g) → (credential : Credential) (moment : Moment)
