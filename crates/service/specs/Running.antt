@@ -142,8 +142,8 @@ RunsThere layout (types.Write handle offset count written) node =
     (home layout (types.Write handle offset count written) ≡ Some node) ⊎ RunsAbove (named_by layout handle) node
 RunsThere layout call node = home layout call ≡ Some node
 
--- a call that is run so far is run at this node: Logical of a volume, the stripe in which its bytes lie, Volume, or the Aggregate of
--- GROW's volume
+-- a call that is run is run at this node: Logical of a volume, the stripe in which its bytes lie, Volume, the Aggregate of GROW's
+-- volume, or Serial
 abbrev pub IsRunAt : Layout → Call → Affinity → Type 0
 IsRunAt layout call node = IsRun call × RunsThere layout (call_of call) node
 
