@@ -4,12 +4,15 @@ use Rattle.std.specs.Prelude.{IfNone, IfOk, OnErr}
 use Rattle.std.specs.declared.alloc.AllocError.{AllocError}
 use Rattle.nfs_model.specs.Types as types
 use Rattle.nfs_model.specs.Types.{Credential, Moment, Call}
-use Rattle.nfs_model.specs.Tree.{Layout, Affinity, Logical}
+use Rattle.nfs_model.specs.Tree.{Layout, Affinity, Logical, Volume}
 use Rattle.nfs_model.specs.Home.{named_by}
 use Rattle.nfs_model.specs.Server.{Named}
 use Rattle.nfs_model.specs.Work as works
 use Rattle.nfs_model.specs.Work.{Replied, Starved, Moved}
 use Rattle.nfs_values.specs.Call.{call_of}
+use Rattle.nfs_values.specs.Answer.{answer_of}
+use Rattle.nfs_values.specs.declared.answer.Answer.TheVariants.{FilesystemStatus}
+use Rattle.nfs_values.specs.declared.answer.FilesystemStatusResults.{FilesystemStatusResults}
 use Rattle.nfs_values.specs.declared.answer.RenameResults.{RenameResults}
 use Rattle.nfs_values.specs.declared.answer.WriteResults.{WriteResults}
 use Rattle.nfs_values.specs.declared.call.Call as codes
@@ -19,11 +22,12 @@ use Rattle.held_data.specs.WritingLaws.{write_call}
 use Rattle.held_state.specs.Calls.{VolumeCall, ServesOn, handle_in}
 use Rattle.held_state.specs.Contents.{VolumeContents}
 use Rattle.held_state.specs.Jobs as jobs
-use Rattle.held_state.specs.Lenses.{Lens, LogicalSet, logical_lens}
+use Rattle.held_state.specs.Lenses.{Lens, LogicalSet, VolumeSet, logical_lens, volume_lens}
 use Rattle.held_state.specs.Promises.{RightOnVolume}
 use Rattle.held_state.specs.Running.{RunsOn, UnlessReplied}
 use Rattle.service_data.specs.Writing.{asked_to_write, writing_outcome, written_outcome}
 use Rattle.service_renames.specs.Promises.{Renames, renaming_outcome}
+use Rattle.service_totals.specs.Space.{TellsSpace}
 use Rattle.service.specs.Running.{fileid_in, call_named, call_of_node, call_on}
 
 -- an entry of a call is its run
@@ -72,6 +76,15 @@ writing-runs layout v lens node fileid call handle offset count bytes written cr
     subst (λ (c : Call). RunsOn v lens (call_of_node layout node fileid credential moment c) old outcome new) (sym is)
     (subst (λ (o : works.Outcome). RunsOn v lens (write_call handle node fileid (asked_to_write offset count bytes moment)) old o new) (sym comes)
     (subst (λ (bs : List ℕ). RunsOn v lens (write_call handle node fileid (asked_to_write offset count bs moment)) old told new) same right))
+
+-- FSSTAT of what a call names is run as the call
+pub space-runs : (layout : Layout) (v : ℕ) (fileid : ℕ) (call : codes.Call) (handle : List ℕ) (credential : Credential) (moment : Moment)
+    (old : VolumeSet) (told : Result FilesystemStatusResults Status) → call_of call ≡ types.Fsstat handle → TellsSpace v fileid old told
+    → RunsOn v volume_lens (call_of_node layout (Volume v) fileid credential moment (call_of call)) old
+    (Replied (types.Success (answer_of (FilesystemStatus told)))) old
+space-runs layout v fileid call handle credential moment old told is right =
+    subst (λ (c : Call). RunsOn v volume_lens (call_of_node layout (Volume v) fileid credential moment c) old
+    (Replied (types.Success (answer_of (FilesystemStatus told)))) old) (sym is) (right handle)
 
 -- where it moves nothing has changed: in a stripe
 pub unless-written-there : (v : ℕ) (written : Option (Result WriteResults Status)) (outcome : works.Outcome) (A : Type 0)

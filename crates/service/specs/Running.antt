@@ -9,6 +9,7 @@ use Rattle.nfs_model.specs.Serial.Getattr.{getattr}
 use Rattle.nfs_model.specs.Serial.Setattr.{setattr}
 use Rattle.nfs_model.specs.Serial.Commit.{commit}
 use Rattle.nfs_model.specs.Serial.Create.{create}
+use Rattle.nfs_model.specs.Serial.Fsstat.{fsstat}
 use Rattle.nfs_model.specs.Serial.Lookup.{lookup}
 use Rattle.nfs_model.specs.Serial.Mkdir.{mkdir}
 use Rattle.nfs_model.specs.Serial.Read.{read}
@@ -25,7 +26,8 @@ use Rattle.nfs_values.specs.Call.{call_of}
 use Rattle.nfs_values.specs.Reply.{reply_of}
 use Rattle.nfs_values.specs.declared.call.Call.{Call}
 use Rattle.nfs_values.specs.declared.call.Call.TheVariants.{GetAttributes, SetAttributes, Lookup, Read, Write, Create, MakeDirectory}
-use Rattle.nfs_values.specs.declared.call.Call.TheVariants.{Remove, RemoveDirectory, Rename, ReadDirectory, Commit}
+use Rattle.nfs_values.specs.declared.call.Call.TheVariants.{Remove, RemoveDirectory, Rename, ReadDirectory}
+use Rattle.nfs_values.specs.declared.call.Call.TheVariants.{FilesystemStatus, Commit, Census, Grow}
 use Rattle.volume_values.specs.Stripes.{StripeValue}
 use Rattle.held_state.specs.Calls.{VolumeCall, LieIn, handle_in}
 use Rattle.held_state.specs.Parcels.{FilerParcel}
@@ -42,23 +44,35 @@ outcome_of (Moved affinity) = works.Moved (affinity_of affinity)
 
 -- ---- what is run
 
--- The calls that are run so far: all of names and attributes, READ, WRITE, and COMMIT.
-abbrev pub IsRun : Call → Type 0
-IsRun (GetAttributes handle) = Unit {0}
-IsRun (SetAttributes handle set guard) = Unit {0}
-IsRun (Lookup target) = Unit {0}
-IsRun (Read handle offset count) = Unit {0}
-IsRun (Write handle offset count bytes) = Unit {0}
-IsRun (Create target mode) = Unit {0}
-IsRun (MakeDirectory target set) = Unit {0}
-IsRun (Remove target) = Unit {0}
-IsRun (RemoveDirectory target) = Unit {0}
-IsRun (Rename from to) = Unit {0}
-IsRun (ReadDirectory directory cookie verifier count) = Unit {0}
-IsRun (Commit handle) = Unit {0}
-IsRun call = ⊥
+-- The calls on a volume, which their handle names: all of names and attributes, READ, WRITE, FSSTAT, and COMMIT.
+abbrev pub IsRunOnVolume : Call → Type 0
+IsRunOnVolume (GetAttributes handle) = Unit {0}
+IsRunOnVolume (SetAttributes handle set guard) = Unit {0}
+IsRunOnVolume (Lookup target) = Unit {0}
+IsRunOnVolume (Read handle offset count) = Unit {0}
+IsRunOnVolume (Write handle offset count bytes) = Unit {0}
+IsRunOnVolume (Create target mode) = Unit {0}
+IsRunOnVolume (MakeDirectory target set) = Unit {0}
+IsRunOnVolume (Remove target) = Unit {0}
+IsRunOnVolume (RemoveDirectory target) = Unit {0}
+IsRunOnVolume (Rename from to) = Unit {0}
+IsRunOnVolume (ReadDirectory directory cookie verifier count) = Unit {0}
+IsRunOnVolume (FilesystemStatus handle) = Unit {0}
+IsRunOnVolume (Commit handle) = Unit {0}
+IsRunOnVolume call = ⊥
 
--- those of them that change nothing
+-- those of them that are run under Logical
+abbrev pub IsRunInLogical : Call → Type 0
+IsRunInLogical (FilesystemStatus handle) = ⊥
+IsRunInLogical call = IsRunOnVolume call
+
+-- the calls that are run: those on a volume, CENSUS and GROW
+abbrev pub IsRun : Call → Type 0
+IsRun Census = Unit {0}
+IsRun (Grow volume more) = Unit {0}
+IsRun call = IsRunOnVolume call
+
+-- those under Logical that change nothing
 abbrev pub is_told : Call → Bool
 is_told (GetAttributes handle) = true
 is_told (Lookup target) = true
@@ -92,6 +106,7 @@ procedure (types.Remove directory name) other credential moment = on_name name m
 procedure (types.Rmdir directory name) other credential moment = on_name name moment rmdir
 procedure (types.Rename from from_name to to_name) other credential moment = λ volume fileid. rename from_name to_name moment volume fileid other
 procedure (types.Readdir directory cookie verifier count) other credential moment = readdir cookie verifier count
+procedure (types.Fsstat handle) other credential moment = fsstat
 procedure (types.Commit handle) other credential moment = commit
 procedure call other credential moment = λ volume fileid. Fails Stale
 
@@ -127,9 +142,14 @@ RunsThere layout (types.Write handle offset count written) node =
     (home layout (types.Write handle offset count written) ≡ Some node) ⊎ RunsAbove (named_by layout handle) node
 RunsThere layout call node = home layout call ≡ Some node
 
--- a call that is run so far is run at this node: Logical of a volume, the stripe in which its bytes lie, or Volume
+-- a call that is run is run at this node: Logical of a volume, the stripe in which its bytes lie, Volume, the Aggregate of GROW's
+-- volume, or Serial
 abbrev pub IsRunAt : Layout → Call → Affinity → Type 0
 IsRunAt layout call node = IsRun call × RunsThere layout (call_of call) node
+
+-- and one on a volume at a node of the volume
+abbrev pub IsRunIn : Layout → Call → Affinity → Type 0
+IsRunIn layout call node = IsRunOnVolume call × RunsThere layout (call_of call) node
 
 -- where a call moves, there is a node at which it is run
 abbrev pub MovesOn : Layout → Call → works.Outcome → Type 0

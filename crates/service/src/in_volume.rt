@@ -17,13 +17,15 @@ use crate::named::fileid_here;
 use crate::outcome::{Outcome, outcome_written};
 use crate::task::Run;
 use affinity_tree::{Affinity, Layout};
-use nfs_values::{Call, VolumeNumber};
+use nfs_values::{Answer, Call, Reply, VolumeNumber};
 use parcel_sets::VolumeHeld;
 use parcels::Files;
 use service_data::write_in_volume;
+use service_totals::space;
 
-/// Runs a call on the parcels under Volume of its volume: a WRITE that moved there. Where it has
-/// space, but too few blocks are outside of workers' hands, it has to run there again.
+/// Runs a call on the parcels under Volume of its volume: FSSTAT, whose home it is, or a WRITE that
+/// moved there. Where a WRITE has space, but too few blocks are outside of workers' hands, it has
+/// to run there again.
 pub fn run_on_volume(
     run: Run,
     layout: &Layout,
@@ -50,6 +52,10 @@ pub fn run_on_volume(
             let written = bytes.as_slice();
             let told = write_in_volume(held, fileid, *offset, *count, written, run.moment);
             outcome_written(volume, told)
+        }
+        Call::FilesystemStatus { .. } => {
+            let told = space(held, volume, fileid);
+            Outcome::Replied(Reply::Success(Answer::FilesystemStatus(told)))
         }
         _ => unreachable!(),
     }

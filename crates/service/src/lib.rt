@@ -4,6 +4,8 @@
 
 mod attributes;
 mod batch;
+mod in_aggregate;
+mod in_serial;
 mod in_stripe;
 mod in_volume;
 mod inner;
@@ -16,6 +18,8 @@ mod task;
 
 pub use attributes::get_attributes;
 pub use batch::BatchInHand;
+pub use in_aggregate::run_on_aggregate;
+pub use in_serial::run_on_serial;
 pub use in_stripe::run_on_stripe;
 pub use in_volume::run_on_volume;
 pub use inner::{InnerOutcome, RunInner};

@@ -6,16 +6,16 @@ ghost use Rattle.affinity_tree.specs.Affinity.{affinity_of};
 ghost use Rattle.affinity_tree.specs.Layout.{layout_of};
 ghost use Rattle.nfs_values.specs.Call.{call_of};
 ghost use Rattle.held_state.specs.Calls.{handle_in};
-ghost use Rattle.service.specs.Running.{fileid_in, IsRun, IsRunAt};
+ghost use Rattle.service.specs.Running.{fileid_in, IsRunIn, IsRunOnVolume};
 
 use affinity::named_by;
 use affinity_tree::{Affinity, Layout};
 use nfs_values::{Call, FileHandle, Fileid};
 
-/// The fileid that the handle of a call names, the first of RENAME's, where the call is run at this
-/// node.
+/// The fileid that the handle of a call on a volume names, the first of RENAME's, where the call is
+/// run at this node.
 pub(crate) fn fileid_here(layout: &Layout, affinity: Affinity, call: &Call) -> Fileid
-    requires { IsRunAt (layout_of layout.now) call.now (affinity_of affinity) }
+    requires { IsRunIn (layout_of layout.now) call.now (affinity_of affinity) }
     ensures { result.0
         ≡ fileid_in (named_by (layout_of layout.now) (handle_in (call_of call.now))) }
 {
@@ -25,9 +25,9 @@ pub(crate) fn fileid_here(layout: &Layout, affinity: Affinity, call: &Call) -> F
     }
 }
 
-/// The handle of a call that is run, the first of RENAME's.
+/// The handle of a call on a volume that is run, the first of RENAME's.
 fn handle_of(call: &Call) -> &FileHandle
-    requires { IsRun call.now }
+    requires { IsRunOnVolume call.now }
     ensures { result.now ≡ handle_in (call_of call.now) }
 {
     match call {
@@ -42,6 +42,7 @@ fn handle_of(call: &Call) -> &FileHandle
         Call::RemoveDirectory(target) => &target.directory,
         Call::Rename { from, .. } => &from.directory,
         Call::ReadDirectory { directory, .. } => directory,
+        Call::FilesystemStatus { handle } => handle,
         Call::Commit { handle } => handle,
         _ => unreachable!(),
     }

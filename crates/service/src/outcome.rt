@@ -3,10 +3,12 @@
 ghost use Rattle.std.specs.Prelude.{◌≡◌};
 ghost use Rattle.service_data.specs.Promises.{reading_outcome};
 ghost use Rattle.service_data.specs.Writing.{writing_outcome, written_outcome};
+ghost use Rattle.service_totals.specs.Census.{census_outcome};
+ghost use Rattle.service_totals.specs.Growing.{growing_outcome};
 ghost use Rattle.service.specs.Running.{outcome_of};
 
 use affinity_tree::Affinity;
-use nfs_values::{Answer, ReadResults, Reply, Status, VolumeNumber, WriteResults};
+use nfs_values::{Answer, ReadResults, Reply, Status, VolumeCount, VolumeNumber, WriteResults};
 use std::alloc::AllocError;
 
 /// What a run of a call comes to. But for a reply nothing has changed.
@@ -54,4 +56,21 @@ pub(crate) fn outcome_written(
         Ok(None) => Outcome::Moved(Affinity::Volume(volume.0)),
         Err(AllocError) => Outcome::Starved,
     }
+}
+
+/// What a CENSUS comes to.
+pub(crate) fn outcome_counted(counted: Result<Vec<VolumeCount>, AllocError>) -> Outcome
+    ensures { outcome_of result ≡ census_outcome counted }
+{
+    match counted {
+        Ok(counts) => Outcome::Replied(Reply::Success(Answer::Census(counts))),
+        Err(AllocError) => Outcome::Starved,
+    }
+}
+
+/// What a GROW comes to.
+pub(crate) fn outcome_grown(told: Result<u64, Status>) -> Outcome
+    ensures { outcome_of result ≡ growing_outcome told }
+{
+    Outcome::Replied(Reply::Success(Answer::Grow(told)))
 }

@@ -23,8 +23,8 @@ ghost use Rattle.service.specs.Running.{
   call_on,
   is_told,
   outcome_of,
-  IsRun,
   IsRunAt,
+  IsRunInLogical,
   RunsThere,
 };
 
@@ -75,7 +75,7 @@ pub fn run_on_logical(
     }
 }
 
-/// Whether a call that is run changes nothing.
+/// Whether a call that is run there changes nothing.
 fn is_told(call: &Call) -> bool
     ensures { result ≡ is_told call.now }
 {
@@ -136,7 +136,7 @@ fn tell(run: Run, held: &LogicalHeld<Files>, named: Named) -> Outcome
 
 /// Runs a call that may change the volume of what its handle names, on the volume's parcels.
 fn change(run: Run, layout: &Layout, held: &mut LogicalHeld<Files>, named: Named) -> Outcome
-    requires run { IsRun run.call.now }
+    requires run { IsRunInLogical run.call.now }
     requires changes { is_told run.call.now ≡ false }
     requires there { RunsThere (layout_of layout.now) (call_of run.call.now)
         (trees.Logical named.volume.0) }

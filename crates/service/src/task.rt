@@ -5,6 +5,8 @@ ghost use Rattle.nfs_model.specs.Tree as trees;
 ghost use Rattle.affinity_tree.specs.Affinity.{affinity_of, kind_of};
 ghost use Rattle.affinity_tree.specs.declared.affinity.Kind.TheVariants as kinds;
 
+use crate::in_aggregate::run_on_aggregate;
+use crate::in_serial::run_on_serial;
 use crate::in_stripe::run_on_stripe;
 use crate::in_volume::run_on_volume;
 use crate::outcome::Outcome;
@@ -78,12 +80,17 @@ impl<'a> Task<Parcel<Files>, ParcelKinds> for Run<'a> {
         run_on_volume(self, layout, volume, held)
     }
 
-    fn on_aggregate(self, _: &Layout, _: Affinity, _: &mut AggrHeld<Files>) -> Outcome {
-        unreachable!()
+    fn on_aggregate(
+        self,
+        layout: &Layout,
+        affinity: Affinity,
+        held: &mut AggrHeld<Files>,
+    ) -> Outcome {
+        run_on_aggregate(self, layout, aggregate_of(affinity), held)
     }
 
-    fn on_serial(self, _: &Layout, _: Affinity, _: &mut SerialHeld<Files>) -> Outcome {
-        unreachable!()
+    fn on_serial(self, layout: &Layout, _: Affinity, held: &mut SerialHeld<Files>) -> Outcome {
+        run_on_serial(self, layout, held)
     }
 }
 
@@ -94,6 +101,17 @@ fn volume_of_logical(affinity: Affinity) -> VolumeNumber
 {
     match affinity {
         Affinity::VolumeLogical(volume) => VolumeNumber(volume),
+        _ => unreachable!(),
+    }
+}
+
+/// The number of a node that is an Aggregate.
+fn aggregate_of(affinity: Affinity) -> u32
+    requires { kind_of (affinity_of affinity) ≡ kinds.Aggregate }
+    ensures { affinity_of affinity ≡ trees.Aggregate result }
+{
+    match affinity {
+        Affinity::Aggregate(aggregate) => aggregate,
         _ => unreachable!(),
     }
 }

@@ -1,7 +1,7 @@
--- How many numbers of a range are free, and how many ranges are in use.
+-- How many numbers of ranges are free.
 use Rattle.std.proofs.Common.{◌≡◌, ◌+◌, ◌<◌, ◌≤◌, ◌*◌, ℕ, suc, Bool, true, false, List, [], ◌∷◌, length, filter, cond, Option, sym, ap, ◌∙◌, arith}
 use Rattle.std.proofs.Math.Nat.{zero-add}
-use Rattle.std.specs.Prelude.{slice_index_or, if◌then◌else◌}
+use Rattle.std.specs.Prelude.{slice_index_or}
 use Rattle.std.specs.List.{range_with_len}
 use Rattle.std.proofs.lemmas.List.FromFn.{length-range_with_len}
 use Rattle.std.specs.FinSet.{contains, len}
@@ -10,7 +10,6 @@ use Rattle.nfs_model.specs.Parts.{range_blocks}
 use Rattle.volume_values.specs.Ranges.{RangeValue, free_numbers}
 use Rattle.held_state.specs.Contents.{each}
 use Rattle.held_state.specs.Sets.{FilerRange, range_value, placed}
-use Rattle.held_state.specs.Tree.{ranges_used}
 use Rattle.held_data.specs.WritingUp.{free_count}
 use Rattle.service_data.proofs.Parted.{at-found}
 
@@ -33,25 +32,12 @@ few-free r =
 -- ---- places, counted one after another
 
 module _ (f : ℕ → RangeValue) (all : ℕ) where
-  -- of the ranges so many are in use before one, and all with those from it on
-  abbrev pub UsedSoFar : ℕ → ℕ → Type 0
-  UsedSoFar at used = (used ≤ at) × ((m : ℕ) → at + m ≡ 16 → used + ranges_used (each f at m) ≡ all)
-
-  -- so many numbers are free before one
+  -- so many numbers are free before one, and all with those from it on
   abbrev pub FreeSoFar : ℕ → ℕ → Type 0
   FreeSoFar at free = (free ≤ 1024 * at) × ((m : ℕ) → at + m ≡ 16 → free + free_count (each f at m) ≡ all)
 
-  pub used-all : (at used : ℕ) → UsedSoFar at used → 16 ≤ at → at ≤ 16 → used ≡ all
-  used-all at used sofar past most = let rest = sofar.1 0 (omega (arith, past, most)) in omega (arith, rest)
-
   pub free-all : (at free : ℕ) → FreeSoFar at free → 16 ≤ at → at ≤ 16 → free ≡ all
   free-all at free sofar past most = let rest = sofar.1 0 (omega (arith, past, most)) in omega (arith, rest)
-
-pub used-first : (f : ℕ → RangeValue) → UsedSoFar f (ranges_used (each f 0 16)) 0 0
-used-first f = (
-  omega arith,
-  λ m all. zero-add (ranges_used (each f 0 m)) ∙ ap (λ (n : ℕ). ranges_used (each f 0 n)) (sym (zero-add m) ∙ all),
-)
 
 pub free-first : (f : ℕ → RangeValue) → FreeSoFar f (free_count (each f 0 16)) 0 0
 free-first f = (
@@ -66,16 +52,6 @@ module _ {P : Type 0} (places : List (Option (FilerRange P))) (all at : ℕ) (le
 
   here-is : range_value (slice_index_or places at d) ≡ value_at at
   here-is = ap range_value (at-found places at d less)
-
-  pub used-more : (used here : ℕ) → UsedSoFar value_at all at used
-      → here ≡ (if (range_value (slice_index_or places at d)).is_used then 1 else 0) → here ≤ 1 → UsedSoFar value_at all (at + 1) (used + here)
-  used-more used here sofar is few =
-      let same : here ≡ (if (value_at at).is_used then 1 else 0) = is ∙ ap (λ (r : RangeValue). if r.is_used then 1 else 0) here-is in (
-        let most = sofar.0 in omega (arith, most, few),
-        λ m rest.
-            let from = sofar.1 (suc m) (omega (arith, rest)) in
-            omega (arith, from, same),
-      )
 
   pub free-more : (free here : ℕ) → FreeSoFar value_at all at free → here ≡ len (range_value (slice_index_or places at d)).free → here ≤ 1024
       → FreeSoFar value_at all (at + 1) (free + here)

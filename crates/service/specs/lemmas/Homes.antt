@@ -2,10 +2,10 @@
 use Rattle.std.proofs.Common.{◌≡◌, ◌≢◌, ℕ, ◌+◌, ◌-◌, ◌/◌, ◌%◌, ◌<◌, Bool, true, false, Option, Some, None, refl, sym, ap, ◌∙◌}
 use Rattle.std.proofs.Common.{subst, inl, inr, ◌⊎◌, ⊎_elim, arith}
 use Rattle.std.proofs.lemmas.Bool.{eqb-true}
-use Rattle.std.specs.Prelude.{◌==◌, ◌||◌, min, if◌then◌else◌}
-use Rattle.nfs_model.specs.Tree.{Layout, Affinity, Volume, Logical, Stripe, stripes_of}
+use Rattle.std.specs.Prelude.{◌==◌, ◌||◌, min, if◌then◌else◌, zero, suc, List, [], ◌∷◌, length, is_some, slice_get}
+use Rattle.nfs_model.specs.Tree.{Layout, VolumeLayout, Affinity, Serial, Aggregate, Volume, Logical, Stripe, aggregate_in, aggregate_of, stripes_of}
 use Rattle.nfs_model.specs.Server.{Named, most_bytes}
-use Rattle.nfs_model.specs.Home.{home, logical_home, bytes_home, rename_home, named_by, span_bytes, stripe_of_span}
+use Rattle.nfs_model.specs.Home.{home, logical_home, volume_home, bytes_home, rename_home, grow_home, named_by, span_bytes, stripe_of_span}
 use Rattle.nfs_model.specs.Work.{volume_above}
 use Rattle.nfs_values.specs.Call.{call_of}
 use Rattle.nfs_values.specs.declared.call.Call.{Call}
@@ -16,7 +16,7 @@ use Rattle.affinity_tree.specs.declared.affinity.Kind.TheVariants as kinds
 use Rattle.parcel_sets.specs.Sets.{volume_of}
 use Rattle.held_state.specs.Calls.{LieIn, handle_in}
 use Rattle.held_data.specs.lemmas.Homes.{home-lies}
-use Rattle.service.specs.Running.{IsRun, IsRunAt, RunsAbove, BytesLieIn, fileid_in}
+use Rattle.service.specs.Running.{IsRun, IsRunInLogical, IsRunAt, IsRunIn, RunsAbove, BytesLieIn, fileid_in}
 
 -- what its handle names, the first of RENAME's: a fileid of the node's volume; and what the node is
 pub record IsNodeOf (named : Option Named) (a : Affinity) : Type 0 where
@@ -39,6 +39,10 @@ of-volume n a at = subst (IsNodeOf (Some n)) at (record { names = refl; above = 
 pub at-logical : (named : Option Named) (a : Affinity) → logical_home named ≡ Some a → IsNodeOf named a
 at-logical None a e = absurd cc
 at-logical (Some n) a e = of-logical n a cc
+
+at-volume : (named : Option Named) (a : Affinity) → volume_home named ≡ Some a → IsNodeOf named a
+at-volume None a e = absurd cc
+at-volume (Some n) a e = of-volume n a cc
 
 -- of bytes
 at-bytes : (layout : Layout) (named : Option Named) (offset n : ℕ) (a : Affinity) → bytes_home layout named offset n ≡ Some a → IsNodeOf named a
@@ -69,7 +73,7 @@ at-above None a above = absurd above
 at-above (Some n) a above =
     ⊎_elim (λ (e : a ≡ Logical n.volume). of-logical n a (sym e)) (λ (e : a ≡ Volume n.volume). of-volume n a (sym e)) above
 
-pub run-home : (layout : Layout) (call : Call) (a : Affinity) → IsRunAt layout call a → IsNodeOf (named_by layout (handle_in (call_of call))) a
+pub run-home : (layout : Layout) (call : Call) (a : Affinity) → IsRunIn layout call a → IsNodeOf (named_by layout (handle_in (call_of call))) a
 run-home layout (calls.GetAttributes handle) a at = at-logical (named_by layout handle) a at.1
 run-home layout (calls.SetAttributes handle set guard) a at = at-logical (named_by layout handle) a at.1
 run-home layout (calls.Lookup target) a at = at-logical (named_by layout target.directory) a at.1
@@ -84,12 +88,37 @@ run-home layout (calls.Remove target) a at = at-logical (named_by layout target.
 run-home layout (calls.RemoveDirectory target) a at = at-logical (named_by layout target.directory) a at.1
 run-home layout (calls.Rename from to) a at = at-both (named_by layout from.directory) (named_by layout to.directory) a at.1
 run-home layout (calls.ReadDirectory directory cookie verifier count) a at = at-logical (named_by layout directory) a at.1
+run-home layout (calls.FilesystemStatus handle) a at = at-volume (named_by layout handle) a at.1
 run-home layout (calls.Commit handle) a at = at-logical (named_by layout handle) a at.1
 run-home layout call a at = absurd at.0
 
 -- its handle is good
-pub run-named : (layout : Layout) (call : Call) (a : Affinity) → IsRunAt layout call a → named_by layout (handle_in (call_of call)) ≡ None → ⊥
+pub run-named : (layout : Layout) (call : Call) (a : Affinity) → IsRunIn layout call a → named_by layout (handle_in (call_of call)) ≡ None → ⊥
 run-named layout call a at none = let e = sym none ∙ (run-home layout call a at).names in cc
+
+-- ---- GROW
+
+-- it is run on an Aggregate
+grown-on : (o : Option VolumeLayout) (a : Affinity) → grow_home o ≡ Some a → (kind_of a ≡ kinds.Aggregate) × (volume_above a ≡ None)
+grown-on None a e = absurd cc
+grown-on (Some v) a e =
+    let same : Aggregate v.aggregate ≡ a = cc in
+    subst (λ (b : Affinity). (kind_of b ≡ kinds.Aggregate) × (volume_above b ≡ None)) same (refl, refl)
+
+-- and so not at a node of a volume
+no-grow : (layout : Layout) (v : ℕ) (a : Affinity) → grow_home (slice_get layout.volumes v) ≡ Some a → is_some (volume_above a) ≡ true → ⊥
+no-grow layout v a at within =
+    let none : is_some (volume_above a) ≡ false = ap (λ (o : Option ℕ). is_some o) (grown-on (slice_get layout.volumes v) a at).1 in cc
+
+-- nor is CENSUS, which is run on Serial
+no-census : (a : Affinity) → Some Serial ≡ Some a → is_some (volume_above a) ≡ true → ⊥
+no-census a at within = let is : a ≡ Serial = cc in let none : is_some (volume_above a) ≡ false = ap (λ (b : Affinity). is_some (volume_above b)) is in cc
+
+-- a call that is run at a node of a volume is one on the volume
+pub run-in : (layout : Layout) (call : Call) (a : Affinity) → is_some (volume_above a) ≡ true → IsRunAt layout call a → IsRunIn layout call a
+run-in layout (calls.Grow volume more) a within at = absurd (no-grow layout volume.0 a at.1 within)
+run-in layout calls.Census a within at = absurd (no-census a at.1 within)
+run-in layout call a within at = at
 
 -- ---- where it is run
 
@@ -106,19 +135,70 @@ at-home layout (calls.Remove target) a run at = (tt, at)
 at-home layout (calls.RemoveDirectory target) a run at = (tt, at)
 at-home layout (calls.Rename from to) a run at = (tt, at)
 at-home layout (calls.ReadDirectory directory cookie verifier count) a run at = (tt, at)
+at-home layout (calls.FilesystemStatus handle) a run at = (tt, at)
 at-home layout (calls.Commit handle) a run at = (tt, at)
+at-home layout calls.Census a run at = (tt, at)
+at-home layout (calls.Grow volume more) a run at = (tt, at)
 at-home layout call a run at = absurd run
+
+-- GROW on an Aggregate, CENSUS on Serial, each other call on a node of a volume
+run-on : (layout : Layout) (call : Call) (a : Affinity) → IsRunAt layout call a → (kind_of a ≡ kinds.Aggregate) ⊎ ((a ≡ Serial) ⊎ IsRunIn layout call a)
+run-on layout (calls.Grow volume more) a at = inl (grown-on (slice_get layout.volumes volume.0) a at.1).0
+run-on layout calls.Census a at = inr (inl cc)
+run-on layout call a at = inr (inr at)
 
 -- a call is run on no node of another kind
 pub not-here : (layout : Layout) (a : Affinity) (call : Call) → IsRunAt layout call a → (kind : Kind) → kind_of a ≡ kind
-    → kind ≢ kinds.VolumeLogical → kind ≢ kinds.Stripe → kind ≢ kinds.Volume → ⊥
-not-here layout a call at kind of logical stripe volume =
+    → kind ≢ kinds.VolumeLogical → kind ≢ kinds.Stripe → kind ≢ kinds.Volume → kind ≢ kinds.Aggregate → kind ≢ kinds.Serial → ⊥
+not-here layout a call at kind of logical stripe volume aggregate serial =
+    ⊎_elim (λ (e : kind_of a ≡ kinds.Aggregate). aggregate (sym of ∙ e))
+    (λ (within : (a ≡ Serial) ⊎ IsRunIn layout call a).
+    ⊎_elim (λ (e : a ≡ Serial). serial (sym of ∙ ap kind_of e))
+    (λ (on_volume : IsRunIn layout call a).
     ⊎_elim (λ (e : kind_of a ≡ kinds.VolumeLogical). logical (sym of ∙ e))
     (λ (others : (kind_of a ≡ kinds.Stripe) ⊎ (kind_of a ≡ kinds.Volume)).
     ⊎_elim (λ (e : kind_of a ≡ kinds.Stripe). stripe (sym of ∙ e)) (λ (e : kind_of a ≡ kinds.Volume). volume (sym of ∙ e)) others)
-    (run-home layout call a at).kind
+    (run-home layout call a on_volume).kind)
+    within)
+    (run-on layout call a at)
 
--- on Volume only a WRITE
+-- on an Aggregate only GROW of a volume that the layout puts there
+pub only-grows : (layout : Layout) (call : Call) (g : ℕ) → IsRunAt layout call (Aggregate g)
+    → ((volume : _) (more : ℕ) → call ≡ calls.Grow volume more → ⊥) → ⊥
+only-grows layout (calls.Grow volume more) g at no_grow = no_grow volume more refl
+only-grows layout calls.Census g at no_grow = let no : ⊥ = cc in no
+only-grows layout call g at no_grow = let above = (run-home layout call (Aggregate g) at).above in cc
+
+pub grows-there : (layout : Layout) (v g : ℕ) → grow_home (slice_get layout.volumes v) ≡ Some (Aggregate g)
+    → (v < length layout.volumes) × (aggregate_of layout v ≡ g)
+grows-there layout v g at = (within layout.volumes v at, by (slice_get layout.volumes v) at)
+  where
+    within : (volumes : List VolumeLayout) (v : ℕ) → grow_home (slice_get volumes v) ≡ Some (Aggregate g) → v < length volumes
+    within [] v e = absurd cc
+    within (x ∷ xs) zero e = omega arith
+    within (x ∷ xs) (suc v) e = let less = within xs v e in omega (arith, less)
+
+    by : (o : Option VolumeLayout) → grow_home o ≡ Some (Aggregate g) → aggregate_in o ≡ g
+    by None e = absurd cc
+    by (Some x) e = cc
+
+-- on Serial only CENSUS
+pub only-census : (layout : Layout) (call : Call) → IsRunAt layout call Serial → (call ≡ calls.Census → ⊥) → ⊥
+only-census layout calls.Census at no_census = no_census refl
+only-census layout (calls.Grow volume more) at no_census =
+    let kind : kinds.Serial ≡ kinds.Aggregate = (grown-on (slice_get layout.volumes volume.0) Serial at.1).0 in cc
+only-census layout call at no_census = let above = (run-home layout call Serial at).above in cc
+
+-- under Logical not FSSTAT
+not-logical : (named : Option Named) (v : ℕ) → volume_home named ≡ Some (Logical v) → ⊥
+not-logical None v e = cc
+not-logical (Some n) v e = cc
+
+pub in-logical : (layout : Layout) (call : Call) (v : ℕ) → IsRunIn layout call (Logical v) → IsRunInLogical call
+in-logical layout (calls.FilesystemStatus handle) v at = not-logical (named_by layout handle) v at.1
+in-logical layout call v at = at.0
+
+-- on Volume only a WRITE, or FSSTAT
 not-volume : (named : Option Named) (v : ℕ) → logical_home named ≡ Some (Volume v) → ⊥
 not-volume None v e = cc
 not-volume (Some n) v e = cc
@@ -132,27 +212,35 @@ no-bytes-volume layout (Some h) offset n v e = by ((n == 0) || (offset / span_by
     by false is = cc
 
 pub only-writes : (layout : Layout) (call : Call) (v : ℕ) → IsRunAt layout call (Volume v)
-    → ((handle : _) (offset count : ℕ) (bytes : _) → call ≡ calls.Write handle offset count bytes → ⊥) → ⊥
-only-writes layout (calls.GetAttributes handle) v at no_write = not-volume (named_by layout handle) v at.1
-only-writes layout (calls.SetAttributes handle set guard) v at no_write = not-volume (named_by layout handle) v at.1
-only-writes layout (calls.Lookup target) v at no_write = not-volume (named_by layout target.directory) v at.1
-only-writes layout (calls.Read handle offset count) v at no_write =
+    → ((handle : _) (offset count : ℕ) (bytes : _) → call ≡ calls.Write handle offset count bytes → ⊥)
+    → ((handle : _) → call ≡ calls.FilesystemStatus handle → ⊥) → ⊥
+only-writes layout (calls.GetAttributes handle) v at no_write no_space = not-volume (named_by layout handle) v at.1
+only-writes layout (calls.SetAttributes handle set guard) v at no_write no_space = not-volume (named_by layout handle) v at.1
+only-writes layout (calls.Lookup target) v at no_write no_space = not-volume (named_by layout target.directory) v at.1
+only-writes layout (calls.Read handle offset count) v at no_write no_space =
     no-bytes-volume layout (named_by layout handle) offset (min count most_bytes) v at.1
-only-writes layout (calls.Write handle offset count bytes) v at no_write = no_write handle offset count bytes refl
-only-writes layout (calls.Create target mode) v at no_write = not-volume (named_by layout target.directory) v at.1
-only-writes layout (calls.MakeDirectory target set) v at no_write = not-volume (named_by layout target.directory) v at.1
-only-writes layout (calls.Remove target) v at no_write = not-volume (named_by layout target.directory) v at.1
-only-writes layout (calls.RemoveDirectory target) v at no_write = not-volume (named_by layout target.directory) v at.1
-only-writes layout (calls.Rename from to) v at no_write =
+only-writes layout (calls.Write handle offset count bytes) v at no_write no_space = no_write handle offset count bytes refl
+only-writes layout (calls.Create target mode) v at no_write no_space = not-volume (named_by layout target.directory) v at.1
+only-writes layout (calls.MakeDirectory target set) v at no_write no_space = not-volume (named_by layout target.directory) v at.1
+only-writes layout (calls.Remove target) v at no_write no_space = not-volume (named_by layout target.directory) v at.1
+only-writes layout (calls.RemoveDirectory target) v at no_write no_space = not-volume (named_by layout target.directory) v at.1
+only-writes layout (calls.Rename from to) v at no_write no_space =
     not-volume (named_by layout from.directory) v (both-there (named_by layout from.directory) (named_by layout to.directory) (Volume v) at.1).0
-only-writes layout (calls.ReadDirectory directory cookie verifier count) v at no_write = not-volume (named_by layout directory) v at.1
-only-writes layout (calls.Commit handle) v at no_write = not-volume (named_by layout handle) v at.1
-only-writes layout call v at no_write = absurd at.0
+only-writes layout (calls.ReadDirectory directory cookie verifier count) v at no_write no_space = not-volume (named_by layout directory) v at.1
+only-writes layout (calls.FilesystemStatus handle) v at no_write no_space = no_space handle refl
+only-writes layout calls.Census v at no_write no_space = let no : ⊥ = cc in no
+only-writes layout (calls.Commit handle) v at no_write no_space = not-volume (named_by layout handle) v at.1
+only-writes layout (calls.Grow volume more) v at no_write no_space = no-grow layout volume.0 (Volume v) at.1 refl
+only-writes layout call v at no_write no_space = absurd at.0
 
 -- in a stripe, only one on bytes that lie in it
 not-stripe : (named : Option Named) (v i : ℕ) → logical_home named ≡ Some (Stripe v i) → ⊥
 not-stripe None v i e = cc
 not-stripe (Some n) v i e = cc
+
+no-volume-stripe : (named : Option Named) (v i : ℕ) → volume_home named ≡ Some (Stripe v i) → ⊥
+no-volume-stripe None v i e = cc
+no-volume-stripe (Some n) v i e = cc
 
 no-stripe-above : (named : Option Named) (v i : ℕ) → RunsAbove named (Stripe v i) → ⊥
 no-stripe-above None v i above = above
@@ -186,5 +274,8 @@ bytes-lie layout (calls.RemoveDirectory target) v i stripes at many there = not-
 bytes-lie layout (calls.Rename from to) v i stripes at many there =
     not-stripe (named_by layout from.directory) v i (both-there (named_by layout from.directory) (named_by layout to.directory) (Stripe v i) at.1).0
 bytes-lie layout (calls.ReadDirectory directory cookie verifier count) v i stripes at many there = not-stripe (named_by layout directory) v i at.1
+bytes-lie layout (calls.FilesystemStatus handle) v i stripes at many there = no-volume-stripe (named_by layout handle) v i at.1
+bytes-lie layout calls.Census v i stripes at many there = let no : ⊥ = cc in no
 bytes-lie layout (calls.Commit handle) v i stripes at many there = not-stripe (named_by layout handle) v i at.1
+bytes-lie layout (calls.Grow volume more) v i stripes at many there = no-grow layout volume.0 (Stripe v i) at.1 refl
 bytes-lie layout call v i stripes at many there = absurd at.0

@@ -37,8 +37,8 @@ use Rattle.held_laws.specs.lemmas.Kinds.{stripe-step, logical-step, volume-step}
 use Rattle.held_laws.specs.lemmas.Running.{runs-by}
 use Rattle.held_laws.specs.lemmas.SeenSets.{stripe-seen, logical-seen, volume-seen}
 use Rattle.held_laws.specs.lemmas.Steps.{laid-out, get-some}
-use Rattle.service.specs.Running.{IsRunAt, RunsAbove, IsStripeOf, MovesOn, call_on, fileid_in, other_in, procedure}
-use Rattle.service.specs.lemmas.Homes.{IsNodeOf, at-logical, both-there, run-home}
+use Rattle.service.specs.Running.{IsRunAt, IsRunIn, RunsAbove, IsStripeOf, MovesOn, call_on, fileid_in, other_in, procedure}
+use Rattle.service.specs.lemmas.Homes.{IsNodeOf, at-logical, both-there, run-home, run-in}
 
 -- ---- a call that is run is a call on its volume
 
@@ -86,7 +86,10 @@ run-tried layout (calls.Remove target) credential a at = (a, at.1, begins-self (
 run-tried layout (calls.RemoveDirectory target) credential a at = (a, at.1, begins-self (path layout a))
 run-tried layout (calls.Rename from to) credential a at = (a, at.1, begins-self (path layout a))
 run-tried layout (calls.ReadDirectory directory cookie verifier count) credential a at = (a, at.1, begins-self (path layout a))
+run-tried layout (calls.FilesystemStatus handle) credential a at = (a, at.1, begins-self (path layout a))
+run-tried layout calls.Census credential a at = (a, at.1, begins-self (path layout a))
 run-tried layout (calls.Commit handle) credential a at = (a, at.1, begins-self (path layout a))
+run-tried layout (calls.Grow volume more) credential a at = (a, at.1, begins-self (path layout a))
 run-tried layout call credential a at = absurd at.0
 
 -- what it names on a server of this layout
@@ -138,7 +141,7 @@ on-both layout a from from_name to to_name credential moment is tried =
           (eq-eqb v v refl);
     }
 
-pub run-is-call : (layout : Layout) (call : Call) (credential : Credential) (moment : Moment) (a : Affinity) → IsRunAt layout call a
+pub run-is-call : (layout : Layout) (call : Call) (credential : Credential) (moment : Moment) (a : Affinity) → IsRunIn layout call a
     → IsCallOn layout (volume_of a) (call_on layout a credential moment (call_of call)) credential moment
 run-is-call layout (calls.Rename from to) credential moment a at =
     on-both layout a from.directory from.name to.directory to.name credential moment at.1 (run-tried layout (calls.Rename from to) credential a at)
@@ -173,6 +176,9 @@ run-is-call layout (calls.ReadDirectory directory cookie verifier count) credent
     on-handle layout a (call_of (calls.ReadDirectory directory cookie verifier count)) credential moment
     (run-home layout (calls.ReadDirectory directory cookie verifier count) a at)
     (run-tried layout (calls.ReadDirectory directory cookie verifier count) credential a at) (λ server. refl)
+run-is-call layout (calls.FilesystemStatus handle) credential moment a at =
+    on-handle layout a (types.Fsstat handle) credential moment (run-home layout (calls.FilesystemStatus handle) a at)
+    (run-tried layout (calls.FilesystemStatus handle) credential a at) (λ server. refl)
 run-is-call layout (calls.Commit handle) credential moment a at =
     on-handle layout a (types.Commit handle) credential moment (run-home layout (calls.Commit handle) a at)
     (run-tried layout (calls.Commit handle) credential a at) (λ server. refl)
@@ -194,7 +200,7 @@ module _ {P : Type 0} (layout : Layout) (lawful : fault_of layout ≡ None) (cal
       (logical_parcels layout (Logical v) old) outcome (logical_parcels layout (Logical v) new)
   logical-runs-at v on at old new outcome same own right =
       runs-by layout v on logical_lens (λ s p. refl) (call_on layout (Logical v) credential moment (call_of call)) credential moment
-      (run-is-call layout call credential moment (Logical v) at)
+      (run-is-call layout call credential moment (Logical v) (run-in layout call (Logical v) refl at))
       (logical_parcels layout (Logical v) old) (logical_parcels layout (Logical v) new)
       (logical_set (stripes_of layout v) old) (logical_set (stripes_of layout v) new) (logical-seen layout lawful v on old)
       (λ job reply step. logical-step layout lawful job reply v on old new step) outcome
@@ -220,7 +226,7 @@ module _ {P : Type 0} (layout : Layout) (lawful : fault_of layout ≡ None) (cal
       (volume_parcels layout (Volume v) old) outcome (volume_parcels layout (Volume v) new)
   volume-runs-at v on at old new outcome same own right =
       runs-by layout v on volume_lens (λ s p. refl) (call_on layout (Volume v) credential moment (call_of call)) credential moment
-      (run-is-call layout call credential moment (Volume v) at)
+      (run-is-call layout call credential moment (Volume v) (run-in layout call (Volume v) refl at))
       (volume_parcels layout (Volume v) old) (volume_parcels layout (Volume v) new)
       (volume_set (stripes_of layout v) old) (volume_set (stripes_of layout v) new) (volume-seen layout lawful v on old)
       (λ job reply step. volume-step layout lawful job reply v on old new step) outcome
@@ -246,7 +252,7 @@ module _ {P : Type 0} (layout : Layout) (lawful : fault_of layout ≡ None) (cal
       (stripe_parcels layout (Stripe v i) old) outcome (stripe_parcels layout (Stripe v i) new)
   stripe-runs-at v i on at old new outcome same right =
       runs-by layout v on.0 (stripe_lens i) (λ s p. refl) (call_on layout (Stripe v i) credential moment (call_of call)) credential moment
-      (run-is-call layout call credential moment (Stripe v i) at)
+      (run-is-call layout call credential moment (Stripe v i) (run-in layout call (Stripe v i) refl at))
       (stripe_parcels layout (Stripe v i) old) (stripe_parcels layout (Stripe v i) new) old.own new.own (stripe-seen layout lawful v on.0 i on.1 old)
       (λ job reply step. stripe-step layout lawful job reply v on.0 i on.1 old new step) outcome right
       (unless-mapped outcome (new ≡ old) ((k : ℕ) → stripe_parcels layout (Stripe v i) new k ≡ stripe_parcels layout (Stripe v i) old k)
@@ -324,7 +330,10 @@ moved-there layout a credential moment (calls.Remove target) there at p other e 
 moved-there layout a credential moment (calls.RemoveDirectory target) there at p other e = absurd cc
 moved-there layout a credential moment (calls.Rename from to) there at p other e = absurd cc
 moved-there layout a credential moment (calls.ReadDirectory directory cookie verifier count) there at p other e = absurd cc
+moved-there layout a credential moment (calls.FilesystemStatus handle) there at p other e = absurd cc
 moved-there layout a credential moment (calls.Commit handle) there at p other e = absurd cc
+moved-there layout a credential moment calls.Census there at p other e = absurd cc
+moved-there layout a credential moment (calls.Grow volume more) there at p other e = absurd cc
 moved-there layout a credential moment call there at p other e = absurd at.0
 
 -- a call that was run on a part of its volume is run where it moves

@@ -1,22 +1,26 @@
 use Rattle.std.proofs.Common.{◌≡◌, ap}
 use Rattle.nfs_model.specs.Tree.{Volume}
+use Rattle.nfs_model.specs.Types.{Success}
+use Rattle.nfs_model.specs.Work.{Replied}
 use Rattle.affinity_tree.specs.Layout.{layout_of}
+use Rattle.nfs_values.specs.Answer.{answer_of}
 use Rattle.nfs_values.specs.Call.{call_of}
 use Rattle.nfs_values.specs.Credential.{credential_of}
 use Rattle.nfs_values.specs.Moment.{moment_of}
+use Rattle.nfs_values.specs.declared.answer.Answer.TheVariants.{FilesystemStatus}
 use Rattle.held_state.specs.Lenses.{volume_lens}
 use Rattle.held_state.specs.Sets.{volume_before, volume_after}
 use Rattle.service_data.specs.Writing.{written_outcome}
 use Rattle.service.specs.Running.{outcome_of}
 use Rattle.service.specs.lemmas.Homes.{only-writes}
-use Rattle.service.proofs.Runs.{runs-here, writing-runs, unless-written}
+use Rattle.service.proofs.Runs.{runs-here, writing-runs, space-runs}
 use Rattle.service.proofs.in_volume.run_on_volume.Goals as goal
 
 pub write_in_volume-told-requires : goal.write_in_volume-told-requires
 write_in_volume-told-requires c = record { whole = (c.args.volume.0, c.requires.whole) }
 
-pub returns-clause-runs : goal.returns-clause-runs
-returns-clause-runs c =
+pub returns-in-Write-clause-runs : goal.returns-in-Write-clause-runs
+returns-in-Write-clause-runs c =
     let L = layout_of c.args.layout.now in
     let v = c.args.volume.0 in
     let f = c.fileid_here-fileid.result.0 in
@@ -33,12 +37,20 @@ returns-clause-runs c =
     old new outcome (written_outcome v told.result) (ap call_of asked.is) c.as_slice-written.ensures.value c.outcome_written.ensures
     (told.ensures.right v asked.handle))
 
-pub returns-clause-moved : goal.returns-clause-moved
-returns-clause-moved c =
-    let told = c.write_in_volume-told in
-    unless-written c.args.volume.0 told.result (outcome_of c.outcome_written.result) (told.new.held ≡ c.args.held.now)
-    c.outcome_written.ensures told.ensures.moved told.ensures.starved
+pub returns-in-FilesystemStatus-clause-runs : goal.returns-in-FilesystemStatus-clause-runs
+returns-in-FilesystemStatus-clause-runs c =
+    let L = layout_of c.args.layout.now in
+    let v = c.args.volume.0 in
+    let f = c.fileid_here-fileid.result.0 in
+    let call = c.args.run.call.now in
+    let credential = credential_of c.args.run.credential in
+    let moment = moment_of c.args.run.moment in
+    let told = c.space-told.result in
+    let held = volume_before c.args.held.now in
+    runs-here L v volume_lens (Volume v) f (call_of call) credential moment held held (Replied (Success (answer_of (FilesystemStatus told))))
+    c.fileid_here-fileid.ensures
+    (space-runs L v f call c.in-FilesystemStatus.handle credential moment held told (ap call_of c.in-FilesystemStatus.is) c.space-told.ensures.right)
 
 pub unreachable-requires : goal.unreachable-requires
 unreachable-requires c =
-    only-writes (layout_of c.args.layout.now) c.args.run.call.now c.args.volume.0 c.requires.at c.in_default.not-Write
+    only-writes (layout_of c.args.layout.now) c.args.run.call.now c.args.volume.0 c.requires.at c.in_default.not-Write c.in_default.not-FilesystemStatus

@@ -1,13 +1,50 @@
-use Rattle.affinity_tree.specs.declared.affinity.Kind.TheVariants as kinds
+use Rattle.std.proofs.Common.{subst}
+use Rattle.nfs_model.specs.Tree.{Affinity, Aggregate}
 use Rattle.affinity_tree.specs.Affinity.{affinity_of}
 use Rattle.affinity_tree.specs.Layout.{layout_of}
+use Rattle.nfs_values.specs.Credential.{credential_of}
+use Rattle.nfs_values.specs.Moment.{moment_of}
+use Rattle.parcel_sets.specs.lemmas.Exactly.{aggregate-exact}
 use Rattle.parcel_sets.specs.lemmas.Sorts.{aggregate-kind}
-use Rattle.service.specs.lemmas.Homes.{not-here}
+use Rattle.held_state.specs.Sets.{aggregate_set}
+use Rattle.service.specs.Running.{IsRunAt, outcome_of}
+use Rattle.service.specs.lemmas.Aggregates.{aggregate-whole, aggregate-ran, stays-there}
 use Rattle.service.proofs.task.RunTaskParcelFilesParcelKinds.on_aggregate.Goals as goal
 
-pub unreachable-requires : goal.unreachable-requires
-unreachable-requires c =
-    let L = layout_of c.args.arg2.now in
-    let a = affinity_of c.args.arg3 in
-    not-here L a c.args.self.call.now c.requires.asks.0 kinds.Aggregate
-    (aggregate-kind L a c.args.arg4.now c.requires.node c.requires.exact) (λ e. cc) (λ e. cc) (λ e. cc)
+pub aggregate_of-requires : goal.aggregate_of-requires
+aggregate_of-requires c =
+    aggregate-kind (layout_of c.args.layout.now) (affinity_of c.args.affinity) c.args.held.now c.requires.node c.requires.exact
+
+pub run_on_aggregate-requires-clause-at : goal.run_on_aggregate-requires-clause-at
+run_on_aggregate-requires-clause-at c =
+    subst (λ (a : Affinity). IsRunAt (layout_of c.args.layout.now) c.args.self.call.now a) c.aggregate_of.ensures c.requires.asks.0
+
+pub run_on_aggregate-requires-clause-whole : goal.run_on_aggregate-requires-clause-whole
+run_on_aggregate-requires-clause-whole c =
+    aggregate-whole (layout_of c.args.layout.now) c.args.layout.now.lawful c.aggregate_of.result (affinity_of c.args.affinity) c.aggregate_of.ensures
+    c.requires.node c.args.held.now c.requires.asks.1
+
+pub returns-clause-exact : goal.returns-clause-exact
+returns-clause-exact c =
+    aggregate-exact (layout_of c.args.layout.now) (affinity_of c.args.affinity) c.args.held.now c.run_on_aggregate.new.held c.run_on_aggregate.ensures.alike
+    c.requires.exact
+
+pub returns-clause-does : goal.returns-clause-does
+returns-clause-does c =
+    let L = layout_of c.args.layout.now in
+    let a = affinity_of c.args.affinity in
+    let call = c.args.self.call.now in
+    let held = c.args.held.now in
+    let new = c.run_on_aggregate.new.held in
+    let g = c.aggregate_of.result in
+    let at = c.aggregate_of.ensures in
+    let credential = credential_of c.args.self.credential in
+    let moment = moment_of c.args.self.moment in
+    let known = aggregate-whole L c.args.layout.now.lawful g a at c.requires.node held c.requires.asks.1 in
+    let there = subst (λ (b : Affinity). IsRunAt L call b) at c.requires.asks.0 in
+    let ran = c.run_on_aggregate.ensures.runs in
+    let outcome = outcome_of c.run_on_aggregate.result in (
+      aggregate-ran L c.args.layout.now.lawful call credential moment g a at c.requires.node c.requires.asks.0 held new outcome
+          c.run_on_aggregate.ensures.moved ran,
+      stays-there L call g there credential moment (aggregate_set L g held) (aggregate_set L g new) outcome known ran,
+    )

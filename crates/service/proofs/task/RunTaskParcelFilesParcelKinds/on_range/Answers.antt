@@ -10,4 +10,4 @@ unreachable-requires c =
     let L = layout_of c.args.arg2.now in
     let a = affinity_of c.args.arg3 in
     not-here L a c.args.self.call.now c.requires.asks.0 kinds.Range
-    (range-kind L a c.args.arg4.now c.requires.node c.requires.exact) (λ e. cc) (λ e. cc) (λ e. cc)
+    (range-kind L a c.args.arg4.now c.requires.node c.requires.exact) (λ e. cc) (λ e. cc) (λ e. cc) (λ e. cc) (λ e. cc)

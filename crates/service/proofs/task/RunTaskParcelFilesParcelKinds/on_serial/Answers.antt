@@ -1,13 +1,37 @@
-use Rattle.affinity_tree.specs.declared.affinity.Kind.TheVariants as kinds
+use Rattle.std.proofs.Common.{◌≡◌, refl, subst}
+use Rattle.nfs_model.specs.Tree.{Affinity}
 use Rattle.affinity_tree.specs.Affinity.{affinity_of}
 use Rattle.affinity_tree.specs.Layout.{layout_of}
+use Rattle.nfs_values.specs.Credential.{credential_of}
+use Rattle.nfs_values.specs.Moment.{moment_of}
 use Rattle.parcel_sets.specs.lemmas.Sorts.{serial-kind}
-use Rattle.service.specs.lemmas.Homes.{not-here}
+use Rattle.held_state.specs.Sets.{serial_set}
+use Rattle.service.specs.Running.{IsRunAt, outcome_of}
+use Rattle.service.specs.lemmas.OnAll.{is-serial, serial-whole, serial-runs, serial-moves-on}
+use Rattle.service.proofs.Runs.{unless-any}
 use Rattle.service.proofs.task.RunTaskParcelFilesParcelKinds.on_serial.Goals as goal
 
-pub unreachable-requires : goal.unreachable-requires
-unreachable-requires c =
-    let L = layout_of c.args.arg2.now in
+pub run_on_serial-requires : goal.run_on_serial-requires
+run_on_serial-requires c =
+    let L = layout_of c.args.layout.now in
     let a = affinity_of c.args.arg3 in
-    not-here L a c.args.self.call.now c.requires.asks.0 kinds.Serial
-    (serial-kind L a c.args.arg4.now c.requires.node c.requires.exact) (λ e. cc) (λ e. cc) (λ e. cc)
+    let is = is-serial a (serial-kind L a c.args.held.now c.requires.node c.requires.exact) in
+    record { at = subst (λ (b : Affinity). IsRunAt L c.args.self.call.now b) is c.requires.asks.0 }
+
+pub returns-clause-does : goal.returns-clause-does
+returns-clause-does c =
+    let L = layout_of c.args.layout.now in
+    let lawful = c.args.layout.now.lawful in
+    let a = affinity_of c.args.arg3 in
+    let call = c.args.self.call.now in
+    let held = c.args.held.now in
+    let set = serial_set L held in
+    let credential = credential_of c.args.self.credential in
+    let moment = moment_of c.args.self.moment in
+    let is = is-serial a (serial-kind L a held c.requires.node c.requires.exact) in
+    let outcome = outcome_of c.run_on_serial.result in
+    let ran = c.run_on_serial.ensures.runs in (
+      serial-runs L call credential moment lawful a is c.requires.asks.0 held held outcome (unless-any outcome (held ≡ held) refl) ran,
+      serial-moves-on L call credential moment (subst (λ (b : Affinity). IsRunAt L call b) is c.requires.asks.0) set set outcome
+          (serial-whole L lawful a is held c.requires.asks.1) ran,
+    )

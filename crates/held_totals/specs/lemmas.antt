@@ -1,0 +1,8 @@
+-- Lemmas alone, which no reader has to believe: laws of these definitions, for proofs above.
+pub mod Running
+pub mod Ranges
+pub mod Sets
+pub mod Grown
+pub mod Grows
+pub mod Space
+pub mod Census

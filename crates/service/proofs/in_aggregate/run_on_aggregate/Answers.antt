@@ -1,0 +1,34 @@
+use Rattle.std.proofs.Common.{◌≡◌, ap, subst}
+use Rattle.nfs_model.specs.Tree.{Aggregate}
+use Rattle.affinity_tree.specs.Layout.{layout_of}
+use Rattle.nfs_values.specs.Call.{call_of}
+use Rattle.nfs_values.specs.Credential.{credential_of}
+use Rattle.nfs_values.specs.Moment.{moment_of}
+use Rattle.nfs_values.specs.declared.call.Call.{Call}
+use Rattle.service.specs.Running.{IsRunAt, outcome_of}
+use Rattle.service.specs.lemmas.Homes.{only-grows}
+use Rattle.service.specs.lemmas.Aggregates.{has-volume, grown-runs, unless-grown}
+use Rattle.service.proofs.in_aggregate.run_on_aggregate.Goals as goal
+
+pub grow-requires : goal.grow-requires
+grow-requires c =
+    let L = layout_of c.args.layout.now in
+    let g = c.args.aggregate in
+    let at = subst (λ (k : Call). IsRunAt L k (Aggregate g)) c.in-Grow.is c.requires.at in
+    record { whole = has-volume L g c.in-Grow.volume.0 c.in-Grow.ranges at.1 c.args.held.now c.requires.whole }
+
+pub returns-clause-runs : goal.returns-clause-runs
+returns-clause-runs c =
+    let L = layout_of c.args.layout.now in
+    let g = c.args.aggregate in
+    let at = subst (λ (k : Call). IsRunAt L k (Aggregate g)) c.in-Grow.is c.requires.at in
+    grown-runs L g c.in-Grow.volume.0 c.in-Grow.ranges at.1 c.args.run.call.now (credential_of c.args.run.credential) (moment_of c.args.run.moment)
+    c.args.held.now c.grow.new.held c.grow.result (outcome_of c.outcome_grown.result) (ap call_of c.in-Grow.is) c.outcome_grown.ensures c.grow.ensures.right
+
+pub returns-clause-moved : goal.returns-clause-moved
+returns-clause-moved c =
+    unless-grown c.grow.result (outcome_of c.outcome_grown.result) (c.grow.new.held ≡ c.args.held.now) c.outcome_grown.ensures
+
+pub unreachable-requires : goal.unreachable-requires
+unreachable-requires c =
+    only-grows (layout_of c.args.layout.now) c.args.run.call.now c.args.aggregate c.requires.at c.in_default.not-Grow

@@ -1,0 +1,34 @@
+use Rattle.std.proofs.Common.{sym, subst}
+use Rattle.nfs_model.specs.Tree.{Serial}
+use Rattle.nfs_model.specs.Types.{Ask}
+use Rattle.nfs_model.specs.Work.{Outcome}
+use Rattle.affinity_tree.specs.Layout.{layout_of}
+use Rattle.nfs_values.specs.Call.{call_of}
+use Rattle.nfs_values.specs.Credential.{credential_of}
+use Rattle.nfs_values.specs.Moment.{moment_of}
+use Rattle.nfs_values.specs.declared.call.Call.{Call}
+use Rattle.held_state.specs.Lenses.{serial_lens}
+use Rattle.held_state.specs.Running.{task_under}
+use Rattle.held_state.specs.Sets.{serial_set}
+use Rattle.held_totals.specs.CensusLaws.{census_task}
+use Rattle.held_totals.specs.Running.{RunsOnAll}
+use Rattle.service.specs.Running.{outcome_of}
+use Rattle.service.specs.lemmas.Homes.{only-census}
+use Rattle.service.proofs.in_serial.run_on_serial.Goals as goal
+
+pub returns : goal.returns
+returns c =
+    let L = layout_of c.args.layout.now in
+    let set = serial_set L c.args.held.now in
+    let credential = credential_of c.args.run.credential in
+    let moment = moment_of c.args.run.moment in
+    record {
+      runs = subst (λ (call : Call). RunsOnAll L serial_lens (task_under Serial (Ask (call_of call) credential) moment) set
+          (outcome_of c.outcome_counted.result) set) (sym c.in-Census.is)
+          (subst (λ (o : Outcome). RunsOnAll L serial_lens (census_task credential moment) set o set) (sym c.outcome_counted.ensures)
+          (c.census.ensures.right credential moment));
+    }
+
+pub unreachable-requires : goal.unreachable-requires
+unreachable-requires c =
+    only-census (layout_of c.args.layout.now) c.args.run.call.now c.requires.at c.in_default.not-Census

@@ -1,0 +1,49 @@
+//! Calls run on the parcels under an Aggregate.
+
+ghost use Rattle.std.specs.Prelude.{◌≡◌, []};
+ghost use Rattle.nfs_model.specs.Tree as trees;
+ghost use Rattle.nfs_model.specs.Types.{Ask};
+ghost use Rattle.affinity_tree.specs.Layout.{layout_of};
+ghost use Rattle.nfs_values.specs.Call.{call_of};
+ghost use Rattle.nfs_values.specs.Credential.{credential_of};
+ghost use Rattle.nfs_values.specs.Moment.{moment_of};
+ghost use Rattle.parcel_sets.specs.Filled.{aggregate_alike};
+ghost use Rattle.held_state.specs.Lenses.{aggregate_lens};
+ghost use Rattle.held_state.specs.Promises.{HasAll};
+ghost use Rattle.held_state.specs.Running.{task_under, UnlessReplied};
+ghost use Rattle.held_state.specs.Sets.{aggregate_set};
+ghost use Rattle.held_totals.specs.Running.{RunsOnAll};
+ghost use Rattle.service.specs.Running.{outcome_of, IsRunAt};
+
+use crate::outcome::{Outcome, outcome_grown};
+use crate::task::Run;
+use affinity_tree::Layout;
+use nfs_values::Call;
+use parcel_sets::AggrHeld;
+use parcels::Files;
+use service_totals::grow;
+
+/// Runs a call on the parcels under an Aggregate: GROW of a volume on it.
+pub fn run_on_aggregate(
+    run: Run,
+    layout: &Layout,
+    aggregate: u32,
+    held: &mut AggrHeld<Files>,
+) -> Outcome
+    requires at { IsRunAt (layout_of layout.now) run.call.now (trees.Aggregate aggregate) }
+    requires whole { HasAll (layout_of layout.now) (aggregate_lens aggregate) []
+        (aggregate_set (layout_of layout.now) aggregate held.old) }
+    ensures runs { RunsOnAll (layout_of layout.now) (aggregate_lens aggregate)
+        (task_under (trees.Aggregate aggregate)
+        (Ask (call_of run.entry.call.now) (credential_of run.entry.credential))
+        (moment_of run.entry.moment))
+        (aggregate_set (layout_of layout.now) aggregate held.old) (outcome_of result)
+        (aggregate_set (layout_of layout.now) aggregate held.new) }
+    ensures moved { UnlessReplied (outcome_of result) (held.new ≡ held.old) }
+    ensures alike { aggregate_alike held.old held.new }
+{
+    match run.call {
+        Call::Grow { volume, ranges } => outcome_grown(grow(held, *volume, *ranges)),
+        _ => unreachable!(),
+    }
+}

@@ -1,0 +1,36 @@
+//! Calls run on all that is stored.
+
+ghost use Rattle.nfs_model.specs.Tree as trees;
+ghost use Rattle.nfs_model.specs.Types.{Ask};
+ghost use Rattle.affinity_tree.specs.Layout.{layout_of};
+ghost use Rattle.nfs_values.specs.Call.{call_of};
+ghost use Rattle.nfs_values.specs.Credential.{credential_of};
+ghost use Rattle.nfs_values.specs.Moment.{moment_of};
+ghost use Rattle.held_state.specs.Lenses.{serial_lens};
+ghost use Rattle.held_state.specs.Running.{task_under};
+ghost use Rattle.held_state.specs.Sets.{serial_set};
+ghost use Rattle.held_totals.specs.Running.{RunsOnAll};
+ghost use Rattle.service.specs.Running.{outcome_of, IsRunAt};
+
+use crate::outcome::{Outcome, outcome_counted};
+use crate::task::Run;
+use affinity_tree::Layout;
+use nfs_values::Call;
+use parcel_sets::SerialHeld;
+use parcels::Files;
+use service_totals::census;
+
+/// Runs a call on all that is stored: CENSUS, which changes nothing.
+pub fn run_on_serial(run: Run, layout: &Layout, held: &SerialHeld<Files>) -> Outcome
+    requires at { IsRunAt (layout_of layout.now) run.call.now trees.Serial }
+    ensures runs { RunsOnAll (layout_of layout.now) serial_lens
+        (task_under trees.Serial (Ask (call_of run.entry.call.now)
+        (credential_of run.entry.credential)) (moment_of run.entry.moment))
+        (serial_set (layout_of layout.now) held.now) (outcome_of result)
+        (serial_set (layout_of layout.now) held.now) }
+{
+    match run.call {
+        Call::Census => outcome_counted(census(run.alloc, layout, held)),
+        _ => unreachable!(),
+    }
+}

@@ -1,0 +1,4 @@
+mod Placed
+mod Grown
+mod Counts
+mod Spaces

@@ -1,0 +1,4 @@
+pub mod Ranges
+pub mod Growing
+pub mod Space
+pub mod Census

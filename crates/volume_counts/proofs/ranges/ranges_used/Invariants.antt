@@ -1,0 +1,8 @@
+use Rattle.held_state.specs.Sets.{range_value, placed, vbn_set}
+use Rattle.held_state.specs.Tree.{ranges_used}
+use Rattle.volume_counts.proofs.Counted.{UsedSoFar}
+use Rattle.volume_counts.proofs.ranges.ranges_used.Given as goal
+
+-- what is counted so far, and the ranges that are left, are all
+abbrev pub invariant-loop-range : goal.invariant-loop-range
+invariant-loop-range l = UsedSoFar (λ r. range_value (placed l.held.ranges.at r)) (ranges_used (vbn_set l.held)) l.range l.used

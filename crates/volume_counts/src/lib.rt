@@ -1,0 +1,6 @@
+//! Counts of what a volume has.
+#![tactic(auto)]
+
+mod ranges;
+
+pub use ranges::ranges_used;
