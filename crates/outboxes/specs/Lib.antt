@@ -1,0 +1,4 @@
+pub mod Messages
+pub mod Chains
+pub mod Falls
+pub mod Popped
