@@ -1,4 +1,6 @@
 pub mod Messages
+pub mod Boxes
 pub mod Chains
 pub mod Falls
 pub mod Popped
+pub mod Tables

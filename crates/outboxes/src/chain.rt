@@ -1,11 +1,9 @@
 //! Records in a row.
 
-ghost use Rattle.std.specs.Prelude.{◌≡◌, ◌∷◌, ◌++◌, [], reverse};
+ghost use Rattle.std.specs.Prelude.{◌≡◌, ◌↔◌, ◌∷◌, [], reverse, IsTrue};
 ghost use Rattle.outboxes.specs.Messages.{record_of};
 
 use crate::said::Said;
-use nfs_values::Reply;
-use std::alloc::{AllocError, Global};
 use std::marker::Model;
 use std::mem;
 
@@ -29,7 +27,7 @@ enum Row {
 pub(crate) struct Link {
     pub(crate) bytes: Vec<u8>,
     pub(crate) said: Said,
-    rest: Chain,
+    pub(crate) rest: Chain,
 }
 
 impl Model for Chain {
@@ -51,16 +49,6 @@ impl Model for Chain {
     ghost size_decreases = { λ c h. rest_shorter c.row };
 }
 
-impl Link {
-    /// A blank record with room for so many bytes.
-    pub(crate) fn blank(alloc: Global, bytes: usize) -> Result<Box<Link>, AllocError> {
-        let bytes = Vec::with_capacity(alloc, bytes)?;
-        let said = Said::new(0, &Reply::SystemError);
-        let rest = Chain::new();
-        Ok(Box::new(alloc, Link { bytes, said, rest })?)
-    }
-}
-
 impl Chain {
     ghost use Rattle.outboxes.specs.Popped.{IsPopped};
 
@@ -69,6 +57,16 @@ impl Chain {
         ensures { result ≡ [] }
     {
         Chain { row: Row::End }
+    }
+
+    /// Whether there are none.
+    pub(crate) fn is_empty(&self) -> bool
+        ensures { IsTrue result ↔ (self.now ≡ []) }
+    {
+        match &self.row {
+            Row::End => true,
+            Row::More(_) => false,
+        }
     }
 
     /// Puts a record in front.
@@ -112,6 +110,7 @@ impl Drop for Chain {
         while let Some(link) = self.pop() {
             drop(link);
         }
-        let Chain { row: _ } = self;
+        let Chain { row } = self;
+        mem::forget(row);
     }
 }
