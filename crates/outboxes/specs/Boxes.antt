@@ -59,9 +59,13 @@ opened b = record { next = b.next + 1; waiting = insert b.waiting b.next [] }
 abbrev pub shut : ℕ → Boxes → Boxes
 shut connection b = record b { waiting = remove b.waiting connection }
 
+-- with one more behind all others
+abbrev pub with_last : ReplyMessage → List ReplyMessage → List ReplyMessage
+with_last m ms = ms ++ m ∷ []
+
 -- a reply behind those that wait for its connection; nothing where the number isn't open
 abbrev pub put : Addressed → Boxes → Boxes
-put a b = record b { waiting = changed_at (λ ms. ms ++ a.message ∷ []) a.connection b.waiting }
+put a b = record b { waiting = changed_at (with_last a.message) a.connection b.waiting }
 
 -- the oldest reply of a list
 abbrev pub first_of : List ReplyMessage → Option ReplyMessage

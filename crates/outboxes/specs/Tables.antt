@@ -1,6 +1,9 @@
 -- What the table of outboxes shows.
-use Rattle.std.specs.Prelude.{ℕ, List}
+use Rattle.std.specs.Prelude.{◌≡◌, ◌==◌, ℕ, List, if◌then◌else◌}
+use Rattle.std.specs.BTreeMap as btree
+use Rattle.std.specs.BTreeMap.{BTreeMap}
 use Rattle.std.specs.FinMap.{FinMap, from_entries}
+use Rattle.std.specs.Option.{option_map}
 use Rattle.std.specs.Ordering.{nat_cmp}
 use Rattle.outboxes.specs.Boxes.{Boxes}
 use Rattle.outboxes.specs.Messages.{ReplyMessage}
@@ -10,3 +13,8 @@ waiting_of es = from_entries es
 
 abbrev pub boxes_of : ℕ → List (ℕ × List ReplyMessage) → Boxes
 boxes_of next es = record { next = next; waiting = waiting_of es }
+
+-- what waits for a connection changed, where it is open, and nothing else
+abbrev pub HasChanged : (List ReplyMessage → List ReplyMessage) → ℕ → BTreeMap ℕ (List ReplyMessage) → BTreeMap ℕ (List ReplyMessage) → Type 0
+HasChanged g connection old new =
+    (q : ℕ) → btree.get nat_cmp new q ≡ (if q == connection then option_map g (btree.get nat_cmp old q) else btree.get nat_cmp old q)

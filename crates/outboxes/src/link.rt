@@ -31,7 +31,11 @@ pub(crate) fn write(link: &mut Link, xid: u32, reply: &Reply) -> Result<(), Allo
         ≤ vec_capacity link.old.bytes
         → IsOk result }
 {
-    write_reply_record(&mut link.bytes, xid, reply)?;
-    link.said = Said::new(xid, reply);
-    Ok(())
+    match write_reply_record(&mut link.bytes, xid, reply) {
+        Ok(()) => {
+            link.said = Said::new(xid, reply);
+            Ok(())
+        }
+        Err(refused) => Err(refused),
+    }
 }

@@ -1,10 +1,27 @@
 //! What waits for all connections.
 
-ghost use Rattle.std.specs.Prelude.{◌≡◌, ◌≤◌, ◌↔◌, Err, length, OnOk, OnErr, IfOk};
+ghost use Rattle.std.specs.Prelude.{
+  ◌≡◌,
+  ◌≤◌,
+  ◌↔◌,
+  [],
+  Some,
+  Err,
+  length,
+  drop,
+  OnOk,
+  OnErr,
+  IfOk,
+  IfErr,
+};
+ghost use Rattle.std.specs.BTreeMap as btree;
+ghost use Rattle.std.specs.BTreeMap.{Updates};
+ghost use Rattle.std.specs.Ordering.{nat_cmp};
 ghost use Rattle.nfs_values.specs.Reply.{reply_of};
-ghost use Rattle.outboxes.specs.Boxes.{addressed, most_bytes, IsFull};
+ghost use Rattle.outboxes.specs.Boxes.{addressed, first_in, most_bytes, with_last, IsFull};
 ghost use Rattle.outboxes.specs.Boxes.{none_open, oldest, opened, put, shut, taken};
 ghost use Rattle.outboxes.specs.Messages.{message, record_of};
+ghost use Rattle.outboxes.specs.Tables.{HasChanged};
 ghost use Rattle.outboxes.specs.declared.refusal.OpenRefusal.TheVariants as refusals;
 
 use crate::answer::Answer;
@@ -75,12 +92,15 @@ impl Outboxes {
         ensures err { OnErr result (self.new ≡ self.old) }
         ensures full { (result ≡ Err refusals.Full) ↔ IsFull self.old }
     {
-        if self.by_number.len() >= MOST_OPEN || self.next >= MOST_NUMBERS {
+        if self.by_number.len() >= MOST_OPEN {
             return Err(OpenRefusal::Full);
         }
         let number = self.next;
-        if self.by_number.insert(number, Outbox::new()).is_err() {
-            return Err(OpenRefusal::NoMemory);
+        if number >= MOST_NUMBERS {
+            return Err(OpenRefusal::Full);
+        }
+        if let Err(refusal) = insert(&mut self.by_number, number) {
+            return Err(refusal);
         }
         self.next = number + 1;
         Ok(ConnectionNumber(number))
@@ -105,7 +125,7 @@ impl Outboxes {
             reply,
             room,
         } = answer;
-        self.append(connection, room.write(xid, &reply));
+        put_into(&mut self.by_number, connection, room.write(xid, &reply));
     }
 
     /// Puts a reply behind what waits for a connection, with memory of its own, for a record that
@@ -123,7 +143,7 @@ impl Outboxes {
     {
         let mut link = blank(self.alloc, 0)?;
         write(&mut link, xid, reply)?;
-        self.append(connection, link);
+        put_into(&mut self.by_number, connection, link);
         Ok(())
     }
 
@@ -133,19 +153,42 @@ impl Outboxes {
         ensures record { result ≡ oldest connection.0 self.old }
         ensures rest { self.new ≡ taken connection.0 self.old }
     {
-        match self.by_number.get_mut(&connection.0) {
-            Some(outbox) => outbox.take(),
-            None => None,
-        }
+        take_from(&mut self.by_number, connection)
     }
+}
 
-    /// Puts a record behind what waits for a connection, if that is open.
-    fn append(&mut self, connection: ConnectionNumber, link: Box<Link>)
-        requires { link.value.bytes.items ≡ record_of link.value.said }
-        ensures { self.new ≡ put (addressed connection.0 link.value.said) self.old }
-    {
-        if let Some(outbox) = self.by_number.get_mut(&connection.0) {
-            outbox.put(link);
-        }
+/// Adds a connection for which nothing waits.
+fn insert(outboxes: &mut BTreeMap<usize, Outbox>, number: usize) -> Result<(), OpenRefusal>
+    ensures ok { OnOk result (Updates nat_cmp outboxes.old outboxes.new number (Some [])) }
+    ensures err { OnErr result (outboxes.new.entries ≡ outboxes.old.entries) }
+    ensures memory { IfErr result (λ refusal. refusal ≡ refusals.NoMemory) }
+{
+    match outboxes.insert(number, Outbox::new()) {
+        Ok(_before) => Ok(()),
+        Err(_refused) => Err(OpenRefusal::NoMemory),
+    }
+}
+
+/// Puts a record behind what waits for a connection, if that is open.
+fn put_into(outboxes: &mut BTreeMap<usize, Outbox>, connection: ConnectionNumber, link: Box<Link>)
+    requires { link.value.bytes.items ≡ record_of link.value.said }
+    ensures { HasChanged (with_last link.value.said) connection.0 outboxes.old outboxes.new }
+{
+    if let Some(outbox) = outboxes.get_mut(&connection.0) {
+        outbox.put(link);
+    }
+}
+
+/// Takes the oldest record that waits for a connection, if that is open.
+fn take_from(
+    outboxes: &mut BTreeMap<usize, Outbox>,
+    connection: ConnectionNumber,
+) -> Option<Record>
+    ensures record { result ≡ first_in (btree.get nat_cmp outboxes.old connection.0) }
+    ensures rest { HasChanged (drop 1) connection.0 outboxes.old outboxes.new }
+{
+    match outboxes.get_mut(&connection.0) {
+        Some(outbox) => outbox.take(),
+        None => None,
     }
 }
