@@ -15,7 +15,7 @@ use Rattle.std.proofs.lemmas.Cmp.{eq_by_cmp_equiv}
 use Rattle.std.proofs.lemmas.Map.Views.{exact_unsigned_eq}
 use Rattle.volume_values.specs.Maps.{changed_at}
 use Rattle.volume_values.specs.lemmas.Numbered.{same-answers, get-changed_at}
-use Rattle.outboxes.specs.Boxes.{Boxes, Addressed, first_in, oldest, opened, put, shut, taken, with_last}
+use Rattle.outboxes.specs.Boxes.{Boxes, Addressed, addressed, first_in, oldest, opened, put, shut, taken, with_last}
 use Rattle.outboxes.specs.Messages.{ReplyMessage}
 use Rattle.outboxes.specs.Tables.{waiting_of, boxes_of}
 
@@ -84,6 +84,13 @@ module _ (next : ℕ) (old new : Waits) where
       → ((q : ℕ) → found new q ≡ (if q == k then option_map (with_last m) (found old q) else found old q))
       → boxes_of next new ≡ put (record { connection = k; message = m }) (boxes_of next old)
   puts k m h = ap (λ w. record { next = next; waiting = w }) (changes (with_last m) k h)
+
+  -- the same, where what is said is the message of an answer
+  pub puts-said : (k : ℕ) (said m : ReplyMessage) (a : Addressed) → said ≡ m → record { connection = k; message = m } ≡ a
+      → ((q : ℕ) → found new q ≡ (if q == k then option_map (with_last said) (found old q) else found old q))
+      → boxes_of next new ≡ put a (boxes_of next old)
+  puts-said k said m a s e h =
+      puts k said h ∙ (ap (λ (x : ReplyMessage). put (addressed k x) (boxes_of next old)) s ∙ ap (λ (x : Addressed). put x (boxes_of next old)) e)
 
   pub takes : (k : ℕ)
       → ((q : ℕ) → found new q ≡ (if q == k then option_map (drop 1) (found old q) else found old q))

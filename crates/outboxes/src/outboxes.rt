@@ -99,11 +99,13 @@ impl Outboxes {
         if number >= MOST_NUMBERS {
             return Err(OpenRefusal::Full);
         }
-        if let Err(refusal) = insert(&mut self.by_number, number) {
-            return Err(refusal);
+        match insert(&mut self.by_number, number) {
+            Ok(()) => {
+                self.next = number + 1;
+                Ok(ConnectionNumber(number))
+            }
+            Err(refusal) => Err(refusal),
         }
-        self.next = number + 1;
-        Ok(ConnectionNumber(number))
     }
 
     /// Closes a connection and drops what waits for it. Nothing changes where the number isn't
@@ -125,7 +127,9 @@ impl Outboxes {
             reply,
             room,
         } = answer;
-        put_into(&mut self.by_number, connection, room.write(xid, &reply));
+        let link = room.write(xid, &reply);
+        drop(reply);
+        put_into(&mut self.by_number, connection, link);
     }
 
     /// Puts a reply behind what waits for a connection, with memory of its own, for a record that
