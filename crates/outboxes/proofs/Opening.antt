@@ -1,16 +1,15 @@
 -- When no connection can be opened.
-use Rattle.std.proofs.Common.{◌≡◌, ◌≤◌, ◌<◌, ◌⊎◌, ℕ, ◌^◌, Bool, true, false, List, Result, Ok, Err, refl, sym, ap, ◌∙◌, length, arith, inl, inr}
+use Rattle.std.proofs.Common.{◌≡◌, ◌≤◌, ◌<◌, ℕ, ◌^◌, Bool, true, false, List, Result, Ok, Err, refl, sym, ap, ◌∙◌, length, arith, inl, inr}
 use Rattle.std.proofs.lemmas.Bool.{false≢true}
 use Rattle.std.specs.List.Sorted.{IsStrictlySortedBy}
 use Rattle.std.specs.Map.{keys_of}
 use Rattle.std.specs.Ordering.{nat_cmp}
-use Rattle.std.specs.FinMap.{len}
 use Rattle.nfs_values.specs.declared.number.ConnectionNumber.{ConnectionNumber}
 use Rattle.outboxes.specs.declared.refusal.OpenRefusal.{OpenRefusal}
 use Rattle.outboxes.specs.declared.refusal.OpenRefusal.TheVariants.{Full, NoMemory}
 use Rattle.outboxes.specs.Boxes.{Boxes, IsFull}
 use Rattle.outboxes.specs.Messages.{ReplyMessage}
-use Rattle.outboxes.specs.Tables.{boxes_of, waiting_of}
+use Rattle.outboxes.specs.Tables.{boxes_of}
 use Rattle.outboxes.proofs.Tables.{len-found}
 
 module _ (next : ℕ) (es : List (ℕ × List ReplyMessage)) where

@@ -15,7 +15,7 @@ use Rattle.std.proofs.lemmas.Cmp.{eq_by_cmp_equiv}
 use Rattle.std.proofs.lemmas.Map.Views.{exact_unsigned_eq}
 use Rattle.volume_values.specs.Maps.{changed_at}
 use Rattle.volume_values.specs.lemmas.Numbered.{same-answers, get-changed_at}
-use Rattle.outboxes.specs.Boxes.{Boxes, Addressed, addressed, first_in, oldest, opened, put, shut, taken, with_last}
+use Rattle.outboxes.specs.Boxes.{Addressed, addressed, first_in, oldest, opened, put, shut, taken, with_last}
 use Rattle.outboxes.specs.Messages.{ReplyMessage}
 use Rattle.outboxes.specs.Tables.{waiting_of, boxes_of}
 

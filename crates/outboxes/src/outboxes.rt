@@ -184,10 +184,7 @@ fn put_into(outboxes: &mut BTreeMap<usize, Outbox>, connection: ConnectionNumber
 }
 
 /// Takes the oldest record that waits for a connection, if that is open.
-fn take_from(
-    outboxes: &mut BTreeMap<usize, Outbox>,
-    connection: ConnectionNumber,
-) -> Option<Record>
+fn take_from(outboxes: &mut BTreeMap<usize, Outbox>, connection: ConnectionNumber) -> Option<Record>
     ensures record { result ≡ first_in (btree.get nat_cmp outboxes.old connection.0) }
     ensures rest { HasChanged (drop 1) connection.0 outboxes.old outboxes.new }
 {

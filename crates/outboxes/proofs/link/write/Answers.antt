@@ -7,9 +7,11 @@ pub write_reply_record-requires : goal.write_reply_record-requires
 write_reply_record-requires c = bytes-short c.args.xid (reply_of c.args.reply.now) 131072 c.requires.short
 
 pub returns-in-Ok-clause-ok : goal.returns-in-Ok-clause-ok
-returns-in-Ok-clause-ok c =
-    (c.new.ensures, written-is c.args.xid (reply_of c.args.reply.now) c.args.link.now.bytes.items c.write_reply_record.new.out.items c.in-Ok.ensures.ok
-    c.requires.blank)
+returns-in-Ok-clause-ok c = (
+  c.new.ensures,
+  written-is c.args.xid (reply_of c.args.reply.now) c.args.link.now.bytes.items c.write_reply_record.new.out.items c.in-Ok.ensures.ok
+      c.requires.blank,
+)
 
 pub returns-in-Err-clause-succeeds : goal.returns-in-Err-clause-succeeds
 returns-in-Err-clause-succeeds c = λ room.

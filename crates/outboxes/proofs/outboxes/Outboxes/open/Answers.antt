@@ -1,14 +1,15 @@
 use Rattle.std.proofs.Common.{refl}
 use Rattle.outboxes.specs.Tables.{boxes_of}
-use Rattle.outboxes.proofs.Opening.{full-by-count, full-by-number, not-full, neither-opened, neither-refused}
+use Rattle.outboxes.proofs.Opening.{full-by-count, not-full, neither-opened, neither-refused}
 use Rattle.outboxes.proofs.Tables.{opens}
 use Rattle.outboxes.proofs.outboxes.Outboxes.open.Goals as goal
 
 pub returns-then-len-ge-MOST_OPEN-clause-full : goal.returns-then-len-ge-MOST_OPEN-clause-full
 returns-then-len-ge-MOST_OPEN-clause-full c =
-    rw (← c.self.view_is)
-    ((λ _. full-by-count c.self.inside.next c.self.inside.by_number.entries c.len.result c.len.ensures.len c.len.ensures.ordered c.if-len-ge-MOST_OPEN.true),
-    λ _. refl)
+    rw (← c.self.view_is) (
+      (λ _. full-by-count c.self.inside.next c.self.inside.by_number.entries c.len.result c.len.ensures.len c.len.ensures.ordered c.if-len-ge-MOST_OPEN.true),
+      λ _. refl,
+    )
 
 pub returns-in-Err-clause-full : goal.returns-in-Err-clause-full
 returns-in-Err-clause-full c =
