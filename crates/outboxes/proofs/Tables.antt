@@ -17,7 +17,7 @@ use Rattle.volume_values.specs.Maps.{changed_at}
 use Rattle.volume_values.specs.lemmas.Numbered.{same-answers, get-changed_at}
 use Rattle.outboxes.specs.Boxes.{Addressed, addressed, first_in, oldest, opened, put, shut, taken, with_last}
 use Rattle.outboxes.specs.Messages.{ReplyMessage}
-use Rattle.outboxes.specs.Tables.{waiting_of, boxes_of}
+use Rattle.outboxes.specs.Tables.{waiting_of, boxes_of, NoneFrom}
 
 abbrev Waits : Type 0
 Waits = List (ℕ × List ReplyMessage)
@@ -57,6 +57,10 @@ same es m h = same-answers (waiting_of es) m (λ q. get-found es q ∙ h q)
 -- two orders of one test
 turned : (k q : ℕ) → eq_by_cmp nat_cmp q k ≡ eq_by_cmp nat_cmp k q
 turned k q = (eq_by_cmp_equiv nat_cmp_total).symm q k
+
+-- the number that is given next isn't open
+pub fresh : (next : ℕ) (es : Waits) → NoneFrom next es → get (waiting_of es) next ≡ None
+fresh next es n = get-found es next ∙ n next (omega arith)
 
 module _ (next : ℕ) (old new : Waits) where
   -- a connection more

@@ -4,3 +4,5 @@ pub mod Chains
 pub mod Falls
 pub mod Popped
 pub mod Tables
+pub mod Numbers
+pub mod lemmas

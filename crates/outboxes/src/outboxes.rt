@@ -5,6 +5,7 @@ ghost use Rattle.std.specs.Prelude.{
   ◌≤◌,
   ◌↔◌,
   [],
+  None,
   Some,
   Err,
   length,
@@ -16,6 +17,7 @@ ghost use Rattle.std.specs.Prelude.{
 };
 ghost use Rattle.std.specs.BTreeMap as btree;
 ghost use Rattle.std.specs.BTreeMap.{Updates};
+ghost use Rattle.std.specs.FinMap.{get};
 ghost use Rattle.std.specs.Ordering.{nat_cmp};
 ghost use Rattle.nfs_values.specs.Reply.{reply_of};
 ghost use Rattle.outboxes.specs.Boxes.{addressed, first_in, most_bytes, with_last, IsFull};
@@ -67,9 +69,11 @@ impl Model for Outboxes {
 
     ghost coded = { coded_boxes (Prim.hlevel (codes)) };
 
-    ghost use Rattle.outboxes.specs.Tables.{boxes_of};
+    ghost use Rattle.outboxes.specs.Tables.{boxes_of, NoneFrom};
 
     ghost view = { λ o. boxes_of o.next o.by_number.entries };
+
+    ghost invariant = { λ o. NoneFrom o.next o.by_number.entries };
 }
 
 impl Outboxes {
@@ -88,6 +92,7 @@ impl Outboxes {
     /// that none is given twice. `Full` where 64 are open or 2^62 numbers were given.
     pub fn open(&mut self) -> Result<ConnectionNumber, OpenRefusal>
         ensures number { IfOk result (λ connection. connection.0 ≡ self.old.next) }
+        ensures fresh { get self.old.waiting self.old.next ≡ None }
         ensures ok { OnOk result (self.new ≡ opened self.old) }
         ensures err { OnErr result (self.new ≡ self.old) }
         ensures full { (result ≡ Err refusals.Full) ↔ IsFull self.old }
