@@ -1,5 +1,5 @@
 -- Records by their size.
-use Rattle.std.proofs.Common.{◌≡◌, ◌≤◌, ℕ, ◌+◌, List, [], ◌++◌, refl, sym, ap, subst, ◌∙◌, length, arith}
+use Rattle.std.proofs.Common.{◌≡◌, ◌≤◌, ℕ, ◌+◌, List, [], ◌++◌, sym, ap, subst, ◌∙◌, length, arith}
 use Rattle.nfs_model.specs.Types.{Reply}
 use Rattle.rpc_msg.specs.Replies.{reply_bytes, reply_record}
 use Rattle.outboxes.specs.Messages.{message, record_of}

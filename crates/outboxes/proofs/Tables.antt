@@ -89,12 +89,11 @@ module _ (next : ℕ) (old new : Waits) where
       → boxes_of next new ≡ put (record { connection = k; message = m }) (boxes_of next old)
   puts k m h = ap (λ w. record { next = next; waiting = w }) (changes (with_last m) k h)
 
-  -- the same, where what is said is the message of an answer
-  pub puts-said : (k : ℕ) (said m : ReplyMessage) (a : Addressed) → said ≡ m → record { connection = k; message = m } ≡ a
+  -- the same, of an answer
+  pub puts-answer : (k : ℕ) (said : ReplyMessage) (a : Addressed) → addressed k said ≡ a
       → ((q : ℕ) → found new q ≡ (if q == k then option_map (with_last said) (found old q) else found old q))
       → boxes_of next new ≡ put a (boxes_of next old)
-  puts-said k said m a s e h =
-      puts k said h ∙ (ap (λ (x : ReplyMessage). put (addressed k x) (boxes_of next old)) s ∙ ap (λ (x : Addressed). put x (boxes_of next old)) e)
+  puts-answer k said a e h = puts k said h ∙ ap (λ (x : Addressed). put x (boxes_of next old)) e
 
   pub takes : (k : ℕ)
       → ((q : ℕ) → found new q ≡ (if q == k then option_map (drop 1) (found old q) else found old q))

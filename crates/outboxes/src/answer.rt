@@ -5,44 +5,39 @@ ghost use Rattle.nfs_values.specs.Reply.{reply_of};
 ghost use Rattle.outboxes.specs.Boxes.{addressed};
 ghost use Rattle.outboxes.specs.Messages.{message, record_of};
 
+use crate::chain::Link;
 use crate::room::Room;
 use nfs_values::{ConnectionNumber, Reply};
 use std::marker::Model;
 
-/// A reply to a call, on its way to the call's connection, with the room that the call's message
+/// A reply to a call, on its way to the call's connection, in the room that the call's message
 /// brought. It has no `Drop`: who has one must put it into the outboxes.
 pub struct Answer {
-    pub(crate) connection: ConnectionNumber,
-    pub(crate) xid: u32,
-    pub(crate) reply: Reply,
-    pub(crate) room: Room,
+    connection: ConnectionNumber,
+    link: Box<Link>,
 }
 
 impl Model for Answer {
-    ghost use Rattle.std.specs.Prelude.{◌≤◌, length};
-    ghost use Rattle.nfs_values.specs.Reply.{reply_of};
+    ghost use Rattle.std.specs.Prelude.{◌≡◌};
     ghost use Rattle.outboxes.specs.Boxes.{Addressed, addressed};
-    ghost use Rattle.outboxes.specs.Messages.{message, record_of};
+    ghost use Rattle.outboxes.specs.Messages.{record_of};
 
     ghost Value = { Addressed };
 
-    ghost view = { λ a. addressed a.connection.0 (message a.xid (reply_of a.reply)) };
+    ghost view = { λ a. addressed a.connection.0 a.link.value.said };
 
-    ghost invariant = { λ a. length (record_of (message a.xid (reply_of a.reply))) ≤ a.room };
+    ghost invariant = { λ a. a.link.value.bytes.items ≡ record_of a.link.value.said };
 }
 
 impl Answer {
-    /// The reply to a call of this xid, whose record fits the room.
-    pub fn new(connection: ConnectionNumber, xid: u32, reply: Reply, room: Room) -> Answer
-        requires { length (record_of (message xid (reply_of reply))) ≤ room }
-        ensures { result ≡ addressed connection.0 (message xid (reply_of reply)) }
+    /// The reply to a call of this xid, whose record fits the room. The record is written here,
+    /// so that who puts the answer moves no bytes.
+    pub fn new(connection: ConnectionNumber, xid: u32, reply: &Reply, room: Room) -> Answer
+        requires { length (record_of (message xid (reply_of reply.now))) ≤ room }
+        ensures { result ≡ addressed connection.0 (message xid (reply_of reply.now)) }
     {
-        Answer {
-            connection,
-            xid,
-            reply,
-            room,
-        }
+        let link = room.write(xid, reply);
+        Answer { connection, link }
     }
 
     /// The connection that it goes to.
@@ -56,13 +51,15 @@ impl Answer {
     pub fn xid(&self) -> u32
         ensures { result ≡ self.now.message.xid }
     {
-        self.xid
+        self.link.said.xid()
     }
 
-    /// The reply itself.
-    pub fn reply(&self) -> &Reply
-        ensures { reply_of result.now ≡ self.now.message.reply }
+    /// Its connection, and its record.
+    pub(crate) fn into_parts(self) -> (ConnectionNumber, Box<Link>)
+        ensures is { addressed result.0.0 result.1.value.said ≡ self }
+        ensures written { result.1.value.bytes.items ≡ record_of result.1.value.said }
     {
-        &self.reply
+        let Answer { connection, link } = self;
+        (connection, link)
     }
 }

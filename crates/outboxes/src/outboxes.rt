@@ -126,14 +126,7 @@ impl Outboxes {
     pub fn put(&mut self, answer: Answer)
         ensures { self.new ≡ put answer self.old }
     {
-        let Answer {
-            connection,
-            xid,
-            reply,
-            room,
-        } = answer;
-        let link = room.write(xid, &reply);
-        drop(reply);
+        let (connection, link) = answer.into_parts();
         put_into(&mut self.by_number, connection, link);
     }
 

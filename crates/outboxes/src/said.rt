@@ -34,4 +34,11 @@ impl Said {
             reply: Snapshot::of(reply),
         }
     }
+
+    /// The xid.
+    pub(crate) fn xid(&self) -> u32
+        ensures { result ≡ self.now.xid }
+    {
+        self.xid
+    }
 }
