@@ -1,0 +1,3 @@
+pub mod Messages
+pub mod Tables
+pub mod Opening

@@ -1,0 +1,46 @@
+-- When no connection can be opened.
+use Rattle.std.proofs.Common.{◌≡◌, ◌≤◌, ◌<◌, ℕ, ◌^◌, Bool, true, false, List, Result, Ok, Err, refl, sym, ap, ◌∙◌, length, arith, inl, inr}
+use Rattle.std.proofs.lemmas.Bool.{false≢true}
+use Rattle.std.specs.List.Sorted.{IsStrictlySortedBy}
+use Rattle.std.specs.Map.{keys_of}
+use Rattle.std.specs.Ordering.{nat_cmp}
+use Rattle.nfs_values.specs.declared.number.ConnectionNumber.{ConnectionNumber}
+use Rattle.outboxes.specs.declared.refusal.OpenRefusal.{OpenRefusal}
+use Rattle.outboxes.specs.declared.refusal.OpenRefusal.TheVariants.{Full, NoMemory}
+use Rattle.outboxes.specs.Boxes.{Boxes, IsFull}
+use Rattle.outboxes.specs.Messages.{ReplyMessage}
+use Rattle.outboxes.specs.Tables.{boxes_of}
+use Rattle.outboxes.proofs.Tables.{len-found}
+
+module _ (next : ℕ) (es : List (ℕ × List ReplyMessage)) where
+  pub full-by-count : (n : ℕ) → n ≡ length es → IsStrictlySortedBy nat_cmp (keys_of es) → 64 ≤ n → IsFull (boxes_of next es)
+  full-by-count n e s h = inl (let l = len-found es s in omega (arith, l, e, h))
+
+  pub full-by-number : 2 ^ 62 ≤ next → IsFull (boxes_of next es)
+  full-by-number h = inr h
+
+  pub not-full : (n : ℕ) → n ≡ length es → IsStrictlySortedBy nat_cmp (keys_of es) → n < 64 → next < 2 ^ 62 → IsFull (boxes_of next es) → ⊥
+  not-full n e s h m (inl full) = let l = len-found es s in omega (arith, l, e, h, full)
+  not-full n e s h m (inr full) = omega (arith, m, full)
+
+abbrev Answered : Type 0
+Answered = Result ConnectionNumber OpenRefusal
+
+-- the answer is `Full`
+abbrev is_told_full : Answered → Bool
+is_told_full (Ok connection) = false
+is_told_full (Err Full) = true
+is_told_full (Err NoMemory) = false
+
+abbrev full : Answered
+full = Err Full
+
+-- it is told and is so, or neither
+neither : (b : Boxes) (r : Answered) → is_told_full r ≡ false → (IsFull b → ⊥) → (r ≡ full → IsFull b) × (IsFull b → r ≡ full)
+neither b r e n = (λ h. absurd (false≢true (sym e ∙ ap is_told_full h)), λ f. absurd (n f))
+
+pub neither-opened : (b : Boxes) (connection : ConnectionNumber) → (IsFull b → ⊥) → (Ok connection ≡ full → IsFull b) × (IsFull b → Ok connection ≡ full)
+neither-opened b connection n = neither b (Ok connection) refl n
+
+pub neither-refused : (b : Boxes) (refusal : OpenRefusal) → refusal ≡ NoMemory → (IsFull b → ⊥) → (Err refusal ≡ full → IsFull b) × (IsFull b → Err refusal ≡ full)
+neither-refused b refusal e n = neither b (Err refusal) (ap (λ (x : OpenRefusal). is_told_full (Err x)) e) n

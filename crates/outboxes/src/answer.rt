@@ -1,0 +1,65 @@
+//! Replies on their way.
+
+ghost use Rattle.std.specs.Prelude.{◌≡◌, ◌≤◌, length};
+ghost use Rattle.nfs_values.specs.Reply.{reply_of};
+ghost use Rattle.outboxes.specs.Boxes.{addressed};
+ghost use Rattle.outboxes.specs.Messages.{message, record_of};
+
+use crate::chain::Link;
+use crate::room::Room;
+use nfs_values::{ConnectionNumber, Reply};
+use std::marker::Model;
+
+/// A reply to a call, on its way to the call's connection, in the room that the call's message
+/// brought. It has no `Drop`: who has one must put it into the outboxes.
+pub struct Answer {
+    connection: ConnectionNumber,
+    link: Box<Link>,
+}
+
+impl Model for Answer {
+    ghost use Rattle.std.specs.Prelude.{◌≡◌};
+    ghost use Rattle.outboxes.specs.Boxes.{Addressed, addressed};
+    ghost use Rattle.outboxes.specs.Messages.{record_of};
+
+    ghost Value = { Addressed };
+
+    ghost view = { λ a. addressed a.connection.0 a.link.value.said };
+
+    ghost invariant = { λ a. a.link.value.bytes.items ≡ record_of a.link.value.said };
+}
+
+impl Answer {
+    /// The reply to a call of this xid, whose record fits the room. The record is written here,
+    /// so that who puts the answer moves no bytes.
+    pub fn new(connection: ConnectionNumber, xid: u32, reply: &Reply, room: Room) -> Answer
+        requires { length (record_of (message xid (reply_of reply.now))) ≤ room }
+        ensures { result ≡ addressed connection.0 (message xid (reply_of reply.now)) }
+    {
+        let link = room.write(xid, reply);
+        Answer { connection, link }
+    }
+
+    /// The connection that it goes to.
+    pub fn connection(&self) -> ConnectionNumber
+        ensures { result.0 ≡ self.now.connection }
+    {
+        self.connection
+    }
+
+    /// The xid of its call.
+    pub fn xid(&self) -> u32
+        ensures { result ≡ self.now.message.xid }
+    {
+        self.link.said.xid()
+    }
+
+    /// Its connection, and its record.
+    pub(crate) fn into_parts(self) -> (ConnectionNumber, Box<Link>)
+        ensures is { addressed result.0.0 result.1.value.said ≡ self }
+        ensures written { result.1.value.bytes.items ≡ record_of result.1.value.said }
+    {
+        let Answer { connection, link } = self;
+        (connection, link)
+    }
+}

@@ -1,0 +1,18 @@
+//! What waits to be written to connections: reply records, in order, for each one that is open.
+#![tactic(auto)]
+
+mod answer;
+mod chain;
+mod link;
+mod outbox;
+mod outboxes;
+mod record;
+mod refusal;
+mod room;
+mod said;
+
+pub use answer::Answer;
+pub use outboxes::Outboxes;
+pub use record::Record;
+pub use refusal::OpenRefusal;
+pub use room::Room;

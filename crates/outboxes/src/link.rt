@@ -1,0 +1,41 @@
+//! A record apart from a row.
+
+ghost use Rattle.std.specs.Prelude.{◌≡◌, ◌≤◌, [], length, vec_capacity, IsOk, IfOk, OnOk};
+ghost use Rattle.nfs_values.specs.Reply.{reply_of};
+ghost use Rattle.outboxes.specs.Boxes.{most_bytes};
+ghost use Rattle.outboxes.specs.Messages.{message, record_of};
+ghost use Rattle.outboxes.specs.Popped.{IsBlank, IsOf};
+
+use crate::chain::{Chain, Link};
+use crate::said::Said;
+use nfs_values::Reply;
+use rpc_msg::write_reply_record;
+use std::alloc::{AllocError, Global};
+
+/// A blank record with room for so many bytes.
+pub(crate) fn blank(alloc: Global, bytes: usize) -> Result<Box<Link>, AllocError>
+    ensures { IfOk result (λ link. IsBlank bytes link.value) }
+{
+    let bytes = Vec::with_capacity(alloc, bytes)?;
+    let said = Said::new(0, &Reply::SystemError);
+    let rest = Chain::new();
+    Ok(Box::new(alloc, Link { bytes, said, rest })?)
+}
+
+/// Writes a reply into a blank record.
+pub(crate) fn write(link: &mut Link, xid: u32, reply: &Reply) -> Result<(), AllocError>
+    requires blank { link.old.bytes.items ≡ [] }
+    requires short { length (record_of (message xid (reply_of reply.now))) ≤ most_bytes }
+    ensures ok { OnOk result (IsOf (message xid (reply_of reply.now)) link.new) }
+    ensures succeeds { length (record_of (message xid (reply_of reply.now)))
+        ≤ vec_capacity link.old.bytes
+        → IsOk result }
+{
+    match write_reply_record(&mut link.bytes, xid, reply) {
+        Ok(()) => {
+            link.said = Said::new(xid, reply);
+            Ok(())
+        }
+        Err(refused) => Err(refused),
+    }
+}

@@ -1,0 +1,193 @@
+//! What waits for all connections.
+
+ghost use Rattle.std.specs.Prelude.{
+  ◌≡◌,
+  ◌≤◌,
+  ◌↔◌,
+  [],
+  None,
+  Some,
+  Err,
+  length,
+  drop,
+  OnOk,
+  OnErr,
+  IfOk,
+  IfErr,
+};
+ghost use Rattle.std.specs.BTreeMap as btree;
+ghost use Rattle.std.specs.BTreeMap.{Updates};
+ghost use Rattle.std.specs.FinMap.{get};
+ghost use Rattle.std.specs.Ordering.{nat_cmp};
+ghost use Rattle.nfs_values.specs.Reply.{reply_of};
+ghost use Rattle.outboxes.specs.Boxes.{addressed, first_in, most_bytes, with_last, IsFull};
+ghost use Rattle.outboxes.specs.Boxes.{none_open, oldest, opened, put, shut, taken};
+ghost use Rattle.outboxes.specs.Messages.{message, record_of};
+ghost use Rattle.outboxes.specs.Tables.{HasChanged};
+ghost use Rattle.outboxes.specs.declared.refusal.OpenRefusal.TheVariants as refusals;
+
+use crate::answer::Answer;
+use crate::chain::Link;
+use crate::link::{blank, write};
+use crate::outbox::Outbox;
+use crate::record::Record;
+use crate::refusal::OpenRefusal;
+use nfs_values::{ConnectionNumber, Reply};
+use std::alloc::{AllocError, Global};
+use std::collections::BTreeMap;
+use std::marker::Model;
+
+/// The most connections that are open.
+const MOST_OPEN: usize = 64;
+
+/// The most numbers that are given.
+const MOST_NUMBERS: usize = 1 << 62;
+
+/// The records that wait for each connection that is open.
+pub struct Outboxes {
+    alloc: Global,
+    by_number: BTreeMap<usize, Outbox>,
+    next: usize,
+}
+
+// By hand, so that crates above have no proof of the drop of each of its parts.
+impl Drop for Outboxes {
+    fn drop(self) {
+        let Outboxes {
+            alloc: _,
+            by_number: _,
+            next: _,
+        } = self;
+    }
+}
+
+impl Model for Outboxes {
+    ghost use Rattle.std.specs.Coded.{codes};
+    ghost use Rattle.outboxes.specs.Boxes.{Boxes, coded_boxes};
+
+    ghost Value = { Boxes };
+
+    ghost coded = { coded_boxes (Prim.hlevel (codes)) };
+
+    ghost use Rattle.outboxes.specs.Tables.{boxes_of, NoneFrom};
+
+    ghost view = { λ o. boxes_of o.next o.by_number.entries };
+
+    ghost invariant = { λ o. NoneFrom o.next o.by_number.entries };
+}
+
+impl Outboxes {
+    /// No connection is open, and no number was given.
+    pub fn new(alloc: Global) -> Outboxes
+        ensures { result ≡ none_open }
+    {
+        Outboxes {
+            alloc,
+            by_number: BTreeMap::new(alloc),
+            next: 0,
+        }
+    }
+
+    /// Opens a connection, for which nothing waits. Its number is how many were opened before, so
+    /// that none is given twice. `Full` where 64 are open or 2^62 numbers were given.
+    pub fn open(&mut self) -> Result<ConnectionNumber, OpenRefusal>
+        ensures number { IfOk result (λ connection. connection.0 ≡ self.old.next) }
+        ensures fresh { get self.old.waiting self.old.next ≡ None }
+        ensures ok { OnOk result (self.new ≡ opened self.old) }
+        ensures err { OnErr result (self.new ≡ self.old) }
+        ensures full { (result ≡ Err refusals.Full) ↔ IsFull self.old }
+    {
+        if self.by_number.len() >= MOST_OPEN {
+            return Err(OpenRefusal::Full);
+        }
+        let number = self.next;
+        if number >= MOST_NUMBERS {
+            return Err(OpenRefusal::Full);
+        }
+        match insert(&mut self.by_number, number) {
+            Ok(()) => {
+                self.next = number + 1;
+                Ok(ConnectionNumber(number))
+            }
+            Err(refusal) => Err(refusal),
+        }
+    }
+
+    /// Closes a connection and drops what waits for it. Nothing changes where the number isn't
+    /// open.
+    pub fn shut(&mut self, connection: ConnectionNumber)
+        ensures { self.new ≡ shut connection.0 self.old }
+    {
+        let _closed = self.by_number.remove(&connection.0);
+    }
+
+    /// Puts an answer behind what waits for its connection. Nothing changes where that isn't
+    /// open. It takes no memory.
+    pub fn put(&mut self, answer: Answer)
+        ensures { self.new ≡ put answer self.old }
+    {
+        let (connection, link) = answer.into_parts();
+        put_into(&mut self.by_number, connection, link);
+    }
+
+    /// Puts a reply behind what waits for a connection, with memory of its own, for a record that
+    /// no worker answers. Nothing changes where the number isn't open, or where memory ran out.
+    pub fn put_at_once(
+        &mut self,
+        connection: ConnectionNumber,
+        xid: u32,
+        reply: &Reply,
+    ) -> Result<(), AllocError>
+        requires { length (record_of (message xid (reply_of reply.now))) ≤ most_bytes }
+        ensures ok { OnOk result (self.new
+            ≡ put (addressed connection.0 (message xid (reply_of reply.now))) self.old) }
+        ensures err { OnErr result (self.new ≡ self.old) }
+    {
+        let mut link = blank(self.alloc, 0)?;
+        write(&mut link, xid, reply)?;
+        put_into(&mut self.by_number, connection, link);
+        Ok(())
+    }
+
+    /// Takes the oldest record that waits for a connection: `None` where there is none, or where
+    /// the number isn't open. It takes no memory.
+    pub fn take(&mut self, connection: ConnectionNumber) -> Option<Record>
+        ensures record { result ≡ oldest connection.0 self.old }
+        ensures rest { self.new ≡ taken connection.0 self.old }
+    {
+        take_from(&mut self.by_number, connection)
+    }
+}
+
+/// Adds a connection for which nothing waits.
+fn insert(outboxes: &mut BTreeMap<usize, Outbox>, number: usize) -> Result<(), OpenRefusal>
+    ensures ok { OnOk result (Updates nat_cmp outboxes.old outboxes.new number (Some [])) }
+    ensures err { OnErr result (outboxes.new.entries ≡ outboxes.old.entries) }
+    ensures memory { IfErr result (λ refusal. refusal ≡ refusals.NoMemory) }
+{
+    match outboxes.insert(number, Outbox::new()) {
+        Ok(_before) => Ok(()),
+        Err(_refused) => Err(OpenRefusal::NoMemory),
+    }
+}
+
+/// Puts a record behind what waits for a connection, if that is open.
+fn put_into(outboxes: &mut BTreeMap<usize, Outbox>, connection: ConnectionNumber, link: Box<Link>)
+    requires { link.value.bytes.items ≡ record_of link.value.said }
+    ensures { HasChanged (with_last link.value.said) connection.0 outboxes.old outboxes.new }
+{
+    if let Some(outbox) = outboxes.get_mut(&connection.0) {
+        outbox.put(link);
+    }
+}
+
+/// Takes the oldest record that waits for a connection, if that is open.
+fn take_from(outboxes: &mut BTreeMap<usize, Outbox>, connection: ConnectionNumber) -> Option<Record>
+    ensures record { result ≡ first_in (btree.get nat_cmp outboxes.old connection.0) }
+    ensures rest { HasChanged (drop 1) connection.0 outboxes.old outboxes.new }
+{
+    match outboxes.get_mut(&connection.0) {
+        Some(outbox) => outbox.take(),
+        None => None,
+    }
+}

@@ -1,0 +1,42 @@
+//! Records that are taken.
+
+ghost use Rattle.std.specs.Prelude.{◌≡◌};
+ghost use Rattle.outboxes.specs.Messages.{record_of};
+
+use crate::said::Said;
+use std::marker::Model;
+
+/// The record of a reply, to be written to its connection.
+#[derive(Drop)]
+pub struct Record {
+    bytes: Vec<u8>,
+    said: Said,
+}
+
+impl Model for Record {
+    ghost use Rattle.std.specs.Prelude.{◌≡◌};
+    ghost use Rattle.outboxes.specs.Messages.{ReplyMessage, record_of};
+
+    ghost Value = { ReplyMessage };
+
+    ghost view = { λ r. r.said };
+
+    ghost invariant = { λ r. r.bytes.items ≡ record_of r.said };
+}
+
+impl Record {
+    /// The bytes of a record: one fragment, the last (RFC 5531 section 11).
+    pub fn as_slice(&self) -> &[u8]
+        ensures { result.now ≡ record_of self.now }
+    {
+        &self.bytes
+    }
+
+    /// A record of these bytes, which spell what it says.
+    pub(crate) fn new(bytes: Vec<u8>, said: Said) -> Record
+        requires { bytes.items ≡ record_of said }
+        ensures { result ≡ said }
+    {
+        Record { bytes, said }
+    }
+}

@@ -1,0 +1,55 @@
+//! Room for replies.
+
+ghost use Rattle.std.specs.Prelude.{◌≡◌, ◌≤◌, length, IfOk};
+ghost use Rattle.nfs_values.specs.Reply.{reply_of};
+ghost use Rattle.outboxes.specs.Boxes.{most_bytes};
+ghost use Rattle.outboxes.specs.Messages.{message, record_of};
+ghost use Rattle.outboxes.specs.Popped.{IsOf};
+
+use crate::chain::Link;
+use crate::link::{blank, write};
+use nfs_values::Reply;
+use std::alloc::{AllocError, Global};
+use std::marker::Model;
+
+/// Room for the record of one reply, got before the call runs.
+#[derive(Drop)]
+pub struct Room {
+    link: Box<Link>,
+    bytes: usize,
+}
+
+impl Model for Room {
+    ghost use Rattle.std.specs.Prelude.{◌≤◌, ℕ};
+    ghost use Rattle.outboxes.specs.Boxes.{most_bytes};
+    ghost use Rattle.outboxes.specs.Popped.{IsBlank};
+
+    ghost Value = { ℕ };
+
+    ghost view = { λ r. r.bytes };
+
+    ghost invariant = { λ r. IsBlank r.bytes r.link.value × (r.bytes ≤ most_bytes) };
+}
+
+impl Room {
+    /// Room for a record of so many bytes (`rpc_msg::room_of_reply`), at most 131,072.
+    pub fn new(alloc: Global, bytes: usize) -> Result<Room, AllocError>
+        requires { bytes ≤ most_bytes }
+        ensures { IfOk result (λ room. room ≡ bytes) }
+    {
+        Ok(Room {
+            link: blank(alloc, bytes)?,
+            bytes,
+        })
+    }
+
+    /// The record of a reply, in this room. It takes no memory.
+    pub(crate) fn write(self, xid: u32, reply: &Reply) -> Box<Link>
+        requires { length (record_of (message xid (reply_of reply.now))) ≤ self }
+        ensures { IsOf (message xid (reply_of reply.now)) result.value }
+    {
+        let Room { mut link, bytes: _ } = self;
+        write(&mut link, xid, reply).unwrap();
+        link
+    }
+}
