@@ -33,20 +33,18 @@ census-told c hands made sound = ap CensusDone (counts-are c.volumes (λ v p the
 
 -- what is sound stays so through an entry that changes nothing
 all-later : (c : FilerContents) (hands hands' : List Hand) (made : ℕ) → HandsMove [] [] hands hands' → AreSound c hands made → AreSound c hands' (made + 1)
-all-later c hands hands' made moved sound v p there = (
-  (sound v p there).0,
-  sound-later p hands hands' made (λ n. let e = moved (times_in_hand p.number n) in omega (arith, e)) (sound v p there).1,
-)
+all-later c hands hands' made moved sound v p there =
+    ((sound v p there).0,
+    sound-later p hands hands' made (λ n. let e = moved (times_in_hand p.number n) in omega (arith, e)) (sound v p there).1)
 
 -- a call that changes nothing is right where it comes to its outcome on all that is sound
 reads-all : (layout : Layout) (credential : Credential) (moment : Moment) (outcome : Outcome) (c : FilerContents)
     → ((hands : List Hand) (made : ℕ) → AreSound c hands made → WorksOnAll (census_task credential moment) c outcome c)
     → RunsOnAll layout serial_lens (census_task credential moment) c outcome c
 reads-all layout credential moment outcome c works whole hands hands' made has fits sound moved =
-    let mine : AreSound c hands made = subst (λ (w : FilerContents). AreSound w hands made) has sound in (
-      subst (λ (w : FilerContents). WorksOnAll (census_task credential moment) w outcome c) (sym has) (works hands made mine),
-      all-later c hands hands' made moved mine,
-    )
+    let mine : AreSound c hands made = subst (λ (w : FilerContents). AreSound w hands made) has sound in
+    (subst (λ (w : FilerContents). WorksOnAll (census_task credential moment) w outcome c) (sym has) (works hands made mine),
+    all-later c hands hands' made moved mine)
 
 pub census-right : (layout : Layout) (credential : Credential) (moment : Moment) (c : FilerContents)
     → RunsOnAll layout serial_lens (census_task credential moment) c (Replied (Success (census_answer c))) c
