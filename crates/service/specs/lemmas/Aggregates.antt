@@ -1,9 +1,9 @@
 -- A run of a call on the parcels under an Aggregate: GROW.
-use Rattle.std.proofs.Common.{◌≡◌, ℕ, ◌<◌, [], length, Option, Some, None, Result, refl, sym, ap, subst}
+use Rattle.std.proofs.Common.{◌≡◌, ℕ, [], Some, None, Result, sym, subst}
 use Rattle.std.specs.Prelude.{slice_get}
 use Rattle.nfs_model.specs.Types as types
 use Rattle.nfs_model.specs.Types.{Ask, Credential, Moment}
-use Rattle.nfs_model.specs.Tree.{Layout, Affinity, Aggregate, aggregate_of}
+use Rattle.nfs_model.specs.Tree.{Layout, Affinity, Aggregate}
 use Rattle.nfs_model.specs.Home.{grow_home}
 use Rattle.nfs_model.specs.Work.{Store, Outcome, Replied, Starved, Moved, move_of}
 use Rattle.nfs_values.specs.Call.{call_of}

@@ -1,5 +1,5 @@
 use Rattle.std.proofs.Common.{subst}
-use Rattle.nfs_model.specs.Tree.{Affinity, Aggregate}
+use Rattle.nfs_model.specs.Tree.{Affinity}
 use Rattle.affinity_tree.specs.Affinity.{affinity_of}
 use Rattle.affinity_tree.specs.Layout.{layout_of}
 use Rattle.nfs_values.specs.Credential.{credential_of}
