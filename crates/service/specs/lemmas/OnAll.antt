@@ -1,5 +1,5 @@
 -- A run of a call on all that is stored is right by parcels.
-use Rattle.std.proofs.Common.{◌≡◌, ◌⊎◌, ⊎_elim, [], ℕ, Option, Some, None, refl, sym, subst}
+use Rattle.std.proofs.Common.{◌≡◌, [], None, refl, sym, subst}
 use Rattle.nfs_model.specs.Types.{Ask, Credential, Moment}
 use Rattle.nfs_model.specs.Tree.{Layout, Affinity, Serial, Aggregate, Volume, Logical, Stripe, Vbn, Range}
 use Rattle.nfs_model.specs.Work.{Outcome, Replied, Starved, Moved}
