@@ -1,5 +1,5 @@
-//! WRITEs of many bytes: data that is cut, and a volume whose blocks are all in files. Each text is a
-//! piece of a record, in hex.
+//! WRITEs of many bytes: data that is cut, and a volume whose blocks are all in files. Each text is
+//! a piece of a record, in hex.
 
 use crate::events::{expect, joined, put};
 use crate::texts::LAYOUT;

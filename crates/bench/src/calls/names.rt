@@ -1,9 +1,9 @@
 //! How many calls on names are answered in a second.
 
 use crate::calls::measured::{Measured, make_call, make_file};
+use crate::rates::per_second;
 use affinity_tree::{AggregateSpec, Layout, VolumeSpec};
 use engine::{Engine, Event};
-use crate::rates::per_second;
 use std::alloc::{AllocError, Global};
 use std::io;
 use std::rt::Clock;

@@ -4,9 +4,9 @@ ghost use Rattle.std.specs.Prelude.{IfOk};
 ghost use Rattle.bench.specs.Fits.{FitsRecord};
 
 use crate::codecs::sample::{Sample, get_attributes, lookup, read, write};
+use crate::rates::per_second;
 use nfs_types::decode_args;
 use nfs_values::{Call, FileHandle, Target};
-use crate::rates::per_second;
 use rpc_msg::{Head, read_call, write_reply_record};
 use std::alloc::{AllocError, Global};
 use std::io;

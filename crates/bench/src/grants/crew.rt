@@ -3,11 +3,11 @@
 ghost use Rattle.std.specs.Prelude.{◌≤◌};
 ghost use Rattle.depot.specs.Words.{IsSeatHere};
 
+use crate::rates::per_second;
 use affinity_tree::{Affinity, Kind};
 use depot::{Depot, Seat};
 use depot_trial::adding::{Adding, open, split, touches};
 use parcel_sets::{LogicalNode, StripeNode};
-use crate::rates::per_second;
 use std::alloc::AllocError;
 use std::rt::Clock;
 use std::thread::Threads;

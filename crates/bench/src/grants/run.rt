@@ -2,9 +2,9 @@
 
 use crate::grants::crew::{Crew, NAMES, STRIPES, depot_pass};
 use crate::grants::lock;
+use crate::rates::per_second;
 use crate::ratio::print_ratio;
 use affinity_tree::Affinity;
-use crate::rates::per_second;
 use std::io;
 use std::rt::Clock;
 use std::sync::{Mutex, Wait};
