@@ -1,0 +1,2 @@
+mod Sent
+mod Rows
