@@ -1,2 +1,6 @@
 pub mod Counts
 pub mod Writing
+pub mod Arrivals
+pub mod Numbers
+pub mod Steps
+pub mod Reading

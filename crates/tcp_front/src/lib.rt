@@ -2,11 +2,21 @@
 #![tactic(auto)]
 
 mod counted;
+mod giving;
+mod next_record;
 mod piece;
+mod read_end;
+mod reading;
+mod sink;
 mod source;
+mod stream;
+mod taking;
 mod writing;
 
 pub use counted::Counted;
 pub use piece::write_piece;
+pub use read_end::ReadEnd;
+pub use reading::read_loop;
+pub use sink::RecordSink;
 pub use source::RecordSource;
 pub use writing::{WriteFault, write_loop, write_record};
