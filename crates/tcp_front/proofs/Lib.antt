@@ -1,2 +1,6 @@
 mod Sent
 mod Rows
+mod Scanned
+mod Adding
+mod Fitting
+mod Taken

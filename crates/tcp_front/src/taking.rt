@@ -84,9 +84,9 @@ pub(crate) fn take_all<S: RecordSink>(
     let mut taken = 0;
     while taken < bytes.len() {
         let (size, stopped) = take_record(stream, sink, layout, &bytes[taken..]);
-        taken += size;
-        if stopped.is_some() {
-            return stopped;
+        match stopped {
+            None => taken += size,
+            Some(stopped) => return Some(stopped),
         }
     }
     None
