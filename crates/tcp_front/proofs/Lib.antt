@@ -4,3 +4,4 @@ mod Scanned
 mod Adding
 mod Fitting
 mod Taken
+mod Ends

@@ -1,7 +1,9 @@
 -- What parts of a stream come to.
 use Rattle.std.specs.Prelude.{◌≡◌, ℕ, ◌+◌, ◌<◌, ◌≤◌, List, [], ◌∷◌, ◌++◌, length, take, Option, Some, None, Result, Ok, Err}
-use Rattle.rpc_record.specs.Machine.{State}
+use Rattle.std.specs.Global.{Global}
+use Rattle.rpc_record.specs.Machine.{State, start}
 use Rattle.rpc_record.specs.Stream.{read_stream}
+use Rattle.nfs_values.specs.declared.number.ConnectionNumber.{ConnectionNumber}
 use Rattle.nfs_model.specs.Types.{Asked}
 use Rattle.nfs_model.specs.Tree.{Layout}
 use Rattle.nfs_model.specs.World.{Heard}
@@ -100,3 +102,7 @@ abbrev pub end_of : Stopped → ReadEnd
 end_of (stops.Fault fault) = ends.Fault fault
 end_of stops.NoMemory = ends.NoMemory
 end_of stops.NumbersUsed = ends.NumbersUsed
+
+-- a connection of which nothing was read
+abbrev pub opened : Global → ConnectionNumber → Stream
+opened alloc connection = record { alloc = alloc; connection = connection; reassembler = Some start; records = 0 }

@@ -16,7 +16,7 @@ mod writing;
 pub use counted::Counted;
 pub use piece::write_piece;
 pub use read_end::ReadEnd;
-pub use reading::read_loop;
+pub use reading::{read_loop, read_loop_in};
 pub use sink::RecordSink;
 pub use source::RecordSource;
 pub use writing::{WriteFault, write_loop, write_record};

@@ -39,9 +39,48 @@ fn end_of(stopped: Stopped) -> ReadEnd
     }
 }
 
-/// Reads a connection to its end: the calls of its records are admitted under their homes, in order
-/// and each once, and records that need no worker are answered (RFC 5531 sections 9 and 11). All
-/// records of one read are given on before the sink is told of them.
+/// Reads a connection to its end, with a block for what one read gives: the calls of its records
+/// are admitted under their homes, in order and each once, and records that need no worker are
+/// answered (RFC 5531 sections 9 and 11). All records of one read are given on before the sink is
+/// told of them.
+pub fn read_loop_in<W: Wait, R: Read, S: RecordSink>(
+    rt: &W,
+    alloc: Global,
+    reader: &mut Counted<R>,
+    block: &mut [u8],
+    layout: &Layout,
+    connection: ConnectionNumber,
+    sink: &mut S,
+) -> ReadEnd
+    requires room { may_fail reader.old }
+    requires some { 0 < length block.old }
+    requires layout { S.layout sink.old ≡ layout_of layout.now }
+    ensures { HasRead R.remaining S.came (layout_of layout.now) connection.0 reader.old sink.old
+        result reader.new sink.new }
+{
+    let mut stream = Stream {
+        alloc,
+        connection,
+        reassembler: Reassembler::new(alloc),
+        records: 0,
+    };
+    for _ in rt.forever() {
+        let size = match reader.read_some(block) {
+            Ok(0) => return ReadEnd::End,
+            Ok(size) => size,
+            Err(_) => return ReadEnd::ReaderFailed,
+        };
+        let stopped = take_all(&mut stream, sink, layout, &block[..size]);
+        sink.wake();
+        match stopped {
+            None => {}
+            Some(stopped) => return end_of(stopped),
+        }
+    }
+    unreachable!()
+}
+
+/// `read_loop_in` with a block of 64 KiB.
 pub fn read_loop<W: Wait, R: Read, S: RecordSink>(
     rt: &W,
     alloc: Global,
@@ -55,26 +94,8 @@ pub fn read_loop<W: Wait, R: Read, S: RecordSink>(
     ensures { HasRead R.remaining S.came (layout_of layout.now) connection.0 reader.old sink.old
         result reader.new sink.new }
 {
-    let Ok(mut block) = new_block(alloc) else {
-        return ReadEnd::NoMemory;
-    };
-    let mut stream = Stream {
-        alloc,
-        connection,
-        reassembler: Reassembler::new(alloc),
-        records: 0,
-    };
-    for _ in rt.forever() {
-        let size = match reader.read_some(&mut block) {
-            Ok(0) => return ReadEnd::End,
-            Ok(size) => size,
-            Err(_) => return ReadEnd::ReaderFailed,
-        };
-        let stopped = take_all(&mut stream, sink, layout, &block[..size]);
-        sink.wake();
-        if let Some(stopped) = stopped {
-            return end_of(stopped);
-        }
+    match new_block(alloc) {
+        Ok(mut block) => read_loop_in(rt, alloc, reader, &mut block, layout, connection, sink),
+        Err(_refused) => ReadEnd::NoMemory,
     }
-    unreachable!()
 }
