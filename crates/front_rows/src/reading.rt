@@ -115,6 +115,11 @@ pub(crate) fn bytes_of(rt: &(impl Abort + AllocGlobal), parts: &[&[u32]]) -> Vec
     bytes
 }
 
+/// Looks whether these are the bytes that are wanted.
+pub(crate) fn same(rt: &impl Abort, bytes: &[u8], wanted: &[u8]) {
+    assert!(rt; bytes == wanted);
+}
+
 /// One volume of one range.
 fn layout(rt: &(impl Abort + AllocGlobal)) -> Layout {
     let aggregates = [AggregateSpec { spare: 1 }];
@@ -149,7 +154,7 @@ fn are_replies(rt: &(impl Abort + AllocGlobal), sink: &mut Gathered, replies: &[
     let connection = nfs_values::ConnectionNumber(0);
     for reply in replies {
         let taken = sink.outboxes.take(connection).expect(rt, "a reply");
-        assert!(rt; taken.as_slice() == bytes_of(rt, &[reply]).as_slice());
+        same(rt, taken.as_slice(), &bytes_of(rt, &[reply]));
     }
     assert!(rt; sink.outboxes.take(connection).is_none());
 }

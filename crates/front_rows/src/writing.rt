@@ -1,1 +1,119 @@
 //! Records that are written, to writers that take few bytes at once, and fail.
+
+use crate::Waiting;
+use crate::devices::Narrow;
+use crate::reading::{bytes_of, same};
+use crate::texts::{NO_PROGRAM_REPLY, NULL_REPLY};
+use nfs_values::{Answer, ConnectionNumber, Reply};
+use outboxes::Outboxes;
+use std::mem;
+use std::process::Abort;
+use std::sync::Wait;
+use tcp_front::{Counted, write_loop, write_piece};
+
+/// How two records of 28 bytes are written.
+struct Row {
+    /// At most so many bytes at once.
+    size: usize,
+    /// After so many writes the writer fails.
+    writes: usize,
+    /// How many bytes went out before it failed.
+    sent: Option<u64>,
+}
+
+const ROWS: [Row; 7] = [
+    Row {
+        size: 1,
+        writes: 56,
+        sent: None,
+    },
+    Row {
+        size: 100,
+        writes: 2,
+        sent: None,
+    },
+    Row {
+        size: 1,
+        writes: 0,
+        sent: Some(0),
+    },
+    Row {
+        size: 5,
+        writes: 3,
+        sent: Some(15),
+    },
+    Row {
+        size: 100,
+        writes: 1,
+        sent: Some(28),
+    },
+    // the first record takes six writes, the last of them of 3 bytes
+    Row {
+        size: 5,
+        writes: 7,
+        sent: Some(33),
+    },
+    Row {
+        size: 1,
+        writes: 55,
+        sent: Some(55),
+    },
+];
+
+/// A connection for which two replies wait.
+fn two_wait(rt: &(impl Abort + AllocGlobal)) -> Waiting {
+    let mut outboxes = Outboxes::new(rt.alloc());
+    let connection = outboxes.open().ok().expect(rt, "an open connection");
+    let first = outboxes.put_at_once(connection, 1, &Reply::Success(Answer::Null));
+    first.expect(rt, "no memory");
+    let second = outboxes.put_at_once(connection, 4, &Reply::ProgramUnavailable);
+    second.expect(rt, "no memory");
+    Waiting {
+        outboxes,
+        connection,
+    }
+}
+
+/// Writes both records, over a writer that at the end fails or takes nothing.
+fn write(rt: &(impl Abort + AllocGlobal + Wait), row: &Row, is_stuck: bool) {
+    let mut source = two_wait(rt);
+    let mut writer = Counted::new(Narrow {
+        taken: Vec::new(rt.alloc()),
+        size: row.size,
+        writes: row.writes,
+        is_stuck,
+    });
+    let sent = match write_loop(rt, &mut writer, &mut source) {
+        Ok(()) => None,
+        Err(fault) => Some(fault.sent),
+    };
+    assert!(rt; sent == row.sent);
+    assert!(rt; (writer.failures() == 1) == sent.is_some());
+    let all = bytes_of(rt, &[&NULL_REPLY, &NO_PROGRAM_REPLY]);
+    let count = sent.unwrap_or(56) as usize;
+    let taken = writer.into_device().taken;
+    same(rt, &taken, &all[..count.min(all.len())]);
+    mem::forget((source, all, taken));
+}
+
+#[test]
+fn records_are_written_whole_or_up_to_a_failure(rt: HostRuntime) {
+    for row in &ROWS {
+        write(&rt, row, false);
+        write(&rt, row, true);
+    }
+}
+
+#[test]
+fn pieces_are_written_whole_or_up_to_a_failure(rt: HostRuntime) {
+    let mut writer = Counted::new(Narrow {
+        taken: Vec::new(rt.alloc()),
+        size: 2,
+        writes: 4,
+        is_stuck: false,
+    });
+    assert!(&rt; write_piece(&mut writer, b"") == Ok(()));
+    assert!(&rt; write_piece(&mut writer, b"12345") == Ok(()));
+    assert!(&rt; write_piece(&mut writer, b"6789") == Err(2));
+    same(&rt, &writer.into_device().taken, b"1234567");
+}
