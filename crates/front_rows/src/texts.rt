@@ -11,12 +11,40 @@ pub(crate) const NULL_REPLY: [u32; 7] = [0x8000_0018, 1, 1, 0, 0, 0, 0];
 
 /// A GETATTR call of the root, xid 2.
 pub(crate) const GETATTR: [u32; 15] = [
-    0x8000_0038, 2, 0, 2, 100_003, 3, 1, 0, 0, 0, 0, 12, 0, 0, 1,
+    0x8000_0038,
+    2,
+    0,
+    2,
+    100_003,
+    3,
+    1,
+    0,
+    0,
+    0,
+    0,
+    12,
+    0,
+    0,
+    1,
 ];
 
 /// A GETATTR call of a volume that isn't there, xid 3.
 pub(crate) const GETATTR_ASTRAY: [u32; 15] = [
-    0x8000_0038, 3, 0, 2, 100_003, 3, 1, 0, 0, 0, 0, 12, 9, 0, 1,
+    0x8000_0038,
+    3,
+    0,
+    2,
+    100_003,
+    3,
+    1,
+    0,
+    0,
+    0,
+    0,
+    12,
+    9,
+    0,
+    1,
 ];
 
 /// Its reply, NFS3ERR_BADHANDLE.

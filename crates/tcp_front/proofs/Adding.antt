@@ -1,17 +1,16 @@
 -- Bytes one after another, and the records that they bring.
-use Rattle.std.proofs.Common.{◌≡◌, ℕ, ◌+◌, ◌<◌, ◌≤◌, List, [], ◌∷◌, ◌++◌, length, length-append, take, Option, Some, None, Result, Ok, Err, refl, sym, ap, subst, ◌∙◌, append_assoc, arith}
+use Rattle.std.proofs.Common.{◌≡◌, ℕ, ◌<◌, List, [], ◌∷◌, ◌++◌, take, Option, Some, None, Result, Ok, sym, ap, ◌∙◌, append_assoc}
 use Rattle.std.proofs.lemmas.List.{append-nil}
 use Rattle.rpc_record.specs.Machine.{State, start}
 use Rattle.rpc_record.specs.Stream.{read_stream}
 use Rattle.nfs_model.specs.World.{Heard, Scanned}
 use Rattle.engine_feed.specs.Codec.{heard}
-use Rattle.engine_feed.specs.Numbers.{fault_number}
 use Rattle.engine_feed.specs.Seen.{heard_of}
 use Rattle.engine_feed.specs.Streams.{fault_at, served_of, scan_stream}
 use Rattle.tcp_front.specs.declared.next_record.Next.{Next}
 use Rattle.tcp_front.specs.declared.next_record.Next.TheVariants as nexts
 use Rattle.tcp_front.specs.declared.stream.Stopped.TheVariants as stops
-use Rattle.tcp_front.specs.Steps.{After, Brings, BringsFirst, Leads, Adds, Comes, IsNext}
+use Rattle.tcp_front.specs.Steps.{After, Brings, BringsFirst, Adds, Comes, IsNext}
 use Rattle.tcp_front.proofs.Scanned.{joined, scan-grows, scan-stays, scan-first}
 
 -- what feeding a reassembler says of each stream that stands there
@@ -28,21 +27,24 @@ with_served hs r at = joined hs (served_of (r ∷ []) (fault_at at))
 pub comes-next : (at at' : Option State) (bytes : List ℕ) (taken : ℕ) (made : List ℕ) (next : Next) → 0 < taken → Reads at (take taken bytes) (made ∷ []) at'
     → at' ≡ Some start → IsNext next (heard made) → Comes at bytes taken next at'
 comes-next at at' bytes taken made nexts.More some reads begins is = absurd is
-comes-next at at' bytes taken made (nexts.Heard h) some reads begins is =
-    (some, record {
-      brings = λ fed e sound.
-          let hs = (scan_stream fed).served in
-          scan-grows fed (take taken bytes) (made ∷ []) at' sound (reads fed e)
-          ∙ ap (λ (r : Result Heard ℕ). with_served hs r at') is ∙ ap (λ (a : Option State). with_served hs (Ok (heard_of h)) a) begins;
-      leads = λ fed e sound. ap (λ r. r.at) (reads fed e);
-    })
+comes-next at at' bytes taken made (nexts.Heard h) some reads begins is = (
+  some,
+  record {
+    brings = λ fed e sound.
+        let hs = (scan_stream fed).served in
+        scan-grows fed (take taken bytes) (made ∷ []) at' sound (reads fed e)
+        ∙ ap (λ (r : Result Heard ℕ). with_served hs r at') is ∙ ap (λ (a : Option State). with_served hs (Ok (heard_of h)) a) begins;
+    leads = λ fed e sound. ap (λ r. r.at) (reads fed e);
+  },
+)
 comes-next at at' bytes taken made (nexts.Stopped (stops.Fault fault)) some reads begins is = λ fed e sound.
     scan-grows fed (take taken bytes) (made ∷ []) at' sound (reads fed e)
     ∙ ap (λ (r : Result Heard ℕ). with_served (scan_stream fed).served r at') is
-comes-next at at' bytes taken made (nexts.Stopped stops.NoMemory) some reads begins is = λ fed e sound.
-    ((is.0 ∷ []),
-      ap (λ (s : Scanned). s.served) (scan-grows fed (take taken bytes) (made ∷ []) at' sound (reads fed e)
-      ∙ ap (λ (r : Result Heard ℕ). with_served (scan_stream fed).served r at') is.1))
+comes-next at at' bytes taken made (nexts.Stopped stops.NoMemory) some reads begins is = λ fed e sound. (
+  (is.0 ∷ []),
+  ap (λ (s : Scanned). s.served) (scan-grows fed (take taken bytes) (made ∷ []) at' sound (reads fed e)
+      ∙ ap (λ (r : Result Heard ℕ). with_served (scan_stream fed).served r at') is.1),
+)
 comes-next at at' bytes taken made (nexts.Stopped stops.NumbersUsed) some reads begins is = absurd is
 
 pub comes-fault : (at at' : Option State) (bytes : List ℕ) → Reads at bytes [] at' → at' ≡ None → Brings at bytes [] (Some 11)
@@ -70,13 +72,14 @@ module _ (at mid : Option State) (xs ys : List ℕ) (hs : List Heard) (first : A
 
   pub first-more : (ks : List Heard) → BringsFirst mid ys ks → BringsFirst at (xs ++ ys) (hs ++ ks)
   first-more ks second fed e sound =
-      let more = second (fed ++ xs) (first.leads fed e sound) (fault-after at mid xs hs first fed e sound) in
-      (more.0,
+      let more = second (fed ++ xs) (first.leads fed e sound) (fault-after at mid xs hs first fed e sound) in (
+        more.0,
         ap (λ (l : List ℕ). (scan_stream l).served) (sym (append_assoc fed xs ys))
-        ∙ more.1
-        ∙ ap (λ (l : List Heard). l ++ (ks ++ more.0)) (served-after at mid xs hs first fed e sound)
-        ∙ append_assoc (scan_stream fed).served hs (ks ++ more.0)
-        ∙ ap (λ (l : List Heard). (scan_stream fed).served ++ l) (sym (append_assoc hs ks more.0)))
+            ∙ more.1
+            ∙ ap (λ (l : List Heard). l ++ (ks ++ more.0)) (served-after at mid xs hs first fed e sound)
+            ∙ append_assoc (scan_stream fed).served hs (ks ++ more.0)
+            ∙ ap (λ (l : List Heard). (scan_stream fed).served ++ l) (sym (append_assoc hs ks more.0)),
+      )
 
   pub adds-more : (ks : List Heard) (end : Option State) → Adds mid ys ks end → Adds at (xs ++ ys) (hs ++ ks) end
   adds-more ks end second = record {
@@ -94,13 +97,14 @@ brings-longer at bytes rest hs n b fed e sound =
 pub first-longer : (at : Option State) (bytes rest : List ℕ) (hs : List Heard) → BringsFirst at bytes hs → BringsFirst at (bytes ++ rest) hs
 first-longer at bytes rest hs b fed e sound =
     let is = b fed e sound in
-    let more = scan-first (fed ++ bytes) rest in
-    (is.0 ++ more.0,
+    let more = scan-first (fed ++ bytes) rest in (
+      is.0 ++ more.0,
       ap (λ (l : List ℕ). (scan_stream l).served) (sym (append_assoc fed bytes rest))
-      ∙ more.1
-      ∙ ap (λ (l : List Heard). l ++ more.0) is.1
-      ∙ append_assoc (scan_stream fed).served (hs ++ is.0) more.0
-      ∙ ap (λ (l : List Heard). (scan_stream fed).served ++ l) (append_assoc hs is.0 more.0))
+          ∙ more.1
+          ∙ ap (λ (l : List Heard). l ++ more.0) is.1
+          ∙ append_assoc (scan_stream fed).served (hs ++ is.0) more.0
+          ∙ ap (λ (l : List Heard). (scan_stream fed).served ++ l) (append_assoc hs is.0 more.0),
+    )
 
 -- some of what bytes bring
 pub brings-first : (at at' : Option State) (bytes : List ℕ) (hs ks : List Heard) → Adds at bytes (hs ++ ks) at' → BringsFirst at bytes hs

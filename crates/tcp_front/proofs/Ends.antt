@@ -1,20 +1,19 @@
 -- How the loop over a reader ends.
-use Rattle.std.proofs.Common.{◌≡◌, ◌≤◌, ◌<◌, ◌+◌, ℕ, List, [], ◌∷◌, ◌++◌, length, take, Global, Option, Some, None, refl, sym, ap, subst, ◌∙◌, arith}
+use Rattle.std.proofs.Common.{◌≡◌, ◌+◌, ℕ, List, [], ◌++◌, take, Global, Option, Some, None, refl, ap, subst, ◌∙◌, arith}
 use Rattle.std.proofs.lemmas.List.{append-nil}
 use Rattle.std.proofs.KnownBytes.{Consumes-nil, Consumes-kept, Consumes-trans}
 use Rattle.std.specs.Io.KnownBytes.{Consumes, IsAtEnd, Keeps}
 use Rattle.nfs_values.specs.declared.number.ConnectionNumber.{ConnectionNumber}
 use Rattle.nfs_model.specs.Tree.{Layout}
-use Rattle.nfs_model.specs.World.{Heard, Scanned}
-use Rattle.engine_feed.specs.Streams.{scan_stream}
+use Rattle.nfs_model.specs.World.{Heard}
 use Rattle.tcp_front.specs.declared.counted.Counted.{Counted}
 use Rattle.tcp_front.specs.declared.read_end.ReadEnd.TheVariants as ends
 use Rattle.tcp_front.specs.declared.stream.Stream.{Stream}
 use Rattle.tcp_front.specs.declared.stream.Stopped.{Stopped}
 use Rattle.tcp_front.specs.declared.stream.Stopped.TheVariants as stops
-use Rattle.tcp_front.specs.Arrivals.{Arrival, arrivals, most_records}
+use Rattle.tcp_front.specs.Arrivals.{Arrival, arrivals}
 use Rattle.tcp_front.specs.Counts.{device_of, HasFailed, HasNotFailed}
-use Rattle.tcp_front.specs.Reading.{HasRead, EndsAs, AreFirst, AreAll}
+use Rattle.tcp_front.specs.Reading.{HasRead, AreAll}
 use Rattle.tcp_front.specs.Steps.{HasTaken, end_of, opened}
 use Rattle.tcp_front.proofs.Taken.{ComesMore, taken-more, taken-none}
 
@@ -78,7 +77,6 @@ module _ {R S : Type 0} (remaining : R → Option (List ℕ)) (came : S → List
     module _ (law : ComesMore came) (after : Counted R) (stream' : Stream) (mid sink'' : S) (bytes : List ℕ)
         (consumed : Consumes (remaining (device_of reader')) (remaining (device_of after)) bytes) (same : HasNotFailed reader' after)
         (woken : came mid [] sink'') where
-
       -- all that was given on before the sink was told
       given-on : (heard : List Heard) → came sink (arrivals layout connection.0 0 heard) mid → came sink (arrivals layout connection.0 0 heard) sink''
       given-on heard given = subst (λ (l : List Arrival). came sink l sink'') (append-nil _) (law sink mid sink'' _ [] given woken)

@@ -1,5 +1,5 @@
 -- Records of replies at once are short.
-use Rattle.std.proofs.Common.{◌≡◌, ◌≤◌, ◌+◌, ◌*◌, ℕ, List, length, sym, ap, subst, ◌∙◌, arith}
+use Rattle.std.proofs.Common.{◌≡◌, ◌≤◌, ◌+◌, ◌*◌, ℕ, List, length, ap, ◌∙◌, arith}
 use Rattle.nfs_model.specs.Types as types
 use Rattle.nfs_model.specs.Tree.{Layout}
 use Rattle.nfs_model.specs.Serial.AtOnce.{answer_without_home}
@@ -29,5 +29,5 @@ at-once-fits layout xid call asked answer volumes room e a v fits r most few =
     let there = ap (λ (x : types.Answer). length (record_of (message xid (types.Success x)))) e in
     let same = ap (λ (l : List ℕ). length l) (record_is xid (types.Success (answer_without_home layout (call_of call)))) in
     let rooms : room ≡ reply_room (length layout.volumes) (call_of call) =
-        r ∙ ap (λ (n : ℕ). reply_room n (call_of asked)) v ∙ ap (λ (k : Call). reply_room (length layout.volumes) (call_of k)) a in
+    r ∙ ap (λ (n : ℕ). reply_room n (call_of asked)) v ∙ ap (λ (k : Call). reply_room (length layout.volumes) (call_of k)) a in
     omega (arith, there, same, fits, rooms, most, few)

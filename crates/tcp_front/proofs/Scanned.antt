@@ -73,7 +73,7 @@ scan-grows stream bytes made at sound e =
     let records = (read_stream stream).records in
     let others = served_of (map heard made) (fault_at at) in
     let same : scan_stream stream ≡ served_of (map heard records) None =
-        ap (λ (f : Option ℕ). served_of (map heard records) f) (no-fault (map heard records) (fault_at (read_stream stream).at) sound) in
+    ap (λ (f : Option ℕ). served_of (map heard records) f) (no-fault (map heard records) (fault_at (read_stream stream).at) sound) in
     ap scanned e
     ∙ ap (λ (rs : List (Result Heard ℕ)). served_of rs (fault_at at)) (map-append heard records made)
     ∙ served-append (map heard records) (map heard made) (fault_at at) (ap (λ (s : Scanned). s.fault) (sym same) ∙ sound)
@@ -92,7 +92,7 @@ stays-at stream rest n (Some state) e f =
     let at = (read_on r rest).at in
     let same : scan_stream stream ≡ served_of (map heard r.records) None = ap (λ (a : Option State). served_of (map heard r.records) (fault_at a)) e in
     let read : read_stream (stream ++ rest) ≡ record { records = r.records ++ more.0; at = at } =
-        read_on-append _ stream rest ∙ ap (λ (rs : List (List ℕ)). record { records = rs; at = at }) more.1 in
+    read_on-append _ stream rest ∙ ap (λ (rs : List (List ℕ)). record { records = rs; at = at }) more.1 in
     ap scanned read
     ∙ ap (λ (rs : List (Result Heard ℕ)). served_of rs (fault_at at)) (map-append heard r.records more.0)
     ∙ served-stays (map heard r.records) (map heard more.0) (fault_at at) n (ap (λ (s : Scanned). s.fault) (sym same) ∙ f)
@@ -111,7 +111,7 @@ served-first stream rest None f =
     let more = read-grows r rest in
     let at = (read_on r rest).at in
     let read : read_stream (stream ++ rest) ≡ record { records = r.records ++ more.0; at = at } =
-        read_on-append _ stream rest ∙ ap (λ (rs : List (List ℕ)). record { records = rs; at = at }) more.1 in
+    read_on-append _ stream rest ∙ ap (λ (rs : List (List ℕ)). record { records = rs; at = at }) more.1 in
     ((served_of (map heard more.0) (fault_at at)).served, ap (λ (s : Scanned). s.served) (scan-grows stream rest more.0 at f read))
 
 pub scan-first : (stream rest : List ℕ) → (others : List Heard) × ((scan_stream (stream ++ rest)).served ≡ (scan_stream stream).served ++ others)

@@ -1,6 +1,6 @@
 -- Records that are given on, part after part.
-use Rattle.std.proofs.Common.{◌≡◌, ◌≤◌, ◌<◌, ◌+◌, ◌-◌, ℕ, List, [], ◌∷◌, ◌++◌, length, length-append, length-drop, take, drop, Option, Some, None, refl, sym, ap, subst, ◌∙◌, append_assoc, take-append-drop, arith}
-use Rattle.std.proofs.lemmas.List.{append-nil, take_all}
+use Rattle.std.proofs.Common.{◌≡◌, ◌<◌, ◌+◌, ◌-◌, ℕ, List, [], ◌∷◌, ◌++◌, length, length-append, length-drop, take, drop, Option, Some, None, refl, sym, ap, subst, ◌∙◌, take-append-drop, arith}
+use Rattle.std.proofs.lemmas.List.{take_all}
 use Rattle.std.proofs.Math.Seq.{take-add}
 use Rattle.rpc_record.specs.Machine.{State}
 use Rattle.nfs_model.specs.Tree.{Layout}
@@ -9,7 +9,7 @@ use Rattle.tcp_front.specs.declared.stream.Stream.{Stream}
 use Rattle.tcp_front.specs.declared.stream.Stopped.{Stopped}
 use Rattle.tcp_front.specs.declared.stream.Stopped.TheVariants as stops
 use Rattle.tcp_front.specs.Arrivals.{Arrival, arrivals, arrival_of, most_records}
-use Rattle.tcp_front.specs.Steps.{Adds, Brings, BringsFirst, HasGiven, HasTaken, StopsAs}
+use Rattle.tcp_front.specs.Steps.{Adds, HasGiven, HasTaken, StopsAs}
 use Rattle.tcp_front.proofs.Adding.{adds-more, adds-nothing, brings-first, brings-longer, brings-more, first-longer, first-more}
 
 -- ---- what records come to, one after another
@@ -61,7 +61,7 @@ module _ {S : Type 0} (came : S → List Arrival → S → Type 0) (layout : Lay
   taken-more law s t s' sink mid sink' xs ys stopped f g =
       let c = s.connection.0 in
       let at : arrivals layout t.connection.0 t.records g.heard ≡ arrivals layout c (s.records + length f.heard) g.heard =
-          ap (λ k. arrivals layout k.0 t.records g.heard) f.same ∙ ap (λ (n : ℕ). arrivals layout c n g.heard) f.count in
+      ap (λ k. arrivals layout k.0 t.records g.heard) f.same ∙ ap (λ (n : ℕ). arrivals layout c n g.heard) f.count in
       let joined = sym (arrivals-append layout c s.records f.heard g.heard) in
       let both = length-append f.heard g.heard in
       let first = f.count in
@@ -145,6 +145,6 @@ module _ {S : Type 0} (came : S → List Arrival → S → Type 0) (layout : Lay
       → HasTaken came layout s sink xs (Some stopped) s' sink'
   last-taken stopped h =
       let some = subst (λ (l : List ℕ). HasTaken came layout s sink l (Some stopped) s' sink') (next-part xs m n)
-          (taken-more came layout law s t s' sink mid sink' _ _ (Some stopped) before h) in
+      (taken-more came layout law s t s' sink mid sink' _ _ (Some stopped) before h) in
       subst (λ (l : List ℕ). HasTaken came layout s sink l (Some stopped) s' sink') (take-append-drop (m + n) xs)
       (taken-longer came layout s s' sink sink' (take (m + n) xs) (drop (m + n) xs) stopped some)

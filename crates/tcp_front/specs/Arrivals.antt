@@ -1,5 +1,5 @@
 -- What the records of a connection come to (our profile).
-use Rattle.std.specs.Prelude.{◌≡◌, ℕ, ◌+◌, ◌^◌, List, [], ◌∷◌, Option, Some, None}
+use Rattle.std.specs.Prelude.{ℕ, ◌+◌, ◌^◌, List, [], ◌∷◌, Option, Some, None}
 use Rattle.nfs_model.specs.Types.{Asked, Ask, Refused, Undecoded, Reply, Success, SystemError}
 use Rattle.nfs_model.specs.Tree.{Affinity, Layout}
 use Rattle.nfs_model.specs.Home.{home_of_asked}

@@ -44,7 +44,10 @@ pub(crate) fn next_record(
     match step {
         Step::More => (taken, Next::More),
         Step::Record(record) => (taken, next_of(alloc, &record)),
-        Step::Fault => (taken, Next::Stopped(Stopped::Fault(StreamFault::RecordTooLong))),
+        Step::Fault => (
+            taken,
+            Next::Stopped(Stopped::Fault(StreamFault::RecordTooLong)),
+        ),
         Step::NoMemory => (taken, Next::Stopped(Stopped::NoMemory)),
     }
 }

@@ -41,8 +41,8 @@ returns-in-Some-stopped g c =
     let mid = c.take_all-stopped.new.sink in
     let h = subst (λ (o : Option Stopped). HasTaken came layout c.loop.stream c.loop.sink bytes o stream' mid) c.in-Some-stopped.is c.take_all-stopped.ensures.taken in
     let done = read-to-stop g.R.Read.remaining came layout c.args.alloc c.args.connection c.args.reader.now c.args.sink.now c.loop.reader c.loop.stream
-        c.loop.sink c.loop.invariant.so_far g.met.S.RecordSink.came_more c.read_some.new.self stream' mid c.wake.new.self bytes c.in-Ok.ensures.bytes.0
-        c.in-Ok.ensures.counts c.wake.ensures.none c.in-Some-stopped.stopped h in
+    c.loop.sink c.loop.invariant.so_far g.met.S.RecordSink.came_more c.read_some.new.self stream' mid c.wake.new.self bytes c.in-Ok.ensures.bytes.0
+    c.in-Ok.ensures.counts c.wake.ensures.none c.in-Some-stopped.stopped h in
     subst (λ (e : ReadEnd). HasRead g.R.Read.remaining came layout c.args.connection.0 c.args.reader.now c.args.sink.now e c.read_some.new.self c.wake.new.self)
     (sym c.end_of.ensures) done
 

@@ -1,4 +1,4 @@
-use Rattle.std.proofs.Common.{rules, arith, ◌∙◌, Option, take, drop, length, ◌-◌, subst}
+use Rattle.std.proofs.Common.{rules, ◌∙◌, Option, take, drop, length, ◌-◌, subst}
 use Rattle.affinity_tree.specs.Layout.{layout_of}
 use Rattle.tcp_front.specs.declared.stream.Stopped.{Stopped}
 use Rattle.tcp_front.specs.Steps.{HasTaken}
