@@ -10,6 +10,7 @@ use crate::texts::{
     NULL_IN_TWO, NULL_REPLY, SHORT, TOO_LONG,
 };
 use affinity_tree::{Affinity, AggregateSpec, Layout, VolumeSpec};
+use nfs_values::ConnectionNumber;
 use std::mem;
 use std::process::Abort;
 use std::sync::Wait;
@@ -121,7 +122,7 @@ pub(crate) fn same(rt: &impl Abort, bytes: &[u8], wanted: &[u8]) {
 }
 
 /// One volume of one range.
-fn layout(rt: &(impl Abort + AllocGlobal)) -> Layout {
+pub(crate) fn layout(rt: &(impl Abort + AllocGlobal)) -> Layout {
     let aggregates = [AggregateSpec { spare: 1 }];
     let volumes = [VolumeSpec::new(0, 1)];
     let made = Layout::new(rt.alloc(), &aggregates, &volumes).ok();
@@ -129,7 +130,7 @@ fn layout(rt: &(impl Abort + AllocGlobal)) -> Layout {
 }
 
 /// A sink with a connection that is open, number 0.
-fn sink(rt: &(impl Abort + AllocGlobal), layout: &Layout) -> Gathered
+pub(crate) fn sink(rt: &(impl Abort + AllocGlobal), layout: &Layout) -> Gathered
     ensures { layout_of result.layout ≡ layout_of layout.now }
 {
     let mut sink = Gathered::new(rt.alloc(), layout).expect(rt, "no memory");
@@ -151,7 +152,7 @@ fn are_calls(rt: &impl Abort, sink: &Gathered, calls: &[(usize, u32)]) {
 
 /// Looks whether just these replies came, in order.
 fn are_replies(rt: &(impl Abort + AllocGlobal), sink: &mut Gathered, replies: &[&[u32]]) {
-    let connection = nfs_values::ConnectionNumber(0);
+    let connection = ConnectionNumber(0);
     for reply in replies {
         let taken = sink.outboxes.take(connection).expect(rt, "a reply");
         same(rt, taken.as_slice(), &bytes_of(rt, &[reply]));
@@ -169,7 +170,7 @@ fn read(rt: &(impl Abort + AllocGlobal + Wait), row: &Row, size: usize) {
         size,
         reads: row.reads,
     });
-    let connection = nfs_values::ConnectionNumber(0);
+    let connection = ConnectionNumber(0);
     let end = read_loop(rt, rt.alloc(), &mut reader, &layout, connection, &mut sink);
     assert!(rt; end.number() == row.end);
     assert!(rt; (reader.failures() == 1) == (row.end == 64));

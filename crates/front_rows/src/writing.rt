@@ -1,15 +1,14 @@
 //! Records that are written, to writers that take few bytes at once, and fail.
 
-use crate::Waiting;
 use crate::devices::Narrow;
-use crate::reading::{bytes_of, same};
-use crate::texts::{NO_PROGRAM_REPLY, NULL_REPLY};
-use nfs_values::{Answer, ConnectionNumber, Reply};
-use outboxes::Outboxes;
+use crate::reading::{bytes_of, layout, same, sink};
+use crate::texts::{NO_PROGRAM, NO_PROGRAM_REPLY, NULL, NULL_REPLY};
+use crate::{Gathered, Waiting};
+use nfs_values::ConnectionNumber;
 use std::mem;
 use std::process::Abort;
 use std::sync::Wait;
-use tcp_front::{Counted, write_loop, write_piece};
+use tcp_front::{Counted, read_loop, write_loop, write_piece};
 
 /// How two records of 28 bytes are written.
 struct Row {
@@ -60,14 +59,19 @@ const ROWS: [Row; 7] = [
     },
 ];
 
-/// A connection for which two replies wait.
-fn two_wait(rt: &(impl Abort + AllocGlobal)) -> Waiting {
-    let mut outboxes = Outboxes::new(rt.alloc());
-    let connection = outboxes.open().ok().expect(rt, "an open connection");
-    let first = outboxes.put_at_once(connection, 1, &Reply::Success(Answer::Null));
-    first.expect(rt, "no memory");
-    let second = outboxes.put_at_once(connection, 4, &Reply::ProgramUnavailable);
-    second.expect(rt, "no memory");
+/// A connection for which two replies wait, to records that were read.
+fn two_wait(rt: &(impl Abort + AllocGlobal + Wait)) -> Waiting {
+    let stream = bytes_of(rt, &[&NULL, &NO_PROGRAM]);
+    let layout = layout(rt);
+    let mut sink = sink(rt, &layout);
+    let mut reader = Counted::new(stream.as_slice());
+    let connection = ConnectionNumber(0);
+    let end = read_loop(rt, rt.alloc(), &mut reader, &layout, connection, &mut sink);
+    assert!(rt; end.number() == 0);
+    assert!(rt; sink.wakes == 1);
+    mem::forget(reader);
+    mem::forget((stream, layout));
+    let Gathered { outboxes, .. } = sink;
     Waiting {
         outboxes,
         connection,
