@@ -60,5 +60,6 @@ impl RecordSink for Gathered {
 
     ghost came_none = { λ s. gathered_none s.calls.items s.outboxes };
 
-    ghost came_more = { λ s t u xs ys f g. gathered_more s.calls.items t.calls.items u.calls.items s.outboxes t.outboxes u.outboxes xs ys f g };
+    ghost came_more = { λ s t u xs ys f g. gathered_more s.calls.items t.calls.items u.calls.items
+        s.outboxes t.outboxes u.outboxes xs ys f g };
 }

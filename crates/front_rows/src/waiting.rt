@@ -26,5 +26,6 @@ impl RecordSource for Waiting {
 
     ghost gave_none = { λ s. left_none s.connection.0 s.outboxes };
 
-    ghost gave_more = { λ s t u ms others f g. left_more s.connection.0 t.connection.0 u.connection.0 s.outboxes t.outboxes u.outboxes ms others f g };
+    ghost gave_more = { λ s t u ms others f g. left_more s.connection.0 t.connection.0
+        u.connection.0 s.outboxes t.outboxes u.outboxes ms others f g };
 }
