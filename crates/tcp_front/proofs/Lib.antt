@@ -1,5 +1,6 @@
 mod Sent
 mod Rows
+mod JoinedRows
 mod Scanned
 mod Adding
 mod Fitting

@@ -1,5 +1,6 @@
 pub mod Counts
 pub mod Writing
+pub mod Joining
 pub mod Arrivals
 pub mod Numbers
 pub mod Steps

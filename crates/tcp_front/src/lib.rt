@@ -3,6 +3,7 @@
 
 mod counted;
 mod giving;
+mod joining;
 mod next_record;
 mod piece;
 mod read_end;
@@ -14,6 +15,7 @@ mod taking;
 mod writing;
 
 pub use counted::Counted;
+pub use joining::write_joined;
 pub use piece::write_piece;
 pub use read_end::ReadEnd;
 pub use reading::{read_loop, read_loop_in};
