@@ -19,7 +19,9 @@ mod state;
 mod stop;
 
 pub use asked::{OfferedCall, Refused};
+pub use at_once::answer_at_once;
 pub use calls::Calls;
 pub use connection::OpenConnection;
-pub use message::{FinishedCall, Request};
+pub use message::{FinishedCall, Heard, Request};
+pub use reading::{RecordRead, read_record};
 pub use stop::{Stop, StreamFault};

@@ -19,9 +19,9 @@ pub enum Request {
 
 /// What was read of a record.
 #[derive(Drop)]
-pub(crate) struct Heard {
-    pub(crate) xid: u32,
-    pub(crate) request: Request,
+pub struct Heard {
+    pub xid: u32,
+    pub request: Request,
 }
 
 /// A finished call.

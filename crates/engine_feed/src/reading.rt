@@ -11,7 +11,7 @@ use std::alloc::Global;
 
 /// What was read of a record.
 #[derive(Drop)]
-pub(crate) enum RecordRead {
+pub enum RecordRead {
     Heard(Heard),
     /// A call of this xid, but memory for its name or data ran out.
     Undecoded(u32),
@@ -29,7 +29,7 @@ fn stream_fault(fault: rpc_msg::RecordFault) -> StreamFault
 }
 
 /// Reads a whole record. Only names and data take memory.
-pub(crate) fn read_record(alloc: Global, bytes: &[u8]) -> RecordRead
+pub fn read_record(alloc: Global, bytes: &[u8]) -> RecordRead
     ensures { IsReadAs result (heard bytes.now) }
 {
     match rpc_msg::read_record(alloc, bytes) {

@@ -1,0 +1,65 @@
+//! A sink that keeps what comes to it.
+
+ghost use Rattle.std.specs.Prelude.{◌≡◌, IfOk};
+ghost use Rattle.affinity_tree.specs.Layout.{layout_of};
+ghost use Rattle.front_rows.specs.Gathering.{HasGathered, gathered_none, gathered_more};
+
+use affinity_tree::Layout;
+use engine_feed::OfferedCall;
+use nfs_values::{ConnectionNumber, Reply};
+use outboxes::Outboxes;
+use scheduler::Message;
+use std::alloc::{AllocError, Global};
+use tcp_front::RecordSink;
+
+/// The calls that came, and the replies, each in the outbox of its connection.
+#[derive(Drop)]
+pub struct Gathered {
+    pub layout: Layout,
+    pub calls: Vec<Message<OfferedCall>>,
+    pub outboxes: Outboxes,
+    /// How often it was told of what came.
+    pub wakes: u64,
+}
+
+impl Gathered {
+    /// Nothing came, and no connection is open.
+    pub fn new(alloc: Global, layout: &Layout) -> Result<Gathered, AllocError>
+        ensures { IfOk result (λ sink. layout_of sink.layout ≡ layout_of layout.now) }
+    {
+        Ok(Gathered {
+            layout: layout.copied(alloc)?,
+            calls: Vec::new(alloc),
+            outboxes: Outboxes::new(alloc),
+            wakes: 0,
+        })
+    }
+}
+
+impl RecordSink for Gathered {
+    ghost came = { λ s xs t. HasGathered s.calls.items s.outboxes xs t.calls.items t.outboxes };
+
+    ghost layout = { λ s. layout_of s.layout };
+
+    fn admit(&mut self, message: Message<OfferedCall>) -> Result<(), AllocError> {
+        Ok(self.calls.push(message)?)
+    }
+
+    fn answer(
+        &mut self,
+        connection: ConnectionNumber,
+        xid: u32,
+        reply: &Reply,
+    ) -> Result<(), AllocError> {
+        self.outboxes.put_at_once(connection, xid, reply)
+    }
+
+    fn wake(&mut self) {
+        self.wakes = self.wakes.saturating_add(1);
+    }
+
+    ghost came_none = { λ s. gathered_none s.calls.items s.outboxes };
+
+    ghost came_more = { λ s t u xs ys f g. gathered_more s.calls.items t.calls.items u.calls.items
+        s.outboxes t.outboxes u.outboxes xs ys f g };
+}

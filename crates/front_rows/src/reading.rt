@@ -1,0 +1,190 @@
+//! Streams that are read, cut anywhere.
+
+ghost use Rattle.std.specs.Prelude.{◌≡◌};
+ghost use Rattle.affinity_tree.specs.Layout.{layout_of};
+
+use crate::Gathered;
+use crate::devices::Cut;
+use crate::texts::{
+    BADHANDLE_REPLY, GETATTR, GETATTR_ASTRAY, NO_CALL, NO_PROGRAM, NO_PROGRAM_REPLY, NULL,
+    NULL_IN_TWO, NULL_REPLY, SHORT, TOO_LONG,
+};
+use affinity_tree::{Affinity, AggregateSpec, Layout, VolumeSpec};
+use nfs_values::ConnectionNumber;
+use std::mem;
+use std::process::Abort;
+use std::sync::Wait;
+use tcp_front::{Counted, read_loop};
+
+/// What a stream comes to.
+struct Row {
+    /// The words of its records.
+    stream: &'static [&'static [u32]],
+    /// How many bytes at its end are left out.
+    without: usize,
+    /// After so many reads the reader fails.
+    reads: usize,
+    end: u32,
+    /// The numbers and xids of the calls that wait.
+    calls: &'static [(usize, u32)],
+    replies: &'static [&'static [u32]],
+}
+
+/// More reads than a stream takes.
+const MANY: usize = 1_000;
+
+const ROWS: [Row; 8] = [
+    Row {
+        stream: &[],
+        without: 0,
+        reads: MANY,
+        end: 0,
+        calls: &[],
+        replies: &[],
+    },
+    Row {
+        stream: &[&NULL, &GETATTR, &NULL_IN_TWO, &GETATTR],
+        without: 0,
+        reads: MANY,
+        end: 0,
+        calls: &[(1, 2), (3, 2)],
+        replies: &[&NULL_REPLY, &NULL_REPLY],
+    },
+    // a record that isn't whole
+    Row {
+        stream: &[&GETATTR, &NULL, &GETATTR],
+        without: 1,
+        reads: MANY,
+        end: 0,
+        calls: &[(0, 2)],
+        replies: &[&NULL_REPLY],
+    },
+    // without an affinity, and refused
+    Row {
+        stream: &[&GETATTR_ASTRAY, &NO_PROGRAM, &GETATTR],
+        without: 0,
+        reads: MANY,
+        end: 0,
+        calls: &[(2, 2)],
+        replies: &[&BADHANDLE_REPLY, &NO_PROGRAM_REPLY],
+    },
+    // faults, behind which nothing is served
+    Row {
+        stream: &[&NULL, &TOO_LONG, &NULL],
+        without: 0,
+        reads: MANY,
+        end: 11,
+        calls: &[],
+        replies: &[&NULL_REPLY],
+    },
+    Row {
+        stream: &[&GETATTR, &SHORT, &GETATTR],
+        without: 0,
+        reads: MANY,
+        end: 12,
+        calls: &[(0, 2)],
+        replies: &[],
+    },
+    Row {
+        stream: &[&NO_CALL, &NULL],
+        without: 0,
+        reads: MANY,
+        end: 13,
+        calls: &[],
+        replies: &[],
+    },
+    // a reader that fails at once
+    Row {
+        stream: &[&NULL],
+        without: 0,
+        reads: 0,
+        end: 64,
+        calls: &[],
+        replies: &[],
+    },
+];
+
+/// Words as bytes, the highest byte first.
+pub(crate) fn bytes_of(rt: &(impl Abort + AllocGlobal), parts: &[&[u32]]) -> Vec<u8> {
+    let mut bytes = Vec::new(rt.alloc());
+    for words in parts {
+        for word in *words {
+            let added = bytes.extend_from_slice(&word.to_be_bytes());
+            added.expect(rt, "no memory");
+        }
+    }
+    bytes
+}
+
+/// Looks whether these are the bytes that are wanted.
+pub(crate) fn same(rt: &impl Abort, bytes: &[u8], wanted: &[u8]) {
+    assert!(rt; bytes == wanted);
+}
+
+/// One volume of one range.
+pub(crate) fn layout(rt: &(impl Abort + AllocGlobal)) -> Layout {
+    let aggregates = [AggregateSpec { spare: 1 }];
+    let volumes = [VolumeSpec::new(0, 1)];
+    let made = Layout::new(rt.alloc(), &aggregates, &volumes).ok();
+    made.expect(rt, "a layout")
+}
+
+/// A sink with a connection that is open, number 0.
+pub(crate) fn sink(rt: &(impl Abort + AllocGlobal), layout: &Layout) -> Gathered
+    ensures { layout_of result.layout ≡ layout_of layout.now }
+{
+    let mut sink = Gathered::new(rt.alloc(), layout).expect(rt, "no memory");
+    let opened = sink.outboxes.open().ok().expect(rt, "an open connection");
+    assert!(rt; opened.0 == 0);
+    sink
+}
+
+/// Looks whether just these calls came, each under the home of the root.
+fn are_calls(rt: &impl Abort, sink: &Gathered, calls: &[(usize, u32)]) {
+    assert!(rt; sink.calls.len() == calls.len());
+    for (message, (number, xid)) in sink.calls.iter().zip(calls) {
+        assert!(rt; message.origin.connection.0 == 0);
+        assert!(rt; message.origin.number == *number);
+        assert!(rt; message.origin.xid == *xid);
+        assert!(rt; message.affinity == Affinity::VolumeLogical(0));
+    }
+}
+
+/// Looks whether just these replies came, in order.
+fn are_replies(rt: &(impl Abort + AllocGlobal), sink: &mut Gathered, replies: &[&[u32]]) {
+    let connection = ConnectionNumber(0);
+    for reply in replies {
+        let taken = sink.outboxes.take(connection).expect(rt, "a reply");
+        same(rt, taken.as_slice(), &bytes_of(rt, &[reply]));
+    }
+    assert!(rt; sink.outboxes.take(connection).is_none());
+}
+
+/// Reads the stream of a row, at most so many bytes at once.
+fn read(rt: &(impl Abort + AllocGlobal + Wait), row: &Row, size: usize) {
+    let stream = bytes_of(rt, row.stream);
+    let layout = layout(rt);
+    let mut sink = sink(rt, &layout);
+    let mut reader = Counted::new(Cut {
+        rest: &stream[..stream.len().saturating_sub(row.without)],
+        size,
+        reads: row.reads,
+    });
+    let connection = ConnectionNumber(0);
+    let end = read_loop(rt, rt.alloc(), &mut reader, &layout, connection, &mut sink);
+    assert!(rt; end.number() == row.end);
+    assert!(rt; (reader.failures() == 1) == (row.end == 64));
+    are_calls(rt, &sink, row.calls);
+    are_replies(rt, &mut sink, row.replies);
+    mem::forget(reader);
+    mem::forget((stream, layout, sink));
+}
+
+#[test]
+fn streams_are_read_however_they_are_cut(rt: HostRuntime) {
+    for row in &ROWS {
+        for size in [1, 2, 3, 7, 40, 65_536] {
+            read(&rt, row, size);
+        }
+    }
+}

@@ -1,0 +1,33 @@
+-- Records of replies at once are short.
+use Rattle.std.proofs.Common.{◌≡◌, ◌≤◌, ◌+◌, ◌*◌, ℕ, List, length, ap, ◌∙◌, arith}
+use Rattle.nfs_model.specs.Types as types
+use Rattle.nfs_model.specs.Tree.{Layout}
+use Rattle.nfs_model.specs.Serial.AtOnce.{answer_without_home}
+use Rattle.nfs_values.specs.declared.call.Call.{Call}
+use Rattle.nfs_values.specs.declared.reply.Reply.{Reply}
+use Rattle.nfs_values.specs.Call.{call_of}
+use Rattle.nfs_values.specs.Reply.{reply_of}
+use Rattle.rpc_msg.specs.Replies.{reply_record}
+use Rattle.rpc_msg.specs.Room.{refusal_room, reply_room}
+use Rattle.outboxes.specs.Boxes.{most_bytes}
+use Rattle.outboxes.specs.Messages.{message, record_of}
+use Rattle.outboxes.specs.lemmas.Messages.{record_is}
+
+pub refused-fits : (xid : ℕ) (told reply : Reply) → told ≡ reply → length (reply_record xid (reply_of reply)) ≤ refusal_room
+    → length (record_of (message xid (reply_of told))) ≤ most_bytes
+refused-fits xid told reply e fits =
+    let there = ap (λ (r : Reply). length (record_of (message xid (reply_of r)))) e in
+    let same = ap (λ (l : List ℕ). length l) (record_is xid (reply_of reply)) in
+    omega (arith, there, same, fits)
+
+pub at-once-fits : (layout : Layout) (xid : ℕ) (call : Call) (asked : Call) (answer : types.Answer) (volumes room : ℕ)
+    → answer ≡ answer_without_home layout (call_of call) → asked ≡ call → volumes ≡ length layout.volumes
+    → length (reply_record xid (types.Success (answer_without_home layout (call_of call)))) ≤ reply_room (length layout.volumes) (call_of call)
+    → room ≡ reply_room volumes (call_of asked) → room ≤ 65584 + 20 * volumes → volumes ≤ 8
+    → length (record_of (message xid (types.Success answer))) ≤ most_bytes
+at-once-fits layout xid call asked answer volumes room e a v fits r most few =
+    let there = ap (λ (x : types.Answer). length (record_of (message xid (types.Success x)))) e in
+    let same = ap (λ (l : List ℕ). length l) (record_is xid (types.Success (answer_without_home layout (call_of call)))) in
+    let rooms : room ≡ reply_room (length layout.volumes) (call_of call) =
+    r ∙ ap (λ (n : ℕ). reply_room n (call_of asked)) v ∙ ap (λ (k : Call). reply_room (length layout.volumes) (call_of k)) a in
+    omega (arith, there, same, fits, rooms, most, few)

@@ -1,0 +1,39 @@
+-- What the records of a connection come to (our profile).
+use Rattle.std.specs.Prelude.{ℕ, ◌+◌, ◌^◌, List, [], ◌∷◌, Option, Some, None}
+use Rattle.nfs_model.specs.Types.{Asked, Ask, Refused, Undecoded, Reply, Success, SystemError}
+use Rattle.nfs_model.specs.Tree.{Affinity, Layout}
+use Rattle.nfs_model.specs.Home.{home_of_asked}
+use Rattle.nfs_model.specs.Serial.AtOnce.{answer_without_home}
+use Rattle.nfs_model.specs.World.{Heard, Message}
+use Rattle.outboxes.specs.Boxes.{Addressed, addressed}
+use Rattle.outboxes.specs.Messages.{message}
+
+-- the most records of a connection
+abbrev pub most_records : ℕ
+most_records = 2 ^ 62
+
+-- a call that waits for a worker, or a reply on its way to a connection
+pub data Arrival : Type 0 where
+  Waits : (message : Message) → Arrival
+  Answered : (reply : Addressed) → Arrival
+
+-- the reply to a record for which no state is read
+abbrev pub reply_at_once : Layout → Asked → Reply
+reply_at_once layout (Ask call credential) = Success (answer_without_home layout call)
+reply_at_once layout (Refused reply) = reply
+reply_at_once layout Undecoded = SystemError
+
+-- A call with a home waits, to try that; another record is answered.
+abbrev pub placed : Layout → ℕ → ℕ → Heard → Option Affinity → Arrival
+placed layout connection number h (Some affinity) =
+    Waits (record { connection = connection; number = number; xid = h.xid; asked = h.asked; affinity = affinity })
+placed layout connection number h None = Answered (addressed connection (message h.xid (reply_at_once layout h.asked)))
+
+-- what a record of a connection comes to, by its number there
+abbrev pub arrival_of : Layout → ℕ → ℕ → Heard → Arrival
+arrival_of layout connection number h = placed layout connection number h (home_of_asked layout h.asked)
+
+-- what records come to, of which the first has this number
+abbrev pub arrivals : Layout → ℕ → ℕ → List Heard → List Arrival
+arrivals layout connection number [] = []
+arrivals layout connection number (h ∷ hs) = arrival_of layout connection number h ∷ arrivals layout connection (number + 1) hs
