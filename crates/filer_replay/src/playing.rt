@@ -3,7 +3,7 @@
 ghost use Rattle.std.specs.Prelude.{◌<◌, ◌≤◌, length, IfOk};
 
 use crate::fault::ProgramFault;
-use crate::printing::{print_fault, print_output, say};
+use crate::printing::{print_counts, print_fault, print_output, say};
 use crate::script::{Script, Start};
 use byteorder::{BigEndian, ByteOrder};
 use engine::{Done, Engine, Event, Refusal};
@@ -79,6 +79,9 @@ fn print_done<W: Write>(
             let before = output.len().saturating_sub(count);
             print_output(out, connection, &output[before..])
         }
+        (_, Done::InHand { count }) => say(out, format_args!("hand {count}")),
+        (_, Done::PutDown { count }) => say(out, format_args!("put {count}")),
+        (_, Done::Surveyed { counts }) => print_counts(out, &counts),
         // only a feed comes to the one, and only a close to the other
         (_, Done::Fed { .. } | Done::Closed) => Ok(()),
     }

@@ -5,6 +5,7 @@ ghost use Rattle.std.specs.Prelude.{if◌then◌else◌, IfSome, IfErr, OnOk};
 ghost use Rattle.std.specs.Fmt.{decimal};
 ghost use Rattle.std.specs.Io.KnownBytes.{Appends};
 ghost use Rattle.hex.specs.Hex.{encode_lower};
+ghost use Rattle.filer_replay.specs.Lines.{spaced};
 
 use crate::fault::ProgramFault;
 use std::fmt::Display;
@@ -70,6 +71,19 @@ pub(crate) fn print_output<W: Write>(
     }
     write!(out, "out {connection} ").map_err(|_| ProgramFault::Output)?;
     print_hex(out, bytes)?;
+    out.write_all(b"\n").map_err(|_| ProgramFault::Output)
+}
+
+/// Prints how many blocks are free in each range: `free` and these counts, each behind a space.
+pub(crate) fn print_counts<W: Write>(out: &mut W, counts: &[u32]) -> Result<(), ProgramFault>
+    ensures line { OnOk result (Appends (W.contents out.old) (W.contents out.new)
+        (codes "free" ++ spaced counts.now ++ 10 ∷ [])) }
+    ensures err { IfErr result (λ fault. fault ≡ ProgramFault.Output) }
+{
+    out.write_all(b"free").map_err(|_| ProgramFault::Output)?;
+    for count in counts {
+        write!(out, " {count}").map_err(|_| ProgramFault::Output)?;
+    }
     out.write_all(b"\n").map_err(|_| ProgramFault::Output)
 }
 
