@@ -74,16 +74,35 @@ pub(crate) fn print_output<W: Write>(
     out.write_all(b"\n").map_err(|_| ProgramFault::Output)
 }
 
-/// Prints how many blocks are free in each range: `free` and these counts, each behind a space.
+/// Prints a number behind a space.
+fn print_number<W: Write>(out: &mut W, number: u32) -> Result<(), ProgramFault>
+    ensures digits { OnOk result (Appends (W.contents out.old) (W.contents out.new)
+        (codes " " ++ decimal number)) }
+    ensures err { IfErr result (λ fault. fault ≡ ProgramFault.Output) }
+{
+    write!(out, " {number}").map_err(|_| ProgramFault::Output)
+}
+
+/// Prints numbers, each behind a space.
+fn print_numbers<W: Write>(out: &mut W, numbers: &[u32]) -> Result<(), ProgramFault>
+    ensures digits { OnOk result
+        (Appends (W.contents out.old) (W.contents out.new) (spaced numbers.now)) }
+    ensures err { IfErr result (λ fault. fault ≡ ProgramFault.Output) }
+{
+    for number in numbers {
+        print_number(out, *number)?;
+    }
+    Ok(())
+}
+
+/// Prints how many blocks are free in each range: `free` and these counts.
 pub(crate) fn print_counts<W: Write>(out: &mut W, counts: &[u32]) -> Result<(), ProgramFault>
     ensures line { OnOk result (Appends (W.contents out.old) (W.contents out.new)
         (codes "free" ++ spaced counts.now ++ 10 ∷ [])) }
     ensures err { IfErr result (λ fault. fault ≡ ProgramFault.Output) }
 {
-    out.write_all(b"free").map_err(|_| ProgramFault::Output)?;
-    for count in counts {
-        write!(out, " {count}").map_err(|_| ProgramFault::Output)?;
-    }
+    write!(out, "free").map_err(|_| ProgramFault::Output)?;
+    print_numbers(out, counts)?;
     out.write_all(b"\n").map_err(|_| ProgramFault::Output)
 }
 
