@@ -5,9 +5,11 @@ ghost use Rattle.std.specs.Prelude.{if◌then◌else◌, IfSome, IfErr, OnOk};
 ghost use Rattle.std.specs.Fmt.{decimal};
 ghost use Rattle.std.specs.Io.KnownBytes.{Appends};
 ghost use Rattle.hex.specs.Hex.{encode_lower};
+ghost use Rattle.engine.specs.Numbers.{refusal_number};
 ghost use Rattle.filer_replay.specs.Lines.{spaced};
 
 use crate::fault::ProgramFault;
+use engine::Refusal;
 use std::fmt::Display;
 use std::io::Write;
 
@@ -104,6 +106,16 @@ pub(crate) fn print_counts<W: Write>(out: &mut W, counts: &[u32]) -> Result<(), 
     write!(out, "free").map_err(|_| ProgramFault::Output)?;
     print_numbers(out, counts)?;
     out.write_all(b"\n").map_err(|_| ProgramFault::Output)
+}
+
+/// Prints that a line was refused: `refused` and the number by which this is told.
+pub(crate) fn print_refusal<W: Write>(out: &mut W, refusal: Refusal) -> Result<(), ProgramFault>
+    ensures line { OnOk result (Appends (W.contents out.old) (W.contents out.new)
+        (codes "refused " ++ decimal (refusal_number refusal) ++ 10 ∷ [])) }
+    ensures err { IfErr result (λ fault. fault ≡ ProgramFault.Output) }
+{
+    let number = refusal.number();
+    say(out, format_args!("refused {number}"))
 }
 
 /// Prints a fault, unless the output is what failed. The exit status tells of one that can't be
