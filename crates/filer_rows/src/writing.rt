@@ -110,6 +110,8 @@ const DIGITS: [&str; 16] = [
 struct Row {
     script: String,
     printed: String,
+    /// 65,536 bytes.
+    data: String,
 }
 
 impl Row {
@@ -124,7 +126,13 @@ impl Row {
         );
         let [first, second] = CREATED;
         let printed = joined(rt, &["conn 0\n", first, second]);
-        Row { script, printed }
+        let mut data = String::new(rt.alloc());
+        put(rt, &mut data, "61", 65_536);
+        Row {
+            script,
+            printed,
+            data,
+        }
     }
 
     /// Appends lines, and what is printed of them.
@@ -163,7 +171,7 @@ impl Row {
     fn put_large(&mut self, rt: &impl Abort, fileid: usize, number: usize) {
         self.put_head(rt, LARGE, fileid, number);
         self.put(rt, "000100000000000200010000", "");
-        put(rt, &mut self.script, "61", 65_536);
+        put(rt, &mut self.script, &self.data, 1);
         self.put(rt, "\n", "");
         let taken = "taken 65616 stop 0\ngranted stripe 0 ";
         self.put_climb(rt, taken, fileid, number);
@@ -196,7 +204,8 @@ fn data_are_cut(rt: HostRuntime) {
     let mut row = Row::begun(&rt);
     row.put_head(&rt, CUT, 2, 0);
     row.put(&rt, "000111700000000200011170", "");
-    put(&rt, &mut row.script, "61", 70_000);
+    put(&rt, &mut row.script, &row.data, 1);
+    put(&rt, &mut row.script, "61", 4_464);
     row.put(&rt, "\n", "");
     row.put_climb(&rt, "taken 70080 stop 0\ngranted stripe 0 ", 2, 0);
     row.put_answer(&rt, WRITTEN);
