@@ -1,12 +1,14 @@
 //! Scripts that are run, with a line printed for each event.
 
-ghost use Rattle.std.specs.Prelude.{◌<◌, ◌≤◌, length, IfOk};
+ghost use Rattle.std.specs.Prelude.{◌<◌, ◌≤◌, [], ◌∷◌, ◌++◌, length, IfOk, IfSome, OnOk};
+ghost use Rattle.std.specs.Io.KnownBytes.{Appends};
+ghost use Rattle.filer_replay.specs.Lines.{line_of};
 
 use crate::fault::ProgramFault;
-use crate::printing::{print_fault, print_output, say};
+use crate::printing::{print_counts, print_fault, print_output, print_refusal, say};
 use crate::script::{Script, Start};
 use byteorder::{BigEndian, ByteOrder};
-use engine::{Done, Engine, Event, Refusal};
+use engine::{Done, Engine, Event, Refusal, Stop};
 use std::alloc::Global;
 use std::io::{BufWriter, Read, Write};
 
@@ -49,6 +51,34 @@ fn output_before(engine: &Engine, event: Event<'_>) -> usize {
     }
 }
 
+/// Prints what a feed came to: how many bytes were taken and what stopped it, and the records that
+/// were written since there were so many bytes.
+fn print_fed<W: Write>(
+    engine: &Engine,
+    connection: usize,
+    before: usize,
+    taken: usize,
+    stop: Stop,
+    out: &mut W,
+) -> Result<(), ProgramFault> {
+    let stop = stop.number();
+    say(out, format_args!("taken {taken} stop {stop}"))?;
+    let output = engine.output(connection);
+    print_records(out, connection, &output[before.min(output.len())..])
+}
+
+/// Prints the last so many bytes that were written to a connection.
+fn print_written<W: Write>(
+    engine: &Engine,
+    connection: usize,
+    count: usize,
+    out: &mut W,
+) -> Result<(), ProgramFault> {
+    let output = engine.output(connection);
+    let before = output.len().saturating_sub(count);
+    print_output(out, connection, &output[before..])
+}
+
 /// Prints what an event came to.
 fn print_done<W: Write>(
     engine: &Engine,
@@ -56,31 +86,33 @@ fn print_done<W: Write>(
     before: usize,
     done: Done,
     out: &mut W,
-) -> Result<(), ProgramFault> {
-    match (event, done) {
-        (_, Done::Opened { connection }) => say(out, format_args!("conn {connection}")),
-        (Event::Feed { connection, .. }, Done::Fed { taken, stop }) => {
-            let stop = stop.number();
-            say(out, format_args!("taken {taken} stop {stop}"))?;
-            let output = engine.output(connection);
-            print_records(out, connection, &output[before.min(output.len())..])
-        }
-        (Event::Close { connection }, Done::Closed) => say(
-            out,
-            format_args!("closed {connection}"),
-        ),
-        (_, Done::Granted { affinity }) => say(out, format_args!("granted {affinity}")),
-        (_, Done::Replied) => say(out, "reply"),
-        (_, Done::Starved) => say(out, "starved"),
-        (_, Done::Moved { affinity }) => say(out, format_args!("move {affinity}")),
-        (_, Done::PutBack) => say(out, "back"),
-        (_, Done::Written { connection, count }) => {
-            let output = engine.output(connection);
-            let before = output.len().saturating_sub(count);
-            print_output(out, connection, &output[before..])
-        }
-        // only a feed comes to the one, and only a close to the other
-        (_, Done::Fed { .. } | Done::Closed) => Ok(()),
+) -> Result<(), ProgramFault>
+    ensures line { OnOk result (IfSome (line_of done) (λ line.
+        Appends (W.contents out.old) (W.contents out.new) (line ++ 10 ∷ []))) }
+{
+    match done {
+        Done::Opened { connection } => say(out, format_args!("conn {connection}")),
+        Done::Fed { taken, stop } => match event {
+            Event::Feed { connection, .. } => {
+                print_fed(engine, connection, before, taken, stop, out)
+            }
+            // only a feed comes to it
+            _ => Ok(()),
+        },
+        Done::Closed => match event {
+            Event::Close { connection } => say(out, format_args!("closed {connection}")),
+            // only a close comes to it
+            _ => Ok(()),
+        },
+        Done::Granted { affinity } => say(out, format_args!("granted {affinity}")),
+        Done::Replied => say(out, "reply"),
+        Done::Starved => say(out, "starved"),
+        Done::Moved { affinity } => say(out, format_args!("move {affinity}")),
+        Done::PutBack => say(out, "back"),
+        Done::Written { connection, count } => print_written(engine, connection, count, out),
+        Done::InHand { count } => say(out, format_args!("hand {count}")),
+        Done::PutDown { count } => say(out, format_args!("put {count}")),
+        Done::Surveyed { counts } => print_counts(out, &counts),
     }
 }
 
@@ -97,14 +129,13 @@ fn play<W: Write>(
             Ok(false)
         }
         Err(refusal) => {
-            let number = refusal.number();
-            say(out, format_args!("refused {number}"))?;
+            print_refusal(out, refusal)?;
             Ok(true)
         }
     }
 }
 
-/// Plays the events of a script up to its end, and answers whether one was refused.
+/// Plays the lines of a script up to its end, and answers whether one was refused.
 fn play_all<W: Write>(
     script: &mut Script<'_>,
     engine: &mut Engine,
@@ -119,7 +150,7 @@ fn play_all<W: Write>(
     Ok(refused)
 }
 
-/// Runs a script up to its end, and answers whether an event was refused.
+/// Runs a script up to its end, and answers whether a line was refused.
 fn run<W: Write>(alloc: Global, text: &[u8], out: &mut W) -> Result<bool, ProgramFault> {
     let mut script = Script::new(alloc, text);
     let Start {
@@ -158,7 +189,7 @@ fn read_whole<R: Read>(alloc: Global, script: &mut R) -> Result<Vec<u8>, Program
 }
 
 /// Runs a script, which is read whole before a line is printed, and answers the exit status: 1
-/// where an event was refused, a line was bad, a read or a write failed or memory ran out, else 0.
+/// where a line was refused, another was bad, a read or a write failed or memory ran out, else 0.
 pub fn replay<R: Read, W: Write>(alloc: Global, script: &mut R, out: &mut W) -> u8
     ensures { result ≤ 1 }
 {

@@ -5,8 +5,11 @@ ghost use Rattle.std.specs.Prelude.{if◌then◌else◌, IfSome, IfErr, OnOk};
 ghost use Rattle.std.specs.Fmt.{decimal};
 ghost use Rattle.std.specs.Io.KnownBytes.{Appends};
 ghost use Rattle.hex.specs.Hex.{encode_lower};
+ghost use Rattle.engine.specs.Numbers.{refusal_number};
+ghost use Rattle.filer_replay.specs.Lines.{spaced};
 
 use crate::fault::ProgramFault;
+use engine::Refusal;
 use std::fmt::Display;
 use std::io::Write;
 
@@ -71,6 +74,48 @@ pub(crate) fn print_output<W: Write>(
     write!(out, "out {connection} ").map_err(|_| ProgramFault::Output)?;
     print_hex(out, bytes)?;
     out.write_all(b"\n").map_err(|_| ProgramFault::Output)
+}
+
+/// Prints a number behind a space.
+fn print_number<W: Write>(out: &mut W, number: u32) -> Result<(), ProgramFault>
+    ensures digits { OnOk result (Appends (W.contents out.old) (W.contents out.new)
+        (codes " " ++ decimal number)) }
+    ensures err { IfErr result (λ fault. fault ≡ ProgramFault.Output) }
+{
+    write!(out, " {number}").map_err(|_| ProgramFault::Output)
+}
+
+/// Prints numbers, each behind a space.
+fn print_numbers<W: Write>(out: &mut W, numbers: &[u32]) -> Result<(), ProgramFault>
+    ensures digits { OnOk result
+        (Appends (W.contents out.old) (W.contents out.new) (spaced numbers.now)) }
+    ensures err { IfErr result (λ fault. fault ≡ ProgramFault.Output) }
+{
+    for number in numbers {
+        print_number(out, *number)?;
+    }
+    Ok(())
+}
+
+/// Prints how many blocks are free in each range: `free` and these counts.
+pub(crate) fn print_counts<W: Write>(out: &mut W, counts: &[u32]) -> Result<(), ProgramFault>
+    ensures line { OnOk result (Appends (W.contents out.old) (W.contents out.new)
+        (codes "free" ++ spaced counts.now ++ 10 ∷ [])) }
+    ensures err { IfErr result (λ fault. fault ≡ ProgramFault.Output) }
+{
+    write!(out, "free").map_err(|_| ProgramFault::Output)?;
+    print_numbers(out, counts)?;
+    out.write_all(b"\n").map_err(|_| ProgramFault::Output)
+}
+
+/// Prints that a line was refused: `refused` and the number by which this is told.
+pub(crate) fn print_refusal<W: Write>(out: &mut W, refusal: Refusal) -> Result<(), ProgramFault>
+    ensures line { OnOk result (Appends (W.contents out.old) (W.contents out.new)
+        (codes "refused " ++ decimal (refusal_number refusal) ++ 10 ∷ [])) }
+    ensures err { IfErr result (λ fault. fault ≡ ProgramFault.Output) }
+{
+    let number = refusal.number();
+    say(out, format_args!("refused {number}"))
 }
 
 /// Prints a fault, unless the output is what failed. The exit status tells of one that can't be

@@ -76,14 +76,41 @@ pub(crate) fn read_event<'b>(
             *bytes = words.bytes(alloc)?;
             Event::Feed { connection, bytes }
         }
-        _ => event_of(verb, &mut words)?,
+        Verb::Fetch | Verb::Cull | Verb::PutDown | Verb::Survey => carrying_of(verb, &mut words)?,
+        _ => serving_of(verb, &mut words)?,
     };
     words.end()?;
     Ok(event)
 }
 
-/// An event but a feed.
-fn event_of(verb: Verb, words: &mut Words<'_>) -> Result<Event<'static>, Unread> {
+/// An event of blocks that a worker carries in its hand, or counts.
+fn carrying_of(verb: Verb, words: &mut Words<'_>) -> Result<Event<'static>, Unread> {
+    let [worker] = words.places::<1>()?;
+    match verb {
+        Verb::Fetch => {
+            let volume = words.volume()?;
+            let [range] = words.numbers::<1>()?;
+            Ok(Event::Fetch {
+                worker,
+                volume,
+                range,
+            })
+        }
+        Verb::Cull => {
+            let volume = words.volume()?;
+            Ok(Event::Cull { worker, volume })
+        }
+        Verb::PutDown => Ok(Event::PutDown { worker }),
+        Verb::Survey => {
+            let volume = words.volume()?;
+            Ok(Event::Survey { worker, volume })
+        }
+        _ => Err(Unread::Form),
+    }
+}
+
+/// An event of a connection or of a call, but a feed.
+fn serving_of(verb: Verb, words: &mut Words<'_>) -> Result<Event<'static>, Unread> {
     let event = match verb {
         Verb::Open => Event::Open,
         Verb::Close => {

@@ -12,10 +12,14 @@ pub(crate) enum Verb {
     Begin,
     Work,
     Finish,
+    Fetch,
+    Cull,
+    PutDown,
+    Survey,
 }
 
 /// The first words of lines.
-const VERBS: [(&[u8], Verb); 9] = [
+const VERBS: [(&[u8], Verb); 13] = [
     (b"aggregate", Verb::Aggregate),
     (b"volume", Verb::Volume),
     (b"start", Verb::Start),
@@ -25,6 +29,10 @@ const VERBS: [(&[u8], Verb); 9] = [
     (b"begin", Verb::Begin),
     (b"work", Verb::Work),
     (b"finish", Verb::Finish),
+    (b"fetch", Verb::Fetch),
+    (b"cull", Verb::Cull),
+    (b"putdown", Verb::PutDown),
+    (b"survey", Verb::Survey),
 ];
 
 /// What a line that begins with this word is of.

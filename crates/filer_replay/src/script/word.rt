@@ -4,6 +4,7 @@ ghost use Rattle.std.specs.Prelude.{◌≡◌, ◌+◌, ◌<◌, IfSome};
 ghost use Rattle.std.specs.Fmt.{decimal};
 
 use crate::script::line::Unread;
+use nfs_values::VolumeNumber;
 use std::alloc::Global;
 
 /// The words of a line that are still to be read; `None` past the last.
@@ -51,6 +52,11 @@ impl<'a> Words<'a> {
             *place = self.number()? as usize;
         }
         Ok(places)
+    }
+
+    /// The next word, as the number of a volume, by the same rule.
+    pub(crate) fn volume(&mut self) -> Result<VolumeNumber, Unread> {
+        Ok(VolumeNumber(self.number()?))
     }
 
     /// The next word, as bytes in lower-case hex; `-` stands for none.

@@ -1,23 +1,13 @@
-use Rattle.std.proofs.Common.{◌≡◌, ℕ, List, [], ◌∷◌, ◌++◌, ◌==◌, true, length, Option, None, Some, refl, sym, ◌∙◌, ap, append_assoc, arith}
+use Rattle.std.proofs.Common.{◌≡◌, ℕ, List, [], ◌∷◌, ◌++◌, ◌==◌, true, length, refl, sym, ◌∙◌, arith}
 use Rattle.std.proofs.lemmas.Grind.{common_steps}
-use Rattle.std.specs.Io.KnownBytes.{Appends}
 use Rattle.hex.specs.Hex.{encode_with, lower_digits}
+use Rattle.filer_replay.proofs.Appended.{Appends-none, Appends-more}
 use Rattle.filer_replay.proofs.printing.print_hex.Goals as goal
 
 encode_with-append : (t xs ys : List ℕ) → encode_with t (xs ++ ys) ≡ encode_with t xs ++ encode_with t ys
 unfolding encode_with
 encode_with-append t [] ys = refl
 encode_with-append t (x ∷ xs) ys = let e = encode_with-append t xs ys in cc
-
-Appends-none : (known : Option (List ℕ)) → Appends known known []
-Appends-none None = tt
-Appends-none (Some xs) = grind (arith, common_steps)
-
-Appends-more : (a b c : Option (List ℕ)) (xs ys : List ℕ) → Appends a b xs → Appends b c ys → Appends a c (xs ++ ys)
-Appends-more None b c xs ys h k = tt
-Appends-more (Some old) None c xs ys h k = absurd h
-Appends-more (Some old) (Some mid) None xs ys h k = absurd k
-Appends-more (Some old) (Some mid) (Some new) xs ys h k = k ∙ ap (λ l. l ++ ys) h ∙ append_assoc old xs ys
 
 before_nothing : (printed rest bytes : List ℕ) → (length rest == 0) ≡ true → printed ++ rest ≡ bytes → printed ≡ bytes
 before_nothing printed [] bytes none e = grind (arith, common_steps)
