@@ -21,7 +21,7 @@ waits-taken k b =
 by-found : (k : ℕ) (b : Boxes) (found : Option (List ReplyMessage)) → get b.waiting k ≡ found
     → list_in (option_map (drop 1) found) ≡ waits k (taken k b)
     → MatchOption (first_in found) (HasLeft k b [] k (taken k b)
-        × IsEmpty k (taken k b)) (λ m. HasLeft k b (m ∷ []) k (taken k b))
+    × IsEmpty k (taken k b)) (λ m. HasLeft k b (m ∷ []) k (taken k b))
 by-found k b None e h = ((refl, ap list_in e ∙ h), sym h)
 by-found k b (Some []) e h = ((refl, ap list_in e ∙ h), sym h)
 by-found k b (Some (m ∷ ms)) e h = (refl, ap list_in e ∙ ap (λ (l : List ReplyMessage). m ∷ l) h)
@@ -31,5 +31,5 @@ pub took : (k : ℕ) (b b' : Boxes) (r : Option ReplyMessage) → r ≡ oldest k
 took k b b' r e f =
     let all = by-found k b (get b.waiting k) refl (sym (waits-taken k b)) in
     let there = subst (λ (x : Option ReplyMessage). MatchOption x (HasLeft k b [] k (taken k b)
-        × IsEmpty k (taken k b)) (λ m. HasLeft k b (m ∷ []) k (taken k b))) (sym e) all in
+    × IsEmpty k (taken k b)) (λ m. HasLeft k b (m ∷ []) k (taken k b))) (sym e) all in
     subst (λ (x : Boxes). MatchOption r (HasLeft k b [] k x × IsEmpty k x) (λ m. HasLeft k b (m ∷ []) k x)) (sym f) there
