@@ -23,7 +23,8 @@ HasLeft connection b ms connection' b' = (connection' ≡ connection) × (waits 
 pub left_none : (connection : ℕ) (b : Boxes) → HasLeft connection b [] connection b
 left_none connection b = (refl, refl)
 
-pub left_more : (k k' k'' : ℕ) (b b' b'' : Boxes) (ms others : List ReplyMessage) → HasLeft k b ms k' b' → HasLeft k' b' others k'' b''
+pub left_more : (k k' k'' : ℕ) (b b' b'' : Boxes) (ms others : List ReplyMessage) → HasLeft k b ms k' b'
+    → HasLeft k' b' others k'' b''
     → HasLeft k b (ms ++ others) k'' b''
 left_more k k' k'' b b' b'' ms others f g =
     (g.0 ∙ f.0, f.1 ∙ ap (λ (l : List ReplyMessage). ms ++ l) g.1 ∙ sym (append_assoc ms others (waits k'' b'')))

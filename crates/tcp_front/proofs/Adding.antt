@@ -24,7 +24,8 @@ Reads at bytes made at' =
 abbrev with_served : List Heard → Result Heard ℕ → Option State → Scanned
 with_served hs r at = joined hs (served_of (r ∷ []) (fault_at at))
 
-pub comes-next : (at at' : Option State) (bytes : List ℕ) (taken : ℕ) (made : List ℕ) (next : Next) → 0 < taken → Reads at (take taken bytes) (made ∷ []) at'
+pub comes-next : (at at' : Option State) (bytes : List ℕ) (taken : ℕ) (made : List ℕ) (next : Next) → 0 < taken
+    → Reads at (take taken bytes) (made ∷ []) at'
     → at' ≡ Some start → IsNext next (heard made) → Comes at bytes taken next at'
 comes-next at at' bytes taken made nexts.More some reads begins is = absurd is
 comes-next at at' bytes taken made (nexts.Heard h) some reads begins is = (
@@ -33,7 +34,8 @@ comes-next at at' bytes taken made (nexts.Heard h) some reads begins is = (
     brings = λ fed e sound.
         let hs = (scan_stream fed).served in
         scan-grows fed (take taken bytes) (made ∷ []) at' sound (reads fed e)
-        ∙ ap (λ (r : Result Heard ℕ). with_served hs r at') is ∙ ap (λ (a : Option State). with_served hs (Ok (heard_of h)) a) begins;
+        ∙ ap (λ (r : Result Heard ℕ). with_served hs r at') is
+        ∙ ap (λ (a : Option State). with_served hs (Ok (heard_of h)) a) begins;
     leads = λ fed e sound. ap (λ r. r.at) (reads fed e);
   },
 )
@@ -55,7 +57,8 @@ comes-fault at at' bytes reads ends fed e sound =
 -- ---- more bytes
 
 -- where a stream stands after bytes at no fault
-fault-after : (at at' : Option State) (bytes : List ℕ) (hs : List Heard) → Adds at bytes hs at' → After at (λ fed. (scan_stream (fed ++ bytes)).fault ≡ None)
+fault-after : (at at' : Option State) (bytes : List ℕ) (hs : List Heard) → Adds at bytes hs at'
+    → After at (λ fed. (scan_stream (fed ++ bytes)).fault ≡ None)
 fault-after at at' bytes hs a fed e sound = ap (λ (s : Scanned). s.fault) (a.brings fed e sound)
 
 served-after : (at at' : Option State) (bytes : List ℕ) (hs : List Heard) → Adds at bytes hs at'
@@ -89,12 +92,14 @@ module _ (at mid : Option State) (xs ys : List ℕ) (hs : List Heard) (first : A
   }
 
 -- bytes that aren't looked at any more
-pub brings-longer : (at : Option State) (bytes rest : List ℕ) (hs : List Heard) (n : ℕ) → Brings at bytes hs (Some n) → Brings at (bytes ++ rest) hs (Some n)
+pub brings-longer : (at : Option State) (bytes rest : List ℕ) (hs : List Heard) (n : ℕ) → Brings at bytes hs (Some n)
+    → Brings at (bytes ++ rest) hs (Some n)
 brings-longer at bytes rest hs n b fed e sound =
     let is = b fed e sound in
     ap scan_stream (sym (append_assoc fed bytes rest)) ∙ scan-stays (fed ++ bytes) rest n (ap (λ (s : Scanned). s.fault) is) ∙ is
 
-pub first-longer : (at : Option State) (bytes rest : List ℕ) (hs : List Heard) → BringsFirst at bytes hs → BringsFirst at (bytes ++ rest) hs
+pub first-longer : (at : Option State) (bytes rest : List ℕ) (hs : List Heard) → BringsFirst at bytes hs
+    → BringsFirst at (bytes ++ rest) hs
 first-longer at bytes rest hs b fed e sound =
     let is = b fed e sound in
     let more = scan-first (fed ++ bytes) rest in (
@@ -107,7 +112,8 @@ first-longer at bytes rest hs b fed e sound =
     )
 
 -- some of what bytes bring
-pub brings-first : (at at' : Option State) (bytes : List ℕ) (hs ks : List Heard) → Adds at bytes (hs ++ ks) at' → BringsFirst at bytes hs
+pub brings-first : (at at' : Option State) (bytes : List ℕ) (hs ks : List Heard) → Adds at bytes (hs ++ ks) at'
+    → BringsFirst at bytes hs
 brings-first at at' bytes hs ks a fed e sound = (ks, served-after at at' bytes (hs ++ ks) a fed e sound)
 
 -- no bytes

@@ -17,7 +17,8 @@ use Rattle.tcp_front.specs.Reading.{HasRead, AreAll}
 use Rattle.tcp_front.specs.Steps.{HasTaken, end_of, opened}
 use Rattle.tcp_front.proofs.Taken.{ComesMore, taken-more, taken-none}
 
-module _ {R S : Type 0} (remaining : R → Option (List ℕ)) (came : S → List Arrival → S → Type 0) (layout : Layout) (alloc : Global)
+module _ {R S : Type 0} (remaining : R → Option (List ℕ)) (came : S → List Arrival → S
+    → Type 0) (layout : Layout) (alloc : Global)
     (connection : ConnectionNumber) (reader : Counted R) (sink : S) where
   -- so far these bytes were read, their records given on, and nothing failed
   pub record SoFar (reader' : Counted R) (stream : Stream) (sink' : S) : Type 0 where
@@ -50,7 +51,8 @@ module _ {R S : Type 0} (remaining : R → Option (List ℕ)) (came : S → List
     all-given = so.taken.stops.0.brings [] refl refl
 
     pub at-end : (after : Counted R) (size : ℕ) (block : List ℕ) → size ≡ 0
-        → Consumes (remaining (device_of reader')) (remaining (device_of after)) (take size block) → IsAtEnd (remaining (device_of after)) → HasNotFailed reader' after
+        → Consumes (remaining (device_of reader')) (remaining (device_of after)) (take size block)
+        → IsAtEnd (remaining (device_of after)) → HasNotFailed reader' after
         → HasRead remaining came layout connection.0 reader sink ends.End after sink'
     at-end after size block e consumed none same = record {
       read = so.read;
@@ -62,7 +64,8 @@ module _ {R S : Type 0} (remaining : R → Option (List ℕ)) (came : S → List
       ends = (all-given, none, same ∙ so.same);
     }
 
-    pub reader-failed : (after : Counted R) → Keeps (remaining (device_of reader')) (remaining (device_of after)) → HasFailed reader' after
+    pub reader-failed : (after : Counted R) → Keeps (remaining (device_of reader')) (remaining (device_of after))
+        → HasFailed reader' after
         → HasRead remaining came layout connection.0 reader sink ends.ReaderFailed after sink'
     reader-failed after kept failed = record {
       read = so.read;
@@ -75,15 +78,19 @@ module _ {R S : Type 0} (remaining : R → Option (List ℕ)) (came : S → List
     -- ---- bytes more
 
     module _ (law : ComesMore came) (after : Counted R) (stream' : Stream) (mid sink'' : S) (bytes : List ℕ)
-        (consumed : Consumes (remaining (device_of reader')) (remaining (device_of after)) bytes) (same : HasNotFailed reader' after)
+        (consumed : Consumes (remaining (device_of reader')) (remaining (device_of after)) bytes)
+        (same : HasNotFailed reader' after)
         (woken : came mid [] sink'') where
       -- all that was given on before the sink was told
-      given-on : (heard : List Heard) → came sink (arrivals layout connection.0 0 heard) mid → came sink (arrivals layout connection.0 0 heard) sink''
-      given-on heard given = subst (λ (l : List Arrival). came sink l sink'') (append-nil _) (law sink mid sink'' _ [] given woken)
+      given-on : (heard : List Heard) → came sink (arrivals layout connection.0 0 heard) mid
+          → came sink (arrivals layout connection.0 0 heard) sink''
+      given-on heard given = subst (λ (l : List Arrival). came sink l sink'') (append-nil _)
+          (law sink mid sink'' _ [] given woken)
 
       pub more-read : HasTaken came layout stream sink' bytes None stream' mid → SoFar after stream' sink''
       more-read h =
-          let t = taken-more came layout law (opened alloc connection) stream stream' sink sink' mid so.read bytes None so.taken h in
+          let t = taken-more came layout law (opened alloc connection) stream stream' sink sink' mid so.read bytes None
+          so.taken h in
           record {
             read = so.read ++ bytes;
             consumed = Consumes-trans _ _ _ so.read bytes so.consumed consumed;
@@ -93,9 +100,11 @@ module _ {R S : Type 0} (remaining : R → Option (List ℕ)) (came : S → List
 
       pub read-to-stop : (stopped : Stopped) → HasTaken came layout stream sink' bytes (Some stopped) stream' mid
           → HasRead remaining came layout connection.0 reader sink (end_of stopped) after sink''
-      read-to-stop stopped h = by stopped (taken-more came layout law (opened alloc connection) stream stream' sink sink' mid so.read bytes (Some stopped) so.taken h)
+      read-to-stop stopped h = by stopped (taken-more came layout law
+          (opened alloc connection) stream stream' sink sink' mid so.read bytes (Some stopped) so.taken h)
         where
-          by : (stopped : Stopped) → HasTaken came layout (opened alloc connection) sink (so.read ++ bytes) (Some stopped) stream' mid
+          by : (stopped : Stopped) → HasTaken came layout (opened alloc connection) sink (so.read ++ bytes)
+              (Some stopped) stream' mid
               → HasRead remaining came layout connection.0 reader sink (end_of stopped) after sink''
           by (stops.Fault fault) t = record {
             read = so.read ++ bytes;

@@ -22,7 +22,8 @@ refused-fits xid told reply e fits =
 
 pub at-once-fits : (layout : Layout) (xid : ℕ) (call : Call) (asked : Call) (answer : types.Answer) (volumes room : ℕ)
     → answer ≡ answer_without_home layout (call_of call) → asked ≡ call → volumes ≡ length layout.volumes
-    → length (reply_record xid (types.Success (answer_without_home layout (call_of call)))) ≤ reply_room (length layout.volumes) (call_of call)
+    → length (reply_record xid (types.Success (answer_without_home layout (call_of call)))) ≤ reply_room
+    (length layout.volumes) (call_of call)
     → room ≡ reply_room volumes (call_of asked) → room ≤ 65584 + 20 * volumes → volumes ≤ 8
     → length (record_of (message xid (types.Success answer))) ≤ most_bytes
 at-once-fits layout xid call asked answer volumes room e a v fits r most few =

@@ -1,5 +1,6 @@
 -- Records that go out many at once.
-use Rattle.std.proofs.Common.{◌≡◌, ℕ, ◌+◌, ◌<◌, List, [], ◌∷◌, ◌++◌, length, length-append, take, Option, refl, sym, ap, subst, ◌∙◌, append_assoc, arith}
+use Rattle.std.proofs.Common.{◌≡◌, ℕ, ◌+◌, ◌<◌, List, [], ◌∷◌, ◌++◌, length, length-append, take, Option, refl, sym, ap}
+use Rattle.std.proofs.Common.{subst, ◌∙◌, append_assoc, arith}
 use Rattle.std.proofs.lemmas.List.{append-nil, take-append-le}
 use Rattle.std.proofs.Math.Seq.{take-append-add}
 use Rattle.std.proofs.KnownBytes.{Appends-trans}
@@ -10,11 +11,13 @@ use Rattle.tcp_front.specs.Writing.{records_of, counted}
 pub records-append : (ms ks : List ReplyMessage) → records_of (ms ++ ks) ≡ records_of ms ++ records_of ks
 records-append [] ks = refl
 records-append (m ∷ ms) ks =
-    ap (λ (l : List ℕ). record_of m ++ l) (records-append ms ks) ∙ sym (append_assoc (record_of m) (records_of ms) (records_of ks))
+    ap (λ (l : List ℕ). record_of m ++ l) (records-append ms ks)
+    ∙ sym (append_assoc (record_of m) (records_of ms) (records_of ks))
 
 -- ---- in a buffer
 
-pub joined-more : (ms : List ReplyMessage) (m : ReplyMessage) (old mid new bytes : List ℕ) → mid ≡ old ++ records_of ms → bytes ≡ record_of m
+pub joined-more : (ms : List ReplyMessage) (m : ReplyMessage) (old mid new bytes : List ℕ) → mid ≡ old ++ records_of ms
+    → bytes ≡ record_of m
     → new ≡ mid ++ bytes → new ≡ old ++ records_of (ms ++ m ∷ [])
 joined-more ms m old mid new bytes e b h =
     h ∙ ap (λ (l : List ℕ). l ++ bytes) e ∙ append_assoc old (records_of ms) bytes
@@ -23,7 +26,8 @@ joined-more ms m old mid new bytes e b h =
 
 -- ---- to a writer
 
-module _ (a b : Option (List ℕ)) (ms : List ReplyMessage) (went : Appends a b (records_of ms)) (ks : List ReplyMessage) (bytes : List ℕ)
+module _ (a b : Option (List ℕ)) (ms : List ReplyMessage) (went : Appends a b (records_of ms)) (ks : List ReplyMessage)
+    (bytes : List ℕ)
     (are : bytes ≡ records_of ks) where
   -- all of them
   pub all-went : (c : Option (List ℕ)) → Appends b c bytes → Appends a c (records_of (ms ++ ks))

@@ -73,7 +73,8 @@ scan-grows stream bytes made at sound e =
     let records = (read_stream stream).records in
     let others = served_of (map heard made) (fault_at at) in
     let same : scan_stream stream ≡ served_of (map heard records) None =
-    ap (λ (f : Option ℕ). served_of (map heard records) f) (no-fault (map heard records) (fault_at (read_stream stream).at) sound) in
+    ap (λ (f : Option ℕ). served_of (map heard records) f) (no-fault (map heard records) (fault_at
+    (read_stream stream).at) sound) in
     ap scanned e
     ∙ ap (λ (rs : List (Result Heard ℕ)). served_of rs (fault_at at)) (map-append heard records made)
     ∙ served-append (map heard records) (map heard made) (fault_at at) (ap (λ (s : Scanned). s.fault) (sym same) ∙ sound)
@@ -84,13 +85,15 @@ stays-at : (stream rest : List ℕ) (n : ℕ) (at : Option State) → (read_stre
     → scan_stream (stream ++ rest) ≡ scan_stream stream
 stays-at stream rest n None e f =
     let r = read_stream stream in
-    let is : r ≡ record { records = r.records; at = None } = ap (λ (at : Option State). record { records = r.records; at = at }) e in
+    let is : r ≡ record { records = r.records; at = None } = ap (λ
+    (at : Option State). record { records = r.records; at = at }) e in
     ap scanned (read_on-append _ stream rest ∙ ap (λ (x : Reading). read_on x rest) is ∙ read-stays r.records rest ∙ sym is)
 stays-at stream rest n (Some state) e f =
     let r = read_stream stream in
     let more = read-grows r rest in
     let at = (read_on r rest).at in
-    let same : scan_stream stream ≡ served_of (map heard r.records) None = ap (λ (a : Option State). served_of (map heard r.records) (fault_at a)) e in
+    let same : scan_stream stream ≡ served_of (map heard r.records) None = ap (λ (a : Option State). served_of
+    (map heard r.records) (fault_at a)) e in
     let read : read_stream (stream ++ rest) ≡ record { records = r.records ++ more.0; at = at } =
     read_on-append _ stream rest ∙ ap (λ (rs : List (List ℕ)). record { records = rs; at = at }) more.1 in
     ap scanned read
@@ -99,7 +102,8 @@ stays-at stream rest n (Some state) e f =
     ∙ sym same
 
 -- a stream at fault stays so, and serves no more
-pub scan-stays : (stream rest : List ℕ) (n : ℕ) → (scan_stream stream).fault ≡ Some n → scan_stream (stream ++ rest) ≡ scan_stream stream
+pub scan-stays : (stream rest : List ℕ) (n : ℕ) → (scan_stream stream).fault ≡ Some n
+    → scan_stream (stream ++ rest) ≡ scan_stream stream
 scan-stays stream rest n f = stays-at stream rest n (read_stream stream).at refl f
 
 -- what a stream serves, one that goes on serves first
@@ -111,8 +115,12 @@ served-first stream rest None f =
     let more = read-grows r rest in
     let at = (read_on r rest).at in
     let read : read_stream (stream ++ rest) ≡ record { records = r.records ++ more.0; at = at } =
-    read_on-append _ stream rest ∙ ap (λ (rs : List (List ℕ)). record { records = rs; at = at }) more.1 in
-    ((served_of (map heard more.0) (fault_at at)).served, ap (λ (s : Scanned). s.served) (scan-grows stream rest more.0 at f read))
+    read_on-append _ stream rest ∙ ap (λ (rs : List (List ℕ)). record { records = rs; at = at }) more.1 in (
+      (served_of (map heard more.0) (fault_at at)).served,
+      ap (λ (s : Scanned). s.served)
+          (scan-grows stream rest more.0 at f read),
+    )
 
-pub scan-first : (stream rest : List ℕ) → (others : List Heard) × ((scan_stream (stream ++ rest)).served ≡ (scan_stream stream).served ++ others)
+pub scan-first : (stream rest : List ℕ) → (others : List Heard)
+    × ((scan_stream (stream ++ rest)).served ≡ (scan_stream stream).served ++ others)
 scan-first stream rest = served-first stream rest (scan_stream stream).fault refl

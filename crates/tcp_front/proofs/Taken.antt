@@ -1,5 +1,6 @@
 -- Records that are given on, part after part.
-use Rattle.std.proofs.Common.{◌≡◌, ◌<◌, ◌+◌, ◌-◌, ℕ, List, [], ◌∷◌, ◌++◌, length, length-append, length-drop, take, drop, Option, Some, None, refl, sym, ap, subst, ◌∙◌, take-append-drop, arith}
+use Rattle.std.proofs.Common.{◌≡◌, ◌<◌, ◌+◌, ◌-◌, ℕ, List, [], ◌∷◌, ◌++◌, length, length-append, length-drop, take, drop}
+use Rattle.std.proofs.Common.{Option, Some, None, refl, sym, ap, subst, ◌∙◌, take-append-drop, arith}
 use Rattle.std.proofs.lemmas.List.{take_all}
 use Rattle.std.proofs.Math.Seq.{take-add}
 use Rattle.rpc_record.specs.Machine.{State}
@@ -15,7 +16,8 @@ use Rattle.tcp_front.proofs.Adding.{adds-more, adds-nothing, brings-first, bring
 -- ---- what records come to, one after another
 
 pub arrivals-append : (layout : Layout) (connection number : ℕ) (hs ks : List Heard)
-    → arrivals layout connection number (hs ++ ks) ≡ arrivals layout connection number hs ++ arrivals layout connection (number + length hs) ks
+    → arrivals layout connection number (hs ++ ks) ≡ arrivals layout connection number hs ++ arrivals layout connection
+    (number + length hs) ks
 arrivals-append layout connection number [] ks = ap (λ (n : ℕ). arrivals layout connection n ks) (omega arith)
 arrivals-append layout connection number (h ∷ hs) ks =
     ap (λ (l : List Arrival). arrival_of layout connection number h ∷ l)
@@ -34,7 +36,8 @@ stops-longer s s' bytes rest hs (stops.Fault fault) h = brings-longer s.reassemb
 stops-longer s s' bytes rest hs stops.NoMemory h = first-longer s.reassembler bytes rest hs h
 stops-longer s s' bytes rest hs stops.NumbersUsed h = (first-longer s.reassembler bytes rest hs h.0, h.1)
 
-stops-more : (s t s' : Stream) (xs ys : List ℕ) (hs ks : List Heard) (stopped : Option Stopped) → Adds s.reassembler xs hs t.reassembler
+stops-more : (s t s' : Stream) (xs ys : List ℕ) (hs ks : List Heard) (stopped : Option Stopped)
+    → Adds s.reassembler xs hs t.reassembler
     → StopsAs t ys ks stopped s' → StopsAs s (xs ++ ys) (hs ++ ks) stopped s'
 stops-more s t s' xs ys hs ks None a h = (adds-more s.reassembler t.reassembler xs ys hs a ks s'.reassembler h.0, h.1)
 stops-more s t s' xs ys hs ks (Some (stops.Fault fault)) a h = brings-more s.reassembler t.reassembler xs ys hs a ks _ h
@@ -45,7 +48,8 @@ stops-more s t s' xs ys hs ks (Some stops.NumbersUsed) a h = (first-more s.reass
 
 module _ {S : Type 0} (came : S → List Arrival → S → Type 0) (layout : Layout) where
   -- no bytes
-  pub taken-none : (s : Stream) (sink : S) → came sink [] sink → s.records < most_records → HasTaken came layout s sink [] None s sink
+  pub taken-none : (s : Stream) (sink : S) → came sink [] sink → s.records < most_records
+      → HasTaken came layout s sink [] None s sink
   taken-none s sink none few = record {
     heard = [];
     given = none;
@@ -77,7 +81,8 @@ module _ {S : Type 0} (came : S → List Arrival → S → Type 0) (layout : Lay
 
   -- the bytes behind a stop
   pub taken-longer : (s s' : Stream) (sink sink' : S) (bytes rest : List ℕ) (stopped : Stopped)
-      → HasTaken came layout s sink bytes (Some stopped) s' sink' → HasTaken came layout s sink (bytes ++ rest) (Some stopped) s' sink'
+      → HasTaken came layout s sink bytes (Some stopped) s' sink'
+      → HasTaken came layout s sink (bytes ++ rest) (Some stopped) s' sink'
   taken-longer s s' sink sink' bytes rest stopped h = record {
     heard = h.heard;
     given = h.given;
@@ -96,10 +101,15 @@ module _ {S : Type 0} (came : S → List Arrival → S → Type 0) (layout : Lay
       record {
         heard = h ∷ [];
         given = subst (λ (l : List Arrival). came sink l sink')
-            (ap (λ k. arrival_of layout k.0 t.records h ∷ []) c ∙ ap (λ (n : ℕ). arrival_of layout s.connection.0 n h ∷ []) r) g.0;
+            (ap (λ k. arrival_of layout k.0 t.records h ∷ []) c
+            ∙ ap (λ (n : ℕ). arrival_of layout s.connection.0 n h ∷ []) r) g.0;
         count = omega (arith, count, r);
         same = ap (λ (x : Stream). x.connection) g.1 ∙ c;
-        stops = (subst (λ (x : Option State). Adds s.reassembler bytes (h ∷ []) x) (sym (ap (λ (x : Stream). x.reassembler) g.1)) a, omega (arith, count, few));
+        stops = (
+          subst (λ (x : Option State). Adds s.reassembler bytes (h ∷ []) x) (sym (ap (λ
+              (x : Stream). x.reassembler) g.1)) a,
+          omega (arith, count, few),
+        );
       }
   taken-record s t s' sink sink' bytes h (Some (stops.Fault fault)) a c r g = absurd g
   taken-record s t s' sink sink' bytes h (Some stops.NoMemory) a c r g =
@@ -117,7 +127,8 @@ module _ {S : Type 0} (came : S → List Arrival → S → Type 0) (layout : Lay
       record {
         heard = h ∷ [];
         given = subst (λ (l : List Arrival). came sink l sink')
-            (ap (λ k. arrival_of layout k.0 t.records h ∷ []) c ∙ ap (λ (n : ℕ). arrival_of layout s.connection.0 n h ∷ []) r) g.0;
+            (ap (λ k. arrival_of layout k.0 t.records h ∷ []) c
+            ∙ ap (λ (n : ℕ). arrival_of layout s.connection.0 n h ∷ []) r) g.0;
         count = omega (arith, count, r);
         same = ap (λ (x : Stream). x.connection) g.1 ∙ c;
         stops = (brings-first s.reassembler t.reassembler bytes (h ∷ []) [] a, omega (arith, count, all));
@@ -132,7 +143,8 @@ rest-is xs m = take_all (length xs - m) (drop m xs) (omega (arith, length-drop m
 pub next-part : (xs : List ℕ) (m n : ℕ) → take m xs ++ take n (take (length xs - m) (drop m xs)) ≡ take (m + n) xs
 next-part xs m n = ap (λ (l : List ℕ). take m xs ++ take n l) (rest-is xs m) ∙ sym (take-add m n xs)
 
-module _ {S : Type 0} (came : S → List Arrival → S → Type 0) (layout : Layout) (law : ComesMore came) (s t s' : Stream) (sink mid sink' : S)
+module _ {S : Type 0} (came : S → List Arrival → S → Type 0) (layout : Layout) (law : ComesMore came) (s t s' : Stream)
+    (sink mid sink' : S)
     (xs : List ℕ) (m n : ℕ) (before : HasTaken came layout s sink (take m xs) None t mid) where
   -- a part more
   pub next-taken : HasTaken came layout t mid (take n (take (length xs - m) (drop m xs))) None s' sink'
@@ -141,7 +153,8 @@ module _ {S : Type 0} (came : S → List Arrival → S → Type 0) (layout : Lay
       (taken-more came layout law s t s' sink mid sink' _ _ None before h)
 
   -- a part at which it stopped
-  pub last-taken : (stopped : Stopped) → HasTaken came layout t mid (take n (take (length xs - m) (drop m xs))) (Some stopped) s' sink'
+  pub last-taken : (stopped : Stopped) → HasTaken came layout t mid (take n (take (length xs - m) (drop m xs)))
+      (Some stopped) s' sink'
       → HasTaken came layout s sink xs (Some stopped) s' sink'
   last-taken stopped h =
       let some = subst (λ (l : List ℕ). HasTaken came layout s sink l (Some stopped) s' sink') (next-part xs m n)

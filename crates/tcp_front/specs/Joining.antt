@@ -21,7 +21,8 @@ IsOutAs is_out joins.Many source = Unit {0}
 IsOutAs is_out (joins.Over m) source = Unit {0}
 
 -- Records were taken and stand behind the bytes that were there, but for one that may be left over.
-abbrev pub HasJoined : {S : Type 0} → (S → List ReplyMessage → S → Type 0) → (S → Type 0) → S → List ℕ → Joined → S → List ℕ → Type 0
+abbrev pub HasJoined : {S : Type 0} → (S → List ReplyMessage → S → Type 0) → (S → Type 0) → S → List ℕ → Joined → S
+    → List ℕ → Type 0
 HasJoined gave is_out source bytes joined source' bytes' =
     (ms : List ReplyMessage) × gave source (ms ++ over joined) source' × (bytes' ≡ bytes ++ records_of ms)
     × IsOutAs is_out joined source'

@@ -32,8 +32,9 @@ EndsAs remaining ends.NumbersUsed read heard old new =
 
 -- Bytes were read from one to the other; records of theirs were given on, in order and each once,
 -- under the numbers from 0 on; and so it ended. Nothing here hangs on how the reader cut the bytes.
-pub record HasRead {R S : Type 0} (remaining : R → Option (List ℕ)) (came : S → List Arrival → S → Type 0) (layout : Layout) (connection : ℕ)
-    (reader : Counted R) (sink : S) (ended : ReadEnd) (reader' : Counted R) (sink' : S) : Type 0 where
+pub record HasRead {R S : Type 0} (remaining : R → Option (List ℕ)) (came : S → List Arrival → S → Type 0)
+    (layout : Layout) (connection : ℕ) (reader : Counted R) (sink : S) (ended : ReadEnd) (reader' : Counted R)
+    (sink' : S) : Type 0 where
   pub read : List ℕ
   pub heard : List Heard
   pub consumed : Consumes (remaining (device_of reader)) (remaining (device_of reader')) read

@@ -39,7 +39,8 @@ Brings at bytes heard fault =
 -- the bytes bring it to these records more at least
 abbrev pub BringsFirst : Option State → List ℕ → List Heard → Type 0
 BringsFirst at bytes heard =
-    After at (λ fed. (others : List Heard) × ((scan_stream (fed ++ bytes)).served ≡ (scan_stream fed).served ++ (heard ++ others)))
+    After at (λ fed. (others : List Heard)
+    × ((scan_stream (fed ++ bytes)).served ≡ (scan_stream fed).served ++ (heard ++ others)))
 
 -- and it stands here then
 abbrev pub Leads : Option State → List ℕ → Option State → Type 0
@@ -69,7 +70,8 @@ Comes at bytes taken (nexts.Stopped stops.NoMemory) at' = BringsFirst at (take t
 Comes at bytes taken (nexts.Stopped stops.NumbersUsed) at' = ⊥
 
 -- The record was given on under the next number; or memory ran out, and it wasn't.
-abbrev pub HasGiven : {S : Type 0} → (S → List Arrival → S → Type 0) → Layout → Stream → S → Heard → Option Stopped → Stream → S → Type 0
+abbrev pub HasGiven : {S : Type 0} → (S → List Arrival → S → Type 0) → Layout → Stream → S → Heard → Option Stopped
+    → Stream → S → Type 0
 HasGiven came layout s sink h None s' sink' =
     came sink (arrival_of layout s.connection.0 s.records h ∷ []) sink' × (s' ≡ record s { records = s.records + 1 })
     × (s.records + 1 < most_records)

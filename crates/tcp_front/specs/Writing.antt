@@ -1,5 +1,6 @@
 -- Bytes and records that are written whole, or up to a failure of the device.
-use Rattle.std.specs.Prelude.{◌≡◌, ℕ, ◌+◌, ◌-◌, ◌^◌, ◌<◌, min, List, [], ◌∷◌, ◌++◌, length, take, Option, Result, Ok, Err, MatchResult}
+use Rattle.std.specs.Prelude.{◌≡◌, ℕ, ◌+◌, ◌-◌, ◌^◌, ◌<◌, min, List, [], ◌∷◌, ◌++◌, length, take, Option, Result, Ok, Err}
+use Rattle.std.specs.Prelude.{MatchResult}
 use Rattle.std.specs.Io.KnownBytes.{Appends}
 use Rattle.outboxes.specs.Messages.{ReplyMessage, record_of}
 use Rattle.tcp_front.specs.declared.counted.Counted.{Counted}

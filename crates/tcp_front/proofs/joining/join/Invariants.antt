@@ -6,4 +6,5 @@ use Rattle.tcp_front.proofs.joining.join.Given as goal
 
 abbrev pub invariant-loop : goal.invariant-loop
 invariant-loop g l =
-    (ms : List ReplyMessage) × g.S.RecordSource.gave l.fn.source ms l.source × (l.buffer.items ≡ l.fn.buffer.items ++ records_of ms)
+    (ms : List ReplyMessage) × g.S.RecordSource.gave l.fn.source ms l.source
+    × (l.buffer.items ≡ l.fn.buffer.items ++ records_of ms)

@@ -31,7 +31,8 @@ returns-in-Out g c =
     let did = c.loop.invariant.did in
     let ms = did.0 in
     let gave = g.S.RecordSource.gave in
-    let h = subst (λ (j : Joined). HasJoined gave g.S.RecordSource.is_out c.loop.source c.clear.new.self.items j c.join-joined.new.source c.join-joined.new.buffer.items)
+    let h = subst (λ (j : Joined). HasJoined gave g.S.RecordSource.is_out c.loop.source c.clear.new.self.items j
+    c.join-joined.new.source c.join-joined.new.buffer.items)
     c.in-Out.is c.join-joined.ensures in
     let ks = h.0 in
     let are = c.deref.ensures.value ∙ h.2 ∙ ap (λ (l : List ℕ). l ++ records_of ks) c.clear.ensures.items in
@@ -49,7 +50,8 @@ loop-preserved-in-Many g c =
     let did = c.loop.invariant.did in
     let ms = did.0 in
     let gave = g.S.RecordSource.gave in
-    let h = subst (λ (j : Joined). HasJoined gave g.S.RecordSource.is_out c.loop.source c.clear.new.self.items j c.join-joined.new.source c.join-joined.new.buffer.items)
+    let h = subst (λ (j : Joined). HasJoined gave g.S.RecordSource.is_out c.loop.source c.clear.new.self.items j
+    c.join-joined.new.source c.join-joined.new.buffer.items)
     c.in-Many.is c.join-joined.ensures in
     let ks = h.0 in
     let are = c.deref.ensures.value ∙ h.2 ∙ ap (λ (l : List ℕ). l ++ records_of ks) c.clear.ensures.items in
@@ -71,7 +73,8 @@ returns-in-Err-send g c =
     let ms = did.0 in
     let gave = g.S.RecordSource.gave in
     let m = c.in-Over.record in
-    let h = subst (λ (j : Joined). HasJoined gave g.S.RecordSource.is_out c.loop.source c.clear.new.self.items j c.join-joined.new.source c.join-joined.new.buffer.items)
+    let h = subst (λ (j : Joined). HasJoined gave g.S.RecordSource.is_out c.loop.source c.clear.new.self.items j
+    c.join-joined.new.source c.join-joined.new.buffer.items)
     c.in-Over.is c.join-joined.ensures in
     let ks = h.0 in
     let are = c.deref.ensures.value ∙ h.2 ∙ ap (λ (l : List ℕ). l ++ records_of ks) c.clear.ensures.items in
@@ -98,7 +101,8 @@ loop-preserved g c =
     let ms = did.0 in
     let gave = g.S.RecordSource.gave in
     let m = c.in-Over.record in
-    let h = subst (λ (j : Joined). HasJoined gave g.S.RecordSource.is_out c.loop.source c.clear.new.self.items j c.join-joined.new.source c.join-joined.new.buffer.items)
+    let h = subst (λ (j : Joined). HasJoined gave g.S.RecordSource.is_out c.loop.source c.clear.new.self.items j
+    c.join-joined.new.source c.join-joined.new.buffer.items)
     c.in-Over.is c.join-joined.ensures in
     let ks = h.0 in
     let are = c.deref.ensures.value ∙ h.2 ∙ ap (λ (l : List ℕ). l ++ records_of ks) c.clear.ensures.items in

@@ -11,6 +11,7 @@ returns-in-Heard-clause-taken g c =
     let s = c.args.stream.now in
     let bytes = c.args.bytes.now in
     let taken = c.next_record-taken.result.0 in
-    let comes = subst (λ (n : Next). Comes s.reassembler bytes taken n c.next_record-taken.new.reassembler) c.in-Heard.is c.next_record-taken.ensures.comes in
+    let comes = subst (λ (n : Next). Comes s.reassembler bytes taken n c.next_record-taken.new.reassembler) c.in-Heard.is
+    c.next_record-taken.ensures.comes in
     taken-record g.S.RecordSink.came (layout_of c.args.layout.now) s _ c.give_next.new.stream c.args.sink.now c.give_next.new.sink
     (take taken bytes) (heard_of c.in-Heard.heard) c.give_next.result comes.1 refl refl c.give_next.ensures.given
