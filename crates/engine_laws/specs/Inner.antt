@@ -30,7 +30,10 @@ module _ {P C R : Type 0} where
       (c : FilerBooks P C R) : Type 0 where
     pub free : IsFree b call
     pub parcels : ℕ → Option (FilerParcel P)
-    pub did : FilerSteps (parents b.layout) (number_of b.layout (inner_node call)) (Inner call) (settled b) (told reply) parcels
+    -- it is a step of the filer from whatever has under its node what the finished calls left there
+    pub did : (f : ℕ → Option (FilerParcel P)) → ((k : ℕ) → Covers (parents b.layout) (number_of b.layout (inner_node call)) k → f k ≡ settled b k)
+        → FilerSteps (parents b.layout) (number_of b.layout (inner_node call)) (Inner call) f (told reply)
+        (patched (parents b.layout) (number_of b.layout (inner_node call)) parcels f)
     pub gave : gives (Inner call) (told reply) ≡ batches_in hand
     pub entry : C
     pub is_entry : job entry ≡ Inner call
