@@ -166,6 +166,9 @@ module _ {P C R : Type 0} (job : C → Job) (told : R → JobReply) (setup : Set
 
     pub has-moved : HasMoved w i call (told reply) next
     has-moved = record {
+      mover = k;
+      at = there;
+      gave = made.gave;
       volume = volume_of did-now.before;
       there = ap (λ (x : Server). slice_get x.volumes v) s.server ∙ slice_get-map volume_of (filer_contents L (now b)).volumes v
           ∙ ap (λ o. option_map volume_of o) did-now.volume_before;
