@@ -1,8 +1,9 @@
 -- What workers run, where one of them runs another thing.
-use Rattle.std.proofs.Common.{◌≡◌, ℕ, zero, suc, ◌+◌, Bool, List, [], ◌∷◌, ◌++◌, map, length, Option, Some, None, true, refl, sym, ap, ◌∙◌, arith}
-use Rattle.std.specs.Prelude.{is_none, slice_get, slice_set, option_map}
+use Rattle.std.proofs.Common.{◌≡◌, ℕ, zero, suc, ◌+◌, ◌<◌, Bool, List, [], ◌∷◌, ◌++◌, map, length, Option, Some, None, true, refl, sym, ap, ◌∙◌, arith}
+use Rattle.std.specs.Prelude.{is_none, slice_get, slice_set, slice_index_or, option_map, vec_len}
 use Rattle.std.proofs.lemmas.List.{length-append}
-use Rattle.std.proofs.lemmas.Option.{slice_get-map}
+use Rattle.std.specs.Global.{Vec}
+use Rattle.std.proofs.lemmas.Option.{slice_get-map, slice_get_read}
 use Rattle.nfs_model.specs.Parts.{Hand, Empty, Fresh, Dead}
 use Rattle.nfs_model.specs.World.{changed_at, with_running, with_hand, with_held, all_running}
 use Rattle.nfs_model.specs.Events.Refusals.{is_idle, is_empty_hand}
@@ -17,6 +18,10 @@ use Rattle.engine.specs.Seen.{running_seen, worker_seen}
 use Rattle.engine.specs.Sound.{messages_in, running_messages}
 use Rattle.engine.specs.Workers.{worker_with}
 use Rattle.engine.proofs.Lists.{inner, none-some, set-here, set-twice}
+
+-- what an index of a vector found
+pub index-found : (v : Vec Worker) (i : ℕ) (k : Worker) → i < vec_len v → k ≡ slice_index_or v.items i k → slice_get v.items i ≡ Some k
+index-found v i k within read = slice_get_read v.items (length v.items) i k refl (let size = v.ok.0 in omega (arith, within, size)) read
 
 -- a worker as it is seen
 pub seen-at : (ks : List Worker) (i : ℕ) (k : Worker) → slice_get ks i ≡ Some k → slice_get (map worker_seen ks) i ≡ Some (worker_seen k)
