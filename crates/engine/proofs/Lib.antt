@@ -8,6 +8,11 @@ mod Ended
 mod Changed
 mod Finishes
 mod Placed
+mod Batches
+mod Tended
+mod Made
+mod Carried
+mod Free
 mod Reconnected
 mod Closing
 mod Received
