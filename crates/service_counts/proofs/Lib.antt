@@ -1,0 +1,2 @@
+mod Recounted
+mod Tallied
