@@ -1,6 +1,7 @@
 -- Counts taken anew, one volume after another.
-use Rattle.std.proofs.Common.{◌≡◌, ◌<◌, ℕ, zero, suc, ◌+◌, List, [], ◌∷◌, length, refl, sym, ap, ◌∙◌, subst, arith}
+use Rattle.std.proofs.Common.{◌≡◌, ◌<◌, ◌≤◌, ℕ, zero, suc, ◌+◌, List, [], ◌∷◌, length, refl, ap, ◌∙◌, arith}
 use Rattle.std.specs.Prelude.{slice_set, slice_index_or}
+use Rattle.nfs_model.specs.World.{changed_at}
 use Rattle.held_state.specs.Contents.{each}
 use Rattle.service_counts.specs.declared.counts.VolumeCounts.{VolumeCounts}
 use Rattle.service_counts.specs.Counts.{recounted}
@@ -39,3 +40,16 @@ recounted-all f from zero [] e = refl
 recounted-all f from zero (c ∷ counts) e = absurd (omega (arith, e))
 recounted-all f from (suc n) [] e = absurd (omega (arith, e))
 recounted-all f from (suc n) (c ∷ counts) e = ap (λ rest. f from ∷ rest) (recounted-all f (from + 1) n counts (omega (arith, e)))
+
+-- one place set by what was there
+pub changed-is : (k : VolumeCounts → VolumeCounts) (counts : List VolumeCounts) (i : ℕ) (d x : VolumeCounts) → i < length counts
+    → x ≡ k (slice_index_or counts i d) → slice_set counts i x ≡ changed_at k counts i
+changed-is k [] i d x less e = refl
+changed-is k (c ∷ counts) zero d x less e = ap (λ y. y ∷ counts) e
+changed-is k (c ∷ counts) (suc i) d x less e = ap (λ rest. c ∷ rest) (changed-is k counts i d x (omega (arith, less)) e)
+
+-- there is no such place
+pub changed-past : (k : VolumeCounts → VolumeCounts) (counts : List VolumeCounts) (i : ℕ) → length counts ≤ i → changed_at k counts i ≡ counts
+changed-past k [] i past = refl
+changed-past k (c ∷ counts) zero past = absurd (omega (arith, past))
+changed-past k (c ∷ counts) (suc i) past = ap (λ rest. c ∷ rest) (changed-past k counts i (omega (arith, past)))

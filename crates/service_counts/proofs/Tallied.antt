@@ -1,9 +1,10 @@
 -- The counts taken anew are right of what is stored with the parcels of a node put in.
-use Rattle.std.proofs.Common.{◌≡◌, ◌<◌, ℕ, zero, suc, ◌+◌, ◌==◌, Bool, true, false, List, [], ◌∷◌, length, map, Option, Some, None, refl, sym, ap, ◌∙◌}
-use Rattle.std.proofs.Common.{subst, arith}
-use Rattle.std.proofs.lemmas.List.{length-map}
+use Rattle.std.proofs.Common.{◌≡◌, ℕ, zero, suc, ◌+◌, ◌==◌, Bool, true, false, List, [], ◌∷◌, length, map, Option, Some, None, refl, sym, ap, ◌∙◌}
+use Rattle.std.proofs.Common.{subst}
 use Rattle.std.specs.Prelude.{slice_get, slice_set, if◌then◌else◌}
 use Rattle.std.specs.Global.{Vec}
+use Rattle.std.specs.Ordering.{nat_cmp}
+use Rattle.std.specs.FinSet.{len-empty}
 use Rattle.nfs_model.specs.Tree.{Layout, Affinity, Serial, Aggregate, Volume, Logical, Stripe, Vbn, Range, stripes_of, aggregate_of}
 use Rattle.nfs_model.specs.World.{changed_at}
 use Rattle.affinity_tree.specs.declared.affinity.Kind.TheVariants as kinds
@@ -16,12 +17,12 @@ use Rattle.parcel_sets.specs.Sets.{stripe_parcels, logical_parcels, volume_parce
 use Rattle.held_state.specs.Parcels.{FilerParcel}
 use Rattle.held_state.specs.Contents.{VolumeContents, FilerContents, each, filer_contents}
 use Rattle.held_state.specs.Lenses.{VolumeSet, logical_lens, volume_lens, stripe_lens, volume_or_none, put_if, put_each}
-use Rattle.held_state.specs.Sets.{FilerStripe, FilerLogical, FilerVolume, FilerAggregate, FilerSerial, logical_set, volume_set, volume_before}
-use Rattle.held_state.specs.Sets.{placed, volume_placed, volume_with, aggregate_set, serial_set}
-use Rattle.held_laws.specs.lemmas.Each.{each-map, each-length}
+use Rattle.held_state.specs.Sets.{FilerStripe, FilerLogical, FilerVolume, FilerAggregate, FilerSerial, logical_set, volume_set}
+use Rattle.held_state.specs.Sets.{placed, volume_value, volume_placed, volume_with}
+use Rattle.held_laws.specs.lemmas.Each.{each-map}
 use Rattle.held_laws.specs.lemmas.SeenSets.{stripe-seen, logical-seen, volume-seen, aggregate-seen, serial-seen}
 use Rattle.service_counts.specs.declared.counts.VolumeCounts.{VolumeCounts}
-use Rattle.service_counts.specs.Counts.{counted, IsCounted, counts_in, with_logical, with_set, if_on, in_whole, recounted, HasCounted}
+use Rattle.service_counts.specs.Counts.{counted, IsCounted, counts_in, with_logical, with_set, if_on, in_whole, recounted, IsOfCalls, HasCounted}
 use Rattle.service_counts.proofs.Recounted.{recounted-all}
 
 -- ---- lists
@@ -46,6 +47,35 @@ put-counted : (s : ℕ → Option VolumeSet) (h : ℕ → VolumeCounts → Volum
 put-counted s h same from zero volumes = refl
 put-counted s h same from (suc n) [] = refl
 put-counted s h same from (suc n) (p ∷ volumes) = λ j. sym (same from p) j ∷ put-counted s h same (from + 1) n volumes j
+
+-- one that is chosen
+put-chosen : (b : Bool) (set : VolumeSet) (p : VolumeContents)
+    → counted (put_if (if b then Some set else None) p) ≡ (if b then counts_in set else counted p)
+put-chosen true set p = refl
+put-chosen false set p = refl
+
+-- where there is no volume there are no blocks
+pub no-blocks : (stripes : ℕ) → record { files = 0; stock = 0; dead = 0; total = 0 } ≡ counts_in (volume_value {P = Unit {0}} stripes None)
+no-blocks stripes = λ j. record { files = 0; stock = sym (len-empty nat_cmp) j; dead = sym (len-empty nat_cmp) j; total = 0 }
+
+-- a node of another kind has calls
+pub of-range : (a : Affinity) → kind_of a ≡ kinds.Range → IsOfCalls a → ⊥
+of-range Serial is of = cc
+of-range (Aggregate a) is of = cc
+of-range (Volume v) is of = cc
+of-range (Logical v) is of = cc
+of-range (Stripe v i) is of = cc
+of-range (Vbn v) is of = of
+of-range (Range v r) is of = of
+
+pub of-vbn : (a : Affinity) → kind_of a ≡ kinds.VolumeVbn → IsOfCalls a → ⊥
+of-vbn Serial is of = cc
+of-vbn (Aggregate a) is of = cc
+of-vbn (Volume v) is of = cc
+of-vbn (Logical v) is of = cc
+of-vbn (Stripe v i) is of = cc
+of-vbn (Vbn v) is of = of
+of-vbn (Range v r) is of = of
 
 -- ---- nodes
 
@@ -104,11 +134,6 @@ module _ {P : Type 0} (layout : Layout) (lawful : fault_of layout ≡ None) wher
   stripe-tallied (Stripe v i) is on held counts new e = stripe-at v i on held counts new e
   stripe-tallied (Vbn v) is on held counts new e = absurd cc
   stripe-tallied (Range v r) is on held counts new e = absurd cc
-
-  put-chosen : (b : Bool) (set : VolumeSet) (p : VolumeContents)
-      → counted (put_if (if b then Some set else None) p) ≡ (if b then counts_in set else counted p)
-  put-chosen true set p = refl
-  put-chosen false set p = refl
 
   aggregate-at : (a : ℕ) → IsNode layout (Aggregate a) → (held : FilerAggregate P) (counts : List VolumeCounts) (new : Vec VolumeCounts)
       → new.items ≡ recounted (if_on layout a held) 0 (length layout.volumes) counts

@@ -1,6 +1,6 @@
 //! Counts that change with what workers carry.
 
-ghost use Rattle.std.specs.Prelude.{◌≡◌};
+ghost use Rattle.std.specs.Prelude.{◌≡◌, ◌+◌, min};
 ghost use Rattle.nfs_model.specs.World.{changed_at};
 ghost use Rattle.service_counts.specs.Counts.{with_culled, with_put};
 
@@ -21,6 +21,13 @@ pub fn count_put(counts: &mut Vec<VolumeCounts>, volume: u32, count: usize)
     ensures { counts.new.items ≡ changed_at (with_put count) counts.old.items volume }
 {
     if let Some(place) = counts.get_mut(volume as usize) {
-        place.stock = place.stock.saturating_add(count).min(place.total);
+        place.stock = stock_after(place.stock, count, place.total);
     }
+}
+
+/// The stock of a volume of so many numbers after so many more.
+fn stock_after(stock: usize, count: usize, total: usize) -> usize
+    ensures { result ≡ min (stock + count) total }
+{
+    stock.saturating_add(count).min(total)
 }

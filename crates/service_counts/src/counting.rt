@@ -57,11 +57,7 @@ pub(crate) fn recount_aggregate(
 }
 
 /// Counts all volumes again.
-pub(crate) fn recount_all(
-    counts: &mut Vec<VolumeCounts>,
-    layout: &Layout,
-    held: &SerialHeld<Files>,
-)
+pub(crate) fn recount_all(counts: &mut Vec<VolumeCounts>, layout: &Layout, held: &SerialHeld<Files>)
     requires { length counts.old.items ≡ length (layout_of layout.now).volumes }
     ensures { let L = layout_of layout.now in counts.new.items
         ≡ recounted (in_whole L held.now) 0 (length L.volumes) counts.old.items }
@@ -127,7 +123,10 @@ fn count_placed(place: &Option<VolumeHeld<Files>>) -> VolumeCounts
 fn count_volume(held: &VolumeHeld<Files>) -> VolumeCounts
     ensures { (stripes : ℕ) → result ≡ counts_in (volume_value stripes (Some held.now)) }
 {
-    count(&held.logical, RANGE_BLOCKS * ranges_used(&held.vbn) as usize)
+    count(
+        &held.logical,
+        RANGE_BLOCKS * ranges_used(&held.vbn) as usize,
+    )
 }
 
 /// The counts of a volume of so many numbers.

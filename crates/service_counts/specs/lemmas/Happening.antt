@@ -1,20 +1,17 @@
 -- What events do to the counts that are seen: all but Work, whose calls are counted by parcels.
-use Rattle.std.proofs.Common.{◌≡◌, ℕ, zero, suc, ◌+◌, ◌-◌, ◌<◌, ◌≤◌, ◌==◌, Bool, true, false, not, ◌&&◌, List, [], ◌∷◌, ◌++◌, length, Option, Some, None}
+use Rattle.std.proofs.Common.{◌≡◌, ℕ, zero, suc, ◌+◌, ◌-◌, ◌<◌, Bool, true, false, ◌&&◌, List, [], ◌∷◌, length, Option, Some, None}
 use Rattle.std.proofs.Common.{Result, Ok, Err, refl, sym, ap, ◌∙◌, subst, arith, eq-eqb, length-append}
-use Rattle.std.specs.Prelude.{slice_get, slice_set, is_some, if◌then◌else◌, min}
-use Rattle.std.proofs.lemmas.Bool.{and_parts}
+use Rattle.std.specs.Prelude.{slice_get, slice_set, if◌then◌else◌, min}
 use Rattle.std.specs.Option.{option_map}
 use Rattle.std.specs.FinSet as sets
-use Rattle.nfs_model.specs.Types.{SystemError}
-use Rattle.nfs_model.specs.Tree.{Logical}
-use Rattle.nfs_model.specs.Server.{VolumeState, start_of_times}
+use Rattle.nfs_model.specs.Server.{VolumeState}
 use Rattle.nfs_model.specs.Home.{home_of_asked}
 use Rattle.nfs_model.specs.Parts.{Parts, Hand, Empty, Fresh, Dead, hand_blocks, IsPartition, counts}
-use Rattle.nfs_model.specs.Moves.{Carrying, PutsDown, lowest_batch, dead_hand, without_free, without_dead, with_stock, with_free}
+use Rattle.nfs_model.specs.Moves.{Carrying, PutsDown, lowest_batch, dead_hand}
 use Rattle.nfs_model.specs.Work.{Replied, Starved, Moved}
 use Rattle.nfs_model.specs.World.{Heard, Setup, World, Worker, hands_blocks, counts_if, counts_of, changed_at, with_hand}
 use Rattle.nfs_model.specs.Events.Refusals.{Event, Open, Feed, Close, Begin, Work, Finish, Fetch, Cull, PutDown, Survey, Done, HandHas, HasPut}
-use Rattle.nfs_model.specs.Events.Refusals.{is_idle, has_empty_hand, is_empty_hand, excluded, hand_of}
+use Rattle.nfs_model.specs.Events.Refusals.{is_idle, has_empty_hand, is_empty_hand, hand_of}
 use Rattle.nfs_model.specs.Events.Feed.{Hears, admit, heard_in}
 use Rattle.nfs_model.specs.Events.Step.{Events, Happens, finished_by, Carries, carried, hand_volume}
 use Rattle.service_counts.specs.declared.counts.VolumeCounts.{VolumeCounts}
@@ -169,7 +166,7 @@ module _ (w : World) (parted : IsParted w) (worker v : ℕ) (before after : Carr
     size-there w parted v before.parts there volume found,
     size-there (carried w worker v after) parted-then v after.parts (set-there w.parts v after.parts before.parts there) volume found,
     subst (λ (h : Hand). length (hands_blocks v (changed_at (with_hand after.hand) w.workers worker)) + length (hand_blocks v h)
-    ≡ length (hands_blocks v w.workers) + length (hand_blocks v after.hand)) held (carried-size v w.workers worker k after.hand at),
+        ≡ length (hands_blocks v w.workers) + length (hand_blocks v after.hand)) held (carried-size v w.workers worker k after.hand at),
   )
 
   -- dead blocks come into it
@@ -243,10 +240,10 @@ module _ (setup : Setup) (w new : World) (parted : IsParted w) (parted-then : Is
         h.2,
         h.5,
         ap world_counts h.6
-        ∙ culled-seen w parted worker volume h.0 h.1 carries.0 carries.1 carries.2 carries.3 (subst IsParted h.6 parted-then) h.2
-        (ap (λ (c : Carrying). c.parts.files) after) (ap (λ (c : Carrying). c.parts.stock) after) (ap (λ (c : Carrying). c.parts.free) after)
-        (nothing-carried volume (slice_get w.workers worker) _ carries.0 h.0.hand e.0 carries.1 carries.2)
-        (ap (λ (c : Carrying). length (hand_blocks volume c.hand)) after ∙ dead-length volume (lowest_batch h.0.parts.dead) ∙ sym culls.0),
+            ∙ culled-seen w parted worker volume h.0 h.1 carries.0 carries.1 carries.2 carries.3 (subst IsParted h.6 parted-then) h.2
+            (ap (λ (c : Carrying). c.parts.files) after) (ap (λ (c : Carrying). c.parts.stock) after) (ap (λ (c : Carrying). c.parts.free) after)
+            (nothing-carried volume (slice_get w.workers worker) _ carries.0 h.0.hand e.0 carries.1 carries.2)
+            (ap (λ (c : Carrying). length (hand_blocks volume c.hand)) after ∙ dead-length volume (lowest_batch h.0.parts.dead) ∙ sym culls.0),
       )
 
   puts : (worker count : ℕ) (p : Parts) (hand : Hand) (after : Carrying)
@@ -276,7 +273,7 @@ module _ (setup : Setup) (w new : World) (parted : IsParted w) (parted-then : Is
         h.2,
         h.5,
         puts worker h.2 h.0.parts h.0.hand h.1 carries h.4 h.6
-        ∙ ap (λ (x : Hand). put_counted (fresh_volume x) h.2 (world_counts w)) (sym hand),
+            ∙ ap (λ (x : Hand). put_counted (fresh_volume x) h.2 (world_counts w)) (sym hand),
       )
 
 -- ---- what is told

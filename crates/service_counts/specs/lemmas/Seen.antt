@@ -1,5 +1,5 @@
 -- The counts by parcels are those that are seen, where all is sound.
-use Rattle.std.proofs.Common.{◌≡◌, ℕ, zero, suc, ◌+◌, ◌≤◌, Bool, true, false, List, [], ◌∷◌, length, map, Some, refl, sym, ap, ◌∙◌, arith, nat_lt}
+use Rattle.std.proofs.Common.{◌≡◌, ℕ, suc, ◌≤◌, Bool, true, false, List, [], ◌∷◌, map, Some, refl, sym, ◌∙◌, arith, nat_lt}
 use Rattle.std.specs.Prelude.{slice_get, ◌*◌}
 use Rattle.std.specs.FinSet as sets
 use Rattle.nfs_model.specs.Parts.{Hand, one_if, times_listed, range_blocks}
