@@ -8,6 +8,9 @@ mod Ended
 mod Changed
 mod Finishes
 mod Placed
+mod Batches
+mod Tended
+mod Carried
 mod Reconnected
 mod Closing
 mod Received

@@ -1,6 +1,8 @@
 pub mod Numbers
 pub mod Seen
+pub mod Workers
 pub mod Sound
+pub mod Inner
 pub mod Working
 pub mod Ending
 pub mod Receiving

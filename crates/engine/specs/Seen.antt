@@ -1,7 +1,6 @@
 -- The engine's fields as a world, and its events and answers as the world's.
 use Rattle.std.specs.Prelude.{ℕ, List, map, length, Option, Some, None, Result, Ok, Err}
 use Rattle.nfs_model.specs.Tree.{Layout}
-use Rattle.nfs_model.specs.Parts.{Empty}
 use Rattle.nfs_model.specs.Work as tasks
 use Rattle.nfs_model.specs.World as worlds
 use Rattle.nfs_model.specs.Events.Refusals as events
@@ -22,7 +21,8 @@ use Rattle.engine.specs.declared.connection.Connection.{Connection}
 use Rattle.engine.specs.declared.connection.Connection.TheVariants as connections
 use Rattle.engine.specs.declared.worker.Running.{Running}
 use Rattle.engine.specs.declared.worker.Worker.{Worker}
-use Rattle.engine.specs.declared.worker.Worker.TheVariants as workers
+use Rattle.engine.specs.declared.worker.WorkerRun.{WorkerRun}
+use Rattle.engine.specs.declared.worker.WorkerRun.TheVariants as runs
 use Rattle.engine.specs.declared.state.State.{State}
 use Rattle.engine.specs.declared.event.Event.{Event}
 use Rattle.engine.specs.declared.event.Event.TheVariants as happened
@@ -43,14 +43,13 @@ connection_seen (connections.Closed c) = record { stream = c.stream.items; close
 abbrev pub running_as : Running → Option tasks.Outcome → worlds.Running
 running_as r outcome = record { message = message_of r.message; moment = moment_of r.moment; outcome = outcome }
 
-abbrev pub running_seen : Worker → Option worlds.Running
-running_seen workers.Idle = None
-running_seen (workers.Begun r) = Some (running_as r None)
-running_seen (workers.Worked r outcome) = Some (running_as r (Some (outcome_of outcome)))
+abbrev pub running_seen : WorkerRun → Option worlds.Running
+running_seen runs.Idle = None
+running_seen (runs.Begun r) = Some (running_as r None)
+running_seen (runs.Worked r outcome) = Some (running_as r (Some (outcome_of outcome)))
 
--- inner calls aren't made yet, so hands are empty
 abbrev pub worker_seen : Worker → worlds.Worker
-worker_seen k = record { running = running_seen k; hand = Empty }
+worker_seen k = record { running = running_seen k.run; hand = k.hand }
 
 -- ---- the world
 
@@ -82,6 +81,10 @@ event_of (happened.Close connection) = events.Close connection
 event_of (happened.Begin worker place moment) = events.Begin worker place (moment_of moment)
 event_of (happened.Work worker) = events.Work worker
 event_of (happened.Finish worker) = events.Finish worker
+event_of (happened.Fetch worker volume range) = events.Fetch worker volume.0 range
+event_of (happened.Cull worker volume) = events.Cull worker volume.0
+event_of (happened.PutDown worker) = events.PutDown worker
+event_of (happened.Survey worker volume) = events.Survey worker volume.0
 
 abbrev pub done_of : Done → events.Done
 done_of (dones.Opened connection) = events.Opened connection
@@ -93,6 +96,9 @@ done_of dones.Starved = events.IsStarved
 done_of (dones.Moved affinity) = events.HasMove (affinity_of affinity)
 done_of (dones.Written connection count) = events.Written connection count
 done_of dones.PutBack = events.IsBack
+done_of (dones.InHand count) = events.HandHas count
+done_of (dones.PutDown count) = events.HasPut count
+done_of (dones.Surveyed counts) = events.Surveyed counts.items
 
 abbrev pub answer_of : Result Done Refusal → Result events.Done ℕ
 answer_of (Ok done) = Ok (done_of done)

@@ -4,6 +4,7 @@ use Rattle.std.specs.Prelude.{◌==◌, ◌≡◌, ℕ, ◌+◌, ◌^◌, ◌≤
 use Rattle.std.specs.List.{AllByRecursion}
 use Rattle.nfs_model.specs.Types.{SystemError}
 use Rattle.nfs_model.specs.Tree.{Layout}
+use Rattle.nfs_model.specs.Parts.{Hand, Empty, Fresh, Dead, range_of, most_ranges}
 use Rattle.nfs_model.specs.Events.Refusals.{open_count}
 use Rattle.nfs_values.specs.declared.call.Call.{Call}
 use Rattle.nfs_values.specs.Reply.{reply_of}
@@ -23,21 +24,22 @@ use Rattle.engine_feed.specs.Seen.{owed_by, layout_in, messages_of, running_coun
 use Rattle.engine_feed.specs.Sound.{IsAdmitted}
 use Rattle.engine.specs.declared.connection.Connection.TheVariants.{Open}
 use Rattle.engine.specs.declared.worker.Worker.{Worker}
-use Rattle.engine.specs.declared.worker.Worker.TheVariants.{Idle, Begun, Worked}
+use Rattle.engine.specs.declared.worker.WorkerRun.{WorkerRun}
+use Rattle.engine.specs.declared.worker.WorkerRun.TheVariants.{Idle, Begun, Worked}
 use Rattle.engine.specs.declared.state.State.{State}
 use Rattle.engine.specs.Seen.{connection_seen, setup_in, world}
 
 -- ---- messages
 
 -- the message that a worker runs
-abbrev pub messages_in : Worker → List (Message Call)
+abbrev pub messages_in : WorkerRun → List (Message Call)
 messages_in Idle = []
 messages_in (Begun r) = r.message ∷ []
 messages_in (Worked r outcome) = r.message ∷ []
 
 abbrev pub running_messages : List Worker → List (Message Call)
 running_messages [] = []
-running_messages (k ∷ ks) = messages_in k ++ running_messages ks
+running_messages (k ∷ ks) = messages_in k.run ++ running_messages ks
 
 -- a message is of a connection that was opened, and tries an affinity at which its call is run
 pub record IsPlaced (layout : Layout) (connections : ℕ) (m : Message Call) : Type 0 where
@@ -51,10 +53,19 @@ MayEnd layout m (Replied reply) = length (reply_record m.origin.xid (reply_of re
 MayEnd layout m Starved = length (reply_record m.origin.xid SystemError) ≤ m.room
 MayEnd layout m (Moved a) = IsNode layout (affinity_of a) × IsRunAt layout m.call (affinity_of a)
 
+abbrev pub IsRunReady : Layout → ℕ → WorkerRun → Type 0
+IsRunReady layout connections Idle = Unit {0}
+IsRunReady layout connections (Begun r) = IsPlaced layout connections r.message
+IsRunReady layout connections (Worked r outcome) = IsPlaced layout connections r.message × MayEnd layout r.message outcome
+
+-- a batch has blocks of a volume that is there; a dead one is of one of its ranges
+abbrev pub IsCarried : Layout → Hand → Type 0
+IsCarried layout Empty = Unit {0}
+IsCarried layout (Fresh volume blocks) = (volume < length layout.volumes) × (0 < length blocks)
+IsCarried layout (Dead volume blocks) = (volume < length layout.volumes) × (0 < length blocks) × (range_of blocks < most_ranges)
+
 abbrev pub IsReady : Layout → ℕ → Worker → Type 0
-IsReady layout connections Idle = Unit {0}
-IsReady layout connections (Begun r) = IsPlaced layout connections r.message
-IsReady layout connections (Worked r outcome) = IsPlaced layout connections r.message × MayEnd layout r.message outcome
+IsReady layout connections k = IsRunReady layout connections k.run × IsCarried layout k.hand
 
 -- ---- rooms
 

@@ -8,7 +8,7 @@ ghost use Rattle.engine.specs.Words.{Does, HasItsSetup};
 
 use crate::event::{Done, Refusal};
 use crate::state::{SECOND, State};
-use crate::worker::{Running, Worker, set_worker};
+use crate::worker::{Running, WorkerRun, is_idle, set_run};
 use desk::Refusal as Refused;
 use nfs_values::Moment;
 
@@ -24,9 +24,9 @@ pub(crate) fn begin(
     ensures setup { HasItsSetup state.old state.new }
     ensures sound { IsSound state.new }
 {
-    let Some(Worker::Idle) = state.workers.get(worker) else {
+    if !is_idle(&state.workers, worker) {
         return Err(Refusal::WorkerBusy);
-    };
+    }
     let Some(affinity) = state.calls.affinity_at(place) else {
         return Err(Refusal::NoSuchCall);
     };
@@ -41,10 +41,10 @@ pub(crate) fn begin(
                 Ok(message) => message,
                 Err(_) => unreachable!(),
             };
-            set_worker(
+            set_run(
                 &mut state.workers,
                 worker,
-                Worker::Begun(Running { message, moment }),
+                WorkerRun::Begun(Running { message, moment }),
             );
             Ok(Done::Granted { affinity })
         }

@@ -11,6 +11,7 @@ ghost use Rattle.engine.specs.Sound.{IsSound};
 ghost use Rattle.engine.specs.Words as words;
 
 use crate::beginning::begin;
+use crate::carrying::{cull, fetch, put_down, survey};
 use crate::connecting::{close_connection, open_connection};
 use crate::connection::Connection;
 use crate::event::{Done, Event, Refusal};
@@ -46,6 +47,14 @@ fn dispatch(state: &mut State, event: Event<'_>) -> Result<Done, Refusal>
         } => begin(state, worker, place, moment),
         Event::Work { worker } => work(state, worker),
         Event::Finish { worker } => finish(state, worker),
+        Event::Fetch {
+            worker,
+            volume,
+            range,
+        } => fetch(state, worker, volume, range),
+        Event::Cull { worker, volume } => cull(state, worker, volume),
+        Event::PutDown { worker } => put_down(state, worker),
+        Event::Survey { worker, volume } => survey(state, worker, volume),
     }
 }
 
@@ -170,7 +179,7 @@ impl Engine {
         }
     }
 
-    /// What each worker runs.
+    /// What each worker runs and carries.
     pub fn running(&self) -> &[Worker]
         ensures { map worker_seen result.now ≡ self.now.world.workers }
     {

@@ -4,7 +4,7 @@ ghost use Rattle.std.specs.Prelude.{◌≡◌};
 
 use affinity_tree::Affinity;
 use engine_feed::Stop;
-use nfs_values::Moment;
+use nfs_values::{Moment, VolumeNumber};
 
 /// What may happen to an engine.
 #[derive(Clone, Copy)]
@@ -34,10 +34,31 @@ pub enum Event<'a> {
     Finish {
         worker: usize,
     },
+    /// An idle worker fetches free blocks of a range into its empty hand.
+    Fetch {
+        worker: usize,
+        volume: VolumeNumber,
+        range: u32,
+    },
+    /// An idle worker culls blocks that files have left into its empty hand.
+    Cull {
+        worker: usize,
+        volume: VolumeNumber,
+    },
+    /// An idle worker puts down what is in its hand: blocks that it fetched in the volume's stock,
+    /// blocks that it culled in their range, where they are free.
+    PutDown {
+        worker: usize,
+    },
+    /// An idle worker with an empty hand counts the free blocks of each range that is in use.
+    Survey {
+        worker: usize,
+        volume: VolumeNumber,
+    },
 }
 
 /// What an event came to that was not refused.
-#[derive(Clone, Copy)]
+#[derive(Drop)]
 pub enum Done {
     /// The connection has this number.
     Opened { connection: usize },
@@ -56,6 +77,12 @@ pub enum Done {
     Written { connection: usize, count: usize },
     /// The message waits again.
     PutBack,
+    /// So many blocks came into the hand.
+    InHand { count: usize },
+    /// So many blocks were put down.
+    PutDown { count: usize },
+    /// How many blocks of each range in use are free.
+    Surveyed { counts: Vec<u32> },
 }
 
 /// Why an event was refused. It changed nothing then.
@@ -69,9 +96,9 @@ pub enum Refusal {
     Full,
     /// No message waits at that place.
     NoSuchCall,
-    /// There is no such worker, or it is not idle.
+    /// There is no such worker, or it is not idle, or its hand has to be empty and is not.
     WorkerBusy,
-    /// The worker has begun no message, or has worked it already.
+    /// The worker has begun no message, or has worked it already, or has nothing to put down.
     NoWork,
     /// The worker has not worked its message.
     NotWorked,
@@ -79,6 +106,8 @@ pub enum Refusal {
     Closed,
     /// A moment has a whole second or more of nanoseconds.
     BadMoment,
+    /// There is no such volume, or no such range of it is in use.
+    NoSuchRange,
     /// Memory ran out.
     NoMemory,
 }
@@ -100,6 +129,7 @@ impl Refusal {
             Refusal::NotWorked => 35,
             Refusal::Closed => 36,
             Refusal::BadMoment => 37,
+            Refusal::NoSuchRange => 41,
             Refusal::NoMemory => 90,
         }
     }

@@ -21,7 +21,7 @@ ghost use Rattle.engine.specs.Words.{Does, HasItsSetup};
 use crate::connection::Connection;
 use crate::event::{Done, Refusal};
 use crate::state::State;
-use crate::worker::{Running, Worker, take_worker};
+use crate::worker::{Running, WorkerRun, run_at, take_run};
 use affinity_tree::Affinity;
 use desk::{Desk, ParcelKinds};
 use engine_feed::{Calls, OfferedCall};
@@ -149,13 +149,13 @@ pub(crate) fn finish(state: &mut State, worker: usize) -> Result<Done, Refusal>
     ensures setup { HasItsSetup state.old state.new }
     ensures sound { IsSound state.new }
 {
-    match state.workers.get(worker) {
-        None | Some(Worker::Idle) => return Err(Refusal::NoWork),
-        Some(Worker::Begun(_)) => return Err(Refusal::NotWorked),
-        Some(Worker::Worked(..)) => {}
+    match run_at(&state.workers, worker) {
+        None | Some(WorkerRun::Idle) => return Err(Refusal::NoWork),
+        Some(WorkerRun::Begun(_)) => return Err(Refusal::NotWorked),
+        Some(WorkerRun::Worked(..)) => {}
     }
-    let (running, outcome) = match take_worker(&mut state.workers, worker) {
-        Worker::Worked(running, outcome) => (running, outcome),
+    let (running, outcome) = match take_run(&mut state.workers, worker) {
+        WorkerRun::Worked(running, outcome) => (running, outcome),
         _ => unreachable!(),
     };
     let connection = running.message.origin.connection.0;

@@ -2,12 +2,14 @@
 #![tactic(auto)]
 
 mod beginning;
+mod carrying;
 mod connecting;
 mod connection;
 mod engine;
 mod event;
 mod feeding;
 mod finishing;
+mod inner;
 mod opening;
 mod state;
 mod worker;
@@ -16,4 +18,5 @@ mod working;
 pub use engine::Engine;
 pub use engine_feed::{FinishedCall, Stop, StreamFault};
 pub use event::{Done, Event, Refusal};
-pub use worker::{Running, Worker};
+pub use service::{BatchInHand, Outcome};
+pub use worker::{Running, Worker, WorkerRun};

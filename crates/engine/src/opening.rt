@@ -4,27 +4,32 @@ ghost use Rattle.std.specs.Prelude.{◌≡◌, ◌≤◌, IfOk, replicate};
 ghost use Rattle.nfs_model.specs.Headline.{opening_world};
 ghost use Rattle.affinity_tree.specs.Layout.{layout_of};
 ghost use Rattle.engine.specs.Seen.{setup_in, world, setup_of};
-ghost use Rattle.engine.specs.declared.worker.Worker.TheVariants.{Idle};
+ghost use Rattle.engine.specs.Workers.{idle_worker};
 ghost use Rattle.engine.specs.Sound.{IsSound};
 
 use crate::state::State;
-use crate::worker::Worker;
+use crate::worker::{Worker, WorkerRun};
 use affinity_tree::Layout;
 use desk::{Desk, ParcelKinds};
 use engine_feed::Calls;
 use held_laws::begins_sound;
 use nfs_values::Verifier;
+use parcel_sets::Hand;
 use parcels::{Files, opening_parcels};
-use service::Service;
+use service::{BatchInHand, Service};
 use std::alloc::{AllocError, Global};
 
-/// So many idle workers.
+/// So many idle workers with empty hands.
 fn idle(alloc: Global, count: usize) -> Result<Vec<Worker>, AllocError>
-    ensures { IfOk result (λ workers. workers.items ≡ replicate count Idle) }
+    ensures { IfOk result (λ workers. workers.items ≡ replicate count idle_worker) }
 {
     let mut workers = Vec::with_capacity(alloc, count)?;
     for _done in 0..count {
-        workers.push(Worker::Idle)?;
+        let worker = Worker {
+            run: WorkerRun::Idle,
+            hand: BatchInHand::new(Hand::Empty),
+        };
+        workers.push(worker)?;
     }
     Ok(workers)
 }

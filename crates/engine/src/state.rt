@@ -11,6 +11,9 @@ use std::alloc::Global;
 /// How many connections may be open.
 pub(crate) const CONNECTIONS: usize = 64;
 
+/// How many ranges a volume may have.
+pub(crate) const RANGES: u32 = 16;
+
 /// The nanoseconds of a second.
 pub(crate) const SECOND: u32 = 1_000_000_000;
 

@@ -1,14 +1,17 @@
-//! What workers run.
+//! What workers run and carry.
 
-ghost use Rattle.std.specs.Prelude.{◌≡◌, ◌<◌, Some, vec_len};
+ghost use Rattle.std.specs.Prelude.{◌≡◌, ◌<◌, map, option_map, vec_len};
 ghost use Rattle.std.specs.List.{slice_get};
-ghost use Rattle.std.specs.Vec.{with_item};
-ghost use Rattle.engine.specs.declared.worker.Worker.TheVariants.{Idle};
+ghost use Rattle.std.specs.Option.{option_copied};
+ghost use Rattle.nfs_model.specs.Events.Refusals.{is_idle, has_empty_hand};
+ghost use Rattle.engine.specs.Seen.{worker_seen};
+ghost use Rattle.engine.specs.Workers.{RunSet, RunTaken, HandSet, HandTaken};
 
 use engine_feed::OfferedCall;
 use nfs_values::Moment;
+use parcel_sets::Hand;
 use scheduler::Message;
-use service::Outcome;
+use service::{BatchInHand, Outcome};
 use std::mem;
 
 /// A message that a worker has begun.
@@ -18,9 +21,9 @@ pub struct Running {
     pub moment: Moment,
 }
 
-/// A worker.
+/// What a worker runs.
 #[derive(Drop)]
-pub enum Worker {
+pub enum WorkerRun {
     /// It runs nothing.
     Idle,
     Begun(Running),
@@ -28,19 +31,78 @@ pub enum Worker {
     Worked(Running, Outcome),
 }
 
-/// Lets a worker run this.
-pub(crate) fn set_worker(workers: &mut Vec<Worker>, worker: usize, now: Worker)
-    requires { worker < vec_len workers.old }
-    ensures { workers.new ≡ with_item workers.old worker now }
+/// A worker.
+#[derive(Drop)]
+pub struct Worker {
+    pub run: WorkerRun,
+    /// What it carries between the parts of a volume.
+    pub hand: BatchInHand,
+}
+
+/// Whether a worker is there and runs nothing.
+pub(crate) fn is_idle(workers: &[Worker], worker: usize) -> bool
+    ensures { result ≡ is_idle (slice_get (map worker_seen workers.now) worker) }
 {
-    drop(mem::replace(&mut workers[worker], now));
+    match workers.get(worker) {
+        Some(Worker {
+            run: WorkerRun::Idle,
+            ..
+        }) => true,
+        _ => false,
+    }
+}
+
+/// Whether a worker is there and carries nothing.
+pub(crate) fn has_empty_hand(workers: &[Worker], worker: usize) -> bool
+    ensures { result ≡ has_empty_hand (slice_get (map worker_seen workers.now) worker) }
+{
+    match workers.get(worker) {
+        Some(found) => matches!(found.hand.hand(), Hand::Empty),
+        None => false,
+    }
+}
+
+/// What a worker runs.
+pub(crate) fn run_at(workers: &[Worker], worker: usize) -> Option<&WorkerRun>
+    ensures { option_copied result ≡ option_map (λ k. k.run) (slice_get workers.now worker) }
+{
+    match workers.get(worker) {
+        Some(found) => Some(&found.run),
+        None => None,
+    }
+}
+
+/// Lets a worker run this.
+pub(crate) fn set_run(workers: &mut Vec<Worker>, worker: usize, now: WorkerRun)
+    requires { worker < vec_len workers.old }
+    ensures { RunSet workers.old worker now workers.new }
+{
+    drop(mem::replace(&mut workers[worker].run, now));
 }
 
 /// What a worker ran, which runs nothing from now on.
-pub(crate) fn take_worker(workers: &mut Vec<Worker>, worker: usize) -> Worker
+pub(crate) fn take_run(workers: &mut Vec<Worker>, worker: usize) -> WorkerRun
     requires { worker < vec_len workers.old }
-    ensures value { slice_get workers.old.items worker ≡ Some result }
-    ensures after { workers.new ≡ with_item workers.old worker Idle }
+    ensures { RunTaken workers.old worker result workers.new }
 {
-    mem::replace(&mut workers[worker], Worker::Idle)
+    mem::replace(&mut workers[worker].run, WorkerRun::Idle)
+}
+
+/// Lets a worker carry this.
+pub(crate) fn set_hand(workers: &mut Vec<Worker>, worker: usize, now: BatchInHand)
+    requires { worker < vec_len workers.old }
+    ensures { HandSet workers.old worker now workers.new }
+{
+    drop(mem::replace(&mut workers[worker].hand, now));
+}
+
+/// What a worker carried, whose hand is empty from now on.
+pub(crate) fn take_hand(workers: &mut Vec<Worker>, worker: usize) -> BatchInHand
+    requires { worker < vec_len workers.old }
+    ensures { HandTaken workers.old worker result workers.new }
+{
+    mem::replace(
+        &mut workers[worker].hand,
+        BatchInHand::new(Hand::Empty),
+    )
 }

@@ -12,7 +12,7 @@ ghost use Rattle.engine.specs.Sound.{IsSound};
 
 use crate::event::{Done, Refusal};
 use crate::state::State;
-use crate::worker::{Running, Worker, set_worker, take_worker};
+use crate::worker::{Running, WorkerRun, run_at, set_run, take_run};
 use desk::{Desk, ParcelKinds};
 use rpc_msg::{replies_fit, servers_are_roomy};
 use service::{Outcome, Run, Service};
@@ -68,15 +68,19 @@ pub(crate) fn work(state: &mut State, worker: usize) -> Result<Done, Refusal>
     replies_fit();
     servers_are_roomy();
     has_eight(state.verifier.0);
-    let Some(Worker::Begun(running)) = state.workers.get(worker) else {
+    let Some(WorkerRun::Begun(running)) = run_at(&state.workers, worker) else {
         return Err(Refusal::NoWork);
     };
     let outcome = run_on(state.alloc, &mut state.desk, worker, running);
     let done = done_of(&outcome);
-    let running = match take_worker(&mut state.workers, worker) {
-        Worker::Begun(running) => running,
+    let running = match take_run(&mut state.workers, worker) {
+        WorkerRun::Begun(running) => running,
         _ => unreachable!(),
     };
-    set_worker(&mut state.workers, worker, Worker::Worked(running, outcome));
+    set_run(
+        &mut state.workers,
+        worker,
+        WorkerRun::Worked(running, outcome),
+    );
     Ok(done)
 }

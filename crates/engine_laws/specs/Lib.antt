@@ -1,4 +1,5 @@
 pub mod Store
 pub mod Serving
+pub mod Inner
 pub mod Laws
 pub mod lemmas

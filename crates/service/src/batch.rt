@@ -24,6 +24,8 @@ impl Model for BatchInHand {
 }
 
 impl BatchInHand {
+    ghost use Rattle.std.specs.Prelude.{length};
+    ghost use Rattle.nfs_model.specs.Parts.{batch_in};
     ghost use Rattle.service.specs.Hands.{hand_of};
 
     /// What a hand carries.
@@ -34,6 +36,24 @@ impl BatchInHand {
     }
 
     /// The hand.
+    pub fn hand(&self) -> &Hand<Batch>
+        ensures { hand_of result.now ≡ self.now }
+    {
+        &self.hand
+    }
+
+    /// How many blocks it carries.
+    pub fn count(&self) -> usize
+        ensures { result ≡ length (batch_in self.now) }
+    {
+        match &self.hand {
+            Hand::Empty => 0,
+            Hand::Fresh { volume: _, batch } => batch.len(),
+            Hand::Dead { volume: _, batch } => batch.len(),
+        }
+    }
+
+    /// The hand, given up.
     pub fn into_hand(self) -> Hand<Batch>
         ensures { hand_of result ≡ self }
     {

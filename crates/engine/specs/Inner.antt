@@ -1,0 +1,107 @@
+-- Inner calls of workers: what one needs, what it comes to, and what is told of it.
+use Rattle.std.specs.Prelude.{◌≡◌, ◌⊎◌, ℕ, ◌/◌, ◌<◌, false, List, [], ◌∷◌, ◌++◌, length, Option, Some, None, Result, Ok, Err, slice_get}
+use Rattle.nfs_model.specs.Parts.{Hand, Empty, Fresh, Dead, batch_in, range_of}
+use Rattle.nfs_model.specs.World.{Setup, World}
+use Rattle.nfs_model.specs.Events.Refusals as events
+use Rattle.nfs_model.specs.Events.Refusals.{excluded, is_range_in_use}
+use Rattle.affinity_tree.specs.Fault.{fault_of}
+use Rattle.affinity_tree.specs.Tree.{IsNode}
+use Rattle.depot_rule.specs.Shares.{too_many}
+use Rattle.desk_laws.specs.Books.{settled, stamps, IsIdle, IsTaken, HasHands, IsSettled}
+use Rattle.desk_laws.specs.Calls.{IsWorn}
+use Rattle.held_state.specs.Jobs as jobs
+use Rattle.held_state.specs.Jobs.{InnerCall, Fetch, Deliver, Cull, Free, Survey, batches_in, inner_node, inner_volume}
+use Rattle.held_state.specs.Running.{IsRefusedIn}
+use Rattle.engine_laws.specs.Store.{FilerBooks, filer}
+use Rattle.engine_laws.specs.Inner as laws
+use Rattle.engine_laws.specs.Inner.{IsFree, HasMade, HasMoved}
+use Rattle.service.specs.declared.job.Job.{Job}
+use Rattle.service.specs.declared.job.JobReply.{JobReply}
+use Rattle.service.specs.Jobs.{job_of, job_reply_of}
+use Rattle.service.specs.Inner.{IsHandFor, MayLackMemory}
+use Rattle.engine.specs.declared.event.Done.{Done}
+use Rattle.engine.specs.declared.event.Refusal.{Refusal}
+use Rattle.engine.specs.declared.event.Refusal.TheVariants.{Busy, Worn, NoSuchRange, NoMemory}
+use Rattle.engine.specs.declared.state.State.{State}
+use Rattle.engine.specs.declared.worker.WorkerRun.TheVariants.{Idle}
+use Rattle.engine.specs.Workers.{worker_with}
+use Rattle.engine.specs.Seen.{setup_in, world, answer_of}
+
+-- ---- on a desk
+
+module _ {P : Type 0} where
+  -- a worker that was lent nothing may make an inner call with what is in its hand, which is one of all hands
+  pub record MayMake (b : FilerBooks P Job JobReply) (worker : ℕ) (call : InnerCall) (hand : Hand) : Type 0 where
+    pub lawful : fault_of b.layout ≡ None
+    pub node : IsNode b.layout (inner_node call)
+    pub idle : IsIdle b worker
+    pub fits : IsHandFor call hand
+    pub few : stamps b < too_many
+    pub others : List Hand
+    pub hands : HasHands (filer job_of job_reply_of) b (batches_in hand ++ others)
+    pub sound : IsSettled (filer job_of job_reply_of) b
+
+  -- it was made, and is in the history
+  abbrev pub IsMade : FilerBooks P Job JobReply → InnerCall → Hand → JobReply → FilerBooks P Job JobReply → Type 0
+  IsMade b call hand reply c = HasMade job_of job_reply_of b call hand reply c
+
+  -- it wasn't: by what is lent, by the count of calls, or since the range that it would fetch from isn't in use, or for memory
+  abbrev pub IsRefusedFor : FilerBooks P Job JobReply → InnerCall → Refusal → Type 0
+  IsRefusedFor b call Busy = IsTaken b (inner_node call)
+  IsRefusedFor b call Worn = IsWorn b (inner_node call)
+  IsRefusedFor b call NoSuchRange = IsFree b call × IsRefusedIn b.layout (inner_node call) call (settled b)
+  IsRefusedFor b call NoMemory = IsFree b call × MayLackMemory call
+  IsRefusedFor b call other = ⊥
+
+-- ---- what is told
+
+-- the reply of an inner call
+abbrev pub IsOfHand : jobs.JobReply → Type 0
+IsOfHand (jobs.Replied reply) = ⊥
+IsOfHand other = Unit {0}
+
+abbrev pub hand_after : jobs.JobReply → Hand
+hand_after reply = laws.hand_after reply
+
+abbrev pub told_as : jobs.JobReply → events.Done
+told_as (jobs.Took hand) = events.HandHas (length (batch_in hand))
+told_as (jobs.Gave hand) = events.HasPut (length (batch_in hand))
+told_as (jobs.Surveyed counts) = events.Surveyed counts
+told_as (jobs.Replied reply) = events.HasReply
+
+-- the call that puts down what is in a hand
+abbrev pub call_to_put : Hand → Option InnerCall
+call_to_put Empty = None
+call_to_put (Fresh volume blocks) = Some (Deliver volume)
+call_to_put (Dead volume []) = None
+call_to_put (Dead volume (b ∷ blocks)) = Some (Free volume (range_of (b ∷ blocks)))
+
+-- ---- in the engine
+
+-- an idle worker may make an inner call with what is in its hand
+pub record MayTend (s : State) (worker : ℕ) (call : InnerCall) : Type 0 where
+  pub hand : Hand
+  pub there : slice_get s.workers.items worker ≡ Some (worker_with Idle hand)
+  pub fits : IsHandFor call hand
+  pub node : IsNode (setup_in s).layout (inner_node call)
+
+-- the range that it would fetch from isn't in use
+abbrev pub IsOutOfUse : World → InnerCall → Type 0
+IsOutOfUse w (Fetch volume range) = is_range_in_use (slice_get w.server.volumes volume) range ≡ false
+IsOutOfUse w call = ⊥
+
+-- the number of its refusal: what excludes it, then a range out of use, then want of memory
+abbrev pub Refuses : Setup → World → InnerCall → ℕ → Type 0
+Refuses setup w call number =
+    (excluded setup w (inner_node call) ≡ Some number)
+    ⊎ ((number ≡ 41) × (excluded setup w (inner_node call) ≡ None) × IsOutOfUse w call)
+    ⊎ ((number ≡ 90) × (excluded setup w (inner_node call) ≡ None) × MayLackMemory call)
+
+-- an inner call as an event. A refused one changes nothing.
+abbrev pub Happens : Setup → World → ℕ → InnerCall → Result events.Done ℕ → World → Type 0
+Happens setup w worker call (Ok done) new =
+    (excluded setup w (inner_node call) ≡ None) × (reply : jobs.JobReply) × HasMoved w worker call reply new × (done ≡ told_as reply)
+Happens setup w worker call (Err number) new = Refuses setup w call number × (new ≡ w)
+
+abbrev pub Tends : State → ℕ → InnerCall → Result Done Refusal → State → Type 0
+Tends s worker call answer new = Happens (setup_in s) (world s) worker call (answer_of answer) (world new)
