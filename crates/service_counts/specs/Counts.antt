@@ -1,11 +1,12 @@
 -- How many block numbers of a volume are where (our profile), as they are kept by volume, and as they are taken anew from parcels.
-use Rattle.std.specs.Prelude.{◌≡◌, ℕ, zero, suc, ◌+◌, ◌-◌, ◌*◌, ◌==◌, min, List, [], ◌∷◌, map, length, Option, Some, None, if◌then◌else◌}
+use Rattle.std.specs.Prelude.{◌≡◌, ℕ, zero, suc, ◌+◌, ◌-◌, ◌*◌, ◌==◌, min, List, [], ◌∷◌, map, length, Option, Some, None, Result, Ok, Err, if◌then◌else◌}
 use Rattle.std.specs.Global.{Vec}
 use Rattle.std.specs.FinSet.{len}
 use Rattle.nfs_model.specs.Tree.{Layout, Affinity, Vbn, Range, aggregate_of}
 use Rattle.nfs_model.specs.Server.{VolumeState}
 use Rattle.nfs_model.specs.Parts.{Parts, Hand, Empty, Fresh, Dead, Counts, range_blocks}
 use Rattle.nfs_model.specs.World.{World, changed_at}
+use Rattle.nfs_model.specs.Events.Refusals.{Done, HandHas, HasPut}
 use Rattle.affinity_tree.specs.Numbers.{number_of, parents}
 use Rattle.depot_rule.specs.History.{patched}
 use Rattle.volume_values.specs.Logical.{LogicalValue}
@@ -88,6 +89,22 @@ fresh_volume (Dead volume blocks) = None
 abbrev pub put_counted : Option ℕ → ℕ → List VolumeCounts → List VolumeCounts
 put_counted None count counts = counts
 put_counted (Some volume) count counts = changed_at (with_put count) counts volume
+
+-- how many blocks came into a hand, or left it
+abbrev pub moved_count : Done → ℕ
+moved_count (HandHas count) = count
+moved_count (HasPut count) = count
+moved_count done = 0
+
+-- by what Cull answers
+abbrev pub culled_by : ℕ → Result Done ℕ → List VolumeCounts → List VolumeCounts
+culled_by volume (Ok done) counts = changed_at (with_culled (moved_count done)) counts volume
+culled_by volume (Err number) counts = counts
+
+-- by what PutDown answers, with the volume in whose stock blocks are put down
+abbrev pub put_by : Option ℕ → Result Done ℕ → List VolumeCounts → List VolumeCounts
+put_by fresh (Ok done) counts = put_counted fresh (moved_count done) counts
+put_by fresh (Err number) counts = counts
 
 -- ---- taken anew
 

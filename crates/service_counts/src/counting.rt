@@ -16,7 +16,7 @@ use parcels::Files;
 use volume_counts::ranges_used;
 
 /// The blocks of a range.
-const RANGE_BLOCKS: usize = 1024;
+pub(crate) const RANGE_BLOCKS: usize = 1024;
 
 /// Counts the volume again whose Logical is held: so many numbers as before.
 pub(crate) fn recount_logical(

@@ -6,8 +6,10 @@ mod carried;
 mod counting;
 mod counts;
 mod nodes;
+mod opening;
 mod tally;
 
 pub use carried::{count_culled, count_put};
 pub use counts::{PartCounts, VolumeCounts};
+pub use opening::opening_counts;
 pub use tally::Tally;

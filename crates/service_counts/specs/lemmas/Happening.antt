@@ -15,7 +15,7 @@ use Rattle.nfs_model.specs.Events.Refusals.{is_idle, has_empty_hand, is_empty_ha
 use Rattle.nfs_model.specs.Events.Feed.{Hears, admit, heard_in}
 use Rattle.nfs_model.specs.Events.Step.{Events, Happens, finished_by, Carries, carried, hand_volume}
 use Rattle.service_counts.specs.declared.counts.VolumeCounts.{VolumeCounts}
-use Rattle.service_counts.specs.Counts.{counts_seen, all_seen, seen_if, world_counts, told_of, with_culled, with_put, fresh_volume, put_counted}
+use Rattle.service_counts.specs.Counts.{counts_seen, all_seen, seen_if, world_counts, told_of, with_culled, with_put, fresh_volume, put_counted, moved_count, culled_by, put_by}
 use Rattle.service_counts.specs.lemmas.Sums.{parts-size}
 
 -- ---- lists
@@ -275,6 +275,21 @@ module _ (setup : Setup) (w new : World) (parted : IsParted w) (parted-then : Is
         puts worker h.2 h.0.parts h.0.hand h.1 carries h.4 h.6
             ∙ ap (λ (x : Hand). put_counted (fresh_volume x) h.2 (world_counts w)) (sym hand),
       )
+
+  -- whatever it answers
+  pub cull-counts : (worker volume : ℕ) (answer : Result Done ℕ) → Events setup w (Cull worker volume) answer new
+      → world_counts new ≡ culled_by volume answer (world_counts w)
+  cull-counts worker volume (Err number) e = ap world_counts e.1
+  cull-counts worker volume (Ok done) e =
+      let h = cull-happens worker volume done e in
+      h.2 ∙ ap (λ (n : ℕ). changed_at (with_culled n) (world_counts w) volume) (sym (ap moved_count h.1))
+
+  pub put-counts : (worker : ℕ) (answer : Result Done ℕ) → Events setup w (PutDown worker) answer new
+      → world_counts new ≡ put_by (fresh_volume (hand_of (slice_get w.workers worker))) answer (world_counts w)
+  put-counts worker (Err number) e = ap world_counts e.1
+  put-counts worker (Ok done) e =
+      let h = put-happens worker done e in
+      h.2 ∙ ap (λ (n : ℕ). put_counted (fresh_volume (hand_of (slice_get w.workers worker))) n (world_counts w)) (sym (ap moved_count h.1))
 
 -- ---- what is told
 
