@@ -16,3 +16,4 @@ mod Closing
 mod Received
 pub mod Worked
 pub mod Opened
+mod Counted
