@@ -4,12 +4,13 @@ use Rattle.std.proofs.Common.{subst, arith, length-append}
 use Rattle.std.proofs.lemmas.Option.{slice_get_read}
 use Rattle.std.proofs.lemmas.List.{length-map}
 use Rattle.std.specs.Prelude.{◌*◌, slice_get, slice_set, slice_index_or}
+use Rattle.std.specs.Option.{option_map}
 use Rattle.std.specs.Global.{Vec}
 use mathlib.Core.Option.{some, some-injective}
 use lib.ListN.{get_elem?}
 use Rattle.nfs_model.specs.Tree.{Layout, Affinity, Serial, Aggregate, Volume, Logical, Stripe, Vbn, Range}
 use Rattle.nfs_model.specs.Server.{Server}
-use Rattle.nfs_model.specs.World.{Setup, World, hands_blocks}
+use Rattle.nfs_model.specs.World.{Setup, World, hands_blocks, counts_of}
 use Rattle.nfs_model.specs.Parts.{hand_blocks}
 use Rattle.nfs_values.specs.declared.call.Call.{Call}
 use Rattle.affinity_tree.specs.declared.affinity.Kind.TheVariants as kinds
@@ -17,6 +18,7 @@ use Rattle.affinity_tree.specs.Numbers.{number_of, parents}
 use Rattle.depot_rule.specs.History.{patched}
 use Rattle.desk_laws.specs.Books.{Lent, now, HasLent}
 use Rattle.desk_laws.specs.Calls.{Does, MayWork, HasWorked}
+use Rattle.desk.specs.Words.{books}
 use Rattle.held_state.specs.Parcels.{FilerParcel}
 use Rattle.held_state.specs.Contents.{contents_of, filer_contents}
 use Rattle.held_state.specs.Tree.{volume_of}
@@ -29,12 +31,13 @@ use Rattle.engine_laws.specs.lemmas.Agreeing.{agreed, now-served}
 use Rattle.service.specs.Running.{IsRunAt, AsksFor}
 use Rattle.service.specs.lemmas.Homes.{not-here}
 use Rattle.service_counts.specs.declared.counts.VolumeCounts.{VolumeCounts}
-use Rattle.service_counts.specs.Counts.{counted, IsCounted, all_seen, world_counts, IsOfCalls, AsksForCounts, HasCounted}
+use Rattle.service_counts.specs.Counts.{counted, IsCounted, all_seen, world_counts, told_of, IsOfCalls, AsksForCounts, HasCounted}
 use Rattle.service_counts.specs.lemmas.Seen.{contents-seen}
-use Rattle.service_counts.specs.lemmas.Happening.{IsParted}
+use Rattle.service_counts.specs.lemmas.Happening.{IsParted, told-is}
 use Rattle.engine.specs.declared.worker.Worker.{Worker}
-use Rattle.engine.specs.Seen.{worker_seen}
-use Rattle.engine.specs.Counted.{IsRecounted}
+use Rattle.engine.specs.declared.state.State.{State}
+use Rattle.engine.specs.Seen.{worker_seen, world}
+use Rattle.engine.specs.Counted.{IsRecounted, IsCountedWhole}
 
 -- ---- what is seen
 
@@ -55,6 +58,38 @@ module _ {P C R : Type 0} (job : C → Job) (told : R → JobReply) (setup : Set
         ∙ sym (ap (λ (server : Server). length server.volumes) s.server);
     each = (agreed job told setup w b s partition).partition;
   }
+
+-- ---- what is told
+
+-- nothing is past the end
+past-end : {A : Type 0} (xs : List A) (i : ℕ) → length xs ≤ i → slice_get xs i ≡ None
+past-end [] i past = refl
+past-end (x ∷ xs) zero past = absurd (omega (arith, past))
+past-end (x ∷ xs) (suc i) past = past-end xs i (omega (arith, past))
+
+module _ (s : State) (counts : List VolumeCounts) (whole : IsCountedWhole s counts) (v : ℕ) where
+  whole-parted : IsParted (world s)
+  whole-parted = record {
+    long =
+        let volumes = (filer_contents (books s.desk).layout (now (books s.desk))).volumes in
+        length-map volumes parts_of ∙ sym (length-map volumes volume_of);
+    each = whole.0.1.headline.partition;
+  }
+
+  abbrev in_hands : ℕ
+  in_hands = length (hands_blocks v (world s).workers)
+
+  told-now : option_map (told_of in_hands) (slice_get counts v) ≡ counts_of (world s) v
+  told-now = ap (λ ks. option_map (told_of in_hands) (slice_get ks v)) whole.1 ∙ told-is (world s) whole-parted v
+
+  -- the counts of a volume that there is
+  pub told-some : (k : VolumeCounts) (hands : ℕ) → slice_get counts v ≡ Some k → hands ≡ in_hands → Some (told_of hands k) ≡ counts_of (world s) v
+  told-some k hands there is =
+      ap (λ (n : ℕ). Some (told_of n k)) is ∙ sym (ap (option_map (told_of in_hands)) there) ∙ told-now
+
+  -- and of one that there isn't
+  pub told-none : length counts ≤ v → None ≡ counts_of (world s) v
+  told-none past = sym (ap (option_map (told_of in_hands)) (past-end counts v past)) ∙ told-now
 
 -- ---- what a worker was lent
 

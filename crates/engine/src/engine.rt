@@ -211,9 +211,10 @@ impl Engine {
     pub fn parts(&self, volume: VolumeNumber) -> Option<PartCounts>
         ensures { option_map parts_told result ≡ counts_of self.now.world volume.0 }
     {
-        let counts = self.counts.get(volume.0 as usize)?;
-        let hands = carried(&self.state.workers, volume.0);
-        Some(counts.with_hands(hands))
+        match self.counts.get(volume.0 as usize) {
+            Some(counts) => Some(counts.with_hands(carried(&self.state.workers, volume.0))),
+            None => None,
+        }
     }
 
     /// What each worker runs and carries.

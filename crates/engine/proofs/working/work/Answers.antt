@@ -176,7 +176,7 @@ module _ (c : goal.After-set_run) where
   -- what it came to may be told
   may : MayEnd L r.message o
   may =
-      let roomy = roomy-now c.servers_are_roomy.ensures.begins c.servers_are_roomy.ensures.stays setup old c.has_eight.ensures c.requires.1.headline.state in
+      let roomy = roomy-now c.servers_are_roomy.ensures.begins c.servers_are_roomy.ensures.stays setup old c.has_eight.ensures c.requires.whole.1.headline.state in
       let comes = works job_of job_reply_of setup old b c.requires.whole.0.stands i (worker_seen ran) seen (running_as r None) refl refl
       (outcome_of o) next served in
       may-end c.replies_fit.ensures.offered L r.message placed.admitted (moment_of r.moment) (worlds.store_of old) after roomy o comes
@@ -189,6 +189,9 @@ module _ (c : goal.After-set_run) where
   -- the same messages run
   running : running_messages ks' ≡ running_messages ks
   running = ap (λ (xs : List Worker). running_messages xs) are ∙ running-set ks i ran (worker_with (Worked r o) hand) there refl
+
+pub returns-in_default-clause-counted : goal.returns-in_default-clause-counted
+returns-in_default-clause-counted c = c.requires.counted
 
 pub returns-clause-events : goal.returns-clause-events
 returns-clause-events c =
@@ -220,4 +223,4 @@ returns-clause-sound c =
 
 pub returns-clause-counted : goal.returns-clause-counted
 returns-clause-counted c =
-    c.run_on-outcome.ensures.counted ∙ sym (stands-counted job_of job_reply_of (setup_in c.set_run.new.state) (new c) (next c) (stands c))
+    c.run_on-outcome.ensures.counted ∙ sym (stands-counted job_of job_reply_of (setup_new c) (new c) (next c) (stands c))
