@@ -18,3 +18,4 @@ mod Closing
 mod Received
 pub mod Worked
 pub mod Opened
+mod Counted
