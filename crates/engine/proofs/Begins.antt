@@ -2,11 +2,12 @@
 use Rattle.std.proofs.Common.{◌≡◌, ℕ, ◌<◌, ◌≤◌, true, false, List, [], ◌∷◌, map, length, Option, Some, None, refl, sym, ap, ◌∙◌, subst, arith}
 use Rattle.std.specs.Prelude.{slice_get, slice_set, option_map}
 use Rattle.std.proofs.lemmas.Bool.{le-leb, lt-leb}
+use Rattle.std.proofs.lemmas.List.{length-append}
 use Rattle.std.proofs.lemmas.Option.{slice_get-map}
 use mathlib.Core.Option.{some}
 use Rattle.nfs_model.specs.World as worlds
 use Rattle.nfs_model.specs.Server.{Server}
-use Rattle.nfs_model.specs.Parts.{Parts}
+use Rattle.nfs_model.specs.Parts.{Parts, Hand}
 use Rattle.nfs_model.specs.World.{Setup, World, changed_at, with_running}
 use Rattle.nfs_model.specs.Events.Step.{begun}
 use Rattle.nfs_model.specs.Types.{Moment}
@@ -32,13 +33,15 @@ use Rattle.engine_feed.specs.Within.{Shows}
 use Rattle.engine_feed.specs.Words.{HasBegun}
 use Rattle.engine.specs.declared.worker.Running.{Running}
 use Rattle.engine.specs.declared.worker.Worker.{Worker}
-use Rattle.engine.specs.declared.worker.Worker.TheVariants.{Idle, Begun, Worked}
+use Rattle.engine.specs.declared.worker.WorkerRun.{WorkerRun}
+use Rattle.engine.specs.declared.worker.WorkerRun.TheVariants.{Idle, Begun, Worked}
 use Rattle.engine.specs.declared.connection.Connection.{Connection}
-use Rattle.engine.specs.Sound.{running_messages}
+use Rattle.engine.specs.Sound.{messages_in, running_messages}
 use Rattle.engine.specs.Seen.{connection_seen, worker_seen}
+use Rattle.engine.specs.Workers.{worker_with}
 use Rattle.engine.proofs.Ended.{world_after}
 use Rattle.engine.proofs.Lists.{inner}
-use Rattle.engine.proofs.Workers.{seen-changed}
+use Rattle.engine.proofs.Workers.{seen-ran}
 
 -- a moment of a whole second or more of nanoseconds is refused, after what comes before it
 pub bad-moment : (setup : Setup) (w : World) (worker place : ℕ) (moment : Moment) (m : worlds.Message) → is_idle (slice_get w.workers worker) ≡ true
@@ -78,15 +81,16 @@ with_store w server parts stamps = record w { server = server; parts = parts; st
 -- the world in which a message was begun
 pub begun-world : (w : World) (calls calls' : CallsState) (place : ℕ) (m : Message Call) (h : HasBegun calls place m calls') → Shows calls w
     → (cs : List Connection) → map connection_seen cs ≡ w.connections
-    → (ks new : List Worker) (i : ℕ) (r : Running) → r.message ≡ m → w.workers ≡ map worker_seen ks → new ≡ slice_set ks i (Begun r)
+    → (ks new : List Worker) (i : ℕ) (r : Running) (hand : Hand) → r.message ≡ m → w.workers ≡ map worker_seen ks
+    → slice_get ks i ≡ Some (worker_with Idle hand) → new ≡ slice_set ks i (worker_with (Begun r) hand)
     → (server : Server) (parts : List Parts) (stamps : ℕ) → server ≡ w.server → parts ≡ w.parts → stamps ≡ w.stamps
     → world_after w calls' new cs server parts stamps ≡ begun w i place (message_of m) (moment_of r.moment)
-begun-world w calls calls' place m h shows cs conns ks new i r is workers set server parts stamps same_server same_parts same_stamps =
+begun-world w calls calls' place m h shows cs conns ks new i r hand is workers there set server parts stamps same_server same_parts same_stamps =
     let at = h.begins w shows in
     λ j. record w {
       connections = conns j;
       waiting = (ap (λ (x : World). x.waiting) at.1) j;
-      workers = (ap (λ xs. map worker_seen xs) set ∙ seen-changed ks i (Begun r)
+      workers = (ap (λ xs. map worker_seen xs) set ∙ seen-ran ks i Idle (Begun r) hand there
           ∙ (λ k. changed_at (with_running (Some (record { message = message_of (is k); moment = moment_of r.moment; outcome = None }))) (sym workers k) i)) j;
       finished = (ap (λ (x : World). x.finished) at.1) j;
       server = same_server j;
@@ -124,6 +128,13 @@ tried-affinity a o m told there = inner a m.affinity (told ∙ ap (λ p. option_
 
 pub few-run : (ks : List Worker) → length (running_messages ks) ≤ length ks
 few-run [] = omega arith
-few-run (Idle ∷ ks) = let others = few-run ks in omega arith
-few-run (Begun r ∷ ks) = let others = few-run ks in omega arith
-few-run (Worked r outcome ∷ ks) = let others = few-run ks in omega arith
+few-run (k ∷ ks) =
+    let one = at-most-one k.run in
+    let others = few-run ks in
+    let joined = length-append (messages_in k.run) (running_messages ks) in
+    omega (arith, one, others, joined)
+  where
+    at-most-one : (run : WorkerRun) → length (messages_in run) ≤ 1
+    at-most-one Idle = omega arith
+    at-most-one (Begun r) = omega arith
+    at-most-one (Worked r outcome) = omega arith

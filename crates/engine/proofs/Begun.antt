@@ -2,6 +2,7 @@
 use Rattle.std.proofs.Common.{◌≡◌, ℕ, ◌<◌, ◌≤◌, true, List, Some, Ok, refl, sym, ap, ◌∙◌, subst, arith}
 use Rattle.std.specs.Prelude.{length, map, option_map, slice_get}
 use Rattle.std.specs.List.{remove}
+use Rattle.nfs_model.specs.Parts.{Hand}
 use Rattle.nfs_model.specs.Events.Refusals as events
 use Rattle.nfs_model.specs.Events.Refusals.{is_bad_moment, is_idle, open_count, refusal}
 use Rattle.nfs_model.specs.Events.Step.{begun}
@@ -27,11 +28,12 @@ use Rattle.engine_feed.specs.Words.{HasBegun}
 use Rattle.engine.specs.declared.connection.Connection.{Connection}
 use Rattle.engine.specs.declared.event.Done.TheVariants as dones
 use Rattle.engine.specs.declared.worker.Running.{Running}
-use Rattle.engine.specs.declared.worker.Worker.TheVariants.{Idle, Begun}
+use Rattle.engine.specs.declared.worker.WorkerRun.TheVariants.{Idle, Begun}
 use Rattle.engine.specs.declared.state.State.{State}
 use Rattle.engine.specs.Seen.{connection_seen, setup_in, world}
 use Rattle.engine.specs.Sound.{IsSound, running_messages, room_on}
 use Rattle.engine.specs.Words.{Does}
+use Rattle.engine.specs.Workers.{worker_with}
 use Rattle.engine.proofs.Workers.{seen-at}
 use Rattle.engine.proofs.Lists.{all-at, all-removed, total-removed}
 use Rattle.engine.proofs.Begins.{bad-moment, begun-layout, begun-parts, begun-server, begun-stamps, begun-world, few-run, found-message, good-moment}
@@ -40,32 +42,30 @@ use Rattle.engine.proofs.Changed.{IsChanged, same_setup, run_count, run_weight, 
 
 -- ---- it is refused
 
-module _ (s : State) (sound : IsSound s) (i place : ℕ) (moment : Moment) (a : Affinity) (there : slice_get s.workers.items i ≡ Some Idle)
+module _ (s : State) (sound : IsSound s) (i place : ℕ) (moment : Moment) (a : Affinity) (free : is_idle (slice_get (world s).workers i) ≡ true)
     (told : Some a ≡ option_map (λ (m : Message Call). m.affinity) (slice_get s.calls.waiting place)) where
   message : (m : Message Call) × (slice_get s.calls.waiting place ≡ Some m) × (a ≡ m.affinity)
   message = found-message a (slice_get s.calls.waiting place) told
-
-  idle : is_idle (slice_get (world s).workers i) ≡ true
-  idle = ap is_idle (seen-at s.workers.items i Idle there)
 
   at_place : slice_get (world s).waiting place ≡ Some (message_of message.0)
   at_place = waits-at s.calls place message.0 message.1
 
   pub late_refused : 1000000000 ≤ moment.nanoseconds → refusal (setup_in s) (world s) (events.Begin i place (moment_of moment)) ≡ Some 37
-  late_refused late = bad-moment (setup_in s) (world s) i place (moment_of moment) (message_of message.0) idle at_place late
+  late_refused late = bad-moment (setup_in s) (world s) i place (moment_of moment) (message_of message.0) free at_place late
 
   module _ (early : moment.nanoseconds < 1000000000) where
     pub taken_refused : IsTaken (books s.desk) (affinity_of a) → refusal (setup_in s) (world s) (events.Begin i place (moment_of moment)) ≡ Some 21
     taken_refused taken = begin-taken job_of job_reply_of (setup_in s) (world s) (books s.desk) sound.stands i place (moment_of moment) (message_of message.0)
-        idle at_place (good-moment (moment_of moment) early) (subst (λ (x : Affinity). IsTaken (books s.desk) (affinity_of x)) message.2 taken)
+        free at_place (good-moment (moment_of moment) early) (subst (λ (x : Affinity). IsTaken (books s.desk) (affinity_of x)) message.2 taken)
 
     pub worn_refused : desks.IsWorn (books s.desk) (affinity_of a) → refusal (setup_in s) (world s) (events.Begin i place (moment_of moment)) ≡ Some 22
     worn_refused worn = begin-worn job_of job_reply_of (setup_in s) (world s) (books s.desk) sound.stands i place (moment_of moment) (message_of message.0)
-        idle at_place (good-moment (moment_of moment) early) (subst (λ (x : Affinity). desks.IsWorn (books s.desk) (affinity_of x)) message.2 worn)
+        free at_place (good-moment (moment_of moment) early) (subst (λ (x : Affinity). desks.IsWorn (books s.desk) (affinity_of x)) message.2 worn)
 
 -- ---- it begins
 
-module _ (s new : State) (sound : IsSound s) (i place : ℕ) (r : Running) (h : IsChanged s new i Idle (Begun r))
+module _ (s new : State) (sound : IsSound s) (i place : ℕ) (r : Running) (hand : Hand)
+    (h : IsChanged s new i (worker_with Idle hand) (worker_with (Begun r) hand))
     (connections : new.connections.items ≡ s.connections.items) (opened : new.open_count ≡ s.open_count) (kept : IsKept new.desk)
     (begins : desks.HasBegun (books s.desk) i (affinity_of r.message.affinity) (books new.desk)) (takes : HasBegun s.calls place r.message new.calls) where
   waits : slice_get (world s).waiting place ≡ Some (message_of r.message)
@@ -79,14 +79,14 @@ module _ (s new : State) (sound : IsSound s) (i place : ℕ) (r : Running) (h : 
       let b = books s.desk in
       let c = books new.desk in
       begun-world (world s) s.calls new.calls place r.message takes (record { waiting = refl; finished = refl }) new.connections.items
-      (ap (λ (cs : List Connection). map connection_seen cs) connections) s.workers.items new.workers.items i r refl refl h.set
+      (ap (λ (cs : List Connection). map connection_seen cs) connections) s.workers.items new.workers.items i r hand refl refl h.there h.set
       (server_of (filer_contents c.layout (now c))) (all_parts (filer_contents c.layout (now c))) (stamps c)
       (begun-server b c i _ begins) (begun-parts b c i _ begins) same_stamps
 
   pub begun_events : r.moment.nanoseconds < 1000000000 → Does s (events.Begin i place (moment_of r.moment)) (Ok (dones.Granted r.message.affinity)) new
   begun_events early =
       let happens = begin-happens job_of job_reply_of (setup_in s) (world s) (books s.desk) sound.stands i place (moment_of r.moment) (message_of r.message)
-      (ap is_idle (seen-at s.workers.items i Idle h.there)) waits (good-moment (moment_of r.moment) early) (books new.desk) begins in
+      (ap is_idle (seen-at s.workers.items i (worker_with Idle hand) h.there)) waits (good-moment (moment_of r.moment) early) (books new.desk) begins in
       (happens.0, (message_of r.message, waits, refl, begun_is))
 
   begun_stand : StandsFor job_of job_reply_of (setup_in s) (world new) (books new.desk)
@@ -109,7 +109,10 @@ module _ (s new : State) (sound : IsSound s) (i place : ℕ) (r : Running) (h : 
     stands = subst (λ x. StandsFor job_of job_reply_of x (world new) (books new.desk)) (sym (same_setup h)) begun_stand;
     running = as_many_run;
     waiting = all_placed h (remove (messages_of s.calls) place) takes.left (all-removed _ (messages_of s.calls) place sound.waiting);
-    workers = all_ready h sound (all-at _ (messages_of s.calls) place r.message sound.waiting takes.there);
+    workers = all_ready h sound (
+      all-at _ (messages_of s.calls) place r.message sound.waiting takes.there,
+      (all-at _ s.workers.items i (worker_with Idle hand) sound.workers h.there).1,
+    );
     few = still_few h sound;
     stamps = (
         let most = still_few h sound in

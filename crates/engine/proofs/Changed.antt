@@ -50,15 +50,15 @@ module _ {s new : State} {i : ℕ} {k x : Worker} (h : IsChanged s new i k x) wh
   same_setup = λ j. setup_of (h.layout j) (h.verifier j).0 (as_many j)
 
   -- how many run
-  pub run_count : length (running_messages new.workers.items) + length (messages_in k) ≡ length (running_messages s.workers.items) + length (messages_in x)
-  run_count = ap (λ (ks : List Worker). length (running_messages ks) + length (messages_in k)) h.set ∙ count-changed s.workers.items i k x h.there
+  pub run_count : length (running_messages new.workers.items) + length (messages_in k.run) ≡ length (running_messages s.workers.items) + length (messages_in x.run)
+  run_count = ap (λ (ks : List Worker). length (running_messages ks) + length (messages_in k.run)) h.set ∙ count-changed s.workers.items i k x h.there
 
   -- what runs, weighed
   pub run_weight : (weigh : Message Call → ℕ)
-      → total weigh (running_messages new.workers.items) + total weigh (messages_in k)
-      ≡ total weigh (running_messages s.workers.items) + total weigh (messages_in x)
+      → total weigh (running_messages new.workers.items) + total weigh (messages_in k.run)
+      ≡ total weigh (running_messages s.workers.items) + total weigh (messages_in x.run)
   run_weight weigh =
-      ap (λ (ks : List Worker). total weigh (running_messages ks) + total weigh (messages_in k)) h.set
+      ap (λ (ks : List Worker). total weigh (running_messages ks) + total weigh (messages_in k.run)) h.set
       ∙ messages-changed weigh s.workers.items i k x h.there
 
   module _ (sound : IsSound s) where

@@ -7,7 +7,7 @@ use Rattle.nfs_model.specs.Types as types
 use Rattle.nfs_model.specs.World as worlds
 use Rattle.nfs_model.specs.World.{Setup, World, changed_at, finish, with_running, with_output, written_to}
 use Rattle.nfs_model.specs.Tree.{Affinity}
-use Rattle.nfs_model.specs.Parts.{Parts}
+use Rattle.nfs_model.specs.Parts.{Parts, Hand}
 use Rattle.nfs_model.specs.Work as works
 use Rattle.nfs_model.specs.Server.{Server}
 use Rattle.nfs_model.specs.Events.Refusals.{open_count}
@@ -25,13 +25,15 @@ use Rattle.engine.specs.declared.connection.Connection.{Connection}
 use Rattle.engine.specs.declared.connection.Connection.TheVariants.{Open}
 use Rattle.engine.specs.declared.worker.Running.{Running}
 use Rattle.engine.specs.declared.worker.Worker.{Worker}
-use Rattle.engine.specs.declared.worker.Worker.TheVariants.{Idle}
+use Rattle.engine.specs.declared.worker.WorkerRun.{WorkerRun}
+use Rattle.engine.specs.declared.worker.WorkerRun.TheVariants.{Idle}
 use Rattle.engine.specs.Sound.{room_on}
 use Rattle.engine.specs.Ending.{EndsIn, OwesLess}
+use Rattle.engine.specs.Workers.{worker_with}
 use Rattle.engine.specs.Seen.{connection_seen, worker_seen}
 use Rattle.engine.proofs.Placed.{room-own, room-other}
 use Rattle.engine.proofs.Lists.{set-here, set-elsewhere, inner}
-use Rattle.engine.proofs.Workers.{seen-changed}
+use Rattle.engine.proofs.Workers.{seen-ran}
 use Rattle.engine.proofs.Closing.{seen-at as connection-at, seen-set as connections-set}
 
 -- ---- the worlds after
@@ -51,16 +53,17 @@ world_after w calls ks cs server parts stamps = record w {
 -- the world in which a moved message waits again
 pub back-world : (w : World) (calls calls' : CallsState) (m : Message Call) → Shows calls w → HasPutBack calls m calls'
     → (setup : Setup) (cs : List Connection) → map connection_seen cs ≡ w.connections
-    → (ks new : List Worker) (i : ℕ) → w.workers ≡ map worker_seen ks → new ≡ slice_set ks i Idle
+    → (ks new : List Worker) (i : ℕ) (was : WorkerRun) (hand : Hand) → w.workers ≡ map worker_seen ks
+    → slice_get ks i ≡ Some (worker_with was hand) → new ≡ slice_set ks i (worker_with Idle hand)
     → (r : worlds.Running) (a : Affinity) → message_of m ≡ record r.message { affinity = a }
     → (server : Server) (parts : List Parts) (stamps : ℕ) → server ≡ w.server → parts ≡ w.parts → stamps ≡ w.stamps
     → world_after w calls' new cs server parts stamps ≡ finished_by setup w i r (works.Moved a)
-back-world w calls calls' m shows h setup cs conns ks new i workers set r a is server parts stamps same_server same_parts same_stamps =
+back-world w calls calls' m shows h setup cs conns ks new i was hand workers held set r a is server parts stamps same_server same_parts same_stamps =
     let waits = h.waits w shows in
     λ j. record w {
       connections = conns j;
       waiting = (ap (λ (x : World). x.waiting) waits ∙ ap (λ (x : worlds.Message). w.waiting ++ x ∷ []) is) j;
-      workers = (ap (λ xs. map worker_seen xs) set ∙ seen-changed ks i Idle ∙ ap (λ xs. changed_at (with_running None) xs i) (sym workers)) j;
+      workers = (ap (λ xs. map worker_seen xs) set ∙ seen-ran ks i was Idle hand held ∙ ap (λ xs. changed_at (with_running None) xs i) (sym workers)) j;
       finished = (ap (λ (x : World). x.finished) waits) j;
       server = same_server j;
       parts = same_parts j;
@@ -72,11 +75,12 @@ pub ended-world : (w : World) (calls calls' : CallsState) (place place' : Connec
     → EndsIn calls place r reply starved count calls' place' → (setup : Setup) → setup.codec ≡ codec → Shows calls w
     → (cs new_cs : List Connection) → w.connections ≡ map connection_seen cs → slice_get cs r.message.origin.connection.0 ≡ Some place
     → new_cs ≡ slice_set cs r.message.origin.connection.0 place'
-    → (ks new : List Worker) (i : ℕ) → w.workers ≡ map worker_seen ks → new ≡ slice_set ks i Idle
+    → (ks new : List Worker) (i : ℕ) (was : WorkerRun) (hand : Hand) → w.workers ≡ map worker_seen ks
+    → slice_get ks i ≡ Some (worker_with was hand) → new ≡ slice_set ks i (worker_with Idle hand)
     → (server : Server) (parts : List Parts) (stamps : ℕ) → server ≡ w.server → parts ≡ w.parts → stamps ≡ w.stamps + 1
     → world_after w calls' new new_cs server parts stamps
     ≡ finish setup (stamp_added (without_call w i)) (finished_message r.message (moment_of r.moment) starved) reply
-ended-world w calls calls' place place' r reply starved count ends setup is_codec shows cs new_cs conns there set_cs ks new i workers set server parts stamps
+ended-world w calls calls' place place' r reply starved count ends setup is_codec shows cs new_cs conns there set_cs ks new i was hand workers held set server parts stamps
     same_server same_parts more_stamps =
     let n = r.message.origin.connection.0 in
     let v : World = stamp_added (without_call w i) in
@@ -86,7 +90,7 @@ ended-world w calls calls' place place' r reply starved count ends setup is_code
       connections = (ap (λ xs. map connection_seen xs) set_cs ∙ connections-set (λ x. connection_seen place') cs n place place' there refl
           ∙ ap (λ xs. changed_at (λ x. connection_seen place') xs n) (sym conns)) j;
       waiting = waiting_of calls';
-      workers = (ap (λ xs. map worker_seen xs) set ∙ seen-changed ks i Idle ∙ ap (λ xs. changed_at (with_running None) xs i) (sym workers)) j;
+      workers = (ap (λ xs. map worker_seen xs) set ∙ seen-ran ks i was Idle hand held ∙ ap (λ xs. changed_at (with_running None) xs i) (sym workers)) j;
       finished = finished_of calls';
       server = same_server j;
       parts = same_parts j;

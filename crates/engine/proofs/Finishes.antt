@@ -2,6 +2,7 @@
 use Rattle.std.proofs.Common.{◌≡◌, ℕ, ◌+◌, ◌<◌, ◌≤◌, Bool, List, [], ◌∷◌, ◌++◌, Some, Ok, refl, sym, ap, ◌∙◌, subst, arith}
 use Rattle.std.specs.Prelude.{length, map, slice_get, slice_set}
 use Rattle.std.proofs.lemmas.List.{length-append}
+use Rattle.nfs_model.specs.Parts.{Hand}
 use Rattle.nfs_model.specs.World as worlds
 use Rattle.nfs_model.specs.World.{finish}
 use Rattle.nfs_model.specs.Work as tasks
@@ -43,14 +44,15 @@ use Rattle.engine.specs.declared.connection.Connection.{Connection}
 use Rattle.engine.specs.declared.event.Done.TheVariants as dones
 use Rattle.engine.specs.declared.worker.Running.{Running}
 use Rattle.engine.specs.declared.worker.Worker.{Worker}
-use Rattle.engine.specs.declared.worker.Worker.TheVariants.{Idle, Worked}
+use Rattle.engine.specs.declared.worker.WorkerRun.TheVariants.{Idle, Worked}
 use Rattle.engine.specs.declared.state.State.{State}
 use Rattle.engine.specs.Seen.{connection_seen, worker_seen, running_as, setup_in, world}
 use Rattle.engine.specs.Ending.{job_made, answer_made, EndsIn, OwesLess}
-use Rattle.engine.specs.Sound.{IsPlaced, IsSound, MayEnd, running_messages, room_on, rooms_on}
+use Rattle.engine.specs.Sound.{IsPlaced, IsReady, IsSound, MayEnd, running_messages, room_on, rooms_on}
 use Rattle.engine.specs.Words.{Does}
+use Rattle.engine.specs.Workers.{worker_with}
 use Rattle.engine.proofs.Lists.{all-at}
-use Rattle.engine.proofs.Workers.{seen-at, seen-changed, count-changed}
+use Rattle.engine.proofs.Workers.{seen-at, seen-ran, count-changed}
 use Rattle.engine.proofs.Closing.{seen-at as connection-at}
 use Rattle.engine.proofs.Ends.{lent-here, ToldAs, served-as, fits-as, finished-as, told-as, left-as, server-kept, parts-kept}
 use Rattle.engine.proofs.Ended.{back-world, ended-world, count-ended, owes-after}
@@ -68,31 +70,43 @@ again r a = record r.message { affinity = a }
 abbrev held : State → FilerBooks Files Job JobReply
 held s = books s.desk
 
-module _ (s : State) (sound : IsSound s) (i : ℕ) (r : Running) (o : Outcome) (there : slice_get s.workers.items i ≡ Some (Worked r o)) where
-  seen : slice_get (world s).workers i ≡ Some (worker_seen (Worked r o))
-  seen = seen-at s.workers.items i (Worked r o) there
+module _ (s : State) (sound : IsSound s) (i : ℕ) (r : Running) (o : Outcome) (hand : Hand)
+    (there : slice_get s.workers.items i ≡ Some (worker_with (Worked r o) hand)) where
+  -- the worker, before and after
+  abbrev ran : Worker
+  ran = worker_with (Worked r o) hand
+
+  abbrev done_with : Worker
+  done_with = worker_with Idle hand
+
+  seen : slice_get (world s).workers i ≡ Some (worker_seen ran)
+  seen = seen-at s.workers.items i ran there
 
   lent : (l : Lent (FilerParcel Files)) × HasLent (held s) i l
-  lent = lent-here job_of job_reply_of (setup_in s) (world s) (held s) sound.stands i (worker_seen (Worked r o)) seen (came r o) refl
+  lent = lent-here job_of job_reply_of (setup_in s) (world s) (held s) sound.stands i (worker_seen ran) seen (came r o) refl
 
   did : HasOutcome (setup_in s) (held s) (came r o) lent.0 (Some (outcome_of o))
-  did = run-on job_of job_reply_of (setup_in s) (world s) (held s) sound.stands i (worker_seen (Worked r o)) seen (came r o) refl (outcome_of o) refl
+  did = run-on job_of job_reply_of (setup_in s) (world s) (held s) sound.stands i (worker_seen ran) seen (came r o) refl (outcome_of o) refl
       lent.0 lent.1
 
   -- its message is of a connection, and what it came to may be told
   pub ready : IsPlaced (layout_in s.calls) (length s.connections.items) r.message × MayEnd (layout_in s.calls) r.message o
-  ready = all-at _ s.workers.items i (Worked r o) sound.workers there
+  ready = (all-at _ s.workers.items i ran sound.workers there).0
+
+  -- and what it carries is a batch
+  still_ready : IsReady (layout_in s.calls) (length s.connections.items) done_with
+  still_ready = (tt, (all-at _ s.workers.items i ran sound.workers there).1)
 
   -- a message runs
   pub some_run : 0 < running_count s.calls
   some_run =
-      let counted = count-changed s.workers.items i (Worked r o) Idle there in
+      let counted = count-changed s.workers.items i ran done_with there in
       let are = sound.running in
       omega (arith, counted, are)
 
   happens : Events (setup_in s) (world s) (events.Finish i) (Ok (told_of (setup_in s) (world s) (came r o) (outcome_of o)))
       (finished_by (setup_in s) (world s) i (came r o) (outcome_of o))
-  happens = finish-happens (setup_in s) (world s) i (worker_seen (Worked r o)) (came r o) (outcome_of o) seen refl refl
+  happens = finish-happens (setup_in s) (world s) i (worker_seen ran) (came r o) (outcome_of o) seen refl refl
 
   -- ---- it moves
 
@@ -102,7 +116,7 @@ module _ (s : State) (sound : IsSound s) (i : ℕ) (r : Running) (o : Outcome) (
     may_go_back = record {
       lent = lent.0;
       is_lent = lent.1;
-      unchanged = moved-unchanged job_of job_reply_of (setup_in s) (world s) (held s) sound.stands i (worker_seen (Worked r o)) seen (came r o) refl
+      unchanged = moved-unchanged job_of job_reply_of (setup_in s) (world s) (held s) sound.stands i (worker_seen ran) seen (came r o) refl
           (outcome_of o) refl lent.0 lent.1 (affinity_of a) (ap outcome_of is);
     }
 
@@ -113,7 +127,7 @@ module _ (s : State) (sound : IsSound s) (i : ℕ) (r : Running) (o : Outcome) (
     pub again_admitted : IsAdmitted (layout_in s.calls) (again r a)
     again_admitted = record { offered = ready.0.admitted.offered; node = moves.0; room = ready.0.admitted.room }
 
-    module _ (new : State) (h : IsChanged s new i (Worked r o) Idle) (connections : new.connections.items ≡ s.connections.items)
+    module _ (new : State) (h : IsChanged s new i ran done_with) (connections : new.connections.items ≡ s.connections.items)
         (opened : new.open_count ≡ s.open_count) (kept : IsKept new.desk) (back : HasPutBack (held s) i (held new))
         (waits : calls.HasPutBack s.calls (again r a) new.calls) where
       back_layout : (held new).layout ≡ (held s).layout
@@ -124,7 +138,7 @@ module _ (s : State) (sound : IsSound s) (i : ℕ) (r : Running) (o : Outcome) (
 
       back_is : world new ≡ finished_by (setup_in s) (world s) i (came r o) (tasks.Moved (affinity_of a))
       back_is = back-world (world s) s.calls new.calls (again r a) (record { waiting = refl; finished = refl }) waits (setup_in s) new.connections.items
-          (ap (λ (cs : List Connection). map connection_seen cs) connections) s.workers.items new.workers.items i refl h.set (came r o) (affinity_of a) refl
+          (ap (λ (cs : List Connection). map connection_seen cs) connections) s.workers.items new.workers.items i (Worked r o) hand refl there h.set (came r o) (affinity_of a) refl
           (server_of (filer_contents (held new).layout (now (held new)))) (all_parts (filer_contents (held new).layout (now (held new)))) (stamps (held new))
           (server-kept (held s) (held new) back_layout back.same) (parts-kept (held s) (held new) back_layout back.same) back_stamps
 
@@ -132,7 +146,7 @@ module _ (s : State) (sound : IsSound s) (i : ℕ) (r : Running) (o : Outcome) (
       back_events = (
         happens.0,
         (
-          worker_seen (Worked r o),
+          worker_seen ran,
           came r o,
           outcome_of o,
           seen,
@@ -144,10 +158,10 @@ module _ (s : State) (sound : IsSound s) (i : ℕ) (r : Running) (o : Outcome) (
       )
 
       back_stand : StandsFor job_of job_reply_of (setup_in s) (world new) (held new)
-      back_stand = back-stands job_of job_reply_of (setup_in s) (world s) (held s) sound.stands i (worker_seen (Worked r o)) seen (came r o) refl
+      back_stand = back-stands job_of job_reply_of (setup_in s) (world s) (held s) sound.stands i (worker_seen ran) seen (came r o) refl
           (outcome_of o) refl (held new) back (book-apart _ (held new) _ kept) (world new) (server-kept (held s) (held new) back_layout back.same)
           (parts-kept (held s) (held new) back_layout back.same) waits.finished back_stamps
-          (ap (λ (ks : List Worker). map worker_seen ks) h.set ∙ seen-changed s.workers.items i Idle)
+          (ap (λ (ks : List Worker). map worker_seen ks) h.set ∙ seen-ran s.workers.items i (Worked r o) Idle hand there)
 
       pub back_sound : IsSound new
       back_sound = record {
@@ -162,7 +176,7 @@ module _ (s : State) (sound : IsSound s) (i : ℕ) (r : Running) (o : Outcome) (
         waiting = all_placed h (messages_of s.calls ++ again r a ∷ []) waits.back
             (all-append (IsPlaced (layout_in s.calls) (length s.connections.items)) (messages_of s.calls) (again r a ∷ []) sound.waiting
             (record { admitted = again_admitted; known = ready.0.known; run = moves.1 }, tt));
-        workers = all_ready h sound tt;
+        workers = all_ready h sound still_ready;
         few = still_few h sound;
         stamps = (let same = back_stamps in let most = sound.stamps in let left = waits.running in omega (arith, same, most, left));
         opened = opened ∙ sound.opened ∙ ap (λ (cs : List Connection). open_count (map connection_seen cs)) (sym connections);
@@ -178,7 +192,7 @@ module _ (s : State) (sound : IsSound s) (i : ℕ) (r : Running) (o : Outcome) (
   module _ (reply : Reply) (starved : Bool) (is : ToldAs o reply starved) where
     -- it may be entered
     pub may_be_entered : MayFinish (machine_in s.desk) (held s) i (job_made r starved) (answer_made reply)
-    may_be_entered = may-finish job_of job_reply_of (setup_in s) (world s) (held s) sound.stands i (worker_seen (Worked r o)) seen (came r o) refl
+    may_be_entered = may-finish job_of job_reply_of (setup_in s) (world s) (held s) sound.stands i (worker_seen ran) seen (came r o) refl
         (outcome_of o) refl lent.0 lent.1 starved (reply_of reply) (job_made r starved) (answer_made reply) refl refl
         (served-as (setup_in s) (held s) (came r o) lent.0 o reply starved is did)
 
@@ -186,7 +200,7 @@ module _ (s : State) (sound : IsSound s) (i : ℕ) (r : Running) (o : Outcome) (
     pub reply_fits : length (reply_record r.message.origin.xid (reply_of reply)) ≤ r.message.room
     reply_fits = fits-as (layout_in s.calls) r.message o reply starved is ready.1
 
-    module _ (new : State) (h : IsChanged s new i (Worked r o) Idle) (place place' : Connection) (count : ℕ)
+    module _ (new : State) (h : IsChanged s new i ran done_with) (place place' : Connection) (count : ℕ)
         (at : slice_get s.connections.items r.message.origin.connection.0 ≡ Some place)
         (put : new.connections.items ≡ slice_set s.connections.items r.message.origin.connection.0 place')
         (opened : new.open_count ≡ s.open_count) (kept : IsKept new.desk)
@@ -202,7 +216,7 @@ module _ (s : State) (sound : IsSound s) (i : ℕ) (r : Running) (o : Outcome) (
 
       ended_is : world new ≡ finish (setup_in s) (stamp_added (without_call (world s) i)) (finished_call (came r o) starved) (reply_of reply)
       ended_is = ended-world (world s) s.calls new.calls place place' r (reply_of reply) starved count ends (setup_in s) refl
-          (record { waiting = refl; finished = refl }) s.connections.items new.connections.items refl at put s.workers.items new.workers.items i refl h.set
+          (record { waiting = refl; finished = refl }) s.connections.items new.connections.items refl at put s.workers.items new.workers.items i (Worked r o) hand refl there h.set
           (server_of (filer_contents (held new).layout (now (held new)))) (all_parts (filer_contents (held new).layout (now (held new)))) (stamps (held new))
           (server-kept (held s) (held new) done_layout done.same) (parts-kept (held s) (held new) done_layout done.same) more_stamps
 
@@ -216,7 +230,7 @@ module _ (s : State) (sound : IsSound s) (i : ℕ) (r : Running) (o : Outcome) (
       ended_events = (
         happens.0,
         (
-          worker_seen (Worked r o),
+          worker_seen ran,
           came r o,
           outcome_of o,
           seen,
@@ -228,11 +242,11 @@ module _ (s : State) (sound : IsSound s) (i : ℕ) (r : Running) (o : Outcome) (
       )
 
       ended_stand : StandsFor job_of job_reply_of (setup_in s) (world new) (held new)
-      ended_stand = finished-stands job_of job_reply_of (setup_in s) (world s) (held s) sound.stands i (worker_seen (Worked r o)) seen (came r o) refl
+      ended_stand = finished-stands job_of job_reply_of (setup_in s) (world s) (held s) sound.stands i (worker_seen ran) seen (came r o) refl
           (outcome_of o) refl starved (reply_of reply) (job_made r starved) (answer_made reply) refl refl (held new) done (book-apart _ (held new) _ kept)
           (world new) (left-as (came r o) o reply starved is) (server-kept (held s) (held new) done_layout done.same)
           (parts-kept (held s) (held new) done_layout done.same) leaves.finished more_stamps
-          (ap (λ (ks : List Worker). map worker_seen ks) h.set ∙ seen-changed s.workers.items i Idle)
+          (ap (λ (ks : List Worker). map worker_seen ks) h.set ∙ seen-ran s.workers.items i (Worked r o) Idle hand there)
 
       -- the room that messages keep is less by that of the message
       rooms_left : (q : ℕ) → rooms_on q new + room_on q r.message ≡ rooms_on q s
@@ -252,7 +266,7 @@ module _ (s : State) (sound : IsSound s) (i : ℕ) (r : Running) (o : Outcome) (
             let left = leaves.running in
             let are : length (running_messages new.workers.items) ≡ running_count new.calls = omega (arith, counted, were, left) in are);
         waiting = all_placed h (messages_of s.calls) leaves.waiting sound.waiting;
-        workers = all_ready h sound tt;
+        workers = all_ready h sound still_ready;
         few = still_few h sound;
         stamps = (let more = more_stamps in let most = sound.stamps in let left = leaves.running in omega (arith, more, most, left));
         opened = opened ∙ sound.opened

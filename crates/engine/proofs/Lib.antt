@@ -8,8 +8,14 @@ mod Ended
 mod Changed
 mod Finishes
 mod Placed
+mod Batches
+mod Tended
+mod Made
+mod Carried
+mod Free
 mod Reconnected
 mod Closing
 mod Received
 pub mod Worked
 pub mod Opened
+mod Counted

@@ -30,29 +30,29 @@ use Rattle.engine_feed.specs.Seen.{layout_in, messages_of, message_of, waiting_o
 use Rattle.engine_feed.specs.Streams.{codec}
 use Rattle.engine_feed.specs.Words.{AreNew}
 use Rattle.engine.specs.declared.worker.Worker as workers
-use Rattle.engine.specs.declared.worker.Worker.TheVariants.{Idle}
 use Rattle.engine.specs.declared.connection.Connection as connecting
 use Rattle.engine.specs.Seen.{connection_seen, worker_seen, setup_of}
 use Rattle.engine.specs.Sound.{running_messages, IsReady}
+use Rattle.engine.specs.Workers.{idle_worker}
 
 -- ---- idle workers
 
-idle-seen : (n : ℕ) → map worker_seen (replicate n Idle) ≡ replicate n (record { running = None; hand = Empty })
+idle-seen : (n : ℕ) → map worker_seen (replicate n idle_worker) ≡ replicate n (record { running = None; hand = Empty })
 idle-seen zero = refl
-idle-seen (suc n) = ap (λ ks. worker_seen Idle ∷ ks) (idle-seen n)
+idle-seen (suc n) = ap (λ ks. worker_seen idle_worker ∷ ks) (idle-seen n)
 
-idle-run : (n : ℕ) → running_messages (replicate n Idle) ≡ []
+idle-run : (n : ℕ) → running_messages (replicate n idle_worker) ≡ []
 idle-run zero = refl
 idle-run (suc n) = idle-run n
 
-idle-ready : (layout : Layout) (connections n : ℕ) → AllByRecursion (IsReady layout connections) (replicate n Idle)
+idle-ready : (layout : Layout) (connections n : ℕ) → AllByRecursion (IsReady layout connections) (replicate n idle_worker)
 idle-ready layout connections zero = tt
-idle-ready layout connections (suc n) = (tt, idle-ready layout connections n)
+idle-ready layout connections (suc n) = ((tt, tt), idle-ready layout connections n)
 
 -- so many idle workers: how many they are, what is seen of them, and what they run
-module _ (ks : List workers.Worker) (n : ℕ) (are : ks ≡ replicate n Idle) where
+module _ (ks : List workers.Worker) (n : ℕ) (are : ks ≡ replicate n idle_worker) where
   pub idle-count : length ks ≡ n
-  idle-count = ap (λ (xs : List workers.Worker). length xs) are ∙ length-replicate n Idle
+  idle-count = ap (λ (xs : List workers.Worker). length xs) are ∙ length-replicate n idle_worker
 
   pub idle-workers : map worker_seen ks ≡ replicate n (record { running = None; hand = Empty })
   idle-workers = ap (λ xs. map worker_seen xs) are ∙ idle-seen n
@@ -104,7 +104,7 @@ pub record AreOpened {P : Type 0} (verifier : List ℕ) (b : FilerBooks P Job Jo
   pub given : Layout
   pub new : AreNew given calls
   pub same : given ≡ layout
-  pub workers : ks ≡ replicate count Idle
+  pub workers : ks ≡ replicate count idle_worker
   pub none : connections ≡ []
 
 module _ {P : Type 0} (verifier : List ℕ) (b : FilerBooks P Job JobReply) (calls : CallsState) (ks : List workers.Worker)

@@ -8,21 +8,25 @@ use Rattle.scheduler.specs.declared.message.Message.{Message}
 use Rattle.depot_rule.specs.Sums.{total}
 use Rattle.engine_laws.specs.lemmas.Feeding.{all-append}
 use Rattle.engine.specs.declared.worker.Worker.{Worker}
-use Rattle.engine.specs.declared.worker.Worker.TheVariants.{Idle, Begun, Worked}
-use Rattle.engine.specs.Sound.{IsPlaced, IsReady, messages_in, running_messages, room_on}
+use Rattle.engine.specs.declared.worker.WorkerRun.{WorkerRun}
+use Rattle.engine.specs.declared.worker.WorkerRun.TheVariants.{Idle, Begun, Worked}
+use Rattle.engine.specs.Sound.{IsPlaced, IsRunReady, IsReady, messages_in, running_messages, room_on}
 
 -- ---- where more connections were opened
 
 pub placed-later : (layout : Layout) (n k : ℕ) → n ≤ k → (m : Message Call) → IsPlaced layout n m → IsPlaced layout k m
 placed-later layout n k h m p = record { admitted = p.admitted; known = let q = p.known in omega (arith, h, q); run = p.run }
 
+run-later : (layout : Layout) (n k : ℕ) → n ≤ k → (run : WorkerRun) → IsRunReady layout n run → IsRunReady layout k run
+run-later layout n k h Idle p = tt
+run-later layout n k h (Begun r) p = placed-later layout n k h r.message p
+run-later layout n k h (Worked r outcome) p = (placed-later layout n k h r.message p.0, p.1)
+
 pub ready-later : (layout : Layout) (n k : ℕ) → n ≤ k → (w : Worker) → IsReady layout n w → IsReady layout k w
-ready-later layout n k h Idle p = tt
-ready-later layout n k h (Begun r) p = placed-later layout n k h r.message p
-ready-later layout n k h (Worked r outcome) p = (placed-later layout n k h r.message p.0, p.1)
+ready-later layout n k h w p = (run-later layout n k h w.run p.0, p.1)
 
 -- what workers run is placed
-pub ready-placed : (layout : Layout) (n : ℕ) (w : Worker) → IsReady layout n w → AllByRecursion (IsPlaced layout n) (messages_in w)
+pub ready-placed : (layout : Layout) (n : ℕ) (run : WorkerRun) → IsRunReady layout n run → AllByRecursion (IsPlaced layout n) (messages_in run)
 ready-placed layout n Idle p = tt
 ready-placed layout n (Begun r) p = (p, tt)
 ready-placed layout n (Worked r outcome) p = (p.0, tt)
@@ -31,7 +35,7 @@ pub all-ready-placed : (layout : Layout) (n : ℕ) (ws : List Worker) → AllByR
     → AllByRecursion (IsPlaced layout n) (running_messages ws)
 all-ready-placed layout n [] p = tt
 all-ready-placed layout n (w ∷ ws) p =
-    all-append (IsPlaced layout n) (messages_in w) (running_messages ws) (ready-placed layout n w p.0) (all-ready-placed layout n ws p.1)
+    all-append (IsPlaced layout n) (messages_in w.run) (running_messages ws) (ready-placed layout n w.run p.0.0) (all-ready-placed layout n ws p.1)
 
 -- ---- rooms
 

@@ -7,6 +7,7 @@ use Rattle.nfs_model.specs.Types as types
 use Rattle.nfs_model.specs.Types.{Moment, Asked, Ask, Credential}
 use Rattle.nfs_model.specs.Tree.{Layout, Affinity}
 use Rattle.nfs_model.specs.Server.{Server, opening}
+use Rattle.nfs_model.specs.Parts.{Hand}
 use Rattle.nfs_model.specs.Serial.Step.{serial}
 use Rattle.nfs_model.specs.Replay.{FinishedCall, server_after}
 use Rattle.nfs_model.specs.Work as tasks
@@ -48,10 +49,11 @@ use Rattle.engine_feed.specs.lemmas.Codec.{reply_record_is}
 use Rattle.engine_feed.specs.Sound.{IsAdmitted}
 use Rattle.engine.specs.declared.worker.Running.{Running}
 use Rattle.engine.specs.declared.worker.Worker.{Worker}
-use Rattle.engine.specs.declared.worker.Worker.TheVariants.{Begun, Worked}
+use Rattle.engine.specs.declared.worker.WorkerRun.TheVariants.{Begun, Worked}
 use Rattle.engine.specs.Seen.{running_as, running_seen, worker_seen, done_of, told_of}
+use Rattle.engine.specs.Workers.{worker_with}
 use Rattle.engine.specs.Sound.{messages_in, running_messages, MayEnd}
-use Rattle.engine.proofs.Workers.{seen-changed}
+use Rattle.engine.proofs.Workers.{seen-ran, one-worker}
 
 -- ---- the reply fits its room
 
@@ -204,12 +206,12 @@ module _ {P C R : Type 0} (job : C → jobs.Job) (told : R → jobs.JobReply) (s
 -- ---- the workers
 
 -- a worker that runs the same message
-pub running-set : (ks : List Worker) (i : ℕ) (j k : Worker) → slice_get ks i ≡ Some j → messages_in k ≡ messages_in j
+pub running-set : (ks : List Worker) (i : ℕ) (j k : Worker) → slice_get ks i ≡ Some j → messages_in k.run ≡ messages_in j.run
     → running_messages (slice_set ks i k) ≡ running_messages ks
 running-set [] i j k there same = refl
 running-set (x ∷ ks) zero j k there same =
-    let at : x ≡ j = cc in ap (λ ms. ms ++ running_messages ks) (same ∙ ap messages_in (sym at))
-running-set (x ∷ ks) (suc i) j k there same = ap (λ ms. messages_in x ++ ms) (running-set ks i j k there same)
+    let at : x ≡ j = cc in ap (λ ms. ms ++ running_messages ks) (same ∙ ap (λ (x : Worker). messages_in x.run) (sym at))
+running-set (x ∷ ks) (suc i) j k there same = ap (λ ms. messages_in x.run ++ ms) (running-set ks i j k there same)
 
 pub few-stamps : (stamps running : ℕ) → stamps + running ≤ 2 ^ 62 + 64 → stamps < too_many
 few-stamps stamps running few = omega (arith, few)
@@ -231,11 +233,11 @@ world_with w c ks = record w {
   stamps = stamps c;
 }
 
-pub worked-world : {P : Type 0} (w : World) (c : FilerBooks P Job JobReply) (ks ls : List Worker) (i : ℕ) (r : Running) (o : Outcome)
-    → w.workers ≡ map worker_seen ks → ls ≡ slice_set ks i (Worked r o) → stamps c ≡ w.stamps
+pub worked-world : {P : Type 0} (w : World) (c : FilerBooks P Job JobReply) (ks ls : List Worker) (i : ℕ) (r : Running) (o : Outcome) (hand : Hand)
+    → w.workers ≡ map worker_seen ks → slice_get ks i ≡ Some (worker_with (Begun r) hand) → ls ≡ slice_set ks i (worker_with (Worked r o) hand) → stamps c ≡ w.stamps
     → world_with w c ls ≡ worked w i (running_as r None) (outcome_of o) (stored_all (filer_contents c.layout (now c)))
-worked-world w c ks ls i r o seen are same = λ j. record w {
-  workers = (ap (λ xs. map worker_seen xs) are ∙ seen-changed ks i (Worked r o)
+worked-world w c ks ls i r o hand seen there are same = λ j. record w {
+  workers = (ap (λ xs. map worker_seen xs) are ∙ seen-ran ks i (Begun r) (Worked r o) hand there
       ∙ ap (λ xs. changed_at (with_running (running_seen (Worked r o))) xs i) (sym seen)) j;
   server = server_of (filer_contents c.layout (now c));
   parts = all_parts (filer_contents c.layout (now c));
@@ -243,5 +245,7 @@ worked-world w c ks ls i r o seen are same = λ j. record w {
 }
 
 -- one place holds one message
-pub same-begun : (ks : List Worker) (i : ℕ) (q r : Running) → slice_get ks i ≡ Some (Begun r) → slice_get ks i ≡ Some (Begun q) → q ≡ r
-same-begun ks i q r there again = cc
+pub same-begun : (ks : List Worker) (i : ℕ) (q r : Running) (hand other : Hand) → slice_get ks i ≡ Some (worker_with (Begun r) hand)
+    → slice_get ks i ≡ Some (worker_with (Begun q) other) → q ≡ r
+same-begun ks i q r hand other there again =
+    let both = (one-worker (slice_get ks i) (Begun r) (Begun q) hand other there again).0 in cc

@@ -23,8 +23,8 @@ use Rattle.engine.specs.declared.event.Done.{Done}
 use Rattle.engine.specs.declared.event.Refusal.{Refusal}
 use Rattle.engine.specs.declared.event.Refusal.TheVariants.{Busy, Worn, NoSuchRange, NoMemory}
 use Rattle.engine.specs.declared.state.State.{State}
-use Rattle.engine.specs.declared.worker.Worker.{Worker}
 use Rattle.engine.specs.declared.worker.WorkerRun.TheVariants.{Idle}
+use Rattle.engine.specs.Workers.{worker_with}
 use Rattle.engine.specs.Seen.{setup_in, world, answer_of}
 
 -- ---- on a desk
@@ -80,10 +80,9 @@ call_to_put (Dead volume (b ∷ blocks)) = Some (Free volume (range_of (b ∷ bl
 
 -- an idle worker may make an inner call with what is in its hand
 pub record MayTend (s : State) (worker : ℕ) (call : InnerCall) : Type 0 where
-  pub place : Worker
-  pub there : slice_get s.workers.items worker ≡ Some place
-  pub idle : place.run ≡ Idle
-  pub fits : IsHandFor call place.hand
+  pub hand : Hand
+  pub there : slice_get s.workers.items worker ≡ Some (worker_with Idle hand)
+  pub fits : IsHandFor call hand
   pub node : IsNode (setup_in s).layout (inner_node call)
 
 -- the range that it would fetch from isn't in use

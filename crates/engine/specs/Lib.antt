@@ -8,5 +8,6 @@ pub mod Ending
 pub mod Receiving
 pub mod Engine
 pub mod Words
+pub mod Counted
 pub mod Shown
 pub mod Codes

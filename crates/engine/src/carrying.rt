@@ -1,9 +1,11 @@
 //! What workers carry between the parts of a volume.
 
-ghost use Rattle.std.specs.Prelude.{◌≡◌, option_map};
+ghost use Rattle.std.specs.Prelude.{◌≡◌, ◌&&◌, length, map, nat_lt, option_map, slice_get};
 ghost use Rattle.nfs_model.specs.Events.Refusals as event;
 ghost use Rattle.service.specs.Jobs.{inner_of};
+ghost use Rattle.engine_feed.specs.Seen.{layout_in};
 ghost use Rattle.engine.specs.Inner.{call_to_put};
+ghost use Rattle.engine.specs.Seen.{worker_seen};
 ghost use Rattle.engine.specs.Sound.{IsSound};
 ghost use Rattle.engine.specs.Words.{Does, HasItsSetup};
 
@@ -11,18 +13,24 @@ use crate::event::{Done, Refusal};
 use crate::inner::tend;
 use crate::state::{RANGES, State};
 use crate::worker::{Worker, has_empty_hand, is_idle};
+use engine_feed::Calls;
 use nfs_values::VolumeNumber;
 use parcel_sets::Hand;
 use service::{BatchInHand, InnerCall};
 
 /// Whether a worker is there, runs nothing and carries nothing.
-fn is_free(workers: &[Worker], worker: usize) -> bool {
+fn is_free(workers: &[Worker], worker: usize) -> bool
+    ensures { let at = slice_get (map worker_seen workers.now) worker in
+        result ≡ (event.is_idle at && event.has_empty_hand at) }
+{
     is_idle(workers, worker) && has_empty_hand(workers, worker)
 }
 
 /// Whether a volume is there.
-fn has_volume(state: &State, volume: VolumeNumber) -> bool {
-    (volume.0 as usize) < state.desk.layout().volume_count()
+fn has_volume(calls: &Calls, volume: VolumeNumber) -> bool
+    ensures { result ≡ nat_lt volume.0 (length (layout_in calls.now).volumes) }
+{
+    (volume.0 as usize) < calls.layout().volume_count()
 }
 
 /// Free blocks of a range, up to 64 and the lowest first, come into the empty hand of an idle
@@ -41,7 +49,10 @@ pub(crate) fn fetch(
     if !is_free(&state.workers, worker) {
         return Err(Refusal::WorkerBusy);
     }
-    if !has_volume(state, volume) || range >= RANGES {
+    if !has_volume(&state.calls, volume) {
+        return Err(Refusal::NoSuchRange);
+    }
+    if range >= RANGES {
         return Err(Refusal::NoSuchRange);
     }
     tend(state, worker, InnerCall::Fetch { volume, range })
@@ -61,7 +72,7 @@ pub(crate) fn cull(
     if !is_free(&state.workers, worker) {
         return Err(Refusal::WorkerBusy);
     }
-    if !has_volume(state, volume) {
+    if !has_volume(&state.calls, volume) {
         return Err(Refusal::NoSuchRange);
     }
     tend(state, worker, InnerCall::Cull { volume })
@@ -117,7 +128,7 @@ pub(crate) fn survey(
     if !is_free(&state.workers, worker) {
         return Err(Refusal::WorkerBusy);
     }
-    if !has_volume(state, volume) {
+    if !has_volume(&state.calls, volume) {
         return Err(Refusal::NoSuchRange);
     }
     tend(state, worker, InnerCall::Survey { volume })

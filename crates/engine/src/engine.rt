@@ -1,11 +1,13 @@
 //! The engine: connections, calls on their way, workers, and the parcels that calls run on.
 
-ghost use Rattle.std.specs.Prelude.{◌≡◌, ◌≤◌, List, ℕ, length, map, slice_get, IfOk};
+ghost use Rattle.std.specs.Prelude.{◌≡◌, ◌≤◌, List, ℕ, length, map, option_map, slice_get, IfOk};
+ghost use Rattle.nfs_model.specs.World.{counts_of};
 ghost use Rattle.nfs_model.specs.Headline.{opening_world};
 ghost use Rattle.affinity_tree.specs.Layout.{layout_of};
 ghost use Rattle.engine_feed.specs.Seen.{entry_of};
+ghost use Rattle.service_counts.specs.Counts.{parts_told, world_counts};
 ghost use Rattle.engine.specs.Engine.{output_in, stream_in};
-ghost use Rattle.engine.specs.Seen.{event_of, worker_seen, setup_of};
+ghost use Rattle.engine.specs.Seen.{event_of, worker_seen, setup_of, world};
 ghost use Rattle.engine.specs.Shown.{setup_in, Does, HasRun, HasPlayed, HasHeadline, HasItsSetup};
 ghost use Rattle.engine.specs.Sound.{IsSound};
 ghost use Rattle.engine.specs.Words as words;
@@ -14,6 +16,7 @@ use crate::beginning::begin;
 use crate::carrying::{cull, fetch, put_down, survey};
 use crate::connecting::{close_connection, open_connection};
 use crate::connection::Connection;
+use crate::counting::{carried, count_cull, count_put_down, stock_of};
 use crate::event::{Done, Event, Refusal};
 use crate::feeding::feed;
 use crate::finishing::finish;
@@ -26,16 +29,25 @@ use engine_feed::FinishedCall;
 use engine_feed::laws::codec_is_scan;
 use held_laws::parts_partition;
 use nfs_laws::laws::{events_keep_headline, opening_meets_headline};
+use nfs_values::VolumeNumber;
+use service_counts::{PartCounts, VolumeCounts, opening_counts};
 use std::alloc::{AllocError, Global};
 use std::marker::Model;
 
 /// Takes one event.
-fn dispatch(state: &mut State, event: Event<'_>) -> Result<Done, Refusal>
-    requires { words.IsWhole state.old }
+fn dispatch(
+    state: &mut State,
+    counts: &mut Vec<VolumeCounts>,
+    event: Event<'_>,
+) -> Result<Done, Refusal>
+    requires whole { words.IsWhole state.old }
+    requires counted { counts.old.items ≡ world_counts (world state.old) }
     ensures events { words.Does state.old (event_of event.entry) result state.new }
     ensures setup { words.HasItsSetup state.old state.new }
     ensures sound { IsSound state.new }
+    ensures counted { counts.new.items ≡ world_counts (world state.new) }
 {
+    parts_partition();
     match event {
         Event::Open => open_connection(state),
         Event::Feed { connection, bytes } => feed(state, connection, bytes),
@@ -45,15 +57,24 @@ fn dispatch(state: &mut State, event: Event<'_>) -> Result<Done, Refusal>
             place,
             moment,
         } => begin(state, worker, place, moment),
-        Event::Work { worker } => work(state, worker),
+        Event::Work { worker } => work(state, counts, worker),
         Event::Finish { worker } => finish(state, worker),
         Event::Fetch {
             worker,
             volume,
             range,
         } => fetch(state, worker, volume, range),
-        Event::Cull { worker, volume } => cull(state, worker, volume),
-        Event::PutDown { worker } => put_down(state, worker),
+        Event::Cull { worker, volume } => {
+            let answer = cull(state, worker, volume);
+            count_cull(counts, volume.0, &answer);
+            answer
+        }
+        Event::PutDown { worker } => {
+            let stock = stock_of(&state.workers, worker);
+            let answer = put_down(state, worker);
+            count_put_down(counts, stock, &answer);
+            answer
+        }
         Event::Survey { worker, volume } => survey(state, worker, volume),
     }
 }
@@ -62,12 +83,17 @@ fn dispatch(state: &mut State, event: Event<'_>) -> Result<Done, Refusal>
 /// connections are open.
 pub struct Engine {
     state: State,
+    /// By volume.
+    counts: Vec<VolumeCounts>,
 }
 
 // By hand, so that a crate that owns an engine has no proof of the drop of each of its parts.
 impl Drop for Engine {
     fn drop(self) {
-        let Engine { state: _ } = self;
+        let Engine {
+            state: _,
+            counts: _,
+        } = self;
     }
 }
 
@@ -81,11 +107,11 @@ impl Model for Engine {
     ghost coded = { Prim.hlevel (codes, coded_nodes, coded_filled) };
 
     ghost use Rattle.engine.specs.Shown.{shown};
-    ghost use Rattle.engine.specs.Words.{IsWhole};
+    ghost use Rattle.engine.specs.Counted.{IsCountedWhole};
 
     ghost view = { λ e. shown e.state };
 
-    ghost invariant = { λ e. IsWhole e.state };
+    ghost invariant = { λ e. IsCountedWhole e.state e.counts.items };
 }
 
 impl Engine {
@@ -105,8 +131,9 @@ impl Engine {
         ensures headline { IfOk result (λ engine. HasHeadline engine) }
     {
         opening_meets_headline();
+        let counts = opening_counts(alloc, &layout)?;
         let state = open(alloc, layout, verifier, workers)?;
-        Ok(Engine { state })
+        Ok(Engine { state, counts })
     }
 
     /// Takes one event. A refused one changes nothing.
@@ -118,7 +145,7 @@ impl Engine {
         codec_is_scan();
         parts_partition();
         events_keep_headline();
-        dispatch(&mut self.state, event)
+        dispatch(&mut self.state, &mut self.counts, event)
     }
 
     /// Takes events, and answers how many were refused.
@@ -176,6 +203,17 @@ impl Engine {
             Some(Connection::Open(open)) => open.stream(),
             Some(Connection::Closed(closed)) => &closed.stream,
             None => &[],
+        }
+    }
+
+    /// How many block numbers of a volume are where; nothing where there is no such volume. It
+    /// takes the same time however much is stored.
+    pub fn parts(&self, volume: VolumeNumber) -> Option<PartCounts>
+        ensures { option_map parts_told result ≡ counts_of self.now.world volume.0 }
+    {
+        match self.counts.get(volume.0 as usize) {
+            Some(counts) => Some(counts.with_hands(carried(&self.state.workers, volume.0))),
+            None => None,
         }
     }
 

@@ -16,6 +16,7 @@ use crate::state::State;
 use crate::worker::{set_hand, take_hand};
 use affinity_tree::Affinity;
 use desk::{Desk, ParcelKinds, Refusal as Refused};
+use nfs_laws::laws::batches_are_of_one_range;
 use parcel_sets::Hand;
 use service::{BatchInHand, InnerCall, InnerOutcome, Job, JobReply, RunInner, Service};
 use std::alloc::Global;
@@ -61,7 +62,9 @@ fn make(
     }
     match desk.work(worker, RunInner { alloc, call, hand }) {
         InnerOutcome::Done(reply) => {
-            desk.finish(worker, &Job::Inner(call), &reply);
+            let entry = Job::Inner(call);
+            desk.finish(worker, &entry, &reply);
+            drop(entry);
             Ok(reply)
         }
         InnerOutcome::Refused => {
@@ -110,6 +113,7 @@ pub(crate) fn tend(state: &mut State, worker: usize, call: InnerCall) -> Result<
     ensures setup { HasItsSetup state.old state.new }
     ensures sound { IsSound state.new }
 {
+    batches_are_of_one_range();
     let hand = take_hand(&mut state.workers, worker);
     match make(state.alloc, &mut state.desk, worker, call, hand) {
         Ok(reply) => {

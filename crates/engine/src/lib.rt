@@ -5,6 +5,7 @@ mod beginning;
 mod carrying;
 mod connecting;
 mod connection;
+mod counting;
 mod engine;
 mod event;
 mod feeding;
@@ -17,6 +18,7 @@ mod working;
 
 pub use engine::Engine;
 pub use engine_feed::{FinishedCall, Stop, StreamFault};
+pub use service_counts::PartCounts;
 pub use event::{Done, Event, Refusal};
 pub use service::{BatchInHand, Outcome};
 pub use worker::{Running, Worker, WorkerRun};

@@ -2,20 +2,24 @@
 
 ghost use Rattle.std.specs.Prelude.{◌≡◌, length};
 ghost use Rattle.nfs_model.specs.Events.Refusals as event;
+ghost use Rattle.desk_laws.specs.Books.{now};
 ghost use Rattle.desk_laws.specs.Calls.{MayWork, HasWorked};
 ghost use Rattle.desk.specs.Words.{books, IsKept};
 ghost use Rattle.service.specs.Running.{AsksFor};
-ghost use Rattle.engine.specs.Seen.{told_of};
+ghost use Rattle.service_counts.specs.Counts.{IsCounted, world_counts};
+ghost use Rattle.engine.specs.Seen.{told_of, world};
 ghost use Rattle.engine.specs.Working.{run_of};
 ghost use Rattle.engine.specs.Words.{Does, HasItsSetup, IsWhole};
 ghost use Rattle.engine.specs.Sound.{IsSound};
 
+use crate::counting::recount;
 use crate::event::{Done, Refusal};
 use crate::state::State;
 use crate::worker::{Running, WorkerRun, run_at, set_run, take_run};
 use desk::{Desk, ParcelKinds};
 use rpc_msg::{replies_fit, servers_are_roomy};
 use service::{Outcome, Run, Service};
+use service_counts::VolumeCounts;
 use std::alloc::Global;
 
 /// What is told of work that came to this.
@@ -36,16 +40,20 @@ fn has_eight(bytes: [u8; 8])
     ensures { length bytes ≡ 8 }
 {}
 
-/// Runs the call of a message on what its worker was lent.
+/// Runs the call of a message on what its worker was lent, and counts the volumes again that are
+/// under it.
 fn run_on(
     alloc: Global,
     desk: &mut Desk<Service, ParcelKinds>,
+    counts: &mut Vec<VolumeCounts>,
     worker: usize,
     running: &Running,
 ) -> Outcome
     requires kept { IsKept desk.old }
     requires may { MayWork (AsksFor running.now.message.call) (books desk.old) worker }
+    requires counted { let b = books desk.old in IsCounted b.layout counts.old.items (now b) }
     ensures kept { IsKept desk.new }
+    ensures counted { let b = books desk.new in IsCounted b.layout counts.new.items (now b) }
     ensures worked { HasWorked (run_of running.now) (books desk.old) worker result
         (books desk.new) }
 {
@@ -55,15 +63,23 @@ fn run_on(
         credential: running.message.credential,
         moment: running.moment,
     };
-    desk.work(worker, call)
+    let outcome = desk.work(worker, call);
+    recount(alloc, desk, counts, worker);
+    outcome
 }
 
 /// Works the message that a worker has begun, on what it was lent.
-pub(crate) fn work(state: &mut State, worker: usize) -> Result<Done, Refusal>
-    requires { IsWhole state.old }
+pub(crate) fn work(
+    state: &mut State,
+    counts: &mut Vec<VolumeCounts>,
+    worker: usize,
+) -> Result<Done, Refusal>
+    requires whole { IsWhole state.old }
+    requires counted { counts.old.items ≡ world_counts (world state.old) }
     ensures events { Does state.old (event.Work worker) result state.new }
     ensures setup { HasItsSetup state.old state.new }
     ensures sound { IsSound state.new }
+    ensures counted { counts.new.items ≡ world_counts (world state.new) }
 {
     replies_fit();
     servers_are_roomy();
@@ -71,7 +87,7 @@ pub(crate) fn work(state: &mut State, worker: usize) -> Result<Done, Refusal>
     let Some(WorkerRun::Begun(running)) = run_at(&state.workers, worker) else {
         return Err(Refusal::NoWork);
     };
-    let outcome = run_on(state.alloc, &mut state.desk, worker, running);
+    let outcome = run_on(state.alloc, &mut state.desk, counts, worker, running);
     let done = done_of(&outcome);
     let running = match take_run(&mut state.workers, worker) {
         WorkerRun::Begun(running) => running,

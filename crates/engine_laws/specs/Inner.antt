@@ -2,7 +2,7 @@
 use Rattle.std.specs.Prelude.{◌≡◌, ℕ, ◌+◌, ◌/◌, ◌<◌, [], ◌∷◌, ◌++◌, Option, Some, slice_get, slice_set}
 use Rattle.nfs_model.specs.Server.{VolumeState}
 use Rattle.nfs_model.specs.Parts.{Parts, Hand, Empty, range_blocks}
-use Rattle.nfs_model.specs.World.{World, changed_at, with_hand}
+use Rattle.nfs_model.specs.World.{World, Worker, changed_at, with_hand}
 use Rattle.affinity_tree.specs.Ancestors.{Covers}
 use Rattle.affinity_tree.specs.Numbers.{number_of, parents}
 use Rattle.depot_rule.specs.Shares.{worn}
@@ -30,7 +30,10 @@ module _ {P C R : Type 0} where
       (c : FilerBooks P C R) : Type 0 where
     pub free : IsFree b call
     pub parcels : ℕ → Option (FilerParcel P)
-    pub did : FilerSteps (parents b.layout) (number_of b.layout (inner_node call)) (Inner call) (settled b) (told reply) parcels
+    -- it is a step of the filer from whatever has under its node what the finished calls left there
+    pub did : (f : ℕ → Option (FilerParcel P)) → ((k : ℕ) → Covers (parents b.layout) (number_of b.layout (inner_node call)) k → f k ≡ settled b k)
+        → FilerSteps (parents b.layout) (number_of b.layout (inner_node call)) (Inner call) f (told reply)
+        (patched (parents b.layout) (number_of b.layout (inner_node call)) parcels f)
     pub gave : gives (Inner call) (told reply) ≡ batches_in hand
     pub entry : C
     pub is_entry : job entry ≡ Inner call
@@ -46,8 +49,11 @@ abbrev pub hand_after : JobReply → Hand
 hand_after (Took hand) = hand
 hand_after reply = Empty
 
--- An inner call moved numbers between a worker's hand and the parts of its volume, under one stamp.
+-- An inner call moved numbers between a worker's hand and the parts of its volume, under one stamp. What it gave was in the hand.
 pub record HasMoved (w : World) (worker : ℕ) (call : InnerCall) (reply : JobReply) (new : World) : Type 0 where
+  pub mover : Worker
+  pub at : slice_get w.workers worker ≡ Some mover
+  pub gave : gives (Inner call) reply ≡ batches_in mover.hand
   pub volume : VolumeState
   pub there : slice_get w.server.volumes (inner_volume call) ≡ Some volume
   pub before : Parts

@@ -8,3 +8,5 @@ pub mod Finishing
 pub mod Opening
 pub mod Happening
 pub mod Feeding
+pub mod Making
+pub mod Tending

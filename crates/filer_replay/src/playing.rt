@@ -5,10 +5,11 @@ ghost use Rattle.std.specs.Io.KnownBytes.{Appends};
 ghost use Rattle.filer_replay.specs.Lines.{line_of};
 
 use crate::fault::ProgramFault;
-use crate::printing::{print_counts, print_fault, print_output, print_refusal, say};
-use crate::script::{Script, Start};
+use crate::printing::{print_counts, print_fault, print_output, print_parts, print_refusal, say};
+use crate::script::{Request, Script, Start};
 use byteorder::{BigEndian, ByteOrder};
 use engine::{Done, Engine, Event, Refusal, Stop};
+use nfs_values::VolumeNumber;
 use std::alloc::Global;
 use std::io::{BufWriter, Read, Write};
 
@@ -117,7 +118,7 @@ fn print_done<W: Write>(
 }
 
 /// Gives an event to the engine, and prints its line. Answers whether it was refused.
-fn play<W: Write>(
+fn take<W: Write>(
     engine: &mut Engine,
     event: Event<'_>,
     out: &mut W,
@@ -135,6 +136,36 @@ fn play<W: Write>(
     }
 }
 
+/// Prints how many blocks of a volume are in each part. Answers whether there is no such volume.
+fn count<W: Write>(
+    engine: &Engine,
+    volume: VolumeNumber,
+    out: &mut W,
+) -> Result<bool, ProgramFault> {
+    match engine.parts(volume) {
+        Some(counts) => {
+            print_parts(out, counts)?;
+            Ok(false)
+        }
+        None => {
+            print_refusal(out, Refusal::NoSuchRange)?;
+            Ok(true)
+        }
+    }
+}
+
+/// Does what a line asks for, and prints its line. Answers whether it was refused.
+fn play<W: Write>(
+    engine: &mut Engine,
+    request: Request<'_>,
+    out: &mut W,
+) -> Result<bool, ProgramFault> {
+    match request {
+        Request::Event(event) => take(engine, event, out),
+        Request::Parts { volume } => count(engine, volume, out),
+    }
+}
+
 /// Plays the lines of a script up to its end, and answers whether one was refused.
 fn play_all<W: Write>(
     script: &mut Script<'_>,
@@ -144,8 +175,8 @@ fn play_all<W: Write>(
 ) -> Result<bool, ProgramFault> {
     let mut refused = false;
     while let Some(text) = script.next_line()? {
-        let event = script.event_in(text, bytes)?;
-        refused |= play(engine, event, out)?;
+        let request = script.request_in(text, bytes)?;
+        refused |= play(engine, request, out)?;
     }
     Ok(refused)
 }

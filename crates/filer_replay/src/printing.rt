@@ -9,7 +9,7 @@ ghost use Rattle.engine.specs.Numbers.{refusal_number};
 ghost use Rattle.filer_replay.specs.Lines.{spaced};
 
 use crate::fault::ProgramFault;
-use engine::Refusal;
+use engine::{PartCounts, Refusal};
 use std::fmt::Display;
 use std::io::Write;
 
@@ -106,6 +106,31 @@ pub(crate) fn print_counts<W: Write>(out: &mut W, counts: &[u32]) -> Result<(), 
     write!(out, "free").map_err(|_| ProgramFault::Output)?;
     print_numbers(out, counts)?;
     out.write_all(b"\n").map_err(|_| ProgramFault::Output)
+}
+
+/// Prints how many blocks of a volume are in each part, and in all.
+pub(crate) fn print_parts<W: Write>(out: &mut W, counts: PartCounts) -> Result<(), ProgramFault>
+    ensures line { OnOk result (Appends (W.contents out.old) (W.contents out.new)
+        (codes "files " ++ decimal counts.files ++ codes " stock " ++ decimal counts.stock
+        ++ codes " dead " ++ decimal counts.dead ++ codes " free " ++ decimal counts.free
+        ++ codes " hands " ++ decimal counts.hands ++ codes " total " ++ decimal counts.total
+        ++ 10 ∷ [])) }
+    ensures err { IfErr result (λ fault. fault ≡ ProgramFault.Output) }
+{
+    let PartCounts {
+        files,
+        stock,
+        dead,
+        free,
+        hands,
+        total,
+    } = counts;
+    say(
+        out,
+        format_args!(
+            "files {files} stock {stock} dead {dead} free {free} hands {hands} total {total}",
+        ),
+    )
 }
 
 /// Prints that a line was refused: `refused` and the number by which this is told.

@@ -10,12 +10,12 @@ mod verb;
 mod word;
 
 use crate::fault::ProgramFault;
-use crate::script::line::{LayoutLine, Unread, read_event, read_layout_line};
+pub(crate) use crate::script::line::Request;
+use crate::script::line::{LayoutLine, Unread, read_layout_line, read_request};
 use affinity_tree::{
     AggregateSpec, Layout, LayoutFault, MIB, MOST_AGGREGATES, MOST_MIB, MOST_RANGES, MOST_SPARE,
     MOST_STRIPES, MOST_VOLUMES, STRIPES, VolumeSpec,
 };
-use engine::Event;
 use std::alloc::Global;
 
 /// What ends a line.
@@ -242,14 +242,14 @@ impl<'a> Script<'a> {
         }
     }
 
-    /// The event of a line that was read last. The bytes of a feed replace those in the buffer.
-    pub(crate) fn event_in<'b>(
+    /// What the line read last asks for. The bytes of a feed replace those in the buffer.
+    pub(crate) fn request_in<'b>(
         &self,
         text: &[u8],
         bytes: &'b mut Vec<u8>,
-    ) -> Result<Event<'b>, ProgramFault> {
-        match read_event(self.alloc, text, bytes) {
-            Ok(event) => Ok(event),
+    ) -> Result<Request<'b>, ProgramFault> {
+        match read_request(self.alloc, text, bytes) {
+            Ok(request) => Ok(request),
             Err(unread) => Err(self.fault_of(unread)),
         }
     }

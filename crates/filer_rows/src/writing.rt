@@ -193,6 +193,12 @@ impl Row {
         self.put_climb(rt, "taken 84 stop 0\ngranted stripe 0 ", 3, number);
     }
 
+    /// Appends a look at the parts of volume 0, which has 1,024 blocks.
+    fn put_parts(&mut self, rt: &impl Abort, counts: &str) {
+        self.put(rt, "parts 0\n", counts);
+        self.put(rt, "", " total 1024\n");
+    }
+
     /// Runs the script, and looks at what is printed.
     fn run(&self, rt: &(impl Abort + AllocGlobal)) {
         expect(rt, self.script.as_bytes(), 0, &self.printed);
@@ -218,15 +224,19 @@ fn data_are_cut(rt: HostRuntime) {
 fn blocks_run_out_and_come_back(rt: HostRuntime) {
     let mut row = Row::begun(&rt);
     row.put_files(&rt, 63);
+    row.put_parts(&rt, "files 1024 stock 0 dead 0 free 0 hands 0");
     row.put_small(&rt, 63);
     row.put_answer(&rt, NO_SPACE);
     row.put(&rt, REMOVE, "");
     row.put(&rt, RUN, REMOVED);
+    row.put_parts(&rt, "files 1008 stock 0 dead 16 free 0 hands 0");
     row.put(&rt, "survey 1 0\ncull 1 0\n", "free 0\nhand 16\n");
+    row.put_parts(&rt, "files 1008 stock 0 dead 0 free 0 hands 16");
     row.put(&rt, "putdown 1\nsurvey 1 0\n", "put 16\nfree 16\n");
     row.put_small(&rt, 63);
     row.put_answer(&rt, BYTE_WRITTEN);
     row.put(&rt, "survey 1 0\n", "free 15\n");
+    row.put_parts(&rt, "files 1009 stock 0 dead 0 free 15 hands 0");
     row.run(&rt);
 }
 
@@ -237,9 +247,11 @@ fn blocks_in_a_hand_are_waited_for(rt: HostRuntime) {
     row.put_files(&rt, 59);
     row.put_small(&rt, 59);
     row.put(&rt, RUN, MOVED_AGAIN);
+    row.put_parts(&rt, "files 960 stock 0 dead 0 free 0 hands 64");
     row.put(&rt, RUN, MOVED_AGAIN);
     row.put(&rt, "putdown 1\n", "put 64\n");
     row.put_answer(&rt, BYTE_WRITTEN);
     row.put(&rt, "survey 1 0\n", "free 0\n");
+    row.put_parts(&rt, "files 961 stock 63 dead 0 free 0 hands 0");
     row.run(&rt);
 }

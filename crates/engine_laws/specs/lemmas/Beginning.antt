@@ -1,5 +1,5 @@
 -- A message begins: it is refused where the books say so, and else the books stand for the world in which it runs.
-use Rattle.std.proofs.Common.{◌≡◌, ℕ, zero, suc, ◌≤◌, Bool, true, false, ◌||◌, List, [], ◌∷◌, Option, Some, None, refl, sym, ap, ◌∙◌}
+use Rattle.std.proofs.Common.{◌≡◌, ℕ, zero, suc, ◌≤◌, ◌<◌, Bool, true, false, ◌||◌, List, [], ◌∷◌, Option, Some, None, refl, sym, ap, ◌∙◌}
 use Rattle.std.proofs.Common.{subst, arith, ⊎_elim, ◌⊎◌, inl, inr}
 use Rattle.std.proofs.lemmas.Bool.{or_cases, le-leb, leb-true}
 use Rattle.std.specs.Prelude.{◌^◌, if◌then◌else◌}
@@ -12,6 +12,7 @@ use Rattle.nfs_model.specs.World.{Setup, World, Message, Running, Worker, with_h
 use Rattle.nfs_model.specs.Events.Refusals.{is_busy, is_worn, excluded}
 use Rattle.nfs_model.specs.Events.Step.{begun}
 use Rattle.affinity_tree.specs.Fault.{fault_of}
+use Rattle.depot_rule.specs.Shares.{worn}
 use Rattle.desk_laws.specs.Books.{Lent, settled, now, stamps, HasLent, IsTaken, IsSame, HasHands, IsSettled}
 use Rattle.desk_laws.specs.Calls.{HasBegun, IsWorn, with_lent}
 use Rattle.held_state.specs.Parcels.{FilerParcel}
@@ -137,11 +138,14 @@ module _ {P C R : Type 0} (setup : Setup) where
         let many : 2 ^ 62 ≤ w.stamps = (let limit = worn_out.1 in omega arith) in
         told-worn (is_busy setup w a) (is_worn w) (untaken worn_out.0) (le-leb (2 ^ 62) w.stamps many)
 
-    pub told-nothing : (c : FilerBooks P C R) (i : ℕ) → HasBegun b i a c → excluded setup w a ≡ None
-    told-nothing c i h =
+    pub told-free : (IsTaken b a → ⊥) → stamps b < worn → excluded setup w a ≡ None
+    told-free free low =
         let stamps_are = s.stamps in
-        told-neither (is_busy setup w a) (is_worn w) (untaken h.free)
-        (not-true (is_worn w) (λ e. let many = leb-true (2 ^ 62) w.stamps e in let low = h.low in absurd (omega arith)))
+        told-neither (is_busy setup w a) (is_worn w) (untaken free)
+        (not-true (is_worn w) (λ e. let many = leb-true (2 ^ 62) w.stamps e in absurd (omega arith)))
+
+    pub told-nothing : (c : FilerBooks P C R) (i : ℕ) → HasBegun b i a c → excluded setup w a ≡ None
+    told-nothing c i h = told-free h.free h.low
 
     -- ---- what is begun
 

@@ -40,7 +40,7 @@ module _ {P C R : Type 0} (setup : Setup) (b : FilerBooks P C R) where
   runs-kept es xs (Some r) None same run = absurd run
   runs-kept es xs (Some r) (Some l) same run = (run.0, outcome-kept es xs r l r.outcome (same l refl) run.1)
 
-  all-kept : (es : List (Entry (FilerParcel P) C R)) (xs : List (Option (Lent (FilerParcel P)))) (ks : List Worker)
+  pub all-kept : (es : List (Entry (FilerParcel P) C R)) (xs : List (Option (Lent (FilerParcel P)))) (ks : List Worker)
       (ls : List (Option (Lent (FilerParcel P))))
       → ((j : ℕ) (l : Lent (FilerParcel P)) → get_elem? ls j ≡ some (Some l) → UnderLent b l (λ k. settled (next_books es xs) k ≡ settled b k))
       → RunOn setup b ks ls → RunOn setup (next_books es xs) ks ls

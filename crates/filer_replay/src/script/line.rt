@@ -4,7 +4,7 @@ use crate::script::verb::{Verb, verb_of};
 use crate::script::word::Words;
 use affinity_tree::VolumeSpec;
 use engine::Event;
-use nfs_values::Moment;
+use nfs_values::{Moment, VolumeNumber};
 use std::alloc::Global;
 
 /// A line of a layout.
@@ -15,6 +15,15 @@ pub(crate) enum LayoutLine {
     Volume(VolumeSpec),
     /// The end of the layout: how many workers, and the write verifier.
     Start { workers: u32, verifier: [u8; 8] },
+}
+
+/// What a line behind the layout asks for.
+#[derive(Clone, Copy)]
+pub(crate) enum Request<'a> {
+    /// That something happens to the engine.
+    Event(Event<'a>),
+    /// How many blocks of a volume are in each part.
+    Parts { volume: VolumeNumber },
 }
 
 /// Why a line can't be read.
@@ -61,26 +70,31 @@ fn volume_of(words: &mut Words<'_>) -> Result<VolumeSpec, Unread> {
     })
 }
 
-/// The event that a line says, its line feed left off. The bytes of a feed replace those in the
-/// buffer.
-pub(crate) fn read_event<'b>(
+/// What a line behind the layout asks for, its line feed left off. The bytes of a feed replace
+/// those in the buffer.
+pub(crate) fn read_request<'b>(
     alloc: Global,
     line: &[u8],
     bytes: &'b mut Vec<u8>,
-) -> Result<Event<'b>, Unread> {
+) -> Result<Request<'b>, Unread> {
     let mut words = Words::new(line);
     let verb = verb_of(words.word()?).ok_or(Unread::Form)?;
-    let event = match verb {
+    let request = match verb {
+        Verb::Parts => Request::Parts {
+            volume: words.volume()?,
+        },
         Verb::Feed => {
             let [connection] = words.places::<1>()?;
             *bytes = words.bytes(alloc)?;
-            Event::Feed { connection, bytes }
+            Request::Event(Event::Feed { connection, bytes })
         }
-        Verb::Fetch | Verb::Cull | Verb::PutDown | Verb::Survey => carrying_of(verb, &mut words)?,
-        _ => serving_of(verb, &mut words)?,
+        Verb::Fetch | Verb::Cull | Verb::PutDown | Verb::Survey => {
+            Request::Event(carrying_of(verb, &mut words)?)
+        }
+        _ => Request::Event(serving_of(verb, &mut words)?),
     };
     words.end()?;
-    Ok(event)
+    Ok(request)
 }
 
 /// An event of blocks that a worker carries in its hand, or counts.

@@ -16,10 +16,11 @@ pub(crate) enum Verb {
     Cull,
     PutDown,
     Survey,
+    Parts,
 }
 
 /// The first words of lines.
-const VERBS: [(&[u8], Verb); 13] = [
+const VERBS: [(&[u8], Verb); 14] = [
     (b"aggregate", Verb::Aggregate),
     (b"volume", Verb::Volume),
     (b"start", Verb::Start),
@@ -33,6 +34,7 @@ const VERBS: [(&[u8], Verb); 13] = [
     (b"cull", Verb::Cull),
     (b"putdown", Verb::PutDown),
     (b"survey", Verb::Survey),
+    (b"parts", Verb::Parts),
 ];
 
 /// What a line that begins with this word is of.

@@ -2,6 +2,7 @@ use Rattle.std.proofs.Common.{◌≡◌, Ok, refl, sym, ap, subst, inl, arith}
 use Rattle.std.specs.Prelude.{slice_get}
 use Rattle.std.specs.Global.{Vec}
 use Rattle.std.proofs.lemmas.Option.{slice_get_within}
+use Rattle.nfs_model.specs.Parts.{Hand}
 use Rattle.nfs_model.specs.Events.Refusals.{Begin}
 use Rattle.nfs_values.specs.Moment.{moment_of}
 use Rattle.affinity_tree.specs.declared.affinity.Affinity.{Affinity}
@@ -14,12 +15,13 @@ use Rattle.engine_feed.specs.Words.{HasBegun}
 use Rattle.engine.specs.declared.event.Done.TheVariants.{Granted}
 use Rattle.engine.specs.declared.worker.Running.{Running}
 use Rattle.engine.specs.declared.worker.Worker.{Worker}
-use Rattle.engine.specs.declared.worker.Worker.TheVariants.{Idle, Begun}
+use Rattle.engine.specs.declared.worker.WorkerRun.{WorkerRun}
+use Rattle.engine.specs.declared.worker.WorkerRun.TheVariants.{Idle, Begun}
 use Rattle.engine.specs.declared.state.State.{State}
 use Rattle.engine.specs.Seen.{worker_seen, setup_in, world}
 use Rattle.engine.specs.Words.{Does}
-use Rattle.engine.proofs.Lists.{looked-up}
-use Rattle.engine.proofs.Workers.{seen-at}
+use Rattle.engine.specs.Workers.{worker_with}
+use Rattle.engine.proofs.Workers.{seen-at, idle-there, idle-worker, one-worker}
 use Rattle.engine.proofs.Begins.{found-message, idle-lent, same-books, tried-affinity}
 use Rattle.engine.proofs.Changed.{IsChanged, same_setup, unchanged-sound}
 use Rattle.engine.proofs.Begun.{late_refused, taken_refused, worn_refused, begun_events, begun_sound}
@@ -28,10 +30,9 @@ use Rattle.engine.proofs.beginning.begin.Goals as goal
 pub begin-requires-clause-idle : goal.begin-requires-clause-idle
 begin-requires-clause-idle c =
     let s = c.args.state.now in
-    let there = looked-up c.deref.result.now s.workers.items c.args.worker c.in-Some-Idle.field-0.now Idle c.deref.ensures.value
-    c.in-Some-Idle.ensures.lookup.3.0 c.in-Some-Idle.ensures.lookup.1 c.in-Some-Idle.field-0-is in
-    idle-lent job_of job_reply_of (setup_in s) (world s) (books s.desk) c.requires.stands c.args.worker (worker_seen Idle)
-    (seen-at s.workers.items c.args.worker Idle there) refl
+    let idle = idle-worker s.workers.items c.args.worker (idle-there s.workers.items c.deref.result.now c.args.worker c.is_idle.result c.deref.ensures.value c.is_idle.ensures c.if-not-is_idle.false) in
+    idle-lent job_of job_reply_of (setup_in s) (world s) (books s.desk) c.requires.stands c.args.worker (worker_seen (worker_with Idle idle.0))
+    (seen-at s.workers.items c.args.worker (worker_with Idle idle.0) idle.1) refl
 
 pub unreachable-requires : goal.unreachable-requires
 unreachable-requires c =
@@ -46,17 +47,15 @@ unreachable-requires c =
 pub returns-then-moment-ge-SECOND-clause-events : goal.returns-then-moment-ge-SECOND-clause-events
 returns-then-moment-ge-SECOND-clause-events c =
     let s = c.args.state.now in
-    let there = looked-up c.deref.result.now s.workers.items c.args.worker c.in-Some-Idle.field-0.now Idle c.deref.ensures.value
-    c.in-Some-Idle.ensures.lookup.3.0 c.in-Some-Idle.ensures.lookup.1 c.in-Some-Idle.field-0-is in
-    (inl (late_refused s c.requires c.args.worker c.args.place c.args.moment c.in-Some.affinity there c.in-Some.ensures.there c.if-moment-ge-SECOND.true), refl)
+    let free = idle-there s.workers.items c.deref.result.now c.args.worker c.is_idle.result c.deref.ensures.value c.is_idle.ensures c.if-not-is_idle.false in
+    (inl (late_refused s c.requires c.args.worker c.args.place c.args.moment c.in-Some.affinity free c.in-Some.ensures.there c.if-moment-ge-SECOND.true), refl)
 
 pub returns-in-Err-Taken-clause-events : goal.returns-in-Err-Taken-clause-events
 returns-in-Err-Taken-clause-events c =
     let s = c.args.state.now in
-    let there = looked-up c.deref.result.now s.workers.items c.args.worker c.in-Some-Idle.field-0.now Idle c.deref.ensures.value
-    c.in-Some-Idle.ensures.lookup.3.0 c.in-Some-Idle.ensures.lookup.1 c.in-Some-Idle.field-0-is in
+    let free = idle-there s.workers.items c.deref.result.now c.args.worker c.is_idle.result c.deref.ensures.value c.is_idle.ensures c.if-not-is_idle.false in
     let taken = subst (λ r. IsRefused (books s.desk) (affinity_of c.in-Some.affinity) r) c.in-Err-Taken.field-0-is c.in-Err-Taken.ensures.refused in (
-      inl (taken_refused s c.requires c.args.worker c.args.place c.args.moment c.in-Some.affinity there c.in-Some.ensures.there
+      inl (taken_refused s c.requires c.args.worker c.args.place c.args.moment c.in-Some.affinity free c.in-Some.ensures.there
           c.if-moment-ge-SECOND.false taken),
       same-books (world s) (books s.desk) (books c.begin.new.self) c.in-Err-Taken.ensures.same,
     )
@@ -74,22 +73,21 @@ returns-in-Err-Worn-clause-sound c =
 pub returns-in-Err-Worn-clause-events : goal.returns-in-Err-Worn-clause-events
 returns-in-Err-Worn-clause-events c =
     let s = c.args.state.now in
-    let there = looked-up c.deref.result.now s.workers.items c.args.worker c.in-Some-Idle.field-0.now Idle c.deref.ensures.value
-    c.in-Some-Idle.ensures.lookup.3.0 c.in-Some-Idle.ensures.lookup.1 c.in-Some-Idle.field-0-is in
+    let free = idle-there s.workers.items c.deref.result.now c.args.worker c.is_idle.result c.deref.ensures.value c.is_idle.ensures c.if-not-is_idle.false in
     let worn = subst (λ r. IsRefused (books s.desk) (affinity_of c.in-Some.affinity) r) c.in-Err-Worn.field-0-is c.in-Err-Worn.ensures.refused in (
-      inl (worn_refused s c.requires c.args.worker c.args.place c.args.moment c.in-Some.affinity there c.in-Some.ensures.there
+      inl (worn_refused s c.requires c.args.worker c.args.place c.args.moment c.in-Some.affinity free c.in-Some.ensures.there
           c.if-moment-ge-SECOND.false worn),
       same-books (world s) (books s.desk) (books c.begin.new.self) c.in-Err-Worn.ensures.same,
     )
 
 -- ---- it begins
 
-module _ (c : goal.After-set_worker) where
+module _ (c : goal.After-set_run) where
   abbrev s : State
   s = c.args.state.now
 
   abbrev new : State
-  new = record s { calls = c.begin-in-Ok.new.self; workers = c.set_worker.new.workers; desk = c.begin.new.self }
+  new = record s { calls = c.begin-in-Ok.new.self; workers = c.set_run.new.workers; desk = c.begin.new.self }
 
   abbrev r : Running
   r = record { message = c.in-Ok-begin.message; moment = c.args.moment }
@@ -97,11 +95,18 @@ module _ (c : goal.After-set_worker) where
   takes : HasBegun s.calls c.args.place r.message new.calls
   takes = c.in-Ok-begin.ensures.begun
 
-  changed : IsChanged s new c.args.worker Idle (Begun r)
+  -- what the worker carries
+  abbrev hand : Hand
+  hand = c.set_run.ensures.1
+
+  changed : IsChanged s new c.args.worker (worker_with Idle hand) (worker_with (Begun r) hand)
   changed = record {
-    there = looked-up c.deref.result.now s.workers.items c.args.worker c.in-Some-Idle.field-0.now Idle c.deref.ensures.value
-        c.in-Some-Idle.ensures.lookup.3.0 c.in-Some-Idle.ensures.lookup.1 c.in-Some-Idle.field-0-is;
-    set = ap (λ (v : Vec Worker). v.items) c.set_worker.ensures;
+    there =
+        (let free = idle-there s.workers.items c.deref.result.now c.args.worker c.is_idle.result c.deref.ensures.value c.is_idle.ensures c.if-not-is_idle.false in
+        let idle = idle-worker s.workers.items c.args.worker free in
+        let same = one-worker (slice_get s.workers.items c.args.worker) Idle c.set_run.ensures.0 idle.0 hand idle.1 c.set_run.ensures.2 in
+        c.set_run.ensures.2 ∙ ap (λ (x : WorkerRun). Some (worker_with x hand)) (sym same.0));
+    set = ap (λ (v : Vec Worker). v.items) c.set_run.ensures.3;
     verifier = refl;
     layout = takes.layout;
     many = refl;
@@ -117,12 +122,12 @@ module _ (c : goal.After-set_worker) where
 pub returns-in-Ok-begin-clause-events : goal.returns-in-Ok-begin-clause-events
 returns-in-Ok-begin-clause-events c =
     subst (λ (a : Affinity). Does (s c) (Begin c.args.worker c.args.place (moment_of c.args.moment)) (Ok (Granted a)) (new c)) (sym (tried c))
-    (begun_events (s c) (new c) c.requires c.args.worker c.args.place (r c) (changed c) refl refl c.in-Ok.ensures.kept (begins c) (takes c)
+    (begun_events (s c) (new c) c.requires c.args.worker c.args.place (r c) (hand c) (changed c) refl refl c.in-Ok.ensures.kept (begins c) (takes c)
     c.if-moment-ge-SECOND.false)
 
 pub returns-in-Ok-begin-clause-sound : goal.returns-in-Ok-begin-clause-sound
 returns-in-Ok-begin-clause-sound c =
-    begun_sound (s c) (new c) c.requires c.args.worker c.args.place (r c) (changed c) refl refl c.in-Ok.ensures.kept (begins c) (takes c)
+    begun_sound (s c) (new c) c.requires c.args.worker c.args.place (r c) (hand c) (changed c) refl refl c.in-Ok.ensures.kept (begins c) (takes c)
 
 pub returns-in-Ok-begin-clause-setup : goal.returns-in-Ok-begin-clause-setup
 returns-in-Ok-begin-clause-setup c = same_setup (changed c)

@@ -16,8 +16,10 @@ use Rattle.engine.specs.declared.connection.Connection.{Connection}
 use Rattle.engine.specs.declared.connection.Connection.TheVariants.{Open}
 use Rattle.engine.specs.declared.worker.Running.{Running}
 use Rattle.engine.specs.declared.worker.Worker.{Worker}
-use Rattle.engine.specs.declared.worker.Worker.TheVariants.{Idle, Worked}
+use Rattle.engine.specs.declared.worker.WorkerRun.{WorkerRun}
+use Rattle.engine.specs.declared.worker.WorkerRun.TheVariants.{Idle, Worked}
 use Rattle.engine.specs.declared.state.State.{State}
+use Rattle.engine.specs.Workers.{worker_with}
 use Rattle.engine.specs.Ending.{EndsIn, OwesLess}
 use Rattle.engine.specs.Sound.{room_on}
 use Rattle.engine.proofs.Workers.{messages-changed}
@@ -34,29 +36,33 @@ use Rattle.engine.proofs.finishing.finish.Goals.{in-Replied, in-Starved}
 
 pub put_back-requires-clause-may : goal.put_back-requires-clause-may
 put_back-requires-clause-may c =
-    may_go_back c.args.state.now c.requires c.args.worker c.in-Worked.running c.in-Worked.outcome (c.take_worker.ensures.value ∙ ap Some c.in-Worked.is)
+    may_go_back c.args.state.now c.requires c.args.worker c.in-Worked.running c.in-Worked.outcome c.take_run.ensures.0
+    (c.take_run.ensures.1 ∙ ap (λ (x : WorkerRun). Some (worker_with x c.take_run.ensures.0)) c.in-Worked.is)
     c.in-Moved.affinity c.in-Moved.is
 
 pub put_back-requires-in-Moved-clause-runs : goal.put_back-requires-in-Moved-clause-runs
 put_back-requires-in-Moved-clause-runs c =
-    some_run c.args.state.now c.requires c.args.worker c.in-Worked.running c.in-Worked.outcome (c.take_worker.ensures.value ∙ ap Some c.in-Worked.is)
+    some_run c.args.state.now c.requires c.args.worker c.in-Worked.running c.in-Worked.outcome c.take_run.ensures.0
+    (c.take_run.ensures.1 ∙ ap (λ (x : WorkerRun). Some (worker_with x c.take_run.ensures.0)) c.in-Worked.is)
 
 pub put_back-requires-in-Moved-clause-admitted : goal.put_back-requires-in-Moved-clause-admitted
 put_back-requires-in-Moved-clause-admitted c =
-    again_admitted c.args.state.now c.requires c.args.worker c.in-Worked.running c.in-Worked.outcome (c.take_worker.ensures.value ∙ ap Some c.in-Worked.is)
+    again_admitted c.args.state.now c.requires c.args.worker c.in-Worked.running c.in-Worked.outcome c.take_run.ensures.0
+    (c.take_run.ensures.1 ∙ ap (λ (x : WorkerRun). Some (worker_with x c.take_run.ensures.0)) c.in-Worked.is)
     c.in-Moved.affinity c.in-Moved.is
 
 module _ (c : goal.After-put_back-in-Moved) where
-  there : slice_get c.args.state.now.workers.items c.args.worker ≡ Some (Worked c.in-Worked.running c.in-Worked.outcome)
-  there = c.take_worker.ensures.value ∙ ap Some c.in-Worked.is
+  there : slice_get c.args.state.now.workers.items c.args.worker ≡ Some (worker_with (Worked c.in-Worked.running c.in-Worked.outcome) c.take_run.ensures.0)
+  there = c.take_run.ensures.1 ∙ ap (λ (x : WorkerRun). Some (worker_with x c.take_run.ensures.0)) c.in-Worked.is
 
   abbrev new : State
-  new = record c.args.state.now { calls = c.put_back-in-Moved.new.self; workers = c.take_worker.new.workers; desk = c.put_back.new.self }
+  new = record c.args.state.now { calls = c.put_back-in-Moved.new.self; workers = c.take_run.new.workers; desk = c.put_back.new.self }
 
-  changed : IsChanged c.args.state.now new c.args.worker (Worked c.in-Worked.running c.in-Worked.outcome) Idle
+  changed : IsChanged c.args.state.now new c.args.worker (worker_with (Worked c.in-Worked.running c.in-Worked.outcome) c.take_run.ensures.0)
+      (worker_with Idle c.take_run.ensures.0)
   changed = record {
     there = there;
-    set = ap (λ (v : Vec Worker). v.items) c.take_worker.ensures.after;
+    set = ap (λ (v : Vec Worker). v.items) c.take_run.ensures.2;
     verifier = refl;
     layout = c.put_back-in-Moved.ensures.layout;
     many = refl;
@@ -64,12 +70,12 @@ module _ (c : goal.After-put_back-in-Moved) where
 
 pub returns-in-Moved-clause-events : goal.returns-in-Moved-clause-events
 returns-in-Moved-clause-events c =
-    back_events c.args.state.now c.requires c.args.worker c.in-Worked.running c.in-Worked.outcome (there c) c.in-Moved.affinity c.in-Moved.is
+    back_events c.args.state.now c.requires c.args.worker c.in-Worked.running c.in-Worked.outcome c.take_run.ensures.0 (there c) c.in-Moved.affinity c.in-Moved.is
     (new c) (changed c) refl refl c.put_back.ensures.kept c.put_back.ensures.back c.put_back-in-Moved.ensures
 
 pub returns-in-Moved-clause-sound : goal.returns-in-Moved-clause-sound
 returns-in-Moved-clause-sound c =
-    back_sound c.args.state.now c.requires c.args.worker c.in-Worked.running c.in-Worked.outcome (there c) c.in-Moved.affinity c.in-Moved.is
+    back_sound c.args.state.now c.requires c.args.worker c.in-Worked.running c.in-Worked.outcome c.take_run.ensures.0 (there c) c.in-Moved.affinity c.in-Moved.is
     (new c) (changed c) refl refl c.put_back.ensures.kept c.put_back.ensures.back c.put_back-in-Moved.ensures
 
 pub returns-in-Moved-clause-setup : goal.returns-in-Moved-clause-setup
@@ -83,12 +89,14 @@ end_on-running-requires-clause-may c =
       | in-Replied t ↦ inl (t.in-Replied.is ∙ ap Replied (sym (ap (λ (p : Reply × Bool). p.0) t.reply-is)), ap (λ (p : Reply × Bool). p.1) t.reply-is)
       | in-Starved t ↦ inr (t.in-Starved.is, ap (λ (p : Reply × Bool). p.0) t.reply-is, ap (λ (p : Reply × Bool). p.1) t.reply-is)
     ] in
-    may_be_entered c.args.state.now c.requires c.args.worker c.in-Worked.running c.in-Worked.outcome (c.take_worker.ensures.value ∙ ap Some c.in-Worked.is)
+    may_be_entered c.args.state.now c.requires c.args.worker c.in-Worked.running c.in-Worked.outcome c.take_run.ensures.0
+    (c.take_run.ensures.1 ∙ ap (λ (x : WorkerRun). Some (worker_with x c.take_run.ensures.0)) c.in-Worked.is)
     c.match-outcome.reply.0 c.match-outcome.reply.1 is
 
 pub index_mut-place-requires : goal.index_mut-place-requires
 index_mut-place-requires c =
-    let fits = ready c.args.state.now c.requires c.args.worker c.in-Worked.running c.in-Worked.outcome (c.take_worker.ensures.value ∙ ap Some c.in-Worked.is) in
+    let fits = ready c.args.state.now c.requires c.args.worker c.in-Worked.running c.in-Worked.outcome c.take_run.ensures.0
+    (c.take_run.ensures.1 ∙ ap (λ (x : WorkerRun). Some (worker_with x c.take_run.ensures.0)) c.in-Worked.is) in
     let known = fits.0.known in
     let size = c.args.state.now.connections.ok.0 in
     omega (arith, known, size)
@@ -105,19 +113,19 @@ module _ (c : goal.After-reply-1) where
   abbrev o : Outcome
   o = c.in-Worked.outcome
 
-  was_there : slice_get s.workers.items c.args.worker ≡ Some (Worked r o)
-  was_there = c.take_worker.ensures.value ∙ ap Some c.in-Worked.is
+  was_there : slice_get s.workers.items c.args.worker ≡ Some (worker_with (Worked r o) c.take_run.ensures.0)
+  was_there = c.take_run.ensures.1 ∙ ap (λ (x : WorkerRun). Some (worker_with x c.take_run.ensures.0)) c.in-Worked.is
 
   same : c.end_on-running.result.0 ≡ r
   same = c.end_on-running.ensures.running
 
 pub end_in-count-requires-clause-runs : goal.end_in-count-requires-clause-runs
-end_in-count-requires-clause-runs c = some_run (s c) c.requires c.args.worker (r c) (o c) (was_there c)
+end_in-count-requires-clause-runs c = some_run (s c) c.requires c.args.worker (r c) (o c) c.take_run.ensures.0 (was_there c)
 
 pub end_in-count-requires-clause-admitted : goal.end_in-count-requires-clause-admitted
 end_in-count-requires-clause-admitted c =
     subst (λ (x : Running). IsAdmitted (layout_in (s c).calls) x.message) (sym (same c))
-    (ready (s c) c.requires c.args.worker (r c) (o c) (was_there c)).0.admitted
+    (ready (s c) c.requires c.args.worker (r c) (o c) c.take_run.ensures.0 (was_there c)).0.admitted
 
 pub end_in-count-requires-clause-fits : goal.end_in-count-requires-clause-fits
 end_in-count-requires-clause-fits c =
@@ -127,16 +135,17 @@ end_in-count-requires-clause-fits c =
     ] in
     subst (λ (x : Running). length (reply_record x.message.origin.xid (reply_of c.end_on-running.result.1)) ≤ x.message.room) (sym (same c))
     (subst (λ (x : Reply). length (reply_record (r c).message.origin.xid (reply_of x)) ≤ (r c).message.room) (sym c.end_on-running.ensures.reply)
-    (reply_fits (s c) c.requires c.args.worker (r c) (o c) (was_there c) c.match-outcome.reply.0 c.match-outcome.reply.1 is))
+    (reply_fits (s c) c.requires c.args.worker (r c) (o c) c.take_run.ensures.0 (was_there c) c.match-outcome.reply.0 c.match-outcome.reply.1 is))
 
 pub end_in-count-requires-clause-owed : goal.end_in-count-requires-clause-owed
 end_in-count-requires-clause-owed c = λ x e.
     let n = (r c).message.origin.connection.0 in
-    let known = (ready (s c) c.requires c.args.worker (r c) (o c) (was_there c)).0.known in
+    let known = (ready (s c) c.requires c.args.worker (r c) (o c) c.take_run.ensures.0 (was_there c)).0.known in
     let at : slice_get (s c).connections.items n ≡ Some (Open x) =
     found (s c).connections.items n c.index_mut-place.result.now (Open x) known c.index_mut-place.ensures.value e in
     let owed = c.requires.owed n x at in
-    let changed = messages-changed (room_on n) (s c).workers.items c.args.worker (Worked (r c) (o c)) Idle (was_there c) in
+    let changed = messages-changed (room_on n) (s c).workers.items c.args.worker (worker_with (Worked (r c) (o c)) c.take_run.ensures.0) (worker_with Idle c.take_run.ensures.0)
+        (was_there c) in
     let room = room-own n (r c).message refl in
     subst (λ (y : Running). y.message.room ≤ owed_by x) (sym (same c)) (omega (arith, owed, changed, room))
 
@@ -168,12 +177,12 @@ module _ (c : goal.After-drop) where
   after = record before {
     connections = with_item before.connections number left;
     calls = c.end_in-count.new.calls;
-    workers = c.take_worker.new.workers;
+    workers = c.take_run.new.workers;
     desk = c.end_on-running.new.desk;
   }
 
-  here : slice_get before.workers.items c.args.worker ≡ Some (Worked ran c.in-Worked.outcome)
-  here = c.take_worker.ensures.value ∙ ap Some c.in-Worked.is
+  here : slice_get before.workers.items c.args.worker ≡ Some (worker_with (Worked ran c.in-Worked.outcome) c.take_run.ensures.0)
+  here = c.take_run.ensures.1 ∙ ap (λ (x : WorkerRun). Some (worker_with x c.take_run.ensures.0)) c.in-Worked.is
 
   is : ToldAs c.in-Worked.outcome reply starved
   is = elim c.match-outcome.branch [
@@ -182,7 +191,7 @@ module _ (c : goal.After-drop) where
   ]
 
   at : slice_get before.connections.items number ≡ Some place
-  at = found before.connections.items number place place (ready before c.requires c.args.worker ran c.in-Worked.outcome here).0.known
+  at = found before.connections.items number place place (ready before c.requires c.args.worker ran c.in-Worked.outcome c.take_run.ensures.0 here).0.known
       c.index_mut-place.ensures.value refl
 
   -- what is said of the message that comes back is so of the one that was taken
@@ -199,10 +208,11 @@ module _ (c : goal.After-drop) where
   owes : OwesLess ran.message place left
   owes = subst (λ (x : Running). OwesLess x.message place left) c.end_on-running.ensures.running c.end_in-count.ensures.owes
 
-  differs : IsChanged before after c.args.worker (Worked ran c.in-Worked.outcome) Idle
+  differs : IsChanged before after c.args.worker (worker_with (Worked ran c.in-Worked.outcome) c.take_run.ensures.0)
+      (worker_with Idle c.take_run.ensures.0)
   differs = record {
     there = here;
-    set = ap (λ (v : Vec Worker). v.items) c.take_worker.ensures.after;
+    set = ap (λ (v : Vec Worker). v.items) c.take_run.ensures.2;
     verifier = refl;
     layout = leaves.layout;
     many = length-set before.connections.items number left;
@@ -210,13 +220,13 @@ module _ (c : goal.After-drop) where
 
 pub returns-clause-events : goal.returns-clause-events
 returns-clause-events c =
-    ended_events (before c) c.requires c.args.worker (ran c) c.in-Worked.outcome (here c) (reply c) (starved c) (is c)
+    ended_events (before c) c.requires c.args.worker (ran c) c.in-Worked.outcome c.take_run.ensures.0 (here c) (reply c) (starved c) (is c)
     (after c) (differs c) (place c) (left c) c.end_in-count.result (at c) refl refl c.end_on-running.ensures.kept c.end_on-running.ensures.finished
     (ends c) (leaves c) (owes c)
 
 pub returns-clause-sound : goal.returns-clause-sound
 returns-clause-sound c =
-    ended_sound (before c) c.requires c.args.worker (ran c) c.in-Worked.outcome (here c) (reply c) (starved c) (is c)
+    ended_sound (before c) c.requires c.args.worker (ran c) c.in-Worked.outcome c.take_run.ensures.0 (here c) (reply c) (starved c) (is c)
     (after c) (differs c) (place c) (left c) c.end_in-count.result (at c) refl refl c.end_on-running.ensures.kept c.end_on-running.ensures.finished
     (ends c) (leaves c) (owes c)
 

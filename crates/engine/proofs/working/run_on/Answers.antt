@@ -2,17 +2,38 @@ use Rattle.std.proofs.Common.{sym, subst}
 use Rattle.nfs_values.specs.declared.call.Call.{Call}
 use Rattle.nfs_values.specs.Credential.{credential_of}
 use Rattle.nfs_values.specs.Moment.{moment_of}
+use Rattle.parcels.specs.declared.files.Files.{Files}
+use Rattle.desk_laws.specs.Books.{now}
 use Rattle.desk_laws.specs.Calls.{MayWork, HasWorked}
 use Rattle.desk.specs.Words.{books}
+use Rattle.engine_laws.specs.Store.{FilerBooks}
+use Rattle.service.specs.declared.job.Job.{Job}
+use Rattle.service.specs.declared.job.JobReply.{JobReply}
 use Rattle.service.specs.Running.{AsksFor, HasRun}
+use Rattle.service_counts.specs.Counts.{IsCounted}
+use Rattle.engine.proofs.Counted.{may-recount, recounted}
 use Rattle.engine.proofs.working.run_on.Goals as goal
 
-pub work-requires-clause-may : goal.work-requires-clause-may
-work-requires-clause-may c =
+pub work-outcome-requires-clause-may : goal.work-outcome-requires-clause-may
+work-outcome-requires-clause-may c =
     subst (λ (x : Call). MayWork (AsksFor x) (books c.args.desk.now) c.args.worker) (sym c.as_call.ensures.value) c.requires.may
+
+pub recount-requires-clause-may : goal.recount-requires-clause-may
+recount-requires-clause-may c =
+    may-recount _ (books c.args.desk.now) (books c.work-outcome.new.self) c.args.worker c.work-outcome.result c.work-outcome.ensures.worked
+    c.args.counts.now.items c.requires.counted c.args.running.now.message.call c.requires.may
 
 pub returns-clause-worked : goal.returns-clause-worked
 returns-clause-worked c =
     let r = c.args.running.now in
-    subst (λ (x : Call). HasWorked (HasRun x (credential_of r.message.credential) (moment_of r.moment)) (books c.args.desk.now) c.args.worker c.work.result
-    (books c.work.new.self)) c.as_call.ensures.value c.work.ensures.worked
+    subst (λ (b : FilerBooks Files Job JobReply).
+    HasWorked (HasRun r.message.call (credential_of r.message.credential) (moment_of r.moment)) (books c.args.desk.now) c.args.worker c.work-outcome.result b)
+    (sym c.recount.ensures.same)
+    (subst (λ (x : Call). HasWorked (HasRun x (credential_of r.message.credential) (moment_of r.moment)) (books c.args.desk.now) c.args.worker
+    c.work-outcome.result (books c.work-outcome.new.self)) c.as_call.ensures.value c.work-outcome.ensures.worked)
+
+pub returns-clause-counted : goal.returns-clause-counted
+returns-clause-counted c =
+    subst (λ (b : FilerBooks Files Job JobReply). IsCounted b.layout c.recount.new.counts.items (now b)) (sym c.recount.ensures.same)
+    (recounted _ (books c.args.desk.now) (books c.work-outcome.new.self) c.args.worker c.work-outcome.result c.work-outcome.ensures.worked
+    c.args.counts.now.items c.requires.counted c.recount.new.counts.items c.recount.ensures.counted)

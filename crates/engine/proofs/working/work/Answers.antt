@@ -4,6 +4,7 @@ use Rattle.std.specs.List.{AllByRecursion}
 use Rattle.std.specs.Global.{Vec}
 use Rattle.std.proofs.lemmas.List.{length-set}
 use Rattle.nfs_model.specs.Tree.{Layout}
+use Rattle.nfs_model.specs.Parts.{Hand}
 use Rattle.nfs_model.specs.Work.{Store}
 use Rattle.nfs_model.specs.World.{Setup, World}
 use Rattle.nfs_model.specs.World as worlds
@@ -36,11 +37,14 @@ use Rattle.service.specs.declared.outcome.Outcome.{Outcome}
 use Rattle.engine_feed.specs.Seen.{layout_in, messages_of, running_count}
 use Rattle.engine.specs.declared.worker.Running.{Running}
 use Rattle.engine.specs.declared.worker.Worker.{Worker}
-use Rattle.engine.specs.declared.worker.Worker.TheVariants.{Idle, Begun, Worked}
+use Rattle.engine.specs.declared.worker.WorkerRun.{WorkerRun}
+use Rattle.engine.specs.declared.worker.WorkerRun.TheVariants.{Idle, Begun, Worked}
 use Rattle.engine.specs.Seen.{running_as, worker_seen, setup_in, world, done_of}
+use Rattle.engine.specs.Workers.{worker_with}
 use Rattle.engine.specs.Sound.{IsReady, IsPlaced, MayEnd, running_messages, room_on}
-use Rattle.engine.proofs.Lists.{looked-up, set-twice, all-at, all-set}
-use Rattle.engine.proofs.Workers.{seen-at}
+use Rattle.engine.proofs.Counted.{stands-counted}
+use Rattle.engine.proofs.Lists.{all-at, all-set}
+use Rattle.engine.proofs.Workers.{seen-at, ran-at, runs-then}
 use Rattle.engine.proofs.Worked.{running-set, same-begun, few-stamps, may-work, has-worked, worked-world, world_with, told-done, roomy-now, may-end}
 use Rattle.engine.proofs.working.work.Goals as goal
 
@@ -49,19 +53,22 @@ run_on-outcome-requires-clause-may c =
     let s = c.args.state.now in
     let i = c.args.worker in
     let r = c.in-Some-Begun.running in
-    let sound = c.requires.0 in
-    let found = c.in-Some-Begun.ensures.lookup in
-    let there : slice_get s.workers.items i ≡ Some (Begun r) =
-    looked-up c.deref.result.now s.workers.items i c.in-Some-Begun.field-0.now (Begun r) c.deref.ensures.value found.3.0 found.1 c.in-Some-Begun.field-0-is in
-    let placed = all-at (IsReady (layout_in s.calls) (length s.connections.items)) s.workers.items i (Begun r) sound.workers there in
-    let seen_there = seen-at s.workers.items i (Begun r) there in
-    may-work job_of job_reply_of (setup_in s) (world s) (books s.desk) sound.stands i (worker_seen (Begun r)) seen_there
+    let sound = c.requires.whole.0 in
+    let found = begun-at c in
+    let ran : Worker = worker_with (Begun r) found.0 in
+    let placed = (all-at (IsReady (layout_in s.calls) (length s.connections.items)) s.workers.items i ran sound.workers found.1).0 in
+    may-work job_of job_reply_of (setup_in s) (world s) (books s.desk) sound.stands i (worker_seen ran) (seen-at s.workers.items i ran found.1)
     (running_as r None) refl refl (few-stamps _ (running_count s.calls) sound.stamps) r.message.call
     (subst (λ (l : Layout). IsRunAt l r.message.call (affinity_of r.message.affinity)) (sym sound.layout) placed.run)
 
+pub run_on-outcome-requires-clause-counted : goal.run_on-outcome-requires-clause-counted
+run_on-outcome-requires-clause-counted c =
+    let s = c.args.state.now in
+    c.requires.counted ∙ stands-counted job_of job_reply_of (setup_in s) (world s) (books s.desk) c.requires.whole.0.stands
+
 -- ---- what was worked
 
-module _ (c : goal.After-set_worker) where
+module _ (c : goal.After-set_run) where
   abbrev i : ℕ
   i = c.args.worker
 
@@ -92,7 +99,7 @@ module _ (c : goal.After-set_worker) where
 
   -- the workers after it
   abbrev ks' : List Worker
-  ks' = c.set_worker.new.workers.items
+  ks' = c.set_run.new.workers.items
 
   abbrev Serves : Call → Does (FilerParcel Files) Outcome
   Serves call layout node before x end =
@@ -104,44 +111,52 @@ module _ (c : goal.After-set_worker) where
   abbrev Ready : Worker → Type 0
   Ready = IsReady L (length c.args.state.now.connections.items)
 
-  there : slice_get ks i ≡ Some (Begun r)
-  there =
-      let found = c.in-Some-Begun.ensures.lookup in
-      looked-up c.deref.result.now ks i c.in-Some-Begun.field-0.now (Begun r) c.deref.ensures.value found.3.0 found.1 c.in-Some-Begun.field-0-is
+  -- what the worker carries
+  abbrev hand : Hand
+  hand = c.take_run.ensures.0
 
-  seen : slice_get old.workers i ≡ Some (worker_seen (Begun r))
-  seen = seen-at ks i (Begun r) there
+  taken : slice_get ks i ≡ Some (worker_with (Begun c.in-Begun.running) hand)
+  taken = c.take_run.ensures.1 ∙ ap (λ (x : WorkerRun). Some (worker_with x hand)) c.in-Begun.is
 
   -- the message that is taken out is the one that was looked at
   same : c.in-Begun.running ≡ r
-  same = same-begun ks i c.in-Begun.running r there (c.take_worker.ensures.value ∙ ap Some c.in-Begun.is)
+  same = same-begun ks i c.in-Begun.running r FOUND.0 hand FOUND.1 taken
+
+  abbrev ran : Worker
+  ran = worker_with (Begun r) hand
+
+  there : slice_get ks i ≡ Some ran
+  there = taken ∙ ap (λ (x : Running). Some (worker_with (Begun x) hand)) same
+
+  seen : slice_get old.workers i ≡ Some (worker_seen ran)
+  seen = seen-at ks i ran there
 
   placed : IsPlaced L (length c.args.state.now.connections.items) r.message
-  placed = all-at Ready ks i (Begun r) c.requires.0.workers there
+  placed = (all-at Ready ks i ran c.requires.whole.0.workers there).0
 
   did : HasWorked (Serves r.message.call) b i o next
   did = c.run_on-outcome.ensures.worked
 
   served : HasWorked (Serving (running_as r None)) b i (outcome_of o) next
-  served = has-worked job_of job_reply_of setup old b c.requires.0.stands i (worker_seen (Begun r)) seen (running_as r None) refl refl
+  served = has-worked job_of job_reply_of setup old b c.requires.whole.0.stands i (worker_seen ran) seen (running_as r None) refl refl
       r.message.call (credential_of r.message.credential) (moment_of r.moment) refl refl o next did
 
-  are : ks' ≡ slice_set ks i (Worked r o)
+  are : ks' ≡ slice_set ks i (worker_with (Worked r o) hand)
   are =
-      let taken = ap (λ (v : Vec Worker). v.items) c.take_worker.ensures.after in
-      let put = ap (λ (v : Vec Worker). v.items) c.set_worker.ensures in
-      put ∙ ap (λ (xs : List Worker). slice_set xs i (Worked c.in-Begun.running o)) taken
-      ∙ set-twice ks i Idle (Worked c.in-Begun.running o) ∙ ap (λ (x : Running). slice_set ks i (Worked x o)) same
+      let put = c.set_run.ensures in
+      runs-then ks c.take_run.new.workers.items ks' i (Begun r) (Worked c.in-Begun.running o) put.0 hand put.1 there
+      (ap (λ (v : Vec Worker). v.items) c.take_run.ensures.2) put.2 (ap (λ (v : Vec Worker). v.items) put.3)
+      ∙ ap (λ (x : Running). slice_set ks i (worker_with (Worked x o) hand)) same
 
   abbrev new : World
   new = world_with old next ks'
 
   new_is : new ≡ steps.worked old i (running_as r None) (outcome_of o) after
-  new_is = worked-world old next ks ks' i r o refl are (ap (λ (x : FilerBooks Files Job JobReply). stamps x) did.books)
+  new_is = worked-world old next ks ks' i r o hand refl there are (ap (λ (x : FilerBooks Files Job JobReply). stamps x) did.books)
 
   -- what is fixed stays
   as_many : length ks' ≡ length ks
-  as_many = ap (λ (xs : List Worker). length xs) are ∙ length-set ks i (Worked r o)
+  as_many = ap (λ (xs : List Worker). length xs) are ∙ length-set ks i (worker_with (Worked r o) hand)
 
   abbrev setup_new : Setup
   setup_new = record setup { workers = length ks' }
@@ -153,7 +168,7 @@ module _ (c : goal.After-set_worker) where
   stands =
       let apart = book-apart _ next _ c.run_on-outcome.ensures.kept in
       let tried = run-tried L r.message.call (credential_of r.message.credential) (affinity_of r.message.affinity) placed.run in
-      let then = worked-stands job_of job_reply_of setup old b c.requires.0.stands i (worker_seen (Begun r)) seen (running_as r None)
+      let then = worked-stands job_of job_reply_of setup old b c.requires.whole.0.stands i (worker_seen ran) seen (running_as r None)
       refl refl (outcome_of o) next served apart tried in
       subst (λ (x : Setup). StandsFor job_of job_reply_of x new next) (sym setup_is)
       (subst (λ (x : World). StandsFor job_of job_reply_of setup x next) (sym new_is) then)
@@ -161,23 +176,26 @@ module _ (c : goal.After-set_worker) where
   -- what it came to may be told
   may : MayEnd L r.message o
   may =
-      let roomy = roomy-now c.servers_are_roomy.ensures.begins c.servers_are_roomy.ensures.stays setup old c.has_eight.ensures c.requires.1.headline.state in
-      let comes = works job_of job_reply_of setup old b c.requires.0.stands i (worker_seen (Begun r)) seen (running_as r None) refl refl
+      let roomy = roomy-now c.servers_are_roomy.ensures.begins c.servers_are_roomy.ensures.stays setup old c.has_eight.ensures c.requires.whole.1.headline.state in
+      let comes = works job_of job_reply_of setup old b c.requires.whole.0.stands i (worker_seen ran) seen (running_as r None) refl refl
       (outcome_of o) next served in
       may-end c.replies_fit.ensures.offered L r.message placed.admitted (moment_of r.moment) (worlds.store_of old) after roomy o comes
-      (subst (λ (l : Layout). MovesOn l r.message.call (outcome_of o)) c.requires.0.layout did.did.1)
+      (subst (λ (l : Layout). MovesOn l r.message.call (outcome_of o)) c.requires.whole.0.layout did.did.1)
 
   ready : AllByRecursion Ready ks'
   ready = subst (λ (xs : List Worker). AllByRecursion Ready xs) (sym are)
-      (all-set Ready ks i (Worked r o) c.requires.0.workers (placed, may))
+      (all-set Ready ks i (worker_with (Worked r o) hand) c.requires.whole.0.workers ((placed, may), (all-at Ready ks i ran c.requires.whole.0.workers there).1))
 
   -- the same messages run
   running : running_messages ks' ≡ running_messages ks
-  running = ap (λ (xs : List Worker). running_messages xs) are ∙ running-set ks i (Begun r) (Worked r o) there refl
+  running = ap (λ (xs : List Worker). running_messages xs) are ∙ running-set ks i ran (worker_with (Worked r o) hand) there refl
+
+pub returns-in_default-clause-counted : goal.returns-in_default-clause-counted
+returns-in_default-clause-counted c = c.requires.counted
 
 pub returns-clause-events : goal.returns-clause-events
 returns-clause-events c =
-    let happens = work-happens job_of job_reply_of (setup c) (old c) (b c) c.requires.0.stands (i c) (worker_seen (Begun (r c))) (seen c)
+    let happens = work-happens job_of job_reply_of (setup c) (old c) (b c) c.requires.whole.0.stands (i c) (worker_seen (ran c)) (seen c)
     (running_as (r c) None) refl refl (outcome_of (o c)) (next c) (served c) in
     let told : done_of c.done_of-done.result ≡ steps.done_of (outcome_of (o c)) = ap done_of c.done_of-done.ensures ∙ told-done (o c) in
     subst (λ (d : events.Done). Events (setup c) (old c) (events.Work (i c)) (Ok d) (new c)) (sym told)
@@ -189,7 +207,7 @@ returns-clause-setup c = setup_is c
 pub returns-clause-sound : goal.returns-clause-sound
 returns-clause-sound c =
     let s = c.args.state.now in
-    let sound = c.requires.0 in record {
+    let sound = c.requires.whole.0 in record {
       layout = ap (λ (x : FilerBooks Files Job JobReply). x.layout) (did c).books ∙ sound.layout;
       kept = c.run_on-outcome.ensures.kept;
       stands = stands c;
@@ -202,3 +220,7 @@ returns-clause-sound c =
       owed = λ n x at. sound.owed n x at
           ∙ ap (λ (ms : List (Message Call)). total (room_on n) (messages_of s.calls) + total (room_on n) ms) (sym (running c));
     }
+
+pub returns-clause-counted : goal.returns-clause-counted
+returns-clause-counted c =
+    c.run_on-outcome.ensures.counted ∙ sym (stands-counted job_of job_reply_of (setup_new c) (new c) (next c) (stands c))

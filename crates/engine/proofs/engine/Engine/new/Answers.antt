@@ -1,7 +1,8 @@
-use Rattle.std.proofs.Common.{◌≡◌, subst, sym}
+use Rattle.std.proofs.Common.{◌≡◌, subst, sym, ap, ◌∙◌}
 use Rattle.nfs_model.specs.World.{Setup, World}
 use Rattle.nfs_model.specs.Headline.{Kept, opening_world}
 use Rattle.engine.specs.declared.state.State.{State}
+use Rattle.service_counts.specs.Counts.{world_counts}
 use Rattle.engine.specs.Seen.{setup_in, world}
 use Rattle.engine.proofs.engine.Engine.new.Goals as goal
 
@@ -11,8 +12,12 @@ begins meets s opens = subst (λ (w : World). Kept (setup_in s) w) (sym opens) (
 
 pub invariant_of-result : goal.invariant_of-result
 invariant_of-result c = (
-  c.in_ok-state.ensures.sound,
-  begins c.opening_meets_headline.ensures c.in_ok-state.state c.in_ok-state.ensures.opening,
+  (
+    c.in_ok-state.ensures.sound,
+    begins c.opening_meets_headline.ensures c.in_ok-state.state c.in_ok-state.ensures.opening,
+  ),
+  c.in_ok-counts.ensures c.args.verifier
+      ∙ sym (ap world_counts (c.in_ok-state.ensures.opening ∙ ap opening_world c.in_ok-state.ensures.setup)),
 )
 
 pub returns-clause-headline : goal.returns-clause-headline

@@ -15,10 +15,10 @@ kept c =
     let stands = subst (λ x. StandsFor job_of job_reply_of x (world new) (books new.desk)) c.dispatch.ensures.setup c.dispatch.ensures.sound.stands in
     subst (λ x. Kept x (world new)) (sym c.dispatch.ensures.setup)
     (kept-after job_of job_reply_of c.parts_partition.ensures c.events_keep_headline.ensures (setup_in s) (world s) (event_of c.args.event)
-    (answer_of c.dispatch.result) (world new) (books new.desk) c.codec_is_scan.ensures c.self.invariant.1 stands c.dispatch.ensures.events)
+    (answer_of c.dispatch.result) (world new) (books new.desk) c.codec_is_scan.ensures c.self.invariant.0.1 stands c.dispatch.ensures.events)
 
 pub invariant_of-self : goal.invariant_of-self
-invariant_of-self c = (c.dispatch.ensures.sound, kept c)
+invariant_of-self c = ((c.dispatch.ensures.sound, kept c), c.dispatch.ensures.counted)
 
 pub returns-clause-headline : goal.returns-clause-headline
 returns-clause-headline c = (kept c).headline

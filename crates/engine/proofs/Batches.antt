@@ -1,0 +1,67 @@
+-- Batches that inner calls take into a hand.
+use Rattle.std.proofs.Common.{◌≡◌, ℕ, zero, suc, ◌+◌, ◌/◌, ◌<◌, List, [], ◌∷◌, map, refl, sym, ap, ◌∙◌, subst, arith}
+use Rattle.std.specs.List.{range_with_len}
+use Rattle.std.specs.Ordering.{nat_cmp}
+use Rattle.std.specs.FinSet.{FinSet}
+use Rattle.nfs_model.specs.Tree.{Layout}
+use Rattle.nfs_model.specs.Parts.{Parts, Hand, range_blocks, range_of, most_ranges, batch_in, IsBatch}
+use Rattle.nfs_model.specs.Moves.{Carrying, batch, first_filled, lowest_batch, fresh_hand, dead_hand}
+use Rattle.affinity_tree.specs.Tree.{IsNode}
+use Rattle.held_state.specs.Jobs.{InnerCall, Fetch, Deliver, Cull, Free, Survey, JobReply, Took, Gave, Surveyed, Replied, inner_node, InnerMoves}
+use Rattle.engine_laws.specs.Inner.{hand_after}
+use Rattle.engine.specs.Sound.{IsCarried}
+
+-- a batch is of one range
+abbrev pub OfOneRange : Type 0
+OfOneRange = (range : ℕ) (blocks : FinSet nat_cmp) → IsBatch range (batch range blocks)
+
+module _ (one : OfOneRange) where
+  first-of : (range : ℕ) (blocks : FinSet nat_cmp) (b : ℕ) (bs : List ℕ) → batch range blocks ≡ b ∷ bs → b / range_blocks ≡ range
+  first-of range blocks b bs e =
+      let is = subst (λ xs. IsBatch range xs) e (one range blocks) in
+      is.of_range.0
+
+  -- the first of some ranges that has any
+  among : (blocks : FinSet nat_cmp) (from n b : ℕ) (bs : List ℕ) → first_filled (map (λ r. batch r blocks) (range_with_len from n)) ≡ b ∷ bs
+      → b / range_blocks < from + n
+  among blocks from zero b bs e = absurd (nothing e)
+    where
+      nothing : [] ≡ b ∷ bs → ⊥
+      nothing e = absurd cc
+  among blocks from (suc n) b bs e = by (batch from blocks) refl e (λ later. among blocks (from + 1) n b bs later)
+    where
+      by : (xs : List ℕ) → batch from blocks ≡ xs → first_filled (xs ∷ map (λ r. batch r blocks) (range_with_len (from + 1) n)) ≡ b ∷ bs
+          → (first_filled (map (λ r. batch r blocks) (range_with_len (from + 1) n)) ≡ b ∷ bs → b / range_blocks < from + 1 + n)
+          → b / range_blocks < from + suc n
+      by [] is e others = let later = others e in omega (arith, later)
+      by (x ∷ xs) is e others =
+          let at = first-of from blocks x xs is in
+          let same : x ≡ b = cc in
+          let here : b / range_blocks ≡ from = ap (λ m. m / range_blocks) (sym same) ∙ at in
+          omega (arith, here)
+
+  lowest : (blocks : FinSet nat_cmp) (b : ℕ) (bs : List ℕ) → lowest_batch blocks ≡ b ∷ bs → b / range_blocks < most_ranges
+  unfolding lowest_batch
+  lowest blocks b bs e = among blocks 0 16 b bs e
+
+  -- what comes into the hand may be carried
+  pub carried-after : (layout : Layout) (call : InnerCall) (used : ℕ) (before after : Parts) (reply : JobReply) → IsNode layout (inner_node call)
+      → InnerMoves call used before reply after → IsCarried layout (hand_after reply)
+  carried-after layout call used before after (Gave hand) node moves = tt
+  carried-after layout call used before after (Surveyed told) node moves = tt
+  carried-after layout call used before after (Replied reply) node moves = tt
+  carried-after layout (Fetch v r) used before after (Took hand) node moves =
+      subst (IsCarried layout) (sym (ap (λ (c : Carrying). c.hand) moves.1.1)) (fresh (batch r before.free))
+    where
+      fresh : (xs : List ℕ) → IsCarried layout (fresh_hand v xs)
+      fresh [] = tt
+      fresh (b ∷ bs) = (node.0, omega arith)
+  carried-after layout (Cull v) used before after (Took hand) node moves =
+      subst (IsCarried layout) (sym (ap (λ (c : Carrying). c.hand) moves.1)) (dead (lowest_batch before.dead) refl)
+    where
+      dead : (xs : List ℕ) → lowest_batch before.dead ≡ xs → IsCarried layout (dead_hand v xs)
+      dead [] is = tt
+      dead (b ∷ bs) is = (node, omega arith, lowest before.dead b bs is)
+  carried-after layout (Deliver v) used before after (Took hand) node moves = absurd moves
+  carried-after layout (Free v r) used before after (Took hand) node moves = absurd moves
+  carried-after layout (Survey v) used before after (Took hand) node moves = absurd moves

@@ -1,0 +1,3 @@
+mod Recounted
+mod Tallied
+mod Opened

@@ -1,0 +1,41 @@
+//! What a node is of.
+
+ghost use Rattle.std.specs.Prelude.{◌≡◌};
+ghost use Rattle.nfs_model.specs.Tree as trees;
+ghost use Rattle.affinity_tree.specs.Affinity.{affinity_of, kind_of};
+ghost use Rattle.affinity_tree.specs.declared.affinity.Kind.TheVariants as kinds;
+
+use affinity_tree::Affinity;
+
+/// The volume of a node that is Volume Logical.
+pub(crate) fn volume_of_logical(affinity: Affinity) -> u32
+    requires { kind_of (affinity_of affinity) ≡ kinds.VolumeLogical }
+    ensures { affinity_of affinity ≡ trees.Logical result }
+{
+    match affinity {
+        Affinity::VolumeLogical(volume) => volume,
+        _ => unreachable!(),
+    }
+}
+
+/// The volume of a node that is Volume.
+pub(crate) fn volume_of(affinity: Affinity) -> u32
+    requires { kind_of (affinity_of affinity) ≡ kinds.Volume }
+    ensures { affinity_of affinity ≡ trees.Volume result }
+{
+    match affinity {
+        Affinity::Volume(volume) => volume,
+        _ => unreachable!(),
+    }
+}
+
+/// The number of a node that is an Aggregate.
+pub(crate) fn aggregate_of(affinity: Affinity) -> u32
+    requires { kind_of (affinity_of affinity) ≡ kinds.Aggregate }
+    ensures { affinity_of affinity ≡ trees.Aggregate result }
+{
+    match affinity {
+        Affinity::Aggregate(aggregate) => aggregate,
+        _ => unreachable!(),
+    }
+}
