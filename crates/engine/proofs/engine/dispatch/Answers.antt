@@ -1,12 +1,13 @@
-use Rattle.std.proofs.Common.{◌≡◌, sym, ap, ◌∙◌}
+use Rattle.std.proofs.Common.{◌≡◌, List, sym, ap, ◌∙◌}
 use Rattle.std.specs.Prelude.{map, slice_get}
 use Rattle.nfs_model.specs.Events.Refusals as events
 use Rattle.nfs_values.specs.Moment.{moment_of}
 use Rattle.desk.specs.Words.{books}
 use Rattle.service.specs.Jobs.{job_of, job_reply_of}
-use Rattle.service_counts.specs.Counts.{culled_by, put_by}
+use Rattle.service_counts.specs.Counts.{culled_by, put_by, fresh_volume}
 use Rattle.service_counts.specs.lemmas.Happening.{event-stays, cull-counts, put-counts}
-use Rattle.engine.specs.Seen.{setup_in, world, answer_of}
+use Rattle.engine.specs.declared.worker.Worker.{Worker}
+use Rattle.engine.specs.Seen.{setup_in, world, answer_of, worker_seen}
 use Rattle.engine.proofs.Counted.{stands-parted}
 use Rattle.engine.proofs.engine.dispatch.Goals as goal
 
@@ -64,4 +65,14 @@ returns-in-Cull-clause-counted c =
     c.in-Cull.worker c.in-Cull.volume.0 answer c.cull-answer.ensures.events)
 
 pub returns-in-PutDown-clause-counted : goal.returns-in-PutDown-clause-counted
-returns-in-PutDown-clause-counted c = ?
+returns-in-PutDown-clause-counted c =
+    let s = c.args.state.now in
+    let new = c.put_down-answer.new.state in
+    let answer = answer_of c.put_down-answer.result in
+    let stock = c.stock_of-stock.ensures
+    ∙ ap (λ (ks : List Worker). fresh_volume (events.hand_of (slice_get (map worker_seen ks) c.in-PutDown.worker))) c.deref.ensures.value in
+    c.count_put_down.ensures ∙ (λ j. put_by (stock j) answer (c.requires.counted j))
+    ∙ sym (put-counts (setup_in s) (world s) (world new)
+    (stands-parted job_of job_reply_of (setup_in s) (world s) (books s.desk) c.requires.whole.0.stands c.parts_partition.ensures)
+    (stands-parted job_of job_reply_of (setup_in new) (world new) (books new.desk) c.put_down-answer.ensures.sound.stands c.parts_partition.ensures)
+    c.in-PutDown.worker answer c.put_down-answer.ensures.events)
