@@ -39,7 +39,7 @@ use Rattle.engine.proofs.finishing.finish.Goals.{in-Replied, in-Starved}
 pub returns-in-Some-Begun-clause-events : goal.returns-in-Some-Begun-clause-events
 returns-in-Some-Begun-clause-events c =
     let s = c.args.state.now in
-    (inl (finish-early s.workers.items c.deref.result.now c.args.worker (option_copied c.run_at.result) c.deref.ensures.value c.run_at.ensures (setup_in s) (world s) refl c.in-Some-Begun.field-0 (ap option_copied c.in-Some-Begun.is ∙ ap Some c.in-Some-Begun.field-0-is)), refl)
+    (inl (finish-early s.workers.items c.deref.result.now c.args.worker (option_copied c.run_at.result) c.deref.ensures.value c.run_at.ensures (setup_in s) (world s) refl _ (ap option_copied c.in-Some-Begun.is ∙ ap Some c.in-Some-Begun.field-0-is)), refl)
 
 pub returns-in-Some-Idle-clause-events : goal.returns-in-Some-Idle-clause-events
 returns-in-Some-Idle-clause-events c =

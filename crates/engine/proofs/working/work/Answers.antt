@@ -64,7 +64,7 @@ run_on-outcome-requires-clause-may c =
 pub returns-in-Some-Worked-clause-events : goal.returns-in-Some-Worked-clause-events
 returns-in-Some-Worked-clause-events c =
     let s = c.args.state.now in
-    (inl (work-again s.workers.items c.deref.result.now c.args.worker (option_copied c.run_at.result) c.deref.ensures.value c.run_at.ensures (setup_in s) (world s) refl c.in-Some-Worked.field-0 c.in-Some-Worked.field-1 (ap option_copied c.in-Some-Worked.is ∙ ap Some c.in-Some-Worked.field-0-is)), refl)
+    (inl (work-again s.workers.items c.deref.result.now c.args.worker (option_copied c.run_at.result) c.deref.ensures.value c.run_at.ensures (setup_in s) (world s) refl _ _ (ap option_copied c.in-Some-Worked.is ∙ ap Some c.in-Some-Worked.field-0-is)), refl)
 
 pub returns-in-Some-Idle-clause-events : goal.returns-in-Some-Idle-clause-events
 returns-in-Some-Idle-clause-events c =
