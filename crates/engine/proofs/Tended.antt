@@ -1,9 +1,7 @@
 -- An inner call of a worker: what it needs, and the state after it.
-use Rattle.std.proofs.Common.{◌≡◌, ◌⊎◌, inl, inr, ℕ, ◌+◌, ◌<◌, ◌≤◌, true, List, ◌∷◌, length, map, Option, Some, None, Ok, Err, refl, sym, ap, ◌∙◌, subst, arith}
-use Rattle.std.specs.Prelude.{◌^◌, slice_get, slice_set, vec_len}
+use Rattle.std.proofs.Common.{◌≡◌, ◌⊎◌, inl, inr, ℕ, ◌+◌, ◌≤◌, true, List, ◌∷◌, length, map, Option, Some, None, Ok, Err, refl, sym, ap, ◌∙◌, subst, arith}
+use Rattle.std.specs.Prelude.{◌^◌, slice_get, slice_set}
 use Rattle.std.specs.Global.{Vec}
-use Rattle.std.specs.Vec.{with_item}
-use Rattle.std.proofs.lemmas.Option.{slice_get_within}
 use Rattle.std.specs.List.{AllByRecursion}
 use Rattle.std.proofs.lemmas.List.{length-set}
 use Rattle.nfs_model.specs.Tree.{Layout}
@@ -72,14 +70,6 @@ not-replied (Deliver v) used before after (Replied reply) moves = moves
 not-replied (Cull v) used before after (Replied reply) moves = moves
 not-replied (Free v r) used before after (Replied reply) moves = moves
 not-replied (Survey v) used before after (Replied reply) moves = moves
-
--- a place in a vector that was changed there
-pub in-room : (v w : Vec Worker) (i : ℕ) (k x : Worker) → slice_get v.items i ≡ Some k → w ≡ with_item v i x → i < vec_len w
-in-room v w i k x there are =
-    let within = slice_get_within v.items i k there in
-    let size = v.ok.0 in
-    let same : vec_len w ≡ vec_len v = ap (λ (y : Vec Worker). vec_len y) are in
-    omega (arith, within, size, same)
 
 -- the hand that was taken out of a worker's place is what it carried, and another is put there
 module _ (s : State) (i : ℕ) (call : InnerCall) (may : MayTend s i call) (hand : Hand) (taken : Vec Worker) (takes : HandTaken s.workers i hand taken) where

@@ -8,7 +8,8 @@ use Rattle.engine.specs.declared.state.State.{State}
 use Rattle.engine.specs.declared.worker.WorkerRun.TheVariants.{Idle}
 use Rattle.engine.specs.Inner.{MayMake, IsMade}
 use Rattle.engine.specs.Workers.{worker_with}
-use Rattle.engine.proofs.Tended.{in-room, same_hand, put_in, put_again, may_make, refuses, of_hand, tended_setup, tended_events, tended_sound}
+use Rattle.engine.proofs.Tended.{same_hand, put_in, put_again, may_make, refuses, of_hand, tended_setup, tended_events, tended_sound}
+use Rattle.engine.proofs.Workers.{in-room}
 use Rattle.engine.proofs.Tended.{restored_world, restored_setup, restored_sound}
 use Rattle.engine.proofs.inner.tend.Goals as goal
 
