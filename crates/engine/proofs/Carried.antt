@@ -273,3 +273,19 @@ module _ (setup : Setup) (w : World) (i : ℕ) where
         by (inl e) = inl (put-asks free (Dead v blocks) carries ∙ e)
         by (inr (inl e)) = absurd e.2
         by (inr (inr e)) = absurd e.2
+
+  -- whatever is in the hand
+  module _ (free : is_idle at ≡ true) (answer : Result events.Done ℕ) (new : World) where
+    pub put-as : (hand : Hand) → hand_of at ≡ hand → (call : InnerCall) → tending.call_to_put hand ≡ Some call → Tends call answer new
+        → Events setup w (PutDown i) answer new
+    put-as Empty carries call is h = absurd cc
+    put-as (Fresh v blocks) carries call is h = delivered free v blocks carries answer new (subst (λ x. Tends x answer new) (sym (one (jobs.Deliver v) call is)) h)
+      where
+        one : (x y : InnerCall) → Some x ≡ Some y → x ≡ y
+        one x y e = cc
+    put-as (Dead v []) carries call is h = absurd cc
+    put-as (Dead v (b ∷ bs)) carries call is h =
+        freed free v (b ∷ bs) carries answer new (subst (λ x. Tends x answer new) (sym (one (jobs.Free v (range_of (b ∷ bs))) call is)) h)
+      where
+        one : (x y : InnerCall) → Some x ≡ Some y → x ≡ y
+        one x y e = cc

@@ -1,8 +1,9 @@
 -- An idle worker with an empty hand, a volume that is there, and what is in a hand: what a call of a hand asks for.
 use Rattle.std.proofs.Common.{◌≡◌, ℕ, zero, suc, ◌+◌, ◌<◌, ◌≤◌, Bool, true, false, ◌&&◌, List, [], ◌∷◌, length, map, Option, Some, None, refl, sym, ap, ◌∙◌}
 use Rattle.std.proofs.Common.{subst, arith}
-use Rattle.std.specs.Prelude.{slice_get, option_map, is_some, nat_lt, nat_le}
-use Rattle.std.proofs.lemmas.Bool.{and_parts, ltb-true, le-leb, lt-leb}
+use Rattle.std.specs.Prelude.{slice_get, slice_index_or, is_some, nat_lt}
+use Rattle.std.proofs.lemmas.Bool.{and_parts, ltb-true, lt-ltb}
+use Rattle.std.proofs.lemmas.Bool.Decides.{nat_tests}
 use Rattle.std.proofs.lemmas.List.{length-map}
 use Rattle.std.proofs.lemmas.Option.{slice_get-map}
 use Rattle.nfs_model.specs.Tree.{Layout}
@@ -24,7 +25,12 @@ use Rattle.engine.specs.Seen.{world, worker_seen, setup_in}
 use Rattle.engine.specs.Sound.{IsSound, IsCarried}
 use Rattle.engine.specs.Workers.{worker_with, idle_worker}
 use Rattle.engine.proofs.Lists.{all-at, inner}
-use Rattle.engine.proofs.Workers.{idle-worker, empty-hand, seen-at}
+use Rattle.engine.proofs.Workers.{idle-worker, empty-hand, seen-at, index-found, in-vector}
+
+-- an idle worker's place, as an index finds it
+pub there-at : (s : State) (i : ℕ) → is_idle (slice_get (world s).workers i) ≡ true → (k : Worker) → k ≡ slice_index_or s.workers.items i k
+    → slice_get s.workers.items i ≡ Some k
+there-at s i free k read = index-found s.workers i k (in-vector s.workers i _ (idle-worker s.workers.items i free).1) read
 
 -- ---- a volume that is there
 
@@ -32,9 +38,12 @@ there-within : {X : Type 0} (xs : List X) (v : ℕ) → is_some (slice_get xs v)
 there-within [] v = sym (lt-none v)
   where
     lt-none : (v : ℕ) → nat_lt v 0 ≡ false
-    lt-none v = grind (arith)
-there-within (x ∷ xs) zero = refl
-there-within (x ∷ xs) (suc v) = there-within xs v
+    lt-none v = grind (arith, nat_tests)
+there-within (x ∷ xs) zero = sym (lt-ltb 0 (suc (length xs)) (omega arith))
+there-within (x ∷ xs) (suc v) = there-within xs v ∙ shifted v (length xs)
+  where
+    shifted : (a b : ℕ) → nat_lt a b ≡ nat_lt (suc a) (suc b)
+    shifted a b = grind (arith, nat_tests)
 
 -- what was asked of a list is so of it
 pub free-there : (ks xs : List Worker) (i : ℕ) (b : Bool) → xs ≡ ks
