@@ -42,10 +42,13 @@ use Rattle.engine.specs.declared.worker.WorkerRun.TheVariants.{Idle, Begun, Work
 use Rattle.engine.specs.Seen.{running_as, worker_seen, setup_in, world, done_of}
 use Rattle.engine.specs.Workers.{worker_with}
 use Rattle.engine.specs.Sound.{IsReady, IsPlaced, MayEnd, running_messages, room_on}
+use Rattle.service_counts.specs.Counts.{world_counts}
+use Rattle.engine.specs.declared.state.State.{State}
 use Rattle.engine.proofs.Counted.{stands-counted}
 use Rattle.engine.proofs.Lists.{all-at, all-set}
 use Rattle.engine.proofs.Workers.{seen-at, ran-at, runs-then}
 use Rattle.engine.proofs.Worked.{running-set, same-begun, few-stamps, may-work, has-worked, worked-world, world_with, told-done, roomy-now, may-end}
+use Rattle.engine.proofs.working.work.Goals.{in_default-via-in-Some+in_default, in_default-via-in_default}
 use Rattle.engine.proofs.working.work.Goals as goal
 
 pub run_on-outcome-requires-clause-may : goal.run_on-outcome-requires-clause-may
@@ -191,7 +194,10 @@ module _ (c : goal.After-set_run) where
   running = ap (λ (xs : List Worker). running_messages xs) are ∙ running-set ks i ran (worker_with (Worked r o) hand) there refl
 
 pub returns-in_default-clause-counted : goal.returns-in_default-clause-counted
-returns-in_default-clause-counted c = c.requires.counted
+returns-in_default-clause-counted c =
+    let same : c.in_default.state ≡ c.args.state.now =
+    elim c.in_default.branch [ in_default-via-in-Some+in_default w ↦ w.state-is | in_default-via-in_default w ↦ w.state-is ] in
+    c.requires.counted ∙ sym (ap (λ (s : State). world_counts (world s)) same)
 
 pub returns-clause-events : goal.returns-clause-events
 returns-clause-events c =
