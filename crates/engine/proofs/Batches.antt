@@ -28,15 +28,13 @@ module _ (one : OfOneRange) where
     where
       nothing : [] ≡ b ∷ bs → ⊥
       nothing e = absurd cc
-  among blocks from (suc n) b bs e = by (batch from blocks) refl e
+  among blocks from (suc n) b bs e = by (batch from blocks) refl e (λ later. among blocks (from + 1) n b bs later)
     where
-      others : List (List ℕ)
-      others = map (λ r. batch r blocks) (range_with_len (from + 1) n)
-
       by : (xs : List ℕ) → batch from blocks ≡ xs → first_filled (xs ∷ map (λ r. batch r blocks) (range_with_len (from + 1) n)) ≡ b ∷ bs
+          → (first_filled (map (λ r. batch r blocks) (range_with_len (from + 1) n)) ≡ b ∷ bs → b / range_blocks < from + 1 + n)
           → b / range_blocks < from + suc n
-      by [] is e = let later = among blocks (from + 1) n b bs e in omega (arith, later)
-      by (x ∷ xs) is e =
+      by [] is e others = let later = others e in omega (arith, later)
+      by (x ∷ xs) is e others =
           let at = first-of from blocks x xs is in
           let same : x ≡ b = cc in
           let here : b / range_blocks ≡ from = ap (λ m. m / range_blocks) (sym same) ∙ at in

@@ -40,7 +40,7 @@ hand-one one (Dead volume blocks) is e = sym (first one (Dead volume blocks) (sy
     first x y e = cc
 
 -- a list with what stands at a place put there, and a worker with its own hand
-set-same : {X : Type 0} (xs : List X) (i : ℕ) (x : X) → slice_get xs i ≡ Some x → slice_set xs i x ≡ xs
+pub set-same : {X : Type 0} (xs : List X) (i : ℕ) (x : X) → slice_get xs i ≡ Some x → slice_set xs i x ≡ xs
 set-same [] i x e = refl
 set-same (y ∷ xs) zero x e = let same : y ≡ x = cc in ap (λ z. z ∷ xs) (sym same)
 set-same (y ∷ xs) (suc i) x e = ap (λ zs. y ∷ zs) (set-same xs i x e)
@@ -192,7 +192,7 @@ module _ (setup : Setup) (w : World) (i : ℕ) where
               → (refusal setup w (Survey i v) ≡ Some number) ⊎ ((number ≡ 90) × (refusal setup w (Survey i v) ≡ None) × IsTrue true)
           by (inl e) = inl (survey-asks ∙ e)
           by (inr (inl e)) = absurd e.2
-          by (inr (inr e)) = inr (e.0, survey-asks ∙ e.1, tt)
+          by (inr (inr e)) = inr (e.0, survey-asks ∙ e.1, refl)
 
   -- ---- putting down: an idle worker
 
@@ -235,7 +235,7 @@ module _ (setup : Setup) (w : World) (i : ℕ) where
     delivered carries (Err number) new h = (by h.0, h.1)
       where
         may : IsTrue (may_lack_memory w (PutDown i))
-        may = subst (λ x. IsTrue (events.is_fresh x)) (sym carries) tt
+        may = subst (λ x. IsTrue (events.is_fresh x)) (sym carries) refl
 
         by : Refuses setup w (jobs.Deliver v) number
             → (refusal setup w (PutDown i) ≡ Some number)
@@ -273,3 +273,19 @@ module _ (setup : Setup) (w : World) (i : ℕ) where
         by (inl e) = inl (put-asks free (Dead v blocks) carries ∙ e)
         by (inr (inl e)) = absurd e.2
         by (inr (inr e)) = absurd e.2
+
+  -- whatever is in the hand
+  module _ (free : is_idle at ≡ true) (answer : Result events.Done ℕ) (new : World) where
+    pub put-as : (hand : Hand) → hand_of at ≡ hand → (call : InnerCall) → tending.call_to_put hand ≡ Some call → Tends call answer new
+        → Events setup w (PutDown i) answer new
+    put-as Empty carries call is h = absurd cc
+    put-as (Fresh v blocks) carries call is h = delivered free v blocks carries answer new (subst (λ x. Tends x answer new) (sym (one (jobs.Deliver v) call is)) h)
+      where
+        one : (x y : InnerCall) → Some x ≡ Some y → x ≡ y
+        one x y e = cc
+    put-as (Dead v []) carries call is h = absurd cc
+    put-as (Dead v (b ∷ bs)) carries call is h =
+        freed free v (b ∷ bs) carries answer new (subst (λ x. Tends x answer new) (sym (one (jobs.Free v (range_of (b ∷ bs))) call is)) h)
+      where
+        one : (x y : InnerCall) → Some x ≡ Some y → x ≡ y
+        one x y e = cc

@@ -10,7 +10,9 @@ mod Finishes
 mod Placed
 mod Batches
 mod Tended
+mod Made
 mod Carried
+mod Free
 mod Reconnected
 mod Closing
 mod Received

@@ -1,10 +1,11 @@
 -- An inner call of a worker: what it needs, and the state after it.
 use Rattle.std.proofs.Common.{◌≡◌, ◌⊎◌, inl, inr, ℕ, ◌+◌, ◌≤◌, true, List, ◌∷◌, length, map, Option, Some, None, Ok, Err, refl, sym, ap, ◌∙◌, subst, arith}
 use Rattle.std.specs.Prelude.{◌^◌, slice_get, slice_set}
+use Rattle.std.specs.Global.{Vec}
 use Rattle.std.specs.List.{AllByRecursion}
 use Rattle.std.proofs.lemmas.List.{length-set}
 use Rattle.nfs_model.specs.Tree.{Layout}
-use Rattle.nfs_model.specs.Parts.{Parts, Hand}
+use Rattle.nfs_model.specs.Parts.{Parts, Hand, Empty}
 use Rattle.nfs_model.specs.World.{Setup, World, changed_at, with_hand}
 use Rattle.nfs_model.specs.World as worlds
 use Rattle.nfs_model.specs.Events.Refusals as events
@@ -16,7 +17,8 @@ use Rattle.depot_rule.specs.Sums.{total}
 use Rattle.held_state.specs.Contents.{filer_contents}
 use Rattle.held_state.specs.Tree.{server_of}
 use Rattle.held_state.specs.Partition.{all_parts}
-use Rattle.held_state.specs.Jobs.{InnerCall, inner_node}
+use Rattle.held_state.specs.Jobs as jobs
+use Rattle.held_state.specs.Jobs.{InnerCall, Fetch, Deliver, Cull, Free, Survey, Took, Gave, Surveyed, Replied, inner_node, InnerMoves}
 use Rattle.parcels.specs.declared.files.Files.{Files}
 use Rattle.desk_laws.specs.Books.{now, stamps}
 use Rattle.desk.specs.Words.{books, IsKept}
@@ -37,13 +39,14 @@ use Rattle.engine.specs.declared.event.Refusal.TheVariants as refusals
 use Rattle.engine.specs.declared.state.State.{State}
 use Rattle.engine.specs.declared.worker.Worker.{Worker}
 use Rattle.engine.specs.declared.worker.WorkerRun.TheVariants.{Idle}
-use Rattle.engine.specs.Inner.{MayMake, IsMade, IsRefusedFor, MayTend, Tends, Refuses, IsOutOfUse, told_as}
+use Rattle.engine.specs.Inner.{MayMake, IsMade, IsRefusedFor, MayTend, Tends, Refuses, IsOfHand, told_as}
 use Rattle.engine.specs.Numbers.{refusal_number}
 use Rattle.engine.specs.Seen.{setup_in, world, worker_seen, done_of}
 use Rattle.engine.specs.Sound.{IsReady, IsCarried, IsSound, messages_in, running_messages, room_on}
-use Rattle.engine.specs.Workers.{worker_with}
+use Rattle.engine.specs.Workers.{worker_with, HandSet, HandTaken}
 use Rattle.engine.proofs.Lists.{all-at}
-use Rattle.engine.proofs.Workers.{seen-at, seen-carried}
+use Rattle.engine.proofs.Workers.{seen-at, seen-carried, one-worker, carries-then}
+use Rattle.engine.proofs.Carried.{set-same}
 use Rattle.engine.proofs.Worked.{few-stamps, running-set}
 use Rattle.engine.proofs.Batches.{OfOneRange, carried-after}
 use Rattle.engine.proofs.Begins.{idle-lent, few-run}
@@ -56,6 +59,35 @@ held s = books s.desk
 -- a state with the workers and the desk of another
 abbrev pub with_tended : State → State → State
 with_tended s t = record s { workers = t.workers; desk = t.desk }
+
+-- an inner call has a reply of its own
+not-replied : (call : InnerCall) (used : ℕ) (before after : Parts) (reply : jobs.JobReply) → InnerMoves call used before reply after → IsOfHand reply
+not-replied call used before after (Took hand) moves = tt
+not-replied call used before after (Gave hand) moves = tt
+not-replied call used before after (Surveyed counts) moves = tt
+not-replied (Fetch v r) used before after (Replied reply) moves = moves
+not-replied (Deliver v) used before after (Replied reply) moves = moves
+not-replied (Cull v) used before after (Replied reply) moves = moves
+not-replied (Free v r) used before after (Replied reply) moves = moves
+not-replied (Survey v) used before after (Replied reply) moves = moves
+
+-- the hand that was taken out of a worker's place is what it carried, and another is put there
+module _ (s : State) (i : ℕ) (call : InnerCall) (may : MayTend s i call) (hand : Hand) (taken : Vec Worker) (takes : HandTaken s.workers i hand taken) where
+  pub same_hand : hand ≡ may.hand
+  same_hand = (one-worker (slice_get s.workers.items i) takes.0 Idle hand may.hand takes.1 may.there).1
+
+  abbrev same_run : takes.0 ≡ Idle
+  same_run = (one-worker (slice_get s.workers.items i) takes.0 Idle hand may.hand takes.1 may.there).0
+
+  module _ (other : Hand) (new : Vec Worker) (sets : HandSet taken i other new) where
+    pub put_in : new.items ≡ slice_set s.workers.items i (worker_with Idle other)
+    put_in = carries-then s.workers.items taken.items new.items i Idle sets.0 may.hand other sets.1 may.there
+        (ap (λ (v : Vec Worker). v.items) takes.2 ∙ ap (λ r. slice_set s.workers.items i (worker_with r Empty)) same_run)
+        sets.2 (ap (λ (v : Vec Worker). v.items) sets.3)
+
+    pub put_again : other ≡ hand → new.items ≡ s.workers.items
+    put_again is = put_in ∙ ap (λ h. slice_set s.workers.items i (worker_with Idle h)) (is ∙ same_hand)
+        ∙ set-same s.workers.items i (worker_with Idle may.hand) may.there
 
 module _ (s : State) (sound : IsSound s) (i : ℕ) (call : InnerCall) (may : MayTend s i call) where
   abbrev place : Worker
@@ -106,19 +138,12 @@ module _ (s : State) (sound : IsSound s) (i : ℕ) (call : InnerCall) (may : May
 
   -- ---- it is made
 
-  module _ (t : State) (reply : JobReply) (made : IsMade (held s) call may.hand reply (held t)) (kept : IsKept t.desk)
-      (set : t.workers.items ≡ slice_set s.workers.items i (worker_with Idle (hand_after (job_reply_of reply)))) where
+  module _ (t : State) (reply : JobReply) (made : IsMade (held s) call may.hand reply (held t)) (kept : IsKept t.desk) where
     abbrev new : State
     new = with_tended s t
 
     abbrev hand : Hand
     hand = hand_after (job_reply_of reply)
-
-    changed : IsChanged s new i place (worker_with Idle hand)
-    changed = record { there = may.there; set = set; verifier = refl; layout = refl; many = refl }
-
-    pub tended_setup : setup_in new ≡ setup_in s
-    tended_setup = same_setup changed
 
     abbrev then : World
     then = next job_of job_reply_of (setup_in s) (world s) (held s) sound.stands i (worker_seen place) seen call node reply (held t) made (book-apart _ (held t) _ kept)
@@ -127,56 +152,67 @@ module _ (s : State) (sound : IsSound s) (i : ℕ) (call : InnerCall) (may : May
     stands = made-stands job_of job_reply_of (setup_in s) (world s) (held s) sound.stands i (worker_seen place) seen call node reply (held t) made
         (book-apart _ (held t) _ kept)
 
-    world_is : world new ≡ then
-    world_is = λ j. record (world s) {
-      workers = (ap (λ (ks : List Worker). map worker_seen ks) set ∙ seen-carried s.workers.items i Idle may.hand hand may.there) j;
-      server = sym stands.server j;
-      parts = sym stands.parts j;
-      stamps = sym stands.stamps j;
-    }
-
     moved : HasMoved (world s) i call (job_reply_of reply) then
     moved = has-moved job_of job_reply_of (setup_in s) (world s) (held s) sound.stands i (worker_seen place) seen call node reply (held t) made
         (book-apart _ (held t) _ kept)
 
-    pub tended_events : (done : Done) → done_of done ≡ told_as (job_reply_of reply) → Tends s i call (Ok done) new
-    tended_events done is = (
-      none-excluded job_of job_reply_of (setup_in s) (world s) (held s) sound.stands i (worker_seen place) seen call node reply (held t) made
-          (book-apart _ (held t) _ kept),
-      job_reply_of reply,
-      subst (λ (w : World). HasMoved (world s) i call (job_reply_of reply) w) (sym world_is) moved,
-      is,
-    )
+    -- its reply is of a hand
+    pub of_hand : IsOfHand (job_reply_of reply)
+    of_hand = not-replied call _ moved.before moved.after (job_reply_of reply) moved.moves
 
-    -- the same messages run
-    running : running_messages t.workers.items ≡ running_messages s.workers.items
-    running = ap (λ (ks : List Worker). running_messages ks) set ∙ running-set s.workers.items i place (worker_with Idle hand) may.there refl
+    module _ (set : t.workers.items ≡ slice_set s.workers.items i (worker_with Idle hand)) where
+      changed : IsChanged s new i place (worker_with Idle hand)
+      changed = record { there = may.there; set = set; verifier = refl; layout = refl; many = refl }
 
-    pub tended_sound : OfOneRange → IsSound new
-    tended_sound one = record {
-      layout = ap (λ (x : FilerBooks Files Job JobReply). x.layout) made.books ∙ sound.layout;
-      kept = kept;
-      stands = subst (λ (x : Setup). StandsFor job_of job_reply_of x (world new) (held t)) (sym tended_setup)
-          (subst (λ (w : World). StandsFor job_of job_reply_of (setup_in s) w (held t)) (sym world_is) stands);
-      running = ap (λ (ms : List (Message Call)). length ms) running ∙ sound.running;
-      waiting = sound.waiting;
-      workers = all_ready changed sound (
-        tt,
-        carried-after one (layout_in s.calls) call _ moved.before moved.after (job_reply_of reply) may.node moved.moves,
-      );
-      few = still_few changed sound;
-      stamps = (
-          let more = stands.stamps in
-          let were = sound.stands.stamps in
-          let low = made.free.low in
-          let most = sound.few in
-          let run = few-run s.workers.items in
-          let are = sound.running in
-          let all : stamps (held t) + running_count s.calls ≤ 2 ^ 62 + 64 = omega (arith, more, were, low, most, run, are) in all);
-      opened = sound.opened;
-      owed = λ q x at. sound.owed q x at
-          ∙ ap (λ (ms : List (Message Call)). total (room_on q) (messages_of s.calls) + total (room_on q) ms) (sym running);
-    }
+      pub tended_setup : setup_in new ≡ setup_in s
+      tended_setup = same_setup changed
+
+      world_is : world new ≡ then
+      world_is = λ j. record (world s) {
+        workers = (ap (λ (ks : List Worker). map worker_seen ks) set ∙ seen-carried s.workers.items i Idle may.hand hand may.there) j;
+        server = sym stands.server j;
+        parts = sym stands.parts j;
+        stamps = sym stands.stamps j;
+      }
+
+      pub tended_events : (done : Done) → done_of done ≡ told_as (job_reply_of reply) → Tends s i call (Ok done) new
+      tended_events done is = (
+        none-excluded job_of job_reply_of (setup_in s) (world s) (held s) sound.stands i (worker_seen place) seen call node reply (held t) made
+            (book-apart _ (held t) _ kept),
+        job_reply_of reply,
+        subst (λ (w : World). HasMoved (world s) i call (job_reply_of reply) w) (sym world_is) moved,
+        is,
+      )
+
+      -- the same messages run
+      running : running_messages t.workers.items ≡ running_messages s.workers.items
+      running = ap (λ (ks : List Worker). running_messages ks) set ∙ running-set s.workers.items i place (worker_with Idle hand) may.there refl
+
+      pub tended_sound : OfOneRange → IsSound new
+      tended_sound one = record {
+        layout = ap (λ (x : FilerBooks Files Job JobReply). x.layout) made.books ∙ sound.layout;
+        kept = kept;
+        stands = subst (λ (x : Setup). StandsFor job_of job_reply_of x (world new) (held t)) (sym tended_setup)
+            (subst (λ (w : World). StandsFor job_of job_reply_of (setup_in s) w (held t)) (sym world_is) stands);
+        running = ap (λ (ms : List (Message Call)). length ms) running ∙ sound.running;
+        waiting = sound.waiting;
+        workers = all_ready changed sound (
+          tt,
+          carried-after one (layout_in s.calls) call _ moved.before moved.after (job_reply_of reply) may.node moved.moves,
+        );
+        few = still_few changed sound;
+        stamps = (
+            let more = stands.stamps in
+            let were = sound.stands.stamps in
+            let low = made.free.low in
+            let most = sound.few in
+            let run = few-run s.workers.items in
+            let are = sound.running in
+            let all : stamps (held t) + running_count s.calls ≤ 2 ^ 62 + 64 = omega (arith, more, were, low, most, run, are) in all);
+        opened = sound.opened;
+        owed = λ q x at. sound.owed q x at
+            ∙ ap (λ (ms : List (Message Call)). total (room_on q) (messages_of s.calls) + total (room_on q) ms) (sym running);
+      }
 
 -- ---- all is as it was
 

@@ -1,15 +1,19 @@
 -- What workers run, where one of them runs another thing.
-use Rattle.std.proofs.Common.{◌≡◌, ℕ, zero, suc, ◌+◌, Bool, List, [], ◌∷◌, ◌++◌, map, length, Option, Some, None, true, refl, sym, ap, ◌∙◌, arith}
-use Rattle.std.specs.Prelude.{is_none, slice_get, slice_set, option_map}
+use Rattle.std.proofs.Common.{◌≡◌, ℕ, zero, suc, ◌+◌, ◌<◌, Bool, List, [], ◌∷◌, ◌++◌, map, length, Option, Some, None, true, refl, sym, ap, ◌∙◌, arith}
+use Rattle.std.specs.Prelude.{is_none, slice_get, slice_set, slice_index_or, option_map, vec_len}
 use Rattle.std.proofs.lemmas.List.{length-append}
-use Rattle.std.proofs.lemmas.Option.{slice_get-map}
+use Rattle.std.specs.Global.{Vec}
+use Rattle.std.specs.Vec.{with_item}
+use Rattle.std.proofs.lemmas.Option.{slice_get-map, slice_get_read, slice_get_within}
 use Rattle.nfs_model.specs.Parts.{Hand, Empty, Fresh, Dead}
-use Rattle.nfs_model.specs.World.{changed_at, with_running, with_hand, with_held, all_running}
-use Rattle.nfs_model.specs.Events.Refusals.{is_idle, is_empty_hand}
+use Rattle.nfs_model.specs.World.{Setup, World, changed_at, with_running, with_hand, with_held, all_running}
+use Rattle.nfs_model.specs.Events.Refusals.{Work, Finish, is_idle, is_empty_hand, refusal}
 use Rattle.nfs_values.specs.declared.call.Call.{Call}
 use Rattle.scheduler.specs.declared.message.Message.{Message}
 use Rattle.depot_rule.specs.Sums.{total}
 use Rattle.depot_rule.specs.lemmas.Sums.{total-append}
+use Rattle.service.specs.declared.outcome.Outcome.{Outcome}
+use Rattle.engine.specs.declared.worker.Running.{Running}
 use Rattle.engine.specs.declared.worker.Worker.{Worker}
 use Rattle.engine.specs.declared.worker.WorkerRun.{WorkerRun}
 use Rattle.engine.specs.declared.worker.WorkerRun.TheVariants.{Idle, Begun, Worked}
@@ -17,6 +21,10 @@ use Rattle.engine.specs.Seen.{running_seen, worker_seen}
 use Rattle.engine.specs.Sound.{messages_in, running_messages}
 use Rattle.engine.specs.Workers.{worker_with}
 use Rattle.engine.proofs.Lists.{inner, none-some, set-here, set-twice}
+
+-- what an index of a vector found
+pub index-found : (v : Vec Worker) (i : ℕ) (k : Worker) → i < vec_len v → k ≡ slice_index_or v.items i k → slice_get v.items i ≡ Some k
+index-found v i k within read = slice_get_read v.items (length v.items) i k refl (let size = v.ok.0 in omega (arith, within, size)) read
 
 -- a worker as it is seen
 pub seen-at : (ks : List Worker) (i : ℕ) (k : Worker) → slice_get ks i ≡ Some k → slice_get (map worker_seen ks) i ≡ Some (worker_seen k)
@@ -42,6 +50,58 @@ seen-carried (k ∷ ks) (suc i) run was hand there = ap (λ ws. worker_seen k �
 pub ran-at : (o : Option Worker) (run : WorkerRun) → Some run ≡ option_map (λ (k : Worker). k.run) o → (hand : Hand) × (o ≡ Some (worker_with run hand))
 ran-at None run e = absurd (none-some run (sym e))
 ran-at (Some k) run e = (k.hand, ap (λ r. Some (worker_with r k.hand)) (sym (inner run k.run e)))
+
+-- what was looked at is so of a vector's list: a worker by what it runs, and where there is none
+module _ (ks xs : List Worker) (i : ℕ) (o : Option WorkerRun) (are : xs ≡ ks) (told : o ≡ option_map (λ (k : Worker). k.run) (slice_get xs i)) where
+  here : o ≡ option_map (λ (k : Worker). k.run) (slice_get ks i)
+  here = told ∙ ap (λ zs. option_map (λ (k : Worker). k.run) (slice_get zs i)) are
+
+  pub ran-here : (run : WorkerRun) → o ≡ Some run → (hand : Hand) × (slice_get ks i ≡ Some (worker_with run hand))
+  ran-here run is = ran-at (slice_get ks i) run (sym is ∙ here)
+
+  pub none-here : o ≡ None → slice_get ks i ≡ None
+  none-here is = by (slice_get ks i) (sym is ∙ here)
+    where
+      by : (x : Option Worker) → None ≡ option_map (λ (k : Worker). k.run) x → x ≡ None
+      by None e = refl
+      by (Some k) e = absurd (none-some k.run e)
+
+  module _ (setup : Setup) (w : World) (seen : w.workers ≡ map worker_seen ks) where
+    at : slice_get w.workers i ≡ option_map worker_seen (slice_get ks i)
+    at = ap (λ zs. slice_get zs i) seen ∙ slice_get-map worker_seen ks i
+
+    -- nothing was begun
+    pub work-nobody : o ≡ None → refusal setup w (Work i) ≡ Some 34
+    work-nobody is = rw (at, none-here is) refl
+
+    pub finish-nobody : o ≡ None → refusal setup w (Finish i) ≡ Some 34
+    finish-nobody is = rw (at, none-here is) refl
+
+    pub work-idle : o ≡ Some Idle → refusal setup w (Work i) ≡ Some 34
+    work-idle is = rw (at, (ran-here Idle is).1) refl
+
+    pub finish-idle : o ≡ Some Idle → refusal setup w (Finish i) ≡ Some 34
+    finish-idle is = rw (at, (ran-here Idle is).1) refl
+
+    -- it was worked already, or wasn't
+    pub work-again : (r : Running) (outcome : Outcome) → o ≡ Some (Worked r outcome) → refusal setup w (Work i) ≡ Some 34
+    work-again r outcome is = rw (at, (ran-here (Worked r outcome) is).1) refl
+
+    pub finish-early : (r : Running) → o ≡ Some (Begun r) → refusal setup w (Finish i) ≡ Some 35
+    finish-early r is = rw (at, (ran-here (Begun r) is).1) refl
+
+-- a place in a vector, and in one that was changed there
+pub in-vector : (v : Vec Worker) (i : ℕ) (k : Worker) → slice_get v.items i ≡ Some k → i < vec_len v
+in-vector v i k there =
+    let within = slice_get_within v.items i k there in
+    let size = v.ok.0 in
+    omega (arith, within, size)
+
+pub in-room : (v w : Vec Worker) (i : ℕ) (k x : Worker) → slice_get v.items i ≡ Some k → w ≡ with_item v i x → i < vec_len w
+in-room v w i k x there are =
+    let within = in-vector v i k there in
+    let same : vec_len w ≡ vec_len v = ap (λ (y : Vec Worker). vec_len y) are in
+    omega (arith, within, same)
 
 -- an idle worker is there
 pub idle-at : (o : Option Worker) → is_idle (option_map worker_seen o) ≡ true → (hand : Hand) × (o ≡ Some (worker_with Idle hand))

@@ -150,9 +150,10 @@ pub(crate) fn finish(state: &mut State, worker: usize) -> Result<Done, Refusal>
     ensures sound { IsSound state.new }
 {
     match run_at(&state.workers, worker) {
-        None | Some(WorkerRun::Idle) => return Err(Refusal::NoWork),
-        Some(WorkerRun::Begun(_)) => return Err(Refusal::NotWorked),
         Some(WorkerRun::Worked(..)) => {}
+        Some(WorkerRun::Begun(_)) => return Err(Refusal::NotWorked),
+        Some(WorkerRun::Idle) => return Err(Refusal::NoWork),
+        None => return Err(Refusal::NoWork),
     }
     let (running, outcome) = match take_run(&mut state.workers, worker) {
         WorkerRun::Worked(running, outcome) => (running, outcome),

@@ -62,7 +62,9 @@ fn make(
     }
     match desk.work(worker, RunInner { alloc, call, hand }) {
         InnerOutcome::Done(reply) => {
-            desk.finish(worker, &Job::Inner(call), &reply);
+            let entry = Job::Inner(call);
+            desk.finish(worker, &entry, &reply);
+            drop(entry);
             Ok(reply)
         }
         InnerOutcome::Refused => {

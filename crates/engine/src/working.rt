@@ -84,8 +84,11 @@ pub(crate) fn work(
     replies_fit();
     servers_are_roomy();
     has_eight(state.verifier.0);
-    let Some(WorkerRun::Begun(running)) = run_at(&state.workers, worker) else {
-        return Err(Refusal::NoWork);
+    let running = match run_at(&state.workers, worker) {
+        Some(WorkerRun::Begun(running)) => running,
+        Some(WorkerRun::Worked(..)) => return Err(Refusal::NoWork),
+        Some(WorkerRun::Idle) => return Err(Refusal::NoWork),
+        None => return Err(Refusal::NoWork),
     };
     let outcome = run_on(state.alloc, &mut state.desk, counts, worker, running);
     let done = done_of(&outcome);

@@ -92,14 +92,14 @@ module _ {P C R : Type 0} (job : C → Job) (told : R → JobReply) (b : FilerBo
   abbrev first_books : FilerBooks P C R
   first_books = with_lent b i (Some l)
 
-  lent : HasLent c i l
+  pub lent : HasLent c i l
   lent = lent-here b i (Some l) c begins.books None idle
 
   lent-first : HasLent first_books i l
   lent-first = set_here b.lent i (Some l) (at-length b.lent i None idle)
 
   -- what was lent is as the finished calls left it
-  granted : (k : ℕ) → Covers ps here k → begins.parcels k ≡ settled b k
+  pub granted : (k : ℕ) → Covers ps here k → begins.parcels k ≡ settled b k
   granted k cover = let p = covered-node L lawful (inner_node call) node k cover in begins.unchanged k p.0 p.1 cover
 
   pub is-free : IsFree b call
@@ -131,7 +131,7 @@ module _ {P C R : Type 0} (job : C → Job) (told : R → JobReply) (b : FilerBo
   -- ---- it runs
 
   module _ {O : Type 0} (does : Does (FilerParcel P) O) (o : O) (d : FilerBooks P C R) (works : HasWorked does c i o d) where
-    ran-on : works.lent ≡ l
+    pub ran-on : works.lent ≡ l
     ran-on = let e = some-injective (Some works.lent) (Some l) (sym works.is_lent ∙ lent) in cc
 
     -- what its worker has then

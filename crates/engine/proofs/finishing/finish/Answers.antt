@@ -1,6 +1,7 @@
 use Rattle.std.proofs.Common.{◌≡◌, ◌≤◌, ℕ, Bool, Some, refl, sym, ap, ◌∙◌, subst, inl, inr, arith}
 use Rattle.std.specs.Prelude.{length, slice_get}
 use Rattle.std.specs.Global.{Vec}
+use Rattle.std.specs.Option.{option_copied}
 use Rattle.std.specs.Vec.{with_item}
 use Rattle.std.proofs.lemmas.List.{length-set}
 use Rattle.nfs_values.specs.Moment.{moment_of}
@@ -20,9 +21,10 @@ use Rattle.engine.specs.declared.worker.WorkerRun.{WorkerRun}
 use Rattle.engine.specs.declared.worker.WorkerRun.TheVariants.{Idle, Worked}
 use Rattle.engine.specs.declared.state.State.{State}
 use Rattle.engine.specs.Workers.{worker_with}
+use Rattle.engine.specs.Seen.{setup_in, world}
 use Rattle.engine.specs.Ending.{EndsIn, OwesLess}
 use Rattle.engine.specs.Sound.{room_on}
-use Rattle.engine.proofs.Workers.{messages-changed}
+use Rattle.engine.proofs.Workers.{messages-changed, ran-here, finish-early, finish-idle, finish-nobody, in-vector}
 use Rattle.engine.proofs.Placed.{room-own}
 use Rattle.engine.proofs.Closing.{found}
 use Rattle.engine.proofs.Changed.{IsChanged, same_setup}
@@ -31,6 +33,28 @@ use Rattle.engine.proofs.Finishes.{ready, some_run, may_go_back, again_admitted,
 use Rattle.engine.proofs.Finishes.{ended_sound}
 use Rattle.engine.proofs.finishing.finish.Goals as goal
 use Rattle.engine.proofs.finishing.finish.Goals.{in-Replied, in-Starved}
+
+-- ---- it is refused
+
+pub returns-in-Some-Begun-clause-events : goal.returns-in-Some-Begun-clause-events
+returns-in-Some-Begun-clause-events c =
+    let s = c.args.state.now in
+    (inl (finish-early s.workers.items c.deref.result.now c.args.worker (option_copied c.run_at.result) c.deref.ensures.value c.run_at.ensures (setup_in s) (world s) refl _ (ap option_copied c.in-Some-Begun.is ∙ ap Some c.in-Some-Begun.field-0-is)), refl)
+
+pub returns-in-Some-Idle-clause-events : goal.returns-in-Some-Idle-clause-events
+returns-in-Some-Idle-clause-events c =
+    let s = c.args.state.now in
+    (inl (finish-idle s.workers.items c.deref.result.now c.args.worker (option_copied c.run_at.result) c.deref.ensures.value c.run_at.ensures (setup_in s) (world s) refl (ap option_copied c.in-Some-Idle.is ∙ ap Some c.in-Some-Idle.field-0-is)), refl)
+
+pub returns-in-None-clause-events : goal.returns-in-None-clause-events
+returns-in-None-clause-events c =
+    let s = c.args.state.now in
+    (inl (finish-nobody s.workers.items c.deref.result.now c.args.worker (option_copied c.run_at.result) c.deref.ensures.value c.run_at.ensures (setup_in s) (world s) refl (ap option_copied c.in-None.is)), refl)
+
+pub take_run-requires : goal.take_run-requires
+take_run-requires c =
+    let s = c.args.state.now in
+    in-vector s.workers c.args.worker _ (ran-here s.workers.items c.deref.result.now c.args.worker (option_copied c.run_at.result) c.deref.ensures.value c.run_at.ensures _ (ap option_copied c.in-Some-Worked.is ∙ ap Some c.in-Some-Worked.field-0-is)).1
 
 -- ---- it moves
 

@@ -1,6 +1,7 @@
-use Rattle.std.proofs.Common.{◌≡◌, ℕ, ◌+◌, ◌≤◌, List, ◌∙◌, Some, None, Ok, refl, sym, ap, subst}
+use Rattle.std.proofs.Common.{◌≡◌, ℕ, ◌+◌, ◌≤◌, List, ◌∙◌, Some, None, Ok, refl, sym, ap, subst, inl}
 use Rattle.std.specs.Prelude.{◌^◌, length, slice_get, slice_set}
 use Rattle.std.specs.List.{AllByRecursion}
+use Rattle.std.specs.Option.{option_copied}
 use Rattle.std.specs.Global.{Vec}
 use Rattle.std.proofs.lemmas.List.{length-set}
 use Rattle.nfs_model.specs.Tree.{Layout}
@@ -42,13 +43,10 @@ use Rattle.engine.specs.declared.worker.WorkerRun.TheVariants.{Idle, Begun, Work
 use Rattle.engine.specs.Seen.{running_as, worker_seen, setup_in, world, done_of}
 use Rattle.engine.specs.Workers.{worker_with}
 use Rattle.engine.specs.Sound.{IsReady, IsPlaced, MayEnd, running_messages, room_on}
-use Rattle.service_counts.specs.Counts.{world_counts}
-use Rattle.engine.specs.declared.state.State.{State}
 use Rattle.engine.proofs.Counted.{stands-counted}
 use Rattle.engine.proofs.Lists.{all-at, all-set}
-use Rattle.engine.proofs.Workers.{seen-at, ran-at, runs-then}
+use Rattle.engine.proofs.Workers.{seen-at, ran-here, runs-then, work-again, work-idle, work-nobody, in-vector, in-room}
 use Rattle.engine.proofs.Worked.{running-set, same-begun, few-stamps, may-work, has-worked, worked-world, world_with, told-done, roomy-now, may-end}
-use Rattle.engine.proofs.working.work.Goals.{in_default-via-in-Some+in_default, in_default-via-in_default}
 use Rattle.engine.proofs.working.work.Goals as goal
 
 pub run_on-outcome-requires-clause-may : goal.run_on-outcome-requires-clause-may
@@ -57,7 +55,7 @@ run_on-outcome-requires-clause-may c =
     let i = c.args.worker in
     let r = c.in-Some-Begun.running in
     let sound = c.requires.whole.0 in
-    let found = begun-at c in
+    let found = ran-here s.workers.items c.deref.result.now c.args.worker (option_copied c.run_at.result) c.deref.ensures.value c.run_at.ensures (Begun r) (ap option_copied c.in-Some-Begun.is ∙ ap Some c.in-Some-Begun.field-0-is) in
     let ran : Worker = worker_with (Begun r) found.0 in
     let placed = (all-at (IsReady (layout_in s.calls) (length s.connections.items)) s.workers.items i ran sound.workers found.1).0 in
     may-work job_of job_reply_of (setup_in s) (world s) (books s.desk) sound.stands i (worker_seen ran) (seen-at s.workers.items i ran found.1)
@@ -68,6 +66,29 @@ pub run_on-outcome-requires-clause-counted : goal.run_on-outcome-requires-clause
 run_on-outcome-requires-clause-counted c =
     let s = c.args.state.now in
     c.requires.counted ∙ stands-counted job_of job_reply_of (setup_in s) (world s) (books s.desk) c.requires.whole.0.stands
+
+pub returns-in-Some-Worked-clause-events : goal.returns-in-Some-Worked-clause-events
+returns-in-Some-Worked-clause-events c =
+    let s = c.args.state.now in
+    (inl (work-again s.workers.items c.deref.result.now c.args.worker (option_copied c.run_at.result) c.deref.ensures.value c.run_at.ensures (setup_in s) (world s) refl _ _ (ap option_copied c.in-Some-Worked.is ∙ ap Some c.in-Some-Worked.field-0-is)), refl)
+
+pub returns-in-Some-Idle-clause-events : goal.returns-in-Some-Idle-clause-events
+returns-in-Some-Idle-clause-events c =
+    let s = c.args.state.now in
+    (inl (work-idle s.workers.items c.deref.result.now c.args.worker (option_copied c.run_at.result) c.deref.ensures.value c.run_at.ensures (setup_in s) (world s) refl (ap option_copied c.in-Some-Idle.is ∙ ap Some c.in-Some-Idle.field-0-is)), refl)
+
+pub returns-in-None-clause-events : goal.returns-in-None-clause-events
+returns-in-None-clause-events c =
+    let s = c.args.state.now in
+    (inl (work-nobody s.workers.items c.deref.result.now c.args.worker (option_copied c.run_at.result) c.deref.ensures.value c.run_at.ensures (setup_in s) (world s) refl (ap option_copied c.in-None.is)), refl)
+
+pub take_run-requires : goal.take_run-requires
+take_run-requires c =
+    let s = c.args.state.now in
+    in-vector s.workers c.args.worker _ (ran-here s.workers.items c.deref.result.now c.args.worker (option_copied c.run_at.result) c.deref.ensures.value c.run_at.ensures (Begun c.in-Some-Begun.running) (ap option_copied c.in-Some-Begun.is ∙ ap Some c.in-Some-Begun.field-0-is)).1
+
+pub set_run-requires : goal.set_run-requires
+set_run-requires c = in-room c.args.state.now.workers c.take_run.new.workers c.args.worker _ _ c.take_run.ensures.1 c.take_run.ensures.2
 
 -- ---- what was worked
 
@@ -121,9 +142,12 @@ module _ (c : goal.After-set_run) where
   taken : slice_get ks i ≡ Some (worker_with (Begun c.in-Begun.running) hand)
   taken = c.take_run.ensures.1 ∙ ap (λ (x : WorkerRun). Some (worker_with x hand)) c.in-Begun.is
 
+  looked : (found : Hand) × (slice_get ks i ≡ Some (worker_with (Begun r) found))
+  looked = ran-here ks c.deref.result.now i (option_copied c.run_at.result) c.deref.ensures.value c.run_at.ensures (Begun r) (ap option_copied c.in-Some-Begun.is ∙ ap Some c.in-Some-Begun.field-0-is)
+
   -- the message that is taken out is the one that was looked at
   same : c.in-Begun.running ≡ r
-  same = same-begun ks i c.in-Begun.running r FOUND.0 hand FOUND.1 taken
+  same = same-begun ks i c.in-Begun.running r looked.0 hand looked.1 taken
 
   abbrev ran : Worker
   ran = worker_with (Begun r) hand
@@ -192,12 +216,6 @@ module _ (c : goal.After-set_run) where
   -- the same messages run
   running : running_messages ks' ≡ running_messages ks
   running = ap (λ (xs : List Worker). running_messages xs) are ∙ running-set ks i ran (worker_with (Worked r o) hand) there refl
-
-pub returns-in_default-clause-counted : goal.returns-in_default-clause-counted
-returns-in_default-clause-counted c =
-    let same : c.in_default.state ≡ c.args.state.now =
-    elim c.in_default.branch [ in_default-via-in-Some+in_default w ↦ w.state-is | in_default-via-in_default w ↦ w.state-is ] in
-    c.requires.counted ∙ sym (ap (λ (s : State). world_counts (world s)) same)
 
 pub returns-clause-events : goal.returns-clause-events
 returns-clause-events c =
