@@ -18,7 +18,7 @@ mod working;
 
 pub use engine::Engine;
 pub use engine_feed::{FinishedCall, Stop, StreamFault};
-pub use service_counts::PartCounts;
 pub use event::{Done, Event, Refusal};
 pub use service::{BatchInHand, Outcome};
+pub use service_counts::PartCounts;
 pub use worker::{Running, Worker, WorkerRun};

@@ -217,9 +217,6 @@ module _ (c : goal.After-set_run) where
   running : running_messages ks' ≡ running_messages ks
   running = ap (λ (xs : List Worker). running_messages xs) are ∙ running-set ks i ran (worker_with (Worked r o) hand) there refl
 
-pub returns-in_default-clause-counted : goal.returns-in_default-clause-counted
-returns-in_default-clause-counted c = c.requires.counted
-
 pub returns-clause-events : goal.returns-clause-events
 returns-clause-events c =
     let happens = work-happens job_of job_reply_of (setup c) (old c) (b c) c.requires.whole.0.stands (i c) (worker_seen (ran c)) (seen c)
