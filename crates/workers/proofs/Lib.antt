@@ -1,0 +1,4 @@
+mod Replayed
+mod Granted
+mod Serving
+mod Turning

@@ -1,0 +1,2 @@
+#[test]
+fn t(rt: HostRuntime) {}
