@@ -1,4 +1,4 @@
 mod Replayed
-mod Granted
-mod Serving
+mod Grants
+mod Served
 mod Turning

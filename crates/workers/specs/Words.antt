@@ -7,10 +7,12 @@ use Rattle.affinity_tree.specs.Layout.{layout_of}
 use Rattle.affinity_tree.specs.Tree.{IsNode}
 use Rattle.depot_rule.specs.declared.view.View.{View}
 use Rattle.depot_rule.specs.History.{listed, entries_of}
+use Rattle.depot_rule.specs.Shares.{Has}
 use Rattle.depot.specs.Words as depots
 use Rattle.depot.specs.Words.{IsSeatHere}
 use Rattle.held_state.specs.Opening.{AreOpening}
 use Rattle.held_state.specs.Parcels.{FilerParcel}
+use Rattle.parcels.specs.declared.files.Files.{Files}
 use Rattle.shared_waiting.specs.Passes as passes
 use Rattle.shared_waiting.specs.Passes.{IsOf}
 use Rattle.workers.specs.declared.message.Message.{Message}
@@ -33,6 +35,11 @@ verifier_in filer = filer.verifier.0
 -- at the start the parcels were those with which a run of the layout begins, with this verifier
 abbrev pub HasOpened : {P E : Type 0} → trees.Layout → List ℕ → View (FilerParcel P) E → Type 0
 HasOpened layout verifier v = AreOpening layout verifier (listed v.first)
+
+-- so they were for a seat with this view, which has no grant
+pub record IsReady (layout : trees.Layout) (verifier : List ℕ) (v : FilerView) : Type 0 where
+  pub opened : HasOpened layout verifier v
+  pub none_open : (b : ℕ) (g : List (Option (FilerParcel Files))) → Has v b g → ⊥
 
 -- the layout by which messages fit the queue
 abbrev pub layout_known : Passed → Option trees.Layout

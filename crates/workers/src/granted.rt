@@ -1,6 +1,6 @@
 //! Calls on what was granted, of whichever kind of node.
 
-ghost use Rattle.std.specs.Prelude.{◌≡◌, Some, None, IfOk, IfErr, IfSome, OnErr};
+ghost use Rattle.std.specs.Prelude.{◌≡◌, None, IfOk, IfErr, IfSome, OnErr, MatchOption};
 ghost use Rattle.affinity_tree.specs.Numbers.{number_of};
 ghost use Rattle.parcel_sets.specs.Exact.{kind_in};
 ghost use Rattle.depot.specs.Grants.{entry_of, IsEnded, IsFinished, IsRefused};
@@ -26,7 +26,7 @@ use service::{Job, JobReply, Outcome, Run, Service};
 pub(crate) type Granted = Option<AnyGrant<Parcel<Files>, ParcelKinds>>;
 
 /// A message at a stage.
-fn place_of(message: &Message, stage: Stage) -> Place {
+pub(crate) fn place_of(message: &Message, stage: Stage) -> Place {
     Place {
         connection: message.origin.connection,
         xid: message.origin.xid,
@@ -48,9 +48,9 @@ pub(crate) fn run<G: Gate>(
     requires none { granted.old ≡ None }
     ensures seat { IsSeatHere filer.now.depot seat.new }
     ensures splits { splits_left seat.new ≡ splits_left seat.old }
-    ensures ran { let L = layout_in filer.now in IfOk result (λ outcome. (any : _)
-        × (granted.new ≡ Some any)
-        × HasRunOn L (view seat.old) message.now moment outcome (lent_of L any) (view seat.new)) }
+    ensures ran { let L = layout_in filer.now in IfOk result (λ outcome.
+        MatchOption granted.new ⊥ (λ any.
+        HasRunOn L (view seat.old) message.now moment outcome (lent_of L any) (view seat.new))) }
     ensures refused { IfErr result (λ refusal. IsRefused (layout_in filer.now)
         (view seat.old) message.now.affinity refusal (view seat.new)) }
     ensures none { OnErr result (granted.new ≡ None) }
@@ -82,9 +82,8 @@ pub(crate) fn finish(
     reply: &JobReply,
 )
     requires seat { IsSeatHere filer.now.depot seat.old }
-    requires can { let L = layout_in filer.now in (any : _) × (granted ≡ Some any)
-        × CanFinish kind_in filer_behaviour L (view seat.old) (lent_of L any)
-        job.now reply.now }
+    requires can { let L = layout_in filer.now in MatchOption granted ⊥ (λ any.
+        CanFinish kind_in filer_behaviour L (view seat.old) (lent_of L any) job.now reply.now) }
     ensures seat { IsSeatHere filer.now.depot seat.new }
     ensures splits { splits_left seat.new ≡ splits_left seat.old }
     ensures finished { let L = layout_in filer.now in IfSome granted (λ any.
@@ -101,8 +100,8 @@ pub(crate) fn finish(
 /// Ends a call without an entry.
 pub(crate) fn put_back(filer: &Filer, seat: &mut Seat<Service>, granted: Granted)
     requires seat { IsSeatHere filer.now.depot seat.old }
-    requires can { let L = layout_in filer.now in (any : _) × (granted ≡ Some any)
-        × CanPutBack L (view seat.old) (lent_of L any) }
+    requires can { let L = layout_in filer.now in MatchOption granted ⊥ (λ any.
+        CanPutBack L (view seat.old) (lent_of L any)) }
     ensures seat { IsSeatHere filer.now.depot seat.new }
     ensures splits { splits_left seat.new ≡ splits_left seat.old }
     ensures ended { let L = layout_in filer.now in IfSome granted (λ any.

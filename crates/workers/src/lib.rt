@@ -7,8 +7,6 @@ mod message;
 mod queueing;
 mod serving;
 mod shared;
-#[cfg(test)]
-mod tests;
 mod turn;
 mod turned;
 mod worker;

@@ -1,11 +1,11 @@
 //! A message on a seat, from begin to end.
 
-ghost use Rattle.std.specs.Prelude.{◌≡◌, ◌≤◌, length, Some, IfSome};
+ghost use Rattle.std.specs.Prelude.{◌≡◌, ◌≤◌, length, IfSome, MatchOption};
 ghost use Rattle.affinity_tree.specs.Numbers.{number_of};
 ghost use Rattle.nfs_values.specs.Reply.{reply_of};
 ghost use Rattle.parcel_sets.specs.Exact.{kind_in};
 ghost use Rattle.depot.specs.Grants.{entry_of, IsFinished};
-ghost use Rattle.depot.specs.Words.{view, splits_left, IsSeatHere, HasNoGrant};
+ghost use Rattle.depot.specs.Words.{view, splits_left, IsSeatHere};
 ghost use Rattle.desk.specs.Any.{lent_of};
 ghost use Rattle.desk_laws.specs.Backing.{CanFinish};
 ghost use Rattle.outboxes.specs.Boxes.{addressed};
@@ -14,17 +14,30 @@ ghost use Rattle.outboxes.specs.Messages.{record_of};
 ghost use Rattle.service.specs.declared.job.JobReply.TheVariants.{Replied};
 ghost use Rattle.workers.specs.Messages.{IsPlaced};
 ghost use Rattle.workers.specs.Turns.{filer_behaviour, job_of_message, HasServed};
-ghost use Rattle.workers.specs.Words.{layout_in, verifier_in, HasOpened};
+ghost use Rattle.workers.specs.Words.{layout_in, verifier_in, IsReady};
 
-use crate::granted::{Granted, finish, put_back, run};
+use crate::granted::{Granted, finish, place_of, put_back, run};
 use crate::message::Message;
 use crate::shared::Filer;
-use crate::turned::{Gate, Place, Served, Stage};
+use crate::turned::{Gate, Served, Stage};
 use depot::Seat;
 use nfs_values::{Moment, Reply};
 use outboxes::Answer;
 use rpc_msg::{replies_fit, servers_are_roomy};
 use service::{Asked, Job, JobReply, Outcome, ServedCall, Service};
+
+/// The reply of an entry to a record.
+fn into_reply(told: JobReply) -> Reply
+    requires { (reply : _) × (told ≡ Replied reply) }
+    ensures { Replied result ≡ told }
+{
+    match told {
+        JobReply::Replied(reply) => reply,
+        JobReply::Took(_took) => unreachable!(),
+        JobReply::Gave(_gave) => unreachable!(),
+        JobReply::Surveyed(_counts) => unreachable!(),
+    }
+}
 
 /// Ends a message's call by its entry, and answers it.
 fn answer(
@@ -37,9 +50,9 @@ fn answer(
     starved: bool,
 ) -> Answer
     requires seat { IsSeatHere filer.now.depot seat.old }
-    requires can { let L = layout_in filer.now in (any : _) × (granted ≡ Some any)
-        × CanFinish kind_in filer_behaviour L (view seat.old) (lent_of L any)
-        (job_of_message message moment starved) (Replied reply) }
+    requires can { let L = layout_in filer.now in MatchOption granted ⊥ (λ any.
+        CanFinish kind_in filer_behaviour L (view seat.old) (lent_of L any)
+        (job_of_message message moment starved) (Replied reply)) }
     requires room { length (record_of (replies.message message.origin.xid (reply_of reply)))
         ≤ message.room }
     ensures seat { IsSeatHere filer.now.depot seat.new }
@@ -69,10 +82,8 @@ fn answer(
     });
     let told = JobReply::Replied(reply);
     finish(filer, seat, granted, &job, &told);
-    match told {
-        JobReply::Replied(reply) => Answer::new(origin.connection, origin.xid, &reply, room),
-        _ => unreachable!(),
-    }
+    let reply = into_reply(told);
+    Answer::new(origin.connection, origin.xid, &reply, room)
 }
 
 /// An array of eight bytes has eight.
@@ -89,45 +100,45 @@ pub(crate) fn serve<G: Gate>(
     gate: &G,
 ) -> Served
     requires seat { IsSeatHere filer.now.depot seat.old }
-    requires opened { HasOpened (layout_in filer.now) (verifier_in filer.now) (view seat.old) }
-    requires none_open { HasNoGrant seat.old }
+    requires ready { IsReady (layout_in filer.now) (verifier_in filer.now) (view seat.old) }
     requires placed { IsPlaced (layout_in filer.now) message }
     ensures seat { IsSeatHere filer.now.depot seat.new }
     ensures splits { splits_left seat.new ≡ splits_left seat.old }
-    ensures opened { HasOpened (layout_in filer.now) (verifier_in filer.now) (view seat.new) }
-    ensures none_open { HasNoGrant seat.new }
+    ensures ready { IsReady (layout_in filer.now) (verifier_in filer.now) (view seat.new) }
     ensures served { HasServed (layout_in filer.now)
         (view seat.old) message moment result (view seat.new) }
 {
     replies_fit();
     servers_are_roomy();
     has_eight(filer.verifier.0);
+    let place = place_of(&message, Stage::Ended);
     let mut granted = None;
     let outcome = match run(filer, seat, &message, moment, gate, &mut granted) {
         Ok(outcome) => outcome,
-        Err(refusal) => return Served::Refused(message, refusal),
+        Err(refusal) => {
+            drop(granted);
+            return Served::Refused(message, refusal);
+        }
     };
-    let place = Place {
-        connection: message.origin.connection,
-        xid: message.origin.xid,
-        stage: Stage::Ended,
-    };
-    let served = match outcome {
+    match outcome {
         Outcome::Replied(reply) => {
-            Served::Done(answer(filer, seat, granted, message, moment, reply, false))
+            let answer = answer(filer, seat, granted, message, moment, reply, false);
+            gate.pass(place);
+            Served::Done(answer)
         }
         Outcome::Starved => {
             let reply = Reply::SystemError;
-            Served::Done(answer(filer, seat, granted, message, moment, reply, true))
+            let answer = answer(filer, seat, granted, message, moment, reply, true);
+            gate.pass(place);
+            Served::Done(answer)
         }
         Outcome::Moved(affinity) => {
             put_back(filer, seat, granted);
+            gate.pass(place);
             Served::Moved(Message {
                 affinity,
                 ..message
             })
         }
-    };
-    gate.pass(place);
-    served
+    }
 }

@@ -1,5 +1,6 @@
 -- A message on a seat: what its run may end in, and what comes of it.
 use Rattle.std.proofs.Common.{◌≡◌, ℕ, ◌≤◌, Bool, true, false, List, [], ◌∷◌, ◌++◌, length, Option, Some, None, refl, sym, ap, ◌∙◌, subst, arith}
+use Rattle.std.specs.Prelude.{IfSome, MatchOption}
 use Rattle.nfs_model.specs.Types as types
 use Rattle.nfs_model.specs.Types.{Asked, Ask, SystemError}
 use Rattle.nfs_model.specs.Tree.{Layout, Affinity}
@@ -30,6 +31,7 @@ use Rattle.held_state.specs.Parcels.{FilerParcel}
 use Rattle.held_state.specs.Deeds.{FilerSteps}
 use Rattle.held_state.specs.Running.{HasFiler, Enters, MovesTo, finished_at}
 use Rattle.parcels.specs.declared.files.Files.{Files}
+use Rattle.outboxes.specs.Boxes.{Addressed, addressed}
 use Rattle.outboxes.specs.Messages as replies
 use Rattle.outboxes.specs.Messages.{record_of}
 use Rattle.service.specs.Running.{HasRun}
@@ -40,9 +42,9 @@ use Rattle.workers.specs.declared.message.Message.{Message}
 use Rattle.workers.specs.Balance.{FilerView, FilerEntry}
 use Rattle.workers.specs.Messages.{IsPlaced}
 use Rattle.workers.specs.Runs.{FilerLent, HasRunOn}
-use Rattle.workers.specs.Turns.{filer_behaviour, job_of_message, HasMoved}
-use Rattle.workers.specs.Words.{HasOpened}
-use Rattle.workers.proofs.Granted.{as-left}
+use Rattle.workers.specs.Turns.{filer_behaviour, job_of_message, HasFinished, HasMoved}
+use Rattle.workers.specs.Words.{HasOpened, IsReady}
+use Rattle.workers.proofs.Grants.{as-left}
 use Rattle.workers.proofs.Replayed.{RoomyBegins, RoomyStays, RepliesFit, reply-fits, starved-fits}
 
 abbrev Parcels : Type 0
@@ -121,19 +123,28 @@ module _ (layout : Layout) (lawful : fault_of layout ≡ None) (m : Message) (pl
     ends : IsFinished filer_behaviour w (number_of layout node) entry u
     ends = subst (λ a. IsFinished filer_behaviour w (number_of layout a) entry u) here finished
 
-    pub entered : entries_of u ≡ entries_of v ++ entry ∷ []
-    entered = finished-entries filer_behaviour w u (number_of layout node) entry ends
-        ∙ ap (λ es. es ++ entry ∷ []) (begun-entries v w (number_of layout node) before begun)
+    pub entered-ready : (verifier : List ℕ) → IsReady layout verifier v → IsReady layout verifier u
+    entered-ready verifier ready = record {
+      opened = subst (λ (x : FilerView). HasOpened layout verifier x) (sym ends.3)
+          (subst (λ (x : FilerView). HasOpened layout verifier x) (sym begun.3) ready.opened);
+      none_open = finished-none filer_behaviour v w u (number_of layout node) before entry ready.none_open begun ends;
+    }
 
-    pub entered-none : ((b : ℕ) (g : List (Option (FilerParcel Files))) → Has v b g → ⊥) → (b : ℕ) (g : List (Option (FilerParcel Files))) → Has u b g → ⊥
-    entered-none none = finished-none filer_behaviour v w u (number_of layout node) before entry none begun ends
-
-    pub entered-opened : (verifier : List ℕ) → HasOpened layout verifier v → HasOpened layout verifier u
-    entered-opened verifier opened =
-        subst (λ (x : FilerView). HasOpened layout verifier x) (sym ends.3) (subst (λ (x : FilerView). HasOpened layout verifier x) (sym begun.3) opened)
-
-    pub entered-added : (between : List FilerEntry) × HasAdded filer_behaviour v between entry
-    entered-added = (ends.2, subst (λ (x : FilerView). HasAdded filer_behaviour x ends.2 entry) begun.3 ends.4)
+    pub entered : (a : Addressed) → a ≡ addressed m.origin.connection.0 (replies.message m.origin.xid (reply_of reply)) → HasFinished v m moment a u
+    entered a same = record {
+      entry = entry;
+      is = record {
+        starved = starved;
+        call = refl;
+        reply = ap (λ (x : Addressed). jobs.Replied x.message.reply) (sym same);
+        connection = ap (λ (x : Addressed). x.connection) same;
+        xid = ap (λ (x : Addressed). x.message.xid) same;
+      };
+      entries = finished-entries filer_behaviour w u (number_of layout node) entry ends
+          ∙ ap (λ es. es ++ entry ∷ []) (begun-entries v w (number_of layout node) before begun);
+      between = ends.2;
+      added = subst (λ (x : FilerView). HasAdded filer_behaviour x ends.2 entry) begun.3 ends.4;
+    }
 
   -- ---- its reply fits
 
@@ -190,12 +201,12 @@ module _ (layout : Layout) (lawful : fault_of layout ≡ None) (m : Message) (pl
       pub back-entries : entries_of u ≡ entries_of v
       back-entries = ended-entries w u (number_of layout node) ends-so ∙ begun-entries v w (number_of layout node) before begun
 
-      pub back-none : ((b : ℕ) (g : List (Option (FilerParcel Files))) → Has v b g → ⊥) → (b : ℕ) (g : List (Option (FilerParcel Files))) → Has u b g → ⊥
-      back-none none = ended-none v w u (number_of layout node) before none begun ends-so
-
-      pub back-opened : (verifier : List ℕ) → HasOpened layout verifier v → HasOpened layout verifier u
-      back-opened verifier opened =
-          subst (λ (x : FilerView). HasOpened layout verifier x) (sym ended.2) (subst (λ (x : FilerView). HasOpened layout verifier x) (sym begun.3) opened)
+      pub back-ready : (verifier : List ℕ) → IsReady layout verifier v → IsReady layout verifier u
+      back-ready verifier ready = record {
+        opened = subst (λ (x : FilerView). HasOpened layout verifier x) (sym ended.2)
+            (subst (λ (x : FilerView). HasOpened layout verifier x) (sym begun.3) ready.opened);
+        none_open = ended-none v w u (number_of layout node) before ready.none_open begun ends-so;
+      }
 
 -- ---- it is refused
 
@@ -204,11 +215,27 @@ module _ (layout : Layout) (v w : FilerView) (a : codes.Affinity) where
   refused-entries (refusals.Busy at word) refused = ap (λ (x : FilerView). entries_of x) refused.1.1
   refused-entries refusals.Worn refused = ap (λ (x : FilerView). entries_of x) refused.1
 
-  pub refused-none : (refusal : Refusal) → IsRefused layout v a refusal w
-      → ((b : ℕ) (g : List (Option (FilerParcel Files))) → Has v b g → ⊥) → (b : ℕ) (g : List (Option (FilerParcel Files))) → Has w b g → ⊥
-  refused-none (refusals.Busy at word) refused none b g has = none b g (subst (λ (x : FilerView). Has x b g) refused.1.1 has)
-  refused-none refusals.Worn refused none b g has = none b g (subst (λ (x : FilerView). Has x b g) refused.1 has)
+  pub refused-ready : (verifier : List ℕ) (refusal : Refusal) → IsRefused layout v a refusal w → IsReady layout verifier v → IsReady layout verifier w
+  refused-ready verifier (refusals.Busy at word) refused ready = record {
+    opened = subst (λ (x : FilerView). HasOpened layout verifier x) (sym refused.1.1) ready.opened;
+    none_open = λ b g has. ready.none_open b g (subst (λ (x : FilerView). Has x b g) refused.1.1 has);
+  }
+  refused-ready verifier refusals.Worn refused ready = record {
+    opened = subst (λ (x : FilerView). HasOpened layout verifier x) (sym refused.1) ready.opened;
+    none_open = λ b g has. ready.none_open b g (subst (λ (x : FilerView). Has x b g) refused.1 has);
+  }
 
-  pub refused-opened : (verifier : List ℕ) (refusal : Refusal) → IsRefused layout v a refusal w → HasOpened layout verifier v → HasOpened layout verifier w
-  refused-opened verifier (refusals.Busy at word) refused opened = subst (λ (x : FilerView). HasOpened layout verifier x) (sym refused.1.1) opened
-  refused-opened verifier refusals.Worn refused opened = subst (λ (x : FilerView). HasOpened layout verifier x) (sym refused.1) opened
+-- ---- what was granted
+
+-- where there is a grant, what is known of it leads on
+pub granted-so : {A : Type 0} (o : Option A) (Q R : A → Type 0) → ((x : A) → Q x → R x) → MatchOption o ⊥ Q → MatchOption o ⊥ R
+granted-so None Q R f q = q
+granted-so (Some x) Q R f q = f x q
+
+pub granted-both : {A : Type 0} (o : Option A) (Q R : A → Type 0) (T : Type 0) → ((x : A) → Q x → R x → T) → MatchOption o ⊥ Q → IfSome o R → T
+granted-both None Q R T f q r = absurd q
+granted-both (Some x) Q R T f q r = f x q r
+
+pub granted-then : {A : Type 0} (o : Option A) (Q : A → Type 0) (T : Type 0) → ((x : A) → Q x → T) → MatchOption o ⊥ Q → T
+granted-then None Q T f q = absurd q
+granted-then (Some x) Q T f q = f x q
