@@ -239,3 +239,10 @@ granted-both (Some x) Q R T f q r = f x q r
 pub granted-then : {A : Type 0} (o : Option A) (Q : A → Type 0) (T : Type 0) → ((x : A) → Q x → T) → MatchOption o ⊥ Q → T
 granted-then None Q T f q = absurd q
 granted-then (Some x) Q T f q = f x q
+
+some-is : {A : Type 0} (x y : A) → Some x ≡ Some y → x ≡ y
+some-is x y e = cc
+
+-- what is known of the grant that there is
+pub granted-here : {A : Type 0} (o : Option A) (Q : A → Type 0) → (x : A) × (o ≡ Some x) × Q x → (y : A) → o ≡ Some y → Q y
+granted-here o Q found y is = subst Q (some-is found.0 y (sym found.1 ∙ is)) found.2

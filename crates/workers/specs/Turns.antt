@@ -14,6 +14,7 @@ use Rattle.affinity_tree.specs.Numbers.{number_of}
 use Rattle.depot_rule.specs.History.{Behaviour, behaviour, entries_of}
 use Rattle.depot_rule.specs.Plays.{HasAdded}
 use Rattle.depot.specs.Grants.{IsAfter, IsRefused}
+use Rattle.depot.specs.declared.grants.Refusal.{Refusal}
 use Rattle.depot.specs.declared.grants.Refusal.TheVariants as refusals
 use Rattle.held_state.specs.Jobs as jobs
 use Rattle.held_state.specs.Parcels.{FilerParcel}
@@ -55,6 +56,16 @@ IsNext before kept after m = ((kept ≡ Some m) × (after.picked ≡ before.pick
 abbrev pub WaitsAgain : Passed → Passed → Option Message → Message → Type 0
 WaitsAgain before after kept m = ((after.put ≡ before.put ++ m ∷ []) × (kept ≡ None))
     ⊎ ((after.put ≡ before.put) × (kept ≡ Some m) × Held 1024 (Leaves after))
+
+-- what is there after a look for a message: the next one, or none, where none was kept and the pass found none in the queue
+abbrev pub HasNext : Passed → Option Message → Passed → Option Message → Type 0
+HasNext before kept after None = (kept ≡ None) × (after ≡ before) × Held 0 (Leaves before)
+HasNext before kept after (Some m) = IsNext before kept after m
+
+-- what is kept after a message was put, if one was kept
+abbrev pub HasPut : Passed → Option Message → Passed → Option Message → Type 0
+HasPut before None after kept = (kept ≡ None) × (after ≡ before)
+HasPut before (Some m) after kept = WaitsAgain before after kept m
 
 -- ---- calls on the depot
 
@@ -102,6 +113,34 @@ HasServed layout v m moment (served.Done a) w = HasFinished v m moment a w
 HasServed layout v m moment (served.Moved m') w = HasMoved layout v m moment m' × (entries_of w ≡ entries_of v)
 HasServed layout v m moment (served.Refused back refusal) w = (back ≡ m) × (entries_of w ≡ entries_of v) × IsRefused layout v m.affinity refusal w
 
+-- ---- parts of a turn
+
+-- what a refusal of the depot answers
+abbrev pub turned_by : Refusal → Turned
+turned_by (refusals.Busy at word) = turns.Busy at word
+turned_by refusals.Worn = turns.Worn
+
+-- what is kept of a message that was tried, and what its turn answers
+abbrev pub IsTold : Served → Option Message → Turned → Type 0
+IsTold (served.Done a) kept turned = (kept ≡ None) × (turned ≡ turns.Done a)
+IsTold (served.Moved m) kept turned = (kept ≡ Some m) × (turned ≡ turns.Moved)
+IsTold (served.Refused m refusal) kept turned = (kept ≡ Some m) × (turned ≡ turned_by refusal)
+
+-- a worker tried the message that it keeps, if it keeps one
+abbrev pub HasTried : Layout → Worker → Moment → Turned → Worker → Type 0
+HasTried layout before moment (turns.Done a) after =
+    (m : Message) × (before.kept ≡ Some m) × (after.kept ≡ None) × HasFinished (seat_view before) m moment a (seat_view after)
+HasTried layout before moment turns.Moved after =
+    (m m' : Message) × (before.kept ≡ Some m) × (after.kept ≡ Some m') × HasMoved layout (seat_view before) m moment m'
+    × (entries_in after ≡ entries_in before)
+HasTried layout before moment (turns.Busy at word) after =
+    (m : Message) × (before.kept ≡ Some m) × (after.kept ≡ Some m) × (entries_in after ≡ entries_in before)
+    × IsRefused layout (seat_view before) m.affinity (refusals.Busy at word) (seat_view after)
+HasTried layout before moment turns.Worn after =
+    (m : Message) × (before.kept ≡ Some m) × (after.kept ≡ Some m) × (entries_in after ≡ entries_in before)
+    × IsRefused layout (seat_view before) m.affinity refusals.Worn (seat_view after)
+HasTried layout before moment turns.Idle after = (before.kept ≡ None) × (after.kept ≡ None) × (seat_view after ≡ seat_view before)
+
 -- ---- turns
 
 -- no entry was made, and a message of the one that was tried waits again, or is kept
@@ -130,8 +169,8 @@ pub record WasIdle (before after : Worker) : Type 0 where
 abbrev pub Did : Layout → Worker → Moment → Turned → Worker → Type 0
 Did layout before moment (turns.Done a) after = HasDone before moment a after
 Did layout before moment turns.Moved after = (m m' : Message) × HasMoved layout (seat_view before) m moment m' × HasReturned before m m' after
-Did layout before moment (turns.Busy node word) after = (m : Message) × HasReturned before m m after
-    × IsRefused layout (seat_view before) m.affinity (refusals.Busy node word) (seat_view after)
+Did layout before moment (turns.Busy at word) after = (m : Message) × HasReturned before m m after
+    × IsRefused layout (seat_view before) m.affinity (refusals.Busy at word) (seat_view after)
 Did layout before moment turns.Worn after = (m : Message) × HasReturned before m m after
     × IsRefused layout (seat_view before) m.affinity refusals.Worn (seat_view after)
 Did layout before moment turns.Idle after = WasIdle before after
