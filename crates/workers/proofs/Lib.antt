@@ -2,3 +2,4 @@ mod Replayed
 mod Grants
 mod Served
 mod Turning
+mod Started

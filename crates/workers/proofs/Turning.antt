@@ -261,3 +261,9 @@ module _ (layout : trees.Layout) (before picked tried after : Worker) (moment : 
         found = found.2;
         view = last ∙ did.2 ∙ seat;
       }
+
+-- ---- a worker of a filer
+
+-- a pass that has its share still is of a queue of the same layout
+pub known-still : (layout : trees.Layout) (v w : Passed) → HasShareOf v w → layout_known v ≡ Some layout → layout_known w ≡ Some layout
+known-still layout v w share known = ap (λ (k : Option Layout). option_map layout_of k) share.2 ∙ known

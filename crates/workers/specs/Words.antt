@@ -1,5 +1,5 @@
 -- Words on filers and workers.
-use Rattle.std.specs.Prelude.{◌≡◌, ◌+◌, ◌<◌, ℕ, List, length, Option, Some, None, option_map, IfSome}
+use Rattle.std.specs.Prelude.{◌≡◌, ◌+◌, ◌<◌, ℕ, List, [], length, Option, Some, None, option_map, IfSome}
 use Rattle.nfs_model.specs.Tree as trees
 use Rattle.nfs_model.specs.Tree.{Logical, Range}
 use Rattle.nfs_model.specs.Parts.{Hand, Empty, Fresh, Dead, range_of}
@@ -44,6 +44,13 @@ pub record IsReady (layout : trees.Layout) (verifier : List ℕ) (v : FilerView)
 -- the layout by which messages fit the queue
 abbrev pub layout_known : Passed → Option trees.Layout
 layout_known pass = option_map layout_of pass.key
+
+-- nothing was finished by the seat, and nothing put or picked by the pass
+pub record HasDoneNothing (v : FilerView) (pass : Passed) : Type 0 where
+  pub entries : entries_of v ≡ []
+  pub seen : v.seen ≡ []
+  pub put : pass.put ≡ []
+  pub picked : pass.picked ≡ []
 
 -- ---- of a worker
 

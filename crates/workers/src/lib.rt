@@ -3,7 +3,9 @@
 #![tactic(auto)]
 
 mod granted;
+mod making;
 mod message;
+mod opening;
 mod queueing;
 mod serving;
 mod shared;
