@@ -1,5 +1,5 @@
 -- A filer at the start.
-use Rattle.std.proofs.Common.{◌≡◌, ℕ, zero, suc, List, [], length, replicate, Option, Some, None, refl, sym, ap, ◌∙◌, subst, arith}
+use Rattle.std.proofs.Common.{◌≡◌, ℕ, ◌+◌, zero, suc, List, [], length, replicate, Option, Some, None, refl, sym, ap, ◌∙◌, subst, arith}
 use mathlib.Core.Option.{some, some-injective, some-ne-none}
 use lib.ListN.{get_elem?}
 use Rattle.nfs_model.specs.Tree.{Layout}
