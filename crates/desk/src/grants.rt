@@ -28,9 +28,9 @@ fn put<X>(place: &mut Option<X>, something: X)
     }
 }
 
-/// Begins a call on a node of whichever kind. Its grant is made where it stays, since a grant of
-/// the whole tree is large.
-pub(crate) fn begin_any<M: Machine, K: NodeKinds<M::Parcel>>(
+/// Begins a call on a node of whichever kind. Its grant is made in an empty place, where it stays,
+/// since a grant of the whole tree is large. A refusal leaves the place empty.
+pub fn begin_any<M: Machine, K: NodeKinds<M::Parcel>>(
     depot: &Depot<M>,
     seat: &mut Seat<M>,
     affinity: Affinity,
@@ -87,8 +87,8 @@ pub(crate) fn begin_any<M: Machine, K: NodeKinds<M::Parcel>>(
     }
 }
 
-/// Ends a call by an entry.
-pub(crate) fn finish_any<M: Machine, K: NodeKinds<M::Parcel>>(
+/// Ends a call by an entry, with its parcels as they are.
+pub fn finish_any<M: Machine, K: NodeKinds<M::Parcel>>(
     depot: &Depot<M>,
     seat: &mut Seat<M>,
     any: AnyGrant<M::Parcel, K>,
@@ -116,8 +116,8 @@ pub(crate) fn finish_any<M: Machine, K: NodeKinds<M::Parcel>>(
     }
 }
 
-/// Ends a call without an entry.
-pub(crate) fn put_back_any<M: Machine, K: NodeKinds<M::Parcel>>(
+/// Ends a call without an entry. Its parcels have to be as they were granted.
+pub fn put_back_any<M: Machine, K: NodeKinds<M::Parcel>>(
     depot: &Depot<M>,
     seat: &mut Seat<M>,
     any: AnyGrant<M::Parcel, K>,

@@ -1,5 +1,8 @@
 //! A depot with one seat for many workers. Nothing of the seat shows above: a desk is told by the
 //! parcels at the start, the history, and what each worker was lent (`desk_laws`).
+//!
+//! `begin_any`, `work_any`, `finish_any` and `put_back_any` are a call on a node of whichever kind
+//! for who has a seat of their own.
 #![tactic(auto)]
 
 mod calls;
@@ -17,6 +20,7 @@ mod task;
 
 pub use desk::Desk;
 pub use grant::{AnyGrant, NodeGrant};
+pub use grants::{begin_any, finish_any, put_back_any};
 pub use kinds::{NodeKinds, ParcelKinds};
 pub use refusal::Refusal;
-pub use task::Task;
+pub use task::{Task, work_any};

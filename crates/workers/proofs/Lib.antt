@@ -1,0 +1,5 @@
+mod Replayed
+mod Grants
+mod Served
+mod Turning
+mod Started

@@ -1,0 +1,5 @@
+pub mod Messages
+pub mod Balance
+pub mod Words
+pub mod Turns
+pub mod Runs

@@ -1,0 +1,19 @@
+//! Workers, each with a seat of one depot and a pass of one queue: what they share, and their
+//! turns. A worker's type keeps the balance of what it picked, finished, put back and keeps.
+#![tactic(auto)]
+
+mod granted;
+mod making;
+mod message;
+mod opening;
+mod queueing;
+mod serving;
+mod shared;
+mod turn;
+mod turned;
+mod worker;
+
+pub use message::Message;
+pub use shared::Filer;
+pub use turned::{Gate, Place, Stage, Turned};
+pub use worker::Worker;

@@ -1,0 +1,79 @@
+//! Messages out of the queue, and back into it.
+
+ghost use Rattle.std.specs.Prelude.{◌≡◌, Some, IfSome};
+ghost use Rattle.nfs_model.specs.Tree as trees;
+ghost use Rattle.shared_waiting.specs.Passes.{known, IsOf};
+ghost use Rattle.workers.specs.Messages.{IsPlaced};
+ghost use Rattle.workers.specs.Turns.{HasNext, HasPut, WaitsAgain, HasShareOf};
+ghost use Rattle.workers.specs.Words.{layout_known};
+
+use crate::message::Message;
+use affinity_tree::Layout;
+use shared_waiting::{Pass, SharedWaiting};
+use std::sync::Wait;
+
+/// The message that is kept, or else the one that waits longest.
+pub(crate) fn next<R: Wait>(
+    waiting: &SharedWaiting<Message, Layout>,
+    rt: &R,
+    pass: &mut Pass<Message, Layout>,
+    kept: Option<Message>,
+) -> Option<Message>
+    requires of { IsOf waiting.now pass.old }
+    ensures of { IsOf waiting.now pass.new }
+    ensures put { (known pass.new).put ≡ (known pass.old).put }
+    ensures share { HasShareOf (known pass.old) (known pass.new) }
+    ensures next { HasNext (known pass.old) kept (known pass.new) result }
+    ensures placed { (layout : trees.Layout)
+        → layout_known (known pass.old) ≡ Some layout
+        → IfSome kept (IsPlaced layout)
+        → IfSome result (IsPlaced layout) }
+{
+    match kept {
+        Some(message) => Some(message),
+        None => waiting.pick(rt, pass),
+    }
+}
+
+/// Puts a message, or answers it where the queue is full.
+fn wait_again<R: Wait>(
+    waiting: &SharedWaiting<Message, Layout>,
+    rt: &R,
+    pass: &mut Pass<Message, Layout>,
+    message: Message,
+) -> Option<Message>
+    requires of { IsOf waiting.now pass.old }
+    requires placed { (layout : trees.Layout) × (layout_known (known pass.old) ≡ Some layout)
+        × IsPlaced layout message }
+    ensures of { IsOf waiting.now pass.new }
+    ensures picked { (known pass.new).picked ≡ (known pass.old).picked }
+    ensures share { HasShareOf (known pass.old) (known pass.new) }
+    ensures again { WaitsAgain (known pass.old) (known pass.new) result message }
+    ensures same { IfSome result (λ m. m ≡ message) }
+{
+    waiting.admit(rt, pass, message).err()
+}
+
+/// Puts the message that is kept, if one is, and answers what is kept then.
+pub(crate) fn put_kept<R: Wait>(
+    waiting: &SharedWaiting<Message, Layout>,
+    rt: &R,
+    pass: &mut Pass<Message, Layout>,
+    kept: Option<Message>,
+) -> Option<Message>
+    requires of { IsOf waiting.now pass.old }
+    requires placed { (layout : trees.Layout) × (layout_known (known pass.old) ≡ Some layout)
+        × IfSome kept (IsPlaced layout) }
+    ensures of { IsOf waiting.now pass.new }
+    ensures picked { (known pass.new).picked ≡ (known pass.old).picked }
+    ensures share { HasShareOf (known pass.old) (known pass.new) }
+    ensures again { HasPut (known pass.old) kept (known pass.new) result }
+    ensures placed { (layout : trees.Layout)
+        → IfSome kept (IsPlaced layout)
+        → IfSome result (IsPlaced layout) }
+{
+    match kept {
+        Some(message) => wait_again(waiting, rt, pass, message),
+        None => None,
+    }
+}

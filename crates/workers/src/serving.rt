@@ -1,0 +1,144 @@
+//! A message on a seat, from begin to end.
+
+ghost use Rattle.std.specs.Prelude.{◌≡◌, ◌≤◌, length, IfSome, MatchOption};
+ghost use Rattle.affinity_tree.specs.Numbers.{number_of};
+ghost use Rattle.nfs_values.specs.Reply.{reply_of};
+ghost use Rattle.parcel_sets.specs.Exact.{kind_in};
+ghost use Rattle.depot.specs.Grants.{entry_of, IsFinished};
+ghost use Rattle.depot.specs.Words.{view, splits_left, IsSeatHere};
+ghost use Rattle.desk.specs.Any.{lent_of};
+ghost use Rattle.desk_laws.specs.Backing.{CanFinish};
+ghost use Rattle.outboxes.specs.Boxes.{addressed};
+ghost use Rattle.outboxes.specs.Messages as replies;
+ghost use Rattle.outboxes.specs.Messages.{record_of};
+ghost use Rattle.service.specs.declared.job.JobReply.TheVariants.{Replied};
+ghost use Rattle.workers.specs.Messages.{IsPlaced};
+ghost use Rattle.workers.specs.Turns.{filer_behaviour, job_of_message, HasServed};
+ghost use Rattle.workers.specs.Words.{layout_in, verifier_in, IsReady};
+
+use crate::granted::{Granted, finish, place_of, put_back, run};
+use crate::message::Message;
+use crate::shared::Filer;
+use crate::turned::{Gate, Served, Stage};
+use depot::Seat;
+use nfs_values::{Moment, Reply};
+use outboxes::Answer;
+use rpc_msg::{replies_fit, servers_are_roomy};
+use service::{Asked, Job, JobReply, Outcome, ServedCall, Service};
+
+/// The reply of an entry to a record.
+fn into_reply(told: JobReply) -> Reply
+    requires { (reply : _) × (told ≡ Replied reply) }
+    ensures { Replied result ≡ told }
+{
+    match told {
+        JobReply::Replied(reply) => reply,
+        JobReply::Took(_took) => unreachable!(),
+        JobReply::Gave(_gave) => unreachable!(),
+        JobReply::Surveyed(_counts) => unreachable!(),
+    }
+}
+
+/// Ends a message's call by its entry, and answers it.
+fn answer(
+    filer: &Filer,
+    seat: &mut Seat<Service>,
+    granted: Granted,
+    message: Message,
+    moment: Moment,
+    reply: Reply,
+    starved: bool,
+) -> Answer
+    requires seat { IsSeatHere filer.now.depot seat.old }
+    requires can { let L = layout_in filer.now in MatchOption granted ⊥ (λ any.
+        CanFinish kind_in filer_behaviour L (view seat.old) (lent_of L any)
+        (job_of_message message moment starved) (Replied reply)) }
+    requires room { length (record_of (replies.message message.origin.xid (reply_of reply)))
+        ≤ message.room }
+    ensures seat { IsSeatHere filer.now.depot seat.new }
+    ensures splits { splits_left seat.new ≡ splits_left seat.old }
+    ensures finished { let L = layout_in filer.now in IfSome granted (λ any.
+        IsFinished filer_behaviour (view seat.old) (number_of L (lent_of L any).affinity)
+        (entry_of L (lent_of L any).affinity (lent_of L any).parcels
+        (job_of_message message moment starved) (Replied reply)) (view seat.new)) }
+    ensures answer { result ≡ addressed message.origin.connection.0
+        (replies.message message.origin.xid (reply_of reply)) }
+{
+    let Message {
+        origin,
+        call,
+        credential,
+        affinity,
+        room,
+    } = message;
+    let job = Job::Serve(ServedCall {
+        connection: origin.connection,
+        number: origin.number,
+        xid: origin.xid,
+        asked: Asked::Call { call, credential },
+        affinity,
+        moment,
+        starved,
+    });
+    let told = JobReply::Replied(reply);
+    finish(filer, seat, granted, &job, &told);
+    let reply = into_reply(told);
+    Answer::new(origin.connection, origin.xid, &reply, room)
+}
+
+/// An array of eight bytes has eight.
+fn has_eight(bytes: [u8; 8])
+    ensures { length bytes ≡ 8 }
+{}
+
+/// Begins the call of a message on what it tries, runs it, and ends it.
+pub(crate) fn serve<G: Gate>(
+    filer: &Filer,
+    seat: &mut Seat<Service>,
+    message: Message,
+    moment: Moment,
+    gate: &G,
+) -> Served
+    requires seat { IsSeatHere filer.now.depot seat.old }
+    requires ready { IsReady (layout_in filer.now) (verifier_in filer.now) (view seat.old) }
+    requires placed { IsPlaced (layout_in filer.now) message }
+    ensures seat { IsSeatHere filer.now.depot seat.new }
+    ensures splits { splits_left seat.new ≡ splits_left seat.old }
+    ensures ready { IsReady (layout_in filer.now) (verifier_in filer.now) (view seat.new) }
+    ensures served { HasServed (layout_in filer.now)
+        (view seat.old) message moment result (view seat.new) }
+{
+    replies_fit();
+    servers_are_roomy();
+    has_eight(filer.verifier.0);
+    let place = place_of(&message, Stage::Ended);
+    let mut granted = None;
+    let outcome = match run(filer, seat, &message, moment, gate, &mut granted) {
+        Ok(outcome) => outcome,
+        Err(refusal) => {
+            drop(granted);
+            return Served::Refused(message, refusal);
+        }
+    };
+    match outcome {
+        Outcome::Replied(reply) => {
+            let answer = answer(filer, seat, granted, message, moment, reply, false);
+            gate.pass(place);
+            Served::Done(answer)
+        }
+        Outcome::Starved => {
+            let reply = Reply::SystemError;
+            let answer = answer(filer, seat, granted, message, moment, reply, true);
+            gate.pass(place);
+            Served::Done(answer)
+        }
+        Outcome::Moved(affinity) => {
+            put_back(filer, seat, granted);
+            gate.pass(place);
+            Served::Moved(Message {
+                affinity,
+                ..message
+            })
+        }
+    }
+}

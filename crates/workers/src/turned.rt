@@ -1,0 +1,52 @@
+//! What comes of turns, and who looks on.
+
+use crate::message::Message;
+use affinity_tree::Affinity;
+use depot::Refusal;
+use nfs_values::ConnectionNumber;
+use outboxes::Answer;
+
+/// What came of a turn.
+pub enum Turned {
+    /// A call is finished; its answer has to be put.
+    Done(Answer),
+    /// A call has to run elsewhere. Its message waits again, or is kept.
+    Moved,
+    /// The word of a node was found taken. The message waits again, or is kept.
+    Busy { node: Affinity, word: u64 },
+    /// 2^62 calls were finished. The message waits again, or is kept.
+    Worn,
+    /// No message waited.
+    Idle,
+}
+
+/// What came of a message on a seat. But for an answer there is no entry.
+pub(crate) enum Served {
+    Done(Answer),
+    /// It has to run elsewhere, as the message says.
+    Moved(Message),
+    /// It didn't begin.
+    Refused(Message, Refusal),
+}
+
+/// How far a call came.
+#[derive(Clone, Copy, PartialEq)]
+pub enum Stage {
+    Begun,
+    Run,
+    Ended,
+}
+
+/// A call, and how far it came.
+#[derive(Clone, Copy)]
+pub struct Place {
+    pub connection: ConnectionNumber,
+    pub xid: u32,
+    pub stage: Stage,
+}
+
+/// Who is told of each call as it goes on: after its begin, after its run, and after its end.
+pub trait Gate {
+    /// A call came to a place.
+    fn pass(&self, place: Place);
+}
