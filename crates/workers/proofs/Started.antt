@@ -26,9 +26,9 @@ module _ (layout : Layout) (verifier : List ℕ) (f : ℕ → Option (FilerParce
   pub started-ready : AreOpening layout verifier f → IsReady layout verifier v
   started-ready opening = record {
     opened = subst (λ (x : FilerView). HasOpened layout verifier x) (sym is) (λ node there.
-    let place = number-place layout node there in
-    let size = length-parents layout in
-    by-number-at f (1 + node_count layout) (number_of layout node) (omega (arith, place.1, size)) ∙ opening node there);
+        let place = number-place layout node there in
+        let size = length-parents layout in
+        by-number-at f (1 + node_count layout) (number_of layout node) (omega (arith, place.1, size)) ∙ opening node there);
     none_open = λ b g has. none-held (length (parents layout)) b g (subst (λ (x : FilerView). Has x b g) is has);
   }
 

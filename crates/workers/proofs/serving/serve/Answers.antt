@@ -190,12 +190,12 @@ returns-in-Moved-clause-served g c =
       granted-then c.run.new.granted (λ any. HasRunOn L v m c.args.moment c.in-Ok.outcome (lent_of L any) w)
           (HasMoved L v m c.args.moment moved)
           (λ any r. moves-on L c.args.filer.now.depot.layout.lawful m c.requires.placed c.args.moment v w c.requires.seat.1.0 c.run.ensures.seat.1.0 c.in-Ok.outcome
-    (lent_of L any) r c.in-Moved.affinity c.in-Moved.is moved refl)
+          (lent_of L any) r c.in-Moved.affinity c.in-Moved.is moved refl)
           c.in-Ok.ensures.ran,
       granted-both c.run.new.granted (λ any. HasRunOn L v m c.args.moment c.in-Ok.outcome (lent_of L any) w)
           (λ any. IsEnded w (number_of L (lent_of L any).affinity) u)
           (entries_of u ≡ entries_of v)
           (λ any r ended. back-entries L c.args.filer.now.depot.layout.lawful m c.requires.placed c.args.moment v w c.requires.seat.1.0 c.run.ensures.seat.1.0 c.in-Ok.outcome
-    (lent_of L any) r c.in-Moved.affinity c.in-Moved.is u ended)
+          (lent_of L any) r c.in-Moved.affinity c.in-Moved.is u ended)
           c.in-Ok.ensures.ran c.put_back.ensures.ended,
     )
