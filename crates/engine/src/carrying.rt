@@ -59,11 +59,7 @@ pub(crate) fn fetch(
 }
 
 /// Blocks that files have left, up to 64 of one range, come into the empty hand of an idle worker.
-pub(crate) fn cull(
-    state: &mut State,
-    worker: usize,
-    volume: VolumeNumber,
-) -> Result<Done, Refusal>
+pub(crate) fn cull(state: &mut State, worker: usize, volume: VolumeNumber) -> Result<Done, Refusal>
     requires { IsSound state.old }
     ensures events { Does state.old (event.Cull worker volume.0) result state.new }
     ensures setup { HasItsSetup state.old state.new }

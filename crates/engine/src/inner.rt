@@ -91,15 +91,9 @@ fn told(reply: JobReply) -> (BatchInHand, Done)
         }
         JobReply::Gave(hand) => {
             let count = hand.count();
-            (
-                BatchInHand::new(Hand::Empty),
-                Done::PutDown { count },
-            )
+            (BatchInHand::new(Hand::Empty), Done::PutDown { count })
         }
-        JobReply::Surveyed(counts) => (
-            BatchInHand::new(Hand::Empty),
-            Done::Surveyed { counts },
-        ),
+        JobReply::Surveyed(counts) => (BatchInHand::new(Hand::Empty), Done::Surveyed { counts }),
         JobReply::Replied(_) => unreachable!(),
     }
 }

@@ -44,10 +44,12 @@ pub(crate) fn is_idle(workers: &[Worker], worker: usize) -> bool
     ensures { result ≡ is_idle (slice_get (map worker_seen workers.now) worker) }
 {
     match workers.get(worker) {
-        Some(Worker {
-            run: WorkerRun::Idle,
-            ..
-        }) => true,
+        Some(
+            Worker {
+                run: WorkerRun::Idle,
+                ..
+            },
+        ) => true,
         _ => false,
     }
 }
@@ -101,8 +103,5 @@ pub(crate) fn take_hand(workers: &mut Vec<Worker>, worker: usize) -> BatchInHand
     requires { worker < vec_len workers.old }
     ensures { HandTaken workers.old worker result workers.new }
 {
-    mem::replace(
-        &mut workers[worker].hand,
-        BatchInHand::new(Hand::Empty),
-    )
+    mem::replace(&mut workers[worker].hand, BatchInHand::new(Hand::Empty))
 }

@@ -81,9 +81,7 @@ fn print_done<W: Write>(
         }
         (_, Done::InHand { count }) => say(out, format_args!("hand {count}")),
         (_, Done::PutDown { count }) => say(out, format_args!("put {count}")),
-        (_, Done::Surveyed { counts }) => {
-            say(out, format_args!("free {counts:?}"))
-        }
+        (_, Done::Surveyed { counts }) => { say(out, format_args!("free {counts:?}")) }
         // only a feed comes to the one, and only a close to the other
         (_, Done::Fed { .. } | Done::Closed) => Ok(()),
     }

@@ -1,4 +1,4 @@
-use Rattle.std.proofs.Common.{Some, refl, sym, ap, ◌∙◌, inl}
+use Rattle.std.proofs.Common.{refl, sym, ap, ◌∙◌, inl}
 use Rattle.std.specs.Prelude.{option_map}
 use Rattle.service.specs.Jobs.{inner_of}
 use Rattle.engine.specs.Seen.{setup_in, world, answer_of}
@@ -29,6 +29,8 @@ returns-in-None-clause-events c =
     let s = c.args.state.now in
     let free = idle-there s.workers.items c.deref.result.now c.args.worker c.is_idle.result c.deref.ensures.value c.is_idle.ensures c.if-not-is_idle.false in
     let there = there-at c.args.state.now c.args.worker free c.index.result.now c.index.ensures in
-    let empty = has-call s c.requires c.args.worker free c.index.result.now there (sym c.call_of.ensures ∙ ap (λ o. option_map inner_of o) c.in-None.is) in
-    (inl (put-nothing (setup_in s) (world s) c.args.worker free c.index.result.now.hand (in-hand s c.requires c.args.worker free c.index.result.now there)
-    empty), refl)
+    let empty = has-call s c.requires c.args.worker free c.index.result.now there (sym c.call_of.ensures ∙ ap (λ o. option_map inner_of o) c.in-None.is) in (
+      inl (put-nothing (setup_in s) (world s) c.args.worker free c.index.result.now.hand (in-hand s c.requires c.args.worker free c.index.result.now there)
+          empty),
+      refl,
+    )

@@ -169,7 +169,7 @@ end_in-count-requires-clause-owed c = λ x e.
     found (s c).connections.items n c.index_mut-place.result.now (Open x) known c.index_mut-place.ensures.value e in
     let owed = c.requires.owed n x at in
     let changed = messages-changed (room_on n) (s c).workers.items c.args.worker (worker_with (Worked (r c) (o c)) c.take_run.ensures.0) (worker_with Idle c.take_run.ensures.0)
-        (was_there c) in
+    (was_there c) in
     let room = room-own n (r c).message refl in
     subst (λ (y : Running). y.message.room ≤ owed_by x) (sym (same c)) (omega (arith, owed, changed, room))
 

@@ -1,6 +1,5 @@
 use Rattle.std.proofs.Common.{Some, sym, ap, ◌∙◌}
 use Rattle.std.specs.Vec.{with_item}
-use Rattle.nfs_model.specs.Parts.{Hand}
 use Rattle.engine.specs.declared.worker.Worker.{Worker}
 use Rattle.engine.specs.declared.worker.WorkerRun.{WorkerRun}
 use Rattle.engine.specs.Workers.{worker_with}
@@ -10,8 +9,7 @@ use Rattle.engine.proofs.worker.take_run.Goals as goal
 pub returns : goal.returns
 returns c =
     let k : Worker = c.index_mut.result.now in
-    let ws = c.args.workers.now in
-    (
+    let ws = c.args.workers.now in (
       k.hand,
       index-found ws c.args.worker k c.requires c.index_mut.ensures.value ∙ ap (λ (r : WorkerRun). Some (worker_with r k.hand)) (sym c.replace.ensures.value),
       ap (λ (r : WorkerRun). with_item ws c.args.worker (worker_with r k.hand)) c.replace.ensures.after,
