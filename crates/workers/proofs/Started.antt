@@ -1,12 +1,12 @@
 -- A filer at the start.
-use Rattle.std.proofs.Common.{◌≡◌, ℕ, ◌+◌, zero, suc, List, [], length, replicate, Option, Some, None, refl, sym, ap, ◌∙◌, subst, arith}
+use Rattle.std.proofs.Common.{◌≡◌, ℕ, ◌+◌, zero, suc, List, [], length, replicate, Option, Some, None, sym, ap, ◌∙◌, subst, arith}
 use mathlib.Core.Option.{some, some-injective, some-ne-none}
 use lib.ListN.{get_elem?}
 use Rattle.nfs_model.specs.Tree.{Layout}
 use Rattle.affinity_tree.specs.Numbers.{number_of, parents, node_count}
 use Rattle.affinity_tree.specs.lemmas.Smaller.{length-parents}
 use Rattle.affinity_tree.specs.lemmas.Standing.{number-place}
-use Rattle.depot_rule.specs.History.{by_number, listed, entries_of}
+use Rattle.depot_rule.specs.History.{entries_of}
 use Rattle.depot_rule.specs.Shares.{Has}
 use Rattle.depot_rule.specs.lemmas.Listed.{by-number-at}
 use Rattle.depot.specs.Words.{first_view}
@@ -26,9 +26,9 @@ module _ (layout : Layout) (verifier : List ℕ) (f : ℕ → Option (FilerParce
   pub started-ready : AreOpening layout verifier f → IsReady layout verifier v
   started-ready opening = record {
     opened = subst (λ (x : FilerView). HasOpened layout verifier x) (sym is) (λ node there.
-    let place = number-place layout node there in
-    let size = length-parents layout in
-    by-number-at f (1 + node_count layout) (number_of layout node) (omega (arith, place.1, size)) ∙ opening node there);
+        let place = number-place layout node there in
+        let size = length-parents layout in
+        by-number-at f (1 + node_count layout) (number_of layout node) (omega (arith, place.1, size)) ∙ opening node there);
     none_open = λ b g has. none-held (length (parents layout)) b g (subst (λ (x : FilerView). Has x b g) is has);
   }
 

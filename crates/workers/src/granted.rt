@@ -64,9 +64,7 @@ pub(crate) fn run<G: Gate>(
         moment,
     };
     let outcome = match granted {
-        Some(any) => {
-            work_any::<Parcel<Files>, ParcelKinds, Run>(filer.depot.layout(), any, run)
-        }
+        Some(any) => { work_any::<Parcel<Files>, ParcelKinds, Run>(filer.depot.layout(), any, run) }
         None => unreachable!(),
     };
     gate.pass(place_of(message, Stage::Run));
