@@ -14,8 +14,9 @@
 //!
 //! `bench data PASSES` goes PASSES times through a file of 16 MiB by READs and by WRITEs in place,
 //! of 4 KiB and of 64 KiB, on the parcel of their stripe. It prints how long one took in the
-//! fastest pass, beside it how long a plain copy of as many bytes took, and the ratio. Then it has
-//! an engine append 64 KiB to a file again and again, and prints how long a WRITE took.
+//! fastest pass, beside it how long a plain copy of as many bytes took, out of blocks of 4 KiB into
+//! memory of its own or over such blocks, and the ratio. Then it has an engine append 64 KiB to a
+//! file again and again, and prints how long a WRITE took.
 //!
 //! `bench calls COUNT` has an engine answer COUNT GETATTR calls, each fed, begun, worked and
 //! finished before the next comes, for a small and for the largest layout. It prints how long a

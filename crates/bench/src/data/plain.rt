@@ -1,44 +1,66 @@
-//! Plain copies of as many bytes as a file has.
+//! Plain copies of as many bytes as a file has, which lie in blocks as a file's do.
 
 use crate::data::copies::FILE_BYTES;
 use crate::work::Work;
 use std::alloc::{AllocError, Global};
 
-/// Bytes in one piece, copied out from begin to end.
+/// The bytes of a block.
+const BLOCK_BYTES: usize = 4096;
+
+type PlainBlock = Box<[u8; BLOCK_BYTES]>;
+
+/// As many blocks as a file has, each in memory of its own.
+fn blocks(alloc: Global) -> Result<Vec<PlainBlock>, AllocError> {
+    let mut blocks = Vec::with_capacity(alloc, FILE_BYTES / BLOCK_BYTES)?;
+    for _ in 0..FILE_BYTES / BLOCK_BYTES {
+        blocks.push(Box::new(alloc, [0; BLOCK_BYTES])?)?;
+    }
+    Ok(blocks)
+}
+
+/// Blocks, copied out from begin to end, so many bytes at a time into memory of their own.
 #[derive(Drop)]
 pub struct PlainReads {
-    bytes: Vec<u8>,
+    alloc: Global,
+    blocks: Vec<PlainBlock>,
     size: usize,
-    out: Vec<u8>,
 }
 
 impl PlainReads {
     /// So many bytes by each.
     pub fn new(alloc: Global, size: usize) -> Result<PlainReads, AllocError> {
+        let blocks = blocks(alloc)?;
         Ok(PlainReads {
-            bytes: vec![in alloc; 0; FILE_BYTES]?,
+            alloc,
+            blocks,
             size,
-            out: Vec::with_capacity(alloc, size)?,
         })
+    }
+
+    /// Copies some blocks, and tells whether these were all bytes.
+    fn copy(&self, blocks: &[PlainBlock]) -> Result<bool, AllocError> {
+        let mut out = Vec::with_capacity(self.alloc, self.size)?;
+        for block in blocks {
+            out.extend_from_slice(&block[..])?;
+        }
+        Ok(out.len() == self.size)
     }
 }
 
 impl Work for PlainReads {
     fn pass(&mut self) -> Result<u64, AllocError> {
         let mut done = 0_u64;
-        for part in self.bytes.chunks(self.size.max(1)) {
-            self.out.clear();
-            self.out.extend_from_slice(part)?;
-            done = done.wrapping_add(u64::from(self.out.len() == self.size));
+        for blocks in self.blocks.chunks((self.size / BLOCK_BYTES).max(1)) {
+            done = done.wrapping_add(u64::from(self.copy(blocks)?));
         }
         Ok(done)
     }
 }
 
-/// Bytes in one piece, copied over from begin to end.
+/// Blocks, copied over from begin to end.
 #[derive(Drop)]
 pub struct PlainOverwrites {
-    bytes: Vec<u8>,
+    blocks: Vec<PlainBlock>,
     written: Vec<u8>,
 }
 
@@ -46,20 +68,28 @@ impl PlainOverwrites {
     /// So many bytes by each.
     pub fn new(alloc: Global, size: usize) -> Result<PlainOverwrites, AllocError> {
         Ok(PlainOverwrites {
-            bytes: vec![in alloc; 0; FILE_BYTES]?,
+            blocks: blocks(alloc)?,
             written: vec![in alloc; 7; size]?,
         })
+    }
+}
+
+/// Copies bytes over a block, where they are as many.
+fn copy_over(block: &mut PlainBlock, written: &[u8]) {
+    if written.len() == BLOCK_BYTES {
+        block[..].copy_from_slice(written);
     }
 }
 
 impl Work for PlainOverwrites {
     fn pass(&mut self) -> Result<u64, AllocError> {
         let mut done = 0_u64;
-        for part in self.bytes.chunks_mut(self.written.len().max(1)) {
-            if part.len() == self.written.len() {
-                part.copy_from_slice(&self.written);
-                done = done.wrapping_add(1);
+        let at_once = (self.written.len() / BLOCK_BYTES).max(1);
+        for blocks in self.blocks.chunks_mut(at_once) {
+            for (block, written) in blocks.iter_mut().zip(self.written.chunks(BLOCK_BYTES)) {
+                copy_over(block, written);
             }
+            done = done.wrapping_add(1);
         }
         Ok(done)
     }
