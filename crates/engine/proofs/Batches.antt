@@ -4,7 +4,7 @@ use Rattle.std.specs.List.{range_with_len}
 use Rattle.std.specs.Ordering.{nat_cmp}
 use Rattle.std.specs.FinSet.{FinSet}
 use Rattle.nfs_model.specs.Tree.{Layout}
-use Rattle.nfs_model.specs.Parts.{Parts, Hand, range_blocks, range_of, most_ranges, batch_in, IsBatch}
+use Rattle.nfs_model.specs.Parts.{Parts, range_blocks, most_ranges, IsBatch}
 use Rattle.nfs_model.specs.Moves.{Carrying, batch, first_filled, lowest_batch, fresh_hand, dead_hand}
 use Rattle.affinity_tree.specs.Tree.{IsNode}
 use Rattle.held_state.specs.Jobs.{InnerCall, Fetch, Deliver, Cull, Free, Survey, JobReply, Took, Gave, Surveyed, Replied, inner_node, InnerMoves}

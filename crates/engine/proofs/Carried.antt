@@ -1,20 +1,19 @@
 -- What workers carry: an inner call of theirs as the event that it is.
-use Rattle.std.proofs.Common.{◌≡◌, ◌⊎◌, inl, inr, ⊎_elim, ℕ, zero, suc, ◌+◌, ◌/◌, ◌<◌, Bool, true, false, ◌&&◌, ◌||◌, not, IsTrue, List, [], ◌∷◌, length, map, Option, Some}
-use Rattle.std.proofs.Common.{None, Result, Ok, Err, refl, sym, ap, ◌∙◌, subst, arith}
-use Rattle.std.specs.Prelude.{slice_get, slice_set, is_some, nat_lt, nat_le, if◌then◌else◌}
-use Rattle.std.proofs.lemmas.Bool.{lt-ltb, ltb-true}
-use Rattle.nfs_model.specs.Tree.{Layout, Logical, Vbn, Range}
+use Rattle.std.proofs.Common.{◌≡◌, ◌⊎◌, inl, inr, ℕ, zero, suc, ◌/◌, true, false, ◌&&◌, IsTrue, List, [], ◌∷◌, length, Option, Some}
+use Rattle.std.proofs.Common.{None, Result, Ok, Err, refl, sym, ap, ◌∙◌, subst}
+use Rattle.std.specs.Prelude.{slice_get, slice_set, is_some, nat_le}
+use Rattle.std.proofs.lemmas.Bool.{lt-ltb}
+use Rattle.nfs_model.specs.Tree.{Logical, Vbn, Range}
 use Rattle.nfs_model.specs.Server.{VolumeState}
-use Rattle.nfs_model.specs.Parts.{Parts, Hand, Empty, Fresh, Dead, batch_in, range_of, range_blocks, most_ranges}
-use Rattle.nfs_model.specs.Moves.{Carrying}
+use Rattle.nfs_model.specs.Parts.{Hand, Empty, Fresh, Dead, batch_in, range_of, range_blocks, most_ranges}
 use Rattle.nfs_model.specs.World.{Setup, World, Worker, changed_at, with_hand}
 use Rattle.nfs_model.specs.Events.Refusals as events
 use Rattle.nfs_model.specs.Events.Refusals.{Event, Fetch, Cull, PutDown, Survey, excluded, refusal, is_idle, has_empty_hand, is_range_in_use, or_not_in_use}
 use Rattle.nfs_model.specs.Events.Refusals.{may_lack_memory, put_refusal, hand_of, fetch_refusal}
-use Rattle.nfs_model.specs.Events.Step.{Events, Happens, Carries, stamp_added}
+use Rattle.nfs_model.specs.Events.Step.{Events, Happens, stamp_added}
 use Rattle.held_state.specs.Jobs as jobs
 use Rattle.held_state.specs.Jobs.{InnerCall, JobReply, Took, Gave, Surveyed, Replied, batches_in, inner_node, inner_volume, InnerMoves, without_hand}
-use Rattle.engine_laws.specs.Inner.{HasMoved, hand_after}
+use Rattle.engine_laws.specs.Inner.{HasMoved}
 use Rattle.engine.specs.Inner as tending
 use Rattle.engine.specs.Inner.{Refuses, told_as}
 

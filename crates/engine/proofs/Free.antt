@@ -1,15 +1,13 @@
 -- An idle worker with an empty hand, a volume that is there, and what is in a hand: what a call of a hand asks for.
-use Rattle.std.proofs.Common.{◌≡◌, ℕ, zero, suc, ◌+◌, ◌<◌, ◌≤◌, Bool, true, false, ◌&&◌, List, [], ◌∷◌, length, map, Option, Some, None, refl, sym, ap, ◌∙◌}
+use Rattle.std.proofs.Common.{◌≡◌, ℕ, zero, suc, ◌<◌, Bool, true, false, ◌&&◌, List, [], ◌∷◌, length, map, Some, None, refl, sym, ap, ◌∙◌}
 use Rattle.std.proofs.Common.{subst, arith}
 use Rattle.std.specs.Prelude.{slice_get, slice_index_or, is_some, nat_lt}
 use Rattle.std.proofs.lemmas.Bool.{and_parts, ltb-true, lt-ltb}
 use Rattle.std.proofs.lemmas.Bool.Decides.{nat_tests}
 use Rattle.std.proofs.lemmas.List.{length-map}
-use Rattle.std.proofs.lemmas.Option.{slice_get-map}
 use Rattle.nfs_model.specs.Tree.{Layout}
-use Rattle.nfs_model.specs.Server.{Server}
 use Rattle.nfs_model.specs.Parts.{Hand, Empty, Fresh, Dead, range_of}
-use Rattle.nfs_model.specs.Events.Refusals.{is_idle, has_empty_hand, is_empty_hand, hand_of}
+use Rattle.nfs_model.specs.Events.Refusals.{is_idle, has_empty_hand, hand_of}
 use Rattle.held_state.specs.Contents.{filer_contents}
 use Rattle.held_state.specs.Tree.{volume_of}
 use Rattle.held_state.specs.Jobs.{InnerCall, Fetch, Deliver, Cull, Free, Survey}
@@ -21,7 +19,7 @@ use Rattle.engine.specs.declared.state.State.{State}
 use Rattle.engine.specs.declared.worker.Worker.{Worker}
 use Rattle.engine.specs.declared.worker.WorkerRun.TheVariants.{Idle}
 use Rattle.engine.specs.Inner.{MayTend, call_to_put}
-use Rattle.engine.specs.Seen.{world, worker_seen, setup_in}
+use Rattle.engine.specs.Seen.{world, worker_seen}
 use Rattle.engine.specs.Sound.{IsSound, IsCarried}
 use Rattle.engine.specs.Workers.{worker_with, idle_worker}
 use Rattle.engine.proofs.Lists.{all-at, inner}

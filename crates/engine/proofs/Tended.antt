@@ -1,15 +1,11 @@
 -- An inner call of a worker: what it needs, and the state after it.
-use Rattle.std.proofs.Common.{◌≡◌, ◌⊎◌, inl, inr, ℕ, ◌+◌, ◌≤◌, true, List, ◌∷◌, length, map, Option, Some, None, Ok, Err, refl, sym, ap, ◌∙◌, subst, arith}
+use Rattle.std.proofs.Common.{◌≡◌, inl, inr, ℕ, ◌+◌, ◌≤◌, List, length, map, Some, Ok, refl, sym, ap, ◌∙◌, subst, arith}
 use Rattle.std.specs.Prelude.{◌^◌, slice_get, slice_set}
 use Rattle.std.specs.Global.{Vec}
 use Rattle.std.specs.List.{AllByRecursion}
-use Rattle.std.proofs.lemmas.List.{length-set}
 use Rattle.nfs_model.specs.Tree.{Layout}
 use Rattle.nfs_model.specs.Parts.{Parts, Hand, Empty}
-use Rattle.nfs_model.specs.World.{Setup, World, changed_at, with_hand}
-use Rattle.nfs_model.specs.World as worlds
-use Rattle.nfs_model.specs.Events.Refusals as events
-use Rattle.nfs_model.specs.Events.Refusals.{excluded}
+use Rattle.nfs_model.specs.World.{Setup, World}
 use Rattle.nfs_values.specs.declared.call.Call.{Call}
 use Rattle.affinity_tree.specs.Tree.{IsNode}
 use Rattle.scheduler.specs.declared.message.Message.{Message}
@@ -27,7 +23,6 @@ use Rattle.engine_laws.specs.Inner.{HasMoved, hand_after}
 use Rattle.engine_laws.specs.lemmas.Beginning.{told-taken, told-worn-out, told-free}
 use Rattle.engine_laws.specs.lemmas.Happening.{book-apart}
 use Rattle.engine_laws.specs.lemmas.Tending.{one-carried, next, has-moved, none-excluded, made-stands, out-of-use}
-use Rattle.service.specs.Inner.{IsHandFor}
 use Rattle.service.specs.Jobs.{job_of, job_reply_of}
 use Rattle.service.specs.declared.job.Job.{Job}
 use Rattle.service.specs.declared.job.JobReply.{JobReply}
@@ -42,9 +37,8 @@ use Rattle.engine.specs.declared.worker.WorkerRun.TheVariants.{Idle}
 use Rattle.engine.specs.Inner.{MayMake, IsMade, IsRefusedFor, MayTend, Tends, Refuses, IsOfHand, told_as}
 use Rattle.engine.specs.Numbers.{refusal_number}
 use Rattle.engine.specs.Seen.{setup_in, world, worker_seen, done_of}
-use Rattle.engine.specs.Sound.{IsReady, IsCarried, IsSound, messages_in, running_messages, room_on}
+use Rattle.engine.specs.Sound.{IsReady, IsSound, running_messages, room_on}
 use Rattle.engine.specs.Workers.{worker_with, HandSet, HandTaken}
-use Rattle.engine.proofs.Lists.{all-at}
 use Rattle.engine.proofs.Workers.{seen-at, seen-carried, one-worker, carries-then}
 use Rattle.engine.proofs.Carried.{set-same}
 use Rattle.engine.proofs.Worked.{few-stamps, running-set}

@@ -1,5 +1,5 @@
 -- Inner calls of workers: what one needs, what it comes to, and what is told of it.
-use Rattle.std.specs.Prelude.{◌≡◌, ◌⊎◌, ℕ, ◌/◌, ◌<◌, false, List, [], ◌∷◌, ◌++◌, length, Option, Some, None, Result, Ok, Err, slice_get}
+use Rattle.std.specs.Prelude.{◌≡◌, ◌⊎◌, ℕ, ◌<◌, false, List, [], ◌∷◌, ◌++◌, length, Option, Some, None, Result, Ok, Err, slice_get}
 use Rattle.nfs_model.specs.Parts.{Hand, Empty, Fresh, Dead, batch_in, range_of}
 use Rattle.nfs_model.specs.World.{Setup, World}
 use Rattle.nfs_model.specs.Events.Refusals as events

@@ -1,26 +1,19 @@
 -- What a depot grants, as a run of a call needs it.
-use Rattle.std.proofs.Common.{◌≡◌, ℕ, zero, suc, ◌<◌, ◌≤◌, List, [], length, Option, Some, None, refl, sym, ap, ◌∙◌, subst, arith, ⊎_elim}
+use Rattle.std.proofs.Common.{◌≡◌, ℕ, zero, suc, ◌<◌, ◌≤◌, List, [], length, Option, sym, ap, subst, arith, ⊎_elim}
 use Rattle.std.proofs.lemmas.Bool.{cases_lt}
 use Rattle.std.proofs.lemmas.List.{get_or_past}
 use Rattle.nfs_model.specs.Tree.{Layout, Affinity}
 use Rattle.affinity_tree.specs.Ancestors.{Covers, tally, ancestors}
-use Rattle.affinity_tree.specs.Fault.{fault_of}
 use Rattle.affinity_tree.specs.Numbers.{number_of, parents}
 use Rattle.affinity_tree.specs.Tree.{IsNode}
 use Rattle.affinity_tree.specs.lemmas.Standing.{number-place, ancestors-root}
-use Rattle.depot_rule.specs.Shares.{opening_view, too_many}
-use Rattle.depot_rule.specs.Sums.{total}
-use Rattle.depot_rule.specs.History.{after, listed, by_number, AreHands, entries_of}
-use Rattle.depot_rule.specs.lemmas.Listed.{by-number-at}
+use Rattle.depot_rule.specs.History.{after, listed}
 use Rattle.depot.specs.Grants.{IsAfter}
-use Rattle.nfs_model.specs.Parts.{Hand}
 use Rattle.held_laws.specs.lemmas.Granted.{filer-has}
 use Rattle.held_state.specs.Parcels.{FilerParcel}
-use Rattle.held_state.specs.Promises.{HandsMove}
 use Rattle.held_state.specs.Running.{HasFiler}
 use Rattle.held_state.specs.Sound.{IsFiler}
 use Rattle.parcels.specs.declared.files.Files.{Files}
-use Rattle.service.specs.Jobs.{job_takes, job_gives}
 use Rattle.workers.specs.Balance.{FilerView}
 use Rattle.workers.specs.Turns.{filer_behaviour}
 

@@ -1,5 +1,5 @@
 -- The history of a filer's depot as a history of the definitions' entries: the server that it leaves, and that each reply fits its room.
-use Rattle.std.proofs.Common.{◌≡◌, ℕ, ◌+◌, ◌≤◌, Bool, true, false, List, [], ◌∷◌, ◌++◌, length, map, Option, None, refl, sym, ap, ◌∙◌, subst, arith}
+use Rattle.std.proofs.Common.{◌≡◌, ℕ, ◌≤◌, Bool, true, false, List, [], ◌∷◌, ◌++◌, length, map, Option, None, refl, sym, ap, subst, arith}
 use Rattle.nfs_model.specs.Types as types
 use Rattle.nfs_model.specs.Types.{Asked, Ask, Moment, Credential, SystemError}
 use Rattle.nfs_model.specs.Tree.{Layout, Affinity}
@@ -16,7 +16,6 @@ use Rattle.depot_rule.specs.declared.view.Entry.{Entry}
 use Rattle.depot_rule.specs.Sums.{total}
 use Rattle.depot_rule.specs.History.{behaviour, after, listed, patched, batches_of, AreHands, Legal, SoundThroughout, SoundHistory}
 use Rattle.held_state.specs.Parcels.{FilerParcel}
-use Rattle.held_state.specs.Contents.{filer_contents}
 use Rattle.held_state.specs.Tree.{tree}
 use Rattle.held_state.specs.Opening.{AreOpening}
 use Rattle.held_state.specs.Sound.{AreSound, AllSound, IsFiler}
@@ -24,7 +23,7 @@ use Rattle.held_state.specs.Jobs as jobs
 use Rattle.held_state.specs.Jobs.{Serve, takes, gives}
 use Rattle.held_state.specs.Deeds.{FilerSteps}
 use Rattle.held_state.specs.Replayed.{calls_of, replies_of, Replays}
-use Rattle.held_state.specs.Running.{AreUnder, Enters, finished_at}
+use Rattle.held_state.specs.Running.{Enters, finished_at}
 use Rattle.held_laws.specs.lemmas.Alike.{filer-same}
 use Rattle.held_laws.specs.lemmas.Lawful.{steps-local, entry-does}
 use Rattle.held_laws.specs.lemmas.Opening.{opening-tree}

@@ -4,7 +4,6 @@ use Rattle.std.specs.Prelude.{IfSome, MatchOption}
 use Rattle.nfs_model.specs.Types as types
 use Rattle.nfs_model.specs.Types.{Asked, Ask, SystemError}
 use Rattle.nfs_model.specs.Tree.{Layout, Affinity}
-use Rattle.nfs_model.specs.Work as works
 use Rattle.nfs_values.specs.Call.{call_of}
 use Rattle.nfs_values.specs.Credential.{credential_of}
 use Rattle.nfs_values.specs.Moment.{moment_of}
@@ -17,19 +16,19 @@ use Rattle.affinity_tree.specs.Affinity.{affinity_of}
 use Rattle.affinity_tree.specs.Fault.{fault_of}
 use Rattle.affinity_tree.specs.Numbers.{number_of, parents}
 use Rattle.affinity_tree.specs.Tree.{IsNode}
-use Rattle.parcel_sets.specs.Exact.{kind_in, HasExactly}
+use Rattle.parcel_sets.specs.Exact.{kind_in}
 use Rattle.depot_rule.specs.Shares.{Has}
 use Rattle.depot_rule.specs.History.{after, listed, entries_of, SoundHistory}
 use Rattle.depot_rule.specs.Plays.{HasAdded}
 use Rattle.depot.specs.Grants.{entry_of, HasWith, IsBegun, IsAfter, IsStep, IsEnded, IsFinished, IsRefused}
 use Rattle.depot.specs.declared.grants.Refusal.{Refusal}
 use Rattle.depot.specs.declared.grants.Refusal.TheVariants as refusals
-use Rattle.depot.specs.lemmas.Seats.{begun-with, begun-entries, begun-hand, read-entries, ended-entries, ended-none, finished-entries, finished-none}
+use Rattle.depot.specs.lemmas.Seats.{begun-with, begun-entries, begun-hand, ended-entries, ended-none, finished-entries, finished-none}
 use Rattle.desk_laws.specs.Backing.{CanFinish, CanPutBack}
 use Rattle.held_state.specs.Jobs as jobs
 use Rattle.held_state.specs.Parcels.{FilerParcel}
 use Rattle.held_state.specs.Deeds.{FilerSteps}
-use Rattle.held_state.specs.Running.{HasFiler, Enters, MovesTo, finished_at}
+use Rattle.held_state.specs.Running.{Enters, finished_at}
 use Rattle.parcels.specs.declared.files.Files.{Files}
 use Rattle.outboxes.specs.Boxes.{Addressed, addressed}
 use Rattle.outboxes.specs.Messages as replies

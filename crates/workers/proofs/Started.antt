@@ -1,12 +1,12 @@
 -- A filer at the start.
-use Rattle.std.proofs.Common.{◌≡◌, ℕ, ◌+◌, zero, suc, List, [], length, replicate, Option, Some, None, refl, sym, ap, ◌∙◌, subst, arith}
+use Rattle.std.proofs.Common.{◌≡◌, ℕ, ◌+◌, zero, suc, List, [], length, replicate, Option, Some, None, sym, ap, ◌∙◌, subst, arith}
 use mathlib.Core.Option.{some, some-injective, some-ne-none}
 use lib.ListN.{get_elem?}
 use Rattle.nfs_model.specs.Tree.{Layout}
 use Rattle.affinity_tree.specs.Numbers.{number_of, parents, node_count}
 use Rattle.affinity_tree.specs.lemmas.Smaller.{length-parents}
 use Rattle.affinity_tree.specs.lemmas.Standing.{number-place}
-use Rattle.depot_rule.specs.History.{by_number, listed, entries_of}
+use Rattle.depot_rule.specs.History.{entries_of}
 use Rattle.depot_rule.specs.Shares.{Has}
 use Rattle.depot_rule.specs.lemmas.Listed.{by-number-at}
 use Rattle.depot.specs.Words.{first_view}

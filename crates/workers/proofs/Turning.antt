@@ -1,5 +1,5 @@
 -- A turn keeps a worker's balance.
-use Rattle.std.proofs.Common.{◌≡◌, ℕ, ◌+◌, List, [], ◌∷◌, ◌++◌, Option, Some, None, ◌⊎◌, inl, inr, ⊎_elim, sym, refl, ap, ◌∙◌, subst, arith}
+use Rattle.std.proofs.Common.{◌≡◌, ℕ, ◌+◌, List, [], ◌∷◌, ◌++◌, Option, Some, None, inl, inr, ⊎_elim, sym, ap, ◌∙◌, subst, arith}
 use Rattle.std.specs.Prelude.{option_map, IfSome}
 use Rattle.crossbeam_queue.specs.Fifo.{Held}
 use Rattle.nfs_model.specs.Parts.{Hand}
@@ -20,7 +20,8 @@ use Rattle.shared_waiting.specs.Balance.{Leaves, FitsIn}
 use Rattle.workers.specs.declared.message.Message.{Message}
 use Rattle.workers.specs.Messages.{IsPlaced, Fits}
 use Rattle.workers.specs.Balance.{Passed, FilerView, FilerEntry, Weight, by_key, by_job, by_entry, by_kept, IsEven}
-use Rattle.workers.specs.Turns.{IsNext, HasNext, IsEntryOf, WaitsAgain, HasPut, HasShareOf, HasFinished, HasMoved, HasServed, IsTold, HasTried, HasReturned, Did}
+use Rattle.workers.specs.Turns.{IsNext, HasNext, IsEntryOf, WaitsAgain, HasPut, HasShareOf}
+use Rattle.workers.specs.Turns.{HasFinished, HasMoved, HasServed, IsTold, HasTried, HasReturned, Did}
 use Rattle.workers.specs.Words.{layout_known, seat_view, passed, entries_in}
 use Rattle.workers.specs.declared.turned.Served.{Served}
 use Rattle.workers.specs.declared.turned.Served.TheVariants as serves

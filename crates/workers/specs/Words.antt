@@ -1,5 +1,5 @@
 -- Words on filers and workers.
-use Rattle.std.specs.Prelude.{◌≡◌, ◌+◌, ◌<◌, ℕ, List, [], length, Option, Some, None, option_map, IfSome}
+use Rattle.std.specs.Prelude.{◌≡◌, ◌+◌, ◌<◌, ℕ, List, [], length, Option, Some, option_map, IfSome}
 use Rattle.nfs_model.specs.Tree as trees
 use Rattle.nfs_model.specs.Tree.{Logical, Range}
 use Rattle.nfs_model.specs.Parts.{Hand, Empty, Fresh, Dead, range_of}
@@ -15,7 +15,6 @@ use Rattle.held_state.specs.Parcels.{FilerParcel}
 use Rattle.parcels.specs.declared.files.Files.{Files}
 use Rattle.shared_waiting.specs.Passes as passes
 use Rattle.shared_waiting.specs.Passes.{IsOf}
-use Rattle.workers.specs.declared.message.Message.{Message}
 use Rattle.workers.specs.declared.shared.Filer.{Filer}
 use Rattle.workers.specs.declared.worker.Worker.{Worker}
 use Rattle.workers.specs.Messages.{IsPlaced}

@@ -5,7 +5,8 @@ ghost use Rattle.affinity_tree.specs.Layout.{layout_of};
 ghost use Rattle.depot.specs.Words.{view, splits_left, IsSeatHere};
 ghost use Rattle.shared_waiting.specs.Balance.{IsWhole};
 ghost use Rattle.shared_waiting.specs.Passes.{known, IsOf};
-ghost use Rattle.workers.specs.Words.{layout_in, layout_known, verifier_in, HasDoneNothing, IsReady};
+ghost use Rattle.workers.specs.Words.{layout_in, layout_known, verifier_in};
+ghost use Rattle.workers.specs.Words.{HasDoneNothing, IsReady};
 
 use crate::message::Message;
 use crate::shared::Filer;

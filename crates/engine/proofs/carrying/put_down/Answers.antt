@@ -1,4 +1,4 @@
-use Rattle.std.proofs.Common.{Some, refl, sym, ap, ◌∙◌, inl}
+use Rattle.std.proofs.Common.{refl, sym, ap, ◌∙◌, inl}
 use Rattle.std.specs.Prelude.{option_map}
 use Rattle.service.specs.Jobs.{inner_of}
 use Rattle.engine.specs.Seen.{setup_in, world, answer_of}

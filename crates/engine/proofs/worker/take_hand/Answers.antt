@@ -2,7 +2,6 @@ use Rattle.std.proofs.Common.{Some, sym, ap, ◌∙◌}
 use Rattle.std.specs.Vec.{with_item}
 use Rattle.nfs_model.specs.Parts.{Hand}
 use Rattle.engine.specs.declared.worker.Worker.{Worker}
-use Rattle.engine.specs.declared.worker.WorkerRun.{WorkerRun}
 use Rattle.engine.specs.Workers.{worker_with}
 use Rattle.engine.proofs.Workers.{index-found}
 use Rattle.engine.proofs.worker.take_hand.Goals as goal

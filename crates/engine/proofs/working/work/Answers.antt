@@ -39,7 +39,7 @@ use Rattle.engine_feed.specs.Seen.{layout_in, messages_of, running_count}
 use Rattle.engine.specs.declared.worker.Running.{Running}
 use Rattle.engine.specs.declared.worker.Worker.{Worker}
 use Rattle.engine.specs.declared.worker.WorkerRun.{WorkerRun}
-use Rattle.engine.specs.declared.worker.WorkerRun.TheVariants.{Idle, Begun, Worked}
+use Rattle.engine.specs.declared.worker.WorkerRun.TheVariants.{Begun, Worked}
 use Rattle.engine.specs.Seen.{running_as, worker_seen, setup_in, world, done_of}
 use Rattle.engine.specs.Workers.{worker_with}
 use Rattle.engine.specs.Sound.{IsReady, IsPlaced, MayEnd, running_messages, room_on}

@@ -34,7 +34,8 @@ work_any-outcome-requires-clause-asks g c =
     let l = lent_of L c.in-Some.any in
     subst (λ (x : Layout). AsksFor m.call x (lent_of x c.in-Some.any).affinity (lent_of x c.in-Some.any).parcels) (sym c.layout.ensures) (
       subst (λ a. IsRunAt L m.call a) (sym begun.affinity) c.requires.placed.run,
-      granted L l.affinity (subst (λ a. IsNode L a) (sym begun.affinity) c.requires.placed.node) (view c.args.seat.now) c.requires.seat.1.0 l.parcels begun.after,
+      granted L l.affinity (subst (λ a. IsNode L a) (sym begun.affinity) c.requires.placed.node) (view c.args.seat.now) c.requires.seat.1.0
+          l.parcels begun.after,
     )
 
 pub returns-clause-ran : goal.returns-clause-ran

@@ -1,9 +1,6 @@
 use Rattle.std.proofs.Common.{◌≡◌, ◌≤◌, length, true, false, refl}
-use Rattle.nfs_model.specs.Tree.{Layout}
-use Rattle.affinity_tree.specs.Affinity.{affinity_of}
 use Rattle.nfs_values.specs.Reply.{reply_of}
 use Rattle.nfs_values.specs.declared.reply.Reply.TheVariants.{SystemError}
-use Rattle.nfs_values.specs.declared.reply.Reply.{Reply}
 use Rattle.affinity_tree.specs.Numbers.{number_of}
 use Rattle.parcel_sets.specs.Exact.{kind_in}
 use Rattle.depot.specs.Grants.{entry_of, IsEnded, IsFinished}
@@ -14,10 +11,6 @@ use Rattle.desk_laws.specs.Backing.{CanFinish, CanPutBack}
 use Rattle.outboxes.specs.Messages as replies
 use Rattle.outboxes.specs.Messages.{record_of}
 use Rattle.service.specs.declared.job.JobReply.TheVariants.{Replied}
-use Rattle.service.specs.declared.outcome.Outcome.{Outcome}
-use Rattle.service.specs.declared.outcome.Outcome.TheVariants as outcomes
-use Rattle.workers.specs.declared.message.Message.{Message}
-use Rattle.workers.specs.Balance.{FilerView}
 use Rattle.workers.specs.Runs.{HasRunOn}
 use Rattle.workers.specs.Turns.{filer_behaviour, job_of_message, HasFinished, HasMoved}
 use Rattle.workers.specs.Words.{layout_in, verifier_in, IsReady}
@@ -49,7 +42,8 @@ answer-answer-requires-clause-can g c =
     let m = c.args.message in
     granted-so c.run.new.granted (λ any. HasRunOn L v m c.args.moment c.in-Ok.outcome (lent_of L any) w)
     (λ any. CanFinish kind_in filer_behaviour L w (lent_of L any) (job_of_message m c.args.moment false) (Replied c.in-Replied.reply))
-    (λ any r. may-finish L c.args.filer.now.depot.layout.lawful m c.requires.placed c.args.moment v w c.requires.seat.1.0 c.run.ensures.seat.1.0 c.in-Ok.outcome
+    (λ any r. may-finish L c.args.filer.now.depot.layout.lawful m c.requires.placed c.args.moment v w
+    c.requires.seat.1.0 c.run.ensures.seat.1.0 c.in-Ok.outcome
     (lent_of L any) r c.in-Replied.reply c.in-Replied.is)
     c.in-Ok.ensures.ran
 
@@ -61,9 +55,11 @@ answer-answer-requires-clause-room g c =
     let m = c.args.message in
     granted-then c.run.new.granted (λ any. HasRunOn L v m c.args.moment c.in-Ok.outcome (lent_of L any) w)
     (length (record_of (replies.message m.origin.xid (reply_of c.in-Replied.reply))) ≤ m.room)
-    (λ any r. fits L c.args.filer.now.depot.layout.lawful m c.requires.placed c.args.moment v w c.requires.seat.1.0 c.run.ensures.seat.1.0 c.in-Ok.outcome
+    (λ any r. fits L c.args.filer.now.depot.layout.lawful m c.requires.placed c.args.moment v w
+    c.requires.seat.1.0 c.run.ensures.seat.1.0 c.in-Ok.outcome
     (lent_of L any) r
-    (verifier_in c.args.filer.now) c.has_eight.ensures c.requires.ready.opened c.servers_are_roomy.ensures.begins c.servers_are_roomy.ensures.stays c.replies_fit.ensures.offered
+    (verifier_in c.args.filer.now) c.has_eight.ensures c.requires.ready.opened c.servers_are_roomy.ensures.begins
+    c.servers_are_roomy.ensures.stays c.replies_fit.ensures.offered
     c.in-Replied.reply c.in-Replied.is)
     c.in-Ok.ensures.ran
 
@@ -75,7 +71,8 @@ answer-answer-requires-in-Starved-clause-can g c =
     let m = c.args.message in
     granted-so c.run.new.granted (λ any. HasRunOn L v m c.args.moment c.in-Ok.outcome (lent_of L any) w)
     (λ any. CanFinish kind_in filer_behaviour L w (lent_of L any) (job_of_message m c.args.moment true) (Replied SystemError))
-    (λ any r. may-starve L c.args.filer.now.depot.layout.lawful m c.requires.placed c.args.moment v w c.requires.seat.1.0 c.run.ensures.seat.1.0 c.in-Ok.outcome
+    (λ any r. may-starve L c.args.filer.now.depot.layout.lawful m c.requires.placed c.args.moment v w
+    c.requires.seat.1.0 c.run.ensures.seat.1.0 c.in-Ok.outcome
     (lent_of L any) r SystemError refl c.in-Starved.is)
     c.in-Ok.ensures.ran
 
@@ -87,9 +84,11 @@ answer-answer-requires-in-Starved-clause-room g c =
     let m = c.args.message in
     granted-then c.run.new.granted (λ any. HasRunOn L v m c.args.moment c.in-Ok.outcome (lent_of L any) w)
     (length (record_of (replies.message m.origin.xid (reply_of SystemError))) ≤ m.room)
-    (λ any r. starved-room L c.args.filer.now.depot.layout.lawful m c.requires.placed c.args.moment v w c.requires.seat.1.0 c.run.ensures.seat.1.0 c.in-Ok.outcome
+    (λ any r. starved-room L c.args.filer.now.depot.layout.lawful m c.requires.placed c.args.moment v w
+    c.requires.seat.1.0 c.run.ensures.seat.1.0 c.in-Ok.outcome
     (lent_of L any) r
-    (verifier_in c.args.filer.now) c.has_eight.ensures c.requires.ready.opened c.servers_are_roomy.ensures.begins c.servers_are_roomy.ensures.stays c.replies_fit.ensures.offered
+    (verifier_in c.args.filer.now) c.has_eight.ensures c.requires.ready.opened c.servers_are_roomy.ensures.begins
+    c.servers_are_roomy.ensures.stays c.replies_fit.ensures.offered
     SystemError refl)
     c.in-Ok.ensures.ran
 
@@ -101,7 +100,8 @@ put_back-requires-clause-can g c =
     let m = c.args.message in
     granted-so c.run.new.granted (λ any. HasRunOn L v m c.args.moment c.in-Ok.outcome (lent_of L any) w)
     (λ any. CanPutBack L w (lent_of L any))
-    (λ any r. may-go-back L c.args.filer.now.depot.layout.lawful m c.requires.placed c.args.moment v w c.requires.seat.1.0 c.run.ensures.seat.1.0 c.in-Ok.outcome
+    (λ any r. may-go-back L c.args.filer.now.depot.layout.lawful m c.requires.placed c.args.moment v w
+    c.requires.seat.1.0 c.run.ensures.seat.1.0 c.in-Ok.outcome
     (lent_of L any) r c.in-Moved.affinity c.in-Moved.is)
     c.in-Ok.ensures.ran
 
@@ -116,7 +116,8 @@ returns-in-Replied-clause-ready g c =
     (λ any. IsFinished filer_behaviour w (number_of L (lent_of L any).affinity)
     (entry_of L (lent_of L any).affinity (lent_of L any).parcels (job_of_message m c.args.moment false) (Replied c.in-Replied.reply)) u)
     (IsReady L (verifier_in c.args.filer.now) u)
-    (λ any r finished. entered-ready L c.args.filer.now.depot.layout.lawful m c.requires.placed c.args.moment v w c.requires.seat.1.0 c.run.ensures.seat.1.0 c.in-Ok.outcome
+    (λ any r finished. entered-ready L c.args.filer.now.depot.layout.lawful m c.requires.placed c.args.moment v w
+    c.requires.seat.1.0 c.run.ensures.seat.1.0 c.in-Ok.outcome
     (lent_of L any) r u c.in-Replied.reply false finished (verifier_in c.args.filer.now) c.requires.ready)
     c.in-Ok.ensures.ran c.answer-answer.ensures.finished
 
@@ -131,7 +132,8 @@ returns-in-Replied-clause-served g c =
     (λ any. IsFinished filer_behaviour w (number_of L (lent_of L any).affinity)
     (entry_of L (lent_of L any).affinity (lent_of L any).parcels (job_of_message m c.args.moment false) (Replied c.in-Replied.reply)) u)
     (HasFinished v m c.args.moment c.answer-answer.result u)
-    (λ any r finished. entered L c.args.filer.now.depot.layout.lawful m c.requires.placed c.args.moment v w c.requires.seat.1.0 c.run.ensures.seat.1.0 c.in-Ok.outcome
+    (λ any r finished. entered L c.args.filer.now.depot.layout.lawful m c.requires.placed c.args.moment v w
+    c.requires.seat.1.0 c.run.ensures.seat.1.0 c.in-Ok.outcome
     (lent_of L any) r u c.in-Replied.reply false finished c.answer-answer.result c.answer-answer.ensures.answer)
     c.in-Ok.ensures.ran c.answer-answer.ensures.finished
 
@@ -146,7 +148,8 @@ returns-in-Starved-clause-ready g c =
     (λ any. IsFinished filer_behaviour w (number_of L (lent_of L any).affinity)
     (entry_of L (lent_of L any).affinity (lent_of L any).parcels (job_of_message m c.args.moment true) (Replied SystemError)) u)
     (IsReady L (verifier_in c.args.filer.now) u)
-    (λ any r finished. entered-ready L c.args.filer.now.depot.layout.lawful m c.requires.placed c.args.moment v w c.requires.seat.1.0 c.run.ensures.seat.1.0 c.in-Ok.outcome
+    (λ any r finished. entered-ready L c.args.filer.now.depot.layout.lawful m c.requires.placed c.args.moment v w
+    c.requires.seat.1.0 c.run.ensures.seat.1.0 c.in-Ok.outcome
     (lent_of L any) r u SystemError true finished (verifier_in c.args.filer.now) c.requires.ready)
     c.in-Ok.ensures.ran c.answer-answer-in-Starved.ensures.finished
 
@@ -161,7 +164,8 @@ returns-in-Starved-clause-served g c =
     (λ any. IsFinished filer_behaviour w (number_of L (lent_of L any).affinity)
     (entry_of L (lent_of L any).affinity (lent_of L any).parcels (job_of_message m c.args.moment true) (Replied SystemError)) u)
     (HasFinished v m c.args.moment c.answer-answer-in-Starved.result u)
-    (λ any r finished. entered L c.args.filer.now.depot.layout.lawful m c.requires.placed c.args.moment v w c.requires.seat.1.0 c.run.ensures.seat.1.0 c.in-Ok.outcome
+    (λ any r finished. entered L c.args.filer.now.depot.layout.lawful m c.requires.placed c.args.moment v w
+    c.requires.seat.1.0 c.run.ensures.seat.1.0 c.in-Ok.outcome
     (lent_of L any) r u SystemError true finished c.answer-answer-in-Starved.result c.answer-answer-in-Starved.ensures.answer)
     c.in-Ok.ensures.ran c.answer-answer-in-Starved.ensures.finished
 
@@ -175,7 +179,8 @@ returns-in-Moved-clause-ready g c =
     granted-both c.run.new.granted (λ any. HasRunOn L v m c.args.moment c.in-Ok.outcome (lent_of L any) w)
     (λ any. IsEnded w (number_of L (lent_of L any).affinity) u)
     (IsReady L (verifier_in c.args.filer.now) u)
-    (λ any r ended. back-ready L c.args.filer.now.depot.layout.lawful m c.requires.placed c.args.moment v w c.requires.seat.1.0 c.run.ensures.seat.1.0 c.in-Ok.outcome
+    (λ any r ended. back-ready L c.args.filer.now.depot.layout.lawful m c.requires.placed c.args.moment v w
+    c.requires.seat.1.0 c.run.ensures.seat.1.0 c.in-Ok.outcome
     (lent_of L any) r c.in-Moved.affinity c.in-Moved.is u ended (verifier_in c.args.filer.now) c.requires.ready)
     c.in-Ok.ensures.ran c.put_back.ensures.ended
 
@@ -189,13 +194,15 @@ returns-in-Moved-clause-served g c =
     let moved = record m { affinity = c.in-Moved.affinity } in (
       granted-then c.run.new.granted (λ any. HasRunOn L v m c.args.moment c.in-Ok.outcome (lent_of L any) w)
           (HasMoved L v m c.args.moment moved)
-          (λ any r. moves-on L c.args.filer.now.depot.layout.lawful m c.requires.placed c.args.moment v w c.requires.seat.1.0 c.run.ensures.seat.1.0 c.in-Ok.outcome
+          (λ any r. moves-on L c.args.filer.now.depot.layout.lawful m c.requires.placed c.args.moment v w
+          c.requires.seat.1.0 c.run.ensures.seat.1.0 c.in-Ok.outcome
           (lent_of L any) r c.in-Moved.affinity c.in-Moved.is moved refl)
           c.in-Ok.ensures.ran,
       granted-both c.run.new.granted (λ any. HasRunOn L v m c.args.moment c.in-Ok.outcome (lent_of L any) w)
           (λ any. IsEnded w (number_of L (lent_of L any).affinity) u)
           (entries_of u ≡ entries_of v)
-          (λ any r ended. back-entries L c.args.filer.now.depot.layout.lawful m c.requires.placed c.args.moment v w c.requires.seat.1.0 c.run.ensures.seat.1.0 c.in-Ok.outcome
+          (λ any r ended. back-entries L c.args.filer.now.depot.layout.lawful m c.requires.placed c.args.moment v w
+          c.requires.seat.1.0 c.run.ensures.seat.1.0 c.in-Ok.outcome
           (lent_of L any) r c.in-Moved.affinity c.in-Moved.is u ended)
           c.in-Ok.ensures.ran c.put_back.ensures.ended,
     )
