@@ -1,0 +1,62 @@
+//! A bell.
+
+use std::sync::atomic::{AtomicBool, Ordering};
+use std::sync::{Condvar, Wait};
+use std::time::Duration;
+
+/// The longest sleep without a look, in seconds.
+const A_WHILE: u64 = 3600;
+
+/// What threads sleep on until it is rung. Who waits tells how many rings it had heard when it saw
+/// nothing to do, so that a ring between that look and its sleep isn't lost.
+#[derive(Drop)]
+pub struct Bell {
+    rung: Condvar,
+    stopped: AtomicBool,
+}
+
+impl Bell {
+    /// A bell that wasn't rung yet.
+    pub fn new() -> Bell {
+        Bell {
+            rung: Condvar::new(),
+            stopped: AtomicBool::new(false),
+        }
+    }
+
+    /// How often it was rung, wrapping at 2^64.
+    pub fn rings(&self) -> u64 {
+        self.rung.notifications()
+    }
+
+    /// Whether it was stopped.
+    pub fn is_stopped(&self) -> bool {
+        self.stopped.load(Ordering::SeqCst)
+    }
+
+    /// Rings, and wakes one who sleeps. The system is called only where someone does.
+    pub fn ring(&self) {
+        self.rung.notify_one();
+    }
+
+    /// Rings, and wakes all who sleep.
+    pub fn ring_all(&self) {
+        self.rung.notify_all();
+    }
+
+    /// Wakes all who sleep. From now on no wait sleeps.
+    pub fn stop(&self) {
+        self.stopped.store(true, Ordering::SeqCst);
+        self.rung.notify_all();
+    }
+
+    /// Sleeps until it was rung after so many rings, or stopped.
+    pub fn wait_past<R: Wait>(&self, rt: &R, seen: u64) {
+        for _ in rt.forever() {
+            if self.rings() != seen || self.is_stopped() {
+                return;
+            }
+            self.rung.sleep(rt, seen, Duration::from_secs(A_WHILE));
+        }
+    }
+}
