@@ -1,0 +1,4 @@
+pub mod Calls
+pub mod Lanes
+pub mod Records
+pub mod Tallies

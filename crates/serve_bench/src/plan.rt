@@ -1,0 +1,108 @@
+//! What the connections of a run do.
+
+ghost use Rattle.std.specs.Prelude.{◌≡◌, ◌≤◌, ◌<◌, IfOk};
+
+use crate::call::Call;
+use crate::lane::{LANES, TURNS, lane_of, turn_of};
+use crate::own_names::OwnNames;
+use crate::payload::Payload;
+use crate::place::{FILE_SIZE, Place};
+use crate::transfer::{Transfer, size_of};
+use crate::workload::Workload;
+use std::alloc::{AllocError, Global};
+
+/// How far apart connections begin in the file: a span.
+const SPAN: u64 = 262_144;
+
+/// The calls of each connection: so many lanes make a call of a kind in each of so many turns.
+#[derive(Drop)]
+pub struct Plan<'a> {
+    pub place: &'a Place,
+    pub workload: Workload,
+    pub payload: Payload,
+    pub lanes: u32,
+    pub turns: u32,
+    ghost few_lanes: { lanes ≤ 4 },
+    ghost few_turns: { turns ≤ 1_073_741_824 },
+}
+
+/// Where the call of an xid on a connection reads or writes: from a span of its own on, through
+/// the file and again from its begin.
+fn offset_of(connection: u32, xid: u32, transfer: Transfer) -> u64
+    ensures { result < FILE_SIZE }
+{
+    let begin = u64::from(connection) * SPAN;
+    let before = u64::from(xid) * u64::from(size_of(transfer));
+    (begin + before) % FILE_SIZE
+}
+
+impl<'a> Plan<'a> {
+    /// The call of an xid on a connection. Of CREATE and REMOVE each lane makes the first in turns
+    /// of even number and the second in the others.
+    pub fn call<'b>(&'b self, connection: u32, names: &'b OwnNames, xid: u32) -> Call<'b> {
+        let place = self.place;
+        match self.workload {
+            Workload::GetAttributes => Call::GetAttributes(&place.file),
+            Workload::Lookup => Call::Lookup(&place.directory, &place.file_name),
+            Workload::Read(transfer) => {
+                let offset = offset_of(connection, xid, transfer);
+                Call::Read(&place.file, offset, transfer)
+            }
+            Workload::Write(transfer) => {
+                let offset = offset_of(connection, xid, transfer);
+                Call::Write(&place.file, offset, &self.payload)
+            }
+            Workload::CreateAndRemove => {
+                let name = names.of_lane(lane_of(xid));
+                if turn_of(xid) % 2 == 0 {
+                    Call::Create(&place.directory, name)
+                } else {
+                    Call::Remove(&place.directory, name)
+                }
+            }
+            Workload::ReadDirectory => Call::ReadDirectory(&place.directory),
+        }
+    }
+}
+
+/// How many bytes the payload of a kind of calls has.
+fn payload_size(workload: Workload) -> u32
+    ensures { result ≤ 65_536 }
+{
+    match workload {
+        Workload::Write(transfer) => size_of(transfer),
+        _ => 0,
+    }
+}
+
+/// How many turns each of so many lanes has that make so many calls together: an even number.
+fn turns_for(count: u32, lanes: u32) -> u32
+    requires { 0 < lanes }
+    ensures { result ≤ TURNS }
+{
+    let turns = count.div_ceil(lanes).min(TURNS - 1);
+    turns + turns % 2
+}
+
+/// Calls of a kind, so many by all lanes of all connections together or a few more.
+pub fn new_plan<'a>(
+    alloc: Global,
+    place: &'a Place,
+    workload: Workload,
+    connections: u32,
+    lanes: u32,
+    count: u32,
+) -> Result<Plan<'a>, AllocError>
+    requires some { 0 < connections }
+    requires few { connections ≤ 64 }
+    requires lane { 0 < lanes }
+    requires lanes { lanes ≤ LANES }
+{
+    Ok(Plan {
+        place,
+        workload,
+        payload: Payload::new(alloc, payload_size(workload))?,
+        lanes,
+        turns: turns_for(count, connections * lanes),
+    })
+}
