@@ -11,13 +11,13 @@ HasHeader bytes header = read Word bytes ≡ Ok (header, drop 4 bytes)
 
 -- A whole record stands behind its header, and of a part the end hasn't come.
 abbrev pub IsNext : List ℕ → Next → Type 0
-IsNext bytes (Whole record) =
-    HasHeader bytes (2 ^ 31 + length record.now) × (record.now ≡ take (length record.now) (drop 4 bytes))
+IsNext bytes (Whole whole) =
+    HasHeader bytes (2 ^ 31 + length whole.now) × (whole.now ≡ take (length whole.now) (drop 4 bytes))
 IsNext bytes Part =
     (size : ℕ) → HasHeader bytes (2 ^ 31 + size) → length bytes < 4 + size
 IsNext bytes Fragment = (header : ℕ) × (HasHeader bytes header × (header < 2 ^ 31))
 
 -- A whole record lies within the bytes.
 abbrev pub IsWithin : List ℕ → Next → Type 0
-IsWithin bytes (Whole record) = 4 + length record.now ≤ length bytes
+IsWithin bytes (Whole whole) = 4 + length whole.now ≤ length bytes
 IsWithin bytes next = Unit {0}

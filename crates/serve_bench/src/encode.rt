@@ -2,7 +2,7 @@
 
 ghost use Rattle.std.specs.Prelude.{◌≡◌, ◌≤◌, ◌++◌, ◌∷◌, [], length, OnOk};
 ghost use Rattle.xdr.specs.Shape.{counted, hyper, word};
-ghost use Rattle.serve_bench.specs.Calls.{words, size_of, procedure_of, arguments_of, record_of};
+ghost use Rattle.serve_bench.specs.Calls.{words, size_of, procedure_of, arguments_of, head_of, record_of};
 
 use crate::call::Call;
 use crate::handle::Handle;
@@ -108,6 +108,14 @@ fn put_entry(out: &mut Vec<u8>, directory: &Handle, name: &Name) -> Result<(), A
     put_opaque(out, name.as_slice())
 }
 
+/// Writes where a READ begins and how many bytes it wants.
+fn put_range(out: &mut Vec<u8>, offset: u64, size: Transfer) -> Result<(), AllocError>
+    ensures { OnOk result (out.new.items ≡ out.old.items ++ (hyper offset ++ word (size_of size))) }
+{
+    put_u64(out, offset)?;
+    put_u32(out, size_of(size))
+}
+
 /// Writes the arguments of a READ.
 fn put_read(
     out: &mut Vec<u8>,
@@ -119,8 +127,26 @@ fn put_read(
         ++ (counted file.now.bytes.items ++ (hyper offset ++ word (size_of size)))) }
 {
     put_opaque(out, file.as_slice())?;
+    put_range(out, offset, size)
+}
+
+/// Writes how many bytes a WRITE has, that it is UNSTABLE, and the bytes.
+fn put_payload(out: &mut Vec<u8>, payload: &Payload) -> Result<(), AllocError>
+    ensures { OnOk result (out.new.items ≡ out.old.items
+        ++ (words (length payload.now.bytes.items ∷ 0 ∷ []) ++ counted payload.now.bytes.items)) }
+{
+    let bytes = payload.as_slice();
+    put_words(out, &[bytes.len() as u32, UNSTABLE])?;
+    put_opaque(out, bytes)
+}
+
+/// Writes where a WRITE begins, and what it writes.
+fn put_written(out: &mut Vec<u8>, offset: u64, payload: &Payload) -> Result<(), AllocError>
+    ensures { OnOk result (out.new.items ≡ out.old.items ++ (hyper offset
+        ++ (words (length payload.now.bytes.items ∷ 0 ∷ []) ++ counted payload.now.bytes.items))) }
+{
     put_u64(out, offset)?;
-    put_u32(out, size_of(size))
+    put_payload(out, payload)
 }
 
 /// Writes the arguments of a WRITE.
@@ -135,10 +161,7 @@ fn put_write(
             ++ counted payload.now.bytes.items)))) }
 {
     put_opaque(out, file.as_slice())?;
-    put_u64(out, offset)?;
-    let bytes = payload.as_slice();
-    put_words(out, &[bytes.len() as u32, UNSTABLE])?;
-    put_opaque(out, bytes)
+    put_written(out, offset, payload)
 }
 
 /// Writes the arguments of a call.
@@ -182,11 +205,11 @@ fn put_page(out: &mut Vec<u8>, directory: &Handle) -> Result<(), AllocError>
     put_words(out, &[0, 0, 0, 0, 8_192])
 }
 
-/// Writes a call of an xid behind the bytes of a vector, as a record of one fragment.
-pub fn put_call(out: &mut Vec<u8>, xid: u32, call: &Call<'_>) -> Result<(), AllocError>
-    ensures { OnOk result (out.new.items ≡ out.old.items ++ record_of xid call.now) }
+/// Writes the head and the arguments of a call.
+fn put_message(out: &mut Vec<u8>, xid: u32, call: &Call<'_>) -> Result<(), AllocError>
+    ensures { OnOk result (out.new.items ≡ out.old.items
+        ++ (head_of xid (procedure_of call.now) ++ arguments_of call.now)) }
 {
-    put_u32(out, LAST + (HEAD + arguments_size(call)))?;
     let head = [
         xid,
         CALL,
@@ -201,4 +224,12 @@ pub fn put_call(out: &mut Vec<u8>, xid: u32, call: &Call<'_>) -> Result<(), Allo
     ];
     put_words(out, &head)?;
     put_arguments(out, call)
+}
+
+/// Writes a call of an xid behind the bytes of a vector, as a record of one fragment.
+pub fn put_call(out: &mut Vec<u8>, xid: u32, call: &Call<'_>) -> Result<(), AllocError>
+    ensures { OnOk result (out.new.items ≡ out.old.items ++ record_of xid call.now) }
+{
+    put_u32(out, LAST + (HEAD + arguments_size(call)))?;
+    put_message(out, xid, call)
 }

@@ -16,11 +16,9 @@ impl Name {
     pub fn new(alloc: Global, text: &str) -> Result<Name, AllocError>
         ensures { IfOk result (λ name. name.bytes.items ≡ take 255 text.now) }
     {
-        let bytes = text.as_bytes();
-        let size = bytes.len().min(255);
-        Ok(Name {
-            bytes: Vec::from_slice(alloc, &bytes[..size])?,
-        })
+        let mut bytes = Vec::from_slice(alloc, text.as_bytes())?;
+        bytes.truncate(255);
+        Ok(Name { bytes })
     }
 
     /// Its bytes.

@@ -75,6 +75,16 @@ fn find(alloc: Global, link: &mut Link, directory: &Handle, name: &Name) -> io::
     }
 }
 
+/// Makes a file of a name in a directory, if it isn't there.
+fn make_file(alloc: Global, link: &mut Link, directory: &Handle, name: &Name) -> io::Result<()> {
+    make_call(alloc, link, &Call::Create(directory, name))
+}
+
+/// Removes the file of a name from a directory.
+fn remove_file(alloc: Global, link: &mut Link, directory: &Handle, name: &Name) -> io::Result<()> {
+    make_call(alloc, link, &Call::Remove(directory, name))
+}
+
 /// Writes a file from its begin to FILE_SIZE.
 fn fill(alloc: Global, link: &mut Link, file: &Handle) -> io::Result<()> {
     let size = size_of(Transfer::Full);
@@ -86,20 +96,31 @@ fn fill(alloc: Global, link: &mut Link, file: &Handle) -> io::Result<()> {
     Ok(())
 }
 
-/// Makes a directory in the root, the file in it, and the other names. What is there already stays.
-pub fn prepare(alloc: Global, link: &mut Link) -> io::Result<Place> {
+/// Makes the other names in a directory.
+fn make_names(alloc: Global, link: &mut Link, directory: &Handle) -> io::Result<()> {
+    for number in 0..NAMES {
+        let name = other_name(alloc, number)?;
+        make_file(alloc, link, directory, &name)?;
+    }
+    Ok(())
+}
+
+/// Makes the directory in the root, and answers its handle.
+fn make_directory(alloc: Global, link: &mut Link) -> io::Result<Handle> {
     let root = Handle::root(alloc)?;
     let name = directory_name(alloc)?;
     let _verdict = try_call(alloc, link, &Call::MakeDirectory(&root, &name))?;
-    let directory = find(alloc, link, &root, &name)?;
+    find(alloc, link, &root, &name)
+}
+
+/// Makes a directory in the root, the file in it, and the other names. What is there already stays.
+pub fn prepare(alloc: Global, link: &mut Link) -> io::Result<Place> {
+    let directory = make_directory(alloc, link)?;
     let file_name = file_name(alloc)?;
-    make_call(alloc, link, &Call::Create(&directory, &file_name))?;
+    make_file(alloc, link, &directory, &file_name)?;
     let file = find(alloc, link, &directory, &file_name)?;
     fill(alloc, link, &file)?;
-    for number in 0..NAMES {
-        let name = other_name(alloc, number)?;
-        make_call(alloc, link, &Call::Create(&directory, &name))?;
-    }
+    make_names(alloc, link, &directory)?;
     Ok(Place {
         directory,
         file,
@@ -111,9 +132,9 @@ pub fn prepare(alloc: Global, link: &mut Link) -> io::Result<Place> {
 pub fn clean_up(alloc: Global, link: &mut Link, place: &Place) -> io::Result<()> {
     for number in 0..NAMES {
         let name = other_name(alloc, number)?;
-        make_call(alloc, link, &Call::Remove(&place.directory, &name))?;
+        remove_file(alloc, link, &place.directory, &name)?;
     }
-    make_call(alloc, link, &Call::Remove(&place.directory, &place.file_name))?;
+    remove_file(alloc, link, &place.directory, &place.file_name)?;
     let root = Handle::root(alloc)?;
     let name = directory_name(alloc)?;
     make_call(alloc, link, &Call::RemoveDirectory(&root, &name))

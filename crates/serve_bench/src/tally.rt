@@ -1,7 +1,7 @@
 //! Counts of replies.
 
-ghost use Rattle.std.specs.Prelude.{◌≡◌, ◌++◌, ◌∷◌, [], ◌==◌, ◌&&◌, OnOk};
-ghost use Rattle.serve_bench.specs.Tallies.{HasCounted, joined_of};
+ghost use Rattle.std.specs.Prelude.{◌≡◌, ◌++◌, ◌==◌, ◌&&◌, OnOk};
+ghost use Rattle.serve_bench.specs.Tallies.{HasCounted, next};
 
 use crate::reply::Verdict;
 use std::alloc::{AllocError, Global};
@@ -49,14 +49,14 @@ impl Tally {
 
     /// Counts a reply to no outstanding call.
     pub fn count_unknown(&mut self)
-        ensures { self.new ≡ record self.old { unknown = min (self.old.unknown + 1) (2 ^ 64 - 1) } }
+        ensures { self.new ≡ record self.old { unknown = next self.old.unknown } }
     {
         self.unknown = self.unknown.saturating_add(1);
     }
 
     /// Counts a call that isn't answered.
     pub fn count_lost(&mut self)
-        ensures { self.new ≡ record self.old { lost = min (self.old.lost + 1) (2 ^ 64 - 1) } }
+        ensures { self.new ≡ record self.old { lost = next self.old.lost } }
     {
         self.lost = self.lost.saturating_add(1);
     }

@@ -1,10 +1,12 @@
 //! The calls of one connection.
 
+ghost use Rattle.std.specs.Prelude.{◌<◌};
+
 use crate::encode::put_call;
 use crate::lane::{LANES, Lane, lane_of, turn_of, xid_of};
 use crate::own_names::OwnNames;
 use crate::plan::Plan;
-use crate::reply::{judge, read_reply};
+use crate::reply::{Reply, Verdict, judge, read_reply};
 use crate::tally::Tally;
 use std::alloc::{AllocError, Global};
 use std::io::{self, ErrorKind};
@@ -77,6 +79,12 @@ impl Work {
             .answer(turn_of(xid))
     }
 
+    /// What a reply says of its call.
+    fn judge_reply(&self, plan: &Plan<'_>, reply: Reply<'_>) -> Verdict {
+        let call = plan.call(self.connection, &self.names, reply.xid);
+        judge(&call, reply.results)
+    }
+
     /// Takes a reply that came, and writes the next call of its lane.
     pub fn take_reply(
         &mut self,
@@ -93,7 +101,7 @@ impl Work {
             self.tally.count_unknown();
             return Ok(());
         };
-        let verdict = judge(&plan.call(self.connection, &self.names, xid), reply.results);
+        let verdict = self.judge_reply(plan, reply);
         self.tally.count(verdict, now.duration_since(sent))?;
         self.put_turn(plan, lane_of(xid), turn_of(xid) + 1, now, out)?;
         Ok(())
