@@ -1,7 +1,7 @@
 -- How answered calls are counted.
-use Rattle.std.specs.Prelude.{◌≡◌, ℕ, ◌+◌, ◌-◌, ◌^◌, List, [], ◌∷◌, ◌++◌, min}
+use Rattle.std.specs.Prelude.{◌≡◌, ℕ, ◌+◌, ◌-◌, ◌^◌, [], ◌∷◌, ◌++◌, min}
 use Rattle.serve_bench.specs.declared.reply.Verdict.{Verdict}
-use Rattle.serve_bench.specs.declared.reply.Verdict.TheVariants.{Done, Refused, Malformed}
+use Rattle.serve_bench.specs.declared.reply.Verdict.TheVariants.{Done}
 use Rattle.serve_bench.specs.declared.tally.Tally.{Tally}
 
 -- the largest number of a counter

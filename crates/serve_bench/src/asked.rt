@@ -29,10 +29,7 @@ pub fn asked(rt: &(impl env::Env + AllocGlobal)) -> io::Result<Option<Request>> 
         return Ok(None);
     };
     let Ok(count) = count.parse() else {
-        return Err(io::Error::new(
-            io::ErrorKind::InvalidInput,
-            "COUNT is no number below 2^32",
-        ));
+        return Err(io::Error::new(io::ErrorKind::InvalidInput, "COUNT is no number below 2^32"));
     };
     let only = match words.next() {
         None => None,
@@ -47,6 +44,8 @@ pub fn asked(rt: &(impl env::Env + AllocGlobal)) -> io::Result<Option<Request>> 
 
 /// The kind of calls of a name.
 fn known(name: &str) -> io::Result<Workload> {
-    Workload::named(name)
-        .ok_or(io::Error::new(io::ErrorKind::InvalidInput, "KIND is no kind of calls"))
+    Workload::named(name).ok_or(io::Error::new(
+        io::ErrorKind::InvalidInput,
+        "KIND is no kind of calls",
+    ))
 }

@@ -26,6 +26,7 @@ const RPC_VERSION: u32 = 2;
 
 /// The program and the version of NFS.
 const NFS_PROGRAM: u32 = 100_003;
+
 const NFS_VERSION: u32 = 3;
 
 /// The flavor of a credential or a verifier that says nothing.
@@ -117,12 +118,7 @@ fn put_range(out: &mut Vec<u8>, offset: u64, size: Transfer) -> Result<(), Alloc
 }
 
 /// Writes the arguments of a READ.
-fn put_read(
-    out: &mut Vec<u8>,
-    file: &Handle,
-    offset: u64,
-    size: Transfer,
-) -> Result<(), AllocError>
+fn put_read(out: &mut Vec<u8>, file: &Handle, offset: u64, size: Transfer) -> Result<(), AllocError>
     ensures { OnOk result (out.new.items ≡ out.old.items
         ++ (counted file.now.bytes.items ++ (hyper offset ++ word (size_of size)))) }
 {
@@ -158,7 +154,7 @@ fn put_write(
 ) -> Result<(), AllocError>
     ensures { OnOk result (out.new.items ≡ out.old.items ++ (counted file.now.bytes.items
         ++ (hyper offset ++ (words (length payload.now.bytes.items ∷ 0 ∷ [])
-            ++ counted payload.now.bytes.items)))) }
+        ++ counted payload.now.bytes.items)))) }
 {
     put_opaque(out, file.as_slice())?;
     put_written(out, offset, payload)
@@ -190,7 +186,7 @@ fn put_made(
 ) -> Result<(), AllocError>
     ensures { OnOk result (out.new.items ≡ out.old.items
         ++ ((counted directory.now.bytes.items ++ counted name.now.bytes.items)
-            ++ words attributes.now)) }
+        ++ words attributes.now)) }
 {
     put_entry(out, directory, name)?;
     put_words(out, attributes)

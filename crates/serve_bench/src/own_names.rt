@@ -26,7 +26,7 @@ impl OwnNames {
             own_name(alloc, connection, 0)?,
             own_name(alloc, connection, 1)?,
             own_name(alloc, connection, 2)?,
-            own_name(alloc, connection, 3)?
+            own_name(alloc, connection, 3)?,
         ]?;
         Ok(OwnNames { names })
     }

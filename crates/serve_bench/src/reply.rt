@@ -11,11 +11,14 @@ const REPLY: u32 = 1;
 
 /// That a call was accepted, that it was executed, and that all went well.
 const ACCEPTED: u32 = 0;
+
 const SUCCESS: u32 = 0;
+
 const OK: u32 = 0;
 
 /// How many bytes attributes take, and those of an object before a change.
 const ATTRIBUTES: u32 = 84;
+
 const ATTRIBUTES_BEFORE: u32 = 24;
 
 /// How many bytes a verifier of READDIR or of WRITE takes.
@@ -23,6 +26,7 @@ const VERIFIER: u32 = 8;
 
 /// The most bytes of a handle, and of the body of a verifier of RPC.
 const HANDLE: u32 = 64;
+
 const AUTHENTICATION: u32 = 400;
 
 /// What a reply says of its call.

@@ -76,19 +76,25 @@ fn make_all<R: Clock + AllocGlobal + Threads + Sync>(
 
 /// Makes calls of a kind under a load, and prints figures. Whether all were done.
 fn measure<
-    R: Clock + Print + Net<Listener = TcpListener, Stream = TcpStream> + AllocGlobal + Threads + Sync,
->(
-    rt: &R,
-    request: &Request,
-    place: &Place,
-    workload: Workload,
-    load: Load,
-) -> io::Result<bool> {
+    R: Clock
+        + Print
+        + Net<Listener = TcpListener, Stream = TcpStream>
+        + AllocGlobal
+        + Threads
+        + Sync,
+>(rt: &R, request: &Request, place: &Place, workload: Workload, load: Load) -> io::Result<bool> {
     let Load {
         connections,
         outstanding,
     } = load;
-    let plan = new_plan(rt.alloc(), place, workload, connections, outstanding, request.count)?;
+    let plan = new_plan(
+        rt.alloc(),
+        place,
+        workload,
+        connections,
+        outstanding,
+        request.count,
+    )?;
     let sessions = connect_all(rt, &request.address, connections)?;
     let (mut tally, time) = make_all(rt, &plan, sessions)?;
     print!(rt; "{connections} x {outstanding}, ")?;
@@ -98,13 +104,13 @@ fn measure<
 
 /// Measures all kinds of calls that are asked for under a load. Whether all calls were done.
 fn measure_kinds<
-    R: Clock + Print + Net<Listener = TcpListener, Stream = TcpStream> + AllocGlobal + Threads + Sync,
->(
-    rt: &R,
-    request: &Request,
-    place: &Place,
-    load: Load,
-) -> io::Result<bool> {
+    R: Clock
+        + Print
+        + Net<Listener = TcpListener, Stream = TcpStream>
+        + AllocGlobal
+        + Threads
+        + Sync,
+>(rt: &R, request: &Request, place: &Place, load: Load) -> io::Result<bool> {
     let mut clean = true;
     for workload in Workload::ALL {
         if request.includes(workload) {
@@ -116,11 +122,13 @@ fn measure_kinds<
 
 /// Prepares the server, measures it, and removes what was made. Whether all calls were done.
 pub fn run<
-    R: Clock + Print + Net<Listener = TcpListener, Stream = TcpStream> + AllocGlobal + Threads + Sync,
->(
-    rt: &R,
-    request: &Request,
-) -> io::Result<bool> {
+    R: Clock
+        + Print
+        + Net<Listener = TcpListener, Stream = TcpStream>
+        + AllocGlobal
+        + Threads
+        + Sync,
+>(rt: &R, request: &Request) -> io::Result<bool> {
     let mut link = Link::connect(rt, &request.address)?;
     let place = prepare(rt.alloc(), &mut link)?;
     let full = measure_kinds(rt, request, &place, FULL)?;

@@ -1,4 +1,4 @@
-use Rattle.std.proofs.Common.{ℕ, List, [], ◌∷◌, ◌++◌, length}
+use Rattle.std.proofs.Common.{[], ◌∷◌, ◌++◌, length}
 use Rattle.xdr.specs.Shape.{counted, hyper}
 use Rattle.serve_bench.specs.Calls.{words}
 use Rattle.serve_bench.proofs.Behind.{behind_counted}
