@@ -2,7 +2,8 @@
 
 ghost use Rattle.std.specs.Prelude.{◌≡◌, ◌≤◌, ◌++◌, ◌∷◌, [], length, OnOk};
 ghost use Rattle.xdr.specs.Shape.{counted, hyper, word};
-ghost use Rattle.serve_bench.specs.Calls.{words, size_of, procedure_of, arguments_of, head_of, record_of};
+ghost use Rattle.serve_bench.specs.Calls.{words, size_of, procedure_of, arguments_of};
+ghost use Rattle.serve_bench.specs.Calls.{head_of, record_of};
 
 use crate::call::Call;
 use crate::handle::Handle;
@@ -64,7 +65,8 @@ fn counted_size(bytes: &[u8]) -> u32
 
 /// How many bytes a directory and a name take.
 fn entry_size(directory: &Handle, name: &Name) -> u32
-    ensures size { result ≡ length (counted directory.now.bytes.items ++ counted name.now.bytes.items) }
+    ensures size { result
+        ≡ length (counted directory.now.bytes.items ++ counted name.now.bytes.items) }
     ensures most { result ≤ 131_088 }
 {
     counted_size(directory.as_slice()) + counted_size(name.as_slice())

@@ -1,6 +1,6 @@
 //! Lanes: what keeps one call of a connection outstanding.
 
-ghost use Rattle.std.specs.Prelude.{◌≡◌, ◌+◌, ◌*◌, ◌^◌, ◌<◌, ◌%◌, ◌/◌, IsSome, is_some, if◌then◌else◌};
+ghost use Rattle.std.specs.Prelude.{◌≡◌, ◌<◌, ◌%◌, ◌/◌, is_some, if◌then◌else◌};
 ghost use Rattle.serve_bench.specs.Lanes.{sent_of};
 ghost use Rattle.serve_bench.specs.declared.lane.Lane.TheVariants as lanes;
 

@@ -74,7 +74,8 @@ impl Tally {
 
     /// Whether all calls were done as they were asked, and no other reply came.
     pub fn is_clean(&self) -> bool
-        ensures { result ≡ ((self.now.wrong == 0) && (self.now.unknown == 0)) && (self.now.lost == 0) }
+        ensures { result
+            ≡ ((self.now.wrong == 0) && (self.now.unknown == 0)) && (self.now.lost == 0) }
     {
         self.wrong == 0 && self.unknown == 0 && self.lost == 0
     }
