@@ -3,3 +3,6 @@ mod Grants
 mod Served
 mod Turning
 mod Started
+mod Batches
+mod Added
+mod Ran

@@ -70,8 +70,8 @@ left_by v between = after v.tree (listed v.first) (v.seen ++ between)
 -- its volume, as the entries before it left them.
 pub record Carries (layout : Layout) (v : FilerView) (call : InnerCall) (hand : Hand) (reply : JobReply) (w : FilerView) : Type 0 where
   pub entry : FilerEntry
-  pub call : job_of entry.call ≡ jobs.Inner call
-  pub reply : job_reply_of entry.reply ≡ reply
+  pub is_call : job_of entry.call ≡ jobs.Inner call
+  pub is_reply : job_reply_of entry.reply ≡ reply
   pub gave : gives (jobs.Inner call) reply ≡ batches_in hand
   pub entries : entries_of w ≡ entries_of v ++ entry ∷ []
   pub between : List FilerEntry
