@@ -6,3 +6,4 @@ mod Started
 mod Batches
 mod Added
 mod Ran
+mod Carrying

@@ -12,7 +12,9 @@ use Rattle.parcel_sets.specs.Exact.{kind_in}
 use Rattle.depot_rule.specs.Sums.{total}
 use Rattle.depot_rule.specs.History.{after, listed, entries_of, AreHands, SoundHistory}
 use Rattle.depot_rule.specs.Plays.{HasAdded}
-use Rattle.depot.specs.Grants.{entry_of, HasWith, IsBegun, IsAfter, IsStep, IsEnded, IsFinished}
+use Rattle.depot.specs.Grants.{entry_of, HasWith, IsBegun, IsAfter, IsStep, IsEnded, IsFinished, IsRefused}
+use Rattle.depot.specs.declared.grants.Refusal.{Refusal}
+use Rattle.depot.specs.declared.grants.Refusal.TheVariants as refusals
 use Rattle.depot.specs.lemmas.Seats.{begun-with, begun-entries, ended-entries, ended-none, finished-entries, finished-none}
 use Rattle.desk_laws.specs.Backing.{CanFinish, CanPutBack}
 use Rattle.held_state.specs.Contents.{VolumeContents, volume_at, contents_of, filer_contents}
@@ -34,7 +36,7 @@ use Rattle.service.specs.declared.job.InnerCall as codes
 use Rattle.service.specs.declared.job.Job.TheVariants.{Inner}
 use Rattle.service.specs.declared.job.JobReply.{JobReply}
 use Rattle.workers.specs.Balance.{FilerView, FilerEntry}
-use Rattle.workers.specs.Carries.{node_tried, MayCarry, Carries, HasRunInner}
+use Rattle.workers.specs.Carries.{node_tried, refusal_by, IsRefusedFor, MayCarry, Carries, HasRunInner}
 use Rattle.workers.specs.Runs.{FilerLent}
 use Rattle.workers.specs.Turns.{filer_behaviour}
 use Rattle.workers.specs.Words.{HasOpened, IsReady}
@@ -51,6 +53,12 @@ node-of-call (Deliver v) = refl
 node-of-call (Cull v) = refl
 node-of-call (Free v r) = refl
 node-of-call (Survey v) = refl
+
+-- what the depot refused, a tend is refused for
+pub refused-for : (layout : Layout) (v w : FilerView) (call : InnerCall) (refusal : Refusal) → IsRefused layout v (node_tried call) refusal w
+    → IsRefusedFor layout v call (refusal_by refusal) w
+refused-for layout v w call (refusals.Busy at word) refused = refused
+refused-for layout v w call refusals.Worn refused = refused
 
 -- the parcels that were granted are some sound filer's, and what the seat took and didn't give is in its hands
 pub granted-hand : (layout : Layout) (node : Affinity) → IsNode layout node → (v : FilerView) → v.tree ≡ parents layout → (f : Parcels) (given : List Hand)
