@@ -3,8 +3,9 @@
 ghost use Rattle.std.specs.Prelude.{◌≡◌, ◌<◌, length, nat_lt, Ok, Err, MatchResult};
 ghost use Rattle.affinity_tree.specs.Layout.{layout_of};
 ghost use Rattle.nfs_model.specs.Events.Refusals.{is_empty_hand};
-ghost use Rattle.service.specs.Jobs.{inner_of};
-ghost use Rattle.workers.specs.Carries.{HasMovedBatch, IsToldOf};
+ghost use Rattle.service.specs.Jobs.{inner_of, job_reply_of};
+ghost use Rattle.workers.specs.Carries.{hand_after, HasMovedBatch, IsToldAs, IsToldOf};
+ghost use Rattle.workers.specs.Carries.{NamesBatch};
 ghost use Rattle.workers.specs.Tends.{call_of, call_to_put};
 ghost use Rattle.workers.specs.Words.{IsHandIn};
 
@@ -94,25 +95,36 @@ fn call_of(layout: &Layout, hand: &BatchInHand, tend: Tend) -> Result<InnerCall,
     }
 }
 
+/// What is in the hand after an inner call with this reply, and what is told of it.
+fn told(reply: JobReply) -> (BatchInHand, Tended)
+    requires { NamesBatch (job_reply_of reply) }
+    ensures hand { result.0 ≡ hand_after (job_reply_of reply) }
+    ensures told { IsToldAs (job_reply_of reply) result.1 }
+{
+    match reply {
+        JobReply::Took(hand) => {
+            let count = hand.count();
+            (hand, Tended::InHand { count })
+        }
+        JobReply::Gave(hand) => {
+            let count = hand.count();
+            (BatchInHand::new(Hand::Empty), Tended::PutDown { count })
+        }
+        JobReply::Replied(_reply) => unreachable!(),
+        JobReply::Surveyed(_counts) => unreachable!(),
+    }
+}
+
 /// What is in the hand after an inner call, and what its tend answers.
-fn told(carried: Carried) -> (BatchInHand, Result<Tended, TendRefusal>)
+fn answer(carried: Carried) -> (BatchInHand, Result<Tended, TendRefusal>)
     requires { HasMovedBatch carried }
     ensures { IsToldOf carried result.0 result.1 }
 {
     match carried {
-        Carried::Done(JobReply::Took(hand)) => {
-            let count = hand.count();
-            (hand, Ok(Tended::InHand { count }))
+        Carried::Done(reply) => {
+            let (hand, tended) = told(reply);
+            (hand, Ok(tended))
         }
-        Carried::Done(JobReply::Gave(hand)) => {
-            let count = hand.count();
-            (
-                BatchInHand::new(Hand::Empty),
-                Ok(Tended::PutDown { count }),
-            )
-        }
-        Carried::Done(JobReply::Replied(_)) => unreachable!(),
-        Carried::Done(JobReply::Surveyed(_)) => unreachable!(),
         Carried::Refused(hand, refusal) => (hand, Err(refusal)),
     }
 }
@@ -174,7 +186,7 @@ impl Worker {
             hand,
             kept,
         } = self;
-        let (hand, answer) = told(carry(filer, &mut seat, call, hand));
+        let (hand, answer) = answer(carry(filer, &mut seat, call, hand));
         let worker = Worker {
             seat,
             pass,
