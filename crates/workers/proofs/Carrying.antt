@@ -64,7 +64,7 @@ module _ (layout : Layout) (v w : FilerView) (call : InnerCall) (hand : Hand) wh
 
   pub still-even : (carried : Carried) (pass : Passed) (kept : Option Message) → HasCarried layout v call hand carried w → IsEven pass (entries_of v) kept
       → IsEven pass (entries_of w) kept
-  still-even (Done reply) pass kept did even h =
+  still-even (Done reply) pass kept did even = λ h.
       let b = even h in
       let d = ap (total (by_entry h)) did.entries in
       let s = total-append (by_entry h) (entries_of v) (did.entry ∷ []) in
