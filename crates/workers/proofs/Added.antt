@@ -1,13 +1,12 @@
 -- An entry that was added to a history did its deed on the parcels that the entries before it left.
 use Rattle.std.proofs.Common.{◌≡◌, ℕ, List, [], ◌∷◌, ◌++◌, length, Option, None, refl, sym, subst, arith}
 use Rattle.nfs_model.specs.Tree.{Layout, Affinity}
-use Rattle.nfs_model.specs.Parts.{Hand}
 use Rattle.affinity_tree.specs.Fault.{fault_of}
 use Rattle.affinity_tree.specs.Numbers.{number_of, parents}
 use Rattle.affinity_tree.specs.Tree.{IsNode}
 use Rattle.affinity_tree.specs.lemmas.Alike.{alike}
 use Rattle.depot_rule.specs.declared.view.Entry.{Entry}
-use Rattle.depot_rule.specs.History.{Steps, Legal, SoundThroughout, AreHands, after, put_in, listed}
+use Rattle.depot_rule.specs.History.{Legal, SoundThroughout, AreHands, after, put_in, listed}
 use Rattle.depot_rule.specs.Plays.{HasAdded}
 use Rattle.depot_rule.specs.lemmas.Histories.{moved-snoc, starts-itself}
 use Rattle.held_state.specs.Deeds.{ParcelsDo, FilerSteps}

@@ -1,5 +1,5 @@
 -- A worker after an inner call: its balance, its hand, and what its tend answers.
-use Rattle.std.proofs.Common.{◌≡◌, ℕ, ◌+◌, ◌<◌, Bool, true, false, ◌&&◌, List, [], ◌∷◌, ◌++◌, length, Option, Ok, Err, refl, sym, ap, ◌∙◌, subst, arith}
+use Rattle.std.proofs.Common.{◌≡◌, ℕ, ◌<◌, Bool, true, false, ◌&&◌, List, [], ◌∷◌, length, Option, Ok, Err, refl, sym, ap, ◌∙◌, subst, arith}
 use Rattle.std.proofs.lemmas.Bool.Decides.{nat_tests}
 use Rattle.std.specs.Prelude.{Result, nat_lt, if◌then◌else◌}
 use Rattle.nfs_model.specs.Tree.{Layout}
@@ -25,7 +25,7 @@ use Rattle.workers.specs.declared.tend.TendRefusal.{TendRefusal}
 use Rattle.workers.specs.declared.tend.TendRefusal.TheVariants.{NoSuchRange}
 use Rattle.workers.specs.declared.tend.Tended.{Tended}
 use Rattle.workers.specs.declared.worker.Worker.{Worker}
-use Rattle.workers.specs.Balance.{Passed, FilerView, FilerEntry, Weight, by_key, by_job, by_entry, by_kept, IsEven}
+use Rattle.workers.specs.Balance.{Passed, FilerView, FilerEntry, Weight, by_job, by_entry, IsEven}
 use Rattle.workers.specs.Carries.{FitsHand, MovesBatch, HasCarried, HasMovedBatch, IsToldOf, hand_after}
 use Rattle.workers.specs.Tends.{hand_in, call_of, Answers}
 use Rattle.workers.specs.Words.{seat_view, IsHandIn}

@@ -26,6 +26,7 @@ pub(crate) struct Met {
 }
 
 /// A second worker, which makes a turn and a tend after each begin of the first.
+#[derive(Drop)]
 pub(crate) struct Looking<'a, R> {
     pub(crate) rt: &'a R,
     pub(crate) second: Cell<Option<Inside<'a>>>,

@@ -1,4 +1,4 @@
-use Rattle.std.proofs.Common.{◌≡◌, refl, sym, ◌∙◌, subst}
+use Rattle.std.proofs.Common.{◌≡◌, sym, ◌∙◌, subst}
 use Rattle.affinity_tree.specs.Numbers.{number_of}
 use Rattle.nfs_model.specs.Parts.{Empty}
 use Rattle.parcel_sets.specs.Exact.{kind_in}
