@@ -49,11 +49,11 @@ module _ (layout : Layout) (lawful : fault_of layout ≡ None) (f : ℕ → Opti
       let here : AllSound layout before at.0 (length es) =
       subst (λ c. AreSound c at.0 (length es)) (filer-same good.0 layout (alike good.0 layout good.1.1) before) good.2 in
       let moved : HandsMove (job_takes e.call e.reply) (job_gives e.call e.reply) at.0 last.0 = λ weigh.
-          let a = first_hands weigh in
-          let b = last_hands weigh in
-          let t = moved-snoc job_takes weigh es e in
-          let g = moved-snoc job_gives weigh es e in
-          omega (arith, a, b, t, g) in
+      let a = first_hands weigh in
+      let b = last_hands weigh in
+      let t = moved-snoc job_takes weigh es e in
+      let g = moved-snoc job_gives weigh es e in
+      omega (arith, a, b, t, g) in
       let step : FilerSteps (parents layout) (number_of layout node) (job_of e.call) before (job_reply_of e.reply) then =
       subst (λ n. FilerSteps (parents layout) n (job_of e.call) before (job_reply_of e.reply) then) is (legal-last job_steps (parents layout) f es e legal) in
       (entry-does layout lawful node there (job_of e.call) (job_reply_of e.reply) before then at.0 last.0 (length es) step here moved).0

@@ -8,7 +8,7 @@ use crate::inside::Inside;
 use crate::looking::{Looking, Met, Nobody};
 use crate::opening::opened;
 use crate::reader::Reader;
-use crate::starting::{Started, started};
+use crate::starting::{Started, start_workers};
 use crate::texts::{ACCEPTED, bytes_of, mark, root_shown};
 use affinity_tree::Affinity;
 use nfs_values::{Call, ConnectionNumber, CreateMode, Moment, SetAttributes, VolumeNumber};
@@ -69,7 +69,7 @@ fn finished_call(rt: HostRuntime) {
         first,
         second: _second,
         mut reader,
-    } = started(&filer, seat, pass);
+    } = start_workers(&filer, seat, pass);
     let connection = open(&rt, &filer);
     let origin = record_of(connection, 7);
     let call = Call::GetAttributes {
@@ -139,7 +139,7 @@ fn moved_message(rt: HostRuntime) {
         first,
         second: _second,
         mut reader,
-    } = started(&filer, seat, pass);
+    } = start_workers(&filer, seat, pass);
     let connection = open(&rt, &filer);
     let first = created(&rt, first, &mut reader, connection);
     let _first = written(&rt, first, &mut reader, connection, 2);
@@ -154,7 +154,7 @@ fn two_workers(rt: HostRuntime) {
         first,
         second,
         mut reader,
-    } = started(&filer, seat, pass);
+    } = start_workers(&filer, seat, pass);
     let connection = open(&rt, &filer);
     for xid in 1..3 {
         let call = Call::GetAttributes {
@@ -224,7 +224,7 @@ fn tends(rt: HostRuntime) {
         first,
         second: _second,
         mut reader,
-    } = started(&filer, seat, pass);
+    } = start_workers(&filer, seat, pass);
     let connection = open(&rt, &filer);
     let fetching = [
         (fetch(0, 0), Ok(64)),
@@ -313,7 +313,7 @@ fn modes_of_roots(rt: HostRuntime) {
         first,
         second: _second,
         mut reader,
-    } = started(&filer, seat, pass);
+    } = start_workers(&filer, seat, pass);
     let connection = open(&rt, &filer);
     let mut worker = first;
     for volume in 0..2 {

@@ -23,11 +23,7 @@ pub struct Started<'a> {
 }
 
 /// A worker with a seat and a pass that have done nothing.
-fn worker_of<'a>(
-    filer: &'a Filer,
-    seat: Seat<Service>,
-    pass: Pass<Message, Layout>,
-) -> Inside<'a>
+fn worker_of<'a>(filer: &'a Filer, seat: Seat<Service>, pass: Pass<Message, Layout>) -> Inside<'a>
     requires seat { IsSeatHere filer.now.depot seat }
     requires ready { IsReady (layout_in filer.now) (verifier_in filer.now) (view seat) }
     requires pass { IsOf filer.now.waiting pass }
@@ -41,7 +37,7 @@ fn worker_of<'a>(
 }
 
 /// The first two workers of a filer, and who puts messages for them.
-pub fn started<'a>(
+pub fn start_workers<'a>(
     filer: &'a Filer,
     seat: Seat<Service>,
     pass: Pass<Message, Layout>,

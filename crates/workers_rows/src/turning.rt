@@ -68,12 +68,7 @@ impl Reader<'_> {
 
 impl<'a> Inside<'a> {
     /// A turn at a moment; the answer is put.
-    pub fn turn<R: Wait, G: Gate>(
-        self,
-        rt: &R,
-        gate: &G,
-        moment: Moment,
-    ) -> (Inside<'a>, Came) {
+    pub fn turn<R: Wait, G: Gate>(self, rt: &R, gate: &G, moment: Moment) -> (Inside<'a>, Came) {
         let Inside { filer, worker } = self;
         let (worker, turned) = worker.turn(filer, rt, gate, moment);
         let came = put(rt, filer, turned);
