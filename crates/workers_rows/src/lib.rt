@@ -4,7 +4,7 @@
 #[cfg(test)]
 mod calls;
 mod came;
-mod inside;
+mod filer_worker;
 #[cfg(test)]
 mod looking;
 mod opening;
@@ -17,7 +17,7 @@ mod texts;
 mod turning;
 
 pub use came::Came;
-pub use inside::Inside;
+pub use filer_worker::FilerWorker;
 pub use opening::opened;
 pub use reader::Reader;
 pub use starting::{Started, start_workers};

@@ -4,7 +4,7 @@ ghost use Rattle.service.specs.Running.{IsRun};
 
 use crate::calls::{NOTHING, at, handle, in_root, record_of};
 use crate::came::Came;
-use crate::inside::Inside;
+use crate::filer_worker::FilerWorker;
 use crate::looking::{Looking, Met, Nobody};
 use crate::opening::opened;
 use crate::reader::Reader;
@@ -46,12 +46,12 @@ fn answered<R: Abort + AllocGlobal + Wait>(
 /// Puts a call, and lets a worker finish it in one turn.
 fn served<'a, R: Abort + AllocGlobal + Wait>(
     rt: &R,
-    worker: Inside<'a>,
+    worker: FilerWorker<'a>,
     reader: &mut Reader<'a>,
     origin: Origin,
     moment: Moment,
     call: Call,
-) -> Inside<'a>
+) -> FilerWorker<'a>
     requires { IsRun call }
 {
     let waits = reader.ask(rt, rt.alloc(), origin, call);
@@ -86,10 +86,10 @@ fn finished_call(rt: HostRuntime) {
 /// Creates a file in the root of volume 0, whose fileid is 2.
 fn created<'a, R: Abort + AllocGlobal + Wait>(
     rt: &R,
-    worker: Inside<'a>,
+    worker: FilerWorker<'a>,
     reader: &mut Reader<'a>,
     connection: ConnectionNumber,
-) -> Inside<'a> {
+) -> FilerWorker<'a> {
     let call = Call::Create {
         target: in_root(rt, b"f"),
         mode: CreateMode::Unchecked(NOTHING),
@@ -103,11 +103,11 @@ fn created<'a, R: Abort + AllocGlobal + Wait>(
 /// section 3.3.7).
 fn written<'a, R: Abort + AllocGlobal + Wait>(
     rt: &R,
-    worker: Inside<'a>,
+    worker: FilerWorker<'a>,
     reader: &mut Reader<'a>,
     connection: ConnectionNumber,
     moves: usize,
-) -> Inside<'a> {
+) -> FilerWorker<'a> {
     let call = Call::Write {
         handle: handle(0, 2),
         offset: 0,
@@ -184,9 +184,9 @@ fn two_workers(rt: HostRuntime) {
 /// Makes tends one after another, each of which comes to so many blocks or this refusal.
 fn tended<'a>(
     rt: &impl Abort,
-    worker: Inside<'a>,
+    worker: FilerWorker<'a>,
     rows: &[(Tend, Result<usize, u32>)],
-) -> Inside<'a> {
+) -> FilerWorker<'a> {
     let mut worker = worker;
     for (tend, wanted) in rows {
         let (next, answer) = worker.tend(*tend);
@@ -275,11 +275,11 @@ fn mode_set(volume: u32, fileid: u64, mode: u32, guard: Option<Moment>) -> Call
 /// once more.
 fn try_root<'a, R: Abort + AllocGlobal + Wait>(
     rt: &R,
-    worker: Inside<'a>,
+    worker: FilerWorker<'a>,
     reader: &mut Reader<'a>,
     connection: ConnectionNumber,
     volume: u32,
-) -> Inside<'a> {
+) -> FilerWorker<'a> {
     let filer = worker.filer;
     let start = Some(Moment::START);
     // A mode keeps its low 12 bits.
