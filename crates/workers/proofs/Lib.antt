@@ -3,3 +3,7 @@ mod Grants
 mod Served
 mod Turning
 mod Started
+mod Batches
+mod Added
+mod Ran
+mod Carrying

@@ -3,17 +3,21 @@
 #![tactic(auto)]
 
 mod granted;
+mod inner;
 mod making;
 mod message;
 mod opening;
 mod queueing;
 mod serving;
 mod shared;
+mod tend;
+mod tending;
 mod turn;
 mod turned;
 mod worker;
 
 pub use message::Message;
 pub use shared::Filer;
+pub use tend::{Tend, TendRefusal, Tended};
 pub use turned::{Gate, Place, Stage, Turned};
 pub use worker::Worker;
