@@ -5,3 +5,5 @@ pub mod Turns
 pub mod Runs
 pub mod Apart
 pub mod Works
+pub mod Logs
+pub mod lemmas

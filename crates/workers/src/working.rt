@@ -11,7 +11,7 @@ use outboxes::Answer;
 use std::sync::Wait;
 
 /// Puts an answer behind what waits for its connection.
-fn put<R: Wait>(filer: &Filer, rt: &R, answer: Answer) {
+fn deliver<R: Wait>(filer: &Filer, rt: &R, answer: Answer) {
     let mut outboxes = filer.outboxes.lock(rt);
     outboxes.put(answer);
 }
@@ -23,7 +23,7 @@ fn put_answer<R: Wait>(filer: &Filer, rt: &R, turned: Turned) -> Worked
     match turned {
         Turned::Done(answer) => {
             let connection = answer.connection();
-            put(filer, rt, answer);
+            deliver(filer, rt, answer);
             Worked::Done(connection)
         }
         Turned::Moved => Worked::Moved,
