@@ -3,4 +3,3 @@ mod Grants
 mod Served
 mod Turning
 mod Started
-mod Begun
