@@ -3,5 +3,9 @@ pub mod Balance
 pub mod Words
 pub mod Turns
 pub mod Runs
+pub mod Apart
+pub mod Works
+pub mod Logs
+pub mod lemmas
 pub mod Tends
 pub mod Carries

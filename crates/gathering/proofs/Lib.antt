@@ -1,0 +1,6 @@
+mod Lists
+mod Portions
+mod Draining
+mod Joins
+mod Sharing
+mod Closes
