@@ -7,3 +7,4 @@ mod Batches
 mod Added
 mod Ran
 mod Carrying
+pub mod Crossing
