@@ -49,10 +49,10 @@ other-hands c hands others n same sound v p at =
 
 module _ (L : Layout) (lawful : fault_of L ≡ None) (verifier : List ℕ) (v : FilerView) (of : v.tree ≡ parents L) (opened : HasOpened L verifier v)
     (held : FilerSerial Files) (closed : IsClosed filer_behaviour v (serial_parcels L Serial held)) where
-  f : ℕ → Option (FilerParcel Files)
+  abbrev pub f : ℕ → Option (FilerParcel Files)
   f = serial_parcels L Serial held
 
-  g : ℕ → Option (FilerParcel Files)
+  abbrev pub g : ℕ → Option (FilerParcel Files)
   g = after (parents L) (listed v.first) v.seen
 
   is-legal : Legal job_steps (parents L) (listed v.first) v.seen

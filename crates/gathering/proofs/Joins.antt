@@ -42,7 +42,7 @@ module _ (filer : Filer) (w : Worker) (p : WorkerParts) (of : AreOf w p) where
 
 -- ---- balances
 
-kept-once : (h : Weight) (kept : Option Message) → total (by_key h) (option_to_list kept) ≡ by_kept h kept
+pub kept-once : (h : Weight) (kept : Option Message) → total (by_key h) (option_to_list kept) ≡ by_kept h kept
 kept-once h None = refl
 kept-once h (Some m) = omega arith
 
