@@ -23,7 +23,6 @@ pub(crate) struct Gathered {
     pub(crate) hands: Vec<BatchInHand>,
     pub(crate) kept: Vec<Message>,
     pub(crate) ghost balance: { IsEvenWith (known pass) (entries_of (view seat)) kept.items },
-    pub(crate) ghost in_hands: {
-        AreHands job_takes job_gives (entries_of (view seat)) hands.items },
+    pub(crate) ghost in_hands: { AreHands job_takes job_gives (entries_of (view seat)) hands.items },
     pub(crate) ghost none_open: { HasNoGrant seat },
 }

@@ -1,4 +1,4 @@
-use Rattle.std.proofs.Common.{rules, ◌≡◌, ◌+◌, ap, ◌∙◌, arith, subst, sym, length}
+use Rattle.std.proofs.Common.{rules, ◌≡◌, ap, ◌∙◌, arith, subst, sym, length}
 use Rattle.depot_rule.specs.Sums.{total}
 use Rattle.shared_waiting.specs.Balance.{IsWhole}
 use Rattle.shared_waiting.specs.Passes.{known}

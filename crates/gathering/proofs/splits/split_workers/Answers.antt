@@ -1,4 +1,4 @@
-use Rattle.std.proofs.Common.{rules, ◌≡◌, ◌≤◌, ◌+◌, ap, arith}
+use Rattle.std.proofs.Common.{rules, ap, arith}
 use Rattle.workers.specs.Balance.{Passed}
 use Rattle.workers.specs.Words.{passed, seats_in, IsIn}
 use Rattle.gathering.specs.Shares.{share_of}
