@@ -45,7 +45,7 @@ returns-clause-left g c =
           let d = e.seats in
           omega (arith, s, a, b, d);
       none_open = c.join_all-seat.result.none_open;
-      hands = c.join_all-seat.result.in_hands;
+      hands = c.join_all-seat.result.in_hand;
     }
 
 pub returns-clause-hands : goal.returns-clause-hands
