@@ -1,5 +1,5 @@
 -- What the only pass picks until nothing waits.
-use Rattle.std.proofs.Common.{◌≡◌, ℕ, ◌+◌, List, [], ◌∷◌, ◌++◌, length, refl, sym, ap, ◌∙◌, subst, arith}
+use Rattle.std.proofs.Common.{◌≡◌, ℕ, ◌+◌, List, [], ◌∷◌, ◌++◌, length, ap, arith}
 use Rattle.crossbeam_queue.specs.Fifo.{Held}
 use Rattle.depot_rule.specs.Sums.{total}
 use Rattle.depot_rule.specs.lemmas.Sums.{total-append}
@@ -7,9 +7,6 @@ use Rattle.shared_waiting.specs.Balance.{taken, IsWhole, Leaves}
 use Rattle.workers.specs.declared.message.Message.{Message}
 use Rattle.workers.specs.Balance.{Passed}
 use Rattle.gathering.proofs.Lists.{total-one, none-left}
-
-one : Message → ℕ
-one m = 1
 
 -- so many wait
 pub counted : (v w : Passed) (n : ℕ) → w ≡ v → IsWhole v → Held n (Leaves v) → length v.put ≡ length v.picked + n
@@ -27,6 +24,13 @@ more h v w x xs ys was took same is =
     let c = ap (total h) is in
     let d = total-append h xs (x ∷ []) in
     omega (arith, a, b, c, d, same)
+
+pub one-more : (v w : Passed) (x : Message) → w ≡ taken v x → length w.picked ≡ length v.picked + 1
+one-more v w x took =
+    let a = ap (λ (u : Passed). total (λ (m : Message). 1) u.picked) took in
+    let b = total-append (λ (m : Message). 1) v.picked (x ∷ []) in
+    let c = total-one v.picked in let d = total-one w.picked in
+    omega (arith, a, b, c, d)
 
 -- nothing waits any more
 pub all-picked : (h : Message → ℕ) (u v : Passed) (xs : List Message) → IsWhole v → Held 0 (Leaves v) → v.put ≡ u.put
