@@ -1,0 +1,3 @@
+pub mod Heirs
+pub mod Rests
+pub mod Threads
