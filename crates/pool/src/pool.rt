@@ -1,14 +1,66 @@
 //! A pool.
 
+ghost use Rattle.std.specs.Prelude.{◌≡◌, ◌≤◌, [], vec_len, vec_capacity};
+
+use crate::collecting::collect;
 use crate::task::Thread;
 use bells::Bells;
-use std::sync::Arc;
-use workers::Worker;
+use std::alloc::{AllocError, Global};
+use std::rt::Clock;
+use std::sync::{Arc, Wait};
+use std::thread::Threads;
+use workers::{Filer, Gate, Worker};
 
-/// Threads that run workers.
+/// The most threads of a pool.
+const MOST_THREADS: usize = 64;
+
+/// Threads, each of which runs a worker, and room for the workers that come back.
 #[derive(Drop)]
 pub struct Pool {
     bells: Arc<Bells>,
     threads: Vec<Thread>,
     workers: Vec<Worker>,
+    ghost none_back: { workers.items ≡ [] },
+    ghost room: { vec_len threads ≤ vec_capacity workers },
+}
+
+impl Pool {
+    ghost use Rattle.std.specs.Prelude.{◌<◌, ◌+◌, ℕ, All, length, IfOk, IfErr};
+    ghost use Rattle.std.specs.Arc.{arc_value};
+    ghost use Rattle.depot_rule.specs.Sums.{total};
+    ghost use Rattle.pool.specs.Pools.{threads_of, AreSplitFrom, IsVacant};
+    ghost use Rattle.pool.specs.Threads.{seats_with, share_of, share_with, ServesIn};
+    ghost use Rattle.workers.specs.declared.shared.Filer.{Filer};
+    ghost use Rattle.workers.specs.Words.{passed, seats_in, IsIn};
+
+    /// A pool without a thread, with room for 64, whose threads will sleep on these bells.
+    pub fn new(alloc: Global, bells: Arc<Bells>) -> Result<Pool, AllocError>
+        ensures { IfOk result IsVacant }
+    {
+        Ok(Pool {
+            bells,
+            threads: Vec::with_capacity(alloc, MOST_THREADS)?,
+            workers: Vec::with_capacity(alloc, MOST_THREADS)?,
+        })
+    }
+
+    /// Stops the threads, and who waits for a place in the queue. The workers come back, with the
+    /// seats and the shares that they had.
+    pub fn stop<R: Threads>(self, rt: &R) -> Vec<Worker>
+        ensures inside { (filer : Filer) → All (ServesIn filer) (threads_of self)
+            → All (IsIn filer) result.items }
+        ensures count { vec_len result ≡ length (threads_of self) }
+        ensures seats { total seats_in result.items ≡ total seats_with (threads_of self) }
+        ensures share { (k : ℕ) → total (share_of k) result.items
+            ≡ total (share_with k) (threads_of self) }
+    {
+        let Pool {
+            bells,
+            threads,
+            workers,
+        } = self;
+        bells.work.stop();
+        bells.room.stop();
+        collect(rt, threads, workers)
+    }
 }
