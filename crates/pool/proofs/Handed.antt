@@ -31,3 +31,12 @@ all-popped P xs rest x is all = All-pop P xs rest (Some x) is all
 pub same-share : (k : ℕ) (before after : Worker) → IsHeir before after → share_of k after ≡ share_of k before
 same-share k before after heir =
     ap (λ n. n * 2 ^ (k - (passed after).halvings)) heir.0.0 ∙ ap (λ n. (passed before).share * 2 ^ (k - n)) heir.0.1
+
+-- another in the place of the last
+pub replaced : {X : Type 0} → (f : X → ℕ) (all rest ys : List X) (x y : X) → all ≡ rest ++ x ∷ [] → ys ≡ rest ++ y ∷ [] → f y ≡ f x → total f ys ≡ total f all
+replaced f all rest ys x y was is same =
+    let a = ap (total f) is in
+    let b = total-append f rest (y ∷ []) in
+    let c = ap (total f) was in
+    let d = total-append f rest (x ∷ []) in
+    omega (arith, a, b, c, d, same)
