@@ -3,8 +3,11 @@
 ghost use Rattle.std.specs.Prelude.{◌≡◌, ◌≤◌, [], vec_len, vec_capacity};
 
 use crate::collecting::collect;
+use crate::refusal::NotStarted;
+use crate::starting::start_all;
 use crate::task::Thread;
 use bells::Bells;
+use gathering::split_workers;
 use std::alloc::{AllocError, Global};
 use std::rt::Clock;
 use std::sync::{Arc, Wait};
@@ -42,6 +45,53 @@ impl Pool {
             threads: Vec::with_capacity(alloc, MOST_THREADS)?,
             workers: Vec::with_capacity(alloc, MOST_THREADS)?,
         })
+    }
+
+    /// Starts 1 to 64 threads, each with a worker that is split from the one given: all its seats,
+    /// and all its share of the right to know the queue, are theirs. Where one can't be started,
+    /// all that were have ended, and all workers come back.
+    pub fn start<R, G>(
+        self,
+        rt: R,
+        filer: &Arc<Filer>,
+        gate: &G,
+        worker: Worker,
+        count: usize,
+    ) -> Result<Pool, NotStarted>
+    where
+        R: Threads + Wait + Clock + Copy + Drop + Send + 'static,
+        G: Gate + Clone + Drop + Send + 'static,
+        requires vacant { IsVacant self }
+        requires inside { IsIn (arc_value filer.now) worker }
+        requires count { (0 < count) × (count ≤ 64) × (count ≤ seats_in worker) }
+        ensures serve { IfOk result (λ pool.
+            All (ServesIn (arc_value filer.now)) (threads_of pool)) }
+        ensures count { IfOk result (λ pool. length (threads_of pool) ≡ count) }
+        ensures seats { IfOk result (λ pool.
+            total seats_with (threads_of pool) ≡ seats_in worker) }
+        ensures share { IfOk result (λ pool. (k : ℕ) → (passed worker).halvings + count ≤ k
+            → total (share_with k) (threads_of pool) ≡ share_of k worker) }
+        ensures refused { IfErr result (λ refused.
+            AreSplitFrom (arc_value filer.now) worker count refused.workers.items) }
+    {
+        let Pool {
+            bells,
+            mut threads,
+            workers,
+        } = self;
+        let mut workers = split_workers(filer, worker, count, workers);
+        match start_all(rt, filer, &bells, gate, &mut workers, &mut threads) {
+            None => Ok(Pool {
+                bells,
+                threads,
+                workers,
+            }),
+            Some(refusal) => {
+                bells.work.stop();
+                let workers = collect(&rt, threads, workers);
+                Err(NotStarted { refusal, workers })
+            }
+        }
     }
 
     /// Stops the threads, and who waits for a place in the queue. The workers come back, with the
