@@ -3,3 +3,4 @@ mod Grants
 mod Served
 mod Turning
 mod Started
+mod Begun

@@ -1,4 +1,4 @@
--- The history of a filer's depot as a history of the definitions' entries: the server that it leaves, and that each reply fits its room.
+-- Each reply of a history of a filer's depot fits its room.
 use Rattle.std.proofs.Common.{◌≡◌, ℕ, ◌≤◌, Bool, true, false, List, [], ◌∷◌, ◌++◌, length, map, Option, None, refl, sym, ap, subst, arith}
 use Rattle.nfs_model.specs.Types as types
 use Rattle.nfs_model.specs.Types.{Asked, Ask, Moment, Credential, SystemError}
@@ -6,28 +6,23 @@ use Rattle.nfs_model.specs.Tree.{Layout, Affinity}
 use Rattle.nfs_model.specs.Server.{Server, opening}
 use Rattle.nfs_model.specs.Serial.Step.{serial}
 use Rattle.nfs_model.specs.Replay.{FinishedCall, server_after}
-use Rattle.nfs_model.specs.Parts.{Hand}
 use Rattle.affinity_tree.specs.Ancestors.{Covers}
 use Rattle.affinity_tree.specs.Fault.{fault_of}
 use Rattle.affinity_tree.specs.Numbers.{number_of, parents}
 use Rattle.affinity_tree.specs.Tree.{IsNode}
 use Rattle.affinity_tree.specs.lemmas.Alike.{alike}
 use Rattle.depot_rule.specs.declared.view.Entry.{Entry}
-use Rattle.depot_rule.specs.Sums.{total}
-use Rattle.depot_rule.specs.History.{behaviour, after, listed, patched, batches_of, AreHands, Legal, SoundThroughout, SoundHistory}
+use Rattle.depot_rule.specs.History.{behaviour, after, listed, patched, Legal, SoundThroughout, SoundHistory}
 use Rattle.held_state.specs.Parcels.{FilerParcel}
 use Rattle.held_state.specs.Tree.{tree}
 use Rattle.held_state.specs.Opening.{AreOpening}
 use Rattle.held_state.specs.Sound.{AreSound, AllSound, IsFiler}
 use Rattle.held_state.specs.Jobs as jobs
-use Rattle.held_state.specs.Jobs.{Serve, takes, gives}
-use Rattle.held_state.specs.Deeds.{FilerSteps}
-use Rattle.held_state.specs.Replayed.{calls_of, replies_of, Replays}
+use Rattle.held_state.specs.Jobs.{Serve}
 use Rattle.held_state.specs.Running.{Enters, finished_at}
 use Rattle.held_laws.specs.lemmas.Alike.{filer-same}
 use Rattle.held_laws.specs.lemmas.Lawful.{steps-local, entry-does}
 use Rattle.held_laws.specs.lemmas.Opening.{opening-tree}
-use Rattle.held_laws.specs.lemmas.Replays.{history-replays}
 use Rattle.outboxes.specs.Messages as replies
 use Rattle.outboxes.specs.Messages.{record_of}
 use Rattle.outboxes.specs.lemmas.Messages.{record_is}
@@ -36,79 +31,8 @@ use Rattle.rpc_msg.specs.Room.{IsRoomy, reply_room}
 use Rattle.service.specs.Jobs.{job_of, job_reply_of, job_steps, job_takes, job_gives}
 use Rattle.service.specs.declared.job.Job.{Job}
 use Rattle.service.specs.declared.job.JobReply.{JobReply}
-
--- ---- entries
-
-module _ {P : Type 0} where
-  -- an entry, as the definitions have it
-  abbrev pub as_defined : Entry P Job JobReply → Entry P jobs.Job jobs.JobReply
-  as_defined e = record { node = e.node; call = job_of e.call; reply = job_reply_of e.reply; left = e.left }
-
-  abbrev pub all_defined : List (Entry P Job JobReply) → List (Entry P jobs.Job jobs.JobReply)
-  all_defined es = map as_defined es
-
-  after-defined : (ps : List ℕ) (f : ℕ → Option P) (es : List (Entry P Job JobReply)) → after ps f (all_defined es) ≡ after ps f es
-  after-defined ps f [] = refl
-  after-defined ps f (e ∷ es) = after-defined ps (patched ps e.node (listed e.left) f) es
-
-  taken-defined : (es : List (Entry P Job JobReply)) → batches_of takes (all_defined es) ≡ batches_of job_takes es
-  taken-defined [] = refl
-  taken-defined (e ∷ es) = ap (λ bs. job_takes e.call e.reply ++ bs) (taken-defined es)
-
-  given-defined : (es : List (Entry P Job JobReply)) → batches_of gives (all_defined es) ≡ batches_of job_gives es
-  given-defined [] = refl
-  given-defined (e ∷ es) = ap (λ bs. job_gives e.call e.reply ++ bs) (given-defined es)
-
-  hands-defined : (es : List (Entry P Job JobReply)) (hands : List Hand) → AreHands job_takes job_gives es hands → AreHands takes gives (all_defined es) hands
-  hands-defined es hands are weigh =
-      let t = ap (total weigh) (taken-defined es) in
-      let g = ap (total weigh) (given-defined es) in
-      let h = are weigh in
-      omega (arith, t, g, h)
-
-  count-defined : (es : List (Entry P Job JobReply)) → length (all_defined es) ≡ length es
-  count-defined [] = refl
-  count-defined (e ∷ es) = let r = count-defined es in omega (arith, r)
-
-  -- a beginning of them is of a beginning
-  begun-defined : (es : List (Entry P Job JobReply)) (xs ys : List (Entry P jobs.Job jobs.JobReply)) → xs ++ ys ≡ all_defined es
-      → (earlier later : List (Entry P Job JobReply)) × (earlier ++ later ≡ es) × (all_defined earlier ≡ xs)
-  begun-defined es [] ys same = ([], es, refl, refl)
-  begun-defined [] (x ∷ xs) ys same = absurd (let no : ⊥ = cc in no)
-  begun-defined (e ∷ es) (x ∷ xs) ys same =
-      let rest = begun-defined es xs ys (let t : xs ++ ys ≡ all_defined es = cc in t) in
-      let head : x ≡ as_defined e = cc in
-      (e ∷ rest.0, rest.1, (λ j. e ∷ rest.2 j), λ j. sym head j ∷ rest.3 j)
-
-module _ {P : Type 0} (layout : Layout) (lawful : fault_of layout ≡ None) (f : ℕ → Option (FilerParcel P)) where
-  legal-defined : (es : List (Entry (FilerParcel P) Job JobReply)) (g : ℕ → Option (FilerParcel P)) → Legal job_steps (parents layout) g es
-      → Legal FilerSteps (parents layout) g (all_defined es)
-  legal-defined [] g legal = tt
-  legal-defined (e ∷ es) g legal = (legal.0, legal-defined es (patched (parents layout) e.node (listed e.left) g) legal.1)
-
-  sound-defined : (es : List (Entry (FilerParcel P) Job JobReply))
-      → SoundThroughout (behaviour job_steps job_takes job_gives IsFiler) (parents layout) f es
-      → SoundThroughout (behaviour FilerSteps takes gives IsFiler) (parents layout) f (all_defined es)
-  sound-defined es sound xs ys same =
-      let begun = begun-defined es xs ys same in
-      let here = sound begun.0 begun.1 begun.2 in
-      subst (λ (zs : List (Entry (FilerParcel P) jobs.Job jobs.JobReply)). (hands : List Hand) × AreHands takes gives zs hands
-      × IsFiler (parents layout) (after (parents layout) f zs) hands (length zs)) begun.3 (
-        here.0,
-        hands-defined begun.0 here.0 here.1,
-        subst (λ (g : ℕ → Option (FilerParcel P)). IsFiler (parents layout) g here.0 (length (all_defined begun.0)))
-            (sym (after-defined (parents layout) f begun.0))
-            (subst (λ n. IsFiler (parents layout) (after (parents layout) f begun.0) here.0 n) (sym (count-defined begun.0)) here.2),
-      )
-
-  -- the parcels that a history leaves stand for the serial server after its calls, whose replies are the replay's
-  pub log-replays : (es : List (Entry (FilerParcel P) Job JobReply)) → Legal job_steps (parents layout) f es
-      → SoundThroughout (behaviour job_steps job_takes job_gives IsFiler) (parents layout) f es
-      → Replays (tree layout f) (tree layout (after (parents layout) f es)) (calls_of (all_defined es)) (replies_of (all_defined es))
-  log-replays es legal sound =
-      subst (λ (g : ℕ → Option (FilerParcel P)). Replays (tree layout f) (tree layout g) (calls_of (all_defined es)) (replies_of (all_defined es)))
-      (after-defined (parents layout) f es)
-      (history-replays layout lawful f (all_defined es) (legal-defined es f legal) (sound-defined es sound))
+use Rattle.workers.specs.Logs.{calls_in}
+use Rattle.workers.specs.lemmas.Logs.{log-replays}
 
 -- ---- rooms
 
@@ -135,7 +59,7 @@ module _ {P : Type 0} (layout : Layout) (lawful : fault_of layout ≡ None) (ver
       → IsRoomy (length layout.volumes) (tree layout (after (parents layout) f es))
   log-roomy f opened es legal sound =
       subst (λ (s : Server). IsRoomy (length layout.volumes) s) (sym (log-replays layout lawful f es legal sound).server)
-      (roomy-after stays (length layout.volumes) (calls_of (all_defined es)) (tree layout f)
+      (roomy-after stays (length layout.volumes) (calls_in es) (tree layout f)
       (subst (λ (s : Server). IsRoomy (length layout.volumes) s) (sym (opening-tree layout lawful verifier f opened)) (begins layout verifier eight)))
 
   -- the reply to a call that ran on parcels that a history left fits the room of the call

@@ -16,7 +16,7 @@ use Rattle.parcels.specs.declared.files.Files.{Files}
 use Rattle.workers.specs.Balance.{FilerView, Passed}
 use Rattle.workers.specs.Words.{HasOpened, HasDoneNothing, IsReady}
 
-none-held : {A : Type 0} (n b : ℕ) (g : A) → get_elem? (replicate n None) b ≡ some (Some g) → ⊥
+pub none-held : {A : Type 0} (n b : ℕ) (g : A) → get_elem? (replicate n None) b ≡ some (Some g) → ⊥
 none-held zero b g e = some-ne-none (Some g) (sym e)
 none-held (suc n) zero g e = let bad : None ≡ Some g = some-injective None (Some g) e in let no : ⊥ = cc in no
 none-held (suc n) (suc b) g e = none-held n b g e

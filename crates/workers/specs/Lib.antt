@@ -3,3 +3,7 @@ pub mod Balance
 pub mod Words
 pub mod Turns
 pub mod Runs
+pub mod Apart
+pub mod Works
+pub mod Logs
+pub mod lemmas

@@ -2,18 +2,26 @@
 //! turns. A worker's type keeps the balance of what it picked, finished, put back and keeps.
 #![tactic(auto)]
 
+mod apart;
 mod granted;
 mod making;
 mod message;
 mod opening;
+mod parts;
 mod queueing;
 mod serving;
 mod shared;
+mod splitting;
+mod starting;
 mod turn;
 mod turned;
+mod worked;
 mod worker;
+mod working;
 
 pub use message::Message;
+pub use parts::WorkerParts;
 pub use shared::Filer;
 pub use turned::{Gate, Place, Stage, Turned};
+pub use worked::Worked;
 pub use worker::Worker;

@@ -1,0 +1,4 @@
+pub mod Even
+pub mod Shares
+pub mod Gathered
+pub mod Ends

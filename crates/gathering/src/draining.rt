@@ -1,0 +1,38 @@
+//! The messages that wait at the end.
+
+ghost use Rattle.std.specs.Prelude.{◌≡◌, ◌≤◌, ◌+◌, ℕ, [], vec_capacity};
+ghost use Rattle.depot_rule.specs.Sums.{total};
+ghost use Rattle.shared_waiting.specs.Balance.{IsWhole};
+ghost use Rattle.shared_waiting.specs.Passes.{known, IsOf};
+ghost use Rattle.workers.specs.declared.message.Message as messages;
+
+use affinity_tree::Layout;
+use shared_waiting::{Pass, SharedWaiting};
+use std::sync::Wait;
+use workers::Message;
+
+/// Picks all messages that wait, by the only pass that is left.
+pub(crate) fn drain<R: Wait>(
+    waiting: &SharedWaiting<Message, Layout>,
+    rt: &R,
+    mut pass: Pass<Message, Layout>,
+    mut into: Vec<Message>,
+) -> Vec<Message>
+    requires of { IsOf waiting.now pass }
+    requires whole { IsWhole (known pass) }
+    requires empty { into.items ≡ [] }
+    requires room { 1024 ≤ vec_capacity into }
+    ensures { (weigh : messages.Message → ℕ)
+        → total weigh (known pass).put
+        ≡ total weigh (known pass).picked + total weigh result.items }
+{
+    let most = waiting.count(rt, &mut pass);
+    for _ in 0..most {
+        let Some(message) = waiting.pick(rt, &mut pass) else {
+            return into;
+        };
+        into.push_reserved(message);
+    }
+    waiting.look(&mut pass);
+    into
+}

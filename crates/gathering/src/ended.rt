@@ -1,0 +1,16 @@
+//! What a filer leaves.
+
+use parcel_sets::SerialHeld;
+use parcels::Files;
+use service::BatchInHand;
+use workers::Message;
+
+/// What a filer leaves: all its parcels, the batches that were in hands, and the messages that
+/// weren't finished.
+#[derive(Drop)]
+pub struct Ended {
+    pub parcels: SerialHeld<Files>,
+    pub hands: Vec<BatchInHand>,
+    pub kept: Vec<Message>,
+    pub waiting: Vec<Message>,
+}

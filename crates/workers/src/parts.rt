@@ -1,0 +1,17 @@
+//! A worker, taken apart.
+
+use crate::message::Message;
+use affinity_tree::Layout;
+use depot::Seat;
+use service::{BatchInHand, Service};
+use shared_waiting::Pass;
+
+/// What a worker was made of: its seat of the depot, its pass of the queue, the batch of block
+/// numbers in its hand, and the message that it kept.
+#[derive(Drop)]
+pub struct WorkerParts {
+    pub seat: Seat<Service>,
+    pub pass: Pass<Message, Layout>,
+    pub hand: BatchInHand,
+    pub kept: Option<Message>,
+}

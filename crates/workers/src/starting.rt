@@ -1,0 +1,36 @@
+//! The first worker of a filer.
+
+use crate::message::Message;
+use crate::shared::Filer;
+use crate::worker::Worker;
+use affinity_tree::Layout;
+use depot::Seat;
+use service::Service;
+use shared_waiting::Pass;
+
+impl Worker {
+    ghost use Rattle.std.specs.Prelude.{◌≡◌, ◌+◌, None, Some};
+    ghost use Rattle.depot.specs.Words.{view, splits_left, IsSeatHere};
+    ghost use Rattle.nfs_model.specs.Parts as parts;
+    ghost use Rattle.shared_waiting.specs.Passes.{known, IsOf};
+    ghost use Rattle.workers.specs.Words.{layout_in, layout_known, verifier_in};
+    ghost use Rattle.workers.specs.Words.{passed, seat_view, seats_in, HasDoneNothing, IsIn, IsReady};
+
+    /// A worker with a filer's first seat and pass, as `Filer::new` answers them. It has done
+    /// nothing, carries nothing and keeps nothing.
+    pub fn first(filer: &Filer, seat: Seat<Service>, pass: Pass<Message, Layout>) -> Worker
+        requires seat { IsSeatHere filer.now.depot seat }
+        requires ready { IsReady (layout_in filer.now) (verifier_in filer.now) (view seat) }
+        requires pass { IsOf filer.now.waiting pass }
+        requires layout { layout_known (known pass) ≡ Some (layout_in filer.now) }
+        requires nothing { HasDoneNothing (view seat) (known pass) }
+        ensures inside { IsIn filer.now result }
+        ensures seat { seat_view result ≡ view seat }
+        ensures seats { seats_in result ≡ splits_left seat + 1 }
+        ensures pass { passed result ≡ known pass }
+        ensures hand { result.hand ≡ parts.Empty }
+        ensures kept { result.kept ≡ None }
+    {
+        Worker::new(seat, pass)
+    }
+}
