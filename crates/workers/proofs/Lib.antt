@@ -4,3 +4,7 @@ mod Served
 mod Turning
 mod Started
 mod Begun
+mod Batches
+mod Added
+mod Ran
+mod Carrying

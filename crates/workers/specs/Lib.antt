@@ -7,3 +7,5 @@ pub mod Apart
 pub mod Works
 pub mod Logs
 pub mod lemmas
+pub mod Tends
+pub mod Carries

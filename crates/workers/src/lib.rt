@@ -4,6 +4,7 @@
 
 mod apart;
 mod granted;
+mod inner;
 mod making;
 mod message;
 mod opening;
@@ -13,6 +14,8 @@ mod serving;
 mod shared;
 mod splitting;
 mod starting;
+mod tend;
+mod tending;
 mod turn;
 mod turned;
 mod worked;
@@ -22,6 +25,7 @@ mod working;
 pub use message::Message;
 pub use parts::WorkerParts;
 pub use shared::Filer;
+pub use tend::{Tend, TendRefusal, Tended};
 pub use turned::{Gate, Place, Stage, Turned};
 pub use worked::Worked;
 pub use worker::Worker;

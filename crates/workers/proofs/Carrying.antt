@@ -1,0 +1,158 @@
+-- A worker after an inner call: its balance, its hand, and what its tend answers.
+use Rattle.std.proofs.Common.{◌≡◌, ℕ, ◌+◌, ◌<◌, Bool, true, false, ◌&&◌, List, [], ◌∷◌, ◌++◌, length, Option, Ok, Err, refl, sym, ap, ◌∙◌, subst, arith}
+use Rattle.std.proofs.lemmas.Bool.Decides.{nat_tests}
+use Rattle.std.specs.Prelude.{Result, nat_lt, if◌then◌else◌}
+use Rattle.nfs_model.specs.Tree.{Layout}
+use Rattle.nfs_model.specs.Parts.{Hand, Empty, Fresh, Dead, range_of}
+use Rattle.affinity_tree.specs.Tree.{IsNode}
+use Rattle.depot_rule.specs.Sums.{total}
+use Rattle.depot_rule.specs.lemmas.Sums.{total-append}
+use Rattle.depot_rule.specs.lemmas.Histories.{moved-snoc}
+use Rattle.depot_rule.specs.History.{AreHands, entries_of}
+use Rattle.held_state.specs.Tree.{ranges_used}
+use Rattle.held_state.specs.Partition.{parts_of}
+use Rattle.held_state.specs.Jobs as jobs
+use Rattle.held_state.specs.Jobs.{InnerCall, JobReply, takes, gives, batches_in, inner_node}
+use Rattle.service.specs.Jobs.{job_of, job_reply_of, job_takes, job_gives}
+use Rattle.service.specs.declared.job.Job.{Job}
+use Rattle.service.specs.declared.job.Job.TheVariants.{Serve, Inner}
+use Rattle.workers.specs.declared.message.Message.{Message}
+use Rattle.workers.specs.declared.tend.Carried.{Carried}
+use Rattle.workers.specs.declared.tend.Carried.TheVariants.{Done, Refused}
+use Rattle.workers.specs.declared.tend.Tend.{Tend}
+use Rattle.workers.specs.declared.tend.Tend.TheVariants.{Fetch, Cull, PutDown}
+use Rattle.workers.specs.declared.tend.TendRefusal.{TendRefusal}
+use Rattle.workers.specs.declared.tend.TendRefusal.TheVariants.{NoSuchRange}
+use Rattle.workers.specs.declared.tend.Tended.{Tended}
+use Rattle.workers.specs.declared.worker.Worker.{Worker}
+use Rattle.workers.specs.Balance.{Passed, FilerView, FilerEntry, Weight, by_key, by_job, by_entry, by_kept, IsEven}
+use Rattle.workers.specs.Carries.{FitsHand, MovesBatch, HasCarried, HasMovedBatch, IsToldOf, hand_after}
+use Rattle.workers.specs.Tends.{hand_in, call_of, Answers}
+use Rattle.workers.specs.Words.{seat_view, IsHandIn}
+use Rattle.workers.proofs.Batches.{OfOneRange, hand-in, names-batch}
+
+-- ---- entries of inner calls
+
+-- an inner call weighs nothing
+inner-weighs : (h : Weight) (j : Job) (call : InnerCall) → job_of j ≡ jobs.Inner call → by_job h j ≡ 0
+inner-weighs h (Serve served) call is = absurd (let no : ⊥ = cc in no)
+inner-weighs h (Inner other) call is = refl
+
+-- what an entry takes and gives is in its reply
+takes-after : (j : jobs.Job) (reply : JobReply) → takes j reply ≡ batches_in (hand_after reply)
+takes-after j (jobs.Took hand) = refl
+takes-after j (jobs.Gave hand) = refl
+takes-after j (jobs.Surveyed told) = refl
+takes-after j (jobs.Replied reply) = refl
+
+gives-same : (i j : jobs.Job) (reply : JobReply) → gives i reply ≡ gives j reply
+gives-same i j (jobs.Took hand) = refl
+gives-same i j (jobs.Gave hand) = refl
+gives-same i j (jobs.Surveyed told) = refl
+gives-same i j (jobs.Replied reply) = refl
+
+module _ (layout : Layout) (v w : FilerView) (call : InnerCall) (hand : Hand) where
+  -- ---- what its call has to be
+
+  pub moved-batch : (carried : Carried) → HasCarried layout v call hand carried w → MovesBatch call → HasMovedBatch carried
+  moved-batch (Done reply) did moves =
+      let d = did.did in
+      names-batch call (ranges_used d.before.ranges) (parts_of d.before) (parts_of d.after) (job_reply_of reply) moves d.moves
+  moved-batch (Refused back refusal) did moves = tt
+
+  -- ---- the worker after it
+
+  pub still-even : (carried : Carried) (pass : Passed) (kept : Option Message) → HasCarried layout v call hand carried w → IsEven pass (entries_of v) kept
+      → IsEven pass (entries_of w) kept
+  still-even (Done reply) pass kept did even = λ h.
+      let b = even h in
+      let d = ap (total (by_entry h)) did.entries in
+      let s = total-append (by_entry h) (entries_of v) (did.entry ∷ []) in
+      let k : by_entry h did.entry ≡ 0 = inner-weighs h did.entry.call call did.is_call in
+      omega (arith, b, d, s, k)
+  still-even (Refused back refusal) pass kept did even =
+      subst (λ (es : List FilerEntry). IsEven pass es kept) (sym did.1) even
+
+  pub hand-after-it : (carried : Carried) (next : Hand) (answer : Result Tended TendRefusal) → HasCarried layout v call hand carried w
+      → IsToldOf carried next answer → AreHands job_takes job_gives (entries_of v) (batches_in hand)
+      → AreHands job_takes job_gives (entries_of w) (batches_in next)
+  hand-after-it (Done reply) next answer did told own =
+      let e = did.entry in
+      let es : List FilerEntry = entries_of v in
+      let took : job_takes e.call e.reply ≡ batches_in next =
+      ap (λ (r : JobReply). takes (job_of e.call) r) did.is_reply ∙ takes-after (job_of e.call) (job_reply_of reply)
+          ∙ ap batches_in (sym told.0) in
+      let gave : job_gives e.call e.reply ≡ batches_in hand =
+      ap (λ (r : JobReply). gives (job_of e.call) r) did.is_reply ∙ gives-same (job_of e.call) (jobs.Inner call) (job_reply_of reply) ∙ did.gave in
+      subst (λ (ds : List FilerEntry). AreHands job_takes job_gives ds (batches_in next)) (sym did.entries) (λ weigh.
+          let t = moved-snoc job_takes weigh es e in
+          let g = moved-snoc job_gives weigh es e in
+          let t' = ap (total weigh) took in
+          let g' = ap (total weigh) gave in
+          let o = own weigh in
+          omega (arith, t, g, t', g', o))
+  hand-after-it (Refused back refusal) next answer did told own =
+      subst (λ (es : List FilerEntry). AreHands job_takes job_gives es (batches_in next)) (sym did.1)
+      (subst (λ h. AreHands job_takes job_gives (entries_of v) (batches_in h)) (sym (told.0 ∙ did.0)) own)
+
+  pub hand-inside : OfOneRange → (carried : Carried) (next : Hand) (answer : Result Tended TendRefusal) → HasCarried layout v call hand carried w
+      → IsToldOf carried next answer → IsNode layout (inner_node call) → IsHandIn layout hand → IsHandIn layout next
+  hand-inside one (Done reply) next answer did told node inside =
+      let d = did.did in
+      subst (λ h. IsHandIn layout h) (sym told.0)
+      (hand-in one layout call (ranges_used d.before.ranges) (parts_of d.before) (parts_of d.after) (job_reply_of reply) node d.moves)
+  hand-inside one (Refused back refusal) next answer did told node inside = subst (λ h. IsHandIn layout h) (sym (told.0 ∙ did.0)) inside
+
+-- what its tend answers
+pub answers-so : (layout : Layout) (before after : Worker) (call : InnerCall) (carried : Carried) (answer : Result Tended TendRefusal)
+    → HasCarried layout (seat_view before) call (hand_in before) carried (seat_view after) → IsToldOf carried (hand_in after) answer
+    → Answers layout before (Ok call) answer after
+answers-so layout before after call (Done reply) answer did told =
+    subst (λ (a : Result Tended TendRefusal). Answers layout before (Ok call) a after) (sym told.2)
+    (record { reply = job_reply_of reply; carries = did; hand = told.0; told = told.3 })
+answers-so layout before after call (Refused back refusal) answer did told =
+    subst (λ (a : Result Tended TendRefusal). Answers layout before (Ok call) a after) (sym told.1) (did.1, told.0 ∙ did.0, did.2)
+
+-- ---- the inner call of a tend fits what is in the hand
+
+abbrev Asked : Type 0
+Asked = Result InnerCall TendRefusal
+
+abbrev asks : InnerCall → Asked
+asks call = Ok call
+
+asks-is : (x y : InnerCall) → asks x ≡ asks y → x ≡ y
+asks-is x y e = cc
+
+less : (a b : ℕ) → nat_lt a b ≡ true → a < b
+less a b e = grind (arith, nat_tests, e)
+
+module _ (layout : Layout) (call : InnerCall) where
+  abbrev or_none : Bool → InnerCall → Asked
+  or_none x asked = if x then Ok asked else Err NoSuchRange
+
+  fetch-fits : (v r : ℕ) (x y : Bool) → nat_lt v (length layout.volumes) ≡ x → nat_lt r 16 ≡ y → or_none (x && y) (jobs.Fetch v r) ≡ asks call
+      → FitsHand layout call Empty
+  fetch-fits v r true true a b e = subst (λ (k : InnerCall). FitsHand layout k Empty) (asks-is (jobs.Fetch v r) call e)
+      (record { node = (less v (length layout.volumes) a, less r 16 b); moves = tt; fits = refl })
+  fetch-fits v r true false a b e = absurd (let no : ⊥ = cc in no)
+  fetch-fits v r false y a b e = absurd (let no : ⊥ = cc in no)
+
+  cull-fits : (v : ℕ) (x : Bool) → nat_lt v (length layout.volumes) ≡ x → or_none x (jobs.Cull v) ≡ asks call → FitsHand layout call Empty
+  cull-fits v true a e = subst (λ (k : InnerCall). FitsHand layout k Empty) (asks-is (jobs.Cull v) call e)
+      (record { node = less v (length layout.volumes) a; moves = tt; fits = refl })
+  cull-fits v false a e = absurd (let no : ⊥ = cc in no)
+
+  pub asked-fits : (tend : Tend) (hand : Hand) → IsHandIn layout hand → call_of layout tend hand ≡ asks call → FitsHand layout call hand
+  asked-fits (Fetch volume range) Empty inside e =
+      fetch-fits volume.0 range (nat_lt volume.0 (length layout.volumes)) (nat_lt range 16) refl refl e
+  asked-fits (Fetch volume range) (Fresh v bs) inside e = absurd (let no : ⊥ = cc in no)
+  asked-fits (Fetch volume range) (Dead v bs) inside e = absurd (let no : ⊥ = cc in no)
+  asked-fits (Cull volume) Empty inside e = cull-fits volume.0 (nat_lt volume.0 (length layout.volumes)) refl e
+  asked-fits (Cull volume) (Fresh v bs) inside e = absurd (let no : ⊥ = cc in no)
+  asked-fits (Cull volume) (Dead v bs) inside e = absurd (let no : ⊥ = cc in no)
+  asked-fits PutDown Empty inside e = absurd (let no : ⊥ = cc in no)
+  asked-fits PutDown (Fresh v bs) inside e = subst (λ (k : InnerCall). FitsHand layout k (Fresh v bs)) (asks-is (jobs.Deliver v) call e)
+      (record { node = inside.0; moves = tt; fits = (bs, refl, inside.1) })
+  asked-fits PutDown (Dead v bs) inside e = subst (λ (k : InnerCall). FitsHand layout k (Dead v bs)) (asks-is (jobs.Free v (range_of bs)) call e)
+      (record { node = inside.0; moves = tt; fits = (bs, refl, inside.1, refl) })

@@ -1,0 +1,214 @@
+//! What a worker does without a message.
+
+ghost use Rattle.std.specs.Prelude.{◌≡◌, ◌<◌, length, nat_lt, Ok, Err, MatchResult};
+ghost use Rattle.affinity_tree.specs.Layout.{layout_of};
+ghost use Rattle.nfs_model.specs.Events.Refusals.{is_empty_hand};
+ghost use Rattle.service.specs.Jobs.{inner_of, job_reply_of};
+ghost use Rattle.workers.specs.Carries.{hand_after, HasMovedBatch, IsToldAs, IsToldOf};
+ghost use Rattle.workers.specs.Carries.{NamesBatch};
+ghost use Rattle.workers.specs.Tends.{call_of, call_to_put};
+ghost use Rattle.workers.specs.Words.{IsHandIn};
+
+use crate::inner::carry;
+use crate::shared::Filer;
+use crate::tend::{Carried, Tend, TendRefusal, Tended};
+use crate::worker::Worker;
+use affinity_tree::Layout;
+use nfs_laws::laws::batches_are_of_one_range;
+use nfs_values::VolumeNumber;
+use parcel_sets::Hand;
+use service::{BatchInHand, InnerCall, JobReply};
+
+/// The ranges of a volume, in use or not.
+const RANGES: u32 = 16;
+
+/// Whether a hand is empty.
+fn is_empty(hand: &BatchInHand) -> bool
+    ensures { result ≡ is_empty_hand hand.now }
+{
+    match hand.hand() {
+        Hand::Empty => true,
+        Hand::Fresh { .. } => false,
+        Hand::Dead { .. } => false,
+    }
+}
+
+/// Whether a volume is there.
+fn has_volume(layout: &Layout, volume: VolumeNumber) -> bool
+    ensures { result ≡ nat_lt volume.0 (length (layout_of layout.now).volumes) }
+{
+    (volume.0 as usize) < layout.volume_count()
+}
+
+/// The call that puts down what is in a hand.
+fn put_call(hand: &BatchInHand) -> Result<InnerCall, TendRefusal>
+    requires { (layout : _) × IsHandIn layout hand.now }
+    ensures { MatchResult result
+        (λ call. call_to_put hand.now ≡ Ok (inner_of call))
+        (λ refusal. call_to_put hand.now ≡ Err refusal) }
+{
+    match hand.hand() {
+        Hand::Empty => Err(TendRefusal::HandEmpty),
+        Hand::Fresh { volume, batch: _ } => Ok(InnerCall::Deliver {
+            volume: VolumeNumber(*volume),
+        }),
+        Hand::Dead { volume, batch } => match batch.range() {
+            Some(range) => Ok(InnerCall::Free {
+                volume: VolumeNumber(*volume),
+                range,
+            }),
+            None => unreachable!(),
+        },
+    }
+}
+
+/// The inner call of a tend with what is in the hand, or why there is none.
+fn call_of(layout: &Layout, hand: &BatchInHand, tend: Tend) -> Result<InnerCall, TendRefusal>
+    requires { IsHandIn (layout_of layout.now) hand.now }
+    ensures { let asked = call_of (layout_of layout.now) tend hand.now in MatchResult result
+        (λ call. asked ≡ Ok (inner_of call))
+        (λ refusal. asked ≡ Err refusal) }
+{
+    match tend {
+        Tend::Fetch { volume, range } => {
+            if !is_empty(hand) {
+                return Err(TendRefusal::HandFull);
+            }
+            if !has_volume(layout, volume) {
+                return Err(TendRefusal::NoSuchRange);
+            }
+            if range >= RANGES {
+                return Err(TendRefusal::NoSuchRange);
+            }
+            Ok(InnerCall::Fetch { volume, range })
+        }
+        Tend::Cull { volume } => {
+            if !is_empty(hand) {
+                return Err(TendRefusal::HandFull);
+            }
+            if !has_volume(layout, volume) {
+                return Err(TendRefusal::NoSuchRange);
+            }
+            Ok(InnerCall::Cull { volume })
+        }
+        Tend::PutDown => put_call(hand),
+    }
+}
+
+/// What is in the hand after an inner call with this reply, and what is told of it.
+fn told(reply: JobReply) -> (BatchInHand, Tended)
+    requires { NamesBatch (job_reply_of reply) }
+    ensures hand { result.0 ≡ hand_after (job_reply_of reply) }
+    ensures told { IsToldAs (job_reply_of reply) result.1 }
+{
+    match reply {
+        JobReply::Took(hand) => {
+            let count = hand.count();
+            (hand, Tended::InHand { count })
+        }
+        JobReply::Gave(hand) => {
+            let count = hand.count();
+            (BatchInHand::new(Hand::Empty), Tended::PutDown { count })
+        }
+        JobReply::Replied(_reply) => unreachable!(),
+        JobReply::Surveyed(_counts) => unreachable!(),
+    }
+}
+
+/// What is in the hand after an inner call, and what its tend answers.
+fn answer(carried: Carried) -> (BatchInHand, Result<Tended, TendRefusal>)
+    requires { HasMovedBatch carried }
+    ensures { IsToldOf carried result.0 result.1 }
+{
+    match carried {
+        Carried::Done(reply) => {
+            let (hand, tended) = told(reply);
+            (hand, Ok(tended))
+        }
+        Carried::Refused(hand, refusal) => (hand, Err(refusal)),
+    }
+}
+
+impl Worker {
+    ghost use Rattle.nfs_model.specs.Parts as parts;
+    ghost use Rattle.workers.specs.Carries.{FitsHand};
+    ghost use Rattle.workers.specs.Tends.{hand_in, kept_in, Answers, IsNextTend, Tends};
+    ghost use Rattle.workers.specs.Words.{layout_in, passed, seats_in, IsIn};
+
+    /// What is in the worker's hand.
+    pub fn hand(&self) -> &BatchInHand
+        ensures { result.now ≡ hand_in self.now }
+    {
+        &self.hand
+    }
+
+    /// Whether the worker's hand is empty.
+    pub fn has_empty_hand(&self) -> bool
+        ensures { result ≡ is_empty_hand (hand_in self.now) }
+    {
+        is_empty(&self.hand)
+    }
+
+    /// The tend after a turn without a message, where so many were made with an empty hand: what is
+    /// in the hand is put down, else culls and fetches take turns, over all volumes, and the
+    /// fetches of a volume over its ranges.
+    pub fn next_tend(&self, filer: &Filer, made: u64) -> Tend
+        ensures { IsNextTend (length (layout_in filer.now).volumes) made
+            (hand_in self.now) result }
+    {
+        if !self.has_empty_hand() {
+            return Tend::PutDown;
+        }
+        let volumes = filer.depot.layout().volume_count() as u64;
+        let volume = VolumeNumber((made / 2 % volumes) as u32);
+        if made % 2 == 0 {
+            return Tend::Cull { volume };
+        }
+        let range = (made / (2 * volumes) % u64::from(RANGES)) as u32;
+        Tend::Fetch { volume, range }
+    }
+
+    /// Makes an inner call with what is in the hand.
+    fn carry(self, filer: &Filer, call: InnerCall) -> (Worker, Result<Tended, TendRefusal>)
+        requires inside { IsIn filer.now self }
+        requires fits { FitsHand (layout_in filer.now) (inner_of call) self.hand }
+        ensures inside { IsIn filer.now result.0 }
+        ensures answers { Answers (layout_in filer.now) self (Ok (inner_of call))
+            result.1 result.0 }
+        ensures pass { result.0.pass ≡ self.pass }
+        ensures kept { result.0.kept ≡ self.kept }
+        ensures seats { seats_in result.0 ≡ seats_in self }
+    {
+        batches_are_of_one_range();
+        let Worker {
+            mut seat,
+            pass,
+            hand,
+            kept,
+        } = self;
+        let (hand, answer) = answer(carry(filer, &mut seat, call, hand));
+        let worker = Worker {
+            seat,
+            pass,
+            hand,
+            kept,
+        };
+        (worker, answer)
+    }
+
+    /// Fetches, culls or puts down: begins the inner call on its node, runs it, and finishes it or
+    /// puts it back. It waits for nobody.
+    pub fn tend_turn(self, filer: &Filer, tend: Tend) -> (Worker, Result<Tended, TendRefusal>)
+        requires { IsIn filer.now self }
+        ensures inside { IsIn filer.now result.0 }
+        ensures tends { Tends (layout_in filer.now) self tend result.1 result.0 }
+        ensures pass { passed result.0 ≡ passed self }
+        ensures kept { kept_in result.0 ≡ kept_in self }
+        ensures seats { seats_in result.0 ≡ seats_in self }
+    {
+        match call_of(filer.depot.layout(), &self.hand, tend) {
+            Ok(call) => self.carry(filer, call),
+            Err(refusal) => (self, Err(refusal)),
+        }
+    }
+}

@@ -1,0 +1,55 @@
+//! Who looks on.
+
+use crate::calls::at;
+use crate::came::Came;
+use crate::inside::Inside;
+use affinity_tree::Affinity;
+use nfs_values::VolumeNumber;
+use std::cell::Cell;
+use std::sync::Wait;
+use workers::{Gate, Place, Stage, Tend, TendRefusal};
+
+/// Nobody.
+pub(crate) struct Nobody;
+
+impl Gate for Nobody {
+    fn pass(&self, _place: Place) {}
+}
+
+/// What a second worker met while the first had a grant.
+#[derive(Clone, Copy, Debug, PartialEq)]
+pub(crate) struct Met {
+    /// What its turn answered.
+    pub(crate) came: Came,
+    /// The node and the word by which its tend was refused.
+    pub(crate) tended: Option<(Affinity, u64)>,
+}
+
+/// A second worker, which makes a turn and a tend after each begin of the first.
+pub(crate) struct Looking<'a, R> {
+    pub(crate) rt: &'a R,
+    pub(crate) second: Cell<Option<Inside<'a>>>,
+    pub(crate) met: Cell<Option<Met>>,
+}
+
+impl<R: Wait> Gate for Looking<'_, R> {
+    fn pass(&self, place: Place) {
+        if place.stage != Stage::Begun {
+            return;
+        }
+        let Some(second) = self.second.replace(None) else {
+            return;
+        };
+        let (second, came) = second.turn(self.rt, &Nobody, at(9));
+        let cull = Tend::Cull {
+            volume: VolumeNumber(0),
+        };
+        let (second, answer) = second.tend(cull);
+        let tended = match answer {
+            Err(TendRefusal::Busy { node, word }) => Some((node, word)),
+            _ => None,
+        };
+        self.met.set(Some(Met { came, tended }));
+        self.second.set(Some(second));
+    }
+}

@@ -1,0 +1,66 @@
+//! Two workers of a filer, and who puts messages.
+
+ghost use Rattle.std.specs.Prelude.{◌≡◌, ◌<◌, Some};
+ghost use Rattle.depot.specs.Words.{view, splits_left, IsSeatHere};
+ghost use Rattle.shared_waiting.specs.Passes.{known, IsOf};
+ghost use Rattle.workers.specs.Words.{layout_in, layout_known, verifier_in};
+ghost use Rattle.workers.specs.Words.{HasDoneNothing, IsReady};
+
+use crate::inside::Inside;
+use crate::reader::Reader;
+use affinity_tree::Layout;
+use depot::Seat;
+use service::Service;
+use shared_waiting::Pass;
+use workers::{Filer, Message, Worker};
+
+/// Two workers, and who puts messages for them.
+#[derive(Drop)]
+pub struct Started<'a> {
+    pub first: Inside<'a>,
+    pub second: Inside<'a>,
+    pub reader: Reader<'a>,
+}
+
+/// A worker with a seat and a pass that have done nothing.
+fn worker_of<'a>(
+    filer: &'a Filer,
+    seat: Seat<Service>,
+    pass: Pass<Message, Layout>,
+) -> Inside<'a>
+    requires seat { IsSeatHere filer.now.depot seat }
+    requires ready { IsReady (layout_in filer.now) (verifier_in filer.now) (view seat) }
+    requires pass { IsOf filer.now.waiting pass }
+    requires layout { layout_known (known pass) ≡ Some (layout_in filer.now) }
+    requires nothing { HasDoneNothing (view seat) (known pass) }
+{
+    Inside {
+        filer,
+        worker: Worker::new(seat, pass),
+    }
+}
+
+/// The first two workers of a filer, and who puts messages for them.
+pub fn started<'a>(
+    filer: &'a Filer,
+    seat: Seat<Service>,
+    pass: Pass<Message, Layout>,
+) -> Started<'a>
+    requires seat { IsSeatHere filer.now.depot seat }
+    requires ready { IsReady (layout_in filer.now) (verifier_in filer.now) (view seat) }
+    requires pass { IsOf filer.now.waiting pass }
+    requires layout { layout_known (known pass) ≡ Some (layout_in filer.now) }
+    requires nothing { HasDoneNothing (view seat) (known pass) }
+    requires some { 0 < splits_left seat }
+{
+    let (pass, other) = filer.waiting().split_pass(pass);
+    let (half, rest) = filer.waiting().split_pass(other);
+    match filer.depot().split_seat(seat) {
+        Ok((seat, second)) => Started {
+            first: worker_of(filer, seat, pass),
+            second: worker_of(filer, second, half),
+            reader: Reader { filer, pass: rest },
+        },
+        Err(_refused) => unreachable!(),
+    }
+}
