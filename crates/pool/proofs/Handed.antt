@@ -6,7 +6,8 @@ use Rattle.depot_rule.specs.Sums.{total}
 use Rattle.depot_rule.specs.lemmas.Sums.{total-append}
 use Rattle.shared_waiting.specs.Balance.{part}
 use Rattle.pool.specs.Heirs.{IsHeir}
-use Rattle.pool.specs.Threads.{Thread, ServesIn, share_of}
+use Rattle.gathering.specs.Shares.{share_of}
+use Rattle.pool.specs.Threads.{Thread, ServesIn}
 use Rattle.workers.specs.declared.shared.Filer.{Filer}
 use Rattle.workers.specs.declared.worker.Worker.{Worker}
 use Rattle.workers.specs.Words.{passed, seats_in, IsIn}

@@ -2,7 +2,8 @@
 use Rattle.std.specs.Prelude.{◌≡◌, ◌≤◌, ◌+◌, ℕ, List, [], All, vec_capacity}
 use Rattle.depot_rule.specs.Sums.{total}
 use Rattle.pool.specs.declared.pool.Pool.{Pool}
-use Rattle.pool.specs.Threads.{Thread, share_of}
+use Rattle.gathering.specs.Shares.{share_of}
+use Rattle.pool.specs.Threads.{Thread}
 use Rattle.workers.specs.declared.shared.Filer.{Filer}
 use Rattle.workers.specs.declared.worker.Worker.{Worker}
 use Rattle.workers.specs.Words.{passed, seats_in, IsIn}

@@ -2,13 +2,13 @@
 use Rattle.std.specs.Prelude.{◌≡◌, ℕ}
 use Rattle.std.specs.Arc.{arc_value}
 use Rattle.std.specs.declared.thread.PromisedHandle.{PromisedHandle}
-use Rattle.shared_waiting.specs.Balance.{part}
+use Rattle.gathering.specs.Shares.{share_of}
 use Rattle.pool.specs.declared.refusal.StartRefusal.{StartRefusal}
 use Rattle.pool.specs.declared.refusal.StartRefusal.TheVariants.{NoThread, NoMemory}
 use Rattle.pool.specs.declared.task.Serves.{Serves}
 use Rattle.workers.specs.declared.shared.Filer.{Filer}
 use Rattle.workers.specs.declared.worker.Worker.{Worker}
-use Rattle.workers.specs.Words.{passed, seats_in}
+use Rattle.workers.specs.Words.{seats_in}
 
 abbrev pub Thread : Type 0
 Thread = PromisedHandle Worker Serves
@@ -25,11 +25,7 @@ started_with thread = thread.promise.worker.value
 abbrev pub seats_with : Thread → ℕ
 seats_with thread = seats_in (started_with thread)
 
--- a worker's share of the right to know the queue, counted in parts of 1 / 2^k
-abbrev pub share_of : ℕ → Worker → ℕ
-share_of k w = part k (passed w)
-
--- the thread's
+-- its share of the right to know the queue, counted in parts of 1 / 2^k
 abbrev pub share_with : ℕ → Thread → ℕ
 share_with k thread = share_of k (started_with thread)
 

@@ -2,8 +2,8 @@
 
 ghost use Rattle.std.specs.Prelude.{◌≡◌, ◌≤◌, ◌+◌, ℕ, All, vec_len, vec_capacity};
 ghost use Rattle.depot_rule.specs.Sums.{total};
-ghost use Rattle.shared_waiting.specs.Balance.{part};
-ghost use Rattle.pool.specs.Threads.{seats_with, share_with, share_of, ServesIn};
+ghost use Rattle.gathering.specs.Shares.{share_of};
+ghost use Rattle.pool.specs.Threads.{seats_with, share_with, ServesIn};
 ghost use Rattle.workers.specs.Words.{seats_in, IsIn};
 ghost use Rattle.workers.specs.declared.shared.Filer.{Filer};
 

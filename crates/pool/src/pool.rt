@@ -32,7 +32,8 @@ impl Pool {
     ghost use Rattle.std.specs.Arc.{arc_value};
     ghost use Rattle.depot_rule.specs.Sums.{total};
     ghost use Rattle.pool.specs.Pools.{threads_of, AreSplitFrom, IsVacant};
-    ghost use Rattle.pool.specs.Threads.{seats_with, share_of, share_with, ServesIn};
+    ghost use Rattle.gathering.specs.Shares.{share_of};
+    ghost use Rattle.pool.specs.Threads.{seats_with, share_with, ServesIn};
     ghost use Rattle.workers.specs.declared.shared.Filer.{Filer};
     ghost use Rattle.workers.specs.Words.{passed, seats_in, IsIn};
 

@@ -16,7 +16,8 @@ ghost use Rattle.std.specs.Prelude.{
 ghost use Rattle.std.specs.Arc.{arc_value};
 ghost use Rattle.depot_rule.specs.Sums.{total};
 ghost use Rattle.pool.specs.Heirs.{IsHeir};
-ghost use Rattle.pool.specs.Threads.{seats_with, share_of, share_with, ServesIn};
+ghost use Rattle.gathering.specs.Shares.{share_of};
+ghost use Rattle.pool.specs.Threads.{seats_with, share_with, ServesIn};
 ghost use Rattle.workers.specs.Words.{seats_in, IsIn};
 
 use crate::refusal::StartRefusal;

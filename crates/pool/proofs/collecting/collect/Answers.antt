@@ -1,5 +1,6 @@
 use Rattle.std.proofs.Common.{◌≡◌, ◌+◌, ℕ, ◌∙◌, All, arith, subst}
-use Rattle.pool.specs.Threads.{seats_with, share_with, share_of, started_with, ServesIn}
+use Rattle.gathering.specs.Shares.{share_of}
+use Rattle.pool.specs.Threads.{seats_with, share_with, started_with, ServesIn}
 use Rattle.pool.proofs.Handed.{handed, all-pushed, all-popped, same-share}
 use Rattle.workers.specs.declared.shared.Filer.{Filer}
 use Rattle.workers.specs.Words.{seats_in, IsIn}
