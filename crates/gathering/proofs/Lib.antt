@@ -1,0 +1,6 @@
+mod Lists
+mod Portions
+mod Drained
+mod Joins
+mod Sharing
+mod Closes

@@ -1,12 +1,10 @@
 -- What a depot grants, as a run of a call needs it.
-use Rattle.std.proofs.Common.{◌≡◌, ℕ, zero, suc, ◌<◌, ◌≤◌, List, [], length, Option, sym, ap, subst, arith, ⊎_elim}
-use Rattle.std.proofs.lemmas.Bool.{cases_lt}
-use Rattle.std.proofs.lemmas.List.{get_or_past}
+use Rattle.std.proofs.Common.{◌≡◌, ℕ, ◌<◌, List, [], length, Option, sym, subst}
 use Rattle.nfs_model.specs.Tree.{Layout, Affinity}
-use Rattle.affinity_tree.specs.Ancestors.{Covers, tally, ancestors}
+use Rattle.affinity_tree.specs.Ancestors.{Covers}
 use Rattle.affinity_tree.specs.Numbers.{number_of, parents}
 use Rattle.affinity_tree.specs.Tree.{IsNode}
-use Rattle.affinity_tree.specs.lemmas.Standing.{number-place, ancestors-root}
+use Rattle.affinity_tree.specs.lemmas.Standing.{number-place}
 use Rattle.depot_rule.specs.History.{after, listed}
 use Rattle.depot.specs.Grants.{IsAfter}
 use Rattle.held_laws.specs.lemmas.Granted.{filer-has}
@@ -16,25 +14,7 @@ use Rattle.held_state.specs.Sound.{IsFiler}
 use Rattle.parcels.specs.declared.files.Files.{Files}
 use Rattle.workers.specs.Balance.{FilerView}
 use Rattle.workers.specs.Turns.{filer_behaviour}
-
--- a node covers numbers of nodes alone
-covers-place : (ps : List ℕ) (b k : ℕ) → 0 < b → b < length ps → Covers ps b k → (0 < k) × (k < length ps)
-covers-place ps b k some below cover = ⊎_elim
-    (λ (e : b ≡ k). (omega arith, omega arith))
-    (λ (h : 0 < tally b (ancestors ps k)). (
-      positive k h,
-      ⊎_elim (λ (l : k < length ps). l) (λ (m : length ps ≤ k). absurd (past m h)) (cases_lt k (length ps)),
-    ))
-    cover
-  where
-    positive : (n : ℕ) → 0 < tally b (ancestors ps n) → 0 < n
-    positive zero h = absurd (omega arith)
-    positive (suc n) h = omega arith
-
-    past : length ps ≤ k → 0 < tally b (ancestors ps k) → ⊥
-    past m h =
-        let none : tally b (ancestors ps k) ≡ 0 = ap (tally b) (ancestors-root ps k (get_or_past ps k 0 m)) in
-        omega arith
+use Rattle.workers.specs.lemmas.Covered.{covers-place}
 
 module _ (layout : Layout) (node : Affinity) (there : IsNode layout node) (v : FilerView) (of : v.tree ≡ parents layout)
     (f : ℕ → Option (FilerParcel Files)) (seen : IsAfter filer_behaviour v (number_of layout node) f) where

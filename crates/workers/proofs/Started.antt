@@ -7,6 +7,7 @@ use Rattle.affinity_tree.specs.Numbers.{number_of, parents, node_count}
 use Rattle.affinity_tree.specs.lemmas.Smaller.{length-parents}
 use Rattle.affinity_tree.specs.lemmas.Standing.{number-place}
 use Rattle.depot_rule.specs.History.{entries_of}
+use Rattle.depot_rule.specs.Seats.{fresh}
 use Rattle.depot_rule.specs.Shares.{Has}
 use Rattle.depot_rule.specs.lemmas.Listed.{by-number-at}
 use Rattle.depot.specs.Words.{first_view}
@@ -16,10 +17,14 @@ use Rattle.parcels.specs.declared.files.Files.{Files}
 use Rattle.workers.specs.Balance.{FilerView, Passed}
 use Rattle.workers.specs.Words.{HasOpened, HasDoneNothing, IsReady}
 
-pub none-held : {A : Type 0} (n b : ℕ) (g : A) → get_elem? (replicate n None) b ≡ some (Some g) → ⊥
+none-held : {A : Type 0} (n b : ℕ) (g : A) → get_elem? (replicate n None) b ≡ some (Some g) → ⊥
 none-held zero b g e = some-ne-none (Some g) (sym e)
 none-held (suc n) zero g e = let bad : None ≡ Some g = some-injective None (Some g) e in let no : ⊥ = cc in no
 none-held (suc n) (suc b) g e = none-held n b g e
+
+-- a seat that was split off has no grant
+pub fresh-none : (v w : FilerView) → w ≡ fresh v → (b : ℕ) (g : List (Option (FilerParcel Files))) → Has w b g → ⊥
+fresh-none v w is b g has = none-held (length v.tree) b g (subst (λ (x : FilerView). Has x b g) is has)
 
 module _ (layout : Layout) (verifier : List ℕ) (f : ℕ → Option (FilerParcel Files)) (v : FilerView) (is : v ≡ first_view layout f) where
   -- the first seat's view is that of a run that begins
