@@ -1,13 +1,12 @@
 -- An entry that was added to a history did its deed on the parcels that the entries before it left.
 use Rattle.std.proofs.Common.{◌≡◌, ℕ, List, [], ◌∷◌, ◌++◌, length, Option, None, refl, sym, subst, arith}
 use Rattle.nfs_model.specs.Tree.{Layout, Affinity}
-use Rattle.nfs_model.specs.Parts.{Hand}
 use Rattle.affinity_tree.specs.Fault.{fault_of}
 use Rattle.affinity_tree.specs.Numbers.{number_of, parents}
 use Rattle.affinity_tree.specs.Tree.{IsNode}
 use Rattle.affinity_tree.specs.lemmas.Alike.{alike}
 use Rattle.depot_rule.specs.declared.view.Entry.{Entry}
-use Rattle.depot_rule.specs.History.{Steps, Legal, SoundThroughout, AreHands, after, put_in, listed}
+use Rattle.depot_rule.specs.History.{Legal, SoundThroughout, AreHands, after, put_in, listed}
 use Rattle.depot_rule.specs.Plays.{HasAdded}
 use Rattle.depot_rule.specs.lemmas.Histories.{moved-snoc, starts-itself}
 use Rattle.held_state.specs.Deeds.{ParcelsDo, FilerSteps}
@@ -50,11 +49,11 @@ module _ (layout : Layout) (lawful : fault_of layout ≡ None) (f : ℕ → Opti
       let here : AllSound layout before at.0 (length es) =
       subst (λ c. AreSound c at.0 (length es)) (filer-same good.0 layout (alike good.0 layout good.1.1) before) good.2 in
       let moved : HandsMove (job_takes e.call e.reply) (job_gives e.call e.reply) at.0 last.0 = λ weigh.
-          let a = first_hands weigh in
-          let b = last_hands weigh in
-          let t = moved-snoc job_takes weigh es e in
-          let g = moved-snoc job_gives weigh es e in
-          omega (arith, a, b, t, g) in
+      let a = first_hands weigh in
+      let b = last_hands weigh in
+      let t = moved-snoc job_takes weigh es e in
+      let g = moved-snoc job_gives weigh es e in
+      omega (arith, a, b, t, g) in
       let step : FilerSteps (parents layout) (number_of layout node) (job_of e.call) before (job_reply_of e.reply) then =
       subst (λ n. FilerSteps (parents layout) n (job_of e.call) before (job_reply_of e.reply) then) is (legal-last job_steps (parents layout) f es e legal) in
       (entry-does layout lawful node there (job_of e.call) (job_reply_of e.reply) before then at.0 last.0 (length es) step here moved).0

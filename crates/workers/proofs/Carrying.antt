@@ -1,5 +1,5 @@
 -- A worker after an inner call: its balance, its hand, and what its tend answers.
-use Rattle.std.proofs.Common.{◌≡◌, ℕ, ◌+◌, ◌<◌, Bool, true, false, ◌&&◌, List, [], ◌∷◌, ◌++◌, length, Option, Ok, Err, refl, sym, ap, ◌∙◌, subst, arith}
+use Rattle.std.proofs.Common.{◌≡◌, ℕ, ◌<◌, Bool, true, false, ◌&&◌, List, [], ◌∷◌, length, Option, Ok, Err, refl, sym, ap, ◌∙◌, subst, arith}
 use Rattle.std.proofs.lemmas.Bool.Decides.{nat_tests}
 use Rattle.std.specs.Prelude.{Result, nat_lt, if◌then◌else◌}
 use Rattle.nfs_model.specs.Tree.{Layout}
@@ -25,7 +25,7 @@ use Rattle.workers.specs.declared.tend.TendRefusal.{TendRefusal}
 use Rattle.workers.specs.declared.tend.TendRefusal.TheVariants.{NoSuchRange}
 use Rattle.workers.specs.declared.tend.Tended.{Tended}
 use Rattle.workers.specs.declared.worker.Worker.{Worker}
-use Rattle.workers.specs.Balance.{Passed, FilerView, FilerEntry, Weight, by_key, by_job, by_entry, by_kept, IsEven}
+use Rattle.workers.specs.Balance.{Passed, FilerView, FilerEntry, Weight, by_job, by_entry, IsEven}
 use Rattle.workers.specs.Carries.{FitsHand, MovesBatch, HasCarried, HasMovedBatch, IsToldOf, hand_after}
 use Rattle.workers.specs.Tends.{hand_in, call_of, Answers}
 use Rattle.workers.specs.Words.{seat_view, IsHandIn}
@@ -81,16 +81,16 @@ module _ (layout : Layout) (v w : FilerView) (call : InnerCall) (hand : Hand) wh
       let es : List FilerEntry = entries_of v in
       let took : job_takes e.call e.reply ≡ batches_in next =
       ap (λ (r : JobReply). takes (job_of e.call) r) did.is_reply ∙ takes-after (job_of e.call) (job_reply_of reply)
-          ∙ ap batches_in (sym told.0) in
+      ∙ ap batches_in (sym told.0) in
       let gave : job_gives e.call e.reply ≡ batches_in hand =
       ap (λ (r : JobReply). gives (job_of e.call) r) did.is_reply ∙ gives-same (job_of e.call) (jobs.Inner call) (job_reply_of reply) ∙ did.gave in
       subst (λ (ds : List FilerEntry). AreHands job_takes job_gives ds (batches_in next)) (sym did.entries) (λ weigh.
-          let t = moved-snoc job_takes weigh es e in
-          let g = moved-snoc job_gives weigh es e in
-          let t' = ap (total weigh) took in
-          let g' = ap (total weigh) gave in
-          let o = own weigh in
-          omega (arith, t, g, t', g', o))
+      let t = moved-snoc job_takes weigh es e in
+      let g = moved-snoc job_gives weigh es e in
+      let t' = ap (total weigh) took in
+      let g' = ap (total weigh) gave in
+      let o = own weigh in
+      omega (arith, t, g, t', g', o))
   hand-after-it (Refused back refusal) next answer did told own =
       subst (λ (es : List FilerEntry). AreHands job_takes job_gives es (batches_in next)) (sym did.1)
       (subst (λ h. AreHands job_takes job_gives (entries_of v) (batches_in h)) (sym (told.0 ∙ did.0)) own)

@@ -3,7 +3,6 @@ use Rattle.std.proofs.Common.{◌≡◌, ℕ, ◌<◌, List, [], ◌∷◌, ◌+
 use Rattle.nfs_model.specs.Tree.{Layout, Affinity}
 use Rattle.nfs_model.specs.Parts.{Hand, Empty}
 use Rattle.affinity_tree.specs.Affinity.{affinity_of}
-use Rattle.affinity_tree.specs.Ancestors.{Covers}
 use Rattle.affinity_tree.specs.Fault.{fault_of}
 use Rattle.affinity_tree.specs.Numbers.{number_of, parents}
 use Rattle.affinity_tree.specs.Tree.{IsNode}
@@ -70,10 +69,10 @@ granted-hand layout node there v of f given own seen =
     subst (λ (ps : List ℕ). IsFiler ps (after ps (listed v.first) seen.0) history.hands (length seen.0)) of history.sound in
     let known : AreHands job_takes job_gives (entries_of v) history.hand = history.own_hand in
     let moves : HandsMove [] given history.hands history.others = λ weigh.
-        let a = known weigh in
-        let b = own weigh in
-        let t = history.together weigh in
-        omega (arith, a, b, t) in (
+    let a = known weigh in
+    let b = own weigh in
+    let t = history.together weigh in
+    omega (arith, a, b, t) in (
       g,
       history.hands,
       history.others,

@@ -1,24 +1,23 @@
 //! Turns and tends of workers on the depot of a filer: what they answer, and what they leave.
 #![tactic(auto)]
 
-mod came;
-mod inside;
-mod opening;
-mod reader;
-mod starting;
-mod turning;
-
 #[cfg(test)]
 mod calls;
+mod came;
+mod filer_worker;
 #[cfg(test)]
 mod looking;
+mod opening;
+mod reader;
 #[cfg(test)]
 mod rows;
+mod starting;
 #[cfg(test)]
 mod texts;
+mod turning;
 
 pub use came::Came;
-pub use inside::Inside;
+pub use filer_worker::FilerWorker;
 pub use opening::opened;
 pub use reader::Reader;
-pub use starting::{Started, started};
+pub use starting::{Started, start_workers};

@@ -2,7 +2,7 @@
 
 use crate::calls::at;
 use crate::came::Came;
-use crate::inside::Inside;
+use crate::filer_worker::FilerWorker;
 use affinity_tree::Affinity;
 use nfs_values::VolumeNumber;
 use std::cell::Cell;
@@ -26,9 +26,10 @@ pub(crate) struct Met {
 }
 
 /// A second worker, which makes a turn and a tend after each begin of the first.
+#[derive(Drop)]
 pub(crate) struct Looking<'a, R> {
     pub(crate) rt: &'a R,
-    pub(crate) second: Cell<Option<Inside<'a>>>,
+    pub(crate) second: Cell<Option<FilerWorker<'a>>>,
     pub(crate) met: Cell<Option<Met>>,
 }
 

@@ -34,5 +34,8 @@ pub fn opened(alloc: Global) -> Option<(Filer, Seat<Service>, Pass<Message, Layo
     let aggregates = [AggregateSpec { spare: 1 }];
     let volumes = [VolumeSpec::new(0, 1), sixteen];
     let layout = Layout::new(alloc, &aggregates, &volumes).ok()?;
-    Filer::new(alloc, layout, [9; 8]).ok()
+    match Filer::new(alloc, layout, [9; 8]) {
+        Ok(made) => Some(made),
+        Err(_) => None,
+    }
 }

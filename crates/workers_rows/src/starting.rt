@@ -6,7 +6,7 @@ ghost use Rattle.shared_waiting.specs.Passes.{known, IsOf};
 ghost use Rattle.workers.specs.Words.{layout_in, layout_known, verifier_in};
 ghost use Rattle.workers.specs.Words.{HasDoneNothing, IsReady};
 
-use crate::inside::Inside;
+use crate::filer_worker::FilerWorker;
 use crate::reader::Reader;
 use affinity_tree::Layout;
 use depot::Seat;
@@ -17,8 +17,8 @@ use workers::{Filer, Message, Worker};
 /// Two workers, and who puts messages for them.
 #[derive(Drop)]
 pub struct Started<'a> {
-    pub first: Inside<'a>,
-    pub second: Inside<'a>,
+    pub first: FilerWorker<'a>,
+    pub second: FilerWorker<'a>,
     pub reader: Reader<'a>,
 }
 
@@ -27,21 +27,21 @@ fn worker_of<'a>(
     filer: &'a Filer,
     seat: Seat<Service>,
     pass: Pass<Message, Layout>,
-) -> Inside<'a>
+) -> FilerWorker<'a>
     requires seat { IsSeatHere filer.now.depot seat }
     requires ready { IsReady (layout_in filer.now) (verifier_in filer.now) (view seat) }
     requires pass { IsOf filer.now.waiting pass }
     requires layout { layout_known (known pass) ≡ Some (layout_in filer.now) }
     requires nothing { HasDoneNothing (view seat) (known pass) }
 {
-    Inside {
+    FilerWorker {
         filer,
         worker: Worker::new(seat, pass),
     }
 }
 
 /// The first two workers of a filer, and who puts messages for them.
-pub fn started<'a>(
+pub fn start_workers<'a>(
     filer: &'a Filer,
     seat: Seat<Service>,
     pass: Pass<Message, Layout>,

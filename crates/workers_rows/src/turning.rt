@@ -6,7 +6,7 @@ ghost use Rattle.workers.specs.Messages.{IsPlaced};
 ghost use Rattle.workers.specs.Words.{layout_in};
 
 use crate::came::Came;
-use crate::inside::Inside;
+use crate::filer_worker::FilerWorker;
 use crate::reader::Reader;
 use affinity::home_of;
 use nfs_values::{Call, Credential, Moment};
@@ -66,24 +66,24 @@ impl Reader<'_> {
     }
 }
 
-impl<'a> Inside<'a> {
+impl<'a> FilerWorker<'a> {
     /// A turn at a moment; the answer is put.
     pub fn turn<R: Wait, G: Gate>(
         self,
         rt: &R,
         gate: &G,
         moment: Moment,
-    ) -> (Inside<'a>, Came) {
-        let Inside { filer, worker } = self;
+    ) -> (FilerWorker<'a>, Came) {
+        let FilerWorker { filer, worker } = self;
         let (worker, turned) = worker.turn(filer, rt, gate, moment);
         let came = put(rt, filer, turned);
-        (Inside { filer, worker }, came)
+        (FilerWorker { filer, worker }, came)
     }
 
     /// A tend.
-    pub fn tend(self, tend: Tend) -> (Inside<'a>, Result<Tended, TendRefusal>) {
-        let Inside { filer, worker } = self;
+    pub fn tend(self, tend: Tend) -> (FilerWorker<'a>, Result<Tended, TendRefusal>) {
+        let FilerWorker { filer, worker } = self;
         let (worker, answer) = worker.tend_turn(filer, tend);
-        (Inside { filer, worker }, answer)
+        (FilerWorker { filer, worker }, answer)
     }
 }

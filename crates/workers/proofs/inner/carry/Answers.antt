@@ -1,4 +1,4 @@
-use Rattle.std.proofs.Common.{◌≡◌, refl, sym, ◌∙◌, subst}
+use Rattle.std.proofs.Common.{◌≡◌, sym, ◌∙◌, subst}
 use Rattle.affinity_tree.specs.Numbers.{number_of}
 use Rattle.nfs_model.specs.Parts.{Empty}
 use Rattle.parcel_sets.specs.Exact.{kind_in}
@@ -120,12 +120,12 @@ returns-in-Refused-clause-carried c =
           (λ any. IsEnded w (number_of L (lent_of L any).affinity) u)
           (entries_of u ≡ entries_of v)
           (λ any r done. left-entries L c.args.filer.now.depot.layout.lawful c.args.call c.args.hand v w c.requires.may
-    c.requires.seat.1.0 c.run_inner.ensures.seat.1.0 c.in-Ok.outcome (lent_of L any) r u done)
+          c.requires.seat.1.0 c.run_inner.ensures.seat.1.0 c.in-Ok.outcome (lent_of L any) r u done)
           c.in-Ok.ensures.ran c.put_back.ensures.ended,
       granted-then c.run_inner.new.granted (λ any. HasRunInner L v call c.args.hand c.in-Ok.outcome (lent_of L any) w)
           (IsRefusedFor L v call NoSuchRange u)
           (λ any r. is-unused L c.args.filer.now.depot.layout.lawful c.args.call c.args.hand v w c.requires.may
-    c.requires.seat.1.0 c.run_inner.ensures.seat.1.0 c.in-Ok.outcome (lent_of L any) r c.in-Refused.is)
+          c.requires.seat.1.0 c.run_inner.ensures.seat.1.0 c.in-Ok.outcome (lent_of L any) r c.in-Refused.is)
           c.in-Ok.ensures.ran,
     )
 
@@ -156,4 +156,3 @@ returns-in-NoMemory-clause-ready c =
     (λ any r done. left-ready L c.args.filer.now.depot.layout.lawful c.args.call c.args.hand v w c.requires.may
     c.requires.seat.1.0 c.run_inner.ensures.seat.1.0 c.in-Ok.outcome (lent_of L any) r u done (verifier_in c.args.filer.now) c.requires.ready)
     c.in-Ok.ensures.ran c.put_back-in-NoMemory.ensures.ended
-
