@@ -6,5 +6,7 @@ use Rattle.crossings.proofs.Workers.{worker-send, filer-send, filer-sync, bells-
 use Rattle.pool.specs.contracts.task.Task as Task
 
 pub task-send : IsSend Task.the_row
-task-send = declared_send Task.the_type (search (filer-send, filer-sync, crosses, sendable) depth 20,
-    (search (bells-send, bells-sync, crosses, sendable) depth 20, (search (worker-send, sendable) depth 20, tt)))
+task-send = declared_send Task.the_type (
+  search (filer-send, filer-sync, crosses, sendable) depth 20,
+  (search (bells-send, bells-sync, crosses, sendable) depth 20, (search (worker-send, sendable) depth 20, tt)),
+)

@@ -56,12 +56,7 @@ fn run<R: Wait + Clock, G: Gate>(rt: &R, gate: &G, task: Task) -> Worker
 
 /// Starts a thread for a worker. Where none can be made, the bell is stopped, and the worker comes
 /// back.
-pub(crate) fn start_one<R, G>(
-    rt: R,
-    bells: &Bells,
-    gate: G,
-    task: Task,
-) -> Result<Thread, Worker>
+pub(crate) fn start_one<R, G>(rt: R, bells: &Bells, gate: G, task: Task) -> Result<Thread, Worker>
 where
     R: Threads + Wait + Clock + Copy + Drop + Send + 'static,
     G: Gate + Drop + Send + 'static,

@@ -38,7 +38,15 @@ fn put_all<R: Wait>(
         let Ok(next) = call(alloc, number) else {
             break;
         };
-        if !put(rt, alloc, filer, bells, &mut pass, (connection, number), next) {
+        if !put(
+            rt,
+            alloc,
+            filer,
+            bells,
+            &mut pass,
+            (connection, number),
+            next,
+        ) {
             break;
         }
         count += 1;

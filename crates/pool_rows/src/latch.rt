@@ -83,14 +83,31 @@ where
     let get = Call::GetAttributes {
         handle: handle(1, ROOT),
     };
-    let mut is_put = put(&rt, alloc, &filer, &bells, &mut first, (one, HELD as usize), read);
+    let mut is_put = put(
+        &rt,
+        alloc,
+        &filer,
+        &bells,
+        &mut first,
+        (one, HELD as usize),
+        read,
+    );
     for _ in 0..LOOKS {
         if latch.seen.held_begun.load(Ordering::SeqCst) {
             break;
         }
         thread::yield_now();
     }
-    is_put = is_put && put(&rt, alloc, &filer, &bells, &mut second, (two, BESIDE as usize), get);
+    is_put = is_put
+        && put(
+            &rt,
+            alloc,
+            &filer,
+            &bells,
+            &mut second,
+            (two, BESIDE as usize),
+            get,
+        );
     for _ in 0..LOOKS {
         if latch.seen.was_beside.load(Ordering::SeqCst) {
             break;
