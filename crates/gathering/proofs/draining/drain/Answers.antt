@@ -1,4 +1,4 @@
-use Rattle.std.proofs.Common.{rules, ◌≡◌, ◌+◌, ap, ◌∙◌, arith, subst, sym, length}
+use Rattle.std.proofs.Common.{rules, ◌≡◌, ap, ◌∙◌, arith, subst, sym, length}
 use Rattle.depot_rule.specs.Sums.{total}
 use Rattle.shared_waiting.specs.Balance.{IsWhole}
 use Rattle.shared_waiting.specs.Passes.{known}
@@ -18,7 +18,7 @@ loop-init g c =
       wide = c.requires.room;
       most = c.count-most.ensures.most;
       counted = counted (known c.args.pass) (known c.count-most.new.pass) c.count-most.result same c.requires.whole c.count-most.ensures.held;
-      count = sym c.args.into.ok.0 ∙ n;
+      count = c.args.into.ok.0 ∙ n;
       picked = omega (arith, p);
       put = ap (λ (u : Passed). u.put) same;
       taken = λ weigh. let a = ap (λ (u : Passed). total weigh u.picked) same in let b = ap (total weigh) none in omega (arith, a, b);
@@ -43,3 +43,12 @@ loop-preserved g c =
       taken = λ weigh. more weigh v w x c.loop.into.items c.push_reserved.new.self.items (total weigh (known c.args.pass).picked) took (i.taken weigh)
           c.push_reserved.ensures.items;
     }
+
+pub returns : goal.returns
+returns g c weigh =
+    let i = c.loop.invariant in
+    let all : c.loop.counter ≡ c.count-most.result = search rules in
+    let n = i.picked in
+    let none = nothing-waits (known c.args.pass) (known c.loop.pass) c.count-most.result c.look.ensures.held.0 i.whole c.look.ensures.held.1
+    i.counted i.put (omega (arith, n, all)) in
+    all-picked weigh (known c.args.pass) (known c.loop.pass) c.loop.into.items i.whole none i.put (i.taken weigh)

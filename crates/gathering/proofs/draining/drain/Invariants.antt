@@ -15,5 +15,5 @@ invariant-loop g l = record {
   count : vec_len l.into ≡ l.counter;
   picked : length (known l.pass).picked ≡ length (known l.fn.pass).picked + l.counter;
   put : (known l.pass).put ≡ (known l.fn.pass).put;
-  taken : (weigh : Message → ℕ) → total weigh (known l.pass).picked ≡ total weigh (known l.fn.pass).picked + total weigh l.into.items
+  taken : (weigh : Message → ℕ) → total weigh (known l.pass).picked ≡ total weigh (known l.fn.pass).picked + total weigh l.into.items;
 }

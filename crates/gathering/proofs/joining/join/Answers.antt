@@ -17,7 +17,7 @@ invariant_of-result c =
       balance = even-both (known x.pass) (known p.pass) (known c.join_pass.result) (entries_of v) (entries_of u) (entries_of w) x.kept.items
           c.push_kept.new.messages.items p.kept c.join_pass.ensures.both c.join_seat.ensures.entries c.push_kept.ensures.items x.balance
           settled.balance;
-      in_hands = hands-both (entries_of v) (entries_of u) (entries_of w) x.hands.items (batches_in p.hand) c.push_batch.new.hands.items
-          c.join_seat.ensures.entries c.push_batch.ensures.items x.in_hands settled.in_hand;
+      in_hand = hands-both (entries_of v) (entries_of u) (entries_of w) x.hands.items (batches_in p.hand) c.push_batch.new.hands.items
+          c.join_seat.ensures.entries c.push_batch.ensures.items x.in_hand settled.in_hand;
       none_open = none-both v u w x.none_open settled.none_open c.join_seat.ensures.no_other;
     }

@@ -1,14 +1,12 @@
-use Rattle.std.proofs.Common.{rules, ◌≡◌, ℕ, ◌+◌, List, ap, subst, arith, sym}
-use Rattle.nfs_model.specs.Parts.{Hand}
+use Rattle.std.proofs.Common.{rules, ap, arith}
 use Rattle.depot_rule.specs.Sums.{total}
 use Rattle.depot_rule.specs.lemmas.Sums.{total-append}
 use Rattle.held_state.specs.Jobs.{batches_in}
 use Rattle.std.specs.Prelude.{option_to_list}
 use Rattle.shared_waiting.specs.Passes.{known}
-use Rattle.workers.specs.declared.worker.Worker.{Worker}
 use Rattle.workers.specs.Balance.{by_key}
 use Rattle.workers.specs.Words.{seats_in, IsIn}
-use Rattle.gathering.specs.Shares.{AreAllWith, carried_by, kept_by}
+use Rattle.gathering.specs.Shares.{carried_by, kept_by}
 use Rattle.gathering.proofs.Joins.{kept-once}
 use Rattle.gathering.proofs.Lists.{all-popped, none-left, total-last}
 use Rattle.gathering.proofs.Sharing.{share-worker, none-more}

@@ -22,7 +22,7 @@ invariant-loop-worker l = record {
   hands : (weigh : Hand → ℕ) → total weigh l.gathered.hands.items + total (carried_by weigh) l.workers.items
       ≡ total weigh l.fn.gathered.hands.items + total (carried_by weigh) l.fn.workers.items;
   kept : (weight : Weight) → total (by_key weight) l.gathered.kept.items + total (kept_by weight) l.workers.items
-      ≡ total (by_key weight) l.fn.gathered.kept.items + total (kept_by weight) l.fn.workers.items
+      ≡ total (by_key weight) l.fn.gathered.kept.items + total (kept_by weight) l.fn.workers.items;
 }
 
 abbrev pub decreases-loop-worker : goal.decreases-loop-worker

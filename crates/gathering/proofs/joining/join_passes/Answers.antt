@@ -1,4 +1,4 @@
-use Rattle.std.proofs.Common.{rules, ◌≡◌, ℕ, ◌+◌, ap, arith}
+use Rattle.std.proofs.Common.{rules, ap, arith}
 use Rattle.depot_rule.specs.Sums.{total}
 use Rattle.shared_waiting.specs.Passes.{known, IsOf}
 use Rattle.gathering.specs.Shares.{put_by, picked_by}

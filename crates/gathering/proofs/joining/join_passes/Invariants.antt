@@ -1,4 +1,4 @@
-use Rattle.std.proofs.Common.{◌≡◌, ◌+◌, ℕ, [], All}
+use Rattle.std.proofs.Common.{◌≡◌, ◌+◌, [], All}
 use Rattle.depot_rule.specs.Sums.{total}
 use Rattle.shared_waiting.specs.Passes.{known, IsOf}
 use Rattle.workers.specs.Balance.{Weight}
@@ -13,7 +13,7 @@ invariant-loop-next l = record {
       ≡ put_by weight l.fn.pass + total (put_by weight) l.fn.passes.items;
   picked : (weight : Weight) → picked_by weight l.pass + total (picked_by weight) l.passes.items
       ≡ picked_by weight l.fn.pass + total (picked_by weight) l.fn.passes.items;
-  share : AreAllWith (known l.fn.pass) [] l.fn.passes.items → AreAllWith (known l.pass) [] l.passes.items
+  share : AreAllWith (known l.fn.pass) [] l.fn.passes.items → AreAllWith (known l.pass) [] l.passes.items;
 }
 
 abbrev pub decreases-loop-next : goal.decreases-loop-next

@@ -14,5 +14,5 @@ invariant-loop l = record {
   left : seats_in l.worker + vec_len l.into ≡ seats_in l.fn.worker;
   halvings : (passed l.worker).halvings ≡ (passed l.fn.worker).halvings + vec_len l.into;
   share : (k : ℕ) → (passed l.fn.worker).halvings + vec_len l.into ≤ k
-      → share_of k l.worker + total (share_of k) l.into.items ≡ share_of k l.fn.worker
+      → share_of k l.worker + total (share_of k) l.into.items ≡ share_of k l.fn.worker;
 }
