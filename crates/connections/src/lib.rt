@@ -1,0 +1,19 @@
+//! Connections of a filer whose workers are other threads: for each, one thread that reads and one
+//! that writes.
+#![tactic(auto)]
+
+mod admitting;
+mod lane;
+mod line;
+mod message;
+mod outgoing;
+mod pool_sink;
+mod reading;
+mod writing;
+
+pub use lane::Lane;
+pub use line::Line;
+pub use outgoing::Outgoing;
+pub use pool_sink::PoolSink;
+pub use reading::read_connection;
+pub use writing::write_connection;
