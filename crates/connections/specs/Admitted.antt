@@ -46,10 +46,10 @@ pub record HasAdmitted (before : Lane) (came : List Arrival) (after : Lane) : Ty
   pub pass : IsHandedBack before.pass after.pass
   pub put : map seen_of (known after.pass).put ≡ map seen_of (known before.pass).put ++ calls_of came
 
--- the lane's pass is of the queue of this filer, whose layout it knows
-pub record IsLaneOf (filer : Filer) (lane : Lane) : Type 0 where
-  pub pass : IsOf filer.waiting lane.pass
-  pub layout : layout_known (known lane.pass) ≡ Some (layout_in filer)
+-- the pass is of the queue of this filer, whose layout it knows
+pub record IsPassFor (filer : Filer) (pass : Pass Message Layout) : Type 0 where
+  pub of : IsOf filer.waiting pass
+  pub layout : layout_known (known pass) ≡ Some (layout_in filer)
 
 -- ---- laws
 
@@ -59,13 +59,13 @@ calls-append (Waits message ∷ xs) ys = ap (λ l. message ∷ l) (calls-append 
 calls-append (Answered reply ∷ xs) ys = calls-append xs ys
 
 pub handed-back-same : (p : Pass Message Layout) → IsHandedBack p p
-handed-back-same p = record { of = λ q h. h; share = (refl, (refl, refl)); picked = refl; }
+handed-back-same p = record { of = λ q h. h; share = (refl, refl, refl); picked = refl; }
 
 pub handed-back-more : (p q r : Pass Message Layout) → IsHandedBack p q → IsHandedBack q r → IsHandedBack p r
 handed-back-more p q r f g =
     record {
       of = λ w h. g.of w (f.of w h);
-      share = (g.share.0 ∙ f.share.0, (g.share.1 ∙ f.share.1, g.share.2 ∙ f.share.2));
+      share = (g.share.0 ∙ f.share.0, g.share.1 ∙ f.share.1, g.share.2 ∙ f.share.2);
       picked = g.picked ∙ f.picked;
     }
 

@@ -20,6 +20,8 @@ pub struct Line {
     taken: AtomicU64,
     /// How many replies there are to be, once no more records are read.
     due: AtomicU64,
+    /// How many of the two threads haven't ended.
+    running: AtomicU64,
 }
 
 impl Line {
@@ -29,6 +31,7 @@ impl Line {
             progress: Bell::new(),
             taken: AtomicU64::new(0),
             due: AtomicU64::new(UNKNOWN),
+            running: AtomicU64::new(2),
         }
     }
 
@@ -40,6 +43,16 @@ impl Line {
     /// From now on nothing more is written.
     pub fn close(&self) {
         self.progress.stop();
+    }
+
+    /// One of the two threads ends.
+    pub fn end_thread(&self) {
+        self.running.fetch_sub(1, Ordering::SeqCst);
+    }
+
+    /// Whether both threads end.
+    pub fn is_over(&self) -> bool {
+        self.running.load(Ordering::SeqCst) == 0
     }
 
     /// Whether no more records are read, and the replies to all were taken.

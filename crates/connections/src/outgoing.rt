@@ -1,7 +1,7 @@
 //! Where the replies of a connection come from.
 
-ghost use Rattle.std.specs.Prelude.{◌≡◌, refl};
-ghost use Rattle.std.proofs.Common.{◌∙◌};
+ghost use Rattle.std.specs.Prelude.{◌≡◌};
+ghost use Rattle.connections.specs.Taken.{same_none, same_more};
 
 use crate::line::Line;
 use nfs_values::ConnectionNumber;
@@ -77,7 +77,7 @@ impl<'a, R: Wait> RecordSource for Outgoing<'a, R> {
         }
     }
 
-    ghost gave_none = { λ s. refl };
+    ghost gave_none = { λ s. same_none s.connection };
 
-    ghost gave_more = { λ s t u ms others f g. g ∙ f };
+    ghost gave_more = { λ s t u ms others f g. same_more s.connection t.connection u.connection f g };
 }

@@ -3,7 +3,7 @@
 ghost use Rattle.std.specs.Prelude.{◌≡◌, Some};
 ghost use Rattle.shared_waiting.specs.Passes.{known, IsOf};
 ghost use Rattle.workers.specs.Words.{layout_in, layout_known};
-ghost use Rattle.connections.specs.Admitted.{HasAdmitted, IsLaneOf};
+ghost use Rattle.connections.specs.Admitted.{HasAdmitted, IsPassFor};
 ghost use Rattle.connections.specs.Admitted.{admitted_none, admitted_more};
 
 use crate::admitting::admit_in_turn;
@@ -48,7 +48,7 @@ impl<'a, R> PoolSink<'a, R> {
         line: &'a Line,
         lane: Lane,
     ) -> PoolSink<'a, R>
-        requires { IsLaneOf filer.now lane }
+        requires { IsPassFor filer.now lane.pass }
         ensures lane { result.lane ≡ lane }
         ensures filer { result.filer.now ≡ filer.now }
     {
@@ -72,7 +72,7 @@ impl<'a, R> PoolSink<'a, R> {
 
     /// The lane.
     pub fn into_lane(self) -> Lane
-        ensures { result ≡ self.lane }
+        ensures { result ≡ self.entry.lane }
     {
         let PoolSink { lane, .. } = self;
         lane

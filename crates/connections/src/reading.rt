@@ -4,7 +4,7 @@ ghost use Rattle.std.specs.Prelude.{◌≡◌};
 ghost use Rattle.tcp_front.specs.Counts.{may_fail};
 ghost use Rattle.tcp_front.specs.Reading.{HasRead};
 ghost use Rattle.workers.specs.Words.{layout_in};
-ghost use Rattle.connections.specs.Admitted.{HasAdmitted, IsLaneOf};
+ghost use Rattle.connections.specs.Admitted.{HasAdmitted, IsPassFor};
 
 use crate::lane::Lane;
 use crate::line::Line;
@@ -30,8 +30,8 @@ pub fn read_connection<W: Wait, R: Read>(
     lane: Lane,
 ) -> (Lane, ReadEnd)
     requires room { may_fail reader.old }
-    requires of { IsLaneOf filer.now lane }
-    ensures of { IsLaneOf filer.now result.0 }
+    requires of { IsPassFor filer.now lane.pass }
+    ensures of { IsPassFor filer.now result.0.pass }
     ensures read { HasRead R.remaining HasAdmitted (layout_in filer.now) lane.connection.0
         reader.old lane result.1 reader.new result.0 }
 {
