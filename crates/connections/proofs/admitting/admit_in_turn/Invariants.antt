@@ -5,7 +5,7 @@ use Rattle.connections.proofs.admitting.admit_in_turn.Given as goal
 
 abbrev pub invariant-loop : goal.invariant-loop
 invariant-loop g l = record {
-  of : IsOf l.fn.waiting.now l.pass;
+  of : IsOf l.fn.waiting l.pass;
   same : known l.pass ≡ known l.fn.pass;
   message : l.next ≡ l.fn.message;
 }
