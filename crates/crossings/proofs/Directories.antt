@@ -1,7 +1,7 @@
 -- Directories may cross threads.
 use denote.Plain.{UInt}
 use mir.Syntax.{w32}
-use denote.Param.Send.{IsSend, IsSync, sendable, view_send, view_sync}
+use denote.Param.Send.{IsSend, sendable, view_send}
 use Rattle.std.proofs.Crossing.{crosses}
 use Rattle.directories.specs.contracts.entries.Entries as Entries
 use Rattle.directories.specs.contracts.entries.Entries.TheInside as EntriesInside

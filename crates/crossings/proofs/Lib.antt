@@ -3,3 +3,4 @@ pub mod Sequences
 pub mod Directories
 pub mod Parcels
 pub mod Outboxes
+pub mod Workers

@@ -1,18 +1,17 @@
 -- Sequences, with all that is under them, may cross threads where their items may.
 use denote.RattleType.{RattleType}
-use denote.Plain.{UInt}
-use denote.Param.Send.{IsSend, IsSync, sendable, view_send, view_sync}
+use denote.Param.Send.{IsSend, sendable, view_send}
 use denote.Struct.Field.{usize-field}
 use denote.Hole.{as_row}
-use Rattle.std.proofs.Crossing.{crosses, Box-send, Box-sync}
-use Rattle.sequences.proofs.tree.Tree.TheLaws.TheKnot.{send-Tree, sync-Tree}
+use Rattle.std.proofs.Crossing.{crosses, Box-send}
+use Rattle.sequences.proofs.tree.Tree.TheLaws.TheKnot.{send-Tree}
 use Rattle.sequences.specs.contracts.tree.Tree as Tree
 use Rattle.sequences.specs.contracts.tree.Node as Node
 use Rattle.sequences.specs.contracts.room.Room as Room
 use Rattle.sequences.specs.contracts.room.Room.TheInside as RoomInside
 use Rattle.sequences.specs.contracts.sequence.Sequence as Sequence
 use Rattle.sequences.specs.contracts.sequence.Sequence.TheInside as SequenceInside
-use Rattle.crossings.proofs.Structs.{struct-send, struct-sync}
+use Rattle.crossings.proofs.Structs.{struct-send}
 
 size-send : IsSend (as_row usize-field)
 size-send = search sendable depth 20
