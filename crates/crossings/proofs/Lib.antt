@@ -1,0 +1,6 @@
+pub mod Structs
+pub mod Sequences
+pub mod Directories
+pub mod Parcels
+pub mod Outboxes
+pub mod Workers

@@ -1,0 +1,50 @@
+-- What the threads of a filer share, and what a worker takes with it, may cross threads.
+use denote.Param.Send.{IsSend, IsSync, sendable}
+use denote.Param.SendFields.{as_row_send, declared_send, declared_sync}
+use Rattle.std.proofs.Crossing.{crosses}
+use Rattle.bells.specs.contracts.bells.Bells as Bells
+use Rattle.bells.proofs.bells.Bells.TheSendSync as bells
+use Rattle.depot.proofs.depot.Depot.TheSendSync as depot
+use Rattle.depot.proofs.seats.Seat.TheSendSync as seat
+use Rattle.nfs_values.proofs.verifier.Verifier.TheSendSync as verifier
+use Rattle.nfs_values.proofs.call.Call.TheSendSync as call
+use Rattle.nfs_values.proofs.credential.Credential.TheSendSync as credential
+use Rattle.affinity_tree.proofs.affinity.Affinity.TheSendSync as affinity
+use Rattle.outboxes.specs.contracts.room.Room as Room
+use Rattle.parcel_sets.proofs.family.Parcel.TheSendSync as parcel
+use Rattle.parcels.proofs.range.RangeParcel.TheSendSync as range
+use Rattle.parcels.proofs.stripe.StripeParcel.TheSendSync as stripe
+use Rattle.scheduler.proofs.message.Origin.TheSendSync as origin
+use Rattle.scheduler.specs.contracts.message.Origin as Origin
+use Rattle.service.proofs.batch.BatchInHand.TheSendSync as batch
+use Rattle.shared_waiting.proofs.pass.Pass.TheSendSync as pass
+use Rattle.shared_waiting.proofs.pass.SharedWaiting.TheSendSync as waiting
+use Rattle.workers.specs.contracts.message.Message as Message
+use Rattle.workers.specs.contracts.shared.Filer as Filer
+use Rattle.workers.specs.contracts.worker.Worker as Worker
+use Rattle.crossings.proofs.Outboxes.{room-send, outboxes-send}
+use Rattle.crossings.proofs.Parcels.{logical-parcel-send}
+
+pub message-send : IsSend Message.the_row
+message-send = declared_send Message.the_type (as_row_send Origin.the_field origin.the_field_send, (search (call.the_send, sendable) depth 20,
+    (search (credential.the_send, sendable) depth 20, (search (affinity.the_send, sendable) depth 20, (as_row_send Room.the_field room-send, tt)))))
+
+pub worker-send : IsSend Worker.the_row
+worker-send = declared_send Worker.the_type (search (seat.the_send, sendable) depth 20, (search (pass.the_send, message-send, sendable) depth 20,
+    (search (batch.the_send, sendable) depth 20, (search (message-send, crosses, sendable) depth 20, tt))))
+
+pub filer-send : IsSend Filer.the_row
+filer-send = declared_send Filer.the_type (search (crosses, sendable), (search (verifier.the_send, sendable),
+    (search (depot.the_send, parcel.the_send, range.the_send, stripe.the_send, logical-parcel-send, crosses, sendable) depth 20,
+    (search (waiting.the_send, message-send, sendable), (search (outboxes-send, crosses, sendable), tt)))))
+
+pub filer-sync : IsSync Filer.the_row
+filer-sync = declared_sync Filer.the_type (search (crosses, sendable) depth 20, (search (verifier.the_sync, sendable) depth 20,
+    (search (depot.the_sync, parcel.the_send, range.the_send, stripe.the_send, logical-parcel-send, crosses, sendable) depth 20,
+    (search (waiting.the_sync, message-send, sendable) depth 20, (search (outboxes-send, crosses, sendable) depth 20, tt)))))
+
+pub bells-send : IsSend Bells.the_row
+bells-send = search (bells.the_send, sendable) depth 20
+
+pub bells-sync : IsSync Bells.the_row
+bells-sync = search (bells.the_sync, sendable) depth 20
