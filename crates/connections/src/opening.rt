@@ -60,7 +60,7 @@ fn share(
 }
 
 /// Makes what the two threads have of a connection's stream.
-fn parts(
+fn prepare(
     alloc: Global,
     shared: &Shared,
     stream: TcpStream,
@@ -173,7 +173,7 @@ impl Connection {
                 return Err(Refused { why, pass });
             }
         };
-        let started = match parts(alloc, shared, stream, connection) {
+        let started = match prepare(alloc, shared, stream, connection) {
             Ok(parts) => start(rt, alloc, parts, Lane { connection, pass }),
             Err(why) => Err(Refused { why, pass }),
         };
