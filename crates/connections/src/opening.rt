@@ -95,7 +95,10 @@ fn start_reader<R: Threads + Wait + Copy + Send + 'static>(
     let run = move || -> Pass<Message, Layout>
         requires { IsPassFor (arc_value reading.shared.filer) reading.lane.pass }
         ensures { IsHandedBack reading.lane.pass result }
-    { read_on(&rt, reading) };
+    {
+        let reading = reading;
+        read_on(&rt, reading)
+    };
     match thread::spawn_with(&rt, promise, run) {
         Ok(handle) => Ok(handle),
         Err(refused) => {
@@ -136,7 +139,11 @@ fn start<R: Threads + Wait + Copy + Send + 'static>(
         Ok(reader) => reader,
         Err(pass) => return Err(Refused { why, pass }),
     };
-    match thread::spawn(&rt, move || write_on(&rt, writing)) {
+    let run = move || {
+        let writing = writing;
+        write_on(&rt, writing)
+    };
+    match thread::spawn(&rt, run) {
         Ok(writer) => Ok(Connection {
             line,
             reader,
