@@ -25,10 +25,9 @@ fn reap_one<R: Threads>(
 )
     requires idle { vec_len idle.old + 1 ≤ vec_capacity idle.old }
     requires others { vec_len others.old + 1 ≤ vec_capacity others.old }
-    ensures readers { (filer : Filer) → IsServedFor filer connection
-        → All (IsReaderOf filer) idle.old.items → All (IsReaderOf filer) idle.new.items }
-    ensures served { (filer : Filer) → IsServedFor filer connection
-        → All (IsServedFor filer) others.old.items → All (IsServedFor filer) others.new.items }
+    ensures all { (filer : Filer) → IsServedFor filer connection
+        → All (IsReaderOf filer) idle.old.items → All (IsServedFor filer) others.old.items
+        → All (IsReaderOf filer) idle.new.items × All (IsServedFor filer) others.new.items }
     ensures count { vec_len idle.new + vec_len others.new
         ≡ vec_len idle.old + vec_len others.old + 1 }
     ensures share { (k : ℕ) → total (share_of k) idle.new.items
@@ -43,6 +42,53 @@ fn reap_one<R: Threads>(
     } else {
         others.push_reserved(connection);
     }
+}
+
+/// Takes the passes back of all connections whose threads have ended, and keeps the others.
+fn reap_all<R: Threads>(
+    rt: &R,
+    idle: &mut Vec<Pass<Message, Layout>>,
+    open: &mut Vec<Connection>,
+    others: &mut Vec<Connection>,
+)
+    requires idle { vec_len idle.old + vec_len open.old ≤ vec_capacity idle.old }
+    requires others { vec_len others.old + vec_len open.old ≤ vec_capacity others.old }
+    ensures all { (filer : Filer) → All (IsServedFor filer) open.old.items
+        → All (IsReaderOf filer) idle.old.items → All (IsServedFor filer) others.old.items
+        → All (IsReaderOf filer) idle.new.items × All (IsServedFor filer) others.new.items }
+    ensures none { vec_len open.new ≡ 0 }
+    ensures count { vec_len idle.new + vec_len others.new
+        ≡ vec_len idle.old + vec_len others.old + vec_len open.old }
+    ensures share { (k : ℕ) → total (share_of k) idle.new.items
+        + total (share_lent k) others.new.items
+        ≡ total (share_of k) idle.old.items + total (share_lent k) others.old.items
+        + total (share_lent k) open.old.items }
+    ensures room { (vec_capacity idle.new ≡ vec_capacity idle.old)
+        × (vec_capacity others.new ≡ vec_capacity others.old)
+        × (vec_capacity open.new ≡ vec_capacity open.old) }
+{
+    while let Some(connection) = open.pop() {
+        reap_one(rt, connection, idle, others);
+    }
+}
+
+/// Waits for the ends of connections, and takes their passes back.
+fn join_all<R: Threads>(
+    rt: &R,
+    mut idle: Vec<Pass<Message, Layout>>,
+    mut open: Vec<Connection>,
+) -> Vec<Pass<Message, Layout>>
+    requires { vec_len idle + vec_len open ≤ vec_capacity idle }
+    ensures readers { (filer : Filer) → All (IsServedFor filer) open.items
+        → All (IsReaderOf filer) idle.items → All (IsReaderOf filer) result.items }
+    ensures count { vec_len result ≡ vec_len idle + vec_len open }
+    ensures share { (k : ℕ) → total (share_of k) result.items
+        ≡ total (share_of k) idle.items + total (share_lent k) open.items }
+{
+    while let Some(connection) = open.pop() {
+        idle.push_reserved(connection.join(rt));
+    }
+    idle
 }
 
 impl Slots {
@@ -61,9 +107,7 @@ impl Slots {
         ensures slots { (filer : Filer) → AreSlotsOf filer self.old → AreSlotsOf filer self.new }
         ensures share { (k : ℕ) → share_in k self.new ≡ share_in k self.old }
     {
-        while let Some(connection) = self.open.pop() {
-            reap_one(rt, connection, &mut self.idle, &mut self.others);
-        }
+        reap_all(rt, &mut self.idle, &mut self.open, &mut self.others);
         mem::swap(&mut self.open, &mut self.others);
     }
 
@@ -104,13 +148,10 @@ impl Slots {
         ensures share { (k : ℕ) → total (share_of k) result.items ≡ share_in k self }
     {
         let Slots {
-            mut idle,
-            mut open,
+            idle,
+            open,
             others: _,
         } = self;
-        while let Some(connection) = open.pop() {
-            idle.push_reserved(connection.join(rt));
-        }
-        idle
+        join_all(rt, idle, open)
     }
 }
