@@ -1,0 +1,29 @@
+-- What the threads of a connection take with them may cross threads.
+use denote.Param.Send.{IsSend, sendable}
+use denote.Param.SendFields.{as_row_send, declared_send}
+use Rattle.std.proofs.Crossing.{crosses}
+use Rattle.std.proofs.net.tcp.TcpStream.TheSendSync as stream
+use Rattle.bells.proofs.bell.Bell.TheSendSync as bell
+use Rattle.nfs_values.proofs.number.ConnectionNumber.TheSendSync as number
+use Rattle.shared_waiting.proofs.pass.Pass.TheSendSync as pass
+use Rattle.crossings.proofs.Workers.{message-send, filer-send, filer-sync, bells-send, bells-sync}
+use Rattle.connections.proofs.line.Line.TheSendSync as line
+use Rattle.connections.specs.contracts.lane.Lane as Lane
+use Rattle.connections.specs.contracts.shared.Shared as Shared
+use Rattle.connections.specs.contracts.tasks.Reading as Reading
+use Rattle.connections.specs.contracts.tasks.Writing as Writing
+
+pub lane-send : IsSend Lane.the_row
+lane-send = declared_send Lane.the_type (search (number.the_send, sendable) depth 20, (search (pass.the_send, message-send, sendable) depth 20, tt))
+
+pub shared-send : IsSend Shared.the_row
+shared-send = declared_send Shared.the_type (search (filer-send, filer-sync, crosses, sendable) depth 20,
+    (search (bells-send, bells-sync, crosses, sendable) depth 20, (search (bell.the_send, bell.the_sync, crosses, sendable) depth 20, tt)))
+
+pub reading-send : IsSend Reading.the_row
+reading-send = declared_send Reading.the_type (search (crosses, sendable) depth 20, (as_row_send Shared.the_field shared-send,
+    (search (line.the_send, line.the_sync, crosses, sendable) depth 20, (search (stream.the_send, sendable) depth 20, (as_row_send Lane.the_field lane-send, tt)))))
+
+pub writing-send : IsSend Writing.the_row
+writing-send = declared_send Writing.the_type (search (crosses, sendable) depth 20, (as_row_send Shared.the_field shared-send,
+    (search (line.the_send, line.the_sync, crosses, sendable) depth 20, (search (stream.the_send, sendable) depth 20, (search (number.the_send, sendable) depth 20, tt)))))
