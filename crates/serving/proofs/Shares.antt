@@ -53,7 +53,7 @@ pub first-reads : (filer : Filer) (p first : Pass Message Layout) → IsReaderOf
     → known first ≡ left (known p) → IsReaderOf filer first
 first-reads filer p first reader of l =
     record {
-      pass = record { of = of; layout = ap (λ (v : Passed). option_map layout_of v.key) l ∙ reader.pass.layout; };
+      pass = record { of = of; layout = ap (λ (v : Passed). option_map layout_of v.key) l ∙ reader.pass.layout };
       picked = ap (λ (v : Passed). v.picked) l ∙ reader.picked;
     }
 
@@ -61,6 +61,6 @@ pub second-reads : (filer : Filer) (p second : Pass Message Layout) → IsReader
     → known second ≡ right (known p) → IsReaderOf filer second
 second-reads filer p second reader of r =
     record {
-      pass = record { of = of; layout = ap (λ (v : Passed). option_map layout_of v.key) r ∙ reader.pass.layout; };
+      pass = record { of = of; layout = ap (λ (v : Passed). option_map layout_of v.key) r ∙ reader.pass.layout };
       picked = ap (λ (v : Passed). v.picked) r;
     }

@@ -37,11 +37,11 @@ fn reap_one<R: Threads>(
     ensures room { (vec_capacity idle.new ≡ vec_capacity idle.old)
         × (vec_capacity others.new ≡ vec_capacity others.old) }
 {
-    if connection.is_over() {
-        idle.push_reserved(connection.join(rt));
-    } else {
+    if !connection.is_over() {
         others.push_reserved(connection);
+        return;
     }
+    idle.push_reserved(connection.join(rt));
 }
 
 /// Takes the passes back of all connections whose threads have ended, and keeps the others.

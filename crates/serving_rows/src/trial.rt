@@ -19,23 +19,7 @@ const NULL: [u32; 11] = [0x8000_0028, 1, 0, 2, 100_003, 3, 0, 0, 0, 0, 0];
 const NULL_REPLY: [u32; 7] = [0x8000_0018, 1, 1, 0, 0, 0, 0];
 
 /// A GETATTR call of the root, xid 2 (RFC 1813 section 3.3.1).
-const GETATTR: [u32; 15] = [
-    0x8000_0038,
-    2,
-    0,
-    2,
-    100_003,
-    3,
-    1,
-    0,
-    0,
-    0,
-    0,
-    12,
-    0,
-    0,
-    1,
-];
+const GETATTR: [u32; 15] = [0x8000_0038, 2, 0, 2, 100_003, 3, 1, 0, 0, 0, 0, 12, 0, 0, 1];
 
 /// The head of its reply: SUCCESS, NFS3_OK, a directory.
 const GETATTR_HEAD: [u32; 9] = [0x8000_0070, 2, 1, 0, 0, 0, 0, 0, 2];
@@ -114,14 +98,20 @@ fn answers_over_a_socket(rt: HostRuntime) {
     let mut slots = Slots::new(alloc, &filer, readers).expect(&rt, "no memory");
     let shared = Shared {
         filer: Arc::new(alloc, filer).ok().expect(&rt, "no memory"),
-        bells: Arc::new(alloc, Bells::new(alloc).expect(&rt, "no memory")).ok().expect(&rt, "no memory"),
+        bells: Arc::new(alloc, Bells::new(alloc).expect(&rt, "no memory"))
+            .ok()
+            .expect(&rt, "no memory"),
         ended: Arc::new(alloc, Bell::new()).ok().expect(&rt, "no memory"),
     };
     let listener = TcpListener::bind(&rt, "127.0.0.1:0").expect(&rt, "a listener");
     let address = listener.local_addr().expect(&rt, "an address");
     let mut client = TcpStream::connect(&rt, address).expect(&rt, "a connection");
-    client.write_all(&bytes_of(&rt, &NULL)).expect(&rt, "a call");
-    client.write_all(&bytes_of(&rt, &GETATTR)).expect(&rt, "a call");
+    client
+        .write_all(&bytes_of(&rt, &NULL))
+        .expect(&rt, "a call");
+    client
+        .write_all(&bytes_of(&rt, &GETATTR))
+        .expect(&rt, "a call");
     let served = serve(rt, alloc, &shared, &listener, 1, &mut slots);
     assert!(&rt; served.is_ok());
     let null = receive(&rt, &mut client, 28);

@@ -12,7 +12,7 @@ invariant-loop-connection g l = record {
       → All (IsServedFor filer) l.open.items × All (IsReaderOf filer) l.idle.items;
   count : vec_len l.idle + vec_len l.open ≡ vec_len l.fn.idle + vec_len l.fn.open;
   share : (k : ℕ) → total (share_of k) l.idle.items + total (share_lent k) l.open.items
-      ≡ total (share_of k) l.fn.idle.items + total (share_lent k) l.fn.open.items
+      ≡ total (share_of k) l.fn.idle.items + total (share_lent k) l.fn.open.items;
 }
 
 abbrev pub decreases-loop-connection : goal.decreases-loop-connection

@@ -17,7 +17,7 @@ invariant-loop-connection g l = record {
       ≡ total (share_of k) l.fn.idle.items + total (share_lent k) l.fn.others.items + total (share_lent k) l.fn.open.items;
   idle_same : vec_capacity l.idle ≡ vec_capacity l.fn.idle;
   others_same : vec_capacity l.others ≡ vec_capacity l.fn.others;
-  open_same : vec_capacity l.open ≡ vec_capacity l.fn.open
+  open_same : vec_capacity l.open ≡ vec_capacity l.fn.open;
 }
 
 abbrev pub decreases-loop-connection : goal.decreases-loop-connection
