@@ -1,5 +1,5 @@
 -- Shares of passes that are split or handed back.
-use Rattle.std.proofs.Common.{◌≡◌, ◌≤◌, ℕ, zero, suc, ◌+◌, ◌-◌, ◌*◌, ◌^◌, [], ap, sym, subst, ◌∙◌, arith}
+use Rattle.std.proofs.Common.{◌≡◌, ◌≤◌, ℕ, zero, suc, ◌+◌, ◌-◌, ◌*◌, ◌^◌, [], refl, ap, sym, subst, ◌∙◌, arith}
 use Rattle.std.specs.Prelude.{option_map}
 use Rattle.affinity_tree.specs.declared.layout.Layout.{Layout}
 use Rattle.affinity_tree.specs.Layout.{layout_of}
@@ -21,9 +21,9 @@ same-share k p q back =
 pub reads-on : (filer : Filer) (p q : Pass Message Layout) → IsReaderOf filer p → IsHandedBack p q → IsReaderOf filer q
 reads-on filer p q reader back =
     record {
-      pass = record {
-        of = back.of filer.waiting reader.pass.of;
-        layout = ap (λ key. option_map layout_of key) back.share.2 ∙ reader.pass.layout;
+      reads = record {
+        of = back.of filer.waiting reader.reads.of;
+        layout = ap (λ key. option_map layout_of key) back.share.2 ∙ reader.reads.layout;
       };
       picked = back.picked ∙ reader.picked;
     }
@@ -53,7 +53,7 @@ pub first-reads : (filer : Filer) (p first : Pass Message Layout) → IsReaderOf
     → known first ≡ left (known p) → IsReaderOf filer first
 first-reads filer p first reader of l =
     record {
-      pass = record { of = of; layout = ap (λ (v : Passed). option_map layout_of v.key) l ∙ reader.pass.layout };
+      reads = record { of = of; layout = ap (λ (v : Passed). option_map layout_of v.key) l ∙ reader.reads.layout };
       picked = ap (λ (v : Passed). v.picked) l ∙ reader.picked;
     }
 
@@ -61,6 +61,6 @@ pub second-reads : (filer : Filer) (p second : Pass Message Layout) → IsReader
     → known second ≡ right (known p) → IsReaderOf filer second
 second-reads filer p second reader of r =
     record {
-      pass = record { of = of; layout = ap (λ (v : Passed). option_map layout_of v.key) r ∙ reader.pass.layout };
+      reads = record { of = of; layout = ap (λ (v : Passed). option_map layout_of v.key) r ∙ reader.reads.layout };
       picked = ap (λ (v : Passed). v.picked) r;
     }
