@@ -1,5 +1,6 @@
 -- Shares of passes that are split or handed back.
 use Rattle.std.proofs.Common.{◌≡◌, ◌≤◌, ℕ, zero, suc, ◌+◌, ◌-◌, ◌*◌, ◌^◌, [], refl, ap, sym, subst, ◌∙◌, arith}
+use Rattle.std.proofs.lemmas.Nat.{pow-add}
 use Rattle.std.specs.Prelude.{option_map}
 use Rattle.affinity_tree.specs.declared.layout.Layout.{Layout}
 use Rattle.affinity_tree.specs.Layout.{layout_of}
@@ -30,8 +31,8 @@ reads-on filer p q reader back =
 
 -- ---- two halves
 
-power-halves : (n m : ℕ) → n ≡ suc m → 2 ^ n ≡ 2 ^ m + 2 ^ m
-power-halves n m e = let p = ap (λ j. 2 ^ j) e in let q : 2 ^ suc m ≡ 2 * 2 ^ m = refl in omega (arith, p, q)
+power-halves : (n m : ℕ) → n ≡ m + 1 → 2 ^ n ≡ 2 ^ m + 2 ^ m
+power-halves n m e = let p : 2 ^ n ≡ 2 ^ m * 2 ^ 1 = ap (λ j. 2 ^ j) e ∙ pow-add 2 m 1 in omega (arith, p)
 
 spread : (a b c d : ℕ) → b ≡ c + d → a * b ≡ a * c + a * d
 spread zero b c d e = omega arith

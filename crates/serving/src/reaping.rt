@@ -30,6 +30,8 @@ fn reap_one<R: Threads>(
         → All (IsReaderOf filer) idle.new.items × All (IsServedFor filer) others.new.items }
     ensures count { vec_len idle.new + vec_len others.new
         ≡ vec_len idle.old + vec_len others.old + 1 }
+    ensures grow { (vec_len idle.old ≤ vec_len idle.new)
+        × (vec_len others.old ≤ vec_len others.new) }
     ensures share { (k : ℕ) → total (share_of k) idle.new.items
         + total (share_lent k) others.new.items
         ≡ share_lent k connection
