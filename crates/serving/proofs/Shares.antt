@@ -1,10 +1,10 @@
 -- Shares of passes that are split or handed back.
-use Rattle.std.proofs.Common.{◌≡◌, ◌≤◌, ℕ, zero, suc, ◌+◌, ◌-◌, ◌*◌, ◌^◌, [], refl, ap, sym, subst, ◌∙◌, arith}
+use Rattle.std.proofs.Common.{◌≡◌, ◌≤◌, ℕ, zero, suc, ◌+◌, ◌-◌, ◌*◌, ◌^◌, ap, ◌∙◌, arith}
 use Rattle.std.proofs.lemmas.Nat.{pow-add}
 use Rattle.std.specs.Prelude.{option_map}
 use Rattle.affinity_tree.specs.declared.layout.Layout.{Layout}
 use Rattle.affinity_tree.specs.Layout.{layout_of}
-use Rattle.connections.specs.Admitted.{IsHandedBack, IsPassFor}
+use Rattle.connections.specs.Admitted.{IsHandedBack}
 use Rattle.shared_waiting.specs.Balance.{left, right}
 use Rattle.shared_waiting.specs.Passes.{known, IsOf}
 use Rattle.shared_waiting.specs.declared.pass.Pass.{Pass}

@@ -1,5 +1,5 @@
 -- Passes that wait for connections or are lent to them.
-use Rattle.std.specs.Prelude.{◌≡◌, ◌≤◌, ℕ, ◌+◌, [], All}
+use Rattle.std.specs.Prelude.{◌≡◌, ℕ, ◌+◌, [], All}
 use Rattle.affinity_tree.specs.declared.layout.Layout.{Layout}
 use Rattle.connections.specs.Admitted.{IsPassFor}
 use Rattle.connections.specs.Opened.{lent_to}

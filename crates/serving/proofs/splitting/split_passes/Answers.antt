@@ -1,6 +1,8 @@
-use Rattle.std.proofs.Common.{◌≡◌, ◌≤◌, ◌+◌, ap, ◌∙◌, arith}
-use Rattle.std.proofs.lemmas.Bool.Decides.{nat_tests}
-use Rattle.shared_waiting.specs.Passes.{known}
+use Rattle.std.proofs.Common.{◌≤◌, ◌+◌, ap, subst, ◌∙◌, arith}
+use Rattle.affinity_tree.specs.declared.layout.Layout.{Layout}
+use Rattle.shared_waiting.specs.Passes.{known, IsOf}
+use Rattle.shared_waiting.specs.declared.pass.SharedWaiting.{SharedWaiting}
+use Rattle.workers.specs.declared.message.Message.{Message}
 use Rattle.workers.specs.Balance.{Passed}
 use Rattle.serving.specs.Places.{share_of, IsReaderOf}
 use Rattle.serving.proofs.Handed.{all-pushed, total-pushed}
@@ -16,6 +18,9 @@ loop-preserved c =
     let second = c.split_pass-first.result.1 in
     let l = c.split_pass-first.ensures.first in
     let r = c.split_pass-first.ensures.second in
+    let of = c.split_pass-first.ensures.of in
+    let of-first = subst (λ (q : SharedWaiting Message Layout). IsOf q first) c.waiting.ensures of.0 in
+    let of-second = subst (λ (q : SharedWaiting Message Layout). IsOf q second) c.waiting.ensures of.1 in
     let was = c.loop.into.items in
     let now = c.push_reserved.new.self.items in
     let is = c.push_reserved.ensures.items in
@@ -27,8 +32,8 @@ loop-preserved c =
     record {
       count = omega (arith, len, count);
       room = c.push_reserved.ensures.capacity ∙ i.room;
-      rest = first-reads filer rest first i.rest c.split_pass-first.ensures.of.0 l;
-      readers = all-pushed (IsReaderOf filer) was now second is i.readers (second-reads filer rest second i.rest c.split_pass-first.ensures.of.1 r);
+      rest = first-reads filer rest first i.rest of-first l;
+      readers = all-pushed (IsReaderOf filer) was now second is i.readers (second-reads filer rest second i.rest of-second r);
       halvings = omega (arith, deeper, cut, len);
       share = λ k le.
         let deep : (known rest).halvings + 1 ≤ k = omega (arith, le, cut, count, below) in
