@@ -56,6 +56,10 @@ impl Slots {
         let served = Vec::with_capacity(alloc, PLACES)?;
         let others = Vec::with_capacity(alloc, PLACES)?;
         let idle = split_passes(filer, pass, PLACES - 1, idle);
-        Ok(Slots { idle, served, others })
+        Ok(Slots {
+            idle,
+            served,
+            others,
+        })
     }
 }

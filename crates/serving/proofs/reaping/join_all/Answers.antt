@@ -24,14 +24,14 @@ loop-connection-preserved g c =
     record {
       room = omega (arith, a, b, l, r);
       readers = λ filer served readers.
-        let both = i.readers filer served readers in
-        let popped = all-popped (IsServedFor filer) all rest x was both.0 in
-        (popped.0, all-pushed (IsReaderOf filer) xs ys w is both.1 (reads-on filer (lent_to x) w popped.1 c.join.ensures));
+          let both = i.readers filer served readers in
+          let popped = all-popped (IsServedFor filer) all rest x was both.0 in
+          (popped.0, all-pushed (IsReaderOf filer) xs ys w is both.1 (reads-on filer (lent_to x) w popped.1 c.join.ensures));
       count = omega (arith, a, l, n);
       share = λ k.
-        let t = total-pushed (share_of k) xs ys w is in
-        let u = total-pushed (share_lent k) rest all x was in
-        let s = same-share k (lent_to x) w c.join.ensures in
-        let j = i.share k in
-        omega (arith, t, u, s, j);
+          let t = total-pushed (share_of k) xs ys w is in
+          let u = total-pushed (share_lent k) rest all x was in
+          let s = same-share k (lent_to x) w c.join.ensures in
+          let j = i.share k in
+          omega (arith, t, u, s, j);
     }

@@ -23,16 +23,16 @@ loop-connection-preserved g c =
       idle_room = omega (arith, l, n, more, most, a, b, r, q);
       others_room = omega (arith, l, n, more, most, a, b, r, q);
       all = λ filer served readers others.
-        let both = i.all filer served readers others in
-        let popped = all-popped (IsServedFor filer) all rest x was both.0 in
-        let now = c.reap_one.ensures.all filer popped.1 both.1 both.2 in
-        (popped.0, now.0, now.1);
+          let both = i.all filer served readers others in
+          let popped = all-popped (IsServedFor filer) all rest x was both.0 in
+          let now = c.reap_one.ensures.all filer popped.1 both.1 both.2 in
+          (popped.0, now.0, now.1);
       count = omega (arith, l, n, m);
       share = λ k.
-        let t = total-pushed (share_lent k) rest all x was in
-        let s = c.reap_one.ensures.share k in
-        let j = i.share k in
-        omega (arith, t, s, j);
+          let t = total-pushed (share_lent k) rest all x was in
+          let s = c.reap_one.ensures.share k in
+          let j = i.share k in
+          omega (arith, t, s, j);
       idle_same = a ∙ i.idle_same;
       others_same = b ∙ i.others_same;
       served_same = c.in-Some.ensures.capacity ∙ i.served_same;

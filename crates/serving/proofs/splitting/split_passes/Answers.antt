@@ -36,11 +36,11 @@ loop-preserved c =
       readers = all-pushed (IsReaderOf filer) was now second is i.readers (second-reads filer rest second i.rest of-second r);
       halvings = omega (arith, deeper, cut, len);
       share = λ k le.
-        let deep : (known rest).halvings + 1 ≤ k = omega (arith, le, cut, count, below) in
-        let t = total-pushed (share_of k) was now second is in
-        let h = halves k rest first second deep l r in
-        let s = i.share k le in
-        omega (arith, t, h, s);
+          let deep : (known rest).halvings + 1 ≤ k = omega (arith, le, cut, count, below) in
+          let t = total-pushed (share_of k) was now second is in
+          let h = halves k rest first second deep l r in
+          let s = i.share k le in
+          omega (arith, t, h, s);
     }
 
 pub returns-clause-share : goal.returns-clause-share
