@@ -33,3 +33,6 @@ loop-thread-preserved g c =
       seats = handed seats_in seats_with xs ys all rest w t is was heir.1 ∙ i.seats;
       share = λ k. handed (share_of k) (share_with k) xs ys all rest w t is was (same-share k (started_with t) w heir) ∙ i.share k;
     }
+
+pub returns-clause-inside : goal.returns-clause-inside
+returns-clause-inside g c filer serves workers = (c.loop-thread.invariant.inside filer serves workers).1
