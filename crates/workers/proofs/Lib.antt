@@ -3,6 +3,7 @@ mod Grants
 mod Served
 mod Turning
 mod Started
+mod Begun
 mod Batches
 mod Added
 mod Ran

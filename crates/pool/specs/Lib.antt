@@ -1,0 +1,4 @@
+pub mod Heirs
+pub mod Rests
+pub mod Threads
+pub mod Pools

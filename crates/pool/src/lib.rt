@@ -1,0 +1,17 @@
+//! A pool: threads, each of which runs a worker of one filer, until they are stopped.
+#![tactic(auto)]
+
+mod collecting;
+mod moments;
+mod patience;
+mod pool;
+mod refusal;
+mod round;
+mod serving;
+mod starting;
+mod task;
+mod tending;
+mod watch;
+
+pub use pool::Pool;
+pub use refusal::{NotStarted, StartRefusal};

@@ -1,0 +1,103 @@
+//! A round of a worker's thread.
+
+ghost use Rattle.pool.specs.Heirs.{IsHeir};
+ghost use Rattle.workers.specs.Words.{IsIn};
+
+use crate::tending::{Found, sleep, tend};
+use crate::watch::Watch;
+use bells::Bells;
+use nfs_values::ConnectionNumber;
+use std::rt::Clock;
+use std::sync::Wait;
+use workers::{Filer, Gate, Worked, Worker};
+
+/// Rings where a call was finished: for who writes to its connection, for who waits for a place in
+/// the queue, and for another worker, since there may be more to do.
+fn ring_done(bells: &Bells, connection: ConnectionNumber) {
+    bells.mail(connection).ring_all();
+    bells.room.ring();
+    bells.work.ring();
+}
+
+/// Puts down what is in the worker's hand, if anything is.
+fn put_down(filer: &Filer, bells: &Bells, worker: Worker, watch: &mut Watch) -> Worker
+    requires { IsIn filer.now worker }
+    ensures inside { IsIn filer.now result }
+    ensures heir { IsHeir worker result }
+{
+    if worker.has_empty_hand() {
+        return worker;
+    }
+    let (worker, found) = tend(filer, worker, &mut watch.tending);
+    match found {
+        Found::Blocks => bells.work.ring(),
+        Found::Nothing => {}
+        Found::NoMemory => {}
+        Found::Busy => {}
+    }
+    worker
+}
+
+/// One tend, where no message was there. Then the thread sleeps, if it may.
+fn rest<R: Wait + Clock>(
+    rt: &R,
+    filer: &Filer,
+    bells: &Bells,
+    seen: u64,
+    worker: Worker,
+    watch: &mut Watch,
+) -> Worker
+    requires { IsIn filer.now worker }
+    ensures inside { IsIn filer.now result }
+    ensures heir { IsHeir worker result }
+{
+    let (worker, found) = tend(filer, worker, &mut watch.tending);
+    match found {
+        Found::Blocks => bells.work.ring(),
+        Found::Busy => watch.patience.wait(rt),
+        Found::Nothing => {}
+        Found::NoMemory => {}
+    }
+    if watch.tending.may_sleep(filer, &worker) {
+        sleep(rt, filer, bells, seen, &worker, &watch.tending);
+    }
+    worker
+}
+
+/// One turn of the worker, and what follows from what it came to.
+pub(crate) fn round<R: Wait + Clock, G: Gate>(
+    rt: &R,
+    filer: &Filer,
+    bells: &Bells,
+    gate: &G,
+    worker: Worker,
+    watch: &mut Watch,
+) -> Worker
+    requires { IsIn filer.now worker }
+    ensures inside { IsIn filer.now result }
+    ensures heir { IsHeir worker result }
+{
+    let seen = bells.work.rings();
+    let moment = watch.time(rt);
+    let (worker, worked) = worker.worker_turn(filer, rt, gate, moment);
+    match worked {
+        Worked::Done(connection) => {
+            ring_done(bells, connection);
+            watch.begin_anew();
+            worker
+        }
+        Worked::Moved => {
+            bells.work.ring();
+            put_down(filer, bells, worker, watch)
+        }
+        Worked::Busy { node: _, word: _ } => {
+            watch.patience.wait(rt);
+            worker
+        }
+        Worked::Worn => {
+            watch.patience.wait(rt);
+            worker
+        }
+        Worked::Idle => rest(rt, filer, bells, seen, worker, watch),
+    }
+}
