@@ -1,8 +1,11 @@
 //! Where what is read of a connection goes.
 
-ghost use Rattle.std.specs.Prelude.{◌≡◌, ◌≤◌, List, [], ◌∷◌, ◌++◌, length, OnOk, OnErr};
+ghost use Rattle.std.specs.Prelude.{◌≡◌, ◌≤◌, List, [], ◌∷◌, ◌++◌, Some, length, OnOk, OnErr};
+ghost use Rattle.nfs_model.specs.Home.{home};
 ghost use Rattle.nfs_model.specs.Tree as trees;
+ghost use Rattle.nfs_values.specs.Call.{call_of};
 ghost use Rattle.nfs_values.specs.Reply.{reply_of};
+ghost use Rattle.affinity_tree.specs.Affinity.{affinity_of};
 ghost use Rattle.engine_feed.specs.Seen.{message_of};
 ghost use Rattle.engine_feed.specs.Sound.{IsAdmitted};
 ghost use Rattle.outboxes.specs.Boxes.{addressed, most_bytes};
@@ -22,9 +25,12 @@ pub trait RecordSink {
     // The layout by which the calls that it takes are at home.
     ghost layout: { Self → trees.Layout };
 
-    /// Admits a call, and waits while there is no place for it.
+    /// Admits a call that tries its home, and waits while there is no place for it.
     fn admit(&mut self, message: Message<OfferedCall>) -> Result<(), AllocError>
-        requires { IsAdmitted (layout self.old) message }
+        requires admitted { IsAdmitted (layout self.old) message }
+        requires at_home { home (layout self.old) (call_of message.call)
+            ≡ Some (affinity_of message.affinity) }
+        requires short { message.room ≤ most_bytes }
         ensures ok { OnOk result (came self.old (Waits (message_of message) ∷ []) self.new) }
         ensures err { OnErr result (came self.old [] self.new) }
         ensures layout { layout self.new ≡ layout self.old };

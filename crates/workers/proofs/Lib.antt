@@ -3,7 +3,6 @@ mod Grants
 mod Served
 mod Turning
 mod Started
-mod Begun
 mod Batches
 mod Added
 mod Ran

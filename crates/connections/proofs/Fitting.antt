@@ -1,0 +1,36 @@
+-- A call that was read fits the queue of its filer, and the pass stays one of that queue.
+use Rattle.std.proofs.Common.{◌≡◌, ◌∙◌, List, Option, Some, None, sym, subst, ap}
+use Rattle.std.specs.Prelude.{option_map}
+use Rattle.nfs_model.specs.Tree as trees
+use Rattle.affinity_tree.specs.declared.layout.Layout.{Layout}
+use Rattle.affinity_tree.specs.Layout.{layout_of}
+use Rattle.shared_waiting.specs.Balance.{FitsIn}
+use Rattle.shared_waiting.specs.declared.pass.Pass.{Pass}
+use Rattle.tcp_front.specs.Arrivals.{Arrival}
+use Rattle.workers.specs.Balance.{Passed}
+use Rattle.workers.specs.Messages.{IsPlaced, Fits}
+use Rattle.workers.specs.Words.{layout_known}
+use Rattle.workers.specs.declared.message.Message.{Message}
+use Rattle.workers.specs.declared.shared.Filer.{Filer}
+use Rattle.connections.specs.Admitted.{HasAdmitted, IsHandedBack, IsPassFor}
+use Rattle.connections.specs.declared.lane.Lane.{Lane}
+
+-- what is placed in a layout fits a queue of that layout
+pub fits-by : (layout : trees.Layout) (v : Passed) (m : Message) → layout_known v ≡ Some layout → IsPlaced layout m → FitsIn Fits v.key m
+fits-by layout v m known placed = by v.key known
+  where
+    by : (key : Option Layout) → option_map layout_of key ≡ Some layout → FitsIn Fits key m
+    by None e = let no : ⊥ = cc in absurd no
+    by (Some key) e = subst (λ (x : trees.Layout). IsPlaced x m) (let same : layout ≡ layout_of key = cc in same) placed
+
+-- a pass that is handed back is one of the filer yet
+pub handed-back-for : (filer : Filer) (p q : Pass Message Layout) → IsPassFor filer p → IsHandedBack p q → IsPassFor filer q
+handed-back-for filer p q f back =
+    record { of = back.of filer.waiting f.of; layout = ap (λ (key : Option Layout). option_map layout_of key) back.share.2 ∙ f.layout; }
+
+-- and so is a lane's, after calls were admitted
+pub admitted-for : (filer : Filer) (first l l' last : Lane) (xs : List Arrival) → IsPassFor filer first.pass → l ≡ first → HasAdmitted l xs l'
+    → last ≡ l' → IsPassFor filer last.pass
+admitted-for filer first l l' last xs f e admitted e' =
+    let at = subst (λ (x : Lane). IsPassFor filer x.pass) (sym e) f in
+    subst (λ (x : Lane). IsPassFor filer x.pass) (sym e') (handed-back-for filer l.pass l'.pass at admitted.pass)

@@ -1,0 +1,3 @@
+mod Fitting
+mod Written
+mod Crossing

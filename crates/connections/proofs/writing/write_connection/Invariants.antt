@@ -1,0 +1,12 @@
+-- records of replies went out whole, and nothing failed
+use Rattle.std.proofs.Common.{List}
+use Rattle.outboxes.specs.Messages.{ReplyMessage}
+use Rattle.tcp_front.specs.Counts.{HasNotFailed}
+use Rattle.tcp_front.specs.Writing.{HasSent, records_of}
+use Rattle.connections.proofs.writing.write_connection.Given as goal
+
+abbrev pub invariant-loop : goal.invariant-loop
+invariant-loop g l = record {
+  same : HasNotFailed l.fn.writer l.writer;
+  did : (ms : List ReplyMessage) × HasSent g.W.Write.contents l.fn.writer (records_of ms) l.writer;
+}

@@ -1,0 +1,44 @@
+//! A call into the queue.
+
+ghost use Rattle.std.specs.Prelude.{◌≡◌, MatchResult};
+ghost use Rattle.shared_waiting.specs.Balance.{added, FitsIn};
+ghost use Rattle.shared_waiting.specs.Passes.{known, IsOf};
+ghost use Rattle.workers.specs.Messages.{Fits};
+
+use affinity_tree::Layout;
+use bells::Bells;
+use shared_waiting::{Pass, SharedWaiting};
+use std::sync::Wait;
+use workers::Message;
+
+/// Puts a message, and sleeps while the queue is full, after workers were told of what is there.
+/// It comes back where the filer was stopped.
+pub(crate) fn admit_in_turn<R: Wait>(
+    rt: &R,
+    waiting: &SharedWaiting<Message, Layout>,
+    bells: &Bells,
+    pass: &mut Pass<Message, Layout>,
+    message: Message,
+) -> Result<(), Message>
+    requires of { IsOf waiting.now pass.old }
+    requires fits { FitsIn Fits (known pass.old).key message }
+    ensures of { IsOf waiting.now pass.new }
+    ensures rule { MatchResult result
+        (λ _. known pass.new ≡ added (known pass.old) message)
+        (λ back. (back ≡ message) × (known pass.new ≡ known pass.old)) }
+{
+    let mut next = message;
+    for _ in rt.forever() {
+        let seen = bells.room.rings();
+        match waiting.admit(rt, pass, next) {
+            Ok(()) => return Ok(()),
+            Err(back) => next = back,
+        }
+        if bells.room.is_stopped() {
+            return Err(next);
+        }
+        bells.work.ring();
+        bells.room.wait_past(rt, seen);
+    }
+    unreachable!()
+}

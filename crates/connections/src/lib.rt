@@ -1,0 +1,27 @@
+//! Connections of a filer whose workers are other threads: for each, one thread that reads and one
+//! that writes.
+#![tactic(auto)]
+
+mod admitting;
+mod connection;
+mod lane;
+mod line;
+mod message;
+mod opening;
+mod outgoing;
+mod pool_sink;
+mod reading;
+mod refusal;
+mod shared;
+mod tasks;
+mod writing;
+
+pub use connection::{Connection, HandsBack};
+pub use lane::Lane;
+pub use line::Line;
+pub use outgoing::Outgoing;
+pub use pool_sink::PoolSink;
+pub use reading::read_connection;
+pub use refusal::{Refused, ServeRefusal};
+pub use shared::Shared;
+pub use writing::write_connection;

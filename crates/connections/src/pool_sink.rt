@@ -1,0 +1,129 @@
+//! Where the records of a connection go.
+
+ghost use Rattle.std.specs.Prelude.{◌≡◌, Some};
+ghost use Rattle.shared_waiting.specs.Passes.{known, IsOf};
+ghost use Rattle.workers.specs.Words.{layout_in, layout_known};
+ghost use Rattle.connections.specs.Admitted.{HasAdmitted, IsPassFor};
+ghost use Rattle.connections.specs.Admitted.{admitted_none, admitted_more};
+
+use crate::admitting::admit_in_turn;
+use crate::lane::Lane;
+use crate::line::Line;
+use crate::message::with_room;
+use bells::Bells;
+use engine_feed::OfferedCall;
+use nfs_values::{ConnectionNumber, Reply};
+use outboxes::Room;
+use std::alloc::{AllocError, Global};
+use std::sync::Wait;
+use tcp_front::RecordSink;
+use workers::{Filer, Message};
+
+/// The queue and the outboxes of a filer, as they are for the records of a connection.
+#[derive(Drop)]
+pub struct PoolSink<'a, R> {
+    rt: &'a R,
+    alloc: Global,
+    filer: &'a Filer,
+    bells: &'a Bells,
+    line: &'a Line,
+    pub lane: Lane,
+    /// How many records were given.
+    records: u64,
+    /// Whether a call was admitted of which no worker was told.
+    has_admitted: bool,
+    /// Whether a reply was put of which the writer wasn't told.
+    has_answered: bool,
+    ghost of: { IsOf filer.now.waiting lane.pass },
+    ghost layout: { layout_known (known lane.pass) ≡ Some (layout_in filer.now) },
+}
+
+impl<'a, R> PoolSink<'a, R> {
+    /// A sink into which nothing came.
+    pub fn new(
+        rt: &'a R,
+        alloc: Global,
+        filer: &'a Filer,
+        bells: &'a Bells,
+        line: &'a Line,
+        lane: Lane,
+    ) -> PoolSink<'a, R>
+        requires { IsPassFor filer.now lane.pass }
+        ensures lane { result.lane ≡ lane }
+        ensures filer { result.filer.now ≡ filer.now }
+    {
+        PoolSink {
+            rt,
+            alloc,
+            filer,
+            bells,
+            line,
+            lane,
+            records: 0,
+            has_admitted: false,
+            has_answered: false,
+        }
+    }
+
+    /// How many records were given.
+    pub fn records(&self) -> u64 {
+        self.records
+    }
+
+    /// The lane.
+    pub fn into_lane(self) -> Lane
+        ensures { result ≡ self.entry.lane }
+    {
+        let PoolSink { lane, .. } = self;
+        lane
+    }
+}
+
+impl<'a, R: Wait> RecordSink for PoolSink<'a, R> {
+    ghost came = { λ s xs t. HasAdmitted s.lane xs t.lane };
+
+    ghost layout = { λ s. layout_in s.filer.now };
+
+    fn admit(&mut self, message: scheduler::Message<OfferedCall>) -> Result<(), AllocError> {
+        let room = Room::new(self.alloc, message.room)?;
+        let message = with_room(message, room);
+        let pass = &mut self.lane.pass;
+        match admit_in_turn(self.rt, self.filer.waiting(), self.bells, pass, message) {
+            Ok(()) => {
+                self.records = self.records.saturating_add(1);
+                self.has_admitted = true;
+                Ok(())
+            }
+            Err(_stopped) => Err(AllocError),
+        }
+    }
+
+    fn answer(
+        &mut self,
+        connection: ConnectionNumber,
+        xid: u32,
+        reply: &Reply,
+    ) -> Result<(), AllocError> {
+        let mut outboxes = self.filer.outboxes().lock(self.rt);
+        outboxes.put_at_once(connection, xid, reply)?;
+        self.records = self.records.saturating_add(1);
+        self.has_answered = true;
+        Ok(())
+    }
+
+    fn wake(&mut self) {
+        if self.has_admitted {
+            self.has_admitted = false;
+            self.bells.work.ring();
+        }
+        if self.has_answered {
+            self.has_answered = false;
+            self.bells.mail(self.lane.connection).ring_all();
+        }
+        self.line.wait_for_writer(self.rt, self.records);
+    }
+
+    ghost came_none = { λ s. admitted_none s.lane };
+
+    ghost came_more = { λ s t u xs ys f g. admitted_more s.lane t.lane u.lane xs ys f g };
+}

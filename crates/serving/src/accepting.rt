@@ -1,0 +1,68 @@
+//! Connections that are accepted.
+
+ghost use Rattle.std.specs.Prelude.{◌≡◌, ℕ};
+ghost use Rattle.std.specs.Arc.{arc_value};
+ghost use Rattle.serving.specs.Places.{share_in, AreSlotsOf};
+
+use crate::fault::ServeFault;
+use crate::slots::Slots;
+use connections::{Connection, ServeRefusal, Shared};
+use std::alloc::Global;
+use std::net::{TcpListener, TcpStream};
+use std::sync::Wait;
+use std::thread::Threads;
+
+impl Slots {
+    /// Serves a stream at a place that has no connection, where there is one. Where it can't be
+    /// served it is closed.
+    pub fn open<R: Threads + Wait + Copy + Send + 'static>(
+        &mut self,
+        rt: R,
+        alloc: Global,
+        shared: &Shared,
+        stream: TcpStream,
+    ) -> Result<(), ServeFault>
+        requires { AreSlotsOf (arc_value shared.now.filer) self.old }
+        ensures slots { AreSlotsOf (arc_value shared.now.filer) self.new }
+        ensures share { (k : ℕ) → share_in k self.new ≡ share_in k self.old }
+    {
+        let pass = match self.idle.pop() {
+            Some(pass) => pass,
+            None => return Err(ServeFault::NotServed(ServeRefusal::Full)),
+        };
+        match Connection::open(rt, alloc, shared, stream, pass) {
+            Ok(connection) => {
+                self.open.push_reserved(connection);
+                Ok(())
+            }
+            Err(refused) => {
+                self.idle.push_reserved(refused.pass);
+                Err(ServeFault::NotServed(refused.why))
+            }
+        }
+    }
+}
+
+/// Accepts so many connections, each while fewer than 64 are open, and serves them. Where one can't
+/// be accepted or served no more are. Those that are open then aren't waited for.
+pub fn serve<R: Threads + Wait + Copy + Send + 'static>(
+    rt: R,
+    alloc: Global,
+    shared: &Shared,
+    listener: &TcpListener,
+    connections: u64,
+    slots: &mut Slots,
+) -> Result<(), ServeFault>
+    requires { AreSlotsOf (arc_value shared.now.filer) slots.old }
+    ensures slots { AreSlotsOf (arc_value shared.now.filer) slots.new }
+    ensures share { (k : ℕ) → share_in k slots.new ≡ share_in k slots.old }
+{
+    for _ in 0..connections {
+        slots.wait_for_place(&rt, &shared.ended);
+        match listener.accept() {
+            Ok((stream, _peer)) => slots.open(rt, alloc, shared, stream)?,
+            Err(_failed) => return Err(ServeFault::AcceptFailed),
+        }
+    }
+    Ok(())
+}
