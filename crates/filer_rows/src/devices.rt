@@ -2,7 +2,8 @@
 
 use crate::events::{holds, joined, put, same};
 use crate::texts::LAYOUT;
-use filer_replay::{Command, ProgramFault, command, program, replay};
+use filer_commands::{Command, command, program};
+use filer_replay::{ProgramFault, replay};
 use std::io;
 use std::io::{Read, Write};
 use std::process::Abort;
