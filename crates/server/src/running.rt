@@ -1,10 +1,10 @@
 //! A server, from its start to what is left.
 
-ghost use Rattle.std.specs.Prelude.{◌≤◌, ◌<◌, IfOk};
+ghost use Rattle.std.specs.Prelude.{◌≡◌, ◌≤◌, ◌<◌, ℕ, IfOk};
 ghost use Rattle.std.specs.Arc.{arc_value};
 ghost use Rattle.pool.specs.Pools.{IsVacant};
 ghost use Rattle.server.specs.Threads.{HasStopped, IsOpened, IsRunning};
-ghost use Rattle.workers.specs.declared.shared.Filer.{Filer};
+ghost use Rattle.serving.specs.Places.{share_in, AreSlotsOf};
 
 use crate::fault::{ServerFault, of_serving, of_start};
 use crate::opening::{Opened, layout_of, open, verifier_now};
@@ -65,16 +65,43 @@ fn print_address<W: Write>(listener: &TcpListener, out: &mut W) -> Result<(), Se
     writeln!(out, "listening {address}").map_err(|_| ServerFault::Output)
 }
 
-/// Serves so many connections of a listener to their ends, and stops.
-fn run<R>(
+/// Prints where a server listens, and takes so many connections.
+fn accept<R, W>(
+    rt: R,
+    alloc: Global,
+    shared: &Shared,
+    listener: &TcpListener,
+    connections: u64,
+    slots: &mut Slots,
+    out: &mut W,
+) -> Result<(), ServerFault>
+where
+    R: Threads + Wait + Copy + Send + 'static,
+    W: Write,
+    requires { AreSlotsOf (arc_value shared.now.filer) slots.old }
+    ensures slots { AreSlotsOf (arc_value shared.now.filer) slots.new }
+    ensures share { (k : ℕ) → share_in k slots.new ≡ share_in k slots.old }
+{
+    print_address(listener, out)?;
+    match serving::serve(rt, alloc, shared, listener, connections, slots) {
+        Ok(()) => Ok(()),
+        Err(fault) => Err(of_serving(fault)),
+    }
+}
+
+/// Serves so many connections of a listener to their ends, and stops. Where one can't be served no
+/// more are, and those that are open aren't waited for.
+fn run<R, W>(
     rt: R,
     alloc: Global,
     listener: &TcpListener,
     connections: u64,
     running: Running,
+    out: &mut W,
 ) -> Result<Left, ServerFault>
 where
     R: Threads + Wait + Clock + Copy + Drop + Send + 'static,
+    W: Write,
     requires { IsRunning (arc_value running.shared.filer) running.pool running.slots }
     ensures { IfOk result (HasStopped (arc_value running.shared.filer)) }
 {
@@ -84,11 +111,11 @@ where
         mut slots,
         room,
     } = running;
-    match serving::serve(rt, alloc, &shared, listener, connections, &mut slots) {
+    match accept(rt, alloc, &shared, listener, connections, &mut slots, out) {
         Ok(()) => Ok(stop(&rt, &shared, pool, slots, room)),
         Err(fault) => {
             let _workers = pool.stop(&rt);
-            Err(of_serving(fault))
+            Err(fault)
         }
     }
 }
@@ -110,8 +137,7 @@ where
     let layout = layout_of(alloc, options.volumes)?;
     let opened = open(alloc, layout, verifier_now(&rt))?;
     let running = start(rt, opened, options.workers)?;
-    print_address(listener, out)?;
-    let left = run(rt, alloc, listener, options.connections, running)?;
+    let left = run(rt, alloc, listener, options.connections, running, out)?;
     let count = left.kept.len() + left.waiting.len();
     writeln!(out, "left {count}").map_err(|_| ServerFault::Output)
 }
