@@ -23,16 +23,28 @@ pub lane-send : IsSend Lane.the_row
 lane-send = declared_send Lane.the_type (search (number.the_send, sendable) depth 20, (search (pass.the_send, message-send, sendable) depth 20, tt))
 
 pub shared-send : IsSend Shared.the_row
-shared-send = declared_send Shared.the_type (search (filer-send, filer-sync, crosses, sendable) depth 20,
-    (search (bells-send, bells-sync, crosses, sendable) depth 20, (search (bell.the_send, bell.the_sync, crosses, sendable) depth 20, tt)))
+shared-send = declared_send Shared.the_type (
+  search (filer-send, filer-sync, crosses, sendable) depth 20,
+  (search (bells-send, bells-sync, crosses, sendable) depth 20, (search (bell.the_send, bell.the_sync, crosses, sendable) depth 20, tt)),
+)
 
 pub reading-send : IsSend Reading.the_row
-reading-send = declared_send Reading.the_type (search (crosses, sendable) depth 20, (shared-send,
-    (search (line.the_send, line.the_sync, crosses, sendable) depth 20, (search (stream.the_send, sendable) depth 20, (lane-send, tt)))))
+reading-send = declared_send Reading.the_type (
+  search (crosses, sendable) depth 20,
+  (
+    shared-send,
+    (search (line.the_send, line.the_sync, crosses, sendable) depth 20, (search (stream.the_send, sendable) depth 20, (lane-send, tt))),
+  ),
+)
 
 pub writing-send : IsSend Writing.the_row
-writing-send = declared_send Writing.the_type (search (crosses, sendable) depth 20, (shared-send,
-    (search (line.the_send, line.the_sync, crosses, sendable) depth 20, (search (stream.the_send, sendable) depth 20, (search (number.the_send, sendable) depth 20, tt)))))
+writing-send = declared_send Writing.the_type (
+  search (crosses, sendable) depth 20,
+  (
+    shared-send,
+    (search (line.the_send, line.the_sync, crosses, sendable) depth 20, (search (stream.the_send, sendable) depth 20, (search (number.the_send, sendable) depth 20, tt))),
+  ),
+)
 
 -- a closure that captures two values may, where they may
 pub closure-send : (name : Sym) (A B : RattleType) → IsSend A → IsSend B → IsSend (TupleAt name (A ∷ B ∷ []))

@@ -26,7 +26,7 @@ fits-by layout v m known placed = by v.key known
 -- a pass that is handed back is one of the filer yet
 pub handed-back-for : (filer : Filer) (p q : Pass Message Layout) → IsPassFor filer p → IsHandedBack p q → IsPassFor filer q
 handed-back-for filer p q f back =
-    record { of = back.of filer.waiting f.of; layout = ap (λ (key : Option Layout). option_map layout_of key) back.share.2 ∙ f.layout; }
+    record { of = back.of filer.waiting f.of; layout = ap (λ (key : Option Layout). option_map layout_of key) back.share.2 ∙ f.layout }
 
 -- and so is a lane's, after calls were admitted
 pub admitted-for : (filer : Filer) (first l l' last : Lane) (xs : List Arrival) → IsPassFor filer first.pass → l ≡ first → HasAdmitted l xs l'

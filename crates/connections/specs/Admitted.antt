@@ -59,7 +59,7 @@ calls-append (Waits message ∷ xs) ys = ap (λ l. message ∷ l) (calls-append 
 calls-append (Answered reply ∷ xs) ys = calls-append xs ys
 
 pub handed-back-same : (p : Pass Message Layout) → IsHandedBack p p
-handed-back-same p = record { of = λ q h. h; share = (refl, refl, refl); picked = refl; }
+handed-back-same p = record { of = λ q h. h; share = (refl, refl, refl); picked = refl }
 
 pub handed-back-more : (p q r : Pass Message Layout) → IsHandedBack p q → IsHandedBack q r → IsHandedBack p r
 handed-back-more p q r f g =
@@ -70,7 +70,7 @@ handed-back-more p q r f g =
     }
 
 pub admitted_none : (l : Lane) → HasAdmitted l [] l
-admitted_none l = record { connection = refl; pass = handed-back-same l.pass; put = sym (append-nil (map seen_of (known l.pass).put)); }
+admitted_none l = record { connection = refl; pass = handed-back-same l.pass; put = sym (append-nil (map seen_of (known l.pass).put)) }
 
 pub admitted_more : (l l' l'' : Lane) (xs ys : List Arrival) → HasAdmitted l xs l' → HasAdmitted l' ys l'' → HasAdmitted l (xs ++ ys) l''
 admitted_more l l' l'' xs ys f g =
@@ -78,6 +78,6 @@ admitted_more l l' l'' xs ys f g =
       connection = g.connection ∙ f.connection;
       pass = handed-back-more l.pass l'.pass l''.pass f.pass g.pass;
       put =
-        g.put ∙ ap (λ ms. ms ++ calls_of ys) f.put ∙ append_assoc (map seen_of (known l.pass).put) (calls_of xs) (calls_of ys)
-        ∙ ap (λ ms. map seen_of (known l.pass).put ++ ms) (sym (calls-append xs ys));
+          g.put ∙ ap (λ ms. ms ++ calls_of ys) f.put ∙ append_assoc (map seen_of (known l.pass).put) (calls_of xs) (calls_of ys)
+          ∙ ap (λ ms. map seen_of (known l.pass).put ++ ms) (sym (calls-append xs ys));
     }

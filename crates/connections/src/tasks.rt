@@ -85,8 +85,15 @@ pub(crate) fn write_on<R: Wait>(rt: &R, writing: Writing) {
     let mut writer = Counted::new(stream);
     let mut buffer = write_room(alloc);
     let (filer, bells) = (&shared.filer, &shared.bells);
-    let _written =
-        write_connection(rt, &mut writer, &mut buffer, filer, bells, &line, connection);
+    let _written = write_connection(
+        rt,
+        &mut writer,
+        &mut buffer,
+        filer,
+        bells,
+        &line,
+        connection,
+    );
     line.close();
     shared.filer.outboxes().lock(rt).shut(connection);
     let _closed = writer.into_device().shutdown(Shutdown::Both);

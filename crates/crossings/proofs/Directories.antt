@@ -14,8 +14,10 @@ use Rattle.crossings.proofs.Structs.{struct-send}
 use Rattle.crossings.proofs.Sequences.{sequence-send}
 
 entries-inside-send : IsSend EntriesInside.the_row
-entries-inside-send = struct-send EntriesInside.the_type (search (slot.the_send, crosses, sendable) depth 20,
-    (sequence-send (UInt w32) (search sendable depth 20), (search sendable depth 20, (cookie.the_field_send, tt))))
+entries-inside-send = struct-send EntriesInside.the_type (
+  search (slot.the_send, crosses, sendable) depth 20,
+  (sequence-send (UInt w32) (search sendable depth 20), (search sendable depth 20, (cookie.the_field_send, tt))),
+)
 
 pub entries-send : IsSend Entries.the_row
 entries-send = view_send EntriesInside.the_row _ _ _ _ entries-inside-send

@@ -21,8 +21,16 @@ map-send : IsSend Map.the_row
 map-send = view_send MapInside.the_row _ _ _ _ map-inside-send
 
 logical-send : IsSend Logical.the_row
-logical-send = struct-send Logical.the_type (verifier.the_field_send, (search sendable depth 20, (search sendable depth 20,
-    (inodes.the_send, (map-send, (stock.the_send, (dead.the_send, tt)))))))
+logical-send = struct-send Logical.the_type (
+  verifier.the_field_send,
+  (
+    search sendable depth 20,
+    (
+      search sendable depth 20,
+      (inodes.the_send, (map-send, (stock.the_send, (dead.the_send, tt)))),
+    ),
+  ),
+)
 
 parcel-inside-send : IsSend ParcelInside.the_row
 parcel-inside-send = struct-send ParcelInside.the_type (Box-send Logical.the_row logical-send, tt)

@@ -26,7 +26,6 @@ module _ (T : RattleType) (s : IsSend T) where
   node-send : IsSend (Node.the_row T)
   node-send = struct-send (Node.the_type T) (tree-send, (search (s, crosses, sendable), (tree-send, (word-send, (word-send, (word-send, tt))))))
 
-
   room-inside-send : IsSend (RoomInside.the_row T)
   room-inside-send = struct-send (RoomInside.the_type T) (Box-send (Node.the_row T) node-send, tt)
 

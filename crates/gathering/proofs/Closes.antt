@@ -1,9 +1,8 @@
 -- The end of a filer.
-use Rattle.std.proofs.Common.{◌≡◌, ℕ, ◌+◌, ◌<◌, List, length, Option, Some, None, refl, sym, ap, ◌∙◌, subst, arith}
+use Rattle.std.proofs.Common.{◌≡◌, ℕ, ◌+◌, ◌<◌, List, length, Option, None, refl, sym, ap, ◌∙◌, subst, arith}
 use Rattle.nfs_model.specs.Parts.{Hand}
 use Rattle.nfs_model.specs.Server.{Server, opening}
 use Rattle.nfs_model.specs.Tree.{Layout, Serial}
-use Rattle.affinity_tree.specs.Ancestors.{Covers}
 use Rattle.affinity_tree.specs.Fault.{fault_of}
 use Rattle.affinity_tree.specs.Numbers.{number_of, parents}
 use Rattle.affinity_tree.specs.lemmas.Alike.{alike}
@@ -14,7 +13,7 @@ use Rattle.depot_rule.specs.Sums.{total}
 use Rattle.held_laws.specs.lemmas.Alike.{filer-same}
 use Rattle.held_laws.specs.lemmas.Opening.{opening-tree}
 use Rattle.held_laws.specs.lemmas.SeenSets.{serial-seen}
-use Rattle.held_state.specs.Contents.{FilerContents, VolumeContents, filer_contents, volume_at}
+use Rattle.held_state.specs.Contents.{FilerContents, filer_contents}
 use Rattle.held_state.specs.Parcels.{FilerParcel}
 use Rattle.held_state.specs.Partition.{times_in_hand}
 use Rattle.held_state.specs.Replayed.{Replays}
@@ -49,10 +48,10 @@ other-hands c hands others n same sound v p at =
 
 module _ (L : Layout) (lawful : fault_of L ≡ None) (verifier : List ℕ) (v : FilerView) (of : v.tree ≡ parents L) (opened : HasOpened L verifier v)
     (held : FilerSerial Files) (closed : IsClosed filer_behaviour v (serial_parcels L Serial held)) where
-  f : ℕ → Option (FilerParcel Files)
+  abbrev pub f : ℕ → Option (FilerParcel Files)
   f = serial_parcels L Serial held
 
-  g : ℕ → Option (FilerParcel Files)
+  abbrev pub g : ℕ → Option (FilerParcel Files)
   g = after (parents L) (listed v.first) v.seen
 
   is-legal : Legal job_steps (parents L) (listed v.first) v.seen

@@ -1,5 +1,5 @@
 -- A worker put to others.
-use Rattle.std.proofs.Common.{◌≡◌, ℕ, ◌+◌, List, [], ◌∷◌, ◌++◌, Option, Some, None, refl, sym, ap, ◌∙◌, subst, arith, ◌⊎◌, ⊎_elim}
+use Rattle.std.proofs.Common.{◌≡◌, ℕ, ◌+◌, List, [], ◌∷◌, ◌++◌, Option, Some, None, refl, sym, ap, subst, arith, ◌⊎◌, ⊎_elim}
 use Rattle.std.specs.Prelude.{option_to_list}
 use Rattle.nfs_model.specs.Parts.{Hand}
 use Rattle.depot.specs.Words.{view, splits_left, IsSeatHere}
@@ -9,21 +9,19 @@ use Rattle.depot_rule.specs.Seats.{merge}
 use Rattle.depot_rule.specs.Shares.{Has}
 use Rattle.depot_rule.specs.Sums.{total}
 use Rattle.depot_rule.specs.lemmas.Sums.{total-append}
-use Rattle.held_state.specs.Jobs.{batches_in}
 use Rattle.held_state.specs.Parcels.{FilerParcel}
 use Rattle.parcels.specs.declared.files.Files.{Files}
 use Rattle.service.specs.Jobs.{job_takes, job_gives}
 use Rattle.shared_waiting.specs.Balance.{both}
-use Rattle.shared_waiting.specs.Passes.{known, IsOf}
+use Rattle.shared_waiting.specs.Passes.{IsOf}
 use Rattle.workers.specs.declared.message.Message.{Message}
 use Rattle.workers.specs.declared.parts.WorkerParts.{WorkerParts}
 use Rattle.workers.specs.declared.shared.Filer.{Filer}
 use Rattle.workers.specs.declared.worker.Worker.{Worker}
 use Rattle.workers.specs.Apart.{AreOf}
 use Rattle.workers.specs.Balance.{FilerEntry, FilerView, Passed, Weight, by_entry, by_key, by_kept, IsEven}
-use Rattle.workers.specs.Words.{layout_in, verifier_in, passed, seats_in, HasOpened, IsIn}
+use Rattle.workers.specs.Words.{layout_in, verifier_in, seats_in, HasOpened, IsIn}
 use Rattle.gathering.specs.Even.{IsEvenWith}
-use Rattle.gathering.specs.Gathered.{IsGatheredIn}
 
 -- ---- a worker's parts
 
@@ -42,7 +40,7 @@ module _ (filer : Filer) (w : Worker) (p : WorkerParts) (of : AreOf w p) where
 
 -- ---- balances
 
-kept-once : (h : Weight) (kept : Option Message) → total (by_key h) (option_to_list kept) ≡ by_kept h kept
+pub kept-once : (h : Weight) (kept : Option Message) → total (by_key h) (option_to_list kept) ≡ by_kept h kept
 kept-once h None = refl
 kept-once h (Some m) = omega arith
 

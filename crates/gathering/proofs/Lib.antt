@@ -1,6 +1,6 @@
 mod Lists
 mod Portions
-mod Draining
+mod Drained
 mod Joins
 mod Sharing
 mod Closes

@@ -1,5 +1,5 @@
 -- Shares of the right to know the queue, as passes are joined and cut.
-use Rattle.std.proofs.Common.{◌≡◌, ℕ, ◌+◌, ◌-◌, ◌*◌, ◌^◌, ◌≤◌, List, [], ◌∷◌, ◌++◌, refl, sym, ap, ◌∙◌, subst, arith}
+use Rattle.std.proofs.Common.{◌≡◌, ℕ, ◌+◌, ◌^◌, ◌≤◌, List, [], ◌∷◌, ◌++◌, ap, ◌∙◌, subst, arith}
 use Rattle.depot_rule.specs.Sums.{total}
 use Rattle.depot_rule.specs.lemmas.Sums.{total-append}
 use Rattle.shared_waiting.specs.Balance.{part, both, left, right, IsWhole}
@@ -20,10 +20,10 @@ pub share-worker : (v w : Passed) (x : Worker) (all rest : List Worker) (ps : Li
 share-worker v w x all rest ps is joins h = (
   h.0 + (v.halvings + (passed x).halvings),
   λ k le.
-    let p = part-both k v (passed x) w joins (omega arith) in
-    let q = total-last (share_of k) all rest x is in
-    let e = h.1 k (omega arith) in
-    omega (arith, p, q, e),
+      let p = part-both k v (passed x) w joins (omega arith) in
+      let q = total-last (share_of k) all rest x is in
+      let e = h.1 k (omega arith) in
+      omega (arith, p, q, e),
 )
 
 -- a pass is joined
@@ -32,10 +32,10 @@ pub share-pass : (v w : Passed) (x : FilerPass) (all rest : List FilerPass) → 
 share-pass v w x all rest is joins h = (
   h.0 + (v.halvings + (known x).halvings),
   λ k le.
-    let p = part-both k v (known x) w joins (omega arith) in
-    let q = total-last (share_in k) all rest x is in
-    let e = h.1 k (omega arith) in
-    omega (arith, p, q, e),
+      let p = part-both k v (known x) w joins (omega arith) in
+      let q = total-last (share_in k) all rest x is in
+      let e = h.1 k (omega arith) in
+      omega (arith, p, q, e),
 )
 
 -- the last is the whole
@@ -49,11 +49,14 @@ whole-at-last v ps none h =
 -- the first worker, and the others
 pub with-first : (v : Passed) (x : Worker) (all rest : List Worker) (ps : List FilerPass) → all ≡ rest ++ x ∷ [] → v ≡ passed x → AreAll all ps
     → AreAllWith v rest ps
-with-first v x all rest ps is same h = (h.0, λ k le.
-    let e = h.1 k le in
-    let a = ap (part k) same in
-    let b = total-last (share_of k) all rest x is in
-    omega (arith, e, a, b))
+with-first v x all rest ps is same h = (
+  h.0,
+  λ k le.
+      let e = h.1 k le in
+      let a = ap (part k) same in
+      let b = total-last (share_of k) all rest x is in
+      omega (arith, e, a, b),
+)
 
 pub none-more : (v : Passed) (ws : List Worker) (ps : List FilerPass) → ws ≡ [] → AreAllWith v ws ps → AreAllWith v [] ps
 none-more v ws ps none h = subst (λ (l : List Worker). AreAllWith v l ps) none h

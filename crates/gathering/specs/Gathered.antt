@@ -1,5 +1,5 @@
 -- What all workers of a filer leave.
-use Rattle.std.specs.Prelude.{◌≡◌, ℕ, ◌+◌, List}
+use Rattle.std.specs.Prelude.{◌≡◌, ℕ, ◌+◌}
 use Rattle.depot.specs.Words.{view, splits_left, IsSeatHere, HasNoGrant}
 use Rattle.depot_rule.specs.History.{entries_of, AreHands}
 use Rattle.depot_rule.specs.Sums.{total}
@@ -7,7 +7,6 @@ use Rattle.service.specs.Jobs.{job_takes, job_gives}
 use Rattle.shared_waiting.specs.Passes.{IsOf}
 use Rattle.gathering.specs.declared.gathered.Gathered.{Gathered}
 use Rattle.gathering.specs.declared.left.Left.{Left}
-use Rattle.workers.specs.declared.message.Message.{Message}
 use Rattle.workers.specs.declared.shared.Filer.{Filer}
 use Rattle.workers.specs.Balance.{Weight, by_entry, by_key}
 use Rattle.workers.specs.Words.{layout_in, verifier_in, HasOpened}

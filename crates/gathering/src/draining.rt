@@ -28,8 +28,9 @@ pub(crate) fn drain<R: Wait>(
 {
     let most = waiting.count(rt, &mut pass);
     for _ in 0..most {
-        let Some(message) = waiting.pick(rt, &mut pass) else {
-            return into;
+        let message = match waiting.pick(rt, &mut pass) {
+            Some(message) => message,
+            None => return into,
         };
         into.push_reserved(message);
     }

@@ -58,8 +58,9 @@ pub fn gather<R: Wait>(
         hands,
         kept,
     } = join_all(filer, first, workers);
-    let pass = join_passes(filer.waiting(), pass, passes);
-    let waiting = drain(filer.waiting(), rt, pass, waiting);
+    let queue = filer.waiting();
+    let pass = join_passes(queue, pass, passes);
+    let waiting = drain(queue, rt, pass, waiting);
     Left {
         seat,
         hands,

@@ -1,6 +1,5 @@
 //! Workers that were put together.
 
-ghost use Rattle.std.specs.Prelude.{ℕ};
 ghost use Rattle.depot.specs.Words.{view, HasNoGrant};
 ghost use Rattle.depot_rule.specs.History.{entries_of, AreHands};
 ghost use Rattle.gathering.specs.Even.{IsEvenWith};
@@ -23,7 +22,6 @@ pub(crate) struct Gathered {
     pub(crate) hands: Vec<BatchInHand>,
     pub(crate) kept: Vec<Message>,
     pub(crate) ghost balance: { IsEvenWith (known pass) (entries_of (view seat)) kept.items },
-    pub(crate) ghost in_hands: {
-        AreHands job_takes job_gives (entries_of (view seat)) hands.items },
+    pub(crate) ghost in_hand: { AreHands job_takes job_gives (entries_of (view seat)) hands.items },
     pub(crate) ghost none_open: { HasNoGrant seat },
 }

@@ -16,7 +16,8 @@ ghost use Rattle.std.specs.Prelude.{
 ghost use Rattle.depot.specs.Words.{splits_left};
 ghost use Rattle.depot_rule.specs.Sums.{total};
 ghost use Rattle.gathering.specs.Gathered.{IsGatheredIn};
-ghost use Rattle.gathering.specs.Shares.{AreAllWith, FilerPass, carried_by, kept_by, put_by, picked_by};
+ghost use Rattle.gathering.specs.Shares.{AreAllWith, FilerPass};
+ghost use Rattle.gathering.specs.Shares.{carried_by, kept_by, put_by, picked_by};
 ghost use Rattle.held_state.specs.Jobs.{batches_in};
 ghost use Rattle.nfs_model.specs.Parts as parts;
 ghost use Rattle.shared_waiting.specs.Balance.{both, IsWhole};

@@ -19,10 +19,9 @@ found_by (Err (Busy at word)) = found.Busy
 found_by (Err NoMemory) = found.NoMemory
 found_by (Err refusal) = found.Nothing
 
--- how many tends in a row looked and moved nothing: at most one more, or none
+-- how many tends in a row moved nothing: at most one more, or none
 abbrev pub IsUnchanged : ℕ → Found → ℕ → Type 0
 IsUnchanged n found.Blocks m = m ≡ 0
-IsUnchanged n found.Busy m = m ≡ 0
 IsUnchanged n other m = m ≤ n + 1
 
 abbrev pub is_starved : Found → Bool

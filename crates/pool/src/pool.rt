@@ -17,7 +17,8 @@ use workers::{Filer, Gate, Worker};
 /// The most threads of a pool.
 const MOST_THREADS: usize = 64;
 
-/// Threads, each of which runs a worker, and room for the workers that come back.
+/// Threads, each of which runs a worker, and room for the workers that come back. Dropped without
+/// `stop`, its threads run on.
 #[derive(Drop)]
 pub struct Pool {
     bells: Arc<Bells>,

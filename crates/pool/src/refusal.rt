@@ -5,7 +5,7 @@ ghost use Rattle.std.specs.Prelude.{◌≡◌};
 use workers::Worker;
 
 /// Why a pool didn't start.
-#[derive(Clone, Copy, PartialEq)]
+#[derive(Clone, Copy)]
 pub enum StartRefusal {
     /// A thread couldn't be made.
     NoThread,

@@ -3,6 +3,7 @@
 ghost use Rattle.pool.specs.Heirs.{IsHeir};
 ghost use Rattle.workers.specs.Words.{IsIn};
 
+use crate::patience::Patience;
 use crate::tending::{Found, sleep, tend};
 use crate::watch::Watch;
 use bells::Bells;
@@ -55,8 +56,8 @@ fn rest<R: Wait + Clock>(
     match found {
         Found::Blocks => bells.work.ring(),
         Found::Busy => watch.patience.wait(rt),
-        Found::Nothing => {}
-        Found::NoMemory => {}
+        Found::Nothing => watch.patience = Patience::new(),
+        Found::NoMemory => watch.patience = Patience::new(),
     }
     if watch.tending.may_sleep(filer, &worker) {
         sleep(rt, filer, bells, seen, &worker, &watch.tending);
@@ -88,6 +89,7 @@ pub(crate) fn round<R: Wait + Clock, G: Gate>(
         }
         Worked::Moved => {
             bells.work.ring();
+            watch.patience = Patience::new();
             put_down(filer, bells, worker, watch)
         }
         Worked::Busy { node: _, word: _ } => {

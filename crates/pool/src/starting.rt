@@ -71,13 +71,11 @@ where
         });
     };
     let task = Task {
-        rt,
         filer,
         bells: rung,
-        gate,
         worker,
     };
-    match start_one(bells, task) {
+    match start_one(rt, bells, gate, task) {
         Ok(thread) => Ok(thread),
         Err(worker) => Err(Unstarted {
             refusal: StartRefusal::NoThread,

@@ -14,13 +14,11 @@ use std::thread;
 use std::thread::{Promise, PromisedHandle, Threads};
 use workers::{Filer, Gate, Worker};
 
-/// What a thread of a worker has.
+/// A worker, and what it shares with others.
 #[derive(Drop)]
-pub(crate) struct Task<R, G> {
-    pub(crate) rt: R,
+pub(crate) struct Task {
     pub(crate) filer: Arc<Filer>,
     pub(crate) bells: Arc<Bells>,
-    pub(crate) gate: G,
     pub(crate) worker: Worker,
 }
 
@@ -44,23 +42,21 @@ impl Promise<Worker> for Serves {
 pub(crate) type Thread = PromisedHandle<Worker, Serves>;
 
 /// Runs the worker until the workers' bell is stopped.
-fn run<R: Wait + Clock + Drop, G: Gate + Drop>(task: Task<R, G>) -> Worker
+fn run<R: Wait + Clock, G: Gate>(rt: &R, gate: &G, task: Task) -> Worker
     requires { IsIn (arc_value task.filer) task.worker }
     ensures { IsIn (arc_value task.filer) result × IsHeir task.worker result }
 {
     let Task {
-        rt,
         filer,
         bells,
-        gate,
         worker,
     } = task;
-    serve(&rt, &filer, &bells, &gate, worker)
+    serve(rt, &filer, &bells, gate, worker)
 }
 
 /// Starts a thread for a worker. Where none can be made, the bell is stopped, and the worker comes
 /// back.
-pub(crate) fn start_one<R, G>(bells: &Bells, task: Task<R, G>) -> Result<Thread, Worker>
+pub(crate) fn start_one<R, G>(rt: R, bells: &Bells, gate: G, task: Task) -> Result<Thread, Worker>
 where
     R: Threads + Wait + Clock + Copy + Drop + Send + 'static,
     G: Gate + Drop + Send + 'static,
@@ -70,7 +66,6 @@ where
         × (thread.promise.worker.value ≡ task.worker))
         (λ worker. IsIn (arc_value task.filer) worker × IsHeir task.worker worker) }
 {
-    let rt = task.rt;
     let promise = Serves {
         filer: Snapshot::of(&task.filer),
         worker: Snapshot::of(&task.worker),
@@ -81,7 +76,10 @@ where
         move || -> Worker
             requires { IsIn (arc_value task.filer) task.worker }
             ensures { IsIn (arc_value task.filer) result × IsHeir task.worker result }
-        { run(task) },
+        {
+            let task = task;
+            run(&rt, &gate, task)
+        },
     );
     match started {
         Ok(thread) => Ok(thread),

@@ -31,7 +31,8 @@ pub(crate) enum Found {
 pub(crate) struct Tending {
     /// How many were made with an empty hand, wrapping at 2^64.
     pub(crate) made: u64,
-    /// How many in a row, up to now, looked and moved no block. It stops at the last value.
+    /// How many in a row, up to now, moved no block. It stops at the last value. Who has a node that
+    /// a tend found taken looks there itself, or rings when its call is finished.
     pub(crate) unchanged: usize,
     /// Whether the last lacked memory.
     pub(crate) starved: bool,
@@ -100,7 +101,7 @@ impl Tending {
                 self.starved = true;
             }
             Found::Busy => {
-                self.unchanged = 0;
+                self.unchanged = self.unchanged.saturating_add(1);
                 self.starved = false;
             }
         }

@@ -1,9 +1,10 @@
 -- Shares of passes that are split or handed back.
-use Rattle.std.proofs.Common.{◌≡◌, ◌≤◌, ℕ, zero, suc, ◌+◌, ◌-◌, ◌*◌, ◌^◌, [], ap, sym, subst, ◌∙◌, arith}
+use Rattle.std.proofs.Common.{◌≡◌, ◌≤◌, ℕ, zero, suc, ◌+◌, ◌-◌, ◌*◌, ◌^◌, ap, ◌∙◌, arith}
+use Rattle.std.proofs.lemmas.Nat.{pow-add}
 use Rattle.std.specs.Prelude.{option_map}
 use Rattle.affinity_tree.specs.declared.layout.Layout.{Layout}
 use Rattle.affinity_tree.specs.Layout.{layout_of}
-use Rattle.connections.specs.Admitted.{IsHandedBack, IsPassFor}
+use Rattle.connections.specs.Admitted.{IsHandedBack}
 use Rattle.shared_waiting.specs.Balance.{left, right}
 use Rattle.shared_waiting.specs.Passes.{known, IsOf}
 use Rattle.shared_waiting.specs.declared.pass.Pass.{Pass}
@@ -21,17 +22,17 @@ same-share k p q back =
 pub reads-on : (filer : Filer) (p q : Pass Message Layout) → IsReaderOf filer p → IsHandedBack p q → IsReaderOf filer q
 reads-on filer p q reader back =
     record {
-      pass = record {
-        of = back.of filer.waiting reader.pass.of;
-        layout = ap (λ key. option_map layout_of key) back.share.2 ∙ reader.pass.layout;
+      reads = record {
+        of = back.of filer.waiting reader.reads.of;
+        layout = ap (λ key. option_map layout_of key) back.share.2 ∙ reader.reads.layout;
       };
       picked = back.picked ∙ reader.picked;
     }
 
 -- ---- two halves
 
-power-halves : (n m : ℕ) → n ≡ suc m → 2 ^ n ≡ 2 ^ m + 2 ^ m
-power-halves n m e = let p = ap (λ j. 2 ^ j) e in let q : 2 ^ suc m ≡ 2 * 2 ^ m = refl in omega (arith, p, q)
+power-halves : (n m : ℕ) → n ≡ m + 1 → 2 ^ n ≡ 2 ^ m + 2 ^ m
+power-halves n m e = let p : 2 ^ n ≡ 2 ^ m * 2 ^ 1 = ap (λ j. 2 ^ j) e ∙ pow-add 2 m 1 in omega (arith, p)
 
 spread : (a b c d : ℕ) → b ≡ c + d → a * b ≡ a * c + a * d
 spread zero b c d e = omega arith
@@ -53,7 +54,7 @@ pub first-reads : (filer : Filer) (p first : Pass Message Layout) → IsReaderOf
     → known first ≡ left (known p) → IsReaderOf filer first
 first-reads filer p first reader of l =
     record {
-      pass = record { of = of; layout = ap (λ (v : Passed). option_map layout_of v.key) l ∙ reader.pass.layout; };
+      reads = record { of = of; layout = ap (λ (v : Passed). option_map layout_of v.key) l ∙ reader.reads.layout };
       picked = ap (λ (v : Passed). v.picked) l ∙ reader.picked;
     }
 
@@ -61,6 +62,6 @@ pub second-reads : (filer : Filer) (p second : Pass Message Layout) → IsReader
     → known second ≡ right (known p) → IsReaderOf filer second
 second-reads filer p second reader of r =
     record {
-      pass = record { of = of; layout = ap (λ (v : Passed). option_map layout_of v.key) r ∙ reader.pass.layout; };
+      reads = record { of = of; layout = ap (λ (v : Passed). option_map layout_of v.key) r ∙ reader.reads.layout };
       picked = ap (λ (v : Passed). v.picked) r;
     }

@@ -1,5 +1,5 @@
 -- Passes that wait for connections or are lent to them.
-use Rattle.std.specs.Prelude.{◌≡◌, ◌≤◌, ℕ, ◌+◌, [], All}
+use Rattle.std.specs.Prelude.{◌≡◌, ℕ, ◌+◌, [], All}
 use Rattle.affinity_tree.specs.declared.layout.Layout.{Layout}
 use Rattle.connections.specs.Admitted.{IsPassFor}
 use Rattle.connections.specs.Opened.{lent_to}
@@ -22,7 +22,7 @@ share_lent k connection = share_of k (lent_to connection)
 
 -- a pass of the filer's queue that has picked nothing
 pub record IsReaderOf (filer : Filer) (pass : Pass Message Layout) : Type 0 where
-  pub pass : IsPassFor filer pass
+  pub reads : IsPassFor filer pass
   pub picked : (known pass).picked ≡ []
 
 -- a connection was given such a pass
@@ -32,8 +32,8 @@ IsServedFor filer connection = IsReaderOf filer (lent_to connection)
 -- all passes of the places are such
 pub record AreSlotsOf (filer : Filer) (slots : Slots) : Type 0 where
   pub idle : All (IsReaderOf filer) slots.idle.items
-  pub open : All (IsServedFor filer) slots.open.items
+  pub served : All (IsServedFor filer) slots.served.items
 
 -- the shares of all passes of the places, added up
 abbrev pub share_in : ℕ → Slots → ℕ
-share_in k slots = total (share_of k) slots.idle.items + total (share_lent k) slots.open.items
+share_in k slots = total (share_of k) slots.idle.items + total (share_lent k) slots.served.items

@@ -32,7 +32,7 @@ impl Slots {
         };
         match Connection::open(rt, alloc, shared, stream, pass) {
             Ok(connection) => {
-                self.open.push_reserved(connection);
+                self.served.push_reserved(connection);
                 Ok(())
             }
             Err(refused) => {

@@ -30,6 +30,8 @@ fn reap_one<R: Threads>(
         → All (IsReaderOf filer) idle.new.items × All (IsServedFor filer) others.new.items }
     ensures count { vec_len idle.new + vec_len others.new
         ≡ vec_len idle.old + vec_len others.old + 1 }
+    ensures grow { (vec_len idle.old ≤ vec_len idle.new)
+        × (vec_len others.old ≤ vec_len others.new) }
     ensures share { (k : ℕ) → total (share_of k) idle.new.items
         + total (share_lent k) others.new.items
         ≡ share_lent k connection
@@ -37,37 +39,37 @@ fn reap_one<R: Threads>(
     ensures room { (vec_capacity idle.new ≡ vec_capacity idle.old)
         × (vec_capacity others.new ≡ vec_capacity others.old) }
 {
-    if connection.is_over() {
-        idle.push_reserved(connection.join(rt));
-    } else {
+    if !connection.is_over() {
         others.push_reserved(connection);
+        return;
     }
+    idle.push_reserved(connection.join(rt));
 }
 
 /// Takes the passes back of all connections whose threads have ended, and keeps the others.
 fn reap_all<R: Threads>(
     rt: &R,
     idle: &mut Vec<Pass<Message, Layout>>,
-    open: &mut Vec<Connection>,
+    served: &mut Vec<Connection>,
     others: &mut Vec<Connection>,
 )
-    requires idle { vec_len idle.old + vec_len open.old ≤ vec_capacity idle.old }
-    requires others { vec_len others.old + vec_len open.old ≤ vec_capacity others.old }
-    ensures all { (filer : Filer) → All (IsServedFor filer) open.old.items
+    requires idle { vec_len idle.old + vec_len served.old ≤ vec_capacity idle.old }
+    requires others { vec_len others.old + vec_len served.old ≤ vec_capacity others.old }
+    ensures all { (filer : Filer) → All (IsServedFor filer) served.old.items
         → All (IsReaderOf filer) idle.old.items → All (IsServedFor filer) others.old.items
         → All (IsReaderOf filer) idle.new.items × All (IsServedFor filer) others.new.items }
-    ensures none { vec_len open.new ≡ 0 }
+    ensures none { vec_len served.new ≡ 0 }
     ensures count { vec_len idle.new + vec_len others.new
-        ≡ vec_len idle.old + vec_len others.old + vec_len open.old }
+        ≡ vec_len idle.old + vec_len others.old + vec_len served.old }
     ensures share { (k : ℕ) → total (share_of k) idle.new.items
         + total (share_lent k) others.new.items
         ≡ total (share_of k) idle.old.items + total (share_lent k) others.old.items
-        + total (share_lent k) open.old.items }
+        + total (share_lent k) served.old.items }
     ensures room { (vec_capacity idle.new ≡ vec_capacity idle.old)
         × (vec_capacity others.new ≡ vec_capacity others.old)
-        × (vec_capacity open.new ≡ vec_capacity open.old) }
+        × (vec_capacity served.new ≡ vec_capacity served.old) }
 {
-    while let Some(connection) = open.pop() {
+    while let Some(connection) = served.pop() {
         reap_one(rt, connection, idle, others);
     }
 }
@@ -76,16 +78,16 @@ fn reap_all<R: Threads>(
 fn join_all<R: Threads>(
     rt: &R,
     mut idle: Vec<Pass<Message, Layout>>,
-    mut open: Vec<Connection>,
+    mut served: Vec<Connection>,
 ) -> Vec<Pass<Message, Layout>>
-    requires { vec_len idle + vec_len open ≤ vec_capacity idle }
-    ensures readers { (filer : Filer) → All (IsServedFor filer) open.items
+    requires { vec_len idle + vec_len served ≤ vec_capacity idle }
+    ensures readers { (filer : Filer) → All (IsServedFor filer) served.items
         → All (IsReaderOf filer) idle.items → All (IsReaderOf filer) result.items }
-    ensures count { vec_len result ≡ vec_len idle + vec_len open }
+    ensures count { vec_len result ≡ vec_len idle + vec_len served }
     ensures share { (k : ℕ) → total (share_of k) result.items
-        ≡ total (share_of k) idle.items + total (share_lent k) open.items }
+        ≡ total (share_of k) idle.items + total (share_lent k) served.items }
 {
-    while let Some(connection) = open.pop() {
+    while let Some(connection) = served.pop() {
         idle.push_reserved(connection.join(rt));
     }
     idle
@@ -94,7 +96,7 @@ fn join_all<R: Threads>(
 impl Slots {
     /// Whether no connection is open.
     pub fn is_quiet(&self) -> bool {
-        self.open.is_empty()
+        self.served.is_empty()
     }
 
     /// Whether each place has a connection.
@@ -107,8 +109,8 @@ impl Slots {
         ensures slots { (filer : Filer) → AreSlotsOf filer self.old → AreSlotsOf filer self.new }
         ensures share { (k : ℕ) → share_in k self.new ≡ share_in k self.old }
     {
-        reap_all(rt, &mut self.idle, &mut self.open, &mut self.others);
-        mem::swap(&mut self.open, &mut self.others);
+        reap_all(rt, &mut self.idle, &mut self.served, &mut self.others);
+        mem::swap(&mut self.served, &mut self.others);
     }
 
     /// Waits until a place has no connection.
@@ -149,9 +151,9 @@ impl Slots {
     {
         let Slots {
             idle,
-            open,
+            served,
             others: _,
         } = self;
-        join_all(rt, idle, open)
+        join_all(rt, idle, served)
     }
 }

@@ -11,12 +11,12 @@ use workers::Message;
 #[derive(Drop)]
 pub struct Slots {
     pub(crate) idle: Vec<Pass<Message, Layout>>,
-    pub(crate) open: Vec<Connection>,
+    pub(crate) served: Vec<Connection>,
     /// Room for those that go on when others are taken out.
     pub(crate) others: Vec<Connection>,
-    ghost places: { vec_len idle + vec_len open ≡ 64 },
+    ghost places: { vec_len idle + vec_len served ≡ 64 },
     ghost none: { vec_len others ≡ 0 },
     ghost idle_room: { 64 ≤ vec_capacity idle },
-    ghost open_room: { 64 ≤ vec_capacity open },
+    ghost served_room: { 64 ≤ vec_capacity served },
     ghost others_room: { 64 ≤ vec_capacity others },
 }

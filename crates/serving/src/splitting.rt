@@ -53,9 +53,13 @@ impl Slots {
             → share_in k slots ≡ share_of k pass) }
     {
         let idle = Vec::with_capacity(alloc, PLACES)?;
-        let open = Vec::with_capacity(alloc, PLACES)?;
+        let served = Vec::with_capacity(alloc, PLACES)?;
         let others = Vec::with_capacity(alloc, PLACES)?;
         let idle = split_passes(filer, pass, PLACES - 1, idle);
-        Ok(Slots { idle, open, others })
+        Ok(Slots {
+            idle,
+            served,
+            others,
+        })
     }
 }

@@ -8,7 +8,7 @@ use Rattle.nfs_model.specs.Parts.{Parts, range_blocks, most_ranges, IsBatch}
 use Rattle.nfs_model.specs.Moves.{Carrying, batch, first_filled, lowest_batch, fresh_hand, dead_hand}
 use Rattle.affinity_tree.specs.Tree.{IsNode}
 use Rattle.held_state.specs.Jobs.{InnerCall, Fetch, Deliver, Cull, Free, Survey, JobReply, Took, Gave, Surveyed, Replied, inner_node, InnerMoves}
-use Rattle.workers.specs.Carries.{MovesBatch, NamesBatch, hand_after}
+use Rattle.workers.specs.Carries.{hand_after}
 use Rattle.workers.specs.Words.{IsHandIn}
 
 -- a batch is of one range
@@ -65,19 +65,3 @@ module _ (one : OfOneRange) where
   hand-in layout (Deliver v) used before after (Took hand) node moves = absurd moves
   hand-in layout (Free v r) used before after (Took hand) node moves = absurd moves
   hand-in layout (Survey v) used before after (Took hand) node moves = absurd moves
-
--- a call that moves a batch names it in its reply
-pub names-batch : (call : InnerCall) (used : ℕ) (before after : Parts) (reply : JobReply) → MovesBatch call → InnerMoves call used before reply after
-    → NamesBatch reply
-names-batch call used before after (Took hand) moves did = tt
-names-batch call used before after (Gave hand) moves did = tt
-names-batch (Survey v) used before after (Surveyed told) moves did = moves
-names-batch (Survey v) used before after (Replied reply) moves did = moves
-names-batch (Fetch v r) used before after (Surveyed told) moves did = did
-names-batch (Deliver v) used before after (Surveyed told) moves did = did
-names-batch (Cull v) used before after (Surveyed told) moves did = did
-names-batch (Free v r) used before after (Surveyed told) moves did = did
-names-batch (Fetch v r) used before after (Replied reply) moves did = did
-names-batch (Deliver v) used before after (Replied reply) moves did = did
-names-batch (Cull v) used before after (Replied reply) moves did = did
-names-batch (Free v r) used before after (Replied reply) moves did = did

@@ -1,9 +1,8 @@
 -- A worker after an inner call: its balance, its hand, and what its tend answers.
-use Rattle.std.proofs.Common.{◌≡◌, ℕ, ◌<◌, Bool, true, false, ◌&&◌, List, [], ◌∷◌, length, Option, Ok, Err, refl, sym, ap, ◌∙◌, subst, arith}
-use Rattle.std.proofs.lemmas.Bool.Decides.{nat_tests}
-use Rattle.std.specs.Prelude.{Result, nat_lt, if◌then◌else◌}
+use Rattle.std.proofs.Common.{◌≡◌, List, [], ◌∷◌, Option, refl, sym, ap, ◌∙◌, subst, arith}
+use Rattle.std.specs.Prelude.{Result}
 use Rattle.nfs_model.specs.Tree.{Layout}
-use Rattle.nfs_model.specs.Parts.{Hand, Empty, Fresh, Dead, range_of}
+use Rattle.nfs_model.specs.Parts.{Hand}
 use Rattle.affinity_tree.specs.Tree.{IsNode}
 use Rattle.depot_rule.specs.Sums.{total}
 use Rattle.depot_rule.specs.lemmas.Sums.{total-append}
@@ -19,17 +18,12 @@ use Rattle.service.specs.declared.job.Job.TheVariants.{Serve, Inner}
 use Rattle.workers.specs.declared.message.Message.{Message}
 use Rattle.workers.specs.declared.tend.Carried.{Carried}
 use Rattle.workers.specs.declared.tend.Carried.TheVariants.{Done, Refused}
-use Rattle.workers.specs.declared.tend.Tend.{Tend}
-use Rattle.workers.specs.declared.tend.Tend.TheVariants.{Fetch, Cull, PutDown}
 use Rattle.workers.specs.declared.tend.TendRefusal.{TendRefusal}
-use Rattle.workers.specs.declared.tend.TendRefusal.TheVariants.{NoSuchRange}
 use Rattle.workers.specs.declared.tend.Tended.{Tended}
-use Rattle.workers.specs.declared.worker.Worker.{Worker}
 use Rattle.workers.specs.Balance.{Passed, FilerView, FilerEntry, Weight, by_job, by_entry, IsEven}
-use Rattle.workers.specs.Carries.{FitsHand, MovesBatch, HasCarried, HasMovedBatch, IsToldOf, hand_after}
-use Rattle.workers.specs.Tends.{hand_in, call_of, Answers}
-use Rattle.workers.specs.Words.{seat_view, IsHandIn}
-use Rattle.workers.proofs.Batches.{OfOneRange, hand-in, names-batch}
+use Rattle.workers.specs.Carries.{HasCarried, IsToldOf, hand_after}
+use Rattle.workers.specs.Words.{IsHandIn}
+use Rattle.workers.proofs.Batches.{OfOneRange, hand-in}
 
 -- ---- entries of inner calls
 
@@ -52,14 +46,6 @@ gives-same i j (jobs.Surveyed told) = refl
 gives-same i j (jobs.Replied reply) = refl
 
 module _ (layout : Layout) (v w : FilerView) (call : InnerCall) (hand : Hand) where
-  -- ---- what its call has to be
-
-  pub moved-batch : (carried : Carried) → HasCarried layout v call hand carried w → MovesBatch call → HasMovedBatch carried
-  moved-batch (Done reply) did moves =
-      let d = did.did in
-      names-batch call (ranges_used d.before.ranges) (parts_of d.before) (parts_of d.after) (job_reply_of reply) moves d.moves
-  moved-batch (Refused back refusal) did moves = tt
-
   -- ---- the worker after it
 
   pub still-even : (carried : Carried) (pass : Passed) (kept : Option Message) → HasCarried layout v call hand carried w → IsEven pass (entries_of v) kept
@@ -102,57 +88,3 @@ module _ (layout : Layout) (v w : FilerView) (call : InnerCall) (hand : Hand) wh
       subst (λ h. IsHandIn layout h) (sym told.0)
       (hand-in one layout call (ranges_used d.before.ranges) (parts_of d.before) (parts_of d.after) (job_reply_of reply) node d.moves)
   hand-inside one (Refused back refusal) next answer did told node inside = subst (λ h. IsHandIn layout h) (sym (told.0 ∙ did.0)) inside
-
--- what its tend answers
-pub answers-so : (layout : Layout) (before after : Worker) (call : InnerCall) (carried : Carried) (answer : Result Tended TendRefusal)
-    → HasCarried layout (seat_view before) call (hand_in before) carried (seat_view after) → IsToldOf carried (hand_in after) answer
-    → Answers layout before (Ok call) answer after
-answers-so layout before after call (Done reply) answer did told =
-    subst (λ (a : Result Tended TendRefusal). Answers layout before (Ok call) a after) (sym told.2)
-    (record { reply = job_reply_of reply; carries = did; hand = told.0; told = told.3 })
-answers-so layout before after call (Refused back refusal) answer did told =
-    subst (λ (a : Result Tended TendRefusal). Answers layout before (Ok call) a after) (sym told.1) (did.1, told.0 ∙ did.0, did.2)
-
--- ---- the inner call of a tend fits what is in the hand
-
-abbrev Asked : Type 0
-Asked = Result InnerCall TendRefusal
-
-abbrev asks : InnerCall → Asked
-asks call = Ok call
-
-asks-is : (x y : InnerCall) → asks x ≡ asks y → x ≡ y
-asks-is x y e = cc
-
-less : (a b : ℕ) → nat_lt a b ≡ true → a < b
-less a b e = grind (arith, nat_tests, e)
-
-module _ (layout : Layout) (call : InnerCall) where
-  abbrev or_none : Bool → InnerCall → Asked
-  or_none x asked = if x then Ok asked else Err NoSuchRange
-
-  fetch-fits : (v r : ℕ) (x y : Bool) → nat_lt v (length layout.volumes) ≡ x → nat_lt r 16 ≡ y → or_none (x && y) (jobs.Fetch v r) ≡ asks call
-      → FitsHand layout call Empty
-  fetch-fits v r true true a b e = subst (λ (k : InnerCall). FitsHand layout k Empty) (asks-is (jobs.Fetch v r) call e)
-      (record { node = (less v (length layout.volumes) a, less r 16 b); moves = tt; fits = refl })
-  fetch-fits v r true false a b e = absurd (let no : ⊥ = cc in no)
-  fetch-fits v r false y a b e = absurd (let no : ⊥ = cc in no)
-
-  cull-fits : (v : ℕ) (x : Bool) → nat_lt v (length layout.volumes) ≡ x → or_none x (jobs.Cull v) ≡ asks call → FitsHand layout call Empty
-  cull-fits v true a e = subst (λ (k : InnerCall). FitsHand layout k Empty) (asks-is (jobs.Cull v) call e)
-      (record { node = less v (length layout.volumes) a; moves = tt; fits = refl })
-  cull-fits v false a e = absurd (let no : ⊥ = cc in no)
-
-  pub asked-fits : (tend : Tend) (hand : Hand) → IsHandIn layout hand → call_of layout tend hand ≡ asks call → FitsHand layout call hand
-  asked-fits (Fetch volume range) Empty inside e =
-      fetch-fits volume.0 range (nat_lt volume.0 (length layout.volumes)) (nat_lt range 16) refl refl e
-  asked-fits (Fetch volume range) (Fresh v bs) inside e = absurd (let no : ⊥ = cc in no)
-  asked-fits (Fetch volume range) (Dead v bs) inside e = absurd (let no : ⊥ = cc in no)
-  asked-fits (Cull volume) Empty inside e = cull-fits volume.0 (nat_lt volume.0 (length layout.volumes)) refl e
-  asked-fits (Cull volume) (Fresh v bs) inside e = absurd (let no : ⊥ = cc in no)
-  asked-fits (Cull volume) (Dead v bs) inside e = absurd (let no : ⊥ = cc in no)
-  asked-fits PutDown Empty inside e = absurd (let no : ⊥ = cc in no)
-  asked-fits PutDown (Fresh v bs) inside e = subst (λ (k : InnerCall). FitsHand layout k (Fresh v bs)) (asks-is (jobs.Deliver v) call e)
-      (record { node = inside.0; moves = tt; fits = (bs, refl, inside.1) })
-  asked-fits PutDown (Dead v bs) inside e = subst (λ (k : InnerCall). FitsHand layout k (Dead v bs)) (asks-is (jobs.Free v (range_of bs)) call e)
-      (record { node = inside.0; moves = tt; fits = (bs, refl, inside.1, refl) })

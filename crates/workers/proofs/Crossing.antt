@@ -24,19 +24,43 @@ use Rattle.crossings.proofs.Outboxes.{room-send, outboxes-send}
 use Rattle.crossings.proofs.Parcels.{logical-parcel-send}
 
 pub message-send : IsSend Message.the_row
-message-send = declared_send Message.the_type (as_row_send Origin.the_field origin.the_field_send, (search (call.the_send, sendable) depth 20,
-    (search (credential.the_send, sendable) depth 20, (search (affinity.the_send, sendable) depth 20, (as_row_send Room.the_field room-send, tt)))))
+message-send = declared_send Message.the_type (
+  as_row_send Origin.the_field origin.the_field_send,
+  (
+    search (call.the_send, sendable) depth 20,
+    (search (credential.the_send, sendable) depth 20, (search (affinity.the_send, sendable) depth 20, (as_row_send Room.the_field room-send, tt))),
+  ),
+)
 
 pub worker-send : IsSend Worker.the_row
-worker-send = declared_send Worker.the_type (search (seat.the_send, sendable) depth 20, (search (pass.the_send, message-send, sendable) depth 20,
-    (search (batch.the_send, sendable) depth 20, (search (message-send, crosses, sendable) depth 20, tt))))
+worker-send = declared_send Worker.the_type (
+  search (seat.the_send, sendable) depth 20,
+  (
+    search (pass.the_send, message-send, sendable) depth 20,
+    (search (batch.the_send, sendable) depth 20, (search (message-send, crosses, sendable) depth 20, tt)),
+  ),
+)
 
 pub filer-send : IsSend Filer.the_row
-filer-send = declared_send Filer.the_type (search (crosses, sendable), (search (verifier.the_send, sendable),
-    (search (depot.the_send, parcel.the_send, range.the_send, stripe.the_send, logical-parcel-send, crosses, sendable) depth 20,
-    (search (waiting.the_send, message-send, sendable), (search (outboxes-send, crosses, sendable), tt)))))
+filer-send = declared_send Filer.the_type (
+  search (crosses, sendable),
+  (
+    search (verifier.the_send, sendable),
+    (
+      search (depot.the_send, parcel.the_send, range.the_send, stripe.the_send, logical-parcel-send, crosses, sendable) depth 20,
+      (search (waiting.the_send, message-send, sendable), (search (outboxes-send, crosses, sendable), tt)),
+    ),
+  ),
+)
 
 pub filer-sync : IsSync Filer.the_row
-filer-sync = declared_sync Filer.the_type (search (crosses, sendable) depth 20, (search (verifier.the_sync, sendable) depth 20,
-    (search (depot.the_sync, parcel.the_send, range.the_send, stripe.the_send, logical-parcel-send, crosses, sendable) depth 20,
-    (search (waiting.the_sync, message-send, sendable) depth 20, (search (outboxes-send, crosses, sendable) depth 20, tt)))))
+filer-sync = declared_sync Filer.the_type (
+  search (crosses, sendable) depth 20,
+  (
+    search (verifier.the_sync, sendable) depth 20,
+    (
+      search (depot.the_sync, parcel.the_send, range.the_send, stripe.the_send, logical-parcel-send, crosses, sendable) depth 20,
+      (search (waiting.the_sync, message-send, sendable) depth 20, (search (outboxes-send, crosses, sendable) depth 20, tt)),
+    ),
+  ),
+)

@@ -13,8 +13,8 @@ impl Worker {
     ghost use Rattle.depot.specs.Words.{view, splits_left, IsSeatHere};
     ghost use Rattle.nfs_model.specs.Parts as parts;
     ghost use Rattle.shared_waiting.specs.Passes.{known, IsOf};
-    ghost use Rattle.workers.specs.Words.{layout_in, layout_known, verifier_in};
-    ghost use Rattle.workers.specs.Words.{passed, seat_view, seats_in, HasDoneNothing, IsIn, IsReady};
+    ghost use Rattle.workers.specs.Words.{layout_in, layout_known, passed, seat_view, seats_in};
+    ghost use Rattle.workers.specs.Words.{verifier_in, HasDoneNothing, IsIn, IsReady};
 
     /// A worker with a filer's first seat and pass, as `Filer::new` answers them. It has done
     /// nothing, carries nothing and keeps nothing.

@@ -1,11 +1,10 @@
 //! What a worker does without a message.
 
-ghost use Rattle.std.specs.Prelude.{◌≡◌, ◌<◌, length, nat_lt, Ok, Err, MatchResult};
+ghost use Rattle.std.specs.Prelude.{◌≡◌, length, nat_lt, Ok, Err, MatchResult};
 ghost use Rattle.affinity_tree.specs.Layout.{layout_of};
 ghost use Rattle.nfs_model.specs.Events.Refusals.{is_empty_hand};
 ghost use Rattle.service.specs.Jobs.{inner_of, job_reply_of};
-ghost use Rattle.workers.specs.Carries.{hand_after, HasMovedBatch, IsToldAs, IsToldOf};
-ghost use Rattle.workers.specs.Carries.{NamesBatch};
+ghost use Rattle.workers.specs.Carries.{hand_after, HasMovedBatch, IsToldAs, IsToldOf, NamesBatch};
 ghost use Rattle.workers.specs.Tends.{call_of, call_to_put};
 ghost use Rattle.workers.specs.Words.{IsHandIn};
 
@@ -130,7 +129,6 @@ fn answer(carried: Carried) -> (BatchInHand, Result<Tended, TendRefusal>)
 }
 
 impl Worker {
-    ghost use Rattle.nfs_model.specs.Parts as parts;
     ghost use Rattle.workers.specs.Carries.{FitsHand};
     ghost use Rattle.workers.specs.Tends.{hand_in, kept_in, Answers, IsNextTend, Tends};
     ghost use Rattle.workers.specs.Words.{layout_in, passed, seats_in, IsIn};

@@ -5,8 +5,7 @@ use crate::came::Came;
 use crate::filer_worker::FilerWorker;
 use affinity_tree::Affinity;
 use nfs_values::VolumeNumber;
-use std::cell::Cell;
-use std::sync::Wait;
+use std::sync::{Mutex, Wait};
 use workers::{Gate, Place, Stage, Tend, TendRefusal};
 
 /// Nobody.
@@ -27,18 +26,19 @@ pub(crate) struct Met {
 
 /// A second worker, which makes a turn and a tend after each begin of the first.
 #[derive(Drop)]
-pub(crate) struct Looking<'a, R> {
-    pub(crate) rt: &'a R,
-    pub(crate) second: Cell<Option<FilerWorker<'a>>>,
-    pub(crate) met: Cell<Option<Met>>,
+pub(crate) struct Looking<'r, 'a, R> {
+    pub(crate) rt: &'r R,
+    pub(crate) second: Mutex<Option<FilerWorker<'a>>>,
+    pub(crate) met: Mutex<Option<Met>>,
 }
 
-impl<R: Wait> Gate for Looking<'_, R> {
+impl<R: Wait> Gate for Looking<'_, '_, R> {
     fn pass(&self, place: Place) {
         if place.stage != Stage::Begun {
             return;
         }
-        let Some(second) = self.second.replace(None) else {
+        let taken = self.second.lock(self.rt).take();
+        let Some(second) = taken else {
             return;
         };
         let (second, came) = second.turn(self.rt, &Nobody, at(9));
@@ -50,7 +50,7 @@ impl<R: Wait> Gate for Looking<'_, R> {
             Err(TendRefusal::Busy { node, word }) => Some((node, word)),
             _ => None,
         };
-        self.met.set(Some(Met { came, tended }));
-        self.second.set(Some(second));
+        *self.met.lock(self.rt) = Some(Met { came, tended });
+        *self.second.lock(self.rt) = Some(second);
     }
 }

@@ -13,10 +13,9 @@ use crate::texts::{ACCEPTED, bytes_of, mark, root_shown};
 use affinity_tree::Affinity;
 use nfs_values::{Call, ConnectionNumber, CreateMode, Moment, SetAttributes, VolumeNumber};
 use scheduler::Origin;
-use std::cell::Cell;
 use std::fmt::Debug;
 use std::process::Abort;
-use std::sync::Wait;
+use std::sync::{Mutex, Wait};
 use workers::{Filer, Tend};
 
 /// Looks whether this is what is wanted.
@@ -165,8 +164,8 @@ fn two_workers(rt: HostRuntime) {
     }
     let looking = Looking {
         rt: &rt,
-        second: Cell::new(Some(second)),
-        met: Cell::new(None),
+        second: Mutex::new(Some(second)),
+        met: Mutex::new(None),
     };
     let (_first, came) = first.turn(&rt, &looking, at(4));
     same(&rt, &came, &Came::Done(connection, 1));
@@ -175,8 +174,13 @@ fn two_workers(rt: HostRuntime) {
         came: Came::Busy(names, 1 << 32),
         tended: Some((names, 1 << 32)),
     };
-    same(&rt, &looking.met.get(), &Some(met));
-    let second = looking.second.replace(None).expect(&rt, "no worker");
+    let Looking {
+        rt: _,
+        second,
+        met: found,
+    } = looking;
+    same(&rt, &found.into_inner(), &Some(met));
+    let second = second.into_inner().expect(&rt, "no worker");
     let (_second, came) = second.turn(&rt, &Nobody, at(5));
     same(&rt, &came, &Came::Done(connection, 2));
 }

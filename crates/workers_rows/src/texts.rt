@@ -8,7 +8,7 @@ pub(crate) const ACCEPTED: [u32; 5] = [1, 0, 0, 0, 0];
 
 /// The mark of a record of one fragment.
 pub(crate) const fn mark(bytes: u32) -> u32 {
-    0x8000_0000 + bytes
+    0x8000_0000 | bytes
 }
 
 /// What is shown of the root of a volume (fattr3, RFC 1813 section 2.5).

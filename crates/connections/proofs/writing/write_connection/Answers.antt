@@ -22,4 +22,4 @@ pub loop-preserved : goal.loop-preserved
 loop-preserved g c =
     let did = c.loop.invariant.did in
     let h = c.in-Ok.ensures in
-    record { same = h.4 ∙ c.loop.invariant.same; did = (did.0 ++ h.0, all-sent _ _ _ did.0 h.0 did.1 h.3); }
+    record { same = h.4 ∙ c.loop.invariant.same; did = (did.0 ++ h.0, all-sent _ _ _ did.0 h.0 did.1 h.3) }

@@ -26,10 +26,13 @@ loop-thread-preserved g c =
     record {
       room = omega (arith, a, b, l, r);
       inside = λ filer serves workers.
-        let both = i.inside filer serves workers in
-        let popped = all-popped (ServesIn filer) all rest t was both.0 in
-        (popped.0, all-pushed (IsIn filer) xs ys w is both.1 (subst (λ (f : Filer). IsIn f w) popped.1 c.join.ensures.0));
+          let both = i.inside filer serves workers in
+          let popped = all-popped (ServesIn filer) all rest t was both.0 in
+          (popped.0, all-pushed (IsIn filer) xs ys w is both.1 (subst (λ (f : Filer). IsIn f w) popped.1 c.join.ensures.0));
       len = omega (arith, a, l, n);
       seats = handed seats_in seats_with xs ys all rest w t is was heir.1 ∙ i.seats;
-      share = λ k. handed (share_of k) (share_with k) xs ys all rest w t is was (same-share k (started_with t) w heir) ∙ i.share k
+      share = λ k. handed (share_of k) (share_with k) xs ys all rest w t is was (same-share k (started_with t) w heir) ∙ i.share k;
     }
+
+pub returns-clause-inside : goal.returns-clause-inside
+returns-clause-inside g c filer serves workers = (c.loop-thread.invariant.inside filer serves workers).1

@@ -15,7 +15,7 @@ invariant-loop-thread g l = record {
   seats : total seats_in l.workers.items + total seats_with l.threads.items
       ≡ total seats_in l.fn.workers.items + total seats_with l.fn.threads.items;
   share : (k : ℕ) → total (share_of k) l.workers.items + total (share_with k) l.threads.items
-      ≡ total (share_of k) l.fn.workers.items + total (share_with k) l.fn.threads.items
+      ≡ total (share_of k) l.fn.workers.items + total (share_with k) l.fn.threads.items;
 }
 
 abbrev pub decreases-loop-thread : goal.decreases-loop-thread

@@ -16,7 +16,7 @@ invariant-loop-worker g l = record {
   seats : total seats_with l.threads.items + total seats_in l.workers.items
       ≡ total seats_with l.fn.threads.items + total seats_in l.fn.workers.items;
   share : (k : ℕ) → total (share_with k) l.threads.items + total (share_of k) l.workers.items
-      ≡ total (share_with k) l.fn.threads.items + total (share_of k) l.fn.workers.items
+      ≡ total (share_with k) l.fn.threads.items + total (share_of k) l.fn.workers.items;
 }
 
 abbrev pub decreases-loop-worker : goal.decreases-loop-worker

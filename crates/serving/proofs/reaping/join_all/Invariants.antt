@@ -7,13 +7,13 @@ use Rattle.serving.proofs.reaping.join_all.Given as goal
 
 abbrev pub invariant-loop-connection : goal.invariant-loop-connection
 invariant-loop-connection g l = record {
-  room : vec_len l.idle + vec_len l.open ≤ vec_capacity l.idle;
-  readers : (filer : Filer) → All (IsServedFor filer) l.fn.open.items → All (IsReaderOf filer) l.fn.idle.items
-      → All (IsServedFor filer) l.open.items × All (IsReaderOf filer) l.idle.items;
-  count : vec_len l.idle + vec_len l.open ≡ vec_len l.fn.idle + vec_len l.fn.open;
-  share : (k : ℕ) → total (share_of k) l.idle.items + total (share_lent k) l.open.items
-      ≡ total (share_of k) l.fn.idle.items + total (share_lent k) l.fn.open.items
+  room : vec_len l.idle + vec_len l.served ≤ vec_capacity l.idle;
+  readers : (filer : Filer) → All (IsServedFor filer) l.fn.served.items → All (IsReaderOf filer) l.fn.idle.items
+      → All (IsServedFor filer) l.served.items × All (IsReaderOf filer) l.idle.items;
+  count : vec_len l.idle + vec_len l.served ≡ vec_len l.fn.idle + vec_len l.fn.served;
+  share : (k : ℕ) → total (share_of k) l.idle.items + total (share_lent k) l.served.items
+      ≡ total (share_of k) l.fn.idle.items + total (share_lent k) l.fn.served.items;
 }
 
 abbrev pub decreases-loop-connection : goal.decreases-loop-connection
-decreases-loop-connection g l = vec_len l.open
+decreases-loop-connection g l = vec_len l.served

@@ -7,18 +7,18 @@ use Rattle.serving.proofs.reaping.reap_all.Given as goal
 
 abbrev pub invariant-loop-connection : goal.invariant-loop-connection
 invariant-loop-connection g l = record {
-  idle_room : vec_len l.idle + vec_len l.open ≤ vec_capacity l.idle;
-  others_room : vec_len l.others + vec_len l.open ≤ vec_capacity l.others;
-  all : (filer : Filer) → All (IsServedFor filer) l.fn.open.items → All (IsReaderOf filer) l.fn.idle.items
+  idle_room : vec_len l.idle + vec_len l.served ≤ vec_capacity l.idle;
+  others_room : vec_len l.others + vec_len l.served ≤ vec_capacity l.others;
+  all : (filer : Filer) → All (IsServedFor filer) l.fn.served.items → All (IsReaderOf filer) l.fn.idle.items
       → All (IsServedFor filer) l.fn.others.items
-      → All (IsServedFor filer) l.open.items × All (IsReaderOf filer) l.idle.items × All (IsServedFor filer) l.others.items;
-  count : vec_len l.idle + vec_len l.others + vec_len l.open ≡ vec_len l.fn.idle + vec_len l.fn.others + vec_len l.fn.open;
-  share : (k : ℕ) → total (share_of k) l.idle.items + total (share_lent k) l.others.items + total (share_lent k) l.open.items
-      ≡ total (share_of k) l.fn.idle.items + total (share_lent k) l.fn.others.items + total (share_lent k) l.fn.open.items;
+      → All (IsServedFor filer) l.served.items × All (IsReaderOf filer) l.idle.items × All (IsServedFor filer) l.others.items;
+  count : vec_len l.idle + vec_len l.others + vec_len l.served ≡ vec_len l.fn.idle + vec_len l.fn.others + vec_len l.fn.served;
+  share : (k : ℕ) → total (share_of k) l.idle.items + total (share_lent k) l.others.items + total (share_lent k) l.served.items
+      ≡ total (share_of k) l.fn.idle.items + total (share_lent k) l.fn.others.items + total (share_lent k) l.fn.served.items;
   idle_same : vec_capacity l.idle ≡ vec_capacity l.fn.idle;
   others_same : vec_capacity l.others ≡ vec_capacity l.fn.others;
-  open_same : vec_capacity l.open ≡ vec_capacity l.fn.open
+  served_same : vec_capacity l.served ≡ vec_capacity l.fn.served;
 }
 
 abbrev pub decreases-loop-connection : goal.decreases-loop-connection
-decreases-loop-connection g l = vec_len l.open
+decreases-loop-connection g l = vec_len l.served

@@ -13,5 +13,5 @@ invariant-loop l = record {
   readers : All (IsReaderOf l.fn.filer) l.into.items;
   halvings : (known l.rest).halvings ≡ (known l.fn.pass).halvings + vec_len l.into;
   share : (k : ℕ) → (known l.fn.pass).halvings + l.fn.more ≤ k
-      → total (share_of k) l.into.items + share_of k l.rest ≡ share_of k l.fn.pass
+      → total (share_of k) l.into.items + share_of k l.rest ≡ share_of k l.fn.pass;
 }

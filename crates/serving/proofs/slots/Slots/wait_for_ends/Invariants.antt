@@ -6,5 +6,5 @@ use Rattle.serving.proofs.slots.Slots.wait_for_ends.Given as goal
 abbrev pub invariant-loop : goal.invariant-loop
 invariant-loop g l = record {
   slots : (filer : Filer) → AreSlotsOf filer l.fn.self → AreSlotsOf filer l.self;
-  share : (k : ℕ) → share_in k l.self ≡ share_in k l.fn.self
+  share : (k : ℕ) → share_in k l.self ≡ share_in k l.fn.self;
 }
