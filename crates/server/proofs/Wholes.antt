@@ -1,5 +1,5 @@
 -- What a filer's threads have together, from its opening to its end.
-use Rattle.std.proofs.Common.{◌≡◌, ◌≤◌, ℕ, suc, ◌+◌, ◌-◌, ◌*◌, ◌^◌, List, [], ◌∷◌, All, refl, ap, sym, ◌∙◌, arith, mul-add}
+use Rattle.std.proofs.Common.{◌≡◌, ◌≤◌, ℕ, ◌+◌, ◌-◌, ◌*◌, ◌^◌, List, [], ◌∷◌, All, refl, ap, sym, ◌∙◌, arith, mul-add}
 use Rattle.std.specs.List.{AllByRecursion}
 use Rattle.std.proofs.lemmas.List.Elements.{recursion_from_All}
 use Rattle.std.proofs.lemmas.Nat.{pow-add}
@@ -43,14 +43,14 @@ opened filer worker slots v second inside seats places whole l r share =
     record {
       inside = inside;
       seats = seats;
-      slots = places;
+      places = places;
       level = v.halvings + 64;
       whole = λ k le.
-        let e : (known second).halvings ≡ v.halvings + 1 = ap (λ (w : Passed). w.halvings) r in
-        let a : share_of k worker ≡ part k (left v) = ap (λ (w : Passed). part k w) l in
-        let b : share_in k slots ≡ part k (right v) = share k (omega (arith, e, le)) ∙ ap (λ (w : Passed). part k w) r in
-        let c = halves-whole v k (omega (arith, le)) whole in
-        omega (arith, a, b, c);
+          let e : (known second).halvings ≡ v.halvings + 1 = ap (λ (w : Passed). w.halvings) r in
+          let a : share_of k worker ≡ part k (left v) = ap (λ (w : Passed). part k w) l in
+          let b : share_in k slots ≡ part k (right v) = share k (omega (arith, e, le)) ∙ ap (λ (w : Passed). part k w) r in
+          let c = halves-whole v k (omega (arith, le)) whole in
+          omega (arith, a, b, c);
     }
 
 -- ---- running
@@ -63,10 +63,10 @@ running filer worker slots pool count o serve seats share =
     record {
       serve = serve;
       seats = seats ∙ o.seats;
-      slots = o.slots;
+      places = o.places;
       level = o.level + ((passed worker).halvings + count);
       whole = λ k le.
-        ap (λ n. n + share_in k slots) (share k (omega (arith, le))) ∙ o.whole k (omega (arith, le));
+          ap (λ n. n + share_in k slots) (share k (omega (arith, le))) ∙ o.whole k (omega (arith, le));
     }
 
 -- the places' connections come and go
@@ -76,7 +76,7 @@ runs-on filer pool before after r places share =
     record {
       serve = r.serve;
       seats = r.seats;
-      slots = places;
+      places = places;
       level = r.level;
       whole = λ k le. ap (λ n. total (share_with k) (threads_of pool) + n) (share k) ∙ r.whole k le;
     }

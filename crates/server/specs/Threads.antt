@@ -18,7 +18,7 @@ use Rattle.workers.specs.declared.worker.Worker.{Worker}
 pub record IsOpened (filer : Filer) (worker : Worker) (slots : Slots) : Type 0 where
   pub inside : IsIn filer worker
   pub seats : seats_in worker ≡ 64
-  pub slots : AreSlotsOf filer slots
+  pub places : AreSlotsOf filer slots
   pub level : ℕ
   pub whole : (k : ℕ) → level ≤ k → share_of k worker + share_in k slots ≡ 2 ^ k
 
@@ -26,13 +26,13 @@ pub record IsOpened (filer : Filer) (worker : Worker) (slots : Slots) : Type 0 w
 pub record IsRunning (filer : Filer) (pool : Pool) (slots : Slots) : Type 0 where
   pub serve : All (ServesIn filer) (threads_of pool)
   pub seats : total seats_with (threads_of pool) ≡ 64
-  pub slots : AreSlotsOf filer slots
+  pub places : AreSlotsOf filer slots
   pub level : ℕ
   pub whole : (k : ℕ) → level ≤ k → total (share_with k) (threads_of pool) + share_in k slots ≡ 2 ^ k
 
 -- All threads have ended: what is left is the filer's, and all that connections put was finished, kept, or waits.
 pub record HasStopped (filer : Filer) (left : Left) : Type 0 where
-  pub left : IsLeftOf filer left
+  pub leaves : IsLeftOf filer left
   pub passes : List FilerPass
   pub readers : All (IsReaderOf filer) passes
   pub calls : (weight : Weight) → total (put_by weight) passes ≡ calls_by weight left

@@ -76,11 +76,7 @@ fn open_filer(
 }
 
 /// What a server has before its threads run.
-pub(crate) fn open(
-    alloc: Global,
-    layout: Layout,
-    verifier: [u8; 8],
-) -> Result<Opened, AllocError>
+pub(crate) fn open(alloc: Global, layout: Layout, verifier: [u8; 8]) -> Result<Opened, AllocError>
     ensures opened { IfOk result (λ o. IsOpened (arc_value o.shared.filer) o.worker o.slots) }
     ensures vacant { IfOk result (λ o. IsVacant o.pool) }
 {
