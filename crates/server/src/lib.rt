@@ -1,6 +1,7 @@
-//! A filer with its threads: opened, served to the connections of a listener, and stopped.
+//! A filer with its threads: opened, served to the connections of a listener, stopped and closed.
 #![tactic(auto)]
 
+mod ending;
 mod fault;
 mod opening;
 mod options;

@@ -6,6 +6,7 @@ ghost use Rattle.pool.specs.Pools.{IsVacant};
 ghost use Rattle.server.specs.Threads.{HasStopped, IsOpened, IsRunning};
 ghost use Rattle.serving.specs.Places.{share_in, AreSlotsOf};
 
+use crate::ending::end;
 use crate::fault::{ServerFault, of_serving, of_start};
 use crate::opening::{Opened, layout_of, open, verifier_now};
 use crate::options::Options;
@@ -29,6 +30,13 @@ struct Running {
     pool: Pool,
     slots: Slots,
     room: Room,
+}
+
+/// A filer whose threads have ended.
+#[derive(Drop)]
+struct Stopped {
+    shared: Shared,
+    left: Left,
 }
 
 /// Starts so many workers of a filer.
@@ -98,12 +106,13 @@ fn run<R, W>(
     connections: u64,
     running: Running,
     out: &mut W,
-) -> Result<Left, ServerFault>
+) -> Result<Stopped, ServerFault>
 where
     R: Threads + Wait + Clock + Copy + Drop + Send + 'static,
     W: Write,
     requires { IsRunning (arc_value running.shared.filer) running.pool running.slots }
-    ensures { IfOk result (HasStopped (arc_value running.shared.filer)) }
+    ensures { IfOk result (λ stopped. HasStopped (arc_value stopped.shared.filer) stopped.left
+        × (arc_value stopped.shared.filer ≡ arc_value running.shared.filer)) }
 {
     let Running {
         shared,
@@ -112,7 +121,10 @@ where
         room,
     } = running;
     match accept(rt, alloc, &shared, listener, connections, &mut slots, out) {
-        Ok(()) => Ok(stop(&rt, &shared, pool, slots, room)),
+        Ok(()) => {
+            let left = stop(&rt, &shared, pool, slots, room);
+            Ok(Stopped { shared, left })
+        }
         Err(fault) => {
             let _workers = pool.stop(&rt);
             Err(fault)
@@ -122,7 +134,7 @@ where
 
 /// Serves the connections of a listener: prints `listening` and the address that it is bound to,
 /// takes as many connections as the options say, waits for their ends, stops the workers, and
-/// prints `left` and how many messages weren't finished.
+/// closes the filer, and prints `left` and how many messages weren't finished.
 pub fn serve<R, W>(
     rt: R,
     alloc: Global,
@@ -137,7 +149,8 @@ where
     let layout = layout_of(alloc, options.volumes)?;
     let opened = open(alloc, layout, verifier_now(&rt))?;
     let running = start(rt, opened, options.workers)?;
-    let left = run(rt, alloc, listener, options.connections, running, out)?;
+    let Stopped { shared, left } = run(rt, alloc, listener, options.connections, running, out)?;
     let count = left.kept.len() + left.waiting.len();
+    let _ended = end(shared, left);
     writeln!(out, "left {count}").map_err(|_| ServerFault::Output)
 }
