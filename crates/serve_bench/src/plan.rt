@@ -1,6 +1,6 @@
 //! What the connections of a run do.
 
-ghost use Rattle.std.specs.Prelude.{◌≡◌, ◌≤◌, ◌<◌, IfOk};
+ghost use Rattle.std.specs.Prelude.{◌≤◌, ◌<◌};
 
 use crate::call::Call;
 use crate::lane::{LANES, TURNS, lane_of, turn_of};
@@ -93,10 +93,10 @@ pub fn new_plan<'a>(
     lanes: u32,
     count: u32,
 ) -> Result<Plan<'a>, AllocError>
-    requires some { 0 < connections }
-    requires few { connections ≤ 64 }
-    requires lane { 0 < lanes }
-    requires lanes { lanes ≤ LANES }
+    requires some_connection { 0 < connections }
+    requires few_connections { connections ≤ 64 }
+    requires some_lane { 0 < lanes }
+    requires few_lanes { lanes ≤ LANES }
 {
     Ok(Plan {
         place,

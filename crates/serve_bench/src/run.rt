@@ -24,10 +24,10 @@ use std::time::{Duration, Instant};
 struct Load {
     connections: u32,
     outstanding: u32,
-    ghost some: { 0 < connections },
-    ghost few: { connections ≤ 64 },
-    ghost lane: { 0 < outstanding },
-    ghost lanes: { outstanding ≤ 4 },
+    ghost some_connection: { 0 < connections },
+    ghost few_connections: { connections ≤ 64 },
+    ghost some_call: { 0 < outstanding },
+    ghost few_calls: { outstanding ≤ 4 },
 }
 
 /// As many calls as the connections take.
