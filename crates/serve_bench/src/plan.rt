@@ -1,9 +1,12 @@
 //! What the connections of a run do.
 
-ghost use Rattle.std.specs.Prelude.{◌≤◌, ◌<◌};
+ghost use Rattle.std.specs.Prelude.{◌≡◌, ◌≤◌, ◌<◌, ◌/◌};
+ghost use Rattle.serve_bench.specs.Calls.{procedure_of};
+ghost use Rattle.serve_bench.specs.Workloads.{procedure_in};
 
 use crate::call::Call;
-use crate::lane::{LANES, TURNS, lane_of, turn_of};
+use crate::lane::{TURNS, lane_of, turn_of};
+use crate::load::Load;
 use crate::own_names::OwnNames;
 use crate::payload::Payload;
 use crate::place::{FILE_SIZE, Place};
@@ -39,7 +42,9 @@ fn offset_of(connection: u32, xid: u32, transfer: Transfer) -> u64
 impl<'a> Plan<'a> {
     /// The call of an xid on a connection. Of CREATE and REMOVE each lane makes the first in turns
     /// of even number and the second in the others.
-    pub fn call<'b>(&'b self, connection: u32, names: &'b OwnNames, xid: u32) -> Call<'b> {
+    pub fn call<'b>(&'b self, connection: u32, names: &'b OwnNames, xid: u32) -> Call<'b>
+        ensures { procedure_of result ≡ procedure_in self.now.workload (xid / 4) }
+    {
         let place = self.place;
         match self.workload {
             Workload::GetAttributes => Call::GetAttributes(&place.file),
@@ -84,25 +89,20 @@ fn turns_for(count: u32, lanes: u32) -> u32
     turns + turns % 2
 }
 
-/// Calls of a kind, so many by all lanes of all connections together or a few more.
+/// Calls of a kind under a load, so many by all connections together or a few more.
 pub fn new_plan<'a>(
     alloc: Global,
     place: &'a Place,
     workload: Workload,
-    connections: u32,
-    lanes: u32,
+    load: Load,
     count: u32,
-) -> Result<Plan<'a>, AllocError>
-    requires some_connection { 0 < connections }
-    requires few_connections { connections ≤ 64 }
-    requires some_lane { 0 < lanes }
-    requires few_lanes { lanes ≤ LANES }
-{
+) -> Result<Plan<'a>, AllocError> {
+    let lanes = load.outstanding;
     Ok(Plan {
         place,
         workload,
         payload: Payload::new(alloc, payload_size(workload))?,
         lanes,
-        turns: turns_for(count, connections * lanes),
+        turns: turns_for(count, load.connections * lanes),
     })
 }
