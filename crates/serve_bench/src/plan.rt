@@ -1,7 +1,7 @@
 //! What the connections of a run do.
 
-ghost use Rattle.std.specs.Prelude.{◌≡◌, ◌≤◌, ◌<◌, ◌/◌};
-ghost use Rattle.serve_bench.specs.Calls.{procedure_of};
+ghost use Rattle.std.specs.Prelude.{◌≡◌, ◌+◌, ◌≤◌, ◌<◌, ◌/◌};
+ghost use Rattle.serve_bench.specs.Calls.{procedure_of, size_of};
 ghost use Rattle.serve_bench.specs.Workloads.{procedure_in};
 
 use crate::call::Call;
@@ -32,11 +32,13 @@ pub struct Plan<'a> {
 /// Where the call of an xid on a connection reads or writes: from a span of its own on, through
 /// the file and again from its begin.
 fn offset_of(connection: u32, xid: u32, transfer: Transfer) -> u64
-    ensures { result < FILE_SIZE }
+    ensures { result + size_of transfer ≤ FILE_SIZE }
 {
-    let begin = u64::from(connection) * SPAN;
-    let before = u64::from(xid) * u64::from(size_of(transfer));
-    (begin + before) % FILE_SIZE
+    let (connection, xid) = (u64::from(connection), u64::from(xid));
+    match transfer {
+        Transfer::Block => (connection * (SPAN / 4_096) + xid) % (FILE_SIZE / 4_096) * 4_096,
+        Transfer::Full => (connection * (SPAN / 65_536) + xid) % (FILE_SIZE / 65_536) * 65_536,
+    }
 }
 
 impl<'a> Plan<'a> {
