@@ -1,9 +1,11 @@
 //! `filer`: an NFS version 3 server in memory.
 //!
-//! `filer replay FILE` runs a script of events, and prints a line for each.
+//! `filer replay FILE` runs a script of events, and prints a line for each. `filer serve` serves
+//! connections over TCP.
 #![tactic(auto)]
 
-use filer_replay::{ProgramFault, print_fault, program};
+use filer_commands::program;
+use filer_replay::{ProgramFault, print_fault};
 use std::alloc::AllocError;
 use std::process::ExitCode;
 use std::{env, io};
@@ -20,7 +22,7 @@ fn arguments(rt: &(impl env::Env + AllocGlobal)) -> Result<Vec<String>, ProgramF
 fn main(rt: HostRuntime) -> ExitCode {
     let mut out = io::writer(&rt);
     let status = match arguments(&rt) {
-        Ok(words) => program(&rt, &words, &mut out),
+        Ok(words) => program(rt, &words, &mut out),
         Err(fault) => {
             print_fault(&mut out, fault);
             fault.status()

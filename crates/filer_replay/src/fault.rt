@@ -15,6 +15,15 @@ pub enum ProgramFault {
     /// The file can't be read.
     #[error("fault 61")]
     File,
+    /// The address can't be listened at.
+    #[error("fault 62")]
+    Listen,
+    /// A connection can't be accepted, or not served.
+    #[error("fault 63")]
+    Accept,
+    /// A thread can't be started.
+    #[error("fault 66")]
+    Thread,
     /// Memory ran out.
     #[error("refused 90")]
     NoMemory,
@@ -57,6 +66,9 @@ impl ProgramFault {
         match self {
             ProgramFault::CommandLine => 2,
             ProgramFault::File
+            | ProgramFault::Listen
+            | ProgramFault::Accept
+            | ProgramFault::Thread
             | ProgramFault::NoMemory
             | ProgramFault::BadLine { .. }
             | ProgramFault::Output => 1,

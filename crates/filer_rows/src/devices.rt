@@ -1,12 +1,11 @@
-//! Readers and writers that fail, and command lines.
+//! Readers and writers that fail.
 
 use crate::events::{holds, joined, put, same};
 use crate::texts::LAYOUT;
-use filer_replay::{Command, ProgramFault, command, program, replay};
+use filer_replay::replay;
 use std::io;
 use std::io::{Read, Write};
 use std::process::Abort;
-use std::rt::Files;
 
 /// A reader that gives some bytes, and then fails.
 #[derive(Drop)]
@@ -86,53 +85,4 @@ fn writers_fail(rt: HostRuntime) {
 fn flushes_fail(rt: HostRuntime) {
     let script = joined(&rt, &[LAYOUT, "open\n"]);
     same(&rt, &cut(&rt, &script, 9, true), b"conn 0\n");
-}
-
-/// Command lines that are none.
-const REFUSED: [&[&str]; 9] = [
-    &[],
-    &["filer"],
-    &["filer", "replay"],
-    &["filer", "replay", "x", "y"],
-    &["filer", "replay", "--help"],
-    &["filer", "--help"],
-    &["filer", "help"],
-    &["filer", "--verbose", "replay", "x"],
-    &["filer", "serve", "--listen", "127.0.0.1:0"],
-];
-
-/// Looks whether these words are no command.
-fn refuse(rt: &(impl Abort + Files + AllocGlobal), words: &[&str]) {
-    let fault = command(rt.alloc(), words);
-    holds(rt, fault == Err(ProgramFault::CommandLine));
-    let mut out = Vec::new(rt.alloc());
-    holds(rt, program(rt, words, &mut out) == 2);
-    same(rt, &out, b"fault 60\n");
-}
-
-#[test]
-fn command_lines_are_read(rt: HostRuntime) {
-    let chosen = command(rt.alloc(), &["filer", "replay", "x"]);
-    holds(&rt, chosen == Ok(Command::Replay { path: "x" }));
-    for words in &REFUSED {
-        refuse(&rt, words);
-    }
-}
-
-/// Looks whether a program ends with 1, and tells this.
-fn fails(rt: &(impl Abort + Files + AllocGlobal), words: &[&str], told: &[u8]) {
-    let mut out = Vec::new(rt.alloc());
-    holds(rt, program(rt, words, &mut out) == 1);
-    same(rt, &out, told);
-}
-
-#[test]
-fn programs_end_with_a_status(rt: HostRuntime) {
-    let mut closed = Closing {
-        left: 0,
-        is_cut: false,
-        taken: Vec::new(rt.alloc()),
-    };
-    holds(&rt, program(&rt, &["filer"], &mut closed) == 2);
-    fails(&rt, &["filer", "replay", "no such file"], b"fault 61\n");
 }

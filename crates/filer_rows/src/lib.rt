@@ -1,5 +1,4 @@
-//! Scripts that are long or no text, command lines, devices that fail and lists of events, with
-//! what each gives, typed from the standards. All other scripts are data of `filer_scripts`.
+//! Scripts that are long or no text, devices that fail and lists of events, with what each gives, typed from the standards. All other scripts are data of `filer_scripts`.
 #![tactic(auto)]
 
 #[cfg(test)]

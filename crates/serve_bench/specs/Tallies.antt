@@ -13,13 +13,13 @@ abbrev pub next : ℕ → ℕ
 next n = min (n + 1) most
 
 -- The other counts stay.
-pub record SameBut (verdict : Verdict) (old new : Tally) : Type 0 where
+pub record KeepsOthers (old new : Tally) : Type 0 where
   pub unknown : new.unknown ≡ old.unknown
   pub lost : new.lost ≡ old.lost
 
 -- A call that was done has its time behind the others; another one is counted as wrong.
 abbrev pub HasCounted : Verdict → Tally → Tally → Type 0
 HasCounted Done old new =
-    ((time : ℕ) × (new.times.items ≡ old.times.items ++ time ∷ [])) × (new.wrong ≡ old.wrong) × SameBut Done old new
+    ((time : ℕ) × (new.times.items ≡ old.times.items ++ time ∷ [])) × (new.wrong ≡ old.wrong) × KeepsOthers old new
 HasCounted verdict old new =
-    (new.times.items ≡ old.times.items) × (new.wrong ≡ next old.wrong) × SameBut verdict old new
+    (new.times.items ≡ old.times.items) × (new.wrong ≡ next old.wrong) × KeepsOthers old new

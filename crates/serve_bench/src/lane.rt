@@ -1,6 +1,6 @@
 //! Lanes: what keeps one call of a connection outstanding.
 
-ghost use Rattle.std.specs.Prelude.{◌≡◌, ◌<◌, ◌%◌, ◌/◌, is_some, if◌then◌else◌};
+ghost use Rattle.std.specs.Prelude.{◌≡◌, ◌<◌, ◌%◌, ◌/◌, is_some, IfSome, if◌then◌else◌};
 ghost use Rattle.serve_bench.specs.Lanes.{sent_of};
 ghost use Rattle.serve_bench.specs.declared.lane.Lane.TheVariants as lanes;
 
@@ -52,6 +52,7 @@ impl Lane {
     /// of this turn isn't outstanding.
     pub fn answer(&mut self, turn: u32) -> Option<Instant>
         ensures sent { result ≡ sent_of turn self.old }
+        ensures waited { IfSome result (λ sent. self.old ≡ lanes.Waiting turn sent) }
         ensures after { self.new ≡ (if is_some result then lanes.Idle else self.old) }
     {
         match *self {

@@ -20,6 +20,7 @@ mod handle;
 mod incoming;
 mod lane;
 mod link;
+mod load;
 mod name;
 mod own_names;
 mod payload;

@@ -1,9 +1,12 @@
 //! What the connections of a run do.
 
-ghost use Rattle.std.specs.Prelude.{◌≡◌, ◌≤◌, ◌<◌, IfOk};
+ghost use Rattle.std.specs.Prelude.{◌≡◌, ◌+◌, ◌≤◌, ◌<◌, ◌/◌};
+ghost use Rattle.serve_bench.specs.Calls.{procedure_of, size_of};
+ghost use Rattle.serve_bench.specs.Workloads.{procedure_in};
 
 use crate::call::Call;
-use crate::lane::{LANES, TURNS, lane_of, turn_of};
+use crate::lane::{TURNS, lane_of, turn_of};
+use crate::load::Load;
 use crate::own_names::OwnNames;
 use crate::payload::Payload;
 use crate::place::{FILE_SIZE, Place};
@@ -29,17 +32,21 @@ pub struct Plan<'a> {
 /// Where the call of an xid on a connection reads or writes: from a span of its own on, through
 /// the file and again from its begin.
 fn offset_of(connection: u32, xid: u32, transfer: Transfer) -> u64
-    ensures { result < FILE_SIZE }
+    ensures { result + size_of transfer ≤ FILE_SIZE }
 {
-    let begin = u64::from(connection) * SPAN;
-    let before = u64::from(xid) * u64::from(size_of(transfer));
-    (begin + before) % FILE_SIZE
+    let (connection, xid) = (u64::from(connection), u64::from(xid));
+    match transfer {
+        Transfer::Block => (connection * (SPAN / 4_096) + xid) % (FILE_SIZE / 4_096) * 4_096,
+        Transfer::Full => (connection * (SPAN / 65_536) + xid) % (FILE_SIZE / 65_536) * 65_536,
+    }
 }
 
 impl<'a> Plan<'a> {
     /// The call of an xid on a connection. Of CREATE and REMOVE each lane makes the first in turns
     /// of even number and the second in the others.
-    pub fn call<'b>(&'b self, connection: u32, names: &'b OwnNames, xid: u32) -> Call<'b> {
+    pub fn call<'b>(&'b self, connection: u32, names: &'b OwnNames, xid: u32) -> Call<'b>
+        ensures { procedure_of result ≡ procedure_in self.now.workload (xid / 4) }
+    {
         let place = self.place;
         match self.workload {
             Workload::GetAttributes => Call::GetAttributes(&place.file),
@@ -84,25 +91,20 @@ fn turns_for(count: u32, lanes: u32) -> u32
     turns + turns % 2
 }
 
-/// Calls of a kind, so many by all lanes of all connections together or a few more.
+/// Calls of a kind under a load, so many by all connections together or a few more.
 pub fn new_plan<'a>(
     alloc: Global,
     place: &'a Place,
     workload: Workload,
-    connections: u32,
-    lanes: u32,
+    load: Load,
     count: u32,
-) -> Result<Plan<'a>, AllocError>
-    requires some { 0 < connections }
-    requires few { connections ≤ 64 }
-    requires lane { 0 < lanes }
-    requires lanes { lanes ≤ LANES }
-{
+) -> Result<Plan<'a>, AllocError> {
+    let lanes = load.outstanding;
     Ok(Plan {
         place,
         workload,
         payload: Payload::new(alloc, payload_size(workload))?,
         lanes,
-        turns: turns_for(count, connections * lanes),
+        turns: turns_for(count, load.connections * lanes),
     })
 }

@@ -1,12 +1,10 @@
 //! All runs.
 
-ghost use Rattle.std.specs.Prelude.{◌≤◌, ◌<◌};
-
 use crate::asked::Request;
 use crate::drive::{Session, drive};
 use crate::figures::print_figures;
-use crate::lane::LANES;
 use crate::link::Link;
+use crate::load::{FULL, Load, SINGLE};
 use crate::place::Place;
 use crate::plan::{Plan, new_plan};
 use crate::prepare::{clean_up, prepare};
@@ -18,29 +16,6 @@ use std::net::{Net, TcpListener, TcpStream};
 use std::rt::Clock;
 use std::thread::{self, Threads};
 use std::time::{Duration, Instant};
-
-/// How many connections there are, and how many calls each keeps outstanding.
-#[derive(Clone, Copy)]
-struct Load {
-    connections: u32,
-    outstanding: u32,
-    ghost some: { 0 < connections },
-    ghost few: { connections ≤ 64 },
-    ghost lane: { 0 < outstanding },
-    ghost lanes: { outstanding ≤ 4 },
-}
-
-/// As many calls as the connections take.
-const FULL: Load = Load {
-    connections: 8,
-    outstanding: LANES,
-};
-
-/// Round trips.
-const SINGLE: Load = Load {
-    connections: 1,
-    outstanding: 1,
-};
 
 /// So many connections that have made no call.
 fn connect_all<R: Net<Listener = TcpListener, Stream = TcpStream> + AllocGlobal>(
@@ -83,18 +58,8 @@ fn measure<
         + Threads
         + Sync,
 >(rt: &R, request: &Request, place: &Place, workload: Workload, load: Load) -> io::Result<bool> {
-    let Load {
-        connections,
-        outstanding,
-    } = load;
-    let plan = new_plan(
-        rt.alloc(),
-        place,
-        workload,
-        connections,
-        outstanding,
-        request.count,
-    )?;
+    let plan = new_plan(rt.alloc(), place, workload, load, request.count)?;
+    let (connections, outstanding) = (load.connections, load.outstanding);
     let sessions = connect_all(rt, &request.address, connections)?;
     let (mut tally, time) = make_all(rt, &plan, sessions)?;
     print!(rt; "{connections} x {outstanding}, ")?;

@@ -1,6 +1,8 @@
 //! The calls of one connection.
 
-ghost use Rattle.std.specs.Prelude.{◌<◌};
+ghost use Rattle.std.specs.Prelude.{◌≡◌, ◌<◌, ◌%◌, ◌/◌, IfSome, IsSome, IsNone, slice_get};
+ghost use Rattle.serve_bench.specs.declared.lane.Lane.TheVariants as lanes;
+ghost use Rattle.std.specs.declared.time.Instant.{Instant};
 
 use crate::encode::put_call;
 use crate::lane::{LANES, Lane, lane_of, turn_of, xid_of};
@@ -73,7 +75,14 @@ impl Work {
     }
 
     /// Takes the reply to the call of an xid: when that was sent, if it is outstanding.
-    fn answer(&mut self, xid: u32) -> Option<Instant> {
+    fn answer(&mut self, xid: u32) -> Option<Instant>
+        ensures waited { IfSome result (λ sent. slice_get self.old.lanes.items (xid % 4)
+            ≡ Some (lanes.Waiting (xid / 4) sent)) }
+        ensures taken { (sent : Instant) → slice_get self.old.lanes.items (xid % 4)
+            ≡ Some (lanes.Waiting (xid / 4) sent) → IsSome result }
+        ensures once { IsSome result → slice_get self.new.lanes.items (xid % 4) ≡ Some lanes.Idle }
+        ensures kept { IsNone result → self.new.lanes.items ≡ self.old.lanes.items }
+    {
         self.lanes
             .get_mut(lane_of(xid) as usize)?
             .answer(turn_of(xid))

@@ -1,8 +1,12 @@
 //! What a command line may ask for.
 
+use server::Options;
+
 /// A command, with its arguments.
 #[derive(Clone, Copy, PartialEq, Eq)]
 pub enum Command<'a> {
     /// Run the script in a file, and print a line for each of its events.
     Replay { path: &'a str },
+    /// Serve the connections of a listener.
+    Serve(Options),
 }

@@ -1,0 +1,10 @@
+//! The program's command line, and the commands that it names.
+#![tactic(auto)]
+
+mod choice;
+mod program;
+mod words;
+
+pub use choice::Command;
+pub use program::program;
+pub use words::command;

@@ -1,0 +1,105 @@
+-- What a filer's threads have together, from its opening to its end.
+use Rattle.std.proofs.Common.{◌≡◌, ◌≤◌, ℕ, ◌+◌, ◌-◌, ◌*◌, ◌^◌, List, [], ◌∷◌, All, refl, ap, sym, ◌∙◌, arith, mul-add}
+use Rattle.std.specs.List.{AllByRecursion}
+use Rattle.std.proofs.lemmas.List.Elements.{recursion_from_All}
+use Rattle.std.proofs.lemmas.Nat.{pow-add}
+use Rattle.depot_rule.specs.Sums.{total}
+use Rattle.gathering.specs.Shares as shares
+use Rattle.gathering.specs.Shares.{picked_by, share_of, AreAll, FilerPass}
+use Rattle.pool.specs.Pools.{threads_of}
+use Rattle.pool.specs.Threads.{seats_with, share_with, ServesIn}
+use Rattle.pool.specs.declared.pool.Pool.{Pool}
+use Rattle.serving.specs.Places.{share_in, AreSlotsOf, IsReaderOf}
+use Rattle.serving.specs.declared.slots.Slots.{Slots}
+use Rattle.shared_waiting.specs.Balance.{left, right, part, IsWhole}
+use Rattle.shared_waiting.specs.Passes.{known, IsOf}
+use Rattle.workers.specs.Balance.{Passed, Weight, by_key}
+use Rattle.workers.specs.Words.{passed, seats_in, IsIn}
+use Rattle.workers.specs.declared.shared.Filer.{Filer}
+use Rattle.workers.specs.declared.worker.Worker.{Worker}
+use Rattle.server.specs.Threads.{IsOpened, IsRunning}
+
+-- ---- opened
+
+-- a power of two, halved and parted
+doubled : (n m : ℕ) → n ≡ m + 1 → 2 ^ n ≡ 2 ^ m + 2 ^ m
+doubled n m e = let p : 2 ^ n ≡ 2 ^ m * 2 ^ 1 = ap (λ j. 2 ^ j) e ∙ pow-add 2 m 1 in omega (arith, p)
+
+parted : (k l : ℕ) → l ≤ k → 2 ^ l * 2 ^ (k - l) ≡ 2 ^ k
+parted k l le = let s : k ≡ l + (k - l) = omega arith in sym (ap (λ n. 2 ^ n) s ∙ pow-add 2 l (k - l))
+
+-- the two halves of the whole right are the whole
+halves-whole : (v : Passed) (k : ℕ) → v.halvings + 1 ≤ k → IsWhole v → part k (left v) + part k (right v) ≡ 2 ^ k
+halves-whole v k le whole =
+    let h = v.halvings in
+    let d : 2 ^ (k - h) ≡ 2 ^ (k - (h + 1)) + 2 ^ (k - (h + 1)) = doubled (k - h) (k - (h + 1)) (omega (arith, le)) in
+    sym (mul-add v.share (2 ^ (k - (h + 1))) (2 ^ (k - (h + 1)))) ∙ ap (λ n. v.share * n) (sym d)
+    ∙ ap (λ n. n * 2 ^ (k - h)) whole ∙ parted k h (omega (arith, le))
+
+pub opened : (filer : Filer) (worker : Worker) (slots : Slots) (v : Passed) (second : FilerPass) → IsIn filer worker → seats_in worker ≡ 64
+    → AreSlotsOf filer slots → IsWhole v → passed worker ≡ left v → known second ≡ right v
+    → ((k : ℕ) → (known second).halvings + 63 ≤ k → share_in k slots ≡ part k (known second)) → IsOpened filer worker slots
+opened filer worker slots v second inside seats places whole l r share =
+    record {
+      inside = inside;
+      seats = seats;
+      places = places;
+      level = v.halvings + 64;
+      whole = λ k le.
+          let e : (known second).halvings ≡ v.halvings + 1 = ap (λ (w : Passed). w.halvings) r in
+          let a : share_of k worker ≡ part k (left v) = ap (λ (w : Passed). part k w) l in
+          let b : share_in k slots ≡ part k (right v) = share k (omega (arith, e, le)) ∙ ap (λ (w : Passed). part k w) r in
+          let c = halves-whole v k (omega (arith, le)) whole in
+          omega (arith, a, b, c);
+    }
+
+-- ---- running
+
+pub running : (filer : Filer) (worker : Worker) (slots : Slots) (pool : Pool) (count : ℕ) → IsOpened filer worker slots
+    → All (ServesIn filer) (threads_of pool) → total seats_with (threads_of pool) ≡ seats_in worker
+    → ((k : ℕ) → (passed worker).halvings + count ≤ k → total (share_with k) (threads_of pool) ≡ share_of k worker)
+    → IsRunning filer pool slots
+running filer worker slots pool count o serve seats share =
+    record {
+      serve = serve;
+      seats = seats ∙ o.seats;
+      places = o.places;
+      level = o.level + ((passed worker).halvings + count);
+      whole = λ k le.
+          ap (λ n. n + share_in k slots) (share k (omega (arith, le))) ∙ o.whole k (omega (arith, le));
+    }
+
+-- the places' connections come and go
+pub runs-on : (filer : Filer) (pool : Pool) (before after : Slots) → IsRunning filer pool before → AreSlotsOf filer after
+    → ((k : ℕ) → share_in k after ≡ share_in k before) → IsRunning filer pool after
+runs-on filer pool before after r places share =
+    record {
+      serve = r.serve;
+      seats = r.seats;
+      places = places;
+      level = r.level;
+      whole = λ k le. ap (λ n. total (share_with k) (threads_of pool) + n) (share k) ∙ r.whole k le;
+    }
+
+-- ---- stopped
+
+pub all-of : (filer : Filer) (ps : List FilerPass) → All (IsReaderOf filer) ps → All (IsOf filer.waiting) ps
+all-of filer ps all = λ k d lt. (all k d lt).reads.of
+
+none-by : (filer : Filer) (weight : Weight) (ps : List FilerPass) → AllByRecursion (IsReaderOf filer) ps → total (picked_by weight) ps ≡ 0
+none-by filer weight [] all = refl
+none-by filer weight (p ∷ ps) all =
+    let a : picked_by weight p ≡ 0 = ap (total (by_key weight)) all.0.picked in
+    let b = none-by filer weight ps all.1 in
+    omega (arith, a, b)
+
+-- those of connections have picked nothing
+pub none-picked : (filer : Filer) (weight : Weight) (ps : List FilerPass) → All (IsReaderOf filer) ps → total (picked_by weight) ps ≡ 0
+none-picked filer weight ps all = none-by filer weight ps (recursion_from_All (IsReaderOf filer) ps all)
+
+-- no pass is missing
+pub all-there : (filer : Filer) (pool : Pool) (slots : Slots) (workers : List Worker) (ps : List FilerPass) → IsRunning filer pool slots
+    → ((k : ℕ) → total (share_of k) workers ≡ total (share_with k) (threads_of pool))
+    → ((k : ℕ) → total (shares.share_in k) ps ≡ share_in k slots) → AreAll workers ps
+all-there filer pool slots workers ps r first second =
+    (r.level, λ k le. let a = first k in let b = second k in let c = r.whole k le in omega (arith, a, b, c))

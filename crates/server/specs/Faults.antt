@@ -1,0 +1,20 @@
+-- What ends a server (our profile).
+use Rattle.connections.specs.declared.refusal.ServeRefusal.TheVariants as refused
+use Rattle.pool.specs.declared.refusal.StartRefusal.{StartRefusal}
+use Rattle.pool.specs.declared.refusal.StartRefusal.TheVariants as start
+use Rattle.server.specs.declared.fault.ServerFault.{ServerFault}
+use Rattle.server.specs.declared.fault.ServerFault.TheVariants as faults
+use Rattle.serving.specs.declared.fault.ServeFault.{ServeFault}
+use Rattle.serving.specs.declared.fault.ServeFault.TheVariants as serving
+
+abbrev pub fault_of_start : StartRefusal → ServerFault
+fault_of_start start.NoThread = faults.Thread
+fault_of_start start.NoMemory = faults.NoMemory
+
+-- a listener that fails, and a connection that can't be served
+abbrev pub fault_of_serving : ServeFault → ServerFault
+fault_of_serving serving.AcceptFailed = faults.Accept
+fault_of_serving (serving.NotServed refused.Full) = faults.Accept
+fault_of_serving (serving.NotServed refused.StreamFailed) = faults.Accept
+fault_of_serving (serving.NotServed refused.NoThread) = faults.Thread
+fault_of_serving (serving.NotServed refused.NoMemory) = faults.NoMemory

@@ -1,0 +1,38 @@
+-- The threads of a filer: those of its workers, and those of its connections.
+use Rattle.std.specs.Prelude.{◌≡◌, ◌≤◌, ◌^◌, ◌+◌, ℕ, List, All}
+use Rattle.depot_rule.specs.Sums.{total}
+use Rattle.gathering.specs.Gathered.{calls_by, IsLeftOf}
+use Rattle.gathering.specs.Shares.{share_of, put_by, FilerPass}
+use Rattle.gathering.specs.declared.left.Left.{Left}
+use Rattle.pool.specs.Pools.{threads_of}
+use Rattle.pool.specs.Threads.{seats_with, share_with, ServesIn}
+use Rattle.pool.specs.declared.pool.Pool.{Pool}
+use Rattle.serving.specs.Places.{share_in, AreSlotsOf, IsReaderOf}
+use Rattle.serving.specs.declared.slots.Slots.{Slots}
+use Rattle.workers.specs.Balance.{Weight}
+use Rattle.workers.specs.Words.{seats_in, IsIn}
+use Rattle.workers.specs.declared.shared.Filer.{Filer}
+use Rattle.workers.specs.declared.worker.Worker.{Worker}
+
+-- a filer's only worker has all its seats, and with the passes of its places the whole right to know its queue
+pub record IsOpened (filer : Filer) (worker : Worker) (slots : Slots) : Type 0 where
+  pub inside : IsIn filer worker
+  pub seats : seats_in worker ≡ 64
+  pub places : AreSlotsOf filer slots
+  pub level : ℕ
+  pub whole : (k : ℕ) → level ≤ k → share_of k worker + share_in k slots ≡ 2 ^ k
+
+-- so have the threads of its workers
+pub record IsRunning (filer : Filer) (pool : Pool) (slots : Slots) : Type 0 where
+  pub serve : All (ServesIn filer) (threads_of pool)
+  pub seats : total seats_with (threads_of pool) ≡ 64
+  pub places : AreSlotsOf filer slots
+  pub level : ℕ
+  pub whole : (k : ℕ) → level ≤ k → total (share_with k) (threads_of pool) + share_in k slots ≡ 2 ^ k
+
+-- All threads have ended: what is left is the filer's, and all that connections put was finished, kept, or waits.
+pub record HasStopped (filer : Filer) (left : Left) : Type 0 where
+  pub leaves : IsLeftOf filer left
+  pub passes : List FilerPass
+  pub readers : All (IsReaderOf filer) passes
+  pub calls : (weight : Weight) → total (put_by weight) passes ≡ calls_by weight left

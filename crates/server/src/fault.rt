@@ -1,0 +1,53 @@
+//! Why a server ends before its work is done.
+
+ghost use Rattle.std.specs.Prelude.{◌≡◌};
+ghost use Rattle.server.specs.Faults.{fault_of_start, fault_of_serving};
+
+use connections::ServeRefusal;
+use pool::StartRefusal;
+use serving::ServeFault;
+use std::alloc::AllocError;
+
+/// Why a server ends before its work is done.
+#[derive(Clone, Copy, PartialEq, Eq, Debug)]
+pub enum ServerFault {
+    /// The address can't be listened at.
+    Listen,
+    /// A connection can't be accepted, or not served once it was accepted.
+    Accept,
+    /// A thread can't be started.
+    Thread,
+    /// Memory ran out.
+    NoMemory,
+    /// A line can't be printed.
+    Output,
+}
+
+impl From<AllocError> for ServerFault {
+    fn from(_refused: AllocError) -> ServerFault {
+        ServerFault::NoMemory
+    }
+}
+
+/// Why a pool doesn't start, as a server's fault.
+pub(crate) fn of_start(refusal: StartRefusal) -> ServerFault
+    ensures { result ≡ fault_of_start refusal }
+{
+    match refusal {
+        StartRefusal::NoThread => ServerFault::Thread,
+        StartRefusal::NoMemory => ServerFault::NoMemory,
+    }
+}
+
+/// Why no more connections are accepted, as a server's fault.
+pub(crate) fn of_serving(fault: ServeFault) -> ServerFault
+    ensures { result ≡ fault_of_serving fault }
+{
+    match fault {
+        ServeFault::AcceptFailed => ServerFault::Accept,
+        ServeFault::NotServed(ServeRefusal::Full) => ServerFault::Accept,
+        ServeFault::NotServed(ServeRefusal::StreamFailed) => ServerFault::Accept,
+        ServeFault::NotServed(ServeRefusal::NoThread) => ServerFault::Thread,
+        ServeFault::NotServed(ServeRefusal::NoMemory) => ServerFault::NoMemory,
+    }
+}

@@ -1,0 +1,28 @@
+//! A filer's threads, stopped.
+
+ghost use Rattle.std.specs.Arc.{arc_value};
+ghost use Rattle.server.specs.Threads.{HasStopped, IsRunning};
+
+use connections::Shared;
+use gathering::{Left, Room, gather};
+use pool::Pool;
+use serving::Slots;
+use std::sync::Wait;
+use std::thread::Threads;
+
+/// Waits for the ends of the connections' threads, stops those of the workers, and gathers what is
+/// left. It takes no memory.
+pub(crate) fn stop<R: Threads + Wait>(
+    rt: &R,
+    shared: &Shared,
+    pool: Pool,
+    slots: Slots,
+    room: Room,
+) -> Left
+    requires { IsRunning (arc_value shared.now.filer) pool slots }
+    ensures { HasStopped (arc_value shared.now.filer) result }
+{
+    let passes = slots.into_passes(rt);
+    let workers = pool.stop(rt);
+    gather(&shared.filer, rt, workers, passes, room)
+}

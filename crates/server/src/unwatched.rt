@@ -1,0 +1,11 @@
+//! Workers that nobody watches.
+
+use workers::{Gate, Place};
+
+/// What lets every call pass.
+#[derive(Clone, Copy, Drop)]
+pub(crate) struct Unwatched;
+
+impl Gate for Unwatched {
+    fn pass(&self, _place: Place) {}
+}
