@@ -1,7 +1,6 @@
 //! Command lines, and what programs end with.
 
-use filer_commands::{Command, command, program};
-use filer_replay::ProgramFault;
+use filer_commands::{Command, ProgramFault, command, program};
 use std::fmt::Write as Spell;
 use std::io;
 use std::io::Write;

@@ -24,4 +24,5 @@ pub use pool_sink::PoolSink;
 pub use reading::read_connection;
 pub use refusal::{Refused, ServeRefusal};
 pub use shared::Shared;
+pub use workers::{Filer, Message};
 pub use writing::write_connection;

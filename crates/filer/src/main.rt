@@ -4,8 +4,7 @@
 //! connections over TCP.
 #![tactic(auto)]
 
-use filer_commands::program;
-use filer_replay::{ProgramFault, print_fault};
+use filer_commands::{ProgramFault, print_fault, program};
 use std::alloc::AllocError;
 use std::process::ExitCode;
 use std::{env, io};

@@ -6,5 +6,6 @@ mod program;
 mod words;
 
 pub use choice::Command;
+pub use filer_replay::{ProgramFault, print_fault};
 pub use program::program;
 pub use words::command;

@@ -6,6 +6,7 @@ mod playing;
 mod printing;
 mod script;
 
+pub use engine::{Engine, Event, Worker, WorkerRun};
 pub use fault::ProgramFault;
 pub use playing::replay;
 pub use printing::print_fault;

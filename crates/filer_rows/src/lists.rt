@@ -3,7 +3,7 @@
 use crate::events::{holds, same};
 use crate::texts::{NULL, NULL_REPLY};
 use affinity_tree::{AggregateSpec, Layout, VolumeSpec};
-use engine::{Engine, Event, Worker, WorkerRun};
+use filer_replay::{Engine, Event, Worker, WorkerRun};
 use std::process::Abort;
 
 /// The bytes that hex digits stand for.

@@ -22,7 +22,7 @@ use Rattle.held_state.specs.Sound.{AreSound, AllSound, IsFiler}
 use Rattle.held_state.specs.Tree.{server_of, tree}
 use Rattle.parcel_sets.specs.Sets.{serial_parcels}
 use Rattle.parcels.specs.declared.files.Files.{Files}
-use Rattle.service.specs.Jobs.{job_steps, job_takes, job_gives}
+use Rattle.workers.specs.Jobs.{job_steps, job_takes, job_gives}
 use Rattle.workers.specs.declared.message.Message.{Message}
 use Rattle.workers.specs.Balance.{FilerEntry, FilerView, Weight, by_entry, by_key}
 use Rattle.workers.specs.Logs.{calls_in, replies_in}

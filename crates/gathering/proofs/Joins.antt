@@ -11,7 +11,7 @@ use Rattle.depot_rule.specs.Sums.{total}
 use Rattle.depot_rule.specs.lemmas.Sums.{total-append}
 use Rattle.held_state.specs.Parcels.{FilerParcel}
 use Rattle.parcels.specs.declared.files.Files.{Files}
-use Rattle.service.specs.Jobs.{job_takes, job_gives}
+use Rattle.workers.specs.Jobs.{job_takes, job_gives}
 use Rattle.shared_waiting.specs.Balance.{both}
 use Rattle.shared_waiting.specs.Passes.{IsOf}
 use Rattle.workers.specs.declared.message.Message.{Message}

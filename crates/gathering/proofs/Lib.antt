@@ -4,3 +4,4 @@ mod Drained
 mod Joins
 mod Sharing
 mod Closes
+pub use Rattle.workers.proofs.Crossing

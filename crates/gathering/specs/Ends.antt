@@ -12,7 +12,7 @@ use Rattle.held_state.specs.Replayed.{Replays}
 use Rattle.held_state.specs.Sound.{AllSound}
 use Rattle.held_state.specs.Tree.{tree}
 use Rattle.parcels.specs.declared.files.Files.{Files}
-use Rattle.service.specs.Jobs.{job_steps, job_takes, job_gives}
+use Rattle.workers.specs.Jobs.{job_steps, job_takes, job_gives}
 use Rattle.workers.specs.declared.message.Message.{Message}
 use Rattle.workers.specs.Balance.{FilerEntry, Weight, by_entry, by_key}
 use Rattle.workers.specs.Logs.{calls_in, replies_in}

@@ -3,7 +3,7 @@ use Rattle.std.specs.Prelude.{◌≡◌, ℕ, ◌+◌}
 use Rattle.depot.specs.Words.{view, splits_left, IsSeatHere, HasNoGrant}
 use Rattle.depot_rule.specs.History.{entries_of, AreHands}
 use Rattle.depot_rule.specs.Sums.{total}
-use Rattle.service.specs.Jobs.{job_takes, job_gives}
+use Rattle.workers.specs.Jobs.{job_takes, job_gives}
 use Rattle.shared_waiting.specs.Passes.{IsOf}
 use Rattle.gathering.specs.declared.gathered.Gathered.{Gathered}
 use Rattle.gathering.specs.declared.left.Left.{Left}

@@ -2,3 +2,12 @@ pub mod Even
 pub mod Shares
 pub mod Gathered
 pub mod Ends
+pub use Rattle.workers.specs.Balance
+pub use Rattle.workers.specs.Words
+pub use Rattle.workers.specs.Turns
+pub use Rattle.workers.specs.Tends
+pub use Rattle.workers.specs.declared.shared.Filer
+pub use Rattle.workers.specs.declared.worker.Worker
+pub use Rattle.workers.specs.declared.tend.Tend
+pub use Rattle.workers.specs.declared.tend.Tended
+pub use Rattle.workers.specs.declared.tend.TendRefusal

@@ -4,8 +4,7 @@ ghost use Rattle.std.specs.Prelude.{◌≡◌, ◌≤◌, ◌+◌, ◌++◌, opt
 ghost use Rattle.held_state.specs.Jobs.{batches_in};
 
 use parcel_sets::Hand;
-use service::BatchInHand;
-use workers::Message;
+use workers::{BatchInHand, Message};
 
 /// Puts the batch of a hand, if it has one.
 pub(crate) fn push_batch(hands: &mut Vec<BatchInHand>, hand: BatchInHand)

@@ -2,8 +2,7 @@
 
 use parcel_sets::SerialHeld;
 use parcels::Files;
-use service::BatchInHand;
-use workers::Message;
+use workers::{BatchInHand, Message};
 
 /// What a filer leaves: all its parcels, the batches that were in hands, and the messages that
 /// weren't finished.

@@ -3,14 +3,13 @@
 ghost use Rattle.depot.specs.Words.{view, HasNoGrant};
 ghost use Rattle.depot_rule.specs.History.{entries_of, AreHands};
 ghost use Rattle.gathering.specs.Even.{IsEvenWith};
-ghost use Rattle.service.specs.Jobs.{job_takes, job_gives};
+ghost use Rattle.workers.specs.Jobs.{job_takes, job_gives};
 ghost use Rattle.shared_waiting.specs.Passes.{known};
 
 use affinity_tree::Layout;
 use depot::Seat;
-use service::{BatchInHand, Service};
 use shared_waiting::Pass;
-use workers::Message;
+use workers::{BatchInHand, Message, Service};
 
 /// Workers as one: their seats, their passes, the batches in their hands and the messages that they
 /// keep. What the pass picked is, as often, what the seat finished, what the pass put and what is

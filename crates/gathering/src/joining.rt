@@ -28,9 +28,8 @@ ghost use Rattle.workers.specs.Words.{passed, seats_in, IsIn};
 use crate::carried::{push_batch, push_kept};
 use crate::gathered::Gathered;
 use affinity_tree::Layout;
-use service::BatchInHand;
 use shared_waiting::{Pass, SharedWaiting};
-use workers::{Filer, Message, Worker, WorkerParts};
+use workers::{BatchInHand, Filer, Message, Worker, WorkerParts};
 
 /// One worker, as the first that is put together.
 pub(crate) fn begin(

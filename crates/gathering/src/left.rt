@@ -1,8 +1,7 @@
 //! What workers leave.
 
 use depot::Seat;
-use service::{BatchInHand, Service};
-use workers::Message;
+use workers::{BatchInHand, Message, Service};
 
 /// What all workers of a filer leave: their seats as one, the batches in their hands, the messages
 /// that they kept, and those that waited.

@@ -2,9 +2,8 @@
 
 ghost use Rattle.std.specs.Prelude.{◌≡◌, ◌≤◌, [], vec_capacity};
 
-use service::BatchInHand;
 use std::alloc::{AllocError, Global};
-use workers::Message;
+use workers::{BatchInHand, Message};
 
 /// The most workers of a filer.
 const MOST_WORKERS: usize = 64;

@@ -2,3 +2,12 @@ pub mod Heirs
 pub mod Rests
 pub mod Threads
 pub mod Pools
+pub use Rattle.gathering.specs.Balance
+pub use Rattle.gathering.specs.Words
+pub use Rattle.gathering.specs.Filer
+pub use Rattle.gathering.specs.Worker
+pub use Rattle.gathering.specs.Shares
+pub use Rattle.gathering.specs.Gathered
+pub use Rattle.gathering.specs.Ends
+pub use Rattle.gathering.specs.declared.left.Left
+pub use Rattle.gathering.specs.declared.ended.Ended

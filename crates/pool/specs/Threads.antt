@@ -6,9 +6,9 @@ use Rattle.gathering.specs.Shares.{share_of}
 use Rattle.pool.specs.declared.refusal.StartRefusal.{StartRefusal}
 use Rattle.pool.specs.declared.refusal.StartRefusal.TheVariants.{NoThread, NoMemory}
 use Rattle.pool.specs.declared.task.Serves.{Serves}
-use Rattle.workers.specs.declared.shared.Filer.{Filer}
-use Rattle.workers.specs.declared.worker.Worker.{Worker}
-use Rattle.workers.specs.Words.{seats_in}
+use Rattle.gathering.specs.Filer.{Filer}
+use Rattle.gathering.specs.Worker.{Worker}
+use Rattle.gathering.specs.Words.{seats_in}
 
 abbrev pub Thread : Type 0
 Thread = PromisedHandle Worker Serves

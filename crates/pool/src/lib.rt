@@ -13,5 +13,6 @@ mod task;
 mod tending;
 mod watch;
 
+pub use gathering::{Ended, Filer, Gate, Left, Place, Room, Worker, close, gather};
 pub use pool::Pool;
 pub use refusal::{NotStarted, StartRefusal};

@@ -7,12 +7,11 @@ use crate::refusal::NotStarted;
 use crate::starting::start_all;
 use crate::task::Thread;
 use bells::Bells;
-use gathering::split_workers;
+use gathering::{Filer, Gate, Worker, split_workers};
 use std::alloc::{AllocError, Global};
 use std::rt::Clock;
 use std::sync::{Arc, Wait};
 use std::thread::Threads;
-use workers::{Filer, Gate, Worker};
 
 /// The most threads of a pool.
 const MOST_THREADS: usize = 64;
@@ -35,8 +34,8 @@ impl Pool {
     ghost use Rattle.pool.specs.Pools.{threads_of, AreSplitFrom, IsVacant};
     ghost use Rattle.gathering.specs.Shares.{share_of};
     ghost use Rattle.pool.specs.Threads.{seats_with, share_with, ServesIn};
-    ghost use Rattle.workers.specs.declared.shared.Filer.{Filer};
-    ghost use Rattle.workers.specs.Words.{passed, seats_in, IsIn};
+    ghost use Rattle.gathering.specs.Filer.{Filer};
+    ghost use Rattle.gathering.specs.Words.{passed, seats_in, IsIn};
 
     /// A pool without a thread, with room for 64, whose threads will sleep on these bells.
     pub fn new(alloc: Global, bells: Arc<Bells>) -> Result<Pool, AllocError>

@@ -2,7 +2,7 @@
 
 ghost use Rattle.std.specs.Prelude.{◌≡◌};
 
-use workers::Worker;
+use gathering::Worker;
 
 /// Why a pool didn't start.
 #[derive(Clone, Copy)]

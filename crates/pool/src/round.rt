@@ -1,16 +1,16 @@
 //! A round of a worker's thread.
 
 ghost use Rattle.pool.specs.Heirs.{IsHeir};
-ghost use Rattle.workers.specs.Words.{IsIn};
+ghost use Rattle.gathering.specs.Words.{IsIn};
 
 use crate::patience::Patience;
 use crate::tending::{Found, sleep, tend};
 use crate::watch::Watch;
 use bells::Bells;
+use gathering::{Filer, Gate, Worked, Worker};
 use nfs_values::ConnectionNumber;
 use std::rt::Clock;
 use std::sync::Wait;
-use workers::{Filer, Gate, Worked, Worker};
 
 /// Rings where a call was finished: for who writes to its connection, for who waits for a place in
 /// the queue, and for another worker, since there may be more to do.

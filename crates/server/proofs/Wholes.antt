@@ -4,8 +4,8 @@ use Rattle.std.specs.List.{AllByRecursion}
 use Rattle.std.proofs.lemmas.List.Elements.{recursion_from_All}
 use Rattle.std.proofs.lemmas.Nat.{pow-add}
 use Rattle.depot_rule.specs.Sums.{total}
-use Rattle.gathering.specs.Shares as shares
-use Rattle.gathering.specs.Shares.{picked_by, share_of, AreAll, FilerPass}
+use Rattle.pool.specs.Shares as shares
+use Rattle.pool.specs.Shares.{picked_by, share_of, AreAll, FilerPass}
 use Rattle.pool.specs.Pools.{threads_of}
 use Rattle.pool.specs.Threads.{seats_with, share_with, ServesIn}
 use Rattle.pool.specs.declared.pool.Pool.{Pool}
@@ -13,10 +13,10 @@ use Rattle.serving.specs.Places.{share_in, AreSlotsOf, IsReaderOf}
 use Rattle.serving.specs.declared.slots.Slots.{Slots}
 use Rattle.shared_waiting.specs.Balance.{left, right, part, IsWhole}
 use Rattle.shared_waiting.specs.Passes.{known, IsOf}
-use Rattle.workers.specs.Balance.{Passed, Weight, by_key}
-use Rattle.workers.specs.Words.{passed, seats_in, IsIn}
-use Rattle.workers.specs.declared.shared.Filer.{Filer}
-use Rattle.workers.specs.declared.worker.Worker.{Worker}
+use Rattle.pool.specs.Balance.{Passed, Weight, by_key}
+use Rattle.pool.specs.Words.{passed, seats_in, IsIn}
+use Rattle.pool.specs.Filer.{Filer}
+use Rattle.pool.specs.Worker.{Worker}
 use Rattle.server.specs.Threads.{IsOpened, IsRunning}
 
 -- ---- opened

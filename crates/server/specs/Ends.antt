@@ -1,14 +1,14 @@
 -- The end of a server.
 use Rattle.std.specs.Prelude.{List, All}
 use Rattle.depot_rule.specs.Sums.{total}
-use Rattle.gathering.specs.Ends.{HasEnded}
-use Rattle.gathering.specs.Shares.{put_by, FilerPass}
-use Rattle.gathering.specs.declared.ended.Ended.{Ended}
+use Rattle.pool.specs.Ends.{HasEnded}
+use Rattle.pool.specs.Shares.{put_by, FilerPass}
+use Rattle.pool.specs.Ended.{Ended}
 use Rattle.nfs_model.specs.Tree as trees
 use Rattle.parcel_sets.specs.Sets.{serial_parcels}
 use Rattle.serving.specs.Places.{IsReaderOf}
-use Rattle.workers.specs.Words.{layout_in, verifier_in}
-use Rattle.workers.specs.declared.shared.Filer.{Filer}
+use Rattle.pool.specs.Words.{layout_in, verifier_in}
+use Rattle.pool.specs.Filer.{Filer}
 
 -- From the opening parcels there is one legal history, whose replies a serial run gives, and which left the parcels as they are. Each call
 -- that a connection put is in it, or was kept, or waits.

@@ -1,5 +1,5 @@
 -- What ends a server (our profile).
-use Rattle.connections.specs.declared.refusal.ServeRefusal.TheVariants as refused
+use Rattle.serving.specs.ServeRefusal.TheVariants as refused
 use Rattle.pool.specs.declared.refusal.StartRefusal.{StartRefusal}
 use Rattle.pool.specs.declared.refusal.StartRefusal.TheVariants as start
 use Rattle.server.specs.declared.fault.ServerFault.{ServerFault}

@@ -1,18 +1,18 @@
 -- The threads of a filer: those of its workers, and those of its connections.
 use Rattle.std.specs.Prelude.{◌≡◌, ◌≤◌, ◌^◌, ◌+◌, ℕ, List, All}
 use Rattle.depot_rule.specs.Sums.{total}
-use Rattle.gathering.specs.Gathered.{calls_by, IsLeftOf}
-use Rattle.gathering.specs.Shares.{share_of, put_by, FilerPass}
-use Rattle.gathering.specs.declared.left.Left.{Left}
+use Rattle.pool.specs.Gathered.{calls_by, IsLeftOf}
+use Rattle.pool.specs.Shares.{share_of, put_by, FilerPass}
+use Rattle.pool.specs.Left.{Left}
 use Rattle.pool.specs.Pools.{threads_of}
 use Rattle.pool.specs.Threads.{seats_with, share_with, ServesIn}
 use Rattle.pool.specs.declared.pool.Pool.{Pool}
 use Rattle.serving.specs.Places.{share_in, AreSlotsOf, IsReaderOf}
 use Rattle.serving.specs.declared.slots.Slots.{Slots}
-use Rattle.workers.specs.Balance.{Weight}
-use Rattle.workers.specs.Words.{seats_in, IsIn}
-use Rattle.workers.specs.declared.shared.Filer.{Filer}
-use Rattle.workers.specs.declared.worker.Worker.{Worker}
+use Rattle.pool.specs.Balance.{Weight}
+use Rattle.pool.specs.Words.{seats_in, IsIn}
+use Rattle.pool.specs.Filer.{Filer}
+use Rattle.pool.specs.Worker.{Worker}
 
 -- a filer's only worker has all its seats, and with the passes of its places the whole right to know its queue
 pub record IsOpened (filer : Filer) (worker : Worker) (slots : Slots) : Type 0 where

@@ -8,14 +8,11 @@ ghost use Rattle.server.specs.Threads.{IsOpened};
 use crate::fault::ServerFault;
 use affinity_tree::{AggregateSpec, Layout, VolumeSpec};
 use bells::{Bell, Bells};
-use connections::Shared;
-use gathering::Room;
-use pool::Pool;
-use serving::Slots;
+use pool::{Filer, Pool, Room, Worker};
+use serving::{Shared, Slots};
 use std::alloc::{AllocError, Global};
 use std::rt::Clock;
 use std::sync::Arc;
-use workers::{Filer, Worker};
 
 /// The ranges by which the volumes may grow.
 const SPARE: u32 = 16;

@@ -3,10 +3,8 @@
 ghost use Rattle.std.specs.Arc.{arc_value};
 ghost use Rattle.server.specs.Threads.{HasStopped, IsRunning};
 
-use connections::Shared;
-use gathering::{Left, Room, gather};
-use pool::Pool;
-use serving::Slots;
+use pool::{Left, Pool, Room, gather};
+use serving::{Shared, Slots};
 use std::sync::Wait;
 use std::thread::Threads;
 

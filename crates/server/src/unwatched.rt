@@ -1,6 +1,6 @@
 //! Workers that nobody watches.
 
-use workers::{Gate, Place};
+use pool::{Gate, Place};
 
 /// What lets every call pass.
 #[derive(Clone, Copy, Drop)]

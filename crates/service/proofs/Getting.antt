@@ -13,8 +13,8 @@ use Rattle.held_state.specs.Promises.{RightOnVolume}
 use Rattle.held_state.specs.Jobs.{Replied}
 use Rattle.held_state.specs.Calls.{ServesOn}
 use Rattle.held_state.specs.Changes.{getattr_answer}
-use Rattle.held_attributes.specs.Laws.{getattr_call}
-use Rattle.held_attributes.specs.lemmas.Getting.{getattr-right}
+use Rattle.service_renames.specs.AttributeLaws.{getattr_call}
+use Rattle.service_renames.specs.GettingLemmas.{getattr-right}
 use Rattle.service.specs.Getattr.{TellsAttributes}
 
 -- a result is right where it tells what the inode and the touch do

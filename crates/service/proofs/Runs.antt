@@ -17,8 +17,8 @@ use Rattle.nfs_values.specs.declared.answer.RenameResults.{RenameResults}
 use Rattle.nfs_values.specs.declared.answer.WriteResults.{WriteResults}
 use Rattle.nfs_values.specs.declared.call.Call as codes
 use Rattle.nfs_values.specs.declared.status.Status.{Status}
-use Rattle.held_changes.specs.Laws.{rename_call}
-use Rattle.held_data.specs.WritingLaws.{write_call}
+use Rattle.service_renames.specs.ChangeLaws.{rename_call}
+use Rattle.service_data.specs.WritingLaws.{write_call}
 use Rattle.held_state.specs.Calls.{VolumeCall, ServesOn, handle_in}
 use Rattle.held_state.specs.Contents.{VolumeContents}
 use Rattle.held_state.specs.Jobs as jobs

@@ -10,7 +10,7 @@ use Rattle.held_state.specs.Lenses.{LogicalSet, logical_lens}
 use Rattle.held_state.specs.Promises.{RightOnVolume}
 use Rattle.held_state.specs.Jobs.{Replied}
 use Rattle.held_state.specs.Calls.{ServesOn}
-use Rattle.held_attributes.specs.Laws.{getattr_call}
+use Rattle.service_renames.specs.AttributeLaws.{getattr_call}
 
 -- An entry of GETATTR of a fileid under Logical, with this result, is right: by whatever handle, and whatever the rest of the
 -- volume is.

@@ -9,7 +9,7 @@ ghost use Rattle.service.specs.Getattr.{TellsAttributes};
 use nfs_values::{Attributes, Fileid, Status, VolumeNumber};
 use parcel_sets::LogicalHeld;
 use parcels::Files;
-use service_names::{latest_touch, shown};
+use service_renames::{latest_touch, shown};
 
 /// GETATTR (RFC 1813 section 3.3.1), on the parcels of a volume's names and attributes: the
 /// attributes of the node of a fileid, or STALE where there is none. It takes no memory.

@@ -12,7 +12,7 @@ ghost use Rattle.held_state.specs.Lenses.{aggregate_lens};
 ghost use Rattle.held_state.specs.Promises.{HasAll};
 ghost use Rattle.held_state.specs.Running.{task_under, UnlessReplied};
 ghost use Rattle.held_state.specs.Sets.{aggregate_set};
-ghost use Rattle.held_totals.specs.Running.{RunsOnAll};
+ghost use Rattle.service_totals.specs.Running.{RunsOnAll};
 ghost use Rattle.service.specs.Running.{outcome_of, IsRunAt};
 
 use crate::outcome::{Outcome, outcome_grown};

@@ -9,7 +9,7 @@ ghost use Rattle.nfs_values.specs.Moment.{moment_of};
 ghost use Rattle.held_state.specs.Lenses.{serial_lens};
 ghost use Rattle.held_state.specs.Running.{task_under};
 ghost use Rattle.held_state.specs.Sets.{serial_set};
-ghost use Rattle.held_totals.specs.Running.{RunsOnAll};
+ghost use Rattle.service_totals.specs.Running.{RunsOnAll};
 ghost use Rattle.service.specs.Running.{outcome_of, IsRunAt};
 
 use crate::outcome::{Outcome, outcome_counted};

@@ -16,7 +16,7 @@ ghost use Rattle.held_state.specs.Lenses.{logical_lens};
 ghost use Rattle.held_state.specs.Promises.{HasVolume};
 ghost use Rattle.held_state.specs.Running.{RunsOn, UnlessReplied};
 ghost use Rattle.held_state.specs.Sets.{logical_before, logical_after};
-ghost use Rattle.service_names.specs.Promises.{listing_outcome, making_outcome};
+ghost use Rattle.service_renames.specs.NamePromises.{listing_outcome, making_outcome};
 ghost use Rattle.service_renames.specs.Promises.{renaming_outcome};
 ghost use Rattle.service.specs.Running.{
   call_named,
@@ -41,11 +41,10 @@ use nfs_values::{
 use parcel_sets::LogicalHeld;
 use parcels::Files;
 use service_data::{read_in_logical, write_in_logical};
-use service_names::{
-    PageAsked, commit, create, lookup, make_directory, read_directory, remove, remove_directory,
-    set_attributes,
+use service_renames::{
+    EntryName, PageAsked, commit, create, lookup, make_directory, read_directory, remove,
+    remove_directory, rename, set_attributes,
 };
-use service_renames::{EntryName, rename};
 use std::alloc::AllocError;
 
 /// Runs a call on the parcels under Volume Logical of its volume: its home, or where a WRITE moved.

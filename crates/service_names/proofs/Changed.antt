@@ -4,7 +4,7 @@ use Rattle.nfs_model.specs.Types.{Moment, SetAttributes}
 use Rattle.std.specs.Prelude.{length}
 use Rattle.volume_values.specs.Inodes.{Inode}
 use Rattle.held_state.specs.Lenses.{LogicalSet}
-use Rattle.held_nodes.specs.Sizing.{all_freed}
+use Rattle.held_changes.specs.NodesSized.{all_freed}
 use Rattle.held_changes.specs.Attributes.{node_sized, node_changed}
 use Rattle.service_names.specs.Shown.{HasFewLinks}
 use Rattle.service_names.proofs.Removed.{few-sized}

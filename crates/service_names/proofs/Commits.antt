@@ -15,9 +15,9 @@ use Rattle.held_state.specs.Promises.{RightOnVolume}
 use Rattle.held_state.specs.Jobs.{Replied}
 use Rattle.held_state.specs.Calls.{ServesOn}
 use Rattle.held_state.specs.Changes.{shown_inode}
-use Rattle.held_names.specs.Answers.{file_committed, inode_committed, commit_answer}
-use Rattle.held_names.specs.Laws.{commit_call}
-use Rattle.held_names.specs.lemmas.Listing.{commit-right}
+use Rattle.held_changes.specs.NameAnswers.{file_committed, inode_committed, commit_answer}
+use Rattle.held_changes.specs.NameLaws.{commit_call}
+use Rattle.held_changes.specs.ListingLemmas.{commit-right}
 use Rattle.service_names.specs.Promises.{Commits}
 
 module _ (v fileid : ℕ) (set : LogicalSet) where

@@ -12,8 +12,8 @@ use Rattle.volume_values.specs.Stripes.{Card, card_dropped}
 use Rattle.held_state.specs.Lenses.{LogicalSet}
 use Rattle.held_state.specs.Parcels.{no_stripe}
 use Rattle.held_state.specs.Sets.{FilerStripe, FilerLogical, stripe_value, logical_set, logical_before, logical_after}
-use Rattle.held_nodes.specs.Sizing.{file_sized}
-use Rattle.held_nodes.specs.Dropping.{directory_left, node_dropped}
+use Rattle.held_changes.specs.NodesSized.{file_sized}
+use Rattle.held_changes.specs.NodesDropped.{directory_left, node_dropped}
 use Rattle.held_changes.specs.Named.{HeldNode}
 use Rattle.held_changes.specs.Dropping.{dropping_of, emptying_of, child_emptied}
 use Rattle.service_names.specs.Naming.{naming_in}

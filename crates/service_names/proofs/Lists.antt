@@ -21,9 +21,9 @@ use Rattle.held_state.specs.Lenses.{LogicalSet, logical_lens}
 use Rattle.held_state.specs.Running.{RunsOn}
 use Rattle.held_state.specs.Calls.{answer_of}
 use Rattle.held_state.specs.Changes.{shown_inode}
-use Rattle.held_names.specs.Answers.{is_bad_cookie, readdir_answer}
-use Rattle.held_names.specs.Laws.{readdir_call}
-use Rattle.held_names.specs.lemmas.Listing.{readdir-right, readdir-starves}
+use Rattle.held_changes.specs.NameAnswers.{is_bad_cookie, readdir_answer}
+use Rattle.held_changes.specs.NameLaws.{readdir_call}
+use Rattle.held_changes.specs.ListingLemmas.{readdir-right, readdir-starves}
 use Rattle.service_names.specs.Listing.{all_under, tells_nothing}
 use Rattle.service_names.specs.Promises.{Lists}
 use Rattle.service_names.specs.declared.listing.PageAsked.{PageAsked}

@@ -16,9 +16,9 @@ use Rattle.held_state.specs.Promises.{RightOnVolume}
 use Rattle.held_state.specs.Jobs.{Replied}
 use Rattle.held_state.specs.Calls.{ServesOn}
 use Rattle.held_state.specs.Changes.{shown_inode}
-use Rattle.held_names.specs.Answers.{entries_of, fileid_named, object_told, found_told, unless_fault, lookup_answer}
-use Rattle.held_names.specs.Laws.{lookup_call}
-use Rattle.held_names.specs.lemmas.Lookup.{lookup-right}
+use Rattle.held_changes.specs.NameAnswers.{entries_of, fileid_named, object_told, found_told, unless_fault, lookup_answer}
+use Rattle.held_changes.specs.NameLaws.{lookup_call}
+use Rattle.held_changes.specs.LookupLemmas.{lookup-right}
 use Rattle.service_names.specs.Promises.{LooksUp}
 
 module _ (v fileid : ℕ) (name : List ℕ) (set : LogicalSet) where

@@ -8,7 +8,7 @@ use Rattle.std.specs.Ordering.{nat_cmp}
 use Rattle.volume_values.specs.Inodes.{InodeKind, RegularFile, Folder}
 use Rattle.volume_values.specs.Stripes.{StripeValue, OfFile, OfFolder, touch_of, card_dropped}
 use Rattle.volume_values.specs.lemmas.Numbered.{same-answers, get-insert_at, get-remove_at}
-use Rattle.held_nodes.specs.Making.{card_made}
+use Rattle.held_changes.specs.NodesMade.{card_made}
 use Rattle.service_names.specs.Cards.{InFirst}
 
 -- ---- one card

@@ -10,9 +10,9 @@ use Rattle.volume_values.specs.Inodes.{InodeKind, RegularFile, Folder, Inode}
 use Rattle.volume_values.specs.lemmas.Numbered.{get-remove_at}
 use Rattle.held_state.specs.Lenses.{LogicalSet}
 use Rattle.held_state.specs.Changes.{LogicalAnswer}
-use Rattle.held_names.specs.Answers.{entries_of}
-use Rattle.held_nodes.specs.Sizing.{kind_sized}
-use Rattle.held_nodes.specs.Dropping.{without_subdirectories, directories_left}
+use Rattle.held_changes.specs.NameAnswers.{entries_of}
+use Rattle.held_changes.specs.NodesSized.{kind_sized}
+use Rattle.held_changes.specs.NodesDropped.{without_subdirectories, directories_left}
 use Rattle.held_changes.specs.Named.{fails, HeldNode, node_at, node_under}
 use Rattle.held_changes.specs.Dropping.{file_gone, held_gone, remove_by, remove_kind, held_remove, if_empty, rmdir_kind}
 use Rattle.service_names.specs.Naming.{naming_in}

@@ -11,7 +11,7 @@ use Rattle.held_state.specs.Contents.{each}
 use Rattle.held_state.specs.Parcels.{no_stripe}
 use Rattle.held_state.specs.Sets.{FilerStripe, FilerLogical, stripe_value, placed, in_one, logical_before}
 use Rattle.held_laws.specs.lemmas.Each.{each-same, each-map, each-index}
-use Rattle.held_nodes.specs.Sizing.{stripe_sized, all_freed}
+use Rattle.held_changes.specs.NodesSized.{stripe_sized, all_freed}
 use Rattle.service_names.specs.Changing.{AreNumbers, MayBeSet, with_dead}
 use Rattle.service_names.proofs.Freed.{added-none, added-before}
 use Rattle.service_names.proofs.Taking.{set-here, set-else, found-here, filled-as}

@@ -7,7 +7,7 @@ use Rattle.volume_values.specs.Directories.{DirectoryValue, empty_directory}
 use Rattle.volume_values.specs.Inodes.{InodeKind, RegularFile, Folder}
 use Rattle.volume_values.specs.Logical.{LogicalValue}
 use Rattle.volume_values.specs.lemmas.Numbered.{get-insert_at}
-use Rattle.held_nodes.specs.Making.{directories_made}
+use Rattle.held_changes.specs.NodesMade.{directories_made}
 use Rattle.service_names.specs.Changing.{with_directories}
 use Rattle.service_names.specs.Making.{without_directory}
 use Rattle.service_names.proofs.Putting.{remove-put}

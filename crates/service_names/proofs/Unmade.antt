@@ -19,7 +19,7 @@ use Rattle.held_state.specs.Parcels.{no_stripe}
 use Rattle.held_state.specs.Tree.{stripe_at}
 use Rattle.held_state.specs.Sets.{FilerLogical, FilerStripe, stripe_value, placed, in_one, logical_before, logical_after}
 use Rattle.held_laws.specs.lemmas.Each.{each-same, each-map, each-index, get-there}
-use Rattle.held_nodes.specs.Making.{card_made, directories_made, node_made}
+use Rattle.held_changes.specs.NodesMade.{card_made, directories_made, node_made}
 use Rattle.held_changes.specs.Making.{making_of}
 use Rattle.service_names.specs.declared.within.Within.{Within}
 use Rattle.service_names.specs.Cards.{InFirst, place_dropped, DiffersByCard, HasCard, IsDropped}

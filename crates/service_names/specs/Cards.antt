@@ -3,7 +3,7 @@ use Rattle.std.specs.Prelude.{◌≡◌, ℕ, ◌<◌, ◌≤◌, true, List, le
 use Rattle.volume_values.specs.Inodes.{InodeKind}
 use Rattle.volume_values.specs.Stripes.{card_dropped}
 use Rattle.held_state.specs.Sets.{FilerStripe, stripe_value}
-use Rattle.held_nodes.specs.Making.{card_made}
+use Rattle.held_changes.specs.NodesMade.{card_made}
 
 -- the first n of some places are related to what they were; all others are as they were
 pub record InFirst {A : Type 0} (Q : A → A → Type 0) (n : ℕ) (old new : List A) : Type 0 where

@@ -10,9 +10,9 @@ use Rattle.volume_values.specs.Logical.{LogicalValue}
 use Rattle.volume_values.specs.Ranges.{with_numbers}
 use Rattle.held_state.specs.Lenses.{LogicalSet}
 use Rattle.held_state.specs.Tree.{stripe_at}
-use Rattle.held_nodes.specs.Dropping.{without_subdirectories}
-use Rattle.held_nodes.specs.Making.{folders_in}
-use Rattle.held_nodes.specs.Sizing.{Sizing, all_freed}
+use Rattle.held_changes.specs.NodesDropped.{without_subdirectories}
+use Rattle.held_changes.specs.NodesMade.{folders_in}
+use Rattle.held_changes.specs.NodesSized.{Sizing, all_freed}
 
 -- numbers that blocks of a volume can have
 abbrev pub AreNumbers : List ℕ → Type 0

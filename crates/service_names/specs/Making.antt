@@ -11,7 +11,7 @@ use Rattle.volume_values.specs.Logical.{LogicalValue}
 use Rattle.held_state.specs.Lenses.{LogicalSet}
 use Rattle.held_state.specs.Names.{root, subdirectories_in}
 use Rattle.held_state.specs.Tree.{stripe_at}
-use Rattle.held_nodes.specs.Making.{folders_in, with_subdirectories}
+use Rattle.held_changes.specs.NodesMade.{folders_in, with_subdirectories}
 use Rattle.held_changes.specs.Named.{HeldNaming}
 use Rattle.service_names.specs.Naming.{naming_in}
 use Rattle.service_names.specs.declared.within.Within.{Within}

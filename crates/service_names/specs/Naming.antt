@@ -8,7 +8,7 @@ use Rattle.inodes.specs.Inode.{inode_value}
 use Rattle.inodes.specs.declared.inode.Inode.{Inode}
 use Rattle.held_state.specs.Lenses.{LogicalSet}
 use Rattle.held_state.specs.Changes.{LogicalAnswer}
-use Rattle.held_names.specs.Answers.{entries_of}
+use Rattle.held_changes.specs.NameAnswers.{entries_of}
 use Rattle.held_changes.specs.Named.{fails, HeldNaming, HeldNode}
 use Rattle.service_names.specs.declared.node.Node.{Node}
 

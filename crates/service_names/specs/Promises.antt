@@ -22,8 +22,8 @@ use Rattle.held_state.specs.Lenses.{LogicalSet, logical_lens}
 use Rattle.held_state.specs.Promises.{RightOnVolume}
 use Rattle.held_state.specs.Jobs.{Replied}
 use Rattle.held_state.specs.Calls.{ServesOn}
-use Rattle.held_attributes.specs.Laws.{setattr_call}
-use Rattle.held_names.specs.Laws.{lookup_call, readdir_call, commit_call}
+use Rattle.held_changes.specs.AttributeLaws.{setattr_call}
+use Rattle.held_changes.specs.NameLaws.{lookup_call, readdir_call, commit_call}
 use Rattle.held_changes.specs.Laws.{create_call, mkdir_call, remove_call, rmdir_call}
 
 -- An entry of LOOKUP of a name in the directory of a fileid under Logical, with this result, is right: by whatever handle and at

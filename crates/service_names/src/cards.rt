@@ -4,7 +4,7 @@ ghost use Rattle.std.specs.Prelude.{◌≡◌, ◌≤◌, map, OnOk};
 ghost use Rattle.parcel_sets.specs.Filled.{logical_alike};
 ghost use Rattle.inodes.specs.Inode.{kind_value};
 ghost use Rattle.held_state.specs.Sets.{logical_before, logical_after};
-ghost use Rattle.held_nodes.specs.Making.{card_made};
+ghost use Rattle.held_changes.specs.NodesMade.{card_made};
 ghost use Rattle.volume_values.specs.Stripes.{card_dropped};
 ghost use Rattle.service_names.specs.Cards.{InFirst, DiffersByCard, HasCard, IsDropped};
 

@@ -13,7 +13,7 @@ ghost use Rattle.held_state.specs.Lenses.{LogicalSet};
 ghost use Rattle.held_state.specs.Names.{is_folder};
 ghost use Rattle.held_state.specs.Sets.{logical_before};
 ghost use Rattle.directories.specs.Index.{fileid_number};
-ghost use Rattle.held_names.specs.Answers.{entries_of};
+ghost use Rattle.held_changes.specs.NameAnswers.{entries_of};
 ghost use Rattle.held_changes.specs.Named.{HeldNaming, on_held_name, node_at, directory_change};
 ghost use Rattle.service_names.specs.Naming.{node_value, naming_in, naming_of, come_to};
 ghost use Rattle.service_names.specs.Shown.{HasFewLinks};

@@ -11,7 +11,7 @@ ghost use Rattle.parcel_sets.specs.Filled.{logical_alike};
 ghost use Rattle.held_state.specs.Lenses.{logical_lens};
 ghost use Rattle.held_state.specs.Promises.{HasVolume};
 ghost use Rattle.held_state.specs.Sets.{logical_before, logical_after};
-ghost use Rattle.held_names.specs.Answers.{entries_of};
+ghost use Rattle.held_changes.specs.NameAnswers.{entries_of};
 ghost use Rattle.held_changes.specs.Laws.{create_done, mkdir_done};
 ghost use Rattle.service_names.specs.Making.{Makes};
 ghost use Rattle.service_names.specs.Promises.{Creates, MakesDirectory};

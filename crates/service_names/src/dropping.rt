@@ -10,14 +10,14 @@ ghost use Rattle.volume_values.specs.Maps.{changed_at};
 ghost use Rattle.inodes.specs.Inode.{inode_value, kind_value};
 ghost use Rattle.held_state.specs.Names.{parent_in};
 ghost use Rattle.held_state.specs.Sets.{logical_before, logical_after};
-ghost use Rattle.held_names.specs.Answers.{entries_of};
-ghost use Rattle.held_nodes.specs.Dropping.{
+ghost use Rattle.held_changes.specs.NameAnswers.{entries_of};
+ghost use Rattle.held_changes.specs.NodesDropped.{
   directories_left,
   directory_left,
   node_dropped,
   without_subdirectories,
 };
-ghost use Rattle.held_nodes.specs.Making.{folders_in};
+ghost use Rattle.held_changes.specs.NodesMade.{folders_in};
 ghost use Rattle.held_changes.specs.Dropping.{dropping_of, child_emptied, file_gone};
 ghost use Rattle.service_names.specs.Changing.{inode_left, MayBeSet, with_directories, with_inodes};
 ghost use Rattle.service_names.specs.Naming.{node_value, naming_of};

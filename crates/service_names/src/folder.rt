@@ -6,7 +6,7 @@ ghost use Rattle.nfs_model.specs.Types as types;
 ghost use Rattle.nfs_values.specs.Answer.{result_of};
 ghost use Rattle.volume_values.specs.Inodes as values;
 ghost use Rattle.inodes.specs.Inode.{inode_value};
-ghost use Rattle.held_names.specs.Answers.{on_folder};
+ghost use Rattle.held_changes.specs.NameAnswers.{on_folder};
 
 use inodes::{Inode, InodeKind};
 use nfs_values::{Fileid, Status};

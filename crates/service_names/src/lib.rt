@@ -31,6 +31,7 @@ pub use child::{child_at, directory_change, is_dots, is_empty};
 pub use committing::commit;
 pub use creating::{create, make_directory};
 pub use dropping::{directory_left, drop_directory, drop_inode};
+pub use held_changes::renaming_calls_are_right;
 pub use listing::{PageAsked, read_directory};
 pub use looking::lookup;
 pub use making::with_child;

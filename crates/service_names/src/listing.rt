@@ -4,7 +4,7 @@ ghost use Rattle.std.specs.Prelude.{◌≡◌, ◌<◌, ◌≤◌, [], ◌∷◌
 ghost use Rattle.nfs_model.specs.Serial.Readdir.{above_cookie, fitting};
 ghost use Rattle.directories.specs.Entries.{page_value};
 ghost use Rattle.volume_values.specs.Directories.{page_of};
-ghost use Rattle.held_names.specs.Answers.{entries_of, is_bad_cookie};
+ghost use Rattle.held_changes.specs.NameAnswers.{entries_of, is_bad_cookie};
 ghost use Rattle.held_state.specs.Lenses.{logical_lens};
 ghost use Rattle.held_state.specs.Promises.{HasVolume};
 ghost use Rattle.held_state.specs.Sets.{logical_before};

@@ -27,7 +27,7 @@ ghost use Rattle.volume_values.specs.Inodes.{filled_blocks, inode_created, inode
 ghost use Rattle.volume_values.specs.Maps.{changed_at};
 ghost use Rattle.held_state.specs.Names.{subdirectories_in};
 ghost use Rattle.held_state.specs.Sets.{logical_before, logical_after};
-ghost use Rattle.held_nodes.specs.Making.{
+ghost use Rattle.held_changes.specs.NodesMade.{
   directories_made,
   folders_in,
   node_made,

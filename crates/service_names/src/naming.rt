@@ -6,7 +6,7 @@ ghost use Rattle.std.specs.Option.{option_map};
 ghost use Rattle.nfs_model.specs.Names.{same_name, name_fault};
 ghost use Rattle.nfs_values.specs.Status.{status_of};
 ghost use Rattle.directories.specs.Index.{fileid_number};
-ghost use Rattle.held_names.specs.Answers.{entries_of, fileid_named};
+ghost use Rattle.held_changes.specs.NameAnswers.{entries_of, fileid_named};
 
 use nfs_values::{Fileid, Status};
 use parcel_sets::LogicalHeld;

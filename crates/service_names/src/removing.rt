@@ -10,7 +10,7 @@ ghost use Rattle.held_state.specs.Lenses.{logical_lens};
 ghost use Rattle.held_state.specs.Promises.{HasVolume};
 ghost use Rattle.held_state.specs.Sets.{logical_before, logical_after};
 ghost use Rattle.inodes.specs.Inode.{kind_value};
-ghost use Rattle.held_names.specs.Answers.{entries_of};
+ghost use Rattle.held_changes.specs.NameAnswers.{entries_of};
 ghost use Rattle.held_changes.specs.Named.{node_under};
 ghost use Rattle.held_changes.specs.Dropping.{rmdir_kind};
 ghost use Rattle.service_names.specs.Naming.{naming_of, node_value};

@@ -4,7 +4,7 @@ ghost use Rattle.std.specs.Prelude.{◌≡◌, ◌<◌, ◌^◌, ◌-◌, ℕ, l
 ghost use Rattle.parcel_sets.specs.Filled.{logical_alike};
 ghost use Rattle.inodes.specs.Inode.{attributes_value, inode_value, kind_value};
 ghost use Rattle.volume_values.specs.Inodes.{filled_blocks};
-ghost use Rattle.held_nodes.specs.Sizing.{all_freed, kind_sized, inode_sized, file_sized};
+ghost use Rattle.held_changes.specs.NodesSized.{all_freed, kind_sized, inode_sized, file_sized};
 ghost use Rattle.held_state.specs.Sets.{logical_before, logical_after};
 ghost use Rattle.service_names.specs.Changing.{MayBeSet, sizing, with_inode};
 

@@ -4,7 +4,7 @@ use Rattle.std.proofs.lemmas.Bool.{eqb-true}
 use Rattle.std.specs.FinMap.{get}
 use Rattle.nfs_model.specs.Serial.Rename.{on_parent}
 use Rattle.held_state.specs.Names.{InodeMap, parent_directory}
-use Rattle.held_changes.specs.Renaming.{above, climbs}
+use Rattle.service_names.specs.RenamingChanges.{above, climbs}
 
 is-false : (at target : ℕ) → (at ≡ target → ⊥) → (b : Bool) → (at == target) ≡ b → (at == target) ≡ false
 is-false at target other true e = absurd (other (eqb-true at target e))

@@ -14,10 +14,10 @@ use Rattle.held_state.specs.Lenses.{LogicalSet, logical_lens}
 use Rattle.held_state.specs.Jobs.{Replied}
 use Rattle.held_state.specs.Promises.{RightOnVolume}
 use Rattle.held_state.specs.Running.{RunsOn}
-use Rattle.held_changes.specs.Laws.{IsDone, MayStarve}
-use Rattle.held_changes.specs.Named.{HeldNode, node_under, directory_change}
-use Rattle.held_changes.specs.Renaming.{HeldRenaming, fails_both, unless_both, is_one_entry, goes_below, target_may_go, directory_now, set_renamed}
-use Rattle.held_changes.specs.Renaming.{held_renamed, rename_by, held_rename}
+use Rattle.service_names.specs.ChangeLaws.{IsDone, MayStarve}
+use Rattle.service_names.specs.NamedChanges.{HeldNode, node_under, directory_change}
+use Rattle.service_names.specs.RenamingChanges.{HeldRenaming, fails_both, unless_both, is_one_entry, goes_below, target_may_go, directory_now, set_renamed}
+use Rattle.service_names.specs.RenamingChanges.{held_renamed, rename_by, held_rename}
 use Rattle.service_renames.specs.Promises.{renaming_outcome}
 use Rattle.service_renames.specs.Renaming.{first_fault, names_fault, Renamed}
 

@@ -5,11 +5,11 @@ use Rattle.volume_values.specs.Inodes.{InodeKind, RegularFile, Folder, Inode}
 use Rattle.held_state.specs.Lenses.{LogicalSet}
 use Rattle.held_state.specs.Names.{DirectoryMap}
 use Rattle.held_state.specs.Sets.{FilerLogical, logical_set, logical_before, logical_after}
-use Rattle.held_nodes.specs.Dropping.{directories_left, node_dropped}
-use Rattle.held_nodes.specs.Sizing.{kind_sized, file_sized}
-use Rattle.held_changes.specs.Named.{HeldNode}
-use Rattle.held_changes.specs.Dropping.{dropping_of, emptying_of, child_emptied}
-use Rattle.held_changes.specs.Renaming.{target_dropped}
+use Rattle.service_names.specs.NodesDropped.{directories_left, node_dropped}
+use Rattle.service_names.specs.NodesSized.{kind_sized, file_sized}
+use Rattle.service_names.specs.NamedChanges.{HeldNode}
+use Rattle.service_names.specs.DroppingChanges.{dropping_of, emptying_of, child_emptied}
+use Rattle.service_names.specs.RenamingChanges.{target_dropped}
 use Rattle.service_names.specs.Naming.{naming_in}
 use Rattle.service_renames.specs.declared.between.Between.{Between}
 use Rattle.service_renames.specs.Moving.{with_map, to_of, node_gone, emptied_gone, target_out}

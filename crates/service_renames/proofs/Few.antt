@@ -5,10 +5,10 @@ use Rattle.std.specs.FinMap.{get}
 use Rattle.volume_values.specs.Inodes.{InodeKind, RegularFile, Folder, Inode, InodesValue, filled_blocks, inode_replaced, inode_set}
 use Rattle.volume_values.specs.Inodes.{used_without, inode_dropped}
 use Rattle.volume_values.specs.lemmas.Numbered.{get-insert_at, get-remove_at}
-use Rattle.held_changes.specs.Renaming.{inode_or}
-use Rattle.held_nodes.specs.Dropping.{without_subdirectories}
-use Rattle.held_nodes.specs.Making.{with_subdirectories}
-use Rattle.held_nodes.specs.Sizing.{kind_sized}
+use Rattle.service_names.specs.RenamingChanges.{inode_or}
+use Rattle.service_names.specs.NodesDropped.{without_subdirectories}
+use Rattle.service_names.specs.NodesMade.{with_subdirectories}
+use Rattle.service_names.specs.NodesSized.{kind_sized}
 use Rattle.service_renames.specs.Renaming.{IsWithin, AllWithin}
 
 -- ---- bounds

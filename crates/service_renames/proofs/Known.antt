@@ -22,10 +22,10 @@ use Rattle.held_state.specs.Lenses.{LogicalSet, logical_lens}
 use Rattle.held_state.specs.Promises.{HasVolume}
 use Rattle.held_state.specs.Sound.{IsSound}
 use Rattle.held_laws.specs.lemmas.Limits.{used-fits, ranges-fit}
-use Rattle.held_names.specs.Answers.{entries_of}
-use Rattle.held_changes.specs.Laws.{IsDone}
-use Rattle.held_changes.specs.Named.{HeldNode, node_there, node_at}
-use Rattle.held_changes.specs.Renaming.{may_replace, target_may_go}
+use Rattle.service_names.specs.NameAnswers.{entries_of}
+use Rattle.service_names.specs.ChangeLaws.{IsDone}
+use Rattle.service_names.specs.NamedChanges.{HeldNode, node_there, node_at}
+use Rattle.service_names.specs.RenamingChanges.{may_replace, target_may_go}
 use Rattle.service_names.specs.lemmas.May.{whole-absent}
 use Rattle.service_names.specs.lemmas.Nodes.{whole-used, whole-may-be-set, whole-entered}
 use Rattle.service_names.specs.lemmas.Whole.{few-links, whole-few}

@@ -12,10 +12,10 @@ use Rattle.held_state.specs.Contents.{each}
 use Rattle.held_state.specs.Lenses.{LogicalSet}
 use Rattle.held_state.specs.Sets.{FilerLogical, stripe_value, placed, logical_before, logical_after}
 use Rattle.held_state.specs.Tree.{file_touch}
-use Rattle.held_nodes.specs.Making.{folders_in, with_subdirectories}
-use Rattle.held_nodes.specs.Moving.{dated_inode, with_parent, node_hung}
-use Rattle.held_changes.specs.Named.{HeldNode}
-use Rattle.held_changes.specs.Renaming.{inode_or, moving_of}
+use Rattle.service_names.specs.NodesMade.{folders_in, with_subdirectories}
+use Rattle.service_names.specs.NodesMoved.{dated_inode, with_parent, node_hung}
+use Rattle.service_names.specs.NamedChanges.{HeldNode}
+use Rattle.service_names.specs.RenamingChanges.{inode_or, moving_of}
 use Rattle.service_names.specs.Changing.{with_inode}
 use Rattle.service_renames.specs.declared.between.Between.{Between}
 use Rattle.service_renames.specs.Moving.{to_of, node_in}

@@ -9,18 +9,18 @@ use Rattle.inodes.specs.Inode.{inode_value, kind_value}
 use Rattle.volume_values.specs.Inodes.{InodeKind, RegularFile, Folder, Inode, inode_set, inode_dropped}
 use Rattle.volume_values.specs.Maps.{changed_at}
 use Rattle.volume_values.specs.Directories.{removed}
-use Rattle.held_names.specs.Answers.{entries_of}
+use Rattle.service_names.specs.NameAnswers.{entries_of}
 use Rattle.held_state.specs.Contents.{each}
 use Rattle.held_state.specs.Lenses.{LogicalSet}
 use Rattle.held_state.specs.Names.{DirectoryMap}
 use Rattle.held_state.specs.Sets.{FilerLogical, stripe_value, placed, logical_set, logical_before, logical_after}
-use Rattle.held_nodes.specs.Dropping.{directory_left, without_subdirectories}
-use Rattle.held_nodes.specs.Making.{folders_in}
-use Rattle.held_nodes.specs.Moving.{dated_inode}
-use Rattle.held_nodes.specs.Sizing.{all_freed, inode_sized}
-use Rattle.held_changes.specs.Named.{HeldNode}
-use Rattle.held_changes.specs.Dropping.{dropping_of, emptying_of, child_emptied}
-use Rattle.held_changes.specs.Renaming.{inode_or, set_renamed}
+use Rattle.service_names.specs.NodesDropped.{directory_left, without_subdirectories}
+use Rattle.service_names.specs.NodesMade.{folders_in}
+use Rattle.service_names.specs.NodesMoved.{dated_inode}
+use Rattle.service_names.specs.NodesSized.{all_freed, inode_sized}
+use Rattle.service_names.specs.NamedChanges.{HeldNode}
+use Rattle.service_names.specs.DroppingChanges.{dropping_of, emptying_of, child_emptied}
+use Rattle.service_names.specs.RenamingChanges.{inode_or, set_renamed}
 use Rattle.service_names.specs.Changing.{MayBeSet, with_directories}
 use Rattle.service_renames.specs.declared.between.Between.{Between}
 use Rattle.service_renames.specs.Moving.{with_map, to_of, replaced, entry_put, target_out, entry_out, node_in, MayMove}

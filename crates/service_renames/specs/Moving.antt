@@ -10,12 +10,12 @@ use Rattle.volume_values.specs.Maps.{changed_at}
 use Rattle.inodes.specs.Inode.{kind_value, inode_value}
 use Rattle.held_state.specs.Lenses.{LogicalSet}
 use Rattle.held_state.specs.Names.{DirectoryMap, is_folder}
-use Rattle.held_names.specs.Answers.{entries_of}
-use Rattle.held_nodes.specs.Dropping.{directories_left, node_dropped}
-use Rattle.held_nodes.specs.Sizing.{file_sized}
-use Rattle.held_changes.specs.Named.{HeldNaming, HeldNode}
-use Rattle.held_changes.specs.Dropping.{dropping_of, emptying_of, child_emptied}
-use Rattle.held_changes.specs.Renaming.{target_dropped, child_taken, child_hung}
+use Rattle.service_names.specs.NameAnswers.{entries_of}
+use Rattle.service_names.specs.NodesDropped.{directories_left, node_dropped}
+use Rattle.service_names.specs.NodesSized.{file_sized}
+use Rattle.service_names.specs.NamedChanges.{HeldNaming, HeldNode}
+use Rattle.service_names.specs.DroppingChanges.{dropping_of, emptying_of, child_emptied}
+use Rattle.service_names.specs.RenamingChanges.{target_dropped, child_taken, child_hung}
 use Rattle.service_names.specs.Changing.{with_directories, MayBeSet}
 use Rattle.service_names.specs.Naming.{naming_of}
 use Rattle.service_renames.specs.declared.between.Between.{Between}

@@ -11,7 +11,7 @@ use Rattle.nfs_values.specs.declared.answer.RenameResults.{RenameResults}
 use Rattle.nfs_values.specs.declared.status.Status.{Status}
 use Rattle.held_state.specs.Lenses.{LogicalSet, logical_lens}
 use Rattle.held_state.specs.Running.{RunsOn}
-use Rattle.held_changes.specs.Laws.{rename_call}
+use Rattle.service_names.specs.ChangeLaws.{rename_call}
 
 -- what it comes to: a reply, or memory ran out
 abbrev pub renaming_outcome : Result (Result RenameResults Status) AllocError → Outcome

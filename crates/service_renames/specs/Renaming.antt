@@ -14,9 +14,9 @@ use Rattle.inodes.specs.declared.inode.Inode.{Inode}
 use Rattle.held_state.specs.Lenses.{LogicalSet}
 use Rattle.held_state.specs.Names.{InodeMap}
 use Rattle.held_state.specs.Changes.{LogicalAnswer}
-use Rattle.held_changes.specs.Laws.{rename_done}
-use Rattle.held_changes.specs.Named.{HeldNode, node_under}
-use Rattle.held_changes.specs.Renaming.{HeldRenaming, fails_both, rename_by}
+use Rattle.service_names.specs.ChangeLaws.{rename_done}
+use Rattle.service_names.specs.NamedChanges.{HeldNode, node_under}
+use Rattle.service_names.specs.RenamingChanges.{HeldRenaming, fails_both, rename_by}
 use Rattle.service_names.specs.Naming.{naming_of}
 use Rattle.service_names.specs.Shown.{HasFewLinks}
 use Rattle.service_renames.specs.declared.between.Between.{Between}

@@ -5,7 +5,7 @@ ghost use Rattle.std.specs.Option.{option_map};
 ghost use Rattle.nfs_model.specs.Names.{same_name};
 ghost use Rattle.nfs_values.specs.Status.{status_of};
 ghost use Rattle.inodes.specs.Inode.{kind_value};
-ghost use Rattle.held_changes.specs.Renaming.{may_replace, target_may_go};
+ghost use Rattle.service_names.specs.RenamingChanges.{may_replace, target_may_go};
 ghost use Rattle.held_state.specs.Names.{parent_in};
 ghost use Rattle.held_state.specs.Sets.{logical_before};
 ghost use Rattle.service_names.specs.Naming.{node_value};

@@ -6,7 +6,7 @@ ghost use Rattle.directories.specs.Index.{fileid_number};
 ghost use Rattle.inodes.specs.Inode.{kind_value};
 ghost use Rattle.held_state.specs.Names.{parent_directory};
 ghost use Rattle.held_state.specs.Sets.{logical_before};
-ghost use Rattle.held_changes.specs.Renaming.{above, climbs, goes_below};
+ghost use Rattle.service_names.specs.RenamingChanges.{above, climbs, goes_below};
 ghost use Rattle.service_renames.specs.Renaming.{renaming_in};
 ghost use Rattle.std.specs.Prelude.{List, ℕ};
 

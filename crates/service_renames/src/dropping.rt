@@ -4,7 +4,7 @@ ghost use Rattle.std.specs.Prelude.{◌≡◌, ◌≤◌, ◌<◌, ◌^◌, ℕ,
 ghost use Rattle.std.specs.Option.{option_map};
 ghost use Rattle.nfs_values.specs.Moment.{moment_of};
 ghost use Rattle.parcel_sets.specs.Filled.{logical_alike};
-ghost use Rattle.held_changes.specs.Named.{HeldNode};
+ghost use Rattle.service_names.specs.NamedChanges.{HeldNode};
 ghost use Rattle.held_state.specs.Sets.{logical_before, logical_after};
 ghost use Rattle.service_names.specs.Changing.{MayBeSet};
 ghost use Rattle.service_names.specs.Naming.{naming_of, node_value};

@@ -4,7 +4,7 @@ ghost use Rattle.std.specs.Prelude.{◌≡◌, true, IfOk, Some};
 ghost use Rattle.std.specs.FinMap.{get};
 ghost use Rattle.volume_values.specs.Inodes as values;
 ghost use Rattle.inodes.specs.Inode.{inode_value};
-ghost use Rattle.held_changes.specs.Renaming.{inode_or, on_folder};
+ghost use Rattle.service_names.specs.RenamingChanges.{inode_or, on_folder};
 ghost use Rattle.held_state.specs.Changes.{LogicalAnswer};
 ghost use Rattle.held_state.specs.Names.{is_folder};
 ghost use Rattle.held_state.specs.Sets.{logical_before};

@@ -13,3 +13,7 @@ mod telling;
 
 pub use entry_name::EntryName;
 pub use renaming::rename;
+pub use service_names::{
+    PageAsked, commit, create, latest_touch, lookup, make_directory, read_directory, remove,
+    remove_directory, set_attributes, shown,
+};

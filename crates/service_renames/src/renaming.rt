@@ -9,9 +9,9 @@ ghost use Rattle.parcel_sets.specs.Filled.{logical_alike};
 ghost use Rattle.held_state.specs.Lenses.{logical_lens};
 ghost use Rattle.held_state.specs.Promises.{HasVolume};
 ghost use Rattle.held_state.specs.Sets.{logical_before, logical_after};
-ghost use Rattle.held_changes.specs.Laws.{rename_done};
-ghost use Rattle.held_changes.specs.Named.{node_under};
-ghost use Rattle.held_changes.specs.Renaming.{held_rename};
+ghost use Rattle.service_names.specs.ChangeLaws.{rename_done};
+ghost use Rattle.service_names.specs.NamedChanges.{node_under};
+ghost use Rattle.service_names.specs.RenamingChanges.{held_rename};
 ghost use Rattle.service_names.specs.Naming.{node_value};
 ghost use Rattle.service_renames.specs.Moving.{AreThere};
 ghost use Rattle.service_renames.specs.Promises.{Renames};
@@ -24,11 +24,10 @@ use crate::entry_name::EntryName;
 use crate::folder::folder_at;
 use crate::moving::move_node;
 use crate::telling::told;
-use held_changes::renaming_calls_are_right;
 use nfs_values::{Moment, RenameResults, Status, VolumeNumber};
 use parcel_sets::LogicalHeld;
 use parcels::Files;
-use service_names::{Node, child_at};
+use service_names::{Node, child_at, renaming_calls_are_right};
 use std::alloc::{AllocError, Global};
 
 /// RENAME (RFC 1813 section 3.3.14), on the parcels of a volume's names and attributes, at a

@@ -3,7 +3,7 @@
 ghost use Rattle.std.specs.Prelude.{◌≡◌, ℕ, List};
 ghost use Rattle.nfs_values.specs.Answer.{name_moved};
 ghost use Rattle.inodes.specs.Inode.{kind_value};
-ghost use Rattle.held_changes.specs.Renaming.{held_renamed};
+ghost use Rattle.service_names.specs.RenamingChanges.{held_renamed};
 ghost use Rattle.held_state.specs.Lenses.{LogicalSet};
 ghost use Rattle.held_state.specs.Sets.{logical_before};
 ghost use Rattle.service_renames.specs.Renaming.{AllWithin, IsWithin, renaming_in};

@@ -8,9 +8,9 @@ use Rattle.connections.specs.Admitted.{IsHandedBack}
 use Rattle.shared_waiting.specs.Balance.{left, right}
 use Rattle.shared_waiting.specs.Passes.{known, IsOf}
 use Rattle.shared_waiting.specs.declared.pass.Pass.{Pass}
-use Rattle.workers.specs.Balance.{Passed}
-use Rattle.workers.specs.declared.message.Message.{Message}
-use Rattle.workers.specs.declared.shared.Filer.{Filer}
+use Rattle.connections.specs.Balance.{Passed}
+use Rattle.connections.specs.Message.{Message}
+use Rattle.connections.specs.Filer.{Filer}
 use Rattle.serving.specs.Places.{share_of, IsReaderOf}
 
 -- a pass that is handed back has the share that it had

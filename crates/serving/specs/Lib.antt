@@ -1,2 +1,3 @@
 pub mod Places
 pub mod Numbers
+pub use Rattle.connections.specs.declared.refusal.ServeRefusal

@@ -8,8 +8,8 @@ use Rattle.depot_rule.specs.Sums.{total}
 use Rattle.shared_waiting.specs.Balance.{part}
 use Rattle.shared_waiting.specs.Passes.{known}
 use Rattle.shared_waiting.specs.declared.pass.Pass.{Pass}
-use Rattle.workers.specs.declared.message.Message.{Message}
-use Rattle.workers.specs.declared.shared.Filer.{Filer}
+use Rattle.connections.specs.Message.{Message}
+use Rattle.connections.specs.Filer.{Filer}
 use Rattle.serving.specs.declared.slots.Slots.{Slots}
 
 -- the share of a pass, in parts of 1 / 2^k

@@ -9,5 +9,6 @@ mod slots;
 mod splitting;
 
 pub use accepting::serve;
+pub use connections::{ServeRefusal, Shared};
 pub use fault::ServeFault;
 pub use slots::Slots;

@@ -4,17 +4,16 @@ ghost use Rattle.std.specs.Prelude.{◌≡◌, ◌≤◌, ◌+◌, ℕ, All, vec
 ghost use Rattle.depot_rule.specs.Sums.{total};
 ghost use Rattle.serving.specs.Places.{share_of, share_lent, share_in, AreSlotsOf};
 ghost use Rattle.serving.specs.Places.{IsReaderOf, IsServedFor};
-ghost use Rattle.workers.specs.declared.shared.Filer.{Filer};
+ghost use Rattle.connections.specs.Filer.{Filer};
 
 use crate::slots::Slots;
 use affinity_tree::Layout;
 use bells::Bell;
-use connections::Connection;
+use connections::{Connection, Message};
 use shared_waiting::Pass;
 use std::mem;
 use std::sync::Wait;
 use std::thread::Threads;
-use workers::Message;
 
 /// Takes the pass of a connection back if both threads have ended, or else keeps it.
 fn reap_one<R: Threads>(

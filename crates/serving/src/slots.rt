@@ -3,9 +3,8 @@
 ghost use Rattle.std.specs.Prelude.{◌≡◌, ◌≤◌, ◌+◌, vec_len, vec_capacity};
 
 use affinity_tree::Layout;
-use connections::Connection;
+use connections::{Connection, Message};
 use shared_waiting::Pass;
-use workers::Message;
 
 /// 64 places for connections. The pass of each place waits for a connection or is lent to one.
 #[derive(Drop)]

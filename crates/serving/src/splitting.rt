@@ -7,9 +7,9 @@ ghost use Rattle.serving.specs.Places.{share_of, share_in, AreSlotsOf, IsReaderO
 
 use crate::slots::Slots;
 use affinity_tree::Layout;
+use connections::{Filer, Message};
 use shared_waiting::Pass;
 use std::alloc::{AllocError, Global};
-use workers::{Filer, Message};
 
 /// How many places there are.
 const PLACES: usize = 64;

@@ -9,3 +9,6 @@ pub mod Logs
 pub mod lemmas
 pub mod Tends
 pub mod Carries
+pub use Rattle.service.specs.Jobs
+pub use Rattle.service.specs.Running
+pub use Rattle.service.specs.Hands

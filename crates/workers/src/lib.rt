@@ -24,6 +24,7 @@ mod working;
 
 pub use message::Message;
 pub use parts::WorkerParts;
+pub use service::{BatchInHand, Service};
 pub use shared::Filer;
 pub use tend::{Tend, TendRefusal, Tended};
 pub use turned::{Gate, Place, Stage, Turned};

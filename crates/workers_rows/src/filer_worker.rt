@@ -12,7 +12,7 @@ pub struct FilerWorker<'a> {
 
 impl<'a> Model for FilerWorker<'a> {
     ghost use Rattle.nfs_model.specs.Parts as parts;
-    ghost use Rattle.service.specs.Hands.{coded_hand};
+    ghost use Rattle.workers.specs.Hands.{coded_hand};
     ghost use Rattle.workers.specs.Tends.{hand_in};
     ghost use Rattle.workers.specs.Words.{IsIn};
 

@@ -8,10 +8,9 @@ ghost use Rattle.workers.specs.Words.{HasDoneNothing, IsReady};
 
 use affinity_tree::{AggregateSpec, Layout, VolumeSpec};
 use depot::Seat;
-use service::Service;
 use shared_waiting::Pass;
 use std::alloc::Global;
-use workers::{Filer, Message};
+use workers::{Filer, Message, Service};
 
 /// A filer of two volumes, one of 8 stripes and one range, one of 16 stripes and two ranges, whose
 /// write verifier is eight nines; with its first seat and pass. Nothing where memory ran out.

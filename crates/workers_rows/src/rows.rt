@@ -1,6 +1,6 @@
 //! Turns and tends of workers, each with what it answers and what it leaves.
 
-ghost use Rattle.service.specs.Running.{IsRun};
+ghost use Rattle.workers.specs.Running.{IsRun};
 
 use crate::calls::{NOTHING, at, handle, in_root, record_of};
 use crate::came::Came;

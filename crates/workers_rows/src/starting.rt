@@ -10,9 +10,8 @@ use crate::filer_worker::FilerWorker;
 use crate::reader::Reader;
 use affinity_tree::Layout;
 use depot::Seat;
-use service::Service;
 use shared_waiting::Pass;
-use workers::{Filer, Message, Worker};
+use workers::{Filer, Message, Service, Worker};
 
 /// Two workers, and who puts messages for them.
 #[derive(Drop)]

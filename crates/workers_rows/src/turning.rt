@@ -1,7 +1,7 @@
 //! Messages, turns and tends.
 
 ghost use Rattle.std.specs.Prelude.{IfSome};
-ghost use Rattle.service.specs.Running.{IsRun};
+ghost use Rattle.workers.specs.Running.{IsRun};
 ghost use Rattle.workers.specs.Messages.{IsPlaced};
 ghost use Rattle.workers.specs.Words.{layout_in};
 

@@ -19,8 +19,8 @@ use Rattle.held_state.specs.Promises.{HasAll}
 use Rattle.held_state.specs.Running.{HasFiler, UnlessReplied, Runs, task_under}
 use Rattle.held_state.specs.Sets.{FilerAggregate, aggregate_set}
 use Rattle.held_laws.specs.lemmas.Granted.{aggregate-has}
-use Rattle.held_totals.specs.Running.{RunsOnAll}
-use Rattle.held_totals.specs.lemmas.Running.{aggregate-runs}
+use Rattle.service_totals.specs.Running.{RunsOnAll}
+use Rattle.service_totals.specs.RunningLemmas.{aggregate-runs}
 use Rattle.service_totals.specs.Growing.{HasVolumeOf, GrowsAggregate, growing_outcome}
 use Rattle.service.specs.Running.{IsRunAt, MovesOn}
 use Rattle.service.specs.lemmas.Homes.{run-home, grows-there}

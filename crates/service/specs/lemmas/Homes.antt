@@ -15,7 +15,7 @@ use Rattle.affinity_tree.specs.declared.affinity.Kind.{Kind}
 use Rattle.affinity_tree.specs.declared.affinity.Kind.TheVariants as kinds
 use Rattle.parcel_sets.specs.Sets.{volume_of}
 use Rattle.held_state.specs.Calls.{LieIn, handle_in}
-use Rattle.held_data.specs.lemmas.Homes.{home-lies}
+use Rattle.service_data.specs.HomeLemmas.{home-lies}
 use Rattle.service.specs.Running.{IsRun, IsRunInLogical, IsRunAt, IsRunIn, RunsAbove, BytesLieIn, fileid_in}
 
 -- what its handle names, the first of RENAME's: a fileid of the node's volume; and what the node is

@@ -16,8 +16,8 @@ use Rattle.held_state.specs.Promises.{HasAll}
 use Rattle.held_state.specs.Running.{HasFiler, Runs, UnlessReplied, task_under}
 use Rattle.held_state.specs.Sets.{FilerSerial, serial_set}
 use Rattle.held_laws.specs.lemmas.Granted.{serial-has}
-use Rattle.held_totals.specs.Running.{RunsOnAll}
-use Rattle.held_totals.specs.lemmas.Running as totals
+use Rattle.service_totals.specs.Running.{RunsOnAll}
+use Rattle.service_totals.specs.RunningLemmas as totals
 use Rattle.service.specs.Running.{IsRunAt, MovesOn}
 use Rattle.service.specs.lemmas.Homes.{only-census}
 use Rattle.service.specs.lemmas.Serving.{run-tried}

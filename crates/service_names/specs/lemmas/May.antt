@@ -21,7 +21,7 @@ use Rattle.held_state.specs.Lenses.{LogicalSet, logical_lens}
 use Rattle.held_state.specs.Promises.{HasVolume}
 use Rattle.held_state.specs.Tree.{stripe_at, directory_or_empty, ranges_used}
 use Rattle.held_laws.specs.lemmas.Limits.{few-folders, used-fits, ranges-fit}
-use Rattle.held_names.specs.Answers.{entries_of}
+use Rattle.held_changes.specs.NameAnswers.{entries_of}
 use Rattle.held_changes.specs.Making.{is_full_set}
 use Rattle.held_changes.specs.Named.{node_at, node_there}
 use Rattle.held_changes.specs.lemmas.Named.{entry-there}

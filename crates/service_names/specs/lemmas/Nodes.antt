@@ -17,9 +17,9 @@ use Rattle.held_state.specs.WellFormed.{size_shown}
 use Rattle.held_state.specs.Lenses.{LogicalSet, logical_lens}
 use Rattle.held_state.specs.Promises.{HasVolume}
 use Rattle.held_laws.specs.lemmas.Limits.{used-fits, ranges-fit}
-use Rattle.held_names.specs.Answers.{entries_of}
-use Rattle.held_nodes.specs.Sizing.{all_freed}
-use Rattle.held_nodes.specs.lemmas.Sized.{freed-times}
+use Rattle.held_changes.specs.NameAnswers.{entries_of}
+use Rattle.held_changes.specs.NodesSized.{all_freed}
+use Rattle.held_changes.specs.SizedLemmas.{freed-times}
 use Rattle.service_names.specs.Changing.{AreNumbers, MayBeSet}
 use Rattle.service_names.specs.lemmas.Whole.{whole-few}
 

@@ -3,7 +3,7 @@ use Rattle.std.specs.Arc.{arc_value}
 use Rattle.depot_rule.specs.Sums.{total}
 use Rattle.gathering.specs.Shares.{share_of}
 use Rattle.pool.specs.Threads.{seats_with, share_with, ServesIn}
-use Rattle.workers.specs.Words.{seats_in, IsIn}
+use Rattle.gathering.specs.Words.{seats_in, IsIn}
 use Rattle.pool.proofs.starting.start_all.Given as goal
 
 abbrev pub invariant-loop-worker : goal.invariant-loop-worker

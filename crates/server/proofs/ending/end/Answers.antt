@@ -1,10 +1,10 @@
 use Rattle.std.proofs.Common.{subst, sym}
 use Rattle.std.specs.Arc.{arc_value}
 use Rattle.depot_rule.specs.Sums.{total}
-use Rattle.gathering.specs.Shares.{put_by}
-use Rattle.workers.specs.Words.{layout_in, verifier_in}
-use Rattle.workers.specs.declared.shared.Filer.{Filer}
-use Rattle.gathering.specs.Ends.{HasEnded}
+use Rattle.pool.specs.Shares.{put_by}
+use Rattle.pool.specs.Words.{layout_in, verifier_in}
+use Rattle.pool.specs.Filer.{Filer}
+use Rattle.pool.specs.Ends.{HasEnded}
 use Rattle.nfs_model.specs.Tree as trees
 use Rattle.parcel_sets.specs.Sets.{serial_parcels}
 use Rattle.server.proofs.ending.end.Goals as goal
@@ -17,7 +17,7 @@ returns-in-Ok c =
       passes = passes;
       readers = c.requires.readers;
       closes =
-        subst (λ (f : Filer). HasEnded (layout_in f) (verifier_in f) (serial_parcels (layout_in f) trees.Serial ended.parcels) ended.hands.items
-            ended.kept.items ended.waiting.items (λ weight. total (put_by weight) passes))
+          subst (λ (f : Filer). HasEnded (layout_in f) (verifier_in f) (serial_parcels (layout_in f) trees.Serial ended.parcels) ended.hands.items
+          ended.kept.items ended.waiting.items (λ weight. total (put_by weight) passes))
           c.in-Ok.ensures.ok (c.close.ensures.ended (λ weight. total (put_by weight) passes) (λ weight. c.requires.calls weight));
     }

@@ -1,6 +1,6 @@
 use Rattle.std.proofs.Common.{sym, subst, ap, ◌∙◌, ◌+◌}
 use Rattle.shared_waiting.specs.Passes.{known}
-use Rattle.workers.specs.declared.shared.Filer.{Filer}
+use Rattle.pool.specs.Filer.{Filer}
 use Rattle.server.specs.Threads.{IsOpened}
 use Rattle.server.proofs.Wholes.{opened}
 use Rattle.server.proofs.opening.open_filer.Goals as goal

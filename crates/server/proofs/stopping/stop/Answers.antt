@@ -1,8 +1,8 @@
 use Rattle.std.proofs.Common.{sym, subst}
 use Rattle.std.specs.Prelude.{All}
 use Rattle.std.specs.Arc.{arc_value}
-use Rattle.workers.specs.Words.{IsIn}
-use Rattle.workers.specs.declared.shared.Filer.{Filer}
+use Rattle.pool.specs.Words.{IsIn}
+use Rattle.pool.specs.Filer.{Filer}
 use Rattle.server.proofs.Wholes.{none-picked}
 use Rattle.server.proofs.stopping.stop.Goals as goal
 

@@ -8,7 +8,7 @@ use Rattle.held_state.specs.Sets.{logical_before}
 use Rattle.held_state.specs.Tree.{file_touch}
 use Rattle.held_state.specs.Changes.{getattr_answer}
 use Rattle.service.proofs.Getting.{tells}
-use Rattle.service_names.specs.lemmas.Whole.{whole-links}
+use Rattle.service_renames.specs.WholeLemmas.{whole-links}
 use Rattle.service.proofs.attributes.get_attributes.Goals as goal
 
 pub shown-requires : goal.shown-requires

@@ -5,7 +5,7 @@ use Rattle.nfs_values.specs.Call.{call_of}
 use Rattle.nfs_values.specs.Credential.{credential_of}
 use Rattle.nfs_values.specs.Moment.{moment_of}
 use Rattle.nfs_values.specs.declared.call.Call.{Call}
-use Rattle.held_data.specs.Laws.{read_call}
+use Rattle.service_data.specs.ReadingLaws.{read_call}
 use Rattle.held_state.specs.Lenses.{stripe_lens}
 use Rattle.held_state.specs.Running.{RunsOn}
 use Rattle.service_data.specs.Writing.{writing_outcome}

@@ -9,13 +9,13 @@ use Rattle.nfs_values.specs.Handle.{named_of}
 use Rattle.nfs_values.specs.Moment.{moment_of}
 use Rattle.nfs_values.specs.declared.answer.Answer.TheVariants as answers
 use Rattle.nfs_values.specs.declared.call.Call.{Call}
-use Rattle.held_attributes.specs.Laws.{getattr_call}
-use Rattle.held_data.specs.Laws.{read_call}
-use Rattle.held_names.specs.Laws.{lookup_call, readdir_call, commit_call}
+use Rattle.service_renames.specs.AttributeLaws.{getattr_call}
+use Rattle.service_data.specs.ReadingLaws.{read_call}
+use Rattle.service_renames.specs.NameLaws.{lookup_call, readdir_call, commit_call}
 use Rattle.held_state.specs.Lenses.{logical_lens}
 use Rattle.held_state.specs.Running.{RunsOn}
 use Rattle.held_state.specs.Sets.{logical_before}
-use Rattle.service_names.specs.Promises.{LooksUp}
+use Rattle.service_renames.specs.NamePromises.{LooksUp}
 use Rattle.service.specs.Running.{call_named, outcome_of}
 use Rattle.service.proofs.Runs.{served-runs}
 use Rattle.service.proofs.run.tell.Goals as goal

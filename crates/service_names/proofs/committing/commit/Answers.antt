@@ -7,7 +7,7 @@ use Rattle.volume_values.specs.Logical.{LogicalValue}
 use Rattle.inodes.specs.Inode.{inode_value, kind_value}
 use Rattle.held_state.specs.Changes.{shown_inode}
 use Rattle.held_state.specs.Sets.{logical_before}
-use Rattle.held_names.specs.Answers.{inode_committed}
+use Rattle.held_changes.specs.NameAnswers.{inode_committed}
 use Rattle.service_names.proofs.Commits.{commits, folder-told, file-told}
 use Rattle.service_names.proofs.committing.commit.Goals as goal
 

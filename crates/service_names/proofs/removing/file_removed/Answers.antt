@@ -5,7 +5,7 @@ use Rattle.volume_values.specs.Inodes.{Inode}
 use Rattle.inodes.specs.Inode.{inode_value, kind_value}
 use Rattle.held_state.specs.Changes.{LogicalAnswer}
 use Rattle.held_state.specs.Sets.{logical_before}
-use Rattle.held_nodes.specs.Making.{folders_in}
+use Rattle.held_changes.specs.NodesMade.{folders_in}
 use Rattle.held_changes.specs.Named.{directory_change}
 use Rattle.held_changes.specs.Dropping.{held_remove, child_emptied}
 use Rattle.service_names.specs.Naming.{node_value, naming_in}

@@ -1,6 +1,6 @@
 use Rattle.std.proofs.Common.{◌≡◌}
 use Rattle.std.specs.FinMap.{len}
-use Rattle.held_changes.specs.Renaming.{climbs}
+use Rattle.service_names.specs.RenamingChanges.{climbs}
 use Rattle.service_renames.proofs.climbing.climbs.Given as goal
 
 -- what is left of the climb answers for all of it

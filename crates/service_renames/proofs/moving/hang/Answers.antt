@@ -5,7 +5,7 @@ use Rattle.nfs_values.specs.Moment.{moment_of}
 use Rattle.volume_values.specs.Inodes.{Inode, filled_blocks}
 use Rattle.volume_values.specs.Logical.{LogicalValue}
 use Rattle.inodes.specs.Inode.{inode_value, kind_value}
-use Rattle.held_nodes.specs.Making.{folders_in}
+use Rattle.service_names.specs.NodesMade.{folders_in}
 use Rattle.service_names.specs.Naming.{node_value}
 use Rattle.service_renames.specs.Renaming.{IsWithin}
 use Rattle.service_renames.proofs.Few.{within-now, blocks-more, used-set}

@@ -6,8 +6,8 @@ use Rattle.inodes.specs.Inode.{inode_value}
 use Rattle.held_state.specs.Changes.{LogicalAnswer}
 use Rattle.held_state.specs.Lenses.{LogicalSet}
 use Rattle.held_state.specs.Sets.{logical_before}
-use Rattle.held_changes.specs.Laws.{rename_call}
-use Rattle.held_changes.specs.Renaming.{held_renamed, rename_by, set_renamed}
+use Rattle.service_names.specs.ChangeLaws.{rename_call}
+use Rattle.service_names.specs.RenamingChanges.{held_renamed, rename_by, set_renamed}
 use Rattle.service_names.specs.Naming.{node_value}
 use Rattle.service_renames.specs.Renaming.{AllWithin, done_between, renaming_in}
 use Rattle.service_renames.proofs.Done.{on-err, node-moved, renamed}

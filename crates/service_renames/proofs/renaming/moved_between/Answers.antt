@@ -3,7 +3,7 @@ use Rattle.nfs_values.specs.Status.{status_of}
 use Rattle.inodes.specs.Inode.{inode_value}
 use Rattle.held_state.specs.Sets.{logical_before}
 use Rattle.held_state.specs.Changes.{LogicalAnswer}
-use Rattle.held_changes.specs.Named.{node_under}
+use Rattle.service_names.specs.NamedChanges.{node_under}
 use Rattle.service_names.specs.Naming.{node_value}
 use Rattle.service_renames.specs.Renaming.{done_between, renaming_in}
 use Rattle.service_renames.proofs.Done.{bad-names, good-names, one-entry}

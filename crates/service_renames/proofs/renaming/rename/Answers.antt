@@ -1,7 +1,7 @@
 use Rattle.std.proofs.Common.{ap}
 use Rattle.nfs_model.specs.Tree.{Logical}
 use Rattle.nfs_values.specs.Moment.{moment_of}
-use Rattle.held_changes.specs.Laws.{rename_call, rename_done}
+use Rattle.service_names.specs.ChangeLaws.{rename_call, rename_done}
 use Rattle.held_state.specs.Sets.{logical_before, logical_after}
 use Rattle.service_renames.proofs.Done.{on-err-then, renamed-by}
 use Rattle.service_renames.proofs.renaming.rename.Goals as goal

@@ -4,7 +4,7 @@ use Rattle.nfs_model.specs.Types.{RenameDone}
 use Rattle.nfs_values.specs.Moment.{moment_of}
 use Rattle.volume_values.specs.Inodes.{Inode}
 use Rattle.inodes.specs.Inode.{inode_value}
-use Rattle.held_changes.specs.Named.{directory_change}
+use Rattle.service_names.specs.NamedChanges.{directory_change}
 use Rattle.service_names.specs.Naming.{naming_of}
 use Rattle.service_renames.specs.Renaming.{IsWithin}
 use Rattle.service_renames.proofs.Few.{within-now}

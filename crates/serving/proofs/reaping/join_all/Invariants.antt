@@ -1,7 +1,7 @@
 -- the passes that came back, and the connections that are left
 use Rattle.std.proofs.Common.{◌≡◌, ◌≤◌, ◌+◌, ℕ, All, vec_len, vec_capacity}
 use Rattle.depot_rule.specs.Sums.{total}
-use Rattle.workers.specs.declared.shared.Filer.{Filer}
+use Rattle.connections.specs.Filer.{Filer}
 use Rattle.serving.specs.Places.{share_of, share_lent, IsReaderOf, IsServedFor}
 use Rattle.serving.proofs.reaping.join_all.Given as goal
 

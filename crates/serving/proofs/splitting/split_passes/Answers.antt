@@ -2,8 +2,8 @@ use Rattle.std.proofs.Common.{◌≤◌, ◌+◌, ap, subst, ◌∙◌, arith}
 use Rattle.affinity_tree.specs.declared.layout.Layout.{Layout}
 use Rattle.shared_waiting.specs.Passes.{known, IsOf}
 use Rattle.shared_waiting.specs.declared.pass.SharedWaiting.{SharedWaiting}
-use Rattle.workers.specs.declared.message.Message.{Message}
-use Rattle.workers.specs.Balance.{Passed}
+use Rattle.connections.specs.Message.{Message}
+use Rattle.connections.specs.Balance.{Passed}
 use Rattle.serving.specs.Places.{share_of, IsReaderOf}
 use Rattle.serving.proofs.Handed.{all-pushed, total-pushed}
 use Rattle.serving.proofs.Shares.{halves, first-reads, second-reads}

@@ -1,5 +1,5 @@
 use Rattle.std.proofs.Common.{◌≡◌, ℕ}
-use Rattle.workers.specs.declared.shared.Filer.{Filer}
+use Rattle.connections.specs.Filer.{Filer}
 use Rattle.serving.specs.Places.{share_in, AreSlotsOf}
 use Rattle.serving.proofs.slots.Slots.wait_for_ends.Given as goal
 
