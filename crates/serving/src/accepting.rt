@@ -60,7 +60,11 @@ pub fn serve<R: Threads + Wait + Copy + Send + 'static>(
     for _ in 0..connections {
         slots.wait_for_place(&rt, &shared.ended);
         match listener.accept() {
-            Ok((stream, _peer)) => slots.open(rt, alloc, shared, stream)?,
+            Ok((stream, _peer)) => {
+                // A short reply doesn't wait for more to be sent with it; without this it is only later.
+                let _set = stream.set_nodelay(true);
+                slots.open(rt, alloc, shared, stream)?
+            }
             Err(_failed) => return Err(ServeFault::AcceptFailed),
         }
     }
