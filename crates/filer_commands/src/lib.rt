@@ -2,10 +2,10 @@
 #![tactic(auto)]
 
 mod choice;
-mod program;
+mod running;
 mod words;
 
 pub use choice::Command;
 pub use filer_replay::{ProgramFault, print_fault};
-pub use program::program;
+pub use running::program;
 pub use words::command;
