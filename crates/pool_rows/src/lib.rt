@@ -7,6 +7,14 @@ mod calls;
 #[cfg(test)]
 mod crowd;
 #[cfg(test)]
+mod ending;
+#[cfg(test)]
 mod latch;
 #[cfg(test)]
-mod setting;
+mod opening;
+#[cfg(test)]
+mod putting;
+#[cfg(test)]
+mod replies;
+#[cfg(test)]
+mod running;
