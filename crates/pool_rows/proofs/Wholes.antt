@@ -1,15 +1,18 @@
 -- What a filer's workers and two who put messages have together, from its opening to its end.
 use Rattle.std.proofs.Common.{◌≡◌, ◌≤◌, ◌∙◌, ℕ, zero, suc, ◌+◌, ◌*◌, ◌-◌, ◌^◌, List, [], ◌∷◌, All, ap, sym, arith}
 use Rattle.std.proofs.lemmas.Nat.{pow-add}
+use Rattle.std.specs.Prelude.{Option, Some, option_map}
+use Rattle.affinity_tree.specs.declared.layout.Layout.{Layout}
+use Rattle.affinity_tree.specs.Layout.{layout_of}
 use Rattle.depot_rule.specs.Sums.{total}
 use Rattle.gathering.specs.Shares.{share_of, share_in, AreAll, FilerPass}
 use Rattle.pool.specs.Pools.{threads_of}
 use Rattle.pool.specs.Threads.{seats_with, share_with, ServesIn}
 use Rattle.pool.specs.declared.pool.Pool.{Pool}
 use Rattle.shared_waiting.specs.Balance.{left, right, part, IsWhole}
-use Rattle.shared_waiting.specs.Passes.{known}
+use Rattle.shared_waiting.specs.Passes.{known, IsOf}
 use Rattle.workers.specs.Balance.{Passed}
-use Rattle.workers.specs.Words.{passed, seats_in, IsIn}
+use Rattle.workers.specs.Words.{layout_in, layout_known, passed, seats_in, IsIn}
 use Rattle.workers.specs.declared.shared.Filer.{Filer}
 use Rattle.workers.specs.declared.worker.Worker.{Worker}
 use Rattle.pool_rows.specs.Threads.{HasPut, IsOpened, IsReaderOf, IsRunning}
@@ -38,30 +41,37 @@ all-parts k v le whole =
 
 -- ---- opened
 
-module _ (filer : Filer) (worker : Worker) (first second : FilerPass) where
-  pub opened : (v : Passed) (rest : FilerPass) → IsIn filer worker → seats_in worker ≡ 64 → IsReaderOf filer first → IsReaderOf filer second
-      → IsWhole v → passed worker ≡ left v → known rest ≡ right v → known first ≡ left (known rest) → known second ≡ right (known rest)
-      → IsOpened filer worker first second
-  opened v rest inside seats one other whole l r rl rr =
-      record {
-        inside = inside;
-        seats = seats;
-        one = one;
-        other = other;
-        whole = (
-          v.halvings + 2,
-          λ k le.
-              let n : (known rest).halvings ≡ v.halvings + 1 = ap (λ (w : Passed). w.halvings) r in
-              let a : share_of k worker ≡ part k (left v) = ap (part k) l in
-              let b : part k (known rest) ≡ part k (right v) = ap (part k) r in
-              let c : share_in k first ≡ part k (left (known rest)) = ap (part k) rl in
-              let d : share_in k second ≡ part k (right (known rest)) = ap (part k) rr in
-              let e = halves k (known rest) (omega (arith, n, le)) in
-              let f = halves k v (omega (arith, le)) in
-              let g = all-parts k v (omega (arith, le)) whole in
-              omega (arith, a, b, c, d, e, f, g),
-        );
-      }
+-- a pass that was cut from another reads for the filer
+reads : (filer : Filer) (v w : Passed) (pass : FilerPass) → layout_known v ≡ Some (layout_in filer) → w ≡ right v → IsOf filer.waiting pass
+    → (known pass).key ≡ w.key → (known pass).picked ≡ [] → IsReaderOf filer pass
+reads filer v w pass layout is of key picked =
+    let same : (known pass).key ≡ v.key = key ∙ ap (λ (x : Passed). x.key) is in
+    record { of = of; layout = ap (λ (k : Option Layout). option_map layout_of k) same ∙ layout; picked = picked }
+
+pub opened : (filer : Filer) (worker : Worker) (first second : FilerPass) (v : Passed) (rest : FilerPass) → IsIn filer worker → seats_in worker ≡ 64
+    → layout_known v ≡ Some (layout_in filer) → IsOf filer.waiting first → IsOf filer.waiting second → IsWhole v → passed worker ≡ left v
+    → known rest ≡ right v → known first ≡ left (known rest) → known second ≡ right (known rest) → IsOpened filer worker first second
+opened filer worker first second v rest inside seats layout of of' whole l r rl rr =
+    record {
+      inside = inside;
+      seats = seats;
+      one = reads filer v (known rest) first layout r of (ap (λ (w : Passed). w.key) rl)
+          (ap (λ (w : Passed). w.picked) rl ∙ ap (λ (w : Passed). w.picked) r);
+      other = reads filer v (known rest) second layout r of' (ap (λ (w : Passed). w.key) rr) (ap (λ (w : Passed). w.picked) rr);
+      whole = (
+        v.halvings + 2,
+        λ k le.
+            let n : (known rest).halvings ≡ v.halvings + 1 = ap (λ (w : Passed). w.halvings) r in
+            let a : share_of k worker ≡ part k (left v) = ap (λ (w : Passed). part k w) l in
+            let b : part k (known rest) ≡ part k (right v) = ap (λ (w : Passed). part k w) r in
+            let c : share_in k first ≡ part k (left (known rest)) = ap (λ (w : Passed). part k w) rl in
+            let d : share_in k second ≡ part k (right (known rest)) = ap (λ (w : Passed). part k w) rr in
+            let e = halves k (known rest) (omega (arith, n, le)) in
+            let f = halves k v (omega (arith, le)) in
+            let g = all-parts k v (omega (arith, le)) whole in
+            omega (arith, a, b, c, d, e, f, g),
+      );
+    }
 
 -- ---- running
 
