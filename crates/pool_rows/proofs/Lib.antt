@@ -1,2 +1,3 @@
+mod Crossing
 mod Passes
 mod Wholes
