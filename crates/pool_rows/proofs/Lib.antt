@@ -1,3 +1,2 @@
 mod Crossing
-mod Passes
 mod Wholes

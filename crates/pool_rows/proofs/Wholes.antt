@@ -1,4 +1,4 @@
--- What a filer's workers and two who put messages have together, from its opening to its end.
+-- What a filer's workers and two who put messages have together.
 use Rattle.std.proofs.Common.{◌≡◌, ◌≤◌, ◌∙◌, ℕ, zero, suc, ◌+◌, ◌*◌, ◌-◌, ◌^◌, List, [], ◌∷◌, All, ap, sym, arith}
 use Rattle.std.proofs.lemmas.Nat.{pow-add}
 use Rattle.std.specs.Prelude.{Option, Some, option_map}
@@ -16,7 +16,6 @@ use Rattle.workers.specs.Words.{layout_in, layout_known, passed, seats_in, IsIn}
 use Rattle.workers.specs.declared.shared.Filer.{Filer}
 use Rattle.workers.specs.declared.worker.Worker.{Worker}
 use Rattle.pool_rows.specs.Threads.{HasPut, IsOpened, IsReaderOf, IsRunning}
-use Rattle.pool_rows.proofs.Passes.{same-share}
 
 -- ---- a pass is cut in two
 
@@ -93,30 +92,3 @@ running filer worker pool first second count o serve seats share =
             omega (arith, a, b),
       );
     }
-
--- messages were put
-pub runs-on : (filer : Filer) (pool : Pool) (p p' q q' : FilerPass) → IsRunning filer pool p q → HasPut filer p p' → HasPut filer q q'
-    → IsRunning filer pool p' q'
-runs-on filer pool p p' q q' r f g =
-    record {
-      serve = r.serve;
-      seats = r.seats;
-      one = f.reader;
-      other = g.reader;
-      whole = (
-        r.whole.0,
-        λ k le.
-            let a = same-share filer k p p' f in
-            let b = same-share filer k q q' g in
-            let c = r.whole.1 k le in
-            omega (arith, a, b, c),
-      );
-    }
-
--- ---- stopped
-
--- no pass is missing
-pub all-there : (filer : Filer) (pool : Pool) (workers : List Worker) (p q : FilerPass) → IsRunning filer pool p q
-    → ((k : ℕ) → total (share_of k) workers ≡ total (share_with k) (threads_of pool)) → AreAll workers (p ∷ q ∷ [])
-all-there filer pool workers p q r share =
-    (r.whole.0, λ k le. let a = share k in let b = r.whole.1 k le in omega (arith, a, b))
