@@ -1,11 +1,11 @@
 -- What a filer's workers and two who put messages have together.
-use Rattle.std.proofs.Common.{◌≡◌, ◌≤◌, ◌∙◌, ℕ, zero, suc, ◌+◌, ◌*◌, ◌-◌, ◌^◌, List, [], ◌∷◌, All, ap, sym, arith}
+use Rattle.std.proofs.Common.{◌≡◌, ◌≤◌, ◌∙◌, ℕ, zero, suc, ◌+◌, ◌*◌, ◌-◌, ◌^◌, [], All, ap, sym, arith}
 use Rattle.std.proofs.lemmas.Nat.{pow-add}
 use Rattle.std.specs.Prelude.{Option, Some, option_map}
 use Rattle.affinity_tree.specs.declared.layout.Layout.{Layout}
 use Rattle.affinity_tree.specs.Layout.{layout_of}
 use Rattle.depot_rule.specs.Sums.{total}
-use Rattle.gathering.specs.Shares.{share_of, share_in, AreAll, FilerPass}
+use Rattle.gathering.specs.Shares.{share_of, share_in, FilerPass}
 use Rattle.pool.specs.Pools.{threads_of}
 use Rattle.pool.specs.Threads.{seats_with, share_with, ServesIn}
 use Rattle.pool.specs.declared.pool.Pool.{Pool}
@@ -15,7 +15,7 @@ use Rattle.workers.specs.Balance.{Passed}
 use Rattle.workers.specs.Words.{layout_in, layout_known, passed, seats_in, IsIn}
 use Rattle.workers.specs.declared.shared.Filer.{Filer}
 use Rattle.workers.specs.declared.worker.Worker.{Worker}
-use Rattle.pool_rows.specs.Threads.{HasPut, IsOpened, IsReaderOf, IsRunning}
+use Rattle.pool_rows.specs.Threads.{IsOpened, IsReaderOf, IsRunning}
 
 -- ---- a pass is cut in two
 

@@ -63,7 +63,7 @@ fn put_all<R: Wait>(
 ) -> (FilerPass, u32)
     requires { IsReaderOf filer.now pass }
     ensures put { HasPut filer.now pass result.0 }
-    ensures most { result.1 ≤ 1500 }
+    ensures most { result.1 ≤ EACH }
 {
     for number in 0..EACH {
         if !put_one(rt, alloc, filer, bells, &mut pass, connection, number) {
@@ -86,21 +86,20 @@ fn put_beside<R: Threads + Wait + Sync>(
     requires second { IsReaderOf filer.now second.0 }
     ensures first { HasPut filer.now first.0 result.0.0 }
     ensures second { HasPut filer.now second.0 result.1.0 }
-    ensures most { (result.0.1 ≤ 1500) × (result.1.1 ≤ 1500) }
+    ensures most { (result.0.1 ≤ EACH) × (result.1.1 ≤ EACH) }
 {
-    let (one, other) = (first.1, second.1);
-    let (first, second) = (first.0, second.0);
+    let ((first, one), (second, other)) = (first, second);
     thread::join(
         rt,
         move || -> (FilerPass, u32)
             requires { IsReaderOf filer.now first }
             ensures put { HasPut filer.entry.now first result.0 }
-            ensures most { result.1 ≤ 1500 }
+            ensures most { result.1 ≤ EACH }
         { put_all(rt, alloc, filer, bells, first, one) },
         move || -> (FilerPass, u32)
             requires { IsReaderOf filer.now second }
             ensures put { HasPut filer.entry.now second result.0 }
-            ensures most { result.1 ≤ 1500 }
+            ensures most { result.1 ≤ EACH }
         { put_all(rt, alloc, filer, bells, second, other) },
     )
 }

@@ -54,9 +54,9 @@ pub(crate) fn open(alloc: Global) -> Result<Opened, AllocError>
     ensures opened { IfOk result (λ o. IsOpened (arc_value o.filer) o.worker o.first o.second) }
     ensures vacant { IfOk result (λ o. IsVacant o.pool) }
 {
-    let (filer, worker, first, second) = open_filer(alloc)?;
     let bells = Arc::new(alloc, Bells::new(alloc)?)?;
     let pool = Pool::new(alloc, Arc::try_clone(&bells)?)?;
+    let (filer, worker, first, second) = open_filer(alloc)?;
     Ok(Opened {
         filer,
         bells,
