@@ -1,0 +1,94 @@
+-- What a filer's workers and two who put messages have together.
+use Rattle.std.proofs.Common.{◌≡◌, ◌≤◌, ◌∙◌, ℕ, zero, suc, ◌+◌, ◌*◌, ◌-◌, ◌^◌, [], All, ap, sym, arith}
+use Rattle.std.proofs.lemmas.Nat.{pow-add}
+use Rattle.std.specs.Prelude.{Option, Some, option_map}
+use Rattle.affinity_tree.specs.declared.layout.Layout.{Layout}
+use Rattle.affinity_tree.specs.Layout.{layout_of}
+use Rattle.depot_rule.specs.Sums.{total}
+use Rattle.pool.specs.Shares.{share_of, share_in, FilerPass}
+use Rattle.pool.specs.Pools.{threads_of}
+use Rattle.pool.specs.Threads.{seats_with, share_with, ServesIn}
+use Rattle.pool.specs.declared.pool.Pool.{Pool}
+use Rattle.shared_waiting.specs.Balance.{left, right, part, IsWhole}
+use Rattle.shared_waiting.specs.Passes.{known, IsOf}
+use Rattle.workers.specs.Balance.{Passed}
+use Rattle.workers.specs.Words.{layout_in, layout_known, passed, seats_in, IsIn}
+use Rattle.workers.specs.declared.shared.Filer.{Filer}
+use Rattle.workers.specs.declared.worker.Worker.{Worker}
+use Rattle.pool_rows.specs.Threads.{IsOpened, IsReaderOf, IsRunning}
+
+-- ---- a pass is cut in two
+
+doubled : (n m : ℕ) → n ≡ m + 1 → 2 ^ n ≡ 2 ^ m + 2 ^ m
+doubled n m e = let p : 2 ^ n ≡ 2 ^ m * 2 ^ 1 = ap (λ j. 2 ^ j) e ∙ pow-add 2 m 1 in omega (arith, p)
+
+spread : (a b c d : ℕ) → b ≡ c + d → a * b ≡ a * c + a * d
+spread zero b c d e = omega arith
+spread (suc a) b c d e = let r = spread a b c d e in omega (arith, r, e)
+
+halves : (k : ℕ) (v : Passed) → v.halvings + 1 ≤ k → part k v ≡ part k (left v) + part k (right v)
+halves k v le =
+    let h = v.halvings in
+    spread v.share (2 ^ (k - h)) (2 ^ (k - (h + 1))) (2 ^ (k - (h + 1))) (doubled (k - h) (k - (h + 1)) (omega (arith, le)))
+
+-- the whole right
+all-parts : (k : ℕ) (v : Passed) → v.halvings ≤ k → IsWhole v → part k v ≡ 2 ^ k
+all-parts k v le whole =
+    let h = v.halvings in
+    let s : k ≡ h + (k - h) = omega (arith, le) in
+    ap (λ n. n * 2 ^ (k - h)) whole ∙ sym (ap (λ n. 2 ^ n) s ∙ pow-add 2 h (k - h))
+
+-- ---- opened
+
+-- a pass that was cut from another reads for the filer
+reads : (filer : Filer) (v w : Passed) (pass : FilerPass) → layout_known v ≡ Some (layout_in filer) → w ≡ right v → IsOf filer.waiting pass
+    → (known pass).key ≡ w.key → (known pass).picked ≡ [] → IsReaderOf filer pass
+reads filer v w pass layout is of key picked =
+    let same : (known pass).key ≡ v.key = key ∙ ap (λ (x : Passed). x.key) is in
+    record { of = of; layout = ap (λ (k : Option Layout). option_map layout_of k) same ∙ layout; picked = picked }
+
+pub opened : (filer : Filer) (worker : Worker) (first second : FilerPass) (v : Passed) (rest : FilerPass) → IsIn filer worker → seats_in worker ≡ 64
+    → layout_known v ≡ Some (layout_in filer) → IsOf filer.waiting first → IsOf filer.waiting second → IsWhole v → passed worker ≡ left v
+    → known rest ≡ right v → known first ≡ left (known rest) → known second ≡ right (known rest) → IsOpened filer worker first second
+opened filer worker first second v rest inside seats layout of of' whole l r rl rr =
+    record {
+      inside = inside;
+      seats = seats;
+      one = reads filer v (known rest) first layout r of (ap (λ (w : Passed). w.key) rl)
+          (ap (λ (w : Passed). w.picked) rl ∙ ap (λ (w : Passed). w.picked) r);
+      other = reads filer v (known rest) second layout r of' (ap (λ (w : Passed). w.key) rr) (ap (λ (w : Passed). w.picked) rr);
+      whole = (
+        v.halvings + 2,
+        λ k le.
+            let n : (known rest).halvings ≡ v.halvings + 1 = ap (λ (w : Passed). w.halvings) r in
+            let a : share_of k worker ≡ part k (left v) = ap (λ (w : Passed). part k w) l in
+            let b : part k (known rest) ≡ part k (right v) = ap (λ (w : Passed). part k w) r in
+            let c : share_in k first ≡ part k (left (known rest)) = ap (λ (w : Passed). part k w) rl in
+            let d : share_in k second ≡ part k (right (known rest)) = ap (λ (w : Passed). part k w) rr in
+            let e = halves k (known rest) (omega (arith, n, le)) in
+            let f = halves k v (omega (arith, le)) in
+            let g = all-parts k v (omega (arith, le)) whole in
+            omega (arith, a, b, c, d, e, f, g),
+      );
+    }
+
+-- ---- running
+
+pub running : (filer : Filer) (worker : Worker) (pool : Pool) (first second : FilerPass) (count : ℕ) → IsOpened filer worker first second
+    → All (ServesIn filer) (threads_of pool) → total seats_with (threads_of pool) ≡ seats_in worker
+    → ((k : ℕ) → (passed worker).halvings + count ≤ k → total (share_with k) (threads_of pool) ≡ share_of k worker)
+    → IsRunning filer pool first second
+running filer worker pool first second count o serve seats share =
+    record {
+      serve = serve;
+      seats = seats ∙ o.seats;
+      one = o.one;
+      other = o.other;
+      whole = (
+        o.whole.0 + ((passed worker).halvings + count),
+        λ k le.
+            let a = share k (omega (arith, le)) in
+            let b = o.whole.1 k (omega (arith, le)) in
+            omega (arith, a, b),
+      );
+    }

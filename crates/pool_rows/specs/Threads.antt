@@ -1,0 +1,43 @@
+-- The threads of a filer: those of its workers, and those of two who put messages.
+use Rattle.std.specs.Prelude.{◌≡◌, ◌≤◌, ◌^◌, ◌+◌, ℕ, [], All, Some}
+use Rattle.depot_rule.specs.Sums.{total}
+use Rattle.pool.specs.Shares.{share_of, share_in, FilerPass}
+use Rattle.pool.specs.Pools.{threads_of}
+use Rattle.pool.specs.Threads.{seats_with, share_with, ServesIn}
+use Rattle.pool.specs.declared.pool.Pool.{Pool}
+use Rattle.shared_waiting.specs.Passes.{known, IsOf}
+use Rattle.workers.specs.Turns.{HasShareOf}
+use Rattle.workers.specs.Words.{layout_in, layout_known, seats_in, IsIn}
+use Rattle.workers.specs.declared.shared.Filer.{Filer}
+use Rattle.workers.specs.declared.worker.Worker.{Worker}
+
+-- a pass of the filer's queue that has picked nothing
+pub record IsReaderOf (filer : Filer) (pass : FilerPass) : Type 0 where
+  pub of : IsOf filer.waiting pass
+  pub layout : layout_known (known pass) ≡ Some (layout_in filer)
+  pub picked : (known pass).picked ≡ []
+
+-- the pass afterwards is such a one too, with the share that it had
+pub record HasPut (filer : Filer) (before after : FilerPass) : Type 0 where
+  pub reader : IsReaderOf filer after
+  pub share : HasShareOf (known before) (known after)
+
+-- with the shares of others, two passes have the whole right to know the queue
+abbrev pub AreWholeWith : (ℕ → ℕ) → FilerPass → FilerPass → Type 0
+AreWholeWith others first second = (level : ℕ) × ((k : ℕ) → level ≤ k → others k + (share_in k first + share_in k second) ≡ 2 ^ k)
+
+-- a filer's only worker has all its seats, and with two who put messages the whole right to know its queue
+pub record IsOpened (filer : Filer) (worker : Worker) (first second : FilerPass) : Type 0 where
+  pub inside : IsIn filer worker
+  pub seats : seats_in worker ≡ 64
+  pub one : IsReaderOf filer first
+  pub other : IsReaderOf filer second
+  pub whole : AreWholeWith (λ k. share_of k worker) first second
+
+-- so have the threads of its workers
+pub record IsRunning (filer : Filer) (pool : Pool) (first second : FilerPass) : Type 0 where
+  pub serve : All (ServesIn filer) (threads_of pool)
+  pub seats : total seats_with (threads_of pool) ≡ 64
+  pub one : IsReaderOf filer first
+  pub other : IsReaderOf filer second
+  pub whole : AreWholeWith (λ k. total (share_with k) (threads_of pool)) first second

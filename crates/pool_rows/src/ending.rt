@@ -1,0 +1,53 @@
+//! The end of a filer.
+
+ghost use Rattle.std.specs.Prelude.{IfOk};
+ghost use Rattle.std.specs.Arc.{arc_value};
+ghost use Rattle.pool.specs.Gathered.{IsLeftOf};
+ghost use Rattle.pool_rows.specs.Threads.{IsRunning};
+
+use crate::running::Running;
+use pool::{Ended, Left, Room, close, gather};
+use std::alloc::{AllocError, Global};
+use std::sync::{Arc, Wait};
+use std::thread::Threads;
+use workers::Filer;
+
+/// A filer whose workers have ended.
+#[derive(Drop)]
+pub(crate) struct Stopped {
+    pub(crate) filer: Arc<Filer>,
+    pub(crate) left: Left,
+}
+
+/// Stops the workers, and gathers what is left.
+pub(crate) fn stop<R: Threads + Wait>(
+    rt: &R,
+    alloc: Global,
+    running: Running,
+) -> Result<Stopped, AllocError>
+    requires { IsRunning (arc_value running.filer) running.pool running.first running.second }
+    ensures { IfOk result (λ stopped. IsLeftOf (arc_value stopped.filer) stopped.left) }
+{
+    let Running {
+        filer,
+        bells: _,
+        pool,
+        first,
+        second,
+    } = running;
+    let workers = pool.stop(rt);
+    let passes = vec![in alloc; first, second]?;
+    let left = gather(&filer, rt, workers, passes, Room::new(alloc)?);
+    Ok(Stopped { filer, left })
+}
+
+/// Closes a filer, where none else has it.
+pub(crate) fn end(stopped: Stopped) -> Option<Ended>
+    requires { IsLeftOf (arc_value stopped.filer) stopped.left }
+{
+    let Stopped { filer, left } = stopped;
+    match Arc::try_unwrap(filer) {
+        Ok(filer) => Some(close(filer, left)),
+        Err(_shared) => None,
+    }
+}

@@ -1,0 +1,20 @@
+//! A pool of threads on the real depot: what is put is finished or left, and calls that don't
+//! exclude each other run beside each other.
+#![tactic(auto)]
+
+#[cfg(test)]
+mod calls;
+#[cfg(test)]
+mod crowd;
+#[cfg(test)]
+mod ending;
+#[cfg(test)]
+mod latch;
+#[cfg(test)]
+mod opening;
+#[cfg(test)]
+mod putting;
+#[cfg(test)]
+mod replies;
+#[cfg(test)]
+mod running;

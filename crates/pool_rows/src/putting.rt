@@ -1,0 +1,92 @@
+//! Messages that are put.
+
+ghost use Rattle.std.specs.Prelude.{◌≡◌, IfSome};
+ghost use Rattle.pool_rows.specs.Threads.{HasPut, IsReaderOf};
+ghost use Rattle.workers.specs.Running.{IsRun};
+ghost use Rattle.shared_waiting.specs.Balance.{added, FitsIn};
+ghost use Rattle.shared_waiting.specs.Passes.{known, IsOf};
+ghost use Rattle.workers.specs.Messages.{Fits, IsPlaced};
+ghost use Rattle.workers.specs.Words.{layout_in};
+
+use affinity::home_of;
+use affinity_tree::Layout;
+use bells::Bells;
+use nfs_values::{Call, ConnectionNumber, Credential};
+use outboxes::Room;
+use rpc_msg::room_of_reply;
+use scheduler::Origin;
+use shared_waiting::Pass;
+use std::alloc::Global;
+use std::sync::Wait;
+use workers::{Filer, Message};
+
+/// A pass of a filer's queue.
+pub(crate) type FilerPass = Pass<Message, Layout>;
+
+/// The record of a call, by its xid.
+pub(crate) fn record_of(connection: ConnectionNumber, xid: u32) -> Origin {
+    Origin {
+        connection,
+        number: xid as usize,
+        xid,
+    }
+}
+
+/// A call, as it waits: `None` where it is at home nowhere, or where memory ran out.
+fn message_of(alloc: Global, filer: &Filer, origin: Origin, call: Call) -> Option<Message>
+    requires { IsRun call }
+    ensures { IfSome result (IsPlaced (layout_in filer.now)) }
+{
+    let layout = filer.depot().layout();
+    let affinity = home_of(&call, layout)?;
+    let bytes = room_of_reply(&call, layout.volume_count() as u32);
+    let room = Room::new(alloc, bytes).ok()?;
+    Some(Message {
+        origin,
+        call,
+        credential: Credential::NOBODY,
+        affinity,
+        room,
+    })
+}
+
+/// Puts a message. Where the queue is full it waits for a place.
+fn admit<R: Wait>(rt: &R, filer: &Filer, bells: &Bells, pass: &mut FilerPass, message: Message)
+    requires of { IsOf filer.now.waiting pass.old }
+    requires fits { FitsIn Fits (known pass.old).key message }
+    ensures of { IsOf filer.now.waiting pass.new }
+    ensures put { known pass.new ≡ added (known pass.old) message }
+{
+    let mut next = message;
+    for _ in rt.forever() {
+        let seen = bells.room.rings();
+        match filer.waiting().admit(rt, pass, next) {
+            Ok(()) => return,
+            Err(back) => next = back,
+        }
+        bells.room.wait_past(rt, seen);
+    }
+}
+
+/// Puts a message of a call, and wakes a worker. Whether it was put.
+pub(crate) fn put<R: Wait>(
+    rt: &R,
+    alloc: Global,
+    filer: &Filer,
+    bells: &Bells,
+    pass: &mut FilerPass,
+    origin: Origin,
+    call: Call,
+) -> bool
+    requires reader { IsReaderOf filer.now pass.old }
+    requires run { IsRun call }
+    ensures { HasPut filer.now pass.old pass.new }
+{
+    let message = match message_of(alloc, filer, origin, call) {
+        Some(message) => message,
+        None => return false,
+    };
+    admit(rt, filer, bells, pass, message);
+    bells.work.ring();
+    true
+}
