@@ -1,0 +1,73 @@
+//! A server in one process with its clients, over 127.0.0.1.
+
+use crate::client::Client;
+use crate::running::Running;
+use crate::texts::{CUT, GETATTR, GETATTR_REPLY, NO_CALL, NULL, NULL_REPLY, TOO_LONG};
+use std::test::Fail;
+
+/// The bytes that end a connection: of a record above the limit, and of one that is no call.
+const JUNK: [&[u32]; 2] = [&TOO_LONG, &NO_CALL];
+
+#[test]
+fn calls_are_answered(rt: HostRuntime) -> Result<(), Fail> {
+    let mut server = Running::start(rt, "1")?;
+    let mut client = Client::connect(&rt, server.address(&rt)?)?;
+    client.send(rt.alloc(), &NULL)?;
+    client.send(rt.alloc(), &GETATTR)?;
+    let (null, attributes) = client.next_two(rt.alloc(), 1)?;
+    assert_eq!(rt; null.as_slice(), NULL_REPLY.as_slice());
+    assert_eq!(rt; attributes.as_slice(), GETATTR_REPLY.as_slice());
+    drop(client);
+    let (rest, status) = server.end(&rt)?;
+    assert_eq!(rt; rest.as_str(), "left 0\n");
+    assert_eq!(rt; status, 0);
+    Ok(())
+}
+
+#[test]
+fn a_bad_peer_harms_no_other(rt: HostRuntime) -> Result<(), Fail> {
+    let mut server = Running::start(rt, "4")?;
+    let address = server.address(&rt)?;
+    let mut good = Client::connect(&rt, address)?;
+    Client::connect(&rt, address)?.send(rt.alloc(), &CUT)?;
+    for junk in &JUNK {
+        let mut bad = Client::connect(&rt, address)?;
+        bad.send(rt.alloc(), junk)?;
+        assert!(rt; bad.is_at_end()?);
+    }
+    good.send(rt.alloc(), &GETATTR)?;
+    assert_eq!(rt;
+        good.next_record(rt.alloc())?.as_slice(),
+        GETATTR_REPLY.as_slice()
+    );
+    drop(good);
+    let (rest, status) = server.end(&rt)?;
+    assert_eq!(rt; rest.as_str(), "left 0\n");
+    assert_eq!(rt; status, 0);
+    Ok(())
+}
+
+#[test]
+fn a_peer_that_never_reads_holds_up_no_other(rt: HostRuntime) -> Result<(), Fail> {
+    let mut server = Running::start(rt, "2")?;
+    let address = server.address(&rt)?;
+    let mut silent = Client::connect(&rt, address)?;
+    assert!(rt; silent.flood(rt.alloc(), &GETATTR)?);
+    let mut other = Client::connect(&rt, address)?;
+    other.send(rt.alloc(), &NULL)?;
+    assert_eq!(rt;
+        other.next_record(rt.alloc())?.as_slice(),
+        NULL_REPLY.as_slice()
+    );
+    other.send(rt.alloc(), &GETATTR)?;
+    assert_eq!(rt;
+        other.next_record(rt.alloc())?.as_slice(),
+        GETATTR_REPLY.as_slice()
+    );
+    drop(other);
+    drop(silent);
+    let (rest, status) = server.end(&rt)?;
+    assert!(rt; rest.starts_with("left "));
+    assert_eq!(rt; status, 0);
+    Ok(())
+}
