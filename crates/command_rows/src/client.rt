@@ -11,13 +11,13 @@ use std::time::Duration;
 const PATIENCE: u64 = 20;
 
 /// How many seconds a write may wait before it is taken to be held up.
-const PAUSE: u64 = 2;
+const PAUSE: u64 = 1;
 
 /// How many calls are sent in one write.
 const MANY: usize = 1_000;
 
-/// How often so many calls are sent, unless a write is held up. That is 72 MB.
-const MOST_WRITES: usize = 1_200;
+/// How often calls are sent, unless a write is held up.
+const MOST_WRITES: usize = 1_000;
 
 /// A connection to a server. Neither a read nor a write of it waits forever.
 #[derive(Drop)]
@@ -42,11 +42,21 @@ impl Client {
         self.stream.write_all(&bytes_of(alloc, words)?)
     }
 
-    /// Sends a call again and again, and reads nothing. Whether the server takes no more.
-    pub(crate) fn flood(&mut self, alloc: Global, words: &[u32]) -> io::Result<bool> {
-        let calls = bytes_of(alloc, words)?.repeat(alloc, MANY)?;
+    /// Sends words so many times over.
+    pub(crate) fn send_many(
+        &mut self,
+        alloc: Global,
+        words: &[u32],
+        count: usize,
+    ) -> io::Result<()> {
+        let bytes = bytes_of(alloc, words)?.repeat(alloc, count)?;
+        self.stream.write_all(&bytes)
+    }
+
+    /// Sends words again and again, 44 MB of NULL calls at most. Whether no more are taken.
+    pub(crate) fn is_held_up(&mut self, alloc: Global, words: &[u32]) -> io::Result<bool> {
         for _ in 0..MOST_WRITES {
-            match self.stream.write_all(&calls) {
+            match self.send_many(alloc, words, MANY) {
                 Ok(()) => {}
                 Err(error) if error.kind() == ErrorKind::WouldBlock => return Ok(true),
                 Err(error) => return Err(error),

@@ -2,11 +2,17 @@
 
 use crate::client::Client;
 use crate::running::Running;
-use crate::texts::{CUT, GETATTR, GETATTR_REPLY, NO_CALL, NULL, NULL_REPLY, TOO_LONG};
+use crate::texts::{
+    CREATE, CREATE_HEAD, CUT, GETATTR, GETATTR_REPLY, NO_CALL, NULL, NULL_REPLY, READ, TOO_LONG,
+};
 use std::test::Fail;
 
 /// The bytes that end a connection: of a record above the limit, and of one that is no call.
 const JUNK: [&[u32]; 2] = [&TOO_LONG, &NO_CALL];
+
+/// How many READs a peer sends that reads no reply: 19 MB would be owed to it, more than what the
+/// system keeps for it.
+const READS: usize = 300;
 
 #[test]
 fn calls_are_answered(rt: HostRuntime) -> Result<(), Fail> {
@@ -52,7 +58,10 @@ fn a_peer_that_never_reads_holds_up_no_other(rt: HostRuntime) -> Result<(), Fail
     let mut server = Running::start(rt, "2")?;
     let address = server.address(&rt)?;
     let mut silent = Client::connect(&rt, address)?;
-    assert!(rt; silent.flood(rt.alloc(), &GETATTR)?);
+    silent.send(rt.alloc(), &CREATE)?;
+    assert!(rt; silent.next_record(rt.alloc())?.starts_with(&CREATE_HEAD));
+    silent.send_many(rt.alloc(), &READ, READS)?;
+    assert!(rt; silent.is_held_up(rt.alloc(), &NULL)?);
     let mut other = Client::connect(&rt, address)?;
     other.send(rt.alloc(), &NULL)?;
     assert_eq!(rt;
