@@ -4,7 +4,7 @@ use crate::texts::bytes_of;
 use std::alloc::Global;
 use std::io;
 use std::io::{ErrorKind, Read, Write};
-use std::net::{Net, SocketAddr, TcpListener, TcpStream};
+use std::net::{Net, Shutdown, SocketAddr, TcpListener, TcpStream};
 use std::time::Duration;
 
 /// How many seconds a reply may take.
@@ -63,6 +63,11 @@ impl Client {
             }
         }
         Ok(false)
+    }
+
+    /// Sends nothing more.
+    pub(crate) fn end_sending(&self) -> io::Result<()> {
+        self.stream.shutdown(Shutdown::Write)
     }
 
     /// The next word that comes.
