@@ -53,8 +53,8 @@ impl Client {
         self.stream.write_all(&bytes)
     }
 
-    /// Sends words again and again, 44 MB of NULL calls at most. Whether no more are taken.
-    pub(crate) fn is_held_up(&mut self, alloc: Global, words: &[u32]) -> io::Result<bool> {
+    /// Sends words again and again, at most 44 MB of NULL calls. Whether the server takes no more.
+    pub(crate) fn flood(&mut self, alloc: Global, words: &[u32]) -> io::Result<bool> {
         for _ in 0..MOST_WRITES {
             match self.send_many(alloc, words, MANY) {
                 Ok(()) => {}

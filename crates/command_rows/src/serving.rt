@@ -64,7 +64,7 @@ fn a_peer_that_never_reads_holds_up_no_other(rt: HostRuntime) -> Result<(), Fail
     silent.send(rt.alloc(), &CREATE)?;
     assert!(rt; silent.next_record(rt.alloc())?.starts_with(&CREATE_HEAD));
     silent.send_many(rt.alloc(), &READ, READS)?;
-    assert!(rt; silent.is_held_up(rt.alloc(), &NULL)?);
+    assert!(rt; silent.flood(rt.alloc(), &NULL)?);
     let mut other = Client::connect(&rt, address)?;
     other.send(rt.alloc(), &NULL)?;
     assert_eq!(rt;
