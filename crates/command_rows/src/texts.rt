@@ -1,5 +1,5 @@
-//! Records with their marks, as words of four bytes: calls and replies typed from RFC 5531, and from
-//! RFC 1813.
+//! Records with their marks, as words of four bytes: calls and replies typed from RFC 5531, and
+//! from RFC 1813.
 
 use std::alloc::Global;
 use std::io;
