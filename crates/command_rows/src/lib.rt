@@ -2,4 +2,12 @@
 #![tactic(auto)]
 
 #[cfg(test)]
+mod client;
+#[cfg(test)]
 mod lines;
+#[cfg(test)]
+mod running;
+#[cfg(test)]
+mod serving;
+#[cfg(test)]
+mod texts;

@@ -1,0 +1,71 @@
+//! A server that runs beside a test, and what it prints.
+
+use filer_commands::program;
+use std::io;
+use std::io::{BufRead, BufReader, ErrorKind, Read};
+use std::net::{Net, SocketAddr, TcpListener, TcpStream};
+use std::os::unix::net::UnixStream;
+use std::rt::{Clock, Files};
+use std::sync::Wait;
+use std::thread::Threads;
+use std::time::Duration;
+
+/// How many seconds a line of a server's may take.
+const PATIENCE: u64 = 30;
+
+/// Runs a server of two volumes and two workers at a port that the system picks, for so many
+/// connections. Its status.
+pub(crate) fn serve<R>(rt: R, connections: &str, mut out: UnixStream) -> u8
+where
+    R: Files + AllocGlobal + Threads + Wait + Clock,
+    R: Net<Listener = TcpListener, Stream = TcpStream> + Copy + Drop + Send + 'static,
+{
+    let words = [
+        "filer",
+        "serve",
+        "--listen",
+        "127.0.0.1:0",
+        "--volumes",
+        "2",
+        "--workers",
+        "2",
+        "--connections",
+        connections,
+    ];
+    program(rt, &words, &mut out)
+}
+
+/// What a server prints. A read of it doesn't wait forever.
+#[derive(Drop)]
+pub(crate) struct Printed {
+    reader: BufReader<UnixStream>,
+}
+
+impl Printed {
+    /// What is printed on the socket that comes with it.
+    pub(crate) fn new<R: AllocGlobal + Net>(rt: &R) -> io::Result<(Printed, UnixStream)> {
+        let (ours, theirs) = UnixStream::pair(rt)?;
+        ours.set_read_timeout(Some(Duration::from_secs(PATIENCE)))?;
+        let reader = BufReader::new(rt.alloc(), ours)?;
+        Ok((Printed { reader }, theirs))
+    }
+
+    /// Where the server listens, as its first line says.
+    pub(crate) fn address<R: AllocGlobal>(&mut self, rt: &R) -> io::Result<SocketAddr> {
+        let mut line = String::new(rt.alloc());
+        self.reader.read_line(&mut line)?;
+        let told = line.strip_prefix("listening ");
+        let address = told.and_then(|rest| rest.strip_suffix("\n"));
+        match address.and_then(|text| text.parse().ok()) {
+            Some(address) => Ok(address),
+            None => Err(io::Error::from(ErrorKind::InvalidData)),
+        }
+    }
+
+    /// What else is printed, up to the server's end.
+    pub(crate) fn rest<R: AllocGlobal>(mut self, rt: &R) -> io::Result<String> {
+        let mut rest = String::new(rt.alloc());
+        self.reader.read_to_string(&mut rest)?;
+        Ok(rest)
+    }
+}
