@@ -1,6 +1,6 @@
 //! Two calls that don't exclude each other, one in the midst of the other.
 
-ghost use Rattle.pool_rows.specs.Threads.{IsReaderOf};
+ghost use Rattle.pool_rows.specs.Threads.{HasPut, IsReaderOf};
 
 use crate::calls::{ROOT, create, handle};
 use crate::opening::open;
@@ -8,7 +8,8 @@ use crate::putting::{FilerPass, put, record_of};
 use crate::replies::{LOOKS, awaited, connect, is_ok};
 use crate::running::{Running, start};
 use bells::Bells;
-use nfs_values::Call;
+use nfs_values::{Call, ConnectionNumber};
+use outboxes::Record;
 use std::alloc::{AllocError, Global};
 use std::rt::Clock;
 use std::sync::atomic::{AtomicBool, Ordering};
@@ -87,8 +88,28 @@ struct Came {
     got: bool,
 }
 
-/// Makes a file in volume 0, whose fileid is 2, and reads it; in the midst of that it asks for the
-/// attributes of volume 1's root.
+/// Makes a file in volume 0, whose fileid is 2. Gives the reply.
+fn make_file<R: Wait>(
+    rt: &R,
+    alloc: Global,
+    filer: &Filer,
+    bells: &Bells,
+    pass: &mut FilerPass,
+    connection: ConnectionNumber,
+) -> Option<Record>
+    requires { IsReaderOf filer.now pass.old }
+    ensures { HasPut filer.now pass.old pass.new }
+{
+    let call = match create(alloc, 0, 0) {
+        Ok(call) => call,
+        Err(_refused) => return None,
+    };
+    let origin = record_of(connection, MADE);
+    put(rt, alloc, filer, bells, pass, origin, call);
+    awaited(rt, filer, connection)
+}
+
+/// Reads a file of volume 0, and in the midst of that asks for the attributes of volume 1's root.
 fn meet<R: Wait>(
     rt: &R,
     alloc: Global,
@@ -99,33 +120,15 @@ fn meet<R: Wait>(
 ) -> Option<Came>
     requires { IsReaderOf filer.now pass }
 {
-    let one = connect(rt, filer)?;
-    let other = connect(rt, filer)?;
-    let made = create(alloc, 0, 0).ok()?;
-    put(
-        rt,
-        alloc,
-        filer,
-        bells,
-        &mut pass,
-        record_of(one, MADE),
-        made,
-    );
-    awaited(rt, filer, one)?;
+    let (one, other) = (connect(rt, filer)?, connect(rt, filer)?);
+    make_file(rt, alloc, filer, bells, &mut pass, one)?;
     let read = Call::Read {
         handle: handle(0, 2),
         offset: 0,
         count: 4096,
     };
-    put(
-        rt,
-        alloc,
-        filer,
-        bells,
-        &mut pass,
-        record_of(one, HELD),
-        read,
-    );
+    let origin = record_of(one, HELD);
+    put(rt, alloc, filer, bells, &mut pass, origin, read);
     comes(&seen.held_begun);
     let get = Call::GetAttributes {
         handle: handle(1, ROOT),
