@@ -6,8 +6,8 @@ mod client;
 #[cfg(test)]
 mod lines;
 #[cfg(test)]
-mod running;
+mod over_tcp;
 #[cfg(test)]
-mod serving;
+mod running;
 #[cfg(test)]
 mod texts;
