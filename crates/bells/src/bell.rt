@@ -50,6 +50,13 @@ impl Bell {
         self.rung.notify_all();
     }
 
+    /// Sleeps until it was rung after so many rings, or stopped, but no longer than this.
+    pub fn doze_past<R: Wait>(&self, rt: &R, seen: u64, longest: Duration) {
+        if self.rings() == seen && !self.is_stopped() {
+            self.rung.sleep(rt, seen, longest);
+        }
+    }
+
     /// Sleeps until it was rung after so many rings, or stopped.
     pub fn wait_past<R: Wait>(&self, rt: &R, seen: u64) {
         for _ in rt.forever() {

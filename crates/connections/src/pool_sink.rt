@@ -19,6 +19,9 @@ use std::sync::Wait;
 use tcp_front::RecordSink;
 use workers::{Filer, Message};
 
+/// The most workers that are told of what one read brought.
+const MOST_RINGS: usize = 64;
+
 /// The queue and the outboxes of a filer, as they are for the records of a connection.
 #[derive(Drop)]
 pub struct PoolSink<'a, R> {
@@ -30,8 +33,8 @@ pub struct PoolSink<'a, R> {
     pub lane: Lane,
     /// How many records were given.
     records: u64,
-    /// Whether a call was admitted of which no worker was told.
-    has_admitted: bool,
+    /// How many calls were admitted of which no worker was told.
+    admitted: usize,
     /// Whether a reply was put of which the writer wasn't told.
     has_answered: bool,
     ghost of: { IsOf filer.now.waiting lane.pass },
@@ -60,7 +63,7 @@ impl<'a, R> PoolSink<'a, R> {
             line,
             lane,
             records: 0,
-            has_admitted: false,
+            admitted: 0,
             has_answered: false,
         }
     }
@@ -91,7 +94,7 @@ impl<'a, R: Wait> RecordSink for PoolSink<'a, R> {
         match admit_in_turn(self.rt, self.filer.waiting(), self.bells, pass, message) {
             Ok(()) => {
                 self.records = self.records.saturating_add(1);
-                self.has_admitted = true;
+                self.admitted = self.admitted.saturating_add(1);
                 Ok(())
             }
             Err(_stopped) => Err(AllocError),
@@ -112,10 +115,10 @@ impl<'a, R: Wait> RecordSink for PoolSink<'a, R> {
     }
 
     fn wake(&mut self) {
-        if self.has_admitted {
-            self.has_admitted = false;
+        for _ in 0..self.admitted.min(MOST_RINGS) {
             self.bells.work.ring();
         }
+        self.admitted = 0;
         if self.has_answered {
             self.has_answered = false;
             self.bells.mail(self.lane.connection).ring_all();

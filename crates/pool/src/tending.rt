@@ -8,6 +8,7 @@ ghost use Rattle.gathering.specs.Words.{layout_in, IsIn};
 use bells::Bells;
 use gathering::{Filer, Tend, TendRefusal, Tended, Worker};
 use std::sync::Wait;
+use std::time::Duration;
 
 /// The tends that look at all there is of one volume: at each of its 16 ranges a fetch, with a
 /// cull before it.
@@ -133,7 +134,8 @@ pub(crate) fn tend(filer: &Filer, worker: Worker, tending: &mut Tending) -> (Wor
     (worker, found)
 }
 
-/// Sleeps until the workers' bell was rung after so many rings, or stopped.
+/// Sleeps until the workers' bell was rung after so many rings, or stopped; no longer than a
+/// millisecond where a call was finished after which not all was tended.
 pub(crate) fn sleep<R: Wait>(
     rt: &R,
     filer: &Filer,
@@ -141,8 +143,13 @@ pub(crate) fn sleep<R: Wait>(
     seen: u64,
     worker: &Worker,
     tending: &Tending,
+    untended: bool,
 )
     requires { may_sleep (layout_in filer.now) worker.now tending.now ≡ true }
 {
-    bells.work.wait_past(rt, seen);
+    if untended {
+        bells.work.doze_past(rt, seen, Duration::from_millis(1));
+    } else {
+        bells.work.wait_past(rt, seen);
+    }
 }
