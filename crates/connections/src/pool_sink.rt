@@ -108,6 +108,9 @@ impl<'a, R: Wait> RecordSink for PoolSink<'a, R> {
         xid: u32,
         reply: &Reply,
     ) -> Result<(), AllocError> {
+        if self.line.is_closed() {
+            return Err(AllocError);
+        }
         let mut outboxes = self.filer.outboxes().lock(self.rt);
         outboxes.put_at_once(connection, xid, reply)?;
         self.records = self.records.saturating_add(1);
