@@ -51,7 +51,8 @@ impl Untold {
     /// A reply was put.
     pub(crate) fn add(&mut self, bells: &Bells, connection: ConnectionNumber) {
         let more = mem::replace(self, Untold::Nothing).and_one(bells, connection);
-        mem::replace(self, more).tell(bells);
+        let nothing = mem::replace(self, more);
+        nothing.tell(bells);
     }
 
     /// Rings for who writes them.
