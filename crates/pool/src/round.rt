@@ -9,6 +9,7 @@ use crate::tending::{Found, sleep, tend};
 use crate::watch::Watch;
 use bells::Bells;
 use gathering::{Filer, Gate, Worked, Worker};
+use std::hint::spin_loop;
 use std::rt::Clock;
 use std::sync::Wait;
 
@@ -98,6 +99,10 @@ pub(crate) fn round<R: Wait + Clock, G: Gate>(
         }
         Worked::Idle => {
             watch.tell(bells);
+            if watch.looks_again() {
+                spin_loop();
+                return worker;
+            }
             watch.begin_if_due();
             rest(rt, filer, bells, seen, worker, watch)
         }

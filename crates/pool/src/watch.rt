@@ -11,6 +11,10 @@ use nfs_values::{ConnectionNumber, Moment};
 use std::mem;
 use std::rt::Clock;
 
+/// How often a thread looks for a message after a call that it finished, before it tends or sleeps:
+/// for some tens of microseconds, in which who sent one call may send the next.
+const MOST_LOOKS: u32 = 100;
+
 /// What a thread keeps between its rounds. Can't be dropped, as what it didn't tell.
 pub(crate) struct Watch {
     pub(crate) patience: Patience,
@@ -20,6 +24,8 @@ pub(crate) struct Watch {
     pub(crate) is_untended: bool,
     /// When that was.
     begun: Moment,
+    /// How often it found no message since it finished a call.
+    looks: u32,
     last: Moment,
     ghost last_is: { last.nanoseconds < 1000000000 },
 }
@@ -36,6 +42,7 @@ impl Watch {
             untold: Untold::Nothing,
             is_untended: false,
             begun: Moment::START,
+            looks: MOST_LOOKS,
             last: Moment::START,
         }
     }
@@ -54,6 +61,19 @@ impl Watch {
         self.untold.add(bells, connection);
         self.patience = Patience::new();
         self.is_untended = true;
+        self.looks = 0;
+    }
+
+    /// Whether to look for a message once more before anything else.
+    pub(crate) fn looks_again(&mut self) -> bool
+        ensures { self.new.untold ≡ self.old.untold }
+    {
+        if self.looks < MOST_LOOKS {
+            self.looks += 1;
+            true
+        } else {
+            false
+        }
     }
 
     /// Tells who writes the replies of which they weren't told.
@@ -82,6 +102,7 @@ impl Watch {
             untold,
             is_untended: _,
             begun: _,
+            looks: _,
             last: _,
         } = self;
         untold.tell(bells);
