@@ -1,3 +1,4 @@
 pub mod Faults
 pub mod Threads
 pub mod Ends
+pub mod Asked

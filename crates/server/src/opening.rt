@@ -6,6 +6,7 @@ ghost use Rattle.pool.specs.Pools.{IsVacant};
 ghost use Rattle.server.specs.Threads.{IsOpened};
 
 use crate::fault::ServerFault;
+use crate::options::MOST_VOLUMES;
 use affinity_tree::{AggregateSpec, Layout, VolumeSpec};
 use bells::{Bell, Bells};
 use pool::{Filer, Pool, Room, Worker};
@@ -19,9 +20,6 @@ const SPARE: u32 = 16;
 
 /// The ranges of each volume.
 const RANGES: u32 = 4;
-
-/// The most volumes.
-const MOST_VOLUMES: usize = 8;
 
 /// What a server has before its threads run.
 #[derive(Drop)]

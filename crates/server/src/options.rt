@@ -5,7 +5,7 @@ ghost use Rattle.std.specs.Prelude.{◌≤◌, ◌<◌};
 use std::net::SocketAddr;
 
 /// The most volumes.
-const MOST_VOLUMES: usize = 8;
+pub(crate) const MOST_VOLUMES: usize = 8;
 
 /// The most workers.
 const MOST_WORKERS: usize = 64;
@@ -24,13 +24,22 @@ pub struct Options {
 }
 
 impl Options {
-    /// These options, where the numbers are in their ranges.
+    ghost use Rattle.std.specs.Prelude.{◌≡◌, IfNone, IfSome};
+    ghost use Rattle.server.specs.Asked.{IsInRange};
+
+    /// These options, where the numbers are in their ranges, and else none.
     pub fn new(
         address: SocketAddr,
         volumes: usize,
         workers: usize,
         connections: u64,
-    ) -> Option<Options> {
+    ) -> Option<Options>
+        ensures given { IfSome result (λ options. options.address ≡ address
+            × options.volumes ≡ volumes × options.workers ≡ workers
+            × options.connections ≡ connections) }
+        ensures in_range { IfSome result (λ options. IsInRange volumes workers) }
+        ensures refused { IfNone result (IsInRange volumes workers → ⊥) }
+    {
         if volumes == 0 || volumes > MOST_VOLUMES {
             return None;
         }

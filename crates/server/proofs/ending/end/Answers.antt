@@ -1,5 +1,4 @@
-use Rattle.std.proofs.Common.{subst, sym}
-use Rattle.std.specs.Arc.{arc_value}
+use Rattle.std.proofs.Common.{subst}
 use Rattle.depot_rule.specs.Sums.{total}
 use Rattle.pool.specs.Shares.{put_by}
 use Rattle.pool.specs.Words.{layout_in, verifier_in}
