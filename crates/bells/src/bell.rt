@@ -7,6 +7,9 @@ use std::time::Duration;
 /// The longest sleep without a look, in seconds.
 const A_WHILE: u64 = 3600;
 
+/// The most sleepers that are woken one by one.
+const A_FEW: usize = 4;
+
 /// What threads sleep on until it is rung. Who waits tells how many rings it had heard when it saw
 /// nothing to do, so that a ring between that look and its sleep isn't lost.
 #[derive(Drop)]
@@ -39,6 +42,18 @@ impl Bell {
         self.rung.notify_one();
     }
 
+    /// Rings for so many things to do, and wakes as many who sleep, but all where there are more than
+    /// four: one call of the system is less than many.
+    pub fn ring_for(&self, things: usize) {
+        if things > A_FEW {
+            self.ring_all();
+        } else {
+            for _ in 0..things {
+                self.ring();
+            }
+        }
+    }
+
     /// Rings, and wakes all who sleep.
     pub fn ring_all(&self) {
         self.rung.notify_all();
@@ -48,6 +63,13 @@ impl Bell {
     pub fn stop(&self) {
         self.stopped.store(true, Ordering::SeqCst);
         self.rung.notify_all();
+    }
+
+    /// Sleeps until it was rung after so many rings, or stopped, but no longer than this.
+    pub fn doze_past<R: Wait>(&self, rt: &R, seen: u64, longest: Duration) {
+        if self.rings() == seen && !self.is_stopped() {
+            self.rung.sleep(rt, seen, longest);
+        }
     }
 
     /// Sleeps until it was rung after so many rings, or stopped.

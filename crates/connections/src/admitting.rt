@@ -11,7 +11,7 @@ use shared_waiting::{Pass, SharedWaiting};
 use std::sync::Wait;
 use workers::Message;
 
-/// Puts a message, and sleeps while the queue is full, after workers were told of what is there.
+/// Puts a message, and sleeps while the queue is full, after all workers were told.
 /// It comes back where the filer was stopped.
 pub(crate) fn admit_in_turn<R: Wait>(
     rt: &R,
@@ -37,7 +37,7 @@ pub(crate) fn admit_in_turn<R: Wait>(
         if bells.room.is_stopped() {
             return Err(next);
         }
-        bells.work.ring();
+        bells.work.ring_all();
         bells.room.wait_past(rt, seen);
     }
     unreachable!()

@@ -15,6 +15,7 @@ use engine_feed::OfferedCall;
 use nfs_values::{ConnectionNumber, Reply};
 use outboxes::Room;
 use std::alloc::{AllocError, Global};
+use std::mem;
 use std::sync::Wait;
 use tcp_front::RecordSink;
 use workers::{Filer, Message};
@@ -30,8 +31,8 @@ pub struct PoolSink<'a, R> {
     pub lane: Lane,
     /// How many records were given.
     records: u64,
-    /// Whether a call was admitted of which no worker was told.
-    has_admitted: bool,
+    /// How many calls were admitted of which no worker was told.
+    unannounced: usize,
     /// Whether a reply was put of which the writer wasn't told.
     has_answered: bool,
     ghost of: { IsOf filer.now.waiting lane.pass },
@@ -60,7 +61,7 @@ impl<'a, R> PoolSink<'a, R> {
             line,
             lane,
             records: 0,
-            has_admitted: false,
+            unannounced: 0,
             has_answered: false,
         }
     }
@@ -85,13 +86,16 @@ impl<'a, R: Wait> RecordSink for PoolSink<'a, R> {
     ghost layout = { λ s. layout_in s.filer.now };
 
     fn admit(&mut self, message: scheduler::Message<OfferedCall>) -> Result<(), AllocError> {
+        if self.line.is_closed() {
+            return Err(AllocError);
+        }
         let room = Room::new(self.alloc, message.room)?;
         let message = with_room(message, room);
         let pass = &mut self.lane.pass;
         match admit_in_turn(self.rt, self.filer.waiting(), self.bells, pass, message) {
             Ok(()) => {
                 self.records = self.records.saturating_add(1);
-                self.has_admitted = true;
+                self.unannounced = self.unannounced.saturating_add(1);
                 Ok(())
             }
             Err(_stopped) => Err(AllocError),
@@ -104,6 +108,9 @@ impl<'a, R: Wait> RecordSink for PoolSink<'a, R> {
         xid: u32,
         reply: &Reply,
     ) -> Result<(), AllocError> {
+        if self.line.is_closed() {
+            return Err(AllocError);
+        }
         let mut outboxes = self.filer.outboxes().lock(self.rt);
         outboxes.put_at_once(connection, xid, reply)?;
         self.records = self.records.saturating_add(1);
@@ -112,10 +119,9 @@ impl<'a, R: Wait> RecordSink for PoolSink<'a, R> {
     }
 
     fn wake(&mut self) {
-        if self.has_admitted {
-            self.has_admitted = false;
-            self.bells.work.ring();
-        }
+        self.bells
+            .work
+            .ring_for(mem::replace(&mut self.unannounced, 0));
         if self.has_answered {
             self.has_answered = false;
             self.bells.mail(self.lane.connection).ring_all();

@@ -11,6 +11,7 @@ mod serving;
 mod starting;
 mod task;
 mod tending;
+mod untold;
 mod watch;
 
 pub use gathering::{Ended, Filer, Gate, Left, Place, Room, Worker, close, gather};

@@ -5,6 +5,8 @@ ghost use Rattle.std.specs.Prelude.{◌<◌};
 use nfs_values::Moment;
 use std::rt::Clock;
 
+const NANOSECONDS_OF_A_MILLISECOND: u32 = 1_000_000;
+
 /// The time now, or the last one that was told, where the clock can't be read.
 pub(crate) fn time_now<R: Clock>(rt: &R, last: Moment) -> Moment
     requires { last.nanoseconds < 1000000000 }
@@ -17,4 +19,11 @@ pub(crate) fn time_now<R: Clock>(rt: &R, last: Moment) -> Moment
         },
         Err(_) => last,
     }
+}
+
+/// Whether two moments are in one millisecond.
+pub(crate) fn share_millisecond(one: Moment, other: Moment) -> bool {
+    one.seconds == other.seconds
+        && one.nanoseconds / NANOSECONDS_OF_A_MILLISECOND
+            == other.nanoseconds / NANOSECONDS_OF_A_MILLISECOND
 }

@@ -1,6 +1,7 @@
 //! A round of a worker's thread.
 
 ghost use Rattle.pool.specs.Heirs.{IsHeir};
+ghost use Rattle.pool.specs.Rests.{HasTold};
 ghost use Rattle.gathering.specs.Words.{IsIn};
 
 use crate::patience::Patience;
@@ -8,17 +9,9 @@ use crate::tending::{Found, sleep, tend};
 use crate::watch::Watch;
 use bells::Bells;
 use gathering::{Filer, Gate, Worked, Worker};
-use nfs_values::ConnectionNumber;
+use std::hint::spin_loop;
 use std::rt::Clock;
 use std::sync::Wait;
-
-/// Rings where a call was finished: for who writes to its connection, for who waits for a place in
-/// the queue, and for another worker, since there may be more to do.
-fn ring_done(bells: &Bells, connection: ConnectionNumber) {
-    bells.mail(connection).ring_all();
-    bells.room.ring();
-    bells.work.ring();
-}
 
 /// Puts down what is in the worker's hand, if anything is.
 fn put_down(filer: &Filer, bells: &Bells, worker: Worker, watch: &mut Watch) -> Worker
@@ -48,7 +41,8 @@ fn rest<R: Wait + Clock>(
     worker: Worker,
     watch: &mut Watch,
 ) -> Worker
-    requires { IsIn filer.now worker }
+    requires inside { IsIn filer.now worker }
+    requires told { HasTold watch.old.untold }
     ensures inside { IsIn filer.now result }
     ensures heir { IsHeir worker result }
 {
@@ -60,7 +54,7 @@ fn rest<R: Wait + Clock>(
         Found::NoMemory => watch.patience = Patience::new(),
     }
     if watch.tending.may_sleep(filer, &worker) {
-        sleep(rt, filer, bells, seen, &worker, &watch.tending);
+        sleep(rt, filer, bells, seen, &worker, watch);
     }
     worker
 }
@@ -83,23 +77,34 @@ pub(crate) fn round<R: Wait + Clock, G: Gate>(
     let (worker, worked) = worker.worker_turn(filer, rt, gate, moment);
     match worked {
         Worked::Done(connection) => {
-            ring_done(bells, connection);
-            watch.begin_anew();
+            watch.finish(bells, connection);
+            bells.room.ring();
             worker
         }
         Worked::Moved => {
+            watch.tell(bells);
             bells.work.ring();
             watch.patience = Patience::new();
             put_down(filer, bells, worker, watch)
         }
         Worked::Busy { node: _, word: _ } => {
+            watch.tell(bells);
             watch.patience.wait(rt);
             worker
         }
         Worked::Worn => {
+            watch.tell(bells);
             watch.patience.wait(rt);
             worker
         }
-        Worked::Idle => rest(rt, filer, bells, seen, worker, watch),
+        Worked::Idle => {
+            watch.tell(bells);
+            if watch.looks_again() {
+                spin_loop();
+                return worker;
+            }
+            watch.begin_if_due();
+            rest(rt, filer, bells, seen, worker, watch)
+        }
     }
 }

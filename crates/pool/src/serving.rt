@@ -30,5 +30,6 @@ pub(crate) fn serve<R: Wait + Clock, G: Gate>(
         }
         worker = round(rt, filer, bells, gate, worker, &mut watch);
     }
+    watch.end(bells);
     worker
 }
