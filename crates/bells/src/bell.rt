@@ -12,10 +12,19 @@ const A_FEW: usize = 4;
 
 /// What threads sleep on until it is rung. Who waits tells how many rings it had heard when it saw
 /// nothing to do, so that a ring between that look and its sleep isn't lost.
-#[derive(Drop)]
 pub struct Bell {
     rung: Condvar,
     stopped: AtomicBool,
+}
+
+// By hand, so that crates above have no proof of the drop of each of its parts.
+impl Drop for Bell {
+    fn drop(self) {
+        let Bell {
+            rung: _,
+            stopped: _,
+        } = self;
+    }
 }
 
 impl Bell {

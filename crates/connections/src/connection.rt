@@ -24,11 +24,21 @@ impl Promise<Pass<Message, Layout>> for HandsBack {
 }
 
 /// A connection with the two threads that read and write it.
-#[derive(Drop)]
 pub struct Connection {
     pub(crate) line: Arc<Line>,
     pub(crate) reader: PromisedHandle<Pass<Message, Layout>, HandsBack>,
     pub(crate) writer: JoinHandle<()>,
+}
+
+// By hand, so that crates above have no proof of the drop of each of its parts.
+impl Drop for Connection {
+    fn drop(self) {
+        let Connection {
+            line: _,
+            reader: _,
+            writer: _,
+        } = self;
+    }
 }
 
 impl Connection {

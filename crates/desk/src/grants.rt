@@ -30,7 +30,7 @@ fn put<X>(place: &mut Option<X>, something: X)
 
 /// Begins a call on a node of whichever kind. Its grant is made in an empty place, where it stays,
 /// since a grant of the whole tree is large. A refusal leaves the place empty.
-pub fn begin_any<M: Machine, K: NodeKinds<M::Parcel>>(
+pub(crate) fn begin_any<M: Machine, K: NodeKinds<M::Parcel>>(
     depot: &Depot<M>,
     seat: &mut Seat<M>,
     affinity: Affinity,
@@ -88,7 +88,7 @@ pub fn begin_any<M: Machine, K: NodeKinds<M::Parcel>>(
 }
 
 /// Ends a call by an entry, with its parcels as they are.
-pub fn finish_any<M: Machine, K: NodeKinds<M::Parcel>>(
+pub(crate) fn finish_any<M: Machine, K: NodeKinds<M::Parcel>>(
     depot: &Depot<M>,
     seat: &mut Seat<M>,
     any: AnyGrant<M::Parcel, K>,
@@ -117,7 +117,7 @@ pub fn finish_any<M: Machine, K: NodeKinds<M::Parcel>>(
 }
 
 /// Ends a call without an entry. Its parcels have to be as they were granted.
-pub fn put_back_any<M: Machine, K: NodeKinds<M::Parcel>>(
+pub(crate) fn put_back_any<M: Machine, K: NodeKinds<M::Parcel>>(
     depot: &Depot<M>,
     seat: &mut Seat<M>,
     any: AnyGrant<M::Parcel, K>,

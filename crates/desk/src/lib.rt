@@ -1,8 +1,8 @@
 //! A depot with one seat for many workers. Nothing of the seat shows above: a desk is told by the
 //! parcels at the start, the history, and what each worker was lent (`desk_laws`).
 //!
-//! `begin_any`, `work_any`, `finish_any` and `put_back_any` are a call on a node of whichever kind
-//! for who has a seat of their own.
+//! `begin_node`, `work_node`, `finish_node` and `put_back_node` are a call on a node of one kind for
+//! who has a seat of their own: such a grant is no larger than what it lends.
 #![tactic(auto)]
 
 mod calls;
@@ -11,6 +11,7 @@ mod desk;
 mod grant;
 mod grants;
 mod kinds;
+mod node_task;
 mod nodes;
 mod opening;
 mod queries;
@@ -20,7 +21,8 @@ mod task;
 
 pub use desk::Desk;
 pub use grant::{AnyGrant, NodeGrant};
-pub use grants::{begin_any, finish_any, put_back_any};
 pub use kinds::{NodeKinds, ParcelKinds};
+pub use node_task::{TaskNode, work_node};
+pub use nodes::{begin_node, finish_node, put_back_node};
 pub use refusal::Refusal;
-pub use task::{Task, work_any};
+pub use task::Task;

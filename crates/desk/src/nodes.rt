@@ -16,7 +16,7 @@ use parcel_sets::Node;
 
 /// Begins a call on a node of one kind.
 #[inline(never)]
-pub(crate) fn begin_node<M: Machine, N: Node<M::Parcel>>(
+pub fn begin_node<M: Machine, N: Node<M::Parcel>>(
     depot: &Depot<M>,
     seat: &mut Seat<M>,
     affinity: Affinity,
@@ -37,7 +37,7 @@ pub(crate) fn begin_node<M: Machine, N: Node<M::Parcel>>(
 
 /// Ends a call on a node of one kind by an entry.
 #[inline(never)]
-pub(crate) fn finish_node<M: Machine, N: Node<M::Parcel>>(
+pub fn finish_node<M: Machine, N: Node<M::Parcel>>(
     depot: &Depot<M>,
     seat: &mut Seat<M>,
     node: NodeGrant<M::Parcel, N>,
@@ -59,7 +59,7 @@ pub(crate) fn finish_node<M: Machine, N: Node<M::Parcel>>(
 
 /// Ends a call on a node of one kind without an entry.
 #[inline(never)]
-pub(crate) fn put_back_node<M: Machine, N: Node<M::Parcel>>(
+pub fn put_back_node<M: Machine, N: Node<M::Parcel>>(
     depot: &Depot<M>,
     seat: &mut Seat<M>,
     node: NodeGrant<M::Parcel, N>,

@@ -147,7 +147,7 @@ pub trait Task<T: HasKind, K: NodeKinds<T>> {
 }
 
 /// Does a task on what was granted.
-pub fn work_any<T: HasKind, K: NodeKinds<T>, W: Task<T, K>>(
+pub(crate) fn work_any<T: HasKind, K: NodeKinds<T>, W: Task<T, K>>(
     layout: &Layout,
     any: &mut AnyGrant<T, K>,
     task: W,

@@ -13,10 +13,16 @@ use std::alloc::{AllocError, Global};
 use std::marker::Model;
 
 /// Room for the record of one reply, got before the call runs.
-#[derive(Drop)]
 pub struct Room {
     link: Box<Link>,
     bytes: usize,
+}
+
+// By hand, so that crates above have no proof of the drop of each of its parts.
+impl Drop for Room {
+    fn drop(self) {
+        let Room { link: _, bytes: _ } = self;
+    }
 }
 
 impl Model for Room {

@@ -58,7 +58,7 @@ impl<T: Fitting<K> + Drop, K: Drop> SharedWaiting<T, K> {
         ensures first { known result.0 ≡ left (known pass) }
         ensures second { known result.1 ≡ right (known pass) }
     {
-        let Pass { mut seat } = pass;
+        let mut seat = pass.into_seat();
         let other = self.queue.another::<Cut>(&mut seat);
         (Pass { seat }, Pass { seat: other })
     }
@@ -69,9 +69,8 @@ impl<T: Fitting<K> + Drop, K: Drop> SharedWaiting<T, K> {
         ensures of { IsOf self.now result }
         ensures both { known result ≡ both (known pass) (known other) }
     {
-        let Pass { mut seat } = pass;
-        let Pass { seat: second } = other;
-        self.queue.absorb::<Glue>(&mut seat, second);
+        let mut seat = pass.into_seat();
+        self.queue.absorb::<Glue>(&mut seat, other.into_seat());
         Pass { seat }
     }
 

@@ -223,25 +223,3 @@ module _ (layout : Layout) (v w : FilerView) (a : codes.Affinity) where
     opened = subst (λ (x : FilerView). HasOpened layout verifier x) (sym refused.1) ready.opened;
     none_open = λ b g has. ready.none_open b g (subst (λ (x : FilerView). Has x b g) refused.1 has);
   }
-
--- ---- what was granted
-
--- where there is a grant, what is known of it leads on
-pub granted-so : {A : Type 0} (o : Option A) (Q R : A → Type 0) → ((x : A) → Q x → R x) → MatchOption o ⊥ Q → MatchOption o ⊥ R
-granted-so None Q R f q = q
-granted-so (Some x) Q R f q = f x q
-
-pub granted-both : {A : Type 0} (o : Option A) (Q R : A → Type 0) (T : Type 0) → ((x : A) → Q x → R x → T) → MatchOption o ⊥ Q → IfSome o R → T
-granted-both None Q R T f q r = absurd q
-granted-both (Some x) Q R T f q r = f x q r
-
-pub granted-then : {A : Type 0} (o : Option A) (Q : A → Type 0) (T : Type 0) → ((x : A) → Q x → T) → MatchOption o ⊥ Q → T
-granted-then None Q T f q = absurd q
-granted-then (Some x) Q T f q = f x q
-
-some-is : {A : Type 0} (x y : A) → Some x ≡ Some y → x ≡ y
-some-is x y e = cc
-
--- what is known of the grant that there is
-pub granted-here : {A : Type 0} (o : Option A) (Q : A → Type 0) → (x : A) × (o ≡ Some x) × Q x → (y : A) → o ≡ Some y → Q y
-granted-here o Q found y is = subst Q (some-is found.0 y (sym found.1 ∙ is)) found.2

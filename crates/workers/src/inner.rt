@@ -1,20 +1,20 @@
 //! An inner call on a seat, from begin to end.
 
-ghost use Rattle.std.specs.Prelude.{◌≡◌, IfOk, IfErr, OnErr, MatchOption};
+ghost use Rattle.std.specs.Prelude.{◌≡◌, IfOk, IfErr};
 ghost use Rattle.depot.specs.Grants.{IsRefused};
-ghost use Rattle.depot.specs.Words.{view, splits_left, IsSeatHere};
-ghost use Rattle.desk.specs.Any.{lent_of};
+ghost use Rattle.depot.specs.Words.{view, splits_left, IsNodeOf, IsSeatHere};
+ghost use Rattle.desk.specs.Any.{node_lent};
 ghost use Rattle.service.specs.Jobs.{inner_of};
 ghost use Rattle.workers.specs.Carries.{node_tried, refusal_by, MayCarry, HasCarried, HasRunInner};
 ghost use Rattle.workers.specs.Words.{layout_in, verifier_in, IsReady};
 
-use crate::granted::{Granted, finish, put_back};
+use crate::granted::Ran;
 use crate::shared::Filer;
 use crate::tend::{Carried, TendRefusal};
-use affinity_tree::Affinity;
+use affinity_tree::{Affinity, Kind};
 use depot::{Refusal, Seat};
-use desk::{ParcelKinds, begin_any, work_any};
-use parcel_sets::{Hand, Parcel};
+use desk::{NodeGrant, ParcelKinds, TaskNode, begin_node, finish_node, put_back_node, work_node};
+use parcel_sets::{Hand, LogicalNode, Parcel, RangeNode, VbnNode};
 use parcels::Files;
 use service::{BatchInHand, InnerCall, InnerOutcome, Job, RunInner, Service};
 
@@ -47,44 +47,78 @@ fn refused(refusal: Refusal) -> TendRefusal
     }
 }
 
-/// Begins an inner call, and runs it there with what is in the hand.
-fn run_inner(
+/// Begins an inner call on its node, which is of this kind, and runs it there with what is in the
+/// hand.
+fn run_inner<N: TaskNode<Parcel<Files>, ParcelKinds>>(
     filer: &Filer,
     seat: &mut Seat<Service>,
     call: InnerCall,
     hand: BatchInHand,
-    granted: &mut Granted,
-) -> Result<InnerOutcome, (BatchInHand, Refusal)>
+) -> Result<Ran<NodeGrant<Parcel<Files>, N>, InnerOutcome>, (BatchInHand, Refusal)>
     requires seat { IsSeatHere filer.now.depot seat.old }
     requires may { MayCarry (layout_in filer.now) (view seat.old) (inner_of call) hand }
-    requires none { granted.old ≡ None }
+    requires kind { IsNodeOf (layout_in filer.now) N.KIND (node_tried (inner_of call)) }
     ensures seat { IsSeatHere filer.now.depot seat.new }
     ensures splits { splits_left seat.new ≡ splits_left seat.old }
-    ensures ran { let L = layout_in filer.now in IfOk result (λ outcome.
-        MatchOption granted.new ⊥ (λ any.
-        HasRunInner L (view seat.old) (inner_of call) hand outcome (lent_of L any)
-        (view seat.new))) }
+    ensures ran { let L = layout_in filer.now in IfOk result (λ ran.
+        HasRunInner L (view seat.old) (inner_of call) hand ran.outcome (node_lent L ran.grant)
+        (view seat.new)) }
     ensures refused { IfErr result (λ back. IsRefused (layout_in filer.now)
         (view seat.old) (node_tried (inner_of call)) back.1 (view seat.new)) }
     ensures hand { IfErr result (λ back. back.0 ≡ hand) }
-    ensures none { OnErr result (granted.new ≡ None) }
 {
-    match begin_any::<Service, ParcelKinds>(&filer.depot, seat, node_of(call), granted) {
-        Ok(()) => {}
+    let mut grant = match begin_node::<Service, N>(&filer.depot, seat, node_of(call)) {
+        Ok(grant) => grant,
         Err(refusal) => return Err((hand, refusal)),
-    }
+    };
     let run = RunInner {
         alloc: filer.alloc,
         call,
         hand,
     };
-    match granted {
-        Some(any) => Ok(work_any::<Parcel<Files>, ParcelKinds, RunInner>(
-            filer.depot.layout(),
-            any,
-            run,
-        )),
-        None => unreachable!(),
+    let layout = filer.depot.layout();
+    let outcome = work_node::<Parcel<Files>, ParcelKinds, N, RunInner>(layout, &mut grant, run);
+    Ok(Ran { grant, outcome })
+}
+
+/// Begins an inner call with what is in the hand on its node, which is of this kind, runs it, and
+/// ends it.
+#[inline(never)]
+fn carry_on<N: TaskNode<Parcel<Files>, ParcelKinds>>(
+    filer: &Filer,
+    seat: &mut Seat<Service>,
+    call: InnerCall,
+    hand: BatchInHand,
+) -> Carried
+    requires seat { IsSeatHere filer.now.depot seat.old }
+    requires ready { IsReady (layout_in filer.now) (verifier_in filer.now) (view seat.old) }
+    requires may { MayCarry (layout_in filer.now) (view seat.old) (inner_of call) hand }
+    requires kind { IsNodeOf (layout_in filer.now) N.KIND (node_tried (inner_of call)) }
+    ensures seat { IsSeatHere filer.now.depot seat.new }
+    ensures splits { splits_left seat.new ≡ splits_left seat.old }
+    ensures ready { IsReady (layout_in filer.now) (verifier_in filer.now) (view seat.new) }
+    ensures carried { HasCarried (layout_in filer.now)
+        (view seat.old) (inner_of call) hand result (view seat.new) }
+{
+    let Ran { grant, outcome } = match run_inner::<N>(filer, seat, call, hand) {
+        Ok(ran) => ran,
+        Err((hand, refusal)) => return Carried::Refused(hand, refused(refusal)),
+    };
+    match outcome {
+        InnerOutcome::Done(reply) => {
+            let job = Job::Inner(call);
+            finish_node::<Service, N>(&filer.depot, seat, grant, &job, &reply);
+            drop(job);
+            Carried::Done(reply)
+        }
+        InnerOutcome::Refused => {
+            put_back_node::<Service, N>(&filer.depot, seat, grant);
+            Carried::Refused(BatchInHand::new(Hand::Empty), TendRefusal::NoSuchRange)
+        }
+        InnerOutcome::NoMemory(hand) => {
+            put_back_node::<Service, N>(&filer.depot, seat, grant);
+            Carried::Refused(hand, TendRefusal::NoMemory)
+        }
     }
 }
 
@@ -104,28 +138,10 @@ pub(crate) fn carry(
     ensures carried { HasCarried (layout_in filer.now)
         (view seat.old) (inner_of call) hand result (view seat.new) }
 {
-    let mut granted = None;
-    let outcome = match run_inner(filer, seat, call, hand, &mut granted) {
-        Ok(outcome) => outcome,
-        Err((hand, refusal)) => {
-            drop(granted);
-            return Carried::Refused(hand, refused(refusal));
-        }
-    };
-    match outcome {
-        InnerOutcome::Done(reply) => {
-            let job = Job::Inner(call);
-            finish(filer, seat, granted, &job, &reply);
-            drop(job);
-            Carried::Done(reply)
-        }
-        InnerOutcome::Refused => {
-            put_back(filer, seat, granted);
-            Carried::Refused(BatchInHand::new(Hand::Empty), TendRefusal::NoSuchRange)
-        }
-        InnerOutcome::NoMemory(hand) => {
-            put_back(filer, seat, granted);
-            Carried::Refused(hand, TendRefusal::NoMemory)
-        }
+    match node_of(call).kind() {
+        Kind::Range => carry_on::<RangeNode>(filer, seat, call, hand),
+        Kind::VolumeLogical => carry_on::<LogicalNode>(filer, seat, call, hand),
+        Kind::VolumeVbn => carry_on::<VbnNode>(filer, seat, call, hand),
+        _ => unreachable!(),
     }
 }

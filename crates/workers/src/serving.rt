@@ -1,12 +1,12 @@
 //! A message on a seat, from begin to end.
 
-ghost use Rattle.std.specs.Prelude.{◌≡◌, ◌≤◌, length, IfSome, MatchOption};
+ghost use Rattle.std.specs.Prelude.{◌≡◌, ◌≤◌, length};
 ghost use Rattle.affinity_tree.specs.Numbers.{number_of};
 ghost use Rattle.nfs_values.specs.Reply.{reply_of};
 ghost use Rattle.parcel_sets.specs.Exact.{kind_in};
 ghost use Rattle.depot.specs.Grants.{entry_of, IsFinished};
-ghost use Rattle.depot.specs.Words.{view, splits_left, IsSeatHere};
-ghost use Rattle.desk.specs.Any.{lent_of};
+ghost use Rattle.depot.specs.Words.{view, splits_left, IsNodeOf, IsSeatHere};
+ghost use Rattle.desk.specs.Any.{node_lent};
 ghost use Rattle.desk_laws.specs.Backing.{CanFinish};
 ghost use Rattle.outboxes.specs.Boxes.{addressed};
 ghost use Rattle.outboxes.specs.Messages as replies;
@@ -16,13 +16,20 @@ ghost use Rattle.workers.specs.Messages.{IsPlaced};
 ghost use Rattle.workers.specs.Turns.{filer_behaviour, job_of_message, HasServed};
 ghost use Rattle.workers.specs.Words.{layout_in, verifier_in, IsReady};
 
-use crate::granted::{Granted, finish, place_of, put_back, run};
+use crate::granted::{Ran, place_of, run};
 use crate::message::Message;
 use crate::shared::Filer;
 use crate::turned::{Gate, Served, Stage};
+use affinity_tree::Kind;
 use depot::Seat;
+use desk::{NodeGrant, ParcelKinds, TaskNode, finish_node, put_back_node};
 use nfs_values::{Moment, Reply};
 use outboxes::Answer;
+use parcel_sets::{
+    AggregateNode, LogicalNode, Node, Parcel, RangeNode, SerialNode, StripeNode, VbnNode,
+    VolumeNode,
+};
+use parcels::Files;
 use rpc_msg::{replies_fit, servers_are_roomy};
 use service::{Asked, Job, JobReply, Outcome, ServedCall, Service};
 
@@ -40,27 +47,27 @@ fn into_reply(told: JobReply) -> Reply
 }
 
 /// Ends a message's call by its entry, and answers it.
-fn answer(
+fn answer<N: Node<Parcel<Files>>>(
     filer: &Filer,
     seat: &mut Seat<Service>,
-    granted: Granted,
+    grant: NodeGrant<Parcel<Files>, N>,
     message: Message,
     moment: Moment,
     reply: Reply,
     starved: bool,
 ) -> Answer
     requires seat { IsSeatHere filer.now.depot seat.old }
-    requires can { let L = layout_in filer.now in MatchOption granted ⊥ (λ any.
-        CanFinish kind_in filer_behaviour L (view seat.old) (lent_of L any)
-        (job_of_message message moment starved) (Replied reply)) }
+    requires can { let L = layout_in filer.now in
+        CanFinish kind_in filer_behaviour L (view seat.old) (node_lent L grant)
+        (job_of_message message moment starved) (Replied reply) }
     requires room { length (record_of (replies.message message.origin.xid (reply_of reply)))
         ≤ message.room }
     ensures seat { IsSeatHere filer.now.depot seat.new }
     ensures splits { splits_left seat.new ≡ splits_left seat.old }
-    ensures finished { let L = layout_in filer.now in IfSome granted (λ any.
-        IsFinished filer_behaviour (view seat.old) (number_of L (lent_of L any).affinity)
-        (entry_of L (lent_of L any).affinity (lent_of L any).parcels
-        (job_of_message message moment starved) (Replied reply)) (view seat.new)) }
+    ensures finished { let L = layout_in filer.now in let l = node_lent L grant in
+        IsFinished filer_behaviour (view seat.old) (number_of L l.affinity)
+        (entry_of L l.affinity l.parcels
+        (job_of_message message moment starved) (Replied reply)) (view seat.new) }
     ensures answer { result ≡ addressed message.origin.connection.0
         (replies.message message.origin.xid (reply_of reply)) }
 {
@@ -81,7 +88,7 @@ fn answer(
         starved,
     });
     let told = JobReply::Replied(reply);
-    finish(filer, seat, granted, &job, &told);
+    finish_node::<Service, N>(&filer.depot, seat, grant, &job, &told);
     let reply = into_reply(told);
     Answer::new(origin.connection, origin.xid, &reply, room)
 }
@@ -90,6 +97,56 @@ fn answer(
 fn has_eight(bytes: [u8; 8])
     ensures { length bytes ≡ 8 }
 {}
+
+/// Begins the call of a message on what it tries, a node of this kind, runs it, and ends it.
+#[inline(never)]
+fn serve_on<N: TaskNode<Parcel<Files>, ParcelKinds>, G: Gate>(
+    filer: &Filer,
+    seat: &mut Seat<Service>,
+    message: Message,
+    moment: Moment,
+    gate: &G,
+) -> Served
+    requires seat { IsSeatHere filer.now.depot seat.old }
+    requires ready { IsReady (layout_in filer.now) (verifier_in filer.now) (view seat.old) }
+    requires placed { IsPlaced (layout_in filer.now) message }
+    requires kind { IsNodeOf (layout_in filer.now) N.KIND message.affinity }
+    ensures seat { IsSeatHere filer.now.depot seat.new }
+    ensures splits { splits_left seat.new ≡ splits_left seat.old }
+    ensures ready { IsReady (layout_in filer.now) (verifier_in filer.now) (view seat.new) }
+    ensures served { HasServed (layout_in filer.now)
+        (view seat.old) message moment result (view seat.new) }
+{
+    replies_fit();
+    servers_are_roomy();
+    has_eight(filer.verifier.0);
+    let place = place_of(&message, Stage::Ended);
+    let Ran { grant, outcome } = match run::<N, G>(filer, seat, &message, moment, gate) {
+        Ok(ran) => ran,
+        Err(refusal) => return Served::Refused(message, refusal),
+    };
+    match outcome {
+        Outcome::Replied(reply) => {
+            let answer = answer(filer, seat, grant, message, moment, reply, false);
+            gate.pass(place);
+            Served::Done(answer)
+        }
+        Outcome::Starved => {
+            let reply = Reply::SystemError;
+            let answer = answer(filer, seat, grant, message, moment, reply, true);
+            gate.pass(place);
+            Served::Done(answer)
+        }
+        Outcome::Moved(affinity) => {
+            put_back_node::<Service, N>(&filer.depot, seat, grant);
+            gate.pass(place);
+            Served::Moved(Message {
+                affinity,
+                ..message
+            })
+        }
+    }
+}
 
 /// Begins the call of a message on what it tries, runs it, and ends it.
 pub(crate) fn serve<G: Gate>(
@@ -108,37 +165,13 @@ pub(crate) fn serve<G: Gate>(
     ensures served { HasServed (layout_in filer.now)
         (view seat.old) message moment result (view seat.new) }
 {
-    replies_fit();
-    servers_are_roomy();
-    has_eight(filer.verifier.0);
-    let place = place_of(&message, Stage::Ended);
-    let mut granted = None;
-    let outcome = match run(filer, seat, &message, moment, gate, &mut granted) {
-        Ok(outcome) => outcome,
-        Err(refusal) => {
-            drop(granted);
-            return Served::Refused(message, refusal);
-        }
-    };
-    match outcome {
-        Outcome::Replied(reply) => {
-            let answer = answer(filer, seat, granted, message, moment, reply, false);
-            gate.pass(place);
-            Served::Done(answer)
-        }
-        Outcome::Starved => {
-            let reply = Reply::SystemError;
-            let answer = answer(filer, seat, granted, message, moment, reply, true);
-            gate.pass(place);
-            Served::Done(answer)
-        }
-        Outcome::Moved(affinity) => {
-            put_back(filer, seat, granted);
-            gate.pass(place);
-            Served::Moved(Message {
-                affinity,
-                ..message
-            })
-        }
+    match message.affinity.kind() {
+        Kind::Range => serve_on::<RangeNode, G>(filer, seat, message, moment, gate),
+        Kind::VolumeVbn => serve_on::<VbnNode, G>(filer, seat, message, moment, gate),
+        Kind::Stripe => serve_on::<StripeNode, G>(filer, seat, message, moment, gate),
+        Kind::VolumeLogical => serve_on::<LogicalNode, G>(filer, seat, message, moment, gate),
+        Kind::Volume => serve_on::<VolumeNode, G>(filer, seat, message, moment, gate),
+        Kind::Aggregate => serve_on::<AggregateNode, G>(filer, seat, message, moment, gate),
+        Kind::Serial => serve_on::<SerialNode, G>(filer, seat, message, moment, gate),
     }
 }

@@ -5,7 +5,7 @@ use nfs_values::ConnectionNumber;
 
 /// What came of a turn whose answer was put.
 #[derive(Clone, Copy, Debug, PartialEq)]
-pub enum Came {
+pub(crate) enum Came {
     /// A call of this connection and xid is finished.
     Done(ConnectionNumber, u32),
     Moved,

@@ -5,7 +5,7 @@ use workers::{Filer, Worker};
 
 /// A worker, with the filer that it is of. Its value is what is in its hand.
 #[derive(Drop)]
-pub struct FilerWorker<'a> {
+pub(crate) struct FilerWorker<'a> {
     pub(crate) filer: &'a Filer,
     pub(crate) worker: Worker,
 }

@@ -3,21 +3,21 @@
 
 #[cfg(test)]
 mod calls;
+#[cfg(test)]
 mod came;
+#[cfg(test)]
 mod filer_worker;
 #[cfg(test)]
 mod looking;
+#[cfg(test)]
 mod opening;
+#[cfg(test)]
 mod reader;
 #[cfg(test)]
 mod rows;
+#[cfg(test)]
 mod starting;
 #[cfg(test)]
 mod texts;
+#[cfg(test)]
 mod turning;
-
-pub use came::Came;
-pub use filer_worker::FilerWorker;
-pub use opening::opened;
-pub use reader::Reader;
-pub use starting::{Started, start_workers};

@@ -14,7 +14,7 @@ use workers::{Filer, Message, Service};
 
 /// A filer of two volumes, one of 8 stripes and one range, one of 16 stripes and two ranges, whose
 /// write verifier is eight nines; with its first seat and pass. Nothing where memory ran out.
-pub fn opened(alloc: Global) -> Option<(Filer, Seat<Service>, Pass<Message, Layout>)>
+pub(crate) fn opened(alloc: Global) -> Option<(Filer, Seat<Service>, Pass<Message, Layout>)>
     ensures seat { IfSome result (λ made. IsSeatHere made.0.depot made.1) }
     ensures ready { IfSome result (λ made.
         IsReady (layout_in made.0) (verifier_in made.0) (view made.1)) }

@@ -10,9 +10,9 @@ use workers::{Filer, Message};
 
 /// A pass that puts messages into the queue of a filer.
 #[derive(Drop)]
-pub struct Reader<'a> {
+pub(crate) struct Reader<'a> {
     pub(crate) filer: &'a Filer,
     pub(crate) pass: Pass<Message, Layout>,
-    pub ghost of: { IsOf filer.now.waiting pass },
-    pub ghost layout: { layout_known (known pass) ≡ Some (layout_in filer.now) },
+    pub(crate) ghost of: { IsOf filer.now.waiting pass },
+    pub(crate) ghost layout: { layout_known (known pass) ≡ Some (layout_in filer.now) },
 }

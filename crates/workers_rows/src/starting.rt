@@ -15,10 +15,10 @@ use workers::{Filer, Message, Service, Worker};
 
 /// Two workers, and who puts messages for them.
 #[derive(Drop)]
-pub struct Started<'a> {
-    pub first: FilerWorker<'a>,
-    pub second: FilerWorker<'a>,
-    pub reader: Reader<'a>,
+pub(crate) struct Started<'a> {
+    pub(crate) first: FilerWorker<'a>,
+    pub(crate) second: FilerWorker<'a>,
+    pub(crate) reader: Reader<'a>,
 }
 
 /// A worker with a seat and a pass that have done nothing.
@@ -40,7 +40,7 @@ fn worker_of<'a>(
 }
 
 /// The first two workers of a filer, and who puts messages for them.
-pub fn start_workers<'a>(
+pub(crate) fn start_workers<'a>(
     filer: &'a Filer,
     seat: Seat<Service>,
     pass: Pass<Message, Layout>,

@@ -52,7 +52,7 @@ fn put<R: Wait>(rt: &R, filer: &Filer, turned: Turned) -> Came {
 
 impl Reader<'_> {
     /// Puts a call, and tells whether it waits.
-    pub fn ask<R: Wait>(&mut self, rt: &R, alloc: Global, origin: Origin, call: Call) -> bool
+    pub(crate) fn ask<R: Wait>(&mut self, rt: &R, alloc: Global, origin: Origin, call: Call) -> bool
         requires { IsRun call }
     {
         match message_of(alloc, self.filer, origin, call) {
@@ -68,7 +68,7 @@ impl Reader<'_> {
 
 impl<'a> FilerWorker<'a> {
     /// A turn at a moment; the answer is put.
-    pub fn turn<R: Wait, G: Gate>(
+    pub(crate) fn turn<R: Wait, G: Gate>(
         self,
         rt: &R,
         gate: &G,
@@ -81,7 +81,7 @@ impl<'a> FilerWorker<'a> {
     }
 
     /// A tend.
-    pub fn tend(self, tend: Tend) -> (FilerWorker<'a>, Result<Tended, TendRefusal>) {
+    pub(crate) fn tend(self, tend: Tend) -> (FilerWorker<'a>, Result<Tended, TendRefusal>) {
         let FilerWorker { filer, worker } = self;
         let (worker, answer) = worker.tend_turn(filer, tend);
         (FilerWorker { filer, worker }, answer)

@@ -1,0 +1,134 @@
+//! Work on what was lent, of one kind of node.
+
+ghost use Rattle.affinity_tree.specs.Affinity.{affinity_of};
+ghost use Rattle.affinity_tree.specs.Layout.{layout_of};
+ghost use Rattle.affinity_tree.specs.Tree.{IsNode};
+ghost use Rattle.parcel_sets.specs.Exact.{HasExactly};
+ghost use Rattle.desk_laws.specs.Backing.{IsWhole, IsDone};
+ghost use Rattle.desk.specs.Any.{node_lent};
+
+use crate::grant::NodeGrant;
+use crate::kinds::{NodeKinds, ParcelKinds};
+use crate::task::Task;
+use affinity_tree::{Affinity, HasKind, Layout};
+use parcel_sets::{
+    AggrHeld, AggregateNode, Family, LogicalHeld, LogicalNode, Node, Parcel, RangeHeld, RangeNode,
+    SerialHeld, SerialNode, StripeHeld, StripeNode, VbnHeld, VbnNode, VolumeHeld, VolumeNode,
+};
+
+/// A node type that is one of the kinds, so that a task does its part for that kind.
+pub trait TaskNode<T: HasKind, K: NodeKinds<T>>: Node<T> {
+    /// Works on the parcels of such a node.
+    fn work<W: Task<T, K>>(
+        task: W,
+        layout: &Layout,
+        affinity: Affinity,
+        held: &mut Self::Held,
+    ) -> W::Output
+        requires node { IsNode (layout_of layout.now) (affinity_of affinity) }
+        requires exact { let L = layout_of layout.now in let a = affinity_of affinity in
+            HasExactly T.kind L a (Self.parcels L a held.old) }
+        requires asks { let L = layout_of layout.now in let a = affinity_of affinity in
+            W.asks task L a (Self.parcels L a held.old) }
+        ensures exact { let L = layout_of layout.now in let a = affinity_of affinity in
+            HasExactly T.kind L a (Self.parcels L a held.new) }
+        ensures does { let L = layout_of layout.now in let a = affinity_of affinity in
+            W.does task L a (Self.parcels L a held.old) result (Self.parcels L a held.new) };
+}
+
+impl<F: Family> TaskNode<Parcel<F>, ParcelKinds> for RangeNode {
+    fn work<W: Task<Parcel<F>, ParcelKinds>>(
+        task: W,
+        layout: &Layout,
+        affinity: Affinity,
+        held: &mut RangeHeld<F>,
+    ) -> W::Output {
+        task.on_range(layout, affinity, held)
+    }
+}
+
+impl<F: Family> TaskNode<Parcel<F>, ParcelKinds> for VbnNode {
+    fn work<W: Task<Parcel<F>, ParcelKinds>>(
+        task: W,
+        layout: &Layout,
+        affinity: Affinity,
+        held: &mut VbnHeld<F>,
+    ) -> W::Output {
+        task.on_vbn(layout, affinity, held)
+    }
+}
+
+impl<F: Family> TaskNode<Parcel<F>, ParcelKinds> for StripeNode {
+    fn work<W: Task<Parcel<F>, ParcelKinds>>(
+        task: W,
+        layout: &Layout,
+        affinity: Affinity,
+        held: &mut StripeHeld<F>,
+    ) -> W::Output {
+        task.on_stripe(layout, affinity, held)
+    }
+}
+
+impl<F: Family> TaskNode<Parcel<F>, ParcelKinds> for LogicalNode {
+    fn work<W: Task<Parcel<F>, ParcelKinds>>(
+        task: W,
+        layout: &Layout,
+        affinity: Affinity,
+        held: &mut LogicalHeld<F>,
+    ) -> W::Output {
+        task.on_logical(layout, affinity, held)
+    }
+}
+
+impl<F: Family> TaskNode<Parcel<F>, ParcelKinds> for VolumeNode {
+    fn work<W: Task<Parcel<F>, ParcelKinds>>(
+        task: W,
+        layout: &Layout,
+        affinity: Affinity,
+        held: &mut VolumeHeld<F>,
+    ) -> W::Output {
+        task.on_volume(layout, affinity, held)
+    }
+}
+
+impl<F: Family> TaskNode<Parcel<F>, ParcelKinds> for AggregateNode {
+    fn work<W: Task<Parcel<F>, ParcelKinds>>(
+        task: W,
+        layout: &Layout,
+        affinity: Affinity,
+        held: &mut AggrHeld<F>,
+    ) -> W::Output {
+        task.on_aggregate(layout, affinity, held)
+    }
+}
+
+impl<F: Family> TaskNode<Parcel<F>, ParcelKinds> for SerialNode {
+    fn work<W: Task<Parcel<F>, ParcelKinds>>(
+        task: W,
+        layout: &Layout,
+        affinity: Affinity,
+        held: &mut SerialHeld<F>,
+    ) -> W::Output {
+        task.on_serial(layout, affinity, held)
+    }
+}
+
+/// Does a task on what was granted.
+pub fn work_node<T: HasKind, K: NodeKinds<T>, N: TaskNode<T, K>, W: Task<T, K>>(
+    layout: &Layout,
+    node: &mut NodeGrant<T, N>,
+    task: W,
+) -> W::Output
+    requires node { let L = layout_of layout.now in IsNode L (node_lent L node.old).affinity }
+    requires whole { let L = layout_of layout.now in
+        IsWhole T.kind L (node_lent L node.old) }
+    requires asks { let L = layout_of layout.now in let l = node_lent L node.old in
+        W.asks task L l.affinity l.parcels }
+    ensures whole { let L = layout_of layout.now in
+        IsWhole T.kind L (node_lent L node.new) }
+    ensures done { let L = layout_of layout.now in
+        IsDone (W.does task) L (node_lent L node.old) result (node_lent L node.new) }
+{
+    let affinity = node.grant.affinity();
+    N::work::<W>(task, layout, affinity, node.grant.held())
+}

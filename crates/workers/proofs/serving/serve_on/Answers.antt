@@ -1,0 +1,162 @@
+use Rattle.std.proofs.Common.{◌≡◌, ◌≤◌, length, true, false, refl}
+use Rattle.nfs_values.specs.Reply.{reply_of}
+use Rattle.nfs_values.specs.declared.reply.Reply.TheVariants.{SystemError}
+use Rattle.affinity_tree.specs.Numbers.{number_of}
+use Rattle.parcel_sets.specs.Exact.{kind_in}
+use Rattle.depot.specs.Grants.{entry_of, IsEnded, IsFinished}
+use Rattle.depot.specs.Words.{view}
+use Rattle.depot_rule.specs.History.{entries_of}
+use Rattle.desk.specs.Any.{node_lent}
+use Rattle.desk_laws.specs.Backing.{CanFinish, CanPutBack}
+use Rattle.outboxes.specs.Messages as replies
+use Rattle.outboxes.specs.Messages.{record_of}
+use Rattle.service.specs.declared.job.JobReply.TheVariants.{Replied}
+use Rattle.workers.specs.Runs.{HasRunOn}
+use Rattle.workers.specs.Turns.{filer_behaviour, job_of_message, HasFinished, HasMoved}
+use Rattle.workers.specs.Words.{layout_in, verifier_in, IsReady}
+use Rattle.workers.proofs.Served.{may-finish, may-starve, entered, entered-ready, fits, starved-room, may-go-back, moves-on, back-entries, back-ready}
+use Rattle.workers.proofs.Served.{refused-entries, refused-ready}
+use Rattle.workers.proofs.serving.serve_on.Goals as goal
+
+-- ---- it didn't begin
+
+pub returns-in-Err-clause-ready : goal.returns-in-Err-clause-ready
+returns-in-Err-clause-ready g c =
+    refused-ready (layout_in c.args.filer.now) (view c.args.seat.now) (view c.run.new.seat) c.args.message.affinity (verifier_in c.args.filer.now)
+    c.in-Err.refusal c.in-Err.ensures.refused c.requires.ready
+
+pub returns-in-Err-clause-served : goal.returns-in-Err-clause-served
+returns-in-Err-clause-served g c = (
+  refl,
+  refused-entries (layout_in c.args.filer.now) (view c.args.seat.now) (view c.run.new.seat) c.args.message.affinity c.in-Err.refusal c.in-Err.ensures.refused,
+  c.in-Err.ensures.refused,
+)
+
+-- ---- it ran
+
+pub answer-answer-requires-clause-can : goal.answer-answer-requires-clause-can
+answer-answer-requires-clause-can g c =
+    let L = layout_in c.args.filer.now in
+    let v = view c.args.seat.now in
+    let w = view c.run.new.seat in
+    let m = c.args.message in
+    may-finish L c.args.filer.now.depot.layout.lawful m c.requires.placed c.args.moment v w
+    c.requires.seat.1.0 c.run.ensures.seat.1.0 c.in-Ok.ran.outcome
+    (node_lent L c.in-Ok.ran.grant) c.in-Ok.ensures.ran c.in-Replied.reply c.in-Replied.is
+
+pub answer-answer-requires-clause-room : goal.answer-answer-requires-clause-room
+answer-answer-requires-clause-room g c =
+    let L = layout_in c.args.filer.now in
+    let v = view c.args.seat.now in
+    let w = view c.run.new.seat in
+    let m = c.args.message in
+    fits L c.args.filer.now.depot.layout.lawful m c.requires.placed c.args.moment v w
+    c.requires.seat.1.0 c.run.ensures.seat.1.0 c.in-Ok.ran.outcome
+    (node_lent L c.in-Ok.ran.grant) c.in-Ok.ensures.ran
+    (verifier_in c.args.filer.now) c.has_eight.ensures c.requires.ready.opened c.servers_are_roomy.ensures.begins
+    c.servers_are_roomy.ensures.stays c.replies_fit.ensures.offered
+    c.in-Replied.reply c.in-Replied.is
+
+pub answer-answer-requires-in-Starved-clause-can : goal.answer-answer-requires-in-Starved-clause-can
+answer-answer-requires-in-Starved-clause-can g c =
+    let L = layout_in c.args.filer.now in
+    let v = view c.args.seat.now in
+    let w = view c.run.new.seat in
+    let m = c.args.message in
+    may-starve L c.args.filer.now.depot.layout.lawful m c.requires.placed c.args.moment v w
+    c.requires.seat.1.0 c.run.ensures.seat.1.0 c.in-Ok.ran.outcome
+    (node_lent L c.in-Ok.ran.grant) c.in-Ok.ensures.ran SystemError refl c.in-Starved.is
+
+pub answer-answer-requires-in-Starved-clause-room : goal.answer-answer-requires-in-Starved-clause-room
+answer-answer-requires-in-Starved-clause-room g c =
+    let L = layout_in c.args.filer.now in
+    let v = view c.args.seat.now in
+    let w = view c.run.new.seat in
+    let m = c.args.message in
+    starved-room L c.args.filer.now.depot.layout.lawful m c.requires.placed c.args.moment v w
+    c.requires.seat.1.0 c.run.ensures.seat.1.0 c.in-Ok.ran.outcome
+    (node_lent L c.in-Ok.ran.grant) c.in-Ok.ensures.ran
+    (verifier_in c.args.filer.now) c.has_eight.ensures c.requires.ready.opened c.servers_are_roomy.ensures.begins
+    c.servers_are_roomy.ensures.stays c.replies_fit.ensures.offered
+    SystemError refl
+
+pub put_back_node-requires-clause-can : goal.put_back_node-requires-clause-can
+put_back_node-requires-clause-can g c =
+    let L = layout_in c.args.filer.now in
+    let v = view c.args.seat.now in
+    let w = view c.run.new.seat in
+    let m = c.args.message in
+    may-go-back L c.args.filer.now.depot.layout.lawful m c.requires.placed c.args.moment v w
+    c.requires.seat.1.0 c.run.ensures.seat.1.0 c.in-Ok.ran.outcome
+    (node_lent L c.in-Ok.ran.grant) c.in-Ok.ensures.ran c.in-Moved.affinity c.in-Moved.is
+
+pub returns-in-Replied-clause-ready : goal.returns-in-Replied-clause-ready
+returns-in-Replied-clause-ready g c =
+    let L = layout_in c.args.filer.now in
+    let v = view c.args.seat.now in
+    let w = view c.run.new.seat in
+    let m = c.args.message in
+    let u = view c.answer-answer.new.seat in
+    entered-ready L c.args.filer.now.depot.layout.lawful m c.requires.placed c.args.moment v w
+    c.requires.seat.1.0 c.run.ensures.seat.1.0 c.in-Ok.ran.outcome
+    (node_lent L c.in-Ok.ran.grant) c.in-Ok.ensures.ran u c.in-Replied.reply false c.answer-answer.ensures.finished (verifier_in c.args.filer.now) c.requires.ready
+
+pub returns-in-Replied-clause-served : goal.returns-in-Replied-clause-served
+returns-in-Replied-clause-served g c =
+    let L = layout_in c.args.filer.now in
+    let v = view c.args.seat.now in
+    let w = view c.run.new.seat in
+    let m = c.args.message in
+    let u = view c.answer-answer.new.seat in
+    entered L c.args.filer.now.depot.layout.lawful m c.requires.placed c.args.moment v w
+    c.requires.seat.1.0 c.run.ensures.seat.1.0 c.in-Ok.ran.outcome
+    (node_lent L c.in-Ok.ran.grant) c.in-Ok.ensures.ran u c.in-Replied.reply false c.answer-answer.ensures.finished c.answer-answer.result c.answer-answer.ensures.answer
+
+pub returns-in-Starved-clause-ready : goal.returns-in-Starved-clause-ready
+returns-in-Starved-clause-ready g c =
+    let L = layout_in c.args.filer.now in
+    let v = view c.args.seat.now in
+    let w = view c.run.new.seat in
+    let m = c.args.message in
+    let u = view c.answer-answer-in-Starved.new.seat in
+    entered-ready L c.args.filer.now.depot.layout.lawful m c.requires.placed c.args.moment v w
+    c.requires.seat.1.0 c.run.ensures.seat.1.0 c.in-Ok.ran.outcome
+    (node_lent L c.in-Ok.ran.grant) c.in-Ok.ensures.ran u SystemError true c.answer-answer-in-Starved.ensures.finished (verifier_in c.args.filer.now) c.requires.ready
+
+pub returns-in-Starved-clause-served : goal.returns-in-Starved-clause-served
+returns-in-Starved-clause-served g c =
+    let L = layout_in c.args.filer.now in
+    let v = view c.args.seat.now in
+    let w = view c.run.new.seat in
+    let m = c.args.message in
+    let u = view c.answer-answer-in-Starved.new.seat in
+    entered L c.args.filer.now.depot.layout.lawful m c.requires.placed c.args.moment v w
+    c.requires.seat.1.0 c.run.ensures.seat.1.0 c.in-Ok.ran.outcome
+    (node_lent L c.in-Ok.ran.grant) c.in-Ok.ensures.ran u SystemError true c.answer-answer-in-Starved.ensures.finished c.answer-answer-in-Starved.result c.answer-answer-in-Starved.ensures.answer
+
+pub returns-in-Moved-clause-ready : goal.returns-in-Moved-clause-ready
+returns-in-Moved-clause-ready g c =
+    let L = layout_in c.args.filer.now in
+    let v = view c.args.seat.now in
+    let w = view c.run.new.seat in
+    let m = c.args.message in
+    let u = view c.put_back_node.new.seat in
+    back-ready L c.args.filer.now.depot.layout.lawful m c.requires.placed c.args.moment v w
+    c.requires.seat.1.0 c.run.ensures.seat.1.0 c.in-Ok.ran.outcome
+    (node_lent L c.in-Ok.ran.grant) c.in-Ok.ensures.ran c.in-Moved.affinity c.in-Moved.is u c.put_back_node.ensures.ended (verifier_in c.args.filer.now) c.requires.ready
+
+pub returns-in-Moved-clause-served : goal.returns-in-Moved-clause-served
+returns-in-Moved-clause-served g c =
+    let L = layout_in c.args.filer.now in
+    let v = view c.args.seat.now in
+    let w = view c.run.new.seat in
+    let m = c.args.message in
+    let u = view c.put_back_node.new.seat in
+    let moved = record m { affinity = c.in-Moved.affinity } in (
+      moves-on L c.args.filer.now.depot.layout.lawful m c.requires.placed c.args.moment v w
+          c.requires.seat.1.0 c.run.ensures.seat.1.0 c.in-Ok.ran.outcome
+          (node_lent L c.in-Ok.ran.grant) c.in-Ok.ensures.ran c.in-Moved.affinity c.in-Moved.is moved refl,
+      back-entries L c.args.filer.now.depot.layout.lawful m c.requires.placed c.args.moment v w
+          c.requires.seat.1.0 c.run.ensures.seat.1.0 c.in-Ok.ran.outcome
+          (node_lent L c.in-Ok.ran.grant) c.in-Ok.ensures.ran c.in-Moved.affinity c.in-Moved.is u c.put_back_node.ensures.ended,
+    )
