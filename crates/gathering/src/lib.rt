@@ -19,4 +19,4 @@ pub use everything::gather;
 pub use left::Left;
 pub use room::Room;
 pub use splits::split_workers;
-pub use workers::{Filer, Gate, Place, Tend, TendRefusal, Tended, Worked, Worker};
+pub use workers::{Filer, Gate, Place, Tend, TendRefusal, Tended, Unwatched, Worked, Worker};

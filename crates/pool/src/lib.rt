@@ -14,6 +14,6 @@ mod tending;
 mod untold;
 mod watch;
 
-pub use gathering::{Ended, Filer, Gate, Left, Place, Room, Worker, close, gather};
+pub use gathering::{Ended, Filer, Gate, Left, Place, Room, Unwatched, Worker, close, gather};
 pub use pool::Pool;
 pub use refusal::{NotStarted, StartRefusal};

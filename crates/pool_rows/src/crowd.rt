@@ -17,18 +17,10 @@ use std::rt::Clock;
 use std::sync::Wait;
 use std::thread;
 use std::thread::Threads;
-use workers::{Filer, Gate, Place};
+use workers::{Filer, Unwatched};
 
 /// How many messages each of the two puts.
 const EACH: u32 = 1500;
-
-/// Who looks on and does nothing.
-#[derive(Clone, Copy)]
-struct Open;
-
-impl Gate for Open {
-    fn pass(&self, _place: Place) {}
-}
 
 /// Puts the message of a number. Whether it was put.
 fn put_one<R: Wait>(
@@ -152,7 +144,7 @@ where
     let Ok(opened) = open(alloc) else {
         return None;
     };
-    let running = start(rt, opened, &Open, threads)?;
+    let running = start(rt, opened, &Unwatched, threads)?;
     let one = connect(&rt, &running.filer)?;
     let other = connect(&rt, &running.filer)?;
     let (running, put) = put_both(&rt, alloc, running, one, other);

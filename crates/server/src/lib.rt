@@ -7,7 +7,6 @@ mod opening;
 mod options;
 mod running;
 mod stopping;
-mod unwatched;
 
 pub use fault::ServerFault;
 pub use options::Options;

@@ -27,6 +27,6 @@ pub use parts::WorkerParts;
 pub use service::{BatchInHand, Service};
 pub use shared::Filer;
 pub use tend::{Tend, TendRefusal, Tended};
-pub use turned::{Gate, Place, Stage, Turned};
+pub use turned::{Gate, Place, Stage, Turned, Unwatched};
 pub use worked::Worked;
 pub use worker::Worker;

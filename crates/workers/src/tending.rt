@@ -129,6 +129,7 @@ fn answer(carried: Carried) -> (BatchInHand, Result<Tended, TendRefusal>)
 }
 
 impl Worker {
+    ghost use Rattle.std.specs.Option.{is_some};
     ghost use Rattle.workers.specs.Carries.{FitsHand};
     ghost use Rattle.workers.specs.Tends.{hand_in, kept_in, Answers, IsNextTend, Tends};
     ghost use Rattle.workers.specs.Words.{layout_in, passed, seats_in, IsIn};
@@ -145,6 +146,13 @@ impl Worker {
         ensures { result ≡ is_empty_hand (hand_in self.now) }
     {
         is_empty(&self.hand)
+    }
+
+    /// Whether the worker keeps a message, for which the queue had no place.
+    pub fn keeps_message(&self) -> bool
+        ensures { result ≡ is_some (kept_in self.now) }
+    {
+        self.kept.is_some()
     }
 
     /// The tend after a turn without a message, where so many were made with an empty hand: what is

@@ -50,3 +50,11 @@ pub trait Gate {
     /// A call came to a place.
     fn pass(&self, place: Place);
 }
+
+/// What lets every call pass.
+#[derive(Clone, Copy)]
+pub struct Unwatched;
+
+impl Gate for Unwatched {
+    fn pass(&self, _place: Place) {}
+}

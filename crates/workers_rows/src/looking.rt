@@ -6,14 +6,7 @@ use crate::filer_worker::FilerWorker;
 use affinity_tree::Affinity;
 use nfs_values::VolumeNumber;
 use std::sync::{Mutex, Wait};
-use workers::{Gate, Place, Stage, Tend, TendRefusal};
-
-/// Nobody.
-pub(crate) struct Nobody;
-
-impl Gate for Nobody {
-    fn pass(&self, _place: Place) {}
-}
+use workers::{Gate, Place, Stage, Tend, TendRefusal, Unwatched};
 
 /// What a second worker met while the first had a grant.
 #[derive(Clone, Copy, Debug, PartialEq)]
@@ -41,7 +34,7 @@ impl<R: Wait> Gate for Looking<'_, '_, R> {
         let Some(second) = taken else {
             return;
         };
-        let (second, came) = second.turn(self.rt, &Nobody, at(9));
+        let (second, came) = second.turn(self.rt, &Unwatched, at(9));
         let cull = Tend::Cull {
             volume: VolumeNumber(0),
         };

@@ -5,7 +5,7 @@ ghost use Rattle.workers.specs.Running.{IsRun};
 use crate::calls::{NOTHING, at, handle, in_root, record_of};
 use crate::came::Came;
 use crate::filer_worker::FilerWorker;
-use crate::looking::{Looking, Met, Nobody};
+use crate::looking::{Looking, Met};
 use crate::opening::opened;
 use crate::reader::Reader;
 use crate::starting::{Started, start_workers};
@@ -16,7 +16,7 @@ use scheduler::Origin;
 use std::fmt::Debug;
 use std::process::Abort;
 use std::sync::{Mutex, Wait};
-use workers::{Filer, Tend};
+use workers::{Filer, Tend, Unwatched};
 
 /// Looks whether this is what is wanted.
 fn same<T: PartialEq + Debug>(rt: &impl Abort, found: &T, wanted: &T) {
@@ -54,7 +54,7 @@ fn served<'a, R: Abort + AllocGlobal + Wait>(
     requires { IsRun call }
 {
     let waits = reader.ask(rt, rt.alloc(), origin, call);
-    let (worker, came) = worker.turn(rt, &Nobody, moment);
+    let (worker, came) = worker.turn(rt, &Unwatched, moment);
     same(rt, &waits, &true);
     same(rt, &came, &Came::Done(origin.connection, origin.xid));
     worker
@@ -75,7 +75,7 @@ fn finished_call(rt: HostRuntime) {
         handle: handle(0, 1),
     };
     let first = served(&rt, first, &mut reader, origin, at(4), call);
-    let (_first, idle) = first.turn(&rt, &Nobody, at(5));
+    let (_first, idle) = first.turn(&rt, &Unwatched, at(5));
     same(&rt, &idle, &Came::Idle);
     let shown = root_shown(0, 0o755, 0);
     let words: [&[u32]; 4] = [&[mark(112), 7], &ACCEPTED, &[0], &shown];
@@ -117,11 +117,11 @@ fn written<'a, R: Abort + AllocGlobal + Wait>(
     same(rt, &waits, &true);
     let mut worker = worker;
     for _ in 0..moves {
-        let (next, came) = worker.turn(rt, &Nobody, at(2));
+        let (next, came) = worker.turn(rt, &Unwatched, at(2));
         same(rt, &came, &Came::Moved);
         worker = next;
     }
-    let (worker, came) = worker.turn(rt, &Nobody, at(2));
+    let (worker, came) = worker.turn(rt, &Unwatched, at(2));
     same(rt, &came, &Came::Done(connection, 2));
     let results = [0, 0, 0, 4, 2, 0x0909_0909, 0x0909_0909];
     let words: [&[u32]; 3] = [&[mark(52), 2], &ACCEPTED, &results];
@@ -181,7 +181,7 @@ fn two_workers(rt: HostRuntime) {
     } = looking;
     same(&rt, &found.into_inner(), &Some(met));
     let second = second.into_inner().expect(&rt, "no worker");
-    let (_second, came) = second.turn(&rt, &Nobody, at(5));
+    let (_second, came) = second.turn(&rt, &Unwatched, at(5));
     same(&rt, &came, &Came::Done(connection, 2));
 }
 
