@@ -3,6 +3,7 @@
 ghost use Rattle.std.specs.Prelude.{◌≡◌, ◌<◌, length};
 
 use crate::bell::Bell;
+use crate::places::Places;
 use nfs_values::ConnectionNumber;
 use std::alloc::{AllocError, Global};
 
@@ -15,6 +16,8 @@ pub struct Bells {
     pub work: Bell,
     /// Rung where the queue has a place again.
     pub room: Bell,
+    /// At which calls are run.
+    pub places: Places,
     mail: Vec<Bell>,
     ghost mails: { length mail.items ≡ 64 },
 }
@@ -25,6 +28,7 @@ impl Drop for Bells {
         let Bells {
             work: _,
             room: _,
+            places: _,
             mail: _,
         } = self;
     }
@@ -40,6 +44,7 @@ impl Bells {
         Ok(Bells {
             work: Bell::new(),
             room: Bell::new(),
+            places: Places::new(),
             mail,
         })
     }

@@ -1,8 +1,17 @@
-//! Bells that threads sleep on until there is something for them.
+//! What threads that put calls and threads that run them tell each other: bells to sleep on, and
+//! places at which calls are run.
 #![tactic(auto)]
 
 mod bell;
 mod bells;
+mod moments;
+mod patience;
+mod places;
+mod untold;
 
 pub use bell::Bell;
 pub use bells::Bells;
+pub use moments::time_now;
+pub use patience::Patience;
+pub use places::Places;
+pub use untold::Untold;

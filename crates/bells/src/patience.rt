@@ -12,19 +12,19 @@ const FIRST_PAUSES: u32 = 4;
 
 /// How often in a row a thread was refused what another has.
 #[derive(Clone, Copy)]
-pub(crate) struct Patience {
+pub struct Patience {
     refusals: u32,
 }
 
 impl Patience {
     /// It wasn't refused yet.
-    pub(crate) fn new() -> Patience {
+    pub fn new() -> Patience {
         Patience { refusals: 0 }
     }
 
     /// Waits after a refusal: a few pauses, which double, and later so that the processor is given
     /// away, since who has what is wanted may not be running.
-    pub(crate) fn wait<R: Clock>(&mut self, rt: &R) {
+    pub fn wait<R: Clock>(&mut self, rt: &R) {
         if self.refusals < MOST_SPINS {
             for _ in 0..FIRST_PAUSES << self.refusals {
                 spin_loop();

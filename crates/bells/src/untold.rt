@@ -1,6 +1,6 @@
 //! Replies of which their writer wasn't told.
 
-use bells::Bells;
+use crate::bells::Bells;
 use nfs_values::ConnectionNumber;
 use std::mem;
 
@@ -9,7 +9,7 @@ const MOST: u32 = 16;
 
 /// The replies that a worker put and of which it didn't tell who writes them. Can't be dropped: who
 /// has it tells.
-pub(crate) enum Untold {
+pub enum Untold {
     /// All were told.
     Nothing,
     /// So many, all of one connection.
@@ -49,14 +49,14 @@ impl Untold {
     }
 
     /// A reply was put.
-    pub(crate) fn add(&mut self, bells: &Bells, connection: ConnectionNumber) {
+    pub fn add(&mut self, bells: &Bells, connection: ConnectionNumber) {
         let more = mem::replace(self, Untold::Nothing).and_one(bells, connection);
         let nothing = mem::replace(self, more);
         nothing.tell(bells);
     }
 
     /// Rings for who writes them.
-    pub(crate) fn tell(self, bells: &Bells) {
+    pub fn tell(self, bells: &Bells) {
         match self {
             Untold::Nothing => {}
             Untold::Replies {
