@@ -5,8 +5,6 @@ use Rattle.nfs_model.specs.Events.Refusals.{is_empty_hand}
 use Rattle.pool.specs.declared.tending.Found.{Found}
 use Rattle.pool.specs.declared.tending.Found.TheVariants as found
 use Rattle.pool.specs.declared.tending.Tending.{Tending}
-use Rattle.pool.specs.declared.untold.Untold.{Untold}
-use Rattle.pool.specs.declared.untold.Untold.TheVariants as replies
 use Rattle.gathering.specs.Tend.{Tend}
 use Rattle.gathering.specs.Tended.{Tended}
 use Rattle.gathering.specs.TendRefusal.{TendRefusal}
@@ -53,7 +51,3 @@ all_tends layout = length layout.volumes * 32
 -- there was no memory to put it down
 abbrev pub may_sleep : Layout → Worker → Tending → Bool
 may_sleep layout w t = nat_le (all_tends layout) t.unchanged && (t.starved || is_empty_hand (hand_in w))
-
--- there is no reply of which its writer wasn't told
-abbrev pub HasTold : Untold → Type 0
-HasTold untold = untold ≡ replies.Nothing

@@ -3,15 +3,14 @@
 
 mod collecting;
 mod moments;
-mod patience;
 mod pool;
 mod refusal;
 mod round;
 mod serving;
+mod sleeping;
 mod starting;
 mod task;
 mod tending;
-mod untold;
 mod watch;
 
 pub use gathering::{Ended, Filer, Gate, Left, Place, Room, Unwatched, Worker, close, gather};

@@ -1,13 +1,13 @@
 //! A round of a worker's thread.
 
+ghost use Rattle.bells.specs.Told.{HasTold};
 ghost use Rattle.pool.specs.Heirs.{IsHeir};
-ghost use Rattle.pool.specs.Rests.{HasTold};
 ghost use Rattle.gathering.specs.Words.{IsIn};
 
-use crate::patience::Patience;
-use crate::tending::{Found, sleep, tend};
+use crate::sleeping::{Seen, sleep};
+use crate::tending::{Found, tend};
 use crate::watch::Watch;
-use bells::Bells;
+use bells::{Bells, Patience};
 use gathering::{Filer, Gate, Worked, Worker};
 use std::hint::spin_loop;
 use std::rt::Clock;
@@ -37,7 +37,7 @@ fn rest<R: Wait + Clock>(
     rt: &R,
     filer: &Filer,
     bells: &Bells,
-    seen: u64,
+    seen: Seen,
     worker: Worker,
     watch: &mut Watch,
 ) -> Worker
@@ -72,7 +72,7 @@ pub(crate) fn round<R: Wait + Clock, G: Gate>(
     ensures inside { IsIn filer.now result }
     ensures heir { IsHeir worker result }
 {
-    let seen = bells.work.rings();
+    let seen = Seen::now(bells);
     let moment = watch.time(rt);
     let (worker, worked) = worker.worker_turn(filer, rt, gate, moment);
     match worked {

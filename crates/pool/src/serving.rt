@@ -10,7 +10,8 @@ use gathering::{Filer, Gate, Worker};
 use std::rt::Clock;
 use std::sync::Wait;
 
-/// Runs a worker, round for round, until the workers' bell is stopped.
+/// Runs a worker, round for round, until the workers' bell is stopped. While its thread is awake it
+/// has one of the places at which calls are run, from its start on.
 pub(crate) fn serve<R: Wait + Clock, G: Gate>(
     rt: &R,
     filer: &Filer,

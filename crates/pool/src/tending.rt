@@ -1,15 +1,11 @@
 //! What a worker does without a message, and when its thread may sleep.
 
-ghost use Rattle.std.specs.Prelude.{◌≡◌, true};
+ghost use Rattle.std.specs.Prelude.{◌≡◌};
 ghost use Rattle.pool.specs.Heirs.{IsHeir};
-ghost use Rattle.pool.specs.Rests.{found_by, may_sleep, HasTended, HasTold};
+ghost use Rattle.pool.specs.Rests.{found_by, may_sleep, HasTended};
 ghost use Rattle.gathering.specs.Words.{layout_in, IsIn};
 
-use crate::watch::Watch;
-use bells::Bells;
 use gathering::{Filer, Tend, TendRefusal, Tended, Worker};
-use std::sync::Wait;
-use std::time::Duration;
 
 /// The tends that look at all there is of one volume: at each of its 16 ranges a fetch, with a
 /// cull before it.
@@ -133,24 +129,4 @@ pub(crate) fn tend(filer: &Filer, worker: Worker, tending: &mut Tending) -> (Wor
     let found = found_by(answer);
     tending.count(empty, found);
     (worker, found)
-}
-
-/// Sleeps until the workers' bell was rung after so many rings, or stopped; but for a millisecond
-/// only where a call was finished since tends were last begun anew.
-pub(crate) fn sleep<R: Wait>(
-    rt: &R,
-    filer: &Filer,
-    bells: &Bells,
-    seen: u64,
-    worker: &Worker,
-    watch: &Watch,
-)
-    requires tended { may_sleep (layout_in filer.now) worker.now watch.now.tending ≡ true }
-    requires told { HasTold watch.now.untold }
-{
-    if watch.is_untended {
-        bells.work.doze_past(rt, seen, Duration::from_millis(1));
-    } else {
-        bells.work.wait_past(rt, seen);
-    }
 }

@@ -2,11 +2,9 @@
 
 ghost use Rattle.std.specs.Prelude.{◌<◌};
 
-use crate::moments::{share_millisecond, time_now};
-use crate::patience::Patience;
+use crate::moments::share_millisecond;
 use crate::tending::Tending;
-use crate::untold::Untold;
-use bells::Bells;
+use bells::{Bells, Patience, Untold, time_now};
 use nfs_values::{ConnectionNumber, Moment};
 use std::mem;
 use std::rt::Clock;
@@ -20,7 +18,7 @@ pub(crate) struct Watch {
     pub(crate) patience: Patience,
     pub(crate) tending: Tending,
     pub(crate) untold: Untold,
-    /// Whether a call was finished since tends were last begun anew.
+    /// Whether a call may have been finished since tends were last begun anew.
     pub(crate) is_untended: bool,
     /// When that was.
     begun: Moment,
@@ -32,7 +30,7 @@ pub(crate) struct Watch {
 
 impl Watch {
     ghost use Rattle.std.specs.Prelude.{◌≡◌};
-    ghost use Rattle.pool.specs.Rests.{HasTold};
+    ghost use Rattle.bells.specs.Told.{HasTold};
 
     /// Before the first round.
     pub(crate) fn new() -> Watch {
@@ -62,6 +60,11 @@ impl Watch {
         self.patience = Patience::new();
         self.is_untended = true;
         self.looks = 0;
+    }
+
+    /// It was woken: others may have left something to tend.
+    pub(crate) fn wake(&mut self) {
+        self.is_untended = true;
     }
 
     /// Whether to look for a message once more before anything else.
