@@ -1,4 +1,6 @@
+pub mod Loans
 pub mod Admitted
+pub mod Sinks
 pub mod Written
 pub mod Taken
 pub mod Numbers
