@@ -7,6 +7,7 @@ use connections::{Connection, Message};
 use shared_waiting::Pass;
 
 /// 64 places for connections. The pass of each place waits for a connection or is lent to one.
+#[derive(Drop)]
 pub struct Slots {
     pub(crate) idle: Vec<Pass<Message, Layout>>,
     pub(crate) served: Vec<Connection>,
@@ -17,15 +18,4 @@ pub struct Slots {
     ghost idle_room: { 64 ≤ vec_capacity idle },
     ghost served_room: { 64 ≤ vec_capacity served },
     ghost others_room: { 64 ≤ vec_capacity others },
-}
-
-// By hand, so that crates above have no proof of the drop of each of its parts.
-impl Drop for Slots {
-    fn drop(self) {
-        let Slots {
-            idle: _,
-            served: _,
-            others: _,
-        } = self;
-    }
 }
