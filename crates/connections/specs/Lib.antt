@@ -8,3 +8,5 @@ pub mod Opened
 pub use Rattle.workers.specs.Balance
 pub use Rattle.workers.specs.declared.shared.Filer
 pub use Rattle.workers.specs.declared.message.Message
+pub use Rattle.workers.specs.Words
+pub use Rattle.workers.specs.declared.worker.Worker
