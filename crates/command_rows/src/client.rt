@@ -1,10 +1,9 @@
-//! Clients of a server.
+//! Clients of a server. What goes wrong with one ends the test.
 
 use crate::texts::bytes_of;
-use std::alloc::Global;
-use std::io;
 use std::io::{ErrorKind, Read, Write};
 use std::net::{Net, Shutdown, SocketAddr, TcpListener, TcpStream};
+use std::process::Abort;
 use std::time::Duration;
 
 /// How many seconds a reply may take.
@@ -27,79 +26,105 @@ pub(crate) struct Client {
 
 impl Client {
     /// Connects to a server.
-    pub(crate) fn connect<R>(rt: &R, address: SocketAddr) -> io::Result<Client>
+    pub(crate) fn connect<R>(rt: &R, address: SocketAddr) -> Client
     where
-        R: Net<Listener = TcpListener, Stream = TcpStream>,
+        R: Abort + Net<Listener = TcpListener, Stream = TcpStream>,
     {
-        let stream = TcpStream::connect(rt, address)?;
-        stream.set_read_timeout(Some(Duration::from_secs(PATIENCE)))?;
-        stream.set_write_timeout(Some(Duration::from_secs(PAUSE)))?;
-        Ok(Client { stream })
+        let stream = TcpStream::connect(rt, address).expect(rt, "a connection");
+        let reads = stream.set_read_timeout(Some(Duration::from_secs(PATIENCE)));
+        reads.expect(rt, "a limit of reads");
+        let writes = stream.set_write_timeout(Some(Duration::from_secs(PAUSE)));
+        writes.expect(rt, "a limit of writes");
+        Client { stream }
     }
 
     /// Sends words.
-    pub(crate) fn send(&mut self, alloc: Global, words: &[u32]) -> io::Result<()> {
-        self.stream.write_all(&bytes_of(alloc, words)?)
+    pub(crate) fn send(&mut self, rt: &(impl Abort + AllocGlobal), words: &[u32]) {
+        let bytes = bytes_of(rt, words);
+        let sent = self.stream.write_all(&bytes);
+        sent.expect(rt, "a write");
     }
 
-    /// Sends words so many times over.
+    /// Sends words so many times over. Whether a write was held up.
     pub(crate) fn send_many(
         &mut self,
-        alloc: Global,
+        rt: &(impl Abort + AllocGlobal),
         words: &[u32],
         count: usize,
-    ) -> io::Result<()> {
-        let bytes = bytes_of(alloc, words)?.repeat(alloc, count)?;
-        self.stream.write_all(&bytes)
+    ) -> bool {
+        let repeated = bytes_of(rt, words).repeat(rt.alloc(), count);
+        let bytes = repeated.expect(rt, "no memory");
+        match self.stream.write_all(&bytes) {
+            Ok(()) => false,
+            Err(error) => {
+                assert!(rt; error.kind() == ErrorKind::WouldBlock);
+                true
+            }
+        }
     }
 
     /// Sends words again and again, at most 44 MB of NULL calls. Whether the server takes no more.
-    pub(crate) fn flood(&mut self, alloc: Global, words: &[u32]) -> io::Result<bool> {
+    pub(crate) fn flood(&mut self, rt: &(impl Abort + AllocGlobal), words: &[u32]) -> bool {
         for _ in 0..MOST_WRITES {
-            match self.send_many(alloc, words, MANY) {
-                Ok(()) => {}
-                Err(error) if error.kind() == ErrorKind::WouldBlock => return Ok(true),
-                Err(error) => return Err(error),
+            if self.send_many(rt, words, MANY) {
+                return true;
             }
         }
-        Ok(false)
+        false
     }
 
     /// Sends nothing more.
-    pub(crate) fn end_sending(&self) -> io::Result<()> {
-        self.stream.shutdown(Shutdown::Write)
+    pub(crate) fn end_sending(&self, rt: &impl Abort) {
+        self.stream
+            .shutdown(Shutdown::Write)
+            .expect(rt, "an end of the output");
     }
 
     /// The next word that comes.
-    fn next_word(&mut self) -> io::Result<u32> {
+    fn next_word(&mut self, rt: &impl Abort) -> u32 {
         let mut bytes = [0; 4];
-        self.stream.read_exact(&mut bytes)?;
-        Ok(u32::from_be_bytes(bytes))
+        self.stream.read_exact(&mut bytes).expect(rt, "a word");
+        u32::from_be_bytes(bytes)
     }
 
     /// The next record that comes, with its mark.
-    pub(crate) fn next_record(&mut self, alloc: Global) -> io::Result<Vec<u32>> {
-        let mark = self.next_word()?;
-        let mut words = Vec::new(alloc);
-        words.push(mark)?;
+    pub(crate) fn next_record(&mut self, rt: &(impl Abort + AllocGlobal)) -> Vec<u32> {
+        let mark = self.next_word(rt);
+        let mut words = Vec::new(rt.alloc());
+        words.push(mark).expect(rt, "no memory");
         for _ in 0..(mark & 0xffff) / 4 {
-            words.push(self.next_word()?)?;
+            let word = self.next_word(rt);
+            words.push(word).expect(rt, "no memory");
         }
-        Ok(words)
+        words
     }
 
-    /// The next two records that come, that of this xid first.
-    pub(crate) fn next_two(&mut self, alloc: Global, xid: u32) -> io::Result<(Vec<u32>, Vec<u32>)> {
-        let first = self.next_record(alloc)?;
-        let second = self.next_record(alloc)?;
-        if first.get(1) == Some(&xid) {
-            return Ok((first, second));
-        }
-        Ok((second, first))
+    /// Looks whether the next record that comes is this.
+    pub(crate) fn hears(&mut self, rt: &(impl Abort + AllocGlobal), wanted: &[u32]) {
+        let found = self.next_record(rt);
+        assert_eq!(rt; found.as_slice(), wanted);
     }
 
-    /// Whether the server ended the connection, and nothing more came on it.
-    pub(crate) fn is_at_end(&mut self) -> io::Result<bool> {
-        Ok(self.stream.read(&mut [0])? == 0)
+    /// Looks whether the next two records that come are these, in whatever order.
+    pub(crate) fn hears_both(
+        &mut self,
+        rt: &(impl Abort + AllocGlobal),
+        wanted: &[u32],
+        other: &[u32],
+    ) {
+        let first = self.next_record(rt);
+        if first.get(1) == wanted.get(1) {
+            assert_eq!(rt; first.as_slice(), wanted);
+            self.hears(rt, other);
+        } else {
+            assert_eq!(rt; first.as_slice(), other);
+            self.hears(rt, wanted);
+        }
+    }
+
+    /// Looks whether the server ended the connection, and nothing more came on it.
+    pub(crate) fn is_ended(&mut self, rt: &impl Abort) {
+        let size = self.stream.read(&mut [0]).expect(rt, "a read");
+        assert!(rt; size == 0);
     }
 }

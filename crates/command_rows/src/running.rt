@@ -1,13 +1,14 @@
 //! A server that runs beside a test, and what it prints.
 
 use filer_commands::program;
-use std::io;
-use std::io::{BufRead, BufReader, ErrorKind, Read};
+use std::io::{BufRead, BufReader, Read};
 use std::net::{Net, SocketAddr, TcpListener, TcpStream};
 use std::os::unix::net::UnixStream;
+use std::process::Abort;
 use std::rt::{Clock, Files};
 use std::sync::Wait;
-use std::thread::Threads;
+use std::thread;
+use std::thread::{JoinHandle, Threads};
 use std::time::Duration;
 
 /// How many seconds a line of a server's may take.
@@ -15,7 +16,7 @@ const PATIENCE: u64 = 30;
 
 /// Runs a server of two volumes and two workers at a port that the system picks, for so many
 /// connections. Its status.
-pub(crate) fn serve<R>(rt: R, connections: &str, mut out: UnixStream) -> u8
+fn serve<R>(rt: R, connections: &str, mut out: UnixStream) -> u8
 where
     R: Files + AllocGlobal + Threads + Wait + Clock,
     R: Net<Listener = TcpListener, Stream = TcpStream> + Copy + Drop + Send + 'static,
@@ -43,29 +44,42 @@ pub(crate) struct Printed {
 
 impl Printed {
     /// What is printed on the socket that comes with it.
-    pub(crate) fn new<R: AllocGlobal + Net>(rt: &R) -> io::Result<(Printed, UnixStream)> {
-        let (ours, theirs) = UnixStream::pair(rt)?;
-        ours.set_read_timeout(Some(Duration::from_secs(PATIENCE)))?;
-        let reader = BufReader::new(rt.alloc(), ours)?;
-        Ok((Printed { reader }, theirs))
+    pub(crate) fn new<R: Abort + AllocGlobal + Net>(rt: &R) -> (Printed, UnixStream) {
+        let (ours, theirs) = UnixStream::pair(rt).expect(rt, "a pair of sockets");
+        let reads = ours.set_read_timeout(Some(Duration::from_secs(PATIENCE)));
+        reads.expect(rt, "a limit of reads");
+        let reader = BufReader::new(rt.alloc(), ours).expect(rt, "no memory");
+        (Printed { reader }, theirs)
     }
 
     /// Where the server listens, as its first line says.
-    pub(crate) fn address<R: AllocGlobal>(&mut self, rt: &R) -> io::Result<SocketAddr> {
+    pub(crate) fn address<R: Abort + AllocGlobal>(&mut self, rt: &R) -> SocketAddr {
         let mut line = String::new(rt.alloc());
-        self.reader.read_line(&mut line)?;
+        self.reader.read_line(&mut line).expect(rt, "a line");
         let told = line.strip_prefix("listening ");
         let address = told.and_then(|rest| rest.strip_suffix("\n"));
-        match address.and_then(|text| text.parse().ok()) {
-            Some(address) => Ok(address),
-            None => Err(io::Error::from(ErrorKind::InvalidData)),
-        }
+        let parsed = address.and_then(|text| text.parse().ok());
+        parsed.expect(rt, "an address")
     }
 
     /// What else is printed, up to the server's end.
-    pub(crate) fn rest<R: AllocGlobal>(mut self, rt: &R) -> io::Result<String> {
+    pub(crate) fn rest<R: Abort + AllocGlobal>(mut self, rt: &R) -> String {
         let mut rest = String::new(rt.alloc());
-        self.reader.read_to_string(&mut rest)?;
-        Ok(rest)
+        self.reader.read_to_string(&mut rest).expect(rt, "an end");
+        rest
     }
+}
+
+/// A server of so many connections, and what it prints.
+pub(crate) fn start(rt: HostRuntime, connections: &'static str) -> (Printed, JoinHandle<u8>) {
+    let (printed, out) = Printed::new(&rt);
+    let started = thread::spawn(&rt, move || serve(rt, connections, out));
+    (printed, started.ok().expect(&rt, "a thread"))
+}
+
+/// What a server prints before it ends, which it has to do well.
+pub(crate) fn end(rt: &HostRuntime, printed: Printed, server: JoinHandle<u8>) -> String {
+    let rest = printed.rest(rt);
+    assert!(rt; server.join(rt) == 0);
+    rest
 }

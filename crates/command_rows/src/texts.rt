@@ -1,8 +1,7 @@
 //! Records with their marks, as words of four bytes: calls and replies typed from RFC 5531, and
 //! from RFC 1813.
 
-use std::alloc::Global;
-use std::io;
+use std::process::Abort;
 
 /// A NULL call of NFS version 3, xid 1.
 pub(crate) const NULL: [u32; 11] = [0x80000028, 1, 0, 2, 100_003, 3, 0, 0, 0, 0, 0];
@@ -45,10 +44,11 @@ pub(crate) const TOO_LONG: [u32; 1] = [0x80020001];
 pub(crate) const NO_CALL: [u32; 3] = [0x80000008, 6, 1];
 
 /// Words as bytes, the highest byte first.
-pub(crate) fn bytes_of(alloc: Global, words: &[u32]) -> io::Result<Vec<u8>> {
-    let mut bytes = Vec::new(alloc);
+pub(crate) fn bytes_of(rt: &(impl Abort + AllocGlobal), words: &[u32]) -> Vec<u8> {
+    let mut bytes = Vec::new(rt.alloc());
     for word in words {
-        bytes.extend_from_slice(&word.to_be_bytes())?;
+        let added = bytes.extend_from_slice(&word.to_be_bytes());
+        added.expect(rt, "no memory");
     }
-    Ok(bytes)
+    bytes
 }

@@ -12,15 +12,22 @@ use Rattle.bells.proofs.bell.Bell.TheSendSync as bell
 use Rattle.nfs_values.proofs.number.ConnectionNumber.TheSendSync as number
 use Rattle.shared_waiting.proofs.pass.Pass.TheSendSync as pass
 use Rattle.crossings.proofs.Bells.{bells-send, bells-sync}
-use Rattle.workers.proofs.Crossing.{message-send, filer-send, filer-sync}
+use Rattle.workers.proofs.Crossing.{message-send, worker-send, filer-send, filer-sync}
 use Rattle.connections.proofs.line.Line.TheSendSync as line
 use Rattle.connections.specs.contracts.lane.Lane as Lane
+use Rattle.connections.specs.contracts.loan.Loan as Loan
 use Rattle.connections.specs.contracts.shared.Shared as Shared
 use Rattle.connections.specs.contracts.tasks.Reading as Reading
 use Rattle.connections.specs.contracts.tasks.Writing as Writing
 
+pub loan-send : IsSend Loan.the_row
+loan-send = declared_send Loan.the_type (
+  search (pass.the_send, message-send, sendable) depth 20,
+  (search (worker-send, crosses, sendable) depth 20, tt),
+)
+
 pub lane-send : IsSend Lane.the_row
-lane-send = declared_send Lane.the_type (search (number.the_send, sendable) depth 20, (search (pass.the_send, message-send, sendable) depth 20, tt))
+lane-send = declared_send Lane.the_type (search (number.the_send, sendable) depth 20, (loan-send, tt))
 
 pub shared-send : IsSend Shared.the_row
 shared-send = declared_send Shared.the_type (

@@ -12,7 +12,8 @@ use Rattle.workers.specs.Messages.{IsPlaced, Fits}
 use Rattle.workers.specs.Words.{layout_known}
 use Rattle.workers.specs.declared.message.Message.{Message}
 use Rattle.workers.specs.declared.shared.Filer.{Filer}
-use Rattle.connections.specs.Admitted.{HasAdmitted, IsHandedBack, IsPassFor}
+use Rattle.connections.specs.Admitted.{HasAdmitted}
+use Rattle.connections.specs.Loans.{IsHandedBack, IsPassFor}
 use Rattle.connections.specs.declared.lane.Lane.{Lane}
 
 -- what is placed in a layout fits a queue of that layout
@@ -27,10 +28,3 @@ fits-by layout v m known placed = by v.key known
 pub handed-back-for : (filer : Filer) (p q : Pass Message Layout) → IsPassFor filer p → IsHandedBack p q → IsPassFor filer q
 handed-back-for filer p q f back =
     record { of = back.of filer.waiting f.of; layout = ap (λ (key : Option Layout). option_map layout_of key) back.share.2 ∙ f.layout }
-
--- and so is a lane's, after calls were admitted
-pub admitted-for : (filer : Filer) (first l l' last : Lane) (xs : List Arrival) → IsPassFor filer first.pass → l ≡ first → HasAdmitted l xs l'
-    → last ≡ l' → IsPassFor filer last.pass
-admitted-for filer first l l' last xs f e admitted e' =
-    let at = subst (λ (x : Lane). IsPassFor filer x.pass) (sym e) f in
-    subst (λ (x : Lane). IsPassFor filer x.pass) (sym e') (handed-back-for filer l.pass l'.pass at admitted.pass)

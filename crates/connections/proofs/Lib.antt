@@ -1,3 +1,5 @@
 mod Fitting
 mod Written
 mod Crossing
+mod Inside
+mod Returned

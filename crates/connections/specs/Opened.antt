@@ -1,9 +1,13 @@
 -- Connections that are served.
-use Rattle.affinity_tree.specs.declared.layout.Layout.{Layout}
-use Rattle.shared_waiting.specs.declared.pass.Pass.{Pass}
-use Rattle.workers.specs.declared.message.Message.{Message}
+use Rattle.std.specs.Arc.{arc_value}
+use Rattle.workers.specs.declared.shared.Filer.{Filer}
 use Rattle.connections.specs.declared.connection.Connection.{Connection}
+use Rattle.connections.specs.declared.loan.Loan.{Loan}
 
--- the pass that a connection was given, as it was then
-abbrev pub lent_to : Connection → Pass Message Layout
-lent_to c = c.reader.promise.pass.value
+-- what a connection was lent, as it was then
+abbrev pub lent_to : Connection → Loan
+lent_to c = c.reader.promise.loan.value
+
+-- the filer that lent it
+abbrev pub lender_of : Connection → Filer
+lender_of c = arc_value c.reader.promise.filer.value

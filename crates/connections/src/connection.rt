@@ -1,32 +1,33 @@
 //! A connection that is served.
 
-ghost use Rattle.connections.specs.Admitted.{IsHandedBack};
-ghost use Rattle.connections.specs.Opened.{lent_to};
+ghost use Rattle.connections.specs.Loans.{IsReturned};
+ghost use Rattle.connections.specs.Opened.{lender_of, lent_to};
 
 use crate::line::Line;
-use affinity_tree::Layout;
-use shared_waiting::Pass;
+use crate::loan::Loan;
 use std::snapshot::Snapshot;
 use std::sync::Arc;
 use std::thread::{JoinHandle, Promise, PromisedHandle, Threads};
-use workers::Message;
+use workers::Filer;
 
-/// That a thread hands a pass back.
+/// That a thread gives back what a filer lent to a connection.
 #[derive(Drop)]
 pub struct HandsBack {
-    pub pass: Snapshot<Pass<Message, Layout>>,
+    pub filer: Snapshot<Arc<Filer>>,
+    pub loan: Snapshot<Loan>,
 }
 
-impl Promise<Pass<Message, Layout>> for HandsBack {
-    ghost use Rattle.connections.specs.Admitted.{IsHandedBack};
+impl Promise<Loan> for HandsBack {
+    ghost use Rattle.std.specs.Arc.{arc_value};
+    ghost use Rattle.connections.specs.Loans.{IsReturned};
 
-    ghost kept_by = { λ promise pass. IsHandedBack promise.pass.value pass };
+    ghost kept_by = { λ p loan. IsReturned (arc_value p.filer.value) p.loan.value loan };
 }
 
 /// A connection with the two threads that read and write it.
 pub struct Connection {
     pub(crate) line: Arc<Line>,
-    pub(crate) reader: PromisedHandle<Pass<Message, Layout>, HandsBack>,
+    pub(crate) reader: PromisedHandle<Loan, HandsBack>,
     pub(crate) writer: JoinHandle<()>,
 }
 
@@ -47,17 +48,17 @@ impl Connection {
         self.line.is_over()
     }
 
-    /// Waits for the ends of both threads, and answers the pass that the connection was given.
-    pub fn join<R: Threads>(self, rt: &R) -> Pass<Message, Layout>
-        ensures { IsHandedBack (lent_to self) result }
+    /// Waits for the ends of both threads, and answers what was lent to the connection.
+    pub fn join<R: Threads>(self, rt: &R) -> Loan
+        ensures { IsReturned (lender_of self) (lent_to self) result }
     {
         let Connection {
             line: _,
             reader,
             writer,
         } = self;
-        let pass = reader.join(rt);
+        let loan = reader.join(rt);
         writer.join(rt);
-        pass
+        loan
     }
 }

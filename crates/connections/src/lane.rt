@@ -1,13 +1,11 @@
 //! What a connection's reader owns.
 
-use affinity_tree::Layout;
+use crate::loan::Loan;
 use nfs_values::ConnectionNumber;
-use shared_waiting::Pass;
-use workers::Message;
 
-/// The number of a connection, and the pass by which its calls are put into the queue.
+/// The number of a connection, and what the filer lends to it.
 #[derive(Drop)]
 pub struct Lane {
     pub connection: ConnectionNumber,
-    pub pass: Pass<Message, Layout>,
+    pub loan: Loan,
 }

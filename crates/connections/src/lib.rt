@@ -4,8 +4,11 @@
 
 mod admitting;
 mod connection;
+mod effort;
+mod helping;
 mod lane;
 mod line;
+mod loan;
 mod message;
 mod opening;
 mod outgoing;
@@ -19,10 +22,11 @@ mod writing;
 pub use connection::{Connection, HandsBack};
 pub use lane::Lane;
 pub use line::Line;
+pub use loan::Loan;
 pub use outgoing::Outgoing;
 pub use pool_sink::PoolSink;
 pub use reading::read_connection;
 pub use refusal::{Refused, ServeRefusal};
 pub use shared::Shared;
-pub use workers::{Filer, Message};
+pub use workers::{Filer, Message, Worker};
 pub use writing::write_connection;

@@ -2,25 +2,24 @@
 
 ghost use Rattle.std.specs.Prelude.{◌≡◌, IfOk, MatchResult};
 ghost use Rattle.std.specs.Arc.{arc_value};
-ghost use Rattle.connections.specs.Admitted.{IsHandedBack, IsPassFor};
-ghost use Rattle.connections.specs.Opened.{lent_to};
+ghost use Rattle.connections.specs.Loans.{IsLoanOf, IsReturned};
+ghost use Rattle.connections.specs.Opened.{lender_of, lent_to};
 
 use crate::connection::{Connection, HandsBack};
 use crate::lane::Lane;
 use crate::line::Line;
+use crate::loan::Loan;
 use crate::refusal::{Refused, ServeRefusal, refusal_of};
 use crate::shared::Shared;
 use crate::tasks::{Reading, Writing, read_on, write_on};
-use affinity_tree::Layout;
 use nfs_values::ConnectionNumber;
-use shared_waiting::Pass;
 use std::alloc::{AllocError, Global};
 use std::net::{Shutdown, TcpStream};
+use std::rt::Clock;
 use std::snapshot::Snapshot;
 use std::sync::{Arc, Wait};
 use std::thread;
 use std::thread::{PromisedHandle, Threads};
-use workers::Message;
 
 /// What the two threads of a connection have, but for its lane.
 #[derive(Drop)]
@@ -80,21 +79,24 @@ fn prepare(
 
 /// Starts the thread that reads. Where none can be started the stream is closed, and what it brought
 /// is read here.
-fn start_reader<R: Threads + Wait + Copy + Send + 'static>(
+fn start_reader<R: Threads + Wait + Clock + Copy + Send + 'static>(
     rt: R,
     reading: Reading,
     writing: &Writing,
-) -> Result<PromisedHandle<Pass<Message, Layout>, HandsBack>, Pass<Message, Layout>>
-    requires { IsPassFor (arc_value reading.shared.filer) reading.lane.pass }
-    ensures { MatchResult result (λ handle. handle.promise.pass.value ≡ reading.lane.pass)
-        (λ pass. IsHandedBack reading.lane.pass pass) }
+) -> Result<PromisedHandle<Loan, HandsBack>, Loan>
+    requires { IsLoanOf (arc_value reading.shared.filer) reading.lane.loan }
+    ensures { MatchResult result
+        (λ handle. (handle.promise.filer.value ≡ reading.shared.filer)
+        × (handle.promise.loan.value ≡ reading.lane.loan))
+        (λ loan. IsReturned (arc_value reading.shared.filer) reading.lane.loan loan) }
 {
     let promise = HandsBack {
-        pass: Snapshot::of(&reading.lane.pass),
+        filer: Snapshot::of(&reading.shared.filer),
+        loan: Snapshot::of(&reading.lane.loan),
     };
-    let run = move || -> Pass<Message, Layout>
-        requires { IsPassFor (arc_value reading.shared.filer) reading.lane.pass }
-        ensures { IsHandedBack reading.lane.pass result }
+    let run = move || -> Loan
+        requires { IsLoanOf (arc_value reading.shared.filer) reading.lane.loan }
+        ensures { IsReturned (arc_value reading.shared.filer) reading.lane.loan result }
     {
         let reading = reading;
         read_on(&rt, reading)
@@ -110,15 +112,17 @@ fn start_reader<R: Threads + Wait + Copy + Send + 'static>(
 }
 
 /// Starts the two threads of a connection. Where they can't be started both, none runs on.
-fn start<R: Threads + Wait + Copy + Send + 'static>(
+fn start<R: Threads + Wait + Clock + Copy + Send + 'static>(
     rt: R,
     alloc: Global,
     parts: Parts,
     lane: Lane,
 ) -> Result<Connection, Refused>
-    requires { IsPassFor (arc_value parts.shared.filer) lane.pass }
-    ensures { MatchResult result (λ connection. lent_to connection ≡ lane.pass)
-        (λ refused. IsHandedBack lane.pass refused.pass) }
+    requires { IsLoanOf (arc_value parts.shared.filer) lane.loan }
+    ensures { MatchResult result
+        (λ connection. (lent_to connection ≡ lane.loan)
+        × (lender_of connection ≡ arc_value parts.shared.filer))
+        (λ refused. IsReturned (arc_value parts.shared.filer) lane.loan refused.loan) }
 {
     let why = ServeRefusal::NoThread;
     let Parts {
@@ -137,7 +141,7 @@ fn start<R: Threads + Wait + Copy + Send + 'static>(
     };
     let reader = match start_reader(rt, reading, &writing) {
         Ok(reader) => reader,
-        Err(pass) => return Err(Refused { why, pass }),
+        Err(loan) => return Err(Refused { why, loan }),
     };
     let run = move || {
         let writing = writing;
@@ -152,37 +156,39 @@ fn start<R: Threads + Wait + Copy + Send + 'static>(
         Err(refused) => {
             line.close();
             (refused.value)();
-            let pass = reader.join(&rt);
-            Err(Refused { why, pass })
+            let loan = reader.join(&rt);
+            Err(Refused { why, loan })
         }
     }
 }
 
 impl Connection {
-    /// Opens a connection of a filer, and starts its two threads with a pass. Where it isn't served
-    /// the stream is closed, and the pass comes back.
-    pub fn open<R: Threads + Wait + Copy + Send + 'static>(
+    /// Opens a connection of a filer, and starts its two threads with what the filer lends to it.
+    /// Where it isn't served the stream is closed, and the loan comes back.
+    pub fn open<R: Threads + Wait + Clock + Copy + Send + 'static>(
         rt: R,
         alloc: Global,
         shared: &Shared,
         stream: TcpStream,
-        pass: Pass<Message, Layout>,
+        loan: Loan,
     ) -> Result<Connection, Refused>
-        requires { IsPassFor (arc_value shared.now.filer) pass }
-        ensures { MatchResult result (λ connection. lent_to connection ≡ pass)
-            (λ refused. IsHandedBack pass refused.pass) }
+        requires { IsLoanOf (arc_value shared.now.filer) loan }
+        ensures { MatchResult result
+            (λ connection. (lent_to connection ≡ loan)
+            × (lender_of connection ≡ arc_value shared.now.filer))
+            (λ refused. IsReturned (arc_value shared.now.filer) loan refused.loan) }
     {
         let opened = shared.filer.outboxes().lock(&rt).open();
         let connection = match opened {
             Ok(connection) => connection,
             Err(refusal) => {
                 let why = refusal_of(refusal);
-                return Err(Refused { why, pass });
+                return Err(Refused { why, loan });
             }
         };
         let started = match prepare(alloc, shared, stream, connection) {
-            Ok(parts) => start(rt, alloc, parts, Lane { connection, pass }),
-            Err(why) => Err(Refused { why, pass }),
+            Ok(parts) => start(rt, alloc, parts, Lane { connection, loan }),
+            Err(why) => Err(Refused { why, loan }),
         };
         if started.is_err() {
             shared.filer.outboxes().lock(&rt).shut(connection);

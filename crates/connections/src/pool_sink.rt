@@ -1,12 +1,12 @@
 //! Where the records of a connection go.
 
-ghost use Rattle.std.specs.Prelude.{◌≡◌, Some};
+ghost use Rattle.std.specs.Prelude.{◌≡◌, Some, IfSome};
 ghost use Rattle.shared_waiting.specs.Passes.{known, IsOf};
-ghost use Rattle.workers.specs.Words.{layout_in, layout_known};
-ghost use Rattle.connections.specs.Admitted.{HasAdmitted, IsPassFor};
-ghost use Rattle.connections.specs.Admitted.{admitted_none, admitted_more};
+ghost use Rattle.workers.specs.Words.{layout_in, layout_known, IsIn};
+ghost use Rattle.connections.specs.Loans.{IsLoanOf};
 
 use crate::admitting::admit_in_turn;
+use crate::helping::help_or_ring;
 use crate::lane::Lane;
 use crate::line::Line;
 use crate::message::with_room;
@@ -16,6 +16,7 @@ use nfs_values::{ConnectionNumber, Reply};
 use outboxes::Room;
 use std::alloc::{AllocError, Global};
 use std::mem;
+use std::rt::Clock;
 use std::sync::Wait;
 use tcp_front::RecordSink;
 use workers::{Filer, Message};
@@ -31,12 +32,13 @@ pub struct PoolSink<'a, R> {
     pub lane: Lane,
     /// How many records were given.
     records: u64,
-    /// How many calls were admitted of which no worker was told.
+    /// How many calls were admitted that nobody was asked to run.
     unannounced: usize,
     /// Whether a reply was put of which the writer wasn't told.
     has_answered: bool,
-    ghost of: { IsOf filer.now.waiting lane.pass },
-    ghost layout: { layout_known (known lane.pass) ≡ Some (layout_in filer.now) },
+    ghost of: { IsOf filer.now.waiting lane.loan.pass },
+    ghost layout: { layout_known (known lane.loan.pass) ≡ Some (layout_in filer.now) },
+    ghost inside: { ∥ IfSome lane.loan.helper (IsIn filer.now) ∥₁ },
 }
 
 impl<'a, R> PoolSink<'a, R> {
@@ -49,7 +51,7 @@ impl<'a, R> PoolSink<'a, R> {
         line: &'a Line,
         lane: Lane,
     ) -> PoolSink<'a, R>
-        requires { IsPassFor filer.now lane.pass }
+        requires { IsLoanOf filer.now lane.loan }
         ensures lane { result.lane ≡ lane }
         ensures filer { result.filer.now ≡ filer.now }
     {
@@ -73,15 +75,18 @@ impl<'a, R> PoolSink<'a, R> {
 
     /// The lane.
     pub fn into_lane(self) -> Lane
-        ensures { result ≡ self.entry.lane }
+        ensures lane { result ≡ self.entry.lane }
+        ensures inside { IfSome result.loan.helper (IsIn self.entry.filer.now) }
     {
         let PoolSink { lane, .. } = self;
         lane
     }
 }
 
-impl<'a, R: Wait> RecordSink for PoolSink<'a, R> {
-    ghost came = { λ s xs t. HasAdmitted s.lane xs t.lane };
+impl<'a, R: Wait + Clock> RecordSink for PoolSink<'a, R> {
+    ghost use Rattle.connections.specs.Sinks.{HasTaken, taken_none, taken_more};
+
+    ghost came = { HasTaken };
 
     ghost layout = { λ s. layout_in s.filer.now };
 
@@ -91,7 +96,7 @@ impl<'a, R: Wait> RecordSink for PoolSink<'a, R> {
         }
         let room = Room::new(self.alloc, message.room)?;
         let message = with_room(message, room);
-        let pass = &mut self.lane.pass;
+        let pass = &mut self.lane.loan.pass;
         match admit_in_turn(self.rt, self.filer.waiting(), self.bells, pass, message) {
             Ok(()) => {
                 self.records = self.records.saturating_add(1);
@@ -119,17 +124,19 @@ impl<'a, R: Wait> RecordSink for PoolSink<'a, R> {
     }
 
     fn wake(&mut self) {
-        self.bells
-            .work
-            .ring_for(mem::replace(&mut self.unannounced, 0));
         if self.has_answered {
             self.has_answered = false;
             self.bells.mail(self.lane.connection).ring_all();
         }
+        let calls = mem::replace(&mut self.unannounced, 0);
+        if calls > 0 {
+            let helper = &mut self.lane.loan.helper;
+            help_or_ring(self.rt, self.filer, self.bells, helper, calls);
+        }
         self.line.wait_for_writer(self.rt, self.records);
     }
 
-    ghost came_none = { λ s. admitted_none s.lane };
+    ghost came_none = { taken_none };
 
-    ghost came_more = { λ s t u xs ys f g. admitted_more s.lane t.lane u.lane xs ys f g };
+    ghost came_more = { taken_more };
 }

@@ -4,7 +4,8 @@ ghost use Rattle.std.specs.Prelude.{◌≡◌};
 ghost use Rattle.tcp_front.specs.Counts.{may_fail};
 ghost use Rattle.tcp_front.specs.Reading.{HasRead};
 ghost use Rattle.workers.specs.Words.{layout_in};
-ghost use Rattle.connections.specs.Admitted.{HasAdmitted, IsPassFor};
+ghost use Rattle.connections.specs.Admitted.{HasAdmitted};
+ghost use Rattle.connections.specs.Loans.{IsLoanOf};
 
 use crate::lane::Lane;
 use crate::line::Line;
@@ -12,15 +13,17 @@ use crate::pool_sink::PoolSink;
 use bells::Bells;
 use std::alloc::Global;
 use std::io::Read;
+use std::rt::Clock;
 use std::sync::Wait;
 use tcp_front::{Counted, ReadEnd, RecordSink, read_loop};
 use workers::Filer;
 
 /// Reads a connection to its end (`tcp_front::read_loop`): the calls of its records are put into
 /// the filer's queue, and replies that need no worker into its outbox. It sleeps while the queue
-/// is full or the peer takes no replies. Where the filer was stopped, a call that finds no place
+/// is full or the peer takes no replies. Where the lane has a helper, it runs calls after each read
+/// that brought some, while a place is free. Where the filer was stopped, a call that finds no place
 /// ends it as if memory ran out.
-pub fn read_connection<W: Wait, R: Read>(
+pub fn read_connection<W: Wait + Clock, R: Read>(
     rt: &W,
     alloc: Global,
     reader: &mut Counted<R>,
@@ -30,8 +33,8 @@ pub fn read_connection<W: Wait, R: Read>(
     lane: Lane,
 ) -> (Lane, ReadEnd)
     requires room { may_fail reader.old }
-    requires of { IsPassFor filer.now lane.pass }
-    ensures of { IsPassFor filer.now result.0.pass }
+    requires of { IsLoanOf filer.now lane.loan }
+    ensures of { IsLoanOf filer.now result.0.loan }
     ensures read { HasRead R.remaining HasAdmitted (layout_in filer.now) lane.connection.0
         reader.old lane result.1 reader.new result.0 }
 {

@@ -3,10 +3,8 @@
 ghost use Rattle.std.specs.Prelude.{◌≡◌};
 ghost use Rattle.connections.specs.Numbers.{refused_as};
 
-use affinity_tree::Layout;
+use crate::loan::Loan;
 use outboxes::OpenRefusal;
-use shared_waiting::Pass;
-use workers::Message;
 
 /// Why a connection isn't served.
 #[derive(Clone, Copy)]
@@ -32,11 +30,11 @@ impl ServeRefusal {
     }
 }
 
-/// A connection that isn't served, and the pass that was brought for it.
+/// A connection that isn't served, and the loan that was brought for it.
 #[derive(Drop)]
 pub struct Refused {
     pub why: ServeRefusal,
-    pub pass: Pass<Message, Layout>,
+    pub loan: Loan,
 }
 
 /// Why a connection isn't served that has no outbox.

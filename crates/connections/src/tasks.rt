@@ -2,21 +2,20 @@
 
 ghost use Rattle.std.specs.Prelude.{◌≡◌};
 ghost use Rattle.std.specs.Arc.{arc_value};
-ghost use Rattle.connections.specs.Admitted.{IsHandedBack, IsPassFor};
+ghost use Rattle.connections.specs.Loans.{IsLoanOf, IsReturned};
 
 use crate::lane::Lane;
 use crate::line::Line;
+use crate::loan::Loan;
 use crate::reading::read_connection;
 use crate::shared::Shared;
 use crate::writing::write_connection;
-use affinity_tree::Layout;
 use nfs_values::ConnectionNumber;
-use shared_waiting::Pass;
 use std::alloc::Global;
 use std::net::{Shutdown, TcpStream};
+use std::rt::Clock;
 use std::sync::{Arc, Wait};
 use tcp_front::Counted;
-use workers::Message;
 
 /// The most bytes of one write, but for a record that is longer.
 const WRITE_ROOM: usize = 65_536;
@@ -41,10 +40,10 @@ pub(crate) struct Writing {
     pub(crate) connection: ConnectionNumber,
 }
 
-/// Reads a connection to its end, and hands its pass back.
-pub(crate) fn read_on<R: Wait>(rt: &R, reading: Reading) -> Pass<Message, Layout>
-    requires { IsPassFor (arc_value reading.shared.filer) reading.lane.pass }
-    ensures { IsHandedBack reading.lane.pass result }
+/// Reads a connection to its end, and gives back what was lent to it.
+pub(crate) fn read_on<R: Wait + Clock>(rt: &R, reading: Reading) -> Loan
+    requires { IsLoanOf (arc_value reading.shared.filer) reading.lane.loan }
+    ensures { IsReturned (arc_value reading.shared.filer) reading.lane.loan result }
 {
     let Reading {
         alloc,
@@ -60,9 +59,9 @@ pub(crate) fn read_on<R: Wait>(rt: &R, reading: Reading) -> Pass<Message, Layout
     shared.ended.ring_all();
     let Lane {
         connection: _,
-        pass,
+        loan,
     } = lane;
-    pass
+    loan
 }
 
 /// Room for the bytes of one write: none where memory ran out, and each record is written by itself.

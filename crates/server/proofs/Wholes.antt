@@ -9,7 +9,8 @@ use Rattle.pool.specs.Shares.{picked_by, share_of, AreAll, FilerPass}
 use Rattle.pool.specs.Pools.{threads_of}
 use Rattle.pool.specs.Threads.{seats_with, share_with, ServesIn}
 use Rattle.pool.specs.declared.pool.Pool.{Pool}
-use Rattle.serving.specs.Places.{share_in, AreSlotsOf, IsReaderOf}
+use Rattle.serving.specs.Places as places
+use Rattle.serving.specs.Places.{share_in, AreSlotsOf, HasAll, IsReaderOf}
 use Rattle.serving.specs.declared.slots.Slots.{Slots}
 use Rattle.shared_waiting.specs.Balance.{left, right, part, IsWhole}
 use Rattle.shared_waiting.specs.Passes.{known, IsOf}
@@ -36,21 +37,26 @@ halves-whole v k le whole =
     sym (mul-add v.share (2 ^ (k - (h + 1))) (2 ^ (k - (h + 1)))) ∙ ap (λ n. v.share * n) (sym d)
     ∙ ap (λ n. n * 2 ^ (k - h)) whole ∙ parted k h (omega (arith, le))
 
-pub opened : (filer : Filer) (worker : Worker) (slots : Slots) (v : Passed) (second : FilerPass) → IsIn filer worker → seats_in worker ≡ 64
-    → AreSlotsOf filer slots → IsWhole v → passed worker ≡ left v → known second ≡ right v
-    → ((k : ℕ) → (known second).halvings + 63 ≤ k → share_in k slots ≡ part k (known second)) → IsOpened filer worker slots
-opened filer worker slots v second inside seats places whole l r share =
+pub opened : (filer : Filer) (first worker : Worker) (slots : Slots) (v : Passed) (second : FilerPass) (helpers : ℕ) → IsIn filer worker
+    → seats_in first ≡ 64 → helpers ≤ 64 → (places.seats_in slots ≡ helpers) × (seats_in worker + helpers ≡ seats_in first)
+    → AreSlotsOf filer slots → IsWhole v → passed first ≡ left v → known second ≡ right v
+    → ((k : ℕ) → (known second).halvings + 63 ≤ k → (passed first).halvings + helpers ≤ k
+      → share_of k worker + share_in k slots ≡ share_of k first + part k (known second))
+    → IsOpened filer worker slots
+opened filer first worker slots v second helpers inside only few seats at whole l r share =
     record {
       inside = inside;
-      seats = seats;
-      places = places;
-      level = v.halvings + 64;
+      seats = let a = seats.0 in let b = seats.1 in omega (arith, a, b, only);
+      places = at;
+      level = v.halvings + 65;
       whole = λ k le.
+          let d : (passed first).halvings ≡ v.halvings + 1 = ap (λ (w : Passed). w.halvings) l in
           let e : (known second).halvings ≡ v.halvings + 1 = ap (λ (w : Passed). w.halvings) r in
-          let a : share_of k worker ≡ part k (left v) = ap (λ (w : Passed). part k w) l in
-          let b : share_in k slots ≡ part k (right v) = share k (omega (arith, e, le)) ∙ ap (λ (w : Passed). part k w) r in
+          let a : share_of k first ≡ part k (left v) = ap (λ (w : Passed). part k w) l in
+          let b : part k (known second) ≡ part k (right v) = ap (λ (w : Passed). part k w) r in
+          let s = share k (omega (arith, e, le)) (omega (arith, d, le, few)) in
           let c = halves-whole v k (omega (arith, le)) whole in
-          omega (arith, a, b, c);
+          omega (arith, s, a, b, c);
     }
 
 -- ---- running
@@ -62,7 +68,7 @@ pub running : (filer : Filer) (worker : Worker) (slots : Slots) (pool : Pool) (c
 running filer worker slots pool count o serve seats share =
     record {
       serve = serve;
-      seats = seats ∙ o.seats;
+      seats = ap (λ n. n + places.seats_in slots) seats ∙ o.seats;
       places = o.places;
       level = o.level + ((passed worker).halvings + count);
       whole = λ k le.
@@ -71,14 +77,14 @@ running filer worker slots pool count o serve seats share =
 
 -- the places' connections come and go
 pub runs-on : (filer : Filer) (pool : Pool) (before after : Slots) → IsRunning filer pool before → AreSlotsOf filer after
-    → ((k : ℕ) → share_in k after ≡ share_in k before) → IsRunning filer pool after
-runs-on filer pool before after r places share =
+    → HasAll before after → IsRunning filer pool after
+runs-on filer pool before after r at all =
     record {
       serve = r.serve;
-      seats = r.seats;
-      places = places;
+      seats = ap (λ n. total seats_with (threads_of pool) + n) all.seats ∙ r.seats;
+      places = at;
       level = r.level;
-      whole = λ k le. ap (λ n. total (share_with k) (threads_of pool) + n) (share k) ∙ r.whole k le;
+      whole = λ k le. ap (λ n. total (share_with k) (threads_of pool) + n) (all.share k) ∙ r.whole k le;
     }
 
 -- ---- stopped
@@ -97,9 +103,15 @@ none-by filer weight (p ∷ ps) all =
 pub none-picked : (filer : Filer) (weight : Weight) (ps : List FilerPass) → All (IsReaderOf filer) ps → total (picked_by weight) ps ≡ 0
 none-picked filer weight ps all = none-by filer weight ps (recursion_from_All (IsReaderOf filer) ps all)
 
--- no pass is missing
-pub all-there : (filer : Filer) (pool : Pool) (slots : Slots) (workers : List Worker) (ps : List FilerPass) → IsRunning filer pool slots
+-- no seat is missing
+pub seats-there : (filer : Filer) (pool : Pool) (slots : Slots) (workers all : List Worker) → IsRunning filer pool slots
+    → total seats_in workers ≡ total seats_with (threads_of pool) → total seats_in all ≡ total seats_in workers + places.seats_in slots
+    → total seats_in all ≡ 64
+seats-there filer pool slots workers all r stopped parted = let a = r.seats in omega (arith, a, stopped, parted)
+
+-- and no pass
+pub all-there : (filer : Filer) (pool : Pool) (slots : Slots) (workers all : List Worker) (ps : List FilerPass) → IsRunning filer pool slots
     → ((k : ℕ) → total (share_of k) workers ≡ total (share_with k) (threads_of pool))
-    → ((k : ℕ) → total (shares.share_in k) ps ≡ share_in k slots) → AreAll workers ps
-all-there filer pool slots workers ps r first second =
-    (r.level, λ k le. let a = first k in let b = second k in let c = r.whole k le in omega (arith, a, b, c))
+    → ((k : ℕ) → total (share_of k) all + total (shares.share_in k) ps ≡ total (share_of k) workers + share_in k slots) → AreAll all ps
+all-there filer pool slots workers all ps r stopped parted =
+    (r.level, λ k le. let a = stopped k in let b = parted k in let c = r.whole k le in omega (arith, a, b, c))

@@ -7,6 +7,7 @@ use Rattle.pool.specs.Left.{Left}
 use Rattle.pool.specs.Pools.{threads_of}
 use Rattle.pool.specs.Threads.{seats_with, share_with, ServesIn}
 use Rattle.pool.specs.declared.pool.Pool.{Pool}
+use Rattle.serving.specs.Places as places
 use Rattle.serving.specs.Places.{share_in, AreSlotsOf, IsReaderOf}
 use Rattle.serving.specs.declared.slots.Slots.{Slots}
 use Rattle.pool.specs.Balance.{Weight}
@@ -14,18 +15,18 @@ use Rattle.pool.specs.Words.{seats_in, IsIn}
 use Rattle.pool.specs.Filer.{Filer}
 use Rattle.pool.specs.Worker.{Worker}
 
--- a filer's only worker has all its seats, and with the passes of its places the whole right to know its queue
+-- a filer's worker and the helpers of its places have all its seats, and with the passes of the places the whole right to know its queue
 pub record IsOpened (filer : Filer) (worker : Worker) (slots : Slots) : Type 0 where
   pub inside : IsIn filer worker
-  pub seats : seats_in worker ≡ 64
+  pub seats : seats_in worker + places.seats_in slots ≡ 64
   pub places : AreSlotsOf filer slots
   pub level : ℕ
   pub whole : (k : ℕ) → level ≤ k → share_of k worker + share_in k slots ≡ 2 ^ k
 
--- so have the threads of its workers
+-- so have the threads of its workers, and its places
 pub record IsRunning (filer : Filer) (pool : Pool) (slots : Slots) : Type 0 where
   pub serve : All (ServesIn filer) (threads_of pool)
-  pub seats : total seats_with (threads_of pool) ≡ 64
+  pub seats : total seats_with (threads_of pool) + places.seats_in slots ≡ 64
   pub places : AreSlotsOf filer slots
   pub level : ℕ
   pub whole : (k : ℕ) → level ≤ k → total (share_with k) (threads_of pool) + share_in k slots ≡ 2 ^ k

@@ -1,12 +1,13 @@
 //! A filer that is opened.
 
-ghost use Rattle.std.specs.Prelude.{IfOk, ◌≤◌};
+ghost use Rattle.std.specs.Prelude.{◌≡◌, ◌<◌, ◌≤◌, IfOk};
 ghost use Rattle.std.specs.Arc.{arc_value};
 ghost use Rattle.pool.specs.Pools.{IsVacant};
+ghost use Rattle.pool.specs.Words.{seats_in};
 ghost use Rattle.server.specs.Threads.{IsOpened};
 
 use crate::fault::ServerFault;
-use crate::options::MOST_VOLUMES;
+use crate::options::{MOST_VOLUMES, MOST_WORKERS};
 use affinity_tree::{AggregateSpec, Layout, VolumeSpec};
 use bells::{Bell, Bells};
 use pool::{Filer, Pool, Room, Worker};
@@ -55,27 +56,39 @@ pub(crate) fn verifier_now<R: Clock>(rt: &R) -> [u8; 8] {
     }
 }
 
-/// A filer of this layout with its only worker, and the passes for its connections.
+/// A filer of this layout with a worker from which so many can be split, and places for its
+/// connections, which have the other seats.
 fn open_filer(
     alloc: Global,
     layout: Layout,
     verifier: [u8; 8],
+    workers: usize,
 ) -> Result<(Arc<Filer>, Worker, Slots), AllocError>
-    ensures { IfOk result (λ made. IsOpened (arc_value made.0) made.1 made.2) }
+    requires { (0 < workers) × (workers ≤ 64) }
+    ensures opened { IfOk result (λ made. IsOpened (arc_value made.0) made.1 made.2) }
+    ensures seats { IfOk result (λ made. seats_in made.1 ≡ workers) }
 {
     let (filer, seat, pass) = Filer::new(alloc, layout, verifier)?;
     let (pass, readers) = filer.waiting().split_pass(pass);
     let worker = Worker::first(&filer, seat, pass);
-    let slots = Slots::new(alloc, &filer, readers)?;
+    let helpers = MOST_WORKERS - workers;
+    let (slots, worker) = Slots::new(alloc, &filer, readers, worker, helpers)?;
     Ok((Arc::new(alloc, filer)?, worker, slots))
 }
 
-/// What a server has before its threads run.
-pub(crate) fn open(alloc: Global, layout: Layout, verifier: [u8; 8]) -> Result<Opened, AllocError>
+/// What a server has before the threads of so many workers run.
+pub(crate) fn open(
+    alloc: Global,
+    layout: Layout,
+    verifier: [u8; 8],
+    workers: usize,
+) -> Result<Opened, AllocError>
+    requires { (0 < workers) × (workers ≤ 64) }
     ensures opened { IfOk result (λ o. IsOpened (arc_value o.shared.filer) o.worker o.slots) }
+    ensures seats { IfOk result (λ o. seats_in o.worker ≡ workers) }
     ensures vacant { IfOk result (λ o. IsVacant o.pool) }
 {
-    let (filer, worker, slots) = open_filer(alloc, layout, verifier)?;
+    let (filer, worker, slots) = open_filer(alloc, layout, verifier, workers)?;
     let bells = Arc::new(alloc, Bells::new(alloc)?)?;
     let pool = Pool::new(alloc, Arc::try_clone(&bells)?)?;
     let room = Room::new(alloc)?;

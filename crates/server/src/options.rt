@@ -8,7 +8,7 @@ use std::net::SocketAddr;
 pub(crate) const MOST_VOLUMES: usize = 8;
 
 /// The most workers.
-const MOST_WORKERS: usize = 64;
+pub(crate) const MOST_WORKERS: usize = 64;
 
 /// Where a server listens, and how many volumes (1 to 8), workers (1 to 64) and connections it has.
 #[derive(Clone, Copy, PartialEq, Eq)]

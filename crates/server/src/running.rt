@@ -1,10 +1,11 @@
 //! A server, from its start to what is left.
 
-ghost use Rattle.std.specs.Prelude.{◌≡◌, ◌≤◌, ◌<◌, ℕ, IfOk};
+ghost use Rattle.std.specs.Prelude.{◌≡◌, ◌≤◌, ◌<◌, IfOk};
 ghost use Rattle.std.specs.Arc.{arc_value};
 ghost use Rattle.pool.specs.Pools.{IsVacant};
+ghost use Rattle.pool.specs.Words.{seats_in};
 ghost use Rattle.server.specs.Threads.{HasStopped, IsOpened, IsRunning};
-ghost use Rattle.serving.specs.Places.{share_in, AreSlotsOf};
+ghost use Rattle.serving.specs.Places.{AreSlotsOf, HasAll};
 
 use crate::ending::end;
 use crate::fault::{ServerFault, of_serving, of_start};
@@ -44,6 +45,7 @@ where
     requires vacant { IsVacant opened.pool }
     requires some { 0 < workers }
     requires fit { workers ≤ 64 }
+    requires seats { workers ≤ seats_in opened.worker }
     ensures { IfOk result (λ r. IsRunning (arc_value r.shared.filer) r.pool r.slots) }
 {
     let Opened {
@@ -81,11 +83,11 @@ fn accept<R, W>(
     out: &mut W,
 ) -> Result<(), ServerFault>
 where
-    R: Threads + Wait + Copy + Send + 'static,
+    R: Threads + Wait + Clock + Copy + Send + 'static,
     W: Write,
     requires { AreSlotsOf (arc_value shared.now.filer) slots.old }
     ensures slots { AreSlotsOf (arc_value shared.now.filer) slots.new }
-    ensures share { (k : ℕ) → share_in k slots.new ≡ share_in k slots.old }
+    ensures all { HasAll slots.old slots.new }
 {
     print_address(listener, out)?;
     match serving::serve(rt, alloc, shared, listener, connections, slots) {
@@ -144,7 +146,7 @@ where
     W: Write,
 {
     let layout = layout_of(alloc, options.volumes)?;
-    let opened = open(alloc, layout, verifier_now(&rt))?;
+    let opened = open(alloc, layout, verifier_now(&rt), options.workers)?;
     let running = start(rt, opened, options.workers)?;
     let Stopped { shared, left } = run(rt, alloc, listener, options.connections, running, out)?;
     let count = left.kept.len() + left.waiting.len();

@@ -14,13 +14,14 @@ pub(crate) fn stop<R: Threads + Wait>(
     rt: &R,
     shared: &Shared,
     pool: Pool,
-    slots: Slots,
+    mut slots: Slots,
     room: Room,
 ) -> Left
     requires { IsRunning (arc_value shared.now.filer) pool slots }
     ensures { HasStopped (arc_value shared.now.filer) result }
 {
-    let passes = slots.into_passes(rt);
+    slots.wait_for_ends(rt, &shared.ended);
     let workers = pool.stop(rt);
+    let (workers, passes) = slots.into_parts(rt, workers);
     gather(&shared.filer, rt, workers, passes, room)
 }

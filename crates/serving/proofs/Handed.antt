@@ -1,5 +1,5 @@
 -- What moves from the end of one list to the end of another.
-use Rattle.std.proofs.Common.{◌≡◌, ℕ, ◌+◌, List, [], ◌∷◌, ◌++◌, Some, All, length, ap, sym, subst, arith}
+use Rattle.std.proofs.Common.{◌≡◌, ℕ, ◌+◌, List, [], ◌∷◌, ◌++◌, Some, All, length, refl, ap, sym, subst, arith}
 use Rattle.std.proofs.lemmas.List.Elements.{All-push, All-pop}
 use Rattle.depot_rule.specs.Sums.{total}
 use Rattle.depot_rule.specs.lemmas.Sums.{total-append}
@@ -14,5 +14,13 @@ pub total-pushed : {X : Type 0} → (f : X → ℕ) (xs ys : List X) (y : X) →
 total-pushed f xs ys y is = let a = ap (total f) is in let b = total-append f xs (y ∷ []) in omega (arith, a, b)
 
 -- a list without an element
+pub total-none : {X : Type 0} → (f : X → ℕ) (xs : List X) → length xs ≡ 0 → total f xs ≡ 0
+total-none f [] none = refl
+total-none f (x ∷ xs) none = absurd (omega (arith, none))
+
+pub none-left : {X : Type 0} → (xs : List X) → length xs ≡ 0 → xs ≡ []
+none-left [] none = refl
+none-left (x ∷ xs) none = absurd (omega (arith, none))
+
 pub all-none : {X : Type 0} → (P : X → Type 0) (xs : List X) → length xs ≡ 0 → All P xs
 all-none P xs none = λ k d lt. absurd (omega (arith, none, lt))

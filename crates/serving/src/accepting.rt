@@ -1,21 +1,21 @@
 //! Connections that are accepted.
 
-ghost use Rattle.std.specs.Prelude.{◌≡◌, ℕ};
 ghost use Rattle.std.specs.Arc.{arc_value};
-ghost use Rattle.serving.specs.Places.{share_in, AreSlotsOf};
+ghost use Rattle.serving.specs.Places.{AreSlotsOf, HasAll};
 
 use crate::fault::ServeFault;
 use crate::slots::Slots;
 use connections::{Connection, ServeRefusal, Shared};
 use std::alloc::Global;
 use std::net::{TcpListener, TcpStream};
+use std::rt::Clock;
 use std::sync::Wait;
 use std::thread::Threads;
 
 impl Slots {
     /// Serves a stream at a place that has no connection, where there is one. Where it can't be
     /// served it is closed.
-    pub fn open<R: Threads + Wait + Copy + Send + 'static>(
+    pub fn open<R: Threads + Wait + Clock + Copy + Send + 'static>(
         &mut self,
         rt: R,
         alloc: Global,
@@ -24,19 +24,19 @@ impl Slots {
     ) -> Result<(), ServeFault>
         requires { AreSlotsOf (arc_value shared.now.filer) self.old }
         ensures slots { AreSlotsOf (arc_value shared.now.filer) self.new }
-        ensures share { (k : ℕ) → share_in k self.new ≡ share_in k self.old }
+        ensures all { HasAll self.old self.new }
     {
-        let pass = match self.idle.pop() {
-            Some(pass) => pass,
+        let loan = match self.idle.pop() {
+            Some(loan) => loan,
             None => return Err(ServeFault::NotServed(ServeRefusal::Full)),
         };
-        match Connection::open(rt, alloc, shared, stream, pass) {
+        match Connection::open(rt, alloc, shared, stream, loan) {
             Ok(connection) => {
                 self.served.push_reserved(connection);
                 Ok(())
             }
             Err(refused) => {
-                self.idle.push_reserved(refused.pass);
+                self.idle.push_reserved(refused.loan);
                 Err(ServeFault::NotServed(refused.why))
             }
         }
@@ -45,7 +45,7 @@ impl Slots {
 
 /// Accepts so many connections, each while fewer than 64 are open, and serves them. Where one can't
 /// be accepted or served no more are. Those that are open then aren't waited for.
-pub fn serve<R: Threads + Wait + Copy + Send + 'static>(
+pub fn serve<R: Threads + Wait + Clock + Copy + Send + 'static>(
     rt: R,
     alloc: Global,
     shared: &Shared,
@@ -55,7 +55,7 @@ pub fn serve<R: Threads + Wait + Copy + Send + 'static>(
 ) -> Result<(), ServeFault>
     requires { AreSlotsOf (arc_value shared.now.filer) slots.old }
     ensures slots { AreSlotsOf (arc_value shared.now.filer) slots.new }
-    ensures share { (k : ℕ) → share_in k slots.new ≡ share_in k slots.old }
+    ensures all { HasAll slots.old slots.new }
 {
     for _ in 0..connections {
         slots.wait_for_place(&rt, &shared.ended);

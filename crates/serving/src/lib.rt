@@ -4,7 +4,10 @@
 
 mod accepting;
 mod fault;
+mod lending;
+mod parting;
 mod reaping;
+mod room;
 mod slots;
 mod splitting;
 

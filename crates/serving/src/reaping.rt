@@ -1,40 +1,39 @@
 //! Connections that have ended.
 
 ghost use Rattle.std.specs.Prelude.{◌≡◌, ◌≤◌, ◌+◌, ℕ, All, vec_len, vec_capacity};
-ghost use Rattle.depot_rule.specs.Sums.{total};
-ghost use Rattle.serving.specs.Places.{share_of, share_lent, share_in, AreSlotsOf};
-ghost use Rattle.serving.specs.Places.{IsReaderOf, IsServedFor};
 ghost use Rattle.connections.specs.Filer.{Filer};
+ghost use Rattle.connections.specs.declared.loan.Loan.{Loan};
+ghost use Rattle.depot_rule.specs.Sums.{total};
+ghost use Rattle.serving.specs.Places.{of_lent, AreSlotsOf, HasAll};
+ghost use Rattle.serving.specs.Places.{IsKept, IsPlaceOf, IsServedFor};
 
 use crate::slots::Slots;
-use affinity_tree::Layout;
 use bells::Bell;
-use connections::{Connection, Message};
-use shared_waiting::Pass;
+use connections::{Connection, Loan};
 use std::mem;
 use std::sync::Wait;
 use std::thread::Threads;
 
-/// Takes the pass of a connection back if both threads have ended, or else keeps it.
+/// Takes back what was lent to a connection if both threads have ended, or else keeps it.
 fn reap_one<R: Threads>(
     rt: &R,
     connection: Connection,
-    idle: &mut Vec<Pass<Message, Layout>>,
+    idle: &mut Vec<Loan>,
     others: &mut Vec<Connection>,
 )
     requires idle { vec_len idle.old + 1 ≤ vec_capacity idle.old }
     requires others { vec_len others.old + 1 ≤ vec_capacity others.old }
     ensures all { (filer : Filer) → IsServedFor filer connection
-        → All (IsReaderOf filer) idle.old.items → All (IsServedFor filer) others.old.items
-        → All (IsReaderOf filer) idle.new.items × All (IsServedFor filer) others.new.items }
+        → All (IsPlaceOf filer) idle.old.items → All (IsServedFor filer) others.old.items
+        → All (IsPlaceOf filer) idle.new.items × All (IsServedFor filer) others.new.items }
     ensures count { vec_len idle.new + vec_len others.new
         ≡ vec_len idle.old + vec_len others.old + 1 }
     ensures grow { (vec_len idle.old ≤ vec_len idle.new)
         × (vec_len others.old ≤ vec_len others.new) }
-    ensures share { (k : ℕ) → total (share_of k) idle.new.items
-        + total (share_lent k) others.new.items
-        ≡ share_lent k connection
-        + (total (share_of k) idle.old.items + total (share_lent k) others.old.items) }
+    ensures sum { (f : Loan → ℕ) → IsKept f
+        → total f idle.new.items + total (of_lent f) others.new.items
+        ≡ of_lent f connection
+        + (total f idle.old.items + total (of_lent f) others.old.items) }
     ensures room { (vec_capacity idle.new ≡ vec_capacity idle.old)
         × (vec_capacity others.new ≡ vec_capacity others.old) }
 {
@@ -45,25 +44,25 @@ fn reap_one<R: Threads>(
     idle.push_reserved(connection.join(rt));
 }
 
-/// Takes the passes back of all connections whose threads have ended, and keeps the others.
+/// Takes back what was lent to all connections whose threads have ended, and keeps the others.
 fn reap_all<R: Threads>(
     rt: &R,
-    idle: &mut Vec<Pass<Message, Layout>>,
+    idle: &mut Vec<Loan>,
     served: &mut Vec<Connection>,
     others: &mut Vec<Connection>,
 )
     requires idle { vec_len idle.old + vec_len served.old ≤ vec_capacity idle.old }
     requires others { vec_len others.old + vec_len served.old ≤ vec_capacity others.old }
     ensures all { (filer : Filer) → All (IsServedFor filer) served.old.items
-        → All (IsReaderOf filer) idle.old.items → All (IsServedFor filer) others.old.items
-        → All (IsReaderOf filer) idle.new.items × All (IsServedFor filer) others.new.items }
+        → All (IsPlaceOf filer) idle.old.items → All (IsServedFor filer) others.old.items
+        → All (IsPlaceOf filer) idle.new.items × All (IsServedFor filer) others.new.items }
     ensures none { vec_len served.new ≡ 0 }
     ensures count { vec_len idle.new + vec_len others.new
         ≡ vec_len idle.old + vec_len others.old + vec_len served.old }
-    ensures share { (k : ℕ) → total (share_of k) idle.new.items
-        + total (share_lent k) others.new.items
-        ≡ total (share_of k) idle.old.items + total (share_lent k) others.old.items
-        + total (share_lent k) served.old.items }
+    ensures sum { (f : Loan → ℕ) → IsKept f
+        → total f idle.new.items + total (of_lent f) others.new.items
+        ≡ total f idle.old.items + total (of_lent f) others.old.items
+        + total (of_lent f) served.old.items }
     ensures room { (vec_capacity idle.new ≡ vec_capacity idle.old)
         × (vec_capacity others.new ≡ vec_capacity others.old)
         × (vec_capacity served.new ≡ vec_capacity served.old) }
@@ -73,18 +72,18 @@ fn reap_all<R: Threads>(
     }
 }
 
-/// Waits for the ends of connections, and takes their passes back.
-fn join_all<R: Threads>(
+/// Waits for the ends of connections, and takes back what was lent to them.
+pub(crate) fn join_all<R: Threads>(
     rt: &R,
-    mut idle: Vec<Pass<Message, Layout>>,
+    mut idle: Vec<Loan>,
     mut served: Vec<Connection>,
-) -> Vec<Pass<Message, Layout>>
+) -> Vec<Loan>
     requires { vec_len idle + vec_len served ≤ vec_capacity idle }
-    ensures readers { (filer : Filer) → All (IsServedFor filer) served.items
-        → All (IsReaderOf filer) idle.items → All (IsReaderOf filer) result.items }
+    ensures places { (filer : Filer) → All (IsServedFor filer) served.items
+        → All (IsPlaceOf filer) idle.items → All (IsPlaceOf filer) result.items }
     ensures count { vec_len result ≡ vec_len idle + vec_len served }
-    ensures share { (k : ℕ) → total (share_of k) result.items
-        ≡ total (share_of k) idle.items + total (share_lent k) served.items }
+    ensures sum { (f : Loan → ℕ) → IsKept f
+        → total f result.items ≡ total f idle.items + total (of_lent f) served.items }
 {
     while let Some(connection) = served.pop() {
         idle.push_reserved(connection.join(rt));
@@ -103,10 +102,10 @@ impl Slots {
         self.idle.is_empty()
     }
 
-    /// Takes the passes back of all connections whose threads have ended.
+    /// Takes back what was lent to all connections whose threads have ended.
     pub fn reap<R: Threads>(&mut self, rt: &R)
         ensures slots { (filer : Filer) → AreSlotsOf filer self.old → AreSlotsOf filer self.new }
-        ensures share { (k : ℕ) → share_in k self.new ≡ share_in k self.old }
+        ensures all { HasAll self.old self.new }
     {
         reap_all(rt, &mut self.idle, &mut self.served, &mut self.others);
         mem::swap(&mut self.served, &mut self.others);
@@ -115,7 +114,7 @@ impl Slots {
     /// Waits until a place has no connection.
     pub fn wait_for_place<R: Threads + Wait>(&mut self, rt: &R, ended: &Bell)
         ensures slots { (filer : Filer) → AreSlotsOf filer self.old → AreSlotsOf filer self.new }
-        ensures share { (k : ℕ) → share_in k self.new ≡ share_in k self.old }
+        ensures all { HasAll self.old self.new }
     {
         for _ in rt.forever() {
             let seen = ended.rings();
@@ -130,7 +129,7 @@ impl Slots {
     /// Waits until all connections have ended.
     pub fn wait_for_ends<R: Threads + Wait>(&mut self, rt: &R, ended: &Bell)
         ensures slots { (filer : Filer) → AreSlotsOf filer self.old → AreSlotsOf filer self.new }
-        ensures share { (k : ℕ) → share_in k self.new ≡ share_in k self.old }
+        ensures all { HasAll self.old self.new }
     {
         for _ in rt.forever() {
             let seen = ended.rings();
@@ -140,19 +139,5 @@ impl Slots {
             }
             ended.wait_past(rt, seen);
         }
-    }
-
-    /// Waits for the ends of all connections, and answers the passes.
-    pub fn into_passes<R: Threads>(self, rt: &R) -> Vec<Pass<Message, Layout>>
-        ensures readers { (filer : Filer) → AreSlotsOf filer self
-            → All (IsReaderOf filer) result.items }
-        ensures share { (k : ℕ) → total (share_of k) result.items ≡ share_in k self }
-    {
-        let Slots {
-            idle,
-            served,
-            others: _,
-        } = self;
-        join_all(rt, idle, served)
     }
 }

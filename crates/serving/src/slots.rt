@@ -1,31 +1,26 @@
 //! Places for connections.
 
-ghost use Rattle.std.specs.Prelude.{◌≡◌, ◌≤◌, ◌+◌, vec_len, vec_capacity};
+ghost use Rattle.std.specs.Prelude.{◌≡◌, ◌≤◌, ◌+◌, [], vec_len, vec_capacity};
 
 use affinity_tree::Layout;
-use connections::{Connection, Message};
+use connections::{Connection, Loan, Message, Worker};
 use shared_waiting::Pass;
 
-/// 64 places for connections. The pass of each place waits for a connection or is lent to one.
+/// 64 places for connections. What the filer lends waits at its place for a connection or is lent
+/// to one. There is room for all passes and workers, to be put together without memory.
+#[derive(Drop)]
 pub struct Slots {
-    pub(crate) idle: Vec<Pass<Message, Layout>>,
+    pub(crate) idle: Vec<Loan>,
     pub(crate) served: Vec<Connection>,
     /// Room for those that go on when others are taken out.
     pub(crate) others: Vec<Connection>,
+    pub(crate) passes: Vec<Pass<Message, Layout>>,
+    pub(crate) workers: Vec<Worker>,
     ghost places: { vec_len idle + vec_len served ≡ 64 },
     ghost none: { vec_len others ≡ 0 },
+    ghost vacant: { (passes.items ≡ []) × (workers.items ≡ []) },
     ghost idle_room: { 64 ≤ vec_capacity idle },
     ghost served_room: { 64 ≤ vec_capacity served },
     ghost others_room: { 64 ≤ vec_capacity others },
-}
-
-// By hand, so that crates above have no proof of the drop of each of its parts.
-impl Drop for Slots {
-    fn drop(self) {
-        let Slots {
-            idle: _,
-            served: _,
-            others: _,
-        } = self;
-    }
+    ghost parts_room: { (64 ≤ vec_capacity passes) × (64 ≤ vec_capacity workers) },
 }

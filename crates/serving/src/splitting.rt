@@ -1,65 +1,62 @@
-//! A pass for each place.
+//! Places without a connection.
 
-ghost use Rattle.std.specs.Prelude.{◌≡◌, ◌≤◌, ◌+◌, ℕ, [], All, IfOk, vec_len, vec_capacity};
-ghost use Rattle.depot_rule.specs.Sums.{total};
+ghost use Rattle.std.specs.Prelude.{◌≡◌, ◌≤◌, ◌<◌, ◌+◌, ℕ, [], IfOk, vec_len, vec_capacity};
+ghost use Rattle.connections.specs.Words as words;
+ghost use Rattle.connections.specs.Words.{passed, IsIn};
+ghost use Rattle.serving.specs.Places.{share_by, share_in, share_with, seats_in};
+ghost use Rattle.serving.specs.Places.{AreSlotsOf, IsReaderOf};
 ghost use Rattle.shared_waiting.specs.Passes.{known};
-ghost use Rattle.serving.specs.Places.{share_of, share_in, AreSlotsOf, IsReaderOf};
 
+use crate::lending::{lend_all, split_helpers, split_passes};
+use crate::room::Room;
 use crate::slots::Slots;
 use affinity_tree::Layout;
-use connections::{Filer, Message};
+use connections::{Filer, Message, Worker};
 use shared_waiting::Pass;
 use std::alloc::{AllocError, Global};
 
 /// How many places there are.
 const PLACES: usize = 64;
 
-/// A pass cut into so many more than one, into a vector with room for them.
-fn split_passes(
-    filer: &Filer,
-    pass: Pass<Message, Layout>,
-    more: usize,
-    mut into: Vec<Pass<Message, Layout>>,
-) -> Vec<Pass<Message, Layout>>
-    requires reader { IsReaderOf filer.now pass }
-    requires none { into.items ≡ [] }
-    requires room { more + 1 ≤ vec_capacity into }
-    ensures readers { All (IsReaderOf filer.now) result.items }
-    ensures count { vec_len result ≡ more + 1 }
-    ensures room { vec_capacity result ≡ vec_capacity into }
-    ensures share { (k : ℕ) → (known pass).halvings + more ≤ k
-        → total (share_of k) result.items ≡ share_of k pass }
-{
-    let mut rest = pass;
-    for _ in 0..more {
-        let (first, second) = filer.waiting().split_pass(rest);
-        into.push_reserved(second);
-        rest = first;
-    }
-    into.push_reserved(rest);
-    into
-}
-
 impl Slots {
-    /// Places without a connection, with passes that are split from the one given.
+    /// Places without a connection, with passes that are split from the one given, and so many of
+    /// them with a worker of one seat, that is split from the worker given. What is left of that
+    /// comes back.
     pub fn new(
         alloc: Global,
         filer: &Filer,
         pass: Pass<Message, Layout>,
-    ) -> Result<Slots, AllocError>
-        requires { IsReaderOf filer.now pass }
-        ensures slots { IfOk result (AreSlotsOf filer.now) }
-        ensures share { IfOk result (λ slots. (k : ℕ) → (known pass).halvings + 63 ≤ k
-            → share_in k slots ≡ share_of k pass) }
+        worker: Worker,
+        helpers: usize,
+    ) -> Result<(Slots, Worker), AllocError>
+        requires reader { IsReaderOf filer.now pass }
+        requires inside { IsIn filer.now worker }
+        requires helpers { (helpers ≤ 64) × (helpers < words.seats_in worker) }
+        ensures slots { IfOk result (λ made. AreSlotsOf filer.now made.0) }
+        ensures inside { IfOk result (λ made. IsIn filer.now made.1) }
+        ensures seats { IfOk result (λ made. (seats_in made.0 ≡ helpers)
+            × (words.seats_in made.1 + helpers ≡ words.seats_in worker)) }
+        ensures share { IfOk result (λ made. (k : ℕ) → (known pass).halvings + 63 ≤ k
+            → (passed worker).halvings + helpers ≤ k
+            → share_with k made.1 + share_in k made.0 ≡ share_with k worker + share_by k pass) }
     {
-        let idle = Vec::with_capacity(alloc, PLACES)?;
-        let served = Vec::with_capacity(alloc, PLACES)?;
-        let others = Vec::with_capacity(alloc, PLACES)?;
-        let idle = split_passes(filer, pass, PLACES - 1, idle);
-        Ok(Slots {
+        let Room {
             idle,
             served,
             others,
-        })
+            passes,
+            workers,
+        } = Room::new(alloc)?;
+        let mut passes = split_passes(filer, pass, PLACES - 1, passes);
+        let (worker, mut workers) = split_helpers(filer, worker, helpers, workers);
+        let idle = lend_all(&mut passes, &mut workers, idle);
+        let slots = Slots {
+            idle,
+            served,
+            others,
+            passes,
+            workers,
+        };
+        Ok((slots, worker))
     }
 }

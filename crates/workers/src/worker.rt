@@ -17,6 +17,7 @@ use shared_waiting::Pass;
 /// and a message that it keeps where the queue was full. What its pass picked is, as often, what
 /// its seat finished, what its pass put and what it keeps; the batch is all that its seat's calls
 /// took and didn't give; and its seat has no open grant.
+#[derive(Drop)]
 pub struct Worker {
     pub(crate) seat: Seat<Service>,
     pub(crate) pass: Pass<Message, Layout>,
@@ -25,16 +26,4 @@ pub struct Worker {
     pub ghost balance: { IsEven (known pass) (entries_of (view seat)) kept },
     pub ghost in_hand: { AreHands job_takes job_gives (entries_of (view seat)) (batches_in hand) },
     pub ghost none_open: { HasNoGrant seat },
-}
-
-// By hand, so that crates above have no proof of the drop of each of its parts.
-impl Drop for Worker {
-    fn drop(self) {
-        let Worker {
-            seat: _,
-            pass: _,
-            hand: _,
-            kept: _,
-        } = self;
-    }
 }

@@ -14,6 +14,7 @@ use affinity_tree::Affinity;
 use nfs_values::{Call, ConnectionNumber, CreateMode, Moment, SetAttributes, VolumeNumber};
 use scheduler::Origin;
 use std::fmt::Debug;
+use std::mem;
 use std::process::Abort;
 use std::sync::{Mutex, Wait};
 use workers::{Filer, Tend, Unwatched};
@@ -66,7 +67,7 @@ fn finished_call(rt: HostRuntime) {
     let (filer, seat, pass) = opened(rt.alloc()).expect(&rt, "no memory");
     let Started {
         first,
-        second: _second,
+        second,
         mut reader,
     } = start_workers(&filer, seat, pass);
     let connection = open(&rt, &filer);
@@ -75,11 +76,13 @@ fn finished_call(rt: HostRuntime) {
         handle: handle(0, 1),
     };
     let first = served(&rt, first, &mut reader, origin, at(4), call);
-    let (_first, idle) = first.turn(&rt, &Unwatched, at(5));
+    let (first, idle) = first.turn(&rt, &Unwatched, at(5));
     same(&rt, &idle, &Came::Idle);
     let shown = root_shown(0, 0o755, 0);
     let words: [&[u32]; 4] = [&[mark(112), 7], &ACCEPTED, &[0], &shown];
     answered(&rt, &filer, connection, &words);
+    mem::forget((first, second, reader));
+    mem::forget(filer);
 }
 
 /// Creates a file in the root of volume 0, whose fileid is 2.
@@ -136,12 +139,14 @@ fn moved_message(rt: HostRuntime) {
     let (filer, seat, pass) = opened(rt.alloc()).expect(&rt, "no memory");
     let Started {
         first,
-        second: _second,
+        second,
         mut reader,
     } = start_workers(&filer, seat, pass);
     let connection = open(&rt, &filer);
     let first = created(&rt, first, &mut reader, connection);
-    let _first = written(&rt, first, &mut reader, connection, 2);
+    let first = written(&rt, first, &mut reader, connection, 2);
+    mem::forget((first, second, reader));
+    mem::forget(filer);
 }
 
 /// While a worker has the parcels of a volume's names, another is refused by the word of their
@@ -167,7 +172,7 @@ fn two_workers(rt: HostRuntime) {
         second: Mutex::new(Some(second)),
         met: Mutex::new(None),
     };
-    let (_first, came) = first.turn(&rt, &looking, at(4));
+    let (first, came) = first.turn(&rt, &looking, at(4));
     same(&rt, &came, &Came::Done(connection, 1));
     let names = Affinity::VolumeLogical(0);
     let met = Met {
@@ -181,8 +186,10 @@ fn two_workers(rt: HostRuntime) {
     } = looking;
     same(&rt, &found.into_inner(), &Some(met));
     let second = second.into_inner().expect(&rt, "no worker");
-    let (_second, came) = second.turn(&rt, &Unwatched, at(5));
+    let (second, came) = second.turn(&rt, &Unwatched, at(5));
     same(&rt, &came, &Came::Done(connection, 2));
+    mem::forget((first, second, reader));
+    mem::forget(filer);
 }
 
 /// Makes tends one after another, each of which comes to so many blocks or this refusal.
@@ -226,7 +233,7 @@ fn tends(rt: HostRuntime) {
     let (filer, seat, pass) = opened(rt.alloc()).expect(&rt, "no memory");
     let Started {
         first,
-        second: _second,
+        second,
         mut reader,
     } = start_workers(&filer, seat, pass);
     let connection = open(&rt, &filer);
@@ -257,7 +264,9 @@ fn tends(rt: HostRuntime) {
         (Tend::PutDown, Ok(1)),
         (cull(0), Ok(0)),
     ];
-    let _first = tended(&rt, first, &culling);
+    let first = tended(&rt, first, &culling);
+    mem::forget((first, second, reader));
+    mem::forget(filer);
 }
 
 /// SETATTR of a mode.
@@ -315,7 +324,7 @@ fn modes_of_roots(rt: HostRuntime) {
     let (filer, seat, pass) = opened(rt.alloc()).expect(&rt, "no memory");
     let Started {
         first,
-        second: _second,
+        second,
         mut reader,
     } = start_workers(&filer, seat, pass);
     let connection = open(&rt, &filer);
@@ -325,7 +334,7 @@ fn modes_of_roots(rt: HostRuntime) {
     }
     let origin = record_of(connection, 4);
     let call = mode_set(1, 5, 0, None);
-    let _worker = served(&rt, worker, &mut reader, origin, at(8), call);
+    let worker = served(&rt, worker, &mut reader, origin, at(8), call);
     let words: [&[u32]; 3] = [&[mark(36), 4], &ACCEPTED, &[70, 0, 0]];
     answered(&rt, &filer, connection, &words);
     let call = Call::GetAttributes {
@@ -333,4 +342,6 @@ fn modes_of_roots(rt: HostRuntime) {
     };
     let waits = reader.ask(&rt, rt.alloc(), origin, call);
     same(&rt, &waits, &false);
+    mem::forget((worker, second, reader));
+    mem::forget(filer);
 }

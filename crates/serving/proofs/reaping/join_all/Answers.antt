@@ -1,8 +1,7 @@
 use Rattle.std.proofs.Common.{arith}
-use Rattle.connections.specs.Opened.{lent_to}
-use Rattle.serving.specs.Places.{share_of, share_lent, IsReaderOf, IsServedFor}
+use Rattle.serving.specs.Places.{of_lent, IsPlaceOf, IsServedFor}
 use Rattle.serving.proofs.Handed.{all-pushed, all-popped, total-pushed}
-use Rattle.serving.proofs.Shares.{same-share, reads-on}
+use Rattle.serving.proofs.Shares.{place-of, kept-of}
 use Rattle.serving.proofs.reaping.join_all.Goals as goal
 
 pub loop-connection-preserved : goal.loop-connection-preserved
@@ -23,15 +22,15 @@ loop-connection-preserved g c =
     let n = i.count in
     record {
       room = omega (arith, a, b, l, r);
-      readers = λ filer served readers.
-          let both = i.readers filer served readers in
+      places = λ filer served places.
+          let both = i.places filer served places in
           let popped = all-popped (IsServedFor filer) all rest x was both.0 in
-          (popped.0, all-pushed (IsReaderOf filer) xs ys w is both.1 (reads-on filer (lent_to x) w popped.1 c.join.ensures));
+          (popped.0, all-pushed (IsPlaceOf filer) xs ys w is both.1 (place-of filer x w popped.1 c.join.ensures));
       count = omega (arith, a, l, n);
-      share = λ k.
-          let t = total-pushed (share_of k) xs ys w is in
-          let u = total-pushed (share_lent k) rest all x was in
-          let s = same-share k (lent_to x) w c.join.ensures in
-          let j = i.share k in
+      sum = λ f kept.
+          let t = total-pushed f xs ys w is in
+          let u = total-pushed (of_lent f) rest all x was in
+          let s = kept-of f x w kept c.join.ensures in
+          let j = i.sum f kept in
           omega (arith, t, u, s, j);
     }

@@ -1,5 +1,5 @@
 use Rattle.std.proofs.Common.{◌∙◌, arith}
-use Rattle.serving.specs.Places.{share_lent, IsServedFor}
+use Rattle.serving.specs.Places.{of_lent, IsServedFor}
 use Rattle.serving.proofs.Handed.{all-popped, total-pushed}
 use Rattle.serving.proofs.reaping.reap_all.Goals as goal
 
@@ -28,10 +28,10 @@ loop-connection-preserved g c =
           let now = c.reap_one.ensures.all filer popped.1 both.1 both.2 in
           (popped.0, now.0, now.1);
       count = omega (arith, l, n, m);
-      share = λ k.
-          let t = total-pushed (share_lent k) rest all x was in
-          let s = c.reap_one.ensures.share k in
-          let j = i.share k in
+      sum = λ f kept.
+          let t = total-pushed (of_lent f) rest all x was in
+          let s = c.reap_one.ensures.sum f kept in
+          let j = i.sum f kept in
           omega (arith, t, s, j);
       idle_same = a ∙ i.idle_same;
       others_same = b ∙ i.others_same;

@@ -2,8 +2,8 @@
 use Rattle.std.proofs.Common.{◌≡◌, ◌≤◌, ◌+◌, ℕ, All, vec_len, vec_capacity}
 use Rattle.depot_rule.specs.Sums.{total}
 use Rattle.shared_waiting.specs.Passes.{known}
-use Rattle.serving.specs.Places.{share_of, IsReaderOf}
-use Rattle.serving.proofs.splitting.split_passes.Given as goal
+use Rattle.serving.specs.Places.{share_by, IsReaderOf}
+use Rattle.serving.proofs.lending.split_passes.Given as goal
 
 abbrev pub invariant-loop : goal.invariant-loop
 invariant-loop l = record {
@@ -13,5 +13,5 @@ invariant-loop l = record {
   readers : All (IsReaderOf l.fn.filer) l.into.items;
   halvings : (known l.rest).halvings ≡ (known l.fn.pass).halvings + vec_len l.into;
   share : (k : ℕ) → (known l.fn.pass).halvings + l.fn.more ≤ k
-      → total (share_of k) l.into.items + share_of k l.rest ≡ share_of k l.fn.pass;
+      → total (share_by k) l.into.items + share_by k l.rest ≡ share_by k l.fn.pass;
 }

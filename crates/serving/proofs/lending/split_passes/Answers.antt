@@ -4,10 +4,10 @@ use Rattle.shared_waiting.specs.Passes.{known, IsOf}
 use Rattle.shared_waiting.specs.declared.pass.SharedWaiting.{SharedWaiting}
 use Rattle.connections.specs.Message.{Message}
 use Rattle.connections.specs.Balance.{Passed}
-use Rattle.serving.specs.Places.{share_of, IsReaderOf}
+use Rattle.serving.specs.Places.{share_by, IsReaderOf}
 use Rattle.serving.proofs.Handed.{all-pushed, total-pushed}
 use Rattle.serving.proofs.Shares.{halves, first-reads, second-reads}
-use Rattle.serving.proofs.splitting.split_passes.Goals as goal
+use Rattle.serving.proofs.lending.split_passes.Goals as goal
 
 pub loop-preserved : goal.loop-preserved
 loop-preserved c =
@@ -37,14 +37,14 @@ loop-preserved c =
       halvings = omega (arith, deeper, cut, len);
       share = λ k le.
           let deep : (known rest).halvings + 1 ≤ k = omega (arith, le, cut, count, below) in
-          let t = total-pushed (share_of k) was now second is in
-          let h = halves k rest first second deep l r in
+          let t = total-pushed (share_by k) was now second is in
+          let h = halves k (known rest) (known first) (known second) deep l r in
           let s = i.share k le in
           omega (arith, t, h, s);
     }
 
 pub returns-clause-share : goal.returns-clause-share
 returns-clause-share c = λ k le.
-    let t = total-pushed (share_of k) c.loop.into.items c.push_reserved-2.new.self.items c.loop.rest c.push_reserved-2.ensures.items in
+    let t = total-pushed (share_by k) c.loop.into.items c.push_reserved-2.new.self.items c.loop.rest c.push_reserved-2.ensures.items in
     let s = c.loop.invariant.share k le in
     omega (arith, t, s)

@@ -1,0 +1,95 @@
+//! What a reader keeps between the turns of one help.
+
+ghost use Rattle.std.specs.Prelude.{◌<◌};
+
+use bells::{Bells, Patience, Untold, time_now};
+use nfs_values::Moment;
+use std::mem;
+use std::rt::Clock;
+use workers::Worked;
+
+/// The most turns of one help, but for those of a message that is kept.
+const MOST_TURNS: u32 = 64;
+
+/// What a reader keeps between the turns of one help. Can't be dropped, as what it didn't tell.
+pub(crate) struct Effort {
+    patience: Patience,
+    untold: Untold,
+    turns: u32,
+    last: Moment,
+    ghost last_is: { last.nanoseconds < 1000000000 },
+}
+
+impl Effort {
+    ghost use Rattle.bells.specs.Told.{HasTold};
+
+    /// Before the first turn.
+    pub(crate) fn new() -> Effort {
+        Effort {
+            patience: Patience::new(),
+            untold: Untold::Nothing,
+            turns: 0,
+            last: Moment::START,
+        }
+    }
+
+    /// The time of the next turn.
+    pub(crate) fn time<R: Clock>(&mut self, rt: &R) -> Moment
+        ensures { result.nanoseconds < 1000000000 }
+    {
+        self.last = time_now(rt, self.last);
+        self.last
+    }
+
+    /// Whether as many turns were made as one help has.
+    pub(crate) fn is_spent(&self) -> bool {
+        self.turns >= MOST_TURNS
+    }
+
+    /// Tells who writes the replies of which they weren't told.
+    pub(crate) fn tell(&mut self, bells: &Bells)
+        ensures { HasTold self.new.untold }
+    {
+        mem::replace(&mut self.untold, Untold::Nothing).tell(bells);
+    }
+
+    /// What follows of a turn. Answers whether there was a message.
+    pub(crate) fn follow<R: Clock>(&mut self, rt: &R, bells: &Bells, worked: Worked) -> bool {
+        self.turns = self.turns.saturating_add(1);
+        match worked {
+            Worked::Done(connection) => {
+                self.untold.add(bells, connection);
+                bells.room.ring();
+                self.patience = Patience::new();
+                true
+            }
+            Worked::Moved => {
+                self.tell(bells);
+                self.patience = Patience::new();
+                true
+            }
+            Worked::Busy { node: _, word: _ } => {
+                self.tell(bells);
+                self.patience.wait(rt);
+                true
+            }
+            Worked::Worn => {
+                self.tell(bells);
+                self.patience.wait(rt);
+                true
+            }
+            Worked::Idle => false,
+        }
+    }
+
+    /// After the last turn.
+    pub(crate) fn end(self, bells: &Bells) {
+        let Effort {
+            patience: _,
+            untold,
+            turns: _,
+            last: _,
+        } = self;
+        untold.tell(bells);
+    }
+}
