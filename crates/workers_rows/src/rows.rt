@@ -189,7 +189,6 @@ fn two_workers(rt: HostRuntime) {
     let (second, came) = second.turn(&rt, &Unwatched, at(5));
     same(&rt, &came, &Came::Done(connection, 2));
     mem::forget((first, second, reader));
-    mem::forget(filer);
 }
 
 /// Makes tends one after another, each of which comes to so many blocks or this refusal.
