@@ -1,20 +1,17 @@
 -- A call that was read fits the queue of its filer, and the pass stays one of that queue.
-use Rattle.std.proofs.Common.{◌≡◌, ◌∙◌, List, Option, Some, None, sym, subst, ap}
+use Rattle.std.proofs.Common.{◌≡◌, ◌∙◌, Option, Some, None, subst, ap}
 use Rattle.std.specs.Prelude.{option_map}
 use Rattle.nfs_model.specs.Tree as trees
 use Rattle.affinity_tree.specs.declared.layout.Layout.{Layout}
 use Rattle.affinity_tree.specs.Layout.{layout_of}
 use Rattle.shared_waiting.specs.Balance.{FitsIn}
 use Rattle.shared_waiting.specs.declared.pass.Pass.{Pass}
-use Rattle.tcp_front.specs.Arrivals.{Arrival}
 use Rattle.workers.specs.Balance.{Passed}
 use Rattle.workers.specs.Messages.{IsPlaced, Fits}
 use Rattle.workers.specs.Words.{layout_known}
 use Rattle.workers.specs.declared.message.Message.{Message}
 use Rattle.workers.specs.declared.shared.Filer.{Filer}
-use Rattle.connections.specs.Admitted.{HasAdmitted}
 use Rattle.connections.specs.Loans.{IsHandedBack, IsPassFor}
-use Rattle.connections.specs.declared.lane.Lane.{Lane}
 
 -- what is placed in a layout fits a queue of that layout
 pub fits-by : (layout : trees.Layout) (v : Passed) (m : Message) → layout_known v ≡ Some layout → IsPlaced layout m → FitsIn Fits v.key m

@@ -2,7 +2,7 @@
 -- told from its node.
 use Rattle.std.specs.Prelude.{◌≡◌, ◌⊎◌, ℕ, ◌+◌, ◌-◌, ◌/◌, ◌==◌, ◌||◌, min, Bool, true, false, List, Option, Some, None}
 use Rattle.std.specs.Prelude.{IfSome, if◌then◌else◌}
-use Rattle.std.specs.Coded.{Coded, Coded-set, coded_ℕ, codes, le_prop}
+use Rattle.std.specs.Coded.{Coded, Coded-set, codes, le_prop}
 use Rattle.std.proofs.Common.{inl, inr, ⊎_elim}
 use Rattle.std.proofs.Math.Logic.{∥∥₁_elim, ∥∥₁_map}
 use Rattle.std.proofs.Props.{props}
@@ -21,6 +21,7 @@ use Rattle.nfs_values.specs.Call.{call_of}
 use Rattle.nfs_values.specs.declared.call.Call.{Call}
 use Rattle.nfs_values.specs.declared.call.Call.TheVariants as calls
 use Rattle.service.specs.Running.{IsRun, RunsAbove, RunsThere}
+use Rattle.shared_waiting.specs.Passes.{IsOf}
 use Rattle.volume_values.specs.Codes.{coded_range, coded_stripe, coded_logical}
 use Rattle.workers.specs.Messages.{IsPlaced}
 use Rattle.workers.specs.Words.{layout_in, layout_known, verifier_in, seat_view, passed, HasOpened, IsHandIn, IsIn}
@@ -136,6 +137,9 @@ seat-prop filer w = Prim.hlevel (Coded-set, codes, props)
 opened-prop : (filer : Filer) (w : Worker) → IsProp (HasOpened (layout_in filer) (verifier_in filer) (seat_view w))
 opened-prop filer w = opening-prop (layout_in filer) (verifier_in filer) (listed (seat_view w).first)
 
+pass-prop : (filer : Filer) (w : Worker) → IsProp (IsOf filer.waiting w.pass)
+pass-prop filer w = Prim.hlevel (Coded-set, codes, props)
+
 known-prop : (a b : Option Layout) → IsProp (a ≡ b)
 known-prop a b = Prim.hlevel (Coded-set, codes, props)
 
@@ -144,7 +148,7 @@ inside filer w t =
     record {
       seat = ∥∥₁_elim t (seat-prop filer w) (λ i. i.seat);
       opened = ∥∥₁_elim t (opened-prop filer w) (λ i. i.opened);
-      pass = ∥∥₁_elim t (Coded-set coded_ℕ _ _) (λ i. i.pass);
+      pass = ∥∥₁_elim t (pass-prop filer w) (λ i. i.pass);
       layout = ∥∥₁_elim t (known-prop (layout_known (passed w)) (Some (layout_in filer))) (λ i. i.layout);
       hand = ∥∥₁_elim t (hand-prop (layout_in filer) w.hand) (λ i. i.hand);
       kept = kept (layout_in filer) w.kept (∥∥₁_map t (λ i. i.kept));

@@ -2,4 +2,5 @@ mod Fitting
 mod Written
 mod Crossing
 mod Inside
+mod PutOne
 mod Returned

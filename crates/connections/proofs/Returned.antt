@@ -27,3 +27,8 @@ lane-of filer first l l' last xs of e admitted e' inside =
 -- and given back
 pub returned : (filer : Filer) (l l' : Lane) (xs : List Arrival) → HasAdmitted l xs l' → IsLoanOf filer l'.loan → IsReturned filer l.loan l'.loan
 returned filer l l' xs admitted of = record { pass = admitted.pass; inside = of.helper; helper = admitted.helper }
+
+-- what a lane admitted, by its names before and after
+pub as-lane : (first l l' last : Lane) (xs : List Arrival) → l ≡ first → HasAdmitted l xs l' → last ≡ l' → HasAdmitted first xs last
+as-lane first l l' last xs e admitted e' =
+    subst (λ (x : Lane). HasAdmitted x xs last) e (subst (λ (x : Lane). HasAdmitted l xs x) (sym e') admitted)

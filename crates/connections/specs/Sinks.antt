@@ -2,15 +2,17 @@
 use Rattle.std.specs.Prelude.{◌≡◌, List, [], ◌++◌, refl}
 use Rattle.std.proofs.Common.{◌∙◌}
 use Rattle.tcp_front.specs.Arrivals.{Arrival}
+use Rattle.workers.specs.declared.shared.Filer.{Filer}
 use Rattle.connections.specs.Admitted.{HasAdmitted, admitted_none, admitted_more}
-use Rattle.connections.specs.declared.pool_sink.PoolSink.{PoolSink}
+use Rattle.connections.specs.declared.lane.Lane.{Lane}
 
--- its lane admitted the calls among this, and it is of the same filer
-abbrev pub HasTaken : {R : Type 0} → PoolSink R → List Arrival → PoolSink R → Type 0
-HasTaken s came t = HasAdmitted s.lane came t.lane × (t.filer ≡ s.filer)
+-- the lane admitted the calls among this, to the same filer
+abbrev pub HasTaken : Filer → Lane → List Arrival → Filer → Lane → Type 0
+HasTaken filer lane came filer' lane' = HasAdmitted lane came lane' × (filer' ≡ filer)
 
-pub taken_none : {R : Type 0} → (s : PoolSink R) → HasTaken s [] s
-taken_none s = (admitted_none s.lane, refl)
+pub taken_none : (f : Filer) (l : Lane) → HasTaken f l [] f l
+taken_none f l = (admitted_none l, refl)
 
-pub taken_more : {R : Type 0} → (s t u : PoolSink R) (xs ys : List Arrival) → HasTaken s xs t → HasTaken t ys u → HasTaken s (xs ++ ys) u
-taken_more s t u xs ys f g = (admitted_more s.lane t.lane u.lane xs ys f.0 g.0, g.1 ∙ f.1)
+pub taken_more : (f f' f'' : Filer) (l l' l'' : Lane) (xs ys : List Arrival) → HasTaken f l xs f' l' → HasTaken f' l' ys f'' l''
+    → HasTaken f l (xs ++ ys) f'' l''
+taken_more f f' f'' l l' l'' xs ys h k = (admitted_more l l' l'' xs ys h.0 k.0, k.1 ∙ h.1)

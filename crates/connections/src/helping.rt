@@ -47,21 +47,23 @@ fn help<R: Wait + Clock>(rt: &R, filer: &Filer, bells: &Bells, mut worker: Worke
     let mut effort = Effort::new();
     for _ in rt.forever() {
         if !bells.places.take(rt) {
-            break;
+            effort.end(bells);
+            return worker;
         }
         let seen = bells.places.came();
         worker = run_calls(rt, filer, bells, worker, &mut effort);
         bells.places.leave();
         if effort.is_spent() {
             bells.work.ring();
-            break;
+            effort.end(bells);
+            return worker;
         }
         if bells.places.came() == seen {
-            break;
+            effort.end(bells);
+            return worker;
         }
     }
-    effort.end(bells);
-    worker
+    unreachable!()
 }
 
 /// Runs calls that were admitted with the helper, or tells so many workers where there is none.

@@ -86,7 +86,7 @@ impl<'a, R> PoolSink<'a, R> {
 impl<'a, R: Wait + Clock> RecordSink for PoolSink<'a, R> {
     ghost use Rattle.connections.specs.Sinks.{HasTaken, taken_none, taken_more};
 
-    ghost came = { HasTaken };
+    ghost came = { λ s xs t. HasTaken s.filer.now s.lane xs t.filer.now t.lane };
 
     ghost layout = { λ s. layout_in s.filer.now };
 
@@ -136,7 +136,8 @@ impl<'a, R: Wait + Clock> RecordSink for PoolSink<'a, R> {
         self.line.wait_for_writer(self.rt, self.records);
     }
 
-    ghost came_none = { taken_none };
+    ghost came_none = { λ s. taken_none s.filer.now s.lane };
 
-    ghost came_more = { taken_more };
+    ghost came_more = { λ s t u xs ys f g.
+        taken_more s.filer.now t.filer.now u.filer.now s.lane t.lane u.lane xs ys f g };
 }

@@ -71,9 +71,9 @@ pub(crate) fn split_helpers(
         → share_with k result.0 + total (share_with k) result.1.items ≡ share_with k worker }
 {
     for _ in 0..count {
-        let (first, second) = worker.split(filer);
+        let (first, helper) = worker.split(filer);
         worker = first;
-        into.push_reserved(second);
+        into.push_reserved(helper);
     }
     (worker, into)
 }

@@ -1,6 +1,12 @@
-use Rattle.shared_waiting.specs.Passes.{known}
+use Rattle.std.proofs.Common.{refl, subst}
+use Rattle.affinity_tree.specs.declared.layout.Layout.{Layout}
+use Rattle.engine_feed.specs.Seen.{message_of}
+use Rattle.shared_waiting.specs.Passes.{known, IsOf}
+use Rattle.shared_waiting.specs.declared.pass.SharedWaiting.{SharedWaiting}
 use Rattle.workers.specs.Words.{layout_in}
+use Rattle.workers.specs.declared.message.Message.{Message}
 use Rattle.connections.proofs.Fitting.{fits-by}
+use Rattle.connections.proofs.PutOne.{put-one, put-none}
 use Rattle.connections.proofs.pool_sink.PoolSinkRecordSink.admit.Goals as goal
 
 pub admit_in_turn-requires-clause-fits : goal.admit_in_turn-requires-clause-fits
@@ -8,3 +14,18 @@ admit_in_turn-requires-clause-fits g c =
     let layout = layout_in c.args.self.now.filer.now in
     fits-by layout (known c.args.self.now.lane.loan.pass) c.with_room-message.result c.args.self.now.layout
     (c.with_room-message.ensures.placed layout c.requires.admitted c.requires.at_home)
+
+pub returns-in-Ok-clause-ok : goal.returns-in-Ok-clause-ok
+returns-in-Ok-clause-ok g c =
+    let waiting = c.args.self.now.filer.now.waiting in
+    let after = subst (λ (q : SharedWaiting Message Layout). IsOf q c.admit_in_turn.new.pass) c.waiting.ensures c.in-Ok.ensures.of in (
+      put-one waiting c.args.self.now.lane c.admit_in_turn.new.pass c.with_room-message.result (message_of c.args.message) c.args.self.now.of after
+          c.in-Ok.ensures.rule c.with_room-message.ensures.seen,
+      refl,
+    )
+
+pub returns-in-Err-clause-err : goal.returns-in-Err-clause-err
+returns-in-Err-clause-err g c =
+    let waiting = c.args.self.now.filer.now.waiting in
+    let after = subst (λ (q : SharedWaiting Message Layout). IsOf q c.admit_in_turn.new.pass) c.waiting.ensures c.in-Err.ensures.of in
+    (put-none waiting c.args.self.now.lane c.admit_in_turn.new.pass c.args.self.now.of after c.in-Err.ensures.rule.1, refl)
