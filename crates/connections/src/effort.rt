@@ -11,11 +11,21 @@ use workers::Worked;
 /// The most turns of one help, but for those of a message that is kept.
 const MOST_TURNS: u32 = 64;
 
+/// How long a reader doesn't ask for tends after it did, in nanoseconds.
+const UNTENDED: u32 = 8_000_000;
+
+/// Whether two moments are in one stretch of that length.
+fn share_stretch(one: Moment, other: Moment) -> bool {
+    one.seconds == other.seconds && one.nanoseconds / UNTENDED == other.nanoseconds / UNTENDED
+}
+
 /// What a reader keeps between the turns of one help. Can't be dropped, as what it didn't tell.
 pub(crate) struct Effort {
     patience: Patience,
     untold: Untold,
     turns: u32,
+    /// Whether a call was finished.
+    has_finished: bool,
     last: Moment,
     ghost last_is: { last.nanoseconds < 1000000000 },
 }
@@ -29,6 +39,7 @@ impl Effort {
             patience: Patience::new(),
             untold: Untold::Nothing,
             turns: 0,
+            has_finished: false,
             last: Moment::START,
         }
     }
@@ -59,6 +70,7 @@ impl Effort {
         match worked {
             Worked::Done(connection) => {
                 self.untold.add(bells, connection);
+                self.has_finished = true;
                 bells.room.ring();
                 self.patience = Patience::new();
                 true
@@ -82,14 +94,20 @@ impl Effort {
         }
     }
 
-    /// After the last turn.
-    pub(crate) fn end(self, bells: &Bells) {
+    /// After the last turn. Calls that were finished may have left something to tend: so a thread of
+    /// the pool is rung for, but not where this was done in the same eight milliseconds.
+    pub(crate) fn end(self, bells: &Bells, rung: &mut Moment) {
         let Effort {
             patience: _,
             untold,
             turns: _,
-            last: _,
+            has_finished,
+            last,
         } = self;
         untold.tell(bells);
+        if has_finished && !share_stretch(*rung, last) {
+            *rung = last;
+            bells.work.ring();
+        }
     }
 }

@@ -6,6 +6,7 @@ ghost use Rattle.workers.specs.Words.{IsIn};
 
 use crate::effort::Effort;
 use bells::Bells;
+use nfs_values::Moment;
 use std::rt::Clock;
 use std::sync::Wait;
 use workers::{Filer, Unwatched, Worker};
@@ -38,16 +39,21 @@ fn run_calls<R: Wait + Clock>(
 /// Runs calls with a worker at places of the pool, while one is free and calls came since the last
 /// look. Who finds none free leaves the calls to those who have the places: each looks again after
 /// it left its place. Where many turns were made a thread of the pool is told to go on.
-fn help<R: Wait + Clock>(rt: &R, filer: &Filer, bells: &Bells, mut worker: Worker) -> Worker
+fn help<R: Wait + Clock>(
+    rt: &R,
+    filer: &Filer,
+    bells: &Bells,
+    mut worker: Worker,
+    rung: &mut Moment,
+) -> Worker
     requires { IsIn filer.now worker }
     ensures inside { IsIn filer.now result }
     ensures stays { StaysHelper worker result }
 {
-    bells.places.come();
     let mut effort = Effort::new();
     for _ in rt.forever() {
         if !bells.places.take(rt) {
-            effort.end(bells);
+            effort.end(bells, rung);
             return worker;
         }
         let seen = bells.places.came();
@@ -55,31 +61,34 @@ fn help<R: Wait + Clock>(rt: &R, filer: &Filer, bells: &Bells, mut worker: Worke
         bells.places.leave();
         if effort.is_spent() {
             bells.work.ring();
-            effort.end(bells);
+            effort.end(bells, rung);
             return worker;
         }
         if bells.places.came() == seen {
-            effort.end(bells);
+            effort.end(bells, rung);
             return worker;
         }
     }
     unreachable!()
 }
 
-/// Runs calls that were admitted with the helper, or tells so many workers where there is none.
+/// Runs calls that were admitted with the helper, or tells so many workers where there is none. Who
+/// has a place sees that calls came.
 pub(crate) fn help_or_ring<R: Wait + Clock>(
     rt: &R,
     filer: &Filer,
     bells: &Bells,
     helper: &mut Option<Worker>,
     calls: usize,
+    rung: &mut Moment,
 )
     requires { IfSome helper.old (IsIn filer.now) }
     ensures inside { IfSome helper.new (IsIn filer.now) }
     ensures helper { IsHelperOf helper.old helper.new }
 {
+    bells.places.come();
     match helper.take() {
-        Some(worker) => *helper = Some(help(rt, filer, bells, worker)),
+        Some(worker) => *helper = Some(help(rt, filer, bells, worker, rung)),
         None => bells.work.ring_for(calls),
     }
 }

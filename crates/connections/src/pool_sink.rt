@@ -12,7 +12,7 @@ use crate::line::Line;
 use crate::message::with_room;
 use bells::Bells;
 use engine_feed::OfferedCall;
-use nfs_values::{ConnectionNumber, Reply};
+use nfs_values::{ConnectionNumber, Moment, Reply};
 use outboxes::Room;
 use std::alloc::{AllocError, Global};
 use std::mem;
@@ -36,6 +36,8 @@ pub struct PoolSink<'a, R> {
     unannounced: usize,
     /// Whether a reply was put of which the writer wasn't told.
     has_answered: bool,
+    /// When a thread of the pool was last asked to tend.
+    rung: Moment,
     ghost of: { IsOf filer.now.waiting lane.loan.pass },
     ghost layout: { layout_known (known lane.loan.pass) ≡ Some (layout_in filer.now) },
     ghost inside: { ∥ IfSome lane.loan.helper (IsIn filer.now) ∥₁ },
@@ -65,6 +67,7 @@ impl<'a, R> PoolSink<'a, R> {
             records: 0,
             unannounced: 0,
             has_answered: false,
+            rung: Moment::START,
         }
     }
 
@@ -131,7 +134,14 @@ impl<'a, R: Wait + Clock> RecordSink for PoolSink<'a, R> {
         let calls = mem::replace(&mut self.unannounced, 0);
         if calls > 0 {
             let helper = &mut self.lane.loan.helper;
-            help_or_ring(self.rt, self.filer, self.bells, helper, calls);
+            help_or_ring(
+                self.rt,
+                self.filer,
+                self.bells,
+                helper,
+                calls,
+                &mut self.rung,
+            );
         }
         self.line.wait_for_writer(self.rt, self.records);
     }
