@@ -15,7 +15,7 @@ pub(crate) const ROOT: u64 = 1;
 const WRITTEN: usize = 5000;
 
 /// Nothing is set.
-const UNSET: SetAttributes = SetAttributes {
+pub(crate) const UNSET: SetAttributes = SetAttributes {
     mode: None,
     uid: None,
     gid: None,

@@ -1,5 +1,6 @@
-//! A pool of threads on the real depot: what is put is finished or left, and calls that don't
-//! exclude each other run beside each other.
+//! Turns and tends of workers on the real depot, and a pool of threads that run them: what each
+//! answers and leaves, that what is put is finished or left, and that calls that don't exclude each
+//! other run beside each other.
 #![tactic(auto)]
 
 #[cfg(test)]
@@ -18,3 +19,5 @@ mod putting;
 mod replies;
 #[cfg(test)]
 mod running;
+#[cfg(test)]
+mod turns;

@@ -24,25 +24,29 @@ pub(crate) struct Opened {
     pub(crate) second: FilerPass,
 }
 
-/// Two volumes of one range each.
+/// Two volumes, one of 8 stripes and one range, one of 16 stripes and two ranges.
 fn layout(alloc: Global) -> Result<Layout, AllocError> {
-    let volume = VolumeSpec {
+    let sixteen = VolumeSpec {
         aggregate: 0,
-        ranges: 1,
-        stripes: 8,
-        mib: 16,
+        ranges: 2,
+        stripes: 16,
+        mib: 64,
     };
-    match Layout::new(alloc, &[AggregateSpec { spare: 1 }], &[volume; 2]) {
+    let volumes = [VolumeSpec::new(0, 1), sixteen];
+    match Layout::new(alloc, &[AggregateSpec { spare: 1 }], &volumes) {
         Ok(layout) => Ok(layout),
         Err(_fault) => Err(AllocError),
     }
 }
 
-/// A filer with its only worker, and the passes of two who put messages.
-fn open_filer(alloc: Global) -> Result<(Arc<Filer>, Worker, FilerPass, FilerPass), AllocError>
+/// A filer with its only worker, and the passes of two who put messages. Its write verifier is eight
+/// nines.
+pub(crate) fn open_filer(
+    alloc: Global,
+) -> Result<(Arc<Filer>, Worker, FilerPass, FilerPass), AllocError>
     ensures { IfOk result (λ made. IsOpened (arc_value made.0) made.1 made.2 made.3) }
 {
-    let (filer, seat, pass) = Filer::new(alloc, layout(alloc)?, [1, 2, 3, 4, 5, 6, 7, 8])?;
+    let (filer, seat, pass) = Filer::new(alloc, layout(alloc)?, [9; 8])?;
     let (pass, rest) = filer.waiting().split_pass(pass);
     let (first, second) = filer.waiting().split_pass(rest);
     let worker = Worker::first(&filer, seat, pass);

@@ -1,8 +1,8 @@
 //! Who looks on.
 
-use crate::calls::at;
-use crate::came::Came;
-use crate::filer_worker::FilerWorker;
+use crate::turns::came::Came;
+use crate::turns::filer_worker::FilerWorker;
+use crate::turns::rows::at;
 use affinity_tree::Affinity;
 use nfs_values::VolumeNumber;
 use std::sync::{Mutex, Wait};

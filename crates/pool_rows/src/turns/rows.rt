@@ -2,22 +2,42 @@
 
 ghost use Rattle.workers.specs.Running.{IsRun};
 
-use crate::calls::{NOTHING, at, handle, in_root, record_of};
-use crate::came::Came;
-use crate::filer_worker::FilerWorker;
-use crate::looking::{Looking, Met};
-use crate::opening::opened;
-use crate::reader::Reader;
-use crate::starting::{Started, start_workers};
-use crate::texts::{ACCEPTED, bytes_of, mark, root_shown};
+use crate::calls::{UNSET, handle};
+use crate::opening::open_filer;
+use crate::putting::record_of;
+use crate::turns::came::Came;
+use crate::turns::filer_worker::FilerWorker;
+use crate::turns::looking::{Looking, Met};
+use crate::turns::reader::Reader;
+use crate::turns::starting::{Started, start_workers};
+use crate::turns::texts::{ACCEPTED, bytes_of, mark, root_shown};
 use affinity_tree::Affinity;
-use nfs_values::{Call, ConnectionNumber, CreateMode, Moment, SetAttributes, VolumeNumber};
+use bells::Bells;
+use nfs_values::{
+    Call, ConnectionNumber, CreateMode, Moment, Name, SetAttributes, Target, VolumeNumber,
+};
 use scheduler::Origin;
 use std::fmt::Debug;
 use std::mem;
 use std::process::Abort;
 use std::sync::{Mutex, Wait};
 use workers::{Filer, Tend, Unwatched};
+
+/// A moment of whole seconds.
+pub(crate) const fn at(seconds: u32) -> Moment {
+    Moment {
+        seconds,
+        nanoseconds: 0,
+    }
+}
+
+/// A name in the root of volume 0.
+fn in_root(rt: &(impl Abort + AllocGlobal), name: &[u8]) -> Target {
+    Target {
+        directory: handle(0, 1),
+        name: Name::new(name.to_vec(rt.alloc()).expect(rt, "no memory")),
+    }
+}
 
 /// Looks whether this is what is wanted.
 fn same<T: PartialEq + Debug>(rt: &impl Abort, found: &T, wanted: &T) {
@@ -64,12 +84,13 @@ fn served<'a, R: Abort + AllocGlobal + Wait>(
 /// A call is finished in one turn; then none waits.
 #[test]
 fn finished_call(rt: HostRuntime) {
-    let (filer, seat, pass) = opened(rt.alloc()).expect(&rt, "no memory");
+    let (filer, worker, pass, _other) = open_filer(rt.alloc()).expect(&rt, "no memory");
+    let bells = Bells::new(rt.alloc()).expect(&rt, "no memory");
     let Started {
         first,
         second,
         mut reader,
-    } = start_workers(&filer, seat, pass);
+    } = start_workers(&filer, &bells, worker, pass);
     let connection = open(&rt, &filer);
     let origin = record_of(connection, 7);
     let call = Call::GetAttributes {
@@ -94,7 +115,7 @@ fn created<'a, R: Abort + AllocGlobal + Wait>(
 ) -> FilerWorker<'a> {
     let call = Call::Create {
         target: in_root(rt, b"f"),
-        mode: CreateMode::Unchecked(NOTHING),
+        mode: CreateMode::Unchecked(UNSET),
     };
     let worker = served(rt, worker, reader, record_of(connection, 1), at(1), call);
     drop(worker.filer.outboxes().lock(rt).take(connection));
@@ -136,12 +157,13 @@ fn written<'a, R: Abort + AllocGlobal + Wait>(
 /// to Volume.
 #[test]
 fn moved_message(rt: HostRuntime) {
-    let (filer, seat, pass) = opened(rt.alloc()).expect(&rt, "no memory");
+    let (filer, worker, pass, _other) = open_filer(rt.alloc()).expect(&rt, "no memory");
+    let bells = Bells::new(rt.alloc()).expect(&rt, "no memory");
     let Started {
         first,
         second,
         mut reader,
-    } = start_workers(&filer, seat, pass);
+    } = start_workers(&filer, &bells, worker, pass);
     let connection = open(&rt, &filer);
     let first = created(&rt, first, &mut reader, connection);
     let first = written(&rt, first, &mut reader, connection, 2);
@@ -153,12 +175,13 @@ fn moved_message(rt: HostRuntime) {
 /// node, in a turn and in a tend; after it, both are done.
 #[test]
 fn two_workers(rt: HostRuntime) {
-    let (filer, seat, pass) = opened(rt.alloc()).expect(&rt, "no memory");
+    let (filer, worker, pass, _other) = open_filer(rt.alloc()).expect(&rt, "no memory");
+    let bells = Bells::new(rt.alloc()).expect(&rt, "no memory");
     let Started {
         first,
         second,
         mut reader,
-    } = start_workers(&filer, seat, pass);
+    } = start_workers(&filer, &bells, worker, pass);
     let connection = open(&rt, &filer);
     for xid in 1..3 {
         let call = Call::GetAttributes {
@@ -229,12 +252,13 @@ const fn cull(volume: u32) -> Tend {
 /// left are free again.
 #[test]
 fn tends(rt: HostRuntime) {
-    let (filer, seat, pass) = opened(rt.alloc()).expect(&rt, "no memory");
+    let (filer, worker, pass, _other) = open_filer(rt.alloc()).expect(&rt, "no memory");
+    let bells = Bells::new(rt.alloc()).expect(&rt, "no memory");
     let Started {
         first,
         second,
         mut reader,
-    } = start_workers(&filer, seat, pass);
+    } = start_workers(&filer, &bells, worker, pass);
     let connection = open(&rt, &filer);
     let fetching = [
         (fetch(0, 0), Ok(64)),
@@ -274,7 +298,7 @@ fn mode_set(volume: u32, fileid: u64, mode: u32, guard: Option<Moment>) -> Call
 {
     let set = SetAttributes {
         mode: Some(mode),
-        ..NOTHING
+        ..UNSET
     };
     Call::SetAttributes {
         handle: handle(volume, fileid),
@@ -320,12 +344,13 @@ fn try_root<'a, R: Abort + AllocGlobal + Wait>(
 /// Modes of the roots of two volumes, of a node that isn't there, and of a volume that isn't.
 #[test]
 fn modes_of_roots(rt: HostRuntime) {
-    let (filer, seat, pass) = opened(rt.alloc()).expect(&rt, "no memory");
+    let (filer, worker, pass, _other) = open_filer(rt.alloc()).expect(&rt, "no memory");
+    let bells = Bells::new(rt.alloc()).expect(&rt, "no memory");
     let Started {
         first,
         second,
         mut reader,
-    } = start_workers(&filer, seat, pass);
+    } = start_workers(&filer, &bells, worker, pass);
     let connection = open(&rt, &filer);
     let mut worker = first;
     for volume in 0..2 {
