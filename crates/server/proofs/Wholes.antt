@@ -41,7 +41,7 @@ pub opened : (filer : Filer) (first worker : Worker) (slots : Slots) (v : Passed
     → seats_in first ≡ 64 → helpers ≤ 64 → (places.seats_in slots ≡ helpers) × (seats_in worker + helpers ≡ seats_in first)
     → AreSlotsOf filer slots → IsWhole v → passed first ≡ left v → known second ≡ right v
     → ((k : ℕ) → (known second).halvings + 63 ≤ k → (passed first).halvings + helpers ≤ k
-      → share_of k worker + share_in k slots ≡ share_of k first + part k (known second))
+    → share_of k worker + share_in k slots ≡ share_of k first + part k (known second))
     → IsOpened filer worker slots
 opened filer first worker slots v second helpers inside only few seats at whole l r share =
     record {

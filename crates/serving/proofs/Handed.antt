@@ -24,3 +24,6 @@ none-left (x ∷ xs) none = absurd (omega (arith, none))
 
 pub all-none : {X : Type 0} → (P : X → Type 0) (xs : List X) → length xs ≡ 0 → All P xs
 all-none P xs none = λ k d lt. absurd (omega (arith, none, lt))
+
+pub all-empty : {X : Type 0} → (P : X → Type 0) (xs : List X) → xs ≡ [] → All P xs
+all-empty P xs none = all-none P xs (ap length none)

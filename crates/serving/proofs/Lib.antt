@@ -1,2 +1,3 @@
 mod Shares
 mod Handed
+mod Helpers

@@ -17,7 +17,7 @@ use Rattle.connections.specs.Worker.{Worker}
 use Rattle.connections.specs.Words as words
 use Rattle.connections.specs.Words.{passed}
 use Rattle.serving.specs.declared.slots.Slots.{Slots}
-use Rattle.serving.specs.Places.{of_helper, of_lent, share_by, share_with, share_of, share_in, seats_of, seats_in, sum_in}
+use Rattle.serving.specs.Places.{of_helper, of_lent, share_by, share_with, share_of, seats_of, sum_in}
 use Rattle.serving.specs.Places.{FilerPass, HasAll, IsKept, IsPlaceOf, IsReaderOf, IsServedFor}
 
 -- ---- what comes back

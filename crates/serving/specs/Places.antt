@@ -1,5 +1,5 @@
 -- Passes and workers that wait for connections or are lent to them.
-use Rattle.std.specs.Prelude.{◌≡◌, ℕ, ◌+◌, List, [], Option, Some, None, IfSome, All}
+use Rattle.std.specs.Prelude.{◌≡◌, ℕ, ◌+◌, [], Option, Some, None, IfSome, All}
 use Rattle.affinity_tree.specs.declared.layout.Layout.{Layout}
 use Rattle.connections.specs.Loans.{IsPassFor, IsReturned}
 use Rattle.connections.specs.Opened.{lent_to, lender_of}

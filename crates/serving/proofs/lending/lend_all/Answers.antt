@@ -22,7 +22,7 @@ loop-pass-preserved c =
     let r = i.room in
     let n = i.count in
     record {
-      few = c.next_helper-helper.ensures.few;
+      few = let f = c.next_helper-helper.ensures.few in let e = c.len.ensures in omega (arith, f, e);
       room = omega (arith, a, b, l, r);
       places = λ filer readers helpers.
           let both = i.places filer readers helpers in

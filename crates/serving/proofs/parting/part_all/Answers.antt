@@ -1,8 +1,7 @@
 use Rattle.std.proofs.Common.{ap, subst, sym, arith, IfSome}
-use Rattle.affinity_tree.specs.declared.layout.Layout.{Layout}
 use Rattle.connections.specs.declared.loan.Loan.{Loan}
 use Rattle.connections.specs.Words.{IsIn}
-use Rattle.serving.specs.Places.{of_helper, FilerPass, IsPlaceOf, IsReaderOf}
+use Rattle.serving.specs.Places.{of_helper, IsPlaceOf, IsReaderOf}
 use Rattle.serving.proofs.Handed.{all-pushed, all-popped, total-pushed}
 use Rattle.serving.proofs.parting.part_all.Goals as goal
 

@@ -1,6 +1,5 @@
-use Rattle.std.proofs.Common.{All, List, sym, subst, ap, ◌∙◌, arith}
+use Rattle.std.proofs.Common.{All, sym, subst, ap, ◌∙◌, arith}
 use Rattle.depot_rule.specs.Sums.{total}
-use Rattle.connections.specs.declared.connection.Connection.{Connection}
 use Rattle.serving.specs.Places.{of_lent, IsServedFor}
 use Rattle.serving.proofs.Handed.{all-none, total-none}
 use Rattle.serving.proofs.Shares.{all-of}
@@ -16,7 +15,7 @@ pub returns-clause-all : goal.returns-clause-all
 returns-clause-all g c =
     all-of c.args.self.now _
     (λ f kept.
-      let none = total-none (of_lent f) c.args.self.now.others.items (sym c.args.self.now.others.ok.0 ∙ c.args.self.now.none) in
-      let s = c.reap_all.ensures.sum f kept in
-      let w = ap (λ v. total (of_lent f) v.items) c.swap.ensures.x_after in
-      omega (arith, none, s, w))
+    let none = total-none (of_lent f) c.args.self.now.others.items (sym c.args.self.now.others.ok.0 ∙ c.args.self.now.none) in
+    let s = c.reap_all.ensures.sum f kept in
+    let w = ap (λ v. total (of_lent f) v.items) c.swap.ensures.x_after in
+    omega (arith, none, s, w))
