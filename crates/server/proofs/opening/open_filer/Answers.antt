@@ -5,8 +5,8 @@ use Rattle.server.specs.Threads.{IsOpened}
 use Rattle.server.proofs.Wholes.{opened}
 use Rattle.server.proofs.opening.open_filer.Goals as goal
 
-pub new-slots-requires-clause-helpers : goal.new-slots-requires-clause-helpers
-new-slots-requires-clause-helpers c =
+pub new-requires-2-clause-helpers : goal.new-requires-2-clause-helpers
+new-requires-2-clause-helpers c =
     let only = c.first-worker.ensures.seats ∙ ap (λ n. n + 1) c.in_ok-filer.ensures.only in
     let some = c.requires.0 in
     (omega (arith, some), omega (arith, some, only))

@@ -1,6 +1,8 @@
 use Rattle.std.proofs.Common.{sym, subst, arith}
 use Rattle.std.specs.Prelude.{All}
 use Rattle.std.specs.Arc.{arc_value}
+use Rattle.shared_waiting.specs.Passes.{IsOf}
+use Rattle.pool.specs.Gathered.{IsLeftOf}
 use Rattle.pool.specs.Words.{IsIn}
 use Rattle.pool.specs.Filer.{Filer}
 use Rattle.server.proofs.Wholes.{all-of, all-there, none-picked, runs-on, seats-there}
@@ -17,8 +19,15 @@ pub gather-requires-clause-workers : goal.gather-requires-clause-workers
 gather-requires-clause-workers g c =
     let filer = arc_value c.args.shared.now.filer in
     let places = c.wait_for_ends.ensures.slots filer c.requires.places in
-    subst (λ (f : Filer). All (IsIn f) c.into_parts-workers.result.0.items) (sym c.deref.ensures)
+    subst (λ (f : Filer). All (IsIn f) c.into_parts-workers.result.0.items) (sym c.deref-2.ensures)
     (c.into_parts-workers.ensures.workers filer places (c.stop-workers.ensures.inside filer c.requires.serve))
+
+pub gather-requires-clause-passes : goal.gather-requires-clause-passes
+gather-requires-clause-passes g c =
+    let filer = arc_value c.args.shared.now.filer in
+    let places = c.wait_for_ends.ensures.slots filer c.requires.places in
+    subst (λ (f : Filer). All (IsOf f.waiting) c.into_parts-workers.result.1.items) (sym c.deref-2.ensures)
+    (all-of filer c.into_parts-workers.result.1.items (c.into_parts-workers.ensures.readers filer places))
 
 pub gather-requires-clause-seats : goal.gather-requires-clause-seats
 gather-requires-clause-seats g c =
@@ -41,3 +50,14 @@ gather-requires-clause-readers g c =
     let filer = arc_value c.args.shared.now.filer in
     let places = c.wait_for_ends.ensures.slots filer c.requires.places in
     λ weight. none-picked filer weight c.into_parts-workers.result.1.items (c.into_parts-workers.ensures.readers filer places)
+
+pub returns : goal.returns
+returns g c =
+    let filer = arc_value c.args.shared.now.filer in
+    let places = c.wait_for_ends.ensures.slots filer c.requires.places in
+    record {
+      leaves = subst (λ (f : Filer). IsLeftOf f c.gather.result) c.deref-2.ensures c.gather.ensures.left;
+      passes = c.into_parts-workers.result.1.items;
+      readers = c.into_parts-workers.ensures.readers filer places;
+      calls = c.gather.ensures.calls;
+    }
