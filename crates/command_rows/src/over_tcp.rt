@@ -1,10 +1,11 @@
 //! A server in one process with its clients, over 127.0.0.1.
 
 use crate::client::Client;
-use crate::running::{end, start};
+use crate::running::{Printed, end, serve};
 use crate::texts::{
     CREATE, CREATE_HEAD, CUT, GETATTR, GETATTR_REPLY, NO_CALL, NULL, NULL_REPLY, READ, TOO_LONG,
 };
+use std::thread;
 
 /// The bytes that end a connection: of a record above the limit, and of one that is no call.
 const JUNK: [&[u32]; 2] = [&TOO_LONG, &NO_CALL];
@@ -15,7 +16,9 @@ const READS: usize = 300;
 
 #[test]
 fn calls_are_answered(rt: HostRuntime) {
-    let (mut printed, server) = start(rt, "1");
+    let (mut printed, out) = Printed::new(&rt);
+    let started = thread::spawn(&rt, move || serve(rt, "1", out));
+    let server = started.ok().expect(&rt, "a thread");
     let mut client = Client::connect(&rt, printed.address(&rt));
     client.send(&rt, &NULL);
     client.send(&rt, &GETATTR);
@@ -27,7 +30,9 @@ fn calls_are_answered(rt: HostRuntime) {
 
 #[test]
 fn a_bad_peer_harms_no_other(rt: HostRuntime) {
-    let (mut printed, server) = start(rt, "4");
+    let (mut printed, out) = Printed::new(&rt);
+    let started = thread::spawn(&rt, move || serve(rt, "4", out));
+    let server = started.ok().expect(&rt, "a thread");
     let address = printed.address(&rt);
     let mut good = Client::connect(&rt, address);
     Client::connect(&rt, address).send(&rt, &CUT);
@@ -44,7 +49,9 @@ fn a_bad_peer_harms_no_other(rt: HostRuntime) {
 
 #[test]
 fn a_peer_that_never_reads_holds_up_no_other(rt: HostRuntime) {
-    let (mut printed, server) = start(rt, "2");
+    let (mut printed, out) = Printed::new(&rt);
+    let started = thread::spawn(&rt, move || serve(rt, "2", out));
+    let server = started.ok().expect(&rt, "a thread");
     let address = printed.address(&rt);
     let mut silent = Client::connect(&rt, address);
     silent.send(&rt, &CREATE);

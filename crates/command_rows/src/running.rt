@@ -7,7 +7,6 @@ use std::os::unix::net::UnixStream;
 use std::process::Abort;
 use std::rt::{Clock, Files};
 use std::sync::Wait;
-use std::thread;
 use std::thread::{JoinHandle, Threads};
 use std::time::Duration;
 
@@ -16,7 +15,7 @@ const PATIENCE: u64 = 30;
 
 /// Runs a server of two volumes and two workers at a port that the system picks, for so many
 /// connections. Its status.
-fn serve<R>(rt: R, connections: &str, mut out: UnixStream) -> u8
+pub(crate) fn serve<R>(rt: R, connections: &str, mut out: UnixStream) -> u8
 where
     R: Files + AllocGlobal + Threads + Wait + Clock,
     R: Net<Listener = TcpListener, Stream = TcpStream> + Copy + Drop + Send + 'static,
@@ -70,15 +69,11 @@ impl Printed {
     }
 }
 
-/// A server of so many connections, and what it prints.
-pub(crate) fn start(rt: HostRuntime, connections: &'static str) -> (Printed, JoinHandle<u8>) {
-    let (printed, out) = Printed::new(&rt);
-    let started = thread::spawn(&rt, move || serve(rt, connections, out));
-    (printed, started.ok().expect(&rt, "a thread"))
-}
-
 /// What a server prints before it ends, which it has to do well.
-pub(crate) fn end(rt: &HostRuntime, printed: Printed, server: JoinHandle<u8>) -> String {
+pub(crate) fn end<R>(rt: &R, printed: Printed, server: JoinHandle<u8>) -> String
+where
+    R: Abort + AllocGlobal + Threads,
+{
     let rest = printed.rest(rt);
     assert!(rt; server.join(rt) == 0);
     rest
