@@ -17,8 +17,12 @@ fn records_of_replies(rt: HostRuntime) {
     write_reply_record(&mut out, 9, &null).expect(&rt, "no memory");
     let refused = Reply::AuthError(AuthFault::BadCredential);
     write_reply_record(&mut out, 9, &refused).expect(&rt, "no memory");
-    mem::forget((null, refused));
-    let words = [0x80000018, 9, 1, 0, 0, 0, 0, 0x80000014, 9, 1, 1, 1, 1];
+    let starved = Reply::SystemError;
+    write_reply_record(&mut out, 9, &starved).expect(&rt, "no memory");
+    mem::forget((null, refused, starved));
+    let words = [
+        0x80000018, 9, 1, 0, 0, 0, 0, 0x80000014, 9, 1, 1, 1, 1, 0x80000018, 9, 1, 0, 0, 0, 5,
+    ];
     same(&rt, &out, &bytes_of(&rt, &words));
 }
 

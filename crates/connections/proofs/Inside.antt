@@ -20,7 +20,7 @@ use Rattle.held_state.specs.Parcels.{FilerParcel}
 use Rattle.nfs_values.specs.Call.{call_of}
 use Rattle.nfs_values.specs.declared.call.Call.{Call}
 use Rattle.nfs_values.specs.declared.call.Call.TheVariants as calls
-use Rattle.service.specs.Running.{IsRun, RunsAbove, RunsThere}
+use Rattle.workers.specs.Running.{IsRun, RunsAbove, RunsThere}
 use Rattle.shared_waiting.specs.Passes.{IsOf}
 use Rattle.volume_values.specs.Codes.{coded_range, coded_stripe, coded_logical}
 use Rattle.workers.specs.Messages.{IsPlaced}

@@ -1,9 +1,10 @@
 -- The home of a call, exclusion, and which calls may lack memory (our profile).
 use Rattle.std.proofs.Common.{◌≡◌, true, false, [], ◌∷◌, replicate, Some, None, refl}
 use Rattle.nfs_model.specs.Types.{Unchecked, Guarded, Exclusive, Null, Getattr, Setattr, Lookup, Read, Write, Create, Mkdir, Remove, Rmdir, Rename, Readdir}
-use Rattle.nfs_model.specs.Types.{Fsstat, Commit, Census, Grow, Ask, Refused, GarbageArguments}
+use Rattle.nfs_model.specs.Types.{Fsstat, Commit, Census, Grow, Ask, Refused, SystemError, GarbageArguments}
 use Rattle.nfs_model.specs.Tree.{Serial, Aggregate, Volume, Logical, Stripe, Vbn, Range, excludes}
 use Rattle.nfs_model.specs.Home.{home, home_of_asked}
+use Rattle.nfs_model.specs.Serial.Step.{serial}
 use Rattle.nfs_model.specs.Serial.Starve.{may_starve_at_decoding, may_starve_later}
 use Rattle.nfs_model.specs.Server.{handle_bytes}
 use Rattle.nfs_model.specs.Serial.Create.{no_attributes}
@@ -254,6 +255,10 @@ census_may_starve = refl
 
 write_that_fills_may_starve : may_starve_later (with_file (file [] no_blocks)) (Ask (write_at 2 0 (1 ∷ [])) nobody) (at 1) ≡ true
 write_that_fills_may_starve = simp evaluate refl
+
+starved_write_is_a_system_error : serial (with_file (file [] no_blocks)) (Ask (write_at 2 0 (1 ∷ [])) nobody) (at 1) true
+    ≡ record { reply = SystemError; server = with_file (file [] no_blocks) }
+starved_write_is_a_system_error = refl
 
 overwrite_may_not : may_starve_later (with_file (file (1 ∷ (2 ∷ (3 ∷ []))) block_0)) (Ask (write_at 2 0 (1 ∷ [])) nobody) (at 1) ≡ false
 overwrite_may_not = simp evaluate refl
