@@ -1,4 +1,4 @@
-//! Command lines, and the programs that they name.
+//! Command lines, the programs that they name, and scripts.
 #![tactic(auto)]
 
 #[cfg(test)]
@@ -9,5 +9,7 @@ mod lines;
 mod over_tcp;
 #[cfg(test)]
 mod running;
+#[cfg(test)]
+mod scripts;
 #[cfg(test)]
 mod texts;

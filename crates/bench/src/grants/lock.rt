@@ -1,7 +1,8 @@
 //! Numbers under one lock, to compare with.
 
-ghost use Rattle.std.specs.Prelude.{◌<◌};
+ghost use Rattle.std.specs.Prelude.{◌<◌, ◌≤◌};
 
+use std::alloc::{AllocError, Global};
 use std::sync::{Mutex, Wait};
 use std::thread;
 use std::thread::Threads;
@@ -19,31 +20,19 @@ fn add<R: Wait>(rt: &R, numbers: &Numbers, place: usize, count: u32)
     }
 }
 
-/// Additions by one thread.
-pub fn one_thread<R: Wait>(rt: &R, numbers: &Numbers, count: u32) {
-    add(rt, numbers, 0, count);
-}
-
-/// Additions by each of two threads.
-pub fn two_threads<R: Threads + Wait + Sync>(rt: &R, numbers: &Numbers, count: u32) {
-    thread::join(
-        rt,
-        move || add(rt, numbers, 0, count),
-        move || add(rt, numbers, 1, count),
-    );
-}
-
-/// Additions by each of four threads.
-pub fn four_threads<R: Threads + Wait + Sync>(rt: &R, numbers: &Numbers, count: u32) {
-    thread::join(
-        rt,
-        move || two_threads(rt, numbers, count),
-        move || {
-            thread::join(
-                rt,
-                move || add(rt, numbers, 2, count),
-                move || add(rt, numbers, 3, count),
-            );
-        },
-    );
+/// Additions by each of so many threads, to a number of its own.
+pub fn additions<R: Threads + Wait + Sync>(
+    rt: &R,
+    alloc: Global,
+    numbers: &Numbers,
+    threads: usize,
+    count: u32,
+) -> Result<(), AllocError>
+    requires { threads ≤ 4 }
+{
+    let additions = move |place: usize|
+        requires { place < 4 }
+    { add(rt, numbers, place, count) };
+    let _done = thread::map_indices(rt, alloc, threads, &additions)?;
+    Ok(())
 }

@@ -1,7 +1,7 @@
 //! How many calls are granted and finished in a second.
 
 use crate::grants::crew::{Crew, NAMES, STRIPES, depot_pass};
-use crate::grants::lock;
+use crate::grants::lock::additions;
 use crate::rates::per_second;
 use crate::ratio::print_ratio;
 use affinity_tree::Affinity;
@@ -15,14 +15,14 @@ use std::time::Instant;
 const PASSES: usize = 9;
 
 /// A pass of additions under one lock: how many were done in a second.
-fn lock_pass<R: Clock + Threads + Wait + Sync>(rt: &R, crew: Crew, count: u32) -> io::Result<u64> {
+fn lock_pass<R: Clock + AllocGlobal + Threads + Wait + Sync>(
+    rt: &R,
+    crew: Crew,
+    count: u32,
+) -> io::Result<u64> {
     let numbers = Mutex::new([0; 4]);
     let start = Instant::now(rt)?;
-    match crew {
-        Crew::One => lock::one_thread(rt, &numbers, count),
-        Crew::Two => lock::two_threads(rt, &numbers, count),
-        Crew::Four => lock::four_threads(rt, &numbers, count),
-    }
+    additions(rt, rt.alloc(), &numbers, crew.size() as usize, count)?;
     let time = start.elapsed(rt)?;
     Ok(per_second(crew.size() * u64::from(count), time))
 }

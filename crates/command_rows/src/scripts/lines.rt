@@ -1,8 +1,8 @@
 //! Scripts with a bad line that isn't a line of text, or whose last line has no line feed: its
 //! number is told, and nothing after it is read.
 
-use crate::events::{expect, expect_joined};
-use crate::texts::LAYOUT;
+use crate::scripts::events::{expect, expect_joined};
+use crate::scripts::texts::LAYOUT;
 
 /// Scripts whose layout is bad and whose last line has no line feed, and what is printed.
 const LAYOUTS: [(&str, &str); 3] = [

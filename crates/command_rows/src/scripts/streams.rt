@@ -1,7 +1,7 @@
 //! Streams in pieces of one byte, and more records than an engine takes.
 
-use crate::events::{expect_joined, joined, put};
-use crate::texts::{GETATTR, GETATTR_REPLY, LAYOUT, NULL, NULL_REPLY};
+use crate::scripts::events::{expect_joined, joined, put};
+use crate::scripts::texts::{GETATTR, GETATTR_REPLY, LAYOUT, NULL, NULL_REPLY};
 use std::process::Abort;
 
 #[test]

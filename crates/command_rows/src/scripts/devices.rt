@@ -1,7 +1,7 @@
 //! Readers and writers that fail.
 
-use crate::events::{holds, joined, put, same};
-use crate::texts::LAYOUT;
+use crate::scripts::events::{holds, joined, put, same};
+use crate::scripts::texts::LAYOUT;
 use filer_replay::replay;
 use std::io;
 use std::io::{Read, Write};

@@ -1,7 +1,7 @@
 //! WRITEs of many bytes: data that is cut, and a volume whose blocks are all in files, or in files
 //! and in a hand. Each text is a piece of a record, in hex.
 
-use crate::events::{expect, joined, put};
+use crate::scripts::events::{expect, joined, put};
 use std::process::Abort;
 
 /// Two volumes of one range, and two workers.

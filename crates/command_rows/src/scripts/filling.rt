@@ -1,8 +1,8 @@
 //! A volume that has 65,536 inodes, the most that there may be (our profile). Each text is a piece
 //! of a record, in hex.
 
-use crate::events::{holds, joined, put};
-use crate::texts::LAYOUT;
+use crate::scripts::events::{holds, joined, put};
+use crate::scripts::texts::LAYOUT;
 use filer_replay::replay;
 use std::process::Abort;
 

@@ -1,7 +1,7 @@
 //! Lists of events, given to an engine.
 
-use crate::events::{holds, same};
-use crate::texts::{NULL, NULL_REPLY};
+use crate::scripts::events::{holds, same};
+use crate::scripts::texts::{NULL, NULL_REPLY};
 use affinity_tree::{AggregateSpec, Layout, VolumeSpec};
 use filer_replay::{Engine, Event, Worker, WorkerRun};
 use std::process::Abort;
