@@ -1,4 +1,4 @@
-//! Heads of calls. Whole heads with their replies, and those at fault, stand in `filer_rows`.
+//! Heads of calls. Whole heads with their replies, and those at fault, stand in `command_rows`.
 
 use crate::bytes::{bytes_of, holds};
 use nfs_values::{Call, Reply};
