@@ -27,8 +27,8 @@ use Rattle.engine.proofs.Changed.{IsChanged, same_setup, unchanged-sound}
 use Rattle.engine.proofs.Begun.{late_refused, taken_refused, worn_refused, begun_events, begun_sound}
 use Rattle.engine.proofs.beginning.begin.Goals as goal
 
-pub begin-requires-clause-idle : goal.begin-requires-clause-idle
-begin-requires-clause-idle c =
+pub lend-requires-clause-idle : goal.lend-requires-clause-idle
+lend-requires-clause-idle c =
     let s = c.args.state.now in
     let idle = idle-worker s.workers.items c.args.worker (idle-there s.workers.items c.deref.result.now c.args.worker c.is_idle.result c.deref.ensures.value c.is_idle.ensures c.if-not-is_idle.false) in
     idle-lent job_of job_reply_of (setup_in s) (world s) (books s.desk) c.requires.stands c.args.worker (worker_seen (worker_with Idle idle.0))
@@ -57,18 +57,18 @@ returns-in-Err-Taken-clause-events c =
     let taken = subst (λ r. IsRefused (books s.desk) (affinity_of c.in-Some.affinity) r) c.in-Err-Taken.field-0-is c.in-Err-Taken.ensures.refused in (
       inl (taken_refused s c.requires c.args.worker c.args.place c.args.moment c.in-Some.affinity free c.in-Some.ensures.there
           c.if-moment-ge-SECOND.false taken),
-      same-books (world s) (books s.desk) (books c.begin.new.self) c.in-Err-Taken.ensures.same,
+      same-books (world s) (books s.desk) (books c.lend.new.desk) c.in-Err-Taken.ensures.same,
     )
 
 pub returns-in-Err-Taken-clause-sound : goal.returns-in-Err-Taken-clause-sound
 returns-in-Err-Taken-clause-sound c =
     let s = c.args.state.now in
-    unchanged-sound s (record s { desk = c.begin.new.self }) c.in-Err-Taken.ensures.same c.in-Err-Taken.ensures.kept c.requires
+    unchanged-sound s (record s { desk = c.lend.new.desk }) c.in-Err-Taken.ensures.same c.in-Err-Taken.ensures.kept c.requires
 
 pub returns-in-Err-Worn-clause-sound : goal.returns-in-Err-Worn-clause-sound
 returns-in-Err-Worn-clause-sound c =
     let s = c.args.state.now in
-    unchanged-sound s (record s { desk = c.begin.new.self }) c.in-Err-Worn.ensures.same c.in-Err-Worn.ensures.kept c.requires
+    unchanged-sound s (record s { desk = c.lend.new.desk }) c.in-Err-Worn.ensures.same c.in-Err-Worn.ensures.kept c.requires
 
 pub returns-in-Err-Worn-clause-events : goal.returns-in-Err-Worn-clause-events
 returns-in-Err-Worn-clause-events c =
@@ -77,7 +77,7 @@ returns-in-Err-Worn-clause-events c =
     let worn = subst (λ r. IsRefused (books s.desk) (affinity_of c.in-Some.affinity) r) c.in-Err-Worn.field-0-is c.in-Err-Worn.ensures.refused in (
       inl (worn_refused s c.requires c.args.worker c.args.place c.args.moment c.in-Some.affinity free c.in-Some.ensures.there
           c.if-moment-ge-SECOND.false worn),
-      same-books (world s) (books s.desk) (books c.begin.new.self) c.in-Err-Worn.ensures.same,
+      same-books (world s) (books s.desk) (books c.lend.new.desk) c.in-Err-Worn.ensures.same,
     )
 
 -- ---- it begins
@@ -87,7 +87,7 @@ module _ (c : goal.After-set_run) where
   s = c.args.state.now
 
   abbrev new : State
-  new = record s { calls = c.begin-in-Ok.new.self; workers = c.set_run.new.workers; desk = c.begin.new.self }
+  new = record s { calls = c.begin.new.self; workers = c.set_run.new.workers; desk = c.lend.new.desk }
 
   abbrev r : Running
   r = record { message = c.in-Ok-begin.message; moment = c.args.moment }
