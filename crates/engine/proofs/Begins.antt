@@ -43,6 +43,11 @@ use Rattle.engine.proofs.Ended.{world_after}
 use Rattle.engine.proofs.Lists.{inner}
 use Rattle.engine.proofs.Workers.{seen-ran}
 
+-- a worker that isn't idle is refused
+pub begin-busy : (setup : Setup) (w : World) (worker place : ℕ) (moment : Moment) → is_idle (slice_get w.workers worker) ≡ false
+    → refusal setup w (Begin worker place moment) ≡ Some 33
+begin-busy setup w worker place moment busy = rw busy refl
+
 -- a moment of a whole second or more of nanoseconds is refused, after what comes before it
 pub bad-moment : (setup : Setup) (w : World) (worker place : ℕ) (moment : Moment) (m : worlds.Message) → is_idle (slice_get w.workers worker) ≡ true
     → slice_get w.waiting place ≡ Some m → 1000000000 ≤ moment.nanoseconds → refusal setup w (Begin worker place moment) ≡ Some 37

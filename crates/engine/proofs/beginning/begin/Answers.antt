@@ -3,10 +3,12 @@ use Rattle.std.specs.Prelude.{slice_get}
 use Rattle.std.specs.Global.{Vec}
 use Rattle.std.proofs.lemmas.Option.{slice_get_within}
 use Rattle.nfs_model.specs.Parts.{Hand}
+use Rattle.nfs_model.specs.Tree.{Layout}
 use Rattle.nfs_model.specs.Events.Refusals.{Begin}
 use Rattle.nfs_values.specs.Moment.{moment_of}
 use Rattle.affinity_tree.specs.declared.affinity.Affinity.{Affinity}
 use Rattle.affinity_tree.specs.Affinity.{affinity_of}
+use Rattle.affinity_tree.specs.Tree.{IsNode}
 use Rattle.desk_laws.specs.Calls as desks
 use Rattle.desk.specs.Refusal.{IsRefused}
 use Rattle.desk.specs.Words.{books}
@@ -21,8 +23,8 @@ use Rattle.engine.specs.declared.state.State.{State}
 use Rattle.engine.specs.Seen.{worker_seen, setup_in, world}
 use Rattle.engine.specs.Words.{Does}
 use Rattle.engine.specs.Workers.{worker_with}
-use Rattle.engine.proofs.Workers.{seen-at, idle-there, idle-worker, one-worker}
-use Rattle.engine.proofs.Begins.{found-message, idle-lent, same-books, tried-affinity}
+use Rattle.engine.proofs.Workers.{seen-at, idle-there, idle-asked, idle-worker, in-vector, one-worker}
+use Rattle.engine.proofs.Begins.{begin-busy, found-message, idle-lent, same-books, tried-affinity}
 use Rattle.engine.proofs.Changed.{IsChanged, same_setup, unchanged-sound}
 use Rattle.engine.proofs.Begun.{late_refused, taken_refused, worn_refused, begun_events, begun_sound}
 use Rattle.engine.proofs.beginning.begin.Goals as goal
@@ -42,7 +44,23 @@ unreachable-requires c =
     let beyond = c.in-Err.ensures.none.0 refl in
     let no : ⊥ = absurd (omega (arith, within, beyond)) in no
 
+pub lend-requires-clause-node : goal.lend-requires-clause-node
+lend-requires-clause-node c =
+    subst (λ (L : Layout). IsNode L (affinity_of c.in-Some.affinity)) (sym c.requires.layout) c.in-Some.ensures.node
+
+pub set_run-requires : goal.set_run-requires
+set_run-requires c =
+    let s = c.args.state.now in
+    let idle = idle-worker s.workers.items c.args.worker (idle-there s.workers.items c.deref.result.now c.args.worker c.is_idle.result c.deref.ensures.value c.is_idle.ensures c.if-not-is_idle.false) in
+    in-vector s.workers c.args.worker (worker_with Idle idle.0) idle.1
+
 -- ---- it is refused
+
+pub returns-then-not-is_idle-clause-events : goal.returns-then-not-is_idle-clause-events
+returns-then-not-is_idle-clause-events c =
+    let s = c.args.state.now in
+    let busy = idle-asked s.workers.items c.deref.result.now c.args.worker c.is_idle.result c.deref.ensures.value c.is_idle.ensures ∙ c.if-not-is_idle.true in
+    (inl (begin-busy (setup_in s) (world s) c.args.worker c.args.place (moment_of c.args.moment) busy), refl)
 
 pub returns-then-moment-ge-SECOND-clause-events : goal.returns-then-moment-ge-SECOND-clause-events
 returns-then-moment-ge-SECOND-clause-events c =
