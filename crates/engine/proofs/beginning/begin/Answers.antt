@@ -24,7 +24,7 @@ use Rattle.engine.specs.Seen.{worker_seen, setup_in, world}
 use Rattle.engine.specs.Words.{Does}
 use Rattle.engine.specs.Workers.{worker_with}
 use Rattle.engine.proofs.Workers.{seen-at, idle-there, idle-asked, idle-worker, in-vector, one-worker}
-use Rattle.engine.proofs.Begins.{begin-busy, found-message, idle-lent, same-books, tried-affinity}
+use Rattle.engine.proofs.Begins.{begin-busy, begin-missing, none-waits, found-message, idle-lent, same-books, tried-affinity}
 use Rattle.engine.proofs.Changed.{IsChanged, same_setup, unchanged-sound}
 use Rattle.engine.proofs.Begun.{late_refused, taken_refused, worn_refused, begun_events, begun_sound}
 use Rattle.engine.proofs.beginning.begin.Goals as goal
@@ -61,6 +61,13 @@ returns-then-not-is_idle-clause-events c =
     let s = c.args.state.now in
     let busy = idle-asked s.workers.items c.deref.result.now c.args.worker c.is_idle.result c.deref.ensures.value c.is_idle.ensures ∙ c.if-not-is_idle.true in
     (inl (begin-busy (setup_in s) (world s) c.args.worker c.args.place (moment_of c.args.moment) busy), refl)
+
+pub returns-in_default-clause-events : goal.returns-in_default-clause-events
+returns-in_default-clause-events c =
+    let s = c.args.state.now in
+    let free = idle-there s.workers.items c.deref.result.now c.args.worker c.is_idle.result c.deref.ensures.value c.is_idle.ensures c.if-not-is_idle.false in
+    let none = none-waits s.calls c.args.place c.in_default.ensures.there in
+    (inl (begin-missing (setup_in s) (world s) c.args.worker c.args.place (moment_of c.args.moment) free none), refl)
 
 pub returns-then-moment-ge-SECOND-clause-events : goal.returns-then-moment-ge-SECOND-clause-events
 returns-then-moment-ge-SECOND-clause-events c =
