@@ -43,6 +43,25 @@ use Rattle.engine.proofs.Ended.{world_after}
 use Rattle.engine.proofs.Lists.{inner}
 use Rattle.engine.proofs.Workers.{seen-ran}
 
+-- a worker that isn't idle is refused
+pub begin-busy : (setup : Setup) (w : World) (worker place : ℕ) (moment : Moment) → is_idle (slice_get w.workers worker) ≡ false
+    → refusal setup w (Begin worker place moment) ≡ Some 33
+begin-busy setup w worker place moment busy = rw busy refl
+
+-- where none waits at the place, after that
+pub begin-missing : (setup : Setup) (w : World) (worker place : ℕ) (moment : Moment) → is_idle (slice_get w.workers worker) ≡ true
+    → slice_get w.waiting place ≡ None → refusal setup w (Begin worker place moment) ≡ Some 32
+begin-missing setup w worker place moment idle none = rw (idle, none) refl
+
+none-found : (o : Option (Message Call)) → None ≡ option_map (λ (m : Message Call). m.affinity) o → o ≡ None
+none-found None e = refl
+none-found (Some m) e = absurd cc
+
+pub none-waits : (calls : CallsState) (place : ℕ) → None ≡ option_map (λ (m : Message Call). m.affinity) (slice_get (messages_of calls) place)
+    → slice_get (waiting_of calls) place ≡ None
+none-waits calls place e =
+    slice_get-map message_of (messages_of calls) place ∙ ap (option_map message_of) (none-found (slice_get (messages_of calls) place) e)
+
 -- a moment of a whole second or more of nanoseconds is refused, after what comes before it
 pub bad-moment : (setup : Setup) (w : World) (worker place : ℕ) (moment : Moment) (m : worlds.Message) → is_idle (slice_get w.workers worker) ≡ true
     → slice_get w.waiting place ≡ Some m → 1000000000 ≤ moment.nanoseconds → refusal setup w (Begin worker place moment) ≡ Some 37

@@ -1,5 +1,5 @@
 -- An inner call made on the engine's desk: what it needs at each step, and what it comes to.
-use Rattle.std.proofs.Common.{◌≡◌, ℕ, ◌<◌, ◌++◌, length, Option, Some, None, refl, sym, ap, ◌∙◌, subst}
+use Rattle.std.proofs.Common.{◌≡◌, ℕ, ◌<◌, ◌++◌, length, Some, refl, sym, ◌∙◌, subst}
 use Rattle.nfs_model.specs.Parts.{Hand, Empty}
 use Rattle.affinity_tree.specs.Tree.{IsNode}
 use Rattle.held_state.specs.Parcels.{FilerParcel}

@@ -1,9 +1,11 @@
 -- Connections that are opened and closed: nothing else changes.
-use Rattle.std.proofs.Common.{◌≡◌, ◌≤◌, ℕ, zero, suc, ◌+◌, ◌⊎◌, inl, inr, List, [], ◌∷◌, ◌++◌, map, length, Some, refl, sym, ap, subst, ◌∙◌, arith}
-use Rattle.std.specs.Prelude.{slice_get}
-use Rattle.std.proofs.lemmas.List.{length-append, map_push}
+use Rattle.std.proofs.Common.{◌≡◌, ◌<◌, ◌≤◌, Bool, ℕ, zero, suc, ◌+◌, ◌⊎◌, inl, inr, List, [], ◌∷◌, ◌++◌, map, length, Some, None, Ok, refl, sym, ap, subst, ◌∙◌, arith}
+use Rattle.std.specs.Prelude.{slice_get, if◌then◌else◌}
+use Rattle.std.proofs.lemmas.Bool.{lt-leb}
+use Rattle.std.proofs.lemmas.List.{length-append, length-map, map_push}
 use Rattle.nfs_model.specs.Tree.{Layout}
 use Rattle.nfs_model.specs.World as worlds
+use Rattle.nfs_model.specs.Events.Refusals as events
 use Rattle.nfs_model.specs.Events.Refusals.{open_count}
 use Rattle.nfs_model.specs.Events.Step.{new_connection}
 use Rattle.nfs_values.specs.declared.call.Call.{Call}
@@ -15,9 +17,11 @@ use Rattle.engine_feed.specs.declared.state.ConnectionState.{ConnectionState}
 use Rattle.engine_feed.specs.Seen.{connection_of, owed_by, layout_in, messages_of}
 use Rattle.engine.specs.declared.connection.Connection.{Connection}
 use Rattle.engine.specs.declared.connection.Connection.TheVariants.{Open}
+use Rattle.engine.specs.declared.event.Done.TheVariants.{Opened}
 use Rattle.engine.specs.declared.state.State.{State}
 use Rattle.engine.specs.declared.worker.Worker.{Worker}
 use Rattle.engine.specs.Seen.{connection_seen, setup_in, world}
+use Rattle.engine.specs.Words.{Does}
 use Rattle.engine.specs.Sound.{IsSound, IsPlaced, IsReady, rooms_on}
 use Rattle.engine.proofs.Lists.{all-later}
 use Rattle.engine.proofs.Placed.{placed-later, ready-later, kept_on, nothing-owed}
@@ -95,3 +99,21 @@ reserved-sound s new same items sound =
     reconnected s new (same ∙ ap (λ (n : ℕ). record s { connections = new.connections; open_count = n }) (sym count)) sound (omega (arith, size))
     (count ∙ sound.opened ∙ ap (λ (l : List Connection). open_count (map connection_seen l)) (sym items))
     (λ c x e. sound.owed c x (subst (λ (l : List Connection). slice_get l c ≡ Some (Open x)) items e))
+
+-- what is answered, where fewer than 64 are open
+pub opened-events : (s new : State) (o : ConnectionState) (n : ℕ) → new ≡ record s { connections = new.connections; open_count = new.open_count }
+    → new.connections.items ≡ s.connections.items ++ Open o ∷ [] → connection_of o ≡ new_connection → n ≡ length s.connections.items
+    → IsSound s → s.open_count < 64 → Does s events.Open (Ok (Opened n)) new
+opened-events s new o n same items is number sound few =
+    let cs = s.connections.items in
+    let seen : map connection_seen new.connections.items ≡ map connection_seen cs ++ new_connection ∷ [] =
+    ap (map connection_seen) items ∙ map_push connection_seen cs (Open o)
+    ∙ ap (λ (x : worlds.Connection). map connection_seen cs ++ x ∷ []) is in
+    let opened = sound.opened in
+    let few_seen : open_count (map connection_seen cs) < 64 = subst (λ (m : ℕ). m < 64) opened few in (
+      ap (λ (b : Bool). if b then Some 31 else None) (lt-leb 64 (open_count (map connection_seen cs)) few_seen),
+      (
+        ap events.Opened (number ∙ sym (length-map cs connection_seen)),
+        ap world same ∙ ap (λ (xs : List worlds.Connection). record (world s) { connections = xs }) seen,
+      ),
+    )

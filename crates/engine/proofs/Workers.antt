@@ -118,6 +118,10 @@ pub idle-there : (ks xs : List Worker) (i : ℕ) (b : Bool) → xs ≡ ks → b 
     → is_idle (slice_get (map worker_seen ks) i) ≡ true
 idle-there ks xs i b are told yes_so = ap (λ zs. is_idle (slice_get (map worker_seen zs) i)) (sym are) ∙ sym told ∙ yes_so
 
+pub idle-asked : (ks xs : List Worker) (i : ℕ) (b : Bool) → xs ≡ ks → b ≡ is_idle (slice_get (map worker_seen xs) i)
+    → is_idle (slice_get (map worker_seen ks) i) ≡ b
+idle-asked ks xs i b are told = ap (λ zs. is_idle (slice_get (map worker_seen zs) i)) (sym are) ∙ sym told
+
 pub idle-worker : (ks : List Worker) (i : ℕ) → is_idle (slice_get (map worker_seen ks) i) ≡ true → (hand : Hand) × (slice_get ks i ≡ Some (worker_with Idle hand))
 idle-worker ks i free = idle-at (slice_get ks i) (ap is_idle (sym (slice_get-map worker_seen ks i)) ∙ free)
 

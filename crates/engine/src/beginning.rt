@@ -7,6 +7,7 @@ ghost use Rattle.engine.specs.Sound.{IsSound};
 ghost use Rattle.engine.specs.Words.{Does, HasItsSetup};
 
 use crate::event::{Done, Refusal};
+use crate::lending::lend;
 use crate::state::{SECOND, State};
 use crate::worker::{Running, WorkerRun, is_idle, set_run};
 use desk::Refusal as Refused;
@@ -33,7 +34,7 @@ pub(crate) fn begin(
     if moment.nanoseconds >= SECOND {
         return Err(Refusal::BadMoment);
     }
-    match state.desk.begin(worker, affinity) {
+    match lend(&mut state.desk, worker, affinity) {
         Err(Refused::Taken) => Err(Refusal::Busy),
         Err(Refused::Worn) => Err(Refusal::Worn),
         Ok(()) => {

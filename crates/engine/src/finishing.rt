@@ -20,6 +20,7 @@ ghost use Rattle.engine.specs.Words.{Does, HasItsSetup};
 
 use crate::connection::Connection;
 use crate::event::{Done, Refusal};
+use crate::lending::{enter, take_back};
 use crate::state::State;
 use crate::worker::{Running, WorkerRun, run_at, take_run};
 use affinity_tree::Affinity;
@@ -88,7 +89,7 @@ fn end_on(
     };
     let job = Job::Serve(served(origin, asked, affinity, moment, starved));
     let answer = JobReply::Replied(reply);
-    desk.finish(worker, &job, &answer);
+    enter(desk, worker, &job, &answer);
     let (call, reply) = match (job, answer) {
         (
             Job::Serve(
@@ -164,7 +165,7 @@ pub(crate) fn finish(state: &mut State, worker: usize) -> Result<Done, Refusal>
         Outcome::Replied(reply) => (reply, false),
         Outcome::Starved => (Reply::SystemError, true),
         Outcome::Moved(affinity) => {
-            state.desk.put_back(worker);
+            take_back(&mut state.desk, worker);
             state.calls.put_back(Message {
                 affinity,
                 ..running.message

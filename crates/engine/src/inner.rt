@@ -12,6 +12,7 @@ ghost use Rattle.engine.specs.Sound.{IsSound};
 ghost use Rattle.engine.specs.Words.{HasItsSetup};
 
 use crate::event::{Done, Refusal};
+use crate::lending::{enter, lend, take_back};
 use crate::state::State;
 use crate::worker::{set_hand, take_hand};
 use affinity_tree::Affinity;
@@ -55,7 +56,7 @@ fn make(
     ensures hand { IfErr result (λ r. r.1 ≡ hand) }
     ensures same { IfErr result (λ r. books desk.new ≡ books desk.old) }
 {
-    match desk.begin(worker, node_of(call)) {
+    match lend(desk, worker, node_of(call)) {
         Err(Refused::Taken) => return Err((Refusal::Busy, hand)),
         Err(Refused::Worn) => return Err((Refusal::Worn, hand)),
         Ok(()) => {}
@@ -63,16 +64,16 @@ fn make(
     match desk.work(worker, RunInner { alloc, call, hand }) {
         InnerOutcome::Done(reply) => {
             let entry = Job::Inner(call);
-            desk.finish(worker, &entry, &reply);
+            enter(desk, worker, &entry, &reply);
             drop(entry);
             Ok(reply)
         }
         InnerOutcome::Refused => {
-            desk.put_back(worker);
+            take_back(desk, worker);
             Err((Refusal::NoSuchRange, BatchInHand::new(Hand::Empty)))
         }
         InnerOutcome::NoMemory(hand) => {
-            desk.put_back(worker);
+            take_back(desk, worker);
             Err((Refusal::NoMemory, hand))
         }
     }

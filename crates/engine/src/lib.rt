@@ -11,6 +11,7 @@ mod event;
 mod feeding;
 mod finishing;
 mod inner;
+mod lending;
 mod opening;
 mod state;
 mod worker;

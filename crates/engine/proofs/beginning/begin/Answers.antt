@@ -3,10 +3,12 @@ use Rattle.std.specs.Prelude.{slice_get}
 use Rattle.std.specs.Global.{Vec}
 use Rattle.std.proofs.lemmas.Option.{slice_get_within}
 use Rattle.nfs_model.specs.Parts.{Hand}
+use Rattle.nfs_model.specs.Tree.{Layout}
 use Rattle.nfs_model.specs.Events.Refusals.{Begin}
 use Rattle.nfs_values.specs.Moment.{moment_of}
 use Rattle.affinity_tree.specs.declared.affinity.Affinity.{Affinity}
 use Rattle.affinity_tree.specs.Affinity.{affinity_of}
+use Rattle.affinity_tree.specs.Tree.{IsNode}
 use Rattle.desk_laws.specs.Calls as desks
 use Rattle.desk.specs.Refusal.{IsRefused}
 use Rattle.desk.specs.Words.{books}
@@ -21,14 +23,14 @@ use Rattle.engine.specs.declared.state.State.{State}
 use Rattle.engine.specs.Seen.{worker_seen, setup_in, world}
 use Rattle.engine.specs.Words.{Does}
 use Rattle.engine.specs.Workers.{worker_with}
-use Rattle.engine.proofs.Workers.{seen-at, idle-there, idle-worker, one-worker}
-use Rattle.engine.proofs.Begins.{found-message, idle-lent, same-books, tried-affinity}
+use Rattle.engine.proofs.Workers.{seen-at, idle-there, idle-asked, idle-worker, in-vector, one-worker}
+use Rattle.engine.proofs.Begins.{begin-busy, begin-missing, none-waits, found-message, idle-lent, same-books, tried-affinity}
 use Rattle.engine.proofs.Changed.{IsChanged, same_setup, unchanged-sound}
 use Rattle.engine.proofs.Begun.{late_refused, taken_refused, worn_refused, begun_events, begun_sound}
 use Rattle.engine.proofs.beginning.begin.Goals as goal
 
-pub begin-requires-clause-idle : goal.begin-requires-clause-idle
-begin-requires-clause-idle c =
+pub lend-requires-clause-idle : goal.lend-requires-clause-idle
+lend-requires-clause-idle c =
     let s = c.args.state.now in
     let idle = idle-worker s.workers.items c.args.worker (idle-there s.workers.items c.deref.result.now c.args.worker c.is_idle.result c.deref.ensures.value c.is_idle.ensures c.if-not-is_idle.false) in
     idle-lent job_of job_reply_of (setup_in s) (world s) (books s.desk) c.requires.stands c.args.worker (worker_seen (worker_with Idle idle.0))
@@ -42,7 +44,30 @@ unreachable-requires c =
     let beyond = c.in-Err.ensures.none.0 refl in
     let no : ⊥ = absurd (omega (arith, within, beyond)) in no
 
+pub lend-requires-clause-node : goal.lend-requires-clause-node
+lend-requires-clause-node c =
+    subst (λ (L : Layout). IsNode L (affinity_of c.in-Some.affinity)) (sym c.requires.layout) c.in-Some.ensures.node
+
+pub set_run-requires : goal.set_run-requires
+set_run-requires c =
+    let s = c.args.state.now in
+    let idle = idle-worker s.workers.items c.args.worker (idle-there s.workers.items c.deref.result.now c.args.worker c.is_idle.result c.deref.ensures.value c.is_idle.ensures c.if-not-is_idle.false) in
+    in-vector s.workers c.args.worker (worker_with Idle idle.0) idle.1
+
 -- ---- it is refused
+
+pub returns-then-not-is_idle-clause-events : goal.returns-then-not-is_idle-clause-events
+returns-then-not-is_idle-clause-events c =
+    let s = c.args.state.now in
+    let busy = idle-asked s.workers.items c.deref.result.now c.args.worker c.is_idle.result c.deref.ensures.value c.is_idle.ensures ∙ c.if-not-is_idle.true in
+    (inl (begin-busy (setup_in s) (world s) c.args.worker c.args.place (moment_of c.args.moment) busy), refl)
+
+pub returns-in_default-clause-events : goal.returns-in_default-clause-events
+returns-in_default-clause-events c =
+    let s = c.args.state.now in
+    let free = idle-there s.workers.items c.deref.result.now c.args.worker c.is_idle.result c.deref.ensures.value c.is_idle.ensures c.if-not-is_idle.false in
+    let none = none-waits s.calls c.args.place c.in_default.ensures.there in
+    (inl (begin-missing (setup_in s) (world s) c.args.worker c.args.place (moment_of c.args.moment) free none), refl)
 
 pub returns-then-moment-ge-SECOND-clause-events : goal.returns-then-moment-ge-SECOND-clause-events
 returns-then-moment-ge-SECOND-clause-events c =
@@ -57,18 +82,18 @@ returns-in-Err-Taken-clause-events c =
     let taken = subst (λ r. IsRefused (books s.desk) (affinity_of c.in-Some.affinity) r) c.in-Err-Taken.field-0-is c.in-Err-Taken.ensures.refused in (
       inl (taken_refused s c.requires c.args.worker c.args.place c.args.moment c.in-Some.affinity free c.in-Some.ensures.there
           c.if-moment-ge-SECOND.false taken),
-      same-books (world s) (books s.desk) (books c.begin.new.self) c.in-Err-Taken.ensures.same,
+      same-books (world s) (books s.desk) (books c.lend.new.desk) c.in-Err-Taken.ensures.same,
     )
 
 pub returns-in-Err-Taken-clause-sound : goal.returns-in-Err-Taken-clause-sound
 returns-in-Err-Taken-clause-sound c =
     let s = c.args.state.now in
-    unchanged-sound s (record s { desk = c.begin.new.self }) c.in-Err-Taken.ensures.same c.in-Err-Taken.ensures.kept c.requires
+    unchanged-sound s (record s { desk = c.lend.new.desk }) c.in-Err-Taken.ensures.same c.in-Err-Taken.ensures.kept c.requires
 
 pub returns-in-Err-Worn-clause-sound : goal.returns-in-Err-Worn-clause-sound
 returns-in-Err-Worn-clause-sound c =
     let s = c.args.state.now in
-    unchanged-sound s (record s { desk = c.begin.new.self }) c.in-Err-Worn.ensures.same c.in-Err-Worn.ensures.kept c.requires
+    unchanged-sound s (record s { desk = c.lend.new.desk }) c.in-Err-Worn.ensures.same c.in-Err-Worn.ensures.kept c.requires
 
 pub returns-in-Err-Worn-clause-events : goal.returns-in-Err-Worn-clause-events
 returns-in-Err-Worn-clause-events c =
@@ -77,7 +102,7 @@ returns-in-Err-Worn-clause-events c =
     let worn = subst (λ r. IsRefused (books s.desk) (affinity_of c.in-Some.affinity) r) c.in-Err-Worn.field-0-is c.in-Err-Worn.ensures.refused in (
       inl (worn_refused s c.requires c.args.worker c.args.place c.args.moment c.in-Some.affinity free c.in-Some.ensures.there
           c.if-moment-ge-SECOND.false worn),
-      same-books (world s) (books s.desk) (books c.begin.new.self) c.in-Err-Worn.ensures.same,
+      same-books (world s) (books s.desk) (books c.lend.new.desk) c.in-Err-Worn.ensures.same,
     )
 
 -- ---- it begins
@@ -87,7 +112,7 @@ module _ (c : goal.After-set_run) where
   s = c.args.state.now
 
   abbrev new : State
-  new = record s { calls = c.begin-in-Ok.new.self; workers = c.set_run.new.workers; desk = c.begin.new.self }
+  new = record s { calls = c.begin.new.self; workers = c.set_run.new.workers; desk = c.lend.new.desk }
 
   abbrev r : Running
   r = record { message = c.in-Ok-begin.message; moment = c.args.moment }

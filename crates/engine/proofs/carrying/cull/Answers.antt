@@ -1,8 +1,14 @@
 use Rattle.std.proofs.Common.{refl, sym, ◌∙◌, inl}
 use Rattle.engine.specs.Seen.{setup_in, world, answer_of}
-use Rattle.engine.proofs.Carried.{cull-nowhere, culled}
+use Rattle.engine.proofs.Carried.{cull-busy, cull-nowhere, culled}
 use Rattle.engine.proofs.Free.{free-there, volume-asked, may_cull}
 use Rattle.engine.proofs.carrying.cull.Goals as goal
+
+pub returns-then-not-is_free-clause-events : goal.returns-then-not-is_free-clause-events
+returns-then-not-is_free-clause-events c =
+    let s = c.args.state.now in
+    let busy = (free-there s.workers.items c.deref.result.now c.args.worker c.is_free.result c.deref.ensures.value c.is_free.ensures ∙ c.if-not-is_free.true) in
+    (inl (cull-busy (setup_in s) (world s) c.args.worker busy c.args.volume.0), refl)
 
 pub returns-then-not-has_volume-clause-events : goal.returns-then-not-has_volume-clause-events
 returns-then-not-has_volume-clause-events c =

@@ -1,9 +1,15 @@
 use Rattle.std.proofs.Common.{refl, sym, ◌∙◌, inl}
-use Rattle.std.proofs.lemmas.Bool.{lt-leb}
+use Rattle.std.proofs.lemmas.Bool.{le-leb, lt-leb}
 use Rattle.engine.specs.Seen.{setup_in, world, answer_of}
-use Rattle.engine.proofs.Carried.{fetch-nowhere, fetched}
+use Rattle.engine.proofs.Carried.{fetch-beyond, fetch-busy, fetch-nowhere, fetched}
 use Rattle.engine.proofs.Free.{free-there, volume-asked, may_fetch}
 use Rattle.engine.proofs.carrying.fetch.Goals as goal
+
+pub returns-then-not-is_free-clause-events : goal.returns-then-not-is_free-clause-events
+returns-then-not-is_free-clause-events c =
+    let s = c.args.state.now in
+    let busy = (free-there s.workers.items c.deref.result.now c.args.worker c.is_free.result c.deref.ensures.value c.is_free.ensures ∙ c.if-not-is_free.true) in
+    (inl (fetch-busy (setup_in s) (world s) c.args.worker busy c.args.volume.0 c.args.range), refl)
 
 pub returns-then-not-has_volume-clause-events : goal.returns-then-not-has_volume-clause-events
 returns-then-not-has_volume-clause-events c =
@@ -11,6 +17,13 @@ returns-then-not-has_volume-clause-events c =
     let free = (free-there s.workers.items c.deref.result.now c.args.worker c.is_free.result c.deref.ensures.value c.is_free.ensures ∙ c.if-not-is_free.false) in
     let none = volume-asked s c.requires c.args.volume.0 c.has_volume.result c.has_volume.ensures ∙ c.if-not-has_volume.true in
     (inl (fetch-nowhere (setup_in s) (world s) c.args.worker free c.args.volume.0 none c.args.range), refl)
+
+pub returns-then-range-ge-RANGES-clause-events : goal.returns-then-range-ge-RANGES-clause-events
+returns-then-range-ge-RANGES-clause-events c =
+    let s = c.args.state.now in
+    let free = (free-there s.workers.items c.deref.result.now c.args.worker c.is_free.result c.deref.ensures.value c.is_free.ensures ∙ c.if-not-is_free.false) in
+    let there = volume-asked s c.requires c.args.volume.0 c.has_volume.result c.has_volume.ensures ∙ c.if-not-has_volume.false in
+    (inl (fetch-beyond (setup_in s) (world s) c.args.worker free c.args.volume.0 there c.args.range (le-leb 16 c.args.range c.if-range-ge-RANGES.true)), refl)
 
 pub tend-requires-clause-may : goal.tend-requires-clause-may
 tend-requires-clause-may c =

@@ -1,11 +1,26 @@
 use Rattle.std.proofs.Common.{refl, sym, ap, ◌∙◌, inl}
 use Rattle.std.specs.Prelude.{option_map}
 use Rattle.service.specs.Jobs.{inner_of}
+use Rattle.engine.specs.declared.worker.WorkerRun.TheVariants.{Idle}
+use Rattle.engine.specs.Workers.{worker_with}
 use Rattle.engine.specs.Seen.{setup_in, world, answer_of}
-use Rattle.engine.proofs.Workers.{idle-there}
-use Rattle.engine.proofs.Carried.{put-as, put-nothing}
+use Rattle.engine.proofs.Workers.{idle-asked, idle-there, idle-worker, in-vector}
+use Rattle.engine.proofs.Carried.{put-busy, put-as, put-nothing}
 use Rattle.engine.proofs.Free.{in-hand, there-at, has-call, may_put}
 use Rattle.engine.proofs.carrying.put_down.Goals as goal
+
+pub returns-then-not-is_idle-clause-events : goal.returns-then-not-is_idle-clause-events
+returns-then-not-is_idle-clause-events c =
+    let s = c.args.state.now in
+    let busy = idle-asked s.workers.items c.deref.result.now c.args.worker c.is_idle.result c.deref.ensures.value c.is_idle.ensures ∙ c.if-not-is_idle.true in
+    (inl (put-busy (setup_in s) (world s) c.args.worker busy), refl)
+
+pub index-requires : goal.index-requires
+index-requires c =
+    let s = c.args.state.now in
+    let free = idle-there s.workers.items c.deref.result.now c.args.worker c.is_idle.result c.deref.ensures.value c.is_idle.ensures c.if-not-is_idle.false in
+    let idle = idle-worker s.workers.items c.args.worker free in
+    in-vector s.workers c.args.worker (worker_with Idle idle.0) idle.1
 
 pub tend-requires-clause-may : goal.tend-requires-clause-may
 tend-requires-clause-may c =

@@ -58,29 +58,29 @@ take_run-requires c =
 
 -- ---- it moves
 
-pub put_back-requires-clause-may : goal.put_back-requires-clause-may
-put_back-requires-clause-may c =
+pub take_back-requires-clause-may : goal.take_back-requires-clause-may
+take_back-requires-clause-may c =
     may_go_back c.args.state.now c.requires c.args.worker c.in-Worked.running c.in-Worked.outcome c.take_run.ensures.0
     (c.take_run.ensures.1 ∙ ap (λ (x : WorkerRun). Some (worker_with x c.take_run.ensures.0)) c.in-Worked.is)
     c.in-Moved.affinity c.in-Moved.is
 
-pub put_back-requires-in-Moved-clause-runs : goal.put_back-requires-in-Moved-clause-runs
-put_back-requires-in-Moved-clause-runs c =
+pub put_back-requires-clause-runs : goal.put_back-requires-clause-runs
+put_back-requires-clause-runs c =
     some_run c.args.state.now c.requires c.args.worker c.in-Worked.running c.in-Worked.outcome c.take_run.ensures.0
     (c.take_run.ensures.1 ∙ ap (λ (x : WorkerRun). Some (worker_with x c.take_run.ensures.0)) c.in-Worked.is)
 
-pub put_back-requires-in-Moved-clause-admitted : goal.put_back-requires-in-Moved-clause-admitted
-put_back-requires-in-Moved-clause-admitted c =
+pub put_back-requires-clause-admitted : goal.put_back-requires-clause-admitted
+put_back-requires-clause-admitted c =
     again_admitted c.args.state.now c.requires c.args.worker c.in-Worked.running c.in-Worked.outcome c.take_run.ensures.0
     (c.take_run.ensures.1 ∙ ap (λ (x : WorkerRun). Some (worker_with x c.take_run.ensures.0)) c.in-Worked.is)
     c.in-Moved.affinity c.in-Moved.is
 
-module _ (c : goal.After-put_back-in-Moved) where
+module _ (c : goal.After-put_back) where
   there : slice_get c.args.state.now.workers.items c.args.worker ≡ Some (worker_with (Worked c.in-Worked.running c.in-Worked.outcome) c.take_run.ensures.0)
   there = c.take_run.ensures.1 ∙ ap (λ (x : WorkerRun). Some (worker_with x c.take_run.ensures.0)) c.in-Worked.is
 
   abbrev new : State
-  new = record c.args.state.now { calls = c.put_back-in-Moved.new.self; workers = c.take_run.new.workers; desk = c.put_back.new.self }
+  new = record c.args.state.now { calls = c.put_back.new.self; workers = c.take_run.new.workers; desk = c.take_back.new.desk }
 
   changed : IsChanged c.args.state.now new c.args.worker (worker_with (Worked c.in-Worked.running c.in-Worked.outcome) c.take_run.ensures.0)
       (worker_with Idle c.take_run.ensures.0)
@@ -88,19 +88,19 @@ module _ (c : goal.After-put_back-in-Moved) where
     there = there;
     set = ap (λ (v : Vec Worker). v.items) c.take_run.ensures.2;
     verifier = refl;
-    layout = c.put_back-in-Moved.ensures.layout;
+    layout = c.put_back.ensures.layout;
     many = refl;
   }
 
 pub returns-in-Moved-clause-events : goal.returns-in-Moved-clause-events
 returns-in-Moved-clause-events c =
     back_events c.args.state.now c.requires c.args.worker c.in-Worked.running c.in-Worked.outcome c.take_run.ensures.0 (there c) c.in-Moved.affinity c.in-Moved.is
-    (new c) (changed c) refl refl c.put_back.ensures.kept c.put_back.ensures.back c.put_back-in-Moved.ensures
+    (new c) (changed c) refl refl c.take_back.ensures.kept c.take_back.ensures.back c.put_back.ensures
 
 pub returns-in-Moved-clause-sound : goal.returns-in-Moved-clause-sound
 returns-in-Moved-clause-sound c =
     back_sound c.args.state.now c.requires c.args.worker c.in-Worked.running c.in-Worked.outcome c.take_run.ensures.0 (there c) c.in-Moved.affinity c.in-Moved.is
-    (new c) (changed c) refl refl c.put_back.ensures.kept c.put_back.ensures.back c.put_back-in-Moved.ensures
+    (new c) (changed c) refl refl c.take_back.ensures.kept c.take_back.ensures.back c.put_back.ensures
 
 pub returns-in-Moved-clause-setup : goal.returns-in-Moved-clause-setup
 returns-in-Moved-clause-setup c = same_setup (changed c)

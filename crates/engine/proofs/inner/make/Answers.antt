@@ -1,6 +1,10 @@
 use Rattle.std.proofs.Common.{refl, sym, ◌∙◌, subst}
 use Rattle.nfs_model.specs.Tree.{Affinity}
+use Rattle.affinity_tree.specs.Affinity.{affinity_of}
+use Rattle.affinity_tree.specs.Tree.{IsNode}
 use Rattle.desk_laws.specs.Calls.{HasBegun}
+use Rattle.desk.specs.Refusal.{IsRefused}
+use Rattle.desk.specs.declared.refusal.Refusal.TheVariants.{Taken, Worn}
 use Rattle.desk.specs.Words.{books}
 use Rattle.engine_laws.specs.lemmas.Happening.{book-apart}
 use Rattle.service.specs.Jobs.{inner_of}
@@ -12,56 +16,77 @@ use Rattle.engine.proofs.inner.make.Goals as goal
 
 pub work-requires-clause-may : goal.work-requires-clause-may
 work-requires-clause-may c =
-    may_run (books c.args.desk.now) c.args.worker (inner_of c.args.call) c.args.hand c.requires.may (books c.begin.new.self) (subst (λ (a : Affinity). HasBegun (books c.args.desk.now) c.args.worker a (books c.begin.new.self)) c.node_of.ensures c.in-Ok.ensures.begun) (book-apart _ (books c.begin.new.self) _ c.in-Ok.ensures.kept)
+    may_run (books c.args.desk.now) c.args.worker (inner_of c.args.call) c.args.hand c.requires.may (books c.lend.new.desk) (subst (λ (a : Affinity). HasBegun (books c.args.desk.now) c.args.worker a (books c.lend.new.desk)) c.node_of.ensures c.in-Ok.ensures.begun) (book-apart _ (books c.lend.new.desk) _ c.in-Ok.ensures.kept)
+
+pub lend-requires-clause-node : goal.lend-requires-clause-node
+lend-requires-clause-node c = subst (λ (a : Affinity). IsNode (books c.args.desk.now).layout a) (sym c.node_of.ensures) c.requires.may.node
+
+pub lend-requires-clause-idle : goal.lend-requires-clause-idle
+lend-requires-clause-idle c = c.requires.may.idle
+
+pub returns-in-Err-Taken-clause-refused : goal.returns-in-Err-Taken-clause-refused
+returns-in-Err-Taken-clause-refused c =
+    subst (λ (a : Affinity). IsRefused (books c.args.desk.now) a Taken) c.node_of.ensures
+    (subst (λ r. IsRefused (books c.args.desk.now) (affinity_of c.node_of.result) r) c.in-Err-Taken.field-0-is c.in-Err-Taken.ensures.refused)
+
+pub returns-in-Err-Worn-clause-refused : goal.returns-in-Err-Worn-clause-refused
+returns-in-Err-Worn-clause-refused c =
+    subst (λ (a : Affinity). IsRefused (books c.args.desk.now) a Worn) c.node_of.ensures
+    (subst (λ r. IsRefused (books c.args.desk.now) (affinity_of c.node_of.result) r) c.in-Err-Worn.field-0-is c.in-Err-Worn.ensures.refused)
 
 -- ---- it is done
 
-pub finish-requires-clause-may : goal.finish-requires-clause-may
-finish-requires-clause-may c =
-    may_finish (books c.args.desk.now) c.args.worker (inner_of c.args.call) c.args.hand c.requires.may (books c.begin.new.self) (subst (λ (a : Affinity). HasBegun (books c.args.desk.now) c.args.worker a (books c.begin.new.self)) c.node_of.ensures c.in-Ok.ensures.begun) (book-apart _ (books c.begin.new.self) _ c.in-Ok.ensures.kept)
+pub enter-requires-clause-may : goal.enter-requires-clause-may
+enter-requires-clause-may c =
+    may_finish (books c.args.desk.now) c.args.worker (inner_of c.args.call) c.args.hand c.requires.may (books c.lend.new.desk) (subst (λ (a : Affinity). HasBegun (books c.args.desk.now) c.args.worker a (books c.lend.new.desk)) c.node_of.ensures c.in-Ok.ensures.begun) (book-apart _ (books c.lend.new.desk) _ c.in-Ok.ensures.kept)
     (books c.work.new.self) c.work.result c.work.ensures.worked c.in-Done.reply c.in-Done.is (Inner c.args.call) refl
 
 pub returns-in-Done-clause-made : goal.returns-in-Done-clause-made
 returns-in-Done-clause-made c =
-    is_made (books c.args.desk.now) c.args.worker (inner_of c.args.call) c.args.hand c.requires.may (books c.begin.new.self) (subst (λ (a : Affinity). HasBegun (books c.args.desk.now) c.args.worker a (books c.begin.new.self)) c.node_of.ensures c.in-Ok.ensures.begun) (book-apart _ (books c.begin.new.self) _ c.in-Ok.ensures.kept)
-    (books c.work.new.self) c.work.result c.work.ensures.worked c.in-Done.reply c.in-Done.is (Inner c.args.call) refl (books c.finish.new.self)
-    c.finish.ensures.finished
+    is_made (books c.args.desk.now) c.args.worker (inner_of c.args.call) c.args.hand c.requires.may (books c.lend.new.desk) (subst (λ (a : Affinity). HasBegun (books c.args.desk.now) c.args.worker a (books c.lend.new.desk)) c.node_of.ensures c.in-Ok.ensures.begun) (book-apart _ (books c.lend.new.desk) _ c.in-Ok.ensures.kept)
+    (books c.work.new.self) c.work.result c.work.ensures.worked c.in-Done.reply c.in-Done.is (Inner c.args.call) refl (books c.enter.new.desk)
+    c.enter.ensures.finished
 
 -- ---- it is refused
 
-pub put_back-requires-clause-may : goal.put_back-requires-clause-may
-put_back-requires-clause-may c =
-    may_go_back_refused (books c.args.desk.now) c.args.worker (inner_of c.args.call) c.args.hand c.requires.may (books c.begin.new.self) (subst (λ (a : Affinity). HasBegun (books c.args.desk.now) c.args.worker a (books c.begin.new.self)) c.node_of.ensures c.in-Ok.ensures.begun) (book-apart _ (books c.begin.new.self) _ c.in-Ok.ensures.kept)
+pub take_back-requires-clause-may : goal.take_back-requires-clause-may
+take_back-requires-clause-may c =
+    may_go_back_refused (books c.args.desk.now) c.args.worker (inner_of c.args.call) c.args.hand c.requires.may (books c.lend.new.desk) (subst (λ (a : Affinity). HasBegun (books c.args.desk.now) c.args.worker a (books c.lend.new.desk)) c.node_of.ensures c.in-Ok.ensures.begun) (book-apart _ (books c.lend.new.desk) _ c.in-Ok.ensures.kept)
     (books c.work.new.self) c.work.result c.work.ensures.worked c.in-Refused.is
 
 pub returns-in-Refused-clause-refused : goal.returns-in-Refused-clause-refused
 returns-in-Refused-clause-refused c =
-    is_refused (books c.args.desk.now) c.args.worker (inner_of c.args.call) c.args.hand c.requires.may (books c.begin.new.self) (subst (λ (a : Affinity). HasBegun (books c.args.desk.now) c.args.worker a (books c.begin.new.self)) c.node_of.ensures c.in-Ok.ensures.begun) (book-apart _ (books c.begin.new.self) _ c.in-Ok.ensures.kept)
+    is_refused (books c.args.desk.now) c.args.worker (inner_of c.args.call) c.args.hand c.requires.may (books c.lend.new.desk) (subst (λ (a : Affinity). HasBegun (books c.args.desk.now) c.args.worker a (books c.lend.new.desk)) c.node_of.ensures c.in-Ok.ensures.begun) (book-apart _ (books c.lend.new.desk) _ c.in-Ok.ensures.kept)
     (books c.work.new.self) c.work.result c.work.ensures.worked c.in-Refused.is
 
 pub returns-in-Refused-clause-hand : goal.returns-in-Refused-clause-hand
 returns-in-Refused-clause-hand c =
-    c.new.ensures ∙ sym (empty_hand (books c.args.desk.now) c.args.worker (inner_of c.args.call) c.args.hand c.requires.may (books c.begin.new.self) (subst (λ (a : Affinity). HasBegun (books c.args.desk.now) c.args.worker a (books c.begin.new.self)) c.node_of.ensures c.in-Ok.ensures.begun)
-    (book-apart _ (books c.begin.new.self) _ c.in-Ok.ensures.kept) (books c.work.new.self) c.work.result c.work.ensures.worked c.in-Refused.is)
+    c.new.ensures ∙ sym (empty_hand (books c.args.desk.now) c.args.worker (inner_of c.args.call) c.args.hand c.requires.may (books c.lend.new.desk) (subst (λ (a : Affinity). HasBegun (books c.args.desk.now) c.args.worker a (books c.lend.new.desk)) c.node_of.ensures c.in-Ok.ensures.begun)
+    (book-apart _ (books c.lend.new.desk) _ c.in-Ok.ensures.kept) (books c.work.new.self) c.work.result c.work.ensures.worked c.in-Refused.is)
 
 pub returns-in-Refused-clause-same : goal.returns-in-Refused-clause-same
 returns-in-Refused-clause-same c =
-    put_back (books c.args.desk.now) c.args.worker (inner_of c.args.call) c.args.hand c.requires.may (books c.begin.new.self) (subst (λ (a : Affinity). HasBegun (books c.args.desk.now) c.args.worker a (books c.begin.new.self)) c.node_of.ensures c.in-Ok.ensures.begun) (book-apart _ (books c.begin.new.self) _ c.in-Ok.ensures.kept)
-    (books c.work.new.self) c.work.result c.work.ensures.worked (books c.put_back.new.self) c.put_back.ensures.back
+    put_back (books c.args.desk.now) c.args.worker (inner_of c.args.call) c.args.hand c.requires.may (books c.lend.new.desk) (subst (λ (a : Affinity). HasBegun (books c.args.desk.now) c.args.worker a (books c.lend.new.desk)) c.node_of.ensures c.in-Ok.ensures.begun) (book-apart _ (books c.lend.new.desk) _ c.in-Ok.ensures.kept)
+    (books c.work.new.self) c.work.result c.work.ensures.worked (books c.take_back.new.desk) c.take_back.ensures.back
 
 -- ---- there is no memory
 
-pub put_back-requires-in-NoMemory-clause-may : goal.put_back-requires-in-NoMemory-clause-may
-put_back-requires-in-NoMemory-clause-may c =
-    may_go_back_starved (books c.args.desk.now) c.args.worker (inner_of c.args.call) c.args.hand c.requires.may (books c.begin.new.self) (subst (λ (a : Affinity). HasBegun (books c.args.desk.now) c.args.worker a (books c.begin.new.self)) c.node_of.ensures c.in-Ok.ensures.begun) (book-apart _ (books c.begin.new.self) _ c.in-Ok.ensures.kept)
+pub take_back-requires-in-NoMemory-clause-may : goal.take_back-requires-in-NoMemory-clause-may
+take_back-requires-in-NoMemory-clause-may c =
+    may_go_back_starved (books c.args.desk.now) c.args.worker (inner_of c.args.call) c.args.hand c.requires.may (books c.lend.new.desk) (subst (λ (a : Affinity). HasBegun (books c.args.desk.now) c.args.worker a (books c.lend.new.desk)) c.node_of.ensures c.in-Ok.ensures.begun) (book-apart _ (books c.lend.new.desk) _ c.in-Ok.ensures.kept)
     (books c.work.new.self) c.work.result c.work.ensures.worked c.in-NoMemory.hand c.in-NoMemory.is
 
 pub returns-in-NoMemory-clause-refused : goal.returns-in-NoMemory-clause-refused
 returns-in-NoMemory-clause-refused c =
-    is_starved (books c.args.desk.now) c.args.worker (inner_of c.args.call) c.args.hand c.requires.may (books c.begin.new.self) (subst (λ (a : Affinity). HasBegun (books c.args.desk.now) c.args.worker a (books c.begin.new.self)) c.node_of.ensures c.in-Ok.ensures.begun) (book-apart _ (books c.begin.new.self) _ c.in-Ok.ensures.kept)
+    is_starved (books c.args.desk.now) c.args.worker (inner_of c.args.call) c.args.hand c.requires.may (books c.lend.new.desk) (subst (λ (a : Affinity). HasBegun (books c.args.desk.now) c.args.worker a (books c.lend.new.desk)) c.node_of.ensures c.in-Ok.ensures.begun) (book-apart _ (books c.lend.new.desk) _ c.in-Ok.ensures.kept)
+    (books c.work.new.self) c.work.result c.work.ensures.worked c.in-NoMemory.hand c.in-NoMemory.is
+
+pub returns-in-NoMemory-clause-hand : goal.returns-in-NoMemory-clause-hand
+returns-in-NoMemory-clause-hand c =
+    hand_back (books c.args.desk.now) c.args.worker (inner_of c.args.call) c.args.hand c.requires.may (books c.lend.new.desk) (subst (λ (a : Affinity). HasBegun (books c.args.desk.now) c.args.worker a (books c.lend.new.desk)) c.node_of.ensures c.in-Ok.ensures.begun) (book-apart _ (books c.lend.new.desk) _ c.in-Ok.ensures.kept)
     (books c.work.new.self) c.work.result c.work.ensures.worked c.in-NoMemory.hand c.in-NoMemory.is
 
 pub returns-in-NoMemory-clause-same : goal.returns-in-NoMemory-clause-same
 returns-in-NoMemory-clause-same c =
-    put_back (books c.args.desk.now) c.args.worker (inner_of c.args.call) c.args.hand c.requires.may (books c.begin.new.self) (subst (λ (a : Affinity). HasBegun (books c.args.desk.now) c.args.worker a (books c.begin.new.self)) c.node_of.ensures c.in-Ok.ensures.begun) (book-apart _ (books c.begin.new.self) _ c.in-Ok.ensures.kept)
-    (books c.work.new.self) c.work.result c.work.ensures.worked (books c.put_back-in-NoMemory.new.self) c.put_back-in-NoMemory.ensures.back
+    put_back (books c.args.desk.now) c.args.worker (inner_of c.args.call) c.args.hand c.requires.may (books c.lend.new.desk) (subst (λ (a : Affinity). HasBegun (books c.args.desk.now) c.args.worker a (books c.lend.new.desk)) c.node_of.ensures c.in-Ok.ensures.begun) (book-apart _ (books c.lend.new.desk) _ c.in-Ok.ensures.kept)
+    (books c.work.new.self) c.work.result c.work.ensures.worked (books c.take_back-in-NoMemory.new.desk) c.take_back-in-NoMemory.ensures.back

@@ -1,0 +1,57 @@
+//! The desk's calls at the engine's own types: what is asked of those types is proved here once.
+
+ghost use Rattle.std.specs.Prelude.{◌≡◌, OnOk, IfErr};
+ghost use Rattle.affinity_tree.specs.Affinity.{affinity_of};
+ghost use Rattle.affinity_tree.specs.Tree.{IsNode};
+ghost use Rattle.desk_laws.specs.Books.{IsIdle};
+ghost use Rattle.desk_laws.specs.Calls.{HasBegun, MayFinish, HasFinished, MayPutBack, HasPutBack};
+ghost use Rattle.desk.specs.Refusal.{IsRefused};
+ghost use Rattle.desk.specs.Words.{books, machine_in, IsKept};
+
+use affinity_tree::Affinity;
+use desk::{Desk, ParcelKinds, Refusal};
+use service::{Job, JobReply, Service};
+
+/// Lends the parcels under an affinity to an idle worker.
+pub(crate) fn lend(
+    desk: &mut Desk<Service, ParcelKinds>,
+    worker: usize,
+    affinity: Affinity,
+) -> Result<(), Refusal>
+    requires kept { IsKept desk.old }
+    requires node { IsNode (books desk.old).layout (affinity_of affinity) }
+    requires idle { IsIdle (books desk.old) worker }
+    ensures kept { IsKept desk.new }
+    ensures begun { OnOk result
+        (HasBegun (books desk.old) worker (affinity_of affinity) (books desk.new)) }
+    ensures refused { IfErr result (IsRefused (books desk.old) (affinity_of affinity)) }
+    ensures same { IfErr result (λ refusal. books desk.new ≡ books desk.old) }
+{
+    desk.begin(worker, affinity)
+}
+
+/// Ends a worker's call by an entry of the history.
+pub(crate) fn enter(
+    desk: &mut Desk<Service, ParcelKinds>,
+    worker: usize,
+    call: &Job,
+    reply: &JobReply,
+)
+    requires kept { IsKept desk.old }
+    requires may { MayFinish (machine_in desk.old) (books desk.old) worker call.now reply.now }
+    ensures kept { IsKept desk.new }
+    ensures finished { HasFinished (machine_in desk.old) (books desk.old) worker call.now reply.now
+        (books desk.new) }
+{
+    desk.finish(worker, call, reply);
+}
+
+/// Ends a worker's call without an entry.
+pub(crate) fn take_back(desk: &mut Desk<Service, ParcelKinds>, worker: usize)
+    requires kept { IsKept desk.old }
+    requires may { MayPutBack (books desk.old) worker }
+    ensures kept { IsKept desk.new }
+    ensures back { HasPutBack (books desk.old) worker (books desk.new) }
+{
+    desk.put_back(worker);
+}
