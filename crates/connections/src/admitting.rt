@@ -8,24 +8,25 @@ ghost use Rattle.workers.specs.Messages.{Fits};
 use affinity_tree::Layout;
 use bells::Bells;
 use shared_waiting::{Pass, SharedWaiting};
+use std::alloc::AllocError;
 use std::sync::Wait;
 use workers::Message;
 
 /// Puts a message, and sleeps while the queue is full, after all workers were told.
-/// It comes back where the filer was stopped.
+/// Where the filer was stopped, none is put.
 pub(crate) fn admit_in_turn<R: Wait>(
     rt: &R,
     waiting: &SharedWaiting<Message, Layout>,
     bells: &Bells,
     pass: &mut Pass<Message, Layout>,
     message: Message,
-) -> Result<(), Message>
+) -> Result<(), AllocError>
     requires of { IsOf waiting.now pass.old }
     requires fits { FitsIn Fits (known pass.old).key message }
     ensures of { IsOf waiting.now pass.new }
     ensures rule { MatchResult result
         (λ _. known pass.new ≡ added (known pass.old) message)
-        (λ back. (back ≡ message) × (known pass.new ≡ known pass.old)) }
+        (λ _. known pass.new ≡ known pass.old) }
 {
     let mut next = message;
     for _ in rt.forever() {
@@ -35,7 +36,8 @@ pub(crate) fn admit_in_turn<R: Wait>(
             Err(back) => next = back,
         }
         if bells.room.is_stopped() {
-            return Err(next);
+            drop(next);
+            return Err(AllocError);
         }
         bells.work.ring_all();
         bells.room.wait_past(rt, seen);

@@ -62,19 +62,13 @@ impl<'a, R: Wait> RecordSource for Outgoing<'a, R> {
 
     fn take(&mut self) -> Option<Record> {
         let taken = self.filer.outboxes().lock(self.rt).take(self.connection);
-        match taken {
-            Some(record) => {
-                self.untold = self.untold.saturating_add(1);
-                if self.untold >= MANY {
-                    self.tell();
-                }
-                Some(record)
-            }
-            None => {
-                self.tell();
-                None
-            }
+        if taken.is_some() {
+            self.untold = self.untold.saturating_add(1);
         }
+        if taken.is_none() || self.untold >= MANY {
+            self.tell();
+        }
+        taken
     }
 
     ghost gave_none = { λ s. same_none s.connection };

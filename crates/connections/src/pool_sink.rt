@@ -9,11 +9,10 @@ use crate::admitting::admit_in_turn;
 use crate::helping::help_or_ring;
 use crate::lane::Lane;
 use crate::line::Line;
-use crate::message::with_room;
+use crate::message::in_room;
 use bells::Bells;
 use engine_feed::OfferedCall;
 use nfs_values::{ConnectionNumber, Moment, Reply};
-use outboxes::Room;
 use std::alloc::{AllocError, Global};
 use std::mem;
 use std::rt::Clock;
@@ -95,10 +94,10 @@ impl<'a, R: Wait + Clock> RecordSink for PoolSink<'a, R> {
 
     fn admit(&mut self, message: scheduler::Message<OfferedCall>) -> Result<(), AllocError> {
         if self.line.is_closed() {
+            drop(message);
             return Err(AllocError);
         }
-        let room = Room::new(self.alloc, message.room)?;
-        let message = with_room(message, room);
+        let message = in_room(self.alloc, message)?;
         let pass = &mut self.lane.loan.pass;
         match admit_in_turn(self.rt, self.filer.waiting(), self.bells, pass, message) {
             Ok(()) => {
@@ -106,7 +105,7 @@ impl<'a, R: Wait + Clock> RecordSink for PoolSink<'a, R> {
                 self.unannounced = self.unannounced.saturating_add(1);
                 Ok(())
             }
-            Err(_stopped) => Err(AllocError),
+            Err(stopped) => Err(stopped),
         }
     }
 

@@ -6,12 +6,17 @@ ghost use Rattle.connections.specs.Written.{HasWrittenAll};
 
 use crate::line::Line;
 use crate::outgoing::Outgoing;
-use bells::Bells;
+use bells::{Bell, Bells};
 use nfs_values::ConnectionNumber;
 use std::io::Write;
 use std::sync::Wait;
 use tcp_front::{Counted, WriteFault, write_joined};
 use workers::Filer;
+
+/// Whether what waits now is all that there is to be.
+fn is_last(line: &Line, mail: &Bell) -> bool {
+    line.is_done() || line.is_closed() || mail.is_stopped()
+}
 
 /// Writes the replies of a connection as they come, as many in one write as a buffer has room for,
 /// until all are written that there are to be, or until the filer was stopped. At a failure of the
@@ -32,7 +37,7 @@ pub fn write_connection<R: Wait, W: Write>(
     let mut source = Outgoing::new(rt, filer, line, connection);
     for _ in rt.forever() {
         let seen = mail.rings();
-        let last = line.is_done() || line.is_closed() || mail.is_stopped();
+        let last = is_last(line, mail);
         match write_joined(rt, writer, buffer, &mut source) {
             Ok(()) => {}
             Err(fault) => return Err(fault),

@@ -1,3 +1,4 @@
+mod Called
 mod Replayed
 mod Grants
 mod Served

@@ -2,7 +2,6 @@
 //! turns. A worker's type keeps the balance of what it picked, finished, put back and keeps.
 #![tactic(auto)]
 
-mod apart;
 mod granted;
 mod inner;
 mod making;
@@ -12,7 +11,6 @@ mod parts;
 mod queueing;
 mod serving;
 mod shared;
-mod splitting;
 mod starting;
 mod tend;
 mod tending;

@@ -64,20 +64,6 @@ impl Filer {
     {
         &self.outboxes
     }
-
-    /// Its depot. What waits is dropped.
-    pub fn into_depot(self) -> Depot<Service>
-        ensures { result ≡ self.depot }
-    {
-        let Filer {
-            alloc: _,
-            verifier: _,
-            depot,
-            waiting: _,
-            outboxes: _,
-        } = self;
-        depot
-    }
 }
 
 impl Worker {

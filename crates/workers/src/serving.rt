@@ -89,8 +89,11 @@ fn answer<N: Node<Parcel<Files>>>(
     });
     let told = JobReply::Replied(reply);
     finish_node::<Service, N>(&filer.depot, seat, grant, &job, &told);
+    drop(job);
     let reply = into_reply(told);
-    Answer::new(origin.connection, origin.xid, &reply, room)
+    let answer = Answer::new(origin.connection, origin.xid, &reply, room);
+    drop(reply);
+    answer
 }
 
 /// An array of eight bytes has eight.

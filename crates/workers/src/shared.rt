@@ -12,11 +12,41 @@ use std::sync::Mutex;
 
 /// A filer: the parcels of a layout, the messages that wait for its workers, and the replies that
 /// wait for its connections.
-#[derive(Drop)]
 pub struct Filer {
     pub(crate) alloc: Global,
     pub(crate) verifier: Verifier,
     pub(crate) depot: Depot<Service>,
     pub(crate) waiting: SharedWaiting<Message, Layout>,
     pub(crate) outboxes: Mutex<Outboxes>,
+}
+
+// By hand, so that crates above have no proof of the drop of each of its parts.
+impl Drop for Filer {
+    fn drop(self) {
+        let Filer {
+            alloc: _,
+            verifier: _,
+            depot: _,
+            waiting: _,
+            outboxes: _,
+        } = self;
+    }
+}
+
+impl Filer {
+    ghost use Rattle.std.specs.Prelude.{◌≡◌};
+
+    /// Its depot. What waits is dropped.
+    pub fn into_depot(self) -> Depot<Service>
+        ensures { result ≡ self.depot }
+    {
+        let Filer {
+            alloc: _,
+            verifier: _,
+            depot,
+            waiting: _,
+            outboxes: _,
+        } = self;
+        depot
+    }
 }

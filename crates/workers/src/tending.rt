@@ -8,12 +8,10 @@ ghost use Rattle.workers.specs.Carries.{hand_after, HasMovedBatch, IsToldAs, IsT
 ghost use Rattle.workers.specs.Tends.{call_of, call_to_put};
 ghost use Rattle.workers.specs.Words.{IsHandIn};
 
-use crate::inner::carry;
 use crate::shared::Filer;
 use crate::tend::{Carried, Tend, TendRefusal, Tended};
 use crate::worker::Worker;
 use affinity_tree::Layout;
-use nfs_laws::laws::batches_are_of_one_range;
 use nfs_values::VolumeNumber;
 use parcel_sets::Hand;
 use service::{BatchInHand, InnerCall, JobReply};
@@ -115,7 +113,7 @@ fn told(reply: JobReply) -> (BatchInHand, Tended)
 }
 
 /// What is in the hand after an inner call, and what its tend answers.
-fn answer(carried: Carried) -> (BatchInHand, Result<Tended, TendRefusal>)
+pub(crate) fn answer(carried: Carried) -> (BatchInHand, Result<Tended, TendRefusal>)
     requires { HasMovedBatch carried }
     ensures { IsToldOf carried result.0 result.1 }
 {
@@ -130,8 +128,7 @@ fn answer(carried: Carried) -> (BatchInHand, Result<Tended, TendRefusal>)
 
 impl Worker {
     ghost use Rattle.std.specs.Option.{is_some};
-    ghost use Rattle.workers.specs.Carries.{FitsHand};
-    ghost use Rattle.workers.specs.Tends.{hand_in, kept_in, Answers, IsNextTend, Tends};
+    ghost use Rattle.workers.specs.Tends.{hand_in, kept_in, IsNextTend, Tends};
     ghost use Rattle.workers.specs.Words.{layout_in, passed, seats_in, IsIn};
 
     /// What is in the worker's hand.
@@ -172,34 +169,6 @@ impl Worker {
         }
         let range = (made / (2 * volumes) % u64::from(RANGES)) as u32;
         Tend::Fetch { volume, range }
-    }
-
-    /// Makes an inner call with what is in the hand.
-    fn carry(self, filer: &Filer, call: InnerCall) -> (Worker, Result<Tended, TendRefusal>)
-        requires inside { IsIn filer.now self }
-        requires fits { FitsHand (layout_in filer.now) (inner_of call) self.hand }
-        ensures inside { IsIn filer.now result.0 }
-        ensures answers { Answers (layout_in filer.now) self (Ok (inner_of call))
-            result.1 result.0 }
-        ensures pass { result.0.pass ≡ self.pass }
-        ensures kept { result.0.kept ≡ self.kept }
-        ensures seats { seats_in result.0 ≡ seats_in self }
-    {
-        batches_are_of_one_range();
-        let Worker {
-            mut seat,
-            pass,
-            hand,
-            kept,
-        } = self;
-        let (hand, answer) = answer(carry(filer, &mut seat, call, hand));
-        let worker = Worker {
-            seat,
-            pass,
-            hand,
-            kept,
-        };
-        (worker, answer)
     }
 
     /// Fetches, culls or puts down: begins the inner call on its node, runs it, and finishes it or

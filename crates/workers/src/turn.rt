@@ -4,8 +4,6 @@ ghost use Rattle.std.specs.Prelude.{◌≡◌};
 ghost use Rattle.workers.specs.Turns.{turned_by, IsTold};
 
 use crate::message::Message;
-use crate::queueing::{next, put_kept};
-use crate::serving::serve;
 use crate::shared::Filer;
 use crate::turned::{Gate, Served, Turned};
 use crate::worker::Worker;
@@ -24,7 +22,7 @@ fn refused(refusal: Refusal) -> Turned
 }
 
 /// What is kept of a message that was tried, and what its turn answers.
-fn told(served: Served) -> (Option<Message>, Turned)
+pub(crate) fn told(served: Served) -> (Option<Message>, Turned)
     ensures { IsTold served result.0 result.1 }
 {
     match served {
@@ -35,95 +33,8 @@ fn told(served: Served) -> (Option<Message>, Turned)
 }
 
 impl Worker {
-    ghost use Rattle.workers.specs.Turns.{Did, HasNext, HasPut, HasShareOf, HasTried};
+    ghost use Rattle.workers.specs.Turns.{Did, HasShareOf};
     ghost use Rattle.workers.specs.Words.{layout_in, passed, seats_in, IsIn};
-
-    /// Picks the message that waits longest, where none is kept.
-    fn pick<R: Wait>(self, filer: &Filer, rt: &R) -> Worker
-        requires { IsIn filer.now self }
-        ensures inside { IsIn filer.now result }
-        ensures next { HasNext (passed self) self.kept (passed result) result.kept }
-        ensures put { (passed result).put ≡ (passed self).put }
-        ensures share { HasShareOf (passed self) (passed result) }
-        ensures seat { result.seat ≡ self.seat }
-        ensures hand { result.hand ≡ self.hand }
-    {
-        let Worker {
-            seat,
-            mut pass,
-            hand,
-            kept,
-        } = self;
-        let kept = next(&filer.waiting, rt, &mut pass, kept);
-        Worker {
-            seat,
-            pass,
-            hand,
-            kept,
-        }
-    }
-
-    /// Tries the message that is kept, if one is. It keeps the message unless that is finished.
-    fn try_kept<G: Gate>(self, filer: &Filer, gate: &G, moment: Moment) -> (Worker, Turned)
-        requires { IsIn filer.now self }
-        ensures inside { IsIn filer.now result.0 }
-        ensures tried { HasTried (layout_in filer.now) self moment result.1 result.0 }
-        ensures pass { result.0.pass ≡ self.pass }
-        ensures seats { seats_in result.0 ≡ seats_in self }
-        ensures hand { result.0.hand ≡ self.hand }
-    {
-        let Worker {
-            mut seat,
-            pass,
-            hand,
-            kept,
-        } = self;
-        let message = match kept {
-            Some(message) => message,
-            None => {
-                let worker = Worker {
-                    seat,
-                    pass,
-                    hand,
-                    kept: None,
-                };
-                return (worker, Turned::Idle);
-            }
-        };
-        let (kept, turned) = told(serve(filer, &mut seat, message, moment, gate));
-        let worker = Worker {
-            seat,
-            pass,
-            hand,
-            kept,
-        };
-        (worker, turned)
-    }
-
-    /// Puts the message that is kept, if one is. It is kept still where the queue is full.
-    fn put<R: Wait>(self, filer: &Filer, rt: &R) -> Worker
-        requires { IsIn filer.now self }
-        ensures inside { IsIn filer.now result }
-        ensures again { HasPut (passed self) self.kept (passed result) result.kept }
-        ensures picked { (passed result).picked ≡ (passed self).picked }
-        ensures share { HasShareOf (passed self) (passed result) }
-        ensures seat { result.seat ≡ self.seat }
-        ensures hand { result.hand ≡ self.hand }
-    {
-        let Worker {
-            seat,
-            mut pass,
-            hand,
-            kept,
-        } = self;
-        let kept = put_kept(&filer.waiting, rt, &mut pass, kept);
-        Worker {
-            seat,
-            pass,
-            hand,
-            kept,
-        }
-    }
 
     /// Tries the call of the message that is kept, or else of the one that waits longest: begins it
     /// on what it tries, runs it, and finishes it or puts it back.
