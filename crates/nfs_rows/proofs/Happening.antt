@@ -17,37 +17,37 @@ use Rattle.nfs_rows.proofs.Cases.{layout, verifier, at, holding, with_file, file
 use Rattle.nfs_rows.proofs.Toy.{asked, scan, toy}
 
 -- two workers and 64 connections
-abbrev setup : Setup
+abbrev pub setup : Setup
 setup = record { codec = toy; layout = layout; verifier = verifier; workers = 2; connections = 64 }
 
 -- ---- worlds
 
-abbrev heard : List ℕ → Connection
+abbrev pub heard : List ℕ → Connection
 heard stream = record { stream = stream; closed = None; output = [] }
 
-abbrev opened : World
+abbrev pub opened : World
 opened = record (opening_world setup) { connections = heard [] ∷ [] }
 
 -- record 0 of connection 0, of a byte, under an affinity
-abbrev message : ℕ → Affinity → Message
+abbrev pub message : ℕ → Affinity → Message
 message byte affinity = record { connection = 0; number = 0; xid = byte; asked = asked byte; affinity = affinity }
 
-abbrev begun : ℕ → Affinity → Running
+abbrev pub begun : ℕ → Affinity → Running
 begun byte affinity = record { message = message byte affinity; moment = at 1; outcome = None }
 
-abbrev came_to : Outcome → Running → Running
+abbrev pub came_to : Outcome → Running → Running
 came_to outcome r = record r { outcome = Some outcome }
 
-abbrev idle : Worker
+abbrev pub idle : Worker
 idle = record { running = None; hand = Empty }
 
-abbrev runs : Running → Worker
+abbrev pub runs : Running → Worker
 runs r = record { running = Some r; hand = Empty }
 
 abbrev carries : Hand → Worker
 carries hand = record { running = None; hand = hand }
 
-abbrev with_workers : Worker → Worker → World
+abbrev pub with_workers : Worker → Worker → World
 with_workers first second = record opened { workers = first ∷ (second ∷ []) }
 
 abbrev waiting : List Message → World → World

@@ -10,5 +10,6 @@ mod Homes
 mod Numbers
 mod Toy
 mod Happening
+mod Beside
 mod Moving
 mod Answering

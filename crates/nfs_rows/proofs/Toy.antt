@@ -16,6 +16,7 @@ asked byte =
     else if byte == 205 then Ask (Write (h 2) 0 1 (7 ∷ [])) nobody
     else if byte == 206 then Ask (Lookup root a) nobody
     else if byte == 207 then Ask (Readdir root 0 (replicate 8 0) 512) nobody
+    else if byte == 208 then Ask (Write (h 3) 0 1 (8 ∷ [])) nobody
     else Ask Null nobody
 
 -- the number of the fault that a byte is
