@@ -9,12 +9,13 @@ use std::sync::atomic::{AtomicU64, Ordering};
 pub struct Places {
     free: AtomicU64,
     came: AtomicU64,
+    used: AtomicU64,
 }
 
 // By hand, so that crates above have no proof of the drop of each of its parts.
 impl Drop for Places {
     fn drop(self) {
-        let Places { free: _, came: _ } = self;
+        let Places { free: _, came: _, used: _ } = self;
     }
 }
 
@@ -24,11 +25,13 @@ impl Places {
         Places {
             free: AtomicU64::new(0),
             came: AtomicU64::new(0),
+            used: AtomicU64::new(0),
         }
     }
 
     /// A place more, or one that is left.
     pub fn leave(&self) {
+        self.used.fetch_sub(1, Ordering::SeqCst);
         self.free.fetch_add(1, Ordering::SeqCst);
     }
 
@@ -43,10 +46,21 @@ impl Places {
                 .free
                 .compare_exchange(free, free - 1, Ordering::SeqCst, Ordering::SeqCst);
             if taken.is_ok() {
+                self.used.fetch_add(1, Ordering::SeqCst);
                 return true;
             }
         }
         unreachable!()
+    }
+
+    /// One that is taken from the start.
+    pub fn begin(&self) {
+        self.used.fetch_add(1, Ordering::SeqCst);
+    }
+
+    /// Whether one is taken.
+    pub fn is_used(&self) -> bool {
+        self.used.load(Ordering::SeqCst) > 0
     }
 
     /// Something came.

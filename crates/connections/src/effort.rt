@@ -3,7 +3,7 @@
 ghost use Rattle.std.specs.Prelude.{◌<◌};
 
 use bells::{Bells, Patience, Untold, time_now};
-use nfs_values::Moment;
+use nfs_values::{ConnectionNumber, Moment};
 use std::mem;
 use std::rt::Clock;
 use workers::Worked;
@@ -21,9 +21,11 @@ fn share_stretch(one: Moment, other: Moment) -> bool {
 
 /// What a reader keeps between the turns of one help. Can't be dropped, as what it didn't tell.
 pub(crate) struct Effort {
+    own: ConnectionNumber,
     patience: Patience,
     untold: Untold,
     turns: u32,
+    busy: u32,
     /// Whether a call was finished.
     has_finished: bool,
     last: Moment,
@@ -34,11 +36,13 @@ impl Effort {
     ghost use Rattle.bells.specs.Told.{HasTold};
 
     /// Before the first turn.
-    pub(crate) fn new() -> Effort {
+    pub(crate) fn new(own: ConnectionNumber) -> Effort {
         Effort {
+            own,
             patience: Patience::new(),
             untold: Untold::Nothing,
             turns: 0,
+            busy: 0,
             has_finished: false,
             last: Moment::START,
         }
@@ -50,6 +54,11 @@ impl Effort {
     {
         self.last = time_now(rt, self.last);
         self.last
+    }
+
+    /// Whether it left for what another has.
+    pub(crate) fn gave_up(&mut self) -> bool {
+        mem::replace(&mut self.busy, 0) > 1
     }
 
     /// Whether as many turns were made as one help has.
@@ -69,8 +78,9 @@ impl Effort {
         self.turns = self.turns.saturating_add(1);
         match worked {
             Worked::Done(connection) => {
-                self.untold.add(bells, connection);
+                if connection != self.own { self.untold.add(bells, connection); }
                 self.has_finished = true;
+                self.busy = 0;
                 bells.room.ring();
                 self.patience = Patience::new();
                 true
@@ -81,7 +91,10 @@ impl Effort {
                 true
             }
             Worked::Busy { node: _, word: _ } => {
-                self.tell(bells);
+                self.busy += 1;
+                if self.busy > 1 {
+                    return false;
+                }
                 self.patience.wait(rt);
                 true
             }
@@ -98,9 +111,11 @@ impl Effort {
     /// the pool is rung for, but not where this was done in the same eight milliseconds.
     pub(crate) fn end(self, bells: &Bells, rung: &mut Moment) {
         let Effort {
+            own: _,
             patience: _,
             untold,
             turns: _,
+            busy: _,
             has_finished,
             last,
         } = self;

@@ -6,7 +6,7 @@ ghost use Rattle.workers.specs.Words.{IsIn};
 
 use crate::effort::Effort;
 use bells::Bells;
-use nfs_values::Moment;
+use nfs_values::{ConnectionNumber, Moment};
 use std::rt::Clock;
 use std::sync::Wait;
 use workers::{Filer, Unwatched, Worker};
@@ -45,12 +45,13 @@ fn help<R: Wait + Clock>(
     bells: &Bells,
     mut worker: Worker,
     rung: &mut Moment,
+    own: ConnectionNumber,
 ) -> Worker
     requires { IsIn filer.now worker }
     ensures inside { IsIn filer.now result }
     ensures stays { StaysHelper worker result }
 {
-    let mut effort = Effort::new();
+    let mut effort = Effort::new(own);
     for _ in rt.forever() {
         if !bells.places.take(rt) {
             effort.end(bells, rung);
@@ -58,7 +59,18 @@ fn help<R: Wait + Clock>(
         }
         let seen = bells.places.came();
         worker = run_calls(rt, filer, bells, worker, &mut effort);
+        let gave_up = effort.gave_up();
+        if gave_up {
+            bells.places.come();
+        }
         bells.places.leave();
+        if gave_up {
+            if bells.places.is_used() {
+                effort.end(bells, rung);
+                return worker;
+            }
+            continue;
+        }
         if effort.is_spent() {
             bells.work.ring();
             effort.end(bells, rung);
@@ -81,6 +93,7 @@ pub(crate) fn help_or_ring<R: Wait + Clock>(
     helper: &mut Option<Worker>,
     calls: usize,
     rung: &mut Moment,
+    own: ConnectionNumber,
 )
     requires { IfSome helper.old (IsIn filer.now) }
     ensures inside { IfSome helper.new (IsIn filer.now) }
@@ -88,7 +101,7 @@ pub(crate) fn help_or_ring<R: Wait + Clock>(
 {
     bells.places.come();
     match helper.take() {
-        Some(worker) => *helper = Some(help(rt, filer, bells, worker, rung)),
+        Some(worker) => *helper = Some(help(rt, filer, bells, worker, rung, own)),
         None => bells.work.ring_for(calls),
     }
 }

@@ -11,6 +11,7 @@ mod line;
 mod loan;
 mod message;
 mod opening;
+mod pen;
 mod outgoing;
 mod pool_sink;
 mod reading;

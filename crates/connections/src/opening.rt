@@ -11,13 +11,15 @@ use crate::line::Line;
 use crate::loan::Loan;
 use crate::refusal::{Refused, ServeRefusal, refusal_of};
 use crate::shared::Shared;
-use crate::tasks::{Reading, Writing, read_on, write_on};
+use crate::pen::Pen;
+use crate::tasks::{Reading, Writing, read_on, write_on, write_room};
+use tcp_front::Counted;
 use nfs_values::ConnectionNumber;
 use std::alloc::{AllocError, Global};
 use std::net::{Shutdown, TcpStream};
 use std::rt::Clock;
 use std::snapshot::Snapshot;
-use std::sync::{Arc, Wait};
+use std::sync::{Arc, Mutex, Wait};
 use std::thread;
 use std::thread::{PromisedHandle, Threads};
 
@@ -28,6 +30,7 @@ struct Parts {
     stream: TcpStream,
     line: Arc<Line>,
     told: Arc<Line>,
+    pen: Arc<Mutex<Pen>>,
     writing: Writing,
 }
 
@@ -37,12 +40,19 @@ fn share(
     shared: &Shared,
     stream: TcpStream,
     second: TcpStream,
+    third: TcpStream,
     connection: ConnectionNumber,
 ) -> Result<Parts, AllocError>
     ensures { IfOk result (λ p. arc_value p.shared.filer ≡ arc_value shared.now.filer) }
 {
     let line = Arc::new(alloc, Line::new())?;
+    let pen = Arc::new(alloc, Mutex::new(Pen {
+        writer: Counted::new(third),
+        buffer: write_room(alloc),
+        failed: false,
+    }))?;
     let writing = Writing {
+        pen: Arc::try_clone(&pen)?,
         alloc,
         shared: shared.try_clone()?,
         line: Arc::try_clone(&line)?,
@@ -53,6 +63,7 @@ fn share(
         shared: shared.try_clone()?,
         stream,
         told: Arc::try_clone(&line)?,
+        pen,
         line,
         writing,
     })
@@ -71,7 +82,11 @@ fn prepare(
         Ok(second) => second,
         Err(_failed) => return Err(ServeRefusal::StreamFailed),
     };
-    match share(alloc, shared, stream, second, connection) {
+    let third = match stream.try_clone() {
+        Ok(third) => third,
+        Err(_failed) => return Err(ServeRefusal::StreamFailed),
+    };
+    match share(alloc, shared, stream, second, third, connection) {
         Ok(parts) => Ok(parts),
         Err(_refused) => Err(ServeRefusal::NoMemory),
     }
@@ -130,6 +145,7 @@ fn start<R: Threads + Wait + Clock + Copy + Send + 'static>(
         stream,
         line,
         told,
+        pen,
         writing,
     } = parts;
     let reading = Reading {
@@ -137,6 +153,7 @@ fn start<R: Threads + Wait + Clock + Copy + Send + 'static>(
         shared,
         line: told,
         stream,
+        pen,
         lane,
     };
     let reader = match start_reader(rt, reading, &writing) {

@@ -17,7 +17,8 @@ use outboxes::Room;
 use std::alloc::{AllocError, Global};
 use std::mem;
 use std::rt::Clock;
-use std::sync::Wait;
+use crate::pen::{Pen, try_write};
+use std::sync::{Mutex, Wait};
 use tcp_front::RecordSink;
 use workers::{Filer, Message};
 
@@ -29,6 +30,7 @@ pub struct PoolSink<'a, R> {
     filer: &'a Filer,
     bells: &'a Bells,
     line: &'a Line,
+    pen: &'a Mutex<Pen>,
     pub lane: Lane,
     /// How many records were given.
     records: u64,
@@ -51,6 +53,7 @@ impl<'a, R> PoolSink<'a, R> {
         filer: &'a Filer,
         bells: &'a Bells,
         line: &'a Line,
+        pen: &'a Mutex<Pen>,
         lane: Lane,
     ) -> PoolSink<'a, R>
         requires { IsLoanOf filer.now lane.loan }
@@ -63,6 +66,7 @@ impl<'a, R> PoolSink<'a, R> {
             filer,
             bells,
             line,
+            pen,
             lane,
             records: 0,
             unannounced: 0,
@@ -127,10 +131,6 @@ impl<'a, R: Wait + Clock> RecordSink for PoolSink<'a, R> {
     }
 
     fn wake(&mut self) {
-        if self.has_answered {
-            self.has_answered = false;
-            self.bells.mail(self.lane.connection).ring_all();
-        }
         let calls = mem::replace(&mut self.unannounced, 0);
         if calls > 0 {
             let helper = &mut self.lane.loan.helper;
@@ -141,7 +141,12 @@ impl<'a, R: Wait + Clock> RecordSink for PoolSink<'a, R> {
                 helper,
                 calls,
                 &mut self.rung,
+                self.lane.connection,
             );
+        }
+        self.has_answered = false;
+        if !try_write(self.rt, self.pen, self.filer, self.line, self.lane.connection) {
+            self.bells.mail(self.lane.connection).ring_all();
         }
         self.line.wait_for_writer(self.rt, self.records);
     }

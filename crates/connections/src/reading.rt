@@ -14,7 +14,8 @@ use bells::Bells;
 use std::alloc::Global;
 use std::io::Read;
 use std::rt::Clock;
-use std::sync::Wait;
+use crate::pen::Pen;
+use std::sync::{Mutex, Wait};
 use tcp_front::{Counted, ReadEnd, RecordSink, read_loop};
 use workers::Filer;
 
@@ -30,6 +31,7 @@ pub fn read_connection<W: Wait + Clock, R: Read>(
     filer: &Filer,
     bells: &Bells,
     line: &Line,
+    pen: &Mutex<Pen>,
     lane: Lane,
 ) -> (Lane, ReadEnd)
     requires room { may_fail reader.old }
@@ -40,7 +42,7 @@ pub fn read_connection<W: Wait + Clock, R: Read>(
 {
     let connection = lane.connection;
     let layout = filer.depot().layout();
-    let mut sink = PoolSink::new(rt, alloc, filer, bells, line, lane);
+    let mut sink = PoolSink::new(rt, alloc, filer, bells, line, pen, lane);
     let ended = read_loop(rt, alloc, reader, layout, connection, &mut sink);
     line.end_reading(sink.records());
     bells.mail(connection).ring_all();

@@ -14,7 +14,8 @@ use nfs_values::ConnectionNumber;
 use std::alloc::Global;
 use std::net::{Shutdown, TcpStream};
 use std::rt::Clock;
-use std::sync::{Arc, Wait};
+use crate::pen::Pen;
+use std::sync::{Arc, Mutex, Wait};
 use tcp_front::Counted;
 
 /// The most bytes of one write, but for a record that is longer.
@@ -27,6 +28,7 @@ pub(crate) struct Reading {
     pub(crate) shared: Shared,
     pub(crate) line: Arc<Line>,
     pub(crate) stream: TcpStream,
+    pub(crate) pen: Arc<Mutex<Pen>>,
     pub(crate) lane: Lane,
 }
 
@@ -36,6 +38,7 @@ pub(crate) struct Writing {
     pub(crate) alloc: Global,
     pub(crate) shared: Shared,
     pub(crate) line: Arc<Line>,
+    pub(crate) pen: Arc<Mutex<Pen>>,
     pub(crate) stream: TcpStream,
     pub(crate) connection: ConnectionNumber,
 }
@@ -50,11 +53,12 @@ pub(crate) fn read_on<R: Wait + Clock>(rt: &R, reading: Reading) -> Loan
         shared,
         line,
         stream,
+        pen,
         lane,
     } = reading;
     let mut reader = Counted::new(stream);
     let (filer, bells) = (&shared.filer, &shared.bells);
-    let (lane, _ended) = read_connection(rt, alloc, &mut reader, filer, bells, &line, lane);
+    let (lane, _ended) = read_connection(rt, alloc, &mut reader, filer, bells, &line, &pen, lane);
     line.end_thread();
     shared.ended.ring_all();
     let Lane {
@@ -65,7 +69,7 @@ pub(crate) fn read_on<R: Wait + Clock>(rt: &R, reading: Reading) -> Loan
 }
 
 /// Room for the bytes of one write: none where memory ran out, and each record is written by itself.
-fn write_room(alloc: Global) -> Vec<u8> {
+pub(crate) fn write_room(alloc: Global) -> Vec<u8> {
     match Vec::with_capacity(alloc, WRITE_ROOM) {
         Ok(buffer) => buffer,
         Err(_refused) => Vec::new(alloc),
@@ -75,27 +79,18 @@ fn write_room(alloc: Global) -> Vec<u8> {
 /// Writes a connection to its end, and closes it and its outbox.
 pub(crate) fn write_on<R: Wait>(rt: &R, writing: Writing) {
     let Writing {
-        alloc,
+        alloc: _,
         shared,
         line,
+        pen,
         stream,
         connection,
     } = writing;
-    let mut writer = Counted::new(stream);
-    let mut buffer = write_room(alloc);
     let (filer, bells) = (&shared.filer, &shared.bells);
-    let _written = write_connection(
-        rt,
-        &mut writer,
-        &mut buffer,
-        filer,
-        bells,
-        &line,
-        connection,
-    );
+    write_connection(rt, &pen, filer, bells, &line, connection);
     line.close();
     shared.filer.outboxes().lock(rt).shut(connection);
-    let _closed = writer.into_device().shutdown(Shutdown::Both);
+    let _closed = stream.shutdown(Shutdown::Both);
     line.end_thread();
     shared.ended.ring_all();
 }

@@ -1,44 +1,38 @@
 //! A connection that is written.
 
 ghost use Rattle.std.specs.Prelude.{◌≡◌};
-ghost use Rattle.tcp_front.specs.Counts.{may_fail};
-ghost use Rattle.connections.specs.Written.{HasWrittenAll};
 
 use crate::line::Line;
-use crate::outgoing::Outgoing;
 use bells::Bells;
 use nfs_values::ConnectionNumber;
-use std::io::Write;
-use std::sync::Wait;
-use tcp_front::{Counted, WriteFault, write_joined};
+use crate::pen::{Pen, write_with};
+use std::sync::{Mutex, Wait};
 use workers::Filer;
 
 /// Writes the replies of a connection as they come, as many in one write as a buffer has room for,
 /// until all are written that there are to be, or until the filer was stopped. At a failure of the
 /// writer it answers how many bytes went out since the last sleep.
-pub fn write_connection<R: Wait, W: Write>(
+pub fn write_connection<R: Wait>(
     rt: &R,
-    writer: &mut Counted<W>,
-    buffer: &mut Vec<u8>,
+    pen: &Mutex<Pen>,
     filer: &Filer,
     bells: &Bells,
     line: &Line,
     connection: ConnectionNumber,
-) -> Result<(), WriteFault>
-    requires { may_fail writer.old }
-    ensures { HasWrittenAll W.contents writer.old result writer.new }
-{
+) {
     let mail = bells.mail(connection);
-    let mut source = Outgoing::new(rt, filer, line, connection);
     for _ in rt.forever() {
         let seen = mail.rings();
         let last = line.is_done() || line.is_closed() || mail.is_stopped();
-        match write_joined(rt, writer, buffer, &mut source) {
-            Ok(()) => {}
-            Err(fault) => return Err(fault),
+        {
+            let mut guard = pen.lock(rt);
+            let pen = &mut *guard;
+            if !write_with(rt, pen, filer, line, connection) {
+                return;
+            }
         }
         if last || line.is_done() {
-            return Ok(());
+            return;
         }
         mail.wait_past(rt, seen);
     }

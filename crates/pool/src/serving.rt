@@ -25,6 +25,7 @@ pub(crate) fn serve<R: Wait + Clock, G: Gate>(
 {
     let mut worker = worker;
     let mut watch = Watch::new();
+    bells.places.begin();
     for _ in rt.forever() {
         if bells.work.is_stopped() {
             break;

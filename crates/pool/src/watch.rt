@@ -11,7 +11,7 @@ use std::rt::Clock;
 
 /// How often a thread looks for a message after a call that it finished, before it tends or sleeps:
 /// for some tens of microseconds, in which who sent one call may send the next.
-const MOST_LOOKS: u32 = 100;
+const MOST_LOOKS: u32 = 0;
 
 /// What a thread keeps between its rounds. Can't be dropped, as what it didn't tell.
 pub(crate) struct Watch {
