@@ -47,9 +47,9 @@ fn number_of(held: &SerialHeld<Numbers>) -> Option<u64> {
 }
 
 /// What came of a turn, as a row has it.
-fn told(turn: Option<Turn>) -> Option<(Option<u32>, Option<u64>)> {
+fn told(turn: Option<Turn<u64>>) -> Option<(Option<u32>, Option<u64>)> {
     match turn {
-        Some(turn) => Some((turn.beside, turn.sum)),
+        Some(turn) => Some((turn.beside, turn.reply)),
         None => None,
     }
 }
@@ -57,15 +57,13 @@ fn told(turn: Option<Turn>) -> Option<(Option<u32>, Option<u64>)> {
 #[test]
 fn turns(rt: HostRuntime) {
     let mut desk = open(&rt, 3);
-    assert_eq!(rt; desk.worker_count(), 3);
     for (affinity, asked, beside, sum) in &ROWS {
         let turn = take_turn(&mut desk, [2, 0], [*affinity, *asked], 5);
         assert_eq!(rt; told(turn), Some((*beside, *sum)));
-        assert!(rt; !desk.is_taken(Affinity::Serial));
     }
     let refused = take_turn(&mut desk, [2, 3], [STRIPE, STRIPE], 1);
     assert_eq!(rt; told(refused), None);
-    let held = close(&rt, desk);
+    let held = close(&rt, desk, 3);
     assert_eq!(rt; number_of(&held), Some(10));
     mem::forget(held);
 }

@@ -5,13 +5,14 @@ ghost use Rattle.affinity_tree.specs.Affinity.{affinity_of};
 ghost use Rattle.affinity_tree.specs.Tree.{IsNode};
 ghost use Rattle.desk_laws.specs.Books.{IsIdle};
 ghost use Rattle.desk_laws.specs.Calls.{AreIdle, MayPutBack};
-ghost use Rattle.desk.specs.Words.{books, IsKept};
+ghost use Rattle.desk.specs.Words.{books, machine_in, IsKept};
+ghost use Rattle.depot_rows.specs.Steps.{AsksNothing, TakesStep};
 
 use crate::adder::Adder;
 use affinity_tree::Affinity;
 use depot_rule::machine::Machine;
 use depot_trial::adding::{Adding, Change, all_of, volumes};
-use desk::{Desk, NodeKinds, ParcelKinds};
+use desk::{Desk, NodeKinds, ParcelKinds, Task};
 use parcel_sets::Node;
 use std::process::Abort;
 
@@ -19,11 +20,11 @@ use std::process::Abort;
 pub(crate) type Counters = Desk<Adding, ParcelKinds>;
 
 /// What came of a call that was asked for in the midst of another, the number of its refusal if it
-/// was refused, and of the other, the sum where it had one.
+/// was refused, and of the other, the reply where it had one.
 #[derive(Clone, Copy)]
-pub(crate) struct Turn {
+pub(crate) struct Turn<R> {
     pub(crate) beside: Option<u32>,
-    pub(crate) sum: Option<u64>,
+    pub(crate) reply: Option<R>,
 }
 
 /// A desk with two volumes in which each parcel is 0, and so many idle workers.
@@ -50,6 +51,26 @@ fn is_ready<M: Machine, K: NodeKinds<M::Parcel>>(
     desk.layout().contains(affinity)
 }
 
+/// Whether nothing is lent, two workers are idle and not one, and the layout has two affinities.
+fn are_ready<M: Machine, K: NodeKinds<M::Parcel>>(
+    desk: &Desk<M, K>,
+    worker: usize,
+    affinity: Affinity,
+    other: usize,
+    asked: Affinity,
+) -> bool
+    ensures two { result ≡ true → other ≢ worker }
+    ensures idle { result ≡ true → IsIdle (books desk.now) worker }
+    ensures node { result ≡ true → IsNode (books desk.now).layout (affinity_of affinity) }
+    ensures other_idle { result ≡ true → IsIdle (books desk.now) other }
+    ensures other_node { result ≡ true → IsNode (books desk.now).layout (affinity_of asked) }
+{
+    if worker == other || desk.is_taken(Affinity::Serial) {
+        return false;
+    }
+    is_ready(desk, worker, affinity) && is_ready(desk, other, asked)
+}
+
 /// A call that begins and is put back. The number of its refusal, if it was refused.
 fn ask<M: Machine, K: NodeKinds<M::Parcel>>(
     desk: &mut Desk<M, K>,
@@ -74,8 +95,8 @@ fn ask<M: Machine, K: NodeKinds<M::Parcel>>(
 }
 
 /// A call that a worker begins, and what comes of another's that is asked for in its midst: the
-/// number of its refusal, if it is refused. Nothing where a worker isn't idle, an affinity isn't
-/// there, or the first call is refused.
+/// number of its refusal, if it is refused. Nothing where something is lent, a worker isn't idle, an
+/// affinity isn't there, or the first call is refused.
 fn begin_beside<M: Machine, K: NodeKinds<M::Parcel>>(
     desk: &mut Desk<M, K>,
     worker: usize,
@@ -87,28 +108,33 @@ fn begin_beside<M: Machine, K: NodeKinds<M::Parcel>>(
     ensures kept { IsKept desk.new }
     ensures fresh { IfSome result (λ _. MayPutBack (books desk.new) worker) }
 {
-    if worker == other || !is_ready(desk, worker, affinity) || !is_ready(desk, other, asked) {
+    if !are_ready(desk, worker, affinity, other, asked) {
         return None;
     }
     match desk.begin(worker, affinity) {
-        Ok(()) => {}
-        Err(_) => return None,
+        Ok(()) => Some(ask(desk, other, asked)),
+        Err(_) => None,
     }
-    let beside = ask(desk, other, asked);
-    Some(beside)
 }
 
-/// Adds to the number of a stripe that a worker was lent, and finishes its call. What is of another
-/// kind is put back.
-fn add(desk: &mut Counters, worker: usize, number: u64) -> Option<u64>
+/// Does a task with what a worker was lent, and finishes its call with the reply that comes of it.
+/// Where none comes, the call is put back.
+fn carry_out<M: Machine, K: NodeKinds<M::Parcel>, W: Task<M::Parcel, K, Output = Option<M::Reply>>>(
+    desk: &mut Desk<M, K>,
+    worker: usize,
+    task: W,
+    call: &M::Call,
+) -> Option<M::Reply>
     requires kept { IsKept desk.old }
     requires fresh { MayPutBack (books desk.old) worker }
+    requires asks { AsksNothing (W.asks task) }
+    requires step { TakesStep (machine_in desk.old) (W.does task) call.now }
     ensures kept { IsKept desk.new }
 {
-    match desk.work(worker, Adder { number }) {
-        Some(sum) => {
-            desk.finish(worker, &Change::Add(number), &sum);
-            Some(sum)
+    match desk.work(worker, task) {
+        Some(reply) => {
+            desk.finish(worker, call, &reply);
+            Some(reply)
         }
         None => {
             desk.put_back(worker);
@@ -117,28 +143,58 @@ fn add(desk: &mut Counters, worker: usize, number: u64) -> Option<u64>
     }
 }
 
-/// A call that adds to a stripe's number, in whose midst another worker asks for an affinity.
-/// Nothing where a worker isn't idle, an affinity isn't there, or the call is refused.
-pub(crate) fn take_turn(
-    desk: &mut Counters,
+/// A call that does a task, in whose midst another worker asks for an affinity. Nothing where a
+/// worker isn't idle, an affinity isn't there, something is lent, or the call is refused.
+fn make_turn<
+    M: Machine,
+    K: NodeKinds<M::Parcel>,
+    W: Task<M::Parcel, K, Output = Option<M::Reply>> + Copy,
+>(
+    desk: &mut Desk<M, K>,
     workers: [usize; 2],
     affinities: [Affinity; 2],
-    number: u64,
-) -> Option<Turn>
+    task: W,
+    call: &M::Call,
+) -> Option<Turn<M::Reply>>
     requires kept { IsKept desk.old }
+    requires asks { AsksNothing (W.asks task) }
+    requires step { TakesStep (machine_in desk.old) (W.does task) call.now }
     ensures kept { IsKept desk.new }
 {
     let [worker, other] = workers;
     let [affinity, asked] = affinities;
     let beside = begin_beside(desk, worker, affinity, other, asked)?;
-    let sum = add(desk, worker, number);
-    Some(Turn { beside, sum })
+    let reply = carry_out(desk, worker, task, call);
+    Some(Turn { beside, reply })
 }
 
-/// Whether all workers are idle.
-fn are_idle<M: Machine, K: NodeKinds<M::Parcel>>(desk: &Desk<M, K>) -> bool
+/// A call that adds to a stripe's number, in whose midst another worker asks for an affinity. What
+/// is of another kind is put back.
+pub(crate) fn take_turn(
+    desk: &mut Counters,
+    workers: [usize; 2],
+    affinities: [Affinity; 2],
+    number: u64,
+) -> Option<Turn<u64>>
+    requires kept { IsKept desk.old }
+    ensures kept { IsKept desk.new }
+{
+    make_turn(
+        desk,
+        workers,
+        affinities,
+        Adder { number },
+        &Change::Add(number),
+    )
+}
+
+/// Whether there are so many workers, all are idle, and nothing is lent.
+fn are_idle<M: Machine, K: NodeKinds<M::Parcel>>(desk: &Desk<M, K>, workers: usize) -> bool
     ensures { result ≡ true → AreIdle (books desk.now) }
 {
+    if desk.worker_count() != workers || desk.is_taken(Affinity::Serial) {
+        return false;
+    }
     for worker in 0..desk.worker_count() {
         if !desk.is_idle(worker) {
             return false;
@@ -147,10 +203,11 @@ fn are_idle<M: Machine, K: NodeKinds<M::Parcel>>(desk: &Desk<M, K>) -> bool
     true
 }
 
-/// Ends a desk whose workers are idle. All parcels come back.
+/// Ends a desk of so many workers, which are idle, so that nothing is lent. All parcels come back.
 pub(crate) fn close<M: Machine, K: NodeKinds<M::Parcel>>(
     rt: &impl Abort,
     desk: Desk<M, K>,
+    workers: usize,
 ) -> <K::Serial as Node<M::Parcel>>::Held
 where
     <K::Range as Node<M::Parcel>>::Held: Drop,
@@ -162,6 +219,6 @@ where
     <K::Serial as Node<M::Parcel>>::Held: Drop,
     requires kept { IsKept desk }
 {
-    assert!(rt; are_idle(&desk));
+    assert!(rt; are_idle(&desk, workers));
     desk.close()
 }
