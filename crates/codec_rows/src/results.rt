@@ -3,8 +3,8 @@
 use crate::bytes::{joined, same};
 use nfs_types::encode_result;
 use nfs_values::{
-    Answer, Attributes, Change, Cookie, Entry, FileKind, Fileid, Moment, Name, PriorAttributes,
-    ReadDirectoryResults, ReadResults, RenameResults, Status,
+    Answer, Attributes, Change, Cookie, DirectoryEntry, FileKind, Fileid, Moment, Name,
+    PriorAttributes, ReadDirectoryResults, ReadResults, RenameResults, Status,
 };
 use std::mem;
 
@@ -48,7 +48,7 @@ const DIRECTORY: Attributes = Attributes {
 fn entries_are_chained(rt: HostRuntime) {
     let mut entries = Vec::new(rt.alloc());
     let name = b"a".to_vec(rt.alloc()).expect(&rt, "no memory");
-    let entry = Entry {
+    let entry = DirectoryEntry {
         fileid: Fileid(5),
         name: Name::new(name),
         cookie: Cookie(3),

@@ -9,7 +9,7 @@ use Rattle.std.specs.List.{AllByRecursion, slice_get}
 use Rattle.nfs_model.specs.Types.{Listed}
 use Rattle.nfs_model.specs.Serial.Readdir.{entry_size, fitting}
 use Rattle.nfs_values.specs.Answer.{entry_of}
-use Rattle.nfs_values.specs.declared.answer.Entry.{Entry}
+use Rattle.nfs_values.specs.declared.answer.DirectoryEntry.{DirectoryEntry}
 use Rattle.directories.specs.Entries.{listed, fitting_in}
 use Rattle.directories.specs.Slots.{in_slot, entry_or_none, in_order}
 use Rattle.directories.specs.declared.slot.Slot.{Slot}
@@ -42,10 +42,10 @@ fits-none left e es l = by (nat_le (entry_size e) left) refl
     by false p = refl
 
 -- copied so far, and what fits of the rest
-abbrev pub SoFar : List Entry → ℕ → ℕ → List Listed → List Listed → Type 0
+abbrev pub SoFar : List DirectoryEntry → ℕ → ℕ → List Listed → List Listed → Type 0
 SoFar copied left i es whole = listed copied ++ fitting left (drop i es) ≡ whole
 
-pub one-copied : (copied : List Entry) (left i : ℕ) (es whole : List Listed) (e : Listed) (x : Entry) (size : ℕ) → SoFar copied left i es whole
+pub one-copied : (copied : List DirectoryEntry) (left i : ℕ) (es whole : List Listed) (e : Listed) (x : DirectoryEntry) (size : ℕ) → SoFar copied left i es whole
     → slice_get es i ≡ Some e → size ≡ entry_size e → size ≤ left → entry_of x ≡ e → SoFar (copied ++ x ∷ []) (left - size) (i + 1) es whole
 one-copied copied left i es whole e x size h g s f same =
     let rest = drop (suc i) es in
@@ -55,11 +55,11 @@ one-copied copied left i es whole e x size h g s f same =
     (ap (λ y. listed copied ++ y ∷ fitting (left - size) rest) same ∙ (ap (λ l. listed copied ++ l) (sym head) ∙ h))
 
 -- some fit at all where some fit after others
-pub some-after : (copied : List Entry) (fit whole : List Listed) → listed copied ++ fit ≡ whole → 0 < length fit → 0 < length whole
+pub some-after : (copied : List DirectoryEntry) (fit whole : List Listed) → listed copied ++ fit ≡ whole → 0 < length fit → 0 < length whole
 some-after copied fit whole e l = subst (λ (w : List Listed). 0 < length w) e (let n = length-append (listed copied) fit in omega (arith, n, l))
 
 -- one that fits after some is of those that fit
-pub some-fit : (old copied : List Entry) (left i : ℕ) (es : List Listed) (room : ℕ) (e : Listed) (size : ℕ)
+pub some-fit : (old copied : List DirectoryEntry) (left i : ℕ) (es : List Listed) (room : ℕ) (e : Listed) (size : ℕ)
     → SoFar copied left i es (listed old ++ fitting room es) → length old ≤ length copied → slice_get es i ≡ Some e → size ≡ entry_size e → size ≤ left
     → 0 < length (fitting room es)
 some-fit old copied left i es room e size h n g s f =
@@ -76,14 +76,14 @@ pub on-error : {A E P : Type 0} (r : Result A E) → P → OnErr r P
 on-error (Ok x) p = tt
 on-error (Err x) p = p
 
-pub full-page : (copied : List Entry) (left i : ℕ) (es whole : List Listed) (e : Listed) (size : ℕ) → SoFar copied left i es whole
+pub full-page : (copied : List DirectoryEntry) (left i : ℕ) (es whole : List Listed) (e : Listed) (size : ℕ) → SoFar copied left i es whole
     → slice_get es i ≡ Some e → size ≡ entry_size e → left < size → listed copied ≡ whole
 full-page copied left i es whole e size h g s f =
     let none : fitting left (drop i es) ≡ [] =
     ap (λ d. fitting left d) (drop-at es i e g) ∙ fits-none left e (drop (suc i) es) (omega (arith, s, f)) in
     sym (append-nil (listed copied)) ∙ (ap (λ l. listed copied ++ l) (sym none) ∙ h)
 
-pub last-page : (copied : List Entry) (left i : ℕ) (es whole : List Listed) → SoFar copied left i es whole → length es ≤ i → listed copied ≡ whole
+pub last-page : (copied : List DirectoryEntry) (left i : ℕ) (es whole : List Listed) → SoFar copied left i es whole → length es ≤ i → listed copied ≡ whole
 last-page copied left i es whole h l =
     let none : fitting left (drop i es) ≡ [] = ap (λ d. fitting left d) (drop-all es i l) in
     sym (append-nil (listed copied)) ∙ (ap (λ l. listed copied ++ l) (sym none) ∙ h)
@@ -110,7 +110,7 @@ run-ahead slots order run place e =
     ∙ (ap (λ l. take (length run) (drop place all) ++ l) (sym (drop-drop (length run) place all)) ∙ take-append-drop (length run) (drop place all))
 
 -- where a run ends all of it is copied
-pub run-copied : (copied : List Entry) (left : ℕ) (es more whole : List Listed) (n : ℕ) → SoFar copied left n (es ++ more) whole → length es ≡ n
+pub run-copied : (copied : List DirectoryEntry) (left : ℕ) (es more whole : List Listed) (n : ℕ) → SoFar copied left n (es ++ more) whole → length es ≡ n
     → listed copied ++ fitting left more ≡ whole
 run-copied copied left es more whole n h l = ap (λ d. listed copied ++ fitting left d) (sym (drop_at es more n l)) ∙ h
 
@@ -127,7 +127,7 @@ run-within order run place e =
     let d = length-drop place order in omega (arith, n, d)
 
 -- what a run leaves to be copied
-pub run-next : (old new : List Entry) (left place : ℕ) (rest : Option ℕ) (slots : List Slot) (order run : List ℕ) (whole : List Listed)
+pub run-next : (old new : List DirectoryEntry) (left place : ℕ) (rest : Option ℕ) (slots : List Slot) (order run : List ℕ) (whole : List Listed)
     → SoFar old left place (in_order slots order) whole → take (length run) (drop place order) ≡ run
     → ((more : List Listed) → listed new ++ fitting_in rest more ≡ listed old ++ fitting left (in_order slots run ++ more))
     → listed new ++ fitting_in rest (drop (place + length run) (in_order slots order)) ≡ whole
@@ -135,7 +135,7 @@ run-next old new left place rest slots order run whole h e f =
     f (drop (place + length run) (in_order slots order)) ∙ (ap (λ l. listed old ++ fitting left l) (run-ahead slots order run place e) ∙ h)
 
 -- where one of a run fits, some fit of all
-pub run-fits : (old : List Entry) (left place : ℕ) (slots : List Slot) (order run : List ℕ) (whole : List Listed)
+pub run-fits : (old : List DirectoryEntry) (left place : ℕ) (slots : List Slot) (order run : List ℕ) (whole : List Listed)
     → SoFar old left place (in_order slots order) whole → take (length run) (drop place order) ≡ run
     → ((more : List Listed) → 0 < length (fitting left (in_order slots run ++ more))) → 0 < length whole
 run-fits old left place slots order run whole h e f =

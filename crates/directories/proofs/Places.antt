@@ -5,7 +5,7 @@ use Rattle.std.specs.List.{slice_get}
 use Rattle.nfs_model.specs.Types.{Listed}
 use Rattle.nfs_model.specs.Serial.Readdir.{above_cookie}
 use Rattle.nfs_values.specs.Answer.{entry_of}
-use Rattle.nfs_values.specs.declared.answer.Entry.{Entry}
+use Rattle.nfs_values.specs.declared.answer.DirectoryEntry.{DirectoryEntry}
 use Rattle.directories.specs.Entries.{under, has, listed, IsRising}
 use Rattle.directories.proofs.Rising.{none-above, above-from, first-above, at-least}
 
@@ -34,6 +34,6 @@ place-is es (suc cookie) i h t a = let e : suc cookie - 1 ≡ cookie = omega ari
 
 -- ---- entries copied
 
-pub listed-append : (es fs : List Entry) → listed (es ++ fs) ≡ listed es ++ listed fs
+pub listed-append : (es fs : List DirectoryEntry) → listed (es ++ fs) ≡ listed es ++ listed fs
 listed-append [] fs = refl
 listed-append (e ∷ es) fs = ap (λ x. entry_of e ∷ x) (listed-append es fs)

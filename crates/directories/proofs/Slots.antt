@@ -11,7 +11,7 @@ use Rattle.directories.specs.Slots.{shown, in_slot, has_cookie, entry_or_none, i
 use Rattle.directories.specs.declared.slot.Slot.{Slot}
 use Rattle.directories.specs.declared.slot.Slot.TheVariants.{Filled}
 use Rattle.nfs_values.specs.Answer.{entry_of}
-use Rattle.nfs_values.specs.declared.answer.Entry.{Entry}
+use Rattle.nfs_values.specs.declared.answer.DirectoryEntry.{DirectoryEntry}
 use Rattle.directories.proofs.Orders.{all-at}
 use Rattle.directories.proofs.Places.{is-within}
 use Rattle.directories.proofs.Rising.{at-low, at-least, rises-push, rises-without, remove-at, under-is}
@@ -48,11 +48,11 @@ becomes-push (y ∷ slots) x (suc q) = let r = becomes-push slots x q in grind (
 
 -- ---- an entry put into a slot
 
-pub put-set : (slots : List Slot) (s : ℕ) (e : Entry) → in_slot slots s ≡ None → s < length slots
+pub put-set : (slots : List Slot) (s : ℕ) (e : DirectoryEntry) → in_slot slots s ≡ None → s < length slots
     → PutInto s (entry_of e) slots (slice_set slots s (Filled e))
 put-set slots s e n l = record { vacant = n; filled = becomes-set slots s (Filled e) l }
 
-pub put-push : (slots : List Slot) (s : ℕ) (e : Entry) → length slots ≡ s → PutInto s (entry_of e) slots (slots ++ Filled e ∷ [])
+pub put-push : (slots : List Slot) (s : ℕ) (e : DirectoryEntry) → length slots ≡ s → PutInto s (entry_of e) slots (slots ++ Filled e ∷ [])
 put-push slots s e is = record {
   vacant = none-past slots s (omega (arith, is));
   filled = subst (λ k. Becomes k (Some (entry_of e)) slots (slots ++ Filled e ∷ [])) is (becomes-push slots (Filled e));

@@ -4,11 +4,11 @@ use Rattle.std.specs.List.{filter}
 use Rattle.nfs_model.specs.Types.{Listed}
 use Rattle.nfs_model.specs.Serial.Readdir.{fitting}
 use Rattle.nfs_values.specs.Answer.{entry_of}
-use Rattle.nfs_values.specs.declared.answer.Entry.{Entry}
+use Rattle.nfs_values.specs.declared.answer.DirectoryEntry.{DirectoryEntry}
 use Rattle.directories.specs.declared.page.Page as pages
 use Rattle.volume_values.specs.Directories.{DirectoryValue, Rises, Page}
 
-abbrev pub listed : List Entry → List Listed
+abbrev pub listed : List DirectoryEntry → List Listed
 listed es = map entry_of es
 
 -- cookies rise, from 3 on

@@ -36,7 +36,7 @@ ghost use Rattle.directories.specs.Slots.{in_slot, in_order, IsOrdered};
 
 use crate::page::Page;
 use crate::slot::{Slot, entry_in, holds, put, vacate};
-use nfs_values::{Cookie, Entry, Fileid, Name};
+use nfs_values::{Cookie, DirectoryEntry, Fileid, Name};
 use sequences::Sequence;
 use std::alloc::{AllocError, Global};
 use std::marker::Model;
@@ -94,7 +94,7 @@ impl Entries {
     }
 
     /// The entry under a cookie that has one. Where it is in the slot guessed there is no search.
-    pub fn at(&self, cookie: Cookie, guess: u32) -> &Entry
+    pub fn at(&self, cookie: Cookie, guess: u32) -> &DirectoryEntry
         requires { has self.now.list cookie.0 ≡ true }
         ensures { under cookie.0 self.now.list ≡ Some (entry_of result.now) }
     {
@@ -114,7 +114,7 @@ impl Entries {
     {
         let cookie = self.next;
         let room = self.order.room()?;
-        let entry = Entry {
+        let entry = DirectoryEntry {
             fileid,
             name,
             cookie,
@@ -203,7 +203,7 @@ fn copy_fitting(
     order: &Sequence<u32>,
     after: usize,
     room: usize,
-) -> Result<Vec<Entry>, AllocError>
+) -> Result<Vec<DirectoryEntry>, AllocError>
     requires { AllByRecursion (λ s. is_some (in_slot slots.now s) ≡ true) order.now }
     ensures ok { IfOk result (λ v.
         listed v.items ≡ fitting room (drop after (in_order slots.now order.now))) }
@@ -231,7 +231,7 @@ fn copy_run(
     slots: &[Slot],
     run: &[u32],
     room: usize,
-    copied: &mut Vec<Entry>,
+    copied: &mut Vec<DirectoryEntry>,
 ) -> Result<Option<usize>, AllocError>
     requires { AllByRecursion (λ s. is_some (in_slot slots.now s) ≡ true) run.now }
     ensures ok { IfOk result (λ rest. (more : List Listed)
@@ -254,17 +254,17 @@ fn copy_run(
 }
 
 /// The bytes of an entry in a page.
-fn size_of(entry: &Entry) -> usize
+fn size_of(entry: &DirectoryEntry) -> usize
     ensures { result ≡ entry_size (entry_of entry.now) }
 {
     24 + 4 * ((entry.name.as_bytes().len() + 3) / 4)
 }
 
 /// A copy of an entry.
-fn copy(alloc: Global, entry: &Entry) -> Result<Entry, AllocError>
+fn copy(alloc: Global, entry: &DirectoryEntry) -> Result<DirectoryEntry, AllocError>
     ensures { IfOk result (λ e. entry_of e ≡ entry_of entry.now) }
 {
-    Ok(Entry {
+    Ok(DirectoryEntry {
         fileid: entry.fileid,
         name: Name::new(Vec::from_slice(alloc, entry.name.as_bytes())?),
         cookie: entry.cookie,

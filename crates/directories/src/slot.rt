@@ -14,20 +14,20 @@ ghost use Rattle.std.specs.Prelude.{
 ghost use Rattle.nfs_values.specs.Answer.{entry_of};
 ghost use Rattle.directories.specs.Slots.{in_slot, has_cookie, Becomes, PutInto};
 
-use nfs_values::{Cookie, Entry};
+use nfs_values::{Cookie, DirectoryEntry};
 use std::alloc::AllocError;
 
 /// A place for an entry.
 #[derive(Drop)]
 pub enum Slot {
-    Filled(Entry),
+    Filled(DirectoryEntry),
     /// With the slot that is filled after this one. Nothing rests on it but that vacant slots are
     /// filled again.
     Vacant(u32),
 }
 
 /// The entry in a slot that has one.
-pub fn entry_in(slots: &[Slot], slot: u32) -> &Entry
+pub fn entry_in(slots: &[Slot], slot: u32) -> &DirectoryEntry
     requires { is_some (in_slot slots.now slot) ≡ true }
     ensures { in_slot slots.now slot ≡ Some (entry_of result.now) }
 {
@@ -50,7 +50,11 @@ pub fn holds(slots: &[Slot], slot: u32, cookie: Cookie) -> bool
 
 /// Puts an entry into a vacant slot, the one with a number if it is vacant. The result is the slot,
 /// and the one that is filled after it. Where there is no memory for a slot nothing changes.
-pub fn put(slots: &mut Vec<Slot>, vacant: u32, entry: Entry) -> Result<(u32, u32), AllocError>
+pub fn put(
+    slots: &mut Vec<Slot>,
+    vacant: u32,
+    entry: DirectoryEntry,
+) -> Result<(u32, u32), AllocError>
     ensures ok { IfOk result (λ r. PutInto r.0 (entry_of entry) slots.old.items slots.new.items) }
     ensures err { OnErr result (slots.new.items ≡ slots.old.items) }
 {

@@ -31,7 +31,7 @@ use Rattle.engine.specs.declared.worker.Running.{Running}
 use Rattle.engine.specs.declared.worker.WorkerRun.TheVariants.{Idle, Begun}
 use Rattle.engine.specs.declared.state.State.{State}
 use Rattle.engine.specs.Seen.{connection_seen, setup_in, world}
-use Rattle.engine.specs.Sound.{IsSound, running_messages, room_on}
+use Rattle.engine.specs.Sound.{IsSoundEngine, running_messages, room_on}
 use Rattle.engine.specs.Words.{Does}
 use Rattle.engine.specs.Workers.{worker_with}
 use Rattle.engine.proofs.Workers.{seen-at}
@@ -42,7 +42,7 @@ use Rattle.engine.proofs.Changed.{IsChanged, same_setup, run_count, run_weight, 
 
 -- ---- it is refused
 
-module _ (s : State) (sound : IsSound s) (i place : ℕ) (moment : Moment) (a : Affinity) (free : is_idle (slice_get (world s).workers i) ≡ true)
+module _ (s : State) (sound : IsSoundEngine s) (i place : ℕ) (moment : Moment) (a : Affinity) (free : is_idle (slice_get (world s).workers i) ≡ true)
     (told : Some a ≡ option_map (λ (m : Message Call). m.affinity) (slice_get s.calls.waiting place)) where
   message : (m : Message Call) × (slice_get s.calls.waiting place ≡ Some m) × (a ≡ m.affinity)
   message = found-message a (slice_get s.calls.waiting place) told
@@ -64,7 +64,7 @@ module _ (s : State) (sound : IsSound s) (i place : ℕ) (moment : Moment) (a : 
 
 -- ---- it begins
 
-module _ (s new : State) (sound : IsSound s) (i place : ℕ) (r : Running) (hand : Hand)
+module _ (s new : State) (sound : IsSoundEngine s) (i place : ℕ) (r : Running) (hand : Hand)
     (h : IsChanged s new i (worker_with Idle hand) (worker_with (Begun r) hand))
     (connections : new.connections.items ≡ s.connections.items) (opened : new.open_count ≡ s.open_count) (kept : IsKept new.desk)
     (begins : desks.HasBegun (books s.desk) i (affinity_of r.message.affinity) (books new.desk)) (takes : HasBegun s.calls place r.message new.calls) where
@@ -102,7 +102,7 @@ module _ (s new : State) (sound : IsSound s) (i place : ℕ) (r : Running) (hand
       let more = takes.running in
       omega (arith, counted, were, more)
 
-  pub begun_sound : IsSound new
+  pub begun_sound : IsSoundEngine new
   begun_sound = record {
     layout = begun-layout (books s.desk) (books new.desk) i _ begins ∙ sound.layout ∙ sym h.layout;
     kept = kept;

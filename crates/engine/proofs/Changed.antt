@@ -21,7 +21,7 @@ use Rattle.engine_feed.specs.Seen.{layout_in, messages_of, running_count}
 use Rattle.engine.specs.declared.worker.Worker.{Worker}
 use Rattle.engine.specs.declared.state.State.{State}
 use Rattle.engine.specs.Seen.{setup_in, setup_of, world}
-use Rattle.engine.specs.Sound.{IsPlaced, IsReady, IsSound, messages_in, running_messages}
+use Rattle.engine.specs.Sound.{IsPlaced, IsReady, IsSoundEngine, messages_in, running_messages}
 use Rattle.engine.proofs.Lists.{all-set}
 use Rattle.engine.proofs.Workers.{count-changed, messages-changed}
 
@@ -61,7 +61,7 @@ module _ {s new : State} {i : ℕ} {k x : Worker} (h : IsChanged s new i k x) wh
       ap (λ (ks : List Worker). total weigh (running_messages ks) + total weigh (messages_in k.run)) h.set
       ∙ messages-changed weigh s.workers.items i k x h.there
 
-  module _ (sound : IsSound s) where
+  module _ (sound : IsSoundEngine s) where
     pub still_few : length new.workers.items ≤ 64
     still_few = subst (λ n. n ≤ 64) (sym as_many) sound.few
 
@@ -82,7 +82,7 @@ module _ {s new : State} {i : ℕ} {k x : Worker} (h : IsChanged s new i k x) wh
 
 -- ---- a desk whose books are as before
 
-pub unchanged-sound : (s t : State) → books t.desk ≡ books s.desk → IsKept t.desk → IsSound s → IsSound (record s { desk = t.desk })
+pub unchanged-sound : (s t : State) → books t.desk ≡ books s.desk → IsKept t.desk → IsSoundEngine s → IsSoundEngine (record s { desk = t.desk })
 unchanged-sound s t same kept sound = record {
   layout = ap (λ (b : FilerBooks Files Job JobReply). b.layout) same ∙ sound.layout;
   kept = kept;

@@ -15,7 +15,7 @@ use Rattle.engine.specs.declared.connection.Connection.TheVariants.{Open, Closed
 use Rattle.engine.specs.declared.connection.ClosedConnection.{ClosedConnection}
 use Rattle.engine.specs.declared.state.State.{State}
 use Rattle.engine.specs.Seen.{connection_seen, world}
-use Rattle.engine.specs.Sound.{IsSound}
+use Rattle.engine.specs.Sound.{IsSoundEngine}
 use Rattle.engine.proofs.Reconnected.{reconnected}
 
 -- ---- one place of a list
@@ -88,7 +88,7 @@ open-before (d ∷ cs) (suc i) c (suc j) x e = open-before cs i c j x e
 
 pub closed-sound : (s new : State) (i : ℕ) (o : ConnectionState) (c : ClosedConnection)
     → new ≡ record s { connections = new.connections; open_count = s.open_count - 1 } → new.connections.items ≡ slice_set s.connections.items i (Closed c)
-    → slice_get s.connections.items i ≡ Some (Open o) → IsSound s → IsSound new
+    → slice_get s.connections.items i ≡ Some (Open o) → IsSoundEngine s → IsSoundEngine new
 closed-sound s new i o c same items there sound =
     let cs = s.connections.items in
     let count : new.open_count ≡ s.open_count - 1 = ap (λ (t : State). t.open_count) same in

@@ -48,7 +48,7 @@ use Rattle.engine.specs.declared.worker.WorkerRun.TheVariants.{Idle, Worked}
 use Rattle.engine.specs.declared.state.State.{State}
 use Rattle.engine.specs.Seen.{connection_seen, worker_seen, running_as, setup_in, world}
 use Rattle.engine.specs.Ending.{job_made, answer_made, EndsIn, OwesLess}
-use Rattle.engine.specs.Sound.{IsPlaced, IsReady, IsSound, MayEnd, running_messages, room_on, rooms_on}
+use Rattle.engine.specs.Sound.{IsPlaced, IsReady, IsSoundEngine, MayEnd, running_messages, room_on, rooms_on}
 use Rattle.engine.specs.Words.{Does}
 use Rattle.engine.specs.Workers.{worker_with}
 use Rattle.engine.proofs.Lists.{all-at}
@@ -70,7 +70,7 @@ again r a = record r.message { affinity = a }
 abbrev held : State → FilerBooks Files Job JobReply
 held s = books s.desk
 
-module _ (s : State) (sound : IsSound s) (i : ℕ) (r : Running) (o : Outcome) (hand : Hand)
+module _ (s : State) (sound : IsSoundEngine s) (i : ℕ) (r : Running) (o : Outcome) (hand : Hand)
     (there : slice_get s.workers.items i ≡ Some (worker_with (Worked r o) hand)) where
   -- the worker, before and after
   abbrev ran : Worker
@@ -163,7 +163,7 @@ module _ (s : State) (sound : IsSound s) (i : ℕ) (r : Running) (o : Outcome) (
           (parts-kept (held s) (held new) back_layout back.same) waits.finished back_stamps
           (ap (λ (ks : List Worker). map worker_seen ks) h.set ∙ seen-ran s.workers.items i (Worked r o) Idle hand there)
 
-      pub back_sound : IsSound new
+      pub back_sound : IsSoundEngine new
       back_sound = record {
         layout = back_layout ∙ sound.layout ∙ sym h.layout;
         kept = kept;
@@ -226,7 +226,7 @@ module _ (s : State) (sound : IsSound s) (i : ℕ) (r : Running) (o : Outcome) (
           (ends (setup_in s) (world s) refl (record { waiting = refl; finished = refl }) at_world).1
           ∙ ap (λ p. length (bytes_if_open p (reply_record r.message.origin.xid (reply_of reply)))) (sym at_world)
 
-      pub ended_events : Does s (events.Finish i) (Ok (dones.Written r.message.origin.connection.0 count)) new
+      pub ended_events : Does s (events.Finish i) (Ok (dones.Written r.message.origin.connection count)) new
       ended_events = (
         happens.0,
         (
@@ -255,7 +255,7 @@ module _ (s : State) (sound : IsSound s) (i : ℕ) (r : Running) (o : Outcome) (
           let wait = ap (λ (ms : List (Message Call)). total (room_on q) ms) leaves.waiting in
           omega (arith, left, wait)
 
-      pub ended_sound : IsSound new
+      pub ended_sound : IsSoundEngine new
       ended_sound = record {
         layout = done_layout ∙ sound.layout ∙ sym h.layout;
         kept = kept;

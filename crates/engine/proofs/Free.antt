@@ -20,7 +20,7 @@ use Rattle.engine.specs.declared.worker.Worker.{Worker}
 use Rattle.engine.specs.declared.worker.WorkerRun.TheVariants.{Idle}
 use Rattle.engine.specs.Inner.{MayTend, call_to_put}
 use Rattle.engine.specs.Seen.{world, worker_seen}
-use Rattle.engine.specs.Sound.{IsSound, IsCarried}
+use Rattle.engine.specs.Sound.{IsSoundEngine, IsCarried}
 use Rattle.engine.specs.Workers.{worker_with, idle_worker}
 use Rattle.engine.proofs.Lists.{all-at, inner}
 use Rattle.engine.proofs.Workers.{idle-worker, empty-hand, seen-at, index-found, in-vector}
@@ -50,7 +50,7 @@ pub free-there : (ks xs : List Worker) (i : ℕ) (b : Bool) → xs ≡ ks
 free-there ks xs i b are told =
     ap (λ zs. is_idle (slice_get (map worker_seen zs) i) && has_empty_hand (slice_get (map worker_seen zs) i)) (sym are) ∙ sym told
 
-module _ (s : State) (sound : IsSound s) where
+module _ (s : State) (sound : IsSoundEngine s) where
   pub volume-asked : (v : ℕ) (b : Bool) → b ≡ nat_lt v (length (layout_in s.calls).volumes) → is_some (slice_get (world s).server.volumes v) ≡ b
   volume-asked v b told =
       let b' = books s.desk in

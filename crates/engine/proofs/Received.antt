@@ -43,7 +43,7 @@ use Rattle.engine.specs.declared.state.State.{State}
 use Rattle.engine.specs.declared.worker.Worker.{Worker}
 use Rattle.engine.specs.Receiving.{takes_bytes, IsFed}
 use Rattle.engine.specs.Seen.{connection_seen, setup_in, world}
-use Rattle.engine.specs.Sound.{IsSound, IsPlaced, IsReady, room_on}
+use Rattle.engine.specs.Sound.{IsSoundEngine, IsPlaced, IsReady, room_on}
 use Rattle.engine.proofs.Lists.{all-after, all-later, set-here, set-elsewhere}
 use Rattle.engine.proofs.Placed.{kept_on, room-own, room-other}
 use Rattle.engine.proofs.Workers.{count-running}
@@ -167,7 +167,7 @@ fed-owed cs number before after ms more all ws there is own owes owed c x e = el
 
 -- ---- the world
 
-is-part : (s : State) (number : ℕ) (before : ConnectionState) → IsSound s → slice_get s.connections.items number ≡ Some (Open before)
+is-part : (s : State) (number : ℕ) (before : ConnectionState) → IsSoundEngine s → slice_get s.connections.items number ≡ Some (Open before)
     → IsPartOf s.calls number before (world s)
 is-part s number before sound there =
     let b = books s.desk in
@@ -197,7 +197,7 @@ setup-same s new e = ap (λ (l : Layout). record (setup_in s) { layout = l }) e
 -- ---- the state
 
 -- a place that bytes came on
-module _ (stays : WithoutHomeStays) (s new : State) (sound : IsSound s) (number : ℕ) (bytes : List ℕ) (taken : ℕ) (stop : Stop) (d d' : Connection)
+module _ (stays : WithoutHomeStays) (s new : State) (sound : IsSoundEngine s) (number : ℕ) (bytes : List ℕ) (taken : ℕ) (stop : Stop) (d d' : Connection)
     (at : slice_get s.connections.items number ≡ Some d) (items : new.connections.items ≡ slice_set s.connections.items number d')
     (f : IsFed s.calls d number bytes taken stop new.calls d') (same : new ≡ fed_state s new) where
   there : slice_get s.connections.items number ≡ Some (Open f.before)
@@ -236,7 +236,7 @@ module _ (stays : WithoutHomeStays) (s new : State) (sound : IsSound s) (number 
       (all-append (IsPlaced layout n) ms more sound.waiting
       (placed-more layout n more (all-after (IsAdmitted layout) ms more (subst (AllByRecursion (IsAdmitted layout)) f.adds.waiting admitted)) own come-home))
 
-  sound-fed : IsSound (fed_state s new)
+  sound-fed : IsSoundEngine (fed_state s new)
   sound-fed =
       let cs = s.connections.items in
       let ws = s.workers.items in
@@ -267,8 +267,8 @@ module _ (stays : WithoutHomeStays) (s new : State) (sound : IsSound s) (number 
   pub happens : Feeds (setup_in s) (feeding number bytes taken (stop_number stop)) (world s) (world new)
   happens = subst (λ (x : State). Feeds (setup_in s) (feeding number bytes taken (stop_number stop)) (world s) (world x)) (sym same) happens-fed
 
-  pub fed-sound : IsSound new
-  fed-sound = subst IsSound (sym same) sound-fed
+  pub fed-sound : IsSoundEngine new
+  fed-sound = subst IsSoundEngine (sym same) sound-fed
 
 -- a place that took none
 module _ (s new : State) (number : ℕ) (d d' : Connection) (at : slice_get s.connections.items number ≡ Some d)
@@ -282,8 +282,8 @@ module _ (s new : State) (number : ℕ) (d d' : Connection) (at : slice_get s.co
       ap world same ∙ ap (λ (x : CallsState). world (record s { connections = new.connections; calls = x })) calls
       ∙ ap (λ (cs : List Connection). record (world s) { connections = map connection_seen cs }) same_items
 
-  pub unfed-sound : IsSound s → IsSound new
+  pub unfed-sound : IsSoundEngine s → IsSoundEngine new
   unfed-sound sound =
-      subst IsSound (sym same)
-      (subst (λ (x : CallsState). IsSound (record s { connections = new.connections; calls = x })) (sym calls)
+      subst IsSoundEngine (sym same)
+      (subst (λ (x : CallsState). IsSoundEngine (record s { connections = new.connections; calls = x })) (sym calls)
       (reserved-sound s (record s { connections = new.connections }) refl same_items sound))

@@ -17,25 +17,26 @@ use Rattle.engine_feed.specs.declared.state.ConnectionState.{ConnectionState}
 use Rattle.engine_feed.specs.Seen.{connection_of, owed_by, layout_in, messages_of}
 use Rattle.engine.specs.declared.connection.Connection.{Connection}
 use Rattle.engine.specs.declared.connection.Connection.TheVariants.{Open}
+use Rattle.nfs_values.specs.declared.number.ConnectionNumber.{ConnectionNumber}
 use Rattle.engine.specs.declared.event.Done.TheVariants.{Opened}
 use Rattle.engine.specs.declared.state.State.{State}
 use Rattle.engine.specs.declared.worker.Worker.{Worker}
 use Rattle.engine.specs.Seen.{connection_seen, setup_in, world}
 use Rattle.engine.specs.Words.{Does}
-use Rattle.engine.specs.Sound.{IsSound, IsPlaced, IsReady, rooms_on}
+use Rattle.engine.specs.Sound.{IsSoundEngine, IsPlaced, IsReady, rooms_on}
 use Rattle.engine.proofs.Lists.{all-later}
 use Rattle.engine.proofs.Placed.{placed-later, ready-later, kept_on, nothing-owed}
 
 -- the state with other connections is sound, where each that is open is owed what it was
-pub reconnected : (s new : State) → new ≡ record s { connections = new.connections; open_count = new.open_count } → IsSound s
+pub reconnected : (s new : State) → new ≡ record s { connections = new.connections; open_count = new.open_count } → IsSoundEngine s
     → length s.connections.items ≤ length new.connections.items → new.open_count ≡ open_count (map connection_seen new.connections.items)
-    → ((c : ℕ) (x : ConnectionState) → slice_get new.connections.items c ≡ Some (Open x) → owed_by x ≡ rooms_on c s) → IsSound new
+    → ((c : ℕ) (x : ConnectionState) → slice_get new.connections.items c ≡ Some (Open x) → owed_by x ≡ rooms_on c s) → IsSoundEngine new
 reconnected s new same sound longer opened owed =
     let layout = layout_in s.calls in
     let n = length s.connections.items in
     let k = length new.connections.items in
     let next : State = record s { connections = new.connections; open_count = new.open_count } in
-    subst IsSound (sym same) (record {
+    subst IsSoundEngine (sym same) (record {
       layout = sound.layout;
       kept = sound.kept;
       stands = stands-alike job_of job_reply_of (setup_in s) (world s) (world next) (books s.desk)
@@ -72,7 +73,7 @@ count-opened (x ∷ xs) = let t = count-opened xs in omega (arith, t)
 
 -- the state with one more connection, on which nothing came
 pub opened-sound : (s new : State) (o : ConnectionState) → new ≡ record s { connections = new.connections; open_count = s.open_count + 1 }
-    → new.connections.items ≡ s.connections.items ++ Open o ∷ [] → connection_of o ≡ new_connection → owed_by o ≡ 0 → IsSound s → IsSound new
+    → new.connections.items ≡ s.connections.items ++ Open o ∷ [] → connection_of o ≡ new_connection → owed_by o ≡ 0 → IsSoundEngine s → IsSoundEngine new
 opened-sound s new o same items is nothing sound =
     let cs = s.connections.items in
     let layout = layout_in s.calls in
@@ -92,7 +93,7 @@ opened-sound s new o same items is nothing sound =
     (last-or-before cs o x c (subst (λ (l : List Connection). slice_get l c ≡ Some (Open x)) items e)))
 
 -- the state with more room for connections
-pub reserved-sound : (s new : State) → new ≡ record s { connections = new.connections } → new.connections.items ≡ s.connections.items → IsSound s → IsSound new
+pub reserved-sound : (s new : State) → new ≡ record s { connections = new.connections } → new.connections.items ≡ s.connections.items → IsSoundEngine s → IsSoundEngine new
 reserved-sound s new same items sound =
     let count : new.open_count ≡ s.open_count = ap (λ (t : State). t.open_count) same in
     let size = ap length items in
@@ -101,9 +102,9 @@ reserved-sound s new same items sound =
     (λ c x e. sound.owed c x (subst (λ (l : List Connection). slice_get l c ≡ Some (Open x)) items e))
 
 -- what is answered, where fewer than 64 are open
-pub opened-events : (s new : State) (o : ConnectionState) (n : ℕ) → new ≡ record s { connections = new.connections; open_count = new.open_count }
-    → new.connections.items ≡ s.connections.items ++ Open o ∷ [] → connection_of o ≡ new_connection → n ≡ length s.connections.items
-    → IsSound s → s.open_count < 64 → Does s events.Open (Ok (Opened n)) new
+pub opened-events : (s new : State) (o : ConnectionState) (n : ConnectionNumber) → new ≡ record s { connections = new.connections; open_count = new.open_count }
+    → new.connections.items ≡ s.connections.items ++ Open o ∷ [] → connection_of o ≡ new_connection → n.0 ≡ length s.connections.items
+    → IsSoundEngine s → s.open_count < 64 → Does s events.Open (Ok (Opened n)) new
 opened-events s new o n same items is number sound few =
     let cs = s.connections.items in
     let seen : map connection_seen new.connections.items ≡ map connection_seen cs ++ new_connection ∷ [] =

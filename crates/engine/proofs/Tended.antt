@@ -37,7 +37,7 @@ use Rattle.engine.specs.declared.worker.WorkerRun.TheVariants.{Idle}
 use Rattle.engine.specs.Inner.{MayMake, IsMade, IsRefusedFor, MayTend, Tends, Refuses, IsOfHand, told_as}
 use Rattle.engine.specs.Numbers.{refusal_number}
 use Rattle.engine.specs.Seen.{setup_in, world, worker_seen, done_of}
-use Rattle.engine.specs.Sound.{IsReady, IsSound, running_messages, room_on}
+use Rattle.engine.specs.Sound.{IsReady, IsSoundEngine, running_messages, room_on}
 use Rattle.engine.specs.Workers.{worker_with, HandSet, HandTaken}
 use Rattle.engine.proofs.Workers.{seen-at, seen-carried, one-worker, carries-then}
 use Rattle.engine.proofs.Carried.{set-same}
@@ -83,7 +83,7 @@ module _ (s : State) (i : ℕ) (call : InnerCall) (may : MayTend s i call) (hand
     put_again is = put_in ∙ ap (λ h. slice_set s.workers.items i (worker_with Idle h)) (is ∙ same_hand)
         ∙ set-same s.workers.items i (worker_with Idle may.hand) may.there
 
-module _ (s : State) (sound : IsSound s) (i : ℕ) (call : InnerCall) (may : MayTend s i call) where
+module _ (s : State) (sound : IsSoundEngine s) (i : ℕ) (call : InnerCall) (may : MayTend s i call) where
   abbrev place : Worker
   place = worker_with Idle may.hand
 
@@ -182,7 +182,7 @@ module _ (s : State) (sound : IsSound s) (i : ℕ) (call : InnerCall) (may : May
       running : running_messages t.workers.items ≡ running_messages s.workers.items
       running = ap (λ (ks : List Worker). running_messages ks) set ∙ running-set s.workers.items i place (worker_with Idle hand) may.there refl
 
-      pub tended_sound : OfOneRange → IsSound new
+      pub tended_sound : OfOneRange → IsSoundEngine new
       tended_sound one = record {
         layout = ap (λ (x : FilerBooks Files Job JobReply). x.layout) made.books ∙ sound.layout;
         kept = kept;
@@ -222,7 +222,7 @@ module _ (s t : State) (items : t.workers.items ≡ s.workers.items) (same : hel
   pub restored_setup : setup_in (with_tended s t) ≡ setup_in s
   restored_setup = λ j. record (setup_in s) { workers = length (items j) }
 
-  pub restored_sound : IsKept t.desk → IsSound s → IsSound (with_tended s t)
+  pub restored_sound : IsKept t.desk → IsSoundEngine s → IsSoundEngine (with_tended s t)
   restored_sound kept sound = record {
     layout = ap (λ (x : FilerBooks Files Job JobReply). x.layout) same ∙ sound.layout;
     kept = kept;

@@ -76,25 +76,25 @@ world s = record {
 
 abbrev pub event_of : Event → events.Event
 event_of happened.Open = events.Open
-event_of (happened.Feed connection bytes) = events.Feed connection bytes.now
-event_of (happened.Close connection) = events.Close connection
-event_of (happened.Begin worker place moment) = events.Begin worker place (moment_of moment)
-event_of (happened.Work worker) = events.Work worker
-event_of (happened.Finish worker) = events.Finish worker
-event_of (happened.Fetch worker volume range) = events.Fetch worker volume.0 range
-event_of (happened.Cull worker volume) = events.Cull worker volume.0
-event_of (happened.PutDown worker) = events.PutDown worker
-event_of (happened.Survey worker volume) = events.Survey worker volume.0
+event_of (happened.Feed connection bytes) = events.Feed connection.0 bytes.now
+event_of (happened.Close connection) = events.Close connection.0
+event_of (happened.Begin worker place moment) = events.Begin worker.0 place (moment_of moment)
+event_of (happened.Work worker) = events.Work worker.0
+event_of (happened.Finish worker) = events.Finish worker.0
+event_of (happened.Fetch worker volume range) = events.Fetch worker.0 volume.0 range
+event_of (happened.Cull worker volume) = events.Cull worker.0 volume.0
+event_of (happened.PutDown worker) = events.PutDown worker.0
+event_of (happened.Survey worker volume) = events.Survey worker.0 volume.0
 
 abbrev pub done_of : Done → events.Done
-done_of (dones.Opened connection) = events.Opened connection
+done_of (dones.Opened connection) = events.Opened connection.0
 done_of (dones.Fed taken stop) = events.Fed taken (stop_number stop)
 done_of dones.Closed = events.IsClosed
 done_of (dones.Granted affinity) = events.Granted (affinity_of affinity)
 done_of dones.Replied = events.HasReply
 done_of dones.Starved = events.IsStarved
 done_of (dones.Moved affinity) = events.HasMove (affinity_of affinity)
-done_of (dones.Written connection count) = events.Written connection count
+done_of (dones.Written connection count) = events.Written connection.0 count
 done_of dones.PutBack = events.IsBack
 done_of (dones.InHand count) = events.HandHas count
 done_of (dones.PutDown count) = events.HasPut count

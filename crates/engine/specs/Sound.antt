@@ -79,7 +79,7 @@ rooms_on c s = total (room_on c) (messages_of s.calls) + total (room_on c) (runn
 
 -- ---- all
 
-pub record IsSound (s : State) : Type 0 where
+pub record IsSoundEngine (s : State) : Type 0 where
   pub layout : (books s.desk).layout ≡ layout_in s.calls
   pub kept : IsKept s.desk
   pub stands : StandsFor job_of job_reply_of (setup_in s) (world s) (books s.desk)

@@ -7,7 +7,7 @@ use Rattle.engine.specs.declared.event.Done.{Done}
 use Rattle.engine.specs.declared.event.Refusal.{Refusal}
 use Rattle.engine.specs.declared.state.State.{State}
 use Rattle.engine.specs.Seen.{setup_in, world, answer_of}
-use Rattle.engine.specs.Sound.{IsSound}
+use Rattle.engine.specs.Sound.{IsSoundEngine}
 
 -- the event is the model's: it is refused and changes nothing, or answers and does what the model says
 abbrev pub Does : State → events.Event → Result Done Refusal → State → Type 0
@@ -19,4 +19,4 @@ HasItsSetup old new = setup_in new ≡ setup_in old
 
 -- all that holds between events
 abbrev pub IsWhole : State → Type 0
-IsWhole s = IsSound s × Kept (setup_in s) (world s)
+IsWhole s = IsSoundEngine s × Kept (setup_in s) (world s)

@@ -3,7 +3,7 @@
 ghost use Rattle.std.specs.Prelude.{◌≡◌};
 ghost use Rattle.nfs_model.specs.Events.Refusals as event;
 ghost use Rattle.nfs_values.specs.Moment.{moment_of};
-ghost use Rattle.engine.specs.Sound.{IsSound};
+ghost use Rattle.engine.specs.Sound.{IsSoundEngine};
 ghost use Rattle.engine.specs.Words.{Does, HasItsSetup};
 
 use crate::event::{Done, Refusal};
@@ -20,10 +20,10 @@ pub(crate) fn begin(
     place: usize,
     moment: Moment,
 ) -> Result<Done, Refusal>
-    requires { IsSound state.old }
+    requires { IsSoundEngine state.old }
     ensures events { Does state.old (event.Begin worker place (moment_of moment)) result state.new }
     ensures setup { HasItsSetup state.old state.new }
-    ensures sound { IsSound state.new }
+    ensures sound { IsSoundEngine state.new }
 {
     if !is_idle(&state.workers, worker) {
         return Err(Refusal::WorkerBusy);

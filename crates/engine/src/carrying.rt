@@ -6,7 +6,7 @@ ghost use Rattle.service.specs.Jobs.{inner_of};
 ghost use Rattle.engine_feed.specs.Seen.{layout_in};
 ghost use Rattle.engine.specs.Inner.{call_to_put};
 ghost use Rattle.engine.specs.Seen.{worker_seen};
-ghost use Rattle.engine.specs.Sound.{IsSound};
+ghost use Rattle.engine.specs.Sound.{IsSoundEngine};
 ghost use Rattle.engine.specs.Words.{Does, HasItsSetup};
 
 use crate::event::{Done, Refusal};
@@ -41,10 +41,10 @@ pub(crate) fn fetch(
     volume: VolumeNumber,
     range: u32,
 ) -> Result<Done, Refusal>
-    requires { IsSound state.old }
+    requires { IsSoundEngine state.old }
     ensures events { Does state.old (event.Fetch worker volume.0 range) result state.new }
     ensures setup { HasItsSetup state.old state.new }
-    ensures sound { IsSound state.new }
+    ensures sound { IsSoundEngine state.new }
 {
     if !is_free(&state.workers, worker) {
         return Err(Refusal::WorkerBusy);
@@ -60,10 +60,10 @@ pub(crate) fn fetch(
 
 /// Blocks that files have left, up to 64 of one range, come into the empty hand of an idle worker.
 pub(crate) fn cull(state: &mut State, worker: usize, volume: VolumeNumber) -> Result<Done, Refusal>
-    requires { IsSound state.old }
+    requires { IsSoundEngine state.old }
     ensures events { Does state.old (event.Cull worker volume.0) result state.new }
     ensures setup { HasItsSetup state.old state.new }
-    ensures sound { IsSound state.new }
+    ensures sound { IsSoundEngine state.new }
 {
     if !is_free(&state.workers, worker) {
         return Err(Refusal::WorkerBusy);
@@ -96,10 +96,10 @@ fn call_of(hand: &BatchInHand) -> Option<InnerCall>
 /// What an idle worker carries is put down: free blocks come into the stock of their volume, dead
 /// ones are free again in their range.
 pub(crate) fn put_down(state: &mut State, worker: usize) -> Result<Done, Refusal>
-    requires { IsSound state.old }
+    requires { IsSoundEngine state.old }
     ensures events { Does state.old (event.PutDown worker) result state.new }
     ensures setup { HasItsSetup state.old state.new }
-    ensures sound { IsSound state.new }
+    ensures sound { IsSoundEngine state.new }
 {
     if !is_idle(&state.workers, worker) {
         return Err(Refusal::WorkerBusy);
@@ -116,10 +116,10 @@ pub(crate) fn survey(
     worker: usize,
     volume: VolumeNumber,
 ) -> Result<Done, Refusal>
-    requires { IsSound state.old }
+    requires { IsSoundEngine state.old }
     ensures events { Does state.old (event.Survey worker volume.0) result state.new }
     ensures setup { HasItsSetup state.old state.new }
-    ensures sound { IsSound state.new }
+    ensures sound { IsSoundEngine state.new }
 {
     if !is_free(&state.workers, worker) {
         return Err(Refusal::WorkerBusy);

@@ -9,7 +9,7 @@ ghost use Rattle.service_counts.specs.Counts.{parts_told, world_counts};
 ghost use Rattle.engine.specs.Engine.{output_in, stream_in};
 ghost use Rattle.engine.specs.Seen.{event_of, worker_seen, setup_of, world};
 ghost use Rattle.engine.specs.Shown.{setup_in, Does, HasRun, HasPlayed, HasHeadline, HasItsSetup};
-ghost use Rattle.engine.specs.Sound.{IsSound};
+ghost use Rattle.engine.specs.Sound.{IsSoundEngine};
 ghost use Rattle.engine.specs.Words as words;
 
 use crate::beginning::begin;
@@ -44,38 +44,38 @@ fn dispatch(
     requires counted { counts.old.items ≡ world_counts (world state.old) }
     ensures events { words.Does state.old (event_of event.entry) result state.new }
     ensures setup { words.HasItsSetup state.old state.new }
-    ensures sound { IsSound state.new }
+    ensures sound { IsSoundEngine state.new }
     ensures counted { counts.new.items ≡ world_counts (world state.new) }
 {
     parts_partition();
     match event {
         Event::Open => open_connection(state),
-        Event::Feed { connection, bytes } => feed(state, connection, bytes),
-        Event::Close { connection } => close_connection(state, connection),
+        Event::Feed { connection, bytes } => feed(state, connection.0, bytes),
+        Event::Close { connection } => close_connection(state, connection.0),
         Event::Begin {
             worker,
             place,
             moment,
-        } => begin(state, worker, place, moment),
-        Event::Work { worker } => work(state, counts, worker),
-        Event::Finish { worker } => finish(state, worker),
+        } => begin(state, worker.0, place, moment),
+        Event::Work { worker } => work(state, counts, worker.0),
+        Event::Finish { worker } => finish(state, worker.0),
         Event::Fetch {
             worker,
             volume,
             range,
-        } => fetch(state, worker, volume, range),
+        } => fetch(state, worker.0, volume, range),
         Event::Cull { worker, volume } => {
-            let answer = cull(state, worker, volume);
+            let answer = cull(state, worker.0, volume);
             count_cull(counts, volume.0, &answer);
             answer
         }
         Event::PutDown { worker } => {
-            let stock = stock_of(&state.workers, worker);
-            let answer = put_down(state, worker);
+            let stock = stock_of(&state.workers, worker.0);
+            let answer = put_down(state, worker.0);
             count_put_down(counts, stock, &answer);
             answer
         }
-        Event::Survey { worker, volume } => survey(state, worker, volume),
+        Event::Survey { worker, volume } => survey(state, worker.0, volume),
     }
 }
 

@@ -4,7 +4,7 @@ ghost use Rattle.std.specs.Prelude.{◌≡◌};
 
 use affinity_tree::Affinity;
 use engine_feed::Stop;
-use nfs_values::{Moment, VolumeNumber};
+use nfs_values::{ConnectionNumber, Moment, VolumeNumber, WorkerNumber};
 
 /// What may happen to an engine.
 #[derive(Clone, Copy)]
@@ -13,46 +13,46 @@ pub enum Event<'a> {
     Open,
     /// Bytes come on a connection.
     Feed {
-        connection: usize,
+        connection: ConnectionNumber,
         bytes: &'a [u8],
     },
     /// A connection is closed: its calls still run, and nothing more is written to it.
     Close {
-        connection: usize,
+        connection: ConnectionNumber,
     },
     /// A worker begins the message at a place of the list of waiting ones.
     Begin {
-        worker: usize,
+        worker: WorkerNumber,
         place: usize,
         moment: Moment,
     },
     /// A worker works the message that it began.
     Work {
-        worker: usize,
+        worker: WorkerNumber,
     },
     /// A worker finishes the message that it worked.
     Finish {
-        worker: usize,
+        worker: WorkerNumber,
     },
     /// An idle worker fetches free blocks of a range into its empty hand.
     Fetch {
-        worker: usize,
+        worker: WorkerNumber,
         volume: VolumeNumber,
         range: u32,
     },
     /// An idle worker culls blocks that files have left into its empty hand.
     Cull {
-        worker: usize,
+        worker: WorkerNumber,
         volume: VolumeNumber,
     },
     /// An idle worker puts down what is in its hand: blocks that it fetched in the volume's stock,
     /// blocks that it culled in their range, where they are free.
     PutDown {
-        worker: usize,
+        worker: WorkerNumber,
     },
     /// An idle worker with an empty hand counts the free blocks of each range that is in use.
     Survey {
-        worker: usize,
+        worker: WorkerNumber,
         volume: VolumeNumber,
     },
 }
@@ -61,28 +61,46 @@ pub enum Event<'a> {
 #[derive(Drop)]
 pub enum Done {
     /// The connection has this number.
-    Opened { connection: usize },
+    Opened {
+        connection: ConnectionNumber,
+    },
     /// So many bytes were taken, and this stopped the taking.
-    Fed { taken: usize, stop: Stop },
+    Fed {
+        taken: usize,
+        stop: Stop,
+    },
     Closed,
     /// The message has this affinity's parcels.
-    Granted { affinity: Affinity },
+    Granted {
+        affinity: Affinity,
+    },
     /// The call has its reply.
     Replied,
     /// Memory ran out for the call, which changed nothing.
     Starved,
     /// The message has to run on this affinity's parcels.
-    Moved { affinity: Affinity },
+    Moved {
+        affinity: Affinity,
+    },
     /// The reply has so many bytes on this connection: none where it is closed.
-    Written { connection: usize, count: usize },
+    Written {
+        connection: ConnectionNumber,
+        count: usize,
+    },
     /// The message waits again.
     PutBack,
     /// So many blocks came into the hand.
-    InHand { count: usize },
+    InHand {
+        count: usize,
+    },
     /// So many blocks were put down.
-    PutDown { count: usize },
+    PutDown {
+        count: usize,
+    },
     /// How many blocks of each range in use are free.
-    Surveyed { counts: Vec<u32> },
+    Surveyed {
+        counts: Vec<u32>,
+    },
 }
 
 /// Why an event was refused. It changed nothing then.

@@ -3,7 +3,7 @@
 ghost use Rattle.std.specs.Prelude.{◌≡◌};
 ghost use Rattle.nfs_model.specs.Events.Refusals as event;
 ghost use Rattle.engine.specs.Receiving.{Receives};
-ghost use Rattle.engine.specs.Sound.{IsSound};
+ghost use Rattle.engine.specs.Sound.{IsSoundEngine};
 ghost use Rattle.engine.specs.Words.{Does, HasItsSetup};
 
 use crate::connection::Connection;
@@ -33,10 +33,10 @@ fn receive(
 
 /// Takes bytes on a connection that is open and at no fault.
 pub(crate) fn feed(state: &mut State, connection: usize, bytes: &[u8]) -> Result<Done, Refusal>
-    requires { IsSound state.old }
+    requires { IsSoundEngine state.old }
     ensures events { Does state.old (event.Feed connection bytes.now) result state.new }
     ensures setup { HasItsSetup state.old state.new }
-    ensures sound { IsSound state.new }
+    ensures sound { IsSoundEngine state.new }
 {
     let Some(place) = state.connections.get_mut(connection) else {
         return Err(Refusal::Closed);

@@ -15,7 +15,7 @@ ghost use Rattle.engine_feed.specs.Words.{HasLeft};
 ghost use Rattle.engine.specs.declared.connection.Connection.TheVariants.{Open};
 ghost use Rattle.engine.specs.Ending.{served_made, job_made, answer_made};
 ghost use Rattle.engine.specs.Ending.{EndsIn, OwesLess};
-ghost use Rattle.engine.specs.Sound.{IsSound};
+ghost use Rattle.engine.specs.Sound.{IsSoundEngine};
 ghost use Rattle.engine.specs.Words.{Does, HasItsSetup};
 
 use crate::connection::Connection;
@@ -145,10 +145,10 @@ fn end_in(
 
 /// Finishes the message that a worker has worked.
 pub(crate) fn finish(state: &mut State, worker: usize) -> Result<Done, Refusal>
-    requires { IsSound state.old }
+    requires { IsSoundEngine state.old }
     ensures events { Does state.old (event.Finish worker) result state.new }
     ensures setup { HasItsSetup state.old state.new }
-    ensures sound { IsSound state.new }
+    ensures sound { IsSoundEngine state.new }
 {
     match run_at(&state.workers, worker) {
         Some(WorkerRun::Worked(..)) => {}
@@ -160,7 +160,7 @@ pub(crate) fn finish(state: &mut State, worker: usize) -> Result<Done, Refusal>
         WorkerRun::Worked(running, outcome) => (running, outcome),
         _ => unreachable!(),
     };
-    let connection = running.message.origin.connection.0;
+    let connection = running.message.origin.connection;
     let (reply, starved) = match outcome {
         Outcome::Replied(reply) => (reply, false),
         Outcome::Starved => (Reply::SystemError, true),
@@ -174,7 +174,7 @@ pub(crate) fn finish(state: &mut State, worker: usize) -> Result<Done, Refusal>
         }
     };
     let (running, reply) = end_on(&mut state.desk, worker, running, reply, starved);
-    let place = &mut state.connections[connection];
+    let place = &mut state.connections[connection.0];
     let count = end_in(&mut state.calls, place, running, &reply, starved);
     drop(reply);
     Ok(Done::Written { connection, count })

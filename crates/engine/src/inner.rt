@@ -8,7 +8,7 @@ ghost use Rattle.service.specs.Jobs.{inner_of, job_reply_of};
 ghost use Rattle.engine.specs.Inner.{MayMake, IsMade, IsRefusedFor, IsOfHand, hand_after};
 ghost use Rattle.engine.specs.Inner.{told_as, MayTend, Tends};
 ghost use Rattle.engine.specs.Seen.{done_of};
-ghost use Rattle.engine.specs.Sound.{IsSound};
+ghost use Rattle.engine.specs.Sound.{IsSoundEngine};
 ghost use Rattle.engine.specs.Words.{HasItsSetup};
 
 use crate::event::{Done, Refusal};
@@ -102,11 +102,11 @@ fn told(reply: JobReply) -> (BatchInHand, Done)
 /// Makes an inner call of an idle worker with what is in its hand. Where it is refused, nothing
 /// changes.
 pub(crate) fn tend(state: &mut State, worker: usize, call: InnerCall) -> Result<Done, Refusal>
-    requires sound { IsSound state.old }
+    requires sound { IsSoundEngine state.old }
     requires may { MayTend state.old worker (inner_of call) }
     ensures tends { Tends state.old worker (inner_of call) result state.new }
     ensures setup { HasItsSetup state.old state.new }
-    ensures sound { IsSound state.new }
+    ensures sound { IsSoundEngine state.new }
 {
     batches_are_of_one_range();
     let hand = take_hand(&mut state.workers, worker);

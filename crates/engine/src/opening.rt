@@ -5,7 +5,7 @@ ghost use Rattle.nfs_model.specs.Headline.{opening_world};
 ghost use Rattle.affinity_tree.specs.Layout.{layout_of};
 ghost use Rattle.engine.specs.Seen.{setup_in, world, setup_of};
 ghost use Rattle.engine.specs.Workers.{idle_worker};
-ghost use Rattle.engine.specs.Sound.{IsSound};
+ghost use Rattle.engine.specs.Sound.{IsSoundEngine};
 
 use crate::state::State;
 use crate::worker::{Worker, WorkerRun};
@@ -46,7 +46,7 @@ pub(crate) fn open(
     ensures setup { IfOk result (λ state.
         setup_in state ≡ setup_of (layout_of layout) verifier workers) }
     ensures opening { IfOk result (λ state. world state ≡ opening_world (setup_in state)) }
-    ensures sound { IfOk result (λ state. IsSound state) }
+    ensures sound { IfOk result (λ state. IsSoundEngine state) }
 {
     begins_sound::<Files>();
     let verifier = Verifier(verifier);

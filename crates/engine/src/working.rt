@@ -10,7 +10,7 @@ ghost use Rattle.service_counts.specs.Counts.{IsCounted, world_counts};
 ghost use Rattle.engine.specs.Seen.{told_of, world};
 ghost use Rattle.engine.specs.Working.{run_of};
 ghost use Rattle.engine.specs.Words.{Does, HasItsSetup, IsWhole};
-ghost use Rattle.engine.specs.Sound.{IsSound};
+ghost use Rattle.engine.specs.Sound.{IsSoundEngine};
 
 use crate::counting::recount;
 use crate::event::{Done, Refusal};
@@ -78,7 +78,7 @@ pub(crate) fn work(
     requires counted { counts.old.items ≡ world_counts (world state.old) }
     ensures events { Does state.old (event.Work worker) result state.new }
     ensures setup { HasItsSetup state.old state.new }
-    ensures sound { IsSound state.new }
+    ensures sound { IsSoundEngine state.new }
     ensures counted { counts.new.items ≡ world_counts (world state.new) }
 {
     replies_fit();

@@ -13,7 +13,7 @@ use Rattle.engine_feed.specs.Numbers.{fault_number}
 use Rattle.engine_feed.specs.Streams.{scan_stream}
 use Rattle.engine_feed.specs.Offered.{reply_limit}
 use Rattle.engine_feed.specs.Seen.{owed_by, layout_in, messages_of, running_count}
-use Rattle.engine_feed.specs.Sound.{IsInStep, IsSound, AreSound, IsRoomier, IsStreamRoomier, AreRoomier, TakesFrom, IsWrittenTo, KeepsEntry, IsAnswered}
+use Rattle.engine_feed.specs.Sound.{IsInStep, IsSoundConnection, AreSound, IsRoomier, IsStreamRoomier, AreRoomier, TakesFrom, IsWrittenTo, KeepsEntry, IsAnswered}
 use Rattle.engine_feed.specs.Sound.{HasRoomToReply, HaveRoomToAdmit}
 use Rattle.engine_feed.specs.Words.{rooms, IsOwn, Adds, Keeps}
 
@@ -65,7 +65,7 @@ in-step-answered c c' e s =
 pub written-answered : (c c' : ConnectionState) (bytes : List ℕ) → IsWrittenTo c c' bytes → IsAnswered c c'
 written-answered c c' bytes w = w.same ∙ ap (λ (k : ℕ). record c { output = c'.output; owed = k }) (sym (ap owed_by w.same))
 
-pub written-sound : (c c' : ConnectionState) (bytes : List ℕ) → IsWrittenTo c c' bytes → length bytes ≤ reply_limit → HasRoomToReply c → IsSound c → IsSound c'
+pub written-sound : (c c' : ConnectionState) (bytes : List ℕ) → IsWrittenTo c c' bytes → length bytes ≤ reply_limit → HasRoomToReply c → IsSoundConnection c → IsSoundConnection c'
 written-sound c c' bytes w short room s =
     let owed = ap owed_by w.same in
     let size = ap (λ (bs : List ℕ). length bs) w.items in
@@ -78,7 +78,7 @@ written-sound c c' bytes w short room s =
       room = omega (arith, owed, size, sum, old, new, more, short, room);
     }
 
-pub roomier-sound : (c c' : ConnectionState) → IsRoomier c c' → IsSound c → IsSound c'
+pub roomier-sound : (c c' : ConnectionState) → IsRoomier c c' → IsSoundConnection c → IsSoundConnection c'
 roomier-sound c c' r s =
     let owed = ap owed_by r.same in
     let len = r.len in
@@ -87,9 +87,9 @@ roomier-sound c c' r s =
     let answered : IsAnswered c c' = r.same ∙ ap (λ (k : ℕ). record c { output = c'.output; owed = k }) (sym owed) in
     record { in_step = in-step-answered c c' answered s.in_step; room = omega (arith, owed, len, room, old) }
 
-pub stream-roomier-sound : (c c' : ConnectionState) → IsStreamRoomier c c' → IsSound c → IsSound c'
+pub stream-roomier-sound : (c c' : ConnectionState) → IsStreamRoomier c c' → IsSoundConnection c → IsSoundConnection c'
 stream-roomier-sound c c' r s =
-    subst IsSound (sym r.same) (record {
+    subst IsSoundConnection (sym r.same) (record {
       in_step = record {
         reassembler = subst (λ (bytes : List ℕ). (read_stream bytes).at ≡ c.reassembler) (sym r.items) s.in_step.reassembler;
         fault = subst (λ (bytes : List ℕ). (scan_stream bytes).fault ≡ option_map fault_number c.fault) (sym r.items) s.in_step.fault;
@@ -116,7 +116,7 @@ kept-sound calls calls' k entry s =
 
 -- a reply is written, and an entry kept
 pub answered-keeps : (calls calls' : CallsState) (c c' : ConnectionState) (n : ℕ) (bytes : List ℕ) → IsWrittenTo c c' bytes → KeepsEntry calls calls'
-    → length bytes ≤ reply_limit → IsSound c → AreSound calls → HasRoomToReply c → HaveRoomToAdmit calls → Keeps calls c n calls' c'
+    → length bytes ≤ reply_limit → IsSoundConnection c → AreSound calls → HasRoomToReply c → HaveRoomToAdmit calls → Keeps calls c n calls' c'
 answered-keeps calls calls' c c' n bytes w k short s t room entry = record {
   stays = record {
     adds = adds-none calls calls' c c' n (ap messages_of k.same) (ap owed_by w.same) (ap running_count k.same) (ap layout_in k.same);
@@ -128,7 +128,7 @@ answered-keeps calls calls' c c' n bytes w k short s t room entry = record {
 
 -- ---- bytes that are taken
 
-pub took-sound : (c c' : ConnectionState) (bytes : List ℕ) (taken : ℕ) (arrival : Arrival) → TakesFrom c c' bytes taken arrival → IsSound c → IsSound c'
+pub took-sound : (c c' : ConnectionState) (bytes : List ℕ) (taken : ℕ) (arrival : Arrival) → TakesFrom c c' bytes taken arrival → IsSoundConnection c → IsSoundConnection c'
 took-sound c c' bytes taken arrival t s =
     record {
       in_step = t.in_step;

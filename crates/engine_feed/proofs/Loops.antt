@@ -18,7 +18,7 @@ use Rattle.engine_feed.specs.Seen.{owed_by, pending}
 use Rattle.engine_feed.specs.Streams.{scan_stream}
 use Rattle.engine_feed.specs.Feeding.{TakesAll}
 use Rattle.engine_feed.specs.Within.{IsSetup, IsPartOf, with_part}
-use Rattle.engine_feed.specs.Sound.{IsInStep, IsSound, AreSound, IsFree, IsStreamRoomier, MayGoOn}
+use Rattle.engine_feed.specs.Sound.{IsInStep, IsSoundConnection, AreSound, IsFree, IsStreamRoomier, MayGoOn}
 use Rattle.engine_feed.specs.Words.{FeedsAll, FeedsSome, HasFed, InWorlds, StaysSound}
 use Rattle.engine_feed.proofs.Worlds.{TakesAll-append, Walks-after}
 use Rattle.engine_feed.proofs.Parts.{part-is, part-put, part-twice, part-unseen, stream-room-unseen}
@@ -37,7 +37,7 @@ HasTaken calls c n bytes calls' c' = InWorlds calls n c (λ setup w. TakesAll se
 pub none-taken : (calls : CallsState) (c : ConnectionState) (n : ℕ) → HasTaken calls c n [] calls c
 none-taken calls c n setup w k p = part-is calls n c w p
 
-pub stays-same : (calls : CallsState) (c : ConnectionState) (n : ℕ) → IsSound c → AreSound calls → StaysSound calls c n calls c
+pub stays-same : (calls : CallsState) (c : ConnectionState) (n : ℕ) → IsSoundConnection c → AreSound calls → StaysSound calls c n calls c
 stays-same calls c n s t = record { adds = adds-none calls calls c c n refl refl refl refl; is_sound = s; are_sound = t }
 
 pub stays-then : (calls calls' calls'' : CallsState) (c c' c'' : ConnectionState) (n : ℕ) → StaysSound calls c n calls' c'
@@ -107,13 +107,13 @@ pub feeds-none : (setup : Setup) (w : World) (calls : CallsState) (c : Connectio
 feeds-none setup w calls c n bytes e p = subst (Walks setup (feeding n bytes 0 0) w) (sym (part-is calls n c w p)) (feeds_none setup n w bytes e)
 
 pub stopped-full : (setup : Setup) (w : World) (calls : CallsState) (c : ConnectionState) (n : ℕ) (bytes : List ℕ) → IsSetup setup calls → IsPartOf calls n c w
-    → IsSound c → c.fault ≡ None → 0 < length bytes → (pending calls ≡ 1024) × IsFree c.reassembler bytes 0
+    → IsSoundConnection c → c.fault ≡ None → 0 < length bytes → (pending calls ≡ 1024) × IsFree c.reassembler bytes 0
     → Walks setup (feeding n bytes 0 31) w (with_part calls n c w)
 stopped-full setup w calls c n bytes k p s t some f =
     none-free setup calls n c w bytes 0 (record { codec_is = k.codec; part = p; fed = fed calls n c w p s.in_step t }) f.0 some f.1 refl
 
 stops_before : (setup : Setup) (w : World) (calls : CallsState) (c : ConnectionState) (n : ℕ) (bytes : List ℕ) → IsSetup setup calls → IsPartOf calls n c w
-    → IsSound c → c.fault ≡ None → 0 < length bytes → MayGoOn calls c bytes → Walks setup (feeding n bytes 0 90) w w
+    → IsSoundConnection c → c.fault ≡ None → 0 < length bytes → MayGoOn calls c bytes → Walks setup (feeding n bytes 0 90) w w
 stops_before setup w calls c n bytes k p s t some (inl room) = feeds-nothing setup n w bytes some (not-crowded calls n c w p room)
 stops_before setup w calls c n bytes k p s t some (inr r) =
     full-nothing setup k.codec c w n bytes r.0 c.reassembler (fed calls n c w p s.in_step t) refl some r.1 r.2
@@ -123,7 +123,7 @@ pub roomier-part : (calls : CallsState) (n : ℕ) (c c' : ConnectionState) (w : 
 roomier-part calls n c c' w r p = part-unseen calls calls n c c' w (stream-room-unseen c c' r) refl refl refl refl p
 
 pub stopped-by-memory : (setup : Setup) (w : World) (calls : CallsState) (c c' : ConnectionState) (n : ℕ) (bytes : List ℕ) → IsSetup setup calls
-    → IsPartOf calls n c w → IsSound c → c.fault ≡ None → 0 < length bytes → MayGoOn calls c bytes → IsStreamRoomier c c'
+    → IsPartOf calls n c w → IsSoundConnection c → c.fault ≡ None → 0 < length bytes → MayGoOn calls c bytes → IsStreamRoomier c c'
     → Walks setup (feeding n bytes 0 90) w (with_part calls n c' w)
 stopped-by-memory setup w calls c c' n bytes k p s t some m r =
     subst (Walks setup (feeding n bytes 0 90) w) (sym (part-is calls n c' w (roomier-part calls n c c' w r p)))
@@ -156,7 +156,7 @@ WalksAreFeeds = (setup : Setup) (w : World) (connection : ℕ) (bytes : List ℕ
     → takes_input setup (slice_get w.connections connection) ≡ true → Walks setup (feeding connection bytes taken stop) w new
     → Feeds setup (feeding connection bytes taken stop) w new
 
-pub has-fed : (calls calls' : CallsState) (c c' : ConnectionState) (n : ℕ) (bytes : List ℕ) (taken : ℕ) (stop : Stop) → WalksAreFeeds → IsSound c
+pub has-fed : (calls calls' : CallsState) (c c' : ConnectionState) (n : ℕ) (bytes : List ℕ) (taken : ℕ) (stop : Stop) → WalksAreFeeds → IsSoundConnection c
     → c.fault ≡ None → FeedsAll calls c n bytes taken stop calls' c' → HasFed calls c n bytes taken stop calls' c'
 has-fed calls calls' c c' n bytes taken stop law s t f setup w k p =
     let sound : (scan_stream c.stream.items).fault ≡ None = s.in_step.fault ∙ ap (option_map fault_number) t in

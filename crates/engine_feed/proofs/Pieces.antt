@@ -15,7 +15,7 @@ use Rattle.engine_feed.specs.Seen.{layout_in, pending}
 use Rattle.engine_feed.specs.Streams.{scan_stream, codec, Completes}
 use Rattle.engine_feed.specs.Feeding.{TakesAll}
 use Rattle.engine_feed.specs.Within.{IsSetup, IsPartOf, with_part}
-use Rattle.engine_feed.specs.Sound.{Arrives, AdmitsNone, IsFree, IsSound, IsRoomier, AreRoomier, TakesIn, TakesFrom}
+use Rattle.engine_feed.specs.Sound.{Arrives, AdmitsNone, IsFree, IsSoundConnection, IsRoomier, AreRoomier, TakesIn, TakesFrom}
 use Rattle.engine_feed.specs.Words.{InWorlds}
 use Rattle.engine_feed.proofs.Parts.{part-is, part-put, part-twice, part-taken, open-taken, still-part}
 use Rattle.engine_feed.proofs.Keeping.{roomier-sound}
@@ -30,12 +30,12 @@ pub record IsTaking (setup : Setup) (calls : CallsState) (n : ℕ) (c : Connecti
   pub fed : IsFed w n c
 
 pub taking : (setup : Setup) (calls : CallsState) (n : ℕ) (c : ConnectionState) (w : World) (size : ℕ) → IsSetup setup calls → IsPartOf calls n c w
-    → IsSound c → TakesIn c size → IsTaking setup calls n c w
+    → IsSoundConnection c → TakesIn c size → IsTaking setup calls n c w
 taking setup calls n c w size k p s t = record { codec_is = k.codec; part = p; fed = fed calls n c w p s.in_step t.faultless }
 
 -- after room was made
 pub ready : (setup : Setup) (calls calls' : CallsState) (n : ℕ) (c c' : ConnectionState) (w : World) (size : ℕ) → IsSetup setup calls → IsPartOf calls n c w
-    → IsSound c → TakesIn c size → IsRoomier c c' → AreRoomier calls calls' → IsTaking setup calls' n c' w
+    → IsSoundConnection c → TakesIn c size → IsRoomier c c' → AreRoomier calls calls' → IsTaking setup calls' n c' w
 ready setup calls calls' n c c' w size k p s t r a =
     let q = still-part calls calls' n c c' w r a p in
     let u = roomier-sound c c' r s in

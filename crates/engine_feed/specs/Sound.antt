@@ -35,7 +35,7 @@ pub record IsInStep (c : ConnectionState) : Type 0 where
   pub few : c.records ≤ vec_len c.stream
 
 -- And the replies that are owed have their room.
-pub record IsSound (c : ConnectionState) : Type 0 where
+pub record IsSoundConnection (c : ConnectionState) : Type 0 where
   pub in_step : IsInStep c
   pub room : vec_len c.output + c.owed ≤ vec_capacity c.output
 

@@ -19,7 +19,7 @@ use Rattle.engine_feed.specs.Offered.{reply_limit}
 use Rattle.engine_feed.specs.Seen.{connection_of, owed_by, layout_in, messages_of, message_of, finished_of, running_count}
 use Rattle.engine_feed.specs.Streams.{scan_stream, codec}
 use Rattle.engine_feed.specs.Within.{IsSetup, Shows, IsPartOf, with_calls, with_part}
-use Rattle.engine_feed.specs.Sound.{IsSound, AreSound, IsAdmitted, IsAnswered, TakesIn}
+use Rattle.engine_feed.specs.Sound.{IsSoundConnection, AreSound, IsAdmitted, IsAnswered, TakesIn}
 use Rattle.engine_feed.specs.Feeding.{FeedsPart}
 
 -- ---- feeds
@@ -82,7 +82,7 @@ pub record Adds (calls : CallsState) (c : ConnectionState) (number : ℕ) (calls
 -- And both are sound again.
 pub record StaysSound (calls : CallsState) (c : ConnectionState) (number : ℕ) (calls' : CallsState) (c' : ConnectionState) : Type 0 where
   pub adds : Adds calls c number calls' c'
-  pub is_sound : IsSound c'
+  pub is_sound : IsSoundConnection c'
   pub are_sound : AreSound calls'
 
 -- And what was read of the connection stays.

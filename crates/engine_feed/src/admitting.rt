@@ -9,7 +9,7 @@ ghost use Rattle.nfs_values.specs.Reply.{reply_of};
 ghost use Rattle.engine_feed.specs.Codec.{reply_record};
 ghost use Rattle.engine_feed.specs.Offered.{reply_limit};
 ghost use Rattle.engine_feed.specs.Seen.{asked_of, layout_in, pending, entry_at};
-ghost use Rattle.engine_feed.specs.Sound.{IsSound, AreSound, IsAdmitted};
+ghost use Rattle.engine_feed.specs.Sound.{IsSoundConnection, AreSound, IsAdmitted};
 ghost use Rattle.engine_feed.specs.Sound.{HasRoomToReply, HaveRoomToAdmit};
 ghost use Rattle.engine_feed.specs.Words.{HasHeard, Finishes, Waits, Keeps};
 
@@ -33,7 +33,7 @@ fn answer(
     request: Request,
     reply: &Reply,
 )
-    requires connection { IsSound connection.old }
+    requires connection { IsSoundConnection connection.old }
     requires calls { AreSound calls.old }
     requires short { length (reply_record origin.xid (reply_of reply.now)) ≤ reply_limit }
     requires room { HasRoomToReply connection.old }
@@ -49,7 +49,7 @@ fn answer(
 
 /// Refuses a record.
 fn refuse(connection: &mut ConnectionState, calls: &mut CallsState, origin: Origin, reply: Refused)
-    requires connection { IsSound connection.old }
+    requires connection { IsSoundConnection connection.old }
     requires calls { AreSound calls.old }
     requires room { HasRoomToReply connection.old }
     requires entry { HaveRoomToAdmit calls.old }
@@ -65,7 +65,7 @@ fn refuse(connection: &mut ConnectionState, calls: &mut CallsState, origin: Orig
 
 /// Answers a call that there was no memory to decode.
 pub(crate) fn starve(connection: &mut ConnectionState, calls: &mut CallsState, origin: Origin)
-    requires connection { IsSound connection.old }
+    requires connection { IsSoundConnection connection.old }
     requires calls { AreSound calls.old }
     requires room { HasRoomToReply connection.old }
     requires entry { HaveRoomToAdmit calls.old }
@@ -80,7 +80,7 @@ pub(crate) fn starve(connection: &mut ConnectionState, calls: &mut CallsState, o
 
 /// Lets a message of a connection wait, which keeps the room of its reply.
 fn wait(connection: &mut ConnectionState, calls: &mut CallsState, message: Message<OfferedCall>)
-    requires connection { IsSound connection.old }
+    requires connection { IsSoundConnection connection.old }
     requires calls { AreSound calls.old }
     requires admitted { IsAdmitted (layout_in calls.old) message }
     requires room { HasRoomToReply connection.old }
@@ -103,7 +103,7 @@ fn admit_call(
     call: OfferedCall,
     credential: Credential,
 )
-    requires connection { IsSound connection.old }
+    requires connection { IsSoundConnection connection.old }
     requires calls { AreSound calls.old }
     requires room { HasRoomToReply connection.old }
     requires entry { HaveRoomToAdmit calls.old }
@@ -141,7 +141,7 @@ pub(crate) fn admit(
     origin: Origin,
     request: Request,
 )
-    requires connection { IsSound connection.old }
+    requires connection { IsSoundConnection connection.old }
     requires calls { AreSound calls.old }
     requires room { HasRoomToReply connection.old }
     requires entry { HaveRoomToAdmit calls.old }

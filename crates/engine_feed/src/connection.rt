@@ -26,11 +26,11 @@ impl Model for OpenConnection {
 
     ghost Value = { ConnectionState };
 
-    ghost use Rattle.engine_feed.specs.Sound.{IsSound};
+    ghost use Rattle.engine_feed.specs.Sound.{IsSoundConnection};
 
     ghost view = { λ c. c.state };
 
-    ghost invariant = { λ c. IsSound c.state };
+    ghost invariant = { λ c. IsSoundConnection c.state };
 }
 
 impl OpenConnection {

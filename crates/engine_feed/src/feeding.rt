@@ -3,7 +3,7 @@
 ghost use Rattle.std.specs.Prelude.{◌≡◌, ◌≤◌, ◌<◌, true, false, length, None, OnOk};
 ghost use Rattle.rpc_record.specs.Machine.{outcome};
 ghost use Rattle.engine_feed.specs.Seen.{pending};
-ghost use Rattle.engine_feed.specs.Sound.{IsSound, AreSound, TakesIn, IsFree, MayGoOn};
+ghost use Rattle.engine_feed.specs.Sound.{IsSoundConnection, AreSound, TakesIn, IsFree, MayGoOn};
 ghost use Rattle.engine_feed.specs.Sound.{HasRoomToReply, HaveRoomToAdmit};
 ghost use Rattle.engine_feed.specs.Sound.{IsRoomier, IsStreamRoomier, AreRoomier};
 ghost use Rattle.engine_feed.specs.Words.{FeedsSome, FeedsAll, MayTakeMore, StaysSound, HasFed};
@@ -20,7 +20,7 @@ use std::alloc::AllocError;
 
 /// Room for one more reply beside those that are owed.
 fn make_room_to_reply(connection: &mut ConnectionState) -> Result<(), AllocError>
-    requires { IsSound connection.old }
+    requires { IsSoundConnection connection.old }
     ensures same { IsRoomier connection.old connection.new }
     ensures room { OnOk result (HasRoomToReply connection.new) }
 {
@@ -40,7 +40,7 @@ fn make_room_to_admit(calls: &mut CallsState) -> Result<(), AllocError>
 
 /// Room for one more message, its entry and its reply.
 fn make_room(connection: &mut ConnectionState, calls: &mut CallsState) -> Result<(), AllocError>
-    requires connection { IsSound connection.old }
+    requires connection { IsSoundConnection connection.old }
     requires calls { AreSound calls.old }
     requires places { pending calls.old < 1024 }
     ensures connection { IsRoomier connection.old connection.new }
@@ -59,7 +59,7 @@ fn take_and_admit(
     number: ConnectionNumber,
     bytes: &[u8],
 ) -> (usize, Option<Stop>)
-    requires connection { IsSound connection.old }
+    requires connection { IsSoundConnection connection.old }
     requires calls { AreSound calls.old }
     requires taking { TakesIn connection.old (length bytes.now) }
     requires some { 0 < length bytes.now }
@@ -118,7 +118,7 @@ fn take_when_full(
     number: ConnectionNumber,
     bytes: &[u8],
 ) -> (usize, Option<Stop>)
-    requires connection { IsSound connection.old }
+    requires connection { IsSoundConnection connection.old }
     requires calls { AreSound calls.old }
     requires taking { TakesIn connection.old (length bytes.now) }
     requires some { 0 < length bytes.now }
@@ -155,7 +155,7 @@ fn take_some(
     number: ConnectionNumber,
     bytes: &[u8],
 ) -> (usize, Option<Stop>)
-    requires connection { IsSound connection.old }
+    requires connection { IsSoundConnection connection.old }
     requires calls { AreSound calls.old }
     requires taking { TakesIn connection.old (length bytes.now) }
     requires some { 0 < length bytes.now }
@@ -179,7 +179,7 @@ fn take_all(
     number: ConnectionNumber,
     bytes: &[u8],
 ) -> (usize, Stop)
-    requires connection { IsSound connection.old }
+    requires connection { IsSoundConnection connection.old }
     requires calls { AreSound calls.old }
     requires taking { TakesIn connection.old (length bytes.now) }
     ensures feeds { FeedsAll calls.old connection.old number.0 bytes.now result.0 result.1
@@ -227,7 +227,7 @@ fn feed_open(
     number: ConnectionNumber,
     bytes: &[u8],
 ) -> (usize, Stop)
-    requires connection { IsSound connection.old }
+    requires connection { IsSoundConnection connection.old }
     requires calls { AreSound calls.old }
     requires at { connection.old.fault ≡ None }
     ensures feeds { FeedsAll calls.old connection.old number.0 bytes.now result.0 result.1
@@ -254,7 +254,7 @@ pub(crate) fn feed(
     number: ConnectionNumber,
     bytes: &[u8],
 ) -> (usize, Stop)
-    requires connection { IsSound connection.old }
+    requires connection { IsSoundConnection connection.old }
     requires calls { AreSound calls.old }
     requires at { connection.old.fault ≡ None }
     ensures feeds { HasFed calls.old connection.old number.0 bytes.now result.0 result.1

@@ -5,7 +5,7 @@ ghost use Rattle.nfs_values.specs.Moment.{moment_of};
 ghost use Rattle.nfs_values.specs.Reply.{reply_of};
 ghost use Rattle.engine_feed.specs.Codec.{reply_record};
 ghost use Rattle.engine_feed.specs.Seen.{layout_in, messages_of, running_count, finished_message};
-ghost use Rattle.engine_feed.specs.Sound.{IsSound, AreSound, IsAdmitted, HasReplied};
+ghost use Rattle.engine_feed.specs.Sound.{IsSoundConnection, AreSound, IsAdmitted, HasReplied};
 ghost use Rattle.engine_feed.specs.Words.{HasBegun, HasPutBack, HasLeft};
 
 use crate::asked::OfferedCall;
@@ -75,14 +75,14 @@ pub(crate) fn reply_to(
     room: usize,
     reply: &Reply,
 ) -> usize
-    requires sound { IsSound connection.old }
+    requires sound { IsSoundConnection connection.old }
     requires owed { room ≤ connection.old.owed }
     requires short { room ≤ 131072 }
     requires fits { length (reply_record xid (reply_of reply.now)) ≤ room }
     ensures replied { HasReplied connection.old connection.new
         (reply_record xid (reply_of reply.now)) room }
     ensures count { result ≡ length (reply_record xid (reply_of reply.now)) }
-    ensures sound { IsSound connection.new }
+    ensures sound { IsSoundConnection connection.new }
 {
     let count = write_reply(connection, xid, reply);
     connection.owed -= room;

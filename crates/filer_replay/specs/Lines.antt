@@ -14,7 +14,7 @@ spaced (n ∷ ns) = codes " " ++ decimal n ++ spaced ns
 -- The line of what an event came to. Those of a feed, a close and a reply name a connection, and
 -- what was written there.
 abbrev pub line_of : Done → Option (List ℕ)
-line_of (Opened connection) = Some (codes "conn " ++ decimal connection)
+line_of (Opened connection) = Some (codes "conn " ++ decimal connection.0)
 line_of (Fed taken stop) = None
 line_of Closed = None
 line_of (Granted affinity) = Some (codes "granted " ++ affinity_text affinity)

@@ -8,5 +8,6 @@ mod script;
 
 pub use engine::{Engine, Event, Worker, WorkerRun};
 pub use fault::ProgramFault;
+pub use nfs_values::{ConnectionNumber, WorkerNumber};
 pub use playing::replay;
 pub use printing::print_fault;

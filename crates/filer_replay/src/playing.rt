@@ -9,7 +9,7 @@ use crate::printing::{print_counts, print_fault, print_output, print_parts, prin
 use crate::script::{Request, Script, Start};
 use byteorder::{BigEndian, ByteOrder};
 use engine::{Done, Engine, Event, Refusal, Stop};
-use nfs_values::VolumeNumber;
+use nfs_values::{ConnectionNumber, VolumeNumber};
 use std::alloc::Global;
 use std::io::{BufWriter, Read, Write};
 
@@ -32,7 +32,7 @@ fn record_len(bytes: &[u8]) -> usize
 /// Prints the records that were written to a connection, each as a line.
 fn print_records<W: Write>(
     out: &mut W,
-    connection: usize,
+    connection: ConnectionNumber,
     records: &[u8],
 ) -> Result<(), ProgramFault> {
     let mut rest = records;
@@ -47,7 +47,7 @@ fn print_records<W: Write>(
 /// The bytes written to the connection of a feed, so far.
 fn output_before(engine: &Engine, event: Event<'_>) -> usize {
     match event {
-        Event::Feed { connection, .. } => engine.output(connection).len(),
+        Event::Feed { connection, .. } => engine.output(connection.0).len(),
         _ => 0,
     }
 }
@@ -56,7 +56,7 @@ fn output_before(engine: &Engine, event: Event<'_>) -> usize {
 /// were written since there were so many bytes.
 fn print_fed<W: Write>(
     engine: &Engine,
-    connection: usize,
+    connection: ConnectionNumber,
     before: usize,
     taken: usize,
     stop: Stop,
@@ -64,18 +64,18 @@ fn print_fed<W: Write>(
 ) -> Result<(), ProgramFault> {
     let stop = stop.number();
     say(out, format_args!("taken {taken} stop {stop}"))?;
-    let output = engine.output(connection);
+    let output = engine.output(connection.0);
     print_records(out, connection, &output[before.min(output.len())..])
 }
 
 /// Prints the last so many bytes that were written to a connection.
 fn print_written<W: Write>(
     engine: &Engine,
-    connection: usize,
+    connection: ConnectionNumber,
     count: usize,
     out: &mut W,
 ) -> Result<(), ProgramFault> {
-    let output = engine.output(connection);
+    let output = engine.output(connection.0);
     let before = output.len().saturating_sub(count);
     print_output(out, connection, &output[before..])
 }

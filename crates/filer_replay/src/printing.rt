@@ -10,6 +10,7 @@ ghost use Rattle.filer_replay.specs.Lines.{spaced};
 
 use crate::fault::ProgramFault;
 use engine::{PartCounts, Refusal};
+use nfs_values::ConnectionNumber;
 use std::fmt::Display;
 use std::io::Write;
 
@@ -60,11 +61,11 @@ fn print_hex<W: Write>(out: &mut W, bytes: &[u8]) -> Result<(), ProgramFault>
 /// `-` for none.
 pub(crate) fn print_output<W: Write>(
     out: &mut W,
-    connection: usize,
+    connection: ConnectionNumber,
     bytes: &[u8],
 ) -> Result<(), ProgramFault>
     ensures line { OnOk result (Appends (W.contents out.old) (W.contents out.new)
-        (codes "out " ++ decimal connection ++ codes " "
+        (codes "out " ++ decimal connection.0 ++ codes " "
         ++ (if length bytes.now == 0 then codes "-" else encode_lower bytes.now) ++ 10 ∷ [])) }
     ensures err { IfErr result (λ fault. fault ≡ ProgramFault.Output) }
 {

@@ -3,23 +3,23 @@ use Rattle.std.proofs.Common.{◌≡◌, ℕ, ◌+◌, ◌*◌, ◌<◌, List, [
 use Rattle.std.specs.List.{flat_map}
 use Rattle.std.proofs.lemmas.List.{length-append, at_drop_more}
 use Rattle.xdr.specs.Shape.{Chain, word, spelling}
-use Rattle.nfs_values.specs.declared.answer.Entry.{Entry}
+use Rattle.nfs_values.specs.declared.answer.DirectoryEntry.{DirectoryEntry}
 use Rattle.nfs_values.specs.declared.answer.VolumeCount.{VolumeCount}
 use Rattle.nfs_values.specs.Answer.{entry_of, count_of}
 use Rattle.nfs_types.specs.Results.{entry_shape, entry_value, count_shape, count_value}
 
 -- the entries of a list, and one of them
-abbrev pub entries_spelled : List Entry → List ℕ
+abbrev pub entries_spelled : List DirectoryEntry → List ℕ
 entries_spelled entries = spelling (Chain entry_shape) (map entry_value (map entry_of entries))
 
-abbrev pub entry_spelled : Entry → List ℕ
+abbrev pub entry_spelled : DirectoryEntry → List ℕ
 entry_spelled entry = spelling entry_shape (entry_value (entry_of entry))
 
-pub entries_more : (entries : List Entry) (i : ℕ) (x : Entry) → i < length entries → x ≡ get_or entries i x
+pub entries_more : (entries : List DirectoryEntry) (i : ℕ) (x : DirectoryEntry) → i < length entries → x ≡ get_or entries i x
     → entries_spelled (drop i entries) ≡ word 1 ++ (entry_spelled x ++ entries_spelled (drop (i + 1) entries))
 entries_more entries i x lt e =
     at_drop_more entries_spelled entries i x lt
-    ∙ ap (λ (y : Entry). entries_spelled (y ∷ drop (i + 1) entries)) (sym e)
+    ∙ ap (λ (y : DirectoryEntry). entries_spelled (y ∷ drop (i + 1) entries)) (sym e)
 
 -- the counts of a list, and one of them
 abbrev pub counts_spelled : List VolumeCount → List ℕ

@@ -10,9 +10,9 @@ ghost use Rattle.nfs_types.specs.Results.{entry_shape, entry_value, readdir_shap
 ghost use Rattle.nfs_types.specs.Results.{count_shape, count_value, census_shape};
 
 use crate::encode::{Encode, size_of_present, write_present};
-use nfs_values::{Entry, ReadDirectoryResults, Verifier, VolumeCount};
+use nfs_values::{DirectoryEntry, ReadDirectoryResults, Verifier, VolumeCount};
 
-impl Encode for Entry {
+impl Encode for DirectoryEntry {
     ghost shape = { entry_shape };
 
     ghost value = { λ e. entry_value (entry_of e) };
@@ -29,7 +29,7 @@ impl Encode for Entry {
 }
 
 /// How many bytes the entries of a directory take.
-fn size_of_entries(entries: &[Entry]) -> usize
+fn size_of_entries(entries: &[DirectoryEntry]) -> usize
     requires { length (spelling (Chain entry_shape) (map entry_value (map entry_of entries.now)))
         < 2 ^ 32 }
     ensures { result
@@ -43,7 +43,7 @@ fn size_of_entries(entries: &[Entry]) -> usize
 }
 
 /// The entries of a directory, each behind TRUE, and FALSE at the end.
-fn write_entries(entries: &[Entry], out: &mut Vec<u8>)
+fn write_entries(entries: &[DirectoryEntry], out: &mut Vec<u8>)
     requires short { length
         (spelling (Chain entry_shape) (map entry_value (map entry_of entries.now)))
         < 2 ^ 32 }

@@ -8,7 +8,7 @@ use Rattle.nfs_values.specs.declared.answer.ReadResults.{ReadResults}
 use Rattle.nfs_values.specs.declared.answer.WriteResults.{WriteResults}
 use Rattle.nfs_values.specs.declared.answer.MakeResults.{MakeResults}
 use Rattle.nfs_values.specs.declared.answer.RenameResults.{RenameResults}
-use Rattle.nfs_values.specs.declared.answer.Entry.{Entry}
+use Rattle.nfs_values.specs.declared.answer.DirectoryEntry.{DirectoryEntry}
 use Rattle.nfs_values.specs.declared.answer.ReadDirectoryResults.{ReadDirectoryResults}
 use Rattle.nfs_values.specs.declared.answer.FilesystemStatusResults.{FilesystemStatusResults}
 use Rattle.nfs_values.specs.declared.answer.CommitResults.{CommitResults}
@@ -45,7 +45,7 @@ abbrev pub name_moved : RenameResults → model.Answer
 name_moved r = model.RenameDone (change_of r.from) (change_of r.to)
 
 -- an entry of a directory
-abbrev pub entry_of : Entry → model.Listed
+abbrev pub entry_of : DirectoryEntry → model.Listed
 entry_of e = record { cookie = e.cookie.0; name = e.name; fileid = e.fileid.0 }
 
 abbrev pub entries_listed : ReadDirectoryResults → model.Answer

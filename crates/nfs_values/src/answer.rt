@@ -46,7 +46,7 @@ pub struct RenameResults {
 
 /// An entry of a directory (entry3, RFC 1813 section 3.3.16).
 #[derive(Drop)]
-pub struct Entry {
+pub struct DirectoryEntry {
     pub fileid: Fileid,
     pub name: Name,
     pub cookie: Cookie,
@@ -56,7 +56,7 @@ pub struct Entry {
 #[derive(Drop)]
 pub struct ReadDirectoryResults {
     pub directory: Attributes,
-    pub entries: Vec<Entry>,
+    pub entries: Vec<DirectoryEntry>,
     pub eof: bool,
 }
 

@@ -17,7 +17,7 @@ mod target;
 mod verifier;
 
 pub use answer::{
-    Answer, CommitResults, Entry, FilesystemStatusResults, LookupResults, MakeResults,
+    Answer, CommitResults, DirectoryEntry, FilesystemStatusResults, LookupResults, MakeResults,
     ReadDirectoryResults, ReadResults, RenameResults, VolumeCount, WriteResults,
 };
 pub use attributes::{Attributes, Change, FileKind, PriorAttributes};

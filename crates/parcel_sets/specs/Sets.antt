@@ -15,14 +15,14 @@ use Rattle.parcel_sets.specs.declared.sets.AggrHeld.{AggrHeld}
 use Rattle.parcel_sets.specs.declared.sets.SerialHeld.{SerialHeld}
 
 -- the number by which an affinity's volume or aggregate is told
-abbrev pub volume_of : Affinity → ℕ
-volume_of trees.Serial = 0
-volume_of (trees.Aggregate a) = 0
-volume_of (trees.Volume v) = v
-volume_of (trees.Logical v) = v
-volume_of (trees.Stripe v i) = v
-volume_of (trees.Vbn v) = v
-volume_of (trees.Range v r) = v
+abbrev pub volume_around : Affinity → ℕ
+volume_around trees.Serial = 0
+volume_around (trees.Aggregate a) = 0
+volume_around (trees.Volume v) = v
+volume_around (trees.Logical v) = v
+volume_around (trees.Stripe v i) = v
+volume_around (trees.Vbn v) = v
+volume_around (trees.Range v r) = v
 
 abbrev pub aggregate_number : Affinity → ℕ
 aggregate_number (trees.Aggregate a) = a
@@ -40,23 +40,23 @@ module _ {P R B S L V A X : Type 0} where
   vbn_parcels layout affinity held k =
       or_else
       (alone (number_of layout affinity) (Vbn held.own) k)
-      (in_places (λ r. true) (λ r range. range_parcels layout (trees.Range (volume_of affinity) r) range k) held.ranges.at 16)
+      (in_places (λ r. true) (λ r range. range_parcels layout (trees.Range (volume_around affinity) r) range k) held.ranges.at 16)
 
   -- as many stripes as the layout gives the volume
   unfoldable pub logical_parcels : Layout → Affinity → LogicalHeld P R B S L V A X → ℕ → Option (Parcel P R B S L V A X)
   logical_parcels layout affinity held k =
       or_else
       (alone (number_of layout affinity) (Logical held.own) k)
-      (in_places (λ i. true) (λ i stripe. stripe_parcels layout (trees.Stripe (volume_of affinity) i) stripe k) held.stripes.at
-      (stripes_of layout (volume_of affinity)))
+      (in_places (λ i. true) (λ i stripe. stripe_parcels layout (trees.Stripe (volume_around affinity) i) stripe k) held.stripes.at
+      (stripes_of layout (volume_around affinity)))
 
   unfoldable pub volume_parcels : Layout → Affinity → VolumeHeld P R B S L V A X → ℕ → Option (Parcel P R B S L V A X)
   volume_parcels layout affinity held k =
       or_else
       (alone (number_of layout affinity) (Volume held.own) k)
       (or_else
-      (logical_parcels layout (trees.Logical (volume_of affinity)) held.logical k)
-      (vbn_parcels layout (trees.Vbn (volume_of affinity)) held.vbn k))
+      (logical_parcels layout (trees.Logical (volume_around affinity)) held.logical k)
+      (vbn_parcels layout (trees.Vbn (volume_around affinity)) held.vbn k))
 
   -- those volumes that the layout puts on the aggregate
   unfoldable pub aggregate_parcels : Layout → Affinity → AggrHeld P R B S L V A X → ℕ → Option (Parcel P R B S L V A X)

@@ -4,8 +4,8 @@ use Rattle.std.proofs.Common.{arith}
 use Rattle.sequences.specs.declared.tree.Root.{Root}
 use Rattle.sequences.specs.declared.tree.Root.TheVariants.{Empty, Fork}
 use Rattle.sequences.specs.declared.tree.Tree.TheDeep.{deep-Root}
-use Rattle.sequences.specs.Trees.{tree_of, IsSound}
+use Rattle.sequences.specs.Trees.{tree_of, IsTree}
 
-pub sides_lower : {T : Type 0} (n : Root T) → IsSound n → max (deep-Root T n) 0 ≤ (tree_of n).height
+pub sides_lower : {T : Type 0} (n : Root T) → IsTree n → max (deep-Root T n) 0 ≤ (tree_of n).height
 sides_lower Empty h = omega arith
 sides_lower (Fork n) h = omega (arith, h)

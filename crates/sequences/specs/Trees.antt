@@ -21,6 +21,6 @@ pub record IsNode {T : Type 0} (left : TreeValue T) (items : List T) (right : Tr
   pub balanced : DifferByAtMost 1 left.height right.height
   pub low : height ≤ length (items_of left items right)
 
-abbrev pub IsSound : {T : Type 0} → Root T → Type 0
-IsSound Empty = Unit {0}
-IsSound (Fork n) = IsNode n.value.left n.value.items.items n.value.right n.value.before n.value.count n.value.height
+abbrev pub IsTree : {T : Type 0} → Root T → Type 0
+IsTree Empty = Unit {0}
+IsTree (Fork n) = IsNode n.value.left n.value.items.items n.value.right n.value.before n.value.count n.value.height

@@ -51,11 +51,11 @@ impl<T> Model for Tree<T> {
 
     ghost Value = { TreeValue T };
 
-    ghost use Rattle.sequences.specs.Trees.{tree_of, IsSound};
+    ghost use Rattle.sequences.specs.Trees.{tree_of, IsTree};
 
     ghost view = { λ t. tree_of t.root };
 
-    ghost invariant = { λ t. IsSound t.root };
+    ghost invariant = { λ t. IsTree t.root };
 
     ghost size = { λ v. v.height };
 

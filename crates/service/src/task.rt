@@ -76,7 +76,7 @@ impl<'a> Task<Parcel<Files>, ParcelKinds> for Run<'a> {
         affinity: Affinity,
         held: &mut VolumeHeld<Files>,
     ) -> Outcome {
-        let volume = volume_of(affinity);
+        let volume = volume_around(affinity);
         run_on_volume(self, layout, volume, held)
     }
 
@@ -117,7 +117,7 @@ fn aggregate_of(affinity: Affinity) -> u32
 }
 
 /// The volume of a node that is Volume.
-fn volume_of(affinity: Affinity) -> VolumeNumber
+fn volume_around(affinity: Affinity) -> VolumeNumber
     requires { kind_of (affinity_of affinity) ≡ kinds.Volume }
     ensures { affinity_of affinity ≡ trees.Volume result.0 }
 {

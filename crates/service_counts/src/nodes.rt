@@ -19,7 +19,7 @@ pub(crate) fn volume_of_logical(affinity: Affinity) -> u32
 }
 
 /// The volume of a node that is Volume.
-pub(crate) fn volume_of(affinity: Affinity) -> u32
+pub(crate) fn volume_around(affinity: Affinity) -> u32
     requires { kind_of (affinity_of affinity) ≡ kinds.Volume }
     ensures { affinity_of affinity ≡ trees.Volume result }
 {

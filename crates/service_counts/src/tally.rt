@@ -4,7 +4,7 @@ ghost use Rattle.std.specs.Prelude.{◌≡◌};
 
 use crate::counting::{recount_aggregate, recount_all, recount_logical, recount_volume};
 use crate::counts::VolumeCounts;
-use crate::nodes::{aggregate_of, volume_of, volume_of_logical};
+use crate::nodes::{aggregate_of, volume_around, volume_of_logical};
 use affinity_tree::{Affinity, Layout};
 use desk::{ParcelKinds, Task};
 use parcel_sets::{
@@ -60,7 +60,7 @@ impl Task<Parcel<Files>, ParcelKinds> for Tally {
         held: &mut VolumeHeld<Files>,
     ) -> Vec<VolumeCounts> {
         let Tally { mut counts } = self;
-        recount_volume(&mut counts, volume_of(affinity), held);
+        recount_volume(&mut counts, volume_around(affinity), held);
         counts
     }
 

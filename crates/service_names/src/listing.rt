@@ -24,7 +24,7 @@ use crate::naming::is_same_name;
 use crate::showing::shown;
 use directories::Page;
 use nfs_values::{
-    Cookie, Entry, Fileid, Name, ReadDirectoryResults, Status, Verifier, VolumeNumber,
+    Cookie, DirectoryEntry, Fileid, Name, ReadDirectoryResults, Status, Verifier, VolumeNumber,
 };
 use parcel_sets::LogicalHeld;
 use parcels::Files;
@@ -213,7 +213,7 @@ fn begin_with(
         is_last,
     } = page;
     let name = Name::new(Vec::from_slice(alloc, name)?);
-    let entry = Entry {
+    let entry = DirectoryEntry {
         fileid,
         name,
         cookie,

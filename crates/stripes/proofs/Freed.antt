@@ -10,16 +10,16 @@ use Rattle.volume_values.specs.Stripes.{Block, Place, place_cmp}
 use Rattle.volume_values.specs.lemmas.Entries.{place_total, place_same}
 use Rattle.stripes.proofs.Keys.{key-cases, key-itself, key-turned}
 
-abbrev Entry : Type 0
-Entry = Place × Block
+abbrev PlacedBlock : Type 0
+PlacedBlock = Place × Block
 
-found : Place → List Entry → Bool
+found : Place → List PlacedBlock → Bool
 found q es = is_some (find place_cmp q es)
 
-found-here : (e : Entry) (es : List Entry) → is_some (find place_cmp e.0 (e ∷ es)) ≡ true
+found-here : (e : PlacedBlock) (es : List PlacedBlock) → is_some (find place_cmp e.0 (e ∷ es)) ≡ true
 found-here e es = ap (λ t. is_some (cond t (Some e.1) (find place_cmp e.0 es))) (key-itself e.0)
 
-found-later : (q : Place) (e : Entry) (es : List Entry) → is_some (find place_cmp q es) ≡ true → is_some (find place_cmp q (e ∷ es)) ≡ true
+found-later : (q : Place) (e : PlacedBlock) (es : List PlacedBlock) → is_some (find place_cmp q es) ≡ true → is_some (find place_cmp q (e ∷ es)) ≡ true
 found-later q e es h = by (eq_by_cmp place_cmp q e.0)
   where
     by : (t : Bool) → is_some (cond t (Some e.1) (find place_cmp q es)) ≡ true
@@ -27,41 +27,41 @@ found-later q e es h = by (eq_by_cmp place_cmp q e.0)
     by false = h
 
 -- none of the entries passes
-pub filter-none : (test : Place → Bool) (es : List Entry) → ((q : Place) → is_some (find place_cmp q es) ≡ true → test q ≡ false)
-    → filter (λ (e : Entry). test e.0) es ≡ []
+pub filter-none : (test : Place → Bool) (es : List PlacedBlock) → ((q : Place) → is_some (find place_cmp q es) ≡ true → test q ≡ false)
+    → filter (λ (e : PlacedBlock). test e.0) es ≡ []
 filter-none test [] none = refl
 filter-none test (e ∷ es) none =
-    ap (λ t. cond t (e ∷ filter (λ (e : Entry). test e.0) es) (filter (λ (e : Entry). test e.0) es)) (none e.0 (found-here e es))
+    ap (λ t. cond t (e ∷ filter (λ (e : PlacedBlock). test e.0) es) (filter (λ (e : PlacedBlock). test e.0) es)) (none e.0 (found-here e es))
     ∙ filter-none test es (λ q h. none q (found-later q e es h))
 
 -- an entry before all others that pass
-pub filter-first : (test : Place → Bool) (k : Place) (v : Block) (es : List Entry) → test k ≡ true
+pub filter-first : (test : Place → Bool) (k : Place) (v : Block) (es : List PlacedBlock) → test k ≡ true
     → ((q : Place) → is_some (find place_cmp q es) ≡ true → place_cmp k q ≡ Equal → ⊥)
     → ((q : Place) → is_some (find place_cmp q es) ≡ true → place_cmp k q ≡ Greater → test q ≡ false)
-    → filter (λ (e : Entry). test e.0) (put place_cmp k v es) ≡ (k, v) ∷ filter (λ (e : Entry). test e.0) es
+    → filter (λ (e : PlacedBlock). test e.0) (put place_cmp k v es) ≡ (k, v) ∷ filter (λ (e : PlacedBlock). test e.0) es
 filter-first test k v [] passes other before = ap (λ t. cond t ((k, v) ∷ []) []) passes
 filter-first test k v (e ∷ es) passes other before =
     by (place_cmp k e.0) refl (filter-first test k v es passes (λ q f. other q (found-later q e es f)) (λ q f. before q (found-later q e es f)))
   where
-    rest : List Entry
-    rest = filter (λ (x : Entry). test x.0) es
+    rest : List PlacedBlock
+    rest = filter (λ (x : PlacedBlock). test x.0) es
 
-    by : (r : Ordering) → place_cmp k e.0 ≡ r → filter (λ (x : Entry). test x.0) (put place_cmp k v es) ≡ (k, v) ∷ rest
-        → filter (λ (x : Entry). test x.0) (by_order r ((k, v) ∷ e ∷ es) ((e.0, v) ∷ es) (e ∷ put place_cmp k v es))
-        ≡ (k, v) ∷ filter (λ (x : Entry). test x.0) (e ∷ es)
+    by : (r : Ordering) → place_cmp k e.0 ≡ r → filter (λ (x : PlacedBlock). test x.0) (put place_cmp k v es) ≡ (k, v) ∷ rest
+        → filter (λ (x : PlacedBlock). test x.0) (by_order r ((k, v) ∷ e ∷ es) ((e.0, v) ∷ es) (e ∷ put place_cmp k v es))
+        ≡ (k, v) ∷ filter (λ (x : PlacedBlock). test x.0) (e ∷ es)
     by Less h next = ap (λ t. cond t ((k, v) ∷ cond (test e.0) (e ∷ rest) rest) (cond (test e.0) (e ∷ rest) rest)) passes
     by Equal h next = absurd (other e.0 (found-here e es) h)
     by Greater h next =
         let fails : test e.0 ≡ false = before e.0 (found-here e es) h in
-        ap (λ t. cond t (e ∷ filter (λ (x : Entry). test x.0) (put place_cmp k v es)) (filter (λ (x : Entry). test x.0) (put place_cmp k v es))) fails
+        ap (λ t. cond t (e ∷ filter (λ (x : PlacedBlock). test x.0) (put place_cmp k v es)) (filter (λ (x : PlacedBlock). test x.0) (put place_cmp k v es))) fails
         ∙ next ∙ ap (λ t. (k, v) ∷ cond t (e ∷ rest) rest) (sym fails)
 
 -- what a map without a place has past a size, and what it had before
 pub freed-first : (test : Place → Bool) (k : Place) (v : Block) (old new : FinMap place_cmp Block) → test k ≡ true → get old k ≡ Some v
     → ((q : Place) → get new q ≡ cond (is_at (place_cmp k) q) None (get old q)) → ((q : Place) → test q ≡ true → place_cmp k q ≡ Greater → get old q ≡ None)
-    → filter (λ (e : Entry). test e.0) (entries old) ≡ (k, v) ∷ filter (λ (e : Entry). test e.0) (entries new)
+    → filter (λ (e : PlacedBlock). test e.0) (entries old) ≡ (k, v) ∷ filter (λ (e : PlacedBlock). test e.0) (entries new)
 freed-first test k v old new passes there gone first =
-    ap (λ m. filter (λ (e : Entry). test e.0) (entries m)) again ∙ ap (filter (λ (e : Entry). test e.0)) (entries-insert place_total new k v)
+    ap (λ m. filter (λ (e : PlacedBlock). test e.0) (entries m)) again ∙ ap (filter (λ (e : PlacedBlock). test e.0)) (entries-insert place_total new k v)
     ∙ filter-first test k v (entries new) passes
     (λ q f h. let same = place_same k q h in absurd (let no : false ≡ true = sym (ap is_some (left q) ∙ ap (λ t. is_some (cond t None (get old q)))
     (ap (λ p. is_at (place_cmp k) p) (sym same) ∙ key-itself k)) ∙ f in cc))
@@ -92,7 +92,7 @@ freed-first test k v old new passes there gone first =
 
 -- none is past a size
 pub freed-none : (test : Place → Bool) (m : FinMap place_cmp Block) → ((q : Place) → test q ≡ true → get m q ≡ None)
-    → filter (λ (e : Entry). test e.0) (entries m) ≡ []
+    → filter (λ (e : PlacedBlock). test e.0) (entries m) ≡ []
 freed-none test m none = filter-none test (entries m) (λ q f. by (test q) (test q) refl
     (λ t. absurd (let no : false ≡ true = sym (ap is_some (sym (get-entries m q) ∙ none q t)) ∙ f in cc)))
   where

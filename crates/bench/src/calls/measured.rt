@@ -2,7 +2,7 @@
 
 use crate::calls::records::{GETATTR, READDIR, create, lookup, remove, rename};
 use engine::{Engine, Event};
-use nfs_values::Moment;
+use nfs_values::{ConnectionNumber, Moment, WorkerNumber};
 
 /// Calls of a kind, or pairs of calls.
 #[derive(Clone, Copy)]
@@ -42,16 +42,20 @@ impl Measured {
 fn answer(engine: &mut Engine, record: &[u8]) {
     engine.run(&[
         Event::Feed {
-            connection: 0,
+            connection: ConnectionNumber(0),
             bytes: record,
         },
         Event::Begin {
-            worker: 0,
+            worker: WorkerNumber(0),
             place: 0,
             moment: Moment::START,
         },
-        Event::Work { worker: 0 },
-        Event::Finish { worker: 0 },
+        Event::Work {
+            worker: WorkerNumber(0),
+        },
+        Event::Finish {
+            worker: WorkerNumber(0),
+        },
     ]);
 }
 
@@ -61,12 +65,16 @@ pub fn answer_moved(engine: &mut Engine, record: &[u8]) {
     for _move in 0..2 {
         engine.run(&[
             Event::Begin {
-                worker: 0,
+                worker: WorkerNumber(0),
                 place: 0,
                 moment: Moment::START,
             },
-            Event::Work { worker: 0 },
-            Event::Finish { worker: 0 },
+            Event::Work {
+                worker: WorkerNumber(0),
+            },
+            Event::Finish {
+                worker: WorkerNumber(0),
+            },
         ]);
     }
 }

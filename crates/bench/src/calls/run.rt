@@ -5,7 +5,7 @@ ghost use Rattle.std.specs.Prelude.{◌≤◌, ◌<◌};
 use crate::calls::records::GETATTR;
 use affinity_tree::{AggregateSpec, Layout, VolumeSpec};
 use engine::{Engine, Event};
-use nfs_values::Moment;
+use nfs_values::{ConnectionNumber, Moment, WorkerNumber};
 use std::alloc::{AllocError, Global};
 use std::io;
 use std::rt::Clock;
@@ -59,14 +59,14 @@ fn measure_calls(
     rt: &(impl Clock + Print),
     engine: &mut Engine,
     volume: u8,
-    worker: usize,
+    worker: WorkerNumber,
     count: u32,
 ) -> io::Result<()> {
     let mut record = GETATTR;
     record[VOLUME] = volume;
     let call = [
         Event::Feed {
-            connection: 0,
+            connection: ConnectionNumber(0),
             bytes: &record,
         },
         Event::Begin {
@@ -106,7 +106,13 @@ fn measure<R: Clock + Print + AllocGlobal>(
     requires most { workers ≤ 64 }
 {
     let mut engine = opened(rt.alloc(), volumes, workers)?;
-    measure_calls(rt, &mut engine, last_volume, workers - 1, count)
+    measure_calls(
+        rt,
+        &mut engine,
+        last_volume,
+        WorkerNumber(workers - 1),
+        count,
+    )
 }
 
 /// Measures a small layout with one worker, and the last volume of the largest, with the last of

@@ -3,7 +3,7 @@
 use crate::scripts::events::{holds, same};
 use crate::scripts::texts::{NULL, NULL_REPLY};
 use affinity_tree::{AggregateSpec, Layout, VolumeSpec};
-use filer_replay::{Engine, Event, Worker, WorkerRun};
+use filer_replay::{ConnectionNumber, Engine, Event, Worker, WorkerNumber, WorkerRun};
 use std::process::Abort;
 
 /// The bytes that hex digits stand for.
@@ -39,11 +39,17 @@ fn lists_of_events_are_played(rt: HostRuntime) {
     let call = decoded(&rt, NULL);
     let reply = decoded(&rt, NULL_REPLY);
     let fed = Event::Feed {
-        connection: 0,
+        connection: ConnectionNumber(0),
         bytes: &call,
     };
     let mut engine = played(&rt, &[Event::Open, fed]);
     shows(&rt, &engine, &call, &reply);
-    let refused = engine.run(&[Event::Open, fed, Event::Work { worker: 0 }]);
+    let refused = engine.run(&[
+        Event::Open,
+        fed,
+        Event::Work {
+            worker: WorkerNumber(0),
+        },
+    ]);
     holds(&rt, refused == 1 && engine.finished().len() == 2);
 }

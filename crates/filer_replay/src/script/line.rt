@@ -43,7 +43,7 @@ pub(crate) fn read_layout_line(line: &[u8]) -> Result<LayoutLine, Unread> {
             let [spare] = words.numbers::<1>()?;
             LayoutLine::Aggregate { spare }
         }
-        Some(Verb::Volume) => LayoutLine::Volume(volume_of(&mut words)?),
+        Some(Verb::Volume) => LayoutLine::Volume(volume_line(&mut words)?),
         Some(Verb::Start) => {
             let [workers] = words.numbers::<1>()?;
             let verifier = words.verifier()?;
@@ -56,7 +56,7 @@ pub(crate) fn read_layout_line(line: &[u8]) -> Result<LayoutLine, Unread> {
 }
 
 /// A volume: its aggregate and its ranges, and then nothing, or its stripes and its mebibytes.
-fn volume_of(words: &mut Words<'_>) -> Result<VolumeSpec, Unread> {
+fn volume_line(words: &mut Words<'_>) -> Result<VolumeSpec, Unread> {
     let [aggregate, ranges] = words.numbers::<2>()?;
     let ordinary = VolumeSpec::new(aggregate, ranges);
     if words.is_ended() {
@@ -84,7 +84,7 @@ pub(crate) fn read_request<'b>(
             volume: words.volume()?,
         },
         Verb::Feed => {
-            let [connection] = words.places::<1>()?;
+            let connection = words.connection()?;
             *bytes = words.bytes(alloc)?;
             Request::Event(Event::Feed { connection, bytes })
         }
@@ -99,7 +99,7 @@ pub(crate) fn read_request<'b>(
 
 /// An event of blocks that a worker carries in its hand, or counts.
 fn carrying_of(verb: Verb, words: &mut Words<'_>) -> Result<Event<'static>, Unread> {
-    let [worker] = words.places::<1>()?;
+    let worker = words.worker()?;
     match verb {
         Verb::Fetch => {
             let volume = words.volume()?;
@@ -128,11 +128,12 @@ fn serving_of(verb: Verb, words: &mut Words<'_>) -> Result<Event<'static>, Unrea
     let event = match verb {
         Verb::Open => Event::Open,
         Verb::Close => {
-            let [connection] = words.places::<1>()?;
+            let connection = words.connection()?;
             Event::Close { connection }
         }
         Verb::Begin => {
-            let [worker, place] = words.places::<2>()?;
+            let worker = words.worker()?;
+            let place = words.place()?;
             let [seconds, nanoseconds] = words.numbers::<2>()?;
             Event::Begin {
                 worker,
@@ -144,11 +145,11 @@ fn serving_of(verb: Verb, words: &mut Words<'_>) -> Result<Event<'static>, Unrea
             }
         }
         Verb::Work => {
-            let [worker] = words.places::<1>()?;
+            let worker = words.worker()?;
             Event::Work { worker }
         }
         Verb::Finish => {
-            let [worker] = words.places::<1>()?;
+            let worker = words.worker()?;
             Event::Finish { worker }
         }
         _ => return Err(Unread::Form),

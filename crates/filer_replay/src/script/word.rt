@@ -4,7 +4,7 @@ ghost use Rattle.std.specs.Prelude.{◌≡◌, ◌+◌, ◌<◌, IfSome};
 ghost use Rattle.std.specs.Fmt.{decimal};
 
 use crate::script::line::Unread;
-use nfs_values::VolumeNumber;
+use nfs_values::{ConnectionNumber, VolumeNumber, WorkerNumber};
 use std::alloc::Global;
 
 /// The words of a line that are still to be read; `None` past the last.
@@ -45,13 +45,19 @@ impl<'a> Words<'a> {
         Ok(numbers)
     }
 
-    /// The next words, as numbers of a connection, a worker or a place, by the same rule.
-    pub(crate) fn places<const N: usize>(&mut self) -> Result<[usize; N], Unread> {
-        let mut places = [0; N];
-        for place in &mut places {
-            *place = self.number()? as usize;
-        }
-        Ok(places)
+    /// The next word, as the number of a connection, by the same rule.
+    pub(crate) fn connection(&mut self) -> Result<ConnectionNumber, Unread> {
+        Ok(ConnectionNumber(self.number()? as usize))
+    }
+
+    /// The next word, as the number of a worker, by the same rule.
+    pub(crate) fn worker(&mut self) -> Result<WorkerNumber, Unread> {
+        Ok(WorkerNumber(self.number()? as usize))
+    }
+
+    /// The next word, as a place among the messages that wait, by the same rule.
+    pub(crate) fn place(&mut self) -> Result<usize, Unread> {
+        Ok(self.number()? as usize)
     }
 
     /// The next word, as the number of a volume, by the same rule.

@@ -99,19 +99,19 @@ module _ (f size : ℕ) where
 
   -- ---- counts of entries
 
-  abbrev Entry : Type 0
-  Entry = Place × Block
+  abbrev PlacedBlock : Type 0
+  PlacedBlock = Place × Block
 
-  abbrev past_entry : Entry → Bool
+  abbrev past_entry : PlacedBlock → Bool
   past_entry e = is_past f size e.0
 
-  abbrev kept_entry : Entry → Bool
+  abbrev kept_entry : PlacedBlock → Bool
   kept_entry e = kept e.0
 
-  abbrev number_of : Entry → ℕ
+  abbrev number_of : PlacedBlock → ℕ
   number_of e = e.1.number
 
-  abbrev numbers_of : List Entry → List ℕ
+  abbrev numbers_of : List PlacedBlock → List ℕ
   numbers_of es = map number_of es
 
   entries-cut : (s : StripeValue) → entries (stripe_sized f size s).blocks ≡ changed_by cut_block (filter kept_entry (entries s.blocks))
@@ -120,7 +120,7 @@ module _ (f size : ℕ) where
       ∙ ap (changed_by cut_block) (entries-retained s.blocks kept)
 
   -- each entry is kept or freed
-  split-length : (es : List Entry) → length (filter kept_entry es) + length (filter past_entry es) ≡ length es
+  split-length : (es : List PlacedBlock) → length (filter kept_entry es) + length (filter past_entry es) ≡ length es
   split-length [] = refl
   split-length (e ∷ es) = by (past_entry e) (split-length es)
     where
@@ -130,7 +130,7 @@ module _ (f size : ℕ) where
       by true h = omega (arith, h)
       by false h = omega (arith, h)
 
-  split-times : (n : ℕ) (es : List Entry)
+  split-times : (n : ℕ) (es : List PlacedBlock)
       → times_listed n (numbers_of (filter kept_entry es)) + times_listed n (numbers_of (filter past_entry es)) ≡ times_listed n (numbers_of es)
   split-times n [] = refl
   split-times n (e ∷ es) = by (past_entry e) (split-times n es)
@@ -143,14 +143,14 @@ module _ (f size : ℕ) where
       by false h = omega (arith, h)
 
   -- those that are freed are all of the file
-  past-of : (e : Entry) → past_entry e ≡ true → is_of f e ≡ true
+  past-of : (e : PlacedBlock) → past_entry e ≡ true → is_of f e ≡ true
   past-of e h = by (e.0.0 == f) h
     where
       by : (b : Bool) → (b && nat_le size (block_size * e.0.1)) ≡ true → b ≡ true
       by true g = refl
       by false g = g
 
-  split-of : (es : List Entry) → count (is_of f) (filter kept_entry es) + length (filter past_entry es) ≡ count (is_of f) es
+  split-of : (es : List PlacedBlock) → count (is_of f) (filter kept_entry es) + length (filter past_entry es) ≡ count (is_of f) es
   split-of [] = refl
   split-of (e ∷ es) = by (past_entry e) refl (split-of es)
     where
@@ -161,18 +161,18 @@ module _ (f size : ℕ) where
       by false is h = omega (arith, h)
 
   -- what a cut does to a block leaves its number and its place
-  number-kept : (e : Entry) → number_of (e.0, cut_block e.0 e.1) ≡ number_of e
+  number-kept : (e : PlacedBlock) → number_of (e.0, cut_block e.0 e.1) ≡ number_of e
   number-kept e = by (e.0.0 == f)
     where
       by : (b : Bool) → (if b then block_mapped (byte_cut size) e.0.1 e.1 else e.1).number ≡ e.1.number
       by true = refl
       by false = refl
 
-  numbers-changed : (es : List Entry) → numbers_of (changed_by cut_block es) ≡ numbers_of es
+  numbers-changed : (es : List PlacedBlock) → numbers_of (changed_by cut_block es) ≡ numbers_of es
   numbers-changed [] = refl
   numbers-changed (e ∷ es) = λ j. number-kept e j ∷ numbers-changed es j
 
-  of-changed : (es : List Entry) → count (is_of f) (changed_by cut_block es) ≡ count (is_of f) es
+  of-changed : (es : List PlacedBlock) → count (is_of f) (changed_by cut_block es) ≡ count (is_of f) es
   of-changed [] = refl
   of-changed (e ∷ es) = let others = of-changed es in omega (arith, others)
 

@@ -18,7 +18,7 @@ use Rattle.parcel_sets.specs.Exact.{HasExactly, kind_in}
 use Rattle.parcel_sets.specs.Filled.{is_filled, AreFilledAlike, InEachPlace, range_alike, stripe_alike, vbn_alike, logical_alike}
 use Rattle.parcel_sets.specs.Filled.{volume_alike, aggregate_alike, serial_alike}
 use Rattle.parcel_sets.specs.Places.{alone, or_else, in_place, in_used_place, in_places}
-use Rattle.parcel_sets.specs.Sets.{volume_of, aggregate_number, range_parcels, vbn_parcels, stripe_parcels, logical_parcels, volume_parcels}
+use Rattle.parcel_sets.specs.Sets.{volume_around, aggregate_number, range_parcels, vbn_parcels, stripe_parcels, logical_parcels, volume_parcels}
 use Rattle.parcel_sets.specs.Sets.{aggregate_parcels, serial_parcels}
 
 -- ---- kinds by number
@@ -107,9 +107,9 @@ module _ {P R B S L V A X : Type 0} (layout : Layout) where
   vbn-same a old new k alike =
       or-same kind_in _ _ _ _
       (alone-kind kind_in (number_of layout a) k (Vbn old.own) (Vbn new.own) refl)
-      (places-same kind_in (λ r. true) (λ r (range : RangeHeld P R B S L V A X). range_parcels layout (trees.Range (volume_of a) r) range k)
+      (places-same kind_in (λ r. true) (λ r (range : RangeHeld P R B S L V A X). range_parcels layout (trees.Range (volume_around a) r) range k)
       old.ranges.at new.ranges.at 16
-      alike (λ i x y here there r. range-same (trees.Range (volume_of a) r) x y k))
+      alike (λ i x y here there r. range-same (trees.Range (volume_around a) r) x y k))
 
   logical-same : (a : Affinity) (old new : LogicalHeld P R B S L V A X) (k : ℕ) → logical_alike old new
       → option_map kind_in (logical_parcels layout a old k) ≡ option_map kind_in (logical_parcels layout a new k)
@@ -117,9 +117,9 @@ module _ {P R B S L V A X : Type 0} (layout : Layout) where
   logical-same a old new k alike =
       or-same kind_in _ _ _ _
       (alone-kind kind_in (number_of layout a) k (Logical old.own) (Logical new.own) refl)
-      (places-same kind_in (λ i. true) (λ i (stripe : StripeHeld P R B S L V A X). stripe_parcels layout (trees.Stripe (volume_of a) i) stripe k)
-      old.stripes.at new.stripes.at (stripes_of layout (volume_of a))
-      alike (λ i x y here there j. stripe-same (trees.Stripe (volume_of a) j) x y k))
+      (places-same kind_in (λ i. true) (λ i (stripe : StripeHeld P R B S L V A X). stripe_parcels layout (trees.Stripe (volume_around a) i) stripe k)
+      old.stripes.at new.stripes.at (stripes_of layout (volume_around a))
+      alike (λ i x y here there j. stripe-same (trees.Stripe (volume_around a) j) x y k))
 
   volume-same : (a : Affinity) (old new : VolumeHeld P R B S L V A X) (k : ℕ) → volume_alike old new
       → option_map kind_in (volume_parcels layout a old k) ≡ option_map kind_in (volume_parcels layout a new k)
@@ -128,8 +128,8 @@ module _ {P R B S L V A X : Type 0} (layout : Layout) where
       or-same kind_in _ _ _ _
       (alone-kind kind_in (number_of layout a) k (Volume old.own) (Volume new.own) refl)
       (or-same kind_in _ _ _ _
-      (logical-same (trees.Logical (volume_of a)) old.logical new.logical k alike.0)
-      (vbn-same (trees.Vbn (volume_of a)) old.vbn new.vbn k alike.1))
+      (logical-same (trees.Logical (volume_around a)) old.logical new.logical k alike.0)
+      (vbn-same (trees.Vbn (volume_around a)) old.vbn new.vbn k alike.1))
 
   aggregate-same : (a : Affinity) (old new : AggrHeld P R B S L V A X) (k : ℕ) → aggregate_alike old new
       → option_map kind_in (aggregate_parcels layout a old k) ≡ option_map kind_in (aggregate_parcels layout a new k)

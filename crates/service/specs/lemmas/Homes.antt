@@ -13,15 +13,15 @@ use Rattle.nfs_values.specs.declared.call.Call.TheVariants as calls
 use Rattle.affinity_tree.specs.Affinity.{kind_of}
 use Rattle.affinity_tree.specs.declared.affinity.Kind.{Kind}
 use Rattle.affinity_tree.specs.declared.affinity.Kind.TheVariants as kinds
-use Rattle.parcel_sets.specs.Sets.{volume_of}
+use Rattle.parcel_sets.specs.Sets.{volume_around}
 use Rattle.held_state.specs.Calls.{LieIn, handle_in}
 use Rattle.service_data.specs.HomeLemmas.{home-lies}
 use Rattle.service.specs.Running.{IsRun, IsRunInLogical, IsRunAt, IsRunIn, RunsAbove, BytesLieIn, fileid_in}
 
 -- what its handle names, the first of RENAME's: a fileid of the node's volume; and what the node is
 pub record IsNodeOf (named : Option Named) (a : Affinity) : Type 0 where
-  pub names : named ≡ Some (record { volume = volume_of a; fileid = fileid_in named })
-  pub above : volume_above a ≡ Some (volume_of a)
+  pub names : named ≡ Some (record { volume = volume_around a; fileid = fileid_in named })
+  pub above : volume_above a ≡ Some (volume_around a)
   pub kind : (kind_of a ≡ kinds.VolumeLogical) ⊎ ((kind_of a ≡ kinds.Stripe) ⊎ (kind_of a ≡ kinds.Volume))
 
 -- Logical of its volume

@@ -21,7 +21,7 @@ use Rattle.nfs_values.specs.declared.call.Call.TheVariants as calls
 use Rattle.affinity_tree.specs.Fault.{fault_of}
 use Rattle.affinity_tree.specs.lemmas.Ways.{begins-self, begins-longer}
 use Rattle.affinity_tree.specs.Tree.{IsNode, covers}
-use Rattle.parcel_sets.specs.Sets.{volume_of, stripe_parcels, logical_parcels, volume_parcels}
+use Rattle.parcel_sets.specs.Sets.{volume_around, stripe_parcels, logical_parcels, volume_parcels}
 use Rattle.volume_values.specs.Stripes.{StripeValue}
 use Rattle.held_state.specs.Calls.{IsCallOn, handle_in, located_on, move_on}
 use Rattle.held_state.specs.Contents.{VolumeContents, FilerContents, filer_contents}
@@ -106,7 +106,7 @@ on-handle : (layout : Layout) (a : Affinity) (call : types.Call) (credential : C
     → ((server : Server)
     → serve server call credential moment
     ≡ on server (absent_parts call) (locate server (handle_in call)) (procedure call (other_in layout call) credential moment))
-    → IsCallOn layout (volume_of a) (call_on layout a credential moment call) credential moment
+    → IsCallOn layout (volume_around a) (call_on layout a credential moment call) credential moment
 on-handle layout a call credential moment at tried serves = record {
   good = at.names;
   under = at.above;
@@ -114,17 +114,17 @@ on-handle layout a call credential moment at tried serves = record {
   served = λ server volume count there.
       serves server
       ∙ ap (λ o. on server (absent_parts call) o (procedure call (other_in layout call) credential moment))
-      (located-there layout server volume (volume_of a) (fileid_in (named_by layout (handle_in call))) (handle_in call) count there at.names);
+      (located-there layout server volume (volume_around a) (fileid_in (named_by layout (handle_in call))) (handle_in call) count there at.names);
 }
 
 -- RENAME, on two handles of one volume
 on-both : (layout : Layout) (a : Affinity) (from from_name to to_name : List ℕ) (credential : Credential) (moment : Moment)
     → rename_home (named_by layout from) (named_by layout to) ≡ Some a
     → IsHomeOrAbove layout (Ask (types.Rename from from_name to to_name) credential) a
-    → IsCallOn layout (volume_of a) (call_on layout a credential moment (types.Rename from from_name to to_name)) credential moment
+    → IsCallOn layout (volume_around a) (call_on layout a credential moment (types.Rename from from_name to to_name)) credential moment
 on-both layout a from from_name to to_name credential moment is tried =
     let both = both-there (named_by layout from) (named_by layout to) a is in
-    let v : ℕ = volume_of a in
+    let v : ℕ = volume_around a in
     let from_id : ℕ = fileid_in (named_by layout from) in
     let to_id : ℕ = fileid_in (named_by layout to) in
     let from_home = at-logical (named_by layout from) a both.0 in
@@ -142,7 +142,7 @@ on-both layout a from from_name to to_name credential moment is tried =
     }
 
 pub run-is-call : (layout : Layout) (call : Call) (credential : Credential) (moment : Moment) (a : Affinity) → IsRunIn layout call a
-    → IsCallOn layout (volume_of a) (call_on layout a credential moment (call_of call)) credential moment
+    → IsCallOn layout (volume_around a) (call_on layout a credential moment (call_of call)) credential moment
 run-is-call layout (calls.Rename from to) credential moment a at =
     on-both layout a from.directory from.name to.directory to.name credential moment at.1 (run-tried layout (calls.Rename from to) credential a at)
 run-is-call layout (calls.GetAttributes handle) credential moment a at =
@@ -271,7 +271,7 @@ module _ {P : Type 0} (layout : Layout) (lawful : fault_of layout ≡ None) (cal
 
 -- a WRITE moves to Logical of its volume or to Volume
 moves-up : (a : Affinity) (parts : Parts) (r : Option Ready) (other : Affinity) → move_if (Some parts) a r ≡ Some other
-    → (other ≡ Logical (volume_of a)) ⊎ (other ≡ Volume (volume_of a))
+    → (other ≡ Logical (volume_around a)) ⊎ (other ≡ Volume (volume_around a))
 moves-up a parts None other e = absurd cc
 moves-up (Stripe v i) parts (Some r) other e = by (r.extends || nat_lt 0 r.need) e
   where
@@ -313,7 +313,7 @@ moved-there : (layout : Layout) (a : Affinity) (credential : Credential) (moment
     → IsNode layout other × IsRunAt layout call other
 moved-there layout a credential moment (calls.Write handle offset count bytes) there at p other e =
     let here = run-home layout (calls.Write handle offset count bytes) a at in
-    let v : ℕ = volume_of a in
+    let v : ℕ = volume_around a in
     let c = call_on layout a credential moment (call_of (calls.Write handle offset count bytes)) in
     let up : (other ≡ Logical v) ⊎ (other ≡ Volume v) =
     moves-up a (parts_of p) (ready_at (Some (located_on c p)) offset count (length bytes.items)) other e in (

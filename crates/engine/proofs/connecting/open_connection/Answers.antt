@@ -20,6 +20,6 @@ returns-clause-events c =
     let size = c.try_reserve.new.self.ok.0 in
     let s = c.args.state.now in
     let new : State = record s { connections = c.push_reserved.new.self; open_count = s.open_count + 1 } in
-    opened-events s new c.new.result c.len-connection.result refl
+    opened-events s new c.new.result _ refl
     (c.push_reserved.ensures.items ∙ ap (λ (l : List Connection). l ++ Open c.new.result ∷ []) c.try_reserve.ensures.items)
     c.new.ensures.new (omega (arith, reserved, size)) c.requires c.if-state-ge-CONNECTIONS.false

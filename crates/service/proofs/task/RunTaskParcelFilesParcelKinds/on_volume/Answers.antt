@@ -12,17 +12,17 @@ use Rattle.service.specs.Running.{IsRunAt, outcome_of}
 use Rattle.service.specs.lemmas.Serving.{volume-runs, volume-whole, moves-on}
 use Rattle.service.proofs.task.RunTaskParcelFilesParcelKinds.on_volume.Goals as goal
 
-pub volume_of-volume-requires : goal.volume_of-volume-requires
-volume_of-volume-requires c =
+pub volume_around-volume-requires : goal.volume_around-volume-requires
+volume_around-volume-requires c =
     volume-kind (layout_of c.args.layout.now) (affinity_of c.args.affinity) c.args.held.now c.requires.node c.requires.exact
 
 pub run_on_volume-requires-clause-at : goal.run_on_volume-requires-clause-at
 run_on_volume-requires-clause-at c =
-    subst (λ (a : Affinity). IsRunAt (layout_of c.args.layout.now) c.args.self.call.now a) c.volume_of-volume.ensures c.requires.asks.0
+    subst (λ (a : Affinity). IsRunAt (layout_of c.args.layout.now) c.args.self.call.now a) c.volume_around-volume.ensures c.requires.asks.0
 
 pub run_on_volume-requires-clause-whole : goal.run_on_volume-requires-clause-whole
 run_on_volume-requires-clause-whole c =
-    (volume-whole (layout_of c.args.layout.now) c.args.layout.now.lawful c.volume_of-volume.result.0 (affinity_of c.args.affinity) c.volume_of-volume.ensures
+    (volume-whole (layout_of c.args.layout.now) c.args.layout.now.lawful c.volume_around-volume.result.0 (affinity_of c.args.affinity) c.volume_around-volume.ensures
     c.requires.node c.args.held.now c.requires.asks.1).1
 
 pub returns-clause-exact : goal.returns-clause-exact
@@ -37,8 +37,8 @@ returns-clause-does c =
     let call = c.args.self.call.now in
     let held = c.args.held.now in
     let new = c.run_on_volume.new.held in
-    let v = c.volume_of-volume.result.0 in
-    let at = c.volume_of-volume.ensures in
+    let v = c.volume_around-volume.result.0 in
+    let at = c.volume_around-volume.ensures in
     let credential = credential_of c.args.self.credential in
     let moment = moment_of c.args.self.moment in
     let known = volume-whole L c.args.layout.now.lawful v a at c.requires.node held c.requires.asks.1 in
