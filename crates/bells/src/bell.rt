@@ -51,8 +51,8 @@ impl Bell {
         self.rung.notify_one();
     }
 
-    /// Rings for so many things to do, and wakes as many who sleep, but all where there are more than
-    /// four: one call of the system is less than many.
+    /// Rings for so many things to do, and wakes as many who sleep, but all where there are more
+    /// than four: one call of the system is less than many.
     pub fn ring_for(&self, things: usize) {
         if things > A_FEW {
             self.ring_all();

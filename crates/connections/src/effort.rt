@@ -94,8 +94,8 @@ impl Effort {
         }
     }
 
-    /// After the last turn. Calls that were finished may have left something to tend: so a thread of
-    /// the pool is rung for, but not where this was done in the same eight milliseconds.
+    /// After the last turn. Calls that were finished may have left something to tend: so a thread
+    /// of the pool is rung for, but not where this was done in the same eight milliseconds.
     pub(crate) fn end(self, bells: &Bells, rung: &mut Moment) {
         let Effort {
             patience: _,

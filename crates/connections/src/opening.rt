@@ -77,8 +77,8 @@ fn prepare(
     }
 }
 
-/// Starts the thread that reads. Where none can be started the stream is closed, and what it brought
-/// is read here.
+/// Starts the thread that reads. Where none can be started the stream is closed, and what it
+/// brought is read here.
 fn start_reader<R: Threads + Wait + Clock + Copy + Send + 'static>(
     rt: R,
     reading: Reading,

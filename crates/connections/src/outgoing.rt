@@ -73,5 +73,6 @@ impl<'a, R: Wait> RecordSource for Outgoing<'a, R> {
 
     ghost gave_none = { λ s. same_none s.connection };
 
-    ghost gave_more = { λ s t u ms others f g. same_more s.connection t.connection u.connection f g };
+    ghost gave_more = { λ s t u ms others f g.
+        same_more s.connection t.connection u.connection f g };
 }

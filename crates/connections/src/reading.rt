@@ -20,9 +20,9 @@ use workers::Filer;
 
 /// Reads a connection to its end (`tcp_front::read_loop`): the calls of its records are put into
 /// the filer's queue, and replies that need no worker into its outbox. It sleeps while the queue
-/// is full or the peer takes no replies. Where the lane has a helper, it runs calls after each read
-/// that brought some, while a place is free. Where the filer was stopped, a call that finds no place
-/// ends it as if memory ran out.
+/// is full or the peer takes no replies. Where the lane has a helper, it runs calls after each
+/// read that brought some, while a place is free. Where the filer was stopped, a call that finds
+/// no place ends it as if memory ran out.
 pub fn read_connection<W: Wait + Clock, R: Read>(
     rt: &W,
     alloc: Global,

@@ -64,7 +64,8 @@ pub(crate) fn read_on<R: Wait + Clock>(rt: &R, reading: Reading) -> Loan
     loan
 }
 
-/// Room for the bytes of one write: none where memory ran out, and each record is written by itself.
+/// Room for the bytes of one write: none where memory ran out, and each record is written by
+/// itself.
 fn write_room(alloc: Global) -> Vec<u8> {
     match Vec::with_capacity(alloc, WRITE_ROOM) {
         Ok(buffer) => buffer,

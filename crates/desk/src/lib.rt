@@ -1,8 +1,8 @@
 //! A depot with one seat for many workers. Nothing of the seat shows above: a desk is told by the
 //! parcels at the start, the history, and what each worker was lent (`desk_laws`).
 //!
-//! `begin_node`, `work_node`, `finish_node` and `put_back_node` are a call on a node of one kind for
-//! who has a seat of their own: such a grant is no larger than what it lends.
+//! `begin_node`, `work_node`, `finish_node` and `put_back_node` are a call on a node of one kind
+//! for who has a seat of their own: such a grant is no larger than what it lends.
 #![tactic(auto)]
 
 mod calls;

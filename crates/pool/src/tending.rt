@@ -29,8 +29,8 @@ pub(crate) enum Found {
 pub(crate) struct Tending {
     /// How many were made with an empty hand, wrapping at 2^64.
     pub(crate) made: u64,
-    /// How many in a row, up to now, moved no block. It stops at the last value. Who has a node that
-    /// a tend found taken looks there itself, or rings when its call is finished.
+    /// How many in a row, up to now, moved no block. It stops at the last value. Who has a node
+    /// that a tend found taken looks there itself, or rings when its call is finished.
     pub(crate) unchanged: usize,
     /// Whether the last lacked memory.
     pub(crate) starved: bool,

@@ -39,8 +39,8 @@ fn layout(alloc: Global) -> Result<Layout, AllocError> {
     }
 }
 
-/// A filer with its only worker, and the passes of two who put messages. Its write verifier is eight
-/// nines.
+/// A filer with its only worker, and the passes of two who put messages. Its write verifier is
+/// eight nines.
 pub(crate) fn open_filer(
     alloc: Global,
 ) -> Result<(Arc<Filer>, Worker, FilerPass, FilerPass), AllocError>

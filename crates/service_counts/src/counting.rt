@@ -90,8 +90,9 @@ fn count_if_on(
 #[tactic(auto, using(affinity_tree::specs::lemmas::Lawful::few_aggregates, affinity_tree::specs::lemmas::Lawful::few_volumes))]
 fn count_in_whole(layout: &Layout, held: &SerialHeld<Files>, volume: u32) -> VolumeCounts
     requires there { volume < length (layout_of layout.now).volumes }
-    ensures { let L = layout_of layout.now in result
-        ≡ counts_in (volume_placed L (placed held.now.aggregates.at (aggregate_of L volume)) volume) }
+    ensures { let L = layout_of layout.now in
+        let aggregate = placed held.now.aggregates.at (aggregate_of L volume) in
+        result ≡ counts_in (volume_placed L aggregate volume) }
 {
     let aggregate = layout.aggregate_of(volume);
     count_on(&held.aggregates.at[aggregate as usize], volume)

@@ -84,9 +84,9 @@ pub(crate) fn extend(
     Ok(true)
 }
 
-/// Writes bytes to a file at an offset, at a moment, likewise, its holes filled from the stock, else
-/// from the ranges, else from the dead. There is no space where files and holes would be more than
-/// all blocks of the volume.
+/// Writes bytes to a file at an offset, at a moment, likewise, its holes filled from the stock,
+/// else from the ranges, else from the dead. There is no space where files and holes would be more
+/// than all blocks of the volume.
 pub(crate) fn extend_in_volume(
     held: &mut VolumeHeld<Files>,
     fileid: Fileid,

@@ -61,7 +61,7 @@ pub fn serve<R: Threads + Wait + Clock + Copy + Send + 'static>(
         slots.wait_for_place(&rt, &shared.ended);
         match listener.accept() {
             Ok((stream, _peer)) => {
-                // A short reply doesn't wait for more to be sent with it; without this it is only later.
+                // A short reply doesn't wait for more; where this fails it only comes later.
                 let _set = stream.set_nodelay(true);
                 slots.open(rt, alloc, shared, stream)?
             }

@@ -2,7 +2,8 @@
 
 ghost use Rattle.std.specs.Prelude.{◌≡◌, ◌≤◌, List, Some, IfOk, MatchResult, MatchOption};
 ghost use Rattle.crossbeam_queue.specs.Fifo.{Held};
-ghost use Rattle.shared_waiting.specs.Balance.{added, taken, opening, keyed, left, right, both, Leaves, FitsIn};
+ghost use Rattle.shared_waiting.specs.Balance.{added, taken, opening, keyed, left, right, both};
+ghost use Rattle.shared_waiting.specs.Balance.{Leaves, FitsIn};
 ghost use Rattle.shared_waiting.specs.Passes.{known, IsOf};
 
 use crate::naming::name_as;
