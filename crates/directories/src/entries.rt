@@ -266,7 +266,7 @@ fn copy(alloc: Global, entry: &DirectoryEntry) -> Result<DirectoryEntry, AllocEr
 {
     Ok(DirectoryEntry {
         fileid: entry.fileid,
-        name: Name::new(Vec::from_slice(alloc, entry.name.as_bytes())?),
+        name: Name::copied(alloc, entry.name.as_bytes())?,
         cookie: entry.cookie,
     })
 }

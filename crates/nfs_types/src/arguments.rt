@@ -31,11 +31,8 @@ fn target(alloc: Global, bytes: &[u8]) -> Result<Target, Bad>
     let directory = FileHandle::decode(&mut from)?;
     let name = from.opaque(u32::MAX)?;
     from.end()?;
-    let name = Vec::from_slice(alloc, name)?;
-    Ok(Target {
-        directory,
-        name: Name::new(name),
-    })
+    let name = Name::copied(alloc, name)?;
+    Ok(Target { directory, name })
 }
 
 /// A name in a directory and what stands behind it, alike.
@@ -48,12 +45,8 @@ fn target_and<'a, T: Decode<'a> + Drop>(alloc: Global, bytes: &'a [u8]) -> Resul
     let name = from.opaque(u32::MAX)?;
     let rest = T::decode(&mut from)?;
     from.end()?;
-    let name = Vec::from_slice(alloc, name)?;
-    let target = Target {
-        directory,
-        name: Name::new(name),
-    };
-    Ok((target, rest))
+    let name = Name::copied(alloc, name)?;
+    Ok((Target { directory, name }, rest))
 }
 
 /// NULL (RFC 1813 section 3.3.0).
@@ -160,15 +153,13 @@ fn rename(alloc: Global, bytes: &[u8]) -> Result<Call, Bad>
     let to = FileHandle::decode(&mut rest)?;
     let to_name = rest.opaque(u32::MAX)?;
     rest.end()?;
-    let from_name = Vec::from_slice(alloc, from_name)?;
-    let to_name = Vec::from_slice(alloc, to_name)?;
     let from = Target {
         directory: from,
-        name: Name::new(from_name),
+        name: Name::copied(alloc, from_name)?,
     };
     let to = Target {
         directory: to,
-        name: Name::new(to_name),
+        name: Name::copied(alloc, to_name)?,
     };
     Ok(Call::Rename { from, to })
 }

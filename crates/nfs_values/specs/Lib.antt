@@ -1,4 +1,6 @@
 pub mod Moment
+pub mod ShortName
+pub mod Name
 pub mod Handle
 pub mod Credential
 pub mod Status

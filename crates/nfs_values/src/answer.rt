@@ -16,10 +16,16 @@ pub struct LookupResults {
 }
 
 /// READ3resok (RFC 1813 section 3.3.6), whose count is that of the bytes.
-#[derive(Drop)]
 pub struct ReadResults {
     pub eof: bool,
     pub bytes: Vec<u8>,
+}
+
+// By hand, so that crates above have no proof of the drop of each of its parts.
+impl Drop for ReadResults {
+    fn drop(self) {
+        let ReadResults { eof: _, bytes: _ } = self;
+    }
 }
 
 /// WRITE3resok (RFC 1813 section 3.3.7); the bytes are on stable storage.
@@ -53,11 +59,21 @@ pub struct DirectoryEntry {
 }
 
 /// READDIR3resok (RFC 1813 section 3.3.16); its verifier is zero.
-#[derive(Drop)]
 pub struct ReadDirectoryResults {
     pub directory: Attributes,
     pub entries: Vec<DirectoryEntry>,
     pub eof: bool,
+}
+
+// By hand, so that crates above have no proof of the drop of each of its parts.
+impl Drop for ReadDirectoryResults {
+    fn drop(self) {
+        let ReadDirectoryResults {
+            directory: _,
+            entries: _,
+            eof: _,
+        } = self;
+    }
 }
 
 /// FSSTAT3resok (RFC 1813 section 3.3.18). What is free is available to every user.
@@ -87,7 +103,6 @@ pub struct VolumeCount {
 
 /// The results of a call, one variant for each procedure (RFC 1813 section 3.3). A failure gives
 /// none of the optional parts of its arm.
-#[derive(Drop)]
 pub enum Answer {
     /// NULL of NFS, and of the admin program.
     Null,
@@ -110,4 +125,28 @@ pub enum Answer {
     Census(Vec<VolumeCount>),
     /// Of GROW of the admin program: the volume's blocks.
     Grow(Result<u64, Status>),
+}
+
+// By hand, so that crates above have no proof of the drop of each of its parts.
+impl Drop for Answer {
+    fn drop(self) {
+        match self {
+            Answer::Null => {}
+            Answer::GetAttributes(_) => {}
+            Answer::SetAttributes(_) => {}
+            Answer::Lookup(_) => {}
+            Answer::Read(_) => {}
+            Answer::Write(_) => {}
+            Answer::Create(_) => {}
+            Answer::MakeDirectory(_) => {}
+            Answer::Remove(_) => {}
+            Answer::RemoveDirectory(_) => {}
+            Answer::Rename(_) => {}
+            Answer::ReadDirectory(_) => {}
+            Answer::FilesystemStatus(_) => {}
+            Answer::Commit(_) => {}
+            Answer::Census(_) => {}
+            Answer::Grow(_) => {}
+        }
+    }
 }

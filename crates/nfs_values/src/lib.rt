@@ -12,6 +12,7 @@ mod number;
 mod procedure;
 mod reply;
 mod set;
+mod short_name;
 mod status;
 mod target;
 mod verifier;

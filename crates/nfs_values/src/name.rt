@@ -1,21 +1,38 @@
 //! Names.
 
-ghost use Rattle.std.specs.Prelude.{◌≡◌};
+ghost use Rattle.std.specs.Prelude.{◌≡◌, IfOk};
 
+use crate::short_name::{MOST_SHORT, ShortName};
+use std::alloc::{AllocError, Global};
 use std::marker::Model;
 
-/// A name in a directory, of any bytes (filename3, RFC 1813 section 2.5).
+/// Where the bytes of a name are.
 #[derive(Drop)]
+enum NameBytes {
+    Short(ShortName),
+    Long(Vec<u8>),
+}
+
+/// A name in a directory, of any bytes (filename3, RFC 1813 section 2.5). One of at most 23 bytes
+/// is kept in place.
 pub struct Name {
-    bytes: Vec<u8>,
+    bytes: NameBytes,
+}
+
+// By hand, so that crates above have no proof of the drop of each of its parts.
+impl Drop for Name {
+    fn drop(self) {
+        let Name { bytes: _ } = self;
+    }
 }
 
 impl Model for Name {
     ghost use Rattle.std.specs.Prelude.{List, ℕ};
+    ghost use Rattle.nfs_values.specs.Name.{name_bytes};
 
     ghost Value = { List ℕ };
 
-    ghost view = { λ n. n.bytes.items };
+    ghost view = { λ n. name_bytes n.bytes };
 }
 
 impl Name {
@@ -23,13 +40,36 @@ impl Name {
     pub fn new(bytes: Vec<u8>) -> Name
         ensures { result ≡ bytes.items }
     {
-        Name { bytes }
+        if bytes.len() > MOST_SHORT {
+            return Name {
+                bytes: NameBytes::Long(bytes),
+            };
+        }
+        let short = ShortName::new(&bytes);
+        Name {
+            bytes: NameBytes::Short(short),
+        }
+    }
+
+    /// The name of these bytes, copied. One of at most 23 bytes takes no memory.
+    pub fn copied(alloc: Global, bytes: &[u8]) -> Result<Name, AllocError>
+        ensures { IfOk result (λ name. name ≡ bytes.now) }
+    {
+        if bytes.len() > MOST_SHORT {
+            let bytes = NameBytes::Long(Vec::from_slice(alloc, bytes)?);
+            return Ok(Name { bytes });
+        }
+        let bytes = NameBytes::Short(ShortName::new(bytes));
+        Ok(Name { bytes })
     }
 
     /// The bytes of a name.
     pub fn as_bytes(&self) -> &[u8]
         ensures { result.now ≡ self.now }
     {
-        &self.bytes
+        match &self.bytes {
+            NameBytes::Short(short) => short.as_bytes(),
+            NameBytes::Long(bytes) => bytes,
+        }
     }
 }

@@ -212,7 +212,7 @@ fn begin_with(
         mut entries,
         is_last,
     } = page;
-    let name = Name::new(Vec::from_slice(alloc, name)?);
+    let name = Name::copied(alloc, name)?;
     let entry = DirectoryEntry {
         fileid,
         name,

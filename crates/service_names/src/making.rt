@@ -107,7 +107,7 @@ fn make_node(
     ensures alike { logical_alike held.old held.new }
     ensures err { OnErr result (held.new ≡ held.old) }
 {
-    let name = Name::new(Vec::from_slice(alloc, name)?);
+    let name = Name::copied(alloc, name)?;
     let fileid = create_inode(held, made)?;
     match tie(alloc, held, within.fileid, name, fileid, made.kind) {
         Ok(()) => {

@@ -75,7 +75,7 @@ fn put_entry(
     ensures err { OnErr result (held.new.own ≡ held.old.own) }
     ensures stripes { held.new.stripes ≡ held.old.stripes }
 {
-    let name = Name::new(Vec::from_slice(alloc, name)?);
+    let name = Name::copied(alloc, name)?;
     let own = held.own.get_mut();
     own.directories.replace_entry(directory, name, fileid)
 }

@@ -70,7 +70,7 @@ pub(crate) fn add(
     if directory.find(name).is_some() || directory.next_cookie().0 >= 1 << 62 {
         return Ok(false);
     }
-    directory.add(Name::new(Vec::from_slice(alloc, name)?), Fileid(2))?;
+    directory.add(Name::copied(alloc, name)?, Fileid(2))?;
     Ok(true)
 }
 

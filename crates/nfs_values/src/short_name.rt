@@ -1,0 +1,58 @@
+//! Names that are kept in place.
+
+ghost use Rattle.std.specs.Prelude.{◌≡◌, ◌-◌, ◌≤◌, ◌++◌, length, replicate};
+
+use std::marker::Model;
+
+/// The most bytes of a name that is kept in place.
+pub(crate) const MOST_SHORT: usize = 23;
+
+/// The bytes of a short name, kept in place.
+#[derive(Drop)]
+pub(crate) struct ShortName {
+    bytes: [u8; MOST_SHORT],
+    size: u8,
+}
+
+impl Model for ShortName {
+    ghost use Rattle.std.specs.Prelude.{List, ℕ};
+    ghost use Rattle.nfs_values.specs.ShortName.{short_bytes, IsShort};
+
+    ghost Value = { List ℕ };
+
+    ghost view = { short_bytes };
+
+    ghost invariant = { IsShort };
+}
+
+/// These bytes, and zeros behind them.
+#[tactic(auto, using(crate::proofs::Zeros::drop_short_zeros))]
+fn with_zeros(bytes: &[u8]) -> [u8; MOST_SHORT]
+    requires { length bytes.now ≤ 23 }
+    ensures { result ≡ bytes.now ++ replicate (23 - length bytes.now) 0 }
+{
+    let mut all = [0; MOST_SHORT];
+    all[..bytes.len()].copy_from_slice(bytes);
+    all
+}
+
+impl ShortName {
+    /// These bytes.
+    #[tactic(auto, using(crate::proofs::Zeros::short_with_zeros))]
+    pub(crate) fn new(bytes: &[u8]) -> ShortName
+        requires { length bytes.now ≤ 23 }
+        ensures { result ≡ bytes.now }
+    {
+        ShortName {
+            bytes: with_zeros(bytes),
+            size: bytes.len() as u8,
+        }
+    }
+
+    /// The bytes.
+    pub(crate) fn as_bytes(&self) -> &[u8]
+        ensures { result.now ≡ self.now }
+    {
+        &self.bytes[..self.size as usize]
+    }
+}
