@@ -192,3 +192,8 @@ module _ {P E : Type 0} where
 pub stamped-so : {P E : Type 0} (Q : E → View P E → Type 0) {item : Option E} {e : E} {vs : List (View P E)} → item ≡ Some e → vs ≡ view_of vs ∷ []
     → IfSome item (λ x. OnOne (Q x) vs) → Q e (view_of vs)
 stamped-so Q {e = e} {vs = vs} is one did = of-one (Q e) vs (view_of vs) one (subst (λ j. IfSome j (λ x. OnOne (Q x) vs)) is did)
+
+pub one-of : {A : Type 0} (xs : List A) → length xs ≡ 1 → (x : A) × (xs ≡ x ∷ [])
+one-of [] e = absurd (omega arith)
+one-of (x ∷ []) e = (x, refl)
+one-of (x ∷ y ∷ ys) e = absurd (omega arith)

@@ -10,6 +10,7 @@ use Rattle.depot_rule.specs.Shares.{opening_view}
 use Rattle.depot_rule.specs.Seats.{if_less, longer, fresh, merge, merged, having_seen, view_of}
 use Rattle.depot_rule.specs.lemmas.Sums.{tally-append}
 use Rattle.depot_rule.proofs.Joining.{none-held, held-of}
+use Rattle.depot_rule.proofs.Places.{one-view}
 use Rattle.depot_rule.specs.Plays.{AreApart, HaveSeenOne, KeepEntries}
 use Rattle.depot.specs.Calls.{own_views, known}
 use Rattle.depot.proofs.Moves.{placed-one}
@@ -100,3 +101,8 @@ module _ {P E : Type 0} where
     λ i. told (sym (ap known met.is) i) (sym (ap known met.other_is) i) (sym (ap known met.is) i),
     λ i. told (sym (ap known met.is) i) (sym (ap known met.other_is) i) (sym (ap known met.other_is) i),
   )
+
+  -- what a seat's place has, of which the one view is known
+  pub told-of : {views : List (List (View P E))} {vs : List (View P E)} {u : View P E} → views ≡ vs ∷ [] → length (own_views views) ≡ 1
+      → known views ≡ u → vs ≡ u ∷ []
+  told-of {vs = vs} is one now = one-view vs (placed-one is one) ∙ ap (λ u. u ∷ []) (sym (ap known is) ∙ now)

@@ -1,9 +1,9 @@
 //! Seats split, joined, met.
 
-ghost use Rattle.std.specs.Prelude.{◌≡◌, ◌⊎◌, ◌<◌, ◌+◌, ℕ, IfOk, IfErr};
+ghost use Rattle.std.specs.Prelude.{◌≡◌, ◌⊎◌, ◌<◌, ◌≤◌, ◌+◌, ℕ, IfOk, IfErr};
 ghost use Rattle.depot_rule.specs.Shares.{Has};
 ghost use Rattle.depot_rule.specs.Seats.{fresh, merge};
-ghost use Rattle.depot_rule.specs.Plays.{AreApart, HaveSeenOne};
+ghost use Rattle.depot_rule.specs.Plays.{AreApart, HaveSeenOne, KeepEntries};
 ghost use Rattle.depot_rule.specs.Sums.{total};
 ghost use Rattle.depot_rule.specs.History.{entries_of};
 ghost use Rattle.depot.specs.Words.{view, splits_left, HasTold, HasGrants};
@@ -66,6 +66,9 @@ pub fn join_seat<M: Machine>(board: &Board<M>, first: Seat<M>, second: Seat<M>) 
         ≡ total weigh (entries_of (view first)) + total weigh (entries_of (view second)) }
     ensures splits { splits_left result ≡ splits_left first + splits_left second + 1 }
 {
+    let mut first = first;
+    let mut second = second;
+    meet(board, &mut first, &mut second);
     let Seat { badge, splits } = first;
     let Seat {
         badge: other_badge,
@@ -73,9 +76,6 @@ pub fn join_seat<M: Machine>(board: &Board<M>, first: Seat<M>, second: Seat<M>) 
     } = second;
     let mut place: Place<M> = badge.into_seat();
     let other: Place<M> = other_badge.into_seat();
-    board.join_seat::<Meet>(&mut place, other);
-    board.load::<Alike>(&mut place, 0);
-    let other = board.split_seat::<PartAgain>(&mut place);
     board.join_seat::<Merge>(&mut place, other);
     Seat {
         badge: place.into_badge(),
@@ -92,6 +92,8 @@ pub fn meet<M: Machine>(board: &Board<M>, one: &mut Seat<M>, other: &mut Seat<M>
         × (other.new.badge.table_id ≡ other.old.badge.table_id) }
     ensures one { HasTold one.old other.old one.old one.new }
     ensures other { HasTold one.old other.old other.old other.new }
+    ensures alike { let v = view one.old in let w = view other.old in
+        (v.tree ≡ w.tree) × (v.parts + w.parts ≤ 64) × AreApart v w × KeepEntries v w }
     ensures one_history { HaveSeenOne (view one.old) (view other.old) }
     ensures entries { (entries_of (view one.new) ≡ entries_of (view one.old))
         × (entries_of (view other.new) ≡ entries_of (view other.old)) }

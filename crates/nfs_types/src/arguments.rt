@@ -1,7 +1,8 @@
 //! Arguments of calls.
 
-ghost use Rattle.std.specs.Prelude.{true, false};
-ghost use Rattle.xdr.specs.Shape.{Void, Pair};
+ghost use Rattle.std.specs.Prelude.{◌≡◌, true, false, IfOk, IfErr};
+ghost use Rattle.nfs_types.specs.declared.bad.Bad.TheVariants as bads;
+ghost use Rattle.xdr.specs.Shape.{Void};
 ghost use Rattle.xdr.specs.Reading.{all_of};
 ghost use Rattle.nfs_values.specs.Call.{call_of};
 ghost use Rattle.nfs_types.specs.Shapes.{handle_shape, target_shape};
@@ -15,38 +16,28 @@ ghost use Rattle.nfs_types.specs.Arguments.{rename_call, readdir_call, fsstat_ca
 ghost use Rattle.nfs_types.specs.Arguments.{census_call, grow_call};
 
 use crate::bad::Bad;
-use crate::decode::{Decode, StableHow, decode_all};
+use crate::decode::{StableHow, decode_all};
 use nfs_values::{
     Call, Cookie, CreateMode, FileHandle, Moment, Name, Procedure, SetAttributes, Target, Verifier,
     VolumeNumber,
 };
 use std::alloc::Global;
-use xdr::Cursor;
+
+/// A directory and a name, which is copied.
+fn copied(alloc: Global, directory: FileHandle, name: &[u8]) -> Result<Target, Bad>
+    ensures ok { IfOk result (λ target. target_of target ≡ (directory, name.now)) }
+    ensures err { IfErr result (λ bad. bad ≡ bads.NoMemory) }
+{
+    let name = Name::copied(alloc, name)?;
+    Ok(Target { directory, name })
+}
 
 /// A name in a directory that these bytes spell, copied once nothing is left over.
 fn target(alloc: Global, bytes: &[u8]) -> Result<Target, Bad>
     ensures { Makes target_of true result (all_of target_shape bytes.now) }
 {
-    let mut from = Cursor::new(bytes);
-    let directory = FileHandle::decode(&mut from)?;
-    let name = from.opaque(u32::MAX)?;
-    from.end()?;
-    let name = Name::copied(alloc, name)?;
-    Ok(Target { directory, name })
-}
-
-/// A name in a directory and what stands behind it, alike.
-fn target_and<'a, T: Decode<'a> + Drop>(alloc: Global, bytes: &'a [u8]) -> Result<(Target, T), Bad>
-    ensures { Makes (λ p. (target_of p.0, T.value p.1)) true result
-        (all_of (Pair target_shape T.shape) bytes.now) }
-{
-    let mut from = Cursor::new(bytes);
-    let directory = FileHandle::decode(&mut from)?;
-    let name = from.opaque(u32::MAX)?;
-    let rest = T::decode(&mut from)?;
-    from.end()?;
-    let name = Name::copied(alloc, name)?;
-    Ok((Target { directory, name }, rest))
+    let (directory, name) = decode_all::<(FileHandle, &[u8])>(bytes)?;
+    copied(alloc, directory, name)
 }
 
 /// NULL (RFC 1813 section 3.3.0).
@@ -98,13 +89,9 @@ fn read(bytes: &[u8]) -> Result<Call, Bad>
 fn write(alloc: Global, bytes: &[u8]) -> Result<Call, Bad>
     ensures { Makes call_of true result (asked_by writing_shape write_call bytes.now) }
 {
-    let mut from = Cursor::new(bytes);
-    let handle = FileHandle::decode(&mut from)?;
-    let offset = from.u64()?;
-    let count = from.u32()?;
-    let _stable = StableHow::decode(&mut from)?;
-    let written = from.opaque(u32::MAX)?;
-    from.end()?;
+    let (handle, (offset, (count, (_stable, written)))) = decode_all::<
+        (FileHandle, (u64, (u32, (StableHow, &[u8])))),
+    >(bytes)?;
     Ok(Call::Write {
         handle,
         offset,
@@ -117,7 +104,8 @@ fn write(alloc: Global, bytes: &[u8]) -> Result<Call, Bad>
 fn create(alloc: Global, bytes: &[u8]) -> Result<Call, Bad>
     ensures { Makes call_of true result (asked_by creating_shape create_call bytes.now) }
 {
-    let (target, mode) = target_and::<CreateMode>(alloc, bytes)?;
+    let ((directory, name), mode) = decode_all::<((FileHandle, &[u8]), CreateMode)>(bytes)?;
+    let target = copied(alloc, directory, name)?;
     Ok(Call::Create { target, mode })
 }
 
@@ -125,7 +113,8 @@ fn create(alloc: Global, bytes: &[u8]) -> Result<Call, Bad>
 fn make_directory(alloc: Global, bytes: &[u8]) -> Result<Call, Bad>
     ensures { Makes call_of true result (asked_by making_shape mkdir_call bytes.now) }
 {
-    let (target, set) = target_and::<SetAttributes>(alloc, bytes)?;
+    let ((directory, name), set) = decode_all::<((FileHandle, &[u8]), SetAttributes)>(bytes)?;
+    let target = copied(alloc, directory, name)?;
     Ok(Call::MakeDirectory { target, set })
 }
 
@@ -147,20 +136,11 @@ fn remove_directory(alloc: Global, bytes: &[u8]) -> Result<Call, Bad>
 fn rename(alloc: Global, bytes: &[u8]) -> Result<Call, Bad>
     ensures { Makes call_of true result (asked_by renaming_shape rename_call bytes.now) }
 {
-    let mut rest = Cursor::new(bytes);
-    let from = FileHandle::decode(&mut rest)?;
-    let from_name = rest.opaque(u32::MAX)?;
-    let to = FileHandle::decode(&mut rest)?;
-    let to_name = rest.opaque(u32::MAX)?;
-    rest.end()?;
-    let from = Target {
-        directory: from,
-        name: Name::copied(alloc, from_name)?,
-    };
-    let to = Target {
-        directory: to,
-        name: Name::copied(alloc, to_name)?,
-    };
+    let ((from, from_name), (to, to_name)) = decode_all::<
+        ((FileHandle, &[u8]), (FileHandle, &[u8])),
+    >(bytes)?;
+    let from = copied(alloc, from, from_name)?;
+    let to = copied(alloc, to, to_name)?;
     Ok(Call::Rename { from, to })
 }
 

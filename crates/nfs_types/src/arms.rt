@@ -110,13 +110,12 @@ impl Encode for FilesystemStatusResults {
 
     fn write(&self, out: &mut Vec<u8>) {
         write_present(&self.root, out);
-        self.total_bytes.write(out);
-        self.free_bytes.write(out);
-        self.free_bytes.write(out);
-        self.inodes.write(out);
-        self.free_inodes.write(out);
-        self.free_inodes.write(out);
-        0u32.write(out);
+        let inodes = (self.inodes, (self.free_inodes, (self.free_inodes, 0u32)));
+        (
+            self.total_bytes,
+            (self.free_bytes, (self.free_bytes, inodes)),
+        )
+            .write(out);
     }
 }
 

@@ -5,7 +5,8 @@ ghost use Rattle.xdr.specs.Shape.{Shape, Value, Void, Word, Hyper, Pair, Optiona
 ghost use Rattle.xdr.specs.Reading.{Gives, GivesAll, all_of, read};
 ghost use Rattle.nfs_values.specs.Moment.{moment_of};
 ghost use Rattle.nfs_values.specs.Set.{time_of, set_of, mode_of};
-ghost use Rattle.nfs_types.specs.Shapes.{handle_shape, verifier_shape, moment_shape, moment_value};
+ghost use Rattle.nfs_types.specs.Shapes.{any_bytes, handle_shape, verifier_shape};
+ghost use Rattle.nfs_types.specs.Shapes.{moment_shape, moment_value};
 ghost use Rattle.nfs_types.specs.Shapes.{time_shape, time_value, set_shape, set_value};
 ghost use Rattle.nfs_types.specs.Shapes.{create_shape, create_value, stable_shape};
 ghost use Rattle.nfs_types.specs.Stable.{stable_word};
@@ -90,6 +91,17 @@ impl<'a, T: Decode<'a> + Drop> Decode<'a> for Option<T> {
     }
 }
 
+/// Bytes of any length, where they stand.
+impl<'a> Decode<'a> for &'a [u8] {
+    ghost shape = { any_bytes };
+
+    ghost value = { λ b. b.now };
+
+    fn decode(from: &mut Cursor<'a>) -> Result<&'a [u8], Fault> {
+        from.opaque(u32::MAX)
+    }
+}
+
 impl<'a> Decode<'a> for FileHandle {
     ghost shape = { handle_shape };
 
@@ -166,13 +178,14 @@ impl<'a> Decode<'a> for SetAttributes {
     ghost value = { λ s. set_value (set_of s) };
 
     fn decode(from: &mut Cursor<'a>) -> Result<SetAttributes, Fault> {
+        let (mode, (uid, (gid, (size, (atime, mtime))))) = Decode::decode(from)?;
         Ok(SetAttributes {
-            mode: Option::decode(from)?,
-            uid: Option::decode(from)?,
-            gid: Option::decode(from)?,
-            size: Option::decode(from)?,
-            atime: SetTime::decode(from)?,
-            mtime: SetTime::decode(from)?,
+            mode,
+            uid,
+            gid,
+            size,
+            atime,
+            mtime,
         })
     }
 }

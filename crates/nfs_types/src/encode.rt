@@ -2,7 +2,7 @@
 
 ghost use Rattle.std.specs.Prelude.{◌≡◌, ◌+◌, ◌≤◌, ◌<◌, ◌^◌, ◌++◌, length, Some, None, vec_len};
 ghost use Rattle.std.specs.Prelude.{vec_capacity};
-ghost use Rattle.xdr.specs.Shape.{Shape, Value, Void, Word, Hyper, Boolean, Optional, counted};
+ghost use Rattle.xdr.specs.Shape.{Shape, Value, Void, Word, Hyper, Boolean, Pair, Optional, counted};
 ghost use Rattle.xdr.specs.Shape.{padded, spelling};
 ghost use Rattle.nfs_values.specs.Attributes.{kind_of, kind_word, shown_of, before_of, change_of};
 ghost use Rattle.nfs_values.specs.Moment.{moment_of};
@@ -76,6 +76,22 @@ impl Encode for bool {
 
     fn write(&self, out: &mut Vec<u8>) {
         put_bool(out, *self).unwrap()
+    }
+}
+
+/// A value and what stands behind it.
+impl<A: Encode, B: Encode> Encode for (A, B) {
+    ghost shape = { Pair A.shape B.shape };
+
+    ghost value = { λ p. (A.value p.0, B.value p.1) };
+
+    fn size(&self) -> usize {
+        self.0.size() + self.1.size()
+    }
+
+    fn write(&self, out: &mut Vec<u8>) {
+        self.0.write(out);
+        self.1.write(out);
     }
 }
 
@@ -262,19 +278,10 @@ impl Encode for Attributes {
     }
 
     fn write(&self, out: &mut Vec<u8>) {
-        self.kind.write(out);
-        self.mode.write(out);
-        self.links.write(out);
-        self.uid.write(out);
-        self.gid.write(out);
-        self.size.write(out);
-        self.used.write(out);
-        0u64.write(out);
-        self.fsid.write(out);
-        self.fileid.write(out);
-        self.atime.write(out);
-        self.mtime.write(out);
-        self.ctime.write(out);
+        let times = (self.atime, (self.mtime, self.ctime));
+        let place = ((0u32, 0u32), (self.fsid, (self.fileid, times)));
+        let owner = (self.uid, (self.gid, (self.size, (self.used, place))));
+        (self.kind, (self.mode, (self.links, owner))).write(out)
     }
 }
 

@@ -101,6 +101,11 @@ pub returns-clause-other : goal.returns-clause-other
 returns-clause-other g c =
     let at = goal.at.returns-clause-other g c in (other-told g at.After-into_badge-2 (met g at.After-join_seat)).1
 
+pub returns-clause-alike : goal.returns-clause-alike
+returns-clause-alike g c =
+    let at = goal.at.returns-clause-alike g c in
+    let a = alike g at.After-load (met g at.After-join_seat) in (a.0, a.1, a.2, a.4)
+
 pub returns-clause-one_history : goal.returns-clause-one_history
 returns-clause-one_history g c =
     let at = goal.at.returns-clause-one_history g c in (alike g at.After-load (met g at.After-join_seat)).3

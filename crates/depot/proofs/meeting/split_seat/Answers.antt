@@ -4,9 +4,14 @@ use Rattle.depot_rule.proofs.Joining.{splits-seat}
 use Rattle.depot.specs.Calls.{own_views, known}
 use Rattle.depot.specs.Holds.{IsGathered, IsApart}
 use Rattle.depot.specs.Words.{served_by}
+use Rattle.depot.proofs.Moves.{one-of}
 use Rattle.depot.proofs.Apart.{none-apart}
 use Rattle.depot.proofs.Seated.{fresh-gathered}
 use Rattle.depot.proofs.meeting.split_seat.Goals as goal
+
+pub into_seat-place-requires : goal.into_seat-place-requires
+into_seat-place-requires g c =
+    one-of c.args.seat.badge.views c.args.seat.one.0
 
 pub split_seat-second-requires : goal.split_seat-second-requires
 split_seat-second-requires g c =

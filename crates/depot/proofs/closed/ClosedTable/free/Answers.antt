@@ -1,7 +1,17 @@
-use Rattle.std.proofs.Common.{◌≡◌, ◌<◌, ℕ, false, get_or, length, ap, ◌∙◌, arith, List, Bool}
+use Rattle.std.proofs.Common.{◌≡◌, ◌<◌, ℕ, true, false, get_or, length, ap, ◌∙◌, arith, List, [], ◌∷◌, Bool}
 use Rattle.std.specs.Mem.Slots.{slots_items, slots_filled, slots_len}
 use Rattle.depot.proofs.Emptied.{none-left, all-empty}
 use Rattle.depot.proofs.closed.ClosedTable.free.Goals as goal
+
+some-first : (l : List Bool) → get_or l 0 false ≡ true → 0 < length l
+some-first [] e = absurd cc
+some-first (x ∷ l) e = omega arith
+
+pub take-requires : goal.take-requires
+take-requires g c =
+    let root = c.args.self.root in
+    let some = some-first (slots_filled c.args.self.table.slots) root in
+    let same = c.args.self.lengths.1 in (omega arith, root)
 
 pub free-requires : goal.free-requires
 free-requires g c =

@@ -13,8 +13,9 @@ use Rattle.depot_rule.proofs.Looking.{looks}
 use Rattle.depot.specs.Calls.{known}
 use Rattle.depot.specs.Words.{served_by, view, layout_in, number_at}
 use Rattle.depot.specs.Grants.{IsBegun, IsAfter}
-use Rattle.depot.proofs.Moves.{placed-one}
+use Rattle.depot.proofs.Moves.{placed-one, one-of}
 use Rattle.depot.proofs.Holding.{nothing}
+use Rattle.depot.proofs.Home.{none-left}
 use Rattle.depot.proofs.Between.{between}
 use Rattle.depot.proofs.Begun.{some-parents, refuses-node, seat-still, idle-as, all-there}
 use Rattle.depot.proofs.Begun.{HasLookedAt, looked-at, worn-so, GrantedAfter, granted-after, HasBegun, begun-all, RefusedAfter, refused-after, busy-so}
@@ -77,6 +78,10 @@ begun g c q =
 
 -- ---- the answers
 
+pub into_seat-place-requires : goal.into_seat-place-requires
+into_seat-place-requires g c =
+    one-of c.replace.result.views (ap (λ b. length b.views) c.replace.ensures.value ∙ c.args.seat.now.one.0)
+
 pub load-ticket-requires : goal.load-ticket-requires
 load-ticket-requires g c =
     let key = c.args.self.now.table.shared.key.value in
@@ -126,6 +131,42 @@ pub try_claim-requires-clause-tree : goal.try_claim-requires-clause-tree
 try_claim-requires-clause-tree g c =
     let parent : c.deref.result.now ≡ numbers.parents (layout_in c.args.self.now) = search rules in
     (search rules, subst IsTree (sym parent) (parents-tree (layout_in c.args.self.now) c.args.self.now.layout.lawful))
+
+pub try_claim-requires-clause-ready : goal.try_claim-requires-clause-ready
+try_claim-requires-clause-ready g c =
+    let seat = c.args.seat.now in
+    let low : c.load-ticket.result < worn = search rules in
+    let parent : c.deref.result.now ≡ numbers.parents (layout_in c.args.self.now) = search rules in
+    let place = number-place (layout_in c.args.self.now) (affinity_of c.args.affinity) c.requires.node.0 in
+    let look = (looked g (goal.at.try_claim-requires-clause-ready g c).After-load-ticket).0 low in (
+      ap length look,
+      subst (λ (n : ℕ). 0 < n) (sym c.number_of-node.ensures.number) place.0,
+      ap (λ us. (view_of us).unsure) look ∙ seat.idle.0,
+      ap (λ us. (view_of us).path) look ∙ nothing (view seat).path seat.idle.2,
+      ap (λ us. (view_of us).tree) look ∙ (c.requires.seat.1.0 ∙ sym parent),
+      ap (λ us. (view_of us).looked) look,
+    )
+
+pub invariant_of-hold : goal.invariant_of-hold
+invariant_of-hold g c =
+    let depot = c.args.self.now in let seat = c.args.seat.now in
+    let claimed = (granted g (goal.at.invariant_of-hold g c).In-Ok).0.2.0 in
+    let place = c.into_seat-place.ensures.0 ∙ (ap (λ b. b.table_id) c.replace.ensures.value ∙ c.requires.seat.0) in
+    record {
+      table = (c.try_claim.ensures.seat.0 ∙ (c.load-ticket.ensures.0 ∙ place), depot.words ∙ ap length depot.tree);
+      one = (
+        ap length claimed,
+        ap length (c.try_claim.ensures.seat.1 ∙ (c.load-ticket.ensures.2.1 ∙ c.into_seat-place.ensures.3)),
+      );
+      free = ap (λ us. (view_of us).out) claimed ∙ seat.idle.1;
+      tree = ap (λ us. (view_of us).tree) claimed ∙ (c.requires.seat.1.0 ∙ (sym depot.layout_tree ∙ depot.tree));
+    }
+
+pub into_badge-requires-in-Ok : goal.into_badge-requires-in-Ok
+into_badge-requires-in-Ok g c = none-left c.gather-held.new.shelf.place.me.1 c.gather-held.new.shelf.one.1
+
+pub returns-in-Ok-clause-exact : goal.returns-in-Ok-clause-exact
+returns-in-Ok-clause-exact g c = c.gather-held.ensures.exact
 
 pub gather-held-requires-clause-there : goal.gather-held-requires-clause-there
 gather-held-requires-clause-there g c =

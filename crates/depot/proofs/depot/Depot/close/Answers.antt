@@ -7,9 +7,14 @@ use Rattle.affinity_tree.specs.lemmas.Smaller.{length-parents}
 use Rattle.depot.specs.Calls.{known}
 use Rattle.depot.specs.Closed.{left_at}
 use Rattle.depot.specs.Words.{served_by}
+use Rattle.depot.proofs.Moves.{one-of}
 use Rattle.depot.proofs.Opened.{ended-so}
 use Rattle.depot.proofs.Emptied.{whole-some, whole-placed, taken-left, nothing-left}
 use Rattle.depot.proofs.depot.Depot.close.Goals as goal
+
+pub into_seat-place-requires : goal.into_seat-place-requires
+into_seat-place-requires g c =
+    one-of c.args.seat.badge.views c.args.seat.one.0
 
 pub invariant_of-closed : goal.invariant_of-closed
 invariant_of-closed g c =

@@ -9,6 +9,7 @@ use Rattle.depot.specs.Calls.{known}
 use Rattle.depot.specs.Holds.{IsGathered}
 use Rattle.depot.specs.Grants.{IsStep, HasInHand, IsFinished}
 use Rattle.depot.specs.Words.{served_by, view, layout_in, node_of, held_in, number_in, parcels_in, entry_with}
+use Rattle.depot.proofs.Moves.{one-of}
 use Rattle.depot.proofs.Apart.{less-apart}
 use Rattle.depot.proofs.Begun.{seat-still}
 use Rattle.depot.proofs.Between.{between}
@@ -51,6 +52,10 @@ done g c =
     c.stamp_call.ensures.stamped.0 is badge c.stamp_call.ensures.stamped.1 c.give_home-place.ensures.ended.1
 
 -- ---- the answers
+
+pub into_seat-place-requires : goal.into_seat-place-requires
+into_seat-place-requires g c =
+    one-of c.replace.result.views (ap (λ b. length b.views) c.replace.ensures.value ∙ c.args.seat.now.one.0)
 
 pub stamp_call-requires-clause-tree : goal.stamp_call-requires-clause-tree
 stamp_call-requires-clause-tree g c = let o = start g (goal.at.stamp_call-requires-clause-tree g c).After-into_seat-place in o.still.0

@@ -1,4 +1,4 @@
-use Rattle.std.proofs.Common.{rules, ◌≡◌, ◌∷◌, [], refl, sym, ap, ◌∙◌, subst}
+use Rattle.std.proofs.Common.{rules, ◌≡◌, ◌∷◌, [], refl, sym, ap, ◌∙◌, subst, length}
 use Rattle.affinity_tree.specs.Ancestors.{IsTree}
 use Rattle.affinity_tree.specs.lemmas.Standing.{parents-tree}
 use Rattle.depot_rule.specs.Seats.{view_of}
@@ -6,6 +6,7 @@ use Rattle.depot.specs.Calls.{known}
 use Rattle.depot.specs.Holds.{IsGathered}
 use Rattle.depot.specs.Grants.{IsEnded}
 use Rattle.depot.specs.Words.{view, layout_in, number_in, parcels_in}
+use Rattle.depot.proofs.Moves.{one-of}
 use Rattle.depot.proofs.Apart.{less-apart}
 use Rattle.depot.proofs.Begun.{seat-still}
 use Rattle.depot.proofs.Between.{between}
@@ -33,6 +34,10 @@ ended g c =
     (sym is) c.give_home-place.ensures.ended.1
 
 -- ---- the answers
+
+pub into_seat-place-requires : goal.into_seat-place-requires
+into_seat-place-requires g c =
+    one-of c.replace.result.views (ap (λ b. length b.views) c.replace.ensures.value ∙ c.args.seat.now.one.0)
 
 pub give_home-place-requires-clause-listed : goal.give_home-place-requires-clause-listed
 give_home-place-requires-clause-listed g c = (start g (goal.at.give_home-place-requires-clause-listed g c).After-into_seat-place).listed
