@@ -13,11 +13,21 @@ use std::alloc::{AllocError, Global};
 const MEBIBYTE: u64 = 1_048_576;
 
 /// The aggregates and volumes of a run, fixed for as long as it lasts.
-#[derive(Debug, Drop)]
+#[derive(Debug)]
 pub struct Layout {
     aggregates: Vec<AggregateSpec>,
     volumes: Vec<VolumeSpec>,
     pub ghost lawful: { fault_of (layout_in aggregates.items volumes.items) ≡ None },
+}
+
+// By hand, so that crates above have no proof of the drop of each of its parts.
+impl Drop for Layout {
+    fn drop(self) {
+        let Layout {
+            aggregates: _,
+            volumes: _,
+        } = self;
+    }
 }
 
 impl Layout {
