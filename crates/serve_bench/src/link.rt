@@ -16,6 +16,12 @@ pub struct Link {
     pub outgoing: Vec<u8>,
 }
 
+/// Has a stream send each call at once, and wait so long for a reply.
+fn set_up(stream: &TcpStream) -> io::Result<()> {
+    stream.set_nodelay(true)?;
+    stream.set_read_timeout(Some(Duration::from_secs(PATIENCE)))
+}
+
 impl Link {
     /// Connects to the server at an address.
     pub fn connect<R: Net<Listener = TcpListener, Stream = TcpStream> + AllocGlobal>(
@@ -23,8 +29,7 @@ impl Link {
         address: &str,
     ) -> io::Result<Link> {
         let stream = TcpStream::connect(rt, address)?;
-        stream.set_nodelay(true)?;
-        stream.set_read_timeout(Some(Duration::from_secs(PATIENCE)))?;
+        set_up(&stream)?;
         Ok(Link {
             stream,
             incoming: Incoming::new(rt.alloc())?,
