@@ -68,15 +68,17 @@ fn print_all(rt: &impl Print, figures: &[Figure]) -> io::Result<()> {
     println!(rt; "")
 }
 
-/// Prints what came of calls of a kind, which were made under a load in a time.
+/// Prints what came of calls of a kind, which were made under a load in a time. Whether all were
+/// done.
 pub fn print_figures(
     rt: &impl Print,
     load: Load,
     title: &str,
     tally: &mut Tally,
     time: Duration,
-) -> io::Result<()> {
+) -> io::Result<bool> {
     let (connections, outstanding) = (load.connections, load.outstanding);
     print!(rt; "{connections} x {outstanding}, {title}")?;
-    print_all(rt, &figures(tally, time))
+    print_all(rt, &figures(tally, time))?;
+    Ok(tally.is_clean())
 }

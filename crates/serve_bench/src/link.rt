@@ -9,11 +9,21 @@ use std::time::Duration;
 const PATIENCE: u64 = 10;
 
 /// A connection, what has come on it, and the calls that are to go out.
-#[derive(Drop)]
 pub struct Link {
     stream: TcpStream,
     pub incoming: Incoming,
     pub outgoing: Vec<u8>,
+}
+
+// By hand, so that each exit that lets one go is one call.
+impl Drop for Link {
+    fn drop(self) {
+        let Link {
+            stream: _,
+            incoming: _,
+            outgoing: _,
+        } = self;
+    }
 }
 
 /// Has a stream send each call at once, and wait so long for a reply.

@@ -7,10 +7,10 @@ use crate::transfer::size_of;
 use xdr::{Cursor, Fault};
 
 /// The message type of a reply.
-const REPLY: u32 = 1;
+const REPLY: u64 = 1;
 
 /// That a call was accepted, that it was executed, and that all went well.
-const ACCEPTED: u32 = 0;
+const ACCEPTED: u64 = 0;
 
 const SUCCESS: u32 = 0;
 
@@ -69,19 +69,8 @@ const BEFORE: Part = Part {
     size: 24,
 };
 
-/// A verifier of READDIR or of WRITE.
-const VERIFIER: Part = Part {
-    optional: false,
-    counted: false,
-    size: 8,
-};
-
-/// How stable a WRITE is.
-const COMMITTED: Part = Part {
-    optional: false,
-    counted: false,
-    size: 4,
-};
+/// How many bytes a verifier of READDIR or of WRITE takes.
+const VERIFIER: u32 = 8;
 
 /// A handle.
 const FOUND: Part = Part {
@@ -99,10 +88,11 @@ const MADE: Part = Part {
 
 /// Whether a reply says that its call was executed. The results stand behind what was read.
 fn is_executed(reply: &mut Cursor<'_>) -> Result<bool, Fault> {
-    if reply.u32()? != REPLY {
+    let head = reply.u64()?;
+    if head >> 32 != REPLY {
         return Err(Fault::BadEnum);
     }
-    if reply.u32()? != ACCEPTED {
+    if head != REPLY << 32 | ACCEPTED {
         return Ok(false);
     }
     let _flavor = reply.u32()?;
@@ -152,7 +142,7 @@ fn are_parts(results: &mut Cursor<'_>, parts: &[Part]) -> Result<bool, Fault> {
 
 /// Whether a READ gives so many bytes, as it was asked.
 fn is_read(results: &mut Cursor<'_>, size: u32) -> Result<bool, Fault> {
-    skip_all(results, &[ATTRIBUTES])?;
+    skip(results, ATTRIBUTES)?;
     let count = results.u32()?;
     let _end = results.boolean()?;
     if results.opaque(size)?.len() != count as usize {
@@ -166,12 +156,15 @@ fn is_read(results: &mut Cursor<'_>, size: u32) -> Result<bool, Fault> {
 fn is_written(results: &mut Cursor<'_>, size: usize) -> Result<bool, Fault> {
     skip_all(results, &[BEFORE, ATTRIBUTES])?;
     let count = results.u32()?;
-    Ok(are_parts(results, &[COMMITTED, VERIFIER])? && count as usize == size)
+    let _committed_and_verifier = results.fixed(4 + VERIFIER)?;
+    results.end()?;
+    Ok(count as usize == size)
 }
 
 /// Whether a page of READDIR has an entry. The entries aren't read.
 fn has_entry(results: &mut Cursor<'_>) -> Result<bool, Fault> {
-    skip_all(results, &[ATTRIBUTES, VERIFIER])?;
+    skip(results, ATTRIBUTES)?;
+    let _verifier = results.fixed(VERIFIER)?;
     results.boolean()
 }
 
@@ -218,7 +211,8 @@ fn read_found<'a>(results: &mut Cursor<'a>) -> Result<&'a [u8], Fault>
     ensures { IfOk result (λ h. length h.now ≤ 64) }
 {
     let handle = results.opaque(HANDLE)?;
-    skip_all(results, &[ATTRIBUTES, ATTRIBUTES])?;
+    skip(results, ATTRIBUTES)?;
+    skip(results, ATTRIBUTES)?;
     Ok(handle)
 }
 

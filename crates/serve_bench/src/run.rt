@@ -65,8 +65,7 @@ fn measure<
     let plan = new_plan(rt.alloc(), place, kind.workload, load, request.count)?;
     let sessions = connect_all(rt, request.address, load.connections)?;
     let (mut tally, time) = make_all(rt, &plan, sessions)?;
-    print_figures(rt, load, kind.title, &mut tally, time)?;
-    Ok(tally.is_clean())
+    print_figures(rt, load, kind.title, &mut tally, time)
 }
 
 /// Measures all kinds of calls that are asked for, first many at once and then round trips.
@@ -80,10 +79,10 @@ fn measure_kinds<
         + Sync,
 >(rt: &R, request: &Request<'_>, place: &Place) -> io::Result<bool> {
     let mut clean = true;
-    for load in [FULL, SINGLE] {
+    for load in &[FULL, SINGLE] {
         for kind in &KINDS {
             if request.includes(kind) {
-                clean &= measure(rt, request, place, kind, load)?;
+                clean &= measure(rt, request, place, kind, *load)?;
             }
         }
     }
