@@ -79,10 +79,10 @@ fn measure_kinds<
         + Sync,
 >(rt: &R, request: &Request<'_>, place: &Place) -> io::Result<bool> {
     let mut clean = true;
-    for load in &[FULL, SINGLE] {
+    for load in [FULL, SINGLE] {
         for kind in &KINDS {
             if request.includes(kind) {
-                clean &= measure(rt, request, place, kind, *load)?;
+                clean &= measure(rt, request, place, kind, load)?;
             }
         }
     }

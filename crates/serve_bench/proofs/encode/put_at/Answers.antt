@@ -1,7 +1,7 @@
-use Rattle.xdr.specs.Shape.{counted, hyper}
+use Rattle.std.proofs.Common.{◌++◌}
+use Rattle.xdr.specs.Shape.{hyper}
 use Rattle.serve_bench.specs.Calls.{words}
 use Rattle.serve_bench.proofs.Behind.{behind, behind_counted}
-use Rattle.std.proofs.Common.{◌++◌}
 use Rattle.serve_bench.proofs.encode.put_at.Goals as goal
 
 pub returns : goal.returns

@@ -1,4 +1,4 @@
-use Rattle.std.proofs.Common.{◌+◌, ◌++◌, ◌^◌, ℕ, ap, length}
+use Rattle.std.proofs.Common.{◌++◌, length}
 use Rattle.serve_bench.specs.Calls.{head_of, procedure_of, arguments_of}
 use Rattle.serve_bench.proofs.Behind.{behind_word}
 use Rattle.serve_bench.proofs.encode.put_call.Goals as goal
