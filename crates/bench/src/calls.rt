@@ -2,6 +2,7 @@
 
 pub mod appends;
 mod measured;
-pub mod names;
+mod names;
 mod records;
 pub mod run;
+mod server;

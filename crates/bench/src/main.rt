@@ -27,31 +27,48 @@
 //! Without its arguments it prints nothing.
 #![tactic(auto)]
 
-mod asked;
 mod calls;
 mod codecs;
 mod data;
 mod grants;
+mod printing;
 mod rates;
-mod ratio;
 mod state;
 mod work;
 
-use crate::asked::{Part, asked};
-use std::io;
+use std::rt::{Clock, Files};
+use std::sync::Wait;
+use std::thread::Threads;
+use std::{env, io};
+
+/// What is measured by the command line, if anything, and the number behind its name, or 0.
+fn asked(words: &[String]) -> (&str, u32) {
+    let [_program, part, rest @ ..] = words else {
+        return ("", 0);
+    };
+    match rest.first() {
+        Some(count) => (part.as_str(), count.parse().unwrap_or(0)),
+        None => (part.as_str(), 0),
+    }
+}
+
+/// Measures what the words of the command line ask for.
+fn run<R: Clock + Print + AllocGlobal + Files + Threads + Wait + Sync>(
+    rt: &R,
+    words: &[String],
+) -> io::Result<()> {
+    let (part, count) = asked(words);
+    match part {
+        "codecs" => codecs::run::run(rt, count),
+        "grants" => grants::run::run(rt, count),
+        "state" => state::run::run(rt, count),
+        "data" => data::run::run(rt, count),
+        "calls" => calls::run::run(rt, count),
+        _ => Ok(()),
+    }
+}
 
 fn main(rt: HostRuntime) -> io::Result<()> {
-    let Some((part, count)) = asked(&rt)? else {
-        return Ok(());
-    };
-    match part {
-        Part::Codecs => codecs::run::run(&rt, count),
-        Part::Grants => grants::run::run(&rt, count),
-        Part::State => state::run::run(&rt, count),
-        Part::Data => data::run::run(&rt, count),
-        Part::Calls => {
-            calls::run::run(&rt, count)?;
-            calls::names::run(&rt, count.min(10_000))
-        }
-    }
+    let words: Vec<String> = env::args(&rt)?.collect(rt.alloc())?;
+    run(&rt, &words)
 }

@@ -1,6 +1,6 @@
 //! The fastest of several passes.
 
-use crate::ratio::print_ratio;
+use crate::printing::{print_figures, print_ratio};
 use std::alloc::AllocError;
 use std::io;
 use std::rt::Clock;
@@ -73,9 +73,12 @@ fn measure_each<R: Clock + Print>(
 /// Prints how long it took to do some work once in the fastest pass.
 fn print_each(rt: &impl Print, name: &str, fastest: Fastest) -> io::Result<()> {
     let tenths = fastest.tenths_each();
-    let (whole, tenth) = (tenths / 10, tenths % 10);
-    let done = fastest.done;
-    println!(rt; "{name}: {whole}.{tenth} ns, {done} in a pass")
+    let figures = [
+        (": ", tenths as u128 / 10),
+        (".", tenths as u128 % 10),
+        (" ns, ", fastest.done as u128),
+    ];
+    print_figures(rt, name, &figures, " in a pass")
 }
 
 /// Prints how long it took to do some work once, and beside it plain work, with the ratio of their
@@ -87,8 +90,20 @@ pub fn measure_beside<R: Clock + Print, W: Work + Drop, P: Work + Drop>(
     plain: Result<P, AllocError>,
     passes: u32,
 ) -> io::Result<()> {
-    let (mut work, mut plain) = (work?, plain?);
-    let (fastest, fastest_plain) = in_turn(rt, &mut work, &mut plain, passes)?;
+    let mut work = work?;
+    let mut plain = plain?;
+    measure_both(rt, name, &mut work, &mut plain, passes)
+}
+
+/// The same of works that were made.
+fn measure_both<R: Clock + Print>(
+    rt: &R,
+    name: &str,
+    work: &mut impl Work,
+    plain: &mut impl Work,
+    passes: u32,
+) -> io::Result<()> {
+    let (fastest, fastest_plain) = in_turn(rt, work, plain, passes)?;
     print_each(rt, name, fastest)?;
     print_each(rt, "plain copy", fastest_plain)?;
     print_ratio(rt, fastest_plain.tenths_each(), fastest.tenths_each())

@@ -31,19 +31,19 @@ words (n ∷ ns) = word n ++ words ns
 -- The arguments of a call. A WRITE is UNSTABLE; a CREATE is UNCHECKED and sets none of six
 -- attributes, and MKDIR none; READDIR has the first cookie, no verifier, and a page of 8 KiB.
 abbrev pub arguments_of : Call → List ℕ
-arguments_of (GetAttributes object) = counted object.now.bytes.items
-arguments_of (Lookup directory name) = counted directory.now.bytes.items ++ counted name.now.bytes.items
-arguments_of (Read file offset size) = counted file.now.bytes.items ++ (hyper offset ++ word (size_of size))
+arguments_of (GetAttributes object) = counted object.now
+arguments_of (Lookup directory name) = counted directory.now ++ counted name.bytes.now
+arguments_of (Read file offset size) = counted file.now ++ (hyper offset ++ words (size_of size ∷ []))
 arguments_of (Write file offset payload) =
-    counted file.now.bytes.items
+    counted file.now
     ++ (hyper offset ++ (words (length payload.now.bytes.items ∷ 0 ∷ []) ++ counted payload.now.bytes.items))
 arguments_of (Create directory name) =
-    (counted directory.now.bytes.items ++ counted name.now.bytes.items) ++ words (0 ∷ 0 ∷ 0 ∷ 0 ∷ 0 ∷ 0 ∷ 0 ∷ [])
+    (counted directory.now ++ counted name.bytes.now) ++ words (0 ∷ 0 ∷ 0 ∷ 0 ∷ 0 ∷ 0 ∷ 0 ∷ [])
 arguments_of (MakeDirectory directory name) =
-    (counted directory.now.bytes.items ++ counted name.now.bytes.items) ++ words (0 ∷ 0 ∷ 0 ∷ 0 ∷ 0 ∷ 0 ∷ [])
-arguments_of (Remove directory name) = counted directory.now.bytes.items ++ counted name.now.bytes.items
-arguments_of (RemoveDirectory directory name) = counted directory.now.bytes.items ++ counted name.now.bytes.items
-arguments_of (ReadDirectory directory) = counted directory.now.bytes.items ++ words (0 ∷ 0 ∷ 0 ∷ 0 ∷ 8192 ∷ [])
+    (counted directory.now ++ counted name.bytes.now) ++ words (0 ∷ 0 ∷ 0 ∷ 0 ∷ 0 ∷ 0 ∷ [])
+arguments_of (Remove directory name) = counted directory.now ++ counted name.bytes.now
+arguments_of (RemoveDirectory directory name) = counted directory.now ++ counted name.bytes.now
+arguments_of (ReadDirectory directory) = counted directory.now ++ words (0 ∷ 0 ∷ 0 ∷ 0 ∷ 8192 ∷ [])
 
 -- A call's head: the xid, CALL, RPC's version 2, program 100003 in version 3, the procedure, and
 -- AUTH_NONE without a body as credential and as verifier.

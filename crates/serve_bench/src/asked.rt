@@ -1,51 +1,61 @@
 //! What the command line asks for.
 
-use crate::workload::Workload;
-use std::{env, io};
+use crate::workload::{KINDS, Kind};
+use std::io;
 
-/// Where the server is, how many calls of each kind are made, and which kind alone, if one.
-#[derive(Drop)]
-pub struct Request {
-    pub address: String,
+/// Where the server is, how many calls of each kind are made, and the name of the kind alone that
+/// is called, if one.
+#[derive(Clone, Copy)]
+pub struct Request<'a> {
+    pub address: &'a str,
     pub count: u32,
-    pub only: Option<Workload>,
+    only: Option<&'a str>,
 }
 
-impl Request {
-    /// Whether a kind of call is to be made.
-    pub fn includes(&self, workload: Workload) -> bool {
+impl Request<'_> {
+    /// Whether a kind of calls is to be made.
+    pub fn includes(&self, kind: &Kind) -> bool {
         match self.only {
-            Some(only) => only == workload,
+            Some(name) => name == kind.name,
             None => true,
         }
     }
+
+    /// Whether any kind of calls is to be made.
+    fn includes_any(&self) -> bool {
+        for kind in &KINDS {
+            if self.includes(kind) {
+                return true;
+            }
+        }
+        false
+    }
 }
 
-/// What the command line asks for, if it has an address and a count.
-pub fn asked(rt: &(impl env::Env + AllocGlobal)) -> io::Result<Option<Request>> {
-    let mut words = env::args(rt)?;
-    let _program = words.next();
-    let (Some(address), Some(count)) = (words.next(), words.next()) else {
+/// An error about the words.
+fn wrong(words: &str) -> io::Error {
+    io::Error::new(io::ErrorKind::InvalidInput, words)
+}
+
+/// What the words of the command line ask for, if they have an address and a count.
+pub fn asked(words: &[String]) -> io::Result<Option<Request<'_>>> {
+    let [_program, address, count, rest @ ..] = words else {
         return Ok(None);
     };
     let Ok(count) = count.parse() else {
-        return Err(io::Error::new(io::ErrorKind::InvalidInput, "COUNT is no number below 2^32"));
+        return Err(wrong("COUNT is no number below 2^32"));
     };
-    let only = match words.next() {
+    let only = match rest.first() {
+        Some(word) => Some(word.as_str()),
         None => None,
-        Some(word) => Some(known(&word)?),
     };
-    Ok(Some(Request {
+    let request = Request {
         address,
         count,
         only,
-    }))
-}
-
-/// The kind of calls of a name.
-fn known(name: &str) -> io::Result<Workload> {
-    Workload::named(name).ok_or(io::Error::new(
-        io::ErrorKind::InvalidInput,
-        "KIND is no kind of calls",
-    ))
+    };
+    if !request.includes_any() {
+        return Err(wrong("KIND is no kind of calls"));
+    }
+    Ok(Some(request))
 }

@@ -6,6 +6,7 @@ use crate::record::{HEADER, Next, next_record};
 use crate::tally::Tally;
 use crate::work::Work;
 use std::io::{self, ErrorKind};
+use std::net::{Net, TcpListener, TcpStream};
 use std::rt::Clock;
 use std::time::Instant;
 
@@ -17,6 +18,18 @@ pub struct Session {
 }
 
 impl Session {
+    /// A new connection, of a number, that has made no call.
+    pub fn connect<R: Net<Listener = TcpListener, Stream = TcpStream> + AllocGlobal>(
+        rt: &R,
+        address: &str,
+        number: u32,
+    ) -> io::Result<Session> {
+        Ok(Session {
+            link: Link::connect(rt, address)?,
+            work: Work::new(rt.alloc(), number),
+        })
+    }
+
     /// Takes the replies that have come, and writes the next calls.
     fn take_replies(&mut self, plan: &Plan<'_>, now: Instant) -> io::Result<()> {
         let came = self.link.incoming.as_slice();
@@ -36,17 +49,29 @@ impl Session {
         Ok(())
     }
 
+    /// Writes the first calls.
+    fn begin(&mut self, rt: &impl Clock, plan: &Plan<'_>) -> io::Result<()> {
+        let now = Instant::now(rt)?;
+        self.work.begin(plan, now, &mut self.link.outgoing)?;
+        Ok(())
+    }
+
+    /// Sends the calls that are written, waits for replies, and takes them.
+    fn exchange(&mut self, rt: &impl Clock, plan: &Plan<'_>) -> io::Result<()> {
+        self.link.send()?;
+        self.link.receive()?;
+        let now = Instant::now(rt)?;
+        self.take_replies(plan, now)
+    }
+
     /// Makes all calls of a plan.
     fn make_calls(&mut self, rt: &impl Clock, plan: &Plan<'_>) -> io::Result<()> {
-        self.work
-            .begin(plan, Instant::now(rt)?, &mut self.link.outgoing)?;
+        self.begin(rt, plan)?;
         for _exchange in 0..u64::MAX {
             if !self.work.is_waiting() {
                 break;
             }
-            self.link.send()?;
-            self.link.receive()?;
-            self.take_replies(plan, Instant::now(rt)?)?;
+            self.exchange(rt, plan)?;
         }
         Ok(())
     }

@@ -9,7 +9,7 @@ use crate::call::Call;
 use crate::handle::Handle;
 use crate::name::Name;
 use crate::payload::Payload;
-use crate::transfer::{Transfer, size_of};
+use crate::transfer::size_of;
 use std::alloc::AllocError;
 use xdr::{put_opaque, put_u32, put_u64};
 
@@ -37,7 +37,7 @@ const AUTH_NONE: u32 = 0;
 const UNSTABLE: u32 = 0;
 
 /// The procedure of a call.
-fn procedure(call: &Call<'_>) -> u32
+fn procedure(call: &Call<'_, '_>) -> u32
     ensures { result ≡ procedure_of call.now }
 {
     match call {
@@ -64,30 +64,30 @@ fn counted_size(bytes: &[u8]) -> u32
 }
 
 /// How many bytes a directory and a name take.
-fn entry_size(directory: &Handle, name: &Name) -> u32
+fn entry_size(directory: &Handle, name: Name<'_>) -> u32
     ensures size { result
-        ≡ length (counted directory.now.bytes.items ++ counted name.now.bytes.items) }
+        ≡ length (counted directory.now ++ counted name.entry.bytes.now) }
     ensures most { result ≤ 131_088 }
 {
-    counted_size(directory.as_slice()) + counted_size(name.as_slice())
+    counted_size(directory.as_slice()) + counted_size(name.bytes)
 }
 
 /// How many bytes the arguments of a call take.
-fn arguments_size(call: &Call<'_>) -> u32
+fn arguments_size(call: &Call<'_, '_>) -> u32
     ensures size { result ≡ length (arguments_of call.now) }
     ensures most { result ≤ 200_000 }
 {
     match call {
         Call::GetAttributes(object) => counted_size(object.as_slice()),
-        Call::Lookup(directory, name) => entry_size(directory, name),
+        Call::Lookup(directory, name) => entry_size(directory, *name),
         Call::Read(file, _, _) => counted_size(file.as_slice()) + 12,
         Call::Write(file, _, payload) => {
             counted_size(file.as_slice()) + 16 + counted_size(payload.as_slice())
         }
-        Call::Create(directory, name) => entry_size(directory, name) + 28,
-        Call::MakeDirectory(directory, name) => entry_size(directory, name) + 24,
-        Call::Remove(directory, name) => entry_size(directory, name),
-        Call::RemoveDirectory(directory, name) => entry_size(directory, name),
+        Call::Create(directory, name) => entry_size(directory, *name) + 28,
+        Call::MakeDirectory(directory, name) => entry_size(directory, *name) + 24,
+        Call::Remove(directory, name) => entry_size(directory, *name),
+        Call::RemoveDirectory(directory, name) => entry_size(directory, *name),
         Call::ReadDirectory(directory) => counted_size(directory.as_slice()) + 20,
     }
 }
@@ -103,48 +103,22 @@ fn put_words(out: &mut Vec<u8>, numbers: &[u32]) -> Result<(), AllocError>
 }
 
 /// Writes a directory and a name.
-fn put_entry(out: &mut Vec<u8>, directory: &Handle, name: &Name) -> Result<(), AllocError>
+fn put_entry(out: &mut Vec<u8>, directory: &Handle, name: Name<'_>) -> Result<(), AllocError>
     ensures { OnOk result (out.new.items
-        ≡ out.old.items ++ (counted directory.now.bytes.items ++ counted name.now.bytes.items)) }
+        ≡ out.old.items ++ (counted directory.now ++ counted name.entry.bytes.now)) }
 {
     put_opaque(out, directory.as_slice())?;
-    put_opaque(out, name.as_slice())
+    put_opaque(out, name.bytes)
 }
 
-/// Writes where a READ begins and how many bytes it wants.
-fn put_range(out: &mut Vec<u8>, offset: u64, size: Transfer) -> Result<(), AllocError>
-    ensures { OnOk result (out.new.items ≡ out.old.items ++ (hyper offset ++ word (size_of size))) }
-{
-    put_u64(out, offset)?;
-    put_u32(out, size_of(size))
-}
-
-/// Writes the arguments of a READ.
-fn put_read(out: &mut Vec<u8>, file: &Handle, offset: u64, size: Transfer) -> Result<(), AllocError>
+/// Writes a file, an offset in it, and unsigned integers.
+fn put_at(out: &mut Vec<u8>, file: &Handle, offset: u64, numbers: &[u32]) -> Result<(), AllocError>
     ensures { OnOk result (out.new.items ≡ out.old.items
-        ++ (counted file.now.bytes.items ++ (hyper offset ++ word (size_of size)))) }
+        ++ (counted file.now ++ (hyper offset ++ words numbers.now))) }
 {
     put_opaque(out, file.as_slice())?;
-    put_range(out, offset, size)
-}
-
-/// Writes how many bytes a WRITE has, that it is UNSTABLE, and the bytes.
-fn put_payload(out: &mut Vec<u8>, payload: &Payload) -> Result<(), AllocError>
-    ensures { OnOk result (out.new.items ≡ out.old.items
-        ++ (words (length payload.now.bytes.items ∷ 0 ∷ []) ++ counted payload.now.bytes.items)) }
-{
-    let bytes = payload.as_slice();
-    put_words(out, &[bytes.len() as u32, UNSTABLE])?;
-    put_opaque(out, bytes)
-}
-
-/// Writes where a WRITE begins, and what it writes.
-fn put_written(out: &mut Vec<u8>, offset: u64, payload: &Payload) -> Result<(), AllocError>
-    ensures { OnOk result (out.new.items ≡ out.old.items ++ (hyper offset
-        ++ (words (length payload.now.bytes.items ∷ 0 ∷ []) ++ counted payload.now.bytes.items))) }
-{
     put_u64(out, offset)?;
-    put_payload(out, payload)
+    put_words(out, numbers)
 }
 
 /// Writes the arguments of a WRITE.
@@ -154,27 +128,28 @@ fn put_write(
     offset: u64,
     payload: &Payload,
 ) -> Result<(), AllocError>
-    ensures { OnOk result (out.new.items ≡ out.old.items ++ (counted file.now.bytes.items
+    ensures { OnOk result (out.new.items ≡ out.old.items ++ (counted file.now
         ++ (hyper offset ++ (words (length payload.now.bytes.items ∷ 0 ∷ [])
         ++ counted payload.now.bytes.items)))) }
 {
-    put_opaque(out, file.as_slice())?;
-    put_written(out, offset, payload)
+    let bytes = payload.as_slice();
+    put_at(out, file, offset, &[bytes.len() as u32, UNSTABLE])?;
+    put_opaque(out, bytes)
 }
 
 /// Writes the arguments of a call.
-fn put_arguments(out: &mut Vec<u8>, call: &Call<'_>) -> Result<(), AllocError>
+fn put_arguments(out: &mut Vec<u8>, call: &Call<'_, '_>) -> Result<(), AllocError>
     ensures { OnOk result (out.new.items ≡ out.old.items ++ arguments_of call.now) }
 {
     match call {
         Call::GetAttributes(object) => put_opaque(out, object.as_slice()),
-        Call::Lookup(directory, name) => put_entry(out, directory, name),
-        Call::Read(file, offset, size) => put_read(out, file, *offset, *size),
+        Call::Lookup(directory, name) => put_entry(out, directory, *name),
+        Call::Read(file, offset, size) => put_at(out, file, *offset, &[size_of(*size)]),
         Call::Write(file, offset, payload) => put_write(out, file, *offset, payload),
-        Call::Create(directory, name) => put_made(out, directory, name, &[0; 7]),
-        Call::MakeDirectory(directory, name) => put_made(out, directory, name, &[0; 6]),
-        Call::Remove(directory, name) => put_entry(out, directory, name),
-        Call::RemoveDirectory(directory, name) => put_entry(out, directory, name),
+        Call::Create(directory, name) => put_made(out, directory, *name, &[0; 7]),
+        Call::MakeDirectory(directory, name) => put_made(out, directory, *name, &[0; 6]),
+        Call::Remove(directory, name) => put_entry(out, directory, *name),
+        Call::RemoveDirectory(directory, name) => put_entry(out, directory, *name),
         Call::ReadDirectory(directory) => put_page(out, directory),
     }
 }
@@ -183,11 +158,11 @@ fn put_arguments(out: &mut Vec<u8>, call: &Call<'_>) -> Result<(), AllocError>
 fn put_made(
     out: &mut Vec<u8>,
     directory: &Handle,
-    name: &Name,
+    name: Name<'_>,
     attributes: &[u32],
 ) -> Result<(), AllocError>
     ensures { OnOk result (out.new.items ≡ out.old.items
-        ++ ((counted directory.now.bytes.items ++ counted name.now.bytes.items)
+        ++ ((counted directory.now ++ counted name.entry.bytes.now)
         ++ words attributes.now)) }
 {
     put_entry(out, directory, name)?;
@@ -197,14 +172,14 @@ fn put_made(
 /// Writes the arguments of a READDIR.
 fn put_page(out: &mut Vec<u8>, directory: &Handle) -> Result<(), AllocError>
     ensures { OnOk result (out.new.items ≡ out.old.items
-        ++ (counted directory.now.bytes.items ++ words (0 ∷ 0 ∷ 0 ∷ 0 ∷ 8192 ∷ []))) }
+        ++ (counted directory.now ++ words (0 ∷ 0 ∷ 0 ∷ 0 ∷ 8192 ∷ []))) }
 {
     put_opaque(out, directory.as_slice())?;
     put_words(out, &[0, 0, 0, 0, 8_192])
 }
 
 /// Writes the head and the arguments of a call.
-fn put_message(out: &mut Vec<u8>, xid: u32, call: &Call<'_>) -> Result<(), AllocError>
+fn put_message(out: &mut Vec<u8>, xid: u32, call: &Call<'_, '_>) -> Result<(), AllocError>
     ensures { OnOk result (out.new.items ≡ out.old.items
         ++ (head_of xid (procedure_of call.now) ++ arguments_of call.now)) }
 {
@@ -225,7 +200,7 @@ fn put_message(out: &mut Vec<u8>, xid: u32, call: &Call<'_>) -> Result<(), Alloc
 }
 
 /// Writes a call of an xid behind the bytes of a vector, as a record of one fragment.
-pub fn put_call(out: &mut Vec<u8>, xid: u32, call: &Call<'_>) -> Result<(), AllocError>
+pub fn put_call(out: &mut Vec<u8>, xid: u32, call: &Call<'_, '_>) -> Result<(), AllocError>
     ensures { OnOk result (out.new.items ≡ out.old.items ++ record_of xid call.now) }
 {
     put_u32(out, LAST + (HEAD + arguments_size(call)))?;

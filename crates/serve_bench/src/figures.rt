@@ -3,6 +3,7 @@
 ghost use Rattle.std.specs.Prelude.{◌≡◌, ◌*◌, ◌/◌, ◌-◌, ◌^◌, min, max, length, slice_index};
 ghost use Rattle.std.specs.Duration.{as_nanos};
 
+use crate::load::Load;
 use crate::tally::Tally;
 use std::io;
 use std::time::Duration;
@@ -31,25 +32,53 @@ fn ninety_ninth(sorted: &[u32]) -> u32
     sorted.get(at).copied().unwrap_or(0)
 }
 
-/// Prints a time in microseconds, to a tenth.
-fn print_microseconds(rt: &impl Print, name: &str, nanoseconds: u32) -> io::Result<()> {
-    let (whole, tenth) = (nanoseconds / 1000, nanoseconds / 100 % 10);
-    print!(rt; ", {name} {whole}.{tenth} us")
+/// The whole microseconds of a time, and the tenths behind them.
+fn microseconds(nanoseconds: u32) -> [u64; 2] {
+    let tenths = u64::from(nanoseconds / 100);
+    [tenths / 10, tenths % 10]
 }
 
-/// Prints what came of calls of a kind, which were made in a time.
+/// A number behind words.
+type Figure = (&'static str, u64);
+
+/// What came of calls that were made in a time.
+fn figures(tally: &mut Tally, time: Duration) -> [Figure; 9] {
+    tally.times.sort_unstable();
+    let done = tally.times.len() as u64;
+    let [median, of_median] = microseconds(median(&tally.times));
+    let [most, of_most] = microseconds(ninety_ninth(&tally.times));
+    [
+        (": ", done),
+        (" calls, ", per_second(done, time)),
+        (" a second, median ", median),
+        (".", of_median),
+        (" us, 99th percentile ", most),
+        (".", of_most),
+        (" us, wrong ", tally.wrong),
+        (", unknown ", tally.unknown),
+        (", lost ", tally.lost),
+    ]
+}
+
+/// Prints figures as the rest of a line.
+fn print_all(rt: &impl Print, figures: &[Figure]) -> io::Result<()> {
+    for (words, number) in figures {
+        print!(rt; "{words}{number}")?;
+    }
+    println!(rt; "")
+}
+
+/// Prints what came of calls of a kind, which were made under a load in a time. Whether all were
+/// done.
 pub fn print_figures(
     rt: &impl Print,
+    load: Load,
     title: &str,
     tally: &mut Tally,
     time: Duration,
-) -> io::Result<()> {
-    tally.times.sort_unstable();
-    let done = tally.times.len();
-    let rate = per_second(done as u64, time);
-    print!(rt; "{title}: {done} calls, {rate} a second")?;
-    print_microseconds(rt, "median", median(&tally.times))?;
-    print_microseconds(rt, "99th percentile", ninety_ninth(&tally.times))?;
-    let (wrong, unknown, lost) = (tally.wrong, tally.unknown, tally.lost);
-    println!(rt; ", wrong {wrong}, unknown {unknown}, lost {lost}")
+) -> io::Result<bool> {
+    let (connections, outstanding) = (load.connections, load.outstanding);
+    print!(rt; "{connections} x {outstanding}, {title}")?;
+    print_all(rt, &figures(tally, time))?;
+    Ok(tally.is_clean())
 }

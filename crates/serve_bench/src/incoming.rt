@@ -1,6 +1,6 @@
 //! Bytes that have come.
 
-ghost use Rattle.std.specs.Prelude.{◌≡◌, ◌≤◌, length, drop};
+ghost use Rattle.std.specs.Prelude.{◌≡◌, ◌≤◌, [], length, drop};
 
 use std::alloc::{AllocError, Global};
 use std::io::{self, ErrorKind, Read};
@@ -59,5 +59,12 @@ impl Incoming {
     {
         self.bytes.copy_within(count..self.filled, 0);
         self.filled -= count;
+    }
+
+    /// Leaves out all of them.
+    pub fn clear(&mut self)
+        ensures { self.new ≡ [] }
+    {
+        self.filled = 0;
     }
 }

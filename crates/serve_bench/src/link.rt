@@ -9,11 +9,27 @@ use std::time::Duration;
 const PATIENCE: u64 = 10;
 
 /// A connection, what has come on it, and the calls that are to go out.
-#[derive(Drop)]
 pub struct Link {
     stream: TcpStream,
     pub incoming: Incoming,
     pub outgoing: Vec<u8>,
+}
+
+// By hand, so that each exit that lets one go is one call.
+impl Drop for Link {
+    fn drop(self) {
+        let Link {
+            stream: _,
+            incoming: _,
+            outgoing: _,
+        } = self;
+    }
+}
+
+/// Has a stream send each call at once, and wait so long for a reply.
+fn set_up(stream: &TcpStream) -> io::Result<()> {
+    stream.set_nodelay(true)?;
+    stream.set_read_timeout(Some(Duration::from_secs(PATIENCE)))
 }
 
 impl Link {
@@ -23,8 +39,7 @@ impl Link {
         address: &str,
     ) -> io::Result<Link> {
         let stream = TcpStream::connect(rt, address)?;
-        stream.set_nodelay(true)?;
-        stream.set_read_timeout(Some(Duration::from_secs(PATIENCE)))?;
+        set_up(&stream)?;
         Ok(Link {
             stream,
             incoming: Incoming::new(rt.alloc())?,

@@ -10,7 +10,7 @@ pub struct Load {
     pub connections: u32,
     pub outstanding: u32,
     ghost some_connection: { 0 < connections },
-    ghost few_connections: { connections ≤ 64 },
+    ghost few_connections: { connections ≤ 10 },
     ghost some_call: { 0 < outstanding },
     ghost few_calls: { outstanding ≤ 4 },
 }

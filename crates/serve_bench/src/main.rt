@@ -35,17 +35,10 @@ mod transfer;
 mod work;
 mod workload;
 
-use crate::asked::asked;
-use std::io;
 use std::process::ExitCode;
+use std::{env, io};
 
 fn main(rt: HostRuntime) -> io::Result<ExitCode> {
-    let Some(request) = asked(&rt)? else {
-        return Ok(ExitCode::SUCCESS);
-    };
-    if run::run(&rt, &request)? {
-        Ok(ExitCode::SUCCESS)
-    } else {
-        Ok(ExitCode::FAILURE)
-    }
+    let words: Vec<String> = env::args(&rt)?.collect(rt.alloc())?;
+    run::run(&rt, &words)
 }

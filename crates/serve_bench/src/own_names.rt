@@ -1,40 +1,48 @@
 //! Names that a connection makes and removes.
 
-ghost use Rattle.std.specs.Prelude.{◌≡◌, ◌<◌, vec_len};
+ghost use Rattle.std.specs.Prelude.{◌<◌};
 
 use crate::lane::LANES;
 use crate::name::Name;
-use std::alloc::{AllocError, Global};
+
+/// The name of a lane of a connection: two digits are its own.
+type OwnName = [u8; 19];
 
 /// A name for each lane of a connection.
-#[derive(Drop)]
+#[derive(Clone, Copy)]
 pub struct OwnNames {
-    names: Vec<Name>,
-    ghost enough: { vec_len names ≡ 4 },
+    names: [OwnName; 4],
 }
 
-/// The name of a lane of a connection.
-fn own_name(alloc: Global, connection: u32, lane: u32) -> Result<Name, AllocError> {
-    let text = format!(in alloc; "connection-{connection}-lane-{lane}")?;
-    Name::new(alloc, &text)
+/// The name of a lane of a connection below 10.
+fn own_name(connection: u32, lane: u8) -> OwnName
+    requires { lane < 4 }
+{
+    let mut name = *b"connection-0-lane-0";
+    name[11] = b'0' + (connection % 10) as u8;
+    name[18] = b'0' + lane;
+    name
 }
 
 impl OwnNames {
     /// Those of a connection.
-    pub fn new(alloc: Global, connection: u32) -> Result<OwnNames, AllocError> {
-        let names = vec![in alloc;
-            own_name(alloc, connection, 0)?,
-            own_name(alloc, connection, 1)?,
-            own_name(alloc, connection, 2)?,
-            own_name(alloc, connection, 3)?,
-        ]?;
-        Ok(OwnNames { names })
+    pub fn new(connection: u32) -> OwnNames {
+        OwnNames {
+            names: [
+                own_name(connection, 0),
+                own_name(connection, 1),
+                own_name(connection, 2),
+                own_name(connection, 3),
+            ],
+        }
     }
 
     /// That of a lane.
-    pub fn of_lane(&self, lane: u32) -> &Name
+    pub fn of_lane(&self, lane: u32) -> Name<'_>
         requires { lane < LANES }
     {
-        &self.names[lane as usize]
+        Name {
+            bytes: &self.names[lane as usize],
+        }
     }
 }

@@ -7,9 +7,10 @@ ghost use Rattle.serve_bench.specs.Workloads.{procedure_in};
 use crate::call::Call;
 use crate::lane::{TURNS, lane_of, turn_of};
 use crate::load::Load;
+use crate::name::Name;
 use crate::own_names::OwnNames;
 use crate::payload::Payload;
-use crate::place::{FILE_SIZE, Place};
+use crate::place::{FILE_NAME, FILE_SIZE, Place};
 use crate::transfer::{Transfer, size_of};
 use crate::workload::Workload;
 use std::alloc::{AllocError, Global};
@@ -44,13 +45,13 @@ fn offset_of(connection: u32, xid: u32, transfer: Transfer) -> u64
 impl<'a> Plan<'a> {
     /// The call of an xid on a connection. Of CREATE and REMOVE each lane makes the first in turns
     /// of even number and the second in the others.
-    pub fn call<'b>(&'b self, connection: u32, names: &'b OwnNames, xid: u32) -> Call<'b>
+    pub fn call<'b>(&'b self, connection: u32, names: &'b OwnNames, xid: u32) -> Call<'b, 'b>
         ensures { procedure_of result ≡ procedure_in self.now.workload (xid / 4) }
     {
         let place = self.place;
         match self.workload {
             Workload::GetAttributes => Call::GetAttributes(&place.file),
-            Workload::Lookup => Call::Lookup(&place.directory, &place.file_name),
+            Workload::Lookup => Call::Lookup(&place.directory, Name { bytes: &FILE_NAME }),
             Workload::Read(transfer) => {
                 let offset = offset_of(connection, xid, transfer);
                 Call::Read(&place.file, offset, transfer)

@@ -6,8 +6,8 @@ use crate::handle::Handle;
 use crate::link::Link;
 use crate::name::Name;
 use crate::payload::Payload;
-use crate::place::{FILE_SIZE, NAMES, Place, directory_name, file_name, other_name};
-use crate::record::{HEADER, Next, next_record};
+use crate::place::{DIRECTORY_NAME, FILE_NAME, FILE_SIZE, NAMES, Place, other_name};
+use crate::record::{Next, next_record};
 use crate::reply::{Verdict, found_handle, judge, read_reply};
 use crate::transfer::{Transfer, size_of};
 use std::alloc::Global;
@@ -21,121 +21,149 @@ fn unmet(words: &str) -> io::Error {
     io::Error::new(ErrorKind::InvalidData, words)
 }
 
-/// Waits for a record, and takes it.
-fn take_record(alloc: Global, link: &mut Link) -> io::Result<Vec<u8>> {
+/// Waits until more has come than a part of a record.
+fn wait_for_record(link: &mut Link) -> io::Result<()> {
     for _read in 0..u64::MAX {
         match next_record(link.incoming.as_slice()) {
-            Next::Whole(record) => {
-                let taken = Vec::from_slice(alloc, record)?;
-                link.incoming.consume(HEADER + taken.len());
-                return Ok(taken);
-            }
             Next::Part => link.receive()?,
-            Next::Fragment => break,
+            _ => break,
         }
     }
-    Err(unmet("a reply isn't one fragment"))
+    Ok(())
 }
 
-/// Makes a call, and takes the record of its reply.
-fn ask(alloc: Global, link: &mut Link, call: &Call<'_>) -> io::Result<Vec<u8>> {
+/// Makes a call, and waits for the record of its reply. What came before the call is left out.
+fn ask<'a>(link: &'a mut Link, call: &Call<'_, '_>) -> io::Result<&'a [u8]> {
+    link.incoming.clear();
     put_call(&mut link.outgoing, XID, call)?;
     link.send()?;
-    take_record(alloc, link)
+    wait_for_record(link)?;
+    match next_record(link.incoming.as_slice()) {
+        Next::Whole(record) => Ok(record),
+        _ => Err(unmet("a reply isn't one fragment")),
+    }
 }
 
 /// Makes a call. What its reply says.
-fn try_call(alloc: Global, link: &mut Link, call: &Call<'_>) -> io::Result<Verdict> {
-    let record = ask(alloc, link, call)?;
-    match read_reply(&record) {
+fn try_call(link: &mut Link, call: &Call<'_, '_>) -> io::Result<Verdict> {
+    match read_reply(ask(link, call)?) {
         Ok(reply) if reply.xid == XID => Ok(judge(call, reply.results)),
         _ => Err(unmet("a reply has not the form of one")),
     }
 }
 
 /// Makes a call that has to be done.
-fn make_call(alloc: Global, link: &mut Link, call: &Call<'_>) -> io::Result<()> {
-    match try_call(alloc, link, call)? {
+fn make_call(link: &mut Link, call: &Call<'_, '_>) -> io::Result<()> {
+    match try_call(link, call)? {
         Verdict::Done => Ok(()),
         Verdict::Refused => Err(unmet("a call that makes or removes a file was refused")),
         Verdict::Malformed => Err(unmet("the results of a call have not its procedure's form")),
     }
 }
 
-/// The handle of a name in a directory.
-fn find(alloc: Global, link: &mut Link, directory: &Handle, name: &Name) -> io::Result<Handle> {
-    let record = ask(alloc, link, &Call::Lookup(directory, name))?;
-    let handle = match read_reply(&record) {
-        Ok(reply) => reply.results.and_then(found_handle),
+/// The handle that a reply gives, if it is one to a LOOKUP that was done.
+fn handle_in(record: &[u8]) -> Option<Handle> {
+    match read_reply(record) {
+        Ok(reply) => Some(Handle::new(found_handle(reply.results?)?)),
         Err(_) => None,
-    };
-    match handle {
-        Some(bytes) => Ok(Handle::new(alloc, bytes)?),
+    }
+}
+
+/// The handle of a name in a directory.
+fn find(link: &mut Link, directory: &Handle, name: Name<'_>) -> io::Result<Handle> {
+    let call = Call::Lookup(directory, name);
+    match handle_in(ask(link, &call)?) {
+        Some(handle) => Ok(handle),
         None => Err(unmet("a LOOKUP of what was made has found nothing")),
     }
 }
 
-/// Makes a file of a name in a directory, if it isn't there.
-fn make_file(alloc: Global, link: &mut Link, directory: &Handle, name: &Name) -> io::Result<()> {
-    make_call(alloc, link, &Call::Create(directory, name))
-}
-
-/// Removes the file of a name from a directory.
-fn remove_file(alloc: Global, link: &mut Link, directory: &Handle, name: &Name) -> io::Result<()> {
-    make_call(alloc, link, &Call::Remove(directory, name))
-}
-
-/// Writes a file from its begin to FILE_SIZE.
-fn fill(alloc: Global, link: &mut Link, file: &Handle) -> io::Result<()> {
-    let size = size_of(Transfer::Full);
-    let payload = Payload::new(alloc, size)?;
-    for part in 0..FILE_SIZE / u64::from(size) {
-        let offset = part * u64::from(size);
-        make_call(alloc, link, &Call::Write(file, offset, &payload))?;
+/// Writes a payload through a file, from its begin to FILE_SIZE.
+fn write_all(link: &mut Link, file: &Handle, payload: &Payload) -> io::Result<()> {
+    let size = u64::from(size_of(Transfer::Full));
+    for part in 0..FILE_SIZE / size {
+        make_call(link, &Call::Write(file, part * size, payload))?;
     }
     Ok(())
 }
 
-/// Makes the other names in a directory.
-fn make_names(alloc: Global, link: &mut Link, directory: &Handle) -> io::Result<()> {
+/// Makes a file of a name in a directory, if it isn't there, or removes it.
+fn make_or_remove(
+    link: &mut Link,
+    directory: &Handle,
+    name: Name<'_>,
+    makes: bool,
+) -> io::Result<()> {
+    let call = if makes {
+        Call::Create(directory, name)
+    } else {
+        Call::Remove(directory, name)
+    };
+    make_call(link, &call)
+}
+
+/// Makes the other names in a directory, or removes them.
+fn make_or_remove_names(link: &mut Link, directory: &Handle, makes: bool) -> io::Result<()> {
     for number in 0..NAMES {
-        let name = other_name(alloc, number)?;
-        make_file(alloc, link, directory, &name)?;
+        let name = other_name(number);
+        make_or_remove(link, directory, Name { bytes: &name }, makes)?;
     }
     Ok(())
 }
 
-/// Makes the directory in the root, and answers its handle.
-fn make_directory(alloc: Global, link: &mut Link) -> io::Result<Handle> {
-    let root = Handle::root(alloc)?;
-    let name = directory_name(alloc)?;
-    let _verdict = try_call(alloc, link, &Call::MakeDirectory(&root, &name))?;
-    find(alloc, link, &root, &name)
+/// Makes a directory of a name in another, if it isn't there.
+fn make_directory(link: &mut Link, directory: &Handle, name: Name<'_>) -> io::Result<()> {
+    let call = Call::MakeDirectory(directory, name);
+    let _verdict = try_call(link, &call)?;
+    Ok(())
+}
+
+/// Removes a directory of a name from another.
+fn remove_directory(link: &mut Link, directory: &Handle, name: Name<'_>) -> io::Result<()> {
+    let call = Call::RemoveDirectory(directory, name);
+    make_call(link, &call)
+}
+
+/// Writes a file that is new, and makes the other names beside it.
+fn fill(alloc: Global, link: &mut Link, place: &Place) -> io::Result<()> {
+    let payload = Payload::new(alloc, size_of(Transfer::Full))?;
+    write_all(link, &place.file, &payload)?;
+    make_or_remove_names(link, &place.directory, true)
 }
 
 /// Makes a directory in the root, the file in it, and the other names. What is there already stays.
 pub fn prepare(alloc: Global, link: &mut Link) -> io::Result<Place> {
-    let directory = make_directory(alloc, link)?;
-    let file_name = file_name(alloc)?;
-    make_file(alloc, link, &directory, &file_name)?;
-    let file = find(alloc, link, &directory, &file_name)?;
-    fill(alloc, link, &file)?;
-    make_names(alloc, link, &directory)?;
-    Ok(Place {
-        directory,
-        file,
-        file_name,
-    })
+    let root = Handle::root();
+    make_directory(
+        link,
+        &root,
+        Name {
+            bytes: &DIRECTORY_NAME,
+        },
+    )?;
+    let directory = find(
+        link,
+        &root,
+        Name {
+            bytes: &DIRECTORY_NAME,
+        },
+    )?;
+    make_or_remove(link, &directory, Name { bytes: &FILE_NAME }, true)?;
+    let file = find(link, &directory, Name { bytes: &FILE_NAME })?;
+    let place = Place { directory, file };
+    fill(alloc, link, &place)?;
+    Ok(place)
 }
 
 /// Removes what `prepare` made.
-pub fn clean_up(alloc: Global, link: &mut Link, place: &Place) -> io::Result<()> {
-    for number in 0..NAMES {
-        let name = other_name(alloc, number)?;
-        remove_file(alloc, link, &place.directory, &name)?;
-    }
-    remove_file(alloc, link, &place.directory, &place.file_name)?;
-    let root = Handle::root(alloc)?;
-    let name = directory_name(alloc)?;
-    make_call(alloc, link, &Call::RemoveDirectory(&root, &name))
+pub fn clean_up(link: &mut Link, place: &Place) -> io::Result<()> {
+    make_or_remove_names(link, &place.directory, false)?;
+    make_or_remove(link, &place.directory, Name { bytes: &FILE_NAME }, false)?;
+    remove_directory(
+        link,
+        &Handle::root(),
+        Name {
+            bytes: &DIRECTORY_NAME,
+        },
+    )
 }

@@ -1,6 +1,6 @@
 //! All runs.
 
-use crate::asked::Request;
+use crate::asked::{Request, asked};
 use crate::drive::{Session, drive};
 use crate::figures::print_figures;
 use crate::link::Link;
@@ -9,10 +9,11 @@ use crate::place::Place;
 use crate::plan::{Plan, new_plan};
 use crate::prepare::{clean_up, prepare};
 use crate::tally::Tally;
-use crate::work::Work;
-use crate::workload::Workload;
+use crate::workload::{KINDS, Kind};
+use std::alloc::{AllocError, Global};
 use std::io;
 use std::net::{Net, TcpListener, TcpStream};
+use std::process::ExitCode;
 use std::rt::Clock;
 use std::thread::{self, Threads};
 use std::time::{Duration, Instant};
@@ -25,11 +26,18 @@ fn connect_all<R: Net<Listener = TcpListener, Stream = TcpStream> + AllocGlobal>
 ) -> io::Result<Vec<Session>> {
     let mut sessions = Vec::new(rt.alloc());
     for connection in 0..connections {
-        let link = Link::connect(rt, address)?;
-        let work = Work::new(rt.alloc(), connection)?;
-        sessions.push(Session { link, work })?;
+        sessions.push(Session::connect(rt, address, connection)?)?;
     }
     Ok(sessions)
+}
+
+/// What came of the calls of all connections together.
+fn join_all(alloc: Global, tallies: Vec<Tally>) -> Result<Tally, AllocError> {
+    let mut all = Tally::new(alloc);
+    for tally in tallies {
+        all.join(tally)?;
+    }
+    Ok(all)
 }
 
 /// Makes all calls of a plan, each connection in a thread of its own. What came of them, and how
@@ -39,14 +47,10 @@ fn make_all<R: Clock + AllocGlobal + Threads + Sync>(
     plan: &Plan<'_>,
     sessions: Vec<Session>,
 ) -> io::Result<(Tally, Duration)> {
-    let start = Instant::now(rt)?;
+    let start = Instant::now(rt);
     let tallies = thread::map_vec(rt, sessions, &|session| drive(rt, plan, session))?;
-    let time = start.elapsed(rt)?;
-    let mut all = Tally::new(rt.alloc());
-    for tally in tallies {
-        all.join(tally)?;
-    }
-    Ok((all, time))
+    let time = start?.elapsed(rt)?;
+    Ok((join_all(rt.alloc(), tallies)?, time))
 }
 
 /// Makes calls of a kind under a load, and prints figures. Whether all were done.
@@ -57,17 +61,15 @@ fn measure<
         + AllocGlobal
         + Threads
         + Sync,
->(rt: &R, request: &Request, place: &Place, workload: Workload, load: Load) -> io::Result<bool> {
-    let plan = new_plan(rt.alloc(), place, workload, load, request.count)?;
-    let (connections, outstanding) = (load.connections, load.outstanding);
-    let sessions = connect_all(rt, &request.address, connections)?;
+>(rt: &R, request: &Request<'_>, place: &Place, kind: &Kind, load: Load) -> io::Result<bool> {
+    let plan = new_plan(rt.alloc(), place, kind.workload, load, request.count)?;
+    let sessions = connect_all(rt, request.address, load.connections)?;
     let (mut tally, time) = make_all(rt, &plan, sessions)?;
-    print!(rt; "{connections} x {outstanding}, ")?;
-    print_figures(rt, workload.title(), &mut tally, time)?;
-    Ok(tally.is_clean())
+    print_figures(rt, load, kind.title, &mut tally, time)
 }
 
-/// Measures all kinds of calls that are asked for under a load. Whether all calls were done.
+/// Measures all kinds of calls that are asked for, first many at once and then round trips.
+/// Whether all calls were done.
 fn measure_kinds<
     R: Clock
         + Print
@@ -75,17 +77,49 @@ fn measure_kinds<
         + AllocGlobal
         + Threads
         + Sync,
->(rt: &R, request: &Request, place: &Place, load: Load) -> io::Result<bool> {
+>(rt: &R, request: &Request<'_>, place: &Place) -> io::Result<bool> {
     let mut clean = true;
-    for workload in Workload::ALL {
-        if request.includes(workload) {
-            clean &= measure(rt, request, place, workload, load)?;
+    for load in [FULL, SINGLE] {
+        for kind in &KINDS {
+            if request.includes(kind) {
+                clean &= measure(rt, request, place, kind, load)?;
+            }
         }
     }
     Ok(clean)
 }
 
-/// Prepares the server, measures it, and removes what was made. Whether all calls were done.
+/// Prepares the server, measures it, and removes what was made, by a connection beside those that
+/// are measured. Whether all calls were done.
+fn run_beside<
+    R: Clock
+        + Print
+        + Net<Listener = TcpListener, Stream = TcpStream>
+        + AllocGlobal
+        + Threads
+        + Sync,
+>(rt: &R, request: &Request<'_>, link: &mut Link) -> io::Result<bool> {
+    let place = prepare(rt.alloc(), link)?;
+    let clean = measure_kinds(rt, request, &place)?;
+    clean_up(link, &place)?;
+    Ok(clean)
+}
+
+/// The same by a new connection. The status that tells it.
+fn run_all<
+    R: Clock
+        + Print
+        + Net<Listener = TcpListener, Stream = TcpStream>
+        + AllocGlobal
+        + Threads
+        + Sync,
+>(rt: &R, request: &Request<'_>) -> io::Result<ExitCode> {
+    let mut link = Link::connect(rt, request.address)?;
+    let clean = run_beside(rt, request, &mut link)?;
+    Ok(ExitCode::from(u8::from(!clean)))
+}
+
+/// Does what the words of the command line ask for, if anything.
 pub fn run<
     R: Clock
         + Print
@@ -93,11 +127,9 @@ pub fn run<
         + AllocGlobal
         + Threads
         + Sync,
->(rt: &R, request: &Request) -> io::Result<bool> {
-    let mut link = Link::connect(rt, &request.address)?;
-    let place = prepare(rt.alloc(), &mut link)?;
-    let full = measure_kinds(rt, request, &place, FULL)?;
-    let single = measure_kinds(rt, request, &place, SINGLE)?;
-    clean_up(rt.alloc(), &mut link, &place)?;
-    Ok(full && single)
+>(rt: &R, words: &[String]) -> io::Result<ExitCode> {
+    match asked(words)? {
+        Some(request) => run_all(rt, &request),
+        None => Ok(ExitCode::SUCCESS),
+    }
 }

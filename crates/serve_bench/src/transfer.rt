@@ -4,7 +4,7 @@ ghost use Rattle.std.specs.Prelude.{◌≡◌, ◌≤◌};
 ghost use Rattle.serve_bench.specs.Calls.{size_of};
 
 /// How many bytes a READ or a WRITE moves.
-#[derive(Clone, Copy, PartialEq, Eq)]
+#[derive(Clone, Copy)]
 pub enum Transfer {
     /// 4 KiB.
     Block,

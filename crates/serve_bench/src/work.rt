@@ -19,24 +19,29 @@ use std::time::Instant;
 pub struct Work {
     connection: u32,
     names: OwnNames,
-    lanes: Vec<Lane>,
+    lanes: [Lane; 4],
     tally: Tally,
 }
 
 impl Work {
     /// Of a connection that has made no call.
-    pub fn new(alloc: Global, connection: u32) -> Result<Work, AllocError> {
-        Ok(Work {
+    pub fn new(alloc: Global, connection: u32) -> Work {
+        Work {
             connection,
-            names: OwnNames::new(alloc, connection)?,
-            lanes: vec![in alloc; Lane::Idle; LANES as usize]?,
+            names: OwnNames::new(connection),
+            lanes: [Lane::Idle; 4],
             tally: Tally::new(alloc),
-        })
+        }
     }
 
     /// Whether a call is outstanding.
     pub fn is_waiting(&self) -> bool {
-        self.lanes.iter().any(|lane| lane.is_waiting())
+        for lane in &self.lanes {
+            if lane.is_waiting() {
+                return true;
+            }
+        }
+        false
     }
 
     /// Writes the call of a lane in a turn, if it has that turn.
@@ -55,9 +60,7 @@ impl Work {
         }
         let xid = xid_of(lane, turn);
         put_call(out, xid, &plan.call(self.connection, &self.names, xid))?;
-        if let Some(place) = self.lanes.get_mut(lane as usize) {
-            *place = Lane::Waiting(turn, now);
-        }
+        self.lanes[lane as usize] = Lane::Waiting(turn, now);
         Ok(())
     }
 
@@ -76,16 +79,14 @@ impl Work {
 
     /// Takes the reply to the call of an xid: when that was sent, if it is outstanding.
     fn answer(&mut self, xid: u32) -> Option<Instant>
-        ensures waited { IfSome result (λ sent. slice_get self.old.lanes.items (xid % 4)
+        ensures waited { IfSome result (λ sent. slice_get self.old.lanes (xid % 4)
             ≡ Some (lanes.Waiting (xid / 4) sent)) }
-        ensures taken { (sent : Instant) → slice_get self.old.lanes.items (xid % 4)
+        ensures taken { (sent : Instant) → slice_get self.old.lanes (xid % 4)
             ≡ Some (lanes.Waiting (xid / 4) sent) → IsSome result }
-        ensures once { IsSome result → slice_get self.new.lanes.items (xid % 4) ≡ Some lanes.Idle }
-        ensures kept { IsNone result → self.new.lanes.items ≡ self.old.lanes.items }
+        ensures once { IsSome result → slice_get self.new.lanes (xid % 4) ≡ Some lanes.Idle }
+        ensures kept { IsNone result → self.new.lanes ≡ self.old.lanes }
     {
-        self.lanes
-            .get_mut(lane_of(xid) as usize)?
-            .answer(turn_of(xid))
+        self.lanes[lane_of(xid) as usize].answer(turn_of(xid))
     }
 
     /// What a reply says of its call.

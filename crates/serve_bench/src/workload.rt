@@ -3,7 +3,7 @@
 use crate::transfer::Transfer;
 
 /// What each call of a run does.
-#[derive(Clone, Copy, PartialEq, Eq)]
+#[derive(Clone, Copy)]
 pub enum Workload {
     GetAttributes,
     Lookup,
@@ -15,44 +15,54 @@ pub enum Workload {
     ReadDirectory,
 }
 
-impl Workload {
-    pub const ALL: [Workload; 8] = [
-        Workload::GetAttributes,
-        Workload::Lookup,
-        Workload::Read(Transfer::Block),
-        Workload::Write(Transfer::Block),
-        Workload::CreateAndRemove,
-        Workload::ReadDirectory,
-        Workload::Read(Transfer::Full),
-        Workload::Write(Transfer::Full),
-    ];
-
-    /// The kind of a name on the command line.
-    pub fn named(name: &str) -> Option<Workload> {
-        match name {
-            "getattr" => Some(Workload::GetAttributes),
-            "lookup" => Some(Workload::Lookup),
-            "read4k" => Some(Workload::Read(Transfer::Block)),
-            "write4k" => Some(Workload::Write(Transfer::Block)),
-            "create" => Some(Workload::CreateAndRemove),
-            "readdir" => Some(Workload::ReadDirectory),
-            "read64k" => Some(Workload::Read(Transfer::Full)),
-            "write64k" => Some(Workload::Write(Transfer::Full)),
-            _ => None,
-        }
-    }
-
-    /// What the calls are printed as.
-    pub fn title(self) -> &'static str {
-        match self {
-            Workload::GetAttributes => "GETATTR",
-            Workload::Lookup => "LOOKUP",
-            Workload::Read(Transfer::Block) => "READ of 4 KiB",
-            Workload::Read(Transfer::Full) => "READ of 64 KiB",
-            Workload::Write(Transfer::Block) => "WRITE of 4 KiB",
-            Workload::Write(Transfer::Full) => "WRITE of 64 KiB",
-            Workload::CreateAndRemove => "CREATE and REMOVE",
-            Workload::ReadDirectory => "READDIR of 8 KiB",
-        }
-    }
+/// A kind of calls: its name on the command line, what the calls are printed as, and what they do.
+#[derive(Clone, Copy)]
+pub struct Kind {
+    pub name: &'static str,
+    pub title: &'static str,
+    pub workload: Workload,
 }
+
+/// All kinds, in the order in which they are measured.
+pub const KINDS: [Kind; 8] = [
+    Kind {
+        name: "getattr",
+        title: "GETATTR",
+        workload: Workload::GetAttributes,
+    },
+    Kind {
+        name: "lookup",
+        title: "LOOKUP",
+        workload: Workload::Lookup,
+    },
+    Kind {
+        name: "read4k",
+        title: "READ of 4 KiB",
+        workload: Workload::Read(Transfer::Block),
+    },
+    Kind {
+        name: "write4k",
+        title: "WRITE of 4 KiB",
+        workload: Workload::Write(Transfer::Block),
+    },
+    Kind {
+        name: "create",
+        title: "CREATE and REMOVE",
+        workload: Workload::CreateAndRemove,
+    },
+    Kind {
+        name: "readdir",
+        title: "READDIR of 8 KiB",
+        workload: Workload::ReadDirectory,
+    },
+    Kind {
+        name: "read64k",
+        title: "READ of 64 KiB",
+        workload: Workload::Read(Transfer::Full),
+    },
+    Kind {
+        name: "write64k",
+        title: "WRITE of 64 KiB",
+        workload: Workload::Write(Transfer::Full),
+    },
+];

@@ -1,7 +1,8 @@
 //! What is measured.
 
 use crate::calls::records::{GETATTR, READDIR, create, lookup, remove, rename};
-use engine::{Engine, Event};
+use crate::calls::server::Server;
+use engine::Event;
 use nfs_values::{ConnectionNumber, Moment, WorkerNumber};
 
 /// Calls of a kind, or pairs of calls.
@@ -26,78 +27,68 @@ impl Measured {
         Measured::RenameAndBack,
     ];
 
-    /// What they are called.
-    pub fn title(self) -> &'static str {
+    /// The words that name them, behind a number of names.
+    pub fn words(self) -> &'static str {
         match self {
-            Measured::GetAttributes => "GETATTR",
-            Measured::Lookup => "LOOKUP",
-            Measured::CreateAndRemove => "CREATE and REMOVE",
-            Measured::ReadDirectory => "READDIR of 8 KiB",
-            Measured::RenameAndBack => "RENAME and back",
+            Measured::GetAttributes => " names, GETATTR: ",
+            Measured::Lookup => " names, LOOKUP: ",
+            Measured::CreateAndRemove => " names, CREATE and REMOVE: ",
+            Measured::ReadDirectory => " names, READDIR of 8 KiB: ",
+            Measured::RenameAndBack => " names, RENAME and back: ",
         }
     }
 }
 
-/// Has the engine's first worker answer a record on its first connection.
-fn answer(engine: &mut Engine, record: &[u8]) {
-    engine.run(&[
-        Event::Feed {
-            connection: ConnectionNumber(0),
-            bytes: record,
-        },
-        Event::Begin {
-            worker: WorkerNumber(0),
-            place: 0,
-            moment: Moment::START,
-        },
-        Event::Work {
-            worker: WorkerNumber(0),
-        },
-        Event::Finish {
-            worker: WorkerNumber(0),
-        },
-    ]);
+/// Has the first worker begin a call, work and finish it.
+const TURN: [Event<'static>; 3] = [
+    Event::Begin {
+        worker: WorkerNumber(0),
+        place: 0,
+        moment: Moment::START,
+    },
+    Event::Work {
+        worker: WorkerNumber(0),
+    },
+    Event::Finish {
+        worker: WorkerNumber(0),
+    },
+];
+
+/// Has a server's first worker answer a record on its first connection.
+fn answer(server: &mut impl Server, record: &[u8]) {
+    server.take(&[Event::Feed {
+        connection: ConnectionNumber(0),
+        bytes: record,
+    }]);
+    server.take(&TURN);
 }
 
 /// The same of a call that moves, twice at most.
-pub fn answer_moved(engine: &mut Engine, record: &[u8]) {
-    answer(engine, record);
-    for _move in 0..2 {
-        engine.run(&[
-            Event::Begin {
-                worker: WorkerNumber(0),
-                place: 0,
-                moment: Moment::START,
-            },
-            Event::Work {
-                worker: WorkerNumber(0),
-            },
-            Event::Finish {
-                worker: WorkerNumber(0),
-            },
-        ]);
-    }
+pub fn answer_moved(server: &mut impl Server, record: &[u8]) {
+    answer(server, record);
+    server.take(&TURN);
+    server.take(&TURN);
 }
 
 /// Makes the file of a number in the root.
-pub fn make_file(engine: &mut Engine, number: u32) {
-    answer(engine, &create(number));
+pub fn make_file(server: &mut impl Server, number: u32) {
+    answer(server, &create(number));
 }
 
 /// Makes a call of a kind, or two, in a root that has the names of the numbers below one.
-pub fn make_call(engine: &mut Engine, measured: Measured, names: u32, turn: u32) {
+pub fn make_call(server: &mut impl Server, measured: Measured, names: u32, turn: u32) {
     let there = turn % names.max(1);
     match measured {
-        Measured::GetAttributes => answer(engine, &GETATTR),
-        Measured::Lookup => answer(engine, &lookup(there)),
+        Measured::GetAttributes => answer(server, &GETATTR),
+        Measured::Lookup => answer(server, &lookup(there)),
         Measured::CreateAndRemove => {
-            answer(engine, &create(names));
-            answer(engine, &remove(names));
+            answer(server, &create(names));
+            answer(server, &remove(names));
         }
-        Measured::ReadDirectory => answer(engine, &READDIR),
+        Measured::ReadDirectory => answer(server, &READDIR),
         Measured::RenameAndBack => {
-            answer(engine, &rename(there, names));
-            answer(engine, &rename(names, there));
+            answer(server, &rename(there, names));
+            answer(server, &rename(names, there));
         }
     }
 }

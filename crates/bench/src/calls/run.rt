@@ -1,12 +1,14 @@
 //! How long a call takes in an engine.
 
-ghost use Rattle.std.specs.Prelude.{◌≤◌, ◌<◌};
+ghost use Rattle.std.specs.Prelude.{◌≤◌};
 
+use crate::calls::names;
 use crate::calls::records::GETATTR;
-use affinity_tree::{AggregateSpec, Layout, VolumeSpec};
-use engine::{Engine, Event};
+use crate::calls::server::{LARGEST, Server, opened};
+use crate::printing::print_figures;
+use affinity_tree::VolumeSpec;
+use engine::Event;
 use nfs_values::{ConnectionNumber, Moment, WorkerNumber};
-use std::alloc::{AllocError, Global};
 use std::io;
 use std::rt::Clock;
 use std::time::Instant;
@@ -20,48 +22,52 @@ const CALLS: u32 = 100;
 /// Where the last byte of the volume's number stands in GETATTR.
 const VOLUME: usize = 51;
 
-const AGGREGATE: AggregateSpec = AggregateSpec { spare: 128 };
-
-/// A volume with all that one may have.
-const LARGEST: VolumeSpec = VolumeSpec {
-    aggregate: 0,
-    ranges: 16,
-    stripes: 16,
-    mib: 64,
-};
-
-/// Has the engine answer calls, and tells how many nanoseconds one took.
+/// Has a server answer calls, and tells how many nanoseconds one took.
 fn nanoseconds_each(
     rt: &impl Clock,
-    engine: &mut Engine,
+    server: &mut impl Server,
     call: &[Event<'_>],
     count: u32,
 ) -> io::Result<u64> {
     let start = Instant::now(rt)?;
     for _call in 0..count {
-        engine.run(call);
+        server.take(call);
     }
     let each = start.elapsed(rt)?.as_nanos() / u128::from(count.max(1));
     Ok(u64::try_from(each).unwrap_or(u64::MAX))
 }
 
 /// The same of the fastest pass.
-fn fastest(rt: &impl Clock, engine: &mut Engine, call: &[Event<'_>]) -> io::Result<u64> {
+fn fastest(rt: &impl Clock, server: &mut impl Server, call: &[Event<'_>]) -> io::Result<u64> {
     let mut least = u64::MAX;
     for _pass in 0..PASSES {
-        least = least.min(nanoseconds_each(rt, engine, call, CALLS)?);
+        least = least.min(nanoseconds_each(rt, server, call, CALLS)?);
     }
     Ok(least)
 }
 
-/// Measures calls on a volume that a worker runs, and prints their line.
-fn measure_calls(
-    rt: &(impl Clock + Print),
-    engine: &mut Engine,
+/// How many nanoseconds a call takes in the fastest pass at first, on average, and in the fastest
+/// pass at last.
+fn time_calls(
+    rt: &impl Clock,
+    server: &mut impl Server,
+    call: &[Event<'_>],
+    count: u32,
+) -> io::Result<[u64; 3]> {
+    let first = fastest(rt, server, call)?;
+    let average = nanoseconds_each(rt, server, call, count)?;
+    let last = fastest(rt, server, call)?;
+    Ok([first, average, last])
+}
+
+/// The same of calls on a volume that a worker runs.
+fn time_calls_on(
+    rt: &impl Clock,
+    server: &mut impl Server,
     volume: u8,
     worker: WorkerNumber,
     count: u32,
-) -> io::Result<()> {
+) -> io::Result<[u64; 3]> {
     let mut record = GETATTR;
     record[VOLUME] = volume;
     let call = [
@@ -77,26 +83,34 @@ fn measure_calls(
         Event::Work { worker },
         Event::Finish { worker },
     ];
-    let first = fastest(rt, engine, &call)?;
-    let average = nanoseconds_each(rt, engine, &call, count)?;
-    let last = fastest(rt, engine, &call)?;
-    let (finished, written) = (engine.finished().len(), engine.output(0).len());
-    print!(rt; "{first} ns a call at first, {average} on average, {last} at last, ")?;
-    println!(rt; "{finished} finished, {written} bytes written")
+    time_calls(rt, server, &call, count)
 }
 
-/// An engine with an open connection.
-fn opened(alloc: Global, volumes: &[VolumeSpec], workers: usize) -> Result<Engine, AllocError>
-    requires some { 1 ≤ workers }
-    requires most { workers ≤ 64 }
-{
-    let layout = Layout::new(alloc, &[AGGREGATE], volumes).map_err(|_fault| AllocError)?;
-    Engine::play(alloc, layout, [0; 8], workers, &[Event::Open])
+/// Measures calls on a volume that a worker runs, and prints their line behind its begin.
+fn measure_calls(
+    rt: &(impl Clock + Print),
+    server: &mut impl Server,
+    begin: &str,
+    volume: u8,
+    worker: WorkerNumber,
+    count: u32,
+) -> io::Result<()> {
+    let [first, average, last] = time_calls_on(rt, server, volume, worker, count)?;
+    let (finished, written) = server.progress();
+    let figures = [
+        ("", first as u128),
+        (" ns a call at first, ", average as u128),
+        (" on average, ", last as u128),
+        (" at last, ", finished as u128),
+        (" finished, ", written as u128),
+    ];
+    print_figures(rt, begin, &figures, " bytes written")
 }
 
-/// Measures calls on the last volume of a layout, run by the last worker.
+/// The same on the last volume of a layout, run by the last worker.
 fn measure<R: Clock + Print + AllocGlobal>(
     rt: &R,
+    begin: &str,
     volumes: &[VolumeSpec],
     last_volume: u8,
     workers: usize,
@@ -105,21 +119,17 @@ fn measure<R: Clock + Print + AllocGlobal>(
     requires some { 1 ≤ workers }
     requires most { workers ≤ 64 }
 {
-    let mut engine = opened(rt.alloc(), volumes, workers)?;
-    measure_calls(
-        rt,
-        &mut engine,
-        last_volume,
-        WorkerNumber(workers - 1),
-        count,
-    )
+    let mut engine = opened(rt.alloc(), 128, volumes, workers)?;
+    let worker = WorkerNumber(workers - 1);
+    measure_calls(rt, &mut engine, begin, last_volume, worker, count)
 }
 
 /// Measures a small layout with one worker, and the last volume of the largest, with the last of
-/// the most workers.
+/// the most workers; then calls on names.
 pub fn run<R: Clock + Print + AllocGlobal>(rt: &R, count: u32) -> io::Result<()> {
-    print!(rt; "1 volume of 8 stripes, 1 worker: ")?;
-    measure(rt, &[VolumeSpec::new(0, 1)], 0, 1, count)?;
-    print!(rt; "8 volumes of 16 stripes, 64 workers: ")?;
-    measure(rt, &[LARGEST; 8], 7, 64, count)
+    let small = "1 volume of 8 stripes, 1 worker: ";
+    measure(rt, small, &[VolumeSpec::new(0, 1)], 0, 1, count)?;
+    let large = "8 volumes of 16 stripes, 64 workers: ";
+    measure(rt, large, &[LARGEST; 8], 7, 64, count)?;
+    names::run(rt, count.min(10_000))
 }

@@ -12,20 +12,29 @@ use std::alloc::{AllocError, Global};
 /// How many bytes a measured READ or WRITE has.
 const DATA: usize = 65_536;
 
-/// The head of a NULL call, as a record (RFC 5531 section 9). What is measured is its head and
-/// the arguments behind it, since the head of a call that isn't served is refused.
-const HEAD: [u32; 10] = [1, 0, 2, 100_003, 3, 0, 0, 0, 0, 0];
-
-/// A handle: its length, volume 0, fileid 1.
-const HANDLE: [u32; 4] = [12, 0, 0, 1];
+/// The head of a NULL call, as a record (RFC 5531 section 9), and a handle: its length, volume 0,
+/// fileid 1. What is measured is the head and the arguments behind it, since the head of a call
+/// that isn't served is refused.
+const HEAD: [u32; 14] = [1, 0, 2, 100_003, 3, 0, 0, 0, 0, 0, 12, 0, 0, 1];
 
 /// A kind of call: the record of one, and a reply to it.
-#[derive(Drop)]
 pub struct Sample {
     pub name: &'static str,
     pub procedure: Procedure,
     pub record: Vec<u8>,
     pub reply: Reply,
+}
+
+// By hand, so that only this is told of all that a reply may own.
+impl Drop for Sample {
+    fn drop(self) {
+        let Sample {
+            name: _,
+            procedure: _,
+            record: _,
+            reply: _,
+        } = self;
+    }
 }
 
 /// Words as bytes, the highest byte first.
@@ -36,15 +45,20 @@ fn push_words(out: &mut Vec<u8>, words: &[u32]) -> Result<(), AllocError> {
     Ok(())
 }
 
-/// A record of these arguments, behind its head.
-fn record(alloc: Global, arguments: &[u32], data: usize) -> Result<Vec<u8>, AllocError> {
-    let mut out = Vec::new(alloc);
-    push_words(&mut out, &HEAD)?;
-    push_words(&mut out, &HANDLE)?;
-    push_words(&mut out, arguments)?;
+/// Writes these arguments, behind their head, and so many bytes of data.
+fn put_record(out: &mut Vec<u8>, arguments: &[u32], data: usize) -> Result<(), AllocError> {
+    push_words(out, &HEAD)?;
+    push_words(out, arguments)?;
     for _byte in 0..data {
         out.push(7)?;
     }
+    Ok(())
+}
+
+/// A record of these.
+fn record(alloc: Global, arguments: &[u32], data: usize) -> Result<Vec<u8>, AllocError> {
+    let mut out = Vec::new(alloc);
+    put_record(&mut out, arguments, data)?;
     Ok(out)
 }
 

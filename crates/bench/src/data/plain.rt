@@ -74,10 +74,15 @@ impl PlainOverwrites {
     }
 }
 
-/// Copies bytes over a block, where they are as many.
-fn copy_over(block: &mut PlainBlock, written: &[u8]) {
-    if written.len() == BLOCK_BYTES {
-        block[..].copy_from_slice(written);
+/// Copies bytes over blocks, a block's at a time.
+fn copy_over(blocks: &mut [PlainBlock], written: &[u8]) {
+    let mut written = written;
+    for block in blocks {
+        if written.len() >= BLOCK_BYTES {
+            let (here, rest) = written.split_at(BLOCK_BYTES);
+            block[..].copy_from_slice(here);
+            written = rest;
+        }
     }
 }
 
@@ -86,9 +91,7 @@ impl Work for PlainOverwrites {
         let mut done = 0_u64;
         let at_once = (self.written.len() / BLOCK_BYTES).max(1);
         for blocks in self.blocks.chunks_mut(at_once) {
-            for (block, written) in blocks.iter_mut().zip(self.written.chunks(BLOCK_BYTES)) {
-                copy_over(block, written);
-            }
+            copy_over(blocks, &self.written);
             done = done.wrapping_add(1);
         }
         Ok(done)

@@ -3,6 +3,7 @@
 use crate::calls::appends;
 use crate::data::copies::{Reads, Writes};
 use crate::data::plain::{PlainOverwrites, PlainReads};
+use crate::printing::print_figures;
 use crate::work::measure_beside;
 use std::alloc::Global;
 use std::io;
@@ -10,7 +11,7 @@ use std::rt::Clock;
 
 /// Measures READs and WRITEs of so many bytes.
 fn measure<R: Clock + Print>(rt: &R, alloc: Global, count: u32, passes: u32) -> io::Result<()> {
-    println!(rt; "{count} bytes:")?;
+    print_figures(rt, "", &[("", count as u128)], " bytes:")?;
     let size = count as usize;
     let (reads, plain) = (Reads::new(alloc, count), PlainReads::new(alloc, size));
     measure_beside(rt, "READ", reads, plain, passes)?;

@@ -2,8 +2,8 @@
 
 use crate::grants::crew::{Crew, NAMES, STRIPES, depot_pass};
 use crate::grants::lock::additions;
+use crate::printing::{print_figures, print_ratio};
 use crate::rates::per_second;
-use crate::ratio::print_ratio;
 use affinity_tree::Affinity;
 use std::io;
 use std::rt::Clock;
@@ -20,8 +20,8 @@ fn lock_pass<R: Clock + AllocGlobal + Threads + Wait + Sync>(
     crew: Crew,
     count: u32,
 ) -> io::Result<u64> {
-    let numbers = Mutex::new([0; 4]);
     let start = Instant::now(rt)?;
+    let numbers = Mutex::new([0; 4]);
     additions(rt, rt.alloc(), &numbers, crew.size() as usize, count)?;
     let time = start.elapsed(rt)?;
     Ok(per_second(crew.size() * u64::from(count), time))
@@ -63,9 +63,27 @@ fn print_rates(
     finished: u64,
     added: u64,
 ) -> io::Result<()> {
-    println!(rt; "{name}, threads {threads}, {granted} granted: {finished} a second")?;
-    println!(rt; "under a lock: {added} a second")?;
+    let figures = [
+        (", threads ", threads as u128),
+        (", ", granted as u128),
+        (" granted: ", finished as u128),
+    ];
+    print_figures(rt, name, &figures, " a second")?;
+    print_figures(rt, "under a lock", &[(": ", added as u128)], " a second")?;
     print_ratio(rt, finished, added)
+}
+
+/// Measures one kind of node with each crew.
+fn measure_crews<R: Clock + Print + AllocGlobal + Threads + Wait + Sync>(
+    rt: &R,
+    name: &str,
+    nodes: [Affinity; 4],
+    count: u32,
+) -> io::Result<()> {
+    for crew in Crew::ALL {
+        measure(rt, name, crew, nodes, count)?;
+    }
+    Ok(())
 }
 
 /// Measures stripes, and then the names of volumes.
@@ -73,10 +91,6 @@ pub fn run<R: Clock + Print + AllocGlobal + Threads + Wait + Sync>(
     rt: &R,
     count: u32,
 ) -> io::Result<()> {
-    for (name, nodes) in [("Stripe", STRIPES), ("Volume Logical", NAMES)] {
-        for crew in Crew::ALL {
-            measure(rt, name, crew, nodes, count)?;
-        }
-    }
-    Ok(())
+    measure_crews(rt, "Stripe", STRIPES, count)?;
+    measure_crews(rt, "Volume Logical", NAMES, count)
 }

@@ -1,5 +1,6 @@
 //! The memory of empty files.
 
+use crate::printing::print_figures;
 use crate::state::finds::{add, name};
 use crate::state::gets::create_file;
 use directories::Directory;
@@ -87,5 +88,6 @@ pub fn measure<R: Files + Print + AllocGlobal>(rt: &R, length: usize) -> io::Res
     mem::forget(volume);
     filled?;
     let each = resident(rt)?.saturating_sub(before) / u64::from(FILES);
-    println!(rt; "an empty file with a name of {length} bytes: {each} bytes")
+    let figures = [(" of ", length as u128), (" bytes: ", each as u128)];
+    print_figures(rt, "an empty file with a name", &figures, " bytes")
 }
