@@ -77,7 +77,60 @@ fn calls(depot: &Depot<Adding>, seat: Seat<Adding>, affinity: Affinity, count: u
 }
 
 /// So many calls by each of two threads, each with a seat and a node of its own. How many were
-/// granted; nothing where no split is left.
+/// granted.
+fn two_threads<R: Threads + Sync>(
+    rt: &R,
+    depot: &Depot<Adding>,
+    first: Seat<Adding>,
+    second: Seat<Adding>,
+    nodes: [Affinity; 2],
+    count: u32,
+) -> u64
+    requires first { IsSeatHere depot.now first }
+    requires second { IsSeatHere depot.now second }
+{
+    let [here, there] = nodes;
+    let (one, other) = thread::join(
+        rt,
+        move || calls(depot, first, here, count),
+        move || calls(depot, second, there, count),
+    );
+    u64::from(one) + u64::from(other)
+}
+
+/// So many calls by each of four threads, each with a seat and a node of its own. How many were
+/// granted.
+fn four_threads<R: Threads + Sync>(
+    rt: &R,
+    depot: &Depot<Adding>,
+    first: Seat<Adding>,
+    second: Seat<Adding>,
+    third: Seat<Adding>,
+    fourth: Seat<Adding>,
+    nodes: [Affinity; 4],
+    count: u32,
+) -> u64
+    requires first { IsSeatHere depot.now first }
+    requires second { IsSeatHere depot.now second }
+    requires third { IsSeatHere depot.now third }
+    requires fourth { IsSeatHere depot.now fourth }
+{
+    let [one, two, three, four] = nodes;
+    let (here, there) = thread::join(
+        rt,
+        move || -> u64
+            requires first { IsSeatHere depot.now first }
+            requires second { IsSeatHere depot.now second }
+        { two_threads(rt, depot, first, second, [one, two], count) },
+        move || -> u64
+            requires third { IsSeatHere depot.now third }
+            requires fourth { IsSeatHere depot.now fourth }
+        { two_threads(rt, depot, third, fourth, [three, four], count) },
+    );
+    here.saturating_add(there)
+}
+
+/// The calls of two threads. Nothing where no split is left.
 fn by_two<R: Threads + Sync>(
     rt: &R,
     depot: &Depot<Adding>,
@@ -87,17 +140,11 @@ fn by_two<R: Threads + Sync>(
 ) -> Option<u64>
     requires seat { IsSeatHere depot.now seat }
 {
-    let [here, there] = nodes;
     let (first, second) = split(depot, seat)?;
-    let (one, other) = thread::join(
-        rt,
-        move || calls(depot, first, here, count),
-        move || calls(depot, second, there, count),
-    );
-    Some(u64::from(one) + u64::from(other))
+    Some(two_threads(rt, depot, first, second, nodes, count))
 }
 
-/// The same by each of four threads.
+/// The calls of four threads. Nothing where no split is left.
 fn by_four<R: Threads + Sync>(
     rt: &R,
     depot: &Depot<Adding>,
@@ -107,18 +154,10 @@ fn by_four<R: Threads + Sync>(
 ) -> Option<u64>
     requires seat { IsSeatHere depot.now seat }
 {
-    let [one, two, three, four] = nodes;
     let (first, second) = split(depot, seat)?;
-    let (here, there) = thread::join(
-        rt,
-        move || -> Option<u64>
-            requires first { IsSeatHere depot.now first }
-        { by_two(rt, depot, first, [one, two], count) },
-        move || -> Option<u64>
-            requires second { IsSeatHere depot.now second }
-        { by_two(rt, depot, second, [three, four], count) },
-    );
-    Some(here?.saturating_add(there?))
+    let (first, third) = split(depot, first)?;
+    let (first, fourth) = split(depot, first)?;
+    Some(four_threads(rt, depot, first, second, third, fourth, nodes, count))
 }
 
 /// So many calls by each thread of a crew, each on its node. How many were granted; nothing where

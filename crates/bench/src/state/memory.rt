@@ -79,14 +79,18 @@ fn resident<R: Files + AllocGlobal>(rt: &R) -> io::Result<u64> {
     }
 }
 
-/// Prints how much memory the process takes for an empty file whose name has so many bytes. The
-/// files stay to the end of the process.
+/// Makes a volume with all files, which stay to the end of the process.
+fn make_volume(alloc: Global, length: usize) -> Result<(), AllocError> {
+    let mut volume = Volume::new(alloc)?;
+    let filled = fill(&mut volume, alloc, length);
+    mem::forget(volume);
+    filled
+}
+
+/// Prints how much memory the process takes for an empty file whose name has so many bytes.
 pub fn measure<R: Files + Print + AllocGlobal>(rt: &R, length: usize) -> io::Result<()> {
     let before = resident(rt)?;
-    let mut volume = Volume::new(rt.alloc())?;
-    let filled = fill(&mut volume, rt.alloc(), length);
-    mem::forget(volume);
-    filled?;
+    make_volume(rt.alloc(), length)?;
     let each = resident(rt)?.saturating_sub(before) / u64::from(FILES);
     let figures = [(" of ", length as u128), (" bytes: ", each as u128)];
     print_figures(rt, "an empty file with a name", &figures, " bytes")
