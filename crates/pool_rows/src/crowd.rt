@@ -13,6 +13,7 @@ use crate::running::{Running, start};
 use bells::Bells;
 use nfs_values::ConnectionNumber;
 use std::alloc::Global;
+use std::process::Abort;
 use std::rt::Clock;
 use std::sync::Wait;
 use std::thread;
@@ -135,38 +136,34 @@ struct Came {
 }
 
 /// Runs it all with so many threads.
-fn run<R>(rt: R, alloc: Global, threads: usize) -> Option<Came>
+fn run<R>(rt: R, alloc: Global, threads: usize) -> Came
 where
-    R: Threads + Wait + Clock + Copy + Drop + Send + Sync + 'static,
+    R: Abort + Threads + Wait + Clock + Copy + Drop + Send + Sync + 'static,
     requires some { 0 < threads }
     requires fit { threads ≤ 64 }
 {
-    let Ok(opened) = open(alloc) else {
-        return None;
-    };
-    let running = start(rt, opened, &Unwatched, threads)?;
-    let one = connect(&rt, &running.filer)?;
-    let other = connect(&rt, &running.filer)?;
+    let opened = open(alloc).expect(&rt, "no memory");
+    let running = start(rt, opened, &Unwatched, threads).expect(&rt, "no thread");
+    let one = connect(&rt, &running.filer).expect(&rt, "no connection");
+    let other = connect(&rt, &running.filer).expect(&rt, "no connection");
     let (running, put) = put_both(&rt, alloc, running, one, other);
-    let Ok(stopped) = stop(&rt, alloc, running) else {
-        return None;
-    };
+    let stopped = stop(&rt, alloc, running);
     let most = EACH as usize + 1;
     let answered = replies(&rt, &stopped.filer, one, most)
         + replies(&rt, &stopped.filer, other, most);
-    let ended = end(stopped)?;
-    Some(Came {
+    let ended = end(stopped).expect(&rt, "the filer is shared");
+    Came {
         put: put as usize,
         answered,
         left: ended.kept.len() + ended.waiting.len(),
-    })
+    }
 }
 
 #[test]
 fn all_that_is_put_is_answered_or_left(rt: HostRuntime) {
     for threads in 1..5usize {
-        let came = run(rt, rt.alloc(), threads).expect(&rt, "no memory, or no thread");
-        assert_eq!(rt; came.put, 3000);
-        assert_eq!(rt; came.put.checked_sub(came.answered), Some(came.left));
+        let came = run(rt, rt.alloc(), threads);
+        assert!(rt; came.put == 3000 && came.answered <= 3000);
+        assert!(rt; came.put == came.answered.saturating_add(came.left));
     }
 }

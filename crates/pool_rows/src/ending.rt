@@ -1,13 +1,13 @@
 //! The end of a filer.
 
-ghost use Rattle.std.specs.Prelude.{IfOk};
 ghost use Rattle.std.specs.Arc.{arc_value};
 ghost use Rattle.pool.specs.Gathered.{IsLeftOf};
 ghost use Rattle.pool_rows.specs.Threads.{IsRunning};
 
 use crate::running::Running;
 use pool::{Ended, Left, Room, close, gather};
-use std::alloc::{AllocError, Global};
+use std::alloc::Global;
+use std::process::Abort;
 use std::sync::{Arc, Wait};
 use std::thread::Threads;
 use workers::Filer;
@@ -20,13 +20,9 @@ pub(crate) struct Stopped {
 }
 
 /// Stops the workers, and gathers what is left.
-pub(crate) fn stop<R: Threads + Wait>(
-    rt: &R,
-    alloc: Global,
-    running: Running,
-) -> Result<Stopped, AllocError>
+pub(crate) fn stop<R: Abort + Threads + Wait>(rt: &R, alloc: Global, running: Running) -> Stopped
     requires { IsRunning (arc_value running.filer) running.pool running.first running.second }
-    ensures { IfOk result (λ stopped. IsLeftOf (arc_value stopped.filer) stopped.left) }
+    ensures { IsLeftOf (arc_value result.filer) result.left }
 {
     let Running {
         filer,
@@ -36,9 +32,10 @@ pub(crate) fn stop<R: Threads + Wait>(
         second,
     } = running;
     let workers = pool.stop(rt);
-    let passes = vec![in alloc; first, second]?;
-    let left = gather(&filer, rt, workers, passes, Room::new(alloc)?);
-    Ok(Stopped { filer, left })
+    let passes = vec![in alloc; first, second].expect(rt, "no memory");
+    let room = Room::new(alloc).expect(rt, "no memory");
+    let left = gather(&filer, rt, workers, passes, room);
+    Stopped { filer, left }
 }
 
 /// Closes a filer, where none else has it.

@@ -11,6 +11,7 @@ use bells::Bells;
 use nfs_values::{Call, ConnectionNumber};
 use outboxes::Record;
 use std::alloc::{AllocError, Global};
+use std::process::Abort;
 use std::rt::Clock;
 use std::sync::atomic::{AtomicBool, Ordering};
 use std::sync::{Arc, Wait};
@@ -81,7 +82,7 @@ impl Gate for Latch {
 }
 
 /// What came of the two calls.
-#[derive(Clone, Copy, Debug, PartialEq)]
+#[derive(Clone, Copy, PartialEq)]
 struct Came {
     was_beside: bool,
     read: bool,
@@ -109,19 +110,26 @@ fn make_file<R: Wait>(
     awaited(rt, filer, connection)
 }
 
+/// Whether the next reply that comes is a good one.
+fn is_come<R: Abort + Wait>(rt: &R, filer: &Filer, connection: ConnectionNumber) -> bool {
+    is_ok(&awaited(rt, filer, connection).expect(rt, "no reply"))
+}
+
 /// Reads a file of volume 0, and in the midst of that asks for the attributes of volume 1's root.
-fn meet<R: Wait>(
+fn meet<R: Abort + Wait>(
     rt: &R,
     alloc: Global,
     filer: &Filer,
     bells: &Bells,
     mut pass: FilerPass,
     seen: &Seen,
-) -> Option<Came>
+) -> Came
     requires { IsReaderOf filer.now pass }
 {
-    let (one, other) = (connect(rt, filer)?, connect(rt, filer)?);
-    make_file(rt, alloc, filer, bells, &mut pass, one)?;
+    let one = connect(rt, filer).expect(rt, "no connection");
+    let other = connect(rt, filer).expect(rt, "no connection");
+    let made = make_file(rt, alloc, filer, bells, &mut pass, one);
+    drop(made.expect(rt, "no file"));
     let read = Call::Read {
         handle: handle(0, 2),
         offset: 0,
@@ -135,31 +143,29 @@ fn meet<R: Wait>(
     };
     let origin = record_of(other, BESIDE);
     put(rt, alloc, filer, bells, &mut pass, origin, get);
-    let got = awaited(rt, filer, other)?;
-    let read = awaited(rt, filer, one)?;
-    Some(Came {
+    let got = is_come(rt, filer, other);
+    let read = is_come(rt, filer, one);
+    Came {
         was_beside: seen.was_beside.load(Ordering::SeqCst),
-        read: is_ok(&read),
-        got: is_ok(&got),
-    })
+        read,
+        got,
+    }
 }
 
 /// Runs it with two workers.
-fn run<R>(rt: R, alloc: Global) -> Option<Came>
+fn run<R>(rt: R, alloc: Global) -> Came
 where
-    R: Threads + Wait + Clock + Copy + Drop + Send + 'static,
+    R: Abort + Threads + Wait + Clock + Copy + Drop + Send + 'static,
 {
-    let latch = Latch::new(alloc).ok()?;
-    let Ok(opened) = open(alloc) else {
-        return None;
-    };
+    let latch = Latch::new(alloc).expect(&rt, "no memory");
+    let opened = open(alloc).expect(&rt, "no memory");
     let Running {
         filer,
         bells,
         pool,
         first,
         second: _,
-    } = start(rt, opened, &latch, 2)?;
+    } = start(rt, opened, &latch, 2).expect(&rt, "no thread");
     let came = meet(&rt, alloc, &filer, &bells, first, &latch.seen);
     let _workers = pool.stop(&rt);
     came
@@ -172,5 +178,5 @@ fn a_call_ends_in_the_midst_of_another(rt: HostRuntime) {
         read: true,
         got: true,
     };
-    assert_eq!(rt; run(rt, rt.alloc()), Some(wanted));
+    assert!(rt; run(rt, rt.alloc()) == wanted);
 }

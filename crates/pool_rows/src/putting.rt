@@ -38,9 +38,15 @@ fn message_of(alloc: Global, filer: &Filer, origin: Origin, call: Call) -> Optio
     ensures { IfSome result (IsPlaced (layout_in filer.now)) }
 {
     let layout = filer.depot().layout();
-    let affinity = home_of(&call, layout)?;
+    let Some(affinity) = home_of(&call, layout) else {
+        drop(call);
+        return None;
+    };
     let bytes = room_of_reply(&call, layout.volume_count() as u32);
-    let room = Room::new(alloc, bytes).ok()?;
+    let Ok(room) = Room::new(alloc, bytes) else {
+        drop(call);
+        return None;
+    };
     Some(Message {
         origin,
         call,

@@ -16,6 +16,11 @@ pub(crate) fn connect<R: Wait>(rt: &R, filer: &Filer) -> Option<ConnectionNumber
     filer.outboxes().lock(rt).open().ok()
 }
 
+/// The reply that waits longest for a connection. It is taken.
+pub(crate) fn taken<R: Wait>(rt: &R, filer: &Filer, connection: ConnectionNumber) -> Option<Record> {
+    filer.outboxes().lock(rt).take(connection)
+}
+
 /// How many replies wait for a connection, counted up to so many. They are taken.
 pub(crate) fn replies<R: Wait>(
     rt: &R,
@@ -26,8 +31,9 @@ pub(crate) fn replies<R: Wait>(
     ensures { result ≤ most }
 {
     for count in 0..most {
-        if filer.outboxes().lock(rt).take(connection).is_none() {
-            return count;
+        match taken(rt, filer, connection) {
+            Some(record) => drop(record),
+            None => return count,
         }
     }
     most
@@ -40,9 +46,9 @@ pub(crate) fn awaited<R: Wait>(
     connection: ConnectionNumber,
 ) -> Option<Record> {
     for _ in 0..LOOKS {
-        let taken = filer.outboxes().lock(rt).take(connection);
-        if taken.is_some() {
-            return taken;
+        let next = taken(rt, filer, connection);
+        if next.is_some() {
+            return next;
         }
         thread::yield_now();
     }

@@ -4,7 +4,7 @@ use affinity_tree::Affinity;
 use nfs_values::ConnectionNumber;
 
 /// What came of a turn whose answer was put.
-#[derive(Clone, Copy, Debug, PartialEq)]
+#[derive(Clone, Copy, PartialEq)]
 pub(crate) enum Came {
     /// A call of this connection and xid is finished.
     Done(ConnectionNumber, u32),

@@ -5,6 +5,7 @@ ghost use Rattle.workers.specs.Running.{IsRun};
 use crate::calls::{UNSET, handle};
 use crate::opening::open_filer;
 use crate::putting::record_of;
+use crate::replies::taken;
 use crate::turns::came::Came;
 use crate::turns::filer_worker::FilerWorker;
 use crate::turns::looking::{Looking, Met};
@@ -17,7 +18,6 @@ use nfs_values::{
     Call, ConnectionNumber, CreateMode, Moment, Name, SetAttributes, Target, VolumeNumber,
 };
 use scheduler::Origin;
-use std::fmt::Debug;
 use std::mem;
 use std::process::Abort;
 use std::sync::{Mutex, Wait};
@@ -40,8 +40,8 @@ fn in_root(rt: &(impl Abort + AllocGlobal), name: &[u8]) -> Target {
 }
 
 /// Looks whether this is what is wanted.
-fn same<T: PartialEq + Debug>(rt: &impl Abort, found: &T, wanted: &T) {
-    assert_eq!(rt; found, wanted);
+fn same<T: PartialEq>(rt: &impl Abort, found: &T, wanted: &T) {
+    assert!(rt; found == wanted);
 }
 
 /// Opens a connection.
@@ -57,10 +57,9 @@ fn answered<R: Abort + AllocGlobal + Wait>(
     connection: ConnectionNumber,
     words: &[&[u32]],
 ) {
-    let taken = filer.outboxes().lock(rt).take(connection);
-    let record = taken.expect(rt, "no record");
+    let record = taken(rt, filer, connection).expect(rt, "no record");
     let wanted = bytes_of(rt, words);
-    assert_eq!(rt; record.as_slice(), &wanted[..]);
+    assert!(rt; record.as_slice() == &wanted[..]);
 }
 
 /// Puts a call, and lets a worker finish it in one turn.
@@ -118,7 +117,7 @@ fn created<'a, R: Abort + AllocGlobal + Wait>(
         mode: CreateMode::Unchecked(UNSET),
     };
     let worker = served(rt, worker, reader, record_of(connection, 1), at(1), call);
-    drop(worker.filer.outboxes().lock(rt).take(connection));
+    drop(taken(rt, worker.filer, connection));
     worker
 }
 
