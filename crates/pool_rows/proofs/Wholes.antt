@@ -1,5 +1,5 @@
 -- What a filer's workers and two who put messages have together.
-use Rattle.std.proofs.Common.{◌≡◌, ◌≤◌, ◌∙◌, ℕ, zero, suc, ◌+◌, ◌*◌, ◌-◌, ◌^◌, [], All, ap, subst, sym, arith}
+use Rattle.std.proofs.Common.{◌≡◌, ◌≤◌, ◌∙◌, ℕ, zero, suc, ◌+◌, ◌*◌, ◌-◌, ◌^◌, [], All, ap, sym, arith}
 use Rattle.std.proofs.lemmas.Nat.{pow-add}
 use Rattle.std.specs.Prelude.{Option, Some, option_map}
 use Rattle.affinity_tree.specs.declared.layout.Layout.{Layout}
@@ -12,11 +12,10 @@ use Rattle.pool.specs.declared.pool.Pool.{Pool}
 use Rattle.shared_waiting.specs.Balance.{left, right, part, IsWhole}
 use Rattle.shared_waiting.specs.Passes.{known, IsOf}
 use Rattle.workers.specs.Balance.{Passed}
-use Rattle.workers.specs.Turns.{HasShareOf}
 use Rattle.workers.specs.Words.{layout_in, layout_known, passed, seats_in, IsIn}
 use Rattle.workers.specs.declared.shared.Filer.{Filer}
 use Rattle.workers.specs.declared.worker.Worker.{Worker}
-use Rattle.pool_rows.specs.Threads.{HasPut, IsOpened, IsReaderOf, IsRunning}
+use Rattle.pool_rows.specs.Threads.{IsOpened, IsReaderOf, IsRunning}
 
 -- ---- a pass is cut in two
 
@@ -91,27 +90,5 @@ running filer worker pool first second count o serve seats share =
             let a = share k (omega (arith, le)) in
             let b = o.whole.1 k (omega (arith, le)) in
             omega (arith, a, b),
-      );
-    }
-
-same-part : (k : ℕ) (v w : Passed) → HasShareOf v w → part k w ≡ part k v
-same-part k v w h = ap (λ n. n * 2 ^ (k - w.halvings)) h.0 ∙ ap (λ n. v.share * 2 ^ (k - n)) h.1
-
--- who put messages has the share that it had
-pub put-on : (filer f : Filer) (pool : Pool) (first second first' second' : FilerPass) → f ≡ filer → IsRunning filer pool first second
-    → HasPut f first first' → HasPut f second second' → IsRunning filer pool first' second'
-put-on filer f pool first second first' second' is r one other =
-    record {
-      serve = r.serve;
-      seats = r.seats;
-      one = subst (λ (x : Filer). IsReaderOf x first') is one.reader;
-      other = subst (λ (x : Filer). IsReaderOf x second') is other.reader;
-      whole = (
-        r.whole.0,
-        λ k le.
-            let a = same-part k (known first) (known first') one.share in
-            let b = same-part k (known second) (known second') other.share in
-            let c = r.whole.1 k le in
-            omega (arith, a, b, c),
       );
     }
