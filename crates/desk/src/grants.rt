@@ -8,13 +8,11 @@ ghost use Rattle.depot.specs.Grants.{entry_of, IsEnded, IsFinished, IsRefused};
 ghost use Rattle.depot.specs.Words.{machine_of, layout_in, view, splits_left, IsSeatHere};
 ghost use Rattle.desk_laws.specs.Backing.{IsGranted, CanFinish, CanPutBack};
 ghost use Rattle.desk.specs.Any.{lent_of};
-ghost use Rattle.desk.specs.declared.grant.AnyGrant.TheVariants.{Range, Vbn, Stripe};
-ghost use Rattle.desk.specs.declared.grant.AnyGrant.TheVariants.{Logical, Volume, Aggregate, Serial};
 
-use crate::grant::{AnyGrant, NodeGrant};
+use crate::grant::AnyGrant;
 use crate::kinds::NodeKinds;
 use crate::nodes::{begin_node, finish_node, put_back_node};
-use affinity_tree::{Affinity, HasKind, Kind};
+use affinity_tree::{Affinity, Kind};
 use depot::{Depot, Refusal, Seat};
 use depot_rule::machine::Machine;
 use std::mem;
@@ -28,90 +26,6 @@ fn put<X>(place: &mut Option<X>, something: X)
         None => {}
         Some(_) => unreachable!(),
     }
-}
-
-/// Puts a grant of a range where there is none.
-#[inline(never)]
-fn put_range<T: HasKind, K: NodeKinds<T>>(
-    place: &mut Option<AnyGrant<T, K>>,
-    node: NodeGrant<T, K::Range>,
-)
-    requires { place.old ≡ None }
-    ensures { place.new ≡ Some (Range node) }
-{
-    put(place, AnyGrant::Range(node));
-}
-
-/// Puts a grant of a volume's block numbers where there is none.
-#[inline(never)]
-fn put_vbn<T: HasKind, K: NodeKinds<T>>(
-    place: &mut Option<AnyGrant<T, K>>,
-    node: NodeGrant<T, K::Vbn>,
-)
-    requires { place.old ≡ None }
-    ensures { place.new ≡ Some (Vbn node) }
-{
-    put(place, AnyGrant::Vbn(node));
-}
-
-/// Puts a grant of a stripe where there is none.
-#[inline(never)]
-fn put_stripe<T: HasKind, K: NodeKinds<T>>(
-    place: &mut Option<AnyGrant<T, K>>,
-    node: NodeGrant<T, K::Stripe>,
-)
-    requires { place.old ≡ None }
-    ensures { place.new ≡ Some (Stripe node) }
-{
-    put(place, AnyGrant::Stripe(node));
-}
-
-/// Puts a grant of a volume's names and attributes where there is none.
-#[inline(never)]
-fn put_logical<T: HasKind, K: NodeKinds<T>>(
-    place: &mut Option<AnyGrant<T, K>>,
-    node: NodeGrant<T, K::Logical>,
-)
-    requires { place.old ≡ None }
-    ensures { place.new ≡ Some (Logical node) }
-{
-    put(place, AnyGrant::Logical(node));
-}
-
-/// Puts a grant of a volume where there is none.
-#[inline(never)]
-fn put_volume<T: HasKind, K: NodeKinds<T>>(
-    place: &mut Option<AnyGrant<T, K>>,
-    node: NodeGrant<T, K::Volume>,
-)
-    requires { place.old ≡ None }
-    ensures { place.new ≡ Some (Volume node) }
-{
-    put(place, AnyGrant::Volume(node));
-}
-
-/// Puts a grant of an aggregate where there is none.
-#[inline(never)]
-fn put_aggregate<T: HasKind, K: NodeKinds<T>>(
-    place: &mut Option<AnyGrant<T, K>>,
-    node: NodeGrant<T, K::Aggregate>,
-)
-    requires { place.old ≡ None }
-    ensures { place.new ≡ Some (Aggregate node) }
-{
-    put(place, AnyGrant::Aggregate(node));
-}
-
-/// Puts a grant of the whole tree where there is none.
-#[inline(never)]
-fn put_serial<T: HasKind, K: NodeKinds<T>>(
-    place: &mut Option<AnyGrant<T, K>>,
-    node: NodeGrant<T, K::Serial>,
-)
-    requires { place.old ≡ None }
-    ensures { place.new ≡ Some (Serial node) }
-{
-    put(place, AnyGrant::Serial(node));
 }
 
 /// Begins a call on a node of whichever kind. Its grant is made in an empty place, where it stays,
@@ -137,37 +51,37 @@ pub(crate) fn begin_any<M: Machine, K: NodeKinds<M::Parcel>>(
     match affinity.kind() {
         Kind::Range => {
             let node = begin_node::<M, K::Range>(depot, seat, affinity)?;
-            put_range(place, node);
+            put(place, AnyGrant::Range(node));
             Ok(())
         }
         Kind::VolumeVbn => {
             let node = begin_node::<M, K::Vbn>(depot, seat, affinity)?;
-            put_vbn(place, node);
+            put(place, AnyGrant::Vbn(node));
             Ok(())
         }
         Kind::Stripe => {
             let node = begin_node::<M, K::Stripe>(depot, seat, affinity)?;
-            put_stripe(place, node);
+            put(place, AnyGrant::Stripe(node));
             Ok(())
         }
         Kind::VolumeLogical => {
             let node = begin_node::<M, K::Logical>(depot, seat, affinity)?;
-            put_logical(place, node);
+            put(place, AnyGrant::Logical(node));
             Ok(())
         }
         Kind::Volume => {
             let node = begin_node::<M, K::Volume>(depot, seat, affinity)?;
-            put_volume(place, node);
+            put(place, AnyGrant::Volume(node));
             Ok(())
         }
         Kind::Aggregate => {
             let node = begin_node::<M, K::Aggregate>(depot, seat, affinity)?;
-            put_aggregate(place, node);
+            put(place, AnyGrant::Aggregate(node));
             Ok(())
         }
         Kind::Serial => {
             let node = begin_node::<M, K::Serial>(depot, seat, affinity)?;
-            put_serial(place, node);
+            put(place, AnyGrant::Serial(node));
             Ok(())
         }
     }
