@@ -2,8 +2,8 @@
 
 ghost use Rattle.std.specs.Prelude.{◌≡◌, ◌+◌, ◌≤◌, ◌<◌, ◌^◌, ◌++◌, length, Some, None, vec_len};
 ghost use Rattle.std.specs.Prelude.{vec_capacity};
-ghost use Rattle.xdr.specs.Shape.{Shape, Value, Void, Word, Hyper, Boolean, Pair, Optional, counted};
-ghost use Rattle.xdr.specs.Shape.{padded, spelling};
+ghost use Rattle.xdr.specs.Shape.{Shape, Value, Void, Word, Hyper, Boolean, Pair, Optional};
+ghost use Rattle.xdr.specs.Shape.{counted, padded, spelling};
 ghost use Rattle.nfs_values.specs.Attributes.{kind_of, kind_word, shown_of, before_of, change_of};
 ghost use Rattle.nfs_values.specs.Moment.{moment_of};
 ghost use Rattle.nfs_types.specs.Shapes.{handle_shape, any_bytes, verifier_shape, moment_shape};

@@ -1,6 +1,6 @@
 //! Names.
 
-ghost use Rattle.std.specs.Prelude.{◌≡◌, IfOk};
+ghost use Rattle.std.specs.Prelude.{◌≡◌, ◌≤◌, length, IsOk, IfOk};
 
 use crate::short_name::{MOST_SHORT, ShortName};
 use std::alloc::{AllocError, Global};
@@ -53,7 +53,8 @@ impl Name {
 
     /// The name of these bytes, copied. One of at most 23 bytes takes no memory.
     pub fn copied(alloc: Global, bytes: &[u8]) -> Result<Name, AllocError>
-        ensures { IfOk result (λ name. name ≡ bytes.now) }
+        ensures name { IfOk result (λ name. name ≡ bytes.now) }
+        ensures short { length bytes.now ≤ 23 → IsOk result }
     {
         if bytes.len() > MOST_SHORT {
             let bytes = NameBytes::Long(Vec::from_slice(alloc, bytes)?);

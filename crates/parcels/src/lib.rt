@@ -1,7 +1,8 @@
-//! The parcels of a filer: what each node of the tree holds, and the parcels of a layout as a run
-//! begins.
+//! The parcels of a filer: what each node of the tree holds, the parcels of a layout as a run
+//! begins, and how many ranges a volume has.
 #![tactic(auto)]
 
+mod counting;
 mod directory_map;
 mod files;
 mod logical;
@@ -9,6 +10,7 @@ mod opening;
 mod range;
 mod stripe;
 
+pub use counting::ranges_used;
 pub use directory_map::DirectoryMap;
 pub use files::Files;
 pub use logical::{Logical, LogicalParcel};

@@ -9,7 +9,7 @@ ghost use Rattle.service.specs.Getattr.{TellsAttributes};
 use nfs_values::{Attributes, Fileid, Status, VolumeNumber};
 use parcel_sets::LogicalHeld;
 use parcels::Files;
-use service_renames::{latest_touch, shown};
+use service_renames::shown_now;
 
 /// GETATTR (RFC 1813 section 3.3.1), on the parcels of a volume's names and attributes: the
 /// attributes of the node of a fileid, or STALE where there is none. It takes no memory.
@@ -23,7 +23,7 @@ pub fn get_attributes(
         (logical_before held.now) result (logical_before held.now) }
 {
     match held.own.get().inodes.get(fileid) {
-        Some(inode) => Ok(shown(volume, fileid, inode, latest_touch(held, fileid))),
+        Some(inode) => Ok(shown_now(held, volume, fileid, inode)),
         None => Err(Status::Stale),
     }
 }

@@ -12,8 +12,7 @@ ghost use Rattle.service_counts.specs.Counts.{with_logical, with_set, if_on, in_
 use crate::counts::VolumeCounts;
 use affinity_tree::Layout;
 use parcel_sets::{AggrHeld, LogicalHeld, SerialHeld, VolumeHeld};
-use parcels::Files;
-use volume_counts::ranges_used;
+use parcels::{Files, ranges_used};
 
 /// The blocks of a range.
 pub(crate) const RANGE_BLOCKS: usize = 1024;

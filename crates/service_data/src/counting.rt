@@ -6,8 +6,7 @@ ghost use Rattle.held_state.specs.Sets.{range_value, vbn_set, volume_before};
 ghost use Rattle.held_data.specs.WritingUp.{all_blocks, for_holes, free_count};
 
 use parcel_sets::{RangeHeld, VbnHeld, VolumeHeld};
-use parcels::Files;
-use volume_counts::ranges_used;
+use parcels::{Files, ranges_used};
 
 /// The blocks of a range.
 const RANGE_BLOCKS: u64 = 1024;

@@ -6,8 +6,7 @@ ghost use Rattle.held_state.specs.Promises.{HasVolume};
 ghost use Rattle.held_state.specs.Sets.{logical_before};
 ghost use Rattle.service_names.specs.Promises.{Commits};
 
-use crate::showing::{prior, shown};
-use crate::touches::latest_touch;
+use crate::showing::{prior, shown_now};
 use inodes::InodeKind;
 use nfs_values::{Change, CommitResults, Fileid, Status, VolumeNumber};
 use parcel_sets::LogicalHeld;
@@ -31,7 +30,7 @@ pub fn commit(
     match inode.kind {
         InodeKind::Directory { .. } => Err(Status::Invalid),
         InodeKind::RegularFile { .. } => {
-            let after = shown(volume, fileid, inode, latest_touch(held, fileid));
+            let after = shown_now(held, volume, fileid, inode);
             let before = prior(after);
             Ok(CommitResults {
                 file: Change { before, after },

@@ -39,6 +39,6 @@ pub use naming::{is_same_name, name_fault};
 pub use node::Node;
 pub use removing::{remove, remove_directory};
 pub use setting::set_attributes;
-pub use showing::{prior, shown};
+pub use showing::shown_now;
 pub use sizing::{set_inode, size_file};
-pub use touches::{is_same, latest_touch, take_touches};
+pub use touches::{is_same, take_touches};

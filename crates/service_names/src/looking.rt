@@ -8,8 +8,7 @@ ghost use Rattle.service_names.specs.Promises.{LooksUp};
 
 use crate::folder::folder_at;
 use crate::naming::{fileid_named, name_fault};
-use crate::showing::shown;
-use crate::touches::latest_touch;
+use crate::showing::{shown, shown_now};
 use nfs_values::{FileHandle, Fileid, LookupResults, Named, Status, VolumeNumber};
 use parcel_sets::LogicalHeld;
 use parcels::Files;
@@ -40,7 +39,7 @@ pub fn lookup(
     };
     Ok(LookupResults {
         handle: FileHandle::naming(Named { volume, fileid }),
-        object: shown(volume, fileid, object, latest_touch(held, fileid)),
+        object: shown_now(held, volume, fileid, object),
         directory: shown(volume, directory, inode, None),
     })
 }

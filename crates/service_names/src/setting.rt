@@ -17,7 +17,7 @@ ghost use Rattle.service_names.specs.Promises.{SetsAttributes};
 ghost use Rattle.service_names.specs.Changing.{MayBeSet, with_value};
 
 use crate::attributes::{attributes_now, set_fault, with_attributes};
-use crate::showing::{prior, shown};
+use crate::showing::{prior, shown, shown_now};
 use crate::sizing::{set_inode, size_file};
 use crate::touches::{latest_touch, take_touches};
 use held_changes::setting_calls_are_right;
@@ -73,7 +73,7 @@ fn attributes_set(
     if let Some(fault) = set_fault(held, fileid, inode, set, guard) {
         return Err(fault);
     }
-    let before = prior(shown(volume, fileid, inode, latest_touch(held, fileid)));
+    let before = prior(shown_now(held, volume, fileid, inode));
     let changed = set_node(held, fileid, inode, set, moment);
     let after = shown(volume, fileid, changed, None);
     Ok(Change { before, after })

@@ -1,20 +1,44 @@
 //! What replies show of a node.
 
-ghost use Rattle.std.specs.Prelude.{◌≡◌, None};
+ghost use Rattle.std.specs.Prelude.{◌≡◌, ◌≤◌, None};
 ghost use Rattle.std.specs.Option.{option_map};
 ghost use Rattle.nfs_model.specs.Shown.{before_of as before_shown};
 ghost use Rattle.nfs_values.specs.Attributes.{before_of, shown_of};
 ghost use Rattle.nfs_values.specs.Moment.{moment_of};
-ghost use Rattle.inodes.specs.Inode.{attributes_value, kind_value};
+ghost use Rattle.inodes.specs.Inode.{attributes_value, inode_value, kind_value};
 ghost use Rattle.volume_values.specs.Inodes.{RegularFile};
-ghost use Rattle.held_state.specs.Changes.{shown_kind};
+ghost use Rattle.held_state.specs.Changes.{shown_inode, shown_kind};
+ghost use Rattle.held_state.specs.Sets.{logical_before};
+ghost use Rattle.held_state.specs.Tree.{file_touch};
 ghost use Rattle.service_names.specs.Shown.{HasFewLinks};
 
+use crate::touches::latest_touch;
 use inodes::{Inode, InodeKind, StoredAttributes};
 use nfs_values::{Attributes, FileKind, Fileid, Moment, PriorAttributes, VolumeNumber};
+use parcel_sets::LogicalHeld;
+use parcels::Files;
+
+/// The attributes of a node of a volume (fattr3, RFC 1813 section 2.6). The stripes are asked for
+/// the latest touch of a file alone, since a directory has none.
+pub fn shown_now(
+    held: &LogicalHeld<Files>,
+    volume: VolumeNumber,
+    fileid: Fileid,
+    inode: Inode,
+) -> Attributes
+    requires stripes { held.now.own.stripes ≤ 16 }
+    requires links { HasFewLinks (kind_value inode.kind) }
+    ensures { shown_of result ≡ shown_inode volume.0 fileid.0 (inode_value inode)
+        (file_touch (logical_before held.now).stripes fileid.0) }
+{
+    match inode.kind {
+        InodeKind::RegularFile { .. } => shown(volume, fileid, inode, latest_touch(held, fileid)),
+        InodeKind::Directory { .. } => shown(volume, fileid, inode, None),
+    }
+}
 
 /// The attributes of a node (fattr3, RFC 1813 section 2.6), where this is its file's latest touch.
-pub fn shown(
+pub(crate) fn shown(
     volume: VolumeNumber,
     fileid: Fileid,
     inode: Inode,
@@ -65,7 +89,7 @@ fn shown_empty(volume: VolumeNumber, fileid: Fileid, now: StoredAttributes) -> A
 }
 
 /// What is shown of attributes before a call (wcc_attr, RFC 1813 section 2.6).
-pub fn prior(shown: Attributes) -> PriorAttributes
+pub(crate) fn prior(shown: Attributes) -> PriorAttributes
     ensures { before_of result ≡ before_shown (shown_of shown) }
 {
     PriorAttributes {

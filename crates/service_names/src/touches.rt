@@ -18,7 +18,7 @@ use parcels::Files;
 use stripe_cards::Card;
 
 /// The latest touch of a file in the stripes of its volume.
-pub fn latest_touch(held: &LogicalHeld<Files>, fileid: Fileid) -> Option<Moment>
+pub(crate) fn latest_touch(held: &LogicalHeld<Files>, fileid: Fileid) -> Option<Moment>
     requires few { held.now.own.stripes ≤ 16 }
     ensures { option_map moment_of result
         ≡ file_touch (logical_before held.now).stripes fileid.0 }

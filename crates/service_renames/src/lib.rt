@@ -14,6 +14,6 @@ mod telling;
 pub use entry_name::EntryName;
 pub use renaming::rename;
 pub use service_names::{
-    PageAsked, commit, create, latest_touch, lookup, make_directory, read_directory, remove,
-    remove_directory, set_attributes, shown,
+    PageAsked, commit, create, lookup, make_directory, read_directory, remove, remove_directory,
+    set_attributes, shown_now,
 };

@@ -18,9 +18,8 @@ ghost use Rattle.service_totals.specs.Census.{TakesCensus};
 use affinity_tree::Layout;
 use nfs_values::{VolumeCount, VolumeNumber};
 use parcel_sets::{AggrHeld, SerialHeld, VolumeHeld};
-use parcels::Files;
+use parcels::{Files, ranges_used};
 use std::alloc::{AllocError, Global};
-use volume_counts::ranges_used;
 
 /// The blocks of a range.
 const RANGE_BLOCKS: u64 = 1024;

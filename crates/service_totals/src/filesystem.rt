@@ -10,7 +10,7 @@ use crate::counting::volume_count;
 use nfs_values::{Fileid, FilesystemStatusResults, Status, VolumeNumber};
 use parcel_sets::VolumeHeld;
 use parcels::Files;
-use service_names::{latest_touch, shown};
+use service_names::shown_now;
 
 /// The bytes of a block.
 const BLOCK_BYTES: u64 = 4096;
@@ -36,7 +36,7 @@ pub fn space(
     };
     let count = volume_count(held, volume);
     Ok(FilesystemStatusResults {
-        root: shown(volume, fileid, inode, latest_touch(&held.logical, fileid)),
+        root: shown_now(&held.logical, volume, fileid, inode),
         total_bytes: BLOCK_BYTES * count.total,
         free_bytes: BLOCK_BYTES * count.total.saturating_sub(count.used),
         inodes: INODE_LIMIT,

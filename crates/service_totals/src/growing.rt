@@ -17,8 +17,7 @@ use crate::ranges::put_in_use;
 use held_totals::growing_calls_are_right;
 use nfs_values::{Status, VolumeNumber};
 use parcel_sets::{AggrHeld, VolumeHeld};
-use parcels::Files;
-use volume_counts::ranges_used;
+use parcels::{Files, ranges_used};
 
 /// The ranges of a volume at most.
 const MOST_RANGES: u32 = 16;

@@ -1,6 +1,6 @@
 use Rattle.std.proofs.Common.{sym, ap, ◌∙◌, Option, Some, Ok, Err}
 use Rattle.nfs_values.specs.declared.status.Status.TheVariants.{Stale}
-use Rattle.nfs_model.specs.Types.{Moment, GetattrDone}
+use Rattle.nfs_model.specs.Types.{GetattrDone}
 use Rattle.volume_values.specs.Inodes.{Inode, inode_of}
 use Rattle.volume_values.specs.Logical.{LogicalValue}
 use Rattle.inodes.specs.Inode.{inode_value}
@@ -11,17 +11,15 @@ use Rattle.service.proofs.Getting.{tells}
 use Rattle.service_renames.specs.WholeLemmas.{whole-links}
 use Rattle.service.proofs.attributes.get_attributes.Goals as goal
 
-pub shown-requires : goal.shown-requires
-shown-requires c = record {
-  few = whole-links c.args.volume.0 (logical_before c.args.held.now) c.requires.whole c.args.fileid.0 (inode_value c.in-Some.inode)
-      (ap (λ (l : LogicalValue). inode_of l.inodes c.args.fileid.0) (sym c.get.ensures) ∙ sym c.in-Some.ensures);
-}
+pub shown_now-requires-clause-links : goal.shown_now-requires-clause-links
+shown_now-requires-clause-links c =
+    whole-links c.args.volume.0 (logical_before c.args.held.now) c.requires.whole c.args.fileid.0 (inode_value c.in-Some.inode)
+    (ap (λ (l : LogicalValue). inode_of l.inodes c.args.fileid.0) (sym c.get.ensures) ∙ sym c.in-Some.ensures)
 
 pub returns-in-Some : goal.returns-in-Some
 returns-in-Some c = record {
-  right = tells c.args.volume.0 c.args.fileid.0 (logical_before c.args.held.now) (Ok c.shown.result)
-      (ap GetattrDone c.shown.ensures
-      ∙ ap (λ (t : Option Moment). getattr_answer c.args.volume.0 c.args.fileid.0 (Some (inode_value c.in-Some.inode)) t) c.latest_touch.ensures
+  right = tells c.args.volume.0 c.args.fileid.0 (logical_before c.args.held.now) (Ok c.shown_now.result)
+      (ap GetattrDone c.shown_now.ensures
       ∙ ap (λ (o : Option Inode). getattr_answer c.args.volume.0 c.args.fileid.0 o (file_touch (logical_before c.args.held.now).stripes c.args.fileid.0))
       (c.in-Some.ensures ∙ ap (λ (l : LogicalValue). inode_of l.inodes c.args.fileid.0) c.get.ensures));
 }

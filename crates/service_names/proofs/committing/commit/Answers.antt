@@ -5,7 +5,6 @@ use Rattle.nfs_values.specs.declared.status.Status.TheVariants.{Stale, Invalid}
 use Rattle.volume_values.specs.Inodes.{inode_of}
 use Rattle.volume_values.specs.Logical.{LogicalValue}
 use Rattle.inodes.specs.Inode.{inode_value, kind_value}
-use Rattle.held_state.specs.Changes.{shown_inode}
 use Rattle.held_state.specs.Sets.{logical_before}
 use Rattle.held_changes.specs.NameAnswers.{inode_committed}
 use Rattle.service_names.proofs.Commits.{commits, folder-told, file-told}
@@ -40,12 +39,12 @@ returns-in-RegularFile c =
     let set = logical_before c.args.held.now in
     let there = sym (c.in-Some.ensures ∙ ap (λ (l : LogicalValue). inode_of l.inodes fileid) c.get.ensures) in
     let inode = inode_value c.in-Some.inode in
-    let after = c.shown-after.ensures ∙ ap (shown_inode v fileid inode) c.latest_touch.ensures in
+    let after = c.shown_now-after.ensures in
     let before = c.prior-before.ensures ∙ ap before_of after in
     let verifier = ap (λ (l : LogicalValue). l.verifier) c.get-in-RegularFile.ensures in
     record {
       right = commits v fileid set
-          (Ok (record { file = record { before = c.prior-before.result; after = c.shown-after.result }; verifier = c.get-in-RegularFile.result.now.verifier }))
+          (Ok (record { file = record { before = c.prior-before.result; after = c.shown_now-after.result }; verifier = c.get-in-RegularFile.result.now.verifier }))
           ((λ j. CommitDone (record { before = before j; after = after j }) (verifier j))
           ∙ sym (file-told v fileid set inode there c.in-RegularFile.size c.in-RegularFile.filled _ (ap kind_value c.in-RegularFile.is)));
     }

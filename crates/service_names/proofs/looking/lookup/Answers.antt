@@ -5,7 +5,6 @@ use Rattle.nfs_values.specs.declared.status.Status.TheVariants.{NoEntry}
 use Rattle.volume_values.specs.Inodes.{inode_of}
 use Rattle.volume_values.specs.Logical.{LogicalValue}
 use Rattle.inodes.specs.Inode.{inode_value}
-use Rattle.held_state.specs.Changes.{shown_inode}
 use Rattle.held_state.specs.Sets.{logical_before}
 use Rattle.service_names.specs.lemmas.Whole.{whole-links}
 use Rattle.service_names.proofs.Named.{looks-up, told_in, bad-name, no-entry, entry, handed_on}
@@ -62,14 +61,13 @@ returns-in-None-get c =
           c.in-Some-fileid_named.fileid.0 (sym c.in-Some-fileid_named.ensures) None there));
     }
 
+pub shown_now-requires-clause-links : goal.shown_now-requires-clause-links
+shown_now-requires-clause-links c =
+    whole-links c.args.volume.0 (logical_before c.args.held.now) c.requires.whole c.in-Some-fileid_named.fileid.0 (inode_value c.in-Some-get.object)
+    (sym (c.in-Some-get.ensures ∙ ap (λ (l : LogicalValue). inode_of l.inodes c.in-Some-fileid_named.fileid.0) c.get.ensures))
+
 pub shown-requires : goal.shown-requires
 shown-requires c = record {
-  few = whole-links c.args.volume.0 (logical_before c.args.held.now) c.requires.whole c.in-Some-fileid_named.fileid.0 (inode_value c.in-Some-get.object)
-      (sym (c.in-Some-get.ensures ∙ ap (λ (l : LogicalValue). inode_of l.inodes c.in-Some-fileid_named.fileid.0) c.get.ensures));
-}
-
-pub shown-requires-2 : goal.shown-requires-2
-shown-requires-2 c = record {
   few = whole-links c.args.volume.0 (logical_before c.args.held.now) c.requires.whole c.args.directory.0 (inode_value c.in_ok-inode.inode)
       c.in_ok-inode.ensures.there;
 }
@@ -83,10 +81,9 @@ returns c =
     let folder = c.in_ok-inode.ensures.told (told_in v fileid name set) in
     let q = c.in-Some-fileid_named.fileid.0 in
     let there = sym (c.in-Some-get.ensures ∙ ap (λ (l : LogicalValue). inode_of l.inodes q) c.get.ensures) in
-    let object = c.shown.ensures ∙ ap (shown_inode v q (inode_value c.in-Some-get.object)) c.latest_touch.ensures in
     record {
-      right = looks-up v fileid name set (Ok (record { handle = c.naming.result; object = c.shown.result; directory = c.shown-2.result }))
-          ((λ j. LookupDone (c.naming.ensures j) (object j) (c.shown-2.ensures j))
+      right = looks-up v fileid name set (Ok (record { handle = c.naming.result; object = c.shown_now.result; directory = c.shown.result }))
+          ((λ j. LookupDone (c.naming.ensures j) (c.shown_now.ensures j) (c.shown.ensures j))
           ∙ sym (entry v fileid name set (inode_value c.in_ok-inode.inode) c.in_ok-inode.parent.0 folder (sym c.in_default.ensures) q
           (sym c.in-Some-fileid_named.ensures) (Some (inode_value c.in-Some-get.object)) there));
     }

@@ -14,7 +14,7 @@ pub returns-in-Ok-clause-ok : goal.returns-in-Ok-clause-ok
 returns-in-Ok-clause-ok c =
     all-made c.args.within c.args.name.now c.args.held.now c.requires.may (inode_value c.args.made) c.in_ok-fileid.fileid.0 c.in_ok-fileid.ensures.fileid
     c.create_inode.new.held c.tie.new.held c.in_ok-fileid.ensures.ok c.create_inode.ensures.stripes c.tie.ensures.others
-    c.set_directory.new.held c.set_directory.ensures.stripes c.in_ok-name.name c.in_ok-name.ensures
+    c.set_directory.new.held c.set_directory.ensures.stripes c.in_ok-name.name c.in_ok-name.ensures.name
     c.in-Ok.ensures.own c.in-Ok.ensures.cards c.set_directory.ensures.own
 
 pub returns-in-Ok-clause-alike : goal.returns-in-Ok-clause-alike

@@ -11,11 +11,10 @@ use Rattle.service_names.specs.lemmas.Nodes.{whole-may-be-set}
 use Rattle.service_names.proofs.Changed.{few-changed}
 use Rattle.service_names.proofs.setting.attributes_set.Goals as goal
 
-pub shown-requires : goal.shown-requires
-shown-requires c = record {
-  few = whole-links c.args.volume.0 (logical_before c.args.held.now) c.requires.whole c.args.fileid.0 (inode_value c.in-Some.inode)
-      (ap (λ (l : LogicalValue). inode_of l.inodes c.args.fileid.0) (sym c.get.ensures) ∙ sym c.in-Some.ensures);
-}
+pub shown_now-requires-clause-links : goal.shown_now-requires-clause-links
+shown_now-requires-clause-links c =
+    whole-links c.args.volume.0 (logical_before c.args.held.now) c.requires.whole c.args.fileid.0 (inode_value c.in-Some.inode)
+    (ap (λ (l : LogicalValue). inode_of l.inodes c.args.fileid.0) (sym c.get.ensures) ∙ sym c.in-Some.ensures)
 
 pub set_node-changed-requires : goal.set_node-changed-requires
 set_node-changed-requires c =

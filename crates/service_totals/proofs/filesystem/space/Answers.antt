@@ -6,7 +6,6 @@ use Rattle.nfs_values.specs.declared.status.Status.TheVariants.{Stale}
 use Rattle.volume_values.specs.Inodes.{inode_of}
 use Rattle.volume_values.specs.Logical.{LogicalValue}
 use Rattle.inodes.specs.Inode.{inode_value}
-use Rattle.held_state.specs.Changes.{shown_inode}
 use Rattle.held_state.specs.Sets.{volume_before}
 use Rattle.held_totals.specs.Space.{space_held, space_told}
 use Rattle.service_names.specs.lemmas.Whole.{whole-links}
@@ -23,13 +22,11 @@ returns-in-None c =
           (ap (space_told v fileid set) (c.in-None.ensures ∙ ap (λ (l : LogicalValue). inode_of l.inodes fileid) c.get.ensures));
     }
 
-pub shown-requires : goal.shown-requires
-shown-requires c =
+pub shown_now-requires-clause-links : goal.shown_now-requires-clause-links
+shown_now-requires-clause-links c =
     let set = volume_before c.args.held.now in
-    record {
-      few = whole-links c.args.volume.0 set.logical (whole-logical c.args.volume.0 set c.requires.whole) c.args.fileid.0 (inode_value c.in-Some.inode)
-          (ap (λ (l : LogicalValue). inode_of l.inodes c.args.fileid.0) (sym c.get.ensures) ∙ sym c.in-Some.ensures);
-    }
+    whole-links c.args.volume.0 set.logical (whole-logical c.args.volume.0 set c.requires.whole) c.args.fileid.0 (inode_value c.in-Some.inode)
+    (ap (λ (l : LogicalValue). inode_of l.inodes c.args.fileid.0) (sym c.get.ensures) ∙ sym c.in-Some.ensures)
 
 pub returns : goal.returns
 returns c =
@@ -39,7 +36,6 @@ returns c =
     let inode = inode_value c.in-Some.inode in
     let there : Some inode ≡ get set.logical.own.inodes.inodes fileid =
     c.in-Some.ensures ∙ ap (λ (l : LogicalValue). inode_of l.inodes fileid) c.get.ensures in
-    let root = c.shown.ensures ∙ ap (shown_inode v fileid inode) c.latest_touch.ensures in
     let counted = c.volume_count-count.ensures.value in
     let free : c.saturating_sub.result ≡ c.volume_count-count.result.total - c.volume_count-count.result.used = c.saturating_sub.ensures in
     let rest : c.saturating_sub-2.result ≡ most_inodes - len set.logical.own.inodes.inodes =
@@ -59,11 +55,11 @@ returns c =
     record {
       right = tells-space v fileid set
           (Ok (record {
-            root = c.shown.result;
+            root = c.shown_now.result;
             total_bytes = block_size * c.volume_count-count.result.total;
             free_bytes = block_size * c.saturating_sub.result;
             inodes = most_inodes;
             free_inodes = c.saturating_sub-2.result;
           }))
-          ((λ j. FsstatDone (root j) (spaces j)) ∙ ap (space_told v fileid set) there);
+          ((λ j. FsstatDone (c.shown_now.ensures j) (spaces j)) ∙ ap (space_told v fileid set) there);
     }

@@ -4,8 +4,8 @@ ghost use Rattle.std.specs.Prelude.{◌≡◌, ◌≤◌, if◌then◌else◌};
 ghost use Rattle.held_state.specs.Sets.{range_value, vbn_set};
 ghost use Rattle.held_state.specs.Tree.{ranges_used};
 
+use crate::files::Files;
 use parcel_sets::{RangeHeld, VbnHeld};
-use parcels::Files;
 
 /// How many ranges of a volume are in use, at most 16.
 pub fn ranges_used(held: &VbnHeld<Files>) -> u32

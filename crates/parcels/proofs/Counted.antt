@@ -6,7 +6,7 @@ use Rattle.volume_values.specs.Ranges.{RangeValue}
 use Rattle.held_state.specs.Contents.{each}
 use Rattle.held_state.specs.Sets.{FilerRange, range_value, placed}
 use Rattle.held_state.specs.Tree.{ranges_used}
-use Rattle.volume_counts.specs.lemmas.Places.{placed-index}
+use Rattle.parcels.proofs.Places.{placed-index}
 
 module _ (f : ℕ → RangeValue) (all : ℕ) where
   -- of the ranges so many are in use before one, and all with those from it on

@@ -1,7 +1,7 @@
 use Rattle.held_state.specs.Sets.{range_value, placed, vbn_set}
 use Rattle.held_state.specs.Tree.{ranges_used}
-use Rattle.volume_counts.proofs.Counted.{UsedSoFar}
-use Rattle.volume_counts.proofs.ranges.ranges_used.Given as goal
+use Rattle.parcels.proofs.Counted.{UsedSoFar}
+use Rattle.parcels.proofs.counting.ranges_used.Given as goal
 
 -- what is counted so far, and the ranges that are left, are all
 abbrev pub invariant-loop-range : goal.invariant-loop-range

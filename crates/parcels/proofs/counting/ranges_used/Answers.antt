@@ -1,8 +1,8 @@
 use Rattle.std.proofs.Common.{◌≡◌, length, rules, arith}
 use Rattle.held_state.specs.Sets.{range_value, placed, vbn_set}
 use Rattle.held_state.specs.Tree.{ranges_used}
-use Rattle.volume_counts.proofs.Counted.{used-all, used-more}
-use Rattle.volume_counts.proofs.ranges.ranges_used.Goals as goal
+use Rattle.parcels.proofs.Counted.{used-all, used-more}
+use Rattle.parcels.proofs.counting.ranges_used.Goals as goal
 
 pub loop-range-preserved : goal.loop-range-preserved
 loop-range-preserved c =

@@ -1,0 +1,21 @@
+use Rattle.std.proofs.Common.{ap, sym, ◌∙◌, None}
+use Rattle.volume_values.specs.Inodes.{InodeKind}
+use Rattle.inodes.specs.Inode.{attributes_value, inode_value, kind_value}
+use Rattle.held_state.specs.Changes.{shown_inode, shown_kind}
+use Rattle.held_state.specs.Sets.{logical_before}
+use Rattle.held_state.specs.Tree.{file_touch}
+use Rattle.service_names.proofs.showing.shown_now.Goals as goal
+
+pub returns-in-RegularFile : goal.returns-in-RegularFile
+returns-in-RegularFile c =
+    c.shown.ensures ∙ ap (shown_inode c.args.volume.0 c.args.fileid.0 (inode_value c.args.inode)) c.latest_touch.ensures
+
+pub returns-in-Directory : goal.returns-in-Directory
+returns-in-Directory c =
+    let v = c.args.volume.0 in
+    let q = c.args.fileid.0 in
+    let a = attributes_value c.args.inode.attributes in
+    let is = ap kind_value c.in-Directory.is in
+    c.shown-in-Directory.ensures
+    ∙ (ap (λ (k : InodeKind). shown_kind v q a k None) is
+    ∙ sym (ap (λ (k : InodeKind). shown_kind v q a k (file_touch (logical_before c.args.held.now).stripes q)) is))
