@@ -1,3 +1,4 @@
 pub mod Any
+pub mod Places
 pub mod Refusal
 pub mod Words

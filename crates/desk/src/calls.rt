@@ -3,11 +3,12 @@
 ghost use Rattle.std.specs.Prelude.{◌≡◌};
 
 use crate::desk::Desk;
-use crate::grants::{begin_any, finish_any, put_back_any};
+use crate::grants::{begin_in, finish_in, put_back_in};
 use crate::kinds::NodeKinds;
 use crate::refusal::Refusal;
 use crate::taken::is_taken;
-use crate::task::{Task, work_any};
+use crate::task::Task;
+use crate::working::work_in;
 use affinity_tree::Affinity;
 use depot::Refusal as Refused;
 use depot_rule::machine::Machine;
@@ -35,16 +36,16 @@ impl<M: Machine, K: NodeKinds<M::Parcel>> Desk<M, K> {
         ensures refused { IfErr result (IsRefused (books self.old) (affinity_of affinity)) }
         ensures same { IfErr result (λ refusal. books self.new ≡ books self.old) }
     {
-        match begin_any(
+        match begin_in(
             &self.depot,
             &mut self.seat,
             affinity,
-            &mut self.grants[worker],
+            &mut self.places[worker],
         ) {
             Ok(()) => Ok(()),
             Err(Refused::Busy { node: _, word: _ }) => Err(Refusal::Taken),
             Err(Refused::Worn) => {
-                if is_taken(self.depot.layout(), self.grants.as_slice(), affinity) {
+                if is_taken(self.depot.layout(), self.places.as_slice(), affinity) {
                     return Err(Refusal::Taken);
                 }
                 Err(Refusal::Worn)
@@ -60,10 +61,7 @@ impl<M: Machine, K: NodeKinds<M::Parcel>> Desk<M, K> {
         ensures worked { HasWorked (W.does task) (books self.old) worker result
             (books self.new) }
     {
-        match &mut self.grants[worker] {
-            Some(any) => work_any::<M::Parcel, K, W>(self.depot.layout(), any, task),
-            None => unreachable!(),
-        }
+        work_in::<M::Parcel, K, W>(self.depot.layout(), &mut self.places[worker], task)
     }
 
     /// Ends a worker's call by an entry of the history, with its parcels as they are.
@@ -76,10 +74,7 @@ impl<M: Machine, K: NodeKinds<M::Parcel>> Desk<M, K> {
         ensures finished { HasFinished (machine_in self.old) (books self.old) worker
             call.now reply.now (books self.new) }
     {
-        match self.grants[worker].take() {
-            Some(any) => finish_any(&self.depot, &mut self.seat, any, call, reply),
-            None => unreachable!(),
-        }
+        finish_in(&self.depot, &mut self.seat, &mut self.places[worker], call, reply);
     }
 
     /// Ends a worker's call without an entry. What it was lent has to be as it was lent.
@@ -90,9 +85,6 @@ impl<M: Machine, K: NodeKinds<M::Parcel>> Desk<M, K> {
         ensures kept { IsKept self.new }
         ensures back { HasPutBack (books self.old) worker (books self.new) }
     {
-        match self.grants[worker].take() {
-            Some(any) => put_back_any(&self.depot, &mut self.seat, any),
-            None => unreachable!(),
-        }
+        put_back_in(&self.depot, &mut self.seat, &mut self.places[worker]);
     }
 }

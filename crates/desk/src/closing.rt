@@ -34,7 +34,7 @@ where
         let Desk {
             depot,
             seat,
-            grants: _,
+            places: _,
         } = self;
         depot.close::<K::Serial>(seat)
     }

@@ -16,14 +16,19 @@ pub struct NodeGrant<T: HasKind, N: Node<T>> {
     pub ghost kind: { kind_of (affinity_of (node_of grant)) ≡ N.KIND },
 }
 
-/// A grant of a node of any kind.
+/// A grant of a volume, or of a node below one.
 #[derive(Drop)]
-pub enum AnyGrant<T: HasKind, K: NodeKinds<T>> {
+pub enum SmallGrant<T: HasKind, K: NodeKinds<T>> {
     Range(NodeGrant<T, K::Range>),
     Vbn(NodeGrant<T, K::Vbn>),
     Stripe(NodeGrant<T, K::Stripe>),
     Logical(NodeGrant<T, K::Logical>),
     Volume(NodeGrant<T, K::Volume>),
+}
+
+/// A grant of a node with volumes below it.
+#[derive(Drop)]
+pub enum LargeGrant<T: HasKind, K: NodeKinds<T>> {
     Aggregate(NodeGrant<T, K::Aggregate>),
     Serial(NodeGrant<T, K::Serial>),
 }

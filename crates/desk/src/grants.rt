@@ -1,142 +1,226 @@
-//! Grants of nodes of any kind, begun and ended.
+//! Grants of nodes of any kind, begun and ended in a worker's place.
 
-ghost use Rattle.std.specs.Prelude.{◌≡◌, Some, None, OnOk, IfErr};
+ghost use Rattle.std.specs.Prelude.{◌≡◌, Some, None, OnOk, IfErr, IsSomeAnd};
 ghost use Rattle.affinity_tree.specs.Affinity.{affinity_of};
 ghost use Rattle.affinity_tree.specs.Numbers.{number_of};
 ghost use Rattle.affinity_tree.specs.Tree.{IsNode};
 ghost use Rattle.depot.specs.Grants.{entry_of, IsEnded, IsFinished, IsRefused};
 ghost use Rattle.depot.specs.Words.{machine_of, layout_in, view, splits_left, IsSeatHere};
 ghost use Rattle.desk_laws.specs.Backing.{IsGranted, CanFinish, CanPutBack};
-ghost use Rattle.desk.specs.Any.{lent_of};
+ghost use Rattle.desk.specs.Any.{small_lent, large_lent};
+ghost use Rattle.desk.specs.Places.{granted};
 
-use crate::grant::AnyGrant;
+use crate::grant::{LargeGrant, SmallGrant};
 use crate::kinds::NodeKinds;
 use crate::nodes::{begin_node, finish_node, put_back_node};
+use crate::place::Place;
+use crate::putting::{put_large, put_small};
 use affinity_tree::{Affinity, Kind};
 use depot::{Depot, Refusal, Seat};
 use depot_rule::machine::Machine;
-use std::mem;
 
-/// Puts something where there is nothing.
-fn put<X>(place: &mut Option<X>, something: X)
-    requires { place.old ≡ None }
-    ensures { place.new ≡ Some something }
-{
-    match mem::replace(place, Some(something)) {
-        None => {}
-        Some(_) => unreachable!(),
-    }
-}
-
-/// Begins a call on a node of whichever kind. Its grant is made in an empty place, where it stays,
-/// since a grant of the whole tree is large. A refusal leaves the place empty.
-pub(crate) fn begin_any<M: Machine, K: NodeKinds<M::Parcel>>(
+/// Begins a call on a node of whichever kind. Its grant is made in an idle worker's place, where it
+/// stays. A refusal leaves the worker idle.
+pub(crate) fn begin_in<M: Machine, K: NodeKinds<M::Parcel>>(
     depot: &Depot<M>,
     seat: &mut Seat<M>,
     affinity: Affinity,
-    place: &mut Option<AnyGrant<M::Parcel, K>>,
+    place: &mut Place<M::Parcel, K>,
 ) -> Result<(), Refusal>
     requires seat { IsSeatHere depot.now seat.old }
     requires node { IsNode (layout_in depot.now) (affinity_of affinity) }
-    requires none { place.old ≡ None }
+    requires idle { granted place.old ≡ None }
     ensures seat { IsSeatHere depot.now seat.new }
     ensures splits { splits_left seat.new ≡ splits_left seat.old }
-    ensures granted { let L = layout_in depot.now in OnOk result ((any : _) × (place.new ≡ Some any)
+    ensures granted { let L = layout_in depot.now in OnOk result ((lends : _)
+        × (granted place.new ≡ Some lends)
         × IsGranted M.Parcel.kind (machine_of seat.old) L (view seat.old) (affinity_of affinity)
-        (lent_of L any) (view seat.new)) }
+        (lends L) (view seat.new)) }
     ensures refused { IfErr result (λ refusal.
         IsRefused (layout_in depot.now) (view seat.old) affinity refusal (view seat.new)) }
-    ensures same { IfErr result (λ refusal. place.new ≡ place.old) }
+    ensures idle { IfErr result (λ refusal. granted place.new ≡ None) }
 {
     match affinity.kind() {
         Kind::Range => {
             let node = begin_node::<M, K::Range>(depot, seat, affinity)?;
-            put(place, AnyGrant::Range(node));
-            Ok(())
+            put_small(place, SmallGrant::Range(node));
         }
         Kind::VolumeVbn => {
             let node = begin_node::<M, K::Vbn>(depot, seat, affinity)?;
-            put(place, AnyGrant::Vbn(node));
-            Ok(())
+            put_small(place, SmallGrant::Vbn(node));
         }
         Kind::Stripe => {
             let node = begin_node::<M, K::Stripe>(depot, seat, affinity)?;
-            put(place, AnyGrant::Stripe(node));
-            Ok(())
+            put_small(place, SmallGrant::Stripe(node));
         }
         Kind::VolumeLogical => {
             let node = begin_node::<M, K::Logical>(depot, seat, affinity)?;
-            put(place, AnyGrant::Logical(node));
-            Ok(())
+            put_small(place, SmallGrant::Logical(node));
         }
         Kind::Volume => {
             let node = begin_node::<M, K::Volume>(depot, seat, affinity)?;
-            put(place, AnyGrant::Volume(node));
-            Ok(())
+            put_small(place, SmallGrant::Volume(node));
         }
         Kind::Aggregate => {
             let node = begin_node::<M, K::Aggregate>(depot, seat, affinity)?;
-            put(place, AnyGrant::Aggregate(node));
-            Ok(())
+            put_large(place, LargeGrant::Aggregate(node));
         }
         Kind::Serial => {
             let node = begin_node::<M, K::Serial>(depot, seat, affinity)?;
-            put(place, AnyGrant::Serial(node));
-            Ok(())
+            put_large(place, LargeGrant::Serial(node));
         }
     }
+    Ok(())
 }
 
-/// Ends a call by an entry, with its parcels as they are.
-pub(crate) fn finish_any<M: Machine, K: NodeKinds<M::Parcel>>(
+/// Ends a call on a volume or below one by an entry, with its parcels as they are.
+fn finish_small<M: Machine, K: NodeKinds<M::Parcel>>(
     depot: &Depot<M>,
     seat: &mut Seat<M>,
-    any: AnyGrant<M::Parcel, K>,
+    grant: SmallGrant<M::Parcel, K>,
     call: &M::Call,
     reply: &M::Reply,
 )
     requires seat { IsSeatHere depot.now seat.old }
     requires can { let L = layout_in depot.now in
-        CanFinish M.Parcel.kind (machine_of seat.old) L (view seat.old) (lent_of L any)
+        CanFinish M.Parcel.kind (machine_of seat.old) L (view seat.old) (small_lent grant L)
         call.now reply.now }
     ensures seat { IsSeatHere depot.now seat.new }
     ensures splits { splits_left seat.new ≡ splits_left seat.old }
-    ensures finished { let L = layout_in depot.now in let l = lent_of L any in
+    ensures finished { let L = layout_in depot.now in let l = small_lent grant L in
         IsFinished (machine_of seat.old) (view seat.old) (number_of L l.affinity)
         (entry_of L l.affinity l.parcels call.now reply.now) (view seat.new) }
 {
-    match any {
-        AnyGrant::Range(node) => finish_node::<M, K::Range>(depot, seat, node, call, reply),
-        AnyGrant::Vbn(node) => finish_node::<M, K::Vbn>(depot, seat, node, call, reply),
-        AnyGrant::Stripe(node) => finish_node::<M, K::Stripe>(depot, seat, node, call, reply),
-        AnyGrant::Logical(node) => finish_node::<M, K::Logical>(depot, seat, node, call, reply),
-        AnyGrant::Volume(node) => finish_node::<M, K::Volume>(depot, seat, node, call, reply),
-        AnyGrant::Aggregate(node) => finish_node::<M, K::Aggregate>(depot, seat, node, call, reply),
-        AnyGrant::Serial(node) => finish_node::<M, K::Serial>(depot, seat, node, call, reply),
+    match grant {
+        SmallGrant::Range(node) => finish_node::<M, K::Range>(depot, seat, node, call, reply),
+        SmallGrant::Vbn(node) => finish_node::<M, K::Vbn>(depot, seat, node, call, reply),
+        SmallGrant::Stripe(node) => finish_node::<M, K::Stripe>(depot, seat, node, call, reply),
+        SmallGrant::Logical(node) => finish_node::<M, K::Logical>(depot, seat, node, call, reply),
+        SmallGrant::Volume(node) => finish_node::<M, K::Volume>(depot, seat, node, call, reply),
     }
 }
 
-/// Ends a call without an entry. Its parcels have to be as they were granted.
-pub(crate) fn put_back_any<M: Machine, K: NodeKinds<M::Parcel>>(
+/// Ends a call on a node with volumes below it by an entry, with its parcels as they are.
+#[inline(never)]
+fn finish_large<M: Machine, K: NodeKinds<M::Parcel>>(
     depot: &Depot<M>,
     seat: &mut Seat<M>,
-    any: AnyGrant<M::Parcel, K>,
+    grant: LargeGrant<M::Parcel, K>,
+    call: &M::Call,
+    reply: &M::Reply,
 )
     requires seat { IsSeatHere depot.now seat.old }
     requires can { let L = layout_in depot.now in
-        CanPutBack L (view seat.old) (lent_of L any) }
+        CanFinish M.Parcel.kind (machine_of seat.old) L (view seat.old) (large_lent grant L)
+        call.now reply.now }
+    ensures seat { IsSeatHere depot.now seat.new }
+    ensures splits { splits_left seat.new ≡ splits_left seat.old }
+    ensures finished { let L = layout_in depot.now in let l = large_lent grant L in
+        IsFinished (machine_of seat.old) (view seat.old) (number_of L l.affinity)
+        (entry_of L l.affinity l.parcels call.now reply.now) (view seat.new) }
+{
+    match grant {
+        LargeGrant::Aggregate(node) => {
+            finish_node::<M, K::Aggregate>(depot, seat, node, call, reply)
+        }
+        LargeGrant::Serial(node) => finish_node::<M, K::Serial>(depot, seat, node, call, reply),
+    }
+}
+
+/// Ends a worker's call by an entry, with its parcels as they are.
+pub(crate) fn finish_in<M: Machine, K: NodeKinds<M::Parcel>>(
+    depot: &Depot<M>,
+    seat: &mut Seat<M>,
+    place: &mut Place<M::Parcel, K>,
+    call: &M::Call,
+    reply: &M::Reply,
+)
+    requires seat { IsSeatHere depot.now seat.old }
+    requires can { let L = layout_in depot.now in IsSomeAnd (granted place.old) (λ lends.
+        CanFinish M.Parcel.kind (machine_of seat.old) L (view seat.old) (lends L)
+        call.now reply.now) }
+    ensures seat { IsSeatHere depot.now seat.new }
+    ensures splits { splits_left seat.new ≡ splits_left seat.old }
+    ensures finished { let L = layout_in depot.now in IsSomeAnd (granted place.old) (λ lends.
+        IsFinished (machine_of seat.old) (view seat.old) (number_of L (lends L).affinity)
+        (entry_of L (lends L).affinity (lends L).parcels call.now reply.now) (view seat.new)) }
+    ensures idle { granted place.new ≡ None }
+{
+    match place.small.take() {
+        Some(grant) => finish_small(depot, seat, grant, call, reply),
+        None => match place.large.take() {
+            Some(grant) => finish_large(depot, seat, grant, call, reply),
+            None => unreachable!(),
+        },
+    }
+}
+
+/// Ends a call on a volume or below one without an entry. Its parcels have to be as they were
+/// granted.
+fn put_back_small<M: Machine, K: NodeKinds<M::Parcel>>(
+    depot: &Depot<M>,
+    seat: &mut Seat<M>,
+    grant: SmallGrant<M::Parcel, K>,
+)
+    requires seat { IsSeatHere depot.now seat.old }
+    requires can { let L = layout_in depot.now in
+        CanPutBack L (view seat.old) (small_lent grant L) }
     ensures seat { IsSeatHere depot.now seat.new }
     ensures splits { splits_left seat.new ≡ splits_left seat.old }
     ensures ended { let L = layout_in depot.now in
-        IsEnded (view seat.old) (number_of L (lent_of L any).affinity) (view seat.new) }
+        IsEnded (view seat.old) (number_of L (small_lent grant L).affinity) (view seat.new) }
 {
-    match any {
-        AnyGrant::Range(node) => put_back_node::<M, K::Range>(depot, seat, node),
-        AnyGrant::Vbn(node) => put_back_node::<M, K::Vbn>(depot, seat, node),
-        AnyGrant::Stripe(node) => put_back_node::<M, K::Stripe>(depot, seat, node),
-        AnyGrant::Logical(node) => put_back_node::<M, K::Logical>(depot, seat, node),
-        AnyGrant::Volume(node) => put_back_node::<M, K::Volume>(depot, seat, node),
-        AnyGrant::Aggregate(node) => put_back_node::<M, K::Aggregate>(depot, seat, node),
-        AnyGrant::Serial(node) => put_back_node::<M, K::Serial>(depot, seat, node),
+    match grant {
+        SmallGrant::Range(node) => put_back_node::<M, K::Range>(depot, seat, node),
+        SmallGrant::Vbn(node) => put_back_node::<M, K::Vbn>(depot, seat, node),
+        SmallGrant::Stripe(node) => put_back_node::<M, K::Stripe>(depot, seat, node),
+        SmallGrant::Logical(node) => put_back_node::<M, K::Logical>(depot, seat, node),
+        SmallGrant::Volume(node) => put_back_node::<M, K::Volume>(depot, seat, node),
+    }
+}
+
+/// Ends a call on a node with volumes below it without an entry. Its parcels have to be as they
+/// were granted.
+#[inline(never)]
+fn put_back_large<M: Machine, K: NodeKinds<M::Parcel>>(
+    depot: &Depot<M>,
+    seat: &mut Seat<M>,
+    grant: LargeGrant<M::Parcel, K>,
+)
+    requires seat { IsSeatHere depot.now seat.old }
+    requires can { let L = layout_in depot.now in
+        CanPutBack L (view seat.old) (large_lent grant L) }
+    ensures seat { IsSeatHere depot.now seat.new }
+    ensures splits { splits_left seat.new ≡ splits_left seat.old }
+    ensures ended { let L = layout_in depot.now in
+        IsEnded (view seat.old) (number_of L (large_lent grant L).affinity) (view seat.new) }
+{
+    match grant {
+        LargeGrant::Aggregate(node) => put_back_node::<M, K::Aggregate>(depot, seat, node),
+        LargeGrant::Serial(node) => put_back_node::<M, K::Serial>(depot, seat, node),
+    }
+}
+
+/// Ends a worker's call without an entry. Its parcels have to be as they were granted.
+pub(crate) fn put_back_in<M: Machine, K: NodeKinds<M::Parcel>>(
+    depot: &Depot<M>,
+    seat: &mut Seat<M>,
+    place: &mut Place<M::Parcel, K>,
+)
+    requires seat { IsSeatHere depot.now seat.old }
+    requires can { let L = layout_in depot.now in IsSomeAnd (granted place.old) (λ lends.
+        CanPutBack L (view seat.old) (lends L)) }
+    ensures seat { IsSeatHere depot.now seat.new }
+    ensures splits { splits_left seat.new ≡ splits_left seat.old }
+    ensures ended { let L = layout_in depot.now in IsSomeAnd (granted place.old) (λ lends.
+        IsEnded (view seat.old) (number_of L (lends L).affinity) (view seat.new)) }
+    ensures idle { granted place.new ≡ None }
+{
+    match place.small.take() {
+        Some(grant) => put_back_small(depot, seat, grant),
+        None => match place.large.take() {
+            Some(grant) => put_back_large(depot, seat, grant),
+            None => unreachable!(),
+        },
     }
 }

@@ -1,23 +1,36 @@
 //! A desk at the start.
 
 ghost use Rattle.std.specs.Prelude.{◌≡◌, None, replicate, IfOk};
+ghost use Rattle.desk.specs.Places.{all_granted};
 
 use crate::desk::Desk;
-use crate::grant::AnyGrant;
 use crate::kinds::NodeKinds;
-use affinity_tree::Layout;
+use crate::place::Place;
+use crate::putting::idle_place;
+use affinity_tree::{HasKind, Layout};
 use depot::Depot;
 use depot_rule::machine::Machine;
 use parcel_sets::Node;
 use std::alloc::{AllocError, Global};
 
-/// Nothing in so many places.
-fn nothing<X: Drop>(alloc: Global, count: usize) -> Result<Vec<Option<X>>, AllocError>
-    ensures { IfOk result (λ places. places.items ≡ replicate count None) }
+/// The places of so many idle workers.
+fn idle_places<T: HasKind, K: NodeKinds<T>>(
+    alloc: Global,
+    count: usize,
+) -> Result<Vec<Place<T, K>>, AllocError>
+where
+    <K::Range as Node<T>>::Held: Drop,
+    <K::Vbn as Node<T>>::Held: Drop,
+    <K::Stripe as Node<T>>::Held: Drop,
+    <K::Logical as Node<T>>::Held: Drop,
+    <K::Volume as Node<T>>::Held: Drop,
+    <K::Aggregate as Node<T>>::Held: Drop,
+    <K::Serial as Node<T>>::Held: Drop,
+    ensures { IfOk result (λ places. all_granted places.items ≡ replicate count None) }
 {
     let mut places = Vec::with_capacity(alloc, count)?;
     for _done in 0..count {
-        places.push(None)?;
+        places.push(idle_place())?;
     }
     Ok(places)
 }
@@ -56,12 +69,12 @@ where
         ensures opened { let L = layout_of layout in IfOk result (λ desk. books desk
             ≡ opening_books L (all_parcels K.Serial.parcels L parcels) workers) }
     {
-        let grants = nothing::<AnyGrant<M::Parcel, K>>(alloc, workers)?;
+        let places = idle_places::<M::Parcel, K>(alloc, workers)?;
         match Depot::<M>::new::<K::Serial>(alloc, layout, parcels) {
             Ok((depot, seat)) => Ok(Desk {
                 depot,
                 seat,
-                grants,
+                places,
             }),
             Err(_) => Err(AllocError),
         }

@@ -4,6 +4,7 @@ ghost use Rattle.std.specs.Prelude.{◌≡◌, ◌↔◌, true, length};
 
 use crate::desk::Desk;
 use crate::kinds::NodeKinds;
+use crate::putting::is_idle_place;
 use crate::taken::is_taken;
 use affinity_tree::{Affinity, Layout};
 use depot_rule::machine::Machine;
@@ -25,23 +26,23 @@ impl<M: Machine, K: NodeKinds<M::Parcel>> Desk<M, K> {
     pub fn worker_count(&self) -> usize
         ensures { result ≡ length (books self.now).lent }
     {
-        self.grants.len()
+        self.places.len()
     }
 
     /// Whether a worker is there and was lent nothing.
     pub fn is_idle(&self, worker: usize) -> bool
         ensures { (result ≡ true) ↔ IsIdle (books self.now) worker }
     {
-        if worker >= self.grants.len() {
+        if worker >= self.places.len() {
             return false;
         }
-        self.grants[worker].is_none()
+        is_idle_place(&self.places[worker])
     }
 
     /// Whether something is lent that excludes an affinity. It goes over the workers once.
     pub fn is_taken(&self, affinity: Affinity) -> bool
         ensures { (result ≡ true) ↔ IsTaken (books self.now) (affinity_of affinity) }
     {
-        is_taken(self.depot.layout(), &self.grants, affinity)
+        is_taken(self.depot.layout(), &self.places, affinity)
     }
 }

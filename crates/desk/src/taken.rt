@@ -4,53 +4,72 @@ ghost use Rattle.std.specs.Prelude.{◌≡◌, ◌↔◌, true, option_map};
 ghost use Rattle.affinity_tree.specs.Affinity.{affinity_of};
 ghost use Rattle.affinity_tree.specs.Layout.{layout_of};
 ghost use Rattle.desk_laws.specs.Backing.{excludes_lent, IsTakenIn};
-ghost use Rattle.desk.specs.Any.{lent_of};
+ghost use Rattle.desk.specs.Any.{small_lent, large_lent};
+ghost use Rattle.desk.specs.Places.{granted, all_granted, shown};
 
-use crate::grant::AnyGrant;
+use crate::grant::{LargeGrant, SmallGrant};
 use crate::kinds::NodeKinds;
+use crate::place::Place;
 use affinity_tree::{Affinity, HasKind, Layout};
 
-/// What was granted.
-fn affinity_in<T: HasKind, K: NodeKinds<T>>(layout: &Layout, any: &AnyGrant<T, K>) -> Affinity
-    ensures { affinity_of result ≡ (lent_of (layout_of layout.now) any.now).affinity }
+/// What was granted of a volume or below one.
+fn affinity_in_small<T: HasKind, K: NodeKinds<T>>(
+    layout: &Layout,
+    grant: &SmallGrant<T, K>,
+) -> Affinity
+    ensures { let L = layout_of layout.now in
+        affinity_of result ≡ (small_lent grant.now L).affinity }
 {
-    match any {
-        AnyGrant::Range(node) => node.grant.affinity(),
-        AnyGrant::Vbn(node) => node.grant.affinity(),
-        AnyGrant::Stripe(node) => node.grant.affinity(),
-        AnyGrant::Logical(node) => node.grant.affinity(),
-        AnyGrant::Volume(node) => node.grant.affinity(),
-        AnyGrant::Aggregate(node) => node.grant.affinity(),
-        AnyGrant::Serial(node) => node.grant.affinity(),
+    match grant {
+        SmallGrant::Range(node) => node.grant.affinity(),
+        SmallGrant::Vbn(node) => node.grant.affinity(),
+        SmallGrant::Stripe(node) => node.grant.affinity(),
+        SmallGrant::Logical(node) => node.grant.affinity(),
+        SmallGrant::Volume(node) => node.grant.affinity(),
+    }
+}
+
+/// What was granted of a node with volumes below it.
+fn affinity_in_large<T: HasKind, K: NodeKinds<T>>(
+    layout: &Layout,
+    grant: &LargeGrant<T, K>,
+) -> Affinity
+    ensures { let L = layout_of layout.now in
+        affinity_of result ≡ (large_lent grant.now L).affinity }
+{
+    match grant {
+        LargeGrant::Aggregate(node) => node.grant.affinity(),
+        LargeGrant::Serial(node) => node.grant.affinity(),
     }
 }
 
 /// Whether what a worker has excludes an affinity.
 fn is_excluded<T: HasKind, K: NodeKinds<T>>(
     layout: &Layout,
-    grant: &Option<AnyGrant<T, K>>,
+    place: &Place<T, K>,
     affinity: Affinity,
 ) -> bool
     ensures { let L = layout_of layout.now in
-        result ≡ excludes_lent L (affinity_of affinity) (option_map (lent_of L) grant.now) }
+        result ≡ excludes_lent L (affinity_of affinity) (option_map (shown L) (granted place.now)) }
 {
-    match grant {
-        Some(any) => affinity.excludes(affinity_in(layout, any), layout),
-        None => false,
+    match (&place.small, &place.large) {
+        (Some(grant), _) => affinity.excludes(affinity_in_small(layout, grant), layout),
+        (None, Some(grant)) => affinity.excludes(affinity_in_large(layout, grant), layout),
+        (None, None) => false,
     }
 }
 
 /// Whether a worker has something that excludes an affinity.
 pub(crate) fn is_taken<T: HasKind, K: NodeKinds<T>>(
     layout: &Layout,
-    grants: &[Option<AnyGrant<T, K>>],
+    places: &[Place<T, K>],
     affinity: Affinity,
 ) -> bool
     ensures { let L = layout_of layout.now in
-        (result ≡ true) ↔ IsTakenIn lent_of L grants.now (affinity_of affinity) }
+        (result ≡ true) ↔ IsTakenIn shown L (all_granted places.now) (affinity_of affinity) }
 {
-    for worker in 0..grants.len() {
-        if is_excluded(layout, &grants[worker], affinity) {
+    for worker in 0..places.len() {
+        if is_excluded(layout, &places[worker], affinity) {
             return true;
         }
     }

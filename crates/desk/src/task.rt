@@ -1,15 +1,11 @@
 //! Work on what was lent, of whichever kind.
 
-ghost use Rattle.std.specs.Prelude.{◌≡◌};
 ghost use Rattle.affinity_tree.specs.Affinity.{affinity_of};
 ghost use Rattle.affinity_tree.specs.Layout.{layout_of};
 ghost use Rattle.affinity_tree.specs.Tree.{IsNode};
 ghost use Rattle.parcel_sets.specs.Exact.{HasExactly};
 ghost use Rattle.desk_laws.specs.Calls.{Asks, Does};
-ghost use Rattle.desk_laws.specs.Backing.{IsWhole, IsDone};
-ghost use Rattle.desk.specs.Any.{lent_of};
 
-use crate::grant::AnyGrant;
 use crate::kinds::NodeKinds;
 use affinity_tree::{Affinity, HasKind, Layout};
 use parcel_sets::Node;
@@ -144,52 +140,4 @@ pub trait Task<T: HasKind, K: NodeKinds<T>> {
             HasExactly T.kind L a (K.Serial.parcels L a held.new) }
         ensures does { let L = layout_of layout.now in let a = affinity_of affinity in
             does self L a (K.Serial.parcels L a held.old) result (K.Serial.parcels L a held.new) };
-}
-
-/// Does a task on what was granted.
-pub(crate) fn work_any<T: HasKind, K: NodeKinds<T>, W: Task<T, K>>(
-    layout: &Layout,
-    any: &mut AnyGrant<T, K>,
-    task: W,
-) -> W::Output
-    requires node { let L = layout_of layout.now in IsNode L (lent_of L any.old).affinity }
-    requires whole { let L = layout_of layout.now in
-        IsWhole T.kind L (lent_of L any.old) }
-    requires asks { let L = layout_of layout.now in let l = lent_of L any.old in
-        W.asks task L l.affinity l.parcels }
-    ensures whole { let L = layout_of layout.now in
-        IsWhole T.kind L (lent_of L any.new) }
-    ensures done { let L = layout_of layout.now in
-        IsDone (W.does task) L (lent_of L any.old) result (lent_of L any.new) }
-{
-    match any {
-        AnyGrant::Range(node) => {
-            let affinity = node.grant.affinity();
-            task.on_range(layout, affinity, node.grant.held())
-        }
-        AnyGrant::Vbn(node) => {
-            let affinity = node.grant.affinity();
-            task.on_vbn(layout, affinity, node.grant.held())
-        }
-        AnyGrant::Stripe(node) => {
-            let affinity = node.grant.affinity();
-            task.on_stripe(layout, affinity, node.grant.held())
-        }
-        AnyGrant::Logical(node) => {
-            let affinity = node.grant.affinity();
-            task.on_logical(layout, affinity, node.grant.held())
-        }
-        AnyGrant::Volume(node) => {
-            let affinity = node.grant.affinity();
-            task.on_volume(layout, affinity, node.grant.held())
-        }
-        AnyGrant::Aggregate(node) => {
-            let affinity = node.grant.affinity();
-            task.on_aggregate(layout, affinity, node.grant.held())
-        }
-        AnyGrant::Serial(node) => {
-            let affinity = node.grant.affinity();
-            task.on_serial(layout, affinity, node.grant.held())
-        }
-    }
 }

@@ -1,32 +1,37 @@
 use Rattle.std.proofs.Common.{◌<◌, ◌≤◌, length, arith, refl}
+use Rattle.std.proofs.lemmas.List.{length-map}
 use Rattle.affinity_tree.specs.Affinity.{affinity_of}
 use Rattle.affinity_tree.specs.Layout.{layout_of}
 use Rattle.desk_laws.specs.lemmas.Taken.{taken-here, none-more, none-taken}
-use Rattle.desk.specs.Any.{lent_of}
+use Rattle.desk.specs.Places.{granted, all_granted, shown}
+use Rattle.desk.proofs.Places.{told-there}
 use Rattle.desk.proofs.taken.is_taken.Goals as goal
 
 pub returns-then-is_excluded : goal.returns-then-is_excluded
 returns-then-is_excluded g c =
-    let below = c.loop-worker-test.true in
-    let room : c.loop-worker.worker < length c.args.grants.now = omega arith in (
-      λ e. taken-here lent_of (layout_of c.args.layout.now) c.args.grants.now (affinity_of c.args.affinity) c.loop-worker.worker c.index-grants-worker.result
-          c.is_excluded.result room c.index-grants-worker.is c.is_excluded.ensures c.if-is_excluded.true,
+    let L = layout_of c.args.layout.now in let gs = all_granted c.args.places.now in
+    let below = c.loop-worker-test.true in let all = length-map c.args.places.now granted in
+    let room : c.loop-worker.worker < length gs = omega (arith, below, all) in (
+      λ e. taken-here shown L gs (affinity_of c.args.affinity) c.loop-worker.worker (granted c.index-places-worker.result) c.is_excluded.result room
+          (told-there granted c.args.places.now c.loop-worker.worker c.index-places-worker.result c.index-places-worker.is) c.is_excluded.ensures
+          c.if-is_excluded.true,
       λ taken. refl,
     )
 
 pub loop-worker-preserved : goal.loop-worker-preserved
 loop-worker-preserved g c =
-    let below = c.loop-worker-test.true in
-    let room : c.loop-worker.worker < length c.args.grants.now = omega arith in
-    none-more lent_of (layout_of c.args.layout.now) c.args.grants.now (affinity_of c.args.affinity) c.loop-worker.worker c.index-grants-worker.result
-    c.is_excluded.result room c.index-grants-worker.is c.is_excluded.ensures
+    let L = layout_of c.args.layout.now in let gs = all_granted c.args.places.now in
+    let below = c.loop-worker-test.true in let all = length-map c.args.places.now granted in
+    let room : c.loop-worker.worker < length gs = omega (arith, below, all) in
+    none-more shown L gs (affinity_of c.args.affinity) c.loop-worker.worker (granted c.index-places-worker.result) c.is_excluded.result room
+    (told-there granted c.args.places.now c.loop-worker.worker c.index-places-worker.result c.index-places-worker.is) c.is_excluded.ensures
     c.if-is_excluded.false c.loop-worker.invariant
 
 pub returns : goal.returns
 returns g c =
-    let over = c.loop-worker-test.false in
-    let most : length c.args.grants.now ≤ c.loop-worker.worker = omega arith in (
+    let L = layout_of c.args.layout.now in let gs = all_granted c.args.places.now in
+    let over = c.loop-worker-test.false in let all = length-map c.args.places.now granted in
+    let most : length gs ≤ c.loop-worker.worker = omega (arith, over, all) in (
       λ e. absurd (cc),
-      λ taken. absurd (none-taken lent_of (layout_of c.args.layout.now) c.args.grants.now (affinity_of c.args.affinity) c.loop-worker.worker most
-          c.loop-worker.invariant taken),
+      λ taken. absurd (none-taken shown L gs (affinity_of c.args.affinity) c.loop-worker.worker most c.loop-worker.invariant taken),
     )

@@ -1,8 +1,9 @@
 use Rattle.std.proofs.Common.{◌<◌, length, arith}
+use Rattle.std.proofs.lemmas.List.{length-map}
 use Rattle.depot.specs.Words.{layout_in, view}
 use Rattle.desk_laws.specs.lemmas.Begins.{in-room}
-use Rattle.desk_laws.specs.lemmas.Taken.{said-idle}
-use Rattle.desk.specs.Any.{lent_of}
+use Rattle.desk.specs.Places.{granted, all_granted, shown}
+use Rattle.desk.proofs.Places.{told-there, told-idle}
 use Rattle.desk.proofs.desk.Desk.is_idle.Goals as goal
 
 pub returns-then-worker-len : goal.returns-then-worker-len
@@ -11,16 +12,16 @@ returns-then-worker-len g c = (
   λ idle.
       let past = c.if-worker-len.true in
       let count = c.len.ensures in
-      let self = c.args.self.now in
-      let room : c.args.worker < length self.grants.items = in-room lent_of (layout_in self.depot) (view self.seat) self.grants.items c.args.worker _ idle in
-      absurd (omega arith),
+      let self = c.args.self.now in let gs = all_granted self.places.items in let all = length-map self.places.items granted in
+      let room : c.args.worker < length gs = in-room shown (layout_in self.depot) (view self.seat) gs c.args.worker _ idle in
+      absurd (omega (arith, past, count, all, room)),
 )
 
 pub returns : goal.returns
 returns g c =
     let within = c.if-worker-len.false in
     let count = c.len.ensures in
-    let self = c.args.self.now in
-    let room : c.args.worker < length self.grants.items = omega arith in
-    said-idle lent_of (layout_in self.depot) (view self.seat) self.grants.items c.args.worker c.index.result.now c.is_none.result room
-    c.index.ensures c.is_none.ensures
+    let self = c.args.self.now in let gs = all_granted self.places.items in let all = length-map self.places.items granted in
+    let room : c.args.worker < length gs = omega (arith, within, count, all) in
+    told-idle shown (layout_in self.depot) (view self.seat) gs c.args.worker c.is_idle_place.result (granted c.index.result.now) room
+    (told-there granted self.places.items c.args.worker c.index.result.now c.index.ensures) c.is_idle_place.ensures

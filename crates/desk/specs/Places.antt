@@ -1,0 +1,29 @@
+-- What lies in a worker's place.
+use Rattle.std.specs.Prelude.{List, map, Option, Some, None, option_map}
+use Rattle.nfs_model.specs.Tree.{Layout}
+use Rattle.affinity_tree.specs.declared.affinity.HasKind as kinds
+use Rattle.parcel_sets.specs.declared.node.Node as nodes
+use Rattle.desk_laws.specs.Books.{Lent}
+use Rattle.desk_laws.specs.Backing.{Shows}
+use Rattle.desk.specs.declared.place.Place.{Place}
+use Rattle.desk.specs.Any.{small_lent, large_lent}
+
+-- the first of two, or else the second
+abbrev pub either : {A : Type 0} → Option A → Option A → Option A
+either (Some x) other = Some x
+either None other = other
+
+-- what is lent in a layout
+abbrev pub shown : {P : Type 0} → Shows (Layout → Lent P) P
+shown layout lends = lends layout
+
+module _ {T K N1 N2 N3 N4 N5 N6 N7 H1 H2 H3 H4 H5 H6 H7 : Type 0} {Q : kinds.Ghosts T}
+    {G1 : nodes.Ghosts N1 T H1} {G2 : nodes.Ghosts N2 T H2} {G3 : nodes.Ghosts N3 T H3} {G4 : nodes.Ghosts N4 T H4} {G5 : nodes.Ghosts N5 T H5}
+    {G6 : nodes.Ghosts N6 T H6} {G7 : nodes.Ghosts N7 T H7} where
+  -- what the grant in a place lends, if there is one
+  abbrev pub granted : Place T K N1 N2 N3 N4 N5 N6 N7 H1 H2 H3 H4 H5 H6 H7 Q G1 G2 G3 G4 G5 G6 G7 → Option (Layout → Lent T)
+  granted place = either (option_map small_lent place.small) (option_map large_lent place.large)
+
+  -- the same of each place
+  abbrev pub all_granted : List (Place T K N1 N2 N3 N4 N5 N6 N7 H1 H2 H3 H4 H5 H6 H7 Q G1 G2 G3 G4 G5 G6 G7) → List (Option (Layout → Lent T))
+  all_granted places = map granted places

@@ -1,0 +1,16 @@
+//! A worker's place on a desk.
+
+ghost use Rattle.std.specs.Prelude.{◌≡◌, ◌&&◌, false, is_some};
+
+use crate::grant::{LargeGrant, SmallGrant};
+use crate::kinds::NodeKinds;
+use affinity_tree::HasKind;
+
+/// A worker's place. An `Option` is filled and moved whole, whatever lies in it: so a large grant,
+/// which is rare, has a field of its own.
+#[derive(Drop)]
+pub struct Place<T: HasKind, K: NodeKinds<T>> {
+    pub(crate) small: Option<SmallGrant<T, K>>,
+    pub(crate) large: Option<LargeGrant<T, K>>,
+    pub ghost one: { (is_some small && is_some large) ≡ false },
+}

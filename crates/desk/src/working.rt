@@ -1,0 +1,109 @@
+//! Tasks on what was granted.
+
+ghost use Rattle.std.specs.Prelude.{◌≡◌, Some, IsSomeAnd};
+ghost use Rattle.affinity_tree.specs.Layout.{layout_of};
+ghost use Rattle.affinity_tree.specs.Tree.{IsNode};
+ghost use Rattle.nfs_model.specs.Tree as trees;
+ghost use Rattle.desk_laws.specs.Books.{Lent};
+ghost use Rattle.desk_laws.specs.Backing.{IsWhole, IsDone};
+ghost use Rattle.desk.specs.Any.{small_lent, large_lent};
+ghost use Rattle.desk.specs.Places.{granted};
+
+use crate::grant::{LargeGrant, SmallGrant};
+use crate::kinds::NodeKinds;
+use crate::place::Place;
+use crate::task::Task;
+use affinity_tree::{HasKind, Layout};
+
+/// Does a task on what was granted of a volume or below one.
+fn work_small<T: HasKind, K: NodeKinds<T>, W: Task<T, K>>(
+    layout: &Layout,
+    grant: &mut SmallGrant<T, K>,
+    task: W,
+) -> W::Output
+    requires node { let L = layout_of layout.now in IsNode L (small_lent grant.old L).affinity }
+    requires whole { let L = layout_of layout.now in
+        IsWhole T.kind L (small_lent grant.old L) }
+    requires asks { let L = layout_of layout.now in let l = small_lent grant.old L in
+        W.asks task L l.affinity l.parcels }
+    ensures whole { let L = layout_of layout.now in
+        IsWhole T.kind L (small_lent grant.new L) }
+    ensures done { let L = layout_of layout.now in
+        IsDone (W.does task) L (small_lent grant.old L) result (small_lent grant.new L) }
+{
+    match grant {
+        SmallGrant::Range(node) => {
+            let affinity = node.grant.affinity();
+            task.on_range(layout, affinity, node.grant.held())
+        }
+        SmallGrant::Vbn(node) => {
+            let affinity = node.grant.affinity();
+            task.on_vbn(layout, affinity, node.grant.held())
+        }
+        SmallGrant::Stripe(node) => {
+            let affinity = node.grant.affinity();
+            task.on_stripe(layout, affinity, node.grant.held())
+        }
+        SmallGrant::Logical(node) => {
+            let affinity = node.grant.affinity();
+            task.on_logical(layout, affinity, node.grant.held())
+        }
+        SmallGrant::Volume(node) => {
+            let affinity = node.grant.affinity();
+            task.on_volume(layout, affinity, node.grant.held())
+        }
+    }
+}
+
+/// Does a task on what was granted of a node with volumes below it.
+fn work_large<T: HasKind, K: NodeKinds<T>, W: Task<T, K>>(
+    layout: &Layout,
+    grant: &mut LargeGrant<T, K>,
+    task: W,
+) -> W::Output
+    requires node { let L = layout_of layout.now in IsNode L (large_lent grant.old L).affinity }
+    requires whole { let L = layout_of layout.now in
+        IsWhole T.kind L (large_lent grant.old L) }
+    requires asks { let L = layout_of layout.now in let l = large_lent grant.old L in
+        W.asks task L l.affinity l.parcels }
+    ensures whole { let L = layout_of layout.now in
+        IsWhole T.kind L (large_lent grant.new L) }
+    ensures done { let L = layout_of layout.now in
+        IsDone (W.does task) L (large_lent grant.old L) result (large_lent grant.new L) }
+{
+    match grant {
+        LargeGrant::Aggregate(node) => {
+            let affinity = node.grant.affinity();
+            task.on_aggregate(layout, affinity, node.grant.held())
+        }
+        LargeGrant::Serial(node) => {
+            let affinity = node.grant.affinity();
+            task.on_serial(layout, affinity, node.grant.held())
+        }
+    }
+}
+
+/// Does a task on what lies in a place.
+pub(crate) fn work_in<T: HasKind, K: NodeKinds<T>, W: Task<T, K>>(
+    layout: &Layout,
+    place: &mut Place<T, K>,
+    task: W,
+) -> W::Output
+    requires node { let L = layout_of layout.now in IsSomeAnd (granted place.old) (λ lends.
+        IsNode L (lends L).affinity) }
+    requires whole { let L = layout_of layout.now in IsSomeAnd (granted place.old) (λ lends.
+        IsWhole T.kind L (lends L)) }
+    requires asks { let L = layout_of layout.now in IsSomeAnd (granted place.old) (λ lends.
+        W.asks task L (lends L).affinity (lends L).parcels) }
+    ensures done { let L = layout_of layout.now in IsSomeAnd (granted place.old) (λ before.
+        (after : trees.Layout → Lent T) × (granted place.new ≡ Some after)
+        × IsWhole T.kind L (after L) × IsDone (W.does task) L (before L) result (after L)) }
+{
+    match &mut place.small {
+        Some(grant) => work_small::<T, K, W>(layout, grant, task),
+        None => match &mut place.large {
+            Some(grant) => work_large::<T, K, W>(layout, grant, task),
+            None => unreachable!(),
+        },
+    }
+}
