@@ -3,7 +3,7 @@ use denote.Param.Send.{IsSend, sendable}
 use denote.Param.SendFields.{declared_send}
 use Rattle.std.proofs.Crossing.{crosses}
 use Rattle.crossings.proofs.Bells.{bells-send, bells-sync}
-use Rattle.gathering.proofs.Crossing.{worker-send, filer-send, filer-sync}
+use Rattle.workers.proofs.Crossing.{worker-send, filer-send, filer-sync}
 use Rattle.pool.specs.contracts.task.Task as Task
 
 pub task-send : IsSend Task.the_row

@@ -6,11 +6,11 @@ use Rattle.depot_rule.specs.Sums.{total}
 use Rattle.depot_rule.specs.lemmas.Sums.{total-append}
 use Rattle.shared_waiting.specs.Balance.{part}
 use Rattle.pool.specs.Heirs.{IsHeir}
-use Rattle.gathering.specs.Shares.{share_of}
+use Rattle.pool.specs.Shares.{share_of}
 use Rattle.pool.specs.Threads.{Thread, ServesIn}
-use Rattle.gathering.specs.Filer.{Filer}
-use Rattle.gathering.specs.Worker.{Worker}
-use Rattle.gathering.specs.Words.{passed, seats_in, IsIn}
+use Rattle.workers.specs.declared.shared.Filer.{Filer}
+use Rattle.workers.specs.declared.worker.Worker.{Worker}
+use Rattle.workers.specs.Words.{passed, seats_in, IsIn}
 
 -- the last of one list becomes the last of another
 pub handed : {X Y : Type 0} → (f : X → ℕ) (g : Y → ℕ) (xs ys : List X) (hs rest : List Y) (y : X) (h : Y)

@@ -2,11 +2,11 @@
 use Rattle.std.specs.Prelude.{◌≡◌, ◌≤◌, ◌+◌, ℕ, List, [], All, vec_capacity}
 use Rattle.depot_rule.specs.Sums.{total}
 use Rattle.pool.specs.declared.pool.Pool.{Pool}
-use Rattle.gathering.specs.Shares.{share_of}
+use Rattle.pool.specs.Shares.{share_of}
 use Rattle.pool.specs.Threads.{Thread}
-use Rattle.gathering.specs.Filer.{Filer}
-use Rattle.gathering.specs.Worker.{Worker}
-use Rattle.gathering.specs.Words.{passed, seats_in, IsIn}
+use Rattle.workers.specs.declared.shared.Filer.{Filer}
+use Rattle.workers.specs.declared.worker.Worker.{Worker}
+use Rattle.workers.specs.Words.{passed, seats_in, IsIn}
 
 -- its threads
 abbrev pub threads_of : Pool → List Thread

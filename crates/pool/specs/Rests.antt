@@ -5,12 +5,12 @@ use Rattle.nfs_model.specs.Events.Refusals.{is_empty_hand}
 use Rattle.pool.specs.declared.tending.Found.{Found}
 use Rattle.pool.specs.declared.tending.Found.TheVariants as found
 use Rattle.pool.specs.declared.tending.Tending.{Tending}
-use Rattle.gathering.specs.Tend.{Tend}
-use Rattle.gathering.specs.Tended.{Tended}
-use Rattle.gathering.specs.TendRefusal.{TendRefusal}
-use Rattle.gathering.specs.TendRefusal.TheVariants.{Busy, NoMemory}
-use Rattle.gathering.specs.Worker.{Worker}
-use Rattle.gathering.specs.Tends.{blocks_moved, hand_in, IsNextTend, Tends}
+use Rattle.workers.specs.declared.tend.Tend.{Tend}
+use Rattle.workers.specs.declared.tend.Tended.{Tended}
+use Rattle.workers.specs.declared.tend.TendRefusal.{TendRefusal}
+use Rattle.workers.specs.declared.tend.TendRefusal.TheVariants.{Busy, NoMemory}
+use Rattle.workers.specs.declared.worker.Worker.{Worker}
+use Rattle.workers.specs.Tends.{blocks_moved, hand_in, IsNextTend, Tends}
 
 -- what a tend found, by its answer: a refusal because a node was taken says nothing of what is there
 abbrev pub found_by : Result Tended TendRefusal → Found

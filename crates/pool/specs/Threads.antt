@@ -2,13 +2,13 @@
 use Rattle.std.specs.Prelude.{◌≡◌, ℕ}
 use Rattle.std.specs.Arc.{arc_value}
 use Rattle.std.specs.declared.thread.PromisedHandle.{PromisedHandle}
-use Rattle.gathering.specs.Shares.{share_of}
+use Rattle.pool.specs.Shares.{share_of}
 use Rattle.pool.specs.declared.refusal.StartRefusal.{StartRefusal}
 use Rattle.pool.specs.declared.refusal.StartRefusal.TheVariants.{NoThread, NoMemory}
 use Rattle.pool.specs.declared.task.Serves.{Serves}
-use Rattle.gathering.specs.Filer.{Filer}
-use Rattle.gathering.specs.Worker.{Worker}
-use Rattle.gathering.specs.Words.{seats_in}
+use Rattle.workers.specs.declared.shared.Filer.{Filer}
+use Rattle.workers.specs.declared.worker.Worker.{Worker}
+use Rattle.workers.specs.Words.{seats_in}
 
 abbrev pub Thread : Type 0
 Thread = PromisedHandle Worker Serves

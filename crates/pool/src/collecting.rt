@@ -2,14 +2,14 @@
 
 ghost use Rattle.std.specs.Prelude.{◌≡◌, ◌≤◌, ◌+◌, ℕ, All, vec_len, vec_capacity};
 ghost use Rattle.depot_rule.specs.Sums.{total};
-ghost use Rattle.gathering.specs.Shares.{share_of};
+ghost use Rattle.pool.specs.Shares.{share_of};
 ghost use Rattle.pool.specs.Threads.{seats_with, share_with, ServesIn};
-ghost use Rattle.gathering.specs.Words.{seats_in, IsIn};
-ghost use Rattle.gathering.specs.Filer.{Filer};
+ghost use Rattle.workers.specs.Words.{seats_in, IsIn};
+ghost use Rattle.workers.specs.declared.shared.Filer.{Filer};
 
 use crate::task::Thread;
-use gathering::Worker;
 use std::thread::Threads;
+use workers::Worker;
 
 /// The workers, and those that the threads give back.
 pub(crate) fn collect<R: Threads>(

@@ -4,14 +4,15 @@ ghost use Rattle.std.specs.Prelude.{◌≡◌, ◌≤◌, [], vec_len, vec_capac
 
 use crate::collecting::collect;
 use crate::refusal::NotStarted;
+use crate::splits::split_workers;
 use crate::starting::start_all;
 use crate::task::Thread;
 use bells::Bells;
-use gathering::{Filer, Gate, Worker, split_workers};
 use std::alloc::{AllocError, Global};
 use std::rt::Clock;
 use std::sync::{Arc, Wait};
 use std::thread::Threads;
+use workers::{Filer, Gate, Worker};
 
 /// The most threads of a pool.
 const MOST_THREADS: usize = 64;
@@ -42,10 +43,10 @@ impl Pool {
     ghost use Rattle.std.specs.Arc.{arc_value};
     ghost use Rattle.depot_rule.specs.Sums.{total};
     ghost use Rattle.pool.specs.Pools.{threads_of, AreSplitFrom, IsVacant};
-    ghost use Rattle.gathering.specs.Shares.{share_of};
+    ghost use Rattle.pool.specs.Shares.{share_of};
     ghost use Rattle.pool.specs.Threads.{seats_with, share_with, ServesIn};
-    ghost use Rattle.gathering.specs.Filer.{Filer};
-    ghost use Rattle.gathering.specs.Words.{passed, seats_in, IsIn};
+    ghost use Rattle.workers.specs.declared.shared.Filer.{Filer};
+    ghost use Rattle.workers.specs.Words.{passed, seats_in, IsIn};
 
     /// A pool without a thread, with room for 64, whose threads will sleep on these bells.
     pub fn new(alloc: Global, bells: Arc<Bells>) -> Result<Pool, AllocError>

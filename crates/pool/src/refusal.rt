@@ -2,7 +2,7 @@
 
 ghost use Rattle.std.specs.Prelude.{◌≡◌};
 
-use gathering::Worker;
+use workers::Worker;
 
 /// Why a pool didn't start.
 #[derive(Clone, Copy)]

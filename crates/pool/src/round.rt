@@ -2,16 +2,16 @@
 
 ghost use Rattle.bells.specs.Told.{HasTold};
 ghost use Rattle.pool.specs.Heirs.{IsHeir};
-ghost use Rattle.gathering.specs.Words.{IsIn};
+ghost use Rattle.workers.specs.Words.{IsIn};
 
 use crate::sleeping::{Seen, sleep};
 use crate::tending::{Found, tend};
 use crate::watch::Watch;
 use bells::{Bells, Patience};
-use gathering::{Filer, Gate, Worked, Worker};
 use std::hint::spin_loop;
 use std::rt::Clock;
 use std::sync::Wait;
+use workers::{Filer, Gate, Worked, Worker};
 
 /// Puts down what is in the worker's hand, if anything is.
 fn put_down(filer: &Filer, bells: &Bells, worker: Worker, watch: &mut Watch) -> Worker

@@ -1,14 +1,14 @@
 //! The loop of a worker's thread.
 
 ghost use Rattle.pool.specs.Heirs.{IsHeir};
-ghost use Rattle.gathering.specs.Words.{IsIn};
+ghost use Rattle.workers.specs.Words.{IsIn};
 
 use crate::round::round;
 use crate::watch::Watch;
 use bells::Bells;
-use gathering::{Filer, Gate, Worker};
 use std::rt::Clock;
 use std::sync::Wait;
+use workers::{Filer, Gate, Worker};
 
 /// Runs a worker, round for round, until the workers' bell is stopped. While its thread is awake it
 /// has one of the places at which calls are run, from its start on.

@@ -3,13 +3,13 @@
 ghost use Rattle.std.specs.Prelude.{◌≡◌, true};
 ghost use Rattle.bells.specs.Told.{HasTold};
 ghost use Rattle.pool.specs.Rests.{may_sleep};
-ghost use Rattle.gathering.specs.Words.{layout_in};
+ghost use Rattle.workers.specs.Words.{layout_in};
 
 use crate::watch::Watch;
 use bells::Bells;
-use gathering::{Filer, Worker};
 use std::sync::Wait;
 use std::time::Duration;
+use workers::{Filer, Worker};
 
 /// What a thread had heard and seen before it looked for a message.
 #[derive(Clone, Copy)]

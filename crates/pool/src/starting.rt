@@ -16,18 +16,18 @@ ghost use Rattle.std.specs.Prelude.{
 ghost use Rattle.std.specs.Arc.{arc_value};
 ghost use Rattle.depot_rule.specs.Sums.{total};
 ghost use Rattle.pool.specs.Heirs.{IsHeir};
-ghost use Rattle.gathering.specs.Shares.{share_of};
+ghost use Rattle.pool.specs.Shares.{share_of};
 ghost use Rattle.pool.specs.Threads.{seats_with, share_with, ServesIn};
-ghost use Rattle.gathering.specs.Words.{seats_in, IsIn};
+ghost use Rattle.workers.specs.Words.{seats_in, IsIn};
 
 use crate::refusal::StartRefusal;
 use crate::task::{Task, Thread, start_one};
 use bells::Bells;
-use gathering::{Filer, Gate, Worker};
 use std::alloc::AllocError;
 use std::rt::Clock;
 use std::sync::{Arc, Wait};
 use std::thread::Threads;
+use workers::{Filer, Gate, Worker};
 
 /// A worker for which no thread was started.
 #[derive(Drop)]

@@ -3,16 +3,16 @@
 ghost use Rattle.std.specs.Prelude.{◌≡◌, MatchResult};
 ghost use Rattle.std.specs.Arc.{arc_value};
 ghost use Rattle.pool.specs.Heirs.{IsHeir};
-ghost use Rattle.gathering.specs.Words.{IsIn};
+ghost use Rattle.workers.specs.Words.{IsIn};
 
 use crate::serving::serve;
 use bells::Bells;
-use gathering::{Filer, Gate, Worker};
 use std::rt::Clock;
 use std::snapshot::Snapshot;
 use std::sync::{Arc, Wait};
 use std::thread;
 use std::thread::{Promise, PromisedHandle, Threads};
+use workers::{Filer, Gate, Worker};
 
 /// A worker, and what it shares with others.
 #[derive(Drop)]
@@ -33,7 +33,7 @@ pub struct Serves {
 impl Promise<Worker> for Serves {
     ghost use Rattle.std.specs.Arc.{arc_value};
     ghost use Rattle.pool.specs.Heirs.{IsHeir};
-    ghost use Rattle.gathering.specs.Words.{IsIn};
+    ghost use Rattle.workers.specs.Words.{IsIn};
 
     ghost kept_by = { λ p w. IsIn (arc_value p.filer.value) w × IsHeir p.worker.value w };
 }

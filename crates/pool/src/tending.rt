@@ -3,9 +3,9 @@
 ghost use Rattle.std.specs.Prelude.{◌≡◌};
 ghost use Rattle.pool.specs.Heirs.{IsHeir};
 ghost use Rattle.pool.specs.Rests.{found_by, may_sleep, HasTended};
-ghost use Rattle.gathering.specs.Words.{layout_in, IsIn};
+ghost use Rattle.workers.specs.Words.{layout_in, IsIn};
 
-use gathering::{Filer, Tend, TendRefusal, Tended, Worker};
+use workers::{Filer, Tend, TendRefusal, Tended, Worker};
 
 /// The tends that look at all there is of one volume: at each of its 16 ranges a fetch, with a
 /// cull before it.

@@ -1,1 +1,4 @@
 mod Wholes
+mod Shares
+mod Handed
+mod Helpers

@@ -9,9 +9,9 @@ use Rattle.pool.specs.Shares.{picked_by, share_of, AreAll, FilerPass}
 use Rattle.pool.specs.Pools.{threads_of}
 use Rattle.pool.specs.Threads.{seats_with, share_with, ServesIn}
 use Rattle.pool.specs.declared.pool.Pool.{Pool}
-use Rattle.serving.specs.Places as places
-use Rattle.serving.specs.Places.{share_in, AreSlotsOf, HasAll, IsReaderOf}
-use Rattle.serving.specs.declared.slots.Slots.{Slots}
+use Rattle.server.specs.Places as places
+use Rattle.server.specs.Places.{share_in, AreSlotsOf, HasAll, IsReaderOf}
+use Rattle.server.specs.declared.slots.Slots.{Slots}
 use Rattle.shared_waiting.specs.Balance.{left, right, part, IsWhole}
 use Rattle.shared_waiting.specs.Passes.{known, IsOf}
 use Rattle.pool.specs.Balance.{Passed, Weight, by_key}

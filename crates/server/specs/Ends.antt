@@ -3,10 +3,10 @@ use Rattle.std.specs.Prelude.{List, All}
 use Rattle.depot_rule.specs.Sums.{total}
 use Rattle.pool.specs.Ends.{HasEnded}
 use Rattle.pool.specs.Shares.{put_by, FilerPass}
-use Rattle.pool.specs.Ended.{Ended}
+use Rattle.pool.specs.declared.ended.Ended.{Ended}
 use Rattle.nfs_model.specs.Tree as trees
 use Rattle.parcel_sets.specs.Sets.{serial_parcels}
-use Rattle.serving.specs.Places.{IsReaderOf}
+use Rattle.server.specs.Places.{IsReaderOf}
 use Rattle.pool.specs.Words.{layout_in, verifier_in}
 use Rattle.pool.specs.Filer.{Filer}
 

@@ -1,11 +1,11 @@
 -- What ends a server (our profile).
-use Rattle.serving.specs.ServeRefusal.TheVariants as refused
+use Rattle.connections.specs.declared.refusal.ServeRefusal.TheVariants as refused
 use Rattle.pool.specs.declared.refusal.StartRefusal.{StartRefusal}
 use Rattle.pool.specs.declared.refusal.StartRefusal.TheVariants as start
 use Rattle.server.specs.declared.fault.ServerFault.{ServerFault}
 use Rattle.server.specs.declared.fault.ServerFault.TheVariants as faults
-use Rattle.serving.specs.declared.fault.ServeFault.{ServeFault}
-use Rattle.serving.specs.declared.fault.ServeFault.TheVariants as serving
+use Rattle.server.specs.declared.serve_fault.ServeFault.{ServeFault}
+use Rattle.server.specs.declared.serve_fault.ServeFault.TheVariants as serving
 
 abbrev pub fault_of_start : StartRefusal → ServerFault
 fault_of_start start.NoThread = faults.Thread

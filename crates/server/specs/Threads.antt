@@ -3,13 +3,13 @@ use Rattle.std.specs.Prelude.{◌≡◌, ◌≤◌, ◌^◌, ◌+◌, ℕ, List,
 use Rattle.depot_rule.specs.Sums.{total}
 use Rattle.pool.specs.Gathered.{calls_by, IsLeftOf}
 use Rattle.pool.specs.Shares.{share_of, put_by, FilerPass}
-use Rattle.pool.specs.Left.{Left}
+use Rattle.pool.specs.declared.left.Left.{Left}
 use Rattle.pool.specs.Pools.{threads_of}
 use Rattle.pool.specs.Threads.{seats_with, share_with, ServesIn}
 use Rattle.pool.specs.declared.pool.Pool.{Pool}
-use Rattle.serving.specs.Places as places
-use Rattle.serving.specs.Places.{share_in, AreSlotsOf, IsReaderOf}
-use Rattle.serving.specs.declared.slots.Slots.{Slots}
+use Rattle.server.specs.Places as places
+use Rattle.server.specs.Places.{share_in, AreSlotsOf, IsReaderOf}
+use Rattle.server.specs.declared.slots.Slots.{Slots}
 use Rattle.pool.specs.Balance.{Weight}
 use Rattle.pool.specs.Words.{seats_in, IsIn}
 use Rattle.pool.specs.Filer.{Filer}

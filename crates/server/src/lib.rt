@@ -1,11 +1,19 @@
 //! A filer with its threads: opened, served to the connections of a listener, stopped and closed.
 #![tactic(auto)]
 
+mod accepting;
 mod ending;
 mod fault;
+mod lending;
 mod opening;
 mod options;
+mod parting;
+mod reaping;
+mod room;
 mod running;
+mod serve_fault;
+mod slots;
+mod splitting;
 mod stopping;
 
 pub use fault::ServerFault;

@@ -8,10 +8,11 @@ ghost use Rattle.server.specs.Threads.{IsOpened};
 
 use crate::fault::ServerFault;
 use crate::options::{MOST_VOLUMES, MOST_WORKERS};
+use crate::slots::Slots;
 use affinity_tree::{AggregateSpec, Layout, VolumeSpec};
 use bells::{Bell, Bells};
+use connections::Shared;
 use pool::{Filer, Pool, Room, Worker};
-use serving::{Shared, Slots};
 use std::alloc::{AllocError, Global};
 use std::rt::Clock;
 use std::sync::Arc;

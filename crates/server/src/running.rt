@@ -5,15 +5,17 @@ ghost use Rattle.std.specs.Arc.{arc_value};
 ghost use Rattle.pool.specs.Pools.{IsVacant};
 ghost use Rattle.pool.specs.Words.{seats_in};
 ghost use Rattle.server.specs.Threads.{HasStopped, IsOpened, IsRunning};
-ghost use Rattle.serving.specs.Places.{AreSlotsOf, HasAll};
+ghost use Rattle.server.specs.Places.{AreSlotsOf, HasAll};
 
+use crate::accepting;
 use crate::ending::end;
 use crate::fault::{ServerFault, of_serving, of_start};
 use crate::opening::{Opened, layout_of, open, verifier_now};
 use crate::options::Options;
+use crate::slots::Slots;
 use crate::stopping::stop;
+use connections::Shared;
 use pool::{Left, Pool, Room, Unwatched};
-use serving::{Shared, Slots};
 use std::alloc::Global;
 use std::io::Write;
 use std::net::{SocketAddr, TcpListener};
@@ -90,7 +92,7 @@ where
     ensures all { HasAll slots.old slots.new }
 {
     print_address(listener, out)?;
-    match serving::serve(rt, alloc, shared, listener, connections, slots) {
+    match accepting::serve(rt, alloc, shared, listener, connections, slots) {
         Ok(()) => Ok(()),
         Err(fault) => Err(of_serving(fault)),
     }

@@ -1,9 +1,9 @@
 use Rattle.std.proofs.Common.{◌≡◌, ◌+◌, ℕ, ◌∙◌, All, arith, subst}
-use Rattle.gathering.specs.Shares.{share_of}
+use Rattle.pool.specs.Shares.{share_of}
 use Rattle.pool.specs.Threads.{seats_with, share_with, started_with, ServesIn}
 use Rattle.pool.proofs.Handed.{handed, all-pushed, all-popped, same-share}
-use Rattle.gathering.specs.Filer.{Filer}
-use Rattle.gathering.specs.Words.{seats_in, IsIn}
+use Rattle.workers.specs.declared.shared.Filer.{Filer}
+use Rattle.workers.specs.Words.{seats_in, IsIn}
 use Rattle.pool.proofs.collecting.collect.Goals as goal
 
 pub loop-thread-preserved : goal.loop-thread-preserved

@@ -1,9 +1,9 @@
 use Rattle.std.proofs.Common.{◌≡◌, ◌≤◌, ◌+◌, ℕ, All, vec_len, vec_capacity}
 use Rattle.depot_rule.specs.Sums.{total}
-use Rattle.gathering.specs.Shares.{share_of}
+use Rattle.pool.specs.Shares.{share_of}
 use Rattle.pool.specs.Threads.{seats_with, share_with, ServesIn}
-use Rattle.gathering.specs.Words.{seats_in, IsIn}
-use Rattle.gathering.specs.Filer.{Filer}
+use Rattle.workers.specs.Words.{seats_in, IsIn}
+use Rattle.workers.specs.declared.shared.Filer.{Filer}
 use Rattle.pool.proofs.collecting.collect.Given as goal
 
 abbrev pub invariant-loop-thread : goal.invariant-loop-thread

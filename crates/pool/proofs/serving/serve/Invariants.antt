@@ -1,5 +1,5 @@
 use Rattle.pool.specs.Heirs.{IsHeir}
-use Rattle.gathering.specs.Words.{IsIn}
+use Rattle.workers.specs.Words.{IsIn}
 use Rattle.pool.proofs.serving.serve.Given as goal
 
 abbrev pub invariant-loop : goal.invariant-loop

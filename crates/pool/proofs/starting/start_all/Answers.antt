@@ -1,9 +1,9 @@
 use Rattle.std.proofs.Common.{◌≡◌, ◌+◌, ℕ, ◌∙◌, All, ap, arith}
 use Rattle.std.specs.Arc.{arc_value}
-use Rattle.gathering.specs.Shares.{share_of}
+use Rattle.pool.specs.Shares.{share_of}
 use Rattle.pool.specs.Threads.{seats_with, share_with, ServesIn}
 use Rattle.pool.proofs.Handed.{handed, replaced, all-pushed, all-popped, same-share}
-use Rattle.gathering.specs.Words.{seats_in, IsIn}
+use Rattle.workers.specs.Words.{seats_in, IsIn}
 use Rattle.pool.proofs.starting.start_all.Goals as goal
 
 pub loop-worker-preserved : goal.loop-worker-preserved

@@ -1,9 +1,9 @@
 use Rattle.std.proofs.Common.{◌≡◌, ◌≤◌, ◌+◌, ℕ, All, vec_len, vec_capacity}
 use Rattle.std.specs.Arc.{arc_value}
 use Rattle.depot_rule.specs.Sums.{total}
-use Rattle.gathering.specs.Shares.{share_of}
+use Rattle.pool.specs.Shares.{share_of}
 use Rattle.pool.specs.Threads.{seats_with, share_with, ServesIn}
-use Rattle.gathering.specs.Words.{seats_in, IsIn}
+use Rattle.workers.specs.Words.{seats_in, IsIn}
 use Rattle.pool.proofs.starting.start_all.Given as goal
 
 abbrev pub invariant-loop-worker : goal.invariant-loop-worker

@@ -4,7 +4,7 @@ use denote.Param.{copied, param}
 use denote.Param.Send.{sendable, param_send, arg_send}
 use denote.Param.SendFields.{declared_send}
 use denote.Struct.Tuple.{type_at}
-use Rattle.gathering.proofs.Crossing.{worker-send}
+use Rattle.workers.proofs.Crossing.{worker-send}
 use Rattle.pool.proofs.Crossing.{task-send}
 use Rattle.pool.specs.contracts.task.Task as Task
 use Rattle.pool.proofs.task.start_one.Goals as goal

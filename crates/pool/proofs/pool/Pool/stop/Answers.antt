@@ -1,6 +1,6 @@
 use Rattle.std.proofs.Common.{◌≡◌, All, sym, subst}
 use Rattle.std.proofs.lemmas.List.Elements.{All-nil}
-use Rattle.gathering.specs.Words.{IsIn}
+use Rattle.workers.specs.Words.{IsIn}
 use Rattle.pool.proofs.pool.Pool.stop.Goals as goal
 
 pub returns-clause-inside : goal.returns-clause-inside

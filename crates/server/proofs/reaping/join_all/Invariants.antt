@@ -1,0 +1,20 @@
+-- what came back, and the connections that are left
+use Rattle.std.proofs.Common.{◌≡◌, ◌≤◌, ◌+◌, ℕ, All, vec_len, vec_capacity}
+use Rattle.depot_rule.specs.Sums.{total}
+use Rattle.connections.specs.Filer.{Filer}
+use Rattle.connections.specs.declared.loan.Loan.{Loan}
+use Rattle.server.specs.Places.{of_lent, IsKept, IsPlaceOf, IsServedFor}
+use Rattle.server.proofs.reaping.join_all.Given as goal
+
+abbrev pub invariant-loop-connection : goal.invariant-loop-connection
+invariant-loop-connection g l = record {
+  room : vec_len l.idle + vec_len l.served ≤ vec_capacity l.idle;
+  places : (filer : Filer) → All (IsServedFor filer) l.fn.served.items → All (IsPlaceOf filer) l.fn.idle.items
+      → All (IsServedFor filer) l.served.items × All (IsPlaceOf filer) l.idle.items;
+  count : vec_len l.idle + vec_len l.served ≡ vec_len l.fn.idle + vec_len l.fn.served;
+  sum : (f : Loan → ℕ) → IsKept f → total f l.idle.items + total (of_lent f) l.served.items
+      ≡ total f l.fn.idle.items + total (of_lent f) l.fn.served.items;
+}
+
+abbrev pub decreases-loop-connection : goal.decreases-loop-connection
+decreases-loop-connection g l = vec_len l.served

@@ -1,0 +1,28 @@
+//! Why serving ends early.
+
+ghost use Rattle.std.specs.Prelude.{◌≡◌};
+
+use connections::ServeRefusal;
+
+/// Why no more connections are accepted.
+#[derive(Clone, Copy)]
+pub enum ServeFault {
+    /// The listener failed.
+    AcceptFailed,
+    /// A connection that was accepted can't be served.
+    NotServed(ServeRefusal),
+}
+
+impl ServeFault {
+    ghost use Rattle.server.specs.Numbers.{serve_fault_number};
+
+    /// The number by which the fault is told.
+    pub fn number(self) -> u32
+        ensures { result ≡ serve_fault_number self }
+    {
+        match self {
+            ServeFault::AcceptFailed => 63,
+            ServeFault::NotServed(refusal) => refusal.number(),
+        }
+    }
+}

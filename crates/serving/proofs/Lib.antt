@@ -1,3 +1,0 @@
-mod Shares
-mod Handed
-mod Helpers

@@ -1,3 +1,0 @@
-pub mod Places
-pub mod Numbers
-pub use Rattle.connections.specs.declared.refusal.ServeRefusal

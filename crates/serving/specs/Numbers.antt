@@ -1,9 +1,0 @@
--- The numbers of faults (our profile).
-use Rattle.std.specs.Prelude.{ℕ}
-use Rattle.connections.specs.Numbers.{serve_refusal_number}
-use Rattle.serving.specs.declared.fault.ServeFault.{ServeFault}
-use Rattle.serving.specs.declared.fault.ServeFault.TheVariants as faults
-
-abbrev pub serve_fault_number : ServeFault → ℕ
-serve_fault_number faults.AcceptFailed = 63
-serve_fault_number (faults.NotServed refusal) = serve_refusal_number refusal
