@@ -8,7 +8,7 @@ ghost use Rattle.workers.specs.Words.{passed, seats_in, IsIn};
 use workers::{Filer, Worker};
 
 /// So many workers of one, with all its seats and all its share of the right to know the queue.
-pub fn split_workers(
+pub(crate) fn split_workers(
     filer: &Filer,
     mut worker: Worker,
     count: usize,
