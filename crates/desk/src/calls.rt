@@ -74,7 +74,13 @@ impl<M: Machine, K: NodeKinds<M::Parcel>> Desk<M, K> {
         ensures finished { HasFinished (machine_in self.old) (books self.old) worker
             call.now reply.now (books self.new) }
     {
-        finish_in(&self.depot, &mut self.seat, &mut self.places[worker], call, reply);
+        finish_in(
+            &self.depot,
+            &mut self.seat,
+            &mut self.places[worker],
+            call,
+            reply,
+        );
     }
 
     /// Ends a worker's call without an entry. What it was lent has to be as it was lent.

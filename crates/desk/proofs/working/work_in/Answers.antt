@@ -13,7 +13,10 @@ returns-in-Some g c = record {
 pub returns-in-Some-large : goal.returns-in-Some-large
 returns-in-Some-large g c = record {
   done = some-and (granted c.args.place.now) (large_lent c.in-Some-large.grant) _
-      (in-large small_lent large_lent _ _ c.in-Some-large.grant c.in-None.is c.in-Some-large.is)
-      (large_lent c.work_large.new.grant, in-large small_lent large_lent _ _ c.work_large.new.grant c.in-None.is refl, c.work_large.ensures.whole,
-      c.work_large.ensures.done);
+      (in-large small_lent large_lent _ _ c.in-Some-large.grant c.in-None.is c.in-Some-large.is) (
+        large_lent c.work_large.new.grant,
+        in-large small_lent large_lent _ _ c.work_large.new.grant c.in-None.is refl,
+        c.work_large.ensures.whole,
+        c.work_large.ensures.done,
+      );
 }
