@@ -5,7 +5,8 @@ ghost use Rattle.affinity_tree.specs.Affinity.{affinity_of};
 ghost use Rattle.affinity_tree.specs.Numbers.{number_of};
 ghost use Rattle.affinity_tree.specs.Tree.{IsNode};
 ghost use Rattle.depot.specs.Grants.{entry_of, IsEnded, IsFinished, IsRefused};
-ghost use Rattle.depot.specs.Words.{machine_of, layout_in, view, splits_left, IsSeatHere};
+ghost use Rattle.depot.specs.Words.{machine_of, layout_in, view, splits_left};
+ghost use Rattle.depot.specs.Words.{IsSeatHere, IsNodeOf};
 ghost use Rattle.desk_laws.specs.Backing.{IsGranted, CanFinish, CanPutBack};
 ghost use Rattle.desk.specs.Any.{small_lent, large_lent};
 ghost use Rattle.desk.specs.Places.{granted};
@@ -18,6 +19,60 @@ use crate::putting::{put_large, put_small};
 use affinity_tree::{Affinity, Kind};
 use depot::{Depot, Refusal, Seat};
 use depot_rule::machine::Machine;
+
+/// Begins a call on an aggregate. It isn't inlined, since such a grant's room would be filled for the
+/// small ones too.
+#[inline(never)]
+fn begin_aggregate<M: Machine, K: NodeKinds<M::Parcel>>(
+    depot: &Depot<M>,
+    seat: &mut Seat<M>,
+    affinity: Affinity,
+    place: &mut Place<M::Parcel, K>,
+) -> Result<(), Refusal>
+    requires seat { IsSeatHere depot.now seat.old }
+    requires node { IsNodeOf (layout_in depot.now) K.Aggregate.KIND affinity }
+    requires idle { granted place.old ≡ None }
+    ensures seat { IsSeatHere depot.now seat.new }
+    ensures splits { splits_left seat.new ≡ splits_left seat.old }
+    ensures granted { let L = layout_in depot.now in OnOk result ((lends : _)
+        × (granted place.new ≡ Some lends)
+        × IsGranted M.Parcel.kind (machine_of seat.old) L (view seat.old) (affinity_of affinity)
+        (lends L) (view seat.new)) }
+    ensures refused { IfErr result (λ refusal.
+        IsRefused (layout_in depot.now) (view seat.old) affinity refusal (view seat.new)) }
+    ensures idle { IfErr result (λ refusal. granted place.new ≡ None) }
+{
+    let node = begin_node::<M, K::Aggregate>(depot, seat, affinity)?;
+    put_large(place, LargeGrant::Aggregate(node));
+    Ok(())
+}
+
+/// Begins a call on the whole tree. It isn't inlined, since such a grant's room would be filled for the
+/// small ones too.
+#[inline(never)]
+fn begin_serial<M: Machine, K: NodeKinds<M::Parcel>>(
+    depot: &Depot<M>,
+    seat: &mut Seat<M>,
+    affinity: Affinity,
+    place: &mut Place<M::Parcel, K>,
+) -> Result<(), Refusal>
+    requires seat { IsSeatHere depot.now seat.old }
+    requires node { IsNodeOf (layout_in depot.now) K.Serial.KIND affinity }
+    requires idle { granted place.old ≡ None }
+    ensures seat { IsSeatHere depot.now seat.new }
+    ensures splits { splits_left seat.new ≡ splits_left seat.old }
+    ensures granted { let L = layout_in depot.now in OnOk result ((lends : _)
+        × (granted place.new ≡ Some lends)
+        × IsGranted M.Parcel.kind (machine_of seat.old) L (view seat.old) (affinity_of affinity)
+        (lends L) (view seat.new)) }
+    ensures refused { IfErr result (λ refusal.
+        IsRefused (layout_in depot.now) (view seat.old) affinity refusal (view seat.new)) }
+    ensures idle { IfErr result (λ refusal. granted place.new ≡ None) }
+{
+    let node = begin_node::<M, K::Serial>(depot, seat, affinity)?;
+    put_large(place, LargeGrant::Serial(node));
+    Ok(())
+}
 
 /// Begins a call on a node of whichever kind. Its grant is made in an idle worker's place, where it
 /// stays. A refusal leaves the worker idle.
@@ -61,14 +116,8 @@ pub(crate) fn begin_in<M: Machine, K: NodeKinds<M::Parcel>>(
             let node = begin_node::<M, K::Volume>(depot, seat, affinity)?;
             put_small(place, SmallGrant::Volume(node));
         }
-        Kind::Aggregate => {
-            let node = begin_node::<M, K::Aggregate>(depot, seat, affinity)?;
-            put_large(place, LargeGrant::Aggregate(node));
-        }
-        Kind::Serial => {
-            let node = begin_node::<M, K::Serial>(depot, seat, affinity)?;
-            put_large(place, LargeGrant::Serial(node));
-        }
+        Kind::Aggregate => begin_aggregate(depot, seat, affinity, place)?,
+        Kind::Serial => begin_serial(depot, seat, affinity, place)?,
     }
     Ok(())
 }

@@ -1,7 +1,6 @@
 use Rattle.std.proofs.Common.{◌<◌, length, Some, sym, subst, arith}
 use Rattle.std.proofs.lemmas.List.{length-map}
 use Rattle.affinity_tree.specs.Tree.{IsNode}
-use Rattle.affinity_tree.specs.Layout.{layout_of}
 use Rattle.depot.specs.Words.{layout_in, view}
 use Rattle.desk_laws.specs.Backing.{books_of, IsBook, IsWhole, IsDone}
 use Rattle.desk_laws.specs.Calls.{HasWorked}
