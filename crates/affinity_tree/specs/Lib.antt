@@ -9,3 +9,4 @@ pub mod Alike
 pub mod Affinity
 pub mod Layout
 pub mod lemmas
+pub mod scheduler

@@ -1,14 +1,17 @@
 //! The tree of affinities: what a call runs on, which affinities exclude each other, and the
-//! layouts that a run may have.
+//! layouts that a run may have; the affinity that a call begins at, and the queues of calls that
+//! wait by affinity.
 #![tactic(auto)]
 
 mod affinity;
 mod fault;
+pub mod homes;
 pub mod laws;
 mod layout;
 mod nodes;
 mod printed;
 mod rules;
+pub mod scheduler;
 mod specification;
 mod tree;
 

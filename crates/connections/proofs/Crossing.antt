@@ -8,10 +8,10 @@ use denote.Struct.Field.{row_field}
 use denote.Struct.Tuple.{TupleAt, type_at}
 use Rattle.std.proofs.Crossing.{crosses}
 use Rattle.std.proofs.net.tcp.TcpStream.TheSendSync as stream
-use Rattle.bells.proofs.bell.Bell.TheSendSync as bell
+use Rattle.outboxes.proofs.bells.bell.Bell.TheSendSync as bell
 use Rattle.nfs_values.proofs.number.ConnectionNumber.TheSendSync as number
-use Rattle.shared_waiting.proofs.pass.Pass.TheSendSync as pass
-use Rattle.crossings.proofs.Bells.{bells-send, bells-sync}
+use Rattle.workers.proofs.shared_waiting.pass.Pass.TheSendSync as pass
+use Rattle.workers.proofs.crossings.Bells.{bells-send, bells-sync}
 use Rattle.workers.proofs.Crossing.{message-send, worker-send, filer-send, filer-sync}
 use Rattle.connections.proofs.line.Line.TheSendSync as line
 use Rattle.connections.specs.contracts.lane.Lane as Lane

@@ -4,8 +4,8 @@ use Rattle.std.specs.Prelude.{option_map}
 use Rattle.nfs_model.specs.Tree as trees
 use Rattle.affinity_tree.specs.declared.layout.Layout.{Layout}
 use Rattle.affinity_tree.specs.Layout.{layout_of}
-use Rattle.shared_waiting.specs.Balance.{FitsIn}
-use Rattle.shared_waiting.specs.declared.pass.Pass.{Pass}
+use Rattle.workers.specs.shared_waiting.Balance.{FitsIn}
+use Rattle.workers.specs.declared.shared_waiting.pass.Pass.{Pass}
 use Rattle.workers.specs.Balance.{Passed}
 use Rattle.workers.specs.Messages.{IsPlaced, Fits}
 use Rattle.workers.specs.Words.{layout_known}

@@ -14,15 +14,15 @@ use Rattle.nfs_model.specs.Types as types
 use Rattle.affinity_tree.specs.Affinity.{affinity_of}
 use Rattle.affinity_tree.specs.Tree.{IsNode}
 use Rattle.depot.specs.Words.{IsSeatHere}
-use Rattle.depot_rule.specs.History.{listed}
-use Rattle.held_state.specs.Opening.{AreOpening}
-use Rattle.held_state.specs.Parcels.{FilerParcel}
+use Rattle.depot.specs.rule.History.{listed}
+use Rattle.parcels.specs.state.Opening.{AreOpening}
+use Rattle.parcels.specs.state.Parcels.{FilerParcel}
 use Rattle.nfs_values.specs.Call.{call_of}
 use Rattle.nfs_values.specs.declared.call.Call.{Call}
 use Rattle.nfs_values.specs.declared.call.Call.TheVariants as calls
 use Rattle.workers.specs.Running.{IsRun, RunsAbove, RunsThere}
-use Rattle.shared_waiting.specs.Passes.{IsOf}
-use Rattle.volume_values.specs.Codes.{coded_range, coded_stripe, coded_logical}
+use Rattle.workers.specs.shared_waiting.Passes.{IsOf}
+use Rattle.nfs_model.specs.volume.Codes.{coded_range, coded_stripe, coded_logical}
 use Rattle.workers.specs.Messages.{IsPlaced}
 use Rattle.workers.specs.Words.{layout_in, layout_known, verifier_in, seat_view, passed, HasOpened, IsHandIn, IsIn}
 use Rattle.workers.specs.declared.message.Message.{Message}

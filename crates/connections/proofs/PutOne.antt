@@ -3,11 +3,11 @@ use Rattle.std.specs.Prelude.{◌≡◌, List, [], ◌∷◌, ◌++◌, map, ref
 use Rattle.std.proofs.Common.{sym, ap, ◌∙◌, append-nil}
 use Rattle.nfs_model.specs.World as worlds
 use Rattle.affinity_tree.specs.declared.layout.Layout.{Layout}
-use Rattle.shared_waiting.specs.Balance.{added}
-use Rattle.shared_waiting.specs.Passes.{known, IsOf}
-use Rattle.shared_waiting.specs.declared.pass.Pass.{Pass}
-use Rattle.shared_waiting.specs.declared.pass.SharedWaiting.{SharedWaiting}
-use Rattle.tcp_front.specs.Arrivals.{Waits}
+use Rattle.workers.specs.shared_waiting.Balance.{added}
+use Rattle.workers.specs.shared_waiting.Passes.{known, IsOf}
+use Rattle.workers.specs.declared.shared_waiting.pass.Pass.{Pass}
+use Rattle.workers.specs.declared.shared_waiting.pass.SharedWaiting.{SharedWaiting}
+use Rattle.connections.specs.tcp_front.Arrivals.{Waits}
 use Rattle.workers.specs.Balance.{Passed}
 use Rattle.workers.specs.declared.message.Message.{Message}
 use Rattle.connections.specs.Admitted.{seen_of, HasAdmitted}

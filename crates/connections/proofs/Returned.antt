@@ -1,7 +1,7 @@
 -- What was lent, given back.
 use Rattle.std.specs.Prelude.{◌≡◌, List, IfSome}
 use Rattle.std.proofs.Common.{sym, subst}
-use Rattle.tcp_front.specs.Arrivals.{Arrival}
+use Rattle.connections.specs.tcp_front.Arrivals.{Arrival}
 use Rattle.workers.specs.Words.{IsIn}
 use Rattle.workers.specs.declared.shared.Filer.{Filer}
 use Rattle.connections.specs.Admitted.{HasAdmitted}

@@ -3,7 +3,7 @@ use Rattle.std.proofs.Common.{◌≡◌, ◌++◌, ℕ, List, [], ◌∷◌, Opt
 use Rattle.std.proofs.KnownBytes.{Appends-trans}
 use Rattle.std.specs.Io.KnownBytes.{Appends}
 use Rattle.outboxes.specs.Messages.{ReplyMessage, record_of}
-use Rattle.tcp_front.specs.Writing.{records_of}
+use Rattle.connections.specs.tcp_front.Writing.{records_of}
 
 records-append : (ms others : List ReplyMessage) → records_of (ms ++ others) ≡ records_of ms ++ records_of others
 records-append [] others = refl

@@ -6,8 +6,8 @@ use Rattle.nfs_model.specs.World as worlds
 use Rattle.nfs_values.specs.Call.{call_of}
 use Rattle.nfs_values.specs.Credential.{credential_of}
 use Rattle.affinity_tree.specs.Affinity.{affinity_of}
-use Rattle.shared_waiting.specs.Passes.{known}
-use Rattle.tcp_front.specs.Arrivals.{Arrival, Waits, Answered}
+use Rattle.workers.specs.shared_waiting.Passes.{known}
+use Rattle.connections.specs.tcp_front.Arrivals.{Arrival, Waits, Answered}
 use Rattle.workers.specs.declared.message.Message.{Message}
 use Rattle.connections.specs.declared.lane.Lane.{Lane}
 use Rattle.connections.specs.Loans.{IsHandedBack, IsHelperOf, handed-back-same, handed-back-more, helper-same, helper-more}

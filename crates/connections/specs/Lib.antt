@@ -10,3 +10,4 @@ pub use Rattle.workers.specs.declared.shared.Filer
 pub use Rattle.workers.specs.declared.message.Message
 pub use Rattle.workers.specs.Words
 pub use Rattle.workers.specs.declared.worker.Worker
+pub mod tcp_front

@@ -2,9 +2,9 @@
 use Rattle.std.specs.Prelude.{◌≡◌, Option, Some, None, IfSome, refl}
 use Rattle.std.proofs.Common.{◌∙◌}
 use Rattle.affinity_tree.specs.declared.layout.Layout.{Layout}
-use Rattle.shared_waiting.specs.declared.pass.Pass.{Pass}
-use Rattle.shared_waiting.specs.declared.pass.SharedWaiting.{SharedWaiting}
-use Rattle.shared_waiting.specs.Passes.{known, IsOf}
+use Rattle.workers.specs.declared.shared_waiting.pass.Pass.{Pass}
+use Rattle.workers.specs.declared.shared_waiting.pass.SharedWaiting.{SharedWaiting}
+use Rattle.workers.specs.shared_waiting.Passes.{known, IsOf}
 use Rattle.workers.specs.declared.message.Message.{Message}
 use Rattle.workers.specs.declared.shared.Filer.{Filer}
 use Rattle.workers.specs.declared.worker.Worker.{Worker}

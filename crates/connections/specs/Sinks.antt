@@ -1,7 +1,7 @@
 -- What came to the queue of a filer from a connection.
 use Rattle.std.specs.Prelude.{◌≡◌, List, [], ◌++◌, refl}
 use Rattle.std.proofs.Common.{◌∙◌}
-use Rattle.tcp_front.specs.Arrivals.{Arrival}
+use Rattle.connections.specs.tcp_front.Arrivals.{Arrival}
 use Rattle.workers.specs.declared.shared.Filer.{Filer}
 use Rattle.connections.specs.Admitted.{HasAdmitted, admitted_none, admitted_more}
 use Rattle.connections.specs.declared.lane.Lane.{Lane}

@@ -1,10 +1,10 @@
 -- Replies that are written as they come.
 use Rattle.std.specs.Prelude.{◌≡◌, ℕ, ◌<◌, List, ◌++◌, length, take, Option, Result, Ok, Err}
 use Rattle.outboxes.specs.Messages.{ReplyMessage}
-use Rattle.tcp_front.specs.declared.counted.Counted.{Counted}
-use Rattle.tcp_front.specs.declared.writing.WriteFault.{WriteFault}
-use Rattle.tcp_front.specs.Counts.{HasFailed, HasNotFailed}
-use Rattle.tcp_front.specs.Writing.{HasSent, counted, records_of}
+use Rattle.connections.specs.declared.tcp_front.counted.Counted.{Counted}
+use Rattle.connections.specs.declared.tcp_front.writing.WriteFault.{WriteFault}
+use Rattle.connections.specs.tcp_front.Counts.{HasFailed, HasNotFailed}
+use Rattle.connections.specs.tcp_front.Writing.{HasSent, counted, records_of}
 
 -- Records of replies went out whole; or some did, and then a beginning of the bytes of others, of the size that
 -- is told, and the device failed.

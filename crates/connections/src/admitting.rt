@@ -1,16 +1,16 @@
 //! A call into the queue.
 
 ghost use Rattle.std.specs.Prelude.{◌≡◌, MatchResult};
-ghost use Rattle.shared_waiting.specs.Balance.{added, FitsIn};
-ghost use Rattle.shared_waiting.specs.Passes.{known, IsOf};
+ghost use Rattle.workers.specs.shared_waiting.Balance.{added, FitsIn};
+ghost use Rattle.workers.specs.shared_waiting.Passes.{known, IsOf};
 ghost use Rattle.workers.specs.Messages.{Fits};
 
 use affinity_tree::Layout;
-use bells::Bells;
-use shared_waiting::{Pass, SharedWaiting};
+use outboxes::bells::Bells;
 use std::alloc::AllocError;
 use std::sync::Wait;
 use workers::Message;
+use workers::shared_waiting::{Pass, SharedWaiting};
 
 /// Puts a message, and sleeps while the queue is full, after all workers were told.
 /// Where the filer was stopped, none is put.

@@ -2,8 +2,8 @@
 
 ghost use Rattle.std.specs.Prelude.{◌<◌};
 
-use bells::{Bells, Patience, Untold, time_now};
 use nfs_values::Moment;
+use outboxes::bells::{Bells, Patience, Untold, time_now};
 use std::mem;
 use std::rt::Clock;
 use workers::Worked;
@@ -31,7 +31,7 @@ pub(crate) struct Effort {
 }
 
 impl Effort {
-    ghost use Rattle.bells.specs.Told.{HasTold};
+    ghost use Rattle.outboxes.specs.bells.Told.{HasTold};
 
     /// Before the first turn.
     pub(crate) fn new() -> Effort {

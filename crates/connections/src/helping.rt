@@ -5,8 +5,8 @@ ghost use Rattle.connections.specs.Loans.{IsHelperOf, StaysHelper};
 ghost use Rattle.workers.specs.Words.{IsIn};
 
 use crate::effort::Effort;
-use bells::Bells;
 use nfs_values::Moment;
+use outboxes::bells::Bells;
 use std::rt::Clock;
 use std::sync::Wait;
 use workers::{Filer, Unwatched, Worker};

@@ -1,5 +1,5 @@
 //! Connections of a filer whose workers are other threads: for each, one thread that reads and one
-//! that writes.
+//! that writes. `tcp_front` has their loops over devices.
 #![tactic(auto)]
 
 mod admitting;
@@ -17,6 +17,7 @@ mod reading;
 mod refusal;
 mod shared;
 mod tasks;
+pub mod tcp_front;
 mod writing;
 
 pub use connection::{Connection, HandsBack};

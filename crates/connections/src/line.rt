@@ -1,6 +1,6 @@
 //! What a connection's two threads tell each other.
 
-use bells::Bell;
+use outboxes::bells::Bell;
 use std::sync::Wait;
 use std::sync::atomic::{AtomicU64, Ordering};
 

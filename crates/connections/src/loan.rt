@@ -1,7 +1,7 @@
 //! What a filer lends to a connection.
 
 use affinity_tree::Layout;
-use shared_waiting::Pass;
+use workers::shared_waiting::Pass;
 use workers::{Message, Worker};
 
 /// The pass by which a connection's calls are put into the queue, and a worker by which its reader

@@ -17,7 +17,7 @@ use std::alloc::{AllocError, Global};
 use workers::Message;
 
 /// The call of a message, with the room of its reply.
-fn with_room(message: scheduler::Message<OfferedCall>, room: Room) -> Message
+fn with_room(message: affinity_tree::scheduler::Message<OfferedCall>, room: Room) -> Message
     requires { room ≡ message.room }
     ensures seen { seen_of result ≡ message_of message }
     ensures placed { (layout : trees.Layout)
@@ -37,7 +37,7 @@ fn with_room(message: scheduler::Message<OfferedCall>, room: Room) -> Message
 /// The call of a message, with new room for its reply.
 pub(crate) fn in_room(
     alloc: Global,
-    message: scheduler::Message<OfferedCall>,
+    message: affinity_tree::scheduler::Message<OfferedCall>,
 ) -> Result<Message, AllocError>
     requires { message.room ≤ most_bytes }
     ensures seen { IfOk result (λ m. seen_of m ≡ message_of message) }

@@ -4,11 +4,11 @@ ghost use Rattle.std.specs.Prelude.{◌≡◌};
 ghost use Rattle.connections.specs.Taken.{same_none, same_more};
 
 use crate::line::Line;
+use crate::tcp_front::RecordSource;
 use nfs_values::ConnectionNumber;
 use outboxes::Record;
 use std::mem;
 use std::sync::Wait;
-use tcp_front::RecordSource;
 use workers::Filer;
 
 /// How many replies are taken before the reader is told.

@@ -1,7 +1,7 @@
 //! Where the records of a connection go.
 
 ghost use Rattle.std.specs.Prelude.{◌≡◌, Some, IfSome};
-ghost use Rattle.shared_waiting.specs.Passes.{known, IsOf};
+ghost use Rattle.workers.specs.shared_waiting.Passes.{known, IsOf};
 ghost use Rattle.workers.specs.Words.{layout_in, layout_known, IsIn};
 ghost use Rattle.connections.specs.Loans.{IsLoanOf};
 
@@ -10,14 +10,14 @@ use crate::helping::help_or_ring;
 use crate::lane::Lane;
 use crate::line::Line;
 use crate::message::in_room;
-use bells::Bells;
+use crate::tcp_front::RecordSink;
 use engine_feed::OfferedCall;
 use nfs_values::{ConnectionNumber, Moment, Reply};
+use outboxes::bells::Bells;
 use std::alloc::{AllocError, Global};
 use std::mem;
 use std::rt::Clock;
 use std::sync::Wait;
-use tcp_front::RecordSink;
 use workers::{Filer, Message};
 
 /// The queue and the outboxes of a filer, as they are for the records of a connection.
@@ -92,7 +92,10 @@ impl<'a, R: Wait + Clock> RecordSink for PoolSink<'a, R> {
 
     ghost layout = { λ s. layout_in s.filer.now };
 
-    fn admit(&mut self, message: scheduler::Message<OfferedCall>) -> Result<(), AllocError> {
+    fn admit(
+        &mut self,
+        message: affinity_tree::scheduler::Message<OfferedCall>,
+    ) -> Result<(), AllocError> {
         if self.line.is_closed() {
             drop(message);
             return Err(AllocError);

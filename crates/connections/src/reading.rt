@@ -1,8 +1,8 @@
 //! A connection that is read.
 
 ghost use Rattle.std.specs.Prelude.{◌≡◌};
-ghost use Rattle.tcp_front.specs.Counts.{may_fail};
-ghost use Rattle.tcp_front.specs.Reading.{HasRead};
+ghost use Rattle.connections.specs.tcp_front.Counts.{may_fail};
+ghost use Rattle.connections.specs.tcp_front.Reading.{HasRead};
 ghost use Rattle.workers.specs.Words.{layout_in};
 ghost use Rattle.connections.specs.Admitted.{HasAdmitted};
 ghost use Rattle.connections.specs.Loans.{IsLoanOf};
@@ -10,15 +10,15 @@ ghost use Rattle.connections.specs.Loans.{IsLoanOf};
 use crate::lane::Lane;
 use crate::line::Line;
 use crate::pool_sink::PoolSink;
-use bells::Bells;
+use crate::tcp_front::{Counted, ReadEnd, RecordSink, read_loop};
+use outboxes::bells::Bells;
 use std::alloc::Global;
 use std::io::Read;
 use std::rt::Clock;
 use std::sync::Wait;
-use tcp_front::{Counted, ReadEnd, RecordSink, read_loop};
 use workers::Filer;
 
-/// Reads a connection to its end (`tcp_front::read_loop`): the calls of its records are put into
+/// Reads a connection to its end (`read_loop`): the calls of its records are put into
 /// the filer's queue, and replies that need no worker into its outbox. It sleeps while the queue
 /// is full or the peer takes no replies. Where the lane has a helper, it runs calls after each
 /// read that brought some, while a place is free. Where the filer was stopped, a call that finds

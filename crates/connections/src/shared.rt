@@ -3,7 +3,7 @@
 ghost use Rattle.std.specs.Prelude.{◌≡◌, IfOk};
 ghost use Rattle.std.specs.Arc.{arc_value};
 
-use bells::{Bell, Bells};
+use outboxes::bells::{Bell, Bells};
 use std::alloc::AllocError;
 use std::sync::Arc;
 use workers::Filer;

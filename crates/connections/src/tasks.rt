@@ -9,13 +9,13 @@ use crate::line::Line;
 use crate::loan::Loan;
 use crate::reading::read_connection;
 use crate::shared::Shared;
+use crate::tcp_front::Counted;
 use crate::writing::write_connection;
 use nfs_values::ConnectionNumber;
 use std::alloc::Global;
 use std::net::{Shutdown, TcpStream};
 use std::rt::Clock;
 use std::sync::{Arc, Wait};
-use tcp_front::Counted;
 
 /// The most bytes of one write, but for a record that is longer.
 const WRITE_ROOM: usize = 65_536;

@@ -1,16 +1,16 @@
 //! A connection that is written.
 
 ghost use Rattle.std.specs.Prelude.{◌≡◌};
-ghost use Rattle.tcp_front.specs.Counts.{may_fail};
+ghost use Rattle.connections.specs.tcp_front.Counts.{may_fail};
 ghost use Rattle.connections.specs.Written.{HasWrittenAll};
 
 use crate::line::Line;
 use crate::outgoing::Outgoing;
-use bells::{Bell, Bells};
+use crate::tcp_front::{Counted, WriteFault, write_joined};
 use nfs_values::ConnectionNumber;
+use outboxes::bells::{Bell, Bells};
 use std::io::Write;
 use std::sync::Wait;
-use tcp_front::{Counted, WriteFault, write_joined};
 use workers::Filer;
 
 /// Whether what waits now is all that there is to be.

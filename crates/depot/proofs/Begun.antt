@@ -16,15 +16,15 @@ use Rattle.affinity_tree.specs.Numbers.{number_of, node_count, parents}
 use Rattle.affinity_tree.specs.lemmas.Smaller.{length-parents}
 use Rattle.parcel_sets.specs.Exact.{HasExactly}
 use Rattle.parcel_sets.specs.Moved as moving
-use Rattle.depot_rule.specs.declared.view.View.{View}
-use Rattle.depot_rule.specs.declared.view.Read.{Read}
+use Rattle.depot.specs.declared.rule.view.View.{View}
+use Rattle.depot.specs.declared.rule.view.Read.{Read}
 use Rattle.affinity_tree.specs.Ancestors.{tally, IsTree, ancestors, Covers}
-use Rattle.depot_rule.specs.Shares.{worn, Has, made, grant_shares}
-use Rattle.depot_rule.specs.Seats.{OnOne, view_of}
-use Rattle.depot_rule.specs.Plays.{IsOnly, Counts}
-use Rattle.depot_rule.proofs.Grants.{at-length}
-use Rattle.depot_rule.proofs.Places.{one-view, of-one}
-use Rattle.depot_rule.specs.lemmas.Trees.{cover-excludes, above-smaller}
+use Rattle.depot.specs.rule.Shares.{worn, Has, made, grant_shares}
+use Rattle.depot.specs.rule.Seats.{OnOne, view_of}
+use Rattle.depot.specs.rule.Plays.{IsOnly, Counts}
+use Rattle.depot.proofs.rule.Grants.{at-length}
+use Rattle.depot.proofs.rule.Places.{one-view, of-one}
+use Rattle.depot.specs.rule.lemmas.Trees.{cover-excludes, above-smaller}
 use Rattle.depot.specs.Calls.{IsAmong, IsRead, Refuses, IsExcluded, IsGranted, WasRefused, own_views, known}
 use Rattle.depot.specs.Holds.{untaken, Handled, IsGathered, IsApart}
 use Rattle.depot.proofs.Apart.{more-apart}

@@ -17,9 +17,9 @@ use Rattle.parcel_sets.specs.Moved.{Moved}
 use Rattle.depot.specs.Closed.{value_of, if_filled, left_at}
 use Rattle.depot.specs.Kinds.{AreOfKind}
 use Rattle.affinity_tree.specs.lemmas.Standing.{place-node, under-place}
-use Rattle.depot_rule.specs.declared.view.View.{View}
-use Rattle.depot_rule.specs.declared.view.Entry.{Entry}
-use Rattle.depot_rule.specs.History.{Behaviour, listed, after}
+use Rattle.depot.specs.declared.rule.view.View.{View}
+use Rattle.depot.specs.declared.rule.view.Entry.{Entry}
+use Rattle.depot.specs.rule.History.{Behaviour, listed, after}
 use Rattle.depot.proofs.Opened.{Whole}
 
 within-there : {A : Type 0} (xs : List A) (k : ℕ) → k < length xs → get_elem? xs k ≢ maybe.none

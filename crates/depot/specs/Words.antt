@@ -8,13 +8,13 @@ use Rattle.affinity_tree.specs.Layout.{layout_of}
 use Rattle.affinity_tree.specs.Numbers.{number_of, node_count, parents}
 use Rattle.affinity_tree.specs.Tree.{IsNode}
 use Rattle.parcel_sets.specs.Exact.{HasExactly}
-use Rattle.depot_rule.specs.declared.machine.Machine as machines
+use Rattle.depot.specs.declared.rule.machine.Machine as machines
 use Rattle.affinity_tree.specs.declared.affinity.HasKind as kinds
-use Rattle.depot_rule.specs.declared.view.View.{View}
-use Rattle.depot_rule.specs.declared.view.Entry.{Entry}
-use Rattle.depot_rule.specs.Shares.{opening_view, Has}
-use Rattle.depot_rule.specs.Seats.{longer, having_seen}
-use Rattle.depot_rule.specs.History.{Behaviour, behaviour, by_number}
+use Rattle.depot.specs.declared.rule.view.View.{View}
+use Rattle.depot.specs.declared.rule.view.Entry.{Entry}
+use Rattle.depot.specs.rule.Shares.{opening_view, Has}
+use Rattle.depot.specs.rule.Seats.{longer, having_seen}
+use Rattle.depot.specs.rule.History.{Behaviour, behaviour, by_number}
 use Rattle.depot.specs.declared.depot.Depot.{Depot}
 use Rattle.depot.specs.declared.seats.Seat.{Seat}
 use Rattle.depot.specs.declared.grants.Grant.{Grant}

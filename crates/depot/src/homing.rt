@@ -5,8 +5,8 @@ ghost use Rattle.affinity_tree.specs.Layout.{layout_of};
 ghost use Rattle.affinity_tree.specs.Fault.{fault_of};
 ghost use Rattle.affinity_tree.specs.Numbers as numbers;
 ghost use Rattle.affinity_tree.specs.Ancestors.{tally, Covers};
-ghost use Rattle.depot_rule.specs.Seats.{view_of};
-ghost use Rattle.depot_rule.specs.History.{behaviour};
+ghost use Rattle.depot.specs.rule.Seats.{view_of};
+ghost use Rattle.depot.specs.rule.History.{behaviour};
 ghost use Rattle.depot.specs.Grants.{HasWith, IsStep, HasInHand, IsStamped, IsEnded};
 ghost use Rattle.depot.specs.Places.{tree_of, IsStill, IsAlone, AreOut, Fits};
 ghost use Rattle.depot.specs.Words.{IsNodeOf, node_of, number_in, parcels_in, entry_with};
@@ -14,10 +14,10 @@ ghost use Rattle.depot.specs.Words.{IsNodeOf, node_of, number_in, parcels_in, en
 use crate::claiming::give_up;
 use crate::grants::Grant;
 use crate::hold::Hold;
+use crate::rule::machine::Machine;
 use crate::stamps::{Said, stamp_as};
 use crate::table::{Board, EntryOf, Place};
 use affinity_tree::Layout;
-use depot_rule::machine::Machine;
 use parcel_sets::Node;
 
 /// Stamps the entry of a call, with the parcels of its grant as they are. What the entry says is

@@ -17,11 +17,13 @@ pub mod laws;
 mod meeting;
 mod path;
 mod plays;
+pub mod rule;
 mod seats;
 mod slots;
 mod stamps;
 mod steps;
 mod table;
+pub mod trial;
 
 pub use depot::Depot;
 pub use grants::{Grant, Refusal};

@@ -3,8 +3,8 @@ use Rattle.std.specs.Prelude.{◌≡◌, ℕ, Option, Some, None}
 use Rattle.nfs_model.specs.Tree.{Layout, Affinity}
 use Rattle.affinity_tree.specs.Numbers.{number_of, parents}
 use Rattle.parcel_sets.specs.declared.family.Parcel.{Parcel}
-use Rattle.depot_trial.specs.Adding.{Changes}
-use Rattle.depot_trial.specs.declared.adding.Change.TheVariants.{Add}
+use Rattle.depot.specs.trial.Adding.{Changes}
+use Rattle.depot.specs.declared.trial.adding.Change.TheVariants.{Add}
 
 module _ {P : Type 0} where
   -- the node's number becomes the sum of what it was and n, or nothing changes

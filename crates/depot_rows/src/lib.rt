@@ -1,4 +1,4 @@
-//! Tests of a depot and of a desk over one, by the machines of `depot_trial`. What a test has made
+//! Tests of a depot and of a desk over one, by the machines of `depot::trial`. What a test has made
 //! is left to the end of its process.
 #![tactic(auto)]
 

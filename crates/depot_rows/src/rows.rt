@@ -7,10 +7,10 @@ use crate::trial::{
     Found, claim_all, claim_any, close_joined, holds_beside, look, opened, same, splits, two_seats,
 };
 use affinity_tree::Affinity;
+use depot::trial::adding::{Adding, add, read, touches};
+use depot::trial::lending;
+use depot::trial::lending::{give, take};
 use depot::{Depot, Seat};
-use depot_trial::adding::{Adding, add, read, touches};
-use depot_trial::lending;
-use depot_trial::lending::{give, take};
 use parcel_sets::StripeNode;
 use std::process::Abort;
 use std::sync::atomic::AtomicBool;

@@ -3,8 +3,8 @@
 ghost use Rattle.depot.specs.Words.{IsSeatHere};
 
 use affinity_tree::{Affinity, Kind};
+use depot::trial::adding::{Adding, all_of, open, split, volumes};
 use depot::{Depot, Refusal, Seat};
-use depot_trial::adding::{Adding, all_of, open, split, volumes};
 use parcel_sets::{
     LogicalNode, Node, Numbers, Parcel, RangeNode, SerialNode, StripeNode, VbnNode, VolumeNode,
 };

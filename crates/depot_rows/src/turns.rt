@@ -3,14 +3,14 @@
 ghost use Rattle.std.specs.Prelude.{◌≡◌, ◌≢◌, ◌↔◌, ℕ, true, IfSome};
 ghost use Rattle.affinity_tree.specs.Affinity.{affinity_of};
 ghost use Rattle.affinity_tree.specs.Tree.{IsNode};
-ghost use Rattle.desk_laws.specs.Books.{IsIdle};
-ghost use Rattle.desk_laws.specs.Calls.{AreIdle, MayPutBack};
+ghost use Rattle.desk.specs.laws.Books.{IsIdle};
+ghost use Rattle.desk.specs.laws.Calls.{AreIdle, MayPutBack};
 ghost use Rattle.desk.specs.Words.{books, IsKept};
 
 use crate::adder::Adder;
 use affinity_tree::Affinity;
-use depot_rule::machine::Machine;
-use depot_trial::adding::{Adding, Change, all_of, volumes};
+use depot::rule::machine::Machine;
+use depot::trial::adding::{Adding, Change, all_of, volumes};
 use desk::{Desk, NodeKinds, ParcelKinds};
 use parcel_sets::Node;
 use std::process::Abort;

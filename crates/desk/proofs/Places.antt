@@ -1,17 +1,18 @@
 -- What lies in workers' places, and the books that tell it.
-use Rattle.std.proofs.Common.{◌≡◌, ◌<◌, ℕ, Bool, true, false, List, [], ◌∷◌, ◌++◌, ◌+◌, length, map, set, replicate, Option, Some, None, refl, sym, ap, ◌∙◌, subst}
+use Rattle.std.proofs.Common.{◌≡◌, ◌<◌, ℕ, Bool, true, false, List, [], ◌∷◌, ◌++◌, ◌+◌, length, map, set, replicate, Option, Some, None, refl, sym, ap, ◌∙◌}
+use Rattle.std.proofs.Common.{subst}
 use Rattle.std.specs.Prelude.{◌&&◌, ◌↔◌, not, is_some, option_map, slice_index_or, IsSomeAnd}
 use Rattle.std.proofs.Math.ListN.{get_or-map}
 use Rattle.std.proofs.lemmas.List.{set-get_or, map-set, map-append, replicate_more}
 use mathlib.Core.Option.{some}
 use lib.ListN.{get_elem?}
 use Rattle.nfs_model.specs.Tree.{Layout}
-use Rattle.depot_rule.specs.declared.view.View.{View}
-use Rattle.depot_rule.specs.declared.view.Entry.{Entry}
-use Rattle.desk_laws.specs.Books.{Lent, IsIdle, HasLent}
-use Rattle.desk_laws.specs.Backing.{Shows, books_of}
-use Rattle.desk_laws.specs.lemmas.Ends.{found-at, none-lent}
-use Rattle.desk_laws.specs.lemmas.Taken.{idle-none, said-idle}
+use Rattle.depot.specs.declared.rule.view.View.{View}
+use Rattle.depot.specs.declared.rule.view.Entry.{Entry}
+use Rattle.desk.specs.laws.Books.{Lent, IsIdle, HasLent}
+use Rattle.desk.specs.laws.Backing.{Shows, books_of}
+use Rattle.desk.specs.laws.lemmas.Ends.{found-at, none-lent}
+use Rattle.desk.specs.laws.lemmas.Taken.{idle-none, said-idle}
 use Rattle.desk.specs.Places.{either}
 
 module _ {S B A : Type 0} (f : S → A) (h : B → A) where

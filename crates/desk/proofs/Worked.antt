@@ -7,9 +7,9 @@ use Rattle.affinity_tree.specs.Affinity.{affinity_of}
 use Rattle.parcel_sets.specs.declared.node.Node as nodes
 use Rattle.parcel_sets.specs.Exact.{HasExactly}
 use Rattle.depot.specs.Words.{node_of, held_in}
-use Rattle.desk_laws.specs.Books.{Lent}
-use Rattle.desk_laws.specs.Backing.{IsDone}
-use Rattle.desk_laws.specs.Calls.{Does}
+use Rattle.desk.specs.laws.Books.{Lent}
+use Rattle.desk.specs.laws.Backing.{IsDone}
+use Rattle.desk.specs.laws.Calls.{Does}
 use Rattle.desk.specs.declared.grant.NodeGrant.{NodeGrant}
 use Rattle.desk.specs.Any.{node_lent}
 

@@ -4,7 +4,7 @@ use Rattle.affinity_tree.specs.declared.affinity.HasKind as kinds
 use Rattle.affinity_tree.specs.Affinity.{affinity_of}
 use Rattle.parcel_sets.specs.declared.node.Node as nodes
 use Rattle.depot.specs.Words.{node_of, parcels_in}
-use Rattle.desk_laws.specs.Books.{Lent}
+use Rattle.desk.specs.laws.Books.{Lent}
 use Rattle.desk.specs.declared.grant.NodeGrant.{NodeGrant}
 use Rattle.desk.specs.declared.grant.SmallGrant.{SmallGrant}
 use Rattle.desk.specs.declared.grant.SmallGrant.TheVariants.{Range, Vbn, Stripe, Logical, Volume}

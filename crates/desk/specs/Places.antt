@@ -3,8 +3,8 @@ use Rattle.std.specs.Prelude.{List, map, Option, Some, None, option_map}
 use Rattle.nfs_model.specs.Tree.{Layout}
 use Rattle.affinity_tree.specs.declared.affinity.HasKind as kinds
 use Rattle.parcel_sets.specs.declared.node.Node as nodes
-use Rattle.desk_laws.specs.Books.{Lent}
-use Rattle.desk_laws.specs.Backing.{Shows}
+use Rattle.desk.specs.laws.Books.{Lent}
+use Rattle.desk.specs.laws.Backing.{Shows}
 use Rattle.desk.specs.declared.place.Place.{Place}
 use Rattle.desk.specs.Any.{small_lent, large_lent}
 

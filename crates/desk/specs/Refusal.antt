@@ -1,8 +1,8 @@
 -- Why a call on a desk doesn't begin.
 use Rattle.std.specs.Prelude.{ℕ}
 use Rattle.nfs_model.specs.Tree.{Affinity}
-use Rattle.desk_laws.specs.Books.{Books, IsTaken}
-use Rattle.desk_laws.specs.Calls.{IsWorn}
+use Rattle.desk.specs.laws.Books.{Books, IsTaken}
+use Rattle.desk.specs.laws.Calls.{IsWorn}
 use Rattle.desk.specs.declared.refusal.Refusal.{Refusal}
 use Rattle.desk.specs.declared.refusal.Refusal.TheVariants.{Taken, Worn}
 

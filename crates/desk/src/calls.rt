@@ -11,15 +11,15 @@ use crate::task::Task;
 use crate::working::work_in;
 use affinity_tree::Affinity;
 use depot::Refusal as Refused;
-use depot_rule::machine::Machine;
+use depot::rule::machine::Machine;
 
 impl<M: Machine, K: NodeKinds<M::Parcel>> Desk<M, K> {
     ghost use Rattle.std.specs.Prelude.{OnOk, IfErr};
     ghost use Rattle.affinity_tree.specs.Affinity.{affinity_of};
     ghost use Rattle.affinity_tree.specs.Tree.{IsNode};
-    ghost use Rattle.desk_laws.specs.Books.{IsIdle};
-    ghost use Rattle.desk_laws.specs.Calls.{HasBegun, MayWork, HasWorked};
-    ghost use Rattle.desk_laws.specs.Calls.{MayFinish, HasFinished, MayPutBack, HasPutBack};
+    ghost use Rattle.desk.specs.laws.Books.{IsIdle};
+    ghost use Rattle.desk.specs.laws.Calls.{HasBegun, MayWork, HasWorked};
+    ghost use Rattle.desk.specs.laws.Calls.{MayFinish, HasFinished, MayPutBack, HasPutBack};
     ghost use Rattle.desk.specs.Refusal.{IsRefused};
     ghost use Rattle.desk.specs.Words.{books, machine_in, IsKept};
 

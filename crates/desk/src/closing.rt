@@ -2,7 +2,7 @@
 
 use crate::desk::Desk;
 use crate::kinds::NodeKinds;
-use depot_rule::machine::Machine;
+use depot::rule::machine::Machine;
 use parcel_sets::Node;
 
 impl<M: Machine, K: NodeKinds<M::Parcel>> Desk<M, K>
@@ -18,7 +18,7 @@ where
     ghost use Rattle.nfs_model.specs.Tree as trees;
     ghost use Rattle.parcel_sets.specs.Exact.{HasExactly};
     ghost use Rattle.depot.specs.Words.{all_parcels};
-    ghost use Rattle.desk_laws.specs.Calls.{AreIdle, AreSettled};
+    ghost use Rattle.desk.specs.laws.Calls.{AreIdle, AreSettled};
     ghost use Rattle.desk.specs.Words.{books, IsKept};
 
     /// Ends the desk, whose workers are idle. All parcels come back, as the finished calls left

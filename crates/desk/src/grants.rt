@@ -7,7 +7,7 @@ ghost use Rattle.affinity_tree.specs.Tree.{IsNode};
 ghost use Rattle.depot.specs.Grants.{entry_of, IsEnded, IsFinished, IsRefused};
 ghost use Rattle.depot.specs.Words.{machine_of, layout_in, view, splits_left};
 ghost use Rattle.depot.specs.Words.{IsSeatHere, IsNodeOf};
-ghost use Rattle.desk_laws.specs.Backing.{IsGranted, CanFinish, CanPutBack};
+ghost use Rattle.desk.specs.laws.Backing.{IsGranted, CanFinish, CanPutBack};
 ghost use Rattle.desk.specs.Any.{small_lent, large_lent};
 ghost use Rattle.desk.specs.Places.{granted};
 
@@ -17,8 +17,8 @@ use crate::nodes::{begin_node, finish_node, put_back_node};
 use crate::place::Place;
 use crate::putting::{put_large, put_small};
 use affinity_tree::{Affinity, Kind};
+use depot::rule::machine::Machine;
 use depot::{Depot, Refusal, Seat};
-use depot_rule::machine::Machine;
 
 /// Begins a call on an aggregate. It isn't inlined, since such a grant's room would be filled for the
 /// small ones too.

@@ -1,5 +1,5 @@
 //! A depot with one seat for many workers. Nothing of the seat shows above: a desk is told by the
-//! parcels at the start, the history, and what each worker was lent (`desk_laws`).
+//! parcels at the start, the history, and what each worker was lent (`laws`).
 //!
 //! `begin_node`, `work_node`, `finish_node` and `put_back_node` are a call on a node of one kind
 //! for who has a seat of their own: such a grant is no larger than what it lends.
@@ -11,6 +11,7 @@ mod desk;
 mod grant;
 mod grants;
 mod kinds;
+pub mod laws;
 mod node_task;
 mod nodes;
 mod opening;

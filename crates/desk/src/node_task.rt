@@ -4,7 +4,7 @@ ghost use Rattle.affinity_tree.specs.Affinity.{affinity_of};
 ghost use Rattle.affinity_tree.specs.Layout.{layout_of};
 ghost use Rattle.affinity_tree.specs.Tree.{IsNode};
 ghost use Rattle.parcel_sets.specs.Exact.{HasExactly};
-ghost use Rattle.desk_laws.specs.Backing.{IsWhole, IsDone};
+ghost use Rattle.desk.specs.laws.Backing.{IsWhole, IsDone};
 ghost use Rattle.desk.specs.Any.{node_lent};
 
 use crate::grant::NodeGrant;

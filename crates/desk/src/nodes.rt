@@ -5,13 +5,13 @@ ghost use Rattle.affinity_tree.specs.Affinity.{affinity_of};
 ghost use Rattle.affinity_tree.specs.Numbers.{number_of};
 ghost use Rattle.depot.specs.Grants.{entry_of, IsEnded, IsFinished, IsRefused};
 ghost use Rattle.depot.specs.Words.{machine_of, layout_in, view, splits_left, IsSeatHere, IsNodeOf};
-ghost use Rattle.desk_laws.specs.Backing.{IsGranted, CanFinish, CanPutBack};
+ghost use Rattle.desk.specs.laws.Backing.{IsGranted, CanFinish, CanPutBack};
 ghost use Rattle.desk.specs.Any.{node_lent};
 
 use crate::grant::NodeGrant;
 use affinity_tree::Affinity;
+use depot::rule::machine::Machine;
 use depot::{Depot, Refusal, Seat};
-use depot_rule::machine::Machine;
 use parcel_sets::Node;
 
 /// Begins a call on a node of one kind.

@@ -9,7 +9,7 @@ use crate::place::Place;
 use crate::putting::idle_place;
 use affinity_tree::{HasKind, Layout};
 use depot::Depot;
-use depot_rule::machine::Machine;
+use depot::rule::machine::Machine;
 use parcel_sets::Node;
 use std::alloc::{AllocError, Global};
 
@@ -51,7 +51,7 @@ where
     ghost use Rattle.affinity_tree.specs.Numbers.{parents};
     ghost use Rattle.parcel_sets.specs.Exact.{HasExactly};
     ghost use Rattle.depot.specs.Words.{all_parcels};
-    ghost use Rattle.desk_laws.specs.Books.{opening_books};
+    ghost use Rattle.desk.specs.laws.Books.{opening_books};
     ghost use Rattle.desk.specs.Words.{books, IsKept};
 
     /// A desk of a layout with the parcels of all nodes, and so many idle workers.

@@ -7,12 +7,12 @@ use crate::kinds::NodeKinds;
 use crate::putting::is_idle_place;
 use crate::taken::is_taken;
 use affinity_tree::{Affinity, Layout};
-use depot_rule::machine::Machine;
+use depot::rule::machine::Machine;
 
 impl<M: Machine, K: NodeKinds<M::Parcel>> Desk<M, K> {
     ghost use Rattle.affinity_tree.specs.Affinity.{affinity_of};
     ghost use Rattle.affinity_tree.specs.Layout.{layout_of};
-    ghost use Rattle.desk_laws.specs.Books.{IsIdle, IsTaken};
+    ghost use Rattle.desk.specs.laws.Books.{IsIdle, IsTaken};
     ghost use Rattle.desk.specs.Words.{books};
 
     /// The layout that the desk was made of.

@@ -3,7 +3,7 @@
 ghost use Rattle.std.specs.Prelude.{◌≡◌, ◌↔◌, true, option_map};
 ghost use Rattle.affinity_tree.specs.Affinity.{affinity_of};
 ghost use Rattle.affinity_tree.specs.Layout.{layout_of};
-ghost use Rattle.desk_laws.specs.Backing.{excludes_lent, IsTakenIn};
+ghost use Rattle.desk.specs.laws.Backing.{excludes_lent, IsTakenIn};
 ghost use Rattle.desk.specs.Any.{small_lent, large_lent};
 ghost use Rattle.desk.specs.Places.{granted, all_granted, shown};
 

@@ -4,8 +4,8 @@ ghost use Rattle.std.specs.Prelude.{◌≡◌, Some, IsSomeAnd};
 ghost use Rattle.affinity_tree.specs.Layout.{layout_of};
 ghost use Rattle.affinity_tree.specs.Tree.{IsNode};
 ghost use Rattle.nfs_model.specs.Tree as trees;
-ghost use Rattle.desk_laws.specs.Books.{Lent};
-ghost use Rattle.desk_laws.specs.Backing.{IsWhole, IsDone};
+ghost use Rattle.desk.specs.laws.Books.{Lent};
+ghost use Rattle.desk.specs.laws.Backing.{IsWhole, IsDone};
 ghost use Rattle.desk.specs.Any.{small_lent, large_lent};
 ghost use Rattle.desk.specs.Places.{granted};
 

@@ -16,17 +16,17 @@ use Rattle.nfs_model.specs.Tree.{Affinity}
 use Rattle.nfs_values.specs.Moment.{moment_of}
 use Rattle.nfs_values.specs.declared.call.Call.{Call}
 use Rattle.affinity_tree.specs.declared.affinity.Affinity as codes
-use Rattle.scheduler.specs.declared.message.Message.{Message}
-use Rattle.held_state.specs.Contents.{filer_contents}
-use Rattle.held_state.specs.Tree.{server_of}
-use Rattle.held_state.specs.Partition.{all_parts}
-use Rattle.held_state.specs.Parcels.{FilerParcel}
-use Rattle.held_state.specs.Jobs.{Job, JobReply}
-use Rattle.desk_laws.specs.Books.{Lent, IsIdle, now, stamps}
-use Rattle.desk_laws.specs.Calls as desks
-use Rattle.engine_laws.specs.Store.{FilerBooks, RunsOn, StandsFor}
-use Rattle.engine_laws.specs.lemmas.Beginning.{same-now}
-use Rattle.engine_laws.specs.lemmas.Changing.{lent-at}
+use Rattle.affinity_tree.specs.declared.scheduler.message.Message.{Message}
+use Rattle.parcels.specs.state.Contents.{filer_contents}
+use Rattle.parcels.specs.state.Tree.{server_of}
+use Rattle.parcels.specs.state.Partition.{all_parts}
+use Rattle.parcels.specs.state.Parcels.{FilerParcel}
+use Rattle.parcels.specs.state.Jobs.{Job, JobReply}
+use Rattle.desk.specs.laws.Books.{Lent, IsIdle, now, stamps}
+use Rattle.desk.specs.laws.Calls as desks
+use Rattle.engine.specs.laws.Store.{FilerBooks, RunsOn, StandsFor}
+use Rattle.engine.specs.laws.lemmas.Beginning.{same-now}
+use Rattle.engine.specs.laws.lemmas.Changing.{lent-at}
 use Rattle.engine_feed.specs.declared.state.CallsState.{CallsState}
 use Rattle.engine_feed.specs.Seen.{message_of, messages_of, waiting_of}
 use Rattle.engine_feed.specs.Within.{Shows}

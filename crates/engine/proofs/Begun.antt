@@ -11,16 +11,16 @@ use Rattle.nfs_values.specs.declared.moment.Moment.{Moment}
 use Rattle.nfs_values.specs.Moment.{moment_of}
 use Rattle.affinity_tree.specs.declared.affinity.Affinity.{Affinity}
 use Rattle.affinity_tree.specs.Affinity.{affinity_of}
-use Rattle.scheduler.specs.declared.message.Message.{Message}
-use Rattle.depot_rule.specs.Sums.{total}
-use Rattle.held_state.specs.Contents.{filer_contents}
-use Rattle.held_state.specs.Tree.{server_of}
-use Rattle.held_state.specs.Partition.{all_parts}
-use Rattle.desk_laws.specs.Books.{IsTaken, now, stamps}
-use Rattle.desk_laws.specs.Calls as desks
-use Rattle.engine_laws.specs.Store.{StandsFor}
-use Rattle.engine_laws.specs.lemmas.Beginning.{begun-stands}
-use Rattle.engine_laws.specs.lemmas.Happening.{book-apart, begin-happens, begin-taken, begin-worn}
+use Rattle.affinity_tree.specs.declared.scheduler.message.Message.{Message}
+use Rattle.depot.specs.rule.Sums.{total}
+use Rattle.parcels.specs.state.Contents.{filer_contents}
+use Rattle.parcels.specs.state.Tree.{server_of}
+use Rattle.parcels.specs.state.Partition.{all_parts}
+use Rattle.desk.specs.laws.Books.{IsTaken, now, stamps}
+use Rattle.desk.specs.laws.Calls as desks
+use Rattle.engine.specs.laws.Store.{StandsFor}
+use Rattle.engine.specs.laws.lemmas.Beginning.{begun-stands}
+use Rattle.engine.specs.laws.lemmas.Happening.{book-apart, begin-happens, begin-taken, begin-worn}
 use Rattle.desk.specs.Words.{books, IsKept}
 use Rattle.service.specs.Jobs.{job_of, job_reply_of}
 use Rattle.engine_feed.specs.Seen.{message_of, messages_of, running_count}

@@ -5,15 +5,15 @@ use Rattle.std.specs.List.{AllByRecursion}
 use Rattle.std.proofs.lemmas.List.{length-set}
 use Rattle.nfs_model.specs.World.{World}
 use Rattle.nfs_values.specs.declared.call.Call.{Call}
-use Rattle.scheduler.specs.declared.message.Message.{Message}
-use Rattle.depot_rule.specs.Sums.{total}
-use Rattle.held_state.specs.Contents.{filer_contents}
-use Rattle.held_state.specs.Partition.{all_parts}
-use Rattle.held_state.specs.Tree.{server_of}
+use Rattle.affinity_tree.specs.declared.scheduler.message.Message.{Message}
+use Rattle.depot.specs.rule.Sums.{total}
+use Rattle.parcels.specs.state.Contents.{filer_contents}
+use Rattle.parcels.specs.state.Partition.{all_parts}
+use Rattle.parcels.specs.state.Tree.{server_of}
 use Rattle.parcels.specs.declared.files.Files.{Files}
-use Rattle.desk_laws.specs.Books.{now, stamps}
+use Rattle.desk.specs.laws.Books.{now, stamps}
 use Rattle.desk.specs.Words.{books, IsKept}
-use Rattle.engine_laws.specs.Store.{FilerBooks, StandsFor}
+use Rattle.engine.specs.laws.Store.{FilerBooks, StandsFor}
 use Rattle.service.specs.Jobs.{job_of, job_reply_of}
 use Rattle.service.specs.declared.job.Job.{Job}
 use Rattle.service.specs.declared.job.JobReply.{JobReply}

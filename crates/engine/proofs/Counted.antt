@@ -15,25 +15,25 @@ use Rattle.nfs_model.specs.Parts.{hand_blocks}
 use Rattle.nfs_values.specs.declared.call.Call.{Call}
 use Rattle.affinity_tree.specs.declared.affinity.Kind.TheVariants as kinds
 use Rattle.affinity_tree.specs.Numbers.{number_of, parents}
-use Rattle.depot_rule.specs.History.{patched}
-use Rattle.desk_laws.specs.Books.{Lent, now, HasLent}
-use Rattle.desk_laws.specs.Calls.{Does, MayWork, HasWorked}
+use Rattle.depot.specs.rule.History.{patched}
+use Rattle.desk.specs.laws.Books.{Lent, now, HasLent}
+use Rattle.desk.specs.laws.Calls.{Does, MayWork, HasWorked}
 use Rattle.desk.specs.Words.{books}
-use Rattle.held_state.specs.Parcels.{FilerParcel}
-use Rattle.held_state.specs.Contents.{contents_of, filer_contents}
-use Rattle.held_state.specs.Tree.{volume_of}
-use Rattle.held_state.specs.Partition.{parts_of}
-use Rattle.held_state.specs.Jobs.{Job, JobReply}
-use Rattle.held_laws.specs.Laws.{PartsPartition}
-use Rattle.held_laws.specs.lemmas.Each.{each-length}
-use Rattle.engine_laws.specs.Store.{FilerBooks, StandsFor, batches_carried}
-use Rattle.engine_laws.specs.lemmas.Agreeing.{agreed, now-served}
+use Rattle.parcels.specs.state.Parcels.{FilerParcel}
+use Rattle.parcels.specs.state.Contents.{contents_of, filer_contents}
+use Rattle.parcels.specs.state.Tree.{volume_of}
+use Rattle.parcels.specs.state.Partition.{parts_of}
+use Rattle.parcels.specs.state.Jobs.{Job, JobReply}
+use Rattle.parcels.specs.laws.Laws.{PartsPartition}
+use Rattle.parcels.specs.laws.lemmas.Each.{each-length}
+use Rattle.engine.specs.laws.Store.{FilerBooks, StandsFor, batches_carried}
+use Rattle.engine.specs.laws.lemmas.Agreeing.{agreed, now-served}
 use Rattle.service.specs.Running.{IsRunAt, AsksFor}
 use Rattle.service.specs.lemmas.Homes.{not-here}
-use Rattle.service_counts.specs.declared.counts.VolumeCounts.{VolumeCounts}
-use Rattle.service_counts.specs.Counts.{counted, IsCounted, all_seen, world_counts, told_of, IsOfCalls, AsksForCounts, HasCounted}
-use Rattle.service_counts.specs.lemmas.Seen.{contents-seen}
-use Rattle.service_counts.specs.lemmas.Happening.{IsParted, told-is}
+use Rattle.engine.specs.declared.counts.counts.VolumeCounts.{VolumeCounts}
+use Rattle.engine.specs.counts.Counts.{counted, IsCounted, all_seen, world_counts, told_of, IsOfCalls, AsksForCounts, HasCounted}
+use Rattle.engine.specs.counts.lemmas.Seen.{contents-seen}
+use Rattle.engine.specs.counts.lemmas.Happening.{IsParted, told-is}
 use Rattle.engine.specs.declared.worker.Worker.{Worker}
 use Rattle.engine.specs.declared.state.State.{State}
 use Rattle.engine.specs.Seen.{worker_seen, world}

@@ -16,16 +16,16 @@ use Rattle.nfs_values.specs.declared.call.Call.{Call}
 use Rattle.nfs_values.specs.declared.reply.Reply.{Reply}
 use Rattle.nfs_values.specs.declared.reply.Reply.TheVariants.{SystemError}
 use Rattle.nfs_values.specs.Reply.{reply_of}
-use Rattle.scheduler.specs.declared.message.Message.{Message}
-use Rattle.held_state.specs.Contents.{filer_contents}
-use Rattle.held_state.specs.Tree.{server_of}
-use Rattle.held_state.specs.Partition.{all_parts}
-use Rattle.held_state.specs.Parcels.{FilerParcel}
-use Rattle.held_state.specs.Jobs.{Job, JobReply}
-use Rattle.desk_laws.specs.Books.{Lent, HasLent, IsSame, now}
-use Rattle.engine_laws.specs.lemmas.Beginning.{same-now}
-use Rattle.engine_laws.specs.Store.{FilerBooks, IsServed, HasOutcome, RunsOn, StandsFor}
-use Rattle.engine_laws.specs.lemmas.Changing.{lent-at}
+use Rattle.affinity_tree.specs.declared.scheduler.message.Message.{Message}
+use Rattle.parcels.specs.state.Contents.{filer_contents}
+use Rattle.parcels.specs.state.Tree.{server_of}
+use Rattle.parcels.specs.state.Partition.{all_parts}
+use Rattle.parcels.specs.state.Parcels.{FilerParcel}
+use Rattle.parcels.specs.state.Jobs.{Job, JobReply}
+use Rattle.desk.specs.laws.Books.{Lent, HasLent, IsSame, now}
+use Rattle.engine.specs.laws.lemmas.Beginning.{same-now}
+use Rattle.engine.specs.laws.Store.{FilerBooks, IsServed, HasOutcome, RunsOn, StandsFor}
+use Rattle.engine.specs.laws.lemmas.Changing.{lent-at}
 use Rattle.service.specs.declared.outcome.Outcome.{Outcome}
 use Rattle.service.specs.declared.outcome.Outcome.TheVariants.{Replied, Starved}
 use Rattle.service.specs.Running.{outcome_of}

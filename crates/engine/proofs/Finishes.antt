@@ -15,20 +15,20 @@ use Rattle.nfs_values.specs.Moment.{moment_of}
 use Rattle.nfs_values.specs.Reply.{reply_of}
 use Rattle.affinity_tree.specs.declared.affinity.Affinity as codes
 use Rattle.affinity_tree.specs.Affinity.{affinity_of}
-use Rattle.scheduler.specs.declared.message.Message.{Message}
-use Rattle.depot_rule.specs.Sums.{total}
-use Rattle.depot_rule.specs.lemmas.Sums.{total-append}
-use Rattle.held_state.specs.Parcels.{FilerParcel}
-use Rattle.held_state.specs.Contents.{filer_contents}
-use Rattle.held_state.specs.Tree.{server_of}
-use Rattle.held_state.specs.Partition.{all_parts}
+use Rattle.affinity_tree.specs.declared.scheduler.message.Message.{Message}
+use Rattle.depot.specs.rule.Sums.{total}
+use Rattle.depot.specs.rule.lemmas.Sums.{total-append}
+use Rattle.parcels.specs.state.Parcels.{FilerParcel}
+use Rattle.parcels.specs.state.Contents.{filer_contents}
+use Rattle.parcels.specs.state.Tree.{server_of}
+use Rattle.parcels.specs.state.Partition.{all_parts}
 use Rattle.parcels.specs.declared.files.Files.{Files}
-use Rattle.desk_laws.specs.Books.{Lent, HasLent, now, stamps}
-use Rattle.desk_laws.specs.Calls.{MayPutBack, MayFinish, HasPutBack, HasFinished}
-use Rattle.engine_laws.specs.Store.{FilerBooks, HasOutcome, StandsFor}
-use Rattle.engine_laws.specs.lemmas.Finishing.{run-on, moved-unchanged, may-finish, back-stands, finished-stands}
-use Rattle.engine_laws.specs.lemmas.Feeding.{all-append}
-use Rattle.engine_laws.specs.lemmas.Happening.{book-apart, finish-happens}
+use Rattle.desk.specs.laws.Books.{Lent, HasLent, now, stamps}
+use Rattle.desk.specs.laws.Calls.{MayPutBack, MayFinish, HasPutBack, HasFinished}
+use Rattle.engine.specs.laws.Store.{FilerBooks, HasOutcome, StandsFor}
+use Rattle.engine.specs.laws.lemmas.Finishing.{run-on, moved-unchanged, may-finish, back-stands, finished-stands}
+use Rattle.engine.specs.laws.lemmas.Feeding.{all-append}
+use Rattle.engine.specs.laws.lemmas.Happening.{book-apart, finish-happens}
 use Rattle.desk.specs.Words.{books, machine_in, IsKept}
 use Rattle.service.specs.Jobs.{job_of, job_reply_of}
 use Rattle.service.specs.Running.{outcome_of}

@@ -2,16 +2,16 @@
 use Rattle.std.proofs.Common.{◌≡◌, ℕ, ◌<◌, ◌++◌, length, Some, refl, sym, ◌∙◌, subst}
 use Rattle.nfs_model.specs.Parts.{Hand, Empty}
 use Rattle.affinity_tree.specs.Tree.{IsNode}
-use Rattle.held_state.specs.Parcels.{FilerParcel}
-use Rattle.held_state.specs.Jobs as jobs
-use Rattle.held_state.specs.Jobs.{InnerCall, Inner, batches_in, inner_node, inner_volume}
-use Rattle.held_state.specs.Contents.{VolumeContents, volume_at, contents_of, filer_contents}
-use Rattle.held_state.specs.Running.{IsRefusedIn, IsRefusedOn}
-use Rattle.held_laws.specs.lemmas.Each.{each-get}
-use Rattle.desk_laws.specs.Books.{Lent, settled, stamps}
-use Rattle.desk_laws.specs.Calls.{HasBegun, MayWork, HasWorked, MayFinish, HasFinished, MayPutBack, HasPutBack}
-use Rattle.engine_laws.specs.Store.{FilerBooks, filer, IsApart}
-use Rattle.engine_laws.specs.lemmas.Making as laws
+use Rattle.parcels.specs.state.Parcels.{FilerParcel}
+use Rattle.parcels.specs.state.Jobs as jobs
+use Rattle.parcels.specs.state.Jobs.{InnerCall, Inner, batches_in, inner_node, inner_volume}
+use Rattle.parcels.specs.state.Contents.{VolumeContents, volume_at, contents_of, filer_contents}
+use Rattle.parcels.specs.state.Running.{IsRefusedIn, IsRefusedOn}
+use Rattle.parcels.specs.laws.lemmas.Each.{each-get}
+use Rattle.desk.specs.laws.Books.{Lent, settled, stamps}
+use Rattle.desk.specs.laws.Calls.{HasBegun, MayWork, HasWorked, MayFinish, HasFinished, MayPutBack, HasPutBack}
+use Rattle.engine.specs.laws.Store.{FilerBooks, filer, IsApart}
+use Rattle.engine.specs.laws.lemmas.Making as laws
 use Rattle.service.specs.Inner.{AsksForInner, InnerHasRun, IsHandFor}
 use Rattle.service.specs.Jobs.{job_of, job_reply_of}
 use Rattle.service.specs.declared.inner.InnerOutcome.{InnerOutcome}

@@ -12,16 +12,16 @@ use Rattle.nfs_model.specs.Events.Refusals.{open_count}
 use Rattle.nfs_model.specs.Headline.{opening_world}
 use Rattle.nfs_values.specs.declared.call.Call.{Call}
 use Rattle.affinity_tree.specs.Fault.{fault_of}
-use Rattle.scheduler.specs.declared.message.Message as scheduled
-use Rattle.held_state.specs.Parcels.{FilerParcel}
-use Rattle.held_state.specs.Contents.{filer_contents}
-use Rattle.held_state.specs.Tree.{server_of}
-use Rattle.held_state.specs.Partition.{all_parts}
-use Rattle.held_state.specs.Opening.{AreOpening}
-use Rattle.held_laws.specs.Laws.{OpensSound, OpensAsServer, OpensFree}
-use Rattle.desk_laws.specs.Books.{now, stamps, opening_books}
-use Rattle.engine_laws.specs.Store.{FilerBooks, StandsFor}
-use Rattle.engine_laws.specs.lemmas.Opening.{opening-stands}
+use Rattle.affinity_tree.specs.declared.scheduler.message.Message as scheduled
+use Rattle.parcels.specs.state.Parcels.{FilerParcel}
+use Rattle.parcels.specs.state.Contents.{filer_contents}
+use Rattle.parcels.specs.state.Tree.{server_of}
+use Rattle.parcels.specs.state.Partition.{all_parts}
+use Rattle.parcels.specs.state.Opening.{AreOpening}
+use Rattle.parcels.specs.laws.Laws.{OpensSound, OpensAsServer, OpensFree}
+use Rattle.desk.specs.laws.Books.{now, stamps, opening_books}
+use Rattle.engine.specs.laws.Store.{FilerBooks, StandsFor}
+use Rattle.engine.specs.laws.lemmas.Opening.{opening-stands}
 use Rattle.service.specs.declared.job.Job.{Job}
 use Rattle.service.specs.declared.job.JobReply.{JobReply}
 use Rattle.service.specs.Jobs.{job_of, job_reply_of}

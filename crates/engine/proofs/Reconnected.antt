@@ -1,5 +1,6 @@
 -- Connections that are opened and closed: nothing else changes.
-use Rattle.std.proofs.Common.{◌≡◌, ◌<◌, ◌≤◌, Bool, ℕ, zero, suc, ◌+◌, ◌⊎◌, inl, inr, List, [], ◌∷◌, ◌++◌, map, length, Some, None, Ok, refl, sym, ap, subst, ◌∙◌, arith}
+use Rattle.std.proofs.Common.{◌≡◌, ◌<◌, ◌≤◌, Bool, ℕ, zero, suc, ◌+◌, ◌⊎◌, inl, inr, List, [], ◌∷◌, ◌++◌, map, length, Some, None, Ok, refl, sym, ap, subst}
+use Rattle.std.proofs.Common.{◌∙◌, arith}
 use Rattle.std.specs.Prelude.{slice_get, if◌then◌else◌}
 use Rattle.std.proofs.lemmas.Bool.{lt-leb}
 use Rattle.std.proofs.lemmas.List.{length-append, length-map, map_push}
@@ -9,8 +10,8 @@ use Rattle.nfs_model.specs.Events.Refusals as events
 use Rattle.nfs_model.specs.Events.Refusals.{open_count}
 use Rattle.nfs_model.specs.Events.Step.{new_connection}
 use Rattle.nfs_values.specs.declared.call.Call.{Call}
-use Rattle.scheduler.specs.declared.message.Message.{Message}
-use Rattle.engine_laws.specs.lemmas.Feeding.{stands-alike}
+use Rattle.affinity_tree.specs.declared.scheduler.message.Message.{Message}
+use Rattle.engine.specs.laws.lemmas.Feeding.{stands-alike}
 use Rattle.desk.specs.Words.{books}
 use Rattle.service.specs.Jobs.{job_of, job_reply_of}
 use Rattle.engine_feed.specs.declared.state.ConnectionState.{ConnectionState}

@@ -8,21 +8,21 @@ use Rattle.nfs_model.specs.Parts.{Parts, Hand, Empty}
 use Rattle.nfs_model.specs.World.{Setup, World}
 use Rattle.nfs_values.specs.declared.call.Call.{Call}
 use Rattle.affinity_tree.specs.Tree.{IsNode}
-use Rattle.scheduler.specs.declared.message.Message.{Message}
-use Rattle.depot_rule.specs.Sums.{total}
-use Rattle.held_state.specs.Contents.{filer_contents}
-use Rattle.held_state.specs.Tree.{server_of}
-use Rattle.held_state.specs.Partition.{all_parts}
-use Rattle.held_state.specs.Jobs as jobs
-use Rattle.held_state.specs.Jobs.{InnerCall, Fetch, Deliver, Cull, Free, Survey, Took, Gave, Surveyed, Replied, inner_node, InnerMoves}
+use Rattle.affinity_tree.specs.declared.scheduler.message.Message.{Message}
+use Rattle.depot.specs.rule.Sums.{total}
+use Rattle.parcels.specs.state.Contents.{filer_contents}
+use Rattle.parcels.specs.state.Tree.{server_of}
+use Rattle.parcels.specs.state.Partition.{all_parts}
+use Rattle.parcels.specs.state.Jobs as jobs
+use Rattle.parcels.specs.state.Jobs.{InnerCall, Fetch, Deliver, Cull, Free, Survey, Took, Gave, Surveyed, Replied, inner_node, InnerMoves}
 use Rattle.parcels.specs.declared.files.Files.{Files}
-use Rattle.desk_laws.specs.Books.{now, stamps}
+use Rattle.desk.specs.laws.Books.{now, stamps}
 use Rattle.desk.specs.Words.{books, IsKept}
-use Rattle.engine_laws.specs.Store.{FilerBooks, StandsFor}
-use Rattle.engine_laws.specs.Inner.{HasMoved, hand_after}
-use Rattle.engine_laws.specs.lemmas.Beginning.{told-taken, told-worn-out, told-free}
-use Rattle.engine_laws.specs.lemmas.Happening.{book-apart}
-use Rattle.engine_laws.specs.lemmas.Tending.{one-carried, next, has-moved, none-excluded, made-stands, out-of-use}
+use Rattle.engine.specs.laws.Store.{FilerBooks, StandsFor}
+use Rattle.engine.specs.laws.Inner.{HasMoved, hand_after}
+use Rattle.engine.specs.laws.lemmas.Beginning.{told-taken, told-worn-out, told-free}
+use Rattle.engine.specs.laws.lemmas.Happening.{book-apart}
+use Rattle.engine.specs.laws.lemmas.Tending.{one-carried, next, has-moved, none-excluded, made-stands, out-of-use}
 use Rattle.service.specs.Jobs.{job_of, job_reply_of}
 use Rattle.service.specs.declared.job.Job.{Job}
 use Rattle.service.specs.declared.job.JobReply.{JobReply}

@@ -22,22 +22,22 @@ use Rattle.nfs_values.specs.Call.{call_of}
 use Rattle.nfs_values.specs.Credential.{credential_of}
 use Rattle.nfs_values.specs.Reply.{reply_of}
 use Rattle.affinity_tree.specs.Affinity.{affinity_of}
-use Rattle.scheduler.specs.declared.message.Message.{Message}
-use Rattle.depot_rule.specs.Shares.{too_many}
-use Rattle.held_state.specs.Parcels.{FilerParcel}
-use Rattle.held_state.specs.Contents.{filer_contents}
-use Rattle.held_state.specs.Tree.{server_of}
-use Rattle.held_state.specs.Partition.{all_parts}
-use Rattle.held_state.specs.Deeds.{stored_all}
-use Rattle.held_state.specs.Running.{HasFiler, Runs}
-use Rattle.held_state.specs.Jobs as jobs
-use Rattle.desk_laws.specs.Books.{Lent, settled, now, stamps, HasLent, IsUnchanged}
-use Rattle.desk_laws.specs.Calls.{MayWork, HasWorked}
-use Rattle.engine_laws.specs.Store.{FilerBooks, HasOutcome, RunsOn, StandsFor, batches_carried}
-use Rattle.engine_laws.specs.Serving.{Serving}
-use Rattle.engine_laws.specs.lemmas.Served.{covered-node}
-use Rattle.engine_laws.specs.lemmas.Agreeing.{sound-settled}
-use Rattle.engine_laws.specs.lemmas.Changing.{lent-at}
+use Rattle.affinity_tree.specs.declared.scheduler.message.Message.{Message}
+use Rattle.depot.specs.rule.Shares.{too_many}
+use Rattle.parcels.specs.state.Parcels.{FilerParcel}
+use Rattle.parcels.specs.state.Contents.{filer_contents}
+use Rattle.parcels.specs.state.Tree.{server_of}
+use Rattle.parcels.specs.state.Partition.{all_parts}
+use Rattle.parcels.specs.state.Deeds.{stored_all}
+use Rattle.parcels.specs.state.Running.{HasFiler, Runs}
+use Rattle.parcels.specs.state.Jobs as jobs
+use Rattle.desk.specs.laws.Books.{Lent, settled, now, stamps, HasLent, IsUnchanged}
+use Rattle.desk.specs.laws.Calls.{MayWork, HasWorked}
+use Rattle.engine.specs.laws.Store.{FilerBooks, HasOutcome, RunsOn, StandsFor, batches_carried}
+use Rattle.engine.specs.laws.Serving.{Serving}
+use Rattle.engine.specs.laws.lemmas.Served.{covered-node}
+use Rattle.engine.specs.laws.lemmas.Agreeing.{sound-settled}
+use Rattle.engine.specs.laws.lemmas.Changing.{lent-at}
 use Rattle.service.specs.declared.job.Job.{Job}
 use Rattle.service.specs.declared.job.JobReply.{JobReply}
 use Rattle.service.specs.declared.outcome.Outcome.{Outcome}

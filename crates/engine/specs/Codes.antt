@@ -9,7 +9,7 @@ use Rattle.std.specs.FinSet.{FinSet}
 use Rattle.std.specs.Ordering.{nat_cmp}
 use Rattle.nfs_model.specs.Types.{Moment, Listed}
 use Rattle.nfs_model.specs.Server.{Attributes, FileNode, DirectoryNode, Node, File, Directory}
-use Rattle.volume_values.specs.Codes.{coded_moment, coded_attributes, coded_listed}
+use Rattle.nfs_model.specs.volume.Codes.{coded_moment, coded_attributes, coded_listed}
 
 abbrev pub coded_file : Coded FileNode
 coded_file =

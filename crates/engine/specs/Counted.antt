@@ -1,12 +1,12 @@
 -- The counts of block numbers that an engine keeps by volume, taken anew.
 use Rattle.std.specs.Prelude.{◌≡◌, ℕ, List, Option}
 use Rattle.affinity_tree.specs.Numbers.{number_of, parents}
-use Rattle.depot_rule.specs.History.{patched}
-use Rattle.desk_laws.specs.Books.{Lent, HasLent}
-use Rattle.held_state.specs.Parcels.{FilerParcel}
-use Rattle.engine_laws.specs.Store.{FilerBooks}
-use Rattle.service_counts.specs.declared.counts.VolumeCounts.{VolumeCounts}
-use Rattle.service_counts.specs.Counts.{IsCounted, world_counts}
+use Rattle.depot.specs.rule.History.{patched}
+use Rattle.desk.specs.laws.Books.{Lent, HasLent}
+use Rattle.parcels.specs.state.Parcels.{FilerParcel}
+use Rattle.engine.specs.laws.Store.{FilerBooks}
+use Rattle.engine.specs.declared.counts.counts.VolumeCounts.{VolumeCounts}
+use Rattle.engine.specs.counts.Counts.{IsCounted, world_counts}
 use Rattle.engine.specs.declared.state.State.{State}
 use Rattle.engine.specs.Seen.{world}
 use Rattle.engine.specs.Words.{IsWhole}

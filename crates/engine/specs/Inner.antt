@@ -6,15 +6,15 @@ use Rattle.nfs_model.specs.Events.Refusals as events
 use Rattle.nfs_model.specs.Events.Refusals.{excluded, is_range_in_use}
 use Rattle.affinity_tree.specs.Fault.{fault_of}
 use Rattle.affinity_tree.specs.Tree.{IsNode}
-use Rattle.depot_rule.specs.Shares.{too_many}
-use Rattle.desk_laws.specs.Books.{settled, stamps, IsIdle, IsTaken, HasHands, IsSettled}
-use Rattle.desk_laws.specs.Calls.{IsWorn}
-use Rattle.held_state.specs.Jobs as jobs
-use Rattle.held_state.specs.Jobs.{InnerCall, Fetch, Deliver, Cull, Free, Survey, batches_in, inner_node, inner_volume}
-use Rattle.held_state.specs.Running.{IsRefusedIn}
-use Rattle.engine_laws.specs.Store.{FilerBooks, filer}
-use Rattle.engine_laws.specs.Inner as laws
-use Rattle.engine_laws.specs.Inner.{IsFree, HasMade, HasMoved}
+use Rattle.depot.specs.rule.Shares.{too_many}
+use Rattle.desk.specs.laws.Books.{settled, stamps, IsIdle, IsTaken, HasHands, IsSettled}
+use Rattle.desk.specs.laws.Calls.{IsWorn}
+use Rattle.parcels.specs.state.Jobs as jobs
+use Rattle.parcels.specs.state.Jobs.{InnerCall, Fetch, Deliver, Cull, Free, Survey, batches_in, inner_node, inner_volume}
+use Rattle.parcels.specs.state.Running.{IsRefusedIn}
+use Rattle.engine.specs.laws.Store.{FilerBooks, filer}
+use Rattle.engine.specs.laws.Inner as laws
+use Rattle.engine.specs.laws.Inner.{IsFree, HasMade, HasMoved}
 use Rattle.service.specs.declared.job.Job.{Job}
 use Rattle.service.specs.declared.job.JobReply.{JobReply}
 use Rattle.service.specs.Jobs.{job_of, job_reply_of}

@@ -11,3 +11,5 @@ pub mod Words
 pub mod Counted
 pub mod Shown
 pub mod Codes
+pub mod laws
+pub mod counts

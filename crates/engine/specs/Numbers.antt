@@ -1,7 +1,8 @@
 -- The numbers by which refusals are told (our profile).
 use Rattle.std.specs.Prelude.{ℕ}
 use Rattle.engine.specs.declared.event.Refusal.{Refusal}
-use Rattle.engine.specs.declared.event.Refusal.TheVariants.{Busy, Worn, Full, NoSuchCall, WorkerBusy, NoWork, NotWorked, Closed, BadMoment, NoSuchRange, NoMemory}
+use Rattle.engine.specs.declared.event.Refusal.TheVariants.{Busy, Worn, Full, NoSuchCall, WorkerBusy, NoWork, NotWorked, Closed, BadMoment, NoSuchRange}
+use Rattle.engine.specs.declared.event.Refusal.TheVariants.{NoMemory}
 
 abbrev pub refusal_number : Refusal → ℕ
 refusal_number Busy = 21

@@ -6,11 +6,11 @@ use Rattle.nfs_model.specs.World as worlds
 use Rattle.nfs_model.specs.Events.Refusals as events
 use Rattle.nfs_values.specs.Moment.{moment_of}
 use Rattle.affinity_tree.specs.Affinity.{affinity_of}
-use Rattle.desk_laws.specs.Books.{now, stamps}
+use Rattle.desk.specs.laws.Books.{now, stamps}
 use Rattle.desk.specs.Words.{books}
-use Rattle.held_state.specs.Contents.{filer_contents}
-use Rattle.held_state.specs.Tree.{server_of}
-use Rattle.held_state.specs.Partition.{all_parts}
+use Rattle.parcels.specs.state.Contents.{filer_contents}
+use Rattle.parcels.specs.state.Tree.{server_of}
+use Rattle.parcels.specs.state.Partition.{all_parts}
 use Rattle.service.specs.declared.outcome.Outcome.{Outcome}
 use Rattle.service.specs.declared.outcome.Outcome.TheVariants as outcomes
 use Rattle.service.specs.Running.{outcome_of}

@@ -10,15 +10,15 @@ use Rattle.nfs_values.specs.declared.call.Call.{Call}
 use Rattle.nfs_values.specs.Reply.{reply_of}
 use Rattle.affinity_tree.specs.Affinity.{affinity_of}
 use Rattle.affinity_tree.specs.Tree.{IsNode}
-use Rattle.depot_rule.specs.Sums.{total}
-use Rattle.scheduler.specs.declared.message.Message.{Message}
-use Rattle.desk_laws.specs.Books.{stamps}
+use Rattle.depot.specs.rule.Sums.{total}
+use Rattle.affinity_tree.specs.declared.scheduler.message.Message.{Message}
+use Rattle.desk.specs.laws.Books.{stamps}
 use Rattle.desk.specs.Words.{books, IsKept}
 use Rattle.service.specs.Jobs.{job_of, job_reply_of}
 use Rattle.service.specs.Running.{IsRunAt}
 use Rattle.service.specs.declared.outcome.Outcome.{Outcome}
 use Rattle.service.specs.declared.outcome.Outcome.TheVariants.{Replied, Starved, Moved}
-use Rattle.engine_laws.specs.Store.{StandsFor}
+use Rattle.engine.specs.laws.Store.{StandsFor}
 use Rattle.engine_feed.specs.Codec.{reply_record}
 use Rattle.engine_feed.specs.Seen.{owed_by, layout_in, messages_of, running_count}
 use Rattle.engine_feed.specs.Sound.{IsAdmitted}

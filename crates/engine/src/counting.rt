@@ -4,19 +4,19 @@ ghost use Rattle.std.specs.Prelude.{◌≡◌, ◌≤◌, ◌==◌, length, map,
 ghost use Rattle.nfs_model.specs.Parts.{hand_blocks};
 ghost use Rattle.nfs_model.specs.World.{hands_blocks};
 ghost use Rattle.nfs_model.specs.Events.Refusals.{hand_of};
-ghost use Rattle.desk_laws.specs.Calls.{MayWork};
+ghost use Rattle.desk.specs.laws.Calls.{MayWork};
 ghost use Rattle.desk.specs.Words.{books, IsKept};
-ghost use Rattle.service_counts.specs.Counts.{AsksForCounts, culled_by, fresh_volume};
-ghost use Rattle.service_counts.specs.Counts.{moved_count, put_by};
+ghost use Rattle.engine.specs.counts.Counts.{AsksForCounts, culled_by, fresh_volume};
+ghost use Rattle.engine.specs.counts.Counts.{moved_count, put_by};
 ghost use Rattle.engine.specs.Counted.{IsRecounted};
 ghost use Rattle.engine.specs.Seen.{answer_of, done_of, worker_seen};
 
+use crate::counts::{Tally, VolumeCounts, count_culled, count_put};
 use crate::event::{Done, Refusal};
 use crate::worker::Worker;
 use desk::{Desk, ParcelKinds};
 use parcel_sets::Hand;
 use service::{BatchInHand, Service};
-use service_counts::{Tally, VolumeCounts, count_culled, count_put};
 use std::alloc::Global;
 use std::mem;
 

@@ -5,7 +5,7 @@ ghost use Rattle.nfs_model.specs.Events.Refusals as event;
 ghost use Rattle.nfs_values.specs.Call.{call_of};
 ghost use Rattle.nfs_values.specs.Moment.{moment_of};
 ghost use Rattle.nfs_values.specs.Reply.{reply_of};
-ghost use Rattle.desk_laws.specs.Calls.{MayFinish, HasFinished};
+ghost use Rattle.desk.specs.laws.Calls.{MayFinish, HasFinished};
 ghost use Rattle.desk.specs.Words.{books, machine_in, IsKept};
 ghost use Rattle.engine_feed.specs.Codec.{reply_record};
 ghost use Rattle.rpc_msg.specs.Offered.{IsOffered};
@@ -24,10 +24,10 @@ use crate::lending::{enter, take_back};
 use crate::state::State;
 use crate::worker::{Running, WorkerRun, run_at, take_run};
 use affinity_tree::Affinity;
+use affinity_tree::scheduler::{Message, Origin};
 use desk::{Desk, ParcelKinds};
 use engine_feed::{Calls, OfferedCall};
 use nfs_values::{Moment, Reply};
-use scheduler::{Message, Origin};
 use service::{Asked, Job, JobReply, Outcome, ServedCall, Service};
 
 /// The entry of a call that ran.

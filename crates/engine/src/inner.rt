@@ -2,7 +2,7 @@
 
 ghost use Rattle.std.specs.Prelude.{◌≡◌, IfOk, IfErr};
 ghost use Rattle.affinity_tree.specs.Affinity.{affinity_of};
-ghost use Rattle.held_state.specs.Jobs.{inner_node};
+ghost use Rattle.parcels.specs.state.Jobs.{inner_node};
 ghost use Rattle.desk.specs.Words.{books, IsKept};
 ghost use Rattle.service.specs.Jobs.{inner_of, job_reply_of};
 ghost use Rattle.engine.specs.Inner.{MayMake, IsMade, IsRefusedFor, IsOfHand, hand_after};

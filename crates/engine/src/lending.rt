@@ -3,8 +3,8 @@
 ghost use Rattle.std.specs.Prelude.{◌≡◌, OnOk, IfErr};
 ghost use Rattle.affinity_tree.specs.Affinity.{affinity_of};
 ghost use Rattle.affinity_tree.specs.Tree.{IsNode};
-ghost use Rattle.desk_laws.specs.Books.{IsIdle};
-ghost use Rattle.desk_laws.specs.Calls.{HasBegun, MayFinish, HasFinished, MayPutBack, HasPutBack};
+ghost use Rattle.desk.specs.laws.Books.{IsIdle};
+ghost use Rattle.desk.specs.laws.Calls.{HasBegun, MayFinish, HasFinished, MayPutBack, HasPutBack};
 ghost use Rattle.desk.specs.Refusal.{IsRefused};
 ghost use Rattle.desk.specs.Words.{books, machine_in, IsKept};
 

@@ -2,24 +2,24 @@
 
 ghost use Rattle.std.specs.Prelude.{◌≡◌, length};
 ghost use Rattle.nfs_model.specs.Events.Refusals as event;
-ghost use Rattle.desk_laws.specs.Books.{now};
-ghost use Rattle.desk_laws.specs.Calls.{MayWork, HasWorked};
+ghost use Rattle.desk.specs.laws.Books.{now};
+ghost use Rattle.desk.specs.laws.Calls.{MayWork, HasWorked};
 ghost use Rattle.desk.specs.Words.{books, IsKept};
 ghost use Rattle.service.specs.Running.{AsksFor};
-ghost use Rattle.service_counts.specs.Counts.{IsCounted, world_counts};
+ghost use Rattle.engine.specs.counts.Counts.{IsCounted, world_counts};
 ghost use Rattle.engine.specs.Seen.{told_of, world};
 ghost use Rattle.engine.specs.Working.{run_of};
 ghost use Rattle.engine.specs.Words.{Does, HasItsSetup, IsWhole};
 ghost use Rattle.engine.specs.Sound.{IsSoundEngine};
 
 use crate::counting::recount;
+use crate::counts::VolumeCounts;
 use crate::event::{Done, Refusal};
 use crate::state::State;
 use crate::worker::{Running, WorkerRun, run_at, set_run, take_run};
 use desk::{Desk, ParcelKinds};
 use rpc_msg::{replies_fit, servers_are_roomy};
 use service::{Outcome, Run, Service};
-use service_counts::VolumeCounts;
 use std::alloc::Global;
 
 /// What is told of work that came to this.

@@ -3,9 +3,9 @@ use Rattle.std.proofs.Common.{◌≡◌, ℕ, ◌+◌, ◌≤◌, List, [], ◌�
 use Rattle.std.specs.Prelude.{vec_len, vec_capacity, option_map}
 use Rattle.std.specs.List.{AllByRecursion}
 use Rattle.std.proofs.lemmas.List.{append-nil}
-use Rattle.rpc_record.specs.Stream.{read_stream}
+use Rattle.rpc_msg.specs.marking.Stream.{read_stream}
 use Rattle.nfs_values.specs.declared.call.Call.{Call}
-use Rattle.scheduler.specs.declared.message.Message.{Message}
+use Rattle.affinity_tree.specs.declared.scheduler.message.Message.{Message}
 use Rattle.engine_feed.specs.declared.state.ConnectionState.{ConnectionState}
 use Rattle.engine_feed.specs.declared.state.CallsState.{CallsState}
 use Rattle.engine_feed.specs.declared.state.Arrival.{Arrival}
@@ -13,7 +13,8 @@ use Rattle.engine_feed.specs.Numbers.{fault_number}
 use Rattle.engine_feed.specs.Streams.{scan_stream}
 use Rattle.engine_feed.specs.Offered.{reply_limit}
 use Rattle.engine_feed.specs.Seen.{owed_by, layout_in, messages_of, running_count}
-use Rattle.engine_feed.specs.Sound.{IsInStep, IsSoundConnection, AreSound, IsRoomier, IsStreamRoomier, AreRoomier, TakesFrom, IsWrittenTo, KeepsEntry, IsAnswered}
+use Rattle.engine_feed.specs.Sound.{IsInStep, IsSoundConnection, AreSound, IsRoomier, IsStreamRoomier, AreRoomier, TakesFrom, IsWrittenTo, KeepsEntry}
+use Rattle.engine_feed.specs.Sound.{IsAnswered}
 use Rattle.engine_feed.specs.Sound.{HasRoomToReply, HaveRoomToAdmit}
 use Rattle.engine_feed.specs.Words.{rooms, IsOwn, Adds, Keeps}
 

@@ -9,8 +9,8 @@ ghost use Rattle.nfs_values.specs.Call.{call_of};
 ghost use Rattle.nfs_values.specs.declared.answer.Answer.TheVariants.{Rename};
 
 use crate::asked::OfferedCall;
-use affinity::named_by;
 use affinity_tree::Layout;
+use affinity_tree::homes::named_by;
 use nfs_values::{Answer, Call, FileHandle, Status};
 use std::alloc::Global;
 

@@ -5,9 +5,9 @@ use crate::connection::OpenConnection;
 use crate::message::FinishedCall;
 use crate::moving::{begin, leave, put_back, reply_to};
 use crate::state::CallsState;
+use affinity_tree::scheduler::{Message, NoSuchCall, Waiting};
 use affinity_tree::{Affinity, Layout};
 use nfs_values::{Moment, Reply};
-use scheduler::{Message, NoSuchCall, Waiting};
 use std::alloc::{AllocError, Global};
 use std::marker::Model;
 

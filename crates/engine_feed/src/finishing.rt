@@ -13,8 +13,8 @@ use crate::message::{FinishedCall, Request};
 use crate::reply::put_reply;
 use crate::state::{CallsState, ConnectionState};
 use affinity_tree::Affinity;
+use affinity_tree::scheduler::Origin;
 use nfs_values::{Moment, Reply};
-use scheduler::Origin;
 
 /// Writes a reply record, for which there is room, and answers how many bytes it has.
 pub(crate) fn write_reply(to: &mut ConnectionState, xid: u32, reply: &Reply) -> usize

@@ -2,8 +2,8 @@
 
 use crate::asked::{OfferedCall, Refused};
 use affinity_tree::Affinity;
+use affinity_tree::scheduler::Origin;
 use nfs_values::{Credential, Moment};
-use scheduler::Origin;
 
 /// What a record asks.
 #[derive(Drop)]

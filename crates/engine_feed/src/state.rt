@@ -6,8 +6,8 @@ use crate::asked::OfferedCall;
 use crate::message::{FinishedCall, Heard};
 use crate::stop::StreamFault;
 use affinity_tree::Layout;
-use rpc_record::Reassembler;
-use scheduler::Waiting;
+use affinity_tree::scheduler::Waiting;
+use rpc_msg::marking::Reassembler;
 use std::alloc::Global;
 
 /// How many messages may wait or run.

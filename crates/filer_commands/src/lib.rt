@@ -1,11 +1,12 @@
-//! The program's command line, and the commands that it names.
+//! The program's command line, and the commands that it names: `replay` runs a script of events.
 #![tactic(auto)]
 
 mod choice;
+pub mod replay;
 mod running;
 mod words;
 
+pub use crate::replay::{ProgramFault, print_fault};
 pub use choice::Command;
-pub use filer_replay::{ProgramFault, print_fault};
 pub use running::program;
 pub use words::command;

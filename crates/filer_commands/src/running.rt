@@ -3,8 +3,8 @@
 ghost use Rattle.std.specs.Prelude.{◌≤◌, IfOk};
 
 use crate::choice::Command;
+use crate::replay::{ProgramFault, print_fault, replay};
 use crate::words::command;
-use filer_replay::{ProgramFault, print_fault, replay};
 use server::{Options, ServerFault, serve};
 use std::convert::AsStr;
 use std::fs::File;

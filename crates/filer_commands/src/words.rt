@@ -1,9 +1,9 @@
 //! The command line.
 
 use crate::choice::Command;
+use crate::replay::ProgramFault;
 use clap::error::ErrorKind;
 use clap::{Arg, ArgAction, ArgMatches, Error, value_parser};
-use filer_replay::ProgramFault;
 use server::Options;
 use std::alloc::{AllocError, Global};
 use std::convert::AsStr;

@@ -2,7 +2,7 @@
 //! with `=== ` and names it, and prints of each that line, what it prints, and its status.
 #![tactic(auto)]
 
-use filer_replay::replay;
+use filer_commands::replay::replay;
 use std::io;
 
 /// What a line begins with that names a script.

@@ -5,7 +5,7 @@ use Rattle.std.specs.Prelude.{MatchOption}
 use Rattle.std.specs.Option.{option_map}
 use Rattle.std.specs.FinMap.{get}
 use Rattle.std.proofs.lemmas.Bool.Decides.{nat_tests}
-use Rattle.volume_values.specs.lemmas.Numbered.{get-changed_at}
+use Rattle.nfs_model.specs.volume.lemmas.Numbered.{get-changed_at}
 use Rattle.outboxes.specs.Boxes.{Boxes, first_in, oldest, taken}
 use Rattle.outboxes.specs.Messages.{ReplyMessage}
 use Rattle.front_rows.specs.Leaving.{HasLeft, IsEmpty, list_in, waits}

@@ -10,11 +10,11 @@ use crate::texts::{
     NULL_IN_TWO, NULL_REPLY, SHORT, TOO_LONG,
 };
 use affinity_tree::{Affinity, AggregateSpec, Layout, VolumeSpec};
+use connections::tcp_front::{Counted, read_loop};
 use nfs_values::ConnectionNumber;
 use std::mem;
 use std::process::Abort;
 use std::sync::Wait;
-use tcp_front::{Counted, read_loop};
 
 /// What a stream comes to.
 struct Row {

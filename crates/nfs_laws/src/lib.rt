@@ -3,3 +3,4 @@
 #![tactic(auto)]
 
 pub mod laws;
+pub mod rows;

@@ -1,5 +1,6 @@
 -- What holds after every event (our profile; records of a stream: RFC 5531 section 11).
-use Rattle.std.specs.Prelude.{◌≡◌, ℕ, ◌+◌, ◌*◌, ◌≤◌, true, false, IsTrue, ◌&&◌, ◌==◌, nat_lt, List, [], ◌∷◌, ◌++◌, length, take, map, replicate, Option, Some, None, IfSome, slice_get, if◌then◌else◌}
+use Rattle.std.specs.Prelude.{◌≡◌, ℕ, ◌+◌, ◌*◌, ◌≤◌, true, false, IsTrue, ◌&&◌, ◌==◌, nat_lt, List, [], ◌∷◌, ◌++◌, length, take, map, replicate, Option, Some}
+use Rattle.std.specs.Prelude.{None, IfSome, slice_get, if◌then◌else◌}
 use Rattle.std.specs.List.{AllByRecursion, list_any, range_with_len}
 use Rattle.std.specs.FinSet.{from_list, empty}
 use Rattle.nfs_model.specs.Types.{Asked, Ask, Refused, Undecoded, Reply, Moment}

@@ -4,7 +4,8 @@ use Rattle.xdr.specs.Shape.{Shape, Void, Word, Hyper, Boolean, Optional, Chain, 
 use Rattle.nfs_model.specs.Types as model
 use Rattle.nfs_values.specs.declared.status.Status.{Status}
 use Rattle.nfs_values.specs.Status.{status_of}
-use Rattle.nfs_types.specs.Shapes.{◌&◌, handle_shape, any_bytes, verifier_shape, attributes_shape, attributes_value, after_shape, change_shape, change_value, stable_shape}
+use Rattle.nfs_types.specs.Shapes.{◌&◌, handle_shape, any_bytes, verifier_shape, attributes_shape, attributes_value, after_shape, change_shape, change_value}
+use Rattle.nfs_types.specs.Shapes.{stable_shape}
 
 -- LOOKUP3resok (section 3.3.3): the object's handle and attributes, and the directory's
 abbrev pub lookup_shape : Shape

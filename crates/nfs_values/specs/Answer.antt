@@ -14,7 +14,8 @@ use Rattle.nfs_values.specs.declared.answer.FilesystemStatusResults.{FilesystemS
 use Rattle.nfs_values.specs.declared.answer.CommitResults.{CommitResults}
 use Rattle.nfs_values.specs.declared.answer.VolumeCount.{VolumeCount}
 use Rattle.nfs_values.specs.declared.answer.Answer.{Answer}
-use Rattle.nfs_values.specs.declared.answer.Answer.TheVariants.{Null, GetAttributes, SetAttributes, Lookup, Read, Write, Create, MakeDirectory, Remove, RemoveDirectory, Rename, ReadDirectory, FilesystemStatus, Commit, Census, Grow}
+use Rattle.nfs_values.specs.declared.answer.Answer.TheVariants.{Null, GetAttributes, SetAttributes, Lookup, Read, Write, Create, MakeDirectory, Remove}
+use Rattle.nfs_values.specs.declared.answer.Answer.TheVariants.{RemoveDirectory, Rename, ReadDirectory, FilesystemStatus, Commit, Census, Grow}
 use Rattle.nfs_values.specs.Attributes.{shown_of, change_of}
 use Rattle.nfs_values.specs.Status.{status_of}
 

@@ -1,7 +1,8 @@
 use Rattle.std.specs.Option.{option_map}
 use Rattle.nfs_model.specs.Types as model
 use Rattle.nfs_values.specs.declared.call.Call.{Call}
-use Rattle.nfs_values.specs.declared.call.Call.TheVariants.{Null, GetAttributes, SetAttributes, Lookup, Read, Write, Create, MakeDirectory, Remove, RemoveDirectory, Rename, ReadDirectory, FilesystemStatus, Commit, Census, Grow}
+use Rattle.nfs_values.specs.declared.call.Call.TheVariants.{Null, GetAttributes, SetAttributes, Lookup, Read, Write, Create, MakeDirectory, Remove}
+use Rattle.nfs_values.specs.declared.call.Call.TheVariants.{RemoveDirectory, Rename, ReadDirectory, FilesystemStatus, Commit, Census, Grow}
 use Rattle.nfs_values.specs.Moment.{moment_of}
 use Rattle.nfs_values.specs.Set.{set_of, mode_of}
 

@@ -1,6 +1,7 @@
 use Rattle.std.specs.Prelude.{ℕ, Bool, true, false, List, [], ◌∷◌}
 use Rattle.nfs_values.specs.declared.procedure.Procedure.{Procedure}
-use Rattle.nfs_values.specs.declared.procedure.Procedure.TheVariants.{Null, GetAttributes, SetAttributes, Lookup, Read, Write, Create, MakeDirectory, Remove, RemoveDirectory, Rename, ReadDirectory, FilesystemStatus, Commit, AdminNull, Census, Grow}
+use Rattle.nfs_values.specs.declared.procedure.Procedure.TheVariants.{Null, GetAttributes, SetAttributes, Lookup, Read, Write, Create, MakeDirectory, Remove}
+use Rattle.nfs_values.specs.declared.procedure.Procedure.TheVariants.{RemoveDirectory, Rename, ReadDirectory, FilesystemStatus, Commit, AdminNull, Census, Grow}
 
 -- all of them
 abbrev pub all_procedures : List Procedure

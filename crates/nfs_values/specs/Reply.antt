@@ -3,7 +3,8 @@ use Rattle.nfs_model.specs.Types as model
 use Rattle.nfs_values.specs.declared.reply.AuthFault.{AuthFault}
 use Rattle.nfs_values.specs.declared.reply.AuthFault.TheVariants.{BadCredential, RejectedCredential}
 use Rattle.nfs_values.specs.declared.reply.Reply.{Reply}
-use Rattle.nfs_values.specs.declared.reply.Reply.TheVariants.{Success, ProgramUnavailable, ProgramMismatch, ProcedureUnavailable, GarbageArguments, SystemError, RpcMismatch, AuthError}
+use Rattle.nfs_values.specs.declared.reply.Reply.TheVariants.{Success, ProgramUnavailable, ProgramMismatch, ProcedureUnavailable, GarbageArguments, SystemError}
+use Rattle.nfs_values.specs.declared.reply.Reply.TheVariants.{RpcMismatch, AuthError}
 use Rattle.nfs_values.specs.Answer.{answer_of}
 
 -- AUTH_BADCRED and AUTH_REJECTEDCRED (RFC 5531 section 9)

@@ -1,6 +1,7 @@
 use Rattle.nfs_model.specs.Types as model
 use Rattle.nfs_values.specs.declared.status.Status.{Status}
-use Rattle.nfs_values.specs.declared.status.Status.TheVariants.{NoEntry, Access, Exists, CrossVolume, NotDirectory, IsDirectory, Invalid, TooBig, NoSpace, NameTooLong, NotEmpty, Stale, BadHandle, NotSynchronous, BadCookie, TooSmall}
+use Rattle.nfs_values.specs.declared.status.Status.TheVariants.{NoEntry, Access, Exists, CrossVolume, NotDirectory, IsDirectory, Invalid, TooBig, NoSpace}
+use Rattle.nfs_values.specs.declared.status.Status.TheVariants.{NameTooLong, NotEmpty, Stale, BadHandle, NotSynchronous, BadCookie, TooSmall}
 
 -- a status, as the model has it
 abbrev pub status_of : Status → model.Status

@@ -6,3 +6,4 @@ pub mod Popped
 pub mod Tables
 pub mod Numbers
 pub mod lemmas
+pub mod bells

@@ -1,7 +1,9 @@
-//! What waits to be written to connections: reply records, in order, for each one that is open.
+//! What waits to be written to connections: reply records, in order, for each one that is open;
+//! and the bells by which threads wake each other.
 #![tactic(auto)]
 
 mod answer;
+pub mod bells;
 mod chain;
 mod link;
 mod outbox;

@@ -7,12 +7,12 @@ use Rattle.std.specs.FinMap as maps
 use Rattle.std.specs.FinMap.{FinMap, insert, from_sorted, get-from_sorted, get-insert, get-empty, nat_cmp-IsAntisymmetric, same_map}
 use Rattle.std.specs.FinSet as sets
 use Rattle.std.specs.FinSet.{FinSet}
-use Rattle.volume_values.specs.Directories.{DirectoryValue, empty_directory}
-use Rattle.volume_values.specs.Inodes.{InodesValue, opening_inodes}
-use Rattle.volume_values.specs.Logical.{LogicalValue}
-use Rattle.volume_values.specs.Stripes.{StripeValue, OfFolder, empty_stripe, folder_card_set}
-use Rattle.held_state.specs.Names.{root}
-use Rattle.held_state.specs.Opening.{opening_logical, opening_stripe}
+use Rattle.nfs_model.specs.volume.Directories.{DirectoryValue, empty_directory}
+use Rattle.nfs_model.specs.volume.Inodes.{InodesValue, opening_inodes}
+use Rattle.nfs_model.specs.volume.Logical.{LogicalValue}
+use Rattle.nfs_model.specs.volume.Stripes.{StripeValue, OfFolder, empty_stripe, folder_card_set}
+use Rattle.parcels.specs.state.Names.{root}
+use Rattle.parcels.specs.state.Opening.{opening_logical, opening_stripe}
 
 -- what follows of a result where a call has succeeded
 pub if_ok : {T E : Type 0} {P Q : T → Type 0} → ((x : T) → P x → Q x) → (r : Result T E) → IfOk r P → IfOk r Q

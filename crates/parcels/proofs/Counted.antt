@@ -2,10 +2,10 @@
 use Rattle.std.proofs.Common.{◌≡◌, ◌+◌, ◌<◌, ◌≤◌, ℕ, suc, List, length, Option, sym, ap, ◌∙◌, arith}
 use Rattle.std.proofs.Math.Nat.{zero-add}
 use Rattle.std.specs.Prelude.{slice_index_or, if◌then◌else◌}
-use Rattle.volume_values.specs.Ranges.{RangeValue}
-use Rattle.held_state.specs.Contents.{each}
-use Rattle.held_state.specs.Sets.{FilerRange, range_value, placed}
-use Rattle.held_state.specs.Tree.{ranges_used}
+use Rattle.nfs_model.specs.volume.Ranges.{RangeValue}
+use Rattle.parcels.specs.state.Contents.{each}
+use Rattle.parcels.specs.state.Sets.{FilerRange, range_value, placed}
+use Rattle.parcels.specs.state.Tree.{ranges_used}
 use Rattle.parcels.proofs.Places.{placed-index}
 
 module _ (f : ℕ → RangeValue) (all : ℕ) where

@@ -8,9 +8,9 @@ use Rattle.std.specs.FinMap.{FinMap, from_entries, find, get, insert, remove, ge
 use Rattle.std.specs.Map.{lookup}
 use Rattle.std.specs.BTreeMap as btree
 use Rattle.std.specs.BTreeMap.{BTreeMap, is_at}
-use Rattle.volume_values.specs.Maps.{changed_at}
-use Rattle.volume_values.specs.lemmas.Maps.{get-changed_at}
-use Rattle.volume_values.specs.Directories.{DirectoryValue}
+use Rattle.nfs_model.specs.volume.Maps.{changed_at}
+use Rattle.nfs_model.specs.volume.lemmas.Maps.{get-changed_at}
+use Rattle.nfs_model.specs.volume.Directories.{DirectoryValue}
 use Rattle.parcels.specs.DirectoryMap.{Puts, Changes}
 
 found-lookup : {K X : Type 0} (R : K → K → Ordering) (es : List (K × X)) (q : K) → find R q es ≡ lookup (is_at (R q)) es

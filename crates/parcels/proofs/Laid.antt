@@ -15,8 +15,8 @@ use Rattle.affinity_tree.specs.lemmas.Places.{number_positive, number_within}
 use Rattle.affinity_tree.specs.lemmas.Numbered.{own_number}
 use Rattle.parcel_sets.specs.Exact.{kind_in, HasExactly, IsPlaced}
 use Rattle.parcel_sets.specs.Moved.{Moved}
-use Rattle.held_state.specs.Parcels.{FilerParcel}
-use Rattle.held_state.specs.Opening.{opening_parcel, AreOpening}
+use Rattle.parcels.specs.state.Parcels.{FilerParcel}
+use Rattle.parcels.specs.state.Opening.{opening_parcel, AreOpening}
 
 pub opening-kind : (P : Type 0) (layout : Layout) (verifier : List ℕ) (a : Affinity) → kind_in (opening_parcel {P = P} layout verifier a) ≡ kind_of a
 opening-kind P layout verifier trees.Serial = refl

@@ -1,7 +1,7 @@
 -- What is in a place.
 use Rattle.std.proofs.Common.{◌≡◌, ◌<◌, ℕ, zero, suc, List, [], ◌∷◌, length, Option, refl, arith}
 use Rattle.std.specs.Prelude.{slice_index_or}
-use Rattle.held_state.specs.Sets.{placed}
+use Rattle.parcels.specs.state.Sets.{placed}
 
 -- a place that there is, as code finds it
 pub placed-index : {H : Type 0} (places : List (Option H)) (i : ℕ) (d : Option H) → i < length places → slice_index_or places i d ≡ placed places i

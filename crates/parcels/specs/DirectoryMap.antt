@@ -4,7 +4,7 @@ use Rattle.std.specs.Option.{option_map}
 use Rattle.std.specs.Ordering.{nat_cmp}
 use Rattle.std.specs.BTreeMap as btree
 use Rattle.std.specs.BTreeMap.{BTreeMap, is_at}
-use Rattle.volume_values.specs.Directories.{DirectoryValue}
+use Rattle.nfs_model.specs.volume.Directories.{DirectoryValue}
 
 -- a map with a directory put at a key
 abbrev pub Puts : ℕ → DirectoryValue → BTreeMap ℕ DirectoryValue → BTreeMap ℕ DirectoryValue → Type 0

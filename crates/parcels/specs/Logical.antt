@@ -1,5 +1,5 @@
 -- What Volume Logical has, as plain data.
-use Rattle.volume_values.specs.Logical.{LogicalValue}
+use Rattle.nfs_model.specs.volume.Logical.{LogicalValue}
 use Rattle.parcels.specs.declared.logical.Logical.{Logical}
 
 abbrev pub logical_value : Logical → LogicalValue

@@ -1,8 +1,8 @@
 //! How many ranges a volume has.
 
 ghost use Rattle.std.specs.Prelude.{◌≡◌, ◌≤◌, if◌then◌else◌};
-ghost use Rattle.held_state.specs.Sets.{range_value, vbn_set};
-ghost use Rattle.held_state.specs.Tree.{ranges_used};
+ghost use Rattle.parcels.specs.state.Sets.{range_value, vbn_set};
+ghost use Rattle.parcels.specs.state.Tree.{ranges_used};
 
 use crate::files::Files;
 use parcel_sets::{RangeHeld, VbnHeld};

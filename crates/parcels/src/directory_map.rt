@@ -5,15 +5,15 @@ ghost use Rattle.std.specs.BTreeMap as btree;
 ghost use Rattle.std.specs.FinMap.{empty, get, insert, remove};
 ghost use Rattle.std.specs.Option.{option_copied};
 ghost use Rattle.std.specs.Ordering.{nat_cmp};
-ghost use Rattle.volume_values.specs.Maps.{changed_at};
-ghost use Rattle.volume_values.specs.Directories.{added, found, removed};
+ghost use Rattle.nfs_model.specs.volume.Maps.{changed_at};
+ghost use Rattle.nfs_model.specs.volume.Directories.{added, found, removed};
 ghost use Rattle.parcels.specs.DirectoryMap.{Changes, Puts};
 
-use directories::Directory;
 use nfs_values::{Fileid, Name};
 use std::alloc::{AllocError, Global};
 use std::collections::BTreeMap;
 use std::marker::Model;
+use volume_logical::directories::Directory;
 
 /// Directories by their fileids.
 pub struct DirectoryMap {
@@ -32,8 +32,8 @@ impl Model for DirectoryMap {
     ghost use Rattle.std.specs.FinMap as maps;
     ghost use Rattle.std.specs.Coded.{coded_ℕ};
     ghost use Rattle.std.specs.Ordering.{nat_cmp};
-    ghost use Rattle.volume_values.specs.Directories.{DirectoryValue};
-    ghost use Rattle.volume_values.specs.Codes.{coded_directory};
+    ghost use Rattle.nfs_model.specs.volume.Directories.{DirectoryValue};
+    ghost use Rattle.nfs_model.specs.volume.Codes.{coded_directory};
 
     ghost Value = { FinMap nat_cmp DirectoryValue };
 

@@ -3,11 +3,11 @@
 ghost use Rattle.std.specs.Prelude.{◌≡◌, IfOk};
 
 use crate::directory_map::DirectoryMap;
-use inodes::Inodes;
 use nfs_values::Verifier;
 use std::alloc::{AllocError, Global};
 use std::marker::Model;
 use vbn_ranges::{DeadBlocks, Stock};
+use volume_logical::inodes::Inodes;
 
 /// What a volume has but for its stripes and ranges.
 #[derive(Drop)]
@@ -38,8 +38,8 @@ impl Drop for LogicalParcel {
 }
 
 impl Model for LogicalParcel {
-    ghost use Rattle.volume_values.specs.Logical.{LogicalValue};
-    ghost use Rattle.volume_values.specs.Codes.{coded_logical};
+    ghost use Rattle.nfs_model.specs.volume.Logical.{LogicalValue};
+    ghost use Rattle.nfs_model.specs.volume.Codes.{coded_logical};
     ghost use Rattle.parcels.specs.Logical.{logical_value};
 
     ghost Value = { LogicalValue };

@@ -10,7 +10,7 @@ ghost use Rattle.nfs_model.specs.Parts.{most_ranges};
 ghost use Rattle.nfs_model.specs.Server.{opening};
 ghost use Rattle.parcel_sets.specs.Exact.{kind_in, HasExactly};
 ghost use Rattle.parcel_sets.specs.Sets.{serial_parcels};
-ghost use Rattle.held_state.specs.Opening.{
+ghost use Rattle.parcels.specs.state.Opening.{
   opening_logical,
   opening_stripe,
   opening_range,
@@ -18,8 +18,8 @@ ghost use Rattle.held_state.specs.Opening.{
   opening_parcel,
   AreOpening,
 };
-ghost use Rattle.held_state.specs.Sound.{IsFiler};
-ghost use Rattle.held_state.specs.Tree.{tree};
+ghost use Rattle.parcels.specs.state.Sound.{IsFiler};
+ghost use Rattle.parcels.specs.state.Tree.{tree};
 
 use crate::directory_map::DirectoryMap;
 use crate::files::Files;
@@ -27,13 +27,13 @@ use crate::logical::{Logical, LogicalParcel};
 use crate::range::RangeParcel;
 use crate::stripe::StripeParcel;
 use affinity_tree::{Affinity, Layout};
-use directories::Directory;
-use inodes::Inodes;
 use nfs_values::{Fileid, Verifier};
 use parcel_sets::{Node, Parcel, SerialHeld, SerialNode, VecShelf};
 use std::alloc::{AllocError, Global};
 use stripes::Stripe;
 use vbn_ranges::{DeadBlocks, Range, Stock};
+use volume_logical::directories::Directory;
+use volume_logical::inodes::Inodes;
 
 /// The parcels of all nodes of a layout as a run begins, with the write verifier of the run
 /// (writeverf3, RFC 1813 section 3.3.7): each volume has its root directory alone, and the blocks

@@ -19,8 +19,8 @@ impl Drop for RangeParcel {
 }
 
 impl Model for RangeParcel {
-    ghost use Rattle.volume_values.specs.Ranges.{RangeValue};
-    ghost use Rattle.volume_values.specs.Codes.{coded_range};
+    ghost use Rattle.nfs_model.specs.volume.Ranges.{RangeValue};
+    ghost use Rattle.nfs_model.specs.volume.Codes.{coded_range};
 
     ghost Value = { RangeValue };
 

@@ -19,8 +19,8 @@ impl Drop for StripeParcel {
 }
 
 impl Model for StripeParcel {
-    ghost use Rattle.volume_values.specs.Stripes.{StripeValue};
-    ghost use Rattle.volume_values.specs.Codes.{coded_stripe};
+    ghost use Rattle.nfs_model.specs.volume.Stripes.{StripeValue};
+    ghost use Rattle.nfs_model.specs.volume.Codes.{coded_stripe};
 
     ghost Value = { StripeValue };
 

@@ -10,12 +10,12 @@ use denote.Struct.Tuple.{TupleAt, type_at}
 use Rattle.std.proofs.Crossing as std
 use Rattle.std.specs.contracts.alloc.Global as Global
 use Rattle.affinity_tree.specs.contracts.layout.Layout as Layout
-use Rattle.bells.specs.contracts.bells.Bells as Bells
-use Rattle.crossings.proofs.Bells.{bells-sync}
+use Rattle.outboxes.specs.contracts.bells.bells.Bells as Bells
+use Rattle.workers.proofs.crossings.Bells.{bells-sync}
 use Rattle.nfs_values.proofs.number.ConnectionNumber.TheSendSync as number
 use Rattle.nfs_values.specs.contracts.number.ConnectionNumber as ConnectionNumber
-use Rattle.shared_waiting.proofs.pass.Pass.TheSendSync as pass
-use Rattle.shared_waiting.specs.contracts.pass.Pass as Pass
+use Rattle.workers.proofs.shared_waiting.pass.Pass.TheSendSync as pass
+use Rattle.workers.specs.contracts.shared_waiting.pass.Pass as Pass
 use Rattle.workers.proofs.Crossing.{message-send, filer-sync}
 use Rattle.workers.specs.contracts.message.Message as Message
 use Rattle.workers.specs.contracts.shared.Filer as Filer

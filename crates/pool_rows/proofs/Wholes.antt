@@ -4,13 +4,13 @@ use Rattle.std.proofs.lemmas.Nat.{pow-add}
 use Rattle.std.specs.Prelude.{Option, Some, option_map}
 use Rattle.affinity_tree.specs.declared.layout.Layout.{Layout}
 use Rattle.affinity_tree.specs.Layout.{layout_of}
-use Rattle.depot_rule.specs.Sums.{total}
-use Rattle.pool.specs.Shares.{share_of, share_in, FilerPass}
-use Rattle.pool.specs.Pools.{threads_of}
-use Rattle.pool.specs.Threads.{seats_with, share_with, ServesIn}
-use Rattle.pool.specs.declared.pool.Pool.{Pool}
-use Rattle.shared_waiting.specs.Balance.{left, right, part, IsWhole}
-use Rattle.shared_waiting.specs.Passes.{known, IsOf}
+use Rattle.depot.specs.rule.Sums.{total}
+use Rattle.server.specs.pool.Shares.{share_of, share_in, FilerPass}
+use Rattle.server.specs.pool.Pools.{threads_of}
+use Rattle.server.specs.pool.Threads.{seats_with, share_with, ServesIn}
+use Rattle.server.specs.declared.pool.pool.Pool.{Pool}
+use Rattle.workers.specs.shared_waiting.Balance.{left, right, part, IsWhole}
+use Rattle.workers.specs.shared_waiting.Passes.{known, IsOf}
 use Rattle.workers.specs.Balance.{Passed}
 use Rattle.workers.specs.Words.{layout_in, layout_known, passed, seats_in, IsIn}
 use Rattle.workers.specs.declared.shared.Filer.{Filer}

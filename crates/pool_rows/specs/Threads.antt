@@ -1,11 +1,11 @@
 -- The threads of a filer: those of its workers, and those of two who put messages.
 use Rattle.std.specs.Prelude.{◌≡◌, ◌≤◌, ◌^◌, ◌+◌, ℕ, [], All, Some}
-use Rattle.depot_rule.specs.Sums.{total}
-use Rattle.pool.specs.Shares.{share_of, share_in, FilerPass}
-use Rattle.pool.specs.Pools.{threads_of}
-use Rattle.pool.specs.Threads.{seats_with, share_with, ServesIn}
-use Rattle.pool.specs.declared.pool.Pool.{Pool}
-use Rattle.shared_waiting.specs.Passes.{known, IsOf}
+use Rattle.depot.specs.rule.Sums.{total}
+use Rattle.server.specs.pool.Shares.{share_of, share_in, FilerPass}
+use Rattle.server.specs.pool.Pools.{threads_of}
+use Rattle.server.specs.pool.Threads.{seats_with, share_with, ServesIn}
+use Rattle.server.specs.declared.pool.pool.Pool.{Pool}
+use Rattle.workers.specs.shared_waiting.Passes.{known, IsOf}
 use Rattle.workers.specs.Turns.{HasShareOf}
 use Rattle.workers.specs.Words.{layout_in, layout_known, seats_in, IsIn}
 use Rattle.workers.specs.declared.shared.Filer.{Filer}

@@ -2,11 +2,11 @@
 
 ghost use Rattle.std.specs.Prelude.{IfOk};
 ghost use Rattle.std.specs.Arc.{arc_value};
-ghost use Rattle.pool.specs.Gathered.{IsLeftOf};
+ghost use Rattle.server.specs.pool.Gathered.{IsLeftOf};
 ghost use Rattle.pool_rows.specs.Threads.{IsRunning};
 
 use crate::running::Running;
-use pool::{Ended, Left, Room, close, gather};
+use server::pool::{Ended, Left, Room, close, gather};
 use std::alloc::{AllocError, Global};
 use std::sync::{Arc, Wait};
 use std::thread::Threads;

@@ -2,13 +2,13 @@
 
 ghost use Rattle.std.specs.Prelude.{IfOk};
 ghost use Rattle.std.specs.Arc.{arc_value};
-ghost use Rattle.pool.specs.Pools.{IsVacant};
+ghost use Rattle.server.specs.pool.Pools.{IsVacant};
 ghost use Rattle.pool_rows.specs.Threads.{IsOpened};
 
 use crate::putting::FilerPass;
 use affinity_tree::{AggregateSpec, Layout, VolumeSpec};
-use bells::Bells;
-use pool::Pool;
+use outboxes::bells::Bells;
+use server::pool::Pool;
 use std::alloc::{AllocError, Global};
 use std::sync::Arc;
 use workers::{Filer, Worker};

@@ -3,21 +3,21 @@
 ghost use Rattle.std.specs.Prelude.{◌≡◌, IfSome};
 ghost use Rattle.pool_rows.specs.Threads.{HasPut, IsReaderOf};
 ghost use Rattle.workers.specs.Running.{IsRun};
-ghost use Rattle.shared_waiting.specs.Balance.{added, FitsIn};
-ghost use Rattle.shared_waiting.specs.Passes.{known, IsOf};
+ghost use Rattle.workers.specs.shared_waiting.Balance.{added, FitsIn};
+ghost use Rattle.workers.specs.shared_waiting.Passes.{known, IsOf};
 ghost use Rattle.workers.specs.Messages.{Fits, IsPlaced};
 ghost use Rattle.workers.specs.Words.{layout_in};
 
-use affinity::home_of;
 use affinity_tree::Layout;
-use bells::Bells;
+use affinity_tree::homes::home_of;
+use affinity_tree::scheduler::Origin;
 use nfs_values::{Call, ConnectionNumber, Credential};
 use outboxes::Room;
+use outboxes::bells::Bells;
 use rpc_msg::room_of_reply;
-use scheduler::Origin;
-use shared_waiting::Pass;
 use std::alloc::Global;
 use std::sync::Wait;
+use workers::shared_waiting::Pass;
 use workers::{Filer, Message};
 
 /// A pass of a filer's queue.

@@ -2,13 +2,13 @@
 
 ghost use Rattle.std.specs.Prelude.{◌≤◌, ◌<◌, IfSome};
 ghost use Rattle.std.specs.Arc.{arc_value};
-ghost use Rattle.pool.specs.Pools.{IsVacant};
+ghost use Rattle.server.specs.pool.Pools.{IsVacant};
 ghost use Rattle.pool_rows.specs.Threads.{IsOpened, IsRunning};
 
 use crate::opening::Opened;
 use crate::putting::FilerPass;
-use bells::Bells;
-use pool::Pool;
+use outboxes::bells::Bells;
+use server::pool::Pool;
 use std::rt::Clock;
 use std::sync::{Arc, Wait};
 use std::thread::Threads;

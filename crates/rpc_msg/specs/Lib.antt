@@ -7,3 +7,4 @@ pub mod Records
 pub mod Hearing
 pub mod Seen
 pub mod lemmas
+pub mod marking

@@ -1,5 +1,6 @@
 -- What is asked with the procedures that are offered so far.
-use Rattle.nfs_model.specs.Types.{Call, Null, Getattr, Setattr, Lookup, Read, Write, Create, Mkdir, Remove, Rmdir, Rename, Readdir, Fsstat, Commit, Census, Grow}
+use Rattle.nfs_model.specs.Types.{Call, Null, Getattr, Setattr, Lookup, Read, Write, Create, Mkdir, Remove, Rmdir, Rename, Readdir, Fsstat, Commit, Census}
+use Rattle.nfs_model.specs.Types.{Grow}
 use Rattle.nfs_model.specs.Types.{Asked, Ask, Refused, Undecoded}
 
 -- NULL, of either program, GETATTR, SETATTR, LOOKUP, READ, WRITE, CREATE, MKDIR, REMOVE, RMDIR, RENAME, READDIR, FSSTAT and COMMIT (RFC 1813 section 3.3), CENSUS and GROW of the admin program

@@ -1,8 +1,8 @@
 -- What moves from the end of one list to the end of another.
 use Rattle.std.proofs.Common.{◌≡◌, ℕ, ◌+◌, List, [], ◌∷◌, ◌++◌, Some, All, length, refl, ap, sym, subst, arith}
 use Rattle.std.proofs.lemmas.List.Elements.{All-push, All-pop}
-use Rattle.depot_rule.specs.Sums.{total}
-use Rattle.depot_rule.specs.lemmas.Sums.{total-append}
+use Rattle.depot.specs.rule.Sums.{total}
+use Rattle.depot.specs.rule.lemmas.Sums.{total-append}
 
 pub all-pushed : {X : Type 0} → (P : X → Type 0) (xs ys : List X) (y : X) → ys ≡ xs ++ y ∷ [] → All P xs → P y → All P ys
 all-pushed P xs ys y is all one = subst (All P) (sym is) (All-push P xs y all one)

@@ -1,7 +1,7 @@
 -- A worker that comes from the end of a list, or goes to it, if there is one.
 use Rattle.std.proofs.Common.{◌≡◌, ℕ, ◌+◌, List, [], ◌∷◌, ◌++◌, Option, Some, None, option_to_list, IfSome, All, ap, subst, arith}
-use Rattle.depot_rule.specs.Sums.{total}
-use Rattle.depot_rule.specs.lemmas.Sums.{total-append}
+use Rattle.depot.specs.rule.Sums.{total}
+use Rattle.depot.specs.rule.lemmas.Sums.{total-append}
 use Rattle.connections.specs.Filer.{Filer}
 use Rattle.connections.specs.Worker.{Worker}
 use Rattle.connections.specs.Words.{IsIn}

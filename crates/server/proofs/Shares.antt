@@ -8,9 +8,9 @@ use Rattle.connections.specs.Loans.{IsHandedBack, IsHelperOf, IsReturned}
 use Rattle.connections.specs.Opened.{lent_to, lender_of}
 use Rattle.connections.specs.declared.connection.Connection.{Connection}
 use Rattle.connections.specs.declared.loan.Loan.{Loan}
-use Rattle.depot_rule.specs.Sums.{total}
-use Rattle.shared_waiting.specs.Balance.{left, right, part}
-use Rattle.shared_waiting.specs.Passes.{known, IsOf}
+use Rattle.depot.specs.rule.Sums.{total}
+use Rattle.workers.specs.shared_waiting.Balance.{left, right, part}
+use Rattle.workers.specs.shared_waiting.Passes.{known, IsOf}
 use Rattle.connections.specs.Balance.{Passed}
 use Rattle.connections.specs.Filer.{Filer}
 use Rattle.connections.specs.Worker.{Worker}

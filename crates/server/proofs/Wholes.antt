@@ -3,21 +3,21 @@ use Rattle.std.proofs.Common.{◌≡◌, ◌≤◌, ℕ, ◌+◌, ◌-◌, ◌*�
 use Rattle.std.specs.List.{AllByRecursion}
 use Rattle.std.proofs.lemmas.List.Elements.{recursion_from_All}
 use Rattle.std.proofs.lemmas.Nat.{pow-add}
-use Rattle.depot_rule.specs.Sums.{total}
-use Rattle.pool.specs.Shares as shares
-use Rattle.pool.specs.Shares.{picked_by, share_of, AreAll, FilerPass}
-use Rattle.pool.specs.Pools.{threads_of}
-use Rattle.pool.specs.Threads.{seats_with, share_with, ServesIn}
-use Rattle.pool.specs.declared.pool.Pool.{Pool}
+use Rattle.depot.specs.rule.Sums.{total}
+use Rattle.server.specs.pool.Shares as shares
+use Rattle.server.specs.pool.Shares.{picked_by, share_of, AreAll, FilerPass}
+use Rattle.server.specs.pool.Pools.{threads_of}
+use Rattle.server.specs.pool.Threads.{seats_with, share_with, ServesIn}
+use Rattle.server.specs.declared.pool.pool.Pool.{Pool}
 use Rattle.server.specs.Places as places
 use Rattle.server.specs.Places.{share_in, AreSlotsOf, HasAll, IsReaderOf}
 use Rattle.server.specs.declared.slots.Slots.{Slots}
-use Rattle.shared_waiting.specs.Balance.{left, right, part, IsWhole}
-use Rattle.shared_waiting.specs.Passes.{known, IsOf}
-use Rattle.pool.specs.Balance.{Passed, Weight, by_key}
-use Rattle.pool.specs.Words.{passed, seats_in, IsIn}
-use Rattle.pool.specs.Filer.{Filer}
-use Rattle.pool.specs.Worker.{Worker}
+use Rattle.workers.specs.shared_waiting.Balance.{left, right, part, IsWhole}
+use Rattle.workers.specs.shared_waiting.Passes.{known, IsOf}
+use Rattle.server.specs.pool.Balance.{Passed, Weight, by_key}
+use Rattle.server.specs.pool.Words.{passed, seats_in, IsIn}
+use Rattle.server.specs.pool.Filer.{Filer}
+use Rattle.server.specs.pool.Worker.{Worker}
 use Rattle.server.specs.Threads.{IsOpened, IsRunning}
 
 -- ---- opened

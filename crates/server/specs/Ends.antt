@@ -1,14 +1,14 @@
 -- The end of a server.
 use Rattle.std.specs.Prelude.{List, All}
-use Rattle.depot_rule.specs.Sums.{total}
-use Rattle.pool.specs.Ends.{HasEnded}
-use Rattle.pool.specs.Shares.{put_by, FilerPass}
-use Rattle.pool.specs.declared.ended.Ended.{Ended}
+use Rattle.depot.specs.rule.Sums.{total}
+use Rattle.server.specs.pool.Ends.{HasEnded}
+use Rattle.server.specs.pool.Shares.{put_by, FilerPass}
+use Rattle.server.specs.declared.pool.ended.Ended.{Ended}
 use Rattle.nfs_model.specs.Tree as trees
 use Rattle.parcel_sets.specs.Sets.{serial_parcels}
 use Rattle.server.specs.Places.{IsReaderOf}
-use Rattle.pool.specs.Words.{layout_in, verifier_in}
-use Rattle.pool.specs.Filer.{Filer}
+use Rattle.server.specs.pool.Words.{layout_in, verifier_in}
+use Rattle.server.specs.pool.Filer.{Filer}
 
 -- From the opening parcels there is one legal history, whose replies a serial run gives, and which left the parcels as they are. Each call
 -- that a connection put is in it, or was kept, or waits.

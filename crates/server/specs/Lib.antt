@@ -4,3 +4,4 @@ pub mod Ends
 pub mod Asked
 pub mod Places
 pub mod Numbers
+pub mod pool

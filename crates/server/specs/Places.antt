@@ -5,10 +5,10 @@ use Rattle.connections.specs.Loans.{IsPassFor, IsReturned}
 use Rattle.connections.specs.Opened.{lent_to, lender_of}
 use Rattle.connections.specs.declared.connection.Connection.{Connection}
 use Rattle.connections.specs.declared.loan.Loan.{Loan}
-use Rattle.depot_rule.specs.Sums.{total}
-use Rattle.shared_waiting.specs.Balance.{part}
-use Rattle.shared_waiting.specs.Passes.{known}
-use Rattle.shared_waiting.specs.declared.pass.Pass.{Pass}
+use Rattle.depot.specs.rule.Sums.{total}
+use Rattle.workers.specs.shared_waiting.Balance.{part}
+use Rattle.workers.specs.shared_waiting.Passes.{known}
+use Rattle.workers.specs.declared.shared_waiting.pass.Pass.{Pass}
 use Rattle.connections.specs.Message.{Message}
 use Rattle.connections.specs.Filer.{Filer}
 use Rattle.connections.specs.Worker.{Worker}

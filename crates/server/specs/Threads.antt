@@ -1,19 +1,19 @@
 -- The threads of a filer: those of its workers, and those of its connections.
 use Rattle.std.specs.Prelude.{◌≡◌, ◌≤◌, ◌^◌, ◌+◌, ℕ, List, All}
-use Rattle.depot_rule.specs.Sums.{total}
-use Rattle.pool.specs.Gathered.{calls_by, IsLeftOf}
-use Rattle.pool.specs.Shares.{share_of, put_by, FilerPass}
-use Rattle.pool.specs.declared.left.Left.{Left}
-use Rattle.pool.specs.Pools.{threads_of}
-use Rattle.pool.specs.Threads.{seats_with, share_with, ServesIn}
-use Rattle.pool.specs.declared.pool.Pool.{Pool}
+use Rattle.depot.specs.rule.Sums.{total}
+use Rattle.server.specs.pool.Gathered.{calls_by, IsLeftOf}
+use Rattle.server.specs.pool.Shares.{share_of, put_by, FilerPass}
+use Rattle.server.specs.declared.pool.left.Left.{Left}
+use Rattle.server.specs.pool.Pools.{threads_of}
+use Rattle.server.specs.pool.Threads.{seats_with, share_with, ServesIn}
+use Rattle.server.specs.declared.pool.pool.Pool.{Pool}
 use Rattle.server.specs.Places as places
 use Rattle.server.specs.Places.{share_in, AreSlotsOf, IsReaderOf}
 use Rattle.server.specs.declared.slots.Slots.{Slots}
-use Rattle.pool.specs.Balance.{Weight}
-use Rattle.pool.specs.Words.{seats_in, IsIn}
-use Rattle.pool.specs.Filer.{Filer}
-use Rattle.pool.specs.Worker.{Worker}
+use Rattle.server.specs.pool.Balance.{Weight}
+use Rattle.server.specs.pool.Words.{seats_in, IsIn}
+use Rattle.server.specs.pool.Filer.{Filer}
+use Rattle.server.specs.pool.Worker.{Worker}
 
 -- a filer's worker and the helpers of its places have all its seats, and with the passes of the places the whole right to know its queue
 pub record IsOpened (filer : Filer) (worker : Worker) (slots : Slots) : Type 0 where

@@ -5,8 +5,8 @@ ghost use Rattle.std.specs.Arc.{arc_value};
 ghost use Rattle.server.specs.Ends.{HasClosed};
 ghost use Rattle.server.specs.Threads.{HasStopped};
 
+use crate::pool::{Ended, Left, close};
 use connections::Shared;
-use pool::{Ended, Left, close};
 use std::sync::Arc;
 
 /// Closes a filer whose threads have ended, where none else has it.

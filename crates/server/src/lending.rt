@@ -15,14 +15,14 @@ ghost use Rattle.std.specs.Prelude.{
 ghost use Rattle.connections.specs.Filer.{Filer};
 ghost use Rattle.connections.specs.Words.{passed, seats_in, IsIn};
 ghost use Rattle.connections.specs.Worker.{Worker};
-ghost use Rattle.depot_rule.specs.Sums.{total};
+ghost use Rattle.depot.specs.rule.Sums.{total};
 ghost use Rattle.server.specs.Places.{of_helper, share_by, share_with};
 ghost use Rattle.server.specs.Places.{FilerPass, IsPlaceOf, IsReaderOf};
-ghost use Rattle.shared_waiting.specs.Passes.{known};
+ghost use Rattle.workers.specs.shared_waiting.Passes.{known};
 
 use affinity_tree::Layout;
 use connections::{Filer, Loan, Message, Worker};
-use shared_waiting::Pass;
+use workers::shared_waiting::Pass;
 
 /// A pass cut into so many more than one, into a vector with room for them.
 pub(crate) fn split_passes(

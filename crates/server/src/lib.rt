@@ -1,4 +1,5 @@
-//! A filer with its threads: opened, served to the connections of a listener, stopped and closed.
+//! A filer with its threads: opened, served to the connections of a listener, stopped and closed; and
+//! the pool of its workers.
 #![tactic(auto)]
 
 mod accepting;
@@ -8,6 +9,7 @@ mod lending;
 mod opening;
 mod options;
 mod parting;
+pub mod pool;
 mod reaping;
 mod room;
 mod running;

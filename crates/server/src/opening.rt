@@ -2,17 +2,17 @@
 
 ghost use Rattle.std.specs.Prelude.{◌≡◌, ◌<◌, ◌≤◌, IfOk};
 ghost use Rattle.std.specs.Arc.{arc_value};
-ghost use Rattle.pool.specs.Pools.{IsVacant};
-ghost use Rattle.pool.specs.Words.{seats_in};
+ghost use Rattle.server.specs.pool.Pools.{IsVacant};
+ghost use Rattle.server.specs.pool.Words.{seats_in};
 ghost use Rattle.server.specs.Threads.{IsOpened};
 
 use crate::fault::ServerFault;
 use crate::options::{MOST_VOLUMES, MOST_WORKERS};
+use crate::pool::{Filer, Pool, Room, Worker};
 use crate::slots::Slots;
 use affinity_tree::{AggregateSpec, Layout, VolumeSpec};
-use bells::{Bell, Bells};
 use connections::Shared;
-use pool::{Filer, Pool, Room, Worker};
+use outboxes::bells::{Bell, Bells};
 use std::alloc::{AllocError, Global};
 use std::rt::Clock;
 use std::sync::Arc;

@@ -5,7 +5,7 @@ ghost use Rattle.connections.specs.Filer.{Filer};
 ghost use Rattle.connections.specs.Words as words;
 ghost use Rattle.connections.specs.Words.{IsIn};
 ghost use Rattle.connections.specs.Worker.{Worker};
-ghost use Rattle.depot_rule.specs.Sums.{total};
+ghost use Rattle.depot.specs.rule.Sums.{total};
 ghost use Rattle.server.specs.Places.{of_helper, share_by, share_in, share_with, seats_in};
 ghost use Rattle.server.specs.Places.{AreSlotsOf, FilerPass, IsPlaceOf, IsReaderOf};
 
@@ -13,8 +13,8 @@ use crate::reaping::join_all;
 use crate::slots::Slots;
 use affinity_tree::Layout;
 use connections::{Loan, Message, Worker};
-use shared_waiting::Pass;
 use std::thread::Threads;
+use workers::shared_waiting::Pass;
 
 /// Puts a helper behind workers, if there is one.
 fn push_helper(workers: &mut Vec<Worker>, helper: Option<Worker>)

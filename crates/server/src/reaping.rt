@@ -3,13 +3,13 @@
 ghost use Rattle.std.specs.Prelude.{◌≡◌, ◌≤◌, ◌+◌, ℕ, All, vec_len, vec_capacity};
 ghost use Rattle.connections.specs.Filer.{Filer};
 ghost use Rattle.connections.specs.declared.loan.Loan.{Loan};
-ghost use Rattle.depot_rule.specs.Sums.{total};
+ghost use Rattle.depot.specs.rule.Sums.{total};
 ghost use Rattle.server.specs.Places.{of_lent, AreSlotsOf, HasAll};
 ghost use Rattle.server.specs.Places.{IsKept, IsPlaceOf, IsServedFor};
 
 use crate::slots::Slots;
-use bells::Bell;
 use connections::{Connection, Loan};
+use outboxes::bells::Bell;
 use std::mem;
 use std::sync::Wait;
 use std::thread::Threads;

@@ -4,8 +4,8 @@ ghost use Rattle.std.specs.Prelude.{◌≡◌, ◌≤◌, [], vec_capacity};
 
 use affinity_tree::Layout;
 use connections::{Connection, Loan, Message, Worker};
-use shared_waiting::Pass;
 use std::alloc::{AllocError, Global};
+use workers::shared_waiting::Pass;
 
 /// The most that each vector holds.
 const MOST: usize = 64;

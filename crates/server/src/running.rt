@@ -2,8 +2,8 @@
 
 ghost use Rattle.std.specs.Prelude.{◌≡◌, ◌≤◌, ◌<◌, IfOk};
 ghost use Rattle.std.specs.Arc.{arc_value};
-ghost use Rattle.pool.specs.Pools.{IsVacant};
-ghost use Rattle.pool.specs.Words.{seats_in};
+ghost use Rattle.server.specs.pool.Pools.{IsVacant};
+ghost use Rattle.server.specs.pool.Words.{seats_in};
 ghost use Rattle.server.specs.Threads.{HasStopped, IsOpened, IsRunning};
 ghost use Rattle.server.specs.Places.{AreSlotsOf, HasAll};
 
@@ -12,10 +12,10 @@ use crate::ending::end;
 use crate::fault::{ServerFault, of_serving, of_start};
 use crate::opening::{Opened, layout_of, open, verifier_now};
 use crate::options::Options;
+use crate::pool::{Left, Pool, Room, Unwatched};
 use crate::slots::Slots;
 use crate::stopping::stop;
 use connections::Shared;
-use pool::{Left, Pool, Room, Unwatched};
 use std::alloc::Global;
 use std::io::Write;
 use std::net::{SocketAddr, TcpListener};

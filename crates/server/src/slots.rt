@@ -4,7 +4,7 @@ ghost use Rattle.std.specs.Prelude.{◌≡◌, ◌≤◌, ◌+◌, [], vec_len, 
 
 use affinity_tree::Layout;
 use connections::{Connection, Loan, Message, Worker};
-use shared_waiting::Pass;
+use workers::shared_waiting::Pass;
 
 /// 64 places for connections. What the filer lends waits at its place for a connection or is lent
 /// to one. There is room for all passes and workers, to be put together without memory.

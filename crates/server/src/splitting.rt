@@ -5,15 +5,15 @@ ghost use Rattle.connections.specs.Words as words;
 ghost use Rattle.connections.specs.Words.{passed, IsIn};
 ghost use Rattle.server.specs.Places.{share_by, share_in, share_with, seats_in};
 ghost use Rattle.server.specs.Places.{AreSlotsOf, IsReaderOf};
-ghost use Rattle.shared_waiting.specs.Passes.{known};
+ghost use Rattle.workers.specs.shared_waiting.Passes.{known};
 
 use crate::lending::{lend_all, split_helpers, split_passes};
 use crate::room::Room;
 use crate::slots::Slots;
 use affinity_tree::Layout;
 use connections::{Filer, Message, Worker};
-use shared_waiting::Pass;
 use std::alloc::{AllocError, Global};
+use workers::shared_waiting::Pass;
 
 /// How many places there are.
 const PLACES: usize = 64;

@@ -3,9 +3,9 @@
 ghost use Rattle.std.specs.Arc.{arc_value};
 ghost use Rattle.server.specs.Threads.{HasStopped, IsRunning};
 
+use crate::pool::{Left, Pool, Room, gather};
 use crate::slots::Slots;
 use connections::Shared;
-use pool::{Left, Pool, Room, gather};
 use std::sync::Wait;
 use std::thread::Threads;
 

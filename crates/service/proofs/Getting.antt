@@ -7,14 +7,14 @@ use Rattle.nfs_values.specs.Answer.{answer_of}
 use Rattle.nfs_values.specs.declared.answer.Answer.TheVariants.{GetAttributes}
 use Rattle.nfs_values.specs.declared.attributes.Attributes.{Attributes}
 use Rattle.nfs_values.specs.declared.status.Status.{Status}
-use Rattle.held_state.specs.Tree.{file_touch}
-use Rattle.held_state.specs.Lenses.{LogicalSet, logical_lens}
-use Rattle.held_state.specs.Promises.{RightOnVolume}
-use Rattle.held_state.specs.Jobs.{Replied}
-use Rattle.held_state.specs.Calls.{ServesOn}
-use Rattle.held_state.specs.Changes.{getattr_answer}
-use Rattle.service_renames.specs.AttributeLaws.{getattr_call}
-use Rattle.service_renames.specs.GettingLemmas.{getattr-right}
+use Rattle.parcels.specs.state.Tree.{file_touch}
+use Rattle.parcels.specs.state.Lenses.{LogicalSet, logical_lens}
+use Rattle.parcels.specs.state.Promises.{RightOnVolume}
+use Rattle.parcels.specs.state.Jobs.{Replied}
+use Rattle.parcels.specs.state.Calls.{ServesOn}
+use Rattle.parcels.specs.state.Changes.{getattr_answer}
+use Rattle.service.specs.renames.AttributeLaws.{getattr_call}
+use Rattle.service.specs.renames.GettingLemmas.{getattr-right}
 use Rattle.service.specs.Getattr.{TellsAttributes}
 
 -- a result is right where it tells what the inode and the touch do

@@ -10,20 +10,20 @@ use Rattle.affinity_tree.specs.declared.affinity.Kind.{Kind}
 use Rattle.affinity_tree.specs.declared.affinity.Kind.TheVariants as kinds
 use Rattle.parcel_sets.specs.Sets.{range_parcels, vbn_parcels, logical_parcels}
 use Rattle.nfs_values.specs.declared.number.VolumeNumber.{VolumeNumber}
-use Rattle.volume_values.specs.Ranges.{RangeValue}
-use Rattle.held_state.specs.Contents.{VolumeContents}
-use Rattle.held_state.specs.Deeds.{FilerSteps}
-use Rattle.held_state.specs.Jobs.{InnerCall, Fetch, Deliver, Cull, Free, Survey, Inner, JobReply, batches_in, inner_node, inner_volume}
-use Rattle.held_state.specs.Lenses.{Lens, in_volume, range_lens, vbn_lens, logical_lens}
-use Rattle.held_state.specs.Parcels.{FilerParcel}
-use Rattle.held_state.specs.Partition.{AreOf}
-use Rattle.held_state.specs.Promises.{HasVolume, IsRight, IsSeenBy}
-use Rattle.held_state.specs.Running.{HasFiler}
-use Rattle.held_state.specs.Sets.{FilerRange, FilerVbn, FilerLogical, vbn_set, logical_set, logical_before, logical_after}
-use Rattle.held_laws.specs.lemmas.Granted.{range-has, logical-has}
-use Rattle.held_laws.specs.lemmas.Kinds.{range-step, vbn-step, logical-step}
-use Rattle.held_laws.specs.lemmas.Running.{inner-runs-by}
-use Rattle.held_laws.specs.lemmas.SeenSets.{range-seen, vbn-seen, logical-seen}
+use Rattle.nfs_model.specs.volume.Ranges.{RangeValue}
+use Rattle.parcels.specs.state.Contents.{VolumeContents}
+use Rattle.parcels.specs.state.Deeds.{FilerSteps}
+use Rattle.parcels.specs.state.Jobs.{InnerCall, Fetch, Deliver, Cull, Free, Survey, Inner, JobReply, batches_in, inner_node, inner_volume}
+use Rattle.parcels.specs.state.Lenses.{Lens, in_volume, range_lens, vbn_lens, logical_lens}
+use Rattle.parcels.specs.state.Parcels.{FilerParcel}
+use Rattle.parcels.specs.state.Partition.{AreOf}
+use Rattle.parcels.specs.state.Promises.{HasVolume, IsRight, IsSeenBy}
+use Rattle.parcels.specs.state.Running.{HasFiler}
+use Rattle.parcels.specs.state.Sets.{FilerRange, FilerVbn, FilerLogical, vbn_set, logical_set, logical_before, logical_after}
+use Rattle.parcels.specs.laws.lemmas.Granted.{range-has, logical-has}
+use Rattle.parcels.specs.laws.lemmas.Kinds.{range-step, vbn-step, logical-step}
+use Rattle.parcels.specs.laws.lemmas.Running.{inner-runs-by}
+use Rattle.parcels.specs.laws.lemmas.SeenSets.{range-seen, vbn-seen, logical-seen}
 use Rattle.service.specs.Inner.{InnerHasRun, IsHandFor}
 use Rattle.service.specs.InnerOn.{HasRunOn, MayRunOn, UnlessDone}
 use Rattle.service.specs.Jobs.{inner_of, job_reply_of}

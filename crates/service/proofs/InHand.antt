@@ -4,14 +4,14 @@ use Rattle.std.proofs.lemmas.Bool.{eqb-true}
 use Rattle.std.specs.Prelude.{◌==◌, if◌then◌else◌}
 use Rattle.nfs_model.specs.Moves.{dead_hand, fresh_hand}
 use Rattle.nfs_model.specs.Parts.{Hand, Empty, Fresh, Dead, times_listed}
-use Rattle.volume_values.specs.Ranges.{RangeValue}
-use Rattle.held_state.specs.Jobs as replies
-use Rattle.held_state.specs.Jobs.{InnerCall, Fetch, Deliver, Cull, Free, Survey, batches_in, inner_volume}
-use Rattle.held_state.specs.Lenses.{LogicalSet, range_lens, logical_lens}
-use Rattle.held_state.specs.Partition.{AreOf}
-use Rattle.held_state.specs.Promises.{HasVolume}
-use Rattle.held_state.specs.Running.{InnerRunsOn}
-use Rattle.service_batches.specs.Batches.{CullsHere, DeliversHere, FetchesHere, FreesHere, MayDeliver, MayFree}
+use Rattle.nfs_model.specs.volume.Ranges.{RangeValue}
+use Rattle.parcels.specs.state.Jobs as replies
+use Rattle.parcels.specs.state.Jobs.{InnerCall, Fetch, Deliver, Cull, Free, Survey, batches_in, inner_volume}
+use Rattle.parcels.specs.state.Lenses.{LogicalSet, range_lens, logical_lens}
+use Rattle.parcels.specs.state.Partition.{AreOf}
+use Rattle.parcels.specs.state.Promises.{HasVolume}
+use Rattle.parcels.specs.state.Running.{InnerRunsOn}
+use Rattle.service_data.specs.batches.Batches.{CullsHere, DeliversHere, FetchesHere, FreesHere, MayDeliver, MayFree}
 use Rattle.service.specs.Inner.{IsHandFor}
 use Rattle.service.specs.InnerOn.{HasRunOn, MayRunOn}
 use Rattle.service.specs.declared.inner.InnerOutcome.TheVariants.{Done}

@@ -17,17 +17,17 @@ use Rattle.nfs_values.specs.declared.answer.RenameResults.{RenameResults}
 use Rattle.nfs_values.specs.declared.answer.WriteResults.{WriteResults}
 use Rattle.nfs_values.specs.declared.call.Call as codes
 use Rattle.nfs_values.specs.declared.status.Status.{Status}
-use Rattle.service_renames.specs.ChangeLaws.{rename_call}
+use Rattle.service.specs.renames.ChangeLaws.{rename_call}
 use Rattle.service_data.specs.WritingLaws.{write_call}
-use Rattle.held_state.specs.Calls.{VolumeCall, ServesOn, handle_in}
-use Rattle.held_state.specs.Contents.{VolumeContents}
-use Rattle.held_state.specs.Jobs as jobs
-use Rattle.held_state.specs.Lenses.{Lens, LogicalSet, VolumeSet, logical_lens, volume_lens}
-use Rattle.held_state.specs.Promises.{RightOnVolume}
-use Rattle.held_state.specs.Running.{RunsOn, UnlessReplied}
+use Rattle.parcels.specs.state.Calls.{VolumeCall, ServesOn, handle_in}
+use Rattle.parcels.specs.state.Contents.{VolumeContents}
+use Rattle.parcels.specs.state.Jobs as jobs
+use Rattle.parcels.specs.state.Lenses.{Lens, LogicalSet, VolumeSet, logical_lens, volume_lens}
+use Rattle.parcels.specs.state.Promises.{RightOnVolume}
+use Rattle.parcels.specs.state.Running.{RunsOn, UnlessReplied}
 use Rattle.service_data.specs.Writing.{asked_to_write, writing_outcome, written_outcome}
-use Rattle.service_renames.specs.Promises.{Renames, renaming_outcome}
-use Rattle.service_totals.specs.Space.{TellsSpace}
+use Rattle.service.specs.renames.Promises.{Renames, renaming_outcome}
+use Rattle.service.specs.totals.Space.{TellsSpace}
 use Rattle.service.specs.Running.{fileid_in, call_named, call_of_node, call_on}
 
 -- an entry of a call is its run

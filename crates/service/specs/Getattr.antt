@@ -6,11 +6,11 @@ use Rattle.nfs_values.specs.Answer.{answer_of}
 use Rattle.nfs_values.specs.declared.answer.Answer.TheVariants.{GetAttributes}
 use Rattle.nfs_values.specs.declared.attributes.Attributes.{Attributes}
 use Rattle.nfs_values.specs.declared.status.Status.{Status}
-use Rattle.held_state.specs.Lenses.{LogicalSet, logical_lens}
-use Rattle.held_state.specs.Promises.{RightOnVolume}
-use Rattle.held_state.specs.Jobs.{Replied}
-use Rattle.held_state.specs.Calls.{ServesOn}
-use Rattle.service_renames.specs.AttributeLaws.{getattr_call}
+use Rattle.parcels.specs.state.Lenses.{LogicalSet, logical_lens}
+use Rattle.parcels.specs.state.Promises.{RightOnVolume}
+use Rattle.parcels.specs.state.Jobs.{Replied}
+use Rattle.parcels.specs.state.Calls.{ServesOn}
+use Rattle.service.specs.renames.AttributeLaws.{getattr_call}
 
 -- An entry of GETATTR of a fileid under Logical, with this result, is right: by whatever handle, and whatever the rest of the
 -- volume is.

@@ -8,13 +8,13 @@ use Rattle.nfs_values.specs.Call.{call_of}
 use Rattle.nfs_values.specs.Credential.{credential_of}
 use Rattle.nfs_values.specs.Moment.{moment_of}
 use Rattle.nfs_values.specs.Reply.{reply_of}
-use Rattle.depot_rule.specs.Machine.{IsLocal, Keeps}
-use Rattle.held_state.specs.Parcels.{FilerParcel}
-use Rattle.held_state.specs.Sound.{IsFiler}
-use Rattle.held_state.specs.Jobs as jobs
-use Rattle.held_state.specs.Jobs.{takes, gives}
-use Rattle.held_state.specs.Deeds.{FilerSteps}
-use Rattle.held_laws.specs.lemmas.Lawful.{steps-local, steps-keep}
+use Rattle.depot.specs.rule.Machine.{IsLocal, Keeps}
+use Rattle.parcels.specs.state.Parcels.{FilerParcel}
+use Rattle.parcels.specs.state.Sound.{IsFiler}
+use Rattle.parcels.specs.state.Jobs as jobs
+use Rattle.parcels.specs.state.Jobs.{takes, gives}
+use Rattle.parcels.specs.state.Deeds.{FilerSteps}
+use Rattle.parcels.specs.laws.lemmas.Lawful.{steps-local, steps-keep}
 use Rattle.service.specs.declared.job.Asked.{Asked}
 use Rattle.service.specs.declared.job.Asked.TheVariants.{Call, Refused, Undecoded}
 use Rattle.service.specs.declared.job.ServedCall.{ServedCall}

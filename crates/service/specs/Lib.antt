@@ -5,3 +5,5 @@ pub mod Running
 pub mod Inner
 pub mod InnerOn
 pub mod lemmas
+pub mod renames
+pub mod totals

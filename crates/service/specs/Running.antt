@@ -28,10 +28,10 @@ use Rattle.nfs_values.specs.declared.call.Call.{Call}
 use Rattle.nfs_values.specs.declared.call.Call.TheVariants.{GetAttributes, SetAttributes, Lookup, Read, Write, Create, MakeDirectory}
 use Rattle.nfs_values.specs.declared.call.Call.TheVariants.{Remove, RemoveDirectory, Rename, ReadDirectory}
 use Rattle.nfs_values.specs.declared.call.Call.TheVariants.{FilesystemStatus, Commit, Census, Grow}
-use Rattle.volume_values.specs.Stripes.{StripeValue}
-use Rattle.held_state.specs.Calls.{VolumeCall, LieIn, handle_in}
-use Rattle.held_state.specs.Parcels.{FilerParcel}
-use Rattle.held_state.specs.Running.{HasFiler, Runs}
+use Rattle.nfs_model.specs.volume.Stripes.{StripeValue}
+use Rattle.parcels.specs.state.Calls.{VolumeCall, LieIn, handle_in}
+use Rattle.parcels.specs.state.Parcels.{FilerParcel}
+use Rattle.parcels.specs.state.Running.{HasFiler, Runs}
 use Rattle.service.specs.declared.outcome.Outcome.{Outcome}
 use Rattle.service.specs.declared.outcome.Outcome.TheVariants.{Replied, Starved, Moved}
 

@@ -1,15 +1,15 @@
 //! GETATTR.
 
 ghost use Rattle.std.specs.Prelude.{[]};
-ghost use Rattle.held_state.specs.Lenses.{logical_lens};
-ghost use Rattle.held_state.specs.Promises.{HasVolume};
-ghost use Rattle.held_state.specs.Sets.{logical_before};
+ghost use Rattle.parcels.specs.state.Lenses.{logical_lens};
+ghost use Rattle.parcels.specs.state.Promises.{HasVolume};
+ghost use Rattle.parcels.specs.state.Sets.{logical_before};
 ghost use Rattle.service.specs.Getattr.{TellsAttributes};
 
+use crate::renames::shown_now;
 use nfs_values::{Attributes, Fileid, Status, VolumeNumber};
 use parcel_sets::LogicalHeld;
 use parcels::Files;
-use service_renames::shown_now;
 
 /// GETATTR (RFC 1813 section 3.3.1), on the parcels of a volume's names and attributes: the
 /// attributes of the node of a fileid, or STALE where there is none. It takes no memory.

@@ -8,20 +8,20 @@ ghost use Rattle.nfs_values.specs.Call.{call_of};
 ghost use Rattle.nfs_values.specs.Credential.{credential_of};
 ghost use Rattle.nfs_values.specs.Moment.{moment_of};
 ghost use Rattle.parcel_sets.specs.Filled.{aggregate_alike};
-ghost use Rattle.held_state.specs.Lenses.{aggregate_lens};
-ghost use Rattle.held_state.specs.Promises.{HasAll};
-ghost use Rattle.held_state.specs.Running.{task_under, UnlessReplied};
-ghost use Rattle.held_state.specs.Sets.{aggregate_set};
-ghost use Rattle.service_totals.specs.Running.{RunsOnAll};
+ghost use Rattle.parcels.specs.state.Lenses.{aggregate_lens};
+ghost use Rattle.parcels.specs.state.Promises.{HasAll};
+ghost use Rattle.parcels.specs.state.Running.{task_under, UnlessReplied};
+ghost use Rattle.parcels.specs.state.Sets.{aggregate_set};
+ghost use Rattle.service.specs.totals.Running.{RunsOnAll};
 ghost use Rattle.service.specs.Running.{outcome_of, IsRunAt};
 
 use crate::outcome::{Outcome, outcome_grown};
 use crate::task::Run;
+use crate::totals::grow;
 use affinity_tree::Layout;
 use nfs_values::Call;
 use parcel_sets::AggrHeld;
 use parcels::Files;
-use service_totals::grow;
 
 /// Runs a call on the parcels under an Aggregate: GROW of a volume on it.
 pub fn run_on_aggregate(

@@ -6,8 +6,8 @@ ghost use Rattle.affinity_tree.specs.Layout.{layout_of};
 ghost use Rattle.nfs_values.specs.Call.{call_of};
 ghost use Rattle.nfs_values.specs.Credential.{credential_of};
 ghost use Rattle.nfs_values.specs.Moment.{moment_of};
-ghost use Rattle.held_state.specs.Lenses.{stripe_lens};
-ghost use Rattle.held_state.specs.Running.{RunsOn, UnlessReplied};
+ghost use Rattle.parcels.specs.state.Lenses.{stripe_lens};
+ghost use Rattle.parcels.specs.state.Running.{RunsOn, UnlessReplied};
 ghost use Rattle.service.specs.Running.{
   call_of_node,
   call_on,

@@ -7,21 +7,21 @@ ghost use Rattle.nfs_values.specs.Call.{call_of};
 ghost use Rattle.nfs_values.specs.Credential.{credential_of};
 ghost use Rattle.nfs_values.specs.Moment.{moment_of};
 ghost use Rattle.parcel_sets.specs.Filled.{volume_alike};
-ghost use Rattle.held_state.specs.Lenses.{volume_lens};
-ghost use Rattle.held_state.specs.Promises.{HasVolume};
-ghost use Rattle.held_state.specs.Running.{RunsOn, UnlessReplied};
-ghost use Rattle.held_state.specs.Sets.{volume_before, volume_after};
+ghost use Rattle.parcels.specs.state.Lenses.{volume_lens};
+ghost use Rattle.parcels.specs.state.Promises.{HasVolume};
+ghost use Rattle.parcels.specs.state.Running.{RunsOn, UnlessReplied};
+ghost use Rattle.parcels.specs.state.Sets.{volume_before, volume_after};
 ghost use Rattle.service.specs.Running.{call_on, outcome_of, IsRunAt};
 
 use crate::named::fileid_here;
 use crate::outcome::{Outcome, outcome_written};
 use crate::task::Run;
+use crate::totals::space;
 use affinity_tree::{Affinity, Layout};
 use nfs_values::{Answer, Call, Reply, VolumeNumber};
 use parcel_sets::VolumeHeld;
 use parcels::Files;
 use service_data::write_in_volume;
-use service_totals::space;
 
 /// Runs a call on the parcels under Volume of its volume: FSSTAT, whose home it is, or a WRITE that
 /// moved there. Where a WRITE has space, but too few blocks are outside of workers' hands, it has

@@ -4,9 +4,9 @@ ghost use Rattle.std.specs.Prelude.{◌≡◌, ℕ, List};
 ghost use Rattle.parcel_sets.specs.Filled.{logical_alike};
 ghost use Rattle.nfs_model.specs.Parts as parts;
 ghost use Rattle.nfs_model.specs.Moves.{dead_hand, fresh_hand};
-ghost use Rattle.held_state.specs.Jobs as jobs;
-ghost use Rattle.held_state.specs.Lenses.{range_lens, vbn_lens, logical_lens};
-ghost use Rattle.held_state.specs.Sets.{vbn_set, logical_before, logical_after};
+ghost use Rattle.parcels.specs.state.Jobs as jobs;
+ghost use Rattle.parcels.specs.state.Lenses.{range_lens, vbn_lens, logical_lens};
+ghost use Rattle.parcels.specs.state.Sets.{vbn_set, logical_before, logical_after};
 ghost use Rattle.service.specs.Inner.{IsHandFor};
 ghost use Rattle.service.specs.InnerOn.{HasRunOn, MayRunOn, UnlessDone};
 
@@ -19,7 +19,7 @@ use parcel_sets::{
     AggrHeld, Hand, LogicalHeld, Parcel, RangeHeld, SerialHeld, StripeHeld, VbnHeld, VolumeHeld,
 };
 use parcels::Files;
-use service_batches::{cull, deliver, fetch, free, survey};
+use service_data::batches::{cull, deliver, fetch, free, survey};
 use std::alloc::Global;
 use vbn_ranges::Batch;
 

@@ -13,8 +13,10 @@ mod job;
 mod machine;
 mod named;
 mod outcome;
+mod renames;
 mod run;
 mod task;
+mod totals;
 
 pub use attributes::get_attributes;
 pub use batch::BatchInHand;

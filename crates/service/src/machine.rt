@@ -2,7 +2,7 @@
 
 use crate::batch::BatchInHand;
 use crate::job::{Job, JobReply};
-use depot_rule::machine::Machine;
+use depot::rule::machine::Machine;
 use parcel_sets::Parcel;
 use parcels::Files;
 
@@ -11,7 +11,7 @@ use parcels::Files;
 pub struct Service;
 
 impl Machine for Service {
-    ghost use Rattle.held_state.specs.Sound.{IsFiler};
+    ghost use Rattle.parcels.specs.state.Sound.{IsFiler};
     ghost use Rattle.service.specs.Jobs.{job_steps, job_takes, job_gives, jobs-local, jobs-keep};
 
     type Parcel = Parcel<Files>;

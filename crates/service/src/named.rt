@@ -5,10 +5,10 @@ ghost use Rattle.nfs_model.specs.Home.{named_by};
 ghost use Rattle.affinity_tree.specs.Affinity.{affinity_of};
 ghost use Rattle.affinity_tree.specs.Layout.{layout_of};
 ghost use Rattle.nfs_values.specs.Call.{call_of};
-ghost use Rattle.held_state.specs.Calls.{handle_in};
+ghost use Rattle.parcels.specs.state.Calls.{handle_in};
 ghost use Rattle.service.specs.Running.{fileid_in, IsRunIn, IsRunOnVolume};
 
-use affinity::named_by;
+use affinity_tree::homes::named_by;
 use affinity_tree::{Affinity, Layout};
 use nfs_values::{Call, FileHandle, Fileid};
 

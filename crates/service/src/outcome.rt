@@ -3,8 +3,8 @@
 ghost use Rattle.std.specs.Prelude.{◌≡◌};
 ghost use Rattle.service_data.specs.Promises.{reading_outcome};
 ghost use Rattle.service_data.specs.Writing.{writing_outcome, written_outcome};
-ghost use Rattle.service_totals.specs.Census.{census_outcome};
-ghost use Rattle.service_totals.specs.Growing.{growing_outcome};
+ghost use Rattle.service.specs.totals.Census.{census_outcome};
+ghost use Rattle.service.specs.totals.Growing.{growing_outcome};
 ghost use Rattle.service.specs.Running.{outcome_of};
 
 use affinity_tree::Affinity;

@@ -12,12 +12,12 @@ ghost use Rattle.nfs_values.specs.Moment.{moment_of};
 ghost use Rattle.nfs_values.specs.declared.answer.Answer.TheVariants as answers;
 ghost use Rattle.nfs_values.specs.declared.call.Call.TheVariants as calls;
 ghost use Rattle.parcel_sets.specs.Filled.{logical_alike};
-ghost use Rattle.held_state.specs.Lenses.{logical_lens};
-ghost use Rattle.held_state.specs.Promises.{HasVolume};
-ghost use Rattle.held_state.specs.Running.{RunsOn, UnlessReplied};
-ghost use Rattle.held_state.specs.Sets.{logical_before, logical_after};
-ghost use Rattle.service_renames.specs.NamePromises.{listing_outcome, making_outcome};
-ghost use Rattle.service_renames.specs.Promises.{renaming_outcome};
+ghost use Rattle.parcels.specs.state.Lenses.{logical_lens};
+ghost use Rattle.parcels.specs.state.Promises.{HasVolume};
+ghost use Rattle.parcels.specs.state.Running.{RunsOn, UnlessReplied};
+ghost use Rattle.parcels.specs.state.Sets.{logical_before, logical_after};
+ghost use Rattle.service.specs.renames.NamePromises.{listing_outcome, making_outcome};
+ghost use Rattle.service.specs.renames.Promises.{renaming_outcome};
 ghost use Rattle.service.specs.Running.{
   call_named,
   call_on,
@@ -31,8 +31,12 @@ ghost use Rattle.service.specs.Running.{
 use crate::attributes::get_attributes;
 use crate::named::fileid_here;
 use crate::outcome::{Outcome, outcome_read, outcome_written};
+use crate::renames::{
+    EntryName, PageAsked, commit, create, lookup, make_directory, read_directory, remove,
+    remove_directory, rename, set_attributes,
+};
 use crate::task::Run;
-use affinity::named_by;
+use affinity_tree::homes::named_by;
 use affinity_tree::{Affinity, Layout};
 use nfs_values::{
     Answer, Call, FileHandle, MakeResults, Named, ReadDirectoryResults, RenameResults, Reply,
@@ -41,10 +45,6 @@ use nfs_values::{
 use parcel_sets::LogicalHeld;
 use parcels::Files;
 use service_data::{read_in_logical, write_in_logical};
-use service_renames::{
-    EntryName, PageAsked, commit, create, lookup, make_directory, read_directory, remove,
-    remove_directory, rename, set_attributes,
-};
 use std::alloc::AllocError;
 
 /// Runs a call on the parcels under Volume Logical of its volume: its home, or where a WRITE moved.

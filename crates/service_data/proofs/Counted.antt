@@ -7,10 +7,10 @@ use Rattle.std.proofs.lemmas.List.FromFn.{length-range_with_len}
 use Rattle.std.specs.FinSet.{contains, len}
 use Rattle.nfs_model.specs.Moves.{in_range}
 use Rattle.nfs_model.specs.Parts.{range_blocks}
-use Rattle.volume_values.specs.Ranges.{RangeValue, free_numbers}
-use Rattle.held_state.specs.Contents.{each}
-use Rattle.held_state.specs.Sets.{FilerRange, range_value, placed}
-use Rattle.held_data.specs.WritingUp.{free_count}
+use Rattle.nfs_model.specs.volume.Ranges.{RangeValue, free_numbers}
+use Rattle.parcels.specs.state.Contents.{each}
+use Rattle.parcels.specs.state.Sets.{FilerRange, range_value, placed}
+use Rattle.parcels.specs.bytes.WritingUp.{free_count}
 use Rattle.service_data.proofs.Parted.{at-found}
 
 fewer : {A : Type 0} (test : A → Bool) (xs : List A) → length (filter test xs) ≤ length xs

@@ -7,12 +7,12 @@ use Rattle.std.specs.Ordering.{nat_cmp}
 use Rattle.std.specs.FinSet.{FinSet}
 use Rattle.nfs_model.specs.Server.{block_size}
 use Rattle.nfs_model.specs.Types.{Moment}
-use Rattle.volume_values.specs.Logical.{LogicalValue}
-use Rattle.volume_values.specs.Stripes.{stripe_of, overwritten}
-use Rattle.held_state.specs.Contents.{each}
-use Rattle.held_state.specs.Sets.{FilerStripe, FilerLogical, stripe_value, placed, logical_before, logical_after}
-use Rattle.held_data.specs.Extending.{holes, filled_with, stripe_grown, span_written, spans_written, stripes_extended}
-use Rattle.held_data.specs.WritingUp.{Leave}
+use Rattle.nfs_model.specs.volume.Logical.{LogicalValue}
+use Rattle.nfs_model.specs.volume.Stripes.{stripe_of, overwritten}
+use Rattle.parcels.specs.state.Contents.{each}
+use Rattle.parcels.specs.state.Sets.{FilerStripe, FilerLogical, stripe_value, placed, logical_before, logical_after}
+use Rattle.parcels.specs.bytes.Extending.{holes, filled_with, stripe_grown, span_written, spans_written, stripes_extended}
+use Rattle.parcels.specs.bytes.WritingUp.{Leave}
 use Rattle.service_data.specs.Stripes.{HasStripes}
 use Rattle.service_data.specs.Places.{place_changed, with_places, StripesChanged}
 use Rattle.service_data.specs.Holes.{Rise, zeroed, renumbered, stock_held, TakesNumbers, inode_extended_in, extending_by, ExtendsFile}

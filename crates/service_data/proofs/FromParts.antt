@@ -4,13 +4,13 @@ use Rattle.std.specs.Prelude.{map}
 use Rattle.std.specs.FinSet.{FinSet}
 use Rattle.std.specs.Ordering.{nat_cmp}
 use Rattle.nfs_model.specs.Types.{Moment}
-use Rattle.volume_values.specs.Logical.{LogicalValue}
-use Rattle.volume_values.specs.Stripes.{StripeValue}
-use Rattle.held_state.specs.Contents.{each}
-use Rattle.held_state.specs.Lenses.{VolumeSet}
-use Rattle.held_state.specs.Sets.{FilerLogical, FilerVolume, stripe_value, placed, vbn_set, logical_before, logical_after, volume_before, volume_after}
-use Rattle.held_data.specs.Extending.{holes, filled_with, stripe_grown, spans_written, stripes_extended}
-use Rattle.held_data.specs.WritingUp.{LeaveParts}
+use Rattle.nfs_model.specs.volume.Logical.{LogicalValue}
+use Rattle.nfs_model.specs.volume.Stripes.{StripeValue}
+use Rattle.parcels.specs.state.Contents.{each}
+use Rattle.parcels.specs.state.Lenses.{VolumeSet}
+use Rattle.parcels.specs.state.Sets.{FilerLogical, FilerVolume, stripe_value, placed, vbn_set, logical_before, logical_after, volume_before, volume_after}
+use Rattle.parcels.specs.bytes.Extending.{holes, filled_with, stripe_grown, spans_written, stripes_extended}
+use Rattle.parcels.specs.bytes.WritingUp.{LeaveParts}
 use Rattle.service_data.specs.Places.{StripesChanged}
 use Rattle.service_data.specs.Holes.{HasRoom, Rise, zeroed, renumbered, stock_held, inode_extended_in, extending_by}
 use Rattle.service_data.specs.Parts.{restriped, LeavesOne, TakesParts}

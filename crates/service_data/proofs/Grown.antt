@@ -1,10 +1,10 @@
 -- A directory's card stays as it is.
 use Rattle.std.proofs.Common.{◌≡◌, ℕ, Option, Some, sym, ap, ◌∙◌}
 use Rattle.std.specs.FinMap.{get}
-use Rattle.volume_values.specs.Maps.{changed_value}
-use Rattle.volume_values.specs.lemmas.Numbered.{insert-same}
-use Rattle.volume_values.specs.Stripes.{Card, OfFolder, StripeValue}
-use Rattle.held_data.specs.Extending.{card_grown, stripe_grown}
+use Rattle.nfs_model.specs.volume.Maps.{changed_value}
+use Rattle.nfs_model.specs.volume.lemmas.Numbered.{insert-same}
+use Rattle.nfs_model.specs.volume.Stripes.{Card, OfFolder, StripeValue}
+use Rattle.parcels.specs.bytes.Extending.{card_grown, stripe_grown}
 
 pub grown-folder : (fileid size : ℕ) (s : StripeValue) (card : Option Card) → card ≡ get s.cards fileid → Some OfFolder ≡ card → s ≡ stripe_grown fileid size s
 grown-folder fileid size s card found is =

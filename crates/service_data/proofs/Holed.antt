@@ -9,13 +9,13 @@ use Rattle.std.specs.List.{filter, range_with_len}
 use Rattle.std.specs.FinMap.{FinMap, get, insert, remove, get-insert, get-remove, same_map}
 use Rattle.nfs_model.specs.Server.{block_size}
 use Rattle.nfs_model.specs.Serial.Write.{blocks_met}
-use Rattle.volume_values.specs.Maps.{changed_at}
-use Rattle.volume_values.specs.lemmas.Maps.{get-changed_at}
-use Rattle.volume_values.specs.lemmas.Entries.{place_total, place_same}
-use Rattle.volume_values.specs.Stripes.{Block, Place, place_cmp, StripeValue, stripe_of, is_filled, zero_block, block_inserted, block_taken, block_numbered}
-use Rattle.held_state.specs.Parcels.{no_stripe}
-use Rattle.held_state.specs.Tree.{home_stripe}
-use Rattle.held_data.specs.Extending.{holes, home_changed, filled_with}
+use Rattle.nfs_model.specs.volume.Maps.{changed_at}
+use Rattle.nfs_model.specs.volume.lemmas.Maps.{get-changed_at}
+use Rattle.nfs_model.specs.volume.lemmas.Entries.{place_total, place_same}
+use Rattle.nfs_model.specs.volume.Stripes.{Block, Place, place_cmp, StripeValue, stripe_of, is_filled, zero_block, block_inserted, block_taken, block_numbered}
+use Rattle.parcels.specs.state.Parcels.{no_stripe}
+use Rattle.parcels.specs.state.Tree.{home_stripe}
+use Rattle.parcels.specs.bytes.Extending.{holes, home_changed, filled_with}
 use Rattle.service_data.specs.Holes.{Rise, AreHoles, with_hole, zeroed, renumbered}
 
 -- ---- blocks by their places

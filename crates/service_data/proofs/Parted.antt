@@ -12,12 +12,12 @@ use Rattle.nfs_model.specs.Moves.{in_range}
 use Rattle.nfs_model.specs.Parts.{range_blocks}
 use Rattle.nfs_values.specs.declared.number.BlockNumber.{BlockNumber}
 use Rattle.parcel_sets.specs.Filled.{is_filled, AreFilledAlike}
-use Rattle.volume_values.specs.Ranges.{RangeValue, free_numbers, lowest, taken}
+use Rattle.nfs_model.specs.volume.Ranges.{RangeValue, free_numbers, lowest, taken}
 use Rattle.vbn_ranges.specs.Batch.{numbers, first_of}
-use Rattle.held_state.specs.Contents.{each}
-use Rattle.held_state.specs.Parcels.{no_range}
-use Rattle.held_state.specs.Sets.{FilerRange, FilerVbn, range_value, placed, vbn_set}
-use Rattle.held_laws.specs.lemmas.Each.{each-set, each-index, each-length}
+use Rattle.parcels.specs.state.Contents.{each}
+use Rattle.parcels.specs.state.Parcels.{no_range}
+use Rattle.parcels.specs.state.Sets.{FilerRange, FilerVbn, range_value, placed, vbn_set}
+use Rattle.parcels.specs.laws.lemmas.Each.{each-set, each-index, each-length}
 use Rattle.service_data.specs.Parts.{range_changed, LeavesFree, NoneFree}
 
 -- ---- the lowest of a range

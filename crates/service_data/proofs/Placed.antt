@@ -4,13 +4,13 @@ use Rattle.std.proofs.Common.{Some, None, refl, sym, ap, subst, ◌∙◌, arith
 use Rattle.std.specs.Prelude.{slice_get, slice_set, slice_index_or, is_some}
 use Rattle.std.proofs.Math.Nat.{add-mod}
 use Rattle.parcel_sets.specs.Filled.{is_filled}
-use Rattle.volume_values.specs.Stripes.{StripeValue, stripe_of, span_blocks}
-use Rattle.held_state.specs.Contents.{each}
-use Rattle.held_state.specs.Parcels.{no_stripe}
-use Rattle.held_state.specs.Tree.{stripe_at, home_stripe}
-use Rattle.held_state.specs.Sets.{FilerStripe, FilerLogical, stripe_value, placed, logical_before}
-use Rattle.held_laws.specs.lemmas.Each.{each-same, each-set, each-index, each-length, each-map}
-use Rattle.held_data.specs.Extending.{home_changed}
+use Rattle.nfs_model.specs.volume.Stripes.{StripeValue, stripe_of, span_blocks}
+use Rattle.parcels.specs.state.Contents.{each}
+use Rattle.parcels.specs.state.Parcels.{no_stripe}
+use Rattle.parcels.specs.state.Tree.{stripe_at, home_stripe}
+use Rattle.parcels.specs.state.Sets.{FilerStripe, FilerLogical, stripe_value, placed, logical_before}
+use Rattle.parcels.specs.laws.lemmas.Each.{each-same, each-set, each-index, each-length, each-map}
+use Rattle.parcels.specs.bytes.Extending.{home_changed}
 use Rattle.service_data.specs.Stripes.{HasStripes}
 use Rattle.service_data.specs.Places.{place_changed, one_changed, first_changed, with_places, home_held, StripesChanged}
 

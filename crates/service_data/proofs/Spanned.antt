@@ -8,16 +8,16 @@ use Rattle.std.specs.Prelude.{slice_get, slice_index_or, is_some}
 use Rattle.std.specs.List.{range_with_len}
 use Rattle.nfs_model.specs.Server.{block_size}
 use Rattle.nfs_model.specs.Home.{span_bytes}
-use Rattle.volume_values.specs.Stripes.{StripeValue, stripe_of, bytes_read}
-use Rattle.held_state.specs.Contents.{VolumeContents}
-use Rattle.held_state.specs.Tree.{stripe_at, file_byte}
-use Rattle.held_state.specs.Parcels.{no_stripe}
-use Rattle.held_state.specs.Sets.{FilerStripe, FilerLogical, stripe_value, placed, in_one, logical_before}
-use Rattle.held_state.specs.Lenses.{LogicalSet}
-use Rattle.held_state.specs.Calls.{LieIn}
-use Rattle.held_laws.specs.lemmas.Each.{each-index, each-length}
-use Rattle.held_data.specs.Reading.{bytes_under}
-use Rattle.held_data.specs.lemmas.Spans.{bytes-here}
+use Rattle.nfs_model.specs.volume.Stripes.{StripeValue, stripe_of, bytes_read}
+use Rattle.parcels.specs.state.Contents.{VolumeContents}
+use Rattle.parcels.specs.state.Tree.{stripe_at, file_byte}
+use Rattle.parcels.specs.state.Parcels.{no_stripe}
+use Rattle.parcels.specs.state.Sets.{FilerStripe, FilerLogical, stripe_value, placed, in_one, logical_before}
+use Rattle.parcels.specs.state.Lenses.{LogicalSet}
+use Rattle.parcels.specs.state.Calls.{LieIn}
+use Rattle.parcels.specs.laws.lemmas.Each.{each-index, each-length}
+use Rattle.parcels.specs.bytes.Reading.{bytes_under}
+use Rattle.parcels.specs.bytes.lemmas.Spans.{bytes-here}
 use Rattle.service_data.specs.Promises.{IsHeld}
 use Rattle.service_data.specs.Stripes.{HasStripes}
 

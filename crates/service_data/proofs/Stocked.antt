@@ -5,7 +5,7 @@ use Rattle.std.specs.Cmp.{nat_cmp_total}
 use Rattle.std.specs.FinSet as sets
 use Rattle.std.specs.FinSet.{FinSet, contains, len, from_list, remove, contains-remove, contains-insert, len-remove, len-empty, empty_of_len}
 use Rattle.std.specs.FinSet.{contains-empty, contains-difference, contains-from_list_nat, same_set, nat_cmp-IsAntisymmetric}
-use Rattle.volume_values.specs.Ranges.{without_numbers}
+use Rattle.nfs_model.specs.volume.Ranges.{without_numbers}
 
 pub none-left : (s : FinSet nat_cmp) → s ≡ sets.empty → 0 < len s → ⊥
 none-left s none some = let no = ap len none ∙ len-empty nat_cmp in absurd (omega (arith, no, some))

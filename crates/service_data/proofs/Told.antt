@@ -17,14 +17,14 @@ use Rattle.nfs_values.specs.Answer.{result_of}
 use Rattle.nfs_values.specs.declared.answer.Answer.TheVariants.{Read}
 use Rattle.nfs_values.specs.declared.answer.ReadResults.{ReadResults}
 use Rattle.nfs_values.specs.declared.status.Status.{Status}
-use Rattle.volume_values.specs.Inodes.{Inode}
-use Rattle.volume_values.specs.Stripes.{Card, StripeValue, byte_at, bytes_read}
-use Rattle.held_state.specs.Lenses.{LogicalSet, logical_lens, stripe_lens}
-use Rattle.held_state.specs.Running.{RunsOn}
-use Rattle.held_state.specs.Tree.{file_byte}
-use Rattle.held_data.specs.Reading.{some_told, read_told, on_card, on_inode, stripe_read, logical_read, bytes_under}
-use Rattle.held_data.specs.Laws.{read_call}
-use Rattle.held_data.specs.lemmas.Reads.{stripe-reads, stripe-starves, logical-reads, logical-starves}
+use Rattle.nfs_model.specs.volume.Inodes.{Inode}
+use Rattle.nfs_model.specs.volume.Stripes.{Card, StripeValue, byte_at, bytes_read}
+use Rattle.parcels.specs.state.Lenses.{LogicalSet, logical_lens, stripe_lens}
+use Rattle.parcels.specs.state.Running.{RunsOn}
+use Rattle.parcels.specs.state.Tree.{file_byte}
+use Rattle.parcels.specs.bytes.Reading.{some_told, read_told, on_card, on_inode, stripe_read, logical_read, bytes_under}
+use Rattle.parcels.specs.bytes.Laws.{read_call}
+use Rattle.parcels.specs.bytes.lemmas.Reads.{stripe-reads, stripe-starves, logical-reads, logical-starves}
 use Rattle.service_data.specs.Promises.{ReadsInStripe, ReadsInLogical}
 
 -- ---- what is told of a file whose byte at k is f k

@@ -10,12 +10,12 @@ use Rattle.nfs_model.specs.Work.{Outcome, Replied, Moved, Starved}
 use Rattle.nfs_values.specs.Status.{status_of}
 use Rattle.nfs_values.specs.declared.answer.WriteResults.{WriteResults}
 use Rattle.nfs_values.specs.declared.status.Status.{Status}
-use Rattle.volume_values.specs.Stripes.{Card}
-use Rattle.held_state.specs.Lenses.{VolumeSet, volume_lens}
-use Rattle.held_state.specs.Running.{RunsOn}
-use Rattle.held_data.specs.WritingLaws.{write_call}
-use Rattle.held_data.specs.WritingUpLaws.{VolumeWriteIsRight, VolumeWriteMayStarve}
-use Rattle.held_data.specs.WritingUp.{VolumeWrites, DueInVolume, WrittenWhereFits, WrittenWhereThere, bytes_due}
+use Rattle.nfs_model.specs.volume.Stripes.{Card}
+use Rattle.parcels.specs.state.Lenses.{VolumeSet, volume_lens}
+use Rattle.parcels.specs.state.Running.{RunsOn}
+use Rattle.parcels.specs.bytes.WritingLaws.{write_call}
+use Rattle.parcels.specs.bytes.WritingUpLaws.{VolumeWriteIsRight, VolumeWriteMayStarve}
+use Rattle.parcels.specs.bytes.WritingUp.{VolumeWrites, DueInVolume, WrittenWhereFits, WrittenWhereThere, bytes_due}
 use Rattle.service_data.specs.Promises.{IsHeld}
 use Rattle.service_data.specs.Writing.{bytes_to_write, card_shown, written_outcome}
 use Rattle.service_data.specs.WritingInVolume.{IsVolumeHeld, WritesInVolume, ExtendsInVolume, MayStarveInVolume, DoneInVolume}

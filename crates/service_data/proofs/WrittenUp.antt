@@ -16,15 +16,15 @@ use Rattle.nfs_values.specs.Status.{status_of}
 use Rattle.nfs_values.specs.declared.answer.WriteResults.{WriteResults}
 use Rattle.nfs_values.specs.declared.status.Status.{Status}
 use Rattle.nfs_values.specs.declared.status.Status.TheVariants.{Invalid, TooBig}
-use Rattle.volume_values.specs.Inodes.{InodeKind, RegularFile, Folder, Inode, IsInodes}
-use Rattle.volume_values.specs.lemmas.Inodes.{filled-within}
-use Rattle.volume_values.specs.Stripes.{Card}
-use Rattle.held_state.specs.Lenses.{LogicalSet, logical_lens}
-use Rattle.held_state.specs.Running.{RunsOn}
-use Rattle.held_laws.specs.lemmas.Limits.{used-fits, ranges-fit}
-use Rattle.held_data.specs.WritingLaws.{write_call}
-use Rattle.held_data.specs.WritingUpLaws.{LogicalWriteIsRight, LogicalWriteMayStarve}
-use Rattle.held_data.specs.WritingUp.{LogicalWrites, DueInLogical, WrittenWhereEnough, kind_due, bytes_due}
+use Rattle.nfs_model.specs.volume.Inodes.{InodeKind, RegularFile, Folder, Inode, IsInodes}
+use Rattle.nfs_model.specs.volume.lemmas.Inodes.{filled-within}
+use Rattle.nfs_model.specs.volume.Stripes.{Card}
+use Rattle.parcels.specs.state.Lenses.{LogicalSet, logical_lens}
+use Rattle.parcels.specs.state.Running.{RunsOn}
+use Rattle.parcels.specs.laws.lemmas.Limits.{used-fits, ranges-fit}
+use Rattle.parcels.specs.bytes.WritingLaws.{write_call}
+use Rattle.parcels.specs.bytes.WritingUpLaws.{LogicalWriteIsRight, LogicalWriteMayStarve}
+use Rattle.parcels.specs.bytes.WritingUp.{LogicalWrites, DueInLogical, WrittenWhereEnough, kind_due, bytes_due}
 use Rattle.service_data.specs.Promises.{IsHeld}
 use Rattle.service_data.specs.Holes.{HasRoom, Extends}
 use Rattle.service_data.specs.Writing.{bytes_to_write, kind_card, card_shown, written_outcome, MayStarve, DoneInLogical, WritesInLogical}

@@ -7,14 +7,14 @@ use Rattle.std.specs.Ordering.{nat_cmp}
 use Rattle.std.specs.declared.alloc.AllocError.{AllocError}
 use Rattle.nfs_model.specs.Types.{Moment}
 use Rattle.parcel_sets.specs.Filled.{logical_alike}
-use Rattle.volume_values.specs.Inodes.{Inode, InodesValue, filled_blocks}
-use Rattle.volume_values.specs.Stripes.{StripeValue, is_filled, block_inserted, block_numbered}
-use Rattle.volume_values.specs.Logical.{LogicalValue}
-use Rattle.held_state.specs.Lenses.{LogicalSet}
-use Rattle.held_state.specs.Sets.{FilerLogical, logical_before}
-use Rattle.held_state.specs.Tree.{home_stripe}
-use Rattle.held_data.specs.Extending.{Extending, holes, home_changed, inodes_extended, file_extended}
-use Rattle.held_data.specs.WritingUp.{Leave, with_stock}
+use Rattle.nfs_model.specs.volume.Inodes.{Inode, InodesValue, filled_blocks}
+use Rattle.nfs_model.specs.volume.Stripes.{StripeValue, is_filled, block_inserted, block_numbered}
+use Rattle.nfs_model.specs.volume.Logical.{LogicalValue}
+use Rattle.parcels.specs.state.Lenses.{LogicalSet}
+use Rattle.parcels.specs.state.Sets.{FilerLogical, logical_before}
+use Rattle.parcels.specs.state.Tree.{home_stripe}
+use Rattle.parcels.specs.bytes.Extending.{Extending, holes, home_changed, inodes_extended, file_extended}
+use Rattle.parcels.specs.bytes.WritingUp.{Leave, with_stock}
 use Rattle.service_data.specs.Stripes.{HasStripes}
 
 -- ---- lists of blocks

@@ -5,6 +5,7 @@ pub mod Holes
 pub mod Parts
 pub mod Writing
 pub mod WritingInVolume
-pub use Rattle.held_data.specs.Laws as ReadingLaws
-pub use Rattle.held_data.specs.WritingLaws
-pub use Rattle.held_data.specs.lemmas.Homes as HomeLemmas
+pub use Rattle.parcels.specs.bytes.Laws as ReadingLaws
+pub use Rattle.parcels.specs.bytes.WritingLaws
+pub use Rattle.parcels.specs.bytes.lemmas.Homes as HomeLemmas
+pub mod batches

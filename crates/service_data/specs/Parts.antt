@@ -2,13 +2,13 @@
 use Rattle.std.specs.Prelude.{◌≡◌, ◌⊎◌, ℕ, ◌<◌, true, List, [], ◌∷◌, length, Option, Some, None, slice_set}
 use Rattle.std.specs.FinSet as sets
 use Rattle.std.specs.FinSet.{contains}
-use Rattle.volume_values.specs.Ranges.{RangeValue, taken}
-use Rattle.volume_values.specs.Stripes.{StripeValue}
-use Rattle.held_state.specs.Lenses.{VolumeSet}
-use Rattle.held_state.specs.Sets.{FilerRange, FilerVolume, volume_before}
-use Rattle.held_state.specs.WellFormed.{range_at}
+use Rattle.nfs_model.specs.volume.Ranges.{RangeValue, taken}
+use Rattle.nfs_model.specs.volume.Stripes.{StripeValue}
+use Rattle.parcels.specs.state.Lenses.{VolumeSet}
+use Rattle.parcels.specs.state.Sets.{FilerRange, FilerVolume, volume_before}
+use Rattle.parcels.specs.state.WellFormed.{range_at}
 use Rattle.parcel_sets.specs.Filled.{volume_alike}
-use Rattle.held_data.specs.WritingUp.{LeavesStock, LeavesRange, LeavesDead, LeaveParts}
+use Rattle.parcels.specs.bytes.WritingUp.{LeavesStock, LeavesRange, LeavesDead, LeaveParts}
 use Rattle.service_data.specs.Stripes.{HasStripes}
 use Rattle.service_data.specs.Holes.{renumbered}
 

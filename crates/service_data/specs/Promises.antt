@@ -10,12 +10,12 @@ use Rattle.nfs_values.specs.Answer.{answer_of}
 use Rattle.nfs_values.specs.declared.answer.Answer.TheVariants.{Read}
 use Rattle.nfs_values.specs.declared.answer.ReadResults.{ReadResults}
 use Rattle.nfs_values.specs.declared.status.Status.{Status}
-use Rattle.volume_values.specs.Stripes.{StripeValue}
-use Rattle.held_state.specs.Lenses.{LogicalSet, logical_lens, stripe_lens}
-use Rattle.held_state.specs.Promises.{HasVolume}
-use Rattle.held_state.specs.Calls.{LieIn}
-use Rattle.held_state.specs.Running.{RunsOn}
-use Rattle.held_data.specs.Laws.{read_call}
+use Rattle.nfs_model.specs.volume.Stripes.{StripeValue}
+use Rattle.parcels.specs.state.Lenses.{LogicalSet, logical_lens, stripe_lens}
+use Rattle.parcels.specs.state.Promises.{HasVolume}
+use Rattle.parcels.specs.state.Calls.{LieIn}
+use Rattle.parcels.specs.state.Running.{RunsOn}
+use Rattle.parcels.specs.bytes.Laws.{read_call}
 
 -- n bytes at an offset lie in one span; none always do
 abbrev pub LieInOneSpan : ℕ → ℕ → Type 0

@@ -14,13 +14,13 @@ use Rattle.nfs_values.specs.declared.answer.Answer.TheVariants.{Write}
 use Rattle.nfs_values.specs.declared.answer.WriteResults.{WriteResults}
 use Rattle.nfs_values.specs.declared.status.Status.{Status}
 use Rattle.nfs_values.specs.declared.status.Status.TheVariants.{Stale, Invalid, TooBig}
-use Rattle.volume_values.specs.Inodes.{InodeKind, RegularFile, Folder, Inode}
-use Rattle.volume_values.specs.Stripes.{Card, OfFile, OfFolder, StripeValue}
-use Rattle.held_state.specs.Lenses.{LogicalSet, logical_lens, stripe_lens}
-use Rattle.held_state.specs.Calls.{LieIn}
-use Rattle.held_state.specs.Running.{RunsOn}
-use Rattle.held_data.specs.WritingLaws.{write_call}
-use Rattle.held_data.specs.WritingUp.{LogicalWrites, bytes_due, holes_of}
+use Rattle.nfs_model.specs.volume.Inodes.{InodeKind, RegularFile, Folder, Inode}
+use Rattle.nfs_model.specs.volume.Stripes.{Card, OfFile, OfFolder, StripeValue}
+use Rattle.parcels.specs.state.Lenses.{LogicalSet, logical_lens, stripe_lens}
+use Rattle.parcels.specs.state.Calls.{LieIn}
+use Rattle.parcels.specs.state.Running.{RunsOn}
+use Rattle.parcels.specs.bytes.WritingLaws.{write_call}
+use Rattle.parcels.specs.bytes.WritingUp.{LogicalWrites, bytes_due, holes_of}
 
 -- what is asked: bytes at an offset, with the count that was given, at a moment
 abbrev pub asked_to_write : ℕ → ℕ → List ℕ → Moment → Writing

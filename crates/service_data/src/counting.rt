@@ -2,8 +2,8 @@
 
 ghost use Rattle.std.specs.Prelude.{◌≡◌, ◌+◌, ◌<◌, ◌≤◌, nat_lt};
 ghost use Rattle.std.specs.FinSet.{len};
-ghost use Rattle.held_state.specs.Sets.{range_value, vbn_set, volume_before};
-ghost use Rattle.held_data.specs.WritingUp.{all_blocks, for_holes, free_count};
+ghost use Rattle.parcels.specs.state.Sets.{range_value, vbn_set, volume_before};
+ghost use Rattle.parcels.specs.bytes.WritingUp.{all_blocks, for_holes, free_count};
 
 use parcel_sets::{RangeHeld, VbnHeld, VolumeHeld};
 use parcels::{Files, ranges_used};

@@ -2,9 +2,9 @@
 
 ghost use Rattle.std.specs.Prelude.{◌≡◌, ◌+◌, ◌<◌, ◌≤◌, ◌∷◌, [], true, take, length, OnOk, OnErr};
 ghost use Rattle.std.specs.FinSet.{contains, len};
-ghost use Rattle.volume_values.specs.Ranges.{without_numbers};
-ghost use Rattle.held_state.specs.Sets.{logical_before};
-ghost use Rattle.held_data.specs.Extending.{holes};
+ghost use Rattle.nfs_model.specs.volume.Ranges.{without_numbers};
+ghost use Rattle.parcels.specs.state.Sets.{logical_before};
+ghost use Rattle.parcels.specs.bytes.Extending.{holes};
 ghost use Rattle.service_data.specs.Stripes.{HasStripes};
 ghost use Rattle.service_data.specs.Places.{StripesChanged};
 ghost use Rattle.service_data.specs.Holes.{

@@ -16,7 +16,7 @@ ghost use Rattle.std.specs.Prelude.{
 ghost use Rattle.nfs_model.specs.Server.{block_size};
 ghost use Rattle.nfs_model.specs.Home.{span_bytes};
 ghost use Rattle.nfs_values.specs.Moment.{moment_of};
-ghost use Rattle.volume_values.specs.Stripes.{
+ghost use Rattle.nfs_model.specs.volume.Stripes.{
   stripe_of,
   is_filled,
   block_inserted,
@@ -24,9 +24,9 @@ ghost use Rattle.volume_values.specs.Stripes.{
   block_numbered,
   overwritten,
 };
-ghost use Rattle.held_state.specs.Sets.{logical_before, stripe_value};
-ghost use Rattle.held_state.specs.Tree.{home_stripe};
-ghost use Rattle.held_data.specs.Extending.{span_written, stripe_grown};
+ghost use Rattle.parcels.specs.state.Sets.{logical_before, stripe_value};
+ghost use Rattle.parcels.specs.state.Tree.{home_stripe};
+ghost use Rattle.parcels.specs.bytes.Extending.{span_written, stripe_grown};
 ghost use Rattle.service_data.specs.Stripes.{HasStripes};
 ghost use Rattle.service_data.specs.Places.{
   home_held,
@@ -38,8 +38,8 @@ use nfs_values::{BlockNumber, Fileid, Moment};
 use parcel_sets::{LogicalHeld, StripeHeld};
 use parcels::Files;
 use std::alloc::AllocError;
-use stripe_cards::Card;
 use stripes::Stripe;
+use stripes::cards::Card;
 
 /// The blocks of a span, which lie in one stripe.
 const SPAN_BLOCKS: u64 = 64;

@@ -1,6 +1,8 @@
-//! Calls on the bytes of files, on the parcels that they hold: READ and WRITE.
+//! Calls on the bytes of files, on the parcels that they hold: READ and WRITE; and the batches of
+//! block numbers that workers fetch and deliver.
 #![tactic(auto)]
 
+pub mod batches;
 mod counting;
 mod extending;
 mod extension;

@@ -4,9 +4,9 @@ ghost use Rattle.std.specs.Prelude.{◌≡◌, ◌<◌, ◌≤◌, ◌∷◌, []
 ghost use Rattle.std.specs.FinSet as sets;
 ghost use Rattle.std.specs.FinSet.{contains};
 ghost use Rattle.parcel_sets.specs.Filled.{vbn_alike, volume_alike};
-ghost use Rattle.volume_values.specs.Ranges.{taken};
-ghost use Rattle.held_state.specs.Sets.{range_value, vbn_set, volume_before, volume_after};
-ghost use Rattle.held_data.specs.WritingUp.{for_holes};
+ghost use Rattle.nfs_model.specs.volume.Ranges.{taken};
+ghost use Rattle.parcels.specs.state.Sets.{range_value, vbn_set, volume_before, volume_after};
+ghost use Rattle.parcels.specs.bytes.WritingUp.{for_holes};
 ghost use Rattle.service_data.specs.Parts.{
   range_changed,
   LeavesFree,

@@ -3,9 +3,9 @@
 ghost use Rattle.std.specs.Prelude.{◌≡◌, ◌+◌, ◌%◌, ◌≤◌, ◌<◌, ◌++◌, is_some, true};
 ghost use Rattle.std.specs.Vec.{vec_len, vec_capacity};
 ghost use Rattle.nfs_model.specs.Home.{span_bytes};
-ghost use Rattle.volume_values.specs.Stripes.{bytes_read};
-ghost use Rattle.held_state.specs.Sets.{logical_before, stripe_value};
-ghost use Rattle.held_data.specs.Reading.{bytes_under};
+ghost use Rattle.nfs_model.specs.volume.Stripes.{bytes_read};
+ghost use Rattle.parcels.specs.state.Sets.{logical_before, stripe_value};
+ghost use Rattle.parcels.specs.bytes.Reading.{bytes_under};
 ghost use Rattle.service_data.specs.Stripes.{HasStripes};
 
 use nfs_values::Fileid;

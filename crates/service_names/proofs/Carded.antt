@@ -4,9 +4,9 @@ use Rattle.std.specs.Prelude.{IsSome, if◌then◌else◌}
 use Rattle.std.specs.Option.{option_map}
 use Rattle.std.specs.FinMap.{get, get-empty}
 use Rattle.std.specs.Ordering.{nat_cmp}
-use Rattle.volume_values.specs.Stripes.{StripeValue, Card, card_settled, touch_taken, cut}
-use Rattle.volume_values.specs.lemmas.Numbered.{itself, get-changed_at}
-use Rattle.held_state.specs.Sets.{FilerStripe, stripe_value}
+use Rattle.nfs_model.specs.volume.Stripes.{StripeValue, Card, card_settled, touch_taken, cut}
+use Rattle.nfs_model.specs.volume.lemmas.Numbered.{itself, get-changed_at}
+use Rattle.parcels.specs.state.Sets.{FilerStripe, stripe_value}
 
 settled-some : (o : Option Card) → IsSome o → IsSome (option_map card_settled o)
 settled-some None some = let h : false ≡ true = some in absurd cc

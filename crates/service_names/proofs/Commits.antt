@@ -8,16 +8,16 @@ use Rattle.nfs_values.specs.Answer.{answer_of}
 use Rattle.nfs_values.specs.declared.answer.Answer.TheVariants.{Commit}
 use Rattle.nfs_values.specs.declared.answer.CommitResults.{CommitResults}
 use Rattle.nfs_values.specs.declared.status.Status.{Status}
-use Rattle.volume_values.specs.Inodes.{Inode, RegularFile, Folder}
-use Rattle.held_state.specs.Tree.{file_touch}
-use Rattle.held_state.specs.Lenses.{LogicalSet, logical_lens}
-use Rattle.held_state.specs.Promises.{RightOnVolume}
-use Rattle.held_state.specs.Jobs.{Replied}
-use Rattle.held_state.specs.Calls.{ServesOn}
-use Rattle.held_state.specs.Changes.{shown_inode}
-use Rattle.held_changes.specs.NameAnswers.{file_committed, inode_committed, commit_answer}
-use Rattle.held_changes.specs.NameLaws.{commit_call}
-use Rattle.held_changes.specs.ListingLemmas.{commit-right}
+use Rattle.nfs_model.specs.volume.Inodes.{Inode, RegularFile, Folder}
+use Rattle.parcels.specs.state.Tree.{file_touch}
+use Rattle.parcels.specs.state.Lenses.{LogicalSet, logical_lens}
+use Rattle.parcels.specs.state.Promises.{RightOnVolume}
+use Rattle.parcels.specs.state.Jobs.{Replied}
+use Rattle.parcels.specs.state.Calls.{ServesOn}
+use Rattle.parcels.specs.state.Changes.{shown_inode}
+use Rattle.parcels.specs.changes.NameAnswers.{file_committed, inode_committed, commit_answer}
+use Rattle.parcels.specs.changes.NameLaws.{commit_call}
+use Rattle.parcels.specs.changes.ListingLemmas.{commit-right}
 use Rattle.service_names.specs.Promises.{Commits}
 
 module _ (v fileid : ℕ) (set : LogicalSet) where

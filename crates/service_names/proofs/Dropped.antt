@@ -3,10 +3,10 @@ use Rattle.std.proofs.Common.{◌≡◌, ℕ, ◌<◌, ◌≤◌, List, map, Opt
 use Rattle.std.proofs.lemmas.Bool.{cases_lt}
 use Rattle.std.specs.Prelude.{length, slice_get}
 use Rattle.parcel_sets.specs.Filled.{is_filled, AreFilledAlike}
-use Rattle.volume_values.specs.Stripes.{card_dropped}
-use Rattle.held_state.specs.Contents.{each}
-use Rattle.held_state.specs.Sets.{FilerStripe, stripe_value, placed, in_one}
-use Rattle.held_laws.specs.lemmas.Each.{each-same, each-map, get-there}
+use Rattle.nfs_model.specs.volume.Stripes.{card_dropped}
+use Rattle.parcels.specs.state.Contents.{each}
+use Rattle.parcels.specs.state.Sets.{FilerStripe, stripe_value, placed, in_one}
+use Rattle.parcels.specs.laws.lemmas.Each.{each-same, each-map, get-there}
 use Rattle.service_names.specs.Cards.{InFirst, IsDropped}
 use Rattle.service_names.proofs.Gone.{vacant-dropped}
 use Rattle.service_names.proofs.Putting.{there}

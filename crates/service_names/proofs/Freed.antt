@@ -6,8 +6,8 @@ use Rattle.std.specs.Ordering.{nat_cmp}
 use Rattle.std.specs.Cmp.{nat_cmp_total}
 use Rattle.std.specs.FinMap.{nat_cmp-IsAntisymmetric}
 use Rattle.std.specs.FinSet.{FinSet, contains, from_list, same_set, contains-union, contains-from_list_nat}
-use Rattle.volume_values.specs.Ranges.{with_numbers}
-use Rattle.volume_values.specs.Stripes.{StripeValue, cut, numbers_freed}
+use Rattle.nfs_model.specs.volume.Ranges.{with_numbers}
+use Rattle.nfs_model.specs.volume.Stripes.{StripeValue, cut, numbers_freed}
 use Rattle.service_names.specs.Changing.{AreNumbers}
 
 -- ---- numbers added to a set

@@ -3,19 +3,19 @@ use Rattle.std.proofs.Common.{◌≡◌, ℕ, ◌==◌, Bool, true, false, List,
 use Rattle.std.specs.Prelude.{if◌then◌else◌}
 use Rattle.std.specs.Cmp.{nat_cmp_total}
 use Rattle.std.specs.FinMap.{nat_cmp-IsAntisymmetric}
-use Rattle.volume_values.specs.lemmas.Numbered.{get-remove_at}
+use Rattle.nfs_model.specs.volume.lemmas.Numbered.{get-remove_at}
 use Rattle.std.specs.FinMap as maps
 use Rattle.std.specs.Ordering.{nat_cmp}
 use Rattle.nfs_model.specs.Types.{Moment}
-use Rattle.volume_values.specs.Inodes.{Inode}
-use Rattle.volume_values.specs.Stripes.{Card, card_dropped}
-use Rattle.held_state.specs.Lenses.{LogicalSet}
-use Rattle.held_state.specs.Parcels.{no_stripe}
-use Rattle.held_state.specs.Sets.{FilerStripe, FilerLogical, stripe_value, logical_set, logical_before, logical_after}
-use Rattle.held_changes.specs.NodesSized.{file_sized}
-use Rattle.held_changes.specs.NodesDropped.{directory_left, node_dropped}
-use Rattle.held_changes.specs.Named.{HeldNode}
-use Rattle.held_changes.specs.Dropping.{dropping_of, emptying_of, child_emptied}
+use Rattle.nfs_model.specs.volume.Inodes.{Inode}
+use Rattle.nfs_model.specs.volume.Stripes.{Card, card_dropped}
+use Rattle.parcels.specs.state.Lenses.{LogicalSet}
+use Rattle.parcels.specs.state.Parcels.{no_stripe}
+use Rattle.parcels.specs.state.Sets.{FilerStripe, FilerLogical, stripe_value, logical_set, logical_before, logical_after}
+use Rattle.parcels.specs.changes.NodesSized.{file_sized}
+use Rattle.parcels.specs.changes.NodesDropped.{directory_left, node_dropped}
+use Rattle.parcels.specs.changes.Named.{HeldNode}
+use Rattle.parcels.specs.changes.Dropping.{dropping_of, emptying_of, child_emptied}
 use Rattle.service_names.specs.Naming.{naming_in}
 
 -- an empty place stays as it is

@@ -15,15 +15,15 @@ use Rattle.nfs_values.specs.Answer as answers
 use Rattle.nfs_values.specs.declared.answer.Answer.TheVariants.{ReadDirectory}
 use Rattle.nfs_values.specs.declared.answer.ReadDirectoryResults.{ReadDirectoryResults}
 use Rattle.nfs_values.specs.declared.status.Status.{Status}
-use Rattle.volume_values.specs.Directories.{Page, page_of}
-use Rattle.volume_values.specs.Inodes.{Inode}
-use Rattle.held_state.specs.Lenses.{LogicalSet, logical_lens}
-use Rattle.held_state.specs.Running.{RunsOn}
-use Rattle.held_state.specs.Calls.{answer_of}
-use Rattle.held_state.specs.Changes.{shown_inode}
-use Rattle.held_changes.specs.NameAnswers.{is_bad_cookie, readdir_answer}
-use Rattle.held_changes.specs.NameLaws.{readdir_call}
-use Rattle.held_changes.specs.ListingLemmas.{readdir-right, readdir-starves}
+use Rattle.nfs_model.specs.volume.Directories.{Page, page_of}
+use Rattle.nfs_model.specs.volume.Inodes.{Inode}
+use Rattle.parcels.specs.state.Lenses.{LogicalSet, logical_lens}
+use Rattle.parcels.specs.state.Running.{RunsOn}
+use Rattle.parcels.specs.state.Calls.{answer_of}
+use Rattle.parcels.specs.state.Changes.{shown_inode}
+use Rattle.parcels.specs.changes.NameAnswers.{is_bad_cookie, readdir_answer}
+use Rattle.parcels.specs.changes.NameLaws.{readdir_call}
+use Rattle.parcels.specs.changes.ListingLemmas.{readdir-right, readdir-starves}
 use Rattle.service_names.specs.Listing.{all_under, tells_nothing}
 use Rattle.service_names.specs.Promises.{Lists}
 use Rattle.service_names.specs.declared.listing.PageAsked.{PageAsked}

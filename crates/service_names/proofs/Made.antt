@@ -6,11 +6,11 @@ use Rattle.nfs_values.specs.Answer as values
 use Rattle.nfs_values.specs.declared.answer.Answer as answered
 use Rattle.nfs_values.specs.declared.answer.MakeResults.{MakeResults}
 use Rattle.nfs_values.specs.declared.status.Status.{Status}
-use Rattle.held_state.specs.Lenses.{LogicalSet, logical_lens}
-use Rattle.held_state.specs.Calls.{VolumeCall}
-use Rattle.held_state.specs.Changes.{LogicalAnswer}
-use Rattle.held_state.specs.Running.{RunsOn}
-use Rattle.held_changes.specs.Laws.{IsDone, MayStarve}
+use Rattle.parcels.specs.state.Lenses.{LogicalSet, logical_lens}
+use Rattle.parcels.specs.state.Calls.{VolumeCall}
+use Rattle.parcels.specs.state.Changes.{LogicalAnswer}
+use Rattle.parcels.specs.state.Running.{RunsOn}
+use Rattle.parcels.specs.changes.Laws.{IsDone, MayStarve}
 use Rattle.service_names.specs.Making.{Makes}
 use Rattle.service_names.specs.Promises.{making_outcome}
 use Rattle.service_names.proofs.Laws.{right-by}

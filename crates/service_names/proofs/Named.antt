@@ -10,15 +10,15 @@ use Rattle.nfs_values.specs.Answer.{answer_of}
 use Rattle.nfs_values.specs.declared.answer.Answer.TheVariants.{Lookup}
 use Rattle.nfs_values.specs.declared.answer.LookupResults.{LookupResults}
 use Rattle.nfs_values.specs.declared.status.Status as statuses
-use Rattle.volume_values.specs.Inodes.{Inode}
-use Rattle.held_state.specs.Lenses.{LogicalSet, logical_lens}
-use Rattle.held_state.specs.Promises.{RightOnVolume}
-use Rattle.held_state.specs.Jobs.{Replied}
-use Rattle.held_state.specs.Calls.{ServesOn}
-use Rattle.held_state.specs.Changes.{shown_inode}
-use Rattle.held_changes.specs.NameAnswers.{entries_of, fileid_named, object_told, found_told, unless_fault, lookup_answer}
-use Rattle.held_changes.specs.NameLaws.{lookup_call}
-use Rattle.held_changes.specs.LookupLemmas.{lookup-right}
+use Rattle.nfs_model.specs.volume.Inodes.{Inode}
+use Rattle.parcels.specs.state.Lenses.{LogicalSet, logical_lens}
+use Rattle.parcels.specs.state.Promises.{RightOnVolume}
+use Rattle.parcels.specs.state.Jobs.{Replied}
+use Rattle.parcels.specs.state.Calls.{ServesOn}
+use Rattle.parcels.specs.state.Changes.{shown_inode}
+use Rattle.parcels.specs.changes.NameAnswers.{entries_of, fileid_named, object_told, found_told, unless_fault, lookup_answer}
+use Rattle.parcels.specs.changes.NameLaws.{lookup_call}
+use Rattle.parcels.specs.changes.LookupLemmas.{lookup-right}
 use Rattle.service_names.specs.Promises.{LooksUp}
 
 module _ (v fileid : ℕ) (name : List ℕ) (set : LogicalSet) where

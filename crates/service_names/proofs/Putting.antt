@@ -5,10 +5,10 @@ use Rattle.std.proofs.lemmas.Bool.{cases_eq, cases_lt}
 use Rattle.std.specs.Prelude.{slice_get, slice_set, slice_index_or, OnOk, OnErr, if◌then◌else◌}
 use Rattle.std.specs.FinMap.{FinMap, get, insert, remove}
 use Rattle.std.specs.Ordering.{nat_cmp}
-use Rattle.volume_values.specs.Inodes.{InodeKind, RegularFile, Folder}
-use Rattle.volume_values.specs.Stripes.{StripeValue, OfFile, OfFolder, touch_of, card_dropped}
-use Rattle.volume_values.specs.lemmas.Numbered.{same-answers, get-insert_at, get-remove_at}
-use Rattle.held_changes.specs.NodesMade.{card_made}
+use Rattle.nfs_model.specs.volume.Inodes.{InodeKind, RegularFile, Folder}
+use Rattle.nfs_model.specs.volume.Stripes.{StripeValue, OfFile, OfFolder, touch_of, card_dropped}
+use Rattle.nfs_model.specs.volume.lemmas.Numbered.{same-answers, get-insert_at, get-remove_at}
+use Rattle.parcels.specs.changes.NodesMade.{card_made}
 use Rattle.service_names.specs.Cards.{InFirst}
 
 -- ---- one card

@@ -5,16 +5,16 @@ use Rattle.std.specs.Prelude.{if◌then◌else◌}
 use Rattle.std.specs.FinMap.{get}
 use Rattle.nfs_model.specs.Types.{Moment, Listed, Invalid}
 use Rattle.nfs_model.specs.Names.{is_dots}
-use Rattle.volume_values.specs.Directories.{DirectoryValue, fileid_found}
-use Rattle.volume_values.specs.Inodes.{InodeKind, RegularFile, Folder, Inode}
-use Rattle.volume_values.specs.lemmas.Numbered.{get-remove_at}
-use Rattle.held_state.specs.Lenses.{LogicalSet}
-use Rattle.held_state.specs.Changes.{LogicalAnswer}
-use Rattle.held_changes.specs.NameAnswers.{entries_of}
-use Rattle.held_changes.specs.NodesSized.{kind_sized}
-use Rattle.held_changes.specs.NodesDropped.{without_subdirectories, directories_left}
-use Rattle.held_changes.specs.Named.{fails, HeldNode, node_at, node_under}
-use Rattle.held_changes.specs.Dropping.{file_gone, held_gone, remove_by, remove_kind, held_remove, if_empty, rmdir_kind}
+use Rattle.nfs_model.specs.volume.Directories.{DirectoryValue, fileid_found}
+use Rattle.nfs_model.specs.volume.Inodes.{InodeKind, RegularFile, Folder, Inode}
+use Rattle.nfs_model.specs.volume.lemmas.Numbered.{get-remove_at}
+use Rattle.parcels.specs.state.Lenses.{LogicalSet}
+use Rattle.parcels.specs.state.Changes.{LogicalAnswer}
+use Rattle.parcels.specs.changes.NameAnswers.{entries_of}
+use Rattle.parcels.specs.changes.NodesSized.{kind_sized}
+use Rattle.parcels.specs.changes.NodesDropped.{without_subdirectories, directories_left}
+use Rattle.parcels.specs.changes.Named.{fails, HeldNode, node_at, node_under}
+use Rattle.parcels.specs.changes.Dropping.{file_gone, held_gone, remove_by, remove_kind, held_remove, if_empty, rmdir_kind}
 use Rattle.service_names.specs.Naming.{naming_in}
 use Rattle.service_names.specs.Shown.{HasFewLinks}
 

@@ -5,13 +5,13 @@ use Rattle.std.proofs.lemmas.Bool.{cases_eq}
 use Rattle.std.specs.Prelude.{length, map, is_some, IsSome, slice_get, slice_set, slice_index_or}
 use Rattle.std.specs.FinMap.{get}
 use Rattle.parcel_sets.specs.Filled.{is_filled, AreFilledAlike}
-use Rattle.volume_values.specs.Logical.{LogicalValue}
-use Rattle.volume_values.specs.Stripes.{StripeValue, numbers_freed}
-use Rattle.held_state.specs.Contents.{each}
-use Rattle.held_state.specs.Parcels.{no_stripe}
-use Rattle.held_state.specs.Sets.{FilerStripe, FilerLogical, stripe_value, placed, in_one, logical_before}
-use Rattle.held_laws.specs.lemmas.Each.{each-same, each-map, each-index}
-use Rattle.held_changes.specs.NodesSized.{stripe_sized, all_freed}
+use Rattle.nfs_model.specs.volume.Logical.{LogicalValue}
+use Rattle.nfs_model.specs.volume.Stripes.{StripeValue, numbers_freed}
+use Rattle.parcels.specs.state.Contents.{each}
+use Rattle.parcels.specs.state.Parcels.{no_stripe}
+use Rattle.parcels.specs.state.Sets.{FilerStripe, FilerLogical, stripe_value, placed, in_one, logical_before}
+use Rattle.parcels.specs.laws.lemmas.Each.{each-same, each-map, each-index}
+use Rattle.parcels.specs.changes.NodesSized.{stripe_sized, all_freed}
 use Rattle.service_names.specs.Changing.{AreNumbers, MayBeSet, with_dead}
 use Rattle.service_names.proofs.Freed.{added-none, added-before}
 use Rattle.service_names.proofs.Taking.{set-here, set-else, found-here, filled-as}

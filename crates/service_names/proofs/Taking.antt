@@ -6,14 +6,14 @@ use Rattle.std.specs.FinMap as maps
 use Rattle.std.specs.Ordering.{nat_cmp}
 use Rattle.nfs_model.specs.Types.{Moment}
 use Rattle.parcel_sets.specs.Filled.{is_filled, AreFilledAlike}
-use Rattle.volume_values.specs.Stripes.{StripeValue, Card, card_settled, touch_of, touch_taken}
-use Rattle.volume_values.specs.Maps.{changed_value}
-use Rattle.held_state.specs.Contents.{each}
-use Rattle.held_state.specs.Changes.{touches_taken}
-use Rattle.held_state.specs.Parcels.{no_stripe}
-use Rattle.held_state.specs.Tree.{file_touch, later}
-use Rattle.held_state.specs.Sets.{FilerStripe, stripe_value, placed, in_one}
-use Rattle.held_laws.specs.lemmas.Each.{each-same, each-map}
+use Rattle.nfs_model.specs.volume.Stripes.{StripeValue, Card, card_settled, touch_of, touch_taken}
+use Rattle.nfs_model.specs.volume.Maps.{changed_value}
+use Rattle.parcels.specs.state.Contents.{each}
+use Rattle.parcels.specs.state.Changes.{touches_taken}
+use Rattle.parcels.specs.state.Parcels.{no_stripe}
+use Rattle.parcels.specs.state.Tree.{file_touch, later}
+use Rattle.parcels.specs.state.Sets.{FilerStripe, stripe_value, placed, in_one}
+use Rattle.parcels.specs.laws.lemmas.Each.{each-same, each-map}
 use Rattle.service_names.proofs.Latest.{IsTouchFrom, none-from, touch-more}
 
 -- an empty place stays as it is

@@ -3,11 +3,11 @@ use Rattle.std.proofs.Common.{◌≡◌, ℕ, ◌==◌, Bool, false, Some, Resul
 use Rattle.std.proofs.Common.{refl, sym, ap, ◌∙◌, subst}
 use Rattle.std.specs.Prelude.{OnErr, IfSome, if◌then◌else◌}
 use Rattle.std.specs.FinMap.{get}
-use Rattle.volume_values.specs.Directories.{DirectoryValue, empty_directory}
-use Rattle.volume_values.specs.Inodes.{InodeKind, RegularFile, Folder}
-use Rattle.volume_values.specs.Logical.{LogicalValue}
-use Rattle.volume_values.specs.lemmas.Numbered.{get-insert_at}
-use Rattle.held_changes.specs.NodesMade.{directories_made}
+use Rattle.nfs_model.specs.volume.Directories.{DirectoryValue, empty_directory}
+use Rattle.nfs_model.specs.volume.Inodes.{InodeKind, RegularFile, Folder}
+use Rattle.nfs_model.specs.volume.Logical.{LogicalValue}
+use Rattle.nfs_model.specs.volume.lemmas.Numbered.{get-insert_at}
+use Rattle.parcels.specs.changes.NodesMade.{directories_made}
 use Rattle.service_names.specs.Changing.{with_directories}
 use Rattle.service_names.specs.Making.{without_directory}
 use Rattle.service_names.proofs.Putting.{remove-put}

@@ -6,21 +6,21 @@ use Rattle.std.specs.Prelude.{is_some, IsSome, slice_get}
 use Rattle.std.specs.Ordering.{nat_cmp}
 use Rattle.std.specs.FinMap.{get, get-empty}
 use Rattle.parcel_sets.specs.Filled.{is_filled, AreFilledAlike}
-use Rattle.volume_values.specs.Directories.{DirectoryValue, added}
-use Rattle.volume_values.specs.Inodes.{InodeKind, Inode, inode_of, inode_created, inode_unmade, inode_set}
-use Rattle.volume_values.specs.Logical.{LogicalValue}
-use Rattle.volume_values.specs.Maps.{changed_at, changed_value}
-use Rattle.volume_values.specs.Stripes.{StripeValue, Card}
-use Rattle.volume_values.specs.lemmas.Inodes.{unmade-created, made-last}
-use Rattle.volume_values.specs.lemmas.Numbered.{remove-absent}
-use Rattle.held_state.specs.Contents.{each}
-use Rattle.held_state.specs.Names.{root}
-use Rattle.held_state.specs.Parcels.{no_stripe}
-use Rattle.held_state.specs.Tree.{stripe_at}
-use Rattle.held_state.specs.Sets.{FilerLogical, FilerStripe, stripe_value, placed, in_one, logical_before, logical_after}
-use Rattle.held_laws.specs.lemmas.Each.{each-same, each-map, each-index, get-there}
-use Rattle.held_changes.specs.NodesMade.{card_made, directories_made, node_made}
-use Rattle.held_changes.specs.Making.{making_of}
+use Rattle.nfs_model.specs.volume.Directories.{DirectoryValue, added}
+use Rattle.nfs_model.specs.volume.Inodes.{InodeKind, Inode, inode_of, inode_created, inode_unmade, inode_set}
+use Rattle.nfs_model.specs.volume.Logical.{LogicalValue}
+use Rattle.nfs_model.specs.volume.Maps.{changed_at, changed_value}
+use Rattle.nfs_model.specs.volume.Stripes.{StripeValue, Card}
+use Rattle.nfs_model.specs.volume.lemmas.Inodes.{unmade-created, made-last}
+use Rattle.nfs_model.specs.volume.lemmas.Numbered.{remove-absent}
+use Rattle.parcels.specs.state.Contents.{each}
+use Rattle.parcels.specs.state.Names.{root}
+use Rattle.parcels.specs.state.Parcels.{no_stripe}
+use Rattle.parcels.specs.state.Tree.{stripe_at}
+use Rattle.parcels.specs.state.Sets.{FilerLogical, FilerStripe, stripe_value, placed, in_one, logical_before, logical_after}
+use Rattle.parcels.specs.laws.lemmas.Each.{each-same, each-map, each-index, get-there}
+use Rattle.parcels.specs.changes.NodesMade.{card_made, directories_made, node_made}
+use Rattle.parcels.specs.changes.Making.{making_of}
 use Rattle.service_names.specs.declared.within.Within.{Within}
 use Rattle.service_names.specs.Cards.{InFirst, place_dropped, DiffersByCard, HasCard, IsDropped}
 use Rattle.service_names.specs.Making.{MayMake, naming_within, inode_dated, without_directory, node_unmade}

@@ -1,9 +1,9 @@
 -- Cards in the places of a volume's stripes, as a call that makes a node puts them, or takes them out again.
 use Rattle.std.specs.Prelude.{◌≡◌, ℕ, ◌<◌, ◌≤◌, true, List, length, Option, Some, None, is_some, slice_get}
-use Rattle.volume_values.specs.Inodes.{InodeKind}
-use Rattle.volume_values.specs.Stripes.{card_dropped}
-use Rattle.held_state.specs.Sets.{FilerStripe, stripe_value}
-use Rattle.held_changes.specs.NodesMade.{card_made}
+use Rattle.nfs_model.specs.volume.Inodes.{InodeKind}
+use Rattle.nfs_model.specs.volume.Stripes.{card_dropped}
+use Rattle.parcels.specs.state.Sets.{FilerStripe, stripe_value}
+use Rattle.parcels.specs.changes.NodesMade.{card_made}
 
 -- the first n of some places are related to what they were; all others are as they were
 pub record InFirst {A : Type 0} (Q : A → A → Type 0) (n : ℕ) (old new : List A) : Type 0 where

@@ -4,15 +4,15 @@ use Rattle.std.specs.FinMap.{get}
 use Rattle.nfs_model.specs.Parts.{most_ranges, range_blocks}
 use Rattle.nfs_model.specs.Server.{Attributes}
 use Rattle.nfs_model.specs.Types.{Moment}
-use Rattle.volume_values.specs.Inodes.{Inode, InodeKind, InodesValue, inode_set}
-use Rattle.held_state.specs.Names.{DirectoryMap}
-use Rattle.volume_values.specs.Logical.{LogicalValue}
-use Rattle.volume_values.specs.Ranges.{with_numbers}
-use Rattle.held_state.specs.Lenses.{LogicalSet}
-use Rattle.held_state.specs.Tree.{stripe_at}
-use Rattle.held_changes.specs.NodesDropped.{without_subdirectories}
-use Rattle.held_changes.specs.NodesMade.{folders_in}
-use Rattle.held_changes.specs.NodesSized.{Sizing, all_freed}
+use Rattle.nfs_model.specs.volume.Inodes.{Inode, InodeKind, InodesValue, inode_set}
+use Rattle.parcels.specs.state.Names.{DirectoryMap}
+use Rattle.nfs_model.specs.volume.Logical.{LogicalValue}
+use Rattle.nfs_model.specs.volume.Ranges.{with_numbers}
+use Rattle.parcels.specs.state.Lenses.{LogicalSet}
+use Rattle.parcels.specs.state.Tree.{stripe_at}
+use Rattle.parcels.specs.changes.NodesDropped.{without_subdirectories}
+use Rattle.parcels.specs.changes.NodesMade.{folders_in}
+use Rattle.parcels.specs.changes.NodesSized.{Sizing, all_freed}
 
 -- numbers that blocks of a volume can have
 abbrev pub AreNumbers : List ℕ → Type 0

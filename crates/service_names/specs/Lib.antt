@@ -6,15 +6,15 @@ pub mod Naming
 pub mod Cards
 pub mod Making
 pub mod lemmas
-pub use Rattle.held_changes.specs.Named as NamedChanges
-pub use Rattle.held_changes.specs.Dropping as DroppingChanges
-pub use Rattle.held_changes.specs.Renaming as RenamingChanges
-pub use Rattle.held_changes.specs.Laws as ChangeLaws
-pub use Rattle.held_changes.specs.AttributeLaws
-pub use Rattle.held_changes.specs.GettingLemmas
-pub use Rattle.held_changes.specs.NameAnswers
-pub use Rattle.held_changes.specs.NameLaws
-pub use Rattle.held_changes.specs.NodesMade
-pub use Rattle.held_changes.specs.NodesDropped
-pub use Rattle.held_changes.specs.NodesMoved
-pub use Rattle.held_changes.specs.NodesSized
+pub use Rattle.parcels.specs.changes.Named as NamedChanges
+pub use Rattle.parcels.specs.changes.Dropping as DroppingChanges
+pub use Rattle.parcels.specs.changes.Renaming as RenamingChanges
+pub use Rattle.parcels.specs.changes.Laws as ChangeLaws
+pub use Rattle.parcels.specs.changes.AttributeLaws
+pub use Rattle.parcels.specs.changes.GettingLemmas
+pub use Rattle.parcels.specs.changes.NameAnswers
+pub use Rattle.parcels.specs.changes.NameLaws
+pub use Rattle.parcels.specs.changes.NodesMade
+pub use Rattle.parcels.specs.changes.NodesDropped
+pub use Rattle.parcels.specs.changes.NodesMoved
+pub use Rattle.parcels.specs.changes.NodesSized

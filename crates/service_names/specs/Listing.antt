@@ -2,9 +2,9 @@
 use Rattle.std.specs.Prelude.{ℕ, Bool, false, not, ◌&&◌, ◌==◌, List, [], ◌∷◌, length}
 use Rattle.nfs_model.specs.Types.{Listed}
 use Rattle.nfs_model.specs.Names.{dot, dot_dot}
-use Rattle.volume_values.specs.Directories.{Page}
-use Rattle.volume_values.specs.Logical.{LogicalValue}
-use Rattle.held_changes.specs.NameAnswers.{entries_of}
+use Rattle.nfs_model.specs.volume.Directories.{Page}
+use Rattle.nfs_model.specs.volume.Logical.{LogicalValue}
+use Rattle.parcels.specs.changes.NameAnswers.{entries_of}
 
 abbrev pub entry_here : ℕ → List ℕ → ℕ → Listed
 entry_here cookie name fileid = record { cookie = cookie; name = name; fileid = fileid }

@@ -3,13 +3,13 @@ use Rattle.std.specs.Prelude.{ℕ, Result, Ok, Err, List}
 use Rattle.nfs_model.specs.Types.{Moment}
 use Rattle.nfs_values.specs.Status.{status_of}
 use Rattle.nfs_values.specs.declared.status.Status.{Status}
-use Rattle.volume_values.specs.Inodes as values
-use Rattle.inodes.specs.Inode.{inode_value}
-use Rattle.inodes.specs.declared.inode.Inode.{Inode}
-use Rattle.held_state.specs.Lenses.{LogicalSet}
-use Rattle.held_state.specs.Changes.{LogicalAnswer}
-use Rattle.held_changes.specs.NameAnswers.{entries_of}
-use Rattle.held_changes.specs.Named.{fails, HeldNaming, HeldNode}
+use Rattle.nfs_model.specs.volume.Inodes as values
+use Rattle.volume_logical.specs.inodes.Inode.{inode_value}
+use Rattle.volume_logical.specs.declared.inodes.inode.Inode.{Inode}
+use Rattle.parcels.specs.state.Lenses.{LogicalSet}
+use Rattle.parcels.specs.state.Changes.{LogicalAnswer}
+use Rattle.parcels.specs.changes.NameAnswers.{entries_of}
+use Rattle.parcels.specs.changes.Named.{fails, HeldNaming, HeldNode}
 use Rattle.service_names.specs.declared.node.Node.{Node}
 
 -- a node as the parcels have it

@@ -2,18 +2,18 @@
 
 ghost use Rattle.std.specs.Prelude.{◌≡◌, ◌≤◌, map, OnOk};
 ghost use Rattle.parcel_sets.specs.Filled.{logical_alike};
-ghost use Rattle.inodes.specs.Inode.{kind_value};
-ghost use Rattle.held_state.specs.Sets.{logical_before, logical_after};
-ghost use Rattle.held_changes.specs.NodesMade.{card_made};
-ghost use Rattle.volume_values.specs.Stripes.{card_dropped};
+ghost use Rattle.volume_logical.specs.inodes.Inode.{kind_value};
+ghost use Rattle.parcels.specs.state.Sets.{logical_before, logical_after};
+ghost use Rattle.parcels.specs.changes.NodesMade.{card_made};
+ghost use Rattle.nfs_model.specs.volume.Stripes.{card_dropped};
 ghost use Rattle.service_names.specs.Cards.{InFirst, DiffersByCard, HasCard, IsDropped};
 
-use inodes::InodeKind;
 use nfs_values::Fileid;
 use parcel_sets::{LogicalHeld, StripeHeld};
 use parcels::Files;
 use std::alloc::AllocError;
 use stripes::Stripe;
+use volume_logical::inodes::InodeKind;
 
 /// Puts the card of a new node into each stripe of its volume. Where memory runs out some stripes
 /// may have it.

@@ -3,10 +3,10 @@
 ghost use Rattle.std.specs.Prelude.{◌≡◌, ◌-◌, length, is_some, map, IsSome};
 ghost use Rattle.std.specs.FinMap.{get};
 ghost use Rattle.parcel_sets.specs.Filled.{logical_alike};
-ghost use Rattle.volume_values.specs.Ranges.{with_numbers};
-ghost use Rattle.volume_values.specs.Stripes.{cut, numbers_freed};
-ghost use Rattle.held_changes.specs.NodesSized.{all_freed, stripe_sized};
-ghost use Rattle.held_state.specs.Sets.{logical_before, logical_after, stripe_value};
+ghost use Rattle.nfs_model.specs.volume.Ranges.{with_numbers};
+ghost use Rattle.nfs_model.specs.volume.Stripes.{cut, numbers_freed};
+ghost use Rattle.parcels.specs.changes.NodesSized.{all_freed, stripe_sized};
+ghost use Rattle.parcels.specs.state.Sets.{logical_before, logical_after, stripe_value};
 ghost use Rattle.service_names.specs.Changing.{AreNumbers, MayBeSet, with_dead};
 
 use nfs_values::Fileid;

@@ -1,9 +1,9 @@
 //! LOOKUP.
 
 ghost use Rattle.std.specs.Prelude.{◌≡◌, []};
-ghost use Rattle.held_state.specs.Lenses.{logical_lens};
-ghost use Rattle.held_state.specs.Promises.{HasVolume};
-ghost use Rattle.held_state.specs.Sets.{logical_before};
+ghost use Rattle.parcels.specs.state.Lenses.{logical_lens};
+ghost use Rattle.parcels.specs.state.Promises.{HasVolume};
+ghost use Rattle.parcels.specs.state.Sets.{logical_before};
 ghost use Rattle.service_names.specs.Promises.{LooksUp};
 
 use crate::folder::folder_at;

@@ -21,19 +21,19 @@ ghost use Rattle.nfs_model.specs.Server.{most_inodes};
 ghost use Rattle.nfs_values.specs.Answer.{node_made as made_told};
 ghost use Rattle.nfs_values.specs.Moment.{moment_of};
 ghost use Rattle.parcel_sets.specs.Filled.{logical_alike};
-ghost use Rattle.inodes.specs.Inode.{inode_value, kind_value};
-ghost use Rattle.volume_values.specs.Directories.{added, found};
-ghost use Rattle.volume_values.specs.Inodes.{filled_blocks, inode_created, inode_of, inode_set};
-ghost use Rattle.volume_values.specs.Maps.{changed_at};
-ghost use Rattle.held_state.specs.Names.{subdirectories_in};
-ghost use Rattle.held_state.specs.Sets.{logical_before, logical_after};
-ghost use Rattle.held_changes.specs.NodesMade.{
+ghost use Rattle.volume_logical.specs.inodes.Inode.{inode_value, kind_value};
+ghost use Rattle.nfs_model.specs.volume.Directories.{added, found};
+ghost use Rattle.nfs_model.specs.volume.Inodes.{filled_blocks, inode_created, inode_of, inode_set};
+ghost use Rattle.nfs_model.specs.volume.Maps.{changed_at};
+ghost use Rattle.parcels.specs.state.Names.{subdirectories_in};
+ghost use Rattle.parcels.specs.state.Sets.{logical_before, logical_after};
+ghost use Rattle.parcels.specs.changes.NodesMade.{
   directories_made,
   folders_in,
   node_made,
   with_subdirectories,
 };
-ghost use Rattle.held_changes.specs.Making.{held_made, making_of};
+ghost use Rattle.parcels.specs.changes.Making.{held_made, making_of};
 ghost use Rattle.service_names.specs.Cards.{InFirst, DiffersByCard, HasCard, IsDropped};
 ghost use Rattle.service_names.specs.Changing.{with_directories, with_inodes};
 ghost use Rattle.service_names.specs.Making.{
@@ -50,12 +50,12 @@ use crate::child::directory_change;
 use crate::node::Node;
 use crate::showing::shown;
 use crate::within::Within;
-use directories::Directory;
-use inodes::{Inode, InodeKind, StoredAttributes};
 use nfs_values::{FileHandle, Fileid, MakeResults, Name, Named};
 use parcel_sets::LogicalHeld;
 use parcels::Files;
 use std::alloc::{AllocError, Global};
+use volume_logical::directories::Directory;
+use volume_logical::inodes::{Inode, InodeKind, StoredAttributes};
 
 /// Makes a node under a name of a directory, and tells it. Where memory runs out nothing has
 /// changed.

@@ -8,8 +8,8 @@ ghost use Rattle.nfs_values.specs.Credential.{credential_of};
 ghost use Rattle.nfs_values.specs.Set.{mode_of, set_of};
 ghost use Rattle.nfs_values.specs.Status.{status_of};
 ghost use Rattle.parcel_sets.specs.Filled.{logical_alike};
-ghost use Rattle.held_state.specs.Sets.{logical_before, logical_after};
-ghost use Rattle.held_changes.specs.Making.{
+ghost use Rattle.parcels.specs.state.Sets.{logical_before, logical_after};
+ghost use Rattle.parcels.specs.changes.Making.{
   create_by,
   create_check,
   is_full_set,

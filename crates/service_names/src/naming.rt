@@ -5,8 +5,8 @@ ghost use Rattle.std.specs.List.{list_any};
 ghost use Rattle.std.specs.Option.{option_map};
 ghost use Rattle.nfs_model.specs.Names.{same_name, name_fault};
 ghost use Rattle.nfs_values.specs.Status.{status_of};
-ghost use Rattle.directories.specs.Index.{fileid_number};
-ghost use Rattle.held_changes.specs.NameAnswers.{entries_of, fileid_named};
+ghost use Rattle.volume_logical.specs.directories.Index.{fileid_number};
+ghost use Rattle.parcels.specs.changes.NameAnswers.{entries_of, fileid_named};
 
 use nfs_values::{Fileid, Status};
 use parcel_sets::LogicalHeld;

@@ -6,16 +6,16 @@ ghost use Rattle.std.specs.Option.{option_map};
 ghost use Rattle.nfs_model.specs.Shown.{moment_le, same_moment};
 ghost use Rattle.nfs_values.specs.Moment.{moment_of};
 ghost use Rattle.parcel_sets.specs.Filled.{logical_alike};
-ghost use Rattle.volume_values.specs.Stripes.{touch_of, touch_taken};
-ghost use Rattle.stripe_cards.specs.Cards.{card_of};
-ghost use Rattle.held_state.specs.Changes.{touches_taken};
-ghost use Rattle.held_state.specs.Sets.{logical_before, logical_after, stripe_value};
-ghost use Rattle.held_state.specs.Tree.{file_touch, later};
+ghost use Rattle.nfs_model.specs.volume.Stripes.{touch_of, touch_taken};
+ghost use Rattle.stripes.specs.cards.Cards.{card_of};
+ghost use Rattle.parcels.specs.state.Changes.{touches_taken};
+ghost use Rattle.parcels.specs.state.Sets.{logical_before, logical_after, stripe_value};
+ghost use Rattle.parcels.specs.state.Tree.{file_touch, later};
 
 use nfs_values::{Fileid, Moment};
 use parcel_sets::{LogicalHeld, StripeHeld};
 use parcels::Files;
-use stripe_cards::Card;
+use stripes::cards::Card;
 
 /// The latest touch of a file in the stripes of its volume.
 pub(crate) fn latest_touch(held: &LogicalHeld<Files>, fileid: Fileid) -> Option<Moment>

@@ -6,7 +6,7 @@ use Rattle.std.proofs.lemmas.List.FromFn.{fill_by_all}
 use Rattle.std.proofs.lemmas.Bool.{cases_lt}
 use Rattle.std.proofs.lemmas.Bool.Decides.{nat_tests}
 use borrow.Rule.Slice.PartMut.{put_mid}
-use Rattle.volume_values.specs.Stripes.{Block, byte_written, byte_cut, block_mapped}
+use Rattle.nfs_model.specs.volume.Stripes.{Block, byte_written, byte_cut, block_mapped}
 use Rattle.nfs_model.specs.Server.{block_size}
 use Rattle.stripes.specs.Bytes.{bytes_mapped}
 

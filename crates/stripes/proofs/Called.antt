@@ -8,7 +8,7 @@ use Rattle.std.specs.FinMap.{get}
 use Rattle.nfs_model.specs.Server.{block_size}
 use Rattle.nfs_model.specs.Home.{span_bytes}
 use Rattle.nfs_model.specs.Serial.Write.{blocks_met}
-use Rattle.volume_values.specs.Stripes.{Block, span_blocks, byte_of}
+use Rattle.nfs_model.specs.volume.Stripes.{Block, span_blocks, byte_of}
 use Rattle.stripes.specs.Spans.{Places, Spans, place_in, span_at, span_read, span_byte, span_is_filled, last_met, blocks_of, blocks_read, IsSpans, IsLong}
 use Rattle.stripes.specs.Spans.{SameSpans, ChangesSpan, Where, Stays, WritesSpan, CutsSpan, Puts, HasNoneFrom, cut_blocks, IsFirstPast}
 use Rattle.stripes.proofs.Ranges.{same-maps, blocks-met}

@@ -11,9 +11,9 @@ use Rattle.std.specs.BTreeMap.{is_at}
 use Rattle.std.specs.FinMap.{FinMap, get, retain_keys, get-retain_keys, same_map}
 use Rattle.nfs_model.specs.Server.{block_size}
 use Rattle.nfs_model.specs.Home.{span_bytes}
-use Rattle.volume_values.specs.Maps.{map_values}
-use Rattle.volume_values.specs.lemmas.Entries.{place_total, place_same}
-use Rattle.volume_values.specs.Stripes.{Block, Place, place_cmp, span_blocks, block_mapped, file_mapped, byte_cut, is_past}
+use Rattle.nfs_model.specs.volume.Maps.{map_values}
+use Rattle.nfs_model.specs.volume.lemmas.Entries.{place_total, place_same}
+use Rattle.nfs_model.specs.volume.Stripes.{Block, Place, place_cmp, span_blocks, block_mapped, file_mapped, byte_cut, is_past}
 use Rattle.stripes.specs.Spans.{Places, Spans, place_of, span_of, block_at, span_at, blocks_of, AllFilled, IsSpans, ChangesSpan, Where, CutsSpan, HasBlock}
 use Rattle.stripes.specs.Spans.{HasNoneFrom, FreesFirst, numbers_past, cut_blocks, IsFirstPast}
 use Rattle.stripes.proofs.Keys.{key-cases, key-apart, upto-span}

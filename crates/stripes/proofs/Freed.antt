@@ -6,8 +6,8 @@ use Rattle.std.specs.Ordering.{eq_by_cmp}
 use Rattle.std.specs.BTreeMap.{is_at}
 use Rattle.std.specs.FinMap.{FinMap, get, insert, entries, find, get-entries, get-insert, entries-insert, same_map}
 use Rattle.std.specs.FinMap.Entries.{put, by_order}
-use Rattle.volume_values.specs.Stripes.{Block, Place, place_cmp}
-use Rattle.volume_values.specs.lemmas.Entries.{place_total, place_same}
+use Rattle.nfs_model.specs.volume.Stripes.{Block, Place, place_cmp}
+use Rattle.nfs_model.specs.volume.lemmas.Entries.{place_total, place_same}
 use Rattle.stripes.proofs.Keys.{key-cases, key-itself, key-turned}
 
 abbrev PlacedBlock : Type 0

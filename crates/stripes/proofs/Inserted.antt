@@ -5,8 +5,8 @@ use Rattle.std.proofs.lemmas.Option.{same_Some}
 use Rattle.std.specs.BTreeMap.{is_at}
 use Rattle.std.specs.FinMap.{insert, get-insert, same_map}
 use Rattle.nfs_model.specs.Server.{block_size}
-use Rattle.volume_values.specs.lemmas.Entries.{place_total, place_same}
-use Rattle.volume_values.specs.Stripes.{Block, Place, place_cmp, span_blocks}
+use Rattle.nfs_model.specs.volume.lemmas.Entries.{place_total, place_same}
+use Rattle.nfs_model.specs.volume.Stripes.{Block, Place, place_cmp, span_blocks}
 use Rattle.stripes.specs.Spans.{Places, Spans, place_of, span_of, block_at, span_at, blocks_of, AllFilled, IsSpans, ChangesSpan, Puts, HasBlock}
 use Rattle.stripes.proofs.Keys.{key-cases, key-turned, key-within, key-other}
 use Rattle.stripes.proofs.Law.{get-blocks_of}

@@ -5,8 +5,8 @@ use Rattle.std.specs.declared.cmp.Ordering.TheVariants.{Less, Equal, Greater}
 use Rattle.std.specs.Ordering.{nat_cmp, is_eq, is_gt, eq_by_cmp, ordering_then}
 use Rattle.std.specs.Cmp.{unsigned_tied, eq_by_cmp_equiv, nat_cmp_is}
 use Rattle.std.specs.BTreeMap.{is_at}
-use Rattle.volume_values.specs.Stripes.{Place, place_cmp, span_blocks}
-use Rattle.volume_values.specs.lemmas.Entries.{place_total, place_same}
+use Rattle.nfs_model.specs.volume.Stripes.{Place, place_cmp, span_blocks}
+use Rattle.nfs_model.specs.volume.lemmas.Entries.{place_total, place_same}
 use Rattle.stripes.specs.Spans.{Places, span_of}
 use Rattle.stripes.proofs.Places.{unlike}
 use Rattle.std.proofs.lemmas.Bool.{cases_eq, cases_lt}

@@ -5,8 +5,8 @@ use Rattle.std.proofs.lemmas.Bool.{cases_eq}
 use Rattle.std.specs.List.{list_any}
 use Rattle.std.specs.BTreeMap.{is_at}
 use Rattle.std.specs.FinMap.{get, find, get-from_entries, same_map}
-use Rattle.volume_values.specs.Stripes.{Block, Place, place_cmp, span_blocks}
-use Rattle.volume_values.specs.lemmas.Entries.{place_total, place_same}
+use Rattle.nfs_model.specs.volume.Stripes.{Block, Place, place_cmp, span_blocks}
+use Rattle.nfs_model.specs.volume.lemmas.Entries.{place_total, place_same}
 use Rattle.stripes.specs.Spans.{Places, Spans, place_in, span_of, block_at, span_at, places_from, all_places, with_entry, present, blocks_of}
 use Rattle.stripes.proofs.Keys.{key-cases, key-test, key-itself}
 

@@ -6,7 +6,7 @@ use Rattle.std.proofs.lemmas.List.FromFn.{fill_by_all, length-map-range_with_len
 use Rattle.std.specs.Option.{option_map}
 use Rattle.nfs_model.specs.Server.{block_size}
 use Rattle.nfs_model.specs.Home.{span_bytes}
-use Rattle.volume_values.specs.Stripes.{Block, Place, span_blocks, block_mapped, file_mapped, byte_written}
+use Rattle.nfs_model.specs.volume.Stripes.{Block, Place, span_blocks, block_mapped, file_mapped, byte_written}
 use Rattle.stripes.proofs.Bytes.{byte_missed}
 use Rattle.stripes.proofs.Places.{unlike}
 

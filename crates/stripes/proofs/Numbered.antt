@@ -7,9 +7,9 @@ use Rattle.std.specs.Option.{option_map}
 use Rattle.std.specs.BTreeMap.{is_at}
 use Rattle.std.specs.FinMap.{FinMap, get, remove, get-remove, same_map}
 use Rattle.nfs_model.specs.Server.{block_size}
-use Rattle.volume_values.specs.lemmas.Maps.{get-changed_at}
-use Rattle.volume_values.specs.lemmas.Entries.{place_total, place_same}
-use Rattle.volume_values.specs.Stripes.{Block, Place, place_cmp, span_blocks}
+use Rattle.nfs_model.specs.volume.lemmas.Maps.{get-changed_at}
+use Rattle.nfs_model.specs.volume.lemmas.Entries.{place_total, place_same}
+use Rattle.nfs_model.specs.volume.Stripes.{Block, Place, place_cmp, span_blocks}
 use Rattle.stripes.specs.Spans.{Places, Spans, place_of, span_of, block_at, span_at, blocks_of, AllFilled, IsSpans, ChangesSpan, Where, NumbersSpan, HasBlock}
 use Rattle.stripes.specs.Spans.{FreesFirst, HasNoneFrom, renumbered, block_renumbered}
 use Rattle.stripes.proofs.Keys.{key-cases, key-turned, key-within, key-other}

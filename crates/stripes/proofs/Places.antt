@@ -4,7 +4,7 @@ use Rattle.std.proofs.Common.{Option, Some, None, inl, inr}
 use Rattle.std.proofs.lemmas.Bool.{cases_eq, cases_lt}
 use Rattle.std.proofs.lemmas.Bool.Decides.{nat_tests}
 use Rattle.std.proofs.lemmas.List.{get_or-set_same, get_or-set_other, get_or-replicate, get_or_past, length-replicate}
-use Rattle.volume_values.specs.Stripes.{Block, span_blocks}
+use Rattle.nfs_model.specs.volume.Stripes.{Block, span_blocks}
 use Rattle.stripes.specs.Spans.{Places, place_of}
 
 pub unlike : (a b : ℕ) → a ≢ b → (a == b) ≡ false

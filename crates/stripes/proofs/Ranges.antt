@@ -6,7 +6,7 @@ use Rattle.std.specs.List.{range_with_len, list_all}
 use Rattle.std.proofs.lemmas.List.{places, length-drop, length-take-le, get_or-replicate, length-replicate}
 use Rattle.std.proofs.lemmas.List.FromFn.{fill_by_all}
 use Rattle.nfs_model.specs.Server.{block_size}
-use Rattle.volume_values.specs.Stripes.{byte_of}
+use Rattle.nfs_model.specs.volume.Stripes.{byte_of}
 use Rattle.nfs_model.specs.Serial.Write.{blocks_met}
 use Rattle.std.proofs.Common.{◌==◌}
 use Rattle.std.proofs.lemmas.Bool.Decides.{nat_tests}

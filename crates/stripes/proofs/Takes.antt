@@ -4,7 +4,7 @@ use Rattle.std.proofs.Common.{None, IfSome, IfNone, get_or}
 use Rattle.std.proofs.lemmas.Bool.{cases_lt}
 use Rattle.std.proofs.lemmas.Option.{same_Some}
 use Rattle.std.specs.BTreeMap.{is_at}
-use Rattle.volume_values.specs.Stripes.{Block, Place, place_cmp, span_blocks}
+use Rattle.nfs_model.specs.volume.Stripes.{Block, Place, place_cmp, span_blocks}
 use Rattle.stripes.specs.Spans.{Places, Spans, place_of, place_in, span_of, block_at, span_at, AllFilled, SameSpans, ChangesSpan, Where, There, Drops, Stays}
 use Rattle.stripes.specs.Spans.{Takes, TakesFirst, TakesNone, IsFirst, HasBlock, HasNoneFrom, FreesFirst}
 use Rattle.stripes.proofs.Keys.{key-cases, key-other, key-within}

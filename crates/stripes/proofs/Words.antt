@@ -9,10 +9,10 @@ use Rattle.std.specs.BTreeMap.{is_at}
 use Rattle.std.specs.FinMap.{same_map}
 use Rattle.nfs_model.specs.Server.{block_size}
 use Rattle.nfs_model.specs.Home.{span_bytes}
-use Rattle.volume_values.specs.Maps.{map_values}
-use Rattle.volume_values.specs.lemmas.Maps.{get-map_values}
-use Rattle.volume_values.specs.lemmas.Entries.{place_total, place_same}
-use Rattle.volume_values.specs.Stripes.{Block, Place, place_cmp, span_blocks, block_mapped, file_mapped, byte_written}
+use Rattle.nfs_model.specs.volume.Maps.{map_values}
+use Rattle.nfs_model.specs.volume.lemmas.Maps.{get-map_values}
+use Rattle.nfs_model.specs.volume.lemmas.Entries.{place_total, place_same}
+use Rattle.nfs_model.specs.volume.Stripes.{Block, Place, place_cmp, span_blocks, block_mapped, file_mapped, byte_written}
 use Rattle.stripes.specs.Spans.{Places, Spans, place_of, place_in, span_of, block_at, span_at, blocks_of, last_met, AllFilled, IsSpans, ChangesSpan, Where}
 use Rattle.stripes.specs.Spans.{WritesSpan, HasBlock}
 use Rattle.stripes.proofs.Keys.{key-cases, key-apart}

@@ -6,7 +6,7 @@ use Rattle.std.proofs.lemmas.Bool.{cases_eq}
 use Rattle.std.proofs.lemmas.Bool.Decides.{nat_tests}
 use Rattle.std.proofs.lemmas.List.{get_or-set_same, get_or-set_other}
 use Rattle.nfs_model.specs.Home.{span_bytes}
-use Rattle.volume_values.specs.Stripes.{Block, span_blocks, block_mapped, byte_written}
+use Rattle.nfs_model.specs.volume.Stripes.{Block, span_blocks, block_mapped, byte_written}
 use Rattle.stripes.specs.Spans.{Places, place_of, WritesBlocks}
 use Rattle.stripes.proofs.Places.{at-place}
 

@@ -6,11 +6,11 @@ use Rattle.std.specs.Option.{option_map}
 use Rattle.std.specs.Map.{lookup}
 use Rattle.std.specs.BTreeMap.{is_at}
 use Rattle.std.specs.FinMap.{FinMap, from_entries, entries, get, retain_keys}
-use Rattle.volume_values.specs.Maps.{map_values, changed_at}
+use Rattle.nfs_model.specs.volume.Maps.{map_values, changed_at}
 use Rattle.nfs_model.specs.Server.{block_size}
 use Rattle.nfs_model.specs.Home.{span_bytes}
 use Rattle.nfs_model.specs.Serial.Write.{blocks_met}
-use Rattle.volume_values.specs.Stripes.{Block, Place, place_cmp, span_blocks, byte_of, byte_written, byte_cut, block_mapped, file_mapped, is_past}
+use Rattle.nfs_model.specs.volume.Stripes.{Block, Place, place_cmp, span_blocks, byte_of, byte_written, byte_cut, block_mapped, file_mapped, is_past}
 
 -- the places of a span
 abbrev pub Places : Type 0

@@ -2,7 +2,7 @@
 
 ghost use Rattle.std.specs.Prelude.{◌≡◌, ◌+◌, ◌*◌, ◌/◌, ◌≤◌, ◌<◌, ◌^◌, length, IfOk};
 ghost use Rattle.nfs_model.specs.Server.{block_size};
-ghost use Rattle.volume_values.specs.Stripes.{zero_block, block_mapped, byte_written, byte_cut};
+ghost use Rattle.nfs_model.specs.volume.Stripes.{zero_block, block_mapped, byte_written, byte_cut};
 ghost use Rattle.stripes.specs.Bytes.{bytes_mapped};
 ghost use Rattle.stripes.specs.Spans.{renumbered};
 
@@ -23,8 +23,8 @@ pub struct Block {
 impl Model for Block {
     ghost use Rattle.std.specs.Prelude.{◌≡◌, length};
     ghost use Rattle.nfs_model.specs.Server.{block_size};
-    ghost use Rattle.volume_values.specs.Stripes as values;
-    ghost use Rattle.volume_values.specs.Codes.{coded_block};
+    ghost use Rattle.nfs_model.specs.volume.Stripes as values;
+    ghost use Rattle.nfs_model.specs.volume.Codes.{coded_block};
 
     ghost Value = { values.Block };
 

@@ -24,8 +24,8 @@ ghost use Rattle.std.specs.List.{list_all};
 ghost use Rattle.std.specs.Vec.{vec_len, vec_capacity};
 ghost use Rattle.nfs_model.specs.Home.{span_bytes};
 ghost use Rattle.nfs_model.specs.Serial.Write.{blocks_met};
-ghost use Rattle.volume_values.specs.Maps.{map_values};
-ghost use Rattle.volume_values.specs.Stripes.{zero_block, file_mapped, byte_written};
+ghost use Rattle.nfs_model.specs.volume.Maps.{map_values};
+ghost use Rattle.nfs_model.specs.volume.Stripes.{zero_block, file_mapped, byte_written};
 ghost use Rattle.stripes.specs.Spans.{
   blocks_read,
   block_renumbered,
@@ -56,9 +56,9 @@ impl Model for Blocks {
     ghost use Rattle.std.specs.FinMap.{FinMap};
     ghost use Rattle.std.specs.FinMap as maps;
     ghost use Rattle.std.specs.Coded.{coded×, coded_ℕ};
-    ghost use Rattle.volume_values.specs.Stripes.{place_cmp};
-    ghost use Rattle.volume_values.specs.Stripes as values;
-    ghost use Rattle.volume_values.specs.Codes.{coded_block};
+    ghost use Rattle.nfs_model.specs.volume.Stripes.{place_cmp};
+    ghost use Rattle.nfs_model.specs.volume.Stripes as values;
+    ghost use Rattle.nfs_model.specs.volume.Codes.{coded_block};
     ghost use Rattle.stripes.specs.Spans.{blocks_of, IsSpans};
 
     ghost Value = { FinMap place_cmp values.Block };

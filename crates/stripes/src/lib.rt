@@ -3,6 +3,7 @@
 
 mod block;
 mod blocks;
+pub mod cards;
 mod span;
 mod spans;
 mod stripe;

@@ -30,7 +30,7 @@ ghost use Rattle.std.specs.Vec.{vec_len, vec_capacity};
 ghost use Rattle.nfs_model.specs.Server.{block_size};
 ghost use Rattle.nfs_model.specs.Home.{span_bytes};
 ghost use Rattle.nfs_model.specs.Serial.Write.{blocks_met};
-ghost use Rattle.volume_values.specs.Stripes.{
+ghost use Rattle.nfs_model.specs.volume.Stripes.{
   span_blocks,
   block_mapped,
   byte_of,
@@ -72,8 +72,8 @@ pub struct Span {
 impl Model for Span {
     ghost use Rattle.std.specs.Prelude.{◌≡◌, length};
     ghost use Rattle.std.specs.Coded.{coded_list, coded_option};
-    ghost use Rattle.volume_values.specs.Stripes.{span_blocks};
-    ghost use Rattle.volume_values.specs.Codes.{coded_block};
+    ghost use Rattle.nfs_model.specs.volume.Stripes.{span_blocks};
+    ghost use Rattle.nfs_model.specs.volume.Codes.{coded_block};
     ghost use Rattle.stripes.specs.Spans.{Places};
 
     ghost Value = { Places };

@@ -31,7 +31,7 @@ ghost use Rattle.std.specs.List.{range_with_len, list_all};
 ghost use Rattle.std.specs.Vec.{vec_len, vec_capacity};
 ghost use Rattle.nfs_model.specs.Home.{span_bytes};
 ghost use Rattle.nfs_model.specs.Serial.Write.{blocks_met};
-ghost use Rattle.volume_values.specs.Stripes.{span_blocks};
+ghost use Rattle.nfs_model.specs.volume.Stripes.{span_blocks};
 ghost use Rattle.stripes.specs.Spans.{
   span_at,
   span_is_filled,

@@ -24,7 +24,7 @@ ghost use Rattle.std.specs.Option.{option_map};
 ghost use Rattle.std.specs.Vec.{vec_len, vec_capacity};
 ghost use Rattle.nfs_model.specs.Home.{span_bytes};
 ghost use Rattle.nfs_values.specs.Moment.{moment_of};
-ghost use Rattle.volume_values.specs.Stripes.{
+ghost use Rattle.nfs_model.specs.volume.Stripes.{
   IsStripe,
   empty_stripe,
   bytes_read,
@@ -43,13 +43,13 @@ ghost use Rattle.volume_values.specs.Stripes.{
   cut,
   numbers_freed,
 };
-ghost use Rattle.stripe_cards.specs.Cards.{card_of};
+ghost use Rattle.stripes.specs.cards.Cards.{card_of};
 
 use crate::blocks::Blocks;
+use crate::cards::{Card, Cards};
 use nfs_values::{BlockNumber, Fileid, Moment, Verifier};
 use std::alloc::{AllocError, Global};
 use std::marker::Model;
-use stripe_cards::{Card, Cards};
 
 /// A stripe of a volume: a card of each inode, and the blocks of the spans that lie in it.
 pub struct Stripe {
@@ -74,8 +74,8 @@ impl Drop for Stripe {
 }
 
 impl Model for Stripe {
-    ghost use Rattle.volume_values.specs.Stripes.{StripeValue};
-    ghost use Rattle.volume_values.specs.Codes.{coded_stripe};
+    ghost use Rattle.nfs_model.specs.volume.Stripes.{StripeValue};
+    ghost use Rattle.nfs_model.specs.volume.Codes.{coded_stripe};
     ghost use Rattle.stripes.specs.Spans.{IsLong};
 
     ghost Value = { StripeValue };

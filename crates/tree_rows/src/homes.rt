@@ -2,7 +2,7 @@
 
 use crate::holds::holds;
 use crate::layouts::two_volumes;
-use affinity::home_of;
+use affinity_tree::homes::home_of;
 use affinity_tree::{Affinity, Layout};
 use nfs_values::{
     Call, Cookie, CreateMode, FileHandle, Name, SetAttributes, SetTime, Target, Verifier,

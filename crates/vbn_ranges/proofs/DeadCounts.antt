@@ -11,7 +11,7 @@ use borrow.Author.Tests.{eqb-true}
 use Rattle.std.proofs.lemmas.Bool.{cases_lt}
 use Rattle.nfs_model.specs.Parts.{range_blocks, most_ranges, most_carried}
 use Rattle.nfs_model.specs.Moves.{in_range, first_filled, lowest_batch}
-use Rattle.volume_values.specs.Ranges.{with_numbers, without_numbers, IsOfVolume}
+use Rattle.nfs_model.specs.volume.Ranges.{with_numbers, without_numbers, IsOfVolume}
 use Rattle.nfs_values.specs.declared.number.BlockNumber.{BlockNumber}
 use Rattle.std.specs.Option.{IfSome, IfNone, option_map}
 use Rattle.vbn_ranges.specs.Batch.{numbers, first_of}

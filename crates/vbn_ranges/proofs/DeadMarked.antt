@@ -11,7 +11,7 @@ use Rattle.std.specs.FinSet.{FinSet, contains, union, len, from_list, len-empty,
 use Rattle.std.specs.FinSet.{same_set, nat_cmp-IsAntisymmetric}
 use borrow.Author.Tests.{eqb-true}
 use Rattle.nfs_model.specs.Parts.{range_blocks, most_ranges}
-use Rattle.volume_values.specs.Ranges.{with_numbers}
+use Rattle.nfs_model.specs.volume.Ranges.{with_numbers}
 use Rattle.vbn_ranges.specs.Marks.{MarksValue, IsMarks, no_marks, marked}
 use Rattle.vbn_ranges.specs.Dead.{all_of, AreDead}
 use Rattle.vbn_ranges.proofs.Rising.{is_in, ascending}

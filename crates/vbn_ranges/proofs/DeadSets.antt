@@ -13,7 +13,7 @@ use Rattle.std.proofs.lemmas.List.Folds.{list_any-append}
 use borrow.Author.Tests.{eqb-true}
 use Rattle.nfs_model.specs.Parts.{range_blocks, most_carried}
 use Rattle.nfs_model.specs.Moves.{in_range, first_filled}
-use Rattle.volume_values.specs.Ranges.{with_numbers, without_numbers, IsOfVolume}
+use Rattle.nfs_model.specs.volume.Ranges.{with_numbers, without_numbers, IsOfVolume}
 use Rattle.vbn_ranges.specs.Marks.{MarksValue, no_marks, lowest_marked, marked, unmarked, IsMarks}
 use Rattle.vbn_ranges.specs.Dead.{all_of, AreNumbered, AreDead, lowest_dead}
 use Rattle.vbn_ranges.proofs.Rising.{is_in, Rising, rising-weaker, rising-front, within-rising}

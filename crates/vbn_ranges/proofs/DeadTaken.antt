@@ -5,7 +5,7 @@ use Rattle.std.proofs.lemmas.List.{set-get_or}
 use Rattle.std.proofs.lemmas.Bool.Decides.{nat_tests}
 use Rattle.std.specs.Ordering.{nat_cmp}
 use Rattle.std.specs.FinSet.{FinSet}
-use Rattle.volume_values.specs.Ranges.{without_numbers}
+use Rattle.nfs_model.specs.volume.Ranges.{without_numbers}
 use Rattle.vbn_ranges.specs.Marks.{MarksValue, IsMarks, lowest_marked, unmarked}
 use Rattle.vbn_ranges.specs.Dead.{all_of, AreNumbered, lowest_dead}
 use Rattle.vbn_ranges.proofs.Ranged.{not-both}

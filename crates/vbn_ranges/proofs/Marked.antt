@@ -12,7 +12,7 @@ use Rattle.std.specs.Cmp.{nat_cmp_total}
 use Rattle.std.specs.FinSet.{FinSet, contains, from_list, contains-union, contains-from_list_nat, same_set, nat_cmp-IsAntisymmetric}
 use Rattle.nfs_model.specs.Parts.{range_blocks, most_carried}
 use Rattle.nfs_model.specs.Moves.{in_range}
-use Rattle.volume_values.specs.Ranges.{with_numbers, without_numbers}
+use Rattle.nfs_model.specs.volume.Ranges.{with_numbers, without_numbers}
 use Rattle.vbn_ranges.specs.Words.{bits_from, members, set_of, has_bit}
 use Rattle.vbn_ranges.specs.Marks.{MarksValue, marks_of, no_marks, all_marks, marked, unmarked, IsMarks}
 use Rattle.vbn_ranges.proofs.Rising.{is_in, Rising, filter-rising, not-below, within-rising, set-left}

@@ -8,7 +8,7 @@ use Rattle.std.specs.FinSet.{FinSet, contains, from_list, contains-empty, contai
 use Rattle.std.specs.FinSet.{same_set, nat_cmp-IsAntisymmetric}
 use borrow.Author.Tests.{eqb-true}
 use Rattle.nfs_model.specs.Parts.{range_blocks, range_of, IsBatch}
-use Rattle.volume_values.specs.Ranges.{RangeValue, unused_range, range_numbers, taken, given, MayBeGiven, IsRange, put_in_use}
+use Rattle.nfs_model.specs.volume.Ranges.{RangeValue, unused_range, range_numbers, taken, given, MayBeGiven, IsRange, put_in_use}
 use Rattle.vbn_ranges.specs.Marks.{MarksValue}
 use Rattle.vbn_ranges.specs.Batch.{IsOfOneRange, batch_range}
 use Rattle.vbn_ranges.proofs.Rising.{is_in, Rising, within-rising}

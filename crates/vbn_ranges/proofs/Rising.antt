@@ -9,7 +9,7 @@ use Rattle.std.specs.FinSet.{nat_cmp-IsAntisymmetric}
 use Rattle.std.proofs.lemmas.Bool.Decides.{nat_tests}
 use Rattle.std.proofs.lemmas.Bool.{cases_lt}
 use Rattle.nfs_model.specs.Parts.{range_blocks, IsAscending}
-use Rattle.volume_values.specs.Ranges.{without_numbers}
+use Rattle.nfs_model.specs.volume.Ranges.{without_numbers}
 
 -- whether a number is in a list
 abbrev pub is_in : List ℕ → ℕ → Bool

@@ -17,7 +17,7 @@ use Rattle.std.proofs.lemmas.List.{map-append}
 use Rattle.std.proofs.lemmas.List.Folds.{list_any-append}
 use Rattle.nfs_values.specs.declared.number.BlockNumber.{BlockNumber}
 use Rattle.nfs_model.specs.Parts.{IsAscending}
-use Rattle.volume_values.specs.Ranges.{with_numbers, without_numbers}
+use Rattle.nfs_model.specs.volume.Ranges.{with_numbers, without_numbers}
 use Rattle.vbn_ranges.specs.Batch.{numbers, IsOfOneRange}
 use Rattle.vbn_ranges.specs.Stock.{AreApart}
 use Rattle.vbn_ranges.specs.Words.{members, set_of}

@@ -6,7 +6,7 @@ use Rattle.std.specs.FinSet as sets
 use Rattle.std.specs.FinSet.{FinSet, contains, from_list}
 use Rattle.nfs_model.specs.Parts.{range_blocks, most_carried}
 use Rattle.nfs_model.specs.Moves.{in_range}
-use Rattle.volume_values.specs.Ranges.{RangeValue, range_numbers, with_numbers, without_numbers}
+use Rattle.nfs_model.specs.volume.Ranges.{RangeValue, range_numbers, with_numbers, without_numbers}
 use Rattle.vbn_ranges.specs.Words.{set_of}
 
 -- a range, and which of its numbers are marked

@@ -17,7 +17,7 @@ ghost use Rattle.std.specs.FinSet.{len};
 ghost use Rattle.std.specs.Option.{option_map};
 ghost use Rattle.nfs_model.specs.Parts.{most_ranges, range_blocks};
 ghost use Rattle.nfs_model.specs.Moves.{lowest_batch};
-ghost use Rattle.volume_values.specs.Ranges.{with_numbers, without_numbers, IsOfVolume};
+ghost use Rattle.nfs_model.specs.volume.Ranges.{with_numbers, without_numbers, IsOfVolume};
 ghost use Rattle.vbn_ranges.specs.Batch.{first_of};
 ghost use Rattle.vbn_ranges.specs.Dead.{all_of, lowest_dead, lowest_of, AreNumbered};
 

@@ -14,7 +14,7 @@ ghost use Rattle.std.specs.Prelude.{
 };
 ghost use Rattle.std.specs.FinSet.{len};
 ghost use Rattle.nfs_model.specs.Parts.{most_ranges};
-ghost use Rattle.volume_values.specs.Ranges.{
+ghost use Rattle.nfs_model.specs.volume.Ranges.{
   unused_range,
   free_numbers,
   lowest,
@@ -39,8 +39,8 @@ pub struct Range {
 }
 
 impl Model for Range {
-    ghost use Rattle.volume_values.specs.Ranges.{RangeValue, IsRange};
-    ghost use Rattle.volume_values.specs.Codes.{coded_range};
+    ghost use Rattle.nfs_model.specs.volume.Ranges.{RangeValue, IsRange};
+    ghost use Rattle.nfs_model.specs.volume.Codes.{coded_range};
     ghost use Rattle.vbn_ranges.specs.Marks.{range_value};
 
     ghost Value = { RangeValue };

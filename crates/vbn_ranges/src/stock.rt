@@ -17,7 +17,7 @@ ghost use Rattle.std.specs.Prelude.{
 ghost use Rattle.std.specs.List.{AllByRecursion};
 ghost use Rattle.std.specs.FinSet as sets;
 ghost use Rattle.std.specs.FinSet.{contains, len};
-ghost use Rattle.volume_values.specs.Ranges.{with_numbers, without_numbers};
+ghost use Rattle.nfs_model.specs.volume.Ranges.{with_numbers, without_numbers};
 ghost use Rattle.vbn_ranges.specs.Batch.{numbers};
 
 use crate::batch::Batch;

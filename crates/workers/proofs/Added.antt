@@ -5,16 +5,16 @@ use Rattle.affinity_tree.specs.Fault.{fault_of}
 use Rattle.affinity_tree.specs.Numbers.{number_of, parents}
 use Rattle.affinity_tree.specs.Tree.{IsNode}
 use Rattle.affinity_tree.specs.lemmas.Alike.{alike}
-use Rattle.depot_rule.specs.declared.view.Entry.{Entry}
-use Rattle.depot_rule.specs.History.{Legal, SoundThroughout, AreHands, after, put_in, listed}
-use Rattle.depot_rule.specs.Plays.{HasAdded}
-use Rattle.depot_rule.specs.lemmas.Histories.{moved-snoc, starts-itself}
-use Rattle.held_state.specs.Deeds.{ParcelsDo, FilerSteps}
-use Rattle.held_state.specs.Parcels.{FilerParcel}
-use Rattle.held_state.specs.Promises.{HandsMove}
-use Rattle.held_state.specs.Sound.{AreSound, AllSound, IsFiler}
-use Rattle.held_laws.specs.lemmas.Alike.{filer-same}
-use Rattle.held_laws.specs.lemmas.Lawful.{entry-does}
+use Rattle.depot.specs.declared.rule.view.Entry.{Entry}
+use Rattle.depot.specs.rule.History.{Legal, SoundThroughout, AreHands, after, put_in, listed}
+use Rattle.depot.specs.rule.Plays.{HasAdded}
+use Rattle.depot.specs.rule.lemmas.Histories.{moved-snoc, starts-itself}
+use Rattle.parcels.specs.state.Deeds.{ParcelsDo, FilerSteps}
+use Rattle.parcels.specs.state.Parcels.{FilerParcel}
+use Rattle.parcels.specs.state.Promises.{HandsMove}
+use Rattle.parcels.specs.state.Sound.{AreSound, AllSound, IsFiler}
+use Rattle.parcels.specs.laws.lemmas.Alike.{filer-same}
+use Rattle.parcels.specs.laws.lemmas.Lawful.{entry-does}
 use Rattle.parcels.specs.declared.files.Files.{Files}
 use Rattle.service.specs.Jobs.{job_of, job_reply_of, job_steps, job_takes, job_gives}
 use Rattle.workers.specs.Balance.{FilerView, FilerEntry}

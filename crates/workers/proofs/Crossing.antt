@@ -12,16 +12,16 @@ use Rattle.outboxes.specs.contracts.room.Room as Room
 use Rattle.parcel_sets.proofs.family.Parcel.TheSendSync as parcel
 use Rattle.parcels.proofs.range.RangeParcel.TheSendSync as range
 use Rattle.parcels.proofs.stripe.StripeParcel.TheSendSync as stripe
-use Rattle.scheduler.proofs.message.Origin.TheSendSync as origin
-use Rattle.scheduler.specs.contracts.message.Origin as Origin
+use Rattle.affinity_tree.proofs.scheduler.message.Origin.TheSendSync as origin
+use Rattle.affinity_tree.specs.contracts.scheduler.message.Origin as Origin
 use Rattle.service.proofs.batch.BatchInHand.TheSendSync as batch
-use Rattle.shared_waiting.proofs.pass.Pass.TheSendSync as pass
-use Rattle.shared_waiting.proofs.pass.SharedWaiting.TheSendSync as waiting
+use Rattle.workers.proofs.shared_waiting.pass.Pass.TheSendSync as pass
+use Rattle.workers.proofs.shared_waiting.pass.SharedWaiting.TheSendSync as waiting
 use Rattle.workers.specs.contracts.message.Message as Message
 use Rattle.workers.specs.contracts.shared.Filer as Filer
 use Rattle.workers.specs.contracts.worker.Worker as Worker
-use Rattle.crossings.proofs.Outboxes.{room-send, outboxes-send}
-use Rattle.crossings.proofs.Parcels.{logical-parcel-send}
+use Rattle.workers.proofs.crossings.Outboxes.{room-send, outboxes-send}
+use Rattle.workers.proofs.crossings.Parcels.{logical-parcel-send}
 
 pub message-send : IsSend Message.the_row
 message-send = declared_send Message.the_type (

@@ -5,12 +5,12 @@ use Rattle.affinity_tree.specs.Ancestors.{Covers}
 use Rattle.affinity_tree.specs.Numbers.{number_of, parents}
 use Rattle.affinity_tree.specs.Tree.{IsNode}
 use Rattle.affinity_tree.specs.lemmas.Standing.{number-place}
-use Rattle.depot_rule.specs.History.{after, listed}
+use Rattle.depot.specs.rule.History.{after, listed}
 use Rattle.depot.specs.Grants.{IsAfter}
-use Rattle.held_laws.specs.lemmas.Granted.{filer-has}
-use Rattle.held_state.specs.Parcels.{FilerParcel}
-use Rattle.held_state.specs.Running.{HasFiler}
-use Rattle.held_state.specs.Sound.{IsFiler}
+use Rattle.parcels.specs.laws.lemmas.Granted.{filer-has}
+use Rattle.parcels.specs.state.Parcels.{FilerParcel}
+use Rattle.parcels.specs.state.Running.{HasFiler}
+use Rattle.parcels.specs.state.Sound.{IsFiler}
 use Rattle.parcels.specs.declared.files.Files.{Files}
 use Rattle.workers.specs.Balance.{FilerView}
 use Rattle.workers.specs.Turns.{filer_behaviour}

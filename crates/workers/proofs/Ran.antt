@@ -8,24 +8,24 @@ use Rattle.affinity_tree.specs.Numbers.{number_of, parents}
 use Rattle.affinity_tree.specs.Tree.{IsNode}
 use Rattle.affinity_tree.specs.lemmas.Alike.{alike}
 use Rattle.parcel_sets.specs.Exact.{kind_in}
-use Rattle.depot_rule.specs.Sums.{total}
-use Rattle.depot_rule.specs.History.{after, listed, entries_of, AreHands, SoundHistory}
-use Rattle.depot_rule.specs.Plays.{HasAdded}
+use Rattle.depot.specs.rule.Sums.{total}
+use Rattle.depot.specs.rule.History.{after, listed, entries_of, AreHands, SoundHistory}
+use Rattle.depot.specs.rule.Plays.{HasAdded}
 use Rattle.depot.specs.Grants.{entry_of, HasWith, IsBegun, IsAfter, IsStep, IsEnded, IsFinished, IsRefused}
 use Rattle.depot.specs.declared.grants.Refusal.{Refusal}
 use Rattle.depot.specs.declared.grants.Refusal.TheVariants as refusals
 use Rattle.depot.specs.lemmas.Seats.{begun-with, begun-entries, ended-entries, ended-none, finished-entries, finished-none}
-use Rattle.desk_laws.specs.Backing.{CanFinish, CanPutBack}
-use Rattle.held_state.specs.Contents.{VolumeContents, volume_at, contents_of, filer_contents}
-use Rattle.held_state.specs.Jobs as jobs
-use Rattle.held_state.specs.Jobs.{InnerCall, Fetch, Deliver, Cull, Free, Survey, gives, batches_in, inner_node, inner_volume}
-use Rattle.held_state.specs.Deeds.{FilerSteps}
-use Rattle.held_state.specs.Parcels.{FilerParcel}
-use Rattle.held_state.specs.Promises.{HandsMove}
-use Rattle.held_state.specs.Running.{HasFiler, IsRefusedIn, IsRefusedOn}
-use Rattle.held_state.specs.Sound.{AreSound, IsFiler}
-use Rattle.held_laws.specs.lemmas.Alike.{filer-same}
-use Rattle.held_laws.specs.lemmas.Each.{each-get}
+use Rattle.desk.specs.laws.Backing.{CanFinish, CanPutBack}
+use Rattle.parcels.specs.state.Contents.{VolumeContents, volume_at, contents_of, filer_contents}
+use Rattle.parcels.specs.state.Jobs as jobs
+use Rattle.parcels.specs.state.Jobs.{InnerCall, Fetch, Deliver, Cull, Free, Survey, gives, batches_in, inner_node, inner_volume}
+use Rattle.parcels.specs.state.Deeds.{FilerSteps}
+use Rattle.parcels.specs.state.Parcels.{FilerParcel}
+use Rattle.parcels.specs.state.Promises.{HandsMove}
+use Rattle.parcels.specs.state.Running.{HasFiler, IsRefusedIn, IsRefusedOn}
+use Rattle.parcels.specs.state.Sound.{AreSound, IsFiler}
+use Rattle.parcels.specs.laws.lemmas.Alike.{filer-same}
+use Rattle.parcels.specs.laws.lemmas.Each.{each-get}
 use Rattle.parcels.specs.declared.files.Files.{Files}
 use Rattle.service.specs.Inner.{IsHandFor, MayLackMemory, InnerHasRun}
 use Rattle.service.specs.Jobs.{inner_of, job_reply_of, job_takes, job_gives}

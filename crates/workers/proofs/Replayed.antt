@@ -11,18 +11,18 @@ use Rattle.affinity_tree.specs.Fault.{fault_of}
 use Rattle.affinity_tree.specs.Numbers.{number_of, parents}
 use Rattle.affinity_tree.specs.Tree.{IsNode}
 use Rattle.affinity_tree.specs.lemmas.Alike.{alike}
-use Rattle.depot_rule.specs.declared.view.Entry.{Entry}
-use Rattle.depot_rule.specs.History.{behaviour, after, listed, patched, Legal, SoundThroughout, SoundHistory}
-use Rattle.held_state.specs.Parcels.{FilerParcel}
-use Rattle.held_state.specs.Tree.{tree}
-use Rattle.held_state.specs.Opening.{AreOpening}
-use Rattle.held_state.specs.Sound.{AreSound, AllSound, IsFiler}
-use Rattle.held_state.specs.Jobs as jobs
-use Rattle.held_state.specs.Jobs.{Serve}
-use Rattle.held_state.specs.Running.{Enters, finished_at}
-use Rattle.held_laws.specs.lemmas.Alike.{filer-same}
-use Rattle.held_laws.specs.lemmas.Lawful.{steps-local, entry-does}
-use Rattle.held_laws.specs.lemmas.Opening.{opening-tree}
+use Rattle.depot.specs.declared.rule.view.Entry.{Entry}
+use Rattle.depot.specs.rule.History.{behaviour, after, listed, patched, Legal, SoundThroughout, SoundHistory}
+use Rattle.parcels.specs.state.Parcels.{FilerParcel}
+use Rattle.parcels.specs.state.Tree.{tree}
+use Rattle.parcels.specs.state.Opening.{AreOpening}
+use Rattle.parcels.specs.state.Sound.{AreSound, AllSound, IsFiler}
+use Rattle.parcels.specs.state.Jobs as jobs
+use Rattle.parcels.specs.state.Jobs.{Serve}
+use Rattle.parcels.specs.state.Running.{Enters, finished_at}
+use Rattle.parcels.specs.laws.lemmas.Alike.{filer-same}
+use Rattle.parcels.specs.laws.lemmas.Lawful.{steps-local, entry-does}
+use Rattle.parcels.specs.laws.lemmas.Opening.{opening-tree}
 use Rattle.outboxes.specs.Messages as replies
 use Rattle.outboxes.specs.Messages.{record_of}
 use Rattle.outboxes.specs.lemmas.Messages.{record_is}

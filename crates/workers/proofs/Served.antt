@@ -17,18 +17,18 @@ use Rattle.affinity_tree.specs.Fault.{fault_of}
 use Rattle.affinity_tree.specs.Numbers.{number_of, parents}
 use Rattle.affinity_tree.specs.Tree.{IsNode}
 use Rattle.parcel_sets.specs.Exact.{kind_in}
-use Rattle.depot_rule.specs.Shares.{Has}
-use Rattle.depot_rule.specs.History.{after, listed, entries_of, SoundHistory}
-use Rattle.depot_rule.specs.Plays.{HasAdded}
+use Rattle.depot.specs.rule.Shares.{Has}
+use Rattle.depot.specs.rule.History.{after, listed, entries_of, SoundHistory}
+use Rattle.depot.specs.rule.Plays.{HasAdded}
 use Rattle.depot.specs.Grants.{entry_of, HasWith, IsBegun, IsAfter, IsStep, IsEnded, IsFinished, IsRefused}
 use Rattle.depot.specs.declared.grants.Refusal.{Refusal}
 use Rattle.depot.specs.declared.grants.Refusal.TheVariants as refusals
 use Rattle.depot.specs.lemmas.Seats.{begun-with, begun-entries, begun-hand, ended-entries, ended-none, finished-entries, finished-none}
-use Rattle.desk_laws.specs.Backing.{CanFinish, CanPutBack}
-use Rattle.held_state.specs.Jobs as jobs
-use Rattle.held_state.specs.Parcels.{FilerParcel}
-use Rattle.held_state.specs.Deeds.{FilerSteps}
-use Rattle.held_state.specs.Running.{Enters, finished_at}
+use Rattle.desk.specs.laws.Backing.{CanFinish, CanPutBack}
+use Rattle.parcels.specs.state.Jobs as jobs
+use Rattle.parcels.specs.state.Parcels.{FilerParcel}
+use Rattle.parcels.specs.state.Deeds.{FilerSteps}
+use Rattle.parcels.specs.state.Running.{Enters, finished_at}
 use Rattle.parcels.specs.declared.files.Files.{Files}
 use Rattle.outboxes.specs.Boxes.{Addressed, addressed}
 use Rattle.outboxes.specs.Messages as replies

@@ -6,13 +6,13 @@ use Rattle.nfs_model.specs.Tree.{Layout}
 use Rattle.affinity_tree.specs.Numbers.{number_of, parents, node_count}
 use Rattle.affinity_tree.specs.lemmas.Smaller.{length-parents}
 use Rattle.affinity_tree.specs.lemmas.Standing.{number-place}
-use Rattle.depot_rule.specs.History.{entries_of}
-use Rattle.depot_rule.specs.Seats.{fresh}
-use Rattle.depot_rule.specs.Shares.{Has}
-use Rattle.depot_rule.specs.lemmas.Listed.{by-number-at}
+use Rattle.depot.specs.rule.History.{entries_of}
+use Rattle.depot.specs.rule.Seats.{fresh}
+use Rattle.depot.specs.rule.Shares.{Has}
+use Rattle.depot.specs.rule.lemmas.Listed.{by-number-at}
 use Rattle.depot.specs.Words.{first_view}
-use Rattle.held_state.specs.Opening.{AreOpening}
-use Rattle.held_state.specs.Parcels.{FilerParcel}
+use Rattle.parcels.specs.state.Opening.{AreOpening}
+use Rattle.parcels.specs.state.Parcels.{FilerParcel}
 use Rattle.parcels.specs.declared.files.Files.{Files}
 use Rattle.workers.specs.Balance.{FilerView, Passed}
 use Rattle.workers.specs.Words.{HasOpened, HasDoneNothing, IsReady}

@@ -7,16 +7,16 @@ use Rattle.nfs_model.specs.Tree as trees
 use Rattle.nfs_values.specs.declared.moment.Moment.{Moment}
 use Rattle.affinity_tree.specs.declared.layout.Layout.{Layout}
 use Rattle.affinity_tree.specs.Layout.{layout_of}
-use Rattle.depot_rule.specs.declared.view.Entry.{Entry}
-use Rattle.depot_rule.specs.Sums.{total}
-use Rattle.depot_rule.specs.lemmas.Sums.{total-append}
-use Rattle.depot_rule.specs.lemmas.Histories.{moved-snoc}
-use Rattle.depot_rule.specs.History.{AreHands, entries_of}
+use Rattle.depot.specs.declared.rule.view.Entry.{Entry}
+use Rattle.depot.specs.rule.Sums.{total}
+use Rattle.depot.specs.rule.lemmas.Sums.{total-append}
+use Rattle.depot.specs.rule.lemmas.Histories.{moved-snoc}
+use Rattle.depot.specs.rule.History.{AreHands, entries_of}
 use Rattle.outboxes.specs.Boxes.{Addressed}
 use Rattle.service.specs.Jobs.{job_of, job_takes, job_gives}
 use Rattle.service.specs.declared.job.Job.{Job}
 use Rattle.service.specs.declared.job.JobReply.{JobReply}
-use Rattle.shared_waiting.specs.Balance.{Leaves, FitsIn}
+use Rattle.workers.specs.shared_waiting.Balance.{Leaves, FitsIn}
 use Rattle.workers.specs.declared.message.Message.{Message}
 use Rattle.workers.specs.Messages.{IsPlaced, Fits}
 use Rattle.workers.specs.Balance.{Passed, FilerView, FilerEntry, Weight, by_key, by_job, by_entry, by_kept, IsEven}
@@ -30,8 +30,8 @@ use Rattle.workers.specs.declared.turned.Turned.TheVariants as turns
 use Rattle.workers.specs.declared.worker.Worker.{Worker}
 use Rattle.depot.specs.Grants.{IsRefused}
 use Rattle.depot.specs.declared.grants.Refusal.TheVariants as refusals
-use Rattle.held_state.specs.Jobs as jobs
-use Rattle.held_state.specs.Jobs.{takes, gives}
+use Rattle.parcels.specs.state.Jobs as jobs
+use Rattle.parcels.specs.state.Jobs.{takes, gives}
 
 -- ---- the queue's layout
 

@@ -1,15 +1,15 @@
 -- What a worker's type keeps: each message that it picked was finished, put back or is kept.
 use Rattle.std.specs.Prelude.{◌≡◌, ℕ, ◌+◌, List, Option, Some, None}
 use Rattle.affinity_tree.specs.declared.layout.Layout.{Layout}
-use Rattle.depot_rule.specs.declared.view.View as seats
-use Rattle.depot_rule.specs.declared.view.Entry.{Entry}
-use Rattle.depot_rule.specs.Sums.{total}
-use Rattle.held_state.specs.Parcels.{FilerParcel}
+use Rattle.depot.specs.declared.rule.view.View as seats
+use Rattle.depot.specs.declared.rule.view.Entry.{Entry}
+use Rattle.depot.specs.rule.Sums.{total}
+use Rattle.parcels.specs.state.Parcels.{FilerParcel}
 use Rattle.parcels.specs.declared.files.Files.{Files}
 use Rattle.service.specs.declared.job.Job.{Job}
 use Rattle.service.specs.declared.job.Job.TheVariants.{Serve, Inner}
 use Rattle.service.specs.declared.job.JobReply.{JobReply}
-use Rattle.shared_waiting.specs.declared.view.View as queues
+use Rattle.workers.specs.declared.shared_waiting.view.View as queues
 use Rattle.workers.specs.declared.message.Message.{Message}
 
 -- an entry of the history of a filer's depot

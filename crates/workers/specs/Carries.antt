@@ -7,18 +7,18 @@ use Rattle.affinity_tree.specs.declared.affinity.Affinity.TheVariants as nodes
 use Rattle.affinity_tree.specs.Numbers.{number_of}
 use Rattle.affinity_tree.specs.Tree.{IsNode}
 use Rattle.parcel_sets.specs.Exact.{kind_in}
-use Rattle.depot_rule.specs.History.{after, put_in, listed, entries_of, AreHands}
-use Rattle.depot_rule.specs.Plays.{HasAdded}
+use Rattle.depot.specs.rule.History.{after, put_in, listed, entries_of, AreHands}
+use Rattle.depot.specs.rule.Plays.{HasAdded}
 use Rattle.depot.specs.Grants.{IsAfter, IsRefused}
 use Rattle.depot.specs.declared.grants.Refusal.{Refusal}
 use Rattle.depot.specs.declared.grants.Refusal.TheVariants as refusals
-use Rattle.desk_laws.specs.Backing.{IsWhole, IsGranted, IsDone}
-use Rattle.held_state.specs.Contents.{filer_contents}
-use Rattle.held_state.specs.Deeds.{DoesInner}
-use Rattle.held_state.specs.Jobs as jobs
-use Rattle.held_state.specs.Jobs.{InnerCall, JobReply, Took, Gave, gives, batches_in, inner_node}
-use Rattle.held_state.specs.Parcels.{FilerParcel}
-use Rattle.held_state.specs.Running.{IsRefusedIn}
+use Rattle.desk.specs.laws.Backing.{IsWhole, IsGranted, IsDone}
+use Rattle.parcels.specs.state.Contents.{filer_contents}
+use Rattle.parcels.specs.state.Deeds.{DoesInner}
+use Rattle.parcels.specs.state.Jobs as jobs
+use Rattle.parcels.specs.state.Jobs.{InnerCall, JobReply, Took, Gave, gives, batches_in, inner_node}
+use Rattle.parcels.specs.state.Parcels.{FilerParcel}
+use Rattle.parcels.specs.state.Running.{IsRefusedIn}
 use Rattle.parcels.specs.declared.files.Files.{Files}
 use Rattle.service.specs.Inner.{IsHandFor, MayLackMemory, InnerHasRun}
 use Rattle.service.specs.Jobs.{job_of, job_reply_of, job_takes, job_gives}

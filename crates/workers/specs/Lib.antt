@@ -12,3 +12,4 @@ pub mod Carries
 pub use Rattle.service.specs.Jobs
 pub use Rattle.service.specs.Running
 pub use Rattle.service.specs.Hands
+pub mod shared_waiting

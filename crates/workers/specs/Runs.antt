@@ -5,9 +5,9 @@ use Rattle.nfs_values.specs.Moment.{moment_of}
 use Rattle.nfs_values.specs.declared.moment.Moment.{Moment}
 use Rattle.affinity_tree.specs.Affinity.{affinity_of}
 use Rattle.parcel_sets.specs.Exact.{kind_in}
-use Rattle.desk_laws.specs.Books.{Lent}
-use Rattle.desk_laws.specs.Backing.{IsWhole, IsGranted, IsDone}
-use Rattle.held_state.specs.Parcels.{FilerParcel}
+use Rattle.desk.specs.laws.Books.{Lent}
+use Rattle.desk.specs.laws.Backing.{IsWhole, IsGranted, IsDone}
+use Rattle.parcels.specs.state.Parcels.{FilerParcel}
 use Rattle.parcels.specs.declared.files.Files.{Files}
 use Rattle.service.specs.declared.outcome.Outcome.{Outcome}
 use Rattle.service.specs.Running.{HasRun}

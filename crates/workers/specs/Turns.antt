@@ -11,15 +11,15 @@ use Rattle.nfs_values.specs.declared.moment.Moment.{Moment}
 use Rattle.affinity_tree.specs.declared.affinity.Affinity.{Affinity}
 use Rattle.affinity_tree.specs.Affinity.{affinity_of}
 use Rattle.affinity_tree.specs.Numbers.{number_of}
-use Rattle.depot_rule.specs.History.{Behaviour, behaviour, entries_of}
-use Rattle.depot_rule.specs.Plays.{HasAdded}
+use Rattle.depot.specs.rule.History.{Behaviour, behaviour, entries_of}
+use Rattle.depot.specs.rule.Plays.{HasAdded}
 use Rattle.depot.specs.Grants.{IsAfter, IsRefused}
 use Rattle.depot.specs.declared.grants.Refusal.{Refusal}
 use Rattle.depot.specs.declared.grants.Refusal.TheVariants as refusals
-use Rattle.held_state.specs.Jobs as jobs
-use Rattle.held_state.specs.Parcels.{FilerParcel}
-use Rattle.held_state.specs.Running.{MovesTo}
-use Rattle.held_state.specs.Sound.{IsFiler}
+use Rattle.parcels.specs.state.Jobs as jobs
+use Rattle.parcels.specs.state.Parcels.{FilerParcel}
+use Rattle.parcels.specs.state.Running.{MovesTo}
+use Rattle.parcels.specs.state.Sound.{IsFiler}
 use Rattle.parcels.specs.declared.files.Files.{Files}
 use Rattle.outboxes.specs.Boxes.{Addressed}
 use Rattle.service.specs.Jobs.{job_steps, job_takes, job_gives, job_reply_of}
@@ -27,7 +27,7 @@ use Rattle.service.specs.declared.job.Asked.TheVariants.{Call}
 use Rattle.service.specs.declared.job.Job.{Job}
 use Rattle.service.specs.declared.job.Job.TheVariants.{Serve}
 use Rattle.service.specs.declared.job.JobReply.{JobReply}
-use Rattle.shared_waiting.specs.Balance.{Leaves}
+use Rattle.workers.specs.shared_waiting.Balance.{Leaves}
 use Rattle.workers.specs.declared.message.Message.{Message}
 use Rattle.workers.specs.declared.turned.Turned.{Turned}
 use Rattle.workers.specs.declared.turned.Turned.TheVariants as turns

@@ -5,16 +5,16 @@ use Rattle.nfs_model.specs.Tree.{Logical, Range}
 use Rattle.nfs_model.specs.Parts.{Hand, Empty, Fresh, Dead, range_of}
 use Rattle.affinity_tree.specs.Layout.{layout_of}
 use Rattle.affinity_tree.specs.Tree.{IsNode}
-use Rattle.depot_rule.specs.declared.view.View.{View}
-use Rattle.depot_rule.specs.History.{listed, entries_of}
-use Rattle.depot_rule.specs.Shares.{Has}
+use Rattle.depot.specs.declared.rule.view.View.{View}
+use Rattle.depot.specs.rule.History.{listed, entries_of}
+use Rattle.depot.specs.rule.Shares.{Has}
 use Rattle.depot.specs.Words as depots
 use Rattle.depot.specs.Words.{IsSeatHere}
-use Rattle.held_state.specs.Opening.{AreOpening}
-use Rattle.held_state.specs.Parcels.{FilerParcel}
+use Rattle.parcels.specs.state.Opening.{AreOpening}
+use Rattle.parcels.specs.state.Parcels.{FilerParcel}
 use Rattle.parcels.specs.declared.files.Files.{Files}
-use Rattle.shared_waiting.specs.Passes as passes
-use Rattle.shared_waiting.specs.Passes.{IsOf}
+use Rattle.workers.specs.shared_waiting.Passes as passes
+use Rattle.workers.specs.shared_waiting.Passes.{IsOf}
 use Rattle.workers.specs.declared.shared.Filer.{Filer}
 use Rattle.workers.specs.declared.worker.Worker.{Worker}
 use Rattle.workers.specs.Messages.{IsPlaced}

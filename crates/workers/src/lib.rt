@@ -2,6 +2,7 @@
 //! turns. A worker's type keeps the balance of what it picked, finished, put back and keeps.
 #![tactic(auto)]
 
+pub mod crossings;
 mod granted;
 mod inner;
 mod making;
@@ -11,6 +12,7 @@ mod parts;
 mod queueing;
 mod serving;
 mod shared;
+pub mod shared_waiting;
 mod starting;
 mod tend;
 mod tending;

@@ -3,6 +3,7 @@
 use crate::message::Message;
 use crate::opening::open;
 use crate::shared::Filer;
+use crate::shared_waiting::{Pass, SharedWaiting};
 use crate::worker::Worker;
 use affinity_tree::Layout;
 use depot::{Depot, Seat};
@@ -10,7 +11,6 @@ use nfs_values::Verifier;
 use outboxes::Outboxes;
 use parcel_sets::Hand;
 use service::{BatchInHand, Service};
-use shared_waiting::{Pass, SharedWaiting};
 use std::alloc::{AllocError, Global};
 use std::sync::Mutex;
 
@@ -18,8 +18,8 @@ impl Filer {
     ghost use Rattle.std.specs.Prelude.{◌≡◌, Some, IfOk};
     ghost use Rattle.affinity_tree.specs.Layout.{layout_of};
     ghost use Rattle.depot.specs.Words.{view, splits_left, IsSeatHere};
-    ghost use Rattle.shared_waiting.specs.Balance.{IsWhole};
-    ghost use Rattle.shared_waiting.specs.Passes.{known, IsOf};
+    ghost use Rattle.workers.specs.shared_waiting.Balance.{IsWhole};
+    ghost use Rattle.workers.specs.shared_waiting.Passes.{known, IsOf};
     ghost use Rattle.workers.specs.Words.{layout_in, layout_known, verifier_in};
     ghost use Rattle.workers.specs.Words.{HasDoneNothing, IsReady};
 
@@ -69,10 +69,10 @@ impl Filer {
 impl Worker {
     ghost use Rattle.std.specs.Prelude.{◌≡◌, [], None};
     ghost use Rattle.depot.specs.Words.{view, HasNoGrant};
-    ghost use Rattle.depot_rule.specs.History.{entries_of, AreHands};
+    ghost use Rattle.depot.specs.rule.History.{entries_of, AreHands};
     ghost use Rattle.nfs_model.specs.Parts as parts;
     ghost use Rattle.service.specs.Jobs.{job_takes, job_gives};
-    ghost use Rattle.shared_waiting.specs.Passes.{known};
+    ghost use Rattle.workers.specs.shared_waiting.Passes.{known};
     ghost use Rattle.workers.specs.Balance.{IsEven};
 
     /// A worker with an empty hand that keeps nothing: whatever its pass picked, its seat finished

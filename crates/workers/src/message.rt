@@ -1,10 +1,10 @@
 //! Messages to workers.
 
+use crate::shared_waiting::Fitting;
+use affinity_tree::scheduler::Origin;
 use affinity_tree::{Affinity, Layout};
 use nfs_values::{Call, Credential};
 use outboxes::Room;
-use scheduler::Origin;
-use shared_waiting::Fitting;
 
 /// A call that waits for a worker, and the room of its reply. In a queue of a layout it tries a
 /// node at which its call is run, and its reply fits its room.

@@ -3,13 +3,14 @@
 ghost use Rattle.std.specs.Prelude.{◌≡◌, Some, IfOk};
 ghost use Rattle.affinity_tree.specs.Layout.{layout_of};
 ghost use Rattle.depot.specs.Words.{view, splits_left, IsSeatHere};
-ghost use Rattle.shared_waiting.specs.Balance.{IsWhole};
-ghost use Rattle.shared_waiting.specs.Passes.{known, IsOf};
+ghost use Rattle.workers.specs.shared_waiting.Balance.{IsWhole};
+ghost use Rattle.workers.specs.shared_waiting.Passes.{known, IsOf};
 ghost use Rattle.workers.specs.Words.{layout_in, layout_known, verifier_in};
 ghost use Rattle.workers.specs.Words.{HasDoneNothing, IsReady};
 
 use crate::message::Message;
 use crate::shared::Filer;
+use crate::shared_waiting::{Pass, SharedWaiting};
 use affinity_tree::Layout;
 use depot::{Depot, Seat};
 use nfs_values::Verifier;
@@ -17,7 +18,6 @@ use outboxes::Outboxes;
 use parcel_sets::SerialNode;
 use parcels::opening_parcels;
 use service::Service;
-use shared_waiting::{Pass, SharedWaiting};
 use std::alloc::{AllocError, Global};
 use std::sync::Mutex;
 

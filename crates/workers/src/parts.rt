@@ -1,10 +1,10 @@
 //! A worker, taken apart.
 
 use crate::message::Message;
+use crate::shared_waiting::Pass;
 use affinity_tree::Layout;
 use depot::Seat;
 use service::{BatchInHand, Service};
-use shared_waiting::Pass;
 
 /// What a worker was made of: its seat of the depot, its pass of the queue, the batch of block
 /// numbers in its hand, and the message that it kept.

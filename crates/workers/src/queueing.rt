@@ -2,14 +2,14 @@
 
 ghost use Rattle.std.specs.Prelude.{◌≡◌, Some, IfSome};
 ghost use Rattle.nfs_model.specs.Tree as trees;
-ghost use Rattle.shared_waiting.specs.Passes.{known, IsOf};
+ghost use Rattle.workers.specs.shared_waiting.Passes.{known, IsOf};
 ghost use Rattle.workers.specs.Messages.{IsPlaced};
 ghost use Rattle.workers.specs.Turns.{HasNext, HasPut, WaitsAgain, HasShareOf};
 ghost use Rattle.workers.specs.Words.{layout_known};
 
 use crate::message::Message;
+use crate::shared_waiting::{Pass, SharedWaiting};
 use affinity_tree::Layout;
-use shared_waiting::{Pass, SharedWaiting};
 use std::sync::Wait;
 
 /// The message that is kept, or else the one that waits longest.

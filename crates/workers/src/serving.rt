@@ -7,7 +7,7 @@ ghost use Rattle.parcel_sets.specs.Exact.{kind_in};
 ghost use Rattle.depot.specs.Grants.{entry_of, IsFinished};
 ghost use Rattle.depot.specs.Words.{view, splits_left, IsNodeOf, IsSeatHere};
 ghost use Rattle.desk.specs.Any.{node_lent};
-ghost use Rattle.desk_laws.specs.Backing.{CanFinish};
+ghost use Rattle.desk.specs.laws.Backing.{CanFinish};
 ghost use Rattle.outboxes.specs.Boxes.{addressed};
 ghost use Rattle.outboxes.specs.Messages as replies;
 ghost use Rattle.outboxes.specs.Messages.{record_of};

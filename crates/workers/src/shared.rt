@@ -1,12 +1,12 @@
 //! What workers share.
 
 use crate::message::Message;
+use crate::shared_waiting::SharedWaiting;
 use affinity_tree::Layout;
 use depot::Depot;
 use nfs_values::Verifier;
 use outboxes::Outboxes;
 use service::Service;
-use shared_waiting::SharedWaiting;
 use std::alloc::Global;
 use std::sync::Mutex;
 

@@ -2,17 +2,17 @@
 
 use crate::message::Message;
 use crate::shared::Filer;
+use crate::shared_waiting::Pass;
 use crate::worker::Worker;
 use affinity_tree::Layout;
 use depot::Seat;
 use service::Service;
-use shared_waiting::Pass;
 
 impl Worker {
     ghost use Rattle.std.specs.Prelude.{◌≡◌, ◌+◌, None, Some};
     ghost use Rattle.depot.specs.Words.{view, splits_left, IsSeatHere};
     ghost use Rattle.nfs_model.specs.Parts as parts;
-    ghost use Rattle.shared_waiting.specs.Passes.{known, IsOf};
+    ghost use Rattle.workers.specs.shared_waiting.Passes.{known, IsOf};
     ghost use Rattle.workers.specs.Words.{layout_in, layout_known, passed, seat_view, seats_in};
     ghost use Rattle.workers.specs.Words.{verifier_in, HasDoneNothing, IsIn, IsReady};
 

@@ -1,10 +1,10 @@
 //! A worker.
 
-ghost use Rattle.held_state.specs.Jobs.{batches_in};
+ghost use Rattle.parcels.specs.state.Jobs.{batches_in};
 ghost use Rattle.depot.specs.Words.{view, HasNoGrant};
-ghost use Rattle.depot_rule.specs.History.{entries_of, AreHands};
+ghost use Rattle.depot.specs.rule.History.{entries_of, AreHands};
 ghost use Rattle.service.specs.Jobs.{job_takes, job_gives};
-ghost use Rattle.shared_waiting.specs.Passes.{known};
+ghost use Rattle.workers.specs.shared_waiting.Passes.{known};
 ghost use Rattle.workers.specs.Balance.{IsEven};
 
 use crate::inner::carry;
@@ -13,6 +13,7 @@ use crate::parts::WorkerParts;
 use crate::queueing::{next, put_kept};
 use crate::serving::serve;
 use crate::shared::Filer;
+use crate::shared_waiting::Pass;
 use crate::tend::{TendRefusal, Tended};
 use crate::tending::answer;
 use crate::turn::told;
@@ -22,7 +23,6 @@ use depot::Seat;
 use nfs_laws::laws::batches_are_of_one_range;
 use nfs_values::Moment;
 use service::{BatchInHand, InnerCall, Service};
-use shared_waiting::Pass;
 use std::sync::Wait;
 
 /// A seat of the depot and a pass of the queue, the batch of block numbers in the worker's hand,
@@ -56,7 +56,7 @@ impl Worker {
     ghost use Rattle.std.specs.Prelude.{◌≡◌, ◌<◌, ◌+◌, [], None, Ok};
     ghost use Rattle.nfs_model.specs.Parts as parts;
     ghost use Rattle.service.specs.Jobs.{inner_of};
-    ghost use Rattle.shared_waiting.specs.Balance.{left, right};
+    ghost use Rattle.workers.specs.shared_waiting.Balance.{left, right};
     ghost use Rattle.workers.specs.Apart.{AreOf, IsSettled};
     ghost use Rattle.workers.specs.Carries.{FitsHand};
     ghost use Rattle.workers.specs.Tends.{Answers};

@@ -1,5 +1,6 @@
 -- XDR (RFC 4506): the types, the values of each, and the one spelling of each value.
-use Rattle.std.specs.Prelude.{◌≡◌, ◌≢◌, ℕ, ◌-◌, ◌%◌, ◌^◌, ◌<◌, ◌≤◌, ◌==◌, Bool, true, List, [], ◌∷◌, ◌++◌, length, Option, Some, None, IsSomeAnd, ◌⊎◌, replicate, if◌then◌else◌}
+use Rattle.std.specs.Prelude.{◌≡◌, ◌≢◌, ℕ, ◌-◌, ◌%◌, ◌^◌, ◌<◌, ◌≤◌, ◌==◌, Bool, true, List, [], ◌∷◌, ◌++◌, length, Option, Some, None, IsSomeAnd, ◌⊎◌}
+use Rattle.std.specs.Prelude.{replicate, if◌then◌else◌}
 use Rattle.std.specs.List.{list_any, flat_map, AllByRecursion}
 use Rattle.std.specs.Int.{w32, w64, to_be_bytes}
 use Rattle.std.proofs.Common.{inl, inr}

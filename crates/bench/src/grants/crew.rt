@@ -5,8 +5,8 @@ ghost use Rattle.depot.specs.Words.{IsSeatHere};
 
 use crate::rates::per_second;
 use affinity_tree::{Affinity, Kind};
+use depot::trial::adding::{Adding, open, split, touches};
 use depot::{Depot, Seat};
-use depot_trial::adding::{Adding, open, split, touches};
 use parcel_sets::{LogicalNode, StripeNode};
 use std::alloc::AllocError;
 use std::rt::Clock;

@@ -2,7 +2,7 @@
 
 use crate::scripts::events::{holds, joined, put, same};
 use crate::scripts::texts::LAYOUT;
-use filer_replay::replay;
+use filer_commands::replay::replay;
 use std::io;
 use std::io::{Read, Write};
 use std::process::Abort;

@@ -1,6 +1,6 @@
 //! How a script is run, and what it prints is looked at.
 
-use filer_replay::replay;
+use filer_commands::replay::replay;
 use std::process::Abort;
 
 /// Appends a piece of text, so many times.

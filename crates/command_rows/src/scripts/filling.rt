@@ -3,7 +3,7 @@
 
 use crate::scripts::events::{holds, joined, put};
 use crate::scripts::texts::LAYOUT;
-use filer_replay::replay;
+use filer_commands::replay::replay;
 use std::process::Abort;
 
 /// A CREATE in the root, up to its name of 4 bytes, and what follows the name.

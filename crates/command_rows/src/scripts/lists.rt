@@ -3,7 +3,7 @@
 use crate::scripts::events::{holds, same};
 use crate::scripts::texts::{NULL, NULL_REPLY};
 use affinity_tree::{AggregateSpec, Layout, VolumeSpec};
-use filer_replay::{ConnectionNumber, Engine, Event, Worker, WorkerNumber, WorkerRun};
+use filer_commands::replay::{ConnectionNumber, Engine, Event, Worker, WorkerNumber, WorkerRun};
 use std::process::Abort;
 
 /// The bytes that hex digits stand for.

@@ -3,7 +3,7 @@
 ghost use Rattle.pool_rows.specs.Threads.{IsReaderOf};
 
 use crate::putting::FilerPass;
-use bells::Bells;
+use outboxes::bells::Bells;
 use workers::Filer;
 
 /// A pass that puts messages into the queue of a filer.

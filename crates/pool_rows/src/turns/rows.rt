@@ -12,11 +12,11 @@ use crate::turns::reader::Reader;
 use crate::turns::starting::{Started, start_workers};
 use crate::turns::texts::{ACCEPTED, bytes_of, mark, root_shown};
 use affinity_tree::Affinity;
-use bells::Bells;
+use affinity_tree::scheduler::Origin;
 use nfs_values::{
     Call, ConnectionNumber, CreateMode, Moment, Name, SetAttributes, Target, VolumeNumber,
 };
-use scheduler::Origin;
+use outboxes::bells::Bells;
 use std::fmt::Debug;
 use std::mem;
 use std::process::Abort;

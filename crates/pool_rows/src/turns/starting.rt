@@ -7,7 +7,7 @@ ghost use Rattle.workers.specs.Words.{seats_in, IsIn};
 use crate::putting::FilerPass;
 use crate::turns::filer_worker::FilerWorker;
 use crate::turns::reader::Reader;
-use bells::Bells;
+use outboxes::bells::Bells;
 use workers::{Filer, Worker};
 
 /// Two workers, and who puts messages for them.

@@ -8,7 +8,8 @@ use Rattle.nfs_model.specs.World.{Heard, IsDecoded}
 use Rattle.rpc_msg.specs.Offered.{AsksOffered}
 use Rattle.nfs_values.specs.declared.procedure.Procedure.{Procedure}
 use Rattle.nfs_values.specs.declared.procedure.Procedure.TheVariants.{Null, GetAttributes, SetAttributes, Lookup, Read, Write, Create, MakeDirectory}
-use Rattle.nfs_values.specs.declared.procedure.Procedure.TheVariants.{Remove, RemoveDirectory, Rename, ReadDirectory, FilesystemStatus, Commit, AdminNull, Census, Grow}
+use Rattle.nfs_values.specs.declared.procedure.Procedure.TheVariants.{Remove, RemoveDirectory, Rename, ReadDirectory, FilesystemStatus, Commit, AdminNull}
+use Rattle.nfs_values.specs.declared.procedure.Procedure.TheVariants.{Census, Grow}
 use Rattle.nfs_values.specs.Procedure.{is_offered}
 use Rattle.nfs_types.specs.Arguments.{asked, arguments_shape, call_from}
 use Rattle.nfs_types.specs.Shapes.{◌&◌}

@@ -13,15 +13,15 @@ use Rattle.nfs_values.specs.declared.status.Status.{Status}
 use Rattle.affinity_tree.specs.Fault.{fault_of}
 use Rattle.affinity_tree.specs.Tree.{IsNode}
 use Rattle.parcel_sets.specs.Sets.{aggregate_parcels}
-use Rattle.held_state.specs.Deeds.{stored_all}
-use Rattle.held_state.specs.Lenses.{AggregateSet, aggregate_lens}
-use Rattle.held_state.specs.Promises.{HasAll}
-use Rattle.held_state.specs.Running.{HasFiler, UnlessReplied, Runs, task_under}
-use Rattle.held_state.specs.Sets.{FilerAggregate, aggregate_set}
-use Rattle.held_laws.specs.lemmas.Granted.{aggregate-has}
-use Rattle.service_totals.specs.Running.{RunsOnAll}
-use Rattle.service_totals.specs.RunningLemmas.{aggregate-runs}
-use Rattle.service_totals.specs.Growing.{HasVolumeOf, GrowsAggregate, growing_outcome}
+use Rattle.parcels.specs.state.Deeds.{stored_all}
+use Rattle.parcels.specs.state.Lenses.{AggregateSet, aggregate_lens}
+use Rattle.parcels.specs.state.Promises.{HasAll}
+use Rattle.parcels.specs.state.Running.{HasFiler, UnlessReplied, Runs, task_under}
+use Rattle.parcels.specs.state.Sets.{FilerAggregate, aggregate_set}
+use Rattle.parcels.specs.laws.lemmas.Granted.{aggregate-has}
+use Rattle.service.specs.totals.Running.{RunsOnAll}
+use Rattle.service.specs.totals.RunningLemmas.{aggregate-runs}
+use Rattle.service.specs.totals.Growing.{HasVolumeOf, GrowsAggregate, growing_outcome}
 use Rattle.service.specs.Running.{IsRunAt, MovesOn}
 use Rattle.service.specs.lemmas.Homes.{run-home, grows-there}
 use Rattle.service.specs.lemmas.Serving.{run-tried}

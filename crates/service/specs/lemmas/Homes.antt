@@ -14,7 +14,7 @@ use Rattle.affinity_tree.specs.Affinity.{kind_of}
 use Rattle.affinity_tree.specs.declared.affinity.Kind.{Kind}
 use Rattle.affinity_tree.specs.declared.affinity.Kind.TheVariants as kinds
 use Rattle.parcel_sets.specs.Sets.{volume_around}
-use Rattle.held_state.specs.Calls.{LieIn, handle_in}
+use Rattle.parcels.specs.state.Calls.{LieIn, handle_in}
 use Rattle.service_data.specs.HomeLemmas.{home-lies}
 use Rattle.service.specs.Running.{IsRun, IsRunInLogical, IsRunAt, IsRunIn, RunsAbove, BytesLieIn, fileid_in}
 

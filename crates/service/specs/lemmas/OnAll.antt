@@ -10,14 +10,14 @@ use Rattle.affinity_tree.specs.Affinity.{kind_of}
 use Rattle.affinity_tree.specs.declared.affinity.Kind.TheVariants as kinds
 use Rattle.affinity_tree.specs.Fault.{fault_of}
 use Rattle.parcel_sets.specs.Sets.{serial_parcels}
-use Rattle.held_state.specs.Contents.{FilerContents}
-use Rattle.held_state.specs.Lenses.{serial_lens}
-use Rattle.held_state.specs.Promises.{HasAll}
-use Rattle.held_state.specs.Running.{HasFiler, Runs, UnlessReplied, task_under}
-use Rattle.held_state.specs.Sets.{FilerSerial, serial_set}
-use Rattle.held_laws.specs.lemmas.Granted.{serial-has}
-use Rattle.service_totals.specs.Running.{RunsOnAll}
-use Rattle.service_totals.specs.RunningLemmas as totals
+use Rattle.parcels.specs.state.Contents.{FilerContents}
+use Rattle.parcels.specs.state.Lenses.{serial_lens}
+use Rattle.parcels.specs.state.Promises.{HasAll}
+use Rattle.parcels.specs.state.Running.{HasFiler, Runs, UnlessReplied, task_under}
+use Rattle.parcels.specs.state.Sets.{FilerSerial, serial_set}
+use Rattle.parcels.specs.laws.lemmas.Granted.{serial-has}
+use Rattle.service.specs.totals.Running.{RunsOnAll}
+use Rattle.service.specs.totals.RunningLemmas as totals
 use Rattle.service.specs.Running.{IsRunAt, MovesOn}
 use Rattle.service.specs.lemmas.Homes.{only-census}
 use Rattle.service.specs.lemmas.Serving.{run-tried}

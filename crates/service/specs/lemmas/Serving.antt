@@ -22,21 +22,22 @@ use Rattle.affinity_tree.specs.Fault.{fault_of}
 use Rattle.affinity_tree.specs.lemmas.Ways.{begins-self, begins-longer}
 use Rattle.affinity_tree.specs.Tree.{IsNode, covers}
 use Rattle.parcel_sets.specs.Sets.{volume_around, stripe_parcels, logical_parcels, volume_parcels}
-use Rattle.volume_values.specs.Stripes.{StripeValue}
-use Rattle.held_state.specs.Calls.{IsCallOn, handle_in, located_on, move_on}
-use Rattle.held_state.specs.Contents.{VolumeContents, FilerContents, filer_contents}
-use Rattle.held_state.specs.Deeds.{IsHomeOrAbove}
-use Rattle.held_state.specs.Lenses.{Lens, logical_lens, stripe_lens, volume_lens, volume_or_none}
-use Rattle.held_state.specs.Partition.{parts_of}
-use Rattle.held_state.specs.Promises.{HasVolume}
-use Rattle.held_state.specs.Running.{HasFiler, RunsOn, UnlessReplied, Runs}
-use Rattle.held_state.specs.Sets.{FilerLogical, FilerStripe, FilerVolume, logical_set, logical_before, logical_after, volume_set, volume_before, volume_after}
-use Rattle.held_state.specs.Tree.{stripe_at}
-use Rattle.held_laws.specs.lemmas.Granted.{stripe-has, logical-has, volume-has}
-use Rattle.held_laws.specs.lemmas.Kinds.{stripe-step, logical-step, volume-step}
-use Rattle.held_laws.specs.lemmas.Running.{runs-by}
-use Rattle.held_laws.specs.lemmas.SeenSets.{stripe-seen, logical-seen, volume-seen}
-use Rattle.held_laws.specs.lemmas.Steps.{laid-out, get-some}
+use Rattle.nfs_model.specs.volume.Stripes.{StripeValue}
+use Rattle.parcels.specs.state.Calls.{IsCallOn, handle_in, located_on, move_on}
+use Rattle.parcels.specs.state.Contents.{VolumeContents, FilerContents, filer_contents}
+use Rattle.parcels.specs.state.Deeds.{IsHomeOrAbove}
+use Rattle.parcels.specs.state.Lenses.{Lens, logical_lens, stripe_lens, volume_lens, volume_or_none}
+use Rattle.parcels.specs.state.Partition.{parts_of}
+use Rattle.parcels.specs.state.Promises.{HasVolume}
+use Rattle.parcels.specs.state.Running.{HasFiler, RunsOn, UnlessReplied, Runs}
+use Rattle.parcels.specs.state.Sets.{FilerLogical, FilerStripe, FilerVolume, logical_set, logical_before, logical_after, volume_set, volume_before}
+use Rattle.parcels.specs.state.Sets.{volume_after}
+use Rattle.parcels.specs.state.Tree.{stripe_at}
+use Rattle.parcels.specs.laws.lemmas.Granted.{stripe-has, logical-has, volume-has}
+use Rattle.parcels.specs.laws.lemmas.Kinds.{stripe-step, logical-step, volume-step}
+use Rattle.parcels.specs.laws.lemmas.Running.{runs-by}
+use Rattle.parcels.specs.laws.lemmas.SeenSets.{stripe-seen, logical-seen, volume-seen}
+use Rattle.parcels.specs.laws.lemmas.Steps.{laid-out, get-some}
 use Rattle.service.specs.Running.{IsRunAt, IsRunIn, RunsAbove, IsStripeOf, MovesOn, call_on, fileid_in, other_in, procedure}
 use Rattle.service.specs.lemmas.Homes.{IsNodeOf, at-logical, both-there, run-home, run-in}
 

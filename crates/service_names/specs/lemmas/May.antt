@@ -7,24 +7,24 @@ use Rattle.std.specs.FinMap.{get, len}
 use Rattle.nfs_model.specs.Parts.{Hand, range_blocks}
 use Rattle.nfs_model.specs.Server.{most_inodes}
 use Rattle.nfs_model.specs.Types.{Listed}
-use Rattle.depot_rule.specs.Shares.{too_many}
-use Rattle.volume_values.specs.Directories.{DirectoryValue, found, fileid_found}
-use Rattle.volume_values.specs.Inodes.{InodeKind, RegularFile, Folder, Inode}
-use Rattle.volume_values.specs.Stripes.{Card}
-use Rattle.volume_values.specs.lemmas.Inodes.{next-absent}
-use Rattle.inodes.specs.Inode.{inode_value}
-use Rattle.held_state.specs.Contents.{VolumeContents}
-use Rattle.held_state.specs.Names.{root, size_in, is_folder, parent_directory, subdirectories_in, subdirectories_of, folders_listed}
-use Rattle.held_state.specs.WellFormed.{WellFormed, size_shown}
-use Rattle.held_state.specs.Sound.{IsSound}
-use Rattle.held_state.specs.Lenses.{LogicalSet, logical_lens}
-use Rattle.held_state.specs.Promises.{HasVolume}
-use Rattle.held_state.specs.Tree.{stripe_at, directory_or_empty, ranges_used}
-use Rattle.held_laws.specs.lemmas.Limits.{few-folders, used-fits, ranges-fit}
-use Rattle.held_changes.specs.NameAnswers.{entries_of}
-use Rattle.held_changes.specs.Making.{is_full_set}
-use Rattle.held_changes.specs.Named.{node_at, node_there}
-use Rattle.held_changes.specs.lemmas.Named.{entry-there}
+use Rattle.depot.specs.rule.Shares.{too_many}
+use Rattle.nfs_model.specs.volume.Directories.{DirectoryValue, found, fileid_found}
+use Rattle.nfs_model.specs.volume.Inodes.{InodeKind, RegularFile, Folder, Inode}
+use Rattle.nfs_model.specs.volume.Stripes.{Card}
+use Rattle.nfs_model.specs.volume.lemmas.Inodes.{next-absent}
+use Rattle.volume_logical.specs.inodes.Inode.{inode_value}
+use Rattle.parcels.specs.state.Contents.{VolumeContents}
+use Rattle.parcels.specs.state.Names.{root, size_in, is_folder, parent_directory, subdirectories_in, subdirectories_of, folders_listed}
+use Rattle.parcels.specs.state.WellFormed.{WellFormed, size_shown}
+use Rattle.parcels.specs.state.Sound.{IsSound}
+use Rattle.parcels.specs.state.Lenses.{LogicalSet, logical_lens}
+use Rattle.parcels.specs.state.Promises.{HasVolume}
+use Rattle.parcels.specs.state.Tree.{stripe_at, directory_or_empty, ranges_used}
+use Rattle.parcels.specs.laws.lemmas.Limits.{few-folders, used-fits, ranges-fit}
+use Rattle.parcels.specs.changes.NameAnswers.{entries_of}
+use Rattle.parcels.specs.changes.Making.{is_full_set}
+use Rattle.parcels.specs.changes.Named.{node_at, node_there}
+use Rattle.parcels.specs.changes.lemmas.Named.{entry-there}
 use Rattle.service_names.specs.declared.within.Within.{Within}
 use Rattle.service_names.specs.Making.{MayMake, naming_within}
 

@@ -6,20 +6,20 @@ use Rattle.std.specs.Prelude.{is_some, IsSome}
 use Rattle.std.specs.Option.{option_map}
 use Rattle.std.specs.FinMap.{get}
 use Rattle.nfs_model.specs.Parts.{Hand, one_if, times_listed, most_ranges, range_blocks}
-use Rattle.volume_values.specs.Directories.{DirectoryValue}
-use Rattle.volume_values.specs.Inodes.{Inode}
-use Rattle.volume_values.specs.Stripes.{Card}
-use Rattle.held_state.specs.Contents.{VolumeContents}
-use Rattle.held_state.specs.Names.{is_folder, size_in}
-use Rattle.held_state.specs.Sound.{IsSound}
-use Rattle.held_state.specs.Tree.{stripe_at, ranges_used, directory_or_empty}
-use Rattle.held_state.specs.WellFormed.{size_shown}
-use Rattle.held_state.specs.Lenses.{LogicalSet, logical_lens}
-use Rattle.held_state.specs.Promises.{HasVolume}
-use Rattle.held_laws.specs.lemmas.Limits.{used-fits, ranges-fit}
-use Rattle.held_changes.specs.NameAnswers.{entries_of}
-use Rattle.held_changes.specs.NodesSized.{all_freed}
-use Rattle.held_changes.specs.SizedLemmas.{freed-times}
+use Rattle.nfs_model.specs.volume.Directories.{DirectoryValue}
+use Rattle.nfs_model.specs.volume.Inodes.{Inode}
+use Rattle.nfs_model.specs.volume.Stripes.{Card}
+use Rattle.parcels.specs.state.Contents.{VolumeContents}
+use Rattle.parcels.specs.state.Names.{is_folder, size_in}
+use Rattle.parcels.specs.state.Sound.{IsSound}
+use Rattle.parcels.specs.state.Tree.{stripe_at, ranges_used, directory_or_empty}
+use Rattle.parcels.specs.state.WellFormed.{size_shown}
+use Rattle.parcels.specs.state.Lenses.{LogicalSet, logical_lens}
+use Rattle.parcels.specs.state.Promises.{HasVolume}
+use Rattle.parcels.specs.laws.lemmas.Limits.{used-fits, ranges-fit}
+use Rattle.parcels.specs.changes.NameAnswers.{entries_of}
+use Rattle.parcels.specs.changes.NodesSized.{all_freed}
+use Rattle.parcels.specs.changes.SizedLemmas.{freed-times}
 use Rattle.service_names.specs.Changing.{AreNumbers, MayBeSet}
 use Rattle.service_names.specs.lemmas.Whole.{whole-few}
 

@@ -2,14 +2,14 @@
 use Rattle.std.proofs.Common.{◌≡◌, ℕ, ◌≤◌, false, true, Option, Some, None, refl, sym, ap, ◌∙◌, arith, ⊎_elim, []}
 use Rattle.std.specs.Prelude.{is_some}
 use Rattle.std.specs.FinMap.{get}
-use Rattle.volume_values.specs.Directories.{DirectoryValue}
-use Rattle.volume_values.specs.Inodes.{InodeKind, RegularFile, Folder, Inode}
-use Rattle.held_state.specs.Contents.{VolumeContents}
-use Rattle.held_state.specs.Names.{is_folder, parent_in, subdirectories_in, subdirectories_of, folders_listed}
-use Rattle.held_state.specs.WellFormed.{WellFormed}
-use Rattle.held_state.specs.Lenses.{LogicalSet, logical_lens}
-use Rattle.held_state.specs.Promises.{HasVolume}
-use Rattle.held_laws.specs.lemmas.Limits.{few-folders}
+use Rattle.nfs_model.specs.volume.Directories.{DirectoryValue}
+use Rattle.nfs_model.specs.volume.Inodes.{InodeKind, RegularFile, Folder, Inode}
+use Rattle.parcels.specs.state.Contents.{VolumeContents}
+use Rattle.parcels.specs.state.Names.{is_folder, parent_in, subdirectories_in, subdirectories_of, folders_listed}
+use Rattle.parcels.specs.state.WellFormed.{WellFormed}
+use Rattle.parcels.specs.state.Lenses.{LogicalSet, logical_lens}
+use Rattle.parcels.specs.state.Promises.{HasVolume}
+use Rattle.parcels.specs.laws.lemmas.Limits.{few-folders}
 use Rattle.service_names.specs.Shown.{HasFewLinks}
 
 -- no directory of a sound volume has too many links

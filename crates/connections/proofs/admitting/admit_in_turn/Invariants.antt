@@ -1,6 +1,6 @@
 -- the message waits yet, and the pass has put and picked nothing
 use Rattle.std.proofs.Common.{◌≡◌}
-use Rattle.shared_waiting.specs.Passes.{known, IsOf}
+use Rattle.workers.specs.shared_waiting.Passes.{known, IsOf}
 use Rattle.connections.proofs.admitting.admit_in_turn.Given as goal
 
 abbrev pub invariant-loop : goal.invariant-loop

@@ -2,7 +2,7 @@ use Rattle.std.proofs.Common.{◌≡◌, rules, subst, ◌∙◌}
 use Rattle.std.specs.Prelude.{IfSome}
 use Rattle.nfs_model.specs.Tree as trees
 use Rattle.affinity_tree.specs.Layout.{layout_of}
-use Rattle.tcp_front.specs.Arrivals.{arrivals}
+use Rattle.connections.specs.tcp_front.Arrivals.{arrivals}
 use Rattle.workers.specs.Words.{layout_in, IsIn}
 use Rattle.workers.specs.declared.shared.Filer.{Filer}
 use Rattle.connections.specs.Admitted.{HasAdmitted}

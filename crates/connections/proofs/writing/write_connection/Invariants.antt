@@ -1,8 +1,8 @@
 -- records of replies went out whole, and nothing failed
 use Rattle.std.proofs.Common.{List}
 use Rattle.outboxes.specs.Messages.{ReplyMessage}
-use Rattle.tcp_front.specs.Counts.{HasNotFailed}
-use Rattle.tcp_front.specs.Writing.{HasSent, records_of}
+use Rattle.connections.specs.tcp_front.Counts.{HasNotFailed}
+use Rattle.connections.specs.tcp_front.Writing.{HasSent, records_of}
 use Rattle.connections.proofs.writing.write_connection.Given as goal
 
 abbrev pub invariant-loop : goal.invariant-loop

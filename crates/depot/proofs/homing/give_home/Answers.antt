@@ -4,8 +4,8 @@ use Rattle.affinity_tree.specs.Affinity.{affinity_of}
 use Rattle.affinity_tree.specs.Layout.{layout_of}
 use Rattle.affinity_tree.specs.Numbers.{number_of, parents}
 use Rattle.affinity_tree.specs.Ancestors.{IsTree, Covers}
-use Rattle.depot_rule.specs.Seats.{view_of}
-use Rattle.depot_rule.specs.Shares.{Has}
+use Rattle.depot.specs.rule.Seats.{view_of}
+use Rattle.depot.specs.rule.Shares.{Has}
 use Rattle.parcel_sets.specs.Moved.{Moved}
 use Rattle.depot.specs.Holds.{untaken}
 use Rattle.depot.specs.Grants.{HasWith}

@@ -1,6 +1,6 @@
 use Rattle.std.proofs.Common.{[], refl, Some, None, arith}
-use Rattle.desk_laws.specs.lemmas.Beside.{still-fresh, work-lent, work-done}
-use Rattle.depot_trial.specs.declared.adding.Change.TheVariants.{Add}
+use Rattle.desk.specs.laws.lemmas.Beside.{still-fresh, work-lent, work-done}
+use Rattle.depot.specs.declared.trial.adding.Change.TheVariants.{Add}
 use Rattle.desk.specs.Words.{books, machine_in}
 use Rattle.depot_rows.specs.Adder.{Adds}
 use Rattle.depot_rows.proofs.turns.add.Goals as goal

@@ -1,5 +1,5 @@
 use Rattle.std.proofs.Common.{arith}
-use Rattle.desk_laws.specs.lemmas.Beside.{all-idle}
+use Rattle.desk.specs.laws.lemmas.Beside.{all-idle}
 use Rattle.desk.specs.Words.{books}
 use Rattle.depot_rows.proofs.turns.are_idle.Goals as goal
 

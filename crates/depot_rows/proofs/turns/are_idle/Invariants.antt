@@ -1,5 +1,5 @@
 use Rattle.std.proofs.Common.{ℕ, ◌<◌}
-use Rattle.desk_laws.specs.Books.{IsIdle}
+use Rattle.desk.specs.laws.Books.{IsIdle}
 use Rattle.desk.specs.Words.{books}
 use Rattle.depot_rows.proofs.turns.are_idle.Given as goal
 

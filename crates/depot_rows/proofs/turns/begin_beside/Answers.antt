@@ -1,5 +1,5 @@
 use Rattle.std.proofs.Common.{rules, None, sym}
-use Rattle.desk_laws.specs.lemmas.Beside.{lent-else, begun-fresh}
+use Rattle.desk.specs.laws.lemmas.Beside.{lent-else, begun-fresh}
 use Rattle.desk.specs.Words.{books}
 use Rattle.depot_rows.proofs.turns.begin_beside.Goals as goal
 

@@ -2,7 +2,7 @@ use Rattle.std.proofs.Common.{sym, subst}
 use Rattle.affinity_tree.specs.Numbers.{number_of}
 use Rattle.depot.specs.Grants.{entry_of, IsFinished}
 use Rattle.depot.specs.Words.{machine_of, layout_in, view}
-use Rattle.desk_laws.specs.Backing.{CanFinish}
+use Rattle.desk.specs.laws.Backing.{CanFinish}
 use Rattle.desk.specs.Any.{large_lent}
 use Rattle.desk.proofs.grants.finish_large.Goals as goal
 

@@ -2,7 +2,7 @@ use Rattle.std.proofs.Common.{sym, subst}
 use Rattle.affinity_tree.specs.Numbers.{number_of}
 use Rattle.depot.specs.Grants.{IsEnded}
 use Rattle.depot.specs.Words.{layout_in, view}
-use Rattle.desk_laws.specs.Backing.{CanPutBack}
+use Rattle.desk.specs.laws.Backing.{CanPutBack}
 use Rattle.desk.specs.Any.{large_lent}
 use Rattle.desk.proofs.grants.put_back_large.Goals as goal
 

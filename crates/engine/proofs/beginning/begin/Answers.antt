@@ -9,7 +9,7 @@ use Rattle.nfs_values.specs.Moment.{moment_of}
 use Rattle.affinity_tree.specs.declared.affinity.Affinity.{Affinity}
 use Rattle.affinity_tree.specs.Affinity.{affinity_of}
 use Rattle.affinity_tree.specs.Tree.{IsNode}
-use Rattle.desk_laws.specs.Calls as desks
+use Rattle.desk.specs.laws.Calls as desks
 use Rattle.desk.specs.Refusal.{IsRefused}
 use Rattle.desk.specs.Words.{books}
 use Rattle.service.specs.Jobs.{job_of, job_reply_of}

@@ -4,8 +4,8 @@ use Rattle.nfs_model.specs.Events.Refusals as events
 use Rattle.nfs_values.specs.Moment.{moment_of}
 use Rattle.desk.specs.Words.{books}
 use Rattle.service.specs.Jobs.{job_of, job_reply_of}
-use Rattle.service_counts.specs.Counts.{culled_by, put_by, fresh_volume}
-use Rattle.service_counts.specs.lemmas.Happening.{event-stays, cull-counts, put-counts}
+use Rattle.engine.specs.counts.Counts.{culled_by, put_by, fresh_volume}
+use Rattle.engine.specs.counts.lemmas.Happening.{event-stays, cull-counts, put-counts}
 use Rattle.engine.specs.declared.worker.Worker.{Worker}
 use Rattle.engine.specs.Seen.{setup_in, world, answer_of, worker_seen}
 use Rattle.engine.proofs.Counted.{stands-parted}

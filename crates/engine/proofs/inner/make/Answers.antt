@@ -2,11 +2,11 @@ use Rattle.std.proofs.Common.{refl, sym, ◌∙◌, subst}
 use Rattle.nfs_model.specs.Tree.{Affinity}
 use Rattle.affinity_tree.specs.Affinity.{affinity_of}
 use Rattle.affinity_tree.specs.Tree.{IsNode}
-use Rattle.desk_laws.specs.Calls.{HasBegun}
+use Rattle.desk.specs.laws.Calls.{HasBegun}
 use Rattle.desk.specs.Refusal.{IsRefused}
 use Rattle.desk.specs.declared.refusal.Refusal.TheVariants.{Taken, Worn}
 use Rattle.desk.specs.Words.{books}
-use Rattle.engine_laws.specs.lemmas.Happening.{book-apart}
+use Rattle.engine.specs.laws.lemmas.Happening.{book-apart}
 use Rattle.service.specs.Jobs.{inner_of}
 use Rattle.service.specs.declared.job.Job.TheVariants.{Inner}
 use Rattle.engine.proofs.Made.{may_run, may_finish, is_made, put_back, may_go_back_refused, is_refused, empty_hand, may_go_back_starved, is_starved, hand_back}

@@ -2,7 +2,7 @@ use Rattle.std.proofs.Common.{◌≡◌, sym, ap, ◌∙◌, subst}
 use Rattle.std.specs.Prelude.{slice_set}
 use Rattle.nfs_model.specs.Parts.{Hand}
 use Rattle.desk.specs.Words.{books}
-use Rattle.engine_laws.specs.Inner.{hand_after}
+use Rattle.engine.specs.laws.Inner.{hand_after}
 use Rattle.service.specs.Jobs.{inner_of, job_reply_of}
 use Rattle.engine.specs.declared.state.State.{State}
 use Rattle.engine.specs.declared.worker.WorkerRun.TheVariants.{Idle}

@@ -3,14 +3,14 @@ use Rattle.nfs_values.specs.declared.call.Call.{Call}
 use Rattle.nfs_values.specs.Credential.{credential_of}
 use Rattle.nfs_values.specs.Moment.{moment_of}
 use Rattle.parcels.specs.declared.files.Files.{Files}
-use Rattle.desk_laws.specs.Books.{now}
-use Rattle.desk_laws.specs.Calls.{MayWork, HasWorked}
+use Rattle.desk.specs.laws.Books.{now}
+use Rattle.desk.specs.laws.Calls.{MayWork, HasWorked}
 use Rattle.desk.specs.Words.{books}
-use Rattle.engine_laws.specs.Store.{FilerBooks}
+use Rattle.engine.specs.laws.Store.{FilerBooks}
 use Rattle.service.specs.declared.job.Job.{Job}
 use Rattle.service.specs.declared.job.JobReply.{JobReply}
 use Rattle.service.specs.Running.{AsksFor, HasRun}
-use Rattle.service_counts.specs.Counts.{IsCounted}
+use Rattle.engine.specs.counts.Counts.{IsCounted}
 use Rattle.engine.proofs.Counted.{may-recount, recounted}
 use Rattle.engine.proofs.working.run_on.Goals as goal
 

@@ -16,18 +16,18 @@ use Rattle.nfs_values.specs.declared.call.Call.{Call}
 use Rattle.nfs_values.specs.Credential.{credential_of}
 use Rattle.nfs_values.specs.Moment.{moment_of}
 use Rattle.affinity_tree.specs.Affinity.{affinity_of}
-use Rattle.scheduler.specs.declared.message.Message.{Message}
-use Rattle.depot_rule.specs.Sums.{total}
-use Rattle.held_state.specs.Parcels.{FilerParcel}
-use Rattle.held_state.specs.Contents.{filer_contents}
-use Rattle.held_state.specs.Deeds.{stored_all}
+use Rattle.affinity_tree.specs.declared.scheduler.message.Message.{Message}
+use Rattle.depot.specs.rule.Sums.{total}
+use Rattle.parcels.specs.state.Parcels.{FilerParcel}
+use Rattle.parcels.specs.state.Contents.{filer_contents}
+use Rattle.parcels.specs.state.Deeds.{stored_all}
 use Rattle.parcels.specs.declared.files.Files.{Files}
-use Rattle.desk_laws.specs.Books.{now, stamps}
-use Rattle.desk_laws.specs.Calls.{Does, HasWorked}
-use Rattle.engine_laws.specs.Store.{FilerBooks, StandsFor}
-use Rattle.engine_laws.specs.Serving.{Serving}
-use Rattle.engine_laws.specs.lemmas.Working.{works, worked-stands}
-use Rattle.engine_laws.specs.lemmas.Happening.{book-apart, work-happens}
+use Rattle.desk.specs.laws.Books.{now, stamps}
+use Rattle.desk.specs.laws.Calls.{Does, HasWorked}
+use Rattle.engine.specs.laws.Store.{FilerBooks, StandsFor}
+use Rattle.engine.specs.laws.Serving.{Serving}
+use Rattle.engine.specs.laws.lemmas.Working.{works, worked-stands}
+use Rattle.engine.specs.laws.lemmas.Happening.{book-apart, work-happens}
 use Rattle.desk.specs.Words.{books}
 use Rattle.service.specs.Jobs.{job_of, job_reply_of}
 use Rattle.service.specs.Running.{outcome_of, IsRunAt, MovesOn, HasRun}

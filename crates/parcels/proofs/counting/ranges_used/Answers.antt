@@ -1,6 +1,6 @@
 use Rattle.std.proofs.Common.{◌≡◌, length, rules, arith}
-use Rattle.held_state.specs.Sets.{range_value, placed, vbn_set}
-use Rattle.held_state.specs.Tree.{ranges_used}
+use Rattle.parcels.specs.state.Sets.{range_value, placed, vbn_set}
+use Rattle.parcels.specs.state.Tree.{ranges_used}
 use Rattle.parcels.proofs.Counted.{used-all, used-more}
 use Rattle.parcels.proofs.counting.ranges_used.Goals as goal
 

@@ -1,5 +1,5 @@
-use Rattle.held_state.specs.Sets.{range_value, placed, vbn_set}
-use Rattle.held_state.specs.Tree.{ranges_used}
+use Rattle.parcels.specs.state.Sets.{range_value, placed, vbn_set}
+use Rattle.parcels.specs.state.Tree.{ranges_used}
 use Rattle.parcels.proofs.Counted.{UsedSoFar}
 use Rattle.parcels.proofs.counting.ranges_used.Given as goal
 

@@ -5,7 +5,7 @@ use Rattle.affinity_tree.specs.Layout.{layout_of}
 use Rattle.affinity_tree.specs.Numbers.{node_count}
 use Rattle.nfs_model.specs.Tree as trees
 use Rattle.parcel_sets.specs.Sets.{serial_parcels}
-use Rattle.held_laws.specs.lemmas.Opening.{opening-sound, opening-tree}
+use Rattle.parcels.specs.laws.lemmas.Opening.{opening-sound, opening-tree}
 use Rattle.parcels.proofs.Laid.{laid-more, laid-placed, laid-taken}
 use Rattle.parcels.proofs.opening.opening_parcels.Goals as goal
 

@@ -1,8 +1,8 @@
 use Rattle.std.proofs.Common.{◌≡◌, ℕ, ◌<◌, ◌≤◌, ap, subst, ◌∙◌, arith}
 use Rattle.std.proofs.lemmas.Bool.Decides.{nat_tests}
 use Rattle.std.specs.Prelude.{IfOk}
-use Rattle.volume_values.specs.Ranges.{unused_range, put_in_use}
-use Rattle.held_state.specs.Opening.{opening_range}
+use Rattle.nfs_model.specs.volume.Ranges.{unused_range, put_in_use}
+use Rattle.parcels.specs.state.Opening.{opening_range}
 use Rattle.parcels.proofs.opening.opening_range.Goals as goal
 use Rattle.parcels.proofs.opening.opening_range.Goals.{then-number-used, else-number-used}
 

@@ -1,7 +1,7 @@
 use Rattle.std.proofs.Common.{sym, subst, ap, ◌∙◌, ◌+◌, ℕ}
 use Rattle.affinity_tree.specs.declared.layout.Layout.{Layout}
-use Rattle.shared_waiting.specs.Passes.{known, IsOf}
-use Rattle.shared_waiting.specs.declared.pass.SharedWaiting.{SharedWaiting}
+use Rattle.workers.specs.shared_waiting.Passes.{known, IsOf}
+use Rattle.workers.specs.declared.shared_waiting.pass.SharedWaiting.{SharedWaiting}
 use Rattle.workers.specs.declared.message.Message.{Message}
 use Rattle.workers.specs.declared.shared.Filer.{Filer}
 use Rattle.pool_rows.specs.Threads.{IsOpened}

@@ -1,9 +1,9 @@
 use Rattle.std.proofs.Common.{subst}
-use Rattle.depot_rule.specs.Sums.{total}
-use Rattle.pool.specs.Shares.{put_by}
-use Rattle.pool.specs.Words.{layout_in, verifier_in}
-use Rattle.pool.specs.Filer.{Filer}
-use Rattle.pool.specs.Ends.{HasEnded}
+use Rattle.depot.specs.rule.Sums.{total}
+use Rattle.server.specs.pool.Shares.{put_by}
+use Rattle.server.specs.pool.Words.{layout_in, verifier_in}
+use Rattle.server.specs.pool.Filer.{Filer}
+use Rattle.server.specs.pool.Ends.{HasEnded}
 use Rattle.nfs_model.specs.Tree as trees
 use Rattle.parcel_sets.specs.Sets.{serial_parcels}
 use Rattle.server.proofs.ending.end.Goals as goal

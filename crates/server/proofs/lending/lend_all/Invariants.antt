@@ -1,6 +1,6 @@
 -- the loans so far, and the passes and helpers that are left
 use Rattle.std.proofs.Common.{◌≡◌, ◌≤◌, ◌+◌, ℕ, All, vec_len, vec_capacity}
-use Rattle.depot_rule.specs.Sums.{total}
+use Rattle.depot.specs.rule.Sums.{total}
 use Rattle.connections.specs.Filer.{Filer}
 use Rattle.connections.specs.Words.{IsIn}
 use Rattle.connections.specs.Worker.{Worker}

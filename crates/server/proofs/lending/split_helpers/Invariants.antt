@@ -1,6 +1,6 @@
 -- the workers so far, and the one that is cut on
 use Rattle.std.proofs.Common.{◌≡◌, ◌≤◌, ◌+◌, ℕ, All, vec_len, vec_capacity}
-use Rattle.depot_rule.specs.Sums.{total}
+use Rattle.depot.specs.rule.Sums.{total}
 use Rattle.connections.specs.Words.{passed, seats_in, IsIn}
 use Rattle.server.specs.Places.{share_with}
 use Rattle.server.proofs.lending.split_helpers.Given as goal

@@ -1,7 +1,7 @@
 use Rattle.std.proofs.Common.{◌≤◌, ◌+◌, ap, subst, ◌∙◌, arith}
 use Rattle.affinity_tree.specs.declared.layout.Layout.{Layout}
-use Rattle.shared_waiting.specs.Passes.{known, IsOf}
-use Rattle.shared_waiting.specs.declared.pass.SharedWaiting.{SharedWaiting}
+use Rattle.workers.specs.shared_waiting.Passes.{known, IsOf}
+use Rattle.workers.specs.declared.shared_waiting.pass.SharedWaiting.{SharedWaiting}
 use Rattle.connections.specs.Message.{Message}
 use Rattle.connections.specs.Balance.{Passed}
 use Rattle.server.specs.Places.{share_by, IsReaderOf}

@@ -1,7 +1,7 @@
 -- the passes so far, and the one that is cut on
 use Rattle.std.proofs.Common.{◌≡◌, ◌≤◌, ◌+◌, ℕ, All, vec_len, vec_capacity}
-use Rattle.depot_rule.specs.Sums.{total}
-use Rattle.shared_waiting.specs.Passes.{known}
+use Rattle.depot.specs.rule.Sums.{total}
+use Rattle.workers.specs.shared_waiting.Passes.{known}
 use Rattle.server.specs.Places.{share_by, IsReaderOf}
 use Rattle.server.proofs.lending.split_passes.Given as goal
 

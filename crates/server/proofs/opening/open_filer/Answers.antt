@@ -1,6 +1,6 @@
 use Rattle.std.proofs.Common.{sym, subst, ap, ◌∙◌, ◌+◌, arith}
-use Rattle.shared_waiting.specs.Passes.{known}
-use Rattle.pool.specs.Filer.{Filer}
+use Rattle.workers.specs.shared_waiting.Passes.{known}
+use Rattle.server.specs.pool.Filer.{Filer}
 use Rattle.server.specs.Threads.{IsOpened}
 use Rattle.server.proofs.Wholes.{opened}
 use Rattle.server.proofs.opening.open_filer.Goals as goal

@@ -1,6 +1,6 @@
 -- what came back, and the connections that are left
 use Rattle.std.proofs.Common.{◌≡◌, ◌≤◌, ◌+◌, ℕ, All, vec_len, vec_capacity}
-use Rattle.depot_rule.specs.Sums.{total}
+use Rattle.depot.specs.rule.Sums.{total}
 use Rattle.connections.specs.Filer.{Filer}
 use Rattle.connections.specs.declared.loan.Loan.{Loan}
 use Rattle.server.specs.Places.{of_lent, IsKept, IsPlaceOf, IsServedFor}

@@ -1,10 +1,10 @@
 use Rattle.std.proofs.Common.{sym, subst, arith}
 use Rattle.std.specs.Prelude.{All}
 use Rattle.std.specs.Arc.{arc_value}
-use Rattle.shared_waiting.specs.Passes.{IsOf}
-use Rattle.pool.specs.Gathered.{IsLeftOf}
-use Rattle.pool.specs.Words.{IsIn}
-use Rattle.pool.specs.Filer.{Filer}
+use Rattle.workers.specs.shared_waiting.Passes.{IsOf}
+use Rattle.server.specs.pool.Gathered.{IsLeftOf}
+use Rattle.server.specs.pool.Words.{IsIn}
+use Rattle.server.specs.pool.Filer.{Filer}
 use Rattle.server.proofs.Wholes.{all-of, all-there, none-picked, runs-on, seats-there}
 use Rattle.server.proofs.stopping.stop.Goals as goal
 

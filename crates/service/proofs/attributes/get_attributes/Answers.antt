@@ -1,14 +1,14 @@
 use Rattle.std.proofs.Common.{sym, ap, ◌∙◌, Option, Some, Ok, Err}
 use Rattle.nfs_values.specs.declared.status.Status.TheVariants.{Stale}
 use Rattle.nfs_model.specs.Types.{GetattrDone}
-use Rattle.volume_values.specs.Inodes.{Inode, inode_of}
-use Rattle.volume_values.specs.Logical.{LogicalValue}
-use Rattle.inodes.specs.Inode.{inode_value}
-use Rattle.held_state.specs.Sets.{logical_before}
-use Rattle.held_state.specs.Tree.{file_touch}
-use Rattle.held_state.specs.Changes.{getattr_answer}
+use Rattle.nfs_model.specs.volume.Inodes.{Inode, inode_of}
+use Rattle.nfs_model.specs.volume.Logical.{LogicalValue}
+use Rattle.volume_logical.specs.inodes.Inode.{inode_value}
+use Rattle.parcels.specs.state.Sets.{logical_before}
+use Rattle.parcels.specs.state.Tree.{file_touch}
+use Rattle.parcels.specs.state.Changes.{getattr_answer}
 use Rattle.service.proofs.Getting.{tells}
-use Rattle.service_renames.specs.WholeLemmas.{whole-links}
+use Rattle.service.specs.renames.WholeLemmas.{whole-links}
 use Rattle.service.proofs.attributes.get_attributes.Goals as goal
 
 pub shown_now-requires-clause-links : goal.shown_now-requires-clause-links

@@ -7,11 +7,11 @@ use Rattle.nfs_values.specs.Call.{call_of}
 use Rattle.nfs_values.specs.Credential.{credential_of}
 use Rattle.nfs_values.specs.Moment.{moment_of}
 use Rattle.nfs_values.specs.declared.call.Call.{Call}
-use Rattle.held_state.specs.Lenses.{serial_lens}
-use Rattle.held_state.specs.Running.{task_under}
-use Rattle.held_state.specs.Sets.{serial_set}
-use Rattle.service_totals.specs.CensusLaws.{census_task}
-use Rattle.service_totals.specs.Running.{RunsOnAll}
+use Rattle.parcels.specs.state.Lenses.{serial_lens}
+use Rattle.parcels.specs.state.Running.{task_under}
+use Rattle.parcels.specs.state.Sets.{serial_set}
+use Rattle.service.specs.totals.CensusLaws.{census_task}
+use Rattle.service.specs.totals.Running.{RunsOnAll}
 use Rattle.service.specs.Running.{outcome_of}
 use Rattle.service.specs.lemmas.Homes.{only-census}
 use Rattle.service.proofs.in_serial.run_on_serial.Goals as goal

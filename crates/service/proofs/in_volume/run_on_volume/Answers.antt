@@ -8,8 +8,8 @@ use Rattle.nfs_values.specs.Call.{call_of}
 use Rattle.nfs_values.specs.Credential.{credential_of}
 use Rattle.nfs_values.specs.Moment.{moment_of}
 use Rattle.nfs_values.specs.declared.answer.Answer.TheVariants.{FilesystemStatus}
-use Rattle.held_state.specs.Lenses.{volume_lens}
-use Rattle.held_state.specs.Sets.{volume_before, volume_after}
+use Rattle.parcels.specs.state.Lenses.{volume_lens}
+use Rattle.parcels.specs.state.Sets.{volume_before, volume_after}
 use Rattle.service_data.specs.Writing.{written_outcome}
 use Rattle.service.specs.Running.{outcome_of}
 use Rattle.service.specs.lemmas.Homes.{only-writes}

@@ -12,12 +12,12 @@ use Rattle.nfs_values.specs.Moment.{moment_of}
 use Rattle.nfs_values.specs.Set.{set_of, mode_of}
 use Rattle.nfs_values.specs.declared.answer.Answer.TheVariants as answers
 use Rattle.nfs_values.specs.declared.call.Call.{Call}
-use Rattle.service_renames.specs.AttributeLaws.{setattr_call}
-use Rattle.service_renames.specs.ChangeLaws.{create_call, mkdir_call, remove_call, rmdir_call}
-use Rattle.held_state.specs.Lenses.{logical_lens}
-use Rattle.held_state.specs.Running.{RunsOn}
-use Rattle.held_state.specs.Sets.{logical_before, logical_after}
-use Rattle.service_renames.specs.NamePromises.{Creates, MakesDirectory, Removes, RemovesDirectory}
+use Rattle.service.specs.renames.AttributeLaws.{setattr_call}
+use Rattle.service.specs.renames.ChangeLaws.{create_call, mkdir_call, remove_call, rmdir_call}
+use Rattle.parcels.specs.state.Lenses.{logical_lens}
+use Rattle.parcels.specs.state.Running.{RunsOn}
+use Rattle.parcels.specs.state.Sets.{logical_before, logical_after}
+use Rattle.service.specs.renames.NamePromises.{Creates, MakesDirectory, Removes, RemovesDirectory}
 use Rattle.service_data.specs.Writing.{written_outcome}
 use Rattle.service.specs.Running.{call_named, outcome_of, RunsThere}
 use Rattle.service.proofs.Runs.{served-runs, writing-runs, unless-written}

@@ -3,8 +3,8 @@ use Rattle.affinity_tree.specs.Layout.{layout_of}
 use Rattle.nfs_values.specs.Credential.{credential_of}
 use Rattle.nfs_values.specs.Handle.{named_of}
 use Rattle.nfs_values.specs.Moment.{moment_of}
-use Rattle.held_state.specs.Sets.{logical_before, logical_after}
-use Rattle.service_renames.specs.Promises.{Renames}
+use Rattle.parcels.specs.state.Sets.{logical_before, logical_after}
+use Rattle.service.specs.renames.Promises.{Renames}
 use Rattle.service.specs.Running.{outcome_of}
 use Rattle.service.proofs.Runs.{renaming-runs}
 use Rattle.service.proofs.run.rename_here.Goals as goal

@@ -3,8 +3,8 @@ use Rattle.affinity_tree.specs.Layout.{layout_of}
 use Rattle.nfs_values.specs.Call.{call_of}
 use Rattle.nfs_values.specs.Credential.{credential_of}
 use Rattle.nfs_values.specs.Moment.{moment_of}
-use Rattle.held_state.specs.Lenses.{logical_lens}
-use Rattle.held_state.specs.Sets.{logical_before, logical_after}
+use Rattle.parcels.specs.state.Lenses.{logical_lens}
+use Rattle.parcels.specs.state.Sets.{logical_before, logical_after}
 use Rattle.service.specs.Running.{outcome_of}
 use Rattle.service.proofs.Runs.{runs-here}
 use Rattle.service.proofs.run.run_on_logical.Goals as goal

@@ -9,13 +9,13 @@ use Rattle.nfs_values.specs.Handle.{named_of}
 use Rattle.nfs_values.specs.Moment.{moment_of}
 use Rattle.nfs_values.specs.declared.answer.Answer.TheVariants as answers
 use Rattle.nfs_values.specs.declared.call.Call.{Call}
-use Rattle.service_renames.specs.AttributeLaws.{getattr_call}
+use Rattle.service.specs.renames.AttributeLaws.{getattr_call}
 use Rattle.service_data.specs.ReadingLaws.{read_call}
-use Rattle.service_renames.specs.NameLaws.{lookup_call, readdir_call, commit_call}
-use Rattle.held_state.specs.Lenses.{logical_lens}
-use Rattle.held_state.specs.Running.{RunsOn}
-use Rattle.held_state.specs.Sets.{logical_before}
-use Rattle.service_renames.specs.NamePromises.{LooksUp}
+use Rattle.service.specs.renames.NameLaws.{lookup_call, readdir_call, commit_call}
+use Rattle.parcels.specs.state.Lenses.{logical_lens}
+use Rattle.parcels.specs.state.Running.{RunsOn}
+use Rattle.parcels.specs.state.Sets.{logical_before}
+use Rattle.service.specs.renames.NamePromises.{LooksUp}
 use Rattle.service.specs.Running.{call_named, outcome_of}
 use Rattle.service.proofs.Runs.{served-runs}
 use Rattle.service.proofs.run.tell.Goals as goal

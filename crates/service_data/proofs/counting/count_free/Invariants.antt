@@ -1,6 +1,6 @@
-use Rattle.held_state.specs.Contents.{each}
-use Rattle.held_state.specs.Sets.{range_value, placed}
-use Rattle.held_data.specs.WritingUp.{free_count}
+use Rattle.parcels.specs.state.Contents.{each}
+use Rattle.parcels.specs.state.Sets.{range_value, placed}
+use Rattle.parcels.specs.bytes.WritingUp.{free_count}
 use Rattle.service_data.proofs.Counted.{FreeSoFar}
 use Rattle.service_data.proofs.counting.count_free.Given as goal
 

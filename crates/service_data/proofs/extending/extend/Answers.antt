@@ -1,9 +1,9 @@
 use Rattle.std.proofs.Common.{◌≡◌, ◌≤◌, List, ℕ, length, take, sym, ap, subst, ◌∙◌, arith}
 use Rattle.std.specs.FinSet.{len}
 use Rattle.nfs_values.specs.Moment.{moment_of}
-use Rattle.volume_values.specs.Logical.{LogicalValue}
-use Rattle.held_data.specs.Extending.{holes}
-use Rattle.held_state.specs.Sets.{logical_before}
+use Rattle.nfs_model.specs.volume.Logical.{LogicalValue}
+use Rattle.parcels.specs.bytes.Extending.{holes}
+use Rattle.parcels.specs.state.Sets.{logical_before}
 use Rattle.service_data.specs.Holes.{Rise, AreHoles}
 use Rattle.service_data.proofs.Holed.{holes-are, holes-rise}
 use Rattle.service_data.proofs.Extended.{extends-file, enough-there, as-many}

@@ -1,9 +1,9 @@
 use Rattle.std.proofs.Common.{◌≡◌, ◌<◌, Some, sym, ap, ◌∙◌, arith}
 use Rattle.std.specs.Option.{option_map}
 use Rattle.std.specs.FinMap.{get}
-use Rattle.inodes.specs.Inode.{inode_value, kind_value}
-use Rattle.volume_values.specs.Inodes.{inode_of, filled_blocks}
-use Rattle.volume_values.specs.Logical.{LogicalValue}
+use Rattle.volume_logical.specs.inodes.Inode.{inode_value, kind_value}
+use Rattle.nfs_model.specs.volume.Inodes.{inode_of, filled_blocks}
+use Rattle.nfs_model.specs.volume.Logical.{LogicalValue}
 use Rattle.service_data.proofs.extending.extend_inode.Goals as goal
 
 pub extended_kind-requires : goal.extended_kind-requires

@@ -1,5 +1,5 @@
 use Rattle.std.proofs.Common.{refl, sym, ap, ◌∙◌}
-use Rattle.volume_values.specs.Logical.{LogicalValue}
+use Rattle.nfs_model.specs.volume.Logical.{LogicalValue}
 use Rattle.service_data.proofs.Stocked.{none-left}
 use Rattle.service_data.proofs.holes.take_number.Goals as goal
 

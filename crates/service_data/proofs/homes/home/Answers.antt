@@ -1,6 +1,6 @@
 use Rattle.std.proofs.Common.{ap, ◌∙◌, ◌+◌, ◌/◌, ◌%◌, ℕ}
-use Rattle.volume_values.specs.Stripes.{span_blocks}
-use Rattle.volume_values.specs.Logical.{LogicalValue}
+use Rattle.nfs_model.specs.volume.Stripes.{span_blocks}
+use Rattle.nfs_model.specs.volume.Logical.{LogicalValue}
 use Rattle.service_data.proofs.Placed.{home-is}
 use Rattle.service_data.proofs.homes.home.Goals as goal
 

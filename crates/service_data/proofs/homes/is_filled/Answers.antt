@@ -1,5 +1,5 @@
 use Rattle.std.proofs.Common.{ap, ◌∙◌, rules}
-use Rattle.volume_values.specs.Stripes.{StripeValue, is_filled}
+use Rattle.nfs_model.specs.volume.Stripes.{StripeValue, is_filled}
 use Rattle.service_data.proofs.Placed.{home-found}
 use Rattle.service_data.proofs.homes.is_filled.Goals as goal
 

@@ -1,5 +1,5 @@
 use Rattle.std.proofs.Common.{◌<◌, length, arith, refl}
-use Rattle.volume_values.specs.Stripes.{block_numbered}
+use Rattle.nfs_model.specs.volume.Stripes.{block_numbered}
 use Rattle.service_data.specs.Places.{home_held}
 use Rattle.service_data.proofs.Dealt.{taken-has, mid-has, mid-enough, all-dealt, none-dealt}
 use Rattle.service_data.proofs.parts.+number_blocks.Goals as goal

@@ -1,5 +1,5 @@
 use Rattle.std.proofs.Common.{◌≡◌, [], ◌∷◌, length, refl, rules, arith}
-use Rattle.volume_values.specs.Ranges.{taken}
+use Rattle.nfs_model.specs.volume.Ranges.{taken}
 use Rattle.service_data.proofs.Parted.{step-leaves, step-alike, step-none, all-none}
 use Rattle.service_data.proofs.parts.take_free.Goals as goal
 

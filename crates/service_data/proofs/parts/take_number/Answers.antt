@@ -1,7 +1,7 @@
 use Rattle.std.proofs.Common.{◌≡◌, refl, sym, ap, ◌∙◌}
-use Rattle.volume_values.specs.Logical.{LogicalValue}
+use Rattle.nfs_model.specs.volume.Logical.{LogicalValue}
 use Rattle.parcels.specs.Logical.{logical_value}
-use Rattle.held_state.specs.Sets.{volume_before}
+use Rattle.parcels.specs.state.Sets.{volume_before}
 use Rattle.service_data.proofs.Drained.{lowest-there, none-for-holes, leaves-dead}
 use Rattle.service_data.proofs.parts.take_number.Goals as goal
 

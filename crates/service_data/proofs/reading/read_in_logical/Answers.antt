@@ -1,9 +1,9 @@
 use Rattle.std.proofs.Common.{sym, ap, ◌∙◌, Ok, Err}
-use Rattle.volume_values.specs.Inodes.{inode_of}
-use Rattle.volume_values.specs.Logical.{LogicalValue}
-use Rattle.held_state.specs.Lenses.{LogicalSet}
-use Rattle.held_state.specs.Sets.{logical_before}
-use Rattle.held_state.specs.Tree.{file_byte}
+use Rattle.nfs_model.specs.volume.Inodes.{inode_of}
+use Rattle.nfs_model.specs.volume.Logical.{LogicalValue}
+use Rattle.parcels.specs.state.Lenses.{LogicalSet}
+use Rattle.parcels.specs.state.Sets.{logical_before}
+use Rattle.parcels.specs.state.Tree.{file_byte}
 use Rattle.service_data.proofs.Spanned.{stripes-held}
 use Rattle.service_data.proofs.Told.{told-read, some-asked, logical-told, logical-right, logical-starved}
 use Rattle.service_data.proofs.reading.read_in_logical.Goals as goal

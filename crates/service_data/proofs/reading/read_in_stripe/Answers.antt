@@ -1,5 +1,5 @@
 use Rattle.std.proofs.Common.{sym, ap, ◌∙◌, ◌++◌, Ok, Err}
-use Rattle.volume_values.specs.Stripes.{StripeValue, byte_at, bytes_read}
+use Rattle.nfs_model.specs.volume.Stripes.{StripeValue, byte_at, bytes_read}
 use Rattle.service_data.proofs.Told.{told-read, some-asked, stripe-told, stripe-right, stripe-starved}
 use Rattle.service_data.proofs.reading.read_in_stripe.Goals as goal
 

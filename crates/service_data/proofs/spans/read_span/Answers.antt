@@ -1,6 +1,6 @@
 use Rattle.std.proofs.Common.{◌+◌, ◌/◌, ◌%◌, ap, ◌∙◌, ◌++◌, ℕ, List, rules}
 use Rattle.nfs_model.specs.Home.{span_bytes}
-use Rattle.volume_values.specs.Logical.{LogicalValue}
+use Rattle.nfs_model.specs.volume.Logical.{LogicalValue}
 use Rattle.service_data.proofs.Spanned.{span-read}
 use Rattle.service_data.proofs.spans.read_span.Goals as goal
 

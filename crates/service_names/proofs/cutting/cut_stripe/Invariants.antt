@@ -1,5 +1,5 @@
 use Rattle.std.specs.Prelude.{length}
-use Rattle.volume_values.specs.Stripes.{numbers_freed}
+use Rattle.nfs_model.specs.volume.Stripes.{numbers_freed}
 use Rattle.service_names.proofs.Freed.{IsCutOn}
 use Rattle.service_names.proofs.cutting.cut_stripe.Given as goal
 

@@ -1,7 +1,7 @@
 use Rattle.std.proofs.Common.{arith, rules, refl, sym, ap, subst, ◌≡◌, ℕ, length, ◌-◌, IsSome}
 use Rattle.std.specs.FinMap.{get}
-use Rattle.volume_values.specs.Logical.{LogicalValue}
-use Rattle.volume_values.specs.Stripes.{StripeValue, numbers_freed}
+use Rattle.nfs_model.specs.volume.Logical.{LogicalValue}
+use Rattle.nfs_model.specs.volume.Stripes.{StripeValue, numbers_freed}
 use Rattle.service_names.specs.Changing.{AreNumbers}
 use Rattle.service_names.proofs.Sized.{AreSizedFrom, none-sized, place-sized, place-was, all-sized, card-of-place, numbers-of-place}
 use Rattle.service_names.proofs.cutting.size_stripes.Goals as goal

@@ -1,7 +1,7 @@
 use Rattle.std.proofs.Common.{◌∙◌, ap, sym}
 use Rattle.parcel_sets.specs.Filled.{is_filled}
 use Rattle.std.specs.Prelude.{slice_get}
-use Rattle.inodes.specs.Inode.{inode_value}
+use Rattle.volume_logical.specs.inodes.Inode.{inode_value}
 use Rattle.service_names.proofs.Unmade.{was-made, all-back, places-alike, all-made}
 use Rattle.service_names.proofs.making.make_node.Goals as goal
 

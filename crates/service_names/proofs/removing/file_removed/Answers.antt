@@ -1,13 +1,13 @@
 use Rattle.std.proofs.Common.{sym, ap, ◌∙◌, subst}
 use Rattle.nfs_model.specs.Types.{GoneDone}
 use Rattle.nfs_values.specs.Moment.{moment_of}
-use Rattle.volume_values.specs.Inodes.{Inode}
-use Rattle.inodes.specs.Inode.{inode_value, kind_value}
-use Rattle.held_state.specs.Changes.{LogicalAnswer}
-use Rattle.held_state.specs.Sets.{logical_before}
-use Rattle.held_changes.specs.NodesMade.{folders_in}
-use Rattle.held_changes.specs.Named.{directory_change}
-use Rattle.held_changes.specs.Dropping.{held_remove, child_emptied}
+use Rattle.nfs_model.specs.volume.Inodes.{Inode}
+use Rattle.volume_logical.specs.inodes.Inode.{inode_value, kind_value}
+use Rattle.parcels.specs.state.Changes.{LogicalAnswer}
+use Rattle.parcels.specs.state.Sets.{logical_before}
+use Rattle.parcels.specs.changes.NodesMade.{folders_in}
+use Rattle.parcels.specs.changes.Named.{directory_change}
+use Rattle.parcels.specs.changes.Dropping.{held_remove, child_emptied}
 use Rattle.service_names.specs.Naming.{node_value, naming_in}
 use Rattle.service_names.specs.Shown.{HasFewLinks}
 use Rattle.service_names.specs.lemmas.Whole.{whole-links}

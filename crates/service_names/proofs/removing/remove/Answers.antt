@@ -2,8 +2,8 @@ use Rattle.nfs_model.specs.Tree.{Logical}
 use Rattle.nfs_values.specs.Answer.{answer_of}
 use Rattle.nfs_values.specs.Moment.{moment_of}
 use Rattle.nfs_values.specs.declared.answer.Answer.TheVariants as answers
-use Rattle.held_changes.specs.Laws.{remove_call, remove_done}
-use Rattle.held_state.specs.Sets.{logical_before}
+use Rattle.parcels.specs.changes.Laws.{remove_call, remove_done}
+use Rattle.parcels.specs.state.Sets.{logical_before}
 use Rattle.service_names.proofs.Laws.{right-by}
 use Rattle.service_names.proofs.removing.remove.Goals as goal
 

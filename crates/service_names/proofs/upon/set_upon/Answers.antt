@@ -4,11 +4,11 @@ use Rattle.nfs_model.specs.Server.{handle_bytes}
 use Rattle.nfs_model.specs.Types.{MadeDone}
 use Rattle.nfs_values.specs.Set.{set_of}
 use Rattle.nfs_values.specs.declared.verifier.Verifier.{Verifier}
-use Rattle.volume_values.specs.Inodes.{Inode}
-use Rattle.inodes.specs.Inode.{kind_value, inode_value}
-use Rattle.held_state.specs.Changes.{LogicalAnswer, shown_inode}
-use Rattle.held_state.specs.Sets.{logical_before}
-use Rattle.held_changes.specs.Named.{directory_change}
+use Rattle.nfs_model.specs.volume.Inodes.{Inode}
+use Rattle.volume_logical.specs.inodes.Inode.{kind_value, inode_value}
+use Rattle.parcels.specs.state.Changes.{LogicalAnswer, shown_inode}
+use Rattle.parcels.specs.state.Sets.{logical_before}
+use Rattle.parcels.specs.changes.Named.{directory_change}
 use Rattle.service_names.specs.Making.{naming_within}
 use Rattle.service_names.specs.Naming.{node_value}
 use Rattle.service_names.proofs.Overs.{unchecked-upon}

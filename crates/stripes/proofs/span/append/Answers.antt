@@ -1,6 +1,6 @@
 use Rattle.std.proofs.Common.{◌≡◌, ◌++◌, ◌+◌, ◌-◌, ◌∙◌, ap, sym, List, ℕ, take, drop, map, arith}
 use Rattle.std.specs.List.{range_with_len}
-use Rattle.volume_values.specs.Stripes.{byte_of}
+use Rattle.nfs_model.specs.volume.Stripes.{byte_of}
 use Rattle.stripes.proofs.Ranges.{take-drop, zeros}
 use Rattle.stripes.proofs.span.append.Goals as goal
 

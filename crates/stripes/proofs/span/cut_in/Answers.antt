@@ -1,7 +1,7 @@
 use Rattle.std.proofs.Common.{◌/◌, ◌∙◌, ap, sym, Some}
 use Rattle.std.specs.Option.{option_map}
 use Rattle.nfs_model.specs.Server.{block_size}
-use Rattle.volume_values.specs.Stripes.{block_mapped, byte_cut}
+use Rattle.nfs_model.specs.volume.Stripes.{block_mapped, byte_cut}
 use Rattle.stripes.proofs.span.cut_in.Goals as goal
 
 pub returns-in-Some : goal.returns-in-Some

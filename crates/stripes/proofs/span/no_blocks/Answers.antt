@@ -1,6 +1,6 @@
 use Rattle.std.proofs.Common.{◌≡◌, ◌<◌, ◌∙◌, sym, Option, None, replicate, get_or, arith, rules}
 use Rattle.std.proofs.lemmas.List.{same_lists, length-replicate, get_or-replicate}
-use Rattle.volume_values.specs.Stripes.{Block}
+use Rattle.nfs_model.specs.volume.Stripes.{Block}
 use Rattle.stripes.proofs.span.no_blocks.Goals as goal
 
 pub returns : goal.returns

@@ -1,6 +1,6 @@
 use Rattle.std.proofs.Common.{◌∙◌, ap, sym, Some}
 use Rattle.std.specs.Option.{option_map}
-use Rattle.volume_values.specs.Stripes.{block_mapped, byte_written}
+use Rattle.nfs_model.specs.volume.Stripes.{block_mapped, byte_written}
 use Rattle.stripes.proofs.span.write_into.Goals as goal
 
 pub returns-in-Some : goal.returns-in-Some

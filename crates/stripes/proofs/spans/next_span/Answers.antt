@@ -3,7 +3,7 @@ use Rattle.std.specs.Ordering.{is_gt}
 use Rattle.std.specs.List.{slice_get}
 use Rattle.std.specs.BTreeMap.Range.{IsEntryInRange}
 use Rattle.std.specs.declared.ops.Bound.TheVariants.{Included, Unbounded}
-use Rattle.volume_values.specs.Stripes.{place_cmp}
+use Rattle.nfs_model.specs.volume.Stripes.{place_cmp}
 use Rattle.stripes.specs.Spans.{span_at}
 use Rattle.stripes.proofs.Keys.{none-before, none-of-file, upto-span}
 use Rattle.stripes.proofs.spans.next_span.Goals as goal

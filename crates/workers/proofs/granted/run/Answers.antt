@@ -6,7 +6,7 @@ use Rattle.affinity_tree.specs.Tree.{IsNode}
 use Rattle.parcel_sets.specs.Exact.{kind_in}
 use Rattle.depot.specs.Words.{view}
 use Rattle.desk.specs.Any.{node_lent}
-use Rattle.desk_laws.specs.Backing.{IsWhole, IsDone}
+use Rattle.desk.specs.laws.Backing.{IsWhole, IsDone}
 use Rattle.service.specs.Running.{AsksFor, HasRun, IsRunAt}
 use Rattle.workers.specs.Words.{layout_in}
 use Rattle.workers.proofs.Grants.{granted}

@@ -4,9 +4,9 @@ use Rattle.nfs_model.specs.Parts.{Empty}
 use Rattle.parcel_sets.specs.Exact.{kind_in}
 use Rattle.depot.specs.Grants.{entry_of, IsEnded, IsFinished}
 use Rattle.depot.specs.Words.{view}
-use Rattle.depot_rule.specs.History.{entries_of}
+use Rattle.depot.specs.rule.History.{entries_of}
 use Rattle.desk.specs.Any.{node_lent}
-use Rattle.desk_laws.specs.Backing.{CanFinish, CanPutBack}
+use Rattle.desk.specs.laws.Backing.{CanFinish, CanPutBack}
 use Rattle.service.specs.Jobs.{inner_of, job_reply_of}
 use Rattle.service.specs.declared.job.Job.TheVariants.{Inner}
 use Rattle.workers.specs.declared.tend.TendRefusal.{TendRefusal}

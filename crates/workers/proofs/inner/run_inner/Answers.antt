@@ -5,8 +5,8 @@ use Rattle.affinity_tree.specs.Tree.{IsNode}
 use Rattle.parcel_sets.specs.Exact.{kind_in}
 use Rattle.depot.specs.Words.{view, IsNodeOf}
 use Rattle.desk.specs.Any.{node_lent}
-use Rattle.desk_laws.specs.Backing.{IsWhole, IsGranted, IsDone}
-use Rattle.held_state.specs.Jobs.{batches_in, inner_node}
+use Rattle.desk.specs.laws.Backing.{IsWhole, IsGranted, IsDone}
+use Rattle.parcels.specs.state.Jobs.{batches_in, inner_node}
 use Rattle.service.specs.Inner.{AsksForInner, InnerHasRun}
 use Rattle.service.specs.Jobs.{inner_of}
 use Rattle.workers.specs.Turns.{filer_behaviour}

@@ -1,4 +1,4 @@
-use Rattle.shared_waiting.specs.Passes.{known}
+use Rattle.workers.specs.shared_waiting.Passes.{known}
 use Rattle.workers.proofs.Turning.{fits-by}
 use Rattle.workers.proofs.queueing.wait_again.Goals as goal
 

@@ -5,9 +5,9 @@ use Rattle.affinity_tree.specs.Numbers.{number_of}
 use Rattle.parcel_sets.specs.Exact.{kind_in}
 use Rattle.depot.specs.Grants.{entry_of, IsEnded, IsFinished}
 use Rattle.depot.specs.Words.{view}
-use Rattle.depot_rule.specs.History.{entries_of}
+use Rattle.depot.specs.rule.History.{entries_of}
 use Rattle.desk.specs.Any.{node_lent}
-use Rattle.desk_laws.specs.Backing.{CanFinish, CanPutBack}
+use Rattle.desk.specs.laws.Backing.{CanFinish, CanPutBack}
 use Rattle.outboxes.specs.Messages as replies
 use Rattle.outboxes.specs.Messages.{record_of}
 use Rattle.service.specs.declared.job.JobReply.TheVariants.{Replied}

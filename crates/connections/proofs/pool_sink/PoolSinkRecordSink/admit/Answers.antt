@@ -1,8 +1,8 @@
 use Rattle.std.proofs.Common.{refl, subst}
 use Rattle.affinity_tree.specs.declared.layout.Layout.{Layout}
 use Rattle.engine_feed.specs.Seen.{message_of}
-use Rattle.shared_waiting.specs.Passes.{known, IsOf}
-use Rattle.shared_waiting.specs.declared.pass.SharedWaiting.{SharedWaiting}
+use Rattle.workers.specs.shared_waiting.Passes.{known, IsOf}
+use Rattle.workers.specs.declared.shared_waiting.pass.SharedWaiting.{SharedWaiting}
 use Rattle.workers.specs.Words.{layout_in}
 use Rattle.workers.specs.declared.message.Message.{Message}
 use Rattle.connections.proofs.Fitting.{fits-by}

@@ -4,10 +4,10 @@ use Rattle.affinity_tree.specs.Affinity.{affinity_of}
 use Rattle.affinity_tree.specs.Layout.{layout_of}
 use Rattle.depot.specs.Grants as depots
 use Rattle.depot.specs.Words.{layout_in, view}
-use Rattle.desk_laws.specs.Backing.{books_of, IsBook}
-use Rattle.desk_laws.specs.Calls.{HasBegun}
-use Rattle.desk_laws.specs.lemmas.Begins.{in-room, begun-desk, begun-so, read-books, read-desk, taken-so, worn-so}
-use Rattle.desk_laws.specs.lemmas.Taken.{taken-books, free-books}
+use Rattle.desk.specs.laws.Backing.{books_of, IsBook}
+use Rattle.desk.specs.laws.Calls.{HasBegun}
+use Rattle.desk.specs.laws.lemmas.Begins.{in-room, begun-desk, begun-so, read-books, read-desk, taken-so, worn-so}
+use Rattle.desk.specs.laws.lemmas.Taken.{taken-books, free-books}
 use Rattle.desk.specs.Places.{granted, all_granted, shown}
 use Rattle.desk.specs.Words.{books, machine_in}
 use Rattle.desk.proofs.Places.{none-there, told-there, told-set, told-same}

@@ -1,5 +1,5 @@
 use Rattle.depot.specs.Words.{layout_in, view, all_parcels}
-use Rattle.desk_laws.specs.lemmas.Opened.{none-open, closed-so}
+use Rattle.desk.specs.laws.lemmas.Opened.{none-open, closed-so}
 use Rattle.desk.specs.Places.{all_granted, shown}
 use Rattle.desk.specs.Words.{machine_in}
 use Rattle.desk.proofs.desk.Desk.close.Goals as goal

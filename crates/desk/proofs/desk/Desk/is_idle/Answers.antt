@@ -1,7 +1,7 @@
 use Rattle.std.proofs.Common.{◌<◌, length, arith}
 use Rattle.std.proofs.lemmas.List.{length-map}
 use Rattle.depot.specs.Words.{layout_in, view}
-use Rattle.desk_laws.specs.lemmas.Begins.{in-room}
+use Rattle.desk.specs.laws.lemmas.Begins.{in-room}
 use Rattle.desk.specs.Places.{granted, all_granted, shown}
 use Rattle.desk.proofs.Places.{told-there, told-idle}
 use Rattle.desk.proofs.desk.Desk.is_idle.Goals as goal

@@ -1,12 +1,12 @@
 use Rattle.std.proofs.Common.{◌<◌, length, None, sym, subst, arith}
 use Rattle.std.proofs.lemmas.List.{length-map}
 use Rattle.depot.specs.Words.{layout_in, view}
-use Rattle.desk_laws.specs.Backing.{books_of, IsBook}
-use Rattle.desk_laws.specs.lemmas.Begins.{in-room}
-use Rattle.desk_laws.specs.lemmas.Ends.{can-put-back, back-desk, back-so}
+use Rattle.desk.specs.laws.Backing.{books_of, IsBook}
+use Rattle.desk.specs.laws.lemmas.Begins.{in-room}
+use Rattle.desk.specs.laws.lemmas.Ends.{can-put-back, back-desk, back-so}
 use Rattle.desk.specs.Places.{granted, all_granted, shown}
 use Rattle.desk.specs.Words.{books}
-use Rattle.desk_laws.specs.Calls.{HasPutBack}
+use Rattle.desk.specs.laws.Calls.{HasPutBack}
 use Rattle.desk.proofs.Places.{told-there, told-set, some-there, some-and, and-some}
 use Rattle.desk.proofs.desk.Desk.put_back.Goals as goal
 

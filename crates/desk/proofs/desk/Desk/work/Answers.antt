@@ -2,10 +2,10 @@ use Rattle.std.proofs.Common.{◌<◌, length, Some, sym, subst, arith}
 use Rattle.std.proofs.lemmas.List.{length-map}
 use Rattle.affinity_tree.specs.Tree.{IsNode}
 use Rattle.depot.specs.Words.{layout_in, view}
-use Rattle.desk_laws.specs.Backing.{books_of, IsBook, IsWhole, IsDone}
-use Rattle.desk_laws.specs.Calls.{HasWorked}
-use Rattle.desk_laws.specs.lemmas.Begins.{in-room}
-use Rattle.desk_laws.specs.lemmas.Ends.{any-backed, can-work, changed-desk, changed-so}
+use Rattle.desk.specs.laws.Backing.{books_of, IsBook, IsWhole, IsDone}
+use Rattle.desk.specs.laws.Calls.{HasWorked}
+use Rattle.desk.specs.laws.lemmas.Begins.{in-room}
+use Rattle.desk.specs.laws.lemmas.Ends.{any-backed, can-work, changed-desk, changed-so}
 use Rattle.desk.specs.Places.{granted, all_granted, shown}
 use Rattle.desk.specs.Words.{books}
 use Rattle.desk.proofs.Places.{told-there, told-set, some-there, some-and, and-some}

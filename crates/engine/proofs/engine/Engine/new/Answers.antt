@@ -2,7 +2,7 @@ use Rattle.std.proofs.Common.{◌≡◌, subst, sym, ap, ◌∙◌}
 use Rattle.nfs_model.specs.World.{Setup, World}
 use Rattle.nfs_model.specs.Headline.{Kept, opening_world}
 use Rattle.engine.specs.declared.state.State.{State}
-use Rattle.service_counts.specs.Counts.{world_counts}
+use Rattle.engine.specs.counts.Counts.{world_counts}
 use Rattle.engine.specs.Seen.{setup_in, world}
 use Rattle.engine.proofs.engine.Engine.new.Goals as goal
 

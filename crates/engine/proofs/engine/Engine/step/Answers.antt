@@ -1,7 +1,7 @@
 use Rattle.std.proofs.Common.{subst, sym}
 use Rattle.nfs_model.specs.Headline.{Kept}
-use Rattle.engine_laws.specs.Store.{StandsFor}
-use Rattle.engine_laws.specs.lemmas.Happening.{kept-after}
+use Rattle.engine.specs.laws.Store.{StandsFor}
+use Rattle.engine.specs.laws.lemmas.Happening.{kept-after}
 use Rattle.desk.specs.Words.{books}
 use Rattle.service.specs.Jobs.{job_of, job_reply_of}
 use Rattle.engine.specs.Seen.{setup_in, world, event_of, answer_of}

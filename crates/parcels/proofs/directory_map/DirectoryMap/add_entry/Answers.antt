@@ -1,7 +1,7 @@
 use Rattle.std.proofs.Common.{◌≡◌, ◌<◌, ◌^◌, None, IfSome, sym, ap, subst, ◌∙◌}
 use Rattle.std.specs.FinMap.{get}
-use Rattle.volume_values.specs.Directories.{DirectoryValue, added, found}
-use Rattle.volume_values.specs.Maps.{changed_at}
+use Rattle.nfs_model.specs.volume.Directories.{DirectoryValue, added, found}
+use Rattle.nfs_model.specs.volume.Maps.{changed_at}
 use Rattle.parcels.proofs.DirectoryMaps.{get-directories, changed-directory, same-directories, on_ok, on_err}
 use Rattle.parcels.proofs.directory_map.DirectoryMap.add_entry.Goals as goal
 

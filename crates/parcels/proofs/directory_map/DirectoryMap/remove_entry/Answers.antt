@@ -1,6 +1,6 @@
 use Rattle.std.proofs.Common.{ap, ◌∙◌}
-use Rattle.volume_values.specs.Directories.{removed}
-use Rattle.volume_values.specs.Maps.{changed_at}
+use Rattle.nfs_model.specs.volume.Directories.{removed}
+use Rattle.nfs_model.specs.volume.Maps.{changed_at}
 use Rattle.parcels.proofs.DirectoryMaps.{changed-directory}
 use Rattle.parcels.proofs.directory_map.DirectoryMap.remove_entry.Goals as goal
 

@@ -2,7 +2,7 @@ use Rattle.std.proofs.Common.{ap, arith}
 use Rattle.connections.specs.Words as words
 use Rattle.connections.specs.Words.{IsIn}
 use Rattle.connections.specs.declared.loan.Loan.{Loan}
-use Rattle.depot_rule.specs.Sums.{total}
+use Rattle.depot.specs.rule.Sums.{total}
 use Rattle.server.specs.Places.{of_helper, seats_of, share_by, share_of, share_with, IsReaderOf}
 use Rattle.server.proofs.Handed.{all-empty}
 use Rattle.server.proofs.Shares.{as-many, seats-kept, share-kept, total-both}

@@ -1,6 +1,6 @@
 use Rattle.std.proofs.Common.{ap, arith}
 use Rattle.connections.specs.declared.loan.Loan.{Loan}
-use Rattle.depot_rule.specs.Sums.{total}
+use Rattle.depot.specs.rule.Sums.{total}
 use Rattle.server.specs.Places.{of_helper, of_lent, share_by, share_of, share_with, IsServedFor}
 use Rattle.server.proofs.Handed.{all-empty}
 use Rattle.server.proofs.Shares.{total-both}

@@ -1,5 +1,5 @@
 use Rattle.std.proofs.Common.{All, sym, subst, ap, ◌∙◌, arith}
-use Rattle.depot_rule.specs.Sums.{total}
+use Rattle.depot.specs.rule.Sums.{total}
 use Rattle.server.specs.Places.{of_lent, IsServedFor}
 use Rattle.server.proofs.Handed.{all-none, total-none}
 use Rattle.server.proofs.Shares.{all-of}

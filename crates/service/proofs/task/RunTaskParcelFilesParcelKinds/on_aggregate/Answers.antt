@@ -6,7 +6,7 @@ use Rattle.nfs_values.specs.Credential.{credential_of}
 use Rattle.nfs_values.specs.Moment.{moment_of}
 use Rattle.parcel_sets.specs.lemmas.Exactly.{aggregate-exact}
 use Rattle.parcel_sets.specs.lemmas.Sorts.{aggregate-kind}
-use Rattle.held_state.specs.Sets.{aggregate_set}
+use Rattle.parcels.specs.state.Sets.{aggregate_set}
 use Rattle.service.specs.Running.{IsRunAt, outcome_of}
 use Rattle.service.specs.lemmas.Aggregates.{aggregate-whole, aggregate-ran, stays-there}
 use Rattle.service.proofs.task.RunTaskParcelFilesParcelKinds.on_aggregate.Goals as goal

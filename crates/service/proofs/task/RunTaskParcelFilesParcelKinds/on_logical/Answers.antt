@@ -6,8 +6,8 @@ use Rattle.nfs_values.specs.Credential.{credential_of}
 use Rattle.nfs_values.specs.Moment.{moment_of}
 use Rattle.parcel_sets.specs.lemmas.Exactly.{logical-exact}
 use Rattle.parcel_sets.specs.lemmas.Sorts.{logical-kind}
-use Rattle.held_state.specs.Lenses.{logical_lens}
-use Rattle.held_state.specs.Sets.{logical_before, logical_after}
+use Rattle.parcels.specs.state.Lenses.{logical_lens}
+use Rattle.parcels.specs.state.Sets.{logical_before, logical_after}
 use Rattle.service.specs.Running.{IsRunAt, outcome_of}
 use Rattle.service.specs.lemmas.Serving.{logical-runs, logical-whole, moves-on}
 use Rattle.service.proofs.task.RunTaskParcelFilesParcelKinds.on_logical.Goals as goal

@@ -5,7 +5,7 @@ use Rattle.affinity_tree.specs.Layout.{layout_of}
 use Rattle.nfs_values.specs.Credential.{credential_of}
 use Rattle.nfs_values.specs.Moment.{moment_of}
 use Rattle.parcel_sets.specs.lemmas.Sorts.{serial-kind}
-use Rattle.held_state.specs.Sets.{serial_set}
+use Rattle.parcels.specs.state.Sets.{serial_set}
 use Rattle.service.specs.Running.{IsRunAt, outcome_of}
 use Rattle.service.specs.lemmas.OnAll.{is-serial, serial-whole, serial-runs, serial-moves-on}
 use Rattle.service.proofs.Runs.{unless-any}

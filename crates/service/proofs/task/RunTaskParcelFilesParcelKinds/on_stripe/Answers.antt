@@ -6,7 +6,7 @@ use Rattle.nfs_values.specs.Moment.{moment_of}
 use Rattle.parcel_sets.specs.lemmas.Exactly.{stripe-exact}
 use Rattle.parcel_sets.specs.lemmas.Sorts.{stripe-kind}
 use Rattle.std.proofs.Common.{subst}
-use Rattle.held_state.specs.Lenses.{stripe_lens}
+use Rattle.parcels.specs.state.Lenses.{stripe_lens}
 use Rattle.service.specs.Running.{IsRunAt, outcome_of}
 use Rattle.service.specs.lemmas.Serving.{stripe-runs, stripe-whole, moves-on}
 use Rattle.service.proofs.task.RunTaskParcelFilesParcelKinds.on_stripe.Goals as goal

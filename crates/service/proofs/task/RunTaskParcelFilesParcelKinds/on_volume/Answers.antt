@@ -6,8 +6,8 @@ use Rattle.nfs_values.specs.Credential.{credential_of}
 use Rattle.nfs_values.specs.Moment.{moment_of}
 use Rattle.parcel_sets.specs.lemmas.Exactly.{volume-exact}
 use Rattle.parcel_sets.specs.lemmas.Sorts.{volume-kind}
-use Rattle.held_state.specs.Lenses.{volume_lens}
-use Rattle.held_state.specs.Sets.{volume_before, volume_after}
+use Rattle.parcels.specs.state.Lenses.{volume_lens}
+use Rattle.parcels.specs.state.Sets.{volume_before, volume_after}
 use Rattle.service.specs.Running.{IsRunAt, outcome_of}
 use Rattle.service.specs.lemmas.Serving.{volume-runs, volume-whole, moves-on}
 use Rattle.service.proofs.task.RunTaskParcelFilesParcelKinds.on_volume.Goals as goal

@@ -1,6 +1,6 @@
 use Rattle.std.proofs.Common.{◌*◌, ap, ◌∙◌}
 use Rattle.nfs_model.specs.Server.{block_size}
-use Rattle.volume_values.specs.Stripes.{block_mapped, byte_written}
+use Rattle.nfs_model.specs.volume.Stripes.{block_mapped, byte_written}
 use Rattle.stripes.specs.Bytes.{bytes_mapped}
 use Rattle.stripes.proofs.Bytes.{block-mapped}
 use Rattle.stripes.proofs.block.Block.write.Goals as goal

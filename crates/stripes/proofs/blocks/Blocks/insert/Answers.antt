@@ -2,7 +2,7 @@ use Rattle.std.proofs.Common.{ℕ, length, ap, subst, ◌∙◌}
 use Rattle.std.specs.FinMap.{insert}
 use Rattle.nfs_model.specs.Server.{block_size}
 use Rattle.std.proofs.lemmas.List.{length-replicate}
-use Rattle.volume_values.specs.Stripes.{Block}
+use Rattle.nfs_model.specs.volume.Stripes.{Block}
 use Rattle.stripes.specs.Spans.{IsLong}
 use Rattle.stripes.proofs.Inserted.{put-blocks}
 use Rattle.stripes.proofs.Called.{put-is, long-blocks, same-of, on_ok, on_err}

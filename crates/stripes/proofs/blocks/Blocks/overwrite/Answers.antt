@@ -2,8 +2,8 @@ use Rattle.std.proofs.Common.{length, is_some, ap, ◌∙◌}
 use Rattle.std.specs.List.{list_all}
 use Rattle.std.specs.FinMap.{get}
 use Rattle.nfs_model.specs.Serial.Write.{blocks_met}
-use Rattle.volume_values.specs.Maps.{map_values}
-use Rattle.volume_values.specs.Stripes.{file_mapped, byte_written}
+use Rattle.nfs_model.specs.volume.Maps.{map_values}
+use Rattle.nfs_model.specs.volume.Stripes.{file_mapped, byte_written}
 use Rattle.stripes.proofs.Takes.{stays-same}
 use Rattle.stripes.proofs.Words.{written-blocks}
 use Rattle.stripes.proofs.Called.{filled-answer, write-spans, long-blocks, same-of}

@@ -1,7 +1,7 @@
 use Rattle.std.proofs.Common.{sym, ap, subst, ◌∙◌, Some, is_some}
 use Rattle.std.specs.FinMap.{get, remove}
 use Rattle.std.specs.Option.{option_map}
-use Rattle.volume_values.specs.Stripes.{Block}
+use Rattle.nfs_model.specs.volume.Stripes.{Block}
 use Rattle.stripes.specs.Spans.{IsLong}
 use Rattle.stripes.proofs.Cut.{freed-spans}
 use Rattle.stripes.proofs.Called.{long-blocks, same-is, same-of}

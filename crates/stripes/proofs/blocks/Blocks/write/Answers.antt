@@ -1,6 +1,6 @@
 use Rattle.std.proofs.Common.{ap, ◌∙◌}
-use Rattle.volume_values.specs.Maps.{map_values}
-use Rattle.volume_values.specs.Stripes.{file_mapped, byte_written}
+use Rattle.nfs_model.specs.volume.Maps.{map_values}
+use Rattle.nfs_model.specs.volume.Stripes.{file_mapped, byte_written}
 use Rattle.stripes.proofs.Words.{written-spans, written-blocks}
 use Rattle.stripes.proofs.Called.{long-blocks}
 use Rattle.stripes.proofs.blocks.Blocks.write.Goals as goal

@@ -1,7 +1,7 @@
 use Rattle.std.proofs.Common.{◌++◌, ◌+◌, ◌/◌, ◌%◌, ◌∙◌, List, ℕ, map, get_or, append_assoc, ap, sym, refl, arith}
 use Rattle.std.specs.List.{range_with_len}
 use Rattle.nfs_model.specs.Server.{block_size}
-use Rattle.volume_values.specs.Stripes.{byte_of}
+use Rattle.nfs_model.specs.volume.Stripes.{byte_of}
 use Rattle.stripes.specs.Spans.{span_read}
 use Rattle.stripes.proofs.Ranges.{block-read, span_read-append}
 use Rattle.stripes.proofs.Places.{at-place}

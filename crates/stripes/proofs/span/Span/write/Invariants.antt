@@ -1,5 +1,5 @@
 use Rattle.std.proofs.Common.{◌≡◌, length}
-use Rattle.volume_values.specs.Stripes.{span_blocks}
+use Rattle.nfs_model.specs.volume.Stripes.{span_blocks}
 use Rattle.stripes.specs.Spans.{WritesBlocks}
 use Rattle.stripes.proofs.span.Span.write.Given as goal
 

@@ -1,6 +1,6 @@
 use Rattle.std.proofs.Common.{◌≡◌, Some, None, sym, ap, ◌∙◌}
 use Rattle.std.specs.FinMap.{get, get-empty}
-use Rattle.volume_values.specs.Stripes.{place_cmp}
+use Rattle.nfs_model.specs.volume.Stripes.{place_cmp}
 use Rattle.stripes.proofs.stripe.Stripe.new.Goals as goal
 
 pub invariant_of-result : goal.invariant_of-result

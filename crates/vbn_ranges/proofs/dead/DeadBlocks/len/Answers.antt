@@ -1,5 +1,5 @@
 use Rattle.std.proofs.Common.{subst}
-use Rattle.volume_values.specs.Ranges.{IsOfVolume}
+use Rattle.nfs_model.specs.volume.Ranges.{IsOfVolume}
 use Rattle.vbn_ranges.proofs.DeadSets.{of-volume}
 use Rattle.vbn_ranges.proofs.dead.DeadBlocks.len.Goals as goal
 

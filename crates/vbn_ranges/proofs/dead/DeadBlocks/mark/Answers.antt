@@ -1,5 +1,5 @@
 use Rattle.std.proofs.Common.{◌∙◌, ◌∷◌, [], ap, sym, arith}
-use Rattle.volume_values.specs.Ranges.{with_numbers}
+use Rattle.nfs_model.specs.volume.Ranges.{with_numbers}
 use Rattle.vbn_ranges.proofs.DeadMarked.{marks-at, few-dead, one-dead, dead-with, dead-already}
 use Rattle.vbn_ranges.proofs.dead.DeadBlocks.mark.Goals as goal
 

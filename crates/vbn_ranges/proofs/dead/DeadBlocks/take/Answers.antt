@@ -1,6 +1,6 @@
 use Rattle.std.proofs.Common.{◌∙◌, ap, sym, subst, rules}
 use Rattle.nfs_model.specs.Moves.{lowest_batch}
-use Rattle.volume_values.specs.Ranges.{IsOfVolume}
+use Rattle.nfs_model.specs.volume.Ranges.{IsOfVolume}
 use Rattle.vbn_ranges.specs.Batch.{first_of}
 use Rattle.vbn_ranges.proofs.DeadSets.{of-volume}
 use Rattle.vbn_ranges.proofs.DeadCounts.{first-is, first-lowest, lowest-batch-is, one-left, none-left, empty-first}

@@ -1,5 +1,5 @@
 use Rattle.std.proofs.Common.{◌∙◌, ap, List, ℕ}
-use Rattle.volume_values.specs.Ranges.{without_numbers}
+use Rattle.nfs_model.specs.volume.Ranges.{without_numbers}
 use Rattle.vbn_ranges.proofs.DeadCounts.{lowest-batch-is}
 use Rattle.vbn_ranges.proofs.dead.DeadBlocks.take_batch.Goals as goal
 

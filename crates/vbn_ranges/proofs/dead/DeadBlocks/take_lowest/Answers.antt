@@ -1,5 +1,5 @@
 use Rattle.std.proofs.Common.{◌≡◌, ◌≤◌, ◌-◌, ◌∙◌, ◌++◌, ap, sym, subst, ℕ, length, take, drop, vec_len, rules}
-use Rattle.volume_values.specs.Ranges.{without_numbers}
+use Rattle.nfs_model.specs.volume.Ranges.{without_numbers}
 use Rattle.vbn_ranges.specs.Dead.{AreDead, all_of, lowest_of}
 use Rattle.vbn_ranges.proofs.DeadCounts.{TakenFrom, taken-from, fits-count, still-dead, lowest-taken-is, lowest-left}
 use Rattle.vbn_ranges.proofs.dead.DeadBlocks.take_lowest.Goals as goal

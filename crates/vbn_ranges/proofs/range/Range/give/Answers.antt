@@ -2,7 +2,7 @@ use Rattle.std.proofs.Common.{◌≡◌, ◌∙◌, refl, sym, subst, true, List
 use Rattle.std.specs.List.{list_any}
 use Rattle.std.specs.FinSet.{contains}
 use Rattle.nfs_model.specs.Parts.{IsBatch}
-use Rattle.volume_values.specs.Ranges.{RangeValue, IsRange, MayBeGiven}
+use Rattle.nfs_model.specs.volume.Ranges.{RangeValue, IsRange, MayBeGiven}
 use Rattle.vbn_ranges.specs.Batch.{IsOfOneRange, batch_range}
 use Rattle.vbn_ranges.specs.Marks.{MarksValue}
 use Rattle.vbn_ranges.proofs.Ranged.{batch-of, may-be-given, not-given, given-is, given-none}

@@ -1,5 +1,5 @@
 use Rattle.std.proofs.Common.{◌∙◌, ap, subst, sym, true}
-use Rattle.volume_values.specs.Ranges.{IsRange, put_in_use}
+use Rattle.nfs_model.specs.volume.Ranges.{IsRange, put_in_use}
 use Rattle.vbn_ranges.specs.Marks.{MarksValue, all_marks}
 use Rattle.vbn_ranges.proofs.Ranged.{free-is, comes-in-use}
 use Rattle.vbn_ranges.proofs.range.Range.put_in_use.Goals as goal

@@ -1,5 +1,5 @@
 use Rattle.std.proofs.Common.{subst, sym}
-use Rattle.volume_values.specs.Ranges.{IsRange}
+use Rattle.nfs_model.specs.volume.Ranges.{IsRange}
 use Rattle.vbn_ranges.specs.Marks.{MarksValue}
 use Rattle.vbn_ranges.proofs.Ranged.{taken-is}
 use Rattle.vbn_ranges.proofs.range.Range.take.Goals as goal

@@ -1,5 +1,5 @@
 use Rattle.depot.specs.Words.{view}
-use Rattle.shared_waiting.specs.Passes.{known}
+use Rattle.workers.specs.shared_waiting.Passes.{known}
 use Rattle.service.specs.Jobs.{inner_of}
 use Rattle.workers.specs.Words.{layout_in}
 use Rattle.workers.proofs.Carrying.{still-even, hand-after-it, hand-inside}

@@ -2,7 +2,7 @@ use Rattle.std.proofs.Common.{◌∙◌, Option, sym, ap, subst}
 use Rattle.std.specs.Prelude.{IfSome}
 use Rattle.nfs_model.specs.Parts.{Hand}
 use Rattle.depot.specs.Words.{view, IsSeatHere}
-use Rattle.shared_waiting.specs.Passes.{known, IsOf}
+use Rattle.workers.specs.shared_waiting.Passes.{known, IsOf}
 use Rattle.workers.specs.declared.message.Message.{Message}
 use Rattle.workers.specs.Balance.{FilerView, Passed}
 use Rattle.workers.specs.Messages.{IsPlaced}

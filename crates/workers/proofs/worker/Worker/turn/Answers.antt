@@ -1,5 +1,5 @@
 use Rattle.depot.specs.Words.{view}
-use Rattle.shared_waiting.specs.Passes.{known}
+use Rattle.workers.specs.shared_waiting.Passes.{known}
 use Rattle.workers.specs.Words.{layout_in}
 use Rattle.workers.proofs.Turning.{turn-did}
 use Rattle.workers.proofs.worker.Worker.turn.Goals as goal

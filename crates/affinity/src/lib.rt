@@ -1,6 +1,0 @@
-//! The home of a call: the affinity that it tries first, by what its handle names.
-#![tactic(auto)]
-
-mod home;
-
-pub use home::{home_of, named_by};

@@ -1,0 +1,5 @@
+//! The home of a call: the affinity that it tries first, by what its handle names.
+
+mod home;
+
+pub use home::{home_of, named_by};

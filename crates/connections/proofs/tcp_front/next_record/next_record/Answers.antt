@@ -1,0 +1,28 @@
+use Rattle.std.proofs.Common.{List, ℕ, take, subst}
+use Rattle.rpc_msg.specs.declared.marking.reassembler.Step.{Step}
+use Rattle.rpc_msg.specs.marking.Feeds.{Feeds, given}
+use Rattle.engine_feed.specs.Codec.{heard}
+use Rattle.connections.specs.tcp_front.Steps.{IsNext}
+use Rattle.connections.proofs.tcp_front.Adding.{Reads, comes-next, comes-fault}
+use Rattle.connections.proofs.tcp_front.next_record.next_record.Goals as goal
+
+pub returns-in-Record-clause-comes : goal.returns-in-Record-clause-comes
+returns-in-Record-clause-comes c =
+    let at = c.args.reassembler.now in
+    let bytes = c.args.bytes.now in
+    let taken = c.feed-taken.result.0 in
+    let at' = c.feed-taken.new.self in
+    let fed = subst (λ (s : Step). Feeds at bytes taken s at') c.in-Record.is c.feed-taken.ensures.feeds in
+    let reads = subst (λ (s : Step). Reads at (take taken bytes) (given s) at') c.in-Record.is c.feed-taken.ensures.reads in
+    let is = subst (λ (l : List ℕ). IsNext c.next_of.result (heard l)) c.deref.ensures.value c.next_of.ensures in
+    comes-next at at' bytes taken c.in-Record.record.items c.next_of.result fed.0 reads fed.3 is
+
+pub returns-in-Fault-clause-comes : goal.returns-in-Fault-clause-comes
+returns-in-Fault-clause-comes c =
+    let at = c.args.reassembler.now in
+    let bytes = c.args.bytes.now in
+    let taken = c.feed-taken.result.0 in
+    let at' = c.feed-taken.new.self in
+    let fed = subst (λ (s : Step). Feeds at bytes taken s at') c.in-Fault.is c.feed-taken.ensures.feeds in
+    let reads = subst (λ (s : Step). Reads at (take taken bytes) (given s) at') c.in-Fault.is c.feed-taken.ensures.reads in
+    comes-fault at at' (take taken bytes) reads fed.2

@@ -1,0 +1,87 @@
+//! Records that are given on: calls to be run, and replies that need no worker.
+
+ghost use Rattle.std.specs.Prelude.{◌≡◌, [], ◌∷◌, OnOk, OnErr};
+ghost use Rattle.nfs_model.specs.Types as types;
+ghost use Rattle.nfs_values.specs.Call.{call_of};
+ghost use Rattle.nfs_values.specs.Credential.{credential_of};
+ghost use Rattle.affinity_tree.specs.Layout.{layout_of};
+ghost use Rattle.nfs_values.specs.Reply.{reply_of};
+ghost use Rattle.outboxes.specs.Boxes.{addressed};
+ghost use Rattle.outboxes.specs.Messages.{message};
+ghost use Rattle.engine_feed.specs.Seen.{asked_of};
+ghost use Rattle.connections.specs.tcp_front.Arrivals.{Answered};
+ghost use Rattle.connections.specs.tcp_front.Steps.{given_of};
+
+use crate::tcp_front::sink::RecordSink;
+use affinity_tree::Layout;
+use affinity_tree::homes::home_of;
+use affinity_tree::scheduler::{Message, Origin};
+use engine_feed::{OfferedCall, Refused, Request, answer_at_once};
+use nfs_values::{Credential, Reply};
+use rpc_msg::{refusals_fit, replies_fit, room_of_reply};
+use std::alloc::{AllocError, Global};
+
+/// Gives on a call: to be run where it has a home, and else answered.
+fn give_call<S: RecordSink>(
+    alloc: Global,
+    sink: &mut S,
+    layout: &Layout,
+    origin: Origin,
+    call: OfferedCall,
+    credential: Credential,
+) -> Result<(), AllocError>
+    requires { S.layout sink.old ≡ layout_of layout.now }
+    ensures ok { OnOk result (S.came sink.old (given_of (layout_of layout.now) origin
+        (types.Ask (call_of call) (credential_of credential))) sink.new) }
+    ensures err { OnErr result (S.came sink.old [] sink.new) }
+    ensures layout { S.layout sink.new ≡ S.layout sink.old }
+{
+    let room = room_of_reply(call.as_call(), layout.volume_count() as u32);
+    match home_of(call.as_call(), layout) {
+        Some(affinity) => sink.admit(Message {
+            origin,
+            call,
+            credential,
+            affinity,
+            room,
+        }),
+        None => {
+            replies_fit();
+            let reply = Reply::Success(answer_at_once(alloc, &call, layout));
+            sink.answer(origin.connection, origin.xid, &reply)
+        }
+    }
+}
+
+/// Answers a record that is refused.
+fn refuse<S: RecordSink>(sink: &mut S, origin: Origin, refused: &Refused) -> Result<(), AllocError>
+    ensures ok { OnOk result (S.came sink.old (Answered (addressed origin.connection.0
+        (message origin.xid (reply_of refused.now))) ∷ []) sink.new) }
+    ensures err { OnErr result (S.came sink.old [] sink.new) }
+    ensures layout { S.layout sink.new ≡ S.layout sink.old }
+{
+    refusals_fit();
+    sink.answer(origin.connection, origin.xid, refused.as_reply())
+}
+
+/// Gives on what a record asks.
+pub(crate) fn give<S: RecordSink>(
+    alloc: Global,
+    sink: &mut S,
+    layout: &Layout,
+    origin: Origin,
+    request: Request,
+) -> Result<(), AllocError>
+    requires { S.layout sink.old ≡ layout_of layout.now }
+    ensures ok { OnOk result
+        (S.came sink.old (given_of (layout_of layout.now) origin (asked_of request)) sink.new) }
+    ensures err { OnErr result (S.came sink.old [] sink.new) }
+    ensures layout { S.layout sink.new ≡ S.layout sink.old }
+{
+    match request {
+        Request::Call { call, credential } => {
+            give_call(alloc, sink, layout, origin, call, credential)
+        }
+        Request::Refused(refused) => refuse(sink, origin, &refused),
+    }
+}

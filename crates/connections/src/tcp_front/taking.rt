@@ -1,0 +1,93 @@
+//! Bytes whose records are given on.
+
+ghost use Rattle.std.specs.Prelude.{◌≡◌, ◌<◌, ◌≤◌, None, length, take};
+ghost use Rattle.affinity_tree.specs.Layout.{layout_of};
+ghost use Rattle.connections.specs.tcp_front.Arrivals.{most_records};
+ghost use Rattle.engine_feed.specs.Seen.{heard_of};
+ghost use Rattle.connections.specs.tcp_front.Steps.{HasGiven, HasTaken};
+
+use crate::tcp_front::giving::give;
+use crate::tcp_front::next_record::{Next, next_record};
+use crate::tcp_front::sink::RecordSink;
+use crate::tcp_front::stream::{MOST_RECORDS, Stopped, Stream};
+use affinity_tree::Layout;
+use affinity_tree::scheduler::Origin;
+use engine_feed::Heard;
+
+/// Gives on a record under the next number.
+fn give_next<S: RecordSink>(
+    stream: &mut Stream,
+    sink: &mut S,
+    layout: &Layout,
+    heard: Heard,
+) -> Option<Stopped>
+    requires few { stream.old.records < most_records }
+    requires layout { S.layout sink.old ≡ layout_of layout.now }
+    ensures given { HasGiven S.came (layout_of layout.now) stream.old sink.old (heard_of heard)
+        result stream.new sink.new }
+    ensures layout { S.layout sink.new ≡ S.layout sink.old }
+{
+    let origin = Origin {
+        connection: stream.connection,
+        number: stream.records,
+        xid: heard.xid,
+    };
+    match give(stream.alloc, sink, layout, origin, heard.request) {
+        Err(_refused) => Some(Stopped::NoMemory),
+        Ok(()) => {
+            stream.records += 1;
+            if stream.records == MOST_RECORDS {
+                Some(Stopped::NumbersUsed)
+            } else {
+                None
+            }
+        }
+    }
+}
+
+/// Takes bytes up to the end of at most one record, which is given on.
+fn take_record<S: RecordSink>(
+    stream: &mut Stream,
+    sink: &mut S,
+    layout: &Layout,
+    bytes: &[u8],
+) -> (usize, Option<Stopped>)
+    requires few { stream.old.records < most_records }
+    requires layout { S.layout sink.old ≡ layout_of layout.now }
+    ensures within { result.0 ≤ length bytes.now }
+    ensures some { result.1 ≡ None → 0 < length bytes.now → 0 < result.0 }
+    ensures taken { HasTaken S.came (layout_of layout.now) stream.old sink.old
+        (take result.0 bytes.now) result.1 stream.new sink.new }
+    ensures layout { S.layout sink.new ≡ S.layout sink.old }
+{
+    let (taken, next) = next_record(stream.alloc, &mut stream.reassembler, bytes);
+    match next {
+        Next::More => (taken, None),
+        Next::Heard(heard) => (taken, give_next(stream, sink, layout, heard)),
+        Next::Stopped(stopped) => (taken, Some(stopped)),
+    }
+}
+
+/// Takes bytes, and gives on all records that they complete, or those before what stops it.
+pub(crate) fn take_all<S: RecordSink>(
+    stream: &mut Stream,
+    sink: &mut S,
+    layout: &Layout,
+    bytes: &[u8],
+) -> Option<Stopped>
+    requires few { stream.old.records < most_records }
+    requires layout { S.layout sink.old ≡ layout_of layout.now }
+    ensures taken { HasTaken S.came (layout_of layout.now) stream.old sink.old
+        bytes.now result stream.new sink.new }
+    ensures layout { S.layout sink.new ≡ S.layout sink.old }
+{
+    let mut taken = 0;
+    while taken < bytes.len() {
+        let (size, stopped) = take_record(stream, sink, layout, &bytes[taken..]);
+        match stopped {
+            None => taken += size,
+            Some(stopped) => return Some(stopped),
+        }
+    }
+    None
+}

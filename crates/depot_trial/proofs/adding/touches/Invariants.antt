@@ -1,6 +1,0 @@
-use Rattle.std.proofs.Common.{◌≤◌}
-use Rattle.depot.specs.Words.{IsSeatHere}
-use Rattle.depot_trial.proofs.adding.touches.Given as goal
-
-abbrev pub invariant-loop-call : goal.invariant-loop-call
-invariant-loop-call g l = (l.refused ≤ l._call) × IsSeatHere l.depot l.seat

@@ -1,0 +1,36 @@
+-- What serving a message does to the parcels under its affinity.
+use Rattle.std.specs.Prelude.{◌≡◌, ℕ, true, false, List, Option, Some}
+use Rattle.nfs_model.specs.Types.{SystemError}
+use Rattle.nfs_model.specs.Tree.{Layout, Affinity}
+use Rattle.nfs_model.specs.Parts.{Hand}
+use Rattle.nfs_model.specs.Work.{Task, Outcome, Replied, Starved, Moved, move_of}
+use Rattle.nfs_model.specs.World.{Running, task_of}
+use Rattle.nfs_model.specs.Events.Step.{finished_call}
+use Rattle.affinity_tree.specs.Ancestors.{Covers}
+use Rattle.affinity_tree.specs.Numbers.{number_of, parents}
+use Rattle.desk.specs.laws.Calls.{Does}
+use Rattle.parcels.specs.state.Parcels.{FilerParcel}
+use Rattle.parcels.specs.state.Contents.{filer_contents}
+use Rattle.parcels.specs.state.Sound.{AllSound}
+use Rattle.parcels.specs.state.Jobs as jobs
+use Rattle.parcels.specs.state.Jobs.{Serve}
+use Rattle.parcels.specs.state.Deeds.{FilerSteps, stored_all}
+
+module _ {P : Type 0} where
+  -- parcels that agree under a node
+  abbrev pub AgreeUnder : Layout → Affinity → (ℕ → Option (FilerParcel P)) → (ℕ → Option (FilerParcel P)) → Type 0
+  AgreeUnder layout node g f = (k : ℕ) → Covers (parents layout) (number_of layout node) k → g k ≡ f k
+
+  -- whatever the other parcels are, where all is sound, a task moves there
+  abbrev pub MovesTo : Task → Layout → Affinity → (ℕ → Option (FilerParcel P)) → Affinity → Type 0
+  MovesTo task layout node f to = (g : ℕ → Option (FilerParcel P)) (hands : List Hand) (made : ℕ)
+      → AgreeUnder layout node g f → AllSound layout g hands made → move_of (stored_all (filer_contents layout g)) task ≡ Some to
+
+  -- What serving a message comes to, by its outcome: a reply is that of a step of the filer, and so is SYSTEM_ERR where the call
+  -- was starved; a message that has to move changes nothing.
+  abbrev pub Serving : Running → Does (FilerParcel P) Outcome
+  Serving r layout node f (Replied reply) f' =
+      FilerSteps (parents layout) (number_of layout node) (Serve (finished_call r false)) f (jobs.Replied reply) f'
+  Serving r layout node f Starved f' =
+      FilerSteps (parents layout) (number_of layout node) (Serve (finished_call r true)) f (jobs.Replied SystemError) f'
+  Serving r layout node f (Moved to) f' = AgreeUnder layout node f' f × MovesTo (task_of r) layout node f to

@@ -1,5 +1,0 @@
-use Rattle.engine_laws.specs.lemmas.Agreeing.{agreed}
-use Rattle.engine_laws.proofs.laws.calls_agree.Goals as goal
-
-pub returns : goal.returns
-returns g c = λ job told setup w b s. agreed job told setup w b s c.parts_partition.ensures

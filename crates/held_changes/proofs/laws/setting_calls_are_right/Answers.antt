@@ -1,5 +1,0 @@
-use Rattle.held_changes.specs.lemmas.Setattr.{setattr-done}
-use Rattle.held_changes.proofs.laws.setting_calls_are_right.Goals as goal
-
-pub returns : goal.returns
-returns c = λ v fileid handle node set guard moment s. setattr-done fileid handle node set guard moment v s

@@ -1,7 +1,0 @@
-//! What READ and WRITE come to by a stripe, by the parcels under Volume Logical, and by those under
-//! Volume.
-#![tactic(auto)]
-
-mod laws;
-
-pub use laws::{reading_calls_are_right, writing_calls_are_right};

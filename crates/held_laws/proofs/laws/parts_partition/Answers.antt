@@ -1,5 +1,0 @@
-use Rattle.held_laws.specs.lemmas.Counted.{partition-is}
-use Rattle.held_laws.proofs.laws.parts_partition.Goals as goal
-
-pub returns : goal.returns
-returns c = λ p hands made in_hands sound listed. partition-is p hands in_hands sound.well_formed sound.partition listed

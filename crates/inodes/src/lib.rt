@@ -1,8 +1,0 @@
-//! Inodes of a volume: attributes and kinds by fileid.
-#![tactic(auto)]
-
-mod inode;
-mod inodes;
-
-pub use inode::{Inode, InodeKind, StoredAttributes};
-pub use inodes::Inodes;

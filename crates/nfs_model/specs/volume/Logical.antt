@@ -1,0 +1,17 @@
+-- What stands under Volume Logical but its stripes, and the stock and the dead of a volume (our profile).
+use Rattle.std.specs.Prelude.{ℕ, List}
+use Rattle.std.specs.Ordering.{nat_cmp}
+use Rattle.std.specs.FinMap.{FinMap}
+use Rattle.std.specs.FinSet.{FinSet}
+use Rattle.nfs_model.specs.volume.Directories.{DirectoryValue}
+use Rattle.nfs_model.specs.volume.Inodes.{InodesValue}
+
+-- the part of a volume that Volume Logical has
+pub record LogicalValue : Type 0 where
+  pub verifier : List ℕ  -- of writes, fixed for the run
+  pub stripes : ℕ  -- of the volume
+  pub largest : ℕ  -- size of a file of the volume
+  pub inodes : InodesValue
+  pub directories : FinMap nat_cmp DirectoryValue  -- by fileid
+  pub stock : FinSet nat_cmp  -- block numbers for files
+  pub dead : FinSet nat_cmp  -- block numbers left by files, not yet free

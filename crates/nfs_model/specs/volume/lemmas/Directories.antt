@@ -1,0 +1,112 @@
+-- What is found after a name is added or removed.
+use Rattle.std.proofs.Common.{◌≡◌, refl, sym, subst, ◌∙◌, ap, ℕ, ◌+◌, Bool, true, false, ◌==◌, ◌&&◌}
+use Rattle.std.proofs.Common.{not, nat_eq, List, [], ◌∷◌, ◌++◌, length, Some, None, if◌then◌else◌, arith}
+use Rattle.std.specs.Cmp.Lexicographic.{pointwise, same_text, nat_list_eq_equiv}
+use Rattle.nfs_model.specs.Types.{Listed}
+use Rattle.nfs_model.specs.Names.{same_name, find_name, without_name}
+use Rattle.nfs_model.specs.volume.Directories.{DirectoryValue, found, added, removed, entry_added, IsOnlyOne, NamesDiffer, IsDirectory}
+
+-- ---- names that are the same
+
+same-pointwise : (x y : List ℕ) → same_name x y ≡ pointwise nat_eq x y
+same-pointwise [] [] = refl
+same-pointwise [] (c ∷ y) = refl
+same-pointwise (b ∷ x) [] = refl
+same-pointwise (b ∷ x) (c ∷ y) = ap (λ t. (b == c) && t) (same-pointwise x y)
+
+pub same-itself : (x : List ℕ) → same_name x x ≡ true
+same-itself x = same-pointwise x x ∙ nat_list_eq_equiv.refl x
+
+pub same-turned : (x y : List ℕ) → same_name x y ≡ same_name y x
+same-turned x y = same-pointwise x y ∙ (nat_list_eq_equiv.symm x y ∙ sym (same-pointwise y x))
+
+pub same-is : (x y : List ℕ) → same_name x y ≡ true → x ≡ y
+same-is x y e = same_text x y (sym e ∙ same-pointwise x y)
+
+-- ---- after `added`
+
+find-last : (es : List Listed) (e : Listed) → find_name e.name es ≡ None → find_name e.name (es ++ e ∷ []) ≡ Some e
+find-last [] e f = rw (same-itself e.name) refl
+find-last (x ∷ es) e f = by (same_name x.name e.name) (find-last es e) f
+  where
+    by : (b : Bool) → (find_name e.name es ≡ None → find_name e.name (es ++ e ∷ []) ≡ Some e)
+        → (if b then Some x else find_name e.name es) ≡ None → (if b then Some x else find_name e.name (es ++ e ∷ [])) ≡ Some e
+    by true r s = absurd (grind (arith, s))
+    by false r s = r s
+
+find-before : (es : List Listed) (e : Listed) (other : List ℕ) → same_name e.name other ≡ false
+    → find_name other (es ++ e ∷ []) ≡ find_name other es
+find-before [] e other o = rw o refl
+find-before (x ∷ es) e other o = ap (λ r. if same_name x.name other then Some x else r) (find-before es e other o)
+
+-- the name that is added is found
+pub found-added : (d : DirectoryValue) (name : List ℕ) (fileid : ℕ) → found d name ≡ None
+    → found (added name fileid d) name ≡ Some (entry_added name fileid d)
+found-added d name fileid f = find-last d.list (entry_added name fileid d) f
+
+-- another name is found as before
+pub found-added-other : (d : DirectoryValue) (name : List ℕ) (fileid : ℕ) (other : List ℕ) → same_name name other ≡ false
+    → found (added name fileid d) other ≡ found d other
+found-added-other d name fileid other o = find-before d.list (entry_added name fileid d) other o
+
+length-push : (es : List Listed) (e : Listed) → length (es ++ e ∷ []) ≡ length es + 1
+length-push [] e = refl
+length-push (x ∷ es) e = let r = length-push es e in omega (arith, r)
+
+pub length-added : (d : DirectoryValue) (name : List ℕ) (fileid : ℕ) → length (added name fileid d).list ≡ length d.list + 1
+length-added d name fileid = length-push d.list (entry_added name fileid d)
+
+-- ---- after `removed`
+
+find-gone : (es : List Listed) (name : List ℕ) → find_name name (without_name name es) ≡ None
+find-gone [] name = refl
+find-gone (x ∷ es) name = by (same_name x.name name) refl (find-gone es name)
+  where
+    by : (b : Bool) → b ≡ same_name x.name name → find_name name (without_name name es) ≡ None
+        → find_name name (if not b then x ∷ without_name name es else without_name name es) ≡ None
+    by true p r = r
+    by false p r = rw (← p) r
+
+find-left : (es : List Listed) (name other : List ℕ) → same_name name other ≡ false
+    → find_name other (without_name name es) ≡ find_name other es
+find-left [] name other o = refl
+find-left (x ∷ es) name other o = by (same_name x.name name) refl (find-left es name other o)
+  where
+    by : (b : Bool) → b ≡ same_name x.name name → find_name other (without_name name es) ≡ find_name other es
+        → find_name other (if not b then x ∷ without_name name es else without_name name es)
+        ≡ (if same_name x.name other then Some x else find_name other es)
+    by true p r =
+        let otherwise : same_name x.name other ≡ false = subst (λ n. same_name n other ≡ false) (sym (same-is x.name name (sym p))) o in
+        rw otherwise r
+    by false p r = ap (λ t. if same_name x.name other then Some x else t) r
+
+-- a name that is removed isn't found
+pub found-removed : (d : DirectoryValue) (name : List ℕ) → found (removed name d) name ≡ None
+found-removed d name = find-gone d.list name
+
+-- another name is found as before
+pub found-removed-other : (d : DirectoryValue) (name other : List ℕ) → same_name name other ≡ false
+    → found (removed name d) other ≡ found d other
+found-removed-other d name other o = find-left d.list name other o
+
+without-others : (es : List Listed) (x : Listed) → IsOnlyOne x es → without_name x.name es ≡ es
+without-others [] x o = refl
+without-others (y ∷ es) x o = rw o.0 (ap (λ l. y ∷ l) (without-others es x o.1))
+
+length-left : (es : List Listed) (name : List ℕ) (e : Listed) → NamesDiffer es → find_name name es ≡ Some e
+    → length (without_name name es) + 1 ≡ length es
+length-left [] name e d f = absurd (grind (arith, f))
+length-left (x ∷ es) name e d f = by (same_name x.name name) refl (length-left es name e d.1) f
+  where
+    by : (b : Bool) → b ≡ same_name x.name name → (find_name name es ≡ Some e → length (without_name name es) + 1 ≡ length es)
+        → (if b then Some x else find_name name es) ≡ Some e
+        → length (if not b then x ∷ without_name name es else without_name name es) + 1 ≡ length (x ∷ es)
+    by true p r s =
+        let named = same-is x.name name (sym p) in
+        let kept = ap (λ (l : List Listed). length l) (subst (λ n. without_name n es ≡ es) named (without-others es x d.0)) in
+        omega (arith, kept)
+    by false p r s = let l = r s in omega (arith, l)
+
+pub length-removed : (d : DirectoryValue) (name : List ℕ) (e : Listed) → IsDirectory d → found d name ≡ Some e
+    → length (removed name d).list + 1 ≡ length d.list
+length-removed d name e h f = length-left d.list name e h.names f

@@ -1,0 +1,13 @@
+use Rattle.parcels.specs.state.Deeds.{FilerSteps}
+use Rattle.parcels.specs.laws.lemmas.Commuting.{local-commute}
+use Rattle.parcels.specs.laws.lemmas.Lawful.{steps-local, steps-keep}
+use Rattle.parcels.proofs.laws.laws.steps_are_lawful.Goals as goal
+
+pub returns-clause-local : goal.returns-clause-local
+returns-clause-local g c = steps-local
+
+pub returns-clause-keeps : goal.returns-clause-keeps
+returns-clause-keeps g c = steps-keep
+
+pub returns-clause-commute : goal.returns-clause-commute
+returns-clause-commute g c = local-commute FilerSteps steps-local

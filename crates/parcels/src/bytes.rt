@@ -1,0 +1,6 @@
+//! What READ and WRITE come to by a stripe, by the parcels under Volume Logical, and by those under
+//! Volume.
+
+mod laws;
+
+pub use laws::{reading_calls_are_right, writing_calls_are_right};

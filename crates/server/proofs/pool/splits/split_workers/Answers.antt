@@ -1,0 +1,56 @@
+use Rattle.std.proofs.Common.{rules, ap, arith}
+use Rattle.workers.specs.Balance.{Passed}
+use Rattle.workers.specs.Words.{passed, seats_in, IsIn}
+use Rattle.server.specs.pool.Shares.{share_of}
+use Rattle.server.proofs.pool.Lists.{all-pushed, total-last}
+use Rattle.server.proofs.pool.Sharing.{halved}
+use Rattle.server.proofs.pool.splits.split_workers.Goals as goal
+
+pub loop-preserved : goal.loop-preserved
+loop-preserved c =
+    let i = c.loop.invariant in
+    let s = c.split-first in
+    let pushed = c.push_reserved.ensures.items in
+    let ws = c.loop.into.items in
+    let more = c.push_reserved.new.self.items in
+    let h = ap (λ (v : Passed). v.halvings) s.ensures.passes.0 in
+    let n = c.push_reserved.ensures.len in
+    record {
+      inside = s.ensures.first;
+      each = all-pushed (IsIn c.args.filer.now) ws more s.result.1 pushed i.each s.ensures.second;
+      len = let b = i.len in omega (arith, n, b);
+      room = let a = c.push_reserved.ensures.capacity in let b = i.room in omega (arith, a, b);
+      seats =
+          let a = total-last seats_in more ws s.result.1 pushed in
+          let p = s.ensures.seats.0 in
+          let q = s.ensures.seats.1 in
+          let d = i.seats in
+          omega (arith, a, p, q, d);
+      left = let p = s.ensures.seats.0 in let d = i.left in omega (arith, n, p, d);
+      halvings = let j = i.halvings in omega (arith, h, j, n);
+      share = λ k le.
+          let j = i.halvings in
+          let a = halved k (passed c.loop.worker) ws more s.result.0 s.result.1 s.ensures.passes.0 s.ensures.passes.1 pushed
+          (omega (arith, j, le, n)) in
+          let b = i.share k (omega (arith, le, n)) in
+          omega (arith, a, b);
+    }
+
+pub returns-clause-inside : goal.returns-clause-inside
+returns-clause-inside c =
+    let i = c.loop.invariant in
+    all-pushed (IsIn c.args.filer.now) c.loop.into.items c.push_reserved-2.new.self.items c.loop.worker c.push_reserved-2.ensures.items
+    i.each i.inside
+
+pub returns-clause-seats : goal.returns-clause-seats
+returns-clause-seats c =
+    let a = total-last seats_in c.push_reserved-2.new.self.items c.loop.into.items c.loop.worker c.push_reserved-2.ensures.items in
+    let d = c.loop.invariant.seats in
+    omega (arith, a, d)
+
+pub returns-clause-share : goal.returns-clause-share
+returns-clause-share c k le =
+    let i = c.loop.invariant in
+    let a = total-last (share_of k) c.push_reserved-2.new.self.items c.loop.into.items c.loop.worker c.push_reserved-2.ensures.items in
+    let b = i.share k (search rules) in
+    omega (arith, a, b)

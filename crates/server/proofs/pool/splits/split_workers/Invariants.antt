@@ -1,0 +1,18 @@
+use Rattle.std.proofs.Common.{◌≡◌, ◌≤◌, ◌+◌, ℕ, All, vec_len, vec_capacity}
+use Rattle.depot.specs.rule.Sums.{total}
+use Rattle.workers.specs.Words.{passed, seats_in, IsIn}
+use Rattle.server.specs.pool.Shares.{share_of}
+use Rattle.server.proofs.pool.splits.split_workers.Given as goal
+
+abbrev pub invariant-loop : goal.invariant-loop
+invariant-loop l = record {
+  inside : IsIn l.filer l.worker;
+  each : All (IsIn l.filer) l.into.items;
+  len : vec_len l.into + 1 ≡ l.counter;
+  room : vec_capacity l.into ≡ vec_capacity l.fn.into;
+  seats : seats_in l.worker + total seats_in l.into.items ≡ seats_in l.fn.worker;
+  left : seats_in l.worker + vec_len l.into ≡ seats_in l.fn.worker;
+  halvings : (passed l.worker).halvings ≡ (passed l.fn.worker).halvings + vec_len l.into;
+  share : (k : ℕ) → (passed l.fn.worker).halvings + vec_len l.into ≤ k
+      → share_of k l.worker + total (share_of k) l.into.items ≡ share_of k l.fn.worker;
+}

@@ -1,0 +1,40 @@
+//! The end of a filer.
+
+ghost use Rattle.std.specs.Prelude.{◌≡◌, ℕ};
+ghost use Rattle.server.specs.pool.Ends.{HasEnded};
+ghost use Rattle.server.specs.pool.Gathered.{calls_by, IsLeftOf};
+ghost use Rattle.nfs_model.specs.Tree as trees;
+ghost use Rattle.parcel_sets.specs.Sets.{serial_parcels};
+ghost use Rattle.workers.specs.Balance.{Weight};
+ghost use Rattle.workers.specs.Words.{layout_in, verifier_in};
+
+use crate::pool::ended::Ended;
+use crate::pool::left::Left;
+use parcel_sets::SerialNode;
+use workers::Filer;
+
+/// Ends a filer. Its parcels come back, with what its workers left.
+pub fn close(filer: Filer, left: Left) -> Ended
+    requires left { IsLeftOf filer left }
+    ensures ended { (admitted : Weight → ℕ)
+        → ((weight : Weight) → admitted weight ≡ calls_by weight left)
+        → HasEnded (layout_in filer) (verifier_in filer)
+        (serial_parcels (layout_in filer) trees.Serial result.parcels) result.hands.items
+        result.kept.items result.waiting.items admitted }
+    ensures hands { result.hands ≡ left.hands }
+    ensures kept { result.kept ≡ left.kept }
+    ensures waiting { result.waiting ≡ left.waiting }
+{
+    let Left {
+        seat,
+        hands,
+        kept,
+        waiting,
+    } = left;
+    Ended {
+        parcels: filer.into_depot().close::<SerialNode>(seat),
+        hands,
+        kept,
+        waiting,
+    }
+}

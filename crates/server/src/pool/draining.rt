@@ -1,0 +1,39 @@
+//! The messages that wait at the end.
+
+ghost use Rattle.std.specs.Prelude.{◌≡◌, ◌≤◌, ◌+◌, ℕ, [], vec_capacity};
+ghost use Rattle.depot.specs.rule.Sums.{total};
+ghost use Rattle.workers.specs.shared_waiting.Balance.{IsWhole};
+ghost use Rattle.workers.specs.shared_waiting.Passes.{known, IsOf};
+ghost use Rattle.workers.specs.declared.message.Message as messages;
+
+use affinity_tree::Layout;
+use std::sync::Wait;
+use workers::Message;
+use workers::shared_waiting::{Pass, SharedWaiting};
+
+/// Picks all messages that wait, by the only pass that is left.
+pub(crate) fn drain<R: Wait>(
+    waiting: &SharedWaiting<Message, Layout>,
+    rt: &R,
+    mut pass: Pass<Message, Layout>,
+    mut into: Vec<Message>,
+) -> Vec<Message>
+    requires of { IsOf waiting.now pass }
+    requires whole { IsWhole (known pass) }
+    requires empty { into.items ≡ [] }
+    requires room { 1024 ≤ vec_capacity into }
+    ensures { (weigh : messages.Message → ℕ)
+        → total weigh (known pass).put
+        ≡ total weigh (known pass).picked + total weigh result.items }
+{
+    let most = waiting.count(rt, &mut pass);
+    for _ in 0..most {
+        let message = match waiting.pick(rt, &mut pass) {
+            Some(message) => message,
+            None => return into,
+        };
+        into.push_reserved(message);
+    }
+    waiting.look(&mut pass);
+    into
+}

@@ -1,0 +1,35 @@
+//! Why a pool didn't start.
+
+ghost use Rattle.std.specs.Prelude.{◌≡◌};
+
+use workers::Worker;
+
+/// Why a pool didn't start.
+#[derive(Clone, Copy)]
+pub enum StartRefusal {
+    /// A thread couldn't be made.
+    NoThread,
+    /// Memory ran out.
+    NoMemory,
+}
+
+impl StartRefusal {
+    ghost use Rattle.server.specs.pool.Threads.{start_refusal_number};
+
+    /// The number by which the refusal is told.
+    pub fn number(self) -> u32
+        ensures { result ≡ start_refusal_number self }
+    {
+        match self {
+            StartRefusal::NoThread => 66,
+            StartRefusal::NoMemory => 90,
+        }
+    }
+}
+
+/// A pool that didn't start: why, and its workers. Its threads have ended.
+#[derive(Drop)]
+pub struct NotStarted {
+    pub refusal: StartRefusal,
+    pub workers: Vec<Worker>,
+}

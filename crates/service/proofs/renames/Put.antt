@@ -1,0 +1,74 @@
+-- A node that comes into its directory.
+use Rattle.std.proofs.Common.{◌≡◌, ℕ, List, Option, sym, ap, ◌∙◌}
+use Rattle.std.specs.FinMap.{get}
+use Rattle.nfs_model.specs.Types.{Moment}
+use Rattle.nfs_values.specs.Moment.{moment_of}
+use Rattle.nfs_model.specs.volume.Inodes.{Inode}
+use Rattle.nfs_model.specs.volume.Stripes.{StripeValue}
+use Rattle.nfs_model.specs.volume.Logical.{LogicalValue}
+use Rattle.volume_logical.specs.inodes.Inode.{inode_value}
+use Rattle.parcels.specs.state.Changes.{attributes_now, touches_taken}
+use Rattle.parcels.specs.state.Contents.{each}
+use Rattle.parcels.specs.state.Lenses.{LogicalSet}
+use Rattle.parcels.specs.state.Sets.{FilerLogical, stripe_value, placed, logical_before, logical_after}
+use Rattle.parcels.specs.state.Tree.{file_touch}
+use Rattle.service_names.specs.NodesMade.{folders_in, with_subdirectories}
+use Rattle.service_names.specs.NodesMoved.{dated_inode, with_parent, node_hung}
+use Rattle.service_names.specs.NamedChanges.{HeldNode}
+use Rattle.service_names.specs.RenamingChanges.{inode_or, moving_of}
+use Rattle.service_names.specs.Changing.{with_inode}
+use Rattle.service.specs.declared.renames.between.Between.{Between}
+use Rattle.service.specs.renames.Moving.{to_of, node_in}
+
+module _ {P : Type 0} (old one two new : FilerLogical P) (b : Between) (child : HeldNode)
+    (set : Inode) (one_own : one.own ≡ with_inode b.to.fileid.0 set old.own) (one_stripes : one.stripes ≡ old.stripes) where
+  abbrev s : LogicalSet
+  s = logical_before old
+
+  same : one.own.stripes ≡ old.own.stripes
+  same = ap (λ (l : LogicalValue). l.stripes) one_own
+
+  before : (logical_before one).stripes ≡ s.stripes
+  before =
+      ap (λ (n : ℕ). each (λ i. stripe_value (placed one.stripes.at i)) 0 n) same
+      ∙ ap (λ st. each (λ i. stripe_value (placed st.at i)) 0 old.own.stripes) one_stripes
+
+  -- the directory as it is then
+  abbrev folder : Inode
+  folder = inode_or (get s.own.inodes.inodes b.to.fileid.0) (inode_value b.to.inode)
+
+  pub dated-is : (now : Inode) → now ≡ folder
+      → set ≡ dated_inode (moment_of b.moment) (with_subdirectories (folders_in child.inode.kind) now.kind) now
+      → set ≡ dated_inode (moment_of b.moment) (with_subdirectories (folders_in child.inode.kind) folder.kind) folder
+  dated-is now is dated = dated ∙ ap (λ (i : Inode). dated_inode (moment_of b.moment) (with_subdirectories (folders_in child.inode.kind) i.kind) i) is
+
+  pub hung-is : (hung : Inode) (touch : Option Moment) → touch ≡ file_touch (logical_before one).stripes child.fileid
+      → hung.attributes ≡ record (attributes_now touch child.inode.attributes child.inode.kind) { ctime = moment_of b.moment }
+      → hung.kind ≡ with_parent b.to.fileid.0 child.inode.kind
+      → hung ≡ node_hung (moving_of (to_of b s) child s) (file_touch s.stripes child.fileid)
+  hung-is hung touch latest attributes_is kind_is = λ j. record { attributes = held j; kind = kind_is j }
+    where
+      held : hung.attributes
+          ≡ record (attributes_now (file_touch s.stripes child.fileid) child.inode.attributes child.inode.kind) { ctime = moment_of b.moment }
+      held =
+          attributes_is
+          ∙ ap (λ (t : Option Moment). record (attributes_now t child.inode.attributes child.inode.kind) { ctime = moment_of b.moment })
+          (latest ∙ ap (λ (stripes : List StripeValue). file_touch stripes child.fileid) before)
+
+  pub put-in : (hung : Inode) → two.own ≡ one.own → (logical_after one two).stripes ≡ touches_taken child.fileid (logical_before one).stripes
+      → new.own ≡ with_inode child.fileid hung two.own → new.stripes ≡ two.stripes
+      → set ≡ dated_inode (moment_of b.moment) (with_subdirectories (folders_in child.inode.kind) folder.kind) folder
+      → hung ≡ node_hung (moving_of (to_of b s) child s) (file_touch s.stripes child.fileid)
+      → logical_after old new ≡ node_in b child s
+  put-in hung two_own taken new_own new_stripes dated_is hung_is = λ j. record { own = own j; stripes = stripes j }
+    where
+      own : new.own ≡ (node_in b child s).own
+      own =
+          new_own ∙ ap (with_inode child.fileid hung) (two_own ∙ one_own)
+          ∙ (λ j. with_inode child.fileid (hung_is j) (with_inode b.to.fileid.0 (dated_is j) old.own))
+
+      stripes : (logical_after old new).stripes ≡ touches_taken child.fileid s.stripes
+      stripes =
+          ap (λ st. each (λ i. stripe_value (placed st.at i)) 0 old.own.stripes) new_stripes
+          ∙ ap (λ (n : ℕ). each (λ i. stripe_value (placed two.stripes.at i)) 0 n) (sym same)
+          ∙ taken ∙ ap (touches_taken child.fileid) before

@@ -1,0 +1,22 @@
+use Rattle.std.proofs.Common.{sym, ap, ◌∙◌, []}
+use Rattle.std.specs.Option.{option_map}
+use Rattle.volume_logical.specs.inodes.Inode.{kind_value}
+use Rattle.parcels.specs.state.Sets.{logical_before}
+use Rattle.service_names.specs.Naming.{node_value}
+use Rattle.service.specs.renames.Moving.{target_out}
+use Rattle.service.proofs.renames.Emptied.{out-file, out-folder}
+use Rattle.service.proofs.renames.dropping.drop_target.Goals as goal
+
+pub returns-in-RegularFile-clause-set : goal.returns-in-RegularFile-clause-set
+returns-in-RegularFile-clause-set c =
+    let s = logical_before c.args.held.now in
+    c.drop_file.ensures.set c.args.between.volume.0 []
+    ∙ out-file c.args.between (node_value c.in-Some.target) s _ _ _ (ap kind_value c.in-RegularFile.is)
+    ∙ ap (λ o. target_out c.args.between (option_map node_value o) s) (sym c.in-Some.is)
+
+pub returns-in-Directory-clause-set : goal.returns-in-Directory-clause-set
+returns-in-Directory-clause-set c =
+    let s = logical_before c.args.held.now in
+    c.drop_node.ensures.set c.args.between.volume.0 []
+    ∙ out-folder c.args.between (node_value c.in-Some.target) s _ _ (ap kind_value c.in-Directory.is)
+    ∙ ap (λ o. target_out c.args.between (option_map node_value o) s) (sym c.in-Some.is)

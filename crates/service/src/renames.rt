@@ -1,0 +1,18 @@
+//! RENAME, on the parcels that it holds.
+
+mod asking;
+mod between;
+mod climbing;
+mod dropping;
+mod entry_name;
+mod folder;
+mod moving;
+mod renaming;
+mod telling;
+
+pub use entry_name::EntryName;
+pub use renaming::rename;
+pub use service_names::{
+    PageAsked, commit, create, lookup, make_directory, read_directory, remove, remove_directory,
+    set_attributes, shown_now,
+};

@@ -1,0 +1,81 @@
+//! What hinders a RENAME.
+
+ghost use Rattle.std.specs.Prelude.{◌≡◌, ◌==◌, ◌&&◌, is_none};
+ghost use Rattle.std.specs.Option.{option_map};
+ghost use Rattle.nfs_model.specs.Names.{same_name};
+ghost use Rattle.nfs_values.specs.Status.{status_of};
+ghost use Rattle.volume_logical.specs.inodes.Inode.{kind_value};
+ghost use Rattle.service_names.specs.RenamingChanges.{may_replace, target_may_go};
+ghost use Rattle.parcels.specs.state.Names.{parent_in};
+ghost use Rattle.parcels.specs.state.Sets.{logical_before};
+ghost use Rattle.service_names.specs.Naming.{node_value};
+ghost use Rattle.service.specs.renames.Renaming.{names_fault};
+
+use crate::renames::between::Between;
+use nfs_values::Status;
+use parcel_sets::LogicalHeld;
+use parcels::Files;
+use service_names::{Node, is_dots, is_empty, is_same_name, name_fault};
+use volume_logical::inodes::InodeKind;
+
+/// What is wrong with the names: from's first, then to's; INVAL for `.` and `..` in either.
+pub(crate) fn names_fault(from: &[u8], to: &[u8]) -> Option<Status>
+    ensures { option_map status_of result ≡ names_fault from.now to.now }
+{
+    if let Some(fault) = name_fault(from) {
+        return Some(fault);
+    }
+    if let Some(fault) = name_fault(to) {
+        return Some(fault);
+    }
+    if is_dots(from) || is_dots(to) {
+        return Some(Status::Invalid);
+    }
+    None
+}
+
+/// Whether both names are of one entry.
+pub(crate) fn is_one_entry(between: Between, from: &[u8], to: &[u8]) -> bool
+    ensures { result ≡ ((between.from.fileid.0 == between.to.fileid.0)
+        && same_name from.now to.now) }
+{
+    between.from.fileid.0 == between.to.fileid.0 && is_same_name(from, to)
+}
+
+/// Whether the target may go, if there is one, for a node that takes its name.
+pub(crate) fn may_go(held: &LogicalHeld<Files>, moved: Node, target: Option<Node>) -> bool
+    ensures { result ≡ target_may_go (logical_before held.now) (node_value moved)
+        (option_map node_value target) }
+{
+    match target {
+        Some(target) => may_replace(held, moved.inode.kind, target),
+        None => true,
+    }
+}
+
+/// Whether a node of a kind may take a target's place: both are files, or both are directories and
+/// the target is empty.
+fn may_replace(held: &LogicalHeld<Files>, moved: InodeKind, target: Node) -> bool
+    ensures { result ≡ may_replace (logical_before held.now) (kind_value moved)
+        target.fileid.0 (kind_value target.inode.kind) }
+{
+    match moved {
+        InodeKind::RegularFile { .. } => is_file(target.inode.kind),
+        InodeKind::Directory { .. } => {
+            if is_file(target.inode.kind) {
+                return false;
+            }
+            is_empty(held, target.fileid)
+        }
+    }
+}
+
+/// Whether a node of a kind is a file.
+fn is_file(kind: InodeKind) -> bool
+    ensures { result ≡ is_none (parent_in (kind_value kind)) }
+{
+    match kind {
+        InodeKind::RegularFile { .. } => true,
+        InodeKind::Directory { .. } => false,
+    }
+}

@@ -1,0 +1,47 @@
+//! Directories of a call.
+
+ghost use Rattle.std.specs.Prelude.{◌≡◌, true, IfOk, Some};
+ghost use Rattle.std.specs.FinMap.{get};
+ghost use Rattle.nfs_model.specs.volume.Inodes as values;
+ghost use Rattle.volume_logical.specs.inodes.Inode.{inode_value};
+ghost use Rattle.service_names.specs.RenamingChanges.{inode_or, on_folder};
+ghost use Rattle.parcels.specs.state.Changes.{LogicalAnswer};
+ghost use Rattle.parcels.specs.state.Names.{is_folder};
+ghost use Rattle.parcels.specs.state.Sets.{logical_before};
+ghost use Rattle.service.specs.renames.Renaming.{come_to_folder};
+
+use nfs_values::{Fileid, Status};
+use parcel_sets::LogicalHeld;
+use parcels::Files;
+use service_names::Node;
+use volume_logical::inodes::{Inode, InodeKind};
+
+/// The inode of a directory: STALE where there is no node of the fileid, NOTDIR where it is a file.
+pub(crate) fn folder_at(held: &LogicalHeld<Files>, fileid: Fileid) -> Result<Inode, Status>
+    ensures told { (run : values.Inode → LogicalAnswer)
+        → on_folder (get held.now.own.inodes.inodes fileid.0) (logical_before held.now) run
+        ≡ come_to_folder (logical_before held.now) run result }
+    ensures there { IfOk result (λ inode.
+        get held.now.own.inodes.inodes fileid.0 ≡ Some (inode_value inode)) }
+    ensures folder { IfOk result (λ inode. is_folder (Some (inode_value inode)) ≡ true) }
+{
+    let inode = match held.own.get().inodes.get(fileid) {
+        Some(inode) => inode,
+        None => return Err(Status::Stale),
+    };
+    match inode.kind {
+        InodeKind::RegularFile { .. } => Err(Status::NotDirectory),
+        InodeKind::Directory { .. } => Ok(inode),
+    }
+}
+
+/// The inode of a directory as it is now, or the one before.
+pub(crate) fn directory_now(held: &LogicalHeld<Files>, before: Node) -> Inode
+    ensures { inode_value result ≡ inode_or
+        (get held.now.own.inodes.inodes before.fileid.0) (inode_value before.inode) }
+{
+    match held.own.get().inodes.get(before.fileid) {
+        Some(inode) => inode,
+        None => before.inode,
+    }
+}

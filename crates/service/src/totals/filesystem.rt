@@ -1,0 +1,45 @@
+//! FSSTAT.
+
+ghost use Rattle.std.specs.Prelude.{[]};
+ghost use Rattle.parcels.specs.state.Lenses.{volume_lens};
+ghost use Rattle.parcels.specs.state.Promises.{HasVolume};
+ghost use Rattle.parcels.specs.state.Sets.{volume_before};
+ghost use Rattle.service.specs.totals.Space.{TellsSpace};
+
+use crate::totals::counting::volume_count;
+use nfs_values::{Fileid, FilesystemStatusResults, Status, VolumeNumber};
+use parcel_sets::VolumeHeld;
+use parcels::Files;
+use service_names::shown_now;
+
+/// The bytes of a block.
+const BLOCK_BYTES: u64 = 4096;
+
+/// The most inodes of a volume, the root with them (our profile).
+const INODE_LIMIT: u64 = 65_536;
+
+/// FSSTAT (RFC 1813 section 3.3.18), on the parcels of a volume: STALE, or the attributes of the
+/// node of a fileid and the volume's space: the bytes of its blocks and of those that are in no
+/// file, the inodes that it may have and those of them that it hasn't. It takes no memory.
+pub fn space(
+    held: &VolumeHeld<Files>,
+    volume: VolumeNumber,
+    fileid: Fileid,
+) -> Result<FilesystemStatusResults, Status>
+    requires whole { HasVolume volume.0 volume_lens [] (volume_before held.now) }
+    ensures right { TellsSpace volume.0 fileid.0 (volume_before held.now) result }
+{
+    let inodes = &held.logical.own.get().inodes;
+    let inode = match inodes.get(fileid) {
+        Some(inode) => inode,
+        None => return Err(Status::Stale),
+    };
+    let count = volume_count(held, volume);
+    Ok(FilesystemStatusResults {
+        root: shown_now(&held.logical, volume, fileid, inode),
+        total_bytes: BLOCK_BYTES * count.total,
+        free_bytes: BLOCK_BYTES * count.total.saturating_sub(count.used),
+        inodes: INODE_LIMIT,
+        free_inodes: INODE_LIMIT.saturating_sub(inodes.len() as u64),
+    })
+}

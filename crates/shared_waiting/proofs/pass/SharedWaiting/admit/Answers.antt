@@ -1,6 +1,0 @@
-use Rattle.shared_waiting.proofs.Keeps.{puts, leaves}
-use Rattle.shared_waiting.proofs.pass.SharedWaiting.admit.Goals as goal
-
-pub push_as-requires-clause-rule : goal.push_as-requires-clause-rule
-push_as-requires-clause-rule g c =
-    (puts _ _ g.T.Fitting.fits _ _ _ _ c.args.pass.now.live c.requires.fits, leaves _ _ g.T.Fitting.fits _ _)

@@ -1,9 +1,0 @@
-//! The cards of a stripe: for each inode of a volume what its stripes have to know of it.
-#![tactic(auto)]
-
-mod card;
-mod cards;
-mod packed;
-
-pub use card::Card;
-pub use cards::Cards;

@@ -1,0 +1,17 @@
+use Rattle.std.proofs.Common.{IsSome, sym, ap, subst, ◌∙◌}
+use Rattle.std.specs.FinMap.{get, insert}
+use Rattle.nfs_model.specs.volume.Stripes.{OfFolder}
+use Rattle.stripes.proofs.cards.Changed.{get-cards_of, same-cards, put-cards, on_ok, on_err}
+use Rattle.stripes.proofs.cards.cards.Cards.set_directory.Goals as goal
+
+pub returns-clause-ok : goal.returns-clause-ok
+returns-clause-ok c =
+    on_ok (λ puts. put-cards c.args.fileid.0 _ c.self.inside.by_fileid c.put.new.by_fileid puts
+    ∙ ap (λ m. insert m c.args.fileid.0 OfFolder) c.self.view_is) c.put.result c.put.ensures.ok
+
+pub returns-clause-err : goal.returns-clause-err
+returns-clause-err c = on_err (λ same. same-cards c.self.inside.by_fileid c.put.new.by_fileid same ∙ c.self.view_is) c.put.result c.put.ensures.err
+
+pub returns-clause-succeeds : goal.returns-clause-succeeds
+returns-clause-succeeds c = λ there.
+    c.put.ensures.succeeds (subst IsSome (ap (λ m. get m c.args.fileid.0) (sym c.self.view_is) ∙ get-cards_of c.self.inside.by_fileid c.args.fileid.0) there)

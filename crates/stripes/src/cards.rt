@@ -1,0 +1,8 @@
+//! The cards of a stripe: for each inode of a volume what its stripes have to know of it.
+
+mod card;
+mod cards;
+mod packed;
+
+pub use card::Card;
+pub use cards::Cards;

@@ -1,0 +1,174 @@
+//! Cards by fileid.
+
+ghost use Rattle.std.specs.Prelude.{◌≡◌, ℕ, Some, IsOk, IsSome, OnOk, OnErr};
+ghost use Rattle.std.specs.Option.{option_map};
+ghost use Rattle.std.specs.FinMap.{empty, get, insert, remove};
+ghost use Rattle.nfs_values.specs.Moment.{moment_of};
+ghost use Rattle.nfs_model.specs.volume.Maps.{changed_at};
+ghost use Rattle.nfs_model.specs.volume.Stripes.{
+  OfFile,
+  OfFolder,
+  touch_of,
+  card_touched,
+  card_settled,
+};
+ghost use Rattle.stripes.specs.cards.Cards.{card_of, card_at, card_resized, Puts, Changes};
+
+use crate::cards::card::{Card, resized, settled, touch_on, touched};
+use crate::cards::packed::{Packed, pack, unpack};
+use nfs_values::{Fileid, Moment};
+use std::alloc::{AllocError, Global};
+use std::collections::BTreeMap;
+use std::marker::Model;
+
+/// A map from fileids to cards.
+pub struct Cards {
+    by_fileid: BTreeMap<u64, Packed>,
+}
+
+// By hand, so that crates above have no proof of the drop of each of its parts.
+impl Drop for Cards {
+    fn drop(self) {
+        let Cards { by_fileid: _ } = self;
+    }
+}
+
+impl Model for Cards {
+    ghost use Rattle.std.specs.FinMap.{FinMap};
+    ghost use Rattle.std.specs.FinMap as maps;
+    ghost use Rattle.std.specs.Coded.{coded_ℕ};
+    ghost use Rattle.std.specs.Ordering.{nat_cmp};
+    ghost use Rattle.nfs_model.specs.volume.Stripes as values;
+    ghost use Rattle.nfs_model.specs.volume.Codes.{coded_card};
+    ghost use Rattle.stripes.specs.cards.Cards.{cards_of};
+
+    ghost Value = { FinMap nat_cmp values.Card };
+
+    ghost coded = { maps.code coded_ℕ coded_card };
+
+    ghost view = { λ c. cards_of c.by_fileid.entries };
+}
+
+impl Cards {
+    /// No card. It takes no memory.
+    pub fn new(alloc: Global) -> Cards
+        ensures { result ≡ empty }
+    {
+        Cards {
+            by_fileid: BTreeMap::new(alloc),
+        }
+    }
+
+    /// The card of an inode.
+    pub fn get(&self, fileid: Fileid) -> Option<Card>
+        ensures { option_map card_of result ≡ get self.now fileid.0 }
+    {
+        card_in(&self.by_fileid, fileid.0)
+    }
+
+    /// Sets the card of a file to a size; the touch stays. Memory is needed only for a card that
+    /// isn't there, and where there is none for it nothing changes.
+    pub fn set_file(&mut self, fileid: Fileid, size: u64) -> Result<(), AllocError>
+        ensures ok { OnOk result (self.new
+            ≡ insert self.old fileid.0 (OfFile size (touch_of (get self.old fileid.0)))) }
+        ensures err { OnErr result (self.new ≡ self.old) }
+        ensures succeeds { IsSome (get self.old fileid.0) → IsOk result }
+    {
+        let touch = touch_on(self.get(fileid));
+        put(&mut self.by_fileid, fileid.0, Card::File { size, touch })
+    }
+
+    /// Sets the card of a directory. Memory is needed only for a card that isn't there, and where
+    /// there is none for it nothing changes.
+    pub fn set_directory(&mut self, fileid: Fileid) -> Result<(), AllocError>
+        ensures ok { OnOk result (self.new ≡ insert self.old fileid.0 OfFolder) }
+        ensures err { OnErr result (self.new ≡ self.old) }
+        ensures succeeds { IsSome (get self.old fileid.0) → IsOk result }
+    {
+        put(&mut self.by_fileid, fileid.0, Card::Directory)
+    }
+
+    /// Sets the size of a file whose card is there; the touch stays. It takes no memory.
+    pub fn set_size(&mut self, fileid: Fileid, size: u64)
+        requires { IsSome (get self.old fileid.0) }
+        ensures { self.new
+            ≡ insert self.old fileid.0 (OfFile size (touch_of (get self.old fileid.0))) }
+    {
+        resize_at(&mut self.by_fileid, fileid.0, size);
+    }
+
+    /// Sets the touch of a file to the later of it and a moment. It takes no memory.
+    pub fn touch(&mut self, fileid: Fileid, moment: Moment)
+        ensures { self.new ≡ changed_at (card_touched (moment_of moment)) fileid.0 self.old }
+    {
+        touch_at(&mut self.by_fileid, fileid.0, moment);
+    }
+
+    /// Takes the touch of a file. It takes no memory.
+    pub fn take_touch(&mut self, fileid: Fileid) -> Option<Moment>
+        ensures touch { option_map moment_of result ≡ touch_of (get self.old fileid.0) }
+        ensures taken { self.new ≡ changed_at card_settled fileid.0 self.old }
+    {
+        take_touch_at(&mut self.by_fileid, fileid.0)
+    }
+
+    /// Removes the card of an inode. It takes no memory.
+    pub fn remove(&mut self, fileid: Fileid)
+        ensures { self.new ≡ remove self.old fileid.0 }
+    {
+        self.by_fileid.remove(&fileid.0);
+    }
+}
+
+/// The card under a fileid.
+fn card_in(by_fileid: &BTreeMap<u64, Packed>, fileid: u64) -> Option<Card>
+    ensures { option_map card_of result ≡ card_at by_fileid.now fileid }
+{
+    match by_fileid.get(&fileid) {
+        Some(packed) => Some(unpack(*packed)),
+        None => None,
+    }
+}
+
+/// Puts a card under a fileid. Memory is needed only where the fileid has none.
+fn put(by_fileid: &mut BTreeMap<u64, Packed>, fileid: u64, card: Card) -> Result<(), AllocError>
+    ensures ok { OnOk result (Puts fileid (card_of card) by_fileid.old by_fileid.new) }
+    ensures err { OnErr result ((q : ℕ) → card_at by_fileid.new q ≡ card_at by_fileid.old q) }
+    ensures succeeds { IsSome (card_at by_fileid.old fileid) → IsOk result }
+{
+    by_fileid.insert(fileid, pack(card))?;
+    Ok(())
+}
+
+/// Sets the size on a card, if it is there.
+fn resize_at(by_fileid: &mut BTreeMap<u64, Packed>, fileid: u64, size: u64)
+    ensures { Changes (card_resized size) fileid by_fileid.old by_fileid.new }
+{
+    if let Some(packed) = by_fileid.get_mut(&fileid) {
+        *packed = pack(resized(unpack(*packed), size));
+    }
+}
+
+/// Touches a card, if it is there.
+fn touch_at(by_fileid: &mut BTreeMap<u64, Packed>, fileid: u64, moment: Moment)
+    ensures { Changes (card_touched (moment_of moment)) fileid by_fileid.old by_fileid.new }
+{
+    if let Some(packed) = by_fileid.get_mut(&fileid) {
+        *packed = pack(touched(unpack(*packed), moment));
+    }
+}
+
+/// Takes the touch of a card, if it is there.
+fn take_touch_at(by_fileid: &mut BTreeMap<u64, Packed>, fileid: u64) -> Option<Moment>
+    ensures touch { option_map moment_of result ≡ touch_of (card_at by_fileid.old fileid) }
+    ensures taken { Changes card_settled fileid by_fileid.old by_fileid.new }
+{
+    match by_fileid.get_mut(&fileid) {
+        Some(packed) => {
+            let card = unpack(*packed);
+            *packed = pack(settled(card));
+            touch_on(Some(card))
+        }
+        None => None,
+    }
+}

@@ -1,0 +1,3 @@
+pub mod sequences
+pub mod directories
+pub mod inodes

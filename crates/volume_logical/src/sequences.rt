@@ -1,0 +1,13 @@
+//! Sequences of items by place, in which an item comes or goes in time logarithmic in their number.
+
+mod balance;
+mod change;
+mod chunk;
+mod part;
+mod room;
+mod sequence;
+mod tree;
+
+pub use part::Part;
+pub use room::Room;
+pub use sequence::Sequence;

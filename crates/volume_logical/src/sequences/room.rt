@@ -1,0 +1,52 @@
+//! Memory that is taken before a change.
+
+ghost use Rattle.std.specs.Prelude.{◌≡◌, ◌<◌, [], length};
+ghost use Rattle.std.specs.Vec.{vec_capacity};
+
+use crate::sequences::tree::Node;
+use std::alloc::{AllocError, Global};
+use std::marker::Model;
+
+/// Memory for a chunk, with which an item comes in without more.
+pub struct Room<T> {
+    chunk: Box<Node<T>>,
+}
+
+// By hand, so that crates above have no proof of the drop of each of its parts.
+impl<T: Drop> Drop for Room<T> {
+    fn drop(self) {
+        let Room { chunk: _ } = self;
+    }
+}
+
+impl<T> Model for Room<T> {
+    ghost use Rattle.std.specs.Prelude.{◌≡◌, ◌<◌, ℕ, []};
+    ghost use Rattle.std.specs.Vec.{vec_capacity};
+
+    ghost Value = { ℕ };
+
+    ghost view = { λ r. vec_capacity r.chunk.value.items };
+
+    ghost invariant = { λ r. (r.chunk.value.items.items ≡ [])
+        × (0 < vec_capacity r.chunk.value.items) };
+}
+
+impl<T: Copy> Room<T> {
+    /// Memory for so many items.
+    pub(crate) fn new(alloc: Global, size: usize) -> Result<Room<T>, AllocError>
+        requires { 0 < size }
+    {
+        let items = Vec::with_capacity(alloc, size)?;
+        let chunk = Box::new(alloc, Node::new(items))?;
+        Ok(Room { chunk })
+    }
+
+    /// The chunk.
+    pub(crate) fn chunk(self) -> Box<Node<T>>
+        ensures empty { result.value.items.items ≡ [] }
+        ensures room { 0 < vec_capacity result.value.items }
+    {
+        let Room { chunk } = self;
+        chunk
+    }
+}
