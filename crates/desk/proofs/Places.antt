@@ -1,7 +1,7 @@
 -- What lies in workers' places, and the books that tell it.
 use Rattle.std.proofs.Common.{◌≡◌, ◌<◌, ℕ, Bool, true, false, List, [], ◌∷◌, ◌++◌, ◌+◌, length, map, set, replicate, Option, Some, None, refl, sym, ap, ◌∙◌}
 use Rattle.std.proofs.Common.{subst}
-use Rattle.std.specs.Prelude.{◌&&◌, ◌↔◌, not, is_some, option_map, slice_index_or, IsSomeAnd}
+use Rattle.std.specs.Prelude.{◌↔◌, not, is_some, option_map, slice_index_or, IsSomeAnd}
 use Rattle.std.proofs.Math.ListN.{get_or-map}
 use Rattle.std.proofs.lemmas.List.{set-get_or, map-set, map-append, replicate_more}
 use mathlib.Core.Option.{some}
@@ -16,12 +16,6 @@ use Rattle.desk.specs.laws.lemmas.Taken.{idle-none, said-idle}
 use Rattle.desk.specs.Places.{either}
 
 module _ {S B A : Type 0} (f : S → A) (h : B → A) where
-  -- beside a small grant lies no large one
-  pub none-beside : (small : Option S) (large : Option B) (g : S) → (is_some small && is_some large) ≡ false → small ≡ Some g → option_map h large ≡ None
-  none-beside (Some s) None g one is = refl
-  none-beside (Some s) (Some l) g one is = absurd (let bad : true ≡ false = one in let no_way : ⊥ = cc in no_way)
-  none-beside None large g one is = absurd cc
-
   pub in-small : (small : Option S) (large : Option B) (g : S) → small ≡ Some g → either (option_map f small) (option_map h large) ≡ Some (f g)
   in-small small large g is = ap (λ (o : Option S). either (option_map f o) (option_map h large)) is
 

@@ -20,8 +20,8 @@ use affinity_tree::{Affinity, Kind};
 use depot::rule::machine::Machine;
 use depot::{Depot, Refusal, Seat};
 
-/// Begins a call on an aggregate. It isn't inlined, since such a grant's room would be filled for the
-/// small ones too.
+/// Begins a call on an aggregate. It isn't inlined: else each begin would fill the room of such a
+/// grant.
 #[inline(never)]
 fn begin_aggregate<M: Machine, K: NodeKinds<M::Parcel>>(
     depot: &Depot<M>,
@@ -47,8 +47,8 @@ fn begin_aggregate<M: Machine, K: NodeKinds<M::Parcel>>(
     Ok(())
 }
 
-/// Begins a call on the whole tree. It isn't inlined, since such a grant's room would be filled for the
-/// small ones too.
+/// Begins a call on the whole tree. It isn't inlined: else each begin would fill the room of such a
+/// grant.
 #[inline(never)]
 fn begin_serial<M: Machine, K: NodeKinds<M::Parcel>>(
     depot: &Depot<M>,

@@ -278,7 +278,8 @@ module _ (setup : Setup) (w : World) (i : ℕ) where
     pub put-as : (hand : Hand) → hand_of at ≡ hand → (call : InnerCall) → tending.call_to_put hand ≡ Some call → Tends call answer new
         → Events setup w (PutDown i) answer new
     put-as Empty carries call is h = absurd cc
-    put-as (Fresh v blocks) carries call is h = delivered free v blocks carries answer new (subst (λ x. Tends x answer new) (sym (one (jobs.Deliver v) call is)) h)
+    put-as (Fresh v blocks) carries call is h = delivered free v blocks carries answer new
+      (subst (λ x. Tends x answer new) (sym (one (jobs.Deliver v) call is)) h)
       where
         one : (x y : InnerCall) → Some x ≡ Some y → x ≡ y
         one x y e = cc

@@ -50,7 +50,8 @@ module _ {s new : State} {i : ℕ} {k x : Worker} (h : IsChanged s new i k x) wh
   same_setup = λ j. setup_of (h.layout j) (h.verifier j).0 (as_many j)
 
   -- how many run
-  pub run_count : length (running_messages new.workers.items) + length (messages_in k.run) ≡ length (running_messages s.workers.items) + length (messages_in x.run)
+  pub run_count : length (running_messages new.workers.items) + length (messages_in k.run) ≡ length (running_messages s.workers.items) + length
+      (messages_in x.run)
   run_count = ap (λ (ks : List Worker). length (running_messages ks) + length (messages_in k.run)) h.set ∙ count-changed s.workers.items i k x h.there
 
   -- what runs, weighed

@@ -80,7 +80,8 @@ pub ended-world : (w : World) (calls calls' : CallsState) (place place' : Connec
     → (server : Server) (parts : List Parts) (stamps : ℕ) → server ≡ w.server → parts ≡ w.parts → stamps ≡ w.stamps + 1
     → world_after w calls' new new_cs server parts stamps
     ≡ finish setup (stamp_added (without_call w i)) (finished_message r.message (moment_of r.moment) starved) reply
-ended-world w calls calls' place place' r reply starved count ends setup is_codec shows cs new_cs conns there set_cs ks new i was hand workers held set server parts stamps
+ended-world w calls calls' place place' r reply starved count ends setup is_codec shows cs new_cs conns there set_cs ks new i was hand workers held set
+    server parts stamps
     same_server same_parts more_stamps =
     let n = r.message.origin.connection.0 in
     let v : World = stamp_added (without_call w i) in

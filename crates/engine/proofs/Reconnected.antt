@@ -94,7 +94,8 @@ opened-sound s new o same items is nothing sound =
     (last-or-before cs o x c (subst (λ (l : List Connection). slice_get l c ≡ Some (Open x)) items e)))
 
 -- the state with more room for connections
-pub reserved-sound : (s new : State) → new ≡ record s { connections = new.connections } → new.connections.items ≡ s.connections.items → IsSoundEngine s → IsSoundEngine new
+pub reserved-sound : (s new : State) → new ≡ record s { connections = new.connections } → new.connections.items ≡ s.connections.items → IsSoundEngine s
+    → IsSoundEngine new
 reserved-sound s new same items sound =
     let count : new.open_count ≡ s.open_count = ap (λ (t : State). t.open_count) same in
     let size = ap length items in

@@ -122,7 +122,8 @@ pub idle-asked : (ks xs : List Worker) (i : ℕ) (b : Bool) → xs ≡ ks → b 
     → is_idle (slice_get (map worker_seen ks) i) ≡ b
 idle-asked ks xs i b are told = ap (λ zs. is_idle (slice_get (map worker_seen zs) i)) (sym are) ∙ sym told
 
-pub idle-worker : (ks : List Worker) (i : ℕ) → is_idle (slice_get (map worker_seen ks) i) ≡ true → (hand : Hand) × (slice_get ks i ≡ Some (worker_with Idle hand))
+pub idle-worker : (ks : List Worker) (i : ℕ) → is_idle (slice_get (map worker_seen ks) i) ≡ true
+    → (hand : Hand) × (slice_get ks i ≡ Some (worker_with Idle hand))
 idle-worker ks i free = idle-at (slice_get ks i) (ap is_idle (sym (slice_get-map worker_seen ks i)) ∙ free)
 
 -- and carries nothing

@@ -114,7 +114,8 @@ module _ (layout : Layout) (lawful : fault_of layout ≡ None) (code : codes.Inn
   has = begun-with v w (number_of layout node) before begun
 
   own : AreHands job_takes job_gives (entries_of w) (batches_in hand)
-  own = subst (λ (es : List FilerEntry). AreHands job_takes job_gives es (batches_in hand)) (sym (begun-entries v w (number_of layout node) before begun)) may.own
+  own = subst (λ (es : List FilerEntry). AreHands job_takes job_gives es (batches_in hand)) (sym (begun-entries v w (number_of layout node) before begun))
+    may.own
 
   -- ---- it is done
 
@@ -142,7 +143,8 @@ module _ (layout : Layout) (lawful : fault_of layout ≡ None) (code : codes.Inn
         }
 
     -- after it, the seat has an entry more, and no grant
-    module _ (u : FilerView) (finished : IsFinished filer_behaviour w (number_of layout l.affinity) (entry_of layout l.affinity l.parcels (Inner code) reply) u) where
+    module _ (u : FilerView) (finished : IsFinished filer_behaviour w (number_of layout l.affinity) (entry_of layout l.affinity l.parcels (Inner code) reply)
+        u) where
       abbrev entry : FilerEntry
       entry = entry_of layout l.affinity l.parcels (Inner code) reply
 

@@ -35,7 +35,8 @@ module _ (h : ℕ → VolumeCounts → VolumeCounts) where
       ∙ more-from 0 n old d ∙ ap (λ (m : ℕ). recounted h 0 m old) next
 
 -- where none hangs on what it was
-pub recounted-all : (f : ℕ → VolumeCounts) (from n : ℕ) (counts : List VolumeCounts) → length counts ≡ n → recounted (λ v before. f v) from n counts ≡ each f from n
+pub recounted-all : (f : ℕ → VolumeCounts) (from n : ℕ) (counts : List VolumeCounts) → length counts ≡ n
+    → recounted (λ v before. f v) from n counts ≡ each f from n
 recounted-all f from zero [] e = refl
 recounted-all f from zero (c ∷ counts) e = absurd (omega (arith, e))
 recounted-all f from (suc n) [] e = absurd (omega (arith, e))

@@ -29,7 +29,8 @@ pub returns-in-Vbn-clause-finished : goal.returns-in-Vbn-clause-finished
 returns-in-Vbn-clause-finished g c =
     let layout = layout_in c.args.depot.now in
     subst (λ grant. IsFinished (machine_of c.args.seat.now) (view c.args.seat.now) (number_of layout (small_lent grant layout).affinity)
-    (entry_of layout (small_lent grant layout).affinity (small_lent grant layout).parcels c.args.call.now c.args.reply.now) (view c.finish_node-in-Vbn.new.seat))
+    (entry_of layout (small_lent grant layout).affinity (small_lent grant layout).parcels c.args.call.now c.args.reply.now)
+      (view c.finish_node-in-Vbn.new.seat))
     (sym c.in-Vbn.is) c.finish_node-in-Vbn.ensures.finished
 
 pub finish_node-requires-in-Stripe-clause-can : goal.finish_node-requires-in-Stripe-clause-can
@@ -42,7 +43,8 @@ pub returns-in-Stripe-clause-finished : goal.returns-in-Stripe-clause-finished
 returns-in-Stripe-clause-finished g c =
     let layout = layout_in c.args.depot.now in
     subst (λ grant. IsFinished (machine_of c.args.seat.now) (view c.args.seat.now) (number_of layout (small_lent grant layout).affinity)
-    (entry_of layout (small_lent grant layout).affinity (small_lent grant layout).parcels c.args.call.now c.args.reply.now) (view c.finish_node-in-Stripe.new.seat))
+    (entry_of layout (small_lent grant layout).affinity (small_lent grant layout).parcels c.args.call.now c.args.reply.now)
+      (view c.finish_node-in-Stripe.new.seat))
     (sym c.in-Stripe.is) c.finish_node-in-Stripe.ensures.finished
 
 pub finish_node-requires-in-Logical-clause-can : goal.finish_node-requires-in-Logical-clause-can
@@ -55,7 +57,8 @@ pub returns-in-Logical-clause-finished : goal.returns-in-Logical-clause-finished
 returns-in-Logical-clause-finished g c =
     let layout = layout_in c.args.depot.now in
     subst (λ grant. IsFinished (machine_of c.args.seat.now) (view c.args.seat.now) (number_of layout (small_lent grant layout).affinity)
-    (entry_of layout (small_lent grant layout).affinity (small_lent grant layout).parcels c.args.call.now c.args.reply.now) (view c.finish_node-in-Logical.new.seat))
+    (entry_of layout (small_lent grant layout).affinity (small_lent grant layout).parcels c.args.call.now c.args.reply.now)
+      (view c.finish_node-in-Logical.new.seat))
     (sym c.in-Logical.is) c.finish_node-in-Logical.ensures.finished
 
 pub finish_node-requires-in-Volume-clause-can : goal.finish_node-requires-in-Volume-clause-can
@@ -68,5 +71,6 @@ pub returns-in-Volume-clause-finished : goal.returns-in-Volume-clause-finished
 returns-in-Volume-clause-finished g c =
     let layout = layout_in c.args.depot.now in
     subst (λ grant. IsFinished (machine_of c.args.seat.now) (view c.args.seat.now) (number_of layout (small_lent grant layout).affinity)
-    (entry_of layout (small_lent grant layout).affinity (small_lent grant layout).parcels c.args.call.now c.args.reply.now) (view c.finish_node-in-Volume.new.seat))
+    (entry_of layout (small_lent grant layout).affinity (small_lent grant layout).parcels c.args.call.now c.args.reply.now)
+      (view c.finish_node-in-Volume.new.seat))
     (sym c.in-Volume.is) c.finish_node-in-Volume.ensures.finished

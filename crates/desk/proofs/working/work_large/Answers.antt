@@ -27,7 +27,8 @@ on_aggregate-requires-clause-asks g c =
 pub returns-in-Aggregate-clause-whole : goal.returns-in-Aggregate-clause-whole
 returns-in-Aggregate-clause-whole g c =
     record {
-      exact = as-left (layout_of c.args.layout.now) c.in-Aggregate.node c.affinity-affinity.result c.affinity-affinity.ensures c.on_aggregate.new.held c.on_aggregate.ensures.exact;
+      exact = as-left (layout_of c.args.layout.now) c.in-Aggregate.node c.affinity-affinity.result c.affinity-affinity.ensures c.on_aggregate.new.held
+        c.on_aggregate.ensures.exact;
     }
 
 pub returns-in-Aggregate-clause-done : goal.returns-in-Aggregate-clause-done
@@ -47,7 +48,8 @@ pub on_serial-requires-clause-exact : goal.on_serial-requires-clause-exact
 on_serial-requires-clause-exact g c =
     let L = layout_of c.args.layout.now in
     as-given L c.in-Serial.node c.affinity-affinity-in-Serial.result c.affinity-affinity-in-Serial.ensures (λ a f. HasExactly g.T.HasKind.kind L a f)
-    (large_lent c.args.grant.now L) c.held-in-Serial.result.now (ap (λ grant. large_lent grant L) c.in-Serial.is) c.held-in-Serial.ensures.value c.requires.whole.exact
+    (large_lent c.args.grant.now L) c.held-in-Serial.result.now (ap (λ grant. large_lent grant L) c.in-Serial.is) c.held-in-Serial.ensures.value
+      c.requires.whole.exact
 
 pub on_serial-requires-clause-asks : goal.on_serial-requires-clause-asks
 on_serial-requires-clause-asks g c =
@@ -58,7 +60,8 @@ on_serial-requires-clause-asks g c =
 pub returns-in-Serial-clause-whole : goal.returns-in-Serial-clause-whole
 returns-in-Serial-clause-whole g c =
     record {
-      exact = as-left (layout_of c.args.layout.now) c.in-Serial.node c.affinity-affinity-in-Serial.result c.affinity-affinity-in-Serial.ensures c.on_serial.new.held c.on_serial.ensures.exact;
+      exact = as-left (layout_of c.args.layout.now) c.in-Serial.node c.affinity-affinity-in-Serial.result c.affinity-affinity-in-Serial.ensures
+        c.on_serial.new.held c.on_serial.ensures.exact;
     }
 
 pub returns-in-Serial-clause-done : goal.returns-in-Serial-clause-done

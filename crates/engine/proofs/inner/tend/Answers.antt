@@ -24,7 +24,8 @@ pub set_hand-requires : goal.set_hand-requires
 set_hand-requires c = in-room c.args.state.now.workers c.take_hand-hand.new.workers c.args.worker _ _ c.take_hand-hand.ensures.1 c.take_hand-hand.ensures.2
 
 pub set_hand-requires-in-Err : goal.set_hand-requires-in-Err
-set_hand-requires-in-Err c = in-room c.args.state.now.workers c.take_hand-hand.new.workers c.args.worker _ _ c.take_hand-hand.ensures.1 c.take_hand-hand.ensures.2
+set_hand-requires-in-Err c = in-room c.args.state.now.workers c.take_hand-hand.new.workers c.args.worker _ _ c.take_hand-hand.ensures.1
+    c.take_hand-hand.ensures.2
 
 -- ---- it is made
 

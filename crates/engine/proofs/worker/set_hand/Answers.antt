@@ -10,4 +10,5 @@ pub returns : goal.returns
 returns c =
     let k : Worker = c.index_mut.result.now in
     let ws = c.args.workers.now in
-    (k.run, k.hand, index-found ws c.args.worker k c.requires c.index_mut.ensures.value, ap (λ (h : Hand). with_item ws c.args.worker (worker_with k.run h)) c.replace.ensures.after)
+    (k.run, k.hand, index-found ws c.args.worker k c.requires c.index_mut.ensures.value, ap (λ (h : Hand). with_item ws c.args.worker (worker_with k.run h))
+      c.replace.ensures.after)

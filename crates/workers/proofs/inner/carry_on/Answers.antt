@@ -55,7 +55,8 @@ returns-in-Done-clause-ready g c =
     let call = inner_of c.args.call in
     let u = view c.finish_node.new.seat in
     made-ready L c.args.filer.now.depot.layout.lawful c.args.call c.args.hand v w c.requires.may
-    c.requires.seat.1.0 c.run_inner.ensures.seat.1.0 c.in-Ok.ran.outcome (node_lent L c.in-Ok.ran.grant) c.in-Ok.ensures.ran c.in-Done.reply c.in-Done.is u c.finish_node.ensures.finished (verifier_in c.args.filer.now) c.requires.ready
+    c.requires.seat.1.0 c.run_inner.ensures.seat.1.0 c.in-Ok.ran.outcome (node_lent L c.in-Ok.ran.grant) c.in-Ok.ensures.ran c.in-Done.reply c.in-Done.is u
+      c.finish_node.ensures.finished (verifier_in c.args.filer.now) c.requires.ready
 
 pub returns-in-Done-clause-carried : goal.returns-in-Done-clause-carried
 returns-in-Done-clause-carried g c =
@@ -65,7 +66,8 @@ returns-in-Done-clause-carried g c =
     let call = inner_of c.args.call in
     let u = view c.finish_node.new.seat in
     made L c.args.filer.now.depot.layout.lawful c.args.call c.args.hand v w c.requires.may
-    c.requires.seat.1.0 c.run_inner.ensures.seat.1.0 c.in-Ok.ran.outcome (node_lent L c.in-Ok.ran.grant) c.in-Ok.ensures.ran c.in-Done.reply c.in-Done.is u c.finish_node.ensures.finished
+    c.requires.seat.1.0 c.run_inner.ensures.seat.1.0 c.in-Ok.ran.outcome (node_lent L c.in-Ok.ran.grant) c.in-Ok.ensures.ran c.in-Done.reply c.in-Done.is u
+      c.finish_node.ensures.finished
 
 -- ---- it is refused
 
@@ -86,7 +88,8 @@ returns-in-Refused-clause-ready g c =
     let call = inner_of c.args.call in
     let u = view c.put_back_node.new.seat in
     left-ready L c.args.filer.now.depot.layout.lawful c.args.call c.args.hand v w c.requires.may
-    c.requires.seat.1.0 c.run_inner.ensures.seat.1.0 c.in-Ok.ran.outcome (node_lent L c.in-Ok.ran.grant) c.in-Ok.ensures.ran u c.put_back_node.ensures.ended (verifier_in c.args.filer.now) c.requires.ready
+    c.requires.seat.1.0 c.run_inner.ensures.seat.1.0 c.in-Ok.ran.outcome (node_lent L c.in-Ok.ran.grant) c.in-Ok.ensures.ran u c.put_back_node.ensures.ended
+      (verifier_in c.args.filer.now) c.requires.ready
 
 pub returns-in-Refused-clause-carried : goal.returns-in-Refused-clause-carried
 returns-in-Refused-clause-carried g c =
@@ -99,7 +102,8 @@ returns-in-Refused-clause-carried g c =
     c.requires.seat.1.0 c.run_inner.ensures.seat.1.0 c.in-Ok.ran.outcome (node_lent L c.in-Ok.ran.grant) c.in-Ok.ensures.ran c.in-Refused.is in (
       c.new.ensures ∙ sym empty,
       left-entries L c.args.filer.now.depot.layout.lawful c.args.call c.args.hand v w c.requires.may
-          c.requires.seat.1.0 c.run_inner.ensures.seat.1.0 c.in-Ok.ran.outcome (node_lent L c.in-Ok.ran.grant) c.in-Ok.ensures.ran u c.put_back_node.ensures.ended,
+          c.requires.seat.1.0 c.run_inner.ensures.seat.1.0 c.in-Ok.ran.outcome (node_lent L c.in-Ok.ran.grant) c.in-Ok.ensures.ran u
+            c.put_back_node.ensures.ended,
       is-unused L c.args.filer.now.depot.layout.lawful c.args.call c.args.hand v w c.requires.may
           c.requires.seat.1.0 c.run_inner.ensures.seat.1.0 c.in-Ok.ran.outcome (node_lent L c.in-Ok.ran.grant) c.in-Ok.ensures.ran c.in-Refused.is,
     )
@@ -123,4 +127,5 @@ returns-in-NoMemory-clause-ready g c =
     let call = inner_of c.args.call in
     let u = view c.put_back_node-in-NoMemory.new.seat in
     left-ready L c.args.filer.now.depot.layout.lawful c.args.call c.args.hand v w c.requires.may
-    c.requires.seat.1.0 c.run_inner.ensures.seat.1.0 c.in-Ok.ran.outcome (node_lent L c.in-Ok.ran.grant) c.in-Ok.ensures.ran u c.put_back_node-in-NoMemory.ensures.ended (verifier_in c.args.filer.now) c.requires.ready
+    c.requires.seat.1.0 c.run_inner.ensures.seat.1.0 c.in-Ok.ran.outcome (node_lent L c.in-Ok.ran.grant) c.in-Ok.ensures.ran u
+      c.put_back_node-in-NoMemory.ensures.ended (verifier_in c.args.filer.now) c.requires.ready

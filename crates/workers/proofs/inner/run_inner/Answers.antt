@@ -37,7 +37,8 @@ work_node-outcome-requires-clause-asks g c =
     let at : affinity_of c.node_of.result ≡ inner_node call = ap affinity_of c.node_of.ensures ∙ node-of-call call in
     let begun = c.in-Ok.ensures.granted in
     let l = node_lent L c.in-Ok.grant in
-    subst (λ (x : Layout). AsksForInner call c.args.hand x (node_lent x c.in-Ok.grant).affinity (node_lent x c.in-Ok.grant).parcels) (sym c.layout-layout.ensures) (
+    subst (λ (x : Layout). AsksForInner call c.args.hand x (node_lent x c.in-Ok.grant).affinity (node_lent x c.in-Ok.grant).parcels)
+      (sym c.layout-layout.ensures) (
       begun.affinity ∙ at,
       c.requires.may.fits.fits,
       granted-hand L l.affinity (subst (λ a. IsNode L a) (sym (begun.affinity ∙ at)) c.requires.may.fits.node) (view c.args.seat.now) c.requires.seat.1.0

@@ -99,7 +99,8 @@ returns-in-Replied-clause-ready g c =
     let u = view c.answer-answer.new.seat in
     entered-ready L c.args.filer.now.depot.layout.lawful m c.requires.placed c.args.moment v w
     c.requires.seat.1.0 c.run.ensures.seat.1.0 c.in-Ok.ran.outcome
-    (node_lent L c.in-Ok.ran.grant) c.in-Ok.ensures.ran u c.in-Replied.reply false c.answer-answer.ensures.finished (verifier_in c.args.filer.now) c.requires.ready
+    (node_lent L c.in-Ok.ran.grant) c.in-Ok.ensures.ran u c.in-Replied.reply false c.answer-answer.ensures.finished (verifier_in c.args.filer.now)
+      c.requires.ready
 
 pub returns-in-Replied-clause-served : goal.returns-in-Replied-clause-served
 returns-in-Replied-clause-served g c =
@@ -110,7 +111,8 @@ returns-in-Replied-clause-served g c =
     let u = view c.answer-answer.new.seat in
     entered L c.args.filer.now.depot.layout.lawful m c.requires.placed c.args.moment v w
     c.requires.seat.1.0 c.run.ensures.seat.1.0 c.in-Ok.ran.outcome
-    (node_lent L c.in-Ok.ran.grant) c.in-Ok.ensures.ran u c.in-Replied.reply false c.answer-answer.ensures.finished c.answer-answer.result c.answer-answer.ensures.answer
+    (node_lent L c.in-Ok.ran.grant) c.in-Ok.ensures.ran u c.in-Replied.reply false c.answer-answer.ensures.finished c.answer-answer.result
+      c.answer-answer.ensures.answer
 
 pub returns-in-Starved-clause-ready : goal.returns-in-Starved-clause-ready
 returns-in-Starved-clause-ready g c =
@@ -121,7 +123,8 @@ returns-in-Starved-clause-ready g c =
     let u = view c.answer-answer-in-Starved.new.seat in
     entered-ready L c.args.filer.now.depot.layout.lawful m c.requires.placed c.args.moment v w
     c.requires.seat.1.0 c.run.ensures.seat.1.0 c.in-Ok.ran.outcome
-    (node_lent L c.in-Ok.ran.grant) c.in-Ok.ensures.ran u SystemError true c.answer-answer-in-Starved.ensures.finished (verifier_in c.args.filer.now) c.requires.ready
+    (node_lent L c.in-Ok.ran.grant) c.in-Ok.ensures.ran u SystemError true c.answer-answer-in-Starved.ensures.finished (verifier_in c.args.filer.now)
+      c.requires.ready
 
 pub returns-in-Starved-clause-served : goal.returns-in-Starved-clause-served
 returns-in-Starved-clause-served g c =
@@ -132,7 +135,8 @@ returns-in-Starved-clause-served g c =
     let u = view c.answer-answer-in-Starved.new.seat in
     entered L c.args.filer.now.depot.layout.lawful m c.requires.placed c.args.moment v w
     c.requires.seat.1.0 c.run.ensures.seat.1.0 c.in-Ok.ran.outcome
-    (node_lent L c.in-Ok.ran.grant) c.in-Ok.ensures.ran u SystemError true c.answer-answer-in-Starved.ensures.finished c.answer-answer-in-Starved.result c.answer-answer-in-Starved.ensures.answer
+    (node_lent L c.in-Ok.ran.grant) c.in-Ok.ensures.ran u SystemError true c.answer-answer-in-Starved.ensures.finished c.answer-answer-in-Starved.result
+      c.answer-answer-in-Starved.ensures.answer
 
 pub returns-in-Moved-clause-ready : goal.returns-in-Moved-clause-ready
 returns-in-Moved-clause-ready g c =
@@ -143,7 +147,8 @@ returns-in-Moved-clause-ready g c =
     let u = view c.put_back_node.new.seat in
     back-ready L c.args.filer.now.depot.layout.lawful m c.requires.placed c.args.moment v w
     c.requires.seat.1.0 c.run.ensures.seat.1.0 c.in-Ok.ran.outcome
-    (node_lent L c.in-Ok.ran.grant) c.in-Ok.ensures.ran c.in-Moved.affinity c.in-Moved.is u c.put_back_node.ensures.ended (verifier_in c.args.filer.now) c.requires.ready
+    (node_lent L c.in-Ok.ran.grant) c.in-Ok.ensures.ran c.in-Moved.affinity c.in-Moved.is u c.put_back_node.ensures.ended (verifier_in c.args.filer.now)
+      c.requires.ready
 
 pub returns-in-Moved-clause-served : goal.returns-in-Moved-clause-served
 returns-in-Moved-clause-served g c =

@@ -15,23 +15,27 @@ use Rattle.desk.proofs.desk.Desk.begin.Goals as goal
 
 pub index_mut-requires : goal.index_mut-requires
 index_mut-requires g c =
-    let self = c.args.self.now in let layout = layout_in self.depot in let v = view self.seat in let places = self.places.items in let gs = all_granted places in
+    let self = c.args.self.now in let layout = layout_in self.depot in let v = view self.seat in let places = self.places.items in
+    let gs = all_granted places in
     let room : c.args.worker < length gs = in-room shown layout v gs c.args.worker _ c.requires.idle in
     let all = length-map places granted in let vec = self.places.ok.0 in omega arith
 
 pub begin_in-requires-clause-idle : goal.begin_in-requires-clause-idle
 begin_in-requires-clause-idle g c =
-    let self = c.args.self.now in let layout = layout_in self.depot in let v = view self.seat in let places = self.places.items in let gs = all_granted places in
+    let self = c.args.self.now in let layout = layout_in self.depot in let v = view self.seat in let places = self.places.items in
+    let gs = all_granted places in
     none-there shown layout v gs c.args.worker c.requires.idle (granted c.index_mut.result.now)
     (told-there granted places c.args.worker c.index_mut.result.now c.index_mut.ensures.value)
 
 pub returns-then-is_taken-clause-kept : goal.returns-then-is_taken-clause-kept
 returns-then-is_taken-clause-kept g c =
-    let self = c.args.self.now in let layout = layout_in self.depot in let v = view self.seat in let places = self.places.items in let gs = all_granted places in
+    let self = c.args.self.now in let layout = layout_in self.depot in let v = view self.seat in let places = self.places.items in
+    let gs = all_granted places in
     let w = view c.begin_in.new.seat in
     let idle = none-there shown layout v gs c.args.worker c.requires.idle (granted c.index_mut.result.now)
     (told-there granted places c.args.worker c.index_mut.result.now c.index_mut.ensures.value) in
-    let same = told-same granted places c.args.worker c.index_mut.result.now c.begin_in.new.place c.index_mut.ensures.value (c.in-Err-Worn.ensures.idle ∙ sym idle) in
+    let same = told-same granted places c.args.worker c.index_mut.result.now c.begin_in.new.place c.index_mut.ensures.value
+      (c.in-Err-Worn.ensures.idle ∙ sym idle) in
     let worn = subst (λ r. depots.IsRefused layout v c.args.affinity r w) c.in-Err-Worn.field-0-is c.in-Err-Worn.ensures.refused in
     subst (λ xs. IsBook g.M.Parcel.HasKind.kind (books_of shown layout w xs) w) (sym same)
     (read-desk shown g.M.Parcel.HasKind.kind (machine_in self) layout self.depot.layout.lawful v w gs c.requires.kept
@@ -39,20 +43,24 @@ returns-then-is_taken-clause-kept g c =
 
 pub returns-then-is_taken-clause-refused : goal.returns-then-is_taken-clause-refused
 returns-then-is_taken-clause-refused g c =
-    let self = c.args.self.now in let layout = layout_in self.depot in let v = view self.seat in let places = self.places.items in let gs = all_granted places in
+    let self = c.args.self.now in let layout = layout_in self.depot in let v = view self.seat in let places = self.places.items in
+    let gs = all_granted places in
     let idle = none-there shown layout v gs c.args.worker c.requires.idle (granted c.index_mut.result.now)
     (told-there granted places c.args.worker c.index_mut.result.now c.index_mut.ensures.value) in
-    let same = told-same granted places c.args.worker c.index_mut.result.now c.begin_in.new.place c.index_mut.ensures.value (c.in-Err-Worn.ensures.idle ∙ sym idle) in
+    let same = told-same granted places c.args.worker c.index_mut.result.now c.begin_in.new.place c.index_mut.ensures.value
+      (c.in-Err-Worn.ensures.idle ∙ sym idle) in
     taken-books shown layout v gs (affinity_of c.args.affinity) (layout_of c.layout.result.now) (all_granted c.as_slice.result.now) c.layout.ensures
     (ap all_granted c.as_slice.ensures.value ∙ same) (c.is_taken.ensures.0 c.if-is_taken.true)
 
 pub returns-then-is_taken-clause-same : goal.returns-then-is_taken-clause-same
 returns-then-is_taken-clause-same g c =
-    let self = c.args.self.now in let layout = layout_in self.depot in let v = view self.seat in let places = self.places.items in let gs = all_granted places in
+    let self = c.args.self.now in let layout = layout_in self.depot in let v = view self.seat in let places = self.places.items in
+    let gs = all_granted places in
     let w = view c.begin_in.new.seat in
     let idle = none-there shown layout v gs c.args.worker c.requires.idle (granted c.index_mut.result.now)
     (told-there granted places c.args.worker c.index_mut.result.now c.index_mut.ensures.value) in
-    let same = told-same granted places c.args.worker c.index_mut.result.now c.begin_in.new.place c.index_mut.ensures.value (c.in-Err-Worn.ensures.idle ∙ sym idle) in
+    let same = told-same granted places c.args.worker c.index_mut.result.now c.begin_in.new.place c.index_mut.ensures.value
+      (c.in-Err-Worn.ensures.idle ∙ sym idle) in
     let worn = subst (λ r. depots.IsRefused layout v c.args.affinity r w) c.in-Err-Worn.field-0-is c.in-Err-Worn.ensures.refused in
     ap (λ xs. books_of shown layout w xs) same ∙
     read-books shown g.M.Parcel.HasKind.kind (machine_in self) layout self.depot.layout.lawful v w gs c.requires.kept
@@ -60,7 +68,8 @@ returns-then-is_taken-clause-same g c =
 
 pub returns-in-Ok-clause-kept : goal.returns-in-Ok-clause-kept
 returns-in-Ok-clause-kept g c =
-    let self = c.args.self.now in let layout = layout_in self.depot in let v = view self.seat in let places = self.places.items in let gs = all_granted places in
+    let self = c.args.self.now in let layout = layout_in self.depot in let v = view self.seat in let places = self.places.items in
+    let gs = all_granted places in
     let w = view c.begin_in.new.seat in
     let begun = c.in-Ok.ensures.granted in
     subst (λ xs. IsBook g.M.Parcel.HasKind.kind (books_of shown layout w xs) w)
@@ -70,7 +79,8 @@ returns-in-Ok-clause-kept g c =
 
 pub returns-in-Ok-clause-begun : goal.returns-in-Ok-clause-begun
 returns-in-Ok-clause-begun g c =
-    let self = c.args.self.now in let layout = layout_in self.depot in let v = view self.seat in let places = self.places.items in let gs = all_granted places in
+    let self = c.args.self.now in let layout = layout_in self.depot in let v = view self.seat in let places = self.places.items in
+    let gs = all_granted places in
     let w = view c.begin_in.new.seat in
     let begun = c.in-Ok.ensures.granted in
     subst (λ xs. HasBegun (books self) c.args.worker (affinity_of c.args.affinity) (books_of shown layout w xs))
@@ -80,11 +90,13 @@ returns-in-Ok-clause-begun g c =
 
 pub returns-in-Err-Busy-clause-kept : goal.returns-in-Err-Busy-clause-kept
 returns-in-Err-Busy-clause-kept g c =
-    let self = c.args.self.now in let layout = layout_in self.depot in let v = view self.seat in let places = self.places.items in let gs = all_granted places in
+    let self = c.args.self.now in let layout = layout_in self.depot in let v = view self.seat in let places = self.places.items in
+    let gs = all_granted places in
     let w = view c.begin_in.new.seat in
     let idle = none-there shown layout v gs c.args.worker c.requires.idle (granted c.index_mut.result.now)
     (told-there granted places c.args.worker c.index_mut.result.now c.index_mut.ensures.value) in
-    let same = told-same granted places c.args.worker c.index_mut.result.now c.begin_in.new.place c.index_mut.ensures.value (c.in-Err-Busy.ensures.idle ∙ sym idle) in
+    let same = told-same granted places c.args.worker c.index_mut.result.now c.begin_in.new.place c.index_mut.ensures.value
+      (c.in-Err-Busy.ensures.idle ∙ sym idle) in
     let busy = subst (λ r. depots.IsRefused layout v c.args.affinity r w) c.in-Err-Busy.field-0-is c.in-Err-Busy.ensures.refused in
     subst (λ xs. IsBook g.M.Parcel.HasKind.kind (books_of shown layout w xs) w) (sym same)
     (read-desk shown g.M.Parcel.HasKind.kind (machine_in self) layout self.depot.layout.lawful v w gs c.requires.kept
@@ -92,7 +104,8 @@ returns-in-Err-Busy-clause-kept g c =
 
 pub returns-in-Err-Busy-clause-refused : goal.returns-in-Err-Busy-clause-refused
 returns-in-Err-Busy-clause-refused g c =
-    let self = c.args.self.now in let layout = layout_in self.depot in let v = view self.seat in let places = self.places.items in let gs = all_granted places in
+    let self = c.args.self.now in let layout = layout_in self.depot in let v = view self.seat in let places = self.places.items in
+    let gs = all_granted places in
     let w = view c.begin_in.new.seat in
     let busy = subst (λ r. depots.IsRefused layout v c.args.affinity r w) c.in-Err-Busy.field-0-is c.in-Err-Busy.ensures.refused in
     taken-so shown g.M.Parcel.HasKind.kind (machine_in self) layout self.depot.layout.lawful v w gs c.requires.kept
@@ -100,11 +113,13 @@ returns-in-Err-Busy-clause-refused g c =
 
 pub returns-in-Err-Busy-clause-same : goal.returns-in-Err-Busy-clause-same
 returns-in-Err-Busy-clause-same g c =
-    let self = c.args.self.now in let layout = layout_in self.depot in let v = view self.seat in let places = self.places.items in let gs = all_granted places in
+    let self = c.args.self.now in let layout = layout_in self.depot in let v = view self.seat in let places = self.places.items in
+    let gs = all_granted places in
     let w = view c.begin_in.new.seat in
     let idle = none-there shown layout v gs c.args.worker c.requires.idle (granted c.index_mut.result.now)
     (told-there granted places c.args.worker c.index_mut.result.now c.index_mut.ensures.value) in
-    let same = told-same granted places c.args.worker c.index_mut.result.now c.begin_in.new.place c.index_mut.ensures.value (c.in-Err-Busy.ensures.idle ∙ sym idle) in
+    let same = told-same granted places c.args.worker c.index_mut.result.now c.begin_in.new.place c.index_mut.ensures.value
+      (c.in-Err-Busy.ensures.idle ∙ sym idle) in
     let busy = subst (λ r. depots.IsRefused layout v c.args.affinity r w) c.in-Err-Busy.field-0-is c.in-Err-Busy.ensures.refused in
     ap (λ xs. books_of shown layout w xs) same ∙
     read-books shown g.M.Parcel.HasKind.kind (machine_in self) layout self.depot.layout.lawful v w gs c.requires.kept
@@ -112,11 +127,13 @@ returns-in-Err-Busy-clause-same g c =
 
 pub returns-else-is_taken-clause-kept : goal.returns-else-is_taken-clause-kept
 returns-else-is_taken-clause-kept g c =
-    let self = c.args.self.now in let layout = layout_in self.depot in let v = view self.seat in let places = self.places.items in let gs = all_granted places in
+    let self = c.args.self.now in let layout = layout_in self.depot in let v = view self.seat in let places = self.places.items in
+    let gs = all_granted places in
     let w = view c.begin_in.new.seat in
     let idle = none-there shown layout v gs c.args.worker c.requires.idle (granted c.index_mut.result.now)
     (told-there granted places c.args.worker c.index_mut.result.now c.index_mut.ensures.value) in
-    let same = told-same granted places c.args.worker c.index_mut.result.now c.begin_in.new.place c.index_mut.ensures.value (c.in-Err-Worn.ensures.idle ∙ sym idle) in
+    let same = told-same granted places c.args.worker c.index_mut.result.now c.begin_in.new.place c.index_mut.ensures.value
+      (c.in-Err-Worn.ensures.idle ∙ sym idle) in
     let worn = subst (λ r. depots.IsRefused layout v c.args.affinity r w) c.in-Err-Worn.field-0-is c.in-Err-Worn.ensures.refused in
     subst (λ xs. IsBook g.M.Parcel.HasKind.kind (books_of shown layout w xs) w) (sym same)
     (read-desk shown g.M.Parcel.HasKind.kind (machine_in self) layout self.depot.layout.lawful v w gs c.requires.kept
@@ -124,13 +141,16 @@ returns-else-is_taken-clause-kept g c =
 
 pub returns-else-is_taken-clause-refused : goal.returns-else-is_taken-clause-refused
 returns-else-is_taken-clause-refused g c =
-    let self = c.args.self.now in let layout = layout_in self.depot in let v = view self.seat in let places = self.places.items in let gs = all_granted places in
+    let self = c.args.self.now in let layout = layout_in self.depot in let v = view self.seat in let places = self.places.items in
+    let gs = all_granted places in
     let w = view c.begin_in.new.seat in
     let idle = none-there shown layout v gs c.args.worker c.requires.idle (granted c.index_mut.result.now)
     (told-there granted places c.args.worker c.index_mut.result.now c.index_mut.ensures.value) in
-    let same = told-same granted places c.args.worker c.index_mut.result.now c.begin_in.new.place c.index_mut.ensures.value (c.in-Err-Worn.ensures.idle ∙ sym idle) in
+    let same = told-same granted places c.args.worker c.index_mut.result.now c.begin_in.new.place c.index_mut.ensures.value
+      (c.in-Err-Worn.ensures.idle ∙ sym idle) in
     let worn = subst (λ r. depots.IsRefused layout v c.args.affinity r w) c.in-Err-Worn.field-0-is c.in-Err-Worn.ensures.refused in (
-      free-books shown layout v gs (affinity_of c.args.affinity) (layout_of c.layout.result.now) (all_granted c.as_slice.result.now) c.is_taken.result c.layout.ensures
+      free-books shown layout v gs (affinity_of c.args.affinity) (layout_of c.layout.result.now) (all_granted c.as_slice.result.now) c.is_taken.result
+        c.layout.ensures
           (ap all_granted c.as_slice.ensures.value ∙ same) c.is_taken.ensures.1 c.if-is_taken.false,
       worn-so shown g.M.Parcel.HasKind.kind (machine_in self) layout self.depot.layout.lawful v w gs c.requires.kept
           (affinity_of c.args.affinity) c.requires.node worn,
@@ -138,11 +158,13 @@ returns-else-is_taken-clause-refused g c =
 
 pub returns-else-is_taken-clause-same : goal.returns-else-is_taken-clause-same
 returns-else-is_taken-clause-same g c =
-    let self = c.args.self.now in let layout = layout_in self.depot in let v = view self.seat in let places = self.places.items in let gs = all_granted places in
+    let self = c.args.self.now in let layout = layout_in self.depot in let v = view self.seat in let places = self.places.items in
+    let gs = all_granted places in
     let w = view c.begin_in.new.seat in
     let idle = none-there shown layout v gs c.args.worker c.requires.idle (granted c.index_mut.result.now)
     (told-there granted places c.args.worker c.index_mut.result.now c.index_mut.ensures.value) in
-    let same = told-same granted places c.args.worker c.index_mut.result.now c.begin_in.new.place c.index_mut.ensures.value (c.in-Err-Worn.ensures.idle ∙ sym idle) in
+    let same = told-same granted places c.args.worker c.index_mut.result.now c.begin_in.new.place c.index_mut.ensures.value
+      (c.in-Err-Worn.ensures.idle ∙ sym idle) in
     let worn = subst (λ r. depots.IsRefused layout v c.args.affinity r w) c.in-Err-Worn.field-0-is c.in-Err-Worn.ensures.refused in
     ap (λ xs. books_of shown layout w xs) same ∙
     read-books shown g.M.Parcel.HasKind.kind (machine_in self) layout self.depot.layout.lawful v w gs c.requires.kept
