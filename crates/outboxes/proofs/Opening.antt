@@ -42,5 +42,6 @@ neither b r e n = (λ h. absurd (false≢true (sym e ∙ ap is_told_full h)), λ
 pub neither-opened : (b : Boxes) (connection : ConnectionNumber) → (IsFull b → ⊥) → (Ok connection ≡ full → IsFull b) × (IsFull b → Ok connection ≡ full)
 neither-opened b connection n = neither b (Ok connection) refl n
 
-pub neither-refused : (b : Boxes) (refusal : OpenRefusal) → refusal ≡ NoMemory → (IsFull b → ⊥) → (Err refusal ≡ full → IsFull b) × (IsFull b → Err refusal ≡ full)
+pub neither-refused : (b : Boxes) (refusal : OpenRefusal) → refusal ≡ NoMemory → (IsFull b → ⊥)
+    → (Err refusal ≡ full → IsFull b) × (IsFull b → Err refusal ≡ full)
 neither-refused b refusal e n = neither b (Err refusal) (ap (λ (x : OpenRefusal). is_told_full (Err x)) e) n

@@ -13,8 +13,8 @@ use Rattle.std.specs.FinMap.{FinMap, find, get, insert, remove, len}
 use Rattle.std.specs.FinMap.{get-from_entries, get-insert, get-remove, len-empty, len-insert}
 use Rattle.std.proofs.lemmas.Cmp.{eq_by_cmp_equiv}
 use Rattle.std.proofs.lemmas.Map.Views.{exact_unsigned_eq}
-use Rattle.volume_values.specs.Maps.{changed_at}
-use Rattle.volume_values.specs.lemmas.Numbered.{same-answers, get-changed_at}
+use Rattle.nfs_model.specs.volume.Maps.{changed_at}
+use Rattle.nfs_model.specs.volume.lemmas.Numbered.{same-answers, get-changed_at}
 use Rattle.outboxes.specs.Boxes.{Addressed, addressed, first_in, oldest, opened, put, shut, taken, with_last}
 use Rattle.outboxes.specs.Messages.{ReplyMessage}
 use Rattle.outboxes.specs.Tables.{waiting_of, boxes_of, NoneFrom}

@@ -4,7 +4,7 @@ use Rattle.std.specs.Coded.{Coded, code_by, coded×, coded_ℕ}
 use Rattle.std.specs.FinMap as maps
 use Rattle.std.specs.FinMap.{FinMap, empty, get, insert, remove, len}
 use Rattle.std.specs.Ordering.{nat_cmp}
-use Rattle.volume_values.specs.Maps.{changed_at}
+use Rattle.nfs_model.specs.volume.Maps.{changed_at}
 use Rattle.outboxes.specs.Messages.{ReplyMessage}
 
 -- The number that the next connection gets, which is how many were opened, and what waits for
