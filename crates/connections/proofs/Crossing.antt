@@ -49,8 +49,10 @@ writing-send = declared_send Writing.the_type (
   search (crosses, sendable) depth 20,
   (
     shared-send,
-    (search (line.the_send, line.the_sync, crosses, sendable) depth 20,
-      (search (stream.the_send, sendable) depth 20, (search (number.the_send, sendable) depth 20, tt))),
+    (
+      search (line.the_send, line.the_sync, crosses, sendable) depth 20,
+      (search (stream.the_send, sendable) depth 20, (search (number.the_send, sendable) depth 20, tt)),
+    ),
   ),
 )
 

@@ -279,7 +279,7 @@ module _ (setup : Setup) (w : World) (i : ℕ) where
         → Events setup w (PutDown i) answer new
     put-as Empty carries call is h = absurd cc
     put-as (Fresh v blocks) carries call is h = delivered free v blocks carries answer new
-      (subst (λ x. Tends x answer new) (sym (one (jobs.Deliver v) call is)) h)
+        (subst (λ x. Tends x answer new) (sym (one (jobs.Deliver v) call is)) h)
       where
         one : (x y : InnerCall) → Some x ≡ Some y → x ≡ y
         one x y e = cc

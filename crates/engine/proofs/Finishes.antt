@@ -139,7 +139,7 @@ module _ (s : State) (sound : IsSoundEngine s) (i : ℕ) (r : Running) (o : Outc
       back_is : world new ≡ finished_by (setup_in s) (world s) i (came r o) (tasks.Moved (affinity_of a))
       back_is = back-world (world s) s.calls new.calls (again r a) (record { waiting = refl; finished = refl }) waits (setup_in s) new.connections.items
           (ap (λ (cs : List Connection). map connection_seen cs) connections) s.workers.items new.workers.items i (Worked r o) hand refl there h.set
-            (came r o) (affinity_of a) refl
+          (came r o) (affinity_of a) refl
           (server_of (filer_contents (held new).layout (now (held new)))) (all_parts (filer_contents (held new).layout (now (held new)))) (stamps (held new))
           (server-kept (held s) (held new) back_layout back.same) (parts-kept (held s) (held new) back_layout back.same) back_stamps
 
@@ -218,7 +218,7 @@ module _ (s : State) (sound : IsSoundEngine s) (i : ℕ) (r : Running) (o : Outc
       ended_is : world new ≡ finish (setup_in s) (stamp_added (without_call (world s) i)) (finished_call (came r o) starved) (reply_of reply)
       ended_is = ended-world (world s) s.calls new.calls place place' r (reply_of reply) starved count ends (setup_in s) refl
           (record { waiting = refl; finished = refl }) s.connections.items new.connections.items refl at put s.workers.items new.workers.items i (Worked r o)
-            hand refl there h.set
+          hand refl there h.set
           (server_of (filer_contents (held new).layout (now (held new)))) (all_parts (filer_contents (held new).layout (now (held new)))) (stamps (held new))
           (server-kept (held s) (held new) done_layout done.same) (parts-kept (held s) (held new) done_layout done.same) more_stamps
 

@@ -141,7 +141,7 @@ module _ (s : State) (sound : IsSoundEngine s) (i : ℕ) (call : InnerCall) (may
 
     abbrev then : World
     then = next job_of job_reply_of (setup_in s) (world s) (held s) sound.stands i (worker_seen place) seen call node reply (held t) made
-      (book-apart _ (held t) _ kept)
+        (book-apart _ (held t) _ kept)
 
     stands : StandsFor job_of job_reply_of (setup_in s) then (held t)
     stands = made-stands job_of job_reply_of (setup_in s) (world s) (held s) sound.stands i (worker_seen place) seen call node reply (held t) made

@@ -235,7 +235,7 @@ world_with w c ks = record w {
 
 pub worked-world : {P : Type 0} (w : World) (c : FilerBooks P Job JobReply) (ks ls : List Worker) (i : ℕ) (r : Running) (o : Outcome) (hand : Hand)
     → w.workers ≡ map worker_seen ks → slice_get ks i ≡ Some (worker_with (Begun r) hand) → ls ≡ slice_set ks i (worker_with (Worked r o) hand)
-      → stamps c ≡ w.stamps
+    → stamps c ≡ w.stamps
     → world_with w c ls ≡ worked w i (running_as r None) (outcome_of o) (stored_all (filer_contents c.layout (now c)))
 worked-world w c ks ls i r o hand seen there are same = λ j. record w {
   workers = (ap (λ xs. map worker_seen xs) are ∙ seen-ran ks i (Begun r) (Worked r o) hand there

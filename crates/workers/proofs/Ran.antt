@@ -115,7 +115,7 @@ module _ (layout : Layout) (lawful : fault_of layout ≡ None) (code : codes.Inn
 
   own : AreHands job_takes job_gives (entries_of w) (batches_in hand)
   own = subst (λ (es : List FilerEntry). AreHands job_takes job_gives es (batches_in hand)) (sym (begun-entries v w (number_of layout node) before begun))
-    may.own
+      may.own
 
   -- ---- it is done
 

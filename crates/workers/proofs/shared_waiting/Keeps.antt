@@ -130,7 +130,7 @@ module _ (T K : Type 0) (Fits : K → T → Type 0) where
       let w : View T K = both v u in
       let vs : List (View T K) = set views port w in
       let was : get_elem? views other ≡ some u = ⊎_elim (λ (x : (other ≡ port) × (w ≡ u)). absurd (two x.0))
-        (λ (x : (other ≢ port) × (get_elem? views other ≡ some u)). x.1) (at_set views port other w u at') in
+      (λ (x : (other ≢ port) × (get_elem? views other ≡ some u)). x.1) (at_set views port other w u at') in
       let nothing : w.share ≡ 0 → (w.put ≡ []) × (w.picked ≡ []) = λ none.
       let x = b.idle port v at (part-none v.share u.halvings (omega arith)) in
       let y = b.idle other u was (part-none u.share v.halvings (omega arith)) in
@@ -192,7 +192,7 @@ module _ (T K : Type 0) (Fits : K → T → Type 0) where
         key = key;
         same = same-snoc key vs spent (λ p. absurd (omega arith)) (λ j u e p. ⊎_elim (λ (x : (j ≡ port) × (w ≡ u)). sym (ap (λ (y : View T K). y.key) x.1))
             (λ (x : (j ≢ port) × (get_elem? views j ≡ some u)). absurd (let z = alone items views b port v at whole j u x.0 x.1 in omega arith))
-              (at_set views port j w u e));
+            (at_set views port j w u e));
         fit = refit b.key key (sym (b.same port v at live) ∙ none) items b.fit;
       }
 

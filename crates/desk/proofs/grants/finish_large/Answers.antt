@@ -30,5 +30,5 @@ returns-in-Serial-clause-finished g c =
     let layout = layout_in c.args.depot.now in
     subst (λ grant. IsFinished (machine_of c.args.seat.now) (view c.args.seat.now) (number_of layout (large_lent grant layout).affinity)
     (entry_of layout (large_lent grant layout).affinity (large_lent grant layout).parcels c.args.call.now c.args.reply.now)
-      (view c.finish_node-in-Serial.new.seat))
+    (view c.finish_node-in-Serial.new.seat))
     (sym c.in-Serial.is) c.finish_node-in-Serial.ensures.finished

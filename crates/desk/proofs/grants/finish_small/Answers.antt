@@ -30,7 +30,7 @@ returns-in-Vbn-clause-finished g c =
     let layout = layout_in c.args.depot.now in
     subst (λ grant. IsFinished (machine_of c.args.seat.now) (view c.args.seat.now) (number_of layout (small_lent grant layout).affinity)
     (entry_of layout (small_lent grant layout).affinity (small_lent grant layout).parcels c.args.call.now c.args.reply.now)
-      (view c.finish_node-in-Vbn.new.seat))
+    (view c.finish_node-in-Vbn.new.seat))
     (sym c.in-Vbn.is) c.finish_node-in-Vbn.ensures.finished
 
 pub finish_node-requires-in-Stripe-clause-can : goal.finish_node-requires-in-Stripe-clause-can
@@ -44,7 +44,7 @@ returns-in-Stripe-clause-finished g c =
     let layout = layout_in c.args.depot.now in
     subst (λ grant. IsFinished (machine_of c.args.seat.now) (view c.args.seat.now) (number_of layout (small_lent grant layout).affinity)
     (entry_of layout (small_lent grant layout).affinity (small_lent grant layout).parcels c.args.call.now c.args.reply.now)
-      (view c.finish_node-in-Stripe.new.seat))
+    (view c.finish_node-in-Stripe.new.seat))
     (sym c.in-Stripe.is) c.finish_node-in-Stripe.ensures.finished
 
 pub finish_node-requires-in-Logical-clause-can : goal.finish_node-requires-in-Logical-clause-can
@@ -58,7 +58,7 @@ returns-in-Logical-clause-finished g c =
     let layout = layout_in c.args.depot.now in
     subst (λ grant. IsFinished (machine_of c.args.seat.now) (view c.args.seat.now) (number_of layout (small_lent grant layout).affinity)
     (entry_of layout (small_lent grant layout).affinity (small_lent grant layout).parcels c.args.call.now c.args.reply.now)
-      (view c.finish_node-in-Logical.new.seat))
+    (view c.finish_node-in-Logical.new.seat))
     (sym c.in-Logical.is) c.finish_node-in-Logical.ensures.finished
 
 pub finish_node-requires-in-Volume-clause-can : goal.finish_node-requires-in-Volume-clause-can
@@ -72,5 +72,5 @@ returns-in-Volume-clause-finished g c =
     let layout = layout_in c.args.depot.now in
     subst (λ grant. IsFinished (machine_of c.args.seat.now) (view c.args.seat.now) (number_of layout (small_lent grant layout).affinity)
     (entry_of layout (small_lent grant layout).affinity (small_lent grant layout).parcels c.args.call.now c.args.reply.now)
-      (view c.finish_node-in-Volume.new.seat))
+    (view c.finish_node-in-Volume.new.seat))
     (sym c.in-Volume.is) c.finish_node-in-Volume.ensures.finished

@@ -15,7 +15,7 @@ pub returns-in-Aggregate-clause-ended : goal.returns-in-Aggregate-clause-ended
 returns-in-Aggregate-clause-ended g c =
     let layout = layout_in c.args.depot.now in
     subst (λ grant. IsEnded (view c.args.seat.now) (number_of layout (large_lent grant layout).affinity) (view c.put_back_node.new.seat))
-      (sym c.in-Aggregate.is)
+    (sym c.in-Aggregate.is)
     c.put_back_node.ensures.ended
 
 pub put_back_node-requires-in-Serial-clause-can : goal.put_back_node-requires-in-Serial-clause-can
@@ -27,5 +27,5 @@ pub returns-in-Serial-clause-ended : goal.returns-in-Serial-clause-ended
 returns-in-Serial-clause-ended g c =
     let layout = layout_in c.args.depot.now in
     subst (λ grant. IsEnded (view c.args.seat.now) (number_of layout (large_lent grant layout).affinity) (view c.put_back_node-in-Serial.new.seat))
-      (sym c.in-Serial.is)
+    (sym c.in-Serial.is)
     c.put_back_node-in-Serial.ensures.ended

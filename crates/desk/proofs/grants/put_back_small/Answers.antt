@@ -26,7 +26,7 @@ pub returns-in-Vbn-clause-ended : goal.returns-in-Vbn-clause-ended
 returns-in-Vbn-clause-ended g c =
     let layout = layout_in c.args.depot.now in
     subst (λ grant. IsEnded (view c.args.seat.now) (number_of layout (small_lent grant layout).affinity) (view c.put_back_node-in-Vbn.new.seat))
-      (sym c.in-Vbn.is)
+    (sym c.in-Vbn.is)
     c.put_back_node-in-Vbn.ensures.ended
 
 pub put_back_node-requires-in-Stripe-clause-can : goal.put_back_node-requires-in-Stripe-clause-can
@@ -38,7 +38,7 @@ pub returns-in-Stripe-clause-ended : goal.returns-in-Stripe-clause-ended
 returns-in-Stripe-clause-ended g c =
     let layout = layout_in c.args.depot.now in
     subst (λ grant. IsEnded (view c.args.seat.now) (number_of layout (small_lent grant layout).affinity) (view c.put_back_node-in-Stripe.new.seat))
-      (sym c.in-Stripe.is)
+    (sym c.in-Stripe.is)
     c.put_back_node-in-Stripe.ensures.ended
 
 pub put_back_node-requires-in-Logical-clause-can : goal.put_back_node-requires-in-Logical-clause-can
@@ -50,7 +50,7 @@ pub returns-in-Logical-clause-ended : goal.returns-in-Logical-clause-ended
 returns-in-Logical-clause-ended g c =
     let layout = layout_in c.args.depot.now in
     subst (λ grant. IsEnded (view c.args.seat.now) (number_of layout (small_lent grant layout).affinity) (view c.put_back_node-in-Logical.new.seat))
-      (sym c.in-Logical.is)
+    (sym c.in-Logical.is)
     c.put_back_node-in-Logical.ensures.ended
 
 pub put_back_node-requires-in-Volume-clause-can : goal.put_back_node-requires-in-Volume-clause-can
@@ -62,5 +62,5 @@ pub returns-in-Volume-clause-ended : goal.returns-in-Volume-clause-ended
 returns-in-Volume-clause-ended g c =
     let layout = layout_in c.args.depot.now in
     subst (λ grant. IsEnded (view c.args.seat.now) (number_of layout (small_lent grant layout).affinity) (view c.put_back_node-in-Volume.new.seat))
-      (sym c.in-Volume.is)
+    (sym c.in-Volume.is)
     c.put_back_node-in-Volume.ensures.ended

@@ -28,7 +28,7 @@ pub returns-in-Aggregate-clause-whole : goal.returns-in-Aggregate-clause-whole
 returns-in-Aggregate-clause-whole g c =
     record {
       exact = as-left (layout_of c.args.layout.now) c.in-Aggregate.node c.affinity-affinity.result c.affinity-affinity.ensures c.on_aggregate.new.held
-        c.on_aggregate.ensures.exact;
+          c.on_aggregate.ensures.exact;
     }
 
 pub returns-in-Aggregate-clause-done : goal.returns-in-Aggregate-clause-done
@@ -49,7 +49,7 @@ on_serial-requires-clause-exact g c =
     let L = layout_of c.args.layout.now in
     as-given L c.in-Serial.node c.affinity-affinity-in-Serial.result c.affinity-affinity-in-Serial.ensures (λ a f. HasExactly g.T.HasKind.kind L a f)
     (large_lent c.args.grant.now L) c.held-in-Serial.result.now (ap (λ grant. large_lent grant L) c.in-Serial.is) c.held-in-Serial.ensures.value
-      c.requires.whole.exact
+    c.requires.whole.exact
 
 pub on_serial-requires-clause-asks : goal.on_serial-requires-clause-asks
 on_serial-requires-clause-asks g c =
@@ -61,7 +61,7 @@ pub returns-in-Serial-clause-whole : goal.returns-in-Serial-clause-whole
 returns-in-Serial-clause-whole g c =
     record {
       exact = as-left (layout_of c.args.layout.now) c.in-Serial.node c.affinity-affinity-in-Serial.result c.affinity-affinity-in-Serial.ensures
-        c.on_serial.new.held c.on_serial.ensures.exact;
+          c.on_serial.new.held c.on_serial.ensures.exact;
     }
 
 pub returns-in-Serial-clause-done : goal.returns-in-Serial-clause-done

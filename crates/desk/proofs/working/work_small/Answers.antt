@@ -28,7 +28,7 @@ pub returns-in-Range-clause-whole : goal.returns-in-Range-clause-whole
 returns-in-Range-clause-whole g c =
     record {
       exact = as-left (layout_of c.args.layout.now) c.in-Range.node c.affinity-affinity.result c.affinity-affinity.ensures c.on_range.new.held
-        c.on_range.ensures.exact;
+          c.on_range.ensures.exact;
     }
 
 pub returns-in-Range-clause-done : goal.returns-in-Range-clause-done
@@ -60,7 +60,7 @@ pub returns-in-Vbn-clause-whole : goal.returns-in-Vbn-clause-whole
 returns-in-Vbn-clause-whole g c =
     record {
       exact = as-left (layout_of c.args.layout.now) c.in-Vbn.node c.affinity-affinity-in-Vbn.result c.affinity-affinity-in-Vbn.ensures c.on_vbn.new.held
-        c.on_vbn.ensures.exact;
+          c.on_vbn.ensures.exact;
     }
 
 pub returns-in-Vbn-clause-done : goal.returns-in-Vbn-clause-done
@@ -81,7 +81,7 @@ on_stripe-requires-clause-exact g c =
     let L = layout_of c.args.layout.now in
     as-given L c.in-Stripe.node c.affinity-affinity-in-Stripe.result c.affinity-affinity-in-Stripe.ensures (λ a f. HasExactly g.T.HasKind.kind L a f)
     (small_lent c.args.grant.now L) c.held-in-Stripe.result.now (ap (λ grant. small_lent grant L) c.in-Stripe.is) c.held-in-Stripe.ensures.value
-      c.requires.whole.exact
+    c.requires.whole.exact
 
 pub on_stripe-requires-clause-asks : goal.on_stripe-requires-clause-asks
 on_stripe-requires-clause-asks g c =
@@ -93,7 +93,7 @@ pub returns-in-Stripe-clause-whole : goal.returns-in-Stripe-clause-whole
 returns-in-Stripe-clause-whole g c =
     record {
       exact = as-left (layout_of c.args.layout.now) c.in-Stripe.node c.affinity-affinity-in-Stripe.result c.affinity-affinity-in-Stripe.ensures
-        c.on_stripe.new.held c.on_stripe.ensures.exact;
+          c.on_stripe.new.held c.on_stripe.ensures.exact;
     }
 
 pub returns-in-Stripe-clause-done : goal.returns-in-Stripe-clause-done
@@ -108,27 +108,27 @@ on_logical-requires-clause-node g c =
     let L = layout_of c.args.layout.now in
     as-given L c.in-Logical.node c.affinity-affinity-in-Logical.result c.affinity-affinity-in-Logical.ensures (λ a f. IsNode L a)
     (small_lent c.args.grant.now L) c.held-in-Logical.result.now (ap (λ grant. small_lent grant L) c.in-Logical.is) c.held-in-Logical.ensures.value
-      c.requires.node
+    c.requires.node
 
 pub on_logical-requires-clause-exact : goal.on_logical-requires-clause-exact
 on_logical-requires-clause-exact g c =
     let L = layout_of c.args.layout.now in
     as-given L c.in-Logical.node c.affinity-affinity-in-Logical.result c.affinity-affinity-in-Logical.ensures (λ a f. HasExactly g.T.HasKind.kind L a f)
     (small_lent c.args.grant.now L) c.held-in-Logical.result.now (ap (λ grant. small_lent grant L) c.in-Logical.is) c.held-in-Logical.ensures.value
-      c.requires.whole.exact
+    c.requires.whole.exact
 
 pub on_logical-requires-clause-asks : goal.on_logical-requires-clause-asks
 on_logical-requires-clause-asks g c =
     let L = layout_of c.args.layout.now in
     as-given L c.in-Logical.node c.affinity-affinity-in-Logical.result c.affinity-affinity-in-Logical.ensures (λ a f. g.W.Task.asks c.args.task L a f)
     (small_lent c.args.grant.now L) c.held-in-Logical.result.now (ap (λ grant. small_lent grant L) c.in-Logical.is) c.held-in-Logical.ensures.value
-      c.requires.asks
+    c.requires.asks
 
 pub returns-in-Logical-clause-whole : goal.returns-in-Logical-clause-whole
 returns-in-Logical-clause-whole g c =
     record {
       exact = as-left (layout_of c.args.layout.now) c.in-Logical.node c.affinity-affinity-in-Logical.result c.affinity-affinity-in-Logical.ensures
-        c.on_logical.new.held c.on_logical.ensures.exact;
+          c.on_logical.new.held c.on_logical.ensures.exact;
     }
 
 pub returns-in-Logical-clause-done : goal.returns-in-Logical-clause-done
@@ -149,7 +149,7 @@ on_volume-requires-clause-exact g c =
     let L = layout_of c.args.layout.now in
     as-given L c.in-Volume.node c.affinity-affinity-in-Volume.result c.affinity-affinity-in-Volume.ensures (λ a f. HasExactly g.T.HasKind.kind L a f)
     (small_lent c.args.grant.now L) c.held-in-Volume.result.now (ap (λ grant. small_lent grant L) c.in-Volume.is) c.held-in-Volume.ensures.value
-      c.requires.whole.exact
+    c.requires.whole.exact
 
 pub on_volume-requires-clause-asks : goal.on_volume-requires-clause-asks
 on_volume-requires-clause-asks g c =
@@ -161,7 +161,7 @@ pub returns-in-Volume-clause-whole : goal.returns-in-Volume-clause-whole
 returns-in-Volume-clause-whole g c =
     record {
       exact = as-left (layout_of c.args.layout.now) c.in-Volume.node c.affinity-affinity-in-Volume.result c.affinity-affinity-in-Volume.ensures
-        c.on_volume.new.held c.on_volume.ensures.exact;
+          c.on_volume.new.held c.on_volume.ensures.exact;
     }
 
 pub returns-in-Volume-clause-done : goal.returns-in-Volume-clause-done

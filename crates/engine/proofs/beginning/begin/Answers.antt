@@ -33,7 +33,7 @@ pub lend-requires-clause-idle : goal.lend-requires-clause-idle
 lend-requires-clause-idle c =
     let s = c.args.state.now in
     let idle = idle-worker s.workers.items c.args.worker
-      (idle-there s.workers.items c.deref.result.now c.args.worker c.is_idle.result c.deref.ensures.value c.is_idle.ensures c.if-not-is_idle.false) in
+    (idle-there s.workers.items c.deref.result.now c.args.worker c.is_idle.result c.deref.ensures.value c.is_idle.ensures c.if-not-is_idle.false) in
     idle-lent job_of job_reply_of (setup_in s) (world s) (books s.desk) c.requires.stands c.args.worker (worker_seen (worker_with Idle idle.0))
     (seen-at s.workers.items c.args.worker (worker_with Idle idle.0) idle.1) refl
 
@@ -53,7 +53,7 @@ pub set_run-requires : goal.set_run-requires
 set_run-requires c =
     let s = c.args.state.now in
     let idle = idle-worker s.workers.items c.args.worker
-      (idle-there s.workers.items c.deref.result.now c.args.worker c.is_idle.result c.deref.ensures.value c.is_idle.ensures c.if-not-is_idle.false) in
+    (idle-there s.workers.items c.deref.result.now c.args.worker c.is_idle.result c.deref.ensures.value c.is_idle.ensures c.if-not-is_idle.false) in
     in-vector s.workers c.args.worker (worker_with Idle idle.0) idle.1
 
 -- ---- it is refused
@@ -130,7 +130,7 @@ module _ (c : goal.After-set_run) where
   changed = record {
     there =
         (let free = idle-there s.workers.items c.deref.result.now c.args.worker c.is_idle.result c.deref.ensures.value c.is_idle.ensures
-          c.if-not-is_idle.false in
+        c.if-not-is_idle.false in
         let idle = idle-worker s.workers.items c.args.worker free in
         let same = one-worker (slice_get s.workers.items c.args.worker) Idle c.set_run.ensures.0 idle.0 hand idle.1 c.set_run.ensures.2 in
         c.set_run.ensures.2 ∙ ap (λ (x : WorkerRun). Some (worker_with x hand)) (sym same.0));

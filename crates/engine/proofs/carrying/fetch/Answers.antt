@@ -15,7 +15,7 @@ pub returns-then-not-has_volume-clause-events : goal.returns-then-not-has_volume
 returns-then-not-has_volume-clause-events c =
     let s = c.args.state.now in
     let free = (free-there s.workers.items c.deref.result.now c.args.worker c.is_free.result c.deref.ensures.value c.is_free.ensures
-      ∙ c.if-not-is_free.false) in
+    ∙ c.if-not-is_free.false) in
     let none = volume-asked s c.requires c.args.volume.0 c.has_volume.result c.has_volume.ensures ∙ c.if-not-has_volume.true in
     (inl (fetch-nowhere (setup_in s) (world s) c.args.worker free c.args.volume.0 none c.args.range), refl)
 
@@ -23,7 +23,7 @@ pub returns-then-range-ge-RANGES-clause-events : goal.returns-then-range-ge-RANG
 returns-then-range-ge-RANGES-clause-events c =
     let s = c.args.state.now in
     let free = (free-there s.workers.items c.deref.result.now c.args.worker c.is_free.result c.deref.ensures.value c.is_free.ensures
-      ∙ c.if-not-is_free.false) in
+    ∙ c.if-not-is_free.false) in
     let there = volume-asked s c.requires c.args.volume.0 c.has_volume.result c.has_volume.ensures ∙ c.if-not-has_volume.false in
     (inl (fetch-beyond (setup_in s) (world s) c.args.worker free c.args.volume.0 there c.args.range (le-leb 16 c.args.range c.if-range-ge-RANGES.true)), refl)
 
@@ -31,14 +31,14 @@ pub tend-requires-clause-may : goal.tend-requires-clause-may
 tend-requires-clause-may c =
     let s = c.args.state.now in
     let free = (free-there s.workers.items c.deref.result.now c.args.worker c.is_free.result c.deref.ensures.value c.is_free.ensures
-      ∙ c.if-not-is_free.false) in
+    ∙ c.if-not-is_free.false) in
     may_fetch s c.requires c.args.worker free c.args.volume.0 (sym c.if-not-has_volume.false ∙ c.has_volume.ensures) c.args.range c.if-range-ge-RANGES.false
 
 pub returns-clause-events : goal.returns-clause-events
 returns-clause-events c =
     let s = c.args.state.now in
     let free = (free-there s.workers.items c.deref.result.now c.args.worker c.is_free.result c.deref.ensures.value c.is_free.ensures
-      ∙ c.if-not-is_free.false) in
+    ∙ c.if-not-is_free.false) in
     let there = volume-asked s c.requires c.args.volume.0 c.has_volume.result c.has_volume.ensures ∙ c.if-not-has_volume.false in
     fetched (setup_in s) (world s) c.args.worker free c.args.volume.0 there c.args.range (lt-leb 16 c.args.range c.if-range-ge-RANGES.false)
-      (answer_of c.tend.result) (world c.tend.new.state) c.tend.ensures.tends
+    (answer_of c.tend.result) (world c.tend.new.state) c.tend.ensures.tends

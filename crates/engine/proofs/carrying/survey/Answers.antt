@@ -14,7 +14,7 @@ pub returns-then-not-has_volume-clause-events : goal.returns-then-not-has_volume
 returns-then-not-has_volume-clause-events c =
     let s = c.args.state.now in
     let free = (free-there s.workers.items c.deref.result.now c.args.worker c.is_free.result c.deref.ensures.value c.is_free.ensures
-      ∙ c.if-not-is_free.false) in
+    ∙ c.if-not-is_free.false) in
     let none = volume-asked s c.requires c.args.volume.0 c.has_volume.result c.has_volume.ensures ∙ c.if-not-has_volume.true in
     (inl (survey-nowhere (setup_in s) (world s) c.args.worker free c.args.volume.0 none), refl)
 
@@ -22,13 +22,13 @@ pub tend-requires-clause-may : goal.tend-requires-clause-may
 tend-requires-clause-may c =
     let s = c.args.state.now in
     let free = (free-there s.workers.items c.deref.result.now c.args.worker c.is_free.result c.deref.ensures.value c.is_free.ensures
-      ∙ c.if-not-is_free.false) in
+    ∙ c.if-not-is_free.false) in
     may_survey s c.requires c.args.worker free c.args.volume.0 (sym c.if-not-has_volume.false ∙ c.has_volume.ensures)
 
 pub returns-clause-events : goal.returns-clause-events
 returns-clause-events c =
     let s = c.args.state.now in
     let free = (free-there s.workers.items c.deref.result.now c.args.worker c.is_free.result c.deref.ensures.value c.is_free.ensures
-      ∙ c.if-not-is_free.false) in
+    ∙ c.if-not-is_free.false) in
     let there = volume-asked s c.requires c.args.volume.0 c.has_volume.result c.has_volume.ensures ∙ c.if-not-has_volume.false in
     surveyed (setup_in s) (world s) c.args.worker free c.args.volume.0 there (answer_of c.tend.result) (world c.tend.new.state) c.tend.ensures.tends

@@ -16,49 +16,49 @@ returns-in-Open-clause-counted c =
     let s = c.args.state.now in
     let new = c.open_connection.new.state in
     c.requires.counted ∙ sym (event-stays (setup_in s) (world s) (world new) (events.Open) (answer_of c.open_connection.result) tt
-      c.open_connection.ensures.events)
+    c.open_connection.ensures.events)
 
 pub returns-in-Feed-clause-counted : goal.returns-in-Feed-clause-counted
 returns-in-Feed-clause-counted c =
     let s = c.args.state.now in
     let new = c.feed.new.state in
     c.requires.counted ∙ sym (event-stays (setup_in s) (world s) (world new) (events.Feed c.in-Feed.connection.0 c.in-Feed.bytes.now)
-      (answer_of c.feed.result) tt c.feed.ensures.events)
+    (answer_of c.feed.result) tt c.feed.ensures.events)
 
 pub returns-in-Close-clause-counted : goal.returns-in-Close-clause-counted
 returns-in-Close-clause-counted c =
     let s = c.args.state.now in
     let new = c.close_connection.new.state in
     c.requires.counted ∙ sym (event-stays (setup_in s) (world s) (world new) (events.Close c.in-Close.connection.0) (answer_of c.close_connection.result) tt
-      c.close_connection.ensures.events)
+    c.close_connection.ensures.events)
 
 pub returns-in-Begin-clause-counted : goal.returns-in-Begin-clause-counted
 returns-in-Begin-clause-counted c =
     let s = c.args.state.now in
     let new = c.begin.new.state in
     c.requires.counted ∙ sym (event-stays (setup_in s) (world s) (world new)
-      (events.Begin c.in-Begin.worker.0 c.in-Begin.place (moment_of c.in-Begin.moment)) (answer_of c.begin.result) tt c.begin.ensures.events)
+    (events.Begin c.in-Begin.worker.0 c.in-Begin.place (moment_of c.in-Begin.moment)) (answer_of c.begin.result) tt c.begin.ensures.events)
 
 pub returns-in-Finish-clause-counted : goal.returns-in-Finish-clause-counted
 returns-in-Finish-clause-counted c =
     let s = c.args.state.now in
     let new = c.finish.new.state in
     c.requires.counted ∙ sym (event-stays (setup_in s) (world s) (world new) (events.Finish c.in-Finish.worker.0) (answer_of c.finish.result) tt
-      c.finish.ensures.events)
+    c.finish.ensures.events)
 
 pub returns-in-Fetch-clause-counted : goal.returns-in-Fetch-clause-counted
 returns-in-Fetch-clause-counted c =
     let s = c.args.state.now in
     let new = c.fetch.new.state in
     c.requires.counted ∙ sym (event-stays (setup_in s) (world s) (world new) (events.Fetch c.in-Fetch.worker.0 c.in-Fetch.volume.0 c.in-Fetch.range)
-      (answer_of c.fetch.result) tt c.fetch.ensures.events)
+    (answer_of c.fetch.result) tt c.fetch.ensures.events)
 
 pub returns-in-Survey-clause-counted : goal.returns-in-Survey-clause-counted
 returns-in-Survey-clause-counted c =
     let s = c.args.state.now in
     let new = c.survey.new.state in
     c.requires.counted ∙ sym (event-stays (setup_in s) (world s) (world new) (events.Survey c.in-Survey.worker.0 c.in-Survey.volume.0)
-      (answer_of c.survey.result) tt c.survey.ensures.events)
+    (answer_of c.survey.result) tt c.survey.ensures.events)
 
 pub returns-in-Cull-clause-counted : goal.returns-in-Cull-clause-counted
 returns-in-Cull-clause-counted c =

@@ -38,28 +38,34 @@ use Rattle.engine.proofs.finishing.finish.Goals.{in-Replied, in-Starved}
 
 pub returns-in-Some-Begun-clause-events : goal.returns-in-Some-Begun-clause-events
 returns-in-Some-Begun-clause-events c =
-    let s = c.args.state.now in
-    (inl (finish-early s.workers.items c.deref.result.now c.args.worker (option_copied c.run_at.result) c.deref.ensures.value c.run_at.ensures (setup_in s)
-      (world s) refl _ (ap option_copied c.in-Some-Begun.is ∙ ap Some c.in-Some-Begun.field-0-is)), refl)
+    let s = c.args.state.now in (
+      inl (finish-early s.workers.items c.deref.result.now c.args.worker (option_copied c.run_at.result) c.deref.ensures.value c.run_at.ensures (setup_in s)
+          (world s) refl _ (ap option_copied c.in-Some-Begun.is ∙ ap Some c.in-Some-Begun.field-0-is)),
+      refl,
+    )
 
 pub returns-in-Some-Idle-clause-events : goal.returns-in-Some-Idle-clause-events
 returns-in-Some-Idle-clause-events c =
-    let s = c.args.state.now in
-    (inl (finish-idle s.workers.items c.deref.result.now c.args.worker (option_copied c.run_at.result) c.deref.ensures.value c.run_at.ensures (setup_in s)
-      (world s) refl (ap option_copied c.in-Some-Idle.is ∙ ap Some c.in-Some-Idle.field-0-is)), refl)
+    let s = c.args.state.now in (
+      inl (finish-idle s.workers.items c.deref.result.now c.args.worker (option_copied c.run_at.result) c.deref.ensures.value c.run_at.ensures (setup_in s)
+          (world s) refl (ap option_copied c.in-Some-Idle.is ∙ ap Some c.in-Some-Idle.field-0-is)),
+      refl,
+    )
 
 pub returns-in-None-clause-events : goal.returns-in-None-clause-events
 returns-in-None-clause-events c =
-    let s = c.args.state.now in
-    (inl (finish-nobody s.workers.items c.deref.result.now c.args.worker (option_copied c.run_at.result) c.deref.ensures.value c.run_at.ensures (setup_in s)
-      (world s) refl (ap option_copied c.in-None.is)), refl)
+    let s = c.args.state.now in (
+      inl (finish-nobody s.workers.items c.deref.result.now c.args.worker (option_copied c.run_at.result) c.deref.ensures.value c.run_at.ensures (setup_in s)
+          (world s) refl (ap option_copied c.in-None.is)),
+      refl,
+    )
 
 pub take_run-requires : goal.take_run-requires
 take_run-requires c =
     let s = c.args.state.now in
     in-vector s.workers c.args.worker _
-      (ran-here s.workers.items c.deref.result.now c.args.worker (option_copied c.run_at.result) c.deref.ensures.value c.run_at.ensures _
-      (ap option_copied c.in-Some-Worked.is ∙ ap Some c.in-Some-Worked.field-0-is)).1
+    (ran-here s.workers.items c.deref.result.now c.args.worker (option_copied c.run_at.result) c.deref.ensures.value c.run_at.ensures _
+    (ap option_copied c.in-Some-Worked.is ∙ ap Some c.in-Some-Worked.field-0-is)).1
 
 -- ---- it moves
 
@@ -100,13 +106,13 @@ module _ (c : goal.After-put_back) where
 pub returns-in-Moved-clause-events : goal.returns-in-Moved-clause-events
 returns-in-Moved-clause-events c =
     back_events c.args.state.now c.requires c.args.worker c.in-Worked.running c.in-Worked.outcome c.take_run.ensures.0 (there c) c.in-Moved.affinity
-      c.in-Moved.is
+    c.in-Moved.is
     (new c) (changed c) refl refl c.take_back.ensures.kept c.take_back.ensures.back c.put_back.ensures
 
 pub returns-in-Moved-clause-sound : goal.returns-in-Moved-clause-sound
 returns-in-Moved-clause-sound c =
     back_sound c.args.state.now c.requires c.args.worker c.in-Worked.running c.in-Worked.outcome c.take_run.ensures.0 (there c) c.in-Moved.affinity
-      c.in-Moved.is
+    c.in-Moved.is
     (new c) (changed c) refl refl c.take_back.ensures.kept c.take_back.ensures.back c.put_back.ensures
 
 pub returns-in-Moved-clause-setup : goal.returns-in-Moved-clause-setup
@@ -176,7 +182,7 @@ end_in-count-requires-clause-owed c = λ x e.
     found (s c).connections.items n c.index_mut-place.result.now (Open x) known c.index_mut-place.ensures.value e in
     let owed = c.requires.owed n x at in
     let changed = messages-changed (room_on n) (s c).workers.items c.args.worker (worker_with (Worked (r c) (o c)) c.take_run.ensures.0)
-      (worker_with Idle c.take_run.ensures.0)
+    (worker_with Idle c.take_run.ensures.0)
     (was_there c) in
     let room = room-own n (r c).message refl in
     subst (λ (y : Running). y.message.room ≤ owed_by x) (sym (same c)) (omega (arith, owed, changed, room))

@@ -9,6 +9,10 @@ use Rattle.engine.proofs.worker.set_run.Goals as goal
 pub returns : goal.returns
 returns c =
     let k : Worker = c.index_mut.result.now in
-    let ws = c.args.workers.now in
-    (k.run, k.hand, index-found ws c.args.worker k c.requires c.index_mut.ensures.value, ap
-      (λ (r : WorkerRun). with_item ws c.args.worker (worker_with r k.hand)) c.replace.ensures.after)
+    let ws = c.args.workers.now in (
+      k.run,
+      k.hand,
+      index-found ws c.args.worker k c.requires c.index_mut.ensures.value,
+      ap
+          (λ (r : WorkerRun). with_item ws c.args.worker (worker_with r k.hand)) c.replace.ensures.after,
+    )

@@ -56,7 +56,7 @@ run_on-outcome-requires-clause-may c =
     let r = c.in-Some-Begun.running in
     let sound = c.requires.whole.0 in
     let found = ran-here s.workers.items c.deref.result.now c.args.worker (option_copied c.run_at.result) c.deref.ensures.value c.run_at.ensures (Begun r)
-      (ap option_copied c.in-Some-Begun.is ∙ ap Some c.in-Some-Begun.field-0-is) in
+    (ap option_copied c.in-Some-Begun.is ∙ ap Some c.in-Some-Begun.field-0-is) in
     let ran : Worker = worker_with (Begun r) found.0 in
     let placed = (all-at (IsReady (layout_in s.calls) (length s.connections.items)) s.workers.items i ran sound.workers found.1).0 in
     may-work job_of job_reply_of (setup_in s) (world s) (books s.desk) sound.stands i (worker_seen ran) (seen-at s.workers.items i ran found.1)
@@ -70,28 +70,34 @@ run_on-outcome-requires-clause-counted c =
 
 pub returns-in-Some-Worked-clause-events : goal.returns-in-Some-Worked-clause-events
 returns-in-Some-Worked-clause-events c =
-    let s = c.args.state.now in
-    (inl (work-again s.workers.items c.deref.result.now c.args.worker (option_copied c.run_at.result) c.deref.ensures.value c.run_at.ensures (setup_in s)
-      (world s) refl _ _ (ap option_copied c.in-Some-Worked.is ∙ ap Some c.in-Some-Worked.field-0-is)), refl)
+    let s = c.args.state.now in (
+      inl (work-again s.workers.items c.deref.result.now c.args.worker (option_copied c.run_at.result) c.deref.ensures.value c.run_at.ensures (setup_in s)
+          (world s) refl _ _ (ap option_copied c.in-Some-Worked.is ∙ ap Some c.in-Some-Worked.field-0-is)),
+      refl,
+    )
 
 pub returns-in-Some-Idle-clause-events : goal.returns-in-Some-Idle-clause-events
 returns-in-Some-Idle-clause-events c =
-    let s = c.args.state.now in
-    (inl (work-idle s.workers.items c.deref.result.now c.args.worker (option_copied c.run_at.result) c.deref.ensures.value c.run_at.ensures (setup_in s)
-      (world s) refl (ap option_copied c.in-Some-Idle.is ∙ ap Some c.in-Some-Idle.field-0-is)), refl)
+    let s = c.args.state.now in (
+      inl (work-idle s.workers.items c.deref.result.now c.args.worker (option_copied c.run_at.result) c.deref.ensures.value c.run_at.ensures (setup_in s)
+          (world s) refl (ap option_copied c.in-Some-Idle.is ∙ ap Some c.in-Some-Idle.field-0-is)),
+      refl,
+    )
 
 pub returns-in-None-clause-events : goal.returns-in-None-clause-events
 returns-in-None-clause-events c =
-    let s = c.args.state.now in
-    (inl (work-nobody s.workers.items c.deref.result.now c.args.worker (option_copied c.run_at.result) c.deref.ensures.value c.run_at.ensures (setup_in s)
-      (world s) refl (ap option_copied c.in-None.is)), refl)
+    let s = c.args.state.now in (
+      inl (work-nobody s.workers.items c.deref.result.now c.args.worker (option_copied c.run_at.result) c.deref.ensures.value c.run_at.ensures (setup_in s)
+          (world s) refl (ap option_copied c.in-None.is)),
+      refl,
+    )
 
 pub take_run-requires : goal.take_run-requires
 take_run-requires c =
     let s = c.args.state.now in
     in-vector s.workers c.args.worker _
-      (ran-here s.workers.items c.deref.result.now c.args.worker (option_copied c.run_at.result) c.deref.ensures.value c.run_at.ensures
-      (Begun c.in-Some-Begun.running) (ap option_copied c.in-Some-Begun.is ∙ ap Some c.in-Some-Begun.field-0-is)).1
+    (ran-here s.workers.items c.deref.result.now c.args.worker (option_copied c.run_at.result) c.deref.ensures.value c.run_at.ensures
+    (Begun c.in-Some-Begun.running) (ap option_copied c.in-Some-Begun.is ∙ ap Some c.in-Some-Begun.field-0-is)).1
 
 pub set_run-requires : goal.set_run-requires
 set_run-requires c = in-room c.args.state.now.workers c.take_run.new.workers c.args.worker _ _ c.take_run.ensures.1 c.take_run.ensures.2
@@ -150,7 +156,7 @@ module _ (c : goal.After-set_run) where
 
   looked : (found : Hand) × (slice_get ks i ≡ Some (worker_with (Begun r) found))
   looked = ran-here ks c.deref.result.now i (option_copied c.run_at.result) c.deref.ensures.value c.run_at.ensures (Begun r)
-    (ap option_copied c.in-Some-Begun.is ∙ ap Some c.in-Some-Begun.field-0-is)
+      (ap option_copied c.in-Some-Begun.is ∙ ap Some c.in-Some-Begun.field-0-is)
 
   -- the message that is taken out is the one that was looked at
   same : c.in-Begun.running ≡ r
@@ -211,7 +217,7 @@ module _ (c : goal.After-set_run) where
   may : MayEnd L r.message o
   may =
       let roomy = roomy-now c.servers_are_roomy.ensures.begins c.servers_are_roomy.ensures.stays setup old c.has_eight.ensures
-        c.requires.whole.1.headline.state in
+      c.requires.whole.1.headline.state in
       let comes = works job_of job_reply_of setup old b c.requires.whole.0.stands i (worker_seen ran) seen (running_as r None) refl refl
       (outcome_of o) next served in
       may-end c.replies_fit.ensures.offered L r.message placed.admitted (moment_of r.moment) (worlds.store_of old) after roomy o comes
@@ -220,7 +226,7 @@ module _ (c : goal.After-set_run) where
   ready : AllByRecursion Ready ks'
   ready = subst (λ (xs : List Worker). AllByRecursion Ready xs) (sym are)
       (all-set Ready ks i (worker_with (Worked r o) hand) c.requires.whole.0.workers
-        ((placed, may), (all-at Ready ks i ran c.requires.whole.0.workers there).1))
+      ((placed, may), (all-at Ready ks i ran c.requires.whole.0.workers there).1))
 
   -- the same messages run
   running : running_messages ks' ≡ running_messages ks

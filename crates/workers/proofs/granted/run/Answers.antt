@@ -31,7 +31,7 @@ work_node-outcome-requires-clause-asks g c =
     let begun = c.in_ok-grant.ensures.granted in
     let l = node_lent L c.in_ok-grant.grant in
     subst (λ (x : Layout). AsksFor m.call x (node_lent x c.in_ok-grant.grant).affinity (node_lent x c.in_ok-grant.grant).parcels)
-      (sym c.layout-layout.ensures) (
+    (sym c.layout-layout.ensures) (
       subst (λ a. IsRunAt L m.call a) (sym begun.affinity) c.requires.placed.run,
       granted L l.affinity (subst (λ a. IsNode L a) (sym begun.affinity) c.requires.placed.node) (view c.args.seat.now) c.requires.seat.1.0
           l.parcels begun.after,

@@ -56,7 +56,7 @@ returns-in-Done-clause-ready g c =
     let u = view c.finish_node.new.seat in
     made-ready L c.args.filer.now.depot.layout.lawful c.args.call c.args.hand v w c.requires.may
     c.requires.seat.1.0 c.run_inner.ensures.seat.1.0 c.in-Ok.ran.outcome (node_lent L c.in-Ok.ran.grant) c.in-Ok.ensures.ran c.in-Done.reply c.in-Done.is u
-      c.finish_node.ensures.finished (verifier_in c.args.filer.now) c.requires.ready
+    c.finish_node.ensures.finished (verifier_in c.args.filer.now) c.requires.ready
 
 pub returns-in-Done-clause-carried : goal.returns-in-Done-clause-carried
 returns-in-Done-clause-carried g c =
@@ -67,7 +67,7 @@ returns-in-Done-clause-carried g c =
     let u = view c.finish_node.new.seat in
     made L c.args.filer.now.depot.layout.lawful c.args.call c.args.hand v w c.requires.may
     c.requires.seat.1.0 c.run_inner.ensures.seat.1.0 c.in-Ok.ran.outcome (node_lent L c.in-Ok.ran.grant) c.in-Ok.ensures.ran c.in-Done.reply c.in-Done.is u
-      c.finish_node.ensures.finished
+    c.finish_node.ensures.finished
 
 -- ---- it is refused
 
@@ -89,7 +89,7 @@ returns-in-Refused-clause-ready g c =
     let u = view c.put_back_node.new.seat in
     left-ready L c.args.filer.now.depot.layout.lawful c.args.call c.args.hand v w c.requires.may
     c.requires.seat.1.0 c.run_inner.ensures.seat.1.0 c.in-Ok.ran.outcome (node_lent L c.in-Ok.ran.grant) c.in-Ok.ensures.ran u c.put_back_node.ensures.ended
-      (verifier_in c.args.filer.now) c.requires.ready
+    (verifier_in c.args.filer.now) c.requires.ready
 
 pub returns-in-Refused-clause-carried : goal.returns-in-Refused-clause-carried
 returns-in-Refused-clause-carried g c =
@@ -103,7 +103,7 @@ returns-in-Refused-clause-carried g c =
       c.new.ensures ∙ sym empty,
       left-entries L c.args.filer.now.depot.layout.lawful c.args.call c.args.hand v w c.requires.may
           c.requires.seat.1.0 c.run_inner.ensures.seat.1.0 c.in-Ok.ran.outcome (node_lent L c.in-Ok.ran.grant) c.in-Ok.ensures.ran u
-            c.put_back_node.ensures.ended,
+          c.put_back_node.ensures.ended,
       is-unused L c.args.filer.now.depot.layout.lawful c.args.call c.args.hand v w c.requires.may
           c.requires.seat.1.0 c.run_inner.ensures.seat.1.0 c.in-Ok.ran.outcome (node_lent L c.in-Ok.ran.grant) c.in-Ok.ensures.ran c.in-Refused.is,
     )
@@ -128,4 +128,4 @@ returns-in-NoMemory-clause-ready g c =
     let u = view c.put_back_node-in-NoMemory.new.seat in
     left-ready L c.args.filer.now.depot.layout.lawful c.args.call c.args.hand v w c.requires.may
     c.requires.seat.1.0 c.run_inner.ensures.seat.1.0 c.in-Ok.ran.outcome (node_lent L c.in-Ok.ran.grant) c.in-Ok.ensures.ran u
-      c.put_back_node-in-NoMemory.ensures.ended (verifier_in c.args.filer.now) c.requires.ready
+    c.put_back_node-in-NoMemory.ensures.ended (verifier_in c.args.filer.now) c.requires.ready

@@ -38,7 +38,7 @@ work_node-outcome-requires-clause-asks g c =
     let begun = c.in-Ok.ensures.granted in
     let l = node_lent L c.in-Ok.grant in
     subst (λ (x : Layout). AsksForInner call c.args.hand x (node_lent x c.in-Ok.grant).affinity (node_lent x c.in-Ok.grant).parcels)
-      (sym c.layout-layout.ensures) (
+    (sym c.layout-layout.ensures) (
       begun.affinity ∙ at,
       c.requires.may.fits.fits,
       granted-hand L l.affinity (subst (λ a. IsNode L a) (sym (begun.affinity ∙ at)) c.requires.may.fits.node) (view c.args.seat.now) c.requires.seat.1.0

@@ -100,7 +100,7 @@ returns-in-Replied-clause-ready g c =
     entered-ready L c.args.filer.now.depot.layout.lawful m c.requires.placed c.args.moment v w
     c.requires.seat.1.0 c.run.ensures.seat.1.0 c.in-Ok.ran.outcome
     (node_lent L c.in-Ok.ran.grant) c.in-Ok.ensures.ran u c.in-Replied.reply false c.answer-answer.ensures.finished (verifier_in c.args.filer.now)
-      c.requires.ready
+    c.requires.ready
 
 pub returns-in-Replied-clause-served : goal.returns-in-Replied-clause-served
 returns-in-Replied-clause-served g c =
@@ -112,7 +112,7 @@ returns-in-Replied-clause-served g c =
     entered L c.args.filer.now.depot.layout.lawful m c.requires.placed c.args.moment v w
     c.requires.seat.1.0 c.run.ensures.seat.1.0 c.in-Ok.ran.outcome
     (node_lent L c.in-Ok.ran.grant) c.in-Ok.ensures.ran u c.in-Replied.reply false c.answer-answer.ensures.finished c.answer-answer.result
-      c.answer-answer.ensures.answer
+    c.answer-answer.ensures.answer
 
 pub returns-in-Starved-clause-ready : goal.returns-in-Starved-clause-ready
 returns-in-Starved-clause-ready g c =
@@ -124,7 +124,7 @@ returns-in-Starved-clause-ready g c =
     entered-ready L c.args.filer.now.depot.layout.lawful m c.requires.placed c.args.moment v w
     c.requires.seat.1.0 c.run.ensures.seat.1.0 c.in-Ok.ran.outcome
     (node_lent L c.in-Ok.ran.grant) c.in-Ok.ensures.ran u SystemError true c.answer-answer-in-Starved.ensures.finished (verifier_in c.args.filer.now)
-      c.requires.ready
+    c.requires.ready
 
 pub returns-in-Starved-clause-served : goal.returns-in-Starved-clause-served
 returns-in-Starved-clause-served g c =
@@ -136,7 +136,7 @@ returns-in-Starved-clause-served g c =
     entered L c.args.filer.now.depot.layout.lawful m c.requires.placed c.args.moment v w
     c.requires.seat.1.0 c.run.ensures.seat.1.0 c.in-Ok.ran.outcome
     (node_lent L c.in-Ok.ran.grant) c.in-Ok.ensures.ran u SystemError true c.answer-answer-in-Starved.ensures.finished c.answer-answer-in-Starved.result
-      c.answer-answer-in-Starved.ensures.answer
+    c.answer-answer-in-Starved.ensures.answer
 
 pub returns-in-Moved-clause-ready : goal.returns-in-Moved-clause-ready
 returns-in-Moved-clause-ready g c =
@@ -148,7 +148,7 @@ returns-in-Moved-clause-ready g c =
     back-ready L c.args.filer.now.depot.layout.lawful m c.requires.placed c.args.moment v w
     c.requires.seat.1.0 c.run.ensures.seat.1.0 c.in-Ok.ran.outcome
     (node_lent L c.in-Ok.ran.grant) c.in-Ok.ensures.ran c.in-Moved.affinity c.in-Moved.is u c.put_back_node.ensures.ended (verifier_in c.args.filer.now)
-      c.requires.ready
+    c.requires.ready
 
 pub returns-in-Moved-clause-served : goal.returns-in-Moved-clause-served
 returns-in-Moved-clause-served g c =

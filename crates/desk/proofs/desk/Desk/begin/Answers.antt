@@ -35,7 +35,7 @@ returns-then-is_taken-clause-kept g c =
     let idle = none-there shown layout v gs c.args.worker c.requires.idle (granted c.index_mut.result.now)
     (told-there granted places c.args.worker c.index_mut.result.now c.index_mut.ensures.value) in
     let same = told-same granted places c.args.worker c.index_mut.result.now c.begin_in.new.place c.index_mut.ensures.value
-      (c.in-Err-Worn.ensures.idle ∙ sym idle) in
+    (c.in-Err-Worn.ensures.idle ∙ sym idle) in
     let worn = subst (λ r. depots.IsRefused layout v c.args.affinity r w) c.in-Err-Worn.field-0-is c.in-Err-Worn.ensures.refused in
     subst (λ xs. IsBook g.M.Parcel.HasKind.kind (books_of shown layout w xs) w) (sym same)
     (read-desk shown g.M.Parcel.HasKind.kind (machine_in self) layout self.depot.layout.lawful v w gs c.requires.kept
@@ -48,7 +48,7 @@ returns-then-is_taken-clause-refused g c =
     let idle = none-there shown layout v gs c.args.worker c.requires.idle (granted c.index_mut.result.now)
     (told-there granted places c.args.worker c.index_mut.result.now c.index_mut.ensures.value) in
     let same = told-same granted places c.args.worker c.index_mut.result.now c.begin_in.new.place c.index_mut.ensures.value
-      (c.in-Err-Worn.ensures.idle ∙ sym idle) in
+    (c.in-Err-Worn.ensures.idle ∙ sym idle) in
     taken-books shown layout v gs (affinity_of c.args.affinity) (layout_of c.layout.result.now) (all_granted c.as_slice.result.now) c.layout.ensures
     (ap all_granted c.as_slice.ensures.value ∙ same) (c.is_taken.ensures.0 c.if-is_taken.true)
 
@@ -60,7 +60,7 @@ returns-then-is_taken-clause-same g c =
     let idle = none-there shown layout v gs c.args.worker c.requires.idle (granted c.index_mut.result.now)
     (told-there granted places c.args.worker c.index_mut.result.now c.index_mut.ensures.value) in
     let same = told-same granted places c.args.worker c.index_mut.result.now c.begin_in.new.place c.index_mut.ensures.value
-      (c.in-Err-Worn.ensures.idle ∙ sym idle) in
+    (c.in-Err-Worn.ensures.idle ∙ sym idle) in
     let worn = subst (λ r. depots.IsRefused layout v c.args.affinity r w) c.in-Err-Worn.field-0-is c.in-Err-Worn.ensures.refused in
     ap (λ xs. books_of shown layout w xs) same ∙
     read-books shown g.M.Parcel.HasKind.kind (machine_in self) layout self.depot.layout.lawful v w gs c.requires.kept
@@ -96,7 +96,7 @@ returns-in-Err-Busy-clause-kept g c =
     let idle = none-there shown layout v gs c.args.worker c.requires.idle (granted c.index_mut.result.now)
     (told-there granted places c.args.worker c.index_mut.result.now c.index_mut.ensures.value) in
     let same = told-same granted places c.args.worker c.index_mut.result.now c.begin_in.new.place c.index_mut.ensures.value
-      (c.in-Err-Busy.ensures.idle ∙ sym idle) in
+    (c.in-Err-Busy.ensures.idle ∙ sym idle) in
     let busy = subst (λ r. depots.IsRefused layout v c.args.affinity r w) c.in-Err-Busy.field-0-is c.in-Err-Busy.ensures.refused in
     subst (λ xs. IsBook g.M.Parcel.HasKind.kind (books_of shown layout w xs) w) (sym same)
     (read-desk shown g.M.Parcel.HasKind.kind (machine_in self) layout self.depot.layout.lawful v w gs c.requires.kept
@@ -119,7 +119,7 @@ returns-in-Err-Busy-clause-same g c =
     let idle = none-there shown layout v gs c.args.worker c.requires.idle (granted c.index_mut.result.now)
     (told-there granted places c.args.worker c.index_mut.result.now c.index_mut.ensures.value) in
     let same = told-same granted places c.args.worker c.index_mut.result.now c.begin_in.new.place c.index_mut.ensures.value
-      (c.in-Err-Busy.ensures.idle ∙ sym idle) in
+    (c.in-Err-Busy.ensures.idle ∙ sym idle) in
     let busy = subst (λ r. depots.IsRefused layout v c.args.affinity r w) c.in-Err-Busy.field-0-is c.in-Err-Busy.ensures.refused in
     ap (λ xs. books_of shown layout w xs) same ∙
     read-books shown g.M.Parcel.HasKind.kind (machine_in self) layout self.depot.layout.lawful v w gs c.requires.kept
@@ -133,7 +133,7 @@ returns-else-is_taken-clause-kept g c =
     let idle = none-there shown layout v gs c.args.worker c.requires.idle (granted c.index_mut.result.now)
     (told-there granted places c.args.worker c.index_mut.result.now c.index_mut.ensures.value) in
     let same = told-same granted places c.args.worker c.index_mut.result.now c.begin_in.new.place c.index_mut.ensures.value
-      (c.in-Err-Worn.ensures.idle ∙ sym idle) in
+    (c.in-Err-Worn.ensures.idle ∙ sym idle) in
     let worn = subst (λ r. depots.IsRefused layout v c.args.affinity r w) c.in-Err-Worn.field-0-is c.in-Err-Worn.ensures.refused in
     subst (λ xs. IsBook g.M.Parcel.HasKind.kind (books_of shown layout w xs) w) (sym same)
     (read-desk shown g.M.Parcel.HasKind.kind (machine_in self) layout self.depot.layout.lawful v w gs c.requires.kept
@@ -147,10 +147,10 @@ returns-else-is_taken-clause-refused g c =
     let idle = none-there shown layout v gs c.args.worker c.requires.idle (granted c.index_mut.result.now)
     (told-there granted places c.args.worker c.index_mut.result.now c.index_mut.ensures.value) in
     let same = told-same granted places c.args.worker c.index_mut.result.now c.begin_in.new.place c.index_mut.ensures.value
-      (c.in-Err-Worn.ensures.idle ∙ sym idle) in
+    (c.in-Err-Worn.ensures.idle ∙ sym idle) in
     let worn = subst (λ r. depots.IsRefused layout v c.args.affinity r w) c.in-Err-Worn.field-0-is c.in-Err-Worn.ensures.refused in (
       free-books shown layout v gs (affinity_of c.args.affinity) (layout_of c.layout.result.now) (all_granted c.as_slice.result.now) c.is_taken.result
-        c.layout.ensures
+          c.layout.ensures
           (ap all_granted c.as_slice.ensures.value ∙ same) c.is_taken.ensures.1 c.if-is_taken.false,
       worn-so shown g.M.Parcel.HasKind.kind (machine_in self) layout self.depot.layout.lawful v w gs c.requires.kept
           (affinity_of c.args.affinity) c.requires.node worn,
@@ -164,7 +164,7 @@ returns-else-is_taken-clause-same g c =
     let idle = none-there shown layout v gs c.args.worker c.requires.idle (granted c.index_mut.result.now)
     (told-there granted places c.args.worker c.index_mut.result.now c.index_mut.ensures.value) in
     let same = told-same granted places c.args.worker c.index_mut.result.now c.begin_in.new.place c.index_mut.ensures.value
-      (c.in-Err-Worn.ensures.idle ∙ sym idle) in
+    (c.in-Err-Worn.ensures.idle ∙ sym idle) in
     let worn = subst (λ r. depots.IsRefused layout v c.args.affinity r w) c.in-Err-Worn.field-0-is c.in-Err-Worn.ensures.refused in
     ap (λ xs. books_of shown layout w xs) same ∙
     read-books shown g.M.Parcel.HasKind.kind (machine_in self) layout self.depot.layout.lawful v w gs c.requires.kept

@@ -10,7 +10,7 @@ loop-volume-init c = search rules
 pub loop-volume-preserved : goal.loop-volume-preserved
 loop-volume-preserved c =
     recounted-more (if_on (layout_of c.args.layout.now) c.args.aggregate c.args.held.now) c.loop-volume.volume c.args.counts.now.items
-      c.loop-volume.counts.items _
+    c.loop-volume.counts.items _
     c.index-before.result.now c.count_if_on.result c.loop-volume.invariant
     (c.count_if_on.ensures ∙ ap (if_on (layout_of c.args.layout.now) c.args.aggregate c.args.held.now c.loop-volume.volume) c.index-before.ensures) refl
 
