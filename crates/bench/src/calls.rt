@@ -5,4 +5,4 @@ mod measured;
 mod names;
 mod records;
 pub mod run;
-mod server;
+mod serving;

@@ -1,5 +1,5 @@
-//! A filer with its threads: opened, served to the connections of a listener, stopped and closed; and
-//! the pool of its workers.
+//! A filer with its threads: opened, served to the connections of a listener, stopped and closed;
+//! and the pool of its workers.
 #![tactic(auto)]
 
 mod accepting;

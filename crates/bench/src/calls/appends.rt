@@ -2,7 +2,7 @@
 
 use crate::calls::measured::{answer_moved, make_file};
 use crate::calls::records::{put_offset, write};
-use crate::calls::server::{LARGEST, Server, opened};
+use crate::calls::serving::{LARGEST, Server, opened};
 use crate::printing::print_figures;
 use std::alloc::Global;
 use std::io;

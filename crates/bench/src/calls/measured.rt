@@ -1,7 +1,7 @@
 //! What is measured.
 
 use crate::calls::records::{GETATTR, READDIR, create, lookup, remove, rename};
-use crate::calls::server::Server;
+use crate::calls::serving::Server;
 use engine::Event;
 use nfs_values::{ConnectionNumber, Moment, WorkerNumber};
 

@@ -1,7 +1,7 @@
 //! How many calls on names are answered in a second.
 
 use crate::calls::measured::{Measured, make_call, make_file};
-use crate::calls::server::{Server, opened};
+use crate::calls::serving::{Server, opened};
 use crate::printing::print_figures;
 use crate::rates::per_second;
 use affinity_tree::VolumeSpec;

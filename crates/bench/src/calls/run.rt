@@ -4,7 +4,7 @@ ghost use Rattle.std.specs.Prelude.{◌≤◌};
 
 use crate::calls::names;
 use crate::calls::records::GETATTR;
-use crate::calls::server::{LARGEST, Server, opened};
+use crate::calls::serving::{LARGEST, Server, opened};
 use crate::printing::print_figures;
 use affinity_tree::VolumeSpec;
 use engine::Event;

@@ -20,7 +20,7 @@ module _ {V : Type 0} where
   total-none : (f g : V → ℕ) (l : List V) → total g l ≡ 0 → ((j : ℕ) (u : V) → get_elem? l j ≡ some u → g u ≡ 0 → f u ≡ 0) → total f l ≡ 0
   total-none f g [] z h = refl
   total-none f g (x ∷ xs) z h = let a : g x ≡ 0 = omega arith in let b = h 0 x refl a in let r = total-none f g xs (omega arith) (λ j u e. h (suc j) u e) in
-  omega arith
+      omega arith
 
   -- where v has all of g, it has all of f
   pub total-alone : (f g : V → ℕ) (l : List V) (i : ℕ) (v : V) → get_elem? l i ≡ some v → g v ≡ total g l
