@@ -1,6 +1,6 @@
 -- Replies that a record can hold.
 use Rattle.std.specs.Prelude.{ℕ, ◌≤◌, length}
-use Rattle.rpc_msg.specs.marking.Records.{limit}
+use Rattle.rpc_record.specs.Records.{limit}
 use Rattle.nfs_values.specs.declared.reply.Reply.{Reply}
 use Rattle.nfs_values.specs.Reply.{reply_of}
 use Rattle.rpc_msg.specs.Replies.{reply_bytes}

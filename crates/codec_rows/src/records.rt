@@ -1,7 +1,7 @@
 //! Records out of a stream, and a record's frame.
 
 use crate::bytes::{holds, same};
-use rpc_msg::marking::{Look, Reassembler, Step, frame, put_header};
+use rpc_record::{Look, Reassembler, Step, frame, put_header};
 use std::mem;
 use std::process::Abort;
 

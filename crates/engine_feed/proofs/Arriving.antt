@@ -3,11 +3,11 @@ use Rattle.std.proofs.Common.{◌≡◌, ℕ, suc, ◌+◌, ◌≤◌, ◌<◌, 
 use Rattle.std.proofs.Common.{arith, length-append}
 use Rattle.std.specs.Prelude.{map, option_map, vec_len}
 use Rattle.std.proofs.lemmas.List.{append-nil, take_all, length-take-le}
-use Rattle.rpc_msg.specs.marking.Machine.{State}
-use Rattle.rpc_msg.specs.marking.Stream.{read_stream}
-use Rattle.rpc_msg.specs.marking.Feeds.{Feeds}
-use Rattle.rpc_msg.specs.declared.marking.reassembler.Step.{Step}
-use Rattle.rpc_msg.specs.declared.marking.reassembler.Step.TheVariants as steps
+use Rattle.rpc_record.specs.Machine.{State}
+use Rattle.rpc_record.specs.Stream.{read_stream}
+use Rattle.rpc_record.specs.Feeds.{Feeds}
+use Rattle.rpc_record.specs.declared.reassembler.Step.{Step}
+use Rattle.rpc_record.specs.declared.reassembler.Step.TheVariants as steps
 use Rattle.nfs_model.specs.World.{Heard, Scanned}
 use Rattle.engine_feed.specs.declared.state.ConnectionState.{ConnectionState}
 use Rattle.engine_feed.specs.Codec.{heard}

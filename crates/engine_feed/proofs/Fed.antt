@@ -4,7 +4,7 @@ use Rattle.std.proofs.Common.{arith, inl, inr}
 use Rattle.std.specs.Prelude.{slice_get, option_map, nat_le, ◌&&◌}
 use Rattle.std.proofs.lemmas.List.{take_all, take-append-drop, length-map}
 use Rattle.std.proofs.lemmas.Bool.Decides.{nat_tests}
-use Rattle.rpc_msg.specs.marking.Stream.{read_stream}
+use Rattle.rpc_record.specs.Stream.{read_stream}
 use Rattle.nfs_model.specs.World as worlds
 use Rattle.nfs_model.specs.World.{is_crowded, all_running, Setup, World}
 use Rattle.nfs_model.specs.Events.Feed.{feeding, heard_in, MayStarveIf, bytes_taken}

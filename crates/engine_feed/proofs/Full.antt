@@ -3,7 +3,7 @@ use Rattle.std.proofs.Common.{◌≡◌, ℕ, zero, suc, ◌+◌, ◌<◌, ◌�
 use Rattle.std.proofs.Common.{Err, refl, sym, ap, subst, ◌∙◌, append_assoc, arith, inl, inr, length-append}
 use Rattle.std.specs.Prelude.{slice_get, ◌&&◌, not, ◌==◌}
 use Rattle.std.proofs.lemmas.List.{take-append-drop, length-take-le}
-use Rattle.rpc_msg.specs.marking.Machine.{State, Next, Goes, Ends, Faults, Made, after, go, scan, outcome}
+use Rattle.rpc_record.specs.Machine.{State, Next, Goes, Ends, Faults, Made, after, go, scan, outcome}
 use Rattle.nfs_model.specs.World as worlds
 use Rattle.nfs_model.specs.World.{Heard, Scanned, World, Setup, is_crowded}
 use Rattle.nfs_model.specs.Events.Feed.{feeding, with_bytes, bytes_taken}

@@ -3,7 +3,7 @@ use Rattle.std.proofs.Common.{◌≡◌, ℕ, ◌+◌, ◌≤◌, List, [], ◌�
 use Rattle.std.specs.Prelude.{vec_len, vec_capacity, option_map}
 use Rattle.std.specs.List.{AllByRecursion}
 use Rattle.std.proofs.lemmas.List.{append-nil}
-use Rattle.rpc_msg.specs.marking.Stream.{read_stream}
+use Rattle.rpc_record.specs.Stream.{read_stream}
 use Rattle.nfs_values.specs.declared.call.Call.{Call}
 use Rattle.affinity_tree.specs.declared.scheduler.message.Message.{Message}
 use Rattle.engine_feed.specs.declared.state.ConnectionState.{ConnectionState}

@@ -1,9 +1,9 @@
 -- What bytes would lead to.
 use Rattle.std.proofs.Common.{◌≡◌, ℕ, zero, suc, ◌+◌, ◌<◌, ◌≤◌, List, [], ◌∷◌, ◌++◌, length, take, Option, Some, None, refl, sym, ap, subst, arith}
-use Rattle.rpc_msg.specs.marking.Machine.{State, Next, Goes, Ends, Faults, Outcome, More, Made, Fault, IsMore, after, go, scan, outcome}
-use Rattle.rpc_msg.specs.marking.Feeds.{look_at}
-use Rattle.rpc_msg.specs.declared.marking.reassembler.Look.{Look}
-use Rattle.rpc_msg.specs.declared.marking.reassembler.Look.TheVariants as looks
+use Rattle.rpc_record.specs.Machine.{State, Next, Goes, Ends, Faults, Outcome, More, Made, Fault, IsMore, after, go, scan, outcome}
+use Rattle.rpc_record.specs.Feeds.{look_at}
+use Rattle.rpc_record.specs.declared.reassembler.Look.{Look}
+use Rattle.rpc_record.specs.declared.reassembler.Look.TheVariants as looks
 use Rattle.engine_feed.specs.Sound.{HasNoRecord}
 
 -- ---- looks

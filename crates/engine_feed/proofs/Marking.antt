@@ -1,9 +1,9 @@
 -- What is read of a stream, by record marking.
 use Rattle.std.proofs.Common.{ℕ, List, Option, Some, None, refl}
 use Rattle.std.specs.Prelude.{MatchOption}
-use Rattle.rpc_msg.specs.marking.Machine.{State}
-use Rattle.rpc_msg.specs.marking.Records.{HasFault, HasNoFault}
-use Rattle.rpc_msg.specs.marking.Stream.{IsReading, read_stream}
+use Rattle.rpc_record.specs.Machine.{State}
+use Rattle.rpc_record.specs.Records.{HasFault, HasNoFault}
+use Rattle.rpc_record.specs.Stream.{IsReading, read_stream}
 use Rattle.engine_feed.specs.Streams.{fault_at, scan_stream, IsFaultOf, IsServed}
 
 fault_is : (at : Option State) (rest : List ℕ) → MatchOption at (HasFault rest) (λ _. HasNoFault rest) → IsFaultOf rest (fault_at at)

@@ -3,8 +3,8 @@ use Rattle.std.proofs.Common.{◌≡◌, ℕ, ◌≤◌, List, [], ◌∷◌, �
 use Rattle.std.specs.Prelude.{map, IfSome}
 use Rattle.std.specs.List.{AllByRecursion}
 use Rattle.std.proofs.lemmas.List.{append-nil}
-use Rattle.rpc_msg.specs.marking.Machine.{State, Next, Goes, Ends, Faults, after}
-use Rattle.rpc_msg.specs.marking.Stream.{read_stream}
+use Rattle.rpc_record.specs.Machine.{State, Next, Goes, Ends, Faults, after}
+use Rattle.rpc_record.specs.Stream.{read_stream}
 use Rattle.nfs_model.specs.World.{Heard, Scanned, IsScan, IsDecoded}
 use Rattle.engine_feed.specs.Codec.{heard}
 use Rattle.engine_feed.specs.Streams.{scan_stream, served_of, fault_at, codec}

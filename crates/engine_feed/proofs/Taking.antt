@@ -1,8 +1,8 @@
 -- Bytes that the machine scans, taken by a world.
 use Rattle.std.proofs.Common.{◌≡◌, ℕ, suc, ◌+◌, ◌<◌, List, [], ◌∷◌, ◌++◌, length, take, Option, Some, None, refl, sym, ap, subst, ◌∙◌, append_assoc, arith}
 use Rattle.std.proofs.lemmas.List.{append-nil}
-use Rattle.rpc_msg.specs.marking.Machine.{State, start, Next, Goes, Ends, Faults, More, Made, Fault, after, go, scan}
-use Rattle.rpc_msg.specs.marking.Stream.{read_stream}
+use Rattle.rpc_record.specs.Machine.{State, start, Next, Goes, Ends, Faults, More, Made, Fault, after, go, scan}
+use Rattle.rpc_record.specs.Stream.{read_stream}
 use Rattle.nfs_model.specs.World.{Scanned}
 use Rattle.engine_feed.specs.Codec.{heard}
 use Rattle.engine_feed.specs.Streams.{served_of, scan_stream, IsQuiet, Completes}

@@ -10,8 +10,8 @@ use Rattle.nfs_values.specs.Call.{call_of}
 use Rattle.rpc_msg.specs.Room.{reply_room}
 use Rattle.affinity_tree.specs.Affinity.{affinity_of}
 use Rattle.affinity_tree.specs.Tree.{IsNode}
-use Rattle.rpc_msg.specs.marking.Machine.{State, Outcome, More, Made, Fault, outcome}
-use Rattle.rpc_msg.specs.marking.Stream.{read_stream}
+use Rattle.rpc_record.specs.Machine.{State, Outcome, More, Made, Fault, outcome}
+use Rattle.rpc_record.specs.Stream.{read_stream}
 use Rattle.affinity_tree.specs.declared.scheduler.message.Message.{Message}
 use Rattle.engine_feed.specs.declared.stop.StreamFault.{StreamFault}
 use Rattle.engine_feed.specs.declared.stop.StreamFault.TheVariants.{RecordTooLong}

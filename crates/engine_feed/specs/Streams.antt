@@ -1,8 +1,8 @@
 -- Whole streams: the calls and refusals that their records are, and the fault that ends them.
 use Rattle.std.specs.Prelude.{◌≡◌, ℕ, List, [], ◌∷◌, ◌++◌, map, Option, Some, None, Result, Ok, Err}
-use Rattle.rpc_msg.specs.marking.Machine.{State}
-use Rattle.rpc_msg.specs.marking.Records.{Records, HasFault, HasNoFault}
-use Rattle.rpc_msg.specs.marking.Stream.{read_stream}
+use Rattle.rpc_record.specs.Machine.{State}
+use Rattle.rpc_record.specs.Records.{Records, HasFault, HasNoFault}
+use Rattle.rpc_record.specs.Stream.{read_stream}
 use Rattle.nfs_model.specs.World.{Heard, Scanned, Codec}
 use Rattle.engine_feed.specs.Codec.{heard, reply_record}
 

@@ -2,12 +2,12 @@
 
 ghost use Rattle.std.specs.Prelude.{◌≡◌, ◌+◌, ◌≤◌, ◌++◌, length, vec_len, vec_capacity};
 ghost use Rattle.engine_feed.specs.Sound.{IsInStep, TakesIn, TakesFrom, HasNoRecord, AdmitsNone};
-ghost use Rattle.rpc_msg.specs.marking.Machine.{outcome};
+ghost use Rattle.rpc_record.specs.Machine.{outcome};
 
 use crate::reading::{RecordRead, read_record};
 use crate::state::{Arrival, ConnectionState};
 use crate::stop::StreamFault;
-use rpc_msg::marking::Step;
+use rpc_record::Step;
 
 /// Appends bytes that have their room.
 fn keep(stream: &mut Vec<u8>, bytes: &[u8])

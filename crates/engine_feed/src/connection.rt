@@ -5,7 +5,7 @@ use crate::feeding::feed;
 use crate::state::ConnectionState;
 use crate::stop::Stop;
 use nfs_values::ConnectionNumber;
-use rpc_msg::marking::Reassembler;
+use rpc_record::Reassembler;
 use std::alloc::Global;
 use std::marker::Model;
 

@@ -1,7 +1,7 @@
 //! Bytes that are fed: taken up to the end of each record, and the records admitted.
 
 ghost use Rattle.std.specs.Prelude.{◌≡◌, ◌≤◌, ◌<◌, true, false, length, None, OnOk};
-ghost use Rattle.rpc_msg.specs.marking.Machine.{outcome};
+ghost use Rattle.rpc_record.specs.Machine.{outcome};
 ghost use Rattle.engine_feed.specs.Seen.{pending};
 ghost use Rattle.engine_feed.specs.Sound.{IsSoundConnection, AreSound, TakesIn, IsFree, MayGoOn};
 ghost use Rattle.engine_feed.specs.Sound.{HasRoomToReply, HaveRoomToAdmit};
@@ -15,7 +15,7 @@ use crate::stop::Stop;
 use affinity_tree::scheduler::Origin;
 use nfs_laws::laws::feeds_are_walks;
 use nfs_values::ConnectionNumber;
-use rpc_msg::marking::Look;
+use rpc_record::Look;
 use std::alloc::AllocError;
 
 /// Room for one more reply beside those that are owed.

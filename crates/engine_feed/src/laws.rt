@@ -2,10 +2,10 @@
 
 ghost use Rattle.std.specs.Prelude.{List, ℕ};
 ghost use Rattle.nfs_model.specs.World.{IsScan};
-ghost use Rattle.rpc_msg.specs.marking.Stream.{AreBytes};
+ghost use Rattle.rpc_record.specs.Stream.{AreBytes};
 ghost use Rattle.engine_feed.specs.Streams.{IsServed, scan_stream, codec};
 
-use rpc_msg::marking::reading_is_exact;
+use rpc_record::reading_is_exact;
 
 /// What is read of a whole stream is what its records are (RFC 5531 section 11).
 pub fn streams_are_served()

@@ -7,7 +7,7 @@ use crate::message::{FinishedCall, Heard};
 use crate::stop::StreamFault;
 use affinity_tree::Layout;
 use affinity_tree::scheduler::Waiting;
-use rpc_msg::marking::Reassembler;
+use rpc_record::Reassembler;
 use std::alloc::Global;
 
 /// How many messages may wait or run.

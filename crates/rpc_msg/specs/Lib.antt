@@ -7,4 +7,3 @@ pub mod Records
 pub mod Hearing
 pub mod Seen
 pub mod lemmas
-pub mod marking

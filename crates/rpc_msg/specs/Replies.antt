@@ -1,7 +1,7 @@
 -- The reply of RPC as bytes (RFC 5531 section 9).
 use Rattle.std.specs.Prelude.{ℕ, true, List, [], ◌++◌}
 use Rattle.xdr.specs.Shape.{Shape, Word, Opaque, Value, spelling}
-use Rattle.rpc_msg.specs.marking.Records.{fragment}
+use Rattle.rpc_record.specs.Records.{fragment}
 use Rattle.nfs_model.specs.Types as model
 use Rattle.nfs_types.specs.Shapes.{◌&◌}
 use Rattle.nfs_types.specs.Results.{answer_bytes}

@@ -1,4 +1,4 @@
-//! Record marking, heads of calls and whole replies of RPC (RFC 5531) as bytes.
+//! Heads of calls and whole replies of RPC (RFC 5531) as bytes.
 #![tactic(auto)]
 
 mod credential;
@@ -6,7 +6,6 @@ mod fault;
 mod head;
 mod items;
 mod laws;
-pub mod marking;
 mod record;
 mod reply;
 mod room;

@@ -4,14 +4,14 @@ ghost use Rattle.std.specs.Prelude.{◌≡◌, ◌+◌, ◌*◌, ◌≤◌, ◌<
 ghost use Rattle.std.specs.Prelude.{vec_len, vec_capacity};
 ghost use Rattle.std.specs.List.{flat_map};
 ghost use Rattle.xdr.specs.Shape.{word};
-ghost use Rattle.rpc_msg.specs.marking.Records.{limit};
+ghost use Rattle.rpc_record.specs.Records.{limit};
 ghost use Rattle.nfs_values.specs.Reply.{reply_of};
 ghost use Rattle.rpc_msg.specs.Replies.{accepted, body_bytes, denied, message, results};
 ghost use Rattle.rpc_msg.specs.Replies.{reply_bytes, reply_record};
 
-use crate::marking::put_header;
 use nfs_types::{encode_result, size_of_result};
 use nfs_values::Reply;
+use rpc_record::put_header;
 use std::alloc::AllocError;
 use xdr::put_u32;
 

@@ -11,7 +11,7 @@ use Rattle.parcels.specs.state.Lenses.{LogicalSet, range_lens, logical_lens}
 use Rattle.parcels.specs.state.Partition.{AreOf}
 use Rattle.parcels.specs.state.Promises.{HasVolume}
 use Rattle.parcels.specs.state.Running.{InnerRunsOn}
-use Rattle.service_data.specs.batches.Batches.{CullsHere, DeliversHere, FetchesHere, FreesHere, MayDeliver, MayFree}
+use Rattle.service_batches.specs.Batches.{CullsHere, DeliversHere, FetchesHere, FreesHere, MayDeliver, MayFree}
 use Rattle.service.specs.Inner.{IsHandFor}
 use Rattle.service.specs.InnerOn.{HasRunOn, MayRunOn}
 use Rattle.service.specs.declared.inner.InnerOutcome.TheVariants.{Done}

@@ -19,7 +19,7 @@ use parcel_sets::{
     AggrHeld, Hand, LogicalHeld, Parcel, RangeHeld, SerialHeld, StripeHeld, VbnHeld, VolumeHeld,
 };
 use parcels::Files;
-use service_data::batches::{cull, deliver, fetch, free, survey};
+use service_batches::{cull, deliver, fetch, free, survey};
 use std::alloc::Global;
 use vbn_ranges::Batch;
 

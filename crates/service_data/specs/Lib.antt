@@ -8,4 +8,3 @@ pub mod WritingInVolume
 pub use Rattle.parcels.specs.bytes.Laws as ReadingLaws
 pub use Rattle.parcels.specs.bytes.WritingLaws
 pub use Rattle.parcels.specs.bytes.lemmas.Homes as HomeLemmas
-pub mod batches

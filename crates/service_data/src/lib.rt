@@ -1,8 +1,6 @@
-//! Calls on the bytes of files, on the parcels that they hold: READ and WRITE; and the batches of
-//! block numbers that workers fetch and deliver.
+//! Calls on the bytes of files, on the parcels that they hold: READ and WRITE.
 #![tactic(auto)]
 
-pub mod batches;
 mod counting;
 mod extending;
 mod extension;

@@ -1,8 +1,8 @@
 -- What parts of a stream come to.
 use Rattle.std.specs.Prelude.{◌≡◌, ℕ, ◌+◌, ◌<◌, List, [], ◌∷◌, ◌++◌, length, take, Option, Some, None, Result, Ok, Err}
 use Rattle.std.specs.Global.{Global}
-use Rattle.rpc_msg.specs.marking.Machine.{State, start}
-use Rattle.rpc_msg.specs.marking.Stream.{read_stream}
+use Rattle.rpc_record.specs.Machine.{State, start}
+use Rattle.rpc_record.specs.Stream.{read_stream}
 use Rattle.nfs_values.specs.declared.number.ConnectionNumber.{ConnectionNumber}
 use Rattle.nfs_model.specs.Types.{Asked}
 use Rattle.nfs_model.specs.Tree.{Layout}

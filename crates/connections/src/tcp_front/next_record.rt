@@ -6,7 +6,7 @@ ghost use Rattle.connections.specs.tcp_front.Steps.{Comes, IsNext};
 
 use crate::tcp_front::stream::Stopped;
 use engine_feed::{Heard, RecordRead, StreamFault, read_record};
-use rpc_msg::marking::{Reassembler, Step};
+use rpc_record::{Reassembler, Step};
 use std::alloc::Global;
 
 /// What bytes came to.

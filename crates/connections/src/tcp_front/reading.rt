@@ -13,7 +13,7 @@ use crate::tcp_front::stream::{Stopped, Stream};
 use crate::tcp_front::taking::take_all;
 use affinity_tree::Layout;
 use nfs_values::ConnectionNumber;
-use rpc_msg::marking::Reassembler;
+use rpc_record::Reassembler;
 use std::alloc::{AllocError, Global};
 use std::io::Read;
 use std::sync::Wait;

@@ -2,7 +2,7 @@
 
 use engine_feed::StreamFault;
 use nfs_values::ConnectionNumber;
-use rpc_msg::marking::Reassembler;
+use rpc_record::Reassembler;
 use std::alloc::Global;
 
 /// How many records a connection may bring.

@@ -1,7 +1,7 @@
 use Rattle.std.proofs.Common.{◌++◌, sym, ap, subst, ◌∙◌, length, take, refl, Ok, Err, arith}
 use Rattle.std.specs.Prelude.{option_map}
 use Rattle.nfs_model.specs.World.{Scanned}
-use Rattle.rpc_msg.specs.declared.marking.reassembler.Step.TheVariants as steps
+use Rattle.rpc_record.specs.declared.reassembler.Step.TheVariants as steps
 use Rattle.engine_feed.specs.Numbers.{fault_number}
 use Rattle.engine_feed.specs.Seen.{heard_of}
 use Rattle.engine_feed.specs.declared.reading.RecordRead.{RecordRead}

@@ -1,5 +1,5 @@
 use Rattle.std.proofs.Common.{◌≡◌, ℕ, ◌+◌, ◌-◌, ◌∙◌, ap, arith}
-use Rattle.rpc_msg.specs.marking.Machine.{Made, outcome}
+use Rattle.rpc_record.specs.Machine.{Made, outcome}
 use Rattle.engine_feed.proofs.Looks.{look-record, made-some, more-none}
 use Rattle.engine_feed.proofs.feeding.free_bytes.Goals as goal
 

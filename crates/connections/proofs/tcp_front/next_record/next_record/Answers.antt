@@ -1,6 +1,6 @@
 use Rattle.std.proofs.Common.{List, ℕ, take, subst}
-use Rattle.rpc_msg.specs.declared.marking.reassembler.Step.{Step}
-use Rattle.rpc_msg.specs.marking.Feeds.{Feeds, given}
+use Rattle.rpc_record.specs.declared.reassembler.Step.{Step}
+use Rattle.rpc_record.specs.Feeds.{Feeds, given}
 use Rattle.engine_feed.specs.Codec.{heard}
 use Rattle.connections.specs.tcp_front.Steps.{IsNext}
 use Rattle.connections.proofs.tcp_front.Adding.{Reads, comes-next, comes-fault}

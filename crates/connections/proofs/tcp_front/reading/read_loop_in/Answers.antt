@@ -1,6 +1,6 @@
 use Rattle.std.proofs.Common.{rules, sym, ◌∙◌, Option, take, subst}
 use Rattle.affinity_tree.specs.Layout.{layout_of}
-use Rattle.rpc_msg.specs.marking.Machine.{State}
+use Rattle.rpc_record.specs.Machine.{State}
 use Rattle.connections.specs.declared.tcp_front.stream.Stopped.{Stopped}
 use Rattle.connections.specs.declared.tcp_front.read_end.ReadEnd.{ReadEnd}
 use Rattle.connections.specs.tcp_front.Reading.{HasRead}

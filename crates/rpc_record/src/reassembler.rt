@@ -1,0 +1,164 @@
+ghost use Rattle.std.specs.Prelude.{◌≡◌, ◌≤◌, ◌<◌, ◌++◌, List, ℕ, length, take, Option, Some, None};
+ghost use Rattle.std.specs.Prelude.{IsSome};
+ghost use Rattle.rpc_record.specs.Machine.{State, start, outcome, IsMore};
+ghost use Rattle.rpc_record.specs.Stream.{read_stream};
+ghost use Rattle.rpc_record.specs.Feeds.{Feeds, GoesOn, Foresees, HasCome, Says, GivesNothing};
+ghost use Rattle.rpc_record.specs.Feeds.{given, look_at, Tells};
+ghost use Rattle.rpc_record.specs.declared.reassembler.Step.{Step};
+ghost use Rattle.rpc_record.specs.declared.reassembler.Step.TheVariants as steps;
+
+use crate::join::join;
+use crate::place::{Place, Turn};
+use std::alloc::Global;
+use std::marker::Model;
+use std::mem;
+
+/// What bytes that were fed led to.
+#[derive(Drop)]
+pub enum Step {
+    /// The bytes taken end a record, whose data this is.
+    Record(Vec<u8>),
+    /// All bytes were taken, and no record is whole yet.
+    More,
+    /// The bytes taken end in a header that brings the record above the limit.
+    Fault,
+    /// No memory was there for the data, and no byte was taken.
+    NoMemory,
+}
+
+/// What bytes would lead to.
+#[derive(Clone, Copy)]
+pub enum Look {
+    /// They would end a record.
+    Record,
+    /// All would be taken, and no record would be whole.
+    More,
+    /// They would end in a header that brings the record above the limit.
+    Fault,
+}
+
+/// Puts the records of a stream together, however it is cut (RFC 5531, section 11).
+#[derive(Drop)]
+pub struct Reassembler {
+    alloc: Global,
+    joined: Vec<u8>,
+    place: Place,
+    failed: bool,
+}
+
+impl Model for Reassembler {
+    ghost use Rattle.std.specs.Prelude.{◌≡◌, vec_len, Option, Some, None, if◌then◌else◌};
+    ghost use Rattle.rpc_record.specs.Machine.{State};
+
+    ghost Value = { Option State };
+
+    ghost use Rattle.rpc_record.specs.Place.{state, IsPlace};
+
+    ghost view = { λ r. if r.failed then None else Some (state r.joined.items r.place) };
+
+    ghost invariant = { λ r. IsPlace r.place × (vec_len r.joined ≡ r.place.joined) };
+}
+
+impl Reassembler {
+    /// At a stream's beginning.
+    pub fn new(alloc: Global) -> Reassembler
+        ensures { result ≡ Some start }
+    {
+        Reassembler {
+            alloc,
+            joined: Vec::new(alloc),
+            place: Place::START,
+            failed: false,
+        }
+    }
+
+    /// Takes bytes up to the end of at most one record, or up to the first header at fault. Once
+    /// that was told, it takes nothing and tells it again.
+    pub fn feed(&mut self, bytes: &[u8]) -> (usize, Step)
+        // By bytes, one after another.
+        ensures feeds { Feeds self.old bytes.now result.0 result.1 self.new }
+        ensures within { result.0 ≤ length bytes.now }
+        ensures fewer { (n : ℕ) → n < result.0 → IsMore (outcome self.old (take n bytes.now)) }
+        ensures nothing { IsMore (outcome self.old bytes.now) → GivesNothing result.1 }
+        ensures failed { self.old ≡ None → (result ≡ (0, steps.Fault)) × (self.new ≡ None) }
+
+        // Of what has come since the last record, in the standard's words.
+        ensures says { (came : List ℕ) → HasCome came self.old
+            → Says came bytes.now result.0 result.1 self.new }
+
+        // Of a whole stream that the caller keeps.
+        ensures reads { (stream : List ℕ) → (read_stream stream).at ≡ self.old
+            → read_stream (stream ++ take result.0 bytes.now)
+            ≡ record { records = (read_stream stream).records ++ given result.1; at = self.new } }
+        ensures goes_on { (stream : List ℕ) (n : ℕ) → (read_stream stream).at ≡ self.old
+            → n < result.0 → GoesOn stream (take n bytes.now) }
+    {
+        if self.failed {
+            return (0, Step::Fault);
+        }
+        self.advance(bytes)
+    }
+
+    /// Feeds bytes where no fault was told.
+    fn advance(&mut self, bytes: &[u8]) -> (usize, Step)
+        requires { IsSome self.old }
+        ensures { Feeds self.old bytes.now result.0 result.1 self.new }
+    {
+        let size = self.joined.len();
+        let place = self.place;
+        let Ok((taken, turn)) = join(&mut self.joined, &mut self.place, bytes) else {
+            self.joined.truncate(size);
+            self.place = place;
+            return (0, Step::NoMemory);
+        };
+        match turn {
+            Turn::Goes => (taken, Step::More),
+            Turn::Ends => {
+                self.place = Place::START;
+                let record = mem::replace(&mut self.joined, Vec::new(self.alloc));
+                (taken, Step::Record(record))
+            }
+            Turn::Faults => {
+                self.failed = true;
+                self.place = Place::START;
+                self.joined = Vec::new(self.alloc);
+                (taken, Step::Fault)
+            }
+        }
+    }
+
+    /// Tells what `feed` would take of these bytes, and what it would answer if memory is there.
+    pub fn look(&self, bytes: &[u8]) -> (usize, Look)
+        // By bytes, one after another.
+        ensures looks { result ≡ look_at bytes.now (outcome self.now bytes.now) }
+        ensures within { result.0 ≤ length bytes.now }
+        ensures fewer { (n : ℕ) → n < result.0 → IsMore (outcome self.now (take n bytes.now)) }
+
+        // Of what `feed` takes of the same bytes and answers, want of memory aside.
+        ensures tells { (taken : ℕ) (step : Step) (new : Option State)
+            → Feeds self.now bytes.now taken step new → Tells result taken step }
+
+        // Of a whole stream that the caller keeps.
+        ensures foresees { (stream : List ℕ) → (read_stream stream).at ≡ self.now
+            → Foresees stream bytes.now result.0 result.1 }
+        ensures goes_on { (stream : List ℕ) (n : ℕ) → (read_stream stream).at ≡ self.now
+            → n < result.0 → GoesOn stream (take n bytes.now) }
+    {
+        if self.failed {
+            return (0, Look::Fault);
+        }
+        self.look_ahead(bytes)
+    }
+
+    /// Looks where no fault was told.
+    fn look_ahead(&self, bytes: &[u8]) -> (usize, Look)
+        requires { IsSome self.now }
+        ensures { result ≡ look_at bytes.now (outcome self.now bytes.now) }
+    {
+        match self.place.walk(bytes) {
+            (taken, Turn::Goes) => (taken, Look::More),
+            (taken, Turn::Ends) => (taken, Look::Record),
+            (taken, Turn::Faults) => (taken, Look::Fault),
+        }
+    }
+}

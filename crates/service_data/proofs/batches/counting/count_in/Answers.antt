@@ -1,6 +1,0 @@
-use Rattle.std.proofs.Common.{arith}
-use Rattle.service_data.proofs.batches.Counted.{few-free}
-use Rattle.service_data.proofs.batches.counting.count_in.Goals as goal
-
-pub overflow_cast-result : goal.overflow_cast-result
-overflow_cast-result c = let few = few-free c.get-range.result.now in let is = c.free_count.ensures.listed in omega (arith, few, is)
