@@ -1,5 +1,5 @@
 //! Scripts that are long or no text, devices that fail and lists of events, with what each gives,
-//! typed from the standards. All other scripts are data of `filer_scripts`.
+//! typed from the standards. All other scripts are data of `bench`.
 
 mod devices;
 mod events;
