@@ -2,8 +2,8 @@
 //! words and slots between any two atomic steps. There is no program code here. The laws are
 //! theorems about the definitions; their functions do nothing.
 //!
-//! `specs/Completions.antt` has a form in which a machine's calls can be told, for which the laws
-//! of `Machine` are proved in `specs/lemmas/Completions.antt`.
+//! `specs/rule/Completions.antt` has a form in which a machine's calls can be told, for which the
+//! laws of `Machine` are proved in `specs/rule/lemmas/Completions.antt`.
 
 pub mod laws;
 pub mod machine;

@@ -80,8 +80,6 @@ pub fn claim<N: Node<Parcel<Numbers>>>(
     seat: &mut Seat<Adding>,
     affinity: Affinity,
 ) -> Found
-where
-    N::Held: Drop,
     requires seat { IsSeatHere depot.now seat.old }
     ensures seat { IsSeatHere depot.now seat.new }
 {

@@ -152,14 +152,6 @@ pub(crate) fn close<M: Machine, K: NodeKinds<M::Parcel>>(
     rt: &impl Abort,
     desk: Desk<M, K>,
 ) -> <K::Serial as Node<M::Parcel>>::Held
-where
-    <K::Range as Node<M::Parcel>>::Held: Drop,
-    <K::Vbn as Node<M::Parcel>>::Held: Drop,
-    <K::Stripe as Node<M::Parcel>>::Held: Drop,
-    <K::Logical as Node<M::Parcel>>::Held: Drop,
-    <K::Volume as Node<M::Parcel>>::Held: Drop,
-    <K::Aggregate as Node<M::Parcel>>::Held: Drop,
-    <K::Serial as Node<M::Parcel>>::Held: Drop,
     requires kept { IsKept desk }
 {
     assert!(rt; are_idle(&desk));

@@ -5,16 +5,7 @@ use crate::kinds::NodeKinds;
 use depot::rule::machine::Machine;
 use parcel_sets::Node;
 
-impl<M: Machine, K: NodeKinds<M::Parcel>> Desk<M, K>
-where
-    <K::Range as Node<M::Parcel>>::Held: Drop,
-    <K::Vbn as Node<M::Parcel>>::Held: Drop,
-    <K::Stripe as Node<M::Parcel>>::Held: Drop,
-    <K::Logical as Node<M::Parcel>>::Held: Drop,
-    <K::Volume as Node<M::Parcel>>::Held: Drop,
-    <K::Aggregate as Node<M::Parcel>>::Held: Drop,
-    <K::Serial as Node<M::Parcel>>::Held: Drop,
-{
+impl<M: Machine, K: NodeKinds<M::Parcel>> Desk<M, K> {
     ghost use Rattle.nfs_model.specs.Tree as trees;
     ghost use Rattle.parcel_sets.specs.Exact.{HasExactly};
     ghost use Rattle.depot.specs.Words.{all_parcels};

@@ -18,14 +18,6 @@ fn idle_places<T: HasKind, K: NodeKinds<T>>(
     alloc: Global,
     count: usize,
 ) -> Result<Vec<Place<T, K>>, AllocError>
-where
-    <K::Range as Node<T>>::Held: Drop,
-    <K::Vbn as Node<T>>::Held: Drop,
-    <K::Stripe as Node<T>>::Held: Drop,
-    <K::Logical as Node<T>>::Held: Drop,
-    <K::Volume as Node<T>>::Held: Drop,
-    <K::Aggregate as Node<T>>::Held: Drop,
-    <K::Serial as Node<T>>::Held: Drop,
     ensures { IfOk result (λ places. all_granted places.items ≡ replicate count None) }
 {
     let mut places = Vec::with_capacity(alloc, count)?;
@@ -35,16 +27,7 @@ where
     Ok(places)
 }
 
-impl<M: Machine, K: NodeKinds<M::Parcel>> Desk<M, K>
-where
-    <K::Range as Node<M::Parcel>>::Held: Drop,
-    <K::Vbn as Node<M::Parcel>>::Held: Drop,
-    <K::Stripe as Node<M::Parcel>>::Held: Drop,
-    <K::Logical as Node<M::Parcel>>::Held: Drop,
-    <K::Volume as Node<M::Parcel>>::Held: Drop,
-    <K::Aggregate as Node<M::Parcel>>::Held: Drop,
-    <K::Serial as Node<M::Parcel>>::Held: Drop,
-{
+impl<M: Machine, K: NodeKinds<M::Parcel>> Desk<M, K> {
     ghost use Rattle.std.specs.Prelude.{[]};
     ghost use Rattle.nfs_model.specs.Tree as trees;
     ghost use Rattle.affinity_tree.specs.Layout.{layout_of};

@@ -4,14 +4,13 @@
 
 #[cfg(test)]
 mod devices;
+#[cfg(test)]
 mod gathered;
 #[cfg(test)]
 mod reading;
 #[cfg(test)]
 mod texts;
+#[cfg(test)]
 mod waiting;
 #[cfg(test)]
 mod writing;
-
-pub use gathered::Gathered;
-pub use waiting::Waiting;

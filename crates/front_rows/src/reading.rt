@@ -3,8 +3,8 @@
 ghost use Rattle.std.specs.Prelude.{◌≡◌};
 ghost use Rattle.affinity_tree.specs.Layout.{layout_of};
 
-use crate::Gathered;
 use crate::devices::Cut;
+use crate::gathered::Gathered;
 use crate::texts::{
     BADHANDLE_REPLY, GETATTR, GETATTR_ASTRAY, NO_CALL, NO_PROGRAM, NO_PROGRAM_REPLY, NULL,
     NULL_IN_TWO, NULL_REPLY, SHORT, TOO_LONG,

@@ -4,9 +4,10 @@ ghost use Rattle.std.specs.Prelude.{◌≡◌};
 ghost use Rattle.connections.specs.tcp_front.Counts.{failures_of};
 
 use crate::devices::Narrow;
+use crate::gathered::Gathered;
 use crate::reading::{bytes_of, layout, same, sink};
 use crate::texts::{NO_PROGRAM, NO_PROGRAM_REPLY, NULL, NULL_REPLY};
-use crate::{Gathered, Waiting};
+use crate::waiting::Waiting;
 use connections::tcp_front::{
     Counted, WriteFault, read_loop, write_joined, write_loop, write_piece,
 };

@@ -21,7 +21,7 @@ impl<P: Family> HasKind for Parcel<P> {
 /// A kind of node, and the typed set of one.
 pub trait Node<T: HasKind> {
     /// The node's parcel, and the sets of the nodes below.
-    type Held;
+    type Held: Drop;
 
     ghost KIND: { Kind };
 

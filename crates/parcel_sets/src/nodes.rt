@@ -19,7 +19,6 @@ use crate::family::{Family, Parcel};
 use crate::gather::{gather_at, gather_children, take_parcel};
 use crate::node::Node;
 use crate::places::{Places, eight_places, sixteen_places, two_places};
-use crate::scatter::{put_parcel, scatter_at, scatter_children};
 use crate::sets::{AggrHeld, LogicalHeld, RangeHeld, SerialHeld, StripeHeld, VbnHeld, VolumeHeld};
 use crate::shelf::Shelf;
 use affinity_tree::{Affinity, Kind, Layout};
@@ -59,17 +58,10 @@ impl<P: Family> Node<Parcel<P>> for SerialNode {
     fn scatter<S: Shelf<Parcel<P>>>(
         shelf: &mut S,
         layout: &Layout,
-        _affinity: Affinity,
+        affinity: Affinity,
         held: SerialHeld<P>,
     ) {
-        let SerialHeld { own, aggregates } = held;
-        put_parcel(shelf, layout, Affinity::Serial, Parcel::Serial(own));
-        scatter_children::<Parcel<P>, AggregateNode, Places<AggrHeld<P>, 2>, S>(
-            shelf,
-            layout,
-            Affinity::Serial,
-            aggregates,
-        );
+        held.scatter(shelf, layout, affinity);
     }
 
     ghost of_kind = { serial-kind };
@@ -121,22 +113,7 @@ impl<P: Family> Node<Parcel<P>> for AggregateNode {
         affinity: Affinity,
         held: AggrHeld<P>,
     ) {
-        let Affinity::Aggregate(aggregate) = affinity else {
-            unreachable!()
-        };
-        let AggrHeld { own, volumes } = held;
-        put_parcel(
-            shelf,
-            layout,
-            Affinity::Aggregate(aggregate),
-            Parcel::Aggregate(own),
-        );
-        scatter_children::<Parcel<P>, VolumeNode, Places<VolumeHeld<P>, 8>, S>(
-            shelf,
-            layout,
-            Affinity::Aggregate(aggregate),
-            volumes,
-        );
+        held.scatter(shelf, layout, affinity);
     }
 
     ghost of_kind = { aggregate-kind };
@@ -186,18 +163,7 @@ impl<P: Family> Node<Parcel<P>> for VolumeNode {
         affinity: Affinity,
         held: VolumeHeld<P>,
     ) {
-        let Affinity::Volume(volume) = affinity else {
-            unreachable!()
-        };
-        let VolumeHeld { own, logical, vbn } = held;
-        put_parcel(shelf, layout, Affinity::Volume(volume), Parcel::Volume(own));
-        scatter_at::<Parcel<P>, LogicalNode, S>(
-            shelf,
-            layout,
-            Affinity::VolumeLogical(volume),
-            logical,
-        );
-        scatter_at::<Parcel<P>, VbnNode, S>(shelf, layout, Affinity::VolumeVbn(volume), vbn);
+        held.scatter(shelf, layout, affinity);
     }
 
     ghost of_kind = { volume-kind };
@@ -249,22 +215,7 @@ impl<P: Family> Node<Parcel<P>> for LogicalNode {
         affinity: Affinity,
         held: LogicalHeld<P>,
     ) {
-        let Affinity::VolumeLogical(volume) = affinity else {
-            unreachable!()
-        };
-        let LogicalHeld { own, stripes } = held;
-        put_parcel(
-            shelf,
-            layout,
-            Affinity::VolumeLogical(volume),
-            Parcel::Logical(own),
-        );
-        scatter_children::<Parcel<P>, StripeNode, Places<StripeHeld<P>, 16>, S>(
-            shelf,
-            layout,
-            Affinity::VolumeLogical(volume),
-            stripes,
-        );
+        held.scatter(shelf, layout, affinity);
     }
 
     ghost of_kind = { logical-kind };
@@ -309,15 +260,7 @@ impl<P: Family> Node<Parcel<P>> for StripeNode {
         affinity: Affinity,
         held: StripeHeld<P>,
     ) {
-        let Affinity::Stripe { volume, stripe } = affinity else {
-            unreachable!()
-        };
-        put_parcel(
-            shelf,
-            layout,
-            Affinity::Stripe { volume, stripe },
-            Parcel::Stripe(held.own),
-        );
+        held.scatter(shelf, layout, affinity);
     }
 
     ghost of_kind = { stripe-kind };
@@ -368,17 +311,7 @@ impl<P: Family> Node<Parcel<P>> for VbnNode {
         affinity: Affinity,
         held: VbnHeld<P>,
     ) {
-        let Affinity::VolumeVbn(volume) = affinity else {
-            unreachable!()
-        };
-        let VbnHeld { own, ranges } = held;
-        put_parcel(shelf, layout, Affinity::VolumeVbn(volume), Parcel::Vbn(own));
-        scatter_children::<Parcel<P>, RangeNode, Places<RangeHeld<P>, 16>, S>(
-            shelf,
-            layout,
-            Affinity::VolumeVbn(volume),
-            ranges,
-        );
+        held.scatter(shelf, layout, affinity);
     }
 
     ghost of_kind = { vbn-kind };
@@ -423,15 +356,7 @@ impl<P: Family> Node<Parcel<P>> for RangeNode {
         affinity: Affinity,
         held: RangeHeld<P>,
     ) {
-        let Affinity::Range { volume, range } = affinity else {
-            unreachable!()
-        };
-        put_parcel(
-            shelf,
-            layout,
-            Affinity::Range { volume, range },
-            Parcel::Range(held.own),
-        );
+        held.scatter(shelf, layout, affinity);
     }
 
     ghost of_kind = { range-kind };

@@ -57,7 +57,7 @@ pub(crate) fn scatter_at<T: HasKind, K: Node<T>, S: Shelf<T>>(
 }
 
 /// Gives back the set of the node of a place, if it is there and the place is in use.
-fn scatter_child<T: HasKind, K: Node<T, Held: Drop>, S: Shelf<T>>(
+fn scatter_child<T: HasKind, K: Node<T>, S: Shelf<T>>(
     shelf: &mut S,
     layout: &Layout,
     parent: Affinity,
@@ -86,12 +86,12 @@ fn scatter_child<T: HasKind, K: Node<T, Held: Drop>, S: Shelf<T>>(
 }
 
 /// Gives back the sets of the nodes of all places.
-pub(crate) fn scatter_children<
-    T: HasKind,
-    K: Node<T, Held: Drop>,
-    C: Slots<K::Held> + Drop,
-    S: Shelf<T>,
->(shelf: &mut S, layout: &Layout, parent: Affinity, mut places: C)
+pub(crate) fn scatter_children<T: HasKind, K: Node<T>, C: Slots<K::Held> + Drop, S: Shelf<T>>(
+    shelf: &mut S,
+    layout: &Layout,
+    parent: Affinity,
+    mut places: C,
+)
     requires node { IsNode (layout_of layout.now) (affinity_of parent) }
     requires kind { (i : ℕ) → kind_of (child (affinity_of parent) i) ≡ K.KIND }
     requires room { most_children (affinity_of parent) ≤ C.room }

@@ -8,7 +8,7 @@ use Rattle.parcel_sets.proofs.Allowed.{range_allowed}
 use Rattle.parcel_sets.proofs.AtNode.{at-node, at-under, at-allowed, at-taken}
 use Rattle.parcel_sets.proofs.Exactness.{range-from}
 use Rattle.parcel_sets.proofs.Levels.{range-scattered}
-use Rattle.parcel_sets.proofs.nodes.RangeNodeNodeParcel.scatter.Goals as goal
+use Rattle.parcel_sets.proofs.sets.RangeHeld.scatter.Goals as goal
 
 pub put_parcel-requires-clause-node : goal.put_parcel-requires-clause-node
 put_parcel-requires-clause-node g c =
@@ -25,15 +25,15 @@ put_parcel-requires-clause-vacant g c =
 
 pub put_parcel-requires-clause-allowed : goal.put_parcel-requires-clause-allowed
 put_parcel-requires-clause-allowed g c =
-    range_allowed (layout_of c.args.layout.now) (g.S.Shelf.allows c.args.shelf.now) c.in-Range.volume c.in-Range.range c.args.held
+    range_allowed (layout_of c.args.layout.now) (g.S.Shelf.allows c.args.shelf.now) c.in-Range.volume c.in-Range.range c.args.self
     (at-allowed (layout_of c.args.layout.now) (affinity_of c.args.affinity) (trees.Range c.in-Range.volume c.in-Range.range)
-    (ap affinity_of c.in-Range.is) range_parcels c.args.held (g.S.Shelf.allows c.args.shelf.now) c.requires.allowed)
+    (ap affinity_of c.in-Range.is) range_parcels c.args.self (g.S.Shelf.allows c.args.shelf.now) c.requires.allowed)
 
 pub returns-clause-moved : goal.returns-clause-moved
 returns-clause-moved g c =
     at-taken (layout_of c.args.layout.now) (affinity_of c.args.affinity) (trees.Range c.in-Range.volume c.in-Range.range)
-    (ap affinity_of c.in-Range.is) range_parcels c.args.held (g.S.Shelf.at c.put_parcel.new.shelf) (g.S.Shelf.at c.args.shelf.now)
+    (ap affinity_of c.in-Range.is) range_parcels c.args.self (g.S.Shelf.at c.put_parcel.new.shelf) (g.S.Shelf.at c.args.shelf.now)
     (range-scattered (layout_of c.args.layout.now) c.in-Range.volume c.in-Range.range
     (at-node (layout_of c.args.layout.now) (affinity_of c.args.affinity) (trees.Range c.in-Range.volume c.in-Range.range)
-    (ap affinity_of c.in-Range.is) c.requires.node) c.args.held (g.S.Shelf.at c.args.shelf.now) (g.S.Shelf.at c.put_parcel.new.shelf)
+    (ap affinity_of c.in-Range.is) c.requires.node) c.args.self (g.S.Shelf.at c.args.shelf.now) (g.S.Shelf.at c.put_parcel.new.shelf)
     c.put_parcel.ensures.moved)

@@ -17,7 +17,7 @@ use Rattle.parcel_sets.proofs.Exactness.{aggregate-from}
 use Rattle.parcel_sets.proofs.Siblings.{children-after}
 use Rattle.parcel_sets.proofs.Steps.{vacant_kept}
 use Rattle.parcel_sets.proofs.Levels.{aggregate-scattered}
-use Rattle.parcel_sets.proofs.nodes.AggregateNodeNodeParcel.scatter.Goals as goal
+use Rattle.parcel_sets.proofs.sets.AggrHeld.scatter.Goals as goal
 
 pub unreachable-requires : goal.unreachable-requires
 unreachable-requires g c =
@@ -40,9 +40,9 @@ pub put_parcel-requires-clause-allowed : goal.put_parcel-requires-clause-allowed
 put_parcel-requires-clause-allowed g c =
     aggregate_own_allowed (layout_of c.args.layout.now) (g.S.Shelf.allows c.args.shelf.now) c.in-Aggregate.aggregate
     (at-node (layout_of c.args.layout.now) (affinity_of c.args.affinity) (trees.Aggregate c.in-Aggregate.aggregate)
-    (ap affinity_of c.in-Aggregate.is) c.requires.node) c.args.held
+    (ap affinity_of c.in-Aggregate.is) c.requires.node) c.args.self
     (at-allowed (layout_of c.args.layout.now) (affinity_of c.args.affinity) (trees.Aggregate c.in-Aggregate.aggregate)
-    (ap affinity_of c.in-Aggregate.is) aggregate_parcels c.args.held (g.S.Shelf.allows c.args.shelf.now) c.requires.allowed)
+    (ap affinity_of c.in-Aggregate.is) aggregate_parcels c.args.self (g.S.Shelf.allows c.args.shelf.now) c.requires.allowed)
 
 pub scatter_children-requires-clause-node : goal.scatter_children-requires-clause-node
 scatter_children-requires-clause-node g c =
@@ -60,7 +60,7 @@ scatter_children-requires-clause-vacant g c =
     (at-node (layout_of c.args.layout.now) (affinity_of c.args.affinity) (trees.Aggregate c.in-Aggregate.aggregate)
     (ap affinity_of c.in-Aggregate.is) c.requires.node)
     (given-others (g.S.Shelf.at c.args.shelf.now) (g.S.Shelf.at c.put_parcel.new.shelf)
-    (number_of (layout_of c.args.layout.now) (trees.Aggregate c.in-Aggregate.aggregate)) (parcels.Aggregate c.args.held.own)
+    (number_of (layout_of c.args.layout.now) (trees.Aggregate c.in-Aggregate.aggregate)) (parcels.Aggregate c.args.self.own)
     c.put_parcel.ensures.moved)
     (at-under (layout_of c.args.layout.now) (affinity_of c.args.affinity) (trees.Aggregate c.in-Aggregate.aggregate)
     (ap affinity_of c.in-Aggregate.is) (IsVacant (layout_of c.args.layout.now) (g.S.Shelf.at c.args.shelf.now)) c.requires.vacant)
@@ -68,23 +68,23 @@ scatter_children-requires-clause-vacant g c =
 pub scatter_children-requires-clause-allowed : goal.scatter_children-requires-clause-allowed
 scatter_children-requires-clause-allowed g c =
     λ i l used. allowed-over
-    (λ k. in_place (λ set. volume_parcels (layout_of c.args.layout.now) (trees.Volume i) set k) (slice_get c.args.held.volumes.at i))
+    (λ k. in_place (λ set. volume_parcels (layout_of c.args.layout.now) (trees.Volume i) set k) (slice_get c.args.self.volumes.at i))
     (g.S.Shelf.allows c.args.shelf.now) (g.S.Shelf.allows c.put_parcel.new.shelf)
     (λ k x. g.met.S.Shelf.keeps_allowing c.args.shelf.now c.put_parcel.new.shelf k x c.put_parcel.ensures.kept)
     (volumes_allowed (layout_of c.args.layout.now) (g.S.Shelf.allows c.args.shelf.now) c.in-Aggregate.aggregate
     (at-node (layout_of c.args.layout.now) (affinity_of c.args.affinity) (trees.Aggregate c.in-Aggregate.aggregate)
-    (ap affinity_of c.in-Aggregate.is) c.requires.node) c.args.held
+    (ap affinity_of c.in-Aggregate.is) c.requires.node) c.args.self
     (at-allowed (layout_of c.args.layout.now) (affinity_of c.args.affinity) (trees.Aggregate c.in-Aggregate.aggregate)
-    (ap affinity_of c.in-Aggregate.is) aggregate_parcels c.args.held (g.S.Shelf.allows c.args.shelf.now) c.requires.allowed) i l
+    (ap affinity_of c.in-Aggregate.is) aggregate_parcels c.args.self (g.S.Shelf.allows c.args.shelf.now) c.requires.allowed) i l
     (eqb-true (aggregate_of (layout_of c.args.layout.now) i) c.in-Aggregate.aggregate used))
 
 pub returns-clause-moved : goal.returns-clause-moved
 returns-clause-moved g c =
     at-taken (layout_of c.args.layout.now) (affinity_of c.args.affinity) (trees.Aggregate c.in-Aggregate.aggregate) (ap affinity_of c.in-Aggregate.is)
-    aggregate_parcels c.args.held (g.S.Shelf.at c.scatter_children.new.shelf) (g.S.Shelf.at c.args.shelf.now)
+    aggregate_parcels c.args.self (g.S.Shelf.at c.scatter_children.new.shelf) (g.S.Shelf.at c.args.shelf.now)
     (aggregate-scattered (layout_of c.args.layout.now) c.in-Aggregate.aggregate
     (at-node (layout_of c.args.layout.now) (affinity_of c.args.affinity) (trees.Aggregate c.in-Aggregate.aggregate)
-    (ap affinity_of c.in-Aggregate.is) c.requires.node) c.args.held (g.S.Shelf.at c.args.shelf.now) (g.S.Shelf.at c.put_parcel.new.shelf)
+    (ap affinity_of c.in-Aggregate.is) c.requires.node) c.args.self (g.S.Shelf.at c.args.shelf.now) (g.S.Shelf.at c.put_parcel.new.shelf)
     (g.S.Shelf.at c.scatter_children.new.shelf) c.put_parcel.ensures.moved c.scatter_children.ensures.moved)
 
 pub returns-clause-kept : goal.returns-clause-kept

@@ -14,7 +14,7 @@ use Rattle.parcel_sets.proofs.AtNode.{of_volume, at-node, at-under, at-allowed, 
 use Rattle.parcel_sets.proofs.Exactness.{volume-from, vbn-to, logical-to}
 use Rattle.parcel_sets.proofs.Steps.{vacant_kept, logical-after, vbn-after, vbn-after-logical}
 use Rattle.parcel_sets.proofs.Levels.{volume-scattered}
-use Rattle.parcel_sets.proofs.nodes.VolumeNodeNodeParcel.scatter.Goals as goal
+use Rattle.parcel_sets.proofs.sets.VolumeHeld.scatter.Goals as goal
 
 pub unreachable-requires : goal.unreachable-requires
 unreachable-requires g c =
@@ -33,9 +33,9 @@ put_parcel-requires-clause-vacant g c =
 
 pub put_parcel-requires-clause-allowed : goal.put_parcel-requires-clause-allowed
 put_parcel-requires-clause-allowed g c =
-    volume_own_allowed (layout_of c.args.layout.now) (g.S.Shelf.allows c.args.shelf.now) c.in-Volume.volume c.args.held
+    volume_own_allowed (layout_of c.args.layout.now) (g.S.Shelf.allows c.args.shelf.now) c.in-Volume.volume c.args.self
     (at-allowed (layout_of c.args.layout.now) (affinity_of c.args.affinity) (trees.Volume c.in-Volume.volume) (ap affinity_of c.in-Volume.is)
-    volume_parcels c.args.held (g.S.Shelf.allows c.args.shelf.now) c.requires.allowed)
+    volume_parcels c.args.self (g.S.Shelf.allows c.args.shelf.now) c.requires.allowed)
 
 pub scatter_at-requires-clause-node : goal.scatter_at-requires-clause-node
 scatter_at-requires-clause-node g c =
@@ -51,7 +51,7 @@ scatter_at-requires-clause-vacant g c =
     (logical-after (layout_of c.args.layout.now) (IsVacant (layout_of c.args.layout.now)) (vacant_kept (layout_of c.args.layout.now))
     (g.S.Shelf.at c.args.shelf.now) (g.S.Shelf.at c.put_parcel.new.shelf) c.in-Volume.volume
     (given-others (g.S.Shelf.at c.args.shelf.now) (g.S.Shelf.at c.put_parcel.new.shelf)
-    (number_of (layout_of c.args.layout.now) (trees.Volume c.in-Volume.volume)) (parcels.Volume c.args.held.own) c.put_parcel.ensures.moved)
+    (number_of (layout_of c.args.layout.now) (trees.Volume c.in-Volume.volume)) (parcels.Volume c.args.self.own) c.put_parcel.ensures.moved)
     (volume-from (layout_of c.args.layout.now) (IsVacant (layout_of c.args.layout.now) (g.S.Shelf.at c.args.shelf.now)) c.in-Volume.volume
     (at-node (layout_of c.args.layout.now) (affinity_of c.args.affinity) (trees.Volume c.in-Volume.volume) (ap affinity_of c.in-Volume.is)
     c.requires.node) (at-under (layout_of c.args.layout.now) (affinity_of c.args.affinity) (trees.Volume c.in-Volume.volume)
@@ -59,12 +59,12 @@ scatter_at-requires-clause-vacant g c =
 
 pub scatter_at-requires-clause-allowed : goal.scatter_at-requires-clause-allowed
 scatter_at-requires-clause-allowed g c =
-    allowed-over (logical_parcels (layout_of c.args.layout.now) (trees.Logical c.in-Volume.volume) c.args.held.logical)
+    allowed-over (logical_parcels (layout_of c.args.layout.now) (trees.Logical c.in-Volume.volume) c.args.self.logical)
     (g.S.Shelf.allows c.args.shelf.now) (g.S.Shelf.allows c.put_parcel.new.shelf)
     (λ k x. g.met.S.Shelf.keeps_allowing c.args.shelf.now c.put_parcel.new.shelf k x c.put_parcel.ensures.kept)
-    (logical_allowed (layout_of c.args.layout.now) (g.S.Shelf.allows c.args.shelf.now) c.in-Volume.volume c.args.held
+    (logical_allowed (layout_of c.args.layout.now) (g.S.Shelf.allows c.args.shelf.now) c.in-Volume.volume c.args.self
     (at-allowed (layout_of c.args.layout.now) (affinity_of c.args.affinity) (trees.Volume c.in-Volume.volume) (ap affinity_of c.in-Volume.is)
-    volume_parcels c.args.held (g.S.Shelf.allows c.args.shelf.now) c.requires.allowed))
+    volume_parcels c.args.self (g.S.Shelf.allows c.args.shelf.now) c.requires.allowed))
 
 pub scatter_at-requires-2-clause-node : goal.scatter_at-requires-2-clause-node
 scatter_at-requires-2-clause-node g c =
@@ -80,13 +80,13 @@ scatter_at-requires-2-clause-vacant g c =
     (vbn-after-logical (layout_of c.args.layout.now) (IsVacant (layout_of c.args.layout.now)) (vacant_kept (layout_of c.args.layout.now))
     (g.S.Shelf.at c.put_parcel.new.shelf) (g.S.Shelf.at c.scatter_at.new.shelf) c.in-Volume.volume
     (λ k out. sym (moved-same (g.S.Shelf.at c.scatter_at.new.shelf k)
-    (logical_parcels (layout_of c.args.layout.now) (trees.Logical c.in-Volume.volume) c.args.held.logical k)
-    (g.S.Shelf.at c.put_parcel.new.shelf k) (logical-none (layout_of c.args.layout.now) k c.in-Volume.volume c.args.held.logical out)
+    (logical_parcels (layout_of c.args.layout.now) (trees.Logical c.in-Volume.volume) c.args.self.logical k)
+    (g.S.Shelf.at c.put_parcel.new.shelf k) (logical-none (layout_of c.args.layout.now) k c.in-Volume.volume c.args.self.logical out)
     (c.scatter_at.ensures.moved k)))
     (vbn-after (layout_of c.args.layout.now) (IsVacant (layout_of c.args.layout.now)) (vacant_kept (layout_of c.args.layout.now))
     (g.S.Shelf.at c.args.shelf.now) (g.S.Shelf.at c.put_parcel.new.shelf) c.in-Volume.volume
     (given-others (g.S.Shelf.at c.args.shelf.now) (g.S.Shelf.at c.put_parcel.new.shelf)
-    (number_of (layout_of c.args.layout.now) (trees.Volume c.in-Volume.volume)) (parcels.Volume c.args.held.own) c.put_parcel.ensures.moved)
+    (number_of (layout_of c.args.layout.now) (trees.Volume c.in-Volume.volume)) (parcels.Volume c.args.self.own) c.put_parcel.ensures.moved)
     (volume-from (layout_of c.args.layout.now) (IsVacant (layout_of c.args.layout.now) (g.S.Shelf.at c.args.shelf.now)) c.in-Volume.volume
     (at-node (layout_of c.args.layout.now) (affinity_of c.args.affinity) (trees.Volume c.in-Volume.volume) (ap affinity_of c.in-Volume.is)
     c.requires.node) (at-under (layout_of c.args.layout.now) (affinity_of c.args.affinity) (trees.Volume c.in-Volume.volume)
@@ -94,21 +94,21 @@ scatter_at-requires-2-clause-vacant g c =
 
 pub scatter_at-requires-2-clause-allowed : goal.scatter_at-requires-2-clause-allowed
 scatter_at-requires-2-clause-allowed g c =
-    allowed-over (vbn_parcels (layout_of c.args.layout.now) (trees.Vbn c.in-Volume.volume) c.args.held.vbn) (g.S.Shelf.allows c.args.shelf.now)
+    allowed-over (vbn_parcels (layout_of c.args.layout.now) (trees.Vbn c.in-Volume.volume) c.args.self.vbn) (g.S.Shelf.allows c.args.shelf.now)
     (g.S.Shelf.allows c.scatter_at.new.shelf)
     (λ k x h. g.met.S.Shelf.keeps_allowing c.put_parcel.new.shelf c.scatter_at.new.shelf k x c.scatter_at.ensures.kept
     (g.met.S.Shelf.keeps_allowing c.args.shelf.now c.put_parcel.new.shelf k x c.put_parcel.ensures.kept h))
-    (vbn_allowed (layout_of c.args.layout.now) (g.S.Shelf.allows c.args.shelf.now) c.in-Volume.volume c.args.held
+    (vbn_allowed (layout_of c.args.layout.now) (g.S.Shelf.allows c.args.shelf.now) c.in-Volume.volume c.args.self
     (at-allowed (layout_of c.args.layout.now) (affinity_of c.args.affinity) (trees.Volume c.in-Volume.volume) (ap affinity_of c.in-Volume.is)
-    volume_parcels c.args.held (g.S.Shelf.allows c.args.shelf.now) c.requires.allowed))
+    volume_parcels c.args.self (g.S.Shelf.allows c.args.shelf.now) c.requires.allowed))
 
 pub returns-clause-moved : goal.returns-clause-moved
 returns-clause-moved g c =
     at-taken (layout_of c.args.layout.now) (affinity_of c.args.affinity) (trees.Volume c.in-Volume.volume) (ap affinity_of c.in-Volume.is)
-    volume_parcels c.args.held (g.S.Shelf.at c.scatter_at-2.new.shelf) (g.S.Shelf.at c.args.shelf.now)
+    volume_parcels c.args.self (g.S.Shelf.at c.scatter_at-2.new.shelf) (g.S.Shelf.at c.args.shelf.now)
     (volume-scattered (layout_of c.args.layout.now) c.in-Volume.volume
     (at-node (layout_of c.args.layout.now) (affinity_of c.args.affinity) (trees.Volume c.in-Volume.volume) (ap affinity_of c.in-Volume.is)
-    c.requires.node) c.args.held (g.S.Shelf.at c.args.shelf.now) (g.S.Shelf.at c.put_parcel.new.shelf) (g.S.Shelf.at c.scatter_at.new.shelf)
+    c.requires.node) c.args.self (g.S.Shelf.at c.args.shelf.now) (g.S.Shelf.at c.put_parcel.new.shelf) (g.S.Shelf.at c.scatter_at.new.shelf)
     (g.S.Shelf.at c.scatter_at-2.new.shelf) c.put_parcel.ensures.moved c.scatter_at.ensures.moved c.scatter_at-2.ensures.moved)
 
 pub returns-clause-kept : goal.returns-clause-kept

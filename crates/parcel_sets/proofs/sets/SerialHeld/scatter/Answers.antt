@@ -15,7 +15,7 @@ use Rattle.parcel_sets.proofs.Exactness.{serial-from}
 use Rattle.parcel_sets.proofs.Siblings.{children-after}
 use Rattle.parcel_sets.proofs.Steps.{vacant_kept}
 use Rattle.parcel_sets.proofs.Levels.{serial-scattered}
-use Rattle.parcel_sets.proofs.nodes.SerialNodeNodeParcel.scatter.Goals as goal
+use Rattle.parcel_sets.proofs.sets.SerialHeld.scatter.Goals as goal
 
 pub put_parcel-requires-clause-node : goal.put_parcel-requires-clause-node
 put_parcel-requires-clause-node g c =
@@ -29,9 +29,9 @@ put_parcel-requires-clause-vacant g c =
 
 pub put_parcel-requires-clause-allowed : goal.put_parcel-requires-clause-allowed
 put_parcel-requires-clause-allowed g c =
-    serial_own_allowed (layout_of c.args.layout.now) (g.S.Shelf.allows c.args.shelf.now) c.args.held
+    serial_own_allowed (layout_of c.args.layout.now) (g.S.Shelf.allows c.args.shelf.now) c.args.self
     (at-allowed (layout_of c.args.layout.now) (affinity_of c.args._affinity) trees.Serial (root_is (affinity_of c.args._affinity) c.requires.kind)
-    serial_parcels c.args.held (g.S.Shelf.allows c.args.shelf.now) c.requires.allowed)
+    serial_parcels c.args.self (g.S.Shelf.allows c.args.shelf.now) c.requires.allowed)
 
 pub scatter_children-requires-clause-node : goal.scatter_children-requires-clause-node
 scatter_children-requires-clause-node g c =
@@ -46,25 +46,25 @@ scatter_children-requires-clause-vacant g c =
     children-after (layout_of c.args.layout.now) (IsVacant (layout_of c.args.layout.now)) (vacant_kept (layout_of c.args.layout.now))
     (g.S.Shelf.at c.args.shelf.now) (g.S.Shelf.at c.put_parcel.new.shelf) trees.Serial tt
     (given-others (g.S.Shelf.at c.args.shelf.now) (g.S.Shelf.at c.put_parcel.new.shelf) (number_of (layout_of c.args.layout.now) trees.Serial)
-    (parcels.Serial c.args.held.own) c.put_parcel.ensures.moved)
+    (parcels.Serial c.args.self.own) c.put_parcel.ensures.moved)
     (at-under (layout_of c.args.layout.now) (affinity_of c.args._affinity) trees.Serial (root_is (affinity_of c.args._affinity) c.requires.kind)
     (IsVacant (layout_of c.args.layout.now) (g.S.Shelf.at c.args.shelf.now)) c.requires.vacant)
 
 pub scatter_children-requires-clause-allowed : goal.scatter_children-requires-clause-allowed
 scatter_children-requires-clause-allowed g c =
     λ i l used. allowed-over
-    (λ k. in_place (λ set. aggregate_parcels (layout_of c.args.layout.now) (trees.Aggregate i) set k) (slice_get c.args.held.aggregates.at i))
+    (λ k. in_place (λ set. aggregate_parcels (layout_of c.args.layout.now) (trees.Aggregate i) set k) (slice_get c.args.self.aggregates.at i))
     (g.S.Shelf.allows c.args.shelf.now) (g.S.Shelf.allows c.put_parcel.new.shelf)
     (λ k x. g.met.S.Shelf.keeps_allowing c.args.shelf.now c.put_parcel.new.shelf k x c.put_parcel.ensures.kept)
-    (aggregates_allowed (layout_of c.args.layout.now) (g.S.Shelf.allows c.args.shelf.now) c.args.held
+    (aggregates_allowed (layout_of c.args.layout.now) (g.S.Shelf.allows c.args.shelf.now) c.args.self
     (at-allowed (layout_of c.args.layout.now) (affinity_of c.args._affinity) trees.Serial (root_is (affinity_of c.args._affinity) c.requires.kind)
-    serial_parcels c.args.held (g.S.Shelf.allows c.args.shelf.now) c.requires.allowed) i l)
+    serial_parcels c.args.self (g.S.Shelf.allows c.args.shelf.now) c.requires.allowed) i l)
 
 pub returns-clause-moved : goal.returns-clause-moved
 returns-clause-moved g c =
     at-taken (layout_of c.args.layout.now) (affinity_of c.args._affinity) trees.Serial (root_is (affinity_of c.args._affinity) c.requires.kind)
-    serial_parcels c.args.held (g.S.Shelf.at c.scatter_children.new.shelf) (g.S.Shelf.at c.args.shelf.now)
-    (serial-scattered (layout_of c.args.layout.now) c.args.held (g.S.Shelf.at c.args.shelf.now) (g.S.Shelf.at c.put_parcel.new.shelf)
+    serial_parcels c.args.self (g.S.Shelf.at c.scatter_children.new.shelf) (g.S.Shelf.at c.args.shelf.now)
+    (serial-scattered (layout_of c.args.layout.now) c.args.self (g.S.Shelf.at c.args.shelf.now) (g.S.Shelf.at c.put_parcel.new.shelf)
     (g.S.Shelf.at c.scatter_children.new.shelf) c.put_parcel.ensures.moved c.scatter_children.ensures.moved)
 
 pub returns-clause-kept : goal.returns-clause-kept

@@ -15,7 +15,7 @@ use Rattle.parcel_sets.proofs.Exactness.{vbn-from}
 use Rattle.parcel_sets.proofs.Siblings.{children-after}
 use Rattle.parcel_sets.proofs.Steps.{vacant_kept}
 use Rattle.parcel_sets.proofs.Levels.{vbn-scattered}
-use Rattle.parcel_sets.proofs.nodes.VbnNodeNodeParcel.scatter.Goals as goal
+use Rattle.parcel_sets.proofs.sets.VbnHeld.scatter.Goals as goal
 
 pub unreachable-requires : goal.unreachable-requires
 unreachable-requires g c =
@@ -34,9 +34,9 @@ put_parcel-requires-clause-vacant g c =
 
 pub put_parcel-requires-clause-allowed : goal.put_parcel-requires-clause-allowed
 put_parcel-requires-clause-allowed g c =
-    vbn_own_allowed (layout_of c.args.layout.now) (g.S.Shelf.allows c.args.shelf.now) c.in-VolumeVbn.volume c.args.held
+    vbn_own_allowed (layout_of c.args.layout.now) (g.S.Shelf.allows c.args.shelf.now) c.in-VolumeVbn.volume c.args.self
     (at-allowed (layout_of c.args.layout.now) (affinity_of c.args.affinity) (trees.Vbn c.in-VolumeVbn.volume) (ap affinity_of c.in-VolumeVbn.is)
-    vbn_parcels c.args.held (g.S.Shelf.allows c.args.shelf.now) c.requires.allowed)
+    vbn_parcels c.args.self (g.S.Shelf.allows c.args.shelf.now) c.requires.allowed)
 
 pub scatter_children-requires-clause-node : goal.scatter_children-requires-clause-node
 scatter_children-requires-clause-node g c =
@@ -52,7 +52,7 @@ scatter_children-requires-clause-vacant g c =
     (g.S.Shelf.at c.args.shelf.now) (g.S.Shelf.at c.put_parcel.new.shelf) (trees.Vbn c.in-VolumeVbn.volume)
     (at-node (layout_of c.args.layout.now) (affinity_of c.args.affinity) (trees.Vbn c.in-VolumeVbn.volume) (ap affinity_of c.in-VolumeVbn.is)
     c.requires.node) (given-others (g.S.Shelf.at c.args.shelf.now) (g.S.Shelf.at c.put_parcel.new.shelf)
-    (number_of (layout_of c.args.layout.now) (trees.Vbn c.in-VolumeVbn.volume)) (parcels.Vbn c.args.held.own) c.put_parcel.ensures.moved)
+    (number_of (layout_of c.args.layout.now) (trees.Vbn c.in-VolumeVbn.volume)) (parcels.Vbn c.args.self.own) c.put_parcel.ensures.moved)
     (at-under (layout_of c.args.layout.now) (affinity_of c.args.affinity) (trees.Vbn c.in-VolumeVbn.volume) (ap affinity_of c.in-VolumeVbn.is)
     (IsVacant (layout_of c.args.layout.now) (g.S.Shelf.at c.args.shelf.now)) c.requires.vacant)
 
@@ -60,19 +60,19 @@ pub scatter_children-requires-clause-allowed : goal.scatter_children-requires-cl
 scatter_children-requires-clause-allowed g c =
     λ i l used. allowed-over
     (λ k. in_place (λ set. range_parcels (layout_of c.args.layout.now) (trees.Range c.in-VolumeVbn.volume i) set k)
-    (slice_get c.args.held.ranges.at i)) (g.S.Shelf.allows c.args.shelf.now) (g.S.Shelf.allows c.put_parcel.new.shelf)
+    (slice_get c.args.self.ranges.at i)) (g.S.Shelf.allows c.args.shelf.now) (g.S.Shelf.allows c.put_parcel.new.shelf)
     (λ k x. g.met.S.Shelf.keeps_allowing c.args.shelf.now c.put_parcel.new.shelf k x c.put_parcel.ensures.kept)
-    (ranges_allowed (layout_of c.args.layout.now) (g.S.Shelf.allows c.args.shelf.now) c.in-VolumeVbn.volume c.args.held
+    (ranges_allowed (layout_of c.args.layout.now) (g.S.Shelf.allows c.args.shelf.now) c.in-VolumeVbn.volume c.args.self
     (at-allowed (layout_of c.args.layout.now) (affinity_of c.args.affinity) (trees.Vbn c.in-VolumeVbn.volume) (ap affinity_of c.in-VolumeVbn.is)
-    vbn_parcels c.args.held (g.S.Shelf.allows c.args.shelf.now) c.requires.allowed) i l)
+    vbn_parcels c.args.self (g.S.Shelf.allows c.args.shelf.now) c.requires.allowed) i l)
 
 pub returns-clause-moved : goal.returns-clause-moved
 returns-clause-moved g c =
     at-taken (layout_of c.args.layout.now) (affinity_of c.args.affinity) (trees.Vbn c.in-VolumeVbn.volume) (ap affinity_of c.in-VolumeVbn.is)
-    vbn_parcels c.args.held (g.S.Shelf.at c.scatter_children.new.shelf) (g.S.Shelf.at c.args.shelf.now)
+    vbn_parcels c.args.self (g.S.Shelf.at c.scatter_children.new.shelf) (g.S.Shelf.at c.args.shelf.now)
     (vbn-scattered (layout_of c.args.layout.now) c.in-VolumeVbn.volume
     (at-node (layout_of c.args.layout.now) (affinity_of c.args.affinity) (trees.Vbn c.in-VolumeVbn.volume) (ap affinity_of c.in-VolumeVbn.is)
-    c.requires.node) c.args.held (g.S.Shelf.at c.args.shelf.now) (g.S.Shelf.at c.put_parcel.new.shelf) (g.S.Shelf.at c.scatter_children.new.shelf)
+    c.requires.node) c.args.self (g.S.Shelf.at c.args.shelf.now) (g.S.Shelf.at c.put_parcel.new.shelf) (g.S.Shelf.at c.scatter_children.new.shelf)
     c.put_parcel.ensures.moved c.scatter_children.ensures.moved)
 
 pub returns-clause-kept : goal.returns-clause-kept

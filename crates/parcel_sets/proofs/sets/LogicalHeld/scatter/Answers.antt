@@ -15,7 +15,7 @@ use Rattle.parcel_sets.proofs.Exactness.{logical-from}
 use Rattle.parcel_sets.proofs.Siblings.{children-after}
 use Rattle.parcel_sets.proofs.Steps.{vacant_kept}
 use Rattle.parcel_sets.proofs.Levels.{logical-scattered}
-use Rattle.parcel_sets.proofs.nodes.LogicalNodeNodeParcel.scatter.Goals as goal
+use Rattle.parcel_sets.proofs.sets.LogicalHeld.scatter.Goals as goal
 
 pub unreachable-requires : goal.unreachable-requires
 unreachable-requires g c =
@@ -36,9 +36,9 @@ put_parcel-requires-clause-vacant g c =
 
 pub put_parcel-requires-clause-allowed : goal.put_parcel-requires-clause-allowed
 put_parcel-requires-clause-allowed g c =
-    logical_own_allowed (layout_of c.args.layout.now) (g.S.Shelf.allows c.args.shelf.now) c.in-VolumeLogical.volume c.args.held
+    logical_own_allowed (layout_of c.args.layout.now) (g.S.Shelf.allows c.args.shelf.now) c.in-VolumeLogical.volume c.args.self
     (at-allowed (layout_of c.args.layout.now) (affinity_of c.args.affinity) (trees.Logical c.in-VolumeLogical.volume)
-    (ap affinity_of c.in-VolumeLogical.is) logical_parcels c.args.held (g.S.Shelf.allows c.args.shelf.now) c.requires.allowed)
+    (ap affinity_of c.in-VolumeLogical.is) logical_parcels c.args.self (g.S.Shelf.allows c.args.shelf.now) c.requires.allowed)
 
 pub scatter_children-requires-clause-node : goal.scatter_children-requires-clause-node
 scatter_children-requires-clause-node g c =
@@ -56,7 +56,7 @@ scatter_children-requires-clause-vacant g c =
     (at-node (layout_of c.args.layout.now) (affinity_of c.args.affinity) (trees.Logical c.in-VolumeLogical.volume)
     (ap affinity_of c.in-VolumeLogical.is) c.requires.node)
     (given-others (g.S.Shelf.at c.args.shelf.now) (g.S.Shelf.at c.put_parcel.new.shelf)
-    (number_of (layout_of c.args.layout.now) (trees.Logical c.in-VolumeLogical.volume)) (parcels.Logical c.args.held.own)
+    (number_of (layout_of c.args.layout.now) (trees.Logical c.in-VolumeLogical.volume)) (parcels.Logical c.args.self.own)
     c.put_parcel.ensures.moved)
     (at-under (layout_of c.args.layout.now) (affinity_of c.args.affinity) (trees.Logical c.in-VolumeLogical.volume)
     (ap affinity_of c.in-VolumeLogical.is) (IsVacant (layout_of c.args.layout.now) (g.S.Shelf.at c.args.shelf.now)) c.requires.vacant)
@@ -65,19 +65,19 @@ pub scatter_children-requires-clause-allowed : goal.scatter_children-requires-cl
 scatter_children-requires-clause-allowed g c =
     λ i l used. allowed-over
     (λ k. in_place (λ set. stripe_parcels (layout_of c.args.layout.now) (trees.Stripe c.in-VolumeLogical.volume i) set k)
-    (slice_get c.args.held.stripes.at i)) (g.S.Shelf.allows c.args.shelf.now) (g.S.Shelf.allows c.put_parcel.new.shelf)
+    (slice_get c.args.self.stripes.at i)) (g.S.Shelf.allows c.args.shelf.now) (g.S.Shelf.allows c.put_parcel.new.shelf)
     (λ k x. g.met.S.Shelf.keeps_allowing c.args.shelf.now c.put_parcel.new.shelf k x c.put_parcel.ensures.kept)
-    (stripes_allowed (layout_of c.args.layout.now) (g.S.Shelf.allows c.args.shelf.now) c.in-VolumeLogical.volume c.args.held
+    (stripes_allowed (layout_of c.args.layout.now) (g.S.Shelf.allows c.args.shelf.now) c.in-VolumeLogical.volume c.args.self
     (at-allowed (layout_of c.args.layout.now) (affinity_of c.args.affinity) (trees.Logical c.in-VolumeLogical.volume)
-    (ap affinity_of c.in-VolumeLogical.is) logical_parcels c.args.held (g.S.Shelf.allows c.args.shelf.now) c.requires.allowed) i l)
+    (ap affinity_of c.in-VolumeLogical.is) logical_parcels c.args.self (g.S.Shelf.allows c.args.shelf.now) c.requires.allowed) i l)
 
 pub returns-clause-moved : goal.returns-clause-moved
 returns-clause-moved g c =
     at-taken (layout_of c.args.layout.now) (affinity_of c.args.affinity) (trees.Logical c.in-VolumeLogical.volume)
-    (ap affinity_of c.in-VolumeLogical.is) logical_parcels c.args.held (g.S.Shelf.at c.scatter_children.new.shelf) (g.S.Shelf.at c.args.shelf.now)
+    (ap affinity_of c.in-VolumeLogical.is) logical_parcels c.args.self (g.S.Shelf.at c.scatter_children.new.shelf) (g.S.Shelf.at c.args.shelf.now)
     (logical-scattered (layout_of c.args.layout.now) c.in-VolumeLogical.volume
     (at-node (layout_of c.args.layout.now) (affinity_of c.args.affinity) (trees.Logical c.in-VolumeLogical.volume)
-    (ap affinity_of c.in-VolumeLogical.is) c.requires.node) c.args.held (g.S.Shelf.at c.args.shelf.now) (g.S.Shelf.at c.put_parcel.new.shelf)
+    (ap affinity_of c.in-VolumeLogical.is) c.requires.node) c.args.self (g.S.Shelf.at c.args.shelf.now) (g.S.Shelf.at c.put_parcel.new.shelf)
     (g.S.Shelf.at c.scatter_children.new.shelf) c.put_parcel.ensures.moved c.scatter_children.ensures.moved)
 
 pub returns-clause-kept : goal.returns-clause-kept
