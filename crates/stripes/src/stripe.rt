@@ -10,7 +10,6 @@ ghost use Rattle.std.specs.Prelude.{
   ◌∷◌,
   [],
   length,
-  ◌×◌,
   true,
   false,
   IsTrue,
