@@ -221,12 +221,7 @@ pub fn decode_call(alloc: Global, procedure: Procedure, bytes: &[u8]) -> Result<
 
 /// The call that arguments of the procedure of this number in this program make. No bytes spell
 /// arguments of a number that is no procedure's, which is told as a number of no enumeration.
-pub fn decode_args(
-    alloc: Global,
-    program: u32,
-    procedure: u32,
-    bytes: &[u8],
-) -> Result<Call, Bad>
+pub fn decode_args(alloc: Global, program: u32, procedure: u32, bytes: &[u8]) -> Result<Call, Bad>
     ensures known { (known : Procedure) → numbers_of known ≡ (program, procedure)
         → Makes call_of (takes_memory known) result (asked known bytes.now) }
     ensures unknown { ((known : Procedure) → numbers_of known ≢ (program, procedure))

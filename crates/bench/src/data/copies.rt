@@ -22,7 +22,12 @@ const FILE: Fileid = Fileid(2);
 
 /// Makes a file with all its blocks.
 fn fill(stripe: &mut Stripe) -> Result<(), AllocError> {
-    stripe.set_card(FILE, CardKind::File { size: FILE_BYTES as u64 })?;
+    stripe.set_card(
+        FILE,
+        CardKind::File {
+            size: FILE_BYTES as u64,
+        },
+    )?;
     for block in 0..FILE_BYTES as u64 / 4096 {
         stripe.insert_block(FILE, block, BlockNumber(block as u32))?;
     }

@@ -1,4 +1,4 @@
-use Rattle.std.proofs.Common.{subst}
+use Rattle.std.proofs.Common.{refl, subst}
 use Rattle.nfs_values.specs.Call.{call_of}
 use Rattle.nfs_types.specs.Arguments.{Makes, asked, takes_memory}
 use Rattle.nfs_types.proofs.Numbered.{one_numbered}
@@ -13,4 +13,4 @@ pub returns-in-Some-clause-unknown : goal.returns-in-Some-clause-unknown
 returns-in-Some-clause-unknown c = λ none. absurd (none c.in-Some.known c.in-Some.ensures.found)
 
 pub returns-in-None-clause-known : goal.returns-in-None-clause-known
-returns-in-None-clause-known c = λ known is. absurd (c.in-None.ensures.none known is)
+returns-in-None-clause-known c = λ known is. absurd (c.in-None.ensures.none refl known is)
