@@ -1,8 +1,10 @@
 //! Arguments that take memory, each once where memory is there.
 
 use crate::bytes::{holds, joined, same};
-use nfs_types::{Bad, decode_args};
-use nfs_values::{Call, CreateMode, Moment, Procedure, SetAttributes, SetTime, Target};
+use nfs_types::{Bad, decode_args, decode_call};
+use nfs_values::{
+    Call, CreateMode, Moment, NFS_PROGRAM, Procedure, SetAttributes, SetTime, Target,
+};
 use std::mem;
 use std::process::Abort;
 
@@ -32,7 +34,7 @@ fn set() -> SetAttributes {
 
 /// The call that arguments spell.
 fn decoded(rt: &(impl Abort + AllocGlobal), procedure: Procedure, arguments: &[u8]) -> Call {
-    decode_args(rt.alloc(), procedure, arguments).expect(rt, "no call")
+    decode_call(rt.alloc(), procedure, arguments).expect(rt, "no call")
 }
 
 /// Looks whether this is the target.
@@ -80,7 +82,7 @@ fn two_names_are_copied(rt: HostRuntime) {
 /// The number of the fault for which the arguments of a LOOKUP are refused, or 0.
 fn fault_of(rt: &(impl Abort + AllocGlobal), parts: &[&[u8]]) -> u32 {
     let arguments = joined(rt, parts);
-    let decoded = decode_args(rt.alloc(), Procedure::Lookup, &arguments);
+    let decoded = decode_args(rt.alloc(), NFS_PROGRAM, 3, &arguments);
     let number = match &decoded {
         Err(Bad::Fault(fault)) => fault.number(),
         _ => 0,

@@ -1,3 +1,4 @@
 pub mod Memory
 pub mod Outcomes
 pub mod Rest
+pub mod Numbered

@@ -1,10 +1,13 @@
 //! Arguments of calls.
 
-ghost use Rattle.std.specs.Prelude.{◌≡◌, true, false, IfOk, IfErr};
+ghost use Rattle.std.specs.Prelude.{◌≡◌, ◌≢◌, true, false, Err, IfOk, IfErr};
 ghost use Rattle.nfs_types.specs.declared.bad.Bad.TheVariants as bads;
+ghost use Rattle.xdr.specs.declared.fault.Fault.TheVariants as faults;
 ghost use Rattle.xdr.specs.Shape.{Void};
 ghost use Rattle.xdr.specs.Reading.{all_of};
 ghost use Rattle.nfs_values.specs.Call.{call_of};
+ghost use Rattle.nfs_values.specs.Procedure.{numbers_of};
+ghost use Rattle.nfs_values.specs.declared.procedure.Procedure.{Procedure};
 ghost use Rattle.nfs_types.specs.Shapes.{handle_shape, target_shape};
 ghost use Rattle.nfs_types.specs.Arguments.{Makes, target_of, asked, asked_by, takes_memory};
 ghost use Rattle.nfs_types.specs.Arguments.{setattr_shape, range_shape, writing_shape};
@@ -22,6 +25,7 @@ use nfs_values::{
     VolumeNumber,
 };
 use std::alloc::Global;
+use xdr::Fault;
 
 /// A directory and a name, which is copied.
 fn copied(alloc: Global, directory: FileHandle, name: &[u8]) -> Result<Target, Bad>
@@ -192,7 +196,7 @@ fn grow(bytes: &[u8]) -> Result<Call, Bad>
 }
 
 /// The call that these arguments of a procedure make (RFC 1813 section 3.3).
-pub fn decode_args(alloc: Global, procedure: Procedure, bytes: &[u8]) -> Result<Call, Bad>
+pub fn decode_call(alloc: Global, procedure: Procedure, bytes: &[u8]) -> Result<Call, Bad>
     ensures { Makes call_of (takes_memory procedure) result (asked procedure bytes.now) }
 {
     match procedure {
@@ -212,5 +216,19 @@ pub fn decode_args(alloc: Global, procedure: Procedure, bytes: &[u8]) -> Result<
         Procedure::Commit => commit(bytes),
         Procedure::Census => census(bytes),
         Procedure::Grow => grow(bytes),
+    }
+}
+
+/// The call that arguments of the procedure of this number in this program make. No bytes spell
+/// arguments of a number that is no procedure's, which is told as a number of no enumeration.
+pub fn decode_args(alloc: Global, program: u32, procedure: u32, bytes: &[u8]) -> Result<Call, Bad>
+    ensures known { (known : Procedure) → numbers_of known ≡ (program, procedure)
+        → Makes call_of (takes_memory known) result (asked known bytes.now) }
+    ensures unknown { ((known : Procedure) → numbers_of known ≢ (program, procedure))
+        → result ≡ Err (bads.Fault faults.BadEnum) }
+{
+    match Procedure::known(program, procedure) {
+        Some(known) => decode_call(alloc, known, bytes),
+        None => Err(Bad::Fault(Fault::BadEnum)),
     }
 }

@@ -10,7 +10,15 @@ mod laws;
 mod lists;
 mod results;
 
-pub use arguments::decode_args;
+pub use arguments::{decode_args, decode_call};
 pub use bad::Bad;
 pub use laws::arguments_are_exact;
+pub use nfs_values::{
+    ADMIN_PROGRAM, Answer, Attributes, AuthFault, BlockNumber, Call, Change, CommitResults,
+    ConnectionNumber, Cookie, CreateMode, Credential, DirectoryEntry, FileHandle, FileKind, Fileid,
+    FilesystemStatusResults, LookupResults, MakeResults, Moment, NFS_PROGRAM, Name, Named,
+    PriorAttributes, Procedure, ReadDirectoryResults, ReadResults, RenameResults, Reply,
+    SetAttributes, SetTime, Status, Target, Verifier, VolumeCount, VolumeNumber, WorkerNumber,
+    WriteResults,
+};
 pub use results::{encode_result, size_of_result};

@@ -31,6 +31,7 @@ use nfs_values::{Fileid, Verifier};
 use parcel_sets::{Node, Parcel, SerialHeld, SerialNode, VecShelf};
 use std::alloc::{AllocError, Global};
 use stripes::Stripe;
+use stripes::cards::CardKind;
 use vbn_ranges::{DeadBlocks, Range, Stock};
 use volume_logical::directories::Directory;
 use volume_logical::inodes::Inodes;
@@ -144,7 +145,7 @@ fn opening_stripe(
     ensures { IfOk result (λ parcel. parcel ≡ opening_stripe verifier.0 stripes largest) }
 {
     let mut stripe = Stripe::new(alloc, verifier, stripes, largest);
-    stripe.set_directory_card(Fileid::ROOT)?;
+    stripe.set_card(Fileid::ROOT, CardKind::Directory)?;
     StripeParcel::new(alloc, stripe)
 }
 

@@ -7,7 +7,7 @@ ghost use Rattle.rpc_msg.specs.Seen.{Hears, Tells};
 
 use crate::fault::RecordFault;
 use crate::head::{Head, read_call};
-use nfs_types::{Bad, decode_args};
+use nfs_types::{Bad, decode_call};
 use nfs_values::{Call, Credential, Procedure, Reply};
 use std::alloc::Global;
 
@@ -39,7 +39,7 @@ fn decode(
     ensures { Tells xid result
         (heard_from (Asks xid procedure (credential_of credential) arguments.now)) }
 {
-    match decode_args(alloc, procedure, arguments) {
+    match decode_call(alloc, procedure, arguments) {
         Ok(call) => Request::Call { call, credential },
         Err(Bad::Fault(_fault)) => Request::Refused(Reply::GarbageArguments),
         Err(Bad::NoMemory) => Request::Undecoded,

@@ -78,3 +78,15 @@ Foresees stream bytes taken looks.More = (taken ≡ length bytes) × GoesOn stre
 Foresees stream bytes taken looks.Fault =
     (taken ≤ length bytes)
     × (read_stream (stream ++ take taken bytes) ≡ record { records = (read_stream stream).records; at = None })
+
+-- The number by which a step is told, where it is a fault or for want of memory (our profile).
+abbrev pub step_number : Step → Option ℕ
+step_number (steps.Record made) = None
+step_number steps.More = None
+step_number steps.Fault = Some 11
+step_number steps.NoMemory = Some 90
+
+abbrev pub look_number : Look → Option ℕ
+look_number looks.Record = None
+look_number looks.More = None
+look_number looks.Fault = Some 11

@@ -3,7 +3,7 @@ ghost use Rattle.std.specs.Prelude.{IsSome};
 ghost use Rattle.rpc_record.specs.Machine.{State, start, outcome, IsMore};
 ghost use Rattle.rpc_record.specs.Stream.{read_stream};
 ghost use Rattle.rpc_record.specs.Feeds.{Feeds, GoesOn, Foresees, HasCome, Says, GivesNothing};
-ghost use Rattle.rpc_record.specs.Feeds.{given, look_at, Tells};
+ghost use Rattle.rpc_record.specs.Feeds.{given, look_at, Tells, step_number, look_number};
 ghost use Rattle.rpc_record.specs.declared.reassembler.Step.{Step};
 ghost use Rattle.rpc_record.specs.declared.reassembler.Step.TheVariants as steps;
 
@@ -26,6 +26,19 @@ pub enum Step {
     NoMemory,
 }
 
+impl Step {
+    /// The number by which a fault, 11, or want of memory, 90, is told.
+    pub fn number(&self) -> Option<u32>
+        ensures { result ≡ step_number self.now }
+    {
+        match self {
+            Step::Record(_) | Step::More => None,
+            Step::Fault => Some(11),
+            Step::NoMemory => Some(90),
+        }
+    }
+}
+
 /// What bytes would lead to.
 #[derive(Clone, Copy)]
 pub enum Look {
@@ -35,6 +48,18 @@ pub enum Look {
     More,
     /// They would end in a header that brings the record above the limit.
     Fault,
+}
+
+impl Look {
+    /// The number by which a fault is told, 11.
+    pub fn number(self) -> Option<u32>
+        ensures { result ≡ look_number self }
+    {
+        match self {
+            Look::Record | Look::More => None,
+            Look::Fault => Some(11),
+        }
+    }
 }
 
 /// Puts the records of a stream together, however it is cut (RFC 5531, section 11).

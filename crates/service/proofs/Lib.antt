@@ -2,3 +2,4 @@ mod Getting
 mod Runs
 mod Handed
 mod InHand
+mod Once

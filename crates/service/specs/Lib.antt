@@ -1,5 +1,6 @@
 pub mod Hands
 pub mod Jobs
+pub mod Laws
 pub mod Getattr
 pub mod Running
 pub mod Inner

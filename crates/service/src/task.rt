@@ -6,11 +6,11 @@ ghost use Rattle.affinity_tree.specs.Affinity.{affinity_of, kind_of};
 ghost use Rattle.affinity_tree.specs.declared.affinity.Kind.TheVariants as kinds;
 
 use crate::in_aggregate::run_on_aggregate;
+use crate::in_logical::run_on_logical;
 use crate::in_serial::run_on_serial;
 use crate::in_stripe::run_on_stripe;
 use crate::in_volume::run_on_volume;
 use crate::outcome::Outcome;
-use crate::run::run_on_logical;
 use affinity_tree::{Affinity, Layout};
 use desk::{ParcelKinds, Task};
 use nfs_values::{Call, Credential, Moment, VolumeNumber};

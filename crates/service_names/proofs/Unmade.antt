@@ -1,5 +1,5 @@
 -- A node made, as the steps of its making leave it; and where memory runs out, all as it was.
-use Rattle.std.proofs.Common.{◌≡◌, ℕ, ◌-◌, ◌<◌, ◌≤◌, ◌==◌, true, false, List, map, Option, Some, None}
+use Rattle.std.proofs.Common.{◌≡◌, ℕ, ◌+◌, ◌-◌, ◌<◌, ◌≤◌, ◌==◌, true, false, List, map, Option, Some, None}
 use Rattle.std.proofs.Common.{refl, sym, ap, ◌∙◌, subst, arith, ⊎_elim}
 use Rattle.std.proofs.lemmas.Bool.{cases_lt}
 use Rattle.std.specs.Prelude.{is_some, IsSome, slice_get}
@@ -11,7 +11,7 @@ use Rattle.nfs_model.specs.volume.Inodes.{InodeKind, Inode, inode_of, inode_crea
 use Rattle.nfs_model.specs.volume.Logical.{LogicalValue}
 use Rattle.nfs_model.specs.volume.Maps.{changed_at, changed_value}
 use Rattle.nfs_model.specs.volume.Stripes.{StripeValue, Card}
-use Rattle.nfs_model.specs.volume.lemmas.Inodes.{unmade-created, made-last}
+use Rattle.nfs_model.specs.volume.lemmas.Inodes.{unmade-created, inode-created-there}
 use Rattle.nfs_model.specs.volume.lemmas.Numbered.{remove-absent}
 use Rattle.parcels.specs.state.Contents.{each}
 use Rattle.parcels.specs.state.Names.{root}
@@ -125,11 +125,16 @@ module _ {P : Type 0} (within : Within) (name : List ℕ) (old : FilerLogical P)
 
     -- where memory ran out
     module _ (failed : without_directory f two.own ≡ without_directory f one.own) where
-      pub was-made : is_some (inode_of two.own.inodes (two.own.inodes.next - 1)) ≡ true
+      pub was-last : two.own.inodes.next ≡ f + 1
+      was-last =
+          ap (λ (l : LogicalValue). l.inodes.next) failed ∙ (ap (λ (l : LogicalValue). l.inodes.next) created ∙ ap (λ (q : ℕ). q + 1) (sym is))
+
+      pub was-made : is_some (inode_of two.own.inodes f) ≡ true
       was-made =
-          ap (λ (l : LogicalValue). is_some (inode_of l.inodes (l.inodes.next - 1))) failed
-          ∙ ap (λ (l : LogicalValue). is_some (inode_of l.inodes (l.inodes.next - 1))) created
-          ∙ made-last old.own.inodes made
+          ap (λ (l : LogicalValue). is_some (inode_of l.inodes f)) failed
+          ∙ (ap (λ (l : LogicalValue). is_some (inode_of l.inodes f)) created
+          ∙ (ap (λ (q : ℕ). is_some (inode_of (inode_created made old.own.inodes) q)) is
+          ∙ ap (λ (o : Option Inode). is_some o) (inode-created-there old.own.inodes made)))
 
       pub all-back : (three : FilerLogical P) → three.own ≡ node_unmade f two.own → InFirst (IsDropped f) two.own.stripes two.stripes.at three.stripes.at
           → three ≡ old

@@ -1,6 +1,6 @@
 -- What calls that make nodes take, and leave.
 use Rattle.std.specs.Prelude.{◌≡◌, ℕ, ◌<◌, ◌≤◌, ◌^◌, ◌==◌, false, List, Some, None, IsSome, IfSome}
-use Rattle.std.specs.FinMap.{get, remove}
+use Rattle.std.specs.FinMap.{get, len, remove}
 use Rattle.nfs_model.specs.Types.{Moment, Shown, Wcc, Answer, MadeDone}
 use Rattle.nfs_model.specs.Server.{most_inodes}
 use Rattle.nfs_values.specs.Moment.{moment_of}
@@ -35,13 +35,14 @@ inode_dated inode made moment = record {
   kind = with_subdirectories (folders_in made) inode.kind;
 }
 
--- What making a node under a name takes: there are no more stripes than places, each with the root's card; numbers have room for one
--- more; the directory is there, and doesn't have the name; the next fileid is that of no inode, no directory and no card.
+-- What making a node under a name takes: there are no more stripes than places, each with the root's card; inodes, fileids and cookies
+-- have room for one more; the directory is there, and doesn't have the name; the next fileid is that of no inode, no directory and no
+-- card.
 pub record MayMake (n : HeldNaming) : Type 0 where
   pub few : n.set.own.stripes ≤ 16
   pub root_there : (i : ℕ) → i < n.set.own.stripes → IsSome (get (stripe_at n.set.stripes i).cards root)
   pub fileids : n.set.own.inodes.next < 2 ^ 63
-  pub used : n.set.own.inodes.used < 2 ^ 63
+  pub room : len n.set.own.inodes.inodes < most_inodes
   pub links : IfSome (subdirectories_in n.inode.kind) (λ subdirectories. subdirectories < most_inodes)
   pub entered : get n.set.own.directories n.fileid ≡ Some n.entries
   pub cookies : n.entries.next < 2 ^ 63

@@ -13,6 +13,7 @@ use parcel_sets::{LogicalHeld, StripeHeld};
 use parcels::Files;
 use std::alloc::AllocError;
 use stripes::Stripe;
+use stripes::cards::CardKind;
 use volume_logical::inodes::InodeKind;
 
 /// Puts the card of a new node into each stripe of its volume. Where memory runs out some stripes
@@ -75,8 +76,8 @@ fn put_in(stripe: &mut Stripe, fileid: Fileid, kind: InodeKind) -> Result<(), Al
     ensures ok { OnOk result (stripe.new ≡ card_made (kind_value kind) fileid.0 stripe.old) }
 {
     match kind {
-        InodeKind::RegularFile { size, .. } => stripe.set_file_card(fileid, size),
-        InodeKind::Directory { .. } => stripe.set_directory_card(fileid),
+        InodeKind::RegularFile { size, .. } => stripe.set_card(fileid, CardKind::File { size }),
+        InodeKind::Directory { .. } => stripe.set_card(fileid, CardKind::Directory),
     }
 }
 

@@ -5,7 +5,7 @@ ghost use Rattle.std.specs.Prelude.{
   ◌==◌,
   ◌<◌,
   ◌≤◌,
-  ◌-◌,
+  ◌+◌,
   ◌^◌,
   true,
   false,
@@ -16,7 +16,7 @@ ghost use Rattle.std.specs.Prelude.{
   OnOk,
   OnErr,
 };
-ghost use Rattle.std.specs.FinMap.{get};
+ghost use Rattle.std.specs.FinMap.{get, len};
 ghost use Rattle.nfs_model.specs.Server.{most_inodes};
 ghost use Rattle.nfs_values.specs.Answer.{node_made as made_told};
 ghost use Rattle.nfs_values.specs.Moment.{moment_of};
@@ -55,7 +55,7 @@ use parcel_sets::LogicalHeld;
 use parcels::Files;
 use std::alloc::{AllocError, Global};
 use volume_logical::directories::Directory;
-use volume_logical::inodes::{Inode, InodeKind, StoredAttributes};
+use volume_logical::inodes::{Created, Inode, InodeKind, StoredAttributes};
 
 /// Makes a node under a name of a directory, and tells it. Where memory runs out nothing has
 /// changed.
@@ -108,24 +108,25 @@ fn make_node(
     ensures err { OnErr result (held.new ≡ held.old) }
 {
     let name = Name::copied(alloc, name)?;
-    let fileid = create_inode(held, made)?;
+    let created = create_inode(held, made)?;
+    let fileid = created.fileid();
     match tie(alloc, held, within.fileid, name, fileid, made.kind) {
         Ok(()) => {
             set_directory(held, within, made.kind);
-            Ok(fileid)
+            Ok(created.keep())
         }
         Err(error) => {
-            unmake(held, fileid);
+            unmake(held, created);
             Err(error)
         }
     }
 }
 
 /// Makes an inode under the next fileid.
-fn create_inode(held: &mut LogicalHeld<Files>, made: Inode) -> Result<Fileid, AllocError>
+fn create_inode(held: &mut LogicalHeld<Files>, made: Inode) -> Result<Created, AllocError>
     requires fileids { held.old.own.inodes.next < 2 ^ 63 }
-    requires used { held.old.own.inodes.used < 2 ^ 63 }
-    ensures fileid { IfOk result (λ fileid. fileid.0 ≡ held.old.own.inodes.next) }
+    requires room { len held.old.own.inodes.inodes < most_inodes }
+    ensures fileid { IfOk result (λ created. created ≡ held.old.own.inodes.next) }
     ensures ok { OnOk result (held.new.own ≡ with_inodes
         (inode_created (inode_value made) held.old.own.inodes) held.old.own) }
     ensures err { OnErr result (held.new.own ≡ held.old.own) }
@@ -205,34 +206,33 @@ fn add_entry(
 }
 
 /// Takes out again what there is of a node whose inode was made last. It takes no memory.
-fn unmake(held: &mut LogicalHeld<Files>, fileid: Fileid)
+fn unmake(held: &mut LogicalHeld<Files>, created: Created)
     requires few { held.old.own.stripes ≤ 16 }
-    requires made { let inodes = held.old.own.inodes in
-        is_some (inode_of inodes (inodes.next - 1)) ≡ true }
-    ensures own { held.new.own ≡ node_unmade fileid.0 held.old.own }
-    ensures cards { InFirst (IsDropped fileid.0) held.old.own.stripes
+    requires last { held.old.own.inodes.next ≡ created + 1 }
+    requires made { is_some (inode_of held.old.own.inodes created) ≡ true }
+    ensures own { held.new.own ≡ node_unmade created held.old.own }
+    ensures cards { InFirst (IsDropped created) held.old.own.stripes
         held.old.stripes.at held.new.stripes.at }
 {
-    drop_cards(held, fileid);
-    drop_inode(held, fileid);
+    drop_cards(held, created.fileid());
+    drop_inode(held, created);
 }
 
 /// Takes out the inode that was made last, and the entries of its fileid.
-fn drop_inode(held: &mut LogicalHeld<Files>, fileid: Fileid)
-    requires { let inodes = held.old.own.inodes in
-        is_some (inode_of inodes (inodes.next - 1)) ≡ true }
-    ensures own { held.new.own ≡ node_unmade fileid.0 held.old.own }
+fn drop_inode(held: &mut LogicalHeld<Files>, created: Created)
+    requires last { held.old.own.inodes.next ≡ created + 1 }
+    requires made { is_some (inode_of held.old.own.inodes created) ≡ true }
+    ensures own { held.new.own ≡ node_unmade created held.old.own }
     ensures stripes { held.new.stripes ≡ held.old.stripes }
 {
     let own = held.own.get_mut();
-    own.directories.remove(fileid);
-    own.inodes.undo_create();
+    own.directories.remove(created.fileid());
+    own.inodes.undo_create(created);
 }
 
 /// Sets the inode of a directory in which a node of a kind is made.
 fn set_directory(held: &mut LogicalHeld<Files>, within: Within, made: InodeKind)
-    requires used { held.old.own.inodes.used < 2 ^ 63 }
-    requires links { IfSome (subdirectories_in (kind_value within.inode.kind))
+    requires { IfSome (subdirectories_in (kind_value within.inode.kind))
         (λ subdirectories. subdirectories < most_inodes) }
     ensures own { held.new.own ≡ with_inodes (inode_set within.fileid.0
         (inode_dated (inode_value within.inode) (kind_value made) (moment_of within.moment))

@@ -5,6 +5,7 @@ use nfs_values::{BlockNumber, Fileid, Moment, Verifier};
 use std::mem;
 use std::process::Abort;
 use stripes::Stripe;
+use stripes::cards::CardKind;
 
 const FILE: Fileid = Fileid(2);
 
@@ -16,7 +17,9 @@ const MOMENT: Moment = Moment {
 /// A stripe of 8, of a volume with files of 16,777,216 bytes at most, with a file of 8,195 bytes.
 fn stripe(rt: &(impl Abort + AllocGlobal)) -> Stripe {
     let mut stripe = Stripe::new(rt.alloc(), Verifier([1, 2, 3, 4, 5, 6, 7, 8]), 8, 1 << 24);
-    stripe.set_file_card(FILE, 8195).expect(rt, "no memory");
+    stripe
+        .set_card(FILE, CardKind::File { size: 8195 })
+        .expect(rt, "no memory");
     stripe
 }
 
@@ -94,7 +97,9 @@ fn cut_within_a_block(rt: HostRuntime) {
     for wanted in [Some(BlockNumber(8)), Some(BlockNumber(9)), None] {
         same(&rt, &stripe.cut(FILE, 8193), &wanted);
     }
-    stripe.set_file_card(FILE, 8200).expect(&rt, "no memory");
+    stripe
+        .set_card(FILE, CardKind::File { size: 8200 })
+        .expect(&rt, "no memory");
     reads(&rt, &stripe, 8192, b"\x78\0\0\0\0\0\0\0");
     mem::forget(stripe);
 }

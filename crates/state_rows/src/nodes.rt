@@ -30,27 +30,27 @@ fn file(size: u64, filled: u32) -> Inode {
     }
 }
 
-/// Creates an inode where the conditions for it hold, and tells its fileid, or else the root's.
+/// Creates an inode where there is room for it, and tells its fileid, or else the root's.
 fn create(rt: &impl Abort, inodes: &mut Inodes, inode: Inode) -> Fileid {
-    if inodes.next_fileid().0 >= 1 << 62 || inodes.used() >= 1 << 62 {
+    if inodes.next_fileid().0 >= 1 << 62 || inodes.len() >= 65_536 {
         return Fileid::ROOT;
     }
-    inodes.create(inode).expect(rt, "no memory")
+    inodes.create(inode).expect(rt, "no memory").keep()
 }
 
-/// Sets an inode where the condition for it holds.
-fn set(inodes: &mut Inodes, fileid: Fileid, inode: Inode) {
-    if inodes.used() < 1 << 62 {
-        inodes.set(fileid, inode);
+/// Creates an inode where there is room for it, tells its fileid, and undoes the creation.
+fn create_and_undo(rt: &impl Abort, inodes: &mut Inodes, inode: Inode) -> Fileid {
+    if inodes.next_fileid().0 >= 1 << 62 || inodes.len() >= 65_536 {
+        return Fileid::ROOT;
     }
-}
-
-/// Undoes a creation where the condition for it holds.
-fn undo_create(inodes: &mut Inodes) {
-    let next = inodes.next_fileid().0;
-    if next > 0 && inodes.get(Fileid(next - 1)).is_some() {
-        inodes.undo_create();
+    let created = inodes.create(inode).expect(rt, "no memory");
+    let fileid = created.fileid();
+    if inodes.next_fileid().0 - 1 == fileid.0 && inodes.get(fileid).is_some() {
+        inodes.undo_create(created);
+    } else {
+        created.keep();
     }
+    fileid
 }
 
 /// The root alone.
@@ -88,8 +88,7 @@ fn made_and_dropped(rt: HostRuntime) {
     inodes.drop_node(Fileid(2));
     inodes.drop_node(Fileid(2));
     same(&rt, &counts(&inodes), &(3, 16));
-    let fifth = create(&rt, &mut inodes, file(1, 1));
-    undo_create(&mut inodes);
+    let fifth = create_and_undo(&rt, &mut inodes, file(1, 1));
     same(&rt, &counts(&inodes), &(3, 16));
     let again = create(&rt, &mut inodes, file(1, 1));
     same(&rt, &(fifth, again), &(Fileid(5), Fileid(5)));
@@ -117,8 +116,8 @@ fn settled(rt: HostRuntime) {
 #[test]
 fn set_where_there(rt: HostRuntime) {
     let mut inodes = three(&rt);
-    set(&mut inodes, Fileid(3), file(4096, 1));
-    set(&mut inodes, Fileid(5), file(4096, 1));
+    inodes.set(Fileid(3), file(4096, 1));
+    inodes.set(Fileid(5), file(4096, 1));
     same(&rt, &counts(&inodes), &(4, 18));
     same(&rt, &inodes.get(Fileid(3)), &Some(file(4096, 1)));
     same(&rt, &inodes.get(Fileid(5)), &None);

@@ -4,5 +4,5 @@ mod card;
 mod cards;
 mod packed;
 
-pub use card::Card;
+pub use card::{Card, CardKind};
 pub use cards::Cards;

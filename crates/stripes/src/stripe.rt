@@ -10,6 +10,7 @@ ghost use Rattle.std.specs.Prelude.{
   ◌∷◌,
   [],
   length,
+  true,
   false,
   IsTrue,
   IsOk,
@@ -33,7 +34,6 @@ ghost use Rattle.nfs_model.specs.volume.Stripes.{
   touch_of,
   touch_taken,
   file_card_set,
-  folder_card_set,
   card_dropped,
   block_inserted,
   block_taken,
@@ -43,10 +43,10 @@ ghost use Rattle.nfs_model.specs.volume.Stripes.{
   cut,
   numbers_freed,
 };
-ghost use Rattle.stripes.specs.cards.Cards.{card_of};
+ghost use Rattle.stripes.specs.cards.Cards.{card_of, card_set};
 
 use crate::blocks::Blocks;
-use crate::cards::{Card, Cards};
+use crate::cards::{Card, CardKind, Cards};
 use nfs_values::{BlockNumber, Fileid, Moment, Verifier};
 use std::alloc::{AllocError, Global};
 use std::marker::Model;
@@ -137,24 +137,17 @@ impl Stripe {
         self.cards.get(fileid)
     }
 
-    /// Sets the card of a file to a size; the touch stays. Memory is needed only for a card that
+    /// Sets the card of an inode; the touch of a file stays. Memory is needed only for a card that
     /// isn't there, and where there is none for it nothing changes.
-    pub fn set_file_card(&mut self, fileid: Fileid, size: u64) -> Result<(), AllocError>
-        ensures ok { OnOk result (self.new ≡ file_card_set fileid.0 size self.old) }
+    pub fn set_card(&mut self, fileid: Fileid, card: CardKind) -> Result<(), AllocError>
+        ensures ok { OnOk result (self.new ≡ card_set fileid.0 card self.old) }
         ensures err { OnErr result (self.new ≡ self.old) }
         ensures succeeds { IsSome (get self.old.cards fileid.0) → IsOk result }
     {
-        self.cards.set_file(fileid, size)
-    }
-
-    /// Sets the card of a directory. Memory is needed only for a card that isn't there, and where
-    /// there is none for it nothing changes.
-    pub fn set_directory_card(&mut self, fileid: Fileid) -> Result<(), AllocError>
-        ensures ok { OnOk result (self.new ≡ folder_card_set fileid.0 self.old) }
-        ensures err { OnErr result (self.new ≡ self.old) }
-        ensures succeeds { IsSome (get self.old.cards fileid.0) → IsOk result }
-    {
-        self.cards.set_directory(fileid)
+        match card {
+            CardKind::File { size } => self.cards.set_file(fileid, size),
+            CardKind::Directory => self.cards.set_directory(fileid),
+        }
     }
 
     /// Sets the size on the card of a file that is there; the touch stays. It takes no memory.
@@ -200,16 +193,21 @@ impl Stripe {
     }
 
     /// Writes bytes at an offset of a file, which lie in one span, at a moment, and tells whether
-    /// it did. Where the write would extend the file or fill a hole nothing changes. It takes no
-    /// memory.
+    /// it did. Where the write would extend the file or fill a hole nothing changes. To write no
+    /// bytes changes nothing, whatever the file. It takes no memory.
     pub fn overwrite(&mut self, fileid: Fileid, offset: u64, written: &[u8], moment: Moment) -> bool
-        requires some { 0 < length written.now }
         requires span { offset % span_bytes + length written.now ≤ span_bytes }
-        ensures answer { result ≡ stays_within fileid.0 offset (length written.now) self.old }
-        ensures written { IsTrue result
+        ensures answer { 0 < length written.now
+            → result ≡ stays_within fileid.0 offset (length written.now) self.old }
+        ensures written { 0 < length written.now
+            → IsTrue result
             → self.new ≡ overwritten fileid.0 offset written.now (moment_of moment) self.old }
         ensures kept { result ≡ false → self.new ≡ self.old }
+        ensures nothing { length written.now ≡ 0 → (result ≡ true) × (self.new ≡ self.old) }
     {
+        if written.is_empty() {
+            return true;
+        }
         if !reaches(self.cards.get(fileid), offset, written.len()) {
             return false;
         }

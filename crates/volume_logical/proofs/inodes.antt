@@ -1,2 +1,3 @@
 pub mod Tables
+pub mod Few
 pub mod Changes

@@ -183,19 +183,22 @@ module _ (layout : Layout) (lawful : fault_of layout ≡ None) (m : Message) (pl
           as_granted = subst (λ a. HasWith w (number_of layout a) l.parcels) (sym here) back;
         }
 
-    pub moves-on : (m' : Message) → m' ≡ record m { affinity = to } → HasMoved layout v m moment m'
-    moves-on m' same = record {
-      to = to;
-      message = same;
-      placed = subst (λ (x : Message). IsPlaced layout x) (sym same) (record { node = moved.1.0; run = moved.1.1; room = placed.room });
-      parcels = before;
-      granted = left;
-      moves = moved.0.0;
-    }
-
     module _ (u : FilerView) (ended : IsEnded w (number_of layout l.affinity) u) where
       ends-so : IsEnded w (number_of layout node) u
       ends-so = subst (λ a. IsEnded w (number_of layout a) u) here ended
+
+      pub moves-on : (m' : Message) → m' ≡ record m { affinity = to } → HasMoved layout v m moment m' u
+      moves-on m' same = record {
+        to = to;
+        message = same;
+        placed = subst (λ (x : Message). IsPlaced layout x) (sym same) (record { node = moved.1.0; run = moved.1.1; room = placed.room });
+        parcels = before;
+        holding = w;
+        begun = begun;
+        granted = left;
+        moves = moved.0.0;
+        ended = ends-so;
+      }
 
       pub back-entries : entries_of u ≡ entries_of v
       back-entries = ended-entries w u (number_of layout node) ends-so ∙ begun-entries v w (number_of layout node) before begun

@@ -237,7 +237,8 @@ module _ (layout : trees.Layout) (before picked tried after : Worker) (moment : 
   turn-did turns.Moved did = (
     did.0,
     did.1,
-    subst (λ (x : FilerView). HasMoved layout x did.0 moment did.1) seat did.4,
+    subst (λ (x : FilerView). HasMoved layout x did.0 moment did.1 (seat_view after)) seat
+        (subst (λ (x : FilerView). HasMoved layout (seat_view picked) did.0 moment did.1 x) (sym last) did.4),
     returned did.0 did.1 did.2 did.3 did.5,
   )
   turn-did (turns.Busy at word) did = (

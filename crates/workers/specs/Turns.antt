@@ -13,7 +13,7 @@ use Rattle.affinity_tree.specs.Affinity.{affinity_of}
 use Rattle.affinity_tree.specs.Numbers.{number_of}
 use Rattle.depot.specs.rule.History.{Behaviour, behaviour, entries_of}
 use Rattle.depot.specs.rule.Plays.{HasAdded}
-use Rattle.depot.specs.Grants.{IsAfter, IsRefused}
+use Rattle.depot.specs.Grants.{IsBegun, IsAfter, IsEnded, IsRefused}
 use Rattle.depot.specs.declared.grants.Refusal.{Refusal}
 use Rattle.depot.specs.declared.grants.Refusal.TheVariants as refusals
 use Rattle.parcels.specs.state.Jobs as jobs
@@ -98,19 +98,24 @@ pub record HasFinished (v : FilerView) (m : Message) (moment : Moment) (a : Addr
   pub between : List FilerEntry
   pub added : HasAdded filer_behaviour v between entry
 
--- the message's call has to move, with the parcels that it was granted, to another node at which it is run
-pub record HasMoved (layout : Layout) (v : FilerView) (m : Message) (moment : Moment) (m' : Message) : Type 0 where
+-- The message's call has to move to another node at which it is run, as the parcels say that it was granted: the seat began a call
+-- on what the message tries, and had just these parcels by that grant, as a history left them that begins with all that the seat had
+-- seen; on them the call moves there; and the grant was put back, without an entry.
+pub record HasMoved (layout : Layout) (v : FilerView) (m : Message) (moment : Moment) (m' : Message) (w : FilerView) : Type 0 where
   pub to : Affinity
   pub message : m' ≡ record m { affinity = to }
   pub placed : IsPlaced layout m'
   pub parcels : ℕ → Option (FilerParcel Files)
+  pub holding : FilerView
+  pub begun : IsBegun v (number_of layout (affinity_of m.affinity)) parcels holding
   pub granted : IsAfter filer_behaviour v (number_of layout (affinity_of m.affinity)) parcels
   pub moves : MovesTo layout (affinity_of m.affinity) (Ask (call_of m.call) (credential_of m.credential)) (moment_of moment) parcels (affinity_of to)
+  pub ended : IsEnded holding (number_of layout (affinity_of m.affinity)) w
 
 -- what came of a message on a seat
 abbrev pub HasServed : Layout → FilerView → Message → Moment → Served → FilerView → Type 0
 HasServed layout v m moment (served.Done a) w = HasFinished v m moment a w
-HasServed layout v m moment (served.Moved m') w = HasMoved layout v m moment m' × (entries_of w ≡ entries_of v)
+HasServed layout v m moment (served.Moved m') w = HasMoved layout v m moment m' w × (entries_of w ≡ entries_of v)
 HasServed layout v m moment (served.Refused back refusal) w = (back ≡ m) × (entries_of w ≡ entries_of v) × IsRefused layout v m.affinity refusal w
 
 -- ---- parts of a turn
@@ -131,7 +136,7 @@ abbrev pub HasTried : Layout → Worker → Moment → Turned → Worker → Typ
 HasTried layout before moment (turns.Done a) after =
     (m : Message) × (before.kept ≡ Some m) × (after.kept ≡ None) × HasFinished (seat_view before) m moment a (seat_view after)
 HasTried layout before moment turns.Moved after =
-    (m m' : Message) × (before.kept ≡ Some m) × (after.kept ≡ Some m') × HasMoved layout (seat_view before) m moment m'
+    (m m' : Message) × (before.kept ≡ Some m) × (after.kept ≡ Some m') × HasMoved layout (seat_view before) m moment m' (seat_view after)
     × (entries_in after ≡ entries_in before)
 HasTried layout before moment (turns.Busy at word) after =
     (m : Message) × (before.kept ≡ Some m) × (after.kept ≡ Some m) × (entries_in after ≡ entries_in before)
@@ -168,7 +173,8 @@ pub record WasIdle (before after : Worker) : Type 0 where
 -- what a turn at a moment did, by its answer
 abbrev pub Did : Layout → Worker → Moment → Turned → Worker → Type 0
 Did layout before moment (turns.Done a) after = HasDone before moment a after
-Did layout before moment turns.Moved after = (m m' : Message) × HasMoved layout (seat_view before) m moment m' × HasReturned before m m' after
+Did layout before moment turns.Moved after =
+    (m m' : Message) × HasMoved layout (seat_view before) m moment m' (seat_view after) × HasReturned before m m' after
 Did layout before moment (turns.Busy at word) after = (m : Message) × HasReturned before m m after
     × IsRefused layout (seat_view before) m.affinity (refusals.Busy at word) (seat_view after)
 Did layout before moment turns.Worn after = (m : Message) × HasReturned before m m after

@@ -45,6 +45,24 @@ pub struct Full<C> {
 #[derive(Clone, Copy)]
 pub struct NoSuchCall;
 
+impl<C> Full<C> {
+    /// The number by which the refusal is told.
+    pub fn number(&self) -> u32
+        ensures { result ≡ 31 }
+    {
+        31
+    }
+}
+
+impl NoSuchCall {
+    /// The number by which the refusal is told.
+    pub fn number(self) -> u32
+        ensures { result ≡ 32 }
+    {
+        32
+    }
+}
+
 /// At most 1,024 messages that wait, one list in the order of their arrival. Only `new` takes
 /// memory.
 #[derive(Drop)]

@@ -6,7 +6,7 @@ ghost use Rattle.bench.specs.Fits.{FitsRecord};
 use crate::codecs::sample::{Sample, get_attributes, lookup, read, write};
 use crate::printing::print_figures;
 use crate::rates::per_second;
-use nfs_types::decode_args;
+use nfs_types::decode_call;
 use nfs_values::{Call, FileHandle, Procedure, Reply, Target};
 use rpc_msg::{Head, read_call, write_reply_record};
 use std::alloc::{AllocError, Global};
@@ -37,7 +37,7 @@ fn kept_by(call: &Call) -> u64 {
 
 /// How many bytes of a record are copied when its arguments are decoded.
 fn copied_by(alloc: Global, procedure: Procedure, arguments: &[u8]) -> u64 {
-    match decode_args(alloc, procedure, arguments) {
+    match decode_call(alloc, procedure, arguments) {
         Ok(call) => {
             let copied = kept_by(&call);
             drop(call);

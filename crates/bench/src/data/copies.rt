@@ -10,6 +10,7 @@ use parcels::{Files, StripeParcel};
 use service_data::{read_in_stripe, write_in_stripe};
 use std::alloc::{AllocError, Global};
 use stripes::Stripe;
+use stripes::cards::CardKind;
 
 /// The bytes of the file.
 pub(crate) const FILE_BYTES: usize = 16_777_216;
@@ -21,7 +22,12 @@ const FILE: Fileid = Fileid(2);
 
 /// Makes a file with all its blocks.
 fn fill(stripe: &mut Stripe) -> Result<(), AllocError> {
-    stripe.set_file_card(FILE, FILE_BYTES as u64)?;
+    stripe.set_card(
+        FILE,
+        CardKind::File {
+            size: FILE_BYTES as u64,
+        },
+    )?;
     for block in 0..FILE_BYTES as u64 / 4096 {
         stripe.insert_block(FILE, block, BlockNumber(block as u32))?;
     }

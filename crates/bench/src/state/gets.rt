@@ -24,12 +24,12 @@ const EMPTY_FILE: Inode = Inode {
     },
 };
 
-/// Creates an empty file, and tells its fileid, or the root's where there are 2^62 already.
+/// Creates an empty file, and tells its fileid, or the root's where there is no room for it.
 pub(crate) fn create_file(inodes: &mut Inodes) -> Result<Fileid, AllocError> {
-    if inodes.next_fileid().0 >= 1 << 62 || inodes.used() >= 1 << 62 {
+    if inodes.next_fileid().0 >= 1 << 62 || inodes.len() >= 65_536 {
         return Ok(Fileid::ROOT);
     }
-    inodes.create(EMPTY_FILE)
+    Ok(inodes.create(EMPTY_FILE)?.keep())
 }
 
 /// Inodes to be looked up.

@@ -8,6 +8,7 @@ use std::alloc::{AllocError, Global};
 use std::rt::Files;
 use std::{fs, io, mem};
 use stripes::Stripe;
+use stripes::cards::CardKind;
 use volume_logical::directories::Directory;
 use volume_logical::inodes::Inodes;
 
@@ -50,7 +51,7 @@ impl Volume {
         let fileid = create_file(&mut self.inodes)?;
         add(alloc, &mut self.directory, name)?;
         for stripe in &mut self.stripes {
-            stripe.set_file_card(fileid, 0)?;
+            stripe.set_card(fileid, CardKind::File { size: 0 })?;
         }
         Ok(())
     }

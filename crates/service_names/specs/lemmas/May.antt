@@ -103,11 +103,7 @@ module _ (p : VolumeContents) (hands hands' : List Hand) (made : ℕ) (few : mad
             shown-some (get (stripe_at p.stripes i).cards root) (get p.logical.inodes.inodes root)
             ((well.stripes i (omega (arith, less, many))).cards root) well.logical.named.root_there;
         fileids = let y = sound.young.fileids in omega (arith, few, y);
-        used =
-            let fits : p.logical.inodes.used ≤ range_blocks * ranges_used p.ranges = used-fits p hands well sound.partition in
-            let ranges = ranges-fit p.ranges in
-            let sixteen = well.sixteen in
-            omega arith;
+        room = let left : nat_le most_inodes (len p.logical.inodes.inodes) ≡ false = room in grind (arith, nat_tests, left);
         links = links-by inode.kind refl (entries_of p.logical d) entered there room;
         entered = entered;
         cookies = let y = sound.young.cookies d (entries_of p.logical d) entered in omega (arith, few, y);

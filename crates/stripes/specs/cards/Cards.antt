@@ -11,6 +11,8 @@ use Rattle.nfs_values.specs.Moment.{moment_of}
 use Rattle.nfs_model.specs.volume.Stripes as values
 use Rattle.stripes.specs.declared.cards.card.Card.{Card}
 use Rattle.stripes.specs.declared.cards.card.Card.TheVariants.{File, Directory}
+use Rattle.stripes.specs.declared.cards.card.CardKind.{CardKind}
+use Rattle.stripes.specs.declared.cards.card.CardKind.TheVariants as kinds
 use Rattle.stripes.specs.declared.cards.packed.Packed.{Packed}
 use Rattle.stripes.specs.declared.cards.packed.Packed.TheVariants as packed
 
@@ -48,3 +50,8 @@ Puts fileid card old new = (q : ℕ) → card_at new q ≡ (if is_at (nat_cmp fi
 -- a map with the card at a key changed, where it has one
 abbrev pub Changes : (values.Card → values.Card) → ℕ → BTreeMap ℕ Packed → BTreeMap ℕ Packed → Type 0
 Changes g fileid old new = (q : ℕ) → card_at new q ≡ (if is_at (nat_cmp fileid) q then option_map g (card_at old q) else card_at old q)
+
+-- a stripe with a card set, where there is one or not: a file's touch stays
+abbrev pub card_set : ℕ → CardKind → values.StripeValue → values.StripeValue
+card_set fileid (kinds.File size) s = values.file_card_set fileid size s
+card_set fileid kinds.Directory s = values.folder_card_set fileid s

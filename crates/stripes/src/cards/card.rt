@@ -21,6 +21,16 @@ pub enum Card {
     Directory,
 }
 
+/// What a card tells but for its touch.
+#[derive(Clone, Copy, Debug, PartialEq, Eq)]
+pub enum CardKind {
+    File {
+        /// In bytes.
+        size: u64,
+    },
+    Directory,
+}
+
 /// A card with the touch set to the later of it and a moment.
 pub(crate) fn touched(card: Card, moment: Moment) -> Card
     ensures { card_of result ≡ card_touched (moment_of moment) (card_of card) }

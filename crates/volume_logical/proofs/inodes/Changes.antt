@@ -1,15 +1,18 @@
 -- What the calls do to the values: each change of the table with the next fileid and the used count.
-use Rattle.std.proofs.Common.{◌≡◌, sym, subst, ap, ◌∙◌, ℕ, ◌+◌, ◌-◌, ◌≤◌, ◌==◌, ◌&&◌, true, false, cond, List, [], ◌∷◌, Option, Some, None, if◌then◌else◌}
+use Rattle.std.proofs.Common.{◌≡◌, refl, sym, subst, ap, ◌∙◌, ℕ, ◌+◌, ◌-◌, ◌<◌, ◌≤◌, ◌==◌, ◌&&◌, Bool, true, false, cond, List, [], ◌∷◌, Option, Some, None, if◌then◌else◌, arith}
 use Rattle.std.specs.BTreeMap.{is_at}
 use Rattle.std.specs.Option.{option_map}
 use Rattle.std.specs.Ordering.{nat_cmp, eq_by_cmp}
 use Rattle.std.specs.Cmp.{nat_cmp_total}
 use Rattle.std.specs.FinMap.{get, insert, remove, empty, from_sorted, get-empty, get-insert, get-from_sorted, same_map, nat_cmp-IsAntisymmetric}
+use Rattle.std.proofs.lemmas.Bool.Decides.{nat_tests}
+use Rattle.std.proofs.lemmas.Map.Views.{exact_unsigned_eq}
 use Rattle.nfs_model.specs.Types.{Moment}
+use Rattle.nfs_model.specs.volume.Inodes as values
 use Rattle.nfs_values.specs.declared.number.Fileid.{Fileid}
 use Rattle.nfs_model.specs.volume.Inodes.{IsInodes, InodesValue, filled_blocks, opening_inodes, root_inode}
 use Rattle.nfs_model.specs.volume.Inodes.{settled_inode, inode_settled, inode_replaced, inode_set, inode_created, inode_dropped, inode_unmade, used_without}
-use Rattle.nfs_model.specs.volume.lemmas.Inodes.{filled-within, unmade-is}
+use Rattle.nfs_model.specs.volume.lemmas.Inodes.{filled-within, inode-dropped-there}
 use Rattle.volume_logical.specs.declared.inodes.inode.Inode.{Inode}
 use Rattle.volume_logical.specs.inodes.Inode.{inode_value, kind_value, inode_map, inodes_value}
 use Rattle.volume_logical.proofs.inodes.Tables.{found, get-found, inserted, removed, replaced, unchanged, changed}
@@ -39,7 +42,7 @@ module _ (next : Fileid) (used : ℕ) (old new : List (ℕ × Inode)) where
       → inodes_value next used new ≡ inode_settled k touch (inodes_value next used old)
   settled k touch h = ap (λ m. record { next = next.0; used = used; inodes = m }) (changed (settled_inode touch) old new k h)
 
-  has : (k : ℕ) (o : Option Inode) → o ≡ found old k → get (inode_map old) k ≡ option_map inode_value o
+  pub has : (k : ℕ) (o : Option Inode) → o ≡ found old k → get (inode_map old) k ≡ option_map inode_value o
   has k o h = get-found old k ∙ ap (option_map inode_value) (sym h)
 
   -- what is there is among the used blocks
@@ -74,5 +77,26 @@ module _ (next : Fileid) (used : ℕ) (old new : List (ℕ × Inode)) where
       ∙ ap (λ o. record { next = next.0; used = used_without used o; inodes = remove (inode_map old) k }) (sym (has k None h))
 
 -- what is left without the inode made last
-pub unmade : (v w : InodesValue) → w ≡ inode_dropped (v.next - 1) v → IsInodes v → IsInodes (record w { next = v.next - 1 })
-unmade v w e i = kept (record w { next = v.next - 1 }) (inode_unmade v) (ap (λ (x : InodesValue). record x { next = v.next - 1 }) e) (unmade-is v i)
+pub unmade : (v w : InodesValue) (fileid : ℕ) → v.next ≡ fileid + 1 → w ≡ inode_dropped fileid v → record w { next = fileid } ≡ inode_unmade v
+unmade v w fileid n e =
+    let last : fileid ≡ v.next - 1 = omega (arith, n) in
+    ap (λ (x : InodesValue). record x { next = fileid }) e ∙ ap (λ (q : ℕ). record (inode_dropped q v) { next = q }) last
+
+-- its fileid is the next again: no inode stands there
+pub lowered-is : (v w : InodesValue) (fileid : ℕ) → v.next ≡ fileid + 1 → w ≡ inode_dropped fileid v → IsInodes w → IsInodes (record w { next = fileid })
+lowered-is v w fileid n e i = record {
+  fileids = λ q y h. by q y (q == fileid) refl h;
+  filled = i.filled;
+}
+  where
+    absent : get w.inodes fileid ≡ None
+    absent = ap (λ (x : InodesValue). get x.inodes fileid) e ∙ inode-dropped-there v fileid
+
+    by : (q : ℕ) (y : values.Inode) (b : Bool) → b ≡ (q == fileid) → get w.inodes q ≡ Some y → q < fileid
+    by q y true p h =
+        let none : Some y ≡ None = sym h ∙ (ap (get w.inodes) (exact_unsigned_eq q fileid (sym p)) ∙ absent) in
+        absurd cc
+    by q y false p h =
+        let l = i.fileids q y h in
+        let last : w.next ≡ fileid + 1 = ap (λ (x : InodesValue). x.next) e ∙ n in
+        grind (arith, nat_tests, p, l, last)

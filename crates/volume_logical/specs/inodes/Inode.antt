@@ -1,16 +1,16 @@
 -- Inodes as the values have them.
-use Rattle.std.specs.Prelude.{◌≡◌, ℕ, ◌==◌, List, map, Option, if◌then◌else◌}
+use Rattle.std.specs.Prelude.{◌≡◌, ℕ, ◌<◌, ◌≤◌, ◌^◌, ◌==◌, List, map, Option, Some, if◌then◌else◌}
 use Rattle.std.specs.Option.{option_map}
 use Rattle.std.specs.Ordering.{nat_cmp}
-use Rattle.std.specs.FinMap.{FinMap, from_entries}
+use Rattle.std.specs.FinMap.{FinMap, from_entries, get, len}
 use Rattle.std.specs.BTreeMap as btree
-use Rattle.nfs_model.specs.Server.{Attributes}
+use Rattle.nfs_model.specs.Server.{Attributes, most_inodes}
 use Rattle.nfs_values.specs.Moment.{moment_of}
 use Rattle.nfs_values.specs.declared.moment.Moment.{Moment}
 use Rattle.nfs_values.specs.declared.number.Fileid.{Fileid}
 use Rattle.nfs_values.specs.declared.verifier.Verifier.{Verifier}
 use Rattle.nfs_model.specs.volume.Inodes as values
-use Rattle.nfs_model.specs.volume.Inodes.{InodesValue}
+use Rattle.nfs_model.specs.volume.Inodes.{InodesValue, filled_blocks}
 use Rattle.volume_logical.specs.declared.inodes.inode.StoredAttributes.{StoredAttributes}
 use Rattle.volume_logical.specs.declared.inodes.inode.InodeKind.{InodeKind}
 use Rattle.volume_logical.specs.declared.inodes.inode.InodeKind.TheVariants.{RegularFile, Directory}
@@ -45,3 +45,8 @@ abbrev pub HasSettled : ℕ → Option Moment → btree.BTreeMap ℕ Inode → b
 HasSettled fileid touch old new = (q : ℕ) → option_map inode_value (btree.get nat_cmp new q)
     ≡ (if q == fileid then option_map (λ (i : Inode). values.settled_inode (option_map moment_of touch) (inode_value i)) (btree.get nat_cmp old q)
     else option_map inode_value (btree.get nat_cmp old q))
+
+-- There are at most 65,536 inodes, and the filled blocks of each are a u32, so that the used count is far below 2^63.
+pub record AreFew (v : InodesValue) : Type 0 where
+  pub few : len v.inodes ≤ most_inodes
+  pub counts : (fileid : ℕ) (inode : values.Inode) → get v.inodes fileid ≡ Some inode → filled_blocks inode.kind < 2 ^ 32

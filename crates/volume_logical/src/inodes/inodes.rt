@@ -6,6 +6,7 @@ ghost use Rattle.std.specs.Prelude.{
   ◌<◌,
   ◌^◌,
   ◌&&◌,
+  ◌+◌,
   ◌-◌,
   true,
   ℕ,
@@ -21,6 +22,7 @@ ghost use Rattle.std.specs.Option.{option_map};
 ghost use Rattle.std.specs.Ordering.{nat_cmp};
 ghost use Rattle.std.specs.FinMap.{len};
 ghost use Rattle.std.specs.BTreeMap as btree;
+ghost use Rattle.nfs_model.specs.Server.{most_inodes};
 ghost use Rattle.nfs_values.specs.Moment.{moment_of};
 ghost use Rattle.nfs_model.specs.volume.Inodes.{
   IsInodes,
@@ -34,6 +36,7 @@ ghost use Rattle.nfs_model.specs.volume.Inodes.{
 };
 ghost use Rattle.volume_logical.specs.inodes.Inode.{inode_value, HasSettled};
 
+use crate::inodes::created::Created;
 use crate::inodes::inode::Inode;
 use nfs_values::{Fileid, Moment};
 use std::alloc::{AllocError, Global};
@@ -61,7 +64,7 @@ impl Drop for Inodes {
 impl Model for Inodes {
     ghost use Rattle.nfs_model.specs.volume.Inodes.{InodesValue, IsInodes};
     ghost use Rattle.nfs_model.specs.volume.Codes.{coded_inodes};
-    ghost use Rattle.volume_logical.specs.inodes.Inode.{inodes_value};
+    ghost use Rattle.volume_logical.specs.inodes.Inode.{inodes_value, AreFew};
 
     ghost Value = { InodesValue };
 
@@ -69,7 +72,8 @@ impl Model for Inodes {
 
     ghost view = { λ i. inodes_value i.next i.used i.by_fileid.entries };
 
-    ghost invariant = { λ i. IsInodes (inodes_value i.next i.used i.by_fileid.entries) };
+    ghost invariant = { λ i. IsInodes (inodes_value i.next i.used i.by_fileid.entries)
+        × AreFew (inodes_value i.next i.used i.by_fileid.entries) };
 }
 
 impl Inodes {
@@ -93,7 +97,7 @@ impl Inodes {
         look_up(&self.by_fileid, fileid)
     }
 
-    /// The number of inodes. A volume has at most 65,536, which whoever creates one sees to.
+    /// The number of inodes, at most 65,536.
     pub fn len(&self) -> usize
         ensures { result ≡ len self.now.inodes }
     {
@@ -125,7 +129,6 @@ impl Inodes {
 
     /// Replaces the inode of a fileid. Nothing changes where there is none. It takes no memory.
     pub fn set(&mut self, fileid: Fileid, inode: Inode)
-        requires { self.old.used < 2 ^ 63 }
         ensures { self.new ≡ inode_set fileid.0 (inode_value inode) self.old }
     {
         if let Some(old) = replace(&mut self.by_fileid, fileid, inode) {
@@ -134,13 +137,12 @@ impl Inodes {
         }
     }
 
-    /// Adds an inode under the next fileid, which is the result and isn't given again. Where
-    /// there is no memory for it nothing changes. That there are fewer than 65,536 (`len`) is for
-    /// the caller to see to.
-    pub fn create(&mut self, inode: Inode) -> Result<Fileid, AllocError>
+    /// Adds an inode, where there are fewer than 65,536 (`len`), under the next fileid. Once that
+    /// is kept it isn't given again. Where there is no memory for it nothing changes.
+    pub fn create(&mut self, inode: Inode) -> Result<Created, AllocError>
         requires fileids { self.old.next < 2 ^ 63 }
-        requires used { self.old.used < 2 ^ 63 }
-        ensures fileid { IfOk result (λ fileid. fileid.0 ≡ self.old.next) }
+        requires room { len self.old.inodes < most_inodes }
+        ensures fileid { IfOk result (λ created. created ≡ self.old.next) }
         ensures ok { OnOk result (self.new ≡ inode_created (inode_value inode) self.old) }
         ensures err { OnErr result (self.new ≡ self.old) }
     {
@@ -148,7 +150,7 @@ impl Inodes {
         self.by_fileid.insert(fileid.0, inode)?;
         self.next = Fileid(fileid.0 + 1);
         self.used += u64::from(inode.kind.filled());
-        Ok(fileid)
+        Ok(Created::of(fileid))
     }
 
     /// Removes the inode of a fileid, if there is one. Its fileid isn't given again. It takes no
@@ -161,14 +163,14 @@ impl Inodes {
         }
     }
 
-    /// Undoes the creation that came last, for a call that couldn't get all its memory: the
-    /// inode is gone, and its fileid, which nobody was told, is the next again. It takes no
-    /// memory.
-    pub fn undo_create(&mut self)
-        requires { is_some (inode_of self.old (self.old.next - 1)) ≡ true }
+    /// Undoes a creation, the one that came last, for a call that couldn't get all its memory: the
+    /// inode is gone, and its fileid, which wasn't kept, is the next again. It takes no memory.
+    pub fn undo_create(&mut self, created: Created)
+        requires last { self.old.next ≡ created + 1 }
+        requires there { is_some (inode_of self.old created) ≡ true }
         ensures { self.new ≡ inode_unmade self.old }
     {
-        let fileid = Fileid(self.next.0 - 1);
+        let fileid = created.keep();
         self.drop_node(fileid);
         self.next = fileid;
     }

@@ -5,5 +5,5 @@ use Rattle.parcels.proofs.opening.opening_stripe.Goals as goal
 pub returns : goal.returns
 returns c =
     if_ok (λ parcel is. is
-    ∙ stripe-begun c.args.verifier.0 c.args.stripes c.args.largest c.new-stripe.result c.set_directory_card.new.self c.new-stripe.ensures
-    c.in_ok-set_directory_card.ensures.ok) c.new.result c.new.ensures
+    ∙ stripe-begun c.args.verifier.0 c.args.stripes c.args.largest c.new-stripe.result c.set_card.new.self c.new-stripe.ensures
+    c.in_ok-set_card.ensures.ok) c.new.result c.new.ensures

@@ -3,14 +3,16 @@ use Rattle.nfs_values.specs.Moment.{moment_of}
 use Rattle.nfs_model.specs.volume.lemmas.Inodes.{settled-is}
 use Rattle.volume_logical.specs.inodes.Inode.{inodes_value}
 use Rattle.volume_logical.proofs.inodes.Changes.{kept, settled}
+use Rattle.volume_logical.proofs.inodes.Few.{kept-few, settled-few}
 use Rattle.volume_logical.proofs.inodes.inodes.Inodes.settle.Goals as goal
 
 pub invariant_of-self : goal.invariant_of-self
 invariant_of-self c =
-    let old = c.self.inside.by_fileid.entries in
+    let old = inodes_value c.self.inside.next c.self.inside.used c.self.inside.by_fileid.entries in
     let touch = option_map moment_of c.args.touch in
-    kept _ _ (settled c.self.inside.next c.self.inside.used old c.settle_at.new.inodes.entries c.args.fileid.0 touch c.settle_at.ensures)
-    (settled-is (inodes_value c.self.inside.next c.self.inside.used old) c.args.fileid.0 touch c.self.invariant)
+    let is = settled c.self.inside.next c.self.inside.used c.self.inside.by_fileid.entries c.settle_at.new.inodes.entries c.args.fileid.0 touch
+    c.settle_at.ensures in
+    (kept _ _ is (settled-is old c.args.fileid.0 touch c.self.invariant.0), kept-few _ _ is (settled-few old c.args.fileid.0 touch c.self.invariant.1))
 
 pub returns : goal.returns
 returns c =

@@ -1,12 +1,20 @@
-use Rattle.std.proofs.Common.{◌-◌, ◌∙◌, sym, ap}
-use Rattle.nfs_model.specs.volume.Inodes.{InodesValue, inode_dropped}
+use Rattle.std.proofs.Common.{◌≡◌, ◌+◌, ◌∙◌, ℕ, sym, ap}
+use Rattle.nfs_model.specs.volume.Inodes.{InodesValue}
 use Rattle.volume_logical.specs.inodes.Inode.{inodes_value}
-use Rattle.volume_logical.proofs.inodes.Changes.{unmade}
+use Rattle.volume_logical.proofs.inodes.Changes.{unmade, lowered-is}
+use Rattle.volume_logical.proofs.inodes.Few.{lowered-few}
 use Rattle.volume_logical.proofs.inodes.inodes.Inodes.undo_create.Goals as goal
 
 pub invariant_of-self : goal.invariant_of-self
 invariant_of-self c =
-    unmade (inodes_value c.self.inside.next c.self.inside.used c.self.inside.by_fileid.entries)
-    (inodes_value c.self-2.inside.next c.self-2.inside.used c.self-2.inside.by_fileid.entries)
-    (c.self-2.view_is ∙ (c.drop_node.ensures ∙ ap (λ (v : InodesValue). inode_dropped (c.self.inside.next.0 - 1) v) (sym c.self.view_is)))
-    c.self.invariant
+    let left = inodes_value c.self.inside.next c.self.inside.used c.self.inside.by_fileid.entries in
+    let last : c.args.self.now.next ≡ c.keep-fileid.result.0 + 1 = c.requires.last ∙ ap (λ (n : ℕ). n + 1) (sym c.keep-fileid.ensures) in (
+      lowered-is c.args.self.now left c.keep-fileid.result.0 last (c.self.view_is ∙ c.drop_node.ensures) c.self.invariant.0,
+      lowered-few left c.keep-fileid.result.0 c.self.invariant.1,
+    )
+
+pub returns : goal.returns
+returns c =
+    let left = inodes_value c.self.inside.next c.self.inside.used c.self.inside.by_fileid.entries in
+    let last : c.args.self.now.next ≡ c.keep-fileid.result.0 + 1 = c.requires.last ∙ ap (λ (n : ℕ). n + 1) (sym c.keep-fileid.ensures) in
+    unmade c.args.self.now left c.keep-fileid.result.0 last (c.self.view_is ∙ c.drop_node.ensures)

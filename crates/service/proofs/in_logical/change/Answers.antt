@@ -21,7 +21,7 @@ use Rattle.service.specs.renames.NamePromises.{Creates, MakesDirectory, Removes,
 use Rattle.service_data.specs.Writing.{written_outcome}
 use Rattle.service.specs.Running.{call_named, outcome_of, RunsThere}
 use Rattle.service.proofs.Runs.{served-runs, writing-runs, unless-written}
-use Rattle.service.proofs.run.change.Goals as goal
+use Rattle.service.proofs.in_logical.change.Goals as goal
 
 pub returns-in-SetAttributes-clause-runs : goal.returns-in-SetAttributes-clause-runs
 returns-in-SetAttributes-clause-runs c =

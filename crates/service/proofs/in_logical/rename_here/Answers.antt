@@ -7,7 +7,7 @@ use Rattle.parcels.specs.state.Sets.{logical_before, logical_after}
 use Rattle.service.specs.renames.Promises.{Renames}
 use Rattle.service.specs.Running.{outcome_of}
 use Rattle.service.proofs.Runs.{renaming-runs}
-use Rattle.service.proofs.run.rename_here.Goals as goal
+use Rattle.service.proofs.in_logical.rename_here.Goals as goal
 
 pub returns-clause-runs : goal.returns-clause-runs
 returns-clause-runs c =

@@ -7,7 +7,7 @@ use Rattle.parcels.specs.state.Lenses.{logical_lens}
 use Rattle.parcels.specs.state.Sets.{logical_before, logical_after}
 use Rattle.service.specs.Running.{outcome_of}
 use Rattle.service.proofs.Runs.{runs-here}
-use Rattle.service.proofs.run.run_on_logical.Goals as goal
+use Rattle.service.proofs.in_logical.run_on_logical.Goals as goal
 
 pub returns-then-is_told-clause-runs : goal.returns-then-is_told-clause-runs
 returns-then-is_told-clause-runs c =

@@ -18,7 +18,7 @@ use Rattle.parcels.specs.state.Sets.{logical_before}
 use Rattle.service.specs.renames.NamePromises.{LooksUp}
 use Rattle.service.specs.Running.{call_named, outcome_of}
 use Rattle.service.proofs.Runs.{served-runs}
-use Rattle.service.proofs.run.tell.Goals as goal
+use Rattle.service.proofs.in_logical.tell.Goals as goal
 
 pub returns-in-GetAttributes : goal.returns-in-GetAttributes
 returns-in-GetAttributes c =

@@ -1,0 +1,41 @@
+//! A call run on the parcels of a node of any kind.
+
+ghost use Rattle.affinity_tree.specs.Affinity.{affinity_of};
+ghost use Rattle.affinity_tree.specs.Layout.{layout_of};
+ghost use Rattle.affinity_tree.specs.Tree.{IsNode};
+ghost use Rattle.nfs_values.specs.Credential.{credential_of};
+ghost use Rattle.nfs_values.specs.Moment.{moment_of};
+ghost use Rattle.parcel_sets.specs.Exact.{kind_in, HasExactly};
+ghost use Rattle.service.specs.Running.{AsksFor, HasRun};
+
+use crate::outcome::Outcome;
+use crate::task::Run;
+use affinity_tree::{Affinity, Layout};
+use desk::{ParcelKinds, TaskNode};
+use parcel_sets::Parcel;
+use parcels::Files;
+
+/// Runs a call on the parcels of a node of any kind, at which it is run: under its home, or above it
+/// where it moved. It sees these parcels alone. A reply is what the serial server does on all that
+/// is stored, whatever the other parcels are; a starved call, and one that has to run elsewhere,
+/// changes nothing.
+pub fn run<N: TaskNode<Parcel<Files>, ParcelKinds>>(
+    task: Run,
+    layout: &Layout,
+    affinity: Affinity,
+    held: &mut N::Held,
+) -> Outcome
+    requires node { IsNode (layout_of layout.now) (affinity_of affinity) }
+    requires exact { let L = layout_of layout.now in let a = affinity_of affinity in
+        HasExactly kind_in L a (N.parcels L a held.old) }
+    requires asks { let L = layout_of layout.now in let a = affinity_of affinity in
+        AsksFor task.call.now L a (N.parcels L a held.old) }
+    ensures exact { let L = layout_of layout.now in let a = affinity_of affinity in
+        HasExactly kind_in L a (N.parcels L a held.new) }
+    ensures runs { let L = layout_of layout.now in let a = affinity_of affinity in
+        HasRun task.entry.call.now
+        (credential_of task.entry.credential) (moment_of task.entry.moment)
+        L a (N.parcels L a held.old) result (N.parcels L a held.new) }
+{
+    N::work::<Run>(task, layout, affinity, held)
+}
