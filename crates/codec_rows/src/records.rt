@@ -70,9 +70,9 @@ fn tells_a_fault_again(rt: HostRuntime) {
     let mut reassembler = Reassembler::new(rt.alloc());
     for wanted in [4, 0] {
         let (looked, look) = reassembler.look(&header);
-        holds(&rt, looked == wanted && matches!(look, Look::Fault));
+        holds(&rt, looked == wanted && look.number() == Some(11));
         let (taken, step) = reassembler.feed(&header);
-        let is_fault = matches!(&step, Step::Fault);
+        let is_fault = step.number() == Some(11);
         mem::forget(step);
         holds(&rt, taken == wanted && is_fault);
     }
