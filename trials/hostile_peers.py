@@ -24,11 +24,11 @@ from peers import (
     reset,
     write_arguments,
 )
-from plain import words
+from plain import accepted, words
 from stream_rows import JOINED, LIMITS, ROWS, WAITS, octets
 
 # More than the trials take.
-CONNECTIONS = 400
+CONNECTIONS = 600
 KIB = 1024
 PIECE = 64 * KIB
 
@@ -126,7 +126,9 @@ def fault_behind_calls(address):
         stream = b"".join(call(xid, xid % 2, handle(0) if xid % 2 else b"") for xid in range(200)) + fault
         peer = connect(address)
         peer.sendall(stream)
-        compare(stream, *read_all(peer))
+        data, was_reset = read_all(peer)
+        compare(stream, data, was_reset)
+        hold(not was_reset, "a reset where all bytes were taken")
         peer.close()
 
 
@@ -266,18 +268,39 @@ def is_beginning(client, file, pieces):
     return not any(any(data) for data in found[count:])
 
 
-def many_faults(address):
-    """All places of the server are taken by peers that wait, go wrong, or end, by turns."""
-    waiting = [connect(address) for _ in range(40)]
+def many_at_once(address):
+    """Many peers wait in the midst of a record, go wrong, or end, while others are served."""
+    streams = (octets("ffffffff"), JOINED, JOINED[:30], octets("80020000 00000001"))
+    waiting = [connect(address) for _ in range(44)]
     with Others(address):
         for place, peer in enumerate(waiting):
-            peer.sendall((octets("ffffffff"), JOINED, JOINED[:30])[place % 3])
+            peer.sendall(streams[place % 4])
         for place, peer in enumerate(waiting):
-            stream = (octets("ffffffff"), JOINED, JOINED[:30])[place % 3]
-            if place % 3:
+            if place % 4:
                 peer.shutdown(socket.SHUT_WR)
-            compare(stream, *read_all(peer))
+            compare(streams[place % 4], *read_all(peer))
             peer.close()
+
+
+def more_than_places(address):
+    """Where 64 connections are open, those behind them are served once others have ended."""
+    peers = [connect(address) for _ in range(80)]
+    for xid, peer in enumerate(peers):
+        peer.sendall(call(xid, 0))
+        peer.shutdown(socket.SHUT_WR)
+    for xid, peer in enumerate(peers):
+        hold(read_all(peer) == (accepted(xid, 0), False), f"the reply to peer {xid} of 80")
+        peer.close()
+    peers = [connect(address) for _ in range(64)]
+    for peer in peers:
+        peer.sendall(call(1, 0))
+        hold(peer.recv(28) == accepted(1, 0), "the reply to one of 64 peers")
+    late = connect(address)
+    late.sendall(call(2, 0))
+    reset(peers.pop())
+    hold(late.recv(28) == accepted(2, 0), "the reply to the peer behind 64 others")
+    for peer in [*peers, late]:
+        peer.close()
 
 
 TRIALS = [
@@ -288,7 +311,8 @@ TRIALS = [
     resets_in_a_call,
     closes_at_once,
     closes_while_calls_run,
-    many_faults,
+    many_at_once,
+    more_than_places,
     never_reads,
     never_read_and_gone,
 ]

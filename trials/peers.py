@@ -1,6 +1,7 @@
 """A server over TCP, known by its address and by what it prints alone, and peers that talk to it."""
 
 import contextlib
+import errno
 import socket
 import struct
 import subprocess
@@ -83,9 +84,10 @@ def connect(address, source="127.0.0.1", small=False):
             return peer
         except OSError as error:
             peer.close()
-            last = error
+            if error.errno not in (errno.EADDRNOTAVAIL, errno.EADDRINUSE):
+                raise
             time.sleep(0.1)
-    raise last
+    raise Differs("no port is free")
 
 
 def reset(peer):

@@ -36,19 +36,26 @@ class Case:
     def __init__(self, name, pieces, number, is_empty):
         """`is_empty`: nothing changed on the server so far."""
         self.name, self.pieces, self.number = name, pieces, number
-        self.lines, self.steps, self.is_empty = [], [], is_empty
+        self.is_empty = is_empty
+        self.lines, self.steps, self.parts = [], [], []
         stream = Stream(VOLUMES)
         for piece in pieces:
-            self.lines.append(f"feed {number} {word_of(piece)}")
-            if stream.fault:
-                self.steps.append("refused 36")
-                continue
-            taken, fault, heard = stream.feed(piece)
-            self.steps.append(f"taken {taken} stop {fault}")
-            self.steps += [f"out {number} {reply.hex()}" for reply in heard if not isinstance(reply, Call)]
-            waiting = [found for found in heard if isinstance(found, Call)]
-            if waiting:
-                self.run(waiting)
+            line, step = len(self.lines), len(self.steps)
+            self.feed(stream, piece)
+            self.parts.append((self.lines[line:], self.steps[step:]))
+
+    def feed(self, stream, piece):
+        """A piece is fed, and the calls that it brings are run."""
+        self.lines.append(f"feed {self.number} {word_of(piece)}")
+        if stream.fault:
+            self.steps.append("refused 36")
+            return
+        taken, fault, heard = stream.feed(piece)
+        self.steps.append(f"taken {taken} stop {fault}")
+        self.steps += [f"out {self.number} {reply.hex()}" for reply in heard if not isinstance(reply, Call)]
+        waiting = [found for found in heard if isinstance(found, Call)]
+        if waiting:
+            self.run(waiting)
 
     def run(self, calls):
         """Calls that wait are begun, worked and finished, in as many rounds as they may need."""
@@ -93,14 +100,17 @@ class Case:
         if waiting:
             raise Differs("a call moved too often")
 
-    def compare(self, lines):
-        """Looks whether these are the lines of the case."""
-        expect(lines, f"conn {self.number}")
-        for step in self.steps:
+    def compare_steps(self, lines, steps):
+        for step in steps:
             if isinstance(step, str):
                 expect(lines, step)
             else:
                 self.compare_rounds(lines, *step)
+
+    def compare(self, lines):
+        """Looks whether these are the lines of the case."""
+        expect(lines, f"conn {self.number}")
+        self.compare_steps(lines, self.steps)
         expect(lines, f"closed {self.number}")
         expect(lines, "nothing")
 
@@ -148,6 +158,44 @@ def play(filer, streams):
     return passed + (status == wanted), failures
 
 
+def play_at_once(filer, seed):
+    """64 changed streams, each on its connection, whose pieces come by turns."""
+    rng = random.Random(seed)
+    streams = rng.sample([changed for _, _, changed in changed_bytes()], 64)
+    cases = []
+    for number, stream in enumerate(streams):
+        cuts = sorted(rng.randrange(len(stream) + 1) for _ in range(8))
+        pieces = [stream[i:k] for i, k in zip([0] + cuts, cuts + [len(stream)])]
+        cases.append(Case(f"stream {number}", pieces, number, True))
+    turns = [case for case in cases for _ in case.parts]
+    rng.shuffle(turns)
+    rest = {case.number: iter(case.parts) for case in cases}
+    turns = [(case, *next(rest[case.number])) for case in turns]
+    script = LAYOUT + ["open"] * 64
+    for _, fed, _ in turns:
+        script += fed
+    lines, _ = replay(filer, script + [f"close {case.number}" for case in cases])
+    found = iter(lines)
+    try:
+        for case in cases:
+            expect(found, f"conn {case.number}")
+        for case, _, steps in turns:
+            case.compare_steps(found, steps)
+        for case in cases:
+            expect(found, f"closed {case.number}")
+        expect(found, "nothing")
+    except (Differs, ValueError) as difference:
+        return 0, [f"64 streams by turns, seed {seed}: {difference}"]
+    return 1, []
+
+
+def changed_bytes():
+    """The joined rows with each byte changed in three ways, and which it is."""
+    for i, byte in enumerate(JOINED):
+        for name, other in (("00", 0), ("ff", 255), ("its top bit turned", byte ^ 128)):
+            yield f"byte {i} changed, {name}", i, JOINED[:i] + bytes([other]) + JOINED[i + 1 :]
+
+
 def changed_streams():
     """The joined rows: cut in two everywhere, each beginning, each byte changed in three ways."""
     size = len(JOINED)
@@ -156,12 +204,10 @@ def changed_streams():
     for i in range(size + 1):
         yield f"cut at {i}", [JOINED[:i], JOINED[i:]]
         yield f"the first {i} bytes", [JOINED[:i]]
-    for i in range(size):
-        for name, byte in (("00", 0), ("ff", 255), ("its top bit turned", JOINED[i] ^ 128)):
-            changed = JOINED[:i] + bytes([byte]) + JOINED[i + 1 :]
-            yield f"byte {i} changed, {name}", [changed]
-            yield f"byte {i} changed, {name}, and cut there", [changed[:i], changed[i:]]
-            yield f"byte {i} changed, {name}, one by one", [changed[k : k + 1] for k in range(size)][:i + 80]
+    for name, i, changed in changed_bytes():
+        yield name, [changed]
+        yield f"{name}, and cut there", [changed[:i], changed[i:]]
+        yield f"{name}, one by one near it", [changed[:i], *(changed[k : k + 1] for k in range(i, i + 80)), changed[i + 80 :]]
 
 
 def made_streams(seed, count):
@@ -204,17 +250,21 @@ def play_rows(filer):
 
 def job(task):
     kind, filer, argument = task
-    if kind == "rows":
-        return play_rows(filer)
-    if kind == "made":
-        return play(filer, list(made_streams(*argument)))
-    return play(filer, argument)
+    try:
+        if kind == "rows":
+            return play_rows(filer)
+        if kind == "at once":
+            return play_at_once(filer, argument)
+        return play(filer, list(made_streams(*argument)) if kind == "made" else argument)
+    except (OSError, subprocess.TimeoutExpired) as error:
+        return 0, [f"a script ({kind}): {error}"]
 
 
 def run(filer, pool, seed, scripts, count):
     """All of it. Answers how many passed, and the failures."""
     tasks = [("rows", filer, None)]
     tasks += [("changed", filer, part) for part in in_parts(changed_streams(), 150)]
+    tasks += [("at once", filer, seed + k) for k in range(20)]
     tasks += [("made", filer, (seed + k, count)) for k in range(scripts)]
     passed, failures = 0, []
     for good, bad in pool.imap_unordered(job, tasks):

@@ -2,7 +2,7 @@
 
 use crate::bytes::{bytes_of, holds, same};
 use nfs_values::Reply;
-use rpc_msg::{Request, read_record};
+use rpc_msg::{RecordFault, Request, read_record};
 use rpc_record::{Look, Reassembler, Step, frame, put_header};
 use std::mem;
 use std::process::Abort;
@@ -118,6 +118,21 @@ fn a_fragment_may_be_too_long_by_itself(rt: HostRuntime) {
     let mut reassembler = Reassembler::new(rt.alloc());
     let (taken, step) = reassembler.feed(&[0xff, 0xff, 0xff, 0xff]);
     holds(&rt, taken == 4 && matches!(&step, Step::Fault));
+    mem::forget((reassembler, step));
+}
+
+#[test]
+fn an_empty_record_is_no_call(rt: HostRuntime) {
+    let mut reassembler = Reassembler::new(rt.alloc());
+    let (taken, step) = fed(&rt, &mut reassembler, &[0x80, 0, 0, 0]);
+    let is_fault = match &step {
+        Step::Record(made) => matches!(
+            read_record(rt.alloc(), made),
+            Err(RecordFault::BadHeader)
+        ),
+        _ => false,
+    };
+    holds(&rt, taken == 4 && is_fault);
     mem::forget((reassembler, step));
 }
 

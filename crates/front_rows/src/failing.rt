@@ -35,7 +35,7 @@ fn records_in(bytes: usize) -> usize {
 /// fails.
 fn up_to(bytes: usize, reads: usize) -> Row {
     let records = records_in(bytes);
-    let calls = usize::from(records > 2);
+    let calls = usize::from(records > 2).min(CALLS.len());
     let replies = records.saturating_sub(calls).min(JOINED_REPLIES.len());
     Row {
         stream: &JOINED,
