@@ -249,9 +249,9 @@ def closes_while_calls_run(address):
             reset(peer) if is_reset else peer.shutdown(socket.SHUT_RDWR)
             sender.join()
             peer.close()
+            is_done = lambda: client.read(file, 0, 1) == b"\1"
+            hold(k % 3 or until(is_done), "a call that came whole before its peer closed isn't done")
             hold(until(lambda: is_beginning(client, file, pieces)), "calls are done that aren't a beginning of those sent")
-            done = client.read(file, 0, 1) == b"\1"
-            hold(done or k % 3, "a call that came whole before its peer closed isn't done")
             client.ask(12, handle(0) + opaque(b"run%d" % (k % 2)))
     client.close()
 
@@ -262,10 +262,13 @@ def send_quietly(peer, stream):
 
 
 def is_beginning(client, file, pieces):
-    """Whether the pieces that a file has are those up to some place, each whole."""
+    """Whether the pieces that a file has are those up to some place, each whole, and stay so for a while."""
     found = [client.read(file, i * PIECE, PIECE) for i in range(len(pieces))]
     count = next((i for i, (data, piece) in enumerate(zip(found, pieces)) if data != piece), len(pieces))
-    return not any(any(data) for data in found[count:])
+    if any(any(data) for data in found[count:]):
+        return False
+    time.sleep(0.05)
+    return count == len(pieces) or not any(client.read(file, count * PIECE, PIECE))
 
 
 def many_at_once(address):

@@ -75,11 +75,12 @@ def run(filer, pool, jobs, seed, streams):
             for good, bad in pool.imap_unordered(job, tasks):
                 passed += good
                 failures += bad
-            last = Client(server.address)
-            last.null()
-            last.close()
-            server.end()
-            passed += 1
+            if not failures:
+                last = Client(server.address)
+                last.null()
+                last.close()
+                server.end()
+                passed += 1
     except (Differs, OSError) as difference:
         failures.append(f"the server of generated streams: {difference}")
     return passed, failures
