@@ -62,7 +62,8 @@ def arguments(rng, procedure):
     if procedure == 14:
         return handle(rng) + name(rng) + handle(rng) + name(rng)
     if procedure == 16:
-        return handle(rng) + struct.pack(">Q8sI", rng.choice((0, 0, 1, 2, 3, 2**64 - 1)), bytes(8), rng.choice((0, 103, 104, 159, 160, 2000, 2**32 - 1)))
+        cookie, count = rng.choice((0, 0, 1, 2, 3, 2**64 - 1)), rng.choice((0, 103, 104, 159, 160, 2000, 2**32 - 1))
+        return handle(rng) + struct.pack(">Q8sI", cookie, bytes(8), count)
     return b""
 
 
@@ -74,13 +75,16 @@ def credential(rng):
         groups = rng.choice((0, 1, 16, 17))
         body = words(rng.randrange(2**32)) + opaque(b"m" * rng.choice((0, 1, 7, 255, 256))) + words(1000, 100, groups)
         return words(1) + opaque(body + words(*range(groups)))
-    return words(rng.choice((0, 0, 1, 2, 6))) + opaque(rng.randbytes(rng.choice((0, 1, 3, 4, 400, 401))), rng.choice((None, None, rng.choice(HUGE))))
+    body = rng.randbytes(rng.choice((0, 1, 3, 4, 400, 401)))
+    return words(rng.choice((0, 0, 1, 2, 6))) + opaque(body, rng.choice((None, None, rng.choice(HUGE))))
 
 
 def call(rng):
     """A real call of any procedure, with all of its parts, without its header."""
     xid = rng.randrange(2**32)
-    verifier = words(0, 0) if rng.random() < 0.9 else words(rng.randrange(8)) + opaque(rng.randbytes(rng.choice((1, 8, 400, 401))))
+    verifier = words(0, 0)
+    if rng.random() < 0.1:
+        verifier = words(rng.randrange(8)) + opaque(rng.randbytes(rng.choice((1, 8, 400, 401))))
     if rng.random() < 0.1:
         procedure = rng.randrange(4)
         arguments_of_it = words(rng.choice((0, 1, 2, 9)), rng.choice((0, 1, 17, 2**32 - 1))) if procedure == 2 else b""
@@ -155,10 +159,19 @@ def at_the_limit(rng):
     return words(first) + body[:first] + words(0x8000_0000 | (size - first)) + body[first:]
 
 
-KINDS = [(calls, 15), (with_bits_turned, 30), (with_huge_words, 20), (random_bytes, 12), (cut_short, 8), (stretched, 8), (of_fragments, 7), (at_the_limit, 0.2)]
+KINDS = {
+    calls: 15,
+    with_bits_turned: 30,
+    with_huge_words: 20,
+    random_bytes: 12,
+    cut_short: 8,
+    stretched: 8,
+    of_fragments: 7,
+    at_the_limit: 0.2,
+}
 
 
 def made(rng):
     """A stream."""
-    kind = rng.choices([kind for kind, _ in KINDS], [weight for _, weight in KINDS])[0]
+    kind = rng.choices(list(KINDS), KINDS.values())[0]
     return kind(rng)
