@@ -82,7 +82,12 @@ fn two_names_are_copied(rt: HostRuntime) {
 /// The number of the fault for which the arguments of a LOOKUP are refused, or 0.
 fn fault_of(rt: &(impl Abort + AllocGlobal), parts: &[&[u8]]) -> u32 {
     let arguments = joined(rt, parts);
-    let decoded = decode_args(rt.alloc(), NFS_PROGRAM, 3, &arguments);
+    fault_in(rt, 3, &arguments)
+}
+
+/// The number of the fault for which arguments of a procedure of NFS are refused, or 0.
+fn fault_in(rt: &(impl Abort + AllocGlobal), procedure: u32, arguments: &[u8]) -> u32 {
+    let decoded = decode_args(rt.alloc(), NFS_PROGRAM, procedure, arguments);
     let number = match &decoded {
         Err(Bad::Fault(fault)) => fault.number(),
         _ => 0,
@@ -152,4 +157,11 @@ fn data_is_copied(rt: HostRuntime) {
         _ => panic!(rt; "no WRITE"),
     }
     mem::forget(call);
+}
+
+#[test]
+fn by_number(rt: HostRuntime) {
+    // LOOKUP, and ACCESS (RFC 1813 section 3.3.4), which isn't read
+    holds(&rt, fault_in(&rt, 3, &TARGET) == 0);
+    holds(&rt, fault_in(&rt, 4, &TARGET) == 3);
 }

@@ -17,17 +17,18 @@ use std::process::Abort;
 use std::sync::Wait;
 
 /// What a stream comes to.
-struct Row {
+#[derive(Drop)]
+pub(crate) struct Row {
     /// The words of its records.
-    stream: &'static [&'static [u32]],
+    pub(crate) stream: &'static [&'static [u32]],
     /// How many bytes at its end are left out.
-    without: usize,
+    pub(crate) without: usize,
     /// After so many reads the reader fails.
-    reads: usize,
-    end: u32,
+    pub(crate) reads: usize,
+    pub(crate) end: u32,
     /// The numbers and xids of the calls that wait.
-    calls: &'static [(usize, u32)],
-    replies: &'static [&'static [u32]],
+    pub(crate) calls: &'static [(usize, u32)],
+    pub(crate) replies: &'static [&'static [u32]],
 }
 
 /// More reads than a stream takes.
@@ -161,7 +162,7 @@ fn are_replies(rt: &(impl Abort + AllocGlobal), sink: &mut Gathered, replies: &[
 }
 
 /// Reads the stream of a row, at most so many bytes at once.
-fn read(rt: &(impl Abort + AllocGlobal + Wait), row: &Row, size: usize) {
+pub(crate) fn read(rt: &(impl Abort + AllocGlobal + Wait), row: &Row, size: usize) {
     let stream = bytes_of(rt, row.stream);
     let layout = layout(rt);
     let mut sink = sink(rt, &layout);

@@ -65,9 +65,9 @@ const ROWS: [Row; 7] = [
     },
 ];
 
-/// A connection for which two replies wait, to records that were read.
-fn two_wait(rt: &(impl Abort + AllocGlobal + Wait)) -> Waiting {
-    let stream = bytes_of(rt, &[&NULL, &NO_PROGRAM]);
+/// A connection for which the replies to records wait.
+pub(crate) fn waiting_for(rt: &(impl Abort + AllocGlobal + Wait), records: &[&[u32]]) -> Waiting {
+    let stream = bytes_of(rt, records);
     let layout = layout(rt);
     let mut sink = sink(rt, &layout);
     let mut reader = Counted::new(stream.as_slice());
@@ -118,7 +118,7 @@ fn went_out(
 
 /// Writes both records.
 fn write(rt: &(impl Abort + AllocGlobal + Wait), row: &Row, is_stuck: bool) {
-    let mut source = two_wait(rt);
+    let mut source = waiting_for(rt, &[&NULL, &NO_PROGRAM]);
     let mut writer = writer(rt, row, is_stuck);
     let written = write_loop(rt, &mut writer, &mut source);
     went_out(rt, row, writer, written);
@@ -127,7 +127,7 @@ fn write(rt: &(impl Abort + AllocGlobal + Wait), row: &Row, is_stuck: bool) {
 
 /// Writes both records, joined in a buffer.
 fn join(rt: &(impl Abort + AllocGlobal + Wait), capacity: usize, row: &Row) {
-    let mut source = two_wait(rt);
+    let mut source = waiting_for(rt, &[&NULL, &NO_PROGRAM]);
     let mut writer = writer(rt, row, false);
     let mut buffer = Vec::with_capacity(rt.alloc(), capacity).expect(rt, "no memory");
     let written = write_joined(rt, &mut writer, &mut buffer, &mut source);

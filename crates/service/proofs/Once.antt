@@ -1,18 +1,15 @@
 -- Where block numbers are in what a depot grants: each parcel of a grant is as a history left it, and what isn't granted counts as empty.
-use Rattle.std.proofs.Common.{◌≡◌, ℕ, zero, suc, ◌+◌, ◌*◌, ◌<◌, ◌≤◌, Bool, true, false, List, [], ◌∷◌, length, map, Option, Some, None}
+use Rattle.std.proofs.Common.{◌≡◌, ℕ, zero, suc, ◌+◌, ◌*◌, ◌<◌, ◌≤◌, Bool, true, false, List, [], ◌∷◌, length, map, Option, None}
 use Rattle.std.proofs.Common.{refl, sym, ap, ◌∙◌, subst, arith, nat_lt, ◌⊎◌, inl, inr, ⊎_elim}
-use Rattle.std.proofs.lemmas.Bool.{cases_eq}
 use Rattle.std.specs.Ordering.{nat_cmp}
 use Rattle.std.specs.FinMap as maps
 use Rattle.std.specs.FinMap.{entries}
 use Rattle.std.specs.FinSet.{contains, contains-empty}
 use Rattle.nfs_model.specs.Tree.{Layout, Affinity, Serial, Aggregate, Volume, Logical, Stripe, Vbn, Range, stripes_of, aggregate_of}
 use Rattle.nfs_model.specs.Parts.{Hand, one_if, times_listed, most_ranges, range_blocks}
-use Rattle.nfs_model.specs.volume.Stripes.{Place, Block, StripeValue}
+use Rattle.nfs_model.specs.volume.Stripes.{Place, Block}
 use Rattle.nfs_model.specs.volume.Ranges.{RangeValue}
-use Rattle.nfs_model.specs.volume.Logical.{LogicalValue}
 use Rattle.affinity_tree.specs.Ancestors.{Covers}
-use Rattle.affinity_tree.specs.Fault.{fault_of}
 use Rattle.affinity_tree.specs.Numbers.{number_of, parents}
 use Rattle.affinity_tree.specs.Tree.{IsNode}
 use Rattle.affinity_tree.specs.Under.{IsUnder}
@@ -20,18 +17,17 @@ use Rattle.affinity_tree.specs.Alike.{AreAlike}
 use Rattle.affinity_tree.specs.lemmas.Alike.{alike}
 use Rattle.affinity_tree.specs.lemmas.Standing.{number-place, covers-under}
 use Rattle.parcel_sets.specs.Exact.{kind_in, HasExactly}
-use Rattle.depot.specs.rule.History.{after, covers, listed, entries_of, AreHands}
+use Rattle.depot.specs.rule.History.{after, covers, listed, entries_of}
 use Rattle.depot.specs.rule.Sums.{total}
 use Rattle.depot.specs.rule.lemmas.Covering.{covers-true, true-covers}
-use Rattle.depot.specs.Grants.{IsAfter, IsClosed}
+use Rattle.depot.specs.Grants.{IsAfter}
 use Rattle.parcels.specs.state.Contents.{VolumeContents, FilerContents, each, logical_in, stripe_in, range_in, contents_of, filer_contents}
-use Rattle.parcels.specs.state.Partition.{times_in, times_in_hand, times_in_stripe, numbers_in, StandOnce}
+use Rattle.parcels.specs.state.Partition.{times_in, times_in_hand, times_in_stripe, StandOnce}
 use Rattle.parcels.specs.state.Sound.{IsFiler, AreSound}
 use Rattle.parcels.specs.state.Tree.{ranges_used}
 use Rattle.parcels.specs.laws.lemmas.Alike.{filer-same}
 use Rattle.parcels.specs.laws.lemmas.Each.{each-get, each-same}
-use Rattle.service.specs.Jobs.{job_takes, job_gives}
-use Rattle.service.specs.Laws.{service_behaviour, ServiceEntry, ServiceView, ServiceParcels, AreHandsOf, StandAtMostOnce, OfEachVolume}
+use Rattle.service.specs.Laws.{service_behaviour, ServiceEntry, ServiceView, ServiceParcels, AreHandsOf}
 use Rattle.service.specs.Laws.{GrantsHaveEachBlockOnce, WholeGrantsHaveAllBlocks, ClosedDepotsHaveAllBlocks}
 use Rattle.parcels.specs.state.Parcels.{FilerParcel}
 use Rattle.parcels.specs.declared.files.Files.{Files}

@@ -35,7 +35,7 @@ fn fill(rt: &impl Abort, stripe: &mut Stripe, blocks: &[(u64, BlockNumber)]) {
 /// Writes bytes at an offset of the file, and tells whether it did.
 fn overwrite(stripe: &mut Stripe, offset: u64, written: &[u8]) -> bool {
     let size = written.len() as u64;
-    if size == 0 || 262_144 - offset % 262_144 < size {
+    if 262_144 - offset % 262_144 < size {
         return false;
     }
     stripe.overwrite(FILE, offset, written, MOMENT)
@@ -109,5 +109,14 @@ fn cut_to_nothing(rt: HostRuntime) {
     let mut stripe = written(&rt);
     let cut = (stripe.cut(FILE, 0), stripe.cut(FILE, 0));
     same(&rt, &cut, &(Some(BlockNumber(7)), None));
+    mem::forget(stripe);
+}
+
+#[test]
+fn no_bytes(rt: HostRuntime) {
+    let mut stripe = stripe(&rt);
+    same(&rt, &overwrite(&mut stripe, 0, b""), &true);
+    same(&rt, &overwrite(&mut stripe, 8196, b""), &true);
+    same(&rt, &stripe.take_touch(FILE), &None);
     mem::forget(stripe);
 }

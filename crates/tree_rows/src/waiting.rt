@@ -39,7 +39,12 @@ fn refused(waiting: &mut Waiting<u32>, number: usize, affinity: Affinity) -> Opt
     };
     match waiting.admit(message) {
         Ok(()) => None,
-        Err(full) => Some(full.message.origin.number),
+        Err(full) => {
+            if full.number() != 31 {
+                return None;
+            }
+            Some(full.message.origin.number)
+        }
     }
 }
 
@@ -98,5 +103,18 @@ fn all_places(rt: HostRuntime) {
         is_place(&rt, refused(&mut waiting, i % 1_024, LOGICAL), None);
     }
     is_place(&rt, number(waiting.pick(1_023)), Some(2_999 % 1_024));
+    mem::forget(waiting);
+}
+
+#[test]
+fn no_such_call(rt: HostRuntime) {
+    let mut waiting = nothing(&rt);
+    let picked = waiting.pick(0);
+    let number = match &picked {
+        Ok(_) => 0,
+        Err(refused) => refused.number(),
+    };
+    holds(&rt, number == 32);
+    mem::forget(picked);
     mem::forget(waiting);
 }

@@ -1,10 +1,10 @@
 -- What a sound volume has for a node to be made in it.
-use Rattle.std.proofs.Common.{◌≡◌, ℕ, ◌*◌, ◌<◌, ◌≤◌, true, false, List, Option, Some, None, refl, sym, ap, ◌∙◌, subst, arith, ⊎_elim, []}
+use Rattle.std.proofs.Common.{◌≡◌, ℕ, ◌<◌, true, false, List, Option, Some, None, refl, sym, ap, ◌∙◌, subst, arith, ⊎_elim, []}
 use Rattle.std.proofs.lemmas.Bool.Decides.{nat_tests}
 use Rattle.std.specs.Prelude.{is_some, IsSome, IfSome, nat_le}
 use Rattle.std.specs.Option.{option_map}
 use Rattle.std.specs.FinMap.{get, len}
-use Rattle.nfs_model.specs.Parts.{Hand, range_blocks}
+use Rattle.nfs_model.specs.Parts.{Hand}
 use Rattle.nfs_model.specs.Server.{most_inodes}
 use Rattle.nfs_model.specs.Types.{Listed}
 use Rattle.depot.specs.rule.Shares.{too_many}
@@ -19,8 +19,8 @@ use Rattle.parcels.specs.state.WellFormed.{WellFormed, size_shown}
 use Rattle.parcels.specs.state.Sound.{IsSound}
 use Rattle.parcels.specs.state.Lenses.{LogicalSet, logical_lens}
 use Rattle.parcels.specs.state.Promises.{HasVolume}
-use Rattle.parcels.specs.state.Tree.{stripe_at, directory_or_empty, ranges_used}
-use Rattle.parcels.specs.laws.lemmas.Limits.{few-folders, used-fits, ranges-fit}
+use Rattle.parcels.specs.state.Tree.{stripe_at, directory_or_empty}
+use Rattle.parcels.specs.laws.lemmas.Limits.{few-folders}
 use Rattle.parcels.specs.changes.NameAnswers.{entries_of}
 use Rattle.parcels.specs.changes.Making.{is_full_set}
 use Rattle.parcels.specs.changes.Named.{node_at, node_there}
