@@ -10,41 +10,41 @@ use Rattle.service_names.proofs.making.make_node.Goals as goal
 
 pub unmake-requires-clause-last : goal.unmake-requires-clause-last
 unmake-requires-clause-last c =
-    was-last c.args.within c.args.name.now c.args.held.now c.requires.may (inode_value c.args.made) c.fileid.result.0
-    (c.fileid.ensures ∙ c.in_ok-created.ensures.fileid) c.create_inode.new.held c.tie.new.held c.in_ok-created.ensures.ok
+    was-last c.args.within c.args.name.now c.args.held.now c.requires.may (inode_value c.args.made) c.fileid-fileid.result.0
+    (c.fileid-fileid.ensures ∙ c.in_ok-created.ensures.fileid) c.create_inode.new.held c.tie.new.held c.in_ok-created.ensures.ok
     c.create_inode.ensures.stripes c.tie.ensures.others c.in-Err.ensures.err
-    ∙ ap (λ (q : ℕ). q + 1) c.fileid.ensures
+    ∙ ap (λ (q : ℕ). q + 1) c.fileid-fileid.ensures
 
 pub unmake-requires-clause-made : goal.unmake-requires-clause-made
 unmake-requires-clause-made c =
-    subst (λ (q : ℕ). is_some (inode_of c.tie.new.held.own.inodes q) ≡ true) c.fileid.ensures
-    (was-made c.args.within c.args.name.now c.args.held.now c.requires.may (inode_value c.args.made) c.fileid.result.0
-    (c.fileid.ensures ∙ c.in_ok-created.ensures.fileid) c.create_inode.new.held c.tie.new.held c.in_ok-created.ensures.ok
+    subst (λ (q : ℕ). is_some (inode_of c.tie.new.held.own.inodes q) ≡ true) c.fileid-fileid.ensures
+    (was-made c.args.within c.args.name.now c.args.held.now c.requires.may (inode_value c.args.made) c.fileid-fileid.result.0
+    (c.fileid-fileid.ensures ∙ c.in_ok-created.ensures.fileid) c.create_inode.new.held c.tie.new.held c.in_ok-created.ensures.ok
     c.create_inode.ensures.stripes c.tie.ensures.others c.in-Err.ensures.err)
 
 pub returns-in-Ok-clause-ok : goal.returns-in-Ok-clause-ok
 returns-in-Ok-clause-ok c =
-    all-made c.args.within c.args.name.now c.args.held.now c.requires.may (inode_value c.args.made) c.fileid.result.0
-    (c.fileid.ensures ∙ c.in_ok-created.ensures.fileid) c.create_inode.new.held c.tie.new.held c.in_ok-created.ensures.ok
+    all-made c.args.within c.args.name.now c.args.held.now c.requires.may (inode_value c.args.made) c.fileid-fileid.result.0
+    (c.fileid-fileid.ensures ∙ c.in_ok-created.ensures.fileid) c.create_inode.new.held c.tie.new.held c.in_ok-created.ensures.ok
     c.create_inode.ensures.stripes c.tie.ensures.others
     c.set_directory.new.held c.set_directory.ensures.stripes c.in_ok-name.name c.in_ok-name.ensures.name
     c.in-Ok.ensures.own c.in-Ok.ensures.cards c.set_directory.ensures.own
 
 pub returns-in-Ok-clause-alike : goal.returns-in-Ok-clause-alike
 returns-in-Ok-clause-alike c =
-    places-alike c.args.within c.args.name.now c.args.held.now c.requires.may (inode_value c.args.made) c.fileid.result.0
-    (c.fileid.ensures ∙ c.in_ok-created.ensures.fileid) c.create_inode.new.held c.tie.new.held c.in_ok-created.ensures.ok
+    places-alike c.args.within c.args.name.now c.args.held.now c.requires.may (inode_value c.args.made) c.fileid-fileid.result.0
+    (c.fileid-fileid.ensures ∙ c.in_ok-created.ensures.fileid) c.create_inode.new.held c.tie.new.held c.in_ok-created.ensures.ok
     c.create_inode.ensures.stripes c.tie.ensures.others
     c.set_directory.new.held c.set_directory.ensures.stripes
 
 pub returns-in-Err-clause-err : goal.returns-in-Err-clause-err
 returns-in-Err-clause-err c =
-    all-back c.args.within c.args.name.now c.args.held.now c.requires.may (inode_value c.args.made) c.fileid.result.0
-    (c.fileid.ensures ∙ c.in_ok-created.ensures.fileid) c.create_inode.new.held c.tie.new.held c.in_ok-created.ensures.ok
+    all-back c.args.within c.args.name.now c.args.held.now c.requires.may (inode_value c.args.made) c.fileid-fileid.result.0
+    (c.fileid-fileid.ensures ∙ c.in_ok-created.ensures.fileid) c.create_inode.new.held c.tie.new.held c.in_ok-created.ensures.ok
     c.create_inode.ensures.stripes c.tie.ensures.others
-    c.in-Err.ensures.err c.unmake.new.held (c.unmake.ensures.own ∙ ap (λ (q : ℕ). node_unmade q c.tie.new.held.own) (sym c.fileid.ensures))
+    c.in-Err.ensures.err c.unmake.new.held (c.unmake.ensures.own ∙ ap (λ (q : ℕ). node_unmade q c.tie.new.held.own) (sym c.fileid-fileid.ensures))
     (subst (λ (q : ℕ). InFirst (IsDropped q) c.tie.new.held.own.stripes c.tie.new.held.stripes.at c.unmake.new.held.stripes.at)
-    (sym c.fileid.ensures) c.unmake.ensures.cards)
+    (sym c.fileid-fileid.ensures) c.unmake.ensures.cards)
 
 pub returns-in-Err-clause-alike : goal.returns-in-Err-clause-alike
 returns-in-Err-clause-alike c i = ap (λ h. is_filled (slice_get h.stripes.at i)) (sym (returns-in-Err-clause-err c))
